@@ -2,10 +2,10 @@
 use Rattle.std.specs.Prelude.{Bool, false}
 use Rattle.std.specs.List.{AllByRecursion}
 use Rattle.std.proofs.Common.{ℕ, List, [], ◌∷◌, subst, sym, ◌∙◌}
-use Rattle.papaya_played.proofs.Given.SeizeActs.Answers.{same_some}
-use Rattle.papaya_played.specs.Given.Acts.Acts.{Act}
-use Rattle.papaya_played.specs.Given.Acts.Doings.{Doing, Does, BeginsReclaiming, BeginsClearing, StepsReclaiming, Chooses}
-use Rattle.papaya_played.specs.Given.Deeds.Deeds.{moment}
+use Rattle.papaya_played.proofs.Given.SeizeActsAnswers.{same_some}
+use Rattle.papaya_played.specs.Given.ActsActs.{Act}
+use Rattle.papaya_played.specs.Given.ActsDoings.{Doing, Does, BeginsReclaiming, BeginsClearing, StepsReclaiming, Chooses}
+use Rattle.papaya_played.specs.Given.DeedsDeeds.{moment}
 use Rattle.papaya_played.specs.Play.{State, first_state}
 use Rattle.papaya_played.proofs.Along.{AllFit, AreOfTheirOwn, At, StaysSo, wherever}
 use Rattle.papaya_played.proofs.Noted.{Anything}

@@ -1,11 +1,11 @@
 -- While the making of a map has made no table yet, its steps link none and store nothing.
 use Rattle.std.specs.Prelude.{◌+◌, ◌%◌, ◌^◌, Ok, Err, Option, if◌then◌else◌}
 use Rattle.std.proofs.Common.{◌≡◌, ℕ, Bool, true, false, List, [], ◌∷◌, refl, ap, sym, subst}
-use Rattle.papaya_played.specs.Given.SeizeWords.Mem.{Mem, value_at}
-use Rattle.papaya_played.specs.Given.SeizeWords.Op.{Op, Out, Found, Stored, Exchanged, Made, Taken, Roomed, Exchange, Make}
-use Rattle.papaya_played.specs.Given.SeizeWords.Plan.{Ends as EndsSo, plan_as}
-use Rattle.papaya_played.specs.Given.SeizeWords.declared.at.At.{At}
-use Rattle.papaya_played.specs.Given.SeizeWords.declared.at.At.TheVariants.{Root, Used, Slot, Entry, Word}
+use Rattle.papaya_played.specs.Given.SeizeWordsMem.{Mem, value_at}
+use Rattle.papaya_played.specs.Given.SeizeWordsOp.{Op, Out, Found, Stored, Exchanged, Made, Taken, Roomed, Exchange, Make}
+use Rattle.papaya_played.specs.Given.SeizeWordsPlan.{Ends as EndsSo, plan_as}
+use Rattle.papaya_played.specs.Given.SeizeWordsDeclared.at.At.{At}
+use Rattle.papaya_played.specs.Given.SeizeWordsDeclared.at.At.TheVariants.{Root, Used, Slot, Entry, Word}
 use Rattle.papaya_tables.specs.Given.Seize.declared.progress.Progress.{Progress}
 use Rattle.papaya_tables.specs.Given.Seize.declared.progress.Progress.TheVariants as progress
 use Rattle.papaya_tables.specs.declared.node.Node.{Node}
@@ -14,34 +14,34 @@ use Rattle.papaya_tables.specs.declared.setting.Setting.{Setting}
 use Rattle.papaya_tables.specs.declared.table.Table.{Table as Planned}
 use Rattle.papaya_tables.specs.declared.table_words.TheConstants.{PLACES}
 use Rattle.papaya_tables.specs.declared.lengths.Reason.{Reason}
-use Rattle.papaya_played.specs.Given.Resize.NewMap as new_map
-use Rattle.papaya_played.specs.Given.Resize.NewTable as new_table
-use Rattle.papaya_played.specs.Given.Resize.Sum as sums
-use Rattle.papaya_played.specs.Given.Resize.declared.new_map.NewMap.{NewMap}
-use Rattle.papaya_played.specs.Given.Resize.declared.new_map.Opening.{Opening}
-use Rattle.papaya_played.specs.Given.Resize.declared.new_map.Opening.TheVariants as openings
-use Rattle.papaya_played.specs.Given.Resize.declared.new_table.NewTable.{NewTable}
-use Rattle.papaya_played.specs.Given.Resize.declared.new_table.Making.{Making}
-use Rattle.papaya_played.specs.Given.Resize.declared.new_table.Making.TheVariants as makes
-use Rattle.papaya_played.specs.Given.Resize.declared.sum.Sum.{Sum}
-use Rattle.papaya_played.specs.Given.Resize.declared.sum.Summing.{Summing}
-use Rattle.papaya_played.specs.Given.Resize.declared.sum.Summing.TheVariants as summing
-use Rattle.papaya_played.specs.Given.Tells.Seen.{seen_of}
-use Rattle.papaya_played.specs.Given.Teller.Tells.{StepsTold, told_of}
-use Rattle.papaya_played.specs.Given.Teller.declared.changed.Changed.{Changed}
-use Rattle.papaya_played.specs.Given.Teller.declared.changed.Changed.TheVariants as changed
-use Rattle.papaya_played.specs.Given.Teller.declared.changed.Kind.{Kind}
-use Rattle.papaya_played.specs.Given.Teller.declared.changed.Kind.TheVariants as kind
-use Rattle.papaya_played.specs.Given.Schedules.declared.effect.Effect.{Effect}
-use Rattle.papaya_played.specs.Given.Schedules.declared.effect.Effect.TheVariants as effect
-use Rattle.papaya_played.specs.Given.Schedules.declared.effect.Growth.TheVariants.{ABlock, ABucket}
-use Rattle.papaya_played.specs.Given.Effects.Effects.{effects_of, made_by, pair_taken, table_taken, taken_by}
-use Rattle.papaya_played.specs.Given.Effects.Known.{Known}
-use Rattle.papaya_played.specs.Given.Effects.declared.acting.Acting.{Acting}
-use Rattle.papaya_played.specs.Given.Effects.declared.acting.Acting.TheVariants as acting
-use Rattle.papaya_played.specs.Given.Effects.declared.role.Role.{Role}
-use Rattle.papaya_played.specs.Given.Effects.declared.role.Role.TheVariants as role
-use Rattle.papaya_played.proofs.Given.Others.Outcomes.{told_in}
+use Rattle.papaya_played.specs.Given.ResizeNewMap as new_map
+use Rattle.papaya_played.specs.Given.ResizeNewTable as new_table
+use Rattle.papaya_played.specs.Given.ResizeSum as sums
+use Rattle.papaya_played.specs.Given.ResizeDeclared.new_map.NewMap.{NewMap}
+use Rattle.papaya_played.specs.Given.ResizeDeclared.new_map.Opening.{Opening}
+use Rattle.papaya_played.specs.Given.ResizeDeclared.new_map.Opening.TheVariants as openings
+use Rattle.papaya_played.specs.Given.ResizeDeclared.new_table.NewTable.{NewTable}
+use Rattle.papaya_played.specs.Given.ResizeDeclared.new_table.Making.{Making}
+use Rattle.papaya_played.specs.Given.ResizeDeclared.new_table.Making.TheVariants as makes
+use Rattle.papaya_played.specs.Given.ResizeDeclared.sum.Sum.{Sum}
+use Rattle.papaya_played.specs.Given.ResizeDeclared.sum.Summing.{Summing}
+use Rattle.papaya_played.specs.Given.ResizeDeclared.sum.Summing.TheVariants as summing
+use Rattle.papaya_played.specs.Given.TellsSeen.{seen_of}
+use Rattle.papaya_played.specs.Given.TellerTells.{StepsTold, told_of}
+use Rattle.papaya_played.specs.Given.TellerDeclared.changed.Changed.{Changed}
+use Rattle.papaya_played.specs.Given.TellerDeclared.changed.Changed.TheVariants as changed
+use Rattle.papaya_played.specs.Given.TellerDeclared.changed.Kind.{Kind}
+use Rattle.papaya_played.specs.Given.TellerDeclared.changed.Kind.TheVariants as kind
+use Rattle.papaya_played.specs.Given.SchedulesDeclared.effect.Effect.{Effect}
+use Rattle.papaya_played.specs.Given.SchedulesDeclared.effect.Effect.TheVariants as effect
+use Rattle.papaya_played.specs.Given.SchedulesDeclared.effect.Growth.TheVariants.{ABlock, ABucket}
+use Rattle.papaya_played.specs.Given.EffectsEffects.{effects_of, made_by, pair_taken, table_taken, taken_by}
+use Rattle.papaya_played.specs.Given.EffectsKnown.{Known}
+use Rattle.papaya_played.specs.Given.EffectsDeclared.acting.Acting.{Acting}
+use Rattle.papaya_played.specs.Given.EffectsDeclared.acting.Acting.TheVariants as acting
+use Rattle.papaya_played.specs.Given.EffectsDeclared.role.Role.{Role}
+use Rattle.papaya_played.specs.Given.EffectsDeclared.role.Role.TheVariants as role
+use Rattle.papaya_played.proofs.Given.OthersOutcomes.{told_in}
 use Rattle.papaya_played.specs.Play.{has_root}
 use Rattle.papaya_agrees.proofs.Elsewhere.{AllLinkElsewhere}
 use Rattle.papaya_agrees.proofs.Fresh.{ActsElsewhere, AnyTable}

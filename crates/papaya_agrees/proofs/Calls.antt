@@ -3,19 +3,19 @@ use Rattle.std.specs.Prelude.{◌+◌, not, filter, length, map, Bool, true, fal
 use Rattle.std.specs.List.{AllByRecursion}
 use Rattle.std.proofs.Common.{◌≡◌, ℕ, List, [], ◌∷◌, refl, ap, ◌∙◌}
 use Rattle.papaya_runs.specs.Same.{is_same}
-use Rattle.papaya_played.specs.Given.Schedules.declared.call.Call.{Call}
-use Rattle.papaya_played.specs.Given.Schedules.declared.call.Call.TheVariants as calls
-use Rattle.papaya_played.specs.Given.Schedules.declared.call.Reply.{Reply}
-use Rattle.papaya_played.specs.Given.Schedules.declared.effect.Effect.{Effect}
-use Rattle.papaya_played.specs.Given.Schedules.declared.effect.Effect.TheVariants as effect
-use Rattle.papaya_played.specs.Given.Schedules.declared.outcome.Outcome.{Outcome}
-use Rattle.papaya_played.specs.Given.Schedules.declared.outcome.Outcome.TheVariants as outcome
-use Rattle.papaya_played.specs.Given.Schedules.After.{asks_on, comes_to, replied, stepped, without_call}
-use Rattle.papaya_played.specs.Given.Schedules.Effects.{call_by, due_for, with_effect, with_effects}
-use Rattle.papaya_played.specs.Given.Schedules.Entry.{ends_call}
-use Rattle.papaya_played.specs.Given.Schedules.Moment.{Asking, Going, IsReady, Moment, Stands, Told, UnderWay}
-use Rattle.papaya_played.specs.Given.Effects.Effects.{effects_of}
-use Rattle.papaya_played.specs.Given.Deeds.Deeds.{Deed, Begins, Steps, Replies, Stops, MapComes, Entry, acted_on, after, at_work, begun, caller_of, calls_on, moment, named, worked}
+use Rattle.papaya_played.specs.Given.SchedulesDeclared.call.Call.{Call}
+use Rattle.papaya_played.specs.Given.SchedulesDeclared.call.Call.TheVariants as calls
+use Rattle.papaya_played.specs.Given.SchedulesDeclared.call.Reply.{Reply}
+use Rattle.papaya_played.specs.Given.SchedulesDeclared.effect.Effect.{Effect}
+use Rattle.papaya_played.specs.Given.SchedulesDeclared.effect.Effect.TheVariants as effect
+use Rattle.papaya_played.specs.Given.SchedulesDeclared.outcome.Outcome.{Outcome}
+use Rattle.papaya_played.specs.Given.SchedulesDeclared.outcome.Outcome.TheVariants as outcome
+use Rattle.papaya_played.specs.Given.SchedulesAfter.{asks_on, comes_to, replied, stepped, without_call}
+use Rattle.papaya_played.specs.Given.SchedulesEffects.{call_by, due_for, with_effect, with_effects}
+use Rattle.papaya_played.specs.Given.SchedulesEntry.{ends_call}
+use Rattle.papaya_played.specs.Given.SchedulesMoment.{Asking, Going, IsReady, Moment, Stands, Told, UnderWay}
+use Rattle.papaya_played.specs.Given.EffectsEffects.{effects_of}
+use Rattle.papaya_played.specs.Given.DeedsDeeds.{Deed, Begins, Steps, Replies, Stops, MapComes, Entry, acted_on, after, at_work, begun, caller_of, calls_on, moment, named, worked}
 use Rattle.papaya_played.specs.Play.{is_refusal}
 use Rattle.papaya_agrees.specs.Guards.{CallsHaveGuards, HasItsGuard}
 use Rattle.papaya_agrees.proofs.Entries.{BeginsOnIts, Grows}

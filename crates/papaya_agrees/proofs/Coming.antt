@@ -2,27 +2,27 @@
 use Rattle.std.specs.Prelude.{◌≢◌, ◌⊎◌, ◌==◌, Option, Some, None, is_ok, length, option_map, if◌then◌else◌}
 use Rattle.std.proofs.Common.{◌≡◌, ℕ, Bool, true, false, List, [], ◌∷◌, inl, inr, refl, ap, sym, subst, ◌∙◌}
 use Rattle.std.proofs.lemmas.Bool.{cases_eq, eq-eqb, ne_eqb}
-use Rattle.papaya_played.specs.Given.SeizeActs.Answers.{Grant}
-use Rattle.papaya_played.proofs.Given.SeizeActs.Answers.{same_some}
-use Rattle.papaya_played.specs.Given.SeizeWords.Mem.{Mem}
+use Rattle.papaya_played.specs.Given.SeizeActsAnswers.{Grant}
+use Rattle.papaya_played.proofs.Given.SeizeActsAnswers.{same_some}
+use Rattle.papaya_played.specs.Given.SeizeWordsMem.{Mem}
 use Rattle.papaya_tables.specs.Given.Seize.ReclaimAll.{clearing, reclaiming_all}
 use Rattle.papaya_tables.specs.Given.Seize.World.{with_at}
 use Rattle.papaya_tables.specs.Given.Seize.declared.progress.Progress.{Progress}
 use Rattle.papaya_tables.specs.Given.Seize.declared.progress.Progress.TheVariants as progress
 use Rattle.papaya_tables.specs.declared.node.Node.{Node}
 use Rattle.papaya_tables.specs.declared.setting.Setting.{Setting}
-use Rattle.papaya_played.specs.Given.Resize.NewMap.{new_map_plan, opening}
-use Rattle.papaya_played.specs.Given.Resize.declared.new_map.NewMap.{NewMap}
-use Rattle.papaya_played.specs.Given.Raw.Machine.{machine_asked, machine_replied}
-use Rattle.papaya_played.proofs.Given.Callers.Together.At.{at_other, at_same}
-use Rattle.papaya_played.specs.Given.Scenes.Scene.{slot_of}
-use Rattle.papaya_played.specs.Given.Schedules.declared.outcome.Outcome.TheVariants as outcome
-use Rattle.papaya_played.specs.Given.Acts.Acts.{Act, BeginsCall, StepsCall, TellsCall, AsksCall, StopsCall, BeginsMaking, StepsMaking, BeginsEnding, StepsEnding, BeginsRow, StepsRow}
-use Rattle.papaya_played.specs.Given.Acts.AsSteps.{changed_of}
-use Rattle.papaya_played.specs.Given.Acts.Doings.{Doing, Does, BeginsReclaiming, BeginsClearing, StepsReclaiming, Chooses}
-use Rattle.papaya_played.specs.Given.Acts.Leads.{MayBe}
-use Rattle.papaya_played.proofs.Given.Acts.AsSteps.Told.{was_told}
-use Rattle.papaya_played.specs.Given.Deeds.Deeds.{Deed, Entry, Replies, Stops}
+use Rattle.papaya_played.specs.Given.ResizeNewMap.{new_map_plan, opening}
+use Rattle.papaya_played.specs.Given.ResizeDeclared.new_map.NewMap.{NewMap}
+use Rattle.papaya_played.specs.Given.RawMachine.{machine_asked, machine_replied}
+use Rattle.papaya_played.proofs.Given.CallersTogether.At.{at_other, at_same}
+use Rattle.papaya_played.specs.Given.ScenesScene.{slot_of}
+use Rattle.papaya_played.specs.Given.SchedulesDeclared.outcome.Outcome.TheVariants as outcome
+use Rattle.papaya_played.specs.Given.ActsActs.{Act, BeginsCall, StepsCall, TellsCall, AsksCall, StopsCall, BeginsMaking, StepsMaking, BeginsEnding, StepsEnding, BeginsRow, StepsRow}
+use Rattle.papaya_played.specs.Given.ActsAsSteps.{changed_of}
+use Rattle.papaya_played.specs.Given.ActsDoings.{Doing, Does, BeginsReclaiming, BeginsClearing, StepsReclaiming, Chooses}
+use Rattle.papaya_played.specs.Given.ActsLeads.{MayBe}
+use Rattle.papaya_played.proofs.Given.ActsAsSteps.Told.{was_told}
+use Rattle.papaya_played.specs.Given.DeedsDeeds.{Deed, Entry, Replies, Stops}
 use Rattle.papaya_played.specs.Play.{Making, Now, State, all_begun, choice_come, ending_deed, first_state, has_root, made_on, making_deed, making_stepped, play, reply_for, row_deed}
 use Rattle.papaya_played.specs.Reached.{made_so, makes_so}
 use Rattle.papaya_played.proofs.Along.{AllFit, At, Is, StaysSo}

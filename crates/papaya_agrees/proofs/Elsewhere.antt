@@ -3,27 +3,27 @@ use Rattle.std.specs.Prelude.{◌≢◌, ◌⊎◌, ◌==◌, cond, filter, find
 use Rattle.std.proofs.Common.{◌≡◌, ℕ, Bool, true, false, List, [], ◌∷◌, ◌++◌, inl, inr, refl, ap, sym, ◌∙◌}
 use Rattle.std.proofs.lemmas.Bool.{eqb-true, ne_eqb}
 use Rattle.std.proofs.lemmas.List.Elements.{filter-append}
-use Rattle.papaya_played.specs.Given.Schedules.declared.effect.Effect.{Effect}
-use Rattle.papaya_played.specs.Given.Schedules.declared.effect.Effect.TheVariants as effect
-use Rattle.papaya_played.specs.Given.Schedules.declared.effect.Table.{Table}
-use Rattle.papaya_played.specs.Given.Schedules.declared.effect.Thing.TheVariants.{APair, ATable}
-use Rattle.papaya_played.specs.Given.Schedules.Effects.{all_at, at_stage, in_map, place_by, promoted, with_effect, with_effects}
-use Rattle.papaya_played.specs.Given.Schedules.Lists.{is_among, put}
-use Rattle.papaya_played.specs.Given.Schedules.Moment.{Place, InMap, Out, Handed, Behind, Left, GivenBack, Deferral, MapThere, Moment, Stage, IsLinked, IsRetired, IsReclaimed, IsTaken, TableThere}
-use Rattle.papaya_played.specs.Given.Schedules.Things.{same_table}
-use Rattle.papaya_played.specs.Given.Schedules.Views.{behind, map_at, tables_of}
-use Rattle.papaya_played.specs.Given.SeizeWords.Word.{block_in}
-use Rattle.papaya_played.specs.Given.SeizeWords.declared.at.At.TheVariants.{Root, Used, Slot, Entry, Word}
-use Rattle.papaya_played.specs.Given.Teller.declared.changed.Changed.{Changed}
-use Rattle.papaya_played.specs.Given.Teller.declared.changed.Changed.TheVariants as changed
-use Rattle.papaya_played.specs.Given.Effects.Effects.{effects_of, led_to, map_of, named, names_same, pair_taken, table_taken, taken_by}
-use Rattle.papaya_played.specs.Given.Effects.Known.{Known}
-use Rattle.papaya_played.specs.Given.Effects.declared.acting.Acting.{Acting}
-use Rattle.papaya_played.specs.Given.Effects.declared.acting.Acting.TheVariants as acting
-use Rattle.papaya_played.specs.Given.Effects.declared.role.Role.{Role}
-use Rattle.papaya_played.specs.Given.Effects.declared.role.Role.TheVariants as role
-use Rattle.papaya_played.proofs.Given.Follows.OfEach.{OfEach, operation_so, taken_so}
-use Rattle.papaya_played.proofs.Given.Others.RowPlans.{TellsRow}
+use Rattle.papaya_played.specs.Given.SchedulesDeclared.effect.Effect.{Effect}
+use Rattle.papaya_played.specs.Given.SchedulesDeclared.effect.Effect.TheVariants as effect
+use Rattle.papaya_played.specs.Given.SchedulesDeclared.effect.Table.{Table}
+use Rattle.papaya_played.specs.Given.SchedulesDeclared.effect.Thing.TheVariants.{APair, ATable}
+use Rattle.papaya_played.specs.Given.SchedulesEffects.{all_at, at_stage, in_map, place_by, promoted, with_effect, with_effects}
+use Rattle.papaya_played.specs.Given.SchedulesLists.{is_among, put}
+use Rattle.papaya_played.specs.Given.SchedulesMoment.{Place, InMap, Out, Handed, Behind, Left, GivenBack, Deferral, MapThere, Moment, Stage, IsLinked, IsRetired, IsReclaimed, IsTaken, TableThere}
+use Rattle.papaya_played.specs.Given.SchedulesThings.{same_table}
+use Rattle.papaya_played.specs.Given.SchedulesViews.{behind, map_at, tables_of}
+use Rattle.papaya_played.specs.Given.SeizeWordsWord.{block_in}
+use Rattle.papaya_played.specs.Given.SeizeWordsDeclared.at.At.TheVariants.{Root, Used, Slot, Entry, Word}
+use Rattle.papaya_played.specs.Given.TellerDeclared.changed.Changed.{Changed}
+use Rattle.papaya_played.specs.Given.TellerDeclared.changed.Changed.TheVariants as changed
+use Rattle.papaya_played.specs.Given.EffectsEffects.{effects_of, led_to, map_of, named, names_same, pair_taken, table_taken, taken_by}
+use Rattle.papaya_played.specs.Given.EffectsKnown.{Known}
+use Rattle.papaya_played.specs.Given.EffectsDeclared.acting.Acting.{Acting}
+use Rattle.papaya_played.specs.Given.EffectsDeclared.acting.Acting.TheVariants as acting
+use Rattle.papaya_played.specs.Given.EffectsDeclared.role.Role.{Role}
+use Rattle.papaya_played.specs.Given.EffectsDeclared.role.Role.TheVariants as role
+use Rattle.papaya_played.proofs.Given.FollowsOfEach.{OfEach, operation_so, taken_so}
+use Rattle.papaya_played.proofs.Given.OthersRowPlans.{TellsRow}
 
 -- Tables that are linked are of other maps, and of those that become the root's this is so.
 module _ (n : ℕ) (Promotes : Table → Type 0) where

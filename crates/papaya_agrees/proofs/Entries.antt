@@ -1,7 +1,7 @@
 -- What is so of a history, and of each entry that one step makes of it, is so wherever a list has led.
 use Rattle.std.specs.Prelude.{◌==◌, Bool, true, false, is_ok, length, if◌then◌else◌}
 use Rattle.std.proofs.Common.{◌≡◌, ℕ, List, [], ◌∷◌, refl, sym, subst}
-use Rattle.papaya_played.specs.Given.SeizeActs.Answers.{Grant}
+use Rattle.papaya_played.specs.Given.SeizeActsAnswers.{Grant}
 use Rattle.papaya_tables.specs.Given.Seize.ReclaimAll.{reclaim_all_plan}
 use Rattle.papaya_tables.specs.Given.Seize.declared.rows.leave.Leave.{Leave}
 use Rattle.papaya_tables.specs.Given.Seize.declared.rows.leave.Leaving.{Leaving}
@@ -11,24 +11,24 @@ use Rattle.papaya_tables.specs.Given.Seize.declared.rows.register.Registering.Th
 use Rattle.papaya_tables.specs.Given.Seize.declared.rows.settle.Settled.{Settled}
 use Rattle.papaya_tables.specs.Given.Seize.declared.states.TheConstants.{ACTIVE}
 use Rattle.papaya_tables.specs.Nodes.{deferred_word, was_left}
-use Rattle.papaya_played.specs.Given.Resize.NewMap.{new_map_plan}
-use Rattle.papaya_played.specs.Given.Resize.declared.new_map.NewMap.{NewMap}
-use Rattle.papaya_played.specs.Given.Raw.EndMap.{end_map_plan}
-use Rattle.papaya_played.specs.Given.Raw.Machine.{machine_asked, machine_plan, machine_replied}
-use Rattle.papaya_played.specs.Given.Teller.declared.changed.Changed.{Changed}
-use Rattle.papaya_played.specs.Given.Scenes.Scene.{row_of, slot_of}
-use Rattle.papaya_played.specs.Given.Scenes.declared.row.SlotRow.{SlotRow}
-use Rattle.papaya_played.specs.Given.Scenes.declared.row.SlotRow.TheVariants as rows
-use Rattle.papaya_played.specs.Given.Schedules.declared.outcome.Outcome.{Outcome}
-use Rattle.papaya_played.specs.Given.Schedules.declared.outcome.Outcome.TheVariants as outcome
-use Rattle.papaya_played.specs.Given.Effects.Effects.{effects_of, known_after}
-use Rattle.papaya_played.specs.Given.Effects.Known.{Known}
-use Rattle.papaya_played.specs.Given.Effects.declared.acting.Acting.{Acting}
-use Rattle.papaya_played.specs.Given.Effects.declared.acting.Acting.TheVariants as acting
-use Rattle.papaya_played.specs.Given.Named.Seen.{kind_of}
-use Rattle.papaya_played.specs.Given.Acts.Acts.{Act, BeginsCall, StepsCall, TellsCall, AsksCall, StopsCall, BeginsMaking, StepsMaking, BeginsEnding, StepsEnding, BeginsRow, StepsRow}
-use Rattle.papaya_played.specs.Given.Acts.AsSteps.{changed_of, row_changed}
-use Rattle.papaya_played.specs.Given.Deeds.Deeds.{Deed, Begins, Steps, Replies, Stops, Opens, Leaves, MapComes, Makes, MapFails, Ends, MapGoes, ReclaimsAll, Entry}
+use Rattle.papaya_played.specs.Given.ResizeNewMap.{new_map_plan}
+use Rattle.papaya_played.specs.Given.ResizeDeclared.new_map.NewMap.{NewMap}
+use Rattle.papaya_played.specs.Given.RawEndMap.{end_map_plan}
+use Rattle.papaya_played.specs.Given.RawMachine.{machine_asked, machine_plan, machine_replied}
+use Rattle.papaya_played.specs.Given.TellerDeclared.changed.Changed.{Changed}
+use Rattle.papaya_played.specs.Given.ScenesScene.{row_of, slot_of}
+use Rattle.papaya_played.specs.Given.ScenesDeclared.row.SlotRow.{SlotRow}
+use Rattle.papaya_played.specs.Given.ScenesDeclared.row.SlotRow.TheVariants as rows
+use Rattle.papaya_played.specs.Given.SchedulesDeclared.outcome.Outcome.{Outcome}
+use Rattle.papaya_played.specs.Given.SchedulesDeclared.outcome.Outcome.TheVariants as outcome
+use Rattle.papaya_played.specs.Given.EffectsEffects.{effects_of, known_after}
+use Rattle.papaya_played.specs.Given.EffectsKnown.{Known}
+use Rattle.papaya_played.specs.Given.EffectsDeclared.acting.Acting.{Acting}
+use Rattle.papaya_played.specs.Given.EffectsDeclared.acting.Acting.TheVariants as acting
+use Rattle.papaya_played.specs.Given.NamedSeen.{kind_of}
+use Rattle.papaya_played.specs.Given.ActsActs.{Act, BeginsCall, StepsCall, TellsCall, AsksCall, StopsCall, BeginsMaking, StepsMaking, BeginsEnding, StepsEnding, BeginsRow, StepsRow}
+use Rattle.papaya_played.specs.Given.ActsAsSteps.{changed_of, row_changed}
+use Rattle.papaya_played.specs.Given.DeedsDeeds.{Deed, Begins, Steps, Replies, Stops, Opens, Leaves, MapComes, Makes, MapFails, Ends, MapGoes, ReclaimsAll, Entry}
 use Rattle.papaya_played.specs.Play.{Ending, State, call_for, ending_deed, has_root, is_over, is_refusal, leaves_as, making_deed, making_outcome, outcome_of, pairs_for, registers_as, reply_for, row_deed, row_outcome, settled_outcome}
 use Rattle.papaya_played.proofs.Along.{StaysSo}
 use Rattle.papaya_played.proofs.Noted.{Anything}

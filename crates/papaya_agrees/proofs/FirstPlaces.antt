@@ -10,7 +10,7 @@ use Rattle.papaya_tables.specs.declared.resize_mode.ResizeMode.{ResizeMode}
 use Rattle.papaya_tables.specs.declared.resize_mode.ResizeMode.TheVariants.{Blocking, Incremental}
 use Rattle.papaya_tables.specs.declared.setting.Setting.{Setting}
 use Rattle.papaya_tables.proofs.Logarithms.{next-power-unique}
-use Rattle.papaya_played.specs.Given.Named.Places.{IsFirstLen, first_places}
+use Rattle.papaya_played.specs.Given.NamedPlaces.{IsFirstLen, first_places}
 use Rattle.papaya_played.specs.Play.{pairs_for}
 use Rattle.papaya_runs.specs.Runs.{map_fault}
 use Rattle.papaya_agrees.specs.Places.{ArePlaces}

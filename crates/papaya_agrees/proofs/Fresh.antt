@@ -5,21 +5,21 @@ use Rattle.std.specs.Option.{option_or}
 use Rattle.std.proofs.Common.{◌≡◌, ℕ, ◌+◌, Bool, true, false, List, [], ◌∷◌, inl, inr, refl, ap, sym, ◌∙◌}
 use Rattle.std.proofs.lemmas.Bool.{ne_eqb}
 use Rattle.std.proofs.lemmas.List.Folds.{find-append}
-use Rattle.papaya_played.proofs.Given.Follows.Calling.{come_same, replied_same}
-use Rattle.papaya_played.proofs.Given.Follows.Calls.{IsOfSame, changed, changed_same, of_same}
+use Rattle.papaya_played.proofs.Given.FollowsCalling.{come_same, replied_same}
+use Rattle.papaya_played.proofs.Given.FollowsCalls.{IsOfSame, changed, changed_same, of_same}
 use Rattle.papaya_runs.specs.Same.{is_same}
-use Rattle.papaya_played.specs.Given.Schedules.After.{comes_to, replied, stepped, without_call}
-use Rattle.papaya_played.specs.Given.Schedules.Effects.{call_by, maps_by, shards_by, with_effect, with_effects, word_with}
-use Rattle.papaya_played.specs.Given.Schedules.Entry.{acting, ends_call}
-use Rattle.papaya_played.specs.Given.Schedules.Lists.{put}
-use Rattle.papaya_played.specs.Given.Schedules.Moment.{MapThere, Moment, UnderWay}
-use Rattle.papaya_played.specs.Given.Schedules.Views.{map_at}
-use Rattle.papaya_played.specs.Given.Schedules.declared.effect.Effect.{Effect}
-use Rattle.papaya_played.specs.Given.Schedules.declared.effect.Effect.TheVariants as effect
-use Rattle.papaya_played.specs.Given.Schedules.declared.effect.Table.{Table}
-use Rattle.papaya_played.specs.Given.Schedules.declared.outcome.Outcome.{Outcome}
-use Rattle.papaya_played.specs.Given.Schedules.declared.outcome.Outcome.TheVariants as outcome
-use Rattle.papaya_played.specs.Given.Deeds.Deeds.{Deed, Begins, Steps, Replies, Stops, MapComes, MapFails, MapGoes, Entry, acted_on, after, at_work, begun, caller_of, calls_on, maps_on, moment, named, worked}
+use Rattle.papaya_played.specs.Given.SchedulesAfter.{comes_to, replied, stepped, without_call}
+use Rattle.papaya_played.specs.Given.SchedulesEffects.{call_by, maps_by, shards_by, with_effect, with_effects, word_with}
+use Rattle.papaya_played.specs.Given.SchedulesEntry.{acting, ends_call}
+use Rattle.papaya_played.specs.Given.SchedulesLists.{put}
+use Rattle.papaya_played.specs.Given.SchedulesMoment.{MapThere, Moment, UnderWay}
+use Rattle.papaya_played.specs.Given.SchedulesViews.{map_at}
+use Rattle.papaya_played.specs.Given.SchedulesDeclared.effect.Effect.{Effect}
+use Rattle.papaya_played.specs.Given.SchedulesDeclared.effect.Effect.TheVariants as effect
+use Rattle.papaya_played.specs.Given.SchedulesDeclared.effect.Table.{Table}
+use Rattle.papaya_played.specs.Given.SchedulesDeclared.outcome.Outcome.{Outcome}
+use Rattle.papaya_played.specs.Given.SchedulesDeclared.outcome.Outcome.TheVariants as outcome
+use Rattle.papaya_played.specs.Given.DeedsDeeds.{Deed, Begins, Steps, Replies, Stops, MapComes, MapFails, MapGoes, Entry, acted_on, after, at_work, begun, caller_of, calls_on, maps_on, moment, named, worked}
 use Rattle.papaya_agrees.specs.Fresh.{IsBare, IsFresh, comes_with, gives_back, in_use}
 use Rattle.papaya_agrees.proofs.Elsewhere.{AllLinkElsewhere, LinksElsewhere, StoresElsewhere, no_tables_by, none_promoted, pairs_other, stores_elsewhere}
 use Rattle.papaya_agrees.proofs.Lists.{all_kept, found_so}

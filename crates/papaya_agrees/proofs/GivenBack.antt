@@ -1,9 +1,9 @@
 -- Where each map is made with a number that is not taken, nothing is there of a number that was given back: so it is wherever a list has led.
 use Rattle.std.specs.Prelude.{◌≢◌, Option, Some, None, is_ok, length, option_map, if◌then◌else◌}
 use Rattle.std.proofs.Common.{◌≡◌, ℕ, Bool, true, false, List, [], ◌∷◌, refl, ap, sym, subst, arith, ◌∙◌}
-use Rattle.papaya_played.specs.Given.SeizeActs.Answers.{Grant, stepped}
-use Rattle.papaya_played.proofs.Given.SeizeActs.Answers.{same_some}
-use Rattle.papaya_played.specs.Given.SeizeWords.Mem.{Mem}
+use Rattle.papaya_played.specs.Given.SeizeActsAnswers.{Grant, stepped}
+use Rattle.papaya_played.proofs.Given.SeizeActsAnswers.{same_some}
+use Rattle.papaya_played.specs.Given.SeizeWordsMem.{Mem}
 use Rattle.papaya_tables.specs.Given.Seize.ReclaimAll.{reclaim_all_plan}
 use Rattle.papaya_tables.specs.Given.Seize.World.{with_at}
 use Rattle.papaya_tables.specs.Given.Seize.declared.progress.Progress.{Progress}
@@ -11,23 +11,23 @@ use Rattle.papaya_tables.specs.Given.Seize.declared.progress.Progress.TheVariant
 use Rattle.papaya_tables.specs.Nodes.{deferred_word, was_left}
 use Rattle.papaya_tables.specs.declared.node.Node.{Node}
 use Rattle.papaya_tables.specs.declared.setting.Setting.{Setting}
-use Rattle.papaya_played.specs.Given.Resize.NewMap.{new_map_plan, opening}
-use Rattle.papaya_played.specs.Given.Resize.declared.new_map.NewMap.{NewMap}
-use Rattle.papaya_played.specs.Given.Raw.EndMap.{end_map_plan, ending}
-use Rattle.papaya_played.specs.Given.Raw.Machine.{machine_asked, machine_plan, machine_replied}
-use Rattle.papaya_played.specs.Given.Teller.declared.changed.Changed.{Changed}
-use Rattle.papaya_played.specs.Given.Scenes.Scene.{row_of, slot_of}
-use Rattle.papaya_played.proofs.Given.Scenes.NoCall.{none_is, none_of}
-use Rattle.papaya_played.specs.Given.Schedules.declared.outcome.Outcome.TheVariants as outcome
-use Rattle.papaya_played.specs.Given.Effects.Effects.{known_after}
-use Rattle.papaya_played.specs.Given.Effects.declared.acting.Acting.TheVariants as acting
-use Rattle.papaya_played.specs.Given.Named.Seen.{kind_of}
-use Rattle.papaya_played.specs.Given.Acts.Acts.{Act, BeginsCall, StepsCall, TellsCall, AsksCall, StopsCall, BeginsMaking, StepsMaking, BeginsEnding, StepsEnding, BeginsRow, StepsRow}
-use Rattle.papaya_played.specs.Given.Acts.AsSteps.{changed_of, row_changed}
-use Rattle.papaya_played.specs.Given.Acts.Courses.{set_up}
-use Rattle.papaya_played.specs.Given.Acts.Leads.{MayBe}
-use Rattle.papaya_played.proofs.Given.Acts.AsSteps.Told.{was_told}
-use Rattle.papaya_played.specs.Given.Deeds.Deeds.{Begins, Entry, ReclaimsAll, Replies, Steps, Stops, moment}
+use Rattle.papaya_played.specs.Given.ResizeNewMap.{new_map_plan, opening}
+use Rattle.papaya_played.specs.Given.ResizeDeclared.new_map.NewMap.{NewMap}
+use Rattle.papaya_played.specs.Given.RawEndMap.{end_map_plan, ending}
+use Rattle.papaya_played.specs.Given.RawMachine.{machine_asked, machine_plan, machine_replied}
+use Rattle.papaya_played.specs.Given.TellerDeclared.changed.Changed.{Changed}
+use Rattle.papaya_played.specs.Given.ScenesScene.{row_of, slot_of}
+use Rattle.papaya_played.proofs.Given.ScenesNoCall.{none_is, none_of}
+use Rattle.papaya_played.specs.Given.SchedulesDeclared.outcome.Outcome.TheVariants as outcome
+use Rattle.papaya_played.specs.Given.EffectsEffects.{known_after}
+use Rattle.papaya_played.specs.Given.EffectsDeclared.acting.Acting.TheVariants as acting
+use Rattle.papaya_played.specs.Given.NamedSeen.{kind_of}
+use Rattle.papaya_played.specs.Given.ActsActs.{Act, BeginsCall, StepsCall, TellsCall, AsksCall, StopsCall, BeginsMaking, StepsMaking, BeginsEnding, StepsEnding, BeginsRow, StepsRow}
+use Rattle.papaya_played.specs.Given.ActsAsSteps.{changed_of, row_changed}
+use Rattle.papaya_played.specs.Given.ActsCourses.{set_up}
+use Rattle.papaya_played.specs.Given.ActsLeads.{MayBe}
+use Rattle.papaya_played.proofs.Given.ActsAsSteps.Told.{was_told}
+use Rattle.papaya_played.specs.Given.DeedsDeeds.{Begins, Entry, ReclaimsAll, Replies, Steps, Stops, moment}
 use Rattle.papaya_played.specs.Play.{Ending, Making, Now, State, call_for, ended_on, ending_deed, first_state, is_over, made_on, making_deed, making_outcome, outcome_of, reply_for, row_deed, row_outcome, settled_outcome}
 use Rattle.papaya_played.specs.Reached.{stands_so}
 use Rattle.papaya_played.proofs.Along.{At, Is, StaysSo}

@@ -1,12 +1,12 @@
 -- Wherever a list has led, each entry of its history that was refused a growth has asked for it, and made nothing.
 use Rattle.std.specs.Prelude.{true, false}
 use Rattle.std.proofs.Common.{refl}
-use Rattle.papaya_played.specs.Given.Teller.declared.changed.Changed.{Changed}
-use Rattle.papaya_played.specs.Given.Teller.declared.changed.Changed.TheVariants as changes
-use Rattle.papaya_played.specs.Given.Effects.Effects.{effects_of}
-use Rattle.papaya_played.specs.Given.Effects.Known.{Known}
-use Rattle.papaya_played.specs.Given.Effects.declared.acting.Acting.{Acting}
-use Rattle.papaya_played.specs.Given.Deeds.History.{Refuses}
+use Rattle.papaya_played.specs.Given.TellerDeclared.changed.Changed.{Changed}
+use Rattle.papaya_played.specs.Given.TellerDeclared.changed.Changed.TheVariants as changes
+use Rattle.papaya_played.specs.Given.EffectsEffects.{effects_of}
+use Rattle.papaya_played.specs.Given.EffectsKnown.{Known}
+use Rattle.papaya_played.specs.Given.EffectsDeclared.acting.Acting.{Acting}
+use Rattle.papaya_played.specs.Given.DeedsHistory.{Refuses}
 use Rattle.papaya_played.specs.Play.{is_refusal}
 use Rattle.papaya_agrees.specs.Grants.{EachRefuses}
 use Rattle.papaya_agrees.proofs.Entries.{Grows}

@@ -1,9 +1,9 @@
 -- Wherever a list has led, the guards of its history are the slots within sections.
 use Rattle.std.specs.Prelude.{Bool, true, false, Option, Some, None, option_map, is_ok, length, if◌then◌else◌}
 use Rattle.std.proofs.Common.{◌≡◌, ℕ, List, [], ◌∷◌, refl, ap, sym, subst, ◌∙◌}
-use Rattle.papaya_played.specs.Given.SeizeActs.Acts.{row_steps}
-use Rattle.papaya_played.specs.Given.SeizeActs.Answers.{Grant}
-use Rattle.papaya_played.proofs.Given.SeizeActs.Answers.{same_some}
+use Rattle.papaya_played.specs.Given.SeizeActsActs.{row_steps}
+use Rattle.papaya_played.specs.Given.SeizeActsAnswers.{Grant}
+use Rattle.papaya_played.proofs.Given.SeizeActsAnswers.{same_some}
 use Rattle.papaya_tables.specs.Given.Seize.World.{World, Row, Rests, Begins as BeginsSo, IsInside, Request, with_at}
 use Rattle.papaya_tables.specs.Given.Seize.ReclaimAll.{reclaim_all_plan}
 use Rattle.papaya_tables.specs.Given.Seize.declared.progress.Progress.{Progress}
@@ -14,33 +14,33 @@ use Rattle.papaya_tables.specs.Given.Seize.declared.rows.settle.Settled.TheVaria
 use Rattle.papaya_tables.specs.Nodes.{deferred_word, was_left}
 use Rattle.papaya_tables.specs.declared.node.Node.{Node}
 use Rattle.papaya_tables.specs.declared.setting.Setting.{Setting}
-use Rattle.papaya_played.specs.Given.Resize.NewMap.{new_map_plan}
-use Rattle.papaya_played.specs.Given.Resize.declared.new_map.NewMap.{NewMap}
-use Rattle.papaya_played.specs.Given.Raw.EndMap.{end_map_plan}
-use Rattle.papaya_played.specs.Given.Raw.Machine.{machine_asked, machine_plan, machine_replied}
-use Rattle.papaya_played.specs.Given.Raw.declared.machines.end_map.EndMap.{EndMap}
-use Rattle.papaya_played.specs.Given.Callers.Rows.{IsUsedAlike}
-use Rattle.papaya_played.specs.Given.Callers.Together.{CameAbout}
-use Rattle.papaya_played.specs.Given.Finishes.Endings.{Finishing}
-use Rattle.papaya_played.specs.Given.Finishes.FactsEnds.{Deed as EndDeed}
-use Rattle.papaya_played.specs.Given.Finishes.Makings.{Beginning}
-use Rattle.papaya_played.proofs.Given.Callers.Together.Came.{came_reached}
-use Rattle.papaya_played.proofs.Given.Callers.Together.Users.{events_uses}
-use Rattle.papaya_played.specs.Given.Scenes.Rows.{begun_row, request_of}
-use Rattle.papaya_played.specs.Given.Scenes.Scene.{Scene, at_first, row_of, slot_of}
-use Rattle.papaya_played.specs.Given.Scenes.declared.row.SlotCall.{SlotCall}
-use Rattle.papaya_played.specs.Given.Scenes.declared.row.SlotRow.{SlotRow}
-use Rattle.papaya_played.specs.Given.Scenes.declared.row.SlotRow.TheVariants as rows
+use Rattle.papaya_played.specs.Given.ResizeNewMap.{new_map_plan}
+use Rattle.papaya_played.specs.Given.ResizeDeclared.new_map.NewMap.{NewMap}
+use Rattle.papaya_played.specs.Given.RawEndMap.{end_map_plan}
+use Rattle.papaya_played.specs.Given.RawMachine.{machine_asked, machine_plan, machine_replied}
+use Rattle.papaya_played.specs.Given.RawDeclared.machines.end_map.EndMap.{EndMap}
+use Rattle.papaya_played.specs.Given.CallersRows.{IsUsedAlike}
+use Rattle.papaya_played.specs.Given.CallersTogether.{CameAbout}
+use Rattle.papaya_played.specs.Given.FinishesEndings.{Finishing}
+use Rattle.papaya_played.specs.Given.FinishesFactsEnds.{Deed as EndDeed}
+use Rattle.papaya_played.specs.Given.FinishesMakings.{Beginning}
+use Rattle.papaya_played.proofs.Given.CallersTogether.Came.{came_reached}
+use Rattle.papaya_played.proofs.Given.CallersTogether.Users.{events_uses}
+use Rattle.papaya_played.specs.Given.ScenesRows.{begun_row, request_of}
+use Rattle.papaya_played.specs.Given.ScenesScene.{Scene, at_first, row_of, slot_of}
+use Rattle.papaya_played.specs.Given.ScenesDeclared.row.SlotCall.{SlotCall}
+use Rattle.papaya_played.specs.Given.ScenesDeclared.row.SlotRow.{SlotRow}
+use Rattle.papaya_played.specs.Given.ScenesDeclared.row.SlotRow.TheVariants as rows
 use Rattle.papaya_runs.specs.Present.{Present, nobody}
-use Rattle.papaya_played.specs.Given.Schedules.declared.outcome.Outcome.TheVariants as outcome
-use Rattle.papaya_played.specs.Given.Acts.Acts.{Act, Answer, BeginsCall, StepsCall, TellsCall, AsksCall, StopsCall, BeginsMaking, StepsMaking, BeginsEnding, StepsEnding, BeginsRow, StepsRow}
-use Rattle.papaya_played.specs.Given.Effects.Effects.{effects_of, known_after}
-use Rattle.papaya_played.specs.Given.Effects.declared.acting.Acting.TheVariants as acting
-use Rattle.papaya_played.specs.Given.Named.Seen.{kind_of}
-use Rattle.papaya_played.specs.Given.Acts.AsSteps.{IsOwn, changed_of, row_changed}
-use Rattle.papaya_played.specs.Given.Acts.Doings.{still as goes_still}
-use Rattle.papaya_played.specs.Given.Acts.Leads.{EndingCame, Led, MakingCame, MayBe}
-use Rattle.papaya_played.specs.Given.Deeds.Deeds.{Begins, Entry, ReclaimsAll, Replies, Steps, Stops, moment}
+use Rattle.papaya_played.specs.Given.SchedulesDeclared.outcome.Outcome.TheVariants as outcome
+use Rattle.papaya_played.specs.Given.ActsActs.{Act, Answer, BeginsCall, StepsCall, TellsCall, AsksCall, StopsCall, BeginsMaking, StepsMaking, BeginsEnding, StepsEnding, BeginsRow, StepsRow}
+use Rattle.papaya_played.specs.Given.EffectsEffects.{effects_of, known_after}
+use Rattle.papaya_played.specs.Given.EffectsDeclared.acting.Acting.TheVariants as acting
+use Rattle.papaya_played.specs.Given.NamedSeen.{kind_of}
+use Rattle.papaya_played.specs.Given.ActsAsSteps.{IsOwn, changed_of, row_changed}
+use Rattle.papaya_played.specs.Given.ActsDoings.{still as goes_still}
+use Rattle.papaya_played.specs.Given.ActsLeads.{EndingCame, Led, MakingCame, MayBe}
+use Rattle.papaya_played.specs.Given.DeedsDeeds.{Begins, Entry, ReclaimsAll, Replies, Steps, Stops, moment}
 use Rattle.papaya_played.specs.Play.{Making, Now, State, all_begun, choice_come, call_for, ending_deed, first_state, is_over, is_refusal, made_on, making_deed, making_outcome, outcome_of, reply_for, row_deed, row_on, row_outcome, settled_outcome, slot_call_of}
 use Rattle.papaya_played.specs.Reached.{IsOf, row_or_rests, rows_beside}
 use Rattle.papaya_played.proofs.Along.{At, Is, StaysSo, far}

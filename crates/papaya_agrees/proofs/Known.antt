@@ -2,22 +2,22 @@
 use Rattle.std.specs.Prelude.{◌<◌, ◌≢◌, ◌==◌, nat_le, Ok, Err, if◌then◌else◌}
 use Rattle.std.proofs.Common.{◌≡◌, ℕ, ◌+◌, Bool, true, false, refl, ap, sym, subst, ◌∙◌, arith}
 use Rattle.std.proofs.lemmas.Bool.{ne_eqb}
-use Rattle.papaya_played.specs.Given.SeizeWords.Mem.{Mem, Took}
-use Rattle.papaya_played.specs.Given.SeizeWords.Op.{Op, Out, Load, Store, Swap, Add, Or, Exchange, Make, Take, Rewrite, Room, Found, Exchanged, Made, Roomed}
-use Rattle.papaya_played.specs.Given.SeizeWords.Plan.{Plan, Turn, Do}
-use Rattle.papaya_played.specs.Given.SeizeWords.Word.{block_in}
-use Rattle.papaya_played.specs.Given.SeizeWords.declared.at.At.TheVariants.{Root, Used, Slot, Entry, Word}
+use Rattle.papaya_played.specs.Given.SeizeWordsMem.{Mem, Took}
+use Rattle.papaya_played.specs.Given.SeizeWordsOp.{Op, Out, Load, Store, Swap, Add, Or, Exchange, Make, Take, Rewrite, Room, Found, Exchanged, Made, Roomed}
+use Rattle.papaya_played.specs.Given.SeizeWordsPlan.{Plan, Turn, Do}
+use Rattle.papaya_played.specs.Given.SeizeWordsWord.{block_in}
+use Rattle.papaya_played.specs.Given.SeizeWordsDeclared.at.At.TheVariants.{Root, Used, Slot, Entry, Word}
 use Rattle.papaya_tables.specs.declared.node.Node.{Node}
 use Rattle.papaya_tables.specs.declared.table_words.TheConstants.{NEXT}
-use Rattle.papaya_played.specs.Given.Tells.Seen.{seen_of}
-use Rattle.papaya_played.specs.Given.Teller.Tells.{StepsTold, told_of}
-use Rattle.papaya_played.specs.Given.Teller.declared.changed.Changed.{Changed}
-use Rattle.papaya_played.specs.Given.Teller.declared.changed.Changed.TheVariants as changed
-use Rattle.papaya_played.specs.Given.Effects.Effects.{in_block_on, in_table_on, is_place, known_after, linked_on, made_role, named, names_same, stored_on, table_at}
-use Rattle.papaya_played.specs.Given.Effects.Known.{Known, with_role}
-use Rattle.papaya_played.specs.Given.Effects.declared.acting.Acting.{Acting}
-use Rattle.papaya_played.specs.Given.Effects.declared.role.Role.{Role}
-use Rattle.papaya_played.specs.Given.Effects.declared.role.Role.TheVariants as role
+use Rattle.papaya_played.specs.Given.TellsSeen.{seen_of}
+use Rattle.papaya_played.specs.Given.TellerTells.{StepsTold, told_of}
+use Rattle.papaya_played.specs.Given.TellerDeclared.changed.Changed.{Changed}
+use Rattle.papaya_played.specs.Given.TellerDeclared.changed.Changed.TheVariants as changed
+use Rattle.papaya_played.specs.Given.EffectsEffects.{in_block_on, in_table_on, is_place, known_after, linked_on, made_role, named, names_same, stored_on, table_at}
+use Rattle.papaya_played.specs.Given.EffectsKnown.{Known, with_role}
+use Rattle.papaya_played.specs.Given.EffectsDeclared.acting.Acting.{Acting}
+use Rattle.papaya_played.specs.Given.EffectsDeclared.role.Role.{Role}
+use Rattle.papaya_played.specs.Given.EffectsDeclared.role.Role.TheVariants as role
 
 -- a block that is made has another number
 abbrev pub MakesSome : Changed → Type 0

@@ -2,12 +2,12 @@
 use Rattle.std.specs.Prelude.{Bool, true, false, Option, if◌then◌else◌}
 use Rattle.std.proofs.Common.{◌≡◌, ℕ, List, [], ◌∷◌, refl, ap, ◌∙◌}
 use Rattle.papaya_runs.specs.Present.{Present}
-use Rattle.papaya_played.specs.Given.Schedules.declared.effect.Effect.{Effect}
-use Rattle.papaya_played.specs.Given.Schedules.Effects.{with_effect, with_effects}
-use Rattle.papaya_played.specs.Given.Schedules.Moment.{Moment}
+use Rattle.papaya_played.specs.Given.SchedulesDeclared.effect.Effect.{Effect}
+use Rattle.papaya_played.specs.Given.SchedulesEffects.{with_effect, with_effects}
+use Rattle.papaya_played.specs.Given.SchedulesMoment.{Moment}
 use Rattle.papaya_tables.specs.Given.Seize.declared.rows.settle.Settled.{Settled}
-use Rattle.papaya_played.specs.Given.Resize.declared.new_map.NewMap.{NewMap}
-use Rattle.papaya_played.specs.Given.Deeds.Deeds.{Deed, Begins, MapComes, Makes, MapFails, Ends, MapGoes, Entry, acted_on, after, at_work, begun, caller_of, moment, there_on}
+use Rattle.papaya_played.specs.Given.ResizeDeclared.new_map.NewMap.{NewMap}
+use Rattle.papaya_played.specs.Given.DeedsDeeds.{Deed, Begins, MapComes, Makes, MapFails, Ends, MapGoes, Entry, acted_on, after, at_work, begun, caller_of, moment, there_on}
 use Rattle.papaya_played.specs.Play.{Ending, ending_deed, has_root, is_over, making_deed, pairs_for}
 
 module _ {K V : Type 0} where

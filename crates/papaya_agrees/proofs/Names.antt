@@ -4,15 +4,15 @@ use Rattle.std.specs.List.{All}
 use Rattle.std.proofs.Common.{◌≡◌, ℕ, List, [], ◌∷◌, refl, ap, sym, ◌∙◌, arith}
 use Rattle.std.proofs.lemmas.Bool.{eqb-true}
 use Rattle.std.proofs.lemmas.List.Elements.{All-append, All-cons, All-filter, All-map}
-use Rattle.papaya_played.proofs.Given.Follows.Calling.{is_same_refl}
+use Rattle.papaya_played.proofs.Given.FollowsCalling.{is_same_refl}
 use Rattle.papaya_runs.specs.Same.{is_same}
-use Rattle.papaya_played.specs.Given.Schedules.Effects.{maps_by, promoted, with_effect, with_effects}
-use Rattle.papaya_played.specs.Given.Schedules.Moment.{MapThere, Moment}
-use Rattle.papaya_played.specs.Given.Schedules.declared.effect.Effect.{Effect}
-use Rattle.papaya_played.specs.Given.Schedules.declared.effect.Effect.TheVariants.{Promoted}
-use Rattle.papaya_played.specs.Given.Schedules.declared.effect.Table.{Table}
-use Rattle.papaya_played.specs.Given.Effects.Effects.{effects_of}
-use Rattle.papaya_played.specs.Given.Deeds.Deeds.{Deed, Entry, MapComes, MapFails, MapGoes, acted_on, after, at_work, begun, caller_of, come, maps_on, moment, named, without_map, worked}
+use Rattle.papaya_played.specs.Given.SchedulesEffects.{maps_by, promoted, with_effect, with_effects}
+use Rattle.papaya_played.specs.Given.SchedulesMoment.{MapThere, Moment}
+use Rattle.papaya_played.specs.Given.SchedulesDeclared.effect.Effect.{Effect}
+use Rattle.papaya_played.specs.Given.SchedulesDeclared.effect.Effect.TheVariants.{Promoted}
+use Rattle.papaya_played.specs.Given.SchedulesDeclared.effect.Table.{Table}
+use Rattle.papaya_played.specs.Given.EffectsEffects.{effects_of}
+use Rattle.papaya_played.specs.Given.DeedsDeeds.{Deed, Entry, MapComes, MapFails, MapGoes, acted_on, after, at_work, begun, caller_of, come, maps_on, moment, named, without_map, worked}
 use Rattle.papaya_played.specs.Play.{is_refusal}
 use Rattle.papaya_agrees.specs.Fresh.{AreNamed, IsNamed}
 use Rattle.papaya_agrees.proofs.Entries.{Grows}

@@ -3,10 +3,10 @@ use Rattle.std.specs.Prelude.{◌≢◌, ◌⊎◌, ◌==◌, find, Option, Some
 use Rattle.std.specs.List.{AllByRecursion}
 use Rattle.std.proofs.Common.{◌≡◌, ℕ, Bool, true, false, List, [], ◌∷◌, inl, inr, refl, ap, sym, subst, ◌∙◌}
 use Rattle.std.proofs.lemmas.Bool.{cases_eq}
-use Rattle.papaya_played.specs.Given.SeizeActs.Answers.{Grant, stepped}
-use Rattle.papaya_played.proofs.Given.SeizeActs.Answers.{same_some}
-use Rattle.papaya_played.specs.Given.SeizeWords.Mem.{Mem}
-use Rattle.papaya_played.specs.Given.SeizeWords.Plan.{Plan}
+use Rattle.papaya_played.specs.Given.SeizeActsAnswers.{Grant, stepped}
+use Rattle.papaya_played.proofs.Given.SeizeActsAnswers.{same_some}
+use Rattle.papaya_played.specs.Given.SeizeWordsMem.{Mem}
+use Rattle.papaya_played.specs.Given.SeizeWordsPlan.{Plan}
 use Rattle.papaya_tables.specs.Given.Seize.ReclaimAll.{reclaim_all_plan}
 use Rattle.papaya_tables.specs.Given.Seize.World.{with_at}
 use Rattle.papaya_tables.specs.Given.Seize.declared.progress.Progress.{Progress}
@@ -15,31 +15,31 @@ use Rattle.papaya_tables.specs.Given.Seize.declared.rows.settle.Settled.{Settled
 use Rattle.papaya_tables.specs.Nodes.{deferred_word, was_left}
 use Rattle.papaya_tables.specs.declared.node.Node.{Node}
 use Rattle.papaya_tables.specs.declared.setting.Setting.{Setting}
-use Rattle.papaya_played.specs.Given.Resize.NewMap.{new_map_plan, opening}
-use Rattle.papaya_played.specs.Given.Resize.declared.new_map.NewMap.{NewMap}
-use Rattle.papaya_played.specs.Given.Raw.EndMap.{end_map_plan, ending}
-use Rattle.papaya_played.specs.Given.Raw.Machine.{machine_asked, machine_plan, machine_replied}
-use Rattle.papaya_played.specs.Given.Raw.declared.machines.end_map.EndMap.{EndMap}
-use Rattle.papaya_played.specs.Given.Teller.Tells.{StepsTold}
-use Rattle.papaya_played.specs.Given.Teller.declared.changed.Changed.{Changed}
-use Rattle.papaya_played.specs.Given.Teller.declared.changed.Changed.TheVariants.{Nothing as NoChange}
-use Rattle.papaya_played.specs.Given.Finishes.Maps.{with_call}
-use Rattle.papaya_played.proofs.Given.Callers.Together.At.{at_other, at_same}
-use Rattle.papaya_played.specs.Given.Scenes.Replying.{unless_stopped}
-use Rattle.papaya_played.specs.Given.Scenes.Scene.{row_of, slot_of}
+use Rattle.papaya_played.specs.Given.ResizeNewMap.{new_map_plan, opening}
+use Rattle.papaya_played.specs.Given.ResizeDeclared.new_map.NewMap.{NewMap}
+use Rattle.papaya_played.specs.Given.RawEndMap.{end_map_plan, ending}
+use Rattle.papaya_played.specs.Given.RawMachine.{machine_asked, machine_plan, machine_replied}
+use Rattle.papaya_played.specs.Given.RawDeclared.machines.end_map.EndMap.{EndMap}
+use Rattle.papaya_played.specs.Given.TellerTells.{StepsTold}
+use Rattle.papaya_played.specs.Given.TellerDeclared.changed.Changed.{Changed}
+use Rattle.papaya_played.specs.Given.TellerDeclared.changed.Changed.TheVariants.{Nothing as NoChange}
+use Rattle.papaya_played.specs.Given.FinishesMaps.{with_call}
+use Rattle.papaya_played.proofs.Given.CallersTogether.At.{at_other, at_same}
+use Rattle.papaya_played.specs.Given.ScenesReplying.{unless_stopped}
+use Rattle.papaya_played.specs.Given.ScenesScene.{row_of, slot_of}
 use Rattle.papaya_runs.specs.Same.{is_same}
-use Rattle.papaya_played.specs.Given.Schedules.Moment.{UnderWay}
-use Rattle.papaya_played.specs.Given.Schedules.declared.outcome.Outcome.{Outcome}
-use Rattle.papaya_played.specs.Given.Schedules.declared.outcome.Outcome.TheVariants as outcome
-use Rattle.papaya_played.specs.Given.Effects.Effects.{effects_of, known_after}
-use Rattle.papaya_played.specs.Given.Effects.declared.acting.Acting.{Acting}
-use Rattle.papaya_played.specs.Given.Effects.declared.acting.Acting.TheVariants as acting
-use Rattle.papaya_played.specs.Given.Named.Seen.{kind_of}
-use Rattle.papaya_played.specs.Given.Acts.Acts.{Act, Answer, OfAsking, OfCall, OfEnding, OfMaking, OfReclaiming, OfReply, Nothing, BeginsCall, StepsCall, TellsCall, AsksCall, StopsCall, BeginsMaking, StepsMaking, BeginsEnding, StepsEnding, BeginsRow, StepsRow}
-use Rattle.papaya_played.specs.Given.Acts.AsSteps.{changed_of, row_changed}
-use Rattle.papaya_played.proofs.Given.Acts.AsSteps.Told.{was_told}
-use Rattle.papaya_played.specs.Given.Deeds.Deeds.{Deed, Begins, Steps, Replies, Stops, MapFails, ReclaimsAll, Entry, acted_on, at_work, map_of_call, maps_on, moment, named}
-use Rattle.papaya_played.specs.Given.Deeds.Deeds.{worked as worked_on}
+use Rattle.papaya_played.specs.Given.SchedulesMoment.{UnderWay}
+use Rattle.papaya_played.specs.Given.SchedulesDeclared.outcome.Outcome.{Outcome}
+use Rattle.papaya_played.specs.Given.SchedulesDeclared.outcome.Outcome.TheVariants as outcome
+use Rattle.papaya_played.specs.Given.EffectsEffects.{effects_of, known_after}
+use Rattle.papaya_played.specs.Given.EffectsDeclared.acting.Acting.{Acting}
+use Rattle.papaya_played.specs.Given.EffectsDeclared.acting.Acting.TheVariants as acting
+use Rattle.papaya_played.specs.Given.NamedSeen.{kind_of}
+use Rattle.papaya_played.specs.Given.ActsActs.{Act, Answer, OfAsking, OfCall, OfEnding, OfMaking, OfReclaiming, OfReply, Nothing, BeginsCall, StepsCall, TellsCall, AsksCall, StopsCall, BeginsMaking, StepsMaking, BeginsEnding, StepsEnding, BeginsRow, StepsRow}
+use Rattle.papaya_played.specs.Given.ActsAsSteps.{changed_of, row_changed}
+use Rattle.papaya_played.proofs.Given.ActsAsSteps.Told.{was_told}
+use Rattle.papaya_played.specs.Given.DeedsDeeds.{Deed, Begins, Steps, Replies, Stops, MapFails, ReclaimsAll, Entry, acted_on, at_work, map_of_call, maps_on, moment, named}
+use Rattle.papaya_played.specs.Given.DeedsDeeds.{worked as worked_on}
 use Rattle.papaya_played.specs.Play.{Calling, Ending, Making, Now, State, all_on, begun_call, call_for, did, ended_on, ending_deed, first_state, going, has_root, is_over, is_refusal, made_on, making_deed, making_outcome, outcome_of, reply_for, row_deed, row_on, row_outcome, settled_outcome, told_call, worked}
 use Rattle.papaya_played.proofs.Along.{StaysSo}
 use Rattle.papaya_played.proofs.Noted.{Anything, CallsAreNoted, IsNoted, notes_stay}

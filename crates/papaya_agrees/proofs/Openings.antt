@@ -2,33 +2,33 @@
 use Rattle.std.specs.Prelude.{◌≢◌, ◌==◌, ◌&&◌, ◌-◌, nat_lt, Ok, Err, Some, if◌then◌else◌}
 use Rattle.std.proofs.Common.{◌≡◌, ℕ, ◌+◌, Bool, true, false, [], refl, ap, sym, subst, ◌∙◌}
 use Rattle.std.proofs.lemmas.Bool.{and_parts, eq-eqb, eqb-true, ne_eqb}
-use Rattle.papaya_played.specs.Given.SeizeWords.Mem.{Mem, value_at}
-use Rattle.papaya_played.specs.Given.SeizeWords.Op.{Out, Exchange, Exchanged, Made}
-use Rattle.papaya_played.specs.Given.SeizeWords.Plan.{Ends as EndsSo}
-use Rattle.papaya_played.specs.Given.SeizeWords.declared.at.At.TheVariants.{Used}
-use Rattle.papaya_played.specs.Given.SeizeWords.declared.fault.Fault.TheVariants.{RootsUsedUp}
+use Rattle.papaya_played.specs.Given.SeizeWordsMem.{Mem, value_at}
+use Rattle.papaya_played.specs.Given.SeizeWordsOp.{Out, Exchange, Exchanged, Made}
+use Rattle.papaya_played.specs.Given.SeizeWordsPlan.{Ends as EndsSo}
+use Rattle.papaya_played.specs.Given.SeizeWordsDeclared.at.At.TheVariants.{Used}
+use Rattle.papaya_played.specs.Given.SeizeWordsDeclared.fault.Fault.TheVariants.{RootsUsedUp}
 use Rattle.papaya_tables.specs.Given.Seize.declared.progress.Progress.{Progress}
 use Rattle.papaya_tables.specs.Given.Seize.declared.progress.Progress.TheVariants as progress
 use Rattle.papaya_tables.specs.Given.Seize.declared.rows.settle.Settled.{Settled}
 use Rattle.papaya_tables.specs.declared.node.Node.{Node}
 use Rattle.papaya_tables.specs.declared.setting.Setting.{Setting}
 use Rattle.papaya_tables.specs.declared.table.Table.{Table}
-use Rattle.papaya_played.specs.Given.Resize.NewMap.{at_root, done, goes, made, opened, plan_at, refused, taken}
-use Rattle.papaya_played.specs.Given.Resize.NewTable.{first_table, new_table_plan}
-use Rattle.papaya_played.specs.Given.Resize.declared.new_map.NewMap.{NewMap}
-use Rattle.papaya_played.specs.Given.Resize.declared.new_map.Opening.{Opening}
-use Rattle.papaya_played.specs.Given.Resize.declared.new_map.Opening.TheVariants as openings
-use Rattle.papaya_played.specs.Given.Resize.declared.new_table.NewTable.{NewTable}
-use Rattle.papaya_played.specs.Given.Tells.Seen.{seen_of}
-use Rattle.papaya_played.specs.Given.Teller.Tells.{StepsTold, told_of}
-use Rattle.papaya_played.specs.Given.Teller.declared.changed.Changed.{Changed}
-use Rattle.papaya_played.specs.Given.Teller.declared.changed.Changed.TheVariants as changed
-use Rattle.papaya_played.specs.Given.Schedules.Moment.{Moment}
-use Rattle.papaya_played.specs.Given.Effects.Effects.{effects_of}
-use Rattle.papaya_played.specs.Given.Effects.Known.{Known}
-use Rattle.papaya_played.specs.Given.Effects.declared.acting.Acting.{Acting}
-use Rattle.papaya_played.proofs.Given.Others.Outcomes.{told_in}
-use Rattle.papaya_played.specs.Given.Deeds.Deeds.{Deed, MapComes, Makes, MapFails, Ends, MapGoes, acted_on}
+use Rattle.papaya_played.specs.Given.ResizeNewMap.{at_root, done, goes, made, opened, plan_at, refused, taken}
+use Rattle.papaya_played.specs.Given.ResizeNewTable.{first_table, new_table_plan}
+use Rattle.papaya_played.specs.Given.ResizeDeclared.new_map.NewMap.{NewMap}
+use Rattle.papaya_played.specs.Given.ResizeDeclared.new_map.Opening.{Opening}
+use Rattle.papaya_played.specs.Given.ResizeDeclared.new_map.Opening.TheVariants as openings
+use Rattle.papaya_played.specs.Given.ResizeDeclared.new_table.NewTable.{NewTable}
+use Rattle.papaya_played.specs.Given.TellsSeen.{seen_of}
+use Rattle.papaya_played.specs.Given.TellerTells.{StepsTold, told_of}
+use Rattle.papaya_played.specs.Given.TellerDeclared.changed.Changed.{Changed}
+use Rattle.papaya_played.specs.Given.TellerDeclared.changed.Changed.TheVariants as changed
+use Rattle.papaya_played.specs.Given.SchedulesMoment.{Moment}
+use Rattle.papaya_played.specs.Given.EffectsEffects.{effects_of}
+use Rattle.papaya_played.specs.Given.EffectsKnown.{Known}
+use Rattle.papaya_played.specs.Given.EffectsDeclared.acting.Acting.{Acting}
+use Rattle.papaya_played.proofs.Given.OthersOutcomes.{told_in}
+use Rattle.papaya_played.specs.Given.DeedsDeeds.{Deed, MapComes, Makes, MapFails, Ends, MapGoes, acted_on}
 use Rattle.papaya_played.specs.Play.{Ending, ending_deed, has_root, is_over, making_deed, pairs_for}
 use Rattle.papaya_agrees.specs.Fresh.{comes_with, gives_back}
 use Rattle.papaya_agrees.proofs.Fresh.{BeginsElsewhere}

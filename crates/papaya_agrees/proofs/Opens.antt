@@ -3,13 +3,13 @@ use Rattle.std.specs.Prelude.{◌≢◌, ◌⊎◌, cond, not, filter, find, Opt
 use Rattle.std.specs.Option.{option_or}
 use Rattle.std.proofs.Common.{◌≡◌, ℕ, Bool, true, List, [], ◌∷◌, ◌++◌, inl, inr, refl, ap, sym, subst, ◌∙◌}
 use Rattle.std.proofs.lemmas.List.Folds.{find-append}
-use Rattle.papaya_played.proofs.Given.Follows.Calling.{is_same_is, is_same_refl}
+use Rattle.papaya_played.proofs.Given.FollowsCalling.{is_same_is, is_same_refl}
 use Rattle.papaya_tables.specs.Given.Seize.World.{IsInside, Use}
-use Rattle.papaya_played.specs.Given.Scenes.declared.row.SlotRow.{SlotRow}
+use Rattle.papaya_played.specs.Given.ScenesDeclared.row.SlotRow.{SlotRow}
 use Rattle.papaya_runs.specs.Present.{guard_of}
 use Rattle.papaya_runs.specs.Same.{is_same}
 use Rattle.papaya_runs.specs.declared.holders.Guard.{Guard}
-use Rattle.papaya_played.specs.Given.Deeds.Deeds.{named}
+use Rattle.papaya_played.specs.Given.DeedsDeeds.{named}
 use Rattle.papaya_played.proofs.Noted.{apart}
 use Rattle.papaya_agrees.specs.Guards.{GuardsAre, IsOpen, guard_on}
 use Rattle.papaya_agrees.proofs.Lists.{all_kept, all_more, all_of, found_kept, found_so}

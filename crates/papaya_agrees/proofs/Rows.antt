@@ -2,11 +2,11 @@
 use Rattle.std.specs.Prelude.{◌≢◌, ◌⊎◌, ◌==◌, Some, if◌then◌else◌}
 use Rattle.std.proofs.Common.{◌≡◌, ℕ, Bool, true, false, [], ◌∷◌, inl, inr, refl, sym, subst}
 use Rattle.std.proofs.lemmas.Bool.{cases_eq}
-use Rattle.papaya_played.specs.Given.SeizeActs.Acts.{row_steps}
-use Rattle.papaya_played.specs.Given.SeizeActs.Answers.{Grant, stepped, then_on}
-use Rattle.papaya_played.proofs.Given.SeizeActs.Answers.{same_some, some, was_stepped}
-use Rattle.papaya_played.specs.Given.SeizeWords.Mem.{Mem, Took, value_at}
-use Rattle.papaya_played.specs.Given.SeizeWords.Plan.{Plan, Steps}
+use Rattle.papaya_played.specs.Given.SeizeActsActs.{row_steps}
+use Rattle.papaya_played.specs.Given.SeizeActsAnswers.{Grant, stepped, then_on}
+use Rattle.papaya_played.proofs.Given.SeizeActsAnswers.{same_some, some, was_stepped}
+use Rattle.papaya_played.specs.Given.SeizeWordsMem.{Mem, Took, value_at}
+use Rattle.papaya_played.specs.Given.SeizeWordsPlan.{Plan, Steps}
 use Rattle.papaya_tables.specs.Given.Seize.Enter.{enter_plan, unregister_plan}
 use Rattle.papaya_tables.specs.Given.Seize.Law.{Entered}
 use Rattle.papaya_tables.specs.Given.Seize.Leave.{leave_plan}
@@ -27,11 +27,11 @@ use Rattle.papaya_tables.specs.Given.Seize.declared.rows.settle.Settled.TheVaria
 use Rattle.papaya_tables.specs.Given.Seize.declared.states.TheConstants.{ACTIVE}
 use Rattle.papaya_tables.specs.Nodes.{deferred_word}
 use Rattle.papaya_tables.specs.declared.node.Node.{Node}
-use Rattle.papaya_played.proofs.Given.Callers.Together.At.{at_other, at_same}
-use Rattle.papaya_played.specs.Given.Scenes.Scene.{row_of}
-use Rattle.papaya_played.specs.Given.Scenes.declared.row.SlotRow.{SlotRow}
-use Rattle.papaya_played.specs.Given.Scenes.declared.row.SlotRow.TheVariants as rows
-use Rattle.papaya_played.specs.Given.Deeds.Deeds.{Deed, Leaves, Opens}
+use Rattle.papaya_played.proofs.Given.CallersTogether.At.{at_other, at_same}
+use Rattle.papaya_played.specs.Given.ScenesScene.{row_of}
+use Rattle.papaya_played.specs.Given.ScenesDeclared.row.SlotRow.{SlotRow}
+use Rattle.papaya_played.specs.Given.ScenesDeclared.row.SlotRow.TheVariants as rows
+use Rattle.papaya_played.specs.Given.DeedsDeeds.{Deed, Leaves, Opens}
 use Rattle.papaya_played.specs.Play.{leaves_as, registers_as, row_deed}
 
 -- Who is within a section after a deed was so, or the section began by it; and where it ends one nobody is within that.

@@ -1,16 +1,16 @@
 -- A list of acts in which a number comes again, once the making with it was refused, makes each map with a new number. One in which it comes again, once a map has come with it, does not.
 use Rattle.std.specs.Prelude.{nat_eq, option_map}
 use Rattle.std.proofs.Common.{◌≡◌, ℕ, true, false, List, [], ◌∷◌, refl, subst, Option, Some, None}
-use Rattle.papaya_played.proofs.Given.SeizeActs.Answers.{same_some}
-use Rattle.papaya_played.specs.Given.SeizeWords.declared.fault.Fault.TheVariants.{Memory}
+use Rattle.papaya_played.proofs.Given.SeizeActsAnswers.{same_some}
+use Rattle.papaya_played.specs.Given.SeizeWordsDeclared.fault.Fault.TheVariants.{Memory}
 use Rattle.papaya_tables.specs.declared.resize_mode.ResizeMode.TheVariants as mode
 use Rattle.papaya_tables.specs.declared.setting.Setting.{Setting}
-use Rattle.papaya_played.specs.Given.Schedules.declared.effect.Effect.TheVariants.{Asked}
-use Rattle.papaya_played.specs.Given.Schedules.declared.effect.Growth.TheVariants.{ABlock}
-use Rattle.papaya_played.specs.Given.Schedules.declared.outcome.Outcome.TheVariants.{Goes, Refused}
-use Rattle.papaya_played.specs.Given.Acts.Acts.{BeginsMaking, StepsMaking}
-use Rattle.papaya_played.specs.Given.Acts.Doings.{Doing, Does}
-use Rattle.papaya_played.specs.Given.Deeds.Deeds.{Entry, MapComes, MapFails, Makes}
+use Rattle.papaya_played.specs.Given.SchedulesDeclared.effect.Effect.TheVariants.{Asked}
+use Rattle.papaya_played.specs.Given.SchedulesDeclared.effect.Growth.TheVariants.{ABlock}
+use Rattle.papaya_played.specs.Given.SchedulesDeclared.outcome.Outcome.TheVariants.{Goes, Refused}
+use Rattle.papaya_played.specs.Given.ActsActs.{BeginsMaking, StepsMaking}
+use Rattle.papaya_played.specs.Given.ActsDoings.{Doing, Does}
+use Rattle.papaya_played.specs.Given.DeedsDeeds.{Entry, MapComes, MapFails, Makes}
 use Rattle.papaya_played.specs.Play.{State, first_state, play, play_all}
 use Rattle.papaya_agrees.specs.Fresh.{MakesNew, MakesOnce}
 

@@ -2,7 +2,7 @@
 use Rattle.std.specs.Prelude.{◌≢◌, ◌⊎◌, ◌+◌, Option, Some, None, option_map}
 use Rattle.std.proofs.Common.{◌≡◌, ℕ, Bool, inl, inr, refl, ap, sym, subst, ◌∙◌}
 use Rattle.std.proofs.lemmas.Bool.{cases_eq}
-use Rattle.papaya_played.proofs.Given.SeizeActs.Answers.{same_some}
+use Rattle.papaya_played.proofs.Given.SeizeActsAnswers.{same_some}
 use Rattle.papaya_tables.specs.Given.Seize.World.{World, with_at}
 use Rattle.papaya_tables.specs.Given.Seize.declared.progress.Progress.{Progress}
 use Rattle.papaya_tables.specs.Given.Seize.declared.progress.Progress.TheVariants as progress
@@ -10,18 +10,18 @@ use Rattle.papaya_tables.specs.Given.Seize.declared.rows.settle.Settled.{Settled
 use Rattle.papaya_tables.specs.Given.Seize.declared.rows.settle.Settled.TheVariants as settled
 use Rattle.papaya_tables.specs.declared.node.Node.{Node}
 use Rattle.papaya_tables.specs.declared.setting.Setting.{Setting}
-use Rattle.papaya_played.specs.Given.Resize.declared.new_map.NewMap.{NewMap}
-use Rattle.papaya_played.specs.Given.Raw.declared.machines.end_map.EndMap.{EndMap}
-use Rattle.papaya_played.specs.Given.Finishes.Endings.{Finishing}
-use Rattle.papaya_played.specs.Given.Finishes.FactsEnds.{Deed}
-use Rattle.papaya_played.specs.Given.Finishes.Makings.{Beginning}
-use Rattle.papaya_played.specs.Given.Finishes.Maps.{IsSameMap, Standing}
-use Rattle.papaya_played.proofs.Given.Callers.Together.At.{at_other, at_same}
-use Rattle.papaya_played.proofs.Given.Scenes.Goes.{moved_map_keeps, same_map_keeps}
-use Rattle.papaya_played.specs.Given.Scenes.Making.{making_begun}
-use Rattle.papaya_played.specs.Given.Scenes.Scene.{Scene, slot_of}
-use Rattle.papaya_played.specs.Given.Acts.Acts.{Act, Answer, BeginsCall, StepsCall, TellsCall, AsksCall, StopsCall, BeginsMaking, StepsMaking, BeginsEnding, StepsEnding, BeginsRow, StepsRow}
-use Rattle.papaya_played.specs.Given.Acts.Leads.{EndingCame, Led, MakingCame}
+use Rattle.papaya_played.specs.Given.ResizeDeclared.new_map.NewMap.{NewMap}
+use Rattle.papaya_played.specs.Given.RawDeclared.machines.end_map.EndMap.{EndMap}
+use Rattle.papaya_played.specs.Given.FinishesEndings.{Finishing}
+use Rattle.papaya_played.specs.Given.FinishesFactsEnds.{Deed}
+use Rattle.papaya_played.specs.Given.FinishesMakings.{Beginning}
+use Rattle.papaya_played.specs.Given.FinishesMaps.{IsSameMap, Standing}
+use Rattle.papaya_played.proofs.Given.CallersTogether.At.{at_other, at_same}
+use Rattle.papaya_played.proofs.Given.ScenesGoes.{moved_map_keeps, same_map_keeps}
+use Rattle.papaya_played.specs.Given.ScenesMaking.{making_begun}
+use Rattle.papaya_played.specs.Given.ScenesScene.{Scene, slot_of}
+use Rattle.papaya_played.specs.Given.ActsActs.{Act, Answer, BeginsCall, StepsCall, TellsCall, AsksCall, StopsCall, BeginsMaking, StepsMaking, BeginsEnding, StepsEnding, BeginsRow, StepsRow}
+use Rattle.papaya_played.specs.Given.ActsLeads.{EndingCame, Led, MakingCame}
 use Rattle.papaya_played.proofs.Along.{StaysSo}
 use Rattle.papaya_agrees.specs.Shards.{AsksShards, ShardsAre}
 

@@ -2,7 +2,7 @@
 use Rattle.std.specs.Prelude.{◌≢◌, ◌⊎◌, ◌==◌, ◌+◌, Bool, true, false, Option, Some, if◌then◌else◌}
 use Rattle.std.proofs.Common.{◌≡◌, ℕ, List, [], ◌∷◌, ◌++◌, inl, inr, refl, ap, sym, subst, ◌∙◌}
 use Rattle.std.proofs.lemmas.Bool.{cases_eq}
-use Rattle.papaya_played.proofs.Given.SeizeActs.Answers.{same_some}
+use Rattle.papaya_played.proofs.Given.SeizeActsAnswers.{same_some}
 use Rattle.papaya_tables.specs.Given.Seize.World.{World, Begins as BeginsSo, Vacant, Outside, Inside, Changing, IsInside, Use, Steps', one_more, with_at}
 use Rattle.papaya_tables.specs.Given.Seize.declared.rows.leave.Leave.{Leave}
 use Rattle.papaya_tables.specs.Given.Seize.declared.rows.leave.Leaving.{Leaving}
@@ -13,21 +13,21 @@ use Rattle.papaya_tables.specs.Given.Seize.declared.rows.register.Registering.Th
 use Rattle.papaya_tables.specs.Given.Seize.declared.states.TheConstants.{ACTIVE}
 use Rattle.papaya_tables.specs.Nodes.{deferred_word}
 use Rattle.papaya_tables.specs.declared.node.Node.{Node}
-use Rattle.papaya_played.specs.Given.Callers.Rows.{IsUsedAlike}
-use Rattle.papaya_played.proofs.Given.Callers.Together.At.{at_other, at_same}
-use Rattle.papaya_played.proofs.Given.SeizeAlone.Histories.Reached.{Reached}
-use Rattle.papaya_played.proofs.Given.SeizeAlone.Histories.Uses.{inside_kept}
-use Rattle.papaya_played.proofs.Given.SeizeRule.Rows.Known.{leaving_on, works_on}
-use Rattle.papaya_played.proofs.Given.SeizeRule.Rows.Teams.{is_shared, shares}
-use Rattle.papaya_played.specs.Given.Scenes.Rows.{begun_row, request_of}
-use Rattle.papaya_played.specs.Given.Scenes.Scene.{row_of}
-use Rattle.papaya_played.specs.Given.Scenes.declared.row.SlotCall.{SlotCall}
-use Rattle.papaya_played.specs.Given.Scenes.declared.row.SlotCall.TheVariants as call
-use Rattle.papaya_played.specs.Given.Scenes.declared.row.SlotRow.{SlotRow}
-use Rattle.papaya_played.specs.Given.Scenes.declared.row.SlotRow.TheVariants as rows
+use Rattle.papaya_played.specs.Given.CallersRows.{IsUsedAlike}
+use Rattle.papaya_played.proofs.Given.CallersTogether.At.{at_other, at_same}
+use Rattle.papaya_played.proofs.Given.SeizeAloneHistories.Reached.{Reached}
+use Rattle.papaya_played.proofs.Given.SeizeAloneHistories.Uses.{inside_kept}
+use Rattle.papaya_played.proofs.Given.SeizeRuleRows.Known.{leaving_on, works_on}
+use Rattle.papaya_played.proofs.Given.SeizeRuleRows.Teams.{is_shared, shares}
+use Rattle.papaya_played.specs.Given.ScenesRows.{begun_row, request_of}
+use Rattle.papaya_played.specs.Given.ScenesScene.{row_of}
+use Rattle.papaya_played.specs.Given.ScenesDeclared.row.SlotCall.{SlotCall}
+use Rattle.papaya_played.specs.Given.ScenesDeclared.row.SlotCall.TheVariants as call
+use Rattle.papaya_played.specs.Given.ScenesDeclared.row.SlotRow.{SlotRow}
+use Rattle.papaya_played.specs.Given.ScenesDeclared.row.SlotRow.TheVariants as rows
 use Rattle.papaya_runs.specs.Present.{Present}
 use Rattle.papaya_runs.specs.declared.holders.Guard.{Guard}
-use Rattle.papaya_played.specs.Given.Deeds.Deeds.{Leaves, Opens, moment, there_on}
+use Rattle.papaya_played.specs.Given.DeedsDeeds.{Leaves, Opens, moment, there_on}
 use Rattle.papaya_played.specs.Play.{State, leaves_as, registers_as, row_deed}
 use Rattle.papaya_agrees.specs.Guards.{GuardsAgree, GuardsAre, IsLeaving, IsOpen, guard_on}
 use Rattle.papaya_agrees.proofs.Opens.{opened, same_guards, shut}

@@ -1,9 +1,9 @@
 -- What the steps of rows, and of who reclaims all, tell as they are played: of words of slots and entries, room for slots, blocks that are taken away, and roots emptied.
 use Rattle.std.specs.Prelude.{◌==◌, ◌⊎◌, Bool, Option, Some, None, option_map, if◌then◌else◌}
 use Rattle.std.proofs.Common.{◌≡◌, ℕ, true, false, inl, inr, refl, subst, sym}
-use Rattle.papaya_played.specs.Given.SeizeActs.Answers.{Grant, stepped}
-use Rattle.papaya_played.proofs.Given.SeizeActs.Answers.{same_some}
-use Rattle.papaya_played.specs.Given.SeizeWords.Mem.{Mem}
+use Rattle.papaya_played.specs.Given.SeizeActsAnswers.{Grant, stepped}
+use Rattle.papaya_played.proofs.Given.SeizeActsAnswers.{same_some}
+use Rattle.papaya_played.specs.Given.SeizeWordsMem.{Mem}
 use Rattle.papaya_tables.specs.Given.Seize.Enter.{enter_plan, unregister_plan}
 use Rattle.papaya_tables.specs.Given.Seize.Leave.{leave_plan}
 use Rattle.papaya_tables.specs.Given.Seize.ReclaimAll.{next_batch, next_head, plan_at, reclaim_all_plan, standing, within}
@@ -22,21 +22,21 @@ use Rattle.papaya_tables.specs.Given.Seize.declared.rows.settle.Settled.{Settled
 use Rattle.papaya_tables.specs.Given.Seize.declared.states.TheConstants.{ACTIVE}
 use Rattle.papaya_tables.specs.Nodes.{deferred_word, was_left}
 use Rattle.papaya_tables.specs.declared.node.Node.{Node}
-use Rattle.papaya_played.specs.Given.Teller.Tells.{StepsTold}
-use Rattle.papaya_played.specs.Given.Teller.declared.changed.Changed.{Changed}
-use Rattle.papaya_played.specs.Given.Teller.declared.changed.Changed.TheVariants as changed
-use Rattle.papaya_played.specs.Given.Scenes.OnSlots.{RowSteps}
-use Rattle.papaya_played.specs.Given.Scenes.Rows.{of_registering, of_settling, of_storing}
-use Rattle.papaya_played.specs.Given.Scenes.Scene.{row_of}
-use Rattle.papaya_played.specs.Given.Scenes.declared.row.RowTold.{RowTold}
-use Rattle.papaya_played.specs.Given.Scenes.declared.row.SlotRow.{SlotRow}
-use Rattle.papaya_played.specs.Given.Scenes.declared.row.SlotRow.TheVariants as rows
-use Rattle.papaya_played.proofs.Given.Others.RowPlans.{TellsRow, row_tells}
-use Rattle.papaya_played.proofs.Given.Others.Outcomes.{told_in}
-use Rattle.papaya_played.specs.Given.Schedules.Moment.{Moment}
-use Rattle.papaya_played.specs.Given.Acts.AsSteps.{changed_of, row_changed}
-use Rattle.papaya_played.proofs.Given.Acts.AsSteps.Told.{was_told}
-use Rattle.papaya_played.specs.Given.Deeds.Deeds.{Deed, Leaves, Opens, ReclaimsAll, Registers, Shuts, Tends, acted_on}
+use Rattle.papaya_played.specs.Given.TellerTells.{StepsTold}
+use Rattle.papaya_played.specs.Given.TellerDeclared.changed.Changed.{Changed}
+use Rattle.papaya_played.specs.Given.TellerDeclared.changed.Changed.TheVariants as changed
+use Rattle.papaya_played.specs.Given.ScenesOnSlots.{RowSteps}
+use Rattle.papaya_played.specs.Given.ScenesRows.{of_registering, of_settling, of_storing}
+use Rattle.papaya_played.specs.Given.ScenesScene.{row_of}
+use Rattle.papaya_played.specs.Given.ScenesDeclared.row.RowTold.{RowTold}
+use Rattle.papaya_played.specs.Given.ScenesDeclared.row.SlotRow.{SlotRow}
+use Rattle.papaya_played.specs.Given.ScenesDeclared.row.SlotRow.TheVariants as rows
+use Rattle.papaya_played.proofs.Given.OthersRowPlans.{TellsRow, row_tells}
+use Rattle.papaya_played.proofs.Given.OthersOutcomes.{told_in}
+use Rattle.papaya_played.specs.Given.SchedulesMoment.{Moment}
+use Rattle.papaya_played.specs.Given.ActsAsSteps.{changed_of, row_changed}
+use Rattle.papaya_played.proofs.Given.ActsAsSteps.Told.{was_told}
+use Rattle.papaya_played.specs.Given.DeedsDeeds.{Deed, Leaves, Opens, ReclaimsAll, Registers, Shuts, Tends, acted_on}
 use Rattle.papaya_played.specs.Play.{leaves_as, registers_as, row_deed, slot_row_steps}
 use Rattle.papaya_agrees.specs.Fresh.{comes_with, gives_back}
 use Rattle.papaya_agrees.proofs.Elsewhere.{EmptiesRoot}

@@ -1,11 +1,11 @@
 -- That a history agrees with what is so where a list of acts has led.
 use Rattle.std.specs.Prelude.{◌≡◌, ◌<◌, ◌^◌, ℕ, Bool, false, List, Some}
 use Rattle.std.specs.List.{AllByRecursion}
-use Rattle.papaya_played.specs.Given.Scenes.Scene.{slot_of}
-use Rattle.papaya_played.specs.Given.Acts.AsSteps.{IsOwn}
-use Rattle.papaya_played.specs.Given.Acts.Doings.{Doing, Does, Stage, reclaiming}
-use Rattle.papaya_played.specs.Given.Acts.Lists.{Course, LedTo, Reached}
-use Rattle.papaya_played.specs.Given.Deeds.Deeds.{moment}
+use Rattle.papaya_played.specs.Given.ScenesScene.{slot_of}
+use Rattle.papaya_played.specs.Given.ActsAsSteps.{IsOwn}
+use Rattle.papaya_played.specs.Given.ActsDoings.{Doing, Does, Stage, reclaiming}
+use Rattle.papaya_played.specs.Given.ActsLists.{Course, LedTo, Reached}
+use Rattle.papaya_played.specs.Given.DeedsDeeds.{moment}
 use Rattle.papaya_played.specs.Play.{State, first_state, play_all}
 use Rattle.papaya_agrees.specs.Fresh.{IsFresh, MakesNew, has_come, is_taken}
 use Rattle.papaya_agrees.specs.Grants.{EachRefuses}

@@ -1,11 +1,11 @@
 -- Numbers of maps: of one with which no map has come nothing is there yet, and no map is made with a number that another one has, or had, unless the making of that was refused.
 use Rattle.std.specs.Prelude.{◌≡◌, ◌≢◌, ◌==◌, ◌&&◌, ℕ, Bool, true, false, List, [], ◌∷◌, None, Some, if◌then◌else◌}
 use Rattle.std.specs.List.{All, AllByRecursion}
-use Rattle.papaya_played.specs.Given.Schedules.Moment.{InMap, MapThere, Moment}
-use Rattle.papaya_played.specs.Given.Schedules.Views.{map_at, tables_of}
-use Rattle.papaya_played.specs.Given.Acts.Acts.{Act, BeginsMaking}
-use Rattle.papaya_played.specs.Given.Acts.Doings.{Doing, Does}
-use Rattle.papaya_played.specs.Given.Deeds.Deeds.{Deed, Entry, MapComes, MapFails, named}
+use Rattle.papaya_played.specs.Given.SchedulesMoment.{InMap, MapThere, Moment}
+use Rattle.papaya_played.specs.Given.SchedulesViews.{map_at, tables_of}
+use Rattle.papaya_played.specs.Given.ActsActs.{Act, BeginsMaking}
+use Rattle.papaya_played.specs.Given.ActsDoings.{Doing, Does}
+use Rattle.papaya_played.specs.Given.DeedsDeeds.{Deed, Entry, MapComes, MapFails, named}
 use Rattle.papaya_played.specs.Play.{State, first_state, play}
 
 module _ {K V : Type 0} where

@@ -4,13 +4,13 @@ use Rattle.std.specs.List.{AllByRecursion}
 use Rattle.papaya_tables.specs.Given.Seize.World.{IsInside, Use}
 use Rattle.papaya_tables.specs.Given.Seize.declared.rows.leave.Leave.{Leave}
 use Rattle.papaya_tables.specs.Given.Seize.declared.rows.leave.Leaving.TheVariants as leaves
-use Rattle.papaya_played.specs.Given.Scenes.Scene.{slot_of}
-use Rattle.papaya_played.specs.Given.Scenes.declared.row.SlotRow.{SlotRow}
-use Rattle.papaya_played.specs.Given.Scenes.declared.row.SlotRow.TheVariants as rows
+use Rattle.papaya_played.specs.Given.ScenesScene.{slot_of}
+use Rattle.papaya_played.specs.Given.ScenesDeclared.row.SlotRow.{SlotRow}
+use Rattle.papaya_played.specs.Given.ScenesDeclared.row.SlotRow.TheVariants as rows
 use Rattle.papaya_runs.specs.Present.{guard_of}
 use Rattle.papaya_runs.specs.declared.holders.Guard.{Guard}
-use Rattle.papaya_played.specs.Given.Schedules.Moment.{Moment, UnderWay}
-use Rattle.papaya_played.specs.Given.Deeds.Deeds.{moment, named}
+use Rattle.papaya_played.specs.Given.SchedulesMoment.{Moment, UnderWay}
+use Rattle.papaya_played.specs.Given.DeedsDeeds.{moment, named}
 use Rattle.papaya_played.specs.Play.{State}
 
 -- the guard of a slot

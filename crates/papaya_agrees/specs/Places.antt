@@ -1,11 +1,11 @@
 -- With which places a map is made: such as a capacity without a fault asks for; and of whom so many shards, and such places, are asked.
 use Rattle.std.specs.Prelude.{◌≡◌, ◌+◌, ℕ, max, None}
 use Rattle.papaya_tables.specs.declared.setting.Setting.{Setting}
-use Rattle.papaya_played.specs.Given.Named.Places.{first_places}
+use Rattle.papaya_played.specs.Given.NamedPlaces.{first_places}
 use Rattle.papaya_runs.specs.Runs.{map_fault}
-use Rattle.papaya_played.specs.Given.Acts.Acts.{Act, BeginsMaking}
-use Rattle.papaya_played.specs.Given.Acts.AsSteps.{IsOwn}
-use Rattle.papaya_played.specs.Given.Acts.Doings.{Doing, Does}
+use Rattle.papaya_played.specs.Given.ActsActs.{Act, BeginsMaking}
+use Rattle.papaya_played.specs.Given.ActsAsSteps.{IsOwn}
+use Rattle.papaya_played.specs.Given.ActsDoings.{Doing, Does}
 use Rattle.papaya_played.specs.Play.{pairs_for}
 
 -- With this setting so many places are those that so many pairs need, in its mode, and no table is to have fewer entries.

@@ -1,9 +1,9 @@
 -- Each map has as many shards of its count as the terms say.
 use Rattle.std.specs.Prelude.{◌≡◌, ℕ, ◌+◌, Some}
-use Rattle.papaya_played.specs.Given.Finishes.Makings.{Beginning}
-use Rattle.papaya_played.specs.Given.Finishes.Maps.{Standing}
-use Rattle.papaya_played.specs.Given.Scenes.Scene.{Scene}
-use Rattle.papaya_played.specs.Given.Acts.Acts.{Act, BeginsMaking}
+use Rattle.papaya_played.specs.Given.FinishesMakings.{Beginning}
+use Rattle.papaya_played.specs.Given.FinishesMaps.{Standing}
+use Rattle.papaya_played.specs.Given.ScenesScene.{Scene}
+use Rattle.papaya_played.specs.Given.ActsActs.{Act, BeginsMaking}
 
 -- each map that stands has so many, and each that is made
 pub record ShardsAre {K V : Type 0} (shards : ℕ) (s : Scene K V) : Type 0 where

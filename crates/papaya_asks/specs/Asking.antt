@@ -19,11 +19,11 @@ use Rattle.papaya_raw.specs.declared.machines.asking.Takes.TheVariants as takes
 use Rattle.papaya_raw.specs.declared.machines.asking.Told.TheVariants as tells
 use Rattle.papaya_raw.specs.CallAsks.{replied}
 use Rattle.papaya_raw.specs.declared.machines.call.KeyCall.{KeyCall}
-use Rattle.papaya_owned.specs.Given.Callers.Kind.{Kind}
-use Rattle.papaya_owned.specs.Given.Callers.Pairs.{IsTold}
-use Rattle.papaya_owned.specs.Given.Callers.Together.{IsBegun}
-use Rattle.papaya_owned.specs.Given.Late.Faults.{IsRoom}
-use Rattle.papaya_owned.specs.Given.Shown.Chain.{CannotGrowIn}
+use Rattle.papaya_owned.specs.Given.CallersKind.{Kind}
+use Rattle.papaya_owned.specs.Given.CallersPairs.{IsTold}
+use Rattle.papaya_owned.specs.Given.CallersTogether.{IsBegun}
+use Rattle.papaya_owned.specs.Given.LateFaults.{IsRoom}
+use Rattle.papaya_owned.specs.Given.ShownChain.{CannotGrowIn}
 use Rattle.papaya_asks.specs.declared.lent.Lent.{Lent}
 use Rattle.papaya_owned.specs.Ending.{RunsTo}
 use Rattle.papaya_owned.specs.Machines.{on_key_plan}

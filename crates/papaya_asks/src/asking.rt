@@ -1,8 +1,8 @@
 //! Calls on a key that ask, run by the one owner of a memory: up to their question, and on from there.
 ghost use Rattle.std.specs.Prelude.{◌≡◌, ℕ, Bool, List, [], Option, None, Some, IfErr};
-ghost use Rattle.papaya_owned.specs.Given.Callers.Kind.{Kind};
-ghost use Rattle.papaya_owned.specs.Given.Callers.Pairs.{IsTold};
-ghost use Rattle.papaya_owned.specs.Given.Callers.Together.{IsBegun};
+ghost use Rattle.papaya_owned.specs.Given.CallersKind.{Kind};
+ghost use Rattle.papaya_owned.specs.Given.CallersPairs.{IsTold};
+ghost use Rattle.papaya_owned.specs.Given.CallersTogether.{IsBegun};
 ghost use Rattle.papaya_raw.specs.CallAsks.{replied};
 ghost use Rattle.papaya_raw.specs.declared.machines.asking.Reply.TheVariants as replies;
 ghost use Rattle.papaya_raw.specs.declared.machines.asking.Told.TheVariants as tells;

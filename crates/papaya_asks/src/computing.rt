@@ -1,7 +1,7 @@
 //! A call on a key that computes what is to be done with it, run to its end by the one owner.
 ghost use Rattle.std.specs.Prelude.{List, [], Some};
-ghost use Rattle.papaya_owned.specs.Given.Callers.Kind.{computes};
-ghost use Rattle.papaya_owned.specs.Given.Callers.Pairs.{IsTold};
+ghost use Rattle.papaya_owned.specs.Given.CallersKind.{computes};
+ghost use Rattle.papaya_owned.specs.Given.CallersPairs.{IsTold};
 ghost use Rattle.papaya_asks.specs.Closures.{ComputesAs, ComputesTo, ComputingTakes, computing_stop};
 ghost use Rattle.papaya_owned.specs.Calling.{HasStopped};
 ghost use Rattle.papaya_owned.specs.Owned.{Holds, found_by, hashed_by};

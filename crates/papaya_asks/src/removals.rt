@@ -2,8 +2,8 @@
 ghost use Rattle.std.specs.Prelude.{◌≡◌, List, [], None, if◌then◌else◌};
 ghost use Rattle.std.specs.Option.{ForSome};
 ghost use Rattle.papaya_raw.specs.declared.machines.asking.Reply.TheVariants as replies;
-ghost use Rattle.papaya_owned.specs.Given.Callers.Kind.{removes, removes_if};
-ghost use Rattle.papaya_owned.specs.Given.Callers.Pairs.{Begun, IsTold};
+ghost use Rattle.papaya_owned.specs.Given.CallersKind.{removes, removes_if};
+ghost use Rattle.papaya_owned.specs.Given.CallersPairs.{Begun, IsTold};
 ghost use Rattle.papaya_asks.specs.Asking.{EndsAs, by_lent};
 ghost use Rattle.papaya_asks.specs.Closures.{TestsAs, TestTakes, Removing};
 ghost use Rattle.papaya_owned.specs.Calling.{HasStopped, stop_by};

@@ -2,8 +2,8 @@
 ghost use Rattle.std.specs.Prelude.{◌≡◌, ℕ, Bool, List, [], Option, None, Some, IfOk, IfErr, Ok, Err};
 ghost use Rattle.std.specs.Fn.{FnOnceReturns, FnOnceReturnsAt, FnOnceTakesAt};
 ghost use Rattle.std.specs.Option.{ForNone, ForSome};
-ghost use Rattle.papaya_owned.specs.Given.Callers.Kind.{Kind, tries_to_insert_with, updates, updates_or_inserts};
-ghost use Rattle.papaya_owned.specs.Given.Callers.Pairs.{IsTold};
+ghost use Rattle.papaya_owned.specs.Given.CallersKind.{Kind, tries_to_insert_with, updates, updates_or_inserts};
+ghost use Rattle.papaya_owned.specs.Given.CallersPairs.{IsTold};
 ghost use Rattle.papaya_asks.specs.Asking.{IsTaken, Pauses, ToldThis};
 ghost use Rattle.papaya_asks.specs.Closures.{ComesTo, ComesToWith, Updating, UpdatingOrStoring, Storing};
 ghost use Rattle.papaya_owned.specs.Calling.{HasStopped, StopsTold, stop_by};

@@ -9,24 +9,24 @@ use Rattle.seize_acts.specs.Given.Seize.declared.progress.Progress.TheVariants a
 use Rattle.seize_acts.specs.Given.Seize.declared.rows.settle.Settled.{Settled}
 use Rattle.seize_acts.specs.Given.Seize.declared.rows.settle.Settled.TheVariants as settled
 use Rattle.seize_acts.proofs.Answers.{was_stepped}
-use Rattle.papaya_acts.specs.Given.Tables.declared.node.Node.{Node}
-use Rattle.papaya_acts.specs.Given.Tables.declared.setting.Setting.{Setting}
-use Rattle.papaya_acts.specs.Given.Resize.declared.new_map.NewMap.{NewMap}
-use Rattle.papaya_acts.specs.Given.Resize.declared.copier.Copier.{Copier}
-use Rattle.papaya_acts.specs.Given.Raw.Machine.{machine_plan, machine_asked}
-use Rattle.papaya_acts.specs.Given.Raw.declared.machines.end_map.EndMap.{EndMap}
-use Rattle.papaya_acts.specs.Given.Callers.Together.{UnderWay}
-use Rattle.papaya_acts.specs.Given.Finishes.Endings.{Finishing, MakingStepsAmong, StepsOfEnding, waiting_by}
-use Rattle.papaya_acts.specs.Given.Finishes.FactsEnds.{taken_by}
-use Rattle.papaya_acts.specs.Given.Finishes.Machines.{machine_of}
-use Rattle.papaya_acts.specs.Given.Finishes.Makings.{Beginning}
-use Rattle.papaya_acts.specs.Given.Finishes.Maps.{with_call}
+use Rattle.papaya_acts.specs.Given.TablesDeclared.node.Node.{Node}
+use Rattle.papaya_acts.specs.Given.TablesDeclared.setting.Setting.{Setting}
+use Rattle.papaya_acts.specs.Given.ResizeDeclared.new_map.NewMap.{NewMap}
+use Rattle.papaya_acts.specs.Given.ResizeDeclared.copier.Copier.{Copier}
+use Rattle.papaya_acts.specs.Given.RawMachine.{machine_plan, machine_asked}
+use Rattle.papaya_acts.specs.Given.RawDeclared.machines.end_map.EndMap.{EndMap}
+use Rattle.papaya_acts.specs.Given.CallersTogether.{UnderWay}
+use Rattle.papaya_acts.specs.Given.FinishesEndings.{Finishing, MakingStepsAmong, StepsOfEnding, waiting_by}
+use Rattle.papaya_acts.specs.Given.FinishesFactsEnds.{taken_by}
+use Rattle.papaya_acts.specs.Given.FinishesMachines.{machine_of}
+use Rattle.papaya_acts.specs.Given.FinishesMakings.{Beginning}
+use Rattle.papaya_acts.specs.Given.FinishesMaps.{with_call}
 use Rattle.papaya_acts.specs.Acts.{Act, Answer, begun}
 use Rattle.papaya_acts.specs.Acts.{BeginsCall, StepsCall, TellsCall, AsksCall, StopsCall, BeginsMaking, StepsMaking, BeginsEnding, StepsEnding, BeginsRow, StepsRow}
 use Rattle.papaya_acts.specs.Leads.{MayBe, AllStand, Led, MakingCame, EndingCame, asked_on}
 use Rattle.papaya_acts.proofs.Calls.{asked_machine}
 use Rattle.papaya_acts.proofs.Left.{goes_on_by, goes_on_same}
-use Rattle.papaya_acts.proofs.Given.Scenes.NoCall.{none_is}
+use Rattle.papaya_acts.proofs.Given.ScenesNoCall.{none_is}
 use Rattle.papaya_carries.specs.Lists.{AreTheirs, ActsKeepTheirs}
 use Rattle.papaya_carries.specs.Theirs.{copier_of, AllAreTheirs}
 use Rattle.papaya_carries.proofs.Endings.{endings_begin_and_keep_theirs, endings_keep_theirs}
@@ -35,8 +35,8 @@ use Rattle.papaya_carries.proofs.Machines.{kind_theirs}
 use Rattle.papaya_carries.proofs.Makings.{makings_keep_theirs}
 use Rattle.papaya_carries.proofs.Owed.{one_some}
 use Rattle.papaya_carries.proofs.Told.{told_on, next_on, not_stopped}
-use Rattle.papaya_acts.specs.Given.Scenes.Replying.{unless_stopped}
-use Rattle.papaya_acts.specs.Given.Scenes.Scene.{Scene}
+use Rattle.papaya_acts.specs.Given.ScenesReplying.{unless_stopped}
+use Rattle.papaya_acts.specs.Given.ScenesScene.{Scene}
 
 module _ {K V S : Type 0} (same : K → K → Bool) (hash : S → K → ℕ) (batch_size roots : ℕ) (slot : ℕ → ℕ) (s n : Scene K V) (all : AllStand same hash batch_size roots slot s)
     (stand : AllStand same hash batch_size roots slot n) (theirs : AreTheirs s) where

@@ -9,25 +9,25 @@ use Rattle.seize_acts.specs.Reclaimed.{IsStillHad}
 use Rattle.seize_acts.specs.Given.SeizeAlone.Alone.{IsOfUsers}
 use Rattle.seize_acts.proofs.Given.SeizeAlone.Histories.NotTaken.{IsHad, kept_there}
 use Rattle.seize_acts.proofs.Given.SeizeAlone.Histories.Reached.{Reached}
-use Rattle.papaya_acts.specs.Given.Tables.Nodes.{deferred_word}
-use Rattle.papaya_acts.specs.Given.Tables.declared.node.Node.{Node}
-use Rattle.papaya_acts.specs.Given.Tables.declared.node.Node.TheVariants as node
-use Rattle.papaya_acts.specs.Given.Resize.declared.copier.Copier.{Copier}
-use Rattle.papaya_acts.specs.Given.Rule.Chart.{Chart}
-use Rattle.papaya_acts.specs.Given.Rule.Words.{Blocks}
-use Rattle.papaya_acts.specs.Given.Rule.InWorld.{IsOut, IsKnownBlock, IsOwnBlock, Went}
-use Rattle.papaya_acts.proofs.Given.Alone.Handed.RootTurns.{IsPromoted, first_moves}
-use Rattle.papaya_acts.specs.Given.Callers.Sights.{Sight, IsGrown, seen_by}
-use Rattle.papaya_acts.specs.Given.Callers.Together.{UnderWay, in_slot, Together}
-use Rattle.papaya_acts.proofs.Given.Callers.Claims.Charts.{past_moved}
-use Rattle.papaya_acts.proofs.Given.Callers.Together.At.{at_other, at_same}
-use Rattle.papaya_acts.proofs.Given.Callers.Together.Came.{came_reached}
-use Rattle.papaya_acts.proofs.Given.Callers.Together.Users.{events_rows}
-use Rattle.papaya_acts.specs.Given.Finishes.Endings.{Finishing}
-use Rattle.papaya_acts.specs.Given.Finishes.Maps.{Standing, MapsTogether, with_call}
-use Rattle.papaya_acts.proofs.Given.Finishes.Beside.Maps.OtherSteps.{known_out}
-use Rattle.papaya_acts.proofs.Given.Finishes.Beside.Maps.Steps.{seen_known}
-use Rattle.papaya_acts.specs.Given.Reclaims.Deferred.{IsLinkedTable}
+use Rattle.papaya_acts.specs.Given.TablesNodes.{deferred_word}
+use Rattle.papaya_acts.specs.Given.TablesDeclared.node.Node.{Node}
+use Rattle.papaya_acts.specs.Given.TablesDeclared.node.Node.TheVariants as node
+use Rattle.papaya_acts.specs.Given.ResizeDeclared.copier.Copier.{Copier}
+use Rattle.papaya_acts.specs.Given.RuleChart.{Chart}
+use Rattle.papaya_acts.specs.Given.RuleWords.{Blocks}
+use Rattle.papaya_acts.specs.Given.RuleInWorld.{IsOut, IsKnownBlock, IsOwnBlock, Went}
+use Rattle.papaya_acts.proofs.Given.AloneHanded.RootTurns.{IsPromoted, first_moves}
+use Rattle.papaya_acts.specs.Given.CallersSights.{Sight, IsGrown, seen_by}
+use Rattle.papaya_acts.specs.Given.CallersTogether.{UnderWay, in_slot, Together}
+use Rattle.papaya_acts.proofs.Given.CallersClaims.Charts.{past_moved}
+use Rattle.papaya_acts.proofs.Given.CallersTogether.At.{at_other, at_same}
+use Rattle.papaya_acts.proofs.Given.CallersTogether.Came.{came_reached}
+use Rattle.papaya_acts.proofs.Given.CallersTogether.Users.{events_rows}
+use Rattle.papaya_acts.specs.Given.FinishesEndings.{Finishing}
+use Rattle.papaya_acts.specs.Given.FinishesMaps.{Standing, MapsTogether, with_call}
+use Rattle.papaya_acts.proofs.Given.FinishesBeside.Maps.OtherSteps.{known_out}
+use Rattle.papaya_acts.proofs.Given.FinishesBeside.Maps.Steps.{seen_known}
+use Rattle.papaya_acts.specs.Given.ReclaimsDeferred.{IsLinkedTable}
 use Rattle.papaya_carries.specs.Theirs.{copier_of, IsToHandOver, Owes, CanCarry, IsTheirs, AllAreTheirs}
 use Rattle.papaya_carries.proofs.Hands.{step_origin}
 use Rattle.papaya_carries.proofs.Owed.{one_some, StandsOn, StandsOnAt, stays_so, hands_on, OwesThen, owed_then, owed_with}

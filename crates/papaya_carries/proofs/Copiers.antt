@@ -9,35 +9,35 @@ use Rattle.seize_acts.proofs.Given.SeizeWords.OneOwner.Operations.{loaded, excha
 use Rattle.seize_acts.proofs.Given.SeizeWords.Plans.{steps_as}
 use Rattle.seize_acts.specs.Given.Seize.Settle.{retiring}
 use Rattle.seize_acts.specs.Given.Seize.World.{World}
-use Rattle.papaya_acts.specs.Given.Tables.Chunks.{is_incremental}
-use Rattle.papaya_acts.specs.Given.Tables.declared.node.Node.{Node}
-use Rattle.papaya_acts.specs.Given.Tables.declared.setting.Setting.{Setting}
-use Rattle.papaya_acts.specs.Given.Tables.declared.table.Table.{Table}
-use Rattle.papaya_acts.specs.Given.Tables.declared.table_words.TheConstants.{NEXT}
-use Rattle.papaya_acts.specs.Given.Resize.Copier.{copier_plan, plan_at as copier_plan_at}
-use Rattle.papaya_acts.specs.Given.Resize.CopierPromotes.{promoted, successor_read, also_retired, retiring_table}
-use Rattle.papaya_acts.specs.Given.Resize.CopierStates as copying
-use Rattle.papaya_acts.specs.Given.Resize.declared.copier.Copier.{Copier}
-use Rattle.papaya_acts.specs.Given.Resize.declared.copier.Copying.{Copying}
-use Rattle.papaya_acts.specs.Given.Resize.declared.copier.Copying.TheVariants as copies
-use Rattle.papaya_acts.specs.Given.Resize.declared.outcome.Outcome.{Outcome}
-use Rattle.papaya_acts.specs.Given.Resize.declared.outcome.Outcome.TheVariants as outcome
-use Rattle.papaya_acts.specs.Given.Raw.Call.{copied}
-use Rattle.papaya_acts.specs.Given.Raw.CallPoints.{getting}
-use Rattle.papaya_acts.specs.Given.Raw.declared.machines.call.KeyCall.{KeyCall}
-use Rattle.papaya_acts.specs.Given.Raw.declared.machines.call.Calling.TheVariants as at
-use Rattle.papaya_acts.specs.Given.Rule.Chart.{Chart}
-use Rattle.papaya_acts.specs.Given.Rule.InWorld.{IsMapIn, Moved, SameBlocks}
-use Rattle.papaya_acts.specs.Given.Rule.Maps.{IsTable}
-use Rattle.papaya_acts.specs.Given.Rule.Words.{Blocks}
-use Rattle.papaya_acts.proofs.Given.Rule.Words.LinksSeen.{link_made, root_leads}
-use Rattle.papaya_acts.proofs.Given.Rule.Words.WritesWords.{is_some_of}
-use Rattle.papaya_acts.proofs.Given.Rule.World.RootSpared.{RootStays}
-use Rattle.papaya_acts.specs.Given.Points.Told.{IsRowOfCopier}
-use Rattle.papaya_acts.proofs.Given.Points.Blocking.Successors.{next_read, rest_between}
-use Rattle.papaya_acts.proofs.Given.Points.Steps.RootSteps.{is_promoting, root_stays}
-use Rattle.papaya_acts.proofs.Given.Late.Plans.{written}
-use Rattle.papaya_acts.proofs.Given.Alone.Handed.RootTurns.{IsPromoted, first_moves, first_kept}
+use Rattle.papaya_acts.specs.Given.TablesChunks.{is_incremental}
+use Rattle.papaya_acts.specs.Given.TablesDeclared.node.Node.{Node}
+use Rattle.papaya_acts.specs.Given.TablesDeclared.setting.Setting.{Setting}
+use Rattle.papaya_acts.specs.Given.TablesDeclared.table.Table.{Table}
+use Rattle.papaya_acts.specs.Given.TablesDeclared.table_words.TheConstants.{NEXT}
+use Rattle.papaya_acts.specs.Given.ResizeCopier.{copier_plan, plan_at as copier_plan_at}
+use Rattle.papaya_acts.specs.Given.ResizeCopierPromotes.{promoted, successor_read, also_retired, retiring_table}
+use Rattle.papaya_acts.specs.Given.ResizeCopierStates as copying
+use Rattle.papaya_acts.specs.Given.ResizeDeclared.copier.Copier.{Copier}
+use Rattle.papaya_acts.specs.Given.ResizeDeclared.copier.Copying.{Copying}
+use Rattle.papaya_acts.specs.Given.ResizeDeclared.copier.Copying.TheVariants as copies
+use Rattle.papaya_acts.specs.Given.ResizeDeclared.outcome.Outcome.{Outcome}
+use Rattle.papaya_acts.specs.Given.ResizeDeclared.outcome.Outcome.TheVariants as outcome
+use Rattle.papaya_acts.specs.Given.RawCall.{copied}
+use Rattle.papaya_acts.specs.Given.RawCallPoints.{getting}
+use Rattle.papaya_acts.specs.Given.RawDeclared.machines.call.KeyCall.{KeyCall}
+use Rattle.papaya_acts.specs.Given.RawDeclared.machines.call.Calling.TheVariants as at
+use Rattle.papaya_acts.specs.Given.RuleChart.{Chart}
+use Rattle.papaya_acts.specs.Given.RuleInWorld.{IsMapIn, Moved, SameBlocks}
+use Rattle.papaya_acts.specs.Given.RuleMaps.{IsTable}
+use Rattle.papaya_acts.specs.Given.RuleWords.{Blocks}
+use Rattle.papaya_acts.proofs.Given.RuleWords.LinksSeen.{link_made, root_leads}
+use Rattle.papaya_acts.proofs.Given.RuleWords.WritesWords.{is_some_of}
+use Rattle.papaya_acts.proofs.Given.RuleWorld.RootSpared.{RootStays}
+use Rattle.papaya_acts.specs.Given.PointsTold.{IsRowOfCopier}
+use Rattle.papaya_acts.proofs.Given.PointsBlocking.Successors.{next_read, rest_between}
+use Rattle.papaya_acts.proofs.Given.PointsSteps.RootSteps.{is_promoting, root_stays}
+use Rattle.papaya_acts.proofs.Given.LatePlans.{written}
+use Rattle.papaya_acts.proofs.Given.AloneHanded.RootTurns.{IsPromoted, first_moves, first_kept}
 use Rattle.papaya_carries.specs.Theirs.{IsDueAt, IsNext, IsAhead, next_of_them}
 use Rattle.papaya_carries.proofs.Known.{HasCut, KnowsTables, CopierKnows}
 

@@ -5,18 +5,18 @@ use Rattle.std.proofs.lemmas.Bool.{cases_eq}
 use Rattle.seize_acts.specs.Given.SeizeWords.Mem.{value_at}
 use Rattle.seize_acts.specs.Given.Seize.World.{World, Row, times, with_at}
 use Rattle.seize_acts.specs.Reclaimed.{IsStillHad}
-use Rattle.papaya_acts.specs.Given.Tables.declared.node.Node.{Node}
-use Rattle.papaya_acts.specs.Given.Rule.Chart.{Chart}
-use Rattle.papaya_acts.specs.Given.Rule.Words.{Blocks}
-use Rattle.papaya_acts.specs.Given.Callers.Together.{UnderWay}
-use Rattle.papaya_acts.proofs.Given.Callers.Together.At.{at_other, at_same}
-use Rattle.papaya_acts.specs.Given.Finishes.Endings.{Finishing, HasFinished, finishing_of}
-use Rattle.papaya_acts.specs.Given.Finishes.FactsEnds.{back_of, from_table, taken_by, left_by}
-use Rattle.papaya_acts.specs.Given.Finishes.Makings.{Beginning}
-use Rattle.papaya_acts.specs.Given.Finishes.Maps.{Standing}
-use Rattle.papaya_acts.proofs.Given.Finishes.Ends.CountedBlocks.{some_last, times-append}
-use Rattle.papaya_acts.proofs.Given.Finishes.Ends.OrdersOn.{table_later}
-use Rattle.papaya_acts.specs.Given.Reclaims.Left.{GoesOnBy}
+use Rattle.papaya_acts.specs.Given.TablesDeclared.node.Node.{Node}
+use Rattle.papaya_acts.specs.Given.RuleChart.{Chart}
+use Rattle.papaya_acts.specs.Given.RuleWords.{Blocks}
+use Rattle.papaya_acts.specs.Given.CallersTogether.{UnderWay}
+use Rattle.papaya_acts.proofs.Given.CallersTogether.At.{at_other, at_same}
+use Rattle.papaya_acts.specs.Given.FinishesEndings.{Finishing, HasFinished, finishing_of}
+use Rattle.papaya_acts.specs.Given.FinishesFactsEnds.{back_of, from_table, taken_by, left_by}
+use Rattle.papaya_acts.specs.Given.FinishesMakings.{Beginning}
+use Rattle.papaya_acts.specs.Given.FinishesMaps.{Standing}
+use Rattle.papaya_acts.proofs.Given.FinishesEnds.CountedBlocks.{some_last, times-append}
+use Rattle.papaya_acts.proofs.Given.FinishesEnds.OrdersOn.{table_later}
+use Rattle.papaya_acts.specs.Given.ReclaimsLeft.{GoesOnBy}
 use Rattle.papaya_carries.specs.Promises.{EndingsBeginAndKeepTheirs, EndingsKeepTheirs}
 use Rattle.papaya_carries.specs.Theirs.{CanCarry, IsTheirs, AllAreTheirs}
 use Rattle.papaya_carries.proofs.Owed.{one_some, stays_so, owed_on}

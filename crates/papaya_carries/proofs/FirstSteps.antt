@@ -18,7 +18,7 @@ use Rattle.seize_acts.specs.Given.Seize.Settle.{retiring, seen, settle_plan}
 use Rattle.seize_acts.specs.Given.Seize.World.{World, Settles, Defers, Steps', settles_on, defers_on}
 use Rattle.seize_acts.specs.Given.SeizeWords.declared.at.At.{At}
 use Rattle.seize_acts.proofs.Given.SeizeRule.Rows.Others.{with_here}
-use Rattle.papaya_acts.proofs.Given.Rule.Keys.Always.{Always, always_if, always_steps}
+use Rattle.papaya_acts.proofs.Given.RuleKeys.Always.{Always, always_if, always_steps}
 
 module _ {T : Type 0} (defers : T → Option ℕ) where
   -- it is to retire this block still, and has not ended

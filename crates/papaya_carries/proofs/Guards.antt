@@ -7,17 +7,17 @@ use Rattle.seize_acts.specs.Reclaimed.{IsStillHad}
 use Rattle.seize_acts.proofs.Given.SeizeRule.Rows.Others.{begins_others, steps_others}
 use Rattle.seize_acts.proofs.Given.SeizeEnds.Batches.Rows.{begins_memory}
 use Rattle.seize_acts.proofs.Given.SeizeAlone.Histories.Reached.{Reached}
-use Rattle.papaya_acts.specs.Given.Tables.Nodes.{deferred_word}
-use Rattle.papaya_acts.specs.Given.Tables.declared.node.Node.{Node}
-use Rattle.papaya_acts.specs.Given.Rule.Chart.{Chart}
-use Rattle.papaya_acts.specs.Given.Callers.Kept.{IsUsersOwn}
-use Rattle.papaya_acts.specs.Given.Callers.Together.{UnderWay, IsOfSlots}
-use Rattle.papaya_acts.proofs.Given.Callers.Rows.Beside.{users_value}
-use Rattle.papaya_acts.proofs.Given.Callers.Together.Came.{came_reached}
-use Rattle.papaya_acts.specs.Given.Finishes.Endings.{Finishing}
-use Rattle.papaya_acts.specs.Given.Finishes.Makings.{Beginning}
-use Rattle.papaya_acts.specs.Given.Finishes.Maps.{Standing, IsSameMap, with_call}
-use Rattle.papaya_acts.specs.Given.Reclaims.Deferred.{IsLinkedTable}
+use Rattle.papaya_acts.specs.Given.TablesNodes.{deferred_word}
+use Rattle.papaya_acts.specs.Given.TablesDeclared.node.Node.{Node}
+use Rattle.papaya_acts.specs.Given.RuleChart.{Chart}
+use Rattle.papaya_acts.specs.Given.CallersKept.{IsUsersOwn}
+use Rattle.papaya_acts.specs.Given.CallersTogether.{UnderWay, IsOfSlots}
+use Rattle.papaya_acts.proofs.Given.CallersRows.Beside.{users_value}
+use Rattle.papaya_acts.proofs.Given.CallersTogether.Came.{came_reached}
+use Rattle.papaya_acts.specs.Given.FinishesEndings.{Finishing}
+use Rattle.papaya_acts.specs.Given.FinishesMakings.{Beginning}
+use Rattle.papaya_acts.specs.Given.FinishesMaps.{Standing, IsSameMap, with_call}
+use Rattle.papaya_acts.specs.Given.ReclaimsDeferred.{IsLinkedTable}
 use Rattle.papaya_carries.specs.Promises.{ChangesKeepTheirs, GuardsKeepTheirs, NoneBegins, OnlyTablesCarry}
 use Rattle.papaya_carries.specs.Theirs.{CanCarry, IsOwed, IsTheirs, AllAreTheirs}
 use Rattle.papaya_carries.proofs.Hands.{begun_same, still_row}

@@ -14,15 +14,15 @@ use Rattle.seize_acts.proofs.Given.SeizeRule.Words.Shows.{lives}
 use Rattle.seize_acts.proofs.Given.SeizeRule.Words.There.{value_there}
 use Rattle.seize_acts.proofs.Given.SeizeAlone.Histories.NotTaken.{did}
 use Rattle.seize_acts.proofs.Given.SeizeAlone.Histories.Reached.{Reached, happens_reached}
-use Rattle.papaya_acts.specs.Given.Tables.Nodes.{deferred_word}
-use Rattle.papaya_acts.specs.Given.Tables.declared.node.Node.{Node}
-use Rattle.papaya_acts.specs.Given.Tables.declared.setting.Setting.{Setting}
-use Rattle.papaya_acts.specs.Given.Rule.Chart.{Chart}
-use Rattle.papaya_acts.specs.Given.Rule.InWorld.{AllUsers, AllIts, IsIts, IsItsEvent, IsKnownBlock, IsOut}
-use Rattle.papaya_acts.specs.Given.Rule.Words.{Blocks}
-use Rattle.papaya_acts.proofs.Given.Rule.World.Hands.{at_cases}
-use Rattle.papaya_acts.proofs.Given.Rule.Words.BlocksApart.{new_apart}
-use Rattle.papaya_acts.specs.Given.Callers.Together.{IsOfSlots}
+use Rattle.papaya_acts.specs.Given.TablesNodes.{deferred_word}
+use Rattle.papaya_acts.specs.Given.TablesDeclared.node.Node.{Node}
+use Rattle.papaya_acts.specs.Given.TablesDeclared.setting.Setting.{Setting}
+use Rattle.papaya_acts.specs.Given.RuleChart.{Chart}
+use Rattle.papaya_acts.specs.Given.RuleInWorld.{AllUsers, AllIts, IsIts, IsItsEvent, IsKnownBlock, IsOut}
+use Rattle.papaya_acts.specs.Given.RuleWords.{Blocks}
+use Rattle.papaya_acts.proofs.Given.RuleWorld.Hands.{at_cases}
+use Rattle.papaya_acts.proofs.Given.RuleWords.BlocksApart.{new_apart}
+use Rattle.papaya_acts.specs.Given.CallersTogether.{IsOfSlots}
 
 -- a row's effects leave with users what they have, or reclaim it
 still_by : (b : ℕ) (effects : List Effect) (hand : ℕ → Hand) → IsStillHad (handed_by effects hand b) → handed_by effects hand b ≡ hand b

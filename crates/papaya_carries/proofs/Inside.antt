@@ -4,36 +4,36 @@ use Rattle.std.proofs.Common.{◌≡◌, ℕ, Bool, false, refl, ap, sym, subst}
 use Rattle.seize_acts.specs.Given.SeizeWords.Mem.{Mem, Took, value_at}
 use Rattle.seize_acts.specs.Given.SeizeWords.Plan.{Steps}
 use Rattle.seize_acts.proofs.Given.SeizeRule.Rows.Leaving.{steps_back}
-use Rattle.papaya_acts.specs.Given.Tables.declared.node.Node.{Node}
-use Rattle.papaya_acts.specs.Given.Tables.declared.table.Table.{Table}
-use Rattle.papaya_acts.specs.Given.Resize.Copier.{copier_plan}
-use Rattle.papaya_acts.specs.Given.Resize.declared.copier.Copier.{Copier}
-use Rattle.papaya_acts.specs.Given.Resize.declared.outcome.Outcome.{Outcome}
-use Rattle.papaya_acts.specs.Given.Resize.declared.outcome.Outcome.TheVariants as outcome
-use Rattle.papaya_acts.specs.Given.Reserves.Reserve as reserves
-use Rattle.papaya_acts.specs.Given.Reserves.declared.reserve.Reserve.{Reserve}
-use Rattle.papaya_acts.specs.Given.Reserves.declared.reserve.Reserving.{Reserving}
-use Rattle.papaya_acts.specs.Given.Reserves.declared.reserve.Reserving.TheVariants as reserving
-use Rattle.papaya_acts.specs.Given.Sweeps.Sweep as sweeps
-use Rattle.papaya_acts.specs.Given.Sweeps.declared.sweep.Sweep.{Sweep}
-use Rattle.papaya_acts.specs.Given.Sweeps.declared.sweep.Sweeping.{Sweeping}
-use Rattle.papaya_acts.specs.Given.Sweeps.declared.sweep.Sweeping.TheVariants as sweeping
-use Rattle.papaya_acts.specs.Given.Sweeps.declared.sweep.Swept.{Swept}
-use Rattle.papaya_acts.specs.Given.Raw.Call.{helped, copied, plan_at}
-use Rattle.papaya_acts.specs.Given.Raw.declared.machines.answer.Called.{Called}
-use Rattle.papaya_acts.specs.Given.Raw.declared.machines.call.KeyCall.{KeyCall}
-use Rattle.papaya_acts.specs.Given.Raw.declared.machines.call.Calling.{Calling}
-use Rattle.papaya_acts.specs.Given.Raw.declared.machines.call.Calling.TheVariants as at
-use Rattle.papaya_acts.specs.Given.Points.Told.{IsRowOfCopier, IsRowOfCall}
-use Rattle.papaya_acts.proofs.Given.Points.Steps.RootSteps.{call_is_promoting}
-use Rattle.papaya_acts.specs.Given.Late.FactsReserves as rooms
-use Rattle.papaya_acts.specs.Given.Late.FactsSweeps as over_all
-use Rattle.papaya_acts.specs.Given.Late.ToldReserves.{IsRowOfReserve}
-use Rattle.papaya_acts.specs.Given.Late.ToldSweeps.{IsRowOfSweep}
-use Rattle.papaya_acts.specs.Given.Callers.OverAll.{CallOverAll, row_of_sweep}
-use Rattle.papaya_acts.specs.Given.Callers.Rooms.{CallForRoom, row_of_room}
-use Rattle.papaya_acts.specs.Given.Callers.Rows.{row_of, row_of_copier}
-use Rattle.papaya_acts.specs.Given.Callers.Together.{OnKey, ForRoom, OverAll, CallOnKey, next_of, next_for_room, next_over_all}
+use Rattle.papaya_acts.specs.Given.TablesDeclared.node.Node.{Node}
+use Rattle.papaya_acts.specs.Given.TablesDeclared.table.Table.{Table}
+use Rattle.papaya_acts.specs.Given.ResizeCopier.{copier_plan}
+use Rattle.papaya_acts.specs.Given.ResizeDeclared.copier.Copier.{Copier}
+use Rattle.papaya_acts.specs.Given.ResizeDeclared.outcome.Outcome.{Outcome}
+use Rattle.papaya_acts.specs.Given.ResizeDeclared.outcome.Outcome.TheVariants as outcome
+use Rattle.papaya_acts.specs.Given.ReservesReserve as reserves
+use Rattle.papaya_acts.specs.Given.ReservesDeclared.reserve.Reserve.{Reserve}
+use Rattle.papaya_acts.specs.Given.ReservesDeclared.reserve.Reserving.{Reserving}
+use Rattle.papaya_acts.specs.Given.ReservesDeclared.reserve.Reserving.TheVariants as reserving
+use Rattle.papaya_acts.specs.Given.SweepsSweep as sweeps
+use Rattle.papaya_acts.specs.Given.SweepsDeclared.sweep.Sweep.{Sweep}
+use Rattle.papaya_acts.specs.Given.SweepsDeclared.sweep.Sweeping.{Sweeping}
+use Rattle.papaya_acts.specs.Given.SweepsDeclared.sweep.Sweeping.TheVariants as sweeping
+use Rattle.papaya_acts.specs.Given.SweepsDeclared.sweep.Swept.{Swept}
+use Rattle.papaya_acts.specs.Given.RawCall.{helped, copied, plan_at}
+use Rattle.papaya_acts.specs.Given.RawDeclared.machines.answer.Called.{Called}
+use Rattle.papaya_acts.specs.Given.RawDeclared.machines.call.KeyCall.{KeyCall}
+use Rattle.papaya_acts.specs.Given.RawDeclared.machines.call.Calling.{Calling}
+use Rattle.papaya_acts.specs.Given.RawDeclared.machines.call.Calling.TheVariants as at
+use Rattle.papaya_acts.specs.Given.PointsTold.{IsRowOfCopier, IsRowOfCall}
+use Rattle.papaya_acts.proofs.Given.PointsSteps.RootSteps.{call_is_promoting}
+use Rattle.papaya_acts.specs.Given.LateFactsReserves as rooms
+use Rattle.papaya_acts.specs.Given.LateFactsSweeps as over_all
+use Rattle.papaya_acts.specs.Given.LateToldReserves.{IsRowOfReserve}
+use Rattle.papaya_acts.specs.Given.LateToldSweeps.{IsRowOfSweep}
+use Rattle.papaya_acts.specs.Given.CallersOverAll.{CallOverAll, row_of_sweep}
+use Rattle.papaya_acts.specs.Given.CallersRooms.{CallForRoom, row_of_room}
+use Rattle.papaya_acts.specs.Given.CallersRows.{row_of, row_of_copier}
+use Rattle.papaya_acts.specs.Given.CallersTogether.{OnKey, ForRoom, OverAll, CallOnKey, next_of, next_for_room, next_over_all}
 use Rattle.papaya_carries.specs.Theirs.{copier_of_call, copier_of_room, copier_of_sweep}
 
 -- it goes on, and has neither ended nor been refused

@@ -2,19 +2,19 @@
 use Rattle.std.specs.Prelude.{◌*◌}
 use Rattle.std.proofs.Common.{◌≡◌, ℕ, ◌<◌, ◌≤◌, Bool, true, false, cond, refl, subst}
 use Rattle.seize_acts.specs.Given.Seize.World.{World, Cutting}
-use Rattle.papaya_acts.specs.Given.Tables.Chunks.{is_incremental}
-use Rattle.papaya_acts.specs.Given.Tables.declared.node.Node.{Node}
-use Rattle.papaya_acts.specs.Given.Tables.declared.setting.Setting.{Setting}
-use Rattle.papaya_acts.specs.Given.Resize.declared.copier.Copier.{Copier}
-use Rattle.papaya_acts.specs.Given.Resize.declared.copier.Copying.{Copying}
-use Rattle.papaya_acts.specs.Given.Resize.declared.copier.Copying.TheVariants as copies
-use Rattle.papaya_acts.specs.Given.Rule.Chart.{Chart}
-use Rattle.papaya_acts.specs.Given.Rule.Maps.{IsTable}
-use Rattle.papaya_acts.specs.Given.Rule.Words.{Blocks}
-use Rattle.papaya_acts.specs.Given.Points.FactsCopies.{CopierFacts}
-use Rattle.papaya_acts.specs.Given.Points.FactsCopiesBlocking.{CopyingFactsBlocking, CopierFactsBlocking}
-use Rattle.papaya_acts.specs.Given.Late.FactsReserves.{CopiesWhole, IsEnding}
-use Rattle.papaya_acts.specs.Given.Late.LateCopies.{LateCopying, LateCopierFacts}
+use Rattle.papaya_acts.specs.Given.TablesChunks.{is_incremental}
+use Rattle.papaya_acts.specs.Given.TablesDeclared.node.Node.{Node}
+use Rattle.papaya_acts.specs.Given.TablesDeclared.setting.Setting.{Setting}
+use Rattle.papaya_acts.specs.Given.ResizeDeclared.copier.Copier.{Copier}
+use Rattle.papaya_acts.specs.Given.ResizeDeclared.copier.Copying.{Copying}
+use Rattle.papaya_acts.specs.Given.ResizeDeclared.copier.Copying.TheVariants as copies
+use Rattle.papaya_acts.specs.Given.RuleChart.{Chart}
+use Rattle.papaya_acts.specs.Given.RuleMaps.{IsTable}
+use Rattle.papaya_acts.specs.Given.RuleWords.{Blocks}
+use Rattle.papaya_acts.specs.Given.PointsFactsCopies.{CopierFacts}
+use Rattle.papaya_acts.specs.Given.PointsFactsCopiesBlocking.{CopyingFactsBlocking, CopierFactsBlocking}
+use Rattle.papaya_acts.specs.Given.LateFactsReserves.{CopiesWhole, IsEnding}
+use Rattle.papaya_acts.specs.Given.LateLateCopies.{LateCopying, LateCopierFacts}
 
 module _ {K V : Type 0} (same : K → K → Bool) (hash : K → ℕ) (w : World (Node K V)) (caller : ℕ) (setting : Setting) (c : Chart K) (blocks : Blocks) where
   -- the tables from this one on, up to its target, are its own: it has unlinked them

@@ -12,11 +12,11 @@ use Rattle.seize_acts.specs.Given.Seize.declared.rows.settle.Settled.TheVariants
 use Rattle.seize_acts.specs.Given.Seize.declared.states.TheConstants.{HEAD}
 use Rattle.seize_acts.specs.Answers.{Grant}
 use Rattle.seize_acts.proofs.Answers.{same_some}
-use Rattle.papaya_acts.specs.Given.Tables.Nodes.{deferred_word}
-use Rattle.papaya_acts.specs.Given.Tables.declared.node.Node.{Node}
-use Rattle.papaya_acts.specs.Given.Reclaims.Slots.{IsQuiet}
-use Rattle.papaya_acts.proofs.Given.Reclaims.Left.Stays.{left_is_left_behind}
-use Rattle.papaya_acts.proofs.Given.Reclaims.Promised.{reclaiming_begins}
+use Rattle.papaya_acts.specs.Given.TablesNodes.{deferred_word}
+use Rattle.papaya_acts.specs.Given.TablesDeclared.node.Node.{Node}
+use Rattle.papaya_acts.specs.Given.ReclaimsSlots.{IsQuiet}
+use Rattle.papaya_acts.proofs.Given.ReclaimsLeft.Stays.{left_is_left_behind}
+use Rattle.papaya_acts.proofs.Given.ReclaimsPromised.{reclaiming_begins}
 use Rattle.papaya_acts.specs.Acts.{Answer}
 use Rattle.papaya_acts.specs.Doings.{Doing, Does, BeginsReclaiming, BeginsClearing, StepsReclaiming, Chooses, scene_chosen, IsLeft, Stage, reclaiming, behind, MayDo, HasDone}
 use Rattle.papaya_acts.specs.Lists.{Course, Reached, LedOn, nothing_done, on_by}
@@ -26,7 +26,7 @@ use Rattle.papaya_carries.proofs.Acts.{by_act}
 use Rattle.papaya_carries.proofs.Guards.{none_begins}
 use Rattle.papaya_carries.proofs.Reclaimed.{reclaiming_comes_to_end}
 use Rattle.papaya_carries.proofs.Reclaiming.{reclaiming_keeps_theirs, nothing_else_waits}
-use Rattle.papaya_acts.specs.Given.Scenes.Scene.{Scene, at_first}
+use Rattle.papaya_acts.specs.Given.ScenesScene.{Scene, at_first}
 
 module _ {K S : Type 0} (V : Type 0) (same : K → K → Bool) (hash : S → K → ℕ) (batch_size roots : ℕ) (slot : ℕ → ℕ) where
   -- at first users have nothing, and all roots are free

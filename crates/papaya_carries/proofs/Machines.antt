@@ -5,34 +5,34 @@ use Rattle.seize_acts.specs.Given.SeizeWords.Mem.{Mem, Took, value_at}
 use Rattle.seize_acts.specs.Given.SeizeWords.Plan.{Plan, Steps}
 use Rattle.seize_acts.specs.Given.Seize.World.{World}
 use Rattle.seize_acts.proofs.Given.SeizeRule.Rows.Leaving.{steps_back}
-use Rattle.papaya_acts.specs.Given.Tables.declared.node.Node.{Node}
-use Rattle.papaya_acts.specs.Given.Resize.declared.outcome.Outcome.{Outcome}
-use Rattle.papaya_acts.specs.Given.Resize.declared.outcome.Outcome.TheVariants as outcome
-use Rattle.papaya_acts.specs.Given.Reserves.Reserve.{reserve_plan}
-use Rattle.papaya_acts.specs.Given.Reserves.declared.reserve.Reserve.{Reserve}
-use Rattle.papaya_acts.specs.Given.Sweeps.Sweep.{sweep_plan}
-use Rattle.papaya_acts.specs.Given.Sweeps.declared.sweep.Sweep.{Sweep}
-use Rattle.papaya_acts.specs.Given.Sweeps.declared.sweep.Swept.{Swept}
-use Rattle.papaya_acts.specs.Given.Sweeps.declared.sweep.Swept.TheVariants as swept_as
-use Rattle.papaya_acts.specs.Given.Raw.Call.{call_plan}
-use Rattle.papaya_acts.specs.Given.Raw.Machine.{machine_plan, called, reserved, swept}
-use Rattle.papaya_acts.specs.Given.Raw.Progress.{of_called, of_outcome, of_swept}
-use Rattle.papaya_acts.specs.Given.Resize.declared.copier.Copier.{Copier}
-use Rattle.papaya_acts.specs.Given.Resize.declared.sum.Sum.{Sum}
-use Rattle.papaya_acts.specs.Given.Raw.declared.machines.answer.Called.{Called}
-use Rattle.papaya_acts.specs.Given.Raw.declared.machines.answer.Called.TheVariants as called_as
-use Rattle.papaya_acts.specs.Given.Raw.declared.machines.call.KeyCall.{KeyCall}
-use Rattle.papaya_acts.specs.Given.Raw.declared.machines.machine.Machine.{Machine}
-use Rattle.papaya_acts.specs.Given.Raw.declared.machines.machine.Machine.TheVariants as kinds
-use Rattle.papaya_acts.specs.Given.Raw.declared.machines.progress.Answer.TheVariants as answers
-use Rattle.papaya_acts.specs.Given.Raw.declared.machines.progress.Progress.{Progress}
-use Rattle.papaya_acts.specs.Given.Raw.declared.machines.progress.Progress.TheVariants as progress
-use Rattle.papaya_acts.specs.Given.Callers.Together.{UnderWay, OnKey, ForRoom, Counting, OverAll, next_of_counting}
-use Rattle.papaya_acts.specs.Given.Finishes.Endings.{Finishing, EndingsTogether}
-use Rattle.papaya_acts.specs.Given.Finishes.Machines.{DidOfKind, machine_of}
-use Rattle.papaya_acts.specs.Given.Finishes.Makings.{Beginning}
-use Rattle.papaya_acts.specs.Given.Finishes.Maps.{Standing, IsSameMap, with_call}
-use Rattle.papaya_acts.specs.Given.Reclaims.Deferred.{IsLinkedTable}
+use Rattle.papaya_acts.specs.Given.TablesDeclared.node.Node.{Node}
+use Rattle.papaya_acts.specs.Given.ResizeDeclared.outcome.Outcome.{Outcome}
+use Rattle.papaya_acts.specs.Given.ResizeDeclared.outcome.Outcome.TheVariants as outcome
+use Rattle.papaya_acts.specs.Given.ReservesReserve.{reserve_plan}
+use Rattle.papaya_acts.specs.Given.ReservesDeclared.reserve.Reserve.{Reserve}
+use Rattle.papaya_acts.specs.Given.SweepsSweep.{sweep_plan}
+use Rattle.papaya_acts.specs.Given.SweepsDeclared.sweep.Sweep.{Sweep}
+use Rattle.papaya_acts.specs.Given.SweepsDeclared.sweep.Swept.{Swept}
+use Rattle.papaya_acts.specs.Given.SweepsDeclared.sweep.Swept.TheVariants as swept_as
+use Rattle.papaya_acts.specs.Given.RawCall.{call_plan}
+use Rattle.papaya_acts.specs.Given.RawMachine.{machine_plan, called, reserved, swept}
+use Rattle.papaya_acts.specs.Given.RawProgress.{of_called, of_outcome, of_swept}
+use Rattle.papaya_acts.specs.Given.ResizeDeclared.copier.Copier.{Copier}
+use Rattle.papaya_acts.specs.Given.ResizeDeclared.sum.Sum.{Sum}
+use Rattle.papaya_acts.specs.Given.RawDeclared.machines.answer.Called.{Called}
+use Rattle.papaya_acts.specs.Given.RawDeclared.machines.answer.Called.TheVariants as called_as
+use Rattle.papaya_acts.specs.Given.RawDeclared.machines.call.KeyCall.{KeyCall}
+use Rattle.papaya_acts.specs.Given.RawDeclared.machines.machine.Machine.{Machine}
+use Rattle.papaya_acts.specs.Given.RawDeclared.machines.machine.Machine.TheVariants as kinds
+use Rattle.papaya_acts.specs.Given.RawDeclared.machines.progress.Answer.TheVariants as answers
+use Rattle.papaya_acts.specs.Given.RawDeclared.machines.progress.Progress.{Progress}
+use Rattle.papaya_acts.specs.Given.RawDeclared.machines.progress.Progress.TheVariants as progress
+use Rattle.papaya_acts.specs.Given.CallersTogether.{UnderWay, OnKey, ForRoom, Counting, OverAll, next_of_counting}
+use Rattle.papaya_acts.specs.Given.FinishesEndings.{Finishing, EndingsTogether}
+use Rattle.papaya_acts.specs.Given.FinishesMachines.{DidOfKind, machine_of}
+use Rattle.papaya_acts.specs.Given.FinishesMakings.{Beginning}
+use Rattle.papaya_acts.specs.Given.FinishesMaps.{Standing, IsSameMap, with_call}
+use Rattle.papaya_acts.specs.Given.ReclaimsDeferred.{IsLinkedTable}
 use Rattle.papaya_carries.specs.Theirs.{copier_of, IsTheirs, AllAreTheirs}
 use Rattle.papaya_carries.proofs.Guards.{theirs_by, same_on}
 use Rattle.papaya_carries.proofs.Owed.{one_some, StandsOn, StandsOnAt, owed_on, owed_with}

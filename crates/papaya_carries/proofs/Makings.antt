@@ -14,22 +14,22 @@ use Rattle.seize_acts.proofs.Given.SeizeRule.World.Values.{own_op_value, made_va
 use Rattle.seize_acts.proofs.Given.SeizeEnds.Batches.Rows.{made_memory}
 use Rattle.seize_acts.proofs.Given.SeizeAlone.Histories.NotTaken.{IsHad, kept_there}
 use Rattle.seize_acts.proofs.Given.SeizeAlone.Histories.Reached.{Reached, happens_reached}
-use Rattle.papaya_acts.specs.Given.Tables.Nodes.{deferred_word}
-use Rattle.papaya_acts.specs.Given.Tables.declared.node.Node.{Node}
-use Rattle.papaya_acts.specs.Given.Resize.declared.new_map.NewMap.{NewMap}
-use Rattle.papaya_acts.specs.Given.Tables.declared.setting.Setting.{Setting}
+use Rattle.papaya_acts.specs.Given.TablesNodes.{deferred_word}
+use Rattle.papaya_acts.specs.Given.TablesDeclared.node.Node.{Node}
+use Rattle.papaya_acts.specs.Given.ResizeDeclared.new_map.NewMap.{NewMap}
+use Rattle.papaya_acts.specs.Given.TablesDeclared.setting.Setting.{Setting}
 use Rattle.seize_acts.specs.Given.Seize.declared.progress.Progress.{Progress}
-use Rattle.papaya_acts.specs.Given.Rule.InWorld.{AllUsers, IsOut}
-use Rattle.papaya_acts.proofs.Given.Rule.Words.LinksSeen.{link_some, root_leads}
-use Rattle.papaya_acts.proofs.Given.Rule.World.Hands.{at_cases}
-use Rattle.papaya_acts.specs.Given.Callers.Together.{UnderWay, Together}
-use Rattle.papaya_acts.proofs.Given.Callers.Together.At.{at_other, at_same}
-use Rattle.papaya_acts.proofs.Given.Callers.Together.Came.{came_reached}
-use Rattle.papaya_acts.proofs.Given.Callers.Together.Users.{events_rows}
-use Rattle.papaya_acts.specs.Given.Finishes.Endings.{Finishing, EndingsTogether}
-use Rattle.papaya_acts.specs.Given.Finishes.Makings.{Beginning, IsFirstTable, StepsOfMaking}
-use Rattle.papaya_acts.specs.Given.Finishes.Maps.{Standing, MapsTogether}
-use Rattle.papaya_acts.specs.Given.Reclaims.Deferred.{IsLinkedTable}
+use Rattle.papaya_acts.specs.Given.RuleInWorld.{AllUsers, IsOut}
+use Rattle.papaya_acts.proofs.Given.RuleWords.LinksSeen.{link_some, root_leads}
+use Rattle.papaya_acts.proofs.Given.RuleWorld.Hands.{at_cases}
+use Rattle.papaya_acts.specs.Given.CallersTogether.{UnderWay, Together}
+use Rattle.papaya_acts.proofs.Given.CallersTogether.At.{at_other, at_same}
+use Rattle.papaya_acts.proofs.Given.CallersTogether.Came.{came_reached}
+use Rattle.papaya_acts.proofs.Given.CallersTogether.Users.{events_rows}
+use Rattle.papaya_acts.specs.Given.FinishesEndings.{Finishing, EndingsTogether}
+use Rattle.papaya_acts.specs.Given.FinishesMakings.{Beginning, IsFirstTable, StepsOfMaking}
+use Rattle.papaya_acts.specs.Given.FinishesMaps.{Standing, MapsTogether}
+use Rattle.papaya_acts.specs.Given.ReclaimsDeferred.{IsLinkedTable}
 use Rattle.papaya_carries.specs.Promises.{MakingsKeepTheirs}
 use Rattle.papaya_carries.specs.Theirs.{CanCarry, IsTheirs, AllAreTheirs}
 use Rattle.papaya_carries.proofs.Calls.{users_of, out_of}

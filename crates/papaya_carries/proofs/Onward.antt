@@ -13,11 +13,11 @@ use Rattle.seize_acts.specs.Given.Seize.declared.states.TheConstants.{HEAD}
 use Rattle.seize_acts.specs.Acts.{rests}
 use Rattle.seize_acts.specs.Answers.{Grant, then_on}
 use Rattle.seize_acts.proofs.Answers.{same_some, was_stepped}
-use Rattle.papaya_acts.specs.Given.Tables.Nodes.{deferred_word, was_left}
-use Rattle.papaya_acts.specs.Given.Tables.declared.node.Node.{Node}
-use Rattle.papaya_acts.specs.Given.Reclaims.Ends.{ComesToEnd, Comes}
-use Rattle.papaya_acts.specs.Given.Reclaims.Slots.{IsQuiet}
-use Rattle.papaya_acts.proofs.Given.Reclaims.Ends.All.{reclaiming_ends}
+use Rattle.papaya_acts.specs.Given.TablesNodes.{deferred_word, was_left}
+use Rattle.papaya_acts.specs.Given.TablesDeclared.node.Node.{Node}
+use Rattle.papaya_acts.specs.Given.ReclaimsEnds.{ComesToEnd, Comes}
+use Rattle.papaya_acts.specs.Given.ReclaimsSlots.{IsQuiet}
+use Rattle.papaya_acts.proofs.Given.ReclaimsEnds.All.{reclaiming_ends}
 use Rattle.papaya_acts.specs.Doings.{Doing, BeginsReclaiming, BeginsClearing, StepsReclaiming, AllAreFree, SlotsAreFree, is_vacant, still, reclaiming, behind, MayDo, HasStepped}
 use Rattle.papaya_acts.specs.Lists.{Course, Reached, LedOn, nothing_done, on_by}
 use Rattle.papaya_acts.specs.Reclaiming.{IsReclaimingAll, reclaiming_steps}
@@ -26,7 +26,7 @@ use Rattle.papaya_acts.proofs.Reclaiming.{reclaiming_is_by_acts}
 use Rattle.papaya_carries.specs.Lists.{AreTheirs, IsAtRest, AllRestThere, OnlyPairsAreLeft, ListsReclaimAll, OnlyPairsWaitBehind}
 use Rattle.papaya_carries.proofs.Lists.{idle_there, is_over, lists_keep_theirs, reclaiming_begins_there, theirs_on}
 use Rattle.papaya_carries.proofs.Reclaimed.{may_be_stepped, some_is_there}
-use Rattle.papaya_acts.specs.Given.Scenes.Scene.{Scene}
+use Rattle.papaya_acts.specs.Given.ScenesScene.{Scene}
 
 -- who has not come to its end goes on
 still_on : {T : Type 0} (e : Settled T) (it : ℕ × ReclaimAll) → (e ≡ settled.Done → ⊥) → still e it ≡ Some it

@@ -3,13 +3,13 @@ use Rattle.std.specs.Prelude.{◌≢◌, ◌*◌, Option, Some}
 use Rattle.std.proofs.Common.{◌≡◌, ℕ, ◌<◌, ◌≤◌, ◌⊎◌, inl, inr, refl, arith, ap, sym, subst, ◌∙◌}
 use Rattle.std.proofs.lemmas.Bool.{cases_eq}
 use Rattle.seize_acts.specs.Given.Seize.World.{World, Rests, with_at}
-use Rattle.papaya_acts.specs.Given.Tables.Chunks.{is_incremental}
-use Rattle.papaya_acts.specs.Given.Tables.declared.node.Node.{Node}
-use Rattle.papaya_acts.specs.Given.Resize.declared.copier.Copier.{Copier}
-use Rattle.papaya_acts.specs.Given.Callers.Together.{UnderWay}
-use Rattle.papaya_acts.proofs.Given.Callers.Together.At.{at_other, at_same}
-use Rattle.papaya_acts.specs.Given.Finishes.Endings.{Finishing}
-use Rattle.papaya_acts.specs.Given.Finishes.Maps.{Standing, with_call}
+use Rattle.papaya_acts.specs.Given.TablesChunks.{is_incremental}
+use Rattle.papaya_acts.specs.Given.TablesDeclared.node.Node.{Node}
+use Rattle.papaya_acts.specs.Given.ResizeDeclared.copier.Copier.{Copier}
+use Rattle.papaya_acts.specs.Given.CallersTogether.{UnderWay}
+use Rattle.papaya_acts.proofs.Given.CallersTogether.At.{at_other, at_same}
+use Rattle.papaya_acts.specs.Given.FinishesEndings.{Finishing}
+use Rattle.papaya_acts.specs.Given.FinishesMaps.{Standing, with_call}
 use Rattle.papaya_carries.specs.Theirs.{IsAhead, IsToCome, IsToHandOver, Owes, IsOwed, next_of_them}
 
 pub one_some : {X : Type 0} (o : Option X) (a b : X) → o ≡ Some a → o ≡ Some b → a ≡ b

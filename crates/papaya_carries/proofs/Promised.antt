@@ -3,20 +3,20 @@ use Rattle.std.specs.Prelude.{Option, Some, None}
 use Rattle.std.proofs.Common.{◌≡◌, ℕ, Bool, inl, inr, ◌⊎◌, sym, subst}
 use Rattle.seize_acts.specs.Given.SeizeWords.Mem.{Mem}
 use Rattle.seize_acts.specs.Given.Seize.World.{World, Rests}
-use Rattle.papaya_acts.specs.Given.Tables.declared.node.Node.{Node}
-use Rattle.papaya_acts.specs.Given.Resize.declared.copier.Copier.{Copier}
-use Rattle.papaya_acts.specs.Given.Raw.declared.machines.call.Calling.{Calling}
-use Rattle.papaya_acts.specs.Given.Raw.declared.machines.call.Calling.TheVariants as at
-use Rattle.papaya_acts.specs.Given.Points.FactsCalls.{Unchanged, CallFacts, CallingFacts}
-use Rattle.papaya_acts.proofs.Given.Points.Steps.RootSteps.{root_stays}
-use Rattle.papaya_acts.specs.Given.Late.LateCalls.{LateCallFacts, LateCalling}
-use Rattle.papaya_acts.proofs.Given.Rule.World.RootSpared.{RootStays}
-use Rattle.papaya_acts.proofs.Given.Alone.Handed.RootTurns.{first_kept}
-use Rattle.papaya_acts.specs.Given.Callers.Sights.{seen_by}
-use Rattle.papaya_acts.specs.Given.Callers.Together.{UnderWay, OnKey, CallOnKey, Knows, Stands, in_slot, next_of, change_told}
-use Rattle.papaya_acts.specs.Given.Finishes.Endings.{Finishing}
-use Rattle.papaya_acts.specs.Given.Finishes.Makings.{Beginning}
-use Rattle.papaya_acts.specs.Given.Finishes.Maps.{Standing}
+use Rattle.papaya_acts.specs.Given.TablesDeclared.node.Node.{Node}
+use Rattle.papaya_acts.specs.Given.ResizeDeclared.copier.Copier.{Copier}
+use Rattle.papaya_acts.specs.Given.RawDeclared.machines.call.Calling.{Calling}
+use Rattle.papaya_acts.specs.Given.RawDeclared.machines.call.Calling.TheVariants as at
+use Rattle.papaya_acts.specs.Given.PointsFactsCalls.{Unchanged, CallFacts, CallingFacts}
+use Rattle.papaya_acts.proofs.Given.PointsSteps.RootSteps.{root_stays}
+use Rattle.papaya_acts.specs.Given.LateLateCalls.{LateCallFacts, LateCalling}
+use Rattle.papaya_acts.proofs.Given.RuleWorld.RootSpared.{RootStays}
+use Rattle.papaya_acts.proofs.Given.AloneHanded.RootTurns.{first_kept}
+use Rattle.papaya_acts.specs.Given.CallersSights.{seen_by}
+use Rattle.papaya_acts.specs.Given.CallersTogether.{UnderWay, OnKey, CallOnKey, Knows, Stands, in_slot, next_of, change_told}
+use Rattle.papaya_acts.specs.Given.FinishesEndings.{Finishing}
+use Rattle.papaya_acts.specs.Given.FinishesMakings.{Beginning}
+use Rattle.papaya_acts.specs.Given.FinishesMaps.{Standing}
 use Rattle.papaya_carries.specs.Promises.{CallsKeepTheirs}
 use Rattle.papaya_carries.specs.Theirs.{copier_of_call}
 use Rattle.papaya_carries.proofs.Inside.{it_is, call_copies, call_row, none_promotes}

@@ -12,15 +12,15 @@ use Rattle.seize_acts.specs.Given.Seize.declared.rows.settle.Settled.TheVariants
 use Rattle.seize_acts.specs.Answers.{Grant, then_on, answer, compared, ends, exchanged, found, stored, taken, stepped}
 use Rattle.seize_acts.proofs.Answers.{was_stepped}
 use Rattle.seize_acts.proofs.Steps.{sees_end}
-use Rattle.papaya_acts.specs.Given.Tables.Nodes.{deferred_word, was_left}
-use Rattle.papaya_acts.specs.Given.Tables.declared.node.Node.{Node}
-use Rattle.papaya_acts.proofs.Given.Finishes.Beside.Endings.Spares.{some_there}
-use Rattle.papaya_acts.specs.Given.Reclaims.Ends.{ComesToEnd, Comes}
-use Rattle.papaya_acts.proofs.Given.Reclaims.Ends.All.{reclaiming_ends}
+use Rattle.papaya_acts.specs.Given.TablesNodes.{deferred_word, was_left}
+use Rattle.papaya_acts.specs.Given.TablesDeclared.node.Node.{Node}
+use Rattle.papaya_acts.proofs.Given.FinishesBeside.Endings.Spares.{some_there}
+use Rattle.papaya_acts.specs.Given.ReclaimsEnds.{ComesToEnd, Comes}
+use Rattle.papaya_acts.proofs.Given.ReclaimsEnds.All.{reclaiming_ends}
 use Rattle.papaya_acts.specs.Reclaiming.{IsReclaimingAll, ReclaimedOn, reclaiming_steps}
 use Rattle.papaya_acts.proofs.Reclaiming.{reclaiming_is_by_acts}
 use Rattle.papaya_carries.specs.Lists.{ReclaimsTo, ReclaimingComesToEnd}
-use Rattle.papaya_acts.specs.Given.Scenes.Scene.{Scene}
+use Rattle.papaya_acts.specs.Given.ScenesScene.{Scene}
 
 module _ {T : Type 0} (m : Mem T) where
   abbrev Answered : Op T → Type 0

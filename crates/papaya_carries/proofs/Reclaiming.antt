@@ -10,18 +10,18 @@ use Rattle.seize_acts.specs.Reclaimed.{IsStillHad}
 use Rattle.seize_acts.proofs.Given.SeizeEnds.Batches.Rows.{begins_memory}
 use Rattle.seize_acts.proofs.Given.SeizeRule.World.Values.{own_op_value, taken_value}
 use Rattle.seize_acts.proofs.Given.SeizeAlone.Histories.Reached.{Reached, happens_reached}
-use Rattle.papaya_acts.specs.Given.Tables.Nodes.{deferred_word}
-use Rattle.papaya_acts.specs.Given.Tables.declared.node.Node.{Node}
-use Rattle.papaya_acts.proofs.Given.Rule.World.Hands.{at_cases}
-use Rattle.papaya_acts.specs.Given.Callers.Together.{UnderWay, IsOfSlots}
-use Rattle.papaya_acts.proofs.Given.Callers.Rows.Beside.{users_value}
-use Rattle.papaya_acts.proofs.Given.Callers.Together.Came.{came_reached}
-use Rattle.papaya_acts.specs.Given.Finishes.Endings.{Finishing}
-use Rattle.papaya_acts.specs.Given.Finishes.FactsEnds.{TakesLeft, WritesRoot, events_of}
-use Rattle.papaya_acts.specs.Given.Finishes.Makings.{Beginning}
-use Rattle.papaya_acts.specs.Given.Finishes.Maps.{Standing}
-use Rattle.papaya_acts.specs.Given.Reclaims.Slots.{IsForSlots, AreItsRows}
-use Rattle.papaya_acts.proofs.Given.Reclaims.Behind.Deferred.{waits_on_tables}
+use Rattle.papaya_acts.specs.Given.TablesNodes.{deferred_word}
+use Rattle.papaya_acts.specs.Given.TablesDeclared.node.Node.{Node}
+use Rattle.papaya_acts.proofs.Given.RuleWorld.Hands.{at_cases}
+use Rattle.papaya_acts.specs.Given.CallersTogether.{UnderWay, IsOfSlots}
+use Rattle.papaya_acts.proofs.Given.CallersRows.Beside.{users_value}
+use Rattle.papaya_acts.proofs.Given.CallersTogether.Came.{came_reached}
+use Rattle.papaya_acts.specs.Given.FinishesEndings.{Finishing}
+use Rattle.papaya_acts.specs.Given.FinishesFactsEnds.{TakesLeft, WritesRoot, events_of}
+use Rattle.papaya_acts.specs.Given.FinishesMakings.{Beginning}
+use Rattle.papaya_acts.specs.Given.FinishesMaps.{Standing}
+use Rattle.papaya_acts.specs.Given.ReclaimsSlots.{IsForSlots, AreItsRows}
+use Rattle.papaya_acts.proofs.Given.ReclaimsBehind.Deferred.{waits_on_tables}
 use Rattle.papaya_carries.specs.Promises.{ReclaimingKeepsTheirs, NothingElseWaits}
 use Rattle.papaya_carries.proofs.Guards.{users_own, theirs_same, can_back, only_tables_carry}
 use Rattle.papaya_carries.proofs.Hands.{begun_same, still_row}

@@ -2,21 +2,21 @@
 use Rattle.std.specs.Prelude.{Option, Some}
 use Rattle.std.proofs.Common.{◌≡◌, ℕ, Bool, inl, inr, ◌⊎◌, ap, subst}
 use Rattle.seize_acts.specs.Given.Seize.World.{World, Rests}
-use Rattle.papaya_acts.specs.Given.Tables.declared.node.Node.{Node}
-use Rattle.papaya_acts.specs.Given.Tables.declared.resize_mode.ResizeMode.{ResizeMode}
-use Rattle.papaya_acts.specs.Given.Resize.declared.copier.Copier.{Copier}
-use Rattle.papaya_acts.specs.Given.Reserves.declared.reserve.Reserving.{Reserving}
-use Rattle.papaya_acts.specs.Given.Reserves.declared.reserve.Reserving.TheVariants as reserving
-use Rattle.papaya_acts.specs.Given.Rule.Chart.{Chart}
-use Rattle.papaya_acts.specs.Given.Points.Told.{OnlyLinks}
-use Rattle.papaya_acts.specs.Given.Late.FactsReserves.{CopiesPairs, ReserveFacts, ReservingFacts}
-use Rattle.papaya_acts.specs.Given.Late.LateReserves.{LateReserveFacts, LateReserving}
-use Rattle.papaya_acts.specs.Given.Callers.Rooms.{CallForRoom}
-use Rattle.papaya_acts.specs.Given.Callers.Sights.{seen_by}
-use Rattle.papaya_acts.specs.Given.Callers.Together.{UnderWay, ForRoom, KnowsRoom, Stands, FreshRoom, LateRoom, RoomTold, in_slot, next_for_room}
-use Rattle.papaya_acts.specs.Given.Finishes.Endings.{Finishing}
-use Rattle.papaya_acts.specs.Given.Finishes.Makings.{Beginning}
-use Rattle.papaya_acts.specs.Given.Finishes.Maps.{Standing}
+use Rattle.papaya_acts.specs.Given.TablesDeclared.node.Node.{Node}
+use Rattle.papaya_acts.specs.Given.TablesDeclared.resize_mode.ResizeMode.{ResizeMode}
+use Rattle.papaya_acts.specs.Given.ResizeDeclared.copier.Copier.{Copier}
+use Rattle.papaya_acts.specs.Given.ReservesDeclared.reserve.Reserving.{Reserving}
+use Rattle.papaya_acts.specs.Given.ReservesDeclared.reserve.Reserving.TheVariants as reserving
+use Rattle.papaya_acts.specs.Given.RuleChart.{Chart}
+use Rattle.papaya_acts.specs.Given.PointsTold.{OnlyLinks}
+use Rattle.papaya_acts.specs.Given.LateFactsReserves.{CopiesPairs, ReserveFacts, ReservingFacts}
+use Rattle.papaya_acts.specs.Given.LateLateReserves.{LateReserveFacts, LateReserving}
+use Rattle.papaya_acts.specs.Given.CallersRooms.{CallForRoom}
+use Rattle.papaya_acts.specs.Given.CallersSights.{seen_by}
+use Rattle.papaya_acts.specs.Given.CallersTogether.{UnderWay, ForRoom, KnowsRoom, Stands, FreshRoom, LateRoom, RoomTold, in_slot, next_for_room}
+use Rattle.papaya_acts.specs.Given.FinishesEndings.{Finishing}
+use Rattle.papaya_acts.specs.Given.FinishesMakings.{Beginning}
+use Rattle.papaya_acts.specs.Given.FinishesMaps.{Standing}
 use Rattle.papaya_carries.specs.Promises.{RoomsKeepTheirs}
 use Rattle.papaya_carries.specs.Theirs.{copier_of_room}
 use Rattle.papaya_carries.proofs.Inside.{it_is, room_copies, room_row, room_without}

@@ -10,18 +10,18 @@ use Rattle.seize_acts.specs.Given.Seize.declared.rows.settle.Settle.{Settle}
 use Rattle.seize_acts.specs.Given.Seize.declared.rows.settle.Settled.{Settled}
 use Rattle.seize_acts.specs.Given.Seize.declared.rows.settle.Settled.TheVariants as settled
 use Rattle.seize_acts.proofs.Given.SeizeRule.Rows.Leaving.{steps_back}
-use Rattle.papaya_acts.specs.Given.Tables.Nodes.{deferred_word}
-use Rattle.papaya_acts.specs.Given.Tables.declared.node.Node.{Node}
-use Rattle.papaya_acts.specs.Given.Tables.declared.table.Table.{Table}
-use Rattle.papaya_acts.specs.Given.Resize.Copier.{plan_at as copier_plan_at}
-use Rattle.papaya_acts.specs.Given.Resize.CopierPromotes.{retired}
-use Rattle.papaya_acts.specs.Given.Resize.CopierStates.{standing}
-use Rattle.papaya_acts.specs.Given.Resize.declared.copier.Copier.{Copier}
-use Rattle.papaya_acts.specs.Given.Resize.declared.copier.Copying.{Copying}
-use Rattle.papaya_acts.specs.Given.Resize.declared.copier.Copying.TheVariants as copies
-use Rattle.papaya_acts.specs.Given.Resize.declared.outcome.Outcome.{Outcome}
-use Rattle.papaya_acts.specs.Given.Points.Told.{IsRowOfCopier}
-use Rattle.papaya_acts.specs.Given.Callers.Rows.{row_of_copier}
+use Rattle.papaya_acts.specs.Given.TablesNodes.{deferred_word}
+use Rattle.papaya_acts.specs.Given.TablesDeclared.node.Node.{Node}
+use Rattle.papaya_acts.specs.Given.TablesDeclared.table.Table.{Table}
+use Rattle.papaya_acts.specs.Given.ResizeCopier.{plan_at as copier_plan_at}
+use Rattle.papaya_acts.specs.Given.ResizeCopierPromotes.{retired}
+use Rattle.papaya_acts.specs.Given.ResizeCopierStates.{standing}
+use Rattle.papaya_acts.specs.Given.ResizeDeclared.copier.Copier.{Copier}
+use Rattle.papaya_acts.specs.Given.ResizeDeclared.copier.Copying.{Copying}
+use Rattle.papaya_acts.specs.Given.ResizeDeclared.copier.Copying.TheVariants as copies
+use Rattle.papaya_acts.specs.Given.ResizeDeclared.outcome.Outcome.{Outcome}
+use Rattle.papaya_acts.specs.Given.PointsTold.{IsRowOfCopier}
+use Rattle.papaya_acts.specs.Given.CallersRows.{row_of_copier}
 use Rattle.papaya_carries.specs.Theirs.{IsDueAt, IsAhead, next_of_them}
 use Rattle.papaya_carries.proofs.FirstSteps.{IsRetiring, retires_first}
 use Rattle.papaya_carries.proofs.Inside.{IsOn}

@@ -5,19 +5,19 @@ use Rattle.seize_acts.specs.Given.SeizeWords.Mem.{value_at}
 use Rattle.seize_acts.specs.Given.Seize.declared.rows.reclaim_all.ReclaimAll.{ReclaimAll}
 use Rattle.seize_acts.specs.Given.Seize.World.{World, Cutting, with_at}
 use Rattle.seize_acts.specs.Reclaimed.{IsStillHad}
-use Rattle.papaya_acts.specs.Given.Tables.Chunks.{is_incremental}
-use Rattle.papaya_acts.specs.Given.Tables.Nodes.{deferred_word}
-use Rattle.papaya_acts.specs.Given.Tables.declared.node.Node.{Node}
-use Rattle.papaya_acts.specs.Given.Resize.declared.copier.Copier.{Copier}
-use Rattle.papaya_acts.specs.Given.Resize.declared.copier.Copying.{Copying}
-use Rattle.papaya_acts.specs.Given.Resize.declared.copier.Copying.TheVariants as copies
-use Rattle.papaya_acts.specs.Given.Callers.Together.{UnderWay}
-use Rattle.papaya_acts.specs.Given.Finishes.Makings.{Beginning}
-use Rattle.papaya_acts.specs.Given.Finishes.Maps.{Standing}
+use Rattle.papaya_acts.specs.Given.TablesChunks.{is_incremental}
+use Rattle.papaya_acts.specs.Given.TablesNodes.{deferred_word}
+use Rattle.papaya_acts.specs.Given.TablesDeclared.node.Node.{Node}
+use Rattle.papaya_acts.specs.Given.ResizeDeclared.copier.Copier.{Copier}
+use Rattle.papaya_acts.specs.Given.ResizeDeclared.copier.Copying.{Copying}
+use Rattle.papaya_acts.specs.Given.ResizeDeclared.copier.Copying.TheVariants as copies
+use Rattle.papaya_acts.specs.Given.CallersTogether.{UnderWay}
+use Rattle.papaya_acts.specs.Given.FinishesMakings.{Beginning}
+use Rattle.papaya_acts.specs.Given.FinishesMaps.{Standing}
 use Rattle.papaya_carries.specs.Lists.{IsAtRest, ReclaimsTo}
 use Rattle.papaya_carries.specs.Theirs.{IsDueAt, next_of_them, IsAhead, IsToCome, copier_of, IsToHandOver, Owes, IsTheirs, AllAreTheirs}
 use Rattle.papaya_carries.proofs.Owed.{one_some}
-use Rattle.papaya_acts.specs.Given.Scenes.Scene.{Scene, at_first}
+use Rattle.papaya_acts.specs.Given.ScenesScene.{Scene, at_first}
 
 module _ {K V Q : Type 0} (w : World (Node K V)) (maps : ℕ → Option (Standing K)) (b field i : ℕ) (value : Node K V)
     (cut : w.hand b ≡ Cutting i) (there : value_at w.memory b ≡ Some value) (has_list : deferred_word value ≡ Some field)

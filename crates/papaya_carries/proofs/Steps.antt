@@ -5,22 +5,22 @@ use Rattle.std.proofs.Common.{◌≡◌, ℕ, ◌<◌, ◌≤◌, Bool, false, i
 use Rattle.seize_acts.specs.Given.SeizeWords.Mem.{Mem, Took, value_at}
 use Rattle.seize_acts.specs.Given.SeizeWords.Plan.{Steps}
 use Rattle.seize_acts.specs.Given.Seize.World.{World, Rests, IsInside}
-use Rattle.papaya_acts.specs.Given.Tables.Chunks.{is_incremental}
-use Rattle.papaya_acts.specs.Given.Tables.declared.node.Node.{Node}
-use Rattle.papaya_acts.specs.Given.Tables.declared.table.Table.{Table}
-use Rattle.papaya_acts.specs.Given.Resize.Copier.{copier_plan}
-use Rattle.papaya_acts.specs.Given.Resize.declared.copier.Copier.{Copier}
-use Rattle.papaya_acts.specs.Given.Resize.declared.outcome.Outcome.{Outcome}
-use Rattle.papaya_acts.specs.Given.Rule.Chart.{Chart}
-use Rattle.papaya_acts.specs.Given.Rule.InWorld.{IsMapIn, Went}
-use Rattle.papaya_acts.specs.Given.Rule.Words.{Blocks}
-use Rattle.papaya_acts.specs.Given.Points.Told.{IsRowOfCopier}
-use Rattle.papaya_acts.specs.Given.Callers.Sights.{Sight, IsGrown, seen_by}
-use Rattle.papaya_acts.specs.Given.Callers.Together.{UnderWay, in_slot}
-use Rattle.papaya_acts.proofs.Given.Callers.Sights.Seen.{map_seen}
-use Rattle.papaya_acts.proofs.Given.Callers.Together.Fits.{map_in_slot}
-use Rattle.papaya_acts.specs.Given.Finishes.Endings.{Finishing}
-use Rattle.papaya_acts.specs.Given.Finishes.Maps.{Standing, MapsTogether}
+use Rattle.papaya_acts.specs.Given.TablesChunks.{is_incremental}
+use Rattle.papaya_acts.specs.Given.TablesDeclared.node.Node.{Node}
+use Rattle.papaya_acts.specs.Given.TablesDeclared.table.Table.{Table}
+use Rattle.papaya_acts.specs.Given.ResizeCopier.{copier_plan}
+use Rattle.papaya_acts.specs.Given.ResizeDeclared.copier.Copier.{Copier}
+use Rattle.papaya_acts.specs.Given.ResizeDeclared.outcome.Outcome.{Outcome}
+use Rattle.papaya_acts.specs.Given.RuleChart.{Chart}
+use Rattle.papaya_acts.specs.Given.RuleInWorld.{IsMapIn, Went}
+use Rattle.papaya_acts.specs.Given.RuleWords.{Blocks}
+use Rattle.papaya_acts.specs.Given.PointsTold.{IsRowOfCopier}
+use Rattle.papaya_acts.specs.Given.CallersSights.{Sight, IsGrown, seen_by}
+use Rattle.papaya_acts.specs.Given.CallersTogether.{UnderWay, in_slot}
+use Rattle.papaya_acts.proofs.Given.CallersSights.Seen.{map_seen}
+use Rattle.papaya_acts.proofs.Given.CallersTogether.Fits.{map_in_slot}
+use Rattle.papaya_acts.specs.Given.FinishesEndings.{Finishing}
+use Rattle.papaya_acts.specs.Given.FinishesMaps.{Standing, MapsTogether}
 use Rattle.papaya_carries.specs.Theirs.{IsAhead, next_of_them, copier_of, IsToHandOver, AllAreTheirs}
 use Rattle.papaya_carries.proofs.Calls.{Due, calls2, maps2, owes_after, went_theirs}
 use Rattle.papaya_carries.proofs.Copiers.{GoesOwing, IsItsNext, copier_left, copier_stays}

@@ -2,20 +2,20 @@
 use Rattle.std.specs.Prelude.{Option, Some}
 use Rattle.std.proofs.Common.{◌≡◌, ℕ, Bool, inl, inr, ap, subst}
 use Rattle.seize_acts.specs.Given.Seize.World.{World, Rests}
-use Rattle.papaya_acts.specs.Given.Tables.declared.node.Node.{Node}
-use Rattle.papaya_acts.specs.Given.Tables.declared.resize_mode.ResizeMode.{ResizeMode}
-use Rattle.papaya_acts.specs.Given.Resize.declared.copier.Copier.{Copier}
-use Rattle.papaya_acts.specs.Given.Sweeps.declared.sweep.Sweeping.{Sweeping}
-use Rattle.papaya_acts.specs.Given.Sweeps.declared.sweep.Sweeping.TheVariants as sweeping
-use Rattle.papaya_acts.specs.Given.Rule.Chart.{Chart}
-use Rattle.papaya_acts.specs.Given.Late.FactsSweeps.{CopiesTable, SweepingFacts}
-use Rattle.papaya_acts.specs.Given.Late.ToldSweeps.{OnlyRemoves}
-use Rattle.papaya_acts.specs.Given.Callers.OverAll.{CallOverAll, come_to}
-use Rattle.papaya_acts.specs.Given.Callers.Sights.{seen_by}
-use Rattle.papaya_acts.specs.Given.Callers.Together.{UnderWay, OverAll, KnowsSweep, Stands, in_slot, next_over_all}
-use Rattle.papaya_acts.specs.Given.Finishes.Endings.{Finishing}
-use Rattle.papaya_acts.specs.Given.Finishes.Makings.{Beginning}
-use Rattle.papaya_acts.specs.Given.Finishes.Maps.{Standing}
+use Rattle.papaya_acts.specs.Given.TablesDeclared.node.Node.{Node}
+use Rattle.papaya_acts.specs.Given.TablesDeclared.resize_mode.ResizeMode.{ResizeMode}
+use Rattle.papaya_acts.specs.Given.ResizeDeclared.copier.Copier.{Copier}
+use Rattle.papaya_acts.specs.Given.SweepsDeclared.sweep.Sweeping.{Sweeping}
+use Rattle.papaya_acts.specs.Given.SweepsDeclared.sweep.Sweeping.TheVariants as sweeping
+use Rattle.papaya_acts.specs.Given.RuleChart.{Chart}
+use Rattle.papaya_acts.specs.Given.LateFactsSweeps.{CopiesTable, SweepingFacts}
+use Rattle.papaya_acts.specs.Given.LateToldSweeps.{OnlyRemoves}
+use Rattle.papaya_acts.specs.Given.CallersOverAll.{CallOverAll, come_to}
+use Rattle.papaya_acts.specs.Given.CallersSights.{seen_by}
+use Rattle.papaya_acts.specs.Given.CallersTogether.{UnderWay, OverAll, KnowsSweep, Stands, in_slot, next_over_all}
+use Rattle.papaya_acts.specs.Given.FinishesEndings.{Finishing}
+use Rattle.papaya_acts.specs.Given.FinishesMakings.{Beginning}
+use Rattle.papaya_acts.specs.Given.FinishesMaps.{Standing}
 use Rattle.papaya_carries.specs.Promises.{SweepsKeepTheirs}
 use Rattle.papaya_carries.specs.Theirs.{copier_of_sweep}
 use Rattle.papaya_carries.proofs.Inside.{it_is, sweep_copies, sweep_row, sweep_without}

@@ -1,23 +1,23 @@
 -- The copier within a call is there still once that is told something, or asked for a pair, and such a call is not given up.
 use Rattle.std.specs.Prelude.{Option, Some, None}
 use Rattle.std.proofs.Common.{◌≡◌, Bool, true, false, refl, ap, sym, ◌∙◌}
-use Rattle.papaya_acts.specs.Given.Sweeps.declared.sweep.Sweep.{Sweep}
-use Rattle.papaya_acts.specs.Given.Sweeps.declared.sweep.Sweeping.{Sweeping}
-use Rattle.papaya_acts.specs.Given.Sweeps.declared.sweep.Sweeping.TheVariants as sweeping
-use Rattle.papaya_acts.specs.Given.Sweeps.SweepPoints.{next_at}
-use Rattle.papaya_acts.specs.Given.Resize.declared.copier.Copier.{Copier}
-use Rattle.papaya_acts.specs.Given.Raw.CallAsks.{told_at}
-use Rattle.papaya_acts.specs.Given.Raw.Machine.{is_ready, machine_asked, machine_replied, sweep_told}
-use Rattle.papaya_acts.specs.Given.Raw.declared.machines.asking.Reply.{Reply}
-use Rattle.papaya_acts.specs.Given.Raw.declared.machines.call.Calling.{Calling}
-use Rattle.papaya_acts.specs.Given.Raw.declared.machines.call.Calling.TheVariants as calling
-use Rattle.papaya_acts.specs.Given.Raw.declared.machines.call.KeyCall.{KeyCall}
-use Rattle.papaya_acts.specs.Given.Raw.declared.machines.machine.Machine.{Machine}
-use Rattle.papaya_acts.specs.Given.Raw.declared.machines.machine.Machine.TheVariants as kinds
-use Rattle.papaya_acts.specs.Given.Callers.Together.{UnderWay, OnKey, ForRoom, Counting, OverAll}
-use Rattle.papaya_acts.specs.Given.Finishes.Machines.{machine_of}
+use Rattle.papaya_acts.specs.Given.SweepsDeclared.sweep.Sweep.{Sweep}
+use Rattle.papaya_acts.specs.Given.SweepsDeclared.sweep.Sweeping.{Sweeping}
+use Rattle.papaya_acts.specs.Given.SweepsDeclared.sweep.Sweeping.TheVariants as sweeping
+use Rattle.papaya_acts.specs.Given.SweepsSweepPoints.{next_at}
+use Rattle.papaya_acts.specs.Given.ResizeDeclared.copier.Copier.{Copier}
+use Rattle.papaya_acts.specs.Given.RawCallAsks.{told_at}
+use Rattle.papaya_acts.specs.Given.RawMachine.{is_ready, machine_asked, machine_replied, sweep_told}
+use Rattle.papaya_acts.specs.Given.RawDeclared.machines.asking.Reply.{Reply}
+use Rattle.papaya_acts.specs.Given.RawDeclared.machines.call.Calling.{Calling}
+use Rattle.papaya_acts.specs.Given.RawDeclared.machines.call.Calling.TheVariants as calling
+use Rattle.papaya_acts.specs.Given.RawDeclared.machines.call.KeyCall.{KeyCall}
+use Rattle.papaya_acts.specs.Given.RawDeclared.machines.machine.Machine.{Machine}
+use Rattle.papaya_acts.specs.Given.RawDeclared.machines.machine.Machine.TheVariants as kinds
+use Rattle.papaya_acts.specs.Given.CallersTogether.{UnderWay, OnKey, ForRoom, Counting, OverAll}
+use Rattle.papaya_acts.specs.Given.FinishesMachines.{machine_of}
 use Rattle.papaya_carries.specs.Theirs.{copier_of_call, copier_of_room, copier_of_sweep, copier_of}
-use Rattle.papaya_acts.specs.Given.Scenes.Replying.{unless_stopped}
+use Rattle.papaya_acts.specs.Given.ScenesReplying.{unless_stopped}
 
 -- a sweep that copies asks nothing, and is not ready
 module _ (p : Copier) where

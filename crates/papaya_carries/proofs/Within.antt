@@ -14,27 +14,27 @@ use Rattle.seize_acts.specs.Reclaimed.{IsStillHad}
 use Rattle.seize_acts.proofs.Given.SeizeRule.Rows.Others.{with_here, begins_others, steps_others}
 use Rattle.seize_acts.proofs.Given.SeizeEnds.Batches.Rows.{begins_memory}
 use Rattle.seize_acts.proofs.Given.SeizeAlone.Histories.Reached.{Reached, happens_reached}
-use Rattle.papaya_acts.specs.Given.Tables.Nodes.{deferred_word}
-use Rattle.papaya_acts.specs.Given.Tables.declared.node.Node.{Node}
-use Rattle.papaya_acts.specs.Given.Tables.declared.setting.Setting.{Setting}
-use Rattle.papaya_acts.specs.Given.Tables.declared.table.Table.{Table}
-use Rattle.papaya_acts.specs.Given.Resize.Copier.{copier_plan}
-use Rattle.papaya_acts.specs.Given.Resize.declared.copier.Copier.{Copier}
-use Rattle.papaya_acts.specs.Given.Resize.declared.outcome.Outcome.{Outcome}
-use Rattle.papaya_acts.specs.Given.Points.Told.{IsRowOfCopier}
-use Rattle.papaya_acts.proofs.Given.Rule.World.Hands.{at_cases}
-use Rattle.papaya_acts.specs.Given.Callers.OverAll.{gone_on, row_of_sweep}
-use Rattle.papaya_acts.specs.Given.Callers.Rooms.{CallForRoom, row_of_room}
-use Rattle.papaya_acts.specs.Given.Callers.Rows.{row_of, row_of_copier}
-use Rattle.papaya_acts.specs.Given.Callers.Sights.{seen_by}
-use Rattle.papaya_acts.specs.Given.Callers.Together.{UnderWay, OnKey, ForRoom, OverAll, CallOnKey, HandsOver, IsOneStep, Stands, next_of, next_for_room, next_over_all}
-use Rattle.papaya_acts.proofs.Given.Callers.Rows.Beside.{users_value}
-use Rattle.papaya_acts.proofs.Given.Callers.Together.At.{at_same}
-use Rattle.papaya_acts.proofs.Given.Callers.Together.Came.{came_reached}
-use Rattle.papaya_acts.specs.Given.Finishes.Endings.{Finishing, EndingsTogether}
-use Rattle.papaya_acts.specs.Given.Finishes.Makings.{Beginning}
-use Rattle.papaya_acts.specs.Given.Finishes.Maps.{Standing, IsSameMap, with_call}
-use Rattle.papaya_acts.proofs.Given.Finishes.Beside.Maps.Steps.{no_other}
+use Rattle.papaya_acts.specs.Given.TablesNodes.{deferred_word}
+use Rattle.papaya_acts.specs.Given.TablesDeclared.node.Node.{Node}
+use Rattle.papaya_acts.specs.Given.TablesDeclared.setting.Setting.{Setting}
+use Rattle.papaya_acts.specs.Given.TablesDeclared.table.Table.{Table}
+use Rattle.papaya_acts.specs.Given.ResizeCopier.{copier_plan}
+use Rattle.papaya_acts.specs.Given.ResizeDeclared.copier.Copier.{Copier}
+use Rattle.papaya_acts.specs.Given.ResizeDeclared.outcome.Outcome.{Outcome}
+use Rattle.papaya_acts.specs.Given.PointsTold.{IsRowOfCopier}
+use Rattle.papaya_acts.proofs.Given.RuleWorld.Hands.{at_cases}
+use Rattle.papaya_acts.specs.Given.CallersOverAll.{gone_on, row_of_sweep}
+use Rattle.papaya_acts.specs.Given.CallersRooms.{CallForRoom, row_of_room}
+use Rattle.papaya_acts.specs.Given.CallersRows.{row_of, row_of_copier}
+use Rattle.papaya_acts.specs.Given.CallersSights.{seen_by}
+use Rattle.papaya_acts.specs.Given.CallersTogether.{UnderWay, OnKey, ForRoom, OverAll, CallOnKey, HandsOver, IsOneStep, Stands, next_of, next_for_room, next_over_all}
+use Rattle.papaya_acts.proofs.Given.CallersRows.Beside.{users_value}
+use Rattle.papaya_acts.proofs.Given.CallersTogether.At.{at_same}
+use Rattle.papaya_acts.proofs.Given.CallersTogether.Came.{came_reached}
+use Rattle.papaya_acts.specs.Given.FinishesEndings.{Finishing, EndingsTogether}
+use Rattle.papaya_acts.specs.Given.FinishesMakings.{Beginning}
+use Rattle.papaya_acts.specs.Given.FinishesMaps.{Standing, IsSameMap, with_call}
+use Rattle.papaya_acts.proofs.Given.FinishesBeside.Maps.Steps.{no_other}
 use Rattle.papaya_carries.specs.Promises.{RowsKeepTheirs, RoomRowsKeepTheirs, SweepRowsKeepTheirs}
 use Rattle.papaya_carries.specs.Theirs.{IsDueAt, copier_of_call, copier_of_room, copier_of_sweep, copier_of, IsToHandOver, AllAreTheirs}
 use Rattle.papaya_carries.proofs.FirstSteps.{row_retires, row_defers}

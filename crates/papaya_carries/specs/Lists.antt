@@ -9,17 +9,17 @@ use Rattle.seize_acts.specs.Given.Seize.declared.rows.settle.Settled.{Settled}
 use Rattle.seize_acts.specs.Given.Seize.declared.rows.settle.Settled.TheVariants as settled
 use Rattle.seize_acts.specs.Given.Seize.declared.states.TheConstants.{HEAD}
 use Rattle.seize_acts.specs.Answers.{Grant}
-use Rattle.papaya_acts.specs.Given.Tables.declared.node.Node.{Node}
-use Rattle.papaya_acts.specs.Given.Reclaims.Deferred.{OnlyPairsWait}
-use Rattle.papaya_acts.specs.Given.Reclaims.Reclaims.{AllIsReclaimed}
-use Rattle.papaya_acts.specs.Given.Reclaims.Slots.{AllRest, IsQuiet}
+use Rattle.papaya_acts.specs.Given.TablesDeclared.node.Node.{Node}
+use Rattle.papaya_acts.specs.Given.ReclaimsDeferred.{OnlyPairsWait}
+use Rattle.papaya_acts.specs.Given.ReclaimsReclaims.{AllIsReclaimed}
+use Rattle.papaya_acts.specs.Given.ReclaimsSlots.{AllRest, IsQuiet}
 use Rattle.papaya_acts.specs.Acts.{Act, Answer}
 use Rattle.papaya_acts.specs.Doings.{Doing, StepsReclaiming, MayDo, reclaiming}
 use Rattle.papaya_acts.specs.Leads.{MayBe, AllStand, Led}
 use Rattle.papaya_acts.specs.Lists.{Course, Reached, LedTo, on_by}
 use Rattle.papaya_acts.specs.Reclaiming.{IsReclaimingAll, ReclaimedOn}
 use Rattle.papaya_carries.specs.Theirs.{AllAreTheirs}
-use Rattle.papaya_acts.specs.Given.Scenes.Scene.{Scene}
+use Rattle.papaya_acts.specs.Given.ScenesScene.{Scene}
 
 -- all that a scene has is somebody's
 abbrev pub AreTheirs : {K V : Type 0} → Scene K V → Type 0

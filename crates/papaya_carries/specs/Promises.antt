@@ -9,34 +9,34 @@ use Rattle.seize_acts.specs.Given.Seize.declared.rows.reclaim_all.ReclaimAll.{Re
 use Rattle.seize_acts.specs.Given.Seize.declared.rows.reclaim_all.Reclaiming.{Reclaiming}
 use Rattle.seize_acts.specs.Given.Seize.declared.rows.settle.Settled.{Settled}
 use Rattle.seize_acts.specs.Reclaimed.{IsStillHad}
-use Rattle.papaya_acts.specs.Given.Tables.Nodes.{deferred_word}
-use Rattle.papaya_acts.specs.Given.Tables.declared.node.Node.{Node}
-use Rattle.papaya_acts.specs.Given.Tables.declared.setting.Setting.{Setting}
-use Rattle.papaya_acts.specs.Given.Resize.declared.new_map.NewMap.{NewMap}
-use Rattle.papaya_acts.specs.Given.Resize.declared.outcome.Outcome.{Outcome}
-use Rattle.papaya_acts.specs.Given.Reserves.Reserve.{reserve_plan}
-use Rattle.papaya_acts.specs.Given.Reserves.declared.reserve.Reserve.{Reserve}
-use Rattle.papaya_acts.specs.Given.Sweeps.Sweep.{sweep_plan}
-use Rattle.papaya_acts.specs.Given.Sweeps.declared.sweep.Sweep.{Sweep}
-use Rattle.papaya_acts.specs.Given.Sweeps.declared.sweep.Swept.{Swept}
-use Rattle.papaya_acts.specs.Given.Raw.Call.{call_plan}
-use Rattle.papaya_acts.specs.Given.Raw.declared.machines.answer.Called.{Called}
-use Rattle.papaya_acts.specs.Given.Raw.declared.machines.call.KeyCall.{KeyCall}
-use Rattle.papaya_acts.specs.Given.Raw.declared.machines.end_map.EndMap.{EndMap}
-use Rattle.papaya_acts.specs.Given.Points.Told.{IsRowOfCall}
-use Rattle.papaya_acts.specs.Given.Late.ToldReserves.{IsRowOfReserve}
-use Rattle.papaya_acts.specs.Given.Late.ToldSweeps.{IsRowOfSweep}
-use Rattle.papaya_acts.specs.Given.Callers.OverAll.{CallOverAll, come_to, gone_on}
-use Rattle.papaya_acts.specs.Given.Callers.Rooms.{CallForRoom}
-use Rattle.papaya_acts.specs.Given.Callers.Together.{UnderWay, OnKey, ForRoom, OverAll, CallOnKey, IsOfSlots, next_of, next_for_room, next_over_all, change_told}
-use Rattle.papaya_acts.specs.Given.Finishes.Endings.{Finishing, finishing_of, HasFinished, EndingsTogether, StepsAmong, RowStepsAmong, StepsOfEnding}
-use Rattle.papaya_acts.specs.Given.Finishes.Makings.{Beginning, IsMade, StepsOfMaking}
-use Rattle.papaya_acts.specs.Given.Finishes.Maps.{Standing, IsSameMap, MapsTogether, with_call}
-use Rattle.papaya_acts.specs.Given.Finishes.Rooms.{RoomRowsAmong, RoomStepsAmong}
-use Rattle.papaya_acts.specs.Given.Finishes.Sweeps.{SweepRowsAmong, SweepStepsAmong}
-use Rattle.papaya_acts.specs.Given.Reclaims.Deferred.{OnlyPairsWait, OnlyTheyCarry}
-use Rattle.papaya_acts.specs.Given.Reclaims.Left.{GoesOnBy}
-use Rattle.papaya_acts.specs.Given.Reclaims.Reclaims.{AllIsReclaimed, AllStandIdle, StepsOfReclaiming}
+use Rattle.papaya_acts.specs.Given.TablesNodes.{deferred_word}
+use Rattle.papaya_acts.specs.Given.TablesDeclared.node.Node.{Node}
+use Rattle.papaya_acts.specs.Given.TablesDeclared.setting.Setting.{Setting}
+use Rattle.papaya_acts.specs.Given.ResizeDeclared.new_map.NewMap.{NewMap}
+use Rattle.papaya_acts.specs.Given.ResizeDeclared.outcome.Outcome.{Outcome}
+use Rattle.papaya_acts.specs.Given.ReservesReserve.{reserve_plan}
+use Rattle.papaya_acts.specs.Given.ReservesDeclared.reserve.Reserve.{Reserve}
+use Rattle.papaya_acts.specs.Given.SweepsSweep.{sweep_plan}
+use Rattle.papaya_acts.specs.Given.SweepsDeclared.sweep.Sweep.{Sweep}
+use Rattle.papaya_acts.specs.Given.SweepsDeclared.sweep.Swept.{Swept}
+use Rattle.papaya_acts.specs.Given.RawCall.{call_plan}
+use Rattle.papaya_acts.specs.Given.RawDeclared.machines.answer.Called.{Called}
+use Rattle.papaya_acts.specs.Given.RawDeclared.machines.call.KeyCall.{KeyCall}
+use Rattle.papaya_acts.specs.Given.RawDeclared.machines.end_map.EndMap.{EndMap}
+use Rattle.papaya_acts.specs.Given.PointsTold.{IsRowOfCall}
+use Rattle.papaya_acts.specs.Given.LateToldReserves.{IsRowOfReserve}
+use Rattle.papaya_acts.specs.Given.LateToldSweeps.{IsRowOfSweep}
+use Rattle.papaya_acts.specs.Given.CallersOverAll.{CallOverAll, come_to, gone_on}
+use Rattle.papaya_acts.specs.Given.CallersRooms.{CallForRoom}
+use Rattle.papaya_acts.specs.Given.CallersTogether.{UnderWay, OnKey, ForRoom, OverAll, CallOnKey, IsOfSlots, next_of, next_for_room, next_over_all, change_told}
+use Rattle.papaya_acts.specs.Given.FinishesEndings.{Finishing, finishing_of, HasFinished, EndingsTogether, StepsAmong, RowStepsAmong, StepsOfEnding}
+use Rattle.papaya_acts.specs.Given.FinishesMakings.{Beginning, IsMade, StepsOfMaking}
+use Rattle.papaya_acts.specs.Given.FinishesMaps.{Standing, IsSameMap, MapsTogether, with_call}
+use Rattle.papaya_acts.specs.Given.FinishesRooms.{RoomRowsAmong, RoomStepsAmong}
+use Rattle.papaya_acts.specs.Given.FinishesSweeps.{SweepRowsAmong, SweepStepsAmong}
+use Rattle.papaya_acts.specs.Given.ReclaimsDeferred.{OnlyPairsWait, OnlyTheyCarry}
+use Rattle.papaya_acts.specs.Given.ReclaimsLeft.{GoesOnBy}
+use Rattle.papaya_acts.specs.Given.ReclaimsReclaims.{AllIsReclaimed, AllStandIdle, StepsOfReclaiming}
 use Rattle.papaya_carries.specs.Theirs.{Owes, AllAreTheirs}
 
 module _ {K Q : Type 0} (V : Type 0) (same : K → K → Bool) (asks : Q → K → Bool) (batch_size roots : ℕ) (slot : ℕ → ℕ)

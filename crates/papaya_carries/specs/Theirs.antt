@@ -5,22 +5,22 @@ use Rattle.seize_acts.specs.Given.SeizeWords.Mem.{value_at}
 use Rattle.seize_acts.specs.Given.Seize.Settle.{retiring}
 use Rattle.seize_acts.specs.Given.Seize.World.{World, Rests, times}
 use Rattle.seize_acts.specs.Reclaimed.{IsStillHad}
-use Rattle.papaya_acts.specs.Given.Tables.Chunks.{is_incremental}
-use Rattle.papaya_acts.specs.Given.Tables.Nodes.{deferred_word}
-use Rattle.papaya_acts.specs.Given.Tables.declared.node.Node.{Node}
-use Rattle.papaya_acts.specs.Given.Resize.declared.copier.Copier.{Copier}
-use Rattle.papaya_acts.specs.Given.Resize.declared.copier.Copying.{Copying}
-use Rattle.papaya_acts.specs.Given.Resize.declared.copier.Copying.TheVariants as copies
-use Rattle.papaya_acts.specs.Given.Reserves.declared.reserve.Reserving.{Reserving}
-use Rattle.papaya_acts.specs.Given.Reserves.declared.reserve.Reserving.TheVariants as reserving
-use Rattle.papaya_acts.specs.Given.Sweeps.declared.sweep.Sweeping.{Sweeping}
-use Rattle.papaya_acts.specs.Given.Sweeps.declared.sweep.Sweeping.TheVariants as sweeping
-use Rattle.papaya_acts.specs.Given.Raw.declared.machines.call.Calling.{Calling}
-use Rattle.papaya_acts.specs.Given.Raw.declared.machines.call.Calling.TheVariants as calling
-use Rattle.papaya_acts.specs.Given.Callers.Together.{UnderWay, OnKey, ForRoom, Counting, OverAll}
-use Rattle.papaya_acts.specs.Given.Finishes.Endings.{Finishing}
-use Rattle.papaya_acts.specs.Given.Finishes.Maps.{Standing}
-use Rattle.papaya_acts.specs.Given.Reclaims.Deferred.{IsLinkedTable}
+use Rattle.papaya_acts.specs.Given.TablesChunks.{is_incremental}
+use Rattle.papaya_acts.specs.Given.TablesNodes.{deferred_word}
+use Rattle.papaya_acts.specs.Given.TablesDeclared.node.Node.{Node}
+use Rattle.papaya_acts.specs.Given.ResizeDeclared.copier.Copier.{Copier}
+use Rattle.papaya_acts.specs.Given.ResizeDeclared.copier.Copying.{Copying}
+use Rattle.papaya_acts.specs.Given.ResizeDeclared.copier.Copying.TheVariants as copies
+use Rattle.papaya_acts.specs.Given.ReservesDeclared.reserve.Reserving.{Reserving}
+use Rattle.papaya_acts.specs.Given.ReservesDeclared.reserve.Reserving.TheVariants as reserving
+use Rattle.papaya_acts.specs.Given.SweepsDeclared.sweep.Sweeping.{Sweeping}
+use Rattle.papaya_acts.specs.Given.SweepsDeclared.sweep.Sweeping.TheVariants as sweeping
+use Rattle.papaya_acts.specs.Given.RawDeclared.machines.call.Calling.{Calling}
+use Rattle.papaya_acts.specs.Given.RawDeclared.machines.call.Calling.TheVariants as calling
+use Rattle.papaya_acts.specs.Given.CallersTogether.{UnderWay, OnKey, ForRoom, Counting, OverAll}
+use Rattle.papaya_acts.specs.Given.FinishesEndings.{Finishing}
+use Rattle.papaya_acts.specs.Given.FinishesMaps.{Standing}
+use Rattle.papaya_acts.specs.Given.ReclaimsDeferred.{IsLinkedTable}
 
 -- a copier is to hand this block over next: it has unlinked that table
 abbrev pub IsDueAt : Copier → Copying → ℕ → Type 0

@@ -1,11 +1,11 @@
 //! What is promised of the blocks that users have, and behind which something may be put.
 ghost use Rattle.std.specs.Prelude.{ℕ, Bool, Option};
 ghost use Rattle.seize_acts.specs.Given.Seize.World.{World};
-ghost use Rattle.papaya_acts.specs.Given.Tables.declared.node.Node.{Node};
-ghost use Rattle.papaya_acts.specs.Given.Callers.Together.{UnderWay};
-ghost use Rattle.papaya_acts.specs.Given.Finishes.Endings.{Finishing};
-ghost use Rattle.papaya_acts.specs.Given.Finishes.Makings.{Beginning};
-ghost use Rattle.papaya_acts.specs.Given.Finishes.Maps.{Standing};
+ghost use Rattle.papaya_acts.specs.Given.TablesDeclared.node.Node.{Node};
+ghost use Rattle.papaya_acts.specs.Given.CallersTogether.{UnderWay};
+ghost use Rattle.papaya_acts.specs.Given.FinishesEndings.{Finishing};
+ghost use Rattle.papaya_acts.specs.Given.FinishesMakings.{Beginning};
+ghost use Rattle.papaya_acts.specs.Given.FinishesMaps.{Standing};
 ghost use Rattle.papaya_acts.specs.Doings.{ActsLeaveIt};
 ghost use Rattle.papaya_acts.specs.Lists.{Course};
 ghost use Rattle.papaya_carries.specs.Lists.{ActsKeepTheirs, AllCanBeReclaimedThere, ListsKeepTheirs, ListsReclaimAll, OnlyPairsWaitBehind, OnlyPairsWaitThere, ReclaimingBeginsThere, ReclaimingComesToEnd};

@@ -1,19 +1,19 @@
 -- What a caller begins in an executor, as what it wants of a map.
 use Rattle.std.specs.Prelude.{◌≡◌, ℕ, Bool, [], None}
 use Rattle.std.proofs.Common.{refl, sym, ap, ◌∙◌}
-use Rattle.papaya_agrees.specs.Given.Raw.declared.machines.call.KeyCall.{KeyCall}
-use Rattle.papaya_agrees.specs.Given.Raw.CallAsks.{removing_if}
-use Rattle.papaya_agrees.specs.Given.Raw.CallPoints.{getting, removing}
-use Rattle.papaya_reclaiming.specs.Given.Rule.Maps.{IsClass}
-use Rattle.papaya_reclaiming.specs.Given.Points.Steps.{AreLawful}
-use Rattle.papaya_reclaiming.specs.Given.Callers.Kind.{gets, removes, removes_if}
-use Rattle.papaya_reclaiming.specs.Given.Callers.Pairs.{Given, Begun, IsTold}
-use Rattle.papaya_reclaiming.specs.Given.Callers.Together.{UnderWay, OnKey, ForRoom, Counting, OverAll, IsBegun}
-use Rattle.papaya_reclaiming.specs.Given.Callers.Together as begins
-use Rattle.papaya_reclaiming.specs.Given.Finishes.Maps.{Standing}
-use Rattle.papaya_agrees.specs.Given.Acts.Acts.{Wanted, Get, Remove, Insert, TryToInsert, Compute, Update, UpdateOrInsert, TryToInsertWith, RemoveIf, MakeRoom, Count, GoOver, its, on_key, begun}
-use Rattle.papaya_reclaiming.specs.Given.Scenes.Beginning.{Begins}
-use Rattle.papaya_reclaiming.specs.Given.Scenes.Scene.{slot_of}
+use Rattle.papaya_agrees.specs.Given.RawDeclared.machines.call.KeyCall.{KeyCall}
+use Rattle.papaya_agrees.specs.Given.RawCallAsks.{removing_if}
+use Rattle.papaya_agrees.specs.Given.RawCallPoints.{getting, removing}
+use Rattle.papaya_reclaiming.specs.Given.RuleMaps.{IsClass}
+use Rattle.papaya_reclaiming.specs.Given.PointsSteps.{AreLawful}
+use Rattle.papaya_reclaiming.specs.Given.CallersKind.{gets, removes, removes_if}
+use Rattle.papaya_reclaiming.specs.Given.CallersPairs.{Given, Begun, IsTold}
+use Rattle.papaya_reclaiming.specs.Given.CallersTogether.{UnderWay, OnKey, ForRoom, Counting, OverAll, IsBegun}
+use Rattle.papaya_reclaiming.specs.Given.CallersTogether as begins
+use Rattle.papaya_reclaiming.specs.Given.FinishesMaps.{Standing}
+use Rattle.papaya_agrees.specs.Given.ActsActs.{Wanted, Get, Remove, Insert, TryToInsert, Compute, Update, UpdateOrInsert, TryToInsertWith, RemoveIf, MakeRoom, Count, GoOver, its, on_key, begun}
+use Rattle.papaya_reclaiming.specs.Given.ScenesBeginning.{Begins}
+use Rattle.papaya_reclaiming.specs.Given.ScenesScene.{slot_of}
 
 -- what a call is asked with that stands for the class of a key
 code_is : {K : Type 0} (same : K → K → Bool) (s : Standing K) → AreLawful same s.hash → (q : K) (code : ℕ) → IsClass same s.hash (same q) code → s.hash q ≡ code

@@ -3,78 +3,78 @@ use Rattle.std.specs.Prelude.{◌≡◌, ℕ, Bool, true, false, [], ◌∷◌, 
 use Rattle.std.specs.Option.{is_none, option_map_or}
 use Rattle.std.specs.Result.{is_err}
 use Rattle.std.proofs.Common.{refl, sym, ap, subst, ◌∙◌}
-use Rattle.papaya_reclaiming.specs.Given.SeizeWords.Mem.{Mem, Can, Took, value_at}
-use Rattle.papaya_reclaiming.specs.Given.SeizeWords.Plan.{Plan, May, Steps}
-use Rattle.papaya_reclaiming.specs.Given.Seize.Enter.{enter_plan, unregister_plan}
-use Rattle.papaya_reclaiming.specs.Given.Seize.Law.{Entered}
-use Rattle.papaya_reclaiming.specs.Given.Seize.Leave.{leave_plan}
-use Rattle.papaya_reclaiming.specs.Given.Seize.Register.{register_plan}
-use Rattle.papaya_reclaiming.specs.Given.Seize.Settle.{settle_plan}
-use Rattle.papaya_reclaiming.specs.Given.Seize.World.{MayStep, Rests, Row, Steps', World, with_at}
-use Rattle.papaya_reclaiming.specs.Given.Seize.World as world
-use Rattle.papaya_reclaiming.specs.Given.Seize.declared.rows.leave.Leave.{Leave}
-use Rattle.papaya_reclaiming.specs.Given.Seize.declared.rows.register.Register.{Register}
-use Rattle.papaya_reclaiming.specs.Given.Seize.declared.rows.settle.Settle.{Settle}
-use Rattle.papaya_reclaiming.specs.Given.Seize.declared.progress.Progress.{Progress}
-use Rattle.papaya_reclaiming.specs.Given.Seize.declared.progress.Progress.TheVariants as progress
-use Rattle.papaya_reclaiming.specs.Given.Seize.declared.rows.settle.Settled.{Settled}
-use Rattle.papaya_reclaiming.specs.Given.Seize.declared.rows.settle.Settled.TheVariants as settled
-use Rattle.papaya_reclaiming.specs.Given.SeizeActs.Acts.{row_steps}
-use Rattle.papaya_reclaiming.proofs.Given.SeizeActs.Answers.{was_stepped}
-use Rattle.papaya_reclaiming.specs.Given.SeizeActs.Answers.{Grant, stepped, then_on}
-use Rattle.papaya_reclaiming.proofs.Given.SeizeRule.World.Kept.{rows_may}
-use Rattle.papaya_agrees.specs.Given.Tables.Nodes.{deferred_word}
-use Rattle.papaya_agrees.specs.Given.Tables.declared.node.Node.{Node}
-use Rattle.papaya_agrees.specs.Given.Tables.declared.setting.Setting.{Setting}
-use Rattle.papaya_reclaiming.specs.Given.Resize.NewMap.{new_map_plan}
-use Rattle.papaya_reclaiming.specs.Given.Resize.declared.new_map.NewMap.{NewMap}
-use Rattle.papaya_agrees.specs.Given.Raw.EndMap.{end_map_plan}
-use Rattle.papaya_agrees.specs.Given.Raw.Machine.{machine_asked, machine_plan, machine_replied}
-use Rattle.papaya_agrees.specs.Given.Raw.declared.machines.asking.Reply.{Reply}
-use Rattle.papaya_agrees.specs.Given.Raw.declared.machines.end_map.EndMap.{EndMap}
-use Rattle.papaya_agrees.specs.Given.Raw.declared.machines.machine.Machine.{Machine}
-use Rattle.papaya_agrees.specs.Given.Raw.declared.machines.progress.Progress.{Progress as CallProgress}
-use Rattle.papaya_reclaiming.specs.Given.Teller.Tells.{StepsTold}
-use Rattle.papaya_reclaiming.specs.Given.Teller.declared.changed.Changed.TheVariants.{Nothing as NoChange}
-use Rattle.papaya_reclaiming.specs.Given.Callers.Together.{Closes, Counting, ForRoom, OnKey, OverAll, UnderWay, UnlessCounts}
-use Rattle.papaya_reclaiming.specs.Given.Finishes.Endings.{EndingsTogether, Finishing, MakingStepsAmong, StepsOfEnding}
-use Rattle.papaya_reclaiming.specs.Given.Finishes.Machines.{machine_of}
-use Rattle.papaya_reclaiming.specs.Given.Finishes.Makings.{Beginning}
-use Rattle.papaya_reclaiming.specs.Given.Finishes.Maps.{Standing, with_call}
-use Rattle.papaya_reclaiming.specs.Given.Executor.declared.executor.Executor.{Executor}
-use Rattle.papaya_agrees.specs.Given.Acts.Acts.{Act, Answer, Nothing, OfCall, OfReply, OfAsking, OfMaking, OfEnding, BeginsCall, StepsCall, TellsCall, AsksCall, StopsCall, BeginsMaking, StepsMaking, BeginsEnding, StepsEnding, BeginsRow, StepsRow, begun}
-use Rattle.papaya_agrees.specs.Given.Acts.AsSteps.{IsOwn, changed_of, row_changed}
+use Rattle.papaya_reclaiming.specs.Given.SeizeWordsMem.{Mem, Can, Took, value_at}
+use Rattle.papaya_reclaiming.specs.Given.SeizeWordsPlan.{Plan, May, Steps}
+use Rattle.papaya_reclaiming.specs.Given.SeizeEnter.{enter_plan, unregister_plan}
+use Rattle.papaya_reclaiming.specs.Given.SeizeLaw.{Entered}
+use Rattle.papaya_reclaiming.specs.Given.SeizeLeave.{leave_plan}
+use Rattle.papaya_reclaiming.specs.Given.SeizeRegister.{register_plan}
+use Rattle.papaya_reclaiming.specs.Given.SeizeSettle.{settle_plan}
+use Rattle.papaya_reclaiming.specs.Given.SeizeWorld.{MayStep, Rests, Row, Steps', World, with_at}
+use Rattle.papaya_reclaiming.specs.Given.SeizeWorld as world
+use Rattle.papaya_reclaiming.specs.Given.SeizeDeclared.rows.leave.Leave.{Leave}
+use Rattle.papaya_reclaiming.specs.Given.SeizeDeclared.rows.register.Register.{Register}
+use Rattle.papaya_reclaiming.specs.Given.SeizeDeclared.rows.settle.Settle.{Settle}
+use Rattle.papaya_reclaiming.specs.Given.SeizeDeclared.progress.Progress.{Progress}
+use Rattle.papaya_reclaiming.specs.Given.SeizeDeclared.progress.Progress.TheVariants as progress
+use Rattle.papaya_reclaiming.specs.Given.SeizeDeclared.rows.settle.Settled.{Settled}
+use Rattle.papaya_reclaiming.specs.Given.SeizeDeclared.rows.settle.Settled.TheVariants as settled
+use Rattle.papaya_reclaiming.specs.Given.SeizeActsActs.{row_steps}
+use Rattle.papaya_reclaiming.proofs.Given.SeizeActsAnswers.{was_stepped}
+use Rattle.papaya_reclaiming.specs.Given.SeizeActsAnswers.{Grant, stepped, then_on}
+use Rattle.papaya_reclaiming.proofs.Given.SeizeRuleWorld.Kept.{rows_may}
+use Rattle.papaya_agrees.specs.Given.TablesNodes.{deferred_word}
+use Rattle.papaya_agrees.specs.Given.TablesDeclared.node.Node.{Node}
+use Rattle.papaya_agrees.specs.Given.TablesDeclared.setting.Setting.{Setting}
+use Rattle.papaya_reclaiming.specs.Given.ResizeNewMap.{new_map_plan}
+use Rattle.papaya_reclaiming.specs.Given.ResizeDeclared.new_map.NewMap.{NewMap}
+use Rattle.papaya_agrees.specs.Given.RawEndMap.{end_map_plan}
+use Rattle.papaya_agrees.specs.Given.RawMachine.{machine_asked, machine_plan, machine_replied}
+use Rattle.papaya_agrees.specs.Given.RawDeclared.machines.asking.Reply.{Reply}
+use Rattle.papaya_agrees.specs.Given.RawDeclared.machines.end_map.EndMap.{EndMap}
+use Rattle.papaya_agrees.specs.Given.RawDeclared.machines.machine.Machine.{Machine}
+use Rattle.papaya_agrees.specs.Given.RawDeclared.machines.progress.Progress.{Progress as CallProgress}
+use Rattle.papaya_reclaiming.specs.Given.TellerTells.{StepsTold}
+use Rattle.papaya_reclaiming.specs.Given.TellerDeclared.changed.Changed.TheVariants.{Nothing as NoChange}
+use Rattle.papaya_reclaiming.specs.Given.CallersTogether.{Closes, Counting, ForRoom, OnKey, OverAll, UnderWay, UnlessCounts}
+use Rattle.papaya_reclaiming.specs.Given.FinishesEndings.{EndingsTogether, Finishing, MakingStepsAmong, StepsOfEnding}
+use Rattle.papaya_reclaiming.specs.Given.FinishesMachines.{machine_of}
+use Rattle.papaya_reclaiming.specs.Given.FinishesMakings.{Beginning}
+use Rattle.papaya_reclaiming.specs.Given.FinishesMaps.{Standing, with_call}
+use Rattle.papaya_reclaiming.specs.Given.ExecutorDeclared.executor.Executor.{Executor}
+use Rattle.papaya_agrees.specs.Given.ActsActs.{Act, Answer, Nothing, OfCall, OfReply, OfAsking, OfMaking, OfEnding, BeginsCall, StepsCall, TellsCall, AsksCall, StopsCall, BeginsMaking, StepsMaking, BeginsEnding, StepsEnding, BeginsRow, StepsRow, begun}
+use Rattle.papaya_agrees.specs.Given.ActsAsSteps.{IsOwn, changed_of, row_changed}
 use Rattle.papaya_drives.specs.Executors.{IsAct, AreSteps, Computes, IsComputed, RowIsComputed, CallsAreActs, OthersAreActs, ExecutorsAct}
-use Rattle.papaya_agrees.specs.Given.Acts.Leads.{AllStand, EndingCame, Led, MakingCame, MayBe, asked_on, call_at, call_steps, ending_steps, making_steps}
-use Rattle.papaya_agrees.specs.Given.Acts.Lists.{AllMayStep}
+use Rattle.papaya_agrees.specs.Given.ActsLeads.{AllStand, EndingCame, Led, MakingCame, MayBe, asked_on, call_at, call_steps, ending_steps, making_steps}
+use Rattle.papaya_agrees.specs.Given.ActsLists.{AllMayStep}
 use Rattle.papaya_drives.proofs.Begins.{wants}
 use Rattle.papaya_drives.proofs.May.{at_rest, begun_there, few_with, is_entered, is_free, no_map_yet, none_makes_it, slots_alone, unless_to_count}
 use Rattle.papaya_drives.proofs.Told.{steps_once, told_so}
 use Rattle.papaya_drives.proofs.Wherever.{wherever}
-use Rattle.papaya_agrees.proofs.Given.Acts.AsSteps.Calls.{begins_so}
-use Rattle.papaya_agrees.proofs.Given.Acts.Calls.{as_it_was, asked_machine, asked_stands, refused_same, told_nothing}
-use Rattle.papaya_agrees.proofs.Given.Acts.Courses.{both_at}
-use Rattle.papaya_agrees.proofs.Given.Acts.Lists.{all_may_step}
-use Rattle.papaya_reclaiming.specs.Given.Executor.Ending.{EndsThere}
-use Rattle.papaya_reclaiming.specs.Given.Executor.declared.worker.Work.{Work}
-use Rattle.papaya_reclaiming.specs.Given.Executor.declared.worker.Work.TheVariants as work
-use Rattle.papaya_reclaiming.specs.Given.Executor.IsThere.{IsThere, StaysGiven, call_in, held_by, work_of}
-use Rattle.papaya_reclaiming.specs.Given.Executor.OnSlots.{MayBegin, NobodyIn, RowStepsThere}
-use Rattle.papaya_reclaiming.specs.Given.Executor.Making.{MakesThere}
-use Rattle.papaya_reclaiming.specs.Given.Executor.Replying.{RepliesThere}
-use Rattle.papaya_reclaiming.specs.Given.Executor.Stepping.{StepsThere}
-use Rattle.papaya_reclaiming.specs.Given.Scenes.Ending.{EndingComesToThere}
-use Rattle.papaya_reclaiming.specs.Given.Scenes.Making.{MakingComesToThere}
-use Rattle.papaya_reclaiming.specs.Given.Scenes.OnSlots.{RowSteps}
-use Rattle.papaya_reclaiming.specs.Given.Scenes.Replying.{scene_with, unless_stopped}
-use Rattle.papaya_reclaiming.specs.Given.Scenes.Rows.{request_of}
-use Rattle.papaya_reclaiming.proofs.Given.Scenes.NoCall.{none_of}
-use Rattle.papaya_reclaiming.specs.Given.Scenes.declared.row.RowTold.{RowTold}
-use Rattle.papaya_reclaiming.specs.Given.Scenes.declared.row.SlotCall.{SlotCall}
-use Rattle.papaya_reclaiming.specs.Given.Scenes.declared.row.SlotCall.TheVariants as call
-use Rattle.papaya_reclaiming.specs.Given.Scenes.declared.row.SlotRow.{SlotRow}
-use Rattle.papaya_reclaiming.specs.Given.Scenes.declared.row.SlotRow.TheVariants as rows
-use Rattle.papaya_reclaiming.specs.Given.Scenes.Scene.{Scene, row_of, slot_of}
+use Rattle.papaya_agrees.proofs.Given.ActsAsSteps.Calls.{begins_so}
+use Rattle.papaya_agrees.proofs.Given.ActsCalls.{as_it_was, asked_machine, asked_stands, refused_same, told_nothing}
+use Rattle.papaya_agrees.proofs.Given.ActsCourses.{both_at}
+use Rattle.papaya_agrees.proofs.Given.ActsLists.{all_may_step}
+use Rattle.papaya_reclaiming.specs.Given.ExecutorEnding.{EndsThere}
+use Rattle.papaya_reclaiming.specs.Given.ExecutorDeclared.worker.Work.{Work}
+use Rattle.papaya_reclaiming.specs.Given.ExecutorDeclared.worker.Work.TheVariants as work
+use Rattle.papaya_reclaiming.specs.Given.ExecutorIsThere.{IsThere, StaysGiven, call_in, held_by, work_of}
+use Rattle.papaya_reclaiming.specs.Given.ExecutorOnSlots.{MayBegin, NobodyIn, RowStepsThere}
+use Rattle.papaya_reclaiming.specs.Given.ExecutorMaking.{MakesThere}
+use Rattle.papaya_reclaiming.specs.Given.ExecutorReplying.{RepliesThere}
+use Rattle.papaya_reclaiming.specs.Given.ExecutorStepping.{StepsThere}
+use Rattle.papaya_reclaiming.specs.Given.ScenesEnding.{EndingComesToThere}
+use Rattle.papaya_reclaiming.specs.Given.ScenesMaking.{MakingComesToThere}
+use Rattle.papaya_reclaiming.specs.Given.ScenesOnSlots.{RowSteps}
+use Rattle.papaya_reclaiming.specs.Given.ScenesReplying.{scene_with, unless_stopped}
+use Rattle.papaya_reclaiming.specs.Given.ScenesRows.{request_of}
+use Rattle.papaya_reclaiming.proofs.Given.ScenesNoCall.{none_of}
+use Rattle.papaya_reclaiming.specs.Given.ScenesDeclared.row.RowTold.{RowTold}
+use Rattle.papaya_reclaiming.specs.Given.ScenesDeclared.row.SlotCall.{SlotCall}
+use Rattle.papaya_reclaiming.specs.Given.ScenesDeclared.row.SlotCall.TheVariants as call
+use Rattle.papaya_reclaiming.specs.Given.ScenesDeclared.row.SlotRow.{SlotRow}
+use Rattle.papaya_reclaiming.specs.Given.ScenesDeclared.row.SlotRow.TheVariants as rows
+use Rattle.papaya_reclaiming.specs.Given.ScenesScene.{Scene, row_of, slot_of}
 
 -- the memory after a step of a row
 registers_memory : {T : Type 0} (w : World T) (i : ℕ) (c : Register) (m : Mem T) (end : Register × Progress ℕ) → (world.registers_on w i c m end).memory ≡ m

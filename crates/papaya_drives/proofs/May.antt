@@ -4,27 +4,27 @@ use Rattle.std.specs.Option.{is_none}
 use Rattle.std.proofs.Common.{◌≡◌, ℕ, Bool, true, false, inl, inr, refl, sym, ap, subst, arith, ◌∙◌}
 use Rattle.std.proofs.lemmas.Bool.{cases_eq}
 use Rattle.std.proofs.lemmas.List.{get_or_past}
-use Rattle.papaya_reclaiming.specs.Given.Seize.World.{Begins, Use, Vacant, Outside, Inside, Changing, IsTaken, World, with_at}
-use Rattle.papaya_reclaiming.specs.Given.SeizeActs.Acts.{begun as row_begun, is_inside, is_outside, is_taken, is_within, rests}
-use Rattle.papaya_reclaiming.specs.Given.SeizeActs.Answers.{given}
-use Rattle.papaya_reclaiming.specs.Given.Callers.Together.{HasCall, IsOfSlots, UnderWay}
-use Rattle.papaya_reclaiming.proofs.Given.Callers.Together.At.{at_other, at_same}
-use Rattle.papaya_reclaiming.specs.Given.Finishes.Machines.{machine_of}
-use Rattle.papaya_reclaiming.specs.Given.Finishes.Makings.{Beginning}
-use Rattle.papaya_reclaiming.specs.Given.Finishes.Maps.{with_call}
-use Rattle.papaya_reclaiming.proofs.Given.Scenes.NoCall.{none_of}
-use Rattle.papaya_reclaiming.specs.Given.Scenes.Replying.{scene_with}
-use Rattle.papaya_reclaiming.specs.Given.Scenes.Rows.{request_of}
-use Rattle.papaya_reclaiming.specs.Given.Scenes.Scene.{Scene, slot_of}
-use Rattle.papaya_reclaiming.specs.Given.Scenes.declared.row.SlotCall.{SlotCall}
-use Rattle.papaya_reclaiming.specs.Given.Scenes.declared.row.SlotCall.TheVariants as call
-use Rattle.papaya_reclaiming.specs.Given.Scenes.declared.row.SlotUse.{SlotUse}
-use Rattle.papaya_reclaiming.specs.Given.Scenes.declared.row.SlotUse.TheVariants as used
-use Rattle.papaya_reclaiming.specs.Given.Executor.declared.executor.Executor.{Executor}
-use Rattle.papaya_reclaiming.specs.Given.Executor.declared.worker.Work.{Work}
-use Rattle.papaya_reclaiming.specs.Given.Executor.IsThere.{HasRow, IsThere, IsUsedAs, call_in, ending_in, making_in, use_at, work_of}
-use Rattle.papaya_agrees.specs.Given.Acts.Acts.{UnlessToCount, Wanted, Get, Remove, Insert, TryToInsert, Compute, Update, UpdateOrInsert, TryToInsertWith, RemoveIf, GetKeyValue, ContainsKey, GetOrInsert, GetOrInsertWith, RemoveEntry, MakeRoom, Count, GoOver}
-use Rattle.papaya_agrees.specs.Given.Acts.Leads.{AllStand, AreFewWith, IsFree}
+use Rattle.papaya_reclaiming.specs.Given.SeizeWorld.{Begins, Use, Vacant, Outside, Inside, Changing, IsTaken, World, with_at}
+use Rattle.papaya_reclaiming.specs.Given.SeizeActsActs.{begun as row_begun, is_inside, is_outside, is_taken, is_within, rests}
+use Rattle.papaya_reclaiming.specs.Given.SeizeActsAnswers.{given}
+use Rattle.papaya_reclaiming.specs.Given.CallersTogether.{HasCall, IsOfSlots, UnderWay}
+use Rattle.papaya_reclaiming.proofs.Given.CallersTogether.At.{at_other, at_same}
+use Rattle.papaya_reclaiming.specs.Given.FinishesMachines.{machine_of}
+use Rattle.papaya_reclaiming.specs.Given.FinishesMakings.{Beginning}
+use Rattle.papaya_reclaiming.specs.Given.FinishesMaps.{with_call}
+use Rattle.papaya_reclaiming.proofs.Given.ScenesNoCall.{none_of}
+use Rattle.papaya_reclaiming.specs.Given.ScenesReplying.{scene_with}
+use Rattle.papaya_reclaiming.specs.Given.ScenesRows.{request_of}
+use Rattle.papaya_reclaiming.specs.Given.ScenesScene.{Scene, slot_of}
+use Rattle.papaya_reclaiming.specs.Given.ScenesDeclared.row.SlotCall.{SlotCall}
+use Rattle.papaya_reclaiming.specs.Given.ScenesDeclared.row.SlotCall.TheVariants as call
+use Rattle.papaya_reclaiming.specs.Given.ScenesDeclared.row.SlotUse.{SlotUse}
+use Rattle.papaya_reclaiming.specs.Given.ScenesDeclared.row.SlotUse.TheVariants as used
+use Rattle.papaya_reclaiming.specs.Given.ExecutorDeclared.executor.Executor.{Executor}
+use Rattle.papaya_reclaiming.specs.Given.ExecutorDeclared.worker.Work.{Work}
+use Rattle.papaya_reclaiming.specs.Given.ExecutorIsThere.{HasRow, IsThere, IsUsedAs, call_in, ending_in, making_in, use_at, work_of}
+use Rattle.papaya_agrees.specs.Given.ActsActs.{UnlessToCount, Wanted, Get, Remove, Insert, TryToInsert, Compute, Update, UpdateOrInsert, TryToInsertWith, RemoveIf, GetKeyValue, ContainsKey, GetOrInsert, GetOrInsertWith, RemoveEntry, MakeRoom, Count, GoOver}
+use Rattle.papaya_agrees.specs.Given.ActsLeads.{AllStand, AreFewWith, IsFree}
 
 -- what is so is asked of a counting, too
 pub unless_to_count : {K V A : Type 0} (wanted : Wanted K V) → A → UnlessToCount wanted A

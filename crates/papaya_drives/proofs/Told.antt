@@ -4,22 +4,22 @@ use Rattle.std.specs.Prelude.{◌≢◌, ◌⊎◌, ◌+◌, ◌==◌, ◌++◌,
 use Rattle.std.proofs.Common.{◌≡◌, ℕ, Bool, List, inl, inr, refl, sym, ap, subst, arith, ◌∙◌}
 use Rattle.std.proofs.lemmas.Bool.{cases_eq, eq-eqb, ne_eqb}
 use Rattle.std.proofs.lemmas.List.{length-append, length-replicate}
-use Rattle.papaya_reclaiming.specs.Given.SeizeWords.Mem.{Mem, Can, Gives, Took, after, block_of, fresh, value_at}
-use Rattle.papaya_reclaiming.specs.Given.SeizeWords.Op.{Op, Out, Load, Store, Swap, Add, Or, Exchange, Make, Take, Rewrite, Room, Found, Stored, Exchanged, Made, Taken, Roomed}
-use Rattle.papaya_reclaiming.specs.Given.SeizeWords.Place.{capacity}
-use Rattle.papaya_reclaiming.specs.Given.SeizeWords.Plan.{Plan, Then, Turn, Do, Now, Seeing, Sure, Ends, May, Steps}
-use Rattle.papaya_reclaiming.specs.Given.SeizeWords.SlotWords.{with_bucket}
-use Rattle.papaya_reclaiming.specs.Given.SeizeWords.declared.fault.Fault.{Fault}
-use Rattle.papaya_reclaiming.specs.Given.SeizeWords.declared.slots.TheConstants.{SLOT_WORDS}
-use Rattle.papaya_reclaiming.proofs.Given.SeizeWords.OneOwner.AfterWrites.{block_of-made}
-use Rattle.papaya_reclaiming.specs.Given.SeizeActs.Answers.{Grant, answer, ends, stepped, then_on}
-use Rattle.papaya_reclaiming.proofs.Given.SeizeActs.Answers.{same_some, some}
-use Rattle.papaya_reclaiming.proofs.Given.SeizeActs.Steps.{steps_so}
-use Rattle.papaya_agrees.specs.Given.Tables.declared.node.Node.{Node}
-use Rattle.papaya_reclaiming.specs.Given.Teller.Tells.{StepsTold}
-use Rattle.papaya_reclaiming.specs.Given.Teller.declared.changed.Changed.{Changed}
-use Rattle.papaya_reclaiming.specs.Given.Teller.declared.changed.Changed.TheVariants.{Nothing as NoChange}
-use Rattle.papaya_agrees.specs.Given.Acts.AsSteps.{changed_as, changed_of}
+use Rattle.papaya_reclaiming.specs.Given.SeizeWordsMem.{Mem, Can, Gives, Took, after, block_of, fresh, value_at}
+use Rattle.papaya_reclaiming.specs.Given.SeizeWordsOp.{Op, Out, Load, Store, Swap, Add, Or, Exchange, Make, Take, Rewrite, Room, Found, Stored, Exchanged, Made, Taken, Roomed}
+use Rattle.papaya_reclaiming.specs.Given.SeizeWordsPlace.{capacity}
+use Rattle.papaya_reclaiming.specs.Given.SeizeWordsPlan.{Plan, Then, Turn, Do, Now, Seeing, Sure, Ends, May, Steps}
+use Rattle.papaya_reclaiming.specs.Given.SeizeWordsSlotWords.{with_bucket}
+use Rattle.papaya_reclaiming.specs.Given.SeizeWordsDeclared.fault.Fault.{Fault}
+use Rattle.papaya_reclaiming.specs.Given.SeizeWordsDeclared.slots.TheConstants.{SLOT_WORDS}
+use Rattle.papaya_reclaiming.proofs.Given.SeizeWordsOneOwner.AfterWrites.{block_of-made}
+use Rattle.papaya_reclaiming.specs.Given.SeizeActsAnswers.{Grant, answer, ends, stepped, then_on}
+use Rattle.papaya_reclaiming.proofs.Given.SeizeActsAnswers.{same_some, some}
+use Rattle.papaya_reclaiming.proofs.Given.SeizeActsSteps.{steps_so}
+use Rattle.papaya_agrees.specs.Given.TablesDeclared.node.Node.{Node}
+use Rattle.papaya_reclaiming.specs.Given.TellerTells.{StepsTold}
+use Rattle.papaya_reclaiming.specs.Given.TellerDeclared.changed.Changed.{Changed}
+use Rattle.papaya_reclaiming.specs.Given.TellerDeclared.changed.Changed.TheVariants.{Nothing as NoChange}
+use Rattle.papaya_agrees.specs.Given.ActsAsSteps.{changed_as, changed_of}
 
 -- a bucket that was made is there
 abbrev empty_slot : List ℕ

@@ -2,42 +2,42 @@
 use Rattle.std.specs.Prelude.{Option, Some, None, option_map}
 use Rattle.std.specs.Option.{is_none}
 use Rattle.std.proofs.Common.{◌≡◌, ℕ, Bool, refl, sym, ap, subst, ◌∙◌}
-use Rattle.papaya_reclaiming.specs.Given.Seize.World.{Request, Register', Enter', Leave', LeaveOwned, Refresh, Unregister', Retire, Flush, Defer', Begins, Use, Vacant, Outside, Inside, Changing, World}
-use Rattle.papaya_reclaiming.proofs.Given.SeizeActs.Answers.{same_some}
-use Rattle.papaya_reclaiming.specs.Given.SeizeWords.Mem.{Mem}
-use Rattle.papaya_reclaiming.specs.Given.Seize.declared.progress.Progress.{Progress}
-use Rattle.papaya_reclaiming.specs.Given.Seize.declared.progress.Progress.TheVariants as progress
-use Rattle.papaya_reclaiming.specs.Given.Seize.declared.rows.settle.Settled.{Settled}
-use Rattle.papaya_reclaiming.specs.Given.Seize.declared.rows.settle.Settled.TheVariants as settled
-use Rattle.papaya_agrees.specs.Given.Tables.Nodes.{deferred_word}
-use Rattle.papaya_agrees.specs.Given.Tables.declared.node.Node.{Node}
-use Rattle.papaya_agrees.specs.Given.Tables.declared.setting.Setting.{Setting}
-use Rattle.papaya_reclaiming.specs.Given.Resize.declared.new_map.NewMap.{NewMap}
-use Rattle.papaya_agrees.specs.Given.Raw.declared.machines.end_map.EndMap.{EndMap}
-use Rattle.papaya_reclaiming.specs.Given.Callers.Rows.{IsUsedAlike}
-use Rattle.papaya_reclaiming.specs.Given.Callers.Together.{IsOfSlots}
-use Rattle.papaya_reclaiming.proofs.Given.Callers.Together.Users.{events_uses}
-use Rattle.papaya_reclaiming.specs.Given.Finishes.Endings.{EndingsTogether, Finishing}
-use Rattle.papaya_reclaiming.specs.Given.Finishes.FactsEnds.{Deed}
-use Rattle.papaya_reclaiming.specs.Given.Finishes.Machines.{machine_of}
-use Rattle.papaya_reclaiming.specs.Given.Finishes.Makings.{Beginning}
-use Rattle.papaya_reclaiming.specs.Given.Finishes.Maps.{Standing}
-use Rattle.papaya_reclaiming.proofs.Given.Scenes.NoCall.{none_of}
-use Rattle.papaya_reclaiming.specs.Given.Scenes.Held.{IsAt}
-use Rattle.papaya_reclaiming.specs.Given.Scenes.Scene.{Scene, slot_of}
-use Rattle.papaya_reclaiming.specs.Given.Scenes.declared.row.SlotUse.{SlotUse}
-use Rattle.papaya_reclaiming.specs.Given.Scenes.declared.row.SlotUse.TheVariants as used
-use Rattle.papaya_reclaiming.specs.Given.Executor.declared.executor.Executor.{Executor}
-use Rattle.papaya_reclaiming.specs.Given.Executor.declared.worker.Work.{Work}
-use Rattle.papaya_reclaiming.specs.Given.Executor.declared.worker.Work.TheVariants as work
-use Rattle.papaya_reclaiming.proofs.Given.Executor.Again.{used_on}
-use Rattle.papaya_reclaiming.specs.Given.Executor.IsThere.{HasRow, IsThere, IsUsedAs, StaysGiven, call_in, use_at, work_of}
-use Rattle.papaya_agrees.specs.Given.Acts.Acts.{Act, Answer, BeginsCall, StepsCall, TellsCall, AsksCall, StopsCall, BeginsMaking, StepsMaking, BeginsEnding, StepsEnding, BeginsRow, StepsRow}
-use Rattle.papaya_agrees.specs.Given.Acts.AsSteps.{IsOwn, changed_by, held_in}
-use Rattle.papaya_agrees.specs.Given.Acts.Courses.{AreAlike, set_up}
-use Rattle.papaya_agrees.specs.Given.Acts.Leads.{AllStand, EndingCame, Led, MakingCame, MayBe, ending_steps, making_steps}
-use Rattle.papaya_agrees.proofs.Given.Acts.AsSteps.All.{acts_lead_as_steps}
-use Rattle.papaya_agrees.proofs.Given.Acts.Courses.{by_act}
+use Rattle.papaya_reclaiming.specs.Given.SeizeWorld.{Request, Register', Enter', Leave', LeaveOwned, Refresh, Unregister', Retire, Flush, Defer', Begins, Use, Vacant, Outside, Inside, Changing, World}
+use Rattle.papaya_reclaiming.proofs.Given.SeizeActsAnswers.{same_some}
+use Rattle.papaya_reclaiming.specs.Given.SeizeWordsMem.{Mem}
+use Rattle.papaya_reclaiming.specs.Given.SeizeDeclared.progress.Progress.{Progress}
+use Rattle.papaya_reclaiming.specs.Given.SeizeDeclared.progress.Progress.TheVariants as progress
+use Rattle.papaya_reclaiming.specs.Given.SeizeDeclared.rows.settle.Settled.{Settled}
+use Rattle.papaya_reclaiming.specs.Given.SeizeDeclared.rows.settle.Settled.TheVariants as settled
+use Rattle.papaya_agrees.specs.Given.TablesNodes.{deferred_word}
+use Rattle.papaya_agrees.specs.Given.TablesDeclared.node.Node.{Node}
+use Rattle.papaya_agrees.specs.Given.TablesDeclared.setting.Setting.{Setting}
+use Rattle.papaya_reclaiming.specs.Given.ResizeDeclared.new_map.NewMap.{NewMap}
+use Rattle.papaya_agrees.specs.Given.RawDeclared.machines.end_map.EndMap.{EndMap}
+use Rattle.papaya_reclaiming.specs.Given.CallersRows.{IsUsedAlike}
+use Rattle.papaya_reclaiming.specs.Given.CallersTogether.{IsOfSlots}
+use Rattle.papaya_reclaiming.proofs.Given.CallersTogether.Users.{events_uses}
+use Rattle.papaya_reclaiming.specs.Given.FinishesEndings.{EndingsTogether, Finishing}
+use Rattle.papaya_reclaiming.specs.Given.FinishesFactsEnds.{Deed}
+use Rattle.papaya_reclaiming.specs.Given.FinishesMachines.{machine_of}
+use Rattle.papaya_reclaiming.specs.Given.FinishesMakings.{Beginning}
+use Rattle.papaya_reclaiming.specs.Given.FinishesMaps.{Standing}
+use Rattle.papaya_reclaiming.proofs.Given.ScenesNoCall.{none_of}
+use Rattle.papaya_reclaiming.specs.Given.ScenesHeld.{IsAt}
+use Rattle.papaya_reclaiming.specs.Given.ScenesScene.{Scene, slot_of}
+use Rattle.papaya_reclaiming.specs.Given.ScenesDeclared.row.SlotUse.{SlotUse}
+use Rattle.papaya_reclaiming.specs.Given.ScenesDeclared.row.SlotUse.TheVariants as used
+use Rattle.papaya_reclaiming.specs.Given.ExecutorDeclared.executor.Executor.{Executor}
+use Rattle.papaya_reclaiming.specs.Given.ExecutorDeclared.worker.Work.{Work}
+use Rattle.papaya_reclaiming.specs.Given.ExecutorDeclared.worker.Work.TheVariants as work
+use Rattle.papaya_reclaiming.proofs.Given.ExecutorAgain.{used_on}
+use Rattle.papaya_reclaiming.specs.Given.ExecutorIsThere.{HasRow, IsThere, IsUsedAs, StaysGiven, call_in, use_at, work_of}
+use Rattle.papaya_agrees.specs.Given.ActsActs.{Act, Answer, BeginsCall, StepsCall, TellsCall, AsksCall, StopsCall, BeginsMaking, StepsMaking, BeginsEnding, StepsEnding, BeginsRow, StepsRow}
+use Rattle.papaya_agrees.specs.Given.ActsAsSteps.{IsOwn, changed_by, held_in}
+use Rattle.papaya_agrees.specs.Given.ActsCourses.{AreAlike, set_up}
+use Rattle.papaya_agrees.specs.Given.ActsLeads.{AllStand, EndingCame, Led, MakingCame, MayBe, ending_steps, making_steps}
+use Rattle.papaya_agrees.proofs.Given.ActsAsSteps.All.{acts_lead_as_steps}
+use Rattle.papaya_agrees.proofs.Given.ActsCourses.{by_act}
 
 -- a slot that is used so after, was used so before, where that is alike
 used_back : (v : SlotUse) (u u2 : Use) → IsUsedAs v u2 → IsUsedAlike u u2 → IsUsedAs v u

@@ -1,57 +1,57 @@
 -- What an executor does, it does by acts: where it is, its acts have led. All its maps have its hasher.
 use Rattle.std.specs.Prelude.{◌≡◌, ℕ, ◌+◌, ◌<◌, ◌≤◌, ◌^◌, length, max, Bool, None, Some, Result}
 use Rattle.std.specs.Int.{IsPowerOfTwo}
-use Rattle.papaya_reclaiming.specs.Given.Seize.declared.progress.Progress.{Progress}
-use Rattle.papaya_reclaiming.specs.Given.Seize.declared.rows.settle.Settled.{Settled}
-use Rattle.papaya_reclaiming.specs.Given.SeizeActs.Answers.{Grant, stepped}
-use Rattle.papaya_reclaiming.specs.Given.SeizeWords.Plan.{Plan}
-use Rattle.papaya_reclaiming.specs.Given.Seize.Enter.{enter_plan, unregister_plan}
-use Rattle.papaya_reclaiming.specs.Given.Seize.Leave.{leave_plan}
-use Rattle.papaya_reclaiming.specs.Given.Seize.Register.{register_plan}
-use Rattle.papaya_reclaiming.specs.Given.Seize.Settle.{settle_plan}
-use Rattle.papaya_reclaiming.specs.Given.Seize.declared.rows.enter.Enter.{Enter}
-use Rattle.papaya_reclaiming.specs.Given.Seize.declared.rows.enter.Unregister.{Unregister}
-use Rattle.papaya_reclaiming.specs.Given.Seize.declared.rows.leave.Leave.{Leave}
-use Rattle.papaya_reclaiming.specs.Given.Seize.declared.rows.register.Register.{Register}
-use Rattle.papaya_reclaiming.specs.Given.Seize.declared.rows.settle.Settle.{Settle}
-use Rattle.papaya_agrees.specs.Given.Tables.Nodes.{deferred_word}
-use Rattle.papaya_reclaiming.specs.Given.Resize.NewMap.{new_map_plan}
-use Rattle.papaya_agrees.specs.Given.Raw.EndMap.{end_map_plan}
-use Rattle.papaya_agrees.specs.Given.Raw.Machine.{machine_plan}
-use Rattle.papaya_agrees.specs.Given.Tables.Lengths.{IsTableLen}
-use Rattle.papaya_agrees.specs.Given.Tables.declared.node.Node.{Node}
-use Rattle.papaya_agrees.specs.Given.Tables.declared.setting.Setting.{Setting}
-use Rattle.papaya_agrees.specs.Given.Raw.declared.machines.asking.Reply.{Reply}
-use Rattle.papaya_agrees.specs.Given.Raw.declared.machines.machine.Machine.{Machine}
-use Rattle.papaya_agrees.specs.Given.Raw.declared.machines.progress.Progress.{Progress as CallProgress}
-use Rattle.papaya_reclaiming.specs.Given.Points.Steps.{AreLawful}
-use Rattle.papaya_reclaiming.specs.Given.Callers.Together.{UnderWay}
-use Rattle.papaya_reclaiming.specs.Given.Finishes.Endings.{Finishing}
-use Rattle.papaya_reclaiming.specs.Given.Finishes.Machines.{machine_of}
-use Rattle.papaya_reclaiming.specs.Given.Finishes.Makings.{Beginning}
-use Rattle.papaya_reclaiming.specs.Given.Finishes.Maps.{Standing}
-use Rattle.papaya_reclaiming.specs.Given.Executor.declared.executor.Executor.{Executor}
-use Rattle.papaya_reclaiming.specs.Given.Scenes.declared.row.RowTold.{RowTold}
-use Rattle.papaya_reclaiming.specs.Given.Scenes.declared.row.SlotCall.{SlotCall}
-use Rattle.papaya_reclaiming.specs.Given.Scenes.declared.row.SlotRow.{SlotRow}
-use Rattle.papaya_reclaiming.specs.Given.Scenes.declared.row.SlotRow.TheVariants as rows
-use Rattle.papaya_reclaiming.specs.Given.Scenes.declared.row.SlotUse.TheVariants as used
-use Rattle.papaya_reclaiming.specs.Given.Executor.declared.worker.Work.TheVariants as work
-use Rattle.papaya_agrees.specs.Given.Acts.Acts.{Act, Answer, Nothing, OfCall, OfReply, OfAsking, OfMaking, OfEnding, Wanted, begun}
-use Rattle.papaya_agrees.specs.Given.Acts.Acts.{BeginsCall, StepsCall, TellsCall, AsksCall, StopsCall, BeginsMaking, StepsMaking, BeginsEnding, StepsEnding, BeginsRow, StepsRow}
-use Rattle.papaya_agrees.specs.Given.Acts.AsSteps.{changed_by, changed_of}
-use Rattle.papaya_agrees.specs.Given.Acts.Leads.{AllStand, Led, MayBe}
-use Rattle.papaya_reclaiming.specs.Given.Executor.Beginning.{BeginsThere}
-use Rattle.papaya_reclaiming.specs.Given.Executor.Ending.{EndingBegins, EndsThere, NoCallOn}
-use Rattle.papaya_reclaiming.specs.Given.Executor.IsThere.{IsThere, StaysGiven, use_at, work_of}
-use Rattle.papaya_reclaiming.specs.Given.Executor.Making.{MakesThere}
-use Rattle.papaya_reclaiming.specs.Given.Executor.MakingBegins.{MakingBegins}
-use Rattle.papaya_reclaiming.specs.Given.Executor.OnSlots.{MayBegin, RowBeginsThere, RowStepsThere}
-use Rattle.papaya_reclaiming.specs.Given.Executor.Replying.{AsksThere, RepliesThere, StopsThere}
-use Rattle.papaya_reclaiming.specs.Given.Executor.Stepping.{StepsThere}
-use Rattle.papaya_reclaiming.specs.Given.Scenes.Beginning.{Begins}
-use Rattle.papaya_reclaiming.specs.Given.Scenes.Rows.{of_registering, of_settling, of_storing, request_of}
-use Rattle.papaya_reclaiming.specs.Given.Scenes.Scene.{Scene, slot_of}
+use Rattle.papaya_reclaiming.specs.Given.SeizeDeclared.progress.Progress.{Progress}
+use Rattle.papaya_reclaiming.specs.Given.SeizeDeclared.rows.settle.Settled.{Settled}
+use Rattle.papaya_reclaiming.specs.Given.SeizeActsAnswers.{Grant, stepped}
+use Rattle.papaya_reclaiming.specs.Given.SeizeWordsPlan.{Plan}
+use Rattle.papaya_reclaiming.specs.Given.SeizeEnter.{enter_plan, unregister_plan}
+use Rattle.papaya_reclaiming.specs.Given.SeizeLeave.{leave_plan}
+use Rattle.papaya_reclaiming.specs.Given.SeizeRegister.{register_plan}
+use Rattle.papaya_reclaiming.specs.Given.SeizeSettle.{settle_plan}
+use Rattle.papaya_reclaiming.specs.Given.SeizeDeclared.rows.enter.Enter.{Enter}
+use Rattle.papaya_reclaiming.specs.Given.SeizeDeclared.rows.enter.Unregister.{Unregister}
+use Rattle.papaya_reclaiming.specs.Given.SeizeDeclared.rows.leave.Leave.{Leave}
+use Rattle.papaya_reclaiming.specs.Given.SeizeDeclared.rows.register.Register.{Register}
+use Rattle.papaya_reclaiming.specs.Given.SeizeDeclared.rows.settle.Settle.{Settle}
+use Rattle.papaya_agrees.specs.Given.TablesNodes.{deferred_word}
+use Rattle.papaya_reclaiming.specs.Given.ResizeNewMap.{new_map_plan}
+use Rattle.papaya_agrees.specs.Given.RawEndMap.{end_map_plan}
+use Rattle.papaya_agrees.specs.Given.RawMachine.{machine_plan}
+use Rattle.papaya_agrees.specs.Given.TablesLengths.{IsTableLen}
+use Rattle.papaya_agrees.specs.Given.TablesDeclared.node.Node.{Node}
+use Rattle.papaya_agrees.specs.Given.TablesDeclared.setting.Setting.{Setting}
+use Rattle.papaya_agrees.specs.Given.RawDeclared.machines.asking.Reply.{Reply}
+use Rattle.papaya_agrees.specs.Given.RawDeclared.machines.machine.Machine.{Machine}
+use Rattle.papaya_agrees.specs.Given.RawDeclared.machines.progress.Progress.{Progress as CallProgress}
+use Rattle.papaya_reclaiming.specs.Given.PointsSteps.{AreLawful}
+use Rattle.papaya_reclaiming.specs.Given.CallersTogether.{UnderWay}
+use Rattle.papaya_reclaiming.specs.Given.FinishesEndings.{Finishing}
+use Rattle.papaya_reclaiming.specs.Given.FinishesMachines.{machine_of}
+use Rattle.papaya_reclaiming.specs.Given.FinishesMakings.{Beginning}
+use Rattle.papaya_reclaiming.specs.Given.FinishesMaps.{Standing}
+use Rattle.papaya_reclaiming.specs.Given.ExecutorDeclared.executor.Executor.{Executor}
+use Rattle.papaya_reclaiming.specs.Given.ScenesDeclared.row.RowTold.{RowTold}
+use Rattle.papaya_reclaiming.specs.Given.ScenesDeclared.row.SlotCall.{SlotCall}
+use Rattle.papaya_reclaiming.specs.Given.ScenesDeclared.row.SlotRow.{SlotRow}
+use Rattle.papaya_reclaiming.specs.Given.ScenesDeclared.row.SlotRow.TheVariants as rows
+use Rattle.papaya_reclaiming.specs.Given.ScenesDeclared.row.SlotUse.TheVariants as used
+use Rattle.papaya_reclaiming.specs.Given.ExecutorDeclared.worker.Work.TheVariants as work
+use Rattle.papaya_agrees.specs.Given.ActsActs.{Act, Answer, Nothing, OfCall, OfReply, OfAsking, OfMaking, OfEnding, Wanted, begun}
+use Rattle.papaya_agrees.specs.Given.ActsActs.{BeginsCall, StepsCall, TellsCall, AsksCall, StopsCall, BeginsMaking, StepsMaking, BeginsEnding, StepsEnding, BeginsRow, StepsRow}
+use Rattle.papaya_agrees.specs.Given.ActsAsSteps.{changed_by, changed_of}
+use Rattle.papaya_agrees.specs.Given.ActsLeads.{AllStand, Led, MayBe}
+use Rattle.papaya_reclaiming.specs.Given.ExecutorBeginning.{BeginsThere}
+use Rattle.papaya_reclaiming.specs.Given.ExecutorEnding.{EndingBegins, EndsThere, NoCallOn}
+use Rattle.papaya_reclaiming.specs.Given.ExecutorIsThere.{IsThere, StaysGiven, use_at, work_of}
+use Rattle.papaya_reclaiming.specs.Given.ExecutorMaking.{MakesThere}
+use Rattle.papaya_reclaiming.specs.Given.ExecutorMakingBegins.{MakingBegins}
+use Rattle.papaya_reclaiming.specs.Given.ExecutorOnSlots.{MayBegin, RowBeginsThere, RowStepsThere}
+use Rattle.papaya_reclaiming.specs.Given.ExecutorReplying.{AsksThere, RepliesThere, StopsThere}
+use Rattle.papaya_reclaiming.specs.Given.ExecutorStepping.{StepsThere}
+use Rattle.papaya_reclaiming.specs.Given.ScenesBeginning.{Begins}
+use Rattle.papaya_reclaiming.specs.Given.ScenesRows.{of_registering, of_settling, of_storing, request_of}
+use Rattle.papaya_reclaiming.specs.Given.ScenesScene.{Scene, slot_of}
 
 module _ {K V S : Type 0} (e e2 : Executor K V S) where
   -- a step of this plan, in the memory of the first executor, is computed to this outcome, in that of the second, with this choice, and so is what it has changed

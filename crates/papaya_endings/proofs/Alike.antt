@@ -11,8 +11,8 @@ use Rattle.papaya_deeds.specs.Given.Schedules.Lists.{is_among}
 use Rattle.papaya_deeds.specs.Given.Schedules.Moment.{GivenBack, InMap, IsTaken, Left, MapThere, Moment, Place, TableThere}
 use Rattle.papaya_deeds.specs.Given.Schedules.Things.{is_before, same_table}
 use Rattle.papaya_deeds.specs.Given.Schedules.Views.{behind, first_of, first_or, is_in_map, is_linked, map_at}
-use Rattle.papaya_protects.proofs.Given.Others.Outside.{in_map_of}
-use Rattle.papaya_protects.proofs.Given.Finds.Lists.{number_passes, numbers_pass}
+use Rattle.papaya_protects.proofs.Given.OthersOutside.{in_map_of}
+use Rattle.papaya_protects.proofs.Given.FindsLists.{number_passes, numbers_pass}
 use Rattle.papaya_deeds.specs.History.{EndFinds, is_first_of, is_next_pair, left_tables}
 use Rattle.papaya_endings.specs.Ends.{AlikeOf, AreStored, EndsWell}
 use Rattle.papaya_endings.proofs.Left.{left_by}

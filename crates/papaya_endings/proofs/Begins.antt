@@ -5,11 +5,11 @@ use Rattle.std.proofs.lemmas.Bool.{and_parts, cases_order, eq-eqb, leb-true}
 use Rattle.std.proofs.lemmas.List.Elements.{filter-append}
 use Rattle.seize_acts.specs.Given.Seize.World.{times}
 use Rattle.papaya_deeds.specs.Given.Tables.Chunks.{is_incremental}
-use Rattle.papaya_protects.specs.Given.Rule.Chart.{Chart}
-use Rattle.papaya_protects.specs.Given.Finishes.Endings.{AllPairsOnce}
-use Rattle.papaya_protects.specs.Given.Finishes.Maps.{Standing}
-use Rattle.papaya_protects.specs.Given.Finishes.Orders.{pairs_of}
-use Rattle.papaya_protects.proofs.Given.Finishes.Ends.CountedBlocks.{some_here, some_last, some_of_first, times-append}
+use Rattle.papaya_protects.specs.Given.RuleChart.{Chart}
+use Rattle.papaya_protects.specs.Given.FinishesEndings.{AllPairsOnce}
+use Rattle.papaya_protects.specs.Given.FinishesMaps.{Standing}
+use Rattle.papaya_protects.specs.Given.FinishesOrders.{pairs_of}
+use Rattle.papaya_protects.proofs.Given.FinishesEnds.CountedBlocks.{some_here, some_last, some_of_first, times-append}
 use Rattle.papaya_deeds.specs.Given.Schedules.declared.effect.Effect.{Effect}
 use Rattle.papaya_deeds.specs.Given.Schedules.declared.effect.Effect.TheVariants.{Ended, Taken}
 use Rattle.papaya_deeds.specs.Given.Schedules.declared.effect.Table.{Table}
@@ -19,15 +19,15 @@ use Rattle.papaya_deeds.specs.Given.Schedules.Moment.{GivenBack, InMap, IsLinked
 use Rattle.papaya_deeds.specs.Given.Schedules.Lists.{is_among}
 use Rattle.papaya_deeds.specs.Given.Schedules.Things.{is_before, same_table}
 use Rattle.papaya_deeds.specs.Given.Schedules.Views.{behind, chain_of, first_of, first_or, is_in_map, is_linked, tables_of}
-use Rattle.papaya_protects.specs.Given.Effects.Known.{Known}
-use Rattle.papaya_protects.specs.Given.Follows.Maps.{ShowsMap, shape_at, table_of, tables_to}
-use Rattle.papaya_protects.proofs.Given.Follows.Alike.{put_elsewhere}
-use Rattle.papaya_protects.proofs.Given.Others.Leads.{same_parts}
-use Rattle.papaya_protects.proofs.Given.Others.Outside.{in_map_of}
-use Rattle.papaya_protects.proofs.Given.Spots.Unreclaimed.{same_itself}
-use Rattle.papaya_protects.specs.Given.Moments.WholeEnds.{all_ended, tables_ended}
-use Rattle.papaya_protects.proofs.Given.Moments.WholeEnds.{whole_ends_take_all}
-use Rattle.papaya_protects.proofs.Given.Finds.Lists.{numbers_pass}
+use Rattle.papaya_protects.specs.Given.EffectsKnown.{Known}
+use Rattle.papaya_protects.specs.Given.FollowsMaps.{ShowsMap, shape_at, table_of, tables_to}
+use Rattle.papaya_protects.proofs.Given.FollowsAlike.{put_elsewhere}
+use Rattle.papaya_protects.proofs.Given.OthersLeads.{same_parts}
+use Rattle.papaya_protects.proofs.Given.OthersOutside.{in_map_of}
+use Rattle.papaya_protects.proofs.Given.SpotsUnreclaimed.{same_itself}
+use Rattle.papaya_protects.specs.Given.MomentsWholeEnds.{all_ended, tables_ended}
+use Rattle.papaya_protects.proofs.Given.MomentsWholeEnds.{whole_ends_take_all}
+use Rattle.papaya_protects.proofs.Given.FindsLists.{numbers_pass}
 use Rattle.papaya_deeds.specs.History.{EndFinds, is_first_of, is_next_pair, left_tables}
 use Rattle.papaya_endings.specs.Ends.{AreStored, EndsWell}
 use Rattle.papaya_endings.proofs.Alike.{ended}

@@ -6,7 +6,7 @@ use Rattle.std.proofs.lemmas.Bool.{and_parts, leb-true, ne_eqb}
 use Rattle.std.proofs.lemmas.List.Elements.{filter_passes, recursion_from_All}
 use Rattle.papaya_deeds.specs.Given.Raw.declared.machines.progress.Progress.{Progress}
 use Rattle.papaya_deeds.specs.Given.Tables.declared.node.Node.{Node}
-use Rattle.papaya_protects.specs.Given.Callers.Together.{UnderWay}
+use Rattle.papaya_protects.specs.Given.CallersTogether.{UnderWay}
 use Rattle.papaya_deeds.specs.Given.Schedules.declared.effect.Effect.{Effect}
 use Rattle.papaya_deeds.specs.Given.Schedules.declared.effect.Effect.TheVariants as effect
 use Rattle.papaya_deeds.specs.Given.Schedules.declared.effect.Table.{Table}
@@ -18,23 +18,23 @@ use Rattle.papaya_deeds.specs.Given.Schedules.Lives.{MayCopy}
 use Rattle.papaya_deeds.specs.Given.Schedules.Moment.{InMap, MapThere, Moment, TableThere, UnderWay as CallThere}
 use Rattle.papaya_deeds.specs.Given.Schedules.Things.{same_table}
 use Rattle.papaya_deeds.specs.Given.Schedules.Views.{first_of, first_or, is_in_map, map_at}
-use Rattle.papaya_protects.specs.Given.Effects.Effects.{effects_of}
-use Rattle.papaya_protects.specs.Given.Effects.Known.{Known}
-use Rattle.papaya_protects.specs.Given.Effects.declared.acting.Acting.TheVariants as acts
-use Rattle.papaya_protects.specs.Given.Follows.Finds.{FindsMap}
-use Rattle.papaya_protects.specs.Given.Follows.Steps.{HasLeft}
-use Rattle.papaya_protects.specs.Given.Scenes.Held.{Held, IsAt}
-use Rattle.papaya_protects.specs.Given.Scenes.Scene.{Scene}
-use Rattle.papaya_protects.specs.Given.Scenes.Stepping.{StepLeads}
-use Rattle.papaya_protects.specs.Given.Moments.Whole.{ShowsWhole}
-use Rattle.papaya_protects.proofs.Given.Moments.Calls.{of_row}
-use Rattle.papaya_protects.proofs.Given.Follows.Handed.{not_in}
-use Rattle.papaya_protects.proofs.Given.Hands.RowSteps.{rows_hand_theirs}
-use Rattle.papaya_protects.proofs.Given.Others.Leads.{same_parts}
-use Rattle.papaya_protects.proofs.Given.Spots.Handing.{AllHandNothing, HandsNothing}
-use Rattle.papaya_protects.proofs.Given.Spots.Steps.{hands_nothing}
-use Rattle.papaya_protects.specs.Given.Finds.Parts.{FindPlacesOf, FindsPlace}
-use Rattle.papaya_protects.proofs.Given.Finds.Steps.{steps_do_theirs, steps_find_places}
+use Rattle.papaya_protects.specs.Given.EffectsEffects.{effects_of}
+use Rattle.papaya_protects.specs.Given.EffectsKnown.{Known}
+use Rattle.papaya_protects.specs.Given.EffectsDeclared.acting.Acting.TheVariants as acts
+use Rattle.papaya_protects.specs.Given.FollowsFinds.{FindsMap}
+use Rattle.papaya_protects.specs.Given.FollowsSteps.{HasLeft}
+use Rattle.papaya_protects.specs.Given.ScenesHeld.{Held, IsAt}
+use Rattle.papaya_protects.specs.Given.ScenesScene.{Scene}
+use Rattle.papaya_protects.specs.Given.ScenesStepping.{StepLeads}
+use Rattle.papaya_protects.specs.Given.MomentsWhole.{ShowsWhole}
+use Rattle.papaya_protects.proofs.Given.MomentsCalls.{of_row}
+use Rattle.papaya_protects.proofs.Given.FollowsHanded.{not_in}
+use Rattle.papaya_protects.proofs.Given.HandsRowSteps.{rows_hand_theirs}
+use Rattle.papaya_protects.proofs.Given.OthersLeads.{same_parts}
+use Rattle.papaya_protects.proofs.Given.SpotsHanding.{AllHandNothing, HandsNothing}
+use Rattle.papaya_protects.proofs.Given.SpotsSteps.{hands_nothing}
+use Rattle.papaya_protects.specs.Given.FindsParts.{FindPlacesOf, FindsPlace}
+use Rattle.papaya_protects.proofs.Given.FindsSteps.{steps_do_theirs, steps_find_places}
 use Rattle.papaya_deeds.specs.History.{left_tables}
 use Rattle.papaya_endings.specs.Ends.{AreStored, IsOut, Spares}
 use Rattle.papaya_endings.proofs.Left.{by_one, stands}

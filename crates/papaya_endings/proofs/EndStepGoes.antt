@@ -11,38 +11,38 @@ use Rattle.seize_acts.specs.Given.Seize.declared.rows.settle.Settled.TheVariants
 use Rattle.papaya_deeds.specs.Given.Tables.declared.node.Node.{Node}
 use Rattle.papaya_deeds.specs.Given.Raw.EndMap.{end_map_plan}
 use Rattle.papaya_deeds.specs.Given.Raw.declared.machines.end_map.EndMap.{EndMap}
-use Rattle.papaya_protects.proofs.Given.Callers.Together.At.{at_other, at_same}
-use Rattle.papaya_protects.specs.Given.Finishes.Endings.{Finishing, waiting_by}
-use Rattle.papaya_protects.specs.Given.Finishes.FactsEnds.{Deed as FactsDeed, taken_by as taken_of}
+use Rattle.papaya_protects.proofs.Given.CallersTogether.At.{at_other, at_same}
+use Rattle.papaya_protects.specs.Given.FinishesEndings.{Finishing, waiting_by}
+use Rattle.papaya_protects.specs.Given.FinishesFactsEnds.{Deed as FactsDeed, taken_by as taken_of}
 use Rattle.papaya_deeds.specs.Given.Schedules.declared.effect.Effect.{Effect}
 use Rattle.papaya_deeds.specs.Given.Schedules.Effects.{AtEachEffect, with_effects}
 use Rattle.papaya_deeds.specs.Given.Schedules.Moment.{MapThere, Moment}
 use Rattle.papaya_deeds.specs.Given.Schedules.Views.{map_at, size_of}
-use Rattle.papaya_protects.specs.Given.Effects.Effects.{effects_of, known_after, taken_by}
-use Rattle.papaya_protects.specs.Given.Effects.Known.{Known}
-use Rattle.papaya_protects.specs.Given.Effects.declared.acting.Acting.TheVariants as acts
-use Rattle.papaya_protects.specs.Given.Others.Endings.{TellsNext}
-use Rattle.papaya_protects.specs.Given.Teller.declared.changed.Changed.{Changed}
-use Rattle.papaya_protects.specs.Given.Teller.declared.changed.Changed.TheVariants as changed
-use Rattle.papaya_protects.specs.Given.Teller.declared.changed.Changed.TheVariants.{Nothing as NoChange}
-use Rattle.papaya_protects.specs.Given.Scenes.Ending.{EndingComesTo, EndingLeads}
-use Rattle.papaya_protects.specs.Given.Scenes.Held.{Held, IsAt}
-use Rattle.papaya_protects.specs.Given.Scenes.Scene.{Scene, slot_of}
-use Rattle.papaya_protects.proofs.Given.Follows.Operations.{Operated, operated}
-use Rattle.papaya_protects.proofs.Given.Scenes.May.{may_end}
-use Rattle.papaya_protects.specs.Given.Logged.Ends.{ended_as}
-use Rattle.papaya_protects.specs.Given.Acts.Acts.{Act, Answer, OfEnding, StepsEnding}
-use Rattle.papaya_protects.specs.Given.Acts.AsSteps.{EndedTo, LeadsAs, changed_by, held_in}
-use Rattle.papaya_protects.specs.Given.Acts.Leads.{Led}
+use Rattle.papaya_protects.specs.Given.EffectsEffects.{effects_of, known_after, taken_by}
+use Rattle.papaya_protects.specs.Given.EffectsKnown.{Known}
+use Rattle.papaya_protects.specs.Given.EffectsDeclared.acting.Acting.TheVariants as acts
+use Rattle.papaya_protects.specs.Given.OthersEndings.{TellsNext}
+use Rattle.papaya_protects.specs.Given.TellerDeclared.changed.Changed.{Changed}
+use Rattle.papaya_protects.specs.Given.TellerDeclared.changed.Changed.TheVariants as changed
+use Rattle.papaya_protects.specs.Given.TellerDeclared.changed.Changed.TheVariants.{Nothing as NoChange}
+use Rattle.papaya_protects.specs.Given.ScenesEnding.{EndingComesTo, EndingLeads}
+use Rattle.papaya_protects.specs.Given.ScenesHeld.{Held, IsAt}
+use Rattle.papaya_protects.specs.Given.ScenesScene.{Scene, slot_of}
+use Rattle.papaya_protects.proofs.Given.FollowsOperations.{Operated, operated}
+use Rattle.papaya_protects.proofs.Given.ScenesMay.{may_end}
+use Rattle.papaya_protects.specs.Given.LoggedEnds.{ended_as}
+use Rattle.papaya_protects.specs.Given.ActsActs.{Act, Answer, OfEnding, StepsEnding}
+use Rattle.papaya_protects.specs.Given.ActsAsSteps.{EndedTo, LeadsAs, changed_by, held_in}
+use Rattle.papaya_protects.specs.Given.ActsLeads.{Led}
 use Rattle.papaya_deeds.specs.Deeds.{Ends, Entry, MapGoes, after, moment, named}
 use Rattle.papaya_deeds.specs.History.{EndFinds, left_tables}
-use Rattle.papaya_protects.specs.Given.Played.Play.{Ending, State, ended_on, ending_deed, ending_stepped, is_over, is_refusal, settled_outcome}
-use Rattle.papaya_protects.specs.Given.Played.Reached.{IsOf}
-use Rattle.papaya_protects.proofs.Given.Played.PlayedAs.{PlayedAs}
-use Rattle.papaya_protects.specs.Given.Linear.Coming.{Goes}
-use Rattle.papaya_protects.proofs.Given.Linear.Coming.{gone_leaves}
-use Rattle.papaya_protects.proofs.Given.Linear.Holding.{AllHolds}
-use Rattle.papaya_protects.proofs.Given.Played.Tied.{EndingTied, ending_tied}
+use Rattle.papaya_protects.specs.Given.PlayedPlay.{Ending, State, ended_on, ending_deed, ending_stepped, is_over, is_refusal, settled_outcome}
+use Rattle.papaya_protects.specs.Given.PlayedReached.{IsOf}
+use Rattle.papaya_protects.proofs.Given.PlayedPlayedAs.{PlayedAs}
+use Rattle.papaya_protects.specs.Given.LinearComing.{Goes}
+use Rattle.papaya_protects.proofs.Given.LinearComing.{gone_leaves}
+use Rattle.papaya_protects.proofs.Given.LinearHolding.{AllHolds}
+use Rattle.papaya_protects.proofs.Given.PlayedTied.{EndingTied, ending_tied}
 use Rattle.papaya_endings.specs.Ends.{AlikeOf, EndsWell}
 use Rattle.papaya_endings.specs.Going.{GoesOnToEnd}
 use Rattle.papaya_endings.specs.GoingOn.{EndsGoOn}
@@ -54,7 +54,7 @@ use Rattle.papaya_endings.proofs.Going.{NotedAlike, going_alike}
 use Rattle.papaya_endings.proofs.Others.{taken_spares}
 use Rattle.papaya_endings.proofs.Played.{goes_of, noted_on}
 use Rattle.papaya_endings.proofs.Spares.{all_spared}
-use Rattle.papaya_protects.proofs.Given.Agrees.Names.{effects_named}
+use Rattle.papaya_protects.proofs.Given.AgreesNames.{effects_named}
 
 module _ {K V S : Type 0} (same : K → K → Bool) (by_hasher : S → K → ℕ) (hash : ℕ → K → ℕ) (batch_size roots : ℕ) (aborts : ℕ → V) (x y : State K V S) (s n : Scene K V)
     (is : IsOf by_hasher s s.world.row x.now) (at : IsAt same hash (held_in batch_size roots NoChange s) s) (all : AllHolds same x s) (so : EndsGoOn x s) (told : Answer K V) (i : ℕ) (g : Grant) where

@@ -7,36 +7,36 @@ use Rattle.seize_acts.specs.Given.Seize.declared.rows.settle.Settled.{Settled}
 use Rattle.seize_acts.specs.Given.Seize.declared.rows.settle.Settled.TheVariants as settled
 use Rattle.papaya_deeds.specs.Given.Tables.declared.node.Node.{Node}
 use Rattle.papaya_deeds.specs.Given.Raw.declared.machines.end_map.EndMap.{EndMap}
-use Rattle.papaya_protects.specs.Given.Finishes.Endings.{Finishing, FinishingFacts, StepsOfEnding, waiting_by}
-use Rattle.papaya_protects.specs.Given.Finishes.FactsEnds.{back_of, taken_by as taken_of}
-use Rattle.papaya_protects.proofs.Given.Callers.Together.At.{at_same}
-use Rattle.papaya_protects.proofs.Given.Finishes.Ends.CountedBlocks.{later_apart, next_apart}
-use Rattle.papaya_protects.proofs.Given.Finishes.Ends.OrdersOn.{back_same}
-use Rattle.papaya_protects.proofs.Given.Finishes.Ends.OrdersOnce.{plain_order}
+use Rattle.papaya_protects.specs.Given.FinishesEndings.{Finishing, FinishingFacts, StepsOfEnding, waiting_by}
+use Rattle.papaya_protects.specs.Given.FinishesFactsEnds.{back_of, taken_by as taken_of}
+use Rattle.papaya_protects.proofs.Given.CallersTogether.At.{at_same}
+use Rattle.papaya_protects.proofs.Given.FinishesEnds.CountedBlocks.{later_apart, next_apart}
+use Rattle.papaya_protects.proofs.Given.FinishesEnds.OrdersOn.{back_same}
+use Rattle.papaya_protects.proofs.Given.FinishesEnds.OrdersOnce.{plain_order}
 use Rattle.papaya_deeds.specs.Given.Schedules.declared.effect.Effect.{Effect}
 use Rattle.papaya_deeds.specs.Given.Schedules.Effects.{AtEachEffect, with_effects}
 use Rattle.papaya_deeds.specs.Given.Schedules.Moment.{Moment}
 use Rattle.papaya_deeds.specs.Given.Schedules.Views.{map_at}
-use Rattle.papaya_protects.specs.Given.Effects.Effects.{effects_of, known_after, taken_by}
-use Rattle.papaya_protects.specs.Given.Effects.Known.{Known}
-use Rattle.papaya_protects.specs.Given.Effects.declared.acting.Acting.TheVariants as acts
-use Rattle.papaya_protects.specs.Given.Effects.declared.role.Role.TheVariants as role
-use Rattle.papaya_protects.specs.Given.Others.Endings.{TellsNext}
-use Rattle.papaya_protects.specs.Given.Scenes.Ending.{EndingComesTo, EndingLeads}
-use Rattle.papaya_protects.specs.Given.Scenes.Held.{Held, IsAt}
-use Rattle.papaya_protects.specs.Given.Scenes.Scene.{Scene, slot_of}
-use Rattle.papaya_protects.specs.Given.Teller.declared.changed.Changed.{Changed}
-use Rattle.papaya_protects.specs.Given.Teller.declared.changed.Changed.TheVariants as changed
-use Rattle.papaya_protects.specs.Given.Moments.Whole.{ShowsWhole}
-use Rattle.papaya_protects.proofs.Given.Follows.Alike.{put_elsewhere}
-use Rattle.papaya_protects.proofs.Given.Others.Ends.{tells_next}
-use Rattle.papaya_protects.specs.Given.Logged.Ends.{ended_as}
-use Rattle.papaya_protects.proofs.Given.Logged.EndLists.{back_first, once}
-use Rattle.papaya_protects.proofs.Given.Logged.EndTold.{did_end, noted_on}
+use Rattle.papaya_protects.specs.Given.EffectsEffects.{effects_of, known_after, taken_by}
+use Rattle.papaya_protects.specs.Given.EffectsKnown.{Known}
+use Rattle.papaya_protects.specs.Given.EffectsDeclared.acting.Acting.TheVariants as acts
+use Rattle.papaya_protects.specs.Given.EffectsDeclared.role.Role.TheVariants as role
+use Rattle.papaya_protects.specs.Given.OthersEndings.{TellsNext}
+use Rattle.papaya_protects.specs.Given.ScenesEnding.{EndingComesTo, EndingLeads}
+use Rattle.papaya_protects.specs.Given.ScenesHeld.{Held, IsAt}
+use Rattle.papaya_protects.specs.Given.ScenesScene.{Scene, slot_of}
+use Rattle.papaya_protects.specs.Given.TellerDeclared.changed.Changed.{Changed}
+use Rattle.papaya_protects.specs.Given.TellerDeclared.changed.Changed.TheVariants as changed
+use Rattle.papaya_protects.specs.Given.MomentsWhole.{ShowsWhole}
+use Rattle.papaya_protects.proofs.Given.FollowsAlike.{put_elsewhere}
+use Rattle.papaya_protects.proofs.Given.OthersEnds.{tells_next}
+use Rattle.papaya_protects.specs.Given.LoggedEnds.{ended_as}
+use Rattle.papaya_protects.proofs.Given.LoggedEndLists.{back_first, once}
+use Rattle.papaya_protects.proofs.Given.LoggedEndTold.{did_end, noted_on}
 use Rattle.papaya_deeds.specs.Deeds.{named}
 use Rattle.papaya_deeds.specs.History.{EndFinds}
-use Rattle.papaya_protects.specs.Given.Linear.Coming.{Goes}
-use Rattle.papaya_protects.proofs.Given.Linear.Going.{as_noted, notes_all, notes_still}
+use Rattle.papaya_protects.specs.Given.LinearComing.{Goes}
+use Rattle.papaya_protects.proofs.Given.LinearGoing.{as_noted, notes_all, notes_still}
 use Rattle.papaya_endings.specs.Ends.{AreStored, EndsWell}
 use Rattle.papaya_endings.specs.Going.{GoesOnToEnd}
 use Rattle.papaya_endings.proofs.Going.{NotedAlike, ended_alike, ends_on}

@@ -7,39 +7,39 @@ use Rattle.seize_acts.specs.Given.Seize.World.{with_at}
 use Rattle.papaya_deeds.specs.Given.Tables.Chunks.{is_incremental}
 use Rattle.papaya_deeds.specs.Given.Raw.EndMap.{ending}
 use Rattle.papaya_deeds.specs.Given.Raw.declared.machines.end_map.EndMap.{EndMap}
-use Rattle.papaya_protects.proofs.Given.Callers.Together.At.{at_other, at_same}
-use Rattle.papaya_protects.specs.Given.Finishes.Endings.{AllPairsOnce, Finishing, finishing_of}
-use Rattle.papaya_protects.specs.Given.Finishes.FactsEnds.{back_of}
-use Rattle.papaya_protects.specs.Given.Finishes.Maps.{Standing}
-use Rattle.papaya_protects.specs.Given.Finishes.Orders.{pairs_of}
-use Rattle.papaya_protects.specs.Given.Rule.InWorld.{IsMapIn}
+use Rattle.papaya_protects.proofs.Given.CallersTogether.At.{at_other, at_same}
+use Rattle.papaya_protects.specs.Given.FinishesEndings.{AllPairsOnce, Finishing, finishing_of}
+use Rattle.papaya_protects.specs.Given.FinishesFactsEnds.{back_of}
+use Rattle.papaya_protects.specs.Given.FinishesMaps.{Standing}
+use Rattle.papaya_protects.specs.Given.FinishesOrders.{pairs_of}
+use Rattle.papaya_protects.specs.Given.RuleInWorld.{IsMapIn}
 use Rattle.papaya_deeds.specs.Given.Schedules.declared.effect.Effect.{Effect}
 use Rattle.papaya_deeds.specs.Given.Schedules.Effects.{with_effects}
 use Rattle.papaya_deeds.specs.Given.Schedules.Handing.{in_order}
 use Rattle.papaya_deeds.specs.Given.Schedules.Moment.{Moment}
-use Rattle.papaya_protects.specs.Given.Effects.Effects.{taken_by}
-use Rattle.papaya_protects.specs.Given.Effects.Known.{Known}
-use Rattle.papaya_protects.specs.Given.Effects.declared.acting.Acting.TheVariants as acts
-use Rattle.papaya_protects.specs.Given.Effects.declared.role.Role.{Role}
-use Rattle.papaya_protects.specs.Given.Effects.declared.role.Role.TheVariants as role
-use Rattle.papaya_protects.specs.Given.Follows.Maps.{ShowsMap}
-use Rattle.papaya_protects.specs.Given.Teller.declared.changed.Changed.TheVariants.{Nothing as NoChange}
-use Rattle.papaya_protects.specs.Given.Scenes.Held.{Held, IsAt}
-use Rattle.papaya_protects.specs.Given.Scenes.Scene.{Scene, slot_of}
-use Rattle.papaya_protects.specs.Given.Moments.Whole.{ShowsWhole}
-use Rattle.papaya_protects.proofs.Given.Rule.Laws.{current_is_known}
-use Rattle.papaya_protects.specs.Given.Logged.Ends.{NotesMap}
-use Rattle.papaya_protects.proofs.Given.Logged.EndAll.{all_end}
-use Rattle.papaya_protects.proofs.Given.Logged.EndOrder.{pairs_ordered}
-use Rattle.papaya_protects.specs.Given.Acts.Acts.{Act, Answer, BeginsEnding}
-use Rattle.papaya_protects.specs.Given.Acts.AsSteps.{changed_by, held_in}
-use Rattle.papaya_protects.specs.Given.Acts.Leads.{Led}
+use Rattle.papaya_protects.specs.Given.EffectsEffects.{taken_by}
+use Rattle.papaya_protects.specs.Given.EffectsKnown.{Known}
+use Rattle.papaya_protects.specs.Given.EffectsDeclared.acting.Acting.TheVariants as acts
+use Rattle.papaya_protects.specs.Given.EffectsDeclared.role.Role.{Role}
+use Rattle.papaya_protects.specs.Given.EffectsDeclared.role.Role.TheVariants as role
+use Rattle.papaya_protects.specs.Given.FollowsMaps.{ShowsMap}
+use Rattle.papaya_protects.specs.Given.TellerDeclared.changed.Changed.TheVariants.{Nothing as NoChange}
+use Rattle.papaya_protects.specs.Given.ScenesHeld.{Held, IsAt}
+use Rattle.papaya_protects.specs.Given.ScenesScene.{Scene, slot_of}
+use Rattle.papaya_protects.specs.Given.MomentsWhole.{ShowsWhole}
+use Rattle.papaya_protects.proofs.Given.RuleLaws.{current_is_known}
+use Rattle.papaya_protects.specs.Given.LoggedEnds.{NotesMap}
+use Rattle.papaya_protects.proofs.Given.LoggedEndAll.{all_end}
+use Rattle.papaya_protects.proofs.Given.LoggedEndOrder.{pairs_ordered}
+use Rattle.papaya_protects.specs.Given.ActsActs.{Act, Answer, BeginsEnding}
+use Rattle.papaya_protects.specs.Given.ActsAsSteps.{changed_by, held_in}
+use Rattle.papaya_protects.specs.Given.ActsLeads.{Led}
 use Rattle.papaya_deeds.specs.Deeds.{moment, named}
-use Rattle.papaya_protects.specs.Given.Played.Play.{Ending, State}
-use Rattle.papaya_protects.specs.Given.Played.Reached.{IsOf}
-use Rattle.papaya_protects.proofs.Given.Played.PlayedAs.{PlayedAs}
-use Rattle.papaya_protects.proofs.Given.Linear.ComeActs.{notes_map}
-use Rattle.papaya_protects.proofs.Given.Linear.Holding.{AllHolds}
+use Rattle.papaya_protects.specs.Given.PlayedPlay.{Ending, State}
+use Rattle.papaya_protects.specs.Given.PlayedReached.{IsOf}
+use Rattle.papaya_protects.proofs.Given.PlayedPlayedAs.{PlayedAs}
+use Rattle.papaya_protects.proofs.Given.LinearComeActs.{notes_map}
+use Rattle.papaya_protects.proofs.Given.LinearHolding.{AllHolds}
 use Rattle.papaya_endings.specs.Ends.{EndsWell}
 use Rattle.papaya_endings.specs.Going.{GoesOnToEnd}
 use Rattle.papaya_endings.specs.GoingOn.{EndsGoOn}

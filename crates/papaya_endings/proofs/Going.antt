@@ -3,27 +3,27 @@ use Rattle.std.specs.Prelude.{◌≡◌, ◌<◌, ◌++◌, ℕ, Bool, true, fal
 use Rattle.std.specs.List.{AllByRecursion}
 use Rattle.std.proofs.Common.{refl, ap, sym, subst, ◌∙◌}
 use Rattle.seize_acts.specs.Given.Seize.World.{times}
-use Rattle.papaya_protects.proofs.Given.Finishes.Ends.CountedBlocks.{some_here, some_last}
-use Rattle.papaya_protects.specs.Given.Finishes.Endings.{Finishing}
+use Rattle.papaya_protects.proofs.Given.FinishesEnds.CountedBlocks.{some_here, some_last}
+use Rattle.papaya_protects.specs.Given.FinishesEndings.{Finishing}
 use Rattle.papaya_deeds.specs.Given.Schedules.declared.effect.Effect.{Effect}
 use Rattle.papaya_deeds.specs.Given.Schedules.declared.effect.Table.{Table}
 use Rattle.papaya_deeds.specs.Given.Schedules.Effects.{AtEachEffect, with_effects}
 use Rattle.papaya_deeds.specs.Given.Schedules.Moment.{Moment, TableThere}
 use Rattle.papaya_deeds.specs.Given.Schedules.Things.{same_table}
 use Rattle.papaya_deeds.specs.Given.Schedules.Views.{is_in_map}
-use Rattle.papaya_protects.specs.Given.Effects.Effects.{known_after, taken_by}
-use Rattle.papaya_protects.specs.Given.Effects.Known.{Known}
-use Rattle.papaya_protects.specs.Given.Effects.declared.acting.Acting.{Acting}
-use Rattle.papaya_protects.specs.Given.Effects.declared.acting.Acting.TheVariants as acts
-use Rattle.papaya_protects.specs.Given.Effects.declared.role.Role.{Role}
-use Rattle.papaya_protects.specs.Given.Effects.declared.role.Role.TheVariants as role
-use Rattle.papaya_protects.specs.Given.Spots.Deferred.{WaitOutside}
-use Rattle.papaya_protects.proofs.Given.Spots.Deferred.{each_waits_outside}
-use Rattle.papaya_protects.proofs.Given.Spots.Unreclaimed.{table_is}
-use Rattle.papaya_protects.proofs.Given.Follows.Alike.{put_here}
-use Rattle.papaya_protects.proofs.Given.Follows.Handed.{not_in}
-use Rattle.papaya_protects.specs.Given.Teller.declared.changed.Changed.TheVariants as changed
-use Rattle.papaya_protects.specs.Given.Logged.Ends.{ended_as}
+use Rattle.papaya_protects.specs.Given.EffectsEffects.{known_after, taken_by}
+use Rattle.papaya_protects.specs.Given.EffectsKnown.{Known}
+use Rattle.papaya_protects.specs.Given.EffectsDeclared.acting.Acting.{Acting}
+use Rattle.papaya_protects.specs.Given.EffectsDeclared.acting.Acting.TheVariants as acts
+use Rattle.papaya_protects.specs.Given.EffectsDeclared.role.Role.{Role}
+use Rattle.papaya_protects.specs.Given.EffectsDeclared.role.Role.TheVariants as role
+use Rattle.papaya_protects.specs.Given.SpotsDeferred.{WaitOutside}
+use Rattle.papaya_protects.proofs.Given.SpotsDeferred.{each_waits_outside}
+use Rattle.papaya_protects.proofs.Given.SpotsUnreclaimed.{table_is}
+use Rattle.papaya_protects.proofs.Given.FollowsAlike.{put_here}
+use Rattle.papaya_protects.proofs.Given.FollowsHanded.{not_in}
+use Rattle.papaya_protects.specs.Given.TellerDeclared.changed.Changed.TheVariants as changed
+use Rattle.papaya_protects.specs.Given.LoggedEnds.{ended_as}
 use Rattle.papaya_deeds.specs.History.{EndFinds, left_tables}
 use Rattle.papaya_endings.specs.Ends.{AlikeOf, AreStored, EndsWell, IsOther, IsOut}
 use Rattle.papaya_endings.specs.Going.{GoesOnToEnd}

@@ -13,25 +13,25 @@ use Rattle.papaya_deeds.specs.Given.Raw.Machine.{machine_asked, machine_replied}
 use Rattle.papaya_deeds.specs.Given.Schedules.After.{AtEachEvent}
 use Rattle.papaya_deeds.specs.Given.Schedules.declared.effect.Effect.{Effect}
 use Rattle.papaya_deeds.specs.Given.Schedules.Moment.{Moment}
-use Rattle.papaya_protects.specs.Given.Scenes.Held.{IsAt}
-use Rattle.papaya_protects.specs.Given.Scenes.Scene.{Scene, slot_of}
-use Rattle.papaya_protects.specs.Given.Scenes.declared.row.SlotRow.{SlotRow}
-use Rattle.papaya_protects.specs.Given.Scenes.declared.row.SlotRow.TheVariants as rows
-use Rattle.papaya_protects.specs.Given.Teller.declared.changed.Changed.TheVariants.{Nothing as NoChange}
-use Rattle.papaya_protects.specs.Given.Acts.Acts.{Act, Answer, AsksCall, BeginsCall, BeginsEnding, BeginsMaking, BeginsRow, StepsCall, StepsEnding, StepsMaking, StepsRow, StopsCall, TellsCall}
-use Rattle.papaya_protects.specs.Given.Acts.AsSteps.{LeadsAs, changed_by, held_in}
-use Rattle.papaya_protects.specs.Given.Acts.Leads.{Led}
-use Rattle.papaya_protects.specs.Given.Acts.Lists.{nothing_done}
-use Rattle.papaya_protects.specs.Given.Agrees.Fresh.{HasNewNumber}
-use Rattle.papaya_protects.proofs.Given.Agrees.GivenBack.{again_first}
+use Rattle.papaya_protects.specs.Given.ScenesHeld.{IsAt}
+use Rattle.papaya_protects.specs.Given.ScenesScene.{Scene, slot_of}
+use Rattle.papaya_protects.specs.Given.ScenesDeclared.row.SlotRow.{SlotRow}
+use Rattle.papaya_protects.specs.Given.ScenesDeclared.row.SlotRow.TheVariants as rows
+use Rattle.papaya_protects.specs.Given.TellerDeclared.changed.Changed.TheVariants.{Nothing as NoChange}
+use Rattle.papaya_protects.specs.Given.ActsActs.{Act, Answer, AsksCall, BeginsCall, BeginsEnding, BeginsMaking, BeginsRow, StepsCall, StepsEnding, StepsMaking, StepsRow, StopsCall, TellsCall}
+use Rattle.papaya_protects.specs.Given.ActsAsSteps.{LeadsAs, changed_by, held_in}
+use Rattle.papaya_protects.specs.Given.ActsLeads.{Led}
+use Rattle.papaya_protects.specs.Given.ActsLists.{nothing_done}
+use Rattle.papaya_protects.specs.Given.AgreesFresh.{HasNewNumber}
+use Rattle.papaya_protects.proofs.Given.AgreesGivenBack.{again_first}
 use Rattle.papaya_deeds.specs.Deeds.{Deed, Entry, Leaves, MapComes, MapFails, Makes, Opens}
-use Rattle.papaya_protects.specs.Given.Played.Play.{State, has_root, leaves_as, making_deed, pairs_for, registers_as, row_deed}
-use Rattle.papaya_protects.specs.Given.Played.Reached.{IsOf, rows_beside}
-use Rattle.papaya_protects.proofs.Given.Played.Along.{At, StaysSo}
-use Rattle.papaya_protects.proofs.Given.Played.PlayedAs.{PlayedAs, played_as, reclaimed_as}
-use Rattle.papaya_protects.proofs.Given.Linear.Holding.{AllHolds}
-use Rattle.papaya_protects.proofs.Given.Linear.Linear.{wherever_led}
-use Rattle.papaya_protects.proofs.Given.Linear.Stays.{first_holds}
+use Rattle.papaya_protects.specs.Given.PlayedPlay.{State, has_root, leaves_as, making_deed, pairs_for, registers_as, row_deed}
+use Rattle.papaya_protects.specs.Given.PlayedReached.{IsOf, rows_beside}
+use Rattle.papaya_protects.proofs.Given.PlayedAlong.{At, StaysSo}
+use Rattle.papaya_protects.proofs.Given.PlayedPlayedAs.{PlayedAs, played_as, reclaimed_as}
+use Rattle.papaya_protects.proofs.Given.LinearHolding.{AllHolds}
+use Rattle.papaya_protects.proofs.Given.LinearLinear.{wherever_led}
+use Rattle.papaya_protects.proofs.Given.LinearStays.{first_holds}
 use Rattle.papaya_endings.specs.GoingOn.{EndsGoOn}
 use Rattle.papaya_endings.specs.InOrder.{EndsInOrder, EndsSo, MapsEndInOrder}
 use Rattle.papaya_endings.proofs.EndStepGoes.{end_step_in_order}

@@ -11,35 +11,35 @@ use Rattle.papaya_deeds.specs.Given.Tables.declared.resize_mode.ResizeMode.{Resi
 use Rattle.papaya_deeds.specs.Given.Tables.declared.setting.Setting.{Setting}
 use Rattle.papaya_deeds.specs.Given.Resize.NewMap.{new_map_plan}
 use Rattle.papaya_deeds.specs.Given.Resize.declared.new_map.NewMap.{NewMap}
-use Rattle.papaya_protects.specs.Given.Finishes.Endings.{Finishing}
-use Rattle.papaya_protects.specs.Given.Finishes.Makings.{Beginning}
+use Rattle.papaya_protects.specs.Given.FinishesEndings.{Finishing}
+use Rattle.papaya_protects.specs.Given.FinishesMakings.{Beginning}
 use Rattle.papaya_deeds.specs.Given.Schedules.declared.effect.Effect.{Effect}
 use Rattle.papaya_deeds.specs.Given.Schedules.declared.outcome.Outcome.{Outcome}
 use Rattle.papaya_deeds.specs.Given.Schedules.Effects.{with_effects}
 use Rattle.papaya_deeds.specs.Given.Schedules.Handing.{is_first_making}
 use Rattle.papaya_deeds.specs.Given.Schedules.Moment.{MapThere, Moment}
-use Rattle.papaya_protects.specs.Given.Effects.Effects.{effects_of, known_after}
-use Rattle.papaya_protects.specs.Given.Effects.declared.acting.Acting.TheVariants as acts
-use Rattle.papaya_protects.specs.Given.Teller.declared.changed.Changed.TheVariants.{Nothing as NoChange}
-use Rattle.papaya_protects.specs.Given.Scenes.Held.{Held, IsAt}
-use Rattle.papaya_protects.specs.Given.Scenes.Making.{MakingComesTo}
-use Rattle.papaya_protects.specs.Given.Scenes.Scene.{Scene, slot_of}
-use Rattle.papaya_protects.proofs.Given.Follows.Operations.{Operated, operated}
-use Rattle.papaya_protects.proofs.Given.Scenes.May.{may_make}
-use Rattle.papaya_protects.proofs.Given.Works.Makings.{makings_do_theirs}
-use Rattle.papaya_protects.specs.Given.Acts.Acts.{Act, Answer, StepsMaking}
-use Rattle.papaya_protects.specs.Given.Acts.AsSteps.{LeadsAs, MadeTo, changed_by, held_in}
-use Rattle.papaya_protects.specs.Given.Acts.Leads.{Led}
-use Rattle.papaya_protects.proofs.Given.Agrees.Elsewhere.{AllLinkElsewhere, acting_elsewhere}
-use Rattle.papaya_protects.proofs.Given.Agrees.Fresh.{AnyTable}
+use Rattle.papaya_protects.specs.Given.EffectsEffects.{effects_of, known_after}
+use Rattle.papaya_protects.specs.Given.EffectsDeclared.acting.Acting.TheVariants as acts
+use Rattle.papaya_protects.specs.Given.TellerDeclared.changed.Changed.TheVariants.{Nothing as NoChange}
+use Rattle.papaya_protects.specs.Given.ScenesHeld.{Held, IsAt}
+use Rattle.papaya_protects.specs.Given.ScenesMaking.{MakingComesTo}
+use Rattle.papaya_protects.specs.Given.ScenesScene.{Scene, slot_of}
+use Rattle.papaya_protects.proofs.Given.FollowsOperations.{Operated, operated}
+use Rattle.papaya_protects.proofs.Given.ScenesMay.{may_make}
+use Rattle.papaya_protects.proofs.Given.WorksMakings.{makings_do_theirs}
+use Rattle.papaya_protects.specs.Given.ActsActs.{Act, Answer, StepsMaking}
+use Rattle.papaya_protects.specs.Given.ActsAsSteps.{LeadsAs, MadeTo, changed_by, held_in}
+use Rattle.papaya_protects.specs.Given.ActsLeads.{Led}
+use Rattle.papaya_protects.proofs.Given.AgreesElsewhere.{AllLinkElsewhere, acting_elsewhere}
+use Rattle.papaya_protects.proofs.Given.AgreesFresh.{AnyTable}
 use Rattle.papaya_deeds.specs.Deeds.{Deed, Entry, Makes, MapComes, MapFails, after, come, moment, named}
-use Rattle.papaya_protects.specs.Given.Played.Play.{Ending, State, has_root, is_refusal, making_deed, making_outcome, pairs_for}
-use Rattle.papaya_protects.specs.Given.Played.Reached.{IsOf}
-use Rattle.papaya_protects.proofs.Given.Played.PlayedAs.{PlayedAs}
-use Rattle.papaya_protects.proofs.Given.Linear.ComeActs.{made_enders}
-use Rattle.papaya_protects.proofs.Given.Linear.Coming.{come_leaves, gone_leaves}
-use Rattle.papaya_protects.proofs.Given.Linear.Holding.{AllHolds}
-use Rattle.papaya_protects.proofs.Given.Played.Tied.{MakingTied, making_tied}
+use Rattle.papaya_protects.specs.Given.PlayedPlay.{Ending, State, has_root, is_refusal, making_deed, making_outcome, pairs_for}
+use Rattle.papaya_protects.specs.Given.PlayedReached.{IsOf}
+use Rattle.papaya_protects.proofs.Given.PlayedPlayedAs.{PlayedAs}
+use Rattle.papaya_protects.proofs.Given.LinearComeActs.{made_enders}
+use Rattle.papaya_protects.proofs.Given.LinearComing.{come_leaves, gone_leaves}
+use Rattle.papaya_protects.proofs.Given.LinearHolding.{AllHolds}
+use Rattle.papaya_protects.proofs.Given.PlayedTied.{MakingTied, making_tied}
 use Rattle.papaya_endings.specs.Ends.{AlikeOf, AreStored}
 use Rattle.papaya_endings.specs.Going.{GoesOnToEnd}
 use Rattle.papaya_endings.specs.GoingOn.{EndsGoOn}
@@ -49,8 +49,8 @@ use Rattle.papaya_endings.proofs.Others.{firsts_spare}
 use Rattle.papaya_endings.proofs.Places.{stored_alike}
 use Rattle.papaya_endings.proofs.Played.{ends_stay, goes_of, noted_on}
 use Rattle.papaya_endings.proofs.Spares.{all_spared}
-use Rattle.papaya_protects.specs.Given.Agrees.Fresh.{AreNamed}
-use Rattle.papaya_protects.proofs.Given.Agrees.Names.{effects_named}
+use Rattle.papaya_protects.specs.Given.AgreesFresh.{AreNamed}
+use Rattle.papaya_protects.proofs.Given.AgreesNames.{effects_named}
 
 -- After each step of the making of another map all of this one is as it was.
 module _ {K V : Type 0} (map own : ℕ) (ne : own ≢ map) (m : Moment K V) (stored : AreStored map m) (names : AreNamed m) (effects : List Effect) (firsts : list_all is_first_making effects ≡ true)

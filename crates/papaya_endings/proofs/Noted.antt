@@ -3,7 +3,7 @@ use Rattle.std.specs.Prelude.{◌≡◌, ◌<◌, ◌⊎◌, ◌==◌, ◌++◌,
 use Rattle.std.specs.List.{AllByRecursion}
 use Rattle.std.proofs.Common.{refl, ap, sym, subst, inl, inr, eqb-true}
 use Rattle.seize_acts.specs.Given.Seize.World.{times}
-use Rattle.papaya_protects.proofs.Given.Finishes.Ends.CountedBlocks.{some_here, some_last}
+use Rattle.papaya_protects.proofs.Given.FinishesEnds.CountedBlocks.{some_here, some_last}
 use Rattle.papaya_deeds.specs.Given.Schedules.declared.effect.Effect.{Effect}
 use Rattle.papaya_deeds.specs.Given.Schedules.declared.effect.Effect.TheVariants.{Ended, Taken}
 use Rattle.papaya_deeds.specs.Given.Schedules.declared.effect.Table.{Table}
@@ -11,13 +11,13 @@ use Rattle.papaya_deeds.specs.Given.Schedules.Lists.{OneOf}
 use Rattle.papaya_deeds.specs.Given.Schedules.Moment.{GivenBack, IsTaken, Moment}
 use Rattle.papaya_deeds.specs.Given.Schedules.Things.{same_table}
 use Rattle.papaya_deeds.specs.Given.Schedules.Views.{first_of, is_in_map}
-use Rattle.papaya_protects.specs.Given.Effects.Effects.{taken_by}
-use Rattle.papaya_protects.specs.Given.Effects.Known.{Known}
-use Rattle.papaya_protects.specs.Given.Effects.declared.acting.Acting.TheVariants as acts
-use Rattle.papaya_protects.specs.Given.Effects.declared.role.Role.{Role}
-use Rattle.papaya_protects.specs.Given.Effects.declared.role.Role.TheVariants as role
-use Rattle.papaya_protects.proofs.Given.Spots.Unreclaimed.{table_is}
-use Rattle.papaya_protects.specs.Given.Logged.Ends.{ended_as}
+use Rattle.papaya_protects.specs.Given.EffectsEffects.{taken_by}
+use Rattle.papaya_protects.specs.Given.EffectsKnown.{Known}
+use Rattle.papaya_protects.specs.Given.EffectsDeclared.acting.Acting.TheVariants as acts
+use Rattle.papaya_protects.specs.Given.EffectsDeclared.role.Role.{Role}
+use Rattle.papaya_protects.specs.Given.EffectsDeclared.role.Role.TheVariants as role
+use Rattle.papaya_protects.proofs.Given.SpotsUnreclaimed.{table_is}
+use Rattle.papaya_protects.specs.Given.LoggedEnds.{ended_as}
 use Rattle.papaya_deeds.specs.History.{left_tables}
 use Rattle.papaya_endings.specs.Ends.{AreStored, EndsWell}
 use Rattle.papaya_endings.proofs.Alike.{ended, ends_next}

@@ -5,7 +5,7 @@ use Rattle.std.proofs.Common.{refl, sym, ◌∙◌}
 use Rattle.std.proofs.lemmas.Bool.{and_parts}
 use Rattle.papaya_deeds.specs.Given.SeizeWords.declared.at.At.TheVariants.{Entry, Root, Slot, Used, Word}
 use Rattle.seize_acts.specs.Given.Seize.World.{times}
-use Rattle.papaya_protects.specs.Given.Finishes.Endings.{Finishing}
+use Rattle.papaya_protects.specs.Given.FinishesEndings.{Finishing}
 use Rattle.papaya_deeds.specs.Given.Schedules.declared.effect.Effect.{Effect}
 use Rattle.papaya_deeds.specs.Given.Schedules.declared.effect.Effect.TheVariants as effect
 use Rattle.papaya_deeds.specs.Given.Schedules.declared.effect.Growth.TheVariants.{ABucket}
@@ -13,19 +13,19 @@ use Rattle.papaya_deeds.specs.Given.Schedules.declared.effect.Table.{Table}
 use Rattle.papaya_deeds.specs.Given.Schedules.Effects.{AtEachEffect, with_effect}
 use Rattle.papaya_deeds.specs.Given.Schedules.Handing.{is_first_making}
 use Rattle.papaya_deeds.specs.Given.Schedules.Moment.{Moment}
-use Rattle.papaya_protects.specs.Given.Effects.Effects.{effects_of, known_after, names_same, pair_taken, table_taken, taken_by}
-use Rattle.papaya_protects.specs.Given.Effects.Known.{Known}
-use Rattle.papaya_protects.specs.Given.Effects.declared.acting.Acting.{Acting}
-use Rattle.papaya_protects.specs.Given.Effects.declared.acting.Acting.TheVariants as acts
-use Rattle.papaya_protects.specs.Given.Effects.declared.role.Role.{Role}
-use Rattle.papaya_protects.specs.Given.Effects.declared.role.Role.TheVariants as role
-use Rattle.papaya_protects.specs.Given.Scenes.Scene.{Scene}
-use Rattle.papaya_protects.specs.Given.Teller.declared.changed.Changed.{Changed}
-use Rattle.papaya_protects.specs.Given.Teller.declared.changed.Changed.TheVariants as changed
-use Rattle.papaya_protects.specs.Given.Moments.Whole.{ShowsWhole}
-use Rattle.papaya_protects.proofs.Given.Others.RowPlans.{TellsRow}
-use Rattle.papaya_protects.proofs.Given.Agrees.Elsewhere.{AllLinkElsewhere}
-use Rattle.papaya_protects.proofs.Given.Agrees.Fresh.{AnyTable}
+use Rattle.papaya_protects.specs.Given.EffectsEffects.{effects_of, known_after, names_same, pair_taken, table_taken, taken_by}
+use Rattle.papaya_protects.specs.Given.EffectsKnown.{Known}
+use Rattle.papaya_protects.specs.Given.EffectsDeclared.acting.Acting.{Acting}
+use Rattle.papaya_protects.specs.Given.EffectsDeclared.acting.Acting.TheVariants as acts
+use Rattle.papaya_protects.specs.Given.EffectsDeclared.role.Role.{Role}
+use Rattle.papaya_protects.specs.Given.EffectsDeclared.role.Role.TheVariants as role
+use Rattle.papaya_protects.specs.Given.ScenesScene.{Scene}
+use Rattle.papaya_protects.specs.Given.TellerDeclared.changed.Changed.{Changed}
+use Rattle.papaya_protects.specs.Given.TellerDeclared.changed.Changed.TheVariants as changed
+use Rattle.papaya_protects.specs.Given.MomentsWhole.{ShowsWhole}
+use Rattle.papaya_protects.proofs.Given.OthersRowPlans.{TellsRow}
+use Rattle.papaya_protects.proofs.Given.AgreesElsewhere.{AllLinkElsewhere}
+use Rattle.papaya_protects.proofs.Given.AgreesFresh.{AnyTable}
 use Rattle.papaya_endings.specs.Ends.{IsOther, IsOut, Spares}
 use Rattle.papaya_endings.specs.Going.{GoesOnToEnd}
 use Rattle.papaya_endings.proofs.Going.{NotedAlike, pair_out, table_other, taken_apart}

@@ -5,41 +5,41 @@ use Rattle.seize_acts.specs.Answers.{Grant}
 use Rattle.seize_acts.specs.Given.Seize.World.{Row, times}
 use Rattle.papaya_deeds.specs.Given.Raw.Machine.{machine_asked, machine_plan, machine_replied}
 use Rattle.papaya_deeds.specs.Given.Raw.declared.machines.asking.Reply.{Reply as Told}
-use Rattle.papaya_protects.specs.Given.Finishes.Endings.{Finishing, FinishingFacts}
-use Rattle.papaya_protects.specs.Given.Finishes.Machines.{machine_of}
-use Rattle.papaya_protects.proofs.Given.Finishes.Ends.CountedBlocks.{some_last}
-use Rattle.papaya_protects.proofs.Given.Finishes.Ends.OrdersOnce.{plain_order}
+use Rattle.papaya_protects.specs.Given.FinishesEndings.{Finishing, FinishingFacts}
+use Rattle.papaya_protects.specs.Given.FinishesMachines.{machine_of}
+use Rattle.papaya_protects.proofs.Given.FinishesEnds.CountedBlocks.{some_last}
+use Rattle.papaya_protects.proofs.Given.FinishesEnds.OrdersOnce.{plain_order}
 use Rattle.papaya_deeds.specs.Given.Schedules.declared.effect.Effect.{Effect}
 use Rattle.papaya_deeds.specs.Given.Schedules.declared.outcome.Outcome.TheVariants as outcome
 use Rattle.papaya_deeds.specs.Given.Schedules.Effects.{with_effects}
 use Rattle.papaya_deeds.specs.Given.Schedules.Moment.{Moment}
-use Rattle.papaya_protects.specs.Given.Effects.Effects.{effects_of, known_after}
-use Rattle.papaya_protects.specs.Given.Effects.Known.{Known}
-use Rattle.papaya_protects.specs.Given.Effects.declared.acting.Acting.{Acting}
-use Rattle.papaya_protects.specs.Given.Effects.declared.acting.Acting.TheVariants as acts
-use Rattle.papaya_protects.specs.Given.Teller.declared.changed.Changed.{Changed}
-use Rattle.papaya_protects.specs.Given.Teller.declared.changed.Changed.TheVariants.{Nothing as NoChange}
-use Rattle.papaya_protects.specs.Given.Scenes.Held.{Held, IsAt}
-use Rattle.papaya_protects.specs.Given.Scenes.Scene.{HasNoCall, IsOnSlot, Scene, row_of, slot_of}
-use Rattle.papaya_protects.proofs.Given.Follows.Operations.{Operated, operated}
-use Rattle.papaya_protects.proofs.Given.Others.RowPlans.{row_operated, row_tells}
-use Rattle.papaya_protects.proofs.Given.Scenes.May.{may_row, may_step}
-use Rattle.papaya_protects.specs.Given.Acts.Acts.{Act, Answer, AsksCall, BeginsCall, BeginsRow, StepsCall, StepsRow, StopsCall, TellsCall}
-use Rattle.papaya_protects.specs.Given.Acts.AsSteps.{LeadsAs, changed_by, held_in, row_changed, row_told}
-use Rattle.papaya_protects.specs.Given.Acts.Leads.{Led}
+use Rattle.papaya_protects.specs.Given.EffectsEffects.{effects_of, known_after}
+use Rattle.papaya_protects.specs.Given.EffectsKnown.{Known}
+use Rattle.papaya_protects.specs.Given.EffectsDeclared.acting.Acting.{Acting}
+use Rattle.papaya_protects.specs.Given.EffectsDeclared.acting.Acting.TheVariants as acts
+use Rattle.papaya_protects.specs.Given.TellerDeclared.changed.Changed.{Changed}
+use Rattle.papaya_protects.specs.Given.TellerDeclared.changed.Changed.TheVariants.{Nothing as NoChange}
+use Rattle.papaya_protects.specs.Given.ScenesHeld.{Held, IsAt}
+use Rattle.papaya_protects.specs.Given.ScenesScene.{HasNoCall, IsOnSlot, Scene, row_of, slot_of}
+use Rattle.papaya_protects.proofs.Given.FollowsOperations.{Operated, operated}
+use Rattle.papaya_protects.proofs.Given.OthersRowPlans.{row_operated, row_tells}
+use Rattle.papaya_protects.proofs.Given.ScenesMay.{may_row, may_step}
+use Rattle.papaya_protects.specs.Given.ActsActs.{Act, Answer, AsksCall, BeginsCall, BeginsRow, StepsCall, StepsRow, StopsCall, TellsCall}
+use Rattle.papaya_protects.specs.Given.ActsAsSteps.{LeadsAs, changed_by, held_in, row_changed, row_told}
+use Rattle.papaya_protects.specs.Given.ActsLeads.{Led}
 use Rattle.papaya_deeds.specs.Deeds.{Entry, Replies, Steps, Stops, acted_on, after, map_of_call, moment, named}
-use Rattle.papaya_protects.proofs.Given.Logged.EndLists.{one_of}
-use Rattle.papaya_protects.specs.Given.Named.Seen.{kind_of}
-use Rattle.papaya_protects.specs.Given.Played.Play.{Ending, State, is_refusal, outcome_of, reply_for, row_deed, row_outcome, row_stepped}
-use Rattle.papaya_protects.specs.Given.Played.Reached.{IsOf, row_or_rests}
-use Rattle.papaya_protects.proofs.Given.Played.PlayedAs.{PlayedAs}
-use Rattle.papaya_protects.specs.Given.Linear.Coming.{Goes}
-use Rattle.papaya_protects.proofs.Given.Linear.AsideActs.{IsQuiet, quiet_led, quiet_played}
-use Rattle.papaya_protects.proofs.Given.Linear.Going.{noted_beside}
-use Rattle.papaya_protects.proofs.Given.Linear.Holding.{AllHolds}
-use Rattle.papaya_protects.proofs.Given.Linear.Like.{IsLike}
-use Rattle.papaya_protects.proofs.Given.Linear.RowsPlayed.{is_of_row, rows_like}
-use Rattle.papaya_protects.proofs.Given.Played.Tied.{CallTied, call_tied}
+use Rattle.papaya_protects.proofs.Given.LoggedEndLists.{one_of}
+use Rattle.papaya_protects.specs.Given.NamedSeen.{kind_of}
+use Rattle.papaya_protects.specs.Given.PlayedPlay.{Ending, State, is_refusal, outcome_of, reply_for, row_deed, row_outcome, row_stepped}
+use Rattle.papaya_protects.specs.Given.PlayedReached.{IsOf, row_or_rests}
+use Rattle.papaya_protects.proofs.Given.PlayedPlayedAs.{PlayedAs}
+use Rattle.papaya_protects.specs.Given.LinearComing.{Goes}
+use Rattle.papaya_protects.proofs.Given.LinearAsideActs.{IsQuiet, quiet_led, quiet_played}
+use Rattle.papaya_protects.proofs.Given.LinearGoing.{noted_beside}
+use Rattle.papaya_protects.proofs.Given.LinearHolding.{AllHolds}
+use Rattle.papaya_protects.proofs.Given.LinearLike.{IsLike}
+use Rattle.papaya_protects.proofs.Given.LinearRowsPlayed.{is_of_row, rows_like}
+use Rattle.papaya_protects.proofs.Given.PlayedTied.{CallTied, call_tied}
 use Rattle.papaya_endings.specs.Ends.{AlikeOf}
 use Rattle.papaya_endings.specs.Going.{GoesOnToEnd}
 use Rattle.papaya_endings.specs.GoingOn.{EndsGoOn}

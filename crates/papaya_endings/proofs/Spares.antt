@@ -12,8 +12,8 @@ use Rattle.papaya_deeds.specs.Given.Schedules.Entry.{acting}
 use Rattle.papaya_deeds.specs.Given.Schedules.Lists.{is_among, put}
 use Rattle.papaya_deeds.specs.Given.Schedules.Moment.{Behind, GivenBack, Handed, IsLinked, IsReclaimed, IsRetired, IsTaken, Left, MapThere, Moment, Out, Place, UnderWay}
 use Rattle.papaya_deeds.specs.Given.Schedules.Views.{behind, first_of, first_or, is_in_map, is_linked, tables_of}
-use Rattle.papaya_protects.proofs.Given.Follows.Alike.{others_found, put_elsewhere}
-use Rattle.papaya_protects.proofs.Given.Others.Outside.{in_map_of}
+use Rattle.papaya_protects.proofs.Given.FollowsAlike.{others_found, put_elsewhere}
+use Rattle.papaya_protects.proofs.Given.OthersOutside.{in_map_of}
 use Rattle.papaya_endings.specs.Ends.{AlikeOf, AreStored, IsOut, Spares}
 use Rattle.papaya_endings.proofs.Alike.{alike_itself, alike_then}
 use Rattle.papaya_endings.proofs.Left.{left_beside, linked_beside}

@@ -3,20 +3,20 @@ use Rattle.std.specs.Prelude.{◌≡◌, ℕ, Bool, Option, Some, None}
 use Rattle.std.proofs.Common.{ap, sym, subst, ◌∙◌}
 use Rattle.seize_acts.specs.Given.Seize.declared.rows.reclaim_all.ReclaimAll.{ReclaimAll}
 use Rattle.papaya_deeds.specs.Given.Tables.declared.setting.Setting.{Setting}
-use Rattle.papaya_protects.specs.Given.Teller.declared.changed.Changed.TheVariants.{Nothing as NoChange}
-use Rattle.papaya_protects.specs.Given.Finishes.Endings.{Finishing}
-use Rattle.papaya_protects.specs.Given.Scenes.Held.{IsAt}
-use Rattle.papaya_protects.specs.Given.Scenes.Scene.{Scene, at_first, slot_of}
-use Rattle.papaya_protects.specs.Given.Acts.Acts.{Act, Answer, AsksCall, BeginsCall, BeginsEnding, BeginsMaking, BeginsRow, StepsCall, StepsEnding, StepsMaking, StepsRow, StopsCall, TellsCall}
-use Rattle.papaya_protects.specs.Given.Acts.AsSteps.{LeadsAs, changed_by, held_in}
-use Rattle.papaya_protects.specs.Given.Acts.Leads.{Led, MayBe}
-use Rattle.papaya_protects.specs.Given.Agrees.Fresh.{HasNewNumber}
-use Rattle.papaya_protects.specs.Given.Played.Play.{Ending, State, all_begun, choice_come, first_state}
-use Rattle.papaya_protects.specs.Given.Played.Reached.{IsOf, rows_beside}
-use Rattle.papaya_protects.proofs.Given.Played.Along.{At, StaysSo}
-use Rattle.papaya_protects.proofs.Given.Played.PlayedAs.{PlayedAs, played_as, reclaimed_as}
-use Rattle.papaya_protects.proofs.Given.Linear.Holding.{AllHolds}
-use Rattle.papaya_protects.proofs.Given.Linear.Stays.{Of, all_stay}
+use Rattle.papaya_protects.specs.Given.TellerDeclared.changed.Changed.TheVariants.{Nothing as NoChange}
+use Rattle.papaya_protects.specs.Given.FinishesEndings.{Finishing}
+use Rattle.papaya_protects.specs.Given.ScenesHeld.{IsAt}
+use Rattle.papaya_protects.specs.Given.ScenesScene.{Scene, at_first, slot_of}
+use Rattle.papaya_protects.specs.Given.ActsActs.{Act, Answer, AsksCall, BeginsCall, BeginsEnding, BeginsMaking, BeginsRow, StepsCall, StepsEnding, StepsMaking, StepsRow, StopsCall, TellsCall}
+use Rattle.papaya_protects.specs.Given.ActsAsSteps.{LeadsAs, changed_by, held_in}
+use Rattle.papaya_protects.specs.Given.ActsLeads.{Led, MayBe}
+use Rattle.papaya_protects.specs.Given.AgreesFresh.{HasNewNumber}
+use Rattle.papaya_protects.specs.Given.PlayedPlay.{Ending, State, all_begun, choice_come, first_state}
+use Rattle.papaya_protects.specs.Given.PlayedReached.{IsOf, rows_beside}
+use Rattle.papaya_protects.proofs.Given.PlayedAlong.{At, StaysSo}
+use Rattle.papaya_protects.proofs.Given.PlayedPlayedAs.{PlayedAs, played_as, reclaimed_as}
+use Rattle.papaya_protects.proofs.Given.LinearHolding.{AllHolds}
+use Rattle.papaya_protects.proofs.Given.LinearStays.{Of, all_stay}
 use Rattle.papaya_endings.specs.GoingOn.{EndsGoOn}
 use Rattle.papaya_endings.proofs.EndStepGoes.{end_step_goes}
 use Rattle.papaya_endings.proofs.EndingGoes.{begins_going}

@@ -1,11 +1,11 @@
 -- A map that ends goes on to end: what it has still to reclaim, as it is noted, is next, one after another, and then nothing of the map is there.
 use Rattle.std.specs.Prelude.{◌≡◌, ◌++◌, ℕ, false, List, [], Some}
-use Rattle.papaya_protects.specs.Given.Finishes.Endings.{Finishing}
-use Rattle.papaya_protects.specs.Given.Finishes.FactsEnds.{back_of}
+use Rattle.papaya_protects.specs.Given.FinishesEndings.{Finishing}
+use Rattle.papaya_protects.specs.Given.FinishesFactsEnds.{back_of}
 use Rattle.papaya_deeds.specs.Given.Schedules.Moment.{MapThere, Moment}
 use Rattle.papaya_deeds.specs.Given.Schedules.Views.{map_at}
-use Rattle.papaya_protects.specs.Given.Effects.Known.{Known}
-use Rattle.papaya_protects.specs.Given.Logged.Ends.{ended_as}
+use Rattle.papaya_protects.specs.Given.EffectsKnown.{Known}
+use Rattle.papaya_protects.specs.Given.LoggedEnds.{ended_as}
 use Rattle.papaya_endings.specs.Ends.{AreStored, EndsWell}
 
 -- the map of this number is there yet, and these blocks are to be reclaimed

@@ -1,9 +1,9 @@
 -- Each map of which an end is under way goes on to end, and no two ends have one map.
 use Rattle.std.specs.Prelude.{◌≡◌, ◌≢◌, ℕ, Some}
-use Rattle.papaya_protects.specs.Given.Finishes.Endings.{Finishing}
-use Rattle.papaya_protects.specs.Given.Scenes.Scene.{Scene}
+use Rattle.papaya_protects.specs.Given.FinishesEndings.{Finishing}
+use Rattle.papaya_protects.specs.Given.ScenesScene.{Scene}
 use Rattle.papaya_deeds.specs.Deeds.{moment}
-use Rattle.papaya_protects.specs.Given.Played.Play.{Ending, State}
+use Rattle.papaya_protects.specs.Given.PlayedPlay.{Ending, State}
 use Rattle.papaya_endings.specs.Going.{GoesOnToEnd}
 
 pub record EndsGoOn {K V S : Type 0} (x : State K V S) (s : Scene K V) : Type 0 where

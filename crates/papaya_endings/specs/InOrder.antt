@@ -6,14 +6,14 @@ use Rattle.papaya_deeds.specs.Given.Schedules.After.{AtEachEvent}
 use Rattle.papaya_deeds.specs.Given.Schedules.Effects.{AtEachEffect}
 use Rattle.papaya_deeds.specs.Given.Schedules.Moment.{Moment}
 use Rattle.papaya_deeds.specs.Given.Schedules.Views.{size_of}
-use Rattle.papaya_protects.specs.Given.Scenes.Scene.{slot_of}
-use Rattle.papaya_protects.specs.Given.Acts.Doings.{Doing}
-use Rattle.papaya_protects.specs.Given.Acts.Lists.{Course, LedTo, Reached}
-use Rattle.papaya_protects.specs.Given.Agrees.Fresh.{MakesNew}
+use Rattle.papaya_protects.specs.Given.ScenesScene.{slot_of}
+use Rattle.papaya_protects.specs.Given.ActsDoings.{Doing}
+use Rattle.papaya_protects.specs.Given.ActsLists.{Course, LedTo, Reached}
+use Rattle.papaya_protects.specs.Given.AgreesFresh.{MakesNew}
 use Rattle.papaya_deeds.specs.Deeds.{Deed, Ends, Entry, MapGoes, moment, worked}
 use Rattle.papaya_deeds.specs.History.{EndFinds, left_tables}
-use Rattle.papaya_protects.specs.Given.Linear.Linear.{IsOfOwn}
-use Rattle.papaya_protects.specs.Given.Played.Play.{State, first_state, play_all}
+use Rattle.papaya_protects.specs.Given.LinearLinear.{IsOfOwn}
+use Rattle.papaya_protects.specs.Given.PlayedPlay.{State, first_state, play_all}
 
 module _ {K V : Type 0} where
   -- What a step of an end does to its map finds that next, at the moment before it; and after the last one no pair of the map is there, and none of its tables.

@@ -1,30 +1,30 @@
 -- Where no call is under way, and no guard is there, nobody is in the world, and what is retired is so in its log.
 use Rattle.std.specs.Prelude.{◌≡◌, ◌<◌, ◌^◌, ◌&&◌, ◌==◌, ℕ, Bool, true, false, List, [], ◌∷◌, find, Option, Some, None, if◌then◌else◌}
 use Rattle.std.proofs.Common.{refl, ap, sym, subst, ◌∙◌}
-use Rattle.papaya_stepping.specs.Given.Runs.Same.{is_same}
-use Rattle.papaya_stepping.specs.Given.Seize.World.{Rests, Use, IsOutside}
-use Rattle.papaya_stepping.specs.Given.Callers.Together.{CameAbout, UnderWay}
-use Rattle.papaya_values.specs.Given.Scenes.declared.row.SlotUse.{SlotUse}
-use Rattle.papaya_values.specs.Given.Scenes.declared.row.SlotUse.TheVariants as used
-use Rattle.papaya_stepping.specs.Given.Runs.Present.{Present, guards_on, has_registration}
-use Rattle.papaya_stepping.specs.Given.Runs.declared.holders.Guard.{Guard}
-use Rattle.papaya_values.specs.Given.Schedules.After.{moment}
-use Rattle.papaya_values.specs.Given.Schedules.Entry.{Entry}
-use Rattle.papaya_values.specs.Given.Schedules.Lists.{is_empty}
-use Rattle.papaya_values.specs.Given.Schedules.Moment.{Moment, UnderWay as CallThere}
-use Rattle.papaya_values.specs.Given.Schedules.Reclaims.{is_quiescent}
-use Rattle.papaya_values.specs.Given.Schedules.Terms.{Terms}
-use Rattle.papaya_values.specs.Given.Schedules.Views.{call_of}
-use Rattle.papaya_values.specs.Given.Effects.Known.{known}
-use Rattle.papaya_stepping.specs.Given.Finds.Bounded.{NobodyIsThere, ShowsRetired}
-use Rattle.papaya_stepping.specs.Given.Finds.Little.{ShowsNobody}
-use Rattle.papaya_stepping.proofs.Given.Legal.Found.{rest_shows_retired}
-use Rattle.papaya_stepping.specs.Given.Rows.Rows.{used_as}
-use Rattle.papaya_stepping.proofs.Given.Rows.Facts.{row_rests}
-use Rattle.papaya_stepping.specs.Given.Scheduler.declared.scheduler.Scheduler.{Scheduler}
+use Rattle.papaya_stepping.specs.Given.RunsSame.{is_same}
+use Rattle.papaya_stepping.specs.Given.SeizeWorld.{Rests, Use, IsOutside}
+use Rattle.papaya_stepping.specs.Given.CallersTogether.{CameAbout, UnderWay}
+use Rattle.papaya_values.specs.Given.ScenesDeclared.row.SlotUse.{SlotUse}
+use Rattle.papaya_values.specs.Given.ScenesDeclared.row.SlotUse.TheVariants as used
+use Rattle.papaya_stepping.specs.Given.RunsPresent.{Present, guards_on, has_registration}
+use Rattle.papaya_stepping.specs.Given.RunsDeclared.holders.Guard.{Guard}
+use Rattle.papaya_values.specs.Given.SchedulesAfter.{moment}
+use Rattle.papaya_values.specs.Given.SchedulesEntry.{Entry}
+use Rattle.papaya_values.specs.Given.SchedulesLists.{is_empty}
+use Rattle.papaya_values.specs.Given.SchedulesMoment.{Moment, UnderWay as CallThere}
+use Rattle.papaya_values.specs.Given.SchedulesReclaims.{is_quiescent}
+use Rattle.papaya_values.specs.Given.SchedulesTerms.{Terms}
+use Rattle.papaya_values.specs.Given.SchedulesViews.{call_of}
+use Rattle.papaya_values.specs.Given.EffectsKnown.{known}
+use Rattle.papaya_stepping.specs.Given.FindsBounded.{NobodyIsThere, ShowsRetired}
+use Rattle.papaya_stepping.specs.Given.FindsLittle.{ShowsNobody}
+use Rattle.papaya_stepping.proofs.Given.LegalFound.{rest_shows_retired}
+use Rattle.papaya_stepping.specs.Given.RowsRows.{used_as}
+use Rattle.papaya_stepping.proofs.Given.RowsFacts.{row_rests}
+use Rattle.papaya_stepping.specs.Given.SchedulerDeclared.scheduler.Scheduler.{Scheduler}
 use Rattle.papaya_events.specs.OfCalls.{Runs}
-use Rattle.papaya_stepping.specs.Given.Executor.IsThere.{IsUsedAs, held_by, use_at}
-use Rattle.papaya_values.specs.Given.Scenes.Scene.{Scene}
+use Rattle.papaya_stepping.specs.Given.ExecutorIsThere.{IsUsedAs, held_by, use_at}
+use Rattle.papaya_values.specs.Given.ScenesScene.{Scene}
 
 both : (a b : Bool) → (a && b) ≡ true → (a ≡ true) × (b ≡ true)
 both true b is = (refl, is)

@@ -1,55 +1,55 @@
 -- Events that reclaim all keep their promises, and a run goes on with them.
 use Rattle.std.specs.Prelude.{◌≡◌, ◌⊎◌, ◌<◌, ◌^◌, nat_lt, ℕ, suc, Bool, true, false, List, [], ◌∷◌, None, Result, Ok, Err, IfOk, slice_index_or, if◌then◌else◌, ◌≤◌}
 use Rattle.std.proofs.Common.{refl, ap, sym, subst, inl, inr, ◌∙◌, arith}
-use Rattle.papaya_stepping.specs.Given.Seize.ReclaimAll.{clearing, reclaiming_all}
-use Rattle.papaya_stepping.specs.Given.Seize.World.{World}
-use Rattle.papaya_stepping.specs.Given.Seize.declared.rows.reclaim_all.ReclaimAll.{ReclaimAll}
-use Rattle.papaya_stepping.specs.Given.Seize.declared.rows.settle.Settled.TheVariants as settled
-use Rattle.papaya_stepping.specs.Given.Tables.declared.node.Node.{Node}
-use Rattle.papaya_stepping.specs.Given.Finishes.Makings.{IsFreeRoot}
-use Rattle.papaya_stepping.specs.Given.SeizeWords.declared.fault.Fault.TheVariants.{Busy}
-use Rattle.papaya_values.specs.Given.Schedules.declared.event.Event.{Event}
-use Rattle.papaya_values.specs.Given.Schedules.declared.event.Event.TheVariants as events
-use Rattle.papaya_values.specs.Given.Schedules.declared.outcome.Outcome.{Outcome}
-use Rattle.papaya_values.specs.Given.Schedules.declared.outcome.Outcome.TheVariants.{Done, Refused}
-use Rattle.papaya_values.specs.Given.Schedules.After.{moment}
-use Rattle.papaya_values.specs.Given.Schedules.Effects.{AtEachEffect}
-use Rattle.papaya_values.specs.Given.Schedules.Entry.{Entry, speaker}
-use Rattle.papaya_values.specs.Given.Schedules.Handing.{gives_all}
-use Rattle.papaya_values.specs.Given.Schedules.InTurn.{ComesRight, IsKeptOut}
-use Rattle.papaya_values.specs.Given.Schedules.Moment.{Moment}
-use Rattle.papaya_values.specs.Given.Schedules.Terms.{Terms}
-use Rattle.papaya_values.specs.Given.Effects.Known.{known}
-use Rattle.papaya_values.specs.Given.Reclaims.Left.{IsSomebodys, LeftAmong}
-use Rattle.papaya_values.specs.Given.Reclaims.Reclaims.{IsRootOf}
-use Rattle.papaya_values.proofs.Given.Reclaims.Left.Stays.{nothing_is_left}
-use Rattle.papaya_stepping.specs.Given.Reclaiming.Reclaiming.{IsReclaimingThere, MayReclaim, NobodyHas}
-use Rattle.papaya_stepping.specs.Given.Finds.Little.{ReclaimsAll}
-use Rattle.papaya_stepping.proofs.Given.Folded.Steps.{none_in_order}
-use Rattle.papaya_stepping.proofs.Given.Legal.Come.{events_bring_things}
-use Rattle.papaya_stepping.proofs.Given.Legal.Heads.Chains.{all_step, all_taken}
-use Rattle.papaya_stepping.proofs.Given.Legal.Heads.Rows.{slots_stay, taken_then}
-use Rattle.papaya_stepping.specs.Given.Legal.AllEvents.{AllCome, AllSteps, BeginsAll, BehindAreLeft, BehindIsLeft, FindsPair, LeftIsBehind, all_begun}
-use Rattle.papaya_stepping.specs.Given.Legal.CallEvents.{IsLegalBut}
-use Rattle.papaya_stepping.specs.Given.Legal.Carried.{ShowsRun}
-use Rattle.papaya_stepping.proofs.Given.Legal.OfAll.Ends.{all_runs_to_its_end, none_called}
-use Rattle.papaya_stepping.proofs.Given.Legal.OfAll.Pairs.{all_find_pairs}
-use Rattle.papaya_stepping.specs.Given.Logged.Goes.{Far, ReclaimingGone, far}
-use Rattle.papaya_stepping.specs.Given.Logged.Shown.{IsShown}
-use Rattle.papaya_stepping.proofs.Given.Logged.ReclaimsRun.{same_setting}
-use Rattle.papaya_stepping.specs.Given.Scheduler.AllWorks.{WorksOnAll}
-use Rattle.papaya_stepping.specs.Given.Scheduler.Played.{IsPlayed, entry_of}
-use Rattle.papaya_stepping.specs.Given.Scheduler.Reclaiming.{MayGiveAll, are_gone}
-use Rattle.papaya_values.specs.Given.Named.declared.caller.Caller.{Caller}
-use Rattle.papaya_stepping.specs.Given.Scheduler.declared.played.Played.{Played}
-use Rattle.papaya_stepping.specs.Given.Scheduler.declared.scheduler.Scheduler.{Scheduler}
-use Rattle.papaya_stepping.proofs.Given.Mapping.AllGiven.{may_reclaim, nobody_has}
-use Rattle.papaya_stepping.proofs.Given.Scheduler.Rights.{entry, entry_is}
+use Rattle.papaya_stepping.specs.Given.SeizeReclaimAll.{clearing, reclaiming_all}
+use Rattle.papaya_stepping.specs.Given.SeizeWorld.{World}
+use Rattle.papaya_stepping.specs.Given.SeizeDeclared.rows.reclaim_all.ReclaimAll.{ReclaimAll}
+use Rattle.papaya_stepping.specs.Given.SeizeDeclared.rows.settle.Settled.TheVariants as settled
+use Rattle.papaya_stepping.specs.Given.TablesDeclared.node.Node.{Node}
+use Rattle.papaya_stepping.specs.Given.FinishesMakings.{IsFreeRoot}
+use Rattle.papaya_stepping.specs.Given.SeizeWordsDeclared.fault.Fault.TheVariants.{Busy}
+use Rattle.papaya_values.specs.Given.SchedulesDeclared.event.Event.{Event}
+use Rattle.papaya_values.specs.Given.SchedulesDeclared.event.Event.TheVariants as events
+use Rattle.papaya_values.specs.Given.SchedulesDeclared.outcome.Outcome.{Outcome}
+use Rattle.papaya_values.specs.Given.SchedulesDeclared.outcome.Outcome.TheVariants.{Done, Refused}
+use Rattle.papaya_values.specs.Given.SchedulesAfter.{moment}
+use Rattle.papaya_values.specs.Given.SchedulesEffects.{AtEachEffect}
+use Rattle.papaya_values.specs.Given.SchedulesEntry.{Entry, speaker}
+use Rattle.papaya_values.specs.Given.SchedulesHanding.{gives_all}
+use Rattle.papaya_values.specs.Given.SchedulesInTurn.{ComesRight, IsKeptOut}
+use Rattle.papaya_values.specs.Given.SchedulesMoment.{Moment}
+use Rattle.papaya_values.specs.Given.SchedulesTerms.{Terms}
+use Rattle.papaya_values.specs.Given.EffectsKnown.{known}
+use Rattle.papaya_values.specs.Given.ReclaimsLeft.{IsSomebodys, LeftAmong}
+use Rattle.papaya_values.specs.Given.ReclaimsReclaims.{IsRootOf}
+use Rattle.papaya_values.proofs.Given.ReclaimsLeft.Stays.{nothing_is_left}
+use Rattle.papaya_stepping.specs.Given.ReclaimingReclaiming.{IsReclaimingThere, MayReclaim, NobodyHas}
+use Rattle.papaya_stepping.specs.Given.FindsLittle.{ReclaimsAll}
+use Rattle.papaya_stepping.proofs.Given.FoldedSteps.{none_in_order}
+use Rattle.papaya_stepping.proofs.Given.LegalCome.{events_bring_things}
+use Rattle.papaya_stepping.proofs.Given.LegalHeads.Chains.{all_step, all_taken}
+use Rattle.papaya_stepping.proofs.Given.LegalHeads.Rows.{slots_stay, taken_then}
+use Rattle.papaya_stepping.specs.Given.LegalAllEvents.{AllCome, AllSteps, BeginsAll, BehindAreLeft, BehindIsLeft, FindsPair, LeftIsBehind, all_begun}
+use Rattle.papaya_stepping.specs.Given.LegalCallEvents.{IsLegalBut}
+use Rattle.papaya_stepping.specs.Given.LegalCarried.{ShowsRun}
+use Rattle.papaya_stepping.proofs.Given.LegalOfAll.Ends.{all_runs_to_its_end, none_called}
+use Rattle.papaya_stepping.proofs.Given.LegalOfAll.Pairs.{all_find_pairs}
+use Rattle.papaya_stepping.specs.Given.LoggedGoes.{Far, ReclaimingGone, far}
+use Rattle.papaya_stepping.specs.Given.LoggedShown.{IsShown}
+use Rattle.papaya_stepping.proofs.Given.LoggedReclaimsRun.{same_setting}
+use Rattle.papaya_stepping.specs.Given.SchedulerAllWorks.{WorksOnAll}
+use Rattle.papaya_stepping.specs.Given.SchedulerPlayed.{IsPlayed, entry_of}
+use Rattle.papaya_stepping.specs.Given.SchedulerReclaiming.{MayGiveAll, are_gone}
+use Rattle.papaya_values.specs.Given.NamedDeclared.caller.Caller.{Caller}
+use Rattle.papaya_stepping.specs.Given.SchedulerDeclared.played.Played.{Played}
+use Rattle.papaya_stepping.specs.Given.SchedulerDeclared.scheduler.Scheduler.{Scheduler}
+use Rattle.papaya_stepping.proofs.Given.MappingAllGiven.{may_reclaim, nobody_has}
+use Rattle.papaya_stepping.proofs.Given.SchedulerRights.{entry, entry_is}
 use Rattle.papaya_events.proofs.OfCalls.Worth.{have_values_then, nobody_says}
 use Rattle.papaya_events.specs.Asked.{Holds, is_of_calls, is_of_maps}
 use Rattle.papaya_events.specs.OfAll.{KeepsAll}
 use Rattle.papaya_events.specs.OfCalls.{HaveValues, Runs, RunsOn}
-use Rattle.papaya_stepping.proofs.Given.Works.Reached.{all_note_more}
+use Rattle.papaya_stepping.proofs.Given.WorksReached.{all_note_more}
 use Rattle.papaya_events.proofs.OfAll.Behind.{behind_so}
 use Rattle.papaya_events.proofs.OfAll.Chain.{AllComes, all_back, all_come, all_comes, is_over, leads, over_there, step_so, then_now, then_scene}
 use Rattle.papaya_events.proofs.OfCalls.Scenes.{AreNamed, its_named, stands_in}
@@ -57,8 +57,8 @@ use Rattle.papaya_events.proofs.OfRows.Lone.{alone_follows}
 use Rattle.papaya_events.proofs.OfRows.Quiet.{IsStill, still_keeps}
 use Rattle.papaya_events.proofs.Reached.{reached_after}
 use Rattle.papaya_events.proofs.Remaining.{counted_in, gives_all as gives_all_in}
-use Rattle.papaya_stepping.specs.Given.Executor.IsThere.{IsThere, held_by}
-use Rattle.papaya_values.specs.Given.Scenes.Scene.{Scene}
+use Rattle.papaya_stepping.specs.Given.ExecutorIsThere.{IsThere, held_by}
+use Rattle.papaya_values.specs.Given.ScenesScene.{Scene}
 pub mod Chain
 pub mod Behind
 

@@ -4,84 +4,84 @@ use Rattle.std.specs.List.{list_all}
 use Rattle.std.proofs.Common.{refl, sym, ap, subst, inl, inr, ◌∙◌, arith}
 use Rattle.std.proofs.lemmas.Bool.{cases_eq}
 use Rattle.std.proofs.lemmas.List.{append-nil}
-use Rattle.papaya_stepping.specs.Given.Seize.declared.rows.settle.Settled.{Settled}
-use Rattle.papaya_stepping.specs.Given.Seize.declared.rows.settle.Settled.TheVariants as settled
-use Rattle.papaya_stepping.specs.Given.Runs.Same.{is_same}
-use Rattle.papaya_stepping.specs.Given.Tables.Chunks.{is_incremental}
-use Rattle.papaya_stepping.specs.Given.Tables.declared.node.Node.{Node}
-use Rattle.papaya_stepping.proofs.Given.Callers.Together.At.{at_other, at_same}
-use Rattle.papaya_stepping.specs.Given.Finishes.Endings.{Finishing, finishing_of}
-use Rattle.papaya_stepping.specs.Given.Finishes.FactsEnds.{taken_by as taken_of}
-use Rattle.papaya_stepping.specs.Given.Finishes.Maps.{Standing}
-use Rattle.papaya_stepping.specs.Given.Finishes.Orders.{pairs_of}
-use Rattle.papaya_stepping.specs.Given.Rule.Chart.{Chart}
-use Rattle.papaya_values.specs.Given.Moments.Endings.{IsOfIts}
-use Rattle.papaya_values.specs.Given.Moments.WholeEnds.{all_ended, tables_ended}
-use Rattle.papaya_values.specs.Given.Others.Endings.{ending_after}
-use Rattle.papaya_stepping.specs.Given.Rule.InWorld.{IsMapIn}
-use Rattle.papaya_stepping.proofs.Given.Rule.Laws.{current_is_known}
-use Rattle.papaya_values.specs.Given.Follows.Maps.{ShowsMap}
-use Rattle.papaya_values.specs.Given.Schedules.declared.effect.Effect.{Effect}
-use Rattle.papaya_values.specs.Given.Schedules.declared.effect.Effect.TheVariants.{Ended}
-use Rattle.papaya_values.specs.Given.Schedules.declared.event.Event.{Event}
-use Rattle.papaya_values.specs.Given.Schedules.declared.event.Event.TheVariants.{EndMap}
-use Rattle.papaya_values.specs.Given.Schedules.declared.outcome.Outcome.TheVariants.{Done, Refused}
-use Rattle.papaya_values.specs.Given.Schedules.After.{moment}
-use Rattle.papaya_values.specs.Given.Schedules.Effects.{AtEachEffect, with_effects, worked}
-use Rattle.papaya_values.specs.Given.Schedules.Entry.{Entry}
-use Rattle.papaya_values.specs.Given.Schedules.Handing.{EndsMap, EndsNamed, IsWhole, may_do}
-use Rattle.papaya_values.specs.Given.Schedules.InTurn.{ComesRight}
-use Rattle.papaya_values.specs.Given.Schedules.Lives.{Finds}
-use Rattle.papaya_values.specs.Given.Schedules.Moment.{MapThere, Moment}
-use Rattle.papaya_values.specs.Given.Schedules.Terms.{Terms, shards_of}
-use Rattle.papaya_values.specs.Given.Schedules.Views.{map_at, map_of, number_of}
-use Rattle.papaya_values.specs.Given.Effects.Effects.{effects_of, known_after}
-use Rattle.papaya_values.specs.Given.Effects.Known.{Known, known}
-use Rattle.papaya_values.specs.Given.Effects.declared.acting.Acting.TheVariants as acts
-use Rattle.papaya_values.specs.Given.Effects.declared.role.Role.TheVariants as role
-use Rattle.papaya_stepping.proofs.Given.Legal.Heads.Chains.{endings_taken}
-use Rattle.papaya_stepping.proofs.Given.Legal.Heads.Rows.{slots_stay}
-use Rattle.papaya_stepping.specs.Given.Legal.CallEvents.{IsLegalBut}
-use Rattle.papaya_stepping.specs.Given.Legal.Carried.{ShowsRun}
-use Rattle.papaya_stepping.specs.Given.Legal.Chains.{Chain, Come, EndSteps}
-use Rattle.papaya_stepping.specs.Given.Legal.MapEvents.{InEndEvent}
-use Rattle.papaya_stepping.proofs.Given.Legal.Chains.{ends_chain, ends_run_to_their_ends}
-use Rattle.papaya_stepping.proofs.Given.Legal.MapsOver.{end_events_begin_so}
-use Rattle.papaya_stepping.proofs.Given.Remains.Numbered.{made_stays}
-use Rattle.papaya_stepping.specs.Given.Logged.Ends.{EndCame, EndIsBegun, NotedStill, NotesMap, ended_as, is_done}
-use Rattle.papaya_stepping.specs.Given.Logged.Goes.{EndGoes, EndOn, Far, GoesFor, far}
-use Rattle.papaya_stepping.specs.Given.Logged.Shown.{IsCounted, IsShown}
-use Rattle.papaya_stepping.specs.Given.Logged.Waits.{TellsLeft, TellsWaiting}
-use Rattle.papaya_stepping.proofs.Given.Logged.Counted.{counted_end_steps}
-use Rattle.papaya_stepping.proofs.Given.Logged.LeftNoted.{endings_note_left}
-use Rattle.papaya_stepping.proofs.Given.Logged.EndSteps.{end_there}
-use Rattle.papaya_stepping.proofs.Given.Logged.Held.{ending_held}
-use Rattle.papaya_stepping.proofs.Given.Logged.EndTold.{did_end, ends_alone, noted_on}
-use Rattle.papaya_stepping.proofs.Given.Rows.Lists.{found_has}
-use Rattle.papaya_stepping.specs.Given.Scheduler.Mapping.{AreApart}
-use Rattle.papaya_stepping.specs.Given.Scheduler.Played.{IsDue, IsPlayed, entry_of}
-use Rattle.papaya_stepping.specs.Given.Scheduler.Works.{HasEndedMap, WorksOnEnd}
-use Rattle.papaya_stepping.specs.Given.Scheduler.declared.played.Played.{Played}
-use Rattle.papaya_stepping.specs.Given.Scheduler.declared.scheduler.Scheduler.{Scheduler}
-use Rattle.papaya_stepping.proofs.Given.Mapping.MapsEnded.{here as ending_here, no_call, no_other, shown_mid}
-use Rattle.papaya_stepping.proofs.Given.Mapping.MapLists.{by_recursion}
-use Rattle.papaya_stepping.proofs.Given.Scheduler.Maps.{number_is}
-use Rattle.papaya_stepping.proofs.Given.Scheduler.Rights.{entry, entry_is}
+use Rattle.papaya_stepping.specs.Given.SeizeDeclared.rows.settle.Settled.{Settled}
+use Rattle.papaya_stepping.specs.Given.SeizeDeclared.rows.settle.Settled.TheVariants as settled
+use Rattle.papaya_stepping.specs.Given.RunsSame.{is_same}
+use Rattle.papaya_stepping.specs.Given.TablesChunks.{is_incremental}
+use Rattle.papaya_stepping.specs.Given.TablesDeclared.node.Node.{Node}
+use Rattle.papaya_stepping.proofs.Given.CallersTogether.At.{at_other, at_same}
+use Rattle.papaya_stepping.specs.Given.FinishesEndings.{Finishing, finishing_of}
+use Rattle.papaya_stepping.specs.Given.FinishesFactsEnds.{taken_by as taken_of}
+use Rattle.papaya_stepping.specs.Given.FinishesMaps.{Standing}
+use Rattle.papaya_stepping.specs.Given.FinishesOrders.{pairs_of}
+use Rattle.papaya_stepping.specs.Given.RuleChart.{Chart}
+use Rattle.papaya_values.specs.Given.MomentsEndings.{IsOfIts}
+use Rattle.papaya_values.specs.Given.MomentsWholeEnds.{all_ended, tables_ended}
+use Rattle.papaya_values.specs.Given.OthersEndings.{ending_after}
+use Rattle.papaya_stepping.specs.Given.RuleInWorld.{IsMapIn}
+use Rattle.papaya_stepping.proofs.Given.RuleLaws.{current_is_known}
+use Rattle.papaya_values.specs.Given.FollowsMaps.{ShowsMap}
+use Rattle.papaya_values.specs.Given.SchedulesDeclared.effect.Effect.{Effect}
+use Rattle.papaya_values.specs.Given.SchedulesDeclared.effect.Effect.TheVariants.{Ended}
+use Rattle.papaya_values.specs.Given.SchedulesDeclared.event.Event.{Event}
+use Rattle.papaya_values.specs.Given.SchedulesDeclared.event.Event.TheVariants.{EndMap}
+use Rattle.papaya_values.specs.Given.SchedulesDeclared.outcome.Outcome.TheVariants.{Done, Refused}
+use Rattle.papaya_values.specs.Given.SchedulesAfter.{moment}
+use Rattle.papaya_values.specs.Given.SchedulesEffects.{AtEachEffect, with_effects, worked}
+use Rattle.papaya_values.specs.Given.SchedulesEntry.{Entry}
+use Rattle.papaya_values.specs.Given.SchedulesHanding.{EndsMap, EndsNamed, IsWhole, may_do}
+use Rattle.papaya_values.specs.Given.SchedulesInTurn.{ComesRight}
+use Rattle.papaya_values.specs.Given.SchedulesLives.{Finds}
+use Rattle.papaya_values.specs.Given.SchedulesMoment.{MapThere, Moment}
+use Rattle.papaya_values.specs.Given.SchedulesTerms.{Terms, shards_of}
+use Rattle.papaya_values.specs.Given.SchedulesViews.{map_at, map_of, number_of}
+use Rattle.papaya_values.specs.Given.EffectsEffects.{effects_of, known_after}
+use Rattle.papaya_values.specs.Given.EffectsKnown.{Known, known}
+use Rattle.papaya_values.specs.Given.EffectsDeclared.acting.Acting.TheVariants as acts
+use Rattle.papaya_values.specs.Given.EffectsDeclared.role.Role.TheVariants as role
+use Rattle.papaya_stepping.proofs.Given.LegalHeads.Chains.{endings_taken}
+use Rattle.papaya_stepping.proofs.Given.LegalHeads.Rows.{slots_stay}
+use Rattle.papaya_stepping.specs.Given.LegalCallEvents.{IsLegalBut}
+use Rattle.papaya_stepping.specs.Given.LegalCarried.{ShowsRun}
+use Rattle.papaya_stepping.specs.Given.LegalChains.{Chain, Come, EndSteps}
+use Rattle.papaya_stepping.specs.Given.LegalMapEvents.{InEndEvent}
+use Rattle.papaya_stepping.proofs.Given.LegalChains.{ends_chain, ends_run_to_their_ends}
+use Rattle.papaya_stepping.proofs.Given.LegalMapsOver.{end_events_begin_so}
+use Rattle.papaya_stepping.proofs.Given.RemainsNumbered.{made_stays}
+use Rattle.papaya_stepping.specs.Given.LoggedEnds.{EndCame, EndIsBegun, NotedStill, NotesMap, ended_as, is_done}
+use Rattle.papaya_stepping.specs.Given.LoggedGoes.{EndGoes, EndOn, Far, GoesFor, far}
+use Rattle.papaya_stepping.specs.Given.LoggedShown.{IsCounted, IsShown}
+use Rattle.papaya_stepping.specs.Given.LoggedWaits.{TellsLeft, TellsWaiting}
+use Rattle.papaya_stepping.proofs.Given.LoggedCounted.{counted_end_steps}
+use Rattle.papaya_stepping.proofs.Given.LoggedLeftNoted.{endings_note_left}
+use Rattle.papaya_stepping.proofs.Given.LoggedEndSteps.{end_there}
+use Rattle.papaya_stepping.proofs.Given.LoggedHeld.{ending_held}
+use Rattle.papaya_stepping.proofs.Given.LoggedEndTold.{did_end, ends_alone, noted_on}
+use Rattle.papaya_stepping.proofs.Given.RowsLists.{found_has}
+use Rattle.papaya_stepping.specs.Given.SchedulerMapping.{AreApart}
+use Rattle.papaya_stepping.specs.Given.SchedulerPlayed.{IsDue, IsPlayed, entry_of}
+use Rattle.papaya_stepping.specs.Given.SchedulerWorks.{HasEndedMap, WorksOnEnd}
+use Rattle.papaya_stepping.specs.Given.SchedulerDeclared.played.Played.{Played}
+use Rattle.papaya_stepping.specs.Given.SchedulerDeclared.scheduler.Scheduler.{Scheduler}
+use Rattle.papaya_stepping.proofs.Given.MappingMapsEnded.{here as ending_here, no_call, no_other, shown_mid}
+use Rattle.papaya_stepping.proofs.Given.MappingMapLists.{by_recursion}
+use Rattle.papaya_stepping.proofs.Given.SchedulerMaps.{number_is}
+use Rattle.papaya_stepping.proofs.Given.SchedulerRights.{entry, entry_is}
 use Rattle.papaya_events.specs.Asked.{Holds}
 use Rattle.papaya_events.specs.OfCalls.{HaveShards, Runs, RunsOn}
 use Rattle.papaya_events.specs.OfRows.{KeepsRun}
-use Rattle.papaya_stepping.proofs.Given.Works.Ends.{ends_find_all}
-use Rattle.papaya_stepping.proofs.Given.Works.Reached.{ends_note_more}
+use Rattle.papaya_stepping.proofs.Given.WorksEnds.{ends_find_all}
+use Rattle.papaya_stepping.proofs.Given.WorksReached.{ends_note_more}
 use Rattle.papaya_events.proofs.OfRows.Over.{over_runs}
 use Rattle.papaya_events.proofs.OfRows.Chain.{come_as, come_by}
 use Rattle.papaya_events.proofs.OfRows.Lone.{alone_follows}
 use Rattle.papaya_events.proofs.OfRows.Quiet.{refused_still, still_keeps}
-use Rattle.papaya_stepping.proofs.Given.Executor.Fresh.{no_ending_yet}
-use Rattle.papaya_stepping.specs.Given.Executor.Ending.{EndsThere, NoCallOn}
-use Rattle.papaya_stepping.specs.Given.Executor.IsThere.{IsThere, held_by}
-use Rattle.papaya_values.specs.Given.Scenes.Ending.{EndingLeads, ending_begun}
-use Rattle.papaya_values.specs.Given.Scenes.Scene.{Scene}
-use Rattle.papaya_values.specs.Given.Scenes.Held.{Held}
+use Rattle.papaya_stepping.proofs.Given.ExecutorFresh.{no_ending_yet}
+use Rattle.papaya_stepping.specs.Given.ExecutorEnding.{EndsThere, NoCallOn}
+use Rattle.papaya_stepping.specs.Given.ExecutorIsThere.{IsThere, held_by}
+use Rattle.papaya_values.specs.Given.ScenesEnding.{EndingLeads, ending_begun}
+use Rattle.papaya_values.specs.Given.ScenesScene.{Scene}
+use Rattle.papaya_values.specs.Given.ScenesHeld.{Held}
 
 -- What an end does it may do: pairs end with their map, and then its tables.
 module _ {K V : Type 0} (own : List ℕ) (m : Moment K V) where

@@ -4,72 +4,72 @@ use Rattle.std.specs.List.{AllByRecursion}
 use Rattle.std.proofs.Common.{refl, sym, ap, subst, inl, inr, ◌∙◌, arith}
 use Rattle.std.proofs.lemmas.Bool.{eq-eqb, ne_eqb}
 use Rattle.std.proofs.lemmas.Nat.{pow_pos}
-use Rattle.papaya_stepping.specs.Given.Seize.declared.progress.Progress.{Progress}
-use Rattle.papaya_stepping.specs.Given.Seize.declared.progress.Progress.TheVariants as progress
-use Rattle.papaya_stepping.specs.Given.Runs.Same.{is_same}
-use Rattle.papaya_stepping.specs.Given.Tables.declared.resize_mode.ResizeMode.{ResizeMode}
-use Rattle.papaya_stepping.specs.Given.Tables.Lengths.{places_for}
-use Rattle.papaya_stepping.specs.Given.Tables.Powers.{floor_log2, next_power}
-use Rattle.papaya_stepping.specs.Given.Tables.declared.setting.Setting.{Setting}
-use Rattle.papaya_stepping.proofs.Given.Callers.Together.At.{at_same}
-use Rattle.papaya_stepping.specs.Given.Executor.declared.executor.Executor.{Executor}
-use Rattle.papaya_stepping.specs.Given.Finishes.Makings.{Beginning}
-use Rattle.papaya_stepping.specs.Given.Finishes.Maps.{Standing}
-use Rattle.papaya_values.specs.Given.Others.Makings.{IsNew, WasNew}
-use Rattle.papaya_stepping.specs.Given.SeizeWords.declared.fault.Fault.{Fault}
-use Rattle.papaya_stepping.proofs.Given.Runs.Sames.{same_refl}
-use Rattle.papaya_values.specs.Given.Schedules.declared.effect.Effect.{Effect}
-use Rattle.papaya_values.specs.Given.Schedules.declared.event.Event.{Event}
-use Rattle.papaya_values.specs.Given.Schedules.declared.event.Event.TheVariants.{MakeMap}
-use Rattle.papaya_values.specs.Given.Schedules.declared.outcome.Outcome.TheVariants.{Done, Refused}
-use Rattle.papaya_values.specs.Given.Schedules.After.{moment}
-use Rattle.papaya_values.specs.Given.Schedules.Beginning.{used_roots, with_map}
-use Rattle.papaya_values.specs.Given.Schedules.Effects.{with_effects, worked}
-use Rattle.papaya_values.specs.Given.Schedules.Entry.{Entry}
-use Rattle.papaya_values.specs.Given.Schedules.Handing.{IsWhole, is_first_making, is_table_made, may_do, tables_named}
-use Rattle.papaya_values.specs.Given.Schedules.InTurn.{ComesRight}
-use Rattle.papaya_values.specs.Given.Schedules.Lists.{least_free}
-use Rattle.papaya_values.specs.Given.Schedules.Moment.{MapThere, Moment}
-use Rattle.papaya_values.specs.Given.Schedules.Terms.{Terms, shards_of}
-use Rattle.papaya_values.specs.Given.Schedules.Views.{map_at, map_of, number_of, tables_of}
-use Rattle.papaya_values.specs.Given.Effects.Known.{Known, known}
-use Rattle.papaya_values.specs.Given.Effects.declared.notes.Notes.{Notes}
-use Rattle.papaya_stepping.proofs.Given.Legal.Heads.Chains.{makings_taken}
-use Rattle.papaya_stepping.proofs.Given.Legal.Heads.Rows.{slots_stay}
-use Rattle.papaya_stepping.proofs.Given.Finds.Capacities.{given_are_for}
-use Rattle.papaya_stepping.specs.Given.Legal.CallEvents.{IsLegalBut}
-use Rattle.papaya_stepping.specs.Given.Models.Follows.{FollowsModel}
-use Rattle.papaya_stepping.specs.Given.Legal.Carried.{ComesAlone, ShowsRun}
-use Rattle.papaya_stepping.specs.Given.Legal.Chains.{Chain as StepChain, Come, MakingSteps}
-use Rattle.papaya_stepping.specs.Given.Legal.MapEvents.{InMakingEvent}
-use Rattle.papaya_stepping.proofs.Given.Legal.Chains.{makings_run_to_their_ends}
-use Rattle.papaya_stepping.proofs.Given.Legal.MapsOver.{making_events_begin_so}
-use Rattle.papaya_stepping.specs.Given.Works.Makings.{CountsTables, table_left}
-use Rattle.papaya_stepping.proofs.Given.Works.Firsts.{makings_open}
-use Rattle.papaya_values.specs.Given.Reclaims.Left.{LeftAmong}
-use Rattle.papaya_stepping.specs.Given.Logged.Goes.{far}
-use Rattle.papaya_stepping.specs.Given.Logged.Makings.{MakingIsBegun}
-use Rattle.papaya_stepping.specs.Given.Logged.Shown.{IsShown}
-use Rattle.papaya_stepping.specs.Given.Logged.declared.logged.Logged.{Logged}
-use Rattle.papaya_stepping.proofs.Given.Logged.GivenBack.{with_maps}
-use Rattle.papaya_stepping.proofs.Given.Rows.Lists.{found_alike}
-use Rattle.papaya_stepping.proofs.Given.Tables.Logarithms.{next-power-unique}
-use Rattle.papaya_values.specs.Given.Named.Places.{first_places}
-use Rattle.papaya_stepping.specs.Given.Scheduler.Mapping.{MayMap}
-use Rattle.papaya_stepping.specs.Given.Scheduler.Played.{IsPlayed, entry_of}
-use Rattle.papaya_values.specs.Given.Named.Seen.{named as named_of_map, number_named}
-use Rattle.papaya_stepping.specs.Given.Scheduler.Works.{MakingHasRun, WorksOnMap}
-use Rattle.papaya_stepping.specs.Given.Scheduler.declared.played.Played.{Played}
-use Rattle.papaya_stepping.specs.Given.Scheduler.declared.scheduler.Scheduler.{Scheduler}
-use Rattle.papaya_stepping.proofs.Given.Mapping.MapLists.{by_recursion}
-use Rattle.papaya_stepping.proofs.Given.Mapping.MapsMade.{new_one, shown_there as shown_by}
-use Rattle.papaya_stepping.proofs.Given.Scheduler.Maps.{number_is}
-use Rattle.papaya_stepping.proofs.Given.Scheduler.RanOn.{maps_named}
-use Rattle.papaya_stepping.proofs.Given.Scheduler.Rights.{entry, entry_is}
+use Rattle.papaya_stepping.specs.Given.SeizeDeclared.progress.Progress.{Progress}
+use Rattle.papaya_stepping.specs.Given.SeizeDeclared.progress.Progress.TheVariants as progress
+use Rattle.papaya_stepping.specs.Given.RunsSame.{is_same}
+use Rattle.papaya_stepping.specs.Given.TablesDeclared.resize_mode.ResizeMode.{ResizeMode}
+use Rattle.papaya_stepping.specs.Given.TablesLengths.{places_for}
+use Rattle.papaya_stepping.specs.Given.TablesPowers.{floor_log2, next_power}
+use Rattle.papaya_stepping.specs.Given.TablesDeclared.setting.Setting.{Setting}
+use Rattle.papaya_stepping.proofs.Given.CallersTogether.At.{at_same}
+use Rattle.papaya_stepping.specs.Given.ExecutorDeclared.executor.Executor.{Executor}
+use Rattle.papaya_stepping.specs.Given.FinishesMakings.{Beginning}
+use Rattle.papaya_stepping.specs.Given.FinishesMaps.{Standing}
+use Rattle.papaya_values.specs.Given.OthersMakings.{IsNew, WasNew}
+use Rattle.papaya_stepping.specs.Given.SeizeWordsDeclared.fault.Fault.{Fault}
+use Rattle.papaya_stepping.proofs.Given.RunsSames.{same_refl}
+use Rattle.papaya_values.specs.Given.SchedulesDeclared.effect.Effect.{Effect}
+use Rattle.papaya_values.specs.Given.SchedulesDeclared.event.Event.{Event}
+use Rattle.papaya_values.specs.Given.SchedulesDeclared.event.Event.TheVariants.{MakeMap}
+use Rattle.papaya_values.specs.Given.SchedulesDeclared.outcome.Outcome.TheVariants.{Done, Refused}
+use Rattle.papaya_values.specs.Given.SchedulesAfter.{moment}
+use Rattle.papaya_values.specs.Given.SchedulesBeginning.{used_roots, with_map}
+use Rattle.papaya_values.specs.Given.SchedulesEffects.{with_effects, worked}
+use Rattle.papaya_values.specs.Given.SchedulesEntry.{Entry}
+use Rattle.papaya_values.specs.Given.SchedulesHanding.{IsWhole, is_first_making, is_table_made, may_do, tables_named}
+use Rattle.papaya_values.specs.Given.SchedulesInTurn.{ComesRight}
+use Rattle.papaya_values.specs.Given.SchedulesLists.{least_free}
+use Rattle.papaya_values.specs.Given.SchedulesMoment.{MapThere, Moment}
+use Rattle.papaya_values.specs.Given.SchedulesTerms.{Terms, shards_of}
+use Rattle.papaya_values.specs.Given.SchedulesViews.{map_at, map_of, number_of, tables_of}
+use Rattle.papaya_values.specs.Given.EffectsKnown.{Known, known}
+use Rattle.papaya_values.specs.Given.EffectsDeclared.notes.Notes.{Notes}
+use Rattle.papaya_stepping.proofs.Given.LegalHeads.Chains.{makings_taken}
+use Rattle.papaya_stepping.proofs.Given.LegalHeads.Rows.{slots_stay}
+use Rattle.papaya_stepping.proofs.Given.FindsCapacities.{given_are_for}
+use Rattle.papaya_stepping.specs.Given.LegalCallEvents.{IsLegalBut}
+use Rattle.papaya_stepping.specs.Given.ModelsFollows.{FollowsModel}
+use Rattle.papaya_stepping.specs.Given.LegalCarried.{ComesAlone, ShowsRun}
+use Rattle.papaya_stepping.specs.Given.LegalChains.{Chain as StepChain, Come, MakingSteps}
+use Rattle.papaya_stepping.specs.Given.LegalMapEvents.{InMakingEvent}
+use Rattle.papaya_stepping.proofs.Given.LegalChains.{makings_run_to_their_ends}
+use Rattle.papaya_stepping.proofs.Given.LegalMapsOver.{making_events_begin_so}
+use Rattle.papaya_stepping.specs.Given.WorksMakings.{CountsTables, table_left}
+use Rattle.papaya_stepping.proofs.Given.WorksFirsts.{makings_open}
+use Rattle.papaya_values.specs.Given.ReclaimsLeft.{LeftAmong}
+use Rattle.papaya_stepping.specs.Given.LoggedGoes.{far}
+use Rattle.papaya_stepping.specs.Given.LoggedMakings.{MakingIsBegun}
+use Rattle.papaya_stepping.specs.Given.LoggedShown.{IsShown}
+use Rattle.papaya_stepping.specs.Given.LoggedDeclared.logged.Logged.{Logged}
+use Rattle.papaya_stepping.proofs.Given.LoggedGivenBack.{with_maps}
+use Rattle.papaya_stepping.proofs.Given.RowsLists.{found_alike}
+use Rattle.papaya_stepping.proofs.Given.TablesLogarithms.{next-power-unique}
+use Rattle.papaya_values.specs.Given.NamedPlaces.{first_places}
+use Rattle.papaya_stepping.specs.Given.SchedulerMapping.{MayMap}
+use Rattle.papaya_stepping.specs.Given.SchedulerPlayed.{IsPlayed, entry_of}
+use Rattle.papaya_values.specs.Given.NamedSeen.{named as named_of_map, number_named}
+use Rattle.papaya_stepping.specs.Given.SchedulerWorks.{MakingHasRun, WorksOnMap}
+use Rattle.papaya_stepping.specs.Given.SchedulerDeclared.played.Played.{Played}
+use Rattle.papaya_stepping.specs.Given.SchedulerDeclared.scheduler.Scheduler.{Scheduler}
+use Rattle.papaya_stepping.proofs.Given.MappingMapLists.{by_recursion}
+use Rattle.papaya_stepping.proofs.Given.MappingMapsMade.{new_one, shown_there as shown_by}
+use Rattle.papaya_stepping.proofs.Given.SchedulerMaps.{number_is}
+use Rattle.papaya_stepping.proofs.Given.SchedulerRanOn.{maps_named}
+use Rattle.papaya_stepping.proofs.Given.SchedulerRights.{entry, entry_is}
 use Rattle.papaya_events.specs.Asked.{Holds}
 use Rattle.papaya_events.specs.OfCalls.{HaveShards, Runs, RunsOn}
 use Rattle.papaya_events.specs.OfRows.{KeepsRun}
-use Rattle.papaya_stepping.proofs.Given.Works.Reached.{makings_note_more}
+use Rattle.papaya_stepping.proofs.Given.WorksReached.{makings_note_more}
 use Rattle.papaya_events.proofs.OfMakings.Begun.{begun_as, begun_in, begun_shown, none_begun}
 use Rattle.papaya_events.proofs.OfMakings.Chain.{HasFound, MakingComes, Midway, comes_on, counts_on, found_on, makings_come, masks}
 use Rattle.papaya_events.proofs.OfMakings.Unmade.{refused_runs}
@@ -79,8 +79,8 @@ use Rattle.papaya_events.proofs.OfRows.Over.{over_runs}
 use Rattle.papaya_events.proofs.OfRows.May.{all_by}
 use Rattle.papaya_events.proofs.OfRows.Quiet.{refused_still, still_keeps}
 use Rattle.papaya_events.proofs.Remaining.{nobody_makes}
-use Rattle.papaya_stepping.specs.Given.Executor.IsThere.{IsThere, held_by}
-use Rattle.papaya_values.specs.Given.Scenes.Scene.{Scene}
+use Rattle.papaya_stepping.specs.Given.ExecutorIsThere.{IsThere, held_by}
+use Rattle.papaya_values.specs.Given.ScenesScene.{Scene}
 pub mod Chain
 pub mod Begun
 pub mod Unmade

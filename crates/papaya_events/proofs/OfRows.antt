@@ -2,80 +2,80 @@
 use Rattle.std.specs.Prelude.{◌≡◌, ◌≤◌, ◌&&◌, ◌||◌, ◌<◌, ◌^◌, ℕ, Bool, true, false, List, [], ◌∷◌, Some, None, Result, Ok, Err, IfOk, if◌then◌else◌}
 use Rattle.std.specs.List.{list_all}
 use Rattle.std.proofs.Common.{refl, ap, sym, subst, inl, inr, ◌∙◌, arith}
-use Rattle.papaya_stepping.specs.Given.SeizeWords.Mem.{Mem}
-use Rattle.papaya_stepping.specs.Given.Seize.World.{Begin, IsInside, Rests, SlotsTaken}
-use Rattle.papaya_stepping.specs.Given.Seize.declared.rows.register.Registering.TheVariants as registering
-use Rattle.papaya_stepping.specs.Given.Tables.declared.node.Node.{Node}
-use Rattle.papaya_values.specs.Given.Scenes.declared.row.RowTold.{RowTold}
-use Rattle.papaya_values.specs.Given.Scenes.declared.row.SlotCall.{SlotCall}
-use Rattle.papaya_values.specs.Given.Others.Rows.{scene_then}
-use Rattle.papaya_values.proofs.Given.Spots.Unreclaimed.{and_both, or_right}
-use Rattle.papaya_stepping.specs.Given.SeizeWords.declared.fault.Fault.TheVariants.{Busy}
-use Rattle.papaya_values.specs.Given.Scenes.declared.row.SlotCall.TheVariants as call
-use Rattle.papaya_stepping.specs.Given.Executor.declared.worker.Work.TheVariants.{OnSlot}
-use Rattle.papaya_stepping.specs.Given.Runs.Present.{has_registration}
-use Rattle.papaya_values.specs.Given.Schedules.declared.effect.Effect.{Effect}
-use Rattle.papaya_values.specs.Given.Schedules.declared.event.Event.{Event}
-use Rattle.papaya_values.specs.Given.Schedules.declared.event.Event.TheVariants.{DropGuard, Enter, Flush, Own, Refresh, Register, Unregister}
-use Rattle.papaya_values.specs.Given.Schedules.declared.outcome.Outcome.{Outcome}
-use Rattle.papaya_values.specs.Given.Schedules.declared.outcome.Outcome.TheVariants.{Done, Refused}
-use Rattle.papaya_values.specs.Given.Schedules.After.{moment, slots_on}
-use Rattle.papaya_values.specs.Given.Schedules.Beginning.{begun}
-use Rattle.papaya_values.specs.Given.Schedules.Effects.{AtEachEffect}
-use Rattle.papaya_values.specs.Given.Schedules.Entry.{Entry, speaker}
-use Rattle.papaya_values.specs.Given.Schedules.Handing.{asks_for_bucket, gives_all, is_only, is_reclaiming, may_do}
-use Rattle.papaya_values.specs.Given.Schedules.InTurn.{ComesRight}
-use Rattle.papaya_values.specs.Given.Schedules.Lives.{Finds}
-use Rattle.papaya_values.specs.Given.Schedules.Moment.{Moment}
-use Rattle.papaya_values.specs.Given.Schedules.InUse.{used_slots}
-use Rattle.papaya_values.specs.Given.Schedules.Lists.{least_free}
-use Rattle.papaya_stepping.specs.Given.Runs.Present.{Present}
-use Rattle.papaya_values.specs.Given.Schedules.Terms.{Terms}
-use Rattle.papaya_values.specs.Given.Effects.Known.{known}
-use Rattle.papaya_values.specs.Given.Effects.declared.notes.Notes.{Notes}
-use Rattle.papaya_values.specs.Given.Scenes.declared.row.RowTold.TheVariants as told
-use Rattle.papaya_stepping.specs.Given.Promises.Others.{SparesGuards}
-use Rattle.papaya_stepping.specs.Given.Promises.Protected.{is_of_slots, there_in}
-use Rattle.papaya_stepping.specs.Given.Models.OnSlots.{IsRowFor}
-use Rattle.papaya_stepping.specs.Given.Finds.Little.{ReclaimsAll}
-use Rattle.papaya_stepping.proofs.Given.Legal.Heads.Registers.{IsOtherCall, ThenSo, other_begun, others_taken, registers_taken}
-use Rattle.papaya_stepping.specs.Given.Legal.CallEvents.{IsLegalBut}
-use Rattle.papaya_stepping.specs.Given.Legal.Carried.{ShowsRun}
-use Rattle.papaya_stepping.specs.Given.Legal.Chains.{Chain as StepChain, RowSteps}
-use Rattle.papaya_stepping.specs.Given.Legal.Found.{AsksInNeed}
-use Rattle.papaya_stepping.specs.Given.Legal.SlotEvents.{InSlotEvent}
-use Rattle.papaya_stepping.proofs.Given.Legal.Chains.{rows_run_to_their_ends}
-use Rattle.papaya_stepping.proofs.Given.Legal.Found.{row_chains_find}
-use Rattle.papaya_stepping.proofs.Given.Legal.Slots.{slot_events_begin_so}
-use Rattle.papaya_stepping.specs.Given.Logged.Goes.{far}
-use Rattle.papaya_stepping.specs.Given.Logged.OnSlots.{has_come}
-use Rattle.papaya_stepping.specs.Given.Remains.Slots.{SlotsNoted}
-use Rattle.papaya_stepping.specs.Given.Rows.Rows.{RowRan, left_as}
-use Rattle.papaya_stepping.proofs.Given.Rows.Facts.{row_rests}
-use Rattle.papaya_stepping.specs.Given.Scheduler.Played.{IsPlayed, entry_of}
-use Rattle.papaya_stepping.specs.Given.Scheduler.Works.{ComesBy, IsAbout, IsItsRow, WorksOnSlot, told_so}
-use Rattle.papaya_stepping.specs.Given.Scheduler.declared.played.Played.{Played}
-use Rattle.papaya_stepping.specs.Given.Scheduler.declared.scheduler.Scheduler.{Scheduler}
-use Rattle.papaya_stepping.proofs.Given.Scheduler.Rights.{entry, entry_is}
+use Rattle.papaya_stepping.specs.Given.SeizeWordsMem.{Mem}
+use Rattle.papaya_stepping.specs.Given.SeizeWorld.{Begin, IsInside, Rests, SlotsTaken}
+use Rattle.papaya_stepping.specs.Given.SeizeDeclared.rows.register.Registering.TheVariants as registering
+use Rattle.papaya_stepping.specs.Given.TablesDeclared.node.Node.{Node}
+use Rattle.papaya_values.specs.Given.ScenesDeclared.row.RowTold.{RowTold}
+use Rattle.papaya_values.specs.Given.ScenesDeclared.row.SlotCall.{SlotCall}
+use Rattle.papaya_values.specs.Given.OthersRows.{scene_then}
+use Rattle.papaya_values.proofs.Given.SpotsUnreclaimed.{and_both, or_right}
+use Rattle.papaya_stepping.specs.Given.SeizeWordsDeclared.fault.Fault.TheVariants.{Busy}
+use Rattle.papaya_values.specs.Given.ScenesDeclared.row.SlotCall.TheVariants as call
+use Rattle.papaya_stepping.specs.Given.ExecutorDeclared.worker.Work.TheVariants.{OnSlot}
+use Rattle.papaya_stepping.specs.Given.RunsPresent.{has_registration}
+use Rattle.papaya_values.specs.Given.SchedulesDeclared.effect.Effect.{Effect}
+use Rattle.papaya_values.specs.Given.SchedulesDeclared.event.Event.{Event}
+use Rattle.papaya_values.specs.Given.SchedulesDeclared.event.Event.TheVariants.{DropGuard, Enter, Flush, Own, Refresh, Register, Unregister}
+use Rattle.papaya_values.specs.Given.SchedulesDeclared.outcome.Outcome.{Outcome}
+use Rattle.papaya_values.specs.Given.SchedulesDeclared.outcome.Outcome.TheVariants.{Done, Refused}
+use Rattle.papaya_values.specs.Given.SchedulesAfter.{moment, slots_on}
+use Rattle.papaya_values.specs.Given.SchedulesBeginning.{begun}
+use Rattle.papaya_values.specs.Given.SchedulesEffects.{AtEachEffect}
+use Rattle.papaya_values.specs.Given.SchedulesEntry.{Entry, speaker}
+use Rattle.papaya_values.specs.Given.SchedulesHanding.{asks_for_bucket, gives_all, is_only, is_reclaiming, may_do}
+use Rattle.papaya_values.specs.Given.SchedulesInTurn.{ComesRight}
+use Rattle.papaya_values.specs.Given.SchedulesLives.{Finds}
+use Rattle.papaya_values.specs.Given.SchedulesMoment.{Moment}
+use Rattle.papaya_values.specs.Given.SchedulesInUse.{used_slots}
+use Rattle.papaya_values.specs.Given.SchedulesLists.{least_free}
+use Rattle.papaya_stepping.specs.Given.RunsPresent.{Present}
+use Rattle.papaya_values.specs.Given.SchedulesTerms.{Terms}
+use Rattle.papaya_values.specs.Given.EffectsKnown.{known}
+use Rattle.papaya_values.specs.Given.EffectsDeclared.notes.Notes.{Notes}
+use Rattle.papaya_values.specs.Given.ScenesDeclared.row.RowTold.TheVariants as told
+use Rattle.papaya_stepping.specs.Given.PromisesOthers.{SparesGuards}
+use Rattle.papaya_stepping.specs.Given.PromisesProtected.{is_of_slots, there_in}
+use Rattle.papaya_stepping.specs.Given.ModelsOnSlots.{IsRowFor}
+use Rattle.papaya_stepping.specs.Given.FindsLittle.{ReclaimsAll}
+use Rattle.papaya_stepping.proofs.Given.LegalHeads.Registers.{IsOtherCall, ThenSo, other_begun, others_taken, registers_taken}
+use Rattle.papaya_stepping.specs.Given.LegalCallEvents.{IsLegalBut}
+use Rattle.papaya_stepping.specs.Given.LegalCarried.{ShowsRun}
+use Rattle.papaya_stepping.specs.Given.LegalChains.{Chain as StepChain, RowSteps}
+use Rattle.papaya_stepping.specs.Given.LegalFound.{AsksInNeed}
+use Rattle.papaya_stepping.specs.Given.LegalSlotEvents.{InSlotEvent}
+use Rattle.papaya_stepping.proofs.Given.LegalChains.{rows_run_to_their_ends}
+use Rattle.papaya_stepping.proofs.Given.LegalFound.{row_chains_find}
+use Rattle.papaya_stepping.proofs.Given.LegalSlots.{slot_events_begin_so}
+use Rattle.papaya_stepping.specs.Given.LoggedGoes.{far}
+use Rattle.papaya_stepping.specs.Given.LoggedOnSlots.{has_come}
+use Rattle.papaya_stepping.specs.Given.RemainsSlots.{SlotsNoted}
+use Rattle.papaya_stepping.specs.Given.RowsRows.{RowRan, left_as}
+use Rattle.papaya_stepping.proofs.Given.RowsFacts.{row_rests}
+use Rattle.papaya_stepping.specs.Given.SchedulerPlayed.{IsPlayed, entry_of}
+use Rattle.papaya_stepping.specs.Given.SchedulerWorks.{ComesBy, IsAbout, IsItsRow, WorksOnSlot, told_so}
+use Rattle.papaya_stepping.specs.Given.SchedulerDeclared.played.Played.{Played}
+use Rattle.papaya_stepping.specs.Given.SchedulerDeclared.scheduler.Scheduler.{Scheduler}
+use Rattle.papaya_stepping.proofs.Given.SchedulerRights.{entry, entry_is}
 use Rattle.papaya_events.specs.OfCalls.{HaveShards, Runs, RunsOn}
 use Rattle.papaya_events.specs.OfRows.{KeepsRun, is_of_rows}
-use Rattle.papaya_stepping.proofs.Given.Scheduler.Vacancies.{first_is, none_on_vacant}
-use Rattle.papaya_stepping.specs.Given.Works.Rows.{may_row}
-use Rattle.papaya_stepping.proofs.Given.Works.Mays.{rows_do_theirs}
-use Rattle.papaya_stepping.proofs.Given.Works.Needs.{none_need, reclaiming_asks_none, registers_need}
-use Rattle.papaya_stepping.proofs.Given.Works.Reached.{rows_note_more}
+use Rattle.papaya_stepping.proofs.Given.SchedulerVacancies.{first_is, none_on_vacant}
+use Rattle.papaya_stepping.specs.Given.WorksRows.{may_row}
+use Rattle.papaya_stepping.proofs.Given.WorksMays.{rows_do_theirs}
+use Rattle.papaya_stepping.proofs.Given.WorksNeeds.{none_need, reclaiming_asks_none, registers_need}
+use Rattle.papaya_stepping.proofs.Given.WorksReached.{rows_note_more}
 use Rattle.papaya_events.proofs.OfRows.Over.{over_runs}
 use Rattle.papaya_events.proofs.OfRows.Chain.{RowComes, come_by, rows_come}
 use Rattle.papaya_events.proofs.OfRows.Facts.{RowFacts, facts}
 use Rattle.papaya_events.proofs.OfRows.Lone.{alone_follows}
 use Rattle.papaya_events.proofs.OfRows.May.{flush_inside, may_by}
 use Rattle.papaya_events.proofs.OfRows.Quiet.{none_still, refused_still, still_keeps}
-use Rattle.papaya_stepping.specs.Given.Executor.OnSlots.{MayBegin, RowBeginsThere}
-use Rattle.papaya_values.specs.Given.Scenes.Rows.{begun_row, request_of}
-use Rattle.papaya_values.specs.Given.Scenes.Scene.{Scene, slot_of}
-use Rattle.papaya_stepping.proofs.Given.Logged.Held.{begun_held}
-use Rattle.papaya_values.specs.Given.Scenes.OnSlots.{RowBegins}
-use Rattle.papaya_stepping.specs.Given.Executor.IsThere.{held_by}
+use Rattle.papaya_stepping.specs.Given.ExecutorOnSlots.{MayBegin, RowBeginsThere}
+use Rattle.papaya_values.specs.Given.ScenesRows.{begun_row, request_of}
+use Rattle.papaya_values.specs.Given.ScenesScene.{Scene, slot_of}
+use Rattle.papaya_stepping.proofs.Given.LoggedHeld.{begun_held}
+use Rattle.papaya_values.specs.Given.ScenesOnSlots.{RowBegins}
+use Rattle.papaya_stepping.specs.Given.ExecutorIsThere.{held_by}
 pub mod Chain
 pub mod Over
 pub mod Facts

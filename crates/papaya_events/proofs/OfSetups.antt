@@ -1,34 +1,34 @@
 -- An event that sets something up, shows the tables of a map, or forgets a guard keeps its promises, and the run goes on with it.
 use Rattle.std.specs.Prelude.{◌≡◌, ◌==◌, ℕ, Bool, true, false, not, MatchBool, List, [], ◌∷◌, Result, Ok, Err, IfOk, is_some}
 use Rattle.std.proofs.Common.{refl, sym, ap, subst, ◌∙◌}
-use Rattle.papaya_stepping.specs.Given.Seize.World.{World}
-use Rattle.papaya_stepping.specs.Given.Tables.declared.node.Node.{Node}
-use Rattle.papaya_stepping.specs.Given.SeizeWords.declared.fault.Fault.TheVariants.{Busy}
-use Rattle.papaya_values.specs.Given.Schedules.declared.event.Event.{Event}
-use Rattle.papaya_values.specs.Given.Schedules.declared.event.Event.TheVariants.{Begin, Choose, Collector, Forget, Go, Hash, Next, OneCall, Replied, ShowShape, Step, Stop}
-use Rattle.papaya_values.specs.Given.Schedules.declared.outcome.Outcome.{Outcome}
-use Rattle.papaya_values.specs.Given.Schedules.declared.outcome.Outcome.TheVariants.{Done, Refused, Shape}
-use Rattle.papaya_values.specs.Given.Schedules.After.{moment, slots_on}
-use Rattle.papaya_values.specs.Given.Schedules.Entry.{Entry}
-use Rattle.papaya_values.specs.Given.Schedules.Handing.{IsWhole}
-use Rattle.papaya_values.specs.Given.Schedules.InTurn.{ComesRight, ComesTo, InTurn, IsDone, IsKeptOut, IsShapeOf, chain_named}
-use Rattle.papaya_values.specs.Given.Schedules.InUse.{is_free_guard}
-use Rattle.papaya_values.specs.Given.Schedules.Moment.{Moment, TableThere}
-use Rattle.papaya_values.specs.Given.Schedules.Terms.{Terms}
-use Rattle.papaya_values.specs.Given.Schedules.Views.{map_of, number_of}
-use Rattle.papaya_values.specs.Given.Effects.Known.{known}
-use Rattle.papaya_stepping.proofs.Given.Legal.Come.{events_bring_things}
-use Rattle.papaya_stepping.specs.Given.Legal.CallEvents.{IsLegalBut}
-use Rattle.papaya_stepping.specs.Given.Legal.Carried.{ShowsRun}
-use Rattle.papaya_stepping.proofs.Given.Legal.Choices.{choices_end}
-use Rattle.papaya_stepping.specs.Given.Logged.Choosing.{logged_chosen, scene_chosen}
-use Rattle.papaya_stepping.specs.Given.Logged.Shown.{IsShown}
-use Rattle.papaya_stepping.proofs.Given.Logged.Choosing.{choice_shown}
-use Rattle.papaya_stepping.specs.Given.Scheduler.Played.{IsPlayed, entry_of}
-use Rattle.papaya_stepping.specs.Given.Scheduler.Works.{DidNothing, WorksOnSetup}
-use Rattle.papaya_stepping.specs.Given.Scheduler.declared.played.Played.{Played}
-use Rattle.papaya_stepping.specs.Given.Scheduler.declared.scheduler.Scheduler.{Scheduler}
-use Rattle.papaya_stepping.proofs.Given.Scheduler.Rights.{entry, entry_is}
+use Rattle.papaya_stepping.specs.Given.SeizeWorld.{World}
+use Rattle.papaya_stepping.specs.Given.TablesDeclared.node.Node.{Node}
+use Rattle.papaya_stepping.specs.Given.SeizeWordsDeclared.fault.Fault.TheVariants.{Busy}
+use Rattle.papaya_values.specs.Given.SchedulesDeclared.event.Event.{Event}
+use Rattle.papaya_values.specs.Given.SchedulesDeclared.event.Event.TheVariants.{Begin, Choose, Collector, Forget, Go, Hash, Next, OneCall, Replied, ShowShape, Step, Stop}
+use Rattle.papaya_values.specs.Given.SchedulesDeclared.outcome.Outcome.{Outcome}
+use Rattle.papaya_values.specs.Given.SchedulesDeclared.outcome.Outcome.TheVariants.{Done, Refused, Shape}
+use Rattle.papaya_values.specs.Given.SchedulesAfter.{moment, slots_on}
+use Rattle.papaya_values.specs.Given.SchedulesEntry.{Entry}
+use Rattle.papaya_values.specs.Given.SchedulesHanding.{IsWhole}
+use Rattle.papaya_values.specs.Given.SchedulesInTurn.{ComesRight, ComesTo, InTurn, IsDone, IsKeptOut, IsShapeOf, chain_named}
+use Rattle.papaya_values.specs.Given.SchedulesInUse.{is_free_guard}
+use Rattle.papaya_values.specs.Given.SchedulesMoment.{Moment, TableThere}
+use Rattle.papaya_values.specs.Given.SchedulesTerms.{Terms}
+use Rattle.papaya_values.specs.Given.SchedulesViews.{map_of, number_of}
+use Rattle.papaya_values.specs.Given.EffectsKnown.{known}
+use Rattle.papaya_stepping.proofs.Given.LegalCome.{events_bring_things}
+use Rattle.papaya_stepping.specs.Given.LegalCallEvents.{IsLegalBut}
+use Rattle.papaya_stepping.specs.Given.LegalCarried.{ShowsRun}
+use Rattle.papaya_stepping.proofs.Given.LegalChoices.{choices_end}
+use Rattle.papaya_stepping.specs.Given.LoggedChoosing.{logged_chosen, scene_chosen}
+use Rattle.papaya_stepping.specs.Given.LoggedShown.{IsShown}
+use Rattle.papaya_stepping.proofs.Given.LoggedChoosing.{choice_shown}
+use Rattle.papaya_stepping.specs.Given.SchedulerPlayed.{IsPlayed, entry_of}
+use Rattle.papaya_stepping.specs.Given.SchedulerWorks.{DidNothing, WorksOnSetup}
+use Rattle.papaya_stepping.specs.Given.SchedulerDeclared.played.Played.{Played}
+use Rattle.papaya_stepping.specs.Given.SchedulerDeclared.scheduler.Scheduler.{Scheduler}
+use Rattle.papaya_stepping.proofs.Given.SchedulerRights.{entry, entry_is}
 use Rattle.papaya_events.proofs.OfCalls.Worth.{have_values_then, nobody_says}
 use Rattle.papaya_events.specs.Asked.{is_of_calls}
 use Rattle.papaya_events.specs.OfCalls.{Runs, RunsOn}
@@ -38,7 +38,7 @@ use Rattle.papaya_events.proofs.OfRows.Lone.{alone_follows}
 use Rattle.papaya_events.proofs.OfRows.Quiet.{IsStill, still_keeps}
 use Rattle.papaya_events.proofs.Reached.{reached_by}
 use Rattle.papaya_events.proofs.Remaining.{counted_in}
-use Rattle.papaya_values.specs.Given.Scenes.Scene.{Scene}
+use Rattle.papaya_values.specs.Given.ScenesScene.{Scene}
 
 -- One that did nothing is whole, whatever it came to,
 module _ {K V : Type 0} (log : List (Entry K V)) (w : Moment K V) where

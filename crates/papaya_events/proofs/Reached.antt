@@ -2,47 +2,47 @@
 use Rattle.std.specs.Prelude.{◌≡◌, ◌≤◌, ◌<◌, ◌+◌, ◌==◌, ◌||◌, ◌++◌, max, not, map, ℕ, Bool, true, false, List, [], ◌∷◌, length, Option, Some, None, MatchBool, MatchOption, if◌then◌else◌}
 use Rattle.std.proofs.Common.{refl, ap, subst, sym, inl, inr, ◌∙◌, arith}
 use Rattle.std.proofs.lemmas.Bool.{cases_lt, eq-eqb}
-use Rattle.papaya_stepping.specs.Given.SeizeWords.declared.fault.Fault.{Fault}
-use Rattle.papaya_stepping.specs.Given.SeizeWords.declared.fault.Fault.TheVariants.{Busy, GuardsFull}
-use Rattle.papaya_stepping.specs.Given.SeizeWords.Mem.{Mem}
-use Rattle.papaya_stepping.specs.Given.SeizeWords.Place.{capacity}
-use Rattle.papaya_stepping.proofs.Given.SeizeWords.Places.Words.{capacity_le_capacity}
-use Rattle.papaya_stepping.specs.Given.Seize.declared.states.TheConstants.{LAST_SLOT}
-use Rattle.papaya_stepping.specs.Given.Seize.World.{Use, Vacant, Outside, Inside, Changing, World}
-use Rattle.papaya_stepping.proofs.Given.SeizeMoves.State.Ghost.{Head, Never, Free, Idle, Active, emptied, is_never}
-use Rattle.papaya_stepping.proofs.Given.SeizeRule.Rows.Teams.{UseFits}
-use Rattle.papaya_stepping.proofs.Given.SeizeRule.World.Good.{Good}
-use Rattle.papaya_stepping.specs.Given.Tables.Nodes.{deferred_word}
-use Rattle.papaya_stepping.specs.Given.Tables.declared.node.Node.{Node}
-use Rattle.papaya_stepping.proofs.Given.Callers.Together.Came.{came_reached}
-use Rattle.papaya_stepping.specs.Given.Runs.Present.{Present, guards_on, has_registration, slot_of_guard, slot_of_registration}
-use Rattle.papaya_stepping.specs.Given.Runs.declared.holders.Guard.{Guard}
-use Rattle.papaya_stepping.specs.Given.Runs.declared.holders.Registration.{Registration}
-use Rattle.papaya_stepping.specs.Given.Runs.Runs.{map_fault}
-use Rattle.papaya_values.specs.Given.Schedules.declared.event.Event.{Event}
-use Rattle.papaya_values.specs.Given.Schedules.declared.event.Event.TheVariants as event
-use Rattle.papaya_values.specs.Given.Schedules.declared.outcome.Outcome.{Outcome}
-use Rattle.papaya_values.specs.Given.Schedules.declared.outcome.Outcome.TheVariants.{Done, Goes, Refused, Slot}
-use Rattle.papaya_values.specs.Given.Schedules.After.{moment, moments_from, slots_on, there_on}
-use Rattle.papaya_values.specs.Given.Schedules.Coming.{Progresses}
-use Rattle.papaya_values.specs.Given.Schedules.Effects.{worked}
-use Rattle.papaya_values.specs.Given.Schedules.Entry.{ByCall, Entry, acting, caller_of}
-use Rattle.papaya_values.specs.Given.Schedules.InTurn.{ComesRight, ComesTo, GoesOn, InTurn, IsDone, IsEntered, IsFlushed, IsKeptOut, IsMade, IsNext, IsShapeOf, chain_named}
-use Rattle.papaya_values.specs.Given.Schedules.InUse.{is_held, used_slots}
-use Rattle.papaya_values.specs.Given.Schedules.Lists.{is_among}
-use Rattle.papaya_values.specs.Given.Schedules.Moment.{Asking, IsReady, Moment, Stands, UnderWay as CallThere}
-use Rattle.papaya_values.specs.Given.Schedules.Terms.{Terms}
-use Rattle.papaya_values.specs.Given.Schedules.Views.{number_of}
-use Rattle.papaya_values.specs.Given.Effects.Known.{Known, known}
-use Rattle.papaya_values.specs.Given.Scenes.declared.row.SlotUse.TheVariants as used
-use Rattle.papaya_stepping.specs.Given.Rows.Rows.{used_as}
-use Rattle.papaya_stepping.proofs.Given.Rows.Facts.{used_once}
-use Rattle.papaya_stepping.proofs.Given.Rows.InUse.{among_used, unused_by}
-use Rattle.papaya_stepping.specs.Given.Scheduler.Played.{IsPlayed, StandsFor}
-use Rattle.papaya_stepping.specs.Given.Scheduler.declared.scheduler.Scheduler.{Scheduler}
-use Rattle.papaya_stepping.specs.Given.Works.Needs.{AreReached}
-use Rattle.papaya_stepping.proofs.Given.Works.Reached.{reached_still}
-use Rattle.papaya_stepping.specs.Given.Executor.IsThere.{use_at}
+use Rattle.papaya_stepping.specs.Given.SeizeWordsDeclared.fault.Fault.{Fault}
+use Rattle.papaya_stepping.specs.Given.SeizeWordsDeclared.fault.Fault.TheVariants.{Busy, GuardsFull}
+use Rattle.papaya_stepping.specs.Given.SeizeWordsMem.{Mem}
+use Rattle.papaya_stepping.specs.Given.SeizeWordsPlace.{capacity}
+use Rattle.papaya_stepping.proofs.Given.SeizeWordsPlaces.Words.{capacity_le_capacity}
+use Rattle.papaya_stepping.specs.Given.SeizeDeclared.states.TheConstants.{LAST_SLOT}
+use Rattle.papaya_stepping.specs.Given.SeizeWorld.{Use, Vacant, Outside, Inside, Changing, World}
+use Rattle.papaya_stepping.proofs.Given.SeizeMovesState.Ghost.{Head, Never, Free, Idle, Active, emptied, is_never}
+use Rattle.papaya_stepping.proofs.Given.SeizeRuleRows.Teams.{UseFits}
+use Rattle.papaya_stepping.proofs.Given.SeizeRuleWorld.Good.{Good}
+use Rattle.papaya_stepping.specs.Given.TablesNodes.{deferred_word}
+use Rattle.papaya_stepping.specs.Given.TablesDeclared.node.Node.{Node}
+use Rattle.papaya_stepping.proofs.Given.CallersTogether.Came.{came_reached}
+use Rattle.papaya_stepping.specs.Given.RunsPresent.{Present, guards_on, has_registration, slot_of_guard, slot_of_registration}
+use Rattle.papaya_stepping.specs.Given.RunsDeclared.holders.Guard.{Guard}
+use Rattle.papaya_stepping.specs.Given.RunsDeclared.holders.Registration.{Registration}
+use Rattle.papaya_stepping.specs.Given.RunsRuns.{map_fault}
+use Rattle.papaya_values.specs.Given.SchedulesDeclared.event.Event.{Event}
+use Rattle.papaya_values.specs.Given.SchedulesDeclared.event.Event.TheVariants as event
+use Rattle.papaya_values.specs.Given.SchedulesDeclared.outcome.Outcome.{Outcome}
+use Rattle.papaya_values.specs.Given.SchedulesDeclared.outcome.Outcome.TheVariants.{Done, Goes, Refused, Slot}
+use Rattle.papaya_values.specs.Given.SchedulesAfter.{moment, moments_from, slots_on, there_on}
+use Rattle.papaya_values.specs.Given.SchedulesComing.{Progresses}
+use Rattle.papaya_values.specs.Given.SchedulesEffects.{worked}
+use Rattle.papaya_values.specs.Given.SchedulesEntry.{ByCall, Entry, acting, caller_of}
+use Rattle.papaya_values.specs.Given.SchedulesInTurn.{ComesRight, ComesTo, GoesOn, InTurn, IsDone, IsEntered, IsFlushed, IsKeptOut, IsMade, IsNext, IsShapeOf, chain_named}
+use Rattle.papaya_values.specs.Given.SchedulesInUse.{is_held, used_slots}
+use Rattle.papaya_values.specs.Given.SchedulesLists.{is_among}
+use Rattle.papaya_values.specs.Given.SchedulesMoment.{Asking, IsReady, Moment, Stands, UnderWay as CallThere}
+use Rattle.papaya_values.specs.Given.SchedulesTerms.{Terms}
+use Rattle.papaya_values.specs.Given.SchedulesViews.{number_of}
+use Rattle.papaya_values.specs.Given.EffectsKnown.{Known, known}
+use Rattle.papaya_values.specs.Given.ScenesDeclared.row.SlotUse.TheVariants as used
+use Rattle.papaya_stepping.specs.Given.RowsRows.{used_as}
+use Rattle.papaya_stepping.proofs.Given.RowsFacts.{used_once}
+use Rattle.papaya_stepping.proofs.Given.RowsInUse.{among_used, unused_by}
+use Rattle.papaya_stepping.specs.Given.SchedulerPlayed.{IsPlayed, StandsFor}
+use Rattle.papaya_stepping.specs.Given.SchedulerDeclared.scheduler.Scheduler.{Scheduler}
+use Rattle.papaya_stepping.specs.Given.WorksNeeds.{AreReached}
+use Rattle.papaya_stepping.proofs.Given.WorksReached.{reached_still}
+use Rattle.papaya_stepping.specs.Given.ExecutorIsThere.{use_at}
 
 -- who is there now uses the slot
 or_so : (b c : Bool) → c ≡ true → (b || c) ≡ true

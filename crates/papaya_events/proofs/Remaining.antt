@@ -3,34 +3,34 @@
 use Rattle.std.specs.Prelude.{◌≡◌, ◌⊎◌, ◌<◌, ℕ, Bool, List, map, Option, Some, None}
 use Rattle.std.specs.List.{AllByRecursion}
 use Rattle.std.proofs.Common.{refl, ap, sym, subst, ◌∙◌, inl, inr}
-use Rattle.papaya_stepping.specs.Given.SeizeWords.SlotWords.{slot_word}
-use Rattle.papaya_stepping.specs.Given.Seize.declared.states.TheConstants.{HEAD}
-use Rattle.papaya_stepping.specs.Given.Tables.declared.setting.Setting.{Setting}
-use Rattle.papaya_stepping.specs.Given.Raw.declared.machines.end_map.EndMap.{EndMap}
-use Rattle.papaya_stepping.specs.Given.Resize.declared.new_map.NewMap.{NewMap}
-use Rattle.papaya_stepping.specs.Given.Finishes.Endings.{Finishing}
-use Rattle.papaya_stepping.specs.Given.Finishes.Makings.{Beginning}
-use Rattle.papaya_stepping.specs.Given.Finishes.Maps.{Standing}
-use Rattle.papaya_values.specs.Given.Moments.Numbers.{AreFound}
-use Rattle.papaya_values.specs.Given.Schedules.Moment.{Moment}
-use Rattle.papaya_values.specs.Given.Effects.Known.{known}
-use Rattle.papaya_values.specs.Given.Effects.declared.role.Role.TheVariants as role
-use Rattle.papaya_values.specs.Given.Schedules.Terms.{Terms}
-use Rattle.papaya_values.specs.Given.Reclaims.Left.{IsSomebodys, LeftAmong}
-use Rattle.papaya_values.specs.Given.Reclaims.Reclaims.{IsRootOf, LeftBehind, RootLeads}
-use Rattle.papaya_stepping.specs.Given.Remains.Remains.{AllStand, RootsAreTaken, ShowsRemains, has_some, left_at}
-use Rattle.papaya_stepping.proofs.Given.Remains.Leads.{both_lead}
-use Rattle.papaya_stepping.proofs.Given.Remains.Rests.{each_noted, rests_remain}
-use Rattle.papaya_stepping.specs.Given.Logged.Shown.{IsCounted}
-use Rattle.papaya_stepping.proofs.Given.Rows.Facts.{no_ending_of, no_making_of}
-use Rattle.papaya_stepping.proofs.Given.Rows.Lists.{both_none, both_some}
-use Rattle.papaya_stepping.specs.Given.Scheduler.Played.{StandsFor}
-use Rattle.papaya_stepping.specs.Given.Scheduler.Reclaiming.{MayGiveAll}
-use Rattle.papaya_values.specs.Given.Named.Seen.{named, named_of}
-use Rattle.papaya_stepping.specs.Given.Scheduler.declared.scheduler.Scheduler.{Scheduler}
-use Rattle.papaya_stepping.proofs.Given.Mapping.MapLists.{all_back, all_seen}
-use Rattle.papaya_stepping.specs.Given.Executor.IsThere.{IsThere, held_by}
-use Rattle.papaya_values.specs.Given.Scenes.Scene.{Scene}
+use Rattle.papaya_stepping.specs.Given.SeizeWordsSlotWords.{slot_word}
+use Rattle.papaya_stepping.specs.Given.SeizeDeclared.states.TheConstants.{HEAD}
+use Rattle.papaya_stepping.specs.Given.TablesDeclared.setting.Setting.{Setting}
+use Rattle.papaya_stepping.specs.Given.RawDeclared.machines.end_map.EndMap.{EndMap}
+use Rattle.papaya_stepping.specs.Given.ResizeDeclared.new_map.NewMap.{NewMap}
+use Rattle.papaya_stepping.specs.Given.FinishesEndings.{Finishing}
+use Rattle.papaya_stepping.specs.Given.FinishesMakings.{Beginning}
+use Rattle.papaya_stepping.specs.Given.FinishesMaps.{Standing}
+use Rattle.papaya_values.specs.Given.MomentsNumbers.{AreFound}
+use Rattle.papaya_values.specs.Given.SchedulesMoment.{Moment}
+use Rattle.papaya_values.specs.Given.EffectsKnown.{known}
+use Rattle.papaya_values.specs.Given.EffectsDeclared.role.Role.TheVariants as role
+use Rattle.papaya_values.specs.Given.SchedulesTerms.{Terms}
+use Rattle.papaya_values.specs.Given.ReclaimsLeft.{IsSomebodys, LeftAmong}
+use Rattle.papaya_values.specs.Given.ReclaimsReclaims.{IsRootOf, LeftBehind, RootLeads}
+use Rattle.papaya_stepping.specs.Given.RemainsRemains.{AllStand, RootsAreTaken, ShowsRemains, has_some, left_at}
+use Rattle.papaya_stepping.proofs.Given.RemainsLeads.{both_lead}
+use Rattle.papaya_stepping.proofs.Given.RemainsRests.{each_noted, rests_remain}
+use Rattle.papaya_stepping.specs.Given.LoggedShown.{IsCounted}
+use Rattle.papaya_stepping.proofs.Given.RowsFacts.{no_ending_of, no_making_of}
+use Rattle.papaya_stepping.proofs.Given.RowsLists.{both_none, both_some}
+use Rattle.papaya_stepping.specs.Given.SchedulerPlayed.{StandsFor}
+use Rattle.papaya_stepping.specs.Given.SchedulerReclaiming.{MayGiveAll}
+use Rattle.papaya_values.specs.Given.NamedSeen.{named, named_of}
+use Rattle.papaya_stepping.specs.Given.SchedulerDeclared.scheduler.Scheduler.{Scheduler}
+use Rattle.papaya_stepping.proofs.Given.MappingMapLists.{all_back, all_seen}
+use Rattle.papaya_stepping.specs.Given.ExecutorIsThere.{IsThere, held_by}
+use Rattle.papaya_values.specs.Given.ScenesScene.{Scene}
 
 -- a root that a standing map has in one scene of an executor it has in any
 root_in : {K V S : Type 0} (same : K → K → Bool) (hash : K → ℕ) (p : Scheduler K V S) (s t : Scene K V) → IsThere same hash p.logged.executor s → IsThere same hash p.logged.executor t → (r : ℕ)

@@ -1,22 +1,22 @@
 -- What is asked of an event, and what is promised of it then.
 use Rattle.std.specs.Prelude.{◌≡◌, ◌==◌, ℕ, Bool, true, false, List, ◌∷◌}
-use Rattle.papaya_stepping.specs.Given.Points.Steps.{AreLawful}
-use Rattle.papaya_values.specs.Given.Schedules.declared.event.Event.{Event}
-use Rattle.papaya_values.specs.Given.Schedules.declared.event.Event.TheVariants.{ReclaimAll, Close, MakeMap, EndMap, ShowShape, Begin, Step, Go, Replied, OneCall, Next, Stop}
-use Rattle.papaya_values.specs.Given.Schedules.declared.outcome.Outcome.{Outcome}
-use Rattle.papaya_values.specs.Given.Schedules.After.{moment}
-use Rattle.papaya_values.specs.Given.Schedules.Beginning.{at_work}
-use Rattle.papaya_values.specs.Given.Schedules.Entry.{Entry, acting, caller_of}
-use Rattle.papaya_values.specs.Given.Schedules.Moment.{Moment}
-use Rattle.papaya_values.specs.Given.Schedules.Steps.{DoesFew, MakesSteps, stands_or}
-use Rattle.papaya_values.specs.Given.Schedules.Terms.{Terms}
-use Rattle.papaya_values.specs.Given.Schedules.Waiting.{WaitsLawfully}
-use Rattle.papaya_stepping.specs.Given.Scheduler.Mapping.{CountsMaps, numbers_made}
-use Rattle.papaya_stepping.specs.Given.Scheduler.Played.{Plays, StandsFor, entry_of, IsPlayed}
-use Rattle.papaya_stepping.specs.Given.Scheduler.Quiet.{IsQuiet}
-use Rattle.papaya_stepping.specs.Given.Scheduler.Reclaiming.{MayGiveAll}
-use Rattle.papaya_stepping.specs.Given.Scheduler.declared.played.Played.{Played}
-use Rattle.papaya_stepping.specs.Given.Scheduler.declared.scheduler.Scheduler.{Scheduler}
+use Rattle.papaya_stepping.specs.Given.PointsSteps.{AreLawful}
+use Rattle.papaya_values.specs.Given.SchedulesDeclared.event.Event.{Event}
+use Rattle.papaya_values.specs.Given.SchedulesDeclared.event.Event.TheVariants.{ReclaimAll, Close, MakeMap, EndMap, ShowShape, Begin, Step, Go, Replied, OneCall, Next, Stop}
+use Rattle.papaya_values.specs.Given.SchedulesDeclared.outcome.Outcome.{Outcome}
+use Rattle.papaya_values.specs.Given.SchedulesAfter.{moment}
+use Rattle.papaya_values.specs.Given.SchedulesBeginning.{at_work}
+use Rattle.papaya_values.specs.Given.SchedulesEntry.{Entry, acting, caller_of}
+use Rattle.papaya_values.specs.Given.SchedulesMoment.{Moment}
+use Rattle.papaya_values.specs.Given.SchedulesSteps.{DoesFew, MakesSteps, stands_or}
+use Rattle.papaya_values.specs.Given.SchedulesTerms.{Terms}
+use Rattle.papaya_values.specs.Given.SchedulesWaiting.{WaitsLawfully}
+use Rattle.papaya_stepping.specs.Given.SchedulerMapping.{CountsMaps, numbers_made}
+use Rattle.papaya_stepping.specs.Given.SchedulerPlayed.{Plays, StandsFor, entry_of, IsPlayed}
+use Rattle.papaya_stepping.specs.Given.SchedulerQuiet.{IsQuiet}
+use Rattle.papaya_stepping.specs.Given.SchedulerReclaiming.{MayGiveAll}
+use Rattle.papaya_stepping.specs.Given.SchedulerDeclared.played.Played.{Played}
+use Rattle.papaya_stepping.specs.Given.SchedulerDeclared.scheduler.Scheduler.{Scheduler}
 use Rattle.papaya_stepping.specs.Stepping.{ComesInCase}
 
 module _ {K V : Type 0} where

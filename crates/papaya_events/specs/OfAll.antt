@@ -1,15 +1,15 @@
 -- What is had of an event that reclaims all: all is back, it keeps its promises, and the run goes on with it.
 use Rattle.std.specs.Prelude.{◌≡◌, ℕ, Bool, true, List, ◌∷◌}
-use Rattle.papaya_values.specs.Given.Schedules.declared.event.Event.{Event}
-use Rattle.papaya_values.specs.Given.Schedules.After.{moment}
-use Rattle.papaya_values.specs.Given.Schedules.Entry.{Entry}
-use Rattle.papaya_values.specs.Given.Schedules.Handing.{gives_all}
-use Rattle.papaya_values.specs.Given.Schedules.InTurn.{ComesRight}
-use Rattle.papaya_values.specs.Given.Schedules.Terms.{Terms}
-use Rattle.papaya_stepping.specs.Given.Finds.Little.{ReclaimsAll}
-use Rattle.papaya_stepping.specs.Given.Scheduler.Played.{IsPlayed, entry_of}
-use Rattle.papaya_stepping.specs.Given.Scheduler.declared.played.Played.{Played}
-use Rattle.papaya_stepping.specs.Given.Scheduler.declared.scheduler.Scheduler.{Scheduler}
+use Rattle.papaya_values.specs.Given.SchedulesDeclared.event.Event.{Event}
+use Rattle.papaya_values.specs.Given.SchedulesAfter.{moment}
+use Rattle.papaya_values.specs.Given.SchedulesEntry.{Entry}
+use Rattle.papaya_values.specs.Given.SchedulesHanding.{gives_all}
+use Rattle.papaya_values.specs.Given.SchedulesInTurn.{ComesRight}
+use Rattle.papaya_values.specs.Given.SchedulesTerms.{Terms}
+use Rattle.papaya_stepping.specs.Given.FindsLittle.{ReclaimsAll}
+use Rattle.papaya_stepping.specs.Given.SchedulerPlayed.{IsPlayed, entry_of}
+use Rattle.papaya_stepping.specs.Given.SchedulerDeclared.played.Played.{Played}
+use Rattle.papaya_stepping.specs.Given.SchedulerDeclared.scheduler.Scheduler.{Scheduler}
 use Rattle.papaya_events.specs.Asked.{Holds}
 use Rattle.papaya_events.specs.OfCalls.{Runs, RunsOn}
 

@@ -1,47 +1,47 @@
 -- What is so after each event of a run, of the scheduler and of the scene for which it stands; and what is promised of an event of a call: it keeps its promises, and the run goes on.
 use Rattle.std.specs.Prelude.{◌≡◌, ◌<◌, ◌≤◌, ◌^◌, ◌+◌, ℕ, Bool, true, false, List, ◌∷◌, slice_index_or, Option, Some, None}
 use Rattle.std.specs.List.{AllByRecursion}
-use Rattle.papaya_stepping.specs.Given.SeizeWaiting.Held.{count}
-use Rattle.papaya_stepping.specs.Given.Seize.WaitingSets.{Sets}
-use Rattle.papaya_stepping.specs.Given.Seize.World.{World, IsInside, SlotsTaken}
-use Rattle.papaya_stepping.specs.Given.Tables.declared.node.Node.{Node}
-use Rattle.papaya_stepping.specs.Given.Tables.declared.setting.Setting.{Setting}
-use Rattle.papaya_stepping.specs.Given.Raw.declared.machines.progress.Progress.{Progress}
-use Rattle.papaya_values.specs.Given.Schedules.declared.effect.Effect.{Effect}
-use Rattle.papaya_values.specs.Given.Schedules.declared.event.Event.{Event}
-use Rattle.papaya_values.specs.Given.Schedules.After.{moment}
-use Rattle.papaya_values.specs.Given.Schedules.Entry.{Entry}
-use Rattle.papaya_values.specs.Given.Schedules.InTurn.{ComesRight}
-use Rattle.papaya_values.specs.Given.Schedules.declared.effect.Thing.{Thing}
-use Rattle.papaya_values.specs.Given.Schedules.Model.{things_in}
-use Rattle.papaya_values.specs.Given.Schedules.Moment.{UnderWay as CallThere, Moment}
-use Rattle.papaya_values.specs.Given.Schedules.Terms.{Terms, shards_of}
-use Rattle.papaya_values.specs.Given.Schedules.Views.{call_of}
-use Rattle.papaya_stepping.specs.Given.Callers.Together.{UnderWay}
-use Rattle.papaya_values.specs.Given.Effects.Effects.{known_after}
-use Rattle.papaya_values.specs.Given.Effects.Known.{Known, known}
-use Rattle.papaya_values.specs.Given.Effects.declared.acting.Acting.TheVariants as acts
-use Rattle.papaya_stepping.specs.Given.Executor.declared.executor.Executor.{Executor}
-use Rattle.papaya_stepping.specs.Given.Histories.InEvent.{ComesSo}
-use Rattle.papaya_stepping.specs.Given.Finishes.Machines.{machine_of}
-use Rattle.papaya_stepping.specs.Given.Models.CallEvents.{IsInItsRow}
+use Rattle.papaya_stepping.specs.Given.SeizeWaitingHeld.{count}
+use Rattle.papaya_stepping.specs.Given.SeizeWaitingSets.{Sets}
+use Rattle.papaya_stepping.specs.Given.SeizeWorld.{World, IsInside, SlotsTaken}
+use Rattle.papaya_stepping.specs.Given.TablesDeclared.node.Node.{Node}
+use Rattle.papaya_stepping.specs.Given.TablesDeclared.setting.Setting.{Setting}
+use Rattle.papaya_stepping.specs.Given.RawDeclared.machines.progress.Progress.{Progress}
+use Rattle.papaya_values.specs.Given.SchedulesDeclared.effect.Effect.{Effect}
+use Rattle.papaya_values.specs.Given.SchedulesDeclared.event.Event.{Event}
+use Rattle.papaya_values.specs.Given.SchedulesAfter.{moment}
+use Rattle.papaya_values.specs.Given.SchedulesEntry.{Entry}
+use Rattle.papaya_values.specs.Given.SchedulesInTurn.{ComesRight}
+use Rattle.papaya_values.specs.Given.SchedulesDeclared.effect.Thing.{Thing}
+use Rattle.papaya_values.specs.Given.SchedulesModel.{things_in}
+use Rattle.papaya_values.specs.Given.SchedulesMoment.{UnderWay as CallThere, Moment}
+use Rattle.papaya_values.specs.Given.SchedulesTerms.{Terms, shards_of}
+use Rattle.papaya_values.specs.Given.SchedulesViews.{call_of}
+use Rattle.papaya_stepping.specs.Given.CallersTogether.{UnderWay}
+use Rattle.papaya_values.specs.Given.EffectsEffects.{known_after}
+use Rattle.papaya_values.specs.Given.EffectsKnown.{Known, known}
+use Rattle.papaya_values.specs.Given.EffectsDeclared.acting.Acting.TheVariants as acts
+use Rattle.papaya_stepping.specs.Given.ExecutorDeclared.executor.Executor.{Executor}
+use Rattle.papaya_stepping.specs.Given.HistoriesInEvent.{ComesSo}
+use Rattle.papaya_stepping.specs.Given.FinishesMachines.{machine_of}
+use Rattle.papaya_stepping.specs.Given.ModelsCallEvents.{IsInItsRow}
 use Rattle.papaya_values.specs.Values.{KeepsValue}
-use Rattle.papaya_values.specs.Given.Named.declared.caller.Caller.{Caller}
-use Rattle.papaya_stepping.specs.Given.Legal.CallEvents.{InCallEvent, IsLegalBut}
-use Rattle.papaya_stepping.specs.Given.Legal.CallSwept.{TellsOf}
-use Rattle.papaya_stepping.specs.Given.Legal.Carried.{ShowsRun}
-use Rattle.papaya_stepping.specs.Given.Legal.Noted.{HaveCome}
-use Rattle.papaya_stepping.specs.Given.Folded.Folded.{HandsInOrder}
-use Rattle.papaya_stepping.specs.Given.Scheduler.Played.{IsPlayed, entry_of}
-use Rattle.papaya_values.specs.Given.Named.Seen.{kind_of}
-use Rattle.papaya_stepping.specs.Given.Scheduler.declared.played.Played.{Played}
-use Rattle.papaya_stepping.specs.Given.Scheduler.declared.scheduler.Scheduler.{Scheduler}
+use Rattle.papaya_values.specs.Given.NamedDeclared.caller.Caller.{Caller}
+use Rattle.papaya_stepping.specs.Given.LegalCallEvents.{InCallEvent, IsLegalBut}
+use Rattle.papaya_stepping.specs.Given.LegalCallSwept.{TellsOf}
+use Rattle.papaya_stepping.specs.Given.LegalCarried.{ShowsRun}
+use Rattle.papaya_stepping.specs.Given.LegalNoted.{HaveCome}
+use Rattle.papaya_stepping.specs.Given.FoldedFolded.{HandsInOrder}
+use Rattle.papaya_stepping.specs.Given.SchedulerPlayed.{IsPlayed, entry_of}
+use Rattle.papaya_values.specs.Given.NamedSeen.{kind_of}
+use Rattle.papaya_stepping.specs.Given.SchedulerDeclared.played.Played.{Played}
+use Rattle.papaya_stepping.specs.Given.SchedulerDeclared.scheduler.Scheduler.{Scheduler}
 use Rattle.papaya_stepping.specs.Stepping.{ComesAs, outcome_of}
-use Rattle.papaya_stepping.specs.Given.Works.Needs.{AreReached}
+use Rattle.papaya_stepping.specs.Given.WorksNeeds.{AreReached}
 use Rattle.papaya_events.specs.Asked.{FindsRight, is_of_calls}
-use Rattle.papaya_values.specs.Given.Scenes.Scene.{Scene}
-use Rattle.papaya_values.specs.Given.Scenes.Held.{Held, IsAt}
-use Rattle.papaya_values.specs.Given.Scenes.Stepping.{StepLeads}
+use Rattle.papaya_values.specs.Given.ScenesScene.{Scene}
+use Rattle.papaya_values.specs.Given.ScenesHeld.{Held, IsAt}
+use Rattle.papaya_values.specs.Given.ScenesStepping.{StepLeads}
 
 -- each map has as many shards as the terms say
 abbrev pub HaveShards : {K V S : Type 0} → Terms → Executor K V S → Type 0

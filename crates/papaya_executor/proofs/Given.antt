@@ -1,20 +1,36 @@
 -- What is so by the crates below, given on to the crates above: these list this crate in place of those.
-pub use Rattle.papaya_scenes.proofs.Given.SeizeWords
-pub use Rattle.papaya_scenes.proofs.Given.SeizeWaiting
-pub use Rattle.papaya_scenes.proofs.Given.SeizeMoves
-pub use Rattle.papaya_scenes.proofs.Given.SeizeRule
-pub use Rattle.papaya_scenes.proofs.Given.SeizeSets
-pub use Rattle.papaya_scenes.proofs.Given.SeizeEnds
-pub use Rattle.papaya_scenes.proofs.Given.SeizeAlone
-pub use Rattle.papaya_scenes.proofs.Given.Tables
-pub use Rattle.papaya_scenes.proofs.Given.Rule
-pub use Rattle.papaya_scenes.proofs.Given.Points
-pub use Rattle.papaya_scenes.proofs.Given.Late
-pub use Rattle.papaya_scenes.proofs.Given.Tells
-pub use Rattle.papaya_scenes.proofs.Given.Callers
-pub use Rattle.papaya_scenes.proofs.Given.Finishes
-pub use Rattle.papaya_scenes.proofs as Scenes
-pub use Rattle.papaya_scenes.proofs.Given.Reclaims
-pub use Rattle.papaya_scenes.proofs.Given.SeizeActs
-pub use Rattle.papaya_scenes.proofs.Given.SeizeReclaims
-pub use Rattle.papaya_scenes.proofs.Given.SeizeQuiet
+pub use Rattle.papaya_scenes.proofs.Given.SeizeWords.OneOwner as SeizeWordsOneOwner
+pub use Rattle.papaya_scenes.proofs.Given.SeizeWaiting.Flushes as SeizeWaitingFlushes
+pub use Rattle.papaya_scenes.proofs.Given.SeizeWaiting.Laws as SeizeWaitingLaws
+pub use Rattle.papaya_scenes.proofs.Given.SeizeWaiting.Tidy as SeizeWaitingTidy
+pub use Rattle.papaya_scenes.proofs.Given.SeizeMoves.State as SeizeMovesState
+pub use Rattle.papaya_scenes.proofs.Given.SeizeRule.Points as SeizeRulePoints
+pub use Rattle.papaya_scenes.proofs.Given.SeizeRule.Rows as SeizeRuleRows
+pub use Rattle.papaya_scenes.proofs.Given.SeizeRule.Words as SeizeRuleWords
+pub use Rattle.papaya_scenes.proofs.Given.SeizeRule.World as SeizeRuleWorld
+pub use Rattle.papaya_scenes.proofs.Given.SeizeEnds.Batches as SeizeEndsBatches
+pub use Rattle.papaya_scenes.proofs.Given.Rule.Keys as RuleKeys
+pub use Rattle.papaya_scenes.proofs.Given.Rule.Laws as RuleLaws
+pub use Rattle.papaya_scenes.proofs.Given.Rule.Words as RuleWords
+pub use Rattle.papaya_scenes.proofs.Given.Rule.World as RuleWorld
+pub use Rattle.papaya_scenes.proofs.Given.Points.Lookups as PointsLookups
+pub use Rattle.papaya_scenes.proofs.Given.Points.MovedLasts as PointsMovedLasts
+pub use Rattle.papaya_scenes.proofs.Given.Late.KindsKept as LateKindsKept
+pub use Rattle.papaya_scenes.proofs.Given.Callers.Rows as CallersRows
+pub use Rattle.papaya_scenes.proofs.Given.Callers.Sights as CallersSights
+pub use Rattle.papaya_scenes.proofs.Given.Callers.Together as CallersTogether
+pub use Rattle.papaya_scenes.proofs.Given.Finishes.Among as FinishesAmong
+pub use Rattle.papaya_scenes.proofs.Given.Finishes.Ends as FinishesEnds
+pub use Rattle.papaya_scenes.proofs.Between as ScenesBetween
+pub use Rattle.papaya_scenes.proofs.Goes as ScenesGoes
+pub use Rattle.papaya_scenes.proofs.Leads as ScenesLeads
+pub use Rattle.papaya_scenes.proofs.May as ScenesMay
+pub use Rattle.papaya_scenes.proofs.NoCall as ScenesNoCall
+pub use Rattle.papaya_scenes.proofs.Rows as ScenesRows
+pub use Rattle.papaya_scenes.proofs.Told as ScenesTold
+pub use Rattle.papaya_scenes.proofs.Given.Reclaims.Left as ReclaimsLeft
+pub use Rattle.papaya_scenes.proofs.Given.Reclaims.Promised as ReclaimsPromised
+pub use Rattle.papaya_scenes.proofs.Given.SeizeActs.Answers as SeizeActsAnswers
+pub use Rattle.papaya_scenes.proofs.Given.SeizeActs.Steps as SeizeActsSteps
+pub use Rattle.papaya_scenes.proofs.Given.SeizeReclaims.AllReclaimed as SeizeReclaimsAllReclaimed
+pub use Rattle.papaya_scenes.proofs.Given.SeizeQuiet.Slots as SeizeQuietSlots

@@ -1,24 +1,70 @@
 -- The words of the crates below, given on to the crates above: these list this crate in place of those.
-pub use Rattle.papaya_scenes.specs.Given.SeizeWords
-pub use Rattle.papaya_scenes.specs.Given.Seize
-pub use Rattle.papaya_scenes.specs.Given.SeizeWaiting
-pub use Rattle.papaya_scenes.specs.Given.SeizeSets
-pub use Rattle.papaya_scenes.specs.Given.SeizeEnds
-pub use Rattle.papaya_scenes.specs.Given.SeizeAlone
-pub use Rattle.papaya_scenes.specs.Given.Tables
-pub use Rattle.papaya_scenes.specs.Given.Resize
-pub use Rattle.papaya_scenes.specs.Given.Sweeps
-pub use Rattle.papaya_scenes.specs.Given.Reserves
-pub use Rattle.papaya_scenes.specs.Given.Raw
-pub use Rattle.papaya_scenes.specs.Given.Rule
-pub use Rattle.papaya_scenes.specs.Given.Points
-pub use Rattle.papaya_scenes.specs.Given.Late
-pub use Rattle.papaya_scenes.specs.Given.Tells
-pub use Rattle.papaya_scenes.specs.Given.Teller
-pub use Rattle.papaya_scenes.specs.Given.Callers
-pub use Rattle.papaya_scenes.specs.Given.Finishes
-pub use Rattle.papaya_scenes.specs as Scenes
-pub use Rattle.papaya_scenes.specs.Given.Reclaims
-pub use Rattle.papaya_scenes.specs.Given.SeizeActs
-pub use Rattle.papaya_scenes.specs.Given.SeizeReclaims
-pub use Rattle.papaya_scenes.specs.Given.SeizeQuiet
+pub use Rattle.papaya_scenes.specs.Given.SeizeWords.Mem as SeizeWordsMem
+pub use Rattle.papaya_scenes.specs.Given.SeizeWords.Op as SeizeWordsOp
+pub use Rattle.papaya_scenes.specs.Given.SeizeWords.Place as SeizeWordsPlace
+pub use Rattle.papaya_scenes.specs.Given.SeizeWords.Plan as SeizeWordsPlan
+pub use Rattle.papaya_scenes.specs.Given.SeizeWords.SlotWords as SeizeWordsSlotWords
+pub use Rattle.papaya_scenes.specs.Given.SeizeWords.declared as SeizeWordsDeclared
+pub use Rattle.papaya_scenes.specs.Given.SeizeWaiting.Changes as SeizeWaitingChanges
+pub use Rattle.papaya_scenes.specs.Given.SeizeWaiting.Handed as SeizeWaitingHanded
+pub use Rattle.papaya_scenes.specs.Given.SeizeWaiting.Held as SeizeWaitingHeld
+pub use Rattle.papaya_scenes.specs.Given.Tables.Nodes as TablesNodes
+pub use Rattle.papaya_scenes.specs.Given.Tables.declared as TablesDeclared
+pub use Rattle.papaya_scenes.specs.Given.Resize.Lookup as ResizeLookup
+pub use Rattle.papaya_scenes.specs.Given.Resize.NewMap as ResizeNewMap
+pub use Rattle.papaya_scenes.specs.Given.Resize.NewTable as ResizeNewTable
+pub use Rattle.papaya_scenes.specs.Given.Resize.Sum as ResizeSum
+pub use Rattle.papaya_scenes.specs.Given.Resize.declared as ResizeDeclared
+pub use Rattle.papaya_scenes.specs.Given.Rule.Chart as RuleChart
+pub use Rattle.papaya_scenes.specs.Given.Rule.InWorld as RuleInWorld
+pub use Rattle.papaya_scenes.specs.Given.Rule.Links as RuleLinks
+pub use Rattle.papaya_scenes.specs.Given.Rule.Maps as RuleMaps
+pub use Rattle.papaya_scenes.specs.Given.Rule.Rule as RuleRule
+pub use Rattle.papaya_scenes.specs.Given.Rule.Words as RuleWords
+pub use Rattle.papaya_scenes.specs.Given.Points.FactsCalls as PointsFactsCalls
+pub use Rattle.papaya_scenes.specs.Given.Points.FactsLooks as PointsFactsLooks
+pub use Rattle.papaya_scenes.specs.Given.Points.Steps as PointsSteps
+pub use Rattle.papaya_scenes.specs.Given.Points.Told as PointsTold
+pub use Rattle.papaya_scenes.specs.Given.Late.Faults as LateFaults
+pub use Rattle.papaya_scenes.specs.Given.Late.Kinds as LateKinds
+pub use Rattle.papaya_scenes.specs.Given.Late.LateCalls as LateLateCalls
+pub use Rattle.papaya_scenes.specs.Given.Late.LateLooks as LateLateLooks
+pub use Rattle.papaya_scenes.specs.Given.Late.ToldSweeps as LateToldSweeps
+pub use Rattle.papaya_scenes.specs.Given.Tells.Seen as TellsSeen
+pub use Rattle.papaya_scenes.specs.Given.Teller.Changed as TellerChanged
+pub use Rattle.papaya_scenes.specs.Given.Teller.Tells as TellerTells
+pub use Rattle.papaya_scenes.specs.Given.Teller.declared as TellerDeclared
+pub use Rattle.papaya_scenes.specs.Given.Callers.Kept as CallersKept
+pub use Rattle.papaya_scenes.specs.Given.Callers.Kind as CallersKind
+pub use Rattle.papaya_scenes.specs.Given.Callers.OverAll as CallersOverAll
+pub use Rattle.papaya_scenes.specs.Given.Callers.Pairs as CallersPairs
+pub use Rattle.papaya_scenes.specs.Given.Callers.Rooms as CallersRooms
+pub use Rattle.papaya_scenes.specs.Given.Callers.Rows as CallersRows
+pub use Rattle.papaya_scenes.specs.Given.Callers.Sights as CallersSights
+pub use Rattle.papaya_scenes.specs.Given.Callers.Together as CallersTogether
+pub use Rattle.papaya_scenes.specs.Given.Finishes.Endings as FinishesEndings
+pub use Rattle.papaya_scenes.specs.Given.Finishes.FactsEnds as FinishesFactsEnds
+pub use Rattle.papaya_scenes.specs.Given.Finishes.Machines as FinishesMachines
+pub use Rattle.papaya_scenes.specs.Given.Finishes.Makings as FinishesMakings
+pub use Rattle.papaya_scenes.specs.Given.Finishes.Maps as FinishesMaps
+pub use Rattle.papaya_scenes.specs.Given.Finishes.Orders as FinishesOrders
+pub use Rattle.papaya_scenes.specs.Beginning as ScenesBeginning
+pub use Rattle.papaya_scenes.specs.Ending as ScenesEnding
+pub use Rattle.papaya_scenes.specs.Held as ScenesHeld
+pub use Rattle.papaya_scenes.specs.Making as ScenesMaking
+pub use Rattle.papaya_scenes.specs.OnSlots as ScenesOnSlots
+pub use Rattle.papaya_scenes.specs.Reclaiming as ScenesReclaiming
+pub use Rattle.papaya_scenes.specs.Replying as ScenesReplying
+pub use Rattle.papaya_scenes.specs.Rows as ScenesRows
+pub use Rattle.papaya_scenes.specs.Scene as ScenesScene
+pub use Rattle.papaya_scenes.specs.Stepping as ScenesStepping
+pub use Rattle.papaya_scenes.specs.contracts as ScenesContracts
+pub use Rattle.papaya_scenes.specs.declared as ScenesDeclared
+pub use Rattle.papaya_scenes.specs.Given.Reclaims.Left as ReclaimsLeft
+pub use Rattle.papaya_scenes.specs.Given.Reclaims.Reclaims as ReclaimsReclaims
+pub use Rattle.papaya_scenes.specs.Given.Reclaims.Slots as ReclaimsSlots
+pub use Rattle.papaya_scenes.specs.Given.SeizeActs.Acts as SeizeActsActs
+pub use Rattle.papaya_scenes.specs.Given.SeizeActs.Answers as SeizeActsAnswers
+pub use Rattle.papaya_scenes.specs.Given.SeizeReclaims.AllReclaimed as SeizeReclaimsAllReclaimed
+pub use Rattle.papaya_scenes.specs.Given.SeizeReclaims.Roots as SeizeReclaimsRoots
+pub use Rattle.papaya_scenes.specs.Given.SeizeQuiet.Slots as SeizeQuietSlots

@@ -2,24 +2,24 @@
 use Rattle.std.specs.Prelude.{◌≡◌, ℕ, zero, suc, ◌≤◌, ◌==◌, nat_le, Bool, true, false, not, ◌&&◌, ◌||◌, List, [], ◌∷◌, length, Some, if◌then◌else◌}
 use Rattle.std.specs.List.{list_all}
 use Rattle.std.proofs.Common.{refl, ap, sym, subst, ◌∙◌, arith}
-use Rattle.papaya_owes.specs.Given.Schedules.declared.effect.Effect.TheVariants as effect
-use Rattle.papaya_owes.specs.Given.Schedules.declared.effect.Spot.{Spot}
-use Rattle.papaya_owes.specs.Given.Schedules.declared.effect.Table.{Table}
-use Rattle.papaya_owes.specs.Given.Schedules.Effects.{spot_by, is_chunked, with_effects}
-use Rattle.papaya_owes.specs.Given.Schedules.Growing.{is_ahead, none_before}
-use Rattle.papaya_owes.specs.Given.Schedules.Lists.{numbers_from}
-use Rattle.papaya_owes.specs.Given.Schedules.Moment.{Place, MapThere, Moment}
-use Rattle.papaya_owes.specs.Given.Schedules.Views.{is_in_map, map_at, first_or, first_of}
-use Rattle.papaya_owes.proofs.Given.Follows.Linked.{own_found}
-use Rattle.papaya_owes.proofs.Given.Follows.Stored.{in_map_true}
-use Rattle.papaya_owes.proofs.Given.Spots.Unreclaimed.{or_right}
-use Rattle.papaya_owes.specs.Given.Effects.Known.{Known}
-use Rattle.papaya_owes.specs.Given.Finishes.Maps.{Standing}
-use Rattle.papaya_owes.specs.Given.Follows.Shows.{Shows}
-use Rattle.papaya_owes.specs.Given.Spots.Spots.{ShowsPlaces}
+use Rattle.papaya_owes.specs.Given.SchedulesDeclared.effect.Effect.TheVariants as effect
+use Rattle.papaya_owes.specs.Given.SchedulesDeclared.effect.Spot.{Spot}
+use Rattle.papaya_owes.specs.Given.SchedulesDeclared.effect.Table.{Table}
+use Rattle.papaya_owes.specs.Given.SchedulesEffects.{spot_by, is_chunked, with_effects}
+use Rattle.papaya_owes.specs.Given.SchedulesGrowing.{is_ahead, none_before}
+use Rattle.papaya_owes.specs.Given.SchedulesLists.{numbers_from}
+use Rattle.papaya_owes.specs.Given.SchedulesMoment.{Place, MapThere, Moment}
+use Rattle.papaya_owes.specs.Given.SchedulesViews.{is_in_map, map_at, first_or, first_of}
+use Rattle.papaya_owes.proofs.Given.FollowsLinked.{own_found}
+use Rattle.papaya_owes.proofs.Given.FollowsStored.{in_map_true}
+use Rattle.papaya_owes.proofs.Given.SpotsUnreclaimed.{or_right}
+use Rattle.papaya_owes.specs.Given.EffectsKnown.{Known}
+use Rattle.papaya_owes.specs.Given.FinishesMaps.{Standing}
+use Rattle.papaya_owes.specs.Given.FollowsShows.{Shows}
+use Rattle.papaya_owes.specs.Given.SpotsSpots.{ShowsPlaces}
 use Rattle.papaya_finds.proofs.FromRoot.{root_is, from_root}
-use Rattle.papaya_owes.specs.Given.Scenes.Held.{Held, IsAt}
-use Rattle.papaya_owes.specs.Given.Scenes.Scene.{Scene}
+use Rattle.papaya_owes.specs.Given.ScenesHeld.{Held, IsAt}
+use Rattle.papaya_owes.specs.Given.ScenesScene.{Scene}
 
 at_most : (a b : ℕ) → a ≤ b → nat_le a b ≡ true
 at_most a b l = grind (arith, l)

@@ -2,9 +2,9 @@
 use Rattle.std.specs.Prelude.{◌≡◌, Bool, true, false, ◌||◌, List, [], ◌∷◌, ◌++◌, map}
 use Rattle.std.specs.List.{AllByRecursion, list_any}
 use Rattle.std.proofs.Common.{refl, ap, ◌∙◌}
-use Rattle.papaya_owes.specs.Given.Schedules.declared.effect.Table.{Table}
-use Rattle.papaya_owes.specs.Given.Schedules.Moment.{TableThere}
-use Rattle.papaya_owes.specs.Given.Schedules.Things.{same_table}
+use Rattle.papaya_owes.specs.Given.SchedulesDeclared.effect.Table.{Table}
+use Rattle.papaya_owes.specs.Given.SchedulesMoment.{TableThere}
+use Rattle.papaya_owes.specs.Given.SchedulesThings.{same_table}
 use Rattle.papaya_finds.specs.Bounded.{TablesApart}
 
 -- some table of these is this one

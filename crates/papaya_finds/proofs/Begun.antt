@@ -5,24 +5,24 @@ use Rattle.std.proofs.Common.{refl, ap, sym, subst, ◌∙◌, arith}
 use Rattle.std.proofs.lemmas.Bool.{and_parts, or_left, eq-eqb, ne_eqb}
 use Rattle.std.proofs.lemmas.List.Elements.{recursion_from_All, All-from_recursion}
 use Rattle.std.proofs.lemmas.List.Folds.{list_any-append}
-use Rattle.papaya_owes.specs.Given.SeizeWords.declared.fault.Fault.{Fault}
-use Rattle.papaya_owes.specs.Given.SeizeWords.declared.fault.Fault.TheVariants.{Busy}
-use Rattle.papaya_owes.specs.Given.Runs.Runs.{map_fault}
-use Rattle.papaya_owes.specs.Given.Runs.Same.{is_same}
-use Rattle.papaya_owes.specs.Given.Schedules.declared.call.Call.{Call}
-use Rattle.papaya_owes.specs.Given.Schedules.declared.event.Event.{Event}
-use Rattle.papaya_owes.specs.Given.Schedules.declared.event.Event.TheVariants.{MakeMap, EndMap, Begin, OneCall}
-use Rattle.papaya_owes.specs.Given.Schedules.declared.outcome.Outcome.{Outcome}
-use Rattle.papaya_owes.specs.Given.Schedules.declared.outcome.Outcome.TheVariants.{Done, Goes, Refused}
-use Rattle.papaya_owes.specs.Given.Schedules.After.{moment}
-use Rattle.papaya_owes.specs.Given.Schedules.Beginning.{with_call, with_map, begun}
-use Rattle.papaya_owes.specs.Given.Schedules.Entry.{Entry, is_busy, nameless}
-use Rattle.papaya_owes.specs.Given.Schedules.InTurn.{IsKeptOut, is_called, ComesTo}
-use Rattle.papaya_owes.specs.Given.Schedules.Moment.{UnderWay, MapThere, Moment}
-use Rattle.papaya_owes.specs.Given.Schedules.Terms.{Terms}
-use Rattle.papaya_owes.specs.Given.Schedules.Views.{call_of, map_of, number_of, map_at}
-use Rattle.papaya_owes.proofs.Given.Follows.Calling.{is_same_refl, is_same_is}
-use Rattle.papaya_owes.proofs.Given.Scenes.NoCall.{none_is}
+use Rattle.papaya_owes.specs.Given.SeizeWordsDeclared.fault.Fault.{Fault}
+use Rattle.papaya_owes.specs.Given.SeizeWordsDeclared.fault.Fault.TheVariants.{Busy}
+use Rattle.papaya_owes.specs.Given.RunsRuns.{map_fault}
+use Rattle.papaya_owes.specs.Given.RunsSame.{is_same}
+use Rattle.papaya_owes.specs.Given.SchedulesDeclared.call.Call.{Call}
+use Rattle.papaya_owes.specs.Given.SchedulesDeclared.event.Event.{Event}
+use Rattle.papaya_owes.specs.Given.SchedulesDeclared.event.Event.TheVariants.{MakeMap, EndMap, Begin, OneCall}
+use Rattle.papaya_owes.specs.Given.SchedulesDeclared.outcome.Outcome.{Outcome}
+use Rattle.papaya_owes.specs.Given.SchedulesDeclared.outcome.Outcome.TheVariants.{Done, Goes, Refused}
+use Rattle.papaya_owes.specs.Given.SchedulesAfter.{moment}
+use Rattle.papaya_owes.specs.Given.SchedulesBeginning.{with_call, with_map, begun}
+use Rattle.papaya_owes.specs.Given.SchedulesEntry.{Entry, is_busy, nameless}
+use Rattle.papaya_owes.specs.Given.SchedulesInTurn.{IsKeptOut, is_called, ComesTo}
+use Rattle.papaya_owes.specs.Given.SchedulesMoment.{UnderWay, MapThere, Moment}
+use Rattle.papaya_owes.specs.Given.SchedulesTerms.{Terms}
+use Rattle.papaya_owes.specs.Given.SchedulesViews.{call_of, map_of, number_of, map_at}
+use Rattle.papaya_owes.proofs.Given.FollowsCalling.{is_same_refl, is_same_is}
+use Rattle.papaya_owes.proofs.Given.ScenesNoCall.{none_is}
 use Rattle.papaya_finds.specs.Endings.{MakesNew}
 use Rattle.papaya_finds.specs.Within.{many_of, HasItsMap, AllIsInOrder}
 use Rattle.papaya_finds.proofs.Endings.{name_of, number_at, same_number, more_found}

@@ -3,20 +3,20 @@ use Rattle.std.specs.Prelude.{◌≡◌, ℕ, ◌<◌, ◌≤◌, ◌==◌, Bool
 use Rattle.std.specs.List.{AllByRecursion}
 use Rattle.std.proofs.Common.{refl, ap, sym, subst, ◌∙◌, arith}
 use Rattle.std.proofs.lemmas.Bool.{eq-eqb}
-use Rattle.papaya_owes.specs.Given.Schedules.declared.effect.Effect.{Effect}
-use Rattle.papaya_owes.specs.Given.Schedules.declared.effect.Effect.TheVariants as effect
-use Rattle.papaya_owes.specs.Given.Schedules.declared.effect.Spot.{Spot}
-use Rattle.papaya_owes.specs.Given.Schedules.declared.effect.Table.{Table}
-use Rattle.papaya_owes.specs.Given.Schedules.declared.effect.Thing.TheVariants.{APair, ATable}
-use Rattle.papaya_owes.specs.Given.Schedules.Effects.{is_chunked, with_effect}
-use Rattle.papaya_owes.specs.Given.Schedules.Lists.{is_in}
-use Rattle.papaya_owes.specs.Given.Schedules.Lives.{MayCopy, MayDefer, CallFinds, EventFinds}
-use Rattle.papaya_owes.specs.Given.Schedules.Moment.{Place, Unborn, InMap, Out, Handed, Behind, Left, GivenBack, UnderWay, Deferral, Moment}
-use Rattle.papaya_owes.specs.Given.Schedules.Terms.{Terms}
-use Rattle.papaya_owes.specs.Given.Schedules.Things.{same_table, same_thing}
-use Rattle.papaya_owes.specs.Given.Schedules.Views.{is_in_a_map, first_of, grows_in_chunks, map_at, tables_of}
-use Rattle.papaya_owes.specs.Given.Spots.Deferred.{FindsNumbers}
-use Rattle.papaya_owes.proofs.Given.Spots.Effects.{aside_all, is_aside}
+use Rattle.papaya_owes.specs.Given.SchedulesDeclared.effect.Effect.{Effect}
+use Rattle.papaya_owes.specs.Given.SchedulesDeclared.effect.Effect.TheVariants as effect
+use Rattle.papaya_owes.specs.Given.SchedulesDeclared.effect.Spot.{Spot}
+use Rattle.papaya_owes.specs.Given.SchedulesDeclared.effect.Table.{Table}
+use Rattle.papaya_owes.specs.Given.SchedulesDeclared.effect.Thing.TheVariants.{APair, ATable}
+use Rattle.papaya_owes.specs.Given.SchedulesEffects.{is_chunked, with_effect}
+use Rattle.papaya_owes.specs.Given.SchedulesLists.{is_in}
+use Rattle.papaya_owes.specs.Given.SchedulesLives.{MayCopy, MayDefer, CallFinds, EventFinds}
+use Rattle.papaya_owes.specs.Given.SchedulesMoment.{Place, Unborn, InMap, Out, Handed, Behind, Left, GivenBack, UnderWay, Deferral, Moment}
+use Rattle.papaya_owes.specs.Given.SchedulesTerms.{Terms}
+use Rattle.papaya_owes.specs.Given.SchedulesThings.{same_table, same_thing}
+use Rattle.papaya_owes.specs.Given.SchedulesViews.{is_in_a_map, first_of, grows_in_chunks, map_at, tables_of}
+use Rattle.papaya_owes.specs.Given.SpotsDeferred.{FindsNumbers}
+use Rattle.papaya_owes.proofs.Given.SpotsEffects.{aside_all, is_aside}
 use Rattle.papaya_finds.specs.Past.{HasLeftMaps, FindsOnward}
 use Rattle.papaya_finds.specs.Waiting.{is_unborn, is_behind_one, once_if, put_in, PairsArePlaced, FindsPlaced}
 use Rattle.papaya_finds.specs.Within.{HasItsMap, LiesNext}

@@ -3,19 +3,19 @@ use Rattle.std.specs.Prelude.{◌≡◌, ℕ, zero, suc, ◌+◌, ◌-◌, ◌*�
 use Rattle.std.specs.List.{AllByRecursion, list_any}
 use Rattle.std.proofs.Common.{refl, ap, sym, subst, ◌∙◌, arith, inl, inr}
 use Rattle.std.proofs.lemmas.Bool.{cases_eq, eq-eqb, ne_eqb}
-use Rattle.papaya_owes.specs.Given.Seize.Law.{is_retired as is_retired_in}
-use Rattle.papaya_owes.specs.Given.Seize.World.{World, times}
-use Rattle.papaya_owes.proofs.Given.SeizeRule.World.Bounded.{garbage_bounded}
-use Rattle.papaya_owes.specs.Given.Tables.Nodes.{deferred_word}
-use Rattle.papaya_owes.specs.Given.Tables.declared.node.Node.{Node}
-use Rattle.papaya_owes.specs.Given.Schedules.declared.effect.Table.{Table}
-use Rattle.papaya_owes.specs.Given.Schedules.Moment.{TableThere, Moment}
-use Rattle.papaya_owes.specs.Given.Schedules.Reclaims.{is_handed, waiting_things}
-use Rattle.papaya_owes.specs.Given.Schedules.Things.{same_table}
-use Rattle.papaya_owes.specs.Given.Schedules.Views.{is_retired, places_below}
-use Rattle.papaya_owes.proofs.Given.Spots.Unreclaimed.{same_itself}
-use Rattle.papaya_owes.specs.Given.Effects.Known.{Known}
-use Rattle.papaya_owes.specs.Given.Effects.declared.role.Role.TheVariants as role
+use Rattle.papaya_owes.specs.Given.SeizeLaw.{is_retired as is_retired_in}
+use Rattle.papaya_owes.specs.Given.SeizeWorld.{World, times}
+use Rattle.papaya_owes.proofs.Given.SeizeRuleWorld.Bounded.{garbage_bounded}
+use Rattle.papaya_owes.specs.Given.TablesNodes.{deferred_word}
+use Rattle.papaya_owes.specs.Given.TablesDeclared.node.Node.{Node}
+use Rattle.papaya_owes.specs.Given.SchedulesDeclared.effect.Table.{Table}
+use Rattle.papaya_owes.specs.Given.SchedulesMoment.{TableThere, Moment}
+use Rattle.papaya_owes.specs.Given.SchedulesReclaims.{is_handed, waiting_things}
+use Rattle.papaya_owes.specs.Given.SchedulesThings.{same_table}
+use Rattle.papaya_owes.specs.Given.SchedulesViews.{is_retired, places_below}
+use Rattle.papaya_owes.proofs.Given.SpotsUnreclaimed.{same_itself}
+use Rattle.papaya_owes.specs.Given.EffectsKnown.{Known}
+use Rattle.papaya_owes.specs.Given.EffectsDeclared.role.Role.TheVariants as role
 use Rattle.papaya_finds.specs.Waiting.{once_if}
 use Rattle.papaya_finds.specs.Bounded.{TablesApart, HasRetiredTable, ShowsRetired, LittleWaits}
 

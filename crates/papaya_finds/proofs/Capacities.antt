@@ -3,41 +3,41 @@ use Rattle.std.specs.Prelude.{◌≡◌, ℕ, zero, suc, ◌-◌, ◌+◌, ◌^�
 use Rattle.std.proofs.Common.{refl, ap, sym, subst, ◌∙◌, inl, inr, arith}
 use Rattle.std.proofs.lemmas.Bool.{cases_eq, eqb-true, ltb-false, le-leb}
 use Rattle.std.proofs.lemmas.Nat.{pow_pos}
-use Rattle.papaya_owes.specs.Given.Seize.World.{World, with_at}
-use Rattle.papaya_owes.specs.Given.SeizeWords.declared.fault.Fault.{Fault}
-use Rattle.papaya_owes.specs.Given.SeizeWords.declared.fault.Fault.TheVariants.{Capacity}
-use Rattle.papaya_owes.specs.Given.Seize.declared.progress.Progress.{Progress as Making}
-use Rattle.papaya_owes.specs.Given.Seize.declared.progress.Progress.TheVariants as progress
-use Rattle.papaya_owes.specs.Given.Tables.Lengths.{places_for, entries_of}
-use Rattle.papaya_owes.specs.Given.Tables.Powers.{floor_log2, next_power}
-use Rattle.papaya_owes.specs.Given.Tables.declared.node.Node.{Node}
-use Rattle.papaya_owes.specs.Given.Tables.declared.resize_mode.ResizeMode.{ResizeMode}
-use Rattle.papaya_owes.specs.Given.Tables.declared.resize_mode.ResizeMode.TheVariants.{Incremental, Blocking}
-use Rattle.papaya_owes.specs.Given.Tables.declared.setting.Setting.{Setting}
-use Rattle.papaya_owes.specs.Given.Resize.declared.new_map.NewMap.{NewMap}
-use Rattle.papaya_owes.specs.Given.Runs.Runs.{map_fault}
-use Rattle.papaya_owes.specs.Given.Schedules.declared.effect.Effect.{Effect}
-use Rattle.papaya_owes.specs.Given.Schedules.declared.effect.Effect.TheVariants as effect
-use Rattle.papaya_owes.specs.Given.Schedules.declared.effect.Table.{Table}
-use Rattle.papaya_owes.specs.Given.Schedules.Effects.{promoted, with_effect, with_effects}
-use Rattle.papaya_owes.specs.Given.Schedules.Growing.{Has}
-use Rattle.papaya_owes.specs.Given.Schedules.Moment.{MapThere, Moment}
-use Rattle.papaya_owes.specs.Given.Schedules.Views.{map_at, capacity_or}
-use Rattle.papaya_owes.proofs.Given.Callers.Together.At.{at_other, at_same}
-use Rattle.papaya_owes.specs.Given.Named.Places.{first_places}
-use Rattle.papaya_owes.specs.Given.Effects.Effects.{effects_of}
-use Rattle.papaya_owes.specs.Given.Effects.declared.acting.Acting.TheVariants as acts
-use Rattle.papaya_owes.specs.Given.Finishes.Makings.{Beginning}
-use Rattle.papaya_owes.specs.Given.Finishes.Machines.{StandsOn}
-use Rattle.papaya_owes.specs.Given.Finishes.Maps.{Standing, IsSameMap}
-use Rattle.papaya_owes.proofs.Given.Follows.Steps.{one_of}
-use Rattle.papaya_owes.specs.Given.Others.Makings.{making_after}
+use Rattle.papaya_owes.specs.Given.SeizeWorld.{World, with_at}
+use Rattle.papaya_owes.specs.Given.SeizeWordsDeclared.fault.Fault.{Fault}
+use Rattle.papaya_owes.specs.Given.SeizeWordsDeclared.fault.Fault.TheVariants.{Capacity}
+use Rattle.papaya_owes.specs.Given.SeizeDeclared.progress.Progress.{Progress as Making}
+use Rattle.papaya_owes.specs.Given.SeizeDeclared.progress.Progress.TheVariants as progress
+use Rattle.papaya_owes.specs.Given.TablesLengths.{places_for, entries_of}
+use Rattle.papaya_owes.specs.Given.TablesPowers.{floor_log2, next_power}
+use Rattle.papaya_owes.specs.Given.TablesDeclared.node.Node.{Node}
+use Rattle.papaya_owes.specs.Given.TablesDeclared.resize_mode.ResizeMode.{ResizeMode}
+use Rattle.papaya_owes.specs.Given.TablesDeclared.resize_mode.ResizeMode.TheVariants.{Incremental, Blocking}
+use Rattle.papaya_owes.specs.Given.TablesDeclared.setting.Setting.{Setting}
+use Rattle.papaya_owes.specs.Given.ResizeDeclared.new_map.NewMap.{NewMap}
+use Rattle.papaya_owes.specs.Given.RunsRuns.{map_fault}
+use Rattle.papaya_owes.specs.Given.SchedulesDeclared.effect.Effect.{Effect}
+use Rattle.papaya_owes.specs.Given.SchedulesDeclared.effect.Effect.TheVariants as effect
+use Rattle.papaya_owes.specs.Given.SchedulesDeclared.effect.Table.{Table}
+use Rattle.papaya_owes.specs.Given.SchedulesEffects.{promoted, with_effect, with_effects}
+use Rattle.papaya_owes.specs.Given.SchedulesGrowing.{Has}
+use Rattle.papaya_owes.specs.Given.SchedulesMoment.{MapThere, Moment}
+use Rattle.papaya_owes.specs.Given.SchedulesViews.{map_at, capacity_or}
+use Rattle.papaya_owes.proofs.Given.CallersTogether.At.{at_other, at_same}
+use Rattle.papaya_owes.specs.Given.NamedPlaces.{first_places}
+use Rattle.papaya_owes.specs.Given.EffectsEffects.{effects_of}
+use Rattle.papaya_owes.specs.Given.EffectsDeclared.acting.Acting.TheVariants as acts
+use Rattle.papaya_owes.specs.Given.FinishesMakings.{Beginning}
+use Rattle.papaya_owes.specs.Given.FinishesMachines.{StandsOn}
+use Rattle.papaya_owes.specs.Given.FinishesMaps.{Standing, IsSameMap}
+use Rattle.papaya_owes.proofs.Given.FollowsSteps.{one_of}
+use Rattle.papaya_owes.specs.Given.OthersMakings.{making_after}
 use Rattle.papaya_finds.specs.Capacities.{ShowsCapacities, StoodSo, GivenAreFor, CapacitiesStay, EffectsKeepCapacities, SameMapsStood, CallsKeepCapacities, MakingsKeepCapacities}
 use Rattle.papaya_finds.specs.Linking.{IsMadeFor}
-use Rattle.papaya_owes.specs.Given.Scenes.Held.{Held}
-use Rattle.papaya_owes.specs.Given.Scenes.Making.{MakingComesTo}
-use Rattle.papaya_owes.specs.Given.Scenes.Scene.{Scene}
-use Rattle.papaya_owes.specs.Given.Scenes.Stepping.{scene_after}
+use Rattle.papaya_owes.specs.Given.ScenesHeld.{Held}
+use Rattle.papaya_owes.specs.Given.ScenesMaking.{MakingComesTo}
+use Rattle.papaya_owes.specs.Given.ScenesScene.{Scene}
+use Rattle.papaya_owes.specs.Given.ScenesStepping.{scene_after}
 
 -- A capacity that is no fault has so many places.
 

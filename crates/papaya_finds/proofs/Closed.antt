@@ -3,27 +3,27 @@ use Rattle.std.specs.Prelude.{◌≡◌, ℕ, Bool, true, false, not, ◌&&◌, 
 use Rattle.std.specs.List.{list_all}
 use Rattle.std.proofs.Common.{refl, ap, sym, subst, ◌∙◌}
 use Rattle.std.proofs.lemmas.Bool.{and_parts}
-use Rattle.papaya_owes.specs.Given.SeizeWords.declared.fault.Fault.{Fault}
-use Rattle.papaya_owes.specs.Given.SeizeWords.declared.fault.Fault.TheVariants.{Busy, Memory}
-use Rattle.papaya_owes.specs.Given.Tables.declared.resize_mode.ResizeMode.{ResizeMode}
-use Rattle.papaya_owes.specs.Given.Runs.Runs.{map_fault}
-use Rattle.papaya_owes.specs.Given.Schedules.declared.effect.Effect.{Effect}
-use Rattle.papaya_owes.specs.Given.Schedules.declared.effect.Effect.TheVariants as effect
-use Rattle.papaya_owes.specs.Given.Schedules.declared.event.Event.{Event}
-use Rattle.papaya_owes.specs.Given.Schedules.declared.event.Event.TheVariants as event
-use Rattle.papaya_owes.specs.Given.Schedules.declared.outcome.Outcome.{Outcome}
-use Rattle.papaya_owes.specs.Given.Schedules.declared.outcome.Outcome.TheVariants.{Done, Refused}
-use Rattle.papaya_owes.specs.Given.Schedules.After.{calls_on, closed_on, after, moment}
-use Rattle.papaya_owes.specs.Given.Schedules.Effects.{maps_by, with_effect, with_effects, worked}
-use Rattle.papaya_owes.specs.Given.Schedules.Entry.{Entry}
-use Rattle.papaya_owes.specs.Given.Schedules.Handing.{IsWhole}
-use Rattle.papaya_owes.specs.Given.Schedules.InTurn.{is_growth, IsKeptOut, ComesTo}
-use Rattle.papaya_owes.specs.Given.Schedules.InUse.{is_left}
-use Rattle.papaya_owes.specs.Given.Schedules.Lists.{is_empty}
-use Rattle.papaya_owes.specs.Given.Schedules.Moment.{Place, TableThere, Moment}
-use Rattle.papaya_owes.specs.Given.Schedules.Terms.{Terms}
-use Rattle.papaya_owes.specs.Given.Schedules.Reclaims.{is_handed}
-use Rattle.papaya_owes.specs.Given.Schedules.Views.{number_of, is_retired}
+use Rattle.papaya_owes.specs.Given.SeizeWordsDeclared.fault.Fault.{Fault}
+use Rattle.papaya_owes.specs.Given.SeizeWordsDeclared.fault.Fault.TheVariants.{Busy, Memory}
+use Rattle.papaya_owes.specs.Given.TablesDeclared.resize_mode.ResizeMode.{ResizeMode}
+use Rattle.papaya_owes.specs.Given.RunsRuns.{map_fault}
+use Rattle.papaya_owes.specs.Given.SchedulesDeclared.effect.Effect.{Effect}
+use Rattle.papaya_owes.specs.Given.SchedulesDeclared.effect.Effect.TheVariants as effect
+use Rattle.papaya_owes.specs.Given.SchedulesDeclared.event.Event.{Event}
+use Rattle.papaya_owes.specs.Given.SchedulesDeclared.event.Event.TheVariants as event
+use Rattle.papaya_owes.specs.Given.SchedulesDeclared.outcome.Outcome.{Outcome}
+use Rattle.papaya_owes.specs.Given.SchedulesDeclared.outcome.Outcome.TheVariants.{Done, Refused}
+use Rattle.papaya_owes.specs.Given.SchedulesAfter.{calls_on, closed_on, after, moment}
+use Rattle.papaya_owes.specs.Given.SchedulesEffects.{maps_by, with_effect, with_effects, worked}
+use Rattle.papaya_owes.specs.Given.SchedulesEntry.{Entry}
+use Rattle.papaya_owes.specs.Given.SchedulesHanding.{IsWhole}
+use Rattle.papaya_owes.specs.Given.SchedulesInTurn.{is_growth, IsKeptOut, ComesTo}
+use Rattle.papaya_owes.specs.Given.SchedulesInUse.{is_left}
+use Rattle.papaya_owes.specs.Given.SchedulesLists.{is_empty}
+use Rattle.papaya_owes.specs.Given.SchedulesMoment.{Place, TableThere, Moment}
+use Rattle.papaya_owes.specs.Given.SchedulesTerms.{Terms}
+use Rattle.papaya_owes.specs.Given.SchedulesReclaims.{is_handed}
+use Rattle.papaya_owes.specs.Given.SchedulesViews.{number_of, is_retired}
 use Rattle.papaya_finds.specs.Little.{AllIsBack, ReclaimsAll, OverStaysBack}
 use Rattle.papaya_finds.specs.Orderly.{is_left_over}
 use Rattle.papaya_finds.specs.Within.{GoesInOrder}

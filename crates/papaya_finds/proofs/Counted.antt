@@ -2,13 +2,13 @@
 use Rattle.std.specs.Prelude.{◌≡◌, ℕ, ◌+◌, ◌==◌, Bool, true, false, not, cond, ◌||◌, List, [], ◌∷◌, filter, map, if◌then◌else◌}
 use Rattle.std.proofs.Common.{refl, ap, sym, subst, ◌∙◌, arith, inl, inr}
 use Rattle.std.proofs.lemmas.Bool.{cases_eq, eq-eqb, ne_eqb}
-use Rattle.papaya_owes.specs.Given.Schedules.declared.effect.Table.{Table}
-use Rattle.papaya_owes.specs.Given.Schedules.Effects.{all_at}
-use Rattle.papaya_owes.specs.Given.Schedules.Lists.{is_among, put}
-use Rattle.papaya_owes.specs.Given.Schedules.Moment.{Place, Behind, Deferral}
-use Rattle.papaya_owes.specs.Given.Schedules.Things.{same_table}
-use Rattle.papaya_owes.specs.Given.Schedules.Views.{behind}
-use Rattle.papaya_owes.proofs.Given.Follows.Alike.{put_here, put_elsewhere}
+use Rattle.papaya_owes.specs.Given.SchedulesDeclared.effect.Table.{Table}
+use Rattle.papaya_owes.specs.Given.SchedulesEffects.{all_at}
+use Rattle.papaya_owes.specs.Given.SchedulesLists.{is_among, put}
+use Rattle.papaya_owes.specs.Given.SchedulesMoment.{Place, Behind, Deferral}
+use Rattle.papaya_owes.specs.Given.SchedulesThings.{same_table}
+use Rattle.papaya_owes.specs.Given.SchedulesViews.{behind}
+use Rattle.papaya_owes.proofs.Given.FollowsAlike.{put_here, put_elsewhere}
 use Rattle.papaya_finds.specs.Waiting.{once_if, put_in, is_behind_one}
 
 -- the list has each pair once that is at such a place, and no other one

@@ -3,10 +3,10 @@ use Rattle.std.specs.Prelude.{◌≡◌, Bool, true, ◌&&◌, List, [], ◌∷�
 use Rattle.std.specs.List.{list_all}
 use Rattle.std.proofs.Common.{refl, ap, ◌∙◌}
 use Rattle.std.proofs.lemmas.List.Folds.{list_all-append}
-use Rattle.papaya_owes.specs.Given.Schedules.declared.effect.Effect.{Effect}
-use Rattle.papaya_owes.specs.Given.Schedules.declared.event.Event.TheVariants.{Step, Go, OneCall}
-use Rattle.papaya_owes.specs.Given.Schedules.Handing.{is_call_effect, may_do}
-use Rattle.papaya_owes.proofs.Given.Spots.Unreclaimed.{and_both}
+use Rattle.papaya_owes.specs.Given.SchedulesDeclared.effect.Effect.{Effect}
+use Rattle.papaya_owes.specs.Given.SchedulesDeclared.event.Event.TheVariants.{Step, Go, OneCall}
+use Rattle.papaya_owes.specs.Given.SchedulesHanding.{is_call_effect, may_do}
+use Rattle.papaya_owes.proofs.Given.SpotsUnreclaimed.{and_both}
 use Rattle.papaya_finds.specs.Doing.{SeveralDoTheirs, EventsMayDo}
 
 pub several_do_theirs : SeveralDoTheirs

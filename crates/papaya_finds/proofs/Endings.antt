@@ -6,28 +6,28 @@ use Rattle.std.proofs.Common.{refl, ap, sym, subst, ◌∙◌, arith, inl, inr, 
 use Rattle.std.proofs.lemmas.Bool.{and_parts, cases_eq, eq-eqb, leb-true}
 use Rattle.std.proofs.lemmas.List.Elements.{recursion_from_All, All-from_recursion}
 use Rattle.std.proofs.lemmas.List.Folds.{find-append}
-use Rattle.papaya_owes.specs.Given.Runs.Same.{is_same}
-use Rattle.papaya_owes.specs.Given.Schedules.declared.effect.Effect.{Effect}
-use Rattle.papaya_owes.specs.Given.Schedules.declared.effect.Effect.TheVariants as effect
-use Rattle.papaya_owes.specs.Given.Schedules.declared.effect.Table.{Table}
-use Rattle.papaya_owes.specs.Given.Schedules.declared.event.Event.{Event}
-use Rattle.papaya_owes.specs.Given.Schedules.declared.event.Event.TheVariants.{MakeMap, EndMap, Begin, OneCall}
-use Rattle.papaya_owes.specs.Given.Schedules.declared.outcome.Outcome.{Outcome}
-use Rattle.papaya_owes.specs.Given.Schedules.declared.outcome.Outcome.TheVariants.{Done, Goes}
-use Rattle.papaya_owes.specs.Given.Schedules.After.{tables_taken, maps_on, after}
-use Rattle.papaya_owes.specs.Given.Schedules.Beginning.{with_call, begun}
-use Rattle.papaya_owes.specs.Given.Schedules.Effects.{at_stage, promoted, with_effect, with_effects, worked}
-use Rattle.papaya_owes.specs.Given.Schedules.Entry.{Entry, is_busy, nameless, caller_of, acted_on}
-use Rattle.papaya_owes.specs.Given.Schedules.Handing.{is_ending, may_do, EndsMap, EndsNamed, IsWhole}
-use Rattle.papaya_owes.specs.Given.Schedules.Moment.{Place, InMap, MapThere, IsTaken, TableThere, Moment}
-use Rattle.papaya_owes.specs.Given.Schedules.Reclaims.{is_kept}
-use Rattle.papaya_owes.specs.Given.Schedules.Things.{same_table}
-use Rattle.papaya_owes.specs.Given.Schedules.Views.{is_in_map, places_below, map_of, number_of, map_at, first_or, first_of, is_linked, tables_of, chain_of}
-use Rattle.papaya_owes.specs.Given.Moments.Numbers.{AreFound}
-use Rattle.papaya_owes.proofs.Given.Follows.Calling.{is_same_refl, is_same_is}
-use Rattle.papaya_owes.proofs.Given.Others.EndBegins.{found_still}
-use Rattle.papaya_owes.proofs.Given.Others.Leads.{same_parts}
-use Rattle.papaya_owes.proofs.Given.Spots.Unreclaimed.{same_itself}
+use Rattle.papaya_owes.specs.Given.RunsSame.{is_same}
+use Rattle.papaya_owes.specs.Given.SchedulesDeclared.effect.Effect.{Effect}
+use Rattle.papaya_owes.specs.Given.SchedulesDeclared.effect.Effect.TheVariants as effect
+use Rattle.papaya_owes.specs.Given.SchedulesDeclared.effect.Table.{Table}
+use Rattle.papaya_owes.specs.Given.SchedulesDeclared.event.Event.{Event}
+use Rattle.papaya_owes.specs.Given.SchedulesDeclared.event.Event.TheVariants.{MakeMap, EndMap, Begin, OneCall}
+use Rattle.papaya_owes.specs.Given.SchedulesDeclared.outcome.Outcome.{Outcome}
+use Rattle.papaya_owes.specs.Given.SchedulesDeclared.outcome.Outcome.TheVariants.{Done, Goes}
+use Rattle.papaya_owes.specs.Given.SchedulesAfter.{tables_taken, maps_on, after}
+use Rattle.papaya_owes.specs.Given.SchedulesBeginning.{with_call, begun}
+use Rattle.papaya_owes.specs.Given.SchedulesEffects.{at_stage, promoted, with_effect, with_effects, worked}
+use Rattle.papaya_owes.specs.Given.SchedulesEntry.{Entry, is_busy, nameless, caller_of, acted_on}
+use Rattle.papaya_owes.specs.Given.SchedulesHanding.{is_ending, may_do, EndsMap, EndsNamed, IsWhole}
+use Rattle.papaya_owes.specs.Given.SchedulesMoment.{Place, InMap, MapThere, IsTaken, TableThere, Moment}
+use Rattle.papaya_owes.specs.Given.SchedulesReclaims.{is_kept}
+use Rattle.papaya_owes.specs.Given.SchedulesThings.{same_table}
+use Rattle.papaya_owes.specs.Given.SchedulesViews.{is_in_map, places_below, map_of, number_of, map_at, first_or, first_of, is_linked, tables_of, chain_of}
+use Rattle.papaya_owes.specs.Given.MomentsNumbers.{AreFound}
+use Rattle.papaya_owes.proofs.Given.FollowsCalling.{is_same_refl, is_same_is}
+use Rattle.papaya_owes.proofs.Given.OthersEndBegins.{found_still}
+use Rattle.papaya_owes.proofs.Given.OthersLeads.{same_parts}
+use Rattle.papaya_owes.proofs.Given.SpotsUnreclaimed.{same_itself}
 use Rattle.papaya_finds.specs.Endings.{AreNamed, MakesNew, EventsKeepNamed, EventsKeepRoots, EventsKeepSomewhere}
 use Rattle.papaya_finds.specs.TornDown.{StoredAreSomewhere}
 use Rattle.papaya_finds.specs.Waiting.{is_unborn, once_if, PairsArePlaced}

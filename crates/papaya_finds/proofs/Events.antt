@@ -4,24 +4,24 @@ use Rattle.std.specs.List.{AllByRecursion, list_any}
 use Rattle.std.proofs.Common.{refl, ap, sym, subst, ◌∙◌, arith}
 use Rattle.std.proofs.lemmas.Bool.{or_left, or_right}
 use Rattle.std.proofs.lemmas.List.Folds.{list_any-append}
-use Rattle.papaya_owes.specs.Given.Runs.Same.{is_same}
-use Rattle.papaya_owes.specs.Given.Schedules.declared.call.Reply.{Reply}
-use Rattle.papaya_owes.specs.Given.Schedules.declared.event.Event.{Event}
-use Rattle.papaya_owes.specs.Given.Schedules.declared.event.Event.TheVariants.{Replied, Stop}
-use Rattle.papaya_owes.specs.Given.Schedules.declared.outcome.Outcome.{Outcome}
-use Rattle.papaya_owes.specs.Given.Schedules.declared.outcome.Outcome.TheVariants.{Done, Goes, Asks, Waits, Ready, Shows}
-use Rattle.papaya_owes.specs.Given.Schedules.declared.effect.Table.{Table}
-use Rattle.papaya_owes.specs.Given.Schedules.declared.effect.Thing.TheVariants.{ATable}
-use Rattle.papaya_owes.specs.Given.Schedules.After.{asks_on, comes_to, replied, without_call, stepped, calls_on, after}
-use Rattle.papaya_owes.specs.Given.Schedules.Beginning.{with_call, with_map}
-use Rattle.papaya_owes.specs.Given.Schedules.Effects.{worked}
-use Rattle.papaya_owes.specs.Given.Schedules.Entry.{ends_call, caller_of}
-use Rattle.papaya_owes.specs.Given.Schedules.Lists.{is_in}
-use Rattle.papaya_owes.specs.Given.Schedules.Moment.{Stands, Going, Asking, Told, IsReady, UnderWay, MapThere, TableThere}
-use Rattle.papaya_owes.specs.Given.Schedules.Reclaims.{is_kept}
-use Rattle.papaya_owes.specs.Given.Schedules.Things.{same_thing}
-use Rattle.papaya_owes.specs.Given.Schedules.Views.{is_linked}
-use Rattle.papaya_owes.proofs.Given.Follows.Calls.{IsOfSame}
+use Rattle.papaya_owes.specs.Given.RunsSame.{is_same}
+use Rattle.papaya_owes.specs.Given.SchedulesDeclared.call.Reply.{Reply}
+use Rattle.papaya_owes.specs.Given.SchedulesDeclared.event.Event.{Event}
+use Rattle.papaya_owes.specs.Given.SchedulesDeclared.event.Event.TheVariants.{Replied, Stop}
+use Rattle.papaya_owes.specs.Given.SchedulesDeclared.outcome.Outcome.{Outcome}
+use Rattle.papaya_owes.specs.Given.SchedulesDeclared.outcome.Outcome.TheVariants.{Done, Goes, Asks, Waits, Ready, Shows}
+use Rattle.papaya_owes.specs.Given.SchedulesDeclared.effect.Table.{Table}
+use Rattle.papaya_owes.specs.Given.SchedulesDeclared.effect.Thing.TheVariants.{ATable}
+use Rattle.papaya_owes.specs.Given.SchedulesAfter.{asks_on, comes_to, replied, without_call, stepped, calls_on, after}
+use Rattle.papaya_owes.specs.Given.SchedulesBeginning.{with_call, with_map}
+use Rattle.papaya_owes.specs.Given.SchedulesEffects.{worked}
+use Rattle.papaya_owes.specs.Given.SchedulesEntry.{ends_call, caller_of}
+use Rattle.papaya_owes.specs.Given.SchedulesLists.{is_in}
+use Rattle.papaya_owes.specs.Given.SchedulesMoment.{Stands, Going, Asking, Told, IsReady, UnderWay, MapThere, TableThere}
+use Rattle.papaya_owes.specs.Given.SchedulesReclaims.{is_kept}
+use Rattle.papaya_owes.specs.Given.SchedulesThings.{same_thing}
+use Rattle.papaya_owes.specs.Given.SchedulesViews.{is_linked}
+use Rattle.papaya_owes.proofs.Given.FollowsCalls.{IsOfSame}
 use Rattle.papaya_finds.specs.Events.{ended_by, EndedOwesNone, BeginningsKeepPlaced, EventsKeepPlaced, BeginningsKeepTables, EventsKeepTables}
 use Rattle.papaya_finds.specs.Waiting.{owed_in, owed_by, AreApart}
 use Rattle.papaya_finds.proofs.Owed.{apart_still, all_owe, ended_owe_nothing}

@@ -1,11 +1,11 @@
 -- The effects of a step of a call find all parts that are promised.
 use Rattle.std.specs.Prelude.{ℕ, Bool}
-use Rattle.papaya_owes.specs.Given.Effects.Effects.{effects_of}
-use Rattle.papaya_owes.specs.Given.Effects.declared.acting.Acting.TheVariants as acts
+use Rattle.papaya_owes.specs.Given.EffectsEffects.{effects_of}
+use Rattle.papaya_owes.specs.Given.EffectsDeclared.acting.Acting.TheVariants as acts
 use Rattle.papaya_owes.proofs.Events.{steps_find_made}
 use Rattle.papaya_owes.proofs.Looking.Calls.{calls_keep_looking}
-use Rattle.papaya_owes.proofs.Given.Settles.Calls.{calls_keep_counts}
-use Rattle.papaya_owes.proofs.Given.Settles.Shards.{counts_find_shards}
+use Rattle.papaya_owes.proofs.Given.SettlesCalls.{calls_keep_counts}
+use Rattle.papaya_owes.proofs.Given.SettlesShards.{counts_find_shards}
 use Rattle.papaya_finds.specs.Steps.{StepsFindParts}
 use Rattle.papaya_finds.proofs.Steps.{steps_do_theirs, steps_find_places}
 

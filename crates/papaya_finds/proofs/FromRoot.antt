@@ -2,21 +2,21 @@
 use Rattle.std.specs.Prelude.{◌≡◌, ℕ, ◌<◌, ◌≤◌, Bool, true, List, Some}
 use Rattle.std.proofs.Common.{refl, ap, sym, ◌∙◌}
 use Rattle.std.proofs.lemmas.Bool.{eq-eqb}
-use Rattle.papaya_owes.specs.Given.Tables.Chunks.{is_incremental}
-use Rattle.papaya_owes.specs.Given.Schedules.Moment.{InMap, Moment}
-use Rattle.papaya_owes.specs.Given.Schedules.Views.{is_in_map, first_of}
-use Rattle.papaya_owes.proofs.Given.Rule.Laws.{current_is_known}
-use Rattle.papaya_owes.specs.Given.Callers.Together.{Together}
-use Rattle.papaya_owes.specs.Given.Effects.Known.{Known}
-use Rattle.papaya_owes.specs.Given.Effects.declared.role.Role.TheVariants as role
-use Rattle.papaya_owes.specs.Given.Finishes.Maps.{Standing}
-use Rattle.papaya_owes.specs.Given.Follows.Maps.{ShowsMap}
-use Rattle.papaya_owes.specs.Given.Follows.Shows.{Shows}
-use Rattle.papaya_owes.proofs.Given.Follows.Finds.{first_is}
-use Rattle.papaya_owes.specs.Given.Spots.Spots.{ShowsPlaces}
-use Rattle.papaya_owes.proofs.Given.Spots.Placed.{lies_named}
-use Rattle.papaya_owes.specs.Given.Scenes.Held.{Held, IsAt}
-use Rattle.papaya_owes.specs.Given.Scenes.Scene.{Scene, slot_of}
+use Rattle.papaya_owes.specs.Given.TablesChunks.{is_incremental}
+use Rattle.papaya_owes.specs.Given.SchedulesMoment.{InMap, Moment}
+use Rattle.papaya_owes.specs.Given.SchedulesViews.{is_in_map, first_of}
+use Rattle.papaya_owes.proofs.Given.RuleLaws.{current_is_known}
+use Rattle.papaya_owes.specs.Given.CallersTogether.{Together}
+use Rattle.papaya_owes.specs.Given.EffectsKnown.{Known}
+use Rattle.papaya_owes.specs.Given.EffectsDeclared.role.Role.TheVariants as role
+use Rattle.papaya_owes.specs.Given.FinishesMaps.{Standing}
+use Rattle.papaya_owes.specs.Given.FollowsMaps.{ShowsMap}
+use Rattle.papaya_owes.specs.Given.FollowsShows.{Shows}
+use Rattle.papaya_owes.proofs.Given.FollowsFinds.{first_is}
+use Rattle.papaya_owes.specs.Given.SpotsSpots.{ShowsPlaces}
+use Rattle.papaya_owes.proofs.Given.SpotsPlaced.{lies_named}
+use Rattle.papaya_owes.specs.Given.ScenesHeld.{Held, IsAt}
+use Rattle.papaya_owes.specs.Given.ScenesScene.{Scene, slot_of}
 
 module _ {K V : Type 0} (same : K → K → Bool) (hash : ℕ → K → ℕ) (name : ℕ → List ℕ) (m : Moment K V) (known : Known) (s : Scene K V) (e : Held K V) (at : IsAt same hash e s)
     (shown : Shows same name m known s) (lying : ShowsPlaces m known s.maps) (map : ℕ) (standing : Standing K) (there : s.maps map ≡ Some standing) where

@@ -3,19 +3,19 @@ use Rattle.std.specs.Prelude.{◌≡◌, ℕ, ◌+◌, ◌≤◌, ◌==◌, Bool
 use Rattle.std.specs.List.{AllByRecursion, list_any}
 use Rattle.std.proofs.Common.{refl, ap, sym, subst, ◌∙◌, arith, length-append}
 use Rattle.std.proofs.lemmas.List.Elements.{filter-append}
-use Rattle.papaya_owes.specs.Given.Runs.Same.{is_same}
-use Rattle.papaya_owes.specs.Given.Runs.declared.outcome.TableShape.{TableShape}
-use Rattle.papaya_owes.specs.Given.Schedules.declared.effect.Effect.{Effect}
-use Rattle.papaya_owes.specs.Given.Schedules.declared.effect.Effect.TheVariants as effect
-use Rattle.papaya_owes.specs.Given.Schedules.declared.effect.Spot.{Spot}
-use Rattle.papaya_owes.specs.Given.Schedules.declared.effect.Table.{Table}
-use Rattle.papaya_owes.specs.Given.Schedules.declared.effect.Thing.TheVariants.{APair, ATable}
-use Rattle.papaya_owes.specs.Given.Schedules.Effects.{born_by, spot_by, at_stage, with_effect}
-use Rattle.papaya_owes.specs.Given.Schedules.Growing.{ComesNext}
-use Rattle.papaya_owes.specs.Given.Schedules.Moment.{Place, UnderWay, Stage, IsLinked, IsRetired, IsReclaimed, IsTaken, TableThere, Moment}
-use Rattle.papaya_owes.specs.Given.Schedules.Things.{same_table}
-use Rattle.papaya_owes.specs.Given.Schedules.Views.{tables_of}
-use Rattle.papaya_owes.proofs.Given.Follows.Calling.{is_same_is}
+use Rattle.papaya_owes.specs.Given.RunsSame.{is_same}
+use Rattle.papaya_owes.specs.Given.RunsDeclared.outcome.TableShape.{TableShape}
+use Rattle.papaya_owes.specs.Given.SchedulesDeclared.effect.Effect.{Effect}
+use Rattle.papaya_owes.specs.Given.SchedulesDeclared.effect.Effect.TheVariants as effect
+use Rattle.papaya_owes.specs.Given.SchedulesDeclared.effect.Spot.{Spot}
+use Rattle.papaya_owes.specs.Given.SchedulesDeclared.effect.Table.{Table}
+use Rattle.papaya_owes.specs.Given.SchedulesDeclared.effect.Thing.TheVariants.{APair, ATable}
+use Rattle.papaya_owes.specs.Given.SchedulesEffects.{born_by, spot_by, at_stage, with_effect}
+use Rattle.papaya_owes.specs.Given.SchedulesGrowing.{ComesNext}
+use Rattle.papaya_owes.specs.Given.SchedulesMoment.{Place, UnderWay, Stage, IsLinked, IsRetired, IsReclaimed, IsTaken, TableThere, Moment}
+use Rattle.papaya_owes.specs.Given.SchedulesThings.{same_table}
+use Rattle.papaya_owes.specs.Given.SchedulesViews.{tables_of}
+use Rattle.papaya_owes.proofs.Given.FollowsCalling.{is_same_is}
 use Rattle.papaya_finds.specs.Waiting.{AreApart}
 use Rattle.papaya_finds.specs.Within.{many_of}
 use Rattle.papaya_finds.proofs.Lists.{none_of_them, all_so}

@@ -2,29 +2,29 @@
 use Rattle.std.specs.Prelude.{◌≡◌, ℕ, true, false, List, [], ◌∷◌, Option, Some}
 use Rattle.std.specs.List.{list_all}
 use Rattle.std.proofs.Common.{refl, sym, subst, ◌∙◌, inl}
-use Rattle.papaya_owes.specs.Given.Schedules.declared.effect.Effect.{Effect}
-use Rattle.papaya_owes.specs.Given.Schedules.declared.effect.Effect.TheVariants as effect
-use Rattle.papaya_owes.specs.Given.Schedules.declared.effect.Growth.TheVariants.{ABlock, ABucket}
-use Rattle.papaya_owes.specs.Given.Schedules.declared.effect.Thing.TheVariants.{APair, ATable}
-use Rattle.papaya_owes.specs.Given.Schedules.After.{moments_from}
-use Rattle.papaya_owes.specs.Given.Schedules.Effects.{call_by, with_effect, AtEachEffect}
-use Rattle.papaya_owes.specs.Given.Schedules.Entry.{ByCall, acting, caller_of}
-use Rattle.papaya_owes.specs.Given.Schedules.declared.call.Call.{Call}
-use Rattle.papaya_owes.specs.Given.Schedules.declared.call.Call.TheVariants as call
-use Rattle.papaya_owes.specs.Given.Schedules.Growing.{only_looks, has_value_for, MayGrow}
-use Rattle.papaya_owes.specs.Given.Schedules.Handing.{is_call_effect, gives_all, moments_of}
-use Rattle.papaya_owes.specs.Given.Schedules.Lives.{CallFinds, Finds}
-use Rattle.papaya_owes.specs.Given.Schedules.Moment.{UnderWay as CallThere, Moment}
-use Rattle.papaya_owes.specs.Given.Schedules.Terms.{Terms}
-use Rattle.papaya_owes.specs.Given.Schedules.Views.{call_of}
-use Rattle.papaya_owes.specs.Given.Follows.Finds.{FindsMap}
-use Rattle.papaya_owes.proofs.Given.Follows.Calls.{changed_same}
+use Rattle.papaya_owes.specs.Given.SchedulesDeclared.effect.Effect.{Effect}
+use Rattle.papaya_owes.specs.Given.SchedulesDeclared.effect.Effect.TheVariants as effect
+use Rattle.papaya_owes.specs.Given.SchedulesDeclared.effect.Growth.TheVariants.{ABlock, ABucket}
+use Rattle.papaya_owes.specs.Given.SchedulesDeclared.effect.Thing.TheVariants.{APair, ATable}
+use Rattle.papaya_owes.specs.Given.SchedulesAfter.{moments_from}
+use Rattle.papaya_owes.specs.Given.SchedulesEffects.{call_by, with_effect, AtEachEffect}
+use Rattle.papaya_owes.specs.Given.SchedulesEntry.{ByCall, acting, caller_of}
+use Rattle.papaya_owes.specs.Given.SchedulesDeclared.call.Call.{Call}
+use Rattle.papaya_owes.specs.Given.SchedulesDeclared.call.Call.TheVariants as call
+use Rattle.papaya_owes.specs.Given.SchedulesGrowing.{only_looks, has_value_for, MayGrow}
+use Rattle.papaya_owes.specs.Given.SchedulesHanding.{is_call_effect, gives_all, moments_of}
+use Rattle.papaya_owes.specs.Given.SchedulesLives.{CallFinds, Finds}
+use Rattle.papaya_owes.specs.Given.SchedulesMoment.{UnderWay as CallThere, Moment}
+use Rattle.papaya_owes.specs.Given.SchedulesTerms.{Terms}
+use Rattle.papaya_owes.specs.Given.SchedulesViews.{call_of}
+use Rattle.papaya_owes.specs.Given.FollowsFinds.{FindsMap}
+use Rattle.papaya_owes.proofs.Given.FollowsCalls.{changed_same}
 use Rattle.papaya_owes.specs.Events.{FindsMade}
 use Rattle.papaya_owes.proofs.Events.{several_find}
 use Rattle.papaya_owes.proofs.Fields.{its_effect}
-use Rattle.papaya_owes.specs.Given.Settles.Owing.{FindsOwed}
-use Rattle.papaya_owes.specs.Given.Settles.Shards.{is_counting}
-use Rattle.papaya_owes.proofs.Given.Spots.Unreclaimed.{and_both}
+use Rattle.papaya_owes.specs.Given.SettlesOwing.{FindsOwed}
+use Rattle.papaya_owes.specs.Given.SettlesShards.{is_counting}
+use Rattle.papaya_owes.proofs.Given.SpotsUnreclaimed.{and_both}
 use Rattle.papaya_finds.proofs.Life.{each_so}
 use Rattle.papaya_finds.proofs.Over.{acts}
 use Rattle.papaya_finds.specs.Joined.{FindParts, PartsAreAll, SeveralFindAll, EventsFindAll}

@@ -1,18 +1,18 @@
 -- What effects find by the promise of their event's life is what they have to find for pairs to be in their places.
 use Rattle.std.specs.Prelude.{◌≡◌, ℕ, ◌+◌, Bool, true, false, List, [], ◌∷◌, length, Option, Some, None}
 use Rattle.std.proofs.Common.{refl, ap, sym, ◌∙◌}
-use Rattle.papaya_owes.specs.Given.Schedules.declared.effect.Effect.{Effect}
-use Rattle.papaya_owes.specs.Given.Schedules.declared.effect.Effect.TheVariants as effect
-use Rattle.papaya_owes.specs.Given.Schedules.declared.effect.Thing.TheVariants.{APair, ATable}
-use Rattle.papaya_owes.specs.Given.Schedules.Effects.{with_effect, AtEachEffect}
-use Rattle.papaya_owes.specs.Given.Schedules.Entry.{ByCall, acting}
-use Rattle.papaya_owes.specs.Given.Schedules.Growing.{only_looks}
-use Rattle.papaya_owes.specs.Given.Schedules.Lists.{is_in}
-use Rattle.papaya_owes.specs.Given.Schedules.Lives.{MayReclaim, CallFinds, EventFinds, Finds}
-use Rattle.papaya_owes.specs.Given.Schedules.Moment.{Place, Unborn, InMap, Out, Handed, Behind, Left, GivenBack, UnderWay, Moment}
-use Rattle.papaya_owes.specs.Given.Schedules.Terms.{Terms}
-use Rattle.papaya_owes.specs.Given.Schedules.Things.{same_thing}
-use Rattle.papaya_owes.specs.Given.Schedules.Views.{is_in_a_map}
+use Rattle.papaya_owes.specs.Given.SchedulesDeclared.effect.Effect.{Effect}
+use Rattle.papaya_owes.specs.Given.SchedulesDeclared.effect.Effect.TheVariants as effect
+use Rattle.papaya_owes.specs.Given.SchedulesDeclared.effect.Thing.TheVariants.{APair, ATable}
+use Rattle.papaya_owes.specs.Given.SchedulesEffects.{with_effect, AtEachEffect}
+use Rattle.papaya_owes.specs.Given.SchedulesEntry.{ByCall, acting}
+use Rattle.papaya_owes.specs.Given.SchedulesGrowing.{only_looks}
+use Rattle.papaya_owes.specs.Given.SchedulesLists.{is_in}
+use Rattle.papaya_owes.specs.Given.SchedulesLives.{MayReclaim, CallFinds, EventFinds, Finds}
+use Rattle.papaya_owes.specs.Given.SchedulesMoment.{Place, Unborn, InMap, Out, Handed, Behind, Left, GivenBack, UnderWay, Moment}
+use Rattle.papaya_owes.specs.Given.SchedulesTerms.{Terms}
+use Rattle.papaya_owes.specs.Given.SchedulesThings.{same_thing}
+use Rattle.papaya_owes.specs.Given.SchedulesViews.{is_in_a_map}
 use Rattle.papaya_finds.specs.Life.{StoresOne, LifeFindsPlaced}
 use Rattle.papaya_finds.specs.Waiting.{is_let_go, FindsPlaced}
 

@@ -1,53 +1,53 @@
 -- The table that a call on one key links has the shape that it must have.
 use Rattle.std.specs.Prelude.{◌≡◌, ℕ, suc, ◌<◌, ◌++◌, Bool, false, List, [], ◌∷◌, length, Option, Some}
 use Rattle.std.proofs.Common.{refl, ap, sym, subst, ◌∙◌, inl, inr, arith}
-use Rattle.papaya_owes.specs.Given.Seize.World.{World}
-use Rattle.papaya_owes.specs.Given.SeizeWords.declared.at.At.{At}
-use Rattle.papaya_owes.specs.Given.Tables.Lengths.{entries_of, next_len, next_limit}
-use Rattle.papaya_owes.specs.Given.Tables.declared.lengths.Reason.{Reason}
-use Rattle.papaya_owes.specs.Given.Tables.declared.lengths.Reason.TheVariants.{Full}
-use Rattle.papaya_owes.specs.Given.Tables.declared.node.Node.{Node}
-use Rattle.papaya_owes.specs.Given.Tables.declared.setting.Setting.{Setting}
-use Rattle.papaya_owes.specs.Given.Tables.declared.table.Table.{Table as Planned}
-use Rattle.papaya_owes.specs.Given.Resize.declared.new_table.Making.{Making}
-use Rattle.papaya_owes.specs.Given.Resize.declared.new_table.Making.TheVariants as makes
-use Rattle.papaya_owes.specs.Given.Resize.declared.new_table.NewTable.{NewTable}
-use Rattle.papaya_owes.specs.Given.Raw.declared.machines.call.Calling.{Calling}
-use Rattle.papaya_owes.specs.Given.Raw.declared.machines.call.Calling.TheVariants as at_point
-use Rattle.papaya_owes.specs.Given.Raw.declared.machines.call.KeyCall.{KeyCall}
-use Rattle.papaya_owes.specs.Given.Raw.declared.machines.progress.Progress.{Progress}
-use Rattle.papaya_owes.specs.Given.Runs.declared.outcome.TableShape.{TableShape}
-use Rattle.papaya_owes.specs.Given.Schedules.declared.call.Call.{Call}
-use Rattle.papaya_owes.specs.Given.Schedules.declared.call.Call.TheVariants as call
-use Rattle.papaya_owes.specs.Given.Schedules.declared.effect.Effect.{Effect}
-use Rattle.papaya_owes.specs.Given.Schedules.declared.effect.Effect.TheVariants as effect
-use Rattle.papaya_owes.specs.Given.Schedules.declared.effect.Growth.TheVariants.{ABlock}
-use Rattle.papaya_owes.specs.Given.Schedules.Effects.{call_by, with_effect, AtEachEffect}
-use Rattle.papaya_owes.specs.Given.Schedules.Entry.{ByCall}
-use Rattle.papaya_owes.specs.Given.Schedules.Growing.{Has, IsFirstOf, MayMakeFor, IsNextShape, Follows}
-use Rattle.papaya_owes.specs.Given.Schedules.Moment.{UnderWay as CallThere, Stage, TableThere, Moment}
-use Rattle.papaya_owes.specs.Given.Schedules.Terms.{Terms}
-use Rattle.papaya_owes.specs.Given.Schedules.Tries.{IsFull}
-use Rattle.papaya_owes.specs.Given.Schedules.Views.{map_at, capacity_or, call_of, tables_of, last_of}
-use Rattle.papaya_owes.specs.Given.Rule.Chart.{Chart}
-use Rattle.papaya_owes.specs.Given.Rule.Words.{Blocks}
-use Rattle.papaya_owes.specs.Given.Rule.Maps.{IsTable}
-use Rattle.papaya_owes.specs.Given.Points.FactsCalls.{Change, CallingFacts, IsCopying}
-use Rattle.papaya_owes.specs.Given.Points.FactsTables.{MakingFacts, NewTableFacts}
-use Rattle.papaya_owes.specs.Given.Late.LateCalls.{LateFirst, LateCalling}
-use Rattle.papaya_owes.specs.Given.Callers.Sights.{seen_by}
-use Rattle.papaya_owes.specs.Given.Callers.Together.{CallOnKey, OnKey, in_slot, Together}
-use Rattle.papaya_owes.specs.Given.Effects.Effects.{effects_of}
-use Rattle.papaya_owes.specs.Given.Effects.Known.{Known}
-use Rattle.papaya_owes.specs.Given.Effects.declared.acting.Acting.TheVariants as acts
-use Rattle.papaya_owes.specs.Given.Finishes.Maps.{Standing}
-use Rattle.papaya_owes.specs.Given.Follows.Calls.{IsCalled}
-use Rattle.papaya_owes.specs.Given.Follows.Finds.{FindsMap}
-use Rattle.papaya_owes.specs.Given.Follows.Maps.{table_of, shape_at, tables_to}
-use Rattle.papaya_owes.proofs.Given.Follows.Finds.{tables_many}
-use Rattle.papaya_owes.specs.Given.Hands.Asked.{IsAskedAs}
-use Rattle.papaya_owes.proofs.Given.Hands.Steps.{numbers_apart}
-use Rattle.papaya_owes.specs.Given.Moments.Whole.{ShowsWhole}
+use Rattle.papaya_owes.specs.Given.SeizeWorld.{World}
+use Rattle.papaya_owes.specs.Given.SeizeWordsDeclared.at.At.{At}
+use Rattle.papaya_owes.specs.Given.TablesLengths.{entries_of, next_len, next_limit}
+use Rattle.papaya_owes.specs.Given.TablesDeclared.lengths.Reason.{Reason}
+use Rattle.papaya_owes.specs.Given.TablesDeclared.lengths.Reason.TheVariants.{Full}
+use Rattle.papaya_owes.specs.Given.TablesDeclared.node.Node.{Node}
+use Rattle.papaya_owes.specs.Given.TablesDeclared.setting.Setting.{Setting}
+use Rattle.papaya_owes.specs.Given.TablesDeclared.table.Table.{Table as Planned}
+use Rattle.papaya_owes.specs.Given.ResizeDeclared.new_table.Making.{Making}
+use Rattle.papaya_owes.specs.Given.ResizeDeclared.new_table.Making.TheVariants as makes
+use Rattle.papaya_owes.specs.Given.ResizeDeclared.new_table.NewTable.{NewTable}
+use Rattle.papaya_owes.specs.Given.RawDeclared.machines.call.Calling.{Calling}
+use Rattle.papaya_owes.specs.Given.RawDeclared.machines.call.Calling.TheVariants as at_point
+use Rattle.papaya_owes.specs.Given.RawDeclared.machines.call.KeyCall.{KeyCall}
+use Rattle.papaya_owes.specs.Given.RawDeclared.machines.progress.Progress.{Progress}
+use Rattle.papaya_owes.specs.Given.RunsDeclared.outcome.TableShape.{TableShape}
+use Rattle.papaya_owes.specs.Given.SchedulesDeclared.call.Call.{Call}
+use Rattle.papaya_owes.specs.Given.SchedulesDeclared.call.Call.TheVariants as call
+use Rattle.papaya_owes.specs.Given.SchedulesDeclared.effect.Effect.{Effect}
+use Rattle.papaya_owes.specs.Given.SchedulesDeclared.effect.Effect.TheVariants as effect
+use Rattle.papaya_owes.specs.Given.SchedulesDeclared.effect.Growth.TheVariants.{ABlock}
+use Rattle.papaya_owes.specs.Given.SchedulesEffects.{call_by, with_effect, AtEachEffect}
+use Rattle.papaya_owes.specs.Given.SchedulesEntry.{ByCall}
+use Rattle.papaya_owes.specs.Given.SchedulesGrowing.{Has, IsFirstOf, MayMakeFor, IsNextShape, Follows}
+use Rattle.papaya_owes.specs.Given.SchedulesMoment.{UnderWay as CallThere, Stage, TableThere, Moment}
+use Rattle.papaya_owes.specs.Given.SchedulesTerms.{Terms}
+use Rattle.papaya_owes.specs.Given.SchedulesTries.{IsFull}
+use Rattle.papaya_owes.specs.Given.SchedulesViews.{map_at, capacity_or, call_of, tables_of, last_of}
+use Rattle.papaya_owes.specs.Given.RuleChart.{Chart}
+use Rattle.papaya_owes.specs.Given.RuleWords.{Blocks}
+use Rattle.papaya_owes.specs.Given.RuleMaps.{IsTable}
+use Rattle.papaya_owes.specs.Given.PointsFactsCalls.{Change, CallingFacts, IsCopying}
+use Rattle.papaya_owes.specs.Given.PointsFactsTables.{MakingFacts, NewTableFacts}
+use Rattle.papaya_owes.specs.Given.LateLateCalls.{LateFirst, LateCalling}
+use Rattle.papaya_owes.specs.Given.CallersSights.{seen_by}
+use Rattle.papaya_owes.specs.Given.CallersTogether.{CallOnKey, OnKey, in_slot, Together}
+use Rattle.papaya_owes.specs.Given.EffectsEffects.{effects_of}
+use Rattle.papaya_owes.specs.Given.EffectsKnown.{Known}
+use Rattle.papaya_owes.specs.Given.EffectsDeclared.acting.Acting.TheVariants as acts
+use Rattle.papaya_owes.specs.Given.FinishesMaps.{Standing}
+use Rattle.papaya_owes.specs.Given.FollowsCalls.{IsCalled}
+use Rattle.papaya_owes.specs.Given.FollowsFinds.{FindsMap}
+use Rattle.papaya_owes.specs.Given.FollowsMaps.{table_of, shape_at, tables_to}
+use Rattle.papaya_owes.proofs.Given.FollowsFinds.{tables_many}
+use Rattle.papaya_owes.specs.Given.HandsAsked.{IsAskedAs}
+use Rattle.papaya_owes.proofs.Given.HandsSteps.{numbers_apart}
+use Rattle.papaya_owes.specs.Given.MomentsWhole.{ShowsWhole}
 use Rattle.papaya_owes.specs.Making.{making_in_calling}
 use Rattle.papaya_owes.specs.Tables.{table_in, table_made, of_map, ShowsTables}
 use Rattle.papaya_owes.proofs.Fields.{its_effect}
@@ -63,9 +63,9 @@ use Rattle.papaya_finds.specs.Within.{many_of}
 use Rattle.papaya_finds.proofs.Grows.Given.{HasGivenForNone, called_valued, knows_for_none}
 use Rattle.papaya_finds.proofs.Steps.{steps_find_places}
 use Rattle.papaya_finds.proofs.StoresNone.{given_stores}
-use Rattle.papaya_owes.specs.Given.Scenes.Held.{Held, IsAt}
-use Rattle.papaya_owes.specs.Given.Scenes.Scene.{Scene, slot_of}
-use Rattle.papaya_owes.specs.Given.Scenes.Stepping.{StepLeads}
+use Rattle.papaya_owes.specs.Given.ScenesHeld.{Held, IsAt}
+use Rattle.papaya_owes.specs.Given.ScenesScene.{Scene, slot_of}
+use Rattle.papaya_owes.specs.Given.ScenesStepping.{StepLeads}
 
 -- the newest table is the last one
 

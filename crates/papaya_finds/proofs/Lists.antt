@@ -3,7 +3,7 @@ use Rattle.std.specs.Prelude.{◌≡◌, ℕ, zero, suc, ◌+◌, ◌≤◌, ◌
 use Rattle.std.specs.List.{AllByRecursion, list_any, list_all}
 use Rattle.std.proofs.Common.{refl, ap, sym, subst, ◌∙◌, arith, inl, inr}
 use Rattle.std.proofs.lemmas.Bool.{and_from, and_parts, or_left, or_right, or_parts, cases_eq}
-use Rattle.papaya_owes.specs.Given.Schedules.Lists.{numbers_from}
+use Rattle.papaya_owes.specs.Given.SchedulesLists.{numbers_from}
 
 module _ {X : Type 0} where
   -- one passes, of which that is known

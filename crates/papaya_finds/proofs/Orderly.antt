@@ -4,14 +4,14 @@ use Rattle.std.specs.List.{AllByRecursion, list_any}
 use Rattle.std.proofs.Common.{refl, ap, sym, subst, ◌∙◌, arith, inl, inr, lt-ltb, le-leb}
 use Rattle.std.proofs.lemmas.Bool.{and_from, and_parts, or_left, or_right, eq-eqb, leb-true}
 use Rattle.std.proofs.lemmas.List.Elements.{recursion_from_All}
-use Rattle.papaya_owes.specs.Given.Schedules.declared.effect.Table.{Table}
-use Rattle.papaya_owes.specs.Given.Schedules.declared.effect.Thing.TheVariants.{ATable}
-use Rattle.papaya_owes.specs.Given.Schedules.Lists.{is_in}
-use Rattle.papaya_owes.specs.Given.Schedules.Moment.{Place, Unborn, InMap, Out, Handed, Behind, Left, GivenBack, UnderWay, MapThere, Stage, IsLinked, IsRetired, IsReclaimed, IsTaken, TableThere, Deferral, Moment}
-use Rattle.papaya_owes.specs.Given.Schedules.Reclaims.{is_handed, has_next, has_reason, has_last_reason, is_kept, IsOrderly, IsEmptied}
-use Rattle.papaya_owes.specs.Given.Schedules.Things.{same_table, same_thing}
-use Rattle.papaya_owes.specs.Given.Schedules.Views.{map_at, first_or, is_there, is_linked, is_retired, first_of, tables_of, chain_of, is_stage}
-use Rattle.papaya_owes.proofs.Given.Others.Leads.{same_parts}
+use Rattle.papaya_owes.specs.Given.SchedulesDeclared.effect.Table.{Table}
+use Rattle.papaya_owes.specs.Given.SchedulesDeclared.effect.Thing.TheVariants.{ATable}
+use Rattle.papaya_owes.specs.Given.SchedulesLists.{is_in}
+use Rattle.papaya_owes.specs.Given.SchedulesMoment.{Place, Unborn, InMap, Out, Handed, Behind, Left, GivenBack, UnderWay, MapThere, Stage, IsLinked, IsRetired, IsReclaimed, IsTaken, TableThere, Deferral, Moment}
+use Rattle.papaya_owes.specs.Given.SchedulesReclaims.{is_handed, has_next, has_reason, has_last_reason, is_kept, IsOrderly, IsEmptied}
+use Rattle.papaya_owes.specs.Given.SchedulesThings.{same_table, same_thing}
+use Rattle.papaya_owes.specs.Given.SchedulesViews.{map_at, first_or, is_there, is_linked, is_retired, first_of, tables_of, chain_of, is_stage}
+use Rattle.papaya_owes.proofs.Given.OthersLeads.{same_parts}
 use Rattle.papaya_finds.specs.Waiting.{is_out, is_behind_one, once_if, put_in, owed_by}
 use Rattle.papaya_finds.specs.Orderly.{is_left_over, WaitsInOrder, NothingIsRetired, OrderAtFirst, OrderlyAtRest, EmptiedOnceReclaimed}
 use Rattle.papaya_finds.specs.Tables.{is_owed_table, PassedIsOwed, WaitsBehindOne}

@@ -2,17 +2,17 @@
 use Rattle.std.specs.Prelude.{◌≡◌, ℕ, ◌+◌, ◌==◌, Bool, true, false, not, List, [], ◌∷◌, find, map, Option, Some, None, option_map, if◌then◌else◌}
 use Rattle.std.specs.List.{AllByRecursion, list_any}
 use Rattle.std.proofs.Common.{refl, ap, sym, subst, ◌∙◌}
-use Rattle.papaya_owes.specs.Given.Runs.Same.{is_same}
-use Rattle.papaya_owes.specs.Given.Schedules.declared.effect.Effect.{Effect}
-use Rattle.papaya_owes.specs.Given.Schedules.declared.event.Event.{Event}
-use Rattle.papaya_owes.specs.Given.Schedules.declared.event.Event.TheVariants as event
-use Rattle.papaya_owes.specs.Given.Schedules.declared.outcome.Outcome.{Outcome}
-use Rattle.papaya_owes.specs.Given.Schedules.declared.outcome.Outcome.TheVariants as outcome
-use Rattle.papaya_owes.specs.Given.Schedules.After.{without_call, stepped, calls_on, comes_to, replied}
-use Rattle.papaya_owes.specs.Given.Schedules.Effects.{with_effects, with_effect, AtEachEffect}
-use Rattle.papaya_owes.specs.Given.Schedules.Entry.{IfCall, ends_call, caller_of, acting, acted_on}
-use Rattle.papaya_owes.specs.Given.Schedules.Handing.{LeavesOf, comes_clear}
-use Rattle.papaya_owes.specs.Given.Schedules.Moment.{UnderWay, MapThere, Moment}
+use Rattle.papaya_owes.specs.Given.RunsSame.{is_same}
+use Rattle.papaya_owes.specs.Given.SchedulesDeclared.effect.Effect.{Effect}
+use Rattle.papaya_owes.specs.Given.SchedulesDeclared.event.Event.{Event}
+use Rattle.papaya_owes.specs.Given.SchedulesDeclared.event.Event.TheVariants as event
+use Rattle.papaya_owes.specs.Given.SchedulesDeclared.outcome.Outcome.{Outcome}
+use Rattle.papaya_owes.specs.Given.SchedulesDeclared.outcome.Outcome.TheVariants as outcome
+use Rattle.papaya_owes.specs.Given.SchedulesAfter.{without_call, stepped, calls_on, comes_to, replied}
+use Rattle.papaya_owes.specs.Given.SchedulesEffects.{with_effects, with_effect, AtEachEffect}
+use Rattle.papaya_owes.specs.Given.SchedulesEntry.{IfCall, ends_call, caller_of, acting, acted_on}
+use Rattle.papaya_owes.specs.Given.SchedulesHanding.{LeavesOf, comes_clear}
+use Rattle.papaya_owes.specs.Given.SchedulesMoment.{UnderWay, MapThere, Moment}
 use Rattle.papaya_finds.specs.Events.{ended_by, EndedOwesNone}
 use Rattle.papaya_finds.specs.Waiting.{owed_in, AreApart}
 use Rattle.papaya_finds.specs.Within.{HasItsMap, ActsOn, StoppedOwesNone}

@@ -4,19 +4,19 @@ use Rattle.std.specs.Prelude.{◌≡◌, ℕ, zero, suc, ◌+◌, ◌==◌, nat_
 use Rattle.std.specs.List.{AllByRecursion, list_any}
 use Rattle.std.proofs.Common.{refl, ap, sym, subst, ◌∙◌, arith}
 use Rattle.std.proofs.lemmas.Bool.{or_parts, or_from}
-use Rattle.papaya_owes.specs.Given.Runs.Same.{is_same}
-use Rattle.papaya_owes.specs.Given.Schedules.declared.call.Call.{Call}
-use Rattle.papaya_owes.specs.Given.Schedules.declared.call.Call.TheVariants as call
-use Rattle.papaya_owes.specs.Given.Schedules.declared.effect.Table.{Table}
-use Rattle.papaya_owes.specs.Given.Schedules.declared.effect.Thing.{Thing}
-use Rattle.papaya_owes.specs.Given.Schedules.declared.effect.Thing.TheVariants.{APair, ATable}
-use Rattle.papaya_owes.specs.Given.Schedules.After.{without_call}
-use Rattle.papaya_owes.specs.Given.Schedules.Effects.{passed, due_for}
-use Rattle.papaya_owes.specs.Given.Schedules.Lists.{is_in, without_one}
-use Rattle.papaya_owes.specs.Given.Schedules.Moment.{UnderWay}
-use Rattle.papaya_owes.specs.Given.Schedules.Things.{same_thing}
-use Rattle.papaya_owes.proofs.Given.Follows.Calling.{is_same_is}
-use Rattle.papaya_owes.proofs.Given.Follows.Calls.{IsOfSame, changed, of_same}
+use Rattle.papaya_owes.specs.Given.RunsSame.{is_same}
+use Rattle.papaya_owes.specs.Given.SchedulesDeclared.call.Call.{Call}
+use Rattle.papaya_owes.specs.Given.SchedulesDeclared.call.Call.TheVariants as call
+use Rattle.papaya_owes.specs.Given.SchedulesDeclared.effect.Table.{Table}
+use Rattle.papaya_owes.specs.Given.SchedulesDeclared.effect.Thing.{Thing}
+use Rattle.papaya_owes.specs.Given.SchedulesDeclared.effect.Thing.TheVariants.{APair, ATable}
+use Rattle.papaya_owes.specs.Given.SchedulesAfter.{without_call}
+use Rattle.papaya_owes.specs.Given.SchedulesEffects.{passed, due_for}
+use Rattle.papaya_owes.specs.Given.SchedulesLists.{is_in, without_one}
+use Rattle.papaya_owes.specs.Given.SchedulesMoment.{UnderWay}
+use Rattle.papaya_owes.specs.Given.SchedulesThings.{same_thing}
+use Rattle.papaya_owes.proofs.Given.FollowsCalling.{is_same_is}
+use Rattle.papaya_owes.proofs.Given.FollowsCalls.{IsOfSame, changed, of_same}
 use Rattle.papaya_finds.specs.Waiting.{once_if, owed_in, owed_by, AreApart, EndedOweNothing}
 
 -- among things

@@ -2,24 +2,24 @@
 use Rattle.std.specs.Prelude.{◌≡◌, ◌≢◌, ℕ, ◌≤◌, ◌==◌, nat_lt, Bool, true, false, MatchBool, List, [], ◌∷◌, find, length, map as list_map, Option, Some, None}
 use Rattle.std.proofs.Common.{refl, ap, sym, subst, ◌∙◌, arith, inl, inr}
 use Rattle.std.proofs.lemmas.Bool.{cases_eq}
-use Rattle.papaya_owes.specs.Given.Schedules.declared.effect.Effect.{Effect}
-use Rattle.papaya_owes.specs.Given.Schedules.declared.effect.Effect.TheVariants.{Stored, Copied, Promoted}
-use Rattle.papaya_owes.specs.Given.Schedules.declared.effect.Spot.{Spot}
-use Rattle.papaya_owes.specs.Given.Schedules.declared.effect.Table.{Table}
-use Rattle.papaya_owes.specs.Given.Schedules.Effects.{promoted, born_by, spot_by, is_chunked, call_by, with_effect, AtEachEffect}
-use Rattle.papaya_owes.specs.Given.Schedules.Entry.{ByCall}
-use Rattle.papaya_owes.specs.Given.Schedules.Lives.{IsPast, MayCopy}
-use Rattle.papaya_owes.specs.Given.Schedules.Moment.{Place, UnderWay as CallThere, MapThere, Moment}
-use Rattle.papaya_owes.specs.Given.Schedules.Views.{call_of, is_in_a_map, first_or, first_of, map_at, grows_in_chunks, tables_of}
-use Rattle.papaya_owes.specs.Given.Follows.Finds.{FindsMap}
-use Rattle.papaya_owes.proofs.Given.Follows.Alike.{put_elsewhere, others_found}
-use Rattle.papaya_owes.proofs.Given.Follows.Handed.{not_in}
-use Rattle.papaya_owes.proofs.Given.Follows.Linked.{own_found}
+use Rattle.papaya_owes.specs.Given.SchedulesDeclared.effect.Effect.{Effect}
+use Rattle.papaya_owes.specs.Given.SchedulesDeclared.effect.Effect.TheVariants.{Stored, Copied, Promoted}
+use Rattle.papaya_owes.specs.Given.SchedulesDeclared.effect.Spot.{Spot}
+use Rattle.papaya_owes.specs.Given.SchedulesDeclared.effect.Table.{Table}
+use Rattle.papaya_owes.specs.Given.SchedulesEffects.{promoted, born_by, spot_by, is_chunked, call_by, with_effect, AtEachEffect}
+use Rattle.papaya_owes.specs.Given.SchedulesEntry.{ByCall}
+use Rattle.papaya_owes.specs.Given.SchedulesLives.{IsPast, MayCopy}
+use Rattle.papaya_owes.specs.Given.SchedulesMoment.{Place, UnderWay as CallThere, MapThere, Moment}
+use Rattle.papaya_owes.specs.Given.SchedulesViews.{call_of, is_in_a_map, first_or, first_of, map_at, grows_in_chunks, tables_of}
+use Rattle.papaya_owes.specs.Given.FollowsFinds.{FindsMap}
+use Rattle.papaya_owes.proofs.Given.FollowsAlike.{put_elsewhere, others_found}
+use Rattle.papaya_owes.proofs.Given.FollowsHanded.{not_in}
+use Rattle.papaya_owes.proofs.Given.FollowsLinked.{own_found}
 use Rattle.papaya_owes.proofs.Fields.{its_effect}
-use Rattle.papaya_owes.specs.Given.Spots.Deferred.{FindsNumbers}
-use Rattle.papaya_owes.proofs.Given.Spots.Deferred.{stays_out}
-use Rattle.papaya_owes.proofs.Given.Spots.Effects.{aside_all, spot_copied_other, spot_promoted_other}
-use Rattle.papaya_owes.proofs.Given.Spots.Elsewhere.{stored_grows}
+use Rattle.papaya_owes.specs.Given.SpotsDeferred.{FindsNumbers}
+use Rattle.papaya_owes.proofs.Given.SpotsDeferred.{stays_out}
+use Rattle.papaya_owes.proofs.Given.SpotsEffects.{aside_all, spot_copied_other, spot_promoted_other}
+use Rattle.papaya_owes.proofs.Given.SpotsElsewhere.{stored_grows}
 use Rattle.papaya_finds.specs.Parts.{FindsPlace, FindPlacesOf}
 use Rattle.papaya_finds.proofs.Grown.{comes_on}
 use Rattle.papaya_finds.specs.Past.{HasLeftMaps, FindsOnward, CallsFindOnward}

@@ -2,21 +2,21 @@
 use Rattle.std.specs.Prelude.{◌≡◌, ℕ, ◌+◌, ◌≤◌, ◌==◌, Bool, true, false, List, [], ◌∷◌, ◌++◌, length, Option, Some, None}
 use Rattle.std.proofs.Common.{refl, ap, sym, subst, ◌∙◌, arith, inl, inr, append-nil}
 use Rattle.std.proofs.lemmas.Bool.{cases_eq}
-use Rattle.papaya_owes.specs.Given.Runs.LifeCycle.{times}
-use Rattle.papaya_owes.specs.Given.Schedules.declared.effect.Effect.{Effect}
-use Rattle.papaya_owes.specs.Given.Schedules.declared.effect.Effect.TheVariants as effect
-use Rattle.papaya_owes.specs.Given.Schedules.declared.effect.Spot.{Spot}
-use Rattle.papaya_owes.specs.Given.Schedules.declared.effect.Table.{Table}
-use Rattle.papaya_owes.specs.Given.Schedules.declared.effect.Thing.TheVariants.{APair, ATable}
-use Rattle.papaya_owes.specs.Given.Schedules.Effects.{in_map, place_by, deferred_by, pairs_back, passed, call_by, calls_by, with_effect}
-use Rattle.papaya_owes.specs.Given.Schedules.Entry.{ByCall}
-use Rattle.papaya_owes.specs.Given.Schedules.Lists.{is_in, put, without_one}
-use Rattle.papaya_owes.specs.Given.Schedules.Moment.{Place, Unborn, InMap, Out, Handed, Behind, Left, GivenBack, UnderWay, Moment}
-use Rattle.papaya_owes.specs.Given.Schedules.Things.{same_thing}
-use Rattle.papaya_owes.specs.Given.Schedules.Views.{call_of, first_of, is_in_a_map}
-use Rattle.papaya_owes.proofs.Given.Follows.Alike.{put_elsewhere}
-use Rattle.papaya_owes.proofs.Given.Follows.Calls.{changed_same}
-use Rattle.papaya_owes.proofs.Given.Spots.Elsewhere.{stored_grows}
+use Rattle.papaya_owes.specs.Given.RunsLifeCycle.{times}
+use Rattle.papaya_owes.specs.Given.SchedulesDeclared.effect.Effect.{Effect}
+use Rattle.papaya_owes.specs.Given.SchedulesDeclared.effect.Effect.TheVariants as effect
+use Rattle.papaya_owes.specs.Given.SchedulesDeclared.effect.Spot.{Spot}
+use Rattle.papaya_owes.specs.Given.SchedulesDeclared.effect.Table.{Table}
+use Rattle.papaya_owes.specs.Given.SchedulesDeclared.effect.Thing.TheVariants.{APair, ATable}
+use Rattle.papaya_owes.specs.Given.SchedulesEffects.{in_map, place_by, deferred_by, pairs_back, passed, call_by, calls_by, with_effect}
+use Rattle.papaya_owes.specs.Given.SchedulesEntry.{ByCall}
+use Rattle.papaya_owes.specs.Given.SchedulesLists.{is_in, put, without_one}
+use Rattle.papaya_owes.specs.Given.SchedulesMoment.{Place, Unborn, InMap, Out, Handed, Behind, Left, GivenBack, UnderWay, Moment}
+use Rattle.papaya_owes.specs.Given.SchedulesThings.{same_thing}
+use Rattle.papaya_owes.specs.Given.SchedulesViews.{call_of, first_of, is_in_a_map}
+use Rattle.papaya_owes.proofs.Given.FollowsAlike.{put_elsewhere}
+use Rattle.papaya_owes.proofs.Given.FollowsCalls.{changed_same}
+use Rattle.papaya_owes.proofs.Given.SpotsElsewhere.{stored_grows}
 use Rattle.papaya_finds.specs.Waiting.{is_unborn, is_out, is_behind_one, is_back, is_let_go, once_if, owed_in, put_in, owed_by, AreApart, PairsArePlaced, OwesPair, TakesOut, FindsPlaced, PlacedAtFirst, EffectsKeepPlaced, OthersKeepPlaced}
 use Rattle.papaya_finds.proofs.Counted.{Counts, gains, loses, stays, lets_go, others_stay, born_stay}
 use Rattle.papaya_finds.proofs.Owed.{due_keeps, owed_append, owed_without, table_without, passed_none, owed_there, apart_still, all_owe, its_owe, owed_at_least}

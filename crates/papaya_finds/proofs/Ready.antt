@@ -2,24 +2,24 @@
 use Rattle.std.specs.Prelude.{◌≡◌, ℕ, ◌+◌, Bool, true, false, not, List, [], ◌∷◌, map, Option, Some, None, MatchBool, ◌⊎◌, if◌then◌else◌}
 use Rattle.std.specs.List.{AllByRecursion, list_all}
 use Rattle.std.proofs.Common.{refl, ap, sym, subst, ◌∙◌, inl, inr}
-use Rattle.papaya_owes.specs.Given.SeizeWords.declared.fault.Fault.TheVariants.{Busy}
-use Rattle.papaya_owes.specs.Given.Runs.Same.{is_same}
-use Rattle.papaya_owes.specs.Given.Schedules.declared.call.Reply.{Reply}
-use Rattle.papaya_owes.specs.Given.Schedules.declared.effect.Effect.{Effect}
-use Rattle.papaya_owes.specs.Given.Schedules.declared.event.Event.{Event}
-use Rattle.papaya_owes.specs.Given.Schedules.declared.event.Event.TheVariants as event
-use Rattle.papaya_owes.specs.Given.Schedules.declared.outcome.Outcome.{Outcome}
-use Rattle.papaya_owes.specs.Given.Schedules.declared.outcome.Outcome.TheVariants as outcome
-use Rattle.papaya_owes.specs.Given.Schedules.After.{moment, moments_from, asks_on, comes_to, replied, without_call, stepped, calls_on}
-use Rattle.papaya_owes.specs.Given.Schedules.Beginning.{with_call, begun}
-use Rattle.papaya_owes.specs.Given.Schedules.Coming.{Progresses, is_ready, shows_now}
-use Rattle.papaya_owes.specs.Given.Schedules.Effects.{call_by, calls_by, with_effect, with_effects, worked}
-use Rattle.papaya_owes.specs.Given.Schedules.Entry.{Entry, is_busy, nameless, ByCall, IfCall, ends_call, caller_of, acting, acted_on}
-use Rattle.papaya_owes.specs.Given.Schedules.Handing.{IsWhole, LeavesOf, comes_clear}
-use Rattle.papaya_owes.specs.Given.Schedules.Moment.{Stands, Going, Asking, Told, IsReady, UnderWay, Moment}
-use Rattle.papaya_owes.specs.Given.Schedules.Terms.{Terms}
-use Rattle.papaya_owes.specs.Given.Schedules.Views.{call_of, number_of}
-use Rattle.papaya_owes.proofs.Given.Follows.Calls.{changed_same, changed}
+use Rattle.papaya_owes.specs.Given.SeizeWordsDeclared.fault.Fault.TheVariants.{Busy}
+use Rattle.papaya_owes.specs.Given.RunsSame.{is_same}
+use Rattle.papaya_owes.specs.Given.SchedulesDeclared.call.Reply.{Reply}
+use Rattle.papaya_owes.specs.Given.SchedulesDeclared.effect.Effect.{Effect}
+use Rattle.papaya_owes.specs.Given.SchedulesDeclared.event.Event.{Event}
+use Rattle.papaya_owes.specs.Given.SchedulesDeclared.event.Event.TheVariants as event
+use Rattle.papaya_owes.specs.Given.SchedulesDeclared.outcome.Outcome.{Outcome}
+use Rattle.papaya_owes.specs.Given.SchedulesDeclared.outcome.Outcome.TheVariants as outcome
+use Rattle.papaya_owes.specs.Given.SchedulesAfter.{moment, moments_from, asks_on, comes_to, replied, without_call, stepped, calls_on}
+use Rattle.papaya_owes.specs.Given.SchedulesBeginning.{with_call, begun}
+use Rattle.papaya_owes.specs.Given.SchedulesComing.{Progresses, is_ready, shows_now}
+use Rattle.papaya_owes.specs.Given.SchedulesEffects.{call_by, calls_by, with_effect, with_effects, worked}
+use Rattle.papaya_owes.specs.Given.SchedulesEntry.{Entry, is_busy, nameless, ByCall, IfCall, ends_call, caller_of, acting, acted_on}
+use Rattle.papaya_owes.specs.Given.SchedulesHanding.{IsWhole, LeavesOf, comes_clear}
+use Rattle.papaya_owes.specs.Given.SchedulesMoment.{Stands, Going, Asking, Told, IsReady, UnderWay, Moment}
+use Rattle.papaya_owes.specs.Given.SchedulesTerms.{Terms}
+use Rattle.papaya_owes.specs.Given.SchedulesViews.{call_of, number_of}
+use Rattle.papaya_owes.proofs.Given.FollowsCalls.{changed_same, changed}
 use Rattle.papaya_finds.specs.Waiting.{AreApart}
 use Rattle.papaya_finds.specs.Within.{ReadyOwesNone, ReadyOweNone, StoppedOwesNone, GoesInOrder}
 use Rattle.papaya_finds.proofs.Begun.{was_done, in_turn, not_kept_out}

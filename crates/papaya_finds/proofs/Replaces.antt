@@ -1,14 +1,14 @@
 -- A call that has a pair to store is one on one key, which replaces nothing between the effects of two steps.
 use Rattle.std.specs.Prelude.{◌≡◌, ℕ, Bool, [], ◌∷◌, None}
 use Rattle.std.proofs.Common.{sym, subst}
-use Rattle.papaya_owes.specs.Given.Schedules.declared.call.Call.{Call}
-use Rattle.papaya_owes.specs.Given.Schedules.declared.call.Call.TheVariants as call
-use Rattle.papaya_owes.specs.Given.Schedules.Effects.{new_pair}
-use Rattle.papaya_owes.specs.Given.Schedules.Moment.{UnderWay as CallThere}
-use Rattle.papaya_owes.specs.Given.Callers.Together.{UnderWay, OnKey, ForRoom, Counting, OverAll}
-use Rattle.papaya_owes.specs.Given.Effects.Known.{Known}
-use Rattle.papaya_owes.specs.Given.Follows.Calls.{IsCalled}
-use Rattle.papaya_owes.specs.Given.Hands.Asked.{IsAskedOn, IsAskedAs, IsAsked}
+use Rattle.papaya_owes.specs.Given.SchedulesDeclared.call.Call.{Call}
+use Rattle.papaya_owes.specs.Given.SchedulesDeclared.call.Call.TheVariants as call
+use Rattle.papaya_owes.specs.Given.SchedulesEffects.{new_pair}
+use Rattle.papaya_owes.specs.Given.SchedulesMoment.{UnderWay as CallThere}
+use Rattle.papaya_owes.specs.Given.CallersTogether.{UnderWay, OnKey, ForRoom, Counting, OverAll}
+use Rattle.papaya_owes.specs.Given.EffectsKnown.{Known}
+use Rattle.papaya_owes.specs.Given.FollowsCalls.{IsCalled}
+use Rattle.papaya_owes.specs.Given.HandsAsked.{IsAskedOn, IsAskedAs, IsAsked}
 
 module _ {K V : Type 0} (same : K → K → Bool) (number : ℕ → ℕ) (stored : ℕ) (known : Known) where
   pub replaces_none : (u : UnderWay K V K) (its : Call K V) (c : CallThere K V) → its ≡ c.call → IsCalled same u its → IsAsked number stored known u c

@@ -2,45 +2,45 @@
 use Rattle.std.specs.Prelude.{◌≡◌, ℕ, zero, suc, ◌+◌, ◌-◌, ◌^◌, ◌≤◌, ◌==◌, nat_le, nat_lt, max, Bool, true, false, List, [], ◌∷◌, ◌++◌, Some, Ok, Err, if◌then◌else◌}
 use Rattle.std.proofs.Common.{refl, ap, sym, subst, ◌∙◌, inl, inr, arith}
 use Rattle.std.proofs.lemmas.Bool.{ltb-false, leb-true}
-use Rattle.papaya_owes.specs.Given.SeizeWords.Mem.{Mem}
-use Rattle.papaya_owes.specs.Given.SeizeWords.Op.{Out, Found}
-use Rattle.papaya_owes.specs.Given.Seize.declared.progress.Progress.{Progress}
-use Rattle.papaya_owes.specs.Given.Seize.declared.progress.Progress.TheVariants as progress
-use Rattle.papaya_owes.specs.Given.SeizeWords.declared.fault.Fault.TheVariants.{Capacity}
-use Rattle.papaya_owes.specs.Given.Tables.Lengths.{places_for}
-use Rattle.papaya_owes.specs.Given.Tables.Powers.{next_power}
-use Rattle.papaya_owes.specs.Given.Tables.declared.node.Node.{Node}
-use Rattle.papaya_owes.specs.Given.Tables.declared.table.Table.{Table}
-use Rattle.papaya_owes.specs.Given.Resize.Copier.{copier_plan}
-use Rattle.papaya_owes.specs.Given.Resize.NewTable.{new_table_plan}
-use Rattle.papaya_owes.specs.Given.Resize.Sum.{sum_plan}
-use Rattle.papaya_owes.specs.Given.Resize.declared.copier.Copier.{Copier}
-use Rattle.papaya_owes.specs.Given.Resize.declared.new_table.NewTable.{NewTable}
-use Rattle.papaya_owes.specs.Given.Resize.declared.outcome.Outcome.{Outcome}
-use Rattle.papaya_owes.specs.Given.Resize.declared.outcome.Outcome.TheVariants as outcome
-use Rattle.papaya_owes.specs.Given.Resize.declared.sum.Sum.{Sum}
-use Rattle.papaya_owes.specs.Given.Reserves.Reserve as reserves
-use Rattle.papaya_owes.specs.Given.Reserves.declared.reserve.Reserve.{Reserve}
-use Rattle.papaya_owes.specs.Given.Reserves.declared.reserve.Reserving.{Reserving}
-use Rattle.papaya_owes.specs.Given.Reserves.declared.reserve.Reserving.TheVariants as at
-use Rattle.papaya_owes.specs.Given.Raw.Machine.{reserved as of_room}
-use Rattle.papaya_owes.specs.Given.Schedules.declared.call.Call.{Call}
-use Rattle.papaya_owes.specs.Given.Schedules.Counts.{AddsUp, Counts}
-use Rattle.papaya_owes.specs.Given.Schedules.Growing.{is_too_many, MayGrow}
-use Rattle.papaya_owes.specs.Given.Schedules.Lists.{OneOf}
-use Rattle.papaya_owes.specs.Given.Schedules.Moment.{UnderWay as CallThere, Moment}
-use Rattle.papaya_owes.specs.Given.Teller.Tells.{StepsTold}
-use Rattle.papaya_owes.specs.Given.Teller.declared.changed.Changed.{Changed}
-use Rattle.papaya_owes.specs.Given.Teller.declared.changed.Changed.TheVariants as changed
-use Rattle.papaya_owes.proofs.Given.Rule.Keys.Always.{Always, AlwaysOf, always_if, always_plan_as, always_steps}
-use Rattle.papaya_owes.specs.Given.Callers.Together.{ForRoom}
-use Rattle.papaya_owes.proofs.Given.Follows.Steps.{one_of}
-use Rattle.papaya_owes.proofs.Given.Others.Outcomes.{told_in}
+use Rattle.papaya_owes.specs.Given.SeizeWordsMem.{Mem}
+use Rattle.papaya_owes.specs.Given.SeizeWordsOp.{Out, Found}
+use Rattle.papaya_owes.specs.Given.SeizeDeclared.progress.Progress.{Progress}
+use Rattle.papaya_owes.specs.Given.SeizeDeclared.progress.Progress.TheVariants as progress
+use Rattle.papaya_owes.specs.Given.SeizeWordsDeclared.fault.Fault.TheVariants.{Capacity}
+use Rattle.papaya_owes.specs.Given.TablesLengths.{places_for}
+use Rattle.papaya_owes.specs.Given.TablesPowers.{next_power}
+use Rattle.papaya_owes.specs.Given.TablesDeclared.node.Node.{Node}
+use Rattle.papaya_owes.specs.Given.TablesDeclared.table.Table.{Table}
+use Rattle.papaya_owes.specs.Given.ResizeCopier.{copier_plan}
+use Rattle.papaya_owes.specs.Given.ResizeNewTable.{new_table_plan}
+use Rattle.papaya_owes.specs.Given.ResizeSum.{sum_plan}
+use Rattle.papaya_owes.specs.Given.ResizeDeclared.copier.Copier.{Copier}
+use Rattle.papaya_owes.specs.Given.ResizeDeclared.new_table.NewTable.{NewTable}
+use Rattle.papaya_owes.specs.Given.ResizeDeclared.outcome.Outcome.{Outcome}
+use Rattle.papaya_owes.specs.Given.ResizeDeclared.outcome.Outcome.TheVariants as outcome
+use Rattle.papaya_owes.specs.Given.ResizeDeclared.sum.Sum.{Sum}
+use Rattle.papaya_owes.specs.Given.ReservesReserve as reserves
+use Rattle.papaya_owes.specs.Given.ReservesDeclared.reserve.Reserve.{Reserve}
+use Rattle.papaya_owes.specs.Given.ReservesDeclared.reserve.Reserving.{Reserving}
+use Rattle.papaya_owes.specs.Given.ReservesDeclared.reserve.Reserving.TheVariants as at
+use Rattle.papaya_owes.specs.Given.RawMachine.{reserved as of_room}
+use Rattle.papaya_owes.specs.Given.SchedulesDeclared.call.Call.{Call}
+use Rattle.papaya_owes.specs.Given.SchedulesCounts.{AddsUp, Counts}
+use Rattle.papaya_owes.specs.Given.SchedulesGrowing.{is_too_many, MayGrow}
+use Rattle.papaya_owes.specs.Given.SchedulesLists.{OneOf}
+use Rattle.papaya_owes.specs.Given.SchedulesMoment.{UnderWay as CallThere, Moment}
+use Rattle.papaya_owes.specs.Given.TellerTells.{StepsTold}
+use Rattle.papaya_owes.specs.Given.TellerDeclared.changed.Changed.{Changed}
+use Rattle.papaya_owes.specs.Given.TellerDeclared.changed.Changed.TheVariants as changed
+use Rattle.papaya_owes.proofs.Given.RuleKeys.Always.{Always, AlwaysOf, always_if, always_plan_as, always_steps}
+use Rattle.papaya_owes.specs.Given.CallersTogether.{ForRoom}
+use Rattle.papaya_owes.proofs.Given.FollowsSteps.{one_of}
+use Rattle.papaya_owes.proofs.Given.OthersOutcomes.{told_in}
 use Rattle.papaya_owes.specs.Making.{making_in_reserving}
 use Rattle.papaya_owes.proofs.Walks.{reserve_makes}
 use Rattle.papaya_finds.specs.Reserving.{FitsAt, ReservesAt, SumTells, MakesFirst, RoomsKeepCount, RoomsMayAsk}
 use Rattle.papaya_finds.proofs.Grows.Asked.{Asks, made_of, may_ask}
-use Rattle.papaya_owes.proofs.Given.Scenes.Told.{as_step}
+use Rattle.papaya_owes.proofs.Given.ScenesTold.{as_step}
 
 -- what is so at one of some moments is so at one of more
 module _ {X : Type 0} where

@@ -4,24 +4,24 @@ use Rattle.std.specs.List.{AllByRecursion, list_any}
 use Rattle.std.proofs.Common.{refl, ap, sym, subst, ◌∙◌, arith}
 use Rattle.std.proofs.lemmas.Bool.{eq-eqb}
 use Rattle.std.proofs.lemmas.List.Elements.{recursion_from_All, All-from_recursion}
-use Rattle.papaya_owes.specs.Given.Runs.Same.{is_same}
-use Rattle.papaya_owes.specs.Given.Schedules.declared.effect.Effect.{Effect}
-use Rattle.papaya_owes.specs.Given.Schedules.declared.event.Event.{Event}
-use Rattle.papaya_owes.specs.Given.Schedules.declared.event.Event.TheVariants as event
-use Rattle.papaya_owes.specs.Given.Schedules.declared.outcome.Outcome.{Outcome}
-use Rattle.papaya_owes.specs.Given.Schedules.declared.outcome.Outcome.TheVariants as outcome
-use Rattle.papaya_owes.specs.Given.Schedules.After.{moment, after, maps_on}
-use Rattle.papaya_owes.specs.Given.Schedules.Beginning.{begun}
-use Rattle.papaya_owes.specs.Given.Schedules.Effects.{call_by, with_effect, worked}
-use Rattle.papaya_owes.specs.Given.Schedules.Entry.{Entry, caller_of, acting, acted_on}
-use Rattle.papaya_owes.specs.Given.Schedules.Handing.{gives_all, moments_of}
-use Rattle.papaya_owes.specs.Given.Schedules.InTurn.{is_called}
-use Rattle.papaya_owes.specs.Given.Schedules.Lives.{Finds}
-use Rattle.papaya_owes.specs.Given.Schedules.Moment.{UnderWay, MapThere, Moment}
-use Rattle.papaya_owes.specs.Given.Schedules.Terms.{Terms}
-use Rattle.papaya_owes.specs.Given.Schedules.Views.{map_of, number_of, map_at}
-use Rattle.papaya_owes.proofs.Given.Follows.Calling.{is_same_is}
-use Rattle.papaya_owes.proofs.Given.Follows.Calls.{changed_same, changed, of_same, found}
+use Rattle.papaya_owes.specs.Given.RunsSame.{is_same}
+use Rattle.papaya_owes.specs.Given.SchedulesDeclared.effect.Effect.{Effect}
+use Rattle.papaya_owes.specs.Given.SchedulesDeclared.event.Event.{Event}
+use Rattle.papaya_owes.specs.Given.SchedulesDeclared.event.Event.TheVariants as event
+use Rattle.papaya_owes.specs.Given.SchedulesDeclared.outcome.Outcome.{Outcome}
+use Rattle.papaya_owes.specs.Given.SchedulesDeclared.outcome.Outcome.TheVariants as outcome
+use Rattle.papaya_owes.specs.Given.SchedulesAfter.{moment, after, maps_on}
+use Rattle.papaya_owes.specs.Given.SchedulesBeginning.{begun}
+use Rattle.papaya_owes.specs.Given.SchedulesEffects.{call_by, with_effect, worked}
+use Rattle.papaya_owes.specs.Given.SchedulesEntry.{Entry, caller_of, acting, acted_on}
+use Rattle.papaya_owes.specs.Given.SchedulesHanding.{gives_all, moments_of}
+use Rattle.papaya_owes.specs.Given.SchedulesInTurn.{is_called}
+use Rattle.papaya_owes.specs.Given.SchedulesLives.{Finds}
+use Rattle.papaya_owes.specs.Given.SchedulesMoment.{UnderWay, MapThere, Moment}
+use Rattle.papaya_owes.specs.Given.SchedulesTerms.{Terms}
+use Rattle.papaya_owes.specs.Given.SchedulesViews.{map_of, number_of, map_at}
+use Rattle.papaya_owes.proofs.Given.FollowsCalling.{is_same_is}
+use Rattle.papaya_owes.proofs.Given.FollowsCalls.{changed_same, changed, of_same, found}
 use Rattle.papaya_finds.specs.Endings.{EndsWhole}
 use Rattle.papaya_finds.specs.Events.{ended_by, EndedOwesNone}
 use Rattle.papaya_finds.specs.Life.{StoresOne}

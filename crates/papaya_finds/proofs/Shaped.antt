@@ -1,24 +1,24 @@
 -- What effects find of places, by which of them an operation has together: a single one that stores finds a call that replaces nothing, and a single one that brings the root on, none left behind.
 use Rattle.std.specs.Prelude.{◌≡◌, ℕ, true, List, [], ◌∷◌, Option, Some, None}
 use Rattle.std.proofs.Common.{refl, ap, sym, subst, ◌∙◌}
-use Rattle.papaya_owes.specs.Given.Schedules.declared.effect.Effect.{Effect}
-use Rattle.papaya_owes.specs.Given.Schedules.declared.effect.Effect.TheVariants as effect
-use Rattle.papaya_owes.specs.Given.Schedules.declared.effect.Growth.TheVariants.{ABlock}
-use Rattle.papaya_owes.specs.Given.Schedules.declared.effect.Spot.{Spot}
-use Rattle.papaya_owes.specs.Given.Schedules.declared.effect.Table.{Table}
-use Rattle.papaya_owes.specs.Given.Schedules.Effects.{call_by, with_effect}
-use Rattle.papaya_owes.specs.Given.Schedules.Entry.{ByCall}
-use Rattle.papaya_owes.specs.Given.Schedules.Growing.{none_before}
-use Rattle.papaya_owes.specs.Given.Schedules.Handing.{is_made}
-use Rattle.papaya_owes.specs.Given.Schedules.Lives.{IsFreeFor}
-use Rattle.papaya_owes.specs.Given.Schedules.Moment.{UnderWay as CallThere, Moment}
-use Rattle.papaya_owes.specs.Given.Schedules.Things.{same_spot}
-use Rattle.papaya_owes.specs.Given.Schedules.Views.{call_of}
-use Rattle.papaya_owes.proofs.Given.Follows.Alike.{AllCalm}
-use Rattle.papaya_owes.proofs.Given.Follows.Rows.{HandsOn, IsStill, Puts, Retires}
+use Rattle.papaya_owes.specs.Given.SchedulesDeclared.effect.Effect.{Effect}
+use Rattle.papaya_owes.specs.Given.SchedulesDeclared.effect.Effect.TheVariants as effect
+use Rattle.papaya_owes.specs.Given.SchedulesDeclared.effect.Growth.TheVariants.{ABlock}
+use Rattle.papaya_owes.specs.Given.SchedulesDeclared.effect.Spot.{Spot}
+use Rattle.papaya_owes.specs.Given.SchedulesDeclared.effect.Table.{Table}
+use Rattle.papaya_owes.specs.Given.SchedulesEffects.{call_by, with_effect}
+use Rattle.papaya_owes.specs.Given.SchedulesEntry.{ByCall}
+use Rattle.papaya_owes.specs.Given.SchedulesGrowing.{none_before}
+use Rattle.papaya_owes.specs.Given.SchedulesHanding.{is_made}
+use Rattle.papaya_owes.specs.Given.SchedulesLives.{IsFreeFor}
+use Rattle.papaya_owes.specs.Given.SchedulesMoment.{UnderWay as CallThere, Moment}
+use Rattle.papaya_owes.specs.Given.SchedulesThings.{same_spot}
+use Rattle.papaya_owes.specs.Given.SchedulesViews.{call_of}
+use Rattle.papaya_owes.proofs.Given.FollowsAlike.{AllCalm}
+use Rattle.papaya_owes.proofs.Given.FollowsRows.{HandsOn, IsStill, Puts, Retires}
 use Rattle.papaya_owes.proofs.Fields.{its_effect}
-use Rattle.papaya_owes.specs.Given.Spots.Placed.{FindPlaces}
-use Rattle.papaya_owes.proofs.Given.Spots.Effects.{aside_all}
+use Rattle.papaya_owes.specs.Given.SpotsPlaced.{FindPlaces}
+use Rattle.papaya_owes.proofs.Given.SpotsEffects.{aside_all}
 use Rattle.papaya_finds.specs.Parts.{FindsPlace, FindsAhead, FindPlacesOf, FindAhead}
 use Rattle.papaya_owes.proofs.Shapes.{Shaped, TellsNothing, TellsOne, TellsOver, TellsMade}
 

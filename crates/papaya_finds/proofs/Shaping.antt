@@ -1,29 +1,29 @@
 -- The making of a table that goes on makes the table that it was to make: of that length, and with that last try.
 use Rattle.std.specs.Prelude.{◌≡◌, ℕ, ◌^◌, nat_le, max, Bool, true, false, Result, Ok, Err, if◌then◌else◌}
 use Rattle.std.proofs.Common.{refl, sym, subst, arith}
-use Rattle.papaya_owes.specs.Given.SeizeWords.Op.{Out, Exchanged, Made}
-use Rattle.papaya_owes.specs.Given.SeizeWords.Plan.{Plan, Then, Turn, Do, Now, Seeing, Sure, then_as, plan_as}
-use Rattle.papaya_owes.specs.Given.SeizeWords.declared.at.At.{At}
-use Rattle.papaya_owes.specs.Given.SeizeWords.declared.at.At.TheVariants as places
-use Rattle.papaya_owes.specs.Given.SeizeWords.declared.fault.Fault.{Fault}
-use Rattle.papaya_owes.specs.Given.SeizeWords.declared.fault.Fault.TheVariants.{Capacity}
-use Rattle.papaya_owes.specs.Given.Seize.declared.progress.Progress.{Progress}
-use Rattle.papaya_owes.specs.Given.Seize.declared.progress.Progress.TheVariants as progress
-use Rattle.papaya_owes.specs.Given.Tables.Lengths.{by_count, if_few, next_len, next_limit, next_turn}
-use Rattle.papaya_owes.specs.Given.Tables.declared.lengths.Reason.{Reason}
-use Rattle.papaya_owes.specs.Given.Tables.declared.lengths.Reason.TheVariants.{Full}
-use Rattle.papaya_owes.specs.Given.Tables.declared.lengths.TheConstants.{FIRST_LEN}
-use Rattle.papaya_owes.specs.Given.Tables.declared.node.Node.{Node}
-use Rattle.papaya_owes.specs.Given.Tables.declared.setting.Setting.{Setting}
-use Rattle.papaya_owes.specs.Given.Tables.declared.table.Table.{Table}
-use Rattle.papaya_owes.specs.Given.Resize.NewTable.{with_block, after_making, made, linked, making_of, following, counted, plan_at, new_table_plan, first_table, table_after}
-use Rattle.papaya_owes.specs.Given.Resize.Sum.{sum_plan}
-use Rattle.papaya_owes.specs.Given.Resize.declared.new_table.Making.{Making}
-use Rattle.papaya_owes.specs.Given.Resize.declared.new_table.Making.TheVariants as makes
-use Rattle.papaya_owes.specs.Given.Resize.declared.new_table.NewTable.{NewTable}
-use Rattle.papaya_owes.specs.Given.Resize.declared.sum.Sum.{Sum}
-use Rattle.papaya_owes.specs.Given.Schedules.Growing.{Has}
-use Rattle.papaya_owes.proofs.Given.Rule.Keys.Always.{Always, AlwaysOf, always_plan_as}
+use Rattle.papaya_owes.specs.Given.SeizeWordsOp.{Out, Exchanged, Made}
+use Rattle.papaya_owes.specs.Given.SeizeWordsPlan.{Plan, Then, Turn, Do, Now, Seeing, Sure, then_as, plan_as}
+use Rattle.papaya_owes.specs.Given.SeizeWordsDeclared.at.At.{At}
+use Rattle.papaya_owes.specs.Given.SeizeWordsDeclared.at.At.TheVariants as places
+use Rattle.papaya_owes.specs.Given.SeizeWordsDeclared.fault.Fault.{Fault}
+use Rattle.papaya_owes.specs.Given.SeizeWordsDeclared.fault.Fault.TheVariants.{Capacity}
+use Rattle.papaya_owes.specs.Given.SeizeDeclared.progress.Progress.{Progress}
+use Rattle.papaya_owes.specs.Given.SeizeDeclared.progress.Progress.TheVariants as progress
+use Rattle.papaya_owes.specs.Given.TablesLengths.{by_count, if_few, next_len, next_limit, next_turn}
+use Rattle.papaya_owes.specs.Given.TablesDeclared.lengths.Reason.{Reason}
+use Rattle.papaya_owes.specs.Given.TablesDeclared.lengths.Reason.TheVariants.{Full}
+use Rattle.papaya_owes.specs.Given.TablesDeclared.lengths.TheConstants.{FIRST_LEN}
+use Rattle.papaya_owes.specs.Given.TablesDeclared.node.Node.{Node}
+use Rattle.papaya_owes.specs.Given.TablesDeclared.setting.Setting.{Setting}
+use Rattle.papaya_owes.specs.Given.TablesDeclared.table.Table.{Table}
+use Rattle.papaya_owes.specs.Given.ResizeNewTable.{with_block, after_making, made, linked, making_of, following, counted, plan_at, new_table_plan, first_table, table_after}
+use Rattle.papaya_owes.specs.Given.ResizeSum.{sum_plan}
+use Rattle.papaya_owes.specs.Given.ResizeDeclared.new_table.Making.{Making}
+use Rattle.papaya_owes.specs.Given.ResizeDeclared.new_table.Making.TheVariants as makes
+use Rattle.papaya_owes.specs.Given.ResizeDeclared.new_table.NewTable.{NewTable}
+use Rattle.papaya_owes.specs.Given.ResizeDeclared.sum.Sum.{Sum}
+use Rattle.papaya_owes.specs.Given.SchedulesGrowing.{Has}
+use Rattle.papaya_owes.proofs.Given.RuleKeys.Always.{Always, AlwaysOf, always_plan_as}
 use Rattle.papaya_finds.specs.Shaping.{ShapedAt, IsFirstTable, IsFirstMaking, IsNextTable, IsNextMaking}
 
 -- what is so of each outcome of a plan, and of what that stands for

@@ -3,17 +3,17 @@ use Rattle.std.specs.Prelude.{◌≡◌, ◌≢◌, ℕ, ◌≤◌, ◌==◌, Bo
 use Rattle.std.specs.List.{list_any}
 use Rattle.std.proofs.Common.{refl, ap, sym, subst, ◌∙◌, arith, inl, inr}
 use Rattle.std.proofs.lemmas.Bool.{cases_eq}
-use Rattle.papaya_owes.specs.Given.Schedules.declared.effect.Effect.{Effect}
-use Rattle.papaya_owes.specs.Given.Schedules.declared.effect.Effect.TheVariants as effect
-use Rattle.papaya_owes.specs.Given.Schedules.declared.effect.Spot.{Spot}
-use Rattle.papaya_owes.specs.Given.Schedules.declared.effect.Table.{Table}
-use Rattle.papaya_owes.specs.Given.Schedules.declared.effect.Thing.TheVariants.{APair, ATable}
-use Rattle.papaya_owes.specs.Given.Schedules.Effects.{all_at, place_by, stored_by, promoted, maps_by, with_effect}
-use Rattle.papaya_owes.specs.Given.Schedules.Entry.{acting}
-use Rattle.papaya_owes.specs.Given.Schedules.Lists.{is_among, put}
-use Rattle.papaya_owes.specs.Given.Schedules.Moment.{Place, InMap, Out, Handed, Behind, Left, GivenBack, UnderWay, MapThere, Moment}
-use Rattle.papaya_owes.specs.Given.Schedules.Views.{behind}
-use Rattle.papaya_owes.proofs.Given.Follows.Alike.{put_here, put_elsewhere}
+use Rattle.papaya_owes.specs.Given.SchedulesDeclared.effect.Effect.{Effect}
+use Rattle.papaya_owes.specs.Given.SchedulesDeclared.effect.Effect.TheVariants as effect
+use Rattle.papaya_owes.specs.Given.SchedulesDeclared.effect.Spot.{Spot}
+use Rattle.papaya_owes.specs.Given.SchedulesDeclared.effect.Table.{Table}
+use Rattle.papaya_owes.specs.Given.SchedulesDeclared.effect.Thing.TheVariants.{APair, ATable}
+use Rattle.papaya_owes.specs.Given.SchedulesEffects.{all_at, place_by, stored_by, promoted, maps_by, with_effect}
+use Rattle.papaya_owes.specs.Given.SchedulesEntry.{acting}
+use Rattle.papaya_owes.specs.Given.SchedulesLists.{is_among, put}
+use Rattle.papaya_owes.specs.Given.SchedulesMoment.{Place, InMap, Out, Handed, Behind, Left, GivenBack, UnderWay, MapThere, Moment}
+use Rattle.papaya_owes.specs.Given.SchedulesViews.{behind}
+use Rattle.papaya_owes.proofs.Given.FollowsAlike.{put_here, put_elsewhere}
 use Rattle.papaya_finds.specs.Waiting.{is_unborn, FindsPlaced}
 use Rattle.papaya_finds.specs.TornDown.{StoredAreSomewhere, FindsItsMap, EffectsKeepSomewhere, OthersKeepSomewhere}
 

@@ -2,49 +2,49 @@
 use Rattle.std.specs.Prelude.{◌≡◌, ℕ, ◌+◌, Bool, true, List, [], ◌∷◌, length, Option, Some, None}
 use Rattle.std.specs.List.{list_all}
 use Rattle.std.proofs.Common.{refl, ap, sym, subst, ◌∙◌, inl, inr, length-append}
-use Rattle.papaya_owes.specs.Given.SeizeWords.Mem.{Mem}
-use Rattle.papaya_owes.specs.Given.Seize.World.{World}
-use Rattle.papaya_owes.specs.Given.Tables.declared.node.Node.{Node}
-use Rattle.papaya_owes.specs.Given.Raw.declared.machines.progress.Progress.{Progress}
-use Rattle.papaya_owes.specs.Given.Schedules.declared.effect.Effect.{Effect}
-use Rattle.papaya_owes.specs.Given.Schedules.declared.effect.Effect.TheVariants as effect
-use Rattle.papaya_owes.specs.Given.Schedules.declared.effect.Spot.{Spot}
-use Rattle.papaya_owes.specs.Given.Schedules.declared.effect.Table.{Table}
-use Rattle.papaya_owes.specs.Given.Schedules.Effects.{new_pair, stored_by, with_effect, with_effects, AtEachEffect}
-use Rattle.papaya_owes.specs.Given.Schedules.Entry.{acting}
-use Rattle.papaya_owes.specs.Given.Schedules.Growing.{none_before}
-use Rattle.papaya_owes.specs.Given.Schedules.Handing.{is_call_effect}
-use Rattle.papaya_owes.specs.Given.Schedules.Moment.{UnderWay as CallThere, Moment}
-use Rattle.papaya_owes.specs.Given.Schedules.Views.{call_of}
-use Rattle.papaya_owes.specs.Given.Callers.Together.{UnderWay, OnKey, ForRoom, Counting, OverAll, IsOneStep, Together}
-use Rattle.papaya_owes.specs.Given.Teller.declared.changed.Changed.{Changed}
-use Rattle.papaya_owes.specs.Given.Teller.declared.changed.Changed.TheVariants as changed
-use Rattle.papaya_owes.specs.Given.Effects.Effects.{effects_of, known_after}
-use Rattle.papaya_owes.specs.Given.Effects.Known.{Known}
-use Rattle.papaya_owes.specs.Given.Effects.declared.acting.Acting.TheVariants as acts
-use Rattle.papaya_owes.specs.Given.Effects.declared.role.Role.{Role}
-use Rattle.papaya_owes.specs.Given.Effects.declared.role.Role.TheVariants as role
-use Rattle.papaya_owes.specs.Given.Finishes.Machines.{machine_of}
-use Rattle.papaya_owes.specs.Given.Finishes.Maps.{Standing}
-use Rattle.papaya_owes.specs.Given.Follows.Calls.{IsCalled}
-use Rattle.papaya_owes.specs.Given.Follows.Finds.{FindsMap}
-use Rattle.papaya_owes.specs.Given.Follows.Shows.{Shows}
-use Rattle.papaya_owes.specs.Given.Follows.Steps.{HasPair, HasToStore, StoreTheirs, TakesNone, named_now}
-use Rattle.papaya_owes.proofs.Given.Follows.Alike.{is_calm, AllCalm, calm_still, put_here}
-use Rattle.papaya_owes.proofs.Given.Follows.Finds.{still_find}
-use Rattle.papaya_owes.proofs.Given.Follows.Onward.{IsLasting, IsOfMap}
-use Rattle.papaya_owes.proofs.Given.Follows.Operations.{LeavesBy, operated_leaves}
-use Rattle.papaya_owes.proofs.Given.Follows.Rows.{HandsOn, IsStill, Puts, Retires, one_step_leaves}
-use Rattle.papaya_owes.proofs.Given.Follows.RowSteps.{row_done}
-use Rattle.papaya_owes.proofs.Given.Follows.Steps.{WentTo, went_to, made_so, step_shown, DidSo, OfNoRow}
-use Rattle.papaya_owes.proofs.Given.Hands.RowSteps.{rows_hand_theirs}
-use Rattle.papaya_owes.proofs.Given.Hands.Steps.{calls_store_theirs}
-use Rattle.papaya_owes.specs.Given.Moments.Whole.{ShowsWhole}
-use Rattle.papaya_owes.proofs.Given.Moments.Calls.{of_row, calls_keep_whole}
+use Rattle.papaya_owes.specs.Given.SeizeWordsMem.{Mem}
+use Rattle.papaya_owes.specs.Given.SeizeWorld.{World}
+use Rattle.papaya_owes.specs.Given.TablesDeclared.node.Node.{Node}
+use Rattle.papaya_owes.specs.Given.RawDeclared.machines.progress.Progress.{Progress}
+use Rattle.papaya_owes.specs.Given.SchedulesDeclared.effect.Effect.{Effect}
+use Rattle.papaya_owes.specs.Given.SchedulesDeclared.effect.Effect.TheVariants as effect
+use Rattle.papaya_owes.specs.Given.SchedulesDeclared.effect.Spot.{Spot}
+use Rattle.papaya_owes.specs.Given.SchedulesDeclared.effect.Table.{Table}
+use Rattle.papaya_owes.specs.Given.SchedulesEffects.{new_pair, stored_by, with_effect, with_effects, AtEachEffect}
+use Rattle.papaya_owes.specs.Given.SchedulesEntry.{acting}
+use Rattle.papaya_owes.specs.Given.SchedulesGrowing.{none_before}
+use Rattle.papaya_owes.specs.Given.SchedulesHanding.{is_call_effect}
+use Rattle.papaya_owes.specs.Given.SchedulesMoment.{UnderWay as CallThere, Moment}
+use Rattle.papaya_owes.specs.Given.SchedulesViews.{call_of}
+use Rattle.papaya_owes.specs.Given.CallersTogether.{UnderWay, OnKey, ForRoom, Counting, OverAll, IsOneStep, Together}
+use Rattle.papaya_owes.specs.Given.TellerDeclared.changed.Changed.{Changed}
+use Rattle.papaya_owes.specs.Given.TellerDeclared.changed.Changed.TheVariants as changed
+use Rattle.papaya_owes.specs.Given.EffectsEffects.{effects_of, known_after}
+use Rattle.papaya_owes.specs.Given.EffectsKnown.{Known}
+use Rattle.papaya_owes.specs.Given.EffectsDeclared.acting.Acting.TheVariants as acts
+use Rattle.papaya_owes.specs.Given.EffectsDeclared.role.Role.{Role}
+use Rattle.papaya_owes.specs.Given.EffectsDeclared.role.Role.TheVariants as role
+use Rattle.papaya_owes.specs.Given.FinishesMachines.{machine_of}
+use Rattle.papaya_owes.specs.Given.FinishesMaps.{Standing}
+use Rattle.papaya_owes.specs.Given.FollowsCalls.{IsCalled}
+use Rattle.papaya_owes.specs.Given.FollowsFinds.{FindsMap}
+use Rattle.papaya_owes.specs.Given.FollowsShows.{Shows}
+use Rattle.papaya_owes.specs.Given.FollowsSteps.{HasPair, HasToStore, StoreTheirs, TakesNone, named_now}
+use Rattle.papaya_owes.proofs.Given.FollowsAlike.{is_calm, AllCalm, calm_still, put_here}
+use Rattle.papaya_owes.proofs.Given.FollowsFinds.{still_find}
+use Rattle.papaya_owes.proofs.Given.FollowsOnward.{IsLasting, IsOfMap}
+use Rattle.papaya_owes.proofs.Given.FollowsOperations.{LeavesBy, operated_leaves}
+use Rattle.papaya_owes.proofs.Given.FollowsRows.{HandsOn, IsStill, Puts, Retires, one_step_leaves}
+use Rattle.papaya_owes.proofs.Given.FollowsRowSteps.{row_done}
+use Rattle.papaya_owes.proofs.Given.FollowsSteps.{WentTo, went_to, made_so, step_shown, DidSo, OfNoRow}
+use Rattle.papaya_owes.proofs.Given.HandsRowSteps.{rows_hand_theirs}
+use Rattle.papaya_owes.proofs.Given.HandsSteps.{calls_store_theirs}
+use Rattle.papaya_owes.specs.Given.MomentsWhole.{ShowsWhole}
+use Rattle.papaya_owes.proofs.Given.MomentsCalls.{of_row, calls_keep_whole}
 use Rattle.papaya_owes.proofs.Tables.Held.{call_unmade}
 use Rattle.papaya_owes.proofs.Tables.Kinds.{no_room}
-use Rattle.papaya_owes.specs.Given.Spots.Spots.{ShowsPlaces}
-use Rattle.papaya_owes.proofs.Given.Spots.Steps.{calls_find_places}
+use Rattle.papaya_owes.specs.Given.SpotsSpots.{ShowsPlaces}
+use Rattle.papaya_owes.proofs.Given.SpotsSteps.{calls_find_places}
 use Rattle.papaya_finds.specs.Parts.{FindPlacesOf, FindAhead}
 use Rattle.papaya_finds.specs.Steps.{StepsDoTheirs, StepsFindPlaces, StepsStoreOne}
 use Rattle.papaya_finds.specs.Life.{StoresOne}
@@ -53,9 +53,9 @@ use Rattle.papaya_finds.proofs.Ahead.{none_behind}
 use Rattle.papaya_finds.proofs.Replaces.{replaces_none}
 use Rattle.papaya_finds.proofs.Shaped.{placed_all, ahead_all, rows_store_none, rows_promote_none}
 use Rattle.papaya_owes.proofs.Shapes.{Shaped, all_shaped, all_of_calls}
-use Rattle.papaya_owes.specs.Given.Scenes.Held.{Held, IsAt}
-use Rattle.papaya_owes.specs.Given.Scenes.Scene.{Scene, slot_of}
-use Rattle.papaya_owes.specs.Given.Scenes.Stepping.{StepLeads, scene_after}
+use Rattle.papaya_owes.specs.Given.ScenesHeld.{Held, IsAt}
+use Rattle.papaya_owes.specs.Given.ScenesScene.{Scene, slot_of}
+use Rattle.papaya_owes.specs.Given.ScenesStepping.{StepLeads, scene_after}
 
 -- such blocks stay what they are
 lasting_of_map : (r : Role) → IsOfMap r → IsLasting r

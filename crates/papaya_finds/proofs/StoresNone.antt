@@ -1,20 +1,20 @@
 -- A call on one key that has what it stores where its key is missing stores there, by the sequential specification.
 use Rattle.std.specs.Prelude.{◌≡◌, ◌≢◌, ℕ, ◌<◌, true, List, Option, Some, None}
 use Rattle.std.proofs.Common.{refl, ap, sym, ◌∙◌, inl, inr}
-use Rattle.papaya_owes.specs.Given.Tables.declared.node.Node.{Node}
-use Rattle.papaya_owes.specs.Given.Raw.declared.machines.answer.Missing.TheVariants as missing
-use Rattle.papaya_owes.specs.Given.Raw.declared.machines.asking.Reply.TheVariants as reply
-use Rattle.papaya_owes.specs.Given.Schedules.declared.call.OneKey.{OneKey}
-use Rattle.papaya_owes.specs.Given.Schedules.declared.call.OneKey.TheVariants.{Get, GetKeyValue, ContainsKey, Insert, TryInsert, TryInsertWith, GetOrInsert, GetOrInsertWith, Update, UpdateOrInsert, UpdateOrInsertWith, Compute, Remove, RemoveEntry, RemoveIf}
-use Rattle.papaya_owes.specs.Given.Schedules.declared.call.Reply.{Reply}
-use Rattle.papaya_owes.specs.Given.Schedules.declared.call.Reply.TheVariants.{Gives}
-use Rattle.papaya_owes.specs.Given.Schedules.Sequential.{means, puts_any}
-use Rattle.papaya_owes.specs.Given.Schedules.Views.{reply_to}
-use Rattle.papaya_owes.specs.Given.Callers.Asked.{Asked, last_told}
-use Rattle.papaya_owes.specs.Given.Callers.Kind.{Kind}
-use Rattle.papaya_owes.specs.Given.Callers.Pairs.{Given, Begun, IsTold}
-use Rattle.papaya_owes.specs.Given.Hands.Asked.{given_by, AreReplies}
-use Rattle.papaya_owes.proofs.Given.Hands.Replies.{gave, told_as}
+use Rattle.papaya_owes.specs.Given.TablesDeclared.node.Node.{Node}
+use Rattle.papaya_owes.specs.Given.RawDeclared.machines.answer.Missing.TheVariants as missing
+use Rattle.papaya_owes.specs.Given.RawDeclared.machines.asking.Reply.TheVariants as reply
+use Rattle.papaya_owes.specs.Given.SchedulesDeclared.call.OneKey.{OneKey}
+use Rattle.papaya_owes.specs.Given.SchedulesDeclared.call.OneKey.TheVariants.{Get, GetKeyValue, ContainsKey, Insert, TryInsert, TryInsertWith, GetOrInsert, GetOrInsertWith, Update, UpdateOrInsert, UpdateOrInsertWith, Compute, Remove, RemoveEntry, RemoveIf}
+use Rattle.papaya_owes.specs.Given.SchedulesDeclared.call.Reply.{Reply}
+use Rattle.papaya_owes.specs.Given.SchedulesDeclared.call.Reply.TheVariants.{Gives}
+use Rattle.papaya_owes.specs.Given.SchedulesSequential.{means, puts_any}
+use Rattle.papaya_owes.specs.Given.SchedulesViews.{reply_to}
+use Rattle.papaya_owes.specs.Given.CallersAsked.{Asked, last_told}
+use Rattle.papaya_owes.specs.Given.CallersKind.{Kind}
+use Rattle.papaya_owes.specs.Given.CallersPairs.{Given, Begun, IsTold}
+use Rattle.papaya_owes.specs.Given.HandsAsked.{given_by, AreReplies}
+use Rattle.papaya_owes.proofs.Given.HandsReplies.{gave, told_as}
 use Rattle.papaya_finds.proofs.Grows.Given.{StoresForNone, answers_none, HasGivenForNone, kind_same}
 
 module _ {K V : Type 0} where

@@ -5,20 +5,20 @@ use Rattle.std.proofs.Common.{refl, ap, sym, subst, ◌∙◌, arith, inl, inr, 
 use Rattle.std.proofs.lemmas.Bool.{and_from, and_parts, or_left, or_right, or_parts, leb-true, leb-false}
 use Rattle.std.proofs.lemmas.List.Elements.{recursion_from_All, filter-append}
 use Rattle.std.proofs.lemmas.List.Folds.{list_any-append}
-use Rattle.papaya_owes.specs.Given.Runs.declared.outcome.TableShape.{TableShape}
-use Rattle.papaya_owes.specs.Given.Schedules.declared.effect.Effect.{Effect}
-use Rattle.papaya_owes.specs.Given.Schedules.declared.effect.Effect.TheVariants as effect
-use Rattle.papaya_owes.specs.Given.Schedules.declared.effect.Table.{Table}
-use Rattle.papaya_owes.specs.Given.Schedules.declared.effect.Thing.TheVariants.{APair, ATable}
-use Rattle.papaya_owes.specs.Given.Schedules.Effects.{at_stage, promoted, passed, call_by, with_effect}
-use Rattle.papaya_owes.specs.Given.Schedules.Entry.{ByCall}
-use Rattle.papaya_owes.specs.Given.Schedules.Lists.{is_in}
-use Rattle.papaya_owes.specs.Given.Schedules.Moment.{UnderWay, MapThere, Stage, IsRetired, IsReclaimed, IsTaken, IsLinked, TableThere, Deferral, Moment}
-use Rattle.papaya_owes.specs.Given.Schedules.Reclaims.{is_kept}
-use Rattle.papaya_owes.specs.Given.Schedules.Things.{same_table, same_thing}
-use Rattle.papaya_owes.specs.Given.Schedules.Views.{call_of, map_at, first_or, first_of, is_there, is_linked, is_stage, tables_of}
-use Rattle.papaya_owes.proofs.Given.Follows.Calls.{changed_same}
-use Rattle.papaya_owes.proofs.Given.Spots.Unreclaimed.{table_is, same_itself}
+use Rattle.papaya_owes.specs.Given.RunsDeclared.outcome.TableShape.{TableShape}
+use Rattle.papaya_owes.specs.Given.SchedulesDeclared.effect.Effect.{Effect}
+use Rattle.papaya_owes.specs.Given.SchedulesDeclared.effect.Effect.TheVariants as effect
+use Rattle.papaya_owes.specs.Given.SchedulesDeclared.effect.Table.{Table}
+use Rattle.papaya_owes.specs.Given.SchedulesDeclared.effect.Thing.TheVariants.{APair, ATable}
+use Rattle.papaya_owes.specs.Given.SchedulesEffects.{at_stage, promoted, passed, call_by, with_effect}
+use Rattle.papaya_owes.specs.Given.SchedulesEntry.{ByCall}
+use Rattle.papaya_owes.specs.Given.SchedulesLists.{is_in}
+use Rattle.papaya_owes.specs.Given.SchedulesMoment.{UnderWay, MapThere, Stage, IsRetired, IsReclaimed, IsTaken, IsLinked, TableThere, Deferral, Moment}
+use Rattle.papaya_owes.specs.Given.SchedulesReclaims.{is_kept}
+use Rattle.papaya_owes.specs.Given.SchedulesThings.{same_table, same_thing}
+use Rattle.papaya_owes.specs.Given.SchedulesViews.{call_of, map_at, first_or, first_of, is_there, is_linked, is_stage, tables_of}
+use Rattle.papaya_owes.proofs.Given.FollowsCalls.{changed_same}
+use Rattle.papaya_owes.proofs.Given.SpotsUnreclaimed.{table_is, same_itself}
 use Rattle.papaya_finds.specs.Tables.{is_owed_table, PassedIsOwed, WaitsBehindOne, TablesAreInOrder, FindsTables, EffectsKeepTables, OthersKeepTables}
 use Rattle.papaya_finds.proofs.Lists.{one_of_them, none_of_them, all_so, all_both}
 use Rattle.papaya_finds.proofs.Owed.{due_keeps}

@@ -3,12 +3,12 @@ use Rattle.std.specs.Prelude.{◌≡◌, ℕ, ◌+◌, ◌≤◌, ◌<◌, ◌==
 use Rattle.std.specs.List.{list_any}
 use Rattle.std.proofs.Common.{refl, ap, ◌∙◌, arith}
 use Rattle.std.proofs.lemmas.Bool.{eq-eqb}
-use Rattle.papaya_owes.specs.Given.Runs.LifeCycle.{times}
-use Rattle.papaya_owes.specs.Given.Schedules.declared.effect.Table.{Table}
-use Rattle.papaya_owes.specs.Given.Schedules.Moment.{Place, Unborn, InMap, Out, Handed, Behind, Left, GivenBack, MapThere, Deferral, Moment}
-use Rattle.papaya_owes.specs.Given.Schedules.Reclaims.{has_next, has_last_reason, IsEmptied}
-use Rattle.papaya_owes.specs.Given.Schedules.Things.{same_table}
-use Rattle.papaya_owes.specs.Given.Schedules.Views.{chain_of, tables_of}
+use Rattle.papaya_owes.specs.Given.RunsLifeCycle.{times}
+use Rattle.papaya_owes.specs.Given.SchedulesDeclared.effect.Table.{Table}
+use Rattle.papaya_owes.specs.Given.SchedulesMoment.{Place, Unborn, InMap, Out, Handed, Behind, Left, GivenBack, MapThere, Deferral, Moment}
+use Rattle.papaya_owes.specs.Given.SchedulesReclaims.{has_next, has_last_reason, IsEmptied}
+use Rattle.papaya_owes.specs.Given.SchedulesThings.{same_table}
+use Rattle.papaya_owes.specs.Given.SchedulesViews.{chain_of, tables_of}
 use Rattle.papaya_finds.specs.Waiting.{is_unborn, is_back, once_if, PairsArePlaced}
 use Rattle.papaya_finds.specs.TornDown.{StoredAreSomewhere, SomewhereAtFirst, TornDownInTheEnd}
 use Rattle.papaya_finds.proofs.Lists.{numbers_pass, number_passes}

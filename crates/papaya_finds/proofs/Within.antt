@@ -4,27 +4,27 @@ use Rattle.std.specs.List.{AllByRecursion, list_any}
 use Rattle.std.proofs.Common.{refl, ap, sym, subst, ◌∙◌, arith, inl, inr, length-append, le-leb}
 use Rattle.std.proofs.lemmas.Bool.{and_from, and_parts, cases_eq, eq-eqb, ne_eqb}
 use Rattle.std.proofs.lemmas.List.Elements.{filter-append}
-use Rattle.papaya_owes.specs.Given.Runs.Same.{is_same}
-use Rattle.papaya_owes.specs.Given.Runs.declared.outcome.TableShape.{TableShape}
-use Rattle.papaya_owes.specs.Given.Schedules.declared.effect.Effect.{Effect}
-use Rattle.papaya_owes.specs.Given.Schedules.declared.effect.Effect.TheVariants as effect
-use Rattle.papaya_owes.specs.Given.Schedules.declared.effect.Spot.{Spot}
-use Rattle.papaya_owes.specs.Given.Schedules.declared.effect.Table.{Table}
-use Rattle.papaya_owes.specs.Given.Schedules.declared.effect.Thing.TheVariants.{APair, ATable}
-use Rattle.papaya_owes.specs.Given.Schedules.Effects.{in_map, calls_by, born_by, later, spot_by, is_chunked, at_stage, promoted, call_by, with_effect}
-use Rattle.papaya_owes.specs.Given.Schedules.Entry.{ByCall, acting}
-use Rattle.papaya_owes.specs.Given.Schedules.Growing.{only_looks}
-use Rattle.papaya_owes.specs.Given.Schedules.Lists.{is_in, put, without_one}
-use Rattle.papaya_owes.specs.Given.Schedules.Lives.{MayCopy, MayDefer, IsMapsFirst, CallFinds, EventFinds, Finds}
-use Rattle.papaya_owes.specs.Given.Schedules.Moment.{Place, InMap, UnderWay, MapThere, Stage, IsRetired, IsReclaimed, IsTaken, TableThere, Moment}
-use Rattle.papaya_owes.specs.Given.Schedules.Terms.{Terms}
-use Rattle.papaya_owes.specs.Given.Schedules.Things.{same_table, same_thing}
-use Rattle.papaya_owes.specs.Given.Schedules.Views.{is_in_map, call_of, map_at, first_or, first_of, grows_in_chunks, is_linked, is_stage, is_place, tables_of}
-use Rattle.papaya_owes.proofs.Given.Follows.Alike.{put_here, put_elsewhere}
-use Rattle.papaya_owes.proofs.Given.Follows.Calls.{IsOfSame, changed_same, changed}
-use Rattle.papaya_owes.proofs.Given.Others.Leads.{same_parts}
-use Rattle.papaya_owes.proofs.Given.Spots.Elsewhere.{stored_grows}
-use Rattle.papaya_owes.specs.Given.Moments.Numbers.{AreFound}
+use Rattle.papaya_owes.specs.Given.RunsSame.{is_same}
+use Rattle.papaya_owes.specs.Given.RunsDeclared.outcome.TableShape.{TableShape}
+use Rattle.papaya_owes.specs.Given.SchedulesDeclared.effect.Effect.{Effect}
+use Rattle.papaya_owes.specs.Given.SchedulesDeclared.effect.Effect.TheVariants as effect
+use Rattle.papaya_owes.specs.Given.SchedulesDeclared.effect.Spot.{Spot}
+use Rattle.papaya_owes.specs.Given.SchedulesDeclared.effect.Table.{Table}
+use Rattle.papaya_owes.specs.Given.SchedulesDeclared.effect.Thing.TheVariants.{APair, ATable}
+use Rattle.papaya_owes.specs.Given.SchedulesEffects.{in_map, calls_by, born_by, later, spot_by, is_chunked, at_stage, promoted, call_by, with_effect}
+use Rattle.papaya_owes.specs.Given.SchedulesEntry.{ByCall, acting}
+use Rattle.papaya_owes.specs.Given.SchedulesGrowing.{only_looks}
+use Rattle.papaya_owes.specs.Given.SchedulesLists.{is_in, put, without_one}
+use Rattle.papaya_owes.specs.Given.SchedulesLives.{MayCopy, MayDefer, IsMapsFirst, CallFinds, EventFinds, Finds}
+use Rattle.papaya_owes.specs.Given.SchedulesMoment.{Place, InMap, UnderWay, MapThere, Stage, IsRetired, IsReclaimed, IsTaken, TableThere, Moment}
+use Rattle.papaya_owes.specs.Given.SchedulesTerms.{Terms}
+use Rattle.papaya_owes.specs.Given.SchedulesThings.{same_table, same_thing}
+use Rattle.papaya_owes.specs.Given.SchedulesViews.{is_in_map, call_of, map_at, first_or, first_of, grows_in_chunks, is_linked, is_stage, is_place, tables_of}
+use Rattle.papaya_owes.proofs.Given.FollowsAlike.{put_here, put_elsewhere}
+use Rattle.papaya_owes.proofs.Given.FollowsCalls.{IsOfSame, changed_same, changed}
+use Rattle.papaya_owes.proofs.Given.OthersLeads.{same_parts}
+use Rattle.papaya_owes.proofs.Given.SpotsElsewhere.{stored_grows}
+use Rattle.papaya_owes.specs.Given.MomentsNumbers.{AreFound}
 use Rattle.papaya_finds.specs.Bounded.{TablesApart}
 use Rattle.papaya_finds.specs.Life.{StoresOne}
 use Rattle.papaya_finds.specs.Tables.{FindsTables}

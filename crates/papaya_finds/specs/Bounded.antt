@@ -1,16 +1,16 @@
 -- While nobody is there so much waits at most: what a moment of a run calls retired is so in the memory, and that is bounded.
 use Rattle.std.specs.Prelude.{◌≡◌, ℕ, ◌<◌, ◌^◌, true, false, List, [], ◌∷◌}
 use Rattle.std.specs.List.{AllByRecursion, list_any}
-use Rattle.papaya_owes.specs.Given.Seize.Law.{is_retired as is_retired_in}
-use Rattle.papaya_owes.specs.Given.Seize.World.{World, Rests, IsOutside, SlotsTaken}
-use Rattle.papaya_owes.specs.Given.Tables.declared.node.Node.{Node}
-use Rattle.papaya_owes.specs.Given.Schedules.Moment.{TableThere, Moment}
-use Rattle.papaya_owes.specs.Given.Schedules.Reclaims.{is_handed, IsBounded}
-use Rattle.papaya_owes.specs.Given.Schedules.Things.{same_table}
-use Rattle.papaya_owes.specs.Given.Schedules.Views.{is_retired}
-use Rattle.papaya_owes.specs.Given.Callers.Together.{CameAbout}
-use Rattle.papaya_owes.specs.Given.Effects.Known.{Known}
-use Rattle.papaya_owes.specs.Given.Effects.declared.role.Role.TheVariants as role
+use Rattle.papaya_owes.specs.Given.SeizeLaw.{is_retired as is_retired_in}
+use Rattle.papaya_owes.specs.Given.SeizeWorld.{World, Rests, IsOutside, SlotsTaken}
+use Rattle.papaya_owes.specs.Given.TablesDeclared.node.Node.{Node}
+use Rattle.papaya_owes.specs.Given.SchedulesMoment.{TableThere, Moment}
+use Rattle.papaya_owes.specs.Given.SchedulesReclaims.{is_handed, IsBounded}
+use Rattle.papaya_owes.specs.Given.SchedulesThings.{same_table}
+use Rattle.papaya_owes.specs.Given.SchedulesViews.{is_retired}
+use Rattle.papaya_owes.specs.Given.CallersTogether.{CameAbout}
+use Rattle.papaya_owes.specs.Given.EffectsKnown.{Known}
+use Rattle.papaya_owes.specs.Given.EffectsDeclared.role.Role.TheVariants as role
 
 -- no table is there twice
 abbrev pub TablesApart : List TableThere → Type 0

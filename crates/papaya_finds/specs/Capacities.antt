@@ -1,27 +1,27 @@
 -- Each map that stands was made for the capacity that the moment says: so it stays, whatever is done, once a map has come so.
 use Rattle.std.specs.Prelude.{◌≡◌, ℕ, Bool, List, max, Option, Some, None}
-use Rattle.papaya_owes.specs.Given.Seize.declared.progress.Progress.{Progress as Making}
-use Rattle.papaya_owes.specs.Given.Tables.declared.node.Node.{Node}
-use Rattle.papaya_owes.specs.Given.Tables.declared.setting.Setting.{Setting}
-use Rattle.papaya_owes.specs.Given.Raw.declared.machines.progress.Progress.{Progress}
-use Rattle.papaya_owes.specs.Given.Runs.Runs.{map_fault}
-use Rattle.papaya_owes.specs.Given.Schedules.declared.effect.Effect.{Effect}
-use Rattle.papaya_owes.specs.Given.Schedules.Effects.{with_effects}
-use Rattle.papaya_owes.specs.Given.Schedules.Moment.{MapThere, Moment}
-use Rattle.papaya_owes.specs.Given.Schedules.Views.{map_at, capacity_or}
-use Rattle.papaya_owes.specs.Given.Callers.Together.{UnderWay}
-use Rattle.papaya_owes.specs.Given.Named.Places.{first_places}
-use Rattle.papaya_owes.specs.Given.Effects.Effects.{effects_of}
-use Rattle.papaya_owes.specs.Given.Effects.Known.{Known}
-use Rattle.papaya_owes.specs.Given.Effects.declared.acting.Acting.TheVariants as acts
-use Rattle.papaya_owes.specs.Given.Finishes.Makings.{Beginning}
-use Rattle.papaya_owes.specs.Given.Finishes.Maps.{Standing, IsSameMap}
-use Rattle.papaya_owes.specs.Given.Others.Makings.{making_after}
+use Rattle.papaya_owes.specs.Given.SeizeDeclared.progress.Progress.{Progress as Making}
+use Rattle.papaya_owes.specs.Given.TablesDeclared.node.Node.{Node}
+use Rattle.papaya_owes.specs.Given.TablesDeclared.setting.Setting.{Setting}
+use Rattle.papaya_owes.specs.Given.RawDeclared.machines.progress.Progress.{Progress}
+use Rattle.papaya_owes.specs.Given.RunsRuns.{map_fault}
+use Rattle.papaya_owes.specs.Given.SchedulesDeclared.effect.Effect.{Effect}
+use Rattle.papaya_owes.specs.Given.SchedulesEffects.{with_effects}
+use Rattle.papaya_owes.specs.Given.SchedulesMoment.{MapThere, Moment}
+use Rattle.papaya_owes.specs.Given.SchedulesViews.{map_at, capacity_or}
+use Rattle.papaya_owes.specs.Given.CallersTogether.{UnderWay}
+use Rattle.papaya_owes.specs.Given.NamedPlaces.{first_places}
+use Rattle.papaya_owes.specs.Given.EffectsEffects.{effects_of}
+use Rattle.papaya_owes.specs.Given.EffectsKnown.{Known}
+use Rattle.papaya_owes.specs.Given.EffectsDeclared.acting.Acting.TheVariants as acts
+use Rattle.papaya_owes.specs.Given.FinishesMakings.{Beginning}
+use Rattle.papaya_owes.specs.Given.FinishesMaps.{Standing, IsSameMap}
+use Rattle.papaya_owes.specs.Given.OthersMakings.{making_after}
 use Rattle.papaya_finds.specs.Linking.{IsMadeFor}
-use Rattle.papaya_owes.specs.Given.Scenes.Held.{Held}
-use Rattle.papaya_owes.specs.Given.Scenes.Making.{MakingLeads}
-use Rattle.papaya_owes.specs.Given.Scenes.Scene.{Scene}
-use Rattle.papaya_owes.specs.Given.Scenes.Stepping.{StepLeads, scene_after}
+use Rattle.papaya_owes.specs.Given.ScenesHeld.{Held}
+use Rattle.papaya_owes.specs.Given.ScenesMaking.{MakingLeads}
+use Rattle.papaya_owes.specs.Given.ScenesScene.{Scene}
+use Rattle.papaya_owes.specs.Given.ScenesStepping.{StepLeads, scene_after}
 
 abbrev pub ShowsCapacities : {K V : Type 0} → Moment K V → Scene K V → Type 0
 ShowsCapacities {K} m s = (map : ℕ) (standing : Standing K) → s.maps map ≡ Some standing → IsMadeFor map m standing.setting

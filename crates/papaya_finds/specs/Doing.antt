@@ -1,11 +1,11 @@
 -- What is promised of the kinds of effects of an event of a call: they are such as its events may have, over several steps, too.
 use Rattle.std.specs.Prelude.{◌≡◌, Bool, true, false, List, ◌++◌}
 use Rattle.std.specs.List.{list_all}
-use Rattle.papaya_owes.specs.Given.Schedules.declared.effect.Effect.{Effect}
-use Rattle.papaya_owes.specs.Given.Schedules.declared.event.Event.{Event}
-use Rattle.papaya_owes.specs.Given.Schedules.declared.event.Event.TheVariants.{Step, Go, OneCall}
-use Rattle.papaya_owes.specs.Given.Schedules.Handing.{is_call_effect, may_do}
-use Rattle.papaya_owes.specs.Given.Schedules.Moment.{Moment}
+use Rattle.papaya_owes.specs.Given.SchedulesDeclared.effect.Effect.{Effect}
+use Rattle.papaya_owes.specs.Given.SchedulesDeclared.event.Event.{Event}
+use Rattle.papaya_owes.specs.Given.SchedulesDeclared.event.Event.TheVariants.{Step, Go, OneCall}
+use Rattle.papaya_owes.specs.Given.SchedulesHanding.{is_call_effect, may_do}
+use Rattle.papaya_owes.specs.Given.SchedulesMoment.{Moment}
 
 -- an event in which a call makes steps
 abbrev pub takes_steps : {K V : Type 0} → Event K V → Bool

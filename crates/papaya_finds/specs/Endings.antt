@@ -2,18 +2,18 @@
 -- found by their names, as by their numbers.
 use Rattle.std.specs.Prelude.{◌≡◌, true, Some, None}
 use Rattle.std.specs.List.{AllByRecursion, list_all}
-use Rattle.papaya_owes.specs.Given.Schedules.declared.event.Event.{Event}
-use Rattle.papaya_owes.specs.Given.Schedules.declared.event.Event.TheVariants.{MakeMap}
-use Rattle.papaya_owes.specs.Given.Schedules.declared.outcome.Outcome.{Outcome}
-use Rattle.papaya_owes.specs.Given.Schedules.declared.outcome.Outcome.TheVariants.{Done}
-use Rattle.papaya_owes.specs.Given.Schedules.After.{after}
-use Rattle.papaya_owes.specs.Given.Schedules.Effects.{worked}
-use Rattle.papaya_owes.specs.Given.Schedules.Entry.{Entry}
-use Rattle.papaya_owes.specs.Given.Schedules.Handing.{may_do, IsWhole}
-use Rattle.papaya_owes.specs.Given.Schedules.Moment.{Moment}
-use Rattle.papaya_owes.specs.Given.Schedules.Reclaims.{is_kept}
-use Rattle.papaya_owes.specs.Given.Schedules.Views.{map_of}
-use Rattle.papaya_owes.specs.Given.Moments.Numbers.{AreFound}
+use Rattle.papaya_owes.specs.Given.SchedulesDeclared.event.Event.{Event}
+use Rattle.papaya_owes.specs.Given.SchedulesDeclared.event.Event.TheVariants.{MakeMap}
+use Rattle.papaya_owes.specs.Given.SchedulesDeclared.outcome.Outcome.{Outcome}
+use Rattle.papaya_owes.specs.Given.SchedulesDeclared.outcome.Outcome.TheVariants.{Done}
+use Rattle.papaya_owes.specs.Given.SchedulesAfter.{after}
+use Rattle.papaya_owes.specs.Given.SchedulesEffects.{worked}
+use Rattle.papaya_owes.specs.Given.SchedulesEntry.{Entry}
+use Rattle.papaya_owes.specs.Given.SchedulesHanding.{may_do, IsWhole}
+use Rattle.papaya_owes.specs.Given.SchedulesMoment.{Moment}
+use Rattle.papaya_owes.specs.Given.SchedulesReclaims.{is_kept}
+use Rattle.papaya_owes.specs.Given.SchedulesViews.{map_of}
+use Rattle.papaya_owes.specs.Given.MomentsNumbers.{AreFound}
 use Rattle.papaya_finds.specs.TornDown.{StoredAreSomewhere}
 use Rattle.papaya_finds.specs.Waiting.{PairsArePlaced}
 

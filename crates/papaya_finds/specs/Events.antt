@@ -1,18 +1,18 @@
 -- Where pairs are that have left their maps, once an event has begun what it begins, and once it is over.
 use Rattle.std.specs.Prelude.{◌≡◌, false, true, List, [], ℕ, Option, Some, None, if◌then◌else◌}
 use Rattle.std.specs.List.{AllByRecursion, list_any}
-use Rattle.papaya_owes.specs.Given.Runs.Same.{is_same}
-use Rattle.papaya_owes.specs.Given.Schedules.declared.call.Call.{Call}
-use Rattle.papaya_owes.specs.Given.Schedules.declared.event.Event.{Event}
-use Rattle.papaya_owes.specs.Given.Schedules.declared.event.Event.TheVariants.{Stop}
-use Rattle.papaya_owes.specs.Given.Schedules.declared.outcome.Outcome.{Outcome}
-use Rattle.papaya_owes.specs.Given.Schedules.declared.outcome.Outcome.TheVariants.{Done}
-use Rattle.papaya_owes.specs.Given.Schedules.After.{after}
-use Rattle.papaya_owes.specs.Given.Schedules.Beginning.{with_call, with_map}
-use Rattle.papaya_owes.specs.Given.Schedules.Effects.{worked}
-use Rattle.papaya_owes.specs.Given.Schedules.Entry.{Entry, ends_call, caller_of}
-use Rattle.papaya_owes.specs.Given.Schedules.Moment.{MapThere, UnderWay, Moment}
-use Rattle.papaya_owes.specs.Given.Schedules.Reclaims.{is_kept}
+use Rattle.papaya_owes.specs.Given.RunsSame.{is_same}
+use Rattle.papaya_owes.specs.Given.SchedulesDeclared.call.Call.{Call}
+use Rattle.papaya_owes.specs.Given.SchedulesDeclared.event.Event.{Event}
+use Rattle.papaya_owes.specs.Given.SchedulesDeclared.event.Event.TheVariants.{Stop}
+use Rattle.papaya_owes.specs.Given.SchedulesDeclared.outcome.Outcome.{Outcome}
+use Rattle.papaya_owes.specs.Given.SchedulesDeclared.outcome.Outcome.TheVariants.{Done}
+use Rattle.papaya_owes.specs.Given.SchedulesAfter.{after}
+use Rattle.papaya_owes.specs.Given.SchedulesBeginning.{with_call, with_map}
+use Rattle.papaya_owes.specs.Given.SchedulesEffects.{worked}
+use Rattle.papaya_owes.specs.Given.SchedulesEntry.{Entry, ends_call, caller_of}
+use Rattle.papaya_owes.specs.Given.SchedulesMoment.{MapThere, UnderWay, Moment}
+use Rattle.papaya_owes.specs.Given.SchedulesReclaims.{is_kept}
 use Rattle.papaya_finds.specs.Tables.{TablesAreInOrder}
 use Rattle.papaya_finds.specs.Waiting.{PairsArePlaced}
 

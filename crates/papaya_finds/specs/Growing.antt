@@ -1,39 +1,39 @@
 -- For what a call on one key makes a table: it has what it stores where its key is missing, and so it may ask for each block that it makes.
 use Rattle.std.specs.Prelude.{◌≡◌, ◌≢◌, ℕ, suc, ◌<◌, ◌≤◌, Bool, false, List, ◌∷◌, Option, Some, ◌⊎◌}
-use Rattle.papaya_owes.specs.Given.Tables.Chunks.{is_incremental}
-use Rattle.papaya_owes.specs.Given.Tables.declared.node.Node.{Node}
-use Rattle.papaya_owes.specs.Given.Raw.Machine.{machine_asked, machine_replied}
-use Rattle.papaya_owes.specs.Given.Raw.declared.machines.answer.Missing.TheVariants as missing
-use Rattle.papaya_owes.specs.Given.Raw.declared.machines.asking.Asking.TheVariants as asking
-use Rattle.papaya_owes.specs.Given.Raw.declared.machines.asking.Reply.{Reply as MachineReply}
-use Rattle.papaya_owes.specs.Given.Raw.declared.machines.asking.Told.TheVariants as tells
-use Rattle.papaya_owes.specs.Given.Raw.declared.machines.call.Calling.{Calling}
-use Rattle.papaya_owes.specs.Given.Raw.declared.machines.call.Calling.TheVariants as at
-use Rattle.papaya_owes.specs.Given.Raw.declared.machines.call.KeyCall.{KeyCall}
-use Rattle.papaya_owes.specs.Given.Raw.declared.machines.progress.Progress.{Progress}
-use Rattle.papaya_owes.specs.Given.Schedules.declared.effect.Effect.{Effect}
-use Rattle.papaya_owes.specs.Given.Schedules.declared.effect.Effect.TheVariants.{Asked}
-use Rattle.papaya_owes.specs.Given.Schedules.declared.effect.Growth.TheVariants.{ABlock}
-use Rattle.papaya_owes.specs.Given.Schedules.Effects.{with_effects, AtEachEffect}
-use Rattle.papaya_owes.specs.Given.Schedules.Entry.{ByCall, acting}
-use Rattle.papaya_owes.specs.Given.Schedules.Growing.{MayGrow}
-use Rattle.papaya_owes.specs.Given.Schedules.Moment.{UnderWay as CallThere, Moment}
-use Rattle.papaya_owes.specs.Given.Schedules.Terms.{Terms}
-use Rattle.papaya_owes.specs.Given.Points.FactsCalls.{IsCopying}
-use Rattle.papaya_owes.specs.Given.Callers.Together.{CallOnKey, UnderWay, OnKey}
-use Rattle.papaya_owes.specs.Given.Effects.Effects.{effects_of}
-use Rattle.papaya_owes.specs.Given.Effects.Known.{Known}
-use Rattle.papaya_owes.specs.Given.Effects.declared.acting.Acting.TheVariants as acts
-use Rattle.papaya_owes.specs.Given.Finishes.Machines.{machine_of}
-use Rattle.papaya_owes.specs.Given.Finishes.Maps.{Standing}
-use Rattle.papaya_owes.specs.Given.Moments.Whole.{ShowsWhole}
+use Rattle.papaya_owes.specs.Given.TablesChunks.{is_incremental}
+use Rattle.papaya_owes.specs.Given.TablesDeclared.node.Node.{Node}
+use Rattle.papaya_owes.specs.Given.RawMachine.{machine_asked, machine_replied}
+use Rattle.papaya_owes.specs.Given.RawDeclared.machines.answer.Missing.TheVariants as missing
+use Rattle.papaya_owes.specs.Given.RawDeclared.machines.asking.Asking.TheVariants as asking
+use Rattle.papaya_owes.specs.Given.RawDeclared.machines.asking.Reply.{Reply as MachineReply}
+use Rattle.papaya_owes.specs.Given.RawDeclared.machines.asking.Told.TheVariants as tells
+use Rattle.papaya_owes.specs.Given.RawDeclared.machines.call.Calling.{Calling}
+use Rattle.papaya_owes.specs.Given.RawDeclared.machines.call.Calling.TheVariants as at
+use Rattle.papaya_owes.specs.Given.RawDeclared.machines.call.KeyCall.{KeyCall}
+use Rattle.papaya_owes.specs.Given.RawDeclared.machines.progress.Progress.{Progress}
+use Rattle.papaya_owes.specs.Given.SchedulesDeclared.effect.Effect.{Effect}
+use Rattle.papaya_owes.specs.Given.SchedulesDeclared.effect.Effect.TheVariants.{Asked}
+use Rattle.papaya_owes.specs.Given.SchedulesDeclared.effect.Growth.TheVariants.{ABlock}
+use Rattle.papaya_owes.specs.Given.SchedulesEffects.{with_effects, AtEachEffect}
+use Rattle.papaya_owes.specs.Given.SchedulesEntry.{ByCall, acting}
+use Rattle.papaya_owes.specs.Given.SchedulesGrowing.{MayGrow}
+use Rattle.papaya_owes.specs.Given.SchedulesMoment.{UnderWay as CallThere, Moment}
+use Rattle.papaya_owes.specs.Given.SchedulesTerms.{Terms}
+use Rattle.papaya_owes.specs.Given.PointsFactsCalls.{IsCopying}
+use Rattle.papaya_owes.specs.Given.CallersTogether.{CallOnKey, UnderWay, OnKey}
+use Rattle.papaya_owes.specs.Given.EffectsEffects.{effects_of}
+use Rattle.papaya_owes.specs.Given.EffectsKnown.{Known}
+use Rattle.papaya_owes.specs.Given.EffectsDeclared.acting.Acting.TheVariants as acts
+use Rattle.papaya_owes.specs.Given.FinishesMachines.{machine_of}
+use Rattle.papaya_owes.specs.Given.FinishesMaps.{Standing}
+use Rattle.papaya_owes.specs.Given.MomentsWhole.{ShowsWhole}
 use Rattle.papaya_finds.specs.Shaping.{IsFirstMaking, IsNextMaking}
 use Rattle.papaya_finds.specs.Within.{many_of}
-use Rattle.papaya_owes.specs.Given.Scenes.Beginning.{Begins}
-use Rattle.papaya_owes.specs.Given.Scenes.Held.{Held, IsAt}
-use Rattle.papaya_owes.specs.Given.Scenes.Replying.{scene_with}
-use Rattle.papaya_owes.specs.Given.Scenes.Scene.{Scene}
-use Rattle.papaya_owes.specs.Given.Scenes.Stepping.{StepLeads, scene_after}
+use Rattle.papaya_owes.specs.Given.ScenesBeginning.{Begins}
+use Rattle.papaya_owes.specs.Given.ScenesHeld.{Held, IsAt}
+use Rattle.papaya_owes.specs.Given.ScenesReplying.{scene_with}
+use Rattle.papaya_owes.specs.Given.ScenesScene.{Scene}
+use Rattle.papaya_owes.specs.Given.ScenesStepping.{StepLeads, scene_after}
 
 -- It has what it stores there: it began with that; or it asks what to do there, and was told what to store.
 abbrev pub HasForNone : {K V Q : Type 0} → KeyCall K V Q → Type 0

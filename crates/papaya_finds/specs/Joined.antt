@@ -1,15 +1,15 @@
 -- What is promised of the parts of what effects of a call find: they make up all of it, over the steps of an event, and so for the event.
 use Rattle.std.specs.Prelude.{◌≡◌, ℕ, true, List, ◌∷◌, ◌++◌, Some}
 use Rattle.std.specs.List.{list_all}
-use Rattle.papaya_owes.specs.Given.Schedules.declared.effect.Effect.{Effect}
-use Rattle.papaya_owes.specs.Given.Schedules.After.{moments_from}
-use Rattle.papaya_owes.specs.Given.Schedules.Effects.{with_effects, AtEachEffect}
-use Rattle.papaya_owes.specs.Given.Schedules.Entry.{Entry, caller_of}
-use Rattle.papaya_owes.specs.Given.Schedules.Handing.{is_call_effect, AllFind}
-use Rattle.papaya_owes.specs.Given.Schedules.Moment.{UnderWay as CallThere, Moment}
-use Rattle.papaya_owes.specs.Given.Schedules.Terms.{Terms}
-use Rattle.papaya_owes.specs.Given.Schedules.Views.{call_of}
-use Rattle.papaya_owes.specs.Given.Follows.Finds.{FindsMap}
+use Rattle.papaya_owes.specs.Given.SchedulesDeclared.effect.Effect.{Effect}
+use Rattle.papaya_owes.specs.Given.SchedulesAfter.{moments_from}
+use Rattle.papaya_owes.specs.Given.SchedulesEffects.{with_effects, AtEachEffect}
+use Rattle.papaya_owes.specs.Given.SchedulesEntry.{Entry, caller_of}
+use Rattle.papaya_owes.specs.Given.SchedulesHanding.{is_call_effect, AllFind}
+use Rattle.papaya_owes.specs.Given.SchedulesMoment.{UnderWay as CallThere, Moment}
+use Rattle.papaya_owes.specs.Given.SchedulesTerms.{Terms}
+use Rattle.papaya_owes.specs.Given.SchedulesViews.{call_of}
+use Rattle.papaya_owes.specs.Given.FollowsFinds.{FindsMap}
 use Rattle.papaya_owes.specs.Events.{FindMade}
 use Rattle.papaya_owes.specs.Looking.{FindAtWork}
 use Rattle.papaya_finds.specs.Parts.{FindPlacesOf, FindAhead, FindOwed, FindRest, FindShards, FindAll}

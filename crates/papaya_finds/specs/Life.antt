@@ -1,12 +1,12 @@
 -- What effects find by the promise `life` of their event is what they have to find for pairs to be in their places.
 use Rattle.std.specs.Prelude.{◌≡◌, ℕ, ◌+◌, Bool, List, length, Option}
-use Rattle.papaya_owes.specs.Given.Schedules.declared.effect.Effect.{Effect}
-use Rattle.papaya_owes.specs.Given.Schedules.declared.effect.Effect.TheVariants.{Stored}
-use Rattle.papaya_owes.specs.Given.Schedules.Effects.{stored_by}
-use Rattle.papaya_owes.specs.Given.Schedules.Entry.{acting}
-use Rattle.papaya_owes.specs.Given.Schedules.Lives.{Finds}
-use Rattle.papaya_owes.specs.Given.Schedules.Moment.{Moment}
-use Rattle.papaya_owes.specs.Given.Schedules.Terms.{Terms}
+use Rattle.papaya_owes.specs.Given.SchedulesDeclared.effect.Effect.{Effect}
+use Rattle.papaya_owes.specs.Given.SchedulesDeclared.effect.Effect.TheVariants.{Stored}
+use Rattle.papaya_owes.specs.Given.SchedulesEffects.{stored_by}
+use Rattle.papaya_owes.specs.Given.SchedulesEntry.{acting}
+use Rattle.papaya_owes.specs.Given.SchedulesLives.{Finds}
+use Rattle.papaya_owes.specs.Given.SchedulesMoment.{Moment}
+use Rattle.papaya_owes.specs.Given.SchedulesTerms.{Terms}
 use Rattle.papaya_finds.specs.Waiting.{FindsPlaced}
 
 module _ {K V : Type 0} where

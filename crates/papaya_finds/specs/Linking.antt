@@ -1,35 +1,35 @@
 -- Which table a call on one key links, while it copies no pairs: the first one of its map, or the one that follows the newest, as its length and a count of the pairs say.
 use Rattle.std.specs.Prelude.{◌≡◌, ℕ, suc, Bool, List, ◌∷◌, Some}
-use Rattle.papaya_owes.specs.Given.Tables.Lengths.{entries_of}
-use Rattle.papaya_owes.specs.Given.Tables.declared.node.Node.{Node}
-use Rattle.papaya_owes.specs.Given.Tables.declared.setting.Setting.{Setting}
-use Rattle.papaya_owes.specs.Given.Tables.declared.table.Table.{Table}
-use Rattle.papaya_owes.specs.Given.Raw.declared.machines.call.Calling.{Calling}
-use Rattle.papaya_owes.specs.Given.Raw.declared.machines.call.Calling.TheVariants as at
-use Rattle.papaya_owes.specs.Given.Raw.declared.machines.call.KeyCall.{KeyCall}
-use Rattle.papaya_owes.specs.Given.Raw.declared.machines.progress.Progress.{Progress}
-use Rattle.papaya_owes.specs.Given.Schedules.declared.effect.Effect.{Effect}
-use Rattle.papaya_owes.specs.Given.Schedules.declared.effect.Effect.TheVariants.{Linked}
-use Rattle.papaya_owes.specs.Given.Schedules.Effects.{AtEachEffect}
-use Rattle.papaya_owes.specs.Given.Schedules.Entry.{ByCall, acting}
-use Rattle.papaya_owes.specs.Given.Schedules.Growing.{Has, Follows}
-use Rattle.papaya_owes.specs.Given.Schedules.Moment.{UnderWay as CallThere, IsLinked, TableThere, Moment}
-use Rattle.papaya_owes.specs.Given.Schedules.Terms.{Terms}
-use Rattle.papaya_owes.specs.Given.Schedules.Tries.{IsFull}
-use Rattle.papaya_owes.specs.Given.Schedules.Views.{map_at, capacity_or, tables_of}
-use Rattle.papaya_owes.specs.Given.Points.FactsCalls.{IsCopying}
-use Rattle.papaya_owes.specs.Given.Callers.Together.{CallOnKey, UnderWay, OnKey}
-use Rattle.papaya_owes.specs.Given.Effects.Effects.{effects_of}
-use Rattle.papaya_owes.specs.Given.Effects.Known.{Known}
-use Rattle.papaya_owes.specs.Given.Effects.declared.acting.Acting.TheVariants as acts
-use Rattle.papaya_owes.specs.Given.Moments.Whole.{ShowsWhole}
+use Rattle.papaya_owes.specs.Given.TablesLengths.{entries_of}
+use Rattle.papaya_owes.specs.Given.TablesDeclared.node.Node.{Node}
+use Rattle.papaya_owes.specs.Given.TablesDeclared.setting.Setting.{Setting}
+use Rattle.papaya_owes.specs.Given.TablesDeclared.table.Table.{Table}
+use Rattle.papaya_owes.specs.Given.RawDeclared.machines.call.Calling.{Calling}
+use Rattle.papaya_owes.specs.Given.RawDeclared.machines.call.Calling.TheVariants as at
+use Rattle.papaya_owes.specs.Given.RawDeclared.machines.call.KeyCall.{KeyCall}
+use Rattle.papaya_owes.specs.Given.RawDeclared.machines.progress.Progress.{Progress}
+use Rattle.papaya_owes.specs.Given.SchedulesDeclared.effect.Effect.{Effect}
+use Rattle.papaya_owes.specs.Given.SchedulesDeclared.effect.Effect.TheVariants.{Linked}
+use Rattle.papaya_owes.specs.Given.SchedulesEffects.{AtEachEffect}
+use Rattle.papaya_owes.specs.Given.SchedulesEntry.{ByCall, acting}
+use Rattle.papaya_owes.specs.Given.SchedulesGrowing.{Has, Follows}
+use Rattle.papaya_owes.specs.Given.SchedulesMoment.{UnderWay as CallThere, IsLinked, TableThere, Moment}
+use Rattle.papaya_owes.specs.Given.SchedulesTerms.{Terms}
+use Rattle.papaya_owes.specs.Given.SchedulesTries.{IsFull}
+use Rattle.papaya_owes.specs.Given.SchedulesViews.{map_at, capacity_or, tables_of}
+use Rattle.papaya_owes.specs.Given.PointsFactsCalls.{IsCopying}
+use Rattle.papaya_owes.specs.Given.CallersTogether.{CallOnKey, UnderWay, OnKey}
+use Rattle.papaya_owes.specs.Given.EffectsEffects.{effects_of}
+use Rattle.papaya_owes.specs.Given.EffectsKnown.{Known}
+use Rattle.papaya_owes.specs.Given.EffectsDeclared.acting.Acting.TheVariants as acts
+use Rattle.papaya_owes.specs.Given.MomentsWhole.{ShowsWhole}
 use Rattle.papaya_owes.specs.Tables.{ShowsTables}
-use Rattle.papaya_owes.specs.Given.Follows.Maps.{table_of}
+use Rattle.papaya_owes.specs.Given.FollowsMaps.{table_of}
 use Rattle.papaya_finds.specs.Growing.{ShowsGrowing}
 use Rattle.papaya_finds.specs.Within.{many_of}
-use Rattle.papaya_owes.specs.Given.Scenes.Held.{Held, IsAt}
-use Rattle.papaya_owes.specs.Given.Scenes.Scene.{Scene}
-use Rattle.papaya_owes.specs.Given.Scenes.Stepping.{StepLeads}
+use Rattle.papaya_owes.specs.Given.ScenesHeld.{Held, IsAt}
+use Rattle.papaya_owes.specs.Given.ScenesScene.{Scene}
+use Rattle.papaya_owes.specs.Given.ScenesStepping.{StepLeads}
 
 module _ {K V : Type 0} (terms : Terms) where
   -- what is left of an effect that links a table: it follows

@@ -1,19 +1,19 @@
 -- The promise `little` of an event: what waits where nobody is there, while no call is under way, once all was reclaimed, and once the collector has ended.
 use Rattle.std.specs.Prelude.{◌≡◌, ◌<◌, ◌^◌, true, List, [], ◌∷◌, flat_map}
-use Rattle.papaya_owes.specs.Given.Seize.World.{World}
-use Rattle.papaya_owes.specs.Given.Tables.declared.node.Node.{Node}
-use Rattle.papaya_owes.specs.Given.Schedules.declared.event.Event.{Event}
-use Rattle.papaya_owes.specs.Given.Schedules.declared.event.Event.TheVariants.{ReclaimAll, Close}
-use Rattle.papaya_owes.specs.Given.Schedules.declared.outcome.Outcome.{Outcome}
-use Rattle.papaya_owes.specs.Given.Schedules.declared.outcome.Outcome.TheVariants.{Done}
-use Rattle.papaya_owes.specs.Given.Schedules.After.{after, moment}
-use Rattle.papaya_owes.specs.Given.Schedules.Entry.{Entry}
-use Rattle.papaya_owes.specs.Given.Schedules.Model.{thing_back, all_left}
-use Rattle.papaya_owes.specs.Given.Schedules.Moment.{Moment}
-use Rattle.papaya_owes.specs.Given.Schedules.Reclaims.{is_quiescent, ComesLast, LeavesLittle}
-use Rattle.papaya_owes.specs.Given.Schedules.Terms.{Terms}
-use Rattle.papaya_owes.specs.Given.Callers.Together.{CameAbout}
-use Rattle.papaya_owes.specs.Given.Effects.Known.{Known}
+use Rattle.papaya_owes.specs.Given.SeizeWorld.{World}
+use Rattle.papaya_owes.specs.Given.TablesDeclared.node.Node.{Node}
+use Rattle.papaya_owes.specs.Given.SchedulesDeclared.event.Event.{Event}
+use Rattle.papaya_owes.specs.Given.SchedulesDeclared.event.Event.TheVariants.{ReclaimAll, Close}
+use Rattle.papaya_owes.specs.Given.SchedulesDeclared.outcome.Outcome.{Outcome}
+use Rattle.papaya_owes.specs.Given.SchedulesDeclared.outcome.Outcome.TheVariants.{Done}
+use Rattle.papaya_owes.specs.Given.SchedulesAfter.{after, moment}
+use Rattle.papaya_owes.specs.Given.SchedulesEntry.{Entry}
+use Rattle.papaya_owes.specs.Given.SchedulesModel.{thing_back, all_left}
+use Rattle.papaya_owes.specs.Given.SchedulesMoment.{Moment}
+use Rattle.papaya_owes.specs.Given.SchedulesReclaims.{is_quiescent, ComesLast, LeavesLittle}
+use Rattle.papaya_owes.specs.Given.SchedulesTerms.{Terms}
+use Rattle.papaya_owes.specs.Given.CallersTogether.{CameAbout}
+use Rattle.papaya_owes.specs.Given.EffectsKnown.{Known}
 use Rattle.papaya_finds.specs.Bounded.{ShowsRetired, NobodyIsThere}
 use Rattle.papaya_finds.specs.Orderly.{NothingIsRetired}
 use Rattle.papaya_finds.specs.Within.{AllIsInOrder, GoesInOrder}

@@ -1,10 +1,10 @@
 -- While no call is under way each pair waits, and each table is there, for a reason; and once all was reclaimed, for one reason alone.
 use Rattle.std.specs.Prelude.{◌≡◌, ℕ, Bool, true, false, not, []}
 use Rattle.std.specs.List.{list_all}
-use Rattle.papaya_owes.specs.Given.Schedules.Moment.{Place, Left, Moment, start}
-use Rattle.papaya_owes.specs.Given.Schedules.Reclaims.{is_handed, IsOrderly, IsEmptied}
-use Rattle.papaya_owes.specs.Given.Schedules.Views.{is_retired}
-use Rattle.papaya_owes.specs.Given.Moments.Numbers.{AreFound}
+use Rattle.papaya_owes.specs.Given.SchedulesMoment.{Place, Left, Moment, start}
+use Rattle.papaya_owes.specs.Given.SchedulesReclaims.{is_handed, IsOrderly, IsEmptied}
+use Rattle.papaya_owes.specs.Given.SchedulesViews.{is_retired}
+use Rattle.papaya_owes.specs.Given.MomentsNumbers.{AreFound}
 use Rattle.papaya_finds.specs.Tables.{TablesAreInOrder}
 use Rattle.papaya_finds.specs.Waiting.{PairsArePlaced}
 

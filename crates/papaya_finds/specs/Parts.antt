@@ -1,18 +1,18 @@
 -- What an effect of a step of a call finds, by parts: where pairs lie, that the root leaves no pair behind, and what is left.
 use Rattle.std.specs.Prelude.{◌≡◌, ℕ, true, false, List, ◌∷◌, Some}
-use Rattle.papaya_owes.specs.Given.Schedules.declared.effect.Effect.{Effect}
-use Rattle.papaya_owes.specs.Given.Schedules.declared.effect.Effect.TheVariants.{Asked, Linked, Promoted, Copied, Stored, Deferred, Retired}
-use Rattle.papaya_owes.specs.Given.Schedules.declared.effect.Growth.TheVariants.{ABlock}
-use Rattle.papaya_owes.specs.Given.Schedules.declared.effect.Thing.TheVariants.{APair}
-use Rattle.papaya_owes.specs.Given.Schedules.Effects.{AtEachEffect}
-use Rattle.papaya_owes.specs.Given.Schedules.Entry.{ByCall, acting}
-use Rattle.papaya_owes.specs.Given.Schedules.Growing.{only_looks, MayGrow, Follows, none_before}
-use Rattle.papaya_owes.specs.Given.Schedules.Lives.{CallFinds, IsFreeFor, IsPast, MayCopy, MayDefer}
-use Rattle.papaya_owes.specs.Given.Schedules.Moment.{UnderWay as CallThere, Moment}
-use Rattle.papaya_owes.specs.Given.Schedules.Terms.{Terms}
-use Rattle.papaya_owes.specs.Given.Schedules.Views.{map_at, capacity_or, grows_in_chunks, first_of, tables_of}
-use Rattle.papaya_owes.specs.Given.Settles.Owing.{FindsOwed}
-use Rattle.papaya_owes.specs.Given.Settles.Shards.{is_counting}
+use Rattle.papaya_owes.specs.Given.SchedulesDeclared.effect.Effect.{Effect}
+use Rattle.papaya_owes.specs.Given.SchedulesDeclared.effect.Effect.TheVariants.{Asked, Linked, Promoted, Copied, Stored, Deferred, Retired}
+use Rattle.papaya_owes.specs.Given.SchedulesDeclared.effect.Growth.TheVariants.{ABlock}
+use Rattle.papaya_owes.specs.Given.SchedulesDeclared.effect.Thing.TheVariants.{APair}
+use Rattle.papaya_owes.specs.Given.SchedulesEffects.{AtEachEffect}
+use Rattle.papaya_owes.specs.Given.SchedulesEntry.{ByCall, acting}
+use Rattle.papaya_owes.specs.Given.SchedulesGrowing.{only_looks, MayGrow, Follows, none_before}
+use Rattle.papaya_owes.specs.Given.SchedulesLives.{CallFinds, IsFreeFor, IsPast, MayCopy, MayDefer}
+use Rattle.papaya_owes.specs.Given.SchedulesMoment.{UnderWay as CallThere, Moment}
+use Rattle.papaya_owes.specs.Given.SchedulesTerms.{Terms}
+use Rattle.papaya_owes.specs.Given.SchedulesViews.{map_at, capacity_or, grows_in_chunks, first_of, tables_of}
+use Rattle.papaya_owes.specs.Given.SettlesOwing.{FindsOwed}
+use Rattle.papaya_owes.specs.Given.SettlesShards.{is_counting}
 
 -- Of each kind of effect these parts make up what it finds:
 --   Asked ABlock        not short (made), and it may ask for a block (rest)

@@ -1,12 +1,12 @@
 -- What is promised of a pair that has left its map: it lies where it lay, and the root that has come there does not go back, so that it may be retired later still.
 use Rattle.std.specs.Prelude.{◌≡◌, ℕ, ◌≤◌, true, false, List, length, Option, Some}
-use Rattle.papaya_owes.specs.Given.Schedules.declared.effect.Effect.{Effect}
-use Rattle.papaya_owes.specs.Given.Schedules.declared.effect.Effect.TheVariants.{Promoted, Copied}
-use Rattle.papaya_owes.specs.Given.Schedules.Effects.{is_chunked, AtEachEffect}
-use Rattle.papaya_owes.specs.Given.Schedules.Lives.{IsPast}
-use Rattle.papaya_owes.specs.Given.Schedules.Moment.{UnderWay as CallThere, Moment}
-use Rattle.papaya_owes.specs.Given.Schedules.Views.{call_of, is_in_a_map, first_of}
-use Rattle.papaya_owes.specs.Given.Follows.Finds.{FindsMap}
+use Rattle.papaya_owes.specs.Given.SchedulesDeclared.effect.Effect.{Effect}
+use Rattle.papaya_owes.specs.Given.SchedulesDeclared.effect.Effect.TheVariants.{Promoted, Copied}
+use Rattle.papaya_owes.specs.Given.SchedulesEffects.{is_chunked, AtEachEffect}
+use Rattle.papaya_owes.specs.Given.SchedulesLives.{IsPast}
+use Rattle.papaya_owes.specs.Given.SchedulesMoment.{UnderWay as CallThere, Moment}
+use Rattle.papaya_owes.specs.Given.SchedulesViews.{call_of, is_in_a_map, first_of}
+use Rattle.papaya_owes.specs.Given.FollowsFinds.{FindsMap}
 use Rattle.papaya_finds.specs.Parts.{FindPlacesOf}
 
 module _ {K V : Type 0} where

@@ -1,24 +1,24 @@
 -- Behind which table a row within a call is to put the pair that the call has in hand: the one just before that in which the pair lies.
 use Rattle.std.specs.Prelude.{◌≡◌, ℕ, ◌+◌, Bool, List, Option, Some}
-use Rattle.papaya_owes.specs.Given.SeizeWords.declared.at.At.{At}
-use Rattle.papaya_owes.specs.Given.Seize.Further.{IsWordOf}
-use Rattle.papaya_owes.specs.Given.Tables.declared.node.Node.{Node}
-use Rattle.papaya_owes.specs.Given.Raw.declared.machines.progress.Progress.{Progress}
-use Rattle.papaya_owes.specs.Given.Callers.Together.{UnderWay}
-use Rattle.papaya_owes.specs.Given.Effects.Effects.{effects_of, known_after}
-use Rattle.papaya_owes.specs.Given.Effects.Known.{Known}
-use Rattle.papaya_owes.specs.Given.Effects.declared.acting.Acting.TheVariants as acts
-use Rattle.papaya_owes.specs.Given.Effects.declared.role.Role.TheVariants as role
-use Rattle.papaya_owes.specs.Given.Finishes.Machines.{machine_of}
-use Rattle.papaya_owes.specs.Given.Moments.Whole.{ShowsWhole}
-use Rattle.papaya_owes.specs.Given.Schedules.Moment.{Moment}
-use Rattle.papaya_owes.specs.Given.Settles.Due.{ToPut, due_in_row, OwnAreMade}
-use Rattle.papaya_owes.specs.Given.Settles.Entries.{ShowsEntries}
-use Rattle.papaya_owes.specs.Given.Settles.Hand.{ShowsOwed}
+use Rattle.papaya_owes.specs.Given.SeizeWordsDeclared.at.At.{At}
+use Rattle.papaya_owes.specs.Given.SeizeFurther.{IsWordOf}
+use Rattle.papaya_owes.specs.Given.TablesDeclared.node.Node.{Node}
+use Rattle.papaya_owes.specs.Given.RawDeclared.machines.progress.Progress.{Progress}
+use Rattle.papaya_owes.specs.Given.CallersTogether.{UnderWay}
+use Rattle.papaya_owes.specs.Given.EffectsEffects.{effects_of, known_after}
+use Rattle.papaya_owes.specs.Given.EffectsKnown.{Known}
+use Rattle.papaya_owes.specs.Given.EffectsDeclared.acting.Acting.TheVariants as acts
+use Rattle.papaya_owes.specs.Given.EffectsDeclared.role.Role.TheVariants as role
+use Rattle.papaya_owes.specs.Given.FinishesMachines.{machine_of}
+use Rattle.papaya_owes.specs.Given.MomentsWhole.{ShowsWhole}
+use Rattle.papaya_owes.specs.Given.SchedulesMoment.{Moment}
+use Rattle.papaya_owes.specs.Given.SettlesDue.{ToPut, due_in_row, OwnAreMade}
+use Rattle.papaya_owes.specs.Given.SettlesEntries.{ShowsEntries}
+use Rattle.papaya_owes.specs.Given.SettlesHand.{ShowsOwed}
 use Rattle.papaya_finds.specs.Waits.{waits_in, ShowsWaits, FindBehind}
-use Rattle.papaya_owes.specs.Given.Scenes.Held.{Held, IsAt}
-use Rattle.papaya_owes.specs.Given.Scenes.Scene.{Scene}
-use Rattle.papaya_owes.specs.Given.Scenes.Stepping.{StepLeads, scene_after}
+use Rattle.papaya_owes.specs.Given.ScenesHeld.{Held, IsAt}
+use Rattle.papaya_owes.specs.Given.ScenesScene.{Scene}
+use Rattle.papaya_owes.specs.Given.ScenesStepping.{StepLeads, scene_after}
 
 -- the place is in the block that is noted as the table of the map with the turn before this one
 abbrev pub IsBehindNext : Known → ℕ → At → Option ℕ → Type 0

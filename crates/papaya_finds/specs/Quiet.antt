@@ -1,8 +1,8 @@
 -- What is promised of effects that store pairs: they store one each.
 use Rattle.std.specs.Prelude.{◌≡◌, ℕ, List, ◌++◌, Some}
-use Rattle.papaya_owes.specs.Given.Schedules.declared.effect.Effect.{Effect}
-use Rattle.papaya_owes.specs.Given.Schedules.Effects.{with_effects, AtEachEffect}
-use Rattle.papaya_owes.specs.Given.Schedules.Moment.{Moment}
+use Rattle.papaya_owes.specs.Given.SchedulesDeclared.effect.Effect.{Effect}
+use Rattle.papaya_owes.specs.Given.SchedulesEffects.{with_effects, AtEachEffect}
+use Rattle.papaya_owes.specs.Given.SchedulesMoment.{Moment}
 use Rattle.papaya_finds.specs.Life.{StoresOne}
 
 -- Effects of several steps store one each, if those before do and those of the last step.

@@ -1,37 +1,37 @@
 -- What a reservation knows once it has counted: with so many further pairs a table can be had. So it may ask for the blocks of a table that follows another one.
 use Rattle.std.specs.Prelude.{◌≡◌, ℕ, suc, ◌+◌, Bool, false, List, ◌∷◌, ◌++◌, Some}
-use Rattle.papaya_owes.specs.Given.SeizeWords.Mem.{Mem}
-use Rattle.papaya_owes.specs.Given.Seize.declared.progress.Progress.{Progress}
-use Rattle.papaya_owes.specs.Given.Seize.declared.progress.Progress.TheVariants as progress
-use Rattle.papaya_owes.specs.Given.Tables.declared.node.Node.{Node}
-use Rattle.papaya_owes.specs.Given.Tables.declared.table.Table.{Table}
-use Rattle.papaya_owes.specs.Given.Resize.Sum.{sum_plan}
-use Rattle.papaya_owes.specs.Given.Resize.declared.outcome.Outcome.{Outcome}
-use Rattle.papaya_owes.specs.Given.Resize.declared.sum.Sum.{Sum}
-use Rattle.papaya_owes.specs.Given.Reserves.Reserve.{reserve_plan}
-use Rattle.papaya_owes.specs.Given.Reserves.declared.reserve.Reserve.{Reserve}
-use Rattle.papaya_owes.specs.Given.Reserves.declared.reserve.Reserving.{Reserving}
-use Rattle.papaya_owes.specs.Given.Reserves.declared.reserve.Reserving.TheVariants as reserving
-use Rattle.papaya_owes.specs.Given.Raw.declared.machines.progress.Progress.{Progress as Said}
-use Rattle.papaya_owes.specs.Given.Schedules.declared.call.Call.TheVariants.{Reserve as ToReserve}
-use Rattle.papaya_owes.specs.Given.Schedules.Counts.{Counts}
-use Rattle.papaya_owes.specs.Given.Schedules.Growing.{is_too_many}
-use Rattle.papaya_owes.specs.Given.Schedules.Moment.{UnderWay as CallThere, Moment}
-use Rattle.papaya_owes.specs.Given.Schedules.Terms.{Terms, shards_of}
-use Rattle.papaya_owes.specs.Given.Schedules.Views.{call_of}
-use Rattle.papaya_owes.specs.Given.Teller.Tells.{StepsTold}
-use Rattle.papaya_owes.specs.Given.Teller.declared.changed.Changed.{Changed}
-use Rattle.papaya_owes.specs.Given.Teller.declared.changed.Changed.TheVariants as changed
-use Rattle.papaya_owes.specs.Given.Callers.Rooms.{CallForRoom}
-use Rattle.papaya_owes.specs.Given.Callers.Together.{ForRoom}
-use Rattle.papaya_owes.specs.Given.Effects.Effects.{effects_of}
-use Rattle.papaya_owes.specs.Given.Effects.Known.{Known}
-use Rattle.papaya_owes.specs.Given.Effects.declared.acting.Acting.TheVariants as acts
-use Rattle.papaya_owes.specs.Given.Moments.Whole.{ShowsWhole}
+use Rattle.papaya_owes.specs.Given.SeizeWordsMem.{Mem}
+use Rattle.papaya_owes.specs.Given.SeizeDeclared.progress.Progress.{Progress}
+use Rattle.papaya_owes.specs.Given.SeizeDeclared.progress.Progress.TheVariants as progress
+use Rattle.papaya_owes.specs.Given.TablesDeclared.node.Node.{Node}
+use Rattle.papaya_owes.specs.Given.TablesDeclared.table.Table.{Table}
+use Rattle.papaya_owes.specs.Given.ResizeSum.{sum_plan}
+use Rattle.papaya_owes.specs.Given.ResizeDeclared.outcome.Outcome.{Outcome}
+use Rattle.papaya_owes.specs.Given.ResizeDeclared.sum.Sum.{Sum}
+use Rattle.papaya_owes.specs.Given.ReservesReserve.{reserve_plan}
+use Rattle.papaya_owes.specs.Given.ReservesDeclared.reserve.Reserve.{Reserve}
+use Rattle.papaya_owes.specs.Given.ReservesDeclared.reserve.Reserving.{Reserving}
+use Rattle.papaya_owes.specs.Given.ReservesDeclared.reserve.Reserving.TheVariants as reserving
+use Rattle.papaya_owes.specs.Given.RawDeclared.machines.progress.Progress.{Progress as Said}
+use Rattle.papaya_owes.specs.Given.SchedulesDeclared.call.Call.TheVariants.{Reserve as ToReserve}
+use Rattle.papaya_owes.specs.Given.SchedulesCounts.{Counts}
+use Rattle.papaya_owes.specs.Given.SchedulesGrowing.{is_too_many}
+use Rattle.papaya_owes.specs.Given.SchedulesMoment.{UnderWay as CallThere, Moment}
+use Rattle.papaya_owes.specs.Given.SchedulesTerms.{Terms, shards_of}
+use Rattle.papaya_owes.specs.Given.SchedulesViews.{call_of}
+use Rattle.papaya_owes.specs.Given.TellerTells.{StepsTold}
+use Rattle.papaya_owes.specs.Given.TellerDeclared.changed.Changed.{Changed}
+use Rattle.papaya_owes.specs.Given.TellerDeclared.changed.Changed.TheVariants as changed
+use Rattle.papaya_owes.specs.Given.CallersRooms.{CallForRoom}
+use Rattle.papaya_owes.specs.Given.CallersTogether.{ForRoom}
+use Rattle.papaya_owes.specs.Given.EffectsEffects.{effects_of}
+use Rattle.papaya_owes.specs.Given.EffectsKnown.{Known}
+use Rattle.papaya_owes.specs.Given.EffectsDeclared.acting.Acting.TheVariants as acts
+use Rattle.papaya_owes.specs.Given.MomentsWhole.{ShowsWhole}
 use Rattle.papaya_finds.specs.Growing.{FindAsked}
-use Rattle.papaya_owes.specs.Given.Scenes.Held.{Held, IsAt}
-use Rattle.papaya_owes.specs.Given.Scenes.Scene.{Scene}
-use Rattle.papaya_owes.specs.Given.Scenes.Stepping.{StepLeads}
+use Rattle.papaya_owes.specs.Given.ScenesHeld.{Held, IsAt}
+use Rattle.papaya_owes.specs.Given.ScenesScene.{Scene}
+use Rattle.papaya_owes.specs.Given.ScenesStepping.{StepLeads}
 
 module _ {K V : Type 0} (of : ℕ) (moments : List (Moment K V)) where
   -- it has counted so many pairs, by these moments, and with so many more a table can be had

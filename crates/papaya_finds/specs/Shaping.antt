@@ -1,15 +1,15 @@
 -- Which table the making of a call on one key makes: the first of its map, of 32 places; or the one after a table that is full, of a length by a count of the pairs.
 use Rattle.std.specs.Prelude.{◌≡◌, ℕ}
-use Rattle.papaya_owes.specs.Given.Tables.Lengths.{next_len, next_limit}
-use Rattle.papaya_owes.specs.Given.Tables.Probes.{limit_of}
-use Rattle.papaya_owes.specs.Given.Tables.declared.lengths.Reason.{Reason}
-use Rattle.papaya_owes.specs.Given.Tables.declared.lengths.Reason.TheVariants.{Full}
-use Rattle.papaya_owes.specs.Given.Tables.declared.setting.Setting.{Setting}
-use Rattle.papaya_owes.specs.Given.Tables.declared.table.Table.{Table}
-use Rattle.papaya_owes.specs.Given.Resize.declared.new_table.Making.{Making}
-use Rattle.papaya_owes.specs.Given.Resize.declared.new_table.Making.TheVariants as makes
-use Rattle.papaya_owes.specs.Given.Resize.declared.new_table.NewTable.{NewTable}
-use Rattle.papaya_owes.specs.Given.Schedules.Growing.{Has}
+use Rattle.papaya_owes.specs.Given.TablesLengths.{next_len, next_limit}
+use Rattle.papaya_owes.specs.Given.TablesProbes.{limit_of}
+use Rattle.papaya_owes.specs.Given.TablesDeclared.lengths.Reason.{Reason}
+use Rattle.papaya_owes.specs.Given.TablesDeclared.lengths.Reason.TheVariants.{Full}
+use Rattle.papaya_owes.specs.Given.TablesDeclared.setting.Setting.{Setting}
+use Rattle.papaya_owes.specs.Given.TablesDeclared.table.Table.{Table}
+use Rattle.papaya_owes.specs.Given.ResizeDeclared.new_table.Making.{Making}
+use Rattle.papaya_owes.specs.Given.ResizeDeclared.new_table.Making.TheVariants as makes
+use Rattle.papaya_owes.specs.Given.ResizeDeclared.new_table.NewTable.{NewTable}
+use Rattle.papaya_owes.specs.Given.SchedulesGrowing.{Has}
 
 -- By the point of a making: the pairs are counted for such a table and reason, or the table that it makes, or has made and not linked, is such a one.
 abbrev pub ShapedAt : (Table → Reason → Type 0) → (Table → Type 0) → Making → Type 0

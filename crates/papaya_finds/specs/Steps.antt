@@ -1,31 +1,31 @@
 -- What is promised of the effects of each step of a call: they find the parts.
 use Rattle.std.specs.Prelude.{◌≡◌, ℕ, ◌+◌, Bool, true, List, Some}
 use Rattle.std.specs.List.{list_all}
-use Rattle.papaya_owes.specs.Given.Tables.declared.node.Node.{Node}
-use Rattle.papaya_owes.specs.Given.Raw.declared.machines.progress.Progress.{Progress}
-use Rattle.papaya_owes.specs.Given.Runs.Present.{slot_of_guard}
-use Rattle.papaya_owes.specs.Given.Schedules.Effects.{AtEachEffect}
-use Rattle.papaya_owes.specs.Given.Schedules.Handing.{is_call_effect}
-use Rattle.papaya_owes.specs.Given.Schedules.Moment.{UnderWay as CallThere, Moment}
-use Rattle.papaya_owes.specs.Given.Schedules.Terms.{Terms, shards_of}
-use Rattle.papaya_owes.specs.Given.Schedules.Views.{call_of}
-use Rattle.papaya_owes.specs.Given.Callers.Together.{UnderWay}
-use Rattle.papaya_owes.specs.Given.Effects.Effects.{effects_of}
-use Rattle.papaya_owes.specs.Given.Effects.Known.{Known}
-use Rattle.papaya_owes.specs.Given.Effects.declared.acting.Acting.TheVariants as acts
-use Rattle.papaya_owes.specs.Given.Follows.Finds.{FindsMap}
-use Rattle.papaya_owes.specs.Given.Moments.Whole.{ShowsWhole}
+use Rattle.papaya_owes.specs.Given.TablesDeclared.node.Node.{Node}
+use Rattle.papaya_owes.specs.Given.RawDeclared.machines.progress.Progress.{Progress}
+use Rattle.papaya_owes.specs.Given.RunsPresent.{slot_of_guard}
+use Rattle.papaya_owes.specs.Given.SchedulesEffects.{AtEachEffect}
+use Rattle.papaya_owes.specs.Given.SchedulesHanding.{is_call_effect}
+use Rattle.papaya_owes.specs.Given.SchedulesMoment.{UnderWay as CallThere, Moment}
+use Rattle.papaya_owes.specs.Given.SchedulesTerms.{Terms, shards_of}
+use Rattle.papaya_owes.specs.Given.SchedulesViews.{call_of}
+use Rattle.papaya_owes.specs.Given.CallersTogether.{UnderWay}
+use Rattle.papaya_owes.specs.Given.EffectsEffects.{effects_of}
+use Rattle.papaya_owes.specs.Given.EffectsKnown.{Known}
+use Rattle.papaya_owes.specs.Given.EffectsDeclared.acting.Acting.TheVariants as acts
+use Rattle.papaya_owes.specs.Given.FollowsFinds.{FindsMap}
+use Rattle.papaya_owes.specs.Given.MomentsWhole.{ShowsWhole}
 use Rattle.papaya_owes.specs.Looking.{ShowsLooking}
 use Rattle.papaya_owes.specs.Made.{ShowsMade}
 use Rattle.papaya_owes.specs.Short.{ShowsShort}
 use Rattle.papaya_owes.specs.Tables.{ShowsTables}
-use Rattle.papaya_owes.specs.Given.Settles.Counts.{ShowsCounts}
+use Rattle.papaya_owes.specs.Given.SettlesCounts.{ShowsCounts}
 use Rattle.papaya_finds.specs.Joined.{FindParts}
 use Rattle.papaya_finds.specs.Life.{StoresOne}
 use Rattle.papaya_finds.specs.Parts.{FindPlacesOf, FindAhead}
-use Rattle.papaya_owes.specs.Given.Scenes.Held.{Held, IsAt}
-use Rattle.papaya_owes.specs.Given.Scenes.Scene.{Scene, slot_of}
-use Rattle.papaya_owes.specs.Given.Scenes.Stepping.{StepLeads}
+use Rattle.papaya_owes.specs.Given.ScenesHeld.{Held, IsAt}
+use Rattle.papaya_owes.specs.Given.ScenesScene.{Scene, slot_of}
+use Rattle.papaya_owes.specs.Given.ScenesStepping.{StepLeads}
 
 -- all that a moment shows of what calls under way have made, have to count, and are
 pub record ShowsWork {K V : Type 0} (same : K → K → Bool) (name : ℕ → List ℕ) (m : Moment K V) (known : Known) (s : Scene K V) : Type 0 where

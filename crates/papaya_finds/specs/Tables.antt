@@ -1,18 +1,18 @@
 -- What waits is in order after any effects: tables that roots have passed are owed still, and what waits behind a table waits behind one that is there.
 use Rattle.std.specs.Prelude.{◌≡◌, ℕ, ◌+◌, ◌<◌, ◌≤◌, ◌==◌, nat_le, ◌&&◌, Bool, true, false, List, length, Option, Some}
 use Rattle.std.specs.List.{AllByRecursion, list_any}
-use Rattle.papaya_owes.specs.Given.Schedules.declared.effect.Effect.{Effect}
-use Rattle.papaya_owes.specs.Given.Schedules.declared.effect.Effect.TheVariants.{Linked, Promoted, Deferred}
-use Rattle.papaya_owes.specs.Given.Schedules.declared.effect.Table.{Table}
-use Rattle.papaya_owes.specs.Given.Schedules.declared.effect.Thing.TheVariants.{ATable}
-use Rattle.papaya_owes.specs.Given.Schedules.Effects.{with_effects, AtEachEffect}
-use Rattle.papaya_owes.specs.Given.Schedules.Entry.{acting, ByCall}
-use Rattle.papaya_owes.specs.Given.Schedules.Lists.{is_in}
-use Rattle.papaya_owes.specs.Given.Schedules.Moment.{MapThere, TableThere, Deferral, Moment}
-use Rattle.papaya_owes.specs.Given.Schedules.Reclaims.{is_kept}
-use Rattle.papaya_owes.specs.Given.Schedules.Things.{same_thing}
-use Rattle.papaya_owes.specs.Given.Schedules.Views.{map_at, is_there, is_stage, tables_of}
-use Rattle.papaya_owes.specs.Given.Moments.Numbers.{AreFound}
+use Rattle.papaya_owes.specs.Given.SchedulesDeclared.effect.Effect.{Effect}
+use Rattle.papaya_owes.specs.Given.SchedulesDeclared.effect.Effect.TheVariants.{Linked, Promoted, Deferred}
+use Rattle.papaya_owes.specs.Given.SchedulesDeclared.effect.Table.{Table}
+use Rattle.papaya_owes.specs.Given.SchedulesDeclared.effect.Thing.TheVariants.{ATable}
+use Rattle.papaya_owes.specs.Given.SchedulesEffects.{with_effects, AtEachEffect}
+use Rattle.papaya_owes.specs.Given.SchedulesEntry.{acting, ByCall}
+use Rattle.papaya_owes.specs.Given.SchedulesLists.{is_in}
+use Rattle.papaya_owes.specs.Given.SchedulesMoment.{MapThere, TableThere, Deferral, Moment}
+use Rattle.papaya_owes.specs.Given.SchedulesReclaims.{is_kept}
+use Rattle.papaya_owes.specs.Given.SchedulesThings.{same_thing}
+use Rattle.papaya_owes.specs.Given.SchedulesViews.{map_at, is_there, is_stage, tables_of}
+use Rattle.papaya_owes.specs.Given.MomentsNumbers.{AreFound}
 
 module _ {K V : Type 0} where
   -- a call under way owes the table

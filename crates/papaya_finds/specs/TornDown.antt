@@ -1,11 +1,11 @@
 -- Once the collector has ended each stored pair was reclaimed, once.
 use Rattle.std.specs.Prelude.{◌≡◌, ℕ, ◌≤◌, ◌==◌, true, false, List, [], length, Option, Some, None}
 use Rattle.std.specs.List.{list_any}
-use Rattle.papaya_owes.specs.Given.Schedules.declared.effect.Effect.{Effect}
-use Rattle.papaya_owes.specs.Given.Schedules.declared.effect.Effect.TheVariants.{Stored}
-use Rattle.papaya_owes.specs.Given.Schedules.Effects.{with_effects, AtEachEffect}
-use Rattle.papaya_owes.specs.Given.Schedules.Moment.{InMap, MapThere, Moment, start}
-use Rattle.papaya_owes.specs.Given.Schedules.Reclaims.{IsEmptied, IsTornDown}
+use Rattle.papaya_owes.specs.Given.SchedulesDeclared.effect.Effect.{Effect}
+use Rattle.papaya_owes.specs.Given.SchedulesDeclared.effect.Effect.TheVariants.{Stored}
+use Rattle.papaya_owes.specs.Given.SchedulesEffects.{with_effects, AtEachEffect}
+use Rattle.papaya_owes.specs.Given.SchedulesMoment.{InMap, MapThere, Moment, start}
+use Rattle.papaya_owes.specs.Given.SchedulesReclaims.{IsEmptied, IsTornDown}
 use Rattle.papaya_finds.specs.Waiting.{is_unborn, PairsArePlaced, FindsPlaced}
 
 module _ {K V : Type 0} (m : Moment K V) where

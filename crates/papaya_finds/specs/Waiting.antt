@@ -2,19 +2,19 @@
 -- a pair stands just once, and no other one does.
 use Rattle.std.specs.Prelude.{◌≡◌, ℕ, ◌+◌, ◌≤◌, ◌==◌, Bool, true, false, List, [], ◌∷◌, length, Option, if◌then◌else◌}
 use Rattle.std.specs.List.{AllByRecursion, list_any}
-use Rattle.papaya_owes.specs.Given.Runs.LifeCycle.{times}
-use Rattle.papaya_owes.specs.Given.Runs.Same.{is_same}
-use Rattle.papaya_owes.specs.Given.Schedules.declared.effect.Effect.{Effect}
-use Rattle.papaya_owes.specs.Given.Schedules.declared.effect.Effect.TheVariants.{Stored, Replaced, Removed, Deferred, Retired, Reclaimed, Ended}
-use Rattle.papaya_owes.specs.Given.Schedules.declared.effect.Thing.{Thing}
-use Rattle.papaya_owes.specs.Given.Schedules.declared.effect.Thing.TheVariants.{APair}
-use Rattle.papaya_owes.specs.Given.Schedules.After.{without_call}
-use Rattle.papaya_owes.specs.Given.Schedules.Effects.{stored_by, with_effects, AtEachEffect}
-use Rattle.papaya_owes.specs.Given.Schedules.Entry.{acting, ByCall}
-use Rattle.papaya_owes.specs.Given.Schedules.Lists.{is_in}
-use Rattle.papaya_owes.specs.Given.Schedules.Moment.{Place, Unborn, Out, Handed, Behind, Left, GivenBack, UnderWay, Deferral, Moment, start}
-use Rattle.papaya_owes.specs.Given.Schedules.Things.{same_thing}
-use Rattle.papaya_owes.specs.Given.Schedules.Views.{is_in_a_map}
+use Rattle.papaya_owes.specs.Given.RunsLifeCycle.{times}
+use Rattle.papaya_owes.specs.Given.RunsSame.{is_same}
+use Rattle.papaya_owes.specs.Given.SchedulesDeclared.effect.Effect.{Effect}
+use Rattle.papaya_owes.specs.Given.SchedulesDeclared.effect.Effect.TheVariants.{Stored, Replaced, Removed, Deferred, Retired, Reclaimed, Ended}
+use Rattle.papaya_owes.specs.Given.SchedulesDeclared.effect.Thing.{Thing}
+use Rattle.papaya_owes.specs.Given.SchedulesDeclared.effect.Thing.TheVariants.{APair}
+use Rattle.papaya_owes.specs.Given.SchedulesAfter.{without_call}
+use Rattle.papaya_owes.specs.Given.SchedulesEffects.{stored_by, with_effects, AtEachEffect}
+use Rattle.papaya_owes.specs.Given.SchedulesEntry.{acting, ByCall}
+use Rattle.papaya_owes.specs.Given.SchedulesLists.{is_in}
+use Rattle.papaya_owes.specs.Given.SchedulesMoment.{Place, Unborn, Out, Handed, Behind, Left, GivenBack, UnderWay, Deferral, Moment, start}
+use Rattle.papaya_owes.specs.Given.SchedulesThings.{same_thing}
+use Rattle.papaya_owes.specs.Given.SchedulesViews.{is_in_a_map}
 
 abbrev pub is_unborn : Place → Bool
 is_unborn Unborn = true

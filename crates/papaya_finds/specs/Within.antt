@@ -2,23 +2,23 @@
 -- had. So all that waits does so in order.
 use Rattle.std.specs.Prelude.{◌≡◌, ℕ, ◌+◌, ◌<◌, ◌≤◌, ◌==◌, Bool, true, List, [], length, Option, Some}
 use Rattle.std.specs.List.{AllByRecursion, list_any}
-use Rattle.papaya_owes.specs.Given.Schedules.declared.effect.Effect.{Effect}
-use Rattle.papaya_owes.specs.Given.Schedules.declared.effect.Table.{Table}
-use Rattle.papaya_owes.specs.Given.Schedules.declared.event.Event.{Event}
-use Rattle.papaya_owes.specs.Given.Schedules.declared.event.Event.TheVariants.{Stop}
-use Rattle.papaya_owes.specs.Given.Schedules.declared.outcome.Outcome.{Outcome}
-use Rattle.papaya_owes.specs.Given.Schedules.declared.outcome.Outcome.TheVariants.{Done}
-use Rattle.papaya_owes.specs.Given.Schedules.After.{moment, after}
-use Rattle.papaya_owes.specs.Given.Schedules.Beginning.{at_work}
-use Rattle.papaya_owes.specs.Given.Schedules.Coming.{is_ready}
-use Rattle.papaya_owes.specs.Given.Schedules.Effects.{with_effects, AtEachEffect}
-use Rattle.papaya_owes.specs.Given.Schedules.Entry.{Entry, caller_of, acted_on}
-use Rattle.papaya_owes.specs.Given.Schedules.Handing.{MovesOn}
-use Rattle.papaya_owes.specs.Given.Schedules.InTurn.{ComesRight}
-use Rattle.papaya_owes.specs.Given.Schedules.Lives.{Finds}
-use Rattle.papaya_owes.specs.Given.Schedules.Moment.{InMap, Deferral, UnderWay, MapThere, Moment, start}
-use Rattle.papaya_owes.specs.Given.Schedules.Terms.{Terms}
-use Rattle.papaya_owes.specs.Given.Schedules.Views.{call_of, tables_of}
+use Rattle.papaya_owes.specs.Given.SchedulesDeclared.effect.Effect.{Effect}
+use Rattle.papaya_owes.specs.Given.SchedulesDeclared.effect.Table.{Table}
+use Rattle.papaya_owes.specs.Given.SchedulesDeclared.event.Event.{Event}
+use Rattle.papaya_owes.specs.Given.SchedulesDeclared.event.Event.TheVariants.{Stop}
+use Rattle.papaya_owes.specs.Given.SchedulesDeclared.outcome.Outcome.{Outcome}
+use Rattle.papaya_owes.specs.Given.SchedulesDeclared.outcome.Outcome.TheVariants.{Done}
+use Rattle.papaya_owes.specs.Given.SchedulesAfter.{moment, after}
+use Rattle.papaya_owes.specs.Given.SchedulesBeginning.{at_work}
+use Rattle.papaya_owes.specs.Given.SchedulesComing.{is_ready}
+use Rattle.papaya_owes.specs.Given.SchedulesEffects.{with_effects, AtEachEffect}
+use Rattle.papaya_owes.specs.Given.SchedulesEntry.{Entry, caller_of, acted_on}
+use Rattle.papaya_owes.specs.Given.SchedulesHanding.{MovesOn}
+use Rattle.papaya_owes.specs.Given.SchedulesInTurn.{ComesRight}
+use Rattle.papaya_owes.specs.Given.SchedulesLives.{Finds}
+use Rattle.papaya_owes.specs.Given.SchedulesMoment.{InMap, Deferral, UnderWay, MapThere, Moment, start}
+use Rattle.papaya_owes.specs.Given.SchedulesTerms.{Terms}
+use Rattle.papaya_owes.specs.Given.SchedulesViews.{call_of, tables_of}
 use Rattle.papaya_finds.specs.Bounded.{TablesApart}
 use Rattle.papaya_finds.specs.Endings.{AreNamed}
 use Rattle.papaya_finds.specs.Events.{EndedOwesNone}

@@ -4,27 +4,27 @@ use Rattle.std.proofs.Common.{refl, ap, sym, subst, ◌∙◌}
 use Rattle.std.proofs.lemmas.Bool.{eq-eqb}
 use Rattle.std.proofs.lemmas.List.{append_assoc, append-nil}
 use Rattle.std.proofs.lemmas.List.Concat.{flat_map-cons}
-use Rattle.papaya_legal.specs.Given.Runs.Same.{is_same}
-use Rattle.papaya_legal.specs.Given.Schedules.declared.effect.Effect.{Effect}
-use Rattle.papaya_legal.specs.Given.Schedules.declared.effect.Effect.TheVariants as effect
-use Rattle.papaya_legal.specs.Given.Schedules.declared.effect.Thing.{Thing}
-use Rattle.papaya_legal.specs.Given.Schedules.declared.effect.Thing.TheVariants.{APair, ATable}
-use Rattle.papaya_legal.specs.Given.Schedules.Effects.{call_by, out_by, with_effect, with_effects}
-use Rattle.papaya_legal.specs.Given.Schedules.Entry.{IfCall}
-use Rattle.papaya_legal.specs.Given.Schedules.Lists.{without_one}
-use Rattle.papaya_legal.specs.Given.Schedules.Moment.{UnderWay as CallThere, Moment}
-use Rattle.papaya_legal.specs.Given.Schedules.Things.{same_thing}
-use Rattle.papaya_legal.specs.Given.Schedules.Views.{call_of}
-use Rattle.papaya_legal.proofs.Given.Follows.Calling.{apart_back, is_same_is}
-use Rattle.papaya_legal.proofs.Given.Follows.Calls.{changed, changed_same, of_same}
-use Rattle.papaya_legal.proofs.Given.Follows.Steps.{one_of}
-use Rattle.papaya_legal.proofs.Given.Hands.Calling.{caller_is}
-use Rattle.papaya_legal.proofs.Given.Spots.Unreclaimed.{same_itself}
-use Rattle.papaya_legal.proofs.Given.Histories.Begun.{effects_begun}
-use Rattle.papaya_legal.proofs.Given.Histories.Changes.{acted_on}
-use Rattle.papaya_legal.proofs.Given.Rows.Lists.{both_some, found_alike, unseen}
-use Rattle.papaya_legal.proofs.Given.Settles.Gains.{none_changed, others_stay}
-use Rattle.papaya_legal.proofs.Given.Settles.Owing.{leaves}
+use Rattle.papaya_legal.specs.Given.RunsSame.{is_same}
+use Rattle.papaya_legal.specs.Given.SchedulesDeclared.effect.Effect.{Effect}
+use Rattle.papaya_legal.specs.Given.SchedulesDeclared.effect.Effect.TheVariants as effect
+use Rattle.papaya_legal.specs.Given.SchedulesDeclared.effect.Thing.{Thing}
+use Rattle.papaya_legal.specs.Given.SchedulesDeclared.effect.Thing.TheVariants.{APair, ATable}
+use Rattle.papaya_legal.specs.Given.SchedulesEffects.{call_by, out_by, with_effect, with_effects}
+use Rattle.papaya_legal.specs.Given.SchedulesEntry.{IfCall}
+use Rattle.papaya_legal.specs.Given.SchedulesLists.{without_one}
+use Rattle.papaya_legal.specs.Given.SchedulesMoment.{UnderWay as CallThere, Moment}
+use Rattle.papaya_legal.specs.Given.SchedulesThings.{same_thing}
+use Rattle.papaya_legal.specs.Given.SchedulesViews.{call_of}
+use Rattle.papaya_legal.proofs.Given.FollowsCalling.{apart_back, is_same_is}
+use Rattle.papaya_legal.proofs.Given.FollowsCalls.{changed, changed_same, of_same}
+use Rattle.papaya_legal.proofs.Given.FollowsSteps.{one_of}
+use Rattle.papaya_legal.proofs.Given.HandsCalling.{caller_is}
+use Rattle.papaya_legal.proofs.Given.SpotsUnreclaimed.{same_itself}
+use Rattle.papaya_legal.proofs.Given.HistoriesBegun.{effects_begun}
+use Rattle.papaya_legal.proofs.Given.HistoriesChanges.{acted_on}
+use Rattle.papaya_legal.proofs.Given.RowsLists.{both_some, found_alike, unseen}
+use Rattle.papaya_legal.proofs.Given.SettlesGains.{none_changed, others_stay}
+use Rattle.papaya_legal.proofs.Given.SettlesOwing.{leaves}
 use Rattle.papaya_folded.specs.Folded.{EffectsFold, HandInOrder, IsOwedFirst, handed_in, if_its, out_in}
 
 -- where first ones come to this, and later ones to that, both do

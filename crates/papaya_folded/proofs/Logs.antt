@@ -2,23 +2,23 @@
 use Rattle.std.specs.Prelude.{◌≡◌, ◌⊎◌, ◌≤◌, ◌<◌, ℕ, nat_lt, Bool, true, false, List, [], ◌∷◌, ◌++◌, flat_map, length, Option, Some, None, if◌then◌else◌}
 use Rattle.std.proofs.Common.{refl, ap, sym, subst, ◌∙◌, arith, inl, inr}
 use Rattle.std.proofs.lemmas.List.{append-nil}
-use Rattle.papaya_legal.specs.Given.Schedules.declared.effect.Effect.{Effect}
-use Rattle.papaya_legal.specs.Given.Schedules.declared.effect.Effect.TheVariants as effect
-use Rattle.papaya_legal.specs.Given.Schedules.declared.effect.Table.{Table}
-use Rattle.papaya_legal.specs.Given.Schedules.declared.effect.Thing.{Thing}
-use Rattle.papaya_legal.specs.Given.Schedules.declared.outcome.Outcome.{Outcome}
-use Rattle.papaya_legal.specs.Given.Schedules.After.{AtEachEvent, moment}
-use Rattle.papaya_legal.specs.Given.Schedules.Beginning.{at_work}
-use Rattle.papaya_legal.specs.Given.Schedules.Effects.{worked}
-use Rattle.papaya_legal.specs.Given.Schedules.Entry.{ByCall, Entry, IfCall, acted_on, acting, caller_of}
-use Rattle.papaya_legal.specs.Given.Schedules.Handing.{LeavesOf, comes_clear, gives_all, moments_of}
-use Rattle.papaya_legal.specs.Given.Schedules.Growing.{only_looks}
-use Rattle.papaya_legal.specs.Given.Schedules.Lives.{CallFinds, Finds, MayDefer}
-use Rattle.papaya_legal.specs.Given.Schedules.Moment.{UnderWay as CallThere, Moment}
-use Rattle.papaya_legal.specs.Given.Schedules.Terms.{Terms}
-use Rattle.papaya_legal.specs.Given.Schedules.Views.{call_of}
-use Rattle.papaya_legal.proofs.Given.Histories.Logs.{events_are}
-use Rattle.papaya_legal.proofs.Given.Finds.Life.{each_so}
+use Rattle.papaya_legal.specs.Given.SchedulesDeclared.effect.Effect.{Effect}
+use Rattle.papaya_legal.specs.Given.SchedulesDeclared.effect.Effect.TheVariants as effect
+use Rattle.papaya_legal.specs.Given.SchedulesDeclared.effect.Table.{Table}
+use Rattle.papaya_legal.specs.Given.SchedulesDeclared.effect.Thing.{Thing}
+use Rattle.papaya_legal.specs.Given.SchedulesDeclared.outcome.Outcome.{Outcome}
+use Rattle.papaya_legal.specs.Given.SchedulesAfter.{AtEachEvent, moment}
+use Rattle.papaya_legal.specs.Given.SchedulesBeginning.{at_work}
+use Rattle.papaya_legal.specs.Given.SchedulesEffects.{worked}
+use Rattle.papaya_legal.specs.Given.SchedulesEntry.{ByCall, Entry, IfCall, acted_on, acting, caller_of}
+use Rattle.papaya_legal.specs.Given.SchedulesHanding.{LeavesOf, comes_clear, gives_all, moments_of}
+use Rattle.papaya_legal.specs.Given.SchedulesGrowing.{only_looks}
+use Rattle.papaya_legal.specs.Given.SchedulesLives.{CallFinds, Finds, MayDefer}
+use Rattle.papaya_legal.specs.Given.SchedulesMoment.{UnderWay as CallThere, Moment}
+use Rattle.papaya_legal.specs.Given.SchedulesTerms.{Terms}
+use Rattle.papaya_legal.specs.Given.SchedulesViews.{call_of}
+use Rattle.papaya_legal.proofs.Given.HistoriesLogs.{events_are}
+use Rattle.papaya_legal.proofs.Given.FindsLife.{each_so}
 use Rattle.papaya_folded.specs.Folded.{CallsFold, DeferralsAreRight, EndedCallsFold, HandsInOrder, handed, handed_in, if_its, out_in, since, took}
 use Rattle.papaya_folded.proofs.Effects.{all_go, joined}
 use Rattle.papaya_folded.proofs.Seen.{begun_was, calls_seen}

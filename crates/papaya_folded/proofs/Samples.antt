@@ -1,22 +1,22 @@
 -- What the definitions of what calls hand over refuse.
 use Rattle.std.specs.Prelude.{◌≡◌, ℕ, true, false, List, [], ◌∷◌, Some}
 use Rattle.std.proofs.Common.{refl, arith}
-use Rattle.papaya_legal.specs.Given.Tables.declared.resize_mode.ResizeMode.TheVariants.{Blocking}
-use Rattle.papaya_legal.specs.Given.Schedules.declared.call.Answer.TheVariants.{Completed}
-use Rattle.papaya_legal.specs.Given.Schedules.declared.call.Call.TheVariants.{Clear}
-use Rattle.papaya_legal.specs.Given.Schedules.declared.effect.Effect.{Effect}
-use Rattle.papaya_legal.specs.Given.Schedules.declared.effect.Effect.TheVariants.{Deferred, Removed, Retired}
-use Rattle.papaya_legal.specs.Given.Schedules.declared.effect.Table.{Table}
-use Rattle.papaya_legal.specs.Given.Schedules.declared.effect.Thing.TheVariants.{APair, ATable}
-use Rattle.papaya_legal.specs.Given.Schedules.declared.event.Event.TheVariants.{Begin, MakeMap, Step}
-use Rattle.papaya_legal.specs.Given.Schedules.declared.outcome.Outcome.TheVariants.{Answered, Done, Goes}
-use Rattle.papaya_legal.specs.Given.Schedules.Beginning.{fresh_call}
-use Rattle.papaya_legal.specs.Given.Schedules.Effects.{with_effects}
-use Rattle.papaya_legal.specs.Given.Schedules.Entry.{Entry, IfCall}
-use Rattle.papaya_legal.specs.Given.Schedules.Handing.{IsClear}
-use Rattle.papaya_legal.specs.Given.Schedules.Lives.{MayDefer}
-use Rattle.papaya_legal.specs.Given.Schedules.Moment.{Moment, start}
-use Rattle.papaya_legal.specs.Given.Schedules.Views.{call_of}
+use Rattle.papaya_legal.specs.Given.TablesDeclared.resize_mode.ResizeMode.TheVariants.{Blocking}
+use Rattle.papaya_legal.specs.Given.SchedulesDeclared.call.Answer.TheVariants.{Completed}
+use Rattle.papaya_legal.specs.Given.SchedulesDeclared.call.Call.TheVariants.{Clear}
+use Rattle.papaya_legal.specs.Given.SchedulesDeclared.effect.Effect.{Effect}
+use Rattle.papaya_legal.specs.Given.SchedulesDeclared.effect.Effect.TheVariants.{Deferred, Removed, Retired}
+use Rattle.papaya_legal.specs.Given.SchedulesDeclared.effect.Table.{Table}
+use Rattle.papaya_legal.specs.Given.SchedulesDeclared.effect.Thing.TheVariants.{APair, ATable}
+use Rattle.papaya_legal.specs.Given.SchedulesDeclared.event.Event.TheVariants.{Begin, MakeMap, Step}
+use Rattle.papaya_legal.specs.Given.SchedulesDeclared.outcome.Outcome.TheVariants.{Answered, Done, Goes}
+use Rattle.papaya_legal.specs.Given.SchedulesBeginning.{fresh_call}
+use Rattle.papaya_legal.specs.Given.SchedulesEffects.{with_effects}
+use Rattle.papaya_legal.specs.Given.SchedulesEntry.{Entry, IfCall}
+use Rattle.papaya_legal.specs.Given.SchedulesHanding.{IsClear}
+use Rattle.papaya_legal.specs.Given.SchedulesLives.{MayDefer}
+use Rattle.papaya_legal.specs.Given.SchedulesMoment.{Moment, start}
+use Rattle.papaya_legal.specs.Given.SchedulesViews.{call_of}
 use Rattle.papaya_folded.specs.Folded.{HandInOrder, HandsAllOver, handed, since, took}
 
 abbrev own : List ℕ

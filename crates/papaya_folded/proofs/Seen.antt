@@ -1,22 +1,22 @@
 -- What a call owes, and by which event it began, stays as an event is over; and a call that is there where one has begun what it begins was there, or owes nothing.
 use Rattle.std.specs.Prelude.{◌≡◌, ◌⊎◌, ℕ, ◌+◌, Bool, true, false, cond, not, List, [], ◌∷◌, find, map, Option, Some, None, if◌then◌else◌}
 use Rattle.std.proofs.Common.{refl, ap, sym, subst, ◌∙◌, inl, inr}
-use Rattle.papaya_legal.specs.Given.Runs.Same.{is_same}
-use Rattle.papaya_legal.specs.Given.Schedules.declared.call.Call.{Call}
-use Rattle.papaya_legal.specs.Given.Schedules.declared.call.Reply.{Reply}
-use Rattle.papaya_legal.specs.Given.Schedules.declared.effect.Thing.{Thing}
-use Rattle.papaya_legal.specs.Given.Schedules.declared.event.Event.{Event}
-use Rattle.papaya_legal.specs.Given.Schedules.declared.event.Event.TheVariants.{Begin, MakeMap, OneCall, Replied, Stop}
-use Rattle.papaya_legal.specs.Given.Schedules.declared.outcome.Outcome.{Outcome}
-use Rattle.papaya_legal.specs.Given.Schedules.declared.outcome.Outcome.TheVariants.{Asks, Done, Goes}
-use Rattle.papaya_legal.specs.Given.Schedules.After.{asks_on, calls_on, comes_to, replied, stepped, without_call}
-use Rattle.papaya_legal.specs.Given.Schedules.Beginning.{begun, fresh_call, with_call}
-use Rattle.papaya_legal.specs.Given.Schedules.Entry.{caller_of, ends_call, is_busy, nameless}
-use Rattle.papaya_legal.specs.Given.Schedules.Moment.{Asking, Moment, Stands, UnderWay as CallThere}
-use Rattle.papaya_legal.specs.Given.Schedules.Views.{call_of, number_of}
-use Rattle.papaya_legal.proofs.Given.Follows.Calling.{is_same_is}
-use Rattle.papaya_legal.proofs.Given.Follows.Steps.{one_of}
-use Rattle.papaya_legal.proofs.Given.Rows.Lists.{both_some, found_alike, unseen}
+use Rattle.papaya_legal.specs.Given.RunsSame.{is_same}
+use Rattle.papaya_legal.specs.Given.SchedulesDeclared.call.Call.{Call}
+use Rattle.papaya_legal.specs.Given.SchedulesDeclared.call.Reply.{Reply}
+use Rattle.papaya_legal.specs.Given.SchedulesDeclared.effect.Thing.{Thing}
+use Rattle.papaya_legal.specs.Given.SchedulesDeclared.event.Event.{Event}
+use Rattle.papaya_legal.specs.Given.SchedulesDeclared.event.Event.TheVariants.{Begin, MakeMap, OneCall, Replied, Stop}
+use Rattle.papaya_legal.specs.Given.SchedulesDeclared.outcome.Outcome.{Outcome}
+use Rattle.papaya_legal.specs.Given.SchedulesDeclared.outcome.Outcome.TheVariants.{Asks, Done, Goes}
+use Rattle.papaya_legal.specs.Given.SchedulesAfter.{asks_on, calls_on, comes_to, replied, stepped, without_call}
+use Rattle.papaya_legal.specs.Given.SchedulesBeginning.{begun, fresh_call, with_call}
+use Rattle.papaya_legal.specs.Given.SchedulesEntry.{caller_of, ends_call, is_busy, nameless}
+use Rattle.papaya_legal.specs.Given.SchedulesMoment.{Asking, Moment, Stands, UnderWay as CallThere}
+use Rattle.papaya_legal.specs.Given.SchedulesViews.{call_of, number_of}
+use Rattle.papaya_legal.proofs.Given.FollowsCalling.{is_same_is}
+use Rattle.papaya_legal.proofs.Given.FollowsSteps.{one_of}
+use Rattle.papaya_legal.proofs.Given.RowsLists.{both_some, found_alike, unseen}
 
 -- what is seen of a call
 record Seen : Type 0 where

@@ -1,28 +1,28 @@
 -- The effects of each step of a call hand over in order, and so do those of an event by which it goes on.
 use Rattle.std.specs.Prelude.{◌≡◌, ℕ, Bool, true, List, [], ◌∷◌, ◌++◌, Option, Some, None}
 use Rattle.std.proofs.Common.{refl, ap, sym, subst, ◌∙◌}
-use Rattle.papaya_legal.specs.Given.Tables.declared.node.Node.{Node}
-use Rattle.papaya_legal.specs.Given.Raw.declared.machines.progress.Progress.{Progress}
-use Rattle.papaya_legal.specs.Given.Schedules.declared.effect.Effect.{Effect}
-use Rattle.papaya_legal.specs.Given.Schedules.declared.effect.Effect.TheVariants as effect
-use Rattle.papaya_legal.specs.Given.Schedules.declared.effect.Thing.{Thing}
-use Rattle.papaya_legal.specs.Given.Schedules.After.{moment}
-use Rattle.papaya_legal.specs.Given.Schedules.Beginning.{at_work}
-use Rattle.papaya_legal.specs.Given.Schedules.Effects.{with_effect, with_effects}
-use Rattle.papaya_legal.specs.Given.Schedules.Entry.{Entry, IfCall, acted_on, acting, caller_of}
-use Rattle.papaya_legal.specs.Given.Schedules.Moment.{UnderWay as CallThere, Moment}
-use Rattle.papaya_legal.specs.Given.Schedules.Views.{call_of}
-use Rattle.papaya_legal.specs.Given.Effects.Effects.{effects_of}
-use Rattle.papaya_legal.specs.Given.Effects.declared.acting.Acting.TheVariants as acts
-use Rattle.papaya_legal.specs.Given.Callers.Together.{UnderWay}
-use Rattle.papaya_legal.specs.Given.Effects.Known.{Known}
-use Rattle.papaya_legal.specs.Given.Moments.Whole.{ShowsWhole}
-use Rattle.papaya_legal.specs.Given.Histories.InEvent.{here_of}
-use Rattle.papaya_legal.specs.Given.Settles.Hand.{in_hand}
-use Rattle.papaya_legal.specs.Given.Settles.Owing.{AllLeave, HandsFirst, HandsOver, KeepsOwed, OwesGo, Passes, PutsOver, TakesOut, leaves_owed}
-use Rattle.papaya_legal.proofs.Given.Settles.Hand.All.{calls_go_in_hand}
-use Rattle.papaya_legal.specs.Given.Kept.Kept.{ShowsKept}
-use Rattle.papaya_legal.proofs.Given.Kept.Calls.{own_made}
+use Rattle.papaya_legal.specs.Given.TablesDeclared.node.Node.{Node}
+use Rattle.papaya_legal.specs.Given.RawDeclared.machines.progress.Progress.{Progress}
+use Rattle.papaya_legal.specs.Given.SchedulesDeclared.effect.Effect.{Effect}
+use Rattle.papaya_legal.specs.Given.SchedulesDeclared.effect.Effect.TheVariants as effect
+use Rattle.papaya_legal.specs.Given.SchedulesDeclared.effect.Thing.{Thing}
+use Rattle.papaya_legal.specs.Given.SchedulesAfter.{moment}
+use Rattle.papaya_legal.specs.Given.SchedulesBeginning.{at_work}
+use Rattle.papaya_legal.specs.Given.SchedulesEffects.{with_effect, with_effects}
+use Rattle.papaya_legal.specs.Given.SchedulesEntry.{Entry, IfCall, acted_on, acting, caller_of}
+use Rattle.papaya_legal.specs.Given.SchedulesMoment.{UnderWay as CallThere, Moment}
+use Rattle.papaya_legal.specs.Given.SchedulesViews.{call_of}
+use Rattle.papaya_legal.specs.Given.EffectsEffects.{effects_of}
+use Rattle.papaya_legal.specs.Given.EffectsDeclared.acting.Acting.TheVariants as acts
+use Rattle.papaya_legal.specs.Given.CallersTogether.{UnderWay}
+use Rattle.papaya_legal.specs.Given.EffectsKnown.{Known}
+use Rattle.papaya_legal.specs.Given.MomentsWhole.{ShowsWhole}
+use Rattle.papaya_legal.specs.Given.HistoriesInEvent.{here_of}
+use Rattle.papaya_legal.specs.Given.SettlesHand.{in_hand}
+use Rattle.papaya_legal.specs.Given.SettlesOwing.{AllLeave, HandsFirst, HandsOver, KeepsOwed, OwesGo, Passes, PutsOver, TakesOut, leaves_owed}
+use Rattle.papaya_legal.proofs.Given.SettlesHand.All.{calls_go_in_hand}
+use Rattle.papaya_legal.specs.Given.KeptKept.{ShowsKept}
+use Rattle.papaya_legal.proofs.Given.KeptCalls.{own_made}
 use Rattle.papaya_legal.specs.CallEvents.{InCallEvent}
 use Rattle.papaya_legal.specs.Chains.{CallCome, CallSteps}
 use Rattle.papaya_legal.proofs.Calls.{call_events_go_on_so}
@@ -30,10 +30,10 @@ use Rattle.papaya_legal.proofs.Chains.{chains_keep}
 use Rattle.papaya_legal.proofs.Slots.{each_join}
 use Rattle.papaya_folded.specs.Folded.{HandInOrder, HandsInOrder, IsOwedFirst, handed_in}
 use Rattle.papaya_folded.specs.Steps.{CallEventsHandInOrder, StepsHandInOrder}
-use Rattle.papaya_legal.specs.Given.Scenes.Held.{Held, IsAt}
-use Rattle.papaya_legal.specs.Given.Scenes.Scene.{Scene}
-use Rattle.papaya_legal.specs.Given.Scenes.Stepping.{StepLeads}
-use Rattle.papaya_legal.specs.Given.Schedules.Transition.{past}
+use Rattle.papaya_legal.specs.Given.ScenesHeld.{Held, IsAt}
+use Rattle.papaya_legal.specs.Given.ScenesScene.{Scene}
+use Rattle.papaya_legal.specs.Given.ScenesStepping.{StepLeads}
+use Rattle.papaya_legal.specs.Given.SchedulesTransition.{past}
 
 -- what leaves all that is owed hands nothing over
 none_in : (f : Effect) → leaves_owed f ≡ true → handed_in f ≡ []

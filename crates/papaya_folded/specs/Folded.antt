@@ -1,20 +1,20 @@
 -- What calls take out of their maps, and what they hand over: effect by effect, and over all events of a call.
 use Rattle.std.specs.Prelude.{◌≡◌, ℕ, nat_lt, true, List, [], ◌∷◌, ◌++◌, flat_map, length, Option, Some, None, if◌then◌else◌}
-use Rattle.papaya_legal.specs.Given.Runs.Same.{is_same}
-use Rattle.papaya_legal.specs.Given.Schedules.declared.effect.Effect.{Effect}
-use Rattle.papaya_legal.specs.Given.Schedules.declared.effect.Effect.TheVariants.{Deferred, Retired}
-use Rattle.papaya_legal.specs.Given.Schedules.declared.effect.Table.{Table}
-use Rattle.papaya_legal.specs.Given.Schedules.declared.effect.Thing.{Thing}
-use Rattle.papaya_legal.specs.Given.Schedules.declared.effect.Thing.TheVariants.{APair}
-use Rattle.papaya_legal.specs.Given.Schedules.After.{AtEachEvent, moment}
-use Rattle.papaya_legal.specs.Given.Schedules.Beginning.{at_work}
-use Rattle.papaya_legal.specs.Given.Schedules.Effects.{AtEachEffect, out_by, with_effect, with_effects, worked}
-use Rattle.papaya_legal.specs.Given.Schedules.Entry.{ByCall, Entry, IfCall, acted_on, acting, caller_of}
-use Rattle.papaya_legal.specs.Given.Schedules.Handing.{MovesOn, comes_clear}
-use Rattle.papaya_legal.specs.Given.Schedules.Lives.{MayDefer}
-use Rattle.papaya_legal.specs.Given.Schedules.Moment.{UnderWay as CallThere, Moment}
-use Rattle.papaya_legal.specs.Given.Schedules.Terms.{Terms}
-use Rattle.papaya_legal.specs.Given.Schedules.Views.{call_of}
+use Rattle.papaya_legal.specs.Given.RunsSame.{is_same}
+use Rattle.papaya_legal.specs.Given.SchedulesDeclared.effect.Effect.{Effect}
+use Rattle.papaya_legal.specs.Given.SchedulesDeclared.effect.Effect.TheVariants.{Deferred, Retired}
+use Rattle.papaya_legal.specs.Given.SchedulesDeclared.effect.Table.{Table}
+use Rattle.papaya_legal.specs.Given.SchedulesDeclared.effect.Thing.{Thing}
+use Rattle.papaya_legal.specs.Given.SchedulesDeclared.effect.Thing.TheVariants.{APair}
+use Rattle.papaya_legal.specs.Given.SchedulesAfter.{AtEachEvent, moment}
+use Rattle.papaya_legal.specs.Given.SchedulesBeginning.{at_work}
+use Rattle.papaya_legal.specs.Given.SchedulesEffects.{AtEachEffect, out_by, with_effect, with_effects, worked}
+use Rattle.papaya_legal.specs.Given.SchedulesEntry.{ByCall, Entry, IfCall, acted_on, acting, caller_of}
+use Rattle.papaya_legal.specs.Given.SchedulesHanding.{MovesOn, comes_clear}
+use Rattle.papaya_legal.specs.Given.SchedulesLives.{MayDefer}
+use Rattle.papaya_legal.specs.Given.SchedulesMoment.{UnderWay as CallThere, Moment}
+use Rattle.papaya_legal.specs.Given.SchedulesTerms.{Terms}
+use Rattle.papaya_legal.specs.Given.SchedulesViews.{call_of}
 
 -- what an effect hands over
 abbrev pub handed_in : Effect → List Thing

@@ -1,24 +1,24 @@
 -- What is promised of each step of a call, and of each event by which one goes on: it hands over in order.
 use Rattle.std.specs.Prelude.{◌≡◌, ℕ, Bool, List, [], ◌++◌, Some}
-use Rattle.papaya_legal.specs.Given.Tables.declared.node.Node.{Node}
-use Rattle.papaya_legal.specs.Given.Raw.declared.machines.progress.Progress.{Progress}
-use Rattle.papaya_legal.specs.Given.Schedules.After.{moment}
-use Rattle.papaya_legal.specs.Given.Schedules.Beginning.{at_work}
-use Rattle.papaya_legal.specs.Given.Schedules.Entry.{Entry, acted_on}
-use Rattle.papaya_legal.specs.Given.Schedules.Moment.{UnderWay as CallThere, Moment}
-use Rattle.papaya_legal.specs.Given.Schedules.Terms.{Terms}
-use Rattle.papaya_legal.specs.Given.Callers.Together.{UnderWay}
-use Rattle.papaya_legal.specs.Given.Effects.Effects.{effects_of}
-use Rattle.papaya_legal.specs.Given.Effects.Known.{Known}
-use Rattle.papaya_legal.specs.Given.Effects.declared.acting.Acting.TheVariants as acts
-use Rattle.papaya_legal.specs.Given.Moments.Whole.{ShowsWhole}
-use Rattle.papaya_legal.specs.Given.Kept.Kept.{ShowsKept}
+use Rattle.papaya_legal.specs.Given.TablesDeclared.node.Node.{Node}
+use Rattle.papaya_legal.specs.Given.RawDeclared.machines.progress.Progress.{Progress}
+use Rattle.papaya_legal.specs.Given.SchedulesAfter.{moment}
+use Rattle.papaya_legal.specs.Given.SchedulesBeginning.{at_work}
+use Rattle.papaya_legal.specs.Given.SchedulesEntry.{Entry, acted_on}
+use Rattle.papaya_legal.specs.Given.SchedulesMoment.{UnderWay as CallThere, Moment}
+use Rattle.papaya_legal.specs.Given.SchedulesTerms.{Terms}
+use Rattle.papaya_legal.specs.Given.CallersTogether.{UnderWay}
+use Rattle.papaya_legal.specs.Given.EffectsEffects.{effects_of}
+use Rattle.papaya_legal.specs.Given.EffectsKnown.{Known}
+use Rattle.papaya_legal.specs.Given.EffectsDeclared.acting.Acting.TheVariants as acts
+use Rattle.papaya_legal.specs.Given.MomentsWhole.{ShowsWhole}
+use Rattle.papaya_legal.specs.Given.KeptKept.{ShowsKept}
 use Rattle.papaya_legal.specs.CallEvents.{InCallEvent}
 use Rattle.papaya_legal.specs.Chains.{CallCome, CallSteps, Chain}
 use Rattle.papaya_folded.specs.Folded.{HandInOrder, HandsInOrder}
-use Rattle.papaya_legal.specs.Given.Scenes.Held.{Held, IsAt}
-use Rattle.papaya_legal.specs.Given.Scenes.Scene.{Scene}
-use Rattle.papaya_legal.specs.Given.Scenes.Stepping.{StepLeads}
+use Rattle.papaya_legal.specs.Given.ScenesHeld.{Held, IsAt}
+use Rattle.papaya_legal.specs.Given.ScenesScene.{Scene}
+use Rattle.papaya_legal.specs.Given.ScenesStepping.{StepLeads}
 
 module _ (K V : Type 0) (same : K → K → Bool) (hash : ℕ → K → ℕ) where
   -- The promises: the effects of a step of a call, of whatever kind, hand over in order;

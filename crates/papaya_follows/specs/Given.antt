@@ -1,26 +1,140 @@
 -- The words of the crates below, given on to the crates above: these list this crate in place of those.
-pub use Rattle.papaya_scenes.specs.Given.SeizeWords
-pub use Rattle.papaya_scenes.specs.Given.Seize
-pub use Rattle.papaya_scenes.specs.Given.SeizeWaiting
-pub use Rattle.papaya_scenes.specs.Given.SeizeSets
-pub use Rattle.papaya_scenes.specs.Given.SeizeEnds
-pub use Rattle.papaya_scenes.specs.Given.SeizeAlone
-pub use Rattle.papaya_scenes.specs.Given.Tables
-pub use Rattle.papaya_scenes.specs.Given.Resize
-pub use Rattle.papaya_scenes.specs.Given.Sweeps
-pub use Rattle.papaya_scenes.specs.Given.Reserves
-pub use Rattle.papaya_scenes.specs.Given.Raw
-pub use Rattle.papaya_scenes.specs.Given.Rule
-pub use Rattle.papaya_scenes.specs.Given.Points
-pub use Rattle.papaya_scenes.specs.Given.Late
-pub use Rattle.papaya_scenes.specs.Given.Tells
-pub use Rattle.papaya_scenes.specs.Given.Teller
-pub use Rattle.papaya_scenes.specs.Given.Callers
-pub use Rattle.papaya_scenes.specs.Given.Finishes
-pub use Rattle.papaya_effects.specs.Given.Runs
-pub use Rattle.papaya_effects.specs.Given.Schedules
-pub use Rattle.papaya_effects.specs as Effects
-pub use Rattle.papaya_scenes.specs as Scenes
-pub use Rattle.papaya_scenes.specs.Given.Alone
-pub use Rattle.papaya_scenes.specs.Given.Reclaims
-pub use Rattle.papaya_scenes.specs.Given.SeizeReclaims
+pub use Rattle.papaya_scenes.specs.Given.SeizeWords.Mem as SeizeWordsMem
+pub use Rattle.papaya_scenes.specs.Given.SeizeWords.Op as SeizeWordsOp
+pub use Rattle.papaya_scenes.specs.Given.SeizeWords.Plan as SeizeWordsPlan
+pub use Rattle.papaya_scenes.specs.Given.SeizeWords.Word as SeizeWordsWord
+pub use Rattle.papaya_scenes.specs.Given.SeizeWords.declared as SeizeWordsDeclared
+pub use Rattle.papaya_scenes.specs.Given.Seize.Defer as SeizeDefer
+pub use Rattle.papaya_scenes.specs.Given.Seize.Enter as SeizeEnter
+pub use Rattle.papaya_scenes.specs.Given.Seize.Law as SeizeLaw
+pub use Rattle.papaya_scenes.specs.Given.Seize.Leave as SeizeLeave
+pub use Rattle.papaya_scenes.specs.Given.Seize.Register as SeizeRegister
+pub use Rattle.papaya_scenes.specs.Given.Seize.Sequence as SeizeSequence
+pub use Rattle.papaya_scenes.specs.Given.Seize.Settle as SeizeSettle
+pub use Rattle.papaya_scenes.specs.Given.Seize.World as SeizeWorld
+pub use Rattle.papaya_scenes.specs.Given.Seize.declared as SeizeDeclared
+pub use Rattle.papaya_scenes.specs.Given.SeizeWaiting.Held as SeizeWaitingHeld
+pub use Rattle.papaya_scenes.specs.Given.Tables.Chunks as TablesChunks
+pub use Rattle.papaya_scenes.specs.Given.Tables.Nodes as TablesNodes
+pub use Rattle.papaya_scenes.specs.Given.Tables.declared as TablesDeclared
+pub use Rattle.papaya_scenes.specs.Given.Resize.Copier as ResizeCopier
+pub use Rattle.papaya_scenes.specs.Given.Resize.CopierFurther as ResizeCopierFurther
+pub use Rattle.papaya_scenes.specs.Given.Resize.CopierPromotes as ResizeCopierPromotes
+pub use Rattle.papaya_scenes.specs.Given.Resize.CopierStates as ResizeCopierStates
+pub use Rattle.papaya_scenes.specs.Given.Resize.Dispose as ResizeDispose
+pub use Rattle.papaya_scenes.specs.Given.Resize.Lookup as ResizeLookup
+pub use Rattle.papaya_scenes.specs.Given.Resize.NewMap as ResizeNewMap
+pub use Rattle.papaya_scenes.specs.Given.Resize.NewTable as ResizeNewTable
+pub use Rattle.papaya_scenes.specs.Given.Resize.Sum as ResizeSum
+pub use Rattle.papaya_scenes.specs.Given.Resize.declared as ResizeDeclared
+pub use Rattle.papaya_scenes.specs.Given.Sweeps.Sweep as SweepsSweep
+pub use Rattle.papaya_scenes.specs.Given.Sweeps.SweepPoints as SweepsSweepPoints
+pub use Rattle.papaya_scenes.specs.Given.Sweeps.declared as SweepsDeclared
+pub use Rattle.papaya_scenes.specs.Given.Reserves.Reserve as ReservesReserve
+pub use Rattle.papaya_scenes.specs.Given.Reserves.declared as ReservesDeclared
+pub use Rattle.papaya_scenes.specs.Given.Raw.Answers as RawAnswers
+pub use Rattle.papaya_scenes.specs.Given.Raw.Call as RawCall
+pub use Rattle.papaya_scenes.specs.Given.Raw.CallAsks as RawCallAsks
+pub use Rattle.papaya_scenes.specs.Given.Raw.CallFills as RawCallFills
+pub use Rattle.papaya_scenes.specs.Given.Raw.CallPoints as RawCallPoints
+pub use Rattle.papaya_scenes.specs.Given.Raw.EndMap as RawEndMap
+pub use Rattle.papaya_scenes.specs.Given.Raw.Machine as RawMachine
+pub use Rattle.papaya_scenes.specs.Given.Raw.Progress as RawProgress
+pub use Rattle.papaya_scenes.specs.Given.Raw.Replies as RawReplies
+pub use Rattle.papaya_scenes.specs.Given.Raw.declared as RawDeclared
+pub use Rattle.papaya_scenes.specs.Given.Rule.Chart as RuleChart
+pub use Rattle.papaya_scenes.specs.Given.Rule.InWorld as RuleInWorld
+pub use Rattle.papaya_scenes.specs.Given.Rule.Lasts as RuleLasts
+pub use Rattle.papaya_scenes.specs.Given.Rule.Maps as RuleMaps
+pub use Rattle.papaya_scenes.specs.Given.Rule.Moments as RuleMoments
+pub use Rattle.papaya_scenes.specs.Given.Rule.Moves as RuleMoves
+pub use Rattle.papaya_scenes.specs.Given.Rule.Rule as RuleRule
+pub use Rattle.papaya_scenes.specs.Given.Rule.Words as RuleWords
+pub use Rattle.papaya_scenes.specs.Given.Points.FactsCalls as PointsFactsCalls
+pub use Rattle.papaya_scenes.specs.Given.Points.FactsCopies as PointsFactsCopies
+pub use Rattle.papaya_scenes.specs.Given.Points.FactsCopiesBlocking as PointsFactsCopiesBlocking
+pub use Rattle.papaya_scenes.specs.Given.Points.FactsDisposes as PointsFactsDisposes
+pub use Rattle.papaya_scenes.specs.Given.Points.FactsTables as PointsFactsTables
+pub use Rattle.papaya_scenes.specs.Given.Points.Steps as PointsSteps
+pub use Rattle.papaya_scenes.specs.Given.Points.Told as PointsTold
+pub use Rattle.papaya_scenes.specs.Given.Points.Unlinked as PointsUnlinked
+pub use Rattle.papaya_scenes.specs.Given.Late.Covers as LateCovers
+pub use Rattle.papaya_scenes.specs.Given.Late.FactsReserves as LateFactsReserves
+pub use Rattle.papaya_scenes.specs.Given.Late.FactsSweeps as LateFactsSweeps
+pub use Rattle.papaya_scenes.specs.Given.Late.Faults as LateFaults
+pub use Rattle.papaya_scenes.specs.Given.Late.Kinds as LateKinds
+pub use Rattle.papaya_scenes.specs.Given.Late.LateCalls as LateLateCalls
+pub use Rattle.papaya_scenes.specs.Given.Late.LateCopies as LateLateCopies
+pub use Rattle.papaya_scenes.specs.Given.Late.LateReserves as LateLateReserves
+pub use Rattle.papaya_scenes.specs.Given.Late.ToldReserves as LateToldReserves
+pub use Rattle.papaya_scenes.specs.Given.Late.ToldSweeps as LateToldSweeps
+pub use Rattle.papaya_scenes.specs.Given.Tells.Seen as TellsSeen
+pub use Rattle.papaya_scenes.specs.Given.Tells.Tells as TellsTells
+pub use Rattle.papaya_scenes.specs.Given.Teller.Changed as TellerChanged
+pub use Rattle.papaya_scenes.specs.Given.Teller.Tells as TellerTells
+pub use Rattle.papaya_scenes.specs.Given.Teller.declared as TellerDeclared
+pub use Rattle.papaya_scenes.specs.Given.Callers.Asked as CallersAsked
+pub use Rattle.papaya_scenes.specs.Given.Callers.AskedOnce as CallersAskedOnce
+pub use Rattle.papaya_scenes.specs.Given.Callers.Kept as CallersKept
+pub use Rattle.papaya_scenes.specs.Given.Callers.Kind as CallersKind
+pub use Rattle.papaya_scenes.specs.Given.Callers.OverAll as CallersOverAll
+pub use Rattle.papaya_scenes.specs.Given.Callers.Pairs as CallersPairs
+pub use Rattle.papaya_scenes.specs.Given.Callers.Rooms as CallersRooms
+pub use Rattle.papaya_scenes.specs.Given.Callers.Rows as CallersRows
+pub use Rattle.papaya_scenes.specs.Given.Callers.Sights as CallersSights
+pub use Rattle.papaya_scenes.specs.Given.Callers.Since as CallersSince
+pub use Rattle.papaya_scenes.specs.Given.Callers.Together as CallersTogether
+pub use Rattle.papaya_scenes.specs.Given.Finishes.Endings as FinishesEndings
+pub use Rattle.papaya_scenes.specs.Given.Finishes.FactsEnds as FinishesFactsEnds
+pub use Rattle.papaya_scenes.specs.Given.Finishes.Machines as FinishesMachines
+pub use Rattle.papaya_scenes.specs.Given.Finishes.Makings as FinishesMakings
+pub use Rattle.papaya_scenes.specs.Given.Finishes.Maps as FinishesMaps
+pub use Rattle.papaya_scenes.specs.Given.Finishes.Orders as FinishesOrders
+pub use Rattle.papaya_scenes.specs.Given.Finishes.Sweeps as FinishesSweeps
+pub use Rattle.papaya_effects.specs.Given.Runs.Same as RunsSame
+pub use Rattle.papaya_effects.specs.Given.Runs.declared as RunsDeclared
+pub use Rattle.papaya_effects.specs.Given.Schedules.After as SchedulesAfter
+pub use Rattle.papaya_effects.specs.Given.Schedules.Beginning as SchedulesBeginning
+pub use Rattle.papaya_effects.specs.Given.Schedules.Coming as SchedulesComing
+pub use Rattle.papaya_effects.specs.Given.Schedules.Counts as SchedulesCounts
+pub use Rattle.papaya_effects.specs.Given.Schedules.Effects as SchedulesEffects
+pub use Rattle.papaya_effects.specs.Given.Schedules.Entry as SchedulesEntry
+pub use Rattle.papaya_effects.specs.Given.Schedules.Growing as SchedulesGrowing
+pub use Rattle.papaya_effects.specs.Given.Schedules.Handing as SchedulesHanding
+pub use Rattle.papaya_effects.specs.Given.Schedules.InTurn as SchedulesInTurn
+pub use Rattle.papaya_effects.specs.Given.Schedules.InUse as SchedulesInUse
+pub use Rattle.papaya_effects.specs.Given.Schedules.Linearizable as SchedulesLinearizable
+pub use Rattle.papaya_effects.specs.Given.Schedules.Lists as SchedulesLists
+pub use Rattle.papaya_effects.specs.Given.Schedules.Lives as SchedulesLives
+pub use Rattle.papaya_effects.specs.Given.Schedules.Model as SchedulesModel
+pub use Rattle.papaya_effects.specs.Given.Schedules.Moment as SchedulesMoment
+pub use Rattle.papaya_effects.specs.Given.Schedules.Reclaims as SchedulesReclaims
+pub use Rattle.papaya_effects.specs.Given.Schedules.Runs as SchedulesRuns
+pub use Rattle.papaya_effects.specs.Given.Schedules.Sequential as SchedulesSequential
+pub use Rattle.papaya_effects.specs.Given.Schedules.Steps as SchedulesSteps
+pub use Rattle.papaya_effects.specs.Given.Schedules.Sweeps as SchedulesSweeps
+pub use Rattle.papaya_effects.specs.Given.Schedules.Terms as SchedulesTerms
+pub use Rattle.papaya_effects.specs.Given.Schedules.Things as SchedulesThings
+pub use Rattle.papaya_effects.specs.Given.Schedules.Transition as SchedulesTransition
+pub use Rattle.papaya_effects.specs.Given.Schedules.Tries as SchedulesTries
+pub use Rattle.papaya_effects.specs.Given.Schedules.Views as SchedulesViews
+pub use Rattle.papaya_effects.specs.Given.Schedules.Waiting as SchedulesWaiting
+pub use Rattle.papaya_effects.specs.Given.Schedules.declared as SchedulesDeclared
+pub use Rattle.papaya_effects.specs.Effects as EffectsEffects
+pub use Rattle.papaya_effects.specs.Known as EffectsKnown
+pub use Rattle.papaya_effects.specs.declared as EffectsDeclared
+pub use Rattle.papaya_scenes.specs.Beginning as ScenesBeginning
+pub use Rattle.papaya_scenes.specs.Ending as ScenesEnding
+pub use Rattle.papaya_scenes.specs.Held as ScenesHeld
+pub use Rattle.papaya_scenes.specs.Making as ScenesMaking
+pub use Rattle.papaya_scenes.specs.OnSlots as ScenesOnSlots
+pub use Rattle.papaya_scenes.specs.Reclaiming as ScenesReclaiming
+pub use Rattle.papaya_scenes.specs.Replying as ScenesReplying
+pub use Rattle.papaya_scenes.specs.Rows as ScenesRows
+pub use Rattle.papaya_scenes.specs.Scene as ScenesScene
+pub use Rattle.papaya_scenes.specs.Stepping as ScenesStepping
+pub use Rattle.papaya_scenes.specs.declared as ScenesDeclared
+pub use Rattle.papaya_scenes.specs.Given.Alone.Handed as AloneHanded
+pub use Rattle.papaya_scenes.specs.Given.Reclaims.Left as ReclaimsLeft
+pub use Rattle.papaya_scenes.specs.Given.Reclaims.Reclaims as ReclaimsReclaims
+pub use Rattle.papaya_scenes.specs.Given.SeizeReclaims.Roots as SeizeReclaimsRoots

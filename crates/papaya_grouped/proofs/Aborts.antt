@@ -2,13 +2,13 @@
 use Rattle.std.specs.Prelude.{◌<◌, ◌+◌, ◌++◌, Option, Some, None, length, option_map}
 use Rattle.std.proofs.Common.{◌≡◌, ℕ, Bool, List, [], ◌∷◌, refl, sym, ap, subst, arith, ◌∙◌}
 use Rattle.std.proofs.lemmas.List.{length-append}
-use Rattle.papaya_drives.specs.Given.SeizeActs.Answers.{then_on}
-use Rattle.papaya_drives.proofs.Given.SeizeActs.Answers.{same_some}
-use Rattle.papaya_drives.specs.Given.Acts.Acts.{Answer, BeginsCall, StepsCall, TellsCall, AsksCall, StopsCall, BeginsMaking, StepsMaking, BeginsEnding, StepsEnding, BeginsRow, StepsRow}
-use Rattle.papaya_drives.specs.Given.Acts.Doings.{Doing, Does, BeginsReclaiming, BeginsClearing, StepsReclaiming, Chooses}
-use Rattle.papaya_drives.specs.Given.Played.Play.{State, call_told, play, play_all}
-use Rattle.papaya_drives.proofs.Given.Played.PlayedAs.{played_as, reclaimed_as}
-use Rattle.papaya_drives.specs.Given.Agrees.Fresh.{IsNew, MakesNew}
+use Rattle.papaya_drives.specs.Given.SeizeActsAnswers.{then_on}
+use Rattle.papaya_drives.proofs.Given.SeizeActsAnswers.{same_some}
+use Rattle.papaya_drives.specs.Given.ActsActs.{Answer, BeginsCall, StepsCall, TellsCall, AsksCall, StopsCall, BeginsMaking, StepsMaking, BeginsEnding, StepsEnding, BeginsRow, StepsRow}
+use Rattle.papaya_drives.specs.Given.ActsDoings.{Doing, Does, BeginsReclaiming, BeginsClearing, StepsReclaiming, Chooses}
+use Rattle.papaya_drives.specs.Given.PlayedPlay.{State, call_told, play, play_all}
+use Rattle.papaya_drives.proofs.Given.PlayedPlayedAs.{played_as, reclaimed_as}
+use Rattle.papaya_drives.specs.Given.AgreesFresh.{IsNew, MakesNew}
 
 module _ {K V S : Type 0} (same : K → K → Bool) (by_hasher : S → K → ℕ) (batch_size roots : ℕ) where
   -- the next state, by what a closure aborts with at this act alone

@@ -2,58 +2,58 @@
 use Rattle.std.specs.Prelude.{◌<◌, ◌^◌, ◌++◌, Option, Some, None, option_map, length, slice_index_or, IsSome}
 use Rattle.std.specs.Option.{is_none, is_some}
 use Rattle.std.proofs.Common.{◌≡◌, ℕ, Bool, false, List, inl, inr, refl, sym, ap, subst, ◌∙◌}
-use Rattle.papaya_drives.specs.Given.SeizeActs.Acts.{rests}
-use Rattle.papaya_drives.specs.Given.SeizeActs.Answers.{Grant, stepped, then_on}
-use Rattle.papaya_drives.proofs.Given.SeizeActs.Answers.{same_some}
-use Rattle.papaya_drives.proofs.Given.SeizeQuiet.Slots.Stages.{never_taken}
-use Rattle.papaya_drives.specs.Given.SeizeWords.Mem.{Mem, Can, Took, value_at, word_at}
-use Rattle.papaya_drives.specs.Given.SeizeWords.Plan.{May}
-use Rattle.papaya_drives.specs.Given.SeizeWords.declared.at.At.TheVariants.{Slot}
-use Rattle.papaya_drives.specs.Given.Seize.ReclaimAll.{clearing, reclaim_all_plan, reclaiming_all}
-use Rattle.papaya_drives.specs.Given.Seize.World.{Rests}
-use Rattle.papaya_drives.specs.Given.Seize.declared.rows.reclaim_all.ReclaimAll.{ReclaimAll}
-use Rattle.papaya_drives.specs.Given.Seize.declared.rows.settle.Settled.{Settled}
-use Rattle.papaya_drives.specs.Given.Seize.declared.rows.settle.Settled.TheVariants as settled
-use Rattle.papaya_drives.specs.Given.Seize.declared.states.TheConstants.{HEAD}
+use Rattle.papaya_drives.specs.Given.SeizeActsActs.{rests}
+use Rattle.papaya_drives.specs.Given.SeizeActsAnswers.{Grant, stepped, then_on}
+use Rattle.papaya_drives.proofs.Given.SeizeActsAnswers.{same_some}
+use Rattle.papaya_drives.proofs.Given.SeizeQuietSlots.Stages.{never_taken}
+use Rattle.papaya_drives.specs.Given.SeizeWordsMem.{Mem, Can, Took, value_at, word_at}
+use Rattle.papaya_drives.specs.Given.SeizeWordsPlan.{May}
+use Rattle.papaya_drives.specs.Given.SeizeWordsDeclared.at.At.TheVariants.{Slot}
+use Rattle.papaya_drives.specs.Given.SeizeReclaimAll.{clearing, reclaim_all_plan, reclaiming_all}
+use Rattle.papaya_drives.specs.Given.SeizeWorld.{Rests}
+use Rattle.papaya_drives.specs.Given.SeizeDeclared.rows.reclaim_all.ReclaimAll.{ReclaimAll}
+use Rattle.papaya_drives.specs.Given.SeizeDeclared.rows.settle.Settled.{Settled}
+use Rattle.papaya_drives.specs.Given.SeizeDeclared.rows.settle.Settled.TheVariants as settled
+use Rattle.papaya_drives.specs.Given.SeizeDeclared.states.TheConstants.{HEAD}
 use Rattle.papaya_runs.specs.Given.Tables.Nodes.{deferred_word, was_left}
 use Rattle.papaya_runs.specs.Given.Tables.declared.node.Node.{Node}
-use Rattle.papaya_drives.specs.Given.Teller.declared.changed.Changed.{Changed}
-use Rattle.papaya_drives.specs.Given.Callers.Rows.{IsRowOn}
-use Rattle.papaya_drives.specs.Given.Finishes.Endings.{EndingsTogether, Finishing}
-use Rattle.papaya_drives.specs.Given.Finishes.Machines.{machine_of}
-use Rattle.papaya_drives.specs.Given.Finishes.Makings.{Beginning}
-use Rattle.papaya_drives.specs.Given.Finishes.Maps.{Standing}
-use Rattle.papaya_drives.proofs.Given.Scenes.Goes.{same_map_keeps}
-use Rattle.papaya_drives.proofs.Given.Scenes.NoCall.{none_of}
-use Rattle.papaya_drives.specs.Given.Scenes.Held.{Held}
-use Rattle.papaya_drives.specs.Given.Scenes.Reclaiming.{ReclaimingComesToThere}
-use Rattle.papaya_drives.specs.Given.Scenes.Scene.{Scene, slot_of}
-use Rattle.papaya_drives.specs.Given.Reclaims.Reclaims.{AllIsReclaimed}
-use Rattle.papaya_drives.specs.Given.Scenes.declared.callers.TheConstants.{SLOTS}
-use Rattle.papaya_drives.specs.Given.Schedules.declared.effect.Effect.{Effect}
-use Rattle.papaya_drives.specs.Given.Schedules.declared.event.Event.{Event}
-use Rattle.papaya_drives.specs.Given.Schedules.declared.outcome.Outcome.{Outcome}
-use Rattle.papaya_drives.specs.Given.Schedules.After.{moment}
-use Rattle.papaya_drives.specs.Given.Schedules.Entry.{Entry}
-use Rattle.papaya_drives.specs.Given.Effects.Effects.{effects_of, known_after}
-use Rattle.papaya_drives.specs.Given.Effects.Known.{Known}
-use Rattle.papaya_drives.specs.Given.Effects.declared.acting.Acting.TheVariants as acting
-use Rattle.papaya_drives.specs.Given.Executor.IsThere.{HasRow, IsThere, IsUsedAs, StaysGiven, call_in, ending_in, held_by, making_in, use_at, work_of}
-use Rattle.papaya_drives.specs.Given.Executor.declared.executor.Executor.{Executor}
-use Rattle.papaya_drives.specs.Given.Executor.declared.worker.Work.{Work}
-use Rattle.papaya_drives.specs.Given.Reclaiming.Reclaiming.{IsReclaimingThere, NobodyHas, ReclaimsThere}
-use Rattle.papaya_drives.specs.Given.Named.declared.caller.Caller.{Caller}
-use Rattle.papaya_drives.specs.Given.Acts.Acts.{Answer, OfReclaiming}
-use Rattle.papaya_drives.specs.Given.Acts.AsSteps.{changed_of}
-use Rattle.papaya_drives.specs.Given.Acts.Doings.{AllAreFree, BeginsClearing, BeginsReclaiming, HasStepped, MayDo, SlotsAreFree, Stage, StepsReclaiming, behind, is_vacant, reclaiming, still}
-use Rattle.papaya_drives.specs.Given.Acts.Lists.{Course}
-use Rattle.papaya_drives.specs.Given.Acts.Reclaiming.{IsReclaimingAll, reclaiming_steps}
-use Rattle.papaya_drives.proofs.Given.Acts.Reclaiming.{reclaiming_is_by_acts}
-use Rattle.papaya_drives.specs.Given.Deeds.Deeds.{ReclaimsAll}
+use Rattle.papaya_drives.specs.Given.TellerDeclared.changed.Changed.{Changed}
+use Rattle.papaya_drives.specs.Given.CallersRows.{IsRowOn}
+use Rattle.papaya_drives.specs.Given.FinishesEndings.{EndingsTogether, Finishing}
+use Rattle.papaya_drives.specs.Given.FinishesMachines.{machine_of}
+use Rattle.papaya_drives.specs.Given.FinishesMakings.{Beginning}
+use Rattle.papaya_drives.specs.Given.FinishesMaps.{Standing}
+use Rattle.papaya_drives.proofs.Given.ScenesGoes.{same_map_keeps}
+use Rattle.papaya_drives.proofs.Given.ScenesNoCall.{none_of}
+use Rattle.papaya_drives.specs.Given.ScenesHeld.{Held}
+use Rattle.papaya_drives.specs.Given.ScenesReclaiming.{ReclaimingComesToThere}
+use Rattle.papaya_drives.specs.Given.ScenesScene.{Scene, slot_of}
+use Rattle.papaya_drives.specs.Given.ReclaimsReclaims.{AllIsReclaimed}
+use Rattle.papaya_drives.specs.Given.ScenesDeclared.callers.TheConstants.{SLOTS}
+use Rattle.papaya_drives.specs.Given.SchedulesDeclared.effect.Effect.{Effect}
+use Rattle.papaya_drives.specs.Given.SchedulesDeclared.event.Event.{Event}
+use Rattle.papaya_drives.specs.Given.SchedulesDeclared.outcome.Outcome.{Outcome}
+use Rattle.papaya_drives.specs.Given.SchedulesAfter.{moment}
+use Rattle.papaya_drives.specs.Given.SchedulesEntry.{Entry}
+use Rattle.papaya_drives.specs.Given.EffectsEffects.{effects_of, known_after}
+use Rattle.papaya_drives.specs.Given.EffectsKnown.{Known}
+use Rattle.papaya_drives.specs.Given.EffectsDeclared.acting.Acting.TheVariants as acting
+use Rattle.papaya_drives.specs.Given.ExecutorIsThere.{HasRow, IsThere, IsUsedAs, StaysGiven, call_in, ending_in, held_by, making_in, use_at, work_of}
+use Rattle.papaya_drives.specs.Given.ExecutorDeclared.executor.Executor.{Executor}
+use Rattle.papaya_drives.specs.Given.ExecutorDeclared.worker.Work.{Work}
+use Rattle.papaya_drives.specs.Given.ReclaimingReclaiming.{IsReclaimingThere, NobodyHas, ReclaimsThere}
+use Rattle.papaya_drives.specs.Given.NamedDeclared.caller.Caller.{Caller}
+use Rattle.papaya_drives.specs.Given.ActsActs.{Answer, OfReclaiming}
+use Rattle.papaya_drives.specs.Given.ActsAsSteps.{changed_of}
+use Rattle.papaya_drives.specs.Given.ActsDoings.{AllAreFree, BeginsClearing, BeginsReclaiming, HasStepped, MayDo, SlotsAreFree, Stage, StepsReclaiming, behind, is_vacant, reclaiming, still}
+use Rattle.papaya_drives.specs.Given.ActsLists.{Course}
+use Rattle.papaya_drives.specs.Given.ActsReclaiming.{IsReclaimingAll, reclaiming_steps}
+use Rattle.papaya_drives.proofs.Given.ActsReclaiming.{reclaiming_is_by_acts}
+use Rattle.papaya_drives.specs.Given.DeedsDeeds.{ReclaimsAll}
 use Rattle.papaya_drives.proofs.Told.{told_so}
-use Rattle.papaya_drives.specs.Given.Played.Play.{State, all_begun, all_stepped, is_over, play, settled_outcome}
-use Rattle.papaya_drives.specs.Given.Played.Reached.{IsOfStage}
-use Rattle.papaya_drives.proofs.Given.Played.PlayedAs.{reclaimed_as}
+use Rattle.papaya_drives.specs.Given.PlayedPlay.{State, all_begun, all_stepped, is_over, play, settled_outcome}
+use Rattle.papaya_drives.specs.Given.PlayedReached.{IsOfStage}
+use Rattle.papaya_drives.proofs.Given.PlayedPlayedAs.{reclaimed_as}
 use Rattle.papaya_grouped.specs.Grouping.{MayHave, Names}
 use Rattle.papaya_grouped.specs.Reach.{LeadsTo, Reach}
 use Rattle.papaya_grouped.proofs.Aside.{all_aside, begun_aside, works_on}

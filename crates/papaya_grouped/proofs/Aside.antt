@@ -1,36 +1,36 @@
 -- What is done beside calls, in the midst of an event: the event goes on by its entry, or as it was where there is none, and callers are as they were played.
 use Rattle.std.specs.Prelude.{◌++◌, ◌==◌, ◌+◌, ◌≤◌, Option, if◌then◌else◌}
 use Rattle.std.proofs.Common.{◌≡◌, ℕ, Bool, true, false, List, refl, sym, ap, subst, ◌∙◌}
-use Rattle.papaya_drives.specs.Given.Seize.declared.progress.Progress.{Progress}
-use Rattle.papaya_drives.specs.Given.Seize.declared.progress.Progress.TheVariants as progress
-use Rattle.papaya_drives.specs.Given.Seize.declared.rows.leave.Leave.{Leave}
-use Rattle.papaya_drives.specs.Given.Seize.declared.rows.leave.Leaving.{Leaving}
-use Rattle.papaya_drives.specs.Given.Seize.declared.rows.leave.Leaving.TheVariants as leaves
-use Rattle.papaya_drives.specs.Given.Seize.declared.rows.register.Registering.{Registering}
-use Rattle.papaya_drives.specs.Given.Seize.declared.rows.register.Registering.TheVariants as registers
-use Rattle.papaya_drives.specs.Given.Seize.declared.rows.settle.Settled.{Settled}
-use Rattle.papaya_drives.specs.Given.Seize.declared.states.TheConstants.{ACTIVE}
+use Rattle.papaya_drives.specs.Given.SeizeDeclared.progress.Progress.{Progress}
+use Rattle.papaya_drives.specs.Given.SeizeDeclared.progress.Progress.TheVariants as progress
+use Rattle.papaya_drives.specs.Given.SeizeDeclared.rows.leave.Leave.{Leave}
+use Rattle.papaya_drives.specs.Given.SeizeDeclared.rows.leave.Leaving.{Leaving}
+use Rattle.papaya_drives.specs.Given.SeizeDeclared.rows.leave.Leaving.TheVariants as leaves
+use Rattle.papaya_drives.specs.Given.SeizeDeclared.rows.register.Registering.{Registering}
+use Rattle.papaya_drives.specs.Given.SeizeDeclared.rows.register.Registering.TheVariants as registers
+use Rattle.papaya_drives.specs.Given.SeizeDeclared.rows.settle.Settled.{Settled}
+use Rattle.papaya_drives.specs.Given.SeizeDeclared.states.TheConstants.{ACTIVE}
 use Rattle.papaya_runs.specs.Given.Tables.declared.setting.Setting.{Setting}
-use Rattle.papaya_drives.specs.Given.Resize.declared.new_map.NewMap.{NewMap}
-use Rattle.papaya_drives.specs.Given.Teller.declared.changed.Changed.{Changed}
-use Rattle.papaya_drives.specs.Given.Scenes.declared.row.SlotRow.{SlotRow}
-use Rattle.papaya_drives.specs.Given.Scenes.declared.row.SlotRow.TheVariants as rows
-use Rattle.papaya_drives.specs.Given.Schedules.declared.effect.Effect.{Effect}
-use Rattle.papaya_drives.specs.Given.Schedules.declared.event.Event.{Event}
-use Rattle.papaya_drives.specs.Given.Schedules.declared.outcome.Outcome.{Outcome}
-use Rattle.papaya_drives.specs.Given.Schedules.After.{moment}
-use Rattle.papaya_drives.specs.Given.Schedules.Entry.{Entry}
-use Rattle.papaya_drives.specs.Given.Effects.Effects.{effects_of, known_after}
-use Rattle.papaya_drives.specs.Given.Effects.Known.{Known}
-use Rattle.papaya_drives.specs.Given.Effects.declared.acting.Acting.{Acting}
-use Rattle.papaya_drives.specs.Given.Named.declared.caller.Caller.{Caller}
-use Rattle.papaya_drives.specs.Given.Acts.Acts.{Answer}
-use Rattle.papaya_drives.specs.Given.Deeds.Deeds.{Deed, Registers, Opens, Shuts, Leaves, Tends, MapComes, Makes, MapFails, Ends, MapGoes, ReclaimsAll}
-use Rattle.papaya_drives.specs.Given.Played.Play.{Calling, Ending, Making, Now, State, began, ending_deed, has_root, is_over, is_refusal, leaves_as, made_on, making_deed, pairs_for, registers_as, row_deed, worked}
+use Rattle.papaya_drives.specs.Given.ResizeDeclared.new_map.NewMap.{NewMap}
+use Rattle.papaya_drives.specs.Given.TellerDeclared.changed.Changed.{Changed}
+use Rattle.papaya_drives.specs.Given.ScenesDeclared.row.SlotRow.{SlotRow}
+use Rattle.papaya_drives.specs.Given.ScenesDeclared.row.SlotRow.TheVariants as rows
+use Rattle.papaya_drives.specs.Given.SchedulesDeclared.effect.Effect.{Effect}
+use Rattle.papaya_drives.specs.Given.SchedulesDeclared.event.Event.{Event}
+use Rattle.papaya_drives.specs.Given.SchedulesDeclared.outcome.Outcome.{Outcome}
+use Rattle.papaya_drives.specs.Given.SchedulesAfter.{moment}
+use Rattle.papaya_drives.specs.Given.SchedulesEntry.{Entry}
+use Rattle.papaya_drives.specs.Given.EffectsEffects.{effects_of, known_after}
+use Rattle.papaya_drives.specs.Given.EffectsKnown.{Known}
+use Rattle.papaya_drives.specs.Given.EffectsDeclared.acting.Acting.{Acting}
+use Rattle.papaya_drives.specs.Given.NamedDeclared.caller.Caller.{Caller}
+use Rattle.papaya_drives.specs.Given.ActsActs.{Answer}
+use Rattle.papaya_drives.specs.Given.DeedsDeeds.{Deed, Registers, Opens, Shuts, Leaves, Tends, MapComes, Makes, MapFails, Ends, MapGoes, ReclaimsAll}
+use Rattle.papaya_drives.specs.Given.PlayedPlay.{Calling, Ending, Making, Now, State, began, ending_deed, has_root, is_over, is_refusal, leaves_as, made_on, making_deed, pairs_for, registers_as, row_deed, worked}
 use Rattle.papaya_grouped.specs.Grouping.{MayHave, Names, is_step, names_after, names_on}
 use Rattle.papaya_grouped.specs.Called.{CallersAre, IsCalledAs}
 use Rattle.papaya_grouped.proofs.Callers.{each_so}
-use Rattle.papaya_drives.specs.Given.Agrees.Fresh.{comes_with}
+use Rattle.papaya_drives.specs.Given.AgreesFresh.{comes_with}
 use Rattle.papaya_grouped.proofs.Midst.{InEvent, event_goes_on, maps_of}
 
 module _ {K V : Type 0} where

@@ -3,39 +3,39 @@ use Rattle.std.specs.Prelude.{◌≤◌, ◌==◌, ◌||◌, not, if◌then◌el
 use Rattle.std.specs.List.{AllByRecursion, list_any}
 use Rattle.std.proofs.Common.{◌≡◌, ℕ, Bool, true, false, List, [], ◌∷◌, refl, sym, ap, subst, arith, ◌∙◌}
 use Rattle.std.proofs.lemmas.Bool.{eqb-true}
-use Rattle.papaya_drives.proofs.Given.SeizeActs.Answers.{same_some}
+use Rattle.papaya_drives.proofs.Given.SeizeActsAnswers.{same_some}
 use Rattle.papaya_runs.specs.Same.{is_same}
 use Rattle.papaya_runs.proofs.Sames.{same_is, same_refl}
 use Rattle.papaya_runs.specs.Given.Tables.declared.setting.Setting.{Setting}
-use Rattle.papaya_drives.specs.Given.Callers.Together.{in_slot}
-use Rattle.papaya_drives.specs.Given.Finishes.Maps.{Standing}
-use Rattle.papaya_drives.specs.Given.Scenes.Scene.{Scene, slot_of}
-use Rattle.papaya_drives.specs.Given.Scenes.declared.row.SlotUse.TheVariants as used
-use Rattle.papaya_drives.specs.Given.Schedules.declared.call.Call.{Call}
-use Rattle.papaya_drives.specs.Given.Schedules.declared.event.Event.{Event}
-use Rattle.papaya_drives.specs.Given.Schedules.declared.outcome.Outcome.TheVariants as outcome
-use Rattle.papaya_drives.specs.Given.Schedules.After.{moment}
-use Rattle.papaya_drives.specs.Given.Schedules.Entry.{Entry}
-use Rattle.papaya_drives.specs.Given.Effects.Known.{Known}
-use Rattle.papaya_drives.specs.Given.Executor.Beginning.{BeginsThere}
-use Rattle.papaya_drives.specs.Given.Executor.IsThere.{IsThere, StaysGiven, use_at, work_of}
-use Rattle.papaya_drives.specs.Given.Executor.declared.executor.Executor.{Executor}
-use Rattle.papaya_drives.specs.Given.Named.Machines.{machine_for}
-use Rattle.papaya_drives.specs.Given.Named.Seen.{kind_of}
-use Rattle.papaya_drives.specs.Given.Named.declared.caller.Caller.{Caller}
-use Rattle.papaya_drives.specs.Given.Acts.Acts.{BeginsCall, Nothing}
-use Rattle.papaya_drives.specs.Given.Acts.Lists.{Course}
-use Rattle.papaya_drives.specs.Given.Deeds.Deeds.{Begins}
-use Rattle.papaya_drives.specs.Given.Deeds.Deeds.{Entry as Act}
+use Rattle.papaya_drives.specs.Given.CallersTogether.{in_slot}
+use Rattle.papaya_drives.specs.Given.FinishesMaps.{Standing}
+use Rattle.papaya_drives.specs.Given.ScenesScene.{Scene, slot_of}
+use Rattle.papaya_drives.specs.Given.ScenesDeclared.row.SlotUse.TheVariants as used
+use Rattle.papaya_drives.specs.Given.SchedulesDeclared.call.Call.{Call}
+use Rattle.papaya_drives.specs.Given.SchedulesDeclared.event.Event.{Event}
+use Rattle.papaya_drives.specs.Given.SchedulesDeclared.outcome.Outcome.TheVariants as outcome
+use Rattle.papaya_drives.specs.Given.SchedulesAfter.{moment}
+use Rattle.papaya_drives.specs.Given.SchedulesEntry.{Entry}
+use Rattle.papaya_drives.specs.Given.EffectsKnown.{Known}
+use Rattle.papaya_drives.specs.Given.ExecutorBeginning.{BeginsThere}
+use Rattle.papaya_drives.specs.Given.ExecutorIsThere.{IsThere, StaysGiven, use_at, work_of}
+use Rattle.papaya_drives.specs.Given.ExecutorDeclared.executor.Executor.{Executor}
+use Rattle.papaya_drives.specs.Given.NamedMachines.{machine_for}
+use Rattle.papaya_drives.specs.Given.NamedSeen.{kind_of}
+use Rattle.papaya_drives.specs.Given.NamedDeclared.caller.Caller.{Caller}
+use Rattle.papaya_drives.specs.Given.ActsActs.{BeginsCall, Nothing}
+use Rattle.papaya_drives.specs.Given.ActsLists.{Course}
+use Rattle.papaya_drives.specs.Given.DeedsDeeds.{Begins}
+use Rattle.papaya_drives.specs.Given.DeedsDeeds.{Entry as Act}
 use Rattle.papaya_drives.specs.Executors.{IsAct}
 use Rattle.papaya_drives.proofs.Executors.{executors_act}
-use Rattle.papaya_drives.specs.Given.Played.Play.{Calling, State, begun_call, call_begun}
-use Rattle.papaya_drives.proofs.Given.Played.PlayedAs.{played_as}
+use Rattle.papaya_drives.specs.Given.PlayedPlay.{Calling, State, begun_call, call_begun}
+use Rattle.papaya_drives.proofs.Given.PlayedPlayedAs.{played_as}
 use Rattle.papaya_grouped.specs.Grouping.{MayHave, Names, beginner_of, number_called, without_number}
 use Rattle.papaya_grouped.specs.Called.{CallersAre, IsCalledAs, PlaysSo}
 use Rattle.papaya_grouped.specs.Reach.{Reach}
 use Rattle.papaya_grouped.proofs.Callers.{call_beside, call_here, under}
-use Rattle.papaya_drives.specs.Given.Agrees.Fresh.{is_taken}
+use Rattle.papaya_drives.specs.Given.AgreesFresh.{is_taken}
 use Rattle.papaya_grouped.proofs.Midst.{InEvent, taken_on}
 use Rattle.papaya_grouped.proofs.OneMore.{one_act}
 use Rattle.papaya_grouped.proofs.Wanted.{call_back, wanted_for, wanted_machine}

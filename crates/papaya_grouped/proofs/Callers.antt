@@ -3,10 +3,10 @@ use Rattle.std.specs.Prelude.{◌≢◌, ◌⊎◌, ◌==◌, ◌≤◌, ◌+◌
 use Rattle.std.specs.List.{AllByRecursion, list_any, position_or_len, remove}
 use Rattle.std.proofs.Common.{◌≡◌, ℕ, Bool, true, false, List, [], ◌∷◌, inl, inr, refl, sym, ap, subst, arith, ◌∙◌}
 use Rattle.std.proofs.lemmas.Bool.{cases_eq, eq-eqb}
-use Rattle.papaya_drives.proofs.Given.SeizeActs.Answers.{same_some}
-use Rattle.papaya_drives.specs.Given.Seize.World.{with_at}
-use Rattle.papaya_drives.specs.Given.Finishes.Maps.{with_call}
-use Rattle.papaya_drives.proofs.Given.Callers.Together.At.{at_other, at_same}
+use Rattle.papaya_drives.proofs.Given.SeizeActsAnswers.{same_some}
+use Rattle.papaya_drives.specs.Given.SeizeWorld.{with_at}
+use Rattle.papaya_drives.specs.Given.FinishesMaps.{with_call}
+use Rattle.papaya_drives.proofs.Given.CallersTogether.At.{at_other, at_same}
 
 -- something is there, of which this is seen
 pub under : {A B : Type 0} (f : A → B) (o : Option A) (b : B) → option_map f o ≡ Some b → (a : A) × (o ≡ Some a) × (f a ≡ b)

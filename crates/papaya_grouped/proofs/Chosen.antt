@@ -1,13 +1,13 @@
 -- A choice of a number comes: the list of acts goes on by that, and the executor is there with it.
 use Rattle.std.proofs.Common.{ℕ, Bool, refl, ap}
-use Rattle.papaya_drives.specs.Given.Scenes.Scene.{Scene, slot_of}
-use Rattle.papaya_drives.specs.Given.Effects.Known.{Known}
-use Rattle.papaya_drives.specs.Given.Executor.IsThere.{IsThere}
-use Rattle.papaya_drives.specs.Given.Executor.declared.executor.Executor.{Executor}
-use Rattle.papaya_drives.specs.Given.Acts.Doings.{memory_chosen, scene_chosen}
-use Rattle.papaya_drives.specs.Given.Acts.Lists.{Course}
-use Rattle.papaya_drives.proofs.Given.Acts.Chosen.{chosen_stand}
-use Rattle.papaya_drives.specs.Given.Played.Play.{State, choice_come}
+use Rattle.papaya_drives.specs.Given.ScenesScene.{Scene, slot_of}
+use Rattle.papaya_drives.specs.Given.EffectsKnown.{Known}
+use Rattle.papaya_drives.specs.Given.ExecutorIsThere.{IsThere}
+use Rattle.papaya_drives.specs.Given.ExecutorDeclared.executor.Executor.{Executor}
+use Rattle.papaya_drives.specs.Given.ActsDoings.{memory_chosen, scene_chosen}
+use Rattle.papaya_drives.specs.Given.ActsLists.{Course}
+use Rattle.papaya_drives.proofs.Given.ActsChosen.{chosen_stand}
+use Rattle.papaya_drives.specs.Given.PlayedPlay.{State, choice_come}
 use Rattle.papaya_grouped.specs.Reach.{Reach}
 use Rattle.papaya_grouped.proofs.OneMore.{one_choice}
 use Rattle.papaya_grouped.proofs.Reached.{goes_at}

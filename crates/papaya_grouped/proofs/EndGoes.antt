@@ -1,41 +1,41 @@
 -- The end of a map, in the midst of an event: the list of acts goes on where it begins, and by each of its steps.
 use Rattle.std.specs.Prelude.{◌++◌, Some, None, option_map, if◌then◌else◌}
 use Rattle.std.proofs.Common.{◌≡◌, ℕ, Bool, true, false, List, refl, sym, ap, subst, ◌∙◌}
-use Rattle.papaya_drives.specs.Given.SeizeActs.Answers.{Grant}
-use Rattle.papaya_drives.proofs.Given.SeizeActs.Answers.{same_some}
-use Rattle.papaya_drives.specs.Given.SeizeWords.Mem.{Mem}
-use Rattle.papaya_drives.specs.Given.Seize.declared.rows.settle.Settled.{Settled}
+use Rattle.papaya_drives.specs.Given.SeizeActsAnswers.{Grant}
+use Rattle.papaya_drives.proofs.Given.SeizeActsAnswers.{same_some}
+use Rattle.papaya_drives.specs.Given.SeizeWordsMem.{Mem}
+use Rattle.papaya_drives.specs.Given.SeizeDeclared.rows.settle.Settled.{Settled}
 use Rattle.papaya_runs.specs.Given.Tables.declared.node.Node.{Node}
-use Rattle.papaya_drives.specs.Given.Raw.EndMap.{end_map_plan, ending}
-use Rattle.papaya_drives.specs.Given.Raw.declared.machines.end_map.EndMap.{EndMap}
-use Rattle.papaya_drives.specs.Given.Teller.declared.changed.Changed.{Changed}
-use Rattle.papaya_drives.specs.Given.Finishes.Endings.{Finishing}
-use Rattle.papaya_drives.proofs.Given.Callers.Together.At.{at_same}
-use Rattle.papaya_drives.specs.Given.Scenes.Scene.{Scene, slot_of}
-use Rattle.papaya_drives.specs.Given.Schedules.declared.effect.Effect.{Effect}
-use Rattle.papaya_drives.specs.Given.Schedules.declared.event.Event.{Event}
-use Rattle.papaya_drives.specs.Given.Schedules.declared.outcome.Outcome.{Outcome}
-use Rattle.papaya_drives.specs.Given.Schedules.After.{moment}
-use Rattle.papaya_drives.specs.Given.Schedules.Entry.{Entry}
-use Rattle.papaya_drives.specs.Given.Effects.Effects.{effects_of, known_after}
-use Rattle.papaya_drives.specs.Given.Effects.Known.{Known}
-use Rattle.papaya_drives.specs.Given.Effects.declared.acting.Acting.TheVariants as acting
-use Rattle.papaya_drives.specs.Given.Executor.Ending.{EndingBegins, EndsThere, NoCallOn}
-use Rattle.papaya_drives.specs.Given.Executor.IsThere.{IsThere, StaysGiven, ending_in, work_of}
-use Rattle.papaya_drives.specs.Given.Executor.declared.executor.Executor.{Executor}
-use Rattle.papaya_drives.specs.Given.Named.declared.caller.Caller.{Caller}
-use Rattle.papaya_drives.specs.Given.Acts.Acts.{BeginsEnding, Nothing, OfEnding, StepsEnding}
-use Rattle.papaya_drives.specs.Given.Acts.Doings.{Stage, reclaiming}
-use Rattle.papaya_drives.specs.Given.Acts.Leads.{Led}
-use Rattle.papaya_drives.specs.Given.Acts.Lists.{Course}
-use Rattle.papaya_drives.specs.Given.Deeds.Deeds.{Ends, MapGoes}
-use Rattle.papaya_drives.specs.Given.Agrees.Fresh.{comes_with}
+use Rattle.papaya_drives.specs.Given.RawEndMap.{end_map_plan, ending}
+use Rattle.papaya_drives.specs.Given.RawDeclared.machines.end_map.EndMap.{EndMap}
+use Rattle.papaya_drives.specs.Given.TellerDeclared.changed.Changed.{Changed}
+use Rattle.papaya_drives.specs.Given.FinishesEndings.{Finishing}
+use Rattle.papaya_drives.proofs.Given.CallersTogether.At.{at_same}
+use Rattle.papaya_drives.specs.Given.ScenesScene.{Scene, slot_of}
+use Rattle.papaya_drives.specs.Given.SchedulesDeclared.effect.Effect.{Effect}
+use Rattle.papaya_drives.specs.Given.SchedulesDeclared.event.Event.{Event}
+use Rattle.papaya_drives.specs.Given.SchedulesDeclared.outcome.Outcome.{Outcome}
+use Rattle.papaya_drives.specs.Given.SchedulesAfter.{moment}
+use Rattle.papaya_drives.specs.Given.SchedulesEntry.{Entry}
+use Rattle.papaya_drives.specs.Given.EffectsEffects.{effects_of, known_after}
+use Rattle.papaya_drives.specs.Given.EffectsKnown.{Known}
+use Rattle.papaya_drives.specs.Given.EffectsDeclared.acting.Acting.TheVariants as acting
+use Rattle.papaya_drives.specs.Given.ExecutorEnding.{EndingBegins, EndsThere, NoCallOn}
+use Rattle.papaya_drives.specs.Given.ExecutorIsThere.{IsThere, StaysGiven, ending_in, work_of}
+use Rattle.papaya_drives.specs.Given.ExecutorDeclared.executor.Executor.{Executor}
+use Rattle.papaya_drives.specs.Given.NamedDeclared.caller.Caller.{Caller}
+use Rattle.papaya_drives.specs.Given.ActsActs.{BeginsEnding, Nothing, OfEnding, StepsEnding}
+use Rattle.papaya_drives.specs.Given.ActsDoings.{Stage, reclaiming}
+use Rattle.papaya_drives.specs.Given.ActsLeads.{Led}
+use Rattle.papaya_drives.specs.Given.ActsLists.{Course}
+use Rattle.papaya_drives.specs.Given.DeedsDeeds.{Ends, MapGoes}
+use Rattle.papaya_drives.specs.Given.AgreesFresh.{comes_with}
 use Rattle.papaya_drives.specs.Executors.{AreSteps, Computes}
 use Rattle.papaya_drives.proofs.Executors.{executors_act}
-use Rattle.papaya_drives.specs.Given.Played.Play.{Ending, State, ended_on, ending_begun, ending_deed, ending_stepped, is_over, play_act, settled_outcome}
-use Rattle.papaya_drives.specs.Given.Played.Reached.{IsOfStage, rows_beside}
-use Rattle.papaya_drives.proofs.Given.Played.PlayedAs.{played_as}
-use Rattle.papaya_drives.proofs.Given.Played.Tied.{ending_tied}
+use Rattle.papaya_drives.specs.Given.PlayedPlay.{Ending, State, ended_on, ending_begun, ending_deed, ending_stepped, is_over, play_act, settled_outcome}
+use Rattle.papaya_drives.specs.Given.PlayedReached.{IsOfStage, rows_beside}
+use Rattle.papaya_drives.proofs.Given.PlayedPlayedAs.{played_as}
+use Rattle.papaya_drives.proofs.Given.PlayedTied.{ending_tied}
 use Rattle.papaya_grouped.specs.Grouping.{MayHave, Names}
 use Rattle.papaya_grouped.specs.Reach.{Reach}
 use Rattle.papaya_grouped.proofs.Aside.{begun_aside, ending_aside, works_on}

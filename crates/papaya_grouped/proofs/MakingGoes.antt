@@ -3,59 +3,59 @@ use Rattle.std.specs.Prelude.{◌-◌, ◌≢◌, ◌≤◌, ◌<◌, ◌+◌, �
 use Rattle.std.specs.Int.{IsPowerOfTwo}
 use Rattle.std.proofs.Common.{◌≡◌, ℕ, Bool, true, false, List, [], ◌∷◌, refl, sym, ap, subst, arith, ◌∙◌}
 use Rattle.std.proofs.lemmas.Bool.{eq-eqb, ne_eqb}
-use Rattle.papaya_drives.specs.Given.SeizeActs.Answers.{Grant, stepped}
-use Rattle.papaya_drives.proofs.Given.SeizeActs.Answers.{same_some, was_stepped}
-use Rattle.papaya_drives.specs.Given.SeizeWords.Mem.{Mem, Took, value_at}
-use Rattle.papaya_drives.specs.Given.SeizeWords.Op.{Out, Exchanged, Made}
-use Rattle.papaya_drives.specs.Given.SeizeWords.Plan.{Steps}
-use Rattle.papaya_drives.specs.Given.SeizeWords.declared.fault.Fault.TheVariants.{RootsUsedUp}
-use Rattle.papaya_drives.specs.Given.Seize.declared.progress.Progress.{Progress}
-use Rattle.papaya_drives.specs.Given.Seize.declared.progress.Progress.TheVariants as progress
-use Rattle.papaya_drives.proofs.Given.SeizeEnds.Batches.Free.{Outcomes, plan_outcome}
-use Rattle.papaya_drives.proofs.Given.SeizeRule.Rows.Leaving.{steps_back}
+use Rattle.papaya_drives.specs.Given.SeizeActsAnswers.{Grant, stepped}
+use Rattle.papaya_drives.proofs.Given.SeizeActsAnswers.{same_some, was_stepped}
+use Rattle.papaya_drives.specs.Given.SeizeWordsMem.{Mem, Took, value_at}
+use Rattle.papaya_drives.specs.Given.SeizeWordsOp.{Out, Exchanged, Made}
+use Rattle.papaya_drives.specs.Given.SeizeWordsPlan.{Steps}
+use Rattle.papaya_drives.specs.Given.SeizeWordsDeclared.fault.Fault.TheVariants.{RootsUsedUp}
+use Rattle.papaya_drives.specs.Given.SeizeDeclared.progress.Progress.{Progress}
+use Rattle.papaya_drives.specs.Given.SeizeDeclared.progress.Progress.TheVariants as progress
+use Rattle.papaya_drives.proofs.Given.SeizeEndsBatches.Free.{Outcomes, plan_outcome}
+use Rattle.papaya_drives.proofs.Given.SeizeRuleRows.Leaving.{steps_back}
 use Rattle.papaya_runs.specs.Given.Tables.Lengths.{IsTableLen}
 use Rattle.papaya_runs.specs.Given.Tables.declared.node.Node.{Node}
 use Rattle.papaya_runs.specs.Given.Tables.declared.resize_mode.ResizeMode.{ResizeMode}
 use Rattle.papaya_runs.specs.Given.Tables.declared.setting.Setting.{Setting}
 use Rattle.papaya_runs.specs.Given.Tables.declared.table.Table.{Table}
-use Rattle.papaya_drives.specs.Given.Resize.NewMap as new_map
-use Rattle.papaya_drives.specs.Given.Resize.NewTable.{first_table, new_table_plan}
-use Rattle.papaya_drives.specs.Given.Resize.declared.new_map.NewMap.{NewMap}
-use Rattle.papaya_drives.specs.Given.Resize.declared.new_map.Opening.{Opening}
-use Rattle.papaya_drives.specs.Given.Resize.declared.new_map.Opening.TheVariants as at
-use Rattle.papaya_drives.specs.Given.Resize.declared.new_table.NewTable.{NewTable}
-use Rattle.papaya_drives.specs.Given.Teller.declared.changed.Changed.{Changed}
-use Rattle.papaya_drives.specs.Given.Points.Steps.{AreLawful}
-use Rattle.papaya_drives.specs.Given.Finishes.Makings.{Beginning}
-use Rattle.papaya_drives.proofs.Given.Callers.Together.At.{at_same}
-use Rattle.papaya_drives.specs.Given.Scenes.Scene.{Scene, slot_of}
-use Rattle.papaya_drives.specs.Given.Schedules.declared.effect.Effect.{Effect}
-use Rattle.papaya_drives.specs.Given.Schedules.declared.event.Event.{Event}
-use Rattle.papaya_drives.specs.Given.Schedules.declared.outcome.Outcome.{Outcome}
-use Rattle.papaya_drives.specs.Given.Schedules.After.{moment}
-use Rattle.papaya_drives.specs.Given.Schedules.Entry.{Entry}
-use Rattle.papaya_drives.specs.Given.Effects.Effects.{effects_of, known_after}
-use Rattle.papaya_drives.specs.Given.Effects.Known.{Known}
-use Rattle.papaya_drives.specs.Given.Effects.declared.acting.Acting.TheVariants as acting
-use Rattle.papaya_drives.specs.Given.Executor.IsThere.{IsThere, StaysGiven, making_in, work_of}
-use Rattle.papaya_drives.specs.Given.Executor.Making.{MakesThere}
-use Rattle.papaya_drives.specs.Given.Executor.MakingBegins.{MakingBegins}
-use Rattle.papaya_drives.specs.Given.Executor.declared.executor.Executor.{Executor}
-use Rattle.papaya_drives.specs.Given.Named.declared.caller.Caller.{Caller}
-use Rattle.papaya_drives.specs.Given.Acts.Acts.{Answer, BeginsMaking, Nothing, OfMaking, StepsMaking}
-use Rattle.papaya_drives.specs.Given.Acts.Doings.{Stage, reclaiming}
-use Rattle.papaya_drives.specs.Given.Acts.Leads.{Led}
-use Rattle.papaya_drives.specs.Given.Acts.Lists.{Course}
-use Rattle.papaya_drives.specs.Given.Deeds.Deeds.{Deed, MapComes, MapFails, Makes}
-use Rattle.papaya_drives.specs.Given.Deeds.Deeds.{Entry as Act}
+use Rattle.papaya_drives.specs.Given.ResizeNewMap as new_map
+use Rattle.papaya_drives.specs.Given.ResizeNewTable.{first_table, new_table_plan}
+use Rattle.papaya_drives.specs.Given.ResizeDeclared.new_map.NewMap.{NewMap}
+use Rattle.papaya_drives.specs.Given.ResizeDeclared.new_map.Opening.{Opening}
+use Rattle.papaya_drives.specs.Given.ResizeDeclared.new_map.Opening.TheVariants as at
+use Rattle.papaya_drives.specs.Given.ResizeDeclared.new_table.NewTable.{NewTable}
+use Rattle.papaya_drives.specs.Given.TellerDeclared.changed.Changed.{Changed}
+use Rattle.papaya_drives.specs.Given.PointsSteps.{AreLawful}
+use Rattle.papaya_drives.specs.Given.FinishesMakings.{Beginning}
+use Rattle.papaya_drives.proofs.Given.CallersTogether.At.{at_same}
+use Rattle.papaya_drives.specs.Given.ScenesScene.{Scene, slot_of}
+use Rattle.papaya_drives.specs.Given.SchedulesDeclared.effect.Effect.{Effect}
+use Rattle.papaya_drives.specs.Given.SchedulesDeclared.event.Event.{Event}
+use Rattle.papaya_drives.specs.Given.SchedulesDeclared.outcome.Outcome.{Outcome}
+use Rattle.papaya_drives.specs.Given.SchedulesAfter.{moment}
+use Rattle.papaya_drives.specs.Given.SchedulesEntry.{Entry}
+use Rattle.papaya_drives.specs.Given.EffectsEffects.{effects_of, known_after}
+use Rattle.papaya_drives.specs.Given.EffectsKnown.{Known}
+use Rattle.papaya_drives.specs.Given.EffectsDeclared.acting.Acting.TheVariants as acting
+use Rattle.papaya_drives.specs.Given.ExecutorIsThere.{IsThere, StaysGiven, making_in, work_of}
+use Rattle.papaya_drives.specs.Given.ExecutorMaking.{MakesThere}
+use Rattle.papaya_drives.specs.Given.ExecutorMakingBegins.{MakingBegins}
+use Rattle.papaya_drives.specs.Given.ExecutorDeclared.executor.Executor.{Executor}
+use Rattle.papaya_drives.specs.Given.NamedDeclared.caller.Caller.{Caller}
+use Rattle.papaya_drives.specs.Given.ActsActs.{Answer, BeginsMaking, Nothing, OfMaking, StepsMaking}
+use Rattle.papaya_drives.specs.Given.ActsDoings.{Stage, reclaiming}
+use Rattle.papaya_drives.specs.Given.ActsLeads.{Led}
+use Rattle.papaya_drives.specs.Given.ActsLists.{Course}
+use Rattle.papaya_drives.specs.Given.DeedsDeeds.{Deed, MapComes, MapFails, Makes}
+use Rattle.papaya_drives.specs.Given.DeedsDeeds.{Entry as Act}
 use Rattle.papaya_drives.specs.Executors.{AreSteps, Computes, IsAct}
 use Rattle.papaya_drives.proofs.Executors.{executors_act}
-use Rattle.papaya_drives.specs.Given.Agrees.Places.{ArePlaces}
-use Rattle.papaya_drives.specs.Given.Agrees.Fresh.{comes_with, is_taken}
-use Rattle.papaya_drives.specs.Given.Played.Play.{Making, Now, State, has_root, is_refusal, made_on, making_begun, making_deed, making_outcome, making_stepped, pairs_for, play_act, worked}
-use Rattle.papaya_drives.specs.Given.Played.Reached.{IsOfStage, rows_beside}
-use Rattle.papaya_drives.proofs.Given.Played.PlayedAs.{played_as}
-use Rattle.papaya_drives.proofs.Given.Played.Tied.{making_tied}
+use Rattle.papaya_drives.specs.Given.AgreesPlaces.{ArePlaces}
+use Rattle.papaya_drives.specs.Given.AgreesFresh.{comes_with, is_taken}
+use Rattle.papaya_drives.specs.Given.PlayedPlay.{Making, Now, State, has_root, is_refusal, made_on, making_begun, making_deed, making_outcome, making_stepped, pairs_for, play_act, worked}
+use Rattle.papaya_drives.specs.Given.PlayedReached.{IsOfStage, rows_beside}
+use Rattle.papaya_drives.proofs.Given.PlayedPlayedAs.{played_as}
+use Rattle.papaya_drives.proofs.Given.PlayedTied.{making_tied}
 use Rattle.papaya_grouped.specs.Called.{PlaysSo}
 use Rattle.papaya_grouped.specs.Grouping.{MayHave, Names, refuses}
 use Rattle.papaya_grouped.specs.Reach.{Reach}

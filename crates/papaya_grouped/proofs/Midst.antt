@@ -2,19 +2,19 @@
 use Rattle.std.specs.Prelude.{◌+◌, ◌≤◌, ◌++◌, if◌then◌else◌}
 use Rattle.std.specs.List.{AllByRecursion}
 use Rattle.std.proofs.Common.{◌≡◌, ℕ, Bool, true, false, List, [], ◌∷◌, inl, refl, sym, ap, subst, arith, ◌∙◌}
-use Rattle.papaya_drives.specs.Given.SeizeWords.declared.fault.Fault.TheVariants.{Busy}
-use Rattle.papaya_drives.specs.Given.Schedules.declared.effect.Effect.{Effect}
-use Rattle.papaya_drives.specs.Given.Schedules.declared.event.Event.{Event}
-use Rattle.papaya_drives.specs.Given.Schedules.declared.event.Event.TheVariants as event
-use Rattle.papaya_drives.specs.Given.Schedules.declared.outcome.Outcome.{Outcome}
-use Rattle.papaya_drives.specs.Given.Schedules.declared.outcome.Outcome.TheVariants.{Refused}
-use Rattle.papaya_drives.specs.Given.Schedules.After.{moment}
-use Rattle.papaya_drives.specs.Given.Schedules.Entry.{Entry}
-use Rattle.papaya_drives.specs.Given.Named.declared.caller.Caller.{Caller}
-use Rattle.papaya_drives.specs.Given.Deeds.Deeds.{Deed, Begins, Steps, Replies, Stops, Registers, Opens, Shuts, Leaves, Tends, MapComes, Makes, MapFails, Ends, MapGoes, ReclaimsAll}
-use Rattle.papaya_drives.specs.Given.Deeds.Deeds.{Entry as Act}
-use Rattle.papaya_drives.specs.Given.Agrees.Fresh.{comes_with, gives_back, is_taken}
-use Rattle.papaya_drives.specs.Given.Played.Play.{State}
+use Rattle.papaya_drives.specs.Given.SeizeWordsDeclared.fault.Fault.TheVariants.{Busy}
+use Rattle.papaya_drives.specs.Given.SchedulesDeclared.effect.Effect.{Effect}
+use Rattle.papaya_drives.specs.Given.SchedulesDeclared.event.Event.{Event}
+use Rattle.papaya_drives.specs.Given.SchedulesDeclared.event.Event.TheVariants as event
+use Rattle.papaya_drives.specs.Given.SchedulesDeclared.outcome.Outcome.{Outcome}
+use Rattle.papaya_drives.specs.Given.SchedulesDeclared.outcome.Outcome.TheVariants.{Refused}
+use Rattle.papaya_drives.specs.Given.SchedulesAfter.{moment}
+use Rattle.papaya_drives.specs.Given.SchedulesEntry.{Entry}
+use Rattle.papaya_drives.specs.Given.NamedDeclared.caller.Caller.{Caller}
+use Rattle.papaya_drives.specs.Given.DeedsDeeds.{Deed, Begins, Steps, Replies, Stops, Registers, Opens, Shuts, Leaves, Tends, MapComes, Makes, MapFails, Ends, MapGoes, ReclaimsAll}
+use Rattle.papaya_drives.specs.Given.DeedsDeeds.{Entry as Act}
+use Rattle.papaya_drives.specs.Given.AgreesFresh.{comes_with, gives_back, is_taken}
+use Rattle.papaya_drives.specs.Given.PlayedPlay.{State}
 use Rattle.papaya_grouped.specs.Grouping.{ComesTo, IsGroupingOf, MayHave, Names, effects_in, is_step, names_after, names_on, refuses, steps_in}
 use Rattle.papaya_grouped.specs.Called.{CallersAre, PlaysSo}
 

@@ -4,24 +4,24 @@ use Rattle.std.specs.Option.{is_none}
 use Rattle.std.specs.List.{AllByRecursion}
 use Rattle.std.proofs.Common.{◌≡◌, ℕ, Bool, List, [], ◌∷◌, refl, sym, ap, subst, arith, ◌∙◌}
 use Rattle.std.proofs.lemmas.Bool.{eq-eqb, ne_eqb}
-use Rattle.papaya_drives.proofs.Given.SeizeActs.Answers.{same_some}
-use Rattle.papaya_drives.specs.Given.Scenes.Scene.{Scene, slot_of}
-use Rattle.papaya_drives.specs.Given.Effects.Known.{Known}
-use Rattle.papaya_drives.specs.Given.Executor.IsThere.{IsThere, StaysGiven}
-use Rattle.papaya_drives.specs.Given.Executor.declared.executor.Executor.{Executor}
-use Rattle.papaya_drives.specs.Given.Acts.Acts.{Act, Answer, BeginsRow}
-use Rattle.papaya_drives.specs.Given.Acts.Doings.{Chooses, Doing, Does, HasDone, MayDo, Stage, reclaiming, scene_chosen}
-use Rattle.papaya_drives.specs.Given.Acts.Lists.{Course, LedTo, Reached, nothing_done, on_by}
-use Rattle.papaya_drives.proofs.Given.Acts.Further.{led_further}
-use Rattle.papaya_drives.specs.Given.Agrees.Places.{AsksMaps}
-use Rattle.papaya_drives.specs.Given.Agrees.Fresh.{HasNewNumber}
+use Rattle.papaya_drives.proofs.Given.SeizeActsAnswers.{same_some}
+use Rattle.papaya_drives.specs.Given.ScenesScene.{Scene, slot_of}
+use Rattle.papaya_drives.specs.Given.EffectsKnown.{Known}
+use Rattle.papaya_drives.specs.Given.ExecutorIsThere.{IsThere, StaysGiven}
+use Rattle.papaya_drives.specs.Given.ExecutorDeclared.executor.Executor.{Executor}
+use Rattle.papaya_drives.specs.Given.ActsActs.{Act, Answer, BeginsRow}
+use Rattle.papaya_drives.specs.Given.ActsDoings.{Chooses, Doing, Does, HasDone, MayDo, Stage, reclaiming, scene_chosen}
+use Rattle.papaya_drives.specs.Given.ActsLists.{Course, LedTo, Reached, nothing_done, on_by}
+use Rattle.papaya_drives.proofs.Given.ActsFurther.{led_further}
+use Rattle.papaya_drives.specs.Given.AgreesPlaces.{AsksMaps}
+use Rattle.papaya_drives.specs.Given.AgreesFresh.{HasNewNumber}
 use Rattle.papaya_drives.specs.Executors.{IsAct}
-use Rattle.papaya_drives.specs.Given.Played.Play.{State, choice_come, first_state, play, play_act, play_all}
-use Rattle.papaya_drives.specs.Given.Played.Reached.{AreOnOwn, IsOfStage, IsOnOwn}
-use Rattle.papaya_drives.proofs.Given.Played.All.{lists_are_played}
-use Rattle.papaya_drives.specs.Given.Agrees.Fresh.{IsNew}
+use Rattle.papaya_drives.specs.Given.PlayedPlay.{State, choice_come, first_state, play, play_act, play_all}
+use Rattle.papaya_drives.specs.Given.PlayedReached.{AreOnOwn, IsOfStage, IsOnOwn}
+use Rattle.papaya_drives.proofs.Given.PlayedAll.{lists_are_played}
+use Rattle.papaya_drives.specs.Given.AgreesFresh.{IsNew}
 use Rattle.papaya_grouped.specs.Reach.{LeadsTo, PlaysTo, Reach}
-use Rattle.papaya_drives.specs.Given.Schedules.Lists.{put}
+use Rattle.papaya_drives.specs.Given.SchedulesLists.{put}
 use Rattle.papaya_grouped.proofs.Aborts.{new_one, new_same, plays_one, plays_same, told_all}
 
 -- what all of these are, all of those are, and the last one, too

@@ -1,10 +1,10 @@
 -- What is so of a state wherever other facts are, is so of where a list of acts leads; and by which terms it is said makes no difference.
 use Rattle.std.proofs.Common.{ℕ, Bool, sym, subst}
-use Rattle.papaya_drives.specs.Given.Scenes.Scene.{slot_of}
-use Rattle.papaya_drives.specs.Given.Effects.Known.{Known}
-use Rattle.papaya_drives.specs.Given.Executor.declared.executor.Executor.{Executor}
-use Rattle.papaya_drives.specs.Given.Acts.Lists.{Course}
-use Rattle.papaya_drives.specs.Given.Played.Play.{State}
+use Rattle.papaya_drives.specs.Given.ScenesScene.{slot_of}
+use Rattle.papaya_drives.specs.Given.EffectsKnown.{Known}
+use Rattle.papaya_drives.specs.Given.ExecutorDeclared.executor.Executor.{Executor}
+use Rattle.papaya_drives.specs.Given.ActsLists.{Course}
+use Rattle.papaya_drives.specs.Given.PlayedPlay.{State}
 use Rattle.papaya_grouped.specs.Reach.{Reach}
 
 module _ {K V S : Type 0} (same : K → K → Bool) (by_hasher : S → K → ℕ) (hasher : S) (batch_size roots shards : ℕ) (P Q : State K V S → Type 0) (so : (x : State K V S) → P x → Q x) (e : Executor K V S) (noted : Known) where

@@ -2,53 +2,53 @@
 use Rattle.std.specs.Prelude.{◌++◌, Option, Some, None, option_map}
 use Rattle.std.specs.Option.{is_none}
 use Rattle.std.proofs.Common.{◌≡◌, ℕ, Bool, List, refl, sym, ap, subst, ◌∙◌}
-use Rattle.papaya_drives.specs.Given.SeizeActs.Answers.{Grant}
-use Rattle.papaya_drives.proofs.Given.SeizeActs.Answers.{same_some}
-use Rattle.papaya_drives.specs.Given.SeizeWords.Mem.{Mem}
-use Rattle.papaya_drives.specs.Given.Seize.World.{Row}
-use Rattle.papaya_drives.specs.Given.Seize.declared.progress.Progress.{Progress}
-use Rattle.papaya_drives.specs.Given.Seize.declared.rows.enter.Enter.{Enter}
-use Rattle.papaya_drives.specs.Given.Seize.declared.rows.enter.Unregister.{Unregister}
-use Rattle.papaya_drives.specs.Given.Seize.declared.rows.leave.Leave.{Leave}
-use Rattle.papaya_drives.specs.Given.Seize.declared.rows.register.Register.{Register}
-use Rattle.papaya_drives.specs.Given.Seize.declared.rows.settle.Settle.{Settle}
-use Rattle.papaya_drives.specs.Given.Seize.declared.rows.settle.Settled.{Settled}
-use Rattle.papaya_drives.specs.Given.Seize.declared.rows.reclaim_all.ReclaimAll.{ReclaimAll}
+use Rattle.papaya_drives.specs.Given.SeizeActsAnswers.{Grant}
+use Rattle.papaya_drives.proofs.Given.SeizeActsAnswers.{same_some}
+use Rattle.papaya_drives.specs.Given.SeizeWordsMem.{Mem}
+use Rattle.papaya_drives.specs.Given.SeizeWorld.{Row}
+use Rattle.papaya_drives.specs.Given.SeizeDeclared.progress.Progress.{Progress}
+use Rattle.papaya_drives.specs.Given.SeizeDeclared.rows.enter.Enter.{Enter}
+use Rattle.papaya_drives.specs.Given.SeizeDeclared.rows.enter.Unregister.{Unregister}
+use Rattle.papaya_drives.specs.Given.SeizeDeclared.rows.leave.Leave.{Leave}
+use Rattle.papaya_drives.specs.Given.SeizeDeclared.rows.register.Register.{Register}
+use Rattle.papaya_drives.specs.Given.SeizeDeclared.rows.settle.Settle.{Settle}
+use Rattle.papaya_drives.specs.Given.SeizeDeclared.rows.settle.Settled.{Settled}
+use Rattle.papaya_drives.specs.Given.SeizeDeclared.rows.reclaim_all.ReclaimAll.{ReclaimAll}
 use Rattle.papaya_runs.specs.Given.Tables.declared.node.Node.{Node}
-use Rattle.papaya_drives.specs.Given.Teller.declared.changed.Changed.{Changed}
-use Rattle.papaya_drives.specs.Given.Finishes.Machines.{machine_of}
-use Rattle.papaya_drives.proofs.Given.Scenes.NoCall.{none_of}
-use Rattle.papaya_drives.proofs.Given.Scenes.Rows.{one_row}
-use Rattle.papaya_drives.specs.Given.Scenes.Rows.{of_registering, of_settling, of_storing, request_of}
-use Rattle.papaya_drives.specs.Given.Scenes.Scene.{HasNoCall, Scene, row_of, slot_of}
-use Rattle.papaya_drives.specs.Given.Scenes.declared.row.RowTold.{RowTold}
-use Rattle.papaya_drives.specs.Given.Scenes.declared.row.SlotCall.{SlotCall}
-use Rattle.papaya_drives.specs.Given.Scenes.declared.row.SlotRow.{SlotRow}
-use Rattle.papaya_drives.specs.Given.Scenes.declared.row.SlotRow.TheVariants as rows
-use Rattle.papaya_drives.specs.Given.Schedules.declared.effect.Effect.{Effect}
-use Rattle.papaya_drives.specs.Given.Schedules.declared.event.Event.{Event}
-use Rattle.papaya_drives.specs.Given.Schedules.declared.outcome.Outcome.{Outcome}
-use Rattle.papaya_drives.specs.Given.Schedules.After.{moment}
-use Rattle.papaya_drives.specs.Given.Schedules.Entry.{Entry}
-use Rattle.papaya_drives.specs.Given.Effects.Effects.{effects_of, known_after}
-use Rattle.papaya_drives.specs.Given.Effects.Known.{Known}
-use Rattle.papaya_drives.specs.Given.Effects.declared.acting.Acting.TheVariants as acting
-use Rattle.papaya_drives.specs.Given.Executor.IsThere.{HasRow, IsThere, StaysGiven, call_in, work_of}
-use Rattle.papaya_drives.specs.Given.Executor.OnSlots.{MayBegin, RowBeginsThere, RowStepsThere}
-use Rattle.papaya_drives.specs.Given.Executor.declared.executor.Executor.{Executor}
-use Rattle.papaya_drives.specs.Given.Executor.declared.worker.Work.{Work}
-use Rattle.papaya_drives.specs.Given.Executor.declared.worker.Work.TheVariants as work
-use Rattle.papaya_drives.specs.Given.Named.declared.caller.Caller.{Caller}
-use Rattle.papaya_drives.specs.Given.Acts.Acts.{BeginsRow, Nothing, StepsRow}
-use Rattle.papaya_drives.specs.Given.Acts.AsSteps.{row_changed}
-use Rattle.papaya_drives.specs.Given.Acts.Doings.{Stage, reclaiming}
-use Rattle.papaya_drives.specs.Given.Acts.Lists.{Course}
-use Rattle.papaya_drives.proofs.Given.Agrees.Told.{row_of_no_map}
+use Rattle.papaya_drives.specs.Given.TellerDeclared.changed.Changed.{Changed}
+use Rattle.papaya_drives.specs.Given.FinishesMachines.{machine_of}
+use Rattle.papaya_drives.proofs.Given.ScenesNoCall.{none_of}
+use Rattle.papaya_drives.proofs.Given.ScenesRows.{one_row}
+use Rattle.papaya_drives.specs.Given.ScenesRows.{of_registering, of_settling, of_storing, request_of}
+use Rattle.papaya_drives.specs.Given.ScenesScene.{HasNoCall, Scene, row_of, slot_of}
+use Rattle.papaya_drives.specs.Given.ScenesDeclared.row.RowTold.{RowTold}
+use Rattle.papaya_drives.specs.Given.ScenesDeclared.row.SlotCall.{SlotCall}
+use Rattle.papaya_drives.specs.Given.ScenesDeclared.row.SlotRow.{SlotRow}
+use Rattle.papaya_drives.specs.Given.ScenesDeclared.row.SlotRow.TheVariants as rows
+use Rattle.papaya_drives.specs.Given.SchedulesDeclared.effect.Effect.{Effect}
+use Rattle.papaya_drives.specs.Given.SchedulesDeclared.event.Event.{Event}
+use Rattle.papaya_drives.specs.Given.SchedulesDeclared.outcome.Outcome.{Outcome}
+use Rattle.papaya_drives.specs.Given.SchedulesAfter.{moment}
+use Rattle.papaya_drives.specs.Given.SchedulesEntry.{Entry}
+use Rattle.papaya_drives.specs.Given.EffectsEffects.{effects_of, known_after}
+use Rattle.papaya_drives.specs.Given.EffectsKnown.{Known}
+use Rattle.papaya_drives.specs.Given.EffectsDeclared.acting.Acting.TheVariants as acting
+use Rattle.papaya_drives.specs.Given.ExecutorIsThere.{HasRow, IsThere, StaysGiven, call_in, work_of}
+use Rattle.papaya_drives.specs.Given.ExecutorOnSlots.{MayBegin, RowBeginsThere, RowStepsThere}
+use Rattle.papaya_drives.specs.Given.ExecutorDeclared.executor.Executor.{Executor}
+use Rattle.papaya_drives.specs.Given.ExecutorDeclared.worker.Work.{Work}
+use Rattle.papaya_drives.specs.Given.ExecutorDeclared.worker.Work.TheVariants as work
+use Rattle.papaya_drives.specs.Given.NamedDeclared.caller.Caller.{Caller}
+use Rattle.papaya_drives.specs.Given.ActsActs.{BeginsRow, Nothing, StepsRow}
+use Rattle.papaya_drives.specs.Given.ActsAsSteps.{row_changed}
+use Rattle.papaya_drives.specs.Given.ActsDoings.{Stage, reclaiming}
+use Rattle.papaya_drives.specs.Given.ActsLists.{Course}
+use Rattle.papaya_drives.proofs.Given.AgreesTold.{row_of_no_map}
 use Rattle.papaya_drives.specs.Executors.{AreSteps, RowIsComputed}
 use Rattle.papaya_drives.proofs.Executors.{executors_act}
-use Rattle.papaya_drives.specs.Given.Played.Play.{State, play_act, row_begun, row_deed, row_outcome, row_stepped, slot_row_steps}
-use Rattle.papaya_drives.specs.Given.Played.Reached.{IsOfStage, row_or_rests, rows_beside}
-use Rattle.papaya_drives.proofs.Given.Played.PlayedAs.{played_as}
+use Rattle.papaya_drives.specs.Given.PlayedPlay.{State, play_act, row_begun, row_deed, row_outcome, row_stepped, slot_row_steps}
+use Rattle.papaya_drives.specs.Given.PlayedReached.{IsOfStage, row_or_rests, rows_beside}
+use Rattle.papaya_drives.proofs.Given.PlayedPlayedAs.{played_as}
 use Rattle.papaya_grouped.specs.Grouping.{MayHave, Names}
 use Rattle.papaya_grouped.specs.Reach.{Reach}
 use Rattle.papaya_grouped.proofs.Aside.{begun_aside, row_aside, works_on}

@@ -2,21 +2,21 @@
 use Rattle.std.proofs.Common.{◌≡◌, ℕ, Bool, true, false, inl, inr, List, [], ◌∷◌, refl, Some, None}
 use Rattle.std.specs.Prelude.{◌⊎◌, Option}
 use Rattle.papaya_runs.specs.Given.Tables.declared.resize_mode.ResizeMode.TheVariants.{Incremental}
-use Rattle.papaya_drives.specs.Given.Schedules.declared.call.Answer.TheVariants.{Absent}
-use Rattle.papaya_drives.specs.Given.Schedules.declared.call.Call.TheVariants.{On}
-use Rattle.papaya_drives.specs.Given.Schedules.declared.call.OneKey.TheVariants.{Get}
-use Rattle.papaya_drives.specs.Given.Schedules.declared.effect.Effect.{Effect}
-use Rattle.papaya_drives.specs.Given.Schedules.declared.effect.Effect.TheVariants.{Asked, Reclaimed}
-use Rattle.papaya_drives.specs.Given.Schedules.declared.effect.Growth.TheVariants.{ABucket}
-use Rattle.papaya_drives.specs.Given.Schedules.declared.effect.Thing.TheVariants.{APair}
-use Rattle.papaya_drives.specs.Given.Schedules.declared.event.Event.{Event}
-use Rattle.papaya_drives.specs.Given.Schedules.declared.event.Event.TheVariants as event
-use Rattle.papaya_drives.specs.Given.Schedules.declared.outcome.Outcome.{Outcome}
-use Rattle.papaya_drives.specs.Given.Schedules.declared.outcome.Outcome.TheVariants.{Done, Slot, Goes, Answered}
-use Rattle.papaya_drives.specs.Given.Schedules.After.{moment}
-use Rattle.papaya_drives.specs.Given.Schedules.Entry.{Entry}
-use Rattle.papaya_drives.specs.Given.Deeds.Deeds.{Deed, Begins, Steps, Registers, Opens, MapComes, Makes}
-use Rattle.papaya_drives.specs.Given.Deeds.Deeds.{Entry as Act}
+use Rattle.papaya_drives.specs.Given.SchedulesDeclared.call.Answer.TheVariants.{Absent}
+use Rattle.papaya_drives.specs.Given.SchedulesDeclared.call.Call.TheVariants.{On}
+use Rattle.papaya_drives.specs.Given.SchedulesDeclared.call.OneKey.TheVariants.{Get}
+use Rattle.papaya_drives.specs.Given.SchedulesDeclared.effect.Effect.{Effect}
+use Rattle.papaya_drives.specs.Given.SchedulesDeclared.effect.Effect.TheVariants.{Asked, Reclaimed}
+use Rattle.papaya_drives.specs.Given.SchedulesDeclared.effect.Growth.TheVariants.{ABucket}
+use Rattle.papaya_drives.specs.Given.SchedulesDeclared.effect.Thing.TheVariants.{APair}
+use Rattle.papaya_drives.specs.Given.SchedulesDeclared.event.Event.{Event}
+use Rattle.papaya_drives.specs.Given.SchedulesDeclared.event.Event.TheVariants as event
+use Rattle.papaya_drives.specs.Given.SchedulesDeclared.outcome.Outcome.{Outcome}
+use Rattle.papaya_drives.specs.Given.SchedulesDeclared.outcome.Outcome.TheVariants.{Done, Slot, Goes, Answered}
+use Rattle.papaya_drives.specs.Given.SchedulesAfter.{moment}
+use Rattle.papaya_drives.specs.Given.SchedulesEntry.{Entry}
+use Rattle.papaya_drives.specs.Given.DeedsDeeds.{Deed, Begins, Steps, Registers, Opens, MapComes, Makes}
+use Rattle.papaya_drives.specs.Given.DeedsDeeds.{Entry as Act}
 use Rattle.papaya_grouped.specs.Grouping.{IsGroupingOf, IsPieceOf, Names, names_after}
 
 abbrev entry : Event ℕ ℕ → Outcome ℕ → ℕ → List Effect → Entry ℕ ℕ

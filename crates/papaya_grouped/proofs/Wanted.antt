@@ -1,18 +1,18 @@
 -- What a call of a run wants of a map: what begins then is that call, with its machine.
 use Rattle.std.specs.Prelude.{Some, None}
 use Rattle.std.proofs.Common.{◌≡◌, ℕ, Bool, refl}
-use Rattle.papaya_drives.specs.Given.Sweeps.declared.sweep.Purpose.TheVariants as purpose
-use Rattle.papaya_drives.specs.Given.Callers.Together.{in_slot}
-use Rattle.papaya_drives.specs.Given.Finishes.Machines.{machine_of}
-use Rattle.papaya_drives.specs.Given.Finishes.Maps.{Standing}
-use Rattle.papaya_drives.specs.Given.Scenes.Scene.{slot_of}
-use Rattle.papaya_drives.specs.Given.Acts.Acts.{Wanted, Get, Remove, Insert, TryToInsert, Compute, Update, UpdateOrInsert, TryToInsertWith, RemoveIf, GetKeyValue, ContainsKey, GetOrInsert, GetOrInsertWith, RemoveEntry, MakeRoom, Count, GoOver, begun}
-use Rattle.papaya_drives.specs.Given.Named.Machines.{machine_for}
-use Rattle.papaya_drives.specs.Given.Played.Play.{call_for}
-use Rattle.papaya_drives.specs.Given.Schedules.declared.call.Call.{Call}
-use Rattle.papaya_drives.specs.Given.Schedules.declared.call.Call.TheVariants as calls
-use Rattle.papaya_drives.specs.Given.Schedules.declared.call.OneKey.{OneKey}
-use Rattle.papaya_drives.specs.Given.Schedules.declared.call.OneKey.TheVariants as one
+use Rattle.papaya_drives.specs.Given.SweepsDeclared.sweep.Purpose.TheVariants as purpose
+use Rattle.papaya_drives.specs.Given.CallersTogether.{in_slot}
+use Rattle.papaya_drives.specs.Given.FinishesMachines.{machine_of}
+use Rattle.papaya_drives.specs.Given.FinishesMaps.{Standing}
+use Rattle.papaya_drives.specs.Given.ScenesScene.{slot_of}
+use Rattle.papaya_drives.specs.Given.ActsActs.{Wanted, Get, Remove, Insert, TryToInsert, Compute, Update, UpdateOrInsert, TryToInsertWith, RemoveIf, GetKeyValue, ContainsKey, GetOrInsert, GetOrInsertWith, RemoveEntry, MakeRoom, Count, GoOver, begun}
+use Rattle.papaya_drives.specs.Given.NamedMachines.{machine_for}
+use Rattle.papaya_drives.specs.Given.PlayedPlay.{call_for}
+use Rattle.papaya_drives.specs.Given.SchedulesDeclared.call.Call.{Call}
+use Rattle.papaya_drives.specs.Given.SchedulesDeclared.call.Call.TheVariants as calls
+use Rattle.papaya_drives.specs.Given.SchedulesDeclared.call.OneKey.{OneKey}
+use Rattle.papaya_drives.specs.Given.SchedulesDeclared.call.OneKey.TheVariants as one
 
 module _ {K V : Type 0} where
   abbrev pub wanted_on : OneKey K V → Wanted K V

@@ -1,14 +1,14 @@
 -- That a run is by acts: of which list of acts its log is the grouping.
 use Rattle.std.specs.Prelude.{◌≡◌, ◌<◌, ◌^◌, ℕ, Bool, List, Some}
 use Rattle.std.specs.List.{AllByRecursion}
-use Rattle.papaya_drives.specs.Given.Scenes.Scene.{slot_of}
-use Rattle.papaya_drives.specs.Given.Schedules.Entry.{Entry}
-use Rattle.papaya_drives.specs.Given.Schedules.Terms.{Terms, shards_of}
-use Rattle.papaya_drives.specs.Given.Acts.Doings.{Doing}
-use Rattle.papaya_drives.specs.Given.Acts.Lists.{Course, LedTo, Reached}
-use Rattle.papaya_drives.specs.Given.Agrees.Places.{AsksMaps}
-use Rattle.papaya_drives.specs.Given.Agrees.Fresh.{MakesNew}
-use Rattle.papaya_drives.specs.Given.Played.Play.{State, first_state, play_all}
+use Rattle.papaya_drives.specs.Given.ScenesScene.{slot_of}
+use Rattle.papaya_drives.specs.Given.SchedulesEntry.{Entry}
+use Rattle.papaya_drives.specs.Given.SchedulesTerms.{Terms, shards_of}
+use Rattle.papaya_drives.specs.Given.ActsDoings.{Doing}
+use Rattle.papaya_drives.specs.Given.ActsLists.{Course, LedTo, Reached}
+use Rattle.papaya_drives.specs.Given.AgreesPlaces.{AsksMaps}
+use Rattle.papaya_drives.specs.Given.AgreesFresh.{MakesNew}
+use Rattle.papaya_drives.specs.Given.PlayedPlay.{State, first_state, play_all}
 use Rattle.papaya_grouped.specs.Grouping.{IsGroupingOf, Names}
 
 -- Keys have a hash by each hasher; a batch has such a size, and there are so many roots; and a closure that is told to abort as the n-th act aborts with that.

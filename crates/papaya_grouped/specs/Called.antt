@@ -1,12 +1,12 @@
 -- That callers go by their numbers, and their calls are played; and that a log is the grouping of the history that was played.
 use Rattle.std.specs.Prelude.{◌≡◌, ◌≤◌, ◌==◌, ℕ, false, List, Some, filter, length}
 use Rattle.std.specs.List.{AllByRecursion}
-use Rattle.papaya_drives.specs.Given.Schedules.After.{moment}
-use Rattle.papaya_drives.specs.Given.Schedules.Entry.{Entry}
-use Rattle.papaya_drives.specs.Given.Named.Seen.{kind_of}
-use Rattle.papaya_drives.specs.Given.Named.declared.caller.Caller.{Caller}
-use Rattle.papaya_drives.specs.Given.Agrees.Fresh.{is_taken}
-use Rattle.papaya_drives.specs.Given.Played.Play.{Calling, State}
+use Rattle.papaya_drives.specs.Given.SchedulesAfter.{moment}
+use Rattle.papaya_drives.specs.Given.SchedulesEntry.{Entry}
+use Rattle.papaya_drives.specs.Given.NamedSeen.{kind_of}
+use Rattle.papaya_drives.specs.Given.NamedDeclared.caller.Caller.{Caller}
+use Rattle.papaya_drives.specs.Given.AgreesFresh.{is_taken}
+use Rattle.papaya_drives.specs.Given.PlayedPlay.{Calling, State}
 use Rattle.papaya_grouped.specs.Grouping.{IsGroupingOf, Names, number_called}
 
 module _ {K V S : Type 0} where

@@ -3,18 +3,18 @@ use Rattle.std.specs.Prelude.{◌≡◌, ◌≢◌, ◌⊎◌, ◌==◌, not, �
 use Rattle.std.specs.List.{AllByRecursion}
 use Rattle.papaya_runs.specs.Present.{guard_of, guards_on, living_slot, registration_of}
 use Rattle.papaya_runs.specs.Same.{is_same}
-use Rattle.papaya_drives.specs.Given.Schedules.declared.effect.Effect.{Effect}
-use Rattle.papaya_drives.specs.Given.Schedules.declared.event.Event.{Event}
-use Rattle.papaya_drives.specs.Given.Schedules.declared.event.Event.TheVariants as event
-use Rattle.papaya_drives.specs.Given.Schedules.declared.outcome.Outcome.{Outcome}
-use Rattle.papaya_drives.specs.Given.Schedules.declared.outcome.Outcome.TheVariants as outcome
-use Rattle.papaya_drives.specs.Given.Schedules.After.{moment}
-use Rattle.papaya_drives.specs.Given.Schedules.Entry.{Entry, nameless}
-use Rattle.papaya_drives.specs.Given.Schedules.Moment.{Moment}
-use Rattle.papaya_drives.specs.Given.Schedules.Views.{number_of}
-use Rattle.papaya_drives.specs.Given.Named.Places.{first_places}
-use Rattle.papaya_drives.specs.Given.Deeds.Deeds.{Deed, Begins, Steps, Replies, Stops, Registers, Opens, Shuts, Leaves, Tends, MapComes, Makes, MapFails, Ends, MapGoes, ReclaimsAll}
-use Rattle.papaya_drives.specs.Given.Deeds.Deeds.{Entry as Act}
+use Rattle.papaya_drives.specs.Given.SchedulesDeclared.effect.Effect.{Effect}
+use Rattle.papaya_drives.specs.Given.SchedulesDeclared.event.Event.{Event}
+use Rattle.papaya_drives.specs.Given.SchedulesDeclared.event.Event.TheVariants as event
+use Rattle.papaya_drives.specs.Given.SchedulesDeclared.outcome.Outcome.{Outcome}
+use Rattle.papaya_drives.specs.Given.SchedulesDeclared.outcome.Outcome.TheVariants as outcome
+use Rattle.papaya_drives.specs.Given.SchedulesAfter.{moment}
+use Rattle.papaya_drives.specs.Given.SchedulesEntry.{Entry, nameless}
+use Rattle.papaya_drives.specs.Given.SchedulesMoment.{Moment}
+use Rattle.papaya_drives.specs.Given.SchedulesViews.{number_of}
+use Rattle.papaya_drives.specs.Given.NamedPlaces.{first_places}
+use Rattle.papaya_drives.specs.Given.DeedsDeeds.{Deed, Begins, Steps, Replies, Stops, Registers, Opens, Shuts, Leaves, Tends, MapComes, Makes, MapFails, Ends, MapGoes, ReclaimsAll}
+use Rattle.papaya_drives.specs.Given.DeedsDeeds.{Entry as Act}
 
 -- In a run callers have names, and in a history numbers: by which number each name goes, the newest first. A number goes by one name.
 abbrev pub Names : Type 0

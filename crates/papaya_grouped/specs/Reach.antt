@@ -1,15 +1,15 @@
 -- Where an executor is by acts, in the midst of an event: a list of acts has led there by every course, and what it comes to as it is played.
 use Rattle.std.specs.Prelude.{◌≡◌, ℕ, Bool, List, None, Some}
 use Rattle.std.specs.List.{AllByRecursion}
-use Rattle.papaya_drives.specs.Given.Scenes.Scene.{slot_of}
-use Rattle.papaya_drives.specs.Given.Effects.Known.{Known}
-use Rattle.papaya_drives.specs.Given.Executor.IsThere.{IsThere}
-use Rattle.papaya_drives.specs.Given.Executor.declared.executor.Executor.{Executor}
-use Rattle.papaya_drives.specs.Given.Acts.Doings.{Doing, Stage, reclaiming}
-use Rattle.papaya_drives.specs.Given.Acts.Lists.{Course, LedTo, Reached}
-use Rattle.papaya_drives.specs.Given.Agrees.Places.{AsksMaps}
-use Rattle.papaya_drives.specs.Given.Played.Play.{State, first_state, play_all}
-use Rattle.papaya_drives.specs.Given.Agrees.Fresh.{MakesNew}
+use Rattle.papaya_drives.specs.Given.ScenesScene.{slot_of}
+use Rattle.papaya_drives.specs.Given.EffectsKnown.{Known}
+use Rattle.papaya_drives.specs.Given.ExecutorIsThere.{IsThere}
+use Rattle.papaya_drives.specs.Given.ExecutorDeclared.executor.Executor.{Executor}
+use Rattle.papaya_drives.specs.Given.ActsDoings.{Doing, Stage, reclaiming}
+use Rattle.papaya_drives.specs.Given.ActsLists.{Course, LedTo, Reached}
+use Rattle.papaya_drives.specs.Given.AgreesPlaces.{AsksMaps}
+use Rattle.papaya_drives.specs.Given.PlayedPlay.{State, first_state, play_all}
+use Rattle.papaya_drives.specs.Given.AgreesFresh.{MakesNew}
 
 module _ {K V S : Type 0} (same : K → K → Bool) (by_hasher : S → K → ℕ) (hasher : S) (batch_size roots shards : ℕ) where
   -- Played so far, with what closures abort with, and with what is known of the blocks, this is so of the state.

@@ -1,38 +1,38 @@
 -- A call that copies pairs may ask for each block that it makes, as its map has a second table.
 use Rattle.std.specs.Prelude.{◌≡◌, ℕ, Bool, List, ◌∷◌, Some}
 use Rattle.std.proofs.Common.{refl, sym, subst, ◌∙◌, inl, inr}
-use Rattle.papaya_purposes.specs.Given.Tables.declared.node.Node.{Node}
-use Rattle.papaya_purposes.specs.Given.Raw.Call.{call_plan}
-use Rattle.papaya_purposes.specs.Given.Raw.Machine.{called as of_key, swept as of_sweep}
-use Rattle.papaya_purposes.specs.Given.Raw.declared.machines.call.Calling.{Calling}
-use Rattle.papaya_purposes.specs.Given.Raw.declared.machines.call.Calling.TheVariants as calling
-use Rattle.papaya_purposes.specs.Given.Raw.declared.machines.progress.Progress.{Progress}
-use Rattle.papaya_purposes.specs.Given.Resize.declared.new_table.NewTable.{NewTable}
-use Rattle.papaya_purposes.specs.Given.Sweeps.Sweep.{sweep_plan}
-use Rattle.papaya_purposes.specs.Given.Schedules.declared.call.Call.{Call}
-use Rattle.papaya_purposes.specs.Given.Schedules.declared.call.Call.TheVariants as call
-use Rattle.papaya_purposes.specs.Given.Schedules.Growing.{HasNext, MayGrow}
-use Rattle.papaya_purposes.specs.Given.Schedules.Lists.{OneOf}
-use Rattle.papaya_purposes.specs.Given.Schedules.Moment.{UnderWay as CallThere, Moment}
-use Rattle.papaya_purposes.specs.Given.Schedules.Terms.{Terms}
-use Rattle.papaya_purposes.specs.Given.Schedules.Views.{call_of}
-use Rattle.papaya_purposes.specs.Given.Teller.declared.changed.Changed.{Changed}
-use Rattle.papaya_purposes.specs.Given.Points.FactsCalls.{IsCopying}
-use Rattle.papaya_purposes.specs.Given.Callers.OverAll.{CallOverAll}
-use Rattle.papaya_purposes.specs.Given.Callers.Together.{CallOnKey, UnderWay, OnKey, ForRoom, Counting, OverAll}
-use Rattle.papaya_purposes.specs.Given.Effects.Known.{Known}
-use Rattle.papaya_purposes.specs.Given.Finishes.Machines.{machine_of}
-use Rattle.papaya_purposes.specs.Given.Follows.Calls.{IsCalled}
-use Rattle.papaya_purposes.proofs.Given.Follows.Steps.{WentTo, went_to}
-use Rattle.papaya_purposes.specs.Given.Moments.Whole.{ShowsWhole}
-use Rattle.papaya_purposes.proofs.Given.Others.Outcomes.{told_in}
-use Rattle.papaya_purposes.specs.Given.Owes.Making.{making_in_calling, making_in_sweeping}
-use Rattle.papaya_purposes.proofs.Given.Owes.Walks.{IsToOwn, call_makes, sweep_makes}
+use Rattle.papaya_purposes.specs.Given.TablesDeclared.node.Node.{Node}
+use Rattle.papaya_purposes.specs.Given.RawCall.{call_plan}
+use Rattle.papaya_purposes.specs.Given.RawMachine.{called as of_key, swept as of_sweep}
+use Rattle.papaya_purposes.specs.Given.RawDeclared.machines.call.Calling.{Calling}
+use Rattle.papaya_purposes.specs.Given.RawDeclared.machines.call.Calling.TheVariants as calling
+use Rattle.papaya_purposes.specs.Given.RawDeclared.machines.progress.Progress.{Progress}
+use Rattle.papaya_purposes.specs.Given.ResizeDeclared.new_table.NewTable.{NewTable}
+use Rattle.papaya_purposes.specs.Given.SweepsSweep.{sweep_plan}
+use Rattle.papaya_purposes.specs.Given.SchedulesDeclared.call.Call.{Call}
+use Rattle.papaya_purposes.specs.Given.SchedulesDeclared.call.Call.TheVariants as call
+use Rattle.papaya_purposes.specs.Given.SchedulesGrowing.{HasNext, MayGrow}
+use Rattle.papaya_purposes.specs.Given.SchedulesLists.{OneOf}
+use Rattle.papaya_purposes.specs.Given.SchedulesMoment.{UnderWay as CallThere, Moment}
+use Rattle.papaya_purposes.specs.Given.SchedulesTerms.{Terms}
+use Rattle.papaya_purposes.specs.Given.SchedulesViews.{call_of}
+use Rattle.papaya_purposes.specs.Given.TellerDeclared.changed.Changed.{Changed}
+use Rattle.papaya_purposes.specs.Given.PointsFactsCalls.{IsCopying}
+use Rattle.papaya_purposes.specs.Given.CallersOverAll.{CallOverAll}
+use Rattle.papaya_purposes.specs.Given.CallersTogether.{CallOnKey, UnderWay, OnKey, ForRoom, Counting, OverAll}
+use Rattle.papaya_purposes.specs.Given.EffectsKnown.{Known}
+use Rattle.papaya_purposes.specs.Given.FinishesMachines.{machine_of}
+use Rattle.papaya_purposes.specs.Given.FollowsCalls.{IsCalled}
+use Rattle.papaya_purposes.proofs.Given.FollowsSteps.{WentTo, went_to}
+use Rattle.papaya_purposes.specs.Given.MomentsWhole.{ShowsWhole}
+use Rattle.papaya_purposes.proofs.Given.OthersOutcomes.{told_in}
+use Rattle.papaya_purposes.specs.Given.OwesMaking.{making_in_calling, making_in_sweeping}
+use Rattle.papaya_purposes.proofs.Given.OwesWalks.{IsToOwn, call_makes, sweep_makes}
 use Rattle.papaya_grows.specs.Copiers.{copier_in_calling, making_of_copier, MakesByCopier, CopiersMayAsk}
-use Rattle.papaya_purposes.proofs.Given.Finds.Grows.Asked.{Asks, made_of, may_ask}
-use Rattle.papaya_purposes.specs.Given.Scenes.Held.{Held, IsAt}
-use Rattle.papaya_purposes.specs.Given.Scenes.Scene.{Scene}
-use Rattle.papaya_purposes.specs.Given.Scenes.Stepping.{StepLeads, StepsFrom}
+use Rattle.papaya_purposes.proofs.Given.FindsGrows.Asked.{Asks, made_of, may_ask}
+use Rattle.papaya_purposes.specs.Given.ScenesHeld.{Held, IsAt}
+use Rattle.papaya_purposes.specs.Given.ScenesScene.{Scene}
+use Rattle.papaya_purposes.specs.Given.ScenesStepping.{StepLeads, StepsFrom}
 
 -- a call that copies makes no block for a pair, and no table but its copier's
 

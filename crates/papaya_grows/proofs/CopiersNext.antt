@@ -3,14 +3,14 @@ use Rattle.std.specs.Prelude.{◌≡◌, ℕ, zero, suc, ◌+◌, ◌<◌, ◌�
 use Rattle.std.proofs.Common.{refl, ap, ◌∙◌, arith, length-append}
 use Rattle.std.proofs.lemmas.Bool.{leb-false}
 use Rattle.std.proofs.lemmas.List.Elements.{filter-append}
-use Rattle.papaya_purposes.specs.Given.Schedules.Growing.{HasNext}
-use Rattle.papaya_purposes.specs.Given.Schedules.Moment.{Stage, TableThere, Moment}
-use Rattle.papaya_purposes.specs.Given.Schedules.Views.{first_of, chain_of}
-use Rattle.papaya_purposes.specs.Given.Rule.Chart.{Chart}
-use Rattle.papaya_purposes.specs.Given.Effects.Known.{Known}
-use Rattle.papaya_purposes.specs.Given.Finishes.Maps.{Standing}
-use Rattle.papaya_purposes.specs.Given.Follows.Maps.{table_of, shape_at, tables_to, ShowsMap}
-use Rattle.papaya_purposes.proofs.Given.Follows.Finds.{first_is}
+use Rattle.papaya_purposes.specs.Given.SchedulesGrowing.{HasNext}
+use Rattle.papaya_purposes.specs.Given.SchedulesMoment.{Stage, TableThere, Moment}
+use Rattle.papaya_purposes.specs.Given.SchedulesViews.{first_of, chain_of}
+use Rattle.papaya_purposes.specs.Given.RuleChart.{Chart}
+use Rattle.papaya_purposes.specs.Given.EffectsKnown.{Known}
+use Rattle.papaya_purposes.specs.Given.FinishesMaps.{Standing}
+use Rattle.papaya_purposes.specs.Given.FollowsMaps.{table_of, shape_at, tables_to, ShowsMap}
+use Rattle.papaya_purposes.proofs.Given.FollowsFinds.{first_is}
 
 -- Of so many tables of a map no more lie before a turn than that says.
 

@@ -1,49 +1,49 @@
 -- What is so of each call under way by what is so of its map, or was at a moment since it began, whatever happens.
 use Rattle.std.specs.Prelude.{◌≡◌, ◌≢◌, ◌⊎◌, ◌≤◌, ◌+◌, ◌==◌, ℕ, Bool, true, false, cond, not, List, find, map as list_map, Some, if◌then◌else◌}
 use Rattle.std.proofs.Common.{refl, ap, sym, subst, ◌∙◌, arith, inl, inr}
-use Rattle.papaya_purposes.specs.Given.Tables.declared.node.Node.{Node}
-use Rattle.papaya_purposes.specs.Given.Raw.Machine.{machine_asked, machine_replied}
-use Rattle.papaya_purposes.specs.Given.Raw.declared.machines.asking.Reply.{Reply as MachineReply}
-use Rattle.papaya_purposes.specs.Given.Raw.declared.machines.machine.Machine.{Machine}
-use Rattle.papaya_purposes.specs.Given.Raw.declared.machines.progress.Progress.{Progress}
-use Rattle.papaya_purposes.specs.Given.Runs.Same.{is_same}
-use Rattle.papaya_purposes.specs.Given.Schedules.declared.call.Call.{Call}
-use Rattle.papaya_purposes.specs.Given.Schedules.declared.call.Reply.{Reply}
-use Rattle.papaya_purposes.specs.Given.Schedules.declared.effect.Effect.{Effect}
-use Rattle.papaya_purposes.specs.Given.Schedules.declared.outcome.Outcome.{Outcome}
-use Rattle.papaya_purposes.specs.Given.Schedules.After.{replied, without_call}
-use Rattle.papaya_purposes.specs.Given.Schedules.Beginning.{fresh_call, with_call}
-use Rattle.papaya_purposes.specs.Given.Schedules.Effects.{with_effects}
-use Rattle.papaya_purposes.specs.Given.Schedules.Entry.{ends_call}
-use Rattle.papaya_purposes.specs.Given.Schedules.Lists.{OneOf}
-use Rattle.papaya_purposes.specs.Given.Schedules.Moment.{MapThere, Moment, UnderWay as CallThere}
-use Rattle.papaya_purposes.specs.Given.Schedules.Views.{call_of, map_at}
-use Rattle.papaya_purposes.specs.Given.Callers.Together.{UnderWay}
-use Rattle.papaya_purposes.specs.Given.Effects.Effects.{effects_of}
-use Rattle.papaya_purposes.specs.Given.Effects.Known.{Known}
-use Rattle.papaya_purposes.specs.Given.Effects.declared.acting.Acting.TheVariants as acts
-use Rattle.papaya_purposes.specs.Given.Finishes.Machines.{machine_of}
-use Rattle.papaya_purposes.specs.Given.Finishes.Maps.{Standing, with_call as with_in}
-use Rattle.papaya_purposes.specs.Given.Follows.Calling.{NoneNamed, come_to, told}
-use Rattle.papaya_purposes.specs.Given.Follows.Calls.{ShowsCalls as IsThere}
-use Rattle.papaya_purposes.proofs.Given.Follows.Calling.{apart_back, come, come_of_same, found_kept, replied_same}
-use Rattle.papaya_purposes.proofs.Given.Follows.Calls.{found}
-use Rattle.papaya_purposes.proofs.Given.Follows.Steps.{WentTo, one_of, went_to}
-use Rattle.papaya_purposes.proofs.Given.Hands.Asking.{which}
-use Rattle.papaya_purposes.proofs.Given.Hands.Calling.{caller_is}
-use Rattle.papaya_purposes.specs.Given.Others.Walks.{given_up}
-use Rattle.papaya_purposes.specs.Given.Moments.Whole.{ShowsWhole}
-use Rattle.papaya_purposes.proofs.Given.Histories.Begun.{comes_begun, effects_begun, if_begun, replied_begun}
-use Rattle.papaya_purposes.proofs.Given.Histories.Logs.{grows, now_there}
-use Rattle.papaya_purposes.proofs.Given.Owes.Calls.{goes_as_one}
+use Rattle.papaya_purposes.specs.Given.TablesDeclared.node.Node.{Node}
+use Rattle.papaya_purposes.specs.Given.RawMachine.{machine_asked, machine_replied}
+use Rattle.papaya_purposes.specs.Given.RawDeclared.machines.asking.Reply.{Reply as MachineReply}
+use Rattle.papaya_purposes.specs.Given.RawDeclared.machines.machine.Machine.{Machine}
+use Rattle.papaya_purposes.specs.Given.RawDeclared.machines.progress.Progress.{Progress}
+use Rattle.papaya_purposes.specs.Given.RunsSame.{is_same}
+use Rattle.papaya_purposes.specs.Given.SchedulesDeclared.call.Call.{Call}
+use Rattle.papaya_purposes.specs.Given.SchedulesDeclared.call.Reply.{Reply}
+use Rattle.papaya_purposes.specs.Given.SchedulesDeclared.effect.Effect.{Effect}
+use Rattle.papaya_purposes.specs.Given.SchedulesDeclared.outcome.Outcome.{Outcome}
+use Rattle.papaya_purposes.specs.Given.SchedulesAfter.{replied, without_call}
+use Rattle.papaya_purposes.specs.Given.SchedulesBeginning.{fresh_call, with_call}
+use Rattle.papaya_purposes.specs.Given.SchedulesEffects.{with_effects}
+use Rattle.papaya_purposes.specs.Given.SchedulesEntry.{ends_call}
+use Rattle.papaya_purposes.specs.Given.SchedulesLists.{OneOf}
+use Rattle.papaya_purposes.specs.Given.SchedulesMoment.{MapThere, Moment, UnderWay as CallThere}
+use Rattle.papaya_purposes.specs.Given.SchedulesViews.{call_of, map_at}
+use Rattle.papaya_purposes.specs.Given.CallersTogether.{UnderWay}
+use Rattle.papaya_purposes.specs.Given.EffectsEffects.{effects_of}
+use Rattle.papaya_purposes.specs.Given.EffectsKnown.{Known}
+use Rattle.papaya_purposes.specs.Given.EffectsDeclared.acting.Acting.TheVariants as acts
+use Rattle.papaya_purposes.specs.Given.FinishesMachines.{machine_of}
+use Rattle.papaya_purposes.specs.Given.FinishesMaps.{Standing, with_call as with_in}
+use Rattle.papaya_purposes.specs.Given.FollowsCalling.{NoneNamed, come_to, told}
+use Rattle.papaya_purposes.specs.Given.FollowsCalls.{ShowsCalls as IsThere}
+use Rattle.papaya_purposes.proofs.Given.FollowsCalling.{apart_back, come, come_of_same, found_kept, replied_same}
+use Rattle.papaya_purposes.proofs.Given.FollowsCalls.{found}
+use Rattle.papaya_purposes.proofs.Given.FollowsSteps.{WentTo, one_of, went_to}
+use Rattle.papaya_purposes.proofs.Given.HandsAsking.{which}
+use Rattle.papaya_purposes.proofs.Given.HandsCalling.{caller_is}
+use Rattle.papaya_purposes.specs.Given.OthersWalks.{given_up}
+use Rattle.papaya_purposes.specs.Given.MomentsWhole.{ShowsWhole}
+use Rattle.papaya_purposes.proofs.Given.HistoriesBegun.{comes_begun, effects_begun, if_begun, replied_begun}
+use Rattle.papaya_purposes.proofs.Given.HistoriesLogs.{grows, now_there}
+use Rattle.papaya_purposes.proofs.Given.OwesCalls.{goes_as_one}
 use Rattle.papaya_grows.proofs.Finding.Between.{fewer_calls}
-use Rattle.papaya_purposes.proofs.Given.Scenes.May.{standing_is}
-use Rattle.papaya_purposes.specs.Given.Scenes.Held.{Held, IsAt}
-use Rattle.papaya_purposes.specs.Given.Scenes.Replying.{scene_with, unless_stopped}
-use Rattle.papaya_purposes.specs.Given.Scenes.Scene.{Scene}
-use Rattle.papaya_purposes.specs.Given.Scenes.Stepping.{StepLeads, scene_after}
-use Rattle.papaya_purposes.specs.Given.Schedules.Transition.{Past, further}
-use Rattle.papaya_purposes.specs.Given.Histories.Histories.{IsPast}
+use Rattle.papaya_purposes.proofs.Given.ScenesMay.{standing_is}
+use Rattle.papaya_purposes.specs.Given.ScenesHeld.{Held, IsAt}
+use Rattle.papaya_purposes.specs.Given.ScenesReplying.{scene_with, unless_stopped}
+use Rattle.papaya_purposes.specs.Given.ScenesScene.{Scene}
+use Rattle.papaya_purposes.specs.Given.ScenesStepping.{StepLeads, scene_after}
+use Rattle.papaya_purposes.specs.Given.SchedulesTransition.{Past, further}
+use Rattle.papaya_purposes.specs.Given.HistoriesHistories.{IsPast}
 
 -- pairs are where they were
 pub record HasSamePairs {K V : Type 0} (m v : Moment K V) : Type 0 where

@@ -1,31 +1,31 @@
 -- For what a copier makes a further table: the map has a second one then, into which the root's is copied; or, in blocking mode, the root has left a table at the moment of
 -- the map at which the call began, or since. So a call that copies may ask for each block that it makes, if its map had a second table then, or before.
 use Rattle.std.specs.Prelude.{◌≡◌, ℕ, Bool, List, ◌∷◌, Option, Some, None, ◌⊎◌}
-use Rattle.papaya_purposes.specs.Given.Tables.declared.node.Node.{Node}
-use Rattle.papaya_purposes.specs.Given.Resize.declared.new_table.NewTable.{NewTable}
-use Rattle.papaya_purposes.specs.Given.Reserves.declared.reserve.Reserving.{Reserving}
-use Rattle.papaya_purposes.specs.Given.Reserves.declared.reserve.Reserving.TheVariants as reserving
-use Rattle.papaya_purposes.specs.Given.Raw.declared.machines.call.Calling.{Calling}
-use Rattle.papaya_purposes.specs.Given.Raw.declared.machines.call.Calling.TheVariants as calling
-use Rattle.papaya_purposes.specs.Given.Raw.declared.machines.machine.Machine.{Machine}
-use Rattle.papaya_purposes.specs.Given.Raw.declared.machines.machine.Machine.TheVariants as kinds
-use Rattle.papaya_purposes.specs.Given.Raw.declared.machines.progress.Progress.{Progress}
-use Rattle.papaya_purposes.specs.Given.Schedules.Growing.{HasNext}
-use Rattle.papaya_purposes.specs.Given.Schedules.Lists.{OneOf}
-use Rattle.papaya_purposes.specs.Given.Schedules.Moment.{Moment}
-use Rattle.papaya_purposes.specs.Given.Schedules.Terms.{Terms}
-use Rattle.papaya_purposes.specs.Given.Points.FactsCalls.{IsCopying}
-use Rattle.papaya_purposes.specs.Given.Callers.Together.{UnderWay, OnKey, OverAll}
-use Rattle.papaya_purposes.specs.Given.Effects.Effects.{effects_of}
-use Rattle.papaya_purposes.specs.Given.Effects.Known.{Known}
-use Rattle.papaya_purposes.specs.Given.Effects.declared.acting.Acting.TheVariants as acts
-use Rattle.papaya_purposes.specs.Given.Finishes.Machines.{machine_of}
-use Rattle.papaya_purposes.specs.Given.Moments.Whole.{ShowsWhole}
-use Rattle.papaya_purposes.specs.Given.Owes.Making.{making_in_copying, making_in_sweeping}
-use Rattle.papaya_purposes.specs.Given.Finds.Growing.{FindAsked}
-use Rattle.papaya_purposes.specs.Given.Scenes.Held.{Held, IsAt}
-use Rattle.papaya_purposes.specs.Given.Scenes.Scene.{Scene}
-use Rattle.papaya_purposes.specs.Given.Scenes.Stepping.{StepLeads}
+use Rattle.papaya_purposes.specs.Given.TablesDeclared.node.Node.{Node}
+use Rattle.papaya_purposes.specs.Given.ResizeDeclared.new_table.NewTable.{NewTable}
+use Rattle.papaya_purposes.specs.Given.ReservesDeclared.reserve.Reserving.{Reserving}
+use Rattle.papaya_purposes.specs.Given.ReservesDeclared.reserve.Reserving.TheVariants as reserving
+use Rattle.papaya_purposes.specs.Given.RawDeclared.machines.call.Calling.{Calling}
+use Rattle.papaya_purposes.specs.Given.RawDeclared.machines.call.Calling.TheVariants as calling
+use Rattle.papaya_purposes.specs.Given.RawDeclared.machines.machine.Machine.{Machine}
+use Rattle.papaya_purposes.specs.Given.RawDeclared.machines.machine.Machine.TheVariants as kinds
+use Rattle.papaya_purposes.specs.Given.RawDeclared.machines.progress.Progress.{Progress}
+use Rattle.papaya_purposes.specs.Given.SchedulesGrowing.{HasNext}
+use Rattle.papaya_purposes.specs.Given.SchedulesLists.{OneOf}
+use Rattle.papaya_purposes.specs.Given.SchedulesMoment.{Moment}
+use Rattle.papaya_purposes.specs.Given.SchedulesTerms.{Terms}
+use Rattle.papaya_purposes.specs.Given.PointsFactsCalls.{IsCopying}
+use Rattle.papaya_purposes.specs.Given.CallersTogether.{UnderWay, OnKey, OverAll}
+use Rattle.papaya_purposes.specs.Given.EffectsEffects.{effects_of}
+use Rattle.papaya_purposes.specs.Given.EffectsKnown.{Known}
+use Rattle.papaya_purposes.specs.Given.EffectsDeclared.acting.Acting.TheVariants as acts
+use Rattle.papaya_purposes.specs.Given.FinishesMachines.{machine_of}
+use Rattle.papaya_purposes.specs.Given.MomentsWhole.{ShowsWhole}
+use Rattle.papaya_purposes.specs.Given.OwesMaking.{making_in_copying, making_in_sweeping}
+use Rattle.papaya_purposes.specs.Given.FindsGrowing.{FindAsked}
+use Rattle.papaya_purposes.specs.Given.ScenesHeld.{Held, IsAt}
+use Rattle.papaya_purposes.specs.Given.ScenesScene.{Scene}
+use Rattle.papaya_purposes.specs.Given.ScenesStepping.{StepLeads}
 
 -- The making of a table that is under way within a copier, if one is: that of a call on one key,
 abbrev pub copier_in_calling : Calling → Option NewTable

@@ -1,13 +1,13 @@
 -- What a moment shows of calls by which the effects of each of their steps find what they must.
 use Rattle.std.specs.Prelude.{ℕ, List}
-use Rattle.papaya_purposes.specs.Given.Schedules.Moment.{Moment}
-use Rattle.papaya_purposes.specs.Given.Effects.Known.{Known}
-use Rattle.papaya_purposes.specs.Given.Finds.Capacities.{ShowsCapacities}
-use Rattle.papaya_purposes.specs.Given.Finds.Growing.{ShowsGrowing}
-use Rattle.papaya_purposes.specs.Given.Finds.Puts.{ShowsPuts}
-use Rattle.papaya_purposes.specs.Given.Finds.Waits.{ShowsWaits}
+use Rattle.papaya_purposes.specs.Given.SchedulesMoment.{Moment}
+use Rattle.papaya_purposes.specs.Given.EffectsKnown.{Known}
+use Rattle.papaya_purposes.specs.Given.FindsCapacities.{ShowsCapacities}
+use Rattle.papaya_purposes.specs.Given.FindsGrowing.{ShowsGrowing}
+use Rattle.papaya_purposes.specs.Given.FindsPuts.{ShowsPuts}
+use Rattle.papaya_purposes.specs.Given.FindsWaits.{ShowsWaits}
 use Rattle.papaya_grows.specs.Further.{ShowsFurther}
-use Rattle.papaya_purposes.specs.Given.Scenes.Scene.{Scene}
+use Rattle.papaya_purposes.specs.Given.ScenesScene.{Scene}
 
 -- A call on one key makes a table only where it has what it stores where its key is missing, and a copier the one behind a table that has no place; each map that stands was made for the capacity that the moment says; a pair that a call has in hand lies no
 -- further on than the root, or was copied past an older table, and is to be put behind the one just before its own.

@@ -1,25 +1,25 @@
 -- Where a call can have no further table: one of its map's is as long as a table can be, or has the last turn, or was there at a moment since the call began.
 use Rattle.std.specs.Prelude.{◌≡◌, ◌≢◌, ◌⊎◌, ◌<◌, ◌^◌, ℕ, true, List, Some}
-use Rattle.papaya_purposes.specs.Given.SeizeWords.declared.fault.Fault.{Fault}
-use Rattle.papaya_purposes.specs.Given.SeizeWords.declared.fault.Fault.TheVariants.{Capacity}
-use Rattle.papaya_purposes.specs.Given.Tables.Lengths.{CannotBeFollowed, GoesByTable}
-use Rattle.papaya_purposes.specs.Given.Tables.declared.lengths.Reason.{Reason}
-use Rattle.papaya_purposes.specs.Given.Tables.declared.table.Table.{Table}
-use Rattle.papaya_purposes.specs.Given.Reserves.Reserve.{needed}
-use Rattle.papaya_purposes.specs.Given.Reserves.declared.reserve.Reserving.{Reserving}
-use Rattle.papaya_purposes.specs.Given.Raw.declared.machines.machine.Machine.{Machine}
-use Rattle.papaya_purposes.specs.Given.Raw.declared.machines.machine.Machine.TheVariants as kinds
-use Rattle.papaya_purposes.specs.Given.Raw.declared.machines.progress.Progress.{Progress}
-use Rattle.papaya_purposes.specs.Given.Raw.declared.machines.progress.Progress.TheVariants as progress
-use Rattle.papaya_purposes.specs.Given.Schedules.Coming.{is_at_limit}
-use Rattle.papaya_purposes.specs.Given.Schedules.Lists.{OneOf}
-use Rattle.papaya_purposes.specs.Given.Schedules.Moment.{Moment, UnderWay as CallThere}
-use Rattle.papaya_purposes.specs.Given.Schedules.Views.{call_of}
-use Rattle.papaya_purposes.specs.Given.Late.Faults.{StandsInCalling, StandsInReserving, StandsInSweeping}
-use Rattle.papaya_purposes.specs.Given.Callers.Together.{UnderWay}
-use Rattle.papaya_purposes.specs.Given.Finishes.Machines.{machine_of}
-use Rattle.papaya_purposes.specs.Given.Scenes.Scene.{Scene}
-use Rattle.papaya_purposes.specs.Given.Schedules.Transition.{Past}
+use Rattle.papaya_purposes.specs.Given.SeizeWordsDeclared.fault.Fault.{Fault}
+use Rattle.papaya_purposes.specs.Given.SeizeWordsDeclared.fault.Fault.TheVariants.{Capacity}
+use Rattle.papaya_purposes.specs.Given.TablesLengths.{CannotBeFollowed, GoesByTable}
+use Rattle.papaya_purposes.specs.Given.TablesDeclared.lengths.Reason.{Reason}
+use Rattle.papaya_purposes.specs.Given.TablesDeclared.table.Table.{Table}
+use Rattle.papaya_purposes.specs.Given.ReservesReserve.{needed}
+use Rattle.papaya_purposes.specs.Given.ReservesDeclared.reserve.Reserving.{Reserving}
+use Rattle.papaya_purposes.specs.Given.RawDeclared.machines.machine.Machine.{Machine}
+use Rattle.papaya_purposes.specs.Given.RawDeclared.machines.machine.Machine.TheVariants as kinds
+use Rattle.papaya_purposes.specs.Given.RawDeclared.machines.progress.Progress.{Progress}
+use Rattle.papaya_purposes.specs.Given.RawDeclared.machines.progress.Progress.TheVariants as progress
+use Rattle.papaya_purposes.specs.Given.SchedulesComing.{is_at_limit}
+use Rattle.papaya_purposes.specs.Given.SchedulesLists.{OneOf}
+use Rattle.papaya_purposes.specs.Given.SchedulesMoment.{Moment, UnderWay as CallThere}
+use Rattle.papaya_purposes.specs.Given.SchedulesViews.{call_of}
+use Rattle.papaya_purposes.specs.Given.LateFaults.{StandsInCalling, StandsInReserving, StandsInSweeping}
+use Rattle.papaya_purposes.specs.Given.CallersTogether.{UnderWay}
+use Rattle.papaya_purposes.specs.Given.FinishesMachines.{machine_of}
+use Rattle.papaya_purposes.specs.Given.ScenesScene.{Scene}
+use Rattle.papaya_purposes.specs.Given.SchedulesTransition.{Past}
 
 -- a call is refused for the length of a table for this alone,
 abbrev pub IsFor : Type 0 → Fault → Type 0

@@ -1,31 +1,31 @@
 -- What is promised of the effects of a step of a call, by what a moment shows: they find what is left of what they must.
 use Rattle.std.specs.Prelude.{◌≡◌, ℕ, ◌+◌, Bool, List, ◌∷◌, Some}
-use Rattle.papaya_purposes.specs.Given.Tables.declared.node.Node.{Node}
-use Rattle.papaya_purposes.specs.Given.Resize.declared.new_table.NewTable.{NewTable}
-use Rattle.papaya_purposes.specs.Given.Raw.declared.machines.progress.Progress.{Progress}
-use Rattle.papaya_purposes.specs.Given.Schedules.Growing.{HasNext}
-use Rattle.papaya_purposes.specs.Given.Schedules.Lists.{OneOf}
-use Rattle.papaya_purposes.specs.Given.Schedules.Moment.{UnderWay as CallThere, Moment}
-use Rattle.papaya_purposes.specs.Given.Schedules.Terms.{Terms, shards_of}
-use Rattle.papaya_purposes.specs.Given.Schedules.Views.{call_of}
-use Rattle.papaya_purposes.specs.Given.Callers.Together.{UnderWay}
-use Rattle.papaya_purposes.specs.Given.Effects.Effects.{effects_of}
-use Rattle.papaya_purposes.specs.Given.Effects.Known.{Known}
-use Rattle.papaya_purposes.specs.Given.Effects.declared.acting.Acting.TheVariants as acts
-use Rattle.papaya_purposes.specs.Given.Finishes.Machines.{machine_of}
-use Rattle.papaya_purposes.specs.Given.Moments.Whole.{ShowsWhole}
-use Rattle.papaya_models.specs.Given.Kept.Kept.{ShowsKept}
-use Rattle.papaya_purposes.specs.Given.Finds.Linking.{FoundFull}
+use Rattle.papaya_purposes.specs.Given.TablesDeclared.node.Node.{Node}
+use Rattle.papaya_purposes.specs.Given.ResizeDeclared.new_table.NewTable.{NewTable}
+use Rattle.papaya_purposes.specs.Given.RawDeclared.machines.progress.Progress.{Progress}
+use Rattle.papaya_purposes.specs.Given.SchedulesGrowing.{HasNext}
+use Rattle.papaya_purposes.specs.Given.SchedulesLists.{OneOf}
+use Rattle.papaya_purposes.specs.Given.SchedulesMoment.{UnderWay as CallThere, Moment}
+use Rattle.papaya_purposes.specs.Given.SchedulesTerms.{Terms, shards_of}
+use Rattle.papaya_purposes.specs.Given.SchedulesViews.{call_of}
+use Rattle.papaya_purposes.specs.Given.CallersTogether.{UnderWay}
+use Rattle.papaya_purposes.specs.Given.EffectsEffects.{effects_of}
+use Rattle.papaya_purposes.specs.Given.EffectsKnown.{Known}
+use Rattle.papaya_purposes.specs.Given.EffectsDeclared.acting.Acting.TheVariants as acts
+use Rattle.papaya_purposes.specs.Given.FinishesMachines.{machine_of}
+use Rattle.papaya_purposes.specs.Given.MomentsWhole.{ShowsWhole}
+use Rattle.papaya_models.specs.Given.KeptKept.{ShowsKept}
+use Rattle.papaya_purposes.specs.Given.FindsLinking.{FoundFull}
 use Rattle.papaya_grows.specs.Copiers.{making_of_copier}
-use Rattle.papaya_purposes.specs.Given.Finds.Parts.{FindRest}
-use Rattle.papaya_purposes.specs.Given.Finds.Within.{AllIsInOrder, many_of}
-use Rattle.papaya_purposes.specs.Given.Sources.Sources.{ShowsSources}
+use Rattle.papaya_purposes.specs.Given.FindsParts.{FindRest}
+use Rattle.papaya_purposes.specs.Given.FindsWithin.{AllIsInOrder, many_of}
+use Rattle.papaya_purposes.specs.Given.SourcesSources.{ShowsSources}
 use Rattle.papaya_purposes.specs.Purposes.{ShowsPurposes}
 use Rattle.papaya_grows.specs.Finding.{ShowsFinding}
-use Rattle.papaya_purposes.specs.Given.Scenes.Held.{Held, IsAt}
-use Rattle.papaya_purposes.specs.Given.Scenes.Scene.{Scene}
-use Rattle.papaya_purposes.specs.Given.Scenes.Stepping.{StepLeads}
-use Rattle.papaya_purposes.specs.Given.Schedules.Transition.{Past}
+use Rattle.papaya_purposes.specs.Given.ScenesHeld.{Held, IsAt}
+use Rattle.papaya_purposes.specs.Given.ScenesScene.{Scene}
+use Rattle.papaya_purposes.specs.Given.ScenesStepping.{StepLeads}
+use Rattle.papaya_purposes.specs.Given.SchedulesTransition.{Past}
 
 -- The promise, of a step of a call, at a moment at which all is in order, where the map of each copier that makes a table has a second one, or had one, and a call on one key that
 -- makes one behind the newest has found that full.

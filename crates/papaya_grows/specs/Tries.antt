@@ -1,24 +1,24 @@
 -- What a call on one key has met at the tries of its table: each place was taken, now or at a moment since the call began, and a pair was met where one lay there; unless the table is the last one no more.
 use Rattle.std.specs.Prelude.{◌≡◌, ◌≢◌, ◌⊎◌, ◌+◌, ◌<◌, ◌≤◌, ℕ, zero, suc, List, Some}
-use Rattle.papaya_purposes.specs.Given.Raw.declared.machines.asking.Asking.{Asking}
-use Rattle.papaya_purposes.specs.Given.Raw.declared.machines.asking.Asking.TheVariants as asking
-use Rattle.papaya_purposes.specs.Given.Raw.declared.machines.asking.Gap.{Gap}
-use Rattle.papaya_purposes.specs.Given.Raw.declared.machines.asking.Gap.TheVariants as gaps
-use Rattle.papaya_purposes.specs.Given.Raw.declared.machines.call.Calling.{Calling}
-use Rattle.papaya_purposes.specs.Given.Raw.declared.machines.call.Calling.TheVariants as at
-use Rattle.papaya_purposes.specs.Given.Raw.declared.machines.call.KeyCall.{KeyCall}
-use Rattle.papaya_purposes.specs.Given.Raw.declared.machines.machine.Machine.{Machine}
-use Rattle.papaya_purposes.specs.Given.Raw.declared.machines.machine.Machine.TheVariants as kinds
-use Rattle.papaya_purposes.specs.Given.Schedules.declared.effect.Spot.{Spot}
-use Rattle.papaya_purposes.specs.Given.Schedules.Lists.{OneOf}
-use Rattle.papaya_purposes.specs.Given.Schedules.Moment.{Moment, UnderWay as CallThere}
-use Rattle.papaya_purposes.specs.Given.Schedules.Tries.{try_at, FindsTaken}
-use Rattle.papaya_purposes.specs.Given.Schedules.Views.{call_of}
-use Rattle.papaya_purposes.specs.Given.Callers.Together.{UnderWay}
-use Rattle.papaya_purposes.specs.Given.Finishes.Machines.{machine_of}
-use Rattle.papaya_purposes.specs.Given.Finds.Within.{many_of}
-use Rattle.papaya_purposes.specs.Given.Scenes.Scene.{Scene}
-use Rattle.papaya_purposes.specs.Given.Schedules.Transition.{Past}
+use Rattle.papaya_purposes.specs.Given.RawDeclared.machines.asking.Asking.{Asking}
+use Rattle.papaya_purposes.specs.Given.RawDeclared.machines.asking.Asking.TheVariants as asking
+use Rattle.papaya_purposes.specs.Given.RawDeclared.machines.asking.Gap.{Gap}
+use Rattle.papaya_purposes.specs.Given.RawDeclared.machines.asking.Gap.TheVariants as gaps
+use Rattle.papaya_purposes.specs.Given.RawDeclared.machines.call.Calling.{Calling}
+use Rattle.papaya_purposes.specs.Given.RawDeclared.machines.call.Calling.TheVariants as at
+use Rattle.papaya_purposes.specs.Given.RawDeclared.machines.call.KeyCall.{KeyCall}
+use Rattle.papaya_purposes.specs.Given.RawDeclared.machines.machine.Machine.{Machine}
+use Rattle.papaya_purposes.specs.Given.RawDeclared.machines.machine.Machine.TheVariants as kinds
+use Rattle.papaya_purposes.specs.Given.SchedulesDeclared.effect.Spot.{Spot}
+use Rattle.papaya_purposes.specs.Given.SchedulesLists.{OneOf}
+use Rattle.papaya_purposes.specs.Given.SchedulesMoment.{Moment, UnderWay as CallThere}
+use Rattle.papaya_purposes.specs.Given.SchedulesTries.{try_at, FindsTaken}
+use Rattle.papaya_purposes.specs.Given.SchedulesViews.{call_of}
+use Rattle.papaya_purposes.specs.Given.CallersTogether.{UnderWay}
+use Rattle.papaya_purposes.specs.Given.FinishesMachines.{machine_of}
+use Rattle.papaya_purposes.specs.Given.FindsWithin.{many_of}
+use Rattle.papaya_purposes.specs.Given.ScenesScene.{Scene}
+use Rattle.papaya_purposes.specs.Given.SchedulesTransition.{Past}
 use Rattle.std.specs.List.{AllByRecursion}
 
 -- By what is so of a place and of so many pairs there:

@@ -1,25 +1,25 @@
 -- After a step of a call, each call under way was asked and told as the moment says then.
 use Rattle.std.specs.Prelude.{◌≡◌, ℕ, Bool, List, Option, Some, None}
 use Rattle.std.proofs.Common.{refl, ap, sym, subst, ◌∙◌, inl, inr}
-use Rattle.papaya_spots.specs.Given.Tables.declared.node.Node.{Node}
-use Rattle.papaya_spots.specs.Given.Raw.declared.machines.progress.Progress.{Progress}
-use Rattle.papaya_spots.specs.Given.Schedules.declared.effect.Effect.{Effect}
-use Rattle.papaya_spots.specs.Given.Schedules.Effects.{with_effects}
-use Rattle.papaya_spots.specs.Given.Schedules.Moment.{UnderWay as CallThere, Moment}
-use Rattle.papaya_spots.specs.Given.Schedules.Views.{call_of}
-use Rattle.papaya_spots.specs.Given.Callers.Together.{UnderWay}
-use Rattle.papaya_spots.specs.Given.Effects.Effects.{effects_of, known_after}
-use Rattle.papaya_spots.specs.Given.Effects.Known.{Known}
-use Rattle.papaya_spots.specs.Given.Effects.declared.acting.Acting.TheVariants as acts
-use Rattle.papaya_spots.specs.Given.Finishes.Maps.{Standing}
-use Rattle.papaya_spots.specs.Given.Follows.Shows.{Shows}
-use Rattle.papaya_spots.proofs.Given.Follows.Steps.{WentTo, went_to, LeadsThere, one_of}
+use Rattle.papaya_spots.specs.Given.TablesDeclared.node.Node.{Node}
+use Rattle.papaya_spots.specs.Given.RawDeclared.machines.progress.Progress.{Progress}
+use Rattle.papaya_spots.specs.Given.SchedulesDeclared.effect.Effect.{Effect}
+use Rattle.papaya_spots.specs.Given.SchedulesEffects.{with_effects}
+use Rattle.papaya_spots.specs.Given.SchedulesMoment.{UnderWay as CallThere, Moment}
+use Rattle.papaya_spots.specs.Given.SchedulesViews.{call_of}
+use Rattle.papaya_spots.specs.Given.CallersTogether.{UnderWay}
+use Rattle.papaya_spots.specs.Given.EffectsEffects.{effects_of, known_after}
+use Rattle.papaya_spots.specs.Given.EffectsKnown.{Known}
+use Rattle.papaya_spots.specs.Given.EffectsDeclared.acting.Acting.TheVariants as acts
+use Rattle.papaya_spots.specs.Given.FinishesMaps.{Standing}
+use Rattle.papaya_spots.specs.Given.FollowsShows.{Shows}
+use Rattle.papaya_spots.proofs.Given.FollowsSteps.{WentTo, went_to, LeadsThere, one_of}
 use Rattle.papaya_hands.specs.Asked.{IsAsked, ShowsAsked}
 use Rattle.papaya_hands.proofs.Asking.{asked_kept, own_asked, which}
 use Rattle.papaya_hands.proofs.Replacing.{all_settle, calls_after, replaces_none}
-use Rattle.papaya_spots.specs.Given.Scenes.Held.{Held, IsAt}
-use Rattle.papaya_spots.specs.Given.Scenes.Scene.{Scene}
-use Rattle.papaya_spots.specs.Given.Scenes.Stepping.{StepLeads, scene_after}
+use Rattle.papaya_spots.specs.Given.ScenesHeld.{Held, IsAt}
+use Rattle.papaya_spots.specs.Given.ScenesScene.{Scene}
+use Rattle.papaya_spots.specs.Given.ScenesStepping.{StepLeads, scene_after}
 
 module _ {K V : Type 0} (same : K → K → Bool) (hash : ℕ → K → ℕ) (name : ℕ → List ℕ) (m : Moment K V) (known : Known) (s : Scene K V) (old new : Held K V) (at : IsAt same hash old s)
     (shown : Shows same name m known s) (map i : ℕ) (u : UnderWay K V K) (here : s.calls map i ≡ Some u) (told : Progress (Node K V)) (leads : StepLeads same hash i told s old new)

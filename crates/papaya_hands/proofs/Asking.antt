@@ -2,46 +2,46 @@
 use Rattle.std.specs.Prelude.{◌≡◌, ◌≢◌, ℕ, ◌<◌, ◌≤◌, Bool, List, [], ◌∷◌, Option, Some, None, ◌⊎◌}
 use Rattle.std.proofs.Common.{refl, ap, sym, subst, ◌∙◌, arith, inl, inr}
 use Rattle.std.proofs.lemmas.Bool.{cases_eq}
-use Rattle.papaya_spots.specs.Given.SeizeWords.Plan.{plan_as}
-use Rattle.papaya_spots.specs.Given.SeizeWords.Word.{block_in}
-use Rattle.papaya_spots.specs.Given.Seize.World.{World, with_at}
-use Rattle.papaya_spots.specs.Given.Tables.declared.node.Node.{Node}
-use Rattle.papaya_spots.specs.Given.Raw.Call.{plan_at}
-use Rattle.papaya_spots.specs.Given.Raw.Machine.{called}
-use Rattle.papaya_spots.specs.Given.Raw.declared.machines.asking.Asking.{Asking as AskingAt}
-use Rattle.papaya_spots.specs.Given.Raw.declared.machines.asking.Asking.TheVariants as asking
-use Rattle.papaya_spots.specs.Given.Raw.declared.machines.answer.Called.{Called}
-use Rattle.papaya_spots.specs.Given.Raw.declared.machines.call.KeyCall.{KeyCall}
-use Rattle.papaya_spots.specs.Given.Raw.declared.machines.call.Calling.{Calling}
-use Rattle.papaya_spots.specs.Given.Raw.declared.machines.call.Calling.TheVariants as at
-use Rattle.papaya_spots.specs.Given.Raw.declared.machines.machine.Machine.{Machine}
-use Rattle.papaya_spots.specs.Given.Raw.declared.machines.machine.Machine.TheVariants as kinds
-use Rattle.papaya_spots.specs.Given.Raw.declared.machines.progress.Progress.{Progress}
-use Rattle.papaya_spots.specs.Given.Schedules.declared.call.Call.{Call}
-use Rattle.papaya_spots.specs.Given.Schedules.declared.call.Call.TheVariants as call
-use Rattle.papaya_spots.specs.Given.Schedules.declared.call.OneKey.{OneKey}
-use Rattle.papaya_spots.specs.Given.Schedules.declared.call.Reply.{Reply}
-use Rattle.papaya_spots.specs.Given.Schedules.Moment.{UnderWay as CallThere}
-use Rattle.papaya_spots.specs.Given.Teller.Tells.{StepsTold}
-use Rattle.papaya_spots.specs.Given.Teller.declared.changed.Changed.TheVariants.{Nothing}
-use Rattle.papaya_spots.specs.Given.Points.FactsCalls.{Change}
-use Rattle.papaya_spots.specs.Given.Callers.Asked.{Asked}
-use Rattle.papaya_spots.specs.Given.Callers.OverAll.{come_to, gone_on}
-use Rattle.papaya_spots.specs.Given.Callers.Together.{CallOnKey, UnderWay, OnKey, ForRoom, Counting, OverAll, next_of, change_told}
-use Rattle.papaya_spots.proofs.Given.Callers.Together.At.{at_other, at_same}
-use Rattle.papaya_spots.specs.Given.Effects.Known.{Known}
-use Rattle.papaya_spots.specs.Given.Finishes.Endings.{Finishing}
-use Rattle.papaya_spots.specs.Given.Finishes.Machines.{machine_of}
-use Rattle.papaya_spots.specs.Given.Finishes.Makings.{Beginning}
-use Rattle.papaya_spots.specs.Given.Finishes.Maps.{Standing, with_call}
-use Rattle.papaya_spots.specs.Given.Follows.Steps.{Did}
-use Rattle.papaya_spots.proofs.Given.Follows.Called.{key_goes_on, room_goes_on, counting_goes_on, sweep_goes_on}
-use Rattle.papaya_spots.proofs.Given.Follows.Onward.{IsLasting, KeepsRoles}
+use Rattle.papaya_spots.specs.Given.SeizeWordsPlan.{plan_as}
+use Rattle.papaya_spots.specs.Given.SeizeWordsWord.{block_in}
+use Rattle.papaya_spots.specs.Given.SeizeWorld.{World, with_at}
+use Rattle.papaya_spots.specs.Given.TablesDeclared.node.Node.{Node}
+use Rattle.papaya_spots.specs.Given.RawCall.{plan_at}
+use Rattle.papaya_spots.specs.Given.RawMachine.{called}
+use Rattle.papaya_spots.specs.Given.RawDeclared.machines.asking.Asking.{Asking as AskingAt}
+use Rattle.papaya_spots.specs.Given.RawDeclared.machines.asking.Asking.TheVariants as asking
+use Rattle.papaya_spots.specs.Given.RawDeclared.machines.answer.Called.{Called}
+use Rattle.papaya_spots.specs.Given.RawDeclared.machines.call.KeyCall.{KeyCall}
+use Rattle.papaya_spots.specs.Given.RawDeclared.machines.call.Calling.{Calling}
+use Rattle.papaya_spots.specs.Given.RawDeclared.machines.call.Calling.TheVariants as at
+use Rattle.papaya_spots.specs.Given.RawDeclared.machines.machine.Machine.{Machine}
+use Rattle.papaya_spots.specs.Given.RawDeclared.machines.machine.Machine.TheVariants as kinds
+use Rattle.papaya_spots.specs.Given.RawDeclared.machines.progress.Progress.{Progress}
+use Rattle.papaya_spots.specs.Given.SchedulesDeclared.call.Call.{Call}
+use Rattle.papaya_spots.specs.Given.SchedulesDeclared.call.Call.TheVariants as call
+use Rattle.papaya_spots.specs.Given.SchedulesDeclared.call.OneKey.{OneKey}
+use Rattle.papaya_spots.specs.Given.SchedulesDeclared.call.Reply.{Reply}
+use Rattle.papaya_spots.specs.Given.SchedulesMoment.{UnderWay as CallThere}
+use Rattle.papaya_spots.specs.Given.TellerTells.{StepsTold}
+use Rattle.papaya_spots.specs.Given.TellerDeclared.changed.Changed.TheVariants.{Nothing}
+use Rattle.papaya_spots.specs.Given.PointsFactsCalls.{Change}
+use Rattle.papaya_spots.specs.Given.CallersAsked.{Asked}
+use Rattle.papaya_spots.specs.Given.CallersOverAll.{come_to, gone_on}
+use Rattle.papaya_spots.specs.Given.CallersTogether.{CallOnKey, UnderWay, OnKey, ForRoom, Counting, OverAll, next_of, change_told}
+use Rattle.papaya_spots.proofs.Given.CallersTogether.At.{at_other, at_same}
+use Rattle.papaya_spots.specs.Given.EffectsKnown.{Known}
+use Rattle.papaya_spots.specs.Given.FinishesEndings.{Finishing}
+use Rattle.papaya_spots.specs.Given.FinishesMachines.{machine_of}
+use Rattle.papaya_spots.specs.Given.FinishesMakings.{Beginning}
+use Rattle.papaya_spots.specs.Given.FinishesMaps.{Standing, with_call}
+use Rattle.papaya_spots.specs.Given.FollowsSteps.{Did}
+use Rattle.papaya_spots.proofs.Given.FollowsCalled.{key_goes_on, room_goes_on, counting_goes_on, sweep_goes_on}
+use Rattle.papaya_spots.proofs.Given.FollowsOnward.{IsLasting, KeepsRoles}
 use Rattle.papaya_hands.specs.Asked.{IsSameQuestion, AreReplies, IsQuestion, IsAskedOn, IsAskedAs, IsAsked}
 use Rattle.papaya_hands.proofs.Replacing.{IsOn}
-use Rattle.papaya_spots.specs.Given.Scenes.Held.{Held}
-use Rattle.papaya_spots.specs.Given.Scenes.Scene.{slot_of}
-use Rattle.papaya_spots.specs.Given.Scenes.Stepping.{StepsFrom}
+use Rattle.papaya_spots.specs.Given.ScenesHeld.{Held}
+use Rattle.papaya_spots.specs.Given.ScenesScene.{slot_of}
+use Rattle.papaya_spots.specs.Given.ScenesStepping.{StepsFrom}
 
 module _ (known known2 : Known) (keeps : KeepsRoles known known2) where
   question_kept : (it : AskingAt) (q : Option ℕ) → IsQuestion known it q → IsQuestion known2 it q

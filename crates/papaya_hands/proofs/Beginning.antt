@@ -1,5 +1,5 @@
 -- Before all events no call is under way.
-use Rattle.papaya_spots.proofs.Given.Follows.Beginning.{runs_begin}
+use Rattle.papaya_spots.proofs.Given.FollowsBeginning.{runs_begin}
 use Rattle.papaya_hands.specs.Beginning.{RunsBeginSo}
 
 pub runs_begin_so : (K V : Type 0) → RunsBeginSo K V

@@ -1,32 +1,32 @@
 -- Where a call begins, or has come to an outcome, each call under way was asked and told as the moment says.
 use Rattle.std.specs.Prelude.{◌≡◌, ℕ, ◌+◌, Bool, true, false, cond, not, List, [], find, map, Option, Some, if◌then◌else◌, ◌⊎◌}
 use Rattle.std.proofs.Common.{refl, ap, sym, subst, ◌∙◌, inl, inr}
-use Rattle.papaya_spots.specs.Given.Runs.Same.{is_same}
-use Rattle.papaya_spots.specs.Given.Schedules.declared.call.Call.{Call}
-use Rattle.papaya_spots.specs.Given.Schedules.declared.call.Call.TheVariants as call
-use Rattle.papaya_spots.specs.Given.Schedules.declared.call.OneKey.{OneKey}
-use Rattle.papaya_spots.specs.Given.Schedules.declared.outcome.Outcome.{Outcome}
-use Rattle.papaya_spots.specs.Given.Schedules.declared.outcome.Outcome.TheVariants as outcome
-use Rattle.papaya_spots.specs.Given.Schedules.After.{asks_on, without_call}
-use Rattle.papaya_spots.specs.Given.Schedules.Beginning.{fresh_call, with_call}
-use Rattle.papaya_spots.specs.Given.Schedules.Entry.{ends_call}
-use Rattle.papaya_spots.specs.Given.Schedules.Moment.{Stands, Going, Asking, Told, IsReady, UnderWay as CallThere, Moment}
-use Rattle.papaya_spots.specs.Given.Schedules.Views.{call_of}
-use Rattle.papaya_spots.specs.Given.Callers.Together.{CallOnKey, UnderWay, OnKey, ForRoom, Counting, OverAll}
-use Rattle.papaya_spots.specs.Given.Effects.Known.{Known}
-use Rattle.papaya_spots.specs.Given.Finishes.Maps.{Standing, with_call as with_in}
-use Rattle.papaya_spots.specs.Given.Follows.Calling.{NoneNamed, come_to}
-use Rattle.papaya_spots.specs.Given.Follows.Shows.{Shows}
-use Rattle.papaya_spots.proofs.Given.Follows.Calling.{is_same_refl, is_same_is, apart_back, found_passes, found_kept, begins_with, come, come_of_same, come_with}
-use Rattle.papaya_spots.proofs.Given.Follows.Calls.{changed, found}
-use Rattle.papaya_spots.proofs.Given.Follows.Steps.{one_of}
+use Rattle.papaya_spots.specs.Given.RunsSame.{is_same}
+use Rattle.papaya_spots.specs.Given.SchedulesDeclared.call.Call.{Call}
+use Rattle.papaya_spots.specs.Given.SchedulesDeclared.call.Call.TheVariants as call
+use Rattle.papaya_spots.specs.Given.SchedulesDeclared.call.OneKey.{OneKey}
+use Rattle.papaya_spots.specs.Given.SchedulesDeclared.outcome.Outcome.{Outcome}
+use Rattle.papaya_spots.specs.Given.SchedulesDeclared.outcome.Outcome.TheVariants as outcome
+use Rattle.papaya_spots.specs.Given.SchedulesAfter.{asks_on, without_call}
+use Rattle.papaya_spots.specs.Given.SchedulesBeginning.{fresh_call, with_call}
+use Rattle.papaya_spots.specs.Given.SchedulesEntry.{ends_call}
+use Rattle.papaya_spots.specs.Given.SchedulesMoment.{Stands, Going, Asking, Told, IsReady, UnderWay as CallThere, Moment}
+use Rattle.papaya_spots.specs.Given.SchedulesViews.{call_of}
+use Rattle.papaya_spots.specs.Given.CallersTogether.{CallOnKey, UnderWay, OnKey, ForRoom, Counting, OverAll}
+use Rattle.papaya_spots.specs.Given.EffectsKnown.{Known}
+use Rattle.papaya_spots.specs.Given.FinishesMaps.{Standing, with_call as with_in}
+use Rattle.papaya_spots.specs.Given.FollowsCalling.{NoneNamed, come_to}
+use Rattle.papaya_spots.specs.Given.FollowsShows.{Shows}
+use Rattle.papaya_spots.proofs.Given.FollowsCalling.{is_same_refl, is_same_is, apart_back, found_passes, found_kept, begins_with, come, come_of_same, come_with}
+use Rattle.papaya_spots.proofs.Given.FollowsCalls.{changed, found}
+use Rattle.papaya_spots.proofs.Given.FollowsSteps.{one_of}
 use Rattle.papaya_hands.specs.Asked.{AreReplies, AsksThere, IsAskedOn, IsAskedAs, IsAsked, ShowsAsked}
 use Rattle.papaya_hands.specs.Calling.{IsBegunFor, AsksJust, CallsBeginFor, CallsComeToSo}
 use Rattle.papaya_hands.proofs.Asking.{which}
 use Rattle.papaya_hands.proofs.RowsOn.{rows_with}
 use Rattle.papaya_hands.specs.Rows.{ReclaimsNone, HoldsOne, KeepsOne}
 use Rattle.papaya_hands.proofs.HandsOn.{hands_with}
-use Rattle.papaya_spots.specs.Given.Scenes.Scene.{Scene, slot_of}
+use Rattle.papaya_spots.specs.Given.ScenesScene.{Scene, slot_of}
 
 module _ {K V : Type 0} (number : ℕ → ℕ) (stored : ℕ) (known : Known) where
   -- a call that begins was told nothing

@@ -1,28 +1,28 @@
 -- What a step of a call on one key that has changed its map has stored: the pair that the call was begun with, or was told to store.
 use Rattle.std.specs.Prelude.{◌≡◌, ℕ, ◌+◌, ◌*◌, ◌<◌, Bool, true, Option, Some, ◌⊎◌}
 use Rattle.std.proofs.Common.{refl, sym, subst, arith, inl, inr}
-use Rattle.papaya_spots.specs.Given.SeizeWords.Mem.{Mem}
-use Rattle.papaya_spots.specs.Given.SeizeWords.Word.{link_word}
-use Rattle.papaya_spots.specs.Given.Seize.World.{World, IsInside, with_at}
-use Rattle.papaya_spots.specs.Given.Tables.declared.node.Node.{Node}
-use Rattle.papaya_spots.specs.Given.Tables.declared.setting.Setting.{Setting}
-use Rattle.papaya_spots.specs.Given.Raw.declared.machines.answer.Called.{Called}
-use Rattle.papaya_spots.specs.Given.Raw.declared.machines.answer.Called.TheVariants as called
-use Rattle.papaya_spots.specs.Given.Raw.declared.machines.answer.KeyAnswer.{KeyAnswer}
-use Rattle.papaya_spots.specs.Given.Raw.declared.machines.answer.KeyAnswer.TheVariants as answers
-use Rattle.papaya_spots.specs.Given.Raw.declared.machines.call.KeyCall.{KeyCall}
-use Rattle.papaya_spots.specs.Given.Raw.declared.machines.call.Calling.{Calling}
-use Rattle.papaya_spots.specs.Given.Raw.declared.machines.call.Calling.TheVariants as at
-use Rattle.papaya_spots.specs.Given.Late.Kinds as kinds
-use Rattle.papaya_spots.specs.Given.Rule.Chart.{Still, Chart}
-use Rattle.papaya_spots.specs.Given.Rule.Words.{Blocks, byte_of, mark_bits}
-use Rattle.papaya_spots.specs.Given.Points.FactsCalls.{Change, Unchanged, Stored, Replaced, Removed, Seeks, CallingFacts, Tells}
-use Rattle.papaya_spots.specs.Given.Callers.Kind.{Kind}
-use Rattle.papaya_spots.specs.Given.Callers.Pairs.{Given, Begun, IsTold, kind_of, StoresGiven, KeepsGiven}
-use Rattle.papaya_spots.specs.Given.Callers.Rows.{once_over}
-use Rattle.papaya_spots.specs.Given.Callers.Sights.{Sight, seen_by}
-use Rattle.papaya_spots.specs.Given.Callers.Together.{CallOnKey, UnderWay, OnKey, in_slot, Knows, Stands, change_told, AnswersOnce, StepsTogether}
-use Rattle.papaya_spots.proofs.Given.Callers.Together.At.{at_same}
+use Rattle.papaya_spots.specs.Given.SeizeWordsMem.{Mem}
+use Rattle.papaya_spots.specs.Given.SeizeWordsWord.{link_word}
+use Rattle.papaya_spots.specs.Given.SeizeWorld.{World, IsInside, with_at}
+use Rattle.papaya_spots.specs.Given.TablesDeclared.node.Node.{Node}
+use Rattle.papaya_spots.specs.Given.TablesDeclared.setting.Setting.{Setting}
+use Rattle.papaya_spots.specs.Given.RawDeclared.machines.answer.Called.{Called}
+use Rattle.papaya_spots.specs.Given.RawDeclared.machines.answer.Called.TheVariants as called
+use Rattle.papaya_spots.specs.Given.RawDeclared.machines.answer.KeyAnswer.{KeyAnswer}
+use Rattle.papaya_spots.specs.Given.RawDeclared.machines.answer.KeyAnswer.TheVariants as answers
+use Rattle.papaya_spots.specs.Given.RawDeclared.machines.call.KeyCall.{KeyCall}
+use Rattle.papaya_spots.specs.Given.RawDeclared.machines.call.Calling.{Calling}
+use Rattle.papaya_spots.specs.Given.RawDeclared.machines.call.Calling.TheVariants as at
+use Rattle.papaya_spots.specs.Given.LateKinds as kinds
+use Rattle.papaya_spots.specs.Given.RuleChart.{Still, Chart}
+use Rattle.papaya_spots.specs.Given.RuleWords.{Blocks, byte_of, mark_bits}
+use Rattle.papaya_spots.specs.Given.PointsFactsCalls.{Change, Unchanged, Stored, Replaced, Removed, Seeks, CallingFacts, Tells}
+use Rattle.papaya_spots.specs.Given.CallersKind.{Kind}
+use Rattle.papaya_spots.specs.Given.CallersPairs.{Given, Begun, IsTold, kind_of, StoresGiven, KeepsGiven}
+use Rattle.papaya_spots.specs.Given.CallersRows.{once_over}
+use Rattle.papaya_spots.specs.Given.CallersSights.{Sight, seen_by}
+use Rattle.papaya_spots.specs.Given.CallersTogether.{CallOnKey, UnderWay, OnKey, in_slot, Knows, Stands, change_told, AnswersOnce, StepsTogether}
+use Rattle.papaya_spots.proofs.Given.CallersTogether.At.{at_same}
 use Rattle.papaya_hands.proofs.Puts.{MayDo}
 
 module _ {K V Q : Type 0} (same : K → K → Bool) (hash : K → ℕ) (asks : Q → K → Bool) (setting : Setting) (slot : ℕ → ℕ) (i : ℕ) (u : CallOnKey K V Q) where

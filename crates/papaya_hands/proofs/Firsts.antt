@@ -1,46 +1,46 @@
 -- The word that says of which batch a block is: no step of a row writes it, unless the row is to retire the block, or to take it.
 use Rattle.std.specs.Prelude.{Option, Some, None, IsSome, Ok, if◌then◌else◌, ◌==◌, bit_or}
 use Rattle.std.proofs.Common.{◌≡◌, ℕ, ◌+◌, ◌/◌, ◌%◌, ◌^◌, Bool, true, false, length, refl, arith, ap, sym, subst, ◌∙◌}
-use Rattle.papaya_spots.specs.Given.SeizeWords.declared.at.At.{At}
-use Rattle.papaya_spots.specs.Given.SeizeWords.declared.at.At.TheVariants as name
-use Rattle.papaya_spots.specs.Given.SeizeWords.declared.block.Block.{Block}
-use Rattle.papaya_spots.specs.Given.SeizeWords.Op.{Op, Out, Load, Store, Swap, Add, Or, Exchange, Make, Take, Rewrite, Room, Found, Exchanged, Roomed}
-use Rattle.papaya_spots.specs.Given.SeizeWords.Mem.{Mem, same_at, value_at, entry_in, word_at, block_of, with_word, with_block, Can, Took, after}
-use Rattle.papaya_spots.specs.Given.SeizeWords.Plan.{Plan, Turn, Do, May, Steps, plan_as}
-use Rattle.papaya_spots.proofs.Given.SeizeWords.OneOwner.AfterWrites.{word_at-with_word, word_at-with_value, block_of-with_block}
-use Rattle.papaya_spots.specs.Given.Seize.declared.states.TheConstants.{FIRST, LAST_SLOT}
-use Rattle.papaya_spots.specs.Given.Seize.declared.progress.Progress.{Progress}
-use Rattle.papaya_spots.specs.Given.Seize.declared.progress.Progress.TheVariants as progress
-use Rattle.papaya_spots.specs.Given.Seize.declared.rows.defer.Defer.{Defer}
-use Rattle.papaya_spots.specs.Given.Seize.declared.rows.defer.Deferring.{Deferring}
-use Rattle.papaya_spots.specs.Given.Seize.declared.rows.defer.Deferring.TheVariants as deferring
-use Rattle.papaya_spots.specs.Given.Seize.declared.rows.leave.Leave.{Leave}
-use Rattle.papaya_spots.specs.Given.Seize.declared.rows.leave.Leaving.{Leaving}
-use Rattle.papaya_spots.specs.Given.Seize.declared.rows.leave.Leaving.TheVariants as leaving
-use Rattle.papaya_spots.specs.Given.Seize.declared.rows.register.Register.{Register}
-use Rattle.papaya_spots.specs.Given.Seize.declared.rows.register.Registering.{Registering}
-use Rattle.papaya_spots.specs.Given.Seize.declared.rows.register.Registering.TheVariants as registering
-use Rattle.papaya_spots.specs.Given.Seize.declared.rows.settle.Settle.{Settle}
-use Rattle.papaya_spots.specs.Given.Seize.declared.rows.settle.Settled.{Settled}
-use Rattle.papaya_spots.specs.Given.Seize.declared.rows.settle.Settled.TheVariants.{Goes, Waits, Gave, Done}
-use Rattle.papaya_spots.specs.Given.Seize.declared.rows.settle.Settling.{Settling}
-use Rattle.papaya_spots.specs.Given.Seize.declared.rows.settle.Settling.TheVariants as at
-use Rattle.papaya_spots.specs.Given.Seize.Defer as defer
-use Rattle.papaya_spots.specs.Given.Seize.Enter.{enter_plan, unregister_plan}
-use Rattle.papaya_spots.specs.Given.Seize.Leave as leave
-use Rattle.papaya_spots.specs.Given.Seize.Register as register
-use Rattle.papaya_spots.specs.Given.Seize.Settle.{settle_plan, plan_at}
-use Rattle.papaya_spots.specs.Given.Seize.World.{World, Row, Rests, Registers, Enters, Settles, Leaves, Defers, Frees, Steps', settles_on, registers_on, defers_on}
-use Rattle.papaya_spots.proofs.Given.SeizeMoves.State.Ghost.{Life, IsPending, IsDoomed, State}
-use Rattle.papaya_spots.proofs.Given.SeizeMoves.Moves.Takes.{first_doomed}
-use Rattle.papaya_spots.proofs.Given.SeizeMoves.Moves.Tries.{first_pending}
-use Rattle.papaya_spots.proofs.Given.SeizeRule.Points.Deferred.{next_left}
-use Rattle.papaya_spots.proofs.Given.SeizeRule.Points.Known.{FitsAt, bare}
-use Rattle.papaya_spots.proofs.Given.SeizeRule.Rows.Known.{FitsLeave, FitsDefer, FitsRow}
-use Rattle.papaya_spots.proofs.Given.SeizeRule.Words.Named.{block_there, link, link-block}
-use Rattle.papaya_spots.proofs.Given.SeizeRule.Words.View.{view}
-use Rattle.papaya_spots.proofs.Given.SeizeRule.World.Kept.{row_may}
-use Rattle.papaya_spots.proofs.Given.SeizeAlone.Histories.Reached.{Reached}
+use Rattle.papaya_spots.specs.Given.SeizeWordsDeclared.at.At.{At}
+use Rattle.papaya_spots.specs.Given.SeizeWordsDeclared.at.At.TheVariants as name
+use Rattle.papaya_spots.specs.Given.SeizeWordsDeclared.block.Block.{Block}
+use Rattle.papaya_spots.specs.Given.SeizeWordsOp.{Op, Out, Load, Store, Swap, Add, Or, Exchange, Make, Take, Rewrite, Room, Found, Exchanged, Roomed}
+use Rattle.papaya_spots.specs.Given.SeizeWordsMem.{Mem, same_at, value_at, entry_in, word_at, block_of, with_word, with_block, Can, Took, after}
+use Rattle.papaya_spots.specs.Given.SeizeWordsPlan.{Plan, Turn, Do, May, Steps, plan_as}
+use Rattle.papaya_spots.proofs.Given.SeizeWordsOneOwner.AfterWrites.{word_at-with_word, word_at-with_value, block_of-with_block}
+use Rattle.papaya_spots.specs.Given.SeizeDeclared.states.TheConstants.{FIRST, LAST_SLOT}
+use Rattle.papaya_spots.specs.Given.SeizeDeclared.progress.Progress.{Progress}
+use Rattle.papaya_spots.specs.Given.SeizeDeclared.progress.Progress.TheVariants as progress
+use Rattle.papaya_spots.specs.Given.SeizeDeclared.rows.defer.Defer.{Defer}
+use Rattle.papaya_spots.specs.Given.SeizeDeclared.rows.defer.Deferring.{Deferring}
+use Rattle.papaya_spots.specs.Given.SeizeDeclared.rows.defer.Deferring.TheVariants as deferring
+use Rattle.papaya_spots.specs.Given.SeizeDeclared.rows.leave.Leave.{Leave}
+use Rattle.papaya_spots.specs.Given.SeizeDeclared.rows.leave.Leaving.{Leaving}
+use Rattle.papaya_spots.specs.Given.SeizeDeclared.rows.leave.Leaving.TheVariants as leaving
+use Rattle.papaya_spots.specs.Given.SeizeDeclared.rows.register.Register.{Register}
+use Rattle.papaya_spots.specs.Given.SeizeDeclared.rows.register.Registering.{Registering}
+use Rattle.papaya_spots.specs.Given.SeizeDeclared.rows.register.Registering.TheVariants as registering
+use Rattle.papaya_spots.specs.Given.SeizeDeclared.rows.settle.Settle.{Settle}
+use Rattle.papaya_spots.specs.Given.SeizeDeclared.rows.settle.Settled.{Settled}
+use Rattle.papaya_spots.specs.Given.SeizeDeclared.rows.settle.Settled.TheVariants.{Goes, Waits, Gave, Done}
+use Rattle.papaya_spots.specs.Given.SeizeDeclared.rows.settle.Settling.{Settling}
+use Rattle.papaya_spots.specs.Given.SeizeDeclared.rows.settle.Settling.TheVariants as at
+use Rattle.papaya_spots.specs.Given.SeizeDefer as defer
+use Rattle.papaya_spots.specs.Given.SeizeEnter.{enter_plan, unregister_plan}
+use Rattle.papaya_spots.specs.Given.SeizeLeave as leave
+use Rattle.papaya_spots.specs.Given.SeizeRegister as register
+use Rattle.papaya_spots.specs.Given.SeizeSettle.{settle_plan, plan_at}
+use Rattle.papaya_spots.specs.Given.SeizeWorld.{World, Row, Rests, Registers, Enters, Settles, Leaves, Defers, Frees, Steps', settles_on, registers_on, defers_on}
+use Rattle.papaya_spots.proofs.Given.SeizeMovesState.Ghost.{Life, IsPending, IsDoomed, State}
+use Rattle.papaya_spots.proofs.Given.SeizeMovesMoves.Takes.{first_doomed}
+use Rattle.papaya_spots.proofs.Given.SeizeMovesMoves.Tries.{first_pending}
+use Rattle.papaya_spots.proofs.Given.SeizeRulePoints.Deferred.{next_left}
+use Rattle.papaya_spots.proofs.Given.SeizeRulePoints.Known.{FitsAt, bare}
+use Rattle.papaya_spots.proofs.Given.SeizeRuleRows.Known.{FitsLeave, FitsDefer, FitsRow}
+use Rattle.papaya_spots.proofs.Given.SeizeRuleWords.Named.{block_there, link, link-block}
+use Rattle.papaya_spots.proofs.Given.SeizeRuleWords.View.{view}
+use Rattle.papaya_spots.proofs.Given.SeizeRuleWorld.Kept.{row_may}
+use Rattle.papaya_spots.proofs.Given.SeizeAloneHistories.Reached.{Reached}
 
 -- a name of no such word of this block
 abbrev pub IsApart : ℕ → At → Type 0

@@ -2,35 +2,35 @@
 use Rattle.std.specs.Prelude.{◌≡◌, ℕ, ◌+◌, ◌<◌, Bool, true, false, cond, eqb, List, [], ◌∷◌, ◌++◌, Option, Some, is_some}
 use Rattle.std.proofs.Common.{refl, ap, sym, subst, ◌∙◌, arith, eqb-true}
 use Rattle.std.proofs.lemmas.Bool.{eq-eqb}
-use Rattle.papaya_spots.specs.Given.SeizeWords.declared.at.At.TheVariants.{Entry}
-use Rattle.papaya_spots.specs.Given.SeizeWords.Mem.{value_at, word_at}
-use Rattle.papaya_spots.specs.Given.Seize.declared.states.TheConstants.{FIRST, LAST_SLOT}
-use Rattle.papaya_spots.specs.Given.Seize.Law.{Effect, Entered, Left, Retired, Taken, Deferred, holds, is_retired}
-use Rattle.papaya_spots.specs.Given.Seize.Sequence.{IsBetween, taken_in}
-use Rattle.papaya_spots.specs.Given.Seize.World.{World, Event, Begin, Step, Makes, Drops, Links, Parts, Unlinks, Rewrites, Operates, Ends, LeavesOver, Relinks, Clears, Chooses, Happens, Runs, Steps', IsInside, times, Request, Register', Enter', Leave', LeaveOwned, Refresh, Unregister', Retire, Flush, Defer', Begins}
-use Rattle.papaya_spots.specs.Given.SeizeWaiting.Held.{count}
-use Rattle.papaya_spots.proofs.Given.SeizeMoves.State.Ghost.{Debt, Stage, Unused, Open, Closing, Closed, Dead, Life, IsIn, IsDoomed, State, is_in, is_given}
-use Rattle.papaya_spots.proofs.Given.SeizeMoves.State.Held.{held_on}
-use Rattle.papaya_spots.proofs.Given.SeizeMoves.State.Moves.{left_over}
-use Rattle.papaya_spots.proofs.Given.SeizeMoves.State.Rule.{Inv, IsGuarded, IsLive, SameUnlessDead}
-use Rattle.papaya_spots.proofs.Given.SeizeMoves.Sets.Shown.{Alike, is_shut}
-use Rattle.papaya_spots.proofs.Given.SeizeRule.Rows.Effects.{IsOneStep}
-use Rattle.papaya_spots.proofs.Given.SeizeRule.Words.Chains.{first_or}
-use Rattle.papaya_spots.proofs.Given.SeizeRule.Words.Named.{words_of, word_found, or_zero}
-use Rattle.papaya_spots.proofs.Given.SeizeRule.Words.Shows.{FirstIs, lives}
-use Rattle.papaya_spots.proofs.Given.SeizeRule.Rows.Sizes.{AllSized}
-use Rattle.papaya_spots.proofs.Given.SeizeRule.Rows.SizesKept.{happens_sized}
-use Rattle.papaya_spots.proofs.Given.SeizeRule.World.Events.{leaves_over_good}
-use Rattle.papaya_spots.proofs.Given.SeizeRule.World.Good.{Good}
-use Rattle.papaya_spots.proofs.Given.SeizeRule.World.Kept.{IsStill, users_good}
-use Rattle.papaya_spots.proofs.Given.SeizeAlone.Histories.NotTaken.{IsHeld, did, not_taken, still_held}
-use Rattle.papaya_spots.proofs.Given.SeizeAlone.Histories.Reached.{Reached}
-use Rattle.papaya_spots.proofs.Given.SeizeAlone.Histories.UsersTurn.{AreBetween}
-use Rattle.papaya_spots.proofs.Given.Callers.Together.Slots.{all_between}
-use Rattle.papaya_spots.specs.Given.Tables.Nodes.{deferred_word}
-use Rattle.papaya_spots.specs.Given.Tables.declared.node.Node.{Node}
-use Rattle.papaya_spots.specs.Given.Rule.InWorld.{AllUsers}
-use Rattle.papaya_spots.proofs.Given.Callers.Rows.Users.{events_hold}
+use Rattle.papaya_spots.specs.Given.SeizeWordsDeclared.at.At.TheVariants.{Entry}
+use Rattle.papaya_spots.specs.Given.SeizeWordsMem.{value_at, word_at}
+use Rattle.papaya_spots.specs.Given.SeizeDeclared.states.TheConstants.{FIRST, LAST_SLOT}
+use Rattle.papaya_spots.specs.Given.SeizeLaw.{Effect, Entered, Left, Retired, Taken, Deferred, holds, is_retired}
+use Rattle.papaya_spots.specs.Given.SeizeSequence.{IsBetween, taken_in}
+use Rattle.papaya_spots.specs.Given.SeizeWorld.{World, Event, Begin, Step, Makes, Drops, Links, Parts, Unlinks, Rewrites, Operates, Ends, LeavesOver, Relinks, Clears, Chooses, Happens, Runs, Steps', IsInside, times, Request, Register', Enter', Leave', LeaveOwned, Refresh, Unregister', Retire, Flush, Defer', Begins}
+use Rattle.papaya_spots.specs.Given.SeizeWaitingHeld.{count}
+use Rattle.papaya_spots.proofs.Given.SeizeMovesState.Ghost.{Debt, Stage, Unused, Open, Closing, Closed, Dead, Life, IsIn, IsDoomed, State, is_in, is_given}
+use Rattle.papaya_spots.proofs.Given.SeizeMovesState.Held.{held_on}
+use Rattle.papaya_spots.proofs.Given.SeizeMovesState.Moves.{left_over}
+use Rattle.papaya_spots.proofs.Given.SeizeMovesState.Rule.{Inv, IsGuarded, IsLive, SameUnlessDead}
+use Rattle.papaya_spots.proofs.Given.SeizeMovesSets.Shown.{Alike, is_shut}
+use Rattle.papaya_spots.proofs.Given.SeizeRuleRows.Effects.{IsOneStep}
+use Rattle.papaya_spots.proofs.Given.SeizeRuleWords.Chains.{first_or}
+use Rattle.papaya_spots.proofs.Given.SeizeRuleWords.Named.{words_of, word_found, or_zero}
+use Rattle.papaya_spots.proofs.Given.SeizeRuleWords.Shows.{FirstIs, lives}
+use Rattle.papaya_spots.proofs.Given.SeizeRuleRows.Sizes.{AllSized}
+use Rattle.papaya_spots.proofs.Given.SeizeRuleRows.SizesKept.{happens_sized}
+use Rattle.papaya_spots.proofs.Given.SeizeRuleWorld.Events.{leaves_over_good}
+use Rattle.papaya_spots.proofs.Given.SeizeRuleWorld.Good.{Good}
+use Rattle.papaya_spots.proofs.Given.SeizeRuleWorld.Kept.{IsStill, users_good}
+use Rattle.papaya_spots.proofs.Given.SeizeAloneHistories.NotTaken.{IsHeld, did, not_taken, still_held}
+use Rattle.papaya_spots.proofs.Given.SeizeAloneHistories.Reached.{Reached}
+use Rattle.papaya_spots.proofs.Given.SeizeAloneHistories.UsersTurn.{AreBetween}
+use Rattle.papaya_spots.proofs.Given.CallersTogether.Slots.{all_between}
+use Rattle.papaya_spots.specs.Given.TablesNodes.{deferred_word}
+use Rattle.papaya_spots.specs.Given.TablesDeclared.node.Node.{Node}
+use Rattle.papaya_spots.specs.Given.RuleInWorld.{AllUsers}
+use Rattle.papaya_spots.proofs.Given.CallersRows.Users.{events_hold}
 use Rattle.papaya_hands.specs.Rows.{HoldsOne}
 use Rattle.papaya_hands.proofs.Firsts.{row_keeps_first}
 

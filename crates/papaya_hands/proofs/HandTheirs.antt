@@ -2,50 +2,50 @@
 use Rattle.std.specs.Prelude.{◌&&◌, ◌≡◌, ℕ, zero, suc, ◌<◌, ◌==◌, ◌/◌, nat_lt, Bool, true, false, List, [], ◌∷◌, Some, None, if◌then◌else◌, ◌⊎◌}
 use Rattle.std.proofs.Common.{refl, ap, sym, subst, ◌∙◌, arith, inl, inr}
 use Rattle.std.proofs.lemmas.Bool.{eq-eqb, cases_lt}
-use Rattle.papaya_spots.specs.Given.SeizeWords.declared.at.At.{At}
-use Rattle.papaya_spots.specs.Given.SeizeWords.declared.at.At.TheVariants.{Root, Used, Slot, Entry, Word}
-use Rattle.papaya_spots.specs.Given.SeizeWords.Mem.{Mem, value_at, word_at}
-use Rattle.papaya_spots.specs.Given.SeizeWords.Word.{block_in}
-use Rattle.papaya_spots.specs.Given.Seize.declared.states.TheConstants.{FIRST}
-use Rattle.papaya_spots.specs.Given.Seize.World.{World, Hand, NoBlock, Making, InUse, Parting, Cutting, Handed, LeftTo, Request, Register', Enter', Leave', LeaveOwned, Refresh, Unregister', Retire, Flush, Defer', Begin, Steps', Happens, times}
-use Rattle.papaya_spots.specs.Given.Seize.Sequence.{taken_in}
-use Rattle.papaya_spots.proofs.Given.SeizeAlone.Histories.NotTaken.{did, taken_gone}
-use Rattle.papaya_spots.proofs.Given.SeizeAlone.Histories.Reached.{Reached}
-use Rattle.papaya_spots.proofs.Given.SeizeAlone.Spared.Rows.{RowStepped}
-use Rattle.papaya_spots.proofs.Given.SeizeRule.Rows.Effects.{hand_kept}
-use Rattle.papaya_spots.proofs.Given.SeizeMoves.State.Ghost.{Life}
-use Rattle.papaya_spots.proofs.Given.SeizeRule.Points.Aside.{is_handed, HandFits}
-use Rattle.papaya_spots.proofs.Given.Rule.World.Hands.{at_cases}
-use Rattle.papaya_spots.specs.Given.Rule.InWorld.{IsHeldBy}
-use Rattle.papaya_spots.specs.Given.Tables.Nodes.{deferred_word}
-use Rattle.papaya_spots.specs.Given.Tables.declared.node.Node.{Node}
-use Rattle.papaya_spots.specs.Given.Tables.declared.setting.Setting.{Setting}
-use Rattle.papaya_spots.specs.Given.Tables.declared.table_words.TheConstants.{NEXT, DEFERRED}
-use Rattle.papaya_spots.specs.Given.Schedules.declared.effect.Effect.{Effect}
-use Rattle.papaya_spots.specs.Given.Schedules.declared.effect.Effect.TheVariants as effect
-use Rattle.papaya_spots.specs.Given.Schedules.declared.effect.Growth.TheVariants.{ABlock, ABucket}
-use Rattle.papaya_spots.specs.Given.Schedules.declared.effect.Spot.{Spot}
-use Rattle.papaya_spots.specs.Given.Schedules.declared.effect.Table.{Table}
-use Rattle.papaya_spots.specs.Given.Schedules.declared.effect.Thing.TheVariants.{APair, ATable}
-use Rattle.papaya_spots.specs.Given.Schedules.Moment.{MapThere, Moment}
-use Rattle.papaya_spots.specs.Given.Schedules.Views.{is_in_a_map, map_at}
-use Rattle.papaya_spots.specs.Given.Teller.declared.changed.Changed.{Changed}
-use Rattle.papaya_spots.specs.Given.Teller.declared.changed.Changed.TheVariants as changed
-use Rattle.papaya_spots.specs.Given.Teller.declared.changed.Kind.{Kind}
-use Rattle.papaya_spots.specs.Given.Teller.declared.changed.Kind.TheVariants as kind
-use Rattle.papaya_spots.specs.Given.Callers.Together.{CameAbout, HandsOver, IsOneStep}
-use Rattle.papaya_spots.proofs.Given.Callers.Together.Came.{came_reached, came_next}
-use Rattle.papaya_spots.specs.Given.Effects.Effects.{made_by, taken_by, names_same, followed_by, led_to, carried, placed, spot_at, is_place, in_table, in_block, batched, named, written_by, effects_of}
-use Rattle.papaya_spots.specs.Given.Effects.Known.{Known}
-use Rattle.papaya_spots.specs.Given.Effects.declared.acting.Acting.{Acting}
-use Rattle.papaya_spots.specs.Given.Effects.declared.acting.Acting.TheVariants as acts
-use Rattle.papaya_spots.specs.Given.Effects.declared.role.Role.{Role}
-use Rattle.papaya_spots.specs.Given.Effects.declared.role.Role.TheVariants as role
-use Rattle.papaya_spots.specs.Given.Follows.Steps.{HandTheirs}
-use Rattle.papaya_spots.proofs.Given.Follows.Operations.{LeavesBy}
+use Rattle.papaya_spots.specs.Given.SeizeWordsDeclared.at.At.{At}
+use Rattle.papaya_spots.specs.Given.SeizeWordsDeclared.at.At.TheVariants.{Root, Used, Slot, Entry, Word}
+use Rattle.papaya_spots.specs.Given.SeizeWordsMem.{Mem, value_at, word_at}
+use Rattle.papaya_spots.specs.Given.SeizeWordsWord.{block_in}
+use Rattle.papaya_spots.specs.Given.SeizeDeclared.states.TheConstants.{FIRST}
+use Rattle.papaya_spots.specs.Given.SeizeWorld.{World, Hand, NoBlock, Making, InUse, Parting, Cutting, Handed, LeftTo, Request, Register', Enter', Leave', LeaveOwned, Refresh, Unregister', Retire, Flush, Defer', Begin, Steps', Happens, times}
+use Rattle.papaya_spots.specs.Given.SeizeSequence.{taken_in}
+use Rattle.papaya_spots.proofs.Given.SeizeAloneHistories.NotTaken.{did, taken_gone}
+use Rattle.papaya_spots.proofs.Given.SeizeAloneHistories.Reached.{Reached}
+use Rattle.papaya_spots.proofs.Given.SeizeAloneSpared.Rows.{RowStepped}
+use Rattle.papaya_spots.proofs.Given.SeizeRuleRows.Effects.{hand_kept}
+use Rattle.papaya_spots.proofs.Given.SeizeMovesState.Ghost.{Life}
+use Rattle.papaya_spots.proofs.Given.SeizeRulePoints.Aside.{is_handed, HandFits}
+use Rattle.papaya_spots.proofs.Given.RuleWorld.Hands.{at_cases}
+use Rattle.papaya_spots.specs.Given.RuleInWorld.{IsHeldBy}
+use Rattle.papaya_spots.specs.Given.TablesNodes.{deferred_word}
+use Rattle.papaya_spots.specs.Given.TablesDeclared.node.Node.{Node}
+use Rattle.papaya_spots.specs.Given.TablesDeclared.setting.Setting.{Setting}
+use Rattle.papaya_spots.specs.Given.TablesDeclared.table_words.TheConstants.{NEXT, DEFERRED}
+use Rattle.papaya_spots.specs.Given.SchedulesDeclared.effect.Effect.{Effect}
+use Rattle.papaya_spots.specs.Given.SchedulesDeclared.effect.Effect.TheVariants as effect
+use Rattle.papaya_spots.specs.Given.SchedulesDeclared.effect.Growth.TheVariants.{ABlock, ABucket}
+use Rattle.papaya_spots.specs.Given.SchedulesDeclared.effect.Spot.{Spot}
+use Rattle.papaya_spots.specs.Given.SchedulesDeclared.effect.Table.{Table}
+use Rattle.papaya_spots.specs.Given.SchedulesDeclared.effect.Thing.TheVariants.{APair, ATable}
+use Rattle.papaya_spots.specs.Given.SchedulesMoment.{MapThere, Moment}
+use Rattle.papaya_spots.specs.Given.SchedulesViews.{is_in_a_map, map_at}
+use Rattle.papaya_spots.specs.Given.TellerDeclared.changed.Changed.{Changed}
+use Rattle.papaya_spots.specs.Given.TellerDeclared.changed.Changed.TheVariants as changed
+use Rattle.papaya_spots.specs.Given.TellerDeclared.changed.Kind.{Kind}
+use Rattle.papaya_spots.specs.Given.TellerDeclared.changed.Kind.TheVariants as kind
+use Rattle.papaya_spots.specs.Given.CallersTogether.{CameAbout, HandsOver, IsOneStep}
+use Rattle.papaya_spots.proofs.Given.CallersTogether.Came.{came_reached, came_next}
+use Rattle.papaya_spots.specs.Given.EffectsEffects.{made_by, taken_by, names_same, followed_by, led_to, carried, placed, spot_at, is_place, in_table, in_block, batched, named, written_by, effects_of}
+use Rattle.papaya_spots.specs.Given.EffectsKnown.{Known}
+use Rattle.papaya_spots.specs.Given.EffectsDeclared.acting.Acting.{Acting}
+use Rattle.papaya_spots.specs.Given.EffectsDeclared.acting.Acting.TheVariants as acts
+use Rattle.papaya_spots.specs.Given.EffectsDeclared.role.Role.{Role}
+use Rattle.papaya_spots.specs.Given.EffectsDeclared.role.Role.TheVariants as role
+use Rattle.papaya_spots.specs.Given.FollowsSteps.{HandTheirs}
+use Rattle.papaya_spots.proofs.Given.FollowsOperations.{LeavesBy}
 use Rattle.papaya_hands.specs.Hands.{IsInUse, ShowsHands}
 use Rattle.papaya_hands.proofs.Handing.{IsHanding, IsHandingRow, HandsOne, row_hands}
-use Rattle.papaya_spots.specs.Given.Scenes.Scene.{Scene}
+use Rattle.papaya_spots.specs.Given.ScenesScene.{Scene}
 
 -- what is on its way to the collector is in use nowhere
 on_way_out : (h : Hand) (l : Life) → HandFits h l → is_handed l ≡ true → IsInUse h → ⊥

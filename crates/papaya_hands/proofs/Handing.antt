@@ -2,38 +2,38 @@
 use Rattle.std.specs.Prelude.{◌≡◌, ◌≢◌, ℕ, ◌%◌, ◌+◌, ◌^◌, ◌/◌, ◌==◌, Bool, true, false, length, Option, Some, None, Ok, Err, IsSome, if◌then◌else◌, ◌⊎◌}
 use Rattle.std.proofs.Common.{refl, ap, sym, subst, ◌∙◌, arith, inl, inr}
 use Rattle.std.proofs.lemmas.Bool.{eq-eqb}
-use Rattle.papaya_spots.specs.Given.SeizeWords.declared.at.At.{At}
-use Rattle.papaya_spots.specs.Given.SeizeWords.declared.at.At.TheVariants.{Root, Used, Slot, Entry, Word}
-use Rattle.papaya_spots.specs.Given.SeizeWords.Mem.{Mem, Can, Took, Gives, same_at, value_at, value_in, word_at, block_of, with_word, after}
-use Rattle.papaya_spots.specs.Given.SeizeWords.Op.{Op, Out, Load, Store, Swap, Add, Or, Exchange, Make, Take, Rewrite, Room, Found, Stored, Exchanged, Made, Taken, Roomed}
-use Rattle.papaya_spots.specs.Given.SeizeWords.Plan.{Plan, Turn, Do, May, Steps}
-use Rattle.papaya_spots.specs.Given.SeizeWords.Word.{block_in}
-use Rattle.papaya_spots.proofs.Given.SeizeWords.OneOwner.AfterWrites.{word_at-with_word, block_of-with_block}
-use Rattle.papaya_spots.specs.Given.Seize.declared.progress.Progress.{Progress}
-use Rattle.papaya_spots.specs.Given.Seize.declared.progress.Progress.TheVariants as progress
-use Rattle.papaya_spots.specs.Given.Seize.declared.rows.defer.Defer.{Defer}
-use Rattle.papaya_spots.specs.Given.Seize.declared.rows.defer.Deferring.{Deferring}
-use Rattle.papaya_spots.specs.Given.Seize.declared.rows.defer.Deferring.TheVariants as deferring
-use Rattle.papaya_spots.specs.Given.Seize.declared.rows.settle.Settle.{Settle}
-use Rattle.papaya_spots.specs.Given.Seize.declared.rows.settle.Settled.{Settled}
-use Rattle.papaya_spots.specs.Given.Seize.declared.rows.settle.Settled.TheVariants as settled
-use Rattle.papaya_spots.specs.Given.Seize.declared.rows.settle.Settling.{Settling}
-use Rattle.papaya_spots.specs.Given.Seize.declared.rows.settle.Settling.TheVariants as at
-use Rattle.papaya_spots.specs.Given.Seize.declared.states.TheConstants.{FIRST, LAST_SLOT}
-use Rattle.papaya_spots.specs.Given.Seize.Defer as defer
-use Rattle.papaya_spots.specs.Given.Seize.Settle.{settle_plan, plan_at}
-use Rattle.papaya_spots.specs.Given.Seize.World.{World, Row, Rests, Registers, Enters, Settles, Leaves, Defers, Frees, Steps', settles_on, defers_on}
-use Rattle.papaya_spots.proofs.Given.SeizeAlone.Histories.Reached.{Reached}
-use Rattle.papaya_spots.proofs.Given.SeizeMoves.State.Ghost.{IsPending}
-use Rattle.papaya_spots.proofs.Given.SeizeRule.Points.Aside.{is_handed}
-use Rattle.papaya_spots.proofs.Given.SeizeRule.Points.Known.{FitsAt, bare}
-use Rattle.papaya_spots.proofs.Given.SeizeRule.Points.Retire.{of_link}
-use Rattle.papaya_spots.proofs.Given.SeizeRule.Rows.Known.{FitsDefer, FitsRow}
-use Rattle.papaya_spots.proofs.Given.SeizeRule.Words.Apart.{is_pending_first}
-use Rattle.papaya_spots.proofs.Given.SeizeRule.Words.Named.{same_at-true, block_there}
-use Rattle.papaya_spots.proofs.Given.SeizeRule.Words.View.{view}
-use Rattle.papaya_spots.proofs.Given.SeizeRule.World.Good.{Good}
-use Rattle.papaya_spots.proofs.Given.SeizeRule.World.Kept.{row_may}
+use Rattle.papaya_spots.specs.Given.SeizeWordsDeclared.at.At.{At}
+use Rattle.papaya_spots.specs.Given.SeizeWordsDeclared.at.At.TheVariants.{Root, Used, Slot, Entry, Word}
+use Rattle.papaya_spots.specs.Given.SeizeWordsMem.{Mem, Can, Took, Gives, same_at, value_at, value_in, word_at, block_of, with_word, after}
+use Rattle.papaya_spots.specs.Given.SeizeWordsOp.{Op, Out, Load, Store, Swap, Add, Or, Exchange, Make, Take, Rewrite, Room, Found, Stored, Exchanged, Made, Taken, Roomed}
+use Rattle.papaya_spots.specs.Given.SeizeWordsPlan.{Plan, Turn, Do, May, Steps}
+use Rattle.papaya_spots.specs.Given.SeizeWordsWord.{block_in}
+use Rattle.papaya_spots.proofs.Given.SeizeWordsOneOwner.AfterWrites.{word_at-with_word, block_of-with_block}
+use Rattle.papaya_spots.specs.Given.SeizeDeclared.progress.Progress.{Progress}
+use Rattle.papaya_spots.specs.Given.SeizeDeclared.progress.Progress.TheVariants as progress
+use Rattle.papaya_spots.specs.Given.SeizeDeclared.rows.defer.Defer.{Defer}
+use Rattle.papaya_spots.specs.Given.SeizeDeclared.rows.defer.Deferring.{Deferring}
+use Rattle.papaya_spots.specs.Given.SeizeDeclared.rows.defer.Deferring.TheVariants as deferring
+use Rattle.papaya_spots.specs.Given.SeizeDeclared.rows.settle.Settle.{Settle}
+use Rattle.papaya_spots.specs.Given.SeizeDeclared.rows.settle.Settled.{Settled}
+use Rattle.papaya_spots.specs.Given.SeizeDeclared.rows.settle.Settled.TheVariants as settled
+use Rattle.papaya_spots.specs.Given.SeizeDeclared.rows.settle.Settling.{Settling}
+use Rattle.papaya_spots.specs.Given.SeizeDeclared.rows.settle.Settling.TheVariants as at
+use Rattle.papaya_spots.specs.Given.SeizeDeclared.states.TheConstants.{FIRST, LAST_SLOT}
+use Rattle.papaya_spots.specs.Given.SeizeDefer as defer
+use Rattle.papaya_spots.specs.Given.SeizeSettle.{settle_plan, plan_at}
+use Rattle.papaya_spots.specs.Given.SeizeWorld.{World, Row, Rests, Registers, Enters, Settles, Leaves, Defers, Frees, Steps', settles_on, defers_on}
+use Rattle.papaya_spots.proofs.Given.SeizeAloneHistories.Reached.{Reached}
+use Rattle.papaya_spots.proofs.Given.SeizeMovesState.Ghost.{IsPending}
+use Rattle.papaya_spots.proofs.Given.SeizeRulePoints.Aside.{is_handed}
+use Rattle.papaya_spots.proofs.Given.SeizeRulePoints.Known.{FitsAt, bare}
+use Rattle.papaya_spots.proofs.Given.SeizeRulePoints.Retire.{of_link}
+use Rattle.papaya_spots.proofs.Given.SeizeRuleRows.Known.{FitsDefer, FitsRow}
+use Rattle.papaya_spots.proofs.Given.SeizeRuleWords.Apart.{is_pending_first}
+use Rattle.papaya_spots.proofs.Given.SeizeRuleWords.Named.{same_at-true, block_there}
+use Rattle.papaya_spots.proofs.Given.SeizeRuleWords.View.{view}
+use Rattle.papaya_spots.proofs.Given.SeizeRuleWorld.Good.{Good}
+use Rattle.papaya_spots.proofs.Given.SeizeRuleWorld.Kept.{row_may}
 
 -- none of the words with which a block is handed over: that which links to the first one of its batch, and a user's
 abbrev pub IsAside : At → Type 0

@@ -2,23 +2,23 @@
 use Rattle.std.specs.Prelude.{◌≡◌, ℕ, ◌<◌, ◌≤◌, Bool, true, List, length, Option, Some, None}
 use Rattle.std.proofs.Common.{refl, ap, sym, subst, ◌∙◌, arith, inl, inr}
 use Rattle.std.proofs.lemmas.Bool.{eq-eqb}
-use Rattle.papaya_spots.specs.Given.Seize.World.{Hand, InUse}
-use Rattle.papaya_spots.specs.Given.Schedules.declared.effect.Table.{Table}
-use Rattle.papaya_spots.specs.Given.Schedules.Moment.{Place, Unborn, InMap, Out, Handed, Behind, Left, GivenBack, MapThere, UnderWay as CallThere, Moment}
-use Rattle.papaya_spots.specs.Given.Schedules.Views.{is_in_map, is_in_a_map, map_at}
-use Rattle.papaya_spots.specs.Given.Rule.InWorld.{IsMapIn}
-use Rattle.papaya_spots.proofs.Given.Rule.Laws.{current_is_known}
-use Rattle.papaya_spots.specs.Given.Callers.Together.{UnderWay}
-use Rattle.papaya_spots.specs.Given.Effects.Known.{Known}
-use Rattle.papaya_spots.specs.Given.Effects.declared.role.Role.TheVariants as role
-use Rattle.papaya_spots.specs.Given.Finishes.Maps.{Standing}
-use Rattle.papaya_spots.specs.Given.Follows.Shows.{Shows}
-use Rattle.papaya_spots.proofs.Given.Follows.Going.{ComesToBe, ShowsOn}
-use Rattle.papaya_spots.proofs.Given.Follows.Onward.{IsOfMap}
-use Rattle.papaya_spots.proofs.Given.Follows.Steps.{one_of}
+use Rattle.papaya_spots.specs.Given.SeizeWorld.{Hand, InUse}
+use Rattle.papaya_spots.specs.Given.SchedulesDeclared.effect.Table.{Table}
+use Rattle.papaya_spots.specs.Given.SchedulesMoment.{Place, Unborn, InMap, Out, Handed, Behind, Left, GivenBack, MapThere, UnderWay as CallThere, Moment}
+use Rattle.papaya_spots.specs.Given.SchedulesViews.{is_in_map, is_in_a_map, map_at}
+use Rattle.papaya_spots.specs.Given.RuleInWorld.{IsMapIn}
+use Rattle.papaya_spots.proofs.Given.RuleLaws.{current_is_known}
+use Rattle.papaya_spots.specs.Given.CallersTogether.{UnderWay}
+use Rattle.papaya_spots.specs.Given.EffectsKnown.{Known}
+use Rattle.papaya_spots.specs.Given.EffectsDeclared.role.Role.TheVariants as role
+use Rattle.papaya_spots.specs.Given.FinishesMaps.{Standing}
+use Rattle.papaya_spots.specs.Given.FollowsShows.{Shows}
+use Rattle.papaya_spots.proofs.Given.FollowsGoing.{ComesToBe, ShowsOn}
+use Rattle.papaya_spots.proofs.Given.FollowsOnward.{IsOfMap}
+use Rattle.papaya_spots.proofs.Given.FollowsSteps.{one_of}
 use Rattle.papaya_hands.specs.Hands.{IsInUse, ShowsHands}
-use Rattle.papaya_spots.specs.Given.Scenes.Held.{Held, IsAt}
-use Rattle.papaya_spots.specs.Given.Scenes.Scene.{Scene}
+use Rattle.papaya_spots.specs.Given.ScenesHeld.{Held, IsAt}
+use Rattle.papaya_spots.specs.Given.ScenesScene.{Scene}
 
 pub used_as : (h h2 : Hand) → h2 ≡ h → IsInUse h → IsInUse h2
 used_as h h2 e used = subst IsInUse (sym e) used

@@ -1,31 +1,31 @@
 -- Whoever takes a step that is none of a call, the rows within calls are as they were, and keep a block of the batch that they close.
 use Rattle.std.specs.Prelude.{◌≡◌, ℕ, zero, suc, ◌<◌, Bool, Option, Some, None, is_some}
 use Rattle.std.proofs.Common.{refl, ap, sym, subst, ◌∙◌, arith, inl, inr}
-use Rattle.papaya_spots.specs.Given.SeizeWords.Mem.{value_at}
-use Rattle.papaya_spots.specs.Given.Seize.Law.{Ended, holds}
-use Rattle.papaya_spots.specs.Given.Seize.World.{World, Row, Runs, with_effect, times}
-use Rattle.papaya_spots.proofs.Given.SeizeRule.Rows.Others.{begins_others, steps_others}
-use Rattle.papaya_spots.proofs.Given.SeizeAlone.Histories.Reached.{Reached}
-use Rattle.papaya_spots.specs.Given.Tables.Nodes.{deferred_word}
-use Rattle.papaya_spots.specs.Given.Tables.declared.node.Node.{Node}
-use Rattle.papaya_spots.specs.Given.Callers.Together.{UnderWay}
-use Rattle.papaya_spots.proofs.Given.Callers.Together.Came.{came_reached}
-use Rattle.papaya_spots.proofs.Given.Callers.Together.Fits.{unless_on}
-use Rattle.papaya_spots.proofs.Given.Callers.Together.Users.{events_rows}
-use Rattle.papaya_spots.specs.Given.Finishes.FactsEnds.{Deed, events_of, taken_by}
-use Rattle.papaya_spots.specs.Given.Finishes.Maps.{with_call}
+use Rattle.papaya_spots.specs.Given.SeizeWordsMem.{value_at}
+use Rattle.papaya_spots.specs.Given.SeizeLaw.{Ended, holds}
+use Rattle.papaya_spots.specs.Given.SeizeWorld.{World, Row, Runs, with_effect, times}
+use Rattle.papaya_spots.proofs.Given.SeizeRuleRows.Others.{begins_others, steps_others}
+use Rattle.papaya_spots.proofs.Given.SeizeAloneHistories.Reached.{Reached}
+use Rattle.papaya_spots.specs.Given.TablesNodes.{deferred_word}
+use Rattle.papaya_spots.specs.Given.TablesDeclared.node.Node.{Node}
+use Rattle.papaya_spots.specs.Given.CallersTogether.{UnderWay}
+use Rattle.papaya_spots.proofs.Given.CallersTogether.Came.{came_reached}
+use Rattle.papaya_spots.proofs.Given.CallersTogether.Fits.{unless_on}
+use Rattle.papaya_spots.proofs.Given.CallersTogether.Users.{events_rows}
+use Rattle.papaya_spots.specs.Given.FinishesFactsEnds.{Deed, events_of, taken_by}
+use Rattle.papaya_spots.specs.Given.FinishesMaps.{with_call}
 use Rattle.papaya_hands.specs.Others.{RowsBeginAside, RowsGoAside, MakingsGoAside, EndingsBeginAside, EndingsGoAside, CallsGoAside}
 use Rattle.papaya_hands.specs.Rows.{ReclaimsNone, HoldsOne, KeepsOne, ShowsRows}
 use Rattle.papaya_hands.proofs.Asking.{which}
-use Rattle.papaya_spots.proofs.Given.Scenes.Between.{deed_between}
+use Rattle.papaya_spots.proofs.Given.ScenesBetween.{deed_between}
 use Rattle.papaya_hands.proofs.Guarded.{IsInStill, in_at_first, all_between_in, one_of_still, there_still, step_keeps_one, begin_keeps_one, runs_keep_one}
 use Rattle.papaya_hands.proofs.RowsOn.{RowSo, inside_of, kept_within}
 use Rattle.papaya_hands.proofs.SettlingRows.{one_kept}
-use Rattle.papaya_spots.specs.Given.Scenes.Ending.{ending_begun}
-use Rattle.papaya_spots.specs.Given.Scenes.Held.{Held, IsAt}
-use Rattle.papaya_spots.specs.Given.Scenes.Rows.{request_of}
-use Rattle.papaya_spots.specs.Given.Scenes.Scene.{HasNoCall, Scene, slot_of}
-use Rattle.papaya_spots.proofs.Given.Scenes.NoCall.{no_call}
+use Rattle.papaya_spots.specs.Given.ScenesEnding.{ending_begun}
+use Rattle.papaya_spots.specs.Given.ScenesHeld.{Held, IsAt}
+use Rattle.papaya_spots.specs.Given.ScenesRows.{request_of}
+use Rattle.papaya_spots.specs.Given.ScenesScene.{HasNoCall, Scene, slot_of}
+use Rattle.papaya_spots.proofs.Given.ScenesNoCall.{no_call}
 
 module _ {K V : Type 0} (s : Scene K V) (rows : ShowsRows s) (w2 : World (Node K V)) where
   -- the row of a call that is under way is as it was, and keeps its block of a batch

@@ -1,23 +1,23 @@
 -- The pair that a call on one key stores is the one that it has to store at that moment.
 use Rattle.std.specs.Prelude.{◌≡◌, ℕ, ◌<◌, List, [], ◌∷◌, ◌++◌, Option, Some, None}
 use Rattle.std.proofs.Common.{refl, ap, sym, ◌∙◌, inl, inr}
-use Rattle.papaya_spots.specs.Given.SeizeWords.Mem.{Mem, value_at}
-use Rattle.papaya_spots.specs.Given.Tables.declared.node.Node.{Node}
-use Rattle.papaya_spots.specs.Given.Tables.declared.node.Node.TheVariants as node
-use Rattle.papaya_spots.specs.Given.Raw.declared.machines.asking.Reply.TheVariants as reply
-use Rattle.papaya_spots.specs.Given.Schedules.declared.call.OneKey.{OneKey}
-use Rattle.papaya_spots.specs.Given.Schedules.declared.call.OneKey.TheVariants.{Get, GetKeyValue, ContainsKey, Insert, TryInsert, TryInsertWith, GetOrInsert, GetOrInsertWith, Update, UpdateOrInsert, UpdateOrInsertWith, Compute, Remove, RemoveEntry, RemoveIf}
-use Rattle.papaya_spots.specs.Given.Schedules.declared.call.Reply.{Reply}
-use Rattle.papaya_spots.specs.Given.Schedules.declared.call.Reply.TheVariants.{Gives}
-use Rattle.papaya_spots.specs.Given.Schedules.Sequential.{means, key_of, value_put}
-use Rattle.papaya_spots.specs.Given.Schedules.Views.{reply_to}
-use Rattle.papaya_spots.specs.Given.Late.Kinds.{MayPut, MayReplace, MayRemove}
-use Rattle.papaya_spots.specs.Given.Points.FactsCalls.{Change, Stored, Replaced, Removed}
-use Rattle.papaya_spots.specs.Given.Rule.Chart.{Chart}
-use Rattle.papaya_spots.specs.Given.Rule.Words.{Blocks}
-use Rattle.papaya_spots.specs.Given.Callers.Asked.{Asked, last_told, told_before}
-use Rattle.papaya_spots.specs.Given.Callers.Kind.{Kind}
-use Rattle.papaya_spots.specs.Given.Callers.Pairs.{kind_of, StoresGiven}
+use Rattle.papaya_spots.specs.Given.SeizeWordsMem.{Mem, value_at}
+use Rattle.papaya_spots.specs.Given.TablesDeclared.node.Node.{Node}
+use Rattle.papaya_spots.specs.Given.TablesDeclared.node.Node.TheVariants as node
+use Rattle.papaya_spots.specs.Given.RawDeclared.machines.asking.Reply.TheVariants as reply
+use Rattle.papaya_spots.specs.Given.SchedulesDeclared.call.OneKey.{OneKey}
+use Rattle.papaya_spots.specs.Given.SchedulesDeclared.call.OneKey.TheVariants.{Get, GetKeyValue, ContainsKey, Insert, TryInsert, TryInsertWith, GetOrInsert, GetOrInsertWith, Update, UpdateOrInsert, UpdateOrInsertWith, Compute, Remove, RemoveEntry, RemoveIf}
+use Rattle.papaya_spots.specs.Given.SchedulesDeclared.call.Reply.{Reply}
+use Rattle.papaya_spots.specs.Given.SchedulesDeclared.call.Reply.TheVariants.{Gives}
+use Rattle.papaya_spots.specs.Given.SchedulesSequential.{means, key_of, value_put}
+use Rattle.papaya_spots.specs.Given.SchedulesViews.{reply_to}
+use Rattle.papaya_spots.specs.Given.LateKinds.{MayPut, MayReplace, MayRemove}
+use Rattle.papaya_spots.specs.Given.PointsFactsCalls.{Change, Stored, Replaced, Removed}
+use Rattle.papaya_spots.specs.Given.RuleChart.{Chart}
+use Rattle.papaya_spots.specs.Given.RuleWords.{Blocks}
+use Rattle.papaya_spots.specs.Given.CallersAsked.{Asked, last_told, told_before}
+use Rattle.papaya_spots.specs.Given.CallersKind.{Kind}
+use Rattle.papaya_spots.specs.Given.CallersPairs.{kind_of, StoresGiven}
 use Rattle.papaya_hands.specs.Asked.{given_by, KnowsFirst, IsSameQuestion, AreReplies}
 use Rattle.papaya_hands.proofs.Replies.{gave, told_since, told_first, told_as}
 

@@ -1,21 +1,21 @@
 -- The effects of an operation leave a call replacing nothing: what is replaced gives way to what is stored by the same operation.
 use Rattle.std.specs.Prelude.{◌≡◌, ℕ, Bool, true, false, List, [], ◌∷◌, Option, Some, None, if◌then◌else◌}
 use Rattle.std.proofs.Common.{refl, ap, sym, ◌∙◌}
-use Rattle.papaya_spots.specs.Given.Runs.Same.{is_same}
-use Rattle.papaya_spots.specs.Given.Schedules.declared.call.Call.{Call}
-use Rattle.papaya_spots.specs.Given.Schedules.declared.call.Call.TheVariants as call
-use Rattle.papaya_spots.specs.Given.Schedules.declared.effect.Effect.{Effect}
-use Rattle.papaya_spots.specs.Given.Schedules.declared.effect.Effect.TheVariants as effect
-use Rattle.papaya_spots.specs.Given.Schedules.Effects.{due_for, call_by, with_effect, with_effects}
-use Rattle.papaya_spots.specs.Given.Schedules.Moment.{UnderWay as CallThere, Moment}
-use Rattle.papaya_spots.specs.Given.Schedules.Views.{call_of}
-use Rattle.papaya_spots.specs.Given.Teller.declared.changed.Changed.{Changed}
-use Rattle.papaya_spots.specs.Given.Effects.Effects.{effects_of}
-use Rattle.papaya_spots.specs.Given.Effects.Known.{Known}
-use Rattle.papaya_spots.specs.Given.Effects.declared.acting.Acting.{Acting}
-use Rattle.papaya_spots.specs.Given.Effects.declared.acting.Acting.TheVariants as acts
-use Rattle.papaya_spots.proofs.Given.Follows.Calls.{changed_same, changed as changed_if, found}
-use Rattle.papaya_spots.proofs.Given.Follows.OfEach.{OfEach, each_operation_so}
+use Rattle.papaya_spots.specs.Given.RunsSame.{is_same}
+use Rattle.papaya_spots.specs.Given.SchedulesDeclared.call.Call.{Call}
+use Rattle.papaya_spots.specs.Given.SchedulesDeclared.call.Call.TheVariants as call
+use Rattle.papaya_spots.specs.Given.SchedulesDeclared.effect.Effect.{Effect}
+use Rattle.papaya_spots.specs.Given.SchedulesDeclared.effect.Effect.TheVariants as effect
+use Rattle.papaya_spots.specs.Given.SchedulesEffects.{due_for, call_by, with_effect, with_effects}
+use Rattle.papaya_spots.specs.Given.SchedulesMoment.{UnderWay as CallThere, Moment}
+use Rattle.papaya_spots.specs.Given.SchedulesViews.{call_of}
+use Rattle.papaya_spots.specs.Given.TellerDeclared.changed.Changed.{Changed}
+use Rattle.papaya_spots.specs.Given.EffectsEffects.{effects_of}
+use Rattle.papaya_spots.specs.Given.EffectsKnown.{Known}
+use Rattle.papaya_spots.specs.Given.EffectsDeclared.acting.Acting.{Acting}
+use Rattle.papaya_spots.specs.Given.EffectsDeclared.acting.Acting.TheVariants as acts
+use Rattle.papaya_spots.proofs.Given.FollowsCalls.{changed_same, changed as changed_if, found}
+use Rattle.papaya_spots.proofs.Given.FollowsOfEach.{OfEach, each_operation_so}
 
 -- the pair that a call replaces after an effect
 abbrev pub replacing_by : Effect → Option ℕ → Option ℕ

@@ -2,13 +2,13 @@
 use Rattle.std.specs.Prelude.{◌≡◌, ℕ, ◌<◌, ◌==◌, Bool, true, false, List, [], ◌∷◌, ◌++◌, Option, Some, None, option_map, if◌then◌else◌}
 use Rattle.std.proofs.Common.{refl, ap, sym, ◌∙◌, inl, inr}
 use Rattle.std.proofs.lemmas.Bool.{ne_eqb, eq-eqb, cases_eq}
-use Rattle.papaya_spots.specs.Given.Raw.declared.machines.asking.Reply.{Reply as MachineReply}
-use Rattle.papaya_spots.specs.Given.Raw.declared.machines.asking.Reply.TheVariants as reply
-use Rattle.papaya_spots.specs.Given.Schedules.declared.call.Reply.{Reply}
-use Rattle.papaya_spots.specs.Given.Schedules.declared.call.Reply.TheVariants.{Gives, Removes, Aborts, Decides}
-use Rattle.papaya_spots.specs.Given.Schedules.Things.{same_question}
-use Rattle.papaya_spots.specs.Given.Schedules.Views.{reply_to}
-use Rattle.papaya_spots.specs.Given.Callers.Asked.{Asked, is_about, last_told}
+use Rattle.papaya_spots.specs.Given.RawDeclared.machines.asking.Reply.{Reply as MachineReply}
+use Rattle.papaya_spots.specs.Given.RawDeclared.machines.asking.Reply.TheVariants as reply
+use Rattle.papaya_spots.specs.Given.SchedulesDeclared.call.Reply.{Reply}
+use Rattle.papaya_spots.specs.Given.SchedulesDeclared.call.Reply.TheVariants.{Gives, Removes, Aborts, Decides}
+use Rattle.papaya_spots.specs.Given.SchedulesThings.{same_question}
+use Rattle.papaya_spots.specs.Given.SchedulesViews.{reply_to}
+use Rattle.papaya_spots.specs.Given.CallersAsked.{Asked, is_about, last_told}
 use Rattle.papaya_hands.specs.Asked.{as_told, IsSameQuestion, AreReplies}
 
 -- what was told as a value was a value

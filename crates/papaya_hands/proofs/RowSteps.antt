@@ -1,24 +1,24 @@
 -- A step of a row within a call: it hands over what has left its map, and calls were told, and blocks are in hands, as the moment says then.
 use Rattle.std.specs.Prelude.{◌≡◌, ℕ, Bool, List, Some, None}
 use Rattle.std.proofs.Common.{ap, sym, subst, ◌∙◌, inl, inr}
-use Rattle.papaya_spots.specs.Given.SeizeWords.Mem.{Mem, value_at}
-use Rattle.papaya_spots.specs.Given.Seize.World.{World, IsInside}
-use Rattle.papaya_spots.specs.Given.Tables.declared.node.Node.{Node}
-use Rattle.papaya_spots.specs.Given.Raw.declared.machines.progress.Progress.{Progress}
-use Rattle.papaya_spots.specs.Given.Schedules.declared.effect.Table.{Table}
-use Rattle.papaya_spots.specs.Given.Schedules.Moment.{InMap, Moment}
-use Rattle.papaya_spots.specs.Given.Callers.Together.{UnderWay, UnlessCounts, OnKey, ForRoom, Counting, OverAll, IsOneStep, Together}
-use Rattle.papaya_spots.specs.Given.Effects.Effects.{effects_of}
-use Rattle.papaya_spots.specs.Given.Effects.Known.{Known}
-use Rattle.papaya_spots.specs.Given.Effects.declared.acting.Acting.TheVariants as acts
-use Rattle.papaya_spots.specs.Given.Effects.declared.role.Role.TheVariants as role
-use Rattle.papaya_spots.specs.Given.Follows.Blocks.{HasRole}
-use Rattle.papaya_spots.specs.Given.Follows.Shows.{Shows}
-use Rattle.papaya_spots.specs.Given.Follows.Steps.{HandTheirs, TakesNone}
-use Rattle.papaya_spots.proofs.Given.Follows.Onward.{IsLasting}
-use Rattle.papaya_spots.proofs.Given.Follows.Operations.{LeavesBy, operated_leaves}
-use Rattle.papaya_spots.proofs.Given.Follows.RowSteps.{row_step_shown}
-use Rattle.papaya_spots.proofs.Given.Follows.Steps.{WentTo, went_to, made_so, DidSo, OfNoRow, LeadsThere}
+use Rattle.papaya_spots.specs.Given.SeizeWordsMem.{Mem, value_at}
+use Rattle.papaya_spots.specs.Given.SeizeWorld.{World, IsInside}
+use Rattle.papaya_spots.specs.Given.TablesDeclared.node.Node.{Node}
+use Rattle.papaya_spots.specs.Given.RawDeclared.machines.progress.Progress.{Progress}
+use Rattle.papaya_spots.specs.Given.SchedulesDeclared.effect.Table.{Table}
+use Rattle.papaya_spots.specs.Given.SchedulesMoment.{InMap, Moment}
+use Rattle.papaya_spots.specs.Given.CallersTogether.{UnderWay, UnlessCounts, OnKey, ForRoom, Counting, OverAll, IsOneStep, Together}
+use Rattle.papaya_spots.specs.Given.EffectsEffects.{effects_of}
+use Rattle.papaya_spots.specs.Given.EffectsKnown.{Known}
+use Rattle.papaya_spots.specs.Given.EffectsDeclared.acting.Acting.TheVariants as acts
+use Rattle.papaya_spots.specs.Given.EffectsDeclared.role.Role.TheVariants as role
+use Rattle.papaya_spots.specs.Given.FollowsBlocks.{HasRole}
+use Rattle.papaya_spots.specs.Given.FollowsShows.{Shows}
+use Rattle.papaya_spots.specs.Given.FollowsSteps.{HandTheirs, TakesNone}
+use Rattle.papaya_spots.proofs.Given.FollowsOnward.{IsLasting}
+use Rattle.papaya_spots.proofs.Given.FollowsOperations.{LeavesBy, operated_leaves}
+use Rattle.papaya_spots.proofs.Given.FollowsRowSteps.{row_step_shown}
+use Rattle.papaya_spots.proofs.Given.FollowsSteps.{WentTo, went_to, made_so, DidSo, OfNoRow, LeadsThere}
 use Rattle.papaya_hands.specs.Hands.{IsInUse, ShowsHands}
 use Rattle.papaya_hands.specs.Steps.{RowsHandTheirs}
 use Rattle.papaya_hands.specs.Rows.{HoldsOne, ShowsRows}
@@ -29,9 +29,9 @@ use Rattle.papaya_hands.proofs.RowsOn.{RowSo, inside_of, rows_on}
 use Rattle.papaya_hands.proofs.SettlingRows.{goes_so, leaves_one, not_to_take}
 use Rattle.papaya_hands.proofs.Spares.{handing}
 use Rattle.papaya_hands.proofs.Taking.{IsToTake, takes_none}
-use Rattle.papaya_spots.specs.Given.Scenes.Held.{Held, IsAt}
-use Rattle.papaya_spots.specs.Given.Scenes.Scene.{Scene, slot_of}
-use Rattle.papaya_spots.specs.Given.Scenes.Stepping.{StepLeads}
+use Rattle.papaya_spots.specs.Given.ScenesHeld.{Held, IsAt}
+use Rattle.papaya_spots.specs.Given.ScenesScene.{Scene, slot_of}
+use Rattle.papaya_spots.specs.Given.ScenesStepping.{StepLeads}
 
 module _ {K V : Type 0} (same : K → K → Bool) (hash : ℕ → K → ℕ) (name : ℕ → List ℕ) (m : Moment K V) (known : Known) (s : Scene K V) (old new : Held K V) (at : IsAt same hash old s)
     (shown : Shows same name m known s) (map i : ℕ) (u : UnderWay K V K) (here : s.calls map i ≡ Some u) (told : Progress (Node K V)) (leads : StepLeads same hash i told s old new)

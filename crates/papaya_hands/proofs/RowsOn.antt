@@ -2,29 +2,29 @@
 use Rattle.std.specs.Prelude.{◌≡◌, ◌≢◌, ℕ, Bool, List, [], Option, Some, None, ◌⊎◌}
 use Rattle.std.proofs.Common.{refl, ap, sym, subst, inl, inr}
 use Rattle.std.proofs.lemmas.Bool.{cases_eq}
-use Rattle.papaya_spots.specs.Given.Seize.World.{World, Row, Rests, Event, Runs, IsInside}
-use Rattle.papaya_spots.specs.Given.Tables.Nodes.{deferred_word}
-use Rattle.papaya_spots.specs.Given.Tables.declared.node.Node.{Node}
-use Rattle.papaya_spots.specs.Given.Raw.declared.machines.progress.Progress.{Progress}
-use Rattle.papaya_spots.specs.Given.Resize.declared.sum.Sum.{Sum}
-use Rattle.papaya_spots.specs.Given.Rule.InWorld.{AllUsers}
-use Rattle.papaya_spots.specs.Given.Schedules.Moment.{Moment}
-use Rattle.papaya_spots.specs.Given.Callers.Together.{UnderWay, UnlessCounts, OnKey, ForRoom, Counting, OverAll, CameAbout}
-use Rattle.papaya_spots.proofs.Given.Callers.Together.Came.{came_reached}
-use Rattle.papaya_spots.proofs.Given.Callers.Together.Fits.{unless_on}
-use Rattle.papaya_spots.proofs.Given.Callers.Together.Users.{events_rows}
-use Rattle.papaya_spots.specs.Given.Effects.Known.{Known}
-use Rattle.papaya_spots.specs.Given.Finishes.Maps.{Standing}
-use Rattle.papaya_spots.specs.Given.Follows.Shows.{Shows}
-use Rattle.papaya_spots.proofs.Given.Follows.Steps.{WentTo, went_to, DidSo, OfNoRow}
+use Rattle.papaya_spots.specs.Given.SeizeWorld.{World, Row, Rests, Event, Runs, IsInside}
+use Rattle.papaya_spots.specs.Given.TablesNodes.{deferred_word}
+use Rattle.papaya_spots.specs.Given.TablesDeclared.node.Node.{Node}
+use Rattle.papaya_spots.specs.Given.RawDeclared.machines.progress.Progress.{Progress}
+use Rattle.papaya_spots.specs.Given.ResizeDeclared.sum.Sum.{Sum}
+use Rattle.papaya_spots.specs.Given.RuleInWorld.{AllUsers}
+use Rattle.papaya_spots.specs.Given.SchedulesMoment.{Moment}
+use Rattle.papaya_spots.specs.Given.CallersTogether.{UnderWay, UnlessCounts, OnKey, ForRoom, Counting, OverAll, CameAbout}
+use Rattle.papaya_spots.proofs.Given.CallersTogether.Came.{came_reached}
+use Rattle.papaya_spots.proofs.Given.CallersTogether.Fits.{unless_on}
+use Rattle.papaya_spots.proofs.Given.CallersTogether.Users.{events_rows}
+use Rattle.papaya_spots.specs.Given.EffectsKnown.{Known}
+use Rattle.papaya_spots.specs.Given.FinishesMaps.{Standing}
+use Rattle.papaya_spots.specs.Given.FollowsShows.{Shows}
+use Rattle.papaya_spots.proofs.Given.FollowsSteps.{WentTo, went_to, DidSo, OfNoRow}
 use Rattle.papaya_hands.specs.Rows.{ReclaimsNone, HoldsOne, KeepsOne, ShowsRows}
 use Rattle.papaya_hands.proofs.Asking.{which}
 use Rattle.papaya_hands.proofs.Guarded.{runs_keep_one}
 use Rattle.papaya_hands.proofs.SettlingRows.{one_kept}
-use Rattle.papaya_spots.specs.Given.Scenes.Held.{Held, IsAt}
-use Rattle.papaya_spots.specs.Given.Scenes.Replying.{scene_with}
-use Rattle.papaya_spots.specs.Given.Scenes.Scene.{Scene, slot_of}
-use Rattle.papaya_spots.specs.Given.Scenes.Stepping.{StepLeads, scene_after}
+use Rattle.papaya_spots.specs.Given.ScenesHeld.{Held, IsAt}
+use Rattle.papaya_spots.specs.Given.ScenesReplying.{scene_with}
+use Rattle.papaya_spots.specs.Given.ScenesScene.{Scene, slot_of}
+use Rattle.papaya_spots.specs.Given.ScenesStepping.{StepLeads, scene_after}
 
 -- the row of a call is so
 abbrev pub RowSo : {K V : Type 0} → World (Node K V) → ℕ → Type 0

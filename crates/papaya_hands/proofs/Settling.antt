@@ -1,16 +1,16 @@
 -- A row that reclaims nothing goes on so, by its plan: with a block in the batch that it tries. Where it adds up what it has pushed, it may come to a batch.
 use Rattle.std.specs.Prelude.{◌≡◌, ◌≢◌, ℕ, Option, Ok, Err, Bool, true, false, if◌then◌else◌, nat_lt, ◌==◌, ◌+◌, ◌-◌, ◌%◌, ◌^◌}
 use Rattle.std.proofs.Common.{refl, ap, sym, subst, eqb-true}
-use Rattle.papaya_spots.specs.Given.SeizeWords.Op.{Out, Found, Exchanged}
-use Rattle.papaya_spots.specs.Given.SeizeWords.Mem.{Mem, Took, value_at}
-use Rattle.papaya_spots.specs.Given.SeizeWords.Plan.{Plan, Then, Turn, Do, Now, Seeing, Sure, Steps, Ends}
-use Rattle.papaya_spots.specs.Given.Seize.declared.states.TheConstants.{HELD, NEVER, ACTIVE, LAST_SLOT}
-use Rattle.papaya_spots.specs.Given.Seize.declared.rows.settle.Settle.{Settle}
-use Rattle.papaya_spots.specs.Given.Seize.declared.rows.settle.Settling.{Settling}
-use Rattle.papaya_spots.specs.Given.Seize.declared.rows.settle.Settling.TheVariants as at
-use Rattle.papaya_spots.specs.Given.Seize.declared.rows.settle.Settled.{Settled}
-use Rattle.papaya_spots.specs.Given.Seize.declared.rows.settle.Settled.TheVariants as settled
-use Rattle.papaya_spots.specs.Given.Seize.Settle as plans
+use Rattle.papaya_spots.specs.Given.SeizeWordsOp.{Out, Found, Exchanged}
+use Rattle.papaya_spots.specs.Given.SeizeWordsMem.{Mem, Took, value_at}
+use Rattle.papaya_spots.specs.Given.SeizeWordsPlan.{Plan, Then, Turn, Do, Now, Seeing, Sure, Steps, Ends}
+use Rattle.papaya_spots.specs.Given.SeizeDeclared.states.TheConstants.{HELD, NEVER, ACTIVE, LAST_SLOT}
+use Rattle.papaya_spots.specs.Given.SeizeDeclared.rows.settle.Settle.{Settle}
+use Rattle.papaya_spots.specs.Given.SeizeDeclared.rows.settle.Settling.{Settling}
+use Rattle.papaya_spots.specs.Given.SeizeDeclared.rows.settle.Settling.TheVariants as at
+use Rattle.papaya_spots.specs.Given.SeizeDeclared.rows.settle.Settled.{Settled}
+use Rattle.papaya_spots.specs.Given.SeizeDeclared.rows.settle.Settled.TheVariants as settled
+use Rattle.papaya_spots.specs.Given.SeizeSettle as plans
 use Rattle.papaya_hands.specs.Rows.{IsAside, SettlesAside, TriesOne}
 
 -- it has nothing to reclaim, no list, and nothing to flush

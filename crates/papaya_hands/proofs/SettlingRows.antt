@@ -2,42 +2,42 @@
 use Rattle.std.specs.Prelude.{◌≡◌, ℕ, ◌+◌, Bool, true, cond, ◌∷◌, ◌++◌, length, ◌⊎◌, ◌==◌, if◌then◌else◌}
 use Rattle.std.proofs.Common.{refl, ap, sym, subst, ◌∙◌, arith, inl, inr}
 use Rattle.std.proofs.lemmas.Bool.{eq-eqb}
-use Rattle.papaya_spots.specs.Given.SeizeWords.declared.at.At.TheVariants.{Entry}
-use Rattle.papaya_spots.specs.Given.SeizeWords.Mem.{Mem, Can, Took, value_at, word_at}
-use Rattle.papaya_spots.specs.Given.SeizeWords.Plan.{May, Steps}
-use Rattle.papaya_spots.specs.Given.Seize.declared.progress.Progress.{Progress}
-use Rattle.papaya_spots.specs.Given.Seize.declared.progress.Progress.TheVariants as progress
-use Rattle.papaya_spots.specs.Given.Seize.declared.rows.defer.Defer.{Defer}
-use Rattle.papaya_spots.specs.Given.Seize.declared.rows.register.Register.{Register}
-use Rattle.papaya_spots.specs.Given.Seize.declared.rows.settle.Settle.{Settle}
-use Rattle.papaya_spots.specs.Given.Seize.declared.rows.settle.Settled.{Settled}
-use Rattle.papaya_spots.specs.Given.Seize.declared.rows.settle.Settled.TheVariants as settled
-use Rattle.papaya_spots.specs.Given.Seize.declared.rows.settle.Settling.{Settling}
-use Rattle.papaya_spots.specs.Given.Seize.declared.rows.settle.Settling.TheVariants as at
-use Rattle.papaya_spots.specs.Given.Seize.declared.states.TheConstants.{FIRST, LAST_SLOT}
-use Rattle.papaya_spots.specs.Given.Seize.Law.{Retired, holds, is_open, is_retired}
-use Rattle.papaya_spots.specs.Given.Seize.Settle.{settle_plan, plan_at}
-use Rattle.papaya_spots.specs.Given.Seize.World.{World, Row, Rests, Registers, Enters, Settles, Leaves, Defers, Frees, Request, Register', Enter', Leave', LeaveOwned, Refresh, Unregister', Retire, Flush, Defer', Begin, Happens, Steps', IsInside, settle_effects, settles_on, registers_on, defers_on}
-use Rattle.papaya_spots.proofs.Given.SeizeMoves.Moves.Tries.{first_pending}
-use Rattle.papaya_spots.proofs.Given.SeizeMoves.State.Ghost.{IsPending}
-use Rattle.papaya_spots.proofs.Given.SeizeRule.Points.Known.{FitsAt, bare}
-use Rattle.papaya_spots.proofs.Given.SeizeRule.Points.Retire.{of_link}
-use Rattle.papaya_spots.proofs.Given.SeizeRule.Points.Settle.{is_over, settle_steps}
-use Rattle.papaya_spots.proofs.Given.SeizeRule.Points.Stepped.{IsGoing}
-use Rattle.papaya_spots.proofs.Given.SeizeRule.Rows.Known.{FitsRow}
-use Rattle.papaya_spots.proofs.Given.SeizeRule.Words.Shows.{lives}
-use Rattle.papaya_spots.proofs.Given.SeizeRule.Words.View.{view}
-use Rattle.papaya_spots.proofs.Given.SeizeRule.World.Kept.{row_may}
-use Rattle.papaya_spots.proofs.Given.SeizeRule.World.Start.{words_good}
-use Rattle.papaya_spots.proofs.Given.SeizeAlone.Histories.Reached.{Reached, happens_reached}
-use Rattle.papaya_spots.proofs.Given.SeizeAlone.Histories.Uses.{inside_open}
-use Rattle.papaya_spots.specs.Given.Tables.Nodes.{deferred_word}
-use Rattle.papaya_spots.specs.Given.Tables.declared.node.Node.{Node}
-use Rattle.papaya_spots.specs.Given.Tables.declared.setting.Setting.{Setting}
-use Rattle.papaya_spots.proofs.Given.Rule.World.Hands.{at_cases}
-use Rattle.papaya_spots.specs.Given.Callers.Together.{CameAbout, HandsOver, IsOneStep}
-use Rattle.papaya_spots.proofs.Given.Callers.Together.Came.{came_reached}
-use Rattle.papaya_spots.proofs.Given.Callers.Together.Handed.{inside_on}
+use Rattle.papaya_spots.specs.Given.SeizeWordsDeclared.at.At.TheVariants.{Entry}
+use Rattle.papaya_spots.specs.Given.SeizeWordsMem.{Mem, Can, Took, value_at, word_at}
+use Rattle.papaya_spots.specs.Given.SeizeWordsPlan.{May, Steps}
+use Rattle.papaya_spots.specs.Given.SeizeDeclared.progress.Progress.{Progress}
+use Rattle.papaya_spots.specs.Given.SeizeDeclared.progress.Progress.TheVariants as progress
+use Rattle.papaya_spots.specs.Given.SeizeDeclared.rows.defer.Defer.{Defer}
+use Rattle.papaya_spots.specs.Given.SeizeDeclared.rows.register.Register.{Register}
+use Rattle.papaya_spots.specs.Given.SeizeDeclared.rows.settle.Settle.{Settle}
+use Rattle.papaya_spots.specs.Given.SeizeDeclared.rows.settle.Settled.{Settled}
+use Rattle.papaya_spots.specs.Given.SeizeDeclared.rows.settle.Settled.TheVariants as settled
+use Rattle.papaya_spots.specs.Given.SeizeDeclared.rows.settle.Settling.{Settling}
+use Rattle.papaya_spots.specs.Given.SeizeDeclared.rows.settle.Settling.TheVariants as at
+use Rattle.papaya_spots.specs.Given.SeizeDeclared.states.TheConstants.{FIRST, LAST_SLOT}
+use Rattle.papaya_spots.specs.Given.SeizeLaw.{Retired, holds, is_open, is_retired}
+use Rattle.papaya_spots.specs.Given.SeizeSettle.{settle_plan, plan_at}
+use Rattle.papaya_spots.specs.Given.SeizeWorld.{World, Row, Rests, Registers, Enters, Settles, Leaves, Defers, Frees, Request, Register', Enter', Leave', LeaveOwned, Refresh, Unregister', Retire, Flush, Defer', Begin, Happens, Steps', IsInside, settle_effects, settles_on, registers_on, defers_on}
+use Rattle.papaya_spots.proofs.Given.SeizeMovesMoves.Tries.{first_pending}
+use Rattle.papaya_spots.proofs.Given.SeizeMovesState.Ghost.{IsPending}
+use Rattle.papaya_spots.proofs.Given.SeizeRulePoints.Known.{FitsAt, bare}
+use Rattle.papaya_spots.proofs.Given.SeizeRulePoints.Retire.{of_link}
+use Rattle.papaya_spots.proofs.Given.SeizeRulePoints.Settle.{is_over, settle_steps}
+use Rattle.papaya_spots.proofs.Given.SeizeRulePoints.Stepped.{IsGoing}
+use Rattle.papaya_spots.proofs.Given.SeizeRuleRows.Known.{FitsRow}
+use Rattle.papaya_spots.proofs.Given.SeizeRuleWords.Shows.{lives}
+use Rattle.papaya_spots.proofs.Given.SeizeRuleWords.View.{view}
+use Rattle.papaya_spots.proofs.Given.SeizeRuleWorld.Kept.{row_may}
+use Rattle.papaya_spots.proofs.Given.SeizeRuleWorld.Start.{words_good}
+use Rattle.papaya_spots.proofs.Given.SeizeAloneHistories.Reached.{Reached, happens_reached}
+use Rattle.papaya_spots.proofs.Given.SeizeAloneHistories.Uses.{inside_open}
+use Rattle.papaya_spots.specs.Given.TablesNodes.{deferred_word}
+use Rattle.papaya_spots.specs.Given.TablesDeclared.node.Node.{Node}
+use Rattle.papaya_spots.specs.Given.TablesDeclared.setting.Setting.{Setting}
+use Rattle.papaya_spots.proofs.Given.RuleWorld.Hands.{at_cases}
+use Rattle.papaya_spots.specs.Given.CallersTogether.{CameAbout, HandsOver, IsOneStep}
+use Rattle.papaya_spots.proofs.Given.CallersTogether.Came.{came_reached}
+use Rattle.papaya_spots.proofs.Given.CallersTogether.Handed.{inside_on}
 use Rattle.papaya_hands.specs.Rows.{IsAside, SettlesAside, ReclaimsNone, HoldsOne, TriesOne, KeepsOne}
 use Rattle.papaya_hands.proofs.Firsts.{plan_apart}
 use Rattle.papaya_hands.proofs.Guarded.{step_keeps_one, begin_keeps_one, there_is}

@@ -1,41 +1,41 @@
 -- A step of a call that is none of a row leaves what is of other maps in the hands that had it; and rows within calls hand something over.
 use Rattle.std.specs.Prelude.{◌≡◌, ℕ, Bool, List, Option, Some, None}
 use Rattle.std.proofs.Common.{ap, sym, subst, ◌∙◌, inl, inr}
-use Rattle.papaya_spots.specs.Given.SeizeWords.Mem.{value_at}
-use Rattle.papaya_spots.specs.Given.Seize.World.{World, Hand, Row, Making, IsInside}
-use Rattle.papaya_spots.specs.Given.Tables.declared.node.Node.{Node}
-use Rattle.papaya_spots.specs.Given.Resize.declared.copier.Copying.{Copying}
-use Rattle.papaya_spots.specs.Given.Resize.declared.copier.Copying.TheVariants as copies
-use Rattle.papaya_spots.specs.Given.Resize.declared.dispose.Disposing.{Disposing}
-use Rattle.papaya_spots.specs.Given.Resize.declared.dispose.Disposing.TheVariants as disposes
-use Rattle.papaya_spots.specs.Given.Reserves.declared.reserve.Reserving.{Reserving}
-use Rattle.papaya_spots.specs.Given.Reserves.declared.reserve.Reserving.TheVariants as reserves
-use Rattle.papaya_spots.specs.Given.Sweeps.declared.sweep.Sweeping.{Sweeping}
-use Rattle.papaya_spots.specs.Given.Sweeps.declared.sweep.Sweeping.TheVariants as sweeps
-use Rattle.papaya_spots.specs.Given.Raw.declared.machines.call.Calling.{Calling}
-use Rattle.papaya_spots.specs.Given.Raw.declared.machines.call.Calling.TheVariants as at
-use Rattle.papaya_spots.specs.Given.Raw.declared.machines.progress.Progress.{Progress}
-use Rattle.papaya_spots.specs.Given.Schedules.declared.effect.Table.{Table}
-use Rattle.papaya_spots.specs.Given.Schedules.Moment.{InMap, Moment}
-use Rattle.papaya_spots.specs.Given.Rule.InWorld.{IsIts}
-use Rattle.papaya_spots.specs.Given.Callers.OverAll.{row_of_sweep}
-use Rattle.papaya_spots.specs.Given.Callers.Rooms.{row_of_room}
-use Rattle.papaya_spots.specs.Given.Callers.Rows.{row_of_disposal, row_of_copier, row_of}
-use Rattle.papaya_spots.specs.Given.Callers.Sights.{IsSight, seen_by}
-use Rattle.papaya_spots.specs.Given.Callers.Together.{UnderWay, OnKey, ForRoom, Counting, OverAll, Together}
-use Rattle.papaya_spots.specs.Given.Effects.Known.{Known}
-use Rattle.papaya_spots.specs.Given.Effects.declared.role.Role.TheVariants as role
-use Rattle.papaya_spots.specs.Given.Finishes.Maps.{Standing}
-use Rattle.papaya_spots.specs.Given.Follows.Blocks.{HasRole}
-use Rattle.papaya_spots.specs.Given.Follows.Maps.{table_of}
-use Rattle.papaya_spots.specs.Given.Follows.Shows.{Shows}
-use Rattle.papaya_spots.proofs.Given.Follows.Steps.{WentTo, went_to, made_so, is_sight, DidSo, OfNoRow, spares_beside}
+use Rattle.papaya_spots.specs.Given.SeizeWordsMem.{value_at}
+use Rattle.papaya_spots.specs.Given.SeizeWorld.{World, Hand, Row, Making, IsInside}
+use Rattle.papaya_spots.specs.Given.TablesDeclared.node.Node.{Node}
+use Rattle.papaya_spots.specs.Given.ResizeDeclared.copier.Copying.{Copying}
+use Rattle.papaya_spots.specs.Given.ResizeDeclared.copier.Copying.TheVariants as copies
+use Rattle.papaya_spots.specs.Given.ResizeDeclared.dispose.Disposing.{Disposing}
+use Rattle.papaya_spots.specs.Given.ResizeDeclared.dispose.Disposing.TheVariants as disposes
+use Rattle.papaya_spots.specs.Given.ReservesDeclared.reserve.Reserving.{Reserving}
+use Rattle.papaya_spots.specs.Given.ReservesDeclared.reserve.Reserving.TheVariants as reserves
+use Rattle.papaya_spots.specs.Given.SweepsDeclared.sweep.Sweeping.{Sweeping}
+use Rattle.papaya_spots.specs.Given.SweepsDeclared.sweep.Sweeping.TheVariants as sweeps
+use Rattle.papaya_spots.specs.Given.RawDeclared.machines.call.Calling.{Calling}
+use Rattle.papaya_spots.specs.Given.RawDeclared.machines.call.Calling.TheVariants as at
+use Rattle.papaya_spots.specs.Given.RawDeclared.machines.progress.Progress.{Progress}
+use Rattle.papaya_spots.specs.Given.SchedulesDeclared.effect.Table.{Table}
+use Rattle.papaya_spots.specs.Given.SchedulesMoment.{InMap, Moment}
+use Rattle.papaya_spots.specs.Given.RuleInWorld.{IsIts}
+use Rattle.papaya_spots.specs.Given.CallersOverAll.{row_of_sweep}
+use Rattle.papaya_spots.specs.Given.CallersRooms.{row_of_room}
+use Rattle.papaya_spots.specs.Given.CallersRows.{row_of_disposal, row_of_copier, row_of}
+use Rattle.papaya_spots.specs.Given.CallersSights.{IsSight, seen_by}
+use Rattle.papaya_spots.specs.Given.CallersTogether.{UnderWay, OnKey, ForRoom, Counting, OverAll, Together}
+use Rattle.papaya_spots.specs.Given.EffectsKnown.{Known}
+use Rattle.papaya_spots.specs.Given.EffectsDeclared.role.Role.TheVariants as role
+use Rattle.papaya_spots.specs.Given.FinishesMaps.{Standing}
+use Rattle.papaya_spots.specs.Given.FollowsBlocks.{HasRole}
+use Rattle.papaya_spots.specs.Given.FollowsMaps.{table_of}
+use Rattle.papaya_spots.specs.Given.FollowsShows.{Shows}
+use Rattle.papaya_spots.proofs.Given.FollowsSteps.{WentTo, went_to, made_so, is_sight, DidSo, OfNoRow, spares_beside}
 use Rattle.papaya_hands.specs.Hands.{IsInUse, ShowsHands}
 use Rattle.papaya_hands.proofs.Handing.{IsHandingRow}
 use Rattle.papaya_hands.proofs.HandsOn.{used_as}
-use Rattle.papaya_spots.specs.Given.Scenes.Held.{Held, IsAt}
-use Rattle.papaya_spots.specs.Given.Scenes.Scene.{Scene, slot_of}
-use Rattle.papaya_spots.specs.Given.Scenes.Stepping.{StepLeads}
+use Rattle.papaya_spots.specs.Given.ScenesHeld.{Held, IsAt}
+use Rattle.papaya_spots.specs.Given.ScenesScene.{Scene, slot_of}
+use Rattle.papaya_spots.specs.Given.ScenesStepping.{StepLeads}
 
 handing_disposal : (slot : ℕ) (d : Disposing) → IsHandingRow (row_of_disposal slot d)
 handing_disposal slot (disposes.Settles settle) = tt

@@ -2,19 +2,19 @@
 use Rattle.std.specs.Prelude.{◌≡◌, ℕ, ◌<◌, Bool, List, Some}
 use Rattle.std.proofs.Common.{arith, inl, inr}
 use Rattle.std.proofs.lemmas.Bool.{cases_eq, cases_lt}
-use Rattle.papaya_spots.specs.Given.Tables.declared.node.Node.{Node}
-use Rattle.papaya_spots.specs.Given.Raw.declared.machines.progress.Progress.{Progress}
-use Rattle.papaya_spots.specs.Given.Schedules.Moment.{Moment}
-use Rattle.papaya_spots.specs.Given.Callers.Together.{UnderWay, OnKey, ForRoom, Counting, OverAll}
-use Rattle.papaya_spots.specs.Given.Effects.Effects.{effects_of}
-use Rattle.papaya_spots.specs.Given.Effects.Known.{Known}
-use Rattle.papaya_spots.specs.Given.Effects.declared.acting.Acting.TheVariants as acts
-use Rattle.papaya_spots.specs.Given.Finishes.Maps.{Standing}
-use Rattle.papaya_spots.specs.Given.Rule.InWorld.{IsMapIn}
-use Rattle.papaya_spots.specs.Given.Follows.Maps.{ShowsPairs}
-use Rattle.papaya_spots.specs.Given.Follows.Shows.{Shows}
-use Rattle.papaya_spots.specs.Given.Follows.Steps.{StoreTheirs}
-use Rattle.papaya_spots.proofs.Given.Follows.Steps.{WentTo, went_to, made_so, DidSo, OfNoRow, step_shown, stores_its, stayed_stores}
+use Rattle.papaya_spots.specs.Given.TablesDeclared.node.Node.{Node}
+use Rattle.papaya_spots.specs.Given.RawDeclared.machines.progress.Progress.{Progress}
+use Rattle.papaya_spots.specs.Given.SchedulesMoment.{Moment}
+use Rattle.papaya_spots.specs.Given.CallersTogether.{UnderWay, OnKey, ForRoom, Counting, OverAll}
+use Rattle.papaya_spots.specs.Given.EffectsEffects.{effects_of}
+use Rattle.papaya_spots.specs.Given.EffectsKnown.{Known}
+use Rattle.papaya_spots.specs.Given.EffectsDeclared.acting.Acting.TheVariants as acts
+use Rattle.papaya_spots.specs.Given.FinishesMaps.{Standing}
+use Rattle.papaya_spots.specs.Given.RuleInWorld.{IsMapIn}
+use Rattle.papaya_spots.specs.Given.FollowsMaps.{ShowsPairs}
+use Rattle.papaya_spots.specs.Given.FollowsShows.{Shows}
+use Rattle.papaya_spots.specs.Given.FollowsSteps.{StoreTheirs}
+use Rattle.papaya_spots.proofs.Given.FollowsSteps.{WentTo, went_to, made_so, DidSo, OfNoRow, step_shown, stores_its, stayed_stores}
 use Rattle.papaya_hands.specs.Asked.{ShowsAsked}
 use Rattle.papaya_hands.specs.Steps.{CallsStoreTheirs}
 use Rattle.papaya_hands.proofs.AskedOn.{asked_on}
@@ -22,9 +22,9 @@ use Rattle.papaya_hands.proofs.HandsOn.{hands_on}
 use Rattle.papaya_hands.proofs.RowsOn.{rows_on, keeps_theirs, own_row}
 use Rattle.papaya_hands.proofs.Spares.{pairs_spared, tables_spared}
 use Rattle.papaya_hands.proofs.Stores.{key_gives, room_gives, sweep_gives}
-use Rattle.papaya_spots.specs.Given.Scenes.Held.{Held, IsAt}
-use Rattle.papaya_spots.specs.Given.Scenes.Scene.{Scene}
-use Rattle.papaya_spots.specs.Given.Scenes.Stepping.{StepLeads}
+use Rattle.papaya_spots.specs.Given.ScenesHeld.{Held, IsAt}
+use Rattle.papaya_spots.specs.Given.ScenesScene.{Scene}
+use Rattle.papaya_spots.specs.Given.ScenesStepping.{StepLeads}
 
 -- no two pairs of a map have one number
 pub numbers_apart : {K V : Type 0} (map : ℕ) (number : ℕ → ℕ) (s : Standing K) (m : Moment K V) (known : Known) → ShowsPairs map number s m known

@@ -2,42 +2,42 @@
 use Rattle.std.specs.Prelude.{◌≡◌, ℕ, ◌<◌, Bool, true, false, cond, eqb, List, map, Option, Some, None, if◌then◌else◌, ◌⊎◌}
 use Rattle.std.proofs.Common.{refl, ap, sym, subst, ◌∙◌, arith, inl, inr}
 use Rattle.std.proofs.lemmas.Bool.{ne_eqb, eq-eqb, cases_eq}
-use Rattle.papaya_spots.specs.Given.SeizeWords.Mem.{Mem, value_at}
-use Rattle.papaya_spots.specs.Given.Seize.World.{World}
-use Rattle.papaya_spots.specs.Given.Tables.Chunks.{is_incremental}
-use Rattle.papaya_spots.specs.Given.Tables.declared.node.Node.{Node}
-use Rattle.papaya_spots.specs.Given.Raw.declared.machines.answer.Called.{Called}
-use Rattle.papaya_spots.specs.Given.Raw.declared.machines.call.KeyCall.{KeyCall}
-use Rattle.papaya_spots.specs.Given.Runs.Same.{is_same}
-use Rattle.papaya_spots.specs.Given.Schedules.declared.call.Call.{Call}
-use Rattle.papaya_spots.specs.Given.Schedules.declared.call.Call.TheVariants as call
-use Rattle.papaya_spots.specs.Given.Schedules.declared.call.OneKey.{OneKey}
-use Rattle.papaya_spots.specs.Given.Schedules.declared.call.Reply.{Reply}
-use Rattle.papaya_spots.specs.Given.Schedules.declared.effect.Effect.TheVariants as effect
-use Rattle.papaya_spots.specs.Given.Schedules.Effects.{new_pair, call_by, with_effect}
-use Rattle.papaya_spots.specs.Given.Schedules.Entry.{acting}
-use Rattle.papaya_spots.specs.Given.Schedules.Moment.{UnderWay as CallThere, Moment}
-use Rattle.papaya_spots.specs.Given.Schedules.Sequential.{means, key_of, value_put}
-use Rattle.papaya_spots.specs.Given.Schedules.Views.{call_of, reply_to}
-use Rattle.papaya_spots.specs.Given.Rule.Chart.{Chart}
-use Rattle.papaya_spots.specs.Given.Rule.Words.{Blocks}
-use Rattle.papaya_spots.specs.Given.Rule.InWorld.{IsMapIn}
-use Rattle.papaya_spots.proofs.Given.Rule.Laws.{current_is_known}
-use Rattle.papaya_spots.specs.Given.Points.FactsCalls.{Change, Unchanged, Stored, Replaced, Removed, Changes}
-use Rattle.papaya_spots.specs.Given.Callers.Pairs.{Given, kind_of, StoresGiven}
-use Rattle.papaya_spots.specs.Given.Callers.OverAll.{CallOverAll, RemovesTold}
-use Rattle.papaya_spots.specs.Given.Callers.Together.{CallOnKey, UnderWay, OnKey, StepTold, Fresh, Late, change_told, StepsTogether}
-use Rattle.papaya_spots.specs.Given.Effects.Known.{Known}
-use Rattle.papaya_spots.specs.Given.Finishes.Maps.{Standing}
-use Rattle.papaya_spots.specs.Given.Follows.Calls.{IsCalled}
-use Rattle.papaya_spots.specs.Given.Follows.Steps.{HasToStore}
-use Rattle.papaya_spots.proofs.Given.Follows.Calls.{changed_same, changed, found}
-use Rattle.papaya_spots.proofs.Given.Follows.Calling.{found_passes}
-use Rattle.papaya_spots.proofs.Given.Follows.Gives.{Gives}
+use Rattle.papaya_spots.specs.Given.SeizeWordsMem.{Mem, value_at}
+use Rattle.papaya_spots.specs.Given.SeizeWorld.{World}
+use Rattle.papaya_spots.specs.Given.TablesChunks.{is_incremental}
+use Rattle.papaya_spots.specs.Given.TablesDeclared.node.Node.{Node}
+use Rattle.papaya_spots.specs.Given.RawDeclared.machines.answer.Called.{Called}
+use Rattle.papaya_spots.specs.Given.RawDeclared.machines.call.KeyCall.{KeyCall}
+use Rattle.papaya_spots.specs.Given.RunsSame.{is_same}
+use Rattle.papaya_spots.specs.Given.SchedulesDeclared.call.Call.{Call}
+use Rattle.papaya_spots.specs.Given.SchedulesDeclared.call.Call.TheVariants as call
+use Rattle.papaya_spots.specs.Given.SchedulesDeclared.call.OneKey.{OneKey}
+use Rattle.papaya_spots.specs.Given.SchedulesDeclared.call.Reply.{Reply}
+use Rattle.papaya_spots.specs.Given.SchedulesDeclared.effect.Effect.TheVariants as effect
+use Rattle.papaya_spots.specs.Given.SchedulesEffects.{new_pair, call_by, with_effect}
+use Rattle.papaya_spots.specs.Given.SchedulesEntry.{acting}
+use Rattle.papaya_spots.specs.Given.SchedulesMoment.{UnderWay as CallThere, Moment}
+use Rattle.papaya_spots.specs.Given.SchedulesSequential.{means, key_of, value_put}
+use Rattle.papaya_spots.specs.Given.SchedulesViews.{call_of, reply_to}
+use Rattle.papaya_spots.specs.Given.RuleChart.{Chart}
+use Rattle.papaya_spots.specs.Given.RuleWords.{Blocks}
+use Rattle.papaya_spots.specs.Given.RuleInWorld.{IsMapIn}
+use Rattle.papaya_spots.proofs.Given.RuleLaws.{current_is_known}
+use Rattle.papaya_spots.specs.Given.PointsFactsCalls.{Change, Unchanged, Stored, Replaced, Removed, Changes}
+use Rattle.papaya_spots.specs.Given.CallersPairs.{Given, kind_of, StoresGiven}
+use Rattle.papaya_spots.specs.Given.CallersOverAll.{CallOverAll, RemovesTold}
+use Rattle.papaya_spots.specs.Given.CallersTogether.{CallOnKey, UnderWay, OnKey, StepTold, Fresh, Late, change_told, StepsTogether}
+use Rattle.papaya_spots.specs.Given.EffectsKnown.{Known}
+use Rattle.papaya_spots.specs.Given.FinishesMaps.{Standing}
+use Rattle.papaya_spots.specs.Given.FollowsCalls.{IsCalled}
+use Rattle.papaya_spots.specs.Given.FollowsSteps.{HasToStore}
+use Rattle.papaya_spots.proofs.Given.FollowsCalls.{changed_same, changed, found}
+use Rattle.papaya_spots.proofs.Given.FollowsCalling.{found_passes}
+use Rattle.papaya_spots.proofs.Given.FollowsGives.{Gives}
 use Rattle.papaya_hands.specs.Asked.{given_by, IsAskedOn, IsAskedAs, IsAsked}
 use Rattle.papaya_hands.proofs.Done.{done}
 use Rattle.papaya_hands.proofs.Puts.{MayDo, PutsThere, puts_new, puts_over}
-use Rattle.papaya_spots.specs.Given.Scenes.Scene.{slot_of}
+use Rattle.papaya_spots.specs.Given.ScenesScene.{slot_of}
 
 module _ {K V : Type 0} where
   -- a call that is as this one, but for the pair that it replaces, has to store what it puts

@@ -2,31 +2,31 @@
 use Rattle.std.specs.Prelude.{◌≡◌, ℕ, ◌<◌, ◌≤◌, ◌+◌, ◌/◌, ◌%◌, ◌^◌, ◌==◌, Bool, true, false, List, [], ◌∷◌, Option, Some, if◌then◌else◌}
 use Rattle.std.proofs.Common.{refl, ap, sym, subst, ◌∙◌, arith, inl, inr, eqb-true}
 use Rattle.std.proofs.lemmas.Bool.{cases_lt}
-use Rattle.papaya_spots.specs.Given.SeizeWords.declared.at.At.TheVariants.{Entry}
-use Rattle.papaya_spots.specs.Given.SeizeWords.Op.{Found}
-use Rattle.papaya_spots.specs.Given.SeizeWords.Mem.{Mem, Took, value_at, word_at}
-use Rattle.papaya_spots.specs.Given.SeizeWords.Plan.{Steps, Ends}
-use Rattle.papaya_spots.proofs.Given.SeizeWords.OneOwner.Operations.{added}
-use Rattle.papaya_spots.specs.Given.Seize.declared.rows.settle.Settle.{Settle}
-use Rattle.papaya_spots.specs.Given.Seize.declared.rows.settle.Settled.{Settled}
-use Rattle.papaya_spots.specs.Given.Seize.declared.states.TheConstants.{COUNT, LAST_SLOT}
-use Rattle.papaya_spots.specs.Given.Seize.Law.{holds, is_open}
-use Rattle.papaya_spots.specs.Given.Seize.Settle as plans
-use Rattle.papaya_spots.specs.Given.Seize.World.{World}
-use Rattle.papaya_spots.specs.Given.SeizeWaiting.Held.{count}
-use Rattle.papaya_spots.proofs.Given.SeizeMoves.State.Ghost.{Debt, Unscanned, Marked, Gone, Skipped, Owing, Loose, Counted, Head, Never, Stage, Closing, Life, IsIn, State, is_active, is_marked, owes, counts, was_put, total}
-use Rattle.papaya_spots.proofs.Given.SeizeMoves.State.Logs.{held_open}
-use Rattle.papaya_spots.proofs.Given.SeizeMoves.State.Rule.{IsLive, Waits, IsGuarded, SeenIs, AtStage}
-use Rattle.papaya_spots.proofs.Given.SeizeMoves.State.Sums.{put_parts, put_le, total_le}
-use Rattle.papaya_spots.proofs.Given.SeizeRule.Points.Known.{Sums, bare}
-use Rattle.papaya_spots.proofs.Given.SeizeRule.Points.Retire.{of_link}
-use Rattle.papaya_spots.proofs.Given.SeizeRule.Words.Chains.{first_or, count_first}
-use Rattle.papaya_spots.proofs.Given.SeizeRule.Words.Named.{words_of, word_found, link, link-block}
-use Rattle.papaya_spots.proofs.Given.SeizeRule.Words.Shows.{CountIs}
-use Rattle.papaya_spots.proofs.Given.SeizeRule.Words.View.{view}
-use Rattle.papaya_spots.proofs.Given.SeizeAlone.Histories.Reached.{Reached}
-use Rattle.papaya_spots.specs.Given.Tables.Nodes.{deferred_word}
-use Rattle.papaya_spots.specs.Given.Tables.declared.node.Node.{Node}
+use Rattle.papaya_spots.specs.Given.SeizeWordsDeclared.at.At.TheVariants.{Entry}
+use Rattle.papaya_spots.specs.Given.SeizeWordsOp.{Found}
+use Rattle.papaya_spots.specs.Given.SeizeWordsMem.{Mem, Took, value_at, word_at}
+use Rattle.papaya_spots.specs.Given.SeizeWordsPlan.{Steps, Ends}
+use Rattle.papaya_spots.proofs.Given.SeizeWordsOneOwner.Operations.{added}
+use Rattle.papaya_spots.specs.Given.SeizeDeclared.rows.settle.Settle.{Settle}
+use Rattle.papaya_spots.specs.Given.SeizeDeclared.rows.settle.Settled.{Settled}
+use Rattle.papaya_spots.specs.Given.SeizeDeclared.states.TheConstants.{COUNT, LAST_SLOT}
+use Rattle.papaya_spots.specs.Given.SeizeLaw.{holds, is_open}
+use Rattle.papaya_spots.specs.Given.SeizeSettle as plans
+use Rattle.papaya_spots.specs.Given.SeizeWorld.{World}
+use Rattle.papaya_spots.specs.Given.SeizeWaitingHeld.{count}
+use Rattle.papaya_spots.proofs.Given.SeizeMovesState.Ghost.{Debt, Unscanned, Marked, Gone, Skipped, Owing, Loose, Counted, Head, Never, Stage, Closing, Life, IsIn, State, is_active, is_marked, owes, counts, was_put, total}
+use Rattle.papaya_spots.proofs.Given.SeizeMovesState.Logs.{held_open}
+use Rattle.papaya_spots.proofs.Given.SeizeMovesState.Rule.{IsLive, Waits, IsGuarded, SeenIs, AtStage}
+use Rattle.papaya_spots.proofs.Given.SeizeMovesState.Sums.{put_parts, put_le, total_le}
+use Rattle.papaya_spots.proofs.Given.SeizeRulePoints.Known.{Sums, bare}
+use Rattle.papaya_spots.proofs.Given.SeizeRulePoints.Retire.{of_link}
+use Rattle.papaya_spots.proofs.Given.SeizeRuleWords.Chains.{first_or, count_first}
+use Rattle.papaya_spots.proofs.Given.SeizeRuleWords.Named.{words_of, word_found, link, link-block}
+use Rattle.papaya_spots.proofs.Given.SeizeRuleWords.Shows.{CountIs}
+use Rattle.papaya_spots.proofs.Given.SeizeRuleWords.View.{view}
+use Rattle.papaya_spots.proofs.Given.SeizeAloneHistories.Reached.{Reached}
+use Rattle.papaya_spots.specs.Given.TablesNodes.{deferred_word}
+use Rattle.papaya_spots.specs.Given.TablesDeclared.node.Node.{Node}
 use Rattle.papaya_hands.specs.Rows.{HoldsOne, SettlesAside}
 use Rattle.papaya_hands.proofs.Guarded.{block_in_batch, first_of_batch, counted_in, in_counted}
 use Rattle.papaya_hands.proofs.Settling.{GoesSo, onward_aside}

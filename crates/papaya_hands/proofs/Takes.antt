@@ -1,41 +1,41 @@
 -- A call that asks takes what it is told: it was told just that then.
 use Rattle.std.specs.Prelude.{◌≡◌, ◌≢◌, ℕ, ◌==◌, Bool, true, false, List, ◌∷◌, ◌++◌, Option, Some, None, Ok, if◌then◌else◌}
 use Rattle.std.proofs.Common.{refl, ap, subst, ◌∙◌, inl, inr}
-use Rattle.papaya_spots.specs.Given.Seize.World.{World}
-use Rattle.papaya_spots.specs.Given.Tables.declared.node.Node.{Node}
-use Rattle.papaya_spots.specs.Given.Tables.declared.marks.TheConstants.{TOMBSTONE}
-use Rattle.papaya_spots.specs.Given.Raw.CallAsks.{with_absent, with_present, absent_told, present_told, told_at, replied}
-use Rattle.papaya_spots.specs.Given.Raw.CallPoints.{going, over, answering, burying, at_gap}
-use Rattle.papaya_spots.specs.Given.Raw.declared.machines.answer.Called.{Called}
-use Rattle.papaya_spots.specs.Given.Raw.declared.machines.answer.End.TheVariants as ends
-use Rattle.papaya_spots.specs.Given.Raw.declared.machines.answer.KeyAnswer.TheVariants as answers
-use Rattle.papaya_spots.specs.Given.Raw.declared.machines.asking.Told.TheVariants as tells
-use Rattle.papaya_spots.specs.Given.SeizeWords.declared.fault.Fault.TheVariants.{RemoveNothing}
-use Rattle.papaya_spots.specs.Given.Raw.declared.machines.asking.Asking.{Asking as AskingAt}
-use Rattle.papaya_spots.specs.Given.Raw.declared.machines.asking.Asking.TheVariants as asking
-use Rattle.papaya_spots.specs.Given.Raw.declared.machines.asking.Gap.{Gap}
-use Rattle.papaya_spots.specs.Given.Raw.declared.machines.asking.Gap.TheVariants as gaps
-use Rattle.papaya_spots.specs.Given.Raw.declared.machines.asking.Reply.{Reply as MachineReply}
-use Rattle.papaya_spots.specs.Given.Raw.declared.machines.asking.Reply.TheVariants as reply
-use Rattle.papaya_spots.specs.Given.Raw.declared.machines.asking.Takes.{Takes}
-use Rattle.papaya_spots.specs.Given.Raw.declared.machines.asking.Takes.TheVariants as takes
-use Rattle.papaya_spots.specs.Given.Raw.declared.machines.call.KeyCall.{KeyCall}
-use Rattle.papaya_spots.specs.Given.Raw.declared.machines.call.Calling.{Calling}
-use Rattle.papaya_spots.specs.Given.Raw.declared.machines.call.Calling.TheVariants as at
-use Rattle.papaya_spots.specs.Given.Tables.declared.node.Node.TheVariants as node
-use Rattle.papaya_spots.specs.Given.Schedules.declared.call.OneKey.{OneKey}
-use Rattle.papaya_spots.specs.Given.Schedules.declared.call.OneKey.TheVariants.{Get, GetKeyValue, ContainsKey, Insert, TryInsert, TryInsertWith, GetOrInsert, GetOrInsertWith, Update, UpdateOrInsert, UpdateOrInsertWith, Compute, Remove, RemoveEntry, RemoveIf}
-use Rattle.papaya_spots.specs.Given.Rule.Words.{Blocks}
-use Rattle.papaya_spots.specs.Given.Points.Told.{IsRowOfCall}
-use Rattle.papaya_spots.specs.Given.Callers.Asked.{Asked, last_told, told_before}
-use Rattle.papaya_spots.specs.Given.Callers.Kind.{Kind, gets, removes, inserts, tries_to_insert, updates_or_inserts}
-use Rattle.papaya_spots.specs.Given.Callers.Pairs.{Given, Begun, IsTold, and_told, KeepsGiven}
-use Rattle.papaya_spots.specs.Given.Callers.Sights.{seen_by}
-use Rattle.papaya_spots.specs.Given.Callers.Together.{CallOnKey, OnKey, Knows, Stands}
-use Rattle.papaya_spots.specs.Given.Finishes.Maps.{Standing}
+use Rattle.papaya_spots.specs.Given.SeizeWorld.{World}
+use Rattle.papaya_spots.specs.Given.TablesDeclared.node.Node.{Node}
+use Rattle.papaya_spots.specs.Given.TablesDeclared.marks.TheConstants.{TOMBSTONE}
+use Rattle.papaya_spots.specs.Given.RawCallAsks.{with_absent, with_present, absent_told, present_told, told_at, replied}
+use Rattle.papaya_spots.specs.Given.RawCallPoints.{going, over, answering, burying, at_gap}
+use Rattle.papaya_spots.specs.Given.RawDeclared.machines.answer.Called.{Called}
+use Rattle.papaya_spots.specs.Given.RawDeclared.machines.answer.End.TheVariants as ends
+use Rattle.papaya_spots.specs.Given.RawDeclared.machines.answer.KeyAnswer.TheVariants as answers
+use Rattle.papaya_spots.specs.Given.RawDeclared.machines.asking.Told.TheVariants as tells
+use Rattle.papaya_spots.specs.Given.SeizeWordsDeclared.fault.Fault.TheVariants.{RemoveNothing}
+use Rattle.papaya_spots.specs.Given.RawDeclared.machines.asking.Asking.{Asking as AskingAt}
+use Rattle.papaya_spots.specs.Given.RawDeclared.machines.asking.Asking.TheVariants as asking
+use Rattle.papaya_spots.specs.Given.RawDeclared.machines.asking.Gap.{Gap}
+use Rattle.papaya_spots.specs.Given.RawDeclared.machines.asking.Gap.TheVariants as gaps
+use Rattle.papaya_spots.specs.Given.RawDeclared.machines.asking.Reply.{Reply as MachineReply}
+use Rattle.papaya_spots.specs.Given.RawDeclared.machines.asking.Reply.TheVariants as reply
+use Rattle.papaya_spots.specs.Given.RawDeclared.machines.asking.Takes.{Takes}
+use Rattle.papaya_spots.specs.Given.RawDeclared.machines.asking.Takes.TheVariants as takes
+use Rattle.papaya_spots.specs.Given.RawDeclared.machines.call.KeyCall.{KeyCall}
+use Rattle.papaya_spots.specs.Given.RawDeclared.machines.call.Calling.{Calling}
+use Rattle.papaya_spots.specs.Given.RawDeclared.machines.call.Calling.TheVariants as at
+use Rattle.papaya_spots.specs.Given.TablesDeclared.node.Node.TheVariants as node
+use Rattle.papaya_spots.specs.Given.SchedulesDeclared.call.OneKey.{OneKey}
+use Rattle.papaya_spots.specs.Given.SchedulesDeclared.call.OneKey.TheVariants.{Get, GetKeyValue, ContainsKey, Insert, TryInsert, TryInsertWith, GetOrInsert, GetOrInsertWith, Update, UpdateOrInsert, UpdateOrInsertWith, Compute, Remove, RemoveEntry, RemoveIf}
+use Rattle.papaya_spots.specs.Given.RuleWords.{Blocks}
+use Rattle.papaya_spots.specs.Given.PointsTold.{IsRowOfCall}
+use Rattle.papaya_spots.specs.Given.CallersAsked.{Asked, last_told, told_before}
+use Rattle.papaya_spots.specs.Given.CallersKind.{Kind, gets, removes, inserts, tries_to_insert, updates_or_inserts}
+use Rattle.papaya_spots.specs.Given.CallersPairs.{Given, Begun, IsTold, and_told, KeepsGiven}
+use Rattle.papaya_spots.specs.Given.CallersSights.{seen_by}
+use Rattle.papaya_spots.specs.Given.CallersTogether.{CallOnKey, OnKey, Knows, Stands}
+use Rattle.papaya_spots.specs.Given.FinishesMaps.{Standing}
 use Rattle.papaya_hands.specs.Asked.{given_by, KnowsFirst}
 use Rattle.papaya_hands.proofs.Replies.{told_first}
-use Rattle.papaya_spots.specs.Given.Scenes.Scene.{slot_of}
+use Rattle.papaya_spots.specs.Given.ScenesScene.{slot_of}
 
 module _ {K V Q : Type 0} where
   -- one that never asks takes none

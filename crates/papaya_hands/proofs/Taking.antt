@@ -1,39 +1,39 @@
 -- A step of a row that is not to take a block away takes none.
 use Rattle.std.specs.Prelude.{◌≡◌, ℕ, zero, suc, ◌==◌, Bool, true, false, [], ◌∷◌, Option, None, IsSome, if◌then◌else◌}
 use Rattle.std.proofs.Common.{refl, ap, sym, subst, ◌∙◌, arith, inl, inr}
-use Rattle.papaya_spots.specs.Given.SeizeWords.Mem.{Mem, value_at}
-use Rattle.papaya_spots.specs.Given.Seize.declared.progress.Progress.{Progress}
-use Rattle.papaya_spots.specs.Given.Seize.declared.progress.Progress.TheVariants as progress
-use Rattle.papaya_spots.specs.Given.Seize.declared.rows.leave.Leave.{Leave}
-use Rattle.papaya_spots.specs.Given.Seize.declared.rows.leave.Leaving.{Leaving}
-use Rattle.papaya_spots.specs.Given.Seize.declared.rows.leave.Leaving.TheVariants as leaving
-use Rattle.papaya_spots.specs.Given.Seize.declared.rows.register.Register.{Register}
-use Rattle.papaya_spots.specs.Given.Seize.declared.rows.register.Registering.{Registering}
-use Rattle.papaya_spots.specs.Given.Seize.declared.rows.register.Registering.TheVariants as registering
-use Rattle.papaya_spots.specs.Given.Seize.declared.rows.settle.Settle.{Settle}
-use Rattle.papaya_spots.specs.Given.Seize.declared.rows.settle.Settled.{Settled}
-use Rattle.papaya_spots.specs.Given.Seize.declared.rows.settle.Settled.TheVariants as settled
-use Rattle.papaya_spots.specs.Given.Seize.declared.rows.settle.Settling.{Settling}
-use Rattle.papaya_spots.specs.Given.Seize.declared.rows.settle.Settling.TheVariants as at
-use Rattle.papaya_spots.specs.Given.Seize.declared.rows.defer.Defer.{Defer}
-use Rattle.papaya_spots.specs.Given.Seize.declared.states.TheConstants.{ACTIVE}
-use Rattle.papaya_spots.specs.Given.Seize.Law.{Entered}
-use Rattle.papaya_spots.specs.Given.Seize.Sequence.{taken_in}
-use Rattle.papaya_spots.specs.Given.Seize.World.{World, Hand, Row, Rests, Registers, Enters, Settles, Leaves, Defers, Frees, Request, Register', Enter', Leave', LeaveOwned, Refresh, Unregister', Retire, Flush, Defer', Begin, Happens, Steps', times, handed_by, settle_effects, leave_effects, register_effects, settles_on, registers_on, defers_on}
-use Rattle.papaya_spots.proofs.Given.SeizeAlone.Histories.NotTaken.{did, nobodys}
-use Rattle.papaya_spots.proofs.Given.SeizeAlone.Histories.Reached.{Reached}
-use Rattle.papaya_spots.proofs.Given.SeizeAlone.Spared.Rows.{RowStepped}
-use Rattle.papaya_spots.proofs.Given.SeizeRule.Rows.Effects.{taken_hand}
-use Rattle.papaya_spots.specs.Given.Tables.Nodes.{deferred_word}
-use Rattle.papaya_spots.specs.Given.Tables.declared.node.Node.{Node}
-use Rattle.papaya_spots.specs.Given.Tables.declared.setting.Setting.{Setting}
-use Rattle.papaya_spots.proofs.Given.Rule.World.Hands.{at_cases}
-use Rattle.papaya_spots.specs.Given.Teller.declared.changed.Changed.{Changed}
-use Rattle.papaya_spots.specs.Given.Teller.declared.changed.Changed.TheVariants as changed
-use Rattle.papaya_spots.specs.Given.Callers.Together.{CameAbout, HandsOver, IsOneStep}
-use Rattle.papaya_spots.proofs.Given.Callers.Together.Came.{came_reached, came_next}
-use Rattle.papaya_spots.specs.Given.Follows.Steps.{TakesNone}
-use Rattle.papaya_spots.proofs.Given.Follows.Operations.{LeavesBy}
+use Rattle.papaya_spots.specs.Given.SeizeWordsMem.{Mem, value_at}
+use Rattle.papaya_spots.specs.Given.SeizeDeclared.progress.Progress.{Progress}
+use Rattle.papaya_spots.specs.Given.SeizeDeclared.progress.Progress.TheVariants as progress
+use Rattle.papaya_spots.specs.Given.SeizeDeclared.rows.leave.Leave.{Leave}
+use Rattle.papaya_spots.specs.Given.SeizeDeclared.rows.leave.Leaving.{Leaving}
+use Rattle.papaya_spots.specs.Given.SeizeDeclared.rows.leave.Leaving.TheVariants as leaving
+use Rattle.papaya_spots.specs.Given.SeizeDeclared.rows.register.Register.{Register}
+use Rattle.papaya_spots.specs.Given.SeizeDeclared.rows.register.Registering.{Registering}
+use Rattle.papaya_spots.specs.Given.SeizeDeclared.rows.register.Registering.TheVariants as registering
+use Rattle.papaya_spots.specs.Given.SeizeDeclared.rows.settle.Settle.{Settle}
+use Rattle.papaya_spots.specs.Given.SeizeDeclared.rows.settle.Settled.{Settled}
+use Rattle.papaya_spots.specs.Given.SeizeDeclared.rows.settle.Settled.TheVariants as settled
+use Rattle.papaya_spots.specs.Given.SeizeDeclared.rows.settle.Settling.{Settling}
+use Rattle.papaya_spots.specs.Given.SeizeDeclared.rows.settle.Settling.TheVariants as at
+use Rattle.papaya_spots.specs.Given.SeizeDeclared.rows.defer.Defer.{Defer}
+use Rattle.papaya_spots.specs.Given.SeizeDeclared.states.TheConstants.{ACTIVE}
+use Rattle.papaya_spots.specs.Given.SeizeLaw.{Entered}
+use Rattle.papaya_spots.specs.Given.SeizeSequence.{taken_in}
+use Rattle.papaya_spots.specs.Given.SeizeWorld.{World, Hand, Row, Rests, Registers, Enters, Settles, Leaves, Defers, Frees, Request, Register', Enter', Leave', LeaveOwned, Refresh, Unregister', Retire, Flush, Defer', Begin, Happens, Steps', times, handed_by, settle_effects, leave_effects, register_effects, settles_on, registers_on, defers_on}
+use Rattle.papaya_spots.proofs.Given.SeizeAloneHistories.NotTaken.{did, nobodys}
+use Rattle.papaya_spots.proofs.Given.SeizeAloneHistories.Reached.{Reached}
+use Rattle.papaya_spots.proofs.Given.SeizeAloneSpared.Rows.{RowStepped}
+use Rattle.papaya_spots.proofs.Given.SeizeRuleRows.Effects.{taken_hand}
+use Rattle.papaya_spots.specs.Given.TablesNodes.{deferred_word}
+use Rattle.papaya_spots.specs.Given.TablesDeclared.node.Node.{Node}
+use Rattle.papaya_spots.specs.Given.TablesDeclared.setting.Setting.{Setting}
+use Rattle.papaya_spots.proofs.Given.RuleWorld.Hands.{at_cases}
+use Rattle.papaya_spots.specs.Given.TellerDeclared.changed.Changed.{Changed}
+use Rattle.papaya_spots.specs.Given.TellerDeclared.changed.Changed.TheVariants as changed
+use Rattle.papaya_spots.specs.Given.CallersTogether.{CameAbout, HandsOver, IsOneStep}
+use Rattle.papaya_spots.proofs.Given.CallersTogether.Came.{came_reached, came_next}
+use Rattle.papaya_spots.specs.Given.FollowsSteps.{TakesNone}
+use Rattle.papaya_spots.proofs.Given.FollowsOperations.{LeavesBy}
 
 -- the block that it reclaims next is to be taken away
 abbrev pub IsAtTaking : Settling → Type 0

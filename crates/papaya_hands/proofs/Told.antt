@@ -1,37 +1,37 @@
 -- Where a call that asks takes what it is told, each call under way was asked and told as the moment says.
 use Rattle.std.specs.Prelude.{◌≡◌, ℕ, Bool, true, false, List, ◌∷◌, Option, Some, None, Ok, if◌then◌else◌, ◌⊎◌}
 use Rattle.std.proofs.Common.{refl, ap, sym, subst, ◌∙◌, inl, inr}
-use Rattle.papaya_spots.specs.Given.SeizeWords.Word.{block_in}
-use Rattle.papaya_spots.specs.Given.Runs.Same.{is_same}
-use Rattle.papaya_spots.specs.Given.Raw.CallAsks.{replied}
-use Rattle.papaya_spots.specs.Given.Raw.Machine.{machine_replied}
-use Rattle.papaya_spots.specs.Given.Raw.declared.machines.asking.Asking.{Asking as AskingAt}
-use Rattle.papaya_spots.specs.Given.Raw.declared.machines.asking.Asking.TheVariants as asking
-use Rattle.papaya_spots.specs.Given.Raw.declared.machines.call.Calling.TheVariants as at
-use Rattle.papaya_spots.specs.Given.Schedules.declared.call.Call.{Call}
-use Rattle.papaya_spots.specs.Given.Schedules.declared.call.Call.TheVariants as call
-use Rattle.papaya_spots.specs.Given.Schedules.declared.call.OneKey.{OneKey}
-use Rattle.papaya_spots.specs.Given.Schedules.declared.call.Reply.{Reply}
-use Rattle.papaya_spots.specs.Given.Schedules.After.{replied as replied_at}
-use Rattle.papaya_spots.specs.Given.Schedules.Moment.{Asking, Told, UnderWay as CallThere, Moment}
-use Rattle.papaya_spots.specs.Given.Schedules.Views.{call_of}
-use Rattle.papaya_spots.specs.Given.Rule.Chart.{Still}
-use Rattle.papaya_spots.specs.Given.Rule.Words.{byte_of}
-use Rattle.papaya_spots.proofs.Given.Rule.Laws.{words_name_pairs, bytes_are_few}
-use Rattle.papaya_spots.specs.Given.Callers.Asked.{last_told}
-use Rattle.papaya_spots.specs.Given.Callers.Pairs.{Given, and_told}
-use Rattle.papaya_spots.specs.Given.Callers.Sights.{seen_by, IsSight}
-use Rattle.papaya_spots.specs.Given.Callers.Together.{CallOnKey, UnderWay, OnKey, ForRoom, Counting, OverAll, told_about, AsksAbout, Together}
-use Rattle.papaya_spots.specs.Given.Effects.Known.{Known}
-use Rattle.papaya_spots.specs.Given.Effects.declared.role.Role.TheVariants as role
-use Rattle.papaya_spots.specs.Given.Finishes.Machines.{machine_of, ToldOfKind}
-use Rattle.papaya_spots.specs.Given.Finishes.Maps.{Standing, with_call as with_in}
-use Rattle.papaya_spots.specs.Given.Follows.Calling.{told}
-use Rattle.papaya_spots.specs.Given.Follows.Calls.{IsCalled}
-use Rattle.papaya_spots.specs.Given.Follows.Shows.{Shows}
-use Rattle.papaya_spots.proofs.Given.Follows.Calling.{is_same_refl, replied_same, told_with}
-use Rattle.papaya_spots.proofs.Given.Follows.Calls.{changed, found}
-use Rattle.papaya_spots.proofs.Given.Follows.Steps.{one_of}
+use Rattle.papaya_spots.specs.Given.SeizeWordsWord.{block_in}
+use Rattle.papaya_spots.specs.Given.RunsSame.{is_same}
+use Rattle.papaya_spots.specs.Given.RawCallAsks.{replied}
+use Rattle.papaya_spots.specs.Given.RawMachine.{machine_replied}
+use Rattle.papaya_spots.specs.Given.RawDeclared.machines.asking.Asking.{Asking as AskingAt}
+use Rattle.papaya_spots.specs.Given.RawDeclared.machines.asking.Asking.TheVariants as asking
+use Rattle.papaya_spots.specs.Given.RawDeclared.machines.call.Calling.TheVariants as at
+use Rattle.papaya_spots.specs.Given.SchedulesDeclared.call.Call.{Call}
+use Rattle.papaya_spots.specs.Given.SchedulesDeclared.call.Call.TheVariants as call
+use Rattle.papaya_spots.specs.Given.SchedulesDeclared.call.OneKey.{OneKey}
+use Rattle.papaya_spots.specs.Given.SchedulesDeclared.call.Reply.{Reply}
+use Rattle.papaya_spots.specs.Given.SchedulesAfter.{replied as replied_at}
+use Rattle.papaya_spots.specs.Given.SchedulesMoment.{Asking, Told, UnderWay as CallThere, Moment}
+use Rattle.papaya_spots.specs.Given.SchedulesViews.{call_of}
+use Rattle.papaya_spots.specs.Given.RuleChart.{Still}
+use Rattle.papaya_spots.specs.Given.RuleWords.{byte_of}
+use Rattle.papaya_spots.proofs.Given.RuleLaws.{words_name_pairs, bytes_are_few}
+use Rattle.papaya_spots.specs.Given.CallersAsked.{last_told}
+use Rattle.papaya_spots.specs.Given.CallersPairs.{Given, and_told}
+use Rattle.papaya_spots.specs.Given.CallersSights.{seen_by, IsSight}
+use Rattle.papaya_spots.specs.Given.CallersTogether.{CallOnKey, UnderWay, OnKey, ForRoom, Counting, OverAll, told_about, AsksAbout, Together}
+use Rattle.papaya_spots.specs.Given.EffectsKnown.{Known}
+use Rattle.papaya_spots.specs.Given.EffectsDeclared.role.Role.TheVariants as role
+use Rattle.papaya_spots.specs.Given.FinishesMachines.{machine_of, ToldOfKind}
+use Rattle.papaya_spots.specs.Given.FinishesMaps.{Standing, with_call as with_in}
+use Rattle.papaya_spots.specs.Given.FollowsCalling.{told}
+use Rattle.papaya_spots.specs.Given.FollowsCalls.{IsCalled}
+use Rattle.papaya_spots.specs.Given.FollowsShows.{Shows}
+use Rattle.papaya_spots.proofs.Given.FollowsCalling.{is_same_refl, replied_same, told_with}
+use Rattle.papaya_spots.proofs.Given.FollowsCalls.{changed, found}
+use Rattle.papaya_spots.proofs.Given.FollowsSteps.{one_of}
 use Rattle.papaya_hands.specs.Asked.{as_told, KnowsFirst, IsSameQuestion, IsQuestion, IsAskedOn, IsAskedAs, IsAsked, ShowsAsked}
 use Rattle.papaya_hands.specs.Calling.{CallsTake}
 use Rattle.papaya_hands.proofs.Asking.{which}
@@ -39,8 +39,8 @@ use Rattle.papaya_hands.proofs.RowsOn.{rows_with}
 use Rattle.papaya_hands.proofs.Calling.{caller_is, asked_as}
 use Rattle.papaya_hands.proofs.HandsOn.{hands_with}
 use Rattle.papaya_hands.proofs.Takes.{asked_leaves, and_given, not_begun, not_first}
-use Rattle.papaya_spots.specs.Given.Scenes.Held.{Held, IsAt}
-use Rattle.papaya_spots.specs.Given.Scenes.Scene.{Scene, slot_of}
+use Rattle.papaya_spots.specs.Given.ScenesHeld.{Held, IsAt}
+use Rattle.papaya_spots.specs.Given.ScenesScene.{Scene, slot_of}
 
 module _ {K V : Type 0} (same : K → K → Bool) (hash : ℕ → K → ℕ) (name : ℕ → List ℕ) (m : Moment K V) (known : Known) (s : Scene K V) (e : Held K V) (at_e : IsAt same hash e s)
     (shown : Shows same name m known s) (asked : ShowsAsked name shown.number m known s) (map i : ℕ) (standing : Standing K) (there : s.maps map ≡ Some standing)

@@ -1,30 +1,30 @@
 -- What calls on one key were told, and ask, at a moment of a run, by what they were told in the scene.
 use Rattle.std.specs.Prelude.{◌≡◌, ℕ, ◌<◌, true, false, List, [], ◌∷◌, ◌++◌, Option, Some, None}
-use Rattle.papaya_spots.specs.Given.SeizeWords.Word.{block_in}
-use Rattle.papaya_spots.specs.Given.Tables.declared.node.Node.TheVariants as node
-use Rattle.papaya_spots.specs.Given.Runs.Same.{is_same}
-use Rattle.papaya_spots.specs.Given.Raw.declared.machines.asking.Asking.{Asking as AskingAt}
-use Rattle.papaya_spots.specs.Given.Raw.declared.machines.asking.Asking.TheVariants as asking
-use Rattle.papaya_spots.specs.Given.Raw.declared.machines.asking.Reply.{Reply as MachineReply}
-use Rattle.papaya_spots.specs.Given.Raw.declared.machines.asking.Reply.TheVariants as reply
-use Rattle.papaya_spots.specs.Given.Raw.declared.machines.call.Calling.{Calling}
-use Rattle.papaya_spots.specs.Given.Raw.declared.machines.call.Calling.TheVariants as at
-use Rattle.papaya_spots.specs.Given.Schedules.declared.call.Call.{Call}
-use Rattle.papaya_spots.specs.Given.Schedules.declared.call.Call.TheVariants.{On}
-use Rattle.papaya_spots.specs.Given.Schedules.declared.call.OneKey.{OneKey}
-use Rattle.papaya_spots.specs.Given.Schedules.declared.call.OneKey.TheVariants.{Get, GetKeyValue, ContainsKey, Insert, TryInsert, TryInsertWith, GetOrInsert, GetOrInsertWith, Update, UpdateOrInsert, UpdateOrInsertWith, Compute, Remove, RemoveEntry, RemoveIf}
-use Rattle.papaya_spots.specs.Given.Schedules.declared.call.Reply.{Reply}
-use Rattle.papaya_spots.specs.Given.Schedules.declared.call.Reply.TheVariants.{Gives, Removes, Aborts, Decides}
-use Rattle.papaya_spots.specs.Given.Schedules.Moment.{Asking, UnderWay as CallThere, Moment}
-use Rattle.papaya_spots.specs.Given.Schedules.Views.{call_of}
-use Rattle.papaya_spots.specs.Given.Callers.Asked.{Asked, last_told, told_before}
-use Rattle.papaya_spots.specs.Given.Callers.Kind.{gets, removes, inserts, tries_to_insert, computes, updates, updates_or_inserts, tries_to_insert_with, removes_if}
-use Rattle.papaya_spots.specs.Given.Callers.Pairs.{Given, Begun, IsTold}
-use Rattle.papaya_spots.specs.Given.Callers.Together.{CallOnKey, UnderWay, OnKey}
-use Rattle.papaya_spots.specs.Given.Effects.Known.{Known}
-use Rattle.papaya_spots.specs.Given.Effects.declared.role.Role.TheVariants as role
-use Rattle.papaya_spots.specs.Given.Finishes.Maps.{Standing}
-use Rattle.papaya_spots.specs.Given.Scenes.Scene.{Scene}
+use Rattle.papaya_spots.specs.Given.SeizeWordsWord.{block_in}
+use Rattle.papaya_spots.specs.Given.TablesDeclared.node.Node.TheVariants as node
+use Rattle.papaya_spots.specs.Given.RunsSame.{is_same}
+use Rattle.papaya_spots.specs.Given.RawDeclared.machines.asking.Asking.{Asking as AskingAt}
+use Rattle.papaya_spots.specs.Given.RawDeclared.machines.asking.Asking.TheVariants as asking
+use Rattle.papaya_spots.specs.Given.RawDeclared.machines.asking.Reply.{Reply as MachineReply}
+use Rattle.papaya_spots.specs.Given.RawDeclared.machines.asking.Reply.TheVariants as reply
+use Rattle.papaya_spots.specs.Given.RawDeclared.machines.call.Calling.{Calling}
+use Rattle.papaya_spots.specs.Given.RawDeclared.machines.call.Calling.TheVariants as at
+use Rattle.papaya_spots.specs.Given.SchedulesDeclared.call.Call.{Call}
+use Rattle.papaya_spots.specs.Given.SchedulesDeclared.call.Call.TheVariants.{On}
+use Rattle.papaya_spots.specs.Given.SchedulesDeclared.call.OneKey.{OneKey}
+use Rattle.papaya_spots.specs.Given.SchedulesDeclared.call.OneKey.TheVariants.{Get, GetKeyValue, ContainsKey, Insert, TryInsert, TryInsertWith, GetOrInsert, GetOrInsertWith, Update, UpdateOrInsert, UpdateOrInsertWith, Compute, Remove, RemoveEntry, RemoveIf}
+use Rattle.papaya_spots.specs.Given.SchedulesDeclared.call.Reply.{Reply}
+use Rattle.papaya_spots.specs.Given.SchedulesDeclared.call.Reply.TheVariants.{Gives, Removes, Aborts, Decides}
+use Rattle.papaya_spots.specs.Given.SchedulesMoment.{Asking, UnderWay as CallThere, Moment}
+use Rattle.papaya_spots.specs.Given.SchedulesViews.{call_of}
+use Rattle.papaya_spots.specs.Given.CallersAsked.{Asked, last_told, told_before}
+use Rattle.papaya_spots.specs.Given.CallersKind.{gets, removes, inserts, tries_to_insert, computes, updates, updates_or_inserts, tries_to_insert_with, removes_if}
+use Rattle.papaya_spots.specs.Given.CallersPairs.{Given, Begun, IsTold}
+use Rattle.papaya_spots.specs.Given.CallersTogether.{CallOnKey, UnderWay, OnKey}
+use Rattle.papaya_spots.specs.Given.EffectsKnown.{Known}
+use Rattle.papaya_spots.specs.Given.EffectsDeclared.role.Role.TheVariants as role
+use Rattle.papaya_spots.specs.Given.FinishesMaps.{Standing}
+use Rattle.papaya_spots.specs.Given.ScenesScene.{Scene}
 
 -- a reply, as it is told to the call: what a closure aborts with is the caller's alone
 abbrev pub as_told : {V : Type 0} → Reply V → MachineReply V

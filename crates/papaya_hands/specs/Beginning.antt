@@ -1,9 +1,9 @@
 -- How a run begins: no call was told anything.
 use Rattle.std.specs.Prelude.{ℕ, Bool, List}
-use Rattle.papaya_spots.specs.Given.Schedules.Moment.{start}
-use Rattle.papaya_spots.specs.Given.Effects.Known.{nothing_known}
+use Rattle.papaya_spots.specs.Given.SchedulesMoment.{start}
+use Rattle.papaya_spots.specs.Given.EffectsKnown.{nothing_known}
 use Rattle.papaya_hands.specs.Shows.{ShowsAll}
-use Rattle.papaya_spots.specs.Given.Scenes.Scene.{at_first}
+use Rattle.papaya_spots.specs.Given.ScenesScene.{at_first}
 
 -- The promise: the moment before all events shows the first scene.
 abbrev pub RunsBeginSo : Type 0 → Type 0 → Type 0

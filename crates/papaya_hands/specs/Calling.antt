@@ -1,28 +1,28 @@
 -- Calls between their steps, with what they were told: where one begins, is told a reply, or has come to an outcome.
 use Rattle.std.specs.Prelude.{◌≡◌, ℕ, Bool, true, List, [], Option, Some, Ok}
-use Rattle.papaya_spots.specs.Given.Seize.World.{Rests}
-use Rattle.papaya_spots.specs.Given.Runs.Same.{is_same}
-use Rattle.papaya_spots.specs.Given.Raw.Machine.{machine_replied}
-use Rattle.papaya_spots.specs.Given.Schedules.declared.call.Call.{Call}
-use Rattle.papaya_spots.specs.Given.Schedules.declared.call.Call.TheVariants.{On}
-use Rattle.papaya_spots.specs.Given.Schedules.declared.call.Reply.{Reply}
-use Rattle.papaya_spots.specs.Given.Schedules.declared.outcome.Outcome.{Outcome}
-use Rattle.papaya_spots.specs.Given.Schedules.declared.outcome.Outcome.TheVariants.{Asks}
-use Rattle.papaya_spots.specs.Given.Schedules.Beginning.{with_call}
-use Rattle.papaya_spots.specs.Given.Schedules.Entry.{ends_call}
-use Rattle.papaya_spots.specs.Given.Schedules.Moment.{Asking, UnderWay as CallThere, Moment}
-use Rattle.papaya_spots.specs.Given.Schedules.Views.{call_of}
-use Rattle.papaya_spots.specs.Given.Callers.Together.{UnderWay, OnKey}
-use Rattle.papaya_spots.specs.Given.Finishes.Machines.{machine_of, ToldOfKind}
-use Rattle.papaya_spots.specs.Given.Finishes.Maps.{Standing}
-use Rattle.papaya_spots.specs.Given.Effects.Known.{Known}
-use Rattle.papaya_spots.specs.Given.Follows.Calls.{IsCalled}
-use Rattle.papaya_spots.specs.Given.Follows.Calling.{NoneNamed, told, come_to}
+use Rattle.papaya_spots.specs.Given.SeizeWorld.{Rests}
+use Rattle.papaya_spots.specs.Given.RunsSame.{is_same}
+use Rattle.papaya_spots.specs.Given.RawMachine.{machine_replied}
+use Rattle.papaya_spots.specs.Given.SchedulesDeclared.call.Call.{Call}
+use Rattle.papaya_spots.specs.Given.SchedulesDeclared.call.Call.TheVariants.{On}
+use Rattle.papaya_spots.specs.Given.SchedulesDeclared.call.Reply.{Reply}
+use Rattle.papaya_spots.specs.Given.SchedulesDeclared.outcome.Outcome.{Outcome}
+use Rattle.papaya_spots.specs.Given.SchedulesDeclared.outcome.Outcome.TheVariants.{Asks}
+use Rattle.papaya_spots.specs.Given.SchedulesBeginning.{with_call}
+use Rattle.papaya_spots.specs.Given.SchedulesEntry.{ends_call}
+use Rattle.papaya_spots.specs.Given.SchedulesMoment.{Asking, UnderWay as CallThere, Moment}
+use Rattle.papaya_spots.specs.Given.SchedulesViews.{call_of}
+use Rattle.papaya_spots.specs.Given.CallersTogether.{UnderWay, OnKey}
+use Rattle.papaya_spots.specs.Given.FinishesMachines.{machine_of, ToldOfKind}
+use Rattle.papaya_spots.specs.Given.FinishesMaps.{Standing}
+use Rattle.papaya_spots.specs.Given.EffectsKnown.{Known}
+use Rattle.papaya_spots.specs.Given.FollowsCalls.{IsCalled}
+use Rattle.papaya_spots.specs.Given.FollowsCalling.{NoneNamed, told, come_to}
 use Rattle.papaya_hands.specs.Asked.{as_told, given_by, AsksThere}
 use Rattle.papaya_hands.specs.Shows.{ShowsAll}
-use Rattle.papaya_spots.specs.Given.Scenes.Held.{Held, IsAt}
-use Rattle.papaya_spots.specs.Given.Scenes.Replying.{scene_with}
-use Rattle.papaya_spots.specs.Given.Scenes.Scene.{Scene, slot_of}
+use Rattle.papaya_spots.specs.Given.ScenesHeld.{Held, IsAt}
+use Rattle.papaya_spots.specs.Given.ScenesReplying.{scene_with}
+use Rattle.papaya_spots.specs.Given.ScenesScene.{Scene, slot_of}
 
 module _ {K V : Type 0} where
   -- a call on one key begins with what was called, and was told nothing

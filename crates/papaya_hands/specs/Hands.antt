@@ -1,13 +1,13 @@
 -- In whose hands the blocks are that a moment of a run has in maps: in nobody's.
 use Rattle.std.specs.Prelude.{◌≡◌, ℕ, ◌<◌, ◌≤◌, true, length, Some}
-use Rattle.papaya_spots.specs.Given.Seize.World.{Hand, InUse, LeftTo}
-use Rattle.papaya_spots.specs.Given.Schedules.declared.effect.Table.{Table}
-use Rattle.papaya_spots.specs.Given.Schedules.Moment.{InMap, MapThere, Moment}
-use Rattle.papaya_spots.specs.Given.Schedules.Views.{is_in_a_map, map_at}
-use Rattle.papaya_spots.specs.Given.Effects.Known.{Known}
-use Rattle.papaya_spots.specs.Given.Effects.declared.role.Role.TheVariants as role
-use Rattle.papaya_spots.specs.Given.Finishes.Maps.{Standing}
-use Rattle.papaya_spots.specs.Given.Scenes.Scene.{Scene}
+use Rattle.papaya_spots.specs.Given.SeizeWorld.{Hand, InUse, LeftTo}
+use Rattle.papaya_spots.specs.Given.SchedulesDeclared.effect.Table.{Table}
+use Rattle.papaya_spots.specs.Given.SchedulesMoment.{InMap, MapThere, Moment}
+use Rattle.papaya_spots.specs.Given.SchedulesViews.{is_in_a_map, map_at}
+use Rattle.papaya_spots.specs.Given.EffectsKnown.{Known}
+use Rattle.papaya_spots.specs.Given.EffectsDeclared.role.Role.TheVariants as role
+use Rattle.papaya_spots.specs.Given.FinishesMaps.{Standing}
+use Rattle.papaya_spots.specs.Given.ScenesScene.{Scene}
 
 -- the block is in use in its map, or left over by that: no caller, and no row, has it to unlink it, or to hand it over
 abbrev pub IsInUse : Hand → Type 0

@@ -1,22 +1,22 @@
 -- Whoever takes a step that is none of a call, the rows within calls reclaim nothing still.
 use Rattle.std.specs.Prelude.{◌≡◌, ℕ, Bool, Option, Some}
-use Rattle.papaya_spots.specs.Given.Seize.declared.progress.Progress.{Progress as Making}
-use Rattle.papaya_spots.specs.Given.Seize.declared.rows.settle.Settled.{Settled}
-use Rattle.papaya_spots.specs.Given.Tables.declared.node.Node.{Node}
-use Rattle.papaya_spots.specs.Given.Tables.declared.setting.Setting.{Setting}
-use Rattle.papaya_spots.specs.Given.Callers.Together.{UnderWay}
-use Rattle.papaya_spots.specs.Given.Finishes.Endings.{Finishing}
-use Rattle.papaya_spots.specs.Given.Finishes.Makings.{Beginning}
-use Rattle.papaya_spots.specs.Given.Finishes.Maps.{Standing, with_call}
-use Rattle.papaya_spots.specs.Given.Scenes.declared.row.RowTold.{RowTold}
-use Rattle.papaya_spots.specs.Given.Scenes.declared.row.SlotCall.{SlotCall}
-use Rattle.papaya_spots.specs.Given.Scenes.declared.row.SlotRow.{SlotRow}
+use Rattle.papaya_spots.specs.Given.SeizeDeclared.progress.Progress.{Progress as Making}
+use Rattle.papaya_spots.specs.Given.SeizeDeclared.rows.settle.Settled.{Settled}
+use Rattle.papaya_spots.specs.Given.TablesDeclared.node.Node.{Node}
+use Rattle.papaya_spots.specs.Given.TablesDeclared.setting.Setting.{Setting}
+use Rattle.papaya_spots.specs.Given.CallersTogether.{UnderWay}
+use Rattle.papaya_spots.specs.Given.FinishesEndings.{Finishing}
+use Rattle.papaya_spots.specs.Given.FinishesMakings.{Beginning}
+use Rattle.papaya_spots.specs.Given.FinishesMaps.{Standing, with_call}
+use Rattle.papaya_spots.specs.Given.ScenesDeclared.row.RowTold.{RowTold}
+use Rattle.papaya_spots.specs.Given.ScenesDeclared.row.SlotCall.{SlotCall}
+use Rattle.papaya_spots.specs.Given.ScenesDeclared.row.SlotRow.{SlotRow}
 use Rattle.papaya_hands.specs.Rows.{ShowsRows}
-use Rattle.papaya_spots.specs.Given.Scenes.Ending.{EndingLeads, ending_begun}
-use Rattle.papaya_spots.specs.Given.Scenes.Held.{Held, IsAt}
-use Rattle.papaya_spots.specs.Given.Scenes.Making.{MakingLeads}
-use Rattle.papaya_spots.specs.Given.Scenes.OnSlots.{RowBegins, RowLeads}
-use Rattle.papaya_spots.specs.Given.Scenes.Scene.{IsOnSlot, Scene}
+use Rattle.papaya_spots.specs.Given.ScenesEnding.{EndingLeads, ending_begun}
+use Rattle.papaya_spots.specs.Given.ScenesHeld.{Held, IsAt}
+use Rattle.papaya_spots.specs.Given.ScenesMaking.{MakingLeads}
+use Rattle.papaya_spots.specs.Given.ScenesOnSlots.{RowBegins, RowLeads}
+use Rattle.papaya_spots.specs.Given.ScenesScene.{IsOnSlot, Scene}
 
 module _ (K V : Type 0) (same : K → K → Bool) (hash : ℕ → K → ℕ) where
   -- The promises: so it is where a row begins on a slot,

@@ -1,15 +1,15 @@
 -- What the rows of the collector do that are within calls: they reclaim nothing, since a section that is open holds a block of each batch that they close.
 use Rattle.std.specs.Prelude.{◌≡◌, ◌≢◌, ℕ, true, false, Some}
-use Rattle.papaya_spots.specs.Given.SeizeWords.Mem.{word_at}
-use Rattle.papaya_spots.specs.Given.SeizeWords.declared.at.At.TheVariants.{Entry}
-use Rattle.papaya_spots.specs.Given.Seize.declared.rows.settle.Settle.{Settle}
-use Rattle.papaya_spots.specs.Given.Seize.declared.rows.settle.Settling.{Settling}
-use Rattle.papaya_spots.specs.Given.Seize.declared.rows.settle.Settling.TheVariants as settling
-use Rattle.papaya_spots.specs.Given.Seize.declared.states.TheConstants.{FIRST}
-use Rattle.papaya_spots.specs.Given.Seize.Law.{holds, is_retired}
-use Rattle.papaya_spots.specs.Given.Seize.World.{World, Row, Settles, Leaves}
-use Rattle.papaya_spots.specs.Given.Callers.Together.{UnderWay}
-use Rattle.papaya_spots.specs.Given.Scenes.Scene.{Scene, slot_of}
+use Rattle.papaya_spots.specs.Given.SeizeWordsMem.{word_at}
+use Rattle.papaya_spots.specs.Given.SeizeWordsDeclared.at.At.TheVariants.{Entry}
+use Rattle.papaya_spots.specs.Given.SeizeDeclared.rows.settle.Settle.{Settle}
+use Rattle.papaya_spots.specs.Given.SeizeDeclared.rows.settle.Settling.{Settling}
+use Rattle.papaya_spots.specs.Given.SeizeDeclared.rows.settle.Settling.TheVariants as settling
+use Rattle.papaya_spots.specs.Given.SeizeDeclared.states.TheConstants.{FIRST}
+use Rattle.papaya_spots.specs.Given.SeizeLaw.{holds, is_retired}
+use Rattle.papaya_spots.specs.Given.SeizeWorld.{World, Row, Settles, Leaves}
+use Rattle.papaya_spots.specs.Given.CallersTogether.{UnderWay}
+use Rattle.papaya_spots.specs.Given.ScenesScene.{Scene, slot_of}
 
 -- it stands where nothing is reclaimed, no list is counted down, and no flush is under way
 abbrev pub IsAside : Settling → Type 0

@@ -1,12 +1,12 @@
 -- How a moment of a run, with what is noted of the memory, shows a scene, what its calls were told, in whose hands blocks are, and what rows do.
 use Rattle.std.specs.Prelude.{ℕ, Bool, List}
-use Rattle.papaya_spots.specs.Given.Schedules.Moment.{Moment}
-use Rattle.papaya_spots.specs.Given.Effects.Known.{Known}
-use Rattle.papaya_spots.specs.Given.Follows.Shows.{Shows}
+use Rattle.papaya_spots.specs.Given.SchedulesMoment.{Moment}
+use Rattle.papaya_spots.specs.Given.EffectsKnown.{Known}
+use Rattle.papaya_spots.specs.Given.FollowsShows.{Shows}
 use Rattle.papaya_hands.specs.Asked.{ShowsAsked}
 use Rattle.papaya_hands.specs.Hands.{ShowsHands}
 use Rattle.papaya_hands.specs.Rows.{ShowsRows}
-use Rattle.papaya_spots.specs.Given.Scenes.Scene.{Scene}
+use Rattle.papaya_spots.specs.Given.ScenesScene.{Scene}
 
 -- It shows what the scene has, and of each call under way what it was told, and asks; what is in maps nobody has in hand, and rows within calls reclaim
 -- nothing.

@@ -1,19 +1,19 @@
 -- Where a step of a call leads: the moment after its effects shows the scene after it, and what its calls were told, with no condition on what it stores.
 use Rattle.std.specs.Prelude.{◌≡◌, ℕ, Bool, List, Some}
-use Rattle.papaya_spots.specs.Given.Tables.declared.node.Node.{Node}
-use Rattle.papaya_spots.specs.Given.Raw.declared.machines.progress.Progress.{Progress}
-use Rattle.papaya_spots.specs.Given.Schedules.Effects.{with_effects, AtEachEffect}
-use Rattle.papaya_spots.specs.Given.Schedules.Moment.{Moment}
-use Rattle.papaya_spots.specs.Given.Effects.Effects.{effects_of, known_after}
-use Rattle.papaya_spots.specs.Given.Effects.Known.{Known}
-use Rattle.papaya_spots.specs.Given.Effects.declared.acting.Acting.TheVariants.{Call}
-use Rattle.papaya_spots.specs.Given.Callers.Together.{UnderWay}
-use Rattle.papaya_spots.specs.Given.Follows.Finds.{FindsMap}
-use Rattle.papaya_spots.specs.Given.Follows.Steps.{StoreTheirs, HandTheirs, TakesNone, IsOfNoRow}
+use Rattle.papaya_spots.specs.Given.TablesDeclared.node.Node.{Node}
+use Rattle.papaya_spots.specs.Given.RawDeclared.machines.progress.Progress.{Progress}
+use Rattle.papaya_spots.specs.Given.SchedulesEffects.{with_effects, AtEachEffect}
+use Rattle.papaya_spots.specs.Given.SchedulesMoment.{Moment}
+use Rattle.papaya_spots.specs.Given.EffectsEffects.{effects_of, known_after}
+use Rattle.papaya_spots.specs.Given.EffectsKnown.{Known}
+use Rattle.papaya_spots.specs.Given.EffectsDeclared.acting.Acting.TheVariants.{Call}
+use Rattle.papaya_spots.specs.Given.CallersTogether.{UnderWay}
+use Rattle.papaya_spots.specs.Given.FollowsFinds.{FindsMap}
+use Rattle.papaya_spots.specs.Given.FollowsSteps.{StoreTheirs, HandTheirs, TakesNone, IsOfNoRow}
 use Rattle.papaya_hands.specs.Shows.{ShowsAll}
-use Rattle.papaya_spots.specs.Given.Scenes.Held.{Held, IsAt}
-use Rattle.papaya_spots.specs.Given.Scenes.Scene.{Scene}
-use Rattle.papaya_spots.specs.Given.Scenes.Stepping.{StepLeads, scene_after}
+use Rattle.papaya_spots.specs.Given.ScenesHeld.{Held, IsAt}
+use Rattle.papaya_spots.specs.Given.ScenesScene.{Scene}
+use Rattle.papaya_spots.specs.Given.ScenesStepping.{StepLeads, scene_after}
 
 module _ (K V : Type 0) (same : K → K → Bool) (hash : ℕ → K → ℕ) where
   -- The promise, of a step of a call that is none of a row: it stores no pair but such as the call has to store, its effects find the map as they must, and lead

@@ -1,35 +1,35 @@
 -- The machine says what a call asks, where it stands to ask that, and as long as it does.
 use Rattle.std.specs.Prelude.{◌≡◌, ℕ, Bool, Option, Some, None}
 use Rattle.std.proofs.Common.{refl, ap, sym, subst, ◌∙◌}
-use Rattle.papaya_moments.specs.Given.SeizeWords.Mem.{Mem, value_at}
-use Rattle.papaya_moments.specs.Given.SeizeWords.Plan.{Plan, Then, Turn, Do, Now, Seeing, Sure, then_as, plan_as}
-use Rattle.papaya_moments.specs.Given.Tables.declared.node.Node.{Node}
-use Rattle.papaya_moments.specs.Given.Raw.Call.{plan_at}
-use Rattle.papaya_moments.specs.Given.Raw.Machine.{called}
-use Rattle.papaya_moments.specs.Given.Raw.declared.machines.answer.Called.{Called}
-use Rattle.papaya_moments.specs.Given.Raw.declared.machines.answer.Called.TheVariants as answer
-use Rattle.papaya_moments.specs.Given.Raw.declared.machines.asking.Asking.{Asking as AskingAt}
-use Rattle.papaya_moments.specs.Given.Raw.declared.machines.asking.Asking.TheVariants as asking
-use Rattle.papaya_moments.specs.Given.Raw.declared.machines.call.Calling.{Calling}
-use Rattle.papaya_moments.specs.Given.Raw.declared.machines.call.Calling.TheVariants as at
-use Rattle.papaya_moments.specs.Given.Raw.declared.machines.call.KeyCall.{KeyCall}
-use Rattle.papaya_moments.specs.Given.Raw.declared.machines.machine.Machine.{Machine}
-use Rattle.papaya_moments.specs.Given.Raw.declared.machines.machine.Machine.TheVariants as kinds
-use Rattle.papaya_moments.specs.Given.Raw.declared.machines.progress.Progress.{Progress}
-use Rattle.papaya_moments.specs.Given.Raw.declared.machines.progress.Progress.TheVariants as progress
-use Rattle.papaya_moments.specs.Given.Schedules.declared.call.Call.{Call}
-use Rattle.papaya_moments.proofs.Given.Rule.Keys.Always.{Always, AlwaysOf, always_ends}
-use Rattle.papaya_moments.specs.Given.Teller.Tells.{StepsTold}
-use Rattle.papaya_moments.specs.Given.Teller.declared.changed.Changed.{Changed}
-use Rattle.papaya_moments.specs.Given.Teller.declared.changed.Changed.TheVariants.{Nothing}
-use Rattle.papaya_moments.specs.Given.Callers.Together.{CallOnKey, UnderWay, OnKey, ForRoom, Counting, OverAll}
-use Rattle.papaya_moments.specs.Given.Effects.Known.{Known}
-use Rattle.papaya_moments.specs.Given.Finishes.Machines.{machine_of}
-use Rattle.papaya_moments.specs.Given.Hands.Asked.{IsQuestion, IsAskedAs, AsksThere}
+use Rattle.papaya_moments.specs.Given.SeizeWordsMem.{Mem, value_at}
+use Rattle.papaya_moments.specs.Given.SeizeWordsPlan.{Plan, Then, Turn, Do, Now, Seeing, Sure, then_as, plan_as}
+use Rattle.papaya_moments.specs.Given.TablesDeclared.node.Node.{Node}
+use Rattle.papaya_moments.specs.Given.RawCall.{plan_at}
+use Rattle.papaya_moments.specs.Given.RawMachine.{called}
+use Rattle.papaya_moments.specs.Given.RawDeclared.machines.answer.Called.{Called}
+use Rattle.papaya_moments.specs.Given.RawDeclared.machines.answer.Called.TheVariants as answer
+use Rattle.papaya_moments.specs.Given.RawDeclared.machines.asking.Asking.{Asking as AskingAt}
+use Rattle.papaya_moments.specs.Given.RawDeclared.machines.asking.Asking.TheVariants as asking
+use Rattle.papaya_moments.specs.Given.RawDeclared.machines.call.Calling.{Calling}
+use Rattle.papaya_moments.specs.Given.RawDeclared.machines.call.Calling.TheVariants as at
+use Rattle.papaya_moments.specs.Given.RawDeclared.machines.call.KeyCall.{KeyCall}
+use Rattle.papaya_moments.specs.Given.RawDeclared.machines.machine.Machine.{Machine}
+use Rattle.papaya_moments.specs.Given.RawDeclared.machines.machine.Machine.TheVariants as kinds
+use Rattle.papaya_moments.specs.Given.RawDeclared.machines.progress.Progress.{Progress}
+use Rattle.papaya_moments.specs.Given.RawDeclared.machines.progress.Progress.TheVariants as progress
+use Rattle.papaya_moments.specs.Given.SchedulesDeclared.call.Call.{Call}
+use Rattle.papaya_moments.proofs.Given.RuleKeys.Always.{Always, AlwaysOf, always_ends}
+use Rattle.papaya_moments.specs.Given.TellerTells.{StepsTold}
+use Rattle.papaya_moments.specs.Given.TellerDeclared.changed.Changed.{Changed}
+use Rattle.papaya_moments.specs.Given.TellerDeclared.changed.Changed.TheVariants.{Nothing}
+use Rattle.papaya_moments.specs.Given.CallersTogether.{CallOnKey, UnderWay, OnKey, ForRoom, Counting, OverAll}
+use Rattle.papaya_moments.specs.Given.EffectsKnown.{Known}
+use Rattle.papaya_moments.specs.Given.FinishesMachines.{machine_of}
+use Rattle.papaya_moments.specs.Given.HandsAsked.{IsQuestion, IsAskedAs, AsksThere}
 use Rattle.papaya_histories.specs.Asking.{IsToldQuestion, AskingStepsStandThere, AskingCallsAskStill}
 use Rattle.papaya_histories.proofs.Says.{AsksAt, SaysSo, says_so}
-use Rattle.papaya_moments.specs.Given.Scenes.Held.{Held}
-use Rattle.papaya_moments.specs.Given.Scenes.Stepping.{StepsFrom}
+use Rattle.papaya_moments.specs.Given.ScenesHeld.{Held}
+use Rattle.papaya_moments.specs.Given.ScenesStepping.{StepsFrom}
 
 -- what is so of each outcome of a plan, turned into another
 module _ {T A B : Type 0} (P : A → Type 0) (Q : B → Type 0) (f : A → B) (turn : (a : A) → P a → Q (f a)) where

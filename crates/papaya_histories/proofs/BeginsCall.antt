@@ -1,25 +1,25 @@
 -- In the midst of an event that begins its call: nothing was done yet.
 use Rattle.std.specs.Prelude.{◌≡◌, ℕ, Bool, List, [], ◌∷◌, cond, find, Option, Some}
 use Rattle.std.proofs.Common.{refl, ap, sym, ◌∙◌, arith}
-use Rattle.papaya_moments.specs.Given.Seize.World.{with_at}
-use Rattle.papaya_moments.specs.Given.Runs.Same.{is_same}
-use Rattle.papaya_moments.specs.Given.Schedules.declared.call.Call.TheVariants.{On}
-use Rattle.papaya_moments.specs.Given.Schedules.Beginning.{fresh_call, with_call}
-use Rattle.papaya_moments.specs.Given.Schedules.Moment.{UnderWay as CallThere, Moment}
-use Rattle.papaya_moments.specs.Given.Schedules.Views.{call_of}
-use Rattle.papaya_moments.specs.Given.Points.FactsCalls.{Unchanged}
-use Rattle.papaya_moments.specs.Given.Callers.Together.{CallOnKey, UnderWay, OnKey}
-use Rattle.papaya_moments.proofs.Given.Callers.Together.At.{at_same}
-use Rattle.papaya_moments.proofs.Given.Follows.Calling.{is_same_refl}
-use Rattle.papaya_moments.proofs.Given.Follows.Steps.{one_of}
+use Rattle.papaya_moments.specs.Given.SeizeWorld.{with_at}
+use Rattle.papaya_moments.specs.Given.RunsSame.{is_same}
+use Rattle.papaya_moments.specs.Given.SchedulesDeclared.call.Call.TheVariants.{On}
+use Rattle.papaya_moments.specs.Given.SchedulesBeginning.{fresh_call, with_call}
+use Rattle.papaya_moments.specs.Given.SchedulesMoment.{UnderWay as CallThere, Moment}
+use Rattle.papaya_moments.specs.Given.SchedulesViews.{call_of}
+use Rattle.papaya_moments.specs.Given.PointsFactsCalls.{Unchanged}
+use Rattle.papaya_moments.specs.Given.CallersTogether.{CallOnKey, UnderWay, OnKey}
+use Rattle.papaya_moments.proofs.Given.CallersTogether.At.{at_same}
+use Rattle.papaya_moments.proofs.Given.FollowsCalling.{is_same_refl}
+use Rattle.papaya_moments.proofs.Given.FollowsSteps.{one_of}
 use Rattle.papaya_moments.proofs.Calls.{calls_begin_whole}
 use Rattle.papaya_moments.specs.Whole.{ShowsWhole}
 use Rattle.papaya_histories.specs.Due.{ShowsDue}
 use Rattle.papaya_histories.specs.Several.{MidstsBeginCalls}
 use Rattle.papaya_histories.proofs.DueOn.{calls_begin_due}
 use Rattle.papaya_histories.proofs.Several.{midsts_begin}
-use Rattle.papaya_moments.specs.Given.Scenes.Replying.{scene_with}
-use Rattle.papaya_moments.specs.Given.Scenes.Scene.{Scene}
+use Rattle.papaya_moments.specs.Given.ScenesReplying.{scene_with}
+use Rattle.papaya_moments.specs.Given.ScenesScene.{Scene}
 
 module _ (K V : Type 0) (same : K → K → Bool) (hash : ℕ → K → ℕ) where
   pub midsts_begin_calls : MidstsBeginCalls K V same hash

@@ -1,29 +1,29 @@
 -- Before all events, between the steps of calls, and where an event is over, histories stay within the moments of the run.
 use Rattle.std.specs.Prelude.{◌≡◌, ℕ, ◌+◌, ◌≤◌, Bool, true, false, cond, not, List, ◌∷◌, find, map, Option, Some, if◌then◌else◌, ◌⊎◌}
 use Rattle.std.proofs.Common.{refl, ap, sym, subst, ◌∙◌, arith, inl, inr}
-use Rattle.papaya_moments.specs.Given.Runs.Same.{is_same}
-use Rattle.papaya_moments.specs.Given.Raw.declared.machines.asking.Reply.{Reply as MachineReply}
-use Rattle.papaya_moments.specs.Given.Schedules.declared.outcome.Outcome.{Outcome}
-use Rattle.papaya_moments.specs.Given.Schedules.After.{replied, without_call}
-use Rattle.papaya_moments.specs.Given.Schedules.Beginning.{fresh_call, with_call}
-use Rattle.papaya_moments.specs.Given.Schedules.Entry.{ends_call}
-use Rattle.papaya_moments.specs.Given.Schedules.Lists.{OneOf}
-use Rattle.papaya_moments.specs.Given.Schedules.Moment.{UnderWay as CallThere, Moment}
-use Rattle.papaya_moments.specs.Given.Schedules.Views.{call_of, finite_map}
-use Rattle.papaya_moments.specs.Given.Callers.Together.{UnderWay, OnKey, ForRoom, Counting, OverAll}
-use Rattle.papaya_moments.specs.Given.Effects.Known.{Known}
-use Rattle.papaya_moments.specs.Given.Finishes.Machines.{ToldOfKind}
-use Rattle.papaya_moments.specs.Given.Finishes.Maps.{Standing, with_call as with_in}
-use Rattle.papaya_moments.specs.Given.Follows.Calling.{NoneNamed, told, come_to}
-use Rattle.papaya_moments.specs.Given.Follows.Shows.{Shows}
-use Rattle.papaya_moments.proofs.Given.Follows.Calling.{is_same_refl, apart_back, replied_same, come, come_of_same, found_kept, begins_with, told_with, come_with}
-use Rattle.papaya_moments.proofs.Given.Follows.Calls.{found}
-use Rattle.papaya_moments.proofs.Given.Follows.Steps.{one_of}
-use Rattle.papaya_moments.specs.Given.Hands.Asked.{as_told, ShowsAsked}
-use Rattle.papaya_moments.proofs.Given.Hands.Asking.{which}
-use Rattle.papaya_moments.proofs.Given.Hands.Beginning.{runs_begin_so}
-use Rattle.papaya_moments.proofs.Given.Hands.Calling.{caller_is, begins_asked, come_asked}
-use Rattle.papaya_moments.proofs.Given.Hands.Told.{own_told, told_asked}
+use Rattle.papaya_moments.specs.Given.RunsSame.{is_same}
+use Rattle.papaya_moments.specs.Given.RawDeclared.machines.asking.Reply.{Reply as MachineReply}
+use Rattle.papaya_moments.specs.Given.SchedulesDeclared.outcome.Outcome.{Outcome}
+use Rattle.papaya_moments.specs.Given.SchedulesAfter.{replied, without_call}
+use Rattle.papaya_moments.specs.Given.SchedulesBeginning.{fresh_call, with_call}
+use Rattle.papaya_moments.specs.Given.SchedulesEntry.{ends_call}
+use Rattle.papaya_moments.specs.Given.SchedulesLists.{OneOf}
+use Rattle.papaya_moments.specs.Given.SchedulesMoment.{UnderWay as CallThere, Moment}
+use Rattle.papaya_moments.specs.Given.SchedulesViews.{call_of, finite_map}
+use Rattle.papaya_moments.specs.Given.CallersTogether.{UnderWay, OnKey, ForRoom, Counting, OverAll}
+use Rattle.papaya_moments.specs.Given.EffectsKnown.{Known}
+use Rattle.papaya_moments.specs.Given.FinishesMachines.{ToldOfKind}
+use Rattle.papaya_moments.specs.Given.FinishesMaps.{Standing, with_call as with_in}
+use Rattle.papaya_moments.specs.Given.FollowsCalling.{NoneNamed, told, come_to}
+use Rattle.papaya_moments.specs.Given.FollowsShows.{Shows}
+use Rattle.papaya_moments.proofs.Given.FollowsCalling.{is_same_refl, apart_back, replied_same, come, come_of_same, found_kept, begins_with, told_with, come_with}
+use Rattle.papaya_moments.proofs.Given.FollowsCalls.{found}
+use Rattle.papaya_moments.proofs.Given.FollowsSteps.{one_of}
+use Rattle.papaya_moments.specs.Given.HandsAsked.{as_told, ShowsAsked}
+use Rattle.papaya_moments.proofs.Given.HandsAsking.{which}
+use Rattle.papaya_moments.proofs.Given.HandsBeginning.{runs_begin_so}
+use Rattle.papaya_moments.proofs.Given.HandsCalling.{caller_is, begins_asked, come_asked}
+use Rattle.papaya_moments.proofs.Given.HandsTold.{own_told, told_asked}
 use Rattle.papaya_histories.specs.Had.{HadThen}
 use Rattle.papaya_histories.specs.Histories.{began_of, since, IsWithin, ShowsHistory, StaysWithin}
 use Rattle.papaya_histories.specs.Kept.{HistoriesBegin, CallsBeginHistories, CallsTakeHistories, CallsComeToHistories, EventsKeepHistories, FirstStepsChangeFirst}
@@ -32,9 +32,9 @@ use Rattle.papaya_histories.proofs.Found.{map_alike}
 use Rattle.papaya_histories.proofs.Logs.{first_is_past, further_is_past, grows}
 use Rattle.papaya_histories.proofs.Now.{now_had}
 use Rattle.papaya_histories.proofs.Within.{within_alike}
-use Rattle.papaya_moments.specs.Given.Scenes.Replying.{scene_with}
-use Rattle.papaya_moments.specs.Given.Scenes.Scene.{Scene, slot_of}
-use Rattle.papaya_moments.specs.Given.Schedules.Transition.{Past, further}
+use Rattle.papaya_moments.specs.Given.ScenesReplying.{scene_with}
+use Rattle.papaya_moments.specs.Given.ScenesScene.{Scene, slot_of}
+use Rattle.papaya_moments.specs.Given.SchedulesTransition.{Past, further}
 
 pub histories_begin : (K V : Type 0) → HistoriesBegin K V
 histories_begin K V same roots name =

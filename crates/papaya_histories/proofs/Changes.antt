@@ -1,56 +1,56 @@
 -- By a step of a call on one key its class changes once at most, by what the call means just then.
 use Rattle.std.specs.Prelude.{◌≡◌, ℕ, ◌+◌, ◌<◌, Bool, true, false, List, [], ◌∷◌, length, flat_map, map as list_map, Option, Some, None, ◌⊎◌, if◌then◌else◌}
 use Rattle.std.proofs.Common.{refl, ap, sym, subst, ◌∙◌, inl, inr}
-use Rattle.papaya_moments.specs.Given.SeizeWords.Mem.{Mem}
-use Rattle.papaya_moments.specs.Given.Seize.World.{World}
-use Rattle.papaya_moments.specs.Given.Tables.Chunks.{is_incremental}
-use Rattle.papaya_moments.specs.Given.Tables.declared.node.Node.{Node}
-use Rattle.papaya_moments.specs.Given.Raw.declared.machines.answer.Called.{Called}
-use Rattle.papaya_moments.specs.Given.Raw.declared.machines.call.KeyCall.{KeyCall}
-use Rattle.papaya_moments.specs.Given.Raw.declared.machines.progress.Progress.{Progress}
-use Rattle.papaya_moments.specs.Given.Runs.Same.{is_same}
-use Rattle.papaya_moments.specs.Given.Schedules.declared.call.Answer.{Answer}
-use Rattle.papaya_moments.specs.Given.Schedules.declared.call.Call.{Call}
-use Rattle.papaya_moments.specs.Given.Schedules.declared.call.Call.TheVariants.{On}
-use Rattle.papaya_moments.specs.Given.Schedules.declared.call.OneKey.{OneKey}
-use Rattle.papaya_moments.specs.Given.Schedules.declared.call.Reply.{Reply}
-use Rattle.papaya_moments.specs.Given.Schedules.declared.effect.Effect.{Effect}
-use Rattle.papaya_moments.specs.Given.Schedules.declared.effect.Effect.TheVariants as effect
-use Rattle.papaya_moments.specs.Given.Schedules.declared.effect.Spot.{Spot}
-use Rattle.papaya_moments.specs.Given.Schedules.Effects.{new_pair, call_by, with_effect, AtEachEffect}
-use Rattle.papaya_moments.specs.Given.Schedules.Entry.{acting}
-use Rattle.papaya_moments.specs.Given.Schedules.Linearizable.{shift_of, there_for, ChangesOnce}
-use Rattle.papaya_moments.specs.Given.Schedules.Moment.{UnderWay as CallThere, Moment}
-use Rattle.papaya_moments.specs.Given.Schedules.Sequential.{Answers, Deed, Puts, Takes, ComesIn, GivesWay, means, key_of, value_put, shifts}
-use Rattle.papaya_moments.specs.Given.Schedules.Views.{call_of, finite_map, reply_to}
-use Rattle.papaya_moments.specs.Given.Rule.Chart.{Chart}
-use Rattle.papaya_moments.specs.Given.Rule.Maps.{IsAbsent, IsPair}
-use Rattle.papaya_moments.specs.Given.Rule.Words.{Blocks}
-use Rattle.papaya_moments.proofs.Given.Rule.Laws.{current_is_known}
-use Rattle.papaya_moments.specs.Given.Points.FactsCalls.{Change, Unchanged, Stored, Replaced, Removed, Changes}
-use Rattle.papaya_moments.specs.Given.Callers.Pairs.{Given, Begun, IsTold, kind_of, StoresGiven}
-use Rattle.papaya_moments.specs.Given.Callers.Together.{CallOnKey, OnKey, Together, StepTold, Fresh, Late, change_told}
-use Rattle.papaya_moments.specs.Given.Finishes.Endings.{StepsAmong}
-use Rattle.papaya_moments.specs.Given.Finishes.Maps.{Standing}
-use Rattle.papaya_moments.specs.Given.Effects.Effects.{effects_of}
-use Rattle.papaya_moments.specs.Given.Effects.Known.{Known}
-use Rattle.papaya_moments.specs.Given.Effects.declared.acting.Acting.TheVariants as acts
-use Rattle.papaya_moments.specs.Given.Follows.Shows.{Shows}
-use Rattle.papaya_moments.specs.Given.Follows.Steps.{named_now, HasToStore, HasPair, TakesNone}
-use Rattle.papaya_moments.proofs.Given.Follows.Calling.{is_same_refl}
-use Rattle.papaya_moments.proofs.Given.Follows.Calls.{changed_same, found}
-use Rattle.papaya_moments.proofs.Given.Follows.Operations.{operated_leaves, LeavesBy}
-use Rattle.papaya_moments.proofs.Given.Follows.Rows.{HandsOn, IsStill, Puts as PutsBehind, Retires, one_step_leaves}
-use Rattle.papaya_moments.proofs.Given.Follows.RowSteps.{row_done}
-use Rattle.papaya_moments.proofs.Given.Follows.Steps.{WentTo, went_to, made_so, DidSo, OfNoRow}
-use Rattle.papaya_moments.specs.Given.Hands.Asked.{IsAskedOn, IsAskedAs, ShowsAsked}
-use Rattle.papaya_moments.proofs.Given.Hands.Calling.{caller_is}
-use Rattle.papaya_moments.proofs.Given.Hands.Done.{done}
-use Rattle.papaya_moments.proofs.Given.Hands.Puts.{MayDo}
-use Rattle.papaya_moments.proofs.Given.Hands.RowSteps.{rows_hand_theirs}
-use Rattle.papaya_moments.proofs.Given.Hands.Steps.{numbers_apart, calls_store_theirs}
-use Rattle.papaya_moments.proofs.Given.Spots.Shifts.{Shifts, calm_shifts}
-use Rattle.papaya_moments.proofs.Given.Spots.Steps.{moved_shifts}
+use Rattle.papaya_moments.specs.Given.SeizeWordsMem.{Mem}
+use Rattle.papaya_moments.specs.Given.SeizeWorld.{World}
+use Rattle.papaya_moments.specs.Given.TablesChunks.{is_incremental}
+use Rattle.papaya_moments.specs.Given.TablesDeclared.node.Node.{Node}
+use Rattle.papaya_moments.specs.Given.RawDeclared.machines.answer.Called.{Called}
+use Rattle.papaya_moments.specs.Given.RawDeclared.machines.call.KeyCall.{KeyCall}
+use Rattle.papaya_moments.specs.Given.RawDeclared.machines.progress.Progress.{Progress}
+use Rattle.papaya_moments.specs.Given.RunsSame.{is_same}
+use Rattle.papaya_moments.specs.Given.SchedulesDeclared.call.Answer.{Answer}
+use Rattle.papaya_moments.specs.Given.SchedulesDeclared.call.Call.{Call}
+use Rattle.papaya_moments.specs.Given.SchedulesDeclared.call.Call.TheVariants.{On}
+use Rattle.papaya_moments.specs.Given.SchedulesDeclared.call.OneKey.{OneKey}
+use Rattle.papaya_moments.specs.Given.SchedulesDeclared.call.Reply.{Reply}
+use Rattle.papaya_moments.specs.Given.SchedulesDeclared.effect.Effect.{Effect}
+use Rattle.papaya_moments.specs.Given.SchedulesDeclared.effect.Effect.TheVariants as effect
+use Rattle.papaya_moments.specs.Given.SchedulesDeclared.effect.Spot.{Spot}
+use Rattle.papaya_moments.specs.Given.SchedulesEffects.{new_pair, call_by, with_effect, AtEachEffect}
+use Rattle.papaya_moments.specs.Given.SchedulesEntry.{acting}
+use Rattle.papaya_moments.specs.Given.SchedulesLinearizable.{shift_of, there_for, ChangesOnce}
+use Rattle.papaya_moments.specs.Given.SchedulesMoment.{UnderWay as CallThere, Moment}
+use Rattle.papaya_moments.specs.Given.SchedulesSequential.{Answers, Deed, Puts, Takes, ComesIn, GivesWay, means, key_of, value_put, shifts}
+use Rattle.papaya_moments.specs.Given.SchedulesViews.{call_of, finite_map, reply_to}
+use Rattle.papaya_moments.specs.Given.RuleChart.{Chart}
+use Rattle.papaya_moments.specs.Given.RuleMaps.{IsAbsent, IsPair}
+use Rattle.papaya_moments.specs.Given.RuleWords.{Blocks}
+use Rattle.papaya_moments.proofs.Given.RuleLaws.{current_is_known}
+use Rattle.papaya_moments.specs.Given.PointsFactsCalls.{Change, Unchanged, Stored, Replaced, Removed, Changes}
+use Rattle.papaya_moments.specs.Given.CallersPairs.{Given, Begun, IsTold, kind_of, StoresGiven}
+use Rattle.papaya_moments.specs.Given.CallersTogether.{CallOnKey, OnKey, Together, StepTold, Fresh, Late, change_told}
+use Rattle.papaya_moments.specs.Given.FinishesEndings.{StepsAmong}
+use Rattle.papaya_moments.specs.Given.FinishesMaps.{Standing}
+use Rattle.papaya_moments.specs.Given.EffectsEffects.{effects_of}
+use Rattle.papaya_moments.specs.Given.EffectsKnown.{Known}
+use Rattle.papaya_moments.specs.Given.EffectsDeclared.acting.Acting.TheVariants as acts
+use Rattle.papaya_moments.specs.Given.FollowsShows.{Shows}
+use Rattle.papaya_moments.specs.Given.FollowsSteps.{named_now, HasToStore, HasPair, TakesNone}
+use Rattle.papaya_moments.proofs.Given.FollowsCalling.{is_same_refl}
+use Rattle.papaya_moments.proofs.Given.FollowsCalls.{changed_same, found}
+use Rattle.papaya_moments.proofs.Given.FollowsOperations.{operated_leaves, LeavesBy}
+use Rattle.papaya_moments.proofs.Given.FollowsRows.{HandsOn, IsStill, Puts as PutsBehind, Retires, one_step_leaves}
+use Rattle.papaya_moments.proofs.Given.FollowsRowSteps.{row_done}
+use Rattle.papaya_moments.proofs.Given.FollowsSteps.{WentTo, went_to, made_so, DidSo, OfNoRow}
+use Rattle.papaya_moments.specs.Given.HandsAsked.{IsAskedOn, IsAskedAs, ShowsAsked}
+use Rattle.papaya_moments.proofs.Given.HandsCalling.{caller_is}
+use Rattle.papaya_moments.proofs.Given.HandsDone.{done}
+use Rattle.papaya_moments.proofs.Given.HandsPuts.{MayDo}
+use Rattle.papaya_moments.proofs.Given.HandsRowSteps.{rows_hand_theirs}
+use Rattle.papaya_moments.proofs.Given.HandsSteps.{numbers_apart, calls_store_theirs}
+use Rattle.papaya_moments.proofs.Given.SpotsShifts.{Shifts, calm_shifts}
+use Rattle.papaya_moments.proofs.Given.SpotsSteps.{moved_shifts}
 use Rattle.papaya_moments.specs.Whole.{ShowsWhole}
 use Rattle.papaya_moments.proofs.Calls.{of_row}
 use Rattle.papaya_histories.specs.Changes.{AreTaken, StepsChangeOnce}
@@ -60,9 +60,9 @@ use Rattle.papaya_histories.proofs.Keys.{its_call}
 use Rattle.papaya_histories.proofs.Meanings.{puts_some, ToRemove, takes_it}
 use Rattle.papaya_histories.proofs.Now.{now_had}
 use Rattle.papaya_histories.proofs.Which.{DidOnce, DidNone, DidStore, DidReplace, DidRemove, did_once, none_shifted}
-use Rattle.papaya_moments.specs.Given.Scenes.Held.{Held, IsAt}
-use Rattle.papaya_moments.specs.Given.Scenes.Scene.{Scene, slot_of}
-use Rattle.papaya_moments.specs.Given.Scenes.Stepping.{StepLeads}
+use Rattle.papaya_moments.specs.Given.ScenesHeld.{Held, IsAt}
+use Rattle.papaya_moments.specs.Given.ScenesScene.{Scene, slot_of}
+use Rattle.papaya_moments.specs.Given.ScenesStepping.{StepLeads}
 
 -- what rows hand over shifts no pair
 pub hands_shift : (effects : List Effect) → HandsOn effects → flat_map shift_of effects ≡ []

@@ -2,46 +2,46 @@
 use Rattle.std.specs.Prelude.{◌≡◌, ℕ, ◌+◌, ◌<◌, ◌≤◌, Bool, true, List, [], ◌∷◌, length, flat_map, Option, Some, None}
 use Rattle.std.proofs.Common.{refl, ap, sym, subst, ◌∙◌, arith, inl, inr}
 use Rattle.std.proofs.lemmas.Bool.{cases_lt, eq-eqb}
-use Rattle.papaya_moments.specs.Given.Tables.Chunks.{is_incremental}
-use Rattle.papaya_moments.specs.Given.Tables.declared.node.Node.{Node}
-use Rattle.papaya_moments.specs.Given.Raw.declared.machines.progress.Progress.{Progress}
-use Rattle.papaya_moments.specs.Given.Runs.Same.{is_same}
-use Rattle.papaya_moments.specs.Given.Schedules.declared.call.Answer.{Answer}
-use Rattle.papaya_moments.specs.Given.Schedules.declared.call.Call.{Call}
-use Rattle.papaya_moments.specs.Given.Schedules.declared.call.Call.TheVariants.{On}
-use Rattle.papaya_moments.specs.Given.Schedules.declared.call.OneKey.{OneKey}
-use Rattle.papaya_moments.specs.Given.Schedules.declared.call.Reply.{Reply}
-use Rattle.papaya_moments.specs.Given.Schedules.declared.effect.Effect.{Effect}
-use Rattle.papaya_moments.specs.Given.Schedules.declared.effect.Effect.TheVariants as effect
-use Rattle.papaya_moments.specs.Given.Schedules.declared.effect.Spot.{Spot}
-use Rattle.papaya_moments.specs.Given.Schedules.Effects.{due_for, call_by, with_effect, with_effects}
-use Rattle.papaya_moments.specs.Given.Schedules.Linearizable.{shift_of}
-use Rattle.papaya_moments.specs.Given.Schedules.Moment.{InMap, UnderWay as CallThere, Moment}
-use Rattle.papaya_moments.specs.Given.Schedules.Sequential.{Meaning, Answers, Deed, Puts, Takes, means, answer_due}
-use Rattle.papaya_moments.specs.Given.Schedules.Views.{is_in_map, call_of, reply_to}
-use Rattle.papaya_moments.specs.Given.Rule.Chart.{Chart}
-use Rattle.papaya_moments.specs.Given.Points.FactsCalls.{Change, Unchanged, Stored, Replaced, Removed}
-use Rattle.papaya_moments.specs.Given.Callers.Together.{CallOnKey, UnderWay, OnKey, ForRoom, Counting, OverAll, change_told}
-use Rattle.papaya_moments.specs.Given.Finishes.Maps.{Standing}
-use Rattle.papaya_moments.specs.Given.Effects.Effects.{effects_of}
-use Rattle.papaya_moments.specs.Given.Effects.Known.{Known}
-use Rattle.papaya_moments.specs.Given.Effects.declared.acting.Acting.TheVariants as acts
-use Rattle.papaya_moments.specs.Given.Follows.Maps.{ShowsPairs}
-use Rattle.papaya_moments.specs.Given.Follows.Shows.{Shows}
-use Rattle.papaya_moments.proofs.Given.Follows.Called.{room_goes_on, counting_goes_on, sweep_goes_on, key_goes_on}
-use Rattle.papaya_moments.proofs.Given.Follows.Steps.{WentTo, DidSo, LeadsThere, one_of}
-use Rattle.papaya_moments.proofs.Given.Hands.Asking.{which}
-use Rattle.papaya_moments.proofs.Given.Hands.Calling.{caller_is}
-use Rattle.papaya_moments.proofs.Given.Hands.Replacing.{calls_after}
+use Rattle.papaya_moments.specs.Given.TablesChunks.{is_incremental}
+use Rattle.papaya_moments.specs.Given.TablesDeclared.node.Node.{Node}
+use Rattle.papaya_moments.specs.Given.RawDeclared.machines.progress.Progress.{Progress}
+use Rattle.papaya_moments.specs.Given.RunsSame.{is_same}
+use Rattle.papaya_moments.specs.Given.SchedulesDeclared.call.Answer.{Answer}
+use Rattle.papaya_moments.specs.Given.SchedulesDeclared.call.Call.{Call}
+use Rattle.papaya_moments.specs.Given.SchedulesDeclared.call.Call.TheVariants.{On}
+use Rattle.papaya_moments.specs.Given.SchedulesDeclared.call.OneKey.{OneKey}
+use Rattle.papaya_moments.specs.Given.SchedulesDeclared.call.Reply.{Reply}
+use Rattle.papaya_moments.specs.Given.SchedulesDeclared.effect.Effect.{Effect}
+use Rattle.papaya_moments.specs.Given.SchedulesDeclared.effect.Effect.TheVariants as effect
+use Rattle.papaya_moments.specs.Given.SchedulesDeclared.effect.Spot.{Spot}
+use Rattle.papaya_moments.specs.Given.SchedulesEffects.{due_for, call_by, with_effect, with_effects}
+use Rattle.papaya_moments.specs.Given.SchedulesLinearizable.{shift_of}
+use Rattle.papaya_moments.specs.Given.SchedulesMoment.{InMap, UnderWay as CallThere, Moment}
+use Rattle.papaya_moments.specs.Given.SchedulesSequential.{Meaning, Answers, Deed, Puts, Takes, means, answer_due}
+use Rattle.papaya_moments.specs.Given.SchedulesViews.{is_in_map, call_of, reply_to}
+use Rattle.papaya_moments.specs.Given.RuleChart.{Chart}
+use Rattle.papaya_moments.specs.Given.PointsFactsCalls.{Change, Unchanged, Stored, Replaced, Removed}
+use Rattle.papaya_moments.specs.Given.CallersTogether.{CallOnKey, UnderWay, OnKey, ForRoom, Counting, OverAll, change_told}
+use Rattle.papaya_moments.specs.Given.FinishesMaps.{Standing}
+use Rattle.papaya_moments.specs.Given.EffectsEffects.{effects_of}
+use Rattle.papaya_moments.specs.Given.EffectsKnown.{Known}
+use Rattle.papaya_moments.specs.Given.EffectsDeclared.acting.Acting.TheVariants as acts
+use Rattle.papaya_moments.specs.Given.FollowsMaps.{ShowsPairs}
+use Rattle.papaya_moments.specs.Given.FollowsShows.{Shows}
+use Rattle.papaya_moments.proofs.Given.FollowsCalled.{room_goes_on, counting_goes_on, sweep_goes_on, key_goes_on}
+use Rattle.papaya_moments.proofs.Given.FollowsSteps.{WentTo, DidSo, LeadsThere, one_of}
+use Rattle.papaya_moments.proofs.Given.HandsAsking.{which}
+use Rattle.papaya_moments.proofs.Given.HandsCalling.{caller_is}
+use Rattle.papaya_moments.proofs.Given.HandsReplacing.{calls_after}
 use Rattle.papaya_moments.specs.Whole.{ShowsWhole}
-use Rattle.papaya_moments.specs.Given.Callers.Pairs.{kind_of}
-use Rattle.papaya_moments.specs.Given.Follows.Steps.{named_now, HasToStore, TakesNone}
-use Rattle.papaya_moments.proofs.Given.Follows.Alike.{put_here}
-use Rattle.papaya_moments.specs.Given.Hands.Asked.{IsAskedOn}
-use Rattle.papaya_moments.proofs.Given.Hands.Puts.{MayDo}
-use Rattle.papaya_moments.proofs.Given.Hands.RowSteps.{rows_hand_theirs}
-use Rattle.papaya_moments.proofs.Given.Hands.Steps.{calls_store_theirs}
-use Rattle.papaya_moments.proofs.Given.Spots.Shifts.{Shifts}
+use Rattle.papaya_moments.specs.Given.CallersPairs.{kind_of}
+use Rattle.papaya_moments.specs.Given.FollowsSteps.{named_now, HasToStore, TakesNone}
+use Rattle.papaya_moments.proofs.Given.FollowsAlike.{put_here}
+use Rattle.papaya_moments.specs.Given.HandsAsked.{IsAskedOn}
+use Rattle.papaya_moments.proofs.Given.HandsPuts.{MayDo}
+use Rattle.papaya_moments.proofs.Given.HandsRowSteps.{rows_hand_theirs}
+use Rattle.papaya_moments.proofs.Given.HandsSteps.{calls_store_theirs}
+use Rattle.papaya_moments.proofs.Given.SpotsShifts.{Shifts}
 use Rattle.papaya_histories.specs.Changes.{AreTaken}
 use Rattle.papaya_histories.proofs.Changes.{acted_on, Stores, has_to, replacing, there, asked_on, takes_now, Did, ToldOnce, told_once, none_by, its_shifts, its_done, by_row, DidSoHere, NoRow}
 use Rattle.papaya_histories.proofs.Meanings.{ToRemove}
@@ -51,10 +51,10 @@ use Rattle.papaya_histories.specs.Kept.{ChangesFirst}
 use Rattle.papaya_histories.proofs.Dues.{effects_due}
 use Rattle.papaya_histories.proofs.Later.{IsLater}
 use Rattle.papaya_histories.proofs.Steps.{to, led_on, v, s2, after, maps_later, moved_chart, was_under_way, step_history}
-use Rattle.papaya_moments.specs.Given.Scenes.Held.{Held, IsAt}
-use Rattle.papaya_moments.specs.Given.Scenes.Scene.{Scene, slot_of}
-use Rattle.papaya_moments.specs.Given.Scenes.Stepping.{StepLeads}
-use Rattle.papaya_moments.specs.Given.Schedules.Transition.{Past}
+use Rattle.papaya_moments.specs.Given.ScenesHeld.{Held, IsAt}
+use Rattle.papaya_moments.specs.Given.ScenesScene.{Scene, slot_of}
+use Rattle.papaya_moments.specs.Given.ScenesStepping.{StepLeads}
+use Rattle.papaya_moments.specs.Given.SchedulesTransition.{Past}
 
 module _ {K V : Type 0} (number number2 : ℕ → ℕ) (stored stored2 : ℕ) (numbers : (n : ℕ) → n < stored → number2 n ≡ number n) (more : stored ≤ stored2) (one : OneKey K V) (c d : CallThere K V)
     (due_is : d.due ≡ c.due) (replies_are : d.replies ≡ c.replies) where

@@ -1,42 +1,42 @@
 -- What calls owe they owe on between their steps.
 use Rattle.std.specs.Prelude.{◌≡◌, ℕ, ◌+◌, Bool, true, false, cond, List, [], ◌∷◌, find, Option, Some, ◌⊎◌, if◌then◌else◌}
 use Rattle.std.proofs.Common.{refl, ap, sym, subst, ◌∙◌, arith, inl, inr}
-use Rattle.papaya_moments.specs.Given.Runs.Same.{is_same}
-use Rattle.papaya_moments.specs.Given.Raw.declared.machines.asking.Asking.{Asking as AskingAt}
-use Rattle.papaya_moments.specs.Given.Raw.declared.machines.asking.Reply.{Reply as MachineReply}
-use Rattle.papaya_moments.specs.Given.Raw.declared.machines.call.Calling.TheVariants as at
-use Rattle.papaya_moments.specs.Given.Schedules.declared.call.Call.{Call}
-use Rattle.papaya_moments.specs.Given.Schedules.declared.call.Call.TheVariants.{On}
-use Rattle.papaya_moments.specs.Given.Schedules.declared.call.OneKey.{OneKey}
-use Rattle.papaya_moments.specs.Given.Schedules.declared.call.Reply.{Reply}
-use Rattle.papaya_moments.specs.Given.Schedules.declared.outcome.Outcome.{Outcome}
-use Rattle.papaya_moments.specs.Given.Schedules.declared.outcome.Outcome.TheVariants as outcome
-use Rattle.papaya_moments.specs.Given.Schedules.After.{asks_on, comes_to, replied}
-use Rattle.papaya_moments.specs.Given.Schedules.Beginning.{fresh_call, with_call}
-use Rattle.papaya_moments.specs.Given.Schedules.Things.{same_question}
-use Rattle.papaya_moments.specs.Given.Schedules.Moment.{Stands, Going, Asking, Told, IsReady, UnderWay as CallThere, Moment}
-use Rattle.papaya_moments.specs.Given.Schedules.Views.{call_of, reply_to}
-use Rattle.papaya_moments.specs.Given.Points.FactsCalls.{Change, Unchanged, Seeks}
-use Rattle.papaya_moments.specs.Given.Points.Told.{IsRowOfCall}
-use Rattle.papaya_moments.specs.Given.Callers.Sights.{seen_by}
-use Rattle.papaya_moments.specs.Given.Callers.Together.{CallOnKey, UnderWay, OnKey, ForRoom, Counting, OverAll, Knows, Stands as StandsAt, in_slot}
-use Rattle.papaya_moments.specs.Given.Finishes.Machines.{ToldOfKind}
-use Rattle.papaya_moments.specs.Given.Finishes.Maps.{Standing}
-use Rattle.papaya_moments.specs.Given.Follows.Calling.{told}
-use Rattle.papaya_moments.proofs.Given.Follows.Calling.{is_same_refl, replied_same, come}
-use Rattle.papaya_moments.proofs.Given.Follows.Calls.{found}
-use Rattle.papaya_moments.proofs.Given.Follows.Steps.{one_of}
-use Rattle.papaya_moments.specs.Given.Hands.Asked.{as_told, IsAskedAs}
-use Rattle.papaya_moments.proofs.Given.Hands.Asking.{which}
-use Rattle.papaya_moments.proofs.Given.Hands.Calling.{caller_is}
+use Rattle.papaya_moments.specs.Given.RunsSame.{is_same}
+use Rattle.papaya_moments.specs.Given.RawDeclared.machines.asking.Asking.{Asking as AskingAt}
+use Rattle.papaya_moments.specs.Given.RawDeclared.machines.asking.Reply.{Reply as MachineReply}
+use Rattle.papaya_moments.specs.Given.RawDeclared.machines.call.Calling.TheVariants as at
+use Rattle.papaya_moments.specs.Given.SchedulesDeclared.call.Call.{Call}
+use Rattle.papaya_moments.specs.Given.SchedulesDeclared.call.Call.TheVariants.{On}
+use Rattle.papaya_moments.specs.Given.SchedulesDeclared.call.OneKey.{OneKey}
+use Rattle.papaya_moments.specs.Given.SchedulesDeclared.call.Reply.{Reply}
+use Rattle.papaya_moments.specs.Given.SchedulesDeclared.outcome.Outcome.{Outcome}
+use Rattle.papaya_moments.specs.Given.SchedulesDeclared.outcome.Outcome.TheVariants as outcome
+use Rattle.papaya_moments.specs.Given.SchedulesAfter.{asks_on, comes_to, replied}
+use Rattle.papaya_moments.specs.Given.SchedulesBeginning.{fresh_call, with_call}
+use Rattle.papaya_moments.specs.Given.SchedulesThings.{same_question}
+use Rattle.papaya_moments.specs.Given.SchedulesMoment.{Stands, Going, Asking, Told, IsReady, UnderWay as CallThere, Moment}
+use Rattle.papaya_moments.specs.Given.SchedulesViews.{call_of, reply_to}
+use Rattle.papaya_moments.specs.Given.PointsFactsCalls.{Change, Unchanged, Seeks}
+use Rattle.papaya_moments.specs.Given.PointsTold.{IsRowOfCall}
+use Rattle.papaya_moments.specs.Given.CallersSights.{seen_by}
+use Rattle.papaya_moments.specs.Given.CallersTogether.{CallOnKey, UnderWay, OnKey, ForRoom, Counting, OverAll, Knows, Stands as StandsAt, in_slot}
+use Rattle.papaya_moments.specs.Given.FinishesMachines.{ToldOfKind}
+use Rattle.papaya_moments.specs.Given.FinishesMaps.{Standing}
+use Rattle.papaya_moments.specs.Given.FollowsCalling.{told}
+use Rattle.papaya_moments.proofs.Given.FollowsCalling.{is_same_refl, replied_same, come}
+use Rattle.papaya_moments.proofs.Given.FollowsCalls.{found}
+use Rattle.papaya_moments.proofs.Given.FollowsSteps.{one_of}
+use Rattle.papaya_moments.specs.Given.HandsAsked.{as_told, IsAskedAs}
+use Rattle.papaya_moments.proofs.Given.HandsAsking.{which}
+use Rattle.papaya_moments.proofs.Given.HandsCalling.{caller_is}
 use Rattle.papaya_histories.specs.Changes.{IsTaken, AreTaken}
 use Rattle.papaya_histories.specs.Due.{Owes, DuesBegin, CallsComeToDue, EventsKeepDue, CallsBeginDue, CallsTakeDue}
 use Rattle.papaya_histories.specs.Histories.{StaysWithin}
 use Rattle.papaya_histories.proofs.Calling.{came_so, histories_begin, calls_begin_histories, calls_take_histories, calls_come_to_histories, events_keep_histories}
 use Rattle.papaya_histories.proofs.Due.{owes_on, same_change}
-use Rattle.papaya_moments.specs.Given.Scenes.Held.{Held, IsAt}
-use Rattle.papaya_moments.specs.Given.Scenes.Replying.{scene_with}
-use Rattle.papaya_moments.specs.Given.Scenes.Scene.{Scene, slot_of}
+use Rattle.papaya_moments.specs.Given.ScenesHeld.{Held, IsAt}
+use Rattle.papaya_moments.specs.Given.ScenesReplying.{scene_with}
+use Rattle.papaya_moments.specs.Given.ScenesScene.{Scene, slot_of}
 
 module _ {K V : Type 0} where
   -- what a call owes, was told and was called with

@@ -1,15 +1,15 @@
 -- What effects leave of what a call owes: one that shifts no pair leaves it, and one that stores or removes a pair makes it what the call means then.
 use Rattle.std.specs.Prelude.{◌≡◌, ℕ, Bool, true, false, List, [], ◌∷◌, ◌++◌, flat_map, Some, if◌then◌else◌}
 use Rattle.std.proofs.Common.{refl, ap, sym, ◌∙◌}
-use Rattle.papaya_moments.specs.Given.Runs.Same.{is_same}
-use Rattle.papaya_moments.specs.Given.Schedules.declared.effect.Effect.{Effect}
-use Rattle.papaya_moments.specs.Given.Schedules.declared.effect.Effect.TheVariants as effect
-use Rattle.papaya_moments.specs.Given.Schedules.Effects.{call_by, with_effect, with_effects}
-use Rattle.papaya_moments.specs.Given.Schedules.Linearizable.{shift_of}
-use Rattle.papaya_moments.specs.Given.Schedules.Moment.{UnderWay as CallThere, Moment}
-use Rattle.papaya_moments.specs.Given.Schedules.Sequential.{Shift}
-use Rattle.papaya_moments.specs.Given.Schedules.Views.{call_of}
-use Rattle.papaya_moments.proofs.Given.Follows.Calls.{changed_same, changed, found}
+use Rattle.papaya_moments.specs.Given.RunsSame.{is_same}
+use Rattle.papaya_moments.specs.Given.SchedulesDeclared.effect.Effect.{Effect}
+use Rattle.papaya_moments.specs.Given.SchedulesDeclared.effect.Effect.TheVariants as effect
+use Rattle.papaya_moments.specs.Given.SchedulesEffects.{call_by, with_effect, with_effects}
+use Rattle.papaya_moments.specs.Given.SchedulesLinearizable.{shift_of}
+use Rattle.papaya_moments.specs.Given.SchedulesMoment.{UnderWay as CallThere, Moment}
+use Rattle.papaya_moments.specs.Given.SchedulesSequential.{Shift}
+use Rattle.papaya_moments.specs.Given.SchedulesViews.{call_of}
+use Rattle.papaya_moments.proofs.Given.FollowsCalls.{changed_same, changed, found}
 
 pub none_of : (xs ys : List Shift) → xs ++ ys ≡ [] → (xs ≡ []) × (ys ≡ [])
 none_of [] ys e = (refl, e)

@@ -1,35 +1,35 @@
 -- An event that is one step of a call on one key is linearizable.
 use Rattle.std.specs.Prelude.{◌≡◌, ℕ, ◌+◌, Bool, List, [], ◌++◌, length, flat_map, Option, Some, None, ◌⊎◌}
 use Rattle.std.proofs.Common.{refl, ap, sym, subst, ◌∙◌, inl, inr}
-use Rattle.papaya_moments.specs.Given.SeizeWords.declared.fault.Fault.{Fault}
-use Rattle.papaya_moments.specs.Given.SeizeWords.declared.fault.Fault.TheVariants.{Busy, RemoveNothing}
-use Rattle.papaya_moments.specs.Given.Tables.declared.node.Node.{Node}
-use Rattle.papaya_moments.specs.Given.Raw.declared.machines.answer.KeyAnswer.{KeyAnswer}
-use Rattle.papaya_moments.specs.Given.Raw.declared.machines.progress.Answer.TheVariants as machine
-use Rattle.papaya_moments.specs.Given.Raw.declared.machines.progress.Progress.{Progress}
-use Rattle.papaya_moments.specs.Given.Raw.declared.machines.progress.Progress.TheVariants as progress
-use Rattle.papaya_moments.specs.Given.Schedules.declared.call.Answer.{Answer}
-use Rattle.papaya_moments.specs.Given.Schedules.declared.call.Call.{Call}
-use Rattle.papaya_moments.specs.Given.Schedules.declared.call.Call.TheVariants.{On}
-use Rattle.papaya_moments.specs.Given.Schedules.declared.call.OneKey.{OneKey}
-use Rattle.papaya_moments.specs.Given.Schedules.declared.call.Reply.{Reply}
-use Rattle.papaya_moments.specs.Given.Schedules.declared.effect.Effect.{Effect}
-use Rattle.papaya_moments.specs.Given.Schedules.declared.outcome.Outcome.{Outcome}
-use Rattle.papaya_moments.specs.Given.Schedules.declared.outcome.Outcome.TheVariants as outcome
-use Rattle.papaya_moments.specs.Given.Schedules.Effects.{with_effects}
-use Rattle.papaya_moments.specs.Given.Schedules.Entry.{acting, IfCall}
-use Rattle.papaya_moments.specs.Given.Schedules.Linearizable.{shift_of, meaning_at, Changes, ChangesOnce, AnswersDue, EndsOn, Ends, AsksRight, IsRight, IsRightOf, Linearizes}
-use Rattle.papaya_moments.specs.Given.Schedules.Lists.{OneOf}
-use Rattle.papaya_moments.specs.Given.Schedules.Moment.{Stands, Going, Asking, Told, IsReady, UnderWay as CallThere, Moment}
-use Rattle.papaya_moments.specs.Given.Schedules.Sequential.{Meaning, Answers, Refuses, Leaves, means, key_of}
-use Rattle.papaya_moments.specs.Given.Schedules.Views.{call_of, reply_to, finite_map}
-use Rattle.papaya_moments.specs.Given.Points.FactsCalls.{Unchanged}
-use Rattle.papaya_moments.specs.Given.Callers.Together.{CallOnKey, OnKey}
-use Rattle.papaya_moments.specs.Given.Effects.Effects.{effects_of, known_after}
-use Rattle.papaya_moments.specs.Given.Effects.Known.{Known}
-use Rattle.papaya_moments.specs.Given.Effects.declared.acting.Acting.TheVariants as acts
-use Rattle.papaya_moments.proofs.Given.Follows.Steps.{one_of}
-use Rattle.papaya_moments.proofs.Given.Hands.Replacing.{calls_after}
+use Rattle.papaya_moments.specs.Given.SeizeWordsDeclared.fault.Fault.{Fault}
+use Rattle.papaya_moments.specs.Given.SeizeWordsDeclared.fault.Fault.TheVariants.{Busy, RemoveNothing}
+use Rattle.papaya_moments.specs.Given.TablesDeclared.node.Node.{Node}
+use Rattle.papaya_moments.specs.Given.RawDeclared.machines.answer.KeyAnswer.{KeyAnswer}
+use Rattle.papaya_moments.specs.Given.RawDeclared.machines.progress.Answer.TheVariants as machine
+use Rattle.papaya_moments.specs.Given.RawDeclared.machines.progress.Progress.{Progress}
+use Rattle.papaya_moments.specs.Given.RawDeclared.machines.progress.Progress.TheVariants as progress
+use Rattle.papaya_moments.specs.Given.SchedulesDeclared.call.Answer.{Answer}
+use Rattle.papaya_moments.specs.Given.SchedulesDeclared.call.Call.{Call}
+use Rattle.papaya_moments.specs.Given.SchedulesDeclared.call.Call.TheVariants.{On}
+use Rattle.papaya_moments.specs.Given.SchedulesDeclared.call.OneKey.{OneKey}
+use Rattle.papaya_moments.specs.Given.SchedulesDeclared.call.Reply.{Reply}
+use Rattle.papaya_moments.specs.Given.SchedulesDeclared.effect.Effect.{Effect}
+use Rattle.papaya_moments.specs.Given.SchedulesDeclared.outcome.Outcome.{Outcome}
+use Rattle.papaya_moments.specs.Given.SchedulesDeclared.outcome.Outcome.TheVariants as outcome
+use Rattle.papaya_moments.specs.Given.SchedulesEffects.{with_effects}
+use Rattle.papaya_moments.specs.Given.SchedulesEntry.{acting, IfCall}
+use Rattle.papaya_moments.specs.Given.SchedulesLinearizable.{shift_of, meaning_at, Changes, ChangesOnce, AnswersDue, EndsOn, Ends, AsksRight, IsRight, IsRightOf, Linearizes}
+use Rattle.papaya_moments.specs.Given.SchedulesLists.{OneOf}
+use Rattle.papaya_moments.specs.Given.SchedulesMoment.{Stands, Going, Asking, Told, IsReady, UnderWay as CallThere, Moment}
+use Rattle.papaya_moments.specs.Given.SchedulesSequential.{Meaning, Answers, Refuses, Leaves, means, key_of}
+use Rattle.papaya_moments.specs.Given.SchedulesViews.{call_of, reply_to, finite_map}
+use Rattle.papaya_moments.specs.Given.PointsFactsCalls.{Unchanged}
+use Rattle.papaya_moments.specs.Given.CallersTogether.{CallOnKey, OnKey}
+use Rattle.papaya_moments.specs.Given.EffectsEffects.{effects_of, known_after}
+use Rattle.papaya_moments.specs.Given.EffectsKnown.{Known}
+use Rattle.papaya_moments.specs.Given.EffectsDeclared.acting.Acting.TheVariants as acts
+use Rattle.papaya_moments.proofs.Given.FollowsSteps.{one_of}
+use Rattle.papaya_moments.proofs.Given.HandsReplacing.{calls_after}
 use Rattle.papaya_histories.specs.Answers.{IsToldAs, IsToldDone}
 use Rattle.papaya_histories.specs.Events.{ComesToIt, StepsAreLinearizable}
 use Rattle.papaya_histories.specs.Asking.{IsToldQuestion}
@@ -44,10 +44,10 @@ use Rattle.papaya_histories.proofs.Logs.{each_of}
 use Rattle.papaya_histories.proofs.Owed.{answers_are_owed, due_none, change_none}
 use Rattle.papaya_histories.proofs.Refusals.{refusals_were_so, change_refused}
 use Rattle.papaya_histories.proofs.Several.{d, d_is, d_same, by, unchanged_before, then_at, worked_then, changes_then, midst_then, midsts_begin}
-use Rattle.papaya_moments.specs.Given.Scenes.Held.{Held, IsAt}
-use Rattle.papaya_moments.specs.Given.Scenes.Scene.{Scene}
-use Rattle.papaya_moments.specs.Given.Scenes.Stepping.{StepLeads}
-use Rattle.papaya_moments.specs.Given.Schedules.Transition.{Past, Transition, call_found, call_left, worked_by}
+use Rattle.papaya_moments.specs.Given.ScenesHeld.{Held, IsAt}
+use Rattle.papaya_moments.specs.Given.ScenesScene.{Scene}
+use Rattle.papaya_moments.specs.Given.ScenesStepping.{StepLeads}
+use Rattle.papaya_moments.specs.Given.SchedulesTransition.{Past, Transition, call_found, call_left, worked_by}
 
 module _ {K V : Type 0} (same : K → K → Bool) (hash : ℕ → K → ℕ) (name : ℕ → List ℕ) (log : Past K V) (beginning : Moment K V) (map i : ℕ) (one : OneKey K V) (c : CallThere K V) (one_is : c.call ≡ On one)
     (done : List Effect) (m : Moment K V) (known : Known) (s : Scene K V) (u : CallOnKey K V K) (midst : InMidst same name log beginning map i one c done m known s u)

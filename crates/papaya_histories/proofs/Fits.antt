@@ -1,10 +1,10 @@
 -- A reply of the kind that a call on one key asks for is one that it takes.
 use Rattle.std.specs.Prelude.{◌≡◌, true}
-use Rattle.papaya_moments.specs.Given.Schedules.declared.call.OneKey.{OneKey}
-use Rattle.papaya_moments.specs.Given.Schedules.declared.call.OneKey.TheVariants.{Get, GetKeyValue, ContainsKey, Insert, TryInsert, TryInsertWith, GetOrInsert, GetOrInsertWith, Update, UpdateOrInsert, UpdateOrInsertWith, Compute, Remove, RemoveEntry, RemoveIf}
-use Rattle.papaya_moments.specs.Given.Schedules.declared.call.Reply.{Reply}
-use Rattle.papaya_moments.specs.Given.Schedules.declared.call.Reply.TheVariants.{Gives, Removes, Aborts, Decides}
-use Rattle.papaya_moments.specs.Given.Schedules.Coming.{fits_key}
+use Rattle.papaya_moments.specs.Given.SchedulesDeclared.call.OneKey.{OneKey}
+use Rattle.papaya_moments.specs.Given.SchedulesDeclared.call.OneKey.TheVariants.{Get, GetKeyValue, ContainsKey, Insert, TryInsert, TryInsertWith, GetOrInsert, GetOrInsertWith, Update, UpdateOrInsert, UpdateOrInsertWith, Compute, Remove, RemoveEntry, RemoveIf}
+use Rattle.papaya_moments.specs.Given.SchedulesDeclared.call.Reply.{Reply}
+use Rattle.papaya_moments.specs.Given.SchedulesDeclared.call.Reply.TheVariants.{Gives, Removes, Aborts, Decides}
+use Rattle.papaya_moments.specs.Given.SchedulesComing.{fits_key}
 use Rattle.papaya_histories.specs.Changes.{IsTaken, FitRepliesAreTaken}
 
 pub fit_replies_are_taken : (K V : Type 0) → FitRepliesAreTaken K V

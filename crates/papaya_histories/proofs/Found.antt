@@ -2,9 +2,9 @@
 use Rattle.std.specs.Prelude.{◌≡◌, List, length, ◌≢◌, ℕ, zero, suc, ◌<◌, ◌≤◌, Bool, true, false, ◌&&◌, Option, Some, None, if◌then◌else◌, ◌⊎◌}
 use Rattle.std.proofs.Common.{refl, ap, subst, ◌∙◌, arith, inl, inr}
 use Rattle.std.proofs.lemmas.Bool.{cases_eq}
-use Rattle.papaya_moments.specs.Given.Runs.Log.{pair_at, is_key}
-use Rattle.papaya_moments.specs.Given.Schedules.Moment.{Place, Moment}
-use Rattle.papaya_moments.specs.Given.Schedules.Views.{is_in_map, found_below, finite_map}
+use Rattle.papaya_moments.specs.Given.RunsLog.{pair_at, is_key}
+use Rattle.papaya_moments.specs.Given.SchedulesMoment.{Place, Moment}
+use Rattle.papaya_moments.specs.Given.SchedulesViews.{is_in_map, found_below, finite_map}
 
 module _ {K V : Type 0} (eq : K → K → Bool) (map : ℕ) (k : K) (m : Moment K V) where
   -- the pair of a number is in the map, and has such a key

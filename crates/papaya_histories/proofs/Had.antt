@@ -1,7 +1,7 @@
 -- What a class had at a moment of its map it had then, whatever comes later; and it had one thing.
 use Rattle.std.specs.Prelude.{◌≡◌, ℕ, ◌<◌, ◌≤◌, Bool, true, Option, Some, None}
 use Rattle.std.proofs.Common.{refl, ap, sym, ◌∙◌, arith}
-use Rattle.papaya_moments.specs.Given.Finishes.Maps.{Standing}
+use Rattle.papaya_moments.specs.Given.FinishesMaps.{Standing}
 use Rattle.papaya_histories.specs.Had.{Had, HadJust, HadThen}
 use Rattle.papaya_histories.proofs.Later.{IsLater}
 

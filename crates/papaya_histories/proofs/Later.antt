@@ -1,14 +1,14 @@
 -- What a step of a call leaves of the history of its map: a moment passes, or none, and what was so at earlier ones was so.
 use Rattle.std.specs.Prelude.{◌≡◌, ℕ, suc, ◌<◌, ◌≤◌, Bool, ◌⊎◌}
 use Rattle.std.proofs.Common.{refl, ap, ◌∙◌, arith, inl, inr}
-use Rattle.papaya_moments.specs.Given.Tables.declared.resize_mode.ResizeMode.{ResizeMode}
-use Rattle.papaya_moments.specs.Given.Tables.Chunks.{is_incremental}
-use Rattle.papaya_moments.specs.Given.Rule.Chart.{Chart}
-use Rattle.papaya_moments.specs.Given.Rule.InWorld.{Moved}
-use Rattle.papaya_moments.specs.Given.Rule.Lasts.{Lasts}
-use Rattle.papaya_moments.specs.Given.Rule.Maps.{spot_of}
-use Rattle.papaya_moments.specs.Given.Rule.Moments.{Remembers}
-use Rattle.papaya_moments.specs.Given.Rule.Moves.{Move, Links, Stores, Replaces, Removes, Marks, MarksBlocking, Skips, Unmarks, Puts, Covers, PutsLate, Claims, Reclaims, Counts, GivesUp, Aborts, Promotes, Announces, after}
+use Rattle.papaya_moments.specs.Given.TablesDeclared.resize_mode.ResizeMode.{ResizeMode}
+use Rattle.papaya_moments.specs.Given.TablesChunks.{is_incremental}
+use Rattle.papaya_moments.specs.Given.RuleChart.{Chart}
+use Rattle.papaya_moments.specs.Given.RuleInWorld.{Moved}
+use Rattle.papaya_moments.specs.Given.RuleLasts.{Lasts}
+use Rattle.papaya_moments.specs.Given.RuleMaps.{spot_of}
+use Rattle.papaya_moments.specs.Given.RuleMoments.{Remembers}
+use Rattle.papaya_moments.specs.Given.RuleMoves.{Move, Links, Stores, Replaces, Removes, Marks, MarksBlocking, Skips, Unmarks, Puts, Covers, PutsLate, Claims, Reclaims, Counts, GivesUp, Aborts, Promotes, Announces, after}
 
 pub record IsLater {K : Type 0} (c c2 : Chart K) : Type 0 where
   pub now : (c2.now ≡ c.now) ⊎ (c2.now ≡ suc c.now)

@@ -1,11 +1,11 @@
 -- The moments of a run since an event: the last one is among them, and more come.
 use Rattle.std.specs.Prelude.{◌≡◌, ℕ, ◌==◌, nat_lt, ◌≤◌, suc, true, false, List, [], ◌∷◌, length, if◌then◌else◌}
 use Rattle.std.proofs.Common.{refl, ap, subst, sym, ◌∙◌, arith, inl, inr}
-use Rattle.papaya_moments.specs.Given.Schedules.After.{moment, moments_from}
-use Rattle.papaya_moments.specs.Given.Schedules.Entry.{Entry}
-use Rattle.papaya_moments.specs.Given.Schedules.Lists.{OneOf}
-use Rattle.papaya_moments.specs.Given.Schedules.Moment.{Moment, start}
-use Rattle.papaya_moments.specs.Given.Schedules.Transition.{Past, further, past}
+use Rattle.papaya_moments.specs.Given.SchedulesAfter.{moment, moments_from}
+use Rattle.papaya_moments.specs.Given.SchedulesEntry.{Entry}
+use Rattle.papaya_moments.specs.Given.SchedulesLists.{OneOf}
+use Rattle.papaya_moments.specs.Given.SchedulesMoment.{Moment, start}
+use Rattle.papaya_moments.specs.Given.SchedulesTransition.{Past, further, past}
 use Rattle.papaya_histories.specs.Histories.{IsPast}
 
 pub each_of : {X : Type 0} (P Q : X → Type 0) (xs : List X) → ((x : X) → P x → Q x) → OneOf P xs → OneOf Q xs

@@ -1,41 +1,41 @@
 -- What a call stands at to ask, and has not asked yet, it may ask.
 use Rattle.std.specs.Prelude.{◌≡◌, ℕ, ◌+◌, ◌<◌, ◌≤◌, Bool, true, false, List, [], ◌∷◌, ◌++◌, length, Option, Some, None, ◌⊎◌}
 use Rattle.std.proofs.Common.{refl, ap, sym, subst, ◌∙◌, inl, inr}
-use Rattle.papaya_moments.specs.Given.SeizeWords.Word.{block_in}
-use Rattle.papaya_moments.specs.Given.Raw.declared.machines.answer.KeyAnswer.{KeyAnswer}
-use Rattle.papaya_moments.specs.Given.Raw.declared.machines.answer.KeyAnswer.TheVariants as answers
-use Rattle.papaya_moments.specs.Given.Raw.declared.machines.asking.Asking.{Asking as AskingAt}
-use Rattle.papaya_moments.specs.Given.Raw.declared.machines.asking.Asking.TheVariants as asking
-use Rattle.papaya_moments.specs.Given.Raw.declared.machines.asking.Gap.{Gap}
-use Rattle.papaya_moments.specs.Given.Raw.declared.machines.call.Calling.{Calling}
-use Rattle.papaya_moments.specs.Given.Raw.declared.machines.call.Calling.TheVariants as at
-use Rattle.papaya_moments.specs.Given.Schedules.declared.call.Call.{Call}
-use Rattle.papaya_moments.specs.Given.Schedules.declared.call.Call.TheVariants.{On}
-use Rattle.papaya_moments.specs.Given.Schedules.declared.call.OneKey.{OneKey}
-use Rattle.papaya_moments.specs.Given.Schedules.Linearizable.{there_for, MayAsk}
-use Rattle.papaya_moments.specs.Given.Schedules.Lists.{OneOf, is_in}
-use Rattle.papaya_moments.specs.Given.Schedules.Moment.{UnderWay as CallThere, Moment}
-use Rattle.papaya_moments.specs.Given.Schedules.Sequential.{Wants, means, key_of, asks_again}
-use Rattle.papaya_moments.specs.Given.Schedules.Things.{same_question}
-use Rattle.papaya_moments.specs.Given.Schedules.Views.{call_of, finite_map}
-use Rattle.papaya_moments.specs.Given.Rule.Chart.{Phase, Holds, Still}
-use Rattle.papaya_moments.specs.Given.Rule.Words.{Blocks, place_word}
-use Rattle.papaya_moments.specs.Given.Points.FactsCalls.{Change, Unchanged, Seeks}
-use Rattle.papaya_moments.specs.Given.Points.Steps.{AreLawful}
-use Rattle.papaya_moments.specs.Given.Points.Told.{IsRowOfCall, HasAnswered}
-use Rattle.papaya_moments.specs.Given.Late.Kinds.{FitsAsking}
-use Rattle.papaya_moments.specs.Given.Callers.Asked.{last_told}
-use Rattle.papaya_moments.specs.Given.Callers.Pairs.{Given, kind_of, KeepsGiven}
-use Rattle.papaya_moments.specs.Given.Callers.Sights.{seen_by}
-use Rattle.papaya_moments.specs.Given.Callers.Since.{SoSince}
-use Rattle.papaya_moments.specs.Given.Callers.Together.{CallOnKey, OnKey, Knows, Together, in_slot}
-use Rattle.papaya_moments.specs.Given.Finishes.Maps.{Standing}
-use Rattle.papaya_moments.specs.Given.Effects.Known.{Known}
-use Rattle.papaya_moments.specs.Given.Effects.declared.role.Role.TheVariants as role
-use Rattle.papaya_moments.specs.Given.Hands.Asked.{given_by, KnowsFirst, IsSameQuestion, IsQuestion, IsAskedOn, IsAskedAs, AsksThere}
-use Rattle.papaya_moments.proofs.Given.Hands.Replies.{told_as}
-use Rattle.papaya_moments.proofs.Given.Hands.Steps.{numbers_apart}
-use Rattle.papaya_moments.proofs.Given.Hands.Takes.{not_first}
+use Rattle.papaya_moments.specs.Given.SeizeWordsWord.{block_in}
+use Rattle.papaya_moments.specs.Given.RawDeclared.machines.answer.KeyAnswer.{KeyAnswer}
+use Rattle.papaya_moments.specs.Given.RawDeclared.machines.answer.KeyAnswer.TheVariants as answers
+use Rattle.papaya_moments.specs.Given.RawDeclared.machines.asking.Asking.{Asking as AskingAt}
+use Rattle.papaya_moments.specs.Given.RawDeclared.machines.asking.Asking.TheVariants as asking
+use Rattle.papaya_moments.specs.Given.RawDeclared.machines.asking.Gap.{Gap}
+use Rattle.papaya_moments.specs.Given.RawDeclared.machines.call.Calling.{Calling}
+use Rattle.papaya_moments.specs.Given.RawDeclared.machines.call.Calling.TheVariants as at
+use Rattle.papaya_moments.specs.Given.SchedulesDeclared.call.Call.{Call}
+use Rattle.papaya_moments.specs.Given.SchedulesDeclared.call.Call.TheVariants.{On}
+use Rattle.papaya_moments.specs.Given.SchedulesDeclared.call.OneKey.{OneKey}
+use Rattle.papaya_moments.specs.Given.SchedulesLinearizable.{there_for, MayAsk}
+use Rattle.papaya_moments.specs.Given.SchedulesLists.{OneOf, is_in}
+use Rattle.papaya_moments.specs.Given.SchedulesMoment.{UnderWay as CallThere, Moment}
+use Rattle.papaya_moments.specs.Given.SchedulesSequential.{Wants, means, key_of, asks_again}
+use Rattle.papaya_moments.specs.Given.SchedulesThings.{same_question}
+use Rattle.papaya_moments.specs.Given.SchedulesViews.{call_of, finite_map}
+use Rattle.papaya_moments.specs.Given.RuleChart.{Phase, Holds, Still}
+use Rattle.papaya_moments.specs.Given.RuleWords.{Blocks, place_word}
+use Rattle.papaya_moments.specs.Given.PointsFactsCalls.{Change, Unchanged, Seeks}
+use Rattle.papaya_moments.specs.Given.PointsSteps.{AreLawful}
+use Rattle.papaya_moments.specs.Given.PointsTold.{IsRowOfCall, HasAnswered}
+use Rattle.papaya_moments.specs.Given.LateKinds.{FitsAsking}
+use Rattle.papaya_moments.specs.Given.CallersAsked.{last_told}
+use Rattle.papaya_moments.specs.Given.CallersPairs.{Given, kind_of, KeepsGiven}
+use Rattle.papaya_moments.specs.Given.CallersSights.{seen_by}
+use Rattle.papaya_moments.specs.Given.CallersSince.{SoSince}
+use Rattle.papaya_moments.specs.Given.CallersTogether.{CallOnKey, OnKey, Knows, Together, in_slot}
+use Rattle.papaya_moments.specs.Given.FinishesMaps.{Standing}
+use Rattle.papaya_moments.specs.Given.EffectsKnown.{Known}
+use Rattle.papaya_moments.specs.Given.EffectsDeclared.role.Role.TheVariants as role
+use Rattle.papaya_moments.specs.Given.HandsAsked.{given_by, KnowsFirst, IsSameQuestion, IsQuestion, IsAskedOn, IsAskedAs, AsksThere}
+use Rattle.papaya_moments.proofs.Given.HandsReplies.{told_as}
+use Rattle.papaya_moments.proofs.Given.HandsSteps.{numbers_apart}
+use Rattle.papaya_moments.proofs.Given.HandsTakes.{not_first}
 use Rattle.papaya_histories.specs.Asking.{QuestionsMayBeAsked}
 use Rattle.papaya_histories.specs.Due.{Owes, ShowsDue}
 use Rattle.papaya_histories.specs.Had.{HadThen}
@@ -46,9 +46,9 @@ use Rattle.papaya_histories.proofs.Logs.{each_of, now_there}
 use Rattle.papaya_histories.proofs.Roles.{named_by}
 use Rattle.papaya_histories.proofs.Several.{stands}
 use Rattle.papaya_histories.proofs.Untold.{never_asked, wants_none, wants_pair, fits_it, untold_none, untold_pair}
-use Rattle.papaya_moments.specs.Given.Scenes.Held.{Held, IsAt}
-use Rattle.papaya_moments.specs.Given.Scenes.Scene.{Scene, slot_of}
-use Rattle.papaya_moments.specs.Given.Schedules.Transition.{Past}
+use Rattle.papaya_moments.specs.Given.ScenesHeld.{Held, IsAt}
+use Rattle.papaya_moments.specs.Given.ScenesScene.{Scene, slot_of}
+use Rattle.papaya_moments.specs.Given.SchedulesTransition.{Past}
 
 module _ {K V : Type 0} (same : K → K → Bool) (hash : ℕ → K → ℕ) (name : ℕ → List ℕ) (log : Past K V) (m : Moment K V) (known : Known) (s : Scene K V) (e : Held K V)
     (at_e : IsAt same hash e s) (dues : ShowsDue same name log m known s) (map i : ℕ) (u : CallOnKey K V K) (here : s.calls map i ≡ Some (OnKey u))

@@ -1,24 +1,24 @@
 -- What a call means where it stores or removes a pair.
-use Rattle.papaya_moments.specs.Given.SeizeWords.declared.fault.Fault.TheVariants.{RemoveNothing}
+use Rattle.papaya_moments.specs.Given.SeizeWordsDeclared.fault.Fault.TheVariants.{RemoveNothing}
 use Rattle.std.specs.Prelude.{◌≡◌, ℕ, ◌<◌, true, false, List, ◌∷◌, map, Option, Some, None, option_map, ◌⊎◌}
 use Rattle.std.proofs.Common.{refl, ap, sym, ◌∙◌, inl, inr}
-use Rattle.papaya_moments.specs.Given.Raw.declared.machines.asking.Reply.{Reply as MachineReply}
-use Rattle.papaya_moments.specs.Given.Raw.declared.machines.asking.Reply.TheVariants as reply
-use Rattle.papaya_moments.specs.Given.Raw.declared.machines.asking.Takes.TheVariants as takes
-use Rattle.papaya_moments.specs.Given.Schedules.declared.call.Answer.{Answer}
-use Rattle.papaya_moments.specs.Given.Schedules.declared.call.Answer.TheVariants as answer
-use Rattle.papaya_moments.specs.Given.Schedules.declared.call.OneKey.{OneKey}
-use Rattle.papaya_moments.specs.Given.Schedules.declared.call.OneKey.TheVariants.{Get, GetKeyValue, ContainsKey, Insert, TryInsert, TryInsertWith, GetOrInsert, GetOrInsertWith, Update, UpdateOrInsert, UpdateOrInsertWith, Compute, Remove, RemoveEntry, RemoveIf}
-use Rattle.papaya_moments.specs.Given.Schedules.declared.call.Reply.{Reply}
-use Rattle.papaya_moments.specs.Given.Schedules.declared.call.Reply.TheVariants.{Gives, Removes, Aborts, Decides}
-use Rattle.papaya_moments.specs.Given.Schedules.Sequential.{Meaning, Answers, Refuses, Wants, Leaves, Puts, Takes, means, value_put}
-use Rattle.papaya_moments.specs.Given.Schedules.Views.{reply_to}
-use Rattle.papaya_moments.specs.Given.Late.Faults.{IsRoom}
-use Rattle.papaya_moments.specs.Given.Late.Kinds.{MayRemove, FaultFits}
-use Rattle.papaya_moments.specs.Given.Callers.Asked.{Asked, last_told}
-use Rattle.papaya_moments.specs.Given.Callers.Pairs.{Given, Begun, IsTold, kind_of, RemovesNone}
-use Rattle.papaya_moments.specs.Given.Hands.Asked.{as_told, given_by, AreReplies}
-use Rattle.papaya_moments.proofs.Given.Hands.Replies.{told_as}
+use Rattle.papaya_moments.specs.Given.RawDeclared.machines.asking.Reply.{Reply as MachineReply}
+use Rattle.papaya_moments.specs.Given.RawDeclared.machines.asking.Reply.TheVariants as reply
+use Rattle.papaya_moments.specs.Given.RawDeclared.machines.asking.Takes.TheVariants as takes
+use Rattle.papaya_moments.specs.Given.SchedulesDeclared.call.Answer.{Answer}
+use Rattle.papaya_moments.specs.Given.SchedulesDeclared.call.Answer.TheVariants as answer
+use Rattle.papaya_moments.specs.Given.SchedulesDeclared.call.OneKey.{OneKey}
+use Rattle.papaya_moments.specs.Given.SchedulesDeclared.call.OneKey.TheVariants.{Get, GetKeyValue, ContainsKey, Insert, TryInsert, TryInsertWith, GetOrInsert, GetOrInsertWith, Update, UpdateOrInsert, UpdateOrInsertWith, Compute, Remove, RemoveEntry, RemoveIf}
+use Rattle.papaya_moments.specs.Given.SchedulesDeclared.call.Reply.{Reply}
+use Rattle.papaya_moments.specs.Given.SchedulesDeclared.call.Reply.TheVariants.{Gives, Removes, Aborts, Decides}
+use Rattle.papaya_moments.specs.Given.SchedulesSequential.{Meaning, Answers, Refuses, Wants, Leaves, Puts, Takes, means, value_put}
+use Rattle.papaya_moments.specs.Given.SchedulesViews.{reply_to}
+use Rattle.papaya_moments.specs.Given.LateFaults.{IsRoom}
+use Rattle.papaya_moments.specs.Given.LateKinds.{MayRemove, FaultFits}
+use Rattle.papaya_moments.specs.Given.CallersAsked.{Asked, last_told}
+use Rattle.papaya_moments.specs.Given.CallersPairs.{Given, Begun, IsTold, kind_of, RemovesNone}
+use Rattle.papaya_moments.specs.Given.HandsAsked.{as_told, given_by, AreReplies}
+use Rattle.papaya_moments.proofs.Given.HandsReplies.{told_as}
 use Rattle.papaya_histories.specs.Changes.{AreTaken}
 
 module _ {V X : Type 0} where

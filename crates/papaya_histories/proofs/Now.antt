@@ -1,27 +1,27 @@
 -- What a map has now, the finite map of the moment has.
 use Rattle.std.specs.Prelude.{◌≡◌, ℕ, ◌<◌, Bool, true, false, ◌&&◌, length, Option, Some, None}
 use Rattle.std.proofs.Common.{refl, ap, sym, subst, ◌∙◌}
-use Rattle.papaya_moments.specs.Given.Seize.World.{World}
-use Rattle.papaya_moments.specs.Given.Tables.Chunks.{is_incremental}
-use Rattle.papaya_moments.specs.Given.Tables.declared.node.Node.{Node}
-use Rattle.papaya_moments.specs.Given.Runs.Log.{pair_at, is_key}
-use Rattle.papaya_moments.specs.Given.Schedules.Moment.{Moment}
-use Rattle.papaya_moments.specs.Given.Schedules.Views.{is_in_map, finite_map}
-use Rattle.papaya_moments.specs.Given.Rule.Chart.{Chart}
-use Rattle.papaya_moments.specs.Given.Rule.Maps.{spot_of}
-use Rattle.papaya_moments.specs.Given.Rule.Rule.{is_of}
-use Rattle.papaya_moments.proofs.Given.Rule.Laws.{current_is_known}
-use Rattle.papaya_moments.specs.Given.Points.Steps.{AreLawful}
-use Rattle.papaya_moments.specs.Given.Callers.Together.{UnderWay, Together}
-use Rattle.papaya_moments.proofs.Given.Callers.Asked.OneCurrent.{one_current}
-use Rattle.papaya_moments.specs.Given.Finishes.Maps.{Standing}
-use Rattle.papaya_moments.specs.Given.Effects.Known.{Known}
-use Rattle.papaya_moments.specs.Given.Follows.Blocks.{HasRole, ShowsBlocks}
-use Rattle.papaya_moments.specs.Given.Follows.Maps.{ShowsPairs}
-use Rattle.papaya_moments.proofs.Given.Follows.Stored.{in_map_true}
+use Rattle.papaya_moments.specs.Given.SeizeWorld.{World}
+use Rattle.papaya_moments.specs.Given.TablesChunks.{is_incremental}
+use Rattle.papaya_moments.specs.Given.TablesDeclared.node.Node.{Node}
+use Rattle.papaya_moments.specs.Given.RunsLog.{pair_at, is_key}
+use Rattle.papaya_moments.specs.Given.SchedulesMoment.{Moment}
+use Rattle.papaya_moments.specs.Given.SchedulesViews.{is_in_map, finite_map}
+use Rattle.papaya_moments.specs.Given.RuleChart.{Chart}
+use Rattle.papaya_moments.specs.Given.RuleMaps.{spot_of}
+use Rattle.papaya_moments.specs.Given.RuleRule.{is_of}
+use Rattle.papaya_moments.proofs.Given.RuleLaws.{current_is_known}
+use Rattle.papaya_moments.specs.Given.PointsSteps.{AreLawful}
+use Rattle.papaya_moments.specs.Given.CallersTogether.{UnderWay, Together}
+use Rattle.papaya_moments.proofs.Given.CallersAsked.OneCurrent.{one_current}
+use Rattle.papaya_moments.specs.Given.FinishesMaps.{Standing}
+use Rattle.papaya_moments.specs.Given.EffectsKnown.{Known}
+use Rattle.papaya_moments.specs.Given.FollowsBlocks.{HasRole, ShowsBlocks}
+use Rattle.papaya_moments.specs.Given.FollowsMaps.{ShowsPairs}
+use Rattle.papaya_moments.proofs.Given.FollowsStored.{in_map_true}
 use Rattle.papaya_histories.specs.Had.{Had, HadJust, HadThen}
 use Rattle.papaya_histories.proofs.Found.{is_its, FoundIn, found}
-use Rattle.papaya_moments.specs.Given.Scenes.Scene.{slot_of}
+use Rattle.papaya_moments.specs.Given.ScenesScene.{slot_of}
 
 pub both_true : (p q : Bool) → (p && q) ≡ true → (p ≡ true) × (q ≡ true)
 both_true true q e = (refl, e)

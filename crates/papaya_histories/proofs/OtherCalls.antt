@@ -2,55 +2,55 @@
 use Rattle.std.specs.Prelude.{◌≡◌, ℕ, ◌<◌, Bool, true, false, List, [], ◌∷◌, ◌++◌, flat_map, Option, Some, ◌⊎◌}
 use Rattle.std.proofs.Common.{refl, ap, sym, subst, ◌∙◌, arith, inl, inr}
 use Rattle.std.proofs.lemmas.Bool.{cases_eq}
-use Rattle.papaya_moments.specs.Given.SeizeWords.Mem.{Mem}
-use Rattle.papaya_moments.specs.Given.Seize.World.{World}
-use Rattle.papaya_moments.specs.Given.Tables.Chunks.{is_incremental}
-use Rattle.papaya_moments.specs.Given.Tables.declared.node.Node.{Node}
-use Rattle.papaya_moments.specs.Given.Sweeps.declared.sweep.Purpose.{Purpose}
-use Rattle.papaya_moments.specs.Given.Sweeps.declared.sweep.Purpose.TheVariants.{Walks, Retains}
-use Rattle.papaya_moments.specs.Given.Raw.declared.machines.progress.Progress.{Progress}
-use Rattle.papaya_moments.specs.Given.Schedules.declared.call.Call.{Call}
-use Rattle.papaya_moments.specs.Given.Schedules.declared.call.Call.TheVariants as call
-use Rattle.papaya_moments.specs.Given.Schedules.declared.effect.Effect.{Effect}
-use Rattle.papaya_moments.specs.Given.Schedules.declared.outcome.Outcome.{Outcome}
-use Rattle.papaya_moments.specs.Given.Schedules.declared.outcome.Outcome.TheVariants as outcome
-use Rattle.papaya_moments.specs.Given.Schedules.Effects.{with_effects}
-use Rattle.papaya_moments.specs.Given.Schedules.Entry.{acting}
-use Rattle.papaya_moments.specs.Given.Schedules.Linearizable.{shift_of, MayRemove, RemovesOnly, Changes, Ends, AsksRight, IsRight, IsRightOf}
-use Rattle.papaya_moments.specs.Given.Schedules.Moment.{Stands, Going, Asking, Told, IsReady, UnderWay as CallThere, Moment}
-use Rattle.papaya_moments.specs.Given.Schedules.Sequential.{Shift, ComesIn, GivesWay, GoesOut}
-use Rattle.papaya_moments.specs.Given.Schedules.Views.{call_of, reply_to}
-use Rattle.papaya_moments.specs.Given.Rule.Chart.{Chart, put}
-use Rattle.papaya_moments.proofs.Given.Rule.Laws.{current_is_known}
-use Rattle.papaya_moments.proofs.Given.Rule.Moves.Writes.{put_here, put_elsewhere}
-use Rattle.papaya_moments.specs.Given.Points.FactsCalls.{Unchanged}
-use Rattle.papaya_moments.specs.Given.Callers.OverAll.{Verdict, CallOverAll, RemovesTold}
-use Rattle.papaya_moments.specs.Given.Callers.Together.{UnderWay, OnKey, ForRoom, Counting, OverAll, Together, IsOneStep}
-use Rattle.papaya_moments.specs.Given.Finishes.Maps.{Standing}
-use Rattle.papaya_moments.specs.Given.Effects.Effects.{effects_of}
-use Rattle.papaya_moments.specs.Given.Effects.Known.{Known}
-use Rattle.papaya_moments.specs.Given.Effects.declared.acting.Acting.TheVariants as acts
-use Rattle.papaya_moments.specs.Given.Follows.Calls.{IsCalled}
-use Rattle.papaya_moments.specs.Given.Follows.Shows.{Shows}
-use Rattle.papaya_moments.specs.Given.Follows.Steps.{TakesNone}
-use Rattle.papaya_moments.proofs.Given.Follows.Operations.{operated_leaves, LeavesBy}
-use Rattle.papaya_moments.proofs.Given.Follows.Rows.{one_step_leaves}
-use Rattle.papaya_moments.proofs.Given.Follows.RowSteps.{row_done}
-use Rattle.papaya_moments.proofs.Given.Follows.Steps.{WentTo, went_to, made_so, DidSo, OfNoRow, one_of}
-use Rattle.papaya_moments.proofs.Given.Hands.Replacing.{calls_after}
-use Rattle.papaya_moments.proofs.Given.Hands.RowSteps.{rows_hand_theirs}
-use Rattle.papaya_moments.proofs.Given.Spots.Shifts.{Shifts, KeepsAll, StoresOne, ReplacesOne, RemovesOne, calm_shifts}
-use Rattle.papaya_moments.proofs.Given.Spots.Steps.{moved_shifts, stayed_calm}
+use Rattle.papaya_moments.specs.Given.SeizeWordsMem.{Mem}
+use Rattle.papaya_moments.specs.Given.SeizeWorld.{World}
+use Rattle.papaya_moments.specs.Given.TablesChunks.{is_incremental}
+use Rattle.papaya_moments.specs.Given.TablesDeclared.node.Node.{Node}
+use Rattle.papaya_moments.specs.Given.SweepsDeclared.sweep.Purpose.{Purpose}
+use Rattle.papaya_moments.specs.Given.SweepsDeclared.sweep.Purpose.TheVariants.{Walks, Retains}
+use Rattle.papaya_moments.specs.Given.RawDeclared.machines.progress.Progress.{Progress}
+use Rattle.papaya_moments.specs.Given.SchedulesDeclared.call.Call.{Call}
+use Rattle.papaya_moments.specs.Given.SchedulesDeclared.call.Call.TheVariants as call
+use Rattle.papaya_moments.specs.Given.SchedulesDeclared.effect.Effect.{Effect}
+use Rattle.papaya_moments.specs.Given.SchedulesDeclared.outcome.Outcome.{Outcome}
+use Rattle.papaya_moments.specs.Given.SchedulesDeclared.outcome.Outcome.TheVariants as outcome
+use Rattle.papaya_moments.specs.Given.SchedulesEffects.{with_effects}
+use Rattle.papaya_moments.specs.Given.SchedulesEntry.{acting}
+use Rattle.papaya_moments.specs.Given.SchedulesLinearizable.{shift_of, MayRemove, RemovesOnly, Changes, Ends, AsksRight, IsRight, IsRightOf}
+use Rattle.papaya_moments.specs.Given.SchedulesMoment.{Stands, Going, Asking, Told, IsReady, UnderWay as CallThere, Moment}
+use Rattle.papaya_moments.specs.Given.SchedulesSequential.{Shift, ComesIn, GivesWay, GoesOut}
+use Rattle.papaya_moments.specs.Given.SchedulesViews.{call_of, reply_to}
+use Rattle.papaya_moments.specs.Given.RuleChart.{Chart, put}
+use Rattle.papaya_moments.proofs.Given.RuleLaws.{current_is_known}
+use Rattle.papaya_moments.proofs.Given.RuleMoves.Writes.{put_here, put_elsewhere}
+use Rattle.papaya_moments.specs.Given.PointsFactsCalls.{Unchanged}
+use Rattle.papaya_moments.specs.Given.CallersOverAll.{Verdict, CallOverAll, RemovesTold}
+use Rattle.papaya_moments.specs.Given.CallersTogether.{UnderWay, OnKey, ForRoom, Counting, OverAll, Together, IsOneStep}
+use Rattle.papaya_moments.specs.Given.FinishesMaps.{Standing}
+use Rattle.papaya_moments.specs.Given.EffectsEffects.{effects_of}
+use Rattle.papaya_moments.specs.Given.EffectsKnown.{Known}
+use Rattle.papaya_moments.specs.Given.EffectsDeclared.acting.Acting.TheVariants as acts
+use Rattle.papaya_moments.specs.Given.FollowsCalls.{IsCalled}
+use Rattle.papaya_moments.specs.Given.FollowsShows.{Shows}
+use Rattle.papaya_moments.specs.Given.FollowsSteps.{TakesNone}
+use Rattle.papaya_moments.proofs.Given.FollowsOperations.{operated_leaves, LeavesBy}
+use Rattle.papaya_moments.proofs.Given.FollowsRows.{one_step_leaves}
+use Rattle.papaya_moments.proofs.Given.FollowsRowSteps.{row_done}
+use Rattle.papaya_moments.proofs.Given.FollowsSteps.{WentTo, went_to, made_so, DidSo, OfNoRow, one_of}
+use Rattle.papaya_moments.proofs.Given.HandsReplacing.{calls_after}
+use Rattle.papaya_moments.proofs.Given.HandsRowSteps.{rows_hand_theirs}
+use Rattle.papaya_moments.proofs.Given.SpotsShifts.{Shifts, KeepsAll, StoresOne, ReplacesOne, RemovesOne, calm_shifts}
+use Rattle.papaya_moments.proofs.Given.SpotsSteps.{moved_shifts, stayed_calm}
 use Rattle.papaya_moments.specs.Whole.{ShowsWhole}
 use Rattle.papaya_moments.proofs.Calls.{of_row}
 use Rattle.papaya_histories.specs.AsCalled.{purpose_of, IsLastTold, IsAsCalled, ShowsAsCalled}
 use Rattle.papaya_histories.specs.OtherCalls.{IsOnNoKey, OthersRemoveOnly, RemovalsAdd, OthersAreLinearizable, NoCallsAreLinearizable}
 use Rattle.papaya_histories.proofs.Changes.{hands_shift}
 use Rattle.papaya_histories.proofs.Which.{did_once, none_shifted}
-use Rattle.papaya_moments.specs.Given.Scenes.Held.{Held, IsAt}
-use Rattle.papaya_moments.specs.Given.Scenes.Scene.{Scene, slot_of}
-use Rattle.papaya_moments.specs.Given.Scenes.Stepping.{StepLeads}
-use Rattle.papaya_moments.specs.Given.Schedules.Transition.{call_found, call_left, worked_by}
+use Rattle.papaya_moments.specs.Given.ScenesHeld.{Held, IsAt}
+use Rattle.papaya_moments.specs.Given.ScenesScene.{Scene, slot_of}
+use Rattle.papaya_moments.specs.Given.ScenesStepping.{StepLeads}
+use Rattle.papaya_moments.specs.Given.SchedulesTransition.{call_found, call_left, worked_by}
 
 module _ {K V : Type 0} (same : K → K → Bool) where
   -- nothing is what each call may remove

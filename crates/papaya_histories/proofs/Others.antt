@@ -1,21 +1,21 @@
 -- What is of no call leaves histories within the moments of the run, and what calls owe: no pair of a map comes or goes.
 use Rattle.std.specs.Prelude.{◌≡◌, ℕ, Bool, List, find, Option, Some, ◌⊎◌}
 use Rattle.std.proofs.Common.{ap, sym, subst, ◌∙◌, arith, inl, inr}
-use Rattle.papaya_moments.specs.Given.Runs.Same.{is_same}
-use Rattle.papaya_moments.specs.Given.Schedules.declared.call.Call.TheVariants.{On}
-use Rattle.papaya_moments.specs.Given.Schedules.declared.call.OneKey.{OneKey}
-use Rattle.papaya_moments.specs.Given.Schedules.Moment.{UnderWay as CallThere, Moment}
-use Rattle.papaya_moments.specs.Given.Schedules.Views.{call_of, finite_map}
-use Rattle.papaya_moments.specs.Given.Rule.Chart.{Chart}
-use Rattle.papaya_moments.specs.Given.Callers.Together.{CallOnKey, UnderWay, OnKey}
-use Rattle.papaya_moments.specs.Given.Finishes.Maps.{Standing}
-use Rattle.papaya_moments.specs.Given.Effects.Known.{Known}
-use Rattle.papaya_moments.specs.Given.Others.After.{ShowsAfter}
-use Rattle.papaya_moments.proofs.Given.Others.RowBegins.{rows_begin_shown}
-use Rattle.papaya_moments.proofs.Given.Others.Rows.{rows_on_slots_are_shown}
+use Rattle.papaya_moments.specs.Given.RunsSame.{is_same}
+use Rattle.papaya_moments.specs.Given.SchedulesDeclared.call.Call.TheVariants.{On}
+use Rattle.papaya_moments.specs.Given.SchedulesDeclared.call.OneKey.{OneKey}
+use Rattle.papaya_moments.specs.Given.SchedulesMoment.{UnderWay as CallThere, Moment}
+use Rattle.papaya_moments.specs.Given.SchedulesViews.{call_of, finite_map}
+use Rattle.papaya_moments.specs.Given.RuleChart.{Chart}
+use Rattle.papaya_moments.specs.Given.CallersTogether.{CallOnKey, UnderWay, OnKey}
+use Rattle.papaya_moments.specs.Given.FinishesMaps.{Standing}
+use Rattle.papaya_moments.specs.Given.EffectsKnown.{Known}
+use Rattle.papaya_moments.specs.Given.OthersAfter.{ShowsAfter}
+use Rattle.papaya_moments.proofs.Given.OthersRowBegins.{rows_begin_shown}
+use Rattle.papaya_moments.proofs.Given.OthersRows.{rows_on_slots_are_shown}
 use Rattle.papaya_moments.proofs.Beside.{IsBeside, StoodSo, StandsNew, asked_beside}
 use Rattle.papaya_moments.proofs.OnSlots.{row_beside, rows_begin_beside}
-use Rattle.papaya_moments.specs.Given.Hands.Asked.{ShowsAsked}
+use Rattle.papaya_moments.specs.Given.HandsAsked.{ShowsAsked}
 use Rattle.papaya_histories.specs.Due.{Owes, ShowsDue}
 use Rattle.papaya_histories.specs.Had.{HadThen}
 use Rattle.papaya_histories.specs.Histories.{began_of, since, IsWithin, ShowsHistory}
@@ -24,9 +24,9 @@ use Rattle.papaya_histories.proofs.Had.{had_on, had_one}
 use Rattle.papaya_histories.proofs.Later.{IsLater, same_later}
 use Rattle.papaya_histories.proofs.Now.{now_had}
 use Rattle.papaya_histories.proofs.Within.{within_on}
-use Rattle.papaya_moments.specs.Given.Scenes.Held.{Held, IsAt}
-use Rattle.papaya_moments.specs.Given.Scenes.Scene.{Scene}
-use Rattle.papaya_moments.specs.Given.Schedules.Transition.{Past}
+use Rattle.papaya_moments.specs.Given.ScenesHeld.{Held, IsAt}
+use Rattle.papaya_moments.specs.Given.ScenesScene.{Scene}
+use Rattle.papaya_moments.specs.Given.SchedulesTransition.{Past}
 
 module _ {K V : Type 0} (same : K → K → Bool) (hash : ℕ → K → ℕ) (name : ℕ → List ℕ) (log : Past K V) (m m2 : Moment K V) (known known2 : Known) (s s2 : Scene K V) (old new : Held K V)
     (at : IsAt same hash old s) (at2 : IsAt same hash new s2) (history : ShowsHistory same name log m known s) (after : ShowsAfter same name m known s history.shown m2 known2 s2)

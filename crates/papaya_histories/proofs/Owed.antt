@@ -1,32 +1,32 @@
 -- An answer that tells a change is the one that the call owes.
 use Rattle.std.specs.Prelude.{◌≡◌, ℕ, ◌<◌, Bool, true, false, List, Option, Some, None}
 use Rattle.std.proofs.Common.{refl, ap, sym, subst, ◌∙◌, inl, inr}
-use Rattle.papaya_moments.specs.Given.SeizeWords.Word.{block_in}
-use Rattle.papaya_moments.specs.Given.Seize.World.{World}
-use Rattle.papaya_moments.specs.Given.Tables.declared.node.Node.{Node}
-use Rattle.papaya_moments.specs.Given.Raw.declared.machines.answer.KeyAnswer.{KeyAnswer}
-use Rattle.papaya_moments.specs.Given.Raw.declared.machines.answer.KeyAnswer.TheVariants as answers
-use Rattle.papaya_moments.specs.Given.Raw.declared.machines.progress.Answer.TheVariants.{Key}
-use Rattle.papaya_moments.specs.Given.Raw.declared.machines.progress.Progress.{Progress}
-use Rattle.papaya_moments.specs.Given.Raw.declared.machines.progress.Progress.TheVariants.{Done}
-use Rattle.papaya_moments.specs.Given.Schedules.declared.call.Answer.{Answer}
-use Rattle.papaya_moments.specs.Given.Schedules.declared.call.Call.TheVariants.{On}
-use Rattle.papaya_moments.specs.Given.Schedules.declared.call.OneKey.{OneKey}
-use Rattle.papaya_moments.specs.Given.Schedules.declared.call.Reply.{Reply}
-use Rattle.papaya_moments.specs.Given.Schedules.Moment.{UnderWay as CallThere, Moment}
-use Rattle.papaya_moments.specs.Given.Schedules.Sequential.{Answers, Deed, Puts, Takes, means}
-use Rattle.papaya_moments.specs.Given.Schedules.Views.{call_of, reply_to}
-use Rattle.papaya_moments.specs.Given.Rule.Chart.{Still, Holds, Chart}
-use Rattle.papaya_moments.specs.Given.Rule.Words.{Blocks, place_word}
-use Rattle.papaya_moments.specs.Given.Points.FactsCalls.{Change, Unchanged, Stored, Replaced, Removed, Tells}
-use Rattle.papaya_moments.specs.Given.Callers.Sights.{seen_by}
-use Rattle.papaya_moments.specs.Given.Callers.Since.{SoSince}
-use Rattle.papaya_moments.specs.Given.Callers.Together.{CallOnKey, OnKey, AnswersOnce, change_told, in_slot}
-use Rattle.papaya_moments.specs.Given.Finishes.Maps.{Standing}
-use Rattle.papaya_moments.specs.Given.Effects.Known.{Known}
-use Rattle.papaya_moments.specs.Given.Effects.declared.role.Role.TheVariants as role
-use Rattle.papaya_moments.specs.Given.Follows.Shows.{Shows}
-use Rattle.papaya_moments.proofs.Given.Follows.Steps.{WentTo, LeadsThere, DidSo}
+use Rattle.papaya_moments.specs.Given.SeizeWordsWord.{block_in}
+use Rattle.papaya_moments.specs.Given.SeizeWorld.{World}
+use Rattle.papaya_moments.specs.Given.TablesDeclared.node.Node.{Node}
+use Rattle.papaya_moments.specs.Given.RawDeclared.machines.answer.KeyAnswer.{KeyAnswer}
+use Rattle.papaya_moments.specs.Given.RawDeclared.machines.answer.KeyAnswer.TheVariants as answers
+use Rattle.papaya_moments.specs.Given.RawDeclared.machines.progress.Answer.TheVariants.{Key}
+use Rattle.papaya_moments.specs.Given.RawDeclared.machines.progress.Progress.{Progress}
+use Rattle.papaya_moments.specs.Given.RawDeclared.machines.progress.Progress.TheVariants.{Done}
+use Rattle.papaya_moments.specs.Given.SchedulesDeclared.call.Answer.{Answer}
+use Rattle.papaya_moments.specs.Given.SchedulesDeclared.call.Call.TheVariants.{On}
+use Rattle.papaya_moments.specs.Given.SchedulesDeclared.call.OneKey.{OneKey}
+use Rattle.papaya_moments.specs.Given.SchedulesDeclared.call.Reply.{Reply}
+use Rattle.papaya_moments.specs.Given.SchedulesMoment.{UnderWay as CallThere, Moment}
+use Rattle.papaya_moments.specs.Given.SchedulesSequential.{Answers, Deed, Puts, Takes, means}
+use Rattle.papaya_moments.specs.Given.SchedulesViews.{call_of, reply_to}
+use Rattle.papaya_moments.specs.Given.RuleChart.{Still, Holds, Chart}
+use Rattle.papaya_moments.specs.Given.RuleWords.{Blocks, place_word}
+use Rattle.papaya_moments.specs.Given.PointsFactsCalls.{Change, Unchanged, Stored, Replaced, Removed, Tells}
+use Rattle.papaya_moments.specs.Given.CallersSights.{seen_by}
+use Rattle.papaya_moments.specs.Given.CallersSince.{SoSince}
+use Rattle.papaya_moments.specs.Given.CallersTogether.{CallOnKey, OnKey, AnswersOnce, change_told, in_slot}
+use Rattle.papaya_moments.specs.Given.FinishesMaps.{Standing}
+use Rattle.papaya_moments.specs.Given.EffectsKnown.{Known}
+use Rattle.papaya_moments.specs.Given.EffectsDeclared.role.Role.TheVariants as role
+use Rattle.papaya_moments.specs.Given.FollowsShows.{Shows}
+use Rattle.papaya_moments.proofs.Given.FollowsSteps.{WentTo, LeadsThere, DidSo}
 use Rattle.papaya_moments.specs.Whole.{ShowsWhole}
 use Rattle.papaya_histories.specs.Answers.{IsToldAs, IsToldDone, AnswersAreOwed}
 use Rattle.papaya_histories.specs.Due.{Owes, ShowsDue}
@@ -34,10 +34,10 @@ use Rattle.papaya_histories.proofs.Answers.{ended}
 use Rattle.papaya_histories.proofs.Due.{change_by, owes_then_by, was_there}
 use Rattle.papaya_histories.proofs.Roles.{named_by, no_change, roles_before, roles_after}
 use Rattle.papaya_histories.proofs.Steps.{to, led_on, v, after}
-use Rattle.papaya_moments.specs.Given.Scenes.Held.{Held, IsAt}
-use Rattle.papaya_moments.specs.Given.Scenes.Scene.{Scene, slot_of}
-use Rattle.papaya_moments.specs.Given.Scenes.Stepping.{StepLeads}
-use Rattle.papaya_moments.specs.Given.Schedules.Transition.{Past}
+use Rattle.papaya_moments.specs.Given.ScenesHeld.{Held, IsAt}
+use Rattle.papaya_moments.specs.Given.ScenesScene.{Scene, slot_of}
+use Rattle.papaya_moments.specs.Given.ScenesStepping.{StepLeads}
+use Rattle.papaya_moments.specs.Given.SchedulesTransition.{Past}
 
 module _ {K V : Type 0} (same : K → K → Bool) (hash : ℕ → K → ℕ) (name : ℕ → List ℕ) (log : Past K V) (m : Moment K V) (known : Known) (s : Scene K V) (old new : Held K V)
     (at : IsAt same hash old s) (whole : ShowsWhole same name m known s) (dues : ShowsDue same name log m known s) (map i : ℕ) (z : CallOnKey K V K) (here : s.calls map i ≡ Some (OnKey z))

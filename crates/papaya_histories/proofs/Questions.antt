@@ -1,27 +1,27 @@
 -- What calls have asked is what they got replies to, and what they ask now, as a run goes on.
 use Rattle.std.specs.Prelude.{◌≡◌, ℕ, ◌+◌, Bool, true, false, cond, not, List, [], ◌∷◌, ◌++◌, filter, find, map, Option, Some, None, if◌then◌else◌}
 use Rattle.std.proofs.Common.{refl, ap, sym, subst, ◌∙◌}
-use Rattle.papaya_moments.specs.Given.Runs.Same.{is_same}
-use Rattle.papaya_moments.specs.Given.Schedules.declared.call.Call.{Call}
-use Rattle.papaya_moments.specs.Given.Schedules.declared.call.Call.TheVariants as call
-use Rattle.papaya_moments.specs.Given.Schedules.declared.call.Reply.{Reply}
-use Rattle.papaya_moments.specs.Given.Schedules.declared.effect.Effect.{Effect}
-use Rattle.papaya_moments.specs.Given.Schedules.declared.effect.Effect.TheVariants as effect
-use Rattle.papaya_moments.specs.Given.Schedules.declared.event.Event.{Event}
-use Rattle.papaya_moments.specs.Given.Schedules.declared.event.Event.TheVariants as event
-use Rattle.papaya_moments.specs.Given.Schedules.declared.outcome.Outcome.{Outcome}
-use Rattle.papaya_moments.specs.Given.Schedules.declared.outcome.Outcome.TheVariants as outcome
-use Rattle.papaya_moments.specs.Given.Schedules.After.{asks_on, comes_to, without_call, stepped, replied, calls_on, moment}
-use Rattle.papaya_moments.specs.Given.Schedules.Beginning.{fresh_call, with_call, begun, at_work}
-use Rattle.papaya_moments.specs.Given.Schedules.Effects.{due_for, call_by, calls_by, with_effect, with_effects, worked}
-use Rattle.papaya_moments.specs.Given.Schedules.Entry.{Entry, is_busy, ends_call, nameless, caller_of, acting, acted_on, IfCall}
-use Rattle.papaya_moments.specs.Given.Schedules.Moment.{Stands, Going, Asking, Told, IsReady, UnderWay as CallThere, Moment}
-use Rattle.papaya_moments.specs.Given.Schedules.Views.{number_of}
-use Rattle.papaya_moments.proofs.Given.Follows.Calling.{is_same_is, found_passes, replied_same, come, come_of_same}
-use Rattle.papaya_moments.proofs.Given.Follows.Calls.{IsOfSame, changed_same, changed, of_same}
-use Rattle.papaya_moments.proofs.Given.Follows.Steps.{one_of}
+use Rattle.papaya_moments.specs.Given.RunsSame.{is_same}
+use Rattle.papaya_moments.specs.Given.SchedulesDeclared.call.Call.{Call}
+use Rattle.papaya_moments.specs.Given.SchedulesDeclared.call.Call.TheVariants as call
+use Rattle.papaya_moments.specs.Given.SchedulesDeclared.call.Reply.{Reply}
+use Rattle.papaya_moments.specs.Given.SchedulesDeclared.effect.Effect.{Effect}
+use Rattle.papaya_moments.specs.Given.SchedulesDeclared.effect.Effect.TheVariants as effect
+use Rattle.papaya_moments.specs.Given.SchedulesDeclared.event.Event.{Event}
+use Rattle.papaya_moments.specs.Given.SchedulesDeclared.event.Event.TheVariants as event
+use Rattle.papaya_moments.specs.Given.SchedulesDeclared.outcome.Outcome.{Outcome}
+use Rattle.papaya_moments.specs.Given.SchedulesDeclared.outcome.Outcome.TheVariants as outcome
+use Rattle.papaya_moments.specs.Given.SchedulesAfter.{asks_on, comes_to, without_call, stepped, replied, calls_on, moment}
+use Rattle.papaya_moments.specs.Given.SchedulesBeginning.{fresh_call, with_call, begun, at_work}
+use Rattle.papaya_moments.specs.Given.SchedulesEffects.{due_for, call_by, calls_by, with_effect, with_effects, worked}
+use Rattle.papaya_moments.specs.Given.SchedulesEntry.{Entry, is_busy, ends_call, nameless, caller_of, acting, acted_on, IfCall}
+use Rattle.papaya_moments.specs.Given.SchedulesMoment.{Stands, Going, Asking, Told, IsReady, UnderWay as CallThere, Moment}
+use Rattle.papaya_moments.specs.Given.SchedulesViews.{number_of}
+use Rattle.papaya_moments.proofs.Given.FollowsCalling.{is_same_is, found_passes, replied_same, come, come_of_same}
+use Rattle.papaya_moments.proofs.Given.FollowsCalls.{IsOfSame, changed_same, changed, of_same}
+use Rattle.papaya_moments.proofs.Given.FollowsSteps.{one_of}
 use Rattle.papaya_histories.specs.Questions.{unanswered, replied_to, GoesItself, AsksStill, HasAskedJust, EventAsksStill, QuestionsBegin, EffectsKeepQuestions, CallsBeginQuestions, CallsTakeQuestions, CallsComeToQuestions, EventsKeepQuestions, RunsKeepQuestions}
-use Rattle.papaya_moments.specs.Given.Schedules.Transition.{further}
+use Rattle.papaya_moments.specs.Given.SchedulesTransition.{further}
 
 -- one that goes on does not ask
 quiet : (V : Type 0) (stands : Stands) (o : Outcome V) → GoesItself o → AsksStill stands o → unanswered stands ≡ []

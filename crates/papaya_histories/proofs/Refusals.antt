@@ -1,33 +1,33 @@
 -- A call that is refused owes nothing, and where there was nothing to remove it was so at a moment of the run since it began.
 use Rattle.std.specs.Prelude.{◌≡◌, ℕ, Bool, List, Some, None}
 use Rattle.std.proofs.Common.{refl, ap, subst, inl, inr}
-use Rattle.papaya_moments.specs.Given.SeizeWords.declared.fault.Fault.{Fault}
-use Rattle.papaya_moments.specs.Given.SeizeWords.declared.fault.Fault.TheVariants.{RemoveNothing}
-use Rattle.papaya_moments.specs.Given.Tables.declared.node.Node.{Node}
-use Rattle.papaya_moments.specs.Given.Raw.Progress.{of_called}
-use Rattle.papaya_moments.specs.Given.Raw.declared.machines.answer.Called.{Called}
-use Rattle.papaya_moments.specs.Given.Raw.declared.machines.answer.Called.TheVariants as called
-use Rattle.papaya_moments.specs.Given.Raw.declared.machines.progress.Progress.{Progress}
-use Rattle.papaya_moments.specs.Given.Raw.declared.machines.progress.Progress.TheVariants.{Refused}
-use Rattle.papaya_moments.specs.Given.Schedules.declared.call.Call.{Call}
-use Rattle.papaya_moments.specs.Given.Schedules.declared.call.Call.TheVariants.{On}
-use Rattle.papaya_moments.specs.Given.Schedules.declared.call.OneKey.{OneKey}
-use Rattle.papaya_moments.specs.Given.Schedules.Linearizable.{meaning_at}
-use Rattle.papaya_moments.specs.Given.Schedules.Lists.{OneOf}
-use Rattle.papaya_moments.specs.Given.Schedules.Moment.{UnderWay as CallThere, Moment}
-use Rattle.papaya_moments.specs.Given.Schedules.Sequential.{Refuses, means, key_of}
-use Rattle.papaya_moments.specs.Given.Schedules.Views.{call_of, finite_map, reply_to}
-use Rattle.papaya_moments.specs.Given.Points.FactsCalls.{Change, Unchanged}
-use Rattle.papaya_moments.specs.Given.Late.Kinds.{FaultFits}
-use Rattle.papaya_moments.specs.Given.Callers.Pairs.{Given, kind_of, RemovesNone}
-use Rattle.papaya_moments.specs.Given.Callers.Sights.{seen_by}
-use Rattle.papaya_moments.specs.Given.Callers.Together.{CallOnKey, OnKey}
-use Rattle.papaya_moments.specs.Given.Finishes.Maps.{Standing}
-use Rattle.papaya_moments.specs.Given.Effects.Known.{Known}
-use Rattle.papaya_moments.specs.Given.Follows.Shows.{Shows}
-use Rattle.papaya_moments.proofs.Given.Follows.Steps.{WentTo, DidSo}
-use Rattle.papaya_moments.specs.Given.Hands.Asked.{IsAskedOn, IsAskedAs}
-use Rattle.papaya_moments.proofs.Given.Hands.Steps.{numbers_apart}
+use Rattle.papaya_moments.specs.Given.SeizeWordsDeclared.fault.Fault.{Fault}
+use Rattle.papaya_moments.specs.Given.SeizeWordsDeclared.fault.Fault.TheVariants.{RemoveNothing}
+use Rattle.papaya_moments.specs.Given.TablesDeclared.node.Node.{Node}
+use Rattle.papaya_moments.specs.Given.RawProgress.{of_called}
+use Rattle.papaya_moments.specs.Given.RawDeclared.machines.answer.Called.{Called}
+use Rattle.papaya_moments.specs.Given.RawDeclared.machines.answer.Called.TheVariants as called
+use Rattle.papaya_moments.specs.Given.RawDeclared.machines.progress.Progress.{Progress}
+use Rattle.papaya_moments.specs.Given.RawDeclared.machines.progress.Progress.TheVariants.{Refused}
+use Rattle.papaya_moments.specs.Given.SchedulesDeclared.call.Call.{Call}
+use Rattle.papaya_moments.specs.Given.SchedulesDeclared.call.Call.TheVariants.{On}
+use Rattle.papaya_moments.specs.Given.SchedulesDeclared.call.OneKey.{OneKey}
+use Rattle.papaya_moments.specs.Given.SchedulesLinearizable.{meaning_at}
+use Rattle.papaya_moments.specs.Given.SchedulesLists.{OneOf}
+use Rattle.papaya_moments.specs.Given.SchedulesMoment.{UnderWay as CallThere, Moment}
+use Rattle.papaya_moments.specs.Given.SchedulesSequential.{Refuses, means, key_of}
+use Rattle.papaya_moments.specs.Given.SchedulesViews.{call_of, finite_map, reply_to}
+use Rattle.papaya_moments.specs.Given.PointsFactsCalls.{Change, Unchanged}
+use Rattle.papaya_moments.specs.Given.LateKinds.{FaultFits}
+use Rattle.papaya_moments.specs.Given.CallersPairs.{Given, kind_of, RemovesNone}
+use Rattle.papaya_moments.specs.Given.CallersSights.{seen_by}
+use Rattle.papaya_moments.specs.Given.CallersTogether.{CallOnKey, OnKey}
+use Rattle.papaya_moments.specs.Given.FinishesMaps.{Standing}
+use Rattle.papaya_moments.specs.Given.EffectsKnown.{Known}
+use Rattle.papaya_moments.specs.Given.FollowsShows.{Shows}
+use Rattle.papaya_moments.proofs.Given.FollowsSteps.{WentTo, DidSo}
+use Rattle.papaya_moments.specs.Given.HandsAsked.{IsAskedOn, IsAskedAs}
+use Rattle.papaya_moments.proofs.Given.HandsSteps.{numbers_apart}
 use Rattle.papaya_moments.specs.Whole.{ShowsWhole}
 use Rattle.papaya_histories.specs.Answers.{RefusalsWereSo}
 use Rattle.papaya_histories.specs.Due.{Owes, ShowsDue}
@@ -36,10 +36,10 @@ use Rattle.papaya_histories.proofs.Due.{change_by, owes_then_by}
 use Rattle.papaya_histories.proofs.Meanings.{refuses_it}
 use Rattle.papaya_histories.proofs.Roles.{stands_then, stands_is, roles_before, roles_after}
 use Rattle.papaya_histories.proofs.Steps.{to, led_on, v}
-use Rattle.papaya_moments.specs.Given.Scenes.Held.{Held, IsAt}
-use Rattle.papaya_moments.specs.Given.Scenes.Scene.{Scene, slot_of}
-use Rattle.papaya_moments.specs.Given.Scenes.Stepping.{StepLeads}
-use Rattle.papaya_moments.specs.Given.Schedules.Transition.{Past}
+use Rattle.papaya_moments.specs.Given.ScenesHeld.{Held, IsAt}
+use Rattle.papaya_moments.specs.Given.ScenesScene.{Scene, slot_of}
+use Rattle.papaya_moments.specs.Given.ScenesStepping.{StepLeads}
+use Rattle.papaya_moments.specs.Given.SchedulesTransition.{Past}
 
 pub refused : {T : Type 0} (end : Called T) (fault : Fault) → Refused fault ≡ of_called end → end ≡ called.Refused fault
 refused called.Goes fault e = absurd (cc e)

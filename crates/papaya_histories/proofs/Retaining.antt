@@ -1,23 +1,23 @@
 -- A retaining asks about a pair that the map has at a moment of the call.
 use Rattle.std.specs.Prelude.{◌≡◌, ℕ, ◌≤◌, Bool, true, List, ◌∷◌, length, Option, Some, None, ◌⊎◌}
 use Rattle.std.proofs.Common.{refl, ap, sym, subst, ◌∙◌, arith, inl, inr}
-use Rattle.papaya_moments.specs.Given.Sweeps.declared.sweep.Sweeping.TheVariants as at
-use Rattle.papaya_moments.specs.Given.Runs.Log.{pair_at, is_key}
-use Rattle.papaya_moments.specs.Given.Schedules.Lists.{OneOf}
-use Rattle.papaya_moments.specs.Given.Schedules.Moment.{UnderWay as CallThere, Moment}
-use Rattle.papaya_moments.specs.Given.Schedules.Views.{call_of, is_in_map, finite_map}
-use Rattle.papaya_moments.specs.Given.Rule.Words.{Blocks}
-use Rattle.papaya_moments.specs.Given.Points.Steps.{AreLawful}
-use Rattle.papaya_moments.specs.Given.Late.Covers.{CoversAt}
-use Rattle.papaya_moments.specs.Given.Late.ToldSweeps.{IsRowOfSweep}
-use Rattle.papaya_moments.specs.Given.Callers.OverAll.{CallOverAll}
-use Rattle.papaya_moments.specs.Given.Callers.Sights.{IsSight, seen_by}
-use Rattle.papaya_moments.specs.Given.Callers.Together.{OverAll, KnowsSweep, Together}
-use Rattle.papaya_moments.specs.Given.Finishes.Maps.{Standing}
-use Rattle.papaya_moments.specs.Given.Effects.Known.{Known}
-use Rattle.papaya_moments.specs.Given.Effects.declared.role.Role.TheVariants as role
-use Rattle.papaya_moments.specs.Given.Follows.Shows.{Shows}
-use Rattle.papaya_moments.proofs.Given.Follows.Steps.{one_of}
+use Rattle.papaya_moments.specs.Given.SweepsDeclared.sweep.Sweeping.TheVariants as at
+use Rattle.papaya_moments.specs.Given.RunsLog.{pair_at, is_key}
+use Rattle.papaya_moments.specs.Given.SchedulesLists.{OneOf}
+use Rattle.papaya_moments.specs.Given.SchedulesMoment.{UnderWay as CallThere, Moment}
+use Rattle.papaya_moments.specs.Given.SchedulesViews.{call_of, is_in_map, finite_map}
+use Rattle.papaya_moments.specs.Given.RuleWords.{Blocks}
+use Rattle.papaya_moments.specs.Given.PointsSteps.{AreLawful}
+use Rattle.papaya_moments.specs.Given.LateCovers.{CoversAt}
+use Rattle.papaya_moments.specs.Given.LateToldSweeps.{IsRowOfSweep}
+use Rattle.papaya_moments.specs.Given.CallersOverAll.{CallOverAll}
+use Rattle.papaya_moments.specs.Given.CallersSights.{IsSight, seen_by}
+use Rattle.papaya_moments.specs.Given.CallersTogether.{OverAll, KnowsSweep, Together}
+use Rattle.papaya_moments.specs.Given.FinishesMaps.{Standing}
+use Rattle.papaya_moments.specs.Given.EffectsKnown.{Known}
+use Rattle.papaya_moments.specs.Given.EffectsDeclared.role.Role.TheVariants as role
+use Rattle.papaya_moments.specs.Given.FollowsShows.{Shows}
+use Rattle.papaya_moments.proofs.Given.FollowsSteps.{one_of}
 use Rattle.papaya_histories.specs.Answers.{NamesPair}
 use Rattle.papaya_histories.specs.Had.{HadThen}
 use Rattle.papaya_histories.specs.Histories.{ShowsHistory}
@@ -28,9 +28,9 @@ use Rattle.papaya_histories.proofs.Logs.{each_of, now_there}
 use Rattle.papaya_histories.proofs.Now.{both_true}
 use Rattle.papaya_histories.proofs.Roles.{named_by}
 use Rattle.papaya_histories.proofs.Several.{stands}
-use Rattle.papaya_moments.specs.Given.Scenes.Held.{Held, IsAt}
-use Rattle.papaya_moments.specs.Given.Scenes.Scene.{Scene, slot_of}
-use Rattle.papaya_moments.specs.Given.Schedules.Transition.{Past}
+use Rattle.papaya_moments.specs.Given.ScenesHeld.{Held, IsAt}
+use Rattle.papaya_moments.specs.Given.ScenesScene.{Scene, slot_of}
+use Rattle.papaya_moments.specs.Given.SchedulesTransition.{Past}
 
 -- what the finite map has of a class is in the map
 pub found_there : {K V : Type 0} (same : K → K → Bool) (map : ℕ) (m : Moment K V) (k : K) (q : ℕ) → finite_map same map m k ≡ Some q → is_in_map map (m.place q) ≡ true

@@ -1,41 +1,41 @@
 -- What a block is after a step of a call on one key: the pairs that the call looked at are those of their numbers.
 use Rattle.std.specs.Prelude.{◌≡◌, ℕ, ◌<◌, Bool, true, List, Option, Some}
 use Rattle.std.proofs.Common.{refl, ap, sym, subst, ◌∙◌}
-use Rattle.papaya_moments.specs.Given.SeizeWords.Word.{block_in}
-use Rattle.papaya_moments.specs.Given.Seize.World.{World, with_at}
-use Rattle.papaya_moments.specs.Given.Tables.declared.setting.Setting.{Setting}
-use Rattle.papaya_moments.specs.Given.Raw.declared.machines.answer.KeyAnswer.{KeyAnswer}
-use Rattle.papaya_moments.specs.Given.Raw.declared.machines.answer.KeyAnswer.TheVariants as answers
-use Rattle.papaya_moments.specs.Given.Schedules.declared.call.Answer.{Answer}
-use Rattle.papaya_moments.specs.Given.Schedules.declared.call.OneKey.{OneKey}
-use Rattle.papaya_moments.specs.Given.Schedules.declared.call.Reply.{Reply}
-use Rattle.papaya_moments.specs.Given.Points.FactsCalls.{Change, Unchanged, Stored, Replaced, Removed, Tells}
-use Rattle.papaya_moments.specs.Given.Tables.declared.node.Node.{Node}
-use Rattle.papaya_moments.specs.Given.Raw.declared.machines.answer.Called.{Called}
-use Rattle.papaya_moments.specs.Given.Raw.declared.machines.call.KeyCall.{KeyCall}
-use Rattle.papaya_moments.specs.Given.Raw.declared.machines.progress.Progress.{Progress}
-use Rattle.papaya_moments.specs.Given.Schedules.Moment.{Moment}
-use Rattle.papaya_moments.specs.Given.Rule.Chart.{Phase, Holds, Chart}
-use Rattle.papaya_moments.specs.Given.Rule.Words.{Blocks, byte_of, place_word}
-use Rattle.papaya_moments.proofs.Given.Rule.Laws.{words_name_pairs, bytes_are_few}
-use Rattle.papaya_moments.specs.Given.Points.Steps.{AreLawful}
-use Rattle.papaya_moments.specs.Given.Callers.Sights.{Sight, IsSight}
-use Rattle.papaya_moments.specs.Given.Callers.Together.{CallOnKey, OnKey}
-use Rattle.papaya_moments.proofs.Given.Callers.Together.At.{at_same}
-use Rattle.papaya_moments.specs.Given.Finishes.Endings.{StepsAmong}
-use Rattle.papaya_moments.specs.Given.Finishes.Maps.{Standing}
-use Rattle.papaya_moments.specs.Given.Effects.Known.{Known}
-use Rattle.papaya_moments.specs.Given.Effects.declared.role.Role.TheVariants as role
-use Rattle.papaya_moments.specs.Given.Follows.Shows.{Shows}
-use Rattle.papaya_moments.proofs.Given.Follows.Onward.{IsLasting}
-use Rattle.papaya_moments.proofs.Given.Follows.Steps.{WentTo, made_so, is_inside, is_sight, LeadsThere}
+use Rattle.papaya_moments.specs.Given.SeizeWordsWord.{block_in}
+use Rattle.papaya_moments.specs.Given.SeizeWorld.{World, with_at}
+use Rattle.papaya_moments.specs.Given.TablesDeclared.setting.Setting.{Setting}
+use Rattle.papaya_moments.specs.Given.RawDeclared.machines.answer.KeyAnswer.{KeyAnswer}
+use Rattle.papaya_moments.specs.Given.RawDeclared.machines.answer.KeyAnswer.TheVariants as answers
+use Rattle.papaya_moments.specs.Given.SchedulesDeclared.call.Answer.{Answer}
+use Rattle.papaya_moments.specs.Given.SchedulesDeclared.call.OneKey.{OneKey}
+use Rattle.papaya_moments.specs.Given.SchedulesDeclared.call.Reply.{Reply}
+use Rattle.papaya_moments.specs.Given.PointsFactsCalls.{Change, Unchanged, Stored, Replaced, Removed, Tells}
+use Rattle.papaya_moments.specs.Given.TablesDeclared.node.Node.{Node}
+use Rattle.papaya_moments.specs.Given.RawDeclared.machines.answer.Called.{Called}
+use Rattle.papaya_moments.specs.Given.RawDeclared.machines.call.KeyCall.{KeyCall}
+use Rattle.papaya_moments.specs.Given.RawDeclared.machines.progress.Progress.{Progress}
+use Rattle.papaya_moments.specs.Given.SchedulesMoment.{Moment}
+use Rattle.papaya_moments.specs.Given.RuleChart.{Phase, Holds, Chart}
+use Rattle.papaya_moments.specs.Given.RuleWords.{Blocks, byte_of, place_word}
+use Rattle.papaya_moments.proofs.Given.RuleLaws.{words_name_pairs, bytes_are_few}
+use Rattle.papaya_moments.specs.Given.PointsSteps.{AreLawful}
+use Rattle.papaya_moments.specs.Given.CallersSights.{Sight, IsSight}
+use Rattle.papaya_moments.specs.Given.CallersTogether.{CallOnKey, OnKey}
+use Rattle.papaya_moments.proofs.Given.CallersTogether.At.{at_same}
+use Rattle.papaya_moments.specs.Given.FinishesEndings.{StepsAmong}
+use Rattle.papaya_moments.specs.Given.FinishesMaps.{Standing}
+use Rattle.papaya_moments.specs.Given.EffectsKnown.{Known}
+use Rattle.papaya_moments.specs.Given.EffectsDeclared.role.Role.TheVariants as role
+use Rattle.papaya_moments.specs.Given.FollowsShows.{Shows}
+use Rattle.papaya_moments.proofs.Given.FollowsOnward.{IsLasting}
+use Rattle.papaya_moments.proofs.Given.FollowsSteps.{WentTo, made_so, is_inside, is_sight, LeadsThere}
 use Rattle.papaya_moments.specs.Whole.{ShowsWhole}
 use Rattle.papaya_moments.proofs.Roles.{roles_then}
 use Rattle.papaya_histories.specs.Answers.{IsToldAs}
 use Rattle.papaya_histories.proofs.Steps.{to, led_on, after}
-use Rattle.papaya_moments.specs.Given.Scenes.Held.{Held, IsAt}
-use Rattle.papaya_moments.specs.Given.Scenes.Scene.{Scene, slot_of}
-use Rattle.papaya_moments.specs.Given.Scenes.Stepping.{StepLeads}
+use Rattle.papaya_moments.specs.Given.ScenesHeld.{Held, IsAt}
+use Rattle.papaya_moments.specs.Given.ScenesScene.{Scene, slot_of}
+use Rattle.papaya_moments.specs.Given.ScenesStepping.{StepLeads}
 
 -- a word that names a pair names its block
 pub named_by : {K : Type 0} (same : K → K → Bool) (hash : K → ℕ) → AreLawful same hash → (c : Chart K) (blocks : Blocks) (word n : ℕ) (phase : Phase) (borrowed : Bool) → word ≡ place_word hash c blocks (Holds n phase borrowed)

@@ -1,18 +1,18 @@
 -- What the definitions of questions, and of calls on no key, refuse.
 use Rattle.std.specs.Prelude.{◌≡◌, ℕ, true, false, [], ◌∷◌, Some, None}
 use Rattle.std.proofs.Common.{refl, arith}
-use Rattle.papaya_moments.specs.Given.SeizeWords.declared.fault.Fault.TheVariants.{Busy}
-use Rattle.papaya_moments.specs.Given.Sweeps.declared.sweep.Purpose.TheVariants.{Clears}
-use Rattle.papaya_moments.specs.Given.Raw.declared.machines.progress.Progress.TheVariants as progress
-use Rattle.papaya_moments.specs.Given.Schedules.declared.call.Answer.TheVariants as answer
-use Rattle.papaya_moments.specs.Given.Schedules.declared.call.Call.TheVariants.{Len, Walk}
-use Rattle.papaya_moments.specs.Given.Schedules.declared.call.Reply.TheVariants.{Decides}
-use Rattle.papaya_moments.specs.Given.Schedules.declared.outcome.Outcome.TheVariants as outcome
-use Rattle.papaya_moments.specs.Given.Schedules.Beginning.{fresh_call}
-use Rattle.papaya_moments.specs.Given.Schedules.Moment.{Asking, Told, UnderWay as CallThere}
-use Rattle.papaya_moments.specs.Given.Callers.OverAll.{CallOverAll, verdict}
-use Rattle.papaya_moments.specs.Given.Callers.Together.{OverAll}
-use Rattle.papaya_moments.specs.Given.Effects.Known.{Known}
+use Rattle.papaya_moments.specs.Given.SeizeWordsDeclared.fault.Fault.TheVariants.{Busy}
+use Rattle.papaya_moments.specs.Given.SweepsDeclared.sweep.Purpose.TheVariants.{Clears}
+use Rattle.papaya_moments.specs.Given.RawDeclared.machines.progress.Progress.TheVariants as progress
+use Rattle.papaya_moments.specs.Given.SchedulesDeclared.call.Answer.TheVariants as answer
+use Rattle.papaya_moments.specs.Given.SchedulesDeclared.call.Call.TheVariants.{Len, Walk}
+use Rattle.papaya_moments.specs.Given.SchedulesDeclared.call.Reply.TheVariants.{Decides}
+use Rattle.papaya_moments.specs.Given.SchedulesDeclared.outcome.Outcome.TheVariants as outcome
+use Rattle.papaya_moments.specs.Given.SchedulesBeginning.{fresh_call}
+use Rattle.papaya_moments.specs.Given.SchedulesMoment.{Asking, Told, UnderWay as CallThere}
+use Rattle.papaya_moments.specs.Given.CallersOverAll.{CallOverAll, verdict}
+use Rattle.papaya_moments.specs.Given.CallersTogether.{OverAll}
+use Rattle.papaya_moments.specs.Given.EffectsKnown.{Known}
 use Rattle.papaya_histories.specs.AsCalled.{IsLastTold, IsBegunAs}
 use Rattle.papaya_histories.specs.Asking.{IsToldQuestion}
 use Rattle.papaya_histories.specs.OtherCalls.{IsIdle}

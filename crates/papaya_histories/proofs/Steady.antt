@@ -1,29 +1,29 @@
 -- What a step of a call on one key changes of its class: nothing, or the call had changed nothing before and has now.
 use Rattle.std.specs.Prelude.{◌≡◌, ℕ, Bool, List, [], ◌∷◌, flat_map, Option, Some, None, ◌⊎◌}
 use Rattle.std.proofs.Common.{refl, ap, sym, ◌∙◌, inl, inr}
-use Rattle.papaya_moments.specs.Given.Tables.Chunks.{is_incremental}
-use Rattle.papaya_moments.specs.Given.Tables.declared.node.Node.{Node}
-use Rattle.papaya_moments.specs.Given.Raw.declared.machines.progress.Progress.{Progress}
-use Rattle.papaya_moments.specs.Given.Schedules.declared.call.Call.TheVariants.{On}
-use Rattle.papaya_moments.specs.Given.Schedules.declared.call.OneKey.{OneKey}
-use Rattle.papaya_moments.specs.Given.Schedules.declared.effect.Effect.{Effect}
-use Rattle.papaya_moments.specs.Given.Schedules.declared.effect.Effect.TheVariants as effect
-use Rattle.papaya_moments.specs.Given.Schedules.Effects.{stored_by, with_effect, with_effects}
-use Rattle.papaya_moments.specs.Given.Schedules.Entry.{acting}
-use Rattle.papaya_moments.specs.Given.Schedules.Linearizable.{shift_of}
-use Rattle.papaya_moments.specs.Given.Schedules.Moment.{UnderWay as CallThere, Moment}
-use Rattle.papaya_moments.specs.Given.Schedules.Views.{call_of, finite_map}
-use Rattle.papaya_moments.specs.Given.Rule.Chart.{Chart}
-use Rattle.papaya_moments.specs.Given.Points.FactsCalls.{Change, Unchanged, Stored, Replaced, Removed, Changes}
-use Rattle.papaya_moments.specs.Given.Callers.Together.{CallOnKey, OnKey, change_told}
-use Rattle.papaya_moments.specs.Given.Finishes.Maps.{Standing}
-use Rattle.papaya_moments.specs.Given.Effects.Effects.{effects_of}
-use Rattle.papaya_moments.specs.Given.Effects.Known.{Known}
-use Rattle.papaya_moments.specs.Given.Effects.declared.acting.Acting.TheVariants as acts
-use Rattle.papaya_moments.specs.Given.Follows.Shows.{Shows}
-use Rattle.papaya_moments.specs.Given.Follows.Steps.{TakesNone}
-use Rattle.papaya_moments.proofs.Given.Follows.Steps.{WentTo, one_of}
-use Rattle.papaya_moments.proofs.Given.Hands.RowSteps.{rows_hand_theirs}
+use Rattle.papaya_moments.specs.Given.TablesChunks.{is_incremental}
+use Rattle.papaya_moments.specs.Given.TablesDeclared.node.Node.{Node}
+use Rattle.papaya_moments.specs.Given.RawDeclared.machines.progress.Progress.{Progress}
+use Rattle.papaya_moments.specs.Given.SchedulesDeclared.call.Call.TheVariants.{On}
+use Rattle.papaya_moments.specs.Given.SchedulesDeclared.call.OneKey.{OneKey}
+use Rattle.papaya_moments.specs.Given.SchedulesDeclared.effect.Effect.{Effect}
+use Rattle.papaya_moments.specs.Given.SchedulesDeclared.effect.Effect.TheVariants as effect
+use Rattle.papaya_moments.specs.Given.SchedulesEffects.{stored_by, with_effect, with_effects}
+use Rattle.papaya_moments.specs.Given.SchedulesEntry.{acting}
+use Rattle.papaya_moments.specs.Given.SchedulesLinearizable.{shift_of}
+use Rattle.papaya_moments.specs.Given.SchedulesMoment.{UnderWay as CallThere, Moment}
+use Rattle.papaya_moments.specs.Given.SchedulesViews.{call_of, finite_map}
+use Rattle.papaya_moments.specs.Given.RuleChart.{Chart}
+use Rattle.papaya_moments.specs.Given.PointsFactsCalls.{Change, Unchanged, Stored, Replaced, Removed, Changes}
+use Rattle.papaya_moments.specs.Given.CallersTogether.{CallOnKey, OnKey, change_told}
+use Rattle.papaya_moments.specs.Given.FinishesMaps.{Standing}
+use Rattle.papaya_moments.specs.Given.EffectsEffects.{effects_of}
+use Rattle.papaya_moments.specs.Given.EffectsKnown.{Known}
+use Rattle.papaya_moments.specs.Given.EffectsDeclared.acting.Acting.TheVariants as acts
+use Rattle.papaya_moments.specs.Given.FollowsShows.{Shows}
+use Rattle.papaya_moments.specs.Given.FollowsSteps.{TakesNone}
+use Rattle.papaya_moments.proofs.Given.FollowsSteps.{WentTo, one_of}
+use Rattle.papaya_moments.proofs.Given.HandsRowSteps.{rows_hand_theirs}
 use Rattle.papaya_moments.specs.Whole.{ShowsWhole}
 use Rattle.papaya_moments.proofs.OnSlots.{stood_same}
 use Rattle.papaya_histories.specs.Due.{ShowsDue}
@@ -32,10 +32,10 @@ use Rattle.papaya_histories.proofs.Dues.{none_of}
 use Rattle.papaya_histories.proofs.Due.{taken, nothing_due, change_by}
 use Rattle.papaya_histories.proofs.Roles.{stands_then, stands_is}
 use Rattle.papaya_histories.proofs.Steps.{to, v, same_pairs}
-use Rattle.papaya_moments.specs.Given.Scenes.Held.{Held, IsAt}
-use Rattle.papaya_moments.specs.Given.Scenes.Scene.{Scene, slot_of}
-use Rattle.papaya_moments.specs.Given.Scenes.Stepping.{StepLeads}
-use Rattle.papaya_moments.specs.Given.Schedules.Transition.{Past}
+use Rattle.papaya_moments.specs.Given.ScenesHeld.{Held, IsAt}
+use Rattle.papaya_moments.specs.Given.ScenesScene.{Scene, slot_of}
+use Rattle.papaya_moments.specs.Given.ScenesStepping.{StepLeads}
+use Rattle.papaya_moments.specs.Given.SchedulesTransition.{Past}
 
 -- a moment after effects that shift no pair has the pairs that it had
 module _ {K V : Type 0} where

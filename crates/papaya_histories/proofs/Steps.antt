@@ -2,36 +2,36 @@
 use Rattle.std.specs.Prelude.{◌≡◌, ◌≢◌, ℕ, ◌≤◌, Bool, List, Option, Some, ◌⊎◌}
 use Rattle.std.proofs.Common.{refl, ap, sym, subst, ◌∙◌, arith, inl, inr}
 use Rattle.std.proofs.lemmas.Bool.{cases_eq}
-use Rattle.papaya_moments.specs.Given.Seize.World.{World, IsInside, with_at}
-use Rattle.papaya_moments.specs.Given.Tables.Chunks.{is_incremental}
-use Rattle.papaya_moments.specs.Given.Tables.declared.node.Node.{Node}
-use Rattle.papaya_moments.specs.Given.Raw.declared.machines.progress.Progress.{Progress}
-use Rattle.papaya_moments.specs.Given.Schedules.declared.effect.Effect.{Effect}
-use Rattle.papaya_moments.specs.Given.Schedules.Effects.{with_effects}
-use Rattle.papaya_moments.specs.Given.Schedules.Moment.{UnderWay as CallThere, Moment}
-use Rattle.papaya_moments.specs.Given.Schedules.Views.{call_of, finite_map}
-use Rattle.papaya_moments.specs.Given.Rule.Chart.{Chart}
-use Rattle.papaya_moments.specs.Given.Rule.InWorld.{IsMapIn, Went}
-use Rattle.papaya_moments.specs.Given.Rule.Moments.{Remembers}
-use Rattle.papaya_moments.specs.Given.Rule.Words.{Blocks}
-use Rattle.papaya_moments.proofs.Given.Points.MovedLasts.{moved_lasts}
-use Rattle.papaya_moments.specs.Given.Callers.Sights.{Sight, seen_by}
-use Rattle.papaya_moments.specs.Given.Callers.Together.{UnderWay, OnKey, ForRoom, Counting, OverAll, in_slot}
-use Rattle.papaya_moments.proofs.Given.Callers.Sights.Seen.{map_seen}
-use Rattle.papaya_moments.proofs.Given.Callers.Together.At.{at_same}
-use Rattle.papaya_moments.proofs.Given.Callers.Together.Fits.{map_in_slot}
-use Rattle.papaya_moments.specs.Given.Finishes.Maps.{Standing, IsSameMap}
-use Rattle.papaya_moments.specs.Given.Effects.Effects.{effects_of, known_after}
-use Rattle.papaya_moments.specs.Given.Effects.Known.{Known}
-use Rattle.papaya_moments.specs.Given.Effects.declared.acting.Acting.TheVariants as acts
-use Rattle.papaya_moments.specs.Given.Follows.Shows.{Shows}
-use Rattle.papaya_moments.proofs.Given.Follows.Called.{key_goes_on, room_goes_on, sweep_goes_on, counting_goes_on}
-use Rattle.papaya_moments.proofs.Given.Follows.RowSteps.{row_step_shown}
-use Rattle.papaya_moments.proofs.Given.Follows.Steps.{WentTo, went_to, made_so, is_sight, DidSo, LeadsThere, step_shown, one_of}
-use Rattle.papaya_moments.proofs.Given.Hands.AskedOn.{asked_on}
-use Rattle.papaya_moments.proofs.Given.Hands.Asking.{which}
-use Rattle.papaya_moments.proofs.Given.Hands.RowSteps.{rows_hand_theirs}
-use Rattle.papaya_moments.proofs.Given.Hands.Steps.{calls_store_theirs}
+use Rattle.papaya_moments.specs.Given.SeizeWorld.{World, IsInside, with_at}
+use Rattle.papaya_moments.specs.Given.TablesChunks.{is_incremental}
+use Rattle.papaya_moments.specs.Given.TablesDeclared.node.Node.{Node}
+use Rattle.papaya_moments.specs.Given.RawDeclared.machines.progress.Progress.{Progress}
+use Rattle.papaya_moments.specs.Given.SchedulesDeclared.effect.Effect.{Effect}
+use Rattle.papaya_moments.specs.Given.SchedulesEffects.{with_effects}
+use Rattle.papaya_moments.specs.Given.SchedulesMoment.{UnderWay as CallThere, Moment}
+use Rattle.papaya_moments.specs.Given.SchedulesViews.{call_of, finite_map}
+use Rattle.papaya_moments.specs.Given.RuleChart.{Chart}
+use Rattle.papaya_moments.specs.Given.RuleInWorld.{IsMapIn, Went}
+use Rattle.papaya_moments.specs.Given.RuleMoments.{Remembers}
+use Rattle.papaya_moments.specs.Given.RuleWords.{Blocks}
+use Rattle.papaya_moments.proofs.Given.PointsMovedLasts.{moved_lasts}
+use Rattle.papaya_moments.specs.Given.CallersSights.{Sight, seen_by}
+use Rattle.papaya_moments.specs.Given.CallersTogether.{UnderWay, OnKey, ForRoom, Counting, OverAll, in_slot}
+use Rattle.papaya_moments.proofs.Given.CallersSights.Seen.{map_seen}
+use Rattle.papaya_moments.proofs.Given.CallersTogether.At.{at_same}
+use Rattle.papaya_moments.proofs.Given.CallersTogether.Fits.{map_in_slot}
+use Rattle.papaya_moments.specs.Given.FinishesMaps.{Standing, IsSameMap}
+use Rattle.papaya_moments.specs.Given.EffectsEffects.{effects_of, known_after}
+use Rattle.papaya_moments.specs.Given.EffectsKnown.{Known}
+use Rattle.papaya_moments.specs.Given.EffectsDeclared.acting.Acting.TheVariants as acts
+use Rattle.papaya_moments.specs.Given.FollowsShows.{Shows}
+use Rattle.papaya_moments.proofs.Given.FollowsCalled.{key_goes_on, room_goes_on, sweep_goes_on, counting_goes_on}
+use Rattle.papaya_moments.proofs.Given.FollowsRowSteps.{row_step_shown}
+use Rattle.papaya_moments.proofs.Given.FollowsSteps.{WentTo, went_to, made_so, is_sight, DidSo, LeadsThere, step_shown, one_of}
+use Rattle.papaya_moments.proofs.Given.HandsAskedOn.{asked_on}
+use Rattle.papaya_moments.proofs.Given.HandsAsking.{which}
+use Rattle.papaya_moments.proofs.Given.HandsRowSteps.{rows_hand_theirs}
+use Rattle.papaya_moments.proofs.Given.HandsSteps.{calls_store_theirs}
 use Rattle.papaya_moments.specs.Whole.{ShowsWhole}
 use Rattle.papaya_moments.proofs.Calls.{of_row}
 use Rattle.papaya_moments.proofs.OnSlots.{stood_same}
@@ -43,10 +43,10 @@ use Rattle.papaya_histories.proofs.Had.{had_on, had_at, had_one}
 use Rattle.papaya_histories.proofs.Later.{IsLater, same_later, moved_later}
 use Rattle.papaya_histories.proofs.Now.{now_had}
 use Rattle.papaya_histories.proofs.Within.{within_on}
-use Rattle.papaya_moments.specs.Given.Scenes.Held.{Held, IsAt}
-use Rattle.papaya_moments.specs.Given.Scenes.Scene.{Scene, slot_of}
-use Rattle.papaya_moments.specs.Given.Scenes.Stepping.{StepLeads, scene_after}
-use Rattle.papaya_moments.specs.Given.Schedules.Transition.{Past}
+use Rattle.papaya_moments.specs.Given.ScenesHeld.{Held, IsAt}
+use Rattle.papaya_moments.specs.Given.ScenesScene.{Scene, slot_of}
+use Rattle.papaya_moments.specs.Given.ScenesStepping.{StepLeads, scene_after}
+use Rattle.papaya_moments.specs.Given.SchedulesTransition.{Past}
 
 module _ {K V : Type 0} (same : K → K → Bool) (hash : ℕ → K → ℕ) (name : ℕ → List ℕ) (m : Moment K V) (known : Known) (s : Scene K V) (old new : Held K V) (at : IsAt same hash old s)
     (whole : ShowsWhole same name m known s) (shown : Shows same name m known s) (map i : ℕ) (u : UnderWay K V K) (here : s.calls map i ≡ Some u) (said : Progress (Node K V))

@@ -1,35 +1,35 @@
 -- What a call asks, by its kind: it wants a reply for that, and was told nothing of it, unless it is `remove_if`.
 use Rattle.std.specs.Prelude.{◌≡◌, ℕ, ◌<◌, ◌||◌, Bool, true, false, List, [], ◌∷◌, ◌++◌, Option, Some, None, option_map, if◌then◌else◌}
 use Rattle.std.proofs.Common.{refl, ap, sym, ◌∙◌}
-use Rattle.papaya_moments.specs.Given.SeizeWords.Mem.{Mem}
-use Rattle.papaya_moments.specs.Given.Tables.declared.node.Node.{Node}
-use Rattle.papaya_moments.specs.Given.Raw.declared.machines.answer.Missing.TheVariants as missing
-use Rattle.papaya_moments.specs.Given.Raw.declared.machines.answer.There.TheVariants as there
-use Rattle.papaya_moments.specs.Given.Raw.declared.machines.asking.Asking.{Asking as AskingAt}
-use Rattle.papaya_moments.specs.Given.Raw.declared.machines.asking.Asking.TheVariants as asking
-use Rattle.papaya_moments.specs.Given.Raw.declared.machines.asking.Gap.{Gap}
-use Rattle.papaya_moments.specs.Given.Raw.declared.machines.asking.Reply.{Reply as MachineReply}
-use Rattle.papaya_moments.specs.Given.Raw.declared.machines.call.Calling.TheVariants as at
-use Rattle.papaya_moments.specs.Given.Raw.declared.machines.call.KeyCall.{KeyCall}
-use Rattle.papaya_moments.specs.Given.Schedules.declared.call.OneKey.{OneKey}
-use Rattle.papaya_moments.specs.Given.Schedules.declared.call.OneKey.TheVariants.{Get, GetKeyValue, ContainsKey, Insert, TryInsert, TryInsertWith, GetOrInsert, GetOrInsertWith, Update, UpdateOrInsert, UpdateOrInsertWith, Compute, Remove, RemoveEntry, RemoveIf}
-use Rattle.papaya_moments.specs.Given.Schedules.declared.call.Reply.{Reply}
-use Rattle.papaya_moments.specs.Given.Schedules.Lists.{is_in}
-use Rattle.papaya_moments.specs.Given.Schedules.Sequential.{Wants, means, asks_again}
-use Rattle.papaya_moments.specs.Given.Schedules.Things.{same_question}
-use Rattle.papaya_moments.specs.Given.Schedules.Views.{reply_to}
-use Rattle.papaya_moments.specs.Given.Rule.Chart.{Chart, Holds, Still}
-use Rattle.papaya_moments.specs.Given.Rule.Words.{Blocks, place_word}
-use Rattle.papaya_moments.specs.Given.Points.FactsCalls.{Change}
-use Rattle.papaya_moments.specs.Given.Late.Kinds.{FitsAsking}
-use Rattle.papaya_moments.specs.Given.Callers.Asked.{Asked, last_told, told_before}
-use Rattle.papaya_moments.specs.Given.Callers.AskedOnce.{IsNew, AskedAt}
-use Rattle.papaya_moments.specs.Given.Callers.Kind.{Kind}
-use Rattle.papaya_moments.specs.Given.Callers.Pairs.{Given, Begun, IsTold, kind_of, IsOfKind, KeepsGiven}
-use Rattle.papaya_moments.specs.Given.Hands.Asked.{as_told, given_by, KnowsFirst}
-use Rattle.papaya_moments.proofs.Given.Hands.Replies.{told_since}
+use Rattle.papaya_moments.specs.Given.SeizeWordsMem.{Mem}
+use Rattle.papaya_moments.specs.Given.TablesDeclared.node.Node.{Node}
+use Rattle.papaya_moments.specs.Given.RawDeclared.machines.answer.Missing.TheVariants as missing
+use Rattle.papaya_moments.specs.Given.RawDeclared.machines.answer.There.TheVariants as there
+use Rattle.papaya_moments.specs.Given.RawDeclared.machines.asking.Asking.{Asking as AskingAt}
+use Rattle.papaya_moments.specs.Given.RawDeclared.machines.asking.Asking.TheVariants as asking
+use Rattle.papaya_moments.specs.Given.RawDeclared.machines.asking.Gap.{Gap}
+use Rattle.papaya_moments.specs.Given.RawDeclared.machines.asking.Reply.{Reply as MachineReply}
+use Rattle.papaya_moments.specs.Given.RawDeclared.machines.call.Calling.TheVariants as at
+use Rattle.papaya_moments.specs.Given.RawDeclared.machines.call.KeyCall.{KeyCall}
+use Rattle.papaya_moments.specs.Given.SchedulesDeclared.call.OneKey.{OneKey}
+use Rattle.papaya_moments.specs.Given.SchedulesDeclared.call.OneKey.TheVariants.{Get, GetKeyValue, ContainsKey, Insert, TryInsert, TryInsertWith, GetOrInsert, GetOrInsertWith, Update, UpdateOrInsert, UpdateOrInsertWith, Compute, Remove, RemoveEntry, RemoveIf}
+use Rattle.papaya_moments.specs.Given.SchedulesDeclared.call.Reply.{Reply}
+use Rattle.papaya_moments.specs.Given.SchedulesLists.{is_in}
+use Rattle.papaya_moments.specs.Given.SchedulesSequential.{Wants, means, asks_again}
+use Rattle.papaya_moments.specs.Given.SchedulesThings.{same_question}
+use Rattle.papaya_moments.specs.Given.SchedulesViews.{reply_to}
+use Rattle.papaya_moments.specs.Given.RuleChart.{Chart, Holds, Still}
+use Rattle.papaya_moments.specs.Given.RuleWords.{Blocks, place_word}
+use Rattle.papaya_moments.specs.Given.PointsFactsCalls.{Change}
+use Rattle.papaya_moments.specs.Given.LateKinds.{FitsAsking}
+use Rattle.papaya_moments.specs.Given.CallersAsked.{Asked, last_told, told_before}
+use Rattle.papaya_moments.specs.Given.CallersAskedOnce.{IsNew, AskedAt}
+use Rattle.papaya_moments.specs.Given.CallersKind.{Kind}
+use Rattle.papaya_moments.specs.Given.CallersPairs.{Given, Begun, IsTold, kind_of, IsOfKind, KeepsGiven}
+use Rattle.papaya_moments.specs.Given.HandsAsked.{as_told, given_by, KnowsFirst}
+use Rattle.papaya_moments.proofs.Given.HandsReplies.{told_since}
 use Rattle.papaya_histories.specs.Questions.{replied_to}
-use Rattle.papaya_moments.specs.Given.Schedules.Transition.{further}
+use Rattle.papaya_moments.specs.Given.SchedulesTransition.{further}
 
 -- what has no reply is none of what has
 unreplied : {V : Type 0} (question : Option ℕ) (replies : List (Option ℕ × Reply V)) → reply_to question replies ≡ None → is_in same_question question (replied_to replies) ≡ false

@@ -2,15 +2,15 @@
 use Rattle.std.specs.Prelude.{◌≡◌, ◌≢◌, ℕ, ◌+◌, ◌<◌, ◌≤◌, Bool, true, false, List, [], ◌∷◌, flat_map}
 use Rattle.std.proofs.Common.{refl, ap, sym, subst, ◌∙◌, arith, inl, inr}
 use Rattle.std.proofs.lemmas.Bool.{cases_eq}
-use Rattle.papaya_moments.specs.Given.Schedules.declared.effect.Effect.{Effect}
-use Rattle.papaya_moments.specs.Given.Schedules.declared.effect.Effect.TheVariants as effect
-use Rattle.papaya_moments.specs.Given.Schedules.declared.effect.Spot.{Spot}
-use Rattle.papaya_moments.specs.Given.Schedules.Linearizable.{shift_of}
-use Rattle.papaya_moments.specs.Given.Rule.Chart.{Chart, put}
-use Rattle.papaya_moments.specs.Given.Rule.Maps.{IsAbsent, IsPair}
-use Rattle.papaya_moments.proofs.Given.Rule.Moves.Writes.{put_here, put_elsewhere}
-use Rattle.papaya_moments.specs.Given.Points.FactsCalls.{Change, Unchanged, Stored, Replaced, Removed, Changes}
-use Rattle.papaya_moments.proofs.Given.Spots.Shifts.{Shifts, KeepsAll, StoresOne, ReplacesOne, RemovesOne}
+use Rattle.papaya_moments.specs.Given.SchedulesDeclared.effect.Effect.{Effect}
+use Rattle.papaya_moments.specs.Given.SchedulesDeclared.effect.Effect.TheVariants as effect
+use Rattle.papaya_moments.specs.Given.SchedulesDeclared.effect.Spot.{Spot}
+use Rattle.papaya_moments.specs.Given.SchedulesLinearizable.{shift_of}
+use Rattle.papaya_moments.specs.Given.RuleChart.{Chart, put}
+use Rattle.papaya_moments.specs.Given.RuleMaps.{IsAbsent, IsPair}
+use Rattle.papaya_moments.proofs.Given.RuleMoves.Writes.{put_here, put_elsewhere}
+use Rattle.papaya_moments.specs.Given.PointsFactsCalls.{Change, Unchanged, Stored, Replaced, Removed, Changes}
+use Rattle.papaya_moments.proofs.Given.SpotsShifts.{Shifts, KeepsAll, StoresOne, ReplacesOne, RemovesOne}
 
 module _ {K : Type 0} (same : K → K → Bool) (hash : K → ℕ) (incremental : Bool) (keys : K → Bool) (c c2 : Chart K) (number : ℕ → ℕ) (stored : ℕ) (effects : List Effect) where
   -- the new pair alone has come

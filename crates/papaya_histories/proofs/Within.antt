@@ -2,16 +2,16 @@
 use Rattle.std.specs.Prelude.{◌≡◌, ℕ, suc, ◌<◌, ◌≤◌, Bool, List, ◌∷◌, Option, ◌⊎◌}
 use Rattle.std.proofs.Common.{sym, subst, arith, inl, inr}
 use Rattle.std.proofs.lemmas.Bool.{cases_eq}
-use Rattle.papaya_moments.specs.Given.Schedules.Lists.{OneOf}
-use Rattle.papaya_moments.specs.Given.Schedules.Moment.{Moment}
-use Rattle.papaya_moments.specs.Given.Schedules.Views.{finite_map}
-use Rattle.papaya_moments.specs.Given.Finishes.Maps.{Standing}
+use Rattle.papaya_moments.specs.Given.SchedulesLists.{OneOf}
+use Rattle.papaya_moments.specs.Given.SchedulesMoment.{Moment}
+use Rattle.papaya_moments.specs.Given.SchedulesViews.{finite_map}
+use Rattle.papaya_moments.specs.Given.FinishesMaps.{Standing}
 use Rattle.papaya_histories.specs.Had.{HadThen}
 use Rattle.papaya_histories.specs.Histories.{IsPast, IsWithin}
 use Rattle.papaya_histories.proofs.Had.{had_on}
 use Rattle.papaya_histories.proofs.Later.{IsLater}
 use Rattle.papaya_histories.proofs.Logs.{each_of, now_there}
-use Rattle.papaya_moments.specs.Given.Schedules.Transition.{Past}
+use Rattle.papaya_moments.specs.Given.SchedulesTransition.{Past}
 
 -- from one moment to the next, of the map and of the run
 module _ {K V : Type 0} (same : K → K → Bool) (map : ℕ) (s s2 : Standing K) (number number2 : ℕ → ℕ) (later : IsLater s.chart s2.chart)

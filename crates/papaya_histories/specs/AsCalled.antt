@@ -1,41 +1,41 @@
 -- Calls on no key at a moment of a run: a sweep is for what was called, was told what the moment says, and stands where it asks, if it asks then.
 use Rattle.std.specs.Prelude.{◌≡◌, ℕ, ◌<◌, Bool, true, List, Option, Some, None, Ok}
-use Rattle.papaya_moments.specs.Given.Tables.declared.node.Node.{Node}
-use Rattle.papaya_moments.specs.Given.Runs.Same.{is_same}
-use Rattle.papaya_moments.specs.Given.Sweeps.declared.sweep.Purpose.{Purpose}
-use Rattle.papaya_moments.specs.Given.Sweeps.declared.sweep.Purpose.TheVariants.{Walks, Clears, Retains}
-use Rattle.papaya_moments.specs.Given.Sweeps.declared.sweep.Sweeping.{Sweeping}
-use Rattle.papaya_moments.specs.Given.Sweeps.declared.sweep.Sweeping.TheVariants as at
-use Rattle.papaya_moments.specs.Given.Raw.Machine.{machine_replied}
-use Rattle.papaya_moments.specs.Given.Raw.declared.machines.progress.Progress.{Progress}
-use Rattle.papaya_moments.specs.Given.Schedules.declared.call.Call.{Call}
-use Rattle.papaya_moments.specs.Given.Schedules.declared.call.Call.TheVariants.{Clear, Retain, Walk}
-use Rattle.papaya_moments.specs.Given.Schedules.declared.call.Reply.{Reply}
-use Rattle.papaya_moments.specs.Given.Schedules.declared.call.Reply.TheVariants.{Decides}
-use Rattle.papaya_moments.specs.Given.Schedules.declared.outcome.Outcome.{Outcome}
-use Rattle.papaya_moments.specs.Given.Schedules.declared.outcome.Outcome.TheVariants.{Asks}
-use Rattle.papaya_moments.specs.Given.Schedules.Beginning.{with_call}
-use Rattle.papaya_moments.specs.Given.Schedules.Effects.{with_effects}
-use Rattle.papaya_moments.specs.Given.Schedules.Entry.{ends_call}
-use Rattle.papaya_moments.specs.Given.Schedules.Moment.{Asking, UnderWay as CallThere, Moment}
-use Rattle.papaya_moments.specs.Given.Schedules.Views.{call_of, reply_to}
-use Rattle.papaya_moments.specs.Given.Callers.OverAll.{Verdict, CallOverAll}
-use Rattle.papaya_moments.specs.Given.Callers.Together.{UnderWay, OnKey, OverAll}
-use Rattle.papaya_moments.specs.Given.Effects.Effects.{effects_of, known_after}
-use Rattle.papaya_moments.specs.Given.Effects.Known.{Known}
-use Rattle.papaya_moments.specs.Given.Effects.declared.acting.Acting.TheVariants as acts
-use Rattle.papaya_moments.specs.Given.Finishes.Machines.{machine_of, ToldOfKind}
-use Rattle.papaya_moments.specs.Given.Finishes.Maps.{Standing}
-use Rattle.papaya_moments.specs.Given.Follows.Calling.{NoneNamed, told, come_to}
-use Rattle.papaya_moments.specs.Given.Follows.Calls.{IsCalled}
-use Rattle.papaya_moments.specs.Given.Follows.Shows.{Shows}
-use Rattle.papaya_moments.specs.Given.Hands.Asked.{as_told}
+use Rattle.papaya_moments.specs.Given.TablesDeclared.node.Node.{Node}
+use Rattle.papaya_moments.specs.Given.RunsSame.{is_same}
+use Rattle.papaya_moments.specs.Given.SweepsDeclared.sweep.Purpose.{Purpose}
+use Rattle.papaya_moments.specs.Given.SweepsDeclared.sweep.Purpose.TheVariants.{Walks, Clears, Retains}
+use Rattle.papaya_moments.specs.Given.SweepsDeclared.sweep.Sweeping.{Sweeping}
+use Rattle.papaya_moments.specs.Given.SweepsDeclared.sweep.Sweeping.TheVariants as at
+use Rattle.papaya_moments.specs.Given.RawMachine.{machine_replied}
+use Rattle.papaya_moments.specs.Given.RawDeclared.machines.progress.Progress.{Progress}
+use Rattle.papaya_moments.specs.Given.SchedulesDeclared.call.Call.{Call}
+use Rattle.papaya_moments.specs.Given.SchedulesDeclared.call.Call.TheVariants.{Clear, Retain, Walk}
+use Rattle.papaya_moments.specs.Given.SchedulesDeclared.call.Reply.{Reply}
+use Rattle.papaya_moments.specs.Given.SchedulesDeclared.call.Reply.TheVariants.{Decides}
+use Rattle.papaya_moments.specs.Given.SchedulesDeclared.outcome.Outcome.{Outcome}
+use Rattle.papaya_moments.specs.Given.SchedulesDeclared.outcome.Outcome.TheVariants.{Asks}
+use Rattle.papaya_moments.specs.Given.SchedulesBeginning.{with_call}
+use Rattle.papaya_moments.specs.Given.SchedulesEffects.{with_effects}
+use Rattle.papaya_moments.specs.Given.SchedulesEntry.{ends_call}
+use Rattle.papaya_moments.specs.Given.SchedulesMoment.{Asking, UnderWay as CallThere, Moment}
+use Rattle.papaya_moments.specs.Given.SchedulesViews.{call_of, reply_to}
+use Rattle.papaya_moments.specs.Given.CallersOverAll.{Verdict, CallOverAll}
+use Rattle.papaya_moments.specs.Given.CallersTogether.{UnderWay, OnKey, OverAll}
+use Rattle.papaya_moments.specs.Given.EffectsEffects.{effects_of, known_after}
+use Rattle.papaya_moments.specs.Given.EffectsKnown.{Known}
+use Rattle.papaya_moments.specs.Given.EffectsDeclared.acting.Acting.TheVariants as acts
+use Rattle.papaya_moments.specs.Given.FinishesMachines.{machine_of, ToldOfKind}
+use Rattle.papaya_moments.specs.Given.FinishesMaps.{Standing}
+use Rattle.papaya_moments.specs.Given.FollowsCalling.{NoneNamed, told, come_to}
+use Rattle.papaya_moments.specs.Given.FollowsCalls.{IsCalled}
+use Rattle.papaya_moments.specs.Given.FollowsShows.{Shows}
+use Rattle.papaya_moments.specs.Given.HandsAsked.{as_told}
 use Rattle.papaya_moments.specs.Whole.{ShowsWhole}
 use Rattle.papaya_histories.specs.Asking.{IsToldQuestion}
-use Rattle.papaya_moments.specs.Given.Scenes.Held.{Held, IsAt}
-use Rattle.papaya_moments.specs.Given.Scenes.Replying.{scene_with}
-use Rattle.papaya_moments.specs.Given.Scenes.Scene.{Scene, slot_of}
-use Rattle.papaya_moments.specs.Given.Scenes.Stepping.{StepLeads, scene_after}
+use Rattle.papaya_moments.specs.Given.ScenesHeld.{Held, IsAt}
+use Rattle.papaya_moments.specs.Given.ScenesReplying.{scene_with}
+use Rattle.papaya_moments.specs.Given.ScenesScene.{Scene, slot_of}
+use Rattle.papaya_moments.specs.Given.ScenesStepping.{StepLeads, scene_after}
 
 -- what a sweep is for that was called so
 abbrev pub purpose_of : {K V : Type 0} → Call K V → Option Purpose

@@ -1,24 +1,24 @@
 -- What a call on one key asks, in the words of a run: when it may, and that the machine says so.
 use Rattle.std.specs.Prelude.{◌≡◌, ℕ, Bool, List, [], Option, Some, None}
-use Rattle.papaya_moments.specs.Given.Tables.declared.node.Node.{Node}
-use Rattle.papaya_moments.specs.Given.Raw.declared.machines.progress.Progress.{Progress}
-use Rattle.papaya_moments.specs.Given.Raw.declared.machines.progress.Progress.TheVariants as progress
-use Rattle.papaya_moments.specs.Given.Schedules.declared.call.Call.TheVariants.{On}
-use Rattle.papaya_moments.specs.Given.Schedules.declared.call.OneKey.{OneKey}
-use Rattle.papaya_moments.specs.Given.Schedules.Linearizable.{MayAsk}
-use Rattle.papaya_moments.specs.Given.Schedules.Moment.{Asking, UnderWay as CallThere, Moment}
-use Rattle.papaya_moments.specs.Given.Schedules.Sequential.{key_of}
-use Rattle.papaya_moments.specs.Given.Schedules.Views.{call_of, finite_map}
-use Rattle.papaya_moments.specs.Given.Callers.Together.{CallOnKey, OnKey}
-use Rattle.papaya_moments.specs.Given.Effects.Known.{Known}
-use Rattle.papaya_moments.specs.Given.Hands.Asked.{AsksThere, ShowsAsked}
+use Rattle.papaya_moments.specs.Given.TablesDeclared.node.Node.{Node}
+use Rattle.papaya_moments.specs.Given.RawDeclared.machines.progress.Progress.{Progress}
+use Rattle.papaya_moments.specs.Given.RawDeclared.machines.progress.Progress.TheVariants as progress
+use Rattle.papaya_moments.specs.Given.SchedulesDeclared.call.Call.TheVariants.{On}
+use Rattle.papaya_moments.specs.Given.SchedulesDeclared.call.OneKey.{OneKey}
+use Rattle.papaya_moments.specs.Given.SchedulesLinearizable.{MayAsk}
+use Rattle.papaya_moments.specs.Given.SchedulesMoment.{Asking, UnderWay as CallThere, Moment}
+use Rattle.papaya_moments.specs.Given.SchedulesSequential.{key_of}
+use Rattle.papaya_moments.specs.Given.SchedulesViews.{call_of, finite_map}
+use Rattle.papaya_moments.specs.Given.CallersTogether.{CallOnKey, OnKey}
+use Rattle.papaya_moments.specs.Given.EffectsKnown.{Known}
+use Rattle.papaya_moments.specs.Given.HandsAsked.{AsksThere, ShowsAsked}
 use Rattle.papaya_histories.specs.Answers.{NamesPair}
 use Rattle.papaya_histories.specs.Due.{ShowsDue}
 use Rattle.papaya_histories.specs.Questions.{unanswered, ShowsQuestions}
-use Rattle.papaya_moments.specs.Given.Scenes.Held.{Held, IsAt}
-use Rattle.papaya_moments.specs.Given.Scenes.Scene.{Scene}
-use Rattle.papaya_moments.specs.Given.Scenes.Stepping.{StepLeads}
-use Rattle.papaya_moments.specs.Given.Schedules.Transition.{Past}
+use Rattle.papaya_moments.specs.Given.ScenesHeld.{Held, IsAt}
+use Rattle.papaya_moments.specs.Given.ScenesScene.{Scene}
+use Rattle.papaya_moments.specs.Given.ScenesStepping.{StepLeads}
+use Rattle.papaya_moments.specs.Given.SchedulesTransition.{Past}
 
 -- what the machine asks is told as this question: about the pair of its word, or about none
 abbrev pub IsToldQuestion : Known → Option ℕ → Option ℕ → Type 0

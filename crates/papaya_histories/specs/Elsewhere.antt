@@ -1,46 +1,46 @@
 -- What stays so where anything else happens than a step of a call: on a slot, to a map that is made or ends, or to a walk that goes on or is given up.
 use Rattle.std.specs.Prelude.{◌≡◌, ℕ, Bool, true, false, List, [], Option, Some, None}
-use Rattle.papaya_moments.specs.Given.Seize.World.{Begin, Step, with_at}
-use Rattle.papaya_moments.specs.Given.Seize.declared.rows.settle.Settled.{Settled}
-use Rattle.papaya_moments.specs.Given.Tables.declared.node.Node.{Node}
-use Rattle.papaya_moments.specs.Given.Tables.declared.setting.Setting.{Setting}
-use Rattle.papaya_moments.specs.Given.Runs.Same.{is_same}
-use Rattle.papaya_moments.specs.Given.Seize.declared.progress.Progress.{Progress}
-use Rattle.papaya_moments.specs.Given.Schedules.Beginning.{with_map}
-use Rattle.papaya_moments.specs.Given.Schedules.Effects.{with_effects, AtEachEffect}
-use Rattle.papaya_moments.specs.Given.Schedules.Moment.{MapThere, Remains, Moment}
-use Rattle.papaya_moments.specs.Given.Schedules.Views.{map_at, tables_of}
-use Rattle.papaya_moments.specs.Given.Sweeps.SweepPoints.{after_next}
-use Rattle.papaya_moments.specs.Given.Callers.OverAll.{CallOverAll, gone_on}
-use Rattle.papaya_moments.specs.Given.Callers.Together.{UnderWay, OverAll}
-use Rattle.papaya_moments.specs.Given.Effects.Effects.{effects_of, known_after}
-use Rattle.papaya_moments.specs.Given.Effects.Known.{Known}
-use Rattle.papaya_moments.specs.Given.Effects.declared.acting.Acting.TheVariants.{Row, Making, Ending}
-use Rattle.papaya_moments.specs.Given.Scenes.declared.row.RowTold.{RowTold}
-use Rattle.papaya_moments.specs.Given.Scenes.declared.row.SlotCall.{SlotCall}
-use Rattle.papaya_moments.specs.Given.Scenes.declared.row.SlotRow.{SlotRow}
-use Rattle.papaya_moments.specs.Given.Finishes.Endings.{Finishing}
-use Rattle.papaya_moments.specs.Given.Finishes.Makings.{Beginning}
-use Rattle.papaya_moments.specs.Given.Finishes.Maps.{Standing, with_call}
-use Rattle.papaya_moments.specs.Given.Follows.Calling.{NoneNamed}
-use Rattle.papaya_moments.specs.Given.Others.Elsewhere.{HasSame}
-use Rattle.papaya_moments.specs.Given.Others.Endings.{ending_after, without_map}
-use Rattle.papaya_moments.specs.Given.Others.Makings.{WasNew, making_after}
-use Rattle.papaya_moments.specs.Given.Others.Rows.{scene_then}
-use Rattle.papaya_moments.specs.Given.Others.Walks.{given_up}
+use Rattle.papaya_moments.specs.Given.SeizeWorld.{Begin, Step, with_at}
+use Rattle.papaya_moments.specs.Given.SeizeDeclared.rows.settle.Settled.{Settled}
+use Rattle.papaya_moments.specs.Given.TablesDeclared.node.Node.{Node}
+use Rattle.papaya_moments.specs.Given.TablesDeclared.setting.Setting.{Setting}
+use Rattle.papaya_moments.specs.Given.RunsSame.{is_same}
+use Rattle.papaya_moments.specs.Given.SeizeDeclared.progress.Progress.{Progress}
+use Rattle.papaya_moments.specs.Given.SchedulesBeginning.{with_map}
+use Rattle.papaya_moments.specs.Given.SchedulesEffects.{with_effects, AtEachEffect}
+use Rattle.papaya_moments.specs.Given.SchedulesMoment.{MapThere, Remains, Moment}
+use Rattle.papaya_moments.specs.Given.SchedulesViews.{map_at, tables_of}
+use Rattle.papaya_moments.specs.Given.SweepsSweepPoints.{after_next}
+use Rattle.papaya_moments.specs.Given.CallersOverAll.{CallOverAll, gone_on}
+use Rattle.papaya_moments.specs.Given.CallersTogether.{UnderWay, OverAll}
+use Rattle.papaya_moments.specs.Given.EffectsEffects.{effects_of, known_after}
+use Rattle.papaya_moments.specs.Given.EffectsKnown.{Known}
+use Rattle.papaya_moments.specs.Given.EffectsDeclared.acting.Acting.TheVariants.{Row, Making, Ending}
+use Rattle.papaya_moments.specs.Given.ScenesDeclared.row.RowTold.{RowTold}
+use Rattle.papaya_moments.specs.Given.ScenesDeclared.row.SlotCall.{SlotCall}
+use Rattle.papaya_moments.specs.Given.ScenesDeclared.row.SlotRow.{SlotRow}
+use Rattle.papaya_moments.specs.Given.FinishesEndings.{Finishing}
+use Rattle.papaya_moments.specs.Given.FinishesMakings.{Beginning}
+use Rattle.papaya_moments.specs.Given.FinishesMaps.{Standing, with_call}
+use Rattle.papaya_moments.specs.Given.FollowsCalling.{NoneNamed}
+use Rattle.papaya_moments.specs.Given.OthersElsewhere.{HasSame}
+use Rattle.papaya_moments.specs.Given.OthersEndings.{ending_after, without_map}
+use Rattle.papaya_moments.specs.Given.OthersMakings.{WasNew, making_after}
+use Rattle.papaya_moments.specs.Given.OthersRows.{scene_then}
+use Rattle.papaya_moments.specs.Given.OthersWalks.{given_up}
 use Rattle.papaya_moments.specs.Endings.{IsOfIts}
 use Rattle.papaya_moments.specs.OnSlots.{HadRetired}
 use Rattle.papaya_moments.specs.Whole.{ShowsWhole}
 use Rattle.papaya_histories.specs.AsCalled.{ShowsAsCalled}
 use Rattle.papaya_histories.specs.Due.{ShowsDue}
-use Rattle.papaya_moments.specs.Given.Scenes.Ending.{EndingLeads, ending_begun}
-use Rattle.papaya_moments.specs.Given.Scenes.Held.{Held, IsAt}
-use Rattle.papaya_moments.specs.Given.Scenes.Making.{MakingLeads}
-use Rattle.papaya_moments.specs.Given.Scenes.OnSlots.{RowBegins, RowLeads}
-use Rattle.papaya_moments.specs.Given.Scenes.Replying.{AskLeads, StopLeads, scene_with, unless_stopped}
-use Rattle.papaya_moments.specs.Given.Scenes.Rows.{request_of}
-use Rattle.papaya_moments.specs.Given.Scenes.Scene.{IsOnSlot, Scene, slot_of}
-use Rattle.papaya_moments.specs.Given.Schedules.Transition.{Past}
+use Rattle.papaya_moments.specs.Given.ScenesEnding.{EndingLeads, ending_begun}
+use Rattle.papaya_moments.specs.Given.ScenesHeld.{Held, IsAt}
+use Rattle.papaya_moments.specs.Given.ScenesMaking.{MakingLeads}
+use Rattle.papaya_moments.specs.Given.ScenesOnSlots.{RowBegins, RowLeads}
+use Rattle.papaya_moments.specs.Given.ScenesReplying.{AskLeads, StopLeads, scene_with, unless_stopped}
+use Rattle.papaya_moments.specs.Given.ScenesRows.{request_of}
+use Rattle.papaya_moments.specs.Given.ScenesScene.{IsOnSlot, Scene, slot_of}
+use Rattle.papaya_moments.specs.Given.SchedulesTransition.{Past}
 
 module _ {K V : Type 0} (same : K → K → Bool) (hash : ℕ → K → ℕ) (name : ℕ → List ℕ) (P : Moment K V → Known → Scene K V → Type 0) where
   -- from a moment that shows all of a scene, and at which it is so

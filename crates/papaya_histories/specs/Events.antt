@@ -1,31 +1,31 @@
 -- An event that is one step of a call on one key, and what it comes to.
 use Rattle.std.specs.Prelude.{◌≡◌, ℕ, Bool, List, Option, Some, ◌⊎◌}
-use Rattle.papaya_moments.specs.Given.Tables.declared.node.Node.{Node}
-use Rattle.papaya_moments.specs.Given.Raw.declared.machines.progress.Answer.TheVariants.{Key}
-use Rattle.papaya_moments.specs.Given.Raw.declared.machines.progress.Progress.{Progress}
-use Rattle.papaya_moments.specs.Given.Raw.declared.machines.progress.Progress.TheVariants as progress
-use Rattle.papaya_moments.specs.Given.Schedules.declared.call.Call.TheVariants.{On}
-use Rattle.papaya_moments.specs.Given.Schedules.declared.call.OneKey.{OneKey}
-use Rattle.papaya_moments.specs.Given.Schedules.declared.call.Reply.{Reply}
-use Rattle.papaya_moments.specs.Given.Schedules.declared.outcome.Outcome.{Outcome}
-use Rattle.papaya_moments.specs.Given.Schedules.declared.outcome.Outcome.TheVariants as outcome
-use Rattle.papaya_moments.specs.Given.Schedules.Moment.{UnderWay as CallThere, Moment}
-use Rattle.papaya_moments.specs.Given.Schedules.Views.{call_of}
-use Rattle.papaya_moments.specs.Given.Callers.Together.{CallOnKey, OnKey}
-use Rattle.papaya_moments.specs.Given.Effects.Effects.{effects_of, known_after}
-use Rattle.papaya_moments.specs.Given.Effects.Known.{Known}
-use Rattle.papaya_moments.specs.Given.Effects.declared.acting.Acting.TheVariants as acts
+use Rattle.papaya_moments.specs.Given.TablesDeclared.node.Node.{Node}
+use Rattle.papaya_moments.specs.Given.RawDeclared.machines.progress.Answer.TheVariants.{Key}
+use Rattle.papaya_moments.specs.Given.RawDeclared.machines.progress.Progress.{Progress}
+use Rattle.papaya_moments.specs.Given.RawDeclared.machines.progress.Progress.TheVariants as progress
+use Rattle.papaya_moments.specs.Given.SchedulesDeclared.call.Call.TheVariants.{On}
+use Rattle.papaya_moments.specs.Given.SchedulesDeclared.call.OneKey.{OneKey}
+use Rattle.papaya_moments.specs.Given.SchedulesDeclared.call.Reply.{Reply}
+use Rattle.papaya_moments.specs.Given.SchedulesDeclared.outcome.Outcome.{Outcome}
+use Rattle.papaya_moments.specs.Given.SchedulesDeclared.outcome.Outcome.TheVariants as outcome
+use Rattle.papaya_moments.specs.Given.SchedulesMoment.{UnderWay as CallThere, Moment}
+use Rattle.papaya_moments.specs.Given.SchedulesViews.{call_of}
+use Rattle.papaya_moments.specs.Given.CallersTogether.{CallOnKey, OnKey}
+use Rattle.papaya_moments.specs.Given.EffectsEffects.{effects_of, known_after}
+use Rattle.papaya_moments.specs.Given.EffectsKnown.{Known}
+use Rattle.papaya_moments.specs.Given.EffectsDeclared.acting.Acting.TheVariants as acts
 use Rattle.papaya_moments.specs.Whole.{ShowsWhole}
 use Rattle.papaya_histories.specs.Answers.{IsToldAs, IsToldDone}
 use Rattle.papaya_histories.specs.Asking.{IsToldQuestion}
 use Rattle.papaya_histories.specs.Due.{ShowsDue}
 use Rattle.papaya_histories.specs.Kept.{HasJustBegun}
 use Rattle.papaya_histories.specs.Questions.{ShowsQuestions}
-use Rattle.papaya_moments.specs.Given.Scenes.Held.{Held, IsAt}
-use Rattle.papaya_moments.specs.Given.Scenes.Scene.{Scene}
-use Rattle.papaya_moments.specs.Given.Scenes.Stepping.{StepLeads}
-use Rattle.papaya_moments.specs.Given.Schedules.Transition.{Past, Transition}
-use Rattle.papaya_moments.specs.Given.Schedules.Linearizable.{Linearizes}
+use Rattle.papaya_moments.specs.Given.ScenesHeld.{Held, IsAt}
+use Rattle.papaya_moments.specs.Given.ScenesScene.{Scene}
+use Rattle.papaya_moments.specs.Given.ScenesStepping.{StepLeads}
+use Rattle.papaya_moments.specs.Given.SchedulesTransition.{Past, Transition}
+use Rattle.papaya_moments.specs.Given.SchedulesLinearizable.{Linearizes}
 
 -- What such a step comes to: it goes on or waits, asks, is refused, or has answered; and what is asked or answered is told by numbers of pairs.
 abbrev pub ComesToIt : {K V : Type 0} → Known → OneKey K V → List (Option ℕ × Reply V) → Progress (Node K V) → Outcome V → Type 0

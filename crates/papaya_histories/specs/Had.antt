@@ -1,7 +1,7 @@
 -- What the class of a key had in a map at a moment of the map, by the numbers that pairs have in the run.
 use Rattle.std.specs.Prelude.{◌≡◌, ℕ, ◌<◌, Bool, true, Option, Some, None}
-use Rattle.papaya_moments.specs.Given.Callers.Since.{HadPair}
-use Rattle.papaya_moments.specs.Given.Finishes.Maps.{Standing}
+use Rattle.papaya_moments.specs.Given.CallersSince.{HadPair}
+use Rattle.papaya_moments.specs.Given.FinishesMaps.{Standing}
 
 module _ {K : Type 0} (same : K → K → Bool) (s : Standing K) (number : ℕ → ℕ) (time : ℕ) (k : K) where
   -- the class had this pair then

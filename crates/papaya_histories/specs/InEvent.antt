@@ -1,25 +1,25 @@
 -- An event of several steps of a call, whatever its kind, one after another: in its midst, and at its end.
 use Rattle.std.specs.Prelude.{◌≡◌, ℕ, Bool, List, [], ◌∷◌, ◌++◌, Option, Some}
-use Rattle.papaya_moments.specs.Given.Tables.declared.node.Node.{Node}
-use Rattle.papaya_moments.specs.Given.Runs.Present.{Present}
-use Rattle.papaya_moments.specs.Given.Raw.declared.machines.progress.Progress.{Progress}
-use Rattle.papaya_moments.specs.Given.Schedules.declared.call.Call.{Call}
-use Rattle.papaya_moments.specs.Given.Schedules.declared.call.Call.TheVariants.{On}
-use Rattle.papaya_moments.specs.Given.Schedules.declared.call.OneKey.{OneKey}
-use Rattle.papaya_moments.specs.Given.Schedules.declared.call.Reply.{Reply}
-use Rattle.papaya_moments.specs.Given.Schedules.declared.effect.Effect.{Effect}
-use Rattle.papaya_moments.specs.Given.Schedules.declared.outcome.Outcome.{Outcome}
-use Rattle.papaya_moments.specs.Given.Schedules.After.{moment}
-use Rattle.papaya_moments.specs.Given.Schedules.Beginning.{at_work}
-use Rattle.papaya_moments.specs.Given.Schedules.Effects.{with_effects}
-use Rattle.papaya_moments.specs.Given.Schedules.Entry.{Entry, ends_call, caller_of, acted_on}
-use Rattle.papaya_moments.specs.Given.Schedules.Moment.{Remains, Sheltered, UnderWay as CallThere, Moment}
-use Rattle.papaya_moments.specs.Given.Schedules.Views.{call_of}
-use Rattle.papaya_moments.specs.Given.Callers.Together.{UnderWay, OnKey}
-use Rattle.papaya_moments.specs.Given.Effects.Effects.{effects_of, known_after}
-use Rattle.papaya_moments.specs.Given.Effects.Known.{Known}
-use Rattle.papaya_moments.specs.Given.Effects.declared.acting.Acting.TheVariants as acts
-use Rattle.papaya_moments.specs.Given.Hands.Calling.{AsksJust}
+use Rattle.papaya_moments.specs.Given.TablesDeclared.node.Node.{Node}
+use Rattle.papaya_moments.specs.Given.RunsPresent.{Present}
+use Rattle.papaya_moments.specs.Given.RawDeclared.machines.progress.Progress.{Progress}
+use Rattle.papaya_moments.specs.Given.SchedulesDeclared.call.Call.{Call}
+use Rattle.papaya_moments.specs.Given.SchedulesDeclared.call.Call.TheVariants.{On}
+use Rattle.papaya_moments.specs.Given.SchedulesDeclared.call.OneKey.{OneKey}
+use Rattle.papaya_moments.specs.Given.SchedulesDeclared.call.Reply.{Reply}
+use Rattle.papaya_moments.specs.Given.SchedulesDeclared.effect.Effect.{Effect}
+use Rattle.papaya_moments.specs.Given.SchedulesDeclared.outcome.Outcome.{Outcome}
+use Rattle.papaya_moments.specs.Given.SchedulesAfter.{moment}
+use Rattle.papaya_moments.specs.Given.SchedulesBeginning.{at_work}
+use Rattle.papaya_moments.specs.Given.SchedulesEffects.{with_effects}
+use Rattle.papaya_moments.specs.Given.SchedulesEntry.{Entry, ends_call, caller_of, acted_on}
+use Rattle.papaya_moments.specs.Given.SchedulesMoment.{Remains, Sheltered, UnderWay as CallThere, Moment}
+use Rattle.papaya_moments.specs.Given.SchedulesViews.{call_of}
+use Rattle.papaya_moments.specs.Given.CallersTogether.{UnderWay, OnKey}
+use Rattle.papaya_moments.specs.Given.EffectsEffects.{effects_of, known_after}
+use Rattle.papaya_moments.specs.Given.EffectsKnown.{Known}
+use Rattle.papaya_moments.specs.Given.EffectsDeclared.acting.Acting.TheVariants as acts
+use Rattle.papaya_moments.specs.Given.HandsCalling.{AsksJust}
 use Rattle.papaya_moments.specs.Whole.{ShowsWhole}
 use Rattle.papaya_histories.specs.AsCalled.{ShowsAsCalled, AsksAsCalled}
 use Rattle.papaya_histories.specs.Due.{ShowsDue}
@@ -28,11 +28,11 @@ use Rattle.papaya_histories.specs.Kept.{HasJustBegun}
 use Rattle.papaya_histories.specs.OtherMidsts.{AsksAsSaid, InOtherMidst}
 use Rattle.papaya_histories.specs.Questions.{ShowsQuestions, AsksOnStill}
 use Rattle.papaya_histories.specs.Several.{InMidst}
-use Rattle.papaya_moments.specs.Given.Scenes.Held.{Held, IsAt}
-use Rattle.papaya_moments.specs.Given.Scenes.Scene.{Scene}
-use Rattle.papaya_moments.specs.Given.Scenes.Stepping.{StepLeads, has_ended, scene_after}
-use Rattle.papaya_moments.specs.Given.Schedules.Transition.{Past, Transition, past}
-use Rattle.papaya_moments.specs.Given.Schedules.Linearizable.{Linearizes}
+use Rattle.papaya_moments.specs.Given.ScenesHeld.{Held, IsAt}
+use Rattle.papaya_moments.specs.Given.ScenesScene.{Scene}
+use Rattle.papaya_moments.specs.Given.ScenesStepping.{StepLeads, has_ended, scene_after}
+use Rattle.papaya_moments.specs.Given.SchedulesTransition.{Past, Transition, past}
+use Rattle.papaya_moments.specs.Given.SchedulesLinearizable.{Linearizes}
 
 -- what such a step comes to, told by numbers of pairs: of a call on one key all, and of any other one what it asks
 abbrev pub ComesSo : {K V : Type 0} → Known → Call K V → List (Option ℕ × Reply V) → Progress (Node K V) → Outcome V → Type 0

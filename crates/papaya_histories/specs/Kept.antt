@@ -1,34 +1,34 @@
 -- Where a run goes on, the history of each map since a call began stays within the moments of the run since then.
 use Rattle.std.specs.Prelude.{◌≡◌, ℕ, Bool, true, List, [], ◌∷◌, Option, Some, Ok, ◌⊎◌, suc}
-use Rattle.papaya_moments.specs.Given.Tables.declared.node.Node.{Node}
-use Rattle.papaya_moments.specs.Given.Runs.Same.{is_same}
-use Rattle.papaya_moments.specs.Given.Raw.Machine.{machine_replied}
-use Rattle.papaya_moments.specs.Given.Raw.declared.machines.progress.Progress.{Progress}
-use Rattle.papaya_moments.specs.Given.Schedules.declared.call.Call.{Call}
-use Rattle.papaya_moments.specs.Given.Schedules.declared.call.Reply.{Reply}
-use Rattle.papaya_moments.specs.Given.Schedules.declared.outcome.Outcome.{Outcome}
-use Rattle.papaya_moments.specs.Given.Schedules.Beginning.{with_call}
-use Rattle.papaya_moments.specs.Given.Schedules.Effects.{with_effects}
-use Rattle.papaya_moments.specs.Given.Schedules.Entry.{ends_call}
-use Rattle.papaya_moments.specs.Given.Schedules.Moment.{Asking, UnderWay as CallThere, Moment, start}
-use Rattle.papaya_moments.specs.Given.Schedules.Views.{call_of, finite_map}
-use Rattle.papaya_moments.specs.Given.Callers.Together.{UnderWay}
-use Rattle.papaya_moments.specs.Given.Effects.Effects.{effects_of, known_after}
-use Rattle.papaya_moments.specs.Given.Effects.Known.{Known, nothing_known}
-use Rattle.papaya_moments.specs.Given.Effects.declared.acting.Acting.TheVariants as acts
-use Rattle.papaya_moments.specs.Given.Finishes.Machines.{machine_of, ToldOfKind}
-use Rattle.papaya_moments.specs.Given.Finishes.Maps.{Standing}
-use Rattle.papaya_moments.specs.Given.Follows.Calling.{NoneNamed, told, come_to}
-use Rattle.papaya_moments.specs.Given.Follows.Calls.{IsCalled}
-use Rattle.papaya_moments.specs.Given.Hands.Asked.{as_told}
-use Rattle.papaya_moments.specs.Given.Hands.Calling.{IsBegunFor, AsksJust}
+use Rattle.papaya_moments.specs.Given.TablesDeclared.node.Node.{Node}
+use Rattle.papaya_moments.specs.Given.RunsSame.{is_same}
+use Rattle.papaya_moments.specs.Given.RawMachine.{machine_replied}
+use Rattle.papaya_moments.specs.Given.RawDeclared.machines.progress.Progress.{Progress}
+use Rattle.papaya_moments.specs.Given.SchedulesDeclared.call.Call.{Call}
+use Rattle.papaya_moments.specs.Given.SchedulesDeclared.call.Reply.{Reply}
+use Rattle.papaya_moments.specs.Given.SchedulesDeclared.outcome.Outcome.{Outcome}
+use Rattle.papaya_moments.specs.Given.SchedulesBeginning.{with_call}
+use Rattle.papaya_moments.specs.Given.SchedulesEffects.{with_effects}
+use Rattle.papaya_moments.specs.Given.SchedulesEntry.{ends_call}
+use Rattle.papaya_moments.specs.Given.SchedulesMoment.{Asking, UnderWay as CallThere, Moment, start}
+use Rattle.papaya_moments.specs.Given.SchedulesViews.{call_of, finite_map}
+use Rattle.papaya_moments.specs.Given.CallersTogether.{UnderWay}
+use Rattle.papaya_moments.specs.Given.EffectsEffects.{effects_of, known_after}
+use Rattle.papaya_moments.specs.Given.EffectsKnown.{Known, nothing_known}
+use Rattle.papaya_moments.specs.Given.EffectsDeclared.acting.Acting.TheVariants as acts
+use Rattle.papaya_moments.specs.Given.FinishesMachines.{machine_of, ToldOfKind}
+use Rattle.papaya_moments.specs.Given.FinishesMaps.{Standing}
+use Rattle.papaya_moments.specs.Given.FollowsCalling.{NoneNamed, told, come_to}
+use Rattle.papaya_moments.specs.Given.FollowsCalls.{IsCalled}
+use Rattle.papaya_moments.specs.Given.HandsAsked.{as_told}
+use Rattle.papaya_moments.specs.Given.HandsCalling.{IsBegunFor, AsksJust}
 use Rattle.papaya_moments.specs.Whole.{ShowsWhole}
 use Rattle.papaya_histories.specs.Histories.{began_of, ShowsHistory, StaysWithin}
-use Rattle.papaya_moments.specs.Given.Scenes.Held.{Held, IsAt}
-use Rattle.papaya_moments.specs.Given.Scenes.Replying.{scene_with}
-use Rattle.papaya_moments.specs.Given.Scenes.Scene.{Scene, at_first, slot_of}
-use Rattle.papaya_moments.specs.Given.Scenes.Stepping.{StepLeads, scene_after}
-use Rattle.papaya_moments.specs.Given.Schedules.Transition.{Past, further, past}
+use Rattle.papaya_moments.specs.Given.ScenesHeld.{Held, IsAt}
+use Rattle.papaya_moments.specs.Given.ScenesReplying.{scene_with}
+use Rattle.papaya_moments.specs.Given.ScenesScene.{Scene, at_first, slot_of}
+use Rattle.papaya_moments.specs.Given.ScenesStepping.{StepLeads, scene_after}
+use Rattle.papaya_moments.specs.Given.SchedulesTransition.{Past, further, past}
 
 module _ {K V : Type 0} (log : Past K V) (m : Moment K V) where
   -- no pair has come or gone since the last event of the log

@@ -1,25 +1,25 @@
 -- An event of several steps of a reservation, a counting, a clearing, a retaining or a walk, one after another: in its midst, and at its end.
 use Rattle.std.specs.Prelude.{◌≡◌, ℕ, Bool, List, [], ◌++◌, flat_map, Some, None, ◌⊎◌}
-use Rattle.papaya_moments.specs.Given.Seize.World.{Rests}
-use Rattle.papaya_moments.specs.Given.Tables.declared.node.Node.{Node}
-use Rattle.papaya_moments.specs.Given.Raw.declared.machines.progress.Progress.{Progress}
-use Rattle.papaya_moments.specs.Given.Raw.declared.machines.progress.Progress.TheVariants as progress
-use Rattle.papaya_moments.specs.Given.Schedules.declared.call.Call.{Call}
-use Rattle.papaya_moments.specs.Given.Schedules.declared.effect.Effect.{Effect}
-use Rattle.papaya_moments.specs.Given.Schedules.declared.outcome.Outcome.{Outcome}
-use Rattle.papaya_moments.specs.Given.Schedules.declared.outcome.Outcome.TheVariants as outcome
-use Rattle.papaya_moments.specs.Given.Schedules.Beginning.{fresh_call, with_call}
-use Rattle.papaya_moments.specs.Given.Schedules.Effects.{with_effects}
-use Rattle.papaya_moments.specs.Given.Schedules.Linearizable.{shift_of, RemovesOnly, Linearizes}
-use Rattle.papaya_moments.specs.Given.Schedules.Moment.{UnderWay as CallThere, Moment}
-use Rattle.papaya_moments.specs.Given.Schedules.Views.{call_of, finite_map}
-use Rattle.papaya_moments.specs.Given.Callers.Together.{UnderWay}
-use Rattle.papaya_moments.specs.Given.Effects.Effects.{effects_of, known_after}
-use Rattle.papaya_moments.specs.Given.Effects.Known.{Known}
-use Rattle.papaya_moments.specs.Given.Effects.declared.acting.Acting.TheVariants as acts
-use Rattle.papaya_moments.specs.Given.Finishes.Maps.{Standing}
-use Rattle.papaya_moments.specs.Given.Follows.Calling.{NoneNamed}
-use Rattle.papaya_moments.specs.Given.Follows.Calls.{IsCalled}
+use Rattle.papaya_moments.specs.Given.SeizeWorld.{Rests}
+use Rattle.papaya_moments.specs.Given.TablesDeclared.node.Node.{Node}
+use Rattle.papaya_moments.specs.Given.RawDeclared.machines.progress.Progress.{Progress}
+use Rattle.papaya_moments.specs.Given.RawDeclared.machines.progress.Progress.TheVariants as progress
+use Rattle.papaya_moments.specs.Given.SchedulesDeclared.call.Call.{Call}
+use Rattle.papaya_moments.specs.Given.SchedulesDeclared.effect.Effect.{Effect}
+use Rattle.papaya_moments.specs.Given.SchedulesDeclared.outcome.Outcome.{Outcome}
+use Rattle.papaya_moments.specs.Given.SchedulesDeclared.outcome.Outcome.TheVariants as outcome
+use Rattle.papaya_moments.specs.Given.SchedulesBeginning.{fresh_call, with_call}
+use Rattle.papaya_moments.specs.Given.SchedulesEffects.{with_effects}
+use Rattle.papaya_moments.specs.Given.SchedulesLinearizable.{shift_of, RemovesOnly, Linearizes}
+use Rattle.papaya_moments.specs.Given.SchedulesMoment.{UnderWay as CallThere, Moment}
+use Rattle.papaya_moments.specs.Given.SchedulesViews.{call_of, finite_map}
+use Rattle.papaya_moments.specs.Given.CallersTogether.{UnderWay}
+use Rattle.papaya_moments.specs.Given.EffectsEffects.{effects_of, known_after}
+use Rattle.papaya_moments.specs.Given.EffectsKnown.{Known}
+use Rattle.papaya_moments.specs.Given.EffectsDeclared.acting.Acting.TheVariants as acts
+use Rattle.papaya_moments.specs.Given.FinishesMaps.{Standing}
+use Rattle.papaya_moments.specs.Given.FollowsCalling.{NoneNamed}
+use Rattle.papaya_moments.specs.Given.FollowsCalls.{IsCalled}
 use Rattle.papaya_moments.specs.Whole.{ShowsWhole}
 use Rattle.papaya_histories.specs.AsCalled.{ShowsAsCalled, IsBegunAs}
 use Rattle.papaya_histories.specs.Asking.{IsToldQuestion}
@@ -28,11 +28,11 @@ use Rattle.papaya_histories.specs.Histories.{began_of}
 use Rattle.papaya_histories.specs.Kept.{HasJustBegun}
 use Rattle.papaya_histories.specs.OtherCalls.{IsOnNoKey}
 use Rattle.papaya_histories.specs.Several.{IsSameCall}
-use Rattle.papaya_moments.specs.Given.Scenes.Held.{Held, IsAt}
-use Rattle.papaya_moments.specs.Given.Scenes.Replying.{scene_with}
-use Rattle.papaya_moments.specs.Given.Scenes.Scene.{Scene}
-use Rattle.papaya_moments.specs.Given.Scenes.Stepping.{StepLeads, scene_after}
-use Rattle.papaya_moments.specs.Given.Schedules.Transition.{Past, Transition}
+use Rattle.papaya_moments.specs.Given.ScenesHeld.{Held, IsAt}
+use Rattle.papaya_moments.specs.Given.ScenesReplying.{scene_with}
+use Rattle.papaya_moments.specs.Given.ScenesScene.{Scene}
+use Rattle.papaya_moments.specs.Given.ScenesStepping.{StepLeads, scene_after}
+use Rattle.papaya_moments.specs.Given.SchedulesTransition.{Past, Transition}
 use Rattle.papaya_histories.specs.Questions.{AsksOnStill}
 
 -- What a step says that its call asks the event asks, by the number of the pair; and it asks nothing else.

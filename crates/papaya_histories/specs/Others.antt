@@ -1,24 +1,24 @@
 -- Where a row on a slot begins, and takes its steps, the histories of maps stay within the moments of the run, and calls owe what they owed.
 use Rattle.std.specs.Prelude.{◌≡◌, ℕ, Bool, List, None}
-use Rattle.papaya_moments.specs.Given.Seize.World.{Begin, Step}
-use Rattle.papaya_moments.specs.Given.Tables.declared.node.Node.{Node}
-use Rattle.papaya_moments.specs.Given.Schedules.Effects.{with_effects, AtEachEffect}
-use Rattle.papaya_moments.specs.Given.Schedules.Moment.{Moment}
-use Rattle.papaya_moments.specs.Given.Effects.Effects.{effects_of, known_after}
-use Rattle.papaya_moments.specs.Given.Effects.Known.{Known}
-use Rattle.papaya_moments.specs.Given.Effects.declared.acting.Acting.TheVariants.{Row}
-use Rattle.papaya_moments.specs.Given.Scenes.declared.row.RowTold.{RowTold}
-use Rattle.papaya_moments.specs.Given.Scenes.declared.row.SlotCall.{SlotCall}
-use Rattle.papaya_moments.specs.Given.Scenes.declared.row.SlotRow.{SlotRow}
-use Rattle.papaya_moments.specs.Given.Others.Gone.{WasRetired}
-use Rattle.papaya_moments.specs.Given.Others.Rows.{scene_then}
+use Rattle.papaya_moments.specs.Given.SeizeWorld.{Begin, Step}
+use Rattle.papaya_moments.specs.Given.TablesDeclared.node.Node.{Node}
+use Rattle.papaya_moments.specs.Given.SchedulesEffects.{with_effects, AtEachEffect}
+use Rattle.papaya_moments.specs.Given.SchedulesMoment.{Moment}
+use Rattle.papaya_moments.specs.Given.EffectsEffects.{effects_of, known_after}
+use Rattle.papaya_moments.specs.Given.EffectsKnown.{Known}
+use Rattle.papaya_moments.specs.Given.EffectsDeclared.acting.Acting.TheVariants.{Row}
+use Rattle.papaya_moments.specs.Given.ScenesDeclared.row.RowTold.{RowTold}
+use Rattle.papaya_moments.specs.Given.ScenesDeclared.row.SlotCall.{SlotCall}
+use Rattle.papaya_moments.specs.Given.ScenesDeclared.row.SlotRow.{SlotRow}
+use Rattle.papaya_moments.specs.Given.OthersGone.{WasRetired}
+use Rattle.papaya_moments.specs.Given.OthersRows.{scene_then}
 use Rattle.papaya_histories.specs.Due.{ShowsDue}
 use Rattle.papaya_histories.specs.Histories.{ShowsHistory}
-use Rattle.papaya_moments.specs.Given.Scenes.Held.{Held, IsAt}
-use Rattle.papaya_moments.specs.Given.Scenes.OnSlots.{RowBegins, RowLeads}
-use Rattle.papaya_moments.specs.Given.Scenes.Rows.{request_of}
-use Rattle.papaya_moments.specs.Given.Scenes.Scene.{IsOnSlot, Scene, slot_of}
-use Rattle.papaya_moments.specs.Given.Schedules.Transition.{Past}
+use Rattle.papaya_moments.specs.Given.ScenesHeld.{Held, IsAt}
+use Rattle.papaya_moments.specs.Given.ScenesOnSlots.{RowBegins, RowLeads}
+use Rattle.papaya_moments.specs.Given.ScenesRows.{request_of}
+use Rattle.papaya_moments.specs.Given.ScenesScene.{IsOnSlot, Scene, slot_of}
+use Rattle.papaya_moments.specs.Given.SchedulesTransition.{Past}
 
 module _ (K V : Type 0) (same : K → K → Bool) (hash : ℕ → K → ℕ) where
   -- The promises: so it is where a row begins on a slot,

@@ -1,18 +1,18 @@
 -- What calls have asked: just what they got replies to, and what they ask now.
 use Rattle.std.specs.Prelude.{◌≡◌, ℕ, List, [], ◌∷◌, ◌++◌, map, Option, Some}
-use Rattle.papaya_moments.specs.Given.Schedules.declared.call.Call.{Call}
-use Rattle.papaya_moments.specs.Given.Schedules.declared.call.Reply.{Reply}
-use Rattle.papaya_moments.specs.Given.Schedules.declared.effect.Effect.{Effect}
-use Rattle.papaya_moments.specs.Given.Schedules.declared.outcome.Outcome.{Outcome}
-use Rattle.papaya_moments.specs.Given.Schedules.declared.outcome.Outcome.TheVariants.{Goes, Waits, Ready}
-use Rattle.papaya_moments.specs.Given.Schedules.After.{moment, AtEachEvent}
-use Rattle.papaya_moments.specs.Given.Schedules.Beginning.{with_call}
-use Rattle.papaya_moments.specs.Given.Schedules.Effects.{with_effects}
-use Rattle.papaya_moments.specs.Given.Schedules.Entry.{Entry, IfCall}
-use Rattle.papaya_moments.specs.Given.Schedules.Moment.{Stands, Asking, UnderWay as CallThere, Moment, start}
-use Rattle.papaya_moments.specs.Given.Schedules.Views.{call_of}
-use Rattle.papaya_moments.specs.Given.Follows.Calling.{told, come_to}
-use Rattle.papaya_moments.specs.Given.Schedules.Transition.{Transition, call_left, transition}
+use Rattle.papaya_moments.specs.Given.SchedulesDeclared.call.Call.{Call}
+use Rattle.papaya_moments.specs.Given.SchedulesDeclared.call.Reply.{Reply}
+use Rattle.papaya_moments.specs.Given.SchedulesDeclared.effect.Effect.{Effect}
+use Rattle.papaya_moments.specs.Given.SchedulesDeclared.outcome.Outcome.{Outcome}
+use Rattle.papaya_moments.specs.Given.SchedulesDeclared.outcome.Outcome.TheVariants.{Goes, Waits, Ready}
+use Rattle.papaya_moments.specs.Given.SchedulesAfter.{moment, AtEachEvent}
+use Rattle.papaya_moments.specs.Given.SchedulesBeginning.{with_call}
+use Rattle.papaya_moments.specs.Given.SchedulesEffects.{with_effects}
+use Rattle.papaya_moments.specs.Given.SchedulesEntry.{Entry, IfCall}
+use Rattle.papaya_moments.specs.Given.SchedulesMoment.{Stands, Asking, UnderWay as CallThere, Moment, start}
+use Rattle.papaya_moments.specs.Given.SchedulesViews.{call_of}
+use Rattle.papaya_moments.specs.Given.FollowsCalling.{told, come_to}
+use Rattle.papaya_moments.specs.Given.SchedulesTransition.{Transition, call_left, transition}
 
 -- the question that has no reply yet, if there is one
 abbrev pub unanswered : Stands → List (Option ℕ)

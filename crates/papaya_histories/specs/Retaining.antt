@@ -1,18 +1,18 @@
 -- What a retaining asks about: a pair that the map has at a moment of the call.
 use Rattle.std.specs.Prelude.{◌≡◌, ℕ, Bool, List, Some, None, ◌⊎◌}
-use Rattle.papaya_moments.specs.Given.Sweeps.declared.sweep.Sweeping.TheVariants as at
-use Rattle.papaya_moments.specs.Given.Schedules.declared.call.Call.TheVariants.{Retain}
-use Rattle.papaya_moments.specs.Given.Schedules.Linearizable.{MayAsk}
-use Rattle.papaya_moments.specs.Given.Schedules.Moment.{UnderWay as CallThere, Moment}
-use Rattle.papaya_moments.specs.Given.Schedules.Views.{call_of, finite_map}
-use Rattle.papaya_moments.specs.Given.Callers.OverAll.{CallOverAll}
-use Rattle.papaya_moments.specs.Given.Callers.Together.{OverAll}
-use Rattle.papaya_moments.specs.Given.Effects.Known.{Known}
+use Rattle.papaya_moments.specs.Given.SweepsDeclared.sweep.Sweeping.TheVariants as at
+use Rattle.papaya_moments.specs.Given.SchedulesDeclared.call.Call.TheVariants.{Retain}
+use Rattle.papaya_moments.specs.Given.SchedulesLinearizable.{MayAsk}
+use Rattle.papaya_moments.specs.Given.SchedulesMoment.{UnderWay as CallThere, Moment}
+use Rattle.papaya_moments.specs.Given.SchedulesViews.{call_of, finite_map}
+use Rattle.papaya_moments.specs.Given.CallersOverAll.{CallOverAll}
+use Rattle.papaya_moments.specs.Given.CallersTogether.{OverAll}
+use Rattle.papaya_moments.specs.Given.EffectsKnown.{Known}
 use Rattle.papaya_histories.specs.Answers.{NamesPair}
 use Rattle.papaya_histories.specs.Histories.{ShowsHistory}
-use Rattle.papaya_moments.specs.Given.Scenes.Held.{Held, IsAt}
-use Rattle.papaya_moments.specs.Given.Scenes.Scene.{Scene}
-use Rattle.papaya_moments.specs.Given.Schedules.Transition.{Past}
+use Rattle.papaya_moments.specs.Given.ScenesHeld.{Held, IsAt}
+use Rattle.papaya_moments.specs.Given.ScenesScene.{Scene}
+use Rattle.papaya_moments.specs.Given.SchedulesTransition.{Past}
 
 module _ (K V : Type 0) (same : K → K → Bool) (hash : ℕ → K → ℕ) where
   -- The promise: about the pair of the word at which it stands to ask, a retaining may ask; where each class has what it had at the end of the last event, or nothing any

@@ -2,25 +2,25 @@
 use Rattle.std.specs.Prelude.{◌≡◌, ℕ, ◌⊎◌, Bool, List, [], ◌∷◌, Option, Some, None, Result, Ok, Err}
 use Rattle.std.proofs.Common.{sym, ◌∙◌, inl, inr}
 use denote.Ref.{Bor}
-use Rattle.papaya_sifts.specs.Given.SeizeWords.Mem.{Mem, value_at}
-use Rattle.papaya_sifts.specs.Given.SeizeWords.Word.{block_in}
-use Rattle.papaya_sifts.specs.Given.SeizeWords.declared.fault.Fault.{Fault}
-use Rattle.papaya_sifts.specs.Given.Tables.declared.node.Node.{Node}
-use Rattle.papaya_sifts.specs.Given.Tables.declared.node.Node.TheVariants as node
-use Rattle.papaya_sifts.specs.Given.Tables.declared.setting.Setting.{Setting}
-use Rattle.papaya_sifts.specs.Given.Sweeps.declared.sweep.Purpose.{Purpose}
-use Rattle.papaya_sifts.specs.Given.Resize.NewMap.{new_map_plan}
-use Rattle.papaya_sifts.specs.Given.Raw.declared.machines.answer.KeyAnswer.{KeyAnswer}
-use Rattle.papaya_sifts.specs.Given.Raw.declared.machines.answer.KeyAnswer.TheVariants as answers
-use Rattle.papaya_sifts.specs.Given.Callers.Pairs.{Given}
-use Rattle.papaya_sifts.specs.Given.Owned.Calling.{HasStopped}
-use Rattle.papaya_sifts.specs.Given.Owned.Ending.{HasCome, HasEnded}
-use Rattle.papaya_sifts.specs.Given.Owned.Machines.{for_room_plan}
-use Rattle.papaya_sifts.specs.Given.Owned.Owned.{Holds}
-use Rattle.papaya_sifts.specs.Given.Owned.Standing.{Standing}
-use Rattle.papaya_sifts.specs.Given.Owned.declared.machines.ForRoom.{ForRoom}
-use Rattle.papaya_sifts.specs.Given.Owned.declared.machines.Stop.TheVariants as stop
-use Rattle.papaya_sifts.proofs.Given.Owned.Owned.Standing.{pairs_stand}
+use Rattle.papaya_sifts.specs.Given.SeizeWordsMem.{Mem, value_at}
+use Rattle.papaya_sifts.specs.Given.SeizeWordsWord.{block_in}
+use Rattle.papaya_sifts.specs.Given.SeizeWordsDeclared.fault.Fault.{Fault}
+use Rattle.papaya_sifts.specs.Given.TablesDeclared.node.Node.{Node}
+use Rattle.papaya_sifts.specs.Given.TablesDeclared.node.Node.TheVariants as node
+use Rattle.papaya_sifts.specs.Given.TablesDeclared.setting.Setting.{Setting}
+use Rattle.papaya_sifts.specs.Given.SweepsDeclared.sweep.Purpose.{Purpose}
+use Rattle.papaya_sifts.specs.Given.ResizeNewMap.{new_map_plan}
+use Rattle.papaya_sifts.specs.Given.RawDeclared.machines.answer.KeyAnswer.{KeyAnswer}
+use Rattle.papaya_sifts.specs.Given.RawDeclared.machines.answer.KeyAnswer.TheVariants as answers
+use Rattle.papaya_sifts.specs.Given.CallersPairs.{Given}
+use Rattle.papaya_sifts.specs.Given.OwnedCalling.{HasStopped}
+use Rattle.papaya_sifts.specs.Given.OwnedEnding.{HasCome, HasEnded}
+use Rattle.papaya_sifts.specs.Given.OwnedMachines.{for_room_plan}
+use Rattle.papaya_sifts.specs.Given.OwnedOwned.{Holds}
+use Rattle.papaya_sifts.specs.Given.OwnedStanding.{Standing}
+use Rattle.papaya_sifts.specs.Given.OwnedDeclared.machines.ForRoom.{ForRoom}
+use Rattle.papaya_sifts.specs.Given.OwnedDeclared.machines.Stop.TheVariants as stop
+use Rattle.papaya_sifts.proofs.Given.OwnedOwned.Standing.{pairs_stand}
 use Rattle.papaya_sifts.specs.Sweeping.{HasSwept}
 use Rattle.papaya_holds.specs.Came.{StandsAt, NoneCame, NoneCameBut, CameBy, stored_by}
 use Rattle.papaya_holds.specs.Held.{HoldsOn, held_in, pair_at_word}

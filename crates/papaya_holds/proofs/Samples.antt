@@ -2,12 +2,12 @@
 use Rattle.std.specs.Prelude.{◌≡◌, ℕ, ◌<◌, ◌==◌, if◌then◌else◌, [], ◌∷◌, ◌++◌, None, Some}
 use Rattle.std.proofs.Common.{Bool, true, false, refl, arith, ◌∙◌, sym, inl, inr}
 use Rattle.std.proofs.lemmas.List.Sorted.{length_permutation}
-use Rattle.papaya_sifts.specs.Given.SeizeWords.Mem.{Mem, fresh, value_at, value_in}
-use Rattle.papaya_sifts.specs.Given.Seize.World.{times}
-use Rattle.papaya_sifts.specs.Given.Seize.declared.rows.settle.Settled.TheVariants as settled
-use Rattle.papaya_sifts.specs.Given.Tables.declared.node.Node.{Node}
-use Rattle.papaya_sifts.specs.Given.Tables.declared.node.Node.TheVariants as node
-use Rattle.papaya_sifts.proofs.Given.Finishes.Ends.CountedBlocks.{some_of_first}
+use Rattle.papaya_sifts.specs.Given.SeizeWordsMem.{Mem, fresh, value_at, value_in}
+use Rattle.papaya_sifts.specs.Given.SeizeWorld.{times}
+use Rattle.papaya_sifts.specs.Given.SeizeDeclared.rows.settle.Settled.TheVariants as settled
+use Rattle.papaya_sifts.specs.Given.TablesDeclared.node.Node.{Node}
+use Rattle.papaya_sifts.specs.Given.TablesDeclared.node.Node.TheVariants as node
+use Rattle.papaya_sifts.proofs.Given.FinishesEnds.CountedBlocks.{some_of_first}
 use Rattle.papaya_holds.specs.Balances.{HasJust, Balances}
 use Rattle.papaya_holds.specs.Came.{NoneCame, HandsOut, StayInPlace}
 use Rattle.papaya_holds.specs.Held.{HoldsOn, held_in}

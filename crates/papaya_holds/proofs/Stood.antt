@@ -1,18 +1,18 @@
 -- What could be looked at as the map rested stands still in its block: then so do all pairs of the map, each in a block of its own.
 use Rattle.std.specs.Prelude.{◌≡◌, ◌≢◌, ℕ, ◌<◌, Bool, true, List, Some, Result}
 use Rattle.std.proofs.Common.{refl, sym, ap}
-use Rattle.papaya_sifts.specs.Given.SeizeWords.Mem.{Mem, value_at}
-use Rattle.papaya_sifts.specs.Given.SeizeWords.Word.{block_in}
-use Rattle.papaya_sifts.specs.Given.SeizeWords.declared.fault.Fault.{Fault}
-use Rattle.papaya_sifts.specs.Given.Tables.declared.node.Node.{Node}
-use Rattle.papaya_sifts.specs.Given.Tables.declared.setting.Setting.{Setting}
-use Rattle.papaya_sifts.proofs.Given.Rule.World.Hands.{current_known}
-use Rattle.papaya_sifts.specs.Given.Rule.InWorld.{IsMapIn}
-use Rattle.papaya_sifts.proofs.Given.Whole.Contents.Below.{below_stays}
-use Rattle.papaya_sifts.proofs.Given.Owned.Owned.Standing.{blocks_below, none_there, standing_below}
-use Rattle.papaya_sifts.specs.Given.Owned.Owned.{Holds}
-use Rattle.papaya_sifts.specs.Given.Owned.Standing.{Standing}
-use Rattle.papaya_sifts.specs.Given.Owned.declared.machines.Stop.{Stop}
+use Rattle.papaya_sifts.specs.Given.SeizeWordsMem.{Mem, value_at}
+use Rattle.papaya_sifts.specs.Given.SeizeWordsWord.{block_in}
+use Rattle.papaya_sifts.specs.Given.SeizeWordsDeclared.fault.Fault.{Fault}
+use Rattle.papaya_sifts.specs.Given.TablesDeclared.node.Node.{Node}
+use Rattle.papaya_sifts.specs.Given.TablesDeclared.setting.Setting.{Setting}
+use Rattle.papaya_sifts.proofs.Given.RuleWorld.Hands.{current_known}
+use Rattle.papaya_sifts.specs.Given.RuleInWorld.{IsMapIn}
+use Rattle.papaya_sifts.proofs.Given.WholeContents.Below.{below_stays}
+use Rattle.papaya_sifts.proofs.Given.OwnedOwned.Standing.{blocks_below, none_there, standing_below}
+use Rattle.papaya_sifts.specs.Given.OwnedOwned.{Holds}
+use Rattle.papaya_sifts.specs.Given.OwnedStanding.{Standing}
+use Rattle.papaya_sifts.specs.Given.OwnedDeclared.machines.Stop.{Stop}
 use Rattle.papaya_holds.specs.Came.{StayBeside, StayInPlace, stored_at}
 
 module _ {K V : Type 0} (same : K → K → Bool) (hash : K → ℕ) (setting : Setting) (m0 : Mem (Node K V)) (xs : List (K × V)) (h : Holds same hash setting m0 xs) where

@@ -1,17 +1,17 @@
 -- Calls on one key of one owner's map, from question to question: what came to its memory by them, and what stood there.
 use Rattle.std.specs.Prelude.{ℕ, Bool, List, Result}
 use denote.Ref.{Bor}
-use Rattle.papaya_sifts.specs.Given.SeizeWords.Mem.{Mem}
-use Rattle.papaya_sifts.specs.Given.SeizeWords.declared.fault.Fault.{Fault}
-use Rattle.papaya_sifts.specs.Given.Tables.declared.node.Node.{Node}
-use Rattle.papaya_sifts.specs.Given.Tables.declared.setting.Setting.{Setting}
-use Rattle.papaya_sifts.specs.Given.Callers.Pairs.{Given}
-use Rattle.papaya_sifts.specs.Given.Owned.Calling.{IsCalling}
-use Rattle.papaya_sifts.specs.Given.Owned.Ending.{RunsTo}
-use Rattle.papaya_sifts.specs.Given.Owned.Machines.{on_key_plan}
-use Rattle.papaya_sifts.specs.Given.Owned.Owned.{Holds}
-use Rattle.papaya_sifts.specs.Given.Owned.declared.machines.OnKey.{OnKey}
-use Rattle.papaya_sifts.specs.Given.Owned.declared.machines.Stop.{Stop}
+use Rattle.papaya_sifts.specs.Given.SeizeWordsMem.{Mem}
+use Rattle.papaya_sifts.specs.Given.SeizeWordsDeclared.fault.Fault.{Fault}
+use Rattle.papaya_sifts.specs.Given.TablesDeclared.node.Node.{Node}
+use Rattle.papaya_sifts.specs.Given.TablesDeclared.setting.Setting.{Setting}
+use Rattle.papaya_sifts.specs.Given.CallersPairs.{Given}
+use Rattle.papaya_sifts.specs.Given.OwnedCalling.{IsCalling}
+use Rattle.papaya_sifts.specs.Given.OwnedEnding.{RunsTo}
+use Rattle.papaya_sifts.specs.Given.OwnedMachines.{on_key_plan}
+use Rattle.papaya_sifts.specs.Given.OwnedOwned.{Holds}
+use Rattle.papaya_sifts.specs.Given.OwnedDeclared.machines.OnKey.{OnKey}
+use Rattle.papaya_sifts.specs.Given.OwnedDeclared.machines.Stop.{Stop}
 use Rattle.papaya_holds.specs.Came.{ComesWith, StayBeside}
 
 -- Wherever it stops next, no pair has come but what it tells as stored, and each pair that the map had as it began stands still in the block in which it stood

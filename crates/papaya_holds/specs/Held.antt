@@ -1,10 +1,10 @@
 -- The pairs that a memory has, as a list, and which of them a change of a map keeps.
 use Rattle.std.specs.Prelude.{ℕ, List, [], ◌∷◌, ◌++◌, Option, Some, None, IsPermutation}
-use Rattle.papaya_sifts.specs.Given.SeizeWords.Mem.{Mem, value_at, value_in}
-use Rattle.papaya_sifts.specs.Given.SeizeWords.Word.{block_in}
-use Rattle.papaya_sifts.specs.Given.SeizeWords.declared.block.Block.{Block}
-use Rattle.papaya_sifts.specs.Given.Tables.declared.node.Node.{Node}
-use Rattle.papaya_sifts.specs.Given.Tables.declared.node.Node.TheVariants as node
+use Rattle.papaya_sifts.specs.Given.SeizeWordsMem.{Mem, value_at, value_in}
+use Rattle.papaya_sifts.specs.Given.SeizeWordsWord.{block_in}
+use Rattle.papaya_sifts.specs.Given.SeizeWordsDeclared.block.Block.{Block}
+use Rattle.papaya_sifts.specs.Given.TablesDeclared.node.Node.{Node}
+use Rattle.papaya_sifts.specs.Given.TablesDeclared.node.Node.TheVariants as node
 
 module _ {K V : Type 0} where
   -- the pair that a block has, if it has one, before others

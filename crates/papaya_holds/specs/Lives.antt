@@ -1,10 +1,10 @@
 -- The life of a map for one owner, by its memory: since there was no pair in it, runs that put none there have changed it, and calls that stored a pair.
 use Rattle.std.specs.Prelude.{ℕ, Bool, List, [], ◌++◌}
-use Rattle.papaya_sifts.specs.Given.SeizeWords.Mem.{Mem}
-use Rattle.papaya_sifts.specs.Given.Tables.declared.node.Node.{Node}
-use Rattle.papaya_sifts.specs.Given.Tables.declared.setting.Setting.{Setting}
-use Rattle.papaya_sifts.specs.Given.Raw.declared.machines.answer.KeyAnswer.{KeyAnswer}
-use Rattle.papaya_sifts.specs.Given.Owned.Owned.{Holds}
+use Rattle.papaya_sifts.specs.Given.SeizeWordsMem.{Mem}
+use Rattle.papaya_sifts.specs.Given.TablesDeclared.node.Node.{Node}
+use Rattle.papaya_sifts.specs.Given.TablesDeclared.setting.Setting.{Setting}
+use Rattle.papaya_sifts.specs.Given.RawDeclared.machines.answer.KeyAnswer.{KeyAnswer}
+use Rattle.papaya_sifts.specs.Given.OwnedOwned.{Holds}
 use Rattle.papaya_holds.specs.Balances.{Balances, HasStored}
 use Rattle.papaya_holds.specs.Came.{StandsAt, NoneCame, CameBy}
 

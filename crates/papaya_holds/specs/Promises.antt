@@ -1,32 +1,32 @@
 -- What is promised of the memory of a map for one owner: what runs puts no pair there but the one that it stores, and what leaves the map waits there, or was given back.
 use Rattle.std.specs.Prelude.{ℕ, Bool, List, [], Result}
-use Rattle.papaya_sifts.specs.Given.SeizeWords.Mem.{Mem, Can, Took, value_at}
-use Rattle.papaya_sifts.specs.Given.SeizeWords.Plan.{May, Steps}
-use Rattle.papaya_sifts.specs.Given.SeizeWords.declared.fault.Fault.{Fault}
-use Rattle.papaya_sifts.specs.Given.Seize.Leave.{leave_plan}
-use Rattle.papaya_sifts.specs.Given.Seize.Settle.{settle_plan}
-use Rattle.papaya_sifts.specs.Given.Seize.declared.rows.leave.Leave.{Leave}
-use Rattle.papaya_sifts.specs.Given.Seize.declared.rows.settle.Settle.{Settle}
-use Rattle.papaya_sifts.specs.Given.Seize.declared.rows.settle.Settled.{Settled}
-use Rattle.papaya_sifts.specs.Given.Tables.Nodes.{deferred_word}
-use Rattle.papaya_sifts.specs.Given.Tables.declared.node.Node.{Node}
-use Rattle.papaya_sifts.specs.Given.Tables.declared.setting.Setting.{Setting}
-use Rattle.papaya_sifts.specs.Given.Resize.NewMap.{new_map_plan}
-use Rattle.papaya_sifts.specs.Given.Resize.declared.new_map.NewMap.{NewMap}
-use Rattle.papaya_sifts.specs.Given.Raw.CallAsks.{replied}
-use Rattle.papaya_sifts.specs.Given.Raw.declared.machines.answer.KeyAnswer.{KeyAnswer}
-use Rattle.papaya_sifts.specs.Given.Raw.declared.machines.asking.Reply.{Reply}
-use Rattle.papaya_sifts.specs.Given.Raw.declared.machines.call.KeyCall.{KeyCall}
-use Rattle.papaya_sifts.specs.Given.Points.Steps.{AreLawful}
-use Rattle.papaya_sifts.specs.Given.Callers.Pairs.{Given}
-use Rattle.papaya_sifts.specs.Given.Callers.Together.{IsBegun}
-use Rattle.papaya_sifts.specs.Given.Owned.Ending.{Ends, RunsTo}
-use Rattle.papaya_sifts.specs.Given.Owned.Machines.{on_key_plan, for_room_plan, refreshes_plan}
-use Rattle.papaya_sifts.specs.Given.Owned.Owned.{Holds}
-use Rattle.papaya_sifts.specs.Given.Owned.declared.machines.ForRoom.{ForRoom}
-use Rattle.papaya_sifts.specs.Given.Owned.declared.machines.OnKey.{OnKey}
-use Rattle.papaya_sifts.specs.Given.Owned.declared.machines.Refreshes.{Refreshes}
-use Rattle.papaya_sifts.specs.Given.Owned.declared.machines.Stop.{Stop}
+use Rattle.papaya_sifts.specs.Given.SeizeWordsMem.{Mem, Can, Took, value_at}
+use Rattle.papaya_sifts.specs.Given.SeizeWordsPlan.{May, Steps}
+use Rattle.papaya_sifts.specs.Given.SeizeWordsDeclared.fault.Fault.{Fault}
+use Rattle.papaya_sifts.specs.Given.SeizeLeave.{leave_plan}
+use Rattle.papaya_sifts.specs.Given.SeizeSettle.{settle_plan}
+use Rattle.papaya_sifts.specs.Given.SeizeDeclared.rows.leave.Leave.{Leave}
+use Rattle.papaya_sifts.specs.Given.SeizeDeclared.rows.settle.Settle.{Settle}
+use Rattle.papaya_sifts.specs.Given.SeizeDeclared.rows.settle.Settled.{Settled}
+use Rattle.papaya_sifts.specs.Given.TablesNodes.{deferred_word}
+use Rattle.papaya_sifts.specs.Given.TablesDeclared.node.Node.{Node}
+use Rattle.papaya_sifts.specs.Given.TablesDeclared.setting.Setting.{Setting}
+use Rattle.papaya_sifts.specs.Given.ResizeNewMap.{new_map_plan}
+use Rattle.papaya_sifts.specs.Given.ResizeDeclared.new_map.NewMap.{NewMap}
+use Rattle.papaya_sifts.specs.Given.RawCallAsks.{replied}
+use Rattle.papaya_sifts.specs.Given.RawDeclared.machines.answer.KeyAnswer.{KeyAnswer}
+use Rattle.papaya_sifts.specs.Given.RawDeclared.machines.asking.Reply.{Reply}
+use Rattle.papaya_sifts.specs.Given.RawDeclared.machines.call.KeyCall.{KeyCall}
+use Rattle.papaya_sifts.specs.Given.PointsSteps.{AreLawful}
+use Rattle.papaya_sifts.specs.Given.CallersPairs.{Given}
+use Rattle.papaya_sifts.specs.Given.CallersTogether.{IsBegun}
+use Rattle.papaya_sifts.specs.Given.OwnedEnding.{Ends, RunsTo}
+use Rattle.papaya_sifts.specs.Given.OwnedMachines.{on_key_plan, for_room_plan, refreshes_plan}
+use Rattle.papaya_sifts.specs.Given.OwnedOwned.{Holds}
+use Rattle.papaya_sifts.specs.Given.OwnedDeclared.machines.ForRoom.{ForRoom}
+use Rattle.papaya_sifts.specs.Given.OwnedDeclared.machines.OnKey.{OnKey}
+use Rattle.papaya_sifts.specs.Given.OwnedDeclared.machines.Refreshes.{Refreshes}
+use Rattle.papaya_sifts.specs.Given.OwnedDeclared.machines.Stop.{Stop}
 use Rattle.papaya_sifts.specs.Sweeping.{over_pairs_plan}
 use Rattle.papaya_sifts.specs.declared.sweeping.OverPairs.{OverPairs}
 use Rattle.papaya_sifts.specs.declared.sweeping.Pause.{Pause}

@@ -1,13 +1,13 @@
 -- Sweeps over the map of one owner: what stood in its memory as they began stands there until their ends.
 use Rattle.std.specs.Prelude.{ℕ, Bool, List, Result}
 use denote.Ref.{Bor}
-use Rattle.papaya_sifts.specs.Given.SeizeWords.Mem.{Mem}
-use Rattle.papaya_sifts.specs.Given.SeizeWords.declared.fault.Fault.{Fault}
-use Rattle.papaya_sifts.specs.Given.Tables.declared.node.Node.{Node}
-use Rattle.papaya_sifts.specs.Given.Tables.declared.setting.Setting.{Setting}
-use Rattle.papaya_sifts.specs.Given.Sweeps.declared.sweep.Purpose.{Purpose}
-use Rattle.papaya_sifts.specs.Given.Owned.Ending.{RunsTo}
-use Rattle.papaya_sifts.specs.Given.Owned.Owned.{Holds}
+use Rattle.papaya_sifts.specs.Given.SeizeWordsMem.{Mem}
+use Rattle.papaya_sifts.specs.Given.SeizeWordsDeclared.fault.Fault.{Fault}
+use Rattle.papaya_sifts.specs.Given.TablesDeclared.node.Node.{Node}
+use Rattle.papaya_sifts.specs.Given.TablesDeclared.setting.Setting.{Setting}
+use Rattle.papaya_sifts.specs.Given.SweepsDeclared.sweep.Purpose.{Purpose}
+use Rattle.papaya_sifts.specs.Given.OwnedEnding.{RunsTo}
+use Rattle.papaya_sifts.specs.Given.OwnedOwned.{Holds}
 use Rattle.papaya_sifts.specs.Sweeping.{IsSweeping, over_pairs_plan}
 use Rattle.papaya_sifts.specs.declared.sweeping.OverPairs.{OverPairs}
 use Rattle.papaya_sifts.specs.declared.sweeping.Pause.{Pause}

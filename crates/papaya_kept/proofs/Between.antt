@@ -2,18 +2,18 @@
 use Rattle.std.specs.Prelude.{◌≡◌, ◌⊎◌, ℕ, Bool, true, false, List, [], Option, Some, None}
 use Rattle.std.proofs.Common.{refl, ap, sym, subst, ◌∙◌, inl, inr}
 use Rattle.std.proofs.lemmas.Bool.{cases_eq}
-use Rattle.papaya_owes.specs.Given.Seize.World.{Rests, with_at}
-use Rattle.papaya_owes.specs.Given.Tables.declared.setting.Setting.{Setting}
-use Rattle.papaya_owes.specs.Given.Raw.Machine.{is_ready, machine_asked}
-use Rattle.papaya_owes.specs.Given.Raw.declared.machines.call.KeyCall.{KeyCall}
-use Rattle.papaya_owes.specs.Given.Raw.declared.machines.machine.Machine.TheVariants as kinds
-use Rattle.papaya_owes.specs.Given.Sweeps.declared.sweep.Sweeping.{Sweeping}
-use Rattle.papaya_owes.specs.Given.Sweeps.declared.sweep.Sweeping.TheVariants as sweeping
-use Rattle.papaya_owes.specs.Given.Schedules.Beginning.{with_call}
-use Rattle.papaya_owes.specs.Given.Schedules.Growing.{only_looks}
-use Rattle.papaya_owes.specs.Given.Schedules.Moment.{Moment}
-use Rattle.papaya_owes.specs.Given.Schedules.declared.call.Call.{Call}
-use Rattle.papaya_owes.specs.Given.Schedules.declared.call.Call.TheVariants.{On, Reserve, Clear, Retain, Len, Walk}
+use Rattle.papaya_owes.specs.Given.SeizeWorld.{Rests, with_at}
+use Rattle.papaya_owes.specs.Given.TablesDeclared.setting.Setting.{Setting}
+use Rattle.papaya_owes.specs.Given.RawMachine.{is_ready, machine_asked}
+use Rattle.papaya_owes.specs.Given.RawDeclared.machines.call.KeyCall.{KeyCall}
+use Rattle.papaya_owes.specs.Given.RawDeclared.machines.machine.Machine.TheVariants as kinds
+use Rattle.papaya_owes.specs.Given.SweepsDeclared.sweep.Sweeping.{Sweeping}
+use Rattle.papaya_owes.specs.Given.SweepsDeclared.sweep.Sweeping.TheVariants as sweeping
+use Rattle.papaya_owes.specs.Given.SchedulesBeginning.{with_call}
+use Rattle.papaya_owes.specs.Given.SchedulesGrowing.{only_looks}
+use Rattle.papaya_owes.specs.Given.SchedulesMoment.{Moment}
+use Rattle.papaya_owes.specs.Given.SchedulesDeclared.call.Call.{Call}
+use Rattle.papaya_owes.specs.Given.SchedulesDeclared.call.Call.TheVariants.{On, Reserve, Clear, Retain, Len, Walk}
 use Rattle.papaya_waiters.specs.Given.Points.Steps.{AreLawful}
 use Rattle.papaya_waiters.specs.Given.Late.ToldSweeps.{IsRowOfSweep}
 use Rattle.papaya_waiters.specs.Given.Callers.OverAll.{CallOverAll}
@@ -23,10 +23,10 @@ use Rattle.papaya_waiters.specs.Given.Callers.Together.{UnderWay, OnKey, ForRoom
 use Rattle.papaya_waiters.proofs.Given.Callers.Together.At.{at_same, at_other}
 use Rattle.papaya_waiters.specs.Given.Finishes.Machines.{machine_of}
 use Rattle.papaya_waiters.specs.Given.Finishes.Maps.{Standing, with_call as with_in}
-use Rattle.papaya_owes.specs.Given.Follows.Calling.{told}
-use Rattle.papaya_owes.specs.Given.Follows.Calls.{IsCalled}
-use Rattle.papaya_owes.specs.Given.Hands.Calling.{IsBegunFor}
-use Rattle.papaya_owes.specs.Given.Others.Walks.{given_up}
+use Rattle.papaya_owes.specs.Given.FollowsCalling.{told}
+use Rattle.papaya_owes.specs.Given.FollowsCalls.{IsCalled}
+use Rattle.papaya_owes.specs.Given.HandsCalling.{IsBegunFor}
+use Rattle.papaya_owes.specs.Given.OthersWalks.{given_up}
 use Rattle.papaya_owes.specs.Looking.{IsLooking}
 use Rattle.papaya_owes.specs.Made.{OwnsSo}
 use Rattle.papaya_owes.proofs.Between.{calls_begin_made, calls_begin_owning, calls_take_made, walks_go_on_made, walks_stop_made}
@@ -34,28 +34,28 @@ use Rattle.papaya_owes.proofs.Looking.Between.{calls_begin_looking, lookups_begi
 use Rattle.papaya_owes.proofs.Short.Between.{calls_begin_short, calls_take_short, walks_go_on_short, walks_stop_short}
 use Rattle.papaya_owes.proofs.Grown.Between.{calls_begin_grown, machines_begin_grown, calls_take_grown, walks_go_on_grown, walks_stop_grown}
 use Rattle.papaya_owes.proofs.Tables.Between.{calls_begin_tables, calls_take_tables, walks_go_on_tables, walks_stop_tables}
-use Rattle.papaya_owes.specs.Given.Settles.Counts.{counts_in_sweeping, is_to_count}
-use Rattle.papaya_owes.specs.Given.Settles.Owed.{HasNothing}
-use Rattle.papaya_owes.proofs.Given.Settles.Between.{calls_begin_counts, calls_begin_uncounted, calls_take_counts, walks_go_on_counts, walks_stop_counts}
-use Rattle.papaya_owes.proofs.Given.Settles.EntryScenes.{calls_go_on_entries}
-use Rattle.papaya_owes.proofs.Given.Settles.Hand.Between.{calls_begin_owed, calls_take_owed, walks_go_on_owed, walks_stop_owed}
-use Rattle.papaya_owes.proofs.Given.Settles.Handing.{calls_begin_handing, calls_take_handing, walks_go_on_handing, walks_stop_handing}
-use Rattle.papaya_owes.specs.Given.Lives.Behind.{WaitsOnce}
-use Rattle.papaya_owes.specs.Given.Lives.Retired.{CallsStay}
-use Rattle.papaya_owes.proofs.Given.Lives.HandedRows.{others_leave_handed}
-use Rattle.papaya_owes.proofs.Given.Lives.LeftTables.{others_keep_left}
-use Rattle.papaya_owes.proofs.Given.Lives.Lying.{others_leave_lying}
-use Rattle.papaya_owes.proofs.Given.Lives.Order.{others_leave_order}
-use Rattle.papaya_owes.proofs.Given.Lives.Reclaimed.{others_leave_retired}
-use Rattle.papaya_owes.proofs.Given.Lives.Waiting.{others_leave_waiting}
+use Rattle.papaya_owes.specs.Given.SettlesCounts.{counts_in_sweeping, is_to_count}
+use Rattle.papaya_owes.specs.Given.SettlesOwed.{HasNothing}
+use Rattle.papaya_owes.proofs.Given.SettlesBetween.{calls_begin_counts, calls_begin_uncounted, calls_take_counts, walks_go_on_counts, walks_stop_counts}
+use Rattle.papaya_owes.proofs.Given.SettlesEntryScenes.{calls_go_on_entries}
+use Rattle.papaya_owes.proofs.Given.SettlesHand.Between.{calls_begin_owed, calls_take_owed, walks_go_on_owed, walks_stop_owed}
+use Rattle.papaya_owes.proofs.Given.SettlesHanding.{calls_begin_handing, calls_take_handing, walks_go_on_handing, walks_stop_handing}
+use Rattle.papaya_owes.specs.Given.LivesBehind.{WaitsOnce}
+use Rattle.papaya_owes.specs.Given.LivesRetired.{CallsStay}
+use Rattle.papaya_owes.proofs.Given.LivesHandedRows.{others_leave_handed}
+use Rattle.papaya_owes.proofs.Given.LivesLeftTables.{others_keep_left}
+use Rattle.papaya_owes.proofs.Given.LivesLying.{others_leave_lying}
+use Rattle.papaya_owes.proofs.Given.LivesOrder.{others_leave_order}
+use Rattle.papaya_owes.proofs.Given.LivesReclaimed.{others_leave_retired}
+use Rattle.papaya_owes.proofs.Given.LivesWaiting.{others_leave_waiting}
 use Rattle.papaya_waiters.specs.Given.Waits.Others.{copier_in, copier_in_room, copier_in_sweep, copier_of}
 use Rattle.papaya_kept.proofs.Ends.{calls_begin_ends, calls_take_ends, walks_go_on_ends, walks_stop_ends}
 use Rattle.papaya_kept.specs.Steps.{CallsBeginKept, CallsTakeKept, WalksGoOnKept, WalksStopKept}
-use Rattle.papaya_owes.proofs.Given.Scenes.May.{standing_is}
-use Rattle.papaya_owes.specs.Given.Scenes.Beginning.{Begins}
-use Rattle.papaya_owes.specs.Given.Scenes.Held.{Held, IsAt}
-use Rattle.papaya_owes.specs.Given.Scenes.Replying.{scene_with, unless_stopped}
-use Rattle.papaya_owes.specs.Given.Scenes.Scene.{HasCall, Scene, slot_of}
+use Rattle.papaya_owes.proofs.Given.ScenesMay.{standing_is}
+use Rattle.papaya_owes.specs.Given.ScenesBeginning.{Begins}
+use Rattle.papaya_owes.specs.Given.ScenesHeld.{Held, IsAt}
+use Rattle.papaya_owes.specs.Given.ScenesReplying.{scene_with, unless_stopped}
+use Rattle.papaya_owes.specs.Given.ScenesScene.{HasCall, Scene, slot_of}
 
 -- a call that begins has nothing in hand
 module _ (K V : Type 0) (same : K → K → Bool) where

@@ -1,38 +1,38 @@
 -- Each step of a call keeps all that is kept, whoever takes it, and whether it is one of a row or not.
 use Rattle.std.specs.Prelude.{ℕ, Bool, List, Some}
 use Rattle.std.proofs.Common.{sym, subst, inl, inr}
-use Rattle.papaya_owes.specs.Given.Schedules.Effects.{with_effects}
-use Rattle.papaya_owes.specs.Given.Schedules.Moment.{Moment}
-use Rattle.papaya_owes.specs.Given.Effects.Effects.{effects_of, known_after}
-use Rattle.papaya_owes.specs.Given.Effects.Known.{Known}
-use Rattle.papaya_owes.specs.Given.Effects.declared.acting.Acting.TheVariants.{Call}
-use Rattle.papaya_owes.proofs.Given.Follows.Steps.{went_to}
-use Rattle.papaya_owes.specs.Given.Moments.Whole.{ShowsWhole}
+use Rattle.papaya_owes.specs.Given.SchedulesEffects.{with_effects}
+use Rattle.papaya_owes.specs.Given.SchedulesMoment.{Moment}
+use Rattle.papaya_owes.specs.Given.EffectsEffects.{effects_of, known_after}
+use Rattle.papaya_owes.specs.Given.EffectsKnown.{Known}
+use Rattle.papaya_owes.specs.Given.EffectsDeclared.acting.Acting.TheVariants.{Call}
+use Rattle.papaya_owes.proofs.Given.FollowsSteps.{went_to}
+use Rattle.papaya_owes.specs.Given.MomentsWhole.{ShowsWhole}
 use Rattle.papaya_owes.proofs.Calls.{calls_keep_made}
 use Rattle.papaya_owes.proofs.Looking.Calls.{calls_keep_looking}
 use Rattle.papaya_owes.proofs.Short.Calls.{calls_keep_short}
 use Rattle.papaya_owes.proofs.Grown.Calls.{calls_keep_grown}
 use Rattle.papaya_owes.proofs.Tables.Calls.{calls_keep_tables}
 use Rattle.papaya_owes.proofs.Tables.Held.{tables_are_made}
-use Rattle.papaya_owes.specs.Given.Settles.Due.{OwnAreMade}
-use Rattle.papaya_owes.proofs.Given.Settles.Calls.{calls_keep_counts}
-use Rattle.papaya_owes.proofs.Given.Settles.EntryScenes.{calls_keep_entries}
-use Rattle.papaya_owes.proofs.Given.Settles.Hand.All.{own_or_row}
-use Rattle.papaya_owes.proofs.Given.Settles.Hand.Calls.{calls_keep_owed}
-use Rattle.papaya_owes.proofs.Given.Settles.Handing.{calls_keep_handing}
-use Rattle.papaya_owes.specs.Given.Lives.Behind.{ShowsWaiting, WaitsOnce}
-use Rattle.papaya_owes.proofs.Given.Lives.CallRows.{row_waits_on}
-use Rattle.papaya_owes.proofs.Given.Lives.Calls.{calls_keep_waiting, calls_keep_list}
-use Rattle.papaya_owes.proofs.Given.Lives.HandedCalls.{calls_keep_handed}
-use Rattle.papaya_owes.proofs.Given.Lives.LeftTables.{calls_keep_left}
-use Rattle.papaya_owes.proofs.Given.Lives.LyingCalls.{calls_keep_lying}
-use Rattle.papaya_owes.proofs.Given.Lives.OrderCalls.{calls_keep_order}
-use Rattle.papaya_owes.proofs.Given.Lives.RetiredCalls.{calls_keep_retired}
+use Rattle.papaya_owes.specs.Given.SettlesDue.{OwnAreMade}
+use Rattle.papaya_owes.proofs.Given.SettlesCalls.{calls_keep_counts}
+use Rattle.papaya_owes.proofs.Given.SettlesEntryScenes.{calls_keep_entries}
+use Rattle.papaya_owes.proofs.Given.SettlesHand.All.{own_or_row}
+use Rattle.papaya_owes.proofs.Given.SettlesHand.Calls.{calls_keep_owed}
+use Rattle.papaya_owes.proofs.Given.SettlesHanding.{calls_keep_handing}
+use Rattle.papaya_owes.specs.Given.LivesBehind.{ShowsWaiting, WaitsOnce}
+use Rattle.papaya_owes.proofs.Given.LivesCallRows.{row_waits_on}
+use Rattle.papaya_owes.proofs.Given.LivesCalls.{calls_keep_waiting, calls_keep_list}
+use Rattle.papaya_owes.proofs.Given.LivesHandedCalls.{calls_keep_handed}
+use Rattle.papaya_owes.proofs.Given.LivesLeftTables.{calls_keep_left}
+use Rattle.papaya_owes.proofs.Given.LivesLyingCalls.{calls_keep_lying}
+use Rattle.papaya_owes.proofs.Given.LivesOrderCalls.{calls_keep_order}
+use Rattle.papaya_owes.proofs.Given.LivesRetiredCalls.{calls_keep_retired}
 use Rattle.papaya_kept.specs.Kept.{ShowsKept}
 use Rattle.papaya_kept.proofs.EndCalls.{calls_keep_all_ends}
 use Rattle.papaya_kept.specs.Steps.{CallsKeepKept}
-use Rattle.papaya_owes.specs.Given.Scenes.Held.{Held, IsAt}
-use Rattle.papaya_owes.specs.Given.Scenes.Scene.{Scene}
+use Rattle.papaya_owes.specs.Given.ScenesHeld.{Held, IsAt}
+use Rattle.papaya_owes.specs.Given.ScenesScene.{Scene}
 
 module _ (K V : Type 0) (same : K → K → Bool) (hash : ℕ → K → ℕ) where
   -- each table that somebody has made is in the hands of who makes it

@@ -12,63 +12,63 @@ use Rattle.papaya_waiters.proofs.RowsFresh.{key_row_fresh, room_row_fresh, sweep
 use Rattle.papaya_waiters.proofs.Calls.{calls_keep_ends_blocking, rooms_keep_ends_blocking, sweeps_keep_ends_blocking}
 use Rattle.papaya_waiters.specs.Given.SeizeWords.Mem.{Mem, Took, value_at}
 use Rattle.papaya_waiters.specs.Given.SeizeWords.Plan.{Steps}
-use Rattle.papaya_owes.specs.Given.Seize.World.{with_at}
-use Rattle.papaya_owes.specs.Given.Tables.Chunks.{is_incremental}
-use Rattle.papaya_owes.specs.Given.Tables.declared.node.Node.{Node}
-use Rattle.papaya_owes.specs.Given.Resize.declared.copier.Copying.{Copying as Point}
-use Rattle.papaya_owes.specs.Given.Resize.declared.copier.Copying.TheVariants as copies
-use Rattle.papaya_owes.specs.Given.Resize.declared.outcome.Outcome.{Outcome}
-use Rattle.papaya_owes.specs.Given.Resize.declared.outcome.Outcome.TheVariants as outcome
-use Rattle.papaya_owes.specs.Given.Resize.declared.sum.Sum.{Sum}
-use Rattle.papaya_owes.specs.Given.Raw.Call.{call_plan}
-use Rattle.papaya_owes.specs.Given.Raw.Machine.{reserved as of_room}
-use Rattle.papaya_owes.specs.Given.Raw.Progress.{of_called, of_outcome, of_swept}
-use Rattle.papaya_owes.specs.Given.Raw.declared.machines.answer.Called.{Called}
-use Rattle.papaya_owes.specs.Given.Raw.declared.machines.call.Calling.{Calling}
-use Rattle.papaya_owes.specs.Given.Raw.declared.machines.call.Calling.TheVariants as at
-use Rattle.papaya_owes.specs.Given.Raw.declared.machines.call.KeyCall.{KeyCall}
-use Rattle.papaya_owes.specs.Given.Raw.declared.machines.machine.Machine.{Machine}
-use Rattle.papaya_owes.specs.Given.Raw.declared.machines.machine.Machine.TheVariants as kinds
-use Rattle.papaya_owes.specs.Given.Raw.declared.machines.progress.Progress.{Progress}
-use Rattle.papaya_owes.specs.Given.Reserves.Reserve.{reserve_plan}
-use Rattle.papaya_owes.specs.Given.Reserves.declared.reserve.Reserve.{Reserve}
-use Rattle.papaya_owes.specs.Given.Reserves.declared.reserve.Reserving.{Reserving}
-use Rattle.papaya_owes.specs.Given.Reserves.declared.reserve.Reserving.TheVariants as reserves
-use Rattle.papaya_owes.specs.Given.Sweeps.Sweep.{sweep_plan}
-use Rattle.papaya_owes.specs.Given.Sweeps.declared.sweep.Sweep.{Sweep}
-use Rattle.papaya_owes.specs.Given.Sweeps.declared.sweep.Swept.{Swept}
-use Rattle.papaya_owes.specs.Given.Sweeps.declared.sweep.Sweeping.{Sweeping}
-use Rattle.papaya_owes.specs.Given.Sweeps.declared.sweep.Sweeping.TheVariants as sweeps
-use Rattle.papaya_owes.specs.Given.Rule.Chart.{Chart}
-use Rattle.papaya_owes.specs.Given.Rule.Words.{Blocks}
+use Rattle.papaya_owes.specs.Given.SeizeWorld.{with_at}
+use Rattle.papaya_owes.specs.Given.TablesChunks.{is_incremental}
+use Rattle.papaya_owes.specs.Given.TablesDeclared.node.Node.{Node}
+use Rattle.papaya_owes.specs.Given.ResizeDeclared.copier.Copying.{Copying as Point}
+use Rattle.papaya_owes.specs.Given.ResizeDeclared.copier.Copying.TheVariants as copies
+use Rattle.papaya_owes.specs.Given.ResizeDeclared.outcome.Outcome.{Outcome}
+use Rattle.papaya_owes.specs.Given.ResizeDeclared.outcome.Outcome.TheVariants as outcome
+use Rattle.papaya_owes.specs.Given.ResizeDeclared.sum.Sum.{Sum}
+use Rattle.papaya_owes.specs.Given.RawCall.{call_plan}
+use Rattle.papaya_owes.specs.Given.RawMachine.{reserved as of_room}
+use Rattle.papaya_owes.specs.Given.RawProgress.{of_called, of_outcome, of_swept}
+use Rattle.papaya_owes.specs.Given.RawDeclared.machines.answer.Called.{Called}
+use Rattle.papaya_owes.specs.Given.RawDeclared.machines.call.Calling.{Calling}
+use Rattle.papaya_owes.specs.Given.RawDeclared.machines.call.Calling.TheVariants as at
+use Rattle.papaya_owes.specs.Given.RawDeclared.machines.call.KeyCall.{KeyCall}
+use Rattle.papaya_owes.specs.Given.RawDeclared.machines.machine.Machine.{Machine}
+use Rattle.papaya_owes.specs.Given.RawDeclared.machines.machine.Machine.TheVariants as kinds
+use Rattle.papaya_owes.specs.Given.RawDeclared.machines.progress.Progress.{Progress}
+use Rattle.papaya_owes.specs.Given.ReservesReserve.{reserve_plan}
+use Rattle.papaya_owes.specs.Given.ReservesDeclared.reserve.Reserve.{Reserve}
+use Rattle.papaya_owes.specs.Given.ReservesDeclared.reserve.Reserving.{Reserving}
+use Rattle.papaya_owes.specs.Given.ReservesDeclared.reserve.Reserving.TheVariants as reserves
+use Rattle.papaya_owes.specs.Given.SweepsSweep.{sweep_plan}
+use Rattle.papaya_owes.specs.Given.SweepsDeclared.sweep.Sweep.{Sweep}
+use Rattle.papaya_owes.specs.Given.SweepsDeclared.sweep.Swept.{Swept}
+use Rattle.papaya_owes.specs.Given.SweepsDeclared.sweep.Sweeping.{Sweeping}
+use Rattle.papaya_owes.specs.Given.SweepsDeclared.sweep.Sweeping.TheVariants as sweeps
+use Rattle.papaya_owes.specs.Given.RuleChart.{Chart}
+use Rattle.papaya_owes.specs.Given.RuleWords.{Blocks}
 use Rattle.papaya_waiters.specs.Given.Points.Steps.{AreLawful}
 use Rattle.papaya_waiters.specs.Given.Points.Told.{IsRowOfCall, IsRowOfCopier}
 use Rattle.papaya_waiters.specs.Given.Late.ToldReserves.{IsRowOfReserve}
 use Rattle.papaya_waiters.specs.Given.Late.ToldSweeps.{IsRowOfSweep}
-use Rattle.papaya_owes.specs.Given.Teller.Tells.{StepsTold}
-use Rattle.papaya_owes.specs.Given.Teller.declared.changed.Changed.TheVariants as changed
+use Rattle.papaya_owes.specs.Given.TellerTells.{StepsTold}
+use Rattle.papaya_owes.specs.Given.TellerDeclared.changed.Changed.TheVariants as changed
 use Rattle.papaya_waiters.specs.Given.Callers.OverAll.{CallOverAll}
 use Rattle.papaya_waiters.specs.Given.Callers.Rooms.{CallForRoom}
 use Rattle.papaya_waiters.specs.Given.Callers.Sights.{Sight}
 use Rattle.papaya_waiters.specs.Given.Callers.Together.{CallOnKey, UnderWay, OnKey, ForRoom, Counting, OverAll, Together, next_of_counting}
 use Rattle.papaya_waiters.proofs.Given.Callers.Together.At.{at_same, at_other}
-use Rattle.papaya_owes.specs.Given.Effects.Known.{Known}
+use Rattle.papaya_owes.specs.Given.EffectsKnown.{Known}
 use Rattle.papaya_waiters.specs.Given.Finishes.Maps.{Standing, IsSameMap}
-use Rattle.papaya_owes.specs.Given.Follows.Shows.{Shows}
-use Rattle.papaya_owes.proofs.Given.Follows.Steps.{WentTo, went_to, DidSo, one_of}
-use Rattle.papaya_owes.proofs.Given.Others.Outcomes.{told_in}
-use Rattle.papaya_owes.specs.Given.Schedules.Moment.{Moment}
-use Rattle.papaya_owes.proofs.Given.Settles.Keys.{steps as key_told}
-use Rattle.papaya_owes.proofs.Given.Settles.Rest.{steps as sweep_told}
+use Rattle.papaya_owes.specs.Given.FollowsShows.{Shows}
+use Rattle.papaya_owes.proofs.Given.FollowsSteps.{WentTo, went_to, DidSo, one_of}
+use Rattle.papaya_owes.proofs.Given.OthersOutcomes.{told_in}
+use Rattle.papaya_owes.specs.Given.SchedulesMoment.{Moment}
+use Rattle.papaya_owes.proofs.Given.SettlesKeys.{steps as key_told}
+use Rattle.papaya_owes.proofs.Given.SettlesRest.{steps as sweep_told}
 use Rattle.papaya_kept.specs.Ends.{HaveEndsIn, ShowsEnds}
 use Rattle.papaya_kept.proofs.Ends.{StoodSo, call_goes, idle_keeps, stood_ends, stood_so}
-use Rattle.papaya_owes.specs.Given.Seize.declared.progress.Progress.{Progress as CountGoes}
-use Rattle.papaya_owes.specs.Given.Seize.declared.progress.Progress.TheVariants as progress
-use Rattle.papaya_owes.specs.Given.Tables.declared.setting.Setting.{Setting}
-use Rattle.papaya_owes.proofs.Given.Scenes.Told.{as_step}
-use Rattle.papaya_owes.specs.Given.Scenes.Held.{Held, IsAt}
-use Rattle.papaya_owes.specs.Given.Scenes.Scene.{Scene, slot_of}
-use Rattle.papaya_owes.specs.Given.Scenes.Stepping.{StepLeads, scene_after}
+use Rattle.papaya_owes.specs.Given.SeizeDeclared.progress.Progress.{Progress as CountGoes}
+use Rattle.papaya_owes.specs.Given.SeizeDeclared.progress.Progress.TheVariants as progress
+use Rattle.papaya_owes.specs.Given.TablesDeclared.setting.Setting.{Setting}
+use Rattle.papaya_owes.proofs.Given.ScenesTold.{as_step}
+use Rattle.papaya_owes.specs.Given.ScenesHeld.{Held, IsAt}
+use Rattle.papaya_owes.specs.Given.ScenesScene.{Scene, slot_of}
+use Rattle.papaya_owes.specs.Given.ScenesStepping.{StepLeads, scene_after}
 
 -- at a row no call is to end a copying
 row_point : (stands : Point) → IsRowOfCopier stands → IsIdleAt stands

@@ -5,30 +5,30 @@ use Rattle.std.proofs.lemmas.Bool.{cases_eq}
 use Rattle.papaya_waiters.specs.Given.Waits.Others.{copier_in, copier_in_room, copier_in_sweep, copier_of}
 use Rattle.papaya_waiters.proofs.Given.Waits.EndingCalls.{AllOrOwn, as_own, copier_then, keeps_still, with_own}
 use Rattle.papaya_waiters.proofs.Likes.{IsFreshCopier, IsIdleCopier, idle_ends, like_keeps_blocking}
-use Rattle.papaya_owes.specs.Given.Seize.declared.rows.settle.Settled.{Settled}
-use Rattle.papaya_owes.specs.Given.Seize.declared.rows.settle.Settled.TheVariants as settled
-use Rattle.papaya_owes.specs.Given.Seize.declared.progress.Progress.{Progress}
-use Rattle.papaya_owes.specs.Given.Seize.declared.progress.Progress.TheVariants as progress
-use Rattle.papaya_owes.specs.Given.Seize.World.{World, Event, with_at}
-use Rattle.papaya_owes.specs.Given.Tables.Chunks.{is_incremental}
-use Rattle.papaya_owes.specs.Given.Tables.declared.node.Node.{Node}
-use Rattle.papaya_owes.specs.Given.Tables.declared.setting.Setting.{Setting}
-use Rattle.papaya_owes.specs.Given.Resize.declared.copier.Copier.{Copier}
-use Rattle.papaya_owes.specs.Given.Resize.declared.new_map.NewMap.{NewMap}
-use Rattle.papaya_owes.specs.Given.Raw.CallAsks.{told_at}
-use Rattle.papaya_owes.specs.Given.Raw.Machine.{is_ready, machine_asked, machine_replied, sweep_told}
-use Rattle.papaya_owes.specs.Given.Raw.declared.machines.asking.Reply.{Reply}
-use Rattle.papaya_owes.specs.Given.Raw.declared.machines.call.Calling.{Calling}
-use Rattle.papaya_owes.specs.Given.Raw.declared.machines.call.Calling.TheVariants as at
-use Rattle.papaya_owes.specs.Given.Raw.declared.machines.call.KeyCall.{KeyCall}
-use Rattle.papaya_owes.specs.Given.Raw.declared.machines.end_map.EndMap.{EndMap}
-use Rattle.papaya_owes.specs.Given.Raw.declared.machines.machine.Machine.{Machine}
-use Rattle.papaya_owes.specs.Given.Raw.declared.machines.machine.Machine.TheVariants as kinds
-use Rattle.papaya_owes.specs.Given.Sweeps.SweepPoints.{next_at}
-use Rattle.papaya_owes.specs.Given.Sweeps.declared.sweep.Sweep.{Sweep}
-use Rattle.papaya_owes.specs.Given.Sweeps.declared.sweep.Sweeping.{Sweeping}
-use Rattle.papaya_owes.specs.Given.Sweeps.declared.sweep.Sweeping.TheVariants as sweeping
-use Rattle.papaya_owes.specs.Given.Rule.Chart.{Chart}
+use Rattle.papaya_owes.specs.Given.SeizeDeclared.rows.settle.Settled.{Settled}
+use Rattle.papaya_owes.specs.Given.SeizeDeclared.rows.settle.Settled.TheVariants as settled
+use Rattle.papaya_owes.specs.Given.SeizeDeclared.progress.Progress.{Progress}
+use Rattle.papaya_owes.specs.Given.SeizeDeclared.progress.Progress.TheVariants as progress
+use Rattle.papaya_owes.specs.Given.SeizeWorld.{World, Event, with_at}
+use Rattle.papaya_owes.specs.Given.TablesChunks.{is_incremental}
+use Rattle.papaya_owes.specs.Given.TablesDeclared.node.Node.{Node}
+use Rattle.papaya_owes.specs.Given.TablesDeclared.setting.Setting.{Setting}
+use Rattle.papaya_owes.specs.Given.ResizeDeclared.copier.Copier.{Copier}
+use Rattle.papaya_owes.specs.Given.ResizeDeclared.new_map.NewMap.{NewMap}
+use Rattle.papaya_owes.specs.Given.RawCallAsks.{told_at}
+use Rattle.papaya_owes.specs.Given.RawMachine.{is_ready, machine_asked, machine_replied, sweep_told}
+use Rattle.papaya_owes.specs.Given.RawDeclared.machines.asking.Reply.{Reply}
+use Rattle.papaya_owes.specs.Given.RawDeclared.machines.call.Calling.{Calling}
+use Rattle.papaya_owes.specs.Given.RawDeclared.machines.call.Calling.TheVariants as at
+use Rattle.papaya_owes.specs.Given.RawDeclared.machines.call.KeyCall.{KeyCall}
+use Rattle.papaya_owes.specs.Given.RawDeclared.machines.end_map.EndMap.{EndMap}
+use Rattle.papaya_owes.specs.Given.RawDeclared.machines.machine.Machine.{Machine}
+use Rattle.papaya_owes.specs.Given.RawDeclared.machines.machine.Machine.TheVariants as kinds
+use Rattle.papaya_owes.specs.Given.SweepsSweepPoints.{next_at}
+use Rattle.papaya_owes.specs.Given.SweepsDeclared.sweep.Sweep.{Sweep}
+use Rattle.papaya_owes.specs.Given.SweepsDeclared.sweep.Sweeping.{Sweeping}
+use Rattle.papaya_owes.specs.Given.SweepsDeclared.sweep.Sweeping.TheVariants as sweeping
+use Rattle.papaya_owes.specs.Given.RuleChart.{Chart}
 use Rattle.papaya_waiters.specs.Given.Callers.Together.{UnderWay, OnKey, ForRoom, Counting, OverAll}
 use Rattle.papaya_waiters.proofs.Given.Callers.Together.At.{at_same, at_other}
 use Rattle.papaya_waiters.specs.Given.Finishes.Endings.{Finishing}
@@ -36,20 +36,20 @@ use Rattle.papaya_waiters.specs.Given.Finishes.FactsEnds.{Deed}
 use Rattle.papaya_waiters.specs.Given.Finishes.Machines.{machine_of}
 use Rattle.papaya_waiters.specs.Given.Finishes.Makings.{Beginning, IsNewChart}
 use Rattle.papaya_waiters.specs.Given.Finishes.Maps.{Standing, IsSameMap, with_call as with_in}
-use Rattle.papaya_owes.specs.Given.Follows.Calling.{NoneNamed}
-use Rattle.papaya_owes.proofs.Given.Follows.Calling.{is_same_refl}
-use Rattle.papaya_owes.proofs.Given.Follows.Steps.{one_of}
-use Rattle.papaya_owes.specs.Given.Others.Endings.{ending_after}
-use Rattle.papaya_owes.specs.Given.Others.Makings.{making_after}
-use Rattle.papaya_owes.specs.Given.Others.Rows.{scene_then}
+use Rattle.papaya_owes.specs.Given.FollowsCalling.{NoneNamed}
+use Rattle.papaya_owes.proofs.Given.FollowsCalling.{is_same_refl}
+use Rattle.papaya_owes.proofs.Given.FollowsSteps.{one_of}
+use Rattle.papaya_owes.specs.Given.OthersEndings.{ending_after}
+use Rattle.papaya_owes.specs.Given.OthersMakings.{making_after}
+use Rattle.papaya_owes.specs.Given.OthersRows.{scene_then}
 use Rattle.papaya_kept.specs.Ends.{HaveEndsIn, ShowsEnds}
 use Rattle.papaya_kept.proofs.ToldFresh.{reply_fresh, told_fresh}
-use Rattle.papaya_owes.specs.Given.Scenes.Ending.{EndingComesTo, ending_begun}
-use Rattle.papaya_owes.specs.Given.Scenes.Held.{Held}
-use Rattle.papaya_owes.specs.Given.Scenes.Making.{MakingComesTo}
-use Rattle.papaya_owes.specs.Given.Scenes.OnSlots.{HappensAt}
-use Rattle.papaya_owes.specs.Given.Scenes.Replying.{scene_with, unless_stopped}
-use Rattle.papaya_owes.specs.Given.Scenes.Scene.{Scene, at_first}
+use Rattle.papaya_owes.specs.Given.ScenesEnding.{EndingComesTo, ending_begun}
+use Rattle.papaya_owes.specs.Given.ScenesHeld.{Held}
+use Rattle.papaya_owes.specs.Given.ScenesMaking.{MakingComesTo}
+use Rattle.papaya_owes.specs.Given.ScenesOnSlots.{HappensAt}
+use Rattle.papaya_owes.specs.Given.ScenesReplying.{scene_with, unless_stopped}
+use Rattle.papaya_owes.specs.Given.ScenesScene.{Scene, at_first}
 
 -- a call that is to do nothing for a copying goes on so, in blocking mode as one that begins
 pub idle_keeps : {K V : Type 0} (incremental : Bool) (c : Chart K) (calls : ℕ → Option (UnderWay K V K)) (i : ℕ) (next : Option (UnderWay K V K)) → HaveEndsIn incremental c calls

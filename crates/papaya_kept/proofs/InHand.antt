@@ -4,71 +4,71 @@ use Rattle.std.proofs.Common.{refl, ap, sym, subst, ◌∙◌, inl, inr}
 use Rattle.papaya_waiters.specs.Given.SeizeWords.Mem.{value_at}
 use Rattle.papaya_waiters.specs.Given.SeizeWords.Word.{block_in}
 use Rattle.papaya_waiters.specs.Given.SeizeWords.declared.at.At.TheVariants.{Root, Used, Slot, Entry, Word}
-use Rattle.papaya_owes.specs.Given.Seize.Law.{is_retired}
-use Rattle.papaya_owes.specs.Given.Seize.declared.progress.Progress.{Progress}
-use Rattle.papaya_owes.specs.Given.Seize.declared.rows.defer.Defer.{Defer}
-use Rattle.papaya_owes.specs.Given.Seize.declared.rows.defer.Deferring.{Deferring}
-use Rattle.papaya_owes.specs.Given.Seize.declared.rows.defer.Deferring.TheVariants as deferring
-use Rattle.papaya_owes.specs.Given.Seize.declared.rows.settle.Settle.{Settle}
-use Rattle.papaya_owes.specs.Given.Seize.declared.rows.settle.Settled.{Settled}
-use Rattle.papaya_owes.specs.Given.Seize.declared.rows.settle.Settling.{Settling}
-use Rattle.papaya_owes.specs.Given.Seize.declared.rows.settle.Settling.TheVariants as settling
-use Rattle.papaya_owes.specs.Given.Seize.declared.states.TheConstants.{LAST_SLOT}
-use Rattle.papaya_owes.specs.Given.Seize.World.{World, Hand, InUse, LeftTo, Handed, Row, Rests, Registers, Enters, Settles, Leaves, Defers, Frees}
-use Rattle.papaya_owes.proofs.Given.SeizeMoves.State.Ghost.{Life, IsDeferring, State, is_given}
-use Rattle.papaya_owes.proofs.Given.SeizeMoves.Sets.Unmoved.{is_in_wait}
-use Rattle.papaya_owes.proofs.Given.SeizeRule.Rows.Known.{FitsDefer, FitsRow}
-use Rattle.papaya_owes.proofs.Given.SeizeRule.Rows.Told.{IsOnWay}
-use Rattle.papaya_owes.proofs.Given.SeizeRule.Words.Named.{link-block}
-use Rattle.papaya_owes.proofs.Given.SeizeRule.Words.Shows.{Extra}
-use Rattle.papaya_owes.proofs.Given.SeizeRule.Words.There.{live_pos}
-use Rattle.papaya_owes.proofs.Given.SeizeRule.Words.View.{View, view}
-use Rattle.papaya_owes.specs.Given.Tables.Nodes.{deferred_word}
-use Rattle.papaya_owes.specs.Given.Tables.declared.node.Node.{Node}
-use Rattle.papaya_owes.specs.Given.Tables.declared.node.Node.TheVariants as node
-use Rattle.papaya_owes.specs.Given.Tables.declared.setting.Setting.{Setting}
-use Rattle.papaya_owes.specs.Given.Schedules.Moment.{Moment}
-use Rattle.papaya_owes.specs.Given.Teller.declared.changed.Changed.{Changed}
-use Rattle.papaya_owes.specs.Given.Teller.declared.changed.Changed.TheVariants as changed
-use Rattle.papaya_owes.specs.Given.Rule.Words.{byte_of}
-use Rattle.papaya_owes.proofs.Given.Rule.Laws.{words_name_pairs, bytes_are_few}
+use Rattle.papaya_owes.specs.Given.SeizeLaw.{is_retired}
+use Rattle.papaya_owes.specs.Given.SeizeDeclared.progress.Progress.{Progress}
+use Rattle.papaya_owes.specs.Given.SeizeDeclared.rows.defer.Defer.{Defer}
+use Rattle.papaya_owes.specs.Given.SeizeDeclared.rows.defer.Deferring.{Deferring}
+use Rattle.papaya_owes.specs.Given.SeizeDeclared.rows.defer.Deferring.TheVariants as deferring
+use Rattle.papaya_owes.specs.Given.SeizeDeclared.rows.settle.Settle.{Settle}
+use Rattle.papaya_owes.specs.Given.SeizeDeclared.rows.settle.Settled.{Settled}
+use Rattle.papaya_owes.specs.Given.SeizeDeclared.rows.settle.Settling.{Settling}
+use Rattle.papaya_owes.specs.Given.SeizeDeclared.rows.settle.Settling.TheVariants as settling
+use Rattle.papaya_owes.specs.Given.SeizeDeclared.states.TheConstants.{LAST_SLOT}
+use Rattle.papaya_owes.specs.Given.SeizeWorld.{World, Hand, InUse, LeftTo, Handed, Row, Rests, Registers, Enters, Settles, Leaves, Defers, Frees}
+use Rattle.papaya_owes.proofs.Given.SeizeMovesState.Ghost.{Life, IsDeferring, State, is_given}
+use Rattle.papaya_owes.proofs.Given.SeizeMovesSets.Unmoved.{is_in_wait}
+use Rattle.papaya_owes.proofs.Given.SeizeRuleRows.Known.{FitsDefer, FitsRow}
+use Rattle.papaya_owes.proofs.Given.SeizeRuleRows.Told.{IsOnWay}
+use Rattle.papaya_owes.proofs.Given.SeizeRuleWords.Named.{link-block}
+use Rattle.papaya_owes.proofs.Given.SeizeRuleWords.Shows.{Extra}
+use Rattle.papaya_owes.proofs.Given.SeizeRuleWords.There.{live_pos}
+use Rattle.papaya_owes.proofs.Given.SeizeRuleWords.View.{View, view}
+use Rattle.papaya_owes.specs.Given.TablesNodes.{deferred_word}
+use Rattle.papaya_owes.specs.Given.TablesDeclared.node.Node.{Node}
+use Rattle.papaya_owes.specs.Given.TablesDeclared.node.Node.TheVariants as node
+use Rattle.papaya_owes.specs.Given.TablesDeclared.setting.Setting.{Setting}
+use Rattle.papaya_owes.specs.Given.SchedulesMoment.{Moment}
+use Rattle.papaya_owes.specs.Given.TellerDeclared.changed.Changed.{Changed}
+use Rattle.papaya_owes.specs.Given.TellerDeclared.changed.Changed.TheVariants as changed
+use Rattle.papaya_owes.specs.Given.RuleWords.{byte_of}
+use Rattle.papaya_owes.proofs.Given.RuleLaws.{words_name_pairs, bytes_are_few}
 use Rattle.papaya_waiters.specs.Given.Callers.Sights.{seen_by}
 use Rattle.papaya_waiters.specs.Given.Callers.Together.{UnderWay, CameAbout}
-use Rattle.papaya_owes.specs.Given.Effects.Effects.{known_after}
-use Rattle.papaya_owes.specs.Given.Effects.Known.{Known}
-use Rattle.papaya_owes.specs.Given.Effects.declared.acting.Acting.TheVariants as acts
-use Rattle.papaya_owes.specs.Given.Effects.declared.role.Role.{Role}
-use Rattle.papaya_owes.specs.Given.Effects.declared.role.Role.TheVariants as role
-use Rattle.papaya_owes.specs.Given.Scenes.declared.row.RowTold.{RowTold}
-use Rattle.papaya_owes.specs.Given.Scenes.declared.row.SlotRow.{SlotRow}
+use Rattle.papaya_owes.specs.Given.EffectsEffects.{known_after}
+use Rattle.papaya_owes.specs.Given.EffectsKnown.{Known}
+use Rattle.papaya_owes.specs.Given.EffectsDeclared.acting.Acting.TheVariants as acts
+use Rattle.papaya_owes.specs.Given.EffectsDeclared.role.Role.{Role}
+use Rattle.papaya_owes.specs.Given.EffectsDeclared.role.Role.TheVariants as role
+use Rattle.papaya_owes.specs.Given.ScenesDeclared.row.RowTold.{RowTold}
+use Rattle.papaya_owes.specs.Given.ScenesDeclared.row.SlotRow.{SlotRow}
 use Rattle.papaya_waiters.specs.Given.Finishes.Endings.{Finishing}
 use Rattle.papaya_waiters.specs.Given.Finishes.Machines.{machine_of}
 use Rattle.papaya_waiters.specs.Given.Finishes.Makings.{Beginning}
-use Rattle.papaya_owes.specs.Given.Follows.Blocks.{HasRole}
-use Rattle.papaya_owes.proofs.Given.Follows.Alike.{put_elsewhere}
-use Rattle.papaya_owes.proofs.Given.Follows.Onward.{IsOfMap}
-use Rattle.papaya_owes.proofs.Given.Follows.Told.{roomed_as_many}
-use Rattle.papaya_owes.specs.Given.Others.Makings.{WasNew}
-use Rattle.papaya_owes.proofs.Given.Others.RowPlans.{TellsRow, row_tells}
-use Rattle.papaya_owes.specs.Given.Moments.Whole.{ShowsWhole}
+use Rattle.papaya_owes.specs.Given.FollowsBlocks.{HasRole}
+use Rattle.papaya_owes.proofs.Given.FollowsAlike.{put_elsewhere}
+use Rattle.papaya_owes.proofs.Given.FollowsOnward.{IsOfMap}
+use Rattle.papaya_owes.proofs.Given.FollowsTold.{roomed_as_many}
+use Rattle.papaya_owes.specs.Given.OthersMakings.{WasNew}
+use Rattle.papaya_owes.proofs.Given.OthersRowPlans.{TellsRow, row_tells}
+use Rattle.papaya_owes.specs.Given.MomentsWhole.{ShowsWhole}
 use Rattle.papaya_owes.proofs.Lasting.{IsAside, ending_says, ending_spares}
-use Rattle.papaya_owes.specs.Given.Settles.Due.{due_in_settle, due_in_defer}
-use Rattle.papaya_owes.specs.Given.Settles.Hand.{HoldsInHand, IsPairRole, IsTableRole, IsPairAt, IsTableAt, IsSameRole, NotesInHand, SameInHand}
-use Rattle.papaya_owes.proofs.Given.Settles.Hand.Held.{IsTakenOut, IsDueBlock, IsHeld, HeldOut, HeldByRow, Held as HeldBy, due_of_row, held_in_hand}
-use Rattle.papaya_owes.proofs.Given.Settles.Hand.Roles.{hand_both}
-use Rattle.papaya_owes.specs.Given.Lives.Retired.{IsDue, IsToRetire, ShowsRetired}
-use Rattle.papaya_owes.proofs.Given.Lives.Makings.{role_kept}
-use Rattle.papaya_owes.proofs.Given.Lives.Reclaimed.{leaves, none_to_retire, there}
-use Rattle.papaya_owes.proofs.Given.Lives.Retires.{given_hand, row_life}
-use Rattle.papaya_owes.proofs.Given.Lives.Rows.{on_the_way}
-use Rattle.papaya_owes.proofs.Given.Lives.Taken.{told_retired}
-use Rattle.papaya_owes.proofs.Given.Lives.Worlds.{Kept, runs_kept, start_kept, waiting_hand}
-use Rattle.papaya_owes.proofs.Given.Scenes.May.{standing_is}
-use Rattle.papaya_owes.specs.Given.Scenes.Ending.{EndingLeads}
-use Rattle.papaya_owes.specs.Given.Scenes.Held.{Held, IsAt}
-use Rattle.papaya_owes.specs.Given.Scenes.Making.{MakingLeads}
-use Rattle.papaya_owes.specs.Given.Scenes.OnSlots.{RowLeads}
-use Rattle.papaya_owes.specs.Given.Scenes.Scene.{IsOnSlot, Scene, slot_of}
+use Rattle.papaya_owes.specs.Given.SettlesDue.{due_in_settle, due_in_defer}
+use Rattle.papaya_owes.specs.Given.SettlesHand.{HoldsInHand, IsPairRole, IsTableRole, IsPairAt, IsTableAt, IsSameRole, NotesInHand, SameInHand}
+use Rattle.papaya_owes.proofs.Given.SettlesHand.Held.{IsTakenOut, IsDueBlock, IsHeld, HeldOut, HeldByRow, Held as HeldBy, due_of_row, held_in_hand}
+use Rattle.papaya_owes.proofs.Given.SettlesHand.Roles.{hand_both}
+use Rattle.papaya_owes.specs.Given.LivesRetired.{IsDue, IsToRetire, ShowsRetired}
+use Rattle.papaya_owes.proofs.Given.LivesMakings.{role_kept}
+use Rattle.papaya_owes.proofs.Given.LivesReclaimed.{leaves, none_to_retire, there}
+use Rattle.papaya_owes.proofs.Given.LivesRetires.{given_hand, row_life}
+use Rattle.papaya_owes.proofs.Given.LivesRows.{on_the_way}
+use Rattle.papaya_owes.proofs.Given.LivesTaken.{told_retired}
+use Rattle.papaya_owes.proofs.Given.LivesWorlds.{Kept, runs_kept, start_kept, waiting_hand}
+use Rattle.papaya_owes.proofs.Given.ScenesMay.{standing_is}
+use Rattle.papaya_owes.specs.Given.ScenesEnding.{EndingLeads}
+use Rattle.papaya_owes.specs.Given.ScenesHeld.{Held, IsAt}
+use Rattle.papaya_owes.specs.Given.ScenesMaking.{MakingLeads}
+use Rattle.papaya_owes.specs.Given.ScenesOnSlots.{RowLeads}
+use Rattle.papaya_owes.specs.Given.ScenesScene.{IsOnSlot, Scene, slot_of}
 
 -- what a row is to retire, or to put behind another block
 

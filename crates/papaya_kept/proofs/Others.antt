@@ -1,29 +1,29 @@
 -- What is no call keeps all that is kept: a row on a slot, the making of a map, and the end of one.
 use Rattle.std.specs.Prelude.{◌≡◌, ℕ, Bool, List, Some, None}
 use Rattle.std.proofs.Common.{refl, sym, subst, inl}
-use Rattle.papaya_owes.specs.Given.Seize.declared.progress.Progress.{Progress}
-use Rattle.papaya_owes.specs.Given.Seize.declared.progress.Progress.TheVariants as progress
-use Rattle.papaya_owes.specs.Given.Seize.declared.rows.settle.Settled.{Settled}
-use Rattle.papaya_owes.specs.Given.Seize.declared.rows.settle.Settled.TheVariants as settled
-use Rattle.papaya_owes.specs.Given.Seize.World.{World, Begin, Step}
-use Rattle.papaya_owes.specs.Given.Tables.declared.node.Node.{Node}
-use Rattle.papaya_owes.specs.Given.Tables.declared.setting.Setting.{Setting}
-use Rattle.papaya_owes.specs.Given.Raw.declared.machines.end_map.EndMap.{EndMap}
-use Rattle.papaya_owes.specs.Given.Resize.declared.new_map.NewMap.{NewMap}
-use Rattle.papaya_owes.specs.Given.Schedules.Effects.{with_effects}
-use Rattle.papaya_owes.specs.Given.Schedules.declared.effect.Effect.{Effect}
-use Rattle.papaya_owes.specs.Given.Schedules.Moment.{Moment}
-use Rattle.papaya_owes.specs.Given.Effects.Effects.{effects_of, known_after}
-use Rattle.papaya_owes.specs.Given.Effects.Known.{Known}
-use Rattle.papaya_owes.specs.Given.Effects.declared.acting.Acting.TheVariants as acts
+use Rattle.papaya_owes.specs.Given.SeizeDeclared.progress.Progress.{Progress}
+use Rattle.papaya_owes.specs.Given.SeizeDeclared.progress.Progress.TheVariants as progress
+use Rattle.papaya_owes.specs.Given.SeizeDeclared.rows.settle.Settled.{Settled}
+use Rattle.papaya_owes.specs.Given.SeizeDeclared.rows.settle.Settled.TheVariants as settled
+use Rattle.papaya_owes.specs.Given.SeizeWorld.{World, Begin, Step}
+use Rattle.papaya_owes.specs.Given.TablesDeclared.node.Node.{Node}
+use Rattle.papaya_owes.specs.Given.TablesDeclared.setting.Setting.{Setting}
+use Rattle.papaya_owes.specs.Given.RawDeclared.machines.end_map.EndMap.{EndMap}
+use Rattle.papaya_owes.specs.Given.ResizeDeclared.new_map.NewMap.{NewMap}
+use Rattle.papaya_owes.specs.Given.SchedulesEffects.{with_effects}
+use Rattle.papaya_owes.specs.Given.SchedulesDeclared.effect.Effect.{Effect}
+use Rattle.papaya_owes.specs.Given.SchedulesMoment.{Moment}
+use Rattle.papaya_owes.specs.Given.EffectsEffects.{effects_of, known_after}
+use Rattle.papaya_owes.specs.Given.EffectsKnown.{Known}
+use Rattle.papaya_owes.specs.Given.EffectsDeclared.acting.Acting.TheVariants as acts
 use Rattle.papaya_waiters.specs.Given.Finishes.Endings.{Finishing}
 use Rattle.papaya_waiters.specs.Given.Finishes.FactsEnds.{Deed}
 use Rattle.papaya_waiters.specs.Given.Finishes.Makings.{Beginning}
-use Rattle.papaya_owes.specs.Given.Others.Endings.{ending_after}
-use Rattle.papaya_owes.specs.Given.Others.Makings.{making_after}
-use Rattle.papaya_owes.specs.Given.Others.Rows.{scene_then}
-use Rattle.papaya_owes.proofs.Given.Others.Quiet.{calls_none}
-use Rattle.papaya_owes.proofs.Given.Others.RowPlans.{row_tells}
+use Rattle.papaya_owes.specs.Given.OthersEndings.{ending_after}
+use Rattle.papaya_owes.specs.Given.OthersMakings.{making_after}
+use Rattle.papaya_owes.specs.Given.OthersRows.{scene_then}
+use Rattle.papaya_owes.proofs.Given.OthersQuiet.{calls_none}
+use Rattle.papaya_owes.proofs.Given.OthersRowPlans.{row_tells}
 use Rattle.papaya_owes.proofs.Aside.{stays_made}
 use Rattle.papaya_owes.proofs.EndsOfMaps.{endings_keep_made}
 use Rattle.papaya_owes.proofs.Looking.Between.{stays_looking}
@@ -35,40 +35,40 @@ use Rattle.papaya_owes.proofs.Tables.Aside.{stays_tables}
 use Rattle.papaya_owes.proofs.Tables.EndsOfMaps.{endings_keep_tables}
 use Rattle.papaya_owes.proofs.Tables.MakingsOfMaps.{makings_keep_tables}
 use Rattle.papaya_owes.proofs.Tables.RowsOnSlots.{rows_keep_tables}
-use Rattle.papaya_owes.proofs.Given.Settles.Between.{stays_counts, effects_leave_counts}
-use Rattle.papaya_owes.proofs.Given.Settles.EntryScenes.{rows_begin_entries, rows_keep_entries, makings_keep_entries, endings_begin_entries, endings_keep_entries}
-use Rattle.papaya_owes.proofs.Given.Settles.Hand.Between.{stays_owed, effects_leave_owed}
-use Rattle.papaya_owes.proofs.Given.Settles.Handing.{others_leave_handing}
-use Rattle.papaya_owes.specs.Given.Lives.Behind.{ShowsWaiting, WaitsOnce}
-use Rattle.papaya_owes.specs.Given.Lives.Lying.{ShowsLying}
-use Rattle.papaya_owes.specs.Given.Lives.Order.{ShowsOrder}
-use Rattle.papaya_owes.proofs.Given.Lives.HandedEnds.{endings_keep_handed}
-use Rattle.papaya_owes.proofs.Given.Lives.HandedMakings.{makings_keep_handed}
-use Rattle.papaya_owes.proofs.Given.Lives.HandedRows.{endings_begin_handed, others_leave_handed, rows_begin_handed, rows_keep_handed}
-use Rattle.papaya_owes.proofs.Given.Lives.Ends.{endings_find_waiting}
-use Rattle.papaya_owes.proofs.Given.Lives.LeftEnds.{endings_keep_left}
-use Rattle.papaya_owes.proofs.Given.Lives.LeftTables.{others_keep_left, endings_begin_left, rows_begin_left, rows_keep_left, makings_keep_left}
-use Rattle.papaya_owes.proofs.Given.Lives.Lying.{endings_begin_lying, rows_begin_lying, rows_keep_lying, makings_keep_lying}
-use Rattle.papaya_owes.proofs.Given.Lives.LyingEnds.{endings_keep_lying}
-use Rattle.papaya_owes.proofs.Given.Lives.Order.{endings_begin_order, rows_begin_order, rows_keep_order, makings_keep_order}
-use Rattle.papaya_owes.proofs.Given.Lives.OrderEnds.{endings_keep_order}
-use Rattle.papaya_owes.proofs.Given.Lives.Makings.{makings_keep_waiting, world_then, apart}
-use Rattle.papaya_owes.proofs.Given.Lives.Once.{once_fewer, row_fewer}
-use Rattle.papaya_owes.proofs.Given.Lives.Reclaimed.{others_leave_retired, endings_begin_retired, rows_begin_retired, rows_keep_retired, rows_find_retired}
-use Rattle.papaya_owes.proofs.Given.Lives.RetiredCalls.{makings_keep_retired}
-use Rattle.papaya_owes.proofs.Given.Lives.RetiredEnds.{endings_keep_retired}
-use Rattle.papaya_owes.proofs.Given.Lives.Waiting.{endings_begin_waiting, rows_begin_waiting, rows_keep_waiting, rows_find_waiting}
-use Rattle.papaya_owes.proofs.Given.Lives.WaitingEnds.{endings_keep_waiting, once_then}
+use Rattle.papaya_owes.proofs.Given.SettlesBetween.{stays_counts, effects_leave_counts}
+use Rattle.papaya_owes.proofs.Given.SettlesEntryScenes.{rows_begin_entries, rows_keep_entries, makings_keep_entries, endings_begin_entries, endings_keep_entries}
+use Rattle.papaya_owes.proofs.Given.SettlesHand.Between.{stays_owed, effects_leave_owed}
+use Rattle.papaya_owes.proofs.Given.SettlesHanding.{others_leave_handing}
+use Rattle.papaya_owes.specs.Given.LivesBehind.{ShowsWaiting, WaitsOnce}
+use Rattle.papaya_owes.specs.Given.LivesLying.{ShowsLying}
+use Rattle.papaya_owes.specs.Given.LivesOrder.{ShowsOrder}
+use Rattle.papaya_owes.proofs.Given.LivesHandedEnds.{endings_keep_handed}
+use Rattle.papaya_owes.proofs.Given.LivesHandedMakings.{makings_keep_handed}
+use Rattle.papaya_owes.proofs.Given.LivesHandedRows.{endings_begin_handed, others_leave_handed, rows_begin_handed, rows_keep_handed}
+use Rattle.papaya_owes.proofs.Given.LivesEnds.{endings_find_waiting}
+use Rattle.papaya_owes.proofs.Given.LivesLeftEnds.{endings_keep_left}
+use Rattle.papaya_owes.proofs.Given.LivesLeftTables.{others_keep_left, endings_begin_left, rows_begin_left, rows_keep_left, makings_keep_left}
+use Rattle.papaya_owes.proofs.Given.LivesLying.{endings_begin_lying, rows_begin_lying, rows_keep_lying, makings_keep_lying}
+use Rattle.papaya_owes.proofs.Given.LivesLyingEnds.{endings_keep_lying}
+use Rattle.papaya_owes.proofs.Given.LivesOrder.{endings_begin_order, rows_begin_order, rows_keep_order, makings_keep_order}
+use Rattle.papaya_owes.proofs.Given.LivesOrderEnds.{endings_keep_order}
+use Rattle.papaya_owes.proofs.Given.LivesMakings.{makings_keep_waiting, world_then, apart}
+use Rattle.papaya_owes.proofs.Given.LivesOnce.{once_fewer, row_fewer}
+use Rattle.papaya_owes.proofs.Given.LivesReclaimed.{others_leave_retired, endings_begin_retired, rows_begin_retired, rows_keep_retired, rows_find_retired}
+use Rattle.papaya_owes.proofs.Given.LivesRetiredCalls.{makings_keep_retired}
+use Rattle.papaya_owes.proofs.Given.LivesRetiredEnds.{endings_keep_retired}
+use Rattle.papaya_owes.proofs.Given.LivesWaiting.{endings_begin_waiting, rows_begin_waiting, rows_keep_waiting, rows_find_waiting}
+use Rattle.papaya_owes.proofs.Given.LivesWaitingEnds.{endings_keep_waiting, once_then}
 use Rattle.papaya_kept.specs.Steps.{RowsBeginKept, RowsKeepKept, RowsFindKept, MakingsKeepKept, EndingsBeginKept, EndingsKeepKept, EndingsFindKept}
 use Rattle.papaya_kept.proofs.Calls.{own_made}
 use Rattle.papaya_kept.proofs.Ends.{endings_begin_ends, endings_keep_ends, makings_keep_ends, rows_leave_ends}
 use Rattle.papaya_kept.proofs.InHand.{rows_leave_in_hand, makings_leave_in_hand, endings_leave_in_hand}
 use Rattle.papaya_kept.proofs.Stays.{calls_same, entries_stay, same_in_hand}
-use Rattle.papaya_owes.specs.Given.Scenes.Ending.{EndingComesTo, ending_begun}
-use Rattle.papaya_owes.specs.Given.Scenes.Held.{Held}
-use Rattle.papaya_owes.specs.Given.Scenes.Making.{MakingComesTo}
-use Rattle.papaya_owes.specs.Given.Scenes.Rows.{request_of}
-use Rattle.papaya_owes.specs.Given.Scenes.Scene.{Scene, slot_of}
+use Rattle.papaya_owes.specs.Given.ScenesEnding.{EndingComesTo, ending_begun}
+use Rattle.papaya_owes.specs.Given.ScenesHeld.{Held}
+use Rattle.papaya_owes.specs.Given.ScenesMaking.{MakingComesTo}
+use Rattle.papaya_owes.specs.Given.ScenesRows.{request_of}
+use Rattle.papaya_owes.specs.Given.ScenesScene.{Scene, slot_of}
 
 -- the calls and ends that are under way after a step of a making, and the calls after one of an end
 module _ {K V : Type 0} (same : K → K → Bool) (hash : ℕ → K → ℕ) (s : Scene K V) (old new : Held K V) (i : ℕ) where

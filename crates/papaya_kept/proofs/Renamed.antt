@@ -1,15 +1,15 @@
 -- The names of callers matter only where they have a call under way.
 use Rattle.std.specs.Prelude.{◌≡◌, ℕ, Bool, true, List}
 use Rattle.std.proofs.Common.{sym, subst, ◌∙◌, ap}
-use Rattle.papaya_owes.specs.Given.Runs.Same.{is_same}
-use Rattle.papaya_owes.specs.Given.Schedules.Moment.{Moment}
-use Rattle.papaya_owes.specs.Given.Schedules.Views.{call_of}
-use Rattle.papaya_owes.specs.Given.Effects.Known.{Known}
-use Rattle.papaya_owes.specs.Given.Follows.Calls.{ShowsCalls}
-use Rattle.papaya_owes.specs.Given.Follows.Shows.{Shows}
-use Rattle.papaya_owes.specs.Given.Hands.Asked.{ShowsAsked}
-use Rattle.papaya_owes.specs.Given.Moments.Whole.{ShowsWhole}
-use Rattle.papaya_owes.specs.Given.Scenes.Scene.{HasCall, Scene}
+use Rattle.papaya_owes.specs.Given.RunsSame.{is_same}
+use Rattle.papaya_owes.specs.Given.SchedulesMoment.{Moment}
+use Rattle.papaya_owes.specs.Given.SchedulesViews.{call_of}
+use Rattle.papaya_owes.specs.Given.EffectsKnown.{Known}
+use Rattle.papaya_owes.specs.Given.FollowsCalls.{ShowsCalls}
+use Rattle.papaya_owes.specs.Given.FollowsShows.{Shows}
+use Rattle.papaya_owes.specs.Given.HandsAsked.{ShowsAsked}
+use Rattle.papaya_owes.specs.Given.MomentsWhole.{ShowsWhole}
+use Rattle.papaya_owes.specs.Given.ScenesScene.{HasCall, Scene}
 
 module _ {K V : Type 0} (same : K → K → Bool) (name name2 : ℕ → List ℕ) (m : Moment K V) (known : Known) (s : Scene K V) (agree : (i : ℕ) → HasCall s i → name2 i ≡ name i) where
   pub calls : ShowsCalls same name m s.calls → ShowsCalls same name2 m s.calls

@@ -1,15 +1,15 @@
 -- All that is kept is so as long as nothing of it has changed: the same world, the same calls, what the moment says of calls, tables and pairs.
 use Rattle.std.specs.Prelude.{◌≡◌, ℕ, List, Option, Some, find}
 use Rattle.std.proofs.Common.{refl, ap, sym, subst, ◌∙◌, inl}
-use Rattle.papaya_owes.specs.Given.Seize.World.{World, with_at}
-use Rattle.papaya_owes.specs.Given.Tables.declared.node.Node.{Node}
-use Rattle.papaya_owes.specs.Given.Runs.Same.{is_same}
-use Rattle.papaya_owes.specs.Given.Schedules.Moment.{UnderWay as CallThere, Moment}
-use Rattle.papaya_owes.specs.Given.Schedules.Views.{call_of}
+use Rattle.papaya_owes.specs.Given.SeizeWorld.{World, with_at}
+use Rattle.papaya_owes.specs.Given.TablesDeclared.node.Node.{Node}
+use Rattle.papaya_owes.specs.Given.RunsSame.{is_same}
+use Rattle.papaya_owes.specs.Given.SchedulesMoment.{UnderWay as CallThere, Moment}
+use Rattle.papaya_owes.specs.Given.SchedulesViews.{call_of}
 use Rattle.papaya_waiters.specs.Given.Callers.Together.{UnderWay}
-use Rattle.papaya_owes.specs.Given.Effects.Known.{Known}
+use Rattle.papaya_owes.specs.Given.EffectsKnown.{Known}
 use Rattle.papaya_waiters.specs.Given.Finishes.Machines.{machine_of}
-use Rattle.papaya_owes.specs.Given.Follows.Calling.{come_to}
+use Rattle.papaya_owes.specs.Given.FollowsCalling.{come_to}
 use Rattle.papaya_owes.proofs.Aside.{stays_made}
 use Rattle.papaya_owes.proofs.Between.{made_begins, calls_come_to_made}
 use Rattle.papaya_owes.proofs.Looking.Between.{looking_begins, stays_looking, calls_come_to_looking}
@@ -17,26 +17,26 @@ use Rattle.papaya_owes.proofs.Short.Between.{short_begins, stays_short, calls_co
 use Rattle.papaya_owes.proofs.Grown.Between.{grown_begins, stays_grown, calls_come_to_grown}
 use Rattle.papaya_owes.proofs.Tables.Aside.{tables_begin, stays_tables, makings_begin_tables}
 use Rattle.papaya_owes.proofs.Tables.Between.{calls_come_to_tables}
-use Rattle.papaya_owes.specs.Given.Settles.Entries.{IsSomebodys, IsBlank, RetiresOne, ShowsEntries}
-use Rattle.papaya_owes.specs.Given.Settles.Hand.{SameInHand, ShowsOwed}
-use Rattle.papaya_owes.specs.Given.Settles.Handing.{HandsTold}
-use Rattle.papaya_owes.proofs.Given.Settles.Between.{counts_begin, stays_counts, calls_come_to_counts}
-use Rattle.papaya_owes.proofs.Given.Settles.EntryScenes.{entries_begin}
-use Rattle.papaya_owes.proofs.Given.Settles.Hand.Between.{owed_begins, stays_owed, calls_come_to_owed}
-use Rattle.papaya_owes.proofs.Given.Settles.Hand.Roles.{hand_kept}
-use Rattle.papaya_owes.proofs.Given.Settles.Handing.{handing_begins, calls_come_to_handing}
-use Rattle.papaya_owes.specs.Given.Lives.Behind.{ShowsWaiting, WaitsOnce}
-use Rattle.papaya_owes.specs.Given.Lives.Lying.{ShowsLying}
-use Rattle.papaya_owes.specs.Given.Lives.Order.{ShowsOrder}
-use Rattle.papaya_owes.proofs.Given.Lives.HandedRows.{handed_begins, others_leave_handed}
-use Rattle.papaya_owes.proofs.Given.Lives.LeftTables.{left_begins, others_keep_left}
-use Rattle.papaya_owes.proofs.Given.Lives.Lying.{lying_begins, others_leave_lying}
-use Rattle.papaya_owes.proofs.Given.Lives.Order.{order_begins, others_leave_order}
-use Rattle.papaya_owes.proofs.Given.Lives.Reclaimed.{retired_begins, others_leave_retired}
-use Rattle.papaya_owes.proofs.Given.Lives.Waiting.{waiting_begins, others_leave_waiting}
+use Rattle.papaya_owes.specs.Given.SettlesEntries.{IsSomebodys, IsBlank, RetiresOne, ShowsEntries}
+use Rattle.papaya_owes.specs.Given.SettlesHand.{SameInHand, ShowsOwed}
+use Rattle.papaya_owes.specs.Given.SettlesHanding.{HandsTold}
+use Rattle.papaya_owes.proofs.Given.SettlesBetween.{counts_begin, stays_counts, calls_come_to_counts}
+use Rattle.papaya_owes.proofs.Given.SettlesEntryScenes.{entries_begin}
+use Rattle.papaya_owes.proofs.Given.SettlesHand.Between.{owed_begins, stays_owed, calls_come_to_owed}
+use Rattle.papaya_owes.proofs.Given.SettlesHand.Roles.{hand_kept}
+use Rattle.papaya_owes.proofs.Given.SettlesHanding.{handing_begins, calls_come_to_handing}
+use Rattle.papaya_owes.specs.Given.LivesBehind.{ShowsWaiting, WaitsOnce}
+use Rattle.papaya_owes.specs.Given.LivesLying.{ShowsLying}
+use Rattle.papaya_owes.specs.Given.LivesOrder.{ShowsOrder}
+use Rattle.papaya_owes.proofs.Given.LivesHandedRows.{handed_begins, others_leave_handed}
+use Rattle.papaya_owes.proofs.Given.LivesLeftTables.{left_begins, others_keep_left}
+use Rattle.papaya_owes.proofs.Given.LivesLying.{lying_begins, others_leave_lying}
+use Rattle.papaya_owes.proofs.Given.LivesOrder.{order_begins, others_leave_order}
+use Rattle.papaya_owes.proofs.Given.LivesReclaimed.{retired_begins, others_leave_retired}
+use Rattle.papaya_owes.proofs.Given.LivesWaiting.{waiting_begins, others_leave_waiting}
 use Rattle.papaya_kept.proofs.Ends.{ends_begin, ends_stay}
 use Rattle.papaya_kept.specs.Steps.{BeginsKept, StaysKept, RenamedKept, CallsComeToKept, MakingsBeginKept}
-use Rattle.papaya_owes.specs.Given.Scenes.Scene.{HasCall, Scene}
+use Rattle.papaya_owes.specs.Given.ScenesScene.{HasCall, Scene}
 
 pub begins_kept : (K V : Type 0) → BeginsKept K V
 begins_kept K V roots name = record {

@@ -5,30 +5,30 @@ use Rattle.papaya_waiters.specs.Given.Waits.Others.{copier_in, copier_in_sweep}
 use Rattle.papaya_waiters.proofs.BeginsSweeps.{quiet_none}
 use Rattle.papaya_waiters.proofs.Likes.{IsFreshCopier}
 use Rattle.papaya_waiters.specs.Given.SeizeWords.declared.fault.Fault.TheVariants.{RemoveNothing}
-use Rattle.papaya_owes.specs.Given.Tables.declared.marks.TheConstants.{TOMBSTONE}
-use Rattle.papaya_owes.specs.Given.Raw.CallAsks.{absent_told, present_told, told_at, with_absent, with_present}
-use Rattle.papaya_owes.specs.Given.Raw.CallPoints.{at_gap, burying, ending, going, over, storing}
-use Rattle.papaya_owes.specs.Given.Raw.Machine.{sweep_told}
-use Rattle.papaya_owes.specs.Given.Raw.declared.machines.answer.End.{End}
-use Rattle.papaya_owes.specs.Given.Raw.declared.machines.answer.End.TheVariants as ends
-use Rattle.papaya_owes.specs.Given.Raw.declared.machines.answer.KeyAnswer.TheVariants as answers
-use Rattle.papaya_owes.specs.Given.Raw.declared.machines.asking.Asking.{Asking}
-use Rattle.papaya_owes.specs.Given.Raw.declared.machines.asking.Asking.TheVariants as asking
-use Rattle.papaya_owes.specs.Given.Raw.declared.machines.asking.Gap.{Gap}
-use Rattle.papaya_owes.specs.Given.Raw.declared.machines.asking.Gap.TheVariants as gaps
-use Rattle.papaya_owes.specs.Given.Raw.declared.machines.asking.Reply.{Reply}
-use Rattle.papaya_owes.specs.Given.Raw.declared.machines.asking.Reply.TheVariants as replies
-use Rattle.papaya_owes.specs.Given.Raw.declared.machines.asking.Takes.{Takes}
-use Rattle.papaya_owes.specs.Given.Raw.declared.machines.asking.Takes.TheVariants as takes
-use Rattle.papaya_owes.specs.Given.Raw.declared.machines.asking.Told.{Told}
-use Rattle.papaya_owes.specs.Given.Raw.declared.machines.asking.Told.TheVariants as tells
-use Rattle.papaya_owes.specs.Given.Raw.declared.machines.call.KeyCall.{KeyCall}
-use Rattle.papaya_owes.specs.Given.Raw.declared.machines.call.Calling.{Calling}
-use Rattle.papaya_owes.specs.Given.Raw.declared.machines.call.Calling.TheVariants as at
-use Rattle.papaya_owes.specs.Given.Sweeps.SweepPoints.{further, reply_at}
-use Rattle.papaya_owes.specs.Given.Sweeps.declared.sweep.Sweep.{Sweep}
-use Rattle.papaya_owes.specs.Given.Sweeps.declared.sweep.Sweeping.{Sweeping}
-use Rattle.papaya_owes.specs.Given.Sweeps.declared.sweep.Sweeping.TheVariants as sweeping
+use Rattle.papaya_owes.specs.Given.TablesDeclared.marks.TheConstants.{TOMBSTONE}
+use Rattle.papaya_owes.specs.Given.RawCallAsks.{absent_told, present_told, told_at, with_absent, with_present}
+use Rattle.papaya_owes.specs.Given.RawCallPoints.{at_gap, burying, ending, going, over, storing}
+use Rattle.papaya_owes.specs.Given.RawMachine.{sweep_told}
+use Rattle.papaya_owes.specs.Given.RawDeclared.machines.answer.End.{End}
+use Rattle.papaya_owes.specs.Given.RawDeclared.machines.answer.End.TheVariants as ends
+use Rattle.papaya_owes.specs.Given.RawDeclared.machines.answer.KeyAnswer.TheVariants as answers
+use Rattle.papaya_owes.specs.Given.RawDeclared.machines.asking.Asking.{Asking}
+use Rattle.papaya_owes.specs.Given.RawDeclared.machines.asking.Asking.TheVariants as asking
+use Rattle.papaya_owes.specs.Given.RawDeclared.machines.asking.Gap.{Gap}
+use Rattle.papaya_owes.specs.Given.RawDeclared.machines.asking.Gap.TheVariants as gaps
+use Rattle.papaya_owes.specs.Given.RawDeclared.machines.asking.Reply.{Reply}
+use Rattle.papaya_owes.specs.Given.RawDeclared.machines.asking.Reply.TheVariants as replies
+use Rattle.papaya_owes.specs.Given.RawDeclared.machines.asking.Takes.{Takes}
+use Rattle.papaya_owes.specs.Given.RawDeclared.machines.asking.Takes.TheVariants as takes
+use Rattle.papaya_owes.specs.Given.RawDeclared.machines.asking.Told.{Told}
+use Rattle.papaya_owes.specs.Given.RawDeclared.machines.asking.Told.TheVariants as tells
+use Rattle.papaya_owes.specs.Given.RawDeclared.machines.call.KeyCall.{KeyCall}
+use Rattle.papaya_owes.specs.Given.RawDeclared.machines.call.Calling.{Calling}
+use Rattle.papaya_owes.specs.Given.RawDeclared.machines.call.Calling.TheVariants as at
+use Rattle.papaya_owes.specs.Given.SweepsSweepPoints.{further, reply_at}
+use Rattle.papaya_owes.specs.Given.SweepsDeclared.sweep.Sweep.{Sweep}
+use Rattle.papaya_owes.specs.Given.SweepsDeclared.sweep.Sweeping.{Sweeping}
+use Rattle.papaya_owes.specs.Given.SweepsDeclared.sweep.Sweeping.TheVariants as sweeping
 use Rattle.papaya_waiters.proofs.Given.Late.Swept.Sweeps.Stands.{quiet_further}
 
 module _ {K V : Type 0} where

@@ -1,12 +1,12 @@
 -- Of each map: each copying that is not over has a place that is not counted, or a call that is to end it; in blocking mode also one that is to give it up where a place of it was.
 use Rattle.std.specs.Prelude.{◌≡◌, ℕ, Bool, cond, Option, Some}
-use Rattle.papaya_owes.specs.Given.Tables.Chunks.{is_incremental}
-use Rattle.papaya_owes.specs.Given.Rule.Chart.{Chart}
+use Rattle.papaya_owes.specs.Given.TablesChunks.{is_incremental}
+use Rattle.papaya_owes.specs.Given.RuleChart.{Chart}
 use Rattle.papaya_waiters.specs.Given.Callers.Together.{UnderWay}
 use Rattle.papaya_waiters.specs.Given.Finishes.Maps.{Standing}
 use Rattle.papaya_waiters.specs.Given.Waits.Others.{HaveEnds}
 use Rattle.papaya_waiters.specs.Blocking.{HaveEndsBlocking}
-use Rattle.papaya_owes.specs.Given.Scenes.Scene.{Scene}
+use Rattle.papaya_owes.specs.Given.ScenesScene.{Scene}
 
 -- in either mode
 abbrev pub HaveEndsIn : {K V : Type 0} → Bool → Chart K → (ℕ → Option (UnderWay K V K)) → Type 0

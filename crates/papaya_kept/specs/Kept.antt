@@ -1,24 +1,24 @@
 -- What every step keeps, of whatever kind, beside what a moment of a run shows in one piece.
 use Rattle.std.specs.Prelude.{ℕ, List}
-use Rattle.papaya_owes.specs.Given.Schedules.Moment.{Moment}
-use Rattle.papaya_owes.specs.Given.Effects.Known.{Known}
+use Rattle.papaya_owes.specs.Given.SchedulesMoment.{Moment}
+use Rattle.papaya_owes.specs.Given.EffectsKnown.{Known}
 use Rattle.papaya_owes.specs.Grown.{ShowsGrown}
 use Rattle.papaya_owes.specs.Looking.{ShowsLooking}
 use Rattle.papaya_owes.specs.Made.{ShowsMade}
 use Rattle.papaya_owes.specs.Short.{ShowsShort}
 use Rattle.papaya_owes.specs.Tables.{ShowsTables}
-use Rattle.papaya_owes.specs.Given.Settles.Counts.{ShowsCounts}
-use Rattle.papaya_owes.specs.Given.Settles.Entries.{ShowsEntries}
-use Rattle.papaya_owes.specs.Given.Settles.Hand.{ShowsOwed}
-use Rattle.papaya_owes.specs.Given.Settles.Handing.{HandsTold}
-use Rattle.papaya_owes.specs.Given.Lives.Behind.{ShowsWaiting, WaitsOnce}
-use Rattle.papaya_owes.specs.Given.Lives.Handed.{ShowsHanded}
-use Rattle.papaya_owes.specs.Given.Lives.LeftTables.{ShowsLeft}
-use Rattle.papaya_owes.specs.Given.Lives.Lying.{ShowsLying}
-use Rattle.papaya_owes.specs.Given.Lives.Order.{ShowsOrder}
-use Rattle.papaya_owes.specs.Given.Lives.Retired.{ShowsRetired}
+use Rattle.papaya_owes.specs.Given.SettlesCounts.{ShowsCounts}
+use Rattle.papaya_owes.specs.Given.SettlesEntries.{ShowsEntries}
+use Rattle.papaya_owes.specs.Given.SettlesHand.{ShowsOwed}
+use Rattle.papaya_owes.specs.Given.SettlesHanding.{HandsTold}
+use Rattle.papaya_owes.specs.Given.LivesBehind.{ShowsWaiting, WaitsOnce}
+use Rattle.papaya_owes.specs.Given.LivesHanded.{ShowsHanded}
+use Rattle.papaya_owes.specs.Given.LivesLeftTables.{ShowsLeft}
+use Rattle.papaya_owes.specs.Given.LivesLying.{ShowsLying}
+use Rattle.papaya_owes.specs.Given.LivesOrder.{ShowsOrder}
+use Rattle.papaya_owes.specs.Given.LivesRetired.{ShowsRetired}
 use Rattle.papaya_kept.specs.Ends.{ShowsEnds}
-use Rattle.papaya_owes.specs.Given.Scenes.Scene.{Scene}
+use Rattle.papaya_owes.specs.Given.ScenesScene.{Scene}
 
 -- What somebody has is blank, and a row within a call retires one block. Each call has made just that block for a pair, and that table, which the moment says, and is short
 -- of a growth just where it is to be refused for want of memory; one that only looks has a machine that looks. It has to count what the moment says, it owes what it has in hand, and one whose

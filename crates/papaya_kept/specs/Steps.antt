@@ -1,53 +1,53 @@
 -- What is promised of each kind of step: what is kept is so after it. One record in one place, so that each event goes on from what the last one has left.
 use Rattle.std.specs.Prelude.{◌≡◌, ℕ, Bool, true, List, Option, Some, None}
-use Rattle.papaya_owes.specs.Given.Seize.declared.progress.Progress.{Progress}
-use Rattle.papaya_owes.specs.Given.Seize.declared.rows.settle.Settled.{Settled}
-use Rattle.papaya_owes.specs.Given.Seize.World.{Rests, Begin, Step, with_at}
-use Rattle.papaya_owes.specs.Given.Tables.declared.node.Node.{Node}
-use Rattle.papaya_owes.specs.Given.Tables.declared.setting.Setting.{Setting}
-use Rattle.papaya_owes.specs.Given.Raw.Machine.{machine_replied}
-use Rattle.papaya_owes.specs.Given.Raw.declared.machines.asking.Reply.{Reply as MachineReply}
-use Rattle.papaya_owes.specs.Given.Raw.declared.machines.progress.Progress.{Progress as CallTold}
-use Rattle.papaya_owes.specs.Given.Schedules.declared.call.Call.{Call}
-use Rattle.papaya_owes.specs.Given.Schedules.declared.call.Reply.{Reply}
-use Rattle.papaya_owes.specs.Given.Schedules.declared.outcome.Outcome.{Outcome}
-use Rattle.papaya_owes.specs.Given.Schedules.Beginning.{with_call}
-use Rattle.papaya_owes.specs.Given.Schedules.Effects.{with_effects, AtEachEffect}
-use Rattle.papaya_owes.specs.Given.Schedules.Entry.{ends_call}
-use Rattle.papaya_owes.specs.Given.Schedules.Moment.{Moment, start}
+use Rattle.papaya_owes.specs.Given.SeizeDeclared.progress.Progress.{Progress}
+use Rattle.papaya_owes.specs.Given.SeizeDeclared.rows.settle.Settled.{Settled}
+use Rattle.papaya_owes.specs.Given.SeizeWorld.{Rests, Begin, Step, with_at}
+use Rattle.papaya_owes.specs.Given.TablesDeclared.node.Node.{Node}
+use Rattle.papaya_owes.specs.Given.TablesDeclared.setting.Setting.{Setting}
+use Rattle.papaya_owes.specs.Given.RawMachine.{machine_replied}
+use Rattle.papaya_owes.specs.Given.RawDeclared.machines.asking.Reply.{Reply as MachineReply}
+use Rattle.papaya_owes.specs.Given.RawDeclared.machines.progress.Progress.{Progress as CallTold}
+use Rattle.papaya_owes.specs.Given.SchedulesDeclared.call.Call.{Call}
+use Rattle.papaya_owes.specs.Given.SchedulesDeclared.call.Reply.{Reply}
+use Rattle.papaya_owes.specs.Given.SchedulesDeclared.outcome.Outcome.{Outcome}
+use Rattle.papaya_owes.specs.Given.SchedulesBeginning.{with_call}
+use Rattle.papaya_owes.specs.Given.SchedulesEffects.{with_effects, AtEachEffect}
+use Rattle.papaya_owes.specs.Given.SchedulesEntry.{ends_call}
+use Rattle.papaya_owes.specs.Given.SchedulesMoment.{Moment, start}
 use Rattle.papaya_waiters.specs.Given.Callers.Together.{UnderWay}
-use Rattle.papaya_owes.specs.Given.Effects.Effects.{effects_of, known_after}
-use Rattle.papaya_owes.specs.Given.Effects.Known.{Known, nothing_known}
-use Rattle.papaya_owes.specs.Given.Effects.declared.acting.Acting.TheVariants as acts
-use Rattle.papaya_owes.specs.Given.Scenes.declared.row.RowTold.{RowTold}
-use Rattle.papaya_owes.specs.Given.Scenes.declared.row.SlotCall.{SlotCall}
-use Rattle.papaya_owes.specs.Given.Scenes.declared.row.SlotRow.{SlotRow}
+use Rattle.papaya_owes.specs.Given.EffectsEffects.{effects_of, known_after}
+use Rattle.papaya_owes.specs.Given.EffectsKnown.{Known, nothing_known}
+use Rattle.papaya_owes.specs.Given.EffectsDeclared.acting.Acting.TheVariants as acts
+use Rattle.papaya_owes.specs.Given.ScenesDeclared.row.RowTold.{RowTold}
+use Rattle.papaya_owes.specs.Given.ScenesDeclared.row.SlotCall.{SlotCall}
+use Rattle.papaya_owes.specs.Given.ScenesDeclared.row.SlotRow.{SlotRow}
 use Rattle.papaya_waiters.specs.Given.Finishes.Endings.{Finishing}
 use Rattle.papaya_waiters.specs.Given.Finishes.Machines.{machine_of}
 use Rattle.papaya_waiters.specs.Given.Finishes.Makings.{Beginning}
 use Rattle.papaya_waiters.specs.Given.Finishes.Maps.{Standing, with_call as with_in}
-use Rattle.papaya_owes.specs.Given.Follows.Calling.{NoneNamed, told, come_to}
-use Rattle.papaya_owes.specs.Given.Follows.Calls.{IsCalled}
-use Rattle.papaya_owes.specs.Given.Follows.Shows.{Shows}
-use Rattle.papaya_owes.specs.Given.Hands.Calling.{IsBegunFor}
-use Rattle.papaya_owes.specs.Given.Others.Endings.{ending_after}
-use Rattle.papaya_owes.specs.Given.Others.Makings.{WasNew, making_after}
-use Rattle.papaya_owes.specs.Given.Others.Rows.{scene_then}
-use Rattle.papaya_owes.specs.Given.Others.Walks.{given_up}
-use Rattle.papaya_owes.specs.Given.Spots.OnSlots.{WaitUnreclaimed}
-use Rattle.papaya_owes.specs.Given.Moments.Endings.{WaitsOn}
-use Rattle.papaya_owes.specs.Given.Moments.OnSlots.{HadRetired}
-use Rattle.papaya_owes.specs.Given.Moments.Whole.{ShowsWhole}
+use Rattle.papaya_owes.specs.Given.FollowsCalling.{NoneNamed, told, come_to}
+use Rattle.papaya_owes.specs.Given.FollowsCalls.{IsCalled}
+use Rattle.papaya_owes.specs.Given.FollowsShows.{Shows}
+use Rattle.papaya_owes.specs.Given.HandsCalling.{IsBegunFor}
+use Rattle.papaya_owes.specs.Given.OthersEndings.{ending_after}
+use Rattle.papaya_owes.specs.Given.OthersMakings.{WasNew, making_after}
+use Rattle.papaya_owes.specs.Given.OthersRows.{scene_then}
+use Rattle.papaya_owes.specs.Given.OthersWalks.{given_up}
+use Rattle.papaya_owes.specs.Given.SpotsOnSlots.{WaitUnreclaimed}
+use Rattle.papaya_owes.specs.Given.MomentsEndings.{WaitsOn}
+use Rattle.papaya_owes.specs.Given.MomentsOnSlots.{HadRetired}
+use Rattle.papaya_owes.specs.Given.MomentsWhole.{ShowsWhole}
 use Rattle.papaya_kept.specs.Kept.{ShowsKept}
-use Rattle.papaya_owes.specs.Given.Scenes.Beginning.{Begins}
-use Rattle.papaya_owes.specs.Given.Scenes.Ending.{EndingLeads, ending_begun}
-use Rattle.papaya_owes.specs.Given.Scenes.Held.{Held, IsAt}
-use Rattle.papaya_owes.specs.Given.Scenes.Making.{MakingLeads}
-use Rattle.papaya_owes.specs.Given.Scenes.OnSlots.{RowBegins, RowLeads}
-use Rattle.papaya_owes.specs.Given.Scenes.Replying.{AskLeads, StopLeads, scene_with, unless_stopped}
-use Rattle.papaya_owes.specs.Given.Scenes.Rows.{request_of}
-use Rattle.papaya_owes.specs.Given.Scenes.Scene.{HasCall, IsOnSlot, Scene, at_first, slot_of}
-use Rattle.papaya_owes.specs.Given.Scenes.Stepping.{StepLeads, scene_after}
+use Rattle.papaya_owes.specs.Given.ScenesBeginning.{Begins}
+use Rattle.papaya_owes.specs.Given.ScenesEnding.{EndingLeads, ending_begun}
+use Rattle.papaya_owes.specs.Given.ScenesHeld.{Held, IsAt}
+use Rattle.papaya_owes.specs.Given.ScenesMaking.{MakingLeads}
+use Rattle.papaya_owes.specs.Given.ScenesOnSlots.{RowBegins, RowLeads}
+use Rattle.papaya_owes.specs.Given.ScenesReplying.{AskLeads, StopLeads, scene_with, unless_stopped}
+use Rattle.papaya_owes.specs.Given.ScenesRows.{request_of}
+use Rattle.papaya_owes.specs.Given.ScenesScene.{HasCall, IsOnSlot, Scene, at_first, slot_of}
+use Rattle.papaya_owes.specs.Given.ScenesStepping.{StepLeads, scene_after}
 
 module _ (K V : Type 0) where
   -- The promises: so it is before all events,

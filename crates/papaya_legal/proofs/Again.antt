@@ -2,41 +2,41 @@
 use Rattle.std.specs.Prelude.{◌≡◌, ℕ, ◌+◌, Bool, true, false, List, [], ◌∷◌, map, Option, Some, if◌then◌else◌}
 use Rattle.std.specs.List.{AllByRecursion}
 use Rattle.std.proofs.Common.{refl, ap, sym, subst, ◌∙◌, arith}
-use Rattle.papaya_grows.specs.Given.Runs.Same.{is_same}
-use Rattle.papaya_grows.specs.Given.Raw.Machine.{machine_asked}
-use Rattle.papaya_grows.specs.Given.Schedules.declared.call.Call.{Call}
-use Rattle.papaya_grows.specs.Given.Schedules.declared.call.Call.TheVariants as call
-use Rattle.papaya_grows.specs.Given.Schedules.declared.event.Event.{Event}
-use Rattle.papaya_grows.specs.Given.Schedules.declared.event.Event.TheVariants as event
-use Rattle.papaya_grows.specs.Given.Schedules.declared.outcome.Outcome.{Outcome}
-use Rattle.papaya_grows.specs.Given.Schedules.declared.outcome.Outcome.TheVariants as outcome
-use Rattle.papaya_grows.specs.Given.Schedules.After.{after, comes_to, moment, moments_from}
-use Rattle.papaya_grows.specs.Given.Schedules.Beginning.{at_work}
-use Rattle.papaya_grows.specs.Given.Schedules.Effects.{worked}
-use Rattle.papaya_grows.specs.Given.Schedules.Entry.{Entry, IfCall, acting, caller_of}
-use Rattle.papaya_grows.specs.Given.Schedules.Handing.{IsWhole, LeavesOf, comes_clear}
-use Rattle.papaya_grows.specs.Given.Schedules.InTurn.{ComesRight}
-use Rattle.papaya_grows.specs.Given.Schedules.Linearizable.{ActsOf, ActsRight, AsksRight, Changes, Ends, IsLinearizable}
-use Rattle.papaya_grows.specs.Given.Schedules.Model.{changes_of, left_last}
-use Rattle.papaya_grows.specs.Given.Schedules.Moment.{UnderWay as CallThere, Stands, Asking, IsReady, Moment}
-use Rattle.papaya_grows.specs.Given.Schedules.Steps.{ReadsBriefly}
-use Rattle.papaya_grows.specs.Given.Schedules.Terms.{Terms}
-use Rattle.papaya_grows.specs.Given.Schedules.Views.{call_of}
-use Rattle.papaya_grows.specs.Given.Callers.Together.{UnderWay}
-use Rattle.papaya_grows.specs.Given.Effects.Known.{Known}
-use Rattle.papaya_grows.specs.Given.Finishes.Machines.{machine_of}
-use Rattle.papaya_grows.proofs.Given.Histories.NoKey.Idle.{idle_are_linearizable}
-use Rattle.papaya_grows.proofs.Given.Owes.Clear.{walks_are_clear}
-use Rattle.papaya_grows.specs.Given.Promises.Guards.{EntersInside}
-use Rattle.papaya_grows.specs.Given.Promises.Sheltered.{SectionsHold}
-use Rattle.papaya_grows.proofs.Given.Promises.Brief.Ends.{events_read_briefly}
-use Rattle.papaya_grows.specs.Given.Purposes.Swept.{SaysNothing}
-use Rattle.papaya_grows.proofs.Given.Purposes.Nothing.{other_outcomes_are_swept}
-use Rattle.papaya_grows.specs.Given.Models.CallEvents.{IsOfNoSlot}
-use Rattle.papaya_grows.proofs.Given.Models.CallEvents.{others_hand_over}
-use Rattle.papaya_grows.specs.Given.Settles.Counts.{HasToCount}
-use Rattle.papaya_grows.proofs.Given.Settles.Hand.Asked.{walks_have_nothing}
-use Rattle.papaya_grows.specs.Given.Finds.Little.{ReclaimsAll}
+use Rattle.papaya_grows.specs.Given.RunsSame.{is_same}
+use Rattle.papaya_grows.specs.Given.RawMachine.{machine_asked}
+use Rattle.papaya_grows.specs.Given.SchedulesDeclared.call.Call.{Call}
+use Rattle.papaya_grows.specs.Given.SchedulesDeclared.call.Call.TheVariants as call
+use Rattle.papaya_grows.specs.Given.SchedulesDeclared.event.Event.{Event}
+use Rattle.papaya_grows.specs.Given.SchedulesDeclared.event.Event.TheVariants as event
+use Rattle.papaya_grows.specs.Given.SchedulesDeclared.outcome.Outcome.{Outcome}
+use Rattle.papaya_grows.specs.Given.SchedulesDeclared.outcome.Outcome.TheVariants as outcome
+use Rattle.papaya_grows.specs.Given.SchedulesAfter.{after, comes_to, moment, moments_from}
+use Rattle.papaya_grows.specs.Given.SchedulesBeginning.{at_work}
+use Rattle.papaya_grows.specs.Given.SchedulesEffects.{worked}
+use Rattle.papaya_grows.specs.Given.SchedulesEntry.{Entry, IfCall, acting, caller_of}
+use Rattle.papaya_grows.specs.Given.SchedulesHanding.{IsWhole, LeavesOf, comes_clear}
+use Rattle.papaya_grows.specs.Given.SchedulesInTurn.{ComesRight}
+use Rattle.papaya_grows.specs.Given.SchedulesLinearizable.{ActsOf, ActsRight, AsksRight, Changes, Ends, IsLinearizable}
+use Rattle.papaya_grows.specs.Given.SchedulesModel.{changes_of, left_last}
+use Rattle.papaya_grows.specs.Given.SchedulesMoment.{UnderWay as CallThere, Stands, Asking, IsReady, Moment}
+use Rattle.papaya_grows.specs.Given.SchedulesSteps.{ReadsBriefly}
+use Rattle.papaya_grows.specs.Given.SchedulesTerms.{Terms}
+use Rattle.papaya_grows.specs.Given.SchedulesViews.{call_of}
+use Rattle.papaya_grows.specs.Given.CallersTogether.{UnderWay}
+use Rattle.papaya_grows.specs.Given.EffectsKnown.{Known}
+use Rattle.papaya_grows.specs.Given.FinishesMachines.{machine_of}
+use Rattle.papaya_grows.proofs.Given.HistoriesNoKey.Idle.{idle_are_linearizable}
+use Rattle.papaya_grows.proofs.Given.OwesClear.{walks_are_clear}
+use Rattle.papaya_grows.specs.Given.PromisesGuards.{EntersInside}
+use Rattle.papaya_grows.specs.Given.PromisesSheltered.{SectionsHold}
+use Rattle.papaya_grows.proofs.Given.PromisesBrief.Ends.{events_read_briefly}
+use Rattle.papaya_grows.specs.Given.PurposesSwept.{SaysNothing}
+use Rattle.papaya_grows.proofs.Given.PurposesNothing.{other_outcomes_are_swept}
+use Rattle.papaya_grows.specs.Given.ModelsCallEvents.{IsOfNoSlot}
+use Rattle.papaya_grows.proofs.Given.ModelsCallEvents.{others_hand_over}
+use Rattle.papaya_grows.specs.Given.SettlesCounts.{HasToCount}
+use Rattle.papaya_grows.proofs.Given.SettlesHand.Asked.{walks_have_nothing}
+use Rattle.papaya_grows.specs.Given.FindsLittle.{ReclaimsAll}
 use Rattle.papaya_legal.specs.Between.{IsLike}
 use Rattle.papaya_legal.specs.CallEvents.{IsLegalBut}
 use Rattle.papaya_legal.specs.Carried.{ShowsRun}
@@ -44,9 +44,9 @@ use Rattle.papaya_legal.specs.Over.{AgainEventsEnd, GoesOnBy, IsSaidSo}
 use Rattle.papaya_legal.proofs.CallLeaves.{none_asked}
 use Rattle.papaya_legal.proofs.Idle.{still_events_are_legal}
 use Rattle.papaya_legal.proofs.Over.{quiet_events_end}
-use Rattle.papaya_grows.specs.Given.Scenes.Held.{Held, IsAt}
-use Rattle.papaya_grows.specs.Given.Scenes.Scene.{Scene}
-use Rattle.papaya_grows.specs.Given.Schedules.Transition.{past, transition}
+use Rattle.papaya_grows.specs.Given.ScenesHeld.{Held, IsAt}
+use Rattle.papaya_grows.specs.Given.ScenesScene.{Scene}
+use Rattle.papaya_grows.specs.Given.SchedulesTransition.{past, transition}
 
 module _ {K V : Type 0} where
   -- a call that says again how far it is has changed nothing, and is as it was

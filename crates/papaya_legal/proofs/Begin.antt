@@ -1,17 +1,17 @@
 -- Before all events all is carried that events need, whatever was chosen of numbers of blocks.
 use Rattle.std.specs.Prelude.{[]}
 use Rattle.std.proofs.Common.{refl, inl}
-use Rattle.papaya_grows.proofs.Given.Moments.NewMaps.{pairs_begin}
-use Rattle.papaya_grows.proofs.Given.Moments.Numbers.{numbers_begin}
-use Rattle.papaya_grows.proofs.Given.Histories.Logs.{first_is_past}
-use Rattle.papaya_grows.proofs.Given.Histories.Questions.{questions_begin}
-use Rattle.papaya_grows.proofs.Given.Promises.Guards.{no_guard}
-use Rattle.papaya_grows.specs.Given.Models.Numbers.{HasNumber}
-use Rattle.papaya_grows.proofs.Given.Models.Alike.Changed.{start_alike}
-use Rattle.papaya_grows.proofs.Given.Finds.Runs.{all_in_order_at_first}
-use Rattle.papaya_grows.proofs.Given.Purposes.Tableless.{tableless_at_first}
+use Rattle.papaya_grows.proofs.Given.MomentsNewMaps.{pairs_begin}
+use Rattle.papaya_grows.proofs.Given.MomentsNumbers.{numbers_begin}
+use Rattle.papaya_grows.proofs.Given.HistoriesLogs.{first_is_past}
+use Rattle.papaya_grows.proofs.Given.HistoriesQuestions.{questions_begin}
+use Rattle.papaya_grows.proofs.Given.PromisesGuards.{no_guard}
+use Rattle.papaya_grows.specs.Given.ModelsNumbers.{HasNumber}
+use Rattle.papaya_grows.proofs.Given.ModelsAlike.Changed.{start_alike}
+use Rattle.papaya_grows.proofs.Given.FindsRuns.{all_in_order_at_first}
+use Rattle.papaya_grows.proofs.Given.PurposesTableless.{tableless_at_first}
 use Rattle.papaya_legal.specs.Carried.{RunsBeginIn}
-use Rattle.papaya_grows.proofs.Given.Purposes.Stored.{first_lasts}
+use Rattle.papaya_grows.proofs.Given.PurposesStored.{first_lasts}
 
 pub runs_begin_in : (K V : Type 0) → RunsBeginIn K V
 runs_begin_in K V same terms name known w whole kept came = record {

@@ -1,36 +1,36 @@
 -- An event that begins a call, tells it a reply, or gives a walk up, is legal, and a run goes on with it.
 use Rattle.std.specs.Prelude.{◌≡◌, ℕ, ◌+◌, Bool, true, false, not, ◌&&◌, List, [], ◌∷◌, Option, Some, None, Ok}
 use Rattle.std.proofs.Common.{refl, ap, sym, subst, ◌∙◌, inl, inr}
-use Rattle.papaya_grows.specs.Given.Raw.CallAsks.{told_at}
-use Rattle.papaya_grows.specs.Given.Raw.Machine.{machine_replied}
-use Rattle.papaya_grows.specs.Given.Raw.declared.machines.asking.Reply.{Reply as MachineReply}
-use Rattle.papaya_grows.specs.Given.Raw.declared.machines.call.Calling.{Calling}
-use Rattle.papaya_grows.specs.Given.Runs.Same.{is_same}
-use Rattle.papaya_grows.specs.Given.Schedules.declared.event.Event.TheVariants as event
-use Rattle.papaya_grows.specs.Given.Schedules.declared.outcome.Outcome.TheVariants.{Done, Goes}
-use Rattle.papaya_grows.specs.Given.Schedules.After.{is_alone_on, moment, moments_from}
-use Rattle.papaya_grows.specs.Given.Schedules.Beginning.{with_call}
-use Rattle.papaya_grows.specs.Given.Schedules.Entry.{Entry}
-use Rattle.papaya_grows.specs.Given.Schedules.Moment.{UnderWay as CallThere, Moment}
-use Rattle.papaya_grows.specs.Given.Schedules.Views.{call_of, number_of}
-use Rattle.papaya_grows.specs.Given.Tables.Chunks.{is_incremental}
-use Rattle.papaya_grows.specs.Given.Rule.Chart.{Chart}
-use Rattle.papaya_grows.specs.Given.Callers.Together.{UnderWay, OnKey, ForRoom, Counting, OverAll}
-use Rattle.papaya_grows.specs.Given.Finishes.Machines.{machine_of}
-use Rattle.papaya_grows.specs.Given.Finishes.Maps.{with_call as with_call_of}
-use Rattle.papaya_grows.specs.Given.Follows.Calling.{told}
-use Rattle.papaya_grows.specs.Given.Hands.Asked.{as_told}
-use Rattle.papaya_grows.specs.Given.Others.Walks.{given_up}
-use Rattle.papaya_grows.proofs.Given.Follows.Calling.{apart_back, found_kept}
-use Rattle.papaya_grows.proofs.Given.Hands.Asking.{which}
-use Rattle.papaya_grows.proofs.Given.Hands.Calling.{caller_is}
-use Rattle.papaya_grows.proofs.Given.Histories.Logs.{events_are}
-use Rattle.papaya_grows.proofs.Given.Purposes.Nothing.{no_calls_are_swept}
-use Rattle.papaya_grows.specs.Given.Promises.Reading.{HasLooked, LookupsStay, ShowsReading, looks}
-use Rattle.papaya_grows.specs.Given.Promises.Sheltered.{SectionsHold}
-use Rattle.papaya_grows.proofs.Given.Promises.Brief.Meanwhile.{calls_begin_readings, calls_take_readings}
-use Rattle.papaya_grows.proofs.Given.Promises.Brief.Stays.{readings_stay}
-use Rattle.papaya_grows.proofs.Given.Promises.Shelters.Begins.{sections_go_on}
+use Rattle.papaya_grows.specs.Given.RawCallAsks.{told_at}
+use Rattle.papaya_grows.specs.Given.RawMachine.{machine_replied}
+use Rattle.papaya_grows.specs.Given.RawDeclared.machines.asking.Reply.{Reply as MachineReply}
+use Rattle.papaya_grows.specs.Given.RawDeclared.machines.call.Calling.{Calling}
+use Rattle.papaya_grows.specs.Given.RunsSame.{is_same}
+use Rattle.papaya_grows.specs.Given.SchedulesDeclared.event.Event.TheVariants as event
+use Rattle.papaya_grows.specs.Given.SchedulesDeclared.outcome.Outcome.TheVariants.{Done, Goes}
+use Rattle.papaya_grows.specs.Given.SchedulesAfter.{is_alone_on, moment, moments_from}
+use Rattle.papaya_grows.specs.Given.SchedulesBeginning.{with_call}
+use Rattle.papaya_grows.specs.Given.SchedulesEntry.{Entry}
+use Rattle.papaya_grows.specs.Given.SchedulesMoment.{UnderWay as CallThere, Moment}
+use Rattle.papaya_grows.specs.Given.SchedulesViews.{call_of, number_of}
+use Rattle.papaya_grows.specs.Given.TablesChunks.{is_incremental}
+use Rattle.papaya_grows.specs.Given.RuleChart.{Chart}
+use Rattle.papaya_grows.specs.Given.CallersTogether.{UnderWay, OnKey, ForRoom, Counting, OverAll}
+use Rattle.papaya_grows.specs.Given.FinishesMachines.{machine_of}
+use Rattle.papaya_grows.specs.Given.FinishesMaps.{with_call as with_call_of}
+use Rattle.papaya_grows.specs.Given.FollowsCalling.{told}
+use Rattle.papaya_grows.specs.Given.HandsAsked.{as_told}
+use Rattle.papaya_grows.specs.Given.OthersWalks.{given_up}
+use Rattle.papaya_grows.proofs.Given.FollowsCalling.{apart_back, found_kept}
+use Rattle.papaya_grows.proofs.Given.HandsAsking.{which}
+use Rattle.papaya_grows.proofs.Given.HandsCalling.{caller_is}
+use Rattle.papaya_grows.proofs.Given.HistoriesLogs.{events_are}
+use Rattle.papaya_grows.proofs.Given.PurposesNothing.{no_calls_are_swept}
+use Rattle.papaya_grows.specs.Given.PromisesReading.{HasLooked, LookupsStay, ShowsReading, looks}
+use Rattle.papaya_grows.specs.Given.PromisesSheltered.{SectionsHold}
+use Rattle.papaya_grows.proofs.Given.PromisesBrief.Meanwhile.{calls_begin_readings, calls_take_readings}
+use Rattle.papaya_grows.proofs.Given.PromisesBrief.Stays.{readings_stay}
+use Rattle.papaya_grows.proofs.Given.PromisesShelters.Begins.{sections_go_on}
 use Rattle.papaya_legal.specs.Between.{IsLike}
 use Rattle.papaya_legal.specs.CallEvents.{IsLegalBut}
 use Rattle.papaya_legal.specs.Carried.{ShowsCalls}
@@ -39,9 +39,9 @@ use Rattle.papaya_legal.proofs.Between.{calls_begin, calls_take, walks_stop}
 use Rattle.papaya_legal.proofs.Idle.{idle_events_are_legal}
 use Rattle.papaya_legal.proofs.Maps.{stands_so}
 use Rattle.papaya_legal.proofs.Over.{quiet_events_end}
-use Rattle.papaya_grows.specs.Given.Scenes.Replying.{scene_with, unless_stopped}
-use Rattle.papaya_grows.specs.Given.Scenes.Scene.{Scene}
-use Rattle.papaya_grows.specs.Given.Schedules.Transition.{past, transition}
+use Rattle.papaya_grows.specs.Given.ScenesReplying.{scene_with, unless_stopped}
+use Rattle.papaya_grows.specs.Given.ScenesScene.{Scene}
+use Rattle.papaya_grows.specs.Given.SchedulesTransition.{past, transition}
 
 module _ (K V : Type 0) (same : K → K → Bool) (hash : ℕ → K → ℕ) where
   pub begun_events_end : BegunEventsEnd K V same hash

@@ -2,17 +2,17 @@
 use Rattle.std.specs.Prelude.{◌≡◌, ◌⊎◌, ◌<◌, ◌==◌, ◌||◌, ℕ, Bool, true, false, List, [], ◌∷◌, ◌++◌, flat_map, map}
 use Rattle.std.proofs.Common.{refl, ap, sym, ◌∙◌, inl, inr, arith}
 use Rattle.std.proofs.lemmas.Bool.{eq-eqb, eqb-true}
-use Rattle.papaya_grows.specs.Given.Seize.World.{times}
-use Rattle.papaya_grows.specs.Given.Schedules.declared.effect.Thing.{Thing}
-use Rattle.papaya_grows.specs.Given.Schedules.declared.effect.Thing.TheVariants.{APair}
-use Rattle.papaya_grows.specs.Given.Schedules.Lists.{is_among}
-use Rattle.papaya_grows.specs.Given.Schedules.Moment.{Place, Left, Remains}
-use Rattle.papaya_grows.specs.Given.Effects.declared.role.Role.{Role}
-use Rattle.papaya_grows.specs.Given.Effects.declared.role.Role.TheVariants as role
-use Rattle.papaya_grows.proofs.Given.Finishes.Ends.CountedBlocks.{some_here, some_last, some_of_first}
-use Rattle.papaya_grows.specs.Given.SeizeReclaims.Roots.{all_lists}
-use Rattle.papaya_grows.specs.Given.Models.Numbers.{things_of}
-use Rattle.papaya_grows.specs.Given.Finds.Orderly.{is_left_over}
+use Rattle.papaya_grows.specs.Given.SeizeWorld.{times}
+use Rattle.papaya_grows.specs.Given.SchedulesDeclared.effect.Thing.{Thing}
+use Rattle.papaya_grows.specs.Given.SchedulesDeclared.effect.Thing.TheVariants.{APair}
+use Rattle.papaya_grows.specs.Given.SchedulesLists.{is_among}
+use Rattle.papaya_grows.specs.Given.SchedulesMoment.{Place, Left, Remains}
+use Rattle.papaya_grows.specs.Given.EffectsDeclared.role.Role.{Role}
+use Rattle.papaya_grows.specs.Given.EffectsDeclared.role.Role.TheVariants as role
+use Rattle.papaya_grows.proofs.Given.FinishesEnds.CountedBlocks.{some_here, some_last, some_of_first}
+use Rattle.papaya_grows.specs.Given.SeizeReclaimsRoots.{all_lists}
+use Rattle.papaya_grows.specs.Given.ModelsNumbers.{things_of}
+use Rattle.papaya_grows.specs.Given.FindsOrderly.{is_left_over}
 use Rattle.papaya_legal.specs.AllEvents.{BehindIsTold}
 
 -- blocks that are noted as these pairs

@@ -1,64 +1,64 @@
 -- What a moment shows of calls is so on between the steps of events, and where calls begin and go on.
 use Rattle.std.specs.Prelude.{◌≡◌, nat_lt, ℕ, Bool, true, false, List, [], ◌∷◌, Option, Some, None, if◌then◌else◌}
 use Rattle.std.proofs.Common.{refl, ap, sym, subst, ◌∙◌, inl, inr}
-use Rattle.papaya_grows.specs.Given.SeizeWords.declared.fault.Fault.TheVariants.{Memory}
-use Rattle.papaya_grows.specs.Given.Sweeps.SweepPoints.{after_next, next_at}
-use Rattle.papaya_grows.specs.Given.Sweeps.declared.sweep.Sweep.{Sweep}
-use Rattle.papaya_grows.specs.Given.Sweeps.declared.sweep.Sweeping.{Sweeping}
-use Rattle.papaya_grows.specs.Given.Sweeps.declared.sweep.Sweeping.TheVariants as sweeping
-use Rattle.papaya_grows.specs.Given.Raw.declared.machines.machine.Machine.{Machine}
-use Rattle.papaya_grows.specs.Given.Points.FactsCalls.{Unchanged}
-use Rattle.papaya_grows.specs.Given.Schedules.declared.effect.Thing.TheVariants.{APair}
-use Rattle.papaya_grows.specs.Given.Schedules.Beginning.{with_call}
-use Rattle.papaya_grows.specs.Given.Schedules.declared.outcome.Outcome.TheVariants.{Refused}
-use Rattle.papaya_grows.specs.Given.Schedules.Moment.{UnderWay as CallThere, Stands, Asking, Moment}
-use Rattle.papaya_grows.specs.Given.Schedules.Views.{call_of}
-use Rattle.papaya_grows.specs.Given.Callers.OverAll.{CallOverAll, gone_on}
-use Rattle.papaya_grows.specs.Given.Callers.Rooms.{CallForRoom}
-use Rattle.papaya_grows.specs.Given.Callers.Together.{UnderWay, CallOnKey, OnKey, ForRoom, Counting, OverAll}
-use Rattle.papaya_grows.specs.Given.Effects.Known.{Known}
-use Rattle.papaya_grows.specs.Given.Finishes.Machines.{machine_of}
-use Rattle.papaya_grows.specs.Given.Finishes.Maps.{Standing, with_call as with_call_of}
-use Rattle.papaya_grows.specs.Given.Follows.Calling.{NoneNamed, told}
-use Rattle.papaya_grows.specs.Given.Follows.Shows.{Shows}
-use Rattle.papaya_grows.specs.Given.Follows.Calls.{IsCalled, ShowsCalls as IsThere}
-use Rattle.papaya_grows.specs.Given.Hands.Asked.{as_told}
-use Rattle.papaya_grows.specs.Given.Others.Elsewhere.{HasSame}
-use Rattle.papaya_grows.specs.Given.Others.Walks.{given_up}
-use Rattle.papaya_grows.proofs.Given.Hands.Asking.{which}
-use Rattle.papaya_grows.proofs.Given.Follows.Steps.{one_of}
-use Rattle.papaya_grows.specs.Given.Moments.Numbers.{NumbersMaps, PairsAreBelow}
-use Rattle.papaya_grows.proofs.Given.Moments.Calls.{calls_begin_whole, calls_take_whole}
-use Rattle.papaya_grows.proofs.Given.Moments.Walks.{walks_go_on_whole, walks_stop_whole}
-use Rattle.papaya_grows.specs.Given.Histories.Answers.{NamesPair}
-use Rattle.papaya_grows.specs.Given.Histories.AsCalled.{IsAsCalled, IsSweptAs, SweepAsks}
-use Rattle.papaya_grows.specs.Given.Histories.Asking.{IsToldQuestion}
-use Rattle.papaya_grows.specs.Given.Histories.Histories.{ShowsHistory, began_of}
-use Rattle.papaya_grows.proofs.Given.Histories.AnyCall.Whole.{all_stays_shown}
-use Rattle.papaya_grows.proofs.Given.Histories.Aside.Stays.{as_called_stays, dues_stay}
-use Rattle.papaya_grows.proofs.Given.Histories.DueOn.{calls_begin_due, calls_take_due, events_keep_due}
-use Rattle.papaya_grows.proofs.Given.Histories.NoKey.AsCalledOn.{calls_begin_as_called, calls_take_as_called}
-use Rattle.papaya_grows.proofs.Given.Histories.Questions.{calls_begin_questions, calls_come_to_questions, calls_take_questions}
-use Rattle.papaya_grows.specs.Given.Histories.Questions.{AsksStill, ShowsQuestions}
-use Rattle.papaya_grows.specs.Given.Settles.Hand.{ShowsOwed, in_hand}
-use Rattle.papaya_grows.proofs.Given.Settles.Hand.Asked.{asked_stays, told_stays}
-use Rattle.papaya_grows.proofs.Given.Finds.Grows.Between.{calls_begin_growing, calls_take_growing, walks_go_on_growing}
-use Rattle.papaya_grows.proofs.Given.Finds.Waits.Between.{calls_begin_waits}
-use Rattle.papaya_grows.specs.Given.Kept.Kept.{ShowsKept}
-use Rattle.papaya_grows.proofs.Given.Kept.Between.{calls_begin_kept, calls_take_kept, uncounted_at_first, walks_go_on_kept, walks_stop_kept}
-use Rattle.papaya_grows.proofs.Given.Kept.Renamed.{asked, renamed, shows}
-use Rattle.papaya_grows.proofs.Given.Kept.Stays.{renamed_kept, stays_kept}
-use Rattle.papaya_grows.specs.Given.Purposes.Kept.{AsksAboutIt}
-use Rattle.papaya_grows.proofs.Given.Purposes.Between.{calls_begin_purposes, events_keep_purposes}
-use Rattle.papaya_grows.proofs.Given.Purposes.Elsewhere.{purposes_stay}
-use Rattle.papaya_grows.proofs.Given.Purposes.Told.{calls_take_purposes}
-use Rattle.papaya_grows.specs.Given.Shards.Adds.{adds_in_sweeping, adds_of}
-use Rattle.papaya_grows.specs.Given.Shards.ShardWords.{ShowsCounters}
-use Rattle.papaya_grows.proofs.Given.Shards.ShardBetween.{calls_begin_counters, calls_take_counters, counters_stay, fewer_add}
+use Rattle.papaya_grows.specs.Given.SeizeWordsDeclared.fault.Fault.TheVariants.{Memory}
+use Rattle.papaya_grows.specs.Given.SweepsSweepPoints.{after_next, next_at}
+use Rattle.papaya_grows.specs.Given.SweepsDeclared.sweep.Sweep.{Sweep}
+use Rattle.papaya_grows.specs.Given.SweepsDeclared.sweep.Sweeping.{Sweeping}
+use Rattle.papaya_grows.specs.Given.SweepsDeclared.sweep.Sweeping.TheVariants as sweeping
+use Rattle.papaya_grows.specs.Given.RawDeclared.machines.machine.Machine.{Machine}
+use Rattle.papaya_grows.specs.Given.PointsFactsCalls.{Unchanged}
+use Rattle.papaya_grows.specs.Given.SchedulesDeclared.effect.Thing.TheVariants.{APair}
+use Rattle.papaya_grows.specs.Given.SchedulesBeginning.{with_call}
+use Rattle.papaya_grows.specs.Given.SchedulesDeclared.outcome.Outcome.TheVariants.{Refused}
+use Rattle.papaya_grows.specs.Given.SchedulesMoment.{UnderWay as CallThere, Stands, Asking, Moment}
+use Rattle.papaya_grows.specs.Given.SchedulesViews.{call_of}
+use Rattle.papaya_grows.specs.Given.CallersOverAll.{CallOverAll, gone_on}
+use Rattle.papaya_grows.specs.Given.CallersRooms.{CallForRoom}
+use Rattle.papaya_grows.specs.Given.CallersTogether.{UnderWay, CallOnKey, OnKey, ForRoom, Counting, OverAll}
+use Rattle.papaya_grows.specs.Given.EffectsKnown.{Known}
+use Rattle.papaya_grows.specs.Given.FinishesMachines.{machine_of}
+use Rattle.papaya_grows.specs.Given.FinishesMaps.{Standing, with_call as with_call_of}
+use Rattle.papaya_grows.specs.Given.FollowsCalling.{NoneNamed, told}
+use Rattle.papaya_grows.specs.Given.FollowsShows.{Shows}
+use Rattle.papaya_grows.specs.Given.FollowsCalls.{IsCalled, ShowsCalls as IsThere}
+use Rattle.papaya_grows.specs.Given.HandsAsked.{as_told}
+use Rattle.papaya_grows.specs.Given.OthersElsewhere.{HasSame}
+use Rattle.papaya_grows.specs.Given.OthersWalks.{given_up}
+use Rattle.papaya_grows.proofs.Given.HandsAsking.{which}
+use Rattle.papaya_grows.proofs.Given.FollowsSteps.{one_of}
+use Rattle.papaya_grows.specs.Given.MomentsNumbers.{NumbersMaps, PairsAreBelow}
+use Rattle.papaya_grows.proofs.Given.MomentsCalls.{calls_begin_whole, calls_take_whole}
+use Rattle.papaya_grows.proofs.Given.MomentsWalks.{walks_go_on_whole, walks_stop_whole}
+use Rattle.papaya_grows.specs.Given.HistoriesAnswers.{NamesPair}
+use Rattle.papaya_grows.specs.Given.HistoriesAsCalled.{IsAsCalled, IsSweptAs, SweepAsks}
+use Rattle.papaya_grows.specs.Given.HistoriesAsking.{IsToldQuestion}
+use Rattle.papaya_grows.specs.Given.HistoriesHistories.{ShowsHistory, began_of}
+use Rattle.papaya_grows.proofs.Given.HistoriesAnyCall.Whole.{all_stays_shown}
+use Rattle.papaya_grows.proofs.Given.HistoriesAside.Stays.{as_called_stays, dues_stay}
+use Rattle.papaya_grows.proofs.Given.HistoriesDueOn.{calls_begin_due, calls_take_due, events_keep_due}
+use Rattle.papaya_grows.proofs.Given.HistoriesNoKey.AsCalledOn.{calls_begin_as_called, calls_take_as_called}
+use Rattle.papaya_grows.proofs.Given.HistoriesQuestions.{calls_begin_questions, calls_come_to_questions, calls_take_questions}
+use Rattle.papaya_grows.specs.Given.HistoriesQuestions.{AsksStill, ShowsQuestions}
+use Rattle.papaya_grows.specs.Given.SettlesHand.{ShowsOwed, in_hand}
+use Rattle.papaya_grows.proofs.Given.SettlesHand.Asked.{asked_stays, told_stays}
+use Rattle.papaya_grows.proofs.Given.FindsGrows.Between.{calls_begin_growing, calls_take_growing, walks_go_on_growing}
+use Rattle.papaya_grows.proofs.Given.FindsWaits.Between.{calls_begin_waits}
+use Rattle.papaya_grows.specs.Given.KeptKept.{ShowsKept}
+use Rattle.papaya_grows.proofs.Given.KeptBetween.{calls_begin_kept, calls_take_kept, uncounted_at_first, walks_go_on_kept, walks_stop_kept}
+use Rattle.papaya_grows.proofs.Given.KeptRenamed.{asked, renamed, shows}
+use Rattle.papaya_grows.proofs.Given.KeptStays.{renamed_kept, stays_kept}
+use Rattle.papaya_grows.specs.Given.PurposesKept.{AsksAboutIt}
+use Rattle.papaya_grows.proofs.Given.PurposesBetween.{calls_begin_purposes, events_keep_purposes}
+use Rattle.papaya_grows.proofs.Given.PurposesElsewhere.{purposes_stay}
+use Rattle.papaya_grows.proofs.Given.PurposesTold.{calls_take_purposes}
+use Rattle.papaya_grows.specs.Given.ShardsAdds.{adds_in_sweeping, adds_of}
+use Rattle.papaya_grows.specs.Given.ShardsShardWords.{ShowsCounters}
+use Rattle.papaya_grows.proofs.Given.ShardsShardBetween.{calls_begin_counters, calls_take_counters, counters_stay, fewer_add}
 use Rattle.papaya_legal.specs.Between.{CallsBegin, CallsTake, LikesShow, LogsGrow, NamesChange, WalksGoOn, WalksStop}
 use Rattle.papaya_legal.specs.Carried.{NoneCounted, ShowsCalls}
 use Rattle.papaya_grows.specs.Finding.{ShowsFinding}
-use Rattle.papaya_grows.specs.Given.Sources.Sources.{ShowsSources}
+use Rattle.papaya_grows.specs.Given.SourcesSources.{ShowsSources}
 use Rattle.papaya_legal.proofs.Sourced.{sources_so}
 use Rattle.papaya_grows.proofs.Finding.Alike.{finding_fewer, stood_as}
 use Rattle.papaya_grows.proofs.Limits.Shows.{calls_begin_limits, calls_take_limits, limits_grow, walks_go_on_limits, walks_stop_limits}
@@ -66,9 +66,9 @@ use Rattle.papaya_grows.proofs.Tries.Shows.{calls_begin_tries, calls_take_tries,
 use Rattle.papaya_grows.proofs.Finding.Nexts.{calls_begin_nexts, calls_take_nexts, nexts_grow, walks_go_on_nexts, walks_stop_nexts}
 use Rattle.papaya_grows.proofs.Finding.Making.Between.{calls_begin_further, calls_take_further, walks_go_on_further}
 use Rattle.papaya_grows.proofs.Finding.Between.{asked_same, fewer_calls, none_at_first, puts_begun, puts_on, replied_same, waits_on}
-use Rattle.papaya_grows.specs.Given.Scenes.Beginning.{Begins}
-use Rattle.papaya_grows.specs.Given.Scenes.Replying.{scene_with, unless_stopped}
-use Rattle.papaya_grows.specs.Given.Scenes.Scene.{HasCall, Scene}
+use Rattle.papaya_grows.specs.Given.ScenesBeginning.{Begins}
+use Rattle.papaya_grows.specs.Given.ScenesReplying.{scene_with, unless_stopped}
+use Rattle.papaya_grows.specs.Given.ScenesScene.{HasCall, Scene}
 
 pub likes_show : (K V : Type 0) (same : K → K → Bool) → LikesShow K V same
 likes_show K V same name log m v known s all like = subst (λ (x : Moment K V). ShowsCalls same name log x known s) (sym like) (record {

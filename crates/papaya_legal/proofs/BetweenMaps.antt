@@ -1,25 +1,25 @@
 -- What a moment shows of calls is so on where a map comes, begins to be made or to end, and is gone.
 use Rattle.std.specs.Prelude.{◌≡◌, ◌≤◌, ◌==◌, ℕ, Bool, not, Some}
 use Rattle.std.proofs.Common.{refl, ap, sym, ◌∙◌, arith}
-use Rattle.papaya_grows.specs.Given.Seize.World.{with_at}
-use Rattle.papaya_grows.specs.Given.Runs.Same.{is_same}
-use Rattle.papaya_grows.specs.Given.Schedules.Beginning.{with_map}
-use Rattle.papaya_grows.specs.Given.Schedules.Views.{map_at}
-use Rattle.papaya_grows.specs.Given.Finishes.Maps.{Standing}
-use Rattle.papaya_grows.specs.Given.Others.Endings.{without_map}
-use Rattle.papaya_grows.proofs.Given.Moments.Ends.{endings_begin_whole}
-use Rattle.papaya_grows.proofs.Given.Moments.MapsCome.{makings_begin_whole, maps_come_whole}
-use Rattle.papaya_grows.proofs.Given.Moments.NewMaps.{pairs_stay_as_maps_come, pairs_stay_as_maps_go}
-use Rattle.papaya_grows.proofs.Given.Moments.Numbers.{maps_come_by_number, maps_go, numbers_are_below}
-use Rattle.papaya_grows.proofs.Given.Moments.Over.{endings_are_over_whole}
-use Rattle.papaya_grows.proofs.Given.Histories.Aside.Stays.{as_called_stays, dues_stay}
-use Rattle.papaya_grows.specs.Given.Finds.Capacities.{StoodSo}
-use Rattle.papaya_grows.specs.Given.Kept.Kept.{ShowsKept}
-use Rattle.papaya_grows.proofs.Given.Kept.Others.{endings_begin_kept}
-use Rattle.papaya_grows.proofs.Given.Kept.Stays.{makings_begin_kept, stays_kept}
-use Rattle.papaya_grows.proofs.Given.Purposes.Elsewhere.{purposes_stay}
-use Rattle.papaya_grows.proofs.Given.Shards.ShardBetween.{counters_stay}
-use Rattle.papaya_grows.proofs.Given.Shards.ShardOthers.{endings_begin_counters, makings_begin_counters}
+use Rattle.papaya_grows.specs.Given.SeizeWorld.{with_at}
+use Rattle.papaya_grows.specs.Given.RunsSame.{is_same}
+use Rattle.papaya_grows.specs.Given.SchedulesBeginning.{with_map}
+use Rattle.papaya_grows.specs.Given.SchedulesViews.{map_at}
+use Rattle.papaya_grows.specs.Given.FinishesMaps.{Standing}
+use Rattle.papaya_grows.specs.Given.OthersEndings.{without_map}
+use Rattle.papaya_grows.proofs.Given.MomentsEnds.{endings_begin_whole}
+use Rattle.papaya_grows.proofs.Given.MomentsMapsCome.{makings_begin_whole, maps_come_whole}
+use Rattle.papaya_grows.proofs.Given.MomentsNewMaps.{pairs_stay_as_maps_come, pairs_stay_as_maps_go}
+use Rattle.papaya_grows.proofs.Given.MomentsNumbers.{maps_come_by_number, maps_go, numbers_are_below}
+use Rattle.papaya_grows.proofs.Given.MomentsOver.{endings_are_over_whole}
+use Rattle.papaya_grows.proofs.Given.HistoriesAside.Stays.{as_called_stays, dues_stay}
+use Rattle.papaya_grows.specs.Given.FindsCapacities.{StoodSo}
+use Rattle.papaya_grows.specs.Given.KeptKept.{ShowsKept}
+use Rattle.papaya_grows.proofs.Given.KeptOthers.{endings_begin_kept}
+use Rattle.papaya_grows.proofs.Given.KeptStays.{makings_begin_kept, stays_kept}
+use Rattle.papaya_grows.proofs.Given.PurposesElsewhere.{purposes_stay}
+use Rattle.papaya_grows.proofs.Given.ShardsShardBetween.{counters_stay}
+use Rattle.papaya_grows.proofs.Given.ShardsShardOthers.{endings_begin_counters, makings_begin_counters}
 use Rattle.papaya_legal.specs.Between.{EndsBegin, MakingsBegin, MapsCome, MapsGo}
 use Rattle.papaya_legal.proofs.Sourced.{ends_leave, sources_so}
 use Rattle.papaya_grows.proofs.Finding.Alike.{finding_fewer}
@@ -27,7 +27,7 @@ use Rattle.papaya_grows.proofs.Limits.Shows.{limits_where}
 use Rattle.papaya_grows.proofs.Tries.Shows.{tries_where}
 use Rattle.papaya_grows.proofs.Finding.Nexts.{nexts_where}
 use Rattle.papaya_grows.proofs.Finding.Between.{finding_where, found_beside, found_kept}
-use Rattle.papaya_grows.specs.Given.Scenes.Ending.{ending_begun}
+use Rattle.papaya_grows.specs.Given.ScenesEnding.{ending_begun}
 
 module _ (K V : Type 0) (same : K → K → Bool) (hash : ℕ → K → ℕ) where
   pub maps_come : MapsCome K V same hash

@@ -1,35 +1,35 @@
 -- An event in which a whole call begins, or a walk is asked for its next pair, is in its midst.
 use Rattle.std.specs.Prelude.{◌≡◌, ℕ, ◌+◌, Bool, true, List, cond, find, Option, Some}
 use Rattle.std.proofs.Common.{refl, ap, sym, subst, ◌∙◌, inl, inr}
-use Rattle.papaya_grows.specs.Given.Runs.Same.{is_same}
-use Rattle.papaya_grows.specs.Given.Schedules.declared.call.Call.{Call}
-use Rattle.papaya_grows.specs.Given.Schedules.declared.call.Call.TheVariants.{On}
-use Rattle.papaya_grows.specs.Given.Schedules.declared.event.Event.TheVariants.{OneCall, Next}
-use Rattle.papaya_grows.specs.Given.Schedules.After.{moment}
-use Rattle.papaya_grows.specs.Given.Schedules.Beginning.{fresh_call, with_call}
-use Rattle.papaya_grows.specs.Given.Schedules.Moment.{UnderWay as CallThere}
-use Rattle.papaya_grows.specs.Given.Schedules.Views.{call_of}
-use Rattle.papaya_grows.specs.Given.Seize.World.{with_at}
-use Rattle.papaya_grows.specs.Given.Callers.OverAll.{CallOverAll, gone_on}
-use Rattle.papaya_grows.specs.Given.Callers.Together.{UnderWay, OverAll}
-use Rattle.papaya_grows.proofs.Given.Callers.Together.At.{at_same}
-use Rattle.papaya_grows.specs.Given.Sweeps.SweepPoints.{after_next}
-use Rattle.papaya_grows.specs.Given.Follows.Calls.{IsCalled}
-use Rattle.papaya_grows.proofs.Given.Follows.Calling.{is_same_refl}
-use Rattle.papaya_grows.proofs.Given.Follows.Steps.{one_of}
-use Rattle.papaya_grows.proofs.Given.Hands.Asking.{which}
-use Rattle.papaya_grows.proofs.Given.Histories.Logs.{events_are}
-use Rattle.papaya_grows.specs.Given.Promises.Reading.{LookupsStay, ShowsReading, looks}
-use Rattle.papaya_grows.proofs.Given.Promises.Brief.Meanwhile.{calls_begin_readings}
-use Rattle.papaya_grows.proofs.Given.Promises.Brief.Stays.{readings_stay}
+use Rattle.papaya_grows.specs.Given.RunsSame.{is_same}
+use Rattle.papaya_grows.specs.Given.SchedulesDeclared.call.Call.{Call}
+use Rattle.papaya_grows.specs.Given.SchedulesDeclared.call.Call.TheVariants.{On}
+use Rattle.papaya_grows.specs.Given.SchedulesDeclared.event.Event.TheVariants.{OneCall, Next}
+use Rattle.papaya_grows.specs.Given.SchedulesAfter.{moment}
+use Rattle.papaya_grows.specs.Given.SchedulesBeginning.{fresh_call, with_call}
+use Rattle.papaya_grows.specs.Given.SchedulesMoment.{UnderWay as CallThere}
+use Rattle.papaya_grows.specs.Given.SchedulesViews.{call_of}
+use Rattle.papaya_grows.specs.Given.SeizeWorld.{with_at}
+use Rattle.papaya_grows.specs.Given.CallersOverAll.{CallOverAll, gone_on}
+use Rattle.papaya_grows.specs.Given.CallersTogether.{UnderWay, OverAll}
+use Rattle.papaya_grows.proofs.Given.CallersTogether.At.{at_same}
+use Rattle.papaya_grows.specs.Given.SweepsSweepPoints.{after_next}
+use Rattle.papaya_grows.specs.Given.FollowsCalls.{IsCalled}
+use Rattle.papaya_grows.proofs.Given.FollowsCalling.{is_same_refl}
+use Rattle.papaya_grows.proofs.Given.FollowsSteps.{one_of}
+use Rattle.papaya_grows.proofs.Given.HandsAsking.{which}
+use Rattle.papaya_grows.proofs.Given.HistoriesLogs.{events_are}
+use Rattle.papaya_grows.specs.Given.PromisesReading.{LookupsStay, ShowsReading, looks}
+use Rattle.papaya_grows.proofs.Given.PromisesBrief.Meanwhile.{calls_begin_readings}
+use Rattle.papaya_grows.proofs.Given.PromisesBrief.Stays.{readings_stay}
 use Rattle.papaya_legal.specs.CallEvents.{NextsBegin, WholeCallsBegin}
 use Rattle.papaya_legal.specs.Carried.{ShowsCalls}
 use Rattle.papaya_legal.proofs.Between.{calls_begin, walks_go_on}
 use Rattle.papaya_legal.proofs.Calls.{call_events_begin_so}
 use Rattle.papaya_legal.proofs.Maps.{stands_so}
-use Rattle.papaya_grows.specs.Given.Scenes.Replying.{scene_with}
-use Rattle.papaya_grows.specs.Given.Scenes.Scene.{Scene}
-use Rattle.papaya_grows.specs.Given.Schedules.Transition.{past}
+use Rattle.papaya_grows.specs.Given.ScenesReplying.{scene_with}
+use Rattle.papaya_grows.specs.Given.ScenesScene.{Scene}
+use Rattle.papaya_grows.specs.Given.SchedulesTransition.{past}
 
 -- what a caller has under way is there on its map
 pub now_there : {K V : Type 0} (s : Scene K V) (map i : ℕ) (u : UnderWay K V K) → (scene_with map i u s).calls map i ≡ Some u

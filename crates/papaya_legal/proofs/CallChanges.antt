@@ -1,34 +1,34 @@
 -- By a step of an event of a call no class changes twice within the event, and a call that adds shards up reads them as they are.
 use Rattle.std.specs.Prelude.{◌≡◌, ℕ, Bool, List, Some}
 use Rattle.std.proofs.Common.{◌∙◌}
-use Rattle.papaya_grows.specs.Given.Tables.declared.node.Node.{Node}
-use Rattle.papaya_grows.specs.Given.Raw.declared.machines.call.KeyCall.{KeyCall}
-use Rattle.papaya_grows.specs.Given.Raw.declared.machines.machine.Machine.TheVariants as kinds
-use Rattle.papaya_grows.specs.Given.Raw.declared.machines.progress.Progress.{Progress}
-use Rattle.papaya_grows.specs.Given.Sweeps.declared.sweep.Sweep.{Sweep}
-use Rattle.papaya_grows.specs.Given.Schedules.declared.effect.Effect.{Effect}
-use Rattle.papaya_grows.specs.Given.Schedules.Effects.{with_effects}
-use Rattle.papaya_grows.specs.Given.Schedules.Entry.{Entry}
-use Rattle.papaya_grows.specs.Given.Schedules.Moment.{UnderWay as CallThere, Moment}
-use Rattle.papaya_grows.specs.Given.Callers.Together.{UnderWay, OnKey, ForRoom, Counting, OverAll}
-use Rattle.papaya_grows.specs.Given.Effects.Effects.{effects_of}
-use Rattle.papaya_grows.specs.Given.Effects.Known.{Known}
-use Rattle.papaya_grows.specs.Given.Effects.declared.acting.Acting.TheVariants as acts
-use Rattle.papaya_grows.specs.Given.Finishes.Machines.{machine_of}
-use Rattle.papaya_grows.specs.Given.Moments.Whole.{ShowsWhole}
-use Rattle.papaya_grows.specs.Given.Histories.InEvent.{InEvent}
-use Rattle.papaya_grows.specs.Given.Histories.Kept.{ChangesFirst}
-use Rattle.papaya_grows.proofs.Given.Histories.OtherMidsts.{first_change as other_changes_first}
-use Rattle.papaya_grows.proofs.Given.Histories.Several.{first_change as key_changes_first}
-use Rattle.papaya_grows.proofs.Given.Owes.Calls.{goes_as_one}
-use Rattle.papaya_grows.specs.Given.Purposes.Shards.{NoneCounted, ReadsShards}
-use Rattle.papaya_grows.proofs.Given.Purposes.ShardsRead.{steps_read_shards}
-use Rattle.papaya_grows.specs.Given.Shards.ShardSteps.{AddsUp}
-use Rattle.papaya_grows.specs.Given.Shards.ShardWords.{ShowsCounters}
-use Rattle.papaya_grows.specs.Given.Scenes.Held.{Held, IsAt}
-use Rattle.papaya_grows.specs.Given.Scenes.Scene.{Scene}
-use Rattle.papaya_grows.specs.Given.Scenes.Stepping.{StepLeads}
-use Rattle.papaya_grows.specs.Given.Schedules.Transition.{past}
+use Rattle.papaya_grows.specs.Given.TablesDeclared.node.Node.{Node}
+use Rattle.papaya_grows.specs.Given.RawDeclared.machines.call.KeyCall.{KeyCall}
+use Rattle.papaya_grows.specs.Given.RawDeclared.machines.machine.Machine.TheVariants as kinds
+use Rattle.papaya_grows.specs.Given.RawDeclared.machines.progress.Progress.{Progress}
+use Rattle.papaya_grows.specs.Given.SweepsDeclared.sweep.Sweep.{Sweep}
+use Rattle.papaya_grows.specs.Given.SchedulesDeclared.effect.Effect.{Effect}
+use Rattle.papaya_grows.specs.Given.SchedulesEffects.{with_effects}
+use Rattle.papaya_grows.specs.Given.SchedulesEntry.{Entry}
+use Rattle.papaya_grows.specs.Given.SchedulesMoment.{UnderWay as CallThere, Moment}
+use Rattle.papaya_grows.specs.Given.CallersTogether.{UnderWay, OnKey, ForRoom, Counting, OverAll}
+use Rattle.papaya_grows.specs.Given.EffectsEffects.{effects_of}
+use Rattle.papaya_grows.specs.Given.EffectsKnown.{Known}
+use Rattle.papaya_grows.specs.Given.EffectsDeclared.acting.Acting.TheVariants as acts
+use Rattle.papaya_grows.specs.Given.FinishesMachines.{machine_of}
+use Rattle.papaya_grows.specs.Given.MomentsWhole.{ShowsWhole}
+use Rattle.papaya_grows.specs.Given.HistoriesInEvent.{InEvent}
+use Rattle.papaya_grows.specs.Given.HistoriesKept.{ChangesFirst}
+use Rattle.papaya_grows.proofs.Given.HistoriesOtherMidsts.{first_change as other_changes_first}
+use Rattle.papaya_grows.proofs.Given.HistoriesSeveral.{first_change as key_changes_first}
+use Rattle.papaya_grows.proofs.Given.OwesCalls.{goes_as_one}
+use Rattle.papaya_grows.specs.Given.PurposesShards.{NoneCounted, ReadsShards}
+use Rattle.papaya_grows.proofs.Given.PurposesShardsRead.{steps_read_shards}
+use Rattle.papaya_grows.specs.Given.ShardsShardSteps.{AddsUp}
+use Rattle.papaya_grows.specs.Given.ShardsShardWords.{ShowsCounters}
+use Rattle.papaya_grows.specs.Given.ScenesHeld.{Held, IsAt}
+use Rattle.papaya_grows.specs.Given.ScenesScene.{Scene}
+use Rattle.papaya_grows.specs.Given.ScenesStepping.{StepLeads}
+use Rattle.papaya_grows.specs.Given.SchedulesTransition.{past}
 
 -- no class changes twice
 module _ {K V : Type 0} (same : K → K → Bool) (hash : ℕ → K → ℕ) (name : ℕ → List ℕ) (log : List (Entry K V)) (beginning : Moment K V) (map i : ℕ) (c : CallThere K V) (done : List Effect) (m : Moment K V)

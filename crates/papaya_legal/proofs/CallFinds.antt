@@ -1,12 +1,12 @@
 -- The effects of a step of a call find what they must, but for what is left.
 use Rattle.std.specs.Prelude.{Bool, ℕ}
-use Rattle.papaya_grows.proofs.Given.Kept.Calls.{own_made}
-use Rattle.papaya_grows.proofs.Given.Settles.Hand.Calls.{calls_keep_owed}
-use Rattle.papaya_grows.proofs.Given.Finds.Joined.{parts_are_all}
-use Rattle.papaya_grows.proofs.Given.Finds.Found.{steps_find_parts}
+use Rattle.papaya_grows.proofs.Given.KeptCalls.{own_made}
+use Rattle.papaya_grows.proofs.Given.SettlesHand.Calls.{calls_keep_owed}
+use Rattle.papaya_grows.proofs.Given.FindsJoined.{parts_are_all}
+use Rattle.papaya_grows.proofs.Given.FindsFound.{steps_find_parts}
 use Rattle.std.proofs.Common.{ap, sym, ◌∙◌}
-use Rattle.papaya_grows.proofs.Given.Follows.Steps.{one_of}
-use Rattle.papaya_grows.specs.Given.Schedules.Moment.{UnderWay as CallThere}
+use Rattle.papaya_grows.proofs.Given.FollowsSteps.{one_of}
+use Rattle.papaya_grows.specs.Given.SchedulesMoment.{UnderWay as CallThere}
 use Rattle.papaya_legal.specs.CallRuns.{StepsFindAll}
 
 module _ (K V : Type 0) (same : K → K → Bool) (hash : ℕ → K → ℕ) where

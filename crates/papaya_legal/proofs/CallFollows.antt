@@ -2,30 +2,30 @@
 use Rattle.std.specs.Prelude.{◌≡◌, ℕ, ◌++◌, ◌∷◌, Bool, true, false, ◌&&◌, ◌||◌, List, map, flat_map, MatchBool, ◌⊎◌, Some}
 use Rattle.std.specs.List.{list_all}
 use Rattle.std.proofs.Common.{refl, sym, subst, inl, inr}
-use Rattle.papaya_grows.specs.Given.Tables.declared.node.Node.{Node}
-use Rattle.papaya_grows.specs.Given.Seize.World.{World}
-use Rattle.papaya_grows.specs.Given.Schedules.declared.effect.Effect.{Effect}
-use Rattle.papaya_grows.specs.Given.Schedules.declared.event.Event.{Event}
-use Rattle.papaya_grows.specs.Given.Schedules.declared.event.Event.TheVariants.{Enter, Own, Refresh, Flush, DropGuard, ReclaimAll, Close}
-use Rattle.papaya_grows.specs.Given.Schedules.After.{after, is_by, moment}
-use Rattle.papaya_grows.specs.Given.Schedules.Entry.{Entry, is_busy, speaker}
-use Rattle.papaya_grows.specs.Given.Schedules.Model.{IsByModel, back_by_model, changes_of, handing, number_in, sets_in, thing_back, things_in}
-use Rattle.papaya_grows.specs.Given.Schedules.Terms.{Terms}
-use Rattle.papaya_grows.specs.Given.Effects.Effects.{effects_of, known_after}
-use Rattle.papaya_grows.specs.Given.Effects.Known.{Known}
-use Rattle.papaya_grows.specs.Given.Effects.declared.acting.Acting.TheVariants as acts
-use Rattle.papaya_grows.specs.Given.Histories.InEvent.{here_of}
-use Rattle.papaya_grows.proofs.Given.Histories.AnyCall.InEvent.{events_keep_all}
-use Rattle.papaya_grows.specs.Given.Promises.Protected.{is_of_slots}
-use Rattle.papaya_grows.specs.Given.Models.CallEvents.{FollowsInEvent, IsInItsRow, IsOfNoSlot}
-use Rattle.papaya_grows.specs.Given.Models.Follows.{FollowsModel}
-use Rattle.papaya_grows.proofs.Given.Models.CallEvents.{call_events_go_on, call_events_pause, others_hand_over}
-use Rattle.papaya_grows.proofs.Given.Models.MapEvents.{moments_note_once}
+use Rattle.papaya_grows.specs.Given.TablesDeclared.node.Node.{Node}
+use Rattle.papaya_grows.specs.Given.SeizeWorld.{World}
+use Rattle.papaya_grows.specs.Given.SchedulesDeclared.effect.Effect.{Effect}
+use Rattle.papaya_grows.specs.Given.SchedulesDeclared.event.Event.{Event}
+use Rattle.papaya_grows.specs.Given.SchedulesDeclared.event.Event.TheVariants.{Enter, Own, Refresh, Flush, DropGuard, ReclaimAll, Close}
+use Rattle.papaya_grows.specs.Given.SchedulesAfter.{after, is_by, moment}
+use Rattle.papaya_grows.specs.Given.SchedulesEntry.{Entry, is_busy, speaker}
+use Rattle.papaya_grows.specs.Given.SchedulesModel.{IsByModel, back_by_model, changes_of, handing, number_in, sets_in, thing_back, things_in}
+use Rattle.papaya_grows.specs.Given.SchedulesTerms.{Terms}
+use Rattle.papaya_grows.specs.Given.EffectsEffects.{effects_of, known_after}
+use Rattle.papaya_grows.specs.Given.EffectsKnown.{Known}
+use Rattle.papaya_grows.specs.Given.EffectsDeclared.acting.Acting.TheVariants as acts
+use Rattle.papaya_grows.specs.Given.HistoriesInEvent.{here_of}
+use Rattle.papaya_grows.proofs.Given.HistoriesAnyCall.InEvent.{events_keep_all}
+use Rattle.papaya_grows.specs.Given.PromisesProtected.{is_of_slots}
+use Rattle.papaya_grows.specs.Given.ModelsCallEvents.{FollowsInEvent, IsInItsRow, IsOfNoSlot}
+use Rattle.papaya_grows.specs.Given.ModelsFollows.{FollowsModel}
+use Rattle.papaya_grows.proofs.Given.ModelsCallEvents.{call_events_go_on, call_events_pause, others_hand_over}
+use Rattle.papaya_grows.proofs.Given.ModelsMapEvents.{moments_note_once}
 use Rattle.papaya_legal.specs.CallEvents.{CallEventsFollow}
 use Rattle.papaya_legal.specs.Carried.{ComesAlone, FollowsOrRows}
 use Rattle.papaya_legal.proofs.Calls.{out_of_slots}
-use Rattle.papaya_grows.specs.Given.Scenes.Scene.{slot_of}
-use Rattle.papaya_grows.specs.Given.Schedules.Transition.{past}
+use Rattle.papaya_grows.specs.Given.ScenesScene.{slot_of}
+use Rattle.papaya_grows.specs.Given.SchedulesTransition.{past}
 
 -- an event that is none of a slot is no row on one
 pub of_no_slot : {K V : Type 0} (event : Event K V) → is_of_slots event ≡ false → IsOfNoSlot event

@@ -1,43 +1,43 @@
 -- A call that has ended with its last step, or is ready, leaves nothing behind.
 use Rattle.std.specs.Prelude.{◌≡◌, ◌⊎◌, ℕ, ◌+◌, Bool, true, false, List, [], Option, Some, None, if◌then◌else◌}
 use Rattle.std.proofs.Common.{refl, ap, sym, subst, ◌∙◌, inl, inr}
-use Rattle.papaya_grows.specs.Given.Tables.declared.node.Node.{Node}
-use Rattle.papaya_grows.specs.Given.Raw.Machine.{is_ready, machine_asked}
-use Rattle.papaya_grows.specs.Given.Raw.declared.machines.machine.Machine.{Machine}
-use Rattle.papaya_grows.specs.Given.Raw.declared.machines.machine.Machine.TheVariants as kinds
-use Rattle.papaya_grows.specs.Given.Raw.declared.machines.progress.Progress.{Progress}
-use Rattle.papaya_grows.specs.Given.Raw.declared.machines.progress.Progress.TheVariants as progress
-use Rattle.papaya_grows.specs.Given.Sweeps.declared.sweep.Sweeping.{Sweeping}
-use Rattle.papaya_grows.specs.Given.Sweeps.declared.sweep.Sweeping.TheVariants as sweeping
-use Rattle.papaya_grows.specs.Given.Schedules.declared.outcome.Outcome.{Outcome}
-use Rattle.papaya_grows.specs.Given.Schedules.declared.outcome.Outcome.TheVariants as outcome
-use Rattle.papaya_grows.specs.Given.Schedules.After.{moment}
-use Rattle.papaya_grows.specs.Given.Schedules.Effects.{with_effects, worked}
-use Rattle.papaya_grows.specs.Given.Schedules.Entry.{IfCall, acting, caller_of}
-use Rattle.papaya_grows.specs.Given.Schedules.Handing.{LeavesOf, comes_clear}
-use Rattle.papaya_grows.specs.Given.Schedules.Moment.{UnderWay as CallThere, Moment}
-use Rattle.papaya_grows.specs.Given.Schedules.Views.{call_of}
-use Rattle.papaya_grows.specs.Given.Callers.Together.{UnderWay}
-use Rattle.papaya_grows.specs.Given.Effects.Effects.{effects_of, known_after}
-use Rattle.papaya_grows.specs.Given.Effects.Known.{Known}
-use Rattle.papaya_grows.specs.Given.Effects.declared.acting.Acting.TheVariants as acts
-use Rattle.papaya_grows.specs.Given.Finishes.Machines.{machine_of}
-use Rattle.papaya_grows.specs.Given.Kept.Kept.{ShowsKept}
-use Rattle.papaya_grows.proofs.Given.Kept.Calls.{calls_keep_kept, own_made}
-use Rattle.papaya_grows.specs.Given.Owes.Events.{LeavesNothingMade}
-use Rattle.papaya_grows.proofs.Given.Owes.Calls.{goes_as_one}
-use Rattle.papaya_grows.proofs.Given.Owes.Events.{events_leave_nothing_made}
-use Rattle.papaya_grows.proofs.Given.Owes.Kept.{calls_its}
-use Rattle.papaya_grows.proofs.Given.Owes.Ready.{ready_so}
-use Rattle.papaya_grows.specs.Given.Settles.Counts.{HasToCount, counts_in_sweeping, is_to_count}
-use Rattle.papaya_grows.proofs.Given.Settles.Calls.{calls_keep_counts}
-use Rattle.papaya_grows.proofs.Given.Settles.Hand.Asked.{walks_have_nothing}
-use Rattle.papaya_grows.proofs.Given.Settles.Hand.Calls.{calls_keep_owed}
+use Rattle.papaya_grows.specs.Given.TablesDeclared.node.Node.{Node}
+use Rattle.papaya_grows.specs.Given.RawMachine.{is_ready, machine_asked}
+use Rattle.papaya_grows.specs.Given.RawDeclared.machines.machine.Machine.{Machine}
+use Rattle.papaya_grows.specs.Given.RawDeclared.machines.machine.Machine.TheVariants as kinds
+use Rattle.papaya_grows.specs.Given.RawDeclared.machines.progress.Progress.{Progress}
+use Rattle.papaya_grows.specs.Given.RawDeclared.machines.progress.Progress.TheVariants as progress
+use Rattle.papaya_grows.specs.Given.SweepsDeclared.sweep.Sweeping.{Sweeping}
+use Rattle.papaya_grows.specs.Given.SweepsDeclared.sweep.Sweeping.TheVariants as sweeping
+use Rattle.papaya_grows.specs.Given.SchedulesDeclared.outcome.Outcome.{Outcome}
+use Rattle.papaya_grows.specs.Given.SchedulesDeclared.outcome.Outcome.TheVariants as outcome
+use Rattle.papaya_grows.specs.Given.SchedulesAfter.{moment}
+use Rattle.papaya_grows.specs.Given.SchedulesEffects.{with_effects, worked}
+use Rattle.papaya_grows.specs.Given.SchedulesEntry.{IfCall, acting, caller_of}
+use Rattle.papaya_grows.specs.Given.SchedulesHanding.{LeavesOf, comes_clear}
+use Rattle.papaya_grows.specs.Given.SchedulesMoment.{UnderWay as CallThere, Moment}
+use Rattle.papaya_grows.specs.Given.SchedulesViews.{call_of}
+use Rattle.papaya_grows.specs.Given.CallersTogether.{UnderWay}
+use Rattle.papaya_grows.specs.Given.EffectsEffects.{effects_of, known_after}
+use Rattle.papaya_grows.specs.Given.EffectsKnown.{Known}
+use Rattle.papaya_grows.specs.Given.EffectsDeclared.acting.Acting.TheVariants as acts
+use Rattle.papaya_grows.specs.Given.FinishesMachines.{machine_of}
+use Rattle.papaya_grows.specs.Given.KeptKept.{ShowsKept}
+use Rattle.papaya_grows.proofs.Given.KeptCalls.{calls_keep_kept, own_made}
+use Rattle.papaya_grows.specs.Given.OwesEvents.{LeavesNothingMade}
+use Rattle.papaya_grows.proofs.Given.OwesCalls.{goes_as_one}
+use Rattle.papaya_grows.proofs.Given.OwesEvents.{events_leave_nothing_made}
+use Rattle.papaya_grows.proofs.Given.OwesKept.{calls_its}
+use Rattle.papaya_grows.proofs.Given.OwesReady.{ready_so}
+use Rattle.papaya_grows.specs.Given.SettlesCounts.{HasToCount, counts_in_sweeping, is_to_count}
+use Rattle.papaya_grows.proofs.Given.SettlesCalls.{calls_keep_counts}
+use Rattle.papaya_grows.proofs.Given.SettlesHand.Asked.{walks_have_nothing}
+use Rattle.papaya_grows.proofs.Given.SettlesHand.Calls.{calls_keep_owed}
 use Rattle.papaya_legal.specs.CallRuns.{CallsLeaveNothing, TellsEnd}
-use Rattle.papaya_grows.proofs.Given.Scenes.Goes.{goes_as}
-use Rattle.papaya_grows.proofs.Given.Scenes.NoCall.{none_of}
-use Rattle.papaya_grows.specs.Given.Scenes.Scene.{Scene}
-use Rattle.papaya_grows.specs.Given.Scenes.Stepping.{has_ended, scene_after}
+use Rattle.papaya_grows.proofs.Given.ScenesGoes.{goes_as}
+use Rattle.papaya_grows.proofs.Given.ScenesNoCall.{none_of}
+use Rattle.papaya_grows.specs.Given.ScenesScene.{Scene}
+use Rattle.papaya_grows.specs.Given.ScenesStepping.{has_ended, scene_after}
 
 -- a walk that is ready has nothing to count
 none_ready : (p : Sweeping) → is_ready p ≡ true → counts_in_sweeping p ≡ false

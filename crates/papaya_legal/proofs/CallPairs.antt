@@ -1,39 +1,39 @@
 -- By a step of an event of a call no pair comes or goes twice within the event: no class changes twice, and each pair in a map is the one of its class.
 use Rattle.std.specs.Prelude.{◌≡◌, ◌⊎◌, ℕ, Bool, true, false, List, [], ◌∷◌, Option, Some, None}
 use Rattle.std.proofs.Common.{refl, ap, sym, subst, ◌∙◌, inl, inr}
-use Rattle.papaya_grows.specs.Given.Tables.declared.node.Node.{Node}
-use Rattle.papaya_grows.specs.Given.Raw.declared.machines.progress.Progress.{Progress}
-use Rattle.papaya_grows.specs.Given.Runs.Log.{pair_at}
-use Rattle.papaya_grows.specs.Given.Schedules.declared.effect.Effect.{Effect}
-use Rattle.papaya_grows.specs.Given.Schedules.declared.effect.Effect.TheVariants.{Stored}
-use Rattle.papaya_grows.specs.Given.Schedules.After.{moment}
-use Rattle.papaya_grows.specs.Given.Schedules.Effects.{new_pair, stored_by, with_effect, with_effects}
-use Rattle.papaya_grows.specs.Given.Schedules.Entry.{Entry, acting}
-use Rattle.papaya_grows.specs.Given.Schedules.Moment.{UnderWay as CallThere, Moment, Place}
-use Rattle.papaya_grows.specs.Given.Schedules.Views.{finite_map, is_in_map}
-use Rattle.papaya_grows.specs.Given.Callers.Together.{UnderWay, OnKey, ForRoom, Counting, OverAll}
-use Rattle.papaya_grows.specs.Given.Effects.Effects.{effects_of, known_after}
-use Rattle.papaya_grows.specs.Given.Effects.Known.{Known}
-use Rattle.papaya_grows.specs.Given.Effects.declared.acting.Acting.TheVariants as acts
-use Rattle.papaya_grows.specs.Given.Finishes.Maps.{Standing}
-use Rattle.papaya_grows.proofs.Given.Follows.Contents.{lasts_more}
-use Rattle.papaya_grows.proofs.Given.Follows.Steps.{one_of}
-use Rattle.papaya_grows.proofs.Given.Follows.Stored.{in_map_true}
-use Rattle.papaya_grows.specs.Given.Moments.Whole.{ShowsWhole}
-use Rattle.papaya_grows.specs.Given.Histories.InEvent.{InEvent, here_of}
-use Rattle.papaya_grows.specs.Given.Histories.Kept.{HasJustBegun}
-use Rattle.papaya_grows.proofs.Given.Histories.AnyCall.InEvent.{events_keep_all}
-use Rattle.papaya_grows.proofs.Given.Histories.Found.{map_alike}
-use Rattle.papaya_grows.proofs.Given.Histories.Had.{had_pair}
-use Rattle.papaya_grows.proofs.Given.Histories.Now.{now_had, pair_is}
-use Rattle.papaya_grows.proofs.Given.Histories.Retaining.{found_there}
-use Rattle.papaya_grows.specs.Given.Purposes.Kept.{NoneCame, PairsChangeFirst}
+use Rattle.papaya_grows.specs.Given.TablesDeclared.node.Node.{Node}
+use Rattle.papaya_grows.specs.Given.RawDeclared.machines.progress.Progress.{Progress}
+use Rattle.papaya_grows.specs.Given.RunsLog.{pair_at}
+use Rattle.papaya_grows.specs.Given.SchedulesDeclared.effect.Effect.{Effect}
+use Rattle.papaya_grows.specs.Given.SchedulesDeclared.effect.Effect.TheVariants.{Stored}
+use Rattle.papaya_grows.specs.Given.SchedulesAfter.{moment}
+use Rattle.papaya_grows.specs.Given.SchedulesEffects.{new_pair, stored_by, with_effect, with_effects}
+use Rattle.papaya_grows.specs.Given.SchedulesEntry.{Entry, acting}
+use Rattle.papaya_grows.specs.Given.SchedulesMoment.{UnderWay as CallThere, Moment, Place}
+use Rattle.papaya_grows.specs.Given.SchedulesViews.{finite_map, is_in_map}
+use Rattle.papaya_grows.specs.Given.CallersTogether.{UnderWay, OnKey, ForRoom, Counting, OverAll}
+use Rattle.papaya_grows.specs.Given.EffectsEffects.{effects_of, known_after}
+use Rattle.papaya_grows.specs.Given.EffectsKnown.{Known}
+use Rattle.papaya_grows.specs.Given.EffectsDeclared.acting.Acting.TheVariants as acts
+use Rattle.papaya_grows.specs.Given.FinishesMaps.{Standing}
+use Rattle.papaya_grows.proofs.Given.FollowsContents.{lasts_more}
+use Rattle.papaya_grows.proofs.Given.FollowsSteps.{one_of}
+use Rattle.papaya_grows.proofs.Given.FollowsStored.{in_map_true}
+use Rattle.papaya_grows.specs.Given.MomentsWhole.{ShowsWhole}
+use Rattle.papaya_grows.specs.Given.HistoriesInEvent.{InEvent, here_of}
+use Rattle.papaya_grows.specs.Given.HistoriesKept.{HasJustBegun}
+use Rattle.papaya_grows.proofs.Given.HistoriesAnyCall.InEvent.{events_keep_all}
+use Rattle.papaya_grows.proofs.Given.HistoriesFound.{map_alike}
+use Rattle.papaya_grows.proofs.Given.HistoriesHad.{had_pair}
+use Rattle.papaya_grows.proofs.Given.HistoriesNow.{now_had, pair_is}
+use Rattle.papaya_grows.proofs.Given.HistoriesRetaining.{found_there}
+use Rattle.papaya_grows.specs.Given.PurposesKept.{NoneCame, PairsChangeFirst}
 use Rattle.papaya_legal.specs.CallEvents.{EachIsItsOwn}
 use Rattle.papaya_legal.proofs.CallChanges.{changes_first}
-use Rattle.papaya_grows.specs.Given.Scenes.Held.{Held, IsAt}
-use Rattle.papaya_grows.specs.Given.Scenes.Scene.{Scene}
-use Rattle.papaya_grows.specs.Given.Scenes.Stepping.{StepLeads, scene_after}
-use Rattle.papaya_grows.specs.Given.Schedules.Transition.{past}
+use Rattle.papaya_grows.specs.Given.ScenesHeld.{Held, IsAt}
+use Rattle.papaya_grows.specs.Given.ScenesScene.{Scene}
+use Rattle.papaya_grows.specs.Given.ScenesStepping.{StepLeads, scene_after}
+use Rattle.papaya_grows.specs.Given.SchedulesTransition.{past}
 
 -- so it is at a moment that shows the map
 pub each_is_its_own : {K V : Type 0} (same : K → K → Bool) (hash : ℕ → K → ℕ) (name : ℕ → List ℕ) (m : Moment K V) (known : Known) (s : Scene K V) (e : Held K V) → IsAt same hash e s

@@ -2,40 +2,40 @@
 use Rattle.std.specs.Prelude.{◌≡◌, ◌≤◌, ◌++◌, ℕ, ◌+◌, ◌==◌, suc, Bool, true, false, List, [], Option, Some, MatchBool, if◌then◌else◌}
 use Rattle.std.proofs.Common.{refl, ap, sym, subst, ◌∙◌, inl, inr, arith}
 use Rattle.std.proofs.lemmas.Bool.{cases_eq, eq-eqb, ne_eqb}
-use Rattle.papaya_grows.specs.Given.Tables.Chunks.{is_incremental}
-use Rattle.papaya_grows.specs.Given.Tables.declared.node.Node.{Node}
-use Rattle.papaya_grows.specs.Given.Raw.declared.machines.progress.Progress.{Progress}
-use Rattle.papaya_grows.specs.Given.Schedules.declared.effect.Effect.{Effect}
-use Rattle.papaya_grows.specs.Given.Schedules.declared.event.Event.{Event}
-use Rattle.papaya_grows.specs.Given.Schedules.After.{moment, moments_from}
-use Rattle.papaya_grows.specs.Given.Schedules.Beginning.{at_work}
-use Rattle.papaya_grows.specs.Given.Schedules.Effects.{with_effects, worked}
-use Rattle.papaya_grows.specs.Given.Schedules.Entry.{Entry, IfCall, acted_on, acting, caller_of}
-use Rattle.papaya_grows.specs.Given.Schedules.Moment.{UnderWay as CallThere, Moment}
-use Rattle.papaya_grows.specs.Given.Schedules.Steps.{IsBrief, ReadsBriefly, ReadsFew}
-use Rattle.papaya_grows.specs.Given.Schedules.Terms.{Terms}
-use Rattle.papaya_grows.specs.Given.Schedules.Views.{call_of, grows_in_chunks, map_at}
-use Rattle.papaya_grows.specs.Given.Schedules.Lists.{OneOf}
-use Rattle.papaya_grows.specs.Given.Schedules.declared.call.Call.{Call}
-use Rattle.papaya_grows.specs.Given.Schedules.declared.call.Call.TheVariants as call
-use Rattle.papaya_grows.specs.Given.Callers.Together.{UnderWay, OnKey, ForRoom, Counting, OverAll}
-use Rattle.papaya_grows.specs.Given.Effects.Effects.{effects_of}
-use Rattle.papaya_grows.specs.Given.Effects.Known.{Known}
-use Rattle.papaya_grows.specs.Given.Effects.declared.acting.Acting.TheVariants as acts
-use Rattle.papaya_grows.proofs.Given.Follows.Steps.{one_of}
-use Rattle.papaya_grows.proofs.Given.Moments.After.{effects_after}
-use Rattle.papaya_grows.specs.Given.Histories.InEvent.{InEvent, here_of}
-use Rattle.papaya_grows.specs.Given.Histories.Several.{IsSameCall}
-use Rattle.papaya_grows.specs.Given.Promises.Reading.{HasLooked, ShowsReading, looks}
-use Rattle.papaya_grows.proofs.Given.Promises.Brief.Ends.{events_read_briefly}
-use Rattle.papaya_grows.proofs.Given.Promises.Brief.Meanwhile.{effects_steps, others_keep_readings}
-use Rattle.papaya_grows.proofs.Given.Promises.Brief.Own.{lookups_do_nothing}
-use Rattle.papaya_grows.proofs.Given.Promises.Brief.Steps.{lookups_keep_readings}
+use Rattle.papaya_grows.specs.Given.TablesChunks.{is_incremental}
+use Rattle.papaya_grows.specs.Given.TablesDeclared.node.Node.{Node}
+use Rattle.papaya_grows.specs.Given.RawDeclared.machines.progress.Progress.{Progress}
+use Rattle.papaya_grows.specs.Given.SchedulesDeclared.effect.Effect.{Effect}
+use Rattle.papaya_grows.specs.Given.SchedulesDeclared.event.Event.{Event}
+use Rattle.papaya_grows.specs.Given.SchedulesAfter.{moment, moments_from}
+use Rattle.papaya_grows.specs.Given.SchedulesBeginning.{at_work}
+use Rattle.papaya_grows.specs.Given.SchedulesEffects.{with_effects, worked}
+use Rattle.papaya_grows.specs.Given.SchedulesEntry.{Entry, IfCall, acted_on, acting, caller_of}
+use Rattle.papaya_grows.specs.Given.SchedulesMoment.{UnderWay as CallThere, Moment}
+use Rattle.papaya_grows.specs.Given.SchedulesSteps.{IsBrief, ReadsBriefly, ReadsFew}
+use Rattle.papaya_grows.specs.Given.SchedulesTerms.{Terms}
+use Rattle.papaya_grows.specs.Given.SchedulesViews.{call_of, grows_in_chunks, map_at}
+use Rattle.papaya_grows.specs.Given.SchedulesLists.{OneOf}
+use Rattle.papaya_grows.specs.Given.SchedulesDeclared.call.Call.{Call}
+use Rattle.papaya_grows.specs.Given.SchedulesDeclared.call.Call.TheVariants as call
+use Rattle.papaya_grows.specs.Given.CallersTogether.{UnderWay, OnKey, ForRoom, Counting, OverAll}
+use Rattle.papaya_grows.specs.Given.EffectsEffects.{effects_of}
+use Rattle.papaya_grows.specs.Given.EffectsKnown.{Known}
+use Rattle.papaya_grows.specs.Given.EffectsDeclared.acting.Acting.TheVariants as acts
+use Rattle.papaya_grows.proofs.Given.FollowsSteps.{one_of}
+use Rattle.papaya_grows.proofs.Given.MomentsAfter.{effects_after}
+use Rattle.papaya_grows.specs.Given.HistoriesInEvent.{InEvent, here_of}
+use Rattle.papaya_grows.specs.Given.HistoriesSeveral.{IsSameCall}
+use Rattle.papaya_grows.specs.Given.PromisesReading.{HasLooked, ShowsReading, looks}
+use Rattle.papaya_grows.proofs.Given.PromisesBrief.Ends.{events_read_briefly}
+use Rattle.papaya_grows.proofs.Given.PromisesBrief.Meanwhile.{effects_steps, others_keep_readings}
+use Rattle.papaya_grows.proofs.Given.PromisesBrief.Own.{lookups_do_nothing}
+use Rattle.papaya_grows.proofs.Given.PromisesBrief.Steps.{lookups_keep_readings}
 use Rattle.papaya_legal.specs.CallEvents.{InCallEvent}
-use Rattle.papaya_grows.specs.Given.Scenes.Held.{Held, IsAt}
-use Rattle.papaya_grows.specs.Given.Scenes.Scene.{Scene}
-use Rattle.papaya_grows.specs.Given.Scenes.Stepping.{StepLeads, scene_after}
-use Rattle.papaya_grows.specs.Given.Schedules.Transition.{past}
+use Rattle.papaya_grows.specs.Given.ScenesHeld.{Held, IsAt}
+use Rattle.papaya_grows.specs.Given.ScenesScene.{Scene}
+use Rattle.papaya_grows.specs.Given.ScenesStepping.{StepLeads, scene_after}
+use Rattle.papaya_grows.specs.Given.SchedulesTransition.{past}
 
 -- the call of the event is there still, as it was
 module _ {K V : Type 0} (same : K → K → Bool) (name : ℕ → List ℕ) (log : List (Entry K V)) (beginning : Moment K V) (map i : ℕ) (c : CallThere K V) (done : List Effect) (m : Moment K V) (known : Known)

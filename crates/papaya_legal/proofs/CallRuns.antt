@@ -2,59 +2,59 @@
 use Rattle.std.specs.Prelude.{flat_map, ◌≡◌, ◌==◌, ℕ, ◌+◌, Bool, true, false, List, ◌∷◌, Option, Some, if◌then◌else◌}
 use Rattle.std.proofs.Common.{refl, ap, sym, subst, ◌∙◌, inl, inr, arith}
 use Rattle.std.proofs.lemmas.Bool.{cases_eq, eq-eqb, ne_eqb}
-use Rattle.papaya_grows.specs.Given.Tables.declared.node.Node.{Node}
-use Rattle.papaya_grows.specs.Given.Raw.declared.machines.progress.Progress.{Progress}
-use Rattle.papaya_grows.specs.Given.Raw.declared.machines.progress.Progress.TheVariants as progress
-use Rattle.papaya_grows.specs.Given.Runs.Same.{is_same}
-use Rattle.papaya_grows.specs.Given.Schedules.declared.effect.Effect.{Effect}
-use Rattle.papaya_grows.specs.Given.Schedules.declared.event.Event.{Event}
-use Rattle.papaya_grows.specs.Given.Schedules.declared.event.Event.TheVariants.{OneCall, Step, Go, Next}
-use Rattle.papaya_grows.specs.Given.Schedules.declared.outcome.Outcome.{Outcome}
-use Rattle.papaya_grows.specs.Given.Schedules.declared.outcome.Outcome.TheVariants as outcome
-use Rattle.papaya_grows.specs.Given.Schedules.After.{after, moment}
-use Rattle.papaya_grows.specs.Given.Schedules.Beginning.{begun, with_call}
-use Rattle.papaya_grows.specs.Given.Schedules.Effects.{with_effects, worked}
-use Rattle.papaya_grows.specs.Given.Schedules.Entry.{Entry, acted_on, caller_of, ends_call, is_busy, nameless}
-use Rattle.papaya_grows.specs.Given.Schedules.Moment.{UnderWay as CallThere, Moment}
-use Rattle.papaya_grows.specs.Given.Schedules.Views.{call_of, number_of}
-use Rattle.papaya_grows.specs.Given.Callers.Together.{UnderWay}
-use Rattle.papaya_grows.specs.Given.Effects.Effects.{effects_of, known_after}
-use Rattle.papaya_grows.specs.Given.Effects.Known.{Known}
-use Rattle.papaya_grows.specs.Given.Effects.declared.acting.Acting.TheVariants as acts
-use Rattle.papaya_grows.specs.Given.Follows.Calling.{NoneNamed, come_to}
-use Rattle.papaya_grows.proofs.Given.Follows.Calling.{is_same_refl}
-use Rattle.papaya_grows.proofs.Given.Hands.Asking.{which}
-use Rattle.papaya_grows.specs.Given.Histories.InEvent.{here_of}
-use Rattle.papaya_grows.specs.Given.Histories.Questions.{EventAsksStill, ShowsQuestions}
-use Rattle.papaya_grows.specs.Given.Moments.Whole.{ShowsWhole}
-use Rattle.papaya_grows.proofs.Given.Histories.AnyCall.InEvent.{events_end, events_keep_all}
-use Rattle.papaya_grows.proofs.Given.Histories.AnyCall.Over.{none_named}
-use Rattle.papaya_grows.proofs.Given.Histories.Questions.{calls_begin_questions}
-use Rattle.papaya_grows.specs.Given.Purposes.Purposes.{ShowsPurposes}
-use Rattle.papaya_grows.proofs.Given.Purposes.Between.{calls_come_to_purposes}
-use Rattle.papaya_grows.proofs.Given.Purposes.Kept.{calls_keep_purposes}
-use Rattle.papaya_grows.proofs.Given.Purposes.Walks.{walks_show_purposes}
-use Rattle.papaya_grows.specs.Given.Promises.Reading.{ShowsReading, looks}
-use Rattle.papaya_grows.specs.Given.Promises.Sheltered.{SectionsHold}
-use Rattle.papaya_grows.proofs.Given.Promises.Brief.Meanwhile.{calls_come_to_readings}
-use Rattle.papaya_grows.specs.Given.Finds.Little.{AllIsBack, ReclaimsAll, WhereAll}
-use Rattle.papaya_grows.specs.Given.Schedules.Reclaims.{ComesLast}
-use Rattle.papaya_grows.specs.Given.Schedules.Model.{all_left, thing_back, IsByModel}
+use Rattle.papaya_grows.specs.Given.TablesDeclared.node.Node.{Node}
+use Rattle.papaya_grows.specs.Given.RawDeclared.machines.progress.Progress.{Progress}
+use Rattle.papaya_grows.specs.Given.RawDeclared.machines.progress.Progress.TheVariants as progress
+use Rattle.papaya_grows.specs.Given.RunsSame.{is_same}
+use Rattle.papaya_grows.specs.Given.SchedulesDeclared.effect.Effect.{Effect}
+use Rattle.papaya_grows.specs.Given.SchedulesDeclared.event.Event.{Event}
+use Rattle.papaya_grows.specs.Given.SchedulesDeclared.event.Event.TheVariants.{OneCall, Step, Go, Next}
+use Rattle.papaya_grows.specs.Given.SchedulesDeclared.outcome.Outcome.{Outcome}
+use Rattle.papaya_grows.specs.Given.SchedulesDeclared.outcome.Outcome.TheVariants as outcome
+use Rattle.papaya_grows.specs.Given.SchedulesAfter.{after, moment}
+use Rattle.papaya_grows.specs.Given.SchedulesBeginning.{begun, with_call}
+use Rattle.papaya_grows.specs.Given.SchedulesEffects.{with_effects, worked}
+use Rattle.papaya_grows.specs.Given.SchedulesEntry.{Entry, acted_on, caller_of, ends_call, is_busy, nameless}
+use Rattle.papaya_grows.specs.Given.SchedulesMoment.{UnderWay as CallThere, Moment}
+use Rattle.papaya_grows.specs.Given.SchedulesViews.{call_of, number_of}
+use Rattle.papaya_grows.specs.Given.CallersTogether.{UnderWay}
+use Rattle.papaya_grows.specs.Given.EffectsEffects.{effects_of, known_after}
+use Rattle.papaya_grows.specs.Given.EffectsKnown.{Known}
+use Rattle.papaya_grows.specs.Given.EffectsDeclared.acting.Acting.TheVariants as acts
+use Rattle.papaya_grows.specs.Given.FollowsCalling.{NoneNamed, come_to}
+use Rattle.papaya_grows.proofs.Given.FollowsCalling.{is_same_refl}
+use Rattle.papaya_grows.proofs.Given.HandsAsking.{which}
+use Rattle.papaya_grows.specs.Given.HistoriesInEvent.{here_of}
+use Rattle.papaya_grows.specs.Given.HistoriesQuestions.{EventAsksStill, ShowsQuestions}
+use Rattle.papaya_grows.specs.Given.MomentsWhole.{ShowsWhole}
+use Rattle.papaya_grows.proofs.Given.HistoriesAnyCall.InEvent.{events_end, events_keep_all}
+use Rattle.papaya_grows.proofs.Given.HistoriesAnyCall.Over.{none_named}
+use Rattle.papaya_grows.proofs.Given.HistoriesQuestions.{calls_begin_questions}
+use Rattle.papaya_grows.specs.Given.PurposesPurposes.{ShowsPurposes}
+use Rattle.papaya_grows.proofs.Given.PurposesBetween.{calls_come_to_purposes}
+use Rattle.papaya_grows.proofs.Given.PurposesKept.{calls_keep_purposes}
+use Rattle.papaya_grows.proofs.Given.PurposesWalks.{walks_show_purposes}
+use Rattle.papaya_grows.specs.Given.PromisesReading.{ShowsReading, looks}
+use Rattle.papaya_grows.specs.Given.PromisesSheltered.{SectionsHold}
+use Rattle.papaya_grows.proofs.Given.PromisesBrief.Meanwhile.{calls_come_to_readings}
+use Rattle.papaya_grows.specs.Given.FindsLittle.{AllIsBack, ReclaimsAll, WhereAll}
+use Rattle.papaya_grows.specs.Given.SchedulesReclaims.{ComesLast}
+use Rattle.papaya_grows.specs.Given.SchedulesModel.{all_left, thing_back, IsByModel}
 use Rattle.papaya_legal.specs.CallEvents.{IsLegalBut}
 use Rattle.papaya_legal.specs.CallRuns.{CallEventsRun, ShowsAsTold}
 use Rattle.papaya_legal.specs.Carried.{FollowsOrRows}
 use Rattle.papaya_legal.proofs.CallChanges.{changes_first, reads_shards}
 use Rattle.papaya_legal.proofs.CallFollows.{call_events_follow}
-use Rattle.papaya_grows.proofs.Given.Moments.After.{effects_after}
+use Rattle.papaya_grows.proofs.Given.MomentsAfter.{effects_after}
 use Rattle.papaya_legal.proofs.CallLeaves.{calls_leave_nothing}
-use Rattle.papaya_grows.specs.Given.Purposes.Kept.{PairsChangeFirst}
+use Rattle.papaya_grows.specs.Given.PurposesKept.{PairsChangeFirst}
 use Rattle.papaya_legal.proofs.CallPairs.{begun_so, pairs_first}
 use Rattle.papaya_legal.proofs.CallReads.{readings_go_on}
 use Rattle.papaya_legal.proofs.CallsAfter.{call_events_end_so}
 use Rattle.papaya_legal.proofs.CallsEnd.{call_events_are_legal}
-use Rattle.papaya_grows.specs.Given.Scenes.Scene.{Scene}
-use Rattle.papaya_grows.specs.Given.Scenes.Stepping.{StepLeads, scene_after}
-use Rattle.papaya_grows.specs.Given.Schedules.Transition.{past, transition}
+use Rattle.papaya_grows.specs.Given.ScenesScene.{Scene}
+use Rattle.papaya_grows.specs.Given.ScenesStepping.{StepLeads, scene_after}
+use Rattle.papaya_grows.specs.Given.SchedulesTransition.{past, transition}
 
 module _ {K V : Type 0} (own : List ℕ) where
   -- what calls have asked is so where such an event has begun what it begins

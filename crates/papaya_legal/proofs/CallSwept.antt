@@ -1,42 +1,42 @@
 -- An event of a call does what it is for, as the last step says.
 use Rattle.std.specs.Prelude.{◌≡◌, ◌⊎◌, ℕ, Bool, List, Option, Some, None}
 use Rattle.std.proofs.Common.{refl, ap, sym, subst, ◌∙◌, inl, inr}
-use Rattle.papaya_grows.specs.Given.Tables.declared.node.Node.{Node}
-use Rattle.papaya_grows.specs.Given.Raw.declared.machines.progress.Progress.{Progress}
-use Rattle.papaya_grows.specs.Given.Schedules.declared.call.Call.{Call}
-use Rattle.papaya_grows.specs.Given.Schedules.declared.call.Call.TheVariants.{Clear, Len, On, Reserve, Retain, Walk}
-use Rattle.papaya_grows.specs.Given.Schedules.declared.effect.Effect.{Effect}
-use Rattle.papaya_grows.specs.Given.Schedules.declared.outcome.Outcome.{Outcome}
-use Rattle.papaya_grows.specs.Given.Schedules.After.{moment}
-use Rattle.papaya_grows.specs.Given.Schedules.Effects.{with_effects, worked}
-use Rattle.papaya_grows.specs.Given.Schedules.Entry.{acted_on, acting, caller_of}
-use Rattle.papaya_grows.specs.Given.Schedules.Moment.{UnderWay as CallThere, Moment}
-use Rattle.papaya_grows.specs.Given.Schedules.Sweeps.{IsSwept}
-use Rattle.papaya_grows.specs.Given.Schedules.Views.{call_of, finite_map}
-use Rattle.papaya_grows.specs.Given.Callers.Together.{UnderWay, OnKey, ForRoom, Counting, OverAll}
-use Rattle.papaya_grows.specs.Given.Effects.Effects.{effects_of, known_after}
-use Rattle.papaya_grows.specs.Given.Effects.Known.{Known}
-use Rattle.papaya_grows.specs.Given.Effects.declared.acting.Acting.TheVariants as acts
-use Rattle.papaya_grows.specs.Given.Moments.Whole.{ShowsWhole}
-use Rattle.papaya_grows.proofs.Given.Moments.After.{effects_after}
-use Rattle.papaya_grows.specs.Given.Histories.InEvent.{InEvent, here_of}
-use Rattle.papaya_grows.specs.Given.Histories.Several.{IsSameCall}
-use Rattle.papaya_grows.proofs.Given.Histories.OtherMidsts.{fewer_so}
-use Rattle.papaya_grows.proofs.Given.Promises.Brief.Meanwhile.{effects_steps}
-use Rattle.papaya_grows.specs.Given.Purposes.Kept.{PairsChangeFirst}
-use Rattle.papaya_grows.specs.Given.Purposes.Shards.{ReadsShards}
-use Rattle.papaya_grows.specs.Given.Purposes.Swept.{ComesSo as IsToldSo}
-use Rattle.papaya_grows.proofs.Given.Purposes.FindsRoom.{reservations_are_swept}
-use Rattle.papaya_grows.proofs.Given.Purposes.Nothing.{calls_on_keys_are_swept, other_outcomes_are_swept}
-use Rattle.papaya_grows.proofs.Given.Purposes.Shows.{walks_show}
-use Rattle.papaya_grows.proofs.Given.Purposes.ShowsAll.{walks_show_all}
-use Rattle.papaya_grows.proofs.Given.Purposes.Swept.{clearings_are_swept, countings_are_swept, retainings_are_swept}
+use Rattle.papaya_grows.specs.Given.TablesDeclared.node.Node.{Node}
+use Rattle.papaya_grows.specs.Given.RawDeclared.machines.progress.Progress.{Progress}
+use Rattle.papaya_grows.specs.Given.SchedulesDeclared.call.Call.{Call}
+use Rattle.papaya_grows.specs.Given.SchedulesDeclared.call.Call.TheVariants.{Clear, Len, On, Reserve, Retain, Walk}
+use Rattle.papaya_grows.specs.Given.SchedulesDeclared.effect.Effect.{Effect}
+use Rattle.papaya_grows.specs.Given.SchedulesDeclared.outcome.Outcome.{Outcome}
+use Rattle.papaya_grows.specs.Given.SchedulesAfter.{moment}
+use Rattle.papaya_grows.specs.Given.SchedulesEffects.{with_effects, worked}
+use Rattle.papaya_grows.specs.Given.SchedulesEntry.{acted_on, acting, caller_of}
+use Rattle.papaya_grows.specs.Given.SchedulesMoment.{UnderWay as CallThere, Moment}
+use Rattle.papaya_grows.specs.Given.SchedulesSweeps.{IsSwept}
+use Rattle.papaya_grows.specs.Given.SchedulesViews.{call_of, finite_map}
+use Rattle.papaya_grows.specs.Given.CallersTogether.{UnderWay, OnKey, ForRoom, Counting, OverAll}
+use Rattle.papaya_grows.specs.Given.EffectsEffects.{effects_of, known_after}
+use Rattle.papaya_grows.specs.Given.EffectsKnown.{Known}
+use Rattle.papaya_grows.specs.Given.EffectsDeclared.acting.Acting.TheVariants as acts
+use Rattle.papaya_grows.specs.Given.MomentsWhole.{ShowsWhole}
+use Rattle.papaya_grows.proofs.Given.MomentsAfter.{effects_after}
+use Rattle.papaya_grows.specs.Given.HistoriesInEvent.{InEvent, here_of}
+use Rattle.papaya_grows.specs.Given.HistoriesSeveral.{IsSameCall}
+use Rattle.papaya_grows.proofs.Given.HistoriesOtherMidsts.{fewer_so}
+use Rattle.papaya_grows.proofs.Given.PromisesBrief.Meanwhile.{effects_steps}
+use Rattle.papaya_grows.specs.Given.PurposesKept.{PairsChangeFirst}
+use Rattle.papaya_grows.specs.Given.PurposesShards.{ReadsShards}
+use Rattle.papaya_grows.specs.Given.PurposesSwept.{ComesSo as IsToldSo}
+use Rattle.papaya_grows.proofs.Given.PurposesFindsRoom.{reservations_are_swept}
+use Rattle.papaya_grows.proofs.Given.PurposesNothing.{calls_on_keys_are_swept, other_outcomes_are_swept}
+use Rattle.papaya_grows.proofs.Given.PurposesShows.{walks_show}
+use Rattle.papaya_grows.proofs.Given.PurposesShowsAll.{walks_show_all}
+use Rattle.papaya_grows.proofs.Given.PurposesSwept.{clearings_are_swept, countings_are_swept, retainings_are_swept}
 use Rattle.papaya_legal.specs.CallSwept.{CallsAreSwept, TellsOf}
 use Rattle.papaya_legal.proofs.CallChanges.{reads_shards}
 use Rattle.papaya_legal.proofs.CallPairs.{begun_so, none_comes, pairs_first}
 use Rattle.papaya_legal.proofs.CallReads.{there_still}
-use Rattle.papaya_grows.specs.Given.Scenes.Stepping.{StepLeads}
-use Rattle.papaya_grows.specs.Given.Schedules.Transition.{past, transition}
+use Rattle.papaya_grows.specs.Given.ScenesStepping.{StepLeads}
+use Rattle.papaya_grows.specs.Given.SchedulesTransition.{past, transition}
 
 pub calls_are_swept : (K V : Type 0) (same : K → K → Bool) (hash : ℕ → K → ℕ) → CallsAreSwept K V same hash
 calls_are_swept K V same hash name terms log beginning map i c steps done m known s u e midst old new at said leads begins acted effects_are mask tells = by c.call refl tells

@@ -3,46 +3,46 @@ use Rattle.std.specs.Prelude.{◌≡◌, ◌≢◌, ◌<◌, ℕ, ◌+◌, ◌�
 use Rattle.std.specs.List.{list_all}
 use Rattle.std.proofs.Common.{refl, ap, sym, subst, ◌∙◌, inl, inr, arith}
 use Rattle.std.proofs.lemmas.List.{append-nil}
-use Rattle.papaya_grows.specs.Given.Seize.WaitingSets.{Sets}
-use Rattle.papaya_grows.specs.Given.Seize.World.{World, Rests}
-use Rattle.papaya_grows.specs.Given.Tables.declared.node.Node.{Node}
-use Rattle.papaya_grows.specs.Given.Tables.Chunks.{is_incremental}
-use Rattle.papaya_grows.specs.Given.Schedules.declared.effect.Effect.{Effect}
-use Rattle.papaya_grows.specs.Given.Schedules.declared.event.Event.{Event}
-use Rattle.papaya_grows.specs.Given.Schedules.declared.event.Event.TheVariants.{OneCall, Step, Go, Next}
-use Rattle.papaya_grows.specs.Given.Schedules.declared.effect.Thing.{Thing}
-use Rattle.papaya_grows.specs.Given.Schedules.After.{is_by, moment, moments_from}
-use Rattle.papaya_grows.specs.Given.Schedules.Effects.{with_effects, AtEachEffect}
-use Rattle.papaya_grows.specs.Given.Schedules.Entry.{caller_of, speaker}
-use Rattle.papaya_grows.specs.Given.Schedules.Model.{sets_in, things_in}
-use Rattle.papaya_grows.specs.Given.Schedules.Moment.{Moment}
-use Rattle.papaya_grows.specs.Given.Effects.Effects.{effects_of, known_after}
-use Rattle.papaya_grows.specs.Given.Effects.Known.{Known}
-use Rattle.papaya_grows.specs.Given.Effects.declared.acting.Acting.TheVariants as acts
-use Rattle.papaya_grows.specs.Given.Moments.Whole.{ShowsWhole}
-use Rattle.papaya_grows.proofs.Given.Moments.After.{effects_after}
-use Rattle.papaya_grows.proofs.Given.Moments.Numbers.{numbers_are_below}
-use Rattle.papaya_grows.specs.Given.Histories.AsCalled.{ShowsAsCalled}
-use Rattle.papaya_grows.specs.Given.Histories.Due.{ShowsDue}
-use Rattle.papaya_grows.specs.Given.Histories.InEvent.{here_of}
-use Rattle.papaya_grows.proofs.Given.Histories.AnyCall.InEvent.{events_begin, events_go_on, events_keep_all}
-use Rattle.papaya_grows.specs.Given.Models.CallEvents.{FollowsInEvent, IsInItsRow}
-use Rattle.papaya_grows.proofs.Given.Models.CallEvents.{call_events_begin, call_events_go_on}
-use Rattle.papaya_grows.proofs.Given.Models.MapEvents.{moments_note_once}
-use Rattle.papaya_grows.proofs.Given.Spots.Unreclaimed.{and_both}
-use Rattle.papaya_grows.specs.Given.Finds.Life.{StoresOne}
-use Rattle.papaya_grows.proofs.Given.Finds.Doing.{several_do_theirs}
-use Rattle.papaya_grows.proofs.Given.Finds.Quiet.{several_store_one}
-use Rattle.papaya_grows.proofs.Given.Finds.Steps.{steps_do_theirs, steps_store_one}
-use Rattle.papaya_grows.specs.Given.Promises.Protected.{InMidst, is_of_slots}
-use Rattle.papaya_grows.specs.Given.Promises.Reading.{HasLooked, looks}
-use Rattle.papaya_grows.specs.Given.Promises.Sheltered.{SectionsHold}
-use Rattle.papaya_grows.proofs.Given.Promises.Protected.{calls_protect}
-use Rattle.papaya_grows.proofs.Given.Promises.Weights.{grants_add_up, operations_are_single, parts_add_up}
+use Rattle.papaya_grows.specs.Given.SeizeWaitingSets.{Sets}
+use Rattle.papaya_grows.specs.Given.SeizeWorld.{World, Rests}
+use Rattle.papaya_grows.specs.Given.TablesDeclared.node.Node.{Node}
+use Rattle.papaya_grows.specs.Given.TablesChunks.{is_incremental}
+use Rattle.papaya_grows.specs.Given.SchedulesDeclared.effect.Effect.{Effect}
+use Rattle.papaya_grows.specs.Given.SchedulesDeclared.event.Event.{Event}
+use Rattle.papaya_grows.specs.Given.SchedulesDeclared.event.Event.TheVariants.{OneCall, Step, Go, Next}
+use Rattle.papaya_grows.specs.Given.SchedulesDeclared.effect.Thing.{Thing}
+use Rattle.papaya_grows.specs.Given.SchedulesAfter.{is_by, moment, moments_from}
+use Rattle.papaya_grows.specs.Given.SchedulesEffects.{with_effects, AtEachEffect}
+use Rattle.papaya_grows.specs.Given.SchedulesEntry.{caller_of, speaker}
+use Rattle.papaya_grows.specs.Given.SchedulesModel.{sets_in, things_in}
+use Rattle.papaya_grows.specs.Given.SchedulesMoment.{Moment}
+use Rattle.papaya_grows.specs.Given.EffectsEffects.{effects_of, known_after}
+use Rattle.papaya_grows.specs.Given.EffectsKnown.{Known}
+use Rattle.papaya_grows.specs.Given.EffectsDeclared.acting.Acting.TheVariants as acts
+use Rattle.papaya_grows.specs.Given.MomentsWhole.{ShowsWhole}
+use Rattle.papaya_grows.proofs.Given.MomentsAfter.{effects_after}
+use Rattle.papaya_grows.proofs.Given.MomentsNumbers.{numbers_are_below}
+use Rattle.papaya_grows.specs.Given.HistoriesAsCalled.{ShowsAsCalled}
+use Rattle.papaya_grows.specs.Given.HistoriesDue.{ShowsDue}
+use Rattle.papaya_grows.specs.Given.HistoriesInEvent.{here_of}
+use Rattle.papaya_grows.proofs.Given.HistoriesAnyCall.InEvent.{events_begin, events_go_on, events_keep_all}
+use Rattle.papaya_grows.specs.Given.ModelsCallEvents.{FollowsInEvent, IsInItsRow}
+use Rattle.papaya_grows.proofs.Given.ModelsCallEvents.{call_events_begin, call_events_go_on}
+use Rattle.papaya_grows.proofs.Given.ModelsMapEvents.{moments_note_once}
+use Rattle.papaya_grows.proofs.Given.SpotsUnreclaimed.{and_both}
+use Rattle.papaya_grows.specs.Given.FindsLife.{StoresOne}
+use Rattle.papaya_grows.proofs.Given.FindsDoing.{several_do_theirs}
+use Rattle.papaya_grows.proofs.Given.FindsQuiet.{several_store_one}
+use Rattle.papaya_grows.proofs.Given.FindsSteps.{steps_do_theirs, steps_store_one}
+use Rattle.papaya_grows.specs.Given.PromisesProtected.{InMidst, is_of_slots}
+use Rattle.papaya_grows.specs.Given.PromisesReading.{HasLooked, looks}
+use Rattle.papaya_grows.specs.Given.PromisesSheltered.{SectionsHold}
+use Rattle.papaya_grows.proofs.Given.PromisesProtected.{calls_protect}
+use Rattle.papaya_grows.proofs.Given.PromisesWeights.{grants_add_up, operations_are_single, parts_add_up}
 use Rattle.papaya_legal.specs.CallEvents.{CallEventsBegin, CallEventsGoOn}
-use Rattle.papaya_grows.proofs.Given.Purposes.ShardsRead.{events_begin_uncounted}
+use Rattle.papaya_grows.proofs.Given.PurposesShardsRead.{events_begin_uncounted}
 use Rattle.papaya_legal.proofs.CallChanges.{changes_first, reads_shards, unadded_still}
-use Rattle.papaya_grows.proofs.Given.Histories.Several.{stands}
+use Rattle.papaya_grows.proofs.Given.HistoriesSeveral.{stands}
 use Rattle.papaya_legal.proofs.CallPairs.{begun_so, each_is_its_own, own_alike, pairs_first}
 use Rattle.papaya_legal.proofs.CallReads.{does_nothing, readings_go_on}
 use Rattle.papaya_grows.proofs.Limits.Shows.{limits_at_first}
@@ -50,11 +50,11 @@ use Rattle.papaya_grows.proofs.Limits.Steps.{limits_others}
 use Rattle.papaya_grows.proofs.Tries.Shows.{tries_at_first}
 use Rattle.papaya_grows.proofs.Tries.Steps.{tries_others}
 use Rattle.papaya_grows.proofs.Finding.Alike.{many_same}
-use Rattle.papaya_grows.proofs.Given.Finds.Grows.Steps.{tables_have_been}
+use Rattle.papaya_grows.proofs.Given.FindsGrows.Steps.{tables_have_been}
 use Rattle.papaya_grows.proofs.Finding.Nexts.{others_at_first, others_go_on}
-use Rattle.papaya_grows.specs.Given.Scenes.Scene.{Scene, slot_of}
-use Rattle.papaya_grows.specs.Given.Scenes.Stepping.{scene_after}
-use Rattle.papaya_grows.specs.Given.Schedules.Transition.{past}
+use Rattle.papaya_grows.specs.Given.ScenesScene.{Scene, slot_of}
+use Rattle.papaya_grows.specs.Given.ScenesStepping.{scene_after}
+use Rattle.papaya_grows.specs.Given.SchedulesTransition.{past}
 use Rattle.papaya_legal.proofs.OneStep.{calls_show_on}
 
 -- no steps, whoever's

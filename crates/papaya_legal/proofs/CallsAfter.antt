@@ -1,52 +1,52 @@
 -- The moment after an event of a call shows what the next event needs.
 use Rattle.std.specs.Prelude.{◌≡◌, ◌<◌, ℕ, Bool, true, List, ◌∷◌, Option, Some, find}
 use Rattle.std.proofs.Common.{refl, ap, sym, subst, ◌∙◌}
-use Rattle.papaya_grows.specs.Given.Schedules.declared.effect.Effect.{Effect}
-use Rattle.papaya_grows.specs.Given.Schedules.declared.event.Event.{Event}
-use Rattle.papaya_grows.specs.Given.Schedules.declared.event.Event.TheVariants.{OneCall, Step, Go, Next}
-use Rattle.papaya_grows.specs.Given.Schedules.After.{moment, after}
-use Rattle.papaya_grows.specs.Given.Schedules.Effects.{with_effects, AtEachEffect, worked}
-use Rattle.papaya_grows.specs.Given.Schedules.Entry.{caller_of, Entry, acted_on, ends_call}
-use Rattle.papaya_grows.specs.Given.Schedules.Moment.{Moment, UnderWay as CallThere}
-use Rattle.papaya_grows.specs.Given.Effects.Effects.{effects_of, known_after}
-use Rattle.papaya_grows.specs.Given.Effects.Known.{Known}
-use Rattle.papaya_grows.specs.Given.Moments.Whole.{ShowsWhole}
-use Rattle.papaya_grows.proofs.Given.Moments.After.{effects_after}
-use Rattle.papaya_grows.proofs.Given.Moments.NewMaps.{effects_keep_pairs}
-use Rattle.papaya_grows.proofs.Given.Moments.Numbers.{numbers_are_below, steps_keep_numbers}
-use Rattle.papaya_grows.specs.Given.Kept.Kept.{ShowsKept}
-use Rattle.papaya_grows.proofs.Given.Kept.Calls.{calls_keep_kept}
-use Rattle.papaya_grows.proofs.Given.Shards.ShardCalls.{calls_keep_counters}
-use Rattle.papaya_grows.specs.Given.Histories.AsCalled.{ShowsAsCalled}
-use Rattle.papaya_grows.specs.Given.Histories.Due.{ShowsDue}
-use Rattle.papaya_grows.specs.Given.Histories.InEvent.{here_of}
-use Rattle.papaya_grows.proofs.Given.Histories.Questions.{events_keep_questions}
-use Rattle.papaya_grows.proofs.Given.Histories.AnyCall.InEvent.{events_keep_all}
-use Rattle.papaya_grows.specs.Given.Finds.Life.{StoresOne}
-use Rattle.papaya_grows.proofs.Given.Finds.Quiet.{several_store_one}
-use Rattle.papaya_grows.proofs.Given.Finds.Steps.{steps_store_one}
-use Rattle.papaya_grows.specs.Given.Promises.Reading.{LookupsStay}
-use Rattle.papaya_grows.proofs.Given.Purposes.Tableless.{events_keep_tableless}
+use Rattle.papaya_grows.specs.Given.SchedulesDeclared.effect.Effect.{Effect}
+use Rattle.papaya_grows.specs.Given.SchedulesDeclared.event.Event.{Event}
+use Rattle.papaya_grows.specs.Given.SchedulesDeclared.event.Event.TheVariants.{OneCall, Step, Go, Next}
+use Rattle.papaya_grows.specs.Given.SchedulesAfter.{moment, after}
+use Rattle.papaya_grows.specs.Given.SchedulesEffects.{with_effects, AtEachEffect, worked}
+use Rattle.papaya_grows.specs.Given.SchedulesEntry.{caller_of, Entry, acted_on, ends_call}
+use Rattle.papaya_grows.specs.Given.SchedulesMoment.{Moment, UnderWay as CallThere}
+use Rattle.papaya_grows.specs.Given.EffectsEffects.{effects_of, known_after}
+use Rattle.papaya_grows.specs.Given.EffectsKnown.{Known}
+use Rattle.papaya_grows.specs.Given.MomentsWhole.{ShowsWhole}
+use Rattle.papaya_grows.proofs.Given.MomentsAfter.{effects_after}
+use Rattle.papaya_grows.proofs.Given.MomentsNewMaps.{effects_keep_pairs}
+use Rattle.papaya_grows.proofs.Given.MomentsNumbers.{numbers_are_below, steps_keep_numbers}
+use Rattle.papaya_grows.specs.Given.KeptKept.{ShowsKept}
+use Rattle.papaya_grows.proofs.Given.KeptCalls.{calls_keep_kept}
+use Rattle.papaya_grows.proofs.Given.ShardsShardCalls.{calls_keep_counters}
+use Rattle.papaya_grows.specs.Given.HistoriesAsCalled.{ShowsAsCalled}
+use Rattle.papaya_grows.specs.Given.HistoriesDue.{ShowsDue}
+use Rattle.papaya_grows.specs.Given.HistoriesInEvent.{here_of}
+use Rattle.papaya_grows.proofs.Given.HistoriesQuestions.{events_keep_questions}
+use Rattle.papaya_grows.proofs.Given.HistoriesAnyCall.InEvent.{events_keep_all}
+use Rattle.papaya_grows.specs.Given.FindsLife.{StoresOne}
+use Rattle.papaya_grows.proofs.Given.FindsQuiet.{several_store_one}
+use Rattle.papaya_grows.proofs.Given.FindsSteps.{steps_store_one}
+use Rattle.papaya_grows.specs.Given.PromisesReading.{LookupsStay}
+use Rattle.papaya_grows.proofs.Given.PurposesTableless.{events_keep_tableless}
 use Rattle.papaya_legal.specs.CallEvents.{CallEventsEnd}
-use Rattle.papaya_grows.specs.Given.Schedules.declared.outcome.Outcome.{Outcome}
-use Rattle.papaya_grows.specs.Given.Moments.Numbers.{NumbersMaps, PairsAreBelow}
-use Rattle.papaya_grows.specs.Given.Follows.Calling.{come_to, NoneNamed}
-use Rattle.papaya_grows.specs.Given.Others.Elsewhere.{HasSame}
-use Rattle.papaya_grows.proofs.Given.Histories.AnyCall.Over.{events_are_over, like_over, none_named}
-use Rattle.papaya_grows.proofs.Given.Purposes.Between.{events_keep_purposes}
-use Rattle.papaya_grows.proofs.Given.Purposes.Elsewhere.{purposes_stay}
-use Rattle.papaya_grows.proofs.Given.Kept.Stays.{stays_kept, calls_come_to_kept}
-use Rattle.papaya_grows.proofs.Given.Shards.ShardBetween.{counters_stay, calls_come_to_counters}
-use Rattle.papaya_grows.proofs.Given.Promises.Brief.Stays.{events_keep_readings, readings_stay}
-use Rattle.papaya_grows.specs.Given.Finds.Within.{GoesInOrder}
-use Rattle.papaya_grows.proofs.Given.Finds.Runs.{events_keep_order}
-use Rattle.papaya_grows.proofs.Given.Finds.Closed.{over_stays_back}
-use Rattle.papaya_grows.specs.Given.Runs.Same.{is_same}
+use Rattle.papaya_grows.specs.Given.SchedulesDeclared.outcome.Outcome.{Outcome}
+use Rattle.papaya_grows.specs.Given.MomentsNumbers.{NumbersMaps, PairsAreBelow}
+use Rattle.papaya_grows.specs.Given.FollowsCalling.{come_to, NoneNamed}
+use Rattle.papaya_grows.specs.Given.OthersElsewhere.{HasSame}
+use Rattle.papaya_grows.proofs.Given.HistoriesAnyCall.Over.{events_are_over, like_over, none_named}
+use Rattle.papaya_grows.proofs.Given.PurposesBetween.{events_keep_purposes}
+use Rattle.papaya_grows.proofs.Given.PurposesElsewhere.{purposes_stay}
+use Rattle.papaya_grows.proofs.Given.KeptStays.{stays_kept, calls_come_to_kept}
+use Rattle.papaya_grows.proofs.Given.ShardsShardBetween.{counters_stay, calls_come_to_counters}
+use Rattle.papaya_grows.proofs.Given.PromisesBrief.Stays.{events_keep_readings, readings_stay}
+use Rattle.papaya_grows.specs.Given.FindsWithin.{GoesInOrder}
+use Rattle.papaya_grows.proofs.Given.FindsRuns.{events_keep_order}
+use Rattle.papaya_grows.proofs.Given.FindsClosed.{over_stays_back}
+use Rattle.papaya_grows.specs.Given.RunsSame.{is_same}
 use Rattle.papaya_legal.proofs.LeftTold.{events_tell_left}
 use Rattle.papaya_legal.proofs.Maps.{stands_so}
-use Rattle.papaya_grows.specs.Given.Effects.declared.acting.Acting.TheVariants as acts
+use Rattle.papaya_grows.specs.Given.EffectsDeclared.acting.Acting.TheVariants as acts
 use Rattle.papaya_legal.specs.Carried.{NoneCounted}
-use Rattle.papaya_grows.proofs.Given.Sources.Steps.{calls_keep_sources}
+use Rattle.papaya_grows.proofs.Given.SourcesSteps.{calls_keep_sources}
 use Rattle.papaya_legal.proofs.Sourced.{sources_so}
 use Rattle.papaya_grows.proofs.Finding.Alike.{finding_fewer, stood_as}
 use Rattle.papaya_grows.proofs.Finding.Calls.{calls_keep_finding}
@@ -60,10 +60,10 @@ use Rattle.papaya_grows.specs.Tries.{ShowsTries}
 use Rattle.papaya_grows.proofs.Tries.Shows.{calls_come_to_tries, tries_alike, tries_grow}
 use Rattle.papaya_grows.proofs.Tries.Steps.{tries_go_on}
 use Rattle.papaya_legal.proofs.Uncounted.{calls_leave_uncounted}
-use Rattle.papaya_grows.specs.Given.Scenes.Scene.{Scene}
-use Rattle.papaya_grows.specs.Given.Scenes.Stepping.{scene_after}
-use Rattle.papaya_grows.specs.Given.Schedules.Transition.{past}
-use Rattle.papaya_grows.proofs.Given.Histories.Logs.{events_are}
+use Rattle.papaya_grows.specs.Given.ScenesScene.{Scene}
+use Rattle.papaya_grows.specs.Given.ScenesStepping.{scene_after}
+use Rattle.papaya_grows.specs.Given.SchedulesTransition.{past}
+use Rattle.papaya_grows.proofs.Given.HistoriesLogs.{events_are}
 
 -- numbers of maps are those after its effects
 module _ {K V : Type 0} (log : List (Entry K V)) (own : List ℕ) (outcome : Outcome V) (steps : ℕ) (effects : List Effect) where

@@ -2,42 +2,42 @@
 use Rattle.std.specs.Prelude.{◌≡◌, ◌⊎◌, [], ℕ, Bool, true, false, List, Some}
 use Rattle.std.specs.List.{list_all}
 use Rattle.std.proofs.Common.{refl, ap, sym, subst, ◌∙◌, inl, inr}
-use Rattle.papaya_grows.specs.Given.SeizeWords.declared.fault.Fault.TheVariants.{Busy}
-use Rattle.papaya_grows.specs.Given.Schedules.declared.effect.Effect.{Effect}
-use Rattle.papaya_grows.specs.Given.Schedules.declared.event.Event.{Event}
-use Rattle.papaya_grows.specs.Given.Schedules.declared.event.Event.TheVariants.{OneCall, Step, Go, Next}
-use Rattle.papaya_grows.specs.Given.Schedules.declared.outcome.Outcome.{Outcome}
-use Rattle.papaya_grows.specs.Given.Schedules.declared.outcome.Outcome.TheVariants.{Refused}
-use Rattle.papaya_grows.specs.Given.Schedules.After.{after, moment, moments_from}
-use Rattle.papaya_grows.specs.Given.Schedules.Beginning.{at_work}
-use Rattle.papaya_grows.specs.Given.Schedules.Effects.{with_effects, worked}
-use Rattle.papaya_grows.specs.Given.Schedules.Entry.{acted_on, caller_of, is_busy}
-use Rattle.papaya_grows.specs.Given.Schedules.Handing.{AllFind, IsWhole, is_call_effect, is_granted, may_do}
-use Rattle.papaya_grows.specs.Given.Schedules.Linearizable.{IsLinearizable}
-use Rattle.papaya_grows.specs.Given.Schedules.Moment.{Moment}
-use Rattle.papaya_grows.specs.Given.Schedules.Reclaims.{IsProtected}
-use Rattle.papaya_grows.specs.Given.Effects.Effects.{effects_of, known_after}
-use Rattle.papaya_grows.specs.Given.Effects.Known.{Known}
-use Rattle.papaya_grows.specs.Given.Effects.declared.acting.Acting.TheVariants as acts
-use Rattle.papaya_grows.specs.Given.Moments.Whole.{ShowsWhole}
-use Rattle.papaya_grows.proofs.Given.Moments.After.{effects_after}
-use Rattle.papaya_grows.specs.Given.Histories.InEvent.{here_of}
-use Rattle.papaya_grows.specs.Given.Histories.Questions.{EventAsksStill}
-use Rattle.papaya_grows.proofs.Given.Histories.AnyCall.InEvent.{events_end}
-use Rattle.papaya_grows.specs.Given.Promises.Protected.{InMidst}
-use Rattle.papaya_grows.specs.Given.Promises.Sheltered.{SectionsHold}
-use Rattle.papaya_grows.proofs.Given.Promises.Protected.{calls_protect, other_events_end_protected}
-use Rattle.papaya_grows.proofs.Given.Promises.Weights.{grants_add_up, operations_are_single}
-use Rattle.papaya_grows.specs.Given.Finds.Doing.{takes_steps}
-use Rattle.papaya_grows.specs.Given.Finds.Parts.{FindAll}
-use Rattle.papaya_grows.proofs.Given.Finds.Doing.{events_may_do, several_do_theirs}
-use Rattle.papaya_grows.proofs.Given.Finds.Joined.{events_find_all}
-use Rattle.papaya_grows.proofs.Given.Finds.Over.{acts as acts_on_its}
-use Rattle.papaya_grows.proofs.Given.Finds.Steps.{steps_do_theirs}
+use Rattle.papaya_grows.specs.Given.SeizeWordsDeclared.fault.Fault.TheVariants.{Busy}
+use Rattle.papaya_grows.specs.Given.SchedulesDeclared.effect.Effect.{Effect}
+use Rattle.papaya_grows.specs.Given.SchedulesDeclared.event.Event.{Event}
+use Rattle.papaya_grows.specs.Given.SchedulesDeclared.event.Event.TheVariants.{OneCall, Step, Go, Next}
+use Rattle.papaya_grows.specs.Given.SchedulesDeclared.outcome.Outcome.{Outcome}
+use Rattle.papaya_grows.specs.Given.SchedulesDeclared.outcome.Outcome.TheVariants.{Refused}
+use Rattle.papaya_grows.specs.Given.SchedulesAfter.{after, moment, moments_from}
+use Rattle.papaya_grows.specs.Given.SchedulesBeginning.{at_work}
+use Rattle.papaya_grows.specs.Given.SchedulesEffects.{with_effects, worked}
+use Rattle.papaya_grows.specs.Given.SchedulesEntry.{acted_on, caller_of, is_busy}
+use Rattle.papaya_grows.specs.Given.SchedulesHanding.{AllFind, IsWhole, is_call_effect, is_granted, may_do}
+use Rattle.papaya_grows.specs.Given.SchedulesLinearizable.{IsLinearizable}
+use Rattle.papaya_grows.specs.Given.SchedulesMoment.{Moment}
+use Rattle.papaya_grows.specs.Given.SchedulesReclaims.{IsProtected}
+use Rattle.papaya_grows.specs.Given.EffectsEffects.{effects_of, known_after}
+use Rattle.papaya_grows.specs.Given.EffectsKnown.{Known}
+use Rattle.papaya_grows.specs.Given.EffectsDeclared.acting.Acting.TheVariants as acts
+use Rattle.papaya_grows.specs.Given.MomentsWhole.{ShowsWhole}
+use Rattle.papaya_grows.proofs.Given.MomentsAfter.{effects_after}
+use Rattle.papaya_grows.specs.Given.HistoriesInEvent.{here_of}
+use Rattle.papaya_grows.specs.Given.HistoriesQuestions.{EventAsksStill}
+use Rattle.papaya_grows.proofs.Given.HistoriesAnyCall.InEvent.{events_end}
+use Rattle.papaya_grows.specs.Given.PromisesProtected.{InMidst}
+use Rattle.papaya_grows.specs.Given.PromisesSheltered.{SectionsHold}
+use Rattle.papaya_grows.proofs.Given.PromisesProtected.{calls_protect, other_events_end_protected}
+use Rattle.papaya_grows.proofs.Given.PromisesWeights.{grants_add_up, operations_are_single}
+use Rattle.papaya_grows.specs.Given.FindsDoing.{takes_steps}
+use Rattle.papaya_grows.specs.Given.FindsParts.{FindAll}
+use Rattle.papaya_grows.proofs.Given.FindsDoing.{events_may_do, several_do_theirs}
+use Rattle.papaya_grows.proofs.Given.FindsJoined.{events_find_all}
+use Rattle.papaya_grows.proofs.Given.FindsOver.{acts as acts_on_its}
+use Rattle.papaya_grows.proofs.Given.FindsSteps.{steps_do_theirs}
 use Rattle.papaya_legal.specs.CallEvents.{CallEventsAreLegal}
 use Rattle.papaya_legal.proofs.Calls.{out_of_slots}
 use Rattle.papaya_legal.proofs.CallReads.{reads_briefly}
-use Rattle.papaya_grows.specs.Given.Schedules.Transition.{past, transition}
+use Rattle.papaya_grows.specs.Given.SchedulesTransition.{past, transition}
 
 -- an event of a call that was not kept out need do nothing whole
 module _ {K V : Type 0} (own : List ℕ) (effects : List Effect) (m w : Moment K V) where

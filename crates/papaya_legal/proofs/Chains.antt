@@ -1,25 +1,25 @@
 -- Steps of an event, one after another.
 use Rattle.std.specs.Prelude.{◌≡◌, ◌∷◌, true, List, ℕ, Bool, zero, suc, ◌++◌, Some, None}
 use Rattle.std.proofs.Common.{refl, sym, subst}
-use Rattle.papaya_grows.specs.Given.Schedules.declared.effect.Effect.{Effect}
-use Rattle.papaya_grows.specs.Given.Schedules.After.{moment}
-use Rattle.papaya_grows.specs.Given.Schedules.Effects.{with_effects}
-use Rattle.papaya_grows.specs.Given.Promises.Sheltered.{SectionsHold}
-use Rattle.papaya_grows.specs.Given.Models.Follows.{FollowsModel}
-use Rattle.papaya_grows.specs.Given.Effects.Effects.{effects_of, known_after}
-use Rattle.papaya_grows.specs.Given.Effects.declared.acting.Acting.TheVariants as acts
-use Rattle.papaya_grows.specs.Given.Others.Makings.{making_after}
+use Rattle.papaya_grows.specs.Given.SchedulesDeclared.effect.Effect.{Effect}
+use Rattle.papaya_grows.specs.Given.SchedulesAfter.{moment}
+use Rattle.papaya_grows.specs.Given.SchedulesEffects.{with_effects}
+use Rattle.papaya_grows.specs.Given.PromisesSheltered.{SectionsHold}
+use Rattle.papaya_grows.specs.Given.ModelsFollows.{FollowsModel}
+use Rattle.papaya_grows.specs.Given.EffectsEffects.{effects_of, known_after}
+use Rattle.papaya_grows.specs.Given.EffectsDeclared.acting.Acting.TheVariants as acts
+use Rattle.papaya_grows.specs.Given.OthersMakings.{making_after}
 use Rattle.papaya_legal.specs.Chains.{Chain, Come, EndsChain, EndsRunToTheirEnds, EndSteps, MakingsChain, MakingsRunToTheirEnds, MakingSteps, RowsChain, RowsRunToTheirEnds, RowSteps}
 use Rattle.papaya_legal.specs.CallEvents.{IsLegalBut}
 use Rattle.papaya_legal.specs.MapEvents.{InEndEvent, InMakingEvent}
 use Rattle.papaya_legal.specs.SlotEvents.{InSlotEvent}
 use Rattle.papaya_legal.proofs.Maps.{end_events_go_on_so, making_events_go_on_so}
-use Rattle.papaya_grows.specs.Given.Schedules.declared.event.Event.TheVariants.{EndMap, MakeMap}
-use Rattle.papaya_grows.specs.Given.Schedules.declared.outcome.Outcome.TheVariants.{Done}
-use Rattle.papaya_grows.specs.Given.Schedules.Beginning.{with_map}
-use Rattle.papaya_grows.specs.Given.Schedules.Entry.{Entry}
-use Rattle.papaya_grows.specs.Given.Schedules.Model.{IsByModel}
-use Rattle.papaya_grows.proofs.Given.Models.MapEvents.{moments_note_once}
+use Rattle.papaya_grows.specs.Given.SchedulesDeclared.event.Event.TheVariants.{EndMap, MakeMap}
+use Rattle.papaya_grows.specs.Given.SchedulesDeclared.outcome.Outcome.TheVariants.{Done}
+use Rattle.papaya_grows.specs.Given.SchedulesBeginning.{with_map}
+use Rattle.papaya_grows.specs.Given.SchedulesEntry.{Entry}
+use Rattle.papaya_grows.specs.Given.SchedulesModel.{IsByModel}
+use Rattle.papaya_grows.proofs.Given.ModelsMapEvents.{moments_note_once}
 use Rattle.papaya_legal.proofs.MapsEnd.{map_events_are_legal}
 use Rattle.papaya_legal.proofs.MapsOver.{end_events_begin_so, end_events_end_so, end_events_follow, making_events_begin_so, making_events_end_so, making_events_follow}
 use Rattle.papaya_legal.proofs.Slots.{slot_events_begin_so, slot_events_go_on_so}

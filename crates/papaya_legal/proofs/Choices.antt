@@ -2,35 +2,35 @@
 use Rattle.std.specs.Prelude.{ℕ, Bool, List, [], ◌∷◌}
 use Rattle.std.proofs.Common.{refl, subst, inl}
 use Rattle.std.proofs.lemmas.List.{append-nil}
-use Rattle.papaya_grows.specs.Given.Seize.WaitingSets.{Change}
-use Rattle.papaya_grows.specs.Given.Seize.World.{Chooses, World}
-use Rattle.papaya_grows.specs.Given.Tables.Nodes.{deferred_word}
-use Rattle.papaya_grows.specs.Given.Tables.declared.node.Node.{Node}
-use Rattle.papaya_grows.specs.Given.Schedules.declared.event.Event.TheVariants.{Choose}
-use Rattle.papaya_grows.specs.Given.Schedules.declared.outcome.Outcome.TheVariants.{Done}
-use Rattle.papaya_grows.specs.Given.Schedules.After.{after, moment}
-use Rattle.papaya_grows.specs.Given.Schedules.Entry.{Entry}
-use Rattle.papaya_grows.specs.Given.Schedules.Moment.{Moment}
-use Rattle.papaya_grows.specs.Given.Schedules.Terms.{Terms}
-use Rattle.papaya_grows.specs.Given.Effects.Known.{Known}
-use Rattle.papaya_grows.specs.Given.Follows.Shows.{Shows}
-use Rattle.papaya_grows.specs.Given.Moments.Whole.{ShowsWhole}
-use Rattle.papaya_grows.specs.Given.Kept.Kept.{ShowsKept}
-use Rattle.papaya_grows.specs.Given.Logged.Choosing.{scene_chosen}
-use Rattle.papaya_grows.specs.Given.Models.Follows.{FollowsModel}
-use Rattle.papaya_grows.specs.Given.Models.Turns.{CameByTurns}
-use Rattle.papaya_grows.proofs.Given.Models.Follows.{idle_events_follow}
-use Rattle.papaya_grows.proofs.Given.Models.Turns.{events_follow}
-use Rattle.papaya_grows.specs.Given.Promises.Reading.{ShowsReading}
-use Rattle.papaya_grows.specs.Given.Promises.Sheltered.{SectionsHold}
+use Rattle.papaya_grows.specs.Given.SeizeWaitingSets.{Change}
+use Rattle.papaya_grows.specs.Given.SeizeWorld.{Chooses, World}
+use Rattle.papaya_grows.specs.Given.TablesNodes.{deferred_word}
+use Rattle.papaya_grows.specs.Given.TablesDeclared.node.Node.{Node}
+use Rattle.papaya_grows.specs.Given.SchedulesDeclared.event.Event.TheVariants.{Choose}
+use Rattle.papaya_grows.specs.Given.SchedulesDeclared.outcome.Outcome.TheVariants.{Done}
+use Rattle.papaya_grows.specs.Given.SchedulesAfter.{after, moment}
+use Rattle.papaya_grows.specs.Given.SchedulesEntry.{Entry}
+use Rattle.papaya_grows.specs.Given.SchedulesMoment.{Moment}
+use Rattle.papaya_grows.specs.Given.SchedulesTerms.{Terms}
+use Rattle.papaya_grows.specs.Given.EffectsKnown.{Known}
+use Rattle.papaya_grows.specs.Given.FollowsShows.{Shows}
+use Rattle.papaya_grows.specs.Given.MomentsWhole.{ShowsWhole}
+use Rattle.papaya_grows.specs.Given.KeptKept.{ShowsKept}
+use Rattle.papaya_grows.specs.Given.LoggedChoosing.{scene_chosen}
+use Rattle.papaya_grows.specs.Given.ModelsFollows.{FollowsModel}
+use Rattle.papaya_grows.specs.Given.ModelsTurns.{CameByTurns}
+use Rattle.papaya_grows.proofs.Given.ModelsFollows.{idle_events_follow}
+use Rattle.papaya_grows.proofs.Given.ModelsTurns.{events_follow}
+use Rattle.papaya_grows.specs.Given.PromisesReading.{ShowsReading}
+use Rattle.papaya_grows.specs.Given.PromisesSheltered.{SectionsHold}
 use Rattle.papaya_legal.specs.CallEvents.{IsLegalBut}
 use Rattle.papaya_legal.specs.Carried.{FollowsOrRows, ShowsCalls, ShowsRun}
 use Rattle.papaya_legal.specs.Over.{ChoicesEnd}
 use Rattle.papaya_legal.proofs.Between.{likes_show}
 use Rattle.papaya_legal.proofs.Idle.{idle_events_are_legal}
 use Rattle.papaya_legal.proofs.Over.{reading_like, runs_go_on, still_follows}
-use Rattle.papaya_grows.specs.Given.Scenes.Scene.{Scene}
-use Rattle.papaya_grows.specs.Given.Schedules.Transition.{past}
+use Rattle.papaya_grows.specs.Given.ScenesScene.{Scene}
+use Rattle.papaya_grows.specs.Given.SchedulesTransition.{past}
 
 -- Calls, maps and words are there as they were.
 module _ {K V : Type 0} (choice : ℕ) (same : K → K → Bool) (name : ℕ → List ℕ) (log : List (Entry K V)) (m : Moment K V) (known : Known) (s : Scene K V) (whole : ShowsWhole same name m known (scene_chosen choice s))

@@ -5,43 +5,43 @@ use Rattle.std.proofs.Common.{refl, ap, sym, subst, ◌∙◌, append_assoc, ari
 use Rattle.std.proofs.lemmas.Bool.{cases_lt, eq-eqb}
 use Rattle.std.proofs.lemmas.List.{append-nil, length-append}
 use Rattle.std.proofs.lemmas.List.Concat.{flat_map-cons}
-use Rattle.papaya_grows.specs.Given.Teller.declared.changed.Changed.{Changed}
-use Rattle.papaya_grows.specs.Given.Schedules.declared.effect.Effect.{Effect}
-use Rattle.papaya_grows.specs.Given.Schedules.declared.effect.Effect.TheVariants as effect
-use Rattle.papaya_grows.specs.Given.Schedules.declared.effect.Spot.{Spot}
-use Rattle.papaya_grows.specs.Given.Schedules.declared.effect.Table.{Table}
-use Rattle.papaya_grows.specs.Given.Schedules.declared.effect.Thing.{Thing}
-use Rattle.papaya_grows.specs.Given.Schedules.declared.effect.Thing.TheVariants.{APair, ATable}
-use Rattle.papaya_grows.specs.Given.Schedules.declared.event.Event.{Event}
-use Rattle.papaya_grows.specs.Given.Schedules.declared.event.Event.TheVariants as event
-use Rattle.papaya_grows.specs.Given.Schedules.declared.outcome.Outcome.{Outcome}
-use Rattle.papaya_grows.specs.Given.Schedules.declared.outcome.Outcome.TheVariants as outcome
-use Rattle.papaya_grows.specs.Given.Schedules.declared.call.Call.{Call as Calling}
-use Rattle.papaya_grows.specs.Given.Schedules.declared.call.Call.TheVariants.{On}
-use Rattle.papaya_grows.specs.Given.Schedules.After.{moment}
-use Rattle.papaya_grows.specs.Given.Schedules.Beginning.{at_work, begun, with_call}
-use Rattle.papaya_grows.specs.Given.Schedules.Effects.{AtEachEffect, at_stage, new_pair, stored_by, tables_by, with_effect, with_effects}
-use Rattle.papaya_grows.specs.Given.Schedules.Entry.{ByCall, acted_on, acting, caller_of, is_busy, nameless}
-use Rattle.papaya_grows.specs.Given.Schedules.Growing.{only_looks}
-use Rattle.papaya_grows.specs.Given.Schedules.Handing.{gives_all, moments_of}
-use Rattle.papaya_grows.specs.Given.Schedules.Lists.{is_in}
-use Rattle.papaya_grows.specs.Given.Schedules.Lives.{CallFinds, Finds}
-use Rattle.papaya_grows.specs.Given.Schedules.Model.{came, things_in}
-use Rattle.papaya_grows.specs.Given.Schedules.Moment.{UnderWay as CallThere, Moment, Stage, TableThere, IsLinked, IsRetired, IsReclaimed, IsTaken}
-use Rattle.papaya_grows.specs.Given.Schedules.Sequential.{Meaning, Answers, Puts, key_of, means, value_put}
-use Rattle.papaya_grows.specs.Given.Schedules.Terms.{Terms}
-use Rattle.papaya_grows.specs.Given.Schedules.Things.{same_table, same_thing}
-use Rattle.papaya_grows.specs.Given.Schedules.Views.{number_of, reply_to}
-use Rattle.papaya_grows.specs.Given.Effects.Effects.{effects_of}
-use Rattle.papaya_grows.specs.Given.Effects.Known.{Known}
-use Rattle.papaya_grows.specs.Given.Effects.declared.acting.Acting.{Acting}
-use Rattle.papaya_grows.specs.Given.Effects.declared.acting.Acting.TheVariants.{Call}
-use Rattle.papaya_grows.proofs.Given.Spots.Unreclaimed.{or_right, same_itself}
-use Rattle.papaya_grows.proofs.Given.Finds.Lists.{all_so}
-use Rattle.papaya_grows.proofs.Given.Finds.Somewhere.{is_storing, none_stored}
-use Rattle.papaya_grows.proofs.Given.Models.Numbers.{still_in}
+use Rattle.papaya_grows.specs.Given.TellerDeclared.changed.Changed.{Changed}
+use Rattle.papaya_grows.specs.Given.SchedulesDeclared.effect.Effect.{Effect}
+use Rattle.papaya_grows.specs.Given.SchedulesDeclared.effect.Effect.TheVariants as effect
+use Rattle.papaya_grows.specs.Given.SchedulesDeclared.effect.Spot.{Spot}
+use Rattle.papaya_grows.specs.Given.SchedulesDeclared.effect.Table.{Table}
+use Rattle.papaya_grows.specs.Given.SchedulesDeclared.effect.Thing.{Thing}
+use Rattle.papaya_grows.specs.Given.SchedulesDeclared.effect.Thing.TheVariants.{APair, ATable}
+use Rattle.papaya_grows.specs.Given.SchedulesDeclared.event.Event.{Event}
+use Rattle.papaya_grows.specs.Given.SchedulesDeclared.event.Event.TheVariants as event
+use Rattle.papaya_grows.specs.Given.SchedulesDeclared.outcome.Outcome.{Outcome}
+use Rattle.papaya_grows.specs.Given.SchedulesDeclared.outcome.Outcome.TheVariants as outcome
+use Rattle.papaya_grows.specs.Given.SchedulesDeclared.call.Call.{Call as Calling}
+use Rattle.papaya_grows.specs.Given.SchedulesDeclared.call.Call.TheVariants.{On}
+use Rattle.papaya_grows.specs.Given.SchedulesAfter.{moment}
+use Rattle.papaya_grows.specs.Given.SchedulesBeginning.{at_work, begun, with_call}
+use Rattle.papaya_grows.specs.Given.SchedulesEffects.{AtEachEffect, at_stage, new_pair, stored_by, tables_by, with_effect, with_effects}
+use Rattle.papaya_grows.specs.Given.SchedulesEntry.{ByCall, acted_on, acting, caller_of, is_busy, nameless}
+use Rattle.papaya_grows.specs.Given.SchedulesGrowing.{only_looks}
+use Rattle.papaya_grows.specs.Given.SchedulesHanding.{gives_all, moments_of}
+use Rattle.papaya_grows.specs.Given.SchedulesLists.{is_in}
+use Rattle.papaya_grows.specs.Given.SchedulesLives.{CallFinds, Finds}
+use Rattle.papaya_grows.specs.Given.SchedulesModel.{came, things_in}
+use Rattle.papaya_grows.specs.Given.SchedulesMoment.{UnderWay as CallThere, Moment, Stage, TableThere, IsLinked, IsRetired, IsReclaimed, IsTaken}
+use Rattle.papaya_grows.specs.Given.SchedulesSequential.{Meaning, Answers, Puts, key_of, means, value_put}
+use Rattle.papaya_grows.specs.Given.SchedulesTerms.{Terms}
+use Rattle.papaya_grows.specs.Given.SchedulesThings.{same_table, same_thing}
+use Rattle.papaya_grows.specs.Given.SchedulesViews.{number_of, reply_to}
+use Rattle.papaya_grows.specs.Given.EffectsEffects.{effects_of}
+use Rattle.papaya_grows.specs.Given.EffectsKnown.{Known}
+use Rattle.papaya_grows.specs.Given.EffectsDeclared.acting.Acting.{Acting}
+use Rattle.papaya_grows.specs.Given.EffectsDeclared.acting.Acting.TheVariants.{Call}
+use Rattle.papaya_grows.proofs.Given.SpotsUnreclaimed.{or_right, same_itself}
+use Rattle.papaya_grows.proofs.Given.FindsLists.{all_so}
+use Rattle.papaya_grows.proofs.Given.FindsSomewhere.{is_storing, none_stored}
+use Rattle.papaya_grows.proofs.Given.ModelsNumbers.{still_in}
 use Rattle.papaya_legal.specs.Noted.{HaveCome, CallsBringThings, EventsBringThings, NothingHasCome}
-use Rattle.papaya_grows.proofs.Given.Follows.OfEach.{OfEach, each_operation_so}
+use Rattle.papaya_grows.proofs.Given.FollowsOfEach.{OfEach, each_operation_so}
 
 -- the n-th pair that is stored has the number n
 abbrev pub IsNumbered : {K V : Type 0} → Moment K V → Effect → Type 0

@@ -3,41 +3,41 @@ use Rattle.std.specs.Prelude.{◌≡◌, ℕ, Bool, true, false, not, ◌&&◌, 
 use Rattle.std.specs.List.{AllByRecursion, list_all, list_any}
 use Rattle.std.proofs.Common.{refl, ap, sym, subst, ◌∙◌}
 use Rattle.std.proofs.lemmas.List.Folds.{list_all-append}
-use Rattle.papaya_grows.specs.Given.Seize.Law.{is_retired as was_retired}
-use Rattle.papaya_grows.specs.Given.Seize.World.{Rests}
-use Rattle.papaya_grows.specs.Given.Schedules.declared.effect.Effect.{Effect}
-use Rattle.papaya_grows.specs.Given.Schedules.declared.effect.Effect.TheVariants.{Asked, Reclaimed}
-use Rattle.papaya_grows.specs.Given.Schedules.declared.effect.Growth.TheVariants.{ABlock, ABucket}
-use Rattle.papaya_grows.specs.Given.Schedules.declared.effect.Table.{Table}
-use Rattle.papaya_grows.specs.Given.Schedules.declared.effect.Thing.TheVariants.{APair, ATable}
-use Rattle.papaya_grows.specs.Given.Schedules.After.{moment}
-use Rattle.papaya_grows.specs.Given.Schedules.Effects.{with_effect, AtEachEffect}
-use Rattle.papaya_grows.specs.Given.Schedules.Handing.{asks_for_bucket, is_reclaiming}
-use Rattle.papaya_grows.specs.Given.Schedules.Lives.{Finds, MayReclaim}
-use Rattle.papaya_grows.specs.Given.Schedules.Moment.{Place, Handed, TableThere, Moment}
-use Rattle.papaya_grows.specs.Given.Schedules.Reclaims.{is_handed}
-use Rattle.papaya_grows.specs.Given.Schedules.Terms.{Terms}
-use Rattle.papaya_grows.specs.Given.Schedules.Things.{same_table}
-use Rattle.papaya_grows.specs.Given.Schedules.Views.{is_stage, is_retired}
-use Rattle.papaya_grows.specs.Given.Effects.Effects.{effects_of}
-use Rattle.papaya_grows.specs.Given.Effects.Known.{Known}
-use Rattle.papaya_grows.specs.Given.Effects.declared.acting.Acting.TheVariants as acts
-use Rattle.papaya_grows.specs.Given.Moments.OnSlots.{HadRetired}
-use Rattle.papaya_grows.proofs.Given.Moments.After.{each_parts}
-use Rattle.papaya_grows.proofs.Given.Spots.Unreclaimed.{and_both, or_right, same_itself}
-use Rattle.papaya_grows.specs.Given.Finds.Bounded.{HasRetiredTable}
-use Rattle.papaya_grows.specs.Given.Finds.Orderly.{NothingIsRetired, is_left_over}
-use Rattle.papaya_grows.specs.Given.Kept.Kept.{ShowsKept}
-use Rattle.papaya_grows.specs.Given.Lives.Handed.{HadHanded}
-use Rattle.papaya_grows.proofs.Given.Lives.HandedRows.{handed_at_rest, rows_find_handed}
-use Rattle.papaya_grows.proofs.Given.Lives.Reclaimed.{rows_find_retired}
+use Rattle.papaya_grows.specs.Given.SeizeLaw.{is_retired as was_retired}
+use Rattle.papaya_grows.specs.Given.SeizeWorld.{Rests}
+use Rattle.papaya_grows.specs.Given.SchedulesDeclared.effect.Effect.{Effect}
+use Rattle.papaya_grows.specs.Given.SchedulesDeclared.effect.Effect.TheVariants.{Asked, Reclaimed}
+use Rattle.papaya_grows.specs.Given.SchedulesDeclared.effect.Growth.TheVariants.{ABlock, ABucket}
+use Rattle.papaya_grows.specs.Given.SchedulesDeclared.effect.Table.{Table}
+use Rattle.papaya_grows.specs.Given.SchedulesDeclared.effect.Thing.TheVariants.{APair, ATable}
+use Rattle.papaya_grows.specs.Given.SchedulesAfter.{moment}
+use Rattle.papaya_grows.specs.Given.SchedulesEffects.{with_effect, AtEachEffect}
+use Rattle.papaya_grows.specs.Given.SchedulesHanding.{asks_for_bucket, is_reclaiming}
+use Rattle.papaya_grows.specs.Given.SchedulesLives.{Finds, MayReclaim}
+use Rattle.papaya_grows.specs.Given.SchedulesMoment.{Place, Handed, TableThere, Moment}
+use Rattle.papaya_grows.specs.Given.SchedulesReclaims.{is_handed}
+use Rattle.papaya_grows.specs.Given.SchedulesTerms.{Terms}
+use Rattle.papaya_grows.specs.Given.SchedulesThings.{same_table}
+use Rattle.papaya_grows.specs.Given.SchedulesViews.{is_stage, is_retired}
+use Rattle.papaya_grows.specs.Given.EffectsEffects.{effects_of}
+use Rattle.papaya_grows.specs.Given.EffectsKnown.{Known}
+use Rattle.papaya_grows.specs.Given.EffectsDeclared.acting.Acting.TheVariants as acts
+use Rattle.papaya_grows.specs.Given.MomentsOnSlots.{HadRetired}
+use Rattle.papaya_grows.proofs.Given.MomentsAfter.{each_parts}
+use Rattle.papaya_grows.proofs.Given.SpotsUnreclaimed.{and_both, or_right, same_itself}
+use Rattle.papaya_grows.specs.Given.FindsBounded.{HasRetiredTable}
+use Rattle.papaya_grows.specs.Given.FindsOrderly.{NothingIsRetired, is_left_over}
+use Rattle.papaya_grows.specs.Given.KeptKept.{ShowsKept}
+use Rattle.papaya_grows.specs.Given.LivesHanded.{HadHanded}
+use Rattle.papaya_grows.proofs.Given.LivesHandedRows.{handed_at_rest, rows_find_handed}
+use Rattle.papaya_grows.proofs.Given.LivesReclaimed.{rows_find_retired}
 use Rattle.papaya_legal.specs.Chains.{Come, RowSteps}
 use Rattle.papaya_legal.specs.Found.{AsksInNeed, RestShowsRetired, RowChainsFind, RowsFindTheirs}
 use Rattle.papaya_legal.specs.SlotEvents.{InSlotEvent}
 use Rattle.papaya_legal.proofs.Chains.{chains_keep}
 use Rattle.papaya_legal.proofs.Slots.{each_join, slot_events_go_on_so}
-use Rattle.papaya_grows.specs.Given.Scenes.Held.{Held, IsAt}
-use Rattle.papaya_grows.specs.Given.Scenes.Scene.{Scene}
+use Rattle.papaya_grows.specs.Given.ScenesHeld.{Held, IsAt}
+use Rattle.papaya_grows.specs.Given.ScenesScene.{Scene}
 
 -- what was handed over may be reclaimed
 may_reclaim : (everything : Bool) (p : Place) → is_handed p ≡ true → MayReclaim everything p

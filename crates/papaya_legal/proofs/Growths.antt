@@ -3,14 +3,14 @@ use Rattle.std.specs.Prelude.{◌≡◌, ℕ, true, List, [], ◌∷◌, ◌++�
 use Rattle.std.specs.List.{list_all}
 use Rattle.std.proofs.Common.{refl, ap, ◌∙◌}
 use Rattle.std.proofs.lemmas.List.{append-nil}
-use Rattle.papaya_grows.specs.Given.Runs.declared.holders.Guard.{Guard}
-use Rattle.papaya_grows.specs.Given.Schedules.declared.effect.Effect.{Effect}
-use Rattle.papaya_grows.specs.Given.Schedules.declared.effect.Effect.TheVariants.{Asked}
-use Rattle.papaya_grows.specs.Given.Schedules.declared.effect.Growth.{Growth}
-use Rattle.papaya_grows.specs.Given.Schedules.declared.effect.Thing.{Thing}
-use Rattle.papaya_grows.specs.Given.Schedules.Effects.{with_effect, with_effects}
-use Rattle.papaya_grows.specs.Given.Schedules.InTurn.{is_growth}
-use Rattle.papaya_grows.specs.Given.Schedules.Moment.{Moment, Sheltered}
+use Rattle.papaya_grows.specs.Given.RunsDeclared.holders.Guard.{Guard}
+use Rattle.papaya_grows.specs.Given.SchedulesDeclared.effect.Effect.{Effect}
+use Rattle.papaya_grows.specs.Given.SchedulesDeclared.effect.Effect.TheVariants.{Asked}
+use Rattle.papaya_grows.specs.Given.SchedulesDeclared.effect.Growth.{Growth}
+use Rattle.papaya_grows.specs.Given.SchedulesDeclared.effect.Thing.{Thing}
+use Rattle.papaya_grows.specs.Given.SchedulesEffects.{with_effect, with_effects}
+use Rattle.papaya_grows.specs.Given.SchedulesInTurn.{is_growth}
+use Rattle.papaya_grows.specs.Given.SchedulesMoment.{Moment, Sheltered}
 
 none_sheltered : (gs : List Guard) → ◌≡◌ {A = List Sheltered} (flat_map (λ (g : Guard). map (λ (x : Thing). record { guard = g.name; thing = x }) []) gs) []
 none_sheltered [] = refl

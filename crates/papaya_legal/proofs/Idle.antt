@@ -2,30 +2,30 @@
 use Rattle.std.specs.Prelude.{◌≡◌, Bool, true, false, not, ◌||◌, List, []}
 use Rattle.std.specs.List.{list_all, list_any}
 use Rattle.std.proofs.Common.{refl, sym, subst}
-use Rattle.papaya_grows.specs.Given.Seize.World.{World}
-use Rattle.papaya_grows.specs.Given.Tables.declared.node.Node.{Node}
-use Rattle.papaya_grows.specs.Given.Schedules.declared.effect.Effect.{Effect}
-use Rattle.papaya_grows.specs.Given.Schedules.After.{after, moment}
-use Rattle.papaya_grows.specs.Given.Schedules.Beginning.{at_work}
-use Rattle.papaya_grows.specs.Given.Schedules.Effects.{AtEachEffect, worked}
-use Rattle.papaya_grows.specs.Given.Schedules.Entry.{Entry, IfCall, acted_on, acting, caller_of}
-use Rattle.papaya_grows.specs.Given.Schedules.Handing.{IsWhole, LeavesOf, comes_clear, gives_all, is_granted, is_made, may_do, moments_of, refuses as refuses_growth}
-use Rattle.papaya_grows.specs.Given.Schedules.Linearizable.{IsLinearizable}
-use Rattle.papaya_grows.specs.Given.Schedules.Lives.{Finds}
-use Rattle.papaya_grows.specs.Given.Schedules.Model.{changes_of, left_last}
-use Rattle.papaya_grows.specs.Given.Schedules.Reclaims.{IsProtected}
-use Rattle.papaya_grows.specs.Given.Schedules.Steps.{ReadsBriefly}
-use Rattle.papaya_grows.specs.Given.Schedules.Sweeps.{IsSwept}
-use Rattle.papaya_grows.specs.Given.Schedules.Terms.{Terms}
-use Rattle.papaya_grows.specs.Given.Effects.Known.{Known}
-use Rattle.papaya_grows.proofs.Given.Histories.NoKey.Idle.{idle_are_linearizable}
-use Rattle.papaya_grows.proofs.Given.Models.Follows.{idle_events_follow}
-use Rattle.papaya_grows.specs.Given.Promises.Guards.{EntersInside}
-use Rattle.papaya_grows.specs.Given.Promises.Sheltered.{SectionsHold}
-use Rattle.papaya_grows.proofs.Given.Promises.Protected.{idle_events_are_protected}
+use Rattle.papaya_grows.specs.Given.SeizeWorld.{World}
+use Rattle.papaya_grows.specs.Given.TablesDeclared.node.Node.{Node}
+use Rattle.papaya_grows.specs.Given.SchedulesDeclared.effect.Effect.{Effect}
+use Rattle.papaya_grows.specs.Given.SchedulesAfter.{after, moment}
+use Rattle.papaya_grows.specs.Given.SchedulesBeginning.{at_work}
+use Rattle.papaya_grows.specs.Given.SchedulesEffects.{AtEachEffect, worked}
+use Rattle.papaya_grows.specs.Given.SchedulesEntry.{Entry, IfCall, acted_on, acting, caller_of}
+use Rattle.papaya_grows.specs.Given.SchedulesHanding.{IsWhole, LeavesOf, comes_clear, gives_all, is_granted, is_made, may_do, moments_of, refuses as refuses_growth}
+use Rattle.papaya_grows.specs.Given.SchedulesLinearizable.{IsLinearizable}
+use Rattle.papaya_grows.specs.Given.SchedulesLives.{Finds}
+use Rattle.papaya_grows.specs.Given.SchedulesModel.{changes_of, left_last}
+use Rattle.papaya_grows.specs.Given.SchedulesReclaims.{IsProtected}
+use Rattle.papaya_grows.specs.Given.SchedulesSteps.{ReadsBriefly}
+use Rattle.papaya_grows.specs.Given.SchedulesSweeps.{IsSwept}
+use Rattle.papaya_grows.specs.Given.SchedulesTerms.{Terms}
+use Rattle.papaya_grows.specs.Given.EffectsKnown.{Known}
+use Rattle.papaya_grows.proofs.Given.HistoriesNoKey.Idle.{idle_are_linearizable}
+use Rattle.papaya_grows.proofs.Given.ModelsFollows.{idle_events_follow}
+use Rattle.papaya_grows.specs.Given.PromisesGuards.{EntersInside}
+use Rattle.papaya_grows.specs.Given.PromisesSheltered.{SectionsHold}
+use Rattle.papaya_grows.proofs.Given.PromisesProtected.{idle_events_are_protected}
 use Rattle.papaya_legal.specs.CallEvents.{IsLegalBut}
 use Rattle.papaya_legal.specs.MapEvents.{IdleEventsAreLegal}
-use Rattle.papaya_grows.specs.Given.Schedules.Transition.{past, transition}
+use Rattle.papaya_grows.specs.Given.SchedulesTransition.{past, transition}
 
 -- nothing was made
 none_made : (q : Bool) → (not q || true) ≡ true

@@ -4,41 +4,41 @@ use Rattle.std.specs.List.{list_all}
 use Rattle.std.proofs.Common.{refl, ap, sym, subst, ◌∙◌, inl, inr, arith}
 use Rattle.std.proofs.Math.Bool.{or-false}
 use Rattle.std.proofs.lemmas.Bool.{and_parts, eqb-true}
-use Rattle.papaya_grows.specs.Given.SeizeWords.declared.fault.Fault.TheVariants.{Busy}
-use Rattle.papaya_grows.specs.Given.Runs.Same.{is_same}
-use Rattle.papaya_grows.specs.Given.Schedules.declared.effect.Effect.{Effect}
-use Rattle.papaya_grows.specs.Given.Schedules.declared.effect.Effect.TheVariants as effect
-use Rattle.papaya_grows.specs.Given.Schedules.declared.effect.Table.{Table}
-use Rattle.papaya_grows.specs.Given.Schedules.declared.effect.Thing.{Thing}
-use Rattle.papaya_grows.specs.Given.Schedules.declared.effect.Thing.TheVariants.{APair, ATable}
-use Rattle.papaya_grows.specs.Given.Schedules.declared.event.Event.{Event}
-use Rattle.papaya_grows.specs.Given.Schedules.declared.event.Event.TheVariants as event
-use Rattle.papaya_grows.specs.Given.Schedules.declared.outcome.Outcome.{Outcome}
-use Rattle.papaya_grows.specs.Given.Schedules.declared.outcome.Outcome.TheVariants.{Done, Goes, Refused}
-use Rattle.papaya_grows.specs.Given.Schedules.After.{after, if_any, moment, remains_on, root_or, tables_taken, with_remains}
-use Rattle.papaya_grows.specs.Given.Schedules.Beginning.{at_work, begun, with_call}
-use Rattle.papaya_grows.specs.Given.Schedules.Effects.{AtEachEffect, all_at, in_map, with_effect, with_effects, worked}
-use Rattle.papaya_grows.specs.Given.Schedules.Entry.{Entry, ByCall, acted_on, acting, caller_of, is_busy, nameless}
-use Rattle.papaya_grows.specs.Given.Schedules.Growing.{only_looks}
-use Rattle.papaya_grows.specs.Given.Schedules.Handing.{gives_all, is_ending, is_only, may_do, moments_of, IsWhole}
-use Rattle.papaya_grows.specs.Given.Schedules.Lists.{is_among, is_in, put}
-use Rattle.papaya_grows.specs.Given.Schedules.Lives.{Finds, MayReclaim}
-use Rattle.papaya_grows.specs.Given.Schedules.Moment.{Place, Unborn, InMap, Out, Handed, Behind, Left, GivenBack, Deferral, Remains, UnderWay, Moment}
-use Rattle.papaya_grows.specs.Given.Schedules.Terms.{Terms}
-use Rattle.papaya_grows.specs.Given.Schedules.Things.{same_table, same_thing}
-use Rattle.papaya_grows.specs.Given.Schedules.Views.{behind, call_of, is_in_a_map, map_of, number_of}
-use Rattle.papaya_grows.proofs.Given.Spots.Unreclaimed.{same_itself, table_is}
-use Rattle.papaya_grows.proofs.Given.Lives.Order.{behind_apart}
-use Rattle.papaya_grows.specs.Given.Finds.Life.{StoresOne}
-use Rattle.papaya_grows.specs.Given.Finds.Little.{ReclaimsAll}
-use Rattle.papaya_grows.specs.Given.Finds.Orderly.{is_left_over}
-use Rattle.papaya_grows.specs.Given.Finds.Waiting.{FindsPlaced, OwesPair, PairsArePlaced, is_behind_one, is_out, is_unborn, once_if, owed_by, owed_in, put_in}
-use Rattle.papaya_grows.specs.Given.Finds.Within.{AllIsInOrder, GoesInOrder}
-use Rattle.papaya_grows.proofs.Given.Finds.Begun.{all_begun}
-use Rattle.papaya_grows.proofs.Given.Finds.Endings.{entry}
-use Rattle.papaya_grows.proofs.Given.Finds.Life.{life_finds_placed}
-use Rattle.papaya_grows.proofs.Given.Finds.Over.{both_at}
-use Rattle.papaya_grows.proofs.Given.Finds.Placed.{effects_keep_placed}
+use Rattle.papaya_grows.specs.Given.SeizeWordsDeclared.fault.Fault.TheVariants.{Busy}
+use Rattle.papaya_grows.specs.Given.RunsSame.{is_same}
+use Rattle.papaya_grows.specs.Given.SchedulesDeclared.effect.Effect.{Effect}
+use Rattle.papaya_grows.specs.Given.SchedulesDeclared.effect.Effect.TheVariants as effect
+use Rattle.papaya_grows.specs.Given.SchedulesDeclared.effect.Table.{Table}
+use Rattle.papaya_grows.specs.Given.SchedulesDeclared.effect.Thing.{Thing}
+use Rattle.papaya_grows.specs.Given.SchedulesDeclared.effect.Thing.TheVariants.{APair, ATable}
+use Rattle.papaya_grows.specs.Given.SchedulesDeclared.event.Event.{Event}
+use Rattle.papaya_grows.specs.Given.SchedulesDeclared.event.Event.TheVariants as event
+use Rattle.papaya_grows.specs.Given.SchedulesDeclared.outcome.Outcome.{Outcome}
+use Rattle.papaya_grows.specs.Given.SchedulesDeclared.outcome.Outcome.TheVariants.{Done, Goes, Refused}
+use Rattle.papaya_grows.specs.Given.SchedulesAfter.{after, if_any, moment, remains_on, root_or, tables_taken, with_remains}
+use Rattle.papaya_grows.specs.Given.SchedulesBeginning.{at_work, begun, with_call}
+use Rattle.papaya_grows.specs.Given.SchedulesEffects.{AtEachEffect, all_at, in_map, with_effect, with_effects, worked}
+use Rattle.papaya_grows.specs.Given.SchedulesEntry.{Entry, ByCall, acted_on, acting, caller_of, is_busy, nameless}
+use Rattle.papaya_grows.specs.Given.SchedulesGrowing.{only_looks}
+use Rattle.papaya_grows.specs.Given.SchedulesHanding.{gives_all, is_ending, is_only, may_do, moments_of, IsWhole}
+use Rattle.papaya_grows.specs.Given.SchedulesLists.{is_among, is_in, put}
+use Rattle.papaya_grows.specs.Given.SchedulesLives.{Finds, MayReclaim}
+use Rattle.papaya_grows.specs.Given.SchedulesMoment.{Place, Unborn, InMap, Out, Handed, Behind, Left, GivenBack, Deferral, Remains, UnderWay, Moment}
+use Rattle.papaya_grows.specs.Given.SchedulesTerms.{Terms}
+use Rattle.papaya_grows.specs.Given.SchedulesThings.{same_table, same_thing}
+use Rattle.papaya_grows.specs.Given.SchedulesViews.{behind, call_of, is_in_a_map, map_of, number_of}
+use Rattle.papaya_grows.proofs.Given.SpotsUnreclaimed.{same_itself, table_is}
+use Rattle.papaya_grows.proofs.Given.LivesOrder.{behind_apart}
+use Rattle.papaya_grows.specs.Given.FindsLife.{StoresOne}
+use Rattle.papaya_grows.specs.Given.FindsLittle.{ReclaimsAll}
+use Rattle.papaya_grows.specs.Given.FindsOrderly.{is_left_over}
+use Rattle.papaya_grows.specs.Given.FindsWaiting.{FindsPlaced, OwesPair, PairsArePlaced, is_behind_one, is_out, is_unborn, once_if, owed_by, owed_in, put_in}
+use Rattle.papaya_grows.specs.Given.FindsWithin.{AllIsInOrder, GoesInOrder}
+use Rattle.papaya_grows.proofs.Given.FindsBegun.{all_begun}
+use Rattle.papaya_grows.proofs.Given.FindsEndings.{entry}
+use Rattle.papaya_grows.proofs.Given.FindsLife.{life_finds_placed}
+use Rattle.papaya_grows.proofs.Given.FindsOver.{both_at}
+use Rattle.papaya_grows.proofs.Given.FindsPlaced.{effects_keep_placed}
 use Rattle.papaya_legal.specs.Carried.{EventsTellLeft, LeftIsTold}
 
 -- where a pair is that is elsewhere

@@ -1,5 +1,5 @@
 -- An event keeps all its promises.
-use Rattle.papaya_grows.proofs.Given.Finds.Little.{events_leave_little}
+use Rattle.papaya_grows.proofs.Given.FindsLittle.{events_leave_little}
 use Rattle.papaya_legal.specs.Promises.{EventsAreLegal}
 
 pub events_are_legal : (K V : Type 0) → EventsAreLegal K V

@@ -2,57 +2,57 @@
 use Rattle.std.specs.Prelude.{◌≡◌, ◌<◌, ℕ, Bool, List, ◌++◌, Option, Some, None}
 use Rattle.std.proofs.Common.{refl, ap, sym, subst, ◌∙◌, inl, inr}
 use Rattle.std.proofs.lemmas.Bool.{cases_eq}
-use Rattle.papaya_grows.specs.Given.Seize.World.{World}
-use Rattle.papaya_grows.specs.Given.Seize.declared.progress.Progress.{Progress as Making}
-use Rattle.papaya_grows.specs.Given.Seize.declared.progress.Progress.TheVariants as progress
-use Rattle.papaya_grows.specs.Given.Seize.declared.rows.settle.Settled.{Settled}
-use Rattle.papaya_grows.specs.Given.Seize.declared.rows.settle.Settled.TheVariants as settled
-use Rattle.papaya_grows.specs.Given.Tables.declared.node.Node.{Node}
-use Rattle.papaya_grows.specs.Given.Tables.declared.setting.Setting.{Setting}
-use Rattle.papaya_grows.specs.Given.Schedules.declared.effect.Effect.{Effect}
-use Rattle.papaya_grows.specs.Given.Schedules.Effects.{with_effects}
-use Rattle.papaya_grows.specs.Given.Schedules.Model.{sets_in, things_in}
-use Rattle.papaya_grows.specs.Given.Schedules.Moment.{Moment}
-use Rattle.papaya_grows.specs.Given.Teller.declared.changed.Changed.{Changed}
-use Rattle.papaya_grows.specs.Given.Callers.Together.{UnderWay}
-use Rattle.papaya_grows.proofs.Given.Callers.Together.At.{at_other}
-use Rattle.papaya_grows.specs.Given.Effects.Effects.{effects_of, known_after, map_of}
-use Rattle.papaya_grows.specs.Given.Effects.Known.{Known}
-use Rattle.papaya_grows.specs.Given.Effects.declared.acting.Acting.{Acting}
-use Rattle.papaya_grows.specs.Given.Effects.declared.acting.Acting.TheVariants as acts
-use Rattle.papaya_grows.specs.Given.Finishes.Endings.{Finishing}
-use Rattle.papaya_grows.specs.Given.Finishes.Makings.{Beginning}
-use Rattle.papaya_grows.specs.Given.Finishes.Maps.{Standing}
-use Rattle.papaya_grows.specs.Given.Others.Endings.{ending_after}
-use Rattle.papaya_grows.specs.Given.Others.Makings.{making_after}
-use Rattle.papaya_grows.specs.Given.Moments.Whole.{ShowsWhole}
-use Rattle.papaya_grows.specs.Given.Moments.Numbers.{NumbersMaps, PairsAreBelow}
-use Rattle.papaya_grows.proofs.Given.Moments.After.{effects_after}
-use Rattle.papaya_grows.proofs.Given.Moments.NewMaps.{effects_keep_pairs}
-use Rattle.papaya_grows.proofs.Given.Moments.Numbers.{steps_keep_numbers}
-use Rattle.papaya_grows.proofs.Given.Moments.Ends.{endings_keep_whole}
-use Rattle.papaya_grows.proofs.Given.Moments.MakingSteps.{makings_go_beside, makings_keep_whole}
-use Rattle.papaya_grows.proofs.Given.Kept.Others.{endings_find_kept, endings_keep_kept, makings_keep_kept}
-use Rattle.papaya_grows.proofs.Given.Shards.ShardMakes.{makings_keep_counters}
-use Rattle.papaya_grows.proofs.Given.Shards.ShardOthers.{endings_keep_counters}
-use Rattle.papaya_grows.proofs.Given.Histories.Aside.Stays.{as_called_stays, dues_stay}
-use Rattle.papaya_grows.proofs.Given.Histories.Questions.{effects_keep_questions}
-use Rattle.papaya_grows.proofs.Given.Purposes.Elsewhere.{purposes_stay}
-use Rattle.papaya_grows.specs.Given.Promises.Protected.{InMidst}
-use Rattle.papaya_grows.specs.Given.Promises.Reading.{HasStood}
-use Rattle.papaya_grows.proofs.Given.Promises.Brief.Meanwhile.{other_work_keeps_readings}
-use Rattle.papaya_grows.proofs.Given.Promises.Brief.Stays.{same_tables}
-use Rattle.papaya_grows.proofs.Given.Promises.Protected.{endings_protect, makings_protect}
-use Rattle.papaya_grows.proofs.Given.Promises.Weights.{grants_add_up, operations_are_single}
-use Rattle.papaya_grows.specs.Given.Models.Ends.{FollowsInEnd}
-use Rattle.papaya_grows.specs.Given.Models.MapEvents.{FollowsInMaking}
-use Rattle.papaya_grows.proofs.Given.Models.Ends.{ends_go_on}
-use Rattle.papaya_grows.proofs.Given.Models.MapEvents.{making_events_go_on}
+use Rattle.papaya_grows.specs.Given.SeizeWorld.{World}
+use Rattle.papaya_grows.specs.Given.SeizeDeclared.progress.Progress.{Progress as Making}
+use Rattle.papaya_grows.specs.Given.SeizeDeclared.progress.Progress.TheVariants as progress
+use Rattle.papaya_grows.specs.Given.SeizeDeclared.rows.settle.Settled.{Settled}
+use Rattle.papaya_grows.specs.Given.SeizeDeclared.rows.settle.Settled.TheVariants as settled
+use Rattle.papaya_grows.specs.Given.TablesDeclared.node.Node.{Node}
+use Rattle.papaya_grows.specs.Given.TablesDeclared.setting.Setting.{Setting}
+use Rattle.papaya_grows.specs.Given.SchedulesDeclared.effect.Effect.{Effect}
+use Rattle.papaya_grows.specs.Given.SchedulesEffects.{with_effects}
+use Rattle.papaya_grows.specs.Given.SchedulesModel.{sets_in, things_in}
+use Rattle.papaya_grows.specs.Given.SchedulesMoment.{Moment}
+use Rattle.papaya_grows.specs.Given.TellerDeclared.changed.Changed.{Changed}
+use Rattle.papaya_grows.specs.Given.CallersTogether.{UnderWay}
+use Rattle.papaya_grows.proofs.Given.CallersTogether.At.{at_other}
+use Rattle.papaya_grows.specs.Given.EffectsEffects.{effects_of, known_after, map_of}
+use Rattle.papaya_grows.specs.Given.EffectsKnown.{Known}
+use Rattle.papaya_grows.specs.Given.EffectsDeclared.acting.Acting.{Acting}
+use Rattle.papaya_grows.specs.Given.EffectsDeclared.acting.Acting.TheVariants as acts
+use Rattle.papaya_grows.specs.Given.FinishesEndings.{Finishing}
+use Rattle.papaya_grows.specs.Given.FinishesMakings.{Beginning}
+use Rattle.papaya_grows.specs.Given.FinishesMaps.{Standing}
+use Rattle.papaya_grows.specs.Given.OthersEndings.{ending_after}
+use Rattle.papaya_grows.specs.Given.OthersMakings.{making_after}
+use Rattle.papaya_grows.specs.Given.MomentsWhole.{ShowsWhole}
+use Rattle.papaya_grows.specs.Given.MomentsNumbers.{NumbersMaps, PairsAreBelow}
+use Rattle.papaya_grows.proofs.Given.MomentsAfter.{effects_after}
+use Rattle.papaya_grows.proofs.Given.MomentsNewMaps.{effects_keep_pairs}
+use Rattle.papaya_grows.proofs.Given.MomentsNumbers.{steps_keep_numbers}
+use Rattle.papaya_grows.proofs.Given.MomentsEnds.{endings_keep_whole}
+use Rattle.papaya_grows.proofs.Given.MomentsMakingSteps.{makings_go_beside, makings_keep_whole}
+use Rattle.papaya_grows.proofs.Given.KeptOthers.{endings_find_kept, endings_keep_kept, makings_keep_kept}
+use Rattle.papaya_grows.proofs.Given.ShardsShardMakes.{makings_keep_counters}
+use Rattle.papaya_grows.proofs.Given.ShardsShardOthers.{endings_keep_counters}
+use Rattle.papaya_grows.proofs.Given.HistoriesAside.Stays.{as_called_stays, dues_stay}
+use Rattle.papaya_grows.proofs.Given.HistoriesQuestions.{effects_keep_questions}
+use Rattle.papaya_grows.proofs.Given.PurposesElsewhere.{purposes_stay}
+use Rattle.papaya_grows.specs.Given.PromisesProtected.{InMidst}
+use Rattle.papaya_grows.specs.Given.PromisesReading.{HasStood}
+use Rattle.papaya_grows.proofs.Given.PromisesBrief.Meanwhile.{other_work_keeps_readings}
+use Rattle.papaya_grows.proofs.Given.PromisesBrief.Stays.{same_tables}
+use Rattle.papaya_grows.proofs.Given.PromisesProtected.{endings_protect, makings_protect}
+use Rattle.papaya_grows.proofs.Given.PromisesWeights.{grants_add_up, operations_are_single}
+use Rattle.papaya_grows.specs.Given.ModelsEnds.{FollowsInEnd}
+use Rattle.papaya_grows.specs.Given.ModelsMapEvents.{FollowsInMaking}
+use Rattle.papaya_grows.proofs.Given.ModelsEnds.{ends_go_on}
+use Rattle.papaya_grows.proofs.Given.ModelsMapEvents.{making_events_go_on}
 use Rattle.papaya_legal.specs.MapEvents.{EndEventsGoOn, FindsItsMap, HasNotMade, MakingEventsGoOn}
-use Rattle.papaya_grows.proofs.Given.Shards.ShardKept.{none_shards}
+use Rattle.papaya_grows.proofs.Given.ShardsShardKept.{none_shards}
 use Rattle.papaya_grows.proofs.Limits.Shows.{endings_keep_limits, makings_keep_limits}
 use Rattle.papaya_grows.proofs.Tries.Others.{endings_keep_tries, makings_keep_tries}
-use Rattle.papaya_grows.proofs.Given.Spots.Effects.{AllAside}
+use Rattle.papaya_grows.proofs.Given.SpotsEffects.{AllAside}
 use Rattle.papaya_legal.proofs.Sourced.{making_none, making_sources, so_aside}
 use Rattle.papaya_grows.specs.Finding.{ShowsFinding}
 use Rattle.papaya_grows.proofs.Finding.Alike.{stood_as}
@@ -61,15 +61,15 @@ use Rattle.papaya_grows.proofs.Finding.Beside.{finding_beside}
 use Rattle.papaya_grows.proofs.Finding.Making.Lengths.{effects_keep_lengths}
 use Rattle.papaya_grows.proofs.Finding.NextsOthers.{endings_keep_nexts, makings_keep_nexts}
 use Rattle.papaya_grows.proofs.Finding.Others.{endings_keep_finding, makings_keep_finding}
-use Rattle.papaya_grows.proofs.Given.Finds.Capacities.{capacities_stay, effects_keep_capacities}
-use Rattle.papaya_grows.proofs.Given.Finds.Grows.Steps.{tables_have_been}
+use Rattle.papaya_grows.proofs.Given.FindsCapacities.{capacities_stay, effects_keep_capacities}
+use Rattle.papaya_grows.proofs.Given.FindsGrows.Steps.{tables_have_been}
 use Rattle.papaya_legal.proofs.Growths.{growths_leave}
 use Rattle.papaya_legal.proofs.Uncounted.{none_counted}
-use Rattle.papaya_grows.specs.Given.Scenes.Ending.{EndingLeads}
-use Rattle.papaya_grows.specs.Given.Scenes.Held.{Held, IsAt}
-use Rattle.papaya_grows.specs.Given.Scenes.Making.{MakingLeads}
-use Rattle.papaya_grows.specs.Given.Scenes.Scene.{Scene}
-use Rattle.papaya_grows.specs.Given.Schedules.Transition.{past}
+use Rattle.papaya_grows.specs.Given.ScenesEnding.{EndingLeads}
+use Rattle.papaya_grows.specs.Given.ScenesHeld.{Held, IsAt}
+use Rattle.papaya_grows.specs.Given.ScenesMaking.{MakingLeads}
+use Rattle.papaya_grows.specs.Given.ScenesScene.{Scene}
+use Rattle.papaya_grows.specs.Given.SchedulesTransition.{past}
 use Rattle.papaya_legal.specs.OneStep.{EndsStep, MakingsStep}
 
 -- a map that stands as it does

@@ -2,30 +2,30 @@
 use Rattle.std.specs.Prelude.{◌≡◌, ℕ, ◌+◌, Bool, true, false, not, ◌||◌, List, [], ◌∷◌, ◌++◌, flat_map, Option, Some, None}
 use Rattle.std.specs.List.{list_all, list_any}
 use Rattle.std.proofs.Common.{refl, ap, sym, subst, ◌∙◌}
-use Rattle.papaya_grows.specs.Given.Schedules.declared.effect.Effect.{Effect}
-use Rattle.papaya_grows.specs.Given.Schedules.declared.effect.Effect.TheVariants.{Asked, TableMade, Linked, Ended, Taken}
-use Rattle.papaya_grows.specs.Given.Schedules.declared.effect.Growth.TheVariants.{ABlock}
-use Rattle.papaya_grows.specs.Given.Schedules.declared.event.Event.{Event}
-use Rattle.papaya_grows.specs.Given.Schedules.declared.event.Event.TheVariants.{MakeMap, EndMap, Step, Go, ReclaimAll, Close}
-use Rattle.papaya_grows.specs.Given.Schedules.After.{after, moment, moments_from}
-use Rattle.papaya_grows.specs.Given.Schedules.Beginning.{at_work}
-use Rattle.papaya_grows.specs.Given.Schedules.Effects.{AtEachEffect, worked}
-use Rattle.papaya_grows.specs.Given.Schedules.Entry.{IfCall, acted_on, acting, caller_of}
-use Rattle.papaya_grows.specs.Given.Schedules.Handing.{AllFind, LeavesOf, comes_clear, gives_all, is_ending, is_first_making, is_made, may_do, moments_of, refuses}
-use Rattle.papaya_grows.specs.Given.Schedules.Linearizable.{shift_of}
-use Rattle.papaya_grows.specs.Given.Schedules.Lives.{Finds}
-use Rattle.papaya_grows.specs.Given.Schedules.Moment.{UnderWay as CallThere, Moment}
-use Rattle.papaya_grows.specs.Given.Schedules.Reclaims.{IsProtected}
-use Rattle.papaya_grows.specs.Given.Schedules.Sequential.{Shift}
-use Rattle.papaya_grows.specs.Given.Schedules.Steps.{IsBrief}
-use Rattle.papaya_grows.proofs.Given.Histories.OtherCalls.{no_calls_are_linearizable}
-use Rattle.papaya_grows.specs.Given.Promises.Protected.{is_of_slots}
-use Rattle.papaya_grows.specs.Given.Promises.Sheltered.{SectionsHold}
-use Rattle.papaya_grows.proofs.Given.Promises.Protected.{other_events_end_protected}
-use Rattle.papaya_grows.proofs.Given.Purposes.Nothing.{no_calls_are_swept}
-use Rattle.papaya_grows.proofs.Given.Spots.Unreclaimed.{and_both}
+use Rattle.papaya_grows.specs.Given.SchedulesDeclared.effect.Effect.{Effect}
+use Rattle.papaya_grows.specs.Given.SchedulesDeclared.effect.Effect.TheVariants.{Asked, TableMade, Linked, Ended, Taken}
+use Rattle.papaya_grows.specs.Given.SchedulesDeclared.effect.Growth.TheVariants.{ABlock}
+use Rattle.papaya_grows.specs.Given.SchedulesDeclared.event.Event.{Event}
+use Rattle.papaya_grows.specs.Given.SchedulesDeclared.event.Event.TheVariants.{MakeMap, EndMap, Step, Go, ReclaimAll, Close}
+use Rattle.papaya_grows.specs.Given.SchedulesAfter.{after, moment, moments_from}
+use Rattle.papaya_grows.specs.Given.SchedulesBeginning.{at_work}
+use Rattle.papaya_grows.specs.Given.SchedulesEffects.{AtEachEffect, worked}
+use Rattle.papaya_grows.specs.Given.SchedulesEntry.{IfCall, acted_on, acting, caller_of}
+use Rattle.papaya_grows.specs.Given.SchedulesHanding.{AllFind, LeavesOf, comes_clear, gives_all, is_ending, is_first_making, is_made, may_do, moments_of, refuses}
+use Rattle.papaya_grows.specs.Given.SchedulesLinearizable.{shift_of}
+use Rattle.papaya_grows.specs.Given.SchedulesLives.{Finds}
+use Rattle.papaya_grows.specs.Given.SchedulesMoment.{UnderWay as CallThere, Moment}
+use Rattle.papaya_grows.specs.Given.SchedulesReclaims.{IsProtected}
+use Rattle.papaya_grows.specs.Given.SchedulesSequential.{Shift}
+use Rattle.papaya_grows.specs.Given.SchedulesSteps.{IsBrief}
+use Rattle.papaya_grows.proofs.Given.HistoriesOtherCalls.{no_calls_are_linearizable}
+use Rattle.papaya_grows.specs.Given.PromisesProtected.{is_of_slots}
+use Rattle.papaya_grows.specs.Given.PromisesSheltered.{SectionsHold}
+use Rattle.papaya_grows.proofs.Given.PromisesProtected.{other_events_end_protected}
+use Rattle.papaya_grows.proofs.Given.PurposesNothing.{no_calls_are_swept}
+use Rattle.papaya_grows.proofs.Given.SpotsUnreclaimed.{and_both}
 use Rattle.papaya_legal.specs.MapEvents.{MapEventsAreLegal}
-use Rattle.papaya_grows.specs.Given.Schedules.Transition.{past, transition}
+use Rattle.papaya_grows.specs.Given.SchedulesTransition.{past, transition}
 
 -- Its effects bring no pair and take none out that is not ended.
 

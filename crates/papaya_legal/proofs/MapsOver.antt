@@ -3,46 +3,46 @@ use Rattle.std.specs.Prelude.{◌≡◌, ℕ, Bool, true, List, [], ◌∷◌, f
 use Rattle.std.specs.List.{list_all}
 use Rattle.std.proofs.Common.{refl, ap, sym, subst, ◌∙◌, inl, inr}
 use Rattle.std.proofs.lemmas.Bool.{cases_eq}
-use Rattle.papaya_grows.specs.Given.Schedules.declared.effect.Effect.{Effect}
-use Rattle.papaya_grows.specs.Given.Schedules.declared.effect.Effect.TheVariants.{Asked, TableMade, Linked, Ended, Taken}
-use Rattle.papaya_grows.specs.Given.Schedules.declared.effect.Growth.TheVariants.{ABlock}
-use Rattle.papaya_grows.specs.Given.Schedules.declared.event.Event.TheVariants.{MakeMap, EndMap}
-use Rattle.papaya_grows.specs.Given.Schedules.declared.outcome.Outcome.TheVariants.{Done}
-use Rattle.papaya_grows.specs.Given.Schedules.After.{moment, remains_on}
-use Rattle.papaya_grows.specs.Given.Schedules.Beginning.{at_work, with_map}
-use Rattle.papaya_grows.specs.Given.Schedules.Effects.{with_effect, with_effects, AtEachEffect, worked}
-use Rattle.papaya_grows.specs.Given.Schedules.Entry.{Entry, acted_on}
-use Rattle.papaya_grows.specs.Given.Schedules.Handing.{is_ending, is_first_making, may_do}
-use Rattle.papaya_grows.specs.Given.Schedules.Model.{changes_of, handing, left_last, sets_in, things_in}
-use Rattle.papaya_grows.specs.Given.Schedules.Moment.{Moment}
-use Rattle.papaya_grows.proofs.Given.Callers.Together.At.{at_other, at_same}
-use Rattle.papaya_grows.specs.Given.Finishes.Maps.{Standing}
-use Rattle.papaya_grows.specs.Given.Others.Endings.{without_map}
-use Rattle.papaya_grows.proofs.Given.Spots.Unreclaimed.{and_both}
-use Rattle.papaya_grows.specs.Given.Promises.Reading.{HasStood, ShowsReading}
-use Rattle.papaya_grows.specs.Given.Promises.Sheltered.{SectionsHold}
-use Rattle.papaya_grows.proofs.Given.Promises.Brief.Meanwhile.{other_work_keeps_readings}
-use Rattle.papaya_grows.proofs.Given.Promises.Shelters.Begins.{sections_go_on}
-use Rattle.papaya_grows.specs.Given.Models.CallEvents.{slot_of_call}
-use Rattle.papaya_grows.specs.Given.Models.Follows.{IsFollowed}
-use Rattle.papaya_grows.proofs.Given.Models.CallEvents.{others_hand_over}
-use Rattle.papaya_grows.proofs.Given.Models.Ends.{ends_begin as sets_begin}
-use Rattle.papaya_grows.proofs.Given.Lives.LeftTables.{none_is_left_to}
-use Rattle.papaya_grows.proofs.Given.Models.MapEvents.{end_events_end as sets_end, making_events_begin as making_sets_begin, making_events_end as making_sets_end}
-use Rattle.papaya_grows.specs.Given.Shards.ShardWords.{IsUncounted}
-use Rattle.papaya_grows.specs.Given.Finds.Life.{StoresOne}
+use Rattle.papaya_grows.specs.Given.SchedulesDeclared.effect.Effect.{Effect}
+use Rattle.papaya_grows.specs.Given.SchedulesDeclared.effect.Effect.TheVariants.{Asked, TableMade, Linked, Ended, Taken}
+use Rattle.papaya_grows.specs.Given.SchedulesDeclared.effect.Growth.TheVariants.{ABlock}
+use Rattle.papaya_grows.specs.Given.SchedulesDeclared.event.Event.TheVariants.{MakeMap, EndMap}
+use Rattle.papaya_grows.specs.Given.SchedulesDeclared.outcome.Outcome.TheVariants.{Done}
+use Rattle.papaya_grows.specs.Given.SchedulesAfter.{moment, remains_on}
+use Rattle.papaya_grows.specs.Given.SchedulesBeginning.{at_work, with_map}
+use Rattle.papaya_grows.specs.Given.SchedulesEffects.{with_effect, with_effects, AtEachEffect, worked}
+use Rattle.papaya_grows.specs.Given.SchedulesEntry.{Entry, acted_on}
+use Rattle.papaya_grows.specs.Given.SchedulesHanding.{is_ending, is_first_making, may_do}
+use Rattle.papaya_grows.specs.Given.SchedulesModel.{changes_of, handing, left_last, sets_in, things_in}
+use Rattle.papaya_grows.specs.Given.SchedulesMoment.{Moment}
+use Rattle.papaya_grows.proofs.Given.CallersTogether.At.{at_other, at_same}
+use Rattle.papaya_grows.specs.Given.FinishesMaps.{Standing}
+use Rattle.papaya_grows.specs.Given.OthersEndings.{without_map}
+use Rattle.papaya_grows.proofs.Given.SpotsUnreclaimed.{and_both}
+use Rattle.papaya_grows.specs.Given.PromisesReading.{HasStood, ShowsReading}
+use Rattle.papaya_grows.specs.Given.PromisesSheltered.{SectionsHold}
+use Rattle.papaya_grows.proofs.Given.PromisesBrief.Meanwhile.{other_work_keeps_readings}
+use Rattle.papaya_grows.proofs.Given.PromisesShelters.Begins.{sections_go_on}
+use Rattle.papaya_grows.specs.Given.ModelsCallEvents.{slot_of_call}
+use Rattle.papaya_grows.specs.Given.ModelsFollows.{IsFollowed}
+use Rattle.papaya_grows.proofs.Given.ModelsCallEvents.{others_hand_over}
+use Rattle.papaya_grows.proofs.Given.ModelsEnds.{ends_begin as sets_begin}
+use Rattle.papaya_grows.proofs.Given.LivesLeftTables.{none_is_left_to}
+use Rattle.papaya_grows.proofs.Given.ModelsMapEvents.{end_events_end as sets_end, making_events_begin as making_sets_begin, making_events_end as making_sets_end}
+use Rattle.papaya_grows.specs.Given.ShardsShardWords.{IsUncounted}
+use Rattle.papaya_grows.specs.Given.FindsLife.{StoresOne}
 use Rattle.papaya_legal.specs.Between.{IsLike}
 use Rattle.papaya_legal.specs.Carried.{ComesAlone, ShowsCalls}
 use Rattle.papaya_legal.specs.Over.{EndEventsBegin, EndEventsEnd, EndEventsFollow, MakingEventsBegin, MakingEventsEnd, MakingEventsFollow}
 use Rattle.papaya_legal.proofs.Between.{likes_show}
 use Rattle.papaya_legal.proofs.BetweenMaps.{ends_begin, makings_begin, maps_come, maps_gone}
 use Rattle.papaya_legal.proofs.CallFollows.{by_model_so, of_no_slot, was_alone}
-use Rattle.papaya_grows.specs.Given.Sources.Stays.{NoneBorn}
+use Rattle.papaya_grows.specs.Given.SourcesStays.{NoneBorn}
 use Rattle.papaya_legal.proofs.Sourced.{none_born}
 use Rattle.papaya_legal.proofs.Maps.{stands_so}
 use Rattle.papaya_legal.proofs.Over.{reading_like, runs_go_on}
-use Rattle.papaya_grows.specs.Given.Scenes.Ending.{ending_begun}
-use Rattle.papaya_grows.specs.Given.Schedules.Transition.{past}
+use Rattle.papaya_grows.specs.Given.ScenesEnding.{ending_begun}
+use Rattle.papaya_grows.specs.Given.SchedulesTransition.{past}
 
 -- The beginnings.
 

@@ -2,79 +2,79 @@
 use Rattle.std.specs.Prelude.{◌≡◌, ◌⊎◌, ℕ, ◌==◌, zero, suc, ◌+◌, Bool, true, false, ◌&&◌, List, length, Option, Some, None, if◌then◌else◌}
 use Rattle.std.proofs.Common.{refl, ap, sym, subst, ◌∙◌, arith, inl, inr}
 use Rattle.std.proofs.lemmas.Bool.{and_parts, eq-eqb, ne_eqb}
-use Rattle.papaya_grows.specs.Given.SeizeWords.Mem.{value_at}
-use Rattle.papaya_grows.specs.Given.SeizeWords.Word.{link_to}
-use Rattle.papaya_grows.specs.Given.SeizeWords.declared.at.At.TheVariants.{Word}
-use Rattle.papaya_grows.specs.Given.Seize.Defer.{deferring}
-use Rattle.papaya_grows.specs.Given.Seize.Settle.{retiring}
-use Rattle.papaya_grows.specs.Given.Seize.World.{World, Row, Rests, Registers, Enters, Settles, Leaves, Defers, Frees, Hand, Making, Handed, Request, Register', Enter', Leave', LeaveOwned, Refresh, Unregister', Retire, Flush, Defer', Begin, Step, Begins, Steps', Happens, with_at}
-use Rattle.papaya_grows.specs.Given.Seize.declared.states.TheConstants.{LAST_SLOT}
-use Rattle.papaya_grows.proofs.Given.SeizeMoves.State.Ghost.{IsOwned, can_carry, lies_with}
-use Rattle.papaya_grows.proofs.Given.SeizeRule.Points.Aside.{HandFits}
-use Rattle.papaya_grows.proofs.Given.SeizeRule.Rows.Known.{FitsRow}
-use Rattle.papaya_grows.proofs.Given.SeizeRule.Rows.Teams.{shares}
-use Rattle.papaya_grows.proofs.Given.SeizeRule.Words.View.{view}
-use Rattle.papaya_grows.proofs.Given.SeizeAlone.Histories.Reached.{Reached, happens_reached}
-use Rattle.papaya_grows.specs.Given.Tables.Nodes.{deferred_word}
-use Rattle.papaya_grows.specs.Given.Tables.declared.table_words.TheConstants.{DEFERRED}
-use Rattle.papaya_grows.specs.Given.Tables.declared.node.Node.{Node}
-use Rattle.papaya_grows.specs.Given.Tables.declared.node.Node.TheVariants as node
-use Rattle.papaya_grows.specs.Given.Resize.declared.copier.Copier.{Copier}
-use Rattle.papaya_grows.specs.Given.Resize.declared.copier.Copying.{Copying}
-use Rattle.papaya_grows.specs.Given.Resize.declared.copier.Copying.TheVariants as copying
-use Rattle.papaya_grows.specs.Given.Resize.declared.dispose.Dispose.{Dispose}
-use Rattle.papaya_grows.specs.Given.Resize.declared.dispose.Disposing.{Disposing}
-use Rattle.papaya_grows.specs.Given.Resize.declared.dispose.Disposing.TheVariants as disposing
-use Rattle.papaya_grows.specs.Given.Reserves.declared.reserve.Reserving.{Reserving}
-use Rattle.papaya_grows.specs.Given.Reserves.declared.reserve.Reserving.TheVariants as reserving
-use Rattle.papaya_grows.specs.Given.Sweeps.declared.sweep.Sweeping.{Sweeping}
-use Rattle.papaya_grows.specs.Given.Sweeps.declared.sweep.Sweeping.TheVariants as sweeping
-use Rattle.papaya_grows.specs.Given.Raw.declared.machines.call.Calling.{Calling}
-use Rattle.papaya_grows.specs.Given.Raw.declared.machines.call.Calling.TheVariants as calling
-use Rattle.papaya_grows.specs.Given.Raw.declared.machines.machine.Machine.{Machine}
-use Rattle.papaya_grows.specs.Given.Raw.declared.machines.machine.Machine.TheVariants as kinds
-use Rattle.papaya_grows.specs.Given.Raw.declared.machines.progress.Progress.{Progress}
-use Rattle.papaya_grows.specs.Given.Runs.declared.outcome.TableShape.{TableShape}
-use Rattle.papaya_grows.specs.Given.Schedules.declared.effect.Table.{Table}
-use Rattle.papaya_grows.specs.Given.Schedules.declared.effect.Thing.{Thing}
-use Rattle.papaya_grows.specs.Given.Schedules.declared.effect.Thing.TheVariants.{APair, ATable}
-use Rattle.papaya_grows.specs.Given.Schedules.Lists.{is_in}
-use Rattle.papaya_grows.specs.Given.Schedules.Model.{number_in}
-use Rattle.papaya_grows.specs.Given.Schedules.Moment.{Moment, TableThere}
-use Rattle.papaya_grows.specs.Given.Schedules.Things.{same_table, same_thing}
-use Rattle.papaya_grows.specs.Given.Schedules.Views.{is_there}
-use Rattle.papaya_grows.specs.Given.Callers.Rows.{IsRowOn}
-use Rattle.papaya_grows.specs.Given.Callers.Sights.{seen_by}
-use Rattle.papaya_grows.specs.Given.Callers.Together.{UnderWay, CameAbout, HandsOver}
-use Rattle.papaya_grows.proofs.Given.Callers.Together.Came.{came_reached}
-use Rattle.papaya_grows.proofs.Given.Callers.Together.Slots.{step_leaves}
-use Rattle.papaya_grows.specs.Given.Effects.Known.{Known}
-use Rattle.papaya_grows.specs.Given.Effects.declared.role.Role.{Role}
-use Rattle.papaya_grows.specs.Given.Effects.declared.role.Role.TheVariants as role
-use Rattle.papaya_grows.specs.Given.Finishes.Maps.{Standing}
-use Rattle.papaya_grows.specs.Given.Follows.Blocks.{HasRole}
-use Rattle.papaya_grows.proofs.Given.Follows.Contents.{pair_within}
-use Rattle.papaya_grows.proofs.Given.Spots.Unreclaimed.{table_is}
-use Rattle.papaya_grows.specs.Given.Moments.Whole.{ShowsWhole}
-use Rattle.papaya_grows.specs.Given.Settles.Due.{Due, ToRetire, ToPut, OwnAreMade, due_in_calling, due_in_copying, due_in_disposing, due_in_reserving, due_in_row, due_in_settle, due_in_sweeping, word_due}
-use Rattle.papaya_grows.specs.Given.Settles.Hand.{HoldsAt, IsPairAt, IsPairRole, IsTableAt, IsTableRole, NotesInHand, NotesOfCall, NotesOfRoom, NotesOfSweep, NotesTables}
-use Rattle.papaya_grows.specs.Given.Settles.InHand.{pair_in_disposing}
-use Rattle.papaya_grows.proofs.Given.Settles.Hand.All.{calls_go_in_hand}
-use Rattle.papaya_grows.specs.Given.Lives.Handed.{IsMeant, IsToHand}
-use Rattle.papaya_grows.specs.Given.Lives.Retired.{IsToRetire}
-use Rattle.papaya_grows.proofs.Given.Lives.HandedMeant.{begun_put, meant_of, retire_meant}
-use Rattle.papaya_grows.proofs.Given.Lives.RetiredCalls.{goes_on, its_call}
-use Rattle.papaya_grows.proofs.Given.Lives.Retires.{begun_due}
-use Rattle.papaya_grows.proofs.Given.Lives.Rows.{new_way}
-use Rattle.papaya_grows.specs.Given.Kept.Kept.{ShowsKept}
-use Rattle.papaya_grows.proofs.Given.Kept.Calls.{own_made}
-use Rattle.papaya_grows.specs.Given.Models.CallEvents.{IsNoted}
-use Rattle.papaya_grows.specs.Given.Models.Numbers.{HasNumber}
-use Rattle.papaya_grows.proofs.Given.Finds.Lists.{one_of_them}
+use Rattle.papaya_grows.specs.Given.SeizeWordsMem.{value_at}
+use Rattle.papaya_grows.specs.Given.SeizeWordsWord.{link_to}
+use Rattle.papaya_grows.specs.Given.SeizeWordsDeclared.at.At.TheVariants.{Word}
+use Rattle.papaya_grows.specs.Given.SeizeDefer.{deferring}
+use Rattle.papaya_grows.specs.Given.SeizeSettle.{retiring}
+use Rattle.papaya_grows.specs.Given.SeizeWorld.{World, Row, Rests, Registers, Enters, Settles, Leaves, Defers, Frees, Hand, Making, Handed, Request, Register', Enter', Leave', LeaveOwned, Refresh, Unregister', Retire, Flush, Defer', Begin, Step, Begins, Steps', Happens, with_at}
+use Rattle.papaya_grows.specs.Given.SeizeDeclared.states.TheConstants.{LAST_SLOT}
+use Rattle.papaya_grows.proofs.Given.SeizeMovesState.Ghost.{IsOwned, can_carry, lies_with}
+use Rattle.papaya_grows.proofs.Given.SeizeRulePoints.Aside.{HandFits}
+use Rattle.papaya_grows.proofs.Given.SeizeRuleRows.Known.{FitsRow}
+use Rattle.papaya_grows.proofs.Given.SeizeRuleRows.Teams.{shares}
+use Rattle.papaya_grows.proofs.Given.SeizeRuleWords.View.{view}
+use Rattle.papaya_grows.proofs.Given.SeizeAloneHistories.Reached.{Reached, happens_reached}
+use Rattle.papaya_grows.specs.Given.TablesNodes.{deferred_word}
+use Rattle.papaya_grows.specs.Given.TablesDeclared.table_words.TheConstants.{DEFERRED}
+use Rattle.papaya_grows.specs.Given.TablesDeclared.node.Node.{Node}
+use Rattle.papaya_grows.specs.Given.TablesDeclared.node.Node.TheVariants as node
+use Rattle.papaya_grows.specs.Given.ResizeDeclared.copier.Copier.{Copier}
+use Rattle.papaya_grows.specs.Given.ResizeDeclared.copier.Copying.{Copying}
+use Rattle.papaya_grows.specs.Given.ResizeDeclared.copier.Copying.TheVariants as copying
+use Rattle.papaya_grows.specs.Given.ResizeDeclared.dispose.Dispose.{Dispose}
+use Rattle.papaya_grows.specs.Given.ResizeDeclared.dispose.Disposing.{Disposing}
+use Rattle.papaya_grows.specs.Given.ResizeDeclared.dispose.Disposing.TheVariants as disposing
+use Rattle.papaya_grows.specs.Given.ReservesDeclared.reserve.Reserving.{Reserving}
+use Rattle.papaya_grows.specs.Given.ReservesDeclared.reserve.Reserving.TheVariants as reserving
+use Rattle.papaya_grows.specs.Given.SweepsDeclared.sweep.Sweeping.{Sweeping}
+use Rattle.papaya_grows.specs.Given.SweepsDeclared.sweep.Sweeping.TheVariants as sweeping
+use Rattle.papaya_grows.specs.Given.RawDeclared.machines.call.Calling.{Calling}
+use Rattle.papaya_grows.specs.Given.RawDeclared.machines.call.Calling.TheVariants as calling
+use Rattle.papaya_grows.specs.Given.RawDeclared.machines.machine.Machine.{Machine}
+use Rattle.papaya_grows.specs.Given.RawDeclared.machines.machine.Machine.TheVariants as kinds
+use Rattle.papaya_grows.specs.Given.RawDeclared.machines.progress.Progress.{Progress}
+use Rattle.papaya_grows.specs.Given.RunsDeclared.outcome.TableShape.{TableShape}
+use Rattle.papaya_grows.specs.Given.SchedulesDeclared.effect.Table.{Table}
+use Rattle.papaya_grows.specs.Given.SchedulesDeclared.effect.Thing.{Thing}
+use Rattle.papaya_grows.specs.Given.SchedulesDeclared.effect.Thing.TheVariants.{APair, ATable}
+use Rattle.papaya_grows.specs.Given.SchedulesLists.{is_in}
+use Rattle.papaya_grows.specs.Given.SchedulesModel.{number_in}
+use Rattle.papaya_grows.specs.Given.SchedulesMoment.{Moment, TableThere}
+use Rattle.papaya_grows.specs.Given.SchedulesThings.{same_table, same_thing}
+use Rattle.papaya_grows.specs.Given.SchedulesViews.{is_there}
+use Rattle.papaya_grows.specs.Given.CallersRows.{IsRowOn}
+use Rattle.papaya_grows.specs.Given.CallersSights.{seen_by}
+use Rattle.papaya_grows.specs.Given.CallersTogether.{UnderWay, CameAbout, HandsOver}
+use Rattle.papaya_grows.proofs.Given.CallersTogether.Came.{came_reached}
+use Rattle.papaya_grows.proofs.Given.CallersTogether.Slots.{step_leaves}
+use Rattle.papaya_grows.specs.Given.EffectsKnown.{Known}
+use Rattle.papaya_grows.specs.Given.EffectsDeclared.role.Role.{Role}
+use Rattle.papaya_grows.specs.Given.EffectsDeclared.role.Role.TheVariants as role
+use Rattle.papaya_grows.specs.Given.FinishesMaps.{Standing}
+use Rattle.papaya_grows.specs.Given.FollowsBlocks.{HasRole}
+use Rattle.papaya_grows.proofs.Given.FollowsContents.{pair_within}
+use Rattle.papaya_grows.proofs.Given.SpotsUnreclaimed.{table_is}
+use Rattle.papaya_grows.specs.Given.MomentsWhole.{ShowsWhole}
+use Rattle.papaya_grows.specs.Given.SettlesDue.{Due, ToRetire, ToPut, OwnAreMade, due_in_calling, due_in_copying, due_in_disposing, due_in_reserving, due_in_row, due_in_settle, due_in_sweeping, word_due}
+use Rattle.papaya_grows.specs.Given.SettlesHand.{HoldsAt, IsPairAt, IsPairRole, IsTableAt, IsTableRole, NotesInHand, NotesOfCall, NotesOfRoom, NotesOfSweep, NotesTables}
+use Rattle.papaya_grows.specs.Given.SettlesInHand.{pair_in_disposing}
+use Rattle.papaya_grows.proofs.Given.SettlesHand.All.{calls_go_in_hand}
+use Rattle.papaya_grows.specs.Given.LivesHanded.{IsMeant, IsToHand}
+use Rattle.papaya_grows.specs.Given.LivesRetired.{IsToRetire}
+use Rattle.papaya_grows.proofs.Given.LivesHandedMeant.{begun_put, meant_of, retire_meant}
+use Rattle.papaya_grows.proofs.Given.LivesRetiredCalls.{goes_on, its_call}
+use Rattle.papaya_grows.proofs.Given.LivesRetires.{begun_due}
+use Rattle.papaya_grows.proofs.Given.LivesRows.{new_way}
+use Rattle.papaya_grows.specs.Given.KeptKept.{ShowsKept}
+use Rattle.papaya_grows.proofs.Given.KeptCalls.{own_made}
+use Rattle.papaya_grows.specs.Given.ModelsCallEvents.{IsNoted}
+use Rattle.papaya_grows.specs.Given.ModelsNumbers.{HasNumber}
+use Rattle.papaya_grows.proofs.Given.FindsLists.{one_of_them}
 use Rattle.papaya_legal.specs.Noted.{HaveCome, CallsHandNoted}
-use Rattle.papaya_grows.specs.Given.Scenes.Held.{Held, IsAt}
-use Rattle.papaya_grows.specs.Given.Scenes.Scene.{Scene, slot_of}
-use Rattle.papaya_grows.specs.Given.Scenes.Stepping.{StepLeads}
+use Rattle.papaya_grows.specs.Given.ScenesHeld.{Held, IsAt}
+use Rattle.papaya_grows.specs.Given.ScenesScene.{Scene, slot_of}
+use Rattle.papaya_grows.specs.Given.ScenesStepping.{StepLeads}
 
 -- What a call has in hand, and its row is to hand over, is noted.
 

@@ -1,36 +1,36 @@
 -- What a moment shows of calls after a step of a call or of a row, and where a call comes to an outcome, whoever tells of it.
 use Rattle.std.specs.Prelude.{◌≡◌, ◌<◌, ℕ, Bool, List, Some, None}
 use Rattle.std.proofs.Common.{refl, subst}
-use Rattle.papaya_grows.specs.Given.Schedules.declared.effect.Effect.{Effect}
-use Rattle.papaya_grows.specs.Given.Schedules.Effects.{AtEachEffect, with_effects}
-use Rattle.papaya_grows.specs.Given.Schedules.Moment.{Moment, UnderWay as CallThere}
-use Rattle.papaya_grows.specs.Given.Schedules.Views.{call_of}
-use Rattle.papaya_grows.specs.Given.Effects.Effects.{effects_of, known_after}
-use Rattle.papaya_grows.specs.Given.Effects.Known.{Known}
-use Rattle.papaya_grows.specs.Given.Effects.declared.acting.Acting.TheVariants as acts
-use Rattle.papaya_grows.specs.Given.Follows.Calling.{come_to}
-use Rattle.papaya_grows.specs.Given.Follows.Calls.{IsCalled}
-use Rattle.papaya_grows.specs.Given.Kept.Kept.{ShowsKept}
-use Rattle.papaya_grows.specs.Given.Moments.Whole.{ShowsWhole}
-use Rattle.papaya_grows.specs.Given.Scenes.Scene.{Scene, slot_of}
-use Rattle.papaya_grows.specs.Given.Scenes.Stepping.{StepLeads, scene_after}
-use Rattle.papaya_grows.proofs.Given.Histories.Calling.{first_steps_change_first}
-use Rattle.papaya_grows.proofs.Given.Histories.Due.{calls_keep_due}
-use Rattle.papaya_grows.proofs.Given.Histories.DueOn.{calls_come_to_due}
-use Rattle.papaya_grows.proofs.Given.Histories.NoKey.AsCalled.{calls_keep_as_called}
-use Rattle.papaya_grows.proofs.Given.Histories.NoKey.AsCalledOn.{calls_come_to_as_called}
-use Rattle.papaya_grows.proofs.Given.Histories.Questions.{calls_come_to_questions, effects_keep_questions}
-use Rattle.papaya_grows.proofs.Given.Kept.Calls.{calls_keep_kept}
-use Rattle.papaya_grows.proofs.Given.Kept.Stays.{calls_come_to_kept}
-use Rattle.papaya_grows.proofs.Given.Moments.Calls.{calls_come_to_whole, calls_keep_whole}
-use Rattle.papaya_grows.proofs.Given.Moments.NewMaps.{effects_keep_pairs}
-use Rattle.papaya_grows.proofs.Given.Moments.Numbers.{numbers_are_below, rows_keep_numbers, steps_keep_numbers}
-use Rattle.papaya_grows.proofs.Given.Purposes.Between.{calls_come_to_purposes, first_steps_change_pairs_first}
-use Rattle.papaya_grows.proofs.Given.Purposes.Kept.{calls_keep_purposes}
-use Rattle.papaya_grows.proofs.Given.Purposes.ShardsRead.{events_begin_uncounted, steps_read_shards}
-use Rattle.papaya_grows.proofs.Given.Shards.ShardBetween.{calls_come_to_counters}
-use Rattle.papaya_grows.proofs.Given.Shards.ShardCalls.{calls_keep_counters}
-use Rattle.papaya_grows.proofs.Given.Sources.Steps.{calls_keep_sources}
+use Rattle.papaya_grows.specs.Given.SchedulesDeclared.effect.Effect.{Effect}
+use Rattle.papaya_grows.specs.Given.SchedulesEffects.{AtEachEffect, with_effects}
+use Rattle.papaya_grows.specs.Given.SchedulesMoment.{Moment, UnderWay as CallThere}
+use Rattle.papaya_grows.specs.Given.SchedulesViews.{call_of}
+use Rattle.papaya_grows.specs.Given.EffectsEffects.{effects_of, known_after}
+use Rattle.papaya_grows.specs.Given.EffectsKnown.{Known}
+use Rattle.papaya_grows.specs.Given.EffectsDeclared.acting.Acting.TheVariants as acts
+use Rattle.papaya_grows.specs.Given.FollowsCalling.{come_to}
+use Rattle.papaya_grows.specs.Given.FollowsCalls.{IsCalled}
+use Rattle.papaya_grows.specs.Given.KeptKept.{ShowsKept}
+use Rattle.papaya_grows.specs.Given.MomentsWhole.{ShowsWhole}
+use Rattle.papaya_grows.specs.Given.ScenesScene.{Scene, slot_of}
+use Rattle.papaya_grows.specs.Given.ScenesStepping.{StepLeads, scene_after}
+use Rattle.papaya_grows.proofs.Given.HistoriesCalling.{first_steps_change_first}
+use Rattle.papaya_grows.proofs.Given.HistoriesDue.{calls_keep_due}
+use Rattle.papaya_grows.proofs.Given.HistoriesDueOn.{calls_come_to_due}
+use Rattle.papaya_grows.proofs.Given.HistoriesNoKey.AsCalled.{calls_keep_as_called}
+use Rattle.papaya_grows.proofs.Given.HistoriesNoKey.AsCalledOn.{calls_come_to_as_called}
+use Rattle.papaya_grows.proofs.Given.HistoriesQuestions.{calls_come_to_questions, effects_keep_questions}
+use Rattle.papaya_grows.proofs.Given.KeptCalls.{calls_keep_kept}
+use Rattle.papaya_grows.proofs.Given.KeptStays.{calls_come_to_kept}
+use Rattle.papaya_grows.proofs.Given.MomentsCalls.{calls_come_to_whole, calls_keep_whole}
+use Rattle.papaya_grows.proofs.Given.MomentsNewMaps.{effects_keep_pairs}
+use Rattle.papaya_grows.proofs.Given.MomentsNumbers.{numbers_are_below, rows_keep_numbers, steps_keep_numbers}
+use Rattle.papaya_grows.proofs.Given.PurposesBetween.{calls_come_to_purposes, first_steps_change_pairs_first}
+use Rattle.papaya_grows.proofs.Given.PurposesKept.{calls_keep_purposes}
+use Rattle.papaya_grows.proofs.Given.PurposesShardsRead.{events_begin_uncounted, steps_read_shards}
+use Rattle.papaya_grows.proofs.Given.ShardsShardBetween.{calls_come_to_counters}
+use Rattle.papaya_grows.proofs.Given.ShardsShardCalls.{calls_keep_counters}
+use Rattle.papaya_grows.proofs.Given.SourcesSteps.{calls_keep_sources}
 use Rattle.papaya_grows.proofs.Finding.Alike.{finding_fewer, stood_as}
 use Rattle.papaya_grows.proofs.Finding.Calls.{calls_keep_finding}
 use Rattle.papaya_grows.proofs.Finding.Nexts.{calls_come_to_nexts, nexts_go_on, others_at_first}
@@ -41,28 +41,28 @@ use Rattle.papaya_grows.proofs.Tries.Steps.{tries_go_on}
 use Rattle.papaya_legal.specs.OneStep.{CallsComeTo, CallsStep, RowsBegin, RowsStep}
 use Rattle.papaya_legal.proofs.Sourced.{same_maps_aside, sources_same, sources_so}
 use Rattle.papaya_legal.proofs.Uncounted.{calls_leave_uncounted, none_counted}
-use Rattle.papaya_grows.specs.Given.Seize.World.{Begin, Step}
-use Rattle.papaya_grows.specs.Given.Tables.declared.node.Node.{Node}
-use Rattle.papaya_grows.specs.Given.Raw.declared.machines.progress.Progress.{Progress}
-use Rattle.papaya_grows.specs.Given.Callers.Together.{UnderWay}
-use Rattle.papaya_grows.specs.Given.Histories.Kept.{ChangesFirst}
-use Rattle.papaya_grows.specs.Given.Moments.OnSlots.{HadRetired}
-use Rattle.papaya_grows.specs.Given.Others.Rows.{scene_then}
-use Rattle.papaya_grows.specs.Given.Purposes.Kept.{PairsChangeFirst, ShowsNone}
-use Rattle.papaya_grows.specs.Given.Purposes.Shards.{ReadsShards}
-use Rattle.papaya_grows.specs.Given.Scenes.Held.{Held, IsAt}
-use Rattle.papaya_grows.specs.Given.Scenes.Rows.{request_of}
-use Rattle.papaya_grows.specs.Given.Spots.OnSlots.{WaitUnreclaimed}
-use Rattle.papaya_grows.specs.Given.Schedules.Transition.{Past}
+use Rattle.papaya_grows.specs.Given.SeizeWorld.{Begin, Step}
+use Rattle.papaya_grows.specs.Given.TablesDeclared.node.Node.{Node}
+use Rattle.papaya_grows.specs.Given.RawDeclared.machines.progress.Progress.{Progress}
+use Rattle.papaya_grows.specs.Given.CallersTogether.{UnderWay}
+use Rattle.papaya_grows.specs.Given.HistoriesKept.{ChangesFirst}
+use Rattle.papaya_grows.specs.Given.MomentsOnSlots.{HadRetired}
+use Rattle.papaya_grows.specs.Given.OthersRows.{scene_then}
+use Rattle.papaya_grows.specs.Given.PurposesKept.{PairsChangeFirst, ShowsNone}
+use Rattle.papaya_grows.specs.Given.PurposesShards.{ReadsShards}
+use Rattle.papaya_grows.specs.Given.ScenesHeld.{Held, IsAt}
+use Rattle.papaya_grows.specs.Given.ScenesRows.{request_of}
+use Rattle.papaya_grows.specs.Given.SpotsOnSlots.{WaitUnreclaimed}
+use Rattle.papaya_grows.specs.Given.SchedulesTransition.{Past}
 use Rattle.papaya_grows.specs.Limits.{OthersHadLimit}
 use Rattle.papaya_grows.specs.Nexts.{OthersHadNext}
 use Rattle.papaya_grows.specs.Tries.{OthersHadTried}
-use Rattle.papaya_grows.proofs.Given.Histories.Aside.Stays.{as_called_stays, dues_stay}
-use Rattle.papaya_grows.proofs.Given.Kept.Others.{rows_begin_kept, rows_find_kept, rows_keep_kept}
-use Rattle.papaya_grows.proofs.Given.Moments.OnSlots.{rows_begin_whole, rows_keep_whole}
-use Rattle.papaya_grows.proofs.Given.Purposes.Elsewhere.{purposes_stay}
-use Rattle.papaya_grows.proofs.Given.Shards.ShardKept.{none_shards}
-use Rattle.papaya_grows.proofs.Given.Shards.ShardOthers.{rows_begin_counters, rows_keep_counters}
+use Rattle.papaya_grows.proofs.Given.HistoriesAside.Stays.{as_called_stays, dues_stay}
+use Rattle.papaya_grows.proofs.Given.KeptOthers.{rows_begin_kept, rows_find_kept, rows_keep_kept}
+use Rattle.papaya_grows.proofs.Given.MomentsOnSlots.{rows_begin_whole, rows_keep_whole}
+use Rattle.papaya_grows.proofs.Given.PurposesElsewhere.{purposes_stay}
+use Rattle.papaya_grows.proofs.Given.ShardsShardKept.{none_shards}
+use Rattle.papaya_grows.proofs.Given.ShardsShardOthers.{rows_begin_counters, rows_keep_counters}
 use Rattle.papaya_grows.proofs.Finding.Aside.{rows_aside}
 use Rattle.papaya_grows.proofs.Finding.NextsOthers.{rows_begin_nexts, rows_keep_nexts}
 use Rattle.papaya_grows.proofs.Finding.Others.{rows_begin_finding, rows_keep_finding}

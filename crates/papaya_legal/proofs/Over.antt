@@ -1,46 +1,46 @@
 -- A run goes on with an event that comes to what is right: the moment after it shows all that the next one needs.
 use Rattle.std.specs.Prelude.{◌≡◌, ℕ, ◌+◌, Bool, true, false, List, [], ◌∷◌, map, Some, if◌then◌else◌, ◌⊎◌}
 use Rattle.std.proofs.Common.{refl, ap, sym, subst, ◌∙◌, arith}
-use Rattle.papaya_grows.specs.Given.SeizeWords.declared.fault.Fault.TheVariants.{Busy}
-use Rattle.papaya_grows.specs.Given.Seize.WaitingSets.{Sets}
-use Rattle.papaya_grows.specs.Given.Seize.World.{World}
-use Rattle.papaya_grows.specs.Given.Tables.declared.node.Node.{Node}
-use Rattle.papaya_grows.specs.Given.Runs.Same.{is_same}
-use Rattle.papaya_grows.specs.Given.Schedules.declared.effect.Effect.{Effect}
-use Rattle.papaya_grows.specs.Given.Schedules.declared.effect.Thing.{Thing}
-use Rattle.papaya_grows.specs.Given.Schedules.declared.event.Event.{Event}
-use Rattle.papaya_grows.specs.Given.Schedules.declared.event.Event.TheVariants as event
-use Rattle.papaya_grows.specs.Given.Schedules.declared.outcome.Outcome.{Outcome}
-use Rattle.papaya_grows.specs.Given.Schedules.declared.outcome.Outcome.TheVariants.{Done, Goes, Refused}
-use Rattle.papaya_grows.specs.Given.Schedules.After.{after, comes_to, is_alone_on, moment}
-use Rattle.papaya_grows.specs.Given.Schedules.Beginning.{at_work}
-use Rattle.papaya_grows.specs.Given.Schedules.Effects.{AtEachEffect}
-use Rattle.papaya_grows.specs.Given.Schedules.Entry.{Entry, acted_on, caller_of, nameless}
-use Rattle.papaya_grows.specs.Given.Schedules.Model.{IsByModel, sets_in, things_in}
-use Rattle.papaya_grows.specs.Given.Schedules.Moment.{UnderWay as CallThere, Moment}
-use Rattle.papaya_grows.specs.Given.Schedules.Terms.{Terms}
-use Rattle.papaya_grows.specs.Given.Schedules.Views.{call_of}
-use Rattle.papaya_grows.specs.Given.Callers.Together.{UnderWay}
-use Rattle.papaya_grows.specs.Given.Effects.Known.{Known}
-use Rattle.papaya_grows.proofs.Given.Spots.Unreclaimed.{and_both}
-use Rattle.papaya_grows.specs.Given.Promises.Reading.{ShowsReading}
-use Rattle.papaya_grows.proofs.Given.Promises.Brief.Stays.{events_keep_readings}
-use Rattle.papaya_grows.specs.Given.Models.CallEvents.{IsInItsRow}
-use Rattle.papaya_grows.specs.Given.Models.Follows.{FollowsSets}
-use Rattle.papaya_grows.proofs.Given.Models.Follows.{idle_events_follow}
-use Rattle.papaya_grows.specs.Given.Finds.Life.{StoresOne}
-use Rattle.papaya_grows.specs.Given.Finds.Within.{GoesInOrder}
-use Rattle.papaya_grows.proofs.Given.Finds.Closed.{over_stays_back}
-use Rattle.papaya_grows.proofs.Given.Finds.Runs.{events_keep_order}
-use Rattle.papaya_grows.proofs.Given.Purposes.Tableless.{events_keep_tableless}
+use Rattle.papaya_grows.specs.Given.SeizeWordsDeclared.fault.Fault.TheVariants.{Busy}
+use Rattle.papaya_grows.specs.Given.SeizeWaitingSets.{Sets}
+use Rattle.papaya_grows.specs.Given.SeizeWorld.{World}
+use Rattle.papaya_grows.specs.Given.TablesDeclared.node.Node.{Node}
+use Rattle.papaya_grows.specs.Given.RunsSame.{is_same}
+use Rattle.papaya_grows.specs.Given.SchedulesDeclared.effect.Effect.{Effect}
+use Rattle.papaya_grows.specs.Given.SchedulesDeclared.effect.Thing.{Thing}
+use Rattle.papaya_grows.specs.Given.SchedulesDeclared.event.Event.{Event}
+use Rattle.papaya_grows.specs.Given.SchedulesDeclared.event.Event.TheVariants as event
+use Rattle.papaya_grows.specs.Given.SchedulesDeclared.outcome.Outcome.{Outcome}
+use Rattle.papaya_grows.specs.Given.SchedulesDeclared.outcome.Outcome.TheVariants.{Done, Goes, Refused}
+use Rattle.papaya_grows.specs.Given.SchedulesAfter.{after, comes_to, is_alone_on, moment}
+use Rattle.papaya_grows.specs.Given.SchedulesBeginning.{at_work}
+use Rattle.papaya_grows.specs.Given.SchedulesEffects.{AtEachEffect}
+use Rattle.papaya_grows.specs.Given.SchedulesEntry.{Entry, acted_on, caller_of, nameless}
+use Rattle.papaya_grows.specs.Given.SchedulesModel.{IsByModel, sets_in, things_in}
+use Rattle.papaya_grows.specs.Given.SchedulesMoment.{UnderWay as CallThere, Moment}
+use Rattle.papaya_grows.specs.Given.SchedulesTerms.{Terms}
+use Rattle.papaya_grows.specs.Given.SchedulesViews.{call_of}
+use Rattle.papaya_grows.specs.Given.CallersTogether.{UnderWay}
+use Rattle.papaya_grows.specs.Given.EffectsKnown.{Known}
+use Rattle.papaya_grows.proofs.Given.SpotsUnreclaimed.{and_both}
+use Rattle.papaya_grows.specs.Given.PromisesReading.{ShowsReading}
+use Rattle.papaya_grows.proofs.Given.PromisesBrief.Stays.{events_keep_readings}
+use Rattle.papaya_grows.specs.Given.ModelsCallEvents.{IsInItsRow}
+use Rattle.papaya_grows.specs.Given.ModelsFollows.{FollowsSets}
+use Rattle.papaya_grows.proofs.Given.ModelsFollows.{idle_events_follow}
+use Rattle.papaya_grows.specs.Given.FindsLife.{StoresOne}
+use Rattle.papaya_grows.specs.Given.FindsWithin.{GoesInOrder}
+use Rattle.papaya_grows.proofs.Given.FindsClosed.{over_stays_back}
+use Rattle.papaya_grows.proofs.Given.FindsRuns.{events_keep_order}
+use Rattle.papaya_grows.proofs.Given.PurposesTableless.{events_keep_tableless}
 use Rattle.papaya_legal.specs.Between.{IsLike}
 use Rattle.papaya_legal.specs.Carried.{FollowsOrRows}
 use Rattle.papaya_legal.specs.Over.{IdleEventsEnd, LeavesAll, QuietEventsEnd, RunsByOtherNames, RunsGoOn}
 use Rattle.papaya_legal.proofs.LeftTold.{events_tell_left}
 use Rattle.papaya_legal.proofs.Between.{likes_show, logs_grow, named_as, names_change}
-use Rattle.papaya_grows.specs.Given.Scenes.Scene.{Scene, slot_of}
-use Rattle.papaya_grows.specs.Given.Schedules.Transition.{past}
-use Rattle.papaya_grows.proofs.Given.Histories.Logs.{events_are}
+use Rattle.papaya_grows.specs.Given.ScenesScene.{Scene, slot_of}
+use Rattle.papaya_grows.specs.Given.SchedulesTransition.{past}
+use Rattle.papaya_grows.proofs.Given.HistoriesLogs.{events_are}
 
 pub runs_go_on : (K V : Type 0) (same : K → K → Bool) → RunsGoOn K V same
 runs_go_on K V same name name2 terms log first known before s run e right life stores reclaims all reading sections follows = record {

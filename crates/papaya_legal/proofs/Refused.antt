@@ -2,36 +2,36 @@
 use Rattle.std.specs.Prelude.{◌≡◌, ◌⊎◌, ℕ, Bool, true, false, List, [], ◌∷◌, flat_map, Option, Some, None}
 use Rattle.std.specs.List.{list_all}
 use Rattle.std.proofs.Common.{refl, sym, subst, inl, inr, arith}
-use Rattle.papaya_grows.specs.Given.SeizeWords.declared.fault.Fault.{Fault}
-use Rattle.papaya_grows.specs.Given.SeizeWords.declared.fault.Fault.TheVariants.{Busy, Memory}
-use Rattle.papaya_grows.specs.Given.Seize.World.{with_at}
-use Rattle.papaya_grows.specs.Given.Tables.declared.resize_mode.ResizeMode.{ResizeMode}
-use Rattle.papaya_grows.specs.Given.Schedules.declared.effect.Effect.{Effect}
-use Rattle.papaya_grows.specs.Given.Schedules.declared.effect.Effect.TheVariants.{Asked}
-use Rattle.papaya_grows.specs.Given.Schedules.declared.effect.Growth.TheVariants.{ABlock, ABucket}
-use Rattle.papaya_grows.specs.Given.Schedules.declared.event.Event.TheVariants.{MakeMap}
-use Rattle.papaya_grows.specs.Given.Schedules.declared.outcome.Outcome.TheVariants.{Refused}
-use Rattle.papaya_grows.specs.Given.Schedules.After.{after, moment}
-use Rattle.papaya_grows.specs.Given.Schedules.Effects.{AtEachEffect, with_effect, worked}
-use Rattle.papaya_grows.specs.Given.Schedules.Entry.{Entry, acted_on, is_busy}
-use Rattle.papaya_grows.specs.Given.Schedules.Handing.{IsWhole, is_first_making}
-use Rattle.papaya_grows.specs.Given.Schedules.InTurn.{ComesRight, is_growth}
-use Rattle.papaya_grows.specs.Given.Schedules.Linearizable.{shift_of}
-use Rattle.papaya_grows.specs.Given.Schedules.Lives.{Finds}
-use Rattle.papaya_grows.specs.Given.Schedules.Model.{IsByModel, sets_in, things_in}
-use Rattle.papaya_grows.specs.Given.Schedules.Moment.{MapThere, Moment}
-use Rattle.papaya_grows.specs.Given.Schedules.Reclaims.{IsProtected}
-use Rattle.papaya_grows.specs.Given.Schedules.Terms.{Terms}
-use Rattle.papaya_grows.specs.Given.Effects.Known.{Known}
-use Rattle.papaya_grows.specs.Given.Finishes.Makings.{Beginning, HasMade}
-use Rattle.papaya_grows.proofs.Given.Histories.OtherCalls.{no_calls_are_linearizable}
-use Rattle.papaya_grows.specs.Given.Promises.Sheltered.{SectionsHold}
-use Rattle.papaya_grows.proofs.Given.Promises.Protected.{other_events_end_protected}
-use Rattle.papaya_grows.proofs.Given.Purposes.Nothing.{no_calls_are_swept}
-use Rattle.papaya_grows.specs.Given.Models.Follows.{FollowsModel}
-use Rattle.papaya_grows.proofs.Given.Models.MapEvents.{making_events_begin as making_sets_begin}
-use Rattle.papaya_grows.specs.Given.Finds.Life.{StoresOne}
-use Rattle.papaya_grows.specs.Given.Sources.Stays.{NoneBorn}
+use Rattle.papaya_grows.specs.Given.SeizeWordsDeclared.fault.Fault.{Fault}
+use Rattle.papaya_grows.specs.Given.SeizeWordsDeclared.fault.Fault.TheVariants.{Busy, Memory}
+use Rattle.papaya_grows.specs.Given.SeizeWorld.{with_at}
+use Rattle.papaya_grows.specs.Given.TablesDeclared.resize_mode.ResizeMode.{ResizeMode}
+use Rattle.papaya_grows.specs.Given.SchedulesDeclared.effect.Effect.{Effect}
+use Rattle.papaya_grows.specs.Given.SchedulesDeclared.effect.Effect.TheVariants.{Asked}
+use Rattle.papaya_grows.specs.Given.SchedulesDeclared.effect.Growth.TheVariants.{ABlock, ABucket}
+use Rattle.papaya_grows.specs.Given.SchedulesDeclared.event.Event.TheVariants.{MakeMap}
+use Rattle.papaya_grows.specs.Given.SchedulesDeclared.outcome.Outcome.TheVariants.{Refused}
+use Rattle.papaya_grows.specs.Given.SchedulesAfter.{after, moment}
+use Rattle.papaya_grows.specs.Given.SchedulesEffects.{AtEachEffect, with_effect, worked}
+use Rattle.papaya_grows.specs.Given.SchedulesEntry.{Entry, acted_on, is_busy}
+use Rattle.papaya_grows.specs.Given.SchedulesHanding.{IsWhole, is_first_making}
+use Rattle.papaya_grows.specs.Given.SchedulesInTurn.{ComesRight, is_growth}
+use Rattle.papaya_grows.specs.Given.SchedulesLinearizable.{shift_of}
+use Rattle.papaya_grows.specs.Given.SchedulesLives.{Finds}
+use Rattle.papaya_grows.specs.Given.SchedulesModel.{IsByModel, sets_in, things_in}
+use Rattle.papaya_grows.specs.Given.SchedulesMoment.{MapThere, Moment}
+use Rattle.papaya_grows.specs.Given.SchedulesReclaims.{IsProtected}
+use Rattle.papaya_grows.specs.Given.SchedulesTerms.{Terms}
+use Rattle.papaya_grows.specs.Given.EffectsKnown.{Known}
+use Rattle.papaya_grows.specs.Given.FinishesMakings.{Beginning, HasMade}
+use Rattle.papaya_grows.proofs.Given.HistoriesOtherCalls.{no_calls_are_linearizable}
+use Rattle.papaya_grows.specs.Given.PromisesSheltered.{SectionsHold}
+use Rattle.papaya_grows.proofs.Given.PromisesProtected.{other_events_end_protected}
+use Rattle.papaya_grows.proofs.Given.PurposesNothing.{no_calls_are_swept}
+use Rattle.papaya_grows.specs.Given.ModelsFollows.{FollowsModel}
+use Rattle.papaya_grows.proofs.Given.ModelsMapEvents.{making_events_begin as making_sets_begin}
+use Rattle.papaya_grows.specs.Given.FindsLife.{StoresOne}
+use Rattle.papaya_grows.specs.Given.SourcesStays.{NoneBorn}
 use Rattle.papaya_legal.specs.Between.{IsLike}
 use Rattle.papaya_legal.specs.CallEvents.{IsLegalBut}
 use Rattle.papaya_legal.specs.Carried.{ComesAlone, ShowsRun}
@@ -42,9 +42,9 @@ use Rattle.papaya_legal.proofs.Growths.{growths_leave}
 use Rattle.papaya_legal.proofs.MapsOver.{making_events_follow}
 use Rattle.papaya_legal.proofs.Over.{reading_like, runs_go_on}
 use Rattle.papaya_legal.proofs.Sourced.{none_born}
-use Rattle.papaya_grows.specs.Given.Scenes.Held.{Held, IsAt}
-use Rattle.papaya_grows.specs.Given.Scenes.Scene.{Scene}
-use Rattle.papaya_grows.specs.Given.Schedules.Transition.{past, transition}
+use Rattle.papaya_grows.specs.Given.ScenesHeld.{Held, IsAt}
+use Rattle.papaya_grows.specs.Given.ScenesScene.{Scene}
+use Rattle.papaya_grows.specs.Given.SchedulesTransition.{past, transition}
 
 -- As it begins the event is in its midst.
 module _ (K V : Type 0) (same : K → K → Bool) (hash : ℕ → K → ℕ) (name : ℕ → List ℕ) (terms : Terms) (log : List (Entry K V)) (known : Known) (s : Scene K V) (old new : Held K V) (at : IsAt same hash old s)

@@ -1,37 +1,37 @@
 -- An event whose work is a row on a slot, from its beginning on.
 use Rattle.std.specs.Prelude.{◌≡◌, ℕ, Bool, true, List, [], ◌∷◌, ◌++◌, Option, None}
 use Rattle.std.proofs.Common.{refl, ap, sym, subst, ◌∙◌}
-use Rattle.papaya_grows.specs.Given.Seize.World.{World, Request, Begin, Step}
-use Rattle.papaya_grows.specs.Given.Tables.declared.node.Node.{Node}
-use Rattle.papaya_grows.specs.Given.Schedules.declared.effect.Effect.{Effect}
-use Rattle.papaya_grows.specs.Given.Schedules.declared.event.Event.{Event}
-use Rattle.papaya_grows.specs.Given.Schedules.declared.event.Event.TheVariants.{Register, Unregister, Enter, Own, Refresh, Flush, DropGuard, ReclaimAll, Close}
-use Rattle.papaya_grows.specs.Given.Schedules.declared.outcome.Outcome.TheVariants.{Done}
-use Rattle.papaya_grows.specs.Given.Schedules.After.{moment}
-use Rattle.papaya_grows.specs.Given.Schedules.Effects.{with_effect, with_effects, AtEachEffect}
-use Rattle.papaya_grows.specs.Given.Schedules.Model.{sets_in, things_in}
-use Rattle.papaya_grows.specs.Given.Schedules.Moment.{Moment}
-use Rattle.papaya_grows.specs.Given.Callers.Together.{IsOfSlots}
-use Rattle.papaya_grows.specs.Given.Effects.Effects.{effects_of, known_after}
-use Rattle.papaya_grows.specs.Given.Effects.Known.{Known}
-use Rattle.papaya_grows.specs.Given.Effects.declared.acting.Acting.TheVariants as acts
-use Rattle.papaya_grows.specs.Given.Scenes.declared.row.SlotCall.{SlotCall}
-use Rattle.papaya_grows.specs.Given.Scenes.declared.row.SlotCall.TheVariants as call
-use Rattle.papaya_grows.specs.Given.Moments.Whole.{ShowsWhole}
-use Rattle.papaya_grows.proofs.Given.Moments.After.{effects_after}
-use Rattle.papaya_grows.specs.Given.Promises.Protected.{InMidst, is_of_slots}
-use Rattle.papaya_grows.specs.Given.Promises.Sheltered.{SectionsHold}
-use Rattle.papaya_grows.proofs.Given.Promises.Brief.Meanwhile.{rows_keep_readings}
-use Rattle.papaya_grows.proofs.Given.Promises.Protected.{events_begin_protected, rows_begin_protect, rows_protect}
-use Rattle.papaya_grows.proofs.Given.Promises.Weights.{grants_add_up, operations_are_single}
-use Rattle.papaya_grows.specs.Given.Models.Follows.{FollowsSets}
-use Rattle.papaya_grows.specs.Given.Models.OnSlots.{FollowsInRow}
-use Rattle.papaya_grows.proofs.Given.Models.MapEvents.{moments_note_once}
-use Rattle.papaya_grows.proofs.Given.Models.OnSlots.{slot_events_begin, slot_events_go_on}
+use Rattle.papaya_grows.specs.Given.SeizeWorld.{World, Request, Begin, Step}
+use Rattle.papaya_grows.specs.Given.TablesDeclared.node.Node.{Node}
+use Rattle.papaya_grows.specs.Given.SchedulesDeclared.effect.Effect.{Effect}
+use Rattle.papaya_grows.specs.Given.SchedulesDeclared.event.Event.{Event}
+use Rattle.papaya_grows.specs.Given.SchedulesDeclared.event.Event.TheVariants.{Register, Unregister, Enter, Own, Refresh, Flush, DropGuard, ReclaimAll, Close}
+use Rattle.papaya_grows.specs.Given.SchedulesDeclared.outcome.Outcome.TheVariants.{Done}
+use Rattle.papaya_grows.specs.Given.SchedulesAfter.{moment}
+use Rattle.papaya_grows.specs.Given.SchedulesEffects.{with_effect, with_effects, AtEachEffect}
+use Rattle.papaya_grows.specs.Given.SchedulesModel.{sets_in, things_in}
+use Rattle.papaya_grows.specs.Given.SchedulesMoment.{Moment}
+use Rattle.papaya_grows.specs.Given.CallersTogether.{IsOfSlots}
+use Rattle.papaya_grows.specs.Given.EffectsEffects.{effects_of, known_after}
+use Rattle.papaya_grows.specs.Given.EffectsKnown.{Known}
+use Rattle.papaya_grows.specs.Given.EffectsDeclared.acting.Acting.TheVariants as acts
+use Rattle.papaya_grows.specs.Given.ScenesDeclared.row.SlotCall.{SlotCall}
+use Rattle.papaya_grows.specs.Given.ScenesDeclared.row.SlotCall.TheVariants as call
+use Rattle.papaya_grows.specs.Given.MomentsWhole.{ShowsWhole}
+use Rattle.papaya_grows.proofs.Given.MomentsAfter.{effects_after}
+use Rattle.papaya_grows.specs.Given.PromisesProtected.{InMidst, is_of_slots}
+use Rattle.papaya_grows.specs.Given.PromisesSheltered.{SectionsHold}
+use Rattle.papaya_grows.proofs.Given.PromisesBrief.Meanwhile.{rows_keep_readings}
+use Rattle.papaya_grows.proofs.Given.PromisesProtected.{events_begin_protected, rows_begin_protect, rows_protect}
+use Rattle.papaya_grows.proofs.Given.PromisesWeights.{grants_add_up, operations_are_single}
+use Rattle.papaya_grows.specs.Given.ModelsFollows.{FollowsSets}
+use Rattle.papaya_grows.specs.Given.ModelsOnSlots.{FollowsInRow}
+use Rattle.papaya_grows.proofs.Given.ModelsMapEvents.{moments_note_once}
+use Rattle.papaya_grows.proofs.Given.ModelsOnSlots.{slot_events_begin, slot_events_go_on}
 use Rattle.papaya_legal.specs.SlotEvents.{SlotEventsBegin, SlotEventsGoOn}
-use Rattle.papaya_grows.specs.Given.Scenes.Rows.{request_of}
-use Rattle.papaya_grows.specs.Given.Scenes.Scene.{slot_of}
-use Rattle.papaya_grows.specs.Given.Schedules.Transition.{past}
+use Rattle.papaya_grows.specs.Given.ScenesRows.{request_of}
+use Rattle.papaya_grows.specs.Given.ScenesScene.{slot_of}
+use Rattle.papaya_grows.specs.Given.SchedulesTransition.{past}
 use Rattle.papaya_legal.proofs.OneStep.{rows_begin, rows_step}
 
 -- each row on a slot is one

@@ -2,41 +2,41 @@
 use Rattle.std.specs.Prelude.{◌≡◌, ℕ, ◌+◌, Bool, true, false, MatchBool, ◌&&◌, ◌||◌, not, List, [], ◌∷◌, ◌++◌, map, flat_map, Option, None}
 use Rattle.std.specs.List.{list_all, list_any}
 use Rattle.std.proofs.Common.{refl, ap, sym, subst, ◌∙◌}
-use Rattle.papaya_grows.specs.Given.SeizeWords.declared.fault.Fault.TheVariants.{Busy}
-use Rattle.papaya_grows.specs.Given.Schedules.declared.effect.Effect.{Effect}
-use Rattle.papaya_grows.specs.Given.Schedules.declared.effect.Effect.TheVariants.{Asked, Reclaimed}
-use Rattle.papaya_grows.specs.Given.Schedules.declared.effect.Growth.TheVariants.{ABucket}
-use Rattle.papaya_grows.specs.Given.Schedules.declared.event.Event.{Event}
-use Rattle.papaya_grows.specs.Given.Schedules.declared.event.Event.TheVariants.{Register, Unregister, Enter, Own, Refresh, Flush, DropGuard, ReclaimAll, Close}
-use Rattle.papaya_grows.specs.Given.Schedules.declared.outcome.Outcome.{Outcome}
-use Rattle.papaya_grows.specs.Given.Schedules.declared.outcome.Outcome.TheVariants.{Refused}
-use Rattle.papaya_grows.specs.Given.Schedules.After.{after, is_by, moment, moments_from}
-use Rattle.papaya_grows.specs.Given.Schedules.Beginning.{begun}
-use Rattle.papaya_grows.specs.Given.Schedules.Effects.{AtEachEffect, worked}
-use Rattle.papaya_grows.specs.Given.Schedules.Entry.{Entry, IfCall, acting, caller_of, is_busy, speaker}
-use Rattle.papaya_grows.specs.Given.Schedules.Handing.{AllFind, IsWhole, LeavesOf, asks_for_bucket, comes_clear, gives_all, is_granted, is_made, is_only, is_reclaiming, may_do, refuses}
-use Rattle.papaya_grows.specs.Given.Schedules.Linearizable.{shift_of}
-use Rattle.papaya_grows.specs.Given.Schedules.Lives.{Finds}
-use Rattle.papaya_grows.specs.Given.Schedules.Model.{IsByModel, back_by_model, number_in, thing_back, things_in}
-use Rattle.papaya_grows.specs.Given.Schedules.Moment.{UnderWay as CallThere, Moment}
-use Rattle.papaya_grows.specs.Given.Schedules.Reclaims.{IsProtected}
-use Rattle.papaya_grows.specs.Given.Schedules.Sequential.{Shift}
-use Rattle.papaya_grows.specs.Given.Schedules.Steps.{IsBrief}
-use Rattle.papaya_grows.specs.Given.Schedules.Terms.{Terms}
-use Rattle.papaya_grows.proofs.Given.Histories.OtherCalls.{no_calls_are_linearizable}
-use Rattle.papaya_grows.specs.Given.Models.Follows.{IsFollowed}
-use Rattle.papaya_grows.proofs.Given.Models.OnSlots.{slot_events_end}
-use Rattle.papaya_grows.specs.Given.Promises.Protected.{is_of_slots}
-use Rattle.papaya_grows.specs.Given.Promises.Sheltered.{SectionsHold}
-use Rattle.papaya_grows.proofs.Given.Promises.Protected.{slot_events_end_protected}
-use Rattle.papaya_grows.proofs.Given.Purposes.Nothing.{no_calls_are_swept}
-use Rattle.papaya_grows.proofs.Given.Spots.Unreclaimed.{and_both}
+use Rattle.papaya_grows.specs.Given.SeizeWordsDeclared.fault.Fault.TheVariants.{Busy}
+use Rattle.papaya_grows.specs.Given.SchedulesDeclared.effect.Effect.{Effect}
+use Rattle.papaya_grows.specs.Given.SchedulesDeclared.effect.Effect.TheVariants.{Asked, Reclaimed}
+use Rattle.papaya_grows.specs.Given.SchedulesDeclared.effect.Growth.TheVariants.{ABucket}
+use Rattle.papaya_grows.specs.Given.SchedulesDeclared.event.Event.{Event}
+use Rattle.papaya_grows.specs.Given.SchedulesDeclared.event.Event.TheVariants.{Register, Unregister, Enter, Own, Refresh, Flush, DropGuard, ReclaimAll, Close}
+use Rattle.papaya_grows.specs.Given.SchedulesDeclared.outcome.Outcome.{Outcome}
+use Rattle.papaya_grows.specs.Given.SchedulesDeclared.outcome.Outcome.TheVariants.{Refused}
+use Rattle.papaya_grows.specs.Given.SchedulesAfter.{after, is_by, moment, moments_from}
+use Rattle.papaya_grows.specs.Given.SchedulesBeginning.{begun}
+use Rattle.papaya_grows.specs.Given.SchedulesEffects.{AtEachEffect, worked}
+use Rattle.papaya_grows.specs.Given.SchedulesEntry.{Entry, IfCall, acting, caller_of, is_busy, speaker}
+use Rattle.papaya_grows.specs.Given.SchedulesHanding.{AllFind, IsWhole, LeavesOf, asks_for_bucket, comes_clear, gives_all, is_granted, is_made, is_only, is_reclaiming, may_do, refuses}
+use Rattle.papaya_grows.specs.Given.SchedulesLinearizable.{shift_of}
+use Rattle.papaya_grows.specs.Given.SchedulesLives.{Finds}
+use Rattle.papaya_grows.specs.Given.SchedulesModel.{IsByModel, back_by_model, number_in, thing_back, things_in}
+use Rattle.papaya_grows.specs.Given.SchedulesMoment.{UnderWay as CallThere, Moment}
+use Rattle.papaya_grows.specs.Given.SchedulesReclaims.{IsProtected}
+use Rattle.papaya_grows.specs.Given.SchedulesSequential.{Shift}
+use Rattle.papaya_grows.specs.Given.SchedulesSteps.{IsBrief}
+use Rattle.papaya_grows.specs.Given.SchedulesTerms.{Terms}
+use Rattle.papaya_grows.proofs.Given.HistoriesOtherCalls.{no_calls_are_linearizable}
+use Rattle.papaya_grows.specs.Given.ModelsFollows.{IsFollowed}
+use Rattle.papaya_grows.proofs.Given.ModelsOnSlots.{slot_events_end}
+use Rattle.papaya_grows.specs.Given.PromisesProtected.{is_of_slots}
+use Rattle.papaya_grows.specs.Given.PromisesSheltered.{SectionsHold}
+use Rattle.papaya_grows.proofs.Given.PromisesProtected.{slot_events_end_protected}
+use Rattle.papaya_grows.proofs.Given.PurposesNothing.{no_calls_are_swept}
+use Rattle.papaya_grows.proofs.Given.SpotsUnreclaimed.{and_both}
 use Rattle.papaya_legal.specs.CallEvents.{IsLegalBut}
 use Rattle.papaya_legal.specs.Carried.{ComesAlone}
 use Rattle.papaya_legal.specs.SlotEvents.{SlotEventsAreLegal}
-use Rattle.papaya_grows.specs.Given.Scenes.Rows.{request_of}
-use Rattle.papaya_grows.specs.Given.Scenes.Scene.{slot_of}
-use Rattle.papaya_grows.specs.Given.Schedules.Transition.{past, transition}
+use Rattle.papaya_grows.specs.Given.ScenesRows.{request_of}
+use Rattle.papaya_grows.specs.Given.ScenesScene.{slot_of}
+use Rattle.papaya_grows.specs.Given.SchedulesTransition.{past, transition}
 
 -- An event on slots acts for no call, and its effects bring no pair and take none out.
 

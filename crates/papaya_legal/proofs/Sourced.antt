@@ -2,38 +2,38 @@
 use Rattle.std.specs.Prelude.{◌≡◌, ◌≢◌, ℕ, ◌<◌, ◌≤◌, Bool, List, [], ◌∷◌, length, map, Option, Some, None}
 use Rattle.std.proofs.Common.{refl, ap, sym, subst, ◌∙◌, inl, inr, arith}
 use Rattle.std.proofs.lemmas.Bool.{cases_eq}
-use Rattle.papaya_grows.specs.Given.Seize.declared.progress.Progress.{Progress as Making}
-use Rattle.papaya_grows.specs.Given.Seize.declared.progress.Progress.TheVariants as progress
-use Rattle.papaya_grows.specs.Given.Tables.Chunks.{is_incremental}
-use Rattle.papaya_grows.specs.Given.Tables.declared.setting.Setting.{Setting}
-use Rattle.papaya_grows.specs.Given.Schedules.declared.effect.Effect.{Effect}
-use Rattle.papaya_grows.specs.Given.Schedules.declared.effect.Effect.TheVariants.{Reclaimed}
-use Rattle.papaya_grows.specs.Given.Schedules.declared.effect.Spot.{Spot}
-use Rattle.papaya_grows.specs.Given.Schedules.declared.effect.Table.{Table}
-use Rattle.papaya_grows.specs.Given.Schedules.declared.effect.Thing.{Thing}
-use Rattle.papaya_grows.specs.Given.Schedules.Effects.{with_effects}
-use Rattle.papaya_grows.specs.Given.Schedules.Moment.{MapThere, Moment}
-use Rattle.papaya_grows.specs.Given.Rule.Chart.{Tombstone, Chart}
-use Rattle.papaya_grows.proofs.Given.Callers.Together.At.{at_same, at_other}
-use Rattle.papaya_grows.specs.Given.Effects.Known.{Known}
-use Rattle.papaya_grows.specs.Given.Finishes.Makings.{Beginning, IsNewChart}
-use Rattle.papaya_grows.specs.Given.Finishes.Maps.{Standing, IsSameMap}
-use Rattle.papaya_grows.specs.Given.Follows.Shows.{Shows}
-use Rattle.papaya_grows.proofs.Given.Follows.Steps.{one_of}
-use Rattle.papaya_grows.specs.Given.Others.Makings.{making_after}
-use Rattle.papaya_grows.specs.Given.Moments.Numbers.{NumbersMaps}
-use Rattle.papaya_grows.proofs.Given.Moments.Numbers.{maps_come_by_number}
-use Rattle.papaya_grows.proofs.Given.Spots.Effects.{AllAside, aside_all}
-use Rattle.papaya_grows.specs.Given.Finds.Within.{many_of, AllIsInOrder}
-use Rattle.papaya_grows.specs.Given.Sources.Sources.{ShowsSources}
-use Rattle.papaya_grows.specs.Given.Sources.Stays.{StandsAsBefore, NoneBorn}
-use Rattle.papaya_grows.proofs.Given.Sources.New.{aside_stores_none}
-use Rattle.papaya_grows.proofs.Given.Sources.Stays.{sources_stay}
-use Rattle.papaya_grows.proofs.Given.Sources.Steps.{same_standing}
-use Rattle.papaya_grows.specs.Given.Scenes.Ending.{ending_begun}
-use Rattle.papaya_grows.specs.Given.Scenes.Held.{Held}
-use Rattle.papaya_grows.specs.Given.Scenes.Making.{MakingLeads}
-use Rattle.papaya_grows.specs.Given.Scenes.Scene.{Scene}
+use Rattle.papaya_grows.specs.Given.SeizeDeclared.progress.Progress.{Progress as Making}
+use Rattle.papaya_grows.specs.Given.SeizeDeclared.progress.Progress.TheVariants as progress
+use Rattle.papaya_grows.specs.Given.TablesChunks.{is_incremental}
+use Rattle.papaya_grows.specs.Given.TablesDeclared.setting.Setting.{Setting}
+use Rattle.papaya_grows.specs.Given.SchedulesDeclared.effect.Effect.{Effect}
+use Rattle.papaya_grows.specs.Given.SchedulesDeclared.effect.Effect.TheVariants.{Reclaimed}
+use Rattle.papaya_grows.specs.Given.SchedulesDeclared.effect.Spot.{Spot}
+use Rattle.papaya_grows.specs.Given.SchedulesDeclared.effect.Table.{Table}
+use Rattle.papaya_grows.specs.Given.SchedulesDeclared.effect.Thing.{Thing}
+use Rattle.papaya_grows.specs.Given.SchedulesEffects.{with_effects}
+use Rattle.papaya_grows.specs.Given.SchedulesMoment.{MapThere, Moment}
+use Rattle.papaya_grows.specs.Given.RuleChart.{Tombstone, Chart}
+use Rattle.papaya_grows.proofs.Given.CallersTogether.At.{at_same, at_other}
+use Rattle.papaya_grows.specs.Given.EffectsKnown.{Known}
+use Rattle.papaya_grows.specs.Given.FinishesMakings.{Beginning, IsNewChart}
+use Rattle.papaya_grows.specs.Given.FinishesMaps.{Standing, IsSameMap}
+use Rattle.papaya_grows.specs.Given.FollowsShows.{Shows}
+use Rattle.papaya_grows.proofs.Given.FollowsSteps.{one_of}
+use Rattle.papaya_grows.specs.Given.OthersMakings.{making_after}
+use Rattle.papaya_grows.specs.Given.MomentsNumbers.{NumbersMaps}
+use Rattle.papaya_grows.proofs.Given.MomentsNumbers.{maps_come_by_number}
+use Rattle.papaya_grows.proofs.Given.SpotsEffects.{AllAside, aside_all}
+use Rattle.papaya_grows.specs.Given.FindsWithin.{many_of, AllIsInOrder}
+use Rattle.papaya_grows.specs.Given.SourcesSources.{ShowsSources}
+use Rattle.papaya_grows.specs.Given.SourcesStays.{StandsAsBefore, NoneBorn}
+use Rattle.papaya_grows.proofs.Given.SourcesNew.{aside_stores_none}
+use Rattle.papaya_grows.proofs.Given.SourcesStays.{sources_stay}
+use Rattle.papaya_grows.proofs.Given.SourcesSteps.{same_standing}
+use Rattle.papaya_grows.specs.Given.ScenesEnding.{ending_begun}
+use Rattle.papaya_grows.specs.Given.ScenesHeld.{Held}
+use Rattle.papaya_grows.specs.Given.ScenesMaking.{MakingLeads}
+use Rattle.papaya_grows.specs.Given.ScenesScene.{Scene}
 
 -- where the end of a map begins, each other one stands as it did
 pub ends_leave : {K V : Type 0} (s : Scene K V) (map i : ℕ) (standing : Standing K) (n : ℕ) (st : Standing K) → (ending_begun map i standing s).maps n ≡ Some st → s.maps n ≡ Some st

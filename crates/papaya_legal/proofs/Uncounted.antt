@@ -1,23 +1,23 @@
 -- Nothing is counted on a map of a number that none has had yet, whatever is done.
 use Rattle.std.specs.Prelude.{◌≡◌, ◌≢◌, ◌<◌, ◌≤◌, ℕ, Bool, List, [], ◌∷◌, Option, Some}
 use Rattle.std.proofs.Common.{refl, ap, ◌∙◌, arith}
-use Rattle.papaya_grows.specs.Given.Tables.declared.node.Node.{Node}
-use Rattle.papaya_grows.specs.Given.Raw.declared.machines.progress.Progress.{Progress}
-use Rattle.papaya_grows.specs.Given.Schedules.declared.effect.Effect.{Effect}
-use Rattle.papaya_grows.specs.Given.Schedules.Effects.{with_effect, with_effects}
-use Rattle.papaya_grows.specs.Given.Schedules.Moment.{Moment}
-use Rattle.papaya_grows.specs.Given.Callers.Together.{UnderWay}
-use Rattle.papaya_grows.specs.Given.Effects.Effects.{effects_of}
-use Rattle.papaya_grows.specs.Given.Effects.Known.{Known}
-use Rattle.papaya_grows.specs.Given.Effects.declared.acting.Acting.TheVariants as acts
-use Rattle.papaya_grows.specs.Given.Moments.Whole.{ShowsWhole}
-use Rattle.papaya_grows.specs.Given.Kept.Kept.{ShowsKept}
-use Rattle.papaya_grows.specs.Given.Shards.ShardWords.{ShowsCounters}
-use Rattle.papaya_grows.proofs.Given.Shards.ShardNumbers.{calls_spare_others}
+use Rattle.papaya_grows.specs.Given.TablesDeclared.node.Node.{Node}
+use Rattle.papaya_grows.specs.Given.RawDeclared.machines.progress.Progress.{Progress}
+use Rattle.papaya_grows.specs.Given.SchedulesDeclared.effect.Effect.{Effect}
+use Rattle.papaya_grows.specs.Given.SchedulesEffects.{with_effect, with_effects}
+use Rattle.papaya_grows.specs.Given.SchedulesMoment.{Moment}
+use Rattle.papaya_grows.specs.Given.CallersTogether.{UnderWay}
+use Rattle.papaya_grows.specs.Given.EffectsEffects.{effects_of}
+use Rattle.papaya_grows.specs.Given.EffectsKnown.{Known}
+use Rattle.papaya_grows.specs.Given.EffectsDeclared.acting.Acting.TheVariants as acts
+use Rattle.papaya_grows.specs.Given.MomentsWhole.{ShowsWhole}
+use Rattle.papaya_grows.specs.Given.KeptKept.{ShowsKept}
+use Rattle.papaya_grows.specs.Given.ShardsShardWords.{ShowsCounters}
+use Rattle.papaya_grows.proofs.Given.ShardsShardNumbers.{calls_spare_others}
 use Rattle.papaya_legal.specs.Carried.{NoneCounted}
-use Rattle.papaya_grows.specs.Given.Scenes.Held.{Held, IsAt}
-use Rattle.papaya_grows.specs.Given.Scenes.Scene.{Scene}
-use Rattle.papaya_grows.specs.Given.Scenes.Stepping.{StepLeads}
+use Rattle.papaya_grows.specs.Given.ScenesHeld.{Held, IsAt}
+use Rattle.papaya_grows.specs.Given.ScenesScene.{Scene}
+use Rattle.papaya_grows.specs.Given.ScenesStepping.{StepLeads}
 
 -- no effect makes a map
 module _ {K V : Type 0} (caller : Option (List ℕ)) (acted : Option ℕ) where

@@ -1,51 +1,51 @@
 -- Events that reclaim all: in the midst of one, wherever a chain of its steps has led, and at its end.
 use Rattle.std.specs.Prelude.{◌≡◌, ◌⊎◌, ◌<◌, ◌^◌, ℕ, Bool, true, false, List, [], ◌∷◌, ◌++◌, Option, None, flat_map, map, if◌then◌else◌}
 use Rattle.std.specs.List.{list_all}
-use Rattle.papaya_grows.specs.Given.Seize.ReclaimAll.{clearing, reclaiming_all}
-use Rattle.papaya_grows.specs.Given.Seize.Sequence.{taken_in}
-use Rattle.papaya_grows.specs.Given.Seize.WaitingSets.{Change}
-use Rattle.papaya_grows.specs.Given.Seize.World.{World, times}
-use Rattle.papaya_grows.specs.Given.Seize.declared.rows.reclaim_all.ReclaimAll.{ReclaimAll}
-use Rattle.papaya_grows.specs.Given.Seize.declared.rows.settle.Settled.{Settled}
-use Rattle.papaya_grows.specs.Given.Seize.declared.rows.settle.Settled.TheVariants as settled
-use Rattle.papaya_grows.specs.Given.SeizeSets.Reclaims.{is_on_slots}
-use Rattle.papaya_grows.specs.Given.Tables.Nodes.{deferred_word}
-use Rattle.papaya_grows.specs.Given.Tables.declared.node.Node.{Node}
-use Rattle.papaya_grows.specs.Given.Schedules.declared.effect.Effect.{Effect}
-use Rattle.papaya_grows.specs.Given.Schedules.declared.effect.Effect.TheVariants.{Reclaimed}
-use Rattle.papaya_grows.specs.Given.Schedules.declared.effect.Thing.TheVariants.{APair}
-use Rattle.papaya_grows.specs.Given.Schedules.declared.event.Event.{Event}
-use Rattle.papaya_grows.specs.Given.Schedules.declared.outcome.Outcome.TheVariants.{Done}
-use Rattle.papaya_grows.specs.Given.Schedules.After.{moment}
-use Rattle.papaya_grows.specs.Given.Schedules.Effects.{with_effects, AtEachEffect}
-use Rattle.papaya_grows.specs.Given.Schedules.Entry.{Entry}
-use Rattle.papaya_grows.specs.Given.Schedules.Handing.{gives_all, is_granted, is_reclaiming}
-use Rattle.papaya_grows.specs.Given.Schedules.InTurn.{ComesRight}
-use Rattle.papaya_grows.specs.Given.Schedules.Lives.{MayReclaim}
-use Rattle.papaya_grows.specs.Given.Schedules.Model.{all_left, thing_back}
-use Rattle.papaya_grows.specs.Given.Schedules.Moment.{Left, Moment}
-use Rattle.papaya_grows.specs.Given.Schedules.Terms.{Terms}
-use Rattle.papaya_grows.specs.Given.Effects.Effects.{effects_of, known_after}
-use Rattle.papaya_grows.specs.Given.Effects.Known.{Known}
-use Rattle.papaya_grows.specs.Given.Effects.declared.acting.Acting.TheVariants as acts
-use Rattle.papaya_grows.specs.Given.Effects.declared.role.Role.TheVariants as role
-use Rattle.papaya_grows.specs.Given.Finishes.Maps.{Standing}
-use Rattle.papaya_grows.specs.Given.Moments.OnSlots.{HadRetired}
-use Rattle.papaya_grows.specs.Given.SeizeReclaims.Roots.{all_lists}
-use Rattle.papaya_grows.specs.Given.Scenes.Reclaiming.{IsReclaiming, ReclaimingLeads}
-use Rattle.papaya_grows.specs.Given.Promises.Reading.{ShowsReading}
-use Rattle.papaya_grows.specs.Given.Models.Follows.{FollowsModel}
-use Rattle.papaya_grows.specs.Given.Models.Numbers.{EachIsOnce, things_of}
-use Rattle.papaya_grows.specs.Given.Models.Reclaims.{HasReclaimed}
-use Rattle.papaya_grows.specs.Given.Models.Turns.{CameByTurns}
-use Rattle.papaya_grows.specs.Given.Finds.Little.{ReclaimsAll}
-use Rattle.papaya_grows.specs.Given.Finds.Orderly.{is_left_over}
+use Rattle.papaya_grows.specs.Given.SeizeReclaimAll.{clearing, reclaiming_all}
+use Rattle.papaya_grows.specs.Given.SeizeSequence.{taken_in}
+use Rattle.papaya_grows.specs.Given.SeizeWaitingSets.{Change}
+use Rattle.papaya_grows.specs.Given.SeizeWorld.{World, times}
+use Rattle.papaya_grows.specs.Given.SeizeDeclared.rows.reclaim_all.ReclaimAll.{ReclaimAll}
+use Rattle.papaya_grows.specs.Given.SeizeDeclared.rows.settle.Settled.{Settled}
+use Rattle.papaya_grows.specs.Given.SeizeDeclared.rows.settle.Settled.TheVariants as settled
+use Rattle.papaya_grows.specs.Given.SeizeSetsReclaims.{is_on_slots}
+use Rattle.papaya_grows.specs.Given.TablesNodes.{deferred_word}
+use Rattle.papaya_grows.specs.Given.TablesDeclared.node.Node.{Node}
+use Rattle.papaya_grows.specs.Given.SchedulesDeclared.effect.Effect.{Effect}
+use Rattle.papaya_grows.specs.Given.SchedulesDeclared.effect.Effect.TheVariants.{Reclaimed}
+use Rattle.papaya_grows.specs.Given.SchedulesDeclared.effect.Thing.TheVariants.{APair}
+use Rattle.papaya_grows.specs.Given.SchedulesDeclared.event.Event.{Event}
+use Rattle.papaya_grows.specs.Given.SchedulesDeclared.outcome.Outcome.TheVariants.{Done}
+use Rattle.papaya_grows.specs.Given.SchedulesAfter.{moment}
+use Rattle.papaya_grows.specs.Given.SchedulesEffects.{with_effects, AtEachEffect}
+use Rattle.papaya_grows.specs.Given.SchedulesEntry.{Entry}
+use Rattle.papaya_grows.specs.Given.SchedulesHanding.{gives_all, is_granted, is_reclaiming}
+use Rattle.papaya_grows.specs.Given.SchedulesInTurn.{ComesRight}
+use Rattle.papaya_grows.specs.Given.SchedulesLives.{MayReclaim}
+use Rattle.papaya_grows.specs.Given.SchedulesModel.{all_left, thing_back}
+use Rattle.papaya_grows.specs.Given.SchedulesMoment.{Left, Moment}
+use Rattle.papaya_grows.specs.Given.SchedulesTerms.{Terms}
+use Rattle.papaya_grows.specs.Given.EffectsEffects.{effects_of, known_after}
+use Rattle.papaya_grows.specs.Given.EffectsKnown.{Known}
+use Rattle.papaya_grows.specs.Given.EffectsDeclared.acting.Acting.TheVariants as acts
+use Rattle.papaya_grows.specs.Given.EffectsDeclared.role.Role.TheVariants as role
+use Rattle.papaya_grows.specs.Given.FinishesMaps.{Standing}
+use Rattle.papaya_grows.specs.Given.MomentsOnSlots.{HadRetired}
+use Rattle.papaya_grows.specs.Given.SeizeReclaimsRoots.{all_lists}
+use Rattle.papaya_grows.specs.Given.ScenesReclaiming.{IsReclaiming, ReclaimingLeads}
+use Rattle.papaya_grows.specs.Given.PromisesReading.{ShowsReading}
+use Rattle.papaya_grows.specs.Given.ModelsFollows.{FollowsModel}
+use Rattle.papaya_grows.specs.Given.ModelsNumbers.{EachIsOnce, things_of}
+use Rattle.papaya_grows.specs.Given.ModelsReclaims.{HasReclaimed}
+use Rattle.papaya_grows.specs.Given.ModelsTurns.{CameByTurns}
+use Rattle.papaya_grows.specs.Given.FindsLittle.{ReclaimsAll}
+use Rattle.papaya_grows.specs.Given.FindsOrderly.{is_left_over}
 use Rattle.papaya_legal.specs.CallEvents.{IsLegalBut}
 use Rattle.papaya_legal.specs.Carried.{ComesAlone, LeftIsTold, ShowsCalls, ShowsRun}
 use Rattle.papaya_legal.specs.Chains.{Chain, Come}
-use Rattle.papaya_grows.specs.Given.Scenes.Held.{Held}
-use Rattle.papaya_grows.specs.Given.Scenes.Scene.{Scene}
-use Rattle.papaya_grows.specs.Given.Schedules.Transition.{past}
+use Rattle.papaya_grows.specs.Given.ScenesHeld.{Held}
+use Rattle.papaya_grows.specs.Given.ScenesScene.{Scene}
+use Rattle.papaya_grows.specs.Given.SchedulesTransition.{past}
 
 -- How far an event has come that reclaims all: as events do, with its machine, and with these lists behind the roots still.
 pub record AllCome (K V : Type 0) : Type 0 where

@@ -1,41 +1,41 @@
 -- Between the steps of events what a moment shows of calls is so on: where a call begins, takes a reply, goes on as a walk, or is given up; where a map comes, or goes; by other names of callers that
 -- have no call; at a moment that is like it; and where an event is over.
 use Rattle.std.specs.Prelude.{◌≡◌, ℕ, Bool, true, false, List, Option, Some, None, Ok, suc}
-use Rattle.papaya_grows.specs.Given.Seize.World.{Rests, with_at}
-use Rattle.papaya_grows.specs.Given.Runs.Same.{is_same}
-use Rattle.papaya_grows.specs.Given.Schedules.declared.call.Call.{Call}
-use Rattle.papaya_grows.specs.Given.Schedules.declared.call.Call.TheVariants.{On}
-use Rattle.papaya_grows.specs.Given.Schedules.declared.call.OneKey.{OneKey}
-use Rattle.papaya_grows.specs.Given.Schedules.declared.call.Reply.{Reply}
-use Rattle.papaya_grows.specs.Given.Schedules.Beginning.{with_call, with_map}
-use Rattle.papaya_grows.specs.Given.Schedules.Moment.{UnderWay as CallThere, Asking, MapThere, Remains, Moment}
-use Rattle.papaya_grows.specs.Given.Schedules.Views.{call_of, map_at}
-use Rattle.papaya_grows.specs.Given.Sweeps.SweepPoints.{after_next}
-use Rattle.papaya_grows.specs.Given.Raw.Machine.{machine_replied}
-use Rattle.papaya_grows.specs.Given.Callers.OverAll.{CallOverAll, gone_on}
-use Rattle.papaya_grows.specs.Given.Callers.Together.{UnderWay, OverAll}
-use Rattle.papaya_grows.specs.Given.Effects.Known.{Known}
-use Rattle.papaya_grows.specs.Given.Finishes.Machines.{machine_of, ToldOfKind}
-use Rattle.papaya_grows.specs.Given.Finishes.Makings.{Beginning, HasMade}
-use Rattle.papaya_grows.specs.Given.Finishes.Maps.{Standing, with_call as with_call_of}
-use Rattle.papaya_grows.specs.Given.Follows.Calling.{NoneNamed, told}
-use Rattle.papaya_grows.specs.Given.Follows.Calls.{IsCalled}
-use Rattle.papaya_grows.specs.Given.Hands.Asked.{as_told}
-use Rattle.papaya_grows.specs.Given.Hands.Calling.{IsBegunFor}
-use Rattle.papaya_grows.specs.Given.Others.Endings.{without_map}
-use Rattle.papaya_grows.specs.Given.Others.Walks.{given_up}
-use Rattle.papaya_grows.specs.Given.Histories.AsCalled.{IsBegunAs}
-use Rattle.papaya_grows.specs.Given.Histories.Changes.{IsTaken}
-use Rattle.papaya_grows.specs.Given.Promises.Meanwhile.{BeginsToLook}
-use Rattle.papaya_grows.specs.Given.Purposes.Purposes.{IsFor}
-use Rattle.papaya_grows.specs.Given.Shards.ShardWords.{IsUncounted}
+use Rattle.papaya_grows.specs.Given.SeizeWorld.{Rests, with_at}
+use Rattle.papaya_grows.specs.Given.RunsSame.{is_same}
+use Rattle.papaya_grows.specs.Given.SchedulesDeclared.call.Call.{Call}
+use Rattle.papaya_grows.specs.Given.SchedulesDeclared.call.Call.TheVariants.{On}
+use Rattle.papaya_grows.specs.Given.SchedulesDeclared.call.OneKey.{OneKey}
+use Rattle.papaya_grows.specs.Given.SchedulesDeclared.call.Reply.{Reply}
+use Rattle.papaya_grows.specs.Given.SchedulesBeginning.{with_call, with_map}
+use Rattle.papaya_grows.specs.Given.SchedulesMoment.{UnderWay as CallThere, Asking, MapThere, Remains, Moment}
+use Rattle.papaya_grows.specs.Given.SchedulesViews.{call_of, map_at}
+use Rattle.papaya_grows.specs.Given.SweepsSweepPoints.{after_next}
+use Rattle.papaya_grows.specs.Given.RawMachine.{machine_replied}
+use Rattle.papaya_grows.specs.Given.CallersOverAll.{CallOverAll, gone_on}
+use Rattle.papaya_grows.specs.Given.CallersTogether.{UnderWay, OverAll}
+use Rattle.papaya_grows.specs.Given.EffectsKnown.{Known}
+use Rattle.papaya_grows.specs.Given.FinishesMachines.{machine_of, ToldOfKind}
+use Rattle.papaya_grows.specs.Given.FinishesMakings.{Beginning, HasMade}
+use Rattle.papaya_grows.specs.Given.FinishesMaps.{Standing, with_call as with_call_of}
+use Rattle.papaya_grows.specs.Given.FollowsCalling.{NoneNamed, told}
+use Rattle.papaya_grows.specs.Given.FollowsCalls.{IsCalled}
+use Rattle.papaya_grows.specs.Given.HandsAsked.{as_told}
+use Rattle.papaya_grows.specs.Given.HandsCalling.{IsBegunFor}
+use Rattle.papaya_grows.specs.Given.OthersEndings.{without_map}
+use Rattle.papaya_grows.specs.Given.OthersWalks.{given_up}
+use Rattle.papaya_grows.specs.Given.HistoriesAsCalled.{IsBegunAs}
+use Rattle.papaya_grows.specs.Given.HistoriesChanges.{IsTaken}
+use Rattle.papaya_grows.specs.Given.PromisesMeanwhile.{BeginsToLook}
+use Rattle.papaya_grows.specs.Given.PurposesPurposes.{IsFor}
+use Rattle.papaya_grows.specs.Given.ShardsShardWords.{IsUncounted}
 use Rattle.papaya_legal.specs.Carried.{ShowsCalls}
-use Rattle.papaya_grows.specs.Given.Scenes.Beginning.{Begins}
-use Rattle.papaya_grows.specs.Given.Scenes.Ending.{ending_begun}
-use Rattle.papaya_grows.specs.Given.Scenes.Held.{Held, IsAt}
-use Rattle.papaya_grows.specs.Given.Scenes.Replying.{AskLeads, StopLeads, scene_with, unless_stopped}
-use Rattle.papaya_grows.specs.Given.Scenes.Scene.{HasCall, Scene, slot_of}
-use Rattle.papaya_grows.specs.Given.Schedules.Transition.{Past, further}
+use Rattle.papaya_grows.specs.Given.ScenesBeginning.{Begins}
+use Rattle.papaya_grows.specs.Given.ScenesEnding.{ending_begun}
+use Rattle.papaya_grows.specs.Given.ScenesHeld.{Held, IsAt}
+use Rattle.papaya_grows.specs.Given.ScenesReplying.{AskLeads, StopLeads, scene_with, unless_stopped}
+use Rattle.papaya_grows.specs.Given.ScenesScene.{HasCall, Scene, slot_of}
+use Rattle.papaya_grows.specs.Given.SchedulesTransition.{Past, further}
 
 -- the moment is like another one, of which it has the calls, the pairs, the maps and the tables
 abbrev pub IsLike : {K V : Type 0} → Moment K V → Moment K V → Type 0

@@ -1,67 +1,67 @@
 -- Events in which a call takes steps: in the midst of one, and at its end.
 use Rattle.std.specs.Prelude.{◌≡◌, ◌⊎◌, ◌≢◌, ◌≤◌, ℕ, ◌+◌, ◌==◌, Bool, true, false, List, [], ◌∷◌, ◌++◌, Some, if◌then◌else◌, not, ◌||◌}
 use Rattle.std.specs.List.{list_all, list_any}
-use Rattle.papaya_grows.specs.Given.SeizeWaiting.Held.{count}
-use Rattle.papaya_grows.specs.Given.Seize.World.{World, Rests, Request, Begin, Step, Happens}
-use Rattle.papaya_grows.specs.Given.Tables.Nodes.{deferred_word}
-use Rattle.papaya_grows.specs.Given.Tables.declared.node.Node.{Node}
-use Rattle.papaya_grows.specs.Given.Raw.declared.machines.progress.Progress.{Progress}
-use Rattle.papaya_grows.specs.Given.Schedules.declared.effect.Effect.{Effect}
-use Rattle.papaya_grows.specs.Given.Schedules.declared.call.Call.{Call}
-use Rattle.papaya_grows.specs.Given.Schedules.declared.event.Event.{Event}
-use Rattle.papaya_grows.specs.Given.Schedules.declared.event.Event.TheVariants.{OneCall, Next}
-use Rattle.papaya_grows.specs.Given.Schedules.After.{moment, moments_from, after}
-use Rattle.papaya_grows.specs.Given.Schedules.Beginning.{at_work, fresh_call, with_call}
-use Rattle.papaya_grows.specs.Given.Schedules.Effects.{with_effects, AtEachEffect, worked}
-use Rattle.papaya_grows.specs.Given.Schedules.Entry.{Entry, acted_on, caller_of, ends_call, IfCall, acting, is_busy, nameless}
-use Rattle.papaya_grows.specs.Given.Schedules.Handing.{MovesOn, is_call_effect, is_granted, LeavesOf, comes_clear, is_made, refuses}
-use Rattle.papaya_grows.specs.Given.Schedules.InTurn.{ComesRight}
-use Rattle.papaya_grows.specs.Given.Schedules.Linearizable.{IsLinearizable}
-use Rattle.papaya_grows.specs.Given.Schedules.Model.{IsByModel, sets_in, things_in}
-use Rattle.papaya_grows.specs.Given.Schedules.Moment.{UnderWay as CallThere, Moment}
-use Rattle.papaya_grows.specs.Given.Schedules.Reclaims.{IsProtected}
-use Rattle.papaya_grows.specs.Given.Schedules.Steps.{ReadsBriefly}
-use Rattle.papaya_grows.specs.Given.Schedules.Sweeps.{IsSwept}
-use Rattle.papaya_grows.specs.Given.Schedules.Terms.{Terms}
-use Rattle.papaya_grows.specs.Given.Runs.Log.{pair_at}
-use Rattle.papaya_grows.specs.Given.Schedules.Views.{call_of, finite_map, is_in_map}
-use Rattle.papaya_grows.specs.Given.Sweeps.SweepPoints.{after_next}
-use Rattle.papaya_grows.specs.Given.Callers.OverAll.{CallOverAll, gone_on}
-use Rattle.papaya_grows.specs.Given.Callers.Together.{UnderWay, OverAll, HandsOver}
-use Rattle.papaya_grows.specs.Given.Effects.Effects.{effects_of, known_after}
-use Rattle.papaya_grows.specs.Given.Effects.Known.{Known}
-use Rattle.papaya_grows.specs.Given.Effects.declared.acting.Acting.TheVariants as acts
-use Rattle.papaya_grows.specs.Given.Finishes.Maps.{Standing}
-use Rattle.papaya_grows.specs.Given.Histories.InEvent.{ComesSo, InEvent, here_of}
-use Rattle.papaya_grows.specs.Given.Promises.Protected.{InMidst}
-use Rattle.papaya_grows.specs.Given.Promises.Reading.{ShowsReading, looks}
-use Rattle.papaya_grows.specs.Given.Promises.Weights.{AreDoneBy}
-use Rattle.papaya_grows.specs.Given.Histories.Kept.{HasJustBegun}
-use Rattle.papaya_grows.specs.Given.Purposes.Kept.{ShowsNone}
-use Rattle.papaya_grows.specs.Given.Purposes.Shards.{NoneCounted as NoneAdded}
-use Rattle.papaya_grows.specs.Given.Shards.ShardSteps.{AddsUp}
-use Rattle.papaya_grows.specs.Given.Models.CallEvents.{FollowsInEvent, IsNoted, things_then, slot_of_call}
-use Rattle.papaya_grows.specs.Given.Finds.Doing.{takes_steps}
-use Rattle.papaya_grows.specs.Given.Finds.Life.{StoresOne}
-use Rattle.papaya_grows.specs.Given.Finds.Parts.{FindAll}
-use Rattle.papaya_grows.specs.Given.Histories.Questions.{ShowsQuestions, EventAsksStill}
-use Rattle.papaya_grows.specs.Given.Promises.Sheltered.{SectionsHold}
-use Rattle.papaya_grows.specs.Given.Finds.Little.{ReclaimsAll}
-use Rattle.papaya_grows.specs.Given.Follows.Calling.{come_to, NoneNamed}
-use Rattle.papaya_grows.specs.Given.Purposes.Purposes.{ShowsPurposes}
-use Rattle.papaya_grows.specs.Given.Purposes.Tableless.{TablelessUncounted}
+use Rattle.papaya_grows.specs.Given.SeizeWaitingHeld.{count}
+use Rattle.papaya_grows.specs.Given.SeizeWorld.{World, Rests, Request, Begin, Step, Happens}
+use Rattle.papaya_grows.specs.Given.TablesNodes.{deferred_word}
+use Rattle.papaya_grows.specs.Given.TablesDeclared.node.Node.{Node}
+use Rattle.papaya_grows.specs.Given.RawDeclared.machines.progress.Progress.{Progress}
+use Rattle.papaya_grows.specs.Given.SchedulesDeclared.effect.Effect.{Effect}
+use Rattle.papaya_grows.specs.Given.SchedulesDeclared.call.Call.{Call}
+use Rattle.papaya_grows.specs.Given.SchedulesDeclared.event.Event.{Event}
+use Rattle.papaya_grows.specs.Given.SchedulesDeclared.event.Event.TheVariants.{OneCall, Next}
+use Rattle.papaya_grows.specs.Given.SchedulesAfter.{moment, moments_from, after}
+use Rattle.papaya_grows.specs.Given.SchedulesBeginning.{at_work, fresh_call, with_call}
+use Rattle.papaya_grows.specs.Given.SchedulesEffects.{with_effects, AtEachEffect, worked}
+use Rattle.papaya_grows.specs.Given.SchedulesEntry.{Entry, acted_on, caller_of, ends_call, IfCall, acting, is_busy, nameless}
+use Rattle.papaya_grows.specs.Given.SchedulesHanding.{MovesOn, is_call_effect, is_granted, LeavesOf, comes_clear, is_made, refuses}
+use Rattle.papaya_grows.specs.Given.SchedulesInTurn.{ComesRight}
+use Rattle.papaya_grows.specs.Given.SchedulesLinearizable.{IsLinearizable}
+use Rattle.papaya_grows.specs.Given.SchedulesModel.{IsByModel, sets_in, things_in}
+use Rattle.papaya_grows.specs.Given.SchedulesMoment.{UnderWay as CallThere, Moment}
+use Rattle.papaya_grows.specs.Given.SchedulesReclaims.{IsProtected}
+use Rattle.papaya_grows.specs.Given.SchedulesSteps.{ReadsBriefly}
+use Rattle.papaya_grows.specs.Given.SchedulesSweeps.{IsSwept}
+use Rattle.papaya_grows.specs.Given.SchedulesTerms.{Terms}
+use Rattle.papaya_grows.specs.Given.RunsLog.{pair_at}
+use Rattle.papaya_grows.specs.Given.SchedulesViews.{call_of, finite_map, is_in_map}
+use Rattle.papaya_grows.specs.Given.SweepsSweepPoints.{after_next}
+use Rattle.papaya_grows.specs.Given.CallersOverAll.{CallOverAll, gone_on}
+use Rattle.papaya_grows.specs.Given.CallersTogether.{UnderWay, OverAll, HandsOver}
+use Rattle.papaya_grows.specs.Given.EffectsEffects.{effects_of, known_after}
+use Rattle.papaya_grows.specs.Given.EffectsKnown.{Known}
+use Rattle.papaya_grows.specs.Given.EffectsDeclared.acting.Acting.TheVariants as acts
+use Rattle.papaya_grows.specs.Given.FinishesMaps.{Standing}
+use Rattle.papaya_grows.specs.Given.HistoriesInEvent.{ComesSo, InEvent, here_of}
+use Rattle.papaya_grows.specs.Given.PromisesProtected.{InMidst}
+use Rattle.papaya_grows.specs.Given.PromisesReading.{ShowsReading, looks}
+use Rattle.papaya_grows.specs.Given.PromisesWeights.{AreDoneBy}
+use Rattle.papaya_grows.specs.Given.HistoriesKept.{HasJustBegun}
+use Rattle.papaya_grows.specs.Given.PurposesKept.{ShowsNone}
+use Rattle.papaya_grows.specs.Given.PurposesShards.{NoneCounted as NoneAdded}
+use Rattle.papaya_grows.specs.Given.ShardsShardSteps.{AddsUp}
+use Rattle.papaya_grows.specs.Given.ModelsCallEvents.{FollowsInEvent, IsNoted, things_then, slot_of_call}
+use Rattle.papaya_grows.specs.Given.FindsDoing.{takes_steps}
+use Rattle.papaya_grows.specs.Given.FindsLife.{StoresOne}
+use Rattle.papaya_grows.specs.Given.FindsParts.{FindAll}
+use Rattle.papaya_grows.specs.Given.HistoriesQuestions.{ShowsQuestions, EventAsksStill}
+use Rattle.papaya_grows.specs.Given.PromisesSheltered.{SectionsHold}
+use Rattle.papaya_grows.specs.Given.FindsLittle.{ReclaimsAll}
+use Rattle.papaya_grows.specs.Given.FollowsCalling.{come_to, NoneNamed}
+use Rattle.papaya_grows.specs.Given.PurposesPurposes.{ShowsPurposes}
+use Rattle.papaya_grows.specs.Given.PurposesTableless.{TablelessUncounted}
 use Rattle.papaya_legal.specs.Between.{IsBegunRight}
 use Rattle.papaya_legal.specs.Carried.{ComesAlone, FollowsOrRows, ShowsCalls, ShowsRun}
 use Rattle.papaya_grows.specs.Limits.{OthersHadLimit}
-use Rattle.papaya_grows.specs.Given.Finds.Within.{many_of}
+use Rattle.papaya_grows.specs.Given.FindsWithin.{many_of}
 use Rattle.papaya_grows.specs.Nexts.{OthersHadNext}
 use Rattle.papaya_grows.specs.Tries.{OthersHadTried}
-use Rattle.papaya_grows.specs.Given.Scenes.Beginning.{Begins}
-use Rattle.papaya_grows.specs.Given.Scenes.Held.{Held, IsAt}
-use Rattle.papaya_grows.specs.Given.Scenes.Replying.{AskLeads, scene_with}
-use Rattle.papaya_grows.specs.Given.Scenes.Scene.{Scene, slot_of}
-use Rattle.papaya_grows.specs.Given.Scenes.Stepping.{StepLeads, has_ended, scene_after}
-use Rattle.papaya_grows.specs.Given.Schedules.Transition.{past}
+use Rattle.papaya_grows.specs.Given.ScenesBeginning.{Begins}
+use Rattle.papaya_grows.specs.Given.ScenesHeld.{Held, IsAt}
+use Rattle.papaya_grows.specs.Given.ScenesReplying.{AskLeads, scene_with}
+use Rattle.papaya_grows.specs.Given.ScenesScene.{Scene, slot_of}
+use Rattle.papaya_grows.specs.Given.ScenesStepping.{StepLeads, has_ended, scene_after}
+use Rattle.papaya_grows.specs.Given.SchedulesTransition.{past}
 
 -- each pair that is in this map is the one of its class there
 abbrev pub EachIsItsOwn : {K V : Type 0} → (K → K → Bool) → ℕ → Moment K V → Type 0

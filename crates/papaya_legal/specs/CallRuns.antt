@@ -1,46 +1,46 @@
 -- An event of a call, from its last step on: it is legal but for what it comes to, and a run goes on with it.
 use Rattle.std.specs.Prelude.{◌≡◌, ◌⊎◌, ◌≤◌, ℕ, ◌+◌, Bool, true, false, List, [], ◌∷◌, ◌++◌, Some, not, ◌||◌}
 use Rattle.std.specs.List.{list_any}
-use Rattle.papaya_grows.specs.Given.SeizeWaiting.Held.{count}
-use Rattle.papaya_grows.specs.Given.Seize.World.{World, Request, Begin, Step, Happens}
-use Rattle.papaya_grows.specs.Given.Tables.Nodes.{deferred_word}
-use Rattle.papaya_grows.specs.Given.Tables.declared.node.Node.{Node}
-use Rattle.papaya_grows.specs.Given.Raw.declared.machines.progress.Progress.{Progress}
-use Rattle.papaya_grows.specs.Given.Raw.declared.machines.progress.Progress.TheVariants as progress
-use Rattle.papaya_grows.specs.Given.Schedules.declared.effect.Effect.{Effect}
-use Rattle.papaya_grows.specs.Given.Schedules.declared.outcome.Outcome.{Outcome}
-use Rattle.papaya_grows.specs.Given.Schedules.declared.outcome.Outcome.TheVariants as outcome
-use Rattle.papaya_grows.specs.Given.Schedules.After.{moment, moments_from}
-use Rattle.papaya_grows.specs.Given.Schedules.Beginning.{at_work}
-use Rattle.papaya_grows.specs.Given.Schedules.Effects.{with_effects, worked}
-use Rattle.papaya_grows.specs.Given.Schedules.Entry.{Entry, IfCall, acted_on, acting, caller_of, ends_call, is_busy}
-use Rattle.papaya_grows.specs.Given.Schedules.Handing.{LeavesOf, comes_clear, is_made, refuses}
-use Rattle.papaya_grows.specs.Given.Schedules.InTurn.{ComesRight}
-use Rattle.papaya_grows.specs.Given.Schedules.Model.{sets_in, things_in}
-use Rattle.papaya_grows.specs.Given.Schedules.Moment.{UnderWay as CallThere, Moment}
-use Rattle.papaya_grows.specs.Given.Schedules.Sweeps.{IsSwept}
-use Rattle.papaya_grows.specs.Given.Runs.Present.{slot_of_guard}
-use Rattle.papaya_grows.specs.Given.Schedules.Terms.{Terms, shards_of}
-use Rattle.papaya_grows.specs.Given.Schedules.Views.{call_of}
-use Rattle.papaya_grows.specs.Given.Callers.Together.{UnderWay, HandsOver}
-use Rattle.papaya_grows.specs.Given.Effects.Effects.{effects_of, known_after}
-use Rattle.papaya_grows.specs.Given.Effects.Known.{Known}
-use Rattle.papaya_grows.specs.Given.Effects.declared.acting.Acting.TheVariants as acts
-use Rattle.papaya_grows.specs.Given.SeizeWords.declared.fault.Fault.TheVariants.{Memory}
-use Rattle.papaya_grows.specs.Given.Moments.Whole.{ShowsWhole}
-use Rattle.papaya_grows.specs.Given.Kept.Kept.{ShowsKept}
-use Rattle.papaya_grows.specs.Given.Histories.Answers.{NamesPair}
-use Rattle.papaya_grows.specs.Given.Histories.InEvent.{ComesSo, here_of}
-use Rattle.papaya_grows.specs.Given.Purposes.Kept.{ShowsNone, TellsNone}
-use Rattle.papaya_grows.specs.Given.Models.CallEvents.{IsNoted, slot_of_call, things_then}
-use Rattle.papaya_grows.specs.Given.Finds.Doing.{takes_steps}
-use Rattle.papaya_grows.specs.Given.Finds.Parts.{FindAll, FindRest}
+use Rattle.papaya_grows.specs.Given.SeizeWaitingHeld.{count}
+use Rattle.papaya_grows.specs.Given.SeizeWorld.{World, Request, Begin, Step, Happens}
+use Rattle.papaya_grows.specs.Given.TablesNodes.{deferred_word}
+use Rattle.papaya_grows.specs.Given.TablesDeclared.node.Node.{Node}
+use Rattle.papaya_grows.specs.Given.RawDeclared.machines.progress.Progress.{Progress}
+use Rattle.papaya_grows.specs.Given.RawDeclared.machines.progress.Progress.TheVariants as progress
+use Rattle.papaya_grows.specs.Given.SchedulesDeclared.effect.Effect.{Effect}
+use Rattle.papaya_grows.specs.Given.SchedulesDeclared.outcome.Outcome.{Outcome}
+use Rattle.papaya_grows.specs.Given.SchedulesDeclared.outcome.Outcome.TheVariants as outcome
+use Rattle.papaya_grows.specs.Given.SchedulesAfter.{moment, moments_from}
+use Rattle.papaya_grows.specs.Given.SchedulesBeginning.{at_work}
+use Rattle.papaya_grows.specs.Given.SchedulesEffects.{with_effects, worked}
+use Rattle.papaya_grows.specs.Given.SchedulesEntry.{Entry, IfCall, acted_on, acting, caller_of, ends_call, is_busy}
+use Rattle.papaya_grows.specs.Given.SchedulesHanding.{LeavesOf, comes_clear, is_made, refuses}
+use Rattle.papaya_grows.specs.Given.SchedulesInTurn.{ComesRight}
+use Rattle.papaya_grows.specs.Given.SchedulesModel.{sets_in, things_in}
+use Rattle.papaya_grows.specs.Given.SchedulesMoment.{UnderWay as CallThere, Moment}
+use Rattle.papaya_grows.specs.Given.SchedulesSweeps.{IsSwept}
+use Rattle.papaya_grows.specs.Given.RunsPresent.{slot_of_guard}
+use Rattle.papaya_grows.specs.Given.SchedulesTerms.{Terms, shards_of}
+use Rattle.papaya_grows.specs.Given.SchedulesViews.{call_of}
+use Rattle.papaya_grows.specs.Given.CallersTogether.{UnderWay, HandsOver}
+use Rattle.papaya_grows.specs.Given.EffectsEffects.{effects_of, known_after}
+use Rattle.papaya_grows.specs.Given.EffectsKnown.{Known}
+use Rattle.papaya_grows.specs.Given.EffectsDeclared.acting.Acting.TheVariants as acts
+use Rattle.papaya_grows.specs.Given.SeizeWordsDeclared.fault.Fault.TheVariants.{Memory}
+use Rattle.papaya_grows.specs.Given.MomentsWhole.{ShowsWhole}
+use Rattle.papaya_grows.specs.Given.KeptKept.{ShowsKept}
+use Rattle.papaya_grows.specs.Given.HistoriesAnswers.{NamesPair}
+use Rattle.papaya_grows.specs.Given.HistoriesInEvent.{ComesSo, here_of}
+use Rattle.papaya_grows.specs.Given.PurposesKept.{ShowsNone, TellsNone}
+use Rattle.papaya_grows.specs.Given.ModelsCallEvents.{IsNoted, slot_of_call, things_then}
+use Rattle.papaya_grows.specs.Given.FindsDoing.{takes_steps}
+use Rattle.papaya_grows.specs.Given.FindsParts.{FindAll, FindRest}
 use Rattle.papaya_legal.specs.CallEvents.{InCallEvent, IsLegalBut}
 use Rattle.papaya_legal.specs.Carried.{ComesAlone, ShowsRun}
-use Rattle.papaya_grows.specs.Given.Scenes.Held.{Held, IsAt}
-use Rattle.papaya_grows.specs.Given.Scenes.Scene.{Scene, slot_of}
-use Rattle.papaya_grows.specs.Given.Scenes.Stepping.{StepLeads, has_ended, scene_after}
-use Rattle.papaya_grows.specs.Given.Schedules.Transition.{past}
+use Rattle.papaya_grows.specs.Given.ScenesHeld.{Held, IsAt}
+use Rattle.papaya_grows.specs.Given.ScenesScene.{Scene, slot_of}
+use Rattle.papaya_grows.specs.Given.ScenesStepping.{StepLeads, has_ended, scene_after}
+use Rattle.papaya_grows.specs.Given.SchedulesTransition.{past}
 
 -- a step that shows a pair of a walk comes to that, by its number, and any other one shows none
 abbrev pub ShowsAsTold : {K V : Type 0} → Known → Progress (Node K V) → Outcome V → Type 0

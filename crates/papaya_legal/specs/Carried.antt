@@ -1,41 +1,41 @@
 -- What is so after each event of a run, of the moment and of the scene that it shows: by this each promise is had of the next event.
 use Rattle.std.specs.Prelude.{◌≡◌, ◌⊎◌, ◌≤◌, ℕ, Bool, true, ◌&&◌, List, [], flat_map}
 use Rattle.std.specs.List.{list_all}
-use Rattle.papaya_grows.specs.Given.Seize.World.{World}
-use Rattle.papaya_grows.specs.Given.Tables.Nodes.{deferred_word}
-use Rattle.papaya_grows.specs.Given.Tables.declared.node.Node.{Node}
-use Rattle.papaya_grows.specs.Given.Schedules.declared.event.Event.{Event}
-use Rattle.papaya_grows.specs.Given.Schedules.After.{after, is_by, moment}
-use Rattle.papaya_grows.specs.Given.Schedules.Entry.{Entry, speaker}
-use Rattle.papaya_grows.specs.Given.Schedules.Lists.{is_among}
-use Rattle.papaya_grows.specs.Given.Schedules.Model.{sets_in, things_in}
-use Rattle.papaya_grows.specs.Given.Schedules.Moment.{Moment, start}
-use Rattle.papaya_grows.specs.Given.Schedules.Terms.{Terms}
-use Rattle.papaya_grows.specs.Given.Effects.Known.{Known}
-use Rattle.papaya_grows.specs.Given.Moments.Numbers.{NumbersMaps, PairsAreBelow}
-use Rattle.papaya_grows.specs.Given.Moments.Whole.{ShowsWhole}
-use Rattle.papaya_grows.specs.Given.Histories.AsCalled.{ShowsAsCalled}
-use Rattle.papaya_grows.specs.Given.Histories.Due.{ShowsDue}
-use Rattle.papaya_grows.specs.Given.Histories.Questions.{ShowsQuestions}
-use Rattle.papaya_grows.specs.Given.Promises.Reading.{ShowsReading}
-use Rattle.papaya_grows.specs.Given.Promises.Sheltered.{SectionsHold}
-use Rattle.papaya_grows.specs.Given.Purposes.Purposes.{ShowsPurposes}
-use Rattle.papaya_grows.specs.Given.Purposes.Tableless.{TablelessUncounted}
-use Rattle.papaya_grows.specs.Given.Models.CallEvents.{IsInItsRow}
-use Rattle.papaya_grows.specs.Given.Models.Follows.{FollowsModel}
-use Rattle.papaya_grows.specs.Given.Models.Turns.{CameByTurns}
-use Rattle.papaya_grows.specs.Given.Shards.ShardWords.{IsUncounted, ShowsCounters}
-use Rattle.papaya_grows.specs.Given.Finds.Little.{OverIsBack, ReclaimsAll}
-use Rattle.papaya_grows.specs.Given.Finds.Orderly.{is_left_over}
-use Rattle.papaya_grows.specs.Given.Finds.Within.{AllIsInOrder, GoesInOrder, ReadyOweNone}
-use Rattle.papaya_grows.specs.Given.Kept.Kept.{ShowsKept}
-use Rattle.papaya_grows.specs.Given.Sources.Sources.{ShowsSources}
+use Rattle.papaya_grows.specs.Given.SeizeWorld.{World}
+use Rattle.papaya_grows.specs.Given.TablesNodes.{deferred_word}
+use Rattle.papaya_grows.specs.Given.TablesDeclared.node.Node.{Node}
+use Rattle.papaya_grows.specs.Given.SchedulesDeclared.event.Event.{Event}
+use Rattle.papaya_grows.specs.Given.SchedulesAfter.{after, is_by, moment}
+use Rattle.papaya_grows.specs.Given.SchedulesEntry.{Entry, speaker}
+use Rattle.papaya_grows.specs.Given.SchedulesLists.{is_among}
+use Rattle.papaya_grows.specs.Given.SchedulesModel.{sets_in, things_in}
+use Rattle.papaya_grows.specs.Given.SchedulesMoment.{Moment, start}
+use Rattle.papaya_grows.specs.Given.SchedulesTerms.{Terms}
+use Rattle.papaya_grows.specs.Given.EffectsKnown.{Known}
+use Rattle.papaya_grows.specs.Given.MomentsNumbers.{NumbersMaps, PairsAreBelow}
+use Rattle.papaya_grows.specs.Given.MomentsWhole.{ShowsWhole}
+use Rattle.papaya_grows.specs.Given.HistoriesAsCalled.{ShowsAsCalled}
+use Rattle.papaya_grows.specs.Given.HistoriesDue.{ShowsDue}
+use Rattle.papaya_grows.specs.Given.HistoriesQuestions.{ShowsQuestions}
+use Rattle.papaya_grows.specs.Given.PromisesReading.{ShowsReading}
+use Rattle.papaya_grows.specs.Given.PromisesSheltered.{SectionsHold}
+use Rattle.papaya_grows.specs.Given.PurposesPurposes.{ShowsPurposes}
+use Rattle.papaya_grows.specs.Given.PurposesTableless.{TablelessUncounted}
+use Rattle.papaya_grows.specs.Given.ModelsCallEvents.{IsInItsRow}
+use Rattle.papaya_grows.specs.Given.ModelsFollows.{FollowsModel}
+use Rattle.papaya_grows.specs.Given.ModelsTurns.{CameByTurns}
+use Rattle.papaya_grows.specs.Given.ShardsShardWords.{IsUncounted, ShowsCounters}
+use Rattle.papaya_grows.specs.Given.FindsLittle.{OverIsBack, ReclaimsAll}
+use Rattle.papaya_grows.specs.Given.FindsOrderly.{is_left_over}
+use Rattle.papaya_grows.specs.Given.FindsWithin.{AllIsInOrder, GoesInOrder, ReadyOweNone}
+use Rattle.papaya_grows.specs.Given.KeptKept.{ShowsKept}
+use Rattle.papaya_grows.specs.Given.SourcesSources.{ShowsSources}
 use Rattle.papaya_grows.specs.Finding.{ShowsFinding}
 use Rattle.papaya_grows.specs.Limits.{ShowsLimits}
 use Rattle.papaya_grows.specs.Nexts.{ShowsNexts}
 use Rattle.papaya_grows.specs.Tries.{ShowsTries}
-use Rattle.papaya_grows.specs.Given.Scenes.Scene.{Scene, at_first, slot_of}
-use Rattle.papaya_grows.specs.Given.Schedules.Transition.{past, Past}
+use Rattle.papaya_grows.specs.Given.ScenesScene.{Scene, at_first, slot_of}
+use Rattle.papaya_grows.specs.Given.SchedulesTransition.{past, Past}
 
 -- calls came one after another so far, and the event is one of those that do
 abbrev pub ComesAlone : {K V : Type 0} → Event K V → List (Entry K V) → Type 0

@@ -1,62 +1,62 @@
 -- An event as the chain of the steps that it has taken: what is so where it begins, and stays so by each step, is so where it has come.
 use Rattle.std.specs.Prelude.{◌≡◌, ◌<◌, ◌^◌, ◌+◌, ℕ, Bool, true, false, zero, suc, List, [], ◌∷◌, ◌++◌, Some, None}
 use Rattle.std.specs.List.{list_all}
-use Rattle.papaya_grows.specs.Given.Seize.World.{World, Request, Begin, Step, Happens, Rests, with_at}
-use Rattle.papaya_grows.specs.Given.Seize.declared.progress.Progress.{Progress as Making}
-use Rattle.papaya_grows.specs.Given.Seize.declared.rows.settle.Settled.{Settled}
-use Rattle.papaya_grows.specs.Given.Tables.declared.node.Node.{Node}
-use Rattle.papaya_grows.specs.Given.Tables.declared.setting.Setting.{Setting}
-use Rattle.papaya_grows.specs.Given.Schedules.declared.effect.Effect.{Effect}
-use Rattle.papaya_grows.specs.Given.Schedules.declared.event.Event.{Event}
-use Rattle.papaya_grows.specs.Given.Schedules.Effects.{with_effects, AtEachEffect, worked}
-use Rattle.papaya_grows.specs.Given.Schedules.Entry.{Entry, is_busy}
-use Rattle.papaya_grows.specs.Given.Schedules.Moment.{Moment, MapThere}
-use Rattle.papaya_grows.specs.Given.Schedules.Terms.{Terms}
-use Rattle.papaya_grows.specs.Given.Effects.Effects.{effects_of, known_after}
-use Rattle.papaya_grows.specs.Given.Effects.Known.{Known}
-use Rattle.papaya_grows.specs.Given.Effects.declared.acting.Acting.TheVariants as acts
-use Rattle.papaya_grows.specs.Given.Scenes.declared.row.RowTold.{RowTold}
-use Rattle.papaya_grows.specs.Given.Scenes.declared.row.SlotCall.{SlotCall}
-use Rattle.papaya_grows.specs.Given.Scenes.declared.row.SlotRow.{SlotRow}
-use Rattle.papaya_grows.specs.Given.Finishes.Endings.{Finishing}
-use Rattle.papaya_grows.specs.Given.Finishes.Makings.{Beginning, HasMade}
-use Rattle.papaya_grows.specs.Given.Moments.Endings.{IsOfIts}
-use Rattle.papaya_grows.specs.Given.Others.Endings.{ending_after}
-use Rattle.papaya_grows.specs.Given.Others.Makings.{WasNew, making_after}
-use Rattle.papaya_grows.specs.Given.Others.Rows.{scene_then}
-use Rattle.papaya_grows.specs.Given.Tables.Nodes.{deferred_word}
-use Rattle.papaya_grows.specs.Given.Raw.declared.machines.progress.Progress.{Progress as CallTold}
-use Rattle.papaya_grows.specs.Given.Schedules.Model.{things_in}
-use Rattle.papaya_grows.specs.Given.Callers.Together.{UnderWay, HandsOver}
-use Rattle.papaya_grows.specs.Given.Purposes.Kept.{ShowsNone}
-use Rattle.papaya_grows.specs.Given.Models.CallEvents.{IsNoted, things_then}
+use Rattle.papaya_grows.specs.Given.SeizeWorld.{World, Request, Begin, Step, Happens, Rests, with_at}
+use Rattle.papaya_grows.specs.Given.SeizeDeclared.progress.Progress.{Progress as Making}
+use Rattle.papaya_grows.specs.Given.SeizeDeclared.rows.settle.Settled.{Settled}
+use Rattle.papaya_grows.specs.Given.TablesDeclared.node.Node.{Node}
+use Rattle.papaya_grows.specs.Given.TablesDeclared.setting.Setting.{Setting}
+use Rattle.papaya_grows.specs.Given.SchedulesDeclared.effect.Effect.{Effect}
+use Rattle.papaya_grows.specs.Given.SchedulesDeclared.event.Event.{Event}
+use Rattle.papaya_grows.specs.Given.SchedulesEffects.{with_effects, AtEachEffect, worked}
+use Rattle.papaya_grows.specs.Given.SchedulesEntry.{Entry, is_busy}
+use Rattle.papaya_grows.specs.Given.SchedulesMoment.{Moment, MapThere}
+use Rattle.papaya_grows.specs.Given.SchedulesTerms.{Terms}
+use Rattle.papaya_grows.specs.Given.EffectsEffects.{effects_of, known_after}
+use Rattle.papaya_grows.specs.Given.EffectsKnown.{Known}
+use Rattle.papaya_grows.specs.Given.EffectsDeclared.acting.Acting.TheVariants as acts
+use Rattle.papaya_grows.specs.Given.ScenesDeclared.row.RowTold.{RowTold}
+use Rattle.papaya_grows.specs.Given.ScenesDeclared.row.SlotCall.{SlotCall}
+use Rattle.papaya_grows.specs.Given.ScenesDeclared.row.SlotRow.{SlotRow}
+use Rattle.papaya_grows.specs.Given.FinishesEndings.{Finishing}
+use Rattle.papaya_grows.specs.Given.FinishesMakings.{Beginning, HasMade}
+use Rattle.papaya_grows.specs.Given.MomentsEndings.{IsOfIts}
+use Rattle.papaya_grows.specs.Given.OthersEndings.{ending_after}
+use Rattle.papaya_grows.specs.Given.OthersMakings.{WasNew, making_after}
+use Rattle.papaya_grows.specs.Given.OthersRows.{scene_then}
+use Rattle.papaya_grows.specs.Given.TablesNodes.{deferred_word}
+use Rattle.papaya_grows.specs.Given.RawDeclared.machines.progress.Progress.{Progress as CallTold}
+use Rattle.papaya_grows.specs.Given.SchedulesModel.{things_in}
+use Rattle.papaya_grows.specs.Given.CallersTogether.{UnderWay, HandsOver}
+use Rattle.papaya_grows.specs.Given.PurposesKept.{ShowsNone}
+use Rattle.papaya_grows.specs.Given.ModelsCallEvents.{IsNoted, things_then}
 use Rattle.papaya_legal.specs.CallEvents.{IsLegalBut}
 use Rattle.papaya_legal.specs.MapEvents.{FindsItsMap, InEndEvent, InMakingEvent}
-use Rattle.papaya_grows.specs.Given.Schedules.After.{moment}
-use Rattle.papaya_grows.specs.Given.Schedules.Beginning.{at_work, with_map}
-use Rattle.papaya_grows.specs.Given.Schedules.Handing.{gives_all, may_do, IsWhole}
-use Rattle.papaya_grows.specs.Given.Schedules.InTurn.{ComesRight}
-use Rattle.papaya_grows.specs.Given.Schedules.Lives.{Finds}
-use Rattle.papaya_grows.specs.Given.Promises.Others.{SparesGuards}
-use Rattle.papaya_grows.specs.Given.Promises.Protected.{EndsInside, is_of_slots, there_in}
-use Rattle.papaya_grows.specs.Given.Models.Follows.{FollowsModel}
-use Rattle.papaya_grows.specs.Given.Models.OnSlots.{IsRowFor}
-use Rattle.papaya_grows.specs.Given.Finds.Little.{ReclaimsAll}
+use Rattle.papaya_grows.specs.Given.SchedulesAfter.{moment}
+use Rattle.papaya_grows.specs.Given.SchedulesBeginning.{at_work, with_map}
+use Rattle.papaya_grows.specs.Given.SchedulesHanding.{gives_all, may_do, IsWhole}
+use Rattle.papaya_grows.specs.Given.SchedulesInTurn.{ComesRight}
+use Rattle.papaya_grows.specs.Given.SchedulesLives.{Finds}
+use Rattle.papaya_grows.specs.Given.PromisesOthers.{SparesGuards}
+use Rattle.papaya_grows.specs.Given.PromisesProtected.{EndsInside, is_of_slots, there_in}
+use Rattle.papaya_grows.specs.Given.ModelsFollows.{FollowsModel}
+use Rattle.papaya_grows.specs.Given.ModelsOnSlots.{IsRowFor}
+use Rattle.papaya_grows.specs.Given.FindsLittle.{ReclaimsAll}
 use Rattle.papaya_legal.specs.Carried.{ComesAlone, ShowsRun}
-use Rattle.papaya_grows.specs.Given.Runs.Same.{is_same}
-use Rattle.papaya_grows.specs.Given.Tables.declared.resize_mode.ResizeMode.{ResizeMode}
-use Rattle.papaya_grows.specs.Given.Schedules.declared.event.Event.TheVariants.{EndMap, MakeMap}
-use Rattle.papaya_grows.specs.Given.Schedules.declared.outcome.Outcome.TheVariants.{Done}
-use Rattle.papaya_grows.specs.Given.Schedules.Views.{map_at, number_of}
-use Rattle.papaya_grows.specs.Given.Finishes.Maps.{Standing}
+use Rattle.papaya_grows.specs.Given.RunsSame.{is_same}
+use Rattle.papaya_grows.specs.Given.TablesDeclared.resize_mode.ResizeMode.{ResizeMode}
+use Rattle.papaya_grows.specs.Given.SchedulesDeclared.event.Event.TheVariants.{EndMap, MakeMap}
+use Rattle.papaya_grows.specs.Given.SchedulesDeclared.outcome.Outcome.TheVariants.{Done}
+use Rattle.papaya_grows.specs.Given.SchedulesViews.{map_at, number_of}
+use Rattle.papaya_grows.specs.Given.FinishesMaps.{Standing}
 use Rattle.papaya_legal.specs.SlotEvents.{InSlotEvent}
-use Rattle.papaya_grows.specs.Given.Scenes.Ending.{EndingLeads, ending_begun}
-use Rattle.papaya_grows.specs.Given.Scenes.Held.{Held, IsAt}
-use Rattle.papaya_grows.specs.Given.Scenes.Making.{MakingLeads}
-use Rattle.papaya_grows.specs.Given.Scenes.OnSlots.{RowBegins, RowLeads}
-use Rattle.papaya_grows.specs.Given.Scenes.Rows.{request_of}
-use Rattle.papaya_grows.specs.Given.Scenes.Scene.{IsOnSlot, Scene, slot_of}
-use Rattle.papaya_grows.specs.Given.Scenes.Stepping.{StepLeads, scene_after}
+use Rattle.papaya_grows.specs.Given.ScenesEnding.{EndingLeads, ending_begun}
+use Rattle.papaya_grows.specs.Given.ScenesHeld.{Held, IsAt}
+use Rattle.papaya_grows.specs.Given.ScenesMaking.{MakingLeads}
+use Rattle.papaya_grows.specs.Given.ScenesOnSlots.{RowBegins, RowLeads}
+use Rattle.papaya_grows.specs.Given.ScenesRows.{request_of}
+use Rattle.papaya_grows.specs.Given.ScenesScene.{IsOnSlot, Scene, slot_of}
+use Rattle.papaya_grows.specs.Given.ScenesStepping.{StepLeads, scene_after}
 
 -- How far an event has come: what is held then, what it has done, the moment after that, what is known then, and the scene of what is held.
 pub record Come (K V : Type 0) : Type 0 where

@@ -1,36 +1,36 @@
 -- What a row on a slot finds, and what is retired while no row is under way.
 use Rattle.std.specs.Prelude.{◌≡◌, ℕ, Bool, true, false, ◌||◌, List, [], None}
 use Rattle.std.specs.List.{list_all}
-use Rattle.papaya_grows.specs.Given.Seize.World.{World, Rests, SlotsTaken}
-use Rattle.papaya_grows.specs.Given.Tables.declared.node.Node.{Node}
-use Rattle.papaya_grows.specs.Given.Schedules.declared.effect.Effect.{Effect}
-use Rattle.papaya_grows.specs.Given.Schedules.declared.effect.Effect.TheVariants.{Asked}
-use Rattle.papaya_grows.specs.Given.Schedules.declared.effect.Growth.TheVariants.{ABucket}
-use Rattle.papaya_grows.specs.Given.Schedules.declared.event.Event.{Event}
-use Rattle.papaya_grows.specs.Given.Schedules.After.{moment}
-use Rattle.papaya_grows.specs.Given.Schedules.Effects.{AtEachEffect}
-use Rattle.papaya_grows.specs.Given.Schedules.Entry.{Entry}
-use Rattle.papaya_grows.specs.Given.Schedules.Growing.{AsksForBucket}
-use Rattle.papaya_grows.specs.Given.Schedules.Handing.{asks_for_bucket, is_reclaiming}
-use Rattle.papaya_grows.specs.Given.Schedules.InUse.{used_slots}
-use Rattle.papaya_grows.specs.Given.Schedules.Lists.{least_free}
-use Rattle.papaya_grows.specs.Given.Schedules.Lives.{Finds}
-use Rattle.papaya_grows.specs.Given.Schedules.Moment.{Moment}
-use Rattle.papaya_grows.specs.Given.Schedules.Terms.{Terms}
-use Rattle.papaya_grows.specs.Given.Effects.Effects.{effects_of}
-use Rattle.papaya_grows.specs.Given.Effects.Known.{Known}
-use Rattle.papaya_grows.specs.Given.Effects.declared.acting.Acting.TheVariants as acts
-use Rattle.papaya_grows.specs.Given.Scenes.declared.row.RowTold.{RowTold}
-use Rattle.papaya_grows.specs.Given.Scenes.declared.row.SlotCall.{SlotCall}
-use Rattle.papaya_grows.specs.Given.Scenes.declared.row.SlotRow.{SlotRow}
-use Rattle.papaya_grows.specs.Given.Moments.Whole.{ShowsWhole}
-use Rattle.papaya_grows.specs.Given.Finds.Bounded.{ShowsRetired, TablesApart}
-use Rattle.papaya_grows.specs.Given.Kept.Kept.{ShowsKept}
+use Rattle.papaya_grows.specs.Given.SeizeWorld.{World, Rests, SlotsTaken}
+use Rattle.papaya_grows.specs.Given.TablesDeclared.node.Node.{Node}
+use Rattle.papaya_grows.specs.Given.SchedulesDeclared.effect.Effect.{Effect}
+use Rattle.papaya_grows.specs.Given.SchedulesDeclared.effect.Effect.TheVariants.{Asked}
+use Rattle.papaya_grows.specs.Given.SchedulesDeclared.effect.Growth.TheVariants.{ABucket}
+use Rattle.papaya_grows.specs.Given.SchedulesDeclared.event.Event.{Event}
+use Rattle.papaya_grows.specs.Given.SchedulesAfter.{moment}
+use Rattle.papaya_grows.specs.Given.SchedulesEffects.{AtEachEffect}
+use Rattle.papaya_grows.specs.Given.SchedulesEntry.{Entry}
+use Rattle.papaya_grows.specs.Given.SchedulesGrowing.{AsksForBucket}
+use Rattle.papaya_grows.specs.Given.SchedulesHanding.{asks_for_bucket, is_reclaiming}
+use Rattle.papaya_grows.specs.Given.SchedulesInUse.{used_slots}
+use Rattle.papaya_grows.specs.Given.SchedulesLists.{least_free}
+use Rattle.papaya_grows.specs.Given.SchedulesLives.{Finds}
+use Rattle.papaya_grows.specs.Given.SchedulesMoment.{Moment}
+use Rattle.papaya_grows.specs.Given.SchedulesTerms.{Terms}
+use Rattle.papaya_grows.specs.Given.EffectsEffects.{effects_of}
+use Rattle.papaya_grows.specs.Given.EffectsKnown.{Known}
+use Rattle.papaya_grows.specs.Given.EffectsDeclared.acting.Acting.TheVariants as acts
+use Rattle.papaya_grows.specs.Given.ScenesDeclared.row.RowTold.{RowTold}
+use Rattle.papaya_grows.specs.Given.ScenesDeclared.row.SlotCall.{SlotCall}
+use Rattle.papaya_grows.specs.Given.ScenesDeclared.row.SlotRow.{SlotRow}
+use Rattle.papaya_grows.specs.Given.MomentsWhole.{ShowsWhole}
+use Rattle.papaya_grows.specs.Given.FindsBounded.{ShowsRetired, TablesApart}
+use Rattle.papaya_grows.specs.Given.KeptKept.{ShowsKept}
 use Rattle.papaya_legal.specs.Chains.{Chain, Come, RowSteps}
 use Rattle.papaya_legal.specs.SlotEvents.{InSlotEvent}
-use Rattle.papaya_grows.specs.Given.Scenes.Held.{Held, IsAt}
-use Rattle.papaya_grows.specs.Given.Scenes.OnSlots.{RowLeads}
-use Rattle.papaya_grows.specs.Given.Scenes.Scene.{IsOnSlot, Scene}
+use Rattle.papaya_grows.specs.Given.ScenesHeld.{Held, IsAt}
+use Rattle.papaya_grows.specs.Given.ScenesOnSlots.{RowLeads}
+use Rattle.papaya_grows.specs.Given.ScenesScene.{IsOnSlot, Scene}
 
 -- where a bucket of slots is asked for, the slot needs it
 abbrev pub AsksInNeed : {K V : Type 0} → Moment K V → Effect → Type 0

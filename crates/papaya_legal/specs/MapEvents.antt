@@ -1,50 +1,50 @@
 -- Events that make a map, or end one, and those that do nothing: in the midst of one, and at its end.
 use Rattle.std.specs.Prelude.{◌≡◌, ◌<◌, ◌⊎◌, ℕ, Bool, true, false, List, [], ◌++◌, Some, None}
 use Rattle.std.specs.List.{list_all}
-use Rattle.papaya_grows.specs.Given.Seize.declared.progress.Progress.{Progress as Making}
-use Rattle.papaya_grows.specs.Given.Seize.declared.progress.Progress.TheVariants as progress
-use Rattle.papaya_grows.specs.Given.Seize.declared.rows.settle.Settled.{Settled}
-use Rattle.papaya_grows.specs.Given.Tables.declared.node.Node.{Node}
-use Rattle.papaya_grows.specs.Given.Tables.declared.setting.Setting.{Setting}
-use Rattle.papaya_grows.specs.Given.Schedules.declared.effect.Effect.{Effect}
-use Rattle.papaya_grows.specs.Given.Schedules.declared.event.Event.{Event}
-use Rattle.papaya_grows.specs.Given.Schedules.After.{moment, after}
-use Rattle.papaya_grows.specs.Given.Schedules.Effects.{with_effects, AtEachEffect, worked}
-use Rattle.papaya_grows.specs.Given.Schedules.Entry.{Entry, IfCall, acting, caller_of, acted_on}
-use Rattle.papaya_grows.specs.Given.Schedules.Handing.{is_granted, may_do, IsWhole, LeavesOf, comes_clear}
-use Rattle.papaya_grows.specs.Given.Schedules.InTurn.{is_growth}
-use Rattle.papaya_grows.specs.Given.Schedules.Lives.{Finds}
-use Rattle.papaya_grows.specs.Given.Schedules.Model.{sets_in, things_in, changes_of, left_last, IsByModel}
-use Rattle.papaya_grows.specs.Given.Schedules.Moment.{Moment}
-use Rattle.papaya_grows.specs.Given.Schedules.Terms.{Terms}
-use Rattle.papaya_grows.specs.Given.Effects.Effects.{effects_of, known_after}
-use Rattle.papaya_grows.specs.Given.Effects.Known.{Known}
-use Rattle.papaya_grows.specs.Given.Effects.declared.acting.Acting.TheVariants as acts
-use Rattle.papaya_grows.specs.Given.Finishes.Endings.{Finishing}
-use Rattle.papaya_grows.specs.Given.Moments.Endings.{IsOfIts}
-use Rattle.papaya_grows.specs.Given.Finishes.Makings.{Beginning}
-use Rattle.papaya_grows.specs.Given.Others.Endings.{ending_after}
-use Rattle.papaya_grows.specs.Given.Others.Makings.{WasNew, making_after}
-use Rattle.papaya_grows.specs.Given.Finds.Linking.{IsMadeFor}
-use Rattle.papaya_grows.specs.Given.Promises.Protected.{InMidst, is_of_slots}
-use Rattle.papaya_grows.specs.Given.Promises.Reading.{ShowsReading}
-use Rattle.papaya_grows.specs.Given.Models.Ends.{FollowsInEnd}
-use Rattle.papaya_grows.specs.Given.Models.MapEvents.{FollowsInMaking}
+use Rattle.papaya_grows.specs.Given.SeizeDeclared.progress.Progress.{Progress as Making}
+use Rattle.papaya_grows.specs.Given.SeizeDeclared.progress.Progress.TheVariants as progress
+use Rattle.papaya_grows.specs.Given.SeizeDeclared.rows.settle.Settled.{Settled}
+use Rattle.papaya_grows.specs.Given.TablesDeclared.node.Node.{Node}
+use Rattle.papaya_grows.specs.Given.TablesDeclared.setting.Setting.{Setting}
+use Rattle.papaya_grows.specs.Given.SchedulesDeclared.effect.Effect.{Effect}
+use Rattle.papaya_grows.specs.Given.SchedulesDeclared.event.Event.{Event}
+use Rattle.papaya_grows.specs.Given.SchedulesAfter.{moment, after}
+use Rattle.papaya_grows.specs.Given.SchedulesEffects.{with_effects, AtEachEffect, worked}
+use Rattle.papaya_grows.specs.Given.SchedulesEntry.{Entry, IfCall, acting, caller_of, acted_on}
+use Rattle.papaya_grows.specs.Given.SchedulesHanding.{is_granted, may_do, IsWhole, LeavesOf, comes_clear}
+use Rattle.papaya_grows.specs.Given.SchedulesInTurn.{is_growth}
+use Rattle.papaya_grows.specs.Given.SchedulesLives.{Finds}
+use Rattle.papaya_grows.specs.Given.SchedulesModel.{sets_in, things_in, changes_of, left_last, IsByModel}
+use Rattle.papaya_grows.specs.Given.SchedulesMoment.{Moment}
+use Rattle.papaya_grows.specs.Given.SchedulesTerms.{Terms}
+use Rattle.papaya_grows.specs.Given.EffectsEffects.{effects_of, known_after}
+use Rattle.papaya_grows.specs.Given.EffectsKnown.{Known}
+use Rattle.papaya_grows.specs.Given.EffectsDeclared.acting.Acting.TheVariants as acts
+use Rattle.papaya_grows.specs.Given.FinishesEndings.{Finishing}
+use Rattle.papaya_grows.specs.Given.MomentsEndings.{IsOfIts}
+use Rattle.papaya_grows.specs.Given.FinishesMakings.{Beginning}
+use Rattle.papaya_grows.specs.Given.OthersEndings.{ending_after}
+use Rattle.papaya_grows.specs.Given.OthersMakings.{WasNew, making_after}
+use Rattle.papaya_grows.specs.Given.FindsLinking.{IsMadeFor}
+use Rattle.papaya_grows.specs.Given.PromisesProtected.{InMidst, is_of_slots}
+use Rattle.papaya_grows.specs.Given.PromisesReading.{ShowsReading}
+use Rattle.papaya_grows.specs.Given.ModelsEnds.{FollowsInEnd}
+use Rattle.papaya_grows.specs.Given.ModelsMapEvents.{FollowsInMaking}
 use Rattle.papaya_legal.specs.CallEvents.{IsLegalBut}
-use Rattle.papaya_grows.specs.Given.Seize.World.{World}
-use Rattle.papaya_grows.specs.Given.Schedules.Steps.{ReadsBriefly}
-use Rattle.papaya_grows.specs.Given.Schedules.Sweeps.{IsSwept}
-use Rattle.papaya_grows.specs.Given.Histories.OtherCalls.{IsIdle}
-use Rattle.papaya_grows.specs.Given.Promises.Guards.{EntersInside}
-use Rattle.papaya_grows.specs.Given.Promises.Sheltered.{SectionsHold}
-use Rattle.papaya_grows.specs.Given.Schedules.Beginning.{at_work}
-use Rattle.papaya_grows.specs.Given.Sources.Stays.{NoneBorn}
+use Rattle.papaya_grows.specs.Given.SeizeWorld.{World}
+use Rattle.papaya_grows.specs.Given.SchedulesSteps.{ReadsBriefly}
+use Rattle.papaya_grows.specs.Given.SchedulesSweeps.{IsSwept}
+use Rattle.papaya_grows.specs.Given.HistoriesOtherCalls.{IsIdle}
+use Rattle.papaya_grows.specs.Given.PromisesGuards.{EntersInside}
+use Rattle.papaya_grows.specs.Given.PromisesSheltered.{SectionsHold}
+use Rattle.papaya_grows.specs.Given.SchedulesBeginning.{at_work}
+use Rattle.papaya_grows.specs.Given.SourcesStays.{NoneBorn}
 use Rattle.papaya_legal.specs.Carried.{ComesAlone, ShowsCalls}
-use Rattle.papaya_grows.specs.Given.Scenes.Ending.{EndingLeads}
-use Rattle.papaya_grows.specs.Given.Scenes.Held.{Held, IsAt}
-use Rattle.papaya_grows.specs.Given.Scenes.Making.{MakingLeads}
-use Rattle.papaya_grows.specs.Given.Scenes.Scene.{Scene}
-use Rattle.papaya_grows.specs.Given.Schedules.Transition.{past}
+use Rattle.papaya_grows.specs.Given.ScenesEnding.{EndingLeads}
+use Rattle.papaya_grows.specs.Given.ScenesHeld.{Held, IsAt}
+use Rattle.papaya_grows.specs.Given.ScenesMaking.{MakingLeads}
+use Rattle.papaya_grows.specs.Given.ScenesScene.{Scene}
+use Rattle.papaya_grows.specs.Given.SchedulesTransition.{past}
 
 module _ {K V : Type 0} (same : K → K → Bool) (name : ℕ → List ℕ) (terms : Terms) (log : List (Entry K V)) (event : Event K V) (map : ℕ) (beginning : Moment K V) where
   -- In the midst of an event whose work is that of a map which is made, or ends: what it has done finds what it must.

@@ -1,33 +1,33 @@
 -- What a row hands over that begins with a step of a call: it is noted, as a thing that came into a map.
 use Rattle.std.specs.Prelude.{◌≡◌, ℕ, ◌≤◌, Bool, true, List, [], ◌∷◌, ◌++◌, flat_map, length, Option, Some}
 use Rattle.std.specs.List.{AllByRecursion}
-use Rattle.papaya_grows.specs.Given.Seize.World.{World, Request, Begin, Step, Happens}
-use Rattle.papaya_grows.specs.Given.Raw.declared.machines.progress.Progress.{Progress}
-use Rattle.papaya_grows.specs.Given.Tables.Nodes.{deferred_word}
-use Rattle.papaya_grows.specs.Given.Tables.declared.node.Node.{Node}
-use Rattle.papaya_grows.specs.Given.Schedules.declared.effect.Thing.{Thing}
-use Rattle.papaya_grows.specs.Given.Schedules.declared.effect.Thing.TheVariants.{APair, ATable}
-use Rattle.papaya_grows.specs.Given.Schedules.After.{moment}
-use Rattle.papaya_grows.specs.Given.Schedules.Beginning.{at_work}
-use Rattle.papaya_grows.specs.Given.Schedules.Effects.{with_effects}
-use Rattle.papaya_grows.specs.Given.Schedules.Entry.{Entry}
-use Rattle.papaya_grows.specs.Given.Schedules.Handing.{AllFind}
-use Rattle.papaya_grows.specs.Given.Schedules.Lists.{is_in}
-use Rattle.papaya_grows.specs.Given.Schedules.Model.{came, things_in}
-use Rattle.papaya_grows.specs.Given.Schedules.Moment.{Moment, start}
-use Rattle.papaya_grows.specs.Given.Schedules.Terms.{Terms}
-use Rattle.papaya_grows.specs.Given.Schedules.Things.{same_thing}
-use Rattle.papaya_grows.specs.Given.Teller.declared.changed.Changed.{Changed}
-use Rattle.papaya_grows.specs.Given.Callers.Together.{UnderWay, HandsOver}
-use Rattle.papaya_grows.specs.Given.Effects.Effects.{effects_of}
-use Rattle.papaya_grows.specs.Given.Effects.Known.{Known}
-use Rattle.papaya_grows.specs.Given.Effects.declared.acting.Acting.TheVariants.{Call}
-use Rattle.papaya_grows.specs.Given.Moments.Whole.{ShowsWhole}
-use Rattle.papaya_grows.specs.Given.Kept.Kept.{ShowsKept}
-use Rattle.papaya_grows.specs.Given.Models.CallEvents.{IsNoted}
-use Rattle.papaya_grows.specs.Given.Scenes.Held.{Held, IsAt}
-use Rattle.papaya_grows.specs.Given.Scenes.Scene.{Scene, slot_of}
-use Rattle.papaya_grows.specs.Given.Scenes.Stepping.{StepLeads}
+use Rattle.papaya_grows.specs.Given.SeizeWorld.{World, Request, Begin, Step, Happens}
+use Rattle.papaya_grows.specs.Given.RawDeclared.machines.progress.Progress.{Progress}
+use Rattle.papaya_grows.specs.Given.TablesNodes.{deferred_word}
+use Rattle.papaya_grows.specs.Given.TablesDeclared.node.Node.{Node}
+use Rattle.papaya_grows.specs.Given.SchedulesDeclared.effect.Thing.{Thing}
+use Rattle.papaya_grows.specs.Given.SchedulesDeclared.effect.Thing.TheVariants.{APair, ATable}
+use Rattle.papaya_grows.specs.Given.SchedulesAfter.{moment}
+use Rattle.papaya_grows.specs.Given.SchedulesBeginning.{at_work}
+use Rattle.papaya_grows.specs.Given.SchedulesEffects.{with_effects}
+use Rattle.papaya_grows.specs.Given.SchedulesEntry.{Entry}
+use Rattle.papaya_grows.specs.Given.SchedulesHanding.{AllFind}
+use Rattle.papaya_grows.specs.Given.SchedulesLists.{is_in}
+use Rattle.papaya_grows.specs.Given.SchedulesModel.{came, things_in}
+use Rattle.papaya_grows.specs.Given.SchedulesMoment.{Moment, start}
+use Rattle.papaya_grows.specs.Given.SchedulesTerms.{Terms}
+use Rattle.papaya_grows.specs.Given.SchedulesThings.{same_thing}
+use Rattle.papaya_grows.specs.Given.TellerDeclared.changed.Changed.{Changed}
+use Rattle.papaya_grows.specs.Given.CallersTogether.{UnderWay, HandsOver}
+use Rattle.papaya_grows.specs.Given.EffectsEffects.{effects_of}
+use Rattle.papaya_grows.specs.Given.EffectsKnown.{Known}
+use Rattle.papaya_grows.specs.Given.EffectsDeclared.acting.Acting.TheVariants.{Call}
+use Rattle.papaya_grows.specs.Given.MomentsWhole.{ShowsWhole}
+use Rattle.papaya_grows.specs.Given.KeptKept.{ShowsKept}
+use Rattle.papaya_grows.specs.Given.ModelsCallEvents.{IsNoted}
+use Rattle.papaya_grows.specs.Given.ScenesHeld.{Held, IsAt}
+use Rattle.papaya_grows.specs.Given.ScenesScene.{Scene, slot_of}
+use Rattle.papaya_grows.specs.Given.ScenesStepping.{StepLeads}
 
 -- each pair that was stored, and each table that ever was one of a map, is among these things
 pub record HaveCome {K V : Type 0} (things : List Thing) (m : Moment K V) : Type 0 where

@@ -1,49 +1,49 @@
 -- What a moment shows of calls, whoever tells of it: after a step of a call, where it comes to an outcome, where a row begins on a slot, and after a step of that, of the making of a map, and of
 -- its end.
 use Rattle.std.specs.Prelude.{◌≡◌, ◌<◌, ℕ, Bool, true, List, Some, None}
-use Rattle.papaya_grows.specs.Given.Seize.World.{Begin, Step}
-use Rattle.papaya_grows.specs.Given.Tables.declared.node.Node.{Node}
-use Rattle.papaya_grows.specs.Given.Runs.Same.{is_same}
-use Rattle.papaya_grows.specs.Given.Raw.declared.machines.progress.Progress.{Progress}
-use Rattle.papaya_grows.specs.Given.Schedules.declared.outcome.Outcome.{Outcome}
-use Rattle.papaya_grows.specs.Given.Schedules.Effects.{AtEachEffect, with_effects}
-use Rattle.papaya_grows.specs.Given.Schedules.Entry.{ends_call}
-use Rattle.papaya_grows.specs.Given.Schedules.Moment.{Moment, UnderWay as CallThere}
-use Rattle.papaya_grows.specs.Given.Schedules.Transition.{Past}
-use Rattle.papaya_grows.specs.Given.Schedules.Views.{call_of}
-use Rattle.papaya_grows.specs.Given.Callers.Together.{UnderWay}
-use Rattle.papaya_grows.specs.Given.Effects.Effects.{effects_of, known_after}
-use Rattle.papaya_grows.specs.Given.Effects.Known.{Known}
-use Rattle.papaya_grows.specs.Given.Effects.declared.acting.Acting.TheVariants as acts
-use Rattle.papaya_grows.specs.Given.Follows.Calling.{NoneNamed, come_to}
-use Rattle.papaya_grows.specs.Given.Hands.Calling.{AsksJust}
-use Rattle.papaya_grows.specs.Given.Histories.AsCalled.{AsksAsCalled}
-use Rattle.papaya_grows.specs.Given.Histories.Questions.{AsksStill}
-use Rattle.papaya_grows.specs.Given.Others.Rows.{scene_then}
-use Rattle.papaya_grows.specs.Given.Purposes.Kept.{ShowsNone, TellsNone}
-use Rattle.papaya_grows.specs.Given.Purposes.Tableless.{TablelessUncounted}
-use Rattle.papaya_grows.specs.Given.Scenes.Held.{Held, IsAt}
-use Rattle.papaya_grows.specs.Given.Scenes.declared.row.RowTold.{RowTold}
-use Rattle.papaya_grows.specs.Given.Scenes.declared.row.SlotCall.{SlotCall}
-use Rattle.papaya_grows.specs.Given.Scenes.declared.row.SlotRow.{SlotRow}
-use Rattle.papaya_grows.specs.Given.Scenes.OnSlots.{RowBegins, RowLeads}
-use Rattle.papaya_grows.specs.Given.Scenes.Rows.{request_of}
-use Rattle.papaya_grows.specs.Given.Scenes.Scene.{IsOnSlot, Scene, slot_of}
-use Rattle.papaya_grows.specs.Given.Scenes.Stepping.{StepLeads, scene_after}
+use Rattle.papaya_grows.specs.Given.SeizeWorld.{Begin, Step}
+use Rattle.papaya_grows.specs.Given.TablesDeclared.node.Node.{Node}
+use Rattle.papaya_grows.specs.Given.RunsSame.{is_same}
+use Rattle.papaya_grows.specs.Given.RawDeclared.machines.progress.Progress.{Progress}
+use Rattle.papaya_grows.specs.Given.SchedulesDeclared.outcome.Outcome.{Outcome}
+use Rattle.papaya_grows.specs.Given.SchedulesEffects.{AtEachEffect, with_effects}
+use Rattle.papaya_grows.specs.Given.SchedulesEntry.{ends_call}
+use Rattle.papaya_grows.specs.Given.SchedulesMoment.{Moment, UnderWay as CallThere}
+use Rattle.papaya_grows.specs.Given.SchedulesTransition.{Past}
+use Rattle.papaya_grows.specs.Given.SchedulesViews.{call_of}
+use Rattle.papaya_grows.specs.Given.CallersTogether.{UnderWay}
+use Rattle.papaya_grows.specs.Given.EffectsEffects.{effects_of, known_after}
+use Rattle.papaya_grows.specs.Given.EffectsKnown.{Known}
+use Rattle.papaya_grows.specs.Given.EffectsDeclared.acting.Acting.TheVariants as acts
+use Rattle.papaya_grows.specs.Given.FollowsCalling.{NoneNamed, come_to}
+use Rattle.papaya_grows.specs.Given.HandsCalling.{AsksJust}
+use Rattle.papaya_grows.specs.Given.HistoriesAsCalled.{AsksAsCalled}
+use Rattle.papaya_grows.specs.Given.HistoriesQuestions.{AsksStill}
+use Rattle.papaya_grows.specs.Given.OthersRows.{scene_then}
+use Rattle.papaya_grows.specs.Given.PurposesKept.{ShowsNone, TellsNone}
+use Rattle.papaya_grows.specs.Given.PurposesTableless.{TablelessUncounted}
+use Rattle.papaya_grows.specs.Given.ScenesHeld.{Held, IsAt}
+use Rattle.papaya_grows.specs.Given.ScenesDeclared.row.RowTold.{RowTold}
+use Rattle.papaya_grows.specs.Given.ScenesDeclared.row.SlotCall.{SlotCall}
+use Rattle.papaya_grows.specs.Given.ScenesDeclared.row.SlotRow.{SlotRow}
+use Rattle.papaya_grows.specs.Given.ScenesOnSlots.{RowBegins, RowLeads}
+use Rattle.papaya_grows.specs.Given.ScenesRows.{request_of}
+use Rattle.papaya_grows.specs.Given.ScenesScene.{IsOnSlot, Scene, slot_of}
+use Rattle.papaya_grows.specs.Given.ScenesStepping.{StepLeads, scene_after}
 use Rattle.papaya_legal.specs.Carried.{ShowsCalls}
 use Rattle.papaya_legal.specs.MapEvents.{FindsItsMap}
-use Rattle.papaya_grows.specs.Given.Scenes.Making.{MakingLeads}
-use Rattle.papaya_grows.specs.Given.Scenes.Ending.{EndingLeads}
-use Rattle.papaya_grows.specs.Given.Sources.Stays.{NoneBorn}
-use Rattle.papaya_grows.specs.Given.Others.Makings.{making_after}
-use Rattle.papaya_grows.specs.Given.Others.Makings.{WasNew}
-use Rattle.papaya_grows.specs.Given.Others.Endings.{ending_after}
-use Rattle.papaya_grows.specs.Given.Finishes.Makings.{Beginning}
-use Rattle.papaya_grows.specs.Given.Moments.Endings.{IsOfIts}
-use Rattle.papaya_grows.specs.Given.Finishes.Endings.{Finishing}
-use Rattle.papaya_grows.specs.Given.Tables.declared.setting.Setting.{Setting}
-use Rattle.papaya_grows.specs.Given.Seize.declared.rows.settle.Settled.{Settled}
-use Rattle.papaya_grows.specs.Given.Seize.declared.progress.Progress.{Progress as Making}
+use Rattle.papaya_grows.specs.Given.ScenesMaking.{MakingLeads}
+use Rattle.papaya_grows.specs.Given.ScenesEnding.{EndingLeads}
+use Rattle.papaya_grows.specs.Given.SourcesStays.{NoneBorn}
+use Rattle.papaya_grows.specs.Given.OthersMakings.{making_after}
+use Rattle.papaya_grows.specs.Given.OthersMakings.{WasNew}
+use Rattle.papaya_grows.specs.Given.OthersEndings.{ending_after}
+use Rattle.papaya_grows.specs.Given.FinishesMakings.{Beginning}
+use Rattle.papaya_grows.specs.Given.MomentsEndings.{IsOfIts}
+use Rattle.papaya_grows.specs.Given.FinishesEndings.{Finishing}
+use Rattle.papaya_grows.specs.Given.TablesDeclared.setting.Setting.{Setting}
+use Rattle.papaya_grows.specs.Given.SeizeDeclared.rows.settle.Settled.{Settled}
+use Rattle.papaya_grows.specs.Given.SeizeDeclared.progress.Progress.{Progress as Making}
 
 module _ (K V : Type 0) (same : K → K → Bool) (hash : ℕ → K → ℕ) where
   -- The promises: so it is after a step of a call, whoever's, that shows no pair of a walk, where nothing was done since the last entry,

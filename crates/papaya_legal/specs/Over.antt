@@ -1,57 +1,57 @@
 -- Once an event is over the moment after it shows all that the next event needs: where it does nothing, chooses the number of a block, has a call say again what it has said, begins one, tells it a reply, or gives a walk up; and where it has made a map, or ended one.
 use Rattle.std.specs.Prelude.{◌≡◌, ◌<◌, ◌^◌, ℕ, Bool, true, false, List, [], ◌∷◌, Option, Some, None, Ok}
 use Rattle.std.specs.List.{AllByRecursion}
-use Rattle.papaya_grows.specs.Given.SeizeWords.declared.fault.Fault.TheVariants.{Busy}
-use Rattle.papaya_grows.specs.Given.Seize.World.{Rests, with_at}
-use Rattle.papaya_grows.specs.Given.Runs.Same.{is_same}
-use Rattle.papaya_grows.specs.Given.Schedules.declared.call.Call.{Call}
-use Rattle.papaya_grows.specs.Given.Schedules.declared.call.Call.TheVariants.{On}
-use Rattle.papaya_grows.specs.Given.Schedules.declared.call.OneKey.{OneKey}
-use Rattle.papaya_grows.specs.Given.Schedules.declared.call.Reply.{Reply}
-use Rattle.papaya_grows.specs.Given.Tables.declared.resize_mode.ResizeMode.{ResizeMode}
-use Rattle.papaya_grows.specs.Given.Schedules.declared.effect.Effect.{Effect}
-use Rattle.papaya_grows.specs.Given.Schedules.declared.event.Event.{Event}
-use Rattle.papaya_grows.specs.Given.Schedules.declared.event.Event.TheVariants.{Choose, MakeMap, EndMap, Begin, Step, Go, Replied, OneCall, Next, Stop}
-use Rattle.papaya_grows.specs.Given.Schedules.declared.outcome.Outcome.{Outcome}
-use Rattle.papaya_grows.specs.Given.Schedules.declared.outcome.Outcome.TheVariants.{Asks, Done, Goes, Ready, Refused}
-use Rattle.papaya_grows.specs.Given.Schedules.After.{moment}
-use Rattle.papaya_grows.specs.Given.Schedules.Beginning.{at_work, begun, with_map}
-use Rattle.papaya_grows.specs.Given.Schedules.Effects.{AtEachEffect}
-use Rattle.papaya_grows.specs.Given.Schedules.Entry.{Entry, acted_on, caller_of, is_busy}
-use Rattle.papaya_grows.specs.Given.Schedules.Handing.{MovesOn}
-use Rattle.papaya_grows.specs.Given.Schedules.InTurn.{ComesRight}
-use Rattle.papaya_grows.specs.Given.Schedules.Model.{IsByModel, changes_of, left_last}
-use Rattle.papaya_grows.specs.Given.Schedules.Moment.{UnderWay as CallThere, Stands, Asking, IsReady, MapThere, Moment}
-use Rattle.papaya_grows.specs.Given.Schedules.Terms.{Terms}
-use Rattle.papaya_grows.specs.Given.Schedules.Views.{call_of, map_at, number_of}
-use Rattle.papaya_grows.specs.Given.Raw.Machine.{machine_asked, machine_replied}
-use Rattle.papaya_grows.specs.Given.Callers.Together.{UnderWay}
-use Rattle.papaya_grows.specs.Given.Effects.Known.{Known}
-use Rattle.papaya_grows.specs.Given.Finishes.Machines.{machine_of, ToldOfKind}
-use Rattle.papaya_grows.specs.Given.Finishes.Makings.{Beginning, HasMade}
-use Rattle.papaya_grows.specs.Given.Finishes.Maps.{Standing, with_call as with_call_of}
-use Rattle.papaya_grows.specs.Given.Follows.Calling.{NoneNamed}
-use Rattle.papaya_grows.specs.Given.Hands.Asked.{as_told}
-use Rattle.papaya_grows.specs.Given.Moments.Whole.{ShowsWhole}
-use Rattle.papaya_grows.specs.Given.Histories.Changes.{IsTaken}
-use Rattle.papaya_grows.specs.Given.Kept.Kept.{ShowsKept}
-use Rattle.papaya_grows.specs.Given.Logged.Choosing.{scene_chosen}
-use Rattle.papaya_grows.specs.Given.Promises.Reading.{ShowsReading}
-use Rattle.papaya_grows.specs.Given.Promises.Sheltered.{SectionsHold}
-use Rattle.papaya_grows.specs.Given.Models.Follows.{FollowsModel}
-use Rattle.papaya_grows.specs.Given.Models.Numbers.{EachIsOnce}
-use Rattle.papaya_grows.specs.Given.Finds.Life.{StoresOne}
-use Rattle.papaya_grows.specs.Given.Finds.Little.{ReclaimsAll}
+use Rattle.papaya_grows.specs.Given.SeizeWordsDeclared.fault.Fault.TheVariants.{Busy}
+use Rattle.papaya_grows.specs.Given.SeizeWorld.{Rests, with_at}
+use Rattle.papaya_grows.specs.Given.RunsSame.{is_same}
+use Rattle.papaya_grows.specs.Given.SchedulesDeclared.call.Call.{Call}
+use Rattle.papaya_grows.specs.Given.SchedulesDeclared.call.Call.TheVariants.{On}
+use Rattle.papaya_grows.specs.Given.SchedulesDeclared.call.OneKey.{OneKey}
+use Rattle.papaya_grows.specs.Given.SchedulesDeclared.call.Reply.{Reply}
+use Rattle.papaya_grows.specs.Given.TablesDeclared.resize_mode.ResizeMode.{ResizeMode}
+use Rattle.papaya_grows.specs.Given.SchedulesDeclared.effect.Effect.{Effect}
+use Rattle.papaya_grows.specs.Given.SchedulesDeclared.event.Event.{Event}
+use Rattle.papaya_grows.specs.Given.SchedulesDeclared.event.Event.TheVariants.{Choose, MakeMap, EndMap, Begin, Step, Go, Replied, OneCall, Next, Stop}
+use Rattle.papaya_grows.specs.Given.SchedulesDeclared.outcome.Outcome.{Outcome}
+use Rattle.papaya_grows.specs.Given.SchedulesDeclared.outcome.Outcome.TheVariants.{Asks, Done, Goes, Ready, Refused}
+use Rattle.papaya_grows.specs.Given.SchedulesAfter.{moment}
+use Rattle.papaya_grows.specs.Given.SchedulesBeginning.{at_work, begun, with_map}
+use Rattle.papaya_grows.specs.Given.SchedulesEffects.{AtEachEffect}
+use Rattle.papaya_grows.specs.Given.SchedulesEntry.{Entry, acted_on, caller_of, is_busy}
+use Rattle.papaya_grows.specs.Given.SchedulesHanding.{MovesOn}
+use Rattle.papaya_grows.specs.Given.SchedulesInTurn.{ComesRight}
+use Rattle.papaya_grows.specs.Given.SchedulesModel.{IsByModel, changes_of, left_last}
+use Rattle.papaya_grows.specs.Given.SchedulesMoment.{UnderWay as CallThere, Stands, Asking, IsReady, MapThere, Moment}
+use Rattle.papaya_grows.specs.Given.SchedulesTerms.{Terms}
+use Rattle.papaya_grows.specs.Given.SchedulesViews.{call_of, map_at, number_of}
+use Rattle.papaya_grows.specs.Given.RawMachine.{machine_asked, machine_replied}
+use Rattle.papaya_grows.specs.Given.CallersTogether.{UnderWay}
+use Rattle.papaya_grows.specs.Given.EffectsKnown.{Known}
+use Rattle.papaya_grows.specs.Given.FinishesMachines.{machine_of, ToldOfKind}
+use Rattle.papaya_grows.specs.Given.FinishesMakings.{Beginning, HasMade}
+use Rattle.papaya_grows.specs.Given.FinishesMaps.{Standing, with_call as with_call_of}
+use Rattle.papaya_grows.specs.Given.FollowsCalling.{NoneNamed}
+use Rattle.papaya_grows.specs.Given.HandsAsked.{as_told}
+use Rattle.papaya_grows.specs.Given.MomentsWhole.{ShowsWhole}
+use Rattle.papaya_grows.specs.Given.HistoriesChanges.{IsTaken}
+use Rattle.papaya_grows.specs.Given.KeptKept.{ShowsKept}
+use Rattle.papaya_grows.specs.Given.LoggedChoosing.{scene_chosen}
+use Rattle.papaya_grows.specs.Given.PromisesReading.{ShowsReading}
+use Rattle.papaya_grows.specs.Given.PromisesSheltered.{SectionsHold}
+use Rattle.papaya_grows.specs.Given.ModelsFollows.{FollowsModel}
+use Rattle.papaya_grows.specs.Given.ModelsNumbers.{EachIsOnce}
+use Rattle.papaya_grows.specs.Given.FindsLife.{StoresOne}
+use Rattle.papaya_grows.specs.Given.FindsLittle.{ReclaimsAll}
 use Rattle.papaya_legal.specs.Between.{IsBegunRight, IsLike}
 use Rattle.papaya_legal.specs.CallEvents.{IsLegalBut}
 use Rattle.papaya_legal.specs.Carried.{ComesAlone, FollowsOrRows, ShowsCalls, ShowsRun}
 use Rattle.papaya_legal.specs.MapEvents.{InEndEvent, InMakingEvent, InMapEvent}
-use Rattle.papaya_grows.specs.Given.Scenes.Beginning.{Begins}
-use Rattle.papaya_grows.specs.Given.Scenes.Ending.{ending_begun}
-use Rattle.papaya_grows.specs.Given.Scenes.Held.{Held, IsAt}
-use Rattle.papaya_grows.specs.Given.Scenes.Replying.{StopLeads, scene_with, unless_stopped}
-use Rattle.papaya_grows.specs.Given.Scenes.Scene.{HasCall, Scene, slot_of}
-use Rattle.papaya_grows.specs.Given.Schedules.Transition.{past}
+use Rattle.papaya_grows.specs.Given.ScenesBeginning.{Begins}
+use Rattle.papaya_grows.specs.Given.ScenesEnding.{ending_begun}
+use Rattle.papaya_grows.specs.Given.ScenesHeld.{Held, IsAt}
+use Rattle.papaya_grows.specs.Given.ScenesReplying.{StopLeads, scene_with, unless_stopped}
+use Rattle.papaya_grows.specs.Given.ScenesScene.{HasCall, Scene, slot_of}
+use Rattle.papaya_grows.specs.Given.SchedulesTransition.{past}
 
 -- by such an event calls and maps are as they were: it is none that makes or ends a map, begins a call, tells it a reply, gives it up, or takes its steps, or it is kept out
 abbrev pub LeavesAll : {K V : Type 0} → Event K V → Outcome V → ℕ → Type 0

@@ -1,18 +1,18 @@
 -- A run whose events come to what is right, and keep these promises, is legal.
 use Rattle.std.specs.Prelude.{◌<◌, ◌^◌, ℕ, Bool, List, ◌∷◌}
-use Rattle.papaya_grows.specs.Given.Schedules.After.{after, moment}
-use Rattle.papaya_grows.specs.Given.Schedules.Beginning.{at_work}
-use Rattle.papaya_grows.specs.Given.Schedules.Entry.{Entry, acting, caller_of}
-use Rattle.papaya_grows.specs.Given.Schedules.InTurn.{ComesRight}
-use Rattle.papaya_grows.specs.Given.Schedules.Runs.{IsLegal}
-use Rattle.papaya_grows.specs.Given.Schedules.Steps.{DoesFew, MakesSteps, stands_or}
-use Rattle.papaya_grows.specs.Given.Schedules.Terms.{Terms}
-use Rattle.papaya_grows.specs.Given.Schedules.Waiting.{WaitsLawfully}
-use Rattle.papaya_grows.specs.Given.Effects.Known.{Known}
-use Rattle.papaya_grows.specs.Given.Finds.Little.{ReclaimsAll, ShowsNobody}
+use Rattle.papaya_grows.specs.Given.SchedulesAfter.{after, moment}
+use Rattle.papaya_grows.specs.Given.SchedulesBeginning.{at_work}
+use Rattle.papaya_grows.specs.Given.SchedulesEntry.{Entry, acting, caller_of}
+use Rattle.papaya_grows.specs.Given.SchedulesInTurn.{ComesRight}
+use Rattle.papaya_grows.specs.Given.SchedulesRuns.{IsLegal}
+use Rattle.papaya_grows.specs.Given.SchedulesSteps.{DoesFew, MakesSteps, stands_or}
+use Rattle.papaya_grows.specs.Given.SchedulesTerms.{Terms}
+use Rattle.papaya_grows.specs.Given.SchedulesWaiting.{WaitsLawfully}
+use Rattle.papaya_grows.specs.Given.EffectsKnown.{Known}
+use Rattle.papaya_grows.specs.Given.FindsLittle.{ReclaimsAll, ShowsNobody}
 use Rattle.papaya_legal.specs.CallEvents.{IsLegalBut}
 use Rattle.papaya_legal.specs.Carried.{ShowsRun}
-use Rattle.papaya_grows.specs.Given.Scenes.Scene.{Scene}
+use Rattle.papaya_grows.specs.Given.ScenesScene.{Scene}
 
 -- The promise: an event that comes to what is right, makes its steps, waits where it may, and keeps these promises, is legal, where the moment after it shows the scene, all of which is back if it reclaims all, and in
 -- which nobody is under way where nobody is there.

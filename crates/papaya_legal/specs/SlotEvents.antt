@@ -1,42 +1,42 @@
 -- Events of registrations and guards, and those that reclaim everything: in the midst of one, and at its end.
 use Rattle.std.specs.Prelude.{◌≡◌, ◌<◌, ◌^◌, ℕ, Bool, true, false, List, [], ◌∷◌, ◌++◌, None}
 use Rattle.std.specs.List.{list_all}
-use Rattle.papaya_grows.specs.Given.Seize.World.{World, Rests, Begin, Step}
-use Rattle.papaya_grows.specs.Given.Tables.declared.node.Node.{Node}
-use Rattle.papaya_grows.specs.Given.Schedules.declared.effect.Effect.{Effect}
-use Rattle.papaya_grows.specs.Given.Schedules.declared.event.Event.{Event}
-use Rattle.papaya_grows.specs.Given.Schedules.After.{after, moment}
-use Rattle.papaya_grows.specs.Given.Schedules.Beginning.{at_work}
-use Rattle.papaya_grows.specs.Given.Schedules.Effects.{with_effects, AtEachEffect}
-use Rattle.papaya_grows.specs.Given.Schedules.Entry.{Entry, is_busy}
-use Rattle.papaya_grows.specs.Given.Schedules.Handing.{gives_all, is_granted, may_do}
-use Rattle.papaya_grows.specs.Given.Schedules.InTurn.{ComesRight}
-use Rattle.papaya_grows.specs.Given.Schedules.Lives.{Finds}
-use Rattle.papaya_grows.specs.Given.Schedules.Model.{sets_in, things_in}
-use Rattle.papaya_grows.specs.Given.Schedules.Moment.{Moment}
-use Rattle.papaya_grows.specs.Given.Schedules.Terms.{Terms}
-use Rattle.papaya_grows.specs.Given.Effects.Effects.{effects_of, known_after}
-use Rattle.papaya_grows.specs.Given.Effects.Known.{Known}
-use Rattle.papaya_grows.specs.Given.Effects.declared.acting.Acting.TheVariants as acts
-use Rattle.papaya_grows.specs.Given.Scenes.declared.row.RowTold.{RowTold}
-use Rattle.papaya_grows.specs.Given.Scenes.declared.row.SlotCall.{SlotCall}
-use Rattle.papaya_grows.specs.Given.Scenes.declared.row.SlotRow.{SlotRow}
-use Rattle.papaya_grows.specs.Given.Others.Rows.{scene_then}
-use Rattle.papaya_grows.specs.Given.Promises.Protected.{EndsInside, InMidst, is_of_slots, there_in}
-use Rattle.papaya_grows.specs.Given.Promises.Others.{SparesGuards}
-use Rattle.papaya_grows.specs.Given.Promises.Reading.{ShowsReading}
-use Rattle.papaya_grows.specs.Given.Promises.Sheltered.{SectionsHold}
-use Rattle.papaya_grows.specs.Given.Models.Follows.{FollowsModel}
-use Rattle.papaya_grows.specs.Given.Models.Numbers.{EachIsOnce}
-use Rattle.papaya_grows.specs.Given.Models.OnSlots.{FollowsInRow, IsRowFor}
-use Rattle.papaya_grows.specs.Given.Finds.Little.{ReclaimsAll}
+use Rattle.papaya_grows.specs.Given.SeizeWorld.{World, Rests, Begin, Step}
+use Rattle.papaya_grows.specs.Given.TablesDeclared.node.Node.{Node}
+use Rattle.papaya_grows.specs.Given.SchedulesDeclared.effect.Effect.{Effect}
+use Rattle.papaya_grows.specs.Given.SchedulesDeclared.event.Event.{Event}
+use Rattle.papaya_grows.specs.Given.SchedulesAfter.{after, moment}
+use Rattle.papaya_grows.specs.Given.SchedulesBeginning.{at_work}
+use Rattle.papaya_grows.specs.Given.SchedulesEffects.{with_effects, AtEachEffect}
+use Rattle.papaya_grows.specs.Given.SchedulesEntry.{Entry, is_busy}
+use Rattle.papaya_grows.specs.Given.SchedulesHanding.{gives_all, is_granted, may_do}
+use Rattle.papaya_grows.specs.Given.SchedulesInTurn.{ComesRight}
+use Rattle.papaya_grows.specs.Given.SchedulesLives.{Finds}
+use Rattle.papaya_grows.specs.Given.SchedulesModel.{sets_in, things_in}
+use Rattle.papaya_grows.specs.Given.SchedulesMoment.{Moment}
+use Rattle.papaya_grows.specs.Given.SchedulesTerms.{Terms}
+use Rattle.papaya_grows.specs.Given.EffectsEffects.{effects_of, known_after}
+use Rattle.papaya_grows.specs.Given.EffectsKnown.{Known}
+use Rattle.papaya_grows.specs.Given.EffectsDeclared.acting.Acting.TheVariants as acts
+use Rattle.papaya_grows.specs.Given.ScenesDeclared.row.RowTold.{RowTold}
+use Rattle.papaya_grows.specs.Given.ScenesDeclared.row.SlotCall.{SlotCall}
+use Rattle.papaya_grows.specs.Given.ScenesDeclared.row.SlotRow.{SlotRow}
+use Rattle.papaya_grows.specs.Given.OthersRows.{scene_then}
+use Rattle.papaya_grows.specs.Given.PromisesProtected.{EndsInside, InMidst, is_of_slots, there_in}
+use Rattle.papaya_grows.specs.Given.PromisesOthers.{SparesGuards}
+use Rattle.papaya_grows.specs.Given.PromisesReading.{ShowsReading}
+use Rattle.papaya_grows.specs.Given.PromisesSheltered.{SectionsHold}
+use Rattle.papaya_grows.specs.Given.ModelsFollows.{FollowsModel}
+use Rattle.papaya_grows.specs.Given.ModelsNumbers.{EachIsOnce}
+use Rattle.papaya_grows.specs.Given.ModelsOnSlots.{FollowsInRow, IsRowFor}
+use Rattle.papaya_grows.specs.Given.FindsLittle.{ReclaimsAll}
 use Rattle.papaya_legal.specs.CallEvents.{IsLegalBut}
 use Rattle.papaya_legal.specs.Carried.{ComesAlone, ShowsCalls, ShowsRun}
-use Rattle.papaya_grows.specs.Given.Scenes.Held.{Held, IsAt}
-use Rattle.papaya_grows.specs.Given.Scenes.OnSlots.{RowBegins, RowLeads}
-use Rattle.papaya_grows.specs.Given.Scenes.Rows.{request_of}
-use Rattle.papaya_grows.specs.Given.Scenes.Scene.{IsOnSlot, Scene, slot_of}
-use Rattle.papaya_grows.specs.Given.Schedules.Transition.{past}
+use Rattle.papaya_grows.specs.Given.ScenesHeld.{Held, IsAt}
+use Rattle.papaya_grows.specs.Given.ScenesOnSlots.{RowBegins, RowLeads}
+use Rattle.papaya_grows.specs.Given.ScenesRows.{request_of}
+use Rattle.papaya_grows.specs.Given.ScenesScene.{IsOnSlot, Scene, slot_of}
+use Rattle.papaya_grows.specs.Given.SchedulesTransition.{past}
 
 module _ {K V : Type 0} (same : K → K → Bool) (name : ℕ → List ℕ) (terms : Terms) (log : List (Entry K V)) (event : Event K V) (i : ℕ) (called : SlotCall) (first : Known) (began : World (Node K V)) where
   -- In the midst of an event whose work is a row of caller i on its slot, which began in that world, and has done this.

@@ -3,19 +3,19 @@ use Rattle.std.specs.Prelude.{◌≡◌, ℕ, ◌==◌, Bool, true, false, Optio
 use Rattle.std.proofs.Common.{refl, sym, subst}
 use Rattle.papaya_deeds.specs.Given.SeizeWords.Op.{Out, Found, Stored, Exchanged, Made, Taken, Roomed}
 use Rattle.papaya_deeds.specs.Given.SeizeWords.Word.{block_in}
-use Rattle.papaya_agrees.specs.Given.Seize.declared.progress.Progress.{Progress as Counting}
-use Rattle.papaya_agrees.specs.Given.Seize.declared.progress.Progress.TheVariants as counting
-use Rattle.papaya_agrees.specs.Given.Seize.declared.rows.settle.Settled.{Settled}
-use Rattle.papaya_agrees.specs.Given.Seize.declared.rows.settle.Settled.TheVariants as settled
-use Rattle.papaya_agrees.specs.Given.Tables.Chunks.{is_incremental}
-use Rattle.papaya_agrees.specs.Given.Tables.Finding.{may_name}
-use Rattle.papaya_agrees.specs.Given.Tables.Trials.{next_trial, with_met}
-use Rattle.papaya_agrees.specs.Given.Tables.declared.finding.Finding.{Finding}
-use Rattle.papaya_agrees.specs.Given.Tables.declared.finding.Finding.TheVariants as finds
-use Rattle.papaya_agrees.specs.Given.Tables.declared.marks.TheConstants.{TOMBSTONE}
-use Rattle.papaya_agrees.specs.Given.Tables.declared.node.Node.{Node}
-use Rattle.papaya_agrees.specs.Given.Tables.declared.node.Node.TheVariants as node
-use Rattle.papaya_agrees.specs.Given.Tables.declared.table.Table.{Table}
+use Rattle.papaya_agrees.specs.Given.SeizeDeclared.progress.Progress.{Progress as Counting}
+use Rattle.papaya_agrees.specs.Given.SeizeDeclared.progress.Progress.TheVariants as counting
+use Rattle.papaya_agrees.specs.Given.SeizeDeclared.rows.settle.Settled.{Settled}
+use Rattle.papaya_agrees.specs.Given.SeizeDeclared.rows.settle.Settled.TheVariants as settled
+use Rattle.papaya_agrees.specs.Given.TablesChunks.{is_incremental}
+use Rattle.papaya_agrees.specs.Given.TablesFinding.{may_name}
+use Rattle.papaya_agrees.specs.Given.TablesTrials.{next_trial, with_met}
+use Rattle.papaya_agrees.specs.Given.TablesDeclared.finding.Finding.{Finding}
+use Rattle.papaya_agrees.specs.Given.TablesDeclared.finding.Finding.TheVariants as finds
+use Rattle.papaya_agrees.specs.Given.TablesDeclared.marks.TheConstants.{TOMBSTONE}
+use Rattle.papaya_agrees.specs.Given.TablesDeclared.node.Node.{Node}
+use Rattle.papaya_agrees.specs.Given.TablesDeclared.node.Node.TheVariants as node
+use Rattle.papaya_agrees.specs.Given.TablesDeclared.table.Table.{Table}
 use Rattle.papaya_deeds.specs.Given.Resize.Copier.{copier_plan}
 use Rattle.papaya_deeds.specs.Given.Resize.CopierStates.{copying_all}
 use Rattle.papaya_deeds.specs.Given.Resize.Dispose.{dispose_plan}
@@ -51,8 +51,8 @@ use Rattle.papaya_deeds.specs.Given.Raw.declared.machines.asking.Told.TheVariant
 use Rattle.papaya_deeds.specs.Given.Raw.declared.machines.call.Calling.{Calling}
 use Rattle.papaya_deeds.specs.Given.Raw.declared.machines.call.Calling.TheVariants as at
 use Rattle.papaya_deeds.specs.Given.Raw.declared.machines.call.KeyCall.{KeyCall}
-use Rattle.papaya_events.proofs.Given.Points.Calls.Asked.{passed_so}
-use Rattle.papaya_agrees.proofs.Given.Rule.Keys.Always.{Always, AlwaysOf, always_if, always_plan_as}
+use Rattle.papaya_events.proofs.Given.PointsCalls.Asked.{passed_so}
+use Rattle.papaya_agrees.proofs.Given.RuleKeys.Always.{Always, AlwaysOf, always_if, always_plan_as}
 
 -- it takes no reply there
 abbrev pub TakesNone : Calling → Type 0

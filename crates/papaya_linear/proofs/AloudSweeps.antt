@@ -3,13 +3,13 @@ use Rattle.std.specs.Prelude.{◌≡◌, ℕ, ◌==◌, ◌&&◌, Bool, true, fa
 use Rattle.std.proofs.Common.{refl, sym, subst}
 use Rattle.papaya_deeds.specs.Given.SeizeWords.Op.{Out, Found, Stored, Exchanged, Made, Taken, Roomed}
 use Rattle.papaya_deeds.specs.Given.SeizeWords.Word.{block_in}
-use Rattle.papaya_agrees.specs.Given.Seize.declared.rows.settle.Settled.{Settled}
-use Rattle.papaya_agrees.specs.Given.Seize.declared.rows.settle.Settled.TheVariants as settled
-use Rattle.papaya_agrees.specs.Given.Tables.Marks.{has_mark}
-use Rattle.papaya_agrees.specs.Given.Tables.Nodes.{table_seen}
-use Rattle.papaya_agrees.specs.Given.Tables.declared.marks.TheConstants.{COPYING}
-use Rattle.papaya_agrees.specs.Given.Tables.declared.node.Node.{Node}
-use Rattle.papaya_agrees.specs.Given.Tables.declared.table.Table.{Table}
+use Rattle.papaya_agrees.specs.Given.SeizeDeclared.rows.settle.Settled.{Settled}
+use Rattle.papaya_agrees.specs.Given.SeizeDeclared.rows.settle.Settled.TheVariants as settled
+use Rattle.papaya_agrees.specs.Given.TablesMarks.{has_mark}
+use Rattle.papaya_agrees.specs.Given.TablesNodes.{table_seen}
+use Rattle.papaya_agrees.specs.Given.TablesDeclared.marks.TheConstants.{COPYING}
+use Rattle.papaya_agrees.specs.Given.TablesDeclared.node.Node.{Node}
+use Rattle.papaya_agrees.specs.Given.TablesDeclared.table.Table.{Table}
 use Rattle.papaya_deeds.specs.Given.Resize.Copier.{copier_plan}
 use Rattle.papaya_deeds.specs.Given.Resize.Dispose.{dispose_plan}
 use Rattle.papaya_deeds.specs.Given.Resize.declared.copier.Copier.{Copier}
@@ -25,7 +25,7 @@ use Rattle.papaya_deeds.specs.Given.Sweeps.declared.sweep.Sweeping.{Sweeping}
 use Rattle.papaya_deeds.specs.Given.Sweeps.declared.sweep.Sweeping.TheVariants as at
 use Rattle.papaya_deeds.specs.Given.Sweeps.declared.sweep.Swept.{Swept}
 use Rattle.papaya_deeds.specs.Given.Sweeps.declared.sweep.Swept.TheVariants as ends
-use Rattle.papaya_agrees.proofs.Given.Rule.Keys.Always.{Always, AlwaysOf, always_if, always_plan_as}
+use Rattle.papaya_agrees.proofs.Given.RuleKeys.Always.{Always, AlwaysOf, always_if, always_plan_as}
 
 -- it takes no reply there
 abbrev pub TakesNone : Sweeping → Type 0

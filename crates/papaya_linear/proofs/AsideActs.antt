@@ -2,48 +2,48 @@
 use Rattle.std.specs.Prelude.{◌≡◌, ◌≢◌, ℕ, Bool, true, false, List, [], ◌∷◌, Option, Some, None, is_ok, length, if◌then◌else◌}
 use Rattle.std.specs.List.{All}
 use Rattle.std.proofs.Common.{refl, ap, sym, subst, ◌∙◌}
-use Rattle.papaya_agrees.specs.Given.Seize.declared.rows.reclaim_all.ReclaimAll.{ReclaimAll}
-use Rattle.papaya_agrees.specs.Given.Seize.declared.rows.settle.Settled.{Settled}
-use Rattle.papaya_agrees.specs.Given.Tables.declared.node.Node.{Node}
+use Rattle.papaya_agrees.specs.Given.SeizeDeclared.rows.reclaim_all.ReclaimAll.{ReclaimAll}
+use Rattle.papaya_agrees.specs.Given.SeizeDeclared.rows.settle.Settled.{Settled}
+use Rattle.papaya_agrees.specs.Given.TablesDeclared.node.Node.{Node}
 use Rattle.papaya_deeds.specs.Given.Raw.Machine.{machine_asked, machine_plan, machine_replied}
 use Rattle.papaya_deeds.specs.Given.Raw.declared.machines.asking.Reply.{Reply as Told}
 use Rattle.papaya_deeds.specs.Given.Raw.declared.machines.progress.Progress.{Progress}
-use Rattle.papaya_agrees.specs.Given.Callers.Together.{UnderWay}
-use Rattle.papaya_agrees.specs.Given.Finishes.Endings.{Finishing}
-use Rattle.papaya_agrees.specs.Given.Finishes.Machines.{machine_of}
-use Rattle.papaya_agrees.specs.Given.Finishes.Makings.{Beginning}
-use Rattle.papaya_agrees.proofs.Given.Scenes.Goes.{same_map_keeps}
-use Rattle.papaya_agrees.proofs.Given.Scenes.May.{may_row, may_step}
-use Rattle.papaya_agrees.specs.Given.Scenes.Held.{Held, IsAt}
-use Rattle.papaya_agrees.specs.Given.Scenes.OnSlots.{RowLeads}
-use Rattle.papaya_agrees.specs.Given.Scenes.Reclaiming.{IsReclaiming, ReclaimingLeads}
-use Rattle.papaya_agrees.specs.Given.Scenes.Scene.{IsOnSlot, Scene, slot_of}
-use Rattle.papaya_agrees.specs.Given.Scenes.Stepping.{StepLeads}
-use Rattle.papaya_agrees.specs.Given.Scenes.declared.row.RowTold.{RowTold}
-use Rattle.papaya_agrees.specs.Given.Scenes.declared.row.SlotRow.{SlotRow}
+use Rattle.papaya_agrees.specs.Given.CallersTogether.{UnderWay}
+use Rattle.papaya_agrees.specs.Given.FinishesEndings.{Finishing}
+use Rattle.papaya_agrees.specs.Given.FinishesMachines.{machine_of}
+use Rattle.papaya_agrees.specs.Given.FinishesMakings.{Beginning}
+use Rattle.papaya_agrees.proofs.Given.ScenesGoes.{same_map_keeps}
+use Rattle.papaya_agrees.proofs.Given.ScenesMay.{may_row, may_step}
+use Rattle.papaya_agrees.specs.Given.ScenesHeld.{Held, IsAt}
+use Rattle.papaya_agrees.specs.Given.ScenesOnSlots.{RowLeads}
+use Rattle.papaya_agrees.specs.Given.ScenesReclaiming.{IsReclaiming, ReclaimingLeads}
+use Rattle.papaya_agrees.specs.Given.ScenesScene.{IsOnSlot, Scene, slot_of}
+use Rattle.papaya_agrees.specs.Given.ScenesStepping.{StepLeads}
+use Rattle.papaya_agrees.specs.Given.ScenesDeclared.row.RowTold.{RowTold}
+use Rattle.papaya_agrees.specs.Given.ScenesDeclared.row.SlotRow.{SlotRow}
 use Rattle.papaya_deeds.specs.Given.Schedules.declared.effect.Effect.{Effect}
 use Rattle.papaya_deeds.specs.Given.Schedules.declared.outcome.Outcome.{Outcome}
 use Rattle.papaya_deeds.specs.Given.Schedules.declared.outcome.Outcome.TheVariants as outcome
 use Rattle.papaya_deeds.specs.Given.Schedules.Effects.{with_effects}
 use Rattle.papaya_deeds.specs.Given.Schedules.Moment.{MapThere, Moment}
 use Rattle.papaya_deeds.specs.Given.Schedules.Views.{tables_of}
-use Rattle.papaya_agrees.specs.Given.Effects.Effects.{effects_of, known_after}
-use Rattle.papaya_agrees.specs.Given.Effects.Known.{Known}
-use Rattle.papaya_agrees.specs.Given.Effects.declared.acting.Acting.{Acting}
-use Rattle.papaya_agrees.specs.Given.Effects.declared.acting.Acting.TheVariants as acts
-use Rattle.papaya_events.specs.Given.Moments.Numbers.{MapsAreBelow}
-use Rattle.papaya_events.specs.Given.Moments.Whole.{ShowsWhole}
-use Rattle.papaya_agrees.proofs.Given.Follows.Operations.{Operated, operated}
-use Rattle.papaya_agrees.proofs.Given.Others.RowPlans.{row_operated, row_tells}
-use Rattle.papaya_events.specs.Given.Remains.Numbered.{NumbersUpTo}
-use Rattle.papaya_events.proofs.Given.Remains.Numbered.{calls_keep_count, rows_keep_count}
-use Rattle.papaya_events.proofs.Given.Logged.Reclaiming.Numbered.{reclaiming_keeps_count}
-use Rattle.papaya_agrees.specs.Given.Acts.Acts.{Act, Answer, BeginsCall, TellsCall, AsksCall, StopsCall, BeginsRow}
-use Rattle.papaya_agrees.specs.Given.Acts.Leads.{Led}
+use Rattle.papaya_agrees.specs.Given.EffectsEffects.{effects_of, known_after}
+use Rattle.papaya_agrees.specs.Given.EffectsKnown.{Known}
+use Rattle.papaya_agrees.specs.Given.EffectsDeclared.acting.Acting.{Acting}
+use Rattle.papaya_agrees.specs.Given.EffectsDeclared.acting.Acting.TheVariants as acts
+use Rattle.papaya_events.specs.Given.MomentsNumbers.{MapsAreBelow}
+use Rattle.papaya_events.specs.Given.MomentsWhole.{ShowsWhole}
+use Rattle.papaya_agrees.proofs.Given.FollowsOperations.{Operated, operated}
+use Rattle.papaya_agrees.proofs.Given.OthersRowPlans.{row_operated, row_tells}
+use Rattle.papaya_events.specs.Given.RemainsNumbered.{NumbersUpTo}
+use Rattle.papaya_events.proofs.Given.RemainsNumbered.{calls_keep_count, rows_keep_count}
+use Rattle.papaya_events.proofs.Given.LoggedReclaiming.Numbered.{reclaiming_keeps_count}
+use Rattle.papaya_agrees.specs.Given.ActsActs.{Act, Answer, BeginsCall, TellsCall, AsksCall, StopsCall, BeginsRow}
+use Rattle.papaya_agrees.specs.Given.ActsLeads.{Led}
 use Rattle.papaya_agrees.proofs.Elsewhere.{SameOf}
 use Rattle.papaya_deeds.specs.Deeds.{Entry, ReclaimsAll, Replies, Steps, Stops, acted_on, after, moment, named}
-use Rattle.papaya_agrees.specs.Given.Played.Play.{Ending, State, reply_for, row_deed}
-use Rattle.papaya_agrees.proofs.Given.Played.PlayedAs.{PlayedAs}
+use Rattle.papaya_agrees.specs.Given.PlayedPlay.{Ending, State, reply_for, row_deed}
+use Rattle.papaya_agrees.proofs.Given.PlayedPlayedAs.{PlayedAs}
 use Rattle.papaya_linear.specs.Coming.{Goes, IsGone, MapsComeAndGo}
 use Rattle.papaya_linear.proofs.Below.{maps_below}
 use Rattle.papaya_linear.proofs.Coming.{comes_bare, comes_on, others_leave, rows_leave, same_of, same_then}

@@ -1,9 +1,9 @@
 -- Where a call begins, is asked for its next pair, or is given up, as it is played, the entry is linearizable, if there is one, and what the moment shows of calls and of what they were told it shows then.
 use Rattle.std.specs.Prelude.{◌≡◌, ◌⊎◌, ℕ, Bool, true, false, List, [], ◌∷◌, Option, Some, None}
 use Rattle.std.proofs.Common.{refl, ap, sym, subst, ◌∙◌, inl, inr}
-use Rattle.papaya_events.proofs.Given.SeizeActs.Answers.{same_some}
-use Rattle.papaya_agrees.specs.Given.Seize.World.{Rests, with_at}
-use Rattle.papaya_agrees.specs.Given.Tables.declared.setting.Setting.{Setting}
+use Rattle.papaya_events.proofs.Given.SeizeActsAnswers.{same_some}
+use Rattle.papaya_agrees.specs.Given.SeizeWorld.{Rests, with_at}
+use Rattle.papaya_agrees.specs.Given.TablesDeclared.setting.Setting.{Setting}
 use Rattle.papaya_deeds.specs.Given.Raw.Machine.{machine_asked}
 use Rattle.papaya_deeds.specs.Given.Raw.declared.machines.machine.Machine.{Machine}
 use Rattle.papaya_deeds.specs.Given.Raw.declared.machines.machine.Machine.TheVariants as kinds
@@ -11,14 +11,14 @@ use Rattle.papaya_deeds.specs.Given.Sweeps.SweepPoints.{after_next, next_at}
 use Rattle.papaya_deeds.specs.Given.Sweeps.declared.sweep.Sweep.{Sweep}
 use Rattle.papaya_deeds.specs.Given.Sweeps.declared.sweep.Sweeping.{Sweeping}
 use Rattle.papaya_deeds.specs.Given.Sweeps.declared.sweep.Sweeping.TheVariants as sweeping
-use Rattle.papaya_agrees.specs.Given.Callers.OverAll.{CallOverAll, gone_on}
-use Rattle.papaya_agrees.specs.Given.Callers.Together.{UnderWay, OnKey, ForRoom, Counting, OverAll, in_slot}
-use Rattle.papaya_agrees.specs.Given.Finishes.Machines.{machine_of}
-use Rattle.papaya_agrees.specs.Given.Finishes.Maps.{Standing, with_call}
-use Rattle.papaya_agrees.specs.Given.Follows.Calling.{NoneNamed}
-use Rattle.papaya_agrees.proofs.Given.Follows.Calling.{is_same_is, is_same_refl}
-use Rattle.papaya_agrees.proofs.Given.Hands.Asking.{which}
-use Rattle.papaya_agrees.specs.Given.Runs.Same.{is_same}
+use Rattle.papaya_agrees.specs.Given.CallersOverAll.{CallOverAll, gone_on}
+use Rattle.papaya_agrees.specs.Given.CallersTogether.{UnderWay, OnKey, ForRoom, Counting, OverAll, in_slot}
+use Rattle.papaya_agrees.specs.Given.FinishesMachines.{machine_of}
+use Rattle.papaya_agrees.specs.Given.FinishesMaps.{Standing, with_call}
+use Rattle.papaya_agrees.specs.Given.FollowsCalling.{NoneNamed}
+use Rattle.papaya_agrees.proofs.Given.FollowsCalling.{is_same_is, is_same_refl}
+use Rattle.papaya_agrees.proofs.Given.HandsAsking.{which}
+use Rattle.papaya_agrees.specs.Given.RunsSame.{is_same}
 use Rattle.papaya_deeds.specs.Given.Schedules.declared.call.Call.{Call}
 use Rattle.papaya_deeds.specs.Given.Schedules.declared.call.Call.TheVariants.{On}
 use Rattle.papaya_deeds.specs.Given.Schedules.declared.call.OneKey.TheVariants.{Compute, TryInsert}
@@ -26,19 +26,19 @@ use Rattle.papaya_deeds.specs.Given.Schedules.declared.call.Reply.{Reply}
 use Rattle.papaya_deeds.specs.Given.Schedules.declared.outcome.Outcome.TheVariants as outcome
 use Rattle.papaya_deeds.specs.Given.Schedules.Beginning.{fresh_call}
 use Rattle.papaya_deeds.specs.Given.Schedules.Moment.{Asking}
-use Rattle.papaya_agrees.specs.Given.Scenes.Beginning.{Begins as BeginsSo}
-use Rattle.papaya_agrees.specs.Given.Scenes.Held.{Held, IsAt}
-use Rattle.papaya_agrees.specs.Given.Scenes.Replying.{AskLeads, StopLeads, scene_with, unless_stopped}
-use Rattle.papaya_agrees.specs.Given.Scenes.Scene.{Scene, slot_of}
-use Rattle.papaya_agrees.proofs.Given.SeizeRule.Rows.Leaving.{with_same}
-use Rattle.papaya_events.specs.Given.Values.Values.{KeepsValue}
-use Rattle.papaya_events.proofs.Given.Values.Values.{values_begin}
+use Rattle.papaya_agrees.specs.Given.ScenesBeginning.{Begins as BeginsSo}
+use Rattle.papaya_agrees.specs.Given.ScenesHeld.{Held, IsAt}
+use Rattle.papaya_agrees.specs.Given.ScenesReplying.{AskLeads, StopLeads, scene_with, unless_stopped}
+use Rattle.papaya_agrees.specs.Given.ScenesScene.{Scene, slot_of}
+use Rattle.papaya_agrees.proofs.Given.SeizeRuleRows.Leaving.{with_same}
+use Rattle.papaya_events.specs.Given.ValuesValues.{KeepsValue}
+use Rattle.papaya_events.proofs.Given.ValuesValues.{values_begin}
 use Rattle.papaya_deeds.specs.Deeds.{Begins, Entry, Stops, moment, named}
 use Rattle.papaya_deeds.specs.History.{IsLinearizable, past}
-use Rattle.papaya_agrees.specs.Given.Acts.Acts.{Wanted, begun}
-use Rattle.papaya_agrees.specs.Given.Acts.Leads.{asked_on}
-use Rattle.papaya_agrees.specs.Given.Played.Play.{Calling, State, begun_call, call_for}
-use Rattle.papaya_agrees.proofs.Given.Played.Noted.{CallsAreNoted, apart}
+use Rattle.papaya_agrees.specs.Given.ActsActs.{Wanted, begun}
+use Rattle.papaya_agrees.specs.Given.ActsLeads.{asked_on}
+use Rattle.papaya_agrees.specs.Given.PlayedPlay.{Calling, State, begun_call, call_for}
+use Rattle.papaya_agrees.proofs.Given.PlayedNoted.{CallsAreNoted, apart}
 use Rattle.papaya_linear.specs.Shown.{ShowsAnswers}
 use Rattle.papaya_linear.proofs.Begun.{begun_rightly}
 use Rattle.papaya_linear.proofs.CallEntries.{begins_answer, stops_answer}

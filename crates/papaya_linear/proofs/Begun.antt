@@ -2,18 +2,18 @@
 use Rattle.std.specs.Prelude.{◌≡◌, ℕ, Bool, Some, None}
 use Rattle.std.proofs.Common.{refl, sym, subst}
 use Rattle.papaya_deeds.specs.Given.Sweeps.declared.sweep.Purpose.TheVariants as purpose
-use Rattle.papaya_agrees.specs.Given.Callers.Together.{UnderWay}
-use Rattle.papaya_agrees.specs.Given.Finishes.Maps.{Standing}
-use Rattle.papaya_agrees.specs.Given.Follows.Calls.{IsCalled}
-use Rattle.papaya_agrees.specs.Given.Hands.Calling.{IsBegunFor}
+use Rattle.papaya_agrees.specs.Given.CallersTogether.{UnderWay}
+use Rattle.papaya_agrees.specs.Given.FinishesMaps.{Standing}
+use Rattle.papaya_agrees.specs.Given.FollowsCalls.{IsCalled}
+use Rattle.papaya_agrees.specs.Given.HandsCalling.{IsBegunFor}
 use Rattle.papaya_deeds.specs.Given.Schedules.declared.call.Call.{Call}
 use Rattle.papaya_deeds.specs.Given.Schedules.declared.call.Call.TheVariants.{On, Reserve, Clear, Retain, Len, Walk}
-use Rattle.papaya_agrees.specs.Given.Scenes.Scene.{slot_of}
-use Rattle.papaya_events.specs.Given.Histories.AsCalled.{IsBegunAs}
-use Rattle.papaya_agrees.proofs.Given.Named.Called.{begun_call, is_begun_for, is_called}
-use Rattle.papaya_agrees.specs.Given.Acts.Acts.{Wanted, begun}
-use Rattle.papaya_agrees.specs.Given.Acts.Acts.{Get, Remove, Insert, TryToInsert, Compute, Update, UpdateOrInsert, TryToInsertWith, RemoveIf, GetKeyValue, ContainsKey, GetOrInsert, GetOrInsertWith, RemoveEntry, MakeRoom, Count, GoOver}
-use Rattle.papaya_agrees.specs.Given.Played.Play.{call_for}
+use Rattle.papaya_agrees.specs.Given.ScenesScene.{slot_of}
+use Rattle.papaya_events.specs.Given.HistoriesAsCalled.{IsBegunAs}
+use Rattle.papaya_agrees.proofs.Given.NamedCalled.{begun_call, is_begun_for, is_called}
+use Rattle.papaya_agrees.specs.Given.ActsActs.{Wanted, begun}
+use Rattle.papaya_agrees.specs.Given.ActsActs.{Get, Remove, Insert, TryToInsert, Compute, Update, UpdateOrInsert, TryToInsertWith, RemoveIf, GetKeyValue, ContainsKey, GetOrInsert, GetOrInsertWith, RemoveEntry, MakeRoom, Count, GoOver}
+use Rattle.papaya_agrees.specs.Given.PlayedPlay.{call_for}
 
 module _ {K V : Type 0} (same : K → K → Bool) (st : Standing K) (i : ℕ) where
   -- what an act begins is what begins where that is called

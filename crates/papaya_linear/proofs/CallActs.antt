@@ -1,42 +1,42 @@
 -- What is so of a state that is played, and of the scene to which its acts have led, stays so by each act of a call: each entry so far is linearizable.
 use Rattle.std.specs.Prelude.{◌≡◌, ℕ, Bool, true, false, Some, None, Result, Ok, Err, is_ok, is_err, length, option_map, if◌then◌else◌}
 use Rattle.std.proofs.Common.{refl, ap, sym, subst, ◌∙◌}
-use Rattle.papaya_events.specs.Given.SeizeActs.Acts.{rests}
-use Rattle.papaya_events.specs.Given.SeizeActs.Answers.{Grant}
-use Rattle.papaya_events.proofs.Given.SeizeActs.Answers.{same_some}
+use Rattle.papaya_events.specs.Given.SeizeActsActs.{rests}
+use Rattle.papaya_events.specs.Given.SeizeActsAnswers.{Grant}
+use Rattle.papaya_events.proofs.Given.SeizeActsAnswers.{same_some}
 use Rattle.papaya_deeds.specs.Given.Raw.Machine.{machine_asked, machine_replied}
 use Rattle.papaya_deeds.specs.Given.Raw.declared.machines.asking.Reply.{Reply as Told}
 use Rattle.papaya_deeds.specs.Given.Raw.declared.machines.machine.Machine.{Machine}
 use Rattle.papaya_deeds.specs.Given.Raw.declared.machines.progress.Progress.{Progress}
-use Rattle.papaya_agrees.specs.Given.Seize.World.{Rests, Row}
-use Rattle.papaya_agrees.specs.Given.Tables.declared.node.Node.{Node}
-use Rattle.papaya_agrees.specs.Given.Callers.Together.{UnderWay}
-use Rattle.papaya_agrees.specs.Given.Finishes.Machines.{machine_of}
-use Rattle.papaya_agrees.specs.Given.Finishes.Maps.{with_call}
-use Rattle.papaya_agrees.specs.Given.Teller.declared.changed.Changed.{Changed}
-use Rattle.papaya_agrees.proofs.Given.Scenes.NoCall.{none_is}
-use Rattle.papaya_agrees.specs.Given.Scenes.Held.{Held, IsAt}
-use Rattle.papaya_agrees.specs.Given.Scenes.Replying.{StopLeads, scene_with, unless_stopped}
-use Rattle.papaya_agrees.specs.Given.Scenes.Scene.{Scene, slot_of}
+use Rattle.papaya_agrees.specs.Given.SeizeWorld.{Rests, Row}
+use Rattle.papaya_agrees.specs.Given.TablesDeclared.node.Node.{Node}
+use Rattle.papaya_agrees.specs.Given.CallersTogether.{UnderWay}
+use Rattle.papaya_agrees.specs.Given.FinishesMachines.{machine_of}
+use Rattle.papaya_agrees.specs.Given.FinishesMaps.{with_call}
+use Rattle.papaya_agrees.specs.Given.TellerDeclared.changed.Changed.{Changed}
+use Rattle.papaya_agrees.proofs.Given.ScenesNoCall.{none_is}
+use Rattle.papaya_agrees.specs.Given.ScenesHeld.{Held, IsAt}
+use Rattle.papaya_agrees.specs.Given.ScenesReplying.{StopLeads, scene_with, unless_stopped}
+use Rattle.papaya_agrees.specs.Given.ScenesScene.{Scene, slot_of}
 use Rattle.papaya_deeds.specs.Given.Schedules.declared.outcome.Outcome.TheVariants as outcome
-use Rattle.papaya_agrees.specs.Given.Named.Machines.{aborted_by}
-use Rattle.papaya_agrees.specs.Given.Acts.Acts.{Act, Answer, OfAsking, OfCall, OfReply, Wanted, begun}
-use Rattle.papaya_agrees.specs.Given.Acts.Acts.{BeginsCall, StepsCall, TellsCall, AsksCall, StopsCall}
-use Rattle.papaya_agrees.specs.Given.Acts.AsSteps.{LeadsAs, changed_by, held_in}
-use Rattle.papaya_agrees.specs.Given.Acts.Leads.{Led, MayBe, asked_on}
-use Rattle.papaya_agrees.proofs.Given.Acts.Calls.{refused_same}
+use Rattle.papaya_agrees.specs.Given.NamedMachines.{aborted_by}
+use Rattle.papaya_agrees.specs.Given.ActsActs.{Act, Answer, OfAsking, OfCall, OfReply, Wanted, begun}
+use Rattle.papaya_agrees.specs.Given.ActsActs.{BeginsCall, StepsCall, TellsCall, AsksCall, StopsCall}
+use Rattle.papaya_agrees.specs.Given.ActsAsSteps.{LeadsAs, changed_by, held_in}
+use Rattle.papaya_agrees.specs.Given.ActsLeads.{Led, MayBe, asked_on}
+use Rattle.papaya_agrees.proofs.Given.ActsCalls.{refused_same}
 use Rattle.papaya_deeds.specs.Deeds.{Replies, Stops, moment}
-use Rattle.papaya_agrees.specs.Given.Played.Play.{Calling, State, call_asked, call_begun, call_for, call_stepped, did, reply_for, told_call}
-use Rattle.papaya_agrees.specs.Given.Played.Reached.{IsOf}
-use Rattle.papaya_agrees.proofs.Given.Played.Noted.{CallsAreNoted}
-use Rattle.papaya_agrees.proofs.Given.Played.PlayedAs.{PlayedAs}
+use Rattle.papaya_agrees.specs.Given.PlayedPlay.{Calling, State, call_asked, call_begun, call_for, call_stepped, did, reply_for, told_call}
+use Rattle.papaya_agrees.specs.Given.PlayedReached.{IsOf}
+use Rattle.papaya_agrees.proofs.Given.PlayedNoted.{CallsAreNoted}
+use Rattle.papaya_agrees.proofs.Given.PlayedPlayedAs.{PlayedAs}
 use Rattle.papaya_linear.proofs.BeginsPlayed.{played_asks, played_asks_are_heard, played_begins, played_begins_are_heard, played_stays, played_stays_heard, played_stops, played_stops_are_heard}
 use Rattle.papaya_linear.proofs.Gone.{nothing_told}
 use Rattle.papaya_linear.proofs.HeardAll.{AreHeardAt}
 use Rattle.papaya_linear.proofs.Holds.{Holds, onto}
 use Rattle.papaya_linear.proofs.RepliesPlayed.{played_replies, played_replies_are_heard}
 use Rattle.papaya_linear.proofs.StepsPlayed.{led, played_steps_answer, played_steps_are_heard, played_steps_are_linearizable, there_alike, there_is}
-use Rattle.papaya_agrees.proofs.Given.Played.Tied.{call_tied}
+use Rattle.papaya_agrees.proofs.Given.PlayedTied.{call_tied}
 
 pub ok_is : {E : Type 0} (r : Result Unit E) → is_ok r ≡ true → r ≡ Ok tt
 ok_is (Ok done) e = refl

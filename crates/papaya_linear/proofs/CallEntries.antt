@@ -1,11 +1,11 @@
 -- The entries of a call that begins, takes a reply, or is given up: each is linearizable, and the moment after it shows what the next entry asks for.
 use Rattle.std.specs.Prelude.{◌≡◌, ℕ, Bool, true, false, List, [], ◌∷◌, flat_map, Option, Some, None, Ok}
 use Rattle.std.proofs.Common.{refl, arith}
-use Rattle.papaya_agrees.specs.Given.Seize.World.{Rests}
+use Rattle.papaya_agrees.specs.Given.SeizeWorld.{Rests}
 use Rattle.papaya_deeds.specs.Given.Raw.Machine.{machine_replied}
-use Rattle.papaya_agrees.specs.Given.Callers.Together.{UnderWay}
-use Rattle.papaya_agrees.specs.Given.Finishes.Machines.{ToldOfKind, machine_of}
-use Rattle.papaya_agrees.specs.Given.Finishes.Maps.{Standing, with_call as with_call_of}
+use Rattle.papaya_agrees.specs.Given.CallersTogether.{UnderWay}
+use Rattle.papaya_agrees.specs.Given.FinishesMachines.{ToldOfKind, machine_of}
+use Rattle.papaya_agrees.specs.Given.FinishesMaps.{Standing, with_call as with_call_of}
 use Rattle.papaya_deeds.specs.Given.Schedules.declared.call.Call.{Call}
 use Rattle.papaya_deeds.specs.Given.Schedules.declared.call.Call.TheVariants.{On}
 use Rattle.papaya_deeds.specs.Given.Schedules.declared.call.OneKey.{OneKey}
@@ -15,19 +15,19 @@ use Rattle.papaya_deeds.specs.Given.Schedules.Beginning.{with_call}
 use Rattle.papaya_deeds.specs.Given.Schedules.Linearizable.{shift_of}
 use Rattle.papaya_deeds.specs.Given.Schedules.Moment.{Asking, Moment, UnderWay as CallThere}
 use Rattle.papaya_deeds.specs.Given.Schedules.Views.{call_of}
-use Rattle.papaya_agrees.specs.Given.Effects.Known.{Known}
-use Rattle.papaya_agrees.specs.Given.Scenes.Beginning.{Begins as BeginsSo}
-use Rattle.papaya_agrees.specs.Given.Scenes.Held.{Held, IsAt}
-use Rattle.papaya_agrees.specs.Given.Scenes.Replying.{StopLeads, scene_with, unless_stopped}
-use Rattle.papaya_agrees.specs.Given.Scenes.Scene.{Scene, slot_of}
-use Rattle.papaya_agrees.specs.Given.Follows.Calling.{NoneNamed, told}
-use Rattle.papaya_agrees.specs.Given.Follows.Calls.{IsCalled}
-use Rattle.papaya_agrees.specs.Given.Hands.Asked.{as_told}
-use Rattle.papaya_agrees.specs.Given.Hands.Calling.{IsBegunFor}
-use Rattle.papaya_agrees.specs.Given.Others.Walks.{given_up}
-use Rattle.papaya_events.specs.Given.Histories.AsCalled.{IsBegunAs}
-use Rattle.papaya_events.specs.Given.Histories.Changes.{IsTaken}
-use Rattle.papaya_events.proofs.Given.Histories.OtherCalls.{no_calls_are_linearizable}
+use Rattle.papaya_agrees.specs.Given.EffectsKnown.{Known}
+use Rattle.papaya_agrees.specs.Given.ScenesBeginning.{Begins as BeginsSo}
+use Rattle.papaya_agrees.specs.Given.ScenesHeld.{Held, IsAt}
+use Rattle.papaya_agrees.specs.Given.ScenesReplying.{StopLeads, scene_with, unless_stopped}
+use Rattle.papaya_agrees.specs.Given.ScenesScene.{Scene, slot_of}
+use Rattle.papaya_agrees.specs.Given.FollowsCalling.{NoneNamed, told}
+use Rattle.papaya_agrees.specs.Given.FollowsCalls.{IsCalled}
+use Rattle.papaya_agrees.specs.Given.HandsAsked.{as_told}
+use Rattle.papaya_agrees.specs.Given.HandsCalling.{IsBegunFor}
+use Rattle.papaya_agrees.specs.Given.OthersWalks.{given_up}
+use Rattle.papaya_events.specs.Given.HistoriesAsCalled.{IsBegunAs}
+use Rattle.papaya_events.specs.Given.HistoriesChanges.{IsTaken}
+use Rattle.papaya_events.proofs.Given.HistoriesOtherCalls.{no_calls_are_linearizable}
 use Rattle.papaya_deeds.specs.Deeds.{Begins, Deed, Entry, Replies, Stops, after, caller_of, moment, named}
 use Rattle.papaya_deeds.specs.History.{IsLinearizable, past, transition}
 use Rattle.papaya_linear.specs.Shown.{ShowsAnswers}

@@ -1,13 +1,13 @@
 -- A step of a call is an entry that is linearizable, and the moment after it shows what the next entry asks for.
 use Rattle.std.specs.Prelude.{◌≡◌, ℕ, suc, Bool, true, false, List, [], ◌∷◌, length, Option, Some, None}
 use Rattle.std.proofs.Common.{refl, ap, sym, subst, ◌∙◌, inl, inr, arith}
-use Rattle.papaya_agrees.specs.Given.Tables.declared.node.Node.{Node}
+use Rattle.papaya_agrees.specs.Given.TablesDeclared.node.Node.{Node}
 use Rattle.papaya_deeds.specs.Given.Raw.declared.machines.machine.Machine.{Machine}
 use Rattle.papaya_deeds.specs.Given.Raw.declared.machines.progress.Progress.{Progress}
 use Rattle.papaya_deeds.specs.Given.Raw.declared.machines.progress.Progress.TheVariants as progress
-use Rattle.papaya_agrees.specs.Given.Finishes.Machines.{GoesOnAs}
-use Rattle.papaya_agrees.specs.Given.Callers.Together.{UnderWay}
-use Rattle.papaya_agrees.specs.Given.Runs.Same.{is_same}
+use Rattle.papaya_agrees.specs.Given.FinishesMachines.{GoesOnAs}
+use Rattle.papaya_agrees.specs.Given.CallersTogether.{UnderWay}
+use Rattle.papaya_agrees.specs.Given.RunsSame.{is_same}
 use Rattle.papaya_deeds.specs.Given.Schedules.declared.effect.Effect.{Effect}
 use Rattle.papaya_deeds.specs.Given.Schedules.declared.outcome.Outcome.{Outcome}
 use Rattle.papaya_deeds.specs.Given.Schedules.Effects.{with_effects}
@@ -15,21 +15,21 @@ use Rattle.papaya_deeds.specs.Given.Schedules.Entry.{IfCall, ends_call}
 use Rattle.papaya_deeds.specs.Given.Schedules.Linearizable.{Linearizes}
 use Rattle.papaya_deeds.specs.Given.Schedules.Moment.{Moment, UnderWay as CallThere}
 use Rattle.papaya_deeds.specs.Given.Schedules.Views.{call_of}
-use Rattle.papaya_agrees.specs.Given.Effects.Effects.{effects_of, known_after}
-use Rattle.papaya_agrees.specs.Given.Effects.Known.{Known}
-use Rattle.papaya_agrees.specs.Given.Effects.declared.acting.Acting.TheVariants as acts
-use Rattle.papaya_agrees.specs.Given.Scenes.Held.{Held, IsAt}
-use Rattle.papaya_agrees.specs.Given.Scenes.Scene.{Scene}
-use Rattle.papaya_agrees.specs.Given.Scenes.Stepping.{StepLeads, has_ended, scene_after}
-use Rattle.papaya_agrees.specs.Given.Follows.Calling.{NoneNamed, come_to}
-use Rattle.papaya_agrees.specs.Given.Hands.Calling.{AsksJust}
-use Rattle.papaya_agrees.proofs.Given.Hands.Asking.{which}
-use Rattle.papaya_agrees.proofs.Given.Follows.Calling.{is_same_is, is_same_refl}
-use Rattle.papaya_events.specs.Given.Histories.AsCalled.{AsksAsCalled}
-use Rattle.papaya_events.specs.Given.Histories.InEvent.{ComesSo, InEvent, here_of}
-use Rattle.papaya_events.specs.Given.Histories.Questions.{AsksOnStill, AsksStill}
-use Rattle.papaya_events.proofs.Given.Histories.AnyCall.AsksThere.{events_ask_there}
-use Rattle.papaya_events.proofs.Given.Histories.AnyCall.InEvent.{events_begin, events_end}
+use Rattle.papaya_agrees.specs.Given.EffectsEffects.{effects_of, known_after}
+use Rattle.papaya_agrees.specs.Given.EffectsKnown.{Known}
+use Rattle.papaya_agrees.specs.Given.EffectsDeclared.acting.Acting.TheVariants as acts
+use Rattle.papaya_agrees.specs.Given.ScenesHeld.{Held, IsAt}
+use Rattle.papaya_agrees.specs.Given.ScenesScene.{Scene}
+use Rattle.papaya_agrees.specs.Given.ScenesStepping.{StepLeads, has_ended, scene_after}
+use Rattle.papaya_agrees.specs.Given.FollowsCalling.{NoneNamed, come_to}
+use Rattle.papaya_agrees.specs.Given.HandsCalling.{AsksJust}
+use Rattle.papaya_agrees.proofs.Given.HandsAsking.{which}
+use Rattle.papaya_agrees.proofs.Given.FollowsCalling.{is_same_is, is_same_refl}
+use Rattle.papaya_events.specs.Given.HistoriesAsCalled.{AsksAsCalled}
+use Rattle.papaya_events.specs.Given.HistoriesInEvent.{ComesSo, InEvent, here_of}
+use Rattle.papaya_events.specs.Given.HistoriesQuestions.{AsksOnStill, AsksStill}
+use Rattle.papaya_events.proofs.Given.HistoriesAnyCall.AsksThere.{events_ask_there}
+use Rattle.papaya_events.proofs.Given.HistoriesAnyCall.InEvent.{events_begin, events_end}
 use Rattle.papaya_deeds.specs.Deeds.{Entry, Steps, acted_on, after, map_of_call, moment, named, worked}
 use Rattle.papaya_deeds.specs.History.{IsLinearizable, past, transition}
 use Rattle.papaya_linear.specs.Shown.{ShowsAnswers}

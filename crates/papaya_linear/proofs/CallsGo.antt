@@ -2,18 +2,18 @@
 use Rattle.std.specs.Prelude.{◌≡◌, ℕ, Bool, true, false, List, Option, Some, Ok}
 use Rattle.std.proofs.Common.{refl, ap, sym, ◌∙◌}
 use Rattle.papaya_deeds.specs.Given.SeizeWords.declared.fault.Fault.TheVariants.{Memory}
-use Rattle.papaya_agrees.specs.Given.Seize.World.{Rests}
+use Rattle.papaya_agrees.specs.Given.SeizeWorld.{Rests}
 use Rattle.papaya_deeds.specs.Given.Sweeps.SweepPoints.{after_next}
-use Rattle.papaya_agrees.specs.Given.Tables.declared.node.Node.{Node}
+use Rattle.papaya_agrees.specs.Given.TablesDeclared.node.Node.{Node}
 use Rattle.papaya_deeds.specs.Given.Raw.Machine.{machine_replied}
 use Rattle.papaya_deeds.specs.Given.Raw.declared.machines.progress.Progress.{Progress}
-use Rattle.papaya_events.specs.Given.Points.FactsCalls.{Unchanged}
-use Rattle.papaya_agrees.specs.Given.Callers.OverAll.{CallOverAll, gone_on}
-use Rattle.papaya_agrees.specs.Given.Callers.Rooms.{CallForRoom}
-use Rattle.papaya_agrees.specs.Given.Callers.Together.{CallOnKey, Counting, ForRoom, OnKey, OverAll, UnderWay}
-use Rattle.papaya_agrees.specs.Given.Finishes.Machines.{ToldOfKind, machine_of}
-use Rattle.papaya_agrees.specs.Given.Finishes.Maps.{Standing, with_call as with_call_of}
-use Rattle.papaya_agrees.specs.Given.Runs.Same.{is_same}
+use Rattle.papaya_events.specs.Given.PointsFactsCalls.{Unchanged}
+use Rattle.papaya_agrees.specs.Given.CallersOverAll.{CallOverAll, gone_on}
+use Rattle.papaya_agrees.specs.Given.CallersRooms.{CallForRoom}
+use Rattle.papaya_agrees.specs.Given.CallersTogether.{CallOnKey, Counting, ForRoom, OnKey, OverAll, UnderWay}
+use Rattle.papaya_agrees.specs.Given.FinishesMachines.{ToldOfKind, machine_of}
+use Rattle.papaya_agrees.specs.Given.FinishesMaps.{Standing, with_call as with_call_of}
+use Rattle.papaya_agrees.specs.Given.RunsSame.{is_same}
 use Rattle.papaya_deeds.specs.Given.Schedules.declared.call.Call.{Call}
 use Rattle.papaya_deeds.specs.Given.Schedules.declared.call.Call.TheVariants.{On}
 use Rattle.papaya_deeds.specs.Given.Schedules.declared.call.OneKey.{OneKey}
@@ -26,35 +26,35 @@ use Rattle.papaya_deeds.specs.Given.Schedules.Entry.{ends_call}
 use Rattle.papaya_deeds.specs.Given.Schedules.Moment.{Asking, Moment, Stands, UnderWay as CallThere}
 use Rattle.papaya_deeds.specs.Given.Schedules.Transition.{Past}
 use Rattle.papaya_deeds.specs.Given.Schedules.Views.{call_of}
-use Rattle.papaya_agrees.specs.Given.Effects.Effects.{effects_of, known_after}
-use Rattle.papaya_agrees.specs.Given.Effects.Known.{Known}
-use Rattle.papaya_agrees.specs.Given.Effects.declared.acting.Acting.TheVariants as acts
-use Rattle.papaya_agrees.specs.Given.Scenes.Beginning.{Begins}
-use Rattle.papaya_agrees.specs.Given.Scenes.Held.{Held, IsAt}
-use Rattle.papaya_agrees.specs.Given.Scenes.Replying.{AskLeads, StopLeads, scene_with, unless_stopped}
-use Rattle.papaya_agrees.specs.Given.Scenes.Scene.{Scene, slot_of}
-use Rattle.papaya_agrees.specs.Given.Scenes.Stepping.{StepLeads, scene_after}
-use Rattle.papaya_agrees.specs.Given.Follows.Calling.{NoneNamed, come_to, told}
-use Rattle.papaya_agrees.specs.Given.Follows.Calls.{IsCalled}
-use Rattle.papaya_agrees.specs.Given.Hands.Asked.{as_told}
-use Rattle.papaya_agrees.specs.Given.Hands.Calling.{AsksJust, IsBegunFor}
-use Rattle.papaya_agrees.specs.Given.Others.Walks.{given_up}
-use Rattle.papaya_events.proofs.Given.Moments.Calls.{calls_begin_whole, calls_come_to_whole, calls_keep_whole, calls_take_whole}
-use Rattle.papaya_events.proofs.Given.Moments.Walks.{walks_go_on_whole, walks_stop_whole}
-use Rattle.papaya_events.specs.Given.Histories.AsCalled.{AsksAsCalled, IsBegunAs}
-use Rattle.papaya_events.specs.Given.Histories.Changes.{IsTaken}
-use Rattle.papaya_events.specs.Given.Histories.Histories.{began_of}
-use Rattle.papaya_events.specs.Given.Histories.Questions.{AsksStill, ShowsQuestions}
-use Rattle.papaya_events.proofs.Given.Histories.Aside.Stays.{as_called_stays, dues_stay}
-use Rattle.papaya_events.proofs.Given.Histories.Calling.{first_steps_change_first}
-use Rattle.papaya_events.proofs.Given.Histories.Due.{calls_keep_due}
-use Rattle.papaya_events.proofs.Given.Histories.DueOn.{calls_begin_due, calls_come_to_due, calls_take_due}
-use Rattle.papaya_events.proofs.Given.Histories.NoKey.AsCalled.{calls_keep_as_called}
-use Rattle.papaya_events.proofs.Given.Histories.NoKey.AsCalledOn.{calls_begin_as_called, calls_come_to_as_called, calls_take_as_called}
-use Rattle.papaya_events.proofs.Given.Histories.Questions.{calls_begin_questions, calls_come_to_questions, calls_take_questions, effects_keep_questions}
-use Rattle.papaya_events.proofs.Given.Kept.Between.{calls_begin_kept, calls_take_kept, walks_go_on_kept, walks_stop_kept}
-use Rattle.papaya_events.proofs.Given.Kept.Calls.{calls_keep_kept}
-use Rattle.papaya_events.proofs.Given.Kept.Stays.{calls_come_to_kept}
+use Rattle.papaya_agrees.specs.Given.EffectsEffects.{effects_of, known_after}
+use Rattle.papaya_agrees.specs.Given.EffectsKnown.{Known}
+use Rattle.papaya_agrees.specs.Given.EffectsDeclared.acting.Acting.TheVariants as acts
+use Rattle.papaya_agrees.specs.Given.ScenesBeginning.{Begins}
+use Rattle.papaya_agrees.specs.Given.ScenesHeld.{Held, IsAt}
+use Rattle.papaya_agrees.specs.Given.ScenesReplying.{AskLeads, StopLeads, scene_with, unless_stopped}
+use Rattle.papaya_agrees.specs.Given.ScenesScene.{Scene, slot_of}
+use Rattle.papaya_agrees.specs.Given.ScenesStepping.{StepLeads, scene_after}
+use Rattle.papaya_agrees.specs.Given.FollowsCalling.{NoneNamed, come_to, told}
+use Rattle.papaya_agrees.specs.Given.FollowsCalls.{IsCalled}
+use Rattle.papaya_agrees.specs.Given.HandsAsked.{as_told}
+use Rattle.papaya_agrees.specs.Given.HandsCalling.{AsksJust, IsBegunFor}
+use Rattle.papaya_agrees.specs.Given.OthersWalks.{given_up}
+use Rattle.papaya_events.proofs.Given.MomentsCalls.{calls_begin_whole, calls_come_to_whole, calls_keep_whole, calls_take_whole}
+use Rattle.papaya_events.proofs.Given.MomentsWalks.{walks_go_on_whole, walks_stop_whole}
+use Rattle.papaya_events.specs.Given.HistoriesAsCalled.{AsksAsCalled, IsBegunAs}
+use Rattle.papaya_events.specs.Given.HistoriesChanges.{IsTaken}
+use Rattle.papaya_events.specs.Given.HistoriesHistories.{began_of}
+use Rattle.papaya_events.specs.Given.HistoriesQuestions.{AsksStill, ShowsQuestions}
+use Rattle.papaya_events.proofs.Given.HistoriesAside.Stays.{as_called_stays, dues_stay}
+use Rattle.papaya_events.proofs.Given.HistoriesCalling.{first_steps_change_first}
+use Rattle.papaya_events.proofs.Given.HistoriesDue.{calls_keep_due}
+use Rattle.papaya_events.proofs.Given.HistoriesDueOn.{calls_begin_due, calls_come_to_due, calls_take_due}
+use Rattle.papaya_events.proofs.Given.HistoriesNoKey.AsCalled.{calls_keep_as_called}
+use Rattle.papaya_events.proofs.Given.HistoriesNoKey.AsCalledOn.{calls_begin_as_called, calls_come_to_as_called, calls_take_as_called}
+use Rattle.papaya_events.proofs.Given.HistoriesQuestions.{calls_begin_questions, calls_come_to_questions, calls_take_questions, effects_keep_questions}
+use Rattle.papaya_events.proofs.Given.KeptBetween.{calls_begin_kept, calls_take_kept, walks_go_on_kept, walks_stop_kept}
+use Rattle.papaya_events.proofs.Given.KeptCalls.{calls_keep_kept}
+use Rattle.papaya_events.proofs.Given.KeptStays.{calls_come_to_kept}
 use Rattle.papaya_deeds.specs.Deeds.{named}
 use Rattle.papaya_linear.specs.Shown.{ShowsAnswers}
 

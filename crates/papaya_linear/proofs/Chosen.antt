@@ -1,16 +1,16 @@
 -- A choice of a number comes: the moment shows the scene as before, and maps come and go as before.
 use Rattle.std.specs.Prelude.{ℕ, Bool, Option}
-use Rattle.papaya_agrees.specs.Given.Follows.Shows.{Shows}
+use Rattle.papaya_agrees.specs.Given.FollowsShows.{Shows}
 use Rattle.papaya_deeds.specs.Given.Schedules.Moment.{Moment}
 use Rattle.papaya_deeds.specs.Given.Schedules.Transition.{Past}
-use Rattle.papaya_agrees.specs.Given.Effects.Known.{Known}
-use Rattle.papaya_events.proofs.Given.Logged.Choosing.{kept_then, whole_then}
-use Rattle.papaya_agrees.specs.Given.Acts.Doings.{scene_chosen}
+use Rattle.papaya_agrees.specs.Given.EffectsKnown.{Known}
+use Rattle.papaya_events.proofs.Given.LoggedChoosing.{kept_then, whole_then}
+use Rattle.papaya_agrees.specs.Given.ActsDoings.{scene_chosen}
 use Rattle.papaya_deeds.specs.Deeds.{named}
 use Rattle.papaya_linear.specs.Coming.{MapsComeAndGo}
 use Rattle.papaya_linear.specs.Shown.{ShowsAnswers}
-use Rattle.papaya_agrees.specs.Given.Played.Play.{Ending}
-use Rattle.papaya_agrees.specs.Given.Scenes.Scene.{Scene}
+use Rattle.papaya_agrees.specs.Given.PlayedPlay.{Ending}
+use Rattle.papaya_agrees.specs.Given.ScenesScene.{Scene}
 
 module _ {K V : Type 0} (same : K → K → Bool) (choice : ℕ) (log : Past K V) (m : Moment K V) (known : Known) (s : Scene K V) (so : ShowsAnswers same log m known s) where
   abbrev pub shown_chosen : Shows same named m known s → Shows same named m known (scene_chosen choice s)

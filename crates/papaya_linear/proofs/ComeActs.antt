@@ -2,47 +2,47 @@
 use Rattle.std.specs.Prelude.{◌≡◌, ◌≢◌, ◌⊎◌, ◌+◌, ℕ, Bool, false, ◌∷◌, Option, Some, None}
 use Rattle.std.proofs.Common.{refl, ap, sym, subst, ◌∙◌, arith, inl, inr}
 use Rattle.std.proofs.lemmas.Bool.{cases_eq}
-use Rattle.papaya_events.specs.Given.SeizeActs.Answers.{Grant}
-use Rattle.papaya_events.proofs.Given.SeizeActs.Answers.{same_some}
-use Rattle.papaya_agrees.specs.Given.Seize.World.{Row, World, with_at}
-use Rattle.papaya_agrees.specs.Given.Seize.declared.progress.Progress.{Progress}
-use Rattle.papaya_agrees.specs.Given.Seize.declared.progress.Progress.TheVariants as progress
-use Rattle.papaya_agrees.specs.Given.Seize.declared.rows.settle.Settled.{Settled}
-use Rattle.papaya_agrees.specs.Given.Seize.declared.rows.settle.Settled.TheVariants as settled
-use Rattle.papaya_agrees.specs.Given.Tables.declared.node.Node.{Node}
-use Rattle.papaya_agrees.specs.Given.Tables.declared.setting.Setting.{Setting}
-use Rattle.papaya_agrees.specs.Given.Teller.declared.changed.Changed.{Changed}
+use Rattle.papaya_events.specs.Given.SeizeActsAnswers.{Grant}
+use Rattle.papaya_events.proofs.Given.SeizeActsAnswers.{same_some}
+use Rattle.papaya_agrees.specs.Given.SeizeWorld.{Row, World, with_at}
+use Rattle.papaya_agrees.specs.Given.SeizeDeclared.progress.Progress.{Progress}
+use Rattle.papaya_agrees.specs.Given.SeizeDeclared.progress.Progress.TheVariants as progress
+use Rattle.papaya_agrees.specs.Given.SeizeDeclared.rows.settle.Settled.{Settled}
+use Rattle.papaya_agrees.specs.Given.SeizeDeclared.rows.settle.Settled.TheVariants as settled
+use Rattle.papaya_agrees.specs.Given.TablesDeclared.node.Node.{Node}
+use Rattle.papaya_agrees.specs.Given.TablesDeclared.setting.Setting.{Setting}
+use Rattle.papaya_agrees.specs.Given.TellerDeclared.changed.Changed.{Changed}
 use Rattle.papaya_deeds.specs.Given.Resize.NewMap.{new_map_plan}
 use Rattle.papaya_deeds.specs.Given.Resize.declared.new_map.NewMap.{NewMap}
 use Rattle.papaya_deeds.specs.Given.Raw.EndMap.{ending}
-use Rattle.papaya_agrees.specs.Given.Finishes.Endings.{Finishing, finishing_of}
-use Rattle.papaya_agrees.specs.Given.Finishes.Makings.{Beginning}
-use Rattle.papaya_agrees.specs.Given.Finishes.Maps.{Standing}
-use Rattle.papaya_agrees.proofs.Given.Callers.Together.At.{at_other, at_same}
-use Rattle.papaya_agrees.proofs.Given.Scenes.May.{may_make}
-use Rattle.papaya_agrees.specs.Given.Scenes.Held.{Held, IsAt}
-use Rattle.papaya_agrees.specs.Given.Scenes.Making.{MakingLeads, making_begun}
-use Rattle.papaya_agrees.specs.Given.Scenes.Scene.{HasNoCall, IsOnSlot, Scene, row_of, slot_of}
+use Rattle.papaya_agrees.specs.Given.FinishesEndings.{Finishing, finishing_of}
+use Rattle.papaya_agrees.specs.Given.FinishesMakings.{Beginning}
+use Rattle.papaya_agrees.specs.Given.FinishesMaps.{Standing}
+use Rattle.papaya_agrees.proofs.Given.CallersTogether.At.{at_other, at_same}
+use Rattle.papaya_agrees.proofs.Given.ScenesMay.{may_make}
+use Rattle.papaya_agrees.specs.Given.ScenesHeld.{Held, IsAt}
+use Rattle.papaya_agrees.specs.Given.ScenesMaking.{MakingLeads, making_begun}
+use Rattle.papaya_agrees.specs.Given.ScenesScene.{HasNoCall, IsOnSlot, Scene, row_of, slot_of}
 use Rattle.papaya_deeds.specs.Given.Schedules.Moment.{Moment}
-use Rattle.papaya_agrees.specs.Given.Effects.Effects.{effects_of, known_after}
-use Rattle.papaya_agrees.specs.Given.Effects.Known.{Known}
-use Rattle.papaya_agrees.specs.Given.Effects.declared.acting.Acting.TheVariants as acts
-use Rattle.papaya_agrees.specs.Given.Follows.Shows.{Shows}
-use Rattle.papaya_events.specs.Given.Moments.Numbers.{MapsAreBelow}
-use Rattle.papaya_events.specs.Given.Moments.Whole.{ShowsWhole}
-use Rattle.papaya_agrees.proofs.Given.Follows.Operations.{Operated, operated}
-use Rattle.papaya_agrees.proofs.Given.Rule.Laws.{current_is_known}
-use Rattle.papaya_events.specs.Given.Logged.Ends.{NotesMap}
-use Rattle.papaya_events.proofs.Given.Remains.Numbered.{more_are_counted}
-use Rattle.papaya_agrees.specs.Given.Acts.Acts.{Act, Answer, OfEnding, OfMaking, StepsCall, BeginsMaking, StepsMaking, BeginsEnding, StepsEnding, StepsRow}
-use Rattle.papaya_agrees.specs.Given.Acts.AsSteps.{LeadsAs, changed_by, held_in, row_changed, row_told}
-use Rattle.papaya_agrees.specs.Given.Acts.Leads.{EndingCame, Led, MakingCame}
+use Rattle.papaya_agrees.specs.Given.EffectsEffects.{effects_of, known_after}
+use Rattle.papaya_agrees.specs.Given.EffectsKnown.{Known}
+use Rattle.papaya_agrees.specs.Given.EffectsDeclared.acting.Acting.TheVariants as acts
+use Rattle.papaya_agrees.specs.Given.FollowsShows.{Shows}
+use Rattle.papaya_events.specs.Given.MomentsNumbers.{MapsAreBelow}
+use Rattle.papaya_events.specs.Given.MomentsWhole.{ShowsWhole}
+use Rattle.papaya_agrees.proofs.Given.FollowsOperations.{Operated, operated}
+use Rattle.papaya_agrees.proofs.Given.RuleLaws.{current_is_known}
+use Rattle.papaya_events.specs.Given.LoggedEnds.{NotesMap}
+use Rattle.papaya_events.proofs.Given.RemainsNumbered.{more_are_counted}
+use Rattle.papaya_agrees.specs.Given.ActsActs.{Act, Answer, OfEnding, OfMaking, StepsCall, BeginsMaking, StepsMaking, BeginsEnding, StepsEnding, StepsRow}
+use Rattle.papaya_agrees.specs.Given.ActsAsSteps.{LeadsAs, changed_by, held_in, row_changed, row_told}
+use Rattle.papaya_agrees.specs.Given.ActsLeads.{EndingCame, Led, MakingCame}
 use Rattle.papaya_deeds.specs.Deeds.{Entry, Steps, acted_on, map_of_call, moment, named}
-use Rattle.papaya_agrees.specs.Given.Played.Play.{Ending, Making, Now, State, ending_stepped, is_refusal, made_on, making_deed, making_outcome, outcome_of, row_outcome, row_stepped, settled_outcome}
-use Rattle.papaya_agrees.specs.Given.Played.Reached.{IsOf, row_or_rests}
-use Rattle.papaya_agrees.proofs.Given.Played.Noted.{CallsAreNoted}
-use Rattle.papaya_agrees.proofs.Given.Played.PlayedAs.{PlayedAs}
-use Rattle.papaya_agrees.specs.Given.Named.Seen.{kind_of}
+use Rattle.papaya_agrees.specs.Given.PlayedPlay.{Ending, Making, Now, State, ending_stepped, is_refusal, made_on, making_deed, making_outcome, outcome_of, row_outcome, row_stepped, settled_outcome}
+use Rattle.papaya_agrees.specs.Given.PlayedReached.{IsOf, row_or_rests}
+use Rattle.papaya_agrees.proofs.Given.PlayedNoted.{CallsAreNoted}
+use Rattle.papaya_agrees.proofs.Given.PlayedPlayedAs.{PlayedAs}
+use Rattle.papaya_agrees.specs.Given.NamedSeen.{kind_of}
 use Rattle.papaya_linear.specs.Coming.{Comes, Goes, IsByNewNumber, IsGone, MapsComeAndGo}
 use Rattle.papaya_linear.proofs.AsideActs.{IsQuiet, aside_quiet, call_steps_aside, quiet_led, quiet_played, row_steps_aside}
 use Rattle.papaya_linear.proofs.Below.{BeginsBelow, acts_stay_below, more_below}
@@ -50,7 +50,7 @@ use Rattle.papaya_linear.proofs.EndsRight.{ended_coming, ended_going, ended_name
 use Rattle.papaya_linear.proofs.Going.{goes_alike, goes_beside}
 use Rattle.papaya_linear.proofs.Gone.{BeginsOther, acts_leave_gone}
 use Rattle.papaya_linear.proofs.MakesRight.{made_coming, made_names, made_numbers}
-use Rattle.papaya_agrees.proofs.Given.Played.Tied.{EndingTied, MakingTied, call_tied, ending_tied, making_tied}
+use Rattle.papaya_agrees.proofs.Given.PlayedTied.{EndingTied, MakingTied, call_tied, ending_tied, making_tied}
 
 -- What is noted of a map that stands.
 module _ {K V : Type 0} (same : K → K → Bool) (hash : ℕ → K → ℕ) (old : Held K V) (m : Moment K V) (known : Known) (s : Scene K V) (at : IsAt same hash old s) (shown : Shows same named m known s) (map : ℕ) (standing : Standing K)

@@ -1,14 +1,14 @@
 -- What a step of a call comes to, as it is played, is what its caller is told: the call means it, while its caller keeps the value that it is to tell back.
 use Rattle.std.specs.Prelude.{◌≡◌, ℕ, Bool, List, [], Option, Some}
 use Rattle.std.proofs.Common.{refl, subst}
-use Rattle.papaya_agrees.specs.Given.Tables.declared.node.Node.{Node}
+use Rattle.papaya_agrees.specs.Given.TablesDeclared.node.Node.{Node}
 use Rattle.papaya_deeds.specs.Given.Raw.declared.machines.answer.KeyAnswer.{KeyAnswer}
 use Rattle.papaya_deeds.specs.Given.Raw.declared.machines.answer.KeyAnswer.TheVariants as says
 use Rattle.papaya_deeds.specs.Given.Raw.declared.machines.progress.Answer.TheVariants as answers
 use Rattle.papaya_deeds.specs.Given.Raw.declared.machines.progress.Progress.{Progress}
 use Rattle.papaya_deeds.specs.Given.Raw.declared.machines.progress.Progress.TheVariants as progress
-use Rattle.papaya_agrees.specs.Given.Callers.Together.{UnderWay, OnKey, ForRoom, Counting, OverAll}
-use Rattle.papaya_agrees.specs.Given.Finishes.Machines.{machine_of}
+use Rattle.papaya_agrees.specs.Given.CallersTogether.{UnderWay, OnKey, ForRoom, Counting, OverAll}
+use Rattle.papaya_agrees.specs.Given.FinishesMachines.{machine_of}
 use Rattle.papaya_deeds.specs.Given.Schedules.declared.call.Call.{Call}
 use Rattle.papaya_deeds.specs.Given.Schedules.declared.call.Call.TheVariants.{On}
 use Rattle.papaya_deeds.specs.Given.Schedules.declared.call.OneKey.{OneKey}
@@ -16,23 +16,23 @@ use Rattle.papaya_deeds.specs.Given.Schedules.declared.call.OneKey.TheVariants.{
 use Rattle.papaya_deeds.specs.Given.Schedules.declared.call.Reply.TheVariants.{Aborts}
 use Rattle.papaya_deeds.specs.Given.Schedules.Moment.{UnderWay as CallThere}
 use Rattle.papaya_deeds.specs.Given.Schedules.Views.{call_of, reply_to}
-use Rattle.papaya_agrees.specs.Given.Effects.Effects.{known_after}
-use Rattle.papaya_agrees.specs.Given.Effects.Known.{Known}
-use Rattle.papaya_agrees.specs.Given.Effects.declared.acting.Acting.TheVariants as acts
-use Rattle.papaya_agrees.specs.Given.Scenes.Held.{Held, IsAt}
-use Rattle.papaya_agrees.specs.Given.Scenes.Scene.{Scene}
-use Rattle.papaya_agrees.specs.Given.Scenes.Stepping.{StepLeads}
-use Rattle.papaya_agrees.specs.Given.Named.Seen.{kind_of}
-use Rattle.papaya_events.specs.Given.Histories.InEvent.{ComesSo, InEvent}
-use Rattle.papaya_events.specs.Given.Histories.OtherCalls.{IsOnNoKey}
-use Rattle.papaya_events.proofs.Given.Histories.AnyCall.InEvent.{events_begin, events_have_words}
-use Rattle.papaya_events.specs.Given.Stepping.Stepping.{outcome_of as outcome_as}
-use Rattle.papaya_events.specs.Given.Values.Values.{KeepsValue}
-use Rattle.papaya_events.proofs.Given.Values.Values.{inserts_tell_theirs}
+use Rattle.papaya_agrees.specs.Given.EffectsEffects.{known_after}
+use Rattle.papaya_agrees.specs.Given.EffectsKnown.{Known}
+use Rattle.papaya_agrees.specs.Given.EffectsDeclared.acting.Acting.TheVariants as acts
+use Rattle.papaya_agrees.specs.Given.ScenesHeld.{Held, IsAt}
+use Rattle.papaya_agrees.specs.Given.ScenesScene.{Scene}
+use Rattle.papaya_agrees.specs.Given.ScenesStepping.{StepLeads}
+use Rattle.papaya_agrees.specs.Given.NamedSeen.{kind_of}
+use Rattle.papaya_events.specs.Given.HistoriesInEvent.{ComesSo, InEvent}
+use Rattle.papaya_events.specs.Given.HistoriesOtherCalls.{IsOnNoKey}
+use Rattle.papaya_events.proofs.Given.HistoriesAnyCall.InEvent.{events_begin, events_have_words}
+use Rattle.papaya_events.specs.Given.SteppingStepping.{outcome_of as outcome_as}
+use Rattle.papaya_events.specs.Given.ValuesValues.{KeepsValue}
+use Rattle.papaya_events.proofs.Given.ValuesValues.{inserts_tell_theirs}
 use Rattle.papaya_events.proofs.OfCalls.Answers.{Tells, comes_so}
 use Rattle.papaya_deeds.specs.Deeds.{Entry, moment, named}
 use Rattle.papaya_deeds.specs.History.{past}
-use Rattle.papaya_agrees.specs.Given.Played.Play.{outcome_of}
+use Rattle.papaya_agrees.specs.Given.PlayedPlay.{outcome_of}
 use Rattle.papaya_linear.specs.Shown.{ShowsAnswers}
 
 -- what a step comes to, as it is played, is what it comes to in an event

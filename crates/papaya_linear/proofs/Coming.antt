@@ -5,29 +5,29 @@ use Rattle.std.specs.Option.{option_or}
 use Rattle.std.proofs.Common.{refl, ap, sym, ◌∙◌}
 use Rattle.std.proofs.lemmas.Bool.{eq-eqb, eqb-true, ne_eqb}
 use Rattle.std.proofs.lemmas.List.Folds.{find-append}
-use Rattle.papaya_agrees.specs.Given.Runs.Same.{is_same}
-use Rattle.papaya_agrees.specs.Given.Tables.declared.setting.Setting.{Setting}
-use Rattle.papaya_agrees.specs.Given.Finishes.Makings.{Beginning}
+use Rattle.papaya_agrees.specs.Given.RunsSame.{is_same}
+use Rattle.papaya_agrees.specs.Given.TablesDeclared.setting.Setting.{Setting}
+use Rattle.papaya_agrees.specs.Given.FinishesMakings.{Beginning}
 use Rattle.papaya_deeds.specs.Given.Schedules.declared.effect.Table.{Table}
 use Rattle.papaya_deeds.specs.Given.Schedules.Effects.{with_effects}
 use Rattle.papaya_deeds.specs.Given.Schedules.Moment.{MapThere, Moment, Place, TableThere}
 use Rattle.papaya_deeds.specs.Given.Schedules.Things.{same_table}
 use Rattle.papaya_deeds.specs.Given.Schedules.Views.{is_there, map_at, tables_of}
-use Rattle.papaya_agrees.specs.Given.Teller.declared.changed.Changed.{Changed}
-use Rattle.papaya_agrees.specs.Given.Effects.Effects.{effects_of, map_of}
-use Rattle.papaya_agrees.specs.Given.Effects.Known.{Known}
-use Rattle.papaya_agrees.specs.Given.Effects.declared.acting.Acting.{Acting}
-use Rattle.papaya_agrees.specs.Given.Effects.declared.acting.Acting.TheVariants as acts
-use Rattle.papaya_agrees.specs.Given.Effects.declared.role.Role.TheVariants as role
-use Rattle.papaya_agrees.specs.Given.Others.Makings.{IsNew}
-use Rattle.papaya_agrees.specs.Given.Spots.Unreclaimed.{ShowsUnreclaimed}
-use Rattle.papaya_agrees.proofs.Given.Others.EndBegins.{found_still}
-use Rattle.papaya_agrees.proofs.Given.Others.RowPlans.{TellsRow}
-use Rattle.papaya_events.proofs.Given.Moments.Numbers.{found_of}
+use Rattle.papaya_agrees.specs.Given.TellerDeclared.changed.Changed.{Changed}
+use Rattle.papaya_agrees.specs.Given.EffectsEffects.{effects_of, map_of}
+use Rattle.papaya_agrees.specs.Given.EffectsKnown.{Known}
+use Rattle.papaya_agrees.specs.Given.EffectsDeclared.acting.Acting.{Acting}
+use Rattle.papaya_agrees.specs.Given.EffectsDeclared.acting.Acting.TheVariants as acts
+use Rattle.papaya_agrees.specs.Given.EffectsDeclared.role.Role.TheVariants as role
+use Rattle.papaya_agrees.specs.Given.OthersMakings.{IsNew}
+use Rattle.papaya_agrees.specs.Given.SpotsUnreclaimed.{ShowsUnreclaimed}
+use Rattle.papaya_agrees.proofs.Given.OthersEndBegins.{found_still}
+use Rattle.papaya_agrees.proofs.Given.OthersRowPlans.{TellsRow}
+use Rattle.papaya_events.proofs.Given.MomentsNumbers.{found_of}
 use Rattle.papaya_agrees.proofs.Elsewhere.{SameOf, acting_elsewhere, effects_elsewhere, rows_elsewhere}
 use Rattle.papaya_deeds.specs.Deeds.{come, named, without_map}
-use Rattle.papaya_agrees.specs.Given.Played.Play.{has_root}
-use Rattle.papaya_agrees.proofs.Given.Played.Noted.{apart}
+use Rattle.papaya_agrees.specs.Given.PlayedPlay.{has_root}
+use Rattle.papaya_agrees.proofs.Given.PlayedNoted.{apart}
 use Rattle.papaya_linear.specs.Coming.{Comes, ComesBy, IsUnknown}
 use Rattle.papaya_agrees.specs.Fresh.{AreNamed, IsNamed}
 

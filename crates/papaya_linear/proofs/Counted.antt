@@ -8,9 +8,9 @@ use Rattle.std.proofs.lemmas.List.Elements.{All-append, All-cons}
 use Rattle.std.proofs.lemmas.List.Folds.{find-append}
 use Rattle.papaya_deeds.specs.Given.Schedules.Moment.{MapThere, Moment, TableThere}
 use Rattle.papaya_deeds.specs.Given.Schedules.Views.{map_at}
-use Rattle.papaya_events.specs.Given.Moments.Numbers.{AreFound}
-use Rattle.papaya_events.proofs.Given.Moments.Numbers.{maps_go}
-use Rattle.papaya_events.specs.Given.Remains.Numbered.{NumbersUpTo}
+use Rattle.papaya_events.specs.Given.MomentsNumbers.{AreFound}
+use Rattle.papaya_events.proofs.Given.MomentsNumbers.{maps_go}
+use Rattle.papaya_events.specs.Given.RemainsNumbered.{NumbersUpTo}
 use Rattle.papaya_deeds.specs.Deeds.{come, named, without_map}
 
 module _ {K V : Type 0} (count : ℕ) where

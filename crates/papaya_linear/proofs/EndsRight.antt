@@ -3,41 +3,41 @@ use Rattle.std.specs.Prelude.{◌≡◌, ◌≢◌, ◌⊎◌, ℕ, Bool, true, 
 use Rattle.std.proofs.Common.{refl, ap, sym, subst, ◌∙◌, inl, inr}
 use Rattle.std.proofs.lemmas.Bool.{cases_eq}
 use Rattle.std.proofs.lemmas.List.{append-nil}
-use Rattle.papaya_events.proofs.Given.SeizeActs.Answers.{same_some}
-use Rattle.papaya_agrees.specs.Given.Seize.World.{World, times, with_at}
-use Rattle.papaya_agrees.specs.Given.Seize.declared.rows.settle.Settled.{Settled}
-use Rattle.papaya_agrees.specs.Given.Seize.declared.rows.settle.Settled.TheVariants as settled
-use Rattle.papaya_agrees.specs.Given.Tables.declared.node.Node.{Node}
+use Rattle.papaya_events.proofs.Given.SeizeActsAnswers.{same_some}
+use Rattle.papaya_agrees.specs.Given.SeizeWorld.{World, times, with_at}
+use Rattle.papaya_agrees.specs.Given.SeizeDeclared.rows.settle.Settled.{Settled}
+use Rattle.papaya_agrees.specs.Given.SeizeDeclared.rows.settle.Settled.TheVariants as settled
+use Rattle.papaya_agrees.specs.Given.TablesDeclared.node.Node.{Node}
 use Rattle.papaya_deeds.specs.Given.Raw.EndMap.{end_map_plan}
 use Rattle.papaya_deeds.specs.Given.Raw.declared.machines.end_map.EndMap.{EndMap}
-use Rattle.papaya_agrees.specs.Given.Finishes.Endings.{Finishing, waiting_by}
-use Rattle.papaya_agrees.specs.Given.Finishes.FactsEnds.{Deed as FactsDeed, taken_by as taken_of}
-use Rattle.papaya_agrees.specs.Given.Finishes.Makings.{Beginning}
-use Rattle.papaya_agrees.proofs.Given.Callers.Together.At.{at_other, at_same}
-use Rattle.papaya_agrees.proofs.Given.Scenes.May.{may_end}
-use Rattle.papaya_agrees.specs.Given.Scenes.Ending.{EndingComesTo, EndingLeads}
-use Rattle.papaya_agrees.specs.Given.Scenes.Held.{Held, IsAt}
-use Rattle.papaya_agrees.specs.Given.Scenes.Scene.{Scene}
+use Rattle.papaya_agrees.specs.Given.FinishesEndings.{Finishing, waiting_by}
+use Rattle.papaya_agrees.specs.Given.FinishesFactsEnds.{Deed as FactsDeed, taken_by as taken_of}
+use Rattle.papaya_agrees.specs.Given.FinishesMakings.{Beginning}
+use Rattle.papaya_agrees.proofs.Given.CallersTogether.At.{at_other, at_same}
+use Rattle.papaya_agrees.proofs.Given.ScenesMay.{may_end}
+use Rattle.papaya_agrees.specs.Given.ScenesEnding.{EndingComesTo, EndingLeads}
+use Rattle.papaya_agrees.specs.Given.ScenesHeld.{Held, IsAt}
+use Rattle.papaya_agrees.specs.Given.ScenesScene.{Scene}
 use Rattle.papaya_deeds.specs.Given.Schedules.declared.effect.Effect.{Effect}
 use Rattle.papaya_deeds.specs.Given.Schedules.declared.outcome.Outcome.{Outcome}
 use Rattle.papaya_deeds.specs.Given.Schedules.Effects.{with_effects}
 use Rattle.papaya_deeds.specs.Given.Schedules.Moment.{Moment}
 use Rattle.papaya_deeds.specs.Given.Schedules.Views.{tables_of}
-use Rattle.papaya_agrees.specs.Given.Effects.Effects.{effects_of, known_after, taken_by}
-use Rattle.papaya_agrees.specs.Given.Effects.Known.{Known}
-use Rattle.papaya_agrees.specs.Given.Effects.declared.acting.Acting.TheVariants as acts
-use Rattle.papaya_events.specs.Given.Moments.Numbers.{AreFound}
-use Rattle.papaya_events.specs.Given.Moments.Whole.{ShowsWhole}
-use Rattle.papaya_events.proofs.Given.Moments.After.{effects_after}
-use Rattle.papaya_agrees.proofs.Given.Follows.Operations.{Operated, operated}
-use Rattle.papaya_events.specs.Given.Remains.Numbered.{NumbersUpTo}
-use Rattle.papaya_events.specs.Given.Logged.Ends.{NotedStill, ended_as}
-use Rattle.papaya_events.proofs.Given.Logged.EndTold.{did_end, noted_on}
-use Rattle.papaya_events.proofs.Given.Remains.Numbered.{ends_keep_count}
-use Rattle.papaya_agrees.specs.Given.Acts.AsSteps.{EndedTo}
+use Rattle.papaya_agrees.specs.Given.EffectsEffects.{effects_of, known_after, taken_by}
+use Rattle.papaya_agrees.specs.Given.EffectsKnown.{Known}
+use Rattle.papaya_agrees.specs.Given.EffectsDeclared.acting.Acting.TheVariants as acts
+use Rattle.papaya_events.specs.Given.MomentsNumbers.{AreFound}
+use Rattle.papaya_events.specs.Given.MomentsWhole.{ShowsWhole}
+use Rattle.papaya_events.proofs.Given.MomentsAfter.{effects_after}
+use Rattle.papaya_agrees.proofs.Given.FollowsOperations.{Operated, operated}
+use Rattle.papaya_events.specs.Given.RemainsNumbered.{NumbersUpTo}
+use Rattle.papaya_events.specs.Given.LoggedEnds.{NotedStill, ended_as}
+use Rattle.papaya_events.proofs.Given.LoggedEndTold.{did_end, noted_on}
+use Rattle.papaya_events.proofs.Given.RemainsNumbered.{ends_keep_count}
+use Rattle.papaya_agrees.specs.Given.ActsAsSteps.{EndedTo}
 use Rattle.papaya_agrees.proofs.Elsewhere.{SameOf}
 use Rattle.papaya_deeds.specs.Deeds.{Ends, MapGoes, after, named, without_map}
-use Rattle.papaya_agrees.specs.Given.Played.Play.{Ending, ended_on, is_over}
+use Rattle.papaya_agrees.specs.Given.PlayedPlay.{Ending, ended_on, is_over}
 use Rattle.papaya_linear.specs.Coming.{Comes, Goes, IsGone, MapsComeAndGo}
 use Rattle.papaya_linear.proofs.Coming.{comes_bare, comes_on, gone_leaves, others_leave, same_of, same_then}
 use Rattle.papaya_linear.proofs.Counted.{all_found, counted_again, counted_gone}

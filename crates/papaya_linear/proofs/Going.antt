@@ -3,20 +3,20 @@ use Rattle.std.specs.Prelude.{◌≡◌, ◌==◌, ℕ, Bool, true, false, Some,
 use Rattle.std.proofs.Common.{refl, ap, sym, subst, ◌∙◌, arith, inl, inr}
 use Rattle.std.proofs.lemmas.Bool.{eq-eqb}
 use Rattle.papaya_deeds.specs.Given.SeizeWords.Mem.{Mem, value_at}
-use Rattle.papaya_agrees.specs.Given.Seize.World.{times}
-use Rattle.papaya_agrees.specs.Given.Tables.declared.node.Node.{Node}
-use Rattle.papaya_agrees.specs.Given.Finishes.Endings.{Finishing, FinishingFacts}
+use Rattle.papaya_agrees.specs.Given.SeizeWorld.{times}
+use Rattle.papaya_agrees.specs.Given.TablesDeclared.node.Node.{Node}
+use Rattle.papaya_agrees.specs.Given.FinishesEndings.{Finishing, FinishingFacts}
 use Rattle.papaya_deeds.specs.Given.Schedules.Moment.{Moment}
-use Rattle.papaya_agrees.specs.Given.Effects.Effects.{known_after}
-use Rattle.papaya_agrees.specs.Given.Effects.Known.{Known}
-use Rattle.papaya_agrees.specs.Given.Effects.declared.acting.Acting.{Acting}
-use Rattle.papaya_agrees.specs.Given.Effects.declared.role.Role.{Role}
-use Rattle.papaya_agrees.specs.Given.Effects.declared.role.Role.TheVariants as role
-use Rattle.papaya_agrees.specs.Given.Follows.Blocks.{ShowsBlocks}
-use Rattle.papaya_agrees.specs.Given.Scenes.Held.{Held, IsAt}
-use Rattle.papaya_agrees.specs.Given.Scenes.Scene.{Scene}
-use Rattle.papaya_agrees.proofs.Given.Follows.Operations.{LeavesBy, Operated, operated_leaves}
-use Rattle.papaya_events.specs.Given.Logged.Ends.{NotedStill, NotesMap}
+use Rattle.papaya_agrees.specs.Given.EffectsEffects.{known_after}
+use Rattle.papaya_agrees.specs.Given.EffectsKnown.{Known}
+use Rattle.papaya_agrees.specs.Given.EffectsDeclared.acting.Acting.{Acting}
+use Rattle.papaya_agrees.specs.Given.EffectsDeclared.role.Role.{Role}
+use Rattle.papaya_agrees.specs.Given.EffectsDeclared.role.Role.TheVariants as role
+use Rattle.papaya_agrees.specs.Given.FollowsBlocks.{ShowsBlocks}
+use Rattle.papaya_agrees.specs.Given.ScenesHeld.{Held, IsAt}
+use Rattle.papaya_agrees.specs.Given.ScenesScene.{Scene}
+use Rattle.papaya_agrees.proofs.Given.FollowsOperations.{LeavesBy, Operated, operated_leaves}
+use Rattle.papaya_events.specs.Given.LoggedEnds.{NotedStill, NotesMap}
 use Rattle.papaya_linear.specs.Coming.{Goes, IsGone, IsItsBlock}
 use Rattle.papaya_linear.proofs.Lasting.{IsLasting, lasting_there, lasts}
 

@@ -2,26 +2,26 @@
 use Rattle.std.specs.Prelude.{◌≡◌, ◌⊎◌, ◌≢◌, ℕ, Bool, Option, Some, None, option_map}
 use Rattle.std.proofs.Common.{refl, ap, sym, subst, ◌∙◌, inl, inr}
 use Rattle.std.proofs.lemmas.Bool.{cases_eq}
-use Rattle.papaya_events.proofs.Given.SeizeActs.Answers.{same_some}
-use Rattle.papaya_agrees.specs.Given.Seize.World.{World, with_at}
-use Rattle.papaya_agrees.specs.Given.Seize.declared.progress.Progress.{Progress}
-use Rattle.papaya_agrees.specs.Given.Seize.declared.progress.Progress.TheVariants as progress
-use Rattle.papaya_agrees.specs.Given.Seize.declared.rows.settle.Settled.{Settled}
-use Rattle.papaya_agrees.specs.Given.Seize.declared.rows.settle.Settled.TheVariants as settled
-use Rattle.papaya_agrees.specs.Given.Tables.declared.node.Node.{Node}
-use Rattle.papaya_agrees.specs.Given.Tables.declared.setting.Setting.{Setting}
+use Rattle.papaya_events.proofs.Given.SeizeActsAnswers.{same_some}
+use Rattle.papaya_agrees.specs.Given.SeizeWorld.{World, with_at}
+use Rattle.papaya_agrees.specs.Given.SeizeDeclared.progress.Progress.{Progress}
+use Rattle.papaya_agrees.specs.Given.SeizeDeclared.progress.Progress.TheVariants as progress
+use Rattle.papaya_agrees.specs.Given.SeizeDeclared.rows.settle.Settled.{Settled}
+use Rattle.papaya_agrees.specs.Given.SeizeDeclared.rows.settle.Settled.TheVariants as settled
+use Rattle.papaya_agrees.specs.Given.TablesDeclared.node.Node.{Node}
+use Rattle.papaya_agrees.specs.Given.TablesDeclared.setting.Setting.{Setting}
 use Rattle.papaya_deeds.specs.Given.Resize.declared.new_map.NewMap.{NewMap}
 use Rattle.papaya_deeds.specs.Given.Raw.declared.machines.end_map.EndMap.{EndMap}
-use Rattle.papaya_agrees.specs.Given.Finishes.Endings.{Finishing}
-use Rattle.papaya_agrees.specs.Given.Finishes.FactsEnds.{Deed}
-use Rattle.papaya_agrees.specs.Given.Finishes.Makings.{Beginning}
-use Rattle.papaya_agrees.specs.Given.Finishes.Maps.{IsSameMap, Standing}
-use Rattle.papaya_agrees.proofs.Given.Callers.Together.At.{at_other, at_same}
-use Rattle.papaya_agrees.proofs.Given.Scenes.Goes.{same_map_keeps}
-use Rattle.papaya_agrees.specs.Given.Scenes.Making.{making_begun}
-use Rattle.papaya_agrees.specs.Given.Scenes.Scene.{Scene, slot_of}
-use Rattle.papaya_agrees.specs.Given.Acts.Acts.{Act, Answer, BeginsCall, StepsCall, TellsCall, AsksCall, StopsCall, BeginsMaking, StepsMaking, BeginsEnding, StepsEnding, BeginsRow, StepsRow}
-use Rattle.papaya_agrees.specs.Given.Acts.Leads.{EndingCame, Led, MakingCame}
+use Rattle.papaya_agrees.specs.Given.FinishesEndings.{Finishing}
+use Rattle.papaya_agrees.specs.Given.FinishesFactsEnds.{Deed}
+use Rattle.papaya_agrees.specs.Given.FinishesMakings.{Beginning}
+use Rattle.papaya_agrees.specs.Given.FinishesMaps.{IsSameMap, Standing}
+use Rattle.papaya_agrees.proofs.Given.CallersTogether.At.{at_other, at_same}
+use Rattle.papaya_agrees.proofs.Given.ScenesGoes.{same_map_keeps}
+use Rattle.papaya_agrees.specs.Given.ScenesMaking.{making_begun}
+use Rattle.papaya_agrees.specs.Given.ScenesScene.{Scene, slot_of}
+use Rattle.papaya_agrees.specs.Given.ActsActs.{Act, Answer, BeginsCall, StepsCall, TellsCall, AsksCall, StopsCall, BeginsMaking, StepsMaking, BeginsEnding, StepsEnding, BeginsRow, StepsRow}
+use Rattle.papaya_agrees.specs.Given.ActsLeads.{EndingCame, Led, MakingCame}
 use Rattle.papaya_linear.specs.Coming.{IsGone}
 use Rattle.papaya_linear.proofs.Below.{called_settings}
 

@@ -2,7 +2,7 @@
 use Rattle.std.specs.Prelude.{◌+◌, cond, not, find, map, Option, Some, None, if◌then◌else◌}
 use Rattle.std.proofs.Common.{◌≡◌, ◌⊎◌, ℕ, Bool, true, false, List, [], ◌∷◌, refl, ap, sym, subst, ◌∙◌}
 use Rattle.papaya_deeds.specs.Given.Raw.declared.machines.machine.Machine.{Machine}
-use Rattle.papaya_agrees.specs.Given.Runs.Same.{is_same}
+use Rattle.papaya_agrees.specs.Given.RunsSame.{is_same}
 use Rattle.papaya_deeds.specs.Given.Schedules.declared.call.Call.{Call}
 use Rattle.papaya_deeds.specs.Given.Schedules.declared.call.Reply.{Reply}
 use Rattle.papaya_deeds.specs.Given.Schedules.declared.effect.Effect.{Effect}
@@ -14,12 +14,12 @@ use Rattle.papaya_deeds.specs.Given.Schedules.Effects.{with_effect, with_effects
 use Rattle.papaya_deeds.specs.Given.Schedules.Entry.{ends_call}
 use Rattle.papaya_deeds.specs.Given.Schedules.Moment.{Asking, Moment, Stands, Told, UnderWay}
 use Rattle.papaya_deeds.specs.Given.Schedules.Views.{call_of}
-use Rattle.papaya_agrees.proofs.Given.Follows.Calling.{apart_back, come_same, found_kept, found_passes, is_same_is, is_same_refl, replied_same}
-use Rattle.papaya_agrees.proofs.Given.Follows.Calls.{IsOfSame, changed, found}
-use Rattle.papaya_agrees.proofs.Given.Hands.Replacing.{calls_after}
-use Rattle.papaya_events.specs.Given.Values.Values.{KeepsValue}
+use Rattle.papaya_agrees.proofs.Given.FollowsCalling.{apart_back, come_same, found_kept, found_passes, is_same_is, is_same_refl, replied_same}
+use Rattle.papaya_agrees.proofs.Given.FollowsCalls.{IsOfSame, changed, found}
+use Rattle.papaya_agrees.proofs.Given.HandsReplacing.{calls_after}
+use Rattle.papaya_events.specs.Given.ValuesValues.{KeepsValue}
 use Rattle.papaya_deeds.specs.Deeds.{Begins, Entry, Replies, Steps, Stops, acted_on, after, at_work, caller_of, named, worked}
-use Rattle.papaya_agrees.proofs.Given.Played.Noted.{OfNoCall}
+use Rattle.papaya_agrees.proofs.Given.PlayedNoted.{OfNoCall}
 use Rattle.papaya_linear.proofs.TakesReply.{TakesNone}
 
 module _ {K V : Type 0} where

@@ -2,13 +2,13 @@
 use Rattle.std.specs.Prelude.{◌≡◌, ◌≢◌, ◌⊎◌, ℕ, false, Option, Some}
 use Rattle.std.proofs.Common.{ap, sym, subst, ◌∙◌, inl, inr}
 use Rattle.std.proofs.lemmas.Bool.{cases_eq}
-use Rattle.papaya_agrees.specs.Given.Finishes.Maps.{with_call}
-use Rattle.papaya_agrees.specs.Given.Runs.Same.{is_same}
+use Rattle.papaya_agrees.specs.Given.FinishesMaps.{with_call}
+use Rattle.papaya_agrees.specs.Given.RunsSame.{is_same}
 use Rattle.papaya_deeds.specs.Given.Schedules.Moment.{Moment}
 use Rattle.papaya_deeds.specs.Deeds.{moment, named}
-use Rattle.papaya_agrees.specs.Given.Played.Play.{Calling, State}
-use Rattle.papaya_agrees.proofs.Given.Played.Alike.{its_call, others_call}
-use Rattle.papaya_agrees.proofs.Given.Played.Noted.{CallsAreNoted, apart, at_other_map, one_call}
+use Rattle.papaya_agrees.specs.Given.PlayedPlay.{Calling, State}
+use Rattle.papaya_agrees.proofs.Given.PlayedAlike.{its_call, others_call}
+use Rattle.papaya_agrees.proofs.Given.PlayedNoted.{CallsAreNoted, apart, at_other_map, one_call}
 use Rattle.papaya_linear.proofs.Heard.{IsHeard, SaidOn, heard_on}
 
 -- Each call of a state was heard so.

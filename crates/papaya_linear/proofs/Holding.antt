@@ -1,31 +1,31 @@
 -- What is so at first, and stays so by each kind of act: each entry is linearizable, the moment shows the scene, and maps come and go as they must.
 use Rattle.std.specs.Prelude.{◌≡◌, ℕ, Bool, true, Some}
 use Rattle.std.proofs.Common.{ap, sym, subst, ◌∙◌}
-use Rattle.papaya_events.specs.Given.SeizeActs.Answers.{Grant}
+use Rattle.papaya_events.specs.Given.SeizeActsAnswers.{Grant}
 use Rattle.papaya_deeds.specs.Given.SeizeWords.Mem.{Mem}
-use Rattle.papaya_agrees.specs.Given.Seize.World.{Row}
-use Rattle.papaya_agrees.specs.Given.Seize.declared.progress.Progress.{Progress}
-use Rattle.papaya_agrees.specs.Given.Tables.declared.node.Node.{Node}
-use Rattle.papaya_agrees.specs.Given.Tables.declared.setting.Setting.{Setting}
+use Rattle.papaya_agrees.specs.Given.SeizeWorld.{Row}
+use Rattle.papaya_agrees.specs.Given.SeizeDeclared.progress.Progress.{Progress}
+use Rattle.papaya_agrees.specs.Given.TablesDeclared.node.Node.{Node}
+use Rattle.papaya_agrees.specs.Given.TablesDeclared.setting.Setting.{Setting}
 use Rattle.papaya_deeds.specs.Given.Resize.declared.new_map.NewMap.{NewMap}
-use Rattle.papaya_agrees.specs.Given.Teller.declared.changed.Changed.TheVariants.{Nothing as NoChange}
-use Rattle.papaya_agrees.specs.Given.Finishes.Endings.{Finishing}
-use Rattle.papaya_agrees.specs.Given.Finishes.Makings.{Beginning}
-use Rattle.papaya_agrees.specs.Given.Scenes.Held.{Held, IsAt}
-use Rattle.papaya_agrees.specs.Given.Scenes.Making.{MakingLeads}
-use Rattle.papaya_agrees.specs.Given.Scenes.Scene.{Scene, slot_of}
+use Rattle.papaya_agrees.specs.Given.TellerDeclared.changed.Changed.TheVariants.{Nothing as NoChange}
+use Rattle.papaya_agrees.specs.Given.FinishesEndings.{Finishing}
+use Rattle.papaya_agrees.specs.Given.FinishesMakings.{Beginning}
+use Rattle.papaya_agrees.specs.Given.ScenesHeld.{Held, IsAt}
+use Rattle.papaya_agrees.specs.Given.ScenesMaking.{MakingLeads}
+use Rattle.papaya_agrees.specs.Given.ScenesScene.{Scene, slot_of}
 use Rattle.papaya_deeds.specs.Given.Schedules.Moment.{Moment}
-use Rattle.papaya_agrees.specs.Given.Acts.Acts.{Act, Answer, BeginsCall, StepsCall, TellsCall, AsksCall, StopsCall, BeginsMaking, StepsMaking, BeginsEnding, StepsEnding, BeginsRow, StepsRow, OfMaking}
-use Rattle.papaya_agrees.specs.Given.Acts.AsSteps.{LeadsAs, changed_by, held_in}
-use Rattle.papaya_agrees.specs.Given.Acts.Leads.{Led, MayBe}
+use Rattle.papaya_agrees.specs.Given.ActsActs.{Act, Answer, BeginsCall, StepsCall, TellsCall, AsksCall, StopsCall, BeginsMaking, StepsMaking, BeginsEnding, StepsEnding, BeginsRow, StepsRow, OfMaking}
+use Rattle.papaya_agrees.specs.Given.ActsAsSteps.{LeadsAs, changed_by, held_in}
+use Rattle.papaya_agrees.specs.Given.ActsLeads.{Led, MayBe}
 use Rattle.papaya_agrees.specs.Fresh.{HasNewNumber, is_taken}
 use Rattle.papaya_agrees.proofs.GivenBack.{NumbersComeAgain}
 use Rattle.papaya_agrees.proofs.Numbers.{NumbersHold}
 use Rattle.papaya_deeds.specs.Deeds.{moment}
-use Rattle.papaya_agrees.specs.Given.Played.Play.{Ending, State}
-use Rattle.papaya_agrees.specs.Given.Played.Reached.{IsOf}
-use Rattle.papaya_agrees.proofs.Given.Played.Noted.{CallsAreNoted}
-use Rattle.papaya_agrees.proofs.Given.Played.PlayedAs.{PlayedAs}
+use Rattle.papaya_agrees.specs.Given.PlayedPlay.{Ending, State}
+use Rattle.papaya_agrees.specs.Given.PlayedReached.{IsOf}
+use Rattle.papaya_agrees.proofs.Given.PlayedNoted.{CallsAreNoted}
+use Rattle.papaya_agrees.proofs.Given.PlayedPlayedAs.{PlayedAs}
 use Rattle.papaya_linear.specs.Coming.{IsByNewNumber, IsGone, MapsComeAndGo}
 use Rattle.papaya_linear.proofs.CallActs.{asks_hold, begins_hold, steps_hold, stops_hold, told_hold}
 use Rattle.papaya_linear.proofs.ComeActs.{end_begins_come, ending_steps_come, making_begins_come, making_steps_come, quiet_come, row_steps_come, steps_come}

@@ -2,11 +2,11 @@
 use Rattle.std.specs.Prelude.{◌≡◌, Bool}
 use Rattle.std.proofs.Common.{sym, subst}
 use Rattle.papaya_deeds.specs.Given.Schedules.After.{AtEachEvent}
-use Rattle.papaya_agrees.specs.Given.Scenes.Scene.{Scene}
+use Rattle.papaya_agrees.specs.Given.ScenesScene.{Scene}
 use Rattle.papaya_deeds.specs.Deeds.{moment}
 use Rattle.papaya_deeds.specs.History.{IsLinearizable, past}
-use Rattle.papaya_agrees.specs.Given.Played.Play.{State}
-use Rattle.papaya_agrees.proofs.Given.Played.Noted.{CallsAreNoted}
+use Rattle.papaya_agrees.specs.Given.PlayedPlay.{State}
+use Rattle.papaya_agrees.proofs.Given.PlayedNoted.{CallsAreNoted}
 use Rattle.papaya_linear.specs.Shown.{ShowsAnswers}
 use Rattle.papaya_linear.proofs.HeardAll.{AreHeard}
 

@@ -5,22 +5,22 @@ use Rattle.papaya_deeds.specs.Given.SeizeWords.declared.at.At.{At}
 use Rattle.papaya_deeds.specs.Given.SeizeWords.declared.at.At.TheVariants.{Root, Used, Slot, Entry, Word}
 use Rattle.papaya_deeds.specs.Given.SeizeWords.Mem.{Mem, value_at}
 use Rattle.papaya_deeds.specs.Given.SeizeWords.Word.{block_in}
-use Rattle.papaya_agrees.specs.Given.Seize.World.{World}
-use Rattle.papaya_agrees.specs.Given.Tables.declared.node.Node.{Node}
-use Rattle.papaya_agrees.specs.Given.Tables.declared.table_words.TheConstants.{NEXT}
+use Rattle.papaya_agrees.specs.Given.SeizeWorld.{World}
+use Rattle.papaya_agrees.specs.Given.TablesDeclared.node.Node.{Node}
+use Rattle.papaya_agrees.specs.Given.TablesDeclared.table_words.TheConstants.{NEXT}
 use Rattle.papaya_deeds.specs.Given.Schedules.Lists.{put}
 use Rattle.papaya_deeds.specs.Given.Schedules.Moment.{Moment}
-use Rattle.papaya_agrees.specs.Given.Teller.declared.changed.Changed.{Changed}
-use Rattle.papaya_agrees.specs.Given.Teller.declared.changed.Changed.TheVariants as changed
-use Rattle.papaya_agrees.specs.Given.Effects.Effects.{in_block_on, in_table_on, is_place, known_after, linked_on, named, names_same, stored_on, written_on}
-use Rattle.papaya_agrees.specs.Given.Effects.Known.{Known}
-use Rattle.papaya_agrees.specs.Given.Effects.declared.acting.Acting.{Acting}
-use Rattle.papaya_agrees.specs.Given.Effects.declared.role.Role.{Role}
-use Rattle.papaya_agrees.specs.Given.Effects.declared.role.Role.TheVariants as role
-use Rattle.papaya_agrees.specs.Given.Follows.Blocks.{HasRole}
-use Rattle.papaya_agrees.proofs.Given.Follows.Alike.{put_elsewhere}
-use Rattle.papaya_agrees.proofs.Given.Follows.Operations.{LeavesBy}
-use Rattle.papaya_agrees.proofs.Given.Follows.Told.{roomed_as_many}
+use Rattle.papaya_agrees.specs.Given.TellerDeclared.changed.Changed.{Changed}
+use Rattle.papaya_agrees.specs.Given.TellerDeclared.changed.Changed.TheVariants as changed
+use Rattle.papaya_agrees.specs.Given.EffectsEffects.{in_block_on, in_table_on, is_place, known_after, linked_on, named, names_same, stored_on, written_on}
+use Rattle.papaya_agrees.specs.Given.EffectsKnown.{Known}
+use Rattle.papaya_agrees.specs.Given.EffectsDeclared.acting.Acting.{Acting}
+use Rattle.papaya_agrees.specs.Given.EffectsDeclared.role.Role.{Role}
+use Rattle.papaya_agrees.specs.Given.EffectsDeclared.role.Role.TheVariants as role
+use Rattle.papaya_agrees.specs.Given.FollowsBlocks.{HasRole}
+use Rattle.papaya_agrees.proofs.Given.FollowsAlike.{put_elsewhere}
+use Rattle.papaya_agrees.proofs.Given.FollowsOperations.{LeavesBy}
+use Rattle.papaya_agrees.proofs.Given.FollowsTold.{roomed_as_many}
 
 -- it is a pair, a table, or the counter of a map
 abbrev pub IsLasting : Role → Type 0

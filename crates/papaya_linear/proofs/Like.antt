@@ -1,20 +1,20 @@
 -- What a moment shows it shows, too, once other things of it have changed: how many entries came, how many maps were made, who is there, what is sheltered and what remains. So it is where an entry is over.
 use Rattle.std.specs.Prelude.{◌≡◌, ℕ, suc, Bool, List}
 use Rattle.std.proofs.Common.{refl, sym, subst}
-use Rattle.papaya_agrees.specs.Given.Runs.Present.{Present}
+use Rattle.papaya_agrees.specs.Given.RunsPresent.{Present}
 use Rattle.papaya_deeds.specs.Given.Schedules.Moment.{Moment, Remains, Sheltered}
 use Rattle.papaya_deeds.specs.Given.Schedules.Transition.{Past, further}
-use Rattle.papaya_agrees.specs.Given.Effects.Known.{Known}
-use Rattle.papaya_agrees.specs.Given.Others.After.{ShowsAfter}
-use Rattle.papaya_agrees.specs.Given.Others.Elsewhere.{HasSame}
-use Rattle.papaya_agrees.specs.Given.Scenes.Scene.{Scene}
-use Rattle.papaya_events.specs.Given.Moments.Whole.{ShowsWhole}
-use Rattle.papaya_agrees.proofs.Given.Others.Elsewhere.{shown_elsewhere}
-use Rattle.papaya_agrees.proofs.Given.Others.Stays.{same_maps}
-use Rattle.papaya_events.proofs.Given.Moments.MapsCome.{asked_still}
-use Rattle.papaya_events.proofs.Given.Histories.Aside.Stays.{as_called_stays, dues_stay}
-use Rattle.papaya_events.proofs.Given.Histories.DueOn.{events_keep_due}
-use Rattle.papaya_events.proofs.Given.Kept.Stays.{stays_kept}
+use Rattle.papaya_agrees.specs.Given.EffectsKnown.{Known}
+use Rattle.papaya_agrees.specs.Given.OthersAfter.{ShowsAfter}
+use Rattle.papaya_agrees.specs.Given.OthersElsewhere.{HasSame}
+use Rattle.papaya_agrees.specs.Given.ScenesScene.{Scene}
+use Rattle.papaya_events.specs.Given.MomentsWhole.{ShowsWhole}
+use Rattle.papaya_agrees.proofs.Given.OthersElsewhere.{shown_elsewhere}
+use Rattle.papaya_agrees.proofs.Given.OthersStays.{same_maps}
+use Rattle.papaya_events.proofs.Given.MomentsMapsCome.{asked_still}
+use Rattle.papaya_events.proofs.Given.HistoriesAside.Stays.{as_called_stays, dues_stay}
+use Rattle.papaya_events.proofs.Given.HistoriesDueOn.{events_keep_due}
+use Rattle.papaya_events.proofs.Given.KeptStays.{stays_kept}
 use Rattle.papaya_deeds.specs.Deeds.{named}
 use Rattle.papaya_linear.specs.Shown.{ShowsAnswers}
 

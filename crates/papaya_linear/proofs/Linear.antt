@@ -2,14 +2,14 @@
 use Rattle.std.specs.Prelude.{◌≡◌, ◌<◌, ◌^◌, Bool, Some}
 use Rattle.std.specs.List.{AllByRecursion}
 use Rattle.std.proofs.Common.{ℕ, List, [], ◌∷◌, refl}
-use Rattle.papaya_agrees.specs.Given.Acts.Doings.{Doing, Does, BeginsReclaiming, BeginsClearing, StepsReclaiming, Chooses}
-use Rattle.papaya_agrees.specs.Given.Acts.Lists.{Course, LedTo, Reached, nothing_done}
-use Rattle.papaya_agrees.specs.Given.Scenes.Scene.{slot_of}
+use Rattle.papaya_agrees.specs.Given.ActsDoings.{Doing, Does, BeginsReclaiming, BeginsClearing, StepsReclaiming, Chooses}
+use Rattle.papaya_agrees.specs.Given.ActsLists.{Course, LedTo, Reached, nothing_done}
+use Rattle.papaya_agrees.specs.Given.ScenesScene.{slot_of}
 use Rattle.papaya_agrees.specs.Fresh.{HasNewNumber, MakesNew}
 use Rattle.papaya_agrees.proofs.Coming.{new_fits}
 use Rattle.papaya_agrees.proofs.GivenBack.{again_first}
-use Rattle.papaya_agrees.specs.Given.Played.Play.{State, first_state, play_all}
-use Rattle.papaya_agrees.proofs.Given.Played.Along.{AreOfTheirOwn, At, StaysSo, wherever}
+use Rattle.papaya_agrees.specs.Given.PlayedPlay.{State, first_state, play_all}
+use Rattle.papaya_agrees.proofs.Given.PlayedAlong.{AreOfTheirOwn, At, StaysSo, wherever}
 use Rattle.papaya_linear.specs.Linear.{IsOfOwn, ListsAreLinearizable}
 use Rattle.papaya_linear.proofs.Stays.{Of, all_stay, first_holds}
 

@@ -2,48 +2,48 @@
 use Rattle.std.specs.Prelude.{◌≡◌, ◌≢◌, ◌⊎◌, ◌<◌, ℕ, Bool, true, false, List, [], Option, Some, None}
 use Rattle.std.proofs.Common.{refl, ap, sym, subst, ◌∙◌, inl, inr}
 use Rattle.std.proofs.lemmas.Bool.{cases_eq}
-use Rattle.papaya_events.specs.Given.SeizeActs.Answers.{Grant}
-use Rattle.papaya_events.proofs.Given.SeizeActs.Answers.{same_some}
+use Rattle.papaya_events.specs.Given.SeizeActsAnswers.{Grant}
+use Rattle.papaya_events.proofs.Given.SeizeActsAnswers.{same_some}
 use Rattle.papaya_deeds.specs.Given.SeizeWords.Mem.{Mem}
-use Rattle.papaya_agrees.specs.Given.Seize.World.{World, with_at}
-use Rattle.papaya_agrees.specs.Given.Seize.declared.progress.Progress.{Progress}
-use Rattle.papaya_agrees.specs.Given.Seize.declared.progress.Progress.TheVariants as progress
-use Rattle.papaya_agrees.specs.Given.Teller.declared.changed.Changed.{Changed}
-use Rattle.papaya_agrees.specs.Given.Tables.declared.node.Node.{Node}
-use Rattle.papaya_agrees.specs.Given.Tables.declared.setting.Setting.{Setting}
+use Rattle.papaya_agrees.specs.Given.SeizeWorld.{World, with_at}
+use Rattle.papaya_agrees.specs.Given.SeizeDeclared.progress.Progress.{Progress}
+use Rattle.papaya_agrees.specs.Given.SeizeDeclared.progress.Progress.TheVariants as progress
+use Rattle.papaya_agrees.specs.Given.TellerDeclared.changed.Changed.{Changed}
+use Rattle.papaya_agrees.specs.Given.TablesDeclared.node.Node.{Node}
+use Rattle.papaya_agrees.specs.Given.TablesDeclared.setting.Setting.{Setting}
 use Rattle.papaya_deeds.specs.Given.Resize.NewMap.{at_root, new_map_plan}
 use Rattle.papaya_deeds.specs.Given.Resize.declared.new_map.NewMap.{NewMap}
 use Rattle.papaya_deeds.specs.Given.Resize.declared.new_map.Opening.{Opening}
 use Rattle.papaya_deeds.specs.Given.Resize.declared.new_map.Opening.TheVariants as opens
-use Rattle.papaya_agrees.specs.Given.Teller.Tells.{StepsTold}
-use Rattle.papaya_agrees.specs.Given.Teller.declared.changed.Changed.TheVariants as changed
-use Rattle.papaya_agrees.specs.Given.Finishes.Endings.{MakingStepsAmong}
-use Rattle.papaya_agrees.specs.Given.Finishes.Makings.{Beginning, HasTaken, KeepsIts, MakingFacts, OpeningFacts}
-use Rattle.papaya_agrees.proofs.Given.Callers.Together.At.{at_other, at_same}
-use Rattle.papaya_agrees.specs.Given.Scenes.Held.{Held, IsAt}
-use Rattle.papaya_agrees.specs.Given.Scenes.Making.{MakingLeads}
-use Rattle.papaya_agrees.specs.Given.Scenes.Scene.{Scene, slot_of}
+use Rattle.papaya_agrees.specs.Given.TellerTells.{StepsTold}
+use Rattle.papaya_agrees.specs.Given.TellerDeclared.changed.Changed.TheVariants as changed
+use Rattle.papaya_agrees.specs.Given.FinishesEndings.{MakingStepsAmong}
+use Rattle.papaya_agrees.specs.Given.FinishesMakings.{Beginning, HasTaken, KeepsIts, MakingFacts, OpeningFacts}
+use Rattle.papaya_agrees.proofs.Given.CallersTogether.At.{at_other, at_same}
+use Rattle.papaya_agrees.specs.Given.ScenesHeld.{Held, IsAt}
+use Rattle.papaya_agrees.specs.Given.ScenesMaking.{MakingLeads}
+use Rattle.papaya_agrees.specs.Given.ScenesScene.{Scene, slot_of}
 use Rattle.papaya_deeds.specs.Given.Schedules.declared.effect.Effect.{Effect}
 use Rattle.papaya_deeds.specs.Given.Schedules.declared.outcome.Outcome.{Outcome}
 use Rattle.papaya_deeds.specs.Given.Schedules.Effects.{with_effects}
 use Rattle.papaya_deeds.specs.Given.Schedules.Moment.{MapThere, Moment}
 use Rattle.papaya_deeds.specs.Given.Schedules.Views.{tables_of}
-use Rattle.papaya_agrees.specs.Given.Effects.Effects.{effects_of}
-use Rattle.papaya_agrees.specs.Given.Effects.Known.{Known}
-use Rattle.papaya_agrees.specs.Given.Effects.declared.acting.Acting.TheVariants as acts
-use Rattle.papaya_agrees.specs.Given.Others.Makings.{IsNew, WasNew}
-use Rattle.papaya_events.specs.Given.Moments.Numbers.{AreFound}
-use Rattle.papaya_events.specs.Given.Moments.Whole.{ShowsWhole}
-use Rattle.papaya_agrees.proofs.Given.Others.MakingGoes.{new_maps_stay}
-use Rattle.papaya_events.specs.Given.Remains.Numbered.{NumbersUpTo}
-use Rattle.papaya_events.proofs.Given.Remains.Numbered.{makings_keep_count}
-use Rattle.papaya_agrees.proofs.Given.Acts.AsSteps.Told.{was_told}
-use Rattle.papaya_agrees.specs.Given.Acts.AsSteps.{changed_of, held_in}
-use Rattle.papaya_agrees.specs.Given.Acts.Leads.{MakingCame, making_steps}
+use Rattle.papaya_agrees.specs.Given.EffectsEffects.{effects_of}
+use Rattle.papaya_agrees.specs.Given.EffectsKnown.{Known}
+use Rattle.papaya_agrees.specs.Given.EffectsDeclared.acting.Acting.TheVariants as acts
+use Rattle.papaya_agrees.specs.Given.OthersMakings.{IsNew, WasNew}
+use Rattle.papaya_events.specs.Given.MomentsNumbers.{AreFound}
+use Rattle.papaya_events.specs.Given.MomentsWhole.{ShowsWhole}
+use Rattle.papaya_agrees.proofs.Given.OthersMakingGoes.{new_maps_stay}
+use Rattle.papaya_events.specs.Given.RemainsNumbered.{NumbersUpTo}
+use Rattle.papaya_events.proofs.Given.RemainsNumbered.{makings_keep_count}
+use Rattle.papaya_agrees.proofs.Given.ActsAsSteps.Told.{was_told}
+use Rattle.papaya_agrees.specs.Given.ActsAsSteps.{changed_of, held_in}
+use Rattle.papaya_agrees.specs.Given.ActsLeads.{MakingCame, making_steps}
 use Rattle.papaya_agrees.proofs.Elsewhere.{SameOf}
 use Rattle.papaya_agrees.proofs.Openings.{IsRefused, done_rooted, root_kept, rootless_quiet}
 use Rattle.papaya_deeds.specs.Deeds.{Deed, Entry, after, come, named, without_map}
-use Rattle.papaya_agrees.specs.Given.Played.Play.{Ending, has_root, pairs_for}
+use Rattle.papaya_agrees.specs.Given.PlayedPlay.{Ending, has_root, pairs_for}
 use Rattle.papaya_linear.specs.Coming.{Comes, ComesBy, IsUnknown, MapsComeAndGo}
 use Rattle.papaya_linear.proofs.Coming.{come_leaves, come_there, comes_bare, comes_on, gone_leaves, new_on, others_leave, same_of, same_then, unknown_on}
 use Rattle.papaya_linear.proofs.Counted.{all_found, counted_again, counted_come, counted_gone}

@@ -1,52 +1,52 @@
 -- What is so of a state that is played stays so where a making or an end of a map begins, and takes its step, while the map comes as it must and goes as it was noted: each entry so far is linearizable.
 use Rattle.std.specs.Prelude.{◌≡◌, ℕ, Bool, true, false, [], ◌∷◌, Some, None, if◌then◌else◌}
 use Rattle.std.proofs.Common.{refl, ap, sym, subst, ◌∙◌}
-use Rattle.papaya_events.specs.Given.SeizeActs.Answers.{Grant}
+use Rattle.papaya_events.specs.Given.SeizeActsAnswers.{Grant}
 use Rattle.papaya_deeds.specs.Given.SeizeWords.Mem.{Mem}
-use Rattle.papaya_agrees.specs.Given.Seize.World.{Row}
-use Rattle.papaya_agrees.specs.Given.Seize.declared.progress.Progress.{Progress}
-use Rattle.papaya_agrees.specs.Given.Seize.declared.progress.Progress.TheVariants as progress
-use Rattle.papaya_agrees.specs.Given.Seize.declared.rows.settle.Settled.{Settled}
-use Rattle.papaya_agrees.specs.Given.Seize.declared.rows.settle.Settled.TheVariants as settled
-use Rattle.papaya_agrees.specs.Given.Tables.declared.node.Node.{Node}
-use Rattle.papaya_agrees.specs.Given.Tables.declared.setting.Setting.{Setting}
+use Rattle.papaya_agrees.specs.Given.SeizeWorld.{Row}
+use Rattle.papaya_agrees.specs.Given.SeizeDeclared.progress.Progress.{Progress}
+use Rattle.papaya_agrees.specs.Given.SeizeDeclared.progress.Progress.TheVariants as progress
+use Rattle.papaya_agrees.specs.Given.SeizeDeclared.rows.settle.Settled.{Settled}
+use Rattle.papaya_agrees.specs.Given.SeizeDeclared.rows.settle.Settled.TheVariants as settled
+use Rattle.papaya_agrees.specs.Given.TablesDeclared.node.Node.{Node}
+use Rattle.papaya_agrees.specs.Given.TablesDeclared.setting.Setting.{Setting}
 use Rattle.papaya_deeds.specs.Given.Resize.declared.new_map.NewMap.{NewMap}
-use Rattle.papaya_agrees.specs.Given.Finishes.Endings.{Finishing, MakingStepsAmong}
-use Rattle.papaya_agrees.specs.Given.Finishes.Makings.{Beginning}
-use Rattle.papaya_agrees.specs.Given.Teller.declared.changed.Changed.{Changed}
-use Rattle.papaya_agrees.proofs.Given.Scenes.NoCall.{none_is}
-use Rattle.papaya_agrees.specs.Given.Scenes.Held.{Held, IsAt}
-use Rattle.papaya_agrees.specs.Given.Scenes.Ending.{EndingLeads, ending_begun}
-use Rattle.papaya_agrees.specs.Given.Scenes.Making.{MakingLeads, making_begun, scene_making}
-use Rattle.papaya_agrees.specs.Given.Scenes.Scene.{Scene, slot_of}
+use Rattle.papaya_agrees.specs.Given.FinishesEndings.{Finishing, MakingStepsAmong}
+use Rattle.papaya_agrees.specs.Given.FinishesMakings.{Beginning}
+use Rattle.papaya_agrees.specs.Given.TellerDeclared.changed.Changed.{Changed}
+use Rattle.papaya_agrees.proofs.Given.ScenesNoCall.{none_is}
+use Rattle.papaya_agrees.specs.Given.ScenesHeld.{Held, IsAt}
+use Rattle.papaya_agrees.specs.Given.ScenesEnding.{EndingLeads, ending_begun}
+use Rattle.papaya_agrees.specs.Given.ScenesMaking.{MakingLeads, making_begun, scene_making}
+use Rattle.papaya_agrees.specs.Given.ScenesScene.{Scene, slot_of}
 use Rattle.papaya_deeds.specs.Given.Schedules.After.{AtEachEvent}
 use Rattle.papaya_deeds.specs.Given.Schedules.declared.outcome.Outcome.{Outcome}
 use Rattle.papaya_deeds.specs.Given.Schedules.Effects.{with_effects}
 use Rattle.papaya_deeds.specs.Given.Schedules.Moment.{Moment}
 use Rattle.papaya_deeds.specs.Given.Schedules.Views.{tables_of}
-use Rattle.papaya_agrees.specs.Given.Effects.Effects.{effects_of, known_after}
-use Rattle.papaya_agrees.specs.Given.Effects.Known.{Known}
-use Rattle.papaya_agrees.specs.Given.Effects.declared.acting.Acting.TheVariants as acts
-use Rattle.papaya_agrees.specs.Given.Others.Makings.{WasNew}
-use Rattle.papaya_events.specs.Given.Moments.Numbers.{AreFound}
-use Rattle.papaya_events.specs.Given.Logged.Ends.{NotedStill, NotesMap}
-use Rattle.papaya_agrees.specs.Given.Acts.Acts.{Act, Answer, OfEnding, OfMaking}
-use Rattle.papaya_agrees.specs.Given.Acts.Acts.{BeginsMaking, StepsMaking, BeginsEnding, StepsEnding}
-use Rattle.papaya_agrees.specs.Given.Acts.AsSteps.{EndedTo, LeadsAs, MadeTo, changed_by, held_in}
-use Rattle.papaya_agrees.specs.Given.Acts.Leads.{Led, MakingCame, MayBe, making_steps}
+use Rattle.papaya_agrees.specs.Given.EffectsEffects.{effects_of, known_after}
+use Rattle.papaya_agrees.specs.Given.EffectsKnown.{Known}
+use Rattle.papaya_agrees.specs.Given.EffectsDeclared.acting.Acting.TheVariants as acts
+use Rattle.papaya_agrees.specs.Given.OthersMakings.{WasNew}
+use Rattle.papaya_events.specs.Given.MomentsNumbers.{AreFound}
+use Rattle.papaya_events.specs.Given.LoggedEnds.{NotedStill, NotesMap}
+use Rattle.papaya_agrees.specs.Given.ActsActs.{Act, Answer, OfEnding, OfMaking}
+use Rattle.papaya_agrees.specs.Given.ActsActs.{BeginsMaking, StepsMaking, BeginsEnding, StepsEnding}
+use Rattle.papaya_agrees.specs.Given.ActsAsSteps.{EndedTo, LeadsAs, MadeTo, changed_by, held_in}
+use Rattle.papaya_agrees.specs.Given.ActsLeads.{Led, MakingCame, MayBe, making_steps}
 use Rattle.papaya_deeds.specs.Deeds.{Deed, Ends, Entry, Makes, MapComes, MapFails, MapGoes, caller_of, come, moment, named}
 use Rattle.papaya_deeds.specs.History.{IsLinearizable, past}
-use Rattle.papaya_agrees.specs.Given.Played.Play.{Ending, State, ending_begun as end_begun, ending_deed, ending_stepped, has_root, is_over, is_refusal, making_begun as made_begun, making_deed, making_outcome, making_stepped, pairs_for, settled_outcome}
-use Rattle.papaya_agrees.specs.Given.Played.Reached.{IsOf}
-use Rattle.papaya_agrees.proofs.Given.Played.Noted.{CallsAreNoted, ending_none, made_calls, making_none}
-use Rattle.papaya_agrees.proofs.Given.Played.PlayedAs.{PlayedAs}
+use Rattle.papaya_agrees.specs.Given.PlayedPlay.{Ending, State, ending_begun as end_begun, ending_deed, ending_stepped, has_root, is_over, is_refusal, making_begun as made_begun, making_deed, making_outcome, making_stepped, pairs_for, settled_outcome}
+use Rattle.papaya_agrees.specs.Given.PlayedReached.{IsOf}
+use Rattle.papaya_agrees.proofs.Given.PlayedNoted.{CallsAreNoted, ending_none, made_calls, making_none}
+use Rattle.papaya_agrees.proofs.Given.PlayedPlayedAs.{PlayedAs}
 use Rattle.papaya_linear.specs.Shown.{ShowsAnswers}
 use Rattle.papaya_linear.proofs.Holds.{Holds, onto}
 use Rattle.papaya_linear.proofs.Heard.{none_said}
 use Rattle.papaya_linear.proofs.HeardAll.{all_heard}
 use Rattle.papaya_linear.proofs.MapsPlayed.{IsApart, comes_answer, end_of, ended, ends_answer, ends_are_linearizable, fails_answer, goes_answer, made, makes_answer, makings_are_linearizable}
 use Rattle.papaya_linear.proofs.OthersGo.{ends_begin, makings_begin}
-use Rattle.papaya_agrees.proofs.Given.Played.Tied.{EndingTied, MakingTied, ending_tied, making_tied}
+use Rattle.papaya_agrees.proofs.Given.PlayedTied.{EndingTied, MakingTied, ending_tied, making_tied}
 
 module _ {K V : Type 0} where
   -- a map comes where its root is taken, and goes where it is given up

@@ -1,16 +1,16 @@
 -- A step of the making of a map, and of its end, as it is played: the entry is linearizable, and what the moment shows of calls it shows then, while the map comes as it must and goes as it was noted.
 use Rattle.std.specs.Prelude.{◌≡◌, ℕ, Bool, false, List, [], ◌∷◌, flat_map, Some, None}
 use Rattle.std.proofs.Common.{refl, sym, subst}
-use Rattle.papaya_agrees.specs.Given.Seize.declared.progress.Progress.{Progress as Making}
-use Rattle.papaya_agrees.specs.Given.Seize.declared.rows.settle.Settled.{Settled}
-use Rattle.papaya_agrees.specs.Given.Tables.declared.node.Node.{Node}
-use Rattle.papaya_agrees.specs.Given.Tables.declared.setting.Setting.{Setting}
+use Rattle.papaya_agrees.specs.Given.SeizeDeclared.progress.Progress.{Progress as Making}
+use Rattle.papaya_agrees.specs.Given.SeizeDeclared.rows.settle.Settled.{Settled}
+use Rattle.papaya_agrees.specs.Given.TablesDeclared.node.Node.{Node}
+use Rattle.papaya_agrees.specs.Given.TablesDeclared.setting.Setting.{Setting}
 use Rattle.papaya_deeds.specs.Given.Resize.declared.new_map.NewMap.{NewMap}
-use Rattle.papaya_agrees.specs.Given.Runs.Same.{is_same}
-use Rattle.papaya_agrees.specs.Given.Finishes.Endings.{Finishing}
-use Rattle.papaya_agrees.specs.Given.Finishes.FactsEnds.{taken_by as taken_of}
-use Rattle.papaya_agrees.specs.Given.Finishes.Makings.{Beginning}
-use Rattle.papaya_agrees.specs.Given.Finishes.Maps.{Standing}
+use Rattle.papaya_agrees.specs.Given.RunsSame.{is_same}
+use Rattle.papaya_agrees.specs.Given.FinishesEndings.{Finishing}
+use Rattle.papaya_agrees.specs.Given.FinishesFactsEnds.{taken_by as taken_of}
+use Rattle.papaya_agrees.specs.Given.FinishesMakings.{Beginning}
+use Rattle.papaya_agrees.specs.Given.FinishesMaps.{Standing}
 use Rattle.papaya_deeds.specs.Given.Schedules.declared.effect.Effect.{Effect}
 use Rattle.papaya_deeds.specs.Given.Schedules.declared.outcome.Outcome.{Outcome}
 use Rattle.papaya_deeds.specs.Given.Schedules.Beginning.{with_map}
@@ -18,22 +18,22 @@ use Rattle.papaya_deeds.specs.Given.Schedules.Effects.{with_effects}
 use Rattle.papaya_deeds.specs.Given.Schedules.Linearizable.{shift_of}
 use Rattle.papaya_deeds.specs.Given.Schedules.Moment.{MapThere, Moment}
 use Rattle.papaya_deeds.specs.Given.Schedules.Views.{map_at, tables_of}
-use Rattle.papaya_agrees.specs.Given.Effects.Effects.{effects_of, known_after}
-use Rattle.papaya_agrees.specs.Given.Effects.Known.{Known}
-use Rattle.papaya_agrees.specs.Given.Effects.declared.acting.Acting.TheVariants as acts
-use Rattle.papaya_agrees.specs.Given.Others.Endings.{ending_after, without_map}
-use Rattle.papaya_agrees.specs.Given.Others.Makings.{WasNew, making_after}
-use Rattle.papaya_agrees.specs.Given.Scenes.Ending.{EndingLeads}
-use Rattle.papaya_agrees.specs.Given.Scenes.Held.{Held, IsAt}
-use Rattle.papaya_agrees.specs.Given.Scenes.Making.{MakingLeads}
-use Rattle.papaya_agrees.specs.Given.Scenes.Scene.{Scene}
-use Rattle.papaya_events.specs.Given.Moments.Numbers.{AreFound}
-use Rattle.papaya_events.specs.Given.Logged.Ends.{NotedStill, NotesMap}
-use Rattle.papaya_events.proofs.Given.Logged.EndTold.{did_end, ends_alone}
-use Rattle.papaya_events.proofs.Given.Works.Makings.{makings_do_theirs}
+use Rattle.papaya_agrees.specs.Given.EffectsEffects.{effects_of, known_after}
+use Rattle.papaya_agrees.specs.Given.EffectsKnown.{Known}
+use Rattle.papaya_agrees.specs.Given.EffectsDeclared.acting.Acting.TheVariants as acts
+use Rattle.papaya_agrees.specs.Given.OthersEndings.{ending_after, without_map}
+use Rattle.papaya_agrees.specs.Given.OthersMakings.{WasNew, making_after}
+use Rattle.papaya_agrees.specs.Given.ScenesEnding.{EndingLeads}
+use Rattle.papaya_agrees.specs.Given.ScenesHeld.{Held, IsAt}
+use Rattle.papaya_agrees.specs.Given.ScenesMaking.{MakingLeads}
+use Rattle.papaya_agrees.specs.Given.ScenesScene.{Scene}
+use Rattle.papaya_events.specs.Given.MomentsNumbers.{AreFound}
+use Rattle.papaya_events.specs.Given.LoggedEnds.{NotedStill, NotesMap}
+use Rattle.papaya_events.proofs.Given.LoggedEndTold.{did_end, ends_alone}
+use Rattle.papaya_events.proofs.Given.WorksMakings.{makings_do_theirs}
 use Rattle.papaya_deeds.specs.Deeds.{Deed, Ends, Entry, Makes, MapComes, MapFails, MapGoes, caller_of, come, moment, named}
 use Rattle.papaya_deeds.specs.History.{IsLinearizable, past}
-use Rattle.papaya_agrees.specs.Given.Played.Play.{State, is_refusal, pairs_for}
+use Rattle.papaya_agrees.specs.Given.PlayedPlay.{State, is_refusal, pairs_for}
 use Rattle.papaya_linear.specs.Shown.{ShowsAnswers}
 use Rattle.papaya_linear.proofs.CallEntries.{entry_answers, none_is_linearizable}
 use Rattle.papaya_linear.proofs.Like.{likes_answer}

@@ -1,13 +1,13 @@
 -- Each map that is there has its number as its name: so no map that stands has the name of one that does not.
 use Rattle.std.specs.Prelude.{◌≡◌, ◌==◌, ℕ, false, List, Some, None}
 use Rattle.std.proofs.Common.{ap, sym, subst, ◌∙◌, arith}
-use Rattle.papaya_agrees.specs.Given.Runs.Same.{is_same}
+use Rattle.papaya_agrees.specs.Given.RunsSame.{is_same}
 use Rattle.papaya_deeds.specs.Given.Schedules.Moment.{Moment}
-use Rattle.papaya_agrees.specs.Given.Scenes.Scene.{Scene}
-use Rattle.papaya_events.proofs.Given.Moments.Numbers.{found_of}
+use Rattle.papaya_agrees.specs.Given.ScenesScene.{Scene}
+use Rattle.papaya_events.proofs.Given.MomentsNumbers.{found_of}
 use Rattle.papaya_deeds.specs.Deeds.{named}
 use Rattle.papaya_agrees.specs.Fresh.{AreNamed, IsNamed}
-use Rattle.papaya_agrees.proofs.Given.Played.Noted.{apart}
+use Rattle.papaya_agrees.proofs.Given.PlayedNoted.{apart}
 use Rattle.papaya_linear.proofs.MapsPlayed.{IsApart}
 
 module _ {K V : Type 0} where

@@ -1,53 +1,53 @@
 -- What a moment shows of calls it shows where a row begins on a slot, a map comes or goes, its making or its end begins, after each step of these, and after one by which all is reclaimed.
 use Rattle.std.specs.Prelude.{◌≡◌, ℕ, Bool, false, List, [], Some, None}
 use Rattle.std.proofs.Common.{refl, sym, ◌∙◌}
-use Rattle.papaya_agrees.specs.Given.Seize.World.{Begin, Step}
-use Rattle.papaya_agrees.specs.Given.Seize.declared.progress.Progress.{Progress as Making}
-use Rattle.papaya_agrees.specs.Given.Seize.declared.progress.Progress.TheVariants as progress
-use Rattle.papaya_agrees.specs.Given.Seize.declared.rows.reclaim_all.ReclaimAll.{ReclaimAll}
-use Rattle.papaya_agrees.specs.Given.Seize.declared.rows.settle.Settled.{Settled}
-use Rattle.papaya_agrees.specs.Given.Seize.declared.rows.settle.Settled.TheVariants as settled
-use Rattle.papaya_agrees.specs.Given.Tables.declared.node.Node.{Node}
-use Rattle.papaya_agrees.specs.Given.Tables.declared.setting.Setting.{Setting}
-use Rattle.papaya_agrees.specs.Given.Callers.Together.{OnKey, UnderWay}
-use Rattle.papaya_agrees.specs.Given.Finishes.Endings.{Finishing}
-use Rattle.papaya_agrees.specs.Given.Finishes.Makings.{Beginning, HasMade}
-use Rattle.papaya_agrees.specs.Given.Finishes.Maps.{Standing}
-use Rattle.papaya_agrees.specs.Given.Runs.Same.{is_same}
+use Rattle.papaya_agrees.specs.Given.SeizeWorld.{Begin, Step}
+use Rattle.papaya_agrees.specs.Given.SeizeDeclared.progress.Progress.{Progress as Making}
+use Rattle.papaya_agrees.specs.Given.SeizeDeclared.progress.Progress.TheVariants as progress
+use Rattle.papaya_agrees.specs.Given.SeizeDeclared.rows.reclaim_all.ReclaimAll.{ReclaimAll}
+use Rattle.papaya_agrees.specs.Given.SeizeDeclared.rows.settle.Settled.{Settled}
+use Rattle.papaya_agrees.specs.Given.SeizeDeclared.rows.settle.Settled.TheVariants as settled
+use Rattle.papaya_agrees.specs.Given.TablesDeclared.node.Node.{Node}
+use Rattle.papaya_agrees.specs.Given.TablesDeclared.setting.Setting.{Setting}
+use Rattle.papaya_agrees.specs.Given.CallersTogether.{OnKey, UnderWay}
+use Rattle.papaya_agrees.specs.Given.FinishesEndings.{Finishing}
+use Rattle.papaya_agrees.specs.Given.FinishesMakings.{Beginning, HasMade}
+use Rattle.papaya_agrees.specs.Given.FinishesMaps.{Standing}
+use Rattle.papaya_agrees.specs.Given.RunsSame.{is_same}
 use Rattle.papaya_deeds.specs.Given.Schedules.Beginning.{with_map}
 use Rattle.papaya_deeds.specs.Given.Schedules.Effects.{AtEachEffect, with_effects}
 use Rattle.papaya_deeds.specs.Given.Schedules.Moment.{MapThere, Moment, Remains}
 use Rattle.papaya_deeds.specs.Given.Schedules.Transition.{Past}
 use Rattle.papaya_deeds.specs.Given.Schedules.Views.{map_at, tables_of}
-use Rattle.papaya_agrees.specs.Given.Effects.Effects.{effects_of, known_after}
-use Rattle.papaya_agrees.specs.Given.Effects.Known.{Known}
-use Rattle.papaya_agrees.specs.Given.Effects.declared.acting.Acting.TheVariants as acts
-use Rattle.papaya_agrees.specs.Given.Scenes.Ending.{EndingLeads, ending_begun}
-use Rattle.papaya_agrees.specs.Given.Scenes.Held.{Held, IsAt}
-use Rattle.papaya_agrees.specs.Given.Scenes.Making.{MakingLeads, scene_making}
-use Rattle.papaya_agrees.specs.Given.Scenes.OnSlots.{RowBegins, RowLeads}
-use Rattle.papaya_agrees.specs.Given.Scenes.Reclaiming.{IsReclaiming, ReclaimingLeads}
-use Rattle.papaya_agrees.specs.Given.Scenes.Rows.{request_of}
-use Rattle.papaya_agrees.specs.Given.Scenes.Scene.{IsOnSlot, Scene, slot_of}
-use Rattle.papaya_agrees.specs.Given.Scenes.declared.row.RowTold.{RowTold}
-use Rattle.papaya_agrees.specs.Given.Scenes.declared.row.SlotCall.{SlotCall}
-use Rattle.papaya_agrees.specs.Given.Scenes.declared.row.SlotRow.{SlotRow}
-use Rattle.papaya_agrees.specs.Given.Others.Endings.{ending_after, without_map}
-use Rattle.papaya_agrees.specs.Given.Others.Makings.{WasNew, making_after}
-use Rattle.papaya_agrees.specs.Given.Others.Rows.{scene_then}
-use Rattle.papaya_events.specs.Given.Moments.Endings.{IsOfIts}
-use Rattle.papaya_events.specs.Given.Moments.Numbers.{AreFound}
-use Rattle.papaya_events.proofs.Given.Moments.Ends.{endings_begin_whole, endings_keep_whole}
-use Rattle.papaya_events.proofs.Given.Moments.MakingSteps.{makings_keep_whole}
-use Rattle.papaya_events.proofs.Given.Moments.MapsCome.{makings_begin_whole, maps_come_whole}
-use Rattle.papaya_events.proofs.Given.Moments.OnSlots.{rows_begin_whole, rows_keep_whole}
-use Rattle.papaya_events.proofs.Given.Moments.Over.{endings_are_over_whole}
-use Rattle.papaya_events.proofs.Given.Histories.Aside.Stays.{as_called_stays, dues_stay}
-use Rattle.papaya_events.proofs.Given.Histories.Questions.{effects_keep_questions}
-use Rattle.papaya_events.proofs.Given.Kept.Others.{endings_begin_kept, endings_find_kept, endings_keep_kept, makings_keep_kept, rows_begin_kept, rows_find_kept, rows_keep_kept}
-use Rattle.papaya_events.proofs.Given.Kept.Stays.{makings_begin_kept, stays_kept}
-use Rattle.papaya_events.proofs.Given.Logged.Reclaiming.Rest.{reclaiming_found, reclaiming_keeps}
-use Rattle.papaya_events.proofs.Given.Logged.Reclaiming.Steps.{reclaiming_whole}
+use Rattle.papaya_agrees.specs.Given.EffectsEffects.{effects_of, known_after}
+use Rattle.papaya_agrees.specs.Given.EffectsKnown.{Known}
+use Rattle.papaya_agrees.specs.Given.EffectsDeclared.acting.Acting.TheVariants as acts
+use Rattle.papaya_agrees.specs.Given.ScenesEnding.{EndingLeads, ending_begun}
+use Rattle.papaya_agrees.specs.Given.ScenesHeld.{Held, IsAt}
+use Rattle.papaya_agrees.specs.Given.ScenesMaking.{MakingLeads, scene_making}
+use Rattle.papaya_agrees.specs.Given.ScenesOnSlots.{RowBegins, RowLeads}
+use Rattle.papaya_agrees.specs.Given.ScenesReclaiming.{IsReclaiming, ReclaimingLeads}
+use Rattle.papaya_agrees.specs.Given.ScenesRows.{request_of}
+use Rattle.papaya_agrees.specs.Given.ScenesScene.{IsOnSlot, Scene, slot_of}
+use Rattle.papaya_agrees.specs.Given.ScenesDeclared.row.RowTold.{RowTold}
+use Rattle.papaya_agrees.specs.Given.ScenesDeclared.row.SlotCall.{SlotCall}
+use Rattle.papaya_agrees.specs.Given.ScenesDeclared.row.SlotRow.{SlotRow}
+use Rattle.papaya_agrees.specs.Given.OthersEndings.{ending_after, without_map}
+use Rattle.papaya_agrees.specs.Given.OthersMakings.{WasNew, making_after}
+use Rattle.papaya_agrees.specs.Given.OthersRows.{scene_then}
+use Rattle.papaya_events.specs.Given.MomentsEndings.{IsOfIts}
+use Rattle.papaya_events.specs.Given.MomentsNumbers.{AreFound}
+use Rattle.papaya_events.proofs.Given.MomentsEnds.{endings_begin_whole, endings_keep_whole}
+use Rattle.papaya_events.proofs.Given.MomentsMakingSteps.{makings_keep_whole}
+use Rattle.papaya_events.proofs.Given.MomentsMapsCome.{makings_begin_whole, maps_come_whole}
+use Rattle.papaya_events.proofs.Given.MomentsOnSlots.{rows_begin_whole, rows_keep_whole}
+use Rattle.papaya_events.proofs.Given.MomentsOver.{endings_are_over_whole}
+use Rattle.papaya_events.proofs.Given.HistoriesAside.Stays.{as_called_stays, dues_stay}
+use Rattle.papaya_events.proofs.Given.HistoriesQuestions.{effects_keep_questions}
+use Rattle.papaya_events.proofs.Given.KeptOthers.{endings_begin_kept, endings_find_kept, endings_keep_kept, makings_keep_kept, rows_begin_kept, rows_find_kept, rows_keep_kept}
+use Rattle.papaya_events.proofs.Given.KeptStays.{makings_begin_kept, stays_kept}
+use Rattle.papaya_events.proofs.Given.LoggedReclaiming.Rest.{reclaiming_found, reclaiming_keeps}
+use Rattle.papaya_events.proofs.Given.LoggedReclaiming.Steps.{reclaiming_whole}
 use Rattle.papaya_deeds.specs.Deeds.{named}
 use Rattle.papaya_linear.specs.Shown.{ShowsAnswers}
 

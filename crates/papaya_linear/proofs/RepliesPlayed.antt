@@ -1,32 +1,32 @@
 -- Where a call takes a reply, as it is played, the entry is linearizable, and what the moment shows of calls and of what they were told it shows then.
 use Rattle.std.specs.Prelude.{◌≡◌, ◌⊎◌, ℕ, Bool, false, [], ◌∷◌, Option, Some, Ok, is_ok, if◌then◌else◌}
 use Rattle.std.proofs.Common.{refl, ap, sym, subst, ◌∙◌, inl, inr}
-use Rattle.papaya_events.proofs.Given.SeizeActs.Answers.{same_some}
+use Rattle.papaya_events.proofs.Given.SeizeActsAnswers.{same_some}
 use Rattle.papaya_deeds.specs.Given.Raw.Machine.{machine_replied}
 use Rattle.papaya_deeds.specs.Given.Raw.declared.machines.asking.Reply.{Reply as MachineReply}
 use Rattle.papaya_deeds.specs.Given.Raw.declared.machines.asking.Reply.TheVariants as told
 use Rattle.papaya_deeds.specs.Given.Raw.declared.machines.machine.Machine.{Machine}
-use Rattle.papaya_agrees.specs.Given.Callers.Together.{UnderWay, OnKey, ForRoom, Counting, OverAll}
-use Rattle.papaya_agrees.specs.Given.Finishes.Machines.{ToldOfKind, machine_of}
-use Rattle.papaya_agrees.specs.Given.Finishes.Maps.{Standing, with_call}
-use Rattle.papaya_agrees.specs.Given.Follows.Calls.{IsCalled}
-use Rattle.papaya_agrees.specs.Given.Hands.Asked.{as_told}
+use Rattle.papaya_agrees.specs.Given.CallersTogether.{UnderWay, OnKey, ForRoom, Counting, OverAll}
+use Rattle.papaya_agrees.specs.Given.FinishesMachines.{ToldOfKind, machine_of}
+use Rattle.papaya_agrees.specs.Given.FinishesMaps.{Standing, with_call}
+use Rattle.papaya_agrees.specs.Given.FollowsCalls.{IsCalled}
+use Rattle.papaya_agrees.specs.Given.HandsAsked.{as_told}
 use Rattle.papaya_deeds.specs.Given.Schedules.declared.call.Call.TheVariants.{On}
 use Rattle.papaya_deeds.specs.Given.Schedules.declared.call.OneKey.{OneKey}
 use Rattle.papaya_deeds.specs.Given.Schedules.declared.call.Reply.{Reply}
 use Rattle.papaya_deeds.specs.Given.Schedules.declared.outcome.Outcome.TheVariants as outcome
 use Rattle.papaya_deeds.specs.Given.Schedules.Moment.{Asking, Told, UnderWay as CallThere}
-use Rattle.papaya_agrees.specs.Given.Scenes.Held.{Held, IsAt}
-use Rattle.papaya_agrees.specs.Given.Scenes.Replying.{scene_with}
-use Rattle.papaya_agrees.specs.Given.Scenes.Scene.{Scene, slot_of}
-use Rattle.papaya_agrees.specs.Given.Named.Machines.{aborted_by}
-use Rattle.papaya_events.specs.Given.Histories.Changes.{IsTaken}
-use Rattle.papaya_events.specs.Given.Values.Values.{KeepsValue}
-use Rattle.papaya_events.proofs.Given.Values.Values.{values_taken}
+use Rattle.papaya_agrees.specs.Given.ScenesHeld.{Held, IsAt}
+use Rattle.papaya_agrees.specs.Given.ScenesReplying.{scene_with}
+use Rattle.papaya_agrees.specs.Given.ScenesScene.{Scene, slot_of}
+use Rattle.papaya_agrees.specs.Given.NamedMachines.{aborted_by}
+use Rattle.papaya_events.specs.Given.HistoriesChanges.{IsTaken}
+use Rattle.papaya_events.specs.Given.ValuesValues.{KeepsValue}
+use Rattle.papaya_events.proofs.Given.ValuesValues.{values_taken}
 use Rattle.papaya_deeds.specs.Deeds.{Entry, Replies, moment, named}
 use Rattle.papaya_deeds.specs.History.{IsLinearizable, past}
-use Rattle.papaya_agrees.specs.Given.Played.Play.{Calling, State, reply_for, told_call}
-use Rattle.papaya_agrees.proofs.Given.Played.Noted.{CallsAreNoted}
+use Rattle.papaya_agrees.specs.Given.PlayedPlay.{Calling, State, reply_for, told_call}
+use Rattle.papaya_agrees.proofs.Given.PlayedNoted.{CallsAreNoted}
 use Rattle.papaya_linear.specs.Shown.{ShowsAnswers}
 use Rattle.papaya_linear.proofs.CallEntries.{replies_answer}
 use Rattle.papaya_linear.proofs.Heard.{IsHeard, replies_aside, replies_itself}

@@ -1,24 +1,24 @@
 -- What is so of a state that is played stays so where a row begins on a slot, takes its step, and where a caller that reclaims all takes one: each entry so far is linearizable.
 use Rattle.std.specs.Prelude.{◌≡◌, ℕ, Bool, List}
 use Rattle.std.proofs.Common.{ap, sym, subst, ◌∙◌}
-use Rattle.papaya_events.specs.Given.SeizeActs.Answers.{Grant}
+use Rattle.papaya_events.specs.Given.SeizeActsAnswers.{Grant}
 use Rattle.papaya_deeds.specs.Given.SeizeWords.Mem.{Mem}
-use Rattle.papaya_agrees.specs.Given.Seize.World.{Request, Row}
-use Rattle.papaya_agrees.specs.Given.Seize.declared.rows.reclaim_all.ReclaimAll.{ReclaimAll}
-use Rattle.papaya_agrees.specs.Given.Seize.declared.rows.settle.Settled.{Settled}
-use Rattle.papaya_agrees.specs.Given.Tables.declared.node.Node.{Node}
-use Rattle.papaya_agrees.specs.Given.Teller.declared.changed.Changed.{Changed}
-use Rattle.papaya_agrees.specs.Given.Scenes.Held.{Held, IsAt}
-use Rattle.papaya_agrees.specs.Given.Scenes.Reclaiming.{IsReclaiming, ReclaimingLeads}
-use Rattle.papaya_agrees.specs.Given.Scenes.Scene.{HasNoCall, IsOnSlot, Scene, row_of}
-use Rattle.papaya_agrees.specs.Given.Acts.Acts.{Act, Answer, BeginsRow, StepsRow}
-use Rattle.papaya_agrees.specs.Given.Acts.AsSteps.{LeadsAs, changed_by, held_in, row_changed, row_told}
+use Rattle.papaya_agrees.specs.Given.SeizeWorld.{Request, Row}
+use Rattle.papaya_agrees.specs.Given.SeizeDeclared.rows.reclaim_all.ReclaimAll.{ReclaimAll}
+use Rattle.papaya_agrees.specs.Given.SeizeDeclared.rows.settle.Settled.{Settled}
+use Rattle.papaya_agrees.specs.Given.TablesDeclared.node.Node.{Node}
+use Rattle.papaya_agrees.specs.Given.TellerDeclared.changed.Changed.{Changed}
+use Rattle.papaya_agrees.specs.Given.ScenesHeld.{Held, IsAt}
+use Rattle.papaya_agrees.specs.Given.ScenesReclaiming.{IsReclaiming, ReclaimingLeads}
+use Rattle.papaya_agrees.specs.Given.ScenesScene.{HasNoCall, IsOnSlot, Scene, row_of}
+use Rattle.papaya_agrees.specs.Given.ActsActs.{Act, Answer, BeginsRow, StepsRow}
+use Rattle.papaya_agrees.specs.Given.ActsAsSteps.{LeadsAs, changed_by, held_in, row_changed, row_told}
 use Rattle.papaya_deeds.specs.Deeds.{moment}
 use Rattle.papaya_deeds.specs.History.{past}
-use Rattle.papaya_agrees.specs.Given.Played.Play.{State, all_stepped, row_begun, row_outcome, row_stepped}
-use Rattle.papaya_agrees.specs.Given.Played.Reached.{IsOf, row_or_rests}
-use Rattle.papaya_agrees.proofs.Given.Played.Noted.{CallsAreNoted}
-use Rattle.papaya_agrees.proofs.Given.Played.PlayedAs.{PlayedAs}
+use Rattle.papaya_agrees.specs.Given.PlayedPlay.{State, all_stepped, row_begun, row_outcome, row_stepped}
+use Rattle.papaya_agrees.specs.Given.PlayedReached.{IsOf, row_or_rests}
+use Rattle.papaya_agrees.proofs.Given.PlayedNoted.{CallsAreNoted}
+use Rattle.papaya_agrees.proofs.Given.PlayedPlayedAs.{PlayedAs}
 use Rattle.papaya_linear.proofs.Holds.{Holds, onto}
 use Rattle.papaya_linear.proofs.OthersGo.{rows_begin}
 use Rattle.papaya_linear.proofs.RowsPlayed.{played_rows_answer, played_rows_are_heard, played_rows_are_linearizable, reclaiming_answers, reclaiming_is_heard, reclaiming_is_linearizable}

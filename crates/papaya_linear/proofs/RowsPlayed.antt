@@ -1,36 +1,36 @@
 -- A row that begins on a slot, its step, and one by which all is reclaimed, as they are played: the entry is linearizable, and what the moment shows of calls it shows then.
 use Rattle.std.specs.Prelude.{◌≡◌, ◌==◌, ℕ, Bool, true, false, List, ◌∷◌, None, if◌then◌else◌}
 use Rattle.std.proofs.Common.{refl, inl}
-use Rattle.papaya_agrees.specs.Given.Seize.World.{Step}
-use Rattle.papaya_agrees.specs.Given.Seize.declared.states.TheConstants.{ACTIVE}
-use Rattle.papaya_agrees.specs.Given.Seize.declared.rows.leave.Leave.{Leave}
-use Rattle.papaya_agrees.specs.Given.Seize.declared.rows.leave.Leaving.{Leaving}
-use Rattle.papaya_agrees.specs.Given.Seize.declared.rows.leave.Leaving.TheVariants as leaves
-use Rattle.papaya_agrees.specs.Given.Seize.declared.rows.reclaim_all.ReclaimAll.{ReclaimAll}
-use Rattle.papaya_agrees.specs.Given.Seize.declared.rows.register.Registering.{Registering}
-use Rattle.papaya_agrees.specs.Given.Seize.declared.rows.register.Registering.TheVariants as registers
-use Rattle.papaya_agrees.specs.Given.Seize.declared.rows.settle.Settled.{Settled}
-use Rattle.papaya_agrees.specs.Given.Tables.declared.node.Node.{Node}
+use Rattle.papaya_agrees.specs.Given.SeizeWorld.{Step}
+use Rattle.papaya_agrees.specs.Given.SeizeDeclared.states.TheConstants.{ACTIVE}
+use Rattle.papaya_agrees.specs.Given.SeizeDeclared.rows.leave.Leave.{Leave}
+use Rattle.papaya_agrees.specs.Given.SeizeDeclared.rows.leave.Leaving.{Leaving}
+use Rattle.papaya_agrees.specs.Given.SeizeDeclared.rows.leave.Leaving.TheVariants as leaves
+use Rattle.papaya_agrees.specs.Given.SeizeDeclared.rows.reclaim_all.ReclaimAll.{ReclaimAll}
+use Rattle.papaya_agrees.specs.Given.SeizeDeclared.rows.register.Registering.{Registering}
+use Rattle.papaya_agrees.specs.Given.SeizeDeclared.rows.register.Registering.TheVariants as registers
+use Rattle.papaya_agrees.specs.Given.SeizeDeclared.rows.settle.Settled.{Settled}
+use Rattle.papaya_agrees.specs.Given.TablesDeclared.node.Node.{Node}
 use Rattle.papaya_deeds.specs.Given.Schedules.declared.effect.Effect.{Effect}
 use Rattle.papaya_deeds.specs.Given.Schedules.declared.outcome.Outcome.{Outcome}
 use Rattle.papaya_deeds.specs.Given.Schedules.Effects.{with_effects}
 use Rattle.papaya_deeds.specs.Given.Schedules.Moment.{Moment}
-use Rattle.papaya_agrees.specs.Given.Effects.Effects.{effects_of, known_after}
-use Rattle.papaya_agrees.specs.Given.Effects.declared.acting.Acting.TheVariants as acts
-use Rattle.papaya_agrees.specs.Given.Others.Rows.{scene_then}
-use Rattle.papaya_agrees.proofs.Given.Others.RowPlans.{row_tells}
-use Rattle.papaya_agrees.specs.Given.Scenes.Held.{Held, IsAt}
-use Rattle.papaya_agrees.specs.Given.Scenes.OnSlots.{RowLeads}
-use Rattle.papaya_agrees.specs.Given.Scenes.Reclaiming.{IsReclaiming, ReclaimingLeads}
-use Rattle.papaya_agrees.specs.Given.Scenes.Scene.{IsOnSlot, Scene}
-use Rattle.papaya_agrees.specs.Given.Scenes.declared.row.RowTold.{RowTold}
-use Rattle.papaya_agrees.specs.Given.Scenes.declared.row.SlotRow.{SlotRow}
-use Rattle.papaya_agrees.specs.Given.Scenes.declared.row.SlotRow.TheVariants as rows
-use Rattle.papaya_events.proofs.Given.Logged.Reclaiming.Rows.{reclaiming_tells}
+use Rattle.papaya_agrees.specs.Given.EffectsEffects.{effects_of, known_after}
+use Rattle.papaya_agrees.specs.Given.EffectsDeclared.acting.Acting.TheVariants as acts
+use Rattle.papaya_agrees.specs.Given.OthersRows.{scene_then}
+use Rattle.papaya_agrees.proofs.Given.OthersRowPlans.{row_tells}
+use Rattle.papaya_agrees.specs.Given.ScenesHeld.{Held, IsAt}
+use Rattle.papaya_agrees.specs.Given.ScenesOnSlots.{RowLeads}
+use Rattle.papaya_agrees.specs.Given.ScenesReclaiming.{IsReclaiming, ReclaimingLeads}
+use Rattle.papaya_agrees.specs.Given.ScenesScene.{IsOnSlot, Scene}
+use Rattle.papaya_agrees.specs.Given.ScenesDeclared.row.RowTold.{RowTold}
+use Rattle.papaya_agrees.specs.Given.ScenesDeclared.row.SlotRow.{SlotRow}
+use Rattle.papaya_agrees.specs.Given.ScenesDeclared.row.SlotRow.TheVariants as rows
+use Rattle.papaya_events.proofs.Given.LoggedReclaiming.Rows.{reclaiming_tells}
 use Rattle.papaya_deeds.specs.Deeds.{Deed, Entry, Leaves, Opens, ReclaimsAll, Registers, Shuts, Tends, after, caller_of, moment}
 use Rattle.papaya_deeds.specs.History.{IsLinearizable, past}
-use Rattle.papaya_agrees.specs.Given.Played.Play.{State, is_over, is_refusal, leaves_as, registers_as, row_deed, settled_outcome}
-use Rattle.papaya_agrees.proofs.Given.Played.Noted.{row_none}
+use Rattle.papaya_agrees.specs.Given.PlayedPlay.{State, is_over, is_refusal, leaves_as, registers_as, row_deed, settled_outcome}
+use Rattle.papaya_agrees.proofs.Given.PlayedNoted.{row_none}
 use Rattle.papaya_linear.specs.Shown.{ShowsAnswers}
 use Rattle.papaya_linear.proofs.CallEntries.{entry_answers, none_is_linearizable}
 use Rattle.papaya_linear.proofs.Heard.{none_said}

@@ -10,17 +10,17 @@ use Rattle.papaya_deeds.specs.Given.Schedules.declared.effect.Growth.TheVariants
 use Rattle.papaya_deeds.specs.Given.Schedules.Handing.{is_first_making}
 use Rattle.papaya_deeds.specs.Given.Schedules.Linearizable.{shift_of}
 use Rattle.papaya_deeds.specs.Given.Schedules.Sequential.{Shift}
-use Rattle.papaya_agrees.specs.Given.Teller.declared.changed.Changed.{Changed}
-use Rattle.papaya_agrees.specs.Given.Teller.declared.changed.Changed.TheVariants as changed
-use Rattle.papaya_agrees.specs.Given.Effects.Effects.{effects_of, led_to, named, names_same, taken_by}
-use Rattle.papaya_agrees.specs.Given.Effects.Known.{Known}
-use Rattle.papaya_agrees.specs.Given.Effects.declared.acting.Acting.{Acting}
-use Rattle.papaya_agrees.specs.Given.Effects.declared.acting.Acting.TheVariants as acts
-use Rattle.papaya_agrees.specs.Given.Effects.declared.role.Role.{Role}
-use Rattle.papaya_agrees.specs.Given.Effects.declared.role.Role.TheVariants as role
-use Rattle.papaya_agrees.proofs.Given.Others.RowPlans.{TellsRow}
-use Rattle.papaya_events.specs.Given.Logged.Ends.{ended_as}
-use Rattle.papaya_events.proofs.Given.Logged.Reclaiming.Rows.{EmptiesRoot}
+use Rattle.papaya_agrees.specs.Given.TellerDeclared.changed.Changed.{Changed}
+use Rattle.papaya_agrees.specs.Given.TellerDeclared.changed.Changed.TheVariants as changed
+use Rattle.papaya_agrees.specs.Given.EffectsEffects.{effects_of, led_to, named, names_same, taken_by}
+use Rattle.papaya_agrees.specs.Given.EffectsKnown.{Known}
+use Rattle.papaya_agrees.specs.Given.EffectsDeclared.acting.Acting.{Acting}
+use Rattle.papaya_agrees.specs.Given.EffectsDeclared.acting.Acting.TheVariants as acts
+use Rattle.papaya_agrees.specs.Given.EffectsDeclared.role.Role.{Role}
+use Rattle.papaya_agrees.specs.Given.EffectsDeclared.role.Role.TheVariants as role
+use Rattle.papaya_agrees.proofs.Given.OthersRowPlans.{TellsRow}
+use Rattle.papaya_events.specs.Given.LoggedEnds.{ended_as}
+use Rattle.papaya_events.proofs.Given.LoggedReclaiming.Rows.{EmptiesRoot}
 
 -- what takes a block away shifts nothing
 taken_shifts : (who : Acting) (r : Role) → flat_map shift_of (taken_by who r) ≡ []

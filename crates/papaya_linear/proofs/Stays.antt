@@ -1,36 +1,36 @@
 -- So it is wherever a list of acts has led: each entry is linearizable, the moment shows the scene, and maps come and go as they must.
 use Rattle.std.specs.Prelude.{◌≡◌, ℕ, Bool, [], Option, option_map}
 use Rattle.std.proofs.Common.{ap, sym, subst, ◌∙◌, arith}
-use Rattle.papaya_events.specs.Given.SeizeActs.Answers.{Grant, stepped}
-use Rattle.papaya_events.proofs.Given.SeizeActs.Answers.{same_some}
+use Rattle.papaya_events.specs.Given.SeizeActsAnswers.{Grant, stepped}
+use Rattle.papaya_events.proofs.Given.SeizeActsAnswers.{same_some}
 use Rattle.papaya_deeds.specs.Given.SeizeWords.Mem.{Mem}
 use Rattle.papaya_deeds.specs.Given.SeizeWords.Plan.{Plan}
-use Rattle.papaya_agrees.specs.Given.Seize.ReclaimAll.{reclaim_all_plan}
-use Rattle.papaya_agrees.specs.Given.Seize.declared.rows.reclaim_all.ReclaimAll.{ReclaimAll}
-use Rattle.papaya_agrees.specs.Given.Seize.declared.rows.settle.Settled.{Settled}
-use Rattle.papaya_agrees.specs.Given.Tables.Nodes.{deferred_word, was_left}
-use Rattle.papaya_agrees.specs.Given.Tables.declared.node.Node.{Node}
-use Rattle.papaya_agrees.specs.Given.Teller.declared.changed.Changed.{Changed}
-use Rattle.papaya_agrees.specs.Given.Teller.declared.changed.Changed.TheVariants.{Nothing as NoChange}
-use Rattle.papaya_agrees.specs.Given.Scenes.Scene.{at_first, slot_of}
-use Rattle.papaya_agrees.specs.Given.Effects.Known.{nothing_known}
-use Rattle.papaya_events.proofs.Given.Moments.Calls.{whole_begins}
-use Rattle.papaya_events.proofs.Given.Moments.Numbers.{numbers_begin}
-use Rattle.papaya_events.proofs.Given.Histories.DueOn.{dues_begin}
-use Rattle.papaya_events.proofs.Given.Histories.Questions.{questions_begin}
-use Rattle.papaya_events.proofs.Given.Kept.Stays.{begins_kept}
-use Rattle.papaya_agrees.specs.Given.Acts.Acts.{Answer}
-use Rattle.papaya_agrees.specs.Given.Acts.AsSteps.{changed_of}
-use Rattle.papaya_agrees.specs.Given.Acts.Doings.{HasStepped}
+use Rattle.papaya_agrees.specs.Given.SeizeReclaimAll.{reclaim_all_plan}
+use Rattle.papaya_agrees.specs.Given.SeizeDeclared.rows.reclaim_all.ReclaimAll.{ReclaimAll}
+use Rattle.papaya_agrees.specs.Given.SeizeDeclared.rows.settle.Settled.{Settled}
+use Rattle.papaya_agrees.specs.Given.TablesNodes.{deferred_word, was_left}
+use Rattle.papaya_agrees.specs.Given.TablesDeclared.node.Node.{Node}
+use Rattle.papaya_agrees.specs.Given.TellerDeclared.changed.Changed.{Changed}
+use Rattle.papaya_agrees.specs.Given.TellerDeclared.changed.Changed.TheVariants.{Nothing as NoChange}
+use Rattle.papaya_agrees.specs.Given.ScenesScene.{at_first, slot_of}
+use Rattle.papaya_agrees.specs.Given.EffectsKnown.{nothing_known}
+use Rattle.papaya_events.proofs.Given.MomentsCalls.{whole_begins}
+use Rattle.papaya_events.proofs.Given.MomentsNumbers.{numbers_begin}
+use Rattle.papaya_events.proofs.Given.HistoriesDueOn.{dues_begin}
+use Rattle.papaya_events.proofs.Given.HistoriesQuestions.{questions_begin}
+use Rattle.papaya_events.proofs.Given.KeptStays.{begins_kept}
+use Rattle.papaya_agrees.specs.Given.ActsActs.{Answer}
+use Rattle.papaya_agrees.specs.Given.ActsAsSteps.{changed_of}
+use Rattle.papaya_agrees.specs.Given.ActsDoings.{HasStepped}
 use Rattle.papaya_agrees.specs.Fresh.{HasNewNumber}
 use Rattle.papaya_agrees.proofs.GivenBack.{NumbersComeAgain, numbers_come_again}
 use Rattle.papaya_deeds.specs.Deeds.{moment, named}
 use Rattle.papaya_deeds.specs.History.{past}
-use Rattle.papaya_agrees.specs.Given.Played.Play.{State, all_begun, choice_come, all_stepped, first_state, is_over, is_refusal, settled_outcome}
-use Rattle.papaya_agrees.specs.Given.Played.Reached.{IsOf, rows_beside}
+use Rattle.papaya_agrees.specs.Given.PlayedPlay.{State, all_begun, choice_come, all_stepped, first_state, is_over, is_refusal, settled_outcome}
+use Rattle.papaya_agrees.specs.Given.PlayedReached.{IsOf, rows_beside}
 use Rattle.papaya_linear.proofs.Chosen.{maps_chosen, shows_chosen}
-use Rattle.papaya_agrees.proofs.Given.Played.Along.{At, Is, StaysSo, far, held, lists_at}
-use Rattle.papaya_agrees.proofs.Given.Played.PlayedAs.{ReclaimedAs, played_as, reclaimed_as}
+use Rattle.papaya_agrees.proofs.Given.PlayedAlong.{At, Is, StaysSo, far, held, lists_at}
+use Rattle.papaya_agrees.proofs.Given.PlayedPlayedAs.{ReclaimedAs, played_as, reclaimed_as}
 use Rattle.papaya_linear.specs.Coming.{MapsComeAndGo}
 use Rattle.papaya_linear.specs.Shown.{ShowsAnswers}
 use Rattle.papaya_linear.proofs.AsideActs.{reclaiming_aside}

@@ -1,14 +1,14 @@
 -- The step of a call, as it is played, is an entry that is linearizable, and what the moment shows of calls and of what they were told it shows then.
 use Rattle.std.specs.Prelude.{◌≡◌, ◌⊎◌, ◌+◌, ℕ, Bool, true, false, List, Option, Some, None, option_map, if◌then◌else◌}
 use Rattle.std.proofs.Common.{refl, ap, sym, subst, ◌∙◌, inl, inr}
-use Rattle.papaya_events.proofs.Given.SeizeActs.Answers.{same_some}
+use Rattle.papaya_events.proofs.Given.SeizeActsAnswers.{same_some}
 use Rattle.papaya_deeds.specs.Given.SeizeWords.Mem.{Mem}
-use Rattle.papaya_agrees.specs.Given.Tables.declared.node.Node.{Node}
+use Rattle.papaya_agrees.specs.Given.TablesDeclared.node.Node.{Node}
 use Rattle.papaya_deeds.specs.Given.Raw.declared.machines.machine.Machine.{Machine}
 use Rattle.papaya_deeds.specs.Given.Raw.declared.machines.progress.Progress.{Progress}
 use Rattle.papaya_deeds.specs.Given.Raw.declared.machines.progress.Progress.TheVariants as progress
-use Rattle.papaya_agrees.specs.Given.Callers.Together.{UnderWay}
-use Rattle.papaya_agrees.specs.Given.Finishes.Machines.{machine_of}
+use Rattle.papaya_agrees.specs.Given.CallersTogether.{UnderWay}
+use Rattle.papaya_agrees.specs.Given.FinishesMachines.{machine_of}
 use Rattle.papaya_deeds.specs.Given.Schedules.declared.call.Call.{Call}
 use Rattle.papaya_deeds.specs.Given.Schedules.declared.call.Reply.{Reply}
 use Rattle.papaya_deeds.specs.Given.Schedules.declared.outcome.Outcome.{Outcome}
@@ -16,25 +16,25 @@ use Rattle.papaya_deeds.specs.Given.Schedules.After.{comes_to}
 use Rattle.papaya_deeds.specs.Given.Schedules.Entry.{ends_call}
 use Rattle.papaya_deeds.specs.Given.Schedules.Moment.{Asking, UnderWay as CallThere}
 use Rattle.papaya_deeds.specs.Given.Schedules.Views.{call_of}
-use Rattle.papaya_agrees.specs.Given.Follows.Calling.{NoneNamed}
-use Rattle.papaya_agrees.specs.Given.Effects.Effects.{effects_of, known_after}
-use Rattle.papaya_agrees.specs.Given.Effects.Known.{Known}
-use Rattle.papaya_agrees.specs.Given.Effects.declared.acting.Acting.TheVariants as acts
-use Rattle.papaya_agrees.specs.Given.Scenes.Held.{Held, IsAt}
-use Rattle.papaya_agrees.specs.Given.Scenes.Scene.{Scene}
-use Rattle.papaya_agrees.proofs.Given.Scenes.Goes.{goes_as}
-use Rattle.papaya_agrees.specs.Given.Scenes.Stepping.{StepLeads, has_ended, scene_after}
-use Rattle.papaya_agrees.specs.Given.Named.Seen.{kind_of}
-use Rattle.papaya_agrees.specs.Given.Named.Telling.{number_by}
-use Rattle.papaya_agrees.specs.Given.Named.declared.kind.Kind.{Kind}
-use Rattle.papaya_events.specs.Given.Histories.InEvent.{ComesSo}
-use Rattle.papaya_events.specs.Given.Values.Values.{KeepsValue, kept_after}
-use Rattle.papaya_events.proofs.Given.Values.Values.{values_go_on}
+use Rattle.papaya_agrees.specs.Given.FollowsCalling.{NoneNamed}
+use Rattle.papaya_agrees.specs.Given.EffectsEffects.{effects_of, known_after}
+use Rattle.papaya_agrees.specs.Given.EffectsKnown.{Known}
+use Rattle.papaya_agrees.specs.Given.EffectsDeclared.acting.Acting.TheVariants as acts
+use Rattle.papaya_agrees.specs.Given.ScenesHeld.{Held, IsAt}
+use Rattle.papaya_agrees.specs.Given.ScenesScene.{Scene}
+use Rattle.papaya_agrees.proofs.Given.ScenesGoes.{goes_as}
+use Rattle.papaya_agrees.specs.Given.ScenesStepping.{StepLeads, has_ended, scene_after}
+use Rattle.papaya_agrees.specs.Given.NamedSeen.{kind_of}
+use Rattle.papaya_agrees.specs.Given.NamedTelling.{number_by}
+use Rattle.papaya_agrees.specs.Given.NamedDeclared.kind.Kind.{Kind}
+use Rattle.papaya_events.specs.Given.HistoriesInEvent.{ComesSo}
+use Rattle.papaya_events.specs.Given.ValuesValues.{KeepsValue, kept_after}
+use Rattle.papaya_events.proofs.Given.ValuesValues.{values_go_on}
 use Rattle.papaya_deeds.specs.Deeds.{Steps, acted_on, map_of_call, moment, named}
 use Rattle.papaya_deeds.specs.History.{IsLinearizable, past}
-use Rattle.papaya_agrees.specs.Given.Played.Play.{Calling, State, call_stepped, going, is_refusal, keeps, outcome_of}
-use Rattle.papaya_agrees.proofs.Given.Played.Alike.{its_call}
-use Rattle.papaya_agrees.proofs.Given.Played.Noted.{CallsAreNoted, not_over}
+use Rattle.papaya_agrees.specs.Given.PlayedPlay.{Calling, State, call_stepped, going, is_refusal, keeps, outcome_of}
+use Rattle.papaya_agrees.proofs.Given.PlayedAlike.{its_call}
+use Rattle.papaya_agrees.proofs.Given.PlayedNoted.{CallsAreNoted, not_over}
 use Rattle.papaya_linear.specs.Shown.{ShowsAnswers}
 use Rattle.papaya_linear.proofs.CallSteps.{ended, steps_answer, steps_are_linearizable, there_is as call_there}
 use Rattle.papaya_linear.proofs.Comes.{steps_come_so}

@@ -13,12 +13,12 @@ use Rattle.papaya_deeds.specs.Given.Raw.declared.machines.call.Calling.{Calling}
 use Rattle.papaya_deeds.specs.Given.Raw.declared.machines.call.Calling.TheVariants as at
 use Rattle.papaya_deeds.specs.Given.Raw.declared.machines.call.KeyCall.{KeyCall}
 use Rattle.papaya_deeds.specs.Given.Raw.declared.machines.machine.Machine.TheVariants as kinds
-use Rattle.papaya_events.specs.Given.Points.Told.{IsRowOfCall}
-use Rattle.papaya_agrees.specs.Given.Callers.Asked.{Asked}
-use Rattle.papaya_agrees.specs.Given.Callers.Pairs.{Given, kind_of}
-use Rattle.papaya_agrees.specs.Given.Callers.Sights.{seen_by}
-use Rattle.papaya_agrees.specs.Given.Callers.Together.{CallOnKey, OnKey, Stands as TogetherStands}
-use Rattle.papaya_agrees.specs.Given.Finishes.Maps.{Standing}
+use Rattle.papaya_events.specs.Given.PointsTold.{IsRowOfCall}
+use Rattle.papaya_agrees.specs.Given.CallersAsked.{Asked}
+use Rattle.papaya_agrees.specs.Given.CallersPairs.{Given, kind_of}
+use Rattle.papaya_agrees.specs.Given.CallersSights.{seen_by}
+use Rattle.papaya_agrees.specs.Given.CallersTogether.{CallOnKey, OnKey, Stands as TogetherStands}
+use Rattle.papaya_agrees.specs.Given.FinishesMaps.{Standing}
 use Rattle.papaya_deeds.specs.Given.Schedules.declared.call.Call.{Call}
 use Rattle.papaya_deeds.specs.Given.Schedules.declared.call.Call.TheVariants.{On}
 use Rattle.papaya_deeds.specs.Given.Schedules.declared.call.OneKey.{OneKey}
@@ -27,14 +27,14 @@ use Rattle.papaya_deeds.specs.Given.Schedules.declared.call.Reply.{Reply}
 use Rattle.papaya_deeds.specs.Given.Schedules.declared.call.Reply.TheVariants.{Gives, Removes, Aborts, Decides}
 use Rattle.papaya_deeds.specs.Given.Schedules.Moment.{Moment, UnderWay as CallThere}
 use Rattle.papaya_deeds.specs.Given.Schedules.Views.{call_of}
-use Rattle.papaya_agrees.specs.Given.Effects.Known.{Known}
-use Rattle.papaya_agrees.specs.Given.Hands.Asked.{IsAskedAs, IsAskedOn, as_told, given_by}
-use Rattle.papaya_agrees.specs.Given.Scenes.Held.{Held, IsAt}
-use Rattle.papaya_agrees.specs.Given.Scenes.Scene.{Scene, slot_of}
-use Rattle.papaya_events.specs.Given.Moments.Whole.{ShowsWhole}
-use Rattle.papaya_events.specs.Given.Histories.Changes.{IsTaken}
-use Rattle.papaya_agrees.proofs.Given.Scenes.May.{standing_is}
-use Rattle.papaya_events.proofs.Given.Scheduler.Replied.{of_kind}
+use Rattle.papaya_agrees.specs.Given.EffectsKnown.{Known}
+use Rattle.papaya_agrees.specs.Given.HandsAsked.{IsAskedAs, IsAskedOn, as_told, given_by}
+use Rattle.papaya_agrees.specs.Given.ScenesHeld.{Held, IsAt}
+use Rattle.papaya_agrees.specs.Given.ScenesScene.{Scene, slot_of}
+use Rattle.papaya_events.specs.Given.MomentsWhole.{ShowsWhole}
+use Rattle.papaya_events.specs.Given.HistoriesChanges.{IsTaken}
+use Rattle.papaya_agrees.proofs.Given.ScenesMay.{standing_is}
+use Rattle.papaya_events.proofs.Given.SchedulerReplied.{of_kind}
 
 module _ {K V Q : Type 0} where
   -- what is taken nowhere by calls that take such replies, one of them does not take

@@ -3,9 +3,9 @@ use Rattle.std.specs.Prelude.{◌≡◌, ℕ, ◌==◌, Bool, true, false, nat_l
 use Rattle.std.proofs.Common.{refl, sym, subst}
 use Rattle.papaya_deeds.specs.Given.SeizeWords.Plan.{plan_as}
 use Rattle.papaya_deeds.specs.Given.SeizeWords.declared.fault.Fault.TheVariants.{RemoveNothing}
-use Rattle.papaya_agrees.specs.Given.Tables.declared.marks.TheConstants.{TOMBSTONE}
-use Rattle.papaya_agrees.specs.Given.Tables.declared.node.Node.{Node}
-use Rattle.papaya_agrees.specs.Given.Tables.declared.setting.Setting.{Setting}
+use Rattle.papaya_agrees.specs.Given.TablesDeclared.marks.TheConstants.{TOMBSTONE}
+use Rattle.papaya_agrees.specs.Given.TablesDeclared.node.Node.{Node}
+use Rattle.papaya_agrees.specs.Given.TablesDeclared.setting.Setting.{Setting}
 use Rattle.papaya_deeds.specs.Given.Resize.Sum.{sum_plan}
 use Rattle.papaya_deeds.specs.Given.Reserves.Reserve.{reserve_plan}
 use Rattle.papaya_deeds.specs.Given.Sweeps.Sweep.{plan_at as sweep_at}
@@ -39,16 +39,16 @@ use Rattle.papaya_deeds.specs.Given.Raw.declared.machines.machine.Machine.{Machi
 use Rattle.papaya_deeds.specs.Given.Raw.declared.machines.machine.Machine.TheVariants as kinds
 use Rattle.papaya_deeds.specs.Given.Raw.declared.machines.progress.Progress.{Progress}
 use Rattle.papaya_deeds.specs.Given.Raw.declared.machines.progress.Progress.TheVariants as progress
-use Rattle.papaya_agrees.specs.Given.Teller.declared.changed.Changed.TheVariants.{Nothing}
+use Rattle.papaya_agrees.specs.Given.TellerDeclared.changed.Changed.TheVariants.{Nothing}
 use Rattle.papaya_deeds.specs.Given.Schedules.declared.call.Call.{Call}
 use Rattle.papaya_deeds.specs.Given.Schedules.declared.call.Call.TheVariants as calls
 use Rattle.papaya_deeds.specs.Given.Schedules.declared.call.OneKey.{OneKey}
 use Rattle.papaya_deeds.specs.Given.Schedules.declared.call.OneKey.TheVariants as one
-use Rattle.papaya_agrees.specs.Given.Scenes.Held.{Held}
-use Rattle.papaya_agrees.specs.Given.Scenes.Stepping.{StepsFrom}
-use Rattle.papaya_agrees.proofs.Given.Rule.Keys.Always.{always_plan_as}
-use Rattle.papaya_events.proofs.Given.Histories.Asking.{always_told, always_turned}
-use Rattle.papaya_agrees.specs.Given.Named.Machines.{machine_for}
+use Rattle.papaya_agrees.specs.Given.ScenesHeld.{Held}
+use Rattle.papaya_agrees.specs.Given.ScenesStepping.{StepsFrom}
+use Rattle.papaya_agrees.proofs.Given.RuleKeys.Always.{always_plan_as}
+use Rattle.papaya_events.proofs.Given.HistoriesAsking.{always_told, always_turned}
+use Rattle.papaya_agrees.specs.Given.NamedMachines.{machine_for}
 use Rattle.papaya_linear.proofs.Aloud as keys
 use Rattle.papaya_linear.proofs.AloudSweeps as sweeps
 

@@ -1,21 +1,21 @@
 -- What is so of maps that come and go as a list of acts is played: of their numbers, of those that are being made, and of those that end.
 use Rattle.std.specs.Prelude.{◌≡◌, ◌≢◌, ◌≤◌, ◌<◌, ◌⊎◌, ℕ, Bool, true, false, Option, Some, None, []}
-use Rattle.papaya_agrees.specs.Given.Seize.World.{times}
+use Rattle.papaya_agrees.specs.Given.SeizeWorld.{times}
 use Rattle.papaya_deeds.specs.Given.Resize.NewMap.{at_root}
-use Rattle.papaya_agrees.specs.Given.Finishes.Endings.{Finishing}
-use Rattle.papaya_agrees.specs.Given.Finishes.Makings.{Beginning}
+use Rattle.papaya_agrees.specs.Given.FinishesEndings.{Finishing}
+use Rattle.papaya_agrees.specs.Given.FinishesMakings.{Beginning}
 use Rattle.papaya_deeds.specs.Given.Schedules.Moment.{InMap, Moment}
 use Rattle.papaya_deeds.specs.Given.Schedules.Views.{map_at, tables_of}
-use Rattle.papaya_agrees.specs.Given.Effects.Known.{Known}
-use Rattle.papaya_agrees.specs.Given.Others.Makings.{IsNew}
-use Rattle.papaya_agrees.specs.Given.Scenes.Scene.{Scene}
-use Rattle.papaya_events.specs.Given.Moments.Numbers.{MapsAreBelow}
-use Rattle.papaya_events.specs.Given.Remains.Numbered.{NumbersUpTo}
-use Rattle.papaya_events.specs.Given.Logged.Ends.{NotesMap}
-use Rattle.papaya_agrees.specs.Given.Acts.Acts.{Act, BeginsMaking}
+use Rattle.papaya_agrees.specs.Given.EffectsKnown.{Known}
+use Rattle.papaya_agrees.specs.Given.OthersMakings.{IsNew}
+use Rattle.papaya_agrees.specs.Given.ScenesScene.{Scene}
+use Rattle.papaya_events.specs.Given.MomentsNumbers.{MapsAreBelow}
+use Rattle.papaya_events.specs.Given.RemainsNumbered.{NumbersUpTo}
+use Rattle.papaya_events.specs.Given.LoggedEnds.{NotesMap}
+use Rattle.papaya_agrees.specs.Given.ActsActs.{Act, BeginsMaking}
 use Rattle.papaya_agrees.specs.Fresh.{AreNamed}
 use Rattle.papaya_deeds.specs.Deeds.{moment}
-use Rattle.papaya_agrees.specs.Given.Played.Play.{Ending, State, has_root}
+use Rattle.papaya_agrees.specs.Given.PlayedPlay.{Ending, State, has_root}
 
 module _ {K V : Type 0} where
   -- no map has this number, and neither a table nor a pair is one of such a map

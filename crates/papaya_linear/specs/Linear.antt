@@ -1,14 +1,14 @@
 -- That the history of each list of acts is linearizable.
 use Rattle.std.specs.Prelude.{◌≡◌, ◌<◌, ◌^◌, ℕ, Bool, List, Some}
 use Rattle.std.specs.List.{AllByRecursion}
-use Rattle.papaya_agrees.specs.Given.Scenes.Scene.{slot_of}
+use Rattle.papaya_agrees.specs.Given.ScenesScene.{slot_of}
 use Rattle.papaya_deeds.specs.Given.Schedules.After.{AtEachEvent}
-use Rattle.papaya_agrees.specs.Given.Acts.AsSteps.{IsOwn}
-use Rattle.papaya_agrees.specs.Given.Acts.Doings.{Doing, Does}
-use Rattle.papaya_agrees.specs.Given.Acts.Lists.{Course, LedTo, Reached}
+use Rattle.papaya_agrees.specs.Given.ActsAsSteps.{IsOwn}
+use Rattle.papaya_agrees.specs.Given.ActsDoings.{Doing, Does}
+use Rattle.papaya_agrees.specs.Given.ActsLists.{Course, LedTo, Reached}
 use Rattle.papaya_agrees.specs.Fresh.{MakesNew}
 use Rattle.papaya_deeds.specs.History.{IsLinearizable}
-use Rattle.papaya_agrees.specs.Given.Played.Play.{State, first_state, play_all}
+use Rattle.papaya_agrees.specs.Given.PlayedPlay.{State, first_state, play_all}
 
 -- Keys have a hash by each hasher, and each map has one by its number.
 module _ {K S : Type 0} (V : Type 0) (same : K → K → Bool) (by_hasher : S → K → ℕ) (hash : ℕ → K → ℕ) (batch_size roots : ℕ) where

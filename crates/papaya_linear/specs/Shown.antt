@@ -2,13 +2,13 @@
 use Rattle.std.specs.Prelude.{Bool}
 use Rattle.papaya_deeds.specs.Given.Schedules.Moment.{Moment}
 use Rattle.papaya_deeds.specs.Given.Schedules.Transition.{Past}
-use Rattle.papaya_agrees.specs.Given.Effects.Known.{Known}
-use Rattle.papaya_agrees.specs.Given.Scenes.Scene.{Scene}
-use Rattle.papaya_events.specs.Given.Moments.Whole.{ShowsWhole}
-use Rattle.papaya_events.specs.Given.Histories.AsCalled.{ShowsAsCalled}
-use Rattle.papaya_events.specs.Given.Histories.Due.{ShowsDue}
-use Rattle.papaya_events.specs.Given.Histories.Questions.{ShowsQuestions}
-use Rattle.papaya_events.specs.Given.Kept.Kept.{ShowsKept}
+use Rattle.papaya_agrees.specs.Given.EffectsKnown.{Known}
+use Rattle.papaya_agrees.specs.Given.ScenesScene.{Scene}
+use Rattle.papaya_events.specs.Given.MomentsWhole.{ShowsWhole}
+use Rattle.papaya_events.specs.Given.HistoriesAsCalled.{ShowsAsCalled}
+use Rattle.papaya_events.specs.Given.HistoriesDue.{ShowsDue}
+use Rattle.papaya_events.specs.Given.HistoriesQuestions.{ShowsQuestions}
+use Rattle.papaya_events.specs.Given.KeptKept.{ShowsKept}
 use Rattle.papaya_deeds.specs.Deeds.{named}
 
 -- It shows the whole scene, and what every step keeps; what calls owe as answers, what those on no key are called for, and what calls have asked.

@@ -6,12 +6,12 @@ use Rattle.seize_acts.specs.Given.Seize.Law.{is_somewhere, reachable}
 use Rattle.seize_acts.specs.Given.Seize.Sequence.{IsUsers}
 use Rattle.seize_acts.specs.Given.Seize.World.{World, Hand, NoBlock, Making, InUse, Parting, Cutting, Handed, LeftTo, Event, MayCut, Happens, Runs}
 use Rattle.seize_acts.proofs.Given.SeizeAlone.Histories.Reached.{Reached, runs_reached}
-use Rattle.papaya_carries.specs.Given.Tables.Nodes.{deferred_word}
-use Rattle.papaya_carries.specs.Given.Tables.declared.node.Node.{Node}
-use Rattle.papaya_carries.specs.Given.Tables.declared.setting.Setting.{Setting}
-use Rattle.papaya_carries.specs.Given.Rule.Chart.{Chart}
-use Rattle.papaya_carries.specs.Given.Rule.InWorld.{AllUsers, IsOut, IsItsEvent, AllIts, IsIts, IsKnownBlock, IsMapIn, Went}
-use Rattle.papaya_carries.specs.Given.Rule.Words.{Blocks}
+use Rattle.papaya_carries.specs.Given.TablesNodes.{deferred_word}
+use Rattle.papaya_carries.specs.Given.TablesDeclared.node.Node.{Node}
+use Rattle.papaya_carries.specs.Given.TablesDeclared.setting.Setting.{Setting}
+use Rattle.papaya_carries.specs.Given.RuleChart.{Chart}
+use Rattle.papaya_carries.specs.Given.RuleInWorld.{AllUsers, IsOut, IsItsEvent, AllIts, IsIts, IsKnownBlock, IsMapIn, Went}
+use Rattle.papaya_carries.specs.Given.RuleWords.{Blocks}
 use Rattle.papaya_reclaims.proofs.Given.Callers.Rows.Known.{known_since}
 use Rattle.papaya_links.specs.Tied.{unlinkings}
 use Rattle.papaya_links.proofs.Places.{IsGone, cut_standing}

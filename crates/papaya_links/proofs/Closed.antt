@@ -5,8 +5,8 @@ use Rattle.seize_acts.specs.Given.SeizeWords.Mem.{value_at}
 use Rattle.seize_acts.specs.Given.SeizeWords.declared.at.At.TheVariants.{Root}
 use Rattle.seize_acts.specs.Given.Seize.Law.{holds}
 use Rattle.seize_acts.specs.Given.Seize.World.{World, IsInside}
-use Rattle.papaya_carries.specs.Given.Tables.declared.node.Node.{Node}
-use Rattle.papaya_carries.specs.Given.Rule.InWorld.{IsMapIn, IsKnownBlock}
+use Rattle.papaya_carries.specs.Given.TablesDeclared.node.Node.{Node}
+use Rattle.papaya_carries.specs.Given.RuleInWorld.{IsMapIn, IsKnownBlock}
 use Rattle.papaya_reclaims.specs.Given.Callers.Kept.{IsWithin}
 use Rattle.papaya_reclaims.specs.Given.Callers.Sights.{IsSight, seen_by}
 use Rattle.papaya_reclaims.specs.Given.Finishes.Maps.{Standing, MapsTogether}

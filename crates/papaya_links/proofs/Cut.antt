@@ -4,16 +4,16 @@ use Rattle.std.proofs.Common.{◌≡◌, ℕ, suc, ◌<◌, ◌≤◌, ◌⊎◌
 use Rattle.std.proofs.lemmas.Bool.{cases_lt}
 use Rattle.seize_acts.specs.Given.Seize.World.{World, Cutting}
 use Rattle.seize_acts.specs.Given.Seize.declared.rows.settle.Settle.{Settle}
-use Rattle.papaya_carries.specs.Given.Tables.Chunks.{is_incremental}
-use Rattle.papaya_carries.specs.Given.Tables.declared.node.Node.{Node}
-use Rattle.papaya_carries.specs.Given.Tables.declared.setting.Setting.{Setting}
-use Rattle.papaya_carries.specs.Given.Tables.declared.table.Table.{Table}
-use Rattle.papaya_carries.specs.Given.Resize.CopierStates.{standing}
-use Rattle.papaya_carries.specs.Given.Resize.declared.copier.Copier.{Copier}
-use Rattle.papaya_carries.specs.Given.Resize.declared.copier.Copying.{Copying}
-use Rattle.papaya_carries.specs.Given.Resize.declared.copier.Copying.TheVariants as copies
-use Rattle.papaya_carries.specs.Given.Rule.Chart.{Chart}
-use Rattle.papaya_carries.specs.Given.Rule.Words.{Blocks}
+use Rattle.papaya_carries.specs.Given.TablesChunks.{is_incremental}
+use Rattle.papaya_carries.specs.Given.TablesDeclared.node.Node.{Node}
+use Rattle.papaya_carries.specs.Given.TablesDeclared.setting.Setting.{Setting}
+use Rattle.papaya_carries.specs.Given.TablesDeclared.table.Table.{Table}
+use Rattle.papaya_carries.specs.Given.ResizeCopierStates.{standing}
+use Rattle.papaya_carries.specs.Given.ResizeDeclared.copier.Copier.{Copier}
+use Rattle.papaya_carries.specs.Given.ResizeDeclared.copier.Copying.{Copying}
+use Rattle.papaya_carries.specs.Given.ResizeDeclared.copier.Copying.TheVariants as copies
+use Rattle.papaya_carries.specs.Given.RuleChart.{Chart}
+use Rattle.papaya_carries.specs.Given.RuleWords.{Blocks}
 use Rattle.papaya_reclaims.specs.Given.Points.FactsCopies.{CopyingFacts, CopierFacts}
 use Rattle.papaya_reclaims.specs.Given.Points.FactsCopiesBlocking.{CopyingFactsBlocking, CopierFactsBlocking}
 use Rattle.papaya_reclaims.specs.Given.Points.Told.{IsRowOfCopier}

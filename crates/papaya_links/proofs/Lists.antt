@@ -10,10 +10,10 @@ use Rattle.seize_acts.specs.Given.Seize.declared.progress.Progress.TheVariants a
 use Rattle.seize_acts.specs.Given.Seize.declared.rows.settle.Settled.{Settled}
 use Rattle.seize_acts.specs.Given.Seize.declared.rows.settle.Settled.TheVariants as settled
 use Rattle.seize_acts.proofs.Given.SeizeAlone.Histories.Reached.{Reached as IsReached}
-use Rattle.papaya_carries.specs.Given.Tables.Nodes.{deferred_word}
-use Rattle.papaya_carries.specs.Given.Tables.declared.node.Node.{Node}
-use Rattle.papaya_carries.specs.Given.Tables.declared.setting.Setting.{Setting}
-use Rattle.papaya_carries.specs.Given.Resize.declared.new_map.NewMap.{NewMap}
+use Rattle.papaya_carries.specs.Given.TablesNodes.{deferred_word}
+use Rattle.papaya_carries.specs.Given.TablesDeclared.node.Node.{Node}
+use Rattle.papaya_carries.specs.Given.TablesDeclared.setting.Setting.{Setting}
+use Rattle.papaya_carries.specs.Given.ResizeDeclared.new_map.NewMap.{NewMap}
 use Rattle.papaya_reclaims.specs.Given.Raw.declared.machines.end_map.EndMap.{EndMap}
 use Rattle.papaya_reclaims.proofs.Given.Callers.Together.At.{at_same}
 use Rattle.papaya_reclaims.proofs.Given.Callers.Together.Came.{came_reached}
@@ -21,11 +21,11 @@ use Rattle.papaya_reclaims.specs.Given.Finishes.Endings.{Finishing, MakingStepsA
 use Rattle.papaya_reclaims.specs.Given.Finishes.FactsEnds.{TakesLeft, WritesRoot, events_of}
 use Rattle.papaya_reclaims.specs.Given.Finishes.Makings.{Beginning, IsFirstTable, StepsOfMaking}
 use Rattle.papaya_reclaims.specs.Slots.{AreItsRows}
-use Rattle.papaya_carries.specs.Given.Acts.Acts.{Act, Answer}
-use Rattle.papaya_carries.specs.Given.Acts.Acts.{BeginsCall, StepsCall, TellsCall, AsksCall, StopsCall, BeginsMaking, StepsMaking, BeginsEnding, StepsEnding, BeginsRow, StepsRow}
-use Rattle.papaya_carries.specs.Given.Acts.Doings.{Doing, Does, BeginsReclaiming, BeginsClearing, StepsReclaiming, Chooses, Stage, HasDone}
-use Rattle.papaya_carries.specs.Given.Acts.Leads.{AllStand, Led, MakingCame, EndingCame}
-use Rattle.papaya_carries.specs.Given.Acts.Lists.{Course}
+use Rattle.papaya_carries.specs.Given.ActsActs.{Act, Answer}
+use Rattle.papaya_carries.specs.Given.ActsActs.{BeginsCall, StepsCall, TellsCall, AsksCall, StopsCall, BeginsMaking, StepsMaking, BeginsEnding, StepsEnding, BeginsRow, StepsRow}
+use Rattle.papaya_carries.specs.Given.ActsDoings.{Doing, Does, BeginsReclaiming, BeginsClearing, StepsReclaiming, Chooses, Stage, HasDone}
+use Rattle.papaya_carries.specs.Given.ActsLeads.{AllStand, Led, MakingCame, EndingCame}
+use Rattle.papaya_carries.specs.Given.ActsLists.{Course}
 use Rattle.papaya_carries.specs.Lists.{AreTheirs}
 use Rattle.papaya_carries.proofs.Acts.{acts_keep_theirs}
 use Rattle.papaya_carries.proofs.Lists.{lists_keep_theirs, theirs_on}
@@ -36,7 +36,7 @@ use Rattle.papaya_links.proofs.Makings.{first_in_use, making_cut_off}
 use Rattle.papaya_links.proofs.Steps.{deed_cut, rows_none, kind_cut}
 use Rattle.papaya_links.proofs.Tied.{is_held_inside, scenes_are_tied}
 use Rattle.papaya_links.proofs.Unlinked.{IsCutOff, begin_none, step_none}
-use Rattle.papaya_carries.specs.Given.Scenes.Scene.{Scene}
+use Rattle.papaya_carries.specs.Given.ScenesScene.{Scene}
 
 module _ {K V S : Type 0} (same : K → K → Bool) (hash : S → K → ℕ) (batch_size roots : ℕ) (slot : ℕ → ℕ) (s n : Scene K V) (all : AllStand same hash batch_size roots slot s) (stand : AllStand same hash batch_size roots slot n) (b : ℕ) where
   reached : IsReached deferred_word batch_size s.world

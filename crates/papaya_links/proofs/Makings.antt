@@ -7,11 +7,11 @@ use Rattle.seize_acts.specs.Given.Seize.World.{World, InUse, Cutting}
 use Rattle.seize_acts.specs.Given.Seize.declared.progress.Progress.{Progress}
 use Rattle.seize_acts.proofs.Given.SeizeRule.Words.There.{live_pos}
 use Rattle.seize_acts.proofs.Given.SeizeAlone.Histories.Reached.{Reached, runs_reached}
-use Rattle.papaya_carries.specs.Given.Tables.Nodes.{deferred_word}
-use Rattle.papaya_carries.specs.Given.Tables.declared.node.Node.{Node}
-use Rattle.papaya_carries.specs.Given.Tables.declared.setting.Setting.{Setting}
-use Rattle.papaya_carries.specs.Given.Resize.declared.new_map.NewMap.{NewMap}
-use Rattle.papaya_carries.specs.Given.Rule.InWorld.{IsOut, IsMapIn}
+use Rattle.papaya_carries.specs.Given.TablesNodes.{deferred_word}
+use Rattle.papaya_carries.specs.Given.TablesDeclared.node.Node.{Node}
+use Rattle.papaya_carries.specs.Given.TablesDeclared.setting.Setting.{Setting}
+use Rattle.papaya_carries.specs.Given.ResizeDeclared.new_map.NewMap.{NewMap}
+use Rattle.papaya_carries.specs.Given.RuleInWorld.{IsOut, IsMapIn}
 use Rattle.papaya_reclaims.specs.Given.Callers.Together.{UnderWay}
 use Rattle.papaya_reclaims.specs.Given.Finishes.Makings.{Beginning, IsFirstTable, StepsOfMaking}
 use Rattle.papaya_reclaims.specs.Given.Finishes.Maps.{Standing, MapsTogether}

@@ -7,17 +7,17 @@ use Rattle.seize_acts.specs.Given.SeizeWords.Mem.{value_at, word_at}
 use Rattle.seize_acts.specs.Given.SeizeWords.Word.{block_in}
 use Rattle.seize_acts.specs.Given.SeizeWords.declared.at.At.TheVariants.{Root, Word}
 use Rattle.seize_acts.specs.Given.Seize.World.{World}
-use Rattle.papaya_carries.specs.Given.Tables.declared.node.Node.{Node}
-use Rattle.papaya_carries.specs.Given.Tables.declared.node.Node.TheVariants as node
-use Rattle.papaya_carries.specs.Given.Tables.declared.setting.Setting.{Setting}
-use Rattle.papaya_carries.specs.Given.Tables.declared.table_words.TheConstants.{NEXT, PLACES}
-use Rattle.papaya_carries.specs.Given.Rule.Chart.{Phase, Place, Holds, Chart}
-use Rattle.papaya_carries.specs.Given.Rule.InWorld.{IsMapIn}
-use Rattle.papaya_carries.specs.Given.Rule.Words.{Blocks, ShowsTable, byte_of, next_word, root_word, place_word}
-use Rattle.papaya_carries.proofs.Given.Rule.Laws.{bytes_are_few, words_name_pairs, words_with_blocks}
-use Rattle.papaya_carries.proofs.Given.Rule.Words.PlacesShown.{are_stored}
-use Rattle.papaya_carries.specs.Given.Rule.Maps.{spot_of}
-use Rattle.papaya_carries.specs.Given.Tables.Chunks.{is_incremental}
+use Rattle.papaya_carries.specs.Given.TablesDeclared.node.Node.{Node}
+use Rattle.papaya_carries.specs.Given.TablesDeclared.node.Node.TheVariants as node
+use Rattle.papaya_carries.specs.Given.TablesDeclared.setting.Setting.{Setting}
+use Rattle.papaya_carries.specs.Given.TablesDeclared.table_words.TheConstants.{NEXT, PLACES}
+use Rattle.papaya_carries.specs.Given.RuleChart.{Phase, Place, Holds, Chart}
+use Rattle.papaya_carries.specs.Given.RuleInWorld.{IsMapIn}
+use Rattle.papaya_carries.specs.Given.RuleWords.{Blocks, ShowsTable, byte_of, next_word, root_word, place_word}
+use Rattle.papaya_carries.proofs.Given.RuleLaws.{bytes_are_few, words_name_pairs, words_with_blocks}
+use Rattle.papaya_carries.proofs.Given.RuleWords.PlacesShown.{are_stored}
+use Rattle.papaya_carries.specs.Given.RuleMaps.{spot_of}
+use Rattle.papaya_carries.specs.Given.TablesChunks.{is_incremental}
 use Rattle.papaya_carries.proofs.Owed.{one_some}
 use Rattle.papaya_links.specs.Tied.{IsLink, Names, TableNames}
 

@@ -2,11 +2,11 @@
 use Rattle.std.specs.Prelude.{Option, Some, None}
 use Rattle.std.proofs.Common.{◌≡◌, ℕ, ◌⊎◌, Bool, false, inl, inr, refl, ap, sym, subst, ◌∙◌}
 use Rattle.seize_acts.specs.Given.Seize.World.{World, Rests, Cutting}
-use Rattle.papaya_carries.specs.Given.Tables.Chunks.{is_incremental}
-use Rattle.papaya_carries.specs.Given.Tables.declared.node.Node.{Node}
-use Rattle.papaya_carries.specs.Given.Resize.declared.copier.Copier.{Copier}
-use Rattle.papaya_carries.specs.Given.Resize.declared.copier.Copying.{Copying}
-use Rattle.papaya_carries.specs.Given.Resize.declared.copier.Copying.TheVariants as copies
+use Rattle.papaya_carries.specs.Given.TablesChunks.{is_incremental}
+use Rattle.papaya_carries.specs.Given.TablesDeclared.node.Node.{Node}
+use Rattle.papaya_carries.specs.Given.ResizeDeclared.copier.Copier.{Copier}
+use Rattle.papaya_carries.specs.Given.ResizeDeclared.copier.Copying.{Copying}
+use Rattle.papaya_carries.specs.Given.ResizeDeclared.copier.Copying.TheVariants as copies
 use Rattle.papaya_reclaims.specs.Given.Reserves.declared.reserve.Reserve.{Reserve}
 use Rattle.papaya_reclaims.specs.Given.Reserves.declared.reserve.Reserving.{Reserving}
 use Rattle.papaya_reclaims.specs.Given.Reserves.declared.reserve.Reserving.TheVariants as reserving

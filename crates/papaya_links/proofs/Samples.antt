@@ -8,10 +8,10 @@ use Rattle.seize_acts.specs.Given.SeizeWords.declared.at.At.TheVariants.{Root}
 use Rattle.seize_acts.specs.Given.SeizeWords.declared.block.Block.{Block}
 use Rattle.seize_acts.specs.Given.Seize.Law.{Effect, Linked, Unlinked, Ended, is_over}
 use Rattle.seize_acts.specs.Given.Seize.World.{World, Rests, Vacant, NoBlock}
-use Rattle.papaya_carries.specs.Given.Tables.declared.node.Node.{Node}
-use Rattle.papaya_carries.specs.Given.Tables.declared.node.Node.TheVariants as node
-use Rattle.papaya_carries.specs.Given.Tables.declared.table_words.TheConstants.{NEXT}
-use Rattle.papaya_carries.specs.Given.Rule.InWorld.{IsKnownBlock}
+use Rattle.papaya_carries.specs.Given.TablesDeclared.node.Node.{Node}
+use Rattle.papaya_carries.specs.Given.TablesDeclared.node.Node.TheVariants as node
+use Rattle.papaya_carries.specs.Given.TablesDeclared.table_words.TheConstants.{NEXT}
+use Rattle.papaya_carries.specs.Given.RuleInWorld.{IsKnownBlock}
 use Rattle.papaya_reclaims.specs.Given.Callers.Sights.{seen_by}
 use Rattle.papaya_reclaims.specs.Given.Finishes.Maps.{Standing}
 use Rattle.papaya_links.specs.Tied.{TableNames, RootNames, LinksLead, IsTied, IsClosed, unlinkings, UnlinksWhatNoneNames}

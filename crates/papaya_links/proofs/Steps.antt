@@ -6,9 +6,9 @@ use Rattle.seize_acts.specs.Given.SeizeWords.Mem.{Mem}
 use Rattle.seize_acts.specs.Given.Seize.Law.{Effect, Nowhere, where_is, is_somewhere, reachable, without, Unlinked, Dropped, LeftOver}
 use Rattle.seize_acts.specs.Given.Seize.World.{World, Event, Begin, Step, MayCut, Runs}
 use Rattle.seize_acts.proofs.Given.SeizeAlone.Histories.Reached.{Reached, happens_reached}
-use Rattle.papaya_carries.specs.Given.Tables.Nodes.{deferred_word}
-use Rattle.papaya_carries.specs.Given.Tables.declared.node.Node.{Node}
-use Rattle.papaya_carries.specs.Given.Tables.declared.setting.Setting.{Setting}
+use Rattle.papaya_carries.specs.Given.TablesNodes.{deferred_word}
+use Rattle.papaya_carries.specs.Given.TablesDeclared.node.Node.{Node}
+use Rattle.papaya_carries.specs.Given.TablesDeclared.setting.Setting.{Setting}
 use Rattle.papaya_reclaims.specs.Given.Raw.declared.machines.machine.Machine.{Machine}
 use Rattle.papaya_reclaims.specs.Given.Raw.declared.machines.progress.Progress.{Progress}
 use Rattle.papaya_reclaims.specs.Given.Callers.Sights.{seen_by}

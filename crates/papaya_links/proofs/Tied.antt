@@ -8,14 +8,14 @@ use Rattle.seize_acts.specs.Given.Seize.World.{World, times}
 use Rattle.seize_acts.proofs.Given.SeizeMoves.State.Logs.{reached_held}
 use Rattle.seize_acts.proofs.Given.SeizeAlone.Histories.Reached.{Reached}
 use Rattle.seize_acts.proofs.Given.SeizeAlone.Histories.Uses.{inside_open}
-use Rattle.papaya_carries.specs.Given.Tables.Nodes.{deferred_word}
-use Rattle.papaya_carries.specs.Given.Tables.declared.node.Node.{Node}
-use Rattle.papaya_carries.specs.Given.Tables.declared.node.Node.TheVariants as node
-use Rattle.papaya_carries.specs.Given.Tables.declared.table_words.TheConstants.{DEFERRED}
+use Rattle.papaya_carries.specs.Given.TablesNodes.{deferred_word}
+use Rattle.papaya_carries.specs.Given.TablesDeclared.node.Node.{Node}
+use Rattle.papaya_carries.specs.Given.TablesDeclared.node.Node.TheVariants as node
+use Rattle.papaya_carries.specs.Given.TablesDeclared.table_words.TheConstants.{DEFERRED}
 use Rattle.papaya_reclaims.specs.Given.Callers.Together.{UnderWay}
 use Rattle.papaya_reclaims.proofs.Given.Callers.Together.Came.{came_reached}
 use Rattle.papaya_reclaims.proofs.Given.Callers.Together.Opened.{used_reached, named_reached}
-use Rattle.papaya_carries.specs.Given.Rule.InWorld.{IsMapIn}
+use Rattle.papaya_carries.specs.Given.RuleInWorld.{IsMapIn}
 use Rattle.papaya_reclaims.specs.Given.Finishes.Endings.{Finishing, EndingsTogether}
 use Rattle.papaya_reclaims.specs.Given.Finishes.Makings.{Beginning}
 use Rattle.papaya_reclaims.specs.Given.Finishes.Maps.{Standing}

@@ -11,8 +11,8 @@ use Rattle.seize_acts.specs.Given.Seize.World.{World, Hand, NoBlock, Making, InU
 use Rattle.seize_acts.proofs.Given.SeizeRule.Rows.Effects.{IsOneStep}
 use Rattle.seize_acts.proofs.Given.SeizeAlone.Histories.NotTaken.{did}
 use Rattle.seize_acts.proofs.Given.SeizeAlone.Histories.Reached.{Reached, happens_reached}
-use Rattle.papaya_carries.specs.Given.Rule.InWorld.{AllUsers}
-use Rattle.papaya_carries.proofs.Given.Rule.World.Hands.{at_cases}
+use Rattle.papaya_carries.specs.Given.RuleInWorld.{AllUsers}
+use Rattle.papaya_carries.proofs.Given.RuleWorld.Hands.{at_cases}
 use Rattle.papaya_links.specs.Tied.{unlinkings}
 use Rattle.papaya_links.proofs.Places.{IsGone, gone_there, cut_nowhere}
 

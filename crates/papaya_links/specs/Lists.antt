@@ -1,12 +1,12 @@
 -- What is promised of links: wherever a list of acts on maps has led, the world is tied, and what a step unlinks no link names any more.
 use Rattle.std.specs.Prelude.{ℕ, Bool, List}
-use Rattle.papaya_carries.specs.Given.Acts.Acts.{Act, Answer}
-use Rattle.papaya_carries.specs.Given.Acts.Doings.{Doing, MayDo}
-use Rattle.papaya_carries.specs.Given.Acts.Leads.{MayBe, AllStand, Led}
-use Rattle.papaya_carries.specs.Given.Acts.Lists.{Course, Reached, LedTo}
+use Rattle.papaya_carries.specs.Given.ActsActs.{Act, Answer}
+use Rattle.papaya_carries.specs.Given.ActsDoings.{Doing, MayDo}
+use Rattle.papaya_carries.specs.Given.ActsLeads.{MayBe, AllStand, Led}
+use Rattle.papaya_carries.specs.Given.ActsLists.{Course, Reached, LedTo}
 use Rattle.papaya_carries.specs.Lists.{AreTheirs}
 use Rattle.papaya_links.specs.Tied.{IsTied, IsHeldInside, AllAreClosed, UnlinksWhatNoneNames}
-use Rattle.papaya_carries.specs.Given.Scenes.Scene.{Scene}
+use Rattle.papaya_carries.specs.Given.ScenesScene.{Scene}
 
 module _ {K S : Type 0} (V : Type 0) (same : K → K → Bool) (hash : S → K → ℕ) (batch_size roots : ℕ) (slot : ℕ → ℕ) where
   -- The promise of a scene: where all stand together, and each block behind which something may be put is somebody's, the world is tied.

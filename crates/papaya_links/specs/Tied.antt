@@ -7,10 +7,10 @@ use Rattle.seize_acts.specs.Given.SeizeWords.declared.at.At.{At}
 use Rattle.seize_acts.specs.Given.SeizeWords.declared.at.At.TheVariants.{Root, Word}
 use Rattle.seize_acts.specs.Given.Seize.Law.{Effect, Unlinked, reachable, is_over, holds}
 use Rattle.seize_acts.specs.Given.Seize.World.{World, IsInside}
-use Rattle.papaya_carries.specs.Given.Tables.declared.node.Node.{Node}
-use Rattle.papaya_carries.specs.Given.Tables.declared.node.Node.TheVariants as node
-use Rattle.papaya_carries.specs.Given.Tables.declared.table_words.TheConstants.{NEXT, PLACES}
-use Rattle.papaya_carries.specs.Given.Rule.InWorld.{IsKnownBlock}
+use Rattle.papaya_carries.specs.Given.TablesDeclared.node.Node.{Node}
+use Rattle.papaya_carries.specs.Given.TablesDeclared.node.Node.TheVariants as node
+use Rattle.papaya_carries.specs.Given.TablesDeclared.table_words.TheConstants.{NEXT, PLACES}
+use Rattle.papaya_carries.specs.Given.RuleInWorld.{IsKnownBlock}
 use Rattle.papaya_reclaims.specs.Given.Callers.Sights.{seen_by}
 use Rattle.papaya_reclaims.specs.Given.Finishes.Maps.{Standing}
 

@@ -1,6 +1,6 @@
 //! What is promised of what links lead to, whoever takes a step.
 ghost use Rattle.std.specs.Prelude.{ℕ, Bool};
-ghost use Rattle.papaya_carries.specs.Given.Acts.Lists.{Course};
+ghost use Rattle.papaya_carries.specs.Given.ActsLists.{Course};
 ghost use Rattle.papaya_links.specs.Lists.{ScenesAreTied, ScenesAreClosed, ActsUnlink, ListsAreTied, ListsHold, ListsUnlink, ListsAreClosed};
 
 /// Any number of callers begin calls on any maps of one collector, in either mode, take steps of them, make and end maps, and work on their slots, in any order.

@@ -2,68 +2,68 @@
 use Rattle.std.specs.Prelude.{◌≡◌, ◌⊎◌, ℕ, zero, suc, ◌+◌, ◌==◌, Bool, true, false, List, [], ◌∷◌, length, Option, Some, if◌then◌else◌}
 use Rattle.std.proofs.Common.{refl, ap, sym, subst, ◌∙◌, inl, inr, arith}
 use Rattle.std.proofs.lemmas.Bool.{cases_eq, eq-eqb, ne_eqb}
-use Rattle.papaya_settles.specs.Given.SeizeWords.Mem.{Mem, value_at}
-use Rattle.papaya_settles.specs.Given.SeizeWords.Word.{block_in, link_to}
-use Rattle.papaya_settles.specs.Given.SeizeWords.declared.at.At.{At}
-use Rattle.papaya_settles.specs.Given.SeizeWords.declared.at.At.TheVariants.{Word}
-use Rattle.papaya_settles.specs.Given.Seize.Defer.{deferring}
-use Rattle.papaya_settles.specs.Given.Seize.Further.{IsWordOf}
-use Rattle.papaya_settles.specs.Given.Seize.Settle.{retiring}
-use Rattle.papaya_settles.specs.Given.Seize.Sequence.{taken_in}
-use Rattle.papaya_settles.specs.Given.Seize.declared.progress.Progress.{Progress as Deferring}
-use Rattle.papaya_settles.specs.Given.Seize.declared.progress.Progress.TheVariants as progress
-use Rattle.papaya_settles.specs.Given.Seize.declared.rows.defer.Defer.{Defer}
-use Rattle.papaya_settles.specs.Given.Seize.declared.rows.settle.Settle.{Settle}
-use Rattle.papaya_settles.specs.Given.Seize.declared.rows.settle.Settled.{Settled}
-use Rattle.papaya_settles.specs.Given.Seize.declared.rows.settle.Settled.TheVariants as settled
-use Rattle.papaya_settles.specs.Given.Seize.declared.rows.settle.Settling.{Settling}
-use Rattle.papaya_settles.specs.Given.Seize.declared.rows.settle.Settling.TheVariants as at_point
-use Rattle.papaya_settles.specs.Given.Seize.declared.states.TheConstants.{LAST_SLOT}
-use Rattle.papaya_settles.specs.Given.Seize.World.{World, Row, Rests, Registers, Enters, Settles, Leaves, Defers, Frees, Hand, NoBlock, Making, InUse, Parting, Cutting, Handed, LeftTo, MayCut, Request, Register', Enter', Leave', LeaveOwned, Refresh, Unregister', Retire, Flush, Defer', Begin, Begins, Steps', settles_on, defers_on, with_at, times}
-use Rattle.papaya_settles.proofs.Given.SeizeMoves.State.Ghost.{Life, IsDeferring, IsDeferred, IsPending, State}
-use Rattle.papaya_settles.proofs.Given.SeizeMoves.Sets.Unmoved.{is_in_wait}
-use Rattle.papaya_settles.proofs.Given.SeizeRule.Points.Aside.{HandFits}
-use Rattle.papaya_settles.proofs.Given.SeizeRule.Points.Known.{FitsAt, FirstsOf, bare}
-use Rattle.papaya_settles.proofs.Given.SeizeRule.Rows.Effects.{hand_kept}
-use Rattle.papaya_settles.proofs.Given.SeizeRule.Rows.Known.{FitsRow}
-use Rattle.papaya_settles.proofs.Given.SeizeRule.Words.Chains.{Chain}
-use Rattle.papaya_settles.proofs.Given.SeizeRule.Words.Shows.{Extra, Shows, lives}
-use Rattle.papaya_settles.proofs.Given.SeizeRule.Words.There.{live_pos}
-use Rattle.papaya_settles.proofs.Given.SeizeRule.Words.View.{View, view}
-use Rattle.papaya_settles.proofs.Given.SeizeAlone.Histories.NotTaken.{did, taken_gone}
-use Rattle.papaya_settles.proofs.Given.SeizeAlone.Histories.Reached.{Reached, happens_reached}
-use Rattle.papaya_settles.specs.Given.Tables.Nodes.{deferred_word}
-use Rattle.papaya_settles.specs.Given.Tables.declared.node.Node.{Node}
-use Rattle.papaya_settles.specs.Given.Raw.declared.machines.progress.Progress.{Progress as CallTold}
-use Rattle.papaya_settles.specs.Given.Schedules.declared.effect.Effect.{Effect}
-use Rattle.papaya_settles.specs.Given.Schedules.declared.effect.Effect.TheVariants.{Retired, Deferred}
-use Rattle.papaya_settles.specs.Given.Schedules.declared.effect.Table.{Table}
-use Rattle.papaya_settles.specs.Given.Schedules.declared.effect.Thing.TheVariants.{APair}
-use Rattle.papaya_settles.specs.Given.Schedules.Effects.{with_effects}
-use Rattle.papaya_settles.specs.Given.Schedules.Lists.{is_among, put}
-use Rattle.papaya_settles.specs.Given.Schedules.Moment.{Place, Behind, Deferral, Handed as IsHanded, Moment}
-use Rattle.papaya_settles.specs.Given.Schedules.Things.{same_table}
-use Rattle.papaya_settles.specs.Given.Schedules.Views.{behind}
-use Rattle.papaya_settles.proofs.Given.Rule.World.Hands.{at_cases}
-use Rattle.papaya_settles.specs.Given.Callers.Sights.{seen_by}
-use Rattle.papaya_settles.specs.Given.Callers.Together.{UnderWay, OnKey, ForRoom, Counting, OverAll, Together, CameAbout, HandsOver, IsOneStep}
-use Rattle.papaya_settles.proofs.Given.Callers.Together.Came.{came_reached}
-use Rattle.papaya_settles.specs.Given.Effects.Effects.{carried, named, effects_of, known_after}
-use Rattle.papaya_settles.specs.Given.Effects.Known.{Known}
-use Rattle.papaya_settles.specs.Given.Effects.declared.acting.Acting.TheVariants.{Call}
-use Rattle.papaya_settles.specs.Given.Effects.declared.role.Role.{Role}
-use Rattle.papaya_settles.specs.Given.Effects.declared.role.Role.TheVariants as role
-use Rattle.papaya_settles.specs.Given.Finishes.Machines.{machine_of}
-use Rattle.papaya_settles.specs.Given.Follows.Blocks.{HasRole}
-use Rattle.papaya_settles.proofs.Given.Follows.Alike.{AllCalm, put_here, put_elsewhere}
-use Rattle.papaya_settles.proofs.Given.Follows.Onward.{IsLasting}
-use Rattle.papaya_settles.proofs.Given.Follows.RowSteps.{row_step_shown}
-use Rattle.papaya_settles.proofs.Given.Follows.Steps.{WentTo, went_to, made_so, DidSo, OfNoRow}
-use Rattle.papaya_settles.specs.Given.Hands.Rows.{ReclaimsNone}
-use Rattle.papaya_settles.proofs.Given.Hands.RowSteps.{rows_hand_theirs}
-use Rattle.papaya_settles.proofs.Given.Spots.Steps.{stayed_calm}
-use Rattle.papaya_settles.proofs.Given.Spots.Unreclaimed.{table_is, same_itself}
-use Rattle.papaya_settles.specs.Given.Moments.Whole.{ShowsWhole}
+use Rattle.papaya_settles.specs.Given.SeizeWordsMem.{Mem, value_at}
+use Rattle.papaya_settles.specs.Given.SeizeWordsWord.{block_in, link_to}
+use Rattle.papaya_settles.specs.Given.SeizeWordsDeclared.at.At.{At}
+use Rattle.papaya_settles.specs.Given.SeizeWordsDeclared.at.At.TheVariants.{Word}
+use Rattle.papaya_settles.specs.Given.SeizeDefer.{deferring}
+use Rattle.papaya_settles.specs.Given.SeizeFurther.{IsWordOf}
+use Rattle.papaya_settles.specs.Given.SeizeSettle.{retiring}
+use Rattle.papaya_settles.specs.Given.SeizeSequence.{taken_in}
+use Rattle.papaya_settles.specs.Given.SeizeDeclared.progress.Progress.{Progress as Deferring}
+use Rattle.papaya_settles.specs.Given.SeizeDeclared.progress.Progress.TheVariants as progress
+use Rattle.papaya_settles.specs.Given.SeizeDeclared.rows.defer.Defer.{Defer}
+use Rattle.papaya_settles.specs.Given.SeizeDeclared.rows.settle.Settle.{Settle}
+use Rattle.papaya_settles.specs.Given.SeizeDeclared.rows.settle.Settled.{Settled}
+use Rattle.papaya_settles.specs.Given.SeizeDeclared.rows.settle.Settled.TheVariants as settled
+use Rattle.papaya_settles.specs.Given.SeizeDeclared.rows.settle.Settling.{Settling}
+use Rattle.papaya_settles.specs.Given.SeizeDeclared.rows.settle.Settling.TheVariants as at_point
+use Rattle.papaya_settles.specs.Given.SeizeDeclared.states.TheConstants.{LAST_SLOT}
+use Rattle.papaya_settles.specs.Given.SeizeWorld.{World, Row, Rests, Registers, Enters, Settles, Leaves, Defers, Frees, Hand, NoBlock, Making, InUse, Parting, Cutting, Handed, LeftTo, MayCut, Request, Register', Enter', Leave', LeaveOwned, Refresh, Unregister', Retire, Flush, Defer', Begin, Begins, Steps', settles_on, defers_on, with_at, times}
+use Rattle.papaya_settles.proofs.Given.SeizeMovesState.Ghost.{Life, IsDeferring, IsDeferred, IsPending, State}
+use Rattle.papaya_settles.proofs.Given.SeizeMovesSets.Unmoved.{is_in_wait}
+use Rattle.papaya_settles.proofs.Given.SeizeRulePoints.Aside.{HandFits}
+use Rattle.papaya_settles.proofs.Given.SeizeRulePoints.Known.{FitsAt, FirstsOf, bare}
+use Rattle.papaya_settles.proofs.Given.SeizeRuleRows.Effects.{hand_kept}
+use Rattle.papaya_settles.proofs.Given.SeizeRuleRows.Known.{FitsRow}
+use Rattle.papaya_settles.proofs.Given.SeizeRuleWords.Chains.{Chain}
+use Rattle.papaya_settles.proofs.Given.SeizeRuleWords.Shows.{Extra, Shows, lives}
+use Rattle.papaya_settles.proofs.Given.SeizeRuleWords.There.{live_pos}
+use Rattle.papaya_settles.proofs.Given.SeizeRuleWords.View.{View, view}
+use Rattle.papaya_settles.proofs.Given.SeizeAloneHistories.NotTaken.{did, taken_gone}
+use Rattle.papaya_settles.proofs.Given.SeizeAloneHistories.Reached.{Reached, happens_reached}
+use Rattle.papaya_settles.specs.Given.TablesNodes.{deferred_word}
+use Rattle.papaya_settles.specs.Given.TablesDeclared.node.Node.{Node}
+use Rattle.papaya_settles.specs.Given.RawDeclared.machines.progress.Progress.{Progress as CallTold}
+use Rattle.papaya_settles.specs.Given.SchedulesDeclared.effect.Effect.{Effect}
+use Rattle.papaya_settles.specs.Given.SchedulesDeclared.effect.Effect.TheVariants.{Retired, Deferred}
+use Rattle.papaya_settles.specs.Given.SchedulesDeclared.effect.Table.{Table}
+use Rattle.papaya_settles.specs.Given.SchedulesDeclared.effect.Thing.TheVariants.{APair}
+use Rattle.papaya_settles.specs.Given.SchedulesEffects.{with_effects}
+use Rattle.papaya_settles.specs.Given.SchedulesLists.{is_among, put}
+use Rattle.papaya_settles.specs.Given.SchedulesMoment.{Place, Behind, Deferral, Handed as IsHanded, Moment}
+use Rattle.papaya_settles.specs.Given.SchedulesThings.{same_table}
+use Rattle.papaya_settles.specs.Given.SchedulesViews.{behind}
+use Rattle.papaya_settles.proofs.Given.RuleWorld.Hands.{at_cases}
+use Rattle.papaya_settles.specs.Given.CallersSights.{seen_by}
+use Rattle.papaya_settles.specs.Given.CallersTogether.{UnderWay, OnKey, ForRoom, Counting, OverAll, Together, CameAbout, HandsOver, IsOneStep}
+use Rattle.papaya_settles.proofs.Given.CallersTogether.Came.{came_reached}
+use Rattle.papaya_settles.specs.Given.EffectsEffects.{carried, named, effects_of, known_after}
+use Rattle.papaya_settles.specs.Given.EffectsKnown.{Known}
+use Rattle.papaya_settles.specs.Given.EffectsDeclared.acting.Acting.TheVariants.{Call}
+use Rattle.papaya_settles.specs.Given.EffectsDeclared.role.Role.{Role}
+use Rattle.papaya_settles.specs.Given.EffectsDeclared.role.Role.TheVariants as role
+use Rattle.papaya_settles.specs.Given.FinishesMachines.{machine_of}
+use Rattle.papaya_settles.specs.Given.FollowsBlocks.{HasRole}
+use Rattle.papaya_settles.proofs.Given.FollowsAlike.{AllCalm, put_here, put_elsewhere}
+use Rattle.papaya_settles.proofs.Given.FollowsOnward.{IsLasting}
+use Rattle.papaya_settles.proofs.Given.FollowsRowSteps.{row_step_shown}
+use Rattle.papaya_settles.proofs.Given.FollowsSteps.{WentTo, went_to, made_so, DidSo, OfNoRow}
+use Rattle.papaya_settles.specs.Given.HandsRows.{ReclaimsNone}
+use Rattle.papaya_settles.proofs.Given.HandsRowSteps.{rows_hand_theirs}
+use Rattle.papaya_settles.proofs.Given.SpotsSteps.{stayed_calm}
+use Rattle.papaya_settles.proofs.Given.SpotsUnreclaimed.{table_is, same_itself}
+use Rattle.papaya_settles.specs.Given.MomentsWhole.{ShowsWhole}
 use Rattle.papaya_settles.specs.Due.{ToRetire, ToPut, due_in_settle, due_in_row, told_retired, RowTells, TellsNone, TellsRetired, TellsDeferred, OwnAreMade}
 use Rattle.papaya_settles.specs.Entries.{ShowsEntries}
 use Rattle.papaya_settles.proofs.DueCalls.{rows_tell_due}
@@ -79,9 +79,9 @@ use Rattle.papaya_lives.proofs.RetiredCalls.{to_retire}
 use Rattle.papaya_lives.proofs.Retires.{row_life}
 use Rattle.papaya_lives.proofs.Users.{cut_left, left_lives}
 use Rattle.papaya_lives.proofs.Worlds.{Kept, runs_kept, start_kept, has_it}
-use Rattle.papaya_settles.specs.Given.Scenes.Held.{Held, IsAt}
-use Rattle.papaya_settles.specs.Given.Scenes.Scene.{Scene, slot_of}
-use Rattle.papaya_settles.specs.Given.Scenes.Stepping.{StepLeads}
+use Rattle.papaya_settles.specs.Given.ScenesHeld.{Held, IsAt}
+use Rattle.papaya_settles.specs.Given.ScenesScene.{Scene, slot_of}
+use Rattle.papaya_settles.specs.Given.ScenesStepping.{StepLeads}
 
 -- a row that has a block to retire, and reclaims nothing, has none to take
 module _ (n i : ℕ) (f : View) (m : State) (x : Extra) (shows : Shows n f m x) where

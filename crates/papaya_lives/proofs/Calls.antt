@@ -1,39 +1,39 @@
 -- A step of a call that is none of a row leaves what waits behind tables there.
 use Rattle.std.specs.Prelude.{◌≡◌, ℕ, ◌≤◌, Bool, List, [], ◌∷◌, length, Option, Some}
 use Rattle.std.proofs.Common.{refl, ap, sym, subst, ◌∙◌, arith, inl, inr}
-use Rattle.papaya_settles.specs.Given.Seize.World.{World, Event, Runs}
-use Rattle.papaya_settles.specs.Given.Tables.Nodes.{deferred_word}
-use Rattle.papaya_settles.specs.Given.Tables.declared.node.Node.{Node}
-use Rattle.papaya_settles.specs.Given.Raw.declared.machines.progress.Progress.{Progress}
-use Rattle.papaya_settles.specs.Given.Schedules.declared.effect.Effect.{Effect}
-use Rattle.papaya_settles.specs.Given.Schedules.declared.effect.Effect.TheVariants.{Asked, PairMade, PairGivenUp, TableMade, TableGivenUp, Linked, Promoted, Copied, Stored, Replaced, Removed, Counted, Deferred, Retired, Reclaimed, Ended, Taken}
-use Rattle.papaya_settles.specs.Given.Schedules.declared.effect.Table.{Table}
-use Rattle.papaya_settles.specs.Given.Schedules.Effects.{in_map, place_by, deferred_by, with_effect, with_effects, AtEachEffect}
-use Rattle.papaya_settles.specs.Given.Schedules.Moment.{Out, Behind, Moment}
-use Rattle.papaya_settles.specs.Given.Rule.InWorld.{AllUsers}
-use Rattle.papaya_settles.specs.Given.Callers.Together.{UnderWay, OnKey, ForRoom, Counting, OverAll}
-use Rattle.papaya_settles.specs.Given.Effects.Effects.{effects_of, known_after}
-use Rattle.papaya_settles.specs.Given.Effects.Known.{Known}
-use Rattle.papaya_settles.specs.Given.Effects.declared.acting.Acting.TheVariants.{Call}
-use Rattle.papaya_settles.specs.Given.Effects.declared.role.Role.{Role}
-use Rattle.papaya_settles.specs.Given.Effects.declared.role.Role.TheVariants as role
-use Rattle.papaya_settles.specs.Given.Follows.Blocks.{HasRole}
-use Rattle.papaya_settles.specs.Given.Follows.Finds.{FindsMap}
-use Rattle.papaya_settles.proofs.Given.Follows.Alike.{put_elsewhere}
-use Rattle.papaya_settles.proofs.Given.Follows.Contents.{pair_within}
-use Rattle.papaya_settles.proofs.Given.Follows.Onward.{IsLasting, KeepsRoles}
-use Rattle.papaya_settles.proofs.Given.Follows.Steps.{WentTo, went_to, DidSo, OfNoRow, step_shown}
-use Rattle.papaya_settles.proofs.Given.Hands.Steps.{calls_store_theirs}
-use Rattle.papaya_settles.proofs.Given.Spots.Elsewhere.{stored_grows}
-use Rattle.papaya_settles.proofs.Given.Spots.Handing.{HandsNothing, AllHandNothing}
-use Rattle.papaya_settles.proofs.Given.Spots.Steps.{hands_nothing}
-use Rattle.papaya_settles.specs.Given.Moments.Whole.{ShowsWhole}
+use Rattle.papaya_settles.specs.Given.SeizeWorld.{World, Event, Runs}
+use Rattle.papaya_settles.specs.Given.TablesNodes.{deferred_word}
+use Rattle.papaya_settles.specs.Given.TablesDeclared.node.Node.{Node}
+use Rattle.papaya_settles.specs.Given.RawDeclared.machines.progress.Progress.{Progress}
+use Rattle.papaya_settles.specs.Given.SchedulesDeclared.effect.Effect.{Effect}
+use Rattle.papaya_settles.specs.Given.SchedulesDeclared.effect.Effect.TheVariants.{Asked, PairMade, PairGivenUp, TableMade, TableGivenUp, Linked, Promoted, Copied, Stored, Replaced, Removed, Counted, Deferred, Retired, Reclaimed, Ended, Taken}
+use Rattle.papaya_settles.specs.Given.SchedulesDeclared.effect.Table.{Table}
+use Rattle.papaya_settles.specs.Given.SchedulesEffects.{in_map, place_by, deferred_by, with_effect, with_effects, AtEachEffect}
+use Rattle.papaya_settles.specs.Given.SchedulesMoment.{Out, Behind, Moment}
+use Rattle.papaya_settles.specs.Given.RuleInWorld.{AllUsers}
+use Rattle.papaya_settles.specs.Given.CallersTogether.{UnderWay, OnKey, ForRoom, Counting, OverAll}
+use Rattle.papaya_settles.specs.Given.EffectsEffects.{effects_of, known_after}
+use Rattle.papaya_settles.specs.Given.EffectsKnown.{Known}
+use Rattle.papaya_settles.specs.Given.EffectsDeclared.acting.Acting.TheVariants.{Call}
+use Rattle.papaya_settles.specs.Given.EffectsDeclared.role.Role.{Role}
+use Rattle.papaya_settles.specs.Given.EffectsDeclared.role.Role.TheVariants as role
+use Rattle.papaya_settles.specs.Given.FollowsBlocks.{HasRole}
+use Rattle.papaya_settles.specs.Given.FollowsFinds.{FindsMap}
+use Rattle.papaya_settles.proofs.Given.FollowsAlike.{put_elsewhere}
+use Rattle.papaya_settles.proofs.Given.FollowsContents.{pair_within}
+use Rattle.papaya_settles.proofs.Given.FollowsOnward.{IsLasting, KeepsRoles}
+use Rattle.papaya_settles.proofs.Given.FollowsSteps.{WentTo, went_to, DidSo, OfNoRow, step_shown}
+use Rattle.papaya_settles.proofs.Given.HandsSteps.{calls_store_theirs}
+use Rattle.papaya_settles.proofs.Given.SpotsElsewhere.{stored_grows}
+use Rattle.papaya_settles.proofs.Given.SpotsHanding.{HandsNothing, AllHandNothing}
+use Rattle.papaya_settles.proofs.Given.SpotsSteps.{hands_nothing}
+use Rattle.papaya_settles.specs.Given.MomentsWhole.{ShowsWhole}
 use Rattle.papaya_lives.specs.Behind.{LiesBehind, ShowsWaiting}
 use Rattle.papaya_lives.specs.Steps.{CallsKeepWaiting}
 use Rattle.papaya_lives.proofs.Users.{users_keep_waiting}
-use Rattle.papaya_settles.specs.Given.Scenes.Held.{Held, IsAt}
-use Rattle.papaya_settles.specs.Given.Scenes.Scene.{Scene}
-use Rattle.papaya_settles.specs.Given.Scenes.Stepping.{StepLeads}
+use Rattle.papaya_settles.specs.Given.ScenesHeld.{Held, IsAt}
+use Rattle.papaya_settles.specs.Given.ScenesScene.{Scene}
+use Rattle.papaya_settles.specs.Given.ScenesStepping.{StepLeads}
 
 module _ {K V : Type 0} (map : ℕ) (caller : Option (List ℕ)) (acted : Option ℕ) where
   -- the same pairs wait

@@ -1,11 +1,11 @@
 -- What is so of each pair that waits, and of its table.
 use Rattle.std.specs.Prelude.{◌≡◌, ℕ, ◌==◌, Bool, true, false, ◌||◌, List, [], ◌∷◌, filter, map, if◌then◌else◌}
 use Rattle.std.proofs.Common.{refl, sym, arith}
-use Rattle.papaya_settles.specs.Given.Schedules.declared.effect.Table.{Table}
-use Rattle.papaya_settles.specs.Given.Schedules.Lists.{is_among}
-use Rattle.papaya_settles.specs.Given.Schedules.Moment.{Deferral}
-use Rattle.papaya_settles.specs.Given.Schedules.Things.{same_table}
-use Rattle.papaya_settles.specs.Given.Schedules.Views.{behind}
+use Rattle.papaya_settles.specs.Given.SchedulesDeclared.effect.Table.{Table}
+use Rattle.papaya_settles.specs.Given.SchedulesLists.{is_among}
+use Rattle.papaya_settles.specs.Given.SchedulesMoment.{Deferral}
+use Rattle.papaya_settles.specs.Given.SchedulesThings.{same_table}
+use Rattle.papaya_settles.specs.Given.SchedulesViews.{behind}
 use Rattle.papaya_lives.specs.Behind.{EachWaits}
 
 module _ (P : ℕ → Table → Type 0) where

@@ -1,18 +1,18 @@
 -- What waits behind a table that ends with its map is not reclaimed.
 use Rattle.std.specs.Prelude.{◌≡◌, ℕ, Bool, true, List, [], ◌∷◌, Some, None}
 use Rattle.std.proofs.Common.{sym, subst, inl, inr}
-use Rattle.papaya_settles.specs.Given.Schedules.declared.effect.Effect.{Effect}
-use Rattle.papaya_settles.specs.Given.Schedules.declared.effect.Effect.TheVariants.{Taken}
-use Rattle.papaya_settles.specs.Given.Schedules.Effects.{with_effect, AtEachEffect}
-use Rattle.papaya_settles.specs.Given.Schedules.Moment.{Moment}
-use Rattle.papaya_settles.specs.Given.Teller.declared.changed.Changed.{Changed}
-use Rattle.papaya_settles.specs.Given.Effects.Effects.{taken_by, effects_of}
-use Rattle.papaya_settles.specs.Given.Effects.declared.acting.Acting.TheVariants.{Ending}
-use Rattle.papaya_settles.specs.Given.Effects.declared.role.Role.{Role}
-use Rattle.papaya_settles.specs.Given.Effects.declared.role.Role.TheVariants as role
-use Rattle.papaya_settles.proofs.Given.Follows.Alike.{is_calm, AllCalm}
-use Rattle.papaya_settles.specs.Given.Moments.Endings.{WaitsOn}
-use Rattle.papaya_settles.proofs.Given.Moments.Ends.{says}
+use Rattle.papaya_settles.specs.Given.SchedulesDeclared.effect.Effect.{Effect}
+use Rattle.papaya_settles.specs.Given.SchedulesDeclared.effect.Effect.TheVariants.{Taken}
+use Rattle.papaya_settles.specs.Given.SchedulesEffects.{with_effect, AtEachEffect}
+use Rattle.papaya_settles.specs.Given.SchedulesMoment.{Moment}
+use Rattle.papaya_settles.specs.Given.TellerDeclared.changed.Changed.{Changed}
+use Rattle.papaya_settles.specs.Given.EffectsEffects.{taken_by, effects_of}
+use Rattle.papaya_settles.specs.Given.EffectsDeclared.acting.Acting.TheVariants.{Ending}
+use Rattle.papaya_settles.specs.Given.EffectsDeclared.role.Role.{Role}
+use Rattle.papaya_settles.specs.Given.EffectsDeclared.role.Role.TheVariants as role
+use Rattle.papaya_settles.proofs.Given.FollowsAlike.{is_calm, AllCalm}
+use Rattle.papaya_settles.specs.Given.MomentsEndings.{WaitsOn}
+use Rattle.papaya_settles.proofs.Given.MomentsEnds.{says}
 use Rattle.papaya_lives.specs.Steps.{EndingsFindWaiting}
 use Rattle.papaya_lives.proofs.Waiting.{effects_find_waiting}
 

@@ -2,58 +2,58 @@
 use Rattle.std.specs.Prelude.{◌≡◌, ℕ, ◌+◌, ◌==◌, ◌≤◌, zero, suc, Bool, true, false, ◌||◌, is_some, List, [], ◌∷◌, length, map, Option, Some, None, if◌then◌else◌}
 use Rattle.std.proofs.Common.{refl, ap, sym, subst, ◌∙◌, inl, inr, arith, eqb-true}
 use Rattle.std.proofs.lemmas.Bool.{cases_eq, eq-eqb}
-use Rattle.papaya_settles.specs.Given.SeizeWords.Mem.{value_at}
-use Rattle.papaya_settles.specs.Given.SeizeWords.Word.{block_in}
-use Rattle.papaya_settles.specs.Given.Seize.Sequence.{taken_in}
-use Rattle.papaya_settles.specs.Given.Seize.declared.states.TheConstants.{LAST_SLOT}
-use Rattle.papaya_settles.specs.Given.Seize.World.{World, Row, Rests, Hand, Handed, Request, Register', Enter', Leave', LeaveOwned, Refresh, Unregister', Retire, Flush, Defer', Begins, Event, Begin, Runs, Steps', times}
-use Rattle.papaya_settles.proofs.Given.SeizeMoves.Sets.Unmoved.{is_in_wait}
-use Rattle.papaya_settles.proofs.Given.SeizeMoves.State.Ghost.{IsPending}
-use Rattle.papaya_settles.proofs.Given.SeizeRule.Words.There.{live_pos}
-use Rattle.papaya_settles.proofs.Given.SeizeRule.Words.View.{view}
-use Rattle.papaya_settles.proofs.Given.SeizeAlone.Histories.NotTaken.{did, taken_gone}
-use Rattle.papaya_settles.proofs.Given.SeizeAlone.Histories.Reached.{Reached, happens_reached}
-use Rattle.papaya_settles.specs.Given.Tables.Nodes.{deferred_word}
-use Rattle.papaya_settles.specs.Given.Tables.declared.node.Node.{Node}
-use Rattle.papaya_settles.specs.Given.Raw.declared.machines.machine.Machine.{Machine}
-use Rattle.papaya_settles.specs.Given.Raw.declared.machines.progress.Progress.{Progress as CallTold}
-use Rattle.papaya_settles.specs.Given.Schedules.declared.effect.Effect.{Effect}
-use Rattle.papaya_settles.specs.Given.Schedules.declared.effect.Effect.TheVariants.{Deferred, Retired}
-use Rattle.papaya_settles.specs.Given.Schedules.declared.effect.Table.{Table}
-use Rattle.papaya_settles.specs.Given.Schedules.declared.effect.Thing.{Thing}
-use Rattle.papaya_settles.specs.Given.Schedules.declared.effect.Thing.TheVariants.{APair, ATable}
-use Rattle.papaya_settles.specs.Given.Schedules.Effects.{with_effects, AtEachEffect}
-use Rattle.papaya_settles.specs.Given.Schedules.Moment.{Handed as IsHanded, Moment}
-use Rattle.papaya_settles.specs.Given.Schedules.Reclaims.{is_handed}
-use Rattle.papaya_settles.specs.Given.Schedules.Things.{same_table}
-use Rattle.papaya_settles.specs.Given.Schedules.Views.{is_stage, is_retired}
-use Rattle.papaya_settles.specs.Given.Teller.declared.changed.Changed.{Changed}
-use Rattle.papaya_settles.specs.Given.Rule.InWorld.{AllUsers}
-use Rattle.papaya_settles.specs.Given.Callers.Sights.{seen_by}
-use Rattle.papaya_settles.specs.Given.Callers.Together.{UnderWay, OnKey, ForRoom, Counting, OverAll, Together, IsOneStep, HandsOver, CameAbout}
-use Rattle.papaya_settles.proofs.Given.Callers.Together.Came.{came_reached}
-use Rattle.papaya_settles.proofs.Given.Callers.Together.Users.{events_rows}
-use Rattle.papaya_settles.specs.Given.Effects.Effects.{carried, named, effects_of, known_after}
-use Rattle.papaya_settles.specs.Given.Effects.Known.{Known}
-use Rattle.papaya_settles.specs.Given.Effects.declared.acting.Acting.TheVariants as acts
-use Rattle.papaya_settles.specs.Given.Effects.declared.role.Role.{Role}
-use Rattle.papaya_settles.specs.Given.Effects.declared.role.Role.TheVariants as role
-use Rattle.papaya_settles.specs.Given.Finishes.Machines.{machine_of}
-use Rattle.papaya_settles.specs.Given.Finishes.Maps.{Standing}
-use Rattle.papaya_settles.specs.Given.Follows.Blocks.{HasRole}
-use Rattle.papaya_settles.specs.Given.Follows.Finds.{FindsMap}
-use Rattle.papaya_settles.proofs.Given.Follows.Alike.{is_calm, AllCalm, put_here, put_elsewhere}
-use Rattle.papaya_settles.proofs.Given.Follows.Contents.{pair_within}
-use Rattle.papaya_settles.proofs.Given.Follows.Onward.{IsLasting, KeepsRoles}
-use Rattle.papaya_settles.proofs.Given.Follows.RowSteps.{row_step_shown}
-use Rattle.papaya_settles.proofs.Given.Follows.Steps.{WentTo, went_to, made_so, DidSo, OfNoRow, step_shown}
-use Rattle.papaya_settles.specs.Given.Hands.Hands.{IsInUse}
-use Rattle.papaya_settles.proofs.Given.Hands.RowSteps.{rows_hand_theirs}
-use Rattle.papaya_settles.proofs.Given.Hands.Steps.{calls_store_theirs}
-use Rattle.papaya_settles.proofs.Given.Spots.Steps.{hands_nothing, stayed_calm}
-use Rattle.papaya_settles.proofs.Given.Spots.Unreclaimed.{table_is}
-use Rattle.papaya_settles.specs.Given.Moments.Whole.{ShowsWhole}
-use Rattle.papaya_settles.proofs.Given.Moments.Calls.{calls_keep_whole}
+use Rattle.papaya_settles.specs.Given.SeizeWordsMem.{value_at}
+use Rattle.papaya_settles.specs.Given.SeizeWordsWord.{block_in}
+use Rattle.papaya_settles.specs.Given.SeizeSequence.{taken_in}
+use Rattle.papaya_settles.specs.Given.SeizeDeclared.states.TheConstants.{LAST_SLOT}
+use Rattle.papaya_settles.specs.Given.SeizeWorld.{World, Row, Rests, Hand, Handed, Request, Register', Enter', Leave', LeaveOwned, Refresh, Unregister', Retire, Flush, Defer', Begins, Event, Begin, Runs, Steps', times}
+use Rattle.papaya_settles.proofs.Given.SeizeMovesSets.Unmoved.{is_in_wait}
+use Rattle.papaya_settles.proofs.Given.SeizeMovesState.Ghost.{IsPending}
+use Rattle.papaya_settles.proofs.Given.SeizeRuleWords.There.{live_pos}
+use Rattle.papaya_settles.proofs.Given.SeizeRuleWords.View.{view}
+use Rattle.papaya_settles.proofs.Given.SeizeAloneHistories.NotTaken.{did, taken_gone}
+use Rattle.papaya_settles.proofs.Given.SeizeAloneHistories.Reached.{Reached, happens_reached}
+use Rattle.papaya_settles.specs.Given.TablesNodes.{deferred_word}
+use Rattle.papaya_settles.specs.Given.TablesDeclared.node.Node.{Node}
+use Rattle.papaya_settles.specs.Given.RawDeclared.machines.machine.Machine.{Machine}
+use Rattle.papaya_settles.specs.Given.RawDeclared.machines.progress.Progress.{Progress as CallTold}
+use Rattle.papaya_settles.specs.Given.SchedulesDeclared.effect.Effect.{Effect}
+use Rattle.papaya_settles.specs.Given.SchedulesDeclared.effect.Effect.TheVariants.{Deferred, Retired}
+use Rattle.papaya_settles.specs.Given.SchedulesDeclared.effect.Table.{Table}
+use Rattle.papaya_settles.specs.Given.SchedulesDeclared.effect.Thing.{Thing}
+use Rattle.papaya_settles.specs.Given.SchedulesDeclared.effect.Thing.TheVariants.{APair, ATable}
+use Rattle.papaya_settles.specs.Given.SchedulesEffects.{with_effects, AtEachEffect}
+use Rattle.papaya_settles.specs.Given.SchedulesMoment.{Handed as IsHanded, Moment}
+use Rattle.papaya_settles.specs.Given.SchedulesReclaims.{is_handed}
+use Rattle.papaya_settles.specs.Given.SchedulesThings.{same_table}
+use Rattle.papaya_settles.specs.Given.SchedulesViews.{is_stage, is_retired}
+use Rattle.papaya_settles.specs.Given.TellerDeclared.changed.Changed.{Changed}
+use Rattle.papaya_settles.specs.Given.RuleInWorld.{AllUsers}
+use Rattle.papaya_settles.specs.Given.CallersSights.{seen_by}
+use Rattle.papaya_settles.specs.Given.CallersTogether.{UnderWay, OnKey, ForRoom, Counting, OverAll, Together, IsOneStep, HandsOver, CameAbout}
+use Rattle.papaya_settles.proofs.Given.CallersTogether.Came.{came_reached}
+use Rattle.papaya_settles.proofs.Given.CallersTogether.Users.{events_rows}
+use Rattle.papaya_settles.specs.Given.EffectsEffects.{carried, named, effects_of, known_after}
+use Rattle.papaya_settles.specs.Given.EffectsKnown.{Known}
+use Rattle.papaya_settles.specs.Given.EffectsDeclared.acting.Acting.TheVariants as acts
+use Rattle.papaya_settles.specs.Given.EffectsDeclared.role.Role.{Role}
+use Rattle.papaya_settles.specs.Given.EffectsDeclared.role.Role.TheVariants as role
+use Rattle.papaya_settles.specs.Given.FinishesMachines.{machine_of}
+use Rattle.papaya_settles.specs.Given.FinishesMaps.{Standing}
+use Rattle.papaya_settles.specs.Given.FollowsBlocks.{HasRole}
+use Rattle.papaya_settles.specs.Given.FollowsFinds.{FindsMap}
+use Rattle.papaya_settles.proofs.Given.FollowsAlike.{is_calm, AllCalm, put_here, put_elsewhere}
+use Rattle.papaya_settles.proofs.Given.FollowsContents.{pair_within}
+use Rattle.papaya_settles.proofs.Given.FollowsOnward.{IsLasting, KeepsRoles}
+use Rattle.papaya_settles.proofs.Given.FollowsRowSteps.{row_step_shown}
+use Rattle.papaya_settles.proofs.Given.FollowsSteps.{WentTo, went_to, made_so, DidSo, OfNoRow, step_shown}
+use Rattle.papaya_settles.specs.Given.HandsHands.{IsInUse}
+use Rattle.papaya_settles.proofs.Given.HandsRowSteps.{rows_hand_theirs}
+use Rattle.papaya_settles.proofs.Given.HandsSteps.{calls_store_theirs}
+use Rattle.papaya_settles.proofs.Given.SpotsSteps.{hands_nothing, stayed_calm}
+use Rattle.papaya_settles.proofs.Given.SpotsUnreclaimed.{table_is}
+use Rattle.papaya_settles.specs.Given.MomentsWhole.{ShowsWhole}
+use Rattle.papaya_settles.proofs.Given.MomentsCalls.{calls_keep_whole}
 use Rattle.papaya_settles.specs.Due.{due_in_row, told_retired, RowTells, TellsNone, TellsRetired, TellsDeferred, OwnAreMade}
 use Rattle.papaya_settles.specs.Entries.{ShowsEntries}
 use Rattle.papaya_settles.proofs.DueCalls.{rows_tell_due}
@@ -72,9 +72,9 @@ use Rattle.papaya_lives.proofs.Lives.{WaitsIn, OnWay, OnList, TakenOver}
 use Rattle.papaya_lives.proofs.RetiredCalls.{goes_on, its_call, stay, to_retire, users_handed}
 use Rattle.papaya_lives.proofs.Retires.{begun_due, handed_before, row_life}
 use Rattle.papaya_lives.proofs.Worlds.{Kept, waiting_hand}
-use Rattle.papaya_settles.specs.Given.Scenes.Held.{Held, IsAt}
-use Rattle.papaya_settles.specs.Given.Scenes.Scene.{HasCall, Scene, slot_of}
-use Rattle.papaya_settles.specs.Given.Scenes.Stepping.{StepLeads, scene_after}
+use Rattle.papaya_settles.specs.Given.ScenesHeld.{Held, IsAt}
+use Rattle.papaya_settles.specs.Given.ScenesScene.{HasCall, Scene, slot_of}
+use Rattle.papaya_settles.specs.Given.ScenesStepping.{StepLeads, scene_after}
 
 module _ {K V : Type 0} (same : K → K → Bool) (hash : ℕ → K → ℕ) (name : ℕ → List ℕ) (m : Moment K V) (known : Known) (s : Scene K V) (old new : Held K V) (at : IsAt same hash old s)
     (whole : ShowsWhole same name m known s) (entries : ShowsEntries s) (owning : OwnAreMade known s.world) (waiting : ShowsWaiting m known s.world) (retired : ShowsRetired m known s)

@@ -3,24 +3,24 @@ use Rattle.std.specs.Prelude.{◌≡◌, ◌⊎◌, ℕ, ◌≤◌, ◌==◌, Bo
 use Rattle.std.specs.List.{list_any}
 use Rattle.std.proofs.Common.{refl, ap, sym, ◌∙◌, inl, inr, arith}
 use Rattle.std.proofs.lemmas.Bool.{cases_eq, eq-eqb}
-use Rattle.papaya_settles.specs.Given.Schedules.declared.effect.Effect.{Effect}
-use Rattle.papaya_settles.specs.Given.Schedules.declared.effect.Effect.TheVariants.{Asked, PairMade, PairGivenUp, TableMade, TableGivenUp, Linked, Promoted, Copied, Stored, Replaced, Removed, Counted, Deferred, Retired, Reclaimed, Ended, Taken}
-use Rattle.papaya_settles.specs.Given.Schedules.declared.effect.Table.{Table}
-use Rattle.papaya_settles.specs.Given.Schedules.declared.effect.Thing.TheVariants.{APair, ATable}
-use Rattle.papaya_settles.specs.Given.Schedules.Effects.{at_stage, in_map, place_by, with_effect, with_effects, AtEachEffect}
-use Rattle.papaya_settles.specs.Given.Schedules.Lists.{is_among, put}
-use Rattle.papaya_settles.specs.Given.Schedules.Moment.{Place, Out, Handed as IsHanded, Behind, Left, GivenBack, Stage, IsLinked, IsRetired, IsReclaimed, IsTaken, TableThere, Deferral, Moment}
-use Rattle.papaya_settles.specs.Given.Schedules.Reclaims.{is_handed}
-use Rattle.papaya_settles.specs.Given.Schedules.Things.{same_table}
-use Rattle.papaya_settles.specs.Given.Schedules.Views.{behind, is_stage, is_retired}
-use Rattle.papaya_settles.specs.Given.Effects.Effects.{carried}
-use Rattle.papaya_settles.specs.Given.Effects.declared.role.Role.{Role}
-use Rattle.papaya_settles.specs.Given.Effects.declared.role.Role.TheVariants as role
-use Rattle.papaya_settles.specs.Given.Follows.Finds.{FindsMap}
-use Rattle.papaya_settles.proofs.Given.Follows.Alike.{put_here, put_elsewhere}
-use Rattle.papaya_settles.proofs.Given.Spots.Elsewhere.{stored_grows}
-use Rattle.papaya_settles.proofs.Given.Spots.Handing.{HandsNothing, AllHandNothing}
-use Rattle.papaya_settles.proofs.Given.Spots.Unreclaimed.{and_both, any_either, or_right, same_itself, table_is}
+use Rattle.papaya_settles.specs.Given.SchedulesDeclared.effect.Effect.{Effect}
+use Rattle.papaya_settles.specs.Given.SchedulesDeclared.effect.Effect.TheVariants.{Asked, PairMade, PairGivenUp, TableMade, TableGivenUp, Linked, Promoted, Copied, Stored, Replaced, Removed, Counted, Deferred, Retired, Reclaimed, Ended, Taken}
+use Rattle.papaya_settles.specs.Given.SchedulesDeclared.effect.Table.{Table}
+use Rattle.papaya_settles.specs.Given.SchedulesDeclared.effect.Thing.TheVariants.{APair, ATable}
+use Rattle.papaya_settles.specs.Given.SchedulesEffects.{at_stage, in_map, place_by, with_effect, with_effects, AtEachEffect}
+use Rattle.papaya_settles.specs.Given.SchedulesLists.{is_among, put}
+use Rattle.papaya_settles.specs.Given.SchedulesMoment.{Place, Out, Handed as IsHanded, Behind, Left, GivenBack, Stage, IsLinked, IsRetired, IsReclaimed, IsTaken, TableThere, Deferral, Moment}
+use Rattle.papaya_settles.specs.Given.SchedulesReclaims.{is_handed}
+use Rattle.papaya_settles.specs.Given.SchedulesThings.{same_table}
+use Rattle.papaya_settles.specs.Given.SchedulesViews.{behind, is_stage, is_retired}
+use Rattle.papaya_settles.specs.Given.EffectsEffects.{carried}
+use Rattle.papaya_settles.specs.Given.EffectsDeclared.role.Role.{Role}
+use Rattle.papaya_settles.specs.Given.EffectsDeclared.role.Role.TheVariants as role
+use Rattle.papaya_settles.specs.Given.FollowsFinds.{FindsMap}
+use Rattle.papaya_settles.proofs.Given.FollowsAlike.{put_here, put_elsewhere}
+use Rattle.papaya_settles.proofs.Given.SpotsElsewhere.{stored_grows}
+use Rattle.papaya_settles.proofs.Given.SpotsHanding.{HandsNothing, AllHandNothing}
+use Rattle.papaya_settles.proofs.Given.SpotsUnreclaimed.{and_both, any_either, or_right, same_itself, table_is}
 use Rattle.papaya_settles.specs.Due.{told_retired}
 use Rattle.papaya_lives.specs.Handed.{is_deferred}
 

@@ -1,40 +1,40 @@
 -- What is handed over after a step of the end of a map: what was so before. What waits behind a table that it takes, the collector has no more.
 use Rattle.std.specs.Prelude.{◌≡◌, ◌⊎◌, ℕ, ◌<◌, zero, suc, Bool, true, false, not, List, [], ◌∷◌, filter, Option, Some, None, IsSome, if◌then◌else◌}
 use Rattle.std.proofs.Common.{refl, ap, sym, subst, ◌∙◌, inl, inr, arith}
-use Rattle.papaya_settles.specs.Given.SeizeWords.Mem.{value_at}
-use Rattle.papaya_settles.specs.Given.Seize.declared.rows.settle.Settled.{Settled}
-use Rattle.papaya_settles.specs.Given.Seize.declared.rows.settle.Settled.TheVariants as settled
-use Rattle.papaya_settles.specs.Given.Seize.World.{World, Row, Handed, times}
-use Rattle.papaya_settles.specs.Given.Tables.Nodes.{deferred_word}
-use Rattle.papaya_settles.specs.Given.Tables.declared.node.Node.{Node}
-use Rattle.papaya_settles.specs.Given.Raw.declared.machines.end_map.EndMap.{EndMap}
-use Rattle.papaya_settles.specs.Given.Schedules.declared.effect.Effect.{Effect}
-use Rattle.papaya_settles.specs.Given.Schedules.declared.effect.Effect.TheVariants.{Retired, Reclaimed}
-use Rattle.papaya_settles.specs.Given.Schedules.declared.effect.Table.{Table}
-use Rattle.papaya_settles.specs.Given.Schedules.declared.effect.Thing.TheVariants.{APair, ATable}
-use Rattle.papaya_settles.specs.Given.Schedules.Effects.{with_effects}
-use Rattle.papaya_settles.specs.Given.Schedules.Lists.{is_among}
-use Rattle.papaya_settles.specs.Given.Schedules.Moment.{Place, Behind, Left, GivenBack, Deferral, Moment}
-use Rattle.papaya_settles.specs.Given.Schedules.Reclaims.{is_handed}
-use Rattle.papaya_settles.specs.Given.Schedules.Things.{same_table}
-use Rattle.papaya_settles.specs.Given.Schedules.Views.{behind, is_stage, is_retired}
-use Rattle.papaya_settles.specs.Given.Teller.declared.changed.Changed.{Changed}
-use Rattle.papaya_settles.specs.Given.Teller.declared.changed.Changed.TheVariants as changed
-use Rattle.papaya_settles.specs.Given.Callers.Together.{UnderWay}
-use Rattle.papaya_settles.specs.Given.Effects.Effects.{taken_by, effects_of, known_after}
-use Rattle.papaya_settles.specs.Given.Effects.Known.{Known}
-use Rattle.papaya_settles.specs.Given.Effects.declared.acting.Acting.TheVariants.{Ending}
-use Rattle.papaya_settles.specs.Given.Effects.declared.role.Role.{Role}
-use Rattle.papaya_settles.specs.Given.Effects.declared.role.Role.TheVariants as role
-use Rattle.papaya_settles.specs.Given.Finishes.Endings.{Finishing, StepsOfEnding}
-use Rattle.papaya_settles.specs.Given.Finishes.FactsEnds.{events_of, taken_by as taken_of}
-use Rattle.papaya_settles.specs.Given.Follows.Blocks.{HasRole}
-use Rattle.papaya_settles.proofs.Given.Follows.Alike.{is_calm, AllCalm, calm_still, still_all, put_here, put_elsewhere}
-use Rattle.papaya_settles.proofs.Given.Follows.Onward.{IsOfMap}
-use Rattle.papaya_settles.specs.Given.Others.Endings.{ending_after}
-use Rattle.papaya_settles.proofs.Given.Spots.Unreclaimed.{table_is}
-use Rattle.papaya_settles.specs.Given.Moments.Whole.{ShowsWhole}
-use Rattle.papaya_settles.proofs.Given.Moments.Ends.{says, end_keeps}
+use Rattle.papaya_settles.specs.Given.SeizeWordsMem.{value_at}
+use Rattle.papaya_settles.specs.Given.SeizeDeclared.rows.settle.Settled.{Settled}
+use Rattle.papaya_settles.specs.Given.SeizeDeclared.rows.settle.Settled.TheVariants as settled
+use Rattle.papaya_settles.specs.Given.SeizeWorld.{World, Row, Handed, times}
+use Rattle.papaya_settles.specs.Given.TablesNodes.{deferred_word}
+use Rattle.papaya_settles.specs.Given.TablesDeclared.node.Node.{Node}
+use Rattle.papaya_settles.specs.Given.RawDeclared.machines.end_map.EndMap.{EndMap}
+use Rattle.papaya_settles.specs.Given.SchedulesDeclared.effect.Effect.{Effect}
+use Rattle.papaya_settles.specs.Given.SchedulesDeclared.effect.Effect.TheVariants.{Retired, Reclaimed}
+use Rattle.papaya_settles.specs.Given.SchedulesDeclared.effect.Table.{Table}
+use Rattle.papaya_settles.specs.Given.SchedulesDeclared.effect.Thing.TheVariants.{APair, ATable}
+use Rattle.papaya_settles.specs.Given.SchedulesEffects.{with_effects}
+use Rattle.papaya_settles.specs.Given.SchedulesLists.{is_among}
+use Rattle.papaya_settles.specs.Given.SchedulesMoment.{Place, Behind, Left, GivenBack, Deferral, Moment}
+use Rattle.papaya_settles.specs.Given.SchedulesReclaims.{is_handed}
+use Rattle.papaya_settles.specs.Given.SchedulesThings.{same_table}
+use Rattle.papaya_settles.specs.Given.SchedulesViews.{behind, is_stage, is_retired}
+use Rattle.papaya_settles.specs.Given.TellerDeclared.changed.Changed.{Changed}
+use Rattle.papaya_settles.specs.Given.TellerDeclared.changed.Changed.TheVariants as changed
+use Rattle.papaya_settles.specs.Given.CallersTogether.{UnderWay}
+use Rattle.papaya_settles.specs.Given.EffectsEffects.{taken_by, effects_of, known_after}
+use Rattle.papaya_settles.specs.Given.EffectsKnown.{Known}
+use Rattle.papaya_settles.specs.Given.EffectsDeclared.acting.Acting.TheVariants.{Ending}
+use Rattle.papaya_settles.specs.Given.EffectsDeclared.role.Role.{Role}
+use Rattle.papaya_settles.specs.Given.EffectsDeclared.role.Role.TheVariants as role
+use Rattle.papaya_settles.specs.Given.FinishesEndings.{Finishing, StepsOfEnding}
+use Rattle.papaya_settles.specs.Given.FinishesFactsEnds.{events_of, taken_by as taken_of}
+use Rattle.papaya_settles.specs.Given.FollowsBlocks.{HasRole}
+use Rattle.papaya_settles.proofs.Given.FollowsAlike.{is_calm, AllCalm, calm_still, still_all, put_here, put_elsewhere}
+use Rattle.papaya_settles.proofs.Given.FollowsOnward.{IsOfMap}
+use Rattle.papaya_settles.specs.Given.OthersEndings.{ending_after}
+use Rattle.papaya_settles.proofs.Given.SpotsUnreclaimed.{table_is}
+use Rattle.papaya_settles.specs.Given.MomentsWhole.{ShowsWhole}
+use Rattle.papaya_settles.proofs.Given.MomentsEnds.{says, end_keeps}
 use Rattle.papaya_lives.specs.Behind.{IsLeft, LiesBehind, ShowsWaiting}
 use Rattle.papaya_lives.specs.Handed.{IsToHand, IsHandedOver, HasGone, is_deferred, ShowsHanded, EndingsKeepHanded}
 use Rattle.papaya_lives.specs.Retired.{ShowsRetired}
@@ -44,13 +44,13 @@ use Rattle.papaya_lives.proofs.HandedEffects.{IsHanding, NoneHands, deferred_spl
 use Rattle.papaya_lives.proofs.HandedOver.{came_listed, deed_alone, deed_frees, deed_leaves}
 use Rattle.papaya_lives.proofs.LeftOver.{handed_untaken}
 use Rattle.papaya_lives.proofs.Listed.{Listing}
-use Rattle.papaya_settles.proofs.Given.Callers.Together.Slots.{between_rows}
-use Rattle.papaya_settles.proofs.Given.Scenes.Between.{deed_between}
+use Rattle.papaya_settles.proofs.Given.CallersTogether.Slots.{between_rows}
+use Rattle.papaya_settles.proofs.Given.ScenesBetween.{deed_between}
 use Rattle.papaya_lives.proofs.RetiredEnds.{handed_before}
 use Rattle.papaya_lives.proofs.WaitingEnds.{calm_deferred, none_of}
-use Rattle.papaya_settles.specs.Given.Scenes.Ending.{EndingComesTo, EndingStepsFrom}
-use Rattle.papaya_settles.specs.Given.Scenes.Held.{Held, IsAt}
-use Rattle.papaya_settles.specs.Given.Scenes.Scene.{Scene, slot_of}
+use Rattle.papaya_settles.specs.Given.ScenesEnding.{EndingComesTo, EndingStepsFrom}
+use Rattle.papaya_settles.specs.Given.ScenesHeld.{Held, IsAt}
+use Rattle.papaya_settles.specs.Given.ScenesScene.{Scene, slot_of}
 
 -- effects that move no pair and no table hand nothing over
 calm_hands : (f : Effect) → is_calm f ≡ true → IsHanding f → ⊥

@@ -2,52 +2,52 @@
 use Rattle.std.specs.Prelude.{◌≡◌, ℕ, Bool, true, false, length, Option, if◌then◌else◌}
 use Rattle.std.proofs.Common.{◌+◌, refl, ap, sym, subst, ◌∙◌, inl, inr}
 use Rattle.std.proofs.lemmas.Bool.{eq-eqb}
-use Rattle.papaya_settles.specs.Given.SeizeWords.Op.{Found, Stored, Exchanged, Made, Taken, Roomed}
-use Rattle.papaya_settles.specs.Given.SeizeWords.Word.{block_in, link_to}
-use Rattle.papaya_settles.specs.Given.SeizeWords.declared.at.At.TheVariants.{Word}
-use Rattle.papaya_settles.specs.Given.Seize.Defer.{deferring}
-use Rattle.papaya_settles.specs.Given.Seize.Law.{is_retired as was_retired}
-use Rattle.papaya_settles.specs.Given.Seize.declared.rows.defer.Defer.{Defer}
-use Rattle.papaya_settles.specs.Given.Seize.declared.rows.defer.Deferring.{Deferring}
-use Rattle.papaya_settles.specs.Given.Seize.declared.rows.defer.Deferring.TheVariants as puts
-use Rattle.papaya_settles.specs.Given.Seize.declared.rows.settle.Settle.{Settle}
-use Rattle.papaya_settles.specs.Given.Seize.declared.rows.settle.Settling.{Settling}
-use Rattle.papaya_settles.specs.Given.Seize.declared.rows.settle.Settling.TheVariants as settling
-use Rattle.papaya_settles.specs.Given.Seize.declared.states.TheConstants.{LAST_SLOT}
-use Rattle.papaya_settles.specs.Given.Seize.World.{World, Row, Rests, Registers, Enters, Settles, Leaves, Defers, Frees, Defer', Begins, Steps', defers_on, with_at}
-use Rattle.papaya_settles.proofs.Given.SeizeMoves.State.Ghost.{State, is_given}
-use Rattle.papaya_settles.proofs.Given.SeizeRule.Rows.Known.{FitsRow, FitsDefer}
-use Rattle.papaya_settles.proofs.Given.SeizeRule.Rows.Told.{IsOnWay, RowTold, SettleGoes, SettleEnds, LeaveSwaps, LeaveGoes, LeaveSettled, LeaveEnds, RegisterLooks, RegisterRefused, RegisterTakes, RegisterEnters, EntersSlot, FreesSlot, DeferGoes, DeferPushes, DeferEnds}
-use Rattle.papaya_settles.proofs.Given.SeizeRule.Words.Named.{link-block}
-use Rattle.papaya_settles.proofs.Given.SeizeRule.Words.View.{view}
-use Rattle.papaya_settles.proofs.Given.SeizeRule.World.Kept.{steps_next}
-use Rattle.papaya_settles.proofs.Given.SeizeAlone.Histories.Reached.{Reached}
-use Rattle.papaya_settles.specs.Given.Tables.declared.node.Node.{Node}
-use Rattle.papaya_settles.specs.Given.Tables.declared.setting.Setting.{Setting}
-use Rattle.papaya_settles.specs.Given.Resize.declared.copier.Copying.{Copying}
-use Rattle.papaya_settles.specs.Given.Resize.declared.copier.Copying.TheVariants as copying
-use Rattle.papaya_settles.specs.Given.Resize.declared.dispose.Disposing.{Disposing}
-use Rattle.papaya_settles.specs.Given.Resize.declared.dispose.Disposing.TheVariants as disposing
-use Rattle.papaya_settles.specs.Given.Reserves.declared.reserve.Reserving.{Reserving}
-use Rattle.papaya_settles.specs.Given.Reserves.declared.reserve.Reserving.TheVariants as reserving
-use Rattle.papaya_settles.specs.Given.Sweeps.declared.sweep.Sweeping.{Sweeping}
-use Rattle.papaya_settles.specs.Given.Sweeps.declared.sweep.Sweeping.TheVariants as sweeping
-use Rattle.papaya_settles.specs.Given.Raw.declared.machines.call.Calling.{Calling}
-use Rattle.papaya_settles.specs.Given.Raw.declared.machines.call.Calling.TheVariants as calling
-use Rattle.papaya_settles.specs.Given.Rule.Chart.{Chart}
-use Rattle.papaya_settles.specs.Given.Rule.Words.{Blocks}
-use Rattle.papaya_settles.specs.Given.Callers.Rows.{row_of, row_of_disposal, row_of_copier}
-use Rattle.papaya_settles.specs.Given.Callers.Rooms.{row_of_room}
-use Rattle.papaya_settles.specs.Given.Callers.OverAll.{row_of_sweep}
-use Rattle.papaya_settles.specs.Given.Callers.Together.{UnderWay, OnKey, ForRoom, Counting, OverAll, Stands}
-use Rattle.papaya_settles.specs.Given.Finishes.Machines.{machine_of}
+use Rattle.papaya_settles.specs.Given.SeizeWordsOp.{Found, Stored, Exchanged, Made, Taken, Roomed}
+use Rattle.papaya_settles.specs.Given.SeizeWordsWord.{block_in, link_to}
+use Rattle.papaya_settles.specs.Given.SeizeWordsDeclared.at.At.TheVariants.{Word}
+use Rattle.papaya_settles.specs.Given.SeizeDefer.{deferring}
+use Rattle.papaya_settles.specs.Given.SeizeLaw.{is_retired as was_retired}
+use Rattle.papaya_settles.specs.Given.SeizeDeclared.rows.defer.Defer.{Defer}
+use Rattle.papaya_settles.specs.Given.SeizeDeclared.rows.defer.Deferring.{Deferring}
+use Rattle.papaya_settles.specs.Given.SeizeDeclared.rows.defer.Deferring.TheVariants as puts
+use Rattle.papaya_settles.specs.Given.SeizeDeclared.rows.settle.Settle.{Settle}
+use Rattle.papaya_settles.specs.Given.SeizeDeclared.rows.settle.Settling.{Settling}
+use Rattle.papaya_settles.specs.Given.SeizeDeclared.rows.settle.Settling.TheVariants as settling
+use Rattle.papaya_settles.specs.Given.SeizeDeclared.states.TheConstants.{LAST_SLOT}
+use Rattle.papaya_settles.specs.Given.SeizeWorld.{World, Row, Rests, Registers, Enters, Settles, Leaves, Defers, Frees, Defer', Begins, Steps', defers_on, with_at}
+use Rattle.papaya_settles.proofs.Given.SeizeMovesState.Ghost.{State, is_given}
+use Rattle.papaya_settles.proofs.Given.SeizeRuleRows.Known.{FitsRow, FitsDefer}
+use Rattle.papaya_settles.proofs.Given.SeizeRuleRows.Told.{IsOnWay, RowTold, SettleGoes, SettleEnds, LeaveSwaps, LeaveGoes, LeaveSettled, LeaveEnds, RegisterLooks, RegisterRefused, RegisterTakes, RegisterEnters, EntersSlot, FreesSlot, DeferGoes, DeferPushes, DeferEnds}
+use Rattle.papaya_settles.proofs.Given.SeizeRuleWords.Named.{link-block}
+use Rattle.papaya_settles.proofs.Given.SeizeRuleWords.View.{view}
+use Rattle.papaya_settles.proofs.Given.SeizeRuleWorld.Kept.{steps_next}
+use Rattle.papaya_settles.proofs.Given.SeizeAloneHistories.Reached.{Reached}
+use Rattle.papaya_settles.specs.Given.TablesDeclared.node.Node.{Node}
+use Rattle.papaya_settles.specs.Given.TablesDeclared.setting.Setting.{Setting}
+use Rattle.papaya_settles.specs.Given.ResizeDeclared.copier.Copying.{Copying}
+use Rattle.papaya_settles.specs.Given.ResizeDeclared.copier.Copying.TheVariants as copying
+use Rattle.papaya_settles.specs.Given.ResizeDeclared.dispose.Disposing.{Disposing}
+use Rattle.papaya_settles.specs.Given.ResizeDeclared.dispose.Disposing.TheVariants as disposing
+use Rattle.papaya_settles.specs.Given.ReservesDeclared.reserve.Reserving.{Reserving}
+use Rattle.papaya_settles.specs.Given.ReservesDeclared.reserve.Reserving.TheVariants as reserving
+use Rattle.papaya_settles.specs.Given.SweepsDeclared.sweep.Sweeping.{Sweeping}
+use Rattle.papaya_settles.specs.Given.SweepsDeclared.sweep.Sweeping.TheVariants as sweeping
+use Rattle.papaya_settles.specs.Given.RawDeclared.machines.call.Calling.{Calling}
+use Rattle.papaya_settles.specs.Given.RawDeclared.machines.call.Calling.TheVariants as calling
+use Rattle.papaya_settles.specs.Given.RuleChart.{Chart}
+use Rattle.papaya_settles.specs.Given.RuleWords.{Blocks}
+use Rattle.papaya_settles.specs.Given.CallersRows.{row_of, row_of_disposal, row_of_copier}
+use Rattle.papaya_settles.specs.Given.CallersRooms.{row_of_room}
+use Rattle.papaya_settles.specs.Given.CallersOverAll.{row_of_sweep}
+use Rattle.papaya_settles.specs.Given.CallersTogether.{UnderWay, OnKey, ForRoom, Counting, OverAll, Stands}
+use Rattle.papaya_settles.specs.Given.FinishesMachines.{machine_of}
 use Rattle.papaya_settles.specs.Due.{due_in_settle, due_in_defer, due_in_disposing, due_in_copying, due_in_calling, due_in_reserving, due_in_sweeping, due_in_row}
 use Rattle.papaya_lives.specs.Handed.{IsMeant, IsToHand}
 use Rattle.papaya_lives.specs.Retired.{IsDue, IsToRetire}
 use Rattle.papaya_lives.proofs.Reclaimed.{none_to_retire}
 use Rattle.papaya_lives.proofs.Rows.{on_the_way}
 use Rattle.papaya_lives.proofs.Worlds.{Kept}
-use Rattle.papaya_settles.specs.Given.Scenes.Scene.{slot_of}
+use Rattle.papaya_settles.specs.Given.ScenesScene.{slot_of}
 
 -- a settling row retires what it is meant to hand over
 pub settle_due : (b : ℕ) (c : Settle) (p : Settling) → IsMeant b (due_in_settle c p) → IsDue b (due_in_settle c p)

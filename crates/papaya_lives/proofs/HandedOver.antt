@@ -3,24 +3,24 @@
 use Rattle.std.specs.Prelude.{zero, suc, Option, Some, None, Ok, Err, IsSome, if◌then◌else◌}
 use Rattle.std.proofs.Common.{◌≡◌, ◌==◌, ◌<◌, ℕ, ◌+◌, Bool, true, false, List, [], ◌∷◌, refl, arith, ap, sym, subst, ◌∙◌}
 use Rattle.std.proofs.lemmas.Bool.{ne_eqb}
-use Rattle.papaya_settles.specs.Given.SeizeWords.Mem.{Mem, value_at, value_in, Took}
-use Rattle.papaya_settles.specs.Given.SeizeWords.Op.{Out, Make, Store, Found, Stored, Exchanged, Made, Taken, Roomed}
-use Rattle.papaya_settles.specs.Given.Seize.Sequence.{IsUsers, taken_in}
-use Rattle.papaya_settles.specs.Given.Seize.declared.states.TheConstants.{LAST_SLOT}
-use Rattle.papaya_settles.specs.Given.Seize.World.{World, Hand, NoBlock, Making, InUse, Parting, Cutting, Handed, MayCut, Request, Register', Enter', Leave', LeaveOwned, Refresh, Unregister', Retire, Flush, Defer', Begins, Event, Begin, Step, Makes, Drops, Links, Parts, Unlinks, Rewrites, Operates, Ends, LeavesOver, Relinks, Clears, Chooses, Happens, Runs, with_at, made_by, times}
-use Rattle.papaya_settles.specs.Given.SeizeWaiting.Held.{count}
-use Rattle.papaya_settles.proofs.Given.SeizeRule.Points.Aside.{HandFits}
-use Rattle.papaya_settles.proofs.Given.SeizeRule.Rows.Effects.{hand_kept}
-use Rattle.papaya_settles.proofs.Given.SeizeRule.Words.There.{value_there}
-use Rattle.papaya_settles.proofs.Given.SeizeRule.World.Events.{leaves_over_good}
-use Rattle.papaya_settles.proofs.Given.SeizeAlone.Spared.Rows.{RowStepped}
-use Rattle.papaya_settles.specs.Given.Tables.Nodes.{deferred_word}
-use Rattle.papaya_settles.specs.Given.Tables.declared.node.Node.{Node}
-use Rattle.papaya_settles.specs.Given.Rule.InWorld.{AllUsers}
-use Rattle.papaya_settles.proofs.Given.Rule.World.Hands.{at_cases}
-use Rattle.papaya_settles.specs.Given.Callers.Together.{CameAbout}
-use Rattle.papaya_settles.specs.Given.Finishes.FactsEnds.{Deed, Looks, TakesPair, LeavesTable, JoinsPair, TakesLeft, TakesCounter, WritesRoot, events_of, taken_by, left_by}
-use Rattle.papaya_settles.proofs.Given.Finishes.Ends.Frames.{that_one}
+use Rattle.papaya_settles.specs.Given.SeizeWordsMem.{Mem, value_at, value_in, Took}
+use Rattle.papaya_settles.specs.Given.SeizeWordsOp.{Out, Make, Store, Found, Stored, Exchanged, Made, Taken, Roomed}
+use Rattle.papaya_settles.specs.Given.SeizeSequence.{IsUsers, taken_in}
+use Rattle.papaya_settles.specs.Given.SeizeDeclared.states.TheConstants.{LAST_SLOT}
+use Rattle.papaya_settles.specs.Given.SeizeWorld.{World, Hand, NoBlock, Making, InUse, Parting, Cutting, Handed, MayCut, Request, Register', Enter', Leave', LeaveOwned, Refresh, Unregister', Retire, Flush, Defer', Begins, Event, Begin, Step, Makes, Drops, Links, Parts, Unlinks, Rewrites, Operates, Ends, LeavesOver, Relinks, Clears, Chooses, Happens, Runs, with_at, made_by, times}
+use Rattle.papaya_settles.specs.Given.SeizeWaitingHeld.{count}
+use Rattle.papaya_settles.proofs.Given.SeizeRulePoints.Aside.{HandFits}
+use Rattle.papaya_settles.proofs.Given.SeizeRuleRows.Effects.{hand_kept}
+use Rattle.papaya_settles.proofs.Given.SeizeRuleWords.There.{value_there}
+use Rattle.papaya_settles.proofs.Given.SeizeRuleWorld.Events.{leaves_over_good}
+use Rattle.papaya_settles.proofs.Given.SeizeAloneSpared.Rows.{RowStepped}
+use Rattle.papaya_settles.specs.Given.TablesNodes.{deferred_word}
+use Rattle.papaya_settles.specs.Given.TablesDeclared.node.Node.{Node}
+use Rattle.papaya_settles.specs.Given.RuleInWorld.{AllUsers}
+use Rattle.papaya_settles.proofs.Given.RuleWorld.Hands.{at_cases}
+use Rattle.papaya_settles.specs.Given.CallersTogether.{CameAbout}
+use Rattle.papaya_settles.specs.Given.FinishesFactsEnds.{Deed, Looks, TakesPair, LeavesTable, JoinsPair, TakesLeft, TakesCounter, WritesRoot, events_of, taken_by, left_by}
+use Rattle.papaya_settles.proofs.Given.FinishesEnds.Frames.{that_one}
 use Rattle.papaya_lives.specs.Behind.{IsLeft}
 use Rattle.papaya_lives.specs.Handed.{IsHandedOver}
 use Rattle.papaya_lives.specs.Waiting.{waits_behind, unless_it}

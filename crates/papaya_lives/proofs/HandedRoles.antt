@@ -2,26 +2,26 @@
 use Rattle.std.specs.Prelude.{◌≡◌, ◌⊎◌, ℕ, ◌+◌, ◌==◌, Bool, true, false, List, [], Option, Some, if◌then◌else◌}
 use Rattle.std.proofs.Common.{refl, ap, sym, ◌∙◌, arith, inl, inr}
 use Rattle.std.proofs.lemmas.Bool.{cases_eq}
-use Rattle.papaya_settles.specs.Given.SeizeWords.Word.{block_in}
-use Rattle.papaya_settles.specs.Given.SeizeWords.declared.at.At.TheVariants.{Root, Used, Slot, Entry, Word}
-use Rattle.papaya_settles.specs.Given.Tables.declared.table_words.TheConstants.{NEXT, DEFERRED}
-use Rattle.papaya_settles.specs.Given.Schedules.declared.effect.Effect.{Effect}
-use Rattle.papaya_settles.specs.Given.Schedules.declared.effect.Table.{Table}
-use Rattle.papaya_settles.specs.Given.Schedules.Effects.{with_effects}
-use Rattle.papaya_settles.specs.Given.Schedules.Moment.{Place, InMap, Out, Moment}
-use Rattle.papaya_settles.specs.Given.Schedules.Lists.{put}
-use Rattle.papaya_settles.specs.Given.Schedules.Views.{is_in_a_map}
-use Rattle.papaya_settles.specs.Given.Teller.declared.changed.Changed.{Changed}
-use Rattle.papaya_settles.specs.Given.Teller.declared.changed.Changed.TheVariants as changed
-use Rattle.papaya_settles.specs.Given.Teller.declared.changed.Kind.{Kind}
-use Rattle.papaya_settles.specs.Given.Teller.declared.changed.Kind.TheVariants as kind
-use Rattle.papaya_settles.specs.Given.Effects.Effects.{names_same, named, table_at, followed_by, carried, placed, spot_at, is_place, made_role, linked_on, stored_on, in_block, in_block_on, effects_of, known_after}
-use Rattle.papaya_settles.specs.Given.Effects.Known.{Known, with_role}
-use Rattle.papaya_settles.specs.Given.Effects.declared.acting.Acting.{Acting}
-use Rattle.papaya_settles.specs.Given.Effects.declared.role.Role.{Role}
-use Rattle.papaya_settles.specs.Given.Effects.declared.role.Role.TheVariants as role
-use Rattle.papaya_settles.proofs.Given.Follows.Alike.{put_here, put_elsewhere}
-use Rattle.papaya_settles.proofs.Given.Follows.Told.{roomed_as_many}
+use Rattle.papaya_settles.specs.Given.SeizeWordsWord.{block_in}
+use Rattle.papaya_settles.specs.Given.SeizeWordsDeclared.at.At.TheVariants.{Root, Used, Slot, Entry, Word}
+use Rattle.papaya_settles.specs.Given.TablesDeclared.table_words.TheConstants.{NEXT, DEFERRED}
+use Rattle.papaya_settles.specs.Given.SchedulesDeclared.effect.Effect.{Effect}
+use Rattle.papaya_settles.specs.Given.SchedulesDeclared.effect.Table.{Table}
+use Rattle.papaya_settles.specs.Given.SchedulesEffects.{with_effects}
+use Rattle.papaya_settles.specs.Given.SchedulesMoment.{Place, InMap, Out, Moment}
+use Rattle.papaya_settles.specs.Given.SchedulesLists.{put}
+use Rattle.papaya_settles.specs.Given.SchedulesViews.{is_in_a_map}
+use Rattle.papaya_settles.specs.Given.TellerDeclared.changed.Changed.{Changed}
+use Rattle.papaya_settles.specs.Given.TellerDeclared.changed.Changed.TheVariants as changed
+use Rattle.papaya_settles.specs.Given.TellerDeclared.changed.Kind.{Kind}
+use Rattle.papaya_settles.specs.Given.TellerDeclared.changed.Kind.TheVariants as kind
+use Rattle.papaya_settles.specs.Given.EffectsEffects.{names_same, named, table_at, followed_by, carried, placed, spot_at, is_place, made_role, linked_on, stored_on, in_block, in_block_on, effects_of, known_after}
+use Rattle.papaya_settles.specs.Given.EffectsKnown.{Known, with_role}
+use Rattle.papaya_settles.specs.Given.EffectsDeclared.acting.Acting.{Acting}
+use Rattle.papaya_settles.specs.Given.EffectsDeclared.role.Role.{Role}
+use Rattle.papaya_settles.specs.Given.EffectsDeclared.role.Role.TheVariants as role
+use Rattle.papaya_settles.proofs.Given.FollowsAlike.{put_here, put_elsewhere}
+use Rattle.papaya_settles.proofs.Given.FollowsTold.{roomed_as_many}
 
 module _ {K V : Type 0} (caller : Option (List ℕ)) (map : ℕ) (acting : Acting) (m : Moment K V) (known : Known) (b n : ℕ) where
   -- it was so, or these effects store it

@@ -2,39 +2,39 @@
 -- then; while no row is under way, all that is handed over was retired.
 use Rattle.std.specs.Prelude.{◌≡◌, ◌⊎◌, ℕ, nat_lt, ◌&&◌, Bool, true, false, List, [], ◌∷◌, Option, Some, None, IsSome, if◌then◌else◌}
 use Rattle.std.proofs.Common.{refl, ap, sym, subst, ◌∙◌, inl, inr}
-use Rattle.papaya_settles.specs.Given.SeizeWords.Mem.{value_at}
-use Rattle.papaya_settles.specs.Given.SeizeWords.declared.at.At.TheVariants.{Root, Used, Slot, Entry, Word}
-use Rattle.papaya_settles.specs.Given.Seize.Law.{is_retired as was_retired}
-use Rattle.papaya_settles.specs.Given.Seize.Sequence.{taken_in}
-use Rattle.papaya_settles.specs.Given.Seize.World.{World, Hand, Handed, times}
-use Rattle.papaya_settles.proofs.Given.SeizeMoves.State.Ghost.{is_given}
-use Rattle.papaya_settles.proofs.Given.SeizeRule.Rows.Effects.{hand_kept}
-use Rattle.papaya_settles.proofs.Given.SeizeAlone.Histories.Reached.{Reached}
-use Rattle.papaya_settles.proofs.Given.SeizeAlone.Spared.Rows.{RowStepped}
-use Rattle.papaya_settles.specs.Given.Tables.Nodes.{deferred_word}
-use Rattle.papaya_settles.specs.Given.Tables.declared.node.Node.{Node}
-use Rattle.papaya_settles.specs.Given.Schedules.declared.effect.Effect.TheVariants.{Asked}
-use Rattle.papaya_settles.specs.Given.Schedules.declared.effect.Growth.TheVariants.{ABucket}
-use Rattle.papaya_settles.specs.Given.Schedules.declared.effect.Table.{Table}
-use Rattle.papaya_settles.specs.Given.Schedules.Effects.{with_effects, AtEachEffect}
-use Rattle.papaya_settles.specs.Given.Schedules.Lists.{is_among}
-use Rattle.papaya_settles.specs.Given.Schedules.Moment.{Place, Behind, TableThere, Moment}
-use Rattle.papaya_settles.specs.Given.Schedules.Reclaims.{is_handed}
-use Rattle.papaya_settles.specs.Given.Schedules.Views.{behind, is_stage, is_retired}
-use Rattle.papaya_settles.specs.Given.Teller.declared.changed.Changed.{Changed}
-use Rattle.papaya_settles.specs.Given.Teller.declared.changed.Changed.TheVariants as changed
-use Rattle.papaya_settles.specs.Given.Callers.Together.{CameAbout}
-use Rattle.papaya_settles.specs.Given.Effects.Effects.{names_same, taken_by, effects_of, known_after}
-use Rattle.papaya_settles.specs.Given.Effects.Known.{Known}
-use Rattle.papaya_settles.specs.Given.Effects.declared.acting.Acting.TheVariants.{Row}
-use Rattle.papaya_settles.specs.Given.Effects.declared.role.Role.{Role}
-use Rattle.papaya_settles.specs.Given.Effects.declared.role.Role.TheVariants as role
-use Rattle.papaya_settles.specs.Given.Scenes.declared.row.RowTold.{RowTold}
-use Rattle.papaya_settles.specs.Given.Scenes.declared.row.SlotRow.{SlotRow}
-use Rattle.papaya_settles.proofs.Given.Follows.Operations.{LeavesBy}
-use Rattle.papaya_settles.proofs.Given.Others.RowPlans.{TellsRow, row_tells}
-use Rattle.papaya_settles.specs.Given.Moments.Whole.{ShowsWhole}
-use Rattle.papaya_settles.proofs.Given.Moments.OnSlots.{begun_hands}
+use Rattle.papaya_settles.specs.Given.SeizeWordsMem.{value_at}
+use Rattle.papaya_settles.specs.Given.SeizeWordsDeclared.at.At.TheVariants.{Root, Used, Slot, Entry, Word}
+use Rattle.papaya_settles.specs.Given.SeizeLaw.{is_retired as was_retired}
+use Rattle.papaya_settles.specs.Given.SeizeSequence.{taken_in}
+use Rattle.papaya_settles.specs.Given.SeizeWorld.{World, Hand, Handed, times}
+use Rattle.papaya_settles.proofs.Given.SeizeMovesState.Ghost.{is_given}
+use Rattle.papaya_settles.proofs.Given.SeizeRuleRows.Effects.{hand_kept}
+use Rattle.papaya_settles.proofs.Given.SeizeAloneHistories.Reached.{Reached}
+use Rattle.papaya_settles.proofs.Given.SeizeAloneSpared.Rows.{RowStepped}
+use Rattle.papaya_settles.specs.Given.TablesNodes.{deferred_word}
+use Rattle.papaya_settles.specs.Given.TablesDeclared.node.Node.{Node}
+use Rattle.papaya_settles.specs.Given.SchedulesDeclared.effect.Effect.TheVariants.{Asked}
+use Rattle.papaya_settles.specs.Given.SchedulesDeclared.effect.Growth.TheVariants.{ABucket}
+use Rattle.papaya_settles.specs.Given.SchedulesDeclared.effect.Table.{Table}
+use Rattle.papaya_settles.specs.Given.SchedulesEffects.{with_effects, AtEachEffect}
+use Rattle.papaya_settles.specs.Given.SchedulesLists.{is_among}
+use Rattle.papaya_settles.specs.Given.SchedulesMoment.{Place, Behind, TableThere, Moment}
+use Rattle.papaya_settles.specs.Given.SchedulesReclaims.{is_handed}
+use Rattle.papaya_settles.specs.Given.SchedulesViews.{behind, is_stage, is_retired}
+use Rattle.papaya_settles.specs.Given.TellerDeclared.changed.Changed.{Changed}
+use Rattle.papaya_settles.specs.Given.TellerDeclared.changed.Changed.TheVariants as changed
+use Rattle.papaya_settles.specs.Given.CallersTogether.{CameAbout}
+use Rattle.papaya_settles.specs.Given.EffectsEffects.{names_same, taken_by, effects_of, known_after}
+use Rattle.papaya_settles.specs.Given.EffectsKnown.{Known}
+use Rattle.papaya_settles.specs.Given.EffectsDeclared.acting.Acting.TheVariants.{Row}
+use Rattle.papaya_settles.specs.Given.EffectsDeclared.role.Role.{Role}
+use Rattle.papaya_settles.specs.Given.EffectsDeclared.role.Role.TheVariants as role
+use Rattle.papaya_settles.specs.Given.ScenesDeclared.row.RowTold.{RowTold}
+use Rattle.papaya_settles.specs.Given.ScenesDeclared.row.SlotRow.{SlotRow}
+use Rattle.papaya_settles.proofs.Given.FollowsOperations.{LeavesBy}
+use Rattle.papaya_settles.proofs.Given.OthersRowPlans.{TellsRow, row_tells}
+use Rattle.papaya_settles.specs.Given.MomentsWhole.{ShowsWhole}
+use Rattle.papaya_settles.proofs.Given.MomentsOnSlots.{begun_hands}
 use Rattle.papaya_lives.specs.Behind.{IsLeft, LiesBehind, ShowsWaiting}
 use Rattle.papaya_lives.specs.Handed.{IsToHand, IsHandedOver, HasGone, is_deferred, ShowsHanded, HadHanded, HandedBegins, OthersLeaveHanded, EndingsBeginHanded, HandedAtRest, RowsBeginHanded, RowsKeepHanded, RowsFindHanded}
 use Rattle.papaya_lives.specs.Waiting.{waits_behind}
@@ -45,15 +45,15 @@ use Rattle.papaya_lives.proofs.HandedOver.{came_listed, steps_over}
 use Rattle.papaya_lives.proofs.HandedTaken.{taking_keeps}
 use Rattle.papaya_lives.proofs.Listed.{retired_at_rest}
 use Rattle.papaya_lives.proofs.Logs.{waits_no_more}
-use Rattle.papaya_settles.proofs.Given.Scenes.NoCall.{no_call}
+use Rattle.papaya_settles.proofs.Given.ScenesNoCall.{no_call}
 use Rattle.papaya_lives.proofs.Reclaimed.{begun_rows}
 use Rattle.papaya_lives.proofs.Retires.{given_hand, handed_before}
 use Rattle.papaya_lives.proofs.Taken.{kept, it, left_unretired, not_taken, told_retired, told_taken}
 use Rattle.papaya_lives.proofs.Waiting.{begun_log, left, reached}
 use Rattle.papaya_lives.proofs.Worlds.{Kept, unretired, has_it}
-use Rattle.papaya_settles.specs.Given.Scenes.Held.{Held, IsAt}
-use Rattle.papaya_settles.specs.Given.Scenes.OnSlots.{RowLeads}
-use Rattle.papaya_settles.specs.Given.Scenes.Scene.{HasCall, IsOnSlot, Scene, slot_of}
+use Rattle.papaya_settles.specs.Given.ScenesHeld.{Held, IsAt}
+use Rattle.papaya_settles.specs.Given.ScenesOnSlots.{RowLeads}
+use Rattle.papaya_settles.specs.Given.ScenesScene.{HasCall, IsOnSlot, Scene, slot_of}
 
 module _ {K V : Type 0} (same : K → K → Bool) (hash : ℕ → K → ℕ) (name : ℕ → List ℕ) (m : Moment K V) (known : Known) (s : Scene K V) (old new : Held K V) (at : IsAt same hash old s)
     (whole : ShowsWhole same name m known s) (waiting : ShowsWaiting m known s.world) (shows : ShowsHanded m known s) (i : ℕ) (said : RowTold (Node K V)) (leads : RowLeads same hash i said s old new)

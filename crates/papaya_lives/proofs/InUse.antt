@@ -2,40 +2,40 @@
 use Rattle.std.specs.Prelude.{◌⊎◌, zero, suc, Option, Some, None, Ok, Err, is_some, IsSome, if◌then◌else◌, ◌==◌}
 use Rattle.std.proofs.Common.{◌≡◌, ◌<◌, ℕ, ◌+◌, Bool, true, false, cond, eqb, List, [], ◌∷◌, length, refl, arith, ap, sym, subst, ◌∙◌, inl, inr, eqb-true}
 use Rattle.std.proofs.lemmas.Bool.{eq-eqb}
-use Rattle.papaya_settles.specs.Given.SeizeWords.Mem.{Mem, Took, value_at, value_in, word_at}
-use Rattle.papaya_settles.specs.Given.SeizeWords.Op.{Out, Make, Found, Stored, Exchanged, Made, Taken as TakenOut, Roomed}
-use Rattle.papaya_settles.specs.Given.SeizeWords.declared.at.At.TheVariants.{Entry, Word}
-use Rattle.papaya_settles.specs.Given.Seize.Further.{IsWordOf, ListFrom, FurtherFrom, FurtherAre}
-use Rattle.papaya_settles.specs.Given.Seize.Law.{Effect, Taken}
-use Rattle.papaya_settles.specs.Given.Seize.Sequence.{IsUsers}
-use Rattle.papaya_settles.specs.Given.Seize.declared.rows.settle.Settle.{Settle}
-use Rattle.papaya_settles.specs.Given.Seize.declared.states.TheConstants.{NEXT, LAST_SLOT}
-use Rattle.papaya_settles.specs.Given.Seize.World.{World, Row, Registers, Enters, Settles, Leaves, Frees, Use, Hand, NoBlock, Making, InUse, Parting, Cutting, Handed, LeftTo, Event, Begin, Step, Makes, Drops, Links, Parts, Unlinks, Rewrites, Operates, Ends, LeavesOver, Relinks, Clears, Chooses, Happens, Runs, Steps', made_by, handed_by, times, with_at}
-use Rattle.papaya_settles.specs.Given.SeizeWaiting.Held.{count}
-use Rattle.papaya_settles.proofs.Given.SeizeWaiting.Counts.{none_counted}
-use Rattle.papaya_settles.proofs.Given.SeizeMoves.Moves.Takes.{first_doomed}
-use Rattle.papaya_settles.proofs.Given.SeizeMoves.State.Ghost.{Entry as Listed, Life, IsOwned, IsLinked, IsDeferred, State, can_carry}
-use Rattle.papaya_settles.proofs.Given.SeizeMoves.State.Moves
-use Rattle.papaya_settles.proofs.Given.SeizeMoves.State.Rule.{Inv}
-use Rattle.papaya_settles.proofs.Given.SeizeRule.Points.Aside.{HandFits}
-use Rattle.papaya_settles.proofs.Given.SeizeRule.Points.Passed.{passed_rest}
-use Rattle.papaya_settles.proofs.Given.SeizeRule.Points.Told.{Part, part, Told, Stays, Holds, HoldsNone, Gives, Begins as BeginsTry, Appends, Fills, Skips, Passes, Finds, Marks, GivesUp, Closes, Pushes, Misses, Sums, SumsLast, Drains, DrainsNone, Takes, TakesLast, Joins, Counts, CountsLast}
-use Rattle.papaya_settles.proofs.Given.SeizeRule.Rows.SizesKept.{happens_sized}
-use Rattle.papaya_settles.proofs.Given.SeizeRule.Rows.Told.{list_off, IsOnWay, RowTold, SettleGoes, SettleEnds, LeaveSwaps, LeaveGoes, LeaveSettled, LeaveEnds, RegisterLooks, RegisterRefused, RegisterTakes, RegisterEnters, EntersSlot, FreesSlot, DeferGoes, DeferPushes, DeferEnds}
-use Rattle.papaya_settles.proofs.Given.SeizeRule.Words.Chains.{Chain}
-use Rattle.papaya_settles.proofs.Given.SeizeRule.Words.Lists.{some_word, list_from, deferred_of}
-use Rattle.papaya_settles.proofs.Given.SeizeRule.Words.Named.{word_found}
-use Rattle.papaya_settles.proofs.Given.SeizeRule.Words.Shows.{DeferredIs, DrainedIs, CarrierIs, lives}
-use Rattle.papaya_settles.proofs.Given.SeizeRule.Words.There.{entry_there, list_there, value_there}
-use Rattle.papaya_settles.proofs.Given.SeizeRule.Words.View.{view, list_in}
-use Rattle.papaya_settles.proofs.Given.SeizeRule.World.Good.{Good, Next}
-use Rattle.papaya_settles.proofs.Given.SeizeRule.World.Kept.{IsStill, steps_next, users_good}
-use Rattle.papaya_settles.proofs.Given.SeizeAlone.Histories.Hands.{times_counted}
-use Rattle.papaya_settles.proofs.Given.SeizeAlone.Histories.Reached.{Reached, happens_reached}
-use Rattle.papaya_settles.proofs.Given.SeizeAlone.Spared.Rows.{RowStepped, row_stepped}
-use Rattle.papaya_settles.specs.Given.Rule.InWorld.{AllUsers}
-use Rattle.papaya_settles.proofs.Given.Rule.World.Hands.{at_cases}
-use Rattle.papaya_settles.specs.Given.Follows.Blocks.{WasLinked}
+use Rattle.papaya_settles.specs.Given.SeizeWordsMem.{Mem, Took, value_at, value_in, word_at}
+use Rattle.papaya_settles.specs.Given.SeizeWordsOp.{Out, Make, Found, Stored, Exchanged, Made, Taken as TakenOut, Roomed}
+use Rattle.papaya_settles.specs.Given.SeizeWordsDeclared.at.At.TheVariants.{Entry, Word}
+use Rattle.papaya_settles.specs.Given.SeizeFurther.{IsWordOf, ListFrom, FurtherFrom, FurtherAre}
+use Rattle.papaya_settles.specs.Given.SeizeLaw.{Effect, Taken}
+use Rattle.papaya_settles.specs.Given.SeizeSequence.{IsUsers}
+use Rattle.papaya_settles.specs.Given.SeizeDeclared.rows.settle.Settle.{Settle}
+use Rattle.papaya_settles.specs.Given.SeizeDeclared.states.TheConstants.{NEXT, LAST_SLOT}
+use Rattle.papaya_settles.specs.Given.SeizeWorld.{World, Row, Registers, Enters, Settles, Leaves, Frees, Use, Hand, NoBlock, Making, InUse, Parting, Cutting, Handed, LeftTo, Event, Begin, Step, Makes, Drops, Links, Parts, Unlinks, Rewrites, Operates, Ends, LeavesOver, Relinks, Clears, Chooses, Happens, Runs, Steps', made_by, handed_by, times, with_at}
+use Rattle.papaya_settles.specs.Given.SeizeWaitingHeld.{count}
+use Rattle.papaya_settles.proofs.Given.SeizeWaitingCounts.{none_counted}
+use Rattle.papaya_settles.proofs.Given.SeizeMovesMoves.Takes.{first_doomed}
+use Rattle.papaya_settles.proofs.Given.SeizeMovesState.Ghost.{Entry as Listed, Life, IsOwned, IsLinked, IsDeferred, State, can_carry}
+use Rattle.papaya_settles.proofs.Given.SeizeMovesState.Moves
+use Rattle.papaya_settles.proofs.Given.SeizeMovesState.Rule.{Inv}
+use Rattle.papaya_settles.proofs.Given.SeizeRulePoints.Aside.{HandFits}
+use Rattle.papaya_settles.proofs.Given.SeizeRulePoints.Passed.{passed_rest}
+use Rattle.papaya_settles.proofs.Given.SeizeRulePoints.Told.{Part, part, Told, Stays, Holds, HoldsNone, Gives, Begins as BeginsTry, Appends, Fills, Skips, Passes, Finds, Marks, GivesUp, Closes, Pushes, Misses, Sums, SumsLast, Drains, DrainsNone, Takes, TakesLast, Joins, Counts, CountsLast}
+use Rattle.papaya_settles.proofs.Given.SeizeRuleRows.SizesKept.{happens_sized}
+use Rattle.papaya_settles.proofs.Given.SeizeRuleRows.Told.{list_off, IsOnWay, RowTold, SettleGoes, SettleEnds, LeaveSwaps, LeaveGoes, LeaveSettled, LeaveEnds, RegisterLooks, RegisterRefused, RegisterTakes, RegisterEnters, EntersSlot, FreesSlot, DeferGoes, DeferPushes, DeferEnds}
+use Rattle.papaya_settles.proofs.Given.SeizeRuleWords.Chains.{Chain}
+use Rattle.papaya_settles.proofs.Given.SeizeRuleWords.Lists.{some_word, list_from, deferred_of}
+use Rattle.papaya_settles.proofs.Given.SeizeRuleWords.Named.{word_found}
+use Rattle.papaya_settles.proofs.Given.SeizeRuleWords.Shows.{DeferredIs, DrainedIs, CarrierIs, lives}
+use Rattle.papaya_settles.proofs.Given.SeizeRuleWords.There.{entry_there, list_there, value_there}
+use Rattle.papaya_settles.proofs.Given.SeizeRuleWords.View.{view, list_in}
+use Rattle.papaya_settles.proofs.Given.SeizeRuleWorld.Good.{Good, Next}
+use Rattle.papaya_settles.proofs.Given.SeizeRuleWorld.Kept.{IsStill, steps_next, users_good}
+use Rattle.papaya_settles.proofs.Given.SeizeAloneHistories.Hands.{times_counted}
+use Rattle.papaya_settles.proofs.Given.SeizeAloneHistories.Reached.{Reached, happens_reached}
+use Rattle.papaya_settles.proofs.Given.SeizeAloneSpared.Rows.{RowStepped, row_stepped}
+use Rattle.papaya_settles.specs.Given.RuleInWorld.{AllUsers}
+use Rattle.papaya_settles.proofs.Given.RuleWorld.Hands.{at_cases}
+use Rattle.papaya_settles.specs.Given.FollowsBlocks.{WasLinked}
 use Rattle.papaya_lives.specs.Waiting.{IsPutting}
 use Rattle.papaya_lives.proofs.RetiredEnds.{handed_lives}
 use Rattle.papaya_lives.proofs.Listed.{carrier}

@@ -2,45 +2,45 @@
 use Rattle.std.specs.Prelude.{◌≡◌, ◌⊎◌, ◌<◌, ◌≤◌, ◌+◌, ℕ, zero, suc, Bool, false, List, [], ◌∷◌, ◌++◌, map, Option, Some, None, IsSome}
 use Rattle.std.proofs.Common.{refl, ap, sym, subst, ◌∙◌, inl, inr, arith}
 use Rattle.std.proofs.lemmas.Bool.{cases_eq}
-use Rattle.papaya_settles.specs.Given.SeizeWords.Mem.{value_at}
-use Rattle.papaya_settles.specs.Given.Seize.declared.rows.settle.Settled.{Settled}
-use Rattle.papaya_settles.specs.Given.Seize.declared.rows.settle.Settled.TheVariants as settled
-use Rattle.papaya_settles.specs.Given.Seize.declared.states.TheConstants.{LAST_SLOT}
-use Rattle.papaya_settles.specs.Given.Seize.World.{LeftTo, times, with_at}
-use Rattle.papaya_settles.proofs.Given.SeizeRule.Words.There.{value_there}
-use Rattle.papaya_settles.proofs.Given.SeizeAlone.Histories.Reached.{Reached, runs_reached}
-use Rattle.papaya_settles.specs.Given.Tables.Chunks.{is_incremental}
-use Rattle.papaya_settles.specs.Given.Tables.Nodes.{deferred_word}
-use Rattle.papaya_settles.specs.Given.Tables.declared.node.Node.{Node}
-use Rattle.papaya_settles.specs.Given.Raw.declared.machines.end_map.EndMap.{EndMap}
-use Rattle.papaya_settles.specs.Given.Schedules.declared.effect.Table.{Table}
-use Rattle.papaya_settles.specs.Given.Schedules.Moment.{Moment}
-use Rattle.papaya_settles.specs.Given.Callers.Kept.{IsPair}
-use Rattle.papaya_settles.proofs.Given.Callers.Together.At.{at_same, at_other}
-use Rattle.papaya_settles.proofs.Given.Callers.Together.Came.{came_reached}
-use Rattle.papaya_settles.specs.Given.Effects.Effects.{known_after}
-use Rattle.papaya_settles.specs.Given.Effects.Known.{Known}
-use Rattle.papaya_settles.specs.Given.Effects.declared.acting.Acting.TheVariants.{Ending}
-use Rattle.papaya_settles.specs.Given.Effects.declared.role.Role.{Role}
-use Rattle.papaya_settles.specs.Given.Effects.declared.role.Role.TheVariants as role
-use Rattle.papaya_settles.specs.Given.Finishes.Endings.{Finishing, HasFinished, StepsOfEnding, waiting_by}
-use Rattle.papaya_settles.specs.Given.Finishes.FactsEnds.{events_of, from_table, taken_by as taken_of, left_by}
-use Rattle.papaya_settles.specs.Given.Finishes.Orders.{pairs_of}
-use Rattle.papaya_settles.proofs.Given.Finishes.Ends.CountedBlocks.{times-append, some_last}
-use Rattle.papaya_settles.proofs.Given.Finishes.Ends.OrdersOn.{table_later}
-use Rattle.papaya_settles.specs.Given.Follows.Blocks.{HasRole}
-use Rattle.papaya_settles.proofs.Given.Follows.Onward.{IsOfMap}
-use Rattle.papaya_settles.specs.Given.Others.Endings.{ending_after}
-use Rattle.papaya_settles.specs.Given.Moments.Whole.{ShowsWhole}
-use Rattle.papaya_settles.proofs.Given.Moments.Ends.{end_keeps}
-use Rattle.papaya_settles.proofs.Given.Moments.OnSlots.{none_some}
+use Rattle.papaya_settles.specs.Given.SeizeWordsMem.{value_at}
+use Rattle.papaya_settles.specs.Given.SeizeDeclared.rows.settle.Settled.{Settled}
+use Rattle.papaya_settles.specs.Given.SeizeDeclared.rows.settle.Settled.TheVariants as settled
+use Rattle.papaya_settles.specs.Given.SeizeDeclared.states.TheConstants.{LAST_SLOT}
+use Rattle.papaya_settles.specs.Given.SeizeWorld.{LeftTo, times, with_at}
+use Rattle.papaya_settles.proofs.Given.SeizeRuleWords.There.{value_there}
+use Rattle.papaya_settles.proofs.Given.SeizeAloneHistories.Reached.{Reached, runs_reached}
+use Rattle.papaya_settles.specs.Given.TablesChunks.{is_incremental}
+use Rattle.papaya_settles.specs.Given.TablesNodes.{deferred_word}
+use Rattle.papaya_settles.specs.Given.TablesDeclared.node.Node.{Node}
+use Rattle.papaya_settles.specs.Given.RawDeclared.machines.end_map.EndMap.{EndMap}
+use Rattle.papaya_settles.specs.Given.SchedulesDeclared.effect.Table.{Table}
+use Rattle.papaya_settles.specs.Given.SchedulesMoment.{Moment}
+use Rattle.papaya_settles.specs.Given.CallersKept.{IsPair}
+use Rattle.papaya_settles.proofs.Given.CallersTogether.At.{at_same, at_other}
+use Rattle.papaya_settles.proofs.Given.CallersTogether.Came.{came_reached}
+use Rattle.papaya_settles.specs.Given.EffectsEffects.{known_after}
+use Rattle.papaya_settles.specs.Given.EffectsKnown.{Known}
+use Rattle.papaya_settles.specs.Given.EffectsDeclared.acting.Acting.TheVariants.{Ending}
+use Rattle.papaya_settles.specs.Given.EffectsDeclared.role.Role.{Role}
+use Rattle.papaya_settles.specs.Given.EffectsDeclared.role.Role.TheVariants as role
+use Rattle.papaya_settles.specs.Given.FinishesEndings.{Finishing, HasFinished, StepsOfEnding, waiting_by}
+use Rattle.papaya_settles.specs.Given.FinishesFactsEnds.{events_of, from_table, taken_by as taken_of, left_by}
+use Rattle.papaya_settles.specs.Given.FinishesOrders.{pairs_of}
+use Rattle.papaya_settles.proofs.Given.FinishesEnds.CountedBlocks.{times-append, some_last}
+use Rattle.papaya_settles.proofs.Given.FinishesEnds.OrdersOn.{table_later}
+use Rattle.papaya_settles.specs.Given.FollowsBlocks.{HasRole}
+use Rattle.papaya_settles.proofs.Given.FollowsOnward.{IsOfMap}
+use Rattle.papaya_settles.specs.Given.OthersEndings.{ending_after}
+use Rattle.papaya_settles.specs.Given.MomentsWhole.{ShowsWhole}
+use Rattle.papaya_settles.proofs.Given.MomentsEnds.{end_keeps}
+use Rattle.papaya_settles.proofs.Given.MomentsOnSlots.{none_some}
 use Rattle.papaya_lives.specs.Behind.{IsLeft}
 use Rattle.papaya_lives.specs.LeftTables.{IsToTake, ShowsLeft, EndingsKeepLeft}
 use Rattle.papaya_lives.proofs.Users.{left_lives}
 use Rattle.papaya_lives.proofs.WaitingEnds.{none_of}
-use Rattle.papaya_settles.specs.Given.Scenes.Ending.{EndingComesTo, EndingStepsFrom, ending_goes}
-use Rattle.papaya_settles.specs.Given.Scenes.Held.{Held, IsAt}
-use Rattle.papaya_settles.specs.Given.Scenes.Scene.{Scene, slot_of}
+use Rattle.papaya_settles.specs.Given.ScenesEnding.{EndingComesTo, EndingStepsFrom, ending_goes}
+use Rattle.papaya_settles.specs.Given.ScenesHeld.{Held, IsAt}
+use Rattle.papaya_settles.specs.Given.ScenesScene.{Scene, slot_of}
 
 module _ {K V : Type 0} (same : K → K → Bool) (hash : ℕ → K → ℕ) (name : ℕ → List ℕ) (m : Moment K V) (known : Known) (s : Scene K V) (old new : Held K V) (at : IsAt same hash old s)
     (whole : ShowsWhole same name m known s) (shows : ShowsLeft known s) (i : ℕ) (f : Finishing K V) (here : s.enders i ≡ Some f) (end : EndMap) (said : Settled (Node K V))

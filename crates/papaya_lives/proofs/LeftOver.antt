@@ -2,18 +2,18 @@
 use Rattle.std.specs.Prelude.{◌≡◌, ◌⊎◌, ◌<◌, ◌+◌, ℕ, Bool, cond, List, [], ◌∷◌, Option, Some, if◌then◌else◌}
 use Rattle.std.proofs.Common.{refl, ap, sym, subst, ◌∙◌, inl, inr, arith}
 use Rattle.std.proofs.lemmas.Bool.{cases_eq, eq-eqb}
-use Rattle.papaya_settles.specs.Given.SeizeWords.Op.{Store}
-use Rattle.papaya_settles.specs.Given.Seize.World.{World, Hand, NoBlock, Making, InUse, Parting, Cutting, Handed, LeftTo, MayCut, Drops, Unlinks, Operates, LeavesOver, Relinks, Clears, Happens, Runs, times}
-use Rattle.papaya_settles.specs.Given.Seize.declared.states.TheConstants.{LAST_SLOT}
-use Rattle.papaya_settles.proofs.Given.SeizeMoves.Moves.Takes.{first_doomed}
-use Rattle.papaya_settles.proofs.Given.SeizeMoves.Sets.Unmoved.{is_in_wait}
-use Rattle.papaya_settles.proofs.Given.SeizeMoves.State.Ghost.{Life, IsUnlinked, IsDeferring, IsDeferred, IsLeft as IsLeftOver, State, can_carry, lies_with}
-use Rattle.papaya_settles.proofs.Given.SeizeMoves.State.Moves.{left_over, left_with}
-use Rattle.papaya_settles.proofs.Given.SeizeRule.Points.Aside.{HandFits, is_handed}
-use Rattle.papaya_settles.proofs.Given.SeizeRule.World.Events.{leaves_over_good}
-use Rattle.papaya_settles.proofs.Given.SeizeRule.World.Good.{Good}
-use Rattle.papaya_settles.specs.Given.Finishes.FactsEnds.{Deed, Looks, TakesPair, LeavesTable, JoinsPair, TakesLeft, TakesCounter, WritesRoot, events_of, taken_by, left_by}
-use Rattle.papaya_settles.proofs.Given.Finishes.Ends.Frames.{that_one}
+use Rattle.papaya_settles.specs.Given.SeizeWordsOp.{Store}
+use Rattle.papaya_settles.specs.Given.SeizeWorld.{World, Hand, NoBlock, Making, InUse, Parting, Cutting, Handed, LeftTo, MayCut, Drops, Unlinks, Operates, LeavesOver, Relinks, Clears, Happens, Runs, times}
+use Rattle.papaya_settles.specs.Given.SeizeDeclared.states.TheConstants.{LAST_SLOT}
+use Rattle.papaya_settles.proofs.Given.SeizeMovesMoves.Takes.{first_doomed}
+use Rattle.papaya_settles.proofs.Given.SeizeMovesSets.Unmoved.{is_in_wait}
+use Rattle.papaya_settles.proofs.Given.SeizeMovesState.Ghost.{Life, IsUnlinked, IsDeferring, IsDeferred, IsLeft as IsLeftOver, State, can_carry, lies_with}
+use Rattle.papaya_settles.proofs.Given.SeizeMovesState.Moves.{left_over, left_with}
+use Rattle.papaya_settles.proofs.Given.SeizeRulePoints.Aside.{HandFits, is_handed}
+use Rattle.papaya_settles.proofs.Given.SeizeRuleWorld.Events.{leaves_over_good}
+use Rattle.papaya_settles.proofs.Given.SeizeRuleWorld.Good.{Good}
+use Rattle.papaya_settles.specs.Given.FinishesFactsEnds.{Deed, Looks, TakesPair, LeavesTable, JoinsPair, TakesLeft, TakesCounter, WritesRoot, events_of, taken_by, left_by}
+use Rattle.papaya_settles.proofs.Given.FinishesEnds.Frames.{that_one}
 use Rattle.papaya_lives.specs.Behind.{IsLeft}
 use Rattle.papaya_lives.specs.Waiting.{waits_behind}
 use Rattle.papaya_lives.proofs.Lives.{WaitsIn, OnWay, OnList, TakenOver, elsewhere, other_block}

@@ -1,42 +1,42 @@
 -- No step but one of the end of a map leaves a block over; so a table that is left over is to be reclaimed by the same end still.
 use Rattle.std.specs.Prelude.{◌≡◌, ℕ, Bool, List, [], ◌∷◌, Option, Some, Ok, Err}
 use Rattle.std.proofs.Common.{refl, ap, sym, subst, ◌∙◌, inl, inr}
-use Rattle.papaya_settles.specs.Given.SeizeWords.Mem.{Mem}
-use Rattle.papaya_settles.specs.Given.SeizeWords.Op.{Out, Found, Stored, Exchanged, Made, Taken, Roomed}
-use Rattle.papaya_settles.specs.Given.Seize.Law.{Effect, Taken as TakenBlock}
-use Rattle.papaya_settles.specs.Given.Seize.Sequence.{IsUsers}
-use Rattle.papaya_settles.specs.Given.Seize.World.{World, Hand, NoBlock, Making as IsMade, InUse, Parting, Cutting, Handed, LeftTo, Request, Register', Enter', Leave', LeaveOwned, Refresh, Unregister', Retire, Flush, Defer', Event, Begin, Step, Makes, Drops, Links, Parts, Unlinks, Rewrites, Operates, Ends, LeavesOver, Relinks, Clears, Chooses, Begins, Steps', Happens, Runs, handed_by, with_at, made_by}
-use Rattle.papaya_settles.proofs.Given.SeizeAlone.Histories.NotTaken.{did}
-use Rattle.papaya_settles.proofs.Given.SeizeAlone.Histories.Reached.{Reached, happens_reached}
-use Rattle.papaya_settles.specs.Given.Tables.Nodes.{deferred_word}
-use Rattle.papaya_settles.specs.Given.Tables.declared.node.Node.{Node}
-use Rattle.papaya_settles.specs.Given.Tables.declared.setting.Setting.{Setting}
-use Rattle.papaya_settles.specs.Given.Raw.declared.machines.progress.Progress.{Progress}
-use Rattle.papaya_settles.specs.Given.Schedules.declared.effect.Table.{Table}
-use Rattle.papaya_settles.specs.Given.Schedules.Moment.{Moment}
-use Rattle.papaya_settles.specs.Given.Rule.InWorld.{AllUsers}
-use Rattle.papaya_settles.proofs.Given.Rule.World.Hands.{at_cases}
-use Rattle.papaya_settles.specs.Given.Callers.Together.{UnderWay, OnKey, ForRoom, Counting, OverAll, IsOneStep}
-use Rattle.papaya_settles.proofs.Given.Callers.Together.At.{at_other}
-use Rattle.papaya_settles.proofs.Given.Callers.Together.Came.{came_reached}
-use Rattle.papaya_settles.specs.Given.Effects.Effects.{known_after}
-use Rattle.papaya_settles.specs.Given.Effects.Known.{Known}
-use Rattle.papaya_settles.specs.Given.Effects.declared.acting.Acting.TheVariants.{Call, Making, Row}
-use Rattle.papaya_settles.specs.Given.Effects.declared.role.Role.TheVariants as role
-use Rattle.papaya_settles.specs.Given.Finishes.Endings.{Finishing, finishing_of}
-use Rattle.papaya_settles.proofs.Given.Follows.Steps.{WentTo, went_to, DidSo}
-use Rattle.papaya_settles.proofs.Given.Others.RowPlans.{row_tells}
-use Rattle.papaya_settles.specs.Given.Moments.Whole.{ShowsWhole}
-use Rattle.papaya_settles.proofs.Given.Moments.OnSlots.{begun_hands}
+use Rattle.papaya_settles.specs.Given.SeizeWordsMem.{Mem}
+use Rattle.papaya_settles.specs.Given.SeizeWordsOp.{Out, Found, Stored, Exchanged, Made, Taken, Roomed}
+use Rattle.papaya_settles.specs.Given.SeizeLaw.{Effect, Taken as TakenBlock}
+use Rattle.papaya_settles.specs.Given.SeizeSequence.{IsUsers}
+use Rattle.papaya_settles.specs.Given.SeizeWorld.{World, Hand, NoBlock, Making as IsMade, InUse, Parting, Cutting, Handed, LeftTo, Request, Register', Enter', Leave', LeaveOwned, Refresh, Unregister', Retire, Flush, Defer', Event, Begin, Step, Makes, Drops, Links, Parts, Unlinks, Rewrites, Operates, Ends, LeavesOver, Relinks, Clears, Chooses, Begins, Steps', Happens, Runs, handed_by, with_at, made_by}
+use Rattle.papaya_settles.proofs.Given.SeizeAloneHistories.NotTaken.{did}
+use Rattle.papaya_settles.proofs.Given.SeizeAloneHistories.Reached.{Reached, happens_reached}
+use Rattle.papaya_settles.specs.Given.TablesNodes.{deferred_word}
+use Rattle.papaya_settles.specs.Given.TablesDeclared.node.Node.{Node}
+use Rattle.papaya_settles.specs.Given.TablesDeclared.setting.Setting.{Setting}
+use Rattle.papaya_settles.specs.Given.RawDeclared.machines.progress.Progress.{Progress}
+use Rattle.papaya_settles.specs.Given.SchedulesDeclared.effect.Table.{Table}
+use Rattle.papaya_settles.specs.Given.SchedulesMoment.{Moment}
+use Rattle.papaya_settles.specs.Given.RuleInWorld.{AllUsers}
+use Rattle.papaya_settles.proofs.Given.RuleWorld.Hands.{at_cases}
+use Rattle.papaya_settles.specs.Given.CallersTogether.{UnderWay, OnKey, ForRoom, Counting, OverAll, IsOneStep}
+use Rattle.papaya_settles.proofs.Given.CallersTogether.At.{at_other}
+use Rattle.papaya_settles.proofs.Given.CallersTogether.Came.{came_reached}
+use Rattle.papaya_settles.specs.Given.EffectsEffects.{known_after}
+use Rattle.papaya_settles.specs.Given.EffectsKnown.{Known}
+use Rattle.papaya_settles.specs.Given.EffectsDeclared.acting.Acting.TheVariants.{Call, Making, Row}
+use Rattle.papaya_settles.specs.Given.EffectsDeclared.role.Role.TheVariants as role
+use Rattle.papaya_settles.specs.Given.FinishesEndings.{Finishing, finishing_of}
+use Rattle.papaya_settles.proofs.Given.FollowsSteps.{WentTo, went_to, DidSo}
+use Rattle.papaya_settles.proofs.Given.OthersRowPlans.{row_tells}
+use Rattle.papaya_settles.specs.Given.MomentsWhole.{ShowsWhole}
+use Rattle.papaya_settles.proofs.Given.MomentsOnSlots.{begun_hands}
 use Rattle.papaya_settles.specs.Due.{OwnAreMade}
 use Rattle.papaya_lives.specs.Behind.{IsLeft}
 use Rattle.papaya_lives.specs.LeftTables.{IsToTake, ShowsLeft, LeftBegins, OthersKeepLeft, EndingsBeginLeft, NoneIsLeftTo, NoneIsLeft, WhereNoneIsLeft, RowsBeginLeft, RowsKeepLeft, MakingsKeepLeft, CallsKeepLeft}
 use Rattle.papaya_lives.proofs.Reclaimed.{stays_so}
 use Rattle.papaya_lives.proofs.Stages.{WasTable, role_back}
-use Rattle.papaya_settles.specs.Given.Scenes.Ending.{ending_begun}
-use Rattle.papaya_settles.specs.Given.Scenes.Held.{Held, IsAt}
-use Rattle.papaya_settles.specs.Given.Scenes.Scene.{Scene, slot_of}
-use Rattle.papaya_settles.specs.Given.Scenes.Stepping.{StepLeads, scene_after}
+use Rattle.papaya_settles.specs.Given.ScenesEnding.{ending_begun}
+use Rattle.papaya_settles.specs.Given.ScenesHeld.{Held, IsAt}
+use Rattle.papaya_settles.specs.Given.ScenesScene.{Scene, slot_of}
+use Rattle.papaya_settles.specs.Given.ScenesStepping.{StepLeads, scene_after}
 
 -- what is left over to somebody then was so before
 module _ {T : Type 0} (defers : T → Option ℕ) (size b j : ℕ) where

@@ -3,32 +3,32 @@
 use Rattle.std.specs.Prelude.{◌⊎◌, zero, suc, Option, Some, None, if◌then◌else◌}
 use Rattle.std.proofs.Common.{◌≡◌, ◌<◌, ℕ, ◌+◌, Bool, true, false, cond, eqb, List, [], ◌∷◌, length, refl, arith, ap, sym, subst, ◌∙◌, inl, inr, eqb-true}
 use Rattle.std.proofs.lemmas.Bool.{cases_eq, eq-eqb, ne_eqb}
-use Rattle.papaya_settles.specs.Given.Seize.Further.{IsWordOf}
-use Rattle.papaya_settles.specs.Given.Seize.Law.{Effect, Entered, Left, Retired, Taken, is_retired}
-use Rattle.papaya_settles.specs.Given.Seize.Sequence.{taken_in}
-use Rattle.papaya_settles.specs.Given.Seize.declared.rows.settle.Settle.{Settle}
-use Rattle.papaya_settles.specs.Given.Seize.declared.states.TheConstants.{LAST_SLOT}
-use Rattle.papaya_settles.specs.Given.Seize.World.{World, Row, Rests, Hand, NoBlock, Making, InUse, Parting, Cutting, Handed, LeftTo, MayCut, Use, Request, Register', Enter', Leave', LeaveOwned, Refresh, Unregister', Retire, Flush, Defer', Begins, Event, Begin, Step, Makes, Drops, Links, Parts, Unlinks, Rewrites, Operates, Ends, LeavesOver, Relinks, Clears, Chooses, Happens, Runs, Steps', at_start, times, handed_by}
-use Rattle.papaya_settles.specs.Given.SeizeWaiting.Held.{count}
-use Rattle.papaya_settles.proofs.Given.SeizeMoves.Moves.Takes.{first_doomed}
-use Rattle.papaya_settles.proofs.Given.SeizeMoves.Sets.Unmoved.{Unmoved}
-use Rattle.papaya_settles.proofs.Given.SeizeMoves.State.Ghost.{Entry, Life, IsFree, IsOwned, IsLinked, IsUnlinked, IsDeferring, IsDeferred, IsPending, IsIn, IsDoomed, State, can_carry, is_deferred, is_given, is_pending, lies_with}
-use Rattle.papaya_settles.proofs.Given.SeizeMoves.State.Moves
-use Rattle.papaya_settles.proofs.Given.SeizeRule.Points.Aside.{HandFits, is_handed}
-use Rattle.papaya_settles.proofs.Given.SeizeRule.Points.Passed.{passed_rest}
-use Rattle.papaya_settles.proofs.Given.SeizeRule.Points.Told.{Part, part, Told, Stays, Holds, HoldsNone, Gives, Begins as BeginsTry, Appends, Fills, Skips, Passes, Finds, Marks, GivesUp, Closes, Pushes, Misses, Sums, SumsLast, Drains, DrainsNone, Takes, TakesLast, Joins, Counts, CountsLast}
-use Rattle.papaya_settles.proofs.Given.SeizeRule.Rows.Effects.{IsOneStep}
-use Rattle.papaya_settles.proofs.Given.SeizeRule.Rows.Known.{FitsRow}
-use Rattle.papaya_settles.proofs.Given.SeizeRule.Rows.Told.{list_off, RowTold, SettleGoes, SettleEnds, LeaveSwaps, LeaveGoes, LeaveSettled, LeaveEnds, RegisterLooks, RegisterRefused, RegisterTakes, RegisterEnters, EntersSlot, FreesSlot, DeferGoes, DeferPushes, DeferEnds, BeginTold}
-use Rattle.papaya_settles.proofs.Given.SeizeRule.Words.Named.{link}
-use Rattle.papaya_settles.proofs.Given.SeizeRule.Words.Shows.{lives}
-use Rattle.papaya_settles.proofs.Given.SeizeRule.Words.View.{view}
-use Rattle.papaya_settles.proofs.Given.SeizeRule.World.Begins.{begins_next}
-use Rattle.papaya_settles.proofs.Given.SeizeRule.World.Events.{leaves_over_good}
-use Rattle.papaya_settles.proofs.Given.SeizeRule.World.Good.{Good, Next}
-use Rattle.papaya_settles.proofs.Given.SeizeRule.World.Kept.{IsStill, steps_next, users_good}
-use Rattle.papaya_settles.proofs.Given.SeizeRule.World.Start.{start_good, start_state}
-use Rattle.papaya_settles.proofs.Given.SeizeAlone.Spared.Rows.{RowStepped, row_stepped}
+use Rattle.papaya_settles.specs.Given.SeizeFurther.{IsWordOf}
+use Rattle.papaya_settles.specs.Given.SeizeLaw.{Effect, Entered, Left, Retired, Taken, is_retired}
+use Rattle.papaya_settles.specs.Given.SeizeSequence.{taken_in}
+use Rattle.papaya_settles.specs.Given.SeizeDeclared.rows.settle.Settle.{Settle}
+use Rattle.papaya_settles.specs.Given.SeizeDeclared.states.TheConstants.{LAST_SLOT}
+use Rattle.papaya_settles.specs.Given.SeizeWorld.{World, Row, Rests, Hand, NoBlock, Making, InUse, Parting, Cutting, Handed, LeftTo, MayCut, Use, Request, Register', Enter', Leave', LeaveOwned, Refresh, Unregister', Retire, Flush, Defer', Begins, Event, Begin, Step, Makes, Drops, Links, Parts, Unlinks, Rewrites, Operates, Ends, LeavesOver, Relinks, Clears, Chooses, Happens, Runs, Steps', at_start, times, handed_by}
+use Rattle.papaya_settles.specs.Given.SeizeWaitingHeld.{count}
+use Rattle.papaya_settles.proofs.Given.SeizeMovesMoves.Takes.{first_doomed}
+use Rattle.papaya_settles.proofs.Given.SeizeMovesSets.Unmoved.{Unmoved}
+use Rattle.papaya_settles.proofs.Given.SeizeMovesState.Ghost.{Entry, Life, IsFree, IsOwned, IsLinked, IsUnlinked, IsDeferring, IsDeferred, IsPending, IsIn, IsDoomed, State, can_carry, is_deferred, is_given, is_pending, lies_with}
+use Rattle.papaya_settles.proofs.Given.SeizeMovesState.Moves
+use Rattle.papaya_settles.proofs.Given.SeizeRulePoints.Aside.{HandFits, is_handed}
+use Rattle.papaya_settles.proofs.Given.SeizeRulePoints.Passed.{passed_rest}
+use Rattle.papaya_settles.proofs.Given.SeizeRulePoints.Told.{Part, part, Told, Stays, Holds, HoldsNone, Gives, Begins as BeginsTry, Appends, Fills, Skips, Passes, Finds, Marks, GivesUp, Closes, Pushes, Misses, Sums, SumsLast, Drains, DrainsNone, Takes, TakesLast, Joins, Counts, CountsLast}
+use Rattle.papaya_settles.proofs.Given.SeizeRuleRows.Effects.{IsOneStep}
+use Rattle.papaya_settles.proofs.Given.SeizeRuleRows.Known.{FitsRow}
+use Rattle.papaya_settles.proofs.Given.SeizeRuleRows.Told.{list_off, RowTold, SettleGoes, SettleEnds, LeaveSwaps, LeaveGoes, LeaveSettled, LeaveEnds, RegisterLooks, RegisterRefused, RegisterTakes, RegisterEnters, EntersSlot, FreesSlot, DeferGoes, DeferPushes, DeferEnds, BeginTold}
+use Rattle.papaya_settles.proofs.Given.SeizeRuleWords.Named.{link}
+use Rattle.papaya_settles.proofs.Given.SeizeRuleWords.Shows.{lives}
+use Rattle.papaya_settles.proofs.Given.SeizeRuleWords.View.{view}
+use Rattle.papaya_settles.proofs.Given.SeizeRuleWorld.Begins.{begins_next}
+use Rattle.papaya_settles.proofs.Given.SeizeRuleWorld.Events.{leaves_over_good}
+use Rattle.papaya_settles.proofs.Given.SeizeRuleWorld.Good.{Good, Next}
+use Rattle.papaya_settles.proofs.Given.SeizeRuleWorld.Kept.{IsStill, steps_next, users_good}
+use Rattle.papaya_settles.proofs.Given.SeizeRuleWorld.Start.{start_good, start_state}
+use Rattle.papaya_settles.proofs.Given.SeizeAloneSpared.Rows.{RowStepped, row_stepped}
 use Rattle.papaya_lives.specs.Behind.{IsLeft}
 use Rattle.papaya_lives.specs.Waiting.{IsPutting, waits_behind}
 use Rattle.papaya_lives.proofs.Lives.{WaitsIn, OnWay, OnList, TakenOver}

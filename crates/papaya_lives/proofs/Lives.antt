@@ -2,16 +2,16 @@
 -- next. The moves of a settling row leave it so, unless they take that block.
 use Rattle.std.proofs.Common.{◌≡◌, ℕ, Bool, true, false, cond, eqb, List, [], ◌∷◌, refl, arith, ap, sym, subst, ◌∙◌, eqb-true, ne_eqb}
 use Rattle.std.specs.Prelude.{Some}
-use Rattle.papaya_settles.specs.Given.Seize.Law.{Taken}
-use Rattle.papaya_settles.specs.Given.Seize.declared.rows.settle.Settle.{Settle}
-use Rattle.papaya_settles.proofs.Given.SeizeMoves.Moves.Takes.{first_doomed}
-use Rattle.papaya_settles.proofs.Given.SeizeMoves.Moves.Tries.{first_pending}
-use Rattle.papaya_settles.proofs.Given.SeizeMoves.Sets.Unmoved.{is_in_wait, Unmoved}
-use Rattle.papaya_settles.proofs.Given.SeizeMoves.State.Ghost.{put, Life, IsFree, IsDeferring, IsDeferred, IsPending, IsIn, IsLeft, State, is_given}
-use Rattle.papaya_settles.proofs.Given.SeizeMoves.State.Moves
-use Rattle.papaya_settles.proofs.Given.SeizeMoves.State.Rule.{Inv}
-use Rattle.papaya_settles.proofs.Given.SeizeRule.Points.Passed.{passed_rest}
-use Rattle.papaya_settles.proofs.Given.SeizeRule.Points.Told.{Part, Told, Stays, Holds, HoldsNone, Gives, Begins, Appends, Fills, Skips, Passes, Finds, Marks, GivesUp, Closes, Pushes, Misses, Sums, SumsLast, Drains, DrainsNone, Takes, TakesLast, Joins, Counts, CountsLast, NoneLeft}
+use Rattle.papaya_settles.specs.Given.SeizeLaw.{Taken}
+use Rattle.papaya_settles.specs.Given.SeizeDeclared.rows.settle.Settle.{Settle}
+use Rattle.papaya_settles.proofs.Given.SeizeMovesMoves.Takes.{first_doomed}
+use Rattle.papaya_settles.proofs.Given.SeizeMovesMoves.Tries.{first_pending}
+use Rattle.papaya_settles.proofs.Given.SeizeMovesSets.Unmoved.{is_in_wait, Unmoved}
+use Rattle.papaya_settles.proofs.Given.SeizeMovesState.Ghost.{put, Life, IsFree, IsDeferring, IsDeferred, IsPending, IsIn, IsLeft, State, is_given}
+use Rattle.papaya_settles.proofs.Given.SeizeMovesState.Moves
+use Rattle.papaya_settles.proofs.Given.SeizeMovesState.Rule.{Inv}
+use Rattle.papaya_settles.proofs.Given.SeizeRulePoints.Passed.{passed_rest}
+use Rattle.papaya_settles.proofs.Given.SeizeRulePoints.Told.{Part, Told, Stays, Holds, HoldsNone, Gives, Begins, Appends, Fills, Skips, Passes, Finds, Marks, GivesUp, Closes, Pushes, Misses, Sums, SumsLast, Drains, DrainsNone, Takes, TakesLast, Joins, Counts, CountsLast, NoneLeft}
 use Rattle.papaya_lives.specs.Waiting.{waits_behind}
 use Rattle.papaya_lives.proofs.Logs.{unless_is}
 

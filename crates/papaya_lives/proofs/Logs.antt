@@ -2,10 +2,10 @@
 use Rattle.std.specs.Prelude.{Option, Some, None, ◌==◌, ◌++◌, if◌then◌else◌}
 use Rattle.std.proofs.Common.{◌≡◌, ℕ, ◌+◌, Bool, true, false, List, [], ◌∷◌, refl, arith, ap, ◌∙◌}
 use Rattle.std.proofs.lemmas.Bool.{eq-eqb}
-use Rattle.papaya_settles.specs.Given.Seize.Law.{Effect, Entered, Left, Retired, Taken}
-use Rattle.papaya_settles.specs.Given.Seize.Sequence.{taken_in}
-use Rattle.papaya_settles.specs.Given.Seize.World.{times}
-use Rattle.papaya_settles.proofs.Given.SeizeRule.Rows.Effects.{IsOneStep}
+use Rattle.papaya_settles.specs.Given.SeizeLaw.{Effect, Entered, Left, Retired, Taken}
+use Rattle.papaya_settles.specs.Given.SeizeSequence.{taken_in}
+use Rattle.papaya_settles.specs.Given.SeizeWorld.{times}
+use Rattle.papaya_settles.proofs.Given.SeizeRuleRows.Effects.{IsOneStep}
 use Rattle.papaya_lives.specs.Waiting.{unless_it, waits_behind}
 
 -- a block that waits behind one which is not this block

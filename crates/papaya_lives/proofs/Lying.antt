@@ -2,49 +2,49 @@
 use Rattle.std.specs.Prelude.{◌≡◌, ◌⊎◌, ℕ, ◌==◌, nat_lt, ◌&&◌, ◌||◌, Bool, true, false, not, List, [], ◌∷◌, map, filter, Some, None, if◌then◌else◌}
 use Rattle.std.proofs.Common.{refl, ap, sym, subst, ◌∙◌, inl, inr}
 use Rattle.std.proofs.lemmas.Bool.{cases_eq, eq-eqb}
-use Rattle.papaya_settles.specs.Given.SeizeWords.Mem.{value_at}
-use Rattle.papaya_settles.specs.Given.SeizeWords.declared.at.At.TheVariants.{Root, Used, Slot, Entry, Word}
-use Rattle.papaya_settles.specs.Given.Seize.Law.{Effect as LogEffect, With, where_is}
-use Rattle.papaya_settles.specs.Given.Seize.World.{World, Row as Under, Steps'}
-use Rattle.papaya_settles.proofs.Given.SeizeAlone.Histories.NotTaken.{did}
-use Rattle.papaya_settles.proofs.Given.SeizeAlone.Histories.Reached.{Reached}
-use Rattle.papaya_settles.specs.Given.Tables.Nodes.{deferred_word}
-use Rattle.papaya_settles.specs.Given.Tables.declared.node.Node.{Node}
-use Rattle.papaya_settles.specs.Given.Schedules.declared.effect.Effect.TheVariants.{Asked}
-use Rattle.papaya_settles.specs.Given.Schedules.declared.effect.Growth.TheVariants.{ABucket}
-use Rattle.papaya_settles.specs.Given.Schedules.declared.effect.Table.{Table}
-use Rattle.papaya_settles.specs.Given.Schedules.Effects.{with_effects}
-use Rattle.papaya_settles.specs.Given.Schedules.Lists.{is_among}
-use Rattle.papaya_settles.specs.Given.Schedules.Moment.{Deferral, Moment}
-use Rattle.papaya_settles.specs.Given.Schedules.Things.{same_table}
-use Rattle.papaya_settles.specs.Given.Schedules.Views.{behind}
-use Rattle.papaya_settles.specs.Given.Teller.declared.changed.Changed.{Changed}
-use Rattle.papaya_settles.specs.Given.Teller.declared.changed.Changed.TheVariants as changed
-use Rattle.papaya_settles.proofs.Given.Callers.Rows.Behind.{carrier_not_made, events_back, row_back}
-use Rattle.papaya_settles.proofs.Given.Callers.Together.Came.{came_reached}
-use Rattle.papaya_settles.proofs.Given.Callers.Together.Users.{events_rows}
-use Rattle.papaya_settles.specs.Given.Effects.Effects.{names_same, taken_by, effects_of, known_after}
-use Rattle.papaya_settles.specs.Given.Effects.Known.{Known, with_role}
-use Rattle.papaya_settles.specs.Given.Effects.declared.acting.Acting.TheVariants.{Making, Row}
-use Rattle.papaya_settles.specs.Given.Effects.declared.role.Role.{Role}
-use Rattle.papaya_settles.specs.Given.Effects.declared.role.Role.TheVariants as role
-use Rattle.papaya_settles.specs.Given.Scenes.declared.row.SlotRow.{SlotRow}
-use Rattle.papaya_settles.specs.Given.Scenes.declared.row.SlotRow.TheVariants as rows
-use Rattle.papaya_settles.specs.Given.Follows.Blocks.{HasRole}
-use Rattle.papaya_settles.proofs.Given.Follows.Alike.{put_here, put_elsewhere}
-use Rattle.papaya_settles.proofs.Given.Follows.Onward.{IsOfMap}
-use Rattle.papaya_settles.proofs.Given.Follows.Operations.{LeavesBy}
-use Rattle.papaya_settles.proofs.Given.Follows.Told.{roomed_as_many}
-use Rattle.papaya_settles.proofs.Given.Others.RowPlans.{TellsRow, row_tells}
-use Rattle.papaya_settles.proofs.Given.Spots.Unreclaimed.{table_is, same_itself}
-use Rattle.papaya_settles.specs.Given.Moments.Whole.{ShowsWhole}
+use Rattle.papaya_settles.specs.Given.SeizeWordsMem.{value_at}
+use Rattle.papaya_settles.specs.Given.SeizeWordsDeclared.at.At.TheVariants.{Root, Used, Slot, Entry, Word}
+use Rattle.papaya_settles.specs.Given.SeizeLaw.{Effect as LogEffect, With, where_is}
+use Rattle.papaya_settles.specs.Given.SeizeWorld.{World, Row as Under, Steps'}
+use Rattle.papaya_settles.proofs.Given.SeizeAloneHistories.NotTaken.{did}
+use Rattle.papaya_settles.proofs.Given.SeizeAloneHistories.Reached.{Reached}
+use Rattle.papaya_settles.specs.Given.TablesNodes.{deferred_word}
+use Rattle.papaya_settles.specs.Given.TablesDeclared.node.Node.{Node}
+use Rattle.papaya_settles.specs.Given.SchedulesDeclared.effect.Effect.TheVariants.{Asked}
+use Rattle.papaya_settles.specs.Given.SchedulesDeclared.effect.Growth.TheVariants.{ABucket}
+use Rattle.papaya_settles.specs.Given.SchedulesDeclared.effect.Table.{Table}
+use Rattle.papaya_settles.specs.Given.SchedulesEffects.{with_effects}
+use Rattle.papaya_settles.specs.Given.SchedulesLists.{is_among}
+use Rattle.papaya_settles.specs.Given.SchedulesMoment.{Deferral, Moment}
+use Rattle.papaya_settles.specs.Given.SchedulesThings.{same_table}
+use Rattle.papaya_settles.specs.Given.SchedulesViews.{behind}
+use Rattle.papaya_settles.specs.Given.TellerDeclared.changed.Changed.{Changed}
+use Rattle.papaya_settles.specs.Given.TellerDeclared.changed.Changed.TheVariants as changed
+use Rattle.papaya_settles.proofs.Given.CallersRows.Behind.{carrier_not_made, events_back, row_back}
+use Rattle.papaya_settles.proofs.Given.CallersTogether.Came.{came_reached}
+use Rattle.papaya_settles.proofs.Given.CallersTogether.Users.{events_rows}
+use Rattle.papaya_settles.specs.Given.EffectsEffects.{names_same, taken_by, effects_of, known_after}
+use Rattle.papaya_settles.specs.Given.EffectsKnown.{Known, with_role}
+use Rattle.papaya_settles.specs.Given.EffectsDeclared.acting.Acting.TheVariants.{Making, Row}
+use Rattle.papaya_settles.specs.Given.EffectsDeclared.role.Role.{Role}
+use Rattle.papaya_settles.specs.Given.EffectsDeclared.role.Role.TheVariants as role
+use Rattle.papaya_settles.specs.Given.ScenesDeclared.row.SlotRow.{SlotRow}
+use Rattle.papaya_settles.specs.Given.ScenesDeclared.row.SlotRow.TheVariants as rows
+use Rattle.papaya_settles.specs.Given.FollowsBlocks.{HasRole}
+use Rattle.papaya_settles.proofs.Given.FollowsAlike.{put_here, put_elsewhere}
+use Rattle.papaya_settles.proofs.Given.FollowsOnward.{IsOfMap}
+use Rattle.papaya_settles.proofs.Given.FollowsOperations.{LeavesBy}
+use Rattle.papaya_settles.proofs.Given.FollowsTold.{roomed_as_many}
+use Rattle.papaya_settles.proofs.Given.OthersRowPlans.{TellsRow, row_tells}
+use Rattle.papaya_settles.proofs.Given.SpotsUnreclaimed.{table_is, same_itself}
+use Rattle.papaya_settles.specs.Given.MomentsWhole.{ShowsWhole}
 use Rattle.papaya_lives.specs.Lying.{IsToldBehind, IsPutThere, ShowsLying, LyingBegins, OthersLeaveLying, EndingsBeginLying, RowsBeginLying, RowsKeepLying, MakingsKeepLying}
 use Rattle.papaya_lives.specs.Waiting.{IsPutting}
 use Rattle.papaya_lives.proofs.Makings.{role_kept, apart}
 use Rattle.papaya_lives.proofs.Reclaimed.{begun_rows, stays_so}
 use Rattle.papaya_lives.proofs.Stages.{WasTable, role_back}
 use Rattle.papaya_lives.proofs.Waiting.{begun_log, reached, left}
-use Rattle.papaya_settles.specs.Given.Scenes.Scene.{Scene, row_of, slot_of}
+use Rattle.papaya_settles.specs.Given.ScenesScene.{Scene, row_of, slot_of}
 
 -- what waits behind one table does so still where what waits behind another one goes
 module _ (n : ℕ) (t u : Table) (other : t ≡ u → ⊥) where

@@ -2,46 +2,46 @@
 use Rattle.std.specs.Prelude.{◌≡◌, ◌≢◌, ◌⊎◌, ℕ, eqb, Bool, true, cond, ◌+◌, List, [], ◌∷◌, Option, Some, None}
 use Rattle.std.proofs.Common.{refl, ap, sym, subst, ◌∙◌, inl, inr}
 use Rattle.std.proofs.lemmas.Bool.{cases_eq, eq-eqb, ne_eqb}
-use Rattle.papaya_settles.specs.Given.SeizeWords.Word.{block_in}
-use Rattle.papaya_settles.specs.Given.SeizeWords.declared.at.At.{At}
-use Rattle.papaya_settles.specs.Given.Seize.Further.{IsWordOf}
-use Rattle.papaya_settles.specs.Given.Seize.Law.{With, Nowhere, is_standing, where_is}
-use Rattle.papaya_settles.specs.Given.Seize.declared.states.TheConstants.{LAST_SLOT}
-use Rattle.papaya_settles.specs.Given.Seize.World.{World, Row, Rests, Registers, Enters, Settles, Leaves, Defers, Frees, Request, Register', Enter', Leave', LeaveOwned, Refresh, Unregister', Retire, Flush, Defer', Event, Begin, Begins, Runs, Steps', with_at}
-use Rattle.papaya_settles.proofs.Given.SeizeRule.World.Kept.{steps_next}
-use Rattle.papaya_settles.proofs.Given.SeizeRule.Words.Named.{link-block}
-use Rattle.papaya_settles.proofs.Given.SeizeAlone.Histories.Reached.{Reached, happens_reached}
-use Rattle.papaya_settles.specs.Given.Tables.Nodes.{deferred_word}
-use Rattle.papaya_settles.specs.Given.Tables.declared.node.Node.{Node}
-use Rattle.papaya_settles.specs.Given.Raw.declared.machines.machine.Machine.{Machine}
-use Rattle.papaya_settles.specs.Given.Raw.declared.machines.progress.Progress.{Progress}
-use Rattle.papaya_settles.specs.Given.Raw.declared.machines.progress.Progress.TheVariants as progress
-use Rattle.papaya_settles.specs.Given.Schedules.declared.effect.Effect.{Effect}
-use Rattle.papaya_settles.specs.Given.Schedules.declared.effect.Table.{Table}
-use Rattle.papaya_settles.specs.Given.Schedules.Effects.{with_effects}
-use Rattle.papaya_settles.specs.Given.Schedules.Lists.{is_among}
-use Rattle.papaya_settles.specs.Given.Schedules.Moment.{Deferral, Moment}
-use Rattle.papaya_settles.specs.Given.Schedules.Views.{behind}
-use Rattle.papaya_settles.specs.Given.Rule.InWorld.{AllUsers}
-use Rattle.papaya_settles.specs.Given.Callers.Sights.{seen_by}
-use Rattle.papaya_settles.specs.Given.Callers.Together.{UnderWay, OnKey, ForRoom, Counting, OverAll, Together, HandsOver, IsOneStep}
-use Rattle.papaya_settles.proofs.Given.Callers.Rows.Behind.{carrier_not_made, deferred_behind, events_back, row_back}
-use Rattle.papaya_settles.proofs.Given.Callers.Together.At.{at_same}
-use Rattle.papaya_settles.proofs.Given.Callers.Together.Came.{came_reached}
-use Rattle.papaya_settles.proofs.Given.Callers.Together.Users.{events_rows}
-use Rattle.papaya_settles.specs.Given.Effects.Effects.{carried, named, effects_of, known_after}
-use Rattle.papaya_settles.specs.Given.Effects.Known.{Known}
-use Rattle.papaya_settles.specs.Given.Effects.declared.acting.Acting.TheVariants.{Call}
-use Rattle.papaya_settles.specs.Given.Effects.declared.role.Role.{Role}
-use Rattle.papaya_settles.specs.Given.Effects.declared.role.Role.TheVariants as role
-use Rattle.papaya_settles.specs.Given.Finishes.Machines.{machine_of, GoesOnAs}
-use Rattle.papaya_settles.specs.Given.Finishes.Maps.{Standing}
-use Rattle.papaya_settles.proofs.Given.Follows.Onward.{IsLasting, KeepsRoles}
-use Rattle.papaya_settles.proofs.Given.Follows.RowSteps.{row_step_shown}
-use Rattle.papaya_settles.proofs.Given.Follows.Steps.{WentTo, went_to, DidSo, OfNoRow, step_shown}
-use Rattle.papaya_settles.proofs.Given.Hands.RowSteps.{rows_hand_theirs}
-use Rattle.papaya_settles.proofs.Given.Hands.Steps.{calls_store_theirs}
-use Rattle.papaya_settles.specs.Given.Moments.Whole.{ShowsWhole}
+use Rattle.papaya_settles.specs.Given.SeizeWordsWord.{block_in}
+use Rattle.papaya_settles.specs.Given.SeizeWordsDeclared.at.At.{At}
+use Rattle.papaya_settles.specs.Given.SeizeFurther.{IsWordOf}
+use Rattle.papaya_settles.specs.Given.SeizeLaw.{With, Nowhere, is_standing, where_is}
+use Rattle.papaya_settles.specs.Given.SeizeDeclared.states.TheConstants.{LAST_SLOT}
+use Rattle.papaya_settles.specs.Given.SeizeWorld.{World, Row, Rests, Registers, Enters, Settles, Leaves, Defers, Frees, Request, Register', Enter', Leave', LeaveOwned, Refresh, Unregister', Retire, Flush, Defer', Event, Begin, Begins, Runs, Steps', with_at}
+use Rattle.papaya_settles.proofs.Given.SeizeRuleWorld.Kept.{steps_next}
+use Rattle.papaya_settles.proofs.Given.SeizeRuleWords.Named.{link-block}
+use Rattle.papaya_settles.proofs.Given.SeizeAloneHistories.Reached.{Reached, happens_reached}
+use Rattle.papaya_settles.specs.Given.TablesNodes.{deferred_word}
+use Rattle.papaya_settles.specs.Given.TablesDeclared.node.Node.{Node}
+use Rattle.papaya_settles.specs.Given.RawDeclared.machines.machine.Machine.{Machine}
+use Rattle.papaya_settles.specs.Given.RawDeclared.machines.progress.Progress.{Progress}
+use Rattle.papaya_settles.specs.Given.RawDeclared.machines.progress.Progress.TheVariants as progress
+use Rattle.papaya_settles.specs.Given.SchedulesDeclared.effect.Effect.{Effect}
+use Rattle.papaya_settles.specs.Given.SchedulesDeclared.effect.Table.{Table}
+use Rattle.papaya_settles.specs.Given.SchedulesEffects.{with_effects}
+use Rattle.papaya_settles.specs.Given.SchedulesLists.{is_among}
+use Rattle.papaya_settles.specs.Given.SchedulesMoment.{Deferral, Moment}
+use Rattle.papaya_settles.specs.Given.SchedulesViews.{behind}
+use Rattle.papaya_settles.specs.Given.RuleInWorld.{AllUsers}
+use Rattle.papaya_settles.specs.Given.CallersSights.{seen_by}
+use Rattle.papaya_settles.specs.Given.CallersTogether.{UnderWay, OnKey, ForRoom, Counting, OverAll, Together, HandsOver, IsOneStep}
+use Rattle.papaya_settles.proofs.Given.CallersRows.Behind.{carrier_not_made, deferred_behind, events_back, row_back}
+use Rattle.papaya_settles.proofs.Given.CallersTogether.At.{at_same}
+use Rattle.papaya_settles.proofs.Given.CallersTogether.Came.{came_reached}
+use Rattle.papaya_settles.proofs.Given.CallersTogether.Users.{events_rows}
+use Rattle.papaya_settles.specs.Given.EffectsEffects.{carried, named, effects_of, known_after}
+use Rattle.papaya_settles.specs.Given.EffectsKnown.{Known}
+use Rattle.papaya_settles.specs.Given.EffectsDeclared.acting.Acting.TheVariants.{Call}
+use Rattle.papaya_settles.specs.Given.EffectsDeclared.role.Role.{Role}
+use Rattle.papaya_settles.specs.Given.EffectsDeclared.role.Role.TheVariants as role
+use Rattle.papaya_settles.specs.Given.FinishesMachines.{machine_of, GoesOnAs}
+use Rattle.papaya_settles.specs.Given.FinishesMaps.{Standing}
+use Rattle.papaya_settles.proofs.Given.FollowsOnward.{IsLasting, KeepsRoles}
+use Rattle.papaya_settles.proofs.Given.FollowsRowSteps.{row_step_shown}
+use Rattle.papaya_settles.proofs.Given.FollowsSteps.{WentTo, went_to, DidSo, OfNoRow, step_shown}
+use Rattle.papaya_settles.proofs.Given.HandsRowSteps.{rows_hand_theirs}
+use Rattle.papaya_settles.proofs.Given.HandsSteps.{calls_store_theirs}
+use Rattle.papaya_settles.specs.Given.MomentsWhole.{ShowsWhole}
 use Rattle.papaya_settles.specs.Due.{ToPut, due_in_row, told_retired, RowTells, TellsNone, TellsRetired, TellsDeferred, OwnAreMade}
 use Rattle.papaya_settles.specs.Entries.{ShowsEntries}
 use Rattle.papaya_settles.specs.Hand.{IsPairRole, ShowsOwed}
@@ -55,9 +55,9 @@ use Rattle.papaya_lives.proofs.LyingRows.{HasPut, put_on, begun_puts, PutsSo, pu
 use Rattle.papaya_lives.proofs.Once.{more}
 use Rattle.papaya_lives.proofs.Puts.{to_put}
 use Rattle.papaya_lives.proofs.Stages.{WasTable, role_back}
-use Rattle.papaya_settles.specs.Given.Scenes.Held.{Held, IsAt}
-use Rattle.papaya_settles.specs.Given.Scenes.Scene.{Scene, slot_of}
-use Rattle.papaya_settles.specs.Given.Scenes.Stepping.{StepLeads, scene_after}
+use Rattle.papaya_settles.specs.Given.ScenesHeld.{Held, IsAt}
+use Rattle.papaya_settles.specs.Given.ScenesScene.{Scene, slot_of}
+use Rattle.papaya_settles.specs.Given.ScenesStepping.{StepLeads, scene_after}
 
 -- a row that has put its block rests not yet
 put_busy : (row : Row) → HasPut row → row ≡ Rests → ⊥

@@ -2,49 +2,49 @@
 use Rattle.std.specs.Prelude.{◌≡◌, ◌≢◌, ◌⊎◌, ℕ, Bool, Option, Some, if◌then◌else◌}
 use Rattle.std.proofs.Common.{refl, ap, sym, subst, ◌∙◌, inl, inr}
 use Rattle.std.proofs.lemmas.Bool.{eq-eqb}
-use Rattle.papaya_settles.specs.Given.SeizeWords.declared.at.At.{At}
-use Rattle.papaya_settles.specs.Given.SeizeWords.declared.at.At.TheVariants.{Root, Used, Slot, Entry, Word}
-use Rattle.papaya_settles.specs.Given.SeizeWords.Op.{Found, Stored, Exchanged, Made, Taken, Roomed}
-use Rattle.papaya_settles.specs.Given.SeizeWords.Word.{link_to}
-use Rattle.papaya_settles.specs.Given.Seize.Defer.{deferring}
-use Rattle.papaya_settles.specs.Given.Seize.Further.{IsWordOf}
-use Rattle.papaya_settles.specs.Given.Seize.declared.progress.Progress.{Progress as Deferring}
-use Rattle.papaya_settles.specs.Given.Seize.declared.rows.defer.Defer.{Defer}
-use Rattle.papaya_settles.specs.Given.Seize.declared.rows.defer.Deferring.{Deferring as Point}
-use Rattle.papaya_settles.specs.Given.Seize.declared.rows.defer.Deferring.TheVariants as at
-use Rattle.papaya_settles.specs.Given.Seize.World.{World, Row, Rests, Registers, Enters, Settles, Leaves, Defers, Frees, Use, Defer', Begins, Steps', defers_on, with_at}
-use Rattle.papaya_settles.proofs.Given.SeizeMoves.State.Ghost.{State}
-use Rattle.papaya_settles.proofs.Given.SeizeRule.Rows.Told.{RowTold, SettleGoes, SettleEnds, LeaveSwaps, LeaveGoes, LeaveSettled, LeaveEnds, RegisterLooks, RegisterRefused, RegisterTakes, RegisterEnters, EntersSlot, FreesSlot, DeferGoes, DeferPushes, DeferEnds}
-use Rattle.papaya_settles.specs.Given.Tables.declared.node.Node.{Node}
-use Rattle.papaya_settles.specs.Given.Tables.declared.setting.Setting.{Setting}
-use Rattle.papaya_settles.specs.Given.Resize.declared.copier.Copying.{Copying}
-use Rattle.papaya_settles.specs.Given.Resize.declared.copier.Copying.TheVariants as copying
-use Rattle.papaya_settles.specs.Given.Resize.declared.dispose.Disposing.{Disposing}
-use Rattle.papaya_settles.specs.Given.Resize.declared.dispose.Disposing.TheVariants as disposing
-use Rattle.papaya_settles.specs.Given.Reserves.declared.reserve.Reserving.{Reserving}
-use Rattle.papaya_settles.specs.Given.Reserves.declared.reserve.Reserving.TheVariants as reserving
-use Rattle.papaya_settles.specs.Given.Sweeps.declared.sweep.Sweeping.{Sweeping}
-use Rattle.papaya_settles.specs.Given.Sweeps.declared.sweep.Sweeping.TheVariants as sweeping
-use Rattle.papaya_settles.specs.Given.Raw.declared.machines.call.Calling.{Calling}
-use Rattle.papaya_settles.specs.Given.Raw.declared.machines.call.Calling.TheVariants as calling
-use Rattle.papaya_settles.specs.Given.Raw.declared.machines.machine.Machine.{Machine}
-use Rattle.papaya_settles.specs.Given.Raw.declared.machines.machine.Machine.TheVariants as kinds
-use Rattle.papaya_settles.specs.Given.Rule.Chart.{Chart}
-use Rattle.papaya_settles.specs.Given.Rule.Words.{Blocks}
-use Rattle.papaya_settles.specs.Given.Callers.Rows.{row_of, row_of_disposal, row_of_copier}
-use Rattle.papaya_settles.specs.Given.Callers.Rooms.{row_of_room}
-use Rattle.papaya_settles.specs.Given.Callers.OverAll.{row_of_sweep}
-use Rattle.papaya_settles.specs.Given.Callers.Together.{UnderWay, OnKey, ForRoom, Counting, OverAll, Stands}
-use Rattle.papaya_settles.specs.Given.Effects.Effects.{named}
-use Rattle.papaya_settles.specs.Given.Effects.Known.{Known}
-use Rattle.papaya_settles.specs.Given.Finishes.Machines.{machine_of}
+use Rattle.papaya_settles.specs.Given.SeizeWordsDeclared.at.At.{At}
+use Rattle.papaya_settles.specs.Given.SeizeWordsDeclared.at.At.TheVariants.{Root, Used, Slot, Entry, Word}
+use Rattle.papaya_settles.specs.Given.SeizeWordsOp.{Found, Stored, Exchanged, Made, Taken, Roomed}
+use Rattle.papaya_settles.specs.Given.SeizeWordsWord.{link_to}
+use Rattle.papaya_settles.specs.Given.SeizeDefer.{deferring}
+use Rattle.papaya_settles.specs.Given.SeizeFurther.{IsWordOf}
+use Rattle.papaya_settles.specs.Given.SeizeDeclared.progress.Progress.{Progress as Deferring}
+use Rattle.papaya_settles.specs.Given.SeizeDeclared.rows.defer.Defer.{Defer}
+use Rattle.papaya_settles.specs.Given.SeizeDeclared.rows.defer.Deferring.{Deferring as Point}
+use Rattle.papaya_settles.specs.Given.SeizeDeclared.rows.defer.Deferring.TheVariants as at
+use Rattle.papaya_settles.specs.Given.SeizeWorld.{World, Row, Rests, Registers, Enters, Settles, Leaves, Defers, Frees, Use, Defer', Begins, Steps', defers_on, with_at}
+use Rattle.papaya_settles.proofs.Given.SeizeMovesState.Ghost.{State}
+use Rattle.papaya_settles.proofs.Given.SeizeRuleRows.Told.{RowTold, SettleGoes, SettleEnds, LeaveSwaps, LeaveGoes, LeaveSettled, LeaveEnds, RegisterLooks, RegisterRefused, RegisterTakes, RegisterEnters, EntersSlot, FreesSlot, DeferGoes, DeferPushes, DeferEnds}
+use Rattle.papaya_settles.specs.Given.TablesDeclared.node.Node.{Node}
+use Rattle.papaya_settles.specs.Given.TablesDeclared.setting.Setting.{Setting}
+use Rattle.papaya_settles.specs.Given.ResizeDeclared.copier.Copying.{Copying}
+use Rattle.papaya_settles.specs.Given.ResizeDeclared.copier.Copying.TheVariants as copying
+use Rattle.papaya_settles.specs.Given.ResizeDeclared.dispose.Disposing.{Disposing}
+use Rattle.papaya_settles.specs.Given.ResizeDeclared.dispose.Disposing.TheVariants as disposing
+use Rattle.papaya_settles.specs.Given.ReservesDeclared.reserve.Reserving.{Reserving}
+use Rattle.papaya_settles.specs.Given.ReservesDeclared.reserve.Reserving.TheVariants as reserving
+use Rattle.papaya_settles.specs.Given.SweepsDeclared.sweep.Sweeping.{Sweeping}
+use Rattle.papaya_settles.specs.Given.SweepsDeclared.sweep.Sweeping.TheVariants as sweeping
+use Rattle.papaya_settles.specs.Given.RawDeclared.machines.call.Calling.{Calling}
+use Rattle.papaya_settles.specs.Given.RawDeclared.machines.call.Calling.TheVariants as calling
+use Rattle.papaya_settles.specs.Given.RawDeclared.machines.machine.Machine.{Machine}
+use Rattle.papaya_settles.specs.Given.RawDeclared.machines.machine.Machine.TheVariants as kinds
+use Rattle.papaya_settles.specs.Given.RuleChart.{Chart}
+use Rattle.papaya_settles.specs.Given.RuleWords.{Blocks}
+use Rattle.papaya_settles.specs.Given.CallersRows.{row_of, row_of_disposal, row_of_copier}
+use Rattle.papaya_settles.specs.Given.CallersRooms.{row_of_room}
+use Rattle.papaya_settles.specs.Given.CallersOverAll.{row_of_sweep}
+use Rattle.papaya_settles.specs.Given.CallersTogether.{UnderWay, OnKey, ForRoom, Counting, OverAll, Stands}
+use Rattle.papaya_settles.specs.Given.EffectsEffects.{named}
+use Rattle.papaya_settles.specs.Given.EffectsKnown.{Known}
+use Rattle.papaya_settles.specs.Given.FinishesMachines.{machine_of}
 use Rattle.papaya_settles.specs.Due.{ToPut, due_in_defer, due_in_disposing, due_in_copying, due_in_calling, due_in_reserving, due_in_sweeping, due_in_row}
 use Rattle.papaya_settles.specs.Hand.{IsPairRole, NotesInHand}
 use Rattle.papaya_settles.proofs.Hand.Behind.{key_puts, room_puts, sweep_puts}
 use Rattle.papaya_lives.specs.Waiting.{IsPutting}
 use Rattle.papaya_lives.proofs.Putting.{not_over}
 use Rattle.papaya_lives.proofs.Puts.{IsToPut}
-use Rattle.papaya_settles.specs.Given.Scenes.Scene.{slot_of}
+use Rattle.papaya_settles.specs.Given.ScenesScene.{slot_of}
 
 -- it has put it there
 abbrev pub HasPut : Row → Type 0

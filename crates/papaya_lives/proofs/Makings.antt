@@ -1,48 +1,48 @@
 -- A step of the making of a map leaves what waits behind tables there.
 use Rattle.std.specs.Prelude.{◌≡◌, ℕ, Bool, true, false, List, [], ◌∷◌, Option, Some, None, IsSome, if◌then◌else◌}
 use Rattle.std.proofs.Common.{refl, ap, sym, subst, ◌∙◌}
-use Rattle.papaya_settles.specs.Given.SeizeWords.Mem.{value_at, word_at}
-use Rattle.papaya_settles.specs.Given.SeizeWords.Word.{block_in}
-use Rattle.papaya_settles.specs.Given.SeizeWords.declared.at.At.TheVariants.{Root, Used, Slot, Entry, Word}
-use Rattle.papaya_settles.specs.Given.Seize.declared.progress.Progress.{Progress}
-use Rattle.papaya_settles.specs.Given.Seize.declared.progress.Progress.TheVariants as progress
-use Rattle.papaya_settles.specs.Given.Seize.World.{World}
-use Rattle.papaya_settles.specs.Given.Tables.declared.node.Node.{Node}
-use Rattle.papaya_settles.specs.Given.Tables.declared.setting.Setting.{Setting}
-use Rattle.papaya_settles.specs.Given.Resize.declared.new_map.NewMap.{NewMap}
-use Rattle.papaya_settles.specs.Given.Schedules.declared.effect.Effect.{Effect}
-use Rattle.papaya_settles.specs.Given.Schedules.declared.effect.Effect.TheVariants.{Asked}
-use Rattle.papaya_settles.specs.Given.Schedules.declared.effect.Growth.TheVariants.{ABlock}
-use Rattle.papaya_settles.specs.Given.Schedules.declared.effect.Table.{Table}
-use Rattle.papaya_settles.specs.Given.Schedules.Effects.{with_effects}
-use Rattle.papaya_settles.specs.Given.Schedules.Moment.{Place, Moment}
-use Rattle.papaya_settles.specs.Given.Teller.declared.changed.Changed.{Changed}
-use Rattle.papaya_settles.specs.Given.Teller.declared.changed.Changed.TheVariants as changed
-use Rattle.papaya_settles.specs.Given.Teller.declared.changed.Kind.{Kind}
-use Rattle.papaya_settles.specs.Given.Teller.declared.changed.Kind.TheVariants as kind
-use Rattle.papaya_settles.specs.Given.Finishes.Makings.{Beginning}
-use Rattle.papaya_settles.specs.Given.Effects.Effects.{made_by, taken_by, led_to, in_block, named, names_same, effects_of, known_after}
-use Rattle.papaya_settles.specs.Given.Effects.Known.{Known}
-use Rattle.papaya_settles.specs.Given.Effects.declared.acting.Acting.{Acting}
-use Rattle.papaya_settles.specs.Given.Effects.declared.acting.Acting.TheVariants.{Making}
-use Rattle.papaya_settles.specs.Given.Effects.declared.role.Role.{Role}
-use Rattle.papaya_settles.specs.Given.Effects.declared.role.Role.TheVariants as role
-use Rattle.papaya_settles.specs.Given.Follows.Blocks.{HasRole}
-use Rattle.papaya_settles.proofs.Given.Follows.Onward.{IsOfMap}
-use Rattle.papaya_settles.proofs.Given.Follows.Operations.{LeavesBy}
-use Rattle.papaya_settles.proofs.Given.Follows.Writes.{nothing_free}
-use Rattle.papaya_settles.specs.Given.Others.Makings.{making_after, WasNew}
-use Rattle.papaya_settles.proofs.Given.Others.MakingPlans.{TellsMaking}
-use Rattle.papaya_settles.proofs.Given.Others.Makes.{tells, left, linked_stays, no_table_word}
-use Rattle.papaya_settles.specs.Given.Moments.Whole.{ShowsWhole}
-use Rattle.papaya_settles.proofs.Given.Moments.MakingSteps.{makings_go_beside}
+use Rattle.papaya_settles.specs.Given.SeizeWordsMem.{value_at, word_at}
+use Rattle.papaya_settles.specs.Given.SeizeWordsWord.{block_in}
+use Rattle.papaya_settles.specs.Given.SeizeWordsDeclared.at.At.TheVariants.{Root, Used, Slot, Entry, Word}
+use Rattle.papaya_settles.specs.Given.SeizeDeclared.progress.Progress.{Progress}
+use Rattle.papaya_settles.specs.Given.SeizeDeclared.progress.Progress.TheVariants as progress
+use Rattle.papaya_settles.specs.Given.SeizeWorld.{World}
+use Rattle.papaya_settles.specs.Given.TablesDeclared.node.Node.{Node}
+use Rattle.papaya_settles.specs.Given.TablesDeclared.setting.Setting.{Setting}
+use Rattle.papaya_settles.specs.Given.ResizeDeclared.new_map.NewMap.{NewMap}
+use Rattle.papaya_settles.specs.Given.SchedulesDeclared.effect.Effect.{Effect}
+use Rattle.papaya_settles.specs.Given.SchedulesDeclared.effect.Effect.TheVariants.{Asked}
+use Rattle.papaya_settles.specs.Given.SchedulesDeclared.effect.Growth.TheVariants.{ABlock}
+use Rattle.papaya_settles.specs.Given.SchedulesDeclared.effect.Table.{Table}
+use Rattle.papaya_settles.specs.Given.SchedulesEffects.{with_effects}
+use Rattle.papaya_settles.specs.Given.SchedulesMoment.{Place, Moment}
+use Rattle.papaya_settles.specs.Given.TellerDeclared.changed.Changed.{Changed}
+use Rattle.papaya_settles.specs.Given.TellerDeclared.changed.Changed.TheVariants as changed
+use Rattle.papaya_settles.specs.Given.TellerDeclared.changed.Kind.{Kind}
+use Rattle.papaya_settles.specs.Given.TellerDeclared.changed.Kind.TheVariants as kind
+use Rattle.papaya_settles.specs.Given.FinishesMakings.{Beginning}
+use Rattle.papaya_settles.specs.Given.EffectsEffects.{made_by, taken_by, led_to, in_block, named, names_same, effects_of, known_after}
+use Rattle.papaya_settles.specs.Given.EffectsKnown.{Known}
+use Rattle.papaya_settles.specs.Given.EffectsDeclared.acting.Acting.{Acting}
+use Rattle.papaya_settles.specs.Given.EffectsDeclared.acting.Acting.TheVariants.{Making}
+use Rattle.papaya_settles.specs.Given.EffectsDeclared.role.Role.{Role}
+use Rattle.papaya_settles.specs.Given.EffectsDeclared.role.Role.TheVariants as role
+use Rattle.papaya_settles.specs.Given.FollowsBlocks.{HasRole}
+use Rattle.papaya_settles.proofs.Given.FollowsOnward.{IsOfMap}
+use Rattle.papaya_settles.proofs.Given.FollowsOperations.{LeavesBy}
+use Rattle.papaya_settles.proofs.Given.FollowsWrites.{nothing_free}
+use Rattle.papaya_settles.specs.Given.OthersMakings.{making_after, WasNew}
+use Rattle.papaya_settles.proofs.Given.OthersMakingPlans.{TellsMaking}
+use Rattle.papaya_settles.proofs.Given.OthersMakes.{tells, left, linked_stays, no_table_word}
+use Rattle.papaya_settles.specs.Given.MomentsWhole.{ShowsWhole}
+use Rattle.papaya_settles.proofs.Given.MomentsMakingSteps.{makings_go_beside}
 use Rattle.papaya_lives.specs.Behind.{ShowsWaiting}
 use Rattle.papaya_lives.specs.Steps.{MakingsKeepWaiting}
 use Rattle.papaya_lives.proofs.Stages.{NoneEnds}
 use Rattle.papaya_lives.proofs.Users.{users_keep_waiting}
-use Rattle.papaya_settles.specs.Given.Scenes.Held.{Held, IsAt}
-use Rattle.papaya_settles.specs.Given.Scenes.Making.{MakingComesTo, MakingLeads}
-use Rattle.papaya_settles.specs.Given.Scenes.Scene.{Scene}
+use Rattle.papaya_settles.specs.Given.ScenesHeld.{Held, IsAt}
+use Rattle.papaya_settles.specs.Given.ScenesMaking.{MakingComesTo, MakingLeads}
+use Rattle.papaya_settles.specs.Given.ScenesScene.{Scene}
 
 module _ {K V : Type 0} (map : ℕ) (of : Option ℕ) (m : Moment K V) (known : Known) where
   abbrev its : Acting

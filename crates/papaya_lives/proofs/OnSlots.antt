@@ -2,48 +2,48 @@
 -- the list.
 use Rattle.std.specs.Prelude.{◌≡◌, ◌⊎◌, ℕ, nat_lt, ◌&&◌, Bool, true, false, not, List, [], ◌∷◌, filter, Option, Some, None, if◌then◌else◌}
 use Rattle.std.proofs.Common.{refl, ap, sym, subst, ◌∙◌, inl, inr}
-use Rattle.papaya_settles.specs.Given.SeizeWords.declared.at.At.TheVariants.{Root, Used, Slot, Entry, Word}
-use Rattle.papaya_settles.specs.Given.SeizeWords.Mem.{value_at}
-use Rattle.papaya_settles.specs.Given.Seize.Law.{is_retired}
-use Rattle.papaya_settles.specs.Given.Seize.Sequence.{taken_in}
-use Rattle.papaya_settles.specs.Given.Seize.World.{World, Hand, Handed, Steps', times}
-use Rattle.papaya_settles.proofs.Given.SeizeRule.Rows.Effects.{hand_kept}
-use Rattle.papaya_settles.proofs.Given.SeizeAlone.Histories.NotTaken.{did}
-use Rattle.papaya_settles.proofs.Given.SeizeAlone.Histories.Reached.{Reached}
-use Rattle.papaya_settles.proofs.Given.SeizeAlone.Spared.Rows.{RowStepped}
-use Rattle.papaya_settles.specs.Given.Tables.Nodes.{deferred_word}
-use Rattle.papaya_settles.specs.Given.Tables.declared.node.Node.{Node}
-use Rattle.papaya_settles.specs.Given.Schedules.declared.effect.Effect.TheVariants.{Asked}
-use Rattle.papaya_settles.specs.Given.Schedules.declared.effect.Growth.TheVariants.{ABucket}
-use Rattle.papaya_settles.specs.Given.Schedules.declared.effect.Table.{Table}
-use Rattle.papaya_settles.specs.Given.Schedules.Effects.{all_at, with_effects}
-use Rattle.papaya_settles.specs.Given.Schedules.Lists.{is_among, put}
-use Rattle.papaya_settles.specs.Given.Schedules.Moment.{Place, Behind, Handed as IsHanded, GivenBack, Deferral, Moment}
-use Rattle.papaya_settles.specs.Given.Schedules.Things.{same_table}
-use Rattle.papaya_settles.specs.Given.Schedules.Views.{behind}
-use Rattle.papaya_settles.specs.Given.Teller.declared.changed.Changed.{Changed}
-use Rattle.papaya_settles.specs.Given.Teller.declared.changed.Changed.TheVariants as changed
-use Rattle.papaya_settles.specs.Given.Callers.Together.{CameAbout}
-use Rattle.papaya_settles.specs.Given.Effects.Effects.{names_same, taken_by, effects_of, known_after}
-use Rattle.papaya_settles.specs.Given.Effects.Known.{Known, with_role}
-use Rattle.papaya_settles.specs.Given.Effects.declared.acting.Acting.TheVariants.{Row}
-use Rattle.papaya_settles.specs.Given.Effects.declared.role.Role.{Role}
-use Rattle.papaya_settles.specs.Given.Effects.declared.role.Role.TheVariants as role
-use Rattle.papaya_settles.specs.Given.Follows.Blocks.{HasRole}
-use Rattle.papaya_settles.specs.Given.Follows.Shows.{Shows}
-use Rattle.papaya_settles.proofs.Given.Follows.Alike.{put_elsewhere}
-use Rattle.papaya_settles.proofs.Given.Follows.Operations.{LeavesBy}
-use Rattle.papaya_settles.proofs.Given.Follows.Told.{roomed_as_many}
-use Rattle.papaya_settles.proofs.Given.Others.RowPlans.{TellsRow}
-use Rattle.papaya_settles.specs.Given.Spots.Unreclaimed.{ShowsUnreclaimed}
-use Rattle.papaya_settles.proofs.Given.Spots.Unreclaimed.{table_is, same_itself}
+use Rattle.papaya_settles.specs.Given.SeizeWordsDeclared.at.At.TheVariants.{Root, Used, Slot, Entry, Word}
+use Rattle.papaya_settles.specs.Given.SeizeWordsMem.{value_at}
+use Rattle.papaya_settles.specs.Given.SeizeLaw.{is_retired}
+use Rattle.papaya_settles.specs.Given.SeizeSequence.{taken_in}
+use Rattle.papaya_settles.specs.Given.SeizeWorld.{World, Hand, Handed, Steps', times}
+use Rattle.papaya_settles.proofs.Given.SeizeRuleRows.Effects.{hand_kept}
+use Rattle.papaya_settles.proofs.Given.SeizeAloneHistories.NotTaken.{did}
+use Rattle.papaya_settles.proofs.Given.SeizeAloneHistories.Reached.{Reached}
+use Rattle.papaya_settles.proofs.Given.SeizeAloneSpared.Rows.{RowStepped}
+use Rattle.papaya_settles.specs.Given.TablesNodes.{deferred_word}
+use Rattle.papaya_settles.specs.Given.TablesDeclared.node.Node.{Node}
+use Rattle.papaya_settles.specs.Given.SchedulesDeclared.effect.Effect.TheVariants.{Asked}
+use Rattle.papaya_settles.specs.Given.SchedulesDeclared.effect.Growth.TheVariants.{ABucket}
+use Rattle.papaya_settles.specs.Given.SchedulesDeclared.effect.Table.{Table}
+use Rattle.papaya_settles.specs.Given.SchedulesEffects.{all_at, with_effects}
+use Rattle.papaya_settles.specs.Given.SchedulesLists.{is_among, put}
+use Rattle.papaya_settles.specs.Given.SchedulesMoment.{Place, Behind, Handed as IsHanded, GivenBack, Deferral, Moment}
+use Rattle.papaya_settles.specs.Given.SchedulesThings.{same_table}
+use Rattle.papaya_settles.specs.Given.SchedulesViews.{behind}
+use Rattle.papaya_settles.specs.Given.TellerDeclared.changed.Changed.{Changed}
+use Rattle.papaya_settles.specs.Given.TellerDeclared.changed.Changed.TheVariants as changed
+use Rattle.papaya_settles.specs.Given.CallersTogether.{CameAbout}
+use Rattle.papaya_settles.specs.Given.EffectsEffects.{names_same, taken_by, effects_of, known_after}
+use Rattle.papaya_settles.specs.Given.EffectsKnown.{Known, with_role}
+use Rattle.papaya_settles.specs.Given.EffectsDeclared.acting.Acting.TheVariants.{Row}
+use Rattle.papaya_settles.specs.Given.EffectsDeclared.role.Role.{Role}
+use Rattle.papaya_settles.specs.Given.EffectsDeclared.role.Role.TheVariants as role
+use Rattle.papaya_settles.specs.Given.FollowsBlocks.{HasRole}
+use Rattle.papaya_settles.specs.Given.FollowsShows.{Shows}
+use Rattle.papaya_settles.proofs.Given.FollowsAlike.{put_elsewhere}
+use Rattle.papaya_settles.proofs.Given.FollowsOperations.{LeavesBy}
+use Rattle.papaya_settles.proofs.Given.FollowsTold.{roomed_as_many}
+use Rattle.papaya_settles.proofs.Given.OthersRowPlans.{TellsRow}
+use Rattle.papaya_settles.specs.Given.SpotsUnreclaimed.{ShowsUnreclaimed}
+use Rattle.papaya_settles.proofs.Given.SpotsUnreclaimed.{table_is, same_itself}
 use Rattle.papaya_lives.specs.Behind.{IsLeft, LiesBehind, EachWaits, ShowsWaiting}
 use Rattle.papaya_lives.specs.Waiting.{waits_behind}
 use Rattle.papaya_lives.proofs.Each.{WaitsAt, each_on, each_kept, found}
 use Rattle.papaya_lives.proofs.Logs.{waits_on}
 use Rattle.papaya_lives.proofs.Taken.{there_still, kept as its_kept, not_taken as its_not_taken, left_unretired, told_retired}
 use Rattle.papaya_lives.proofs.Worlds.{Kept, unretired, has_it}
-use Rattle.papaya_settles.specs.Given.Scenes.Scene.{Scene}
+use Rattle.papaya_settles.specs.Given.ScenesScene.{Scene}
 
 -- what is left over the collector has not
 left_no_handed : (h : Hand) → IsLeft h → h ≡ Handed → ⊥

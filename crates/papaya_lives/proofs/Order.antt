@@ -1,41 +1,41 @@
 -- Pairs lie behind tables in the order in which they wait there, where nothing is put there, where rows begin and step on slots, and where maps are made.
 use Rattle.std.specs.Prelude.{◌≡◌, ◌<◌, ℕ, nat_lt, ◌&&◌, Bool, true, false, not, List, [], ◌∷◌, map, filter, Option, Some, None, IsSome, if◌then◌else◌}
 use Rattle.std.proofs.Common.{refl, ap, sym, subst, ◌∙◌, inl, inr}
-use Rattle.papaya_settles.specs.Given.SeizeWords.Mem.{Mem, value_at}
-use Rattle.papaya_settles.specs.Given.SeizeWords.declared.at.At.TheVariants.{Root, Used, Slot, Entry, Word}
-use Rattle.papaya_settles.specs.Given.Seize.Further.{FurtherAre}
-use Rattle.papaya_settles.specs.Given.Seize.World.{World, Hand, InUse, Event, Begins, Runs, Steps', times}
-use Rattle.papaya_settles.proofs.Given.SeizeAlone.Histories.Reached.{Reached, steps_reached}
-use Rattle.papaya_settles.specs.Given.Runs.declared.outcome.TableShape.{TableShape}
-use Rattle.papaya_settles.specs.Given.Tables.Nodes.{deferred_word}
-use Rattle.papaya_settles.specs.Given.Tables.declared.node.Node.{Node}
-use Rattle.papaya_settles.specs.Given.Schedules.declared.effect.Effect.TheVariants.{Asked}
-use Rattle.papaya_settles.specs.Given.Schedules.declared.effect.Growth.TheVariants.{ABucket}
-use Rattle.papaya_settles.specs.Given.Schedules.declared.effect.Table.{Table}
-use Rattle.papaya_settles.specs.Given.Schedules.Effects.{with_effects}
-use Rattle.papaya_settles.specs.Given.Schedules.Moment.{Behind, Deferral, Moment}
-use Rattle.papaya_settles.specs.Given.Schedules.Things.{same_table}
-use Rattle.papaya_settles.specs.Given.Schedules.Views.{behind}
-use Rattle.papaya_settles.specs.Given.Teller.declared.changed.Changed.{Changed}
-use Rattle.papaya_settles.specs.Given.Teller.declared.changed.Changed.TheVariants as changed
-use Rattle.papaya_settles.specs.Given.Rule.InWorld.{AllUsers}
-use Rattle.papaya_settles.proofs.Given.Callers.Together.Came.{came_reached}
-use Rattle.papaya_settles.specs.Given.Effects.Effects.{names_same, taken_by, effects_of, known_after}
-use Rattle.papaya_settles.specs.Given.Effects.Known.{Known, with_role}
-use Rattle.papaya_settles.specs.Given.Effects.declared.acting.Acting.TheVariants.{Making as OfMaking, Row}
-use Rattle.papaya_settles.specs.Given.Effects.declared.role.Role.{Role}
-use Rattle.papaya_settles.specs.Given.Effects.declared.role.Role.TheVariants as role
-use Rattle.papaya_settles.specs.Given.Scenes.declared.row.SlotCall.{SlotCall}
-use Rattle.papaya_settles.specs.Given.Scenes.declared.row.SlotCall.TheVariants as calls
-use Rattle.papaya_settles.proofs.Given.Finishes.Ends.CountedBlocks.{some_here, some_last}
-use Rattle.papaya_settles.specs.Given.Follows.Blocks.{HasRole, WasLinked}
-use Rattle.papaya_settles.proofs.Given.Follows.Alike.{put_here}
-use Rattle.papaya_settles.proofs.Given.Follows.Onward.{IsOfMap}
-use Rattle.papaya_settles.proofs.Given.Follows.Operations.{LeavesBy}
-use Rattle.papaya_settles.proofs.Given.Others.RowPlans.{TellsRow, row_tells}
-use Rattle.papaya_settles.proofs.Given.Spots.Unreclaimed.{table_is}
-use Rattle.papaya_settles.specs.Given.Moments.Whole.{ShowsWhole}
-use Rattle.papaya_settles.proofs.Given.Moments.Makings.{makings_keep_blocks}
+use Rattle.papaya_settles.specs.Given.SeizeWordsMem.{Mem, value_at}
+use Rattle.papaya_settles.specs.Given.SeizeWordsDeclared.at.At.TheVariants.{Root, Used, Slot, Entry, Word}
+use Rattle.papaya_settles.specs.Given.SeizeFurther.{FurtherAre}
+use Rattle.papaya_settles.specs.Given.SeizeWorld.{World, Hand, InUse, Event, Begins, Runs, Steps', times}
+use Rattle.papaya_settles.proofs.Given.SeizeAloneHistories.Reached.{Reached, steps_reached}
+use Rattle.papaya_settles.specs.Given.RunsDeclared.outcome.TableShape.{TableShape}
+use Rattle.papaya_settles.specs.Given.TablesNodes.{deferred_word}
+use Rattle.papaya_settles.specs.Given.TablesDeclared.node.Node.{Node}
+use Rattle.papaya_settles.specs.Given.SchedulesDeclared.effect.Effect.TheVariants.{Asked}
+use Rattle.papaya_settles.specs.Given.SchedulesDeclared.effect.Growth.TheVariants.{ABucket}
+use Rattle.papaya_settles.specs.Given.SchedulesDeclared.effect.Table.{Table}
+use Rattle.papaya_settles.specs.Given.SchedulesEffects.{with_effects}
+use Rattle.papaya_settles.specs.Given.SchedulesMoment.{Behind, Deferral, Moment}
+use Rattle.papaya_settles.specs.Given.SchedulesThings.{same_table}
+use Rattle.papaya_settles.specs.Given.SchedulesViews.{behind}
+use Rattle.papaya_settles.specs.Given.TellerDeclared.changed.Changed.{Changed}
+use Rattle.papaya_settles.specs.Given.TellerDeclared.changed.Changed.TheVariants as changed
+use Rattle.papaya_settles.specs.Given.RuleInWorld.{AllUsers}
+use Rattle.papaya_settles.proofs.Given.CallersTogether.Came.{came_reached}
+use Rattle.papaya_settles.specs.Given.EffectsEffects.{names_same, taken_by, effects_of, known_after}
+use Rattle.papaya_settles.specs.Given.EffectsKnown.{Known, with_role}
+use Rattle.papaya_settles.specs.Given.EffectsDeclared.acting.Acting.TheVariants.{Making as OfMaking, Row}
+use Rattle.papaya_settles.specs.Given.EffectsDeclared.role.Role.{Role}
+use Rattle.papaya_settles.specs.Given.EffectsDeclared.role.Role.TheVariants as role
+use Rattle.papaya_settles.specs.Given.ScenesDeclared.row.SlotCall.{SlotCall}
+use Rattle.papaya_settles.specs.Given.ScenesDeclared.row.SlotCall.TheVariants as calls
+use Rattle.papaya_settles.proofs.Given.FinishesEnds.CountedBlocks.{some_here, some_last}
+use Rattle.papaya_settles.specs.Given.FollowsBlocks.{HasRole, WasLinked}
+use Rattle.papaya_settles.proofs.Given.FollowsAlike.{put_here}
+use Rattle.papaya_settles.proofs.Given.FollowsOnward.{IsOfMap}
+use Rattle.papaya_settles.proofs.Given.FollowsOperations.{LeavesBy}
+use Rattle.papaya_settles.proofs.Given.OthersRowPlans.{TellsRow, row_tells}
+use Rattle.papaya_settles.proofs.Given.SpotsUnreclaimed.{table_is}
+use Rattle.papaya_settles.specs.Given.MomentsWhole.{ShowsWhole}
+use Rattle.papaya_settles.proofs.Given.MomentsMakings.{makings_keep_blocks}
 use Rattle.papaya_settles.specs.Due.{OwnAreMade}
 use Rattle.papaya_lives.specs.Behind.{LiesBehind, EachWaits, ShowsWaiting}
 use Rattle.papaya_lives.specs.Order.{ShowsOrder, OrderBegins, OthersLeaveOrder, EndingsBeginOrder, RowsBeginOrder, RowsKeepOrder, MakingsKeepOrder}
@@ -47,8 +47,8 @@ use Rattle.papaya_lives.proofs.Makings.{role_kept, apart}
 use Rattle.papaya_lives.proofs.Reclaimed.{stays_so}
 use Rattle.papaya_lives.proofs.Stages.{WasTable, role_back}
 use Rattle.papaya_lives.proofs.Waiting.{reached, left}
-use Rattle.papaya_settles.specs.Given.Scenes.Rows.{request_of}
-use Rattle.papaya_settles.specs.Given.Scenes.Scene.{Scene, row_of, slot_of}
+use Rattle.papaya_settles.specs.Given.ScenesRows.{request_of}
+use Rattle.papaya_settles.specs.Given.ScenesScene.{Scene, row_of, slot_of}
 
 -- blocks that are noted as these pairs are so still
 pub noted_still : (known known2 : Known) (blocks pairs : List ℕ) → map known.roles blocks ≡ map role.Pair pairs

@@ -1,43 +1,43 @@
 -- After a step of a call pairs lie behind tables in the order in which they wait there: a row that puts a block in front of a table's list tells that its pair waits behind the table.
 use Rattle.std.specs.Prelude.{◌≡◌, ◌⊎◌, ◌+◌, ℕ, Bool, true, false, List, [], ◌∷◌, map as each_of, filter, Some, None, if◌then◌else◌}
 use Rattle.std.proofs.Common.{refl, ap, sym, subst, ◌∙◌, inl, inr}
-use Rattle.papaya_settles.specs.Given.SeizeWords.Mem.{Mem}
-use Rattle.papaya_settles.specs.Given.SeizeWords.Word.{block_in}
-use Rattle.papaya_settles.specs.Given.SeizeWords.declared.at.At.{At}
-use Rattle.papaya_settles.specs.Given.Seize.Further.{IsWordOf, FurtherAre}
-use Rattle.papaya_settles.specs.Given.Seize.declared.states.TheConstants.{LAST_SLOT}
-use Rattle.papaya_settles.specs.Given.Seize.World.{World, Rests, Hand, InUse, Handed, Request, Register', Enter', Leave', LeaveOwned, Refresh, Unregister', Retire, Flush, Defer', Event, Begin, Begins, Runs, Steps', with_at}
-use Rattle.papaya_settles.proofs.Given.SeizeRule.Words.Named.{link-block}
-use Rattle.papaya_settles.proofs.Given.SeizeRule.World.Kept.{steps_next}
-use Rattle.papaya_settles.proofs.Given.SeizeAlone.Histories.Reached.{Reached, happens_reached}
-use Rattle.papaya_settles.specs.Given.Tables.Nodes.{deferred_word}
-use Rattle.papaya_settles.specs.Given.Tables.declared.node.Node.{Node}
-use Rattle.papaya_settles.specs.Given.Raw.declared.machines.progress.Progress.{Progress}
-use Rattle.papaya_settles.specs.Given.Schedules.declared.effect.Effect.{Effect}
-use Rattle.papaya_settles.specs.Given.Schedules.declared.effect.Effect.TheVariants.{Deferred}
-use Rattle.papaya_settles.specs.Given.Schedules.declared.effect.Table.{Table}
-use Rattle.papaya_settles.specs.Given.Schedules.Effects.{with_effects}
-use Rattle.papaya_settles.specs.Given.Schedules.Moment.{Deferral, Moment}
-use Rattle.papaya_settles.specs.Given.Schedules.Things.{same_table}
-use Rattle.papaya_settles.specs.Given.Schedules.Views.{behind}
-use Rattle.papaya_settles.specs.Given.Rule.InWorld.{AllUsers}
-use Rattle.papaya_settles.proofs.Given.Rule.World.Hands.{at_cases}
-use Rattle.papaya_settles.specs.Given.Callers.Sights.{seen_by}
-use Rattle.papaya_settles.specs.Given.Callers.Together.{UnderWay, OnKey, ForRoom, Counting, OverAll, Together, HandsOver, IsOneStep}
-use Rattle.papaya_settles.proofs.Given.Callers.Together.Came.{came_reached}
-use Rattle.papaya_settles.specs.Given.Effects.Effects.{carried, named, effects_of, known_after}
-use Rattle.papaya_settles.specs.Given.Effects.Known.{Known}
-use Rattle.papaya_settles.specs.Given.Effects.declared.acting.Acting.TheVariants.{Call}
-use Rattle.papaya_settles.specs.Given.Effects.declared.role.Role.{Role}
-use Rattle.papaya_settles.specs.Given.Effects.declared.role.Role.TheVariants as role
-use Rattle.papaya_settles.specs.Given.Finishes.Machines.{machine_of}
-use Rattle.papaya_settles.proofs.Given.Follows.Onward.{IsLasting, KeepsRoles}
-use Rattle.papaya_settles.proofs.Given.Follows.Steps.{WentTo, went_to, DidSo, OfNoRow, step_shown}
-use Rattle.papaya_settles.proofs.Given.Hands.Steps.{calls_store_theirs}
-use Rattle.papaya_settles.proofs.Given.Spots.Unreclaimed.{table_is, same_itself}
-use Rattle.papaya_settles.specs.Given.Moments.Whole.{ShowsWhole}
-use Rattle.papaya_settles.proofs.Given.Moments.Calls.{calls_keep_whole}
-use Rattle.papaya_settles.proofs.Given.Moments.Makings.{lasting_of}
+use Rattle.papaya_settles.specs.Given.SeizeWordsMem.{Mem}
+use Rattle.papaya_settles.specs.Given.SeizeWordsWord.{block_in}
+use Rattle.papaya_settles.specs.Given.SeizeWordsDeclared.at.At.{At}
+use Rattle.papaya_settles.specs.Given.SeizeFurther.{IsWordOf, FurtherAre}
+use Rattle.papaya_settles.specs.Given.SeizeDeclared.states.TheConstants.{LAST_SLOT}
+use Rattle.papaya_settles.specs.Given.SeizeWorld.{World, Rests, Hand, InUse, Handed, Request, Register', Enter', Leave', LeaveOwned, Refresh, Unregister', Retire, Flush, Defer', Event, Begin, Begins, Runs, Steps', with_at}
+use Rattle.papaya_settles.proofs.Given.SeizeRuleWords.Named.{link-block}
+use Rattle.papaya_settles.proofs.Given.SeizeRuleWorld.Kept.{steps_next}
+use Rattle.papaya_settles.proofs.Given.SeizeAloneHistories.Reached.{Reached, happens_reached}
+use Rattle.papaya_settles.specs.Given.TablesNodes.{deferred_word}
+use Rattle.papaya_settles.specs.Given.TablesDeclared.node.Node.{Node}
+use Rattle.papaya_settles.specs.Given.RawDeclared.machines.progress.Progress.{Progress}
+use Rattle.papaya_settles.specs.Given.SchedulesDeclared.effect.Effect.{Effect}
+use Rattle.papaya_settles.specs.Given.SchedulesDeclared.effect.Effect.TheVariants.{Deferred}
+use Rattle.papaya_settles.specs.Given.SchedulesDeclared.effect.Table.{Table}
+use Rattle.papaya_settles.specs.Given.SchedulesEffects.{with_effects}
+use Rattle.papaya_settles.specs.Given.SchedulesMoment.{Deferral, Moment}
+use Rattle.papaya_settles.specs.Given.SchedulesThings.{same_table}
+use Rattle.papaya_settles.specs.Given.SchedulesViews.{behind}
+use Rattle.papaya_settles.specs.Given.RuleInWorld.{AllUsers}
+use Rattle.papaya_settles.proofs.Given.RuleWorld.Hands.{at_cases}
+use Rattle.papaya_settles.specs.Given.CallersSights.{seen_by}
+use Rattle.papaya_settles.specs.Given.CallersTogether.{UnderWay, OnKey, ForRoom, Counting, OverAll, Together, HandsOver, IsOneStep}
+use Rattle.papaya_settles.proofs.Given.CallersTogether.Came.{came_reached}
+use Rattle.papaya_settles.specs.Given.EffectsEffects.{carried, named, effects_of, known_after}
+use Rattle.papaya_settles.specs.Given.EffectsKnown.{Known}
+use Rattle.papaya_settles.specs.Given.EffectsDeclared.acting.Acting.TheVariants.{Call}
+use Rattle.papaya_settles.specs.Given.EffectsDeclared.role.Role.{Role}
+use Rattle.papaya_settles.specs.Given.EffectsDeclared.role.Role.TheVariants as role
+use Rattle.papaya_settles.specs.Given.FinishesMachines.{machine_of}
+use Rattle.papaya_settles.proofs.Given.FollowsOnward.{IsLasting, KeepsRoles}
+use Rattle.papaya_settles.proofs.Given.FollowsSteps.{WentTo, went_to, DidSo, OfNoRow, step_shown}
+use Rattle.papaya_settles.proofs.Given.HandsSteps.{calls_store_theirs}
+use Rattle.papaya_settles.proofs.Given.SpotsUnreclaimed.{table_is, same_itself}
+use Rattle.papaya_settles.specs.Given.MomentsWhole.{ShowsWhole}
+use Rattle.papaya_settles.proofs.Given.MomentsCalls.{calls_keep_whole}
+use Rattle.papaya_settles.proofs.Given.MomentsMakings.{lasting_of}
 use Rattle.papaya_settles.specs.Due.{ToPut, due_in_row, told_retired, RowTells, TellsNone, TellsRetired, TellsDeferred, OwnAreMade}
 use Rattle.papaya_settles.specs.Entries.{ShowsEntries}
 use Rattle.papaya_settles.specs.Hand.{IsPairRole, ShowsOwed}
@@ -54,9 +54,9 @@ use Rattle.papaya_lives.proofs.LyingCalls.{none_after, yet_due}
 use Rattle.papaya_lives.proofs.LyingRows.{HasPut, put_on, PutsSo, puts_so, same_word, put_due, puts_pair}
 use Rattle.papaya_lives.proofs.Order.{order_as, users_keep_order}
 use Rattle.papaya_lives.proofs.Stages.{WasTable, role_back}
-use Rattle.papaya_settles.specs.Given.Scenes.Held.{Held, IsAt}
-use Rattle.papaya_settles.specs.Given.Scenes.Scene.{Scene, slot_of}
-use Rattle.papaya_settles.specs.Given.Scenes.Stepping.{StepLeads}
+use Rattle.papaya_settles.specs.Given.ScenesHeld.{Held, IsAt}
+use Rattle.papaya_settles.specs.Given.ScenesScene.{Scene, slot_of}
+use Rattle.papaya_settles.specs.Given.ScenesStepping.{StepLeads}
 
 -- one more waits behind this table, and no more behind another one
 more_behind : (n : ℕ) (t : Table) (ds : List Deferral) → behind t (record { pair = n; behind = t } ∷ ds) ≡ n ∷ behind t ds

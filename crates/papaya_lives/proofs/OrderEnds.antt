@@ -2,47 +2,47 @@
 use Rattle.std.specs.Prelude.{◌≡◌, ◌<◌, ◌+◌, ℕ, zero, suc, Bool, cond, List, [], ◌∷◌, Option, Some, None, IsSome}
 use Rattle.std.proofs.Common.{refl, ap, sym, subst, ◌∙◌, inl, inr, arith}
 use Rattle.std.proofs.lemmas.Bool.{ne_eqb}
-use Rattle.papaya_settles.specs.Given.SeizeWords.Mem.{value_at}
-use Rattle.papaya_settles.specs.Given.Seize.Further.{FurtherAre}
-use Rattle.papaya_settles.specs.Given.Seize.World.{World, InUse, LeftTo, Unlinks, LeavesOver, Runs, times}
-use Rattle.papaya_settles.specs.Given.Seize.declared.rows.settle.Settled.{Settled}
-use Rattle.papaya_settles.specs.Given.Seize.declared.rows.settle.Settled.TheVariants as settled
-use Rattle.papaya_settles.specs.Given.Seize.declared.states.TheConstants.{LAST_SLOT}
-use Rattle.papaya_settles.proofs.Given.SeizeMoves.State.Ghost.{State}
-use Rattle.papaya_settles.proofs.Given.SeizeRule.World.Events.{leaves_over_good}
-use Rattle.papaya_settles.proofs.Given.SeizeRule.Rows.SizesKept.{happens_sized}
-use Rattle.papaya_settles.proofs.Given.SeizeAlone.Histories.Reached.{Reached, runs_reached}
-use Rattle.papaya_settles.specs.Given.Tables.Nodes.{deferred_word}
-use Rattle.papaya_settles.specs.Given.Tables.declared.node.Node.{Node}
-use Rattle.papaya_settles.specs.Given.Raw.declared.machines.end_map.EndMap.{EndMap}
-use Rattle.papaya_settles.specs.Given.Schedules.declared.effect.Effect.{Effect}
-use Rattle.papaya_settles.specs.Given.Schedules.declared.effect.Table.{Table}
-use Rattle.papaya_settles.specs.Given.Schedules.Effects.{with_effects}
-use Rattle.papaya_settles.specs.Given.Schedules.Moment.{Deferral, Moment}
-use Rattle.papaya_settles.specs.Given.Schedules.Views.{behind}
-use Rattle.papaya_settles.specs.Given.Teller.declared.changed.Changed.{Changed}
-use Rattle.papaya_settles.specs.Given.Teller.declared.changed.Changed.TheVariants as changed
-use Rattle.papaya_settles.proofs.Given.Callers.Together.Came.{came_reached}
-use Rattle.papaya_settles.specs.Given.Effects.Effects.{taken_by, effects_of, known_after}
-use Rattle.papaya_settles.specs.Given.Effects.Known.{Known}
-use Rattle.papaya_settles.specs.Given.Effects.declared.acting.Acting.TheVariants.{Ending}
-use Rattle.papaya_settles.specs.Given.Effects.declared.role.Role.{Role}
-use Rattle.papaya_settles.specs.Given.Effects.declared.role.Role.TheVariants as role
-use Rattle.papaya_settles.specs.Given.Finishes.Endings.{Finishing, StepsOfEnding}
-use Rattle.papaya_settles.specs.Given.Finishes.FactsEnds.{Deed, Looks, TakesPair, LeavesTable, JoinsPair, TakesLeft, TakesCounter, WritesRoot, events_of, left_by, taken_by as taken_of}
-use Rattle.papaya_settles.proofs.Given.Finishes.Ends.CountedBlocks.{some_here}
-use Rattle.papaya_settles.proofs.Given.Follows.Alike.{put_here}
-use Rattle.papaya_settles.proofs.Given.Follows.Onward.{IsOfMap}
-use Rattle.papaya_settles.specs.Given.Others.Endings.{ending_after}
-use Rattle.papaya_settles.specs.Given.Moments.Whole.{ShowsWhole}
-use Rattle.papaya_settles.proofs.Given.Moments.Ends.{says, end_keeps}
+use Rattle.papaya_settles.specs.Given.SeizeWordsMem.{value_at}
+use Rattle.papaya_settles.specs.Given.SeizeFurther.{FurtherAre}
+use Rattle.papaya_settles.specs.Given.SeizeWorld.{World, InUse, LeftTo, Unlinks, LeavesOver, Runs, times}
+use Rattle.papaya_settles.specs.Given.SeizeDeclared.rows.settle.Settled.{Settled}
+use Rattle.papaya_settles.specs.Given.SeizeDeclared.rows.settle.Settled.TheVariants as settled
+use Rattle.papaya_settles.specs.Given.SeizeDeclared.states.TheConstants.{LAST_SLOT}
+use Rattle.papaya_settles.proofs.Given.SeizeMovesState.Ghost.{State}
+use Rattle.papaya_settles.proofs.Given.SeizeRuleWorld.Events.{leaves_over_good}
+use Rattle.papaya_settles.proofs.Given.SeizeRuleRows.SizesKept.{happens_sized}
+use Rattle.papaya_settles.proofs.Given.SeizeAloneHistories.Reached.{Reached, runs_reached}
+use Rattle.papaya_settles.specs.Given.TablesNodes.{deferred_word}
+use Rattle.papaya_settles.specs.Given.TablesDeclared.node.Node.{Node}
+use Rattle.papaya_settles.specs.Given.RawDeclared.machines.end_map.EndMap.{EndMap}
+use Rattle.papaya_settles.specs.Given.SchedulesDeclared.effect.Effect.{Effect}
+use Rattle.papaya_settles.specs.Given.SchedulesDeclared.effect.Table.{Table}
+use Rattle.papaya_settles.specs.Given.SchedulesEffects.{with_effects}
+use Rattle.papaya_settles.specs.Given.SchedulesMoment.{Deferral, Moment}
+use Rattle.papaya_settles.specs.Given.SchedulesViews.{behind}
+use Rattle.papaya_settles.specs.Given.TellerDeclared.changed.Changed.{Changed}
+use Rattle.papaya_settles.specs.Given.TellerDeclared.changed.Changed.TheVariants as changed
+use Rattle.papaya_settles.proofs.Given.CallersTogether.Came.{came_reached}
+use Rattle.papaya_settles.specs.Given.EffectsEffects.{taken_by, effects_of, known_after}
+use Rattle.papaya_settles.specs.Given.EffectsKnown.{Known}
+use Rattle.papaya_settles.specs.Given.EffectsDeclared.acting.Acting.TheVariants.{Ending}
+use Rattle.papaya_settles.specs.Given.EffectsDeclared.role.Role.{Role}
+use Rattle.papaya_settles.specs.Given.EffectsDeclared.role.Role.TheVariants as role
+use Rattle.papaya_settles.specs.Given.FinishesEndings.{Finishing, StepsOfEnding}
+use Rattle.papaya_settles.specs.Given.FinishesFactsEnds.{Deed, Looks, TakesPair, LeavesTable, JoinsPair, TakesLeft, TakesCounter, WritesRoot, events_of, left_by, taken_by as taken_of}
+use Rattle.papaya_settles.proofs.Given.FinishesEnds.CountedBlocks.{some_here}
+use Rattle.papaya_settles.proofs.Given.FollowsAlike.{put_here}
+use Rattle.papaya_settles.proofs.Given.FollowsOnward.{IsOfMap}
+use Rattle.papaya_settles.specs.Given.OthersEndings.{ending_after}
+use Rattle.papaya_settles.specs.Given.MomentsWhole.{ShowsWhole}
+use Rattle.papaya_settles.proofs.Given.MomentsEnds.{says, end_keeps}
 use Rattle.papaya_lives.specs.Order.{ShowsOrder, EndingsKeepOrder}
 use Rattle.papaya_lives.proofs.InUse.{its_list, list_is, listed_there, still_lists, used_there}
 use Rattle.papaya_lives.proofs.Order.{behind_apart, order_as}
 use Rattle.papaya_lives.proofs.WaitingEnds.{calm_deferred}
-use Rattle.papaya_settles.specs.Given.Scenes.Ending.{EndingComesTo, EndingStepsFrom}
-use Rattle.papaya_settles.specs.Given.Scenes.Held.{Held, IsAt}
-use Rattle.papaya_settles.specs.Given.Scenes.Scene.{Scene, slot_of}
+use Rattle.papaya_settles.specs.Given.ScenesEnding.{EndingComesTo, EndingStepsFrom}
+use Rattle.papaya_settles.specs.Given.ScenesHeld.{Held, IsAt}
+use Rattle.papaya_settles.specs.Given.ScenesScene.{Scene, slot_of}
 
 -- Each deed leaves the list of a block that is in use after it.
 module _ {T : Type 0} (defers : T → Option ℕ) (size i : ℕ) (w w2 : World T) (r : Reached defers size w) (c o : ℕ) (used : w2.hand c ≡ InUse o) where

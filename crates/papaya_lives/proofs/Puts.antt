@@ -1,38 +1,38 @@
 -- A row within a call that puts a block behind another one: which these are its call's machine says.
 use Rattle.std.specs.Prelude.{◌≡◌, ℕ, Bool, Some}
 use Rattle.std.proofs.Common.{refl, ap, sym, subst, ◌∙◌, inl, inr}
-use Rattle.papaya_settles.specs.Given.SeizeWords.declared.at.At.{At}
-use Rattle.papaya_settles.specs.Given.SeizeWords.Word.{block_in}
-use Rattle.papaya_settles.specs.Given.Seize.declared.rows.defer.Defer.{Defer}
-use Rattle.papaya_settles.specs.Given.Seize.declared.rows.defer.Deferring.{Deferring}
-use Rattle.papaya_settles.specs.Given.Seize.declared.rows.defer.Deferring.TheVariants as deferring
-use Rattle.papaya_settles.specs.Given.Seize.Further.{IsWordOf}
-use Rattle.papaya_settles.specs.Given.Seize.World.{World, Row, Rests, Registers, Enters, Settles, Leaves, Defers, Frees}
-use Rattle.papaya_settles.proofs.Given.SeizeMoves.State.Ghost.{State}
-use Rattle.papaya_settles.proofs.Given.SeizeRule.Rows.Known.{FitsDefer, FitsRow}
-use Rattle.papaya_settles.proofs.Given.SeizeRule.Rows.Told.{IsOnWay}
-use Rattle.papaya_settles.proofs.Given.SeizeRule.Words.Named.{link, link-block}
-use Rattle.papaya_settles.proofs.Given.SeizeRule.Words.Shows.{Extra}
-use Rattle.papaya_settles.proofs.Given.SeizeRule.Words.View.{View}
-use Rattle.papaya_settles.specs.Given.Tables.declared.node.Node.{Node}
-use Rattle.papaya_settles.specs.Given.Tables.declared.setting.Setting.{Setting}
-use Rattle.papaya_settles.specs.Given.Resize.declared.dispose.Disposing.{Disposing}
-use Rattle.papaya_settles.specs.Given.Resize.declared.dispose.Disposing.TheVariants as disposing
-use Rattle.papaya_settles.specs.Given.Sweeps.declared.sweep.Sweeping.{Sweeping}
-use Rattle.papaya_settles.specs.Given.Sweeps.declared.sweep.Sweeping.TheVariants as sweeping
-use Rattle.papaya_settles.specs.Given.Raw.declared.machines.call.Calling.{Calling}
-use Rattle.papaya_settles.specs.Given.Raw.declared.machines.call.Calling.TheVariants as calling
-use Rattle.papaya_settles.specs.Given.Rule.Chart.{Chart}
-use Rattle.papaya_settles.specs.Given.Rule.Words.{Blocks}
-use Rattle.papaya_settles.specs.Given.Callers.Rows.{row_of, row_of_disposal}
-use Rattle.papaya_settles.specs.Given.Callers.OverAll.{row_of_sweep}
-use Rattle.papaya_settles.specs.Given.Callers.Together.{UnderWay, OnKey, ForRoom, Counting, OverAll, Stands}
-use Rattle.papaya_settles.specs.Given.Finishes.Machines.{machine_of}
+use Rattle.papaya_settles.specs.Given.SeizeWordsDeclared.at.At.{At}
+use Rattle.papaya_settles.specs.Given.SeizeWordsWord.{block_in}
+use Rattle.papaya_settles.specs.Given.SeizeDeclared.rows.defer.Defer.{Defer}
+use Rattle.papaya_settles.specs.Given.SeizeDeclared.rows.defer.Deferring.{Deferring}
+use Rattle.papaya_settles.specs.Given.SeizeDeclared.rows.defer.Deferring.TheVariants as deferring
+use Rattle.papaya_settles.specs.Given.SeizeFurther.{IsWordOf}
+use Rattle.papaya_settles.specs.Given.SeizeWorld.{World, Row, Rests, Registers, Enters, Settles, Leaves, Defers, Frees}
+use Rattle.papaya_settles.proofs.Given.SeizeMovesState.Ghost.{State}
+use Rattle.papaya_settles.proofs.Given.SeizeRuleRows.Known.{FitsDefer, FitsRow}
+use Rattle.papaya_settles.proofs.Given.SeizeRuleRows.Told.{IsOnWay}
+use Rattle.papaya_settles.proofs.Given.SeizeRuleWords.Named.{link, link-block}
+use Rattle.papaya_settles.proofs.Given.SeizeRuleWords.Shows.{Extra}
+use Rattle.papaya_settles.proofs.Given.SeizeRuleWords.View.{View}
+use Rattle.papaya_settles.specs.Given.TablesDeclared.node.Node.{Node}
+use Rattle.papaya_settles.specs.Given.TablesDeclared.setting.Setting.{Setting}
+use Rattle.papaya_settles.specs.Given.ResizeDeclared.dispose.Disposing.{Disposing}
+use Rattle.papaya_settles.specs.Given.ResizeDeclared.dispose.Disposing.TheVariants as disposing
+use Rattle.papaya_settles.specs.Given.SweepsDeclared.sweep.Sweeping.{Sweeping}
+use Rattle.papaya_settles.specs.Given.SweepsDeclared.sweep.Sweeping.TheVariants as sweeping
+use Rattle.papaya_settles.specs.Given.RawDeclared.machines.call.Calling.{Calling}
+use Rattle.papaya_settles.specs.Given.RawDeclared.machines.call.Calling.TheVariants as calling
+use Rattle.papaya_settles.specs.Given.RuleChart.{Chart}
+use Rattle.papaya_settles.specs.Given.RuleWords.{Blocks}
+use Rattle.papaya_settles.specs.Given.CallersRows.{row_of, row_of_disposal}
+use Rattle.papaya_settles.specs.Given.CallersOverAll.{row_of_sweep}
+use Rattle.papaya_settles.specs.Given.CallersTogether.{UnderWay, OnKey, ForRoom, Counting, OverAll, Stands}
+use Rattle.papaya_settles.specs.Given.FinishesMachines.{machine_of}
 use Rattle.papaya_settles.specs.Due.{ToPut, due_in_defer, due_in_disposing, due_in_calling, due_in_sweeping, due_in_row}
 use Rattle.papaya_settles.proofs.Hand.Behind.{settle_puts, copying_puts, room_puts}
 use Rattle.papaya_lives.specs.Waiting.{IsPutting}
 use Rattle.papaya_lives.proofs.Rows.{on_the_way}
-use Rattle.papaya_settles.specs.Given.Scenes.Scene.{slot_of}
+use Rattle.papaya_settles.specs.Given.ScenesScene.{slot_of}
 
 -- the row is to put the block of this word behind the one that has that word
 abbrev pub IsToPut : ℕ → At → Row → Type 0

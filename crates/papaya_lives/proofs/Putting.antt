@@ -2,21 +2,21 @@
 use Rattle.std.specs.Prelude.{◌≢◌, ◌⊎◌, ◌++◌}
 use Rattle.std.proofs.Common.{◌≡◌, ℕ, Bool, true, false, List, [], ◌∷◌, refl, ap, sym, subst, ◌∙◌, inl, inr}
 use Rattle.std.proofs.lemmas.Bool.{cases_eq}
-use Rattle.papaya_settles.specs.Given.SeizeWords.declared.at.At.{At}
-use Rattle.papaya_settles.specs.Given.SeizeWords.declared.at.At.TheVariants.{Root, Used, Slot, Entry, Word}
-use Rattle.papaya_settles.specs.Given.Seize.Further.{IsWordOf}
-use Rattle.papaya_settles.specs.Given.Seize.Law.{Effect, Entered, Left, Retired, Taken, holds, IsSound}
-use Rattle.papaya_settles.specs.Given.Seize.Sequence.{taken_in}
-use Rattle.papaya_settles.specs.Given.Seize.declared.rows.defer.Deferring.{Deferring}
-use Rattle.papaya_settles.specs.Given.Seize.declared.rows.defer.Deferring.TheVariants as at
-use Rattle.papaya_settles.specs.Given.Seize.declared.rows.register.Register.{Register}
-use Rattle.papaya_settles.specs.Given.Seize.World.{Row, Rests, Registers, Enters, Settles, Leaves, Defers, Frees, Use, IsOnto, times}
-use Rattle.papaya_settles.proofs.Given.SeizeMoves.State.Ghost.{IsDeferring, State}
-use Rattle.papaya_settles.proofs.Given.SeizeRule.Rows.Effects.{IsOneStep}
-use Rattle.papaya_settles.proofs.Given.SeizeRule.Rows.Known.{FitsRow}
-use Rattle.papaya_settles.proofs.Given.SeizeRule.Rows.Told.{HasSettled, TakesFor, IsOnWay, RowTold, SettleGoes, SettleEnds, LeaveSwaps, LeaveGoes, LeaveSettled, LeaveEnds, RegisterLooks, RegisterRefused, RegisterTakes, RegisterEnters, EntersSlot, FreesSlot, DeferGoes, DeferPushes, DeferEnds}
-use Rattle.papaya_settles.proofs.Given.SeizeRule.Words.Shows.{Extra}
-use Rattle.papaya_settles.proofs.Given.SeizeRule.Words.View.{View}
+use Rattle.papaya_settles.specs.Given.SeizeWordsDeclared.at.At.{At}
+use Rattle.papaya_settles.specs.Given.SeizeWordsDeclared.at.At.TheVariants.{Root, Used, Slot, Entry, Word}
+use Rattle.papaya_settles.specs.Given.SeizeFurther.{IsWordOf}
+use Rattle.papaya_settles.specs.Given.SeizeLaw.{Effect, Entered, Left, Retired, Taken, holds, IsSound}
+use Rattle.papaya_settles.specs.Given.SeizeSequence.{taken_in}
+use Rattle.papaya_settles.specs.Given.SeizeDeclared.rows.defer.Deferring.{Deferring}
+use Rattle.papaya_settles.specs.Given.SeizeDeclared.rows.defer.Deferring.TheVariants as at
+use Rattle.papaya_settles.specs.Given.SeizeDeclared.rows.register.Register.{Register}
+use Rattle.papaya_settles.specs.Given.SeizeWorld.{Row, Rests, Registers, Enters, Settles, Leaves, Defers, Frees, Use, IsOnto, times}
+use Rattle.papaya_settles.proofs.Given.SeizeMovesState.Ghost.{IsDeferring, State}
+use Rattle.papaya_settles.proofs.Given.SeizeRuleRows.Effects.{IsOneStep}
+use Rattle.papaya_settles.proofs.Given.SeizeRuleRows.Known.{FitsRow}
+use Rattle.papaya_settles.proofs.Given.SeizeRuleRows.Told.{HasSettled, TakesFor, IsOnWay, RowTold, SettleGoes, SettleEnds, LeaveSwaps, LeaveGoes, LeaveSettled, LeaveEnds, RegisterLooks, RegisterRefused, RegisterTakes, RegisterEnters, EntersSlot, FreesSlot, DeferGoes, DeferPushes, DeferEnds}
+use Rattle.papaya_settles.proofs.Given.SeizeRuleWords.Shows.{Extra}
+use Rattle.papaya_settles.proofs.Given.SeizeRuleWords.View.{View}
 use Rattle.papaya_lives.specs.Waiting.{IsPutting}
 use Rattle.papaya_lives.proofs.Logs.{one_apart}
 use Rattle.papaya_lives.proofs.Rows.{its_life, on_the_way}

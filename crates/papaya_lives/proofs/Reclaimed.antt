@@ -2,57 +2,57 @@
 use Rattle.std.specs.Prelude.{◌≡◌, ◌⊎◌, ℕ, ◌+◌, nat_lt, ◌&&◌, Bool, true, false, List, [], ◌∷◌, length, Option, None, if◌then◌else◌}
 use Rattle.std.proofs.Common.{refl, ap, sym, subst, ◌∙◌, inl, inr}
 use Rattle.std.proofs.lemmas.Bool.{ne_eqb}
-use Rattle.papaya_settles.specs.Given.SeizeWords.declared.at.At.TheVariants.{Root, Used, Slot, Entry, Word}
-use Rattle.papaya_settles.specs.Given.Seize.Law.{is_retired as was_retired}
-use Rattle.papaya_settles.specs.Given.Seize.World.{World, Row as Under, Begins, Hand, with_at}
-use Rattle.papaya_settles.specs.Given.Seize.declared.states.TheConstants.{LAST_SLOT}
-use Rattle.papaya_settles.proofs.Given.SeizeMoves.State.Ghost.{Life, IsPending, IsIn, IsDoomed, is_given}
-use Rattle.papaya_settles.proofs.Given.SeizeRule.Words.Shows.{lives}
-use Rattle.papaya_settles.proofs.Given.SeizeRule.Words.There.{live_pos}
-use Rattle.papaya_settles.proofs.Given.SeizeRule.Words.View.{view}
-use Rattle.papaya_settles.proofs.Given.SeizeAlone.Histories.Reached.{Reached}
-use Rattle.papaya_settles.specs.Given.Tables.Nodes.{deferred_word}
-use Rattle.papaya_settles.specs.Given.Tables.declared.node.Node.{Node}
-use Rattle.papaya_settles.specs.Given.Schedules.declared.effect.Effect.{Effect}
-use Rattle.papaya_settles.specs.Given.Schedules.declared.effect.Effect.TheVariants.{Asked}
-use Rattle.papaya_settles.specs.Given.Schedules.declared.effect.Growth.TheVariants.{ABucket}
-use Rattle.papaya_settles.specs.Given.Schedules.declared.effect.Table.{Table}
-use Rattle.papaya_settles.specs.Given.Schedules.Effects.{with_effects, AtEachEffect}
-use Rattle.papaya_settles.specs.Given.Schedules.Moment.{Moment}
-use Rattle.papaya_settles.specs.Given.Schedules.Views.{is_stage, is_retired}
-use Rattle.papaya_settles.specs.Given.Teller.declared.changed.Changed.{Changed}
-use Rattle.papaya_settles.specs.Given.Teller.declared.changed.Changed.TheVariants as changed
-use Rattle.papaya_settles.specs.Given.Callers.Together.{CameAbout}
-use Rattle.papaya_settles.specs.Given.Effects.Effects.{names_same, taken_by, effects_of, known_after}
-use Rattle.papaya_settles.specs.Given.Effects.Known.{Known, with_role}
-use Rattle.papaya_settles.specs.Given.Effects.declared.acting.Acting.TheVariants.{Row}
-use Rattle.papaya_settles.specs.Given.Effects.declared.role.Role.{Role}
-use Rattle.papaya_settles.specs.Given.Effects.declared.role.Role.TheVariants as role
-use Rattle.papaya_settles.specs.Given.Scenes.declared.row.RowTold.{RowTold}
-use Rattle.papaya_settles.specs.Given.Scenes.declared.row.SlotCall.{SlotCall}
-use Rattle.papaya_settles.specs.Given.Scenes.declared.row.SlotCall.TheVariants as call
-use Rattle.papaya_settles.specs.Given.Scenes.declared.row.SlotRow.{SlotRow}
-use Rattle.papaya_settles.proofs.Given.Follows.Alike.{put_here}
-use Rattle.papaya_settles.proofs.Given.Follows.Onward.{IsOfMap}
-use Rattle.papaya_settles.proofs.Given.Follows.Operations.{LeavesBy}
-use Rattle.papaya_settles.proofs.Given.Follows.Told.{roomed_as_many}
-use Rattle.papaya_settles.proofs.Given.Others.RowPlans.{TellsRow, row_tells}
-use Rattle.papaya_settles.specs.Given.Spots.Unreclaimed.{ShowsUnreclaimed}
-use Rattle.papaya_settles.proofs.Given.Spots.Calm.{put_back}
-use Rattle.papaya_settles.specs.Given.Moments.OnSlots.{HadRetired}
-use Rattle.papaya_settles.specs.Given.Moments.Whole.{ShowsWhole}
-use Rattle.papaya_settles.proofs.Given.Moments.OnSlots.{begun_hands}
+use Rattle.papaya_settles.specs.Given.SeizeWordsDeclared.at.At.TheVariants.{Root, Used, Slot, Entry, Word}
+use Rattle.papaya_settles.specs.Given.SeizeLaw.{is_retired as was_retired}
+use Rattle.papaya_settles.specs.Given.SeizeWorld.{World, Row as Under, Begins, Hand, with_at}
+use Rattle.papaya_settles.specs.Given.SeizeDeclared.states.TheConstants.{LAST_SLOT}
+use Rattle.papaya_settles.proofs.Given.SeizeMovesState.Ghost.{Life, IsPending, IsIn, IsDoomed, is_given}
+use Rattle.papaya_settles.proofs.Given.SeizeRuleWords.Shows.{lives}
+use Rattle.papaya_settles.proofs.Given.SeizeRuleWords.There.{live_pos}
+use Rattle.papaya_settles.proofs.Given.SeizeRuleWords.View.{view}
+use Rattle.papaya_settles.proofs.Given.SeizeAloneHistories.Reached.{Reached}
+use Rattle.papaya_settles.specs.Given.TablesNodes.{deferred_word}
+use Rattle.papaya_settles.specs.Given.TablesDeclared.node.Node.{Node}
+use Rattle.papaya_settles.specs.Given.SchedulesDeclared.effect.Effect.{Effect}
+use Rattle.papaya_settles.specs.Given.SchedulesDeclared.effect.Effect.TheVariants.{Asked}
+use Rattle.papaya_settles.specs.Given.SchedulesDeclared.effect.Growth.TheVariants.{ABucket}
+use Rattle.papaya_settles.specs.Given.SchedulesDeclared.effect.Table.{Table}
+use Rattle.papaya_settles.specs.Given.SchedulesEffects.{with_effects, AtEachEffect}
+use Rattle.papaya_settles.specs.Given.SchedulesMoment.{Moment}
+use Rattle.papaya_settles.specs.Given.SchedulesViews.{is_stage, is_retired}
+use Rattle.papaya_settles.specs.Given.TellerDeclared.changed.Changed.{Changed}
+use Rattle.papaya_settles.specs.Given.TellerDeclared.changed.Changed.TheVariants as changed
+use Rattle.papaya_settles.specs.Given.CallersTogether.{CameAbout}
+use Rattle.papaya_settles.specs.Given.EffectsEffects.{names_same, taken_by, effects_of, known_after}
+use Rattle.papaya_settles.specs.Given.EffectsKnown.{Known, with_role}
+use Rattle.papaya_settles.specs.Given.EffectsDeclared.acting.Acting.TheVariants.{Row}
+use Rattle.papaya_settles.specs.Given.EffectsDeclared.role.Role.{Role}
+use Rattle.papaya_settles.specs.Given.EffectsDeclared.role.Role.TheVariants as role
+use Rattle.papaya_settles.specs.Given.ScenesDeclared.row.RowTold.{RowTold}
+use Rattle.papaya_settles.specs.Given.ScenesDeclared.row.SlotCall.{SlotCall}
+use Rattle.papaya_settles.specs.Given.ScenesDeclared.row.SlotCall.TheVariants as call
+use Rattle.papaya_settles.specs.Given.ScenesDeclared.row.SlotRow.{SlotRow}
+use Rattle.papaya_settles.proofs.Given.FollowsAlike.{put_here}
+use Rattle.papaya_settles.proofs.Given.FollowsOnward.{IsOfMap}
+use Rattle.papaya_settles.proofs.Given.FollowsOperations.{LeavesBy}
+use Rattle.papaya_settles.proofs.Given.FollowsTold.{roomed_as_many}
+use Rattle.papaya_settles.proofs.Given.OthersRowPlans.{TellsRow, row_tells}
+use Rattle.papaya_settles.specs.Given.SpotsUnreclaimed.{ShowsUnreclaimed}
+use Rattle.papaya_settles.proofs.Given.SpotsCalm.{put_back}
+use Rattle.papaya_settles.specs.Given.MomentsOnSlots.{HadRetired}
+use Rattle.papaya_settles.specs.Given.MomentsWhole.{ShowsWhole}
+use Rattle.papaya_settles.proofs.Given.MomentsOnSlots.{begun_hands}
 use Rattle.papaya_lives.specs.Retired.{IsToRetire, ShowsRetired, RetiredBegins, OthersLeaveRetired, EndingsBeginRetired, RowsBeginRetired, RowsKeepRetired, RowsFindRetired}
 use Rattle.papaya_lives.proofs.Retires.{row_life, given_hand, handed_before}
 use Rattle.papaya_lives.proofs.Stages.{NoneEnds, still_retired, taken_ends}
 use Rattle.papaya_lives.proofs.Taken.{kept, it, told_retired}
 use Rattle.papaya_lives.proofs.Waiting.{left, reached}
 use Rattle.papaya_lives.proofs.Worlds.{Kept}
-use Rattle.papaya_settles.specs.Given.Scenes.Held.{Held, IsAt}
-use Rattle.papaya_settles.specs.Given.Scenes.OnSlots.{RowLeads}
-use Rattle.papaya_settles.specs.Given.Scenes.Rows.{request_of}
-use Rattle.papaya_settles.proofs.Given.Scenes.NoCall.{no_call}
-use Rattle.papaya_settles.specs.Given.Scenes.Scene.{HasCall, IsOnSlot, Scene, slot_of}
+use Rattle.papaya_settles.specs.Given.ScenesHeld.{Held, IsAt}
+use Rattle.papaya_settles.specs.Given.ScenesOnSlots.{RowLeads}
+use Rattle.papaya_settles.specs.Given.ScenesRows.{request_of}
+use Rattle.papaya_settles.proofs.Given.ScenesNoCall.{no_call}
+use Rattle.papaya_settles.specs.Given.ScenesScene.{HasCall, IsOnSlot, Scene, slot_of}
 
 given_lives : (l : Life) → is_given l ≡ true → lives l ≡ true
 given_lives (IsIn x) given = refl

@@ -2,68 +2,68 @@
 use Rattle.std.specs.Prelude.{◌≡◌, ◌≢◌, ◌⊎◌, ℕ, Bool, true, List, [], ◌∷◌, Option, Some, None, if◌then◌else◌}
 use Rattle.std.proofs.Common.{refl, ap, sym, subst, ◌∙◌, inl, inr}
 use Rattle.std.proofs.lemmas.Bool.{cases_eq, ne_eqb}
-use Rattle.papaya_settles.specs.Given.SeizeWords.Mem.{value_at}
-use Rattle.papaya_settles.specs.Given.SeizeWords.Word.{block_in}
-use Rattle.papaya_settles.specs.Given.Seize.declared.progress.Progress.{Progress}
-use Rattle.papaya_settles.specs.Given.Seize.declared.rows.defer.Deferring.{Deferring}
-use Rattle.papaya_settles.specs.Given.Seize.declared.rows.defer.Deferring.TheVariants as deferring
-use Rattle.papaya_settles.specs.Given.Seize.World.{World, Row, Rests, Hand, NoBlock, Making, InUse, Parting, Cutting, Handed, LeftTo, Request, Event, Begin, Step, Begins, Runs, Happens, Steps', with_at}
-use Rattle.papaya_settles.proofs.Given.SeizeAlone.Histories.NotTaken.{did, nobodys}
-use Rattle.papaya_settles.proofs.Given.SeizeAlone.Histories.Reached.{Reached, happens_reached}
-use Rattle.papaya_settles.specs.Given.Tables.Nodes.{deferred_word}
-use Rattle.papaya_settles.specs.Given.Tables.declared.table_words.TheConstants.{DEFERRED}
-use Rattle.papaya_settles.specs.Given.Tables.declared.node.Node.{Node}
-use Rattle.papaya_settles.specs.Given.Tables.declared.node.Node.TheVariants as node
-use Rattle.papaya_settles.specs.Given.Tables.declared.setting.Setting.{Setting}
-use Rattle.papaya_settles.specs.Given.Resize.declared.copier.Copying.{Copying}
-use Rattle.papaya_settles.specs.Given.Resize.declared.copier.Copying.TheVariants as copying
-use Rattle.papaya_settles.specs.Given.Resize.declared.dispose.Disposing.{Disposing}
-use Rattle.papaya_settles.specs.Given.Resize.declared.dispose.Disposing.TheVariants as disposing
-use Rattle.papaya_settles.specs.Given.Reserves.declared.reserve.Reserving.{Reserving}
-use Rattle.papaya_settles.specs.Given.Reserves.declared.reserve.Reserving.TheVariants as reserving
-use Rattle.papaya_settles.specs.Given.Sweeps.declared.sweep.Sweeping.{Sweeping}
-use Rattle.papaya_settles.specs.Given.Sweeps.declared.sweep.Sweeping.TheVariants as sweeping
-use Rattle.papaya_settles.specs.Given.Raw.declared.machines.call.Calling.{Calling}
-use Rattle.papaya_settles.specs.Given.Raw.declared.machines.call.Calling.TheVariants as calling
-use Rattle.papaya_settles.specs.Given.Raw.declared.machines.machine.Machine.{Machine}
-use Rattle.papaya_settles.specs.Given.Raw.declared.machines.progress.Progress.{Progress as CallTold}
-use Rattle.papaya_settles.specs.Given.Raw.declared.machines.progress.Progress.TheVariants as progress
-use Rattle.papaya_settles.specs.Given.Schedules.declared.effect.Effect.{Effect}
-use Rattle.papaya_settles.specs.Given.Schedules.declared.effect.Effect.TheVariants.{Reclaimed, Taken}
-use Rattle.papaya_settles.specs.Given.Schedules.declared.effect.Table.{Table}
-use Rattle.papaya_settles.specs.Given.Schedules.declared.effect.Thing.TheVariants.{APair, ATable}
-use Rattle.papaya_settles.specs.Given.Schedules.Effects.{with_effects}
-use Rattle.papaya_settles.specs.Given.Schedules.Moment.{Moment}
-use Rattle.papaya_settles.specs.Given.Schedules.Views.{is_stage, is_retired}
-use Rattle.papaya_settles.specs.Given.Teller.declared.changed.Changed.{Changed}
-use Rattle.papaya_settles.specs.Given.Rule.InWorld.{AllUsers}
-use Rattle.papaya_settles.specs.Given.Rule.Words.{Blocks}
-use Rattle.papaya_settles.specs.Given.Rule.Chart.{Chart}
-use Rattle.papaya_settles.specs.Given.Callers.Kept.{IsUsersOwn}
-use Rattle.papaya_settles.specs.Given.Callers.Rows.{row_of, row_of_disposal, row_of_copier}
-use Rattle.papaya_settles.specs.Given.Callers.Rooms.{row_of_room}
-use Rattle.papaya_settles.specs.Given.Callers.OverAll.{row_of_sweep}
-use Rattle.papaya_settles.specs.Given.Callers.Sights.{seen_by}
-use Rattle.papaya_settles.specs.Given.Callers.Together.{UnderWay, OnKey, ForRoom, Counting, OverAll, Stands, Together, IsOneStep}
-use Rattle.papaya_settles.proofs.Given.Callers.Rows.Users.{events_not_handed, own_not_handed}
-use Rattle.papaya_settles.proofs.Given.Callers.Together.At.{at_same, at_other}
-use Rattle.papaya_settles.proofs.Given.Callers.Together.Came.{came_reached}
-use Rattle.papaya_settles.proofs.Given.Callers.Together.Users.{events_rows}
-use Rattle.papaya_settles.specs.Given.Effects.Effects.{carried, named, effects_of, known_after}
-use Rattle.papaya_settles.specs.Given.Effects.Known.{Known}
-use Rattle.papaya_settles.specs.Given.Effects.declared.acting.Acting.{Acting}
-use Rattle.papaya_settles.specs.Given.Effects.declared.acting.Acting.TheVariants as acts
-use Rattle.papaya_settles.specs.Given.Effects.declared.role.Role.{Role}
-use Rattle.papaya_settles.specs.Given.Effects.declared.role.Role.TheVariants as role
-use Rattle.papaya_settles.specs.Given.Finishes.Machines.{machine_of, GoesOnAs}
-use Rattle.papaya_settles.specs.Given.Finishes.Makings.{Beginning}
-use Rattle.papaya_settles.specs.Given.Finishes.Maps.{Standing}
-use Rattle.papaya_settles.specs.Given.Follows.Blocks.{HasRole}
-use Rattle.papaya_settles.proofs.Given.Follows.Steps.{WentTo, went_to, DidSo, OfNoRow}
-use Rattle.papaya_settles.specs.Given.Others.Makings.{WasNew}
-use Rattle.papaya_settles.proofs.Given.Spots.Handing.{HandsNothing, AllHandNothing}
-use Rattle.papaya_settles.proofs.Given.Spots.Steps.{hands_nothing}
-use Rattle.papaya_settles.specs.Given.Moments.Whole.{ShowsWhole}
+use Rattle.papaya_settles.specs.Given.SeizeWordsMem.{value_at}
+use Rattle.papaya_settles.specs.Given.SeizeWordsWord.{block_in}
+use Rattle.papaya_settles.specs.Given.SeizeDeclared.progress.Progress.{Progress}
+use Rattle.papaya_settles.specs.Given.SeizeDeclared.rows.defer.Deferring.{Deferring}
+use Rattle.papaya_settles.specs.Given.SeizeDeclared.rows.defer.Deferring.TheVariants as deferring
+use Rattle.papaya_settles.specs.Given.SeizeWorld.{World, Row, Rests, Hand, NoBlock, Making, InUse, Parting, Cutting, Handed, LeftTo, Request, Event, Begin, Step, Begins, Runs, Happens, Steps', with_at}
+use Rattle.papaya_settles.proofs.Given.SeizeAloneHistories.NotTaken.{did, nobodys}
+use Rattle.papaya_settles.proofs.Given.SeizeAloneHistories.Reached.{Reached, happens_reached}
+use Rattle.papaya_settles.specs.Given.TablesNodes.{deferred_word}
+use Rattle.papaya_settles.specs.Given.TablesDeclared.table_words.TheConstants.{DEFERRED}
+use Rattle.papaya_settles.specs.Given.TablesDeclared.node.Node.{Node}
+use Rattle.papaya_settles.specs.Given.TablesDeclared.node.Node.TheVariants as node
+use Rattle.papaya_settles.specs.Given.TablesDeclared.setting.Setting.{Setting}
+use Rattle.papaya_settles.specs.Given.ResizeDeclared.copier.Copying.{Copying}
+use Rattle.papaya_settles.specs.Given.ResizeDeclared.copier.Copying.TheVariants as copying
+use Rattle.papaya_settles.specs.Given.ResizeDeclared.dispose.Disposing.{Disposing}
+use Rattle.papaya_settles.specs.Given.ResizeDeclared.dispose.Disposing.TheVariants as disposing
+use Rattle.papaya_settles.specs.Given.ReservesDeclared.reserve.Reserving.{Reserving}
+use Rattle.papaya_settles.specs.Given.ReservesDeclared.reserve.Reserving.TheVariants as reserving
+use Rattle.papaya_settles.specs.Given.SweepsDeclared.sweep.Sweeping.{Sweeping}
+use Rattle.papaya_settles.specs.Given.SweepsDeclared.sweep.Sweeping.TheVariants as sweeping
+use Rattle.papaya_settles.specs.Given.RawDeclared.machines.call.Calling.{Calling}
+use Rattle.papaya_settles.specs.Given.RawDeclared.machines.call.Calling.TheVariants as calling
+use Rattle.papaya_settles.specs.Given.RawDeclared.machines.machine.Machine.{Machine}
+use Rattle.papaya_settles.specs.Given.RawDeclared.machines.progress.Progress.{Progress as CallTold}
+use Rattle.papaya_settles.specs.Given.RawDeclared.machines.progress.Progress.TheVariants as progress
+use Rattle.papaya_settles.specs.Given.SchedulesDeclared.effect.Effect.{Effect}
+use Rattle.papaya_settles.specs.Given.SchedulesDeclared.effect.Effect.TheVariants.{Reclaimed, Taken}
+use Rattle.papaya_settles.specs.Given.SchedulesDeclared.effect.Table.{Table}
+use Rattle.papaya_settles.specs.Given.SchedulesDeclared.effect.Thing.TheVariants.{APair, ATable}
+use Rattle.papaya_settles.specs.Given.SchedulesEffects.{with_effects}
+use Rattle.papaya_settles.specs.Given.SchedulesMoment.{Moment}
+use Rattle.papaya_settles.specs.Given.SchedulesViews.{is_stage, is_retired}
+use Rattle.papaya_settles.specs.Given.TellerDeclared.changed.Changed.{Changed}
+use Rattle.papaya_settles.specs.Given.RuleInWorld.{AllUsers}
+use Rattle.papaya_settles.specs.Given.RuleWords.{Blocks}
+use Rattle.papaya_settles.specs.Given.RuleChart.{Chart}
+use Rattle.papaya_settles.specs.Given.CallersKept.{IsUsersOwn}
+use Rattle.papaya_settles.specs.Given.CallersRows.{row_of, row_of_disposal, row_of_copier}
+use Rattle.papaya_settles.specs.Given.CallersRooms.{row_of_room}
+use Rattle.papaya_settles.specs.Given.CallersOverAll.{row_of_sweep}
+use Rattle.papaya_settles.specs.Given.CallersSights.{seen_by}
+use Rattle.papaya_settles.specs.Given.CallersTogether.{UnderWay, OnKey, ForRoom, Counting, OverAll, Stands, Together, IsOneStep}
+use Rattle.papaya_settles.proofs.Given.CallersRows.Users.{events_not_handed, own_not_handed}
+use Rattle.papaya_settles.proofs.Given.CallersTogether.At.{at_same, at_other}
+use Rattle.papaya_settles.proofs.Given.CallersTogether.Came.{came_reached}
+use Rattle.papaya_settles.proofs.Given.CallersTogether.Users.{events_rows}
+use Rattle.papaya_settles.specs.Given.EffectsEffects.{carried, named, effects_of, known_after}
+use Rattle.papaya_settles.specs.Given.EffectsKnown.{Known}
+use Rattle.papaya_settles.specs.Given.EffectsDeclared.acting.Acting.{Acting}
+use Rattle.papaya_settles.specs.Given.EffectsDeclared.acting.Acting.TheVariants as acts
+use Rattle.papaya_settles.specs.Given.EffectsDeclared.role.Role.{Role}
+use Rattle.papaya_settles.specs.Given.EffectsDeclared.role.Role.TheVariants as role
+use Rattle.papaya_settles.specs.Given.FinishesMachines.{machine_of, GoesOnAs}
+use Rattle.papaya_settles.specs.Given.FinishesMakings.{Beginning}
+use Rattle.papaya_settles.specs.Given.FinishesMaps.{Standing}
+use Rattle.papaya_settles.specs.Given.FollowsBlocks.{HasRole}
+use Rattle.papaya_settles.proofs.Given.FollowsSteps.{WentTo, went_to, DidSo, OfNoRow}
+use Rattle.papaya_settles.specs.Given.OthersMakings.{WasNew}
+use Rattle.papaya_settles.proofs.Given.SpotsHanding.{HandsNothing, AllHandNothing}
+use Rattle.papaya_settles.proofs.Given.SpotsSteps.{hands_nothing}
+use Rattle.papaya_settles.specs.Given.MomentsWhole.{ShowsWhole}
 use Rattle.papaya_settles.specs.Due.{Due, due_in_defer, due_in_disposing, due_in_copying, due_in_calling, due_in_reserving, due_in_sweeping, due_in_row, told_retired, RowTells, TellsNone, TellsRetired, TellsDeferred, OwnAreMade}
 use Rattle.papaya_settles.specs.Entries.{ShowsEntries}
 use Rattle.papaya_settles.proofs.DueCalls.{rows_tell_due}
@@ -71,10 +71,10 @@ use Rattle.papaya_lives.specs.Retired.{IsDue, IsToRetire, ShowsRetired, CallsSta
 use Rattle.papaya_lives.proofs.Makings.{apart}
 use Rattle.papaya_lives.proofs.Retires.{HandedBy, Retires, PutsBehind, HadIt, begun_due, begun_handed, handed_before, not_over}
 use Rattle.papaya_lives.proofs.Stages.{EndsIt, NoneEnds, now_retired, still_retired, WasTable, role_back}
-use Rattle.papaya_settles.specs.Given.Scenes.Held.{Held, IsAt}
-use Rattle.papaya_settles.specs.Given.Scenes.Making.{MakingLeads}
-use Rattle.papaya_settles.specs.Given.Scenes.Scene.{HasCall, Scene, slot_of}
-use Rattle.papaya_settles.specs.Given.Scenes.Stepping.{StepLeads, scene_after}
+use Rattle.papaya_settles.specs.Given.ScenesHeld.{Held, IsAt}
+use Rattle.papaya_settles.specs.Given.ScenesMaking.{MakingLeads}
+use Rattle.papaya_settles.specs.Given.ScenesScene.{HasCall, Scene, slot_of}
+use Rattle.papaya_settles.specs.Given.ScenesStepping.{StepLeads, scene_after}
 
 -- where users do something, the collector had the block of a table that it has
 pub users_handed : {K V : Type 0} (size b : ℕ) (events : List (Event (Node K V))) (w v : World (Node K V)) → Reached deferred_word size w → (value : Node K V) → value_at w.memory b ≡ Some value

@@ -1,49 +1,49 @@
 -- The tables that the collector has after a step of the end of a map are retired, or rows within calls are to retire them.
 use Rattle.std.specs.Prelude.{◌≡◌, ◌⊎◌, ℕ, zero, suc, ◌+◌, Bool, true, List, [], ◌∷◌, Option, Some, None, IsSome}
 use Rattle.std.proofs.Common.{refl, ap, sym, subst, ◌∙◌, inl, inr, arith}
-use Rattle.papaya_settles.specs.Given.SeizeWords.Mem.{value_at}
-use Rattle.papaya_settles.specs.Given.Seize.declared.rows.settle.Settled.{Settled}
-use Rattle.papaya_settles.specs.Given.Seize.declared.rows.settle.Settled.TheVariants as settled
-use Rattle.papaya_settles.specs.Given.Seize.declared.states.TheConstants.{LAST_SLOT}
-use Rattle.papaya_settles.specs.Given.Seize.World.{World, Row, Hand, LeftTo, Handed, times}
-use Rattle.papaya_settles.proofs.Given.SeizeMoves.State.Ghost.{Life, IsDeferring, IsDeferred, IsPending, IsIn, IsDoomed}
-use Rattle.papaya_settles.proofs.Given.SeizeRule.Points.Aside.{HandFits, is_handed}
-use Rattle.papaya_settles.proofs.Given.SeizeRule.Words.Shows.{lives}
-use Rattle.papaya_settles.proofs.Given.SeizeRule.Words.There.{value_there}
-use Rattle.papaya_settles.proofs.Given.SeizeAlone.Histories.Reached.{Reached, runs_reached}
-use Rattle.papaya_settles.specs.Given.Tables.Nodes.{deferred_word}
-use Rattle.papaya_settles.specs.Given.Tables.declared.node.Node.{Node}
-use Rattle.papaya_settles.specs.Given.Raw.declared.machines.end_map.EndMap.{EndMap}
-use Rattle.papaya_settles.specs.Given.Schedules.declared.effect.Effect.{Effect}
-use Rattle.papaya_settles.specs.Given.Schedules.declared.effect.Effect.TheVariants.{Reclaimed, Taken}
-use Rattle.papaya_settles.specs.Given.Schedules.declared.effect.Table.{Table}
-use Rattle.papaya_settles.specs.Given.Schedules.declared.effect.Thing.TheVariants.{APair, ATable}
-use Rattle.papaya_settles.specs.Given.Schedules.Effects.{with_effects}
-use Rattle.papaya_settles.specs.Given.Schedules.Moment.{Moment}
-use Rattle.papaya_settles.specs.Given.Schedules.Views.{is_stage, is_retired}
-use Rattle.papaya_settles.specs.Given.Teller.declared.changed.Changed.{Changed}
-use Rattle.papaya_settles.specs.Given.Teller.declared.changed.Changed.TheVariants as changed
-use Rattle.papaya_settles.specs.Given.Callers.Together.{UnderWay}
-use Rattle.papaya_settles.proofs.Given.Callers.Together.Came.{came_reached}
-use Rattle.papaya_settles.proofs.Given.Callers.Together.Slots.{between_rows}
-use Rattle.papaya_settles.specs.Given.Effects.Effects.{effects_of, known_after}
-use Rattle.papaya_settles.specs.Given.Effects.Known.{Known}
-use Rattle.papaya_settles.specs.Given.Effects.declared.acting.Acting.TheVariants.{Ending}
-use Rattle.papaya_settles.specs.Given.Effects.declared.role.Role.TheVariants as role
-use Rattle.papaya_settles.specs.Given.Finishes.Endings.{Finishing, StepsOfEnding}
-use Rattle.papaya_settles.specs.Given.Finishes.FactsEnds.{events_of, taken_by as taken_of, left_by}
-use Rattle.papaya_settles.proofs.Given.Follows.Alike.{is_calm, AllCalm, put_here}
-use Rattle.papaya_settles.proofs.Given.Follows.Onward.{IsOfMap}
-use Rattle.papaya_settles.specs.Given.Others.Endings.{ending_after}
-use Rattle.papaya_settles.specs.Given.Moments.Whole.{ShowsWhole}
-use Rattle.papaya_settles.proofs.Given.Moments.Ends.{says, end_keeps}
-use Rattle.papaya_settles.proofs.Given.Moments.OnSlots.{none_some}
+use Rattle.papaya_settles.specs.Given.SeizeWordsMem.{value_at}
+use Rattle.papaya_settles.specs.Given.SeizeDeclared.rows.settle.Settled.{Settled}
+use Rattle.papaya_settles.specs.Given.SeizeDeclared.rows.settle.Settled.TheVariants as settled
+use Rattle.papaya_settles.specs.Given.SeizeDeclared.states.TheConstants.{LAST_SLOT}
+use Rattle.papaya_settles.specs.Given.SeizeWorld.{World, Row, Hand, LeftTo, Handed, times}
+use Rattle.papaya_settles.proofs.Given.SeizeMovesState.Ghost.{Life, IsDeferring, IsDeferred, IsPending, IsIn, IsDoomed}
+use Rattle.papaya_settles.proofs.Given.SeizeRulePoints.Aside.{HandFits, is_handed}
+use Rattle.papaya_settles.proofs.Given.SeizeRuleWords.Shows.{lives}
+use Rattle.papaya_settles.proofs.Given.SeizeRuleWords.There.{value_there}
+use Rattle.papaya_settles.proofs.Given.SeizeAloneHistories.Reached.{Reached, runs_reached}
+use Rattle.papaya_settles.specs.Given.TablesNodes.{deferred_word}
+use Rattle.papaya_settles.specs.Given.TablesDeclared.node.Node.{Node}
+use Rattle.papaya_settles.specs.Given.RawDeclared.machines.end_map.EndMap.{EndMap}
+use Rattle.papaya_settles.specs.Given.SchedulesDeclared.effect.Effect.{Effect}
+use Rattle.papaya_settles.specs.Given.SchedulesDeclared.effect.Effect.TheVariants.{Reclaimed, Taken}
+use Rattle.papaya_settles.specs.Given.SchedulesDeclared.effect.Table.{Table}
+use Rattle.papaya_settles.specs.Given.SchedulesDeclared.effect.Thing.TheVariants.{APair, ATable}
+use Rattle.papaya_settles.specs.Given.SchedulesEffects.{with_effects}
+use Rattle.papaya_settles.specs.Given.SchedulesMoment.{Moment}
+use Rattle.papaya_settles.specs.Given.SchedulesViews.{is_stage, is_retired}
+use Rattle.papaya_settles.specs.Given.TellerDeclared.changed.Changed.{Changed}
+use Rattle.papaya_settles.specs.Given.TellerDeclared.changed.Changed.TheVariants as changed
+use Rattle.papaya_settles.specs.Given.CallersTogether.{UnderWay}
+use Rattle.papaya_settles.proofs.Given.CallersTogether.Came.{came_reached}
+use Rattle.papaya_settles.proofs.Given.CallersTogether.Slots.{between_rows}
+use Rattle.papaya_settles.specs.Given.EffectsEffects.{effects_of, known_after}
+use Rattle.papaya_settles.specs.Given.EffectsKnown.{Known}
+use Rattle.papaya_settles.specs.Given.EffectsDeclared.acting.Acting.TheVariants.{Ending}
+use Rattle.papaya_settles.specs.Given.EffectsDeclared.role.Role.TheVariants as role
+use Rattle.papaya_settles.specs.Given.FinishesEndings.{Finishing, StepsOfEnding}
+use Rattle.papaya_settles.specs.Given.FinishesFactsEnds.{events_of, taken_by as taken_of, left_by}
+use Rattle.papaya_settles.proofs.Given.FollowsAlike.{is_calm, AllCalm, put_here}
+use Rattle.papaya_settles.proofs.Given.FollowsOnward.{IsOfMap}
+use Rattle.papaya_settles.specs.Given.OthersEndings.{ending_after}
+use Rattle.papaya_settles.specs.Given.MomentsWhole.{ShowsWhole}
+use Rattle.papaya_settles.proofs.Given.MomentsEnds.{says, end_keeps}
+use Rattle.papaya_settles.proofs.Given.MomentsOnSlots.{none_some}
 use Rattle.papaya_lives.specs.Retired.{IsToRetire, ShowsRetired, EndingsKeepRetired}
 use Rattle.papaya_lives.proofs.Stages.{EndsIt, NoneEnds, still_retired, taken_ends}
-use Rattle.papaya_settles.proofs.Given.Scenes.Between.{deed_between}
-use Rattle.papaya_settles.specs.Given.Scenes.Ending.{EndingComesTo, EndingStepsFrom}
-use Rattle.papaya_settles.specs.Given.Scenes.Held.{Held, IsAt}
-use Rattle.papaya_settles.specs.Given.Scenes.Scene.{HasCall, Scene, slot_of}
+use Rattle.papaya_settles.proofs.Given.ScenesBetween.{deed_between}
+use Rattle.papaya_settles.specs.Given.ScenesEnding.{EndingComesTo, EndingStepsFrom}
+use Rattle.papaya_settles.specs.Given.ScenesHeld.{Held, IsAt}
+use Rattle.papaya_settles.specs.Given.ScenesScene.{HasCall, Scene, slot_of}
 
 -- what the collector has is there
 pub handed_lives : (l : Life) → is_handed l ≡ true → lives l ≡ true

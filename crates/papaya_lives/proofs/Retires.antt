@@ -3,32 +3,32 @@
 use Rattle.std.specs.Prelude.{Option, Some, None, ◌==◌, if◌then◌else◌}
 use Rattle.std.proofs.Common.{◌≡◌, ℕ, ◌+◌, ◌<◌, Bool, true, false, eqb, List, [], ◌∷◌, refl, ap, sym, subst, ◌∙◌, arith, eqb-true}
 use Rattle.std.proofs.lemmas.Bool.{eq-eqb}
-use Rattle.papaya_settles.specs.Given.SeizeWords.Mem.{Mem, value_at}
-use Rattle.papaya_settles.specs.Given.SeizeWords.Op.{Found, Stored, Exchanged, Made, Taken, Roomed}
-use Rattle.papaya_settles.specs.Given.SeizeWords.Plan.{Ends, Now}
-use Rattle.papaya_settles.specs.Given.SeizeWords.Word.{block_in, link_to}
-use Rattle.papaya_settles.specs.Given.Seize.Settle as plans
-use Rattle.papaya_settles.specs.Given.Seize.Law.{Effect, Taken as TakenBlock}
-use Rattle.papaya_settles.specs.Given.Seize.declared.rows.settle.Settle.{Settle}
-use Rattle.papaya_settles.specs.Given.Seize.declared.rows.settle.Settled.{Settled}
-use Rattle.papaya_settles.specs.Given.Seize.declared.rows.settle.Settled.TheVariants as settled
-use Rattle.papaya_settles.specs.Given.Seize.declared.rows.settle.Settling.{Settling}
-use Rattle.papaya_settles.specs.Given.Seize.declared.rows.settle.Settling.TheVariants as at
-use Rattle.papaya_settles.specs.Given.Seize.declared.states.TheConstants.{HELD, LAST_SLOT}
-use Rattle.papaya_settles.specs.Given.Seize.World.{World, Row, Rests, Registers, Enters, Settles, Leaves, Defers, Frees, Hand, NoBlock, Making, InUse, Parting, Cutting, Handed, LeftTo, Request, Register', Enter', Leave', LeaveOwned, Refresh, Unregister', Retire, Flush, Defer', Begins, Steps', settles_on, handed_by, with_at}
-use Rattle.papaya_settles.proofs.Given.SeizeMoves.Moves.Tries.{first_pending}
-use Rattle.papaya_settles.proofs.Given.SeizeMoves.State.Ghost.{Life, IsPending, State, is_given}
-use Rattle.papaya_settles.proofs.Given.SeizeMoves.State.Rule.{Inv}
-use Rattle.papaya_settles.proofs.Given.SeizeRule.Points.Aside.{HandFits}
-use Rattle.papaya_settles.proofs.Given.SeizeRule.Points.Known.{FitsAt, FirstsOf, bare}
-use Rattle.papaya_settles.proofs.Given.SeizeRule.Rows.Known.{FitsRow}
-use Rattle.papaya_settles.proofs.Given.SeizeRule.Rows.Told.{RowTold, SettleGoes, SettleEnds, LeaveSwaps, LeaveGoes, LeaveSettled, LeaveEnds, RegisterLooks, RegisterRefused, RegisterTakes, RegisterEnters, EntersSlot, FreesSlot, DeferGoes, DeferPushes, DeferEnds}
-use Rattle.papaya_settles.proofs.Given.SeizeRule.Words.Chains.{Chain, waiting}
-use Rattle.papaya_settles.proofs.Given.SeizeRule.Words.Named.{link, link-block}
-use Rattle.papaya_settles.proofs.Given.SeizeRule.Words.Shows.{Extra, Shows}
-use Rattle.papaya_settles.proofs.Given.SeizeRule.Words.View.{View}
-use Rattle.papaya_settles.proofs.Given.SeizeRule.World.Kept.{steps_next}
-use Rattle.papaya_settles.proofs.Given.SeizeAlone.Histories.Reached.{Reached}
+use Rattle.papaya_settles.specs.Given.SeizeWordsMem.{Mem, value_at}
+use Rattle.papaya_settles.specs.Given.SeizeWordsOp.{Found, Stored, Exchanged, Made, Taken, Roomed}
+use Rattle.papaya_settles.specs.Given.SeizeWordsPlan.{Ends, Now}
+use Rattle.papaya_settles.specs.Given.SeizeWordsWord.{block_in, link_to}
+use Rattle.papaya_settles.specs.Given.SeizeSettle as plans
+use Rattle.papaya_settles.specs.Given.SeizeLaw.{Effect, Taken as TakenBlock}
+use Rattle.papaya_settles.specs.Given.SeizeDeclared.rows.settle.Settle.{Settle}
+use Rattle.papaya_settles.specs.Given.SeizeDeclared.rows.settle.Settled.{Settled}
+use Rattle.papaya_settles.specs.Given.SeizeDeclared.rows.settle.Settled.TheVariants as settled
+use Rattle.papaya_settles.specs.Given.SeizeDeclared.rows.settle.Settling.{Settling}
+use Rattle.papaya_settles.specs.Given.SeizeDeclared.rows.settle.Settling.TheVariants as at
+use Rattle.papaya_settles.specs.Given.SeizeDeclared.states.TheConstants.{HELD, LAST_SLOT}
+use Rattle.papaya_settles.specs.Given.SeizeWorld.{World, Row, Rests, Registers, Enters, Settles, Leaves, Defers, Frees, Hand, NoBlock, Making, InUse, Parting, Cutting, Handed, LeftTo, Request, Register', Enter', Leave', LeaveOwned, Refresh, Unregister', Retire, Flush, Defer', Begins, Steps', settles_on, handed_by, with_at}
+use Rattle.papaya_settles.proofs.Given.SeizeMovesMoves.Tries.{first_pending}
+use Rattle.papaya_settles.proofs.Given.SeizeMovesState.Ghost.{Life, IsPending, State, is_given}
+use Rattle.papaya_settles.proofs.Given.SeizeMovesState.Rule.{Inv}
+use Rattle.papaya_settles.proofs.Given.SeizeRulePoints.Aside.{HandFits}
+use Rattle.papaya_settles.proofs.Given.SeizeRulePoints.Known.{FitsAt, FirstsOf, bare}
+use Rattle.papaya_settles.proofs.Given.SeizeRuleRows.Known.{FitsRow}
+use Rattle.papaya_settles.proofs.Given.SeizeRuleRows.Told.{RowTold, SettleGoes, SettleEnds, LeaveSwaps, LeaveGoes, LeaveSettled, LeaveEnds, RegisterLooks, RegisterRefused, RegisterTakes, RegisterEnters, EntersSlot, FreesSlot, DeferGoes, DeferPushes, DeferEnds}
+use Rattle.papaya_settles.proofs.Given.SeizeRuleWords.Chains.{Chain, waiting}
+use Rattle.papaya_settles.proofs.Given.SeizeRuleWords.Named.{link, link-block}
+use Rattle.papaya_settles.proofs.Given.SeizeRuleWords.Shows.{Extra, Shows}
+use Rattle.papaya_settles.proofs.Given.SeizeRuleWords.View.{View}
+use Rattle.papaya_settles.proofs.Given.SeizeRuleWorld.Kept.{steps_next}
+use Rattle.papaya_settles.proofs.Given.SeizeAloneHistories.Reached.{Reached}
 use Rattle.papaya_settles.specs.Due.{due_in_settle}
 use Rattle.papaya_lives.specs.Retired.{IsDue, IsToRetire}
 

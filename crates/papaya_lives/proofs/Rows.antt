@@ -2,22 +2,22 @@
 use Rattle.std.specs.Prelude.{Some, if◌then◌else◌, ◌⊎◌}
 use Rattle.std.proofs.Common.{◌≡◌, ◌≢◌, ℕ, ◌/◌, Bool, true, false, List, refl, ap, sym, subst, ◌∙◌, inl, inr}
 use Rattle.std.proofs.lemmas.Bool.{cases_eq, eq-eqb}
-use Rattle.papaya_settles.specs.Given.SeizeWords.Word.{link_to}
-use Rattle.papaya_settles.specs.Given.SeizeWords.declared.at.At.{At}
-use Rattle.papaya_settles.specs.Given.SeizeWords.declared.at.At.TheVariants.{Word}
-use Rattle.papaya_settles.specs.Given.Seize.Defer.{deferring}
-use Rattle.papaya_settles.specs.Given.Seize.declared.rows.defer.Deferring.{Deferring}
-use Rattle.papaya_settles.specs.Given.Seize.declared.rows.defer.Deferring.TheVariants as at
-use Rattle.papaya_settles.specs.Given.Seize.World.{Row, Defers, Use}
-use Rattle.papaya_settles.proofs.Given.SeizeMoves.State.Ghost.{put, Entry, Life, IsDeferring, IsDeferred, State}
-use Rattle.papaya_settles.proofs.Given.SeizeMoves.State.Moves
-use Rattle.papaya_settles.proofs.Given.SeizeMoves.State.Rule.{Inv}
-use Rattle.papaya_settles.proofs.Given.SeizeRule.Points.Told.{part}
-use Rattle.papaya_settles.proofs.Given.SeizeRule.Rows.Known.{OnWay as IsOnTheWay, FitsDefer, FitsRow}
-use Rattle.papaya_settles.proofs.Given.SeizeRule.Rows.Told.{list_off, IsOnWay, RowTold, SettleGoes, SettleEnds, LeaveSwaps, LeaveGoes, LeaveSettled, LeaveEnds, RegisterLooks, RegisterRefused, RegisterTakes, RegisterEnters, EntersSlot, FreesSlot, DeferGoes, DeferPushes, DeferEnds}
-use Rattle.papaya_settles.proofs.Given.SeizeRule.Words.Named.{link, link-block}
-use Rattle.papaya_settles.proofs.Given.SeizeRule.Words.Shows.{Extra}
-use Rattle.papaya_settles.proofs.Given.SeizeRule.Words.View.{View}
+use Rattle.papaya_settles.specs.Given.SeizeWordsWord.{link_to}
+use Rattle.papaya_settles.specs.Given.SeizeWordsDeclared.at.At.{At}
+use Rattle.papaya_settles.specs.Given.SeizeWordsDeclared.at.At.TheVariants.{Word}
+use Rattle.papaya_settles.specs.Given.SeizeDefer.{deferring}
+use Rattle.papaya_settles.specs.Given.SeizeDeclared.rows.defer.Deferring.{Deferring}
+use Rattle.papaya_settles.specs.Given.SeizeDeclared.rows.defer.Deferring.TheVariants as at
+use Rattle.papaya_settles.specs.Given.SeizeWorld.{Row, Defers, Use}
+use Rattle.papaya_settles.proofs.Given.SeizeMovesState.Ghost.{put, Entry, Life, IsDeferring, IsDeferred, State}
+use Rattle.papaya_settles.proofs.Given.SeizeMovesState.Moves
+use Rattle.papaya_settles.proofs.Given.SeizeMovesState.Rule.{Inv}
+use Rattle.papaya_settles.proofs.Given.SeizeRulePoints.Told.{part}
+use Rattle.papaya_settles.proofs.Given.SeizeRuleRows.Known.{OnWay as IsOnTheWay, FitsDefer, FitsRow}
+use Rattle.papaya_settles.proofs.Given.SeizeRuleRows.Told.{list_off, IsOnWay, RowTold, SettleGoes, SettleEnds, LeaveSwaps, LeaveGoes, LeaveSettled, LeaveEnds, RegisterLooks, RegisterRefused, RegisterTakes, RegisterEnters, EntersSlot, FreesSlot, DeferGoes, DeferPushes, DeferEnds}
+use Rattle.papaya_settles.proofs.Given.SeizeRuleWords.Named.{link, link-block}
+use Rattle.papaya_settles.proofs.Given.SeizeRuleWords.Shows.{Extra}
+use Rattle.papaya_settles.proofs.Given.SeizeRuleWords.View.{View}
 use Rattle.papaya_lives.specs.Waiting.{waits_behind}
 use Rattle.papaya_lives.proofs.Lives.{WaitsIn, OnWay, OnList, TakenOver, elsewhere, as_before, by_unmoved, same_state, stays, told_waits}
 

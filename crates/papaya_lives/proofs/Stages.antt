@@ -4,31 +4,31 @@ use Rattle.std.specs.List.{list_any}
 use Rattle.std.proofs.Common.{refl, ap, sym, ◌∙◌, inl, inr}
 use Rattle.std.proofs.lemmas.Bool.{cases_eq}
 use Rattle.std.proofs.lemmas.List.Folds.{list_any-append}
-use Rattle.papaya_settles.specs.Given.SeizeWords.declared.at.At.TheVariants.{Root, Used, Slot, Entry, Word}
-use Rattle.papaya_settles.specs.Given.SeizeWords.Word.{block_in}
-use Rattle.papaya_settles.specs.Given.Tables.declared.table_words.TheConstants.{NEXT}
-use Rattle.papaya_settles.specs.Given.Runs.declared.outcome.TableShape.{TableShape}
-use Rattle.papaya_settles.specs.Given.Schedules.declared.effect.Effect.{Effect}
-use Rattle.papaya_settles.specs.Given.Schedules.declared.effect.Effect.TheVariants.{Asked, PairMade, PairGivenUp, TableMade, TableGivenUp, Linked, Promoted, Copied, Stored, Replaced, Removed, Counted, Deferred, Retired, Reclaimed, Ended, Taken}
-use Rattle.papaya_settles.specs.Given.Schedules.declared.effect.Table.{Table}
-use Rattle.papaya_settles.specs.Given.Schedules.declared.effect.Thing.TheVariants.{APair, ATable}
-use Rattle.papaya_settles.specs.Given.Schedules.Effects.{at_stage, with_effect, with_effects}
-use Rattle.papaya_settles.specs.Given.Schedules.Moment.{Stage, IsLinked, IsRetired, TableThere, Moment}
-use Rattle.papaya_settles.specs.Given.Schedules.Things.{same_table}
-use Rattle.papaya_settles.specs.Given.Schedules.Views.{is_there, is_stage, is_retired}
-use Rattle.papaya_settles.specs.Given.Teller.declared.changed.Changed.{Changed}
-use Rattle.papaya_settles.specs.Given.Teller.declared.changed.Changed.TheVariants as changed
-use Rattle.papaya_settles.specs.Given.Teller.declared.changed.Kind.{Kind}
-use Rattle.papaya_settles.specs.Given.Teller.declared.changed.Kind.TheVariants as kind
-use Rattle.papaya_settles.specs.Given.Effects.Effects.{names_same, named, table_at, pair_taken, table_taken, taken_by, is_place, made_role, linked_on, stored_on, in_table_on, in_block_on, known_after}
-use Rattle.papaya_settles.specs.Given.Effects.Known.{Known, with_role}
-use Rattle.papaya_settles.specs.Given.Effects.declared.acting.Acting.{Acting}
-use Rattle.papaya_settles.specs.Given.Effects.declared.acting.Acting.TheVariants as acts
-use Rattle.papaya_settles.specs.Given.Effects.declared.role.Role.{Role}
-use Rattle.papaya_settles.specs.Given.Effects.declared.role.Role.TheVariants as role
-use Rattle.papaya_settles.proofs.Given.Follows.Alike.{put_here, put_elsewhere}
-use Rattle.papaya_settles.proofs.Given.Follows.Told.{roomed_as_many}
-use Rattle.papaya_settles.proofs.Given.Spots.Unreclaimed.{table_is, and_both, or_right}
+use Rattle.papaya_settles.specs.Given.SeizeWordsDeclared.at.At.TheVariants.{Root, Used, Slot, Entry, Word}
+use Rattle.papaya_settles.specs.Given.SeizeWordsWord.{block_in}
+use Rattle.papaya_settles.specs.Given.TablesDeclared.table_words.TheConstants.{NEXT}
+use Rattle.papaya_settles.specs.Given.RunsDeclared.outcome.TableShape.{TableShape}
+use Rattle.papaya_settles.specs.Given.SchedulesDeclared.effect.Effect.{Effect}
+use Rattle.papaya_settles.specs.Given.SchedulesDeclared.effect.Effect.TheVariants.{Asked, PairMade, PairGivenUp, TableMade, TableGivenUp, Linked, Promoted, Copied, Stored, Replaced, Removed, Counted, Deferred, Retired, Reclaimed, Ended, Taken}
+use Rattle.papaya_settles.specs.Given.SchedulesDeclared.effect.Table.{Table}
+use Rattle.papaya_settles.specs.Given.SchedulesDeclared.effect.Thing.TheVariants.{APair, ATable}
+use Rattle.papaya_settles.specs.Given.SchedulesEffects.{at_stage, with_effect, with_effects}
+use Rattle.papaya_settles.specs.Given.SchedulesMoment.{Stage, IsLinked, IsRetired, TableThere, Moment}
+use Rattle.papaya_settles.specs.Given.SchedulesThings.{same_table}
+use Rattle.papaya_settles.specs.Given.SchedulesViews.{is_there, is_stage, is_retired}
+use Rattle.papaya_settles.specs.Given.TellerDeclared.changed.Changed.{Changed}
+use Rattle.papaya_settles.specs.Given.TellerDeclared.changed.Changed.TheVariants as changed
+use Rattle.papaya_settles.specs.Given.TellerDeclared.changed.Kind.{Kind}
+use Rattle.papaya_settles.specs.Given.TellerDeclared.changed.Kind.TheVariants as kind
+use Rattle.papaya_settles.specs.Given.EffectsEffects.{names_same, named, table_at, pair_taken, table_taken, taken_by, is_place, made_role, linked_on, stored_on, in_table_on, in_block_on, known_after}
+use Rattle.papaya_settles.specs.Given.EffectsKnown.{Known, with_role}
+use Rattle.papaya_settles.specs.Given.EffectsDeclared.acting.Acting.{Acting}
+use Rattle.papaya_settles.specs.Given.EffectsDeclared.acting.Acting.TheVariants as acts
+use Rattle.papaya_settles.specs.Given.EffectsDeclared.role.Role.{Role}
+use Rattle.papaya_settles.specs.Given.EffectsDeclared.role.Role.TheVariants as role
+use Rattle.papaya_settles.proofs.Given.FollowsAlike.{put_here, put_elsewhere}
+use Rattle.papaya_settles.proofs.Given.FollowsTold.{roomed_as_many}
+use Rattle.papaya_settles.proofs.Given.SpotsUnreclaimed.{table_is, and_both, or_right}
 
 -- what passes one test passes another one once it has changed
 any_map : {X : Type 0} (p q : X → Bool) (f : X → X) → ((x : X) → p x ≡ true → q (f x) ≡ true) → (xs : List X) → list_any p xs ≡ true → list_any q (map f xs) ≡ true

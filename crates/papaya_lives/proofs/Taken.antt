@@ -2,23 +2,23 @@
 use Rattle.std.specs.Prelude.{◌≡◌, ◌≢◌, ◌⊎◌, ℕ, zero, suc, List, [], ◌∷◌, ◌++◌, Option, Some, None, IsSome, false, true}
 use Rattle.std.proofs.Common.{refl, ap, sym, subst, ◌∙◌, arith, inl, inr}
 use Rattle.std.proofs.lemmas.Bool.{cases_eq}
-use Rattle.papaya_settles.specs.Given.SeizeWords.Mem.{Mem, value_at}
-use Rattle.papaya_settles.specs.Given.Seize.Law.{Effect as LogEffect, Entered, Left as LeftSlot, Retired, Taken, is_retired, IsSound}
-use Rattle.papaya_settles.specs.Given.Seize.Sequence.{taken_in}
-use Rattle.papaya_settles.specs.Given.Seize.World.{World, Hand, NoBlock, Making, InUse, Parting, Cutting, Handed, LeftTo, Steps', times}
-use Rattle.papaya_settles.proofs.Given.SeizeMoves.State.Ghost.{Life, is_given}
-use Rattle.papaya_settles.proofs.Given.SeizeRule.Points.Aside.{HandFits}
-use Rattle.papaya_settles.proofs.Given.SeizeRule.Rows.Effects.{IsOneStep}
-use Rattle.papaya_settles.proofs.Given.SeizeAlone.Histories.NotTaken.{did, taken_gone}
-use Rattle.papaya_settles.proofs.Given.SeizeAlone.Histories.Reached.{Reached, steps_reached}
-use Rattle.papaya_settles.proofs.Given.SeizeAlone.Spared.Rows.{RowStepped}
-use Rattle.papaya_settles.specs.Given.Tables.Nodes.{deferred_word}
-use Rattle.papaya_settles.specs.Given.Tables.declared.node.Node.{Node}
-use Rattle.papaya_settles.specs.Given.Teller.declared.changed.Changed.{Changed}
-use Rattle.papaya_settles.specs.Given.Teller.declared.changed.Changed.TheVariants as changed
-use Rattle.papaya_settles.specs.Given.Callers.Together.{CameAbout}
-use Rattle.papaya_settles.proofs.Given.Follows.Operations.{LeavesBy}
-use Rattle.papaya_settles.proofs.Given.Others.RowPlans.{TellsRow}
+use Rattle.papaya_settles.specs.Given.SeizeWordsMem.{Mem, value_at}
+use Rattle.papaya_settles.specs.Given.SeizeLaw.{Effect as LogEffect, Entered, Left as LeftSlot, Retired, Taken, is_retired, IsSound}
+use Rattle.papaya_settles.specs.Given.SeizeSequence.{taken_in}
+use Rattle.papaya_settles.specs.Given.SeizeWorld.{World, Hand, NoBlock, Making, InUse, Parting, Cutting, Handed, LeftTo, Steps', times}
+use Rattle.papaya_settles.proofs.Given.SeizeMovesState.Ghost.{Life, is_given}
+use Rattle.papaya_settles.proofs.Given.SeizeRulePoints.Aside.{HandFits}
+use Rattle.papaya_settles.proofs.Given.SeizeRuleRows.Effects.{IsOneStep}
+use Rattle.papaya_settles.proofs.Given.SeizeAloneHistories.NotTaken.{did, taken_gone}
+use Rattle.papaya_settles.proofs.Given.SeizeAloneHistories.Reached.{Reached, steps_reached}
+use Rattle.papaya_settles.proofs.Given.SeizeAloneSpared.Rows.{RowStepped}
+use Rattle.papaya_settles.specs.Given.TablesNodes.{deferred_word}
+use Rattle.papaya_settles.specs.Given.TablesDeclared.node.Node.{Node}
+use Rattle.papaya_settles.specs.Given.TellerDeclared.changed.Changed.{Changed}
+use Rattle.papaya_settles.specs.Given.TellerDeclared.changed.Changed.TheVariants as changed
+use Rattle.papaya_settles.specs.Given.CallersTogether.{CameAbout}
+use Rattle.papaya_settles.proofs.Given.FollowsOperations.{LeavesBy}
+use Rattle.papaya_settles.proofs.Given.OthersRowPlans.{TellsRow}
 use Rattle.papaya_lives.specs.Behind.{IsLeft}
 use Rattle.papaya_lives.proofs.Logs.{one_apart}
 use Rattle.papaya_lives.proofs.Worlds.{Kept, runs_kept, start_kept}

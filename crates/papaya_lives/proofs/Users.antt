@@ -1,20 +1,20 @@
 -- What users do, none of it a row's, leaves what waits behind tables there.
 use Rattle.std.specs.Prelude.{◌≡◌, ◌⊎◌, ℕ, ◌+◌, true, List, [], ◌∷◌, Option, Some, None, Ok, Err, IsSome}
 use Rattle.std.proofs.Common.{refl, ap, sym, subst, ◌∙◌, inl, inr}
-use Rattle.papaya_settles.specs.Given.SeizeWords.Mem.{Mem, value_at, value_in, Took}
-use Rattle.papaya_settles.specs.Given.SeizeWords.Op.{Out, Make, Found, Stored, Exchanged, Made, Taken, Roomed}
-use Rattle.papaya_settles.specs.Given.Seize.declared.states.TheConstants.{LAST_SLOT}
-use Rattle.papaya_settles.specs.Given.Seize.Sequence.{IsUsers}
-use Rattle.papaya_settles.specs.Given.Seize.World.{World, Hand, NoBlock, Making, InUse, Parting, Cutting, Handed, LeftTo, MayCut, Event, Begin, Step, Makes, Drops, Links, Parts, Unlinks, Rewrites, Operates, Ends, LeavesOver, Relinks, Clears, Chooses, Happens, Runs, with_at, made_by}
-use Rattle.papaya_settles.proofs.Given.SeizeRule.Points.Aside.{HandFits}
-use Rattle.papaya_settles.proofs.Given.SeizeRule.Words.Shows.{lives}
-use Rattle.papaya_settles.proofs.Given.SeizeRule.Words.There.{value_there}
-use Rattle.papaya_settles.proofs.Given.SeizeMoves.State.Ghost.{Life}
-use Rattle.papaya_settles.specs.Given.Tables.Nodes.{deferred_word}
-use Rattle.papaya_settles.specs.Given.Schedules.declared.effect.Table.{Table}
-use Rattle.papaya_settles.specs.Given.Schedules.Moment.{Behind}
-use Rattle.papaya_settles.specs.Given.Rule.InWorld.{AllUsers}
-use Rattle.papaya_settles.proofs.Given.Rule.World.Hands.{at_cases}
+use Rattle.papaya_settles.specs.Given.SeizeWordsMem.{Mem, value_at, value_in, Took}
+use Rattle.papaya_settles.specs.Given.SeizeWordsOp.{Out, Make, Found, Stored, Exchanged, Made, Taken, Roomed}
+use Rattle.papaya_settles.specs.Given.SeizeDeclared.states.TheConstants.{LAST_SLOT}
+use Rattle.papaya_settles.specs.Given.SeizeSequence.{IsUsers}
+use Rattle.papaya_settles.specs.Given.SeizeWorld.{World, Hand, NoBlock, Making, InUse, Parting, Cutting, Handed, LeftTo, MayCut, Event, Begin, Step, Makes, Drops, Links, Parts, Unlinks, Rewrites, Operates, Ends, LeavesOver, Relinks, Clears, Chooses, Happens, Runs, with_at, made_by}
+use Rattle.papaya_settles.proofs.Given.SeizeRulePoints.Aside.{HandFits}
+use Rattle.papaya_settles.proofs.Given.SeizeRuleWords.Shows.{lives}
+use Rattle.papaya_settles.proofs.Given.SeizeRuleWords.There.{value_there}
+use Rattle.papaya_settles.proofs.Given.SeizeMovesState.Ghost.{Life}
+use Rattle.papaya_settles.specs.Given.TablesNodes.{deferred_word}
+use Rattle.papaya_settles.specs.Given.SchedulesDeclared.effect.Table.{Table}
+use Rattle.papaya_settles.specs.Given.SchedulesMoment.{Behind}
+use Rattle.papaya_settles.specs.Given.RuleInWorld.{AllUsers}
+use Rattle.papaya_settles.proofs.Given.RuleWorld.Hands.{at_cases}
 use Rattle.papaya_lives.specs.Behind.{IsLeft, LiesBehind, EachWaits}
 use Rattle.papaya_lives.specs.Steps.{UsersKeepWaiting}
 use Rattle.papaya_lives.specs.Waiting.{waits_behind}

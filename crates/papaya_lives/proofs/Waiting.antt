@@ -1,49 +1,49 @@
 -- What waits behind tables does so where nothing happens to it, and none of it is reclaimed.
 use Rattle.std.specs.Prelude.{◌≡◌, ◌⊎◌, ℕ, nat_lt, ◌&&◌, Bool, true, false, List, [], ◌∷◌, Some, None, if◌then◌else◌}
 use Rattle.std.proofs.Common.{refl, ap, sym, subst, ◌∙◌, inl, inr}
-use Rattle.papaya_settles.specs.Given.SeizeWords.Mem.{Mem}
-use Rattle.papaya_settles.specs.Given.SeizeWords.declared.at.At.TheVariants.{Root, Used, Slot, Entry, Word}
-use Rattle.papaya_settles.specs.Given.Seize.Law.{Effect as LogEffect}
-use Rattle.papaya_settles.specs.Given.Seize.World.{World, Hand, Step, Begins}
-use Rattle.papaya_settles.proofs.Given.SeizeAlone.Histories.Reached.{Reached}
-use Rattle.papaya_settles.specs.Given.Tables.Nodes.{deferred_word}
-use Rattle.papaya_settles.specs.Given.Tables.declared.node.Node.{Node}
-use Rattle.papaya_settles.specs.Given.Schedules.declared.effect.Effect.{Effect}
-use Rattle.papaya_settles.specs.Given.Schedules.declared.effect.Effect.TheVariants.{Asked, Reclaimed, Taken}
-use Rattle.papaya_settles.specs.Given.Schedules.declared.effect.Growth.TheVariants.{ABucket}
-use Rattle.papaya_settles.specs.Given.Schedules.declared.effect.Table.{Table}
-use Rattle.papaya_settles.specs.Given.Schedules.declared.effect.Thing.TheVariants.{APair, ATable}
-use Rattle.papaya_settles.specs.Given.Schedules.Effects.{AtEachEffect}
-use Rattle.papaya_settles.specs.Given.Schedules.Moment.{Place, Behind, Moment}
-use Rattle.papaya_settles.specs.Given.Teller.declared.changed.Changed.{Changed}
-use Rattle.papaya_settles.specs.Given.Teller.declared.changed.Changed.TheVariants as changed
-use Rattle.papaya_settles.proofs.Given.Callers.Together.Came.{came_reached}
-use Rattle.papaya_settles.specs.Given.Effects.Effects.{names_same, taken_by, effects_of}
-use Rattle.papaya_settles.specs.Given.Effects.Known.{Known}
-use Rattle.papaya_settles.specs.Given.Effects.declared.acting.Acting.TheVariants.{Row}
-use Rattle.papaya_settles.specs.Given.Effects.declared.role.Role.{Role}
-use Rattle.papaya_settles.specs.Given.Effects.declared.role.Role.TheVariants as role
-use Rattle.papaya_settles.specs.Given.Scenes.declared.row.RowTold.{RowTold}
-use Rattle.papaya_settles.specs.Given.Scenes.declared.row.SlotCall.{SlotCall}
-use Rattle.papaya_settles.specs.Given.Scenes.declared.row.SlotCall.TheVariants as call
-use Rattle.papaya_settles.specs.Given.Scenes.declared.row.SlotRow.{SlotRow}
-use Rattle.papaya_settles.proofs.Given.Follows.Operations.{LeavesBy, operated_leaves}
-use Rattle.papaya_settles.proofs.Given.Others.RowPlans.{TellsRow, row_tells, row_operated}
-use Rattle.papaya_settles.specs.Given.Spots.OnSlots.{WaitUnreclaimed}
-use Rattle.papaya_settles.specs.Given.Spots.Unreclaimed.{is_unreclaimed}
-use Rattle.papaya_settles.specs.Given.Moments.Endings.{WaitsOn}
-use Rattle.papaya_settles.proofs.Given.Moments.OnSlots.{begun_hands}
+use Rattle.papaya_settles.specs.Given.SeizeWordsMem.{Mem}
+use Rattle.papaya_settles.specs.Given.SeizeWordsDeclared.at.At.TheVariants.{Root, Used, Slot, Entry, Word}
+use Rattle.papaya_settles.specs.Given.SeizeLaw.{Effect as LogEffect}
+use Rattle.papaya_settles.specs.Given.SeizeWorld.{World, Hand, Step, Begins}
+use Rattle.papaya_settles.proofs.Given.SeizeAloneHistories.Reached.{Reached}
+use Rattle.papaya_settles.specs.Given.TablesNodes.{deferred_word}
+use Rattle.papaya_settles.specs.Given.TablesDeclared.node.Node.{Node}
+use Rattle.papaya_settles.specs.Given.SchedulesDeclared.effect.Effect.{Effect}
+use Rattle.papaya_settles.specs.Given.SchedulesDeclared.effect.Effect.TheVariants.{Asked, Reclaimed, Taken}
+use Rattle.papaya_settles.specs.Given.SchedulesDeclared.effect.Growth.TheVariants.{ABucket}
+use Rattle.papaya_settles.specs.Given.SchedulesDeclared.effect.Table.{Table}
+use Rattle.papaya_settles.specs.Given.SchedulesDeclared.effect.Thing.TheVariants.{APair, ATable}
+use Rattle.papaya_settles.specs.Given.SchedulesEffects.{AtEachEffect}
+use Rattle.papaya_settles.specs.Given.SchedulesMoment.{Place, Behind, Moment}
+use Rattle.papaya_settles.specs.Given.TellerDeclared.changed.Changed.{Changed}
+use Rattle.papaya_settles.specs.Given.TellerDeclared.changed.Changed.TheVariants as changed
+use Rattle.papaya_settles.proofs.Given.CallersTogether.Came.{came_reached}
+use Rattle.papaya_settles.specs.Given.EffectsEffects.{names_same, taken_by, effects_of}
+use Rattle.papaya_settles.specs.Given.EffectsKnown.{Known}
+use Rattle.papaya_settles.specs.Given.EffectsDeclared.acting.Acting.TheVariants.{Row}
+use Rattle.papaya_settles.specs.Given.EffectsDeclared.role.Role.{Role}
+use Rattle.papaya_settles.specs.Given.EffectsDeclared.role.Role.TheVariants as role
+use Rattle.papaya_settles.specs.Given.ScenesDeclared.row.RowTold.{RowTold}
+use Rattle.papaya_settles.specs.Given.ScenesDeclared.row.SlotCall.{SlotCall}
+use Rattle.papaya_settles.specs.Given.ScenesDeclared.row.SlotCall.TheVariants as call
+use Rattle.papaya_settles.specs.Given.ScenesDeclared.row.SlotRow.{SlotRow}
+use Rattle.papaya_settles.proofs.Given.FollowsOperations.{LeavesBy, operated_leaves}
+use Rattle.papaya_settles.proofs.Given.OthersRowPlans.{TellsRow, row_tells, row_operated}
+use Rattle.papaya_settles.specs.Given.SpotsOnSlots.{WaitUnreclaimed}
+use Rattle.papaya_settles.specs.Given.SpotsUnreclaimed.{is_unreclaimed}
+use Rattle.papaya_settles.specs.Given.MomentsEndings.{WaitsOn}
+use Rattle.papaya_settles.proofs.Given.MomentsOnSlots.{begun_hands}
 use Rattle.papaya_lives.specs.Behind.{IsLeft, LiesBehind, EachWaits, ShowsWaiting, WaitingIsThere}
 use Rattle.papaya_lives.specs.Steps.{WaitingBegins, OthersLeaveWaiting, EndingsBeginWaiting, EffectsFindWaiting, RowsBeginWaiting, RowsKeepWaiting, RowsFindWaiting}
 use Rattle.papaya_lives.specs.Waiting.{waits_behind}
 use Rattle.papaya_lives.proofs.Each.{each_on, found}
 use Rattle.papaya_lives.proofs.OnSlots.{row_waiting}
-use Rattle.papaya_settles.proofs.Given.Scenes.May.{may_row}
-use Rattle.papaya_settles.specs.Given.Scenes.Ending.{ending_begun}
-use Rattle.papaya_settles.specs.Given.Scenes.Held.{Held, IsAt}
-use Rattle.papaya_settles.specs.Given.Scenes.OnSlots.{HappensAt, RowSteps}
-use Rattle.papaya_settles.specs.Given.Scenes.Rows.{request_of}
-use Rattle.papaya_settles.specs.Given.Scenes.Scene.{IsOnSlot, Scene, slot_of}
+use Rattle.papaya_settles.proofs.Given.ScenesMay.{may_row}
+use Rattle.papaya_settles.specs.Given.ScenesEnding.{ending_begun}
+use Rattle.papaya_settles.specs.Given.ScenesHeld.{Held, IsAt}
+use Rattle.papaya_settles.specs.Given.ScenesOnSlots.{HappensAt, RowSteps}
+use Rattle.papaya_settles.specs.Given.ScenesRows.{request_of}
+use Rattle.papaya_settles.specs.Given.ScenesScene.{IsOnSlot, Scene, slot_of}
 
 -- by the same log, with the same hands
 module _ {K V : Type 0} (known : Known) (w w2 : World (Node K V)) (waits : (b : ℕ) → waits_behind b w2.log ≡ waits_behind b w.log) (hands : w2.hand ≡ w.hand) where

@@ -3,43 +3,43 @@
 use Rattle.std.specs.Prelude.{◌≡◌, ◌⊎◌, ℕ, zero, suc, ◌==◌, ◌<◌, ◌≤◌, Bool, true, false, not, List, [], ◌∷◌, Option, Some, None, IsSome, if◌then◌else◌}
 use Rattle.std.proofs.Common.{refl, ap, sym, subst, ◌∙◌, inl, inr, arith}
 use Rattle.std.proofs.lemmas.Bool.{eq-eqb}
-use Rattle.papaya_settles.specs.Given.SeizeWords.Mem.{value_at}
-use Rattle.papaya_settles.specs.Given.Seize.World.{World, Hand, NoBlock, Making, InUse, Parting, Cutting, Handed, LeftTo, IsNotLeft, times}
-use Rattle.papaya_settles.specs.Given.Seize.declared.rows.settle.Settled.{Settled}
-use Rattle.papaya_settles.specs.Given.Seize.declared.rows.settle.Settled.TheVariants as settled
-use Rattle.papaya_settles.specs.Given.Tables.Nodes.{deferred_word}
-use Rattle.papaya_settles.specs.Given.Tables.declared.node.Node.{Node}
-use Rattle.papaya_settles.specs.Given.Tables.declared.node.Node.TheVariants as node
-use Rattle.papaya_settles.specs.Given.Raw.declared.machines.end_map.EndMap.{EndMap}
-use Rattle.papaya_settles.specs.Given.Schedules.declared.effect.Effect.{Effect}
-use Rattle.papaya_settles.specs.Given.Schedules.declared.effect.Effect.TheVariants.{PairGivenUp, TableGivenUp, Deferred, Reclaimed, Ended, Taken}
-use Rattle.papaya_settles.specs.Given.Schedules.declared.effect.Table.{Table}
-use Rattle.papaya_settles.specs.Given.Schedules.declared.effect.Thing.TheVariants.{APair, ATable}
-use Rattle.papaya_settles.specs.Given.Schedules.Effects.{all_at, deferred_by, with_effect, with_effects}
-use Rattle.papaya_settles.specs.Given.Schedules.Lists.{is_among}
-use Rattle.papaya_settles.specs.Given.Schedules.Moment.{Place, Behind, Left, GivenBack, Deferral, Moment}
-use Rattle.papaya_settles.specs.Given.Schedules.Things.{same_table}
-use Rattle.papaya_settles.specs.Given.Schedules.Views.{behind}
-use Rattle.papaya_settles.specs.Given.Teller.declared.changed.Changed.{Changed}
-use Rattle.papaya_settles.specs.Given.Teller.declared.changed.Changed.TheVariants as changed
-use Rattle.papaya_settles.specs.Given.Callers.Together.{CameAbout}
-use Rattle.papaya_settles.specs.Given.Effects.Effects.{taken_by, effects_of, known_after}
-use Rattle.papaya_settles.specs.Given.Effects.Known.{Known}
-use Rattle.papaya_settles.specs.Given.Effects.declared.acting.Acting.TheVariants.{Ending}
-use Rattle.papaya_settles.specs.Given.Effects.declared.role.Role.{Role}
-use Rattle.papaya_settles.specs.Given.Effects.declared.role.Role.TheVariants as role
-use Rattle.papaya_settles.specs.Given.Finishes.Endings.{Finishing, FinishingFacts, StepsOfEnding}
-use Rattle.papaya_settles.specs.Given.Finishes.FactsEnds.{taken_by as taken_of, left_by}
-use Rattle.papaya_settles.proofs.Given.Finishes.Ends.Frames.{that_one}
-use Rattle.papaya_settles.specs.Given.Follows.Blocks.{HasRole}
-use Rattle.papaya_settles.specs.Given.Follows.Steps.{TakesNone}
-use Rattle.papaya_settles.proofs.Given.Follows.Alike.{is_calm, AllCalm, calm_still, still_all, put_elsewhere}
-use Rattle.papaya_settles.proofs.Given.Follows.Onward.{IsOfMap}
-use Rattle.papaya_settles.specs.Given.Others.Endings.{ending_after, TellsNext}
-use Rattle.papaya_settles.proofs.Given.Others.Ends.{tells_next}
-use Rattle.papaya_settles.proofs.Given.Spots.Unreclaimed.{same_itself}
-use Rattle.papaya_settles.specs.Given.Moments.Whole.{ShowsWhole}
-use Rattle.papaya_settles.proofs.Given.Moments.Ends.{says, end_keeps}
+use Rattle.papaya_settles.specs.Given.SeizeWordsMem.{value_at}
+use Rattle.papaya_settles.specs.Given.SeizeWorld.{World, Hand, NoBlock, Making, InUse, Parting, Cutting, Handed, LeftTo, IsNotLeft, times}
+use Rattle.papaya_settles.specs.Given.SeizeDeclared.rows.settle.Settled.{Settled}
+use Rattle.papaya_settles.specs.Given.SeizeDeclared.rows.settle.Settled.TheVariants as settled
+use Rattle.papaya_settles.specs.Given.TablesNodes.{deferred_word}
+use Rattle.papaya_settles.specs.Given.TablesDeclared.node.Node.{Node}
+use Rattle.papaya_settles.specs.Given.TablesDeclared.node.Node.TheVariants as node
+use Rattle.papaya_settles.specs.Given.RawDeclared.machines.end_map.EndMap.{EndMap}
+use Rattle.papaya_settles.specs.Given.SchedulesDeclared.effect.Effect.{Effect}
+use Rattle.papaya_settles.specs.Given.SchedulesDeclared.effect.Effect.TheVariants.{PairGivenUp, TableGivenUp, Deferred, Reclaimed, Ended, Taken}
+use Rattle.papaya_settles.specs.Given.SchedulesDeclared.effect.Table.{Table}
+use Rattle.papaya_settles.specs.Given.SchedulesDeclared.effect.Thing.TheVariants.{APair, ATable}
+use Rattle.papaya_settles.specs.Given.SchedulesEffects.{all_at, deferred_by, with_effect, with_effects}
+use Rattle.papaya_settles.specs.Given.SchedulesLists.{is_among}
+use Rattle.papaya_settles.specs.Given.SchedulesMoment.{Place, Behind, Left, GivenBack, Deferral, Moment}
+use Rattle.papaya_settles.specs.Given.SchedulesThings.{same_table}
+use Rattle.papaya_settles.specs.Given.SchedulesViews.{behind}
+use Rattle.papaya_settles.specs.Given.TellerDeclared.changed.Changed.{Changed}
+use Rattle.papaya_settles.specs.Given.TellerDeclared.changed.Changed.TheVariants as changed
+use Rattle.papaya_settles.specs.Given.CallersTogether.{CameAbout}
+use Rattle.papaya_settles.specs.Given.EffectsEffects.{taken_by, effects_of, known_after}
+use Rattle.papaya_settles.specs.Given.EffectsKnown.{Known}
+use Rattle.papaya_settles.specs.Given.EffectsDeclared.acting.Acting.TheVariants.{Ending}
+use Rattle.papaya_settles.specs.Given.EffectsDeclared.role.Role.{Role}
+use Rattle.papaya_settles.specs.Given.EffectsDeclared.role.Role.TheVariants as role
+use Rattle.papaya_settles.specs.Given.FinishesEndings.{Finishing, FinishingFacts, StepsOfEnding}
+use Rattle.papaya_settles.specs.Given.FinishesFactsEnds.{taken_by as taken_of, left_by}
+use Rattle.papaya_settles.proofs.Given.FinishesEnds.Frames.{that_one}
+use Rattle.papaya_settles.specs.Given.FollowsBlocks.{HasRole}
+use Rattle.papaya_settles.specs.Given.FollowsSteps.{TakesNone}
+use Rattle.papaya_settles.proofs.Given.FollowsAlike.{is_calm, AllCalm, calm_still, still_all, put_elsewhere}
+use Rattle.papaya_settles.proofs.Given.FollowsOnward.{IsOfMap}
+use Rattle.papaya_settles.specs.Given.OthersEndings.{ending_after, TellsNext}
+use Rattle.papaya_settles.proofs.Given.OthersEnds.{tells_next}
+use Rattle.papaya_settles.proofs.Given.SpotsUnreclaimed.{same_itself}
+use Rattle.papaya_settles.specs.Given.MomentsWhole.{ShowsWhole}
+use Rattle.papaya_settles.proofs.Given.MomentsEnds.{says, end_keeps}
 use Rattle.papaya_lives.specs.Behind.{IsLeft, LiesBehind, EachWaits, ShowsWaiting, WaitsOnce}
 use Rattle.papaya_lives.specs.Steps.{EndingsKeepWaiting}
 use Rattle.papaya_lives.specs.Waiting.{waits_behind}
@@ -47,9 +47,9 @@ use Rattle.papaya_lives.proofs.Each.{each_on, each_both, each_kept}
 use Rattle.papaya_lives.proofs.LeftOver.{deed_waits, handed_untaken}
 use Rattle.papaya_lives.proofs.Once.{Fewer, once_fewer}
 use Rattle.papaya_lives.proofs.Worlds.{Kept, runs_kept, start_kept, has_it}
-use Rattle.papaya_settles.specs.Given.Scenes.Ending.{EndingComesTo, EndingStepsFrom}
-use Rattle.papaya_settles.specs.Given.Scenes.Held.{Held, IsAt}
-use Rattle.papaya_settles.specs.Given.Scenes.Scene.{Scene, slot_of}
+use Rattle.papaya_settles.specs.Given.ScenesEnding.{EndingComesTo, EndingStepsFrom}
+use Rattle.papaya_settles.specs.Given.ScenesHeld.{Held, IsAt}
+use Rattle.papaya_settles.specs.Given.ScenesScene.{Scene, slot_of}
 
 -- effects that move no pair and no table take nothing off the list
 calm_one : (f : Effect) (ds : List Deferral) → is_calm f ≡ true → deferred_by f ds ≡ ds

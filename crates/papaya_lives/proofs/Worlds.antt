@@ -2,31 +2,31 @@
 use Rattle.std.specs.Prelude.{Option, Some, Ok, Err, ◌==◌, ◌⊎◌, ◌++◌, zero, suc, if◌then◌else◌}
 use Rattle.std.proofs.Common.{◌≡◌, ℕ, ◌+◌, Bool, true, false, List, [], ◌∷◌, length, refl, arith, ap, sym, subst, ◌∙◌, inl, inr}
 use Rattle.std.proofs.lemmas.Bool.{cases_eq, eq-eqb, ne_eqb}
-use Rattle.papaya_settles.specs.Given.SeizeWords.Mem.{Mem}
-use Rattle.papaya_settles.specs.Given.SeizeWords.Op.{Out, Found, Stored, Exchanged, Made, Taken, Roomed}
-use Rattle.papaya_settles.specs.Given.SeizeWords.Word.{link_to}
-use Rattle.papaya_settles.specs.Given.SeizeWords.declared.at.At.TheVariants.{Word}
-use Rattle.papaya_settles.specs.Given.Seize.Defer.{deferring}
-use Rattle.papaya_settles.specs.Given.Seize.Law.{Effect, Deferred, is_retired, holds, IsSound}
-use Rattle.papaya_settles.specs.Given.Seize.Sequence.{IsBetween, taken_in}
-use Rattle.papaya_settles.specs.Given.Seize.declared.states.TheConstants.{LAST_SLOT}
-use Rattle.papaya_settles.specs.Given.Seize.World.{World, Row, Hand, NoBlock, Making, InUse, Parting, Cutting, Handed, LeftTo, Defers, Request, Register', Enter', Leave', LeaveOwned, Refresh, Unregister', Retire, Flush, Defer', Begins, Event, Begin, Step, Makes, Drops, Links, Parts, Unlinks, Rewrites, Operates, Ends, LeavesOver, Relinks, Clears, Chooses, Happens, Runs, Steps', made_by, at_start, with_at, times, IsOnto, MayCut}
-use Rattle.papaya_settles.proofs.Given.SeizeMoves.Sets.Unmoved.{is_in_wait, Unmoved}
-use Rattle.papaya_settles.proofs.Given.SeizeMoves.State.Ghost.{Life, IsDeferring, IsPending, State}
-use Rattle.papaya_settles.proofs.Given.SeizeMoves.State.Moves
-use Rattle.papaya_settles.proofs.Given.SeizeRule.Points.Aside.{HandFits}
-use Rattle.papaya_settles.proofs.Given.SeizeRule.Rows.Known.{FitsRow}
-use Rattle.papaya_settles.proofs.Given.SeizeRule.Rows.Others.{users_rows}
-use Rattle.papaya_settles.proofs.Given.SeizeRule.Rows.Sizes.{AllSized}
-use Rattle.papaya_settles.proofs.Given.SeizeRule.Rows.SizesKept.{happens_sized}
-use Rattle.papaya_settles.proofs.Given.SeizeRule.Rows.Told.{BeginTold}
-use Rattle.papaya_settles.proofs.Given.SeizeRule.Words.View.{view}
-use Rattle.papaya_settles.proofs.Given.SeizeRule.World.Begins.{begins_next}
-use Rattle.papaya_settles.proofs.Given.SeizeRule.World.Events.{leaves_over_good}
-use Rattle.papaya_settles.proofs.Given.SeizeRule.World.Good.{Good, Next}
-use Rattle.papaya_settles.proofs.Given.SeizeRule.World.Kept.{IsStill, steps_next, users_good}
-use Rattle.papaya_settles.proofs.Given.SeizeRule.World.Start.{start_good}
-use Rattle.papaya_settles.proofs.Given.SeizeAlone.Spared.Rows.{RowStepped, row_stepped}
+use Rattle.papaya_settles.specs.Given.SeizeWordsMem.{Mem}
+use Rattle.papaya_settles.specs.Given.SeizeWordsOp.{Out, Found, Stored, Exchanged, Made, Taken, Roomed}
+use Rattle.papaya_settles.specs.Given.SeizeWordsWord.{link_to}
+use Rattle.papaya_settles.specs.Given.SeizeWordsDeclared.at.At.TheVariants.{Word}
+use Rattle.papaya_settles.specs.Given.SeizeDefer.{deferring}
+use Rattle.papaya_settles.specs.Given.SeizeLaw.{Effect, Deferred, is_retired, holds, IsSound}
+use Rattle.papaya_settles.specs.Given.SeizeSequence.{IsBetween, taken_in}
+use Rattle.papaya_settles.specs.Given.SeizeDeclared.states.TheConstants.{LAST_SLOT}
+use Rattle.papaya_settles.specs.Given.SeizeWorld.{World, Row, Hand, NoBlock, Making, InUse, Parting, Cutting, Handed, LeftTo, Defers, Request, Register', Enter', Leave', LeaveOwned, Refresh, Unregister', Retire, Flush, Defer', Begins, Event, Begin, Step, Makes, Drops, Links, Parts, Unlinks, Rewrites, Operates, Ends, LeavesOver, Relinks, Clears, Chooses, Happens, Runs, Steps', made_by, at_start, with_at, times, IsOnto, MayCut}
+use Rattle.papaya_settles.proofs.Given.SeizeMovesSets.Unmoved.{is_in_wait, Unmoved}
+use Rattle.papaya_settles.proofs.Given.SeizeMovesState.Ghost.{Life, IsDeferring, IsPending, State}
+use Rattle.papaya_settles.proofs.Given.SeizeMovesState.Moves
+use Rattle.papaya_settles.proofs.Given.SeizeRulePoints.Aside.{HandFits}
+use Rattle.papaya_settles.proofs.Given.SeizeRuleRows.Known.{FitsRow}
+use Rattle.papaya_settles.proofs.Given.SeizeRuleRows.Others.{users_rows}
+use Rattle.papaya_settles.proofs.Given.SeizeRuleRows.Sizes.{AllSized}
+use Rattle.papaya_settles.proofs.Given.SeizeRuleRows.SizesKept.{happens_sized}
+use Rattle.papaya_settles.proofs.Given.SeizeRuleRows.Told.{BeginTold}
+use Rattle.papaya_settles.proofs.Given.SeizeRuleWords.View.{view}
+use Rattle.papaya_settles.proofs.Given.SeizeRuleWorld.Begins.{begins_next}
+use Rattle.papaya_settles.proofs.Given.SeizeRuleWorld.Events.{leaves_over_good}
+use Rattle.papaya_settles.proofs.Given.SeizeRuleWorld.Good.{Good, Next}
+use Rattle.papaya_settles.proofs.Given.SeizeRuleWorld.Kept.{IsStill, steps_next, users_good}
+use Rattle.papaya_settles.proofs.Given.SeizeRuleWorld.Start.{start_good}
+use Rattle.papaya_settles.proofs.Given.SeizeAloneSpared.Rows.{RowStepped, row_stepped}
 use Rattle.papaya_lives.specs.Waiting.{IsPutting, waits_behind}
 use Rattle.papaya_lives.proofs.Lives.{WaitsIn, OnWay, elsewhere, other_block, in_wait, not_given, as_before, by_unmoved, leaves}
 use Rattle.papaya_lives.proofs.Logs.{unless_is, unless_other, waited, waits_on}

@@ -1,50 +1,50 @@
 -- What the collector has at a moment of a run, pair by pair: one that it has was handed over, or waits behind a table, or the row of a call has it in hand still; and what is told to
 -- be handed over it has, and that waits behind nothing. So it is with tables that are told to be retired.
 use Rattle.std.specs.Prelude.{◌≡◌, ◌⊎◌, ℕ, Bool, true, List, map, Option, Some, None}
-use Rattle.papaya_settles.specs.Given.SeizeWords.Word.{block_in}
-use Rattle.papaya_settles.specs.Given.Seize.Law.{is_retired as was_retired}
-use Rattle.papaya_settles.specs.Given.Seize.declared.progress.Progress.{Progress}
-use Rattle.papaya_settles.specs.Given.Seize.declared.rows.settle.Settled.{Settled}
-use Rattle.papaya_settles.specs.Given.Seize.World.{World, Row, Rests, Settles, Defers, Handed, Begin, Step}
-use Rattle.papaya_settles.specs.Given.Tables.declared.node.Node.{Node}
-use Rattle.papaya_settles.specs.Given.Tables.declared.setting.Setting.{Setting}
-use Rattle.papaya_settles.specs.Given.Raw.declared.machines.progress.Progress.{Progress as CallTold}
-use Rattle.papaya_settles.specs.Given.Schedules.declared.effect.Effect.{Effect}
-use Rattle.papaya_settles.specs.Given.Schedules.declared.effect.Effect.TheVariants.{Reclaimed}
-use Rattle.papaya_settles.specs.Given.Schedules.declared.effect.Table.{Table}
-use Rattle.papaya_settles.specs.Given.Schedules.declared.effect.Thing.TheVariants.{APair}
-use Rattle.papaya_settles.specs.Given.Schedules.Effects.{with_effects, AtEachEffect}
-use Rattle.papaya_settles.specs.Given.Schedules.Lists.{is_among}
-use Rattle.papaya_settles.specs.Given.Schedules.Moment.{Deferral, Moment, start}
-use Rattle.papaya_settles.specs.Given.Schedules.Reclaims.{is_handed}
-use Rattle.papaya_settles.specs.Given.Schedules.Views.{is_stage, is_retired}
-use Rattle.papaya_settles.specs.Given.Callers.Together.{UnderWay, CameAbout}
-use Rattle.papaya_settles.specs.Given.Effects.Effects.{effects_of, known_after}
-use Rattle.papaya_settles.specs.Given.Effects.Known.{Known, nothing_known}
-use Rattle.papaya_settles.specs.Given.Effects.declared.acting.Acting.TheVariants.{Call, Making, Ending, Row as OfRow}
-use Rattle.papaya_settles.specs.Given.Effects.declared.role.Role.TheVariants as role
-use Rattle.papaya_settles.specs.Given.Scenes.declared.row.RowTold.{RowTold}
-use Rattle.papaya_settles.specs.Given.Scenes.declared.row.SlotCall.{SlotCall}
-use Rattle.papaya_settles.specs.Given.Scenes.declared.row.SlotRow.{SlotRow}
-use Rattle.papaya_settles.specs.Given.Finishes.Endings.{Finishing}
-use Rattle.papaya_settles.specs.Given.Finishes.Makings.{Beginning}
-use Rattle.papaya_settles.specs.Given.Finishes.Maps.{Standing}
-use Rattle.papaya_settles.specs.Given.Others.Endings.{ending_after}
-use Rattle.papaya_settles.specs.Given.Others.Makings.{WasNew}
-use Rattle.papaya_settles.specs.Given.Others.Rows.{scene_then}
-use Rattle.papaya_settles.specs.Given.Moments.Whole.{ShowsWhole}
+use Rattle.papaya_settles.specs.Given.SeizeWordsWord.{block_in}
+use Rattle.papaya_settles.specs.Given.SeizeLaw.{is_retired as was_retired}
+use Rattle.papaya_settles.specs.Given.SeizeDeclared.progress.Progress.{Progress}
+use Rattle.papaya_settles.specs.Given.SeizeDeclared.rows.settle.Settled.{Settled}
+use Rattle.papaya_settles.specs.Given.SeizeWorld.{World, Row, Rests, Settles, Defers, Handed, Begin, Step}
+use Rattle.papaya_settles.specs.Given.TablesDeclared.node.Node.{Node}
+use Rattle.papaya_settles.specs.Given.TablesDeclared.setting.Setting.{Setting}
+use Rattle.papaya_settles.specs.Given.RawDeclared.machines.progress.Progress.{Progress as CallTold}
+use Rattle.papaya_settles.specs.Given.SchedulesDeclared.effect.Effect.{Effect}
+use Rattle.papaya_settles.specs.Given.SchedulesDeclared.effect.Effect.TheVariants.{Reclaimed}
+use Rattle.papaya_settles.specs.Given.SchedulesDeclared.effect.Table.{Table}
+use Rattle.papaya_settles.specs.Given.SchedulesDeclared.effect.Thing.TheVariants.{APair}
+use Rattle.papaya_settles.specs.Given.SchedulesEffects.{with_effects, AtEachEffect}
+use Rattle.papaya_settles.specs.Given.SchedulesLists.{is_among}
+use Rattle.papaya_settles.specs.Given.SchedulesMoment.{Deferral, Moment, start}
+use Rattle.papaya_settles.specs.Given.SchedulesReclaims.{is_handed}
+use Rattle.papaya_settles.specs.Given.SchedulesViews.{is_stage, is_retired}
+use Rattle.papaya_settles.specs.Given.CallersTogether.{UnderWay, CameAbout}
+use Rattle.papaya_settles.specs.Given.EffectsEffects.{effects_of, known_after}
+use Rattle.papaya_settles.specs.Given.EffectsKnown.{Known, nothing_known}
+use Rattle.papaya_settles.specs.Given.EffectsDeclared.acting.Acting.TheVariants.{Call, Making, Ending, Row as OfRow}
+use Rattle.papaya_settles.specs.Given.EffectsDeclared.role.Role.TheVariants as role
+use Rattle.papaya_settles.specs.Given.ScenesDeclared.row.RowTold.{RowTold}
+use Rattle.papaya_settles.specs.Given.ScenesDeclared.row.SlotCall.{SlotCall}
+use Rattle.papaya_settles.specs.Given.ScenesDeclared.row.SlotRow.{SlotRow}
+use Rattle.papaya_settles.specs.Given.FinishesEndings.{Finishing}
+use Rattle.papaya_settles.specs.Given.FinishesMakings.{Beginning}
+use Rattle.papaya_settles.specs.Given.FinishesMaps.{Standing}
+use Rattle.papaya_settles.specs.Given.OthersEndings.{ending_after}
+use Rattle.papaya_settles.specs.Given.OthersMakings.{WasNew}
+use Rattle.papaya_settles.specs.Given.OthersRows.{scene_then}
+use Rattle.papaya_settles.specs.Given.MomentsWhole.{ShowsWhole}
 use Rattle.papaya_settles.specs.Due.{Due, ToRetire, ToPut, due_in_settle, due_in_defer, OwnAreMade}
 use Rattle.papaya_settles.specs.Entries.{ShowsEntries}
 use Rattle.papaya_lives.specs.Behind.{ShowsWaiting}
 use Rattle.papaya_lives.specs.Retired.{ShowsRetired, CallsStay}
 use Rattle.papaya_lives.specs.Waiting.{waits_behind}
-use Rattle.papaya_settles.specs.Given.Scenes.Ending.{EndingLeads, ending_begun}
-use Rattle.papaya_settles.specs.Given.Scenes.Held.{Held, IsAt}
-use Rattle.papaya_settles.specs.Given.Scenes.Making.{MakingLeads}
-use Rattle.papaya_settles.specs.Given.Scenes.OnSlots.{RowBegins, RowLeads}
-use Rattle.papaya_settles.specs.Given.Scenes.Rows.{request_of}
-use Rattle.papaya_settles.specs.Given.Scenes.Scene.{HasCall, IsOnSlot, Scene, at_first, slot_of}
-use Rattle.papaya_settles.specs.Given.Scenes.Stepping.{StepLeads, scene_after}
+use Rattle.papaya_settles.specs.Given.ScenesEnding.{EndingLeads, ending_begun}
+use Rattle.papaya_settles.specs.Given.ScenesHeld.{Held, IsAt}
+use Rattle.papaya_settles.specs.Given.ScenesMaking.{MakingLeads}
+use Rattle.papaya_settles.specs.Given.ScenesOnSlots.{RowBegins, RowLeads}
+use Rattle.papaya_settles.specs.Given.ScenesRows.{request_of}
+use Rattle.papaya_settles.specs.Given.ScenesScene.{HasCall, IsOnSlot, Scene, at_first, slot_of}
+use Rattle.papaya_settles.specs.Given.ScenesStepping.{StepLeads, scene_after}
 
 -- the block is the one to be retired, or to be put behind another one
 abbrev pub IsMeant : ℕ → Option Due → Type 0

@@ -1,36 +1,36 @@
 -- The tables that are left over at a moment of a run: each is one of a map whose end is under way, and which that end has not reclaimed.
 use Rattle.std.specs.Prelude.{◌≡◌, ◌<◌, ◌≤◌, ℕ, Bool, List, Some, None}
-use Rattle.papaya_settles.specs.Given.Seize.declared.progress.Progress.{Progress}
-use Rattle.papaya_settles.specs.Given.Seize.declared.rows.settle.Settled.{Settled}
-use Rattle.papaya_settles.specs.Given.Seize.World.{LeftTo, Begin, Step, times}
-use Rattle.papaya_settles.specs.Given.Tables.declared.node.Node.{Node}
-use Rattle.papaya_settles.specs.Given.Tables.declared.setting.Setting.{Setting}
-use Rattle.papaya_settles.specs.Given.Raw.declared.machines.progress.Progress.{Progress as CallTold}
-use Rattle.papaya_settles.specs.Given.Schedules.declared.effect.Table.{Table}
-use Rattle.papaya_settles.specs.Given.Schedules.Moment.{Moment}
-use Rattle.papaya_settles.specs.Given.Callers.Together.{UnderWay}
-use Rattle.papaya_settles.specs.Given.Effects.Effects.{known_after}
-use Rattle.papaya_settles.specs.Given.Effects.Known.{Known, nothing_known}
-use Rattle.papaya_settles.specs.Given.Effects.declared.acting.Acting.TheVariants.{Call, Making, Ending, Row}
-use Rattle.papaya_settles.specs.Given.Effects.declared.role.Role.TheVariants as role
-use Rattle.papaya_settles.specs.Given.Scenes.declared.row.RowTold.{RowTold}
-use Rattle.papaya_settles.specs.Given.Scenes.declared.row.SlotCall.{SlotCall}
-use Rattle.papaya_settles.specs.Given.Scenes.declared.row.SlotRow.{SlotRow}
-use Rattle.papaya_settles.specs.Given.Finishes.Endings.{Finishing}
-use Rattle.papaya_settles.specs.Given.Finishes.Makings.{Beginning}
-use Rattle.papaya_settles.specs.Given.Finishes.Maps.{Standing}
-use Rattle.papaya_settles.specs.Given.Others.Endings.{ending_after}
-use Rattle.papaya_settles.specs.Given.Others.Rows.{scene_then}
-use Rattle.papaya_settles.specs.Given.Moments.Whole.{ShowsWhole}
+use Rattle.papaya_settles.specs.Given.SeizeDeclared.progress.Progress.{Progress}
+use Rattle.papaya_settles.specs.Given.SeizeDeclared.rows.settle.Settled.{Settled}
+use Rattle.papaya_settles.specs.Given.SeizeWorld.{LeftTo, Begin, Step, times}
+use Rattle.papaya_settles.specs.Given.TablesDeclared.node.Node.{Node}
+use Rattle.papaya_settles.specs.Given.TablesDeclared.setting.Setting.{Setting}
+use Rattle.papaya_settles.specs.Given.RawDeclared.machines.progress.Progress.{Progress as CallTold}
+use Rattle.papaya_settles.specs.Given.SchedulesDeclared.effect.Table.{Table}
+use Rattle.papaya_settles.specs.Given.SchedulesMoment.{Moment}
+use Rattle.papaya_settles.specs.Given.CallersTogether.{UnderWay}
+use Rattle.papaya_settles.specs.Given.EffectsEffects.{known_after}
+use Rattle.papaya_settles.specs.Given.EffectsKnown.{Known, nothing_known}
+use Rattle.papaya_settles.specs.Given.EffectsDeclared.acting.Acting.TheVariants.{Call, Making, Ending, Row}
+use Rattle.papaya_settles.specs.Given.EffectsDeclared.role.Role.TheVariants as role
+use Rattle.papaya_settles.specs.Given.ScenesDeclared.row.RowTold.{RowTold}
+use Rattle.papaya_settles.specs.Given.ScenesDeclared.row.SlotCall.{SlotCall}
+use Rattle.papaya_settles.specs.Given.ScenesDeclared.row.SlotRow.{SlotRow}
+use Rattle.papaya_settles.specs.Given.FinishesEndings.{Finishing}
+use Rattle.papaya_settles.specs.Given.FinishesMakings.{Beginning}
+use Rattle.papaya_settles.specs.Given.FinishesMaps.{Standing}
+use Rattle.papaya_settles.specs.Given.OthersEndings.{ending_after}
+use Rattle.papaya_settles.specs.Given.OthersRows.{scene_then}
+use Rattle.papaya_settles.specs.Given.MomentsWhole.{ShowsWhole}
 use Rattle.papaya_settles.specs.Due.{OwnAreMade}
 use Rattle.papaya_lives.specs.Behind.{NoTableLeft}
-use Rattle.papaya_settles.specs.Given.Scenes.Ending.{EndingLeads, ending_begun}
-use Rattle.papaya_settles.specs.Given.Scenes.Held.{Held, IsAt}
-use Rattle.papaya_settles.specs.Given.Scenes.Making.{MakingLeads}
-use Rattle.papaya_settles.specs.Given.Scenes.OnSlots.{RowBegins, RowLeads}
-use Rattle.papaya_settles.specs.Given.Scenes.Rows.{request_of}
-use Rattle.papaya_settles.specs.Given.Scenes.Scene.{IsOnSlot, Scene, at_first, slot_of}
-use Rattle.papaya_settles.specs.Given.Scenes.Stepping.{StepLeads, scene_after}
+use Rattle.papaya_settles.specs.Given.ScenesEnding.{EndingLeads, ending_begun}
+use Rattle.papaya_settles.specs.Given.ScenesHeld.{Held, IsAt}
+use Rattle.papaya_settles.specs.Given.ScenesMaking.{MakingLeads}
+use Rattle.papaya_settles.specs.Given.ScenesOnSlots.{RowBegins, RowLeads}
+use Rattle.papaya_settles.specs.Given.ScenesRows.{request_of}
+use Rattle.papaya_settles.specs.Given.ScenesScene.{IsOnSlot, Scene, at_first, slot_of}
+use Rattle.papaya_settles.specs.Given.ScenesStepping.{StepLeads, scene_after}
 
 -- the block is a table of the map that this caller ends, which its end is still to reclaim
 pub record IsToTake {K V : Type 0} (s : Scene K V) (i b : ℕ) : Type 0 where

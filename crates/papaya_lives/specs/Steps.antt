@@ -1,43 +1,43 @@
 -- How steps lead on from what waits behind tables: it waits there still, and none of it is reclaimed before the table is.
 use Rattle.std.specs.Prelude.{◌≡◌, ℕ, Bool, List, Option, Some, None}
-use Rattle.papaya_settles.specs.Given.Seize.declared.progress.Progress.{Progress}
-use Rattle.papaya_settles.specs.Given.Seize.declared.rows.settle.Settled.{Settled}
-use Rattle.papaya_settles.specs.Given.Seize.World.{World, Event, Begin, Step, Runs}
-use Rattle.papaya_settles.specs.Given.Tables.Nodes.{deferred_word}
-use Rattle.papaya_settles.specs.Given.Tables.declared.node.Node.{Node}
-use Rattle.papaya_settles.specs.Given.Tables.declared.setting.Setting.{Setting}
-use Rattle.papaya_settles.specs.Given.Raw.declared.machines.progress.Progress.{Progress as CallTold}
-use Rattle.papaya_settles.specs.Given.Schedules.declared.effect.Effect.{Effect}
-use Rattle.papaya_settles.specs.Given.Schedules.Effects.{with_effects, AtEachEffect}
-use Rattle.papaya_settles.specs.Given.Schedules.declared.effect.Table.{Table}
-use Rattle.papaya_settles.specs.Given.Schedules.Moment.{Behind, Moment, start}
-use Rattle.papaya_settles.specs.Given.Rule.InWorld.{AllUsers}
-use Rattle.papaya_settles.specs.Given.Callers.Together.{CameAbout, UnderWay}
-use Rattle.papaya_settles.specs.Given.Effects.Effects.{effects_of, known_after}
-use Rattle.papaya_settles.specs.Given.Effects.Known.{Known, nothing_known}
-use Rattle.papaya_settles.specs.Given.Effects.declared.acting.Acting.TheVariants.{Call, Ending, Making, Row}
-use Rattle.papaya_settles.specs.Given.Effects.declared.role.Role.TheVariants as role
-use Rattle.papaya_settles.specs.Given.Scenes.declared.row.RowTold.{RowTold}
-use Rattle.papaya_settles.specs.Given.Scenes.declared.row.SlotCall.{SlotCall}
-use Rattle.papaya_settles.specs.Given.Scenes.declared.row.SlotRow.{SlotRow}
-use Rattle.papaya_settles.specs.Given.Finishes.Endings.{Finishing}
-use Rattle.papaya_settles.specs.Given.Finishes.Makings.{Beginning}
-use Rattle.papaya_settles.specs.Given.Finishes.Maps.{Standing}
-use Rattle.papaya_settles.specs.Given.Follows.Steps.{IsOfNoRow}
-use Rattle.papaya_settles.specs.Given.Others.Endings.{ending_after}
-use Rattle.papaya_settles.specs.Given.Others.Makings.{WasNew}
-use Rattle.papaya_settles.specs.Given.Others.Rows.{scene_then}
-use Rattle.papaya_settles.specs.Given.Spots.OnSlots.{WaitUnreclaimed}
-use Rattle.papaya_settles.specs.Given.Moments.Endings.{WaitsOn}
-use Rattle.papaya_settles.specs.Given.Moments.Whole.{ShowsWhole}
+use Rattle.papaya_settles.specs.Given.SeizeDeclared.progress.Progress.{Progress}
+use Rattle.papaya_settles.specs.Given.SeizeDeclared.rows.settle.Settled.{Settled}
+use Rattle.papaya_settles.specs.Given.SeizeWorld.{World, Event, Begin, Step, Runs}
+use Rattle.papaya_settles.specs.Given.TablesNodes.{deferred_word}
+use Rattle.papaya_settles.specs.Given.TablesDeclared.node.Node.{Node}
+use Rattle.papaya_settles.specs.Given.TablesDeclared.setting.Setting.{Setting}
+use Rattle.papaya_settles.specs.Given.RawDeclared.machines.progress.Progress.{Progress as CallTold}
+use Rattle.papaya_settles.specs.Given.SchedulesDeclared.effect.Effect.{Effect}
+use Rattle.papaya_settles.specs.Given.SchedulesEffects.{with_effects, AtEachEffect}
+use Rattle.papaya_settles.specs.Given.SchedulesDeclared.effect.Table.{Table}
+use Rattle.papaya_settles.specs.Given.SchedulesMoment.{Behind, Moment, start}
+use Rattle.papaya_settles.specs.Given.RuleInWorld.{AllUsers}
+use Rattle.papaya_settles.specs.Given.CallersTogether.{CameAbout, UnderWay}
+use Rattle.papaya_settles.specs.Given.EffectsEffects.{effects_of, known_after}
+use Rattle.papaya_settles.specs.Given.EffectsKnown.{Known, nothing_known}
+use Rattle.papaya_settles.specs.Given.EffectsDeclared.acting.Acting.TheVariants.{Call, Ending, Making, Row}
+use Rattle.papaya_settles.specs.Given.EffectsDeclared.role.Role.TheVariants as role
+use Rattle.papaya_settles.specs.Given.ScenesDeclared.row.RowTold.{RowTold}
+use Rattle.papaya_settles.specs.Given.ScenesDeclared.row.SlotCall.{SlotCall}
+use Rattle.papaya_settles.specs.Given.ScenesDeclared.row.SlotRow.{SlotRow}
+use Rattle.papaya_settles.specs.Given.FinishesEndings.{Finishing}
+use Rattle.papaya_settles.specs.Given.FinishesMakings.{Beginning}
+use Rattle.papaya_settles.specs.Given.FinishesMaps.{Standing}
+use Rattle.papaya_settles.specs.Given.FollowsSteps.{IsOfNoRow}
+use Rattle.papaya_settles.specs.Given.OthersEndings.{ending_after}
+use Rattle.papaya_settles.specs.Given.OthersMakings.{WasNew}
+use Rattle.papaya_settles.specs.Given.OthersRows.{scene_then}
+use Rattle.papaya_settles.specs.Given.SpotsOnSlots.{WaitUnreclaimed}
+use Rattle.papaya_settles.specs.Given.MomentsEndings.{WaitsOn}
+use Rattle.papaya_settles.specs.Given.MomentsWhole.{ShowsWhole}
 use Rattle.papaya_lives.specs.Behind.{LiesBehind, ShowsWaiting, WaitsOnce}
-use Rattle.papaya_settles.specs.Given.Scenes.Ending.{EndingLeads, ending_begun}
-use Rattle.papaya_settles.specs.Given.Scenes.Held.{Held, IsAt}
-use Rattle.papaya_settles.specs.Given.Scenes.Making.{MakingLeads}
-use Rattle.papaya_settles.specs.Given.Scenes.OnSlots.{RowBegins, RowLeads}
-use Rattle.papaya_settles.specs.Given.Scenes.Rows.{request_of}
-use Rattle.papaya_settles.specs.Given.Scenes.Scene.{IsOnSlot, Scene, at_first, slot_of}
-use Rattle.papaya_settles.specs.Given.Scenes.Stepping.{StepLeads}
+use Rattle.papaya_settles.specs.Given.ScenesEnding.{EndingLeads, ending_begun}
+use Rattle.papaya_settles.specs.Given.ScenesHeld.{Held, IsAt}
+use Rattle.papaya_settles.specs.Given.ScenesMaking.{MakingLeads}
+use Rattle.papaya_settles.specs.Given.ScenesOnSlots.{RowBegins, RowLeads}
+use Rattle.papaya_settles.specs.Given.ScenesRows.{request_of}
+use Rattle.papaya_settles.specs.Given.ScenesScene.{IsOnSlot, Scene, at_first, slot_of}
+use Rattle.papaya_settles.specs.Given.ScenesStepping.{StepLeads}
 
 -- The promises: nothing waits before all events,
 abbrev pub WaitingBegins : Type 0 → Type 0 → Type 0

@@ -1,10 +1,10 @@
 -- Which block another one waits behind, by the log of effects.
 use Rattle.std.specs.Prelude.{◌≡◌, ◌≢◌, ℕ, ◌==◌, List, [], ◌∷◌, Option, Some, None, if◌then◌else◌}
-use Rattle.papaya_settles.specs.Given.Seize.Law.{Effect, Deferred, Taken, LeftOver}
-use Rattle.papaya_settles.specs.Given.Seize.World.{Row, Defers}
-use Rattle.papaya_settles.specs.Given.Seize.Further.{IsWordOf}
-use Rattle.papaya_settles.specs.Given.Seize.declared.rows.defer.Deferring.TheVariants as deferring
-use Rattle.papaya_settles.specs.Given.SeizeWords.Word.{link_to}
+use Rattle.papaya_settles.specs.Given.SeizeLaw.{Effect, Deferred, Taken, LeftOver}
+use Rattle.papaya_settles.specs.Given.SeizeWorld.{Row, Defers}
+use Rattle.papaya_settles.specs.Given.SeizeFurther.{IsWordOf}
+use Rattle.papaya_settles.specs.Given.SeizeDeclared.rows.defer.Deferring.TheVariants as deferring
+use Rattle.papaya_settles.specs.Given.SeizeWordsWord.{link_to}
 
 -- the block, unless it is this one
 abbrev pub unless_it : ℕ → Option ℕ → Option ℕ

@@ -2,29 +2,29 @@
 use Rattle.std.specs.Prelude.{◌≡◌, ◌<◌, ◌≢◌, ℕ, Bool, false, List, Some, None, if◌then◌else◌}
 use Rattle.std.proofs.Common.{refl, sym, subst, ap}
 use Rattle.std.proofs.lemmas.Bool.{eq-eqb, ne_eqb}
-use Rattle.papaya_remains.specs.Given.Raw.declared.machines.machine.Machine.{Machine}
+use Rattle.papaya_remains.specs.Given.RawDeclared.machines.machine.Machine.{Machine}
 use Rattle.papaya_runs.specs.Same.{is_same}
-use Rattle.papaya_remains.specs.Given.Schedules.Beginning.{with_call}
-use Rattle.papaya_remains.specs.Given.Schedules.Lists.{put}
-use Rattle.papaya_remains.specs.Given.Schedules.Moment.{Moment, start}
-use Rattle.papaya_remains.specs.Given.Effects.Known.{Known, known, nothing_known}
-use Rattle.papaya_reclaiming.specs.Given.Scenes.declared.callers.TheConstants.{SLOTS}
-use Rattle.papaya_remains.specs.Given.Follows.Calling.{NoneNamed}
-use Rattle.papaya_remains.specs.Given.Moments.Whole.{ShowsWhole}
-use Rattle.papaya_remains.specs.Given.Kept.Kept.{ShowsKept}
-use Rattle.papaya_remains.proofs.Given.Kept.Between.{calls_begin_kept}
-use Rattle.papaya_remains.proofs.Given.Kept.Stays.{begins_kept, renamed_kept}
-use Rattle.papaya_remains.proofs.Given.Moments.Calls.{whole_begins, calls_begin_whole}
+use Rattle.papaya_remains.specs.Given.SchedulesBeginning.{with_call}
+use Rattle.papaya_remains.specs.Given.SchedulesLists.{put}
+use Rattle.papaya_remains.specs.Given.SchedulesMoment.{Moment, start}
+use Rattle.papaya_remains.specs.Given.EffectsKnown.{Known, known, nothing_known}
+use Rattle.papaya_reclaiming.specs.Given.ScenesDeclared.callers.TheConstants.{SLOTS}
+use Rattle.papaya_remains.specs.Given.FollowsCalling.{NoneNamed}
+use Rattle.papaya_remains.specs.Given.MomentsWhole.{ShowsWhole}
+use Rattle.papaya_remains.specs.Given.KeptKept.{ShowsKept}
+use Rattle.papaya_remains.proofs.Given.KeptBetween.{calls_begin_kept}
+use Rattle.papaya_remains.proofs.Given.KeptStays.{begins_kept, renamed_kept}
+use Rattle.papaya_remains.proofs.Given.MomentsCalls.{whole_begins, calls_begin_whole}
 use Rattle.papaya_logged.specs.Calling.{CallBegins}
 use Rattle.papaya_logged.specs.Shown.{IsShown}
 use Rattle.papaya_logged.specs.declared.logged.Logged.{Logged}
 use Rattle.papaya_logged.proofs.Counted.{counted_begins, counted_stays, same_memory}
-use Rattle.papaya_remains.proofs.Given.Kept.Renamed.{renamed}
-use Rattle.papaya_reclaiming.proofs.Given.Executor.Fresh.{caller_in, no_calls_yet, resting}
-use Rattle.papaya_reclaiming.specs.Given.Executor.Beginning.{BeginsThere}
-use Rattle.papaya_reclaiming.specs.Given.Executor.IsThere.{IsThere, KeepsGiven, held_by}
-use Rattle.papaya_reclaiming.specs.Given.Scenes.Replying.{scene_with}
-use Rattle.papaya_reclaiming.specs.Given.Scenes.Scene.{HasCall, Scene, at_first}
+use Rattle.papaya_remains.proofs.Given.KeptRenamed.{renamed}
+use Rattle.papaya_reclaiming.proofs.Given.ExecutorFresh.{caller_in, no_calls_yet, resting}
+use Rattle.papaya_reclaiming.specs.Given.ExecutorBeginning.{BeginsThere}
+use Rattle.papaya_reclaiming.specs.Given.ExecutorIsThere.{IsThere, KeepsGiven, held_by}
+use Rattle.papaya_reclaiming.specs.Given.ScenesReplying.{scene_with}
+use Rattle.papaya_reclaiming.specs.Given.ScenesScene.{HasCall, Scene, at_first}
 
 -- one that is named gets its name, and the others keep theirs
 named : (i : ℕ) (own : List ℕ) (name : ℕ → List ℕ) → put i own name i ≡ own

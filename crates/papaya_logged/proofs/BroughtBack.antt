@@ -15,46 +15,46 @@ use Rattle.papaya_runs.specs.declared.record.Pair.{Pair}
 use Rattle.papaya_runs.specs.Pairs.{numbers}
 use Rattle.papaya_runs.specs.Runs.{IsStored}
 use Rattle.papaya_runs.proofs.Pairs.Held.{numbers-append}
-use Rattle.papaya_remains.specs.Given.Schedules.declared.effect.Effect.{Effect}
-use Rattle.papaya_remains.specs.Given.Schedules.declared.effect.Effect.TheVariants.{Asked, PairGivenUp}
-use Rattle.papaya_remains.specs.Given.Schedules.declared.effect.Growth.TheVariants.{ABucket}
-use Rattle.papaya_remains.specs.Given.Schedules.declared.effect.Table.{Table}
-use Rattle.papaya_remains.specs.Given.Schedules.Effects.{pairs_back, with_effects}
-use Rattle.papaya_remains.specs.Given.Schedules.Moment.{Moment}
-use Rattle.papaya_reclaiming.specs.Given.Teller.declared.changed.Changed.{Changed}
-use Rattle.papaya_reclaiming.specs.Given.Teller.declared.changed.Changed.TheVariants as changed
-use Rattle.papaya_remains.specs.Given.Effects.Effects.{effects_of, names_same, pair_taken, table_taken, taken_by}
-use Rattle.papaya_remains.specs.Given.Effects.Known.{Known, known}
-use Rattle.papaya_remains.specs.Given.Effects.declared.acting.Acting.{Acting}
-use Rattle.papaya_remains.specs.Given.Effects.declared.acting.Acting.TheVariants as acts
-use Rattle.papaya_remains.specs.Given.Effects.declared.role.Role.{Role}
-use Rattle.papaya_remains.specs.Given.Effects.declared.role.Role.TheVariants as role
-use Rattle.papaya_reclaiming.specs.Given.Executor.declared.executor.Executor.{Executor}
-use Rattle.papaya_reclaiming.specs.Given.Scenes.declared.row.RowTold.{RowTold}
-use Rattle.papaya_reclaiming.specs.Given.Scenes.declared.row.RowTold.TheVariants as told
-use Rattle.papaya_reclaiming.specs.Given.Scenes.declared.row.SlotRow.{SlotRow}
-use Rattle.papaya_reclaiming.specs.Given.Executor.declared.worker.Work.TheVariants.{OnSlot}
-use Rattle.papaya_reclaiming.specs.Given.Finishes.Endings.{Finishing}
-use Rattle.papaya_reclaiming.specs.Given.Finishes.FactsEnds.{taken_by as taken_of}
-use Rattle.papaya_reclaiming.specs.Given.Finishes.Maps.{Standing}
-use Rattle.papaya_remains.specs.Given.Follows.Blocks.{HasRole}
-use Rattle.papaya_remains.specs.Given.Follows.Steps.{TakesNone}
-use Rattle.papaya_remains.specs.Given.Others.Endings.{TellsNext}
-use Rattle.papaya_remains.specs.Given.Others.Gives.{GivesWhatItTook}
-use Rattle.papaya_remains.proofs.Given.Others.Ends.{tells_next}
-use Rattle.papaya_remains.proofs.Given.Others.Quiet.{stored_none}
-use Rattle.papaya_remains.proofs.Given.Others.RowGives.{rows_give_what_they_took}
-use Rattle.papaya_remains.proofs.Given.Others.RowPlans.{TellsRow, row_tells}
+use Rattle.papaya_remains.specs.Given.SchedulesDeclared.effect.Effect.{Effect}
+use Rattle.papaya_remains.specs.Given.SchedulesDeclared.effect.Effect.TheVariants.{Asked, PairGivenUp}
+use Rattle.papaya_remains.specs.Given.SchedulesDeclared.effect.Growth.TheVariants.{ABucket}
+use Rattle.papaya_remains.specs.Given.SchedulesDeclared.effect.Table.{Table}
+use Rattle.papaya_remains.specs.Given.SchedulesEffects.{pairs_back, with_effects}
+use Rattle.papaya_remains.specs.Given.SchedulesMoment.{Moment}
+use Rattle.papaya_reclaiming.specs.Given.TellerDeclared.changed.Changed.{Changed}
+use Rattle.papaya_reclaiming.specs.Given.TellerDeclared.changed.Changed.TheVariants as changed
+use Rattle.papaya_remains.specs.Given.EffectsEffects.{effects_of, names_same, pair_taken, table_taken, taken_by}
+use Rattle.papaya_remains.specs.Given.EffectsKnown.{Known, known}
+use Rattle.papaya_remains.specs.Given.EffectsDeclared.acting.Acting.{Acting}
+use Rattle.papaya_remains.specs.Given.EffectsDeclared.acting.Acting.TheVariants as acts
+use Rattle.papaya_remains.specs.Given.EffectsDeclared.role.Role.{Role}
+use Rattle.papaya_remains.specs.Given.EffectsDeclared.role.Role.TheVariants as role
+use Rattle.papaya_reclaiming.specs.Given.ExecutorDeclared.executor.Executor.{Executor}
+use Rattle.papaya_reclaiming.specs.Given.ScenesDeclared.row.RowTold.{RowTold}
+use Rattle.papaya_reclaiming.specs.Given.ScenesDeclared.row.RowTold.TheVariants as told
+use Rattle.papaya_reclaiming.specs.Given.ScenesDeclared.row.SlotRow.{SlotRow}
+use Rattle.papaya_reclaiming.specs.Given.ExecutorDeclared.worker.Work.TheVariants.{OnSlot}
+use Rattle.papaya_reclaiming.specs.Given.FinishesEndings.{Finishing}
+use Rattle.papaya_reclaiming.specs.Given.FinishesFactsEnds.{taken_by as taken_of}
+use Rattle.papaya_reclaiming.specs.Given.FinishesMaps.{Standing}
+use Rattle.papaya_remains.specs.Given.FollowsBlocks.{HasRole}
+use Rattle.papaya_remains.specs.Given.FollowsSteps.{TakesNone}
+use Rattle.papaya_remains.specs.Given.OthersEndings.{TellsNext}
+use Rattle.papaya_remains.specs.Given.OthersGives.{GivesWhatItTook}
+use Rattle.papaya_remains.proofs.Given.OthersEnds.{tells_next}
+use Rattle.papaya_remains.proofs.Given.OthersQuiet.{stored_none}
+use Rattle.papaya_remains.proofs.Given.OthersRowGives.{rows_give_what_they_took}
+use Rattle.papaya_remains.proofs.Given.OthersRowPlans.{TellsRow, row_tells}
 use Rattle.papaya_logged.specs.Back.{BringsBack, ComesBack, EndBringsBack, number_back, number_in, number_last, numbered, pair_back, row_back, settled_back}
 use Rattle.papaya_logged.specs.Ends.{EndRan, EndSteps, ended_as, is_done}
 use Rattle.papaya_logged.specs.OnSlots.{OnSlotRan, has_come}
 use Rattle.papaya_logged.specs.Shown.{IsShown}
 use Rattle.papaya_logged.specs.declared.logged.Logged.{Logged}
-use Rattle.papaya_reclaiming.specs.Given.Executor.IsThere.{IsThere, held_by, work_of}
-use Rattle.papaya_reclaiming.specs.Given.Executor.OnSlots.{RowStepsThere}
-use Rattle.papaya_reclaiming.specs.Given.Scenes.Ending.{EndingComesTo, EndingLeads}
-use Rattle.papaya_reclaiming.specs.Given.Scenes.Scene.{Scene}
-use Rattle.papaya_reclaiming.proofs.Given.Executor.RowLeads.{held_row}
+use Rattle.papaya_reclaiming.specs.Given.ExecutorIsThere.{IsThere, held_by, work_of}
+use Rattle.papaya_reclaiming.specs.Given.ExecutorOnSlots.{RowStepsThere}
+use Rattle.papaya_reclaiming.specs.Given.ScenesEnding.{EndingComesTo, EndingLeads}
+use Rattle.papaya_reclaiming.specs.Given.ScenesScene.{Scene}
+use Rattle.papaya_reclaiming.proofs.Given.ExecutorRowLeads.{held_row}
 
 -- the last effect of a list
 at_end : (ys : List Effect) (f : Effect) → slice_get (ys ++ f ∷ []) (length ys) ≡ Some f

@@ -6,32 +6,32 @@ use Rattle.seize.specs.Further.{FurtherFrom, ListFrom}
 use Rattle.seize.specs.World.{World}
 use Rattle.papaya_runs.specs.Given.Tables.Nodes.{deferred_word}
 use Rattle.papaya_runs.specs.Given.Tables.declared.node.Node.{Node}
-use Rattle.papaya_remains.specs.Given.Schedules.declared.effect.Table.{Table}
-use Rattle.papaya_remains.specs.Given.Schedules.Moment.{Behind, Moment}
-use Rattle.papaya_remains.specs.Given.Effects.Known.{Known, known}
-use Rattle.papaya_remains.specs.Given.Effects.declared.role.Role.{Role}
-use Rattle.papaya_remains.specs.Given.Effects.declared.role.Role.TheVariants as role
-use Rattle.papaya_reclaiming.specs.Given.Finishes.Endings.{Finishing}
-use Rattle.papaya_reclaiming.specs.Given.Finishes.Makings.{Beginning}
-use Rattle.papaya_reclaiming.specs.Given.Finishes.Maps.{Standing}
-use Rattle.papaya_reclaiming.proofs.Given.Finishes.Among.Choices.{choices_stand_among}
-use Rattle.papaya_reclaiming.specs.Given.Reclaims.Left.{IsSomebodys, LeftAmong}
-use Rattle.papaya_reclaiming.specs.Given.Reclaims.Reclaims.{RootLeads}
-use Rattle.papaya_remains.specs.Given.Follows.Blocks.{HasRole}
-use Rattle.papaya_remains.specs.Given.Hands.Rows.{HoldsOne}
-use Rattle.papaya_remains.proofs.Given.Hands.SettlingRows.{one_kept}
-use Rattle.papaya_remains.specs.Given.Moments.Whole.{ShowsWhole}
-use Rattle.papaya_remains.specs.Given.Settles.Entries.{IsBlank}
-use Rattle.papaya_remains.proofs.Given.Settles.EntryScenes.{one_as}
-use Rattle.papaya_remains.specs.Given.Lives.Behind.{LiesBehind}
-use Rattle.papaya_remains.proofs.Given.Lives.Each.{each_on}
-use Rattle.papaya_remains.proofs.Given.Lives.LeftTables.{left_as}
-use Rattle.papaya_remains.specs.Given.Kept.Kept.{ShowsKept}
+use Rattle.papaya_remains.specs.Given.SchedulesDeclared.effect.Table.{Table}
+use Rattle.papaya_remains.specs.Given.SchedulesMoment.{Behind, Moment}
+use Rattle.papaya_remains.specs.Given.EffectsKnown.{Known, known}
+use Rattle.papaya_remains.specs.Given.EffectsDeclared.role.Role.{Role}
+use Rattle.papaya_remains.specs.Given.EffectsDeclared.role.Role.TheVariants as role
+use Rattle.papaya_reclaiming.specs.Given.FinishesEndings.{Finishing}
+use Rattle.papaya_reclaiming.specs.Given.FinishesMakings.{Beginning}
+use Rattle.papaya_reclaiming.specs.Given.FinishesMaps.{Standing}
+use Rattle.papaya_reclaiming.proofs.Given.FinishesAmong.Choices.{choices_stand_among}
+use Rattle.papaya_reclaiming.specs.Given.ReclaimsLeft.{IsSomebodys, LeftAmong}
+use Rattle.papaya_reclaiming.specs.Given.ReclaimsReclaims.{RootLeads}
+use Rattle.papaya_remains.specs.Given.FollowsBlocks.{HasRole}
+use Rattle.papaya_remains.specs.Given.HandsRows.{HoldsOne}
+use Rattle.papaya_remains.proofs.Given.HandsSettlingRows.{one_kept}
+use Rattle.papaya_remains.specs.Given.MomentsWhole.{ShowsWhole}
+use Rattle.papaya_remains.specs.Given.SettlesEntries.{IsBlank}
+use Rattle.papaya_remains.proofs.Given.SettlesEntryScenes.{one_as}
+use Rattle.papaya_remains.specs.Given.LivesBehind.{LiesBehind}
+use Rattle.papaya_remains.proofs.Given.LivesEach.{each_on}
+use Rattle.papaya_remains.proofs.Given.LivesLeftTables.{left_as}
+use Rattle.papaya_remains.specs.Given.KeptKept.{ShowsKept}
 use Rattle.papaya_logged.specs.Choosing.{ChoiceIsShown, logged_chosen, memory_chosen, scene_chosen}
 use Rattle.papaya_logged.specs.Shown.{IsCounted}
 use Rattle.papaya_logged.specs.declared.logged.Logged.{Logged}
-use Rattle.papaya_reclaiming.specs.Given.Executor.IsThere.{IsThere}
-use Rattle.papaya_reclaiming.specs.Given.Scenes.Scene.{Scene, slot_of}
+use Rattle.papaya_reclaiming.specs.Given.ExecutorIsThere.{IsThere}
+use Rattle.papaya_reclaiming.specs.Given.ScenesScene.{Scene, slot_of}
 
 module _ {K V : Type 0} (choice : ℕ) (w : World (Node K V)) where
   abbrev then_in : World (Node K V)

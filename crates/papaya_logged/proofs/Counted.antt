@@ -10,35 +10,35 @@ use Rattle.papaya_runs.specs.Same.{is_same}
 use Rattle.papaya_runs.specs.Given.Tables.Nodes.{deferred_word}
 use Rattle.papaya_runs.specs.Given.Tables.declared.node.Node.{Node}
 use Rattle.papaya_runs.specs.Given.Tables.declared.setting.Setting.{Setting}
-use Rattle.papaya_remains.specs.Given.Raw.declared.machines.progress.Progress.{Progress as CallTold}
-use Rattle.papaya_remains.specs.Given.Schedules.declared.effect.Effect.{Effect}
-use Rattle.papaya_remains.specs.Given.Schedules.After.{if_any}
-use Rattle.papaya_remains.specs.Given.Schedules.Beginning.{used_roots, with_map}
-use Rattle.papaya_remains.specs.Given.Schedules.Effects.{with_effects}
-use Rattle.papaya_remains.specs.Given.Schedules.Lists.{is_among}
-use Rattle.papaya_remains.specs.Given.Schedules.Moment.{MapThere, TableThere, Moment, start}
-use Rattle.papaya_remains.specs.Given.Schedules.Views.{map_of}
-use Rattle.papaya_reclaiming.specs.Given.Callers.Together.{UnderWay}
-use Rattle.papaya_remains.specs.Given.Effects.Effects.{taken_by, effects_of, known_after}
-use Rattle.papaya_remains.specs.Given.Effects.Known.{Known, known, nothing_known}
-use Rattle.papaya_remains.specs.Given.Effects.declared.acting.Acting.TheVariants as acts
-use Rattle.papaya_remains.specs.Given.Effects.declared.notes.Notes.{Notes}
-use Rattle.papaya_remains.specs.Given.Effects.declared.role.Role.TheVariants as role
-use Rattle.papaya_reclaiming.specs.Given.Finishes.Endings.{Finishing}
-use Rattle.papaya_reclaiming.specs.Given.Finishes.Makings.{Beginning, HasTaken}
-use Rattle.papaya_reclaiming.specs.Given.Finishes.Maps.{Standing}
-use Rattle.papaya_reclaiming.specs.Given.Executor.declared.executor.Executor.{Executor}
-use Rattle.papaya_reclaiming.specs.Given.Scenes.declared.row.RowTold.{RowTold}
-use Rattle.papaya_reclaiming.specs.Given.Scenes.declared.row.SlotCall.{SlotCall}
-use Rattle.papaya_reclaiming.specs.Given.Scenes.declared.row.SlotCall.TheVariants as call
-use Rattle.papaya_reclaiming.specs.Given.Scenes.declared.row.SlotRow.{SlotRow}
-use Rattle.papaya_remains.specs.Given.Follows.Shows.{Shows}
-use Rattle.papaya_remains.specs.Given.Others.Endings.{ending_after, without_map}
-use Rattle.papaya_remains.specs.Given.Others.Makings.{making_after}
-use Rattle.papaya_remains.specs.Given.Others.Rows.{scene_then}
-use Rattle.papaya_remains.proofs.Given.Moments.After.{effects_after}
-use Rattle.papaya_remains.proofs.Given.Moments.Numbers.{maps_go}
-use Rattle.papaya_remains.specs.Given.Moments.Numbers.{MapsAreBelow, NumbersMaps}
+use Rattle.papaya_remains.specs.Given.RawDeclared.machines.progress.Progress.{Progress as CallTold}
+use Rattle.papaya_remains.specs.Given.SchedulesDeclared.effect.Effect.{Effect}
+use Rattle.papaya_remains.specs.Given.SchedulesAfter.{if_any}
+use Rattle.papaya_remains.specs.Given.SchedulesBeginning.{used_roots, with_map}
+use Rattle.papaya_remains.specs.Given.SchedulesEffects.{with_effects}
+use Rattle.papaya_remains.specs.Given.SchedulesLists.{is_among}
+use Rattle.papaya_remains.specs.Given.SchedulesMoment.{MapThere, TableThere, Moment, start}
+use Rattle.papaya_remains.specs.Given.SchedulesViews.{map_of}
+use Rattle.papaya_reclaiming.specs.Given.CallersTogether.{UnderWay}
+use Rattle.papaya_remains.specs.Given.EffectsEffects.{taken_by, effects_of, known_after}
+use Rattle.papaya_remains.specs.Given.EffectsKnown.{Known, known, nothing_known}
+use Rattle.papaya_remains.specs.Given.EffectsDeclared.acting.Acting.TheVariants as acts
+use Rattle.papaya_remains.specs.Given.EffectsDeclared.notes.Notes.{Notes}
+use Rattle.papaya_remains.specs.Given.EffectsDeclared.role.Role.TheVariants as role
+use Rattle.papaya_reclaiming.specs.Given.FinishesEndings.{Finishing}
+use Rattle.papaya_reclaiming.specs.Given.FinishesMakings.{Beginning, HasTaken}
+use Rattle.papaya_reclaiming.specs.Given.FinishesMaps.{Standing}
+use Rattle.papaya_reclaiming.specs.Given.ExecutorDeclared.executor.Executor.{Executor}
+use Rattle.papaya_reclaiming.specs.Given.ScenesDeclared.row.RowTold.{RowTold}
+use Rattle.papaya_reclaiming.specs.Given.ScenesDeclared.row.SlotCall.{SlotCall}
+use Rattle.papaya_reclaiming.specs.Given.ScenesDeclared.row.SlotCall.TheVariants as call
+use Rattle.papaya_reclaiming.specs.Given.ScenesDeclared.row.SlotRow.{SlotRow}
+use Rattle.papaya_remains.specs.Given.FollowsShows.{Shows}
+use Rattle.papaya_remains.specs.Given.OthersEndings.{ending_after, without_map}
+use Rattle.papaya_remains.specs.Given.OthersMakings.{making_after}
+use Rattle.papaya_remains.specs.Given.OthersRows.{scene_then}
+use Rattle.papaya_remains.proofs.Given.MomentsAfter.{effects_after}
+use Rattle.papaya_remains.proofs.Given.MomentsNumbers.{maps_go}
+use Rattle.papaya_remains.specs.Given.MomentsNumbers.{MapsAreBelow, NumbersMaps}
 use Rattle.papaya_remains.specs.Numbered.{NumbersUpTo}
 use Rattle.papaya_remains.specs.Remains.{LeftNoted, ShowsRemains}
 use Rattle.papaya_remains.specs.Slots.{SlotsNoted}
@@ -52,14 +52,14 @@ use Rattle.papaya_remains.proofs.Steps.{calls_keep_remains, rows_begin_remain, r
 use Rattle.papaya_logged.specs.Ends.{ended_as}
 use Rattle.papaya_logged.specs.Shown.{IsCounted}
 use Rattle.papaya_logged.specs.declared.logged.Logged.{Logged}
-use Rattle.papaya_reclaiming.specs.Given.Executor.IsThere.{KeepsGiven, held_by}
-use Rattle.papaya_reclaiming.specs.Given.Scenes.Ending.{EndingLeads, ending_begun}
-use Rattle.papaya_reclaiming.specs.Given.Scenes.Rows.{request_of}
-use Rattle.papaya_reclaiming.specs.Given.Scenes.Scene.{IsOnSlot, Scene, at_first, slot_of}
-use Rattle.papaya_reclaiming.specs.Given.Scenes.Stepping.{StepLeads, scene_after}
-use Rattle.papaya_reclaiming.specs.Given.Scenes.Held.{IsAt}
-use Rattle.papaya_reclaiming.specs.Given.Scenes.Making.{MakingLeads}
-use Rattle.papaya_reclaiming.specs.Given.Scenes.OnSlots.{RowBegins, RowLeads}
+use Rattle.papaya_reclaiming.specs.Given.ExecutorIsThere.{KeepsGiven, held_by}
+use Rattle.papaya_reclaiming.specs.Given.ScenesEnding.{EndingLeads, ending_begun}
+use Rattle.papaya_reclaiming.specs.Given.ScenesRows.{request_of}
+use Rattle.papaya_reclaiming.specs.Given.ScenesScene.{IsOnSlot, Scene, at_first, slot_of}
+use Rattle.papaya_reclaiming.specs.Given.ScenesStepping.{StepLeads, scene_after}
+use Rattle.papaya_reclaiming.specs.Given.ScenesHeld.{IsAt}
+use Rattle.papaya_reclaiming.specs.Given.ScenesMaking.{MakingLeads}
+use Rattle.papaya_reclaiming.specs.Given.ScenesOnSlots.{RowBegins, RowLeads}
 
 -- numbers are those of the same maps and tables
 pub numbers_as : {K V : Type 0} (count : ℕ) (m v : Moment K V) → v.maps ≡ m.maps → v.tables ≡ m.tables → NumbersUpTo count m → NumbersUpTo count v

@@ -6,20 +6,20 @@ use Rattle.std.proofs.lemmas.List.{append-nil}
 use Rattle.seize.specs.World.{times}
 use Rattle.papaya_runs.specs.Given.Tables.Chunks.{is_incremental}
 use Rattle.papaya_runs.specs.Given.Tables.declared.setting.Setting.{Setting}
-use Rattle.papaya_reclaiming.specs.Given.Rule.Chart.{Chart}
-use Rattle.papaya_reclaiming.specs.Given.Rule.Words.{Blocks}
-use Rattle.papaya_remains.specs.Given.Schedules.declared.effect.Effect.{Effect}
-use Rattle.papaya_remains.specs.Given.Schedules.declared.effect.Effect.TheVariants.{Ended, Taken}
-use Rattle.papaya_remains.specs.Given.Effects.Effects.{taken_by}
-use Rattle.papaya_remains.specs.Given.Effects.Known.{Known}
-use Rattle.papaya_remains.specs.Given.Effects.declared.acting.Acting.TheVariants.{Ending}
-use Rattle.papaya_remains.specs.Given.Effects.declared.role.Role.{Role}
-use Rattle.papaya_reclaiming.specs.Given.Finishes.Endings.{AllPairsOnce}
-use Rattle.papaya_reclaiming.specs.Given.Finishes.FactsEnds.{back_of}
-use Rattle.papaya_reclaiming.specs.Given.Finishes.Orders.{pairs_of, tables_in}
-use Rattle.papaya_reclaiming.proofs.Given.Finishes.Ends.CountedBlocks.{some_here}
-use Rattle.papaya_remains.specs.Given.Follows.Maps.{table_of}
-use Rattle.papaya_remains.specs.Given.Moments.WholeEnds.{all_ended, tables_ended}
+use Rattle.papaya_reclaiming.specs.Given.RuleChart.{Chart}
+use Rattle.papaya_reclaiming.specs.Given.RuleWords.{Blocks}
+use Rattle.papaya_remains.specs.Given.SchedulesDeclared.effect.Effect.{Effect}
+use Rattle.papaya_remains.specs.Given.SchedulesDeclared.effect.Effect.TheVariants.{Ended, Taken}
+use Rattle.papaya_remains.specs.Given.EffectsEffects.{taken_by}
+use Rattle.papaya_remains.specs.Given.EffectsKnown.{Known}
+use Rattle.papaya_remains.specs.Given.EffectsDeclared.acting.Acting.TheVariants.{Ending}
+use Rattle.papaya_remains.specs.Given.EffectsDeclared.role.Role.{Role}
+use Rattle.papaya_reclaiming.specs.Given.FinishesEndings.{AllPairsOnce}
+use Rattle.papaya_reclaiming.specs.Given.FinishesFactsEnds.{back_of}
+use Rattle.papaya_reclaiming.specs.Given.FinishesOrders.{pairs_of, tables_in}
+use Rattle.papaya_reclaiming.proofs.Given.FinishesEnds.CountedBlocks.{some_here}
+use Rattle.papaya_remains.specs.Given.FollowsMaps.{table_of}
+use Rattle.papaya_remains.specs.Given.MomentsWholeEnds.{all_ended, tables_ended}
 use Rattle.papaya_logged.specs.Ends.{NotesMap, ended_as}
 
 -- a pair of the list is one of the map

@@ -6,17 +6,17 @@ use Rattle.seize.specs.World.{World, times}
 use Rattle.papaya_runs.specs.Given.Tables.Chunks.{is_incremental}
 use Rattle.papaya_runs.specs.Given.Tables.declared.node.Node.{Node}
 use Rattle.papaya_runs.specs.Given.Tables.declared.setting.Setting.{Setting}
-use Rattle.papaya_remains.specs.Given.Raw.declared.machines.end_map.EndMap.{EndMap}
-use Rattle.papaya_remains.specs.Given.Raw.declared.machines.end_map.Ending.{Ending}
-use Rattle.papaya_remains.specs.Given.Raw.declared.machines.end_map.Ending.TheVariants as at
-use Rattle.papaya_reclaiming.specs.Given.Rule.Chart.{Chart}
-use Rattle.papaya_reclaiming.specs.Given.Rule.Words.{Blocks}
-use Rattle.papaya_reclaiming.specs.Given.Points.Steps.{AreLawful}
-use Rattle.papaya_reclaiming.specs.Given.Finishes.FactsEnds.{EndingFacts, back_of}
-use Rattle.papaya_reclaiming.specs.Given.Finishes.Orders.{pairs_of, tables_in}
-use Rattle.papaya_reclaiming.proofs.Given.Finishes.Ends.CountedBlocks.{some_of_two, some_of_first}
-use Rattle.papaya_reclaiming.proofs.Given.Finishes.Ends.OrdersOnce.{HasOrder, all_once, of_map}
-use Rattle.papaya_reclaiming.proofs.Given.Finishes.Ends.OrdersPairs.{pairs_current}
+use Rattle.papaya_remains.specs.Given.RawDeclared.machines.end_map.EndMap.{EndMap}
+use Rattle.papaya_remains.specs.Given.RawDeclared.machines.end_map.Ending.{Ending}
+use Rattle.papaya_remains.specs.Given.RawDeclared.machines.end_map.Ending.TheVariants as at
+use Rattle.papaya_reclaiming.specs.Given.RuleChart.{Chart}
+use Rattle.papaya_reclaiming.specs.Given.RuleWords.{Blocks}
+use Rattle.papaya_reclaiming.specs.Given.PointsSteps.{AreLawful}
+use Rattle.papaya_reclaiming.specs.Given.FinishesFactsEnds.{EndingFacts, back_of}
+use Rattle.papaya_reclaiming.specs.Given.FinishesOrders.{pairs_of, tables_in}
+use Rattle.papaya_reclaiming.proofs.Given.FinishesEnds.CountedBlocks.{some_of_two, some_of_first}
+use Rattle.papaya_reclaiming.proofs.Given.FinishesEnds.OrdersOnce.{HasOrder, all_once, of_map}
+use Rattle.papaya_reclaiming.proofs.Given.FinishesEnds.OrdersPairs.{pairs_current}
 
 module _ {K V : Type 0} (hash : K → ℕ) (setting : Setting) (c : Chart K) (blocks : Blocks) (lists : ℕ → List ℕ) (owns : Bool) (caller : ℕ) (w : World (Node K V)) (e : EndMap) (past : ℕ) (back : List ℕ) where
   -- what it has reclaimed comes first

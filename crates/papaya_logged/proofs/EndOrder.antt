@@ -6,21 +6,21 @@ use Rattle.std.proofs.lemmas.Grind.{flat_map-append}
 use Rattle.std.proofs.lemmas.List.{append-nil}
 use Rattle.seize.specs.World.{times}
 use Rattle.papaya_runs.specs.Given.Tables.declared.status.TheConstants.Status.{ABORTED}
-use Rattle.papaya_remains.specs.Given.Schedules.declared.effect.Effect.TheVariants.{Ended}
-use Rattle.papaya_remains.specs.Given.Schedules.declared.effect.Spot.{Spot}
-use Rattle.papaya_remains.specs.Given.Schedules.Handing.{pairs_ended, in_order}
-use Rattle.papaya_remains.specs.Given.Schedules.Moment.{Moment}
-use Rattle.papaya_remains.specs.Given.Schedules.Things.{is_before}
-use Rattle.papaya_reclaiming.specs.Given.Rule.Chart.{Phase, Still, Copying, Copied, Place, Empty, Tombstone, Holds, Chart, is_marked}
-use Rattle.papaya_reclaiming.specs.Given.Rule.Maps.{spot_of}
-use Rattle.papaya_reclaiming.specs.Given.Rule.Rule.{Rule, Incremental, is_of}
-use Rattle.papaya_reclaiming.specs.Given.Points.Steps.{AreLawful}
-use Rattle.papaya_reclaiming.specs.Given.Finishes.Orders.{pair_at, with_pairs, pairs_from, pairs_in, pairs_of}
-use Rattle.papaya_reclaiming.proofs.Given.Finishes.Ends.CountedBlocks.{some_here}
-use Rattle.papaya_reclaiming.proofs.Given.Finishes.Ends.OrdersPairs.{GivesAt, Stands, stands_at, stands_current, all_home}
-use Rattle.papaya_remains.specs.Given.Moments.WholeEnds.{all_ended, tables_ended}
-use Rattle.papaya_remains.specs.Given.Spots.Spots.{named_by, spot_in, LiesAt}
-use Rattle.papaya_remains.proofs.Given.Spots.Names.{holds_is}
+use Rattle.papaya_remains.specs.Given.SchedulesDeclared.effect.Effect.TheVariants.{Ended}
+use Rattle.papaya_remains.specs.Given.SchedulesDeclared.effect.Spot.{Spot}
+use Rattle.papaya_remains.specs.Given.SchedulesHanding.{pairs_ended, in_order}
+use Rattle.papaya_remains.specs.Given.SchedulesMoment.{Moment}
+use Rattle.papaya_remains.specs.Given.SchedulesThings.{is_before}
+use Rattle.papaya_reclaiming.specs.Given.RuleChart.{Phase, Still, Copying, Copied, Place, Empty, Tombstone, Holds, Chart, is_marked}
+use Rattle.papaya_reclaiming.specs.Given.RuleMaps.{spot_of}
+use Rattle.papaya_reclaiming.specs.Given.RuleRule.{Rule, Incremental, is_of}
+use Rattle.papaya_reclaiming.specs.Given.PointsSteps.{AreLawful}
+use Rattle.papaya_reclaiming.specs.Given.FinishesOrders.{pair_at, with_pairs, pairs_from, pairs_in, pairs_of}
+use Rattle.papaya_reclaiming.proofs.Given.FinishesEnds.CountedBlocks.{some_here}
+use Rattle.papaya_reclaiming.proofs.Given.FinishesEnds.OrdersPairs.{GivesAt, Stands, stands_at, stands_current, all_home}
+use Rattle.papaya_remains.specs.Given.MomentsWholeEnds.{all_ended, tables_ended}
+use Rattle.papaya_remains.specs.Given.SpotsSpots.{named_by, spot_in, LiesAt}
+use Rattle.papaya_remains.proofs.Given.SpotsNames.{holds_is}
 
 -- whether a spot is before another, by their tables and places
 abbrev goes_before : ℕ → ℕ → ℕ → ℕ → Bool

@@ -4,14 +4,14 @@ use Rattle.std.proofs.Common.{refl, ap, ◌∙◌, arith, inl, inr}
 use Rattle.seize.specs.World.{World, InUse, LeftTo, times}
 use Rattle.papaya_runs.specs.Given.Tables.Chunks.{is_incremental}
 use Rattle.papaya_runs.specs.Given.Tables.declared.node.Node.{Node}
-use Rattle.papaya_remains.specs.Given.Raw.declared.machines.end_map.Ending.{Ending}
-use Rattle.papaya_remains.specs.Given.Raw.declared.machines.end_map.Ending.TheVariants as at
-use Rattle.papaya_reclaiming.specs.Given.Finishes.Endings.{Finishing, FinishingFacts}
-use Rattle.papaya_reclaiming.specs.Given.Finishes.FactsEnds.{AtPairs, EndingFacts, HasBehind, IsAt, IsTableYet, back_of, from_place, from_table}
-use Rattle.papaya_reclaiming.specs.Given.Finishes.Orders.{pairs_behind, pairs_from}
-use Rattle.papaya_reclaiming.proofs.Given.Finishes.Ends.CountedBlocks.{later_apart, some_last}
-use Rattle.papaya_reclaiming.proofs.Given.Finishes.Ends.OrdersOn.{back_same, table_later}
-use Rattle.papaya_reclaiming.proofs.Given.Finishes.Ends.OrdersOnce.{HasOrder, plain_order}
+use Rattle.papaya_remains.specs.Given.RawDeclared.machines.end_map.Ending.{Ending}
+use Rattle.papaya_remains.specs.Given.RawDeclared.machines.end_map.Ending.TheVariants as at
+use Rattle.papaya_reclaiming.specs.Given.FinishesEndings.{Finishing, FinishingFacts}
+use Rattle.papaya_reclaiming.specs.Given.FinishesFactsEnds.{AtPairs, EndingFacts, HasBehind, IsAt, IsTableYet, back_of, from_place, from_table}
+use Rattle.papaya_reclaiming.specs.Given.FinishesOrders.{pairs_behind, pairs_from}
+use Rattle.papaya_reclaiming.proofs.Given.FinishesEnds.CountedBlocks.{later_apart, some_last}
+use Rattle.papaya_reclaiming.proofs.Given.FinishesEnds.OrdersOn.{back_same, table_later}
+use Rattle.papaya_reclaiming.proofs.Given.FinishesEnds.OrdersOnce.{HasOrder, plain_order}
 use Rattle.papaya_logged.proofs.EndLists.{once}
 
 module _ {K V : Type 0} (same : K → K → Bool) (size : ℕ) (w : World (Node K V)) (i : ℕ) (f : Finishing K V) (k : FinishingFacts same size w i f) where

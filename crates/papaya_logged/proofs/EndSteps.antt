@@ -5,30 +5,30 @@ use Rattle.seize.specs.declared.rows.settle.Settled.{Settled}
 use Rattle.seize.specs.declared.rows.settle.Settled.TheVariants as settled
 use Rattle.papaya_runs.specs.Given.Tables.Chunks.{is_incremental}
 use Rattle.papaya_runs.specs.Given.Tables.declared.node.Node.{Node}
-use Rattle.papaya_reclaiming.proofs.Given.Rule.Laws.{current_is_known}
-use Rattle.papaya_remains.specs.Given.Schedules.declared.effect.Effect.{Effect}
-use Rattle.papaya_remains.specs.Given.Schedules.After.{if_any}
-use Rattle.papaya_remains.specs.Given.Schedules.Effects.{with_effects}
-use Rattle.papaya_remains.specs.Given.Schedules.Handing.{in_order}
-use Rattle.papaya_remains.specs.Given.Schedules.Moment.{Moment}
-use Rattle.papaya_remains.specs.Given.Effects.Effects.{effects_of, known_after}
-use Rattle.papaya_remains.specs.Given.Effects.Known.{Known, known}
-use Rattle.papaya_remains.specs.Given.Effects.declared.notes.Notes.{Notes}
-use Rattle.papaya_remains.specs.Given.Effects.declared.acting.Acting.TheVariants.{Ending}
-use Rattle.papaya_reclaiming.specs.Given.Finishes.Endings.{Finishing, AllPairsOnce, finishing_of}
-use Rattle.papaya_reclaiming.specs.Given.Finishes.FactsEnds.{taken_by as taken_of}
-use Rattle.papaya_reclaiming.specs.Given.Finishes.Maps.{Standing}
-use Rattle.papaya_reclaiming.specs.Given.Executor.declared.executor.Executor.{Executor}
-use Rattle.papaya_remains.specs.Given.Others.Endings.{ending_after, without_map}
-use Rattle.papaya_remains.proofs.Given.Moments.Ends.{endings_begin_whole, endings_keep_whole}
-use Rattle.papaya_remains.proofs.Given.Moments.Over.{endings_are_over_whole}
-use Rattle.papaya_remains.proofs.Given.Moments.WholeEnds.{whole_ends_take_all}
-use Rattle.papaya_remains.specs.Given.Moments.WholeEnds.{all_ended}
-use Rattle.papaya_remains.specs.Given.Moments.Whole.{ShowsWhole}
+use Rattle.papaya_reclaiming.proofs.Given.RuleLaws.{current_is_known}
+use Rattle.papaya_remains.specs.Given.SchedulesDeclared.effect.Effect.{Effect}
+use Rattle.papaya_remains.specs.Given.SchedulesAfter.{if_any}
+use Rattle.papaya_remains.specs.Given.SchedulesEffects.{with_effects}
+use Rattle.papaya_remains.specs.Given.SchedulesHanding.{in_order}
+use Rattle.papaya_remains.specs.Given.SchedulesMoment.{Moment}
+use Rattle.papaya_remains.specs.Given.EffectsEffects.{effects_of, known_after}
+use Rattle.papaya_remains.specs.Given.EffectsKnown.{Known, known}
+use Rattle.papaya_remains.specs.Given.EffectsDeclared.notes.Notes.{Notes}
+use Rattle.papaya_remains.specs.Given.EffectsDeclared.acting.Acting.TheVariants.{Ending}
+use Rattle.papaya_reclaiming.specs.Given.FinishesEndings.{Finishing, AllPairsOnce, finishing_of}
+use Rattle.papaya_reclaiming.specs.Given.FinishesFactsEnds.{taken_by as taken_of}
+use Rattle.papaya_reclaiming.specs.Given.FinishesMaps.{Standing}
+use Rattle.papaya_reclaiming.specs.Given.ExecutorDeclared.executor.Executor.{Executor}
+use Rattle.papaya_remains.specs.Given.OthersEndings.{ending_after, without_map}
+use Rattle.papaya_remains.proofs.Given.MomentsEnds.{endings_begin_whole, endings_keep_whole}
+use Rattle.papaya_remains.proofs.Given.MomentsOver.{endings_are_over_whole}
+use Rattle.papaya_remains.proofs.Given.MomentsWholeEnds.{whole_ends_take_all}
+use Rattle.papaya_remains.specs.Given.MomentsWholeEnds.{all_ended}
+use Rattle.papaya_remains.specs.Given.MomentsWhole.{ShowsWhole}
 use Rattle.papaya_logged.specs.Ends.{is_done, AllEnds, NotesMap, NotedStill, EndIsBegun, EndGoesOn, EndSteps, EndIsOver}
-use Rattle.papaya_remains.specs.Given.Kept.Kept.{ShowsKept}
-use Rattle.papaya_remains.proofs.Given.Kept.Others.{endings_begin_kept, endings_keep_kept, endings_find_kept}
-use Rattle.papaya_remains.proofs.Given.Kept.Stays.{stays_kept}
+use Rattle.papaya_remains.specs.Given.KeptKept.{ShowsKept}
+use Rattle.papaya_remains.proofs.Given.KeptOthers.{endings_begin_kept, endings_keep_kept, endings_find_kept}
+use Rattle.papaya_remains.proofs.Given.KeptStays.{stays_kept}
 use Rattle.papaya_logged.specs.Shown.{IsShown}
 use Rattle.papaya_logged.specs.Waits.{TellsThen, TellsWaiting}
 use Rattle.papaya_logged.specs.declared.logged.Logged.{Logged}
@@ -38,10 +38,10 @@ use Rattle.papaya_logged.proofs.EndOrder.{all_told, pairs_ordered}
 use Rattle.papaya_logged.proofs.EndLists.{once}
 use Rattle.papaya_logged.proofs.EndTold.{did_end, ends_alone, noted_on}
 use Rattle.papaya_logged.proofs.EndWaits.{waits_begin, waits_said}
-use Rattle.papaya_reclaiming.specs.Given.Executor.Ending.{EndingBegins, EndsThere}
-use Rattle.papaya_reclaiming.specs.Given.Executor.IsThere.{IsThere, KeepsGiven, held_by}
-use Rattle.papaya_reclaiming.specs.Given.Scenes.Ending.{ending_begun}
-use Rattle.papaya_reclaiming.specs.Given.Scenes.Scene.{Scene}
+use Rattle.papaya_reclaiming.specs.Given.ExecutorEnding.{EndingBegins, EndsThere}
+use Rattle.papaya_reclaiming.specs.Given.ExecutorIsThere.{IsThere, KeepsGiven, held_by}
+use Rattle.papaya_reclaiming.specs.Given.ScenesEnding.{ending_begun}
+use Rattle.papaya_reclaiming.specs.Given.ScenesScene.{Scene}
 use Rattle.papaya_logged.proofs.Held.{ending_held}
 
 module _ {K V S : Type 0} (same : K → K → Bool) (hash : K → ℕ) where

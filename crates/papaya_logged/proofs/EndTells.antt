@@ -8,22 +8,22 @@ use Rattle.seize.specs.Given.SeizeWords.Op.{Op, Out, Load, Store, Swap, Add, Or,
 use Rattle.seize.specs.Given.SeizeWords.Plan.{Plan, Turn, Do}
 use Rattle.seize.specs.declared.rows.settle.Settled.{Settled}
 use Rattle.papaya_runs.specs.Given.Tables.declared.node.Node.{Node}
-use Rattle.papaya_remains.specs.Given.Raw.EndMap.{plan_at, end_map_plan}
-use Rattle.papaya_remains.specs.Given.Raw.declared.machines.end_map.EndMap.{EndMap}
-use Rattle.papaya_remains.specs.Given.Raw.declared.machines.end_map.Ending.{Ending}
-use Rattle.papaya_remains.specs.Given.Raw.declared.machines.end_map.Ending.TheVariants as ending
-use Rattle.papaya_remains.specs.Given.Schedules.declared.effect.Effect.{Effect}
-use Rattle.papaya_reclaiming.specs.Given.Tells.Seen.{seen_of}
-use Rattle.papaya_reclaiming.specs.Given.Teller.Tells.{told_of, StepsTold}
-use Rattle.papaya_reclaiming.specs.Given.Teller.declared.changed.Changed.{Changed}
-use Rattle.papaya_reclaiming.specs.Given.Teller.declared.changed.Changed.TheVariants as changed
-use Rattle.papaya_remains.specs.Given.Effects.Effects.{led_to, named, names_same, effects_of}
-use Rattle.papaya_remains.specs.Given.Effects.Known.{Known}
-use Rattle.papaya_remains.specs.Given.Effects.declared.acting.Acting.TheVariants as acts
-use Rattle.papaya_remains.specs.Given.Effects.declared.role.Role.{Role}
-use Rattle.papaya_remains.specs.Given.Effects.declared.role.Role.TheVariants as role
-use Rattle.papaya_remains.specs.Given.Follows.Steps.{TakesNone}
-use Rattle.papaya_remains.proofs.Given.Follows.Alike.{AllCalm}
+use Rattle.papaya_remains.specs.Given.RawEndMap.{plan_at, end_map_plan}
+use Rattle.papaya_remains.specs.Given.RawDeclared.machines.end_map.EndMap.{EndMap}
+use Rattle.papaya_remains.specs.Given.RawDeclared.machines.end_map.Ending.{Ending}
+use Rattle.papaya_remains.specs.Given.RawDeclared.machines.end_map.Ending.TheVariants as ending
+use Rattle.papaya_remains.specs.Given.SchedulesDeclared.effect.Effect.{Effect}
+use Rattle.papaya_reclaiming.specs.Given.TellsSeen.{seen_of}
+use Rattle.papaya_reclaiming.specs.Given.TellerTells.{told_of, StepsTold}
+use Rattle.papaya_reclaiming.specs.Given.TellerDeclared.changed.Changed.{Changed}
+use Rattle.papaya_reclaiming.specs.Given.TellerDeclared.changed.Changed.TheVariants as changed
+use Rattle.papaya_remains.specs.Given.EffectsEffects.{led_to, named, names_same, effects_of}
+use Rattle.papaya_remains.specs.Given.EffectsKnown.{Known}
+use Rattle.papaya_remains.specs.Given.EffectsDeclared.acting.Acting.TheVariants as acts
+use Rattle.papaya_remains.specs.Given.EffectsDeclared.role.Role.{Role}
+use Rattle.papaya_remains.specs.Given.EffectsDeclared.role.Role.TheVariants as role
+use Rattle.papaya_remains.specs.Given.FollowsSteps.{TakesNone}
+use Rattle.papaya_remains.proofs.Given.FollowsAlike.{AllCalm}
 
 -- a word that it writes
 abbrev IsOfEnd : At → Type 0

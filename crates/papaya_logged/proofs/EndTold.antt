@@ -6,36 +6,36 @@ use Rattle.seize.specs.World.{times}
 use Rattle.seize.specs.declared.rows.settle.Settled.{Settled}
 use Rattle.seize.specs.declared.rows.settle.Settled.TheVariants as settled
 use Rattle.papaya_runs.specs.Given.Tables.declared.node.Node.{Node}
-use Rattle.papaya_remains.specs.Given.Raw.declared.machines.end_map.EndMap.{EndMap}
-use Rattle.papaya_remains.specs.Given.Schedules.declared.effect.Effect.{Effect}
-use Rattle.papaya_remains.specs.Given.Schedules.Effects.{AtEachEffect}
-use Rattle.papaya_remains.specs.Given.Schedules.Moment.{Moment}
-use Rattle.papaya_reclaiming.specs.Given.Teller.declared.changed.Changed.{Changed}
-use Rattle.papaya_reclaiming.specs.Given.Teller.declared.changed.Changed.TheVariants as changed
-use Rattle.papaya_reclaiming.proofs.Given.Callers.Together.At.{at_same}
-use Rattle.papaya_remains.specs.Given.Effects.Effects.{taken_by, effects_of, known_after}
-use Rattle.papaya_remains.specs.Given.Effects.Known.{Known}
-use Rattle.papaya_remains.specs.Given.Effects.declared.acting.Acting.TheVariants.{Ending}
-use Rattle.papaya_remains.specs.Given.Effects.declared.role.Role.{Role}
-use Rattle.papaya_remains.specs.Given.Effects.declared.role.Role.TheVariants as role
-use Rattle.papaya_reclaiming.specs.Given.Finishes.Endings.{Finishing, FinishingFacts, StepsOfEnding, waiting_by}
-use Rattle.papaya_reclaiming.specs.Given.Finishes.FactsEnds.{back_of, taken_by as taken_of}
-use Rattle.papaya_reclaiming.proofs.Given.Finishes.Ends.CountedBlocks.{times-append, next_apart, some_here, some_last}
-use Rattle.papaya_reclaiming.proofs.Given.Finishes.Ends.OrdersOn.{back_same}
-use Rattle.papaya_reclaiming.proofs.Given.Finishes.Ends.OrdersOnce.{HasOrder, plain_order}
-use Rattle.papaya_remains.specs.Given.Follows.Steps.{TakesNone}
-use Rattle.papaya_remains.proofs.Given.Follows.Alike.{AllCalm, put_elsewhere}
-use Rattle.papaya_remains.specs.Given.Others.Endings.{TellsNext}
-use Rattle.papaya_remains.proofs.Given.Others.Ends.{tells_next}
-use Rattle.papaya_remains.specs.Given.Moments.Endings.{IsOfIts}
-use Rattle.papaya_remains.proofs.Given.Moments.Ends.{says}
-use Rattle.papaya_remains.specs.Given.Moments.Whole.{ShowsWhole}
+use Rattle.papaya_remains.specs.Given.RawDeclared.machines.end_map.EndMap.{EndMap}
+use Rattle.papaya_remains.specs.Given.SchedulesDeclared.effect.Effect.{Effect}
+use Rattle.papaya_remains.specs.Given.SchedulesEffects.{AtEachEffect}
+use Rattle.papaya_remains.specs.Given.SchedulesMoment.{Moment}
+use Rattle.papaya_reclaiming.specs.Given.TellerDeclared.changed.Changed.{Changed}
+use Rattle.papaya_reclaiming.specs.Given.TellerDeclared.changed.Changed.TheVariants as changed
+use Rattle.papaya_reclaiming.proofs.Given.CallersTogether.At.{at_same}
+use Rattle.papaya_remains.specs.Given.EffectsEffects.{taken_by, effects_of, known_after}
+use Rattle.papaya_remains.specs.Given.EffectsKnown.{Known}
+use Rattle.papaya_remains.specs.Given.EffectsDeclared.acting.Acting.TheVariants.{Ending}
+use Rattle.papaya_remains.specs.Given.EffectsDeclared.role.Role.{Role}
+use Rattle.papaya_remains.specs.Given.EffectsDeclared.role.Role.TheVariants as role
+use Rattle.papaya_reclaiming.specs.Given.FinishesEndings.{Finishing, FinishingFacts, StepsOfEnding, waiting_by}
+use Rattle.papaya_reclaiming.specs.Given.FinishesFactsEnds.{back_of, taken_by as taken_of}
+use Rattle.papaya_reclaiming.proofs.Given.FinishesEnds.CountedBlocks.{times-append, next_apart, some_here, some_last}
+use Rattle.papaya_reclaiming.proofs.Given.FinishesEnds.OrdersOn.{back_same}
+use Rattle.papaya_reclaiming.proofs.Given.FinishesEnds.OrdersOnce.{HasOrder, plain_order}
+use Rattle.papaya_remains.specs.Given.FollowsSteps.{TakesNone}
+use Rattle.papaya_remains.proofs.Given.FollowsAlike.{AllCalm, put_elsewhere}
+use Rattle.papaya_remains.specs.Given.OthersEndings.{TellsNext}
+use Rattle.papaya_remains.proofs.Given.OthersEnds.{tells_next}
+use Rattle.papaya_remains.specs.Given.MomentsEndings.{IsOfIts}
+use Rattle.papaya_remains.proofs.Given.MomentsEnds.{says}
+use Rattle.papaya_remains.specs.Given.MomentsWhole.{ShowsWhole}
 use Rattle.papaya_logged.specs.Ends.{ended_as, NotesMap, NotedStill}
 use Rattle.papaya_logged.proofs.EndLists.{back_first, IsOneOf, once, one_of}
 use Rattle.papaya_logged.proofs.EndTells.{end_tells, nothing_done}
-use Rattle.papaya_reclaiming.specs.Given.Scenes.Ending.{EndingComesTo, EndingStepsFrom}
-use Rattle.papaya_reclaiming.specs.Given.Scenes.Held.{Held, IsAt}
-use Rattle.papaya_reclaiming.specs.Given.Scenes.Scene.{Scene, slot_of}
+use Rattle.papaya_reclaiming.specs.Given.ScenesEnding.{EndingComesTo, EndingStepsFrom}
+use Rattle.papaya_reclaiming.specs.Given.ScenesHeld.{Held, IsAt}
+use Rattle.papaya_reclaiming.specs.Given.ScenesScene.{Scene, slot_of}
 
 -- another block than the one of a list of one
 not_the_one : (x b : ℕ) → times x (b ∷ []) ≡ 0 → x ≢ b

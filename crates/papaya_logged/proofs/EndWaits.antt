@@ -8,45 +8,45 @@ use Rattle.seize.specs.Further.{FurtherFrom, FurtherAre}
 use Rattle.seize.specs.declared.rows.settle.Settled.{Settled}
 use Rattle.seize.specs.declared.rows.settle.Settled.TheVariants as settled
 use Rattle.seize.specs.World.{World, InUse, MayCut, Runs, times}
-use Rattle.papaya_remains.proofs.Given.SeizeAlone.Histories.Reached.{Reached, runs_reached}
+use Rattle.papaya_remains.proofs.Given.SeizeAloneHistories.Reached.{Reached, runs_reached}
 use Rattle.papaya_runs.specs.Given.Tables.Chunks.{is_incremental}
 use Rattle.papaya_runs.specs.Given.Tables.Nodes.{deferred_word}
 use Rattle.papaya_runs.specs.Given.Tables.declared.node.Node.{Node}
 use Rattle.papaya_runs.specs.Given.Tables.declared.node.Node.TheVariants as node
-use Rattle.papaya_remains.specs.Given.Raw.declared.machines.end_map.EndMap.{EndMap}
-use Rattle.papaya_remains.specs.Given.Schedules.declared.effect.Effect.{Effect}
-use Rattle.papaya_remains.specs.Given.Schedules.declared.effect.Table.{Table}
-use Rattle.papaya_remains.specs.Given.Schedules.Effects.{with_effects}
-use Rattle.papaya_remains.specs.Given.Schedules.Moment.{Deferral, Moment}
-use Rattle.papaya_remains.specs.Given.Schedules.Views.{behind}
-use Rattle.papaya_reclaiming.specs.Given.Callers.Kept.{IsPair}
-use Rattle.papaya_reclaiming.proofs.Given.Callers.Together.Came.{came_reached}
-use Rattle.papaya_remains.specs.Given.Effects.Effects.{effects_of, known_after}
-use Rattle.papaya_remains.specs.Given.Effects.Known.{Known}
-use Rattle.papaya_remains.specs.Given.Effects.declared.acting.Acting.TheVariants.{Ending}
-use Rattle.papaya_remains.specs.Given.Effects.declared.role.Role.{Role}
-use Rattle.papaya_remains.specs.Given.Effects.declared.role.Role.TheVariants as role
-use Rattle.papaya_reclaiming.specs.Given.Finishes.Endings.{Finishing, FinishingFacts, HasFinished, StepsOfEnding, finishing_of, waiting_by}
-use Rattle.papaya_reclaiming.specs.Given.Finishes.FactsEnds.{Deed, Looks, TakesPair, LeavesTable, JoinsPair, TakesLeft, TakesCounter, WritesRoot, HasBehind, events_of, from_table, left_by, taken_by as taken_of}
-use Rattle.papaya_reclaiming.specs.Given.Finishes.Maps.{Standing}
-use Rattle.papaya_reclaiming.specs.Given.Finishes.Orders.{pairs_of}
-use Rattle.papaya_reclaiming.proofs.Given.Finishes.Ends.CountedBlocks.{some_first, some_here, some_last, times-append, times_other}
-use Rattle.papaya_reclaiming.proofs.Given.Finishes.Ends.OrdersOn.{table_later}
-use Rattle.papaya_remains.specs.Given.Follows.Maps.{table_of}
-use Rattle.papaya_remains.proofs.Given.Follows.Onward.{IsOfMap}
-use Rattle.papaya_remains.specs.Given.Moments.Whole.{ShowsWhole}
-use Rattle.papaya_remains.proofs.Given.Moments.Ends.{end_keeps}
-use Rattle.papaya_remains.proofs.Given.Lives.InUse.{list_is}
-use Rattle.papaya_remains.proofs.Given.Lives.Order.{noted_still}
-use Rattle.papaya_remains.proofs.Given.Lives.OrderEnds.{same_behind, used_before}
-use Rattle.papaya_remains.specs.Given.Kept.Kept.{ShowsKept}
+use Rattle.papaya_remains.specs.Given.RawDeclared.machines.end_map.EndMap.{EndMap}
+use Rattle.papaya_remains.specs.Given.SchedulesDeclared.effect.Effect.{Effect}
+use Rattle.papaya_remains.specs.Given.SchedulesDeclared.effect.Table.{Table}
+use Rattle.papaya_remains.specs.Given.SchedulesEffects.{with_effects}
+use Rattle.papaya_remains.specs.Given.SchedulesMoment.{Deferral, Moment}
+use Rattle.papaya_remains.specs.Given.SchedulesViews.{behind}
+use Rattle.papaya_reclaiming.specs.Given.CallersKept.{IsPair}
+use Rattle.papaya_reclaiming.proofs.Given.CallersTogether.Came.{came_reached}
+use Rattle.papaya_remains.specs.Given.EffectsEffects.{effects_of, known_after}
+use Rattle.papaya_remains.specs.Given.EffectsKnown.{Known}
+use Rattle.papaya_remains.specs.Given.EffectsDeclared.acting.Acting.TheVariants.{Ending}
+use Rattle.papaya_remains.specs.Given.EffectsDeclared.role.Role.{Role}
+use Rattle.papaya_remains.specs.Given.EffectsDeclared.role.Role.TheVariants as role
+use Rattle.papaya_reclaiming.specs.Given.FinishesEndings.{Finishing, FinishingFacts, HasFinished, StepsOfEnding, finishing_of, waiting_by}
+use Rattle.papaya_reclaiming.specs.Given.FinishesFactsEnds.{Deed, Looks, TakesPair, LeavesTable, JoinsPair, TakesLeft, TakesCounter, WritesRoot, HasBehind, events_of, from_table, left_by, taken_by as taken_of}
+use Rattle.papaya_reclaiming.specs.Given.FinishesMaps.{Standing}
+use Rattle.papaya_reclaiming.specs.Given.FinishesOrders.{pairs_of}
+use Rattle.papaya_reclaiming.proofs.Given.FinishesEnds.CountedBlocks.{some_first, some_here, some_last, times-append, times_other}
+use Rattle.papaya_reclaiming.proofs.Given.FinishesEnds.OrdersOn.{table_later}
+use Rattle.papaya_remains.specs.Given.FollowsMaps.{table_of}
+use Rattle.papaya_remains.proofs.Given.FollowsOnward.{IsOfMap}
+use Rattle.papaya_remains.specs.Given.MomentsWhole.{ShowsWhole}
+use Rattle.papaya_remains.proofs.Given.MomentsEnds.{end_keeps}
+use Rattle.papaya_remains.proofs.Given.LivesInUse.{list_is}
+use Rattle.papaya_remains.proofs.Given.LivesOrder.{noted_still}
+use Rattle.papaya_remains.proofs.Given.LivesOrderEnds.{same_behind, used_before}
+use Rattle.papaya_remains.specs.Given.KeptKept.{ShowsKept}
 use Rattle.papaya_logged.specs.Ends.{is_done, NotesMap, NotedStill}
 use Rattle.papaya_logged.specs.Waits.{TellsLeft, TellsThen, TellsWaiting, WaitsSo, waited_behind}
 use Rattle.papaya_logged.proofs.LeftNoted.{left_there}
 use Rattle.papaya_logged.proofs.EndPast.{left_before, past_within, yet_carries, yet_fresh, yet_used}
-use Rattle.papaya_reclaiming.specs.Given.Scenes.Ending.{EndingComesTo, EndingStepsFrom}
-use Rattle.papaya_reclaiming.specs.Given.Scenes.Held.{Held, IsAt}
-use Rattle.papaya_reclaiming.specs.Given.Scenes.Scene.{Scene, slot_of}
+use Rattle.papaya_reclaiming.specs.Given.ScenesEnding.{EndingComesTo, EndingStepsFrom}
+use Rattle.papaya_reclaiming.specs.Given.ScenesHeld.{Held, IsAt}
+use Rattle.papaya_reclaiming.specs.Given.ScenesScene.{Scene, slot_of}
 
 each_two : {X Y : Type 0} (g : X → Y) (a b : List X) → each_of g (a ++ b) ≡ each_of g a ++ each_of g b
 each_two g [] b = refl

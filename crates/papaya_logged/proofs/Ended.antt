@@ -23,26 +23,26 @@ use Rattle.seize.specs.Enter.{enter_plan, unregister_plan}
 use Rattle.seize.specs.Leave as leave
 use Rattle.seize.specs.Register as register
 use Rattle.seize.specs.Settle.{settle_plan}
-use Rattle.papaya_reclaiming.proofs.Given.SeizeRule.Rows.Leaving.{steps_back}
-use Rattle.papaya_remains.proofs.Given.SeizeEnds.Batches.Free.{Outcomes, PlanOutcomes, plan_outcome, if_outcome}
+use Rattle.papaya_reclaiming.proofs.Given.SeizeRuleRows.Leaving.{steps_back}
+use Rattle.papaya_remains.proofs.Given.SeizeEndsBatches.Free.{Outcomes, PlanOutcomes, plan_outcome, if_outcome}
 use Rattle.papaya_runs.specs.Given.Tables.Nodes.{deferred_word}
 use Rattle.papaya_runs.specs.Given.Tables.declared.node.Node.{Node}
-use Rattle.papaya_reclaiming.specs.Given.Teller.declared.changed.Changed.{Changed}
-use Rattle.papaya_reclaiming.specs.Given.Teller.declared.changed.Changed.TheVariants.{Nothing}
-use Rattle.papaya_reclaiming.specs.Given.Scenes.declared.row.RowTold.{RowTold}
-use Rattle.papaya_reclaiming.specs.Given.Scenes.declared.row.RowTold.TheVariants as told
-use Rattle.papaya_reclaiming.specs.Given.Scenes.declared.row.SlotChange.{SlotChange}
-use Rattle.papaya_reclaiming.specs.Given.Scenes.declared.row.SlotChange.TheVariants as change
-use Rattle.papaya_reclaiming.specs.Given.Scenes.declared.row.SlotRow.{SlotRow}
-use Rattle.papaya_reclaiming.specs.Given.Scenes.declared.row.SlotRow.TheVariants as rows
-use Rattle.papaya_reclaiming.specs.Given.Scenes.declared.row.SlotUse.{SlotUse}
-use Rattle.papaya_reclaiming.specs.Given.Scenes.declared.row.SlotUse.TheVariants as used
+use Rattle.papaya_reclaiming.specs.Given.TellerDeclared.changed.Changed.{Changed}
+use Rattle.papaya_reclaiming.specs.Given.TellerDeclared.changed.Changed.TheVariants.{Nothing}
+use Rattle.papaya_reclaiming.specs.Given.ScenesDeclared.row.RowTold.{RowTold}
+use Rattle.papaya_reclaiming.specs.Given.ScenesDeclared.row.RowTold.TheVariants as told
+use Rattle.papaya_reclaiming.specs.Given.ScenesDeclared.row.SlotChange.{SlotChange}
+use Rattle.papaya_reclaiming.specs.Given.ScenesDeclared.row.SlotChange.TheVariants as change
+use Rattle.papaya_reclaiming.specs.Given.ScenesDeclared.row.SlotRow.{SlotRow}
+use Rattle.papaya_reclaiming.specs.Given.ScenesDeclared.row.SlotRow.TheVariants as rows
+use Rattle.papaya_reclaiming.specs.Given.ScenesDeclared.row.SlotUse.{SlotUse}
+use Rattle.papaya_reclaiming.specs.Given.ScenesDeclared.row.SlotUse.TheVariants as used
 use Rattle.papaya_logged.specs.Ended.{has_ended, taken_in_the_end, entered_as, left_in_the_end, uses_ended}
 use Rattle.papaya_logged.specs.OnSlots.{has_come}
 use Rattle.papaya_logged.proofs.RowsFall.{one_store}
-use Rattle.papaya_reclaiming.proofs.Given.Scenes.Told.{as_step}
-use Rattle.papaya_reclaiming.specs.Given.Scenes.OnSlots.{RowSteps}
-use Rattle.papaya_reclaiming.specs.Given.Scenes.Rows.{change_of, left_by, of_registering, of_settling, taken_as, uses_after}
+use Rattle.papaya_reclaiming.proofs.Given.ScenesTold.{as_step}
+use Rattle.papaya_reclaiming.specs.Given.ScenesOnSlots.{RowSteps}
+use Rattle.papaya_reclaiming.specs.Given.ScenesRows.{change_of, left_by, of_registering, of_settling, taken_as, uses_after}
 
 -- a registering takes its slot as it is to be used
 module _ (c : Register) where

@@ -9,41 +9,41 @@ use Rattle.seize.specs.World.{World, with_at}
 use Rattle.seize.specs.declared.rows.settle.Settled.{Settled}
 use Rattle.seize.specs.declared.rows.settle.Settled.TheVariants as settled
 use Rattle.papaya_runs.specs.Given.Tables.declared.node.Node.{Node}
-use Rattle.papaya_remains.specs.Given.Raw.EndMap.{end_map_plan}
-use Rattle.papaya_remains.specs.Given.Raw.declared.machines.end_map.EndMap.{EndMap}
-use Rattle.papaya_remains.specs.Given.Schedules.declared.effect.Effect.{Effect}
-use Rattle.papaya_remains.specs.Given.Schedules.Effects.{with_effects}
-use Rattle.papaya_remains.specs.Given.Schedules.Moment.{Moment}
-use Rattle.papaya_reclaiming.specs.Given.Teller.declared.changed.Changed.TheVariants.{Nothing}
-use Rattle.papaya_remains.specs.Given.Effects.Effects.{taken_by}
-use Rattle.papaya_remains.specs.Given.Effects.Known.{Known, known}
-use Rattle.papaya_remains.specs.Given.Effects.declared.acting.Acting.TheVariants.{Ending}
-use Rattle.papaya_reclaiming.proofs.Given.Callers.Together.At.{at_other, at_same}
-use Rattle.papaya_reclaiming.specs.Given.Finishes.Endings.{Finishing, FinishingFacts, waiting_by}
-use Rattle.papaya_reclaiming.specs.Given.Finishes.FactsEnds.{taken_by as taken_of}
-use Rattle.papaya_reclaiming.specs.Given.Finishes.Maps.{Standing}
-use Rattle.papaya_reclaiming.proofs.Given.Finishes.Among.Own.Steps.{endings_stand}
-use Rattle.papaya_remains.specs.Given.Maps.EndingsEnds.{HasMore}
-use Rattle.papaya_remains.specs.Given.Maps.MeasuresEnds.{end_map_left, most_blocks, tables_left, steps_left}
-use Rattle.papaya_remains.proofs.Given.Maps.Ends.Lower.{end_falls, fits_in_one}
-use Rattle.papaya_reclaiming.specs.Given.Executor.declared.executor.Executor.{Executor}
-use Rattle.papaya_reclaiming.specs.Given.Executor.declared.worker.Work.{Work}
-use Rattle.papaya_reclaiming.specs.Given.Executor.declared.worker.Work.TheVariants as work
-use Rattle.papaya_remains.specs.Given.Others.Endings.{ending_after}
-use Rattle.papaya_remains.proofs.Given.Moments.After.{effects_after}
+use Rattle.papaya_remains.specs.Given.RawEndMap.{end_map_plan}
+use Rattle.papaya_remains.specs.Given.RawDeclared.machines.end_map.EndMap.{EndMap}
+use Rattle.papaya_remains.specs.Given.SchedulesDeclared.effect.Effect.{Effect}
+use Rattle.papaya_remains.specs.Given.SchedulesEffects.{with_effects}
+use Rattle.papaya_remains.specs.Given.SchedulesMoment.{Moment}
+use Rattle.papaya_reclaiming.specs.Given.TellerDeclared.changed.Changed.TheVariants.{Nothing}
+use Rattle.papaya_remains.specs.Given.EffectsEffects.{taken_by}
+use Rattle.papaya_remains.specs.Given.EffectsKnown.{Known, known}
+use Rattle.papaya_remains.specs.Given.EffectsDeclared.acting.Acting.TheVariants.{Ending}
+use Rattle.papaya_reclaiming.proofs.Given.CallersTogether.At.{at_other, at_same}
+use Rattle.papaya_reclaiming.specs.Given.FinishesEndings.{Finishing, FinishingFacts, waiting_by}
+use Rattle.papaya_reclaiming.specs.Given.FinishesFactsEnds.{taken_by as taken_of}
+use Rattle.papaya_reclaiming.specs.Given.FinishesMaps.{Standing}
+use Rattle.papaya_reclaiming.proofs.Given.FinishesAmong.Own.Steps.{endings_stand}
+use Rattle.papaya_remains.specs.Given.MapsEndingsEnds.{HasMore}
+use Rattle.papaya_remains.specs.Given.MapsMeasuresEnds.{end_map_left, most_blocks, tables_left, steps_left}
+use Rattle.papaya_remains.proofs.Given.MapsEnds.Lower.{end_falls, fits_in_one}
+use Rattle.papaya_reclaiming.specs.Given.ExecutorDeclared.executor.Executor.{Executor}
+use Rattle.papaya_reclaiming.specs.Given.ExecutorDeclared.worker.Work.{Work}
+use Rattle.papaya_reclaiming.specs.Given.ExecutorDeclared.worker.Work.TheVariants as work
+use Rattle.papaya_remains.specs.Given.OthersEndings.{ending_after}
+use Rattle.papaya_remains.proofs.Given.MomentsAfter.{effects_after}
 use Rattle.papaya_logged.specs.Ends.{is_done, ended_as, TellsCame, NotedStill, EndCame, EndSteps, EndIsAt, EndIsShown, EndRan}
 use Rattle.papaya_logged.specs.Shown.{IsShown}
 use Rattle.papaya_logged.specs.Waits.{TellsThen, TellsWaiting}
 use Rattle.papaya_logged.specs.declared.logged.Logged.{Logged}
 use Rattle.papaya_logged.proofs.EndAll.{all_end}
 use Rattle.papaya_logged.proofs.EndSteps.{end_there}
-use Rattle.papaya_reclaiming.specs.Given.Executor.Ending.{EndsThere}
-use Rattle.papaya_reclaiming.specs.Given.Executor.IsThere.{IsThere, ending_in, held_by, work_of}
-use Rattle.papaya_reclaiming.proofs.Given.Scenes.Told.{as_step}
-use Rattle.papaya_reclaiming.specs.Given.Scenes.Scene.{IsEnding, Scene, slot_of}
+use Rattle.papaya_reclaiming.specs.Given.ExecutorEnding.{EndsThere}
+use Rattle.papaya_reclaiming.specs.Given.ExecutorIsThere.{IsThere, ending_in, held_by, work_of}
+use Rattle.papaya_reclaiming.proofs.Given.ScenesTold.{as_step}
+use Rattle.papaya_reclaiming.specs.Given.ScenesScene.{IsEnding, Scene, slot_of}
 use Rattle.papaya_logged.proofs.Held.{ending_held}
-use Rattle.papaya_reclaiming.specs.Given.Scenes.Ending.{EndingLeads}
-use Rattle.papaya_reclaiming.specs.Given.Scenes.Held.{Held, IsAt}
+use Rattle.papaya_reclaiming.specs.Given.ScenesEnding.{EndingLeads}
+use Rattle.papaya_reclaiming.specs.Given.ScenesHeld.{Held, IsAt}
 
 -- how many steps are left at most of what a caller has under way, if that is the end of a map
 abbrev pub end_left_of : {K V : Type 0} → Mem (Node K V) → Option (Work K V) → ℕ

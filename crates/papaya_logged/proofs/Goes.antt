@@ -6,23 +6,23 @@ use Rattle.seize.specs.declared.rows.reclaim_all.ReclaimAll.{ReclaimAll}
 use Rattle.seize.specs.declared.rows.settle.Settled.{Settled}
 use Rattle.papaya_runs.specs.Given.Tables.declared.node.Node.{Node}
 use Rattle.papaya_runs.specs.Given.Tables.declared.setting.Setting.{Setting}
-use Rattle.papaya_reclaiming.specs.Given.Resize.declared.new_map.NewMap.{NewMap}
-use Rattle.papaya_remains.specs.Given.Raw.declared.machines.end_map.EndMap.{EndMap}
-use Rattle.papaya_remains.specs.Given.Schedules.declared.effect.Effect.{Effect}
-use Rattle.papaya_remains.specs.Given.Effects.Effects.{effects_of, known_after}
-use Rattle.papaya_remains.specs.Given.Effects.Known.{known}
-use Rattle.papaya_remains.specs.Given.Effects.declared.acting.Acting.{Acting}
-use Rattle.papaya_remains.specs.Given.Effects.declared.acting.Acting.TheVariants as acts
-use Rattle.papaya_reclaiming.specs.Given.Scenes.declared.row.RowTold.{RowTold}
-use Rattle.papaya_reclaiming.specs.Given.Scenes.declared.row.SlotRow.{SlotRow}
-use Rattle.papaya_reclaiming.specs.Given.Executor.declared.worker.Work.TheVariants.{OnSlot}
+use Rattle.papaya_reclaiming.specs.Given.ResizeDeclared.new_map.NewMap.{NewMap}
+use Rattle.papaya_remains.specs.Given.RawDeclared.machines.end_map.EndMap.{EndMap}
+use Rattle.papaya_remains.specs.Given.SchedulesDeclared.effect.Effect.{Effect}
+use Rattle.papaya_remains.specs.Given.EffectsEffects.{effects_of, known_after}
+use Rattle.papaya_remains.specs.Given.EffectsKnown.{known}
+use Rattle.papaya_remains.specs.Given.EffectsDeclared.acting.Acting.{Acting}
+use Rattle.papaya_remains.specs.Given.EffectsDeclared.acting.Acting.TheVariants as acts
+use Rattle.papaya_reclaiming.specs.Given.ScenesDeclared.row.RowTold.{RowTold}
+use Rattle.papaya_reclaiming.specs.Given.ScenesDeclared.row.SlotRow.{SlotRow}
+use Rattle.papaya_reclaiming.specs.Given.ExecutorDeclared.worker.Work.TheVariants.{OnSlot}
 use Rattle.papaya_reclaiming.specs.Reclaiming.{IsReclaimingThere, ReclaimsThere}
 use Rattle.papaya_logged.specs.Goes.{EndGoes, GoesTo, IsNotedAs, MakingGoes, ReclaimingGoes, ReclaimingOn, RowGoes, StepsEnd, StepsMaking, far}
 use Rattle.papaya_logged.specs.Ends.{is_done}
 use Rattle.papaya_logged.specs.OnSlots.{StepsOn}
 use Rattle.papaya_logged.specs.declared.logged.Logged.{Logged}
-use Rattle.papaya_reclaiming.specs.Given.Executor.IsThere.{KeepsGiven, ending_in, making_in, work_of}
-use Rattle.papaya_reclaiming.specs.Given.Scenes.Scene.{Scene}
+use Rattle.papaya_reclaiming.specs.Given.ExecutorIsThere.{KeepsGiven, ending_in, making_in, work_of}
+use Rattle.papaya_reclaiming.specs.Given.ScenesScene.{Scene}
 
 module _ {X : Type 0} (Goes : X → X → Type 0) where
   -- none leads from there to there,

@@ -8,27 +8,27 @@ use Rattle.seize.specs.declared.rows.reclaim_all.ReclaimAll.{ReclaimAll}
 use Rattle.seize.specs.declared.rows.settle.Settled.{Settled}
 use Rattle.papaya_runs.specs.Given.Tables.declared.node.Node.{Node}
 use Rattle.papaya_runs.specs.Given.Tables.declared.setting.Setting.{Setting}
-use Rattle.papaya_reclaiming.specs.Given.Finishes.Maps.{Standing}
-use Rattle.papaya_remains.specs.Given.Moments.Numbers.{MapsAreBelow}
-use Rattle.papaya_remains.specs.Given.Raw.declared.machines.progress.Progress.{Progress}
-use Rattle.papaya_reclaiming.specs.Given.Scenes.Ending.{EndingLeads}
-use Rattle.papaya_reclaiming.specs.Given.Scenes.Held.{IsAt}
-use Rattle.papaya_reclaiming.specs.Given.Scenes.Making.{MakingLeads}
-use Rattle.papaya_reclaiming.specs.Given.Scenes.OnSlots.{RowBegins}
-use Rattle.papaya_reclaiming.specs.Given.Scenes.Replying.{AskLeads, StopLeads}
-use Rattle.papaya_reclaiming.specs.Given.Scenes.Scene.{Scene, slot_of}
-use Rattle.papaya_reclaiming.specs.Given.Scenes.Stepping.{StepLeads}
-use Rattle.papaya_reclaiming.specs.Given.Scenes.declared.row.SlotCall.{SlotCall}
-use Rattle.papaya_reclaiming.proofs.Given.Scenes.Leads.{ask_leads, ending_leads, making_leads, reclaiming_leads, row_begins, step_leads, stop_leads}
-use Rattle.papaya_reclaiming.specs.Given.Executor.Ending.{EndsThere}
-use Rattle.papaya_reclaiming.specs.Given.Executor.IsThere.{IsThere, held_by}
-use Rattle.papaya_reclaiming.specs.Given.Executor.Making.{MakesThere}
-use Rattle.papaya_reclaiming.specs.Given.Executor.OnSlots.{MayBegin, RowBeginsThere}
-use Rattle.papaya_reclaiming.specs.Given.Executor.Replying.{AsksThere, StopsThere}
-use Rattle.papaya_reclaiming.specs.Given.Executor.Stepping.{StepsThere}
-use Rattle.papaya_reclaiming.specs.Given.Executor.declared.executor.Executor.{Executor}
+use Rattle.papaya_reclaiming.specs.Given.FinishesMaps.{Standing}
+use Rattle.papaya_remains.specs.Given.MomentsNumbers.{MapsAreBelow}
+use Rattle.papaya_remains.specs.Given.RawDeclared.machines.progress.Progress.{Progress}
+use Rattle.papaya_reclaiming.specs.Given.ScenesEnding.{EndingLeads}
+use Rattle.papaya_reclaiming.specs.Given.ScenesHeld.{IsAt}
+use Rattle.papaya_reclaiming.specs.Given.ScenesMaking.{MakingLeads}
+use Rattle.papaya_reclaiming.specs.Given.ScenesOnSlots.{RowBegins}
+use Rattle.papaya_reclaiming.specs.Given.ScenesReplying.{AskLeads, StopLeads}
+use Rattle.papaya_reclaiming.specs.Given.ScenesScene.{Scene, slot_of}
+use Rattle.papaya_reclaiming.specs.Given.ScenesStepping.{StepLeads}
+use Rattle.papaya_reclaiming.specs.Given.ScenesDeclared.row.SlotCall.{SlotCall}
+use Rattle.papaya_reclaiming.proofs.Given.ScenesLeads.{ask_leads, ending_leads, making_leads, reclaiming_leads, row_begins, step_leads, stop_leads}
+use Rattle.papaya_reclaiming.specs.Given.ExecutorEnding.{EndsThere}
+use Rattle.papaya_reclaiming.specs.Given.ExecutorIsThere.{IsThere, held_by}
+use Rattle.papaya_reclaiming.specs.Given.ExecutorMaking.{MakesThere}
+use Rattle.papaya_reclaiming.specs.Given.ExecutorOnSlots.{MayBegin, RowBeginsThere}
+use Rattle.papaya_reclaiming.specs.Given.ExecutorReplying.{AsksThere, StopsThere}
+use Rattle.papaya_reclaiming.specs.Given.ExecutorStepping.{StepsThere}
+use Rattle.papaya_reclaiming.specs.Given.ExecutorDeclared.executor.Executor.{Executor}
 use Rattle.papaya_reclaiming.specs.Reclaiming.{IsReclaimingThere, ReclaimsThere}
-use Rattle.papaya_reclaiming.specs.Given.Scenes.Reclaiming.{IsReclaiming, ReclaimingLeads}
+use Rattle.papaya_reclaiming.specs.Given.ScenesReclaiming.{IsReclaiming, ReclaimingLeads}
 
 -- a map that stands, or is made, has a number that was given
 pub maps_below : {K V S : Type 0} (same : K → K → Bool) (hash : K → ℕ) (e : Executor K V S) (s : Scene K V) → IsThere same hash e s → MapsAreBelow (length e.maps.items) s

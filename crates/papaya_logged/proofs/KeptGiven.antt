@@ -1,7 +1,7 @@
 -- What an executor was given stays from step to step.
 use Rattle.std.proofs.Common.{◌≡◌, refl, sym, subst, ◌∙◌}
-use Rattle.papaya_reclaiming.specs.Given.Executor.declared.executor.Executor.{Executor}
-use Rattle.papaya_reclaiming.specs.Given.Executor.IsThere.{KeepsGiven, StaysGiven}
+use Rattle.papaya_reclaiming.specs.Given.ExecutorDeclared.executor.Executor.{Executor}
+use Rattle.papaya_reclaiming.specs.Given.ExecutorIsThere.{KeepsGiven, StaysGiven}
 
 module _ {K V S : Type 0} where
   -- where nothing was done,

@@ -7,49 +7,49 @@ use Rattle.seize.specs.declared.rows.settle.Settled.{Settled}
 use Rattle.seize.specs.declared.rows.settle.Settled.TheVariants as settled
 use Rattle.seize.specs.declared.states.TheConstants.{LAST_SLOT}
 use Rattle.seize.specs.World.{World, Hand, LeftTo, Step}
-use Rattle.papaya_reclaiming.proofs.Given.SeizeRule.Points.Aside.{HandFits}
-use Rattle.papaya_reclaiming.proofs.Given.SeizeRule.Words.There.{value_there}
-use Rattle.papaya_remains.proofs.Given.SeizeAlone.Histories.Reached.{Reached, runs_reached, steps_reached}
+use Rattle.papaya_reclaiming.proofs.Given.SeizeRulePoints.Aside.{HandFits}
+use Rattle.papaya_reclaiming.proofs.Given.SeizeRuleWords.There.{value_there}
+use Rattle.papaya_remains.proofs.Given.SeizeAloneHistories.Reached.{Reached, runs_reached, steps_reached}
 use Rattle.papaya_runs.specs.Given.Tables.Nodes.{deferred_word}
 use Rattle.papaya_runs.specs.Given.Tables.declared.node.Node.{Node}
 use Rattle.papaya_runs.specs.Given.Tables.declared.setting.Setting.{Setting}
-use Rattle.papaya_remains.specs.Given.Raw.declared.machines.progress.Progress.{Progress as CallTold}
-use Rattle.papaya_remains.specs.Given.Schedules.Moment.{Moment}
-use Rattle.papaya_reclaiming.specs.Given.Callers.Together.{UnderWay}
-use Rattle.papaya_reclaiming.proofs.Given.Callers.Together.Came.{came_reached}
-use Rattle.papaya_remains.specs.Given.Effects.Effects.{known_after}
-use Rattle.papaya_remains.specs.Given.Effects.Known.{Known}
-use Rattle.papaya_remains.specs.Given.Effects.declared.acting.Acting.TheVariants as acts
-use Rattle.papaya_remains.specs.Given.Effects.declared.role.Role.TheVariants as role
-use Rattle.papaya_reclaiming.specs.Given.Finishes.Endings.{Finishing}
-use Rattle.papaya_reclaiming.specs.Given.Finishes.FactsEnds.{events_of}
-use Rattle.papaya_reclaiming.specs.Given.Finishes.Makings.{Beginning}
-use Rattle.papaya_reclaiming.specs.Given.Scenes.declared.row.RowTold.{RowTold}
-use Rattle.papaya_reclaiming.specs.Given.Scenes.declared.row.SlotRow.{SlotRow}
-use Rattle.papaya_remains.proofs.Given.Follows.Onward.{IsLasting, IsOfMap}
-use Rattle.papaya_remains.proofs.Given.Follows.Steps.{step_shown, went_to}
-use Rattle.papaya_remains.proofs.Given.Hands.Steps.{calls_store_theirs}
-use Rattle.papaya_remains.specs.Given.Others.Endings.{ending_after}
-use Rattle.papaya_remains.specs.Given.Others.Makings.{WasNew}
-use Rattle.papaya_remains.specs.Given.Others.Rows.{scene_then}
-use Rattle.papaya_remains.proofs.Given.Others.RowPlans.{row_tells}
-use Rattle.papaya_remains.proofs.Given.Moments.Ends.{end_keeps}
-use Rattle.papaya_remains.specs.Given.Moments.Whole.{ShowsWhole}
-use Rattle.papaya_remains.proofs.Given.Settles.Hand.All.{own_or_row}
-use Rattle.papaya_remains.proofs.Given.Lives.CallRows.{role_kept}
-use Rattle.papaya_remains.proofs.Given.Lives.Lying.{row_pair}
-use Rattle.papaya_remains.proofs.Given.Lives.Makings.{role_kept as made_kept}
-use Rattle.papaya_remains.proofs.Given.Lives.Users.{left_lives}
-use Rattle.papaya_remains.proofs.Given.Lives.Waiting.{left, reached}
-use Rattle.papaya_remains.specs.Given.Kept.Kept.{ShowsKept}
-use Rattle.papaya_remains.proofs.Given.Kept.Calls.{own_made}
+use Rattle.papaya_remains.specs.Given.RawDeclared.machines.progress.Progress.{Progress as CallTold}
+use Rattle.papaya_remains.specs.Given.SchedulesMoment.{Moment}
+use Rattle.papaya_reclaiming.specs.Given.CallersTogether.{UnderWay}
+use Rattle.papaya_reclaiming.proofs.Given.CallersTogether.Came.{came_reached}
+use Rattle.papaya_remains.specs.Given.EffectsEffects.{known_after}
+use Rattle.papaya_remains.specs.Given.EffectsKnown.{Known}
+use Rattle.papaya_remains.specs.Given.EffectsDeclared.acting.Acting.TheVariants as acts
+use Rattle.papaya_remains.specs.Given.EffectsDeclared.role.Role.TheVariants as role
+use Rattle.papaya_reclaiming.specs.Given.FinishesEndings.{Finishing}
+use Rattle.papaya_reclaiming.specs.Given.FinishesFactsEnds.{events_of}
+use Rattle.papaya_reclaiming.specs.Given.FinishesMakings.{Beginning}
+use Rattle.papaya_reclaiming.specs.Given.ScenesDeclared.row.RowTold.{RowTold}
+use Rattle.papaya_reclaiming.specs.Given.ScenesDeclared.row.SlotRow.{SlotRow}
+use Rattle.papaya_remains.proofs.Given.FollowsOnward.{IsLasting, IsOfMap}
+use Rattle.papaya_remains.proofs.Given.FollowsSteps.{step_shown, went_to}
+use Rattle.papaya_remains.proofs.Given.HandsSteps.{calls_store_theirs}
+use Rattle.papaya_remains.specs.Given.OthersEndings.{ending_after}
+use Rattle.papaya_remains.specs.Given.OthersMakings.{WasNew}
+use Rattle.papaya_remains.specs.Given.OthersRows.{scene_then}
+use Rattle.papaya_remains.proofs.Given.OthersRowPlans.{row_tells}
+use Rattle.papaya_remains.proofs.Given.MomentsEnds.{end_keeps}
+use Rattle.papaya_remains.specs.Given.MomentsWhole.{ShowsWhole}
+use Rattle.papaya_remains.proofs.Given.SettlesHand.All.{own_or_row}
+use Rattle.papaya_remains.proofs.Given.LivesCallRows.{role_kept}
+use Rattle.papaya_remains.proofs.Given.LivesLying.{row_pair}
+use Rattle.papaya_remains.proofs.Given.LivesMakings.{role_kept as made_kept}
+use Rattle.papaya_remains.proofs.Given.LivesUsers.{left_lives}
+use Rattle.papaya_remains.proofs.Given.LivesWaiting.{left, reached}
+use Rattle.papaya_remains.specs.Given.KeptKept.{ShowsKept}
+use Rattle.papaya_remains.proofs.Given.KeptCalls.{own_made}
 use Rattle.papaya_remains.specs.Remains.{LeftNoted}
-use Rattle.papaya_reclaiming.specs.Given.Scenes.Ending.{EndingComesTo, EndingLeads}
-use Rattle.papaya_reclaiming.specs.Given.Scenes.Held.{Held, IsAt}
-use Rattle.papaya_reclaiming.specs.Given.Scenes.Making.{MakingLeads}
-use Rattle.papaya_reclaiming.specs.Given.Scenes.OnSlots.{RowLeads}
-use Rattle.papaya_reclaiming.specs.Given.Scenes.Scene.{IsOnSlot, Scene}
-use Rattle.papaya_reclaiming.specs.Given.Scenes.Stepping.{StepLeads}
+use Rattle.papaya_reclaiming.specs.Given.ScenesEnding.{EndingComesTo, EndingLeads}
+use Rattle.papaya_reclaiming.specs.Given.ScenesHeld.{Held, IsAt}
+use Rattle.papaya_reclaiming.specs.Given.ScenesMaking.{MakingLeads}
+use Rattle.papaya_reclaiming.specs.Given.ScenesOnSlots.{RowLeads}
+use Rattle.papaya_reclaiming.specs.Given.ScenesScene.{IsOnSlot, Scene}
+use Rattle.papaya_reclaiming.specs.Given.ScenesStepping.{StepLeads}
 
 -- a block that is left over is there
 module _ {K V : Type 0} (size : ℕ) (w : World (Node K V)) (r : Reached deferred_word size w) (b j : ℕ) (left_over : w.hand b ≡ LeftTo j) where

@@ -16,31 +16,31 @@ use Rattle.papaya_runs.specs.Given.Tables.declared.setting.Setting.{Setting}
 use Rattle.papaya_runs.specs.Given.Tables.declared.table.Table.{Table}
 use Rattle.papaya_runs.specs.Given.Tables.declared.table_words.TheConstants.{PLACES}
 use Rattle.papaya_runs.specs.Given.Tables.declared.lengths.Reason.{Reason}
-use Rattle.papaya_reclaiming.specs.Given.Resize.NewMap as new_map
-use Rattle.papaya_reclaiming.specs.Given.Resize.NewTable as new_table
-use Rattle.papaya_reclaiming.specs.Given.Resize.Sum as sums
-use Rattle.papaya_reclaiming.specs.Given.Resize.declared.sum.Sum.{Sum}
-use Rattle.papaya_reclaiming.specs.Given.Resize.declared.sum.Summing.{Summing}
-use Rattle.papaya_reclaiming.specs.Given.Resize.declared.sum.Summing.TheVariants as summing
-use Rattle.papaya_reclaiming.specs.Given.Resize.declared.new_table.NewTable.{NewTable}
-use Rattle.papaya_reclaiming.specs.Given.Resize.declared.new_table.Making.{Making}
-use Rattle.papaya_reclaiming.specs.Given.Resize.declared.new_table.Making.TheVariants as makes
-use Rattle.papaya_reclaiming.specs.Given.Resize.declared.new_map.NewMap.{NewMap}
-use Rattle.papaya_reclaiming.specs.Given.Resize.declared.new_map.Opening.{Opening}
-use Rattle.papaya_reclaiming.specs.Given.Resize.declared.new_map.Opening.TheVariants as opens
-use Rattle.papaya_remains.specs.Given.Schedules.InTurn.{is_growth}
-use Rattle.papaya_reclaiming.specs.Given.Tells.Seen.{seen_of}
-use Rattle.papaya_reclaiming.specs.Given.Teller.Tells.{told_of, StepsTold}
-use Rattle.papaya_reclaiming.specs.Given.Teller.declared.changed.Changed.{Changed}
-use Rattle.papaya_reclaiming.specs.Given.Teller.declared.changed.Changed.TheVariants as changed
-use Rattle.papaya_remains.specs.Given.Effects.Effects.{taken_by, effects_of}
-use Rattle.papaya_remains.specs.Given.Effects.Known.{Known}
-use Rattle.papaya_remains.specs.Given.Effects.declared.acting.Acting.TheVariants as acts
-use Rattle.papaya_remains.specs.Given.Effects.declared.role.Role.{Role}
-use Rattle.papaya_remains.specs.Given.Effects.declared.role.Role.TheVariants as role
-use Rattle.papaya_reclaiming.specs.Given.Finishes.Makings.{HasMade}
+use Rattle.papaya_reclaiming.specs.Given.ResizeNewMap as new_map
+use Rattle.papaya_reclaiming.specs.Given.ResizeNewTable as new_table
+use Rattle.papaya_reclaiming.specs.Given.ResizeSum as sums
+use Rattle.papaya_reclaiming.specs.Given.ResizeDeclared.sum.Sum.{Sum}
+use Rattle.papaya_reclaiming.specs.Given.ResizeDeclared.sum.Summing.{Summing}
+use Rattle.papaya_reclaiming.specs.Given.ResizeDeclared.sum.Summing.TheVariants as summing
+use Rattle.papaya_reclaiming.specs.Given.ResizeDeclared.new_table.NewTable.{NewTable}
+use Rattle.papaya_reclaiming.specs.Given.ResizeDeclared.new_table.Making.{Making}
+use Rattle.papaya_reclaiming.specs.Given.ResizeDeclared.new_table.Making.TheVariants as makes
+use Rattle.papaya_reclaiming.specs.Given.ResizeDeclared.new_map.NewMap.{NewMap}
+use Rattle.papaya_reclaiming.specs.Given.ResizeDeclared.new_map.Opening.{Opening}
+use Rattle.papaya_reclaiming.specs.Given.ResizeDeclared.new_map.Opening.TheVariants as opens
+use Rattle.papaya_remains.specs.Given.SchedulesInTurn.{is_growth}
+use Rattle.papaya_reclaiming.specs.Given.TellsSeen.{seen_of}
+use Rattle.papaya_reclaiming.specs.Given.TellerTells.{told_of, StepsTold}
+use Rattle.papaya_reclaiming.specs.Given.TellerDeclared.changed.Changed.{Changed}
+use Rattle.papaya_reclaiming.specs.Given.TellerDeclared.changed.Changed.TheVariants as changed
+use Rattle.papaya_remains.specs.Given.EffectsEffects.{taken_by, effects_of}
+use Rattle.papaya_remains.specs.Given.EffectsKnown.{Known}
+use Rattle.papaya_remains.specs.Given.EffectsDeclared.acting.Acting.TheVariants as acts
+use Rattle.papaya_remains.specs.Given.EffectsDeclared.role.Role.{Role}
+use Rattle.papaya_remains.specs.Given.EffectsDeclared.role.Role.TheVariants as role
+use Rattle.papaya_reclaiming.specs.Given.FinishesMakings.{HasMade}
 use Rattle.papaya_logged.specs.Makings.{has_table, has_tabled, IsBare}
-use Rattle.papaya_reclaiming.proofs.Given.Scenes.Told.{as_step}
+use Rattle.papaya_reclaiming.proofs.Given.ScenesTold.{as_step}
 
 -- what a step whose outcome is turned into another comes to, and tells
 module _ {K V A B : Type 0} (f : A → B) where

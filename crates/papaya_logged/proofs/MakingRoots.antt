@@ -16,25 +16,25 @@ use Rattle.papaya_runs.specs.Given.Tables.declared.node.Node.{Node}
 use Rattle.papaya_runs.specs.Given.Tables.declared.node.Node.TheVariants as node
 use Rattle.papaya_runs.specs.Given.Tables.declared.setting.Setting.{Setting}
 use Rattle.papaya_runs.specs.Given.Tables.declared.table.Table.{Table}
-use Rattle.papaya_reclaiming.specs.Given.Resize.NewMap as new_map
-use Rattle.papaya_reclaiming.specs.Given.Resize.NewTable as new_table
-use Rattle.papaya_reclaiming.specs.Given.Resize.declared.new_table.NewTable.{NewTable}
-use Rattle.papaya_reclaiming.specs.Given.Resize.declared.new_map.NewMap.{NewMap}
-use Rattle.papaya_reclaiming.specs.Given.Resize.declared.new_map.Opening.{Opening}
-use Rattle.papaya_reclaiming.specs.Given.Resize.declared.new_map.Opening.TheVariants as opens
-use Rattle.papaya_remains.specs.Given.Schedules.declared.effect.Effect.{Effect}
-use Rattle.papaya_remains.specs.Given.Schedules.InTurn.{has_grown, is_growth}
-use Rattle.papaya_reclaiming.specs.Given.Teller.Tells.{StepsTold}
-use Rattle.papaya_reclaiming.specs.Given.Teller.declared.changed.Changed.{Changed}
-use Rattle.papaya_reclaiming.specs.Given.Teller.declared.changed.Changed.TheVariants as changed
-use Rattle.papaya_remains.specs.Given.Effects.Effects.{effects_of}
-use Rattle.papaya_remains.specs.Given.Effects.Known.{Known}
-use Rattle.papaya_remains.specs.Given.Effects.declared.acting.Acting.TheVariants as acts
-use Rattle.papaya_reclaiming.specs.Given.Finishes.Makings.{HasTaken}
+use Rattle.papaya_reclaiming.specs.Given.ResizeNewMap as new_map
+use Rattle.papaya_reclaiming.specs.Given.ResizeNewTable as new_table
+use Rattle.papaya_reclaiming.specs.Given.ResizeDeclared.new_table.NewTable.{NewTable}
+use Rattle.papaya_reclaiming.specs.Given.ResizeDeclared.new_map.NewMap.{NewMap}
+use Rattle.papaya_reclaiming.specs.Given.ResizeDeclared.new_map.Opening.{Opening}
+use Rattle.papaya_reclaiming.specs.Given.ResizeDeclared.new_map.Opening.TheVariants as opens
+use Rattle.papaya_remains.specs.Given.SchedulesDeclared.effect.Effect.{Effect}
+use Rattle.papaya_remains.specs.Given.SchedulesInTurn.{has_grown, is_growth}
+use Rattle.papaya_reclaiming.specs.Given.TellerTells.{StepsTold}
+use Rattle.papaya_reclaiming.specs.Given.TellerDeclared.changed.Changed.{Changed}
+use Rattle.papaya_reclaiming.specs.Given.TellerDeclared.changed.Changed.TheVariants as changed
+use Rattle.papaya_remains.specs.Given.EffectsEffects.{effects_of}
+use Rattle.papaya_remains.specs.Given.EffectsKnown.{Known}
+use Rattle.papaya_remains.specs.Given.EffectsDeclared.acting.Acting.TheVariants as acts
+use Rattle.papaya_reclaiming.specs.Given.FinishesMakings.{HasTaken}
 use Rattle.papaya_logged.specs.Roots.{AreTaken, FindsRoot, IsFirstFree, with_root}
 use Rattle.papaya_logged.proofs.MakingAsks.{told_as, told_back}
 use Rattle.papaya_logged.proofs.MakingTables.{HasAsked, IsFirstMaking, TableThen, begins_first, first_tables_then}
-use Rattle.papaya_reclaiming.proofs.Given.Scenes.Told.{as_step}
+use Rattle.papaya_reclaiming.proofs.Given.ScenesTold.{as_step}
 
 abbrev pub bit : Bool → ℕ
 bit q = if q then 1 else 0

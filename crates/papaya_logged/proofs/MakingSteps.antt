@@ -5,38 +5,38 @@ use Rattle.seize.specs.World.{with_at}
 use Rattle.seize.specs.declared.progress.Progress.{Progress}
 use Rattle.seize.specs.declared.progress.Progress.TheVariants as progress
 use Rattle.papaya_runs.specs.Given.Tables.declared.setting.Setting.{Setting}
-use Rattle.papaya_remains.specs.Given.Schedules.declared.effect.Effect.{Effect}
-use Rattle.papaya_remains.specs.Given.Schedules.Beginning.{with_map}
-use Rattle.papaya_remains.specs.Given.Schedules.Effects.{with_effects}
-use Rattle.papaya_remains.specs.Given.Schedules.Moment.{Moment}
-use Rattle.papaya_remains.specs.Given.Effects.Effects.{effects_of, known_after}
-use Rattle.papaya_remains.specs.Given.Effects.Known.{Known, known}
-use Rattle.papaya_remains.specs.Given.Effects.declared.notes.Notes.{Notes}
-use Rattle.papaya_remains.specs.Given.Effects.declared.acting.Acting.TheVariants as acts
-use Rattle.papaya_remains.specs.Given.Effects.declared.role.Role.TheVariants as role
-use Rattle.papaya_reclaiming.specs.Given.Finishes.Makings.{Beginning}
-use Rattle.papaya_reclaiming.specs.Given.Executor.declared.executor.Executor.{Executor}
-use Rattle.papaya_remains.specs.Given.Others.Makings.{WasNew, making_after}
-use Rattle.papaya_remains.proofs.Given.Others.MakingGoes.{new_maps_stay}
-use Rattle.papaya_remains.proofs.Given.Moments.MakingSteps.{makings_keep_whole}
-use Rattle.papaya_remains.proofs.Given.Moments.MapsCome.{makings_begin_whole, maps_come_whole}
-use Rattle.papaya_remains.proofs.Given.Moments.Numbers.{maps_come_by_number}
-use Rattle.papaya_remains.specs.Given.Moments.Whole.{ShowsWhole}
-use Rattle.papaya_remains.specs.Given.Kept.Kept.{ShowsKept}
-use Rattle.papaya_remains.proofs.Given.Kept.Others.{makings_keep_kept}
-use Rattle.papaya_remains.proofs.Given.Kept.Stays.{makings_begin_kept, stays_kept}
+use Rattle.papaya_remains.specs.Given.SchedulesDeclared.effect.Effect.{Effect}
+use Rattle.papaya_remains.specs.Given.SchedulesBeginning.{with_map}
+use Rattle.papaya_remains.specs.Given.SchedulesEffects.{with_effects}
+use Rattle.papaya_remains.specs.Given.SchedulesMoment.{Moment}
+use Rattle.papaya_remains.specs.Given.EffectsEffects.{effects_of, known_after}
+use Rattle.papaya_remains.specs.Given.EffectsKnown.{Known, known}
+use Rattle.papaya_remains.specs.Given.EffectsDeclared.notes.Notes.{Notes}
+use Rattle.papaya_remains.specs.Given.EffectsDeclared.acting.Acting.TheVariants as acts
+use Rattle.papaya_remains.specs.Given.EffectsDeclared.role.Role.TheVariants as role
+use Rattle.papaya_reclaiming.specs.Given.FinishesMakings.{Beginning}
+use Rattle.papaya_reclaiming.specs.Given.ExecutorDeclared.executor.Executor.{Executor}
+use Rattle.papaya_remains.specs.Given.OthersMakings.{WasNew, making_after}
+use Rattle.papaya_remains.proofs.Given.OthersMakingGoes.{new_maps_stay}
+use Rattle.papaya_remains.proofs.Given.MomentsMakingSteps.{makings_keep_whole}
+use Rattle.papaya_remains.proofs.Given.MomentsMapsCome.{makings_begin_whole, maps_come_whole}
+use Rattle.papaya_remains.proofs.Given.MomentsNumbers.{maps_come_by_number}
+use Rattle.papaya_remains.specs.Given.MomentsWhole.{ShowsWhole}
+use Rattle.papaya_remains.specs.Given.KeptKept.{ShowsKept}
+use Rattle.papaya_remains.proofs.Given.KeptOthers.{makings_keep_kept}
+use Rattle.papaya_remains.proofs.Given.KeptStays.{makings_begin_kept, stays_kept}
 use Rattle.papaya_logged.specs.Makings.{MakingIsBegun, MakingGoesOn, MakingSteps, MapIsThere, StaysNew}
 use Rattle.papaya_logged.specs.Shown.{IsCounted, IsShown}
 use Rattle.papaya_logged.specs.declared.logged.Logged.{Logged}
 use Rattle.papaya_logged.proofs.Counted.{counted_comes, counted_making_begins, counted_making_steps, numbers_within, same_memory}
 use Rattle.papaya_logged.proofs.LeftNoted.{makings_note_left}
 use Rattle.papaya_logged.proofs.MakingAsks.{making_asks}
-use Rattle.papaya_reclaiming.specs.Given.Executor.IsThere.{IsThere, KeepsGiven, held_by}
-use Rattle.papaya_reclaiming.specs.Given.Executor.Making.{MakesThere}
-use Rattle.papaya_reclaiming.specs.Given.Executor.MakingBegins.{MakingBegins, next_making}
-use Rattle.papaya_reclaiming.specs.Given.Scenes.Scene.{Scene}
+use Rattle.papaya_reclaiming.specs.Given.ExecutorIsThere.{IsThere, KeepsGiven, held_by}
+use Rattle.papaya_reclaiming.specs.Given.ExecutorMaking.{MakesThere}
+use Rattle.papaya_reclaiming.specs.Given.ExecutorMakingBegins.{MakingBegins, next_making}
+use Rattle.papaya_reclaiming.specs.Given.ScenesScene.{Scene}
 use Rattle.papaya_logged.proofs.Held.{making_held, maps_below}
-use Rattle.papaya_reclaiming.specs.Given.Scenes.Making.{MakingLeads}
+use Rattle.papaya_reclaiming.specs.Given.ScenesMaking.{MakingLeads}
 
 module _ {K V S : Type 0} (same : K → K → Bool) (hash : K → ℕ) where
   pub making_is_begun : (old new : Logged K V S) (given : Setting) (places i : ℕ)

@@ -16,19 +16,19 @@ use Rattle.papaya_runs.specs.Given.Tables.declared.setting.Setting.{Setting}
 use Rattle.papaya_runs.specs.Given.Tables.declared.table.Table.{Table}
 use Rattle.papaya_runs.specs.Given.Tables.declared.table_words.TheConstants.{PLACES}
 use Rattle.papaya_runs.specs.Given.Tables.Probes.{limit_of}
-use Rattle.papaya_reclaiming.specs.Given.Resize.NewTable as new_table
-use Rattle.papaya_reclaiming.specs.Given.Resize.declared.new_table.NewTable.{NewTable}
-use Rattle.papaya_reclaiming.specs.Given.Resize.declared.new_table.Making.{Making}
-use Rattle.papaya_reclaiming.specs.Given.Resize.declared.new_table.Making.TheVariants as makes
-use Rattle.papaya_remains.specs.Given.Schedules.InTurn.{has_grown}
-use Rattle.papaya_reclaiming.specs.Given.Teller.Tells.{StepsTold}
-use Rattle.papaya_reclaiming.specs.Given.Teller.declared.changed.Changed.{Changed}
-use Rattle.papaya_reclaiming.specs.Given.Teller.declared.changed.Changed.TheVariants as changed
-use Rattle.papaya_remains.specs.Given.Effects.Effects.{effects_of}
-use Rattle.papaya_remains.specs.Given.Effects.Known.{Known}
-use Rattle.papaya_remains.specs.Given.Effects.declared.acting.Acting.TheVariants as acts
+use Rattle.papaya_reclaiming.specs.Given.ResizeNewTable as new_table
+use Rattle.papaya_reclaiming.specs.Given.ResizeDeclared.new_table.NewTable.{NewTable}
+use Rattle.papaya_reclaiming.specs.Given.ResizeDeclared.new_table.Making.{Making}
+use Rattle.papaya_reclaiming.specs.Given.ResizeDeclared.new_table.Making.TheVariants as makes
+use Rattle.papaya_remains.specs.Given.SchedulesInTurn.{has_grown}
+use Rattle.papaya_reclaiming.specs.Given.TellerTells.{StepsTold}
+use Rattle.papaya_reclaiming.specs.Given.TellerDeclared.changed.Changed.{Changed}
+use Rattle.papaya_reclaiming.specs.Given.TellerDeclared.changed.Changed.TheVariants as changed
+use Rattle.papaya_remains.specs.Given.EffectsEffects.{effects_of}
+use Rattle.papaya_remains.specs.Given.EffectsKnown.{Known}
+use Rattle.papaya_remains.specs.Given.EffectsDeclared.acting.Acting.TheVariants as acts
 use Rattle.papaya_logged.proofs.MakingAsks.{told_as}
-use Rattle.papaya_reclaiming.proofs.Given.Scenes.Told.{as_step}
+use Rattle.papaya_reclaiming.proofs.Given.ScenesTold.{as_step}
 
 -- a first table is none that counts, or that has answered
 abbrev pub IsFirstMaking : Making → Type 0

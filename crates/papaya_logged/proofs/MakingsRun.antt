@@ -9,37 +9,37 @@ use Rattle.seize.specs.World.{with_at}
 use Rattle.seize.specs.declared.progress.Progress.{Progress}
 use Rattle.seize.specs.declared.progress.Progress.TheVariants as progress
 use Rattle.papaya_runs.specs.Given.Tables.declared.setting.Setting.{Setting}
-use Rattle.papaya_reclaiming.specs.Given.Rule.Chart.{Chart}
-use Rattle.papaya_reclaiming.specs.Given.Resize.NewMap.{new_map_plan}
-use Rattle.papaya_reclaiming.specs.Given.Resize.declared.new_map.NewMap.{NewMap}
-use Rattle.papaya_remains.specs.Given.Schedules.declared.effect.Effect.{Effect}
-use Rattle.papaya_remains.specs.Given.Schedules.Effects.{with_effects}
-use Rattle.papaya_remains.specs.Given.Schedules.InTurn.{is_growth}
-use Rattle.papaya_remains.specs.Given.Schedules.Moment.{Stage, TableThere, Moment}
-use Rattle.papaya_reclaiming.specs.Given.Teller.declared.changed.Changed.TheVariants.{Nothing}
-use Rattle.papaya_reclaiming.proofs.Given.Callers.Together.At.{at_other, at_same}
-use Rattle.papaya_reclaiming.proofs.Given.Callers.Together.Users.{events_rows, events_uses}
-use Rattle.papaya_remains.specs.Given.Follows.Maps.{shape_at, table_of, tables_to}
-use Rattle.papaya_reclaiming.specs.Given.Finishes.Makings.{Beginning, IsNewChart, StepsOfMaking}
-use Rattle.papaya_reclaiming.specs.Given.Finishes.Maps.{Standing}
-use Rattle.papaya_remains.specs.Given.Maps.MeasuresBegins.{new_map_left}
-use Rattle.papaya_remains.proofs.Given.Maps.Begins.ComesToEnd.{beginnings_leave_less}
-use Rattle.papaya_reclaiming.specs.Given.Executor.declared.executor.Executor.{Executor}
-use Rattle.papaya_reclaiming.specs.Given.Executor.declared.worker.Work.{Work}
-use Rattle.papaya_reclaiming.specs.Given.Executor.declared.worker.Work.TheVariants as work
-use Rattle.papaya_remains.specs.Given.Others.Makings.{WasNew, making_after}
-use Rattle.papaya_remains.proofs.Given.Moments.After.{effects_after}
+use Rattle.papaya_reclaiming.specs.Given.RuleChart.{Chart}
+use Rattle.papaya_reclaiming.specs.Given.ResizeNewMap.{new_map_plan}
+use Rattle.papaya_reclaiming.specs.Given.ResizeDeclared.new_map.NewMap.{NewMap}
+use Rattle.papaya_remains.specs.Given.SchedulesDeclared.effect.Effect.{Effect}
+use Rattle.papaya_remains.specs.Given.SchedulesEffects.{with_effects}
+use Rattle.papaya_remains.specs.Given.SchedulesInTurn.{is_growth}
+use Rattle.papaya_remains.specs.Given.SchedulesMoment.{Stage, TableThere, Moment}
+use Rattle.papaya_reclaiming.specs.Given.TellerDeclared.changed.Changed.TheVariants.{Nothing}
+use Rattle.papaya_reclaiming.proofs.Given.CallersTogether.At.{at_other, at_same}
+use Rattle.papaya_reclaiming.proofs.Given.CallersTogether.Users.{events_rows, events_uses}
+use Rattle.papaya_remains.specs.Given.FollowsMaps.{shape_at, table_of, tables_to}
+use Rattle.papaya_reclaiming.specs.Given.FinishesMakings.{Beginning, IsNewChart, StepsOfMaking}
+use Rattle.papaya_reclaiming.specs.Given.FinishesMaps.{Standing}
+use Rattle.papaya_remains.specs.Given.MapsMeasuresBegins.{new_map_left}
+use Rattle.papaya_remains.proofs.Given.MapsBegins.ComesToEnd.{beginnings_leave_less}
+use Rattle.papaya_reclaiming.specs.Given.ExecutorDeclared.executor.Executor.{Executor}
+use Rattle.papaya_reclaiming.specs.Given.ExecutorDeclared.worker.Work.{Work}
+use Rattle.papaya_reclaiming.specs.Given.ExecutorDeclared.worker.Work.TheVariants as work
+use Rattle.papaya_remains.specs.Given.OthersMakings.{WasNew, making_after}
+use Rattle.papaya_remains.proofs.Given.MomentsAfter.{effects_after}
 use Rattle.papaya_logged.specs.Makings.{BelowIfRefused, is_over, HasTable, IsBare, JustAsks, StaysNew, CameBare, MakingCame, MakingSteps, MakingIsAt, MakingRan}
 use Rattle.papaya_logged.specs.Shown.{IsShown}
 use Rattle.papaya_logged.specs.declared.logged.Logged.{Logged}
 use Rattle.papaya_logged.proofs.MakingSteps.{is_there}
-use Rattle.papaya_reclaiming.specs.Given.Executor.IsThere.{IsThere, held_by, making_in, work_of}
-use Rattle.papaya_reclaiming.specs.Given.Executor.Making.{MakesThere}
-use Rattle.papaya_reclaiming.proofs.Given.Scenes.Told.{as_step}
-use Rattle.papaya_reclaiming.specs.Given.Scenes.Scene.{IsMaking, Scene, slot_of}
+use Rattle.papaya_reclaiming.specs.Given.ExecutorIsThere.{IsThere, held_by, making_in, work_of}
+use Rattle.papaya_reclaiming.specs.Given.ExecutorMaking.{MakesThere}
+use Rattle.papaya_reclaiming.proofs.Given.ScenesTold.{as_step}
+use Rattle.papaya_reclaiming.specs.Given.ScenesScene.{IsMaking, Scene, slot_of}
 use Rattle.papaya_logged.proofs.Held.{making_held}
-use Rattle.papaya_reclaiming.specs.Given.Scenes.Held.{Held}
-use Rattle.papaya_reclaiming.specs.Given.Scenes.Making.{MakingLeads}
+use Rattle.papaya_reclaiming.specs.Given.ScenesHeld.{Held}
+use Rattle.papaya_reclaiming.specs.Given.ScenesMaking.{MakingLeads}
 
 -- how many steps are left at most of what a caller has under way, if that is the making of a map
 abbrev pub making_left_of : {K V : Type 0} → Option (Work K V) → ℕ

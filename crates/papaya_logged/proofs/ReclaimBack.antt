@@ -8,22 +8,22 @@ use Rattle.seize.specs.declared.rows.settle.Settled.{Settled}
 use Rattle.seize.specs.declared.rows.settle.Settled.TheVariants as settled
 use Rattle.papaya_runs.specs.Given.Tables.declared.node.Node.{Node}
 use Rattle.papaya_runs.specs.declared.record.Pair.{Pair}
-use Rattle.papaya_remains.specs.Given.Schedules.declared.effect.Effect.{Effect}
-use Rattle.papaya_remains.specs.Given.Schedules.Effects.{pairs_back, with_effects}
-use Rattle.papaya_remains.specs.Given.Schedules.Moment.{Moment}
-use Rattle.papaya_reclaiming.specs.Given.Teller.declared.changed.Changed.{Changed}
-use Rattle.papaya_reclaiming.specs.Given.Teller.declared.changed.Changed.TheVariants as changed
-use Rattle.papaya_remains.specs.Given.Effects.Effects.{effects_of, led_to, named, names_same}
-use Rattle.papaya_remains.specs.Given.Effects.Known.{Known, known}
-use Rattle.papaya_remains.specs.Given.Effects.declared.acting.Acting.TheVariants.{Row}
-use Rattle.papaya_remains.specs.Given.Effects.declared.role.Role.{Role}
-use Rattle.papaya_remains.specs.Given.Effects.declared.role.Role.TheVariants as role
-use Rattle.papaya_reclaiming.specs.Given.Reclaims.Reclaims.{ReclaimingTold}
-use Rattle.papaya_reclaiming.specs.Given.Executor.declared.executor.Executor.{Executor}
+use Rattle.papaya_remains.specs.Given.SchedulesDeclared.effect.Effect.{Effect}
+use Rattle.papaya_remains.specs.Given.SchedulesEffects.{pairs_back, with_effects}
+use Rattle.papaya_remains.specs.Given.SchedulesMoment.{Moment}
+use Rattle.papaya_reclaiming.specs.Given.TellerDeclared.changed.Changed.{Changed}
+use Rattle.papaya_reclaiming.specs.Given.TellerDeclared.changed.Changed.TheVariants as changed
+use Rattle.papaya_remains.specs.Given.EffectsEffects.{effects_of, led_to, named, names_same}
+use Rattle.papaya_remains.specs.Given.EffectsKnown.{Known, known}
+use Rattle.papaya_remains.specs.Given.EffectsDeclared.acting.Acting.TheVariants.{Row}
+use Rattle.papaya_remains.specs.Given.EffectsDeclared.role.Role.{Role}
+use Rattle.papaya_remains.specs.Given.EffectsDeclared.role.Role.TheVariants as role
+use Rattle.papaya_reclaiming.specs.Given.ReclaimsReclaims.{ReclaimingTold}
+use Rattle.papaya_reclaiming.specs.Given.ExecutorDeclared.executor.Executor.{Executor}
 use Rattle.papaya_reclaiming.specs.Reclaiming.{MayReclaim, NobodyHas}
-use Rattle.papaya_remains.specs.Given.Follows.Steps.{TakesNone}
-use Rattle.papaya_remains.proofs.Given.Others.Quiet.{stored_none}
-use Rattle.papaya_remains.proofs.Given.Others.RowPlans.{TellsRow}
+use Rattle.papaya_remains.specs.Given.FollowsSteps.{TakesNone}
+use Rattle.papaya_remains.proofs.Given.OthersQuiet.{stored_none}
+use Rattle.papaya_remains.proofs.Given.OthersRowPlans.{TellsRow}
 use Rattle.papaya_logged.specs.Back.{AllBringsBack, ComesBack, pair_back, settled_back}
 use Rattle.papaya_logged.specs.Reclaims.{ReclaimingIsShown, ReclaimingSoFar, ReclaimingSteps}
 use Rattle.papaya_logged.specs.Shown.{IsShown}
@@ -32,9 +32,9 @@ use Rattle.papaya_logged.proofs.BroughtBack.{IsBack, more_back, none_back, nothi
 use Rattle.papaya_logged.proofs.ReclaimGives.{GivesOr, reclaiming_gives, taken_gone}
 use Rattle.papaya_logged.proofs.Reclaiming.Rows.{EmptiesRoot, reclaiming_tells}
 use Rattle.papaya_logged.proofs.Reclaiming.Steps.{left}
-use Rattle.papaya_reclaiming.specs.Given.Scenes.Scene.{Scene}
-use Rattle.papaya_reclaiming.specs.Given.Executor.IsThere.{held_by}
-use Rattle.papaya_reclaiming.specs.Given.Scenes.Reclaiming.{ReclaimingLeads}
+use Rattle.papaya_reclaiming.specs.Given.ScenesScene.{Scene}
+use Rattle.papaya_reclaiming.specs.Given.ExecutorIsThere.{held_by}
+use Rattle.papaya_reclaiming.specs.Given.ScenesReclaiming.{ReclaimingLeads}
 
 -- a root that is emptied reclaims nothing
 led_quiet : (was is : Role) → flat_map pairs_back (led_to Row was is) ≡ []

@@ -22,13 +22,13 @@ use Rattle.seize.specs.declared.rows.settle.Settling.{Settling}
 use Rattle.seize.specs.declared.rows.settle.Settling.TheVariants as settling
 use Rattle.papaya_runs.specs.Given.Tables.Nodes.{deferred_word, was_left}
 use Rattle.papaya_runs.specs.Given.Tables.declared.node.Node.{Node}
-use Rattle.papaya_reclaiming.specs.Given.Tells.Seen.{seen_of}
-use Rattle.papaya_reclaiming.specs.Given.Teller.Tells.{StepsTold, told_of}
-use Rattle.papaya_reclaiming.specs.Given.Teller.declared.changed.Changed.{Changed}
-use Rattle.papaya_reclaiming.specs.Given.Teller.declared.changed.Changed.TheVariants as changed
-use Rattle.papaya_remains.proofs.Given.Follows.Operations.{LeavesBy}
-use Rattle.papaya_remains.specs.Given.Follows.Steps.{TakesNone}
-use Rattle.papaya_remains.proofs.Given.Others.Outcomes.{told_in}
+use Rattle.papaya_reclaiming.specs.Given.TellsSeen.{seen_of}
+use Rattle.papaya_reclaiming.specs.Given.TellerTells.{StepsTold, told_of}
+use Rattle.papaya_reclaiming.specs.Given.TellerDeclared.changed.Changed.{Changed}
+use Rattle.papaya_reclaiming.specs.Given.TellerDeclared.changed.Changed.TheVariants as changed
+use Rattle.papaya_remains.proofs.Given.FollowsOperations.{LeavesBy}
+use Rattle.papaya_remains.specs.Given.FollowsSteps.{TakesNone}
+use Rattle.papaya_remains.proofs.Given.OthersOutcomes.{told_in}
 
 module _ {T : Type 0} where
   -- an operation, and a plan, that takes no block away

@@ -6,22 +6,22 @@ use Rattle.seize.specs.declared.rows.reclaim_all.ReclaimAll.{ReclaimAll}
 use Rattle.seize.specs.declared.rows.settle.Settled.{Settled}
 use Rattle.seize.specs.declared.rows.settle.Settled.TheVariants as settled
 use Rattle.papaya_runs.specs.Given.Tables.declared.node.Node.{Node}
-use Rattle.papaya_remains.specs.Given.Schedules.declared.effect.Effect.{Effect}
-use Rattle.papaya_remains.specs.Given.Schedules.Effects.{with_effect, with_effects, AtEachEffect}
-use Rattle.papaya_remains.specs.Given.Schedules.Moment.{Moment}
-use Rattle.papaya_reclaiming.specs.Given.Finishes.Maps.{IsSameMap, Standing}
-use Rattle.papaya_reclaiming.specs.Given.Reclaims.Reclaims.{AllIsReclaimed}
+use Rattle.papaya_remains.specs.Given.SchedulesDeclared.effect.Effect.{Effect}
+use Rattle.papaya_remains.specs.Given.SchedulesEffects.{with_effect, with_effects, AtEachEffect}
+use Rattle.papaya_remains.specs.Given.SchedulesMoment.{Moment}
+use Rattle.papaya_reclaiming.specs.Given.FinishesMaps.{IsSameMap, Standing}
+use Rattle.papaya_reclaiming.specs.Given.ReclaimsReclaims.{AllIsReclaimed}
 use Rattle.papaya_reclaiming.specs.Reclaiming.{IsReclaimingThere, MayReclaim, NobodyHas, ReclaimsThere}
-use Rattle.papaya_remains.specs.Given.Spots.OnSlots.{WaitUnreclaimed}
-use Rattle.papaya_remains.proofs.Given.Moments.After.{effects_after}
-use Rattle.papaya_remains.specs.Given.Moments.OnSlots.{HadRetired}
+use Rattle.papaya_remains.specs.Given.SpotsOnSlots.{WaitUnreclaimed}
+use Rattle.papaya_remains.proofs.Given.MomentsAfter.{effects_after}
+use Rattle.papaya_remains.specs.Given.MomentsOnSlots.{HadRetired}
 use Rattle.papaya_logged.specs.Ends.{is_done}
 use Rattle.papaya_logged.specs.Reclaims.{ReclaimRetired, ReclaimingCame, ReclaimingIsShown, ReclaimingRan, ReclaimingSoFar, ReclaimingSteps, ReclaimingThen}
 use Rattle.papaya_logged.specs.Shown.{IsShown}
 use Rattle.papaya_logged.specs.declared.logged.Logged.{Logged}
-use Rattle.papaya_reclaiming.specs.Given.Scenes.Scene.{Scene}
-use Rattle.papaya_reclaiming.specs.Given.Executor.IsThere.{IsThere, held_by}
-use Rattle.papaya_reclaiming.specs.Given.Scenes.Reclaiming.{ReclaimingComesToThere, ReclaimingLeads}
+use Rattle.papaya_reclaiming.specs.Given.ScenesScene.{Scene}
+use Rattle.papaya_reclaiming.specs.Given.ExecutorIsThere.{IsThere, held_by}
+use Rattle.papaya_reclaiming.specs.Given.ScenesReclaiming.{ReclaimingComesToThere, ReclaimingLeads}
 
 -- a map that is the same has its setting
 pub same_setting : {K : Type 0} (o o2 : Option (Standing K)) → IsSameMap o o2 → option_map (λ standing. standing.setting) o2 ≡ option_map (λ standing. standing.setting) o

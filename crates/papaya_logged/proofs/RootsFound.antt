@@ -9,27 +9,27 @@ use Rattle.seize.specs.declared.progress.Progress.{Progress}
 use Rattle.seize.specs.declared.progress.Progress.TheVariants as progress
 use Rattle.papaya_runs.specs.Given.Tables.declared.node.Node.{Node}
 use Rattle.papaya_runs.specs.Given.Tables.declared.setting.Setting.{Setting}
-use Rattle.papaya_reclaiming.specs.Given.Resize.NewMap.{opening}
-use Rattle.papaya_reclaiming.specs.Given.Resize.declared.new_map.NewMap.{NewMap}
-use Rattle.papaya_reclaiming.specs.Given.Resize.declared.new_map.Opening.{Opening}
-use Rattle.papaya_reclaiming.specs.Given.Resize.declared.new_map.Opening.TheVariants as opens
-use Rattle.papaya_remains.specs.Given.Schedules.declared.effect.Effect.{Effect}
-use Rattle.papaya_remains.specs.Given.Schedules.InTurn.{has_grown}
-use Rattle.papaya_remains.specs.Given.Effects.Effects.{effects_of}
-use Rattle.papaya_remains.specs.Given.Effects.Known.{Known, known}
-use Rattle.papaya_remains.specs.Given.Effects.declared.acting.Acting.TheVariants.{Making}
-use Rattle.papaya_reclaiming.proofs.Given.Callers.Together.At.{at_same}
-use Rattle.papaya_reclaiming.specs.Given.Finishes.Makings.{Beginning, HasTaken, HasComeTo, MakingFacts, OpeningFacts, StepsOfMaking}
-use Rattle.papaya_reclaiming.specs.Given.Executor.declared.executor.Executor.{Executor}
-use Rattle.papaya_reclaiming.specs.Given.Executor.declared.worker.Work.TheVariants as work
+use Rattle.papaya_reclaiming.specs.Given.ResizeNewMap.{opening}
+use Rattle.papaya_reclaiming.specs.Given.ResizeDeclared.new_map.NewMap.{NewMap}
+use Rattle.papaya_reclaiming.specs.Given.ResizeDeclared.new_map.Opening.{Opening}
+use Rattle.papaya_reclaiming.specs.Given.ResizeDeclared.new_map.Opening.TheVariants as opens
+use Rattle.papaya_remains.specs.Given.SchedulesDeclared.effect.Effect.{Effect}
+use Rattle.papaya_remains.specs.Given.SchedulesInTurn.{has_grown}
+use Rattle.papaya_remains.specs.Given.EffectsEffects.{effects_of}
+use Rattle.papaya_remains.specs.Given.EffectsKnown.{Known, known}
+use Rattle.papaya_remains.specs.Given.EffectsDeclared.acting.Acting.TheVariants.{Making}
+use Rattle.papaya_reclaiming.proofs.Given.CallersTogether.At.{at_same}
+use Rattle.papaya_reclaiming.specs.Given.FinishesMakings.{Beginning, HasTaken, HasComeTo, MakingFacts, OpeningFacts, StepsOfMaking}
+use Rattle.papaya_reclaiming.specs.Given.ExecutorDeclared.executor.Executor.{Executor}
+use Rattle.papaya_reclaiming.specs.Given.ExecutorDeclared.worker.Work.TheVariants as work
 use Rattle.papaya_logged.specs.Makings.{is_over, MakingCame, MakingRan}
 use Rattle.papaya_logged.specs.Roots.{AreTaken, FindsRoot, MakingFinds}
 use Rattle.papaya_logged.specs.declared.logged.Logged.{Logged}
 use Rattle.papaya_logged.proofs.MakingsRun.{making_of}
 use Rattle.papaya_logged.proofs.MakingRoots.{bit, GoesOnWith, HasItsRoot, LeavesOthers, RootSoFar, RootThen, root_then}
-use Rattle.papaya_reclaiming.specs.Given.Executor.IsThere.{IsThere, work_of}
-use Rattle.papaya_reclaiming.specs.Given.Executor.Making.{MakesThere}
-use Rattle.papaya_reclaiming.specs.Given.Scenes.Scene.{Scene, slot_of}
+use Rattle.papaya_reclaiming.specs.Given.ExecutorIsThere.{IsThere, work_of}
+use Rattle.papaya_reclaiming.specs.Given.ExecutorMaking.{MakesThere}
+use Rattle.papaya_reclaiming.specs.Given.ScenesScene.{Scene, slot_of}
 
 module _ {K V S : Type 0} (same : K → K → Bool) (hash : K → ℕ) (mid new : Executor K V S) (s : Scene K V) (at : IsThere same hash mid s) (i : ℕ) (b : Beginning K) (here : s.makers i ≡ Some b) where
   abbrev m : Mem (Node K V)

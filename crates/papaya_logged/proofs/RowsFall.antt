@@ -15,29 +15,29 @@ use Rattle.seize.specs.Leave.{leave_plan}
 use Rattle.seize.specs.Register.{register_plan}
 use Rattle.seize.specs.Settle.{settle_plan}
 use Rattle.seize.specs.World.{World}
-use Rattle.papaya_remains.proofs.Given.SeizeEnds.Rows.Among.{Came, row_steps_left, settles_go_lower, leaves_go_lower}
-use Rattle.papaya_remains.proofs.Given.SeizeEnds.Rows.Leaving.{leave_steps_left}
-use Rattle.papaya_remains.proofs.Given.SeizeEnds.Rows.Register.{register_to_go, register_ends}
-use Rattle.papaya_remains.proofs.Given.SeizeEnds.Settling.Most.{goes_further, settle_steps_left}
+use Rattle.papaya_remains.proofs.Given.SeizeEndsRows.Among.{Came, row_steps_left, settles_go_lower, leaves_go_lower}
+use Rattle.papaya_remains.proofs.Given.SeizeEndsRows.Leaving.{leave_steps_left}
+use Rattle.papaya_remains.proofs.Given.SeizeEndsRows.Register.{register_to_go, register_ends}
+use Rattle.papaya_remains.proofs.Given.SeizeEndsSettling.Most.{goes_further, settle_steps_left}
 use Rattle.papaya_runs.specs.Given.Tables.Nodes.{deferred_word}
 use Rattle.papaya_runs.specs.Given.Tables.declared.node.Node.{Node}
-use Rattle.papaya_reclaiming.specs.Given.Teller.declared.changed.Changed.{Changed}
-use Rattle.papaya_reclaiming.specs.Given.Teller.declared.changed.Changed.TheVariants.{Nothing}
-use Rattle.papaya_reclaiming.specs.Given.Executor.declared.executor.Executor.{Executor}
-use Rattle.papaya_reclaiming.specs.Given.Scenes.declared.row.RowTold.{RowTold}
-use Rattle.papaya_reclaiming.specs.Given.Scenes.declared.row.RowTold.TheVariants as told
-use Rattle.papaya_reclaiming.specs.Given.Scenes.declared.row.SlotRow.{SlotRow}
-use Rattle.papaya_reclaiming.specs.Given.Scenes.declared.row.SlotRow.TheVariants as rows
-use Rattle.papaya_reclaiming.specs.Given.Executor.declared.worker.Work.{Work}
-use Rattle.papaya_reclaiming.specs.Given.Executor.declared.worker.Work.TheVariants as work
+use Rattle.papaya_reclaiming.specs.Given.TellerDeclared.changed.Changed.{Changed}
+use Rattle.papaya_reclaiming.specs.Given.TellerDeclared.changed.Changed.TheVariants.{Nothing}
+use Rattle.papaya_reclaiming.specs.Given.ExecutorDeclared.executor.Executor.{Executor}
+use Rattle.papaya_reclaiming.specs.Given.ScenesDeclared.row.RowTold.{RowTold}
+use Rattle.papaya_reclaiming.specs.Given.ScenesDeclared.row.RowTold.TheVariants as told
+use Rattle.papaya_reclaiming.specs.Given.ScenesDeclared.row.SlotRow.{SlotRow}
+use Rattle.papaya_reclaiming.specs.Given.ScenesDeclared.row.SlotRow.TheVariants as rows
+use Rattle.papaya_reclaiming.specs.Given.ExecutorDeclared.worker.Work.{Work}
+use Rattle.papaya_reclaiming.specs.Given.ExecutorDeclared.worker.Work.TheVariants as work
 use Rattle.papaya_logged.specs.OnSlots.{has_come}
-use Rattle.papaya_reclaiming.proofs.Given.Executor.Uses.{reached}
-use Rattle.papaya_reclaiming.specs.Given.Executor.IsThere.{IsThere, work_of}
-use Rattle.papaya_reclaiming.specs.Given.Executor.OnSlots.{RowStepsThere, row_on}
-use Rattle.papaya_reclaiming.proofs.Given.Scenes.Told.{as_step}
-use Rattle.papaya_reclaiming.specs.Given.Scenes.OnSlots.{RowSteps}
-use Rattle.papaya_reclaiming.specs.Given.Scenes.Rows.{of_registering, of_settling, of_storing}
-use Rattle.papaya_reclaiming.specs.Given.Scenes.Scene.{Scene, row_of}
+use Rattle.papaya_reclaiming.proofs.Given.ExecutorUses.{reached}
+use Rattle.papaya_reclaiming.specs.Given.ExecutorIsThere.{IsThere, work_of}
+use Rattle.papaya_reclaiming.specs.Given.ExecutorOnSlots.{RowStepsThere, row_on}
+use Rattle.papaya_reclaiming.proofs.Given.ScenesTold.{as_step}
+use Rattle.papaya_reclaiming.specs.Given.ScenesOnSlots.{RowSteps}
+use Rattle.papaya_reclaiming.specs.Given.ScenesRows.{of_registering, of_settling, of_storing}
+use Rattle.papaya_reclaiming.specs.Given.ScenesScene.{Scene, row_of}
 
 -- how many steps are left at most of what a caller has under way, if that is a row on a slot
 abbrev pub steps_left_of : {K V : Type 0} → Mem (Node K V) → Option (Work K V) → ℕ

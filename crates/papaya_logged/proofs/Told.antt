@@ -1,29 +1,29 @@
 -- Calls go on by what they are told, or asked, and the moment shows that.
 use Rattle.std.specs.Prelude.{◌≡◌, ℕ, Bool, true, false, List, Result, Ok}
 use Rattle.std.proofs.Common.{refl, sym, subst}
-use Rattle.papaya_remains.specs.Given.Raw.Machine.{machine_replied}
-use Rattle.papaya_remains.specs.Given.Raw.declared.machines.asking.Reply.{Reply as MachineReply}
-use Rattle.papaya_remains.specs.Given.Schedules.Moment.{Moment}
-use Rattle.papaya_remains.specs.Given.Effects.Known.{known}
-use Rattle.papaya_remains.specs.Given.Effects.declared.notes.Notes.{Notes}
-use Rattle.papaya_reclaiming.specs.Given.Finishes.Machines.{machine_of, ToldOfKind}
-use Rattle.papaya_reclaiming.specs.Given.Finishes.Maps.{with_call}
-use Rattle.papaya_remains.specs.Given.Follows.Calling.{told as told_so}
-use Rattle.papaya_remains.specs.Given.Hands.Asked.{as_told}
-use Rattle.papaya_remains.proofs.Given.Moments.Calls.{calls_take_whole}
-use Rattle.papaya_remains.proofs.Given.Moments.Walks.{walks_go_on_whole, walks_stop_whole}
-use Rattle.papaya_remains.specs.Given.Moments.Whole.{ShowsWhole}
-use Rattle.papaya_remains.specs.Given.Kept.Kept.{ShowsKept}
-use Rattle.papaya_remains.proofs.Given.Kept.Between.{calls_take_kept, walks_go_on_kept, walks_stop_kept}
-use Rattle.papaya_remains.specs.Given.Others.Walks.{given_up}
+use Rattle.papaya_remains.specs.Given.RawMachine.{machine_replied}
+use Rattle.papaya_remains.specs.Given.RawDeclared.machines.asking.Reply.{Reply as MachineReply}
+use Rattle.papaya_remains.specs.Given.SchedulesMoment.{Moment}
+use Rattle.papaya_remains.specs.Given.EffectsKnown.{known}
+use Rattle.papaya_remains.specs.Given.EffectsDeclared.notes.Notes.{Notes}
+use Rattle.papaya_reclaiming.specs.Given.FinishesMachines.{machine_of, ToldOfKind}
+use Rattle.papaya_reclaiming.specs.Given.FinishesMaps.{with_call}
+use Rattle.papaya_remains.specs.Given.FollowsCalling.{told as told_so}
+use Rattle.papaya_remains.specs.Given.HandsAsked.{as_told}
+use Rattle.papaya_remains.proofs.Given.MomentsCalls.{calls_take_whole}
+use Rattle.papaya_remains.proofs.Given.MomentsWalks.{walks_go_on_whole, walks_stop_whole}
+use Rattle.papaya_remains.specs.Given.MomentsWhole.{ShowsWhole}
+use Rattle.papaya_remains.specs.Given.KeptKept.{ShowsKept}
+use Rattle.papaya_remains.proofs.Given.KeptBetween.{calls_take_kept, walks_go_on_kept, walks_stop_kept}
+use Rattle.papaya_remains.specs.Given.OthersWalks.{given_up}
 use Rattle.papaya_logged.specs.Calling.{CallTakes, WalkGoesOn, WalkStops}
 use Rattle.papaya_logged.specs.Shown.{IsShown}
 use Rattle.papaya_logged.specs.declared.logged.Logged.{Logged}
 use Rattle.papaya_logged.proofs.Counted.{counted_stays, same_memory}
-use Rattle.papaya_reclaiming.specs.Given.Executor.IsThere.{IsThere, KeepsGiven, held_by}
-use Rattle.papaya_reclaiming.specs.Given.Executor.Replying.{AsksThere, RepliesThere, StopsThere}
-use Rattle.papaya_reclaiming.specs.Given.Scenes.Replying.{scene_with, unless_stopped}
-use Rattle.papaya_reclaiming.specs.Given.Scenes.Scene.{Scene, slot_of}
+use Rattle.papaya_reclaiming.specs.Given.ExecutorIsThere.{IsThere, KeepsGiven, held_by}
+use Rattle.papaya_reclaiming.specs.Given.ExecutorReplying.{AsksThere, RepliesThere, StopsThere}
+use Rattle.papaya_reclaiming.specs.Given.ScenesReplying.{scene_with, unless_stopped}
+use Rattle.papaya_reclaiming.specs.Given.ScenesScene.{Scene, slot_of}
 use Rattle.papaya_logged.proofs.Held.{ask_held, stop_held}
 
 -- where a walk is given up, maps and what they have left over are as they were

@@ -2,40 +2,40 @@
 use Rattle.std.specs.Prelude.{◌≡◌, ℕ, Bool, true, List, ◌++◌, Option, Some, Result, Ok}
 use Rattle.std.specs.List.{list_any}
 use Rattle.papaya_runs.specs.Given.Tables.declared.node.Node.{Node}
-use Rattle.papaya_remains.specs.Given.Raw.Machine.{machine_asked, machine_replied}
-use Rattle.papaya_remains.specs.Given.Raw.declared.machines.asking.Reply.{Reply as MachineReply}
-use Rattle.papaya_remains.specs.Given.Raw.declared.machines.machine.Machine.{Machine}
-use Rattle.papaya_remains.specs.Given.Raw.declared.machines.progress.Progress.{Progress}
-use Rattle.papaya_remains.specs.Given.Schedules.Beginning.{with_call}
-use Rattle.papaya_remains.specs.Given.Schedules.Lists.{put}
-use Rattle.papaya_remains.specs.Given.Schedules.declared.call.Call.{Call}
-use Rattle.papaya_remains.specs.Given.Schedules.declared.call.Reply.{Reply}
-use Rattle.papaya_remains.specs.Given.Schedules.declared.effect.Effect.{Effect}
-use Rattle.papaya_remains.specs.Given.Schedules.Effects.{with_effects}
-use Rattle.papaya_remains.specs.Given.Schedules.Handing.{is_made}
-use Rattle.papaya_remains.specs.Given.Schedules.Moment.{Asking, UnderWay as CallThere, Moment}
-use Rattle.papaya_remains.specs.Given.Schedules.Views.{call_of}
-use Rattle.papaya_reclaiming.specs.Given.Callers.Together.{UnderWay}
-use Rattle.papaya_remains.specs.Given.Effects.Effects.{effects_of, known_after}
-use Rattle.papaya_remains.specs.Given.Effects.Known.{known}
-use Rattle.papaya_remains.specs.Given.Effects.declared.acting.Acting.TheVariants as acts
-use Rattle.papaya_reclaiming.specs.Given.Scenes.declared.row.SlotUse.TheVariants as used
-use Rattle.papaya_reclaiming.specs.Given.Finishes.Machines.{machine_of}
-use Rattle.papaya_reclaiming.specs.Given.Finishes.Maps.{Standing, with_call as with_call_of}
-use Rattle.papaya_remains.specs.Given.Follows.Calling.{NoneNamed, told as told_so}
-use Rattle.papaya_remains.specs.Given.Follows.Calls.{IsCalled}
-use Rattle.papaya_remains.specs.Given.Hands.Asked.{as_told}
-use Rattle.papaya_remains.specs.Given.Hands.Calling.{IsBegunFor}
-use Rattle.papaya_remains.specs.Given.Others.Walks.{given_up}
+use Rattle.papaya_remains.specs.Given.RawMachine.{machine_asked, machine_replied}
+use Rattle.papaya_remains.specs.Given.RawDeclared.machines.asking.Reply.{Reply as MachineReply}
+use Rattle.papaya_remains.specs.Given.RawDeclared.machines.machine.Machine.{Machine}
+use Rattle.papaya_remains.specs.Given.RawDeclared.machines.progress.Progress.{Progress}
+use Rattle.papaya_remains.specs.Given.SchedulesBeginning.{with_call}
+use Rattle.papaya_remains.specs.Given.SchedulesLists.{put}
+use Rattle.papaya_remains.specs.Given.SchedulesDeclared.call.Call.{Call}
+use Rattle.papaya_remains.specs.Given.SchedulesDeclared.call.Reply.{Reply}
+use Rattle.papaya_remains.specs.Given.SchedulesDeclared.effect.Effect.{Effect}
+use Rattle.papaya_remains.specs.Given.SchedulesEffects.{with_effects}
+use Rattle.papaya_remains.specs.Given.SchedulesHanding.{is_made}
+use Rattle.papaya_remains.specs.Given.SchedulesMoment.{Asking, UnderWay as CallThere, Moment}
+use Rattle.papaya_remains.specs.Given.SchedulesViews.{call_of}
+use Rattle.papaya_reclaiming.specs.Given.CallersTogether.{UnderWay}
+use Rattle.papaya_remains.specs.Given.EffectsEffects.{effects_of, known_after}
+use Rattle.papaya_remains.specs.Given.EffectsKnown.{known}
+use Rattle.papaya_remains.specs.Given.EffectsDeclared.acting.Acting.TheVariants as acts
+use Rattle.papaya_reclaiming.specs.Given.ScenesDeclared.row.SlotUse.TheVariants as used
+use Rattle.papaya_reclaiming.specs.Given.FinishesMachines.{machine_of}
+use Rattle.papaya_reclaiming.specs.Given.FinishesMaps.{Standing, with_call as with_call_of}
+use Rattle.papaya_remains.specs.Given.FollowsCalling.{NoneNamed, told as told_so}
+use Rattle.papaya_remains.specs.Given.FollowsCalls.{IsCalled}
+use Rattle.papaya_remains.specs.Given.HandsAsked.{as_told}
+use Rattle.papaya_remains.specs.Given.HandsCalling.{IsBegunFor}
+use Rattle.papaya_remains.specs.Given.OthersWalks.{given_up}
 use Rattle.papaya_logged.specs.Goes.{IsNotedAs, far}
 use Rattle.papaya_logged.specs.Shown.{IsShown}
 use Rattle.papaya_logged.specs.declared.logged.Logged.{Logged}
-use Rattle.papaya_reclaiming.specs.Given.Executor.IsThere.{IsThere, held_by, use_at}
-use Rattle.papaya_reclaiming.specs.Given.Executor.Stepping.{StepsThere}
-use Rattle.papaya_reclaiming.specs.Given.Scenes.Beginning.{Begins}
-use Rattle.papaya_reclaiming.specs.Given.Scenes.Replying.{scene_with, unless_stopped}
-use Rattle.papaya_reclaiming.specs.Given.Scenes.Scene.{Scene, slot_of}
-use Rattle.papaya_reclaiming.specs.Given.Scenes.Stepping.{StepLeads, scene_after}
+use Rattle.papaya_reclaiming.specs.Given.ExecutorIsThere.{IsThere, held_by, use_at}
+use Rattle.papaya_reclaiming.specs.Given.ExecutorStepping.{StepsThere}
+use Rattle.papaya_reclaiming.specs.Given.ScenesBeginning.{Begins}
+use Rattle.papaya_reclaiming.specs.Given.ScenesReplying.{scene_with, unless_stopped}
+use Rattle.papaya_reclaiming.specs.Given.ScenesScene.{Scene, slot_of}
+use Rattle.papaya_reclaiming.specs.Given.ScenesStepping.{StepLeads, scene_after}
 
 -- where growths are to be refused, nothing more is made
 abbrev pub MakesNoMore : Bool → (before after : List Effect) → Type 0

@@ -1,10 +1,10 @@
 -- A choice of a free block number joins those that are left.
 use Rattle.std.specs.Prelude.{ℕ, Bool, List, [], ◌∷◌, ◌++◌}
 use Rattle.seize.specs.Given.SeizeWords.Mem.{Mem}
-use Rattle.papaya_remains.specs.Given.Schedules.Moment.{Moment}
+use Rattle.papaya_remains.specs.Given.SchedulesMoment.{Moment}
 use Rattle.papaya_logged.specs.Shown.{IsShown}
 use Rattle.papaya_logged.specs.declared.logged.Logged.{Logged}
-use Rattle.papaya_reclaiming.specs.Given.Scenes.Scene.{Scene}
+use Rattle.papaya_reclaiming.specs.Given.ScenesScene.{Scene}
 
 abbrev pub memory_chosen : {T : Type 0} → ℕ → Mem T → Mem T
 memory_chosen choice m = record m { choices = m.choices ++ choice ∷ [] }

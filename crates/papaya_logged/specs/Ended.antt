@@ -7,12 +7,12 @@ use Rattle.seize.specs.declared.rows.leave.Leaving.TheVariants as leaves
 use Rattle.seize.specs.declared.rows.register.Register.{Register}
 use Rattle.seize.specs.declared.rows.register.Registering.{Registering}
 use Rattle.seize.specs.declared.rows.register.Registering.TheVariants as registers
-use Rattle.papaya_reclaiming.specs.Given.Scenes.declared.row.RowTold.{RowTold}
-use Rattle.papaya_reclaiming.specs.Given.Scenes.declared.row.RowTold.TheVariants as told
-use Rattle.papaya_reclaiming.specs.Given.Scenes.declared.row.SlotRow.{SlotRow}
-use Rattle.papaya_reclaiming.specs.Given.Scenes.declared.row.SlotRow.TheVariants as rows
-use Rattle.papaya_reclaiming.specs.Given.Scenes.declared.row.SlotUse.{SlotUse}
-use Rattle.papaya_reclaiming.specs.Given.Scenes.declared.row.SlotUse.TheVariants as used
+use Rattle.papaya_reclaiming.specs.Given.ScenesDeclared.row.RowTold.{RowTold}
+use Rattle.papaya_reclaiming.specs.Given.ScenesDeclared.row.RowTold.TheVariants as told
+use Rattle.papaya_reclaiming.specs.Given.ScenesDeclared.row.SlotRow.{SlotRow}
+use Rattle.papaya_reclaiming.specs.Given.ScenesDeclared.row.SlotRow.TheVariants as rows
+use Rattle.papaya_reclaiming.specs.Given.ScenesDeclared.row.SlotUse.{SlotUse}
+use Rattle.papaya_reclaiming.specs.Given.ScenesDeclared.row.SlotUse.TheVariants as used
 
 -- a row has ended
 abbrev pub has_ended : {T : Type 0} → RowTold T → Bool

@@ -7,33 +7,33 @@ use Rattle.papaya_runs.specs.Same.{is_same}
 use Rattle.papaya_runs.specs.Given.Tables.Chunks.{is_incremental}
 use Rattle.papaya_runs.specs.Given.Tables.declared.node.Node.{Node}
 use Rattle.papaya_runs.specs.Given.Tables.declared.setting.Setting.{Setting}
-use Rattle.papaya_remains.specs.Given.Raw.declared.machines.end_map.EndMap.{EndMap}
-use Rattle.papaya_reclaiming.specs.Given.Rule.Chart.{Chart}
-use Rattle.papaya_reclaiming.specs.Given.Rule.Words.{Blocks}
-use Rattle.papaya_remains.specs.Given.Schedules.declared.effect.Effect.{Effect}
-use Rattle.papaya_remains.specs.Given.Schedules.After.{if_any}
-use Rattle.papaya_remains.specs.Given.Schedules.Effects.{with_effects}
-use Rattle.papaya_remains.specs.Given.Schedules.Handing.{EndsMap}
-use Rattle.papaya_remains.specs.Given.Schedules.Moment.{MapThere, Moment}
-use Rattle.papaya_remains.specs.Given.Schedules.Views.{map_at, map_of}
-use Rattle.papaya_remains.specs.Given.Effects.Effects.{taken_by}
-use Rattle.papaya_remains.specs.Given.Effects.Known.{Known, known}
-use Rattle.papaya_remains.specs.Given.Effects.declared.acting.Acting.TheVariants.{Ending}
-use Rattle.papaya_remains.specs.Given.Effects.declared.role.Role.TheVariants as role
-use Rattle.papaya_reclaiming.specs.Given.Finishes.Endings.{Finishing, AllPairsOnce, finishing_of}
-use Rattle.papaya_reclaiming.specs.Given.Finishes.FactsEnds.{RootIs, back_of, taken_by as taken_of}
-use Rattle.papaya_reclaiming.specs.Given.Finishes.Maps.{Standing}
-use Rattle.papaya_remains.specs.Given.Follows.Maps.{table_of}
-use Rattle.papaya_remains.specs.Given.Others.Endings.{ending_after, without_map}
-use Rattle.papaya_remains.specs.Given.Moments.Numbers.{AreFound}
-use Rattle.papaya_remains.specs.Given.Moments.WholeEnds.{all_ended}
+use Rattle.papaya_remains.specs.Given.RawDeclared.machines.end_map.EndMap.{EndMap}
+use Rattle.papaya_reclaiming.specs.Given.RuleChart.{Chart}
+use Rattle.papaya_reclaiming.specs.Given.RuleWords.{Blocks}
+use Rattle.papaya_remains.specs.Given.SchedulesDeclared.effect.Effect.{Effect}
+use Rattle.papaya_remains.specs.Given.SchedulesAfter.{if_any}
+use Rattle.papaya_remains.specs.Given.SchedulesEffects.{with_effects}
+use Rattle.papaya_remains.specs.Given.SchedulesHanding.{EndsMap}
+use Rattle.papaya_remains.specs.Given.SchedulesMoment.{MapThere, Moment}
+use Rattle.papaya_remains.specs.Given.SchedulesViews.{map_at, map_of}
+use Rattle.papaya_remains.specs.Given.EffectsEffects.{taken_by}
+use Rattle.papaya_remains.specs.Given.EffectsKnown.{Known, known}
+use Rattle.papaya_remains.specs.Given.EffectsDeclared.acting.Acting.TheVariants.{Ending}
+use Rattle.papaya_remains.specs.Given.EffectsDeclared.role.Role.TheVariants as role
+use Rattle.papaya_reclaiming.specs.Given.FinishesEndings.{Finishing, AllPairsOnce, finishing_of}
+use Rattle.papaya_reclaiming.specs.Given.FinishesFactsEnds.{RootIs, back_of, taken_by as taken_of}
+use Rattle.papaya_reclaiming.specs.Given.FinishesMaps.{Standing}
+use Rattle.papaya_remains.specs.Given.FollowsMaps.{table_of}
+use Rattle.papaya_remains.specs.Given.OthersEndings.{ending_after, without_map}
+use Rattle.papaya_remains.specs.Given.MomentsNumbers.{AreFound}
+use Rattle.papaya_remains.specs.Given.MomentsWholeEnds.{all_ended}
 use Rattle.papaya_logged.specs.Shown.{IsShown}
 use Rattle.papaya_logged.specs.Waits.{TellsLeft, TellsThen, TellsWaiting}
 use Rattle.papaya_logged.specs.declared.logged.Logged.{Logged}
-use Rattle.papaya_reclaiming.specs.Given.Executor.Ending.{NoCallOn}
-use Rattle.papaya_reclaiming.specs.Given.Executor.IsThere.{IsThere, held_by}
-use Rattle.papaya_reclaiming.specs.Given.Scenes.Ending.{EndingLeads, ending_begun}
-use Rattle.papaya_reclaiming.specs.Given.Scenes.Scene.{Scene}
+use Rattle.papaya_reclaiming.specs.Given.ExecutorEnding.{NoCallOn}
+use Rattle.papaya_reclaiming.specs.Given.ExecutorIsThere.{IsThere, held_by}
+use Rattle.papaya_reclaiming.specs.Given.ScenesEnding.{EndingLeads, ending_begun}
+use Rattle.papaya_reclaiming.specs.Given.ScenesScene.{Scene}
 
 -- an end is over
 abbrev pub is_done : {T : Type 0} → Settled T → Bool

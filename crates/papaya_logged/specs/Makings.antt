@@ -7,30 +7,30 @@ use Rattle.seize.specs.declared.progress.Progress.{Progress}
 use Rattle.seize.specs.declared.progress.Progress.TheVariants as progress
 use Rattle.papaya_runs.specs.Given.Tables.Lengths.{IsTableLen}
 use Rattle.papaya_runs.specs.Given.Tables.declared.setting.Setting.{Setting}
-use Rattle.papaya_reclaiming.specs.Given.Resize.declared.new_map.NewMap.{NewMap}
-use Rattle.papaya_reclaiming.specs.Given.Resize.declared.new_map.Opening.{Opening}
-use Rattle.papaya_reclaiming.specs.Given.Resize.declared.new_map.Opening.TheVariants as opens
-use Rattle.papaya_reclaiming.specs.Given.Resize.declared.new_table.Making.{Making}
-use Rattle.papaya_reclaiming.specs.Given.Resize.declared.new_table.Making.TheVariants as makes
-use Rattle.papaya_remains.specs.Given.Schedules.declared.effect.Effect.{Effect}
-use Rattle.papaya_remains.specs.Given.Schedules.Beginning.{used_roots, with_map}
-use Rattle.papaya_remains.specs.Given.Schedules.Effects.{with_effects}
-use Rattle.papaya_remains.specs.Given.Schedules.InTurn.{is_growth}
-use Rattle.papaya_remains.specs.Given.Schedules.Lists.{is_among}
-use Rattle.papaya_remains.specs.Given.Schedules.Moment.{MapThere, Moment}
-use Rattle.papaya_remains.specs.Given.Schedules.Views.{tables_of}
-use Rattle.papaya_reclaiming.specs.Given.Points.Steps.{AreLawful}
-use Rattle.papaya_reclaiming.specs.Given.Finishes.Makings.{Beginning, IsNewChart}
-use Rattle.papaya_reclaiming.specs.Given.Finishes.Maps.{Standing}
-use Rattle.papaya_remains.specs.Given.Others.Makings.{IsNew, WasNew, making_after}
-use Rattle.papaya_remains.specs.Given.Moments.Numbers.{NumbersMaps}
+use Rattle.papaya_reclaiming.specs.Given.ResizeDeclared.new_map.NewMap.{NewMap}
+use Rattle.papaya_reclaiming.specs.Given.ResizeDeclared.new_map.Opening.{Opening}
+use Rattle.papaya_reclaiming.specs.Given.ResizeDeclared.new_map.Opening.TheVariants as opens
+use Rattle.papaya_reclaiming.specs.Given.ResizeDeclared.new_table.Making.{Making}
+use Rattle.papaya_reclaiming.specs.Given.ResizeDeclared.new_table.Making.TheVariants as makes
+use Rattle.papaya_remains.specs.Given.SchedulesDeclared.effect.Effect.{Effect}
+use Rattle.papaya_remains.specs.Given.SchedulesBeginning.{used_roots, with_map}
+use Rattle.papaya_remains.specs.Given.SchedulesEffects.{with_effects}
+use Rattle.papaya_remains.specs.Given.SchedulesInTurn.{is_growth}
+use Rattle.papaya_remains.specs.Given.SchedulesLists.{is_among}
+use Rattle.papaya_remains.specs.Given.SchedulesMoment.{MapThere, Moment}
+use Rattle.papaya_remains.specs.Given.SchedulesViews.{tables_of}
+use Rattle.papaya_reclaiming.specs.Given.PointsSteps.{AreLawful}
+use Rattle.papaya_reclaiming.specs.Given.FinishesMakings.{Beginning, IsNewChart}
+use Rattle.papaya_reclaiming.specs.Given.FinishesMaps.{Standing}
+use Rattle.papaya_remains.specs.Given.OthersMakings.{IsNew, WasNew, making_after}
+use Rattle.papaya_remains.specs.Given.MomentsNumbers.{NumbersMaps}
 use Rattle.papaya_remains.specs.Numbered.{NumbersUpTo}
 use Rattle.papaya_logged.specs.Shown.{IsShown}
 use Rattle.papaya_logged.specs.declared.logged.Logged.{Logged}
-use Rattle.papaya_reclaiming.specs.Given.Executor.IsThere.{IsThere, held_by}
-use Rattle.papaya_reclaiming.specs.Given.Executor.MakingBegins.{next_making}
-use Rattle.papaya_reclaiming.specs.Given.Scenes.Scene.{Scene}
-use Rattle.papaya_reclaiming.specs.Given.Scenes.Making.{MakingLeads}
+use Rattle.papaya_reclaiming.specs.Given.ExecutorIsThere.{IsThere, held_by}
+use Rattle.papaya_reclaiming.specs.Given.ExecutorMakingBegins.{next_making}
+use Rattle.papaya_reclaiming.specs.Given.ScenesScene.{Scene}
+use Rattle.papaya_reclaiming.specs.Given.ScenesMaking.{MakingLeads}
 
 -- a making is over
 abbrev pub is_over : {T : Type 0} → Progress T → Bool

@@ -4,21 +4,21 @@ use Rattle.seize.specs.declared.rows.reclaim_all.ReclaimAll.{ReclaimAll}
 use Rattle.seize.specs.declared.rows.settle.Settled.{Settled}
 use Rattle.seize.specs.declared.rows.settle.Settled.TheVariants as settled
 use Rattle.papaya_runs.specs.Given.Tables.declared.node.Node.{Node}
-use Rattle.papaya_remains.specs.Given.Schedules.declared.effect.Effect.{Effect}
-use Rattle.papaya_remains.specs.Given.Schedules.Effects.{with_effects, AtEachEffect}
-use Rattle.papaya_remains.specs.Given.Schedules.Moment.{Moment}
-use Rattle.papaya_remains.specs.Given.Effects.Known.{known}
-use Rattle.papaya_reclaiming.specs.Given.Reclaims.Reclaims.{AllIsReclaimed}
+use Rattle.papaya_remains.specs.Given.SchedulesDeclared.effect.Effect.{Effect}
+use Rattle.papaya_remains.specs.Given.SchedulesEffects.{with_effects, AtEachEffect}
+use Rattle.papaya_remains.specs.Given.SchedulesMoment.{Moment}
+use Rattle.papaya_remains.specs.Given.EffectsKnown.{known}
+use Rattle.papaya_reclaiming.specs.Given.ReclaimsReclaims.{AllIsReclaimed}
 use Rattle.papaya_reclaiming.specs.Reclaiming.{IsReclaimingThere, MayReclaim, NobodyHas}
-use Rattle.papaya_remains.specs.Given.Spots.OnSlots.{WaitUnreclaimed}
-use Rattle.papaya_remains.specs.Given.Moments.OnSlots.{HadRetired}
-use Rattle.papaya_remains.specs.Given.Moments.Whole.{ShowsWhole}
-use Rattle.papaya_remains.specs.Given.Kept.Kept.{ShowsKept}
+use Rattle.papaya_remains.specs.Given.SpotsOnSlots.{WaitUnreclaimed}
+use Rattle.papaya_remains.specs.Given.MomentsOnSlots.{HadRetired}
+use Rattle.papaya_remains.specs.Given.MomentsWhole.{ShowsWhole}
+use Rattle.papaya_remains.specs.Given.KeptKept.{ShowsKept}
 use Rattle.papaya_logged.specs.Shown.{AreNumbered, IsShown}
 use Rattle.papaya_logged.specs.declared.logged.Logged.{Logged}
-use Rattle.papaya_reclaiming.specs.Given.Executor.IsThere.{IsThere, held_by}
-use Rattle.papaya_reclaiming.specs.Given.Scenes.Scene.{Scene}
-use Rattle.papaya_reclaiming.specs.Given.Scenes.Reclaiming.{ReclaimingLeads}
+use Rattle.papaya_reclaiming.specs.Given.ExecutorIsThere.{IsThere, held_by}
+use Rattle.papaya_reclaiming.specs.Given.ScenesScene.{Scene}
+use Rattle.papaya_reclaiming.specs.Given.ScenesReclaiming.{ReclaimingLeads}
 
 module _ {K V S : Type 0} (same : K → K → Bool) (hash : K → ℕ) (name : ℕ → List ℕ) where
   -- All is being reclaimed, it is so far, and these lists are behind the roots still; and a moment shows the scene with the notes, of which all is so that every step keeps.

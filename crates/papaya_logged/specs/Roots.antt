@@ -6,13 +6,13 @@ use Rattle.seize.specs.Given.SeizeWords.Mem.{Mem, word_at}
 use Rattle.seize.specs.declared.progress.Progress.{Progress}
 use Rattle.seize.specs.declared.progress.Progress.TheVariants as progress
 use Rattle.papaya_runs.specs.Given.Tables.declared.setting.Setting.{Setting}
-use Rattle.papaya_reclaiming.specs.Given.Resize.NewMap.{opening}
-use Rattle.papaya_remains.specs.Given.Schedules.declared.effect.Effect.{Effect}
-use Rattle.papaya_remains.specs.Given.Schedules.InTurn.{has_grown}
-use Rattle.papaya_reclaiming.specs.Given.Finishes.Makings.{Beginning}
+use Rattle.papaya_reclaiming.specs.Given.ResizeNewMap.{opening}
+use Rattle.papaya_remains.specs.Given.SchedulesDeclared.effect.Effect.{Effect}
+use Rattle.papaya_remains.specs.Given.SchedulesInTurn.{has_grown}
+use Rattle.papaya_reclaiming.specs.Given.FinishesMakings.{Beginning}
 use Rattle.papaya_logged.specs.declared.logged.Logged.{Logged}
-use Rattle.papaya_reclaiming.specs.Given.Executor.IsThere.{IsThere}
-use Rattle.papaya_reclaiming.specs.Given.Scenes.Scene.{Scene}
+use Rattle.papaya_reclaiming.specs.Given.ExecutorIsThere.{IsThere}
+use Rattle.papaya_reclaiming.specs.Given.ScenesScene.{Scene}
 
 -- of so many roots these are taken, and the others are free
 abbrev pub AreTaken : {T : Type 0} → ℕ → (ℕ → Bool) → Mem T → Type 0

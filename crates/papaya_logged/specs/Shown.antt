@@ -1,15 +1,15 @@
 -- That a moment of a run shows an executor, with what is noted of its memory, and with all that every step keeps.
 use Rattle.std.specs.Prelude.{ℕ, Bool, List, length}
-use Rattle.papaya_remains.specs.Given.Schedules.Moment.{Moment}
-use Rattle.papaya_remains.specs.Given.Effects.Known.{known}
-use Rattle.papaya_remains.specs.Given.Moments.Whole.{ShowsWhole}
-use Rattle.papaya_remains.specs.Given.Kept.Kept.{ShowsKept}
+use Rattle.papaya_remains.specs.Given.SchedulesMoment.{Moment}
+use Rattle.papaya_remains.specs.Given.EffectsKnown.{known}
+use Rattle.papaya_remains.specs.Given.MomentsWhole.{ShowsWhole}
+use Rattle.papaya_remains.specs.Given.KeptKept.{ShowsKept}
 use Rattle.papaya_remains.specs.Numbered.{NumbersUpTo}
 use Rattle.papaya_remains.specs.Remains.{ShowsRemains}
 use Rattle.papaya_remains.specs.Slots.{SlotsNoted}
 use Rattle.papaya_logged.specs.declared.logged.Logged.{Logged}
-use Rattle.papaya_reclaiming.specs.Given.Executor.IsThere.{IsThere}
-use Rattle.papaya_reclaiming.specs.Given.Scenes.Scene.{Scene}
+use Rattle.papaya_reclaiming.specs.Given.ExecutorIsThere.{IsThere}
+use Rattle.papaya_reclaiming.specs.Given.ScenesScene.{Scene}
 
 -- Numbers of maps are below the next one that the executor gives, and slots are noted where there are some;
 pub record AreNumbered {K V S : Type 0} (m : Moment K V) (l : Logged K V S) : Type 0 where

@@ -2,15 +2,15 @@
 use Rattle.std.specs.Prelude.{◌≡◌, ◌<◌, ◌≤◌, ◌-◌, ℕ, zero, suc, Bool, true, false, List, [], ◌++◌, map as each_of}
 use Rattle.seize.specs.World.{World}
 use Rattle.papaya_runs.specs.Given.Tables.declared.node.Node.{Node}
-use Rattle.papaya_remains.specs.Given.Raw.declared.machines.end_map.EndMap.{EndMap}
-use Rattle.papaya_reclaiming.specs.Given.Rule.Chart.{Chart}
-use Rattle.papaya_remains.specs.Given.Schedules.Moment.{Deferral, Moment}
-use Rattle.papaya_remains.specs.Given.Schedules.Views.{behind}
-use Rattle.papaya_remains.specs.Given.Effects.Known.{Known}
-use Rattle.papaya_remains.specs.Given.Effects.declared.role.Role.TheVariants as role
-use Rattle.papaya_reclaiming.specs.Given.Finishes.Endings.{Finishing, FinishingFacts, waiting_by}
-use Rattle.papaya_reclaiming.specs.Given.Finishes.FactsEnds.{Deed, taken_by}
-use Rattle.papaya_remains.specs.Given.Follows.Maps.{table_of}
+use Rattle.papaya_remains.specs.Given.RawDeclared.machines.end_map.EndMap.{EndMap}
+use Rattle.papaya_reclaiming.specs.Given.RuleChart.{Chart}
+use Rattle.papaya_remains.specs.Given.SchedulesMoment.{Deferral, Moment}
+use Rattle.papaya_remains.specs.Given.SchedulesViews.{behind}
+use Rattle.papaya_remains.specs.Given.EffectsKnown.{Known}
+use Rattle.papaya_remains.specs.Given.EffectsDeclared.role.Role.TheVariants as role
+use Rattle.papaya_reclaiming.specs.Given.FinishesEndings.{Finishing, FinishingFacts, waiting_by}
+use Rattle.papaya_reclaiming.specs.Given.FinishesFactsEnds.{Deed, taken_by}
+use Rattle.papaya_remains.specs.Given.FollowsMaps.{table_of}
 
 -- the pairs that wait behind so many tables of a map, from this one on
 abbrev pub waited_behind : ℕ → List Deferral → ℕ → ℕ → List ℕ

@@ -1,13 +1,13 @@
 //! Calls begin, take steps, and are told what they ask.
 ghost use Rattle.std.specs.Prelude.{◌≡◌, ◌<◌, ◌+◌, ◌*◌, ℕ, Bool, List, length, IfOk, IfErr};
-ghost use Rattle.papaya_remains.specs.Given.Schedules.Moment.{Moment};
-ghost use Rattle.papaya_reclaiming.specs.Given.Scenes.declared.callers.TheConstants.{SLOTS};
+ghost use Rattle.papaya_remains.specs.Given.SchedulesMoment.{Moment};
+ghost use Rattle.papaya_reclaiming.specs.Given.ScenesDeclared.callers.TheConstants.{SLOTS};
 ghost use Rattle.papaya_logged.specs.Calling.{CallBegins, CallGoesOn, CallSteps, CallTakes, MakesNoMore, WalkGoesOn, WalkStops};
 ghost use Rattle.papaya_logged.specs.Shown.{IsShown};
-ghost use Rattle.papaya_reclaiming.specs.Given.Executor.Beginning.{BeginsThere, IsRefused};
-ghost use Rattle.papaya_reclaiming.specs.Given.Executor.IsThere.{IsThere, KeepsGiven};
-ghost use Rattle.papaya_reclaiming.specs.Given.Executor.Replying.{AsksThere, RepliesThere, StopsThere};
-ghost use Rattle.papaya_reclaiming.specs.Given.Scenes.Scene.{HasCall, Scene};
+ghost use Rattle.papaya_reclaiming.specs.Given.ExecutorBeginning.{BeginsThere, IsRefused};
+ghost use Rattle.papaya_reclaiming.specs.Given.ExecutorIsThere.{IsThere, KeepsGiven};
+ghost use Rattle.papaya_reclaiming.specs.Given.ExecutorReplying.{AsksThere, RepliesThere, StopsThere};
+ghost use Rattle.papaya_reclaiming.specs.Given.ScenesScene.{HasCall, Scene};
 
 use crate::logged::Logged;
 use papaya_reclaiming::papaya_scenes::callers::SLOTS;

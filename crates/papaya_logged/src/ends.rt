@@ -1,19 +1,19 @@
 //! Ends of maps begin, take steps, and run to their ends.
 ghost use Rattle.std.specs.Prelude.{◌≡◌, ◌<◌, ◌+◌, ◌*◌, ◌++◌, ℕ, Bool, true, List, length, slice_index_or, Some, None, IfOk, IfErr};
-ghost use Rattle.papaya_remains.specs.Given.Effects.Effects.{effects_of, known_after};
-ghost use Rattle.papaya_remains.specs.Given.Effects.Known.{known};
-ghost use Rattle.papaya_remains.specs.Given.Effects.declared.acting.Acting.TheVariants.{Ending};
-ghost use Rattle.papaya_remains.specs.Given.Schedules.Moment.{Moment};
+ghost use Rattle.papaya_remains.specs.Given.EffectsEffects.{effects_of, known_after};
+ghost use Rattle.papaya_remains.specs.Given.EffectsKnown.{known};
+ghost use Rattle.papaya_remains.specs.Given.EffectsDeclared.acting.Acting.TheVariants.{Ending};
+ghost use Rattle.papaya_remains.specs.Given.SchedulesMoment.{Moment};
 ghost use Rattle.papaya_runs.specs.Given.Tables.declared.setting.Setting.{Setting};
-ghost use Rattle.papaya_reclaiming.specs.Given.Scenes.declared.callers.TheConstants.{SLOTS};
+ghost use Rattle.papaya_reclaiming.specs.Given.ScenesDeclared.callers.TheConstants.{SLOTS};
 ghost use Rattle.papaya_logged.specs.Back.{EndBringsBack};
 ghost use Rattle.papaya_logged.specs.Ends.{EndIsBegun, EndSteps, EndRan, EndIsOver, is_done};
 ghost use Rattle.papaya_logged.specs.Goes.{EndGone};
 ghost use Rattle.papaya_logged.specs.Shown.{IsShown};
-ghost use Rattle.papaya_reclaiming.specs.Given.Executor.Beginning.{IsRefused};
-ghost use Rattle.papaya_reclaiming.specs.Given.Executor.Ending.{EndingBegins, EndsThere};
-ghost use Rattle.papaya_reclaiming.specs.Given.Executor.IsThere.{IsThere, KeepsGiven};
-ghost use Rattle.papaya_reclaiming.specs.Given.Scenes.Scene.{IsEnding, Scene};
+ghost use Rattle.papaya_reclaiming.specs.Given.ExecutorBeginning.{IsRefused};
+ghost use Rattle.papaya_reclaiming.specs.Given.ExecutorEnding.{EndingBegins, EndsThere};
+ghost use Rattle.papaya_reclaiming.specs.Given.ExecutorIsThere.{IsThere, KeepsGiven};
+ghost use Rattle.papaya_reclaiming.specs.Given.ScenesScene.{IsEnding, Scene};
 
 use crate::back::keep_settled;
 use crate::logged::Logged;

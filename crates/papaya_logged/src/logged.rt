@@ -1,12 +1,12 @@
 //! An executor, with what is noted of its memory.
 ghost use Rattle.std.specs.Prelude.{◌≡◌, ◌++◌, ℕ, Bool, true, List, [], IfOk, OnOk};
-ghost use Rattle.papaya_remains.specs.Given.Schedules.Moment.{start};
-ghost use Rattle.papaya_remains.specs.Given.Effects.Effects.{effects_of, known_after, HasNumber};
-ghost use Rattle.papaya_remains.specs.Given.Effects.Known.{known, nothing_known};
+ghost use Rattle.papaya_remains.specs.Given.SchedulesMoment.{start};
+ghost use Rattle.papaya_remains.specs.Given.EffectsEffects.{effects_of, known_after, HasNumber};
+ghost use Rattle.papaya_remains.specs.Given.EffectsKnown.{known, nothing_known};
 ghost use Rattle.papaya_logged.specs.Choosing.{ChoiceIsShown, logged_chosen};
 ghost use Rattle.papaya_logged.specs.Shown.{IsShown};
-ghost use Rattle.papaya_reclaiming.specs.Given.Executor.IsThere.{KeepsGiven};
-ghost use Rattle.papaya_reclaiming.specs.Given.Scenes.Scene.{at_first};
+ghost use Rattle.papaya_reclaiming.specs.Given.ExecutorIsThere.{KeepsGiven};
+ghost use Rattle.papaya_reclaiming.specs.Given.ScenesScene.{at_first};
 
 use papaya_reclaiming::papaya_executor::executor::Executor;
 use papaya_reclaiming::papaya_teller::changed::Changed;

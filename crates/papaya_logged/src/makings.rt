@@ -1,20 +1,20 @@
 //! Makings of maps begin, take steps, and run to their ends.
 ghost use Rattle.std.specs.Prelude.{◌≡◌, ◌<◌, ◌+◌, ◌*◌, ◌++◌, ℕ, Bool, true, List, length, Some, IfOk, IfErr};
-ghost use Rattle.papaya_remains.specs.Given.Effects.Effects.{effects_of, known_after};
-ghost use Rattle.papaya_remains.specs.Given.Effects.Known.{known};
-ghost use Rattle.papaya_remains.specs.Given.Effects.declared.acting.Acting.TheVariants.{Making};
-ghost use Rattle.papaya_reclaiming.specs.Given.Finishes.Makings.{Beginning};
-ghost use Rattle.papaya_remains.specs.Given.Schedules.Moment.{Moment};
-ghost use Rattle.papaya_reclaiming.specs.Given.Scenes.declared.callers.TheConstants.{SLOTS};
+ghost use Rattle.papaya_remains.specs.Given.EffectsEffects.{effects_of, known_after};
+ghost use Rattle.papaya_remains.specs.Given.EffectsKnown.{known};
+ghost use Rattle.papaya_remains.specs.Given.EffectsDeclared.acting.Acting.TheVariants.{Making};
+ghost use Rattle.papaya_reclaiming.specs.Given.FinishesMakings.{Beginning};
+ghost use Rattle.papaya_remains.specs.Given.SchedulesMoment.{Moment};
+ghost use Rattle.papaya_reclaiming.specs.Given.ScenesDeclared.callers.TheConstants.{SLOTS};
 ghost use Rattle.papaya_logged.specs.Goes.{MakingGone};
 ghost use Rattle.papaya_logged.specs.Makings.{MakingIsBegun, MakingSteps, MakingRan, MapIsThere, given_back, is_over, numbers_then};
 ghost use Rattle.papaya_logged.specs.Roots.{MakingFinds};
 ghost use Rattle.papaya_logged.specs.Shown.{IsShown};
-ghost use Rattle.papaya_reclaiming.specs.Given.Executor.Beginning.{IsRefused};
-ghost use Rattle.papaya_reclaiming.specs.Given.Executor.IsThere.{IsThere, KeepsGiven, StaysGiven};
-ghost use Rattle.papaya_reclaiming.specs.Given.Executor.Making.{MakesThere};
-ghost use Rattle.papaya_reclaiming.specs.Given.Executor.MakingBegins.{MakingBegins};
-ghost use Rattle.papaya_reclaiming.specs.Given.Scenes.Scene.{IsMaking, Scene};
+ghost use Rattle.papaya_reclaiming.specs.Given.ExecutorBeginning.{IsRefused};
+ghost use Rattle.papaya_reclaiming.specs.Given.ExecutorIsThere.{IsThere, KeepsGiven, StaysGiven};
+ghost use Rattle.papaya_reclaiming.specs.Given.ExecutorMaking.{MakesThere};
+ghost use Rattle.papaya_reclaiming.specs.Given.ExecutorMakingBegins.{MakingBegins};
+ghost use Rattle.papaya_reclaiming.specs.Given.ScenesScene.{IsMaking, Scene};
 
 use crate::logged::Logged;
 use papaya_reclaiming::papaya_scenes::callers::SLOTS;

@@ -1,21 +1,21 @@
 //! Rows on slots begin, and take steps.
 ghost use Rattle.std.specs.Prelude.{◌≡◌, ◌<◌, ◌+◌, ◌*◌, ◌++◌, ℕ, Bool, true, List, length, Some, IfOk, IfErr};
-ghost use Rattle.papaya_remains.specs.Given.Schedules.Moment.{Moment};
-ghost use Rattle.papaya_remains.specs.Given.Effects.Effects.{effects_of, known_after};
-ghost use Rattle.papaya_remains.specs.Given.Effects.Known.{known};
-ghost use Rattle.papaya_remains.specs.Given.Effects.declared.acting.Acting.TheVariants.{Row};
-ghost use Rattle.papaya_reclaiming.specs.Given.Scenes.declared.row.SlotRow.{SlotRow};
-ghost use Rattle.papaya_reclaiming.specs.Given.Scenes.declared.callers.TheConstants.{SLOTS};
-ghost use Rattle.papaya_reclaiming.specs.Given.Executor.declared.worker.Work.TheVariants.{OnSlot};
+ghost use Rattle.papaya_remains.specs.Given.SchedulesMoment.{Moment};
+ghost use Rattle.papaya_remains.specs.Given.EffectsEffects.{effects_of, known_after};
+ghost use Rattle.papaya_remains.specs.Given.EffectsKnown.{known};
+ghost use Rattle.papaya_remains.specs.Given.EffectsDeclared.acting.Acting.TheVariants.{Row};
+ghost use Rattle.papaya_reclaiming.specs.Given.ScenesDeclared.row.SlotRow.{SlotRow};
+ghost use Rattle.papaya_reclaiming.specs.Given.ScenesDeclared.callers.TheConstants.{SLOTS};
+ghost use Rattle.papaya_reclaiming.specs.Given.ExecutorDeclared.worker.Work.TheVariants.{OnSlot};
 ghost use Rattle.papaya_logged.specs.Back.{BringsBack};
 ghost use Rattle.papaya_logged.specs.Ended.{has_ended, uses_ended};
 ghost use Rattle.papaya_logged.specs.Goes.{RowGone};
 ghost use Rattle.papaya_logged.specs.OnSlots.{EndsTelling, OnSlotBegins, OnSlotSteps, OnSlotRan, OnSlotComes, OnSlotLast, has_come};
 ghost use Rattle.papaya_logged.specs.Shown.{IsShown};
-ghost use Rattle.papaya_reclaiming.specs.Given.Executor.Beginning.{IsRefused};
-ghost use Rattle.papaya_reclaiming.specs.Given.Executor.IsThere.{IsThere, KeepsGiven, work_of};
-ghost use Rattle.papaya_reclaiming.specs.Given.Executor.OnSlots.{RowBeginsThere, RowStepsThere};
-ghost use Rattle.papaya_reclaiming.specs.Given.Scenes.Scene.{Scene};
+ghost use Rattle.papaya_reclaiming.specs.Given.ExecutorBeginning.{IsRefused};
+ghost use Rattle.papaya_reclaiming.specs.Given.ExecutorIsThere.{IsThere, KeepsGiven, work_of};
+ghost use Rattle.papaya_reclaiming.specs.Given.ExecutorOnSlots.{RowBeginsThere, RowStepsThere};
+ghost use Rattle.papaya_reclaiming.specs.Given.ScenesScene.{Scene};
 
 use crate::back::keep_row;
 use crate::logged::Logged;

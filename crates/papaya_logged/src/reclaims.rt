@@ -1,17 +1,17 @@
 //! All is reclaimed, step by step, while nobody has anything under way.
 ghost use Rattle.std.specs.Prelude.{◌≡◌, ◌++◌, ℕ, Bool, List, IfOk, OnOk, if◌then◌else◌};
 ghost use Rattle.seize.specs.ReclaimAll.{reclaiming_all, clearing};
-ghost use Rattle.papaya_remains.specs.Given.Effects.Effects.{effects_of, known_after};
-ghost use Rattle.papaya_remains.specs.Given.Effects.Known.{known};
-ghost use Rattle.papaya_remains.specs.Given.Effects.declared.acting.Acting.TheVariants.{Row};
-ghost use Rattle.papaya_remains.specs.Given.Schedules.Moment.{Moment};
+ghost use Rattle.papaya_remains.specs.Given.EffectsEffects.{effects_of, known_after};
+ghost use Rattle.papaya_remains.specs.Given.EffectsKnown.{known};
+ghost use Rattle.papaya_remains.specs.Given.EffectsDeclared.acting.Acting.TheVariants.{Row};
+ghost use Rattle.papaya_remains.specs.Given.SchedulesMoment.{Moment};
 ghost use Rattle.papaya_reclaiming.specs.Reclaiming.{IsReclaimingThere, MayReclaim, NobodyHas, ReclaimsThere};
 ghost use Rattle.papaya_logged.specs.Back.{AllBringsBack};
 ghost use Rattle.papaya_logged.specs.Goes.{ReclaimingGone};
 ghost use Rattle.papaya_logged.specs.Reclaims.{ReclaimingIsShown, ReclaimingRan, ReclaimingSteps};
 ghost use Rattle.papaya_logged.specs.Shown.{IsShown};
-ghost use Rattle.papaya_reclaiming.specs.Given.Executor.IsThere.{KeepsGiven};
-ghost use Rattle.papaya_reclaiming.specs.Given.Scenes.Scene.{Scene};
+ghost use Rattle.papaya_reclaiming.specs.Given.ExecutorIsThere.{KeepsGiven};
+ghost use Rattle.papaya_reclaiming.specs.Given.ScenesScene.{Scene};
 
 use crate::back::keep_settled;
 use crate::ends::is_done;

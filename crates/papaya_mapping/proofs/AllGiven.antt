@@ -9,48 +9,48 @@ use Rattle.seize_words.specs.Mem.{word_at}
 use Rattle.seize_words.specs.declared.at.At.TheVariants.{Slot}
 use Rattle.seize_words.specs.declared.fault.Fault.TheVariants.{Busy}
 use Rattle.papaya_runs.specs.Present.{Present, all_forgotten, nobody}
-use Rattle.papaya_scheduler.specs.Given.Schedules.declared.effect.Effect.{Effect}
-use Rattle.papaya_scheduler.specs.Given.Schedules.declared.event.Event.TheVariants.{ReclaimAll, Close}
-use Rattle.papaya_scheduler.specs.Given.Schedules.declared.outcome.Outcome.TheVariants.{Done, Refused}
-use Rattle.papaya_scheduler.specs.Given.Schedules.After.{is_alone_on, moment}
-use Rattle.papaya_scheduler.specs.Given.Schedules.Effects.{with_effects}
-use Rattle.papaya_scheduler.specs.Given.Schedules.Entry.{Entry}
-use Rattle.papaya_scheduler.specs.Given.Schedules.InTurn.{IsDone}
-use Rattle.papaya_scheduler.specs.Given.Schedules.InUse.{is_left}
-use Rattle.papaya_scheduler.specs.Given.Schedules.Lists.{is_empty}
-use Rattle.papaya_scheduler.specs.Given.Schedules.Moment.{UnderWay as CallThere, Moment}
-use Rattle.papaya_scheduler.specs.Given.Schedules.Terms.{Terms}
-use Rattle.papaya_scheduler.specs.Given.Callers.Together.{UnderWay}
-use Rattle.papaya_scheduler.specs.Given.Effects.Known.{known}
-use Rattle.papaya_scheduler.specs.Given.Tables.Nodes.{deferred_word}
-use Rattle.papaya_scheduler.specs.Given.Scenes.declared.row.SlotUse.TheVariants as used
-use Rattle.papaya_scheduler.specs.Given.Finishes.Endings.{Finishing}
-use Rattle.papaya_scheduler.specs.Given.Finishes.Makings.{Beginning}
-use Rattle.papaya_scheduler.specs.Given.Finishes.Maps.{Standing}
-use Rattle.papaya_scheduler.proofs.Given.Others.Quiet.{calls_none}
-use Rattle.papaya_scheduler.proofs.Given.SeizeQuiet.Slots.Stages.{never_taken}
-use Rattle.papaya_scheduler.specs.Given.Reclaiming.Reclaiming.{MayReclaim, NobodyHas}
-use Rattle.papaya_scheduler.specs.Given.Reclaims.Reclaims.{AllIsReclaimed}
-use Rattle.papaya_scheduler.specs.Given.Remains.Remains.{ShowsRemains}
-use Rattle.papaya_scheduler.proofs.Given.Remains.Maps.{reclaimed_remain}
-use Rattle.papaya_scheduler.proofs.Given.Remains.Stays.{roots_stay}
-use Rattle.papaya_scheduler.specs.Given.Logged.Reclaims.{AllIsShown, ReclaimRetired, ReclaimingCame, ReclaimingRan}
-use Rattle.papaya_scheduler.specs.Given.Logged.declared.logged.Logged.{Logged}
-use Rattle.papaya_scheduler.proofs.Given.Rows.Elsewhere.{elsewhere, kept_elsewhere, shown_elsewhere, numbered_elsewhere}
-use Rattle.papaya_scheduler.proofs.Given.Rows.Facts.{no_ending_of, no_making_of, no_work_at, row_rests, used_once}
-use Rattle.papaya_scheduler.proofs.Given.Rows.Lists.{all_so}
-use Rattle.papaya_scheduler.proofs.Given.Rows.Names.{nobody_named}
+use Rattle.papaya_scheduler.specs.Given.SchedulesDeclared.effect.Effect.{Effect}
+use Rattle.papaya_scheduler.specs.Given.SchedulesDeclared.event.Event.TheVariants.{ReclaimAll, Close}
+use Rattle.papaya_scheduler.specs.Given.SchedulesDeclared.outcome.Outcome.TheVariants.{Done, Refused}
+use Rattle.papaya_scheduler.specs.Given.SchedulesAfter.{is_alone_on, moment}
+use Rattle.papaya_scheduler.specs.Given.SchedulesEffects.{with_effects}
+use Rattle.papaya_scheduler.specs.Given.SchedulesEntry.{Entry}
+use Rattle.papaya_scheduler.specs.Given.SchedulesInTurn.{IsDone}
+use Rattle.papaya_scheduler.specs.Given.SchedulesInUse.{is_left}
+use Rattle.papaya_scheduler.specs.Given.SchedulesLists.{is_empty}
+use Rattle.papaya_scheduler.specs.Given.SchedulesMoment.{UnderWay as CallThere, Moment}
+use Rattle.papaya_scheduler.specs.Given.SchedulesTerms.{Terms}
+use Rattle.papaya_scheduler.specs.Given.CallersTogether.{UnderWay}
+use Rattle.papaya_scheduler.specs.Given.EffectsKnown.{known}
+use Rattle.papaya_scheduler.specs.Given.TablesNodes.{deferred_word}
+use Rattle.papaya_scheduler.specs.Given.ScenesDeclared.row.SlotUse.TheVariants as used
+use Rattle.papaya_scheduler.specs.Given.FinishesEndings.{Finishing}
+use Rattle.papaya_scheduler.specs.Given.FinishesMakings.{Beginning}
+use Rattle.papaya_scheduler.specs.Given.FinishesMaps.{Standing}
+use Rattle.papaya_scheduler.proofs.Given.OthersQuiet.{calls_none}
+use Rattle.papaya_scheduler.proofs.Given.SeizeQuietSlots.Stages.{never_taken}
+use Rattle.papaya_scheduler.specs.Given.ReclaimingReclaiming.{MayReclaim, NobodyHas}
+use Rattle.papaya_scheduler.specs.Given.ReclaimsReclaims.{AllIsReclaimed}
+use Rattle.papaya_scheduler.specs.Given.RemainsRemains.{ShowsRemains}
+use Rattle.papaya_scheduler.proofs.Given.RemainsMaps.{reclaimed_remain}
+use Rattle.papaya_scheduler.proofs.Given.RemainsStays.{roots_stay}
+use Rattle.papaya_scheduler.specs.Given.LoggedReclaims.{AllIsShown, ReclaimRetired, ReclaimingCame, ReclaimingRan}
+use Rattle.papaya_scheduler.specs.Given.LoggedDeclared.logged.Logged.{Logged}
+use Rattle.papaya_scheduler.proofs.Given.RowsElsewhere.{elsewhere, kept_elsewhere, shown_elsewhere, numbered_elsewhere}
+use Rattle.papaya_scheduler.proofs.Given.RowsFacts.{no_ending_of, no_making_of, no_work_at, row_rests, used_once}
+use Rattle.papaya_scheduler.proofs.Given.RowsLists.{all_so}
+use Rattle.papaya_scheduler.proofs.Given.RowsNames.{nobody_named}
 use Rattle.papaya_scheduler.specs.Played.{IsDue, IsUnderWay, Plays, StandsFor}
 use Rattle.papaya_scheduler.specs.Reclaiming.{MayGiveAll, are_gone}
-use Rattle.papaya_scheduler.specs.Given.Named.Seen.{named, named_of, seen, seen_of}
-use Rattle.papaya_scheduler.specs.Given.Named.declared.caller.Caller.{Caller}
-use Rattle.papaya_scheduler.specs.Given.Named.declared.named_map.NamedMap.{NamedMap}
+use Rattle.papaya_scheduler.specs.Given.NamedSeen.{named, named_of, seen, seen_of}
+use Rattle.papaya_scheduler.specs.Given.NamedDeclared.caller.Caller.{Caller}
+use Rattle.papaya_scheduler.specs.Given.NamedDeclared.named_map.NamedMap.{NamedMap}
 use Rattle.papaya_scheduler.specs.declared.scheduler.Scheduler.{Scheduler}
 use Rattle.papaya_scheduler.proofs.Quiet.{stands_on}
 use Rattle.papaya_scheduler.proofs.RanOn.{both_true, maps_named, some_setting}
 use Rattle.papaya_scheduler.proofs.Rights.{entry, in_turn, out_of_turn, plays, quiet}
-use Rattle.papaya_scheduler.specs.Given.Executor.IsThere.{use_at}
-use Rattle.papaya_scheduler.specs.Given.Scenes.Scene.{Scene}
+use Rattle.papaya_scheduler.specs.Given.ExecutorIsThere.{use_at}
+use Rattle.papaya_scheduler.specs.Given.ScenesScene.{Scene}
 
 empty_is : {X : Type 0} (xs : List X) → is_empty xs ≡ (length xs == 0)
 empty_is [] = refl

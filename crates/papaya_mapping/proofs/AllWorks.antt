@@ -2,11 +2,11 @@
 use Rattle.std.specs.Prelude.{◌≡◌, nat_lt, true, List, []}
 use Rattle.std.proofs.Common.{refl, subst, sym, inl, inr}
 use Rattle.seize_words.specs.declared.fault.Fault.TheVariants.{Busy}
-use Rattle.papaya_scheduler.specs.Given.Schedules.declared.effect.Effect.{Effect}
-use Rattle.papaya_scheduler.specs.Given.Schedules.declared.outcome.Outcome.TheVariants.{Done, Refused}
-use Rattle.papaya_scheduler.specs.Given.Effects.Known.{known}
-use Rattle.papaya_scheduler.specs.Given.Logged.Goes.{ReclaimingGone}
-use Rattle.papaya_scheduler.specs.Given.Logged.declared.logged.Logged.{Logged}
+use Rattle.papaya_scheduler.specs.Given.SchedulesDeclared.effect.Effect.{Effect}
+use Rattle.papaya_scheduler.specs.Given.SchedulesDeclared.outcome.Outcome.TheVariants.{Done, Refused}
+use Rattle.papaya_scheduler.specs.Given.EffectsKnown.{known}
+use Rattle.papaya_scheduler.specs.Given.LoggedGoes.{ReclaimingGone}
+use Rattle.papaya_scheduler.specs.Given.LoggedDeclared.logged.Logged.{Logged}
 use Rattle.papaya_scheduler.specs.AllWorks.{WorksOnAll}
 use Rattle.papaya_scheduler.specs.Reclaiming.{are_gone}
 use Rattle.papaya_scheduler.specs.declared.played.Played.{Played}

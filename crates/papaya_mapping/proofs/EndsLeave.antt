@@ -1,17 +1,17 @@
 -- What a map leaves over as it ends: the pairs that waited behind the tables that it took.
 use Rattle.std.specs.Prelude.{◌≡◌, ◌-◌, ℕ, zero, suc, Bool, List, [], ◌∷◌, ◌++◌, flat_map, map}
 use Rattle.std.proofs.Common.{refl, ap, sym, ◌∙◌}
-use Rattle.papaya_scheduler.specs.Given.Rule.Chart.{Chart}
-use Rattle.papaya_scheduler.specs.Given.Schedules.declared.effect.Effect.{Effect}
-use Rattle.papaya_scheduler.specs.Given.Schedules.declared.effect.Effect.TheVariants.{Ended}
-use Rattle.papaya_scheduler.specs.Given.Schedules.declared.effect.Table.{Table}
-use Rattle.papaya_scheduler.specs.Given.Schedules.After.{tables_taken}
-use Rattle.papaya_scheduler.specs.Given.Schedules.Moment.{Deferral}
-use Rattle.papaya_scheduler.specs.Given.Schedules.Views.{behind}
-use Rattle.papaya_scheduler.specs.Given.Finishes.Orders.{pairs_of}
-use Rattle.papaya_scheduler.specs.Given.Follows.Maps.{table_of}
-use Rattle.papaya_scheduler.specs.Given.Moments.WholeEnds.{all_ended, tables_ended}
-use Rattle.papaya_scheduler.specs.Given.Logged.Waits.{waited_behind}
+use Rattle.papaya_scheduler.specs.Given.RuleChart.{Chart}
+use Rattle.papaya_scheduler.specs.Given.SchedulesDeclared.effect.Effect.{Effect}
+use Rattle.papaya_scheduler.specs.Given.SchedulesDeclared.effect.Effect.TheVariants.{Ended}
+use Rattle.papaya_scheduler.specs.Given.SchedulesDeclared.effect.Table.{Table}
+use Rattle.papaya_scheduler.specs.Given.SchedulesAfter.{tables_taken}
+use Rattle.papaya_scheduler.specs.Given.SchedulesMoment.{Deferral}
+use Rattle.papaya_scheduler.specs.Given.SchedulesViews.{behind}
+use Rattle.papaya_scheduler.specs.Given.FinishesOrders.{pairs_of}
+use Rattle.papaya_scheduler.specs.Given.FollowsMaps.{table_of}
+use Rattle.papaya_scheduler.specs.Given.MomentsWholeEnds.{all_ended, tables_ended}
+use Rattle.papaya_scheduler.specs.Given.LoggedWaits.{waited_behind}
 
 -- what waits behind the tables that are taken
 abbrev pub pairs_behind : List Deferral → List Effect → List ℕ

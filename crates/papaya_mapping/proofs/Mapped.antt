@@ -4,21 +4,21 @@ use Rattle.std.specs.List.{AllByRecursion}
 use Rattle.std.proofs.Common.{ap, subst, sym, ◌∙◌}
 use Rattle.seize.specs.World.{Row, Use}
 use Rattle.papaya_runs.specs.Present.{Present}
-use Rattle.papaya_scheduler.specs.Given.Schedules.Moment.{Remains, Sheltered, UnderWay as CallThere, Moment}
-use Rattle.papaya_scheduler.specs.Given.Schedules.Terms.{Terms}
-use Rattle.papaya_scheduler.specs.Given.Callers.Together.{UnderWay}
-use Rattle.papaya_scheduler.specs.Given.Effects.Known.{known}
-use Rattle.papaya_scheduler.specs.Given.Finishes.Maps.{Standing}
-use Rattle.papaya_scheduler.specs.Given.Logged.Shown.{IsShown}
-use Rattle.papaya_scheduler.specs.Given.Logged.declared.logged.Logged.{Logged}
-use Rattle.papaya_scheduler.proofs.Given.Rows.Elsewhere.{elsewhere, shown_elsewhere, kept_elsewhere, counted_elsewhere}
-use Rattle.papaya_scheduler.proofs.Given.Rows.Facts.{no_ending_of, no_making_of, no_work_at, row_rests, used_still}
-use Rattle.papaya_scheduler.proofs.Given.Rows.Lists.{all_so}
+use Rattle.papaya_scheduler.specs.Given.SchedulesMoment.{Remains, Sheltered, UnderWay as CallThere, Moment}
+use Rattle.papaya_scheduler.specs.Given.SchedulesTerms.{Terms}
+use Rattle.papaya_scheduler.specs.Given.CallersTogether.{UnderWay}
+use Rattle.papaya_scheduler.specs.Given.EffectsKnown.{known}
+use Rattle.papaya_scheduler.specs.Given.FinishesMaps.{Standing}
+use Rattle.papaya_scheduler.specs.Given.LoggedShown.{IsShown}
+use Rattle.papaya_scheduler.specs.Given.LoggedDeclared.logged.Logged.{Logged}
+use Rattle.papaya_scheduler.proofs.Given.RowsElsewhere.{elsewhere, shown_elsewhere, kept_elsewhere, counted_elsewhere}
+use Rattle.papaya_scheduler.proofs.Given.RowsFacts.{no_ending_of, no_making_of, no_work_at, row_rests, used_still}
+use Rattle.papaya_scheduler.proofs.Given.RowsLists.{all_so}
 use Rattle.papaya_scheduler.specs.Played.{IsUnderWay, StandsFor}
-use Rattle.papaya_scheduler.specs.Given.Named.Seen.{named, named_of, seen}
-use Rattle.papaya_scheduler.specs.Given.Named.declared.named_map.NamedMap.{NamedMap}
+use Rattle.papaya_scheduler.specs.Given.NamedSeen.{named, named_of, seen}
+use Rattle.papaya_scheduler.specs.Given.NamedDeclared.named_map.NamedMap.{NamedMap}
 use Rattle.papaya_scheduler.specs.declared.scheduler.Scheduler.{Scheduler}
-use Rattle.papaya_scheduler.specs.Given.Scenes.Scene.{Scene}
+use Rattle.papaya_scheduler.specs.Given.ScenesScene.{Scene}
 
 module _ {K V S : Type 0} (same : K → K → Bool) (hash : K → ℕ) (terms : Terms) (m : Moment K V) (p : Scheduler K V S) (stands : StandsFor same hash terms m p) (new : Logged K V S) (w : Moment K V)
     (s2 : Scene K V) (shown : IsShown same hash stands.name w new s2) (calls : s2.calls ≡ stands.scene.calls) (rows : s2.world.row ≡ stands.scene.world.row)

@@ -5,56 +5,56 @@ use Rattle.std.proofs.Common.{refl, ap, sym, subst, ◌∙◌, inl, inr, eqb-tru
 use Rattle.std.proofs.lemmas.Bool.{cases_eq}
 use Rattle.seize_words.specs.declared.fault.Fault.TheVariants.{Busy}
 use Rattle.papaya_runs.specs.Same.{is_same}
-use Rattle.papaya_scheduler.specs.Given.Tables.Chunks.{is_incremental}
-use Rattle.papaya_scheduler.specs.Given.Rule.Chart.{Chart}
+use Rattle.papaya_scheduler.specs.Given.TablesChunks.{is_incremental}
+use Rattle.papaya_scheduler.specs.Given.RuleChart.{Chart}
 use Rattle.papaya_runs.specs.declared.record.Pair.{Pair}
-use Rattle.papaya_scheduler.specs.Given.Schedules.declared.effect.Effect.{Effect}
-use Rattle.papaya_scheduler.specs.Given.Schedules.declared.effect.Effect.TheVariants.{Ended}
-use Rattle.papaya_scheduler.specs.Given.Schedules.declared.event.Event.TheVariants.{EndMap}
-use Rattle.papaya_scheduler.specs.Given.Schedules.declared.outcome.Outcome.TheVariants.{Done, Refused}
-use Rattle.papaya_scheduler.specs.Given.Schedules.After.{if_any, is_alone_on, moment, remains_on, root_or}
-use Rattle.papaya_scheduler.specs.Given.Schedules.Beginning.{used_roots}
-use Rattle.papaya_scheduler.specs.Given.Schedules.Effects.{with_effect, with_effects}
-use Rattle.papaya_scheduler.specs.Given.Schedules.Entry.{Entry, acted_on}
-use Rattle.papaya_scheduler.specs.Given.Schedules.InTurn.{IsDone, is_called}
-use Rattle.papaya_scheduler.specs.Given.Schedules.Lists.{is_among}
-use Rattle.papaya_scheduler.specs.Given.Schedules.Moment.{MapThere, Remains, Moment}
-use Rattle.papaya_scheduler.specs.Given.Schedules.Terms.{Terms}
-use Rattle.papaya_scheduler.specs.Given.Schedules.Views.{map_at, map_of, number_of}
-use Rattle.papaya_scheduler.proofs.Given.Callers.Together.At.{at_other, at_same}
-use Rattle.papaya_scheduler.specs.Given.Callers.Together.{UnderWay}
-use Rattle.papaya_scheduler.specs.Given.Effects.Known.{known}
-use Rattle.papaya_scheduler.specs.Given.Effects.declared.role.Role.TheVariants as role
-use Rattle.papaya_scheduler.specs.Given.Executor.declared.worker.Work.{Work}
-use Rattle.papaya_scheduler.specs.Given.Raw.declared.machines.end_map.EndMap.{EndMap as EndMachine}
-use Rattle.papaya_scheduler.specs.Given.Finishes.Makings.{Beginning}
-use Rattle.papaya_scheduler.specs.Given.Finishes.Endings.{Finishing, finishing_of}
-use Rattle.papaya_scheduler.specs.Given.Finishes.Machines.{machine_of}
-use Rattle.papaya_scheduler.specs.Given.Finishes.Maps.{Standing}
-use Rattle.papaya_scheduler.proofs.Given.Others.Quiet.{calls_none}
-use Rattle.papaya_scheduler.specs.Given.Others.Endings.{without_map}
-use Rattle.papaya_scheduler.proofs.Given.Moments.After.{effects_after}
-use Rattle.papaya_scheduler.proofs.Given.Moments.Numbers.{found_of}
-use Rattle.papaya_scheduler.specs.Given.Moments.Numbers.{AreFound}
-use Rattle.papaya_scheduler.specs.Given.Moments.WholeEnds.{all_ended, tables_ended}
-use Rattle.papaya_scheduler.specs.Given.Finishes.Orders.{pairs_of}
-use Rattle.papaya_scheduler.specs.Given.Logged.Back.{ComesBack, EndBringsBack}
-use Rattle.papaya_scheduler.specs.Given.Reclaims.Left.{IsSomebodys}
-use Rattle.papaya_scheduler.specs.Given.Reclaims.Reclaims.{RootLeads}
-use Rattle.papaya_scheduler.specs.Given.Remains.Remains.{left_roots, map_roots}
-use Rattle.papaya_scheduler.proofs.Given.Remains.Leads.{waits_lead}
-use Rattle.papaya_scheduler.proofs.Given.Remains.Lists.{among_append, found_among}
-use Rattle.papaya_scheduler.proofs.Given.Remains.Stays.{remains_stay, roots_stay, used_then}
-use Rattle.papaya_scheduler.specs.Given.Logged.Ends.{EndCame, EndIsBegun, EndIsOver, EndRan, NotedStill, ended_as}
-use Rattle.papaya_scheduler.specs.Given.Logged.Shown.{IsShown}
-use Rattle.papaya_scheduler.specs.Given.Logged.Waits.{TellsLeft, TellsWaiting}
-use Rattle.papaya_scheduler.specs.Given.Logged.declared.logged.Logged.{Logged}
-use Rattle.papaya_scheduler.proofs.Given.Rows.Elsewhere.{elsewhere}
-use Rattle.papaya_scheduler.proofs.Given.Rows.Lists.{all_but, all_so, any_alike, found_passes, one_of}
+use Rattle.papaya_scheduler.specs.Given.SchedulesDeclared.effect.Effect.{Effect}
+use Rattle.papaya_scheduler.specs.Given.SchedulesDeclared.effect.Effect.TheVariants.{Ended}
+use Rattle.papaya_scheduler.specs.Given.SchedulesDeclared.event.Event.TheVariants.{EndMap}
+use Rattle.papaya_scheduler.specs.Given.SchedulesDeclared.outcome.Outcome.TheVariants.{Done, Refused}
+use Rattle.papaya_scheduler.specs.Given.SchedulesAfter.{if_any, is_alone_on, moment, remains_on, root_or}
+use Rattle.papaya_scheduler.specs.Given.SchedulesBeginning.{used_roots}
+use Rattle.papaya_scheduler.specs.Given.SchedulesEffects.{with_effect, with_effects}
+use Rattle.papaya_scheduler.specs.Given.SchedulesEntry.{Entry, acted_on}
+use Rattle.papaya_scheduler.specs.Given.SchedulesInTurn.{IsDone, is_called}
+use Rattle.papaya_scheduler.specs.Given.SchedulesLists.{is_among}
+use Rattle.papaya_scheduler.specs.Given.SchedulesMoment.{MapThere, Remains, Moment}
+use Rattle.papaya_scheduler.specs.Given.SchedulesTerms.{Terms}
+use Rattle.papaya_scheduler.specs.Given.SchedulesViews.{map_at, map_of, number_of}
+use Rattle.papaya_scheduler.proofs.Given.CallersTogether.At.{at_other, at_same}
+use Rattle.papaya_scheduler.specs.Given.CallersTogether.{UnderWay}
+use Rattle.papaya_scheduler.specs.Given.EffectsKnown.{known}
+use Rattle.papaya_scheduler.specs.Given.EffectsDeclared.role.Role.TheVariants as role
+use Rattle.papaya_scheduler.specs.Given.ExecutorDeclared.worker.Work.{Work}
+use Rattle.papaya_scheduler.specs.Given.RawDeclared.machines.end_map.EndMap.{EndMap as EndMachine}
+use Rattle.papaya_scheduler.specs.Given.FinishesMakings.{Beginning}
+use Rattle.papaya_scheduler.specs.Given.FinishesEndings.{Finishing, finishing_of}
+use Rattle.papaya_scheduler.specs.Given.FinishesMachines.{machine_of}
+use Rattle.papaya_scheduler.specs.Given.FinishesMaps.{Standing}
+use Rattle.papaya_scheduler.proofs.Given.OthersQuiet.{calls_none}
+use Rattle.papaya_scheduler.specs.Given.OthersEndings.{without_map}
+use Rattle.papaya_scheduler.proofs.Given.MomentsAfter.{effects_after}
+use Rattle.papaya_scheduler.proofs.Given.MomentsNumbers.{found_of}
+use Rattle.papaya_scheduler.specs.Given.MomentsNumbers.{AreFound}
+use Rattle.papaya_scheduler.specs.Given.MomentsWholeEnds.{all_ended, tables_ended}
+use Rattle.papaya_scheduler.specs.Given.FinishesOrders.{pairs_of}
+use Rattle.papaya_scheduler.specs.Given.LoggedBack.{ComesBack, EndBringsBack}
+use Rattle.papaya_scheduler.specs.Given.ReclaimsLeft.{IsSomebodys}
+use Rattle.papaya_scheduler.specs.Given.ReclaimsReclaims.{RootLeads}
+use Rattle.papaya_scheduler.specs.Given.RemainsRemains.{left_roots, map_roots}
+use Rattle.papaya_scheduler.proofs.Given.RemainsLeads.{waits_lead}
+use Rattle.papaya_scheduler.proofs.Given.RemainsLists.{among_append, found_among}
+use Rattle.papaya_scheduler.proofs.Given.RemainsStays.{remains_stay, roots_stay, used_then}
+use Rattle.papaya_scheduler.specs.Given.LoggedEnds.{EndCame, EndIsBegun, EndIsOver, EndRan, NotedStill, ended_as}
+use Rattle.papaya_scheduler.specs.Given.LoggedShown.{IsShown}
+use Rattle.papaya_scheduler.specs.Given.LoggedWaits.{TellsLeft, TellsWaiting}
+use Rattle.papaya_scheduler.specs.Given.LoggedDeclared.logged.Logged.{Logged}
+use Rattle.papaya_scheduler.proofs.Given.RowsElsewhere.{elsewhere}
+use Rattle.papaya_scheduler.proofs.Given.RowsLists.{all_but, all_so, any_alike, found_passes, one_of}
 use Rattle.papaya_scheduler.specs.Mapping.{AreApart}
 use Rattle.papaya_scheduler.specs.Played.{IsDue, IsUnderWay, Plays, StandsFor}
-use Rattle.papaya_scheduler.specs.Given.Named.Seen.{named, named_of, number_named, seen, seen_of}
-use Rattle.papaya_scheduler.specs.Given.Named.declared.named_map.NamedMap.{NamedMap}
+use Rattle.papaya_scheduler.specs.Given.NamedSeen.{named, named_of, number_named, seen, seen_of}
+use Rattle.papaya_scheduler.specs.Given.NamedDeclared.named_map.NamedMap.{NamedMap}
 use Rattle.papaya_scheduler.specs.declared.scheduler.Scheduler.{Scheduler}
 use Rattle.papaya_mapping.proofs.EndsLeave.{pairs_behind, waited_is}
 use Rattle.papaya_mapping.proofs.MapLists.{all_back, all_seen, by_recursion, found_same, kept_map, kept_of}
@@ -63,10 +63,10 @@ use Rattle.papaya_scheduler.proofs.Maps.{map_some, number_is}
 use Rattle.papaya_scheduler.proofs.Quiet.{stands_on}
 use Rattle.papaya_scheduler.proofs.RanOn.{both_true, there_stays}
 use Rattle.papaya_scheduler.proofs.Rights.{entry, in_turn, out_of_turn, plays, quiet}
-use Rattle.papaya_scheduler.specs.Given.Executor.Ending.{NoCallOn}
-use Rattle.papaya_scheduler.specs.Given.Executor.IsThere.{IsThere, ending_in}
-use Rattle.papaya_scheduler.specs.Given.Scenes.Ending.{ending_begun}
-use Rattle.papaya_scheduler.specs.Given.Scenes.Scene.{IsEnding, Scene}
+use Rattle.papaya_scheduler.specs.Given.ExecutorEnding.{NoCallOn}
+use Rattle.papaya_scheduler.specs.Given.ExecutorIsThere.{IsThere, ending_in}
+use Rattle.papaya_scheduler.specs.Given.ScenesEnding.{ending_begun}
+use Rattle.papaya_scheduler.specs.Given.ScenesScene.{IsEnding, Scene}
 
 -- what ends with a map is nothing to which maps are there
 module _ {K V : Type 0} (acted : Option ℕ) where

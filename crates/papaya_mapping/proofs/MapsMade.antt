@@ -10,46 +10,46 @@ use Rattle.seize.specs.declared.progress.Progress.{Progress}
 use Rattle.seize.specs.declared.progress.Progress.TheVariants as progress
 use Rattle.seize_words.specs.declared.fault.Fault.{Fault}
 use Rattle.seize_words.specs.declared.fault.Fault.TheVariants.{RootsUsedUp, Busy, Memory}
-use Rattle.papaya_scheduler.specs.Given.Tables.declared.resize_mode.ResizeMode.{ResizeMode}
-use Rattle.papaya_scheduler.specs.Given.Tables.declared.setting.Setting.{Setting}
-use Rattle.papaya_scheduler.specs.Given.Resize.NewMap.{opening}
+use Rattle.papaya_scheduler.specs.Given.TablesDeclared.resize_mode.ResizeMode.{ResizeMode}
+use Rattle.papaya_scheduler.specs.Given.TablesDeclared.setting.Setting.{Setting}
+use Rattle.papaya_scheduler.specs.Given.ResizeNewMap.{opening}
 use Rattle.papaya_runs.specs.Runs.{map_fault}
-use Rattle.papaya_scheduler.specs.Given.Schedules.declared.effect.Effect.{Effect}
-use Rattle.papaya_scheduler.specs.Given.Schedules.declared.event.Event.{Event}
-use Rattle.papaya_scheduler.specs.Given.Schedules.declared.event.Event.TheVariants.{MakeMap}
-use Rattle.papaya_scheduler.specs.Given.Schedules.declared.outcome.Outcome.{Outcome}
-use Rattle.papaya_scheduler.specs.Given.Schedules.declared.outcome.Outcome.TheVariants.{Done, Refused}
-use Rattle.papaya_scheduler.specs.Given.Schedules.After.{is_alone_on, moment}
-use Rattle.papaya_scheduler.specs.Given.Schedules.Beginning.{used_roots, with_map}
-use Rattle.papaya_scheduler.specs.Given.Schedules.Effects.{with_effects}
-use Rattle.papaya_scheduler.specs.Given.Schedules.Entry.{Entry, is_busy}
-use Rattle.papaya_scheduler.specs.Given.Schedules.InTurn.{InTurn, IsMade, has_grown}
-use Rattle.papaya_scheduler.specs.Given.Schedules.Lists.{is_among, least_free}
-use Rattle.papaya_scheduler.specs.Given.Schedules.Moment.{MapThere, Moment}
-use Rattle.papaya_scheduler.specs.Given.Schedules.Terms.{Terms}
-use Rattle.papaya_scheduler.specs.Given.Schedules.Views.{map_of, number_of}
-use Rattle.papaya_scheduler.specs.Given.Named.Places.{IsFirstLen}
-use Rattle.papaya_scheduler.proofs.Given.Callers.Together.At.{at_other, at_same}
-use Rattle.papaya_scheduler.specs.Given.Finishes.Endings.{Finishing}
-use Rattle.papaya_scheduler.specs.Given.Finishes.Makings.{Beginning}
-use Rattle.papaya_scheduler.specs.Given.Finishes.Maps.{Standing}
-use Rattle.papaya_scheduler.proofs.Given.Others.Quiet.{calls_none}
-use Rattle.papaya_scheduler.specs.Given.Others.Makings.{IsNew}
-use Rattle.papaya_scheduler.proofs.Given.Moments.NewMaps.{maps_come_as_new}
-use Rattle.papaya_scheduler.specs.Given.Remains.Numbered.{NumbersUpTo}
-use Rattle.papaya_scheduler.proofs.Given.Remains.Stays.{remains_stay}
-use Rattle.papaya_scheduler.specs.Given.Logged.Makings.{HasTable, JustAsks, CameBare, MakingCame, MakingIsBegun, MakingRan, MapIsThere}
-use Rattle.papaya_scheduler.specs.Given.Logged.Roots.{AreTaken, FindsRoot, IsFirstFree, MakingFinds}
-use Rattle.papaya_scheduler.specs.Given.Logged.Shown.{IsShown}
-use Rattle.papaya_scheduler.specs.Given.Logged.declared.logged.Logged.{Logged}
-use Rattle.papaya_scheduler.proofs.Given.Rows.Elsewhere.{elsewhere}
-use Rattle.papaya_scheduler.proofs.Given.Rows.Least.{least_is}
-use Rattle.papaya_scheduler.proofs.Given.Rows.Lists.{all_so}
+use Rattle.papaya_scheduler.specs.Given.SchedulesDeclared.effect.Effect.{Effect}
+use Rattle.papaya_scheduler.specs.Given.SchedulesDeclared.event.Event.{Event}
+use Rattle.papaya_scheduler.specs.Given.SchedulesDeclared.event.Event.TheVariants.{MakeMap}
+use Rattle.papaya_scheduler.specs.Given.SchedulesDeclared.outcome.Outcome.{Outcome}
+use Rattle.papaya_scheduler.specs.Given.SchedulesDeclared.outcome.Outcome.TheVariants.{Done, Refused}
+use Rattle.papaya_scheduler.specs.Given.SchedulesAfter.{is_alone_on, moment}
+use Rattle.papaya_scheduler.specs.Given.SchedulesBeginning.{used_roots, with_map}
+use Rattle.papaya_scheduler.specs.Given.SchedulesEffects.{with_effects}
+use Rattle.papaya_scheduler.specs.Given.SchedulesEntry.{Entry, is_busy}
+use Rattle.papaya_scheduler.specs.Given.SchedulesInTurn.{InTurn, IsMade, has_grown}
+use Rattle.papaya_scheduler.specs.Given.SchedulesLists.{is_among, least_free}
+use Rattle.papaya_scheduler.specs.Given.SchedulesMoment.{MapThere, Moment}
+use Rattle.papaya_scheduler.specs.Given.SchedulesTerms.{Terms}
+use Rattle.papaya_scheduler.specs.Given.SchedulesViews.{map_of, number_of}
+use Rattle.papaya_scheduler.specs.Given.NamedPlaces.{IsFirstLen}
+use Rattle.papaya_scheduler.proofs.Given.CallersTogether.At.{at_other, at_same}
+use Rattle.papaya_scheduler.specs.Given.FinishesEndings.{Finishing}
+use Rattle.papaya_scheduler.specs.Given.FinishesMakings.{Beginning}
+use Rattle.papaya_scheduler.specs.Given.FinishesMaps.{Standing}
+use Rattle.papaya_scheduler.proofs.Given.OthersQuiet.{calls_none}
+use Rattle.papaya_scheduler.specs.Given.OthersMakings.{IsNew}
+use Rattle.papaya_scheduler.proofs.Given.MomentsNewMaps.{maps_come_as_new}
+use Rattle.papaya_scheduler.specs.Given.RemainsNumbered.{NumbersUpTo}
+use Rattle.papaya_scheduler.proofs.Given.RemainsStays.{remains_stay}
+use Rattle.papaya_scheduler.specs.Given.LoggedMakings.{HasTable, JustAsks, CameBare, MakingCame, MakingIsBegun, MakingRan, MapIsThere}
+use Rattle.papaya_scheduler.specs.Given.LoggedRoots.{AreTaken, FindsRoot, IsFirstFree, MakingFinds}
+use Rattle.papaya_scheduler.specs.Given.LoggedShown.{IsShown}
+use Rattle.papaya_scheduler.specs.Given.LoggedDeclared.logged.Logged.{Logged}
+use Rattle.papaya_scheduler.proofs.Given.RowsElsewhere.{elsewhere}
+use Rattle.papaya_scheduler.proofs.Given.RowsLeast.{least_is}
+use Rattle.papaya_scheduler.proofs.Given.RowsLists.{all_so}
 use Rattle.papaya_scheduler.specs.Mapping.{CountsMaps, IsGivenFor, MayMap}
 use Rattle.papaya_scheduler.specs.Played.{Plays, StandsFor}
 use Rattle.papaya_scheduler.specs.Quiet.{IsQuiet}
-use Rattle.papaya_scheduler.specs.Given.Named.Seen.{named, named_of, number_named}
-use Rattle.papaya_scheduler.specs.Given.Named.declared.named_map.NamedMap.{NamedMap}
+use Rattle.papaya_scheduler.specs.Given.NamedSeen.{named, named_of, number_named}
+use Rattle.papaya_scheduler.specs.Given.NamedDeclared.named_map.NamedMap.{NamedMap}
 use Rattle.papaya_scheduler.specs.declared.scheduler.Scheduler.{Scheduler}
 use Rattle.papaya_scheduler.proofs.KeptOut.{faulty_stands}
 use Rattle.papaya_mapping.proofs.MapLists.{all_push}
@@ -58,9 +58,9 @@ use Rattle.papaya_scheduler.proofs.Maps.{map_some}
 use Rattle.papaya_scheduler.proofs.RanOn.{maps_named, there_stays}
 use Rattle.papaya_scheduler.proofs.Rights.{entry, in_turn, out_of_turn, plays, quiet}
 use Rattle.papaya_mapping.proofs.RootsUsed.{all_used, some_free}
-use Rattle.papaya_scheduler.specs.Given.Executor.IsThere.{IsThere}
-use Rattle.papaya_scheduler.specs.Given.Executor.MakingBegins.{next_making}
-use Rattle.papaya_scheduler.specs.Given.Scenes.Scene.{Scene}
+use Rattle.papaya_scheduler.specs.Given.ExecutorIsThere.{IsThere}
+use Rattle.papaya_scheduler.specs.Given.ExecutorMakingBegins.{next_making}
+use Rattle.papaya_scheduler.specs.Given.ScenesScene.{Scene}
 
 module _ {K V S : Type 0} (same : K → K → Bool) (hash : K → ℕ) (terms : Terms) (log : List (Entry K V)) (p : Scheduler K V S) (own : List ℕ) (mode : ResizeMode) (capacity : ℕ)
     (may : MayMap same hash terms log (MakeMap own mode capacity) p) where

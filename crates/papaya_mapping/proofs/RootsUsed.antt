@@ -3,8 +3,8 @@ use Rattle.std.specs.Prelude.{◌≡◌, ◌≢◌, ◌≤◌, ◌<◌, ◌+◌,
 use Rattle.std.proofs.Common.{refl, ap, sym, subst, ◌∙◌, arith, eqb-true}
 use Rattle.std.proofs.lemmas.Bool.{eq-eqb}
 use Rattle.papaya_runs.specs.LifeCycle.{times}
-use Rattle.papaya_scheduler.specs.Given.Schedules.Lists.{is_among}
-use Rattle.papaya_scheduler.proofs.Given.Rows.Least.{as_many, off}
+use Rattle.papaya_scheduler.specs.Given.SchedulesLists.{is_among}
+use Rattle.papaya_scheduler.proofs.Given.RowsLeast.{as_many, off}
 
 -- one number is so often in a list that the list is so much longer than without it
 off_times : (j : ℕ) (xs : List ℕ) → times j xs + length (off j xs) ≡ length xs

@@ -1,12 +1,12 @@
 //! Maps end.
 ghost use Rattle.std.specs.Prelude.{◌≡◌, ℕ, Bool, IfOk};
-ghost use Rattle.papaya_scheduler.specs.Given.Schedules.declared.event.Event.TheVariants as event;
+ghost use Rattle.papaya_scheduler.specs.Given.SchedulesDeclared.event.Event.TheVariants as event;
 ghost use Rattle.papaya_scheduler.specs.Back.{GivesBack};
 ghost use Rattle.papaya_scheduler.specs.Mapping.{PlaysEnding};
 ghost use Rattle.papaya_scheduler.specs.Played.{MayPlay};
 ghost use Rattle.papaya_scheduler.specs.Quiet.{IsQuiet};
 ghost use Rattle.papaya_scheduler.specs.Works.{WorksOnEnd};
-ghost use Rattle.papaya_scheduler.specs.Given.Executor.IsThere.{KeepsGiven};
+ghost use Rattle.papaya_scheduler.specs.Given.ExecutorIsThere.{KeepsGiven};
 
 use papaya_runs::record::Pair;
 use papaya_runs::token::Token;

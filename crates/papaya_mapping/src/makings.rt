@@ -1,13 +1,13 @@
 //! Maps are made.
 ghost use Rattle.std.specs.Prelude.{◌≡◌, ◌≤◌, ◌^◌, ℕ, Bool, List, is_none, length, IfOk};
-ghost use Rattle.papaya_scheduler.specs.Given.Schedules.Entry.{Entry};
-ghost use Rattle.papaya_scheduler.specs.Given.Schedules.Terms.{Terms};
-ghost use Rattle.papaya_scheduler.specs.Given.Schedules.declared.event.Event.TheVariants as event;
+ghost use Rattle.papaya_scheduler.specs.Given.SchedulesEntry.{Entry};
+ghost use Rattle.papaya_scheduler.specs.Given.SchedulesTerms.{Terms};
+ghost use Rattle.papaya_scheduler.specs.Given.SchedulesDeclared.event.Event.TheVariants as event;
 ghost use Rattle.papaya_scheduler.specs.Mapping.{MayMap, PlaysMaking, IsGivenFor, numbers_made};
-ghost use Rattle.papaya_scheduler.specs.Given.Named.Seen.{number_named};
+ghost use Rattle.papaya_scheduler.specs.Given.NamedSeen.{number_named};
 ghost use Rattle.papaya_scheduler.specs.Quiet.{IsQuiet};
 ghost use Rattle.papaya_scheduler.specs.Works.{WorksOnMap};
-ghost use Rattle.papaya_scheduler.specs.Given.Executor.IsThere.{StaysGiven};
+ghost use Rattle.papaya_scheduler.specs.Given.ExecutorIsThere.{StaysGiven};
 
 use papaya_runs::token::Token;
 use papaya_scheduler::papaya_named::named_map::NamedMap;

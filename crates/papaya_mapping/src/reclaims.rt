@@ -1,20 +1,20 @@
 //! Everything is reclaimed, and the collector ends.
 ghost use Rattle.std.specs.Prelude.{◌≡◌, ◌<◌, ℕ, nat_lt, Bool, List, IfOk, OnOk};
 ghost use Rattle.papaya_runs.specs.Present.{nobody};
-ghost use Rattle.papaya_scheduler.specs.Given.Schedules.Moment.{Moment};
-ghost use Rattle.papaya_scheduler.specs.Given.Schedules.declared.event.Event.TheVariants as event;
-ghost use Rattle.papaya_scheduler.specs.Given.Logged.Back.{AllBringsBack};
-ghost use Rattle.papaya_scheduler.specs.Given.Logged.Goes.{ReclaimingGone};
-ghost use Rattle.papaya_scheduler.specs.Given.Logged.Reclaims.{ReclaimingRan};
-ghost use Rattle.papaya_scheduler.specs.Given.Logged.Shown.{IsShown};
-ghost use Rattle.papaya_scheduler.specs.Given.Reclaiming.Reclaiming.{MayReclaim, NobodyHas};
-ghost use Rattle.papaya_scheduler.specs.Given.Effects.Known.{known};
+ghost use Rattle.papaya_scheduler.specs.Given.SchedulesMoment.{Moment};
+ghost use Rattle.papaya_scheduler.specs.Given.SchedulesDeclared.event.Event.TheVariants as event;
+ghost use Rattle.papaya_scheduler.specs.Given.LoggedBack.{AllBringsBack};
+ghost use Rattle.papaya_scheduler.specs.Given.LoggedGoes.{ReclaimingGone};
+ghost use Rattle.papaya_scheduler.specs.Given.LoggedReclaims.{ReclaimingRan};
+ghost use Rattle.papaya_scheduler.specs.Given.LoggedShown.{IsShown};
+ghost use Rattle.papaya_scheduler.specs.Given.ReclaimingReclaiming.{MayReclaim, NobodyHas};
+ghost use Rattle.papaya_scheduler.specs.Given.EffectsKnown.{known};
 ghost use Rattle.papaya_scheduler.specs.AllWorks.{WorksOnAll};
 ghost use Rattle.papaya_scheduler.specs.Back.{GivesAllBack};
 ghost use Rattle.papaya_scheduler.specs.Reclaiming.{MayReclaimAll, PlaysGiving, are_gone};
 ghost use Rattle.papaya_scheduler.specs.Quiet.{IsQuiet};
-ghost use Rattle.papaya_scheduler.specs.Given.Executor.IsThere.{KeepsGiven};
-ghost use Rattle.papaya_scheduler.specs.Given.Scenes.Scene.{Scene};
+ghost use Rattle.papaya_scheduler.specs.Given.ExecutorIsThere.{KeepsGiven};
+ghost use Rattle.papaya_scheduler.specs.Given.ScenesScene.{Scene};
 
 use papaya_runs::record::Pair;
 use papaya_scheduler::papaya_schedules::effect::Effect;

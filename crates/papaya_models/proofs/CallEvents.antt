@@ -3,30 +3,30 @@ use Rattle.std.specs.Prelude.{◌≢◌, flat_map, Some}
 use Rattle.std.proofs.Common.{◌≡◌, ℕ, Bool, List, [], ◌∷◌, ◌++◌, ◌⊎◌, inl, inr, refl, ap, sym, subst, append_assoc, ◌∙◌}
 use Rattle.std.proofs.lemmas.List.{append-nil}
 use Rattle.std.proofs.lemmas.List.Concat.{flat_map-append, flat_map-cons}
-use Rattle.papaya_promises.specs.Given.Seize.Sequence.{changes}
-use Rattle.papaya_promises.specs.Given.Seize.WaitingSets.{Change, Retires, Defers, Sets, After, all_changed}
-use Rattle.papaya_promises.specs.Given.Seize.World.{World, Row, Rests, Request, Register', Enter', Leave', LeaveOwned, Refresh, Unregister', Retire, Flush, Defer', Begin, Step, Steps', Happens}
-use Rattle.papaya_promises.proofs.Given.SeizeSets.Turns.Append.{changed_append}
-use Rattle.papaya_promises.specs.Given.Raw.declared.machines.progress.Progress.{Progress}
-use Rattle.papaya_promises.specs.Given.Tables.Nodes.{deferred_word}
-use Rattle.papaya_promises.specs.Given.Tables.declared.node.Node.{Node}
-use Rattle.papaya_promises.specs.Given.Callers.Together.{UnderWay, HandsOver}
-use Rattle.papaya_promises.specs.Given.Effects.Effects.{effects_of, known_after}
-use Rattle.papaya_promises.specs.Given.Effects.Known.{Known}
-use Rattle.papaya_promises.specs.Given.Effects.declared.acting.Acting.TheVariants.{Call}
-use Rattle.papaya_promises.proofs.Given.Follows.Onward.{IsLasting, KeepsRoles}
-use Rattle.papaya_promises.specs.Given.Moments.Whole.{ShowsWhole}
-use Rattle.papaya_promises.specs.Given.Schedules.After.{moment}
-use Rattle.papaya_promises.specs.Given.Schedules.Beginning.{at_work}
-use Rattle.papaya_promises.specs.Given.Schedules.Model.{came, thing_back, number_in, handing, things_in, changes_by, left_last}
-use Rattle.papaya_promises.specs.Given.Schedules.Moment.{Moment}
-use Rattle.papaya_promises.specs.Given.Schedules.declared.effect.Effect.{Effect}
-use Rattle.papaya_promises.specs.Given.Schedules.declared.effect.Effect.TheVariants as effect
-use Rattle.papaya_promises.specs.Given.Schedules.declared.effect.Thing.{Thing}
-use Rattle.papaya_promises.specs.Given.Schedules.declared.event.Event.{Event}
-use Rattle.papaya_promises.specs.Given.Schedules.declared.event.Event.TheVariants as event
-use Rattle.papaya_promises.specs.Given.Schedules.declared.outcome.Outcome.{Outcome}
-use Rattle.papaya_promises.specs.Given.Schedules.declared.effect.Thing.TheVariants.{APair, ATable}
+use Rattle.papaya_promises.specs.Given.SeizeSequence.{changes}
+use Rattle.papaya_promises.specs.Given.SeizeWaitingSets.{Change, Retires, Defers, Sets, After, all_changed}
+use Rattle.papaya_promises.specs.Given.SeizeWorld.{World, Row, Rests, Request, Register', Enter', Leave', LeaveOwned, Refresh, Unregister', Retire, Flush, Defer', Begin, Step, Steps', Happens}
+use Rattle.papaya_promises.proofs.Given.SeizeSetsTurns.Append.{changed_append}
+use Rattle.papaya_promises.specs.Given.RawDeclared.machines.progress.Progress.{Progress}
+use Rattle.papaya_promises.specs.Given.TablesNodes.{deferred_word}
+use Rattle.papaya_promises.specs.Given.TablesDeclared.node.Node.{Node}
+use Rattle.papaya_promises.specs.Given.CallersTogether.{UnderWay, HandsOver}
+use Rattle.papaya_promises.specs.Given.EffectsEffects.{effects_of, known_after}
+use Rattle.papaya_promises.specs.Given.EffectsKnown.{Known}
+use Rattle.papaya_promises.specs.Given.EffectsDeclared.acting.Acting.TheVariants.{Call}
+use Rattle.papaya_promises.proofs.Given.FollowsOnward.{IsLasting, KeepsRoles}
+use Rattle.papaya_promises.specs.Given.MomentsWhole.{ShowsWhole}
+use Rattle.papaya_promises.specs.Given.SchedulesAfter.{moment}
+use Rattle.papaya_promises.specs.Given.SchedulesBeginning.{at_work}
+use Rattle.papaya_promises.specs.Given.SchedulesModel.{came, thing_back, number_in, handing, things_in, changes_by, left_last}
+use Rattle.papaya_promises.specs.Given.SchedulesMoment.{Moment}
+use Rattle.papaya_promises.specs.Given.SchedulesDeclared.effect.Effect.{Effect}
+use Rattle.papaya_promises.specs.Given.SchedulesDeclared.effect.Effect.TheVariants as effect
+use Rattle.papaya_promises.specs.Given.SchedulesDeclared.effect.Thing.{Thing}
+use Rattle.papaya_promises.specs.Given.SchedulesDeclared.event.Event.{Event}
+use Rattle.papaya_promises.specs.Given.SchedulesDeclared.event.Event.TheVariants as event
+use Rattle.papaya_promises.specs.Given.SchedulesDeclared.outcome.Outcome.{Outcome}
+use Rattle.papaya_promises.specs.Given.SchedulesDeclared.effect.Thing.TheVariants.{APair, ATable}
 use Rattle.papaya_models.specs.Alike.{ChangesAlike}
 use Rattle.papaya_models.specs.CallEvents.{IsNoted, HasToldPart, things_then, IsInItsRow, FollowsInEvent, CallEventsBegin, CallEventsGoOn, CallEventsPause, IsOfNoSlot, slot_of_call, OthersHandOver}
 use Rattle.papaya_models.specs.Calls.{sets_on, FollowsInCall, EndsNone, EndNone}
@@ -45,9 +45,9 @@ use Rattle.papaya_models.proofs.Numbers.{still_in, same_number}
 use Rattle.papaya_models.proofs.Quiet.{handing_is_by_model}
 use Rattle.papaya_models.proofs.Told.{none_back}
 use Rattle.papaya_models.proofs.Turns.{rested}
-use Rattle.papaya_promises.specs.Given.Scenes.Held.{Held, IsAt}
-use Rattle.papaya_promises.specs.Given.Scenes.Scene.{Scene}
-use Rattle.papaya_promises.specs.Given.Scenes.Stepping.{StepLeads}
+use Rattle.papaya_promises.specs.Given.ScenesHeld.{Held, IsAt}
+use Rattle.papaya_promises.specs.Given.ScenesScene.{Scene}
+use Rattle.papaya_promises.specs.Given.ScenesStepping.{StepLeads}
 
 -- Further things change no number of what is handed over.
 

@@ -1,31 +1,31 @@
 -- Steps of calls, where they come one after another: the waiting sets of blocks are those of the model still, or will be once the row within the call has run.
 use Rattle.std.specs.Prelude.{◌≡◌, ◌≢◌, ℕ, Bool, List, [], ◌++◌, flat_map, Some, ◌⊎◌}
 use Rattle.std.proofs.Common.{refl, ap, sym, subst, ◌∙◌, inl, inr}
-use Rattle.papaya_promises.specs.Given.Seize.Sequence.{changes}
-use Rattle.papaya_promises.specs.Given.Seize.WaitingSets.{Change, Sets, After, all_changed, at_start as sets_at_start}
-use Rattle.papaya_promises.specs.Given.Seize.World.{World, Rests, Request, Begin, Step, Event, Happens, Runs}
-use Rattle.papaya_promises.proofs.Given.SeizeSets.Turns.Append.{changed_append}
-use Rattle.papaya_promises.specs.Given.Raw.declared.machines.progress.Progress.{Progress}
-use Rattle.papaya_promises.specs.Given.Rule.InWorld.{AllUsers}
-use Rattle.papaya_promises.specs.Given.Tables.Nodes.{deferred_word}
-use Rattle.papaya_promises.specs.Given.Tables.declared.node.Node.{Node}
-use Rattle.papaya_promises.specs.Given.Schedules.Model.{handing}
-use Rattle.papaya_promises.specs.Given.Schedules.Moment.{Moment}
-use Rattle.papaya_promises.specs.Given.Schedules.declared.effect.Effect.{Effect}
-use Rattle.papaya_promises.specs.Given.Schedules.declared.effect.Thing.{Thing}
-use Rattle.papaya_promises.specs.Given.Schedules.declared.effect.Thing.TheVariants.{APair, ATable}
-use Rattle.papaya_promises.specs.Given.Callers.Sights.{seen_by}
-use Rattle.papaya_promises.specs.Given.Callers.Together.{UnderWay, OnKey, ForRoom, Counting, OverAll, HandsOver, IsOneStep, Stands, Together}
-use Rattle.papaya_promises.specs.Given.Effects.Effects.{effects_of, known_after}
-use Rattle.papaya_promises.specs.Given.Effects.Known.{Known}
-use Rattle.papaya_promises.specs.Given.Effects.declared.acting.Acting.TheVariants.{Call}
-use Rattle.papaya_promises.specs.Given.Effects.declared.role.Role.{Role}
-use Rattle.papaya_promises.proofs.Given.Follows.Onward.{IsLasting, KeepsRoles}
-use Rattle.papaya_promises.proofs.Given.Follows.RowSteps.{row_step_shown}
-use Rattle.papaya_promises.proofs.Given.Follows.Steps.{WentTo, went_to, DidSo, OfNoRow, step_shown}
-use Rattle.papaya_promises.proofs.Given.Hands.RowSteps.{rows_hand_theirs}
-use Rattle.papaya_promises.proofs.Given.Hands.Steps.{calls_store_theirs}
-use Rattle.papaya_promises.specs.Given.Moments.Whole.{ShowsWhole}
+use Rattle.papaya_promises.specs.Given.SeizeSequence.{changes}
+use Rattle.papaya_promises.specs.Given.SeizeWaitingSets.{Change, Sets, After, all_changed, at_start as sets_at_start}
+use Rattle.papaya_promises.specs.Given.SeizeWorld.{World, Rests, Request, Begin, Step, Event, Happens, Runs}
+use Rattle.papaya_promises.proofs.Given.SeizeSetsTurns.Append.{changed_append}
+use Rattle.papaya_promises.specs.Given.RawDeclared.machines.progress.Progress.{Progress}
+use Rattle.papaya_promises.specs.Given.RuleInWorld.{AllUsers}
+use Rattle.papaya_promises.specs.Given.TablesNodes.{deferred_word}
+use Rattle.papaya_promises.specs.Given.TablesDeclared.node.Node.{Node}
+use Rattle.papaya_promises.specs.Given.SchedulesModel.{handing}
+use Rattle.papaya_promises.specs.Given.SchedulesMoment.{Moment}
+use Rattle.papaya_promises.specs.Given.SchedulesDeclared.effect.Effect.{Effect}
+use Rattle.papaya_promises.specs.Given.SchedulesDeclared.effect.Thing.{Thing}
+use Rattle.papaya_promises.specs.Given.SchedulesDeclared.effect.Thing.TheVariants.{APair, ATable}
+use Rattle.papaya_promises.specs.Given.CallersSights.{seen_by}
+use Rattle.papaya_promises.specs.Given.CallersTogether.{UnderWay, OnKey, ForRoom, Counting, OverAll, HandsOver, IsOneStep, Stands, Together}
+use Rattle.papaya_promises.specs.Given.EffectsEffects.{effects_of, known_after}
+use Rattle.papaya_promises.specs.Given.EffectsKnown.{Known}
+use Rattle.papaya_promises.specs.Given.EffectsDeclared.acting.Acting.TheVariants.{Call}
+use Rattle.papaya_promises.specs.Given.EffectsDeclared.role.Role.{Role}
+use Rattle.papaya_promises.proofs.Given.FollowsOnward.{IsLasting, KeepsRoles}
+use Rattle.papaya_promises.proofs.Given.FollowsRowSteps.{row_step_shown}
+use Rattle.papaya_promises.proofs.Given.FollowsSteps.{WentTo, went_to, DidSo, OfNoRow, step_shown}
+use Rattle.papaya_promises.proofs.Given.HandsRowSteps.{rows_hand_theirs}
+use Rattle.papaya_promises.proofs.Given.HandsSteps.{calls_store_theirs}
+use Rattle.papaya_promises.specs.Given.MomentsWhole.{ShowsWhole}
 use Rattle.papaya_promises.specs.Sheltered.{IsOfThing}
 use Rattle.papaya_models.specs.Alike.{SetsAlike}
 use Rattle.papaya_models.specs.Calls.{sets_on, FollowsInCall, MoreThingsFollow, RowsWithinEnd}
@@ -37,9 +37,9 @@ use Rattle.papaya_models.proofs.Alike.Changed.{all_alike}
 use Rattle.papaya_models.proofs.Handing.{nothing_handed, keeps_all}
 use Rattle.papaya_models.proofs.Numbers.{has_one, still_in, same_number}
 use Rattle.papaya_models.proofs.Turns.{rows_begin, rows_go_on, rows_end, users_follow}
-use Rattle.papaya_promises.specs.Given.Scenes.Held.{Held, IsAt}
-use Rattle.papaya_promises.specs.Given.Scenes.Scene.{Scene, slot_of}
-use Rattle.papaya_promises.specs.Given.Scenes.Stepping.{StepLeads}
+use Rattle.papaya_promises.specs.Given.ScenesHeld.{Held, IsAt}
+use Rattle.papaya_promises.specs.Given.ScenesScene.{Scene, slot_of}
+use Rattle.papaya_promises.specs.Given.ScenesStepping.{StepLeads}
 
 -- further things change no number
 pub more_numbers : (known : Known) (things more : List Thing) (b n : ℕ) → HasNumber known things b n → HasNumber known (things ++ more) b n

@@ -4,60 +4,60 @@ use Rattle.std.proofs.Common.{◌≡◌, ℕ, ◌+◌, Bool, true, false, List, 
 use Rattle.std.proofs.lemmas.Bool.{eq-eqb, ne_eqb}
 use Rattle.std.proofs.lemmas.List.{append-nil}
 use Rattle.std.proofs.lemmas.List.Concat.{flat_map-cons}
-use Rattle.papaya_promises.specs.Given.SeizeWords.declared.at.At.{At}
-use Rattle.papaya_promises.specs.Given.SeizeWords.declared.at.At.TheVariants.{Word}
-use Rattle.papaya_promises.specs.Given.SeizeWords.Mem.{Mem, same_at, value_at, word_at, with_word, Can, Took}
-use Rattle.papaya_promises.specs.Given.SeizeWords.Op.{Out, Exchange, Found, Stored, Exchanged, Made, Taken, Roomed}
-use Rattle.papaya_promises.specs.Given.SeizeWords.Plan.{May, Ends, Steps}
-use Rattle.papaya_promises.specs.Given.SeizeWords.Word.{link_to, block_in}
-use Rattle.papaya_promises.specs.Given.Seize.declared.states.TheConstants.{LAST_SLOT}
-use Rattle.papaya_promises.specs.Given.Seize.declared.progress.Progress.{Progress}
-use Rattle.papaya_promises.specs.Given.Seize.declared.progress.Progress.TheVariants as progress
-use Rattle.papaya_promises.specs.Given.Seize.declared.rows.defer.Defer.{Defer}
-use Rattle.papaya_promises.specs.Given.Seize.declared.rows.defer.Deferring.{Deferring}
-use Rattle.papaya_promises.specs.Given.Seize.declared.rows.defer.Deferring.TheVariants as deferring
-use Rattle.papaya_promises.specs.Given.Seize.Defer.{standing, head_read, push_told, defer_plan, plan_at, deferring as deferring_to}
-use Rattle.papaya_promises.specs.Given.Seize.Sequence.{changes}
-use Rattle.papaya_promises.specs.Given.Seize.WaitingSets.{Change, Defers}
-use Rattle.papaya_promises.specs.Given.Seize.World.{World, Row, Rests, Registers, Enters, Settles, Leaves, Defers as DefersRow, Frees, Request, Defer', Begin, Step, Begins, Happens, Steps', defers_on}
-use Rattle.papaya_promises.proofs.Given.SeizeMoves.State.Ghost.{Life, IsFree, IsOwned, IsLinked, IsUnlinked, IsDeferring, IsDeferred, IsPending, IsIn, IsDoomed, IsLeft, lies_with, can_carry}
-use Rattle.papaya_promises.specs.Given.SeizeWaiting.Held.{count}
-use Rattle.papaya_promises.proofs.Given.SeizeRule.Points.Retire.{of_link}
-use Rattle.papaya_promises.proofs.Given.SeizeRule.Rows.Known.{OnWay, FitsDefer, FitsRow}
-use Rattle.papaya_promises.proofs.Given.SeizeRule.Rows.Others.{with_here}
-use Rattle.papaya_promises.proofs.Given.SeizeRule.Words.Chains.{Chain}
-use Rattle.papaya_promises.proofs.Given.SeizeRule.Words.Named.{word_found}
-use Rattle.papaya_promises.proofs.Given.SeizeRule.Words.Shows.{DeferredIs, DrainedIs}
-use Rattle.papaya_promises.proofs.Given.SeizeRule.Words.View.{view}
-use Rattle.papaya_promises.proofs.Given.SeizeRule.World.Good.{Good}
-use Rattle.papaya_promises.proofs.Given.SeizeRule.World.Kept.{row_may}
-use Rattle.papaya_promises.proofs.Given.SeizeAlone.Histories.Reached.{Reached}
-use Rattle.papaya_promises.specs.Given.Tables.Nodes.{deferred_word}
-use Rattle.papaya_promises.specs.Given.Tables.declared.node.Node.{Node}
-use Rattle.papaya_promises.specs.Given.Tables.declared.node.Node.TheVariants as node
-use Rattle.papaya_promises.specs.Given.Tables.declared.table_words.TheConstants.{DEFERRED}
-use Rattle.papaya_promises.specs.Given.Teller.declared.changed.Changed.{Changed}
-use Rattle.papaya_promises.specs.Given.Teller.declared.changed.Changed.TheVariants as changed
-use Rattle.papaya_promises.specs.Given.Raw.declared.machines.progress.Progress.{Progress as ProgressOfCall}
-use Rattle.papaya_promises.specs.Given.Callers.Together.{UnderWay}
-use Rattle.papaya_promises.proofs.Given.Callers.Together.Came.{came_reached, came_next}
-use Rattle.papaya_promises.specs.Given.Effects.Effects.{names_same, effects_of, known_after}
-use Rattle.papaya_promises.specs.Given.Effects.Known.{Known}
-use Rattle.papaya_promises.specs.Given.Effects.declared.acting.Acting.TheVariants.{Call}
-use Rattle.papaya_promises.specs.Given.Effects.declared.role.Role.{Role}
-use Rattle.papaya_promises.specs.Given.Effects.declared.role.Role.TheVariants as role
-use Rattle.papaya_promises.specs.Given.Follows.Blocks.{HasRole}
-use Rattle.papaya_promises.proofs.Given.Follows.Onward.{KeepsRoles}
-use Rattle.papaya_promises.proofs.Given.Follows.Operations.{LeavesBy, Operated, operated_leaves}
-use Rattle.papaya_promises.proofs.Given.Hands.Handing.{plan_aside}
-use Rattle.papaya_promises.specs.Given.Moments.Whole.{ShowsWhole}
-use Rattle.papaya_promises.specs.Given.Schedules.Model.{number_in, handing}
-use Rattle.papaya_promises.specs.Given.Schedules.Moment.{Moment}
-use Rattle.papaya_promises.specs.Given.Schedules.declared.effect.Effect.{Effect}
-use Rattle.papaya_promises.specs.Given.Schedules.declared.effect.Effect.TheVariants as effect
-use Rattle.papaya_promises.specs.Given.Schedules.declared.effect.Thing.{Thing}
-use Rattle.papaya_promises.specs.Given.Schedules.declared.effect.Thing.TheVariants.{APair, ATable}
-use Rattle.papaya_promises.proofs.Given.Spots.Handing.{AllKeep}
+use Rattle.papaya_promises.specs.Given.SeizeWordsDeclared.at.At.{At}
+use Rattle.papaya_promises.specs.Given.SeizeWordsDeclared.at.At.TheVariants.{Word}
+use Rattle.papaya_promises.specs.Given.SeizeWordsMem.{Mem, same_at, value_at, word_at, with_word, Can, Took}
+use Rattle.papaya_promises.specs.Given.SeizeWordsOp.{Out, Exchange, Found, Stored, Exchanged, Made, Taken, Roomed}
+use Rattle.papaya_promises.specs.Given.SeizeWordsPlan.{May, Ends, Steps}
+use Rattle.papaya_promises.specs.Given.SeizeWordsWord.{link_to, block_in}
+use Rattle.papaya_promises.specs.Given.SeizeDeclared.states.TheConstants.{LAST_SLOT}
+use Rattle.papaya_promises.specs.Given.SeizeDeclared.progress.Progress.{Progress}
+use Rattle.papaya_promises.specs.Given.SeizeDeclared.progress.Progress.TheVariants as progress
+use Rattle.papaya_promises.specs.Given.SeizeDeclared.rows.defer.Defer.{Defer}
+use Rattle.papaya_promises.specs.Given.SeizeDeclared.rows.defer.Deferring.{Deferring}
+use Rattle.papaya_promises.specs.Given.SeizeDeclared.rows.defer.Deferring.TheVariants as deferring
+use Rattle.papaya_promises.specs.Given.SeizeDefer.{standing, head_read, push_told, defer_plan, plan_at, deferring as deferring_to}
+use Rattle.papaya_promises.specs.Given.SeizeSequence.{changes}
+use Rattle.papaya_promises.specs.Given.SeizeWaitingSets.{Change, Defers}
+use Rattle.papaya_promises.specs.Given.SeizeWorld.{World, Row, Rests, Registers, Enters, Settles, Leaves, Defers as DefersRow, Frees, Request, Defer', Begin, Step, Begins, Happens, Steps', defers_on}
+use Rattle.papaya_promises.proofs.Given.SeizeMovesState.Ghost.{Life, IsFree, IsOwned, IsLinked, IsUnlinked, IsDeferring, IsDeferred, IsPending, IsIn, IsDoomed, IsLeft, lies_with, can_carry}
+use Rattle.papaya_promises.specs.Given.SeizeWaitingHeld.{count}
+use Rattle.papaya_promises.proofs.Given.SeizeRulePoints.Retire.{of_link}
+use Rattle.papaya_promises.proofs.Given.SeizeRuleRows.Known.{OnWay, FitsDefer, FitsRow}
+use Rattle.papaya_promises.proofs.Given.SeizeRuleRows.Others.{with_here}
+use Rattle.papaya_promises.proofs.Given.SeizeRuleWords.Chains.{Chain}
+use Rattle.papaya_promises.proofs.Given.SeizeRuleWords.Named.{word_found}
+use Rattle.papaya_promises.proofs.Given.SeizeRuleWords.Shows.{DeferredIs, DrainedIs}
+use Rattle.papaya_promises.proofs.Given.SeizeRuleWords.View.{view}
+use Rattle.papaya_promises.proofs.Given.SeizeRuleWorld.Good.{Good}
+use Rattle.papaya_promises.proofs.Given.SeizeRuleWorld.Kept.{row_may}
+use Rattle.papaya_promises.proofs.Given.SeizeAloneHistories.Reached.{Reached}
+use Rattle.papaya_promises.specs.Given.TablesNodes.{deferred_word}
+use Rattle.papaya_promises.specs.Given.TablesDeclared.node.Node.{Node}
+use Rattle.papaya_promises.specs.Given.TablesDeclared.node.Node.TheVariants as node
+use Rattle.papaya_promises.specs.Given.TablesDeclared.table_words.TheConstants.{DEFERRED}
+use Rattle.papaya_promises.specs.Given.TellerDeclared.changed.Changed.{Changed}
+use Rattle.papaya_promises.specs.Given.TellerDeclared.changed.Changed.TheVariants as changed
+use Rattle.papaya_promises.specs.Given.RawDeclared.machines.progress.Progress.{Progress as ProgressOfCall}
+use Rattle.papaya_promises.specs.Given.CallersTogether.{UnderWay}
+use Rattle.papaya_promises.proofs.Given.CallersTogether.Came.{came_reached, came_next}
+use Rattle.papaya_promises.specs.Given.EffectsEffects.{names_same, effects_of, known_after}
+use Rattle.papaya_promises.specs.Given.EffectsKnown.{Known}
+use Rattle.papaya_promises.specs.Given.EffectsDeclared.acting.Acting.TheVariants.{Call}
+use Rattle.papaya_promises.specs.Given.EffectsDeclared.role.Role.{Role}
+use Rattle.papaya_promises.specs.Given.EffectsDeclared.role.Role.TheVariants as role
+use Rattle.papaya_promises.specs.Given.FollowsBlocks.{HasRole}
+use Rattle.papaya_promises.proofs.Given.FollowsOnward.{KeepsRoles}
+use Rattle.papaya_promises.proofs.Given.FollowsOperations.{LeavesBy, Operated, operated_leaves}
+use Rattle.papaya_promises.proofs.Given.HandsHanding.{plan_aside}
+use Rattle.papaya_promises.specs.Given.MomentsWhole.{ShowsWhole}
+use Rattle.papaya_promises.specs.Given.SchedulesModel.{number_in, handing}
+use Rattle.papaya_promises.specs.Given.SchedulesMoment.{Moment}
+use Rattle.papaya_promises.specs.Given.SchedulesDeclared.effect.Effect.{Effect}
+use Rattle.papaya_promises.specs.Given.SchedulesDeclared.effect.Effect.TheVariants as effect
+use Rattle.papaya_promises.specs.Given.SchedulesDeclared.effect.Thing.{Thing}
+use Rattle.papaya_promises.specs.Given.SchedulesDeclared.effect.Thing.TheVariants.{APair, ATable}
+use Rattle.papaya_promises.proofs.Given.SpotsHanding.{AllKeep}
 use Rattle.papaya_models.specs.Alike.{ChangesAlike}
 use Rattle.papaya_models.specs.Defers.{IsDue, IsDone, IsToDefer, HasDeferred, AreNoted, HasToldIt, DefersAreTold}
 use Rattle.papaya_models.specs.Numbers.{HasNumber, AreOfThings}
@@ -65,9 +65,9 @@ use Rattle.papaya_models.proofs.Calls.{one_step, kept_numbers}
 use Rattle.papaya_models.proofs.Handing.{nothing_handed, keep_of}
 use Rattle.papaya_models.proofs.HandsOver.{No, Stepped, to, came, made, keeps}
 use Rattle.papaya_models.proofs.Told.{quiet_keeps, word_defers, is_told}
-use Rattle.papaya_promises.specs.Given.Scenes.Held.{Held, IsAt}
-use Rattle.papaya_promises.specs.Given.Scenes.Scene.{Scene}
-use Rattle.papaya_promises.specs.Given.Scenes.Stepping.{StepLeads}
+use Rattle.papaya_promises.specs.Given.ScenesHeld.{Held, IsAt}
+use Rattle.papaya_promises.specs.Given.ScenesScene.{Scene}
+use Rattle.papaya_promises.specs.Given.ScenesStepping.{StepLeads}
 
 itself : (t field : ℕ) → same_at (Word t field) (Word t field) ≡ true
 itself t field = grind (arith, eq-eqb t t refl, eq-eqb field field refl)

@@ -6,42 +6,42 @@ use Rattle.std.proofs.Common.{◌≡◌, ℕ, zero, suc, ◌+◌, Bool, true, fa
 use Rattle.std.proofs.lemmas.Bool.{eq-eqb}
 use Rattle.std.proofs.lemmas.List.{append-nil, map-append}
 use Rattle.std.proofs.lemmas.List.Concat.{flat_map-append, flat_map-cons}
-use Rattle.papaya_promises.specs.Given.SeizeWords.Mem.{value_at}
-use Rattle.papaya_promises.specs.Given.Seize.Law.{Ended as HasEnded}
-use Rattle.papaya_promises.specs.Given.Seize.Sequence.{ended_by}
-use Rattle.papaya_promises.specs.Given.Seize.WaitingSets.{Change, Ends, Further, Sets, is_one_of}
-use Rattle.papaya_promises.specs.Given.Seize.World.{World, LeftTo, Event, Runs, Ends as EndsOwner, times, with_effect}
-use Rattle.papaya_promises.specs.Given.Seize.declared.rows.settle.Settled.{Settled}
-use Rattle.papaya_promises.specs.Given.SeizeWaiting.Held.{Every}
-use Rattle.papaya_promises.specs.Given.Tables.Nodes.{deferred_word}
-use Rattle.papaya_promises.specs.Given.Tables.declared.node.Node.{Node}
-use Rattle.papaya_promises.specs.Given.Tables.declared.node.Node.TheVariants as node
-use Rattle.papaya_promises.specs.Given.Raw.declared.machines.end_map.EndMap.{EndMap}
-use Rattle.papaya_promises.specs.Given.Schedules.After.{tables_taken}
-use Rattle.papaya_promises.specs.Given.Schedules.Lists.{is_in}
-use Rattle.papaya_promises.specs.Given.Schedules.Moment.{Moment}
-use Rattle.papaya_promises.specs.Given.Schedules.Things.{same_table}
-use Rattle.papaya_promises.specs.Given.Schedules.declared.effect.Effect.{Effect}
-use Rattle.papaya_promises.specs.Given.Schedules.declared.effect.Effect.TheVariants as effect
-use Rattle.papaya_promises.specs.Given.Schedules.declared.effect.Table.{Table}
-use Rattle.papaya_promises.specs.Given.Schedules.declared.effect.Thing.{Thing}
-use Rattle.papaya_promises.specs.Given.Schedules.declared.effect.Thing.TheVariants.{APair, ATable}
-use Rattle.papaya_promises.specs.Given.Teller.declared.changed.Changed.{Changed}
-use Rattle.papaya_promises.specs.Given.Teller.declared.changed.Changed.TheVariants as changed
-use Rattle.papaya_promises.specs.Given.Effects.Effects.{taken_by as what_was, effects_of, known_after}
-use Rattle.papaya_promises.specs.Given.Effects.Known.{Known, with_role}
-use Rattle.papaya_promises.specs.Given.Effects.declared.acting.Acting.{Acting}
-use Rattle.papaya_promises.specs.Given.Effects.declared.acting.Acting.TheVariants as acts
-use Rattle.papaya_promises.specs.Given.Effects.declared.role.Role.{Role}
-use Rattle.papaya_promises.specs.Given.Effects.declared.role.Role.TheVariants as role
-use Rattle.papaya_promises.specs.Given.Finishes.Endings.{Finishing, StepsOfEnding}
-use Rattle.papaya_promises.specs.Given.Finishes.FactsEnds.{Deed, Looks, TakesPair, LeavesTable, JoinsPair, TakesLeft, TakesCounter, WritesRoot, events_of, taken_by, left_by}
-use Rattle.papaya_promises.specs.Given.Follows.Blocks.{HasRole, ShowsBlocks}
-use Rattle.papaya_promises.proofs.Given.Follows.Alike.{is_calm, AllCalm}
-use Rattle.papaya_promises.specs.Given.Moments.Whole.{ShowsWhole}
-use Rattle.papaya_promises.proofs.Given.Others.Ends.{says_or_takes, left}
+use Rattle.papaya_promises.specs.Given.SeizeWordsMem.{value_at}
+use Rattle.papaya_promises.specs.Given.SeizeLaw.{Ended as HasEnded}
+use Rattle.papaya_promises.specs.Given.SeizeSequence.{ended_by}
+use Rattle.papaya_promises.specs.Given.SeizeWaitingSets.{Change, Ends, Further, Sets, is_one_of}
+use Rattle.papaya_promises.specs.Given.SeizeWorld.{World, LeftTo, Event, Runs, Ends as EndsOwner, times, with_effect}
+use Rattle.papaya_promises.specs.Given.SeizeDeclared.rows.settle.Settled.{Settled}
+use Rattle.papaya_promises.specs.Given.SeizeWaitingHeld.{Every}
+use Rattle.papaya_promises.specs.Given.TablesNodes.{deferred_word}
+use Rattle.papaya_promises.specs.Given.TablesDeclared.node.Node.{Node}
+use Rattle.papaya_promises.specs.Given.TablesDeclared.node.Node.TheVariants as node
+use Rattle.papaya_promises.specs.Given.RawDeclared.machines.end_map.EndMap.{EndMap}
+use Rattle.papaya_promises.specs.Given.SchedulesAfter.{tables_taken}
+use Rattle.papaya_promises.specs.Given.SchedulesLists.{is_in}
+use Rattle.papaya_promises.specs.Given.SchedulesMoment.{Moment}
+use Rattle.papaya_promises.specs.Given.SchedulesThings.{same_table}
+use Rattle.papaya_promises.specs.Given.SchedulesDeclared.effect.Effect.{Effect}
+use Rattle.papaya_promises.specs.Given.SchedulesDeclared.effect.Effect.TheVariants as effect
+use Rattle.papaya_promises.specs.Given.SchedulesDeclared.effect.Table.{Table}
+use Rattle.papaya_promises.specs.Given.SchedulesDeclared.effect.Thing.{Thing}
+use Rattle.papaya_promises.specs.Given.SchedulesDeclared.effect.Thing.TheVariants.{APair, ATable}
+use Rattle.papaya_promises.specs.Given.TellerDeclared.changed.Changed.{Changed}
+use Rattle.papaya_promises.specs.Given.TellerDeclared.changed.Changed.TheVariants as changed
+use Rattle.papaya_promises.specs.Given.EffectsEffects.{taken_by as what_was, effects_of, known_after}
+use Rattle.papaya_promises.specs.Given.EffectsKnown.{Known, with_role}
+use Rattle.papaya_promises.specs.Given.EffectsDeclared.acting.Acting.{Acting}
+use Rattle.papaya_promises.specs.Given.EffectsDeclared.acting.Acting.TheVariants as acts
+use Rattle.papaya_promises.specs.Given.EffectsDeclared.role.Role.{Role}
+use Rattle.papaya_promises.specs.Given.EffectsDeclared.role.Role.TheVariants as role
+use Rattle.papaya_promises.specs.Given.FinishesEndings.{Finishing, StepsOfEnding}
+use Rattle.papaya_promises.specs.Given.FinishesFactsEnds.{Deed, Looks, TakesPair, LeavesTable, JoinsPair, TakesLeft, TakesCounter, WritesRoot, events_of, taken_by, left_by}
+use Rattle.papaya_promises.specs.Given.FollowsBlocks.{HasRole, ShowsBlocks}
+use Rattle.papaya_promises.proofs.Given.FollowsAlike.{is_calm, AllCalm}
+use Rattle.papaya_promises.specs.Given.MomentsWhole.{ShowsWhole}
+use Rattle.papaya_promises.proofs.Given.OthersEnds.{says_or_takes, left}
 use Rattle.papaya_promises.specs.Sheltered.{IsOfThing}
-use Rattle.papaya_promises.proofs.Given.Spots.Handing.{KeepsAll, AllKeep, calm_keep}
+use Rattle.papaya_promises.proofs.Given.SpotsHanding.{KeepsAll, AllKeep, calm_keep}
 use Rattle.papaya_models.specs.Alike.{FurtherAlike}
 use Rattle.papaya_models.specs.Ends.{IsOfEnd, AreOfEnd, WasTaken, FollowsInEnd, EndsBegin, EndsGoOn}
 use Rattle.papaya_models.specs.Follows.{FollowsSets}
@@ -50,11 +50,11 @@ use Rattle.papaya_models.specs.Others.{HandsNone, HandNone}
 use Rattle.papaya_models.specs.Turns.{sets_of, CameByTurns}
 use Rattle.papaya_models.proofs.OnSlots.{noted_still}
 use Rattle.papaya_models.proofs.Turns.{events_follow, all_have_lists}
-use Rattle.papaya_promises.specs.Given.Scenes.Ending.{EndingComesTo, EndingStepsFrom}
-use Rattle.papaya_promises.specs.Given.Scenes.Held.{Held, IsAt}
-use Rattle.papaya_promises.specs.Given.Scenes.Scene.{Scene, slot_of}
-use Rattle.papaya_promises.proofs.Given.SeizeAlone.Histories.UsersTurn.{AreBetween}
-use Rattle.papaya_promises.proofs.Given.Scenes.Between.{deed_between}
+use Rattle.papaya_promises.specs.Given.ScenesEnding.{EndingComesTo, EndingStepsFrom}
+use Rattle.papaya_promises.specs.Given.ScenesHeld.{Held, IsAt}
+use Rattle.papaya_promises.specs.Given.ScenesScene.{Scene, slot_of}
+use Rattle.papaya_promises.proofs.Given.SeizeAloneHistories.UsersTurn.{AreBetween}
+use Rattle.papaya_promises.proofs.Given.ScenesBetween.{deed_between}
 
 -- Where the end begins what others wait behind is noted as a table.
 

@@ -4,30 +4,30 @@ use Rattle.std.specs.List.{AllByRecursion}
 use Rattle.std.proofs.Common.{◌≡◌, ℕ, Bool, true, false, List, [], ◌∷◌, ◌++◌, inl, inr, refl, ap, sym, subst, eqb-true, ◌∙◌}
 use Rattle.std.proofs.lemmas.Bool.{eq-eqb}
 use Rattle.std.proofs.lemmas.List.Concat.{flat_map-cons}
-use Rattle.papaya_promises.specs.Given.SeizeWords.Mem.{value_at}
-use Rattle.papaya_promises.specs.Given.Seize.WaitingSets.{Change, Ends, Further, Sets, After, all_changed, is_one_of, at_start as sets_at_start}
-use Rattle.papaya_promises.specs.Given.Seize.World.{World, LeftTo}
-use Rattle.papaya_promises.specs.Given.SeizeWaiting.Changes.{kept, with_further}
-use Rattle.papaya_promises.specs.Given.SeizeWaiting.Held.{Every}
-use Rattle.papaya_promises.proofs.Given.SeizeWaiting.Laws.{ends_leave}
-use Rattle.papaya_promises.proofs.Given.SeizeSets.Turns.Append.{changed_append}
-use Rattle.papaya_promises.specs.Given.Tables.Nodes.{deferred_word}
-use Rattle.papaya_promises.specs.Given.Tables.declared.node.Node.{Node}
-use Rattle.papaya_promises.specs.Given.Schedules.After.{tables_taken}
-use Rattle.papaya_promises.specs.Given.Schedules.Lists.{is_in}
-use Rattle.papaya_promises.specs.Given.Schedules.Model.{number_in, handing}
-use Rattle.papaya_promises.specs.Given.Schedules.Moment.{Moment}
-use Rattle.papaya_promises.specs.Given.Schedules.Things.{same_table}
-use Rattle.papaya_promises.specs.Given.Schedules.declared.effect.Effect.{Effect}
-use Rattle.papaya_promises.specs.Given.Schedules.declared.effect.Effect.TheVariants as effect
-use Rattle.papaya_promises.specs.Given.Schedules.declared.effect.Table.{Table}
-use Rattle.papaya_promises.specs.Given.Schedules.declared.effect.Thing.{Thing}
-use Rattle.papaya_promises.specs.Given.Schedules.declared.effect.Thing.TheVariants.{ATable}
-use Rattle.papaya_promises.specs.Given.Effects.Known.{Known}
-use Rattle.papaya_promises.specs.Given.Effects.declared.role.Role.{Role}
-use Rattle.papaya_promises.specs.Given.Effects.declared.role.Role.TheVariants as role
-use Rattle.papaya_promises.specs.Given.Follows.Blocks.{HasRole, ShowsBlocks}
-use Rattle.papaya_promises.proofs.Given.Moments.OnSlots.{none_some}
+use Rattle.papaya_promises.specs.Given.SeizeWordsMem.{value_at}
+use Rattle.papaya_promises.specs.Given.SeizeWaitingSets.{Change, Ends, Further, Sets, After, all_changed, is_one_of, at_start as sets_at_start}
+use Rattle.papaya_promises.specs.Given.SeizeWorld.{World, LeftTo}
+use Rattle.papaya_promises.specs.Given.SeizeWaitingChanges.{kept, with_further}
+use Rattle.papaya_promises.specs.Given.SeizeWaitingHeld.{Every}
+use Rattle.papaya_promises.proofs.Given.SeizeWaitingLaws.{ends_leave}
+use Rattle.papaya_promises.proofs.Given.SeizeSetsTurns.Append.{changed_append}
+use Rattle.papaya_promises.specs.Given.TablesNodes.{deferred_word}
+use Rattle.papaya_promises.specs.Given.TablesDeclared.node.Node.{Node}
+use Rattle.papaya_promises.specs.Given.SchedulesAfter.{tables_taken}
+use Rattle.papaya_promises.specs.Given.SchedulesLists.{is_in}
+use Rattle.papaya_promises.specs.Given.SchedulesModel.{number_in, handing}
+use Rattle.papaya_promises.specs.Given.SchedulesMoment.{Moment}
+use Rattle.papaya_promises.specs.Given.SchedulesThings.{same_table}
+use Rattle.papaya_promises.specs.Given.SchedulesDeclared.effect.Effect.{Effect}
+use Rattle.papaya_promises.specs.Given.SchedulesDeclared.effect.Effect.TheVariants as effect
+use Rattle.papaya_promises.specs.Given.SchedulesDeclared.effect.Table.{Table}
+use Rattle.papaya_promises.specs.Given.SchedulesDeclared.effect.Thing.{Thing}
+use Rattle.papaya_promises.specs.Given.SchedulesDeclared.effect.Thing.TheVariants.{ATable}
+use Rattle.papaya_promises.specs.Given.EffectsKnown.{Known}
+use Rattle.papaya_promises.specs.Given.EffectsDeclared.role.Role.{Role}
+use Rattle.papaya_promises.specs.Given.EffectsDeclared.role.Role.TheVariants as role
+use Rattle.papaya_promises.specs.Given.FollowsBlocks.{HasRole, ShowsBlocks}
+use Rattle.papaya_promises.proofs.Given.MomentsOnSlots.{none_some}
 use Rattle.papaya_promises.specs.Sheltered.{IsOfThing}
 use Rattle.papaya_promises.proofs.Shelters.Rows.{things_are}
 use Rattle.papaya_models.specs.Alike.{FurtherAlike, SetsAlike}

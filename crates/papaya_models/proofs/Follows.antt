@@ -2,13 +2,13 @@
 use Rattle.std.specs.Prelude.{flat_map, map, MatchBool}
 use Rattle.std.proofs.Common.{◌≡◌, Bool, true, false, List, [], ◌∷◌, ◌++◌, ap, sym, ◌∙◌}
 use Rattle.std.proofs.lemmas.List.{append-nil}
-use Rattle.papaya_promises.specs.Given.Seize.WaitingSets.{Change, all_changed}
-use Rattle.papaya_promises.specs.Given.Schedules.After.{after, moment}
-use Rattle.papaya_promises.specs.Given.Schedules.Entry.{Entry}
-use Rattle.papaya_promises.specs.Given.Schedules.Model.{IsByModel, came, thing_back, number_in, things_in, sets_in, changes_of, left_last, back_by_model}
-use Rattle.papaya_promises.specs.Given.Schedules.Terms.{Terms}
-use Rattle.papaya_promises.specs.Given.Schedules.declared.effect.Effect.{Effect}
-use Rattle.papaya_promises.specs.Given.Schedules.declared.effect.Thing.{Thing}
+use Rattle.papaya_promises.specs.Given.SeizeWaitingSets.{Change, all_changed}
+use Rattle.papaya_promises.specs.Given.SchedulesAfter.{after, moment}
+use Rattle.papaya_promises.specs.Given.SchedulesEntry.{Entry}
+use Rattle.papaya_promises.specs.Given.SchedulesModel.{IsByModel, came, thing_back, number_in, things_in, sets_in, changes_of, left_last, back_by_model}
+use Rattle.papaya_promises.specs.Given.SchedulesTerms.{Terms}
+use Rattle.papaya_promises.specs.Given.SchedulesDeclared.effect.Effect.{Effect}
+use Rattle.papaya_promises.specs.Given.SchedulesDeclared.effect.Thing.{Thing}
 use Rattle.papaya_models.specs.Follows.{IdleEventsFollow}
 
 -- what is so is so in each case

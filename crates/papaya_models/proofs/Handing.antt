@@ -2,26 +2,26 @@
 use Rattle.std.specs.Prelude.{◌≡◌, ℕ, Bool, List, [], ◌∷◌, ◌++◌, flat_map, Some}
 use Rattle.std.proofs.Common.{refl, ap, ◌∙◌}
 use Rattle.std.proofs.lemmas.List.Concat.{flat_map-cons}
-use Rattle.papaya_promises.specs.Given.Seize.WaitingSets.{Change}
-use Rattle.papaya_promises.specs.Given.Tables.declared.node.Node.{Node}
-use Rattle.papaya_promises.specs.Given.Schedules.Model.{handing}
-use Rattle.papaya_promises.specs.Given.Schedules.Moment.{Moment}
-use Rattle.papaya_promises.specs.Given.Schedules.declared.effect.Effect.{Effect}
-use Rattle.papaya_promises.specs.Given.Schedules.declared.effect.Effect.TheVariants.{Retired, Deferred, Taken}
-use Rattle.papaya_promises.specs.Given.Schedules.declared.effect.Thing.{Thing}
-use Rattle.papaya_promises.specs.Given.Raw.declared.machines.progress.Progress.{Progress}
-use Rattle.papaya_promises.specs.Given.Callers.Together.{UnderWay}
-use Rattle.papaya_promises.specs.Given.Effects.Effects.{effects_of}
-use Rattle.papaya_promises.specs.Given.Effects.Known.{Known}
-use Rattle.papaya_promises.specs.Given.Effects.declared.acting.Acting.TheVariants.{Call}
-use Rattle.papaya_promises.specs.Given.Follows.Shows.{Shows}
-use Rattle.papaya_promises.proofs.Given.Follows.Steps.{WentTo, went_to, DidSo, OfNoRow}
-use Rattle.papaya_promises.proofs.Given.Spots.Handing.{KeepsAll, AllKeep, nothing_keep}
-use Rattle.papaya_promises.proofs.Given.Spots.Steps.{hands_nothing}
+use Rattle.papaya_promises.specs.Given.SeizeWaitingSets.{Change}
+use Rattle.papaya_promises.specs.Given.TablesDeclared.node.Node.{Node}
+use Rattle.papaya_promises.specs.Given.SchedulesModel.{handing}
+use Rattle.papaya_promises.specs.Given.SchedulesMoment.{Moment}
+use Rattle.papaya_promises.specs.Given.SchedulesDeclared.effect.Effect.{Effect}
+use Rattle.papaya_promises.specs.Given.SchedulesDeclared.effect.Effect.TheVariants.{Retired, Deferred, Taken}
+use Rattle.papaya_promises.specs.Given.SchedulesDeclared.effect.Thing.{Thing}
+use Rattle.papaya_promises.specs.Given.RawDeclared.machines.progress.Progress.{Progress}
+use Rattle.papaya_promises.specs.Given.CallersTogether.{UnderWay}
+use Rattle.papaya_promises.specs.Given.EffectsEffects.{effects_of}
+use Rattle.papaya_promises.specs.Given.EffectsKnown.{Known}
+use Rattle.papaya_promises.specs.Given.EffectsDeclared.acting.Acting.TheVariants.{Call}
+use Rattle.papaya_promises.specs.Given.FollowsShows.{Shows}
+use Rattle.papaya_promises.proofs.Given.FollowsSteps.{WentTo, went_to, DidSo, OfNoRow}
+use Rattle.papaya_promises.proofs.Given.SpotsHanding.{KeepsAll, AllKeep, nothing_keep}
+use Rattle.papaya_promises.proofs.Given.SpotsSteps.{hands_nothing}
 use Rattle.papaya_models.specs.Numbers.{IsOfThings, AreOfThings}
-use Rattle.papaya_promises.specs.Given.Scenes.Held.{Held, IsAt}
-use Rattle.papaya_promises.specs.Given.Scenes.Scene.{Scene}
-use Rattle.papaya_promises.specs.Given.Scenes.Stepping.{StepLeads}
+use Rattle.papaya_promises.specs.Given.ScenesHeld.{Held, IsAt}
+use Rattle.papaya_promises.specs.Given.ScenesScene.{Scene}
+use Rattle.papaya_promises.specs.Given.ScenesStepping.{StepLeads}
 
 pub nothing_handed : (things : List Thing) (slot : ℕ) (effects : List Effect) → AllKeep effects → flat_map (handing things slot) effects ≡ []
 nothing_handed things slot [] all = refl

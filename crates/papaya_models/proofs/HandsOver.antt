@@ -4,64 +4,64 @@ use Rattle.std.proofs.Common.{◌≡◌, ℕ, ◌+◌, Bool, true, false, List, 
 use Rattle.std.proofs.lemmas.Bool.{eq-eqb, ne_eqb}
 use Rattle.std.proofs.lemmas.List.{append-nil}
 use Rattle.std.proofs.lemmas.List.Concat.{flat_map-cons}
-use Rattle.papaya_promises.specs.Given.SeizeWords.declared.at.At.TheVariants.{Entry}
-use Rattle.papaya_promises.specs.Given.SeizeWords.Mem.{Mem, same_at, value_at, word_at, with_word, Can, Took}
-use Rattle.papaya_promises.specs.Given.SeizeWords.Plan.{May, Steps}
-use Rattle.papaya_promises.specs.Given.SeizeWords.Word.{link_to, block_in}
-use Rattle.papaya_promises.proofs.Given.SeizeWords.OneOwner.AfterWrites.{placed}
-use Rattle.papaya_promises.specs.Given.Seize.declared.states.TheConstants.{NEXT, FIRST, LAST_SLOT}
-use Rattle.papaya_promises.specs.Given.Seize.declared.rows.settle.Settle.{Settle}
-use Rattle.papaya_promises.specs.Given.Seize.declared.rows.settle.Settled.{Settled}
-use Rattle.papaya_promises.specs.Given.Seize.declared.rows.settle.Settled.TheVariants as settled
-use Rattle.papaya_promises.specs.Given.Seize.declared.rows.settle.Settling.{Settling}
-use Rattle.papaya_promises.specs.Given.Seize.declared.rows.settle.Settling.TheVariants as at
-use Rattle.papaya_promises.specs.Given.Seize.Settle.{settle_plan, plan_at, retiring}
-use Rattle.papaya_promises.specs.Given.Seize.Sequence.{changes}
-use Rattle.papaya_promises.specs.Given.Seize.WaitingSets.{Change, Retires}
-use Rattle.papaya_promises.specs.Given.Seize.World.{World, Row, Rests, Registers, Enters, Settles, Leaves, Defers, Frees, Hand, Cutting, Request, Retire, Begin, Step, Begins, Happens, Steps', settles_on, at_start}
-use Rattle.papaya_promises.proofs.Given.SeizeMoves.State.Ghost.{IsUnlinked}
-use Rattle.papaya_promises.proofs.Given.SeizeRule.Points.Aside.{HandFits}
-use Rattle.papaya_promises.proofs.Given.SeizeRule.Points.Known.{FitsAt, bare, open_blocks}
-use Rattle.papaya_promises.proofs.Given.SeizeRule.Points.Retire.{of_link, open_chain}
-use Rattle.papaya_promises.proofs.Given.SeizeRule.Rows.Known.{FitsRow}
-use Rattle.papaya_promises.proofs.Given.SeizeRule.Rows.Others.{with_here}
-use Rattle.papaya_promises.proofs.Given.SeizeRule.Words.Chains.{Chain, first_or}
-use Rattle.papaya_promises.proofs.Given.SeizeRule.Words.Named.{link, block_there}
-use Rattle.papaya_promises.proofs.Given.SeizeRule.Words.Shows.{NextIs, lives}
-use Rattle.papaya_promises.proofs.Given.SeizeRule.Words.There.{value_there}
-use Rattle.papaya_promises.proofs.Given.SeizeRule.Words.View.{view}
-use Rattle.papaya_promises.proofs.Given.SeizeRule.World.Good.{Good}
-use Rattle.papaya_promises.proofs.Given.SeizeRule.World.Kept.{row_may}
-use Rattle.papaya_promises.proofs.Given.SeizeRule.World.Start.{start_good}
-use Rattle.papaya_promises.proofs.Given.SeizeAlone.Histories.Reached.{Reached}
-use Rattle.papaya_promises.specs.Given.Tables.Nodes.{deferred_word}
-use Rattle.papaya_promises.specs.Given.Tables.declared.node.Node.{Node}
-use Rattle.papaya_promises.specs.Given.Teller.declared.changed.Changed.{Changed}
-use Rattle.papaya_promises.specs.Given.Teller.declared.changed.Changed.TheVariants as changed
-use Rattle.papaya_promises.specs.Given.Raw.declared.machines.progress.Progress.{Progress}
-use Rattle.papaya_promises.specs.Given.Callers.Together.{UnderWay, CameAbout}
-use Rattle.papaya_promises.proofs.Given.Callers.Together.Came.{came_reached, came_next}
-use Rattle.papaya_promises.specs.Given.Effects.Effects.{names_same, effects_of, known_after}
-use Rattle.papaya_promises.specs.Given.Effects.Known.{Known}
-use Rattle.papaya_promises.specs.Given.Effects.declared.acting.Acting.TheVariants.{Call}
-use Rattle.papaya_promises.specs.Given.Effects.declared.role.Role.{Role}
-use Rattle.papaya_promises.specs.Given.Effects.declared.role.Role.TheVariants as role
-use Rattle.papaya_promises.specs.Given.Follows.Blocks.{HasRole}
-use Rattle.papaya_promises.proofs.Given.Follows.Onward.{KeepsRoles}
-use Rattle.papaya_promises.proofs.Given.Follows.Operations.{LeavesBy, Operated, operated_leaves}
-use Rattle.papaya_promises.proofs.Given.Follows.Steps.{WentTo, went_to, made_so}
-use Rattle.papaya_promises.specs.Given.Hands.Rows.{ReclaimsNone}
-use Rattle.papaya_promises.proofs.Given.Hands.Guarded.{there_is}
-use Rattle.papaya_promises.proofs.Given.Hands.Handing.{plan_aside, settle_aside}
-use Rattle.papaya_promises.specs.Given.Moments.Whole.{ShowsWhole}
-use Rattle.papaya_promises.specs.Given.Schedules.Model.{handing}
-use Rattle.papaya_promises.specs.Given.Schedules.Moment.{Moment}
-use Rattle.papaya_promises.specs.Given.Schedules.declared.effect.Effect.{Effect}
-use Rattle.papaya_promises.specs.Given.Schedules.declared.effect.Effect.TheVariants as effect
-use Rattle.papaya_promises.specs.Given.Schedules.declared.effect.Thing.{Thing}
-use Rattle.papaya_promises.specs.Given.Schedules.declared.effect.Thing.TheVariants.{APair, ATable}
+use Rattle.papaya_promises.specs.Given.SeizeWordsDeclared.at.At.TheVariants.{Entry}
+use Rattle.papaya_promises.specs.Given.SeizeWordsMem.{Mem, same_at, value_at, word_at, with_word, Can, Took}
+use Rattle.papaya_promises.specs.Given.SeizeWordsPlan.{May, Steps}
+use Rattle.papaya_promises.specs.Given.SeizeWordsWord.{link_to, block_in}
+use Rattle.papaya_promises.proofs.Given.SeizeWordsOneOwner.AfterWrites.{placed}
+use Rattle.papaya_promises.specs.Given.SeizeDeclared.states.TheConstants.{NEXT, FIRST, LAST_SLOT}
+use Rattle.papaya_promises.specs.Given.SeizeDeclared.rows.settle.Settle.{Settle}
+use Rattle.papaya_promises.specs.Given.SeizeDeclared.rows.settle.Settled.{Settled}
+use Rattle.papaya_promises.specs.Given.SeizeDeclared.rows.settle.Settled.TheVariants as settled
+use Rattle.papaya_promises.specs.Given.SeizeDeclared.rows.settle.Settling.{Settling}
+use Rattle.papaya_promises.specs.Given.SeizeDeclared.rows.settle.Settling.TheVariants as at
+use Rattle.papaya_promises.specs.Given.SeizeSettle.{settle_plan, plan_at, retiring}
+use Rattle.papaya_promises.specs.Given.SeizeSequence.{changes}
+use Rattle.papaya_promises.specs.Given.SeizeWaitingSets.{Change, Retires}
+use Rattle.papaya_promises.specs.Given.SeizeWorld.{World, Row, Rests, Registers, Enters, Settles, Leaves, Defers, Frees, Hand, Cutting, Request, Retire, Begin, Step, Begins, Happens, Steps', settles_on, at_start}
+use Rattle.papaya_promises.proofs.Given.SeizeMovesState.Ghost.{IsUnlinked}
+use Rattle.papaya_promises.proofs.Given.SeizeRulePoints.Aside.{HandFits}
+use Rattle.papaya_promises.proofs.Given.SeizeRulePoints.Known.{FitsAt, bare, open_blocks}
+use Rattle.papaya_promises.proofs.Given.SeizeRulePoints.Retire.{of_link, open_chain}
+use Rattle.papaya_promises.proofs.Given.SeizeRuleRows.Known.{FitsRow}
+use Rattle.papaya_promises.proofs.Given.SeizeRuleRows.Others.{with_here}
+use Rattle.papaya_promises.proofs.Given.SeizeRuleWords.Chains.{Chain, first_or}
+use Rattle.papaya_promises.proofs.Given.SeizeRuleWords.Named.{link, block_there}
+use Rattle.papaya_promises.proofs.Given.SeizeRuleWords.Shows.{NextIs, lives}
+use Rattle.papaya_promises.proofs.Given.SeizeRuleWords.There.{value_there}
+use Rattle.papaya_promises.proofs.Given.SeizeRuleWords.View.{view}
+use Rattle.papaya_promises.proofs.Given.SeizeRuleWorld.Good.{Good}
+use Rattle.papaya_promises.proofs.Given.SeizeRuleWorld.Kept.{row_may}
+use Rattle.papaya_promises.proofs.Given.SeizeRuleWorld.Start.{start_good}
+use Rattle.papaya_promises.proofs.Given.SeizeAloneHistories.Reached.{Reached}
+use Rattle.papaya_promises.specs.Given.TablesNodes.{deferred_word}
+use Rattle.papaya_promises.specs.Given.TablesDeclared.node.Node.{Node}
+use Rattle.papaya_promises.specs.Given.TellerDeclared.changed.Changed.{Changed}
+use Rattle.papaya_promises.specs.Given.TellerDeclared.changed.Changed.TheVariants as changed
+use Rattle.papaya_promises.specs.Given.RawDeclared.machines.progress.Progress.{Progress}
+use Rattle.papaya_promises.specs.Given.CallersTogether.{UnderWay, CameAbout}
+use Rattle.papaya_promises.proofs.Given.CallersTogether.Came.{came_reached, came_next}
+use Rattle.papaya_promises.specs.Given.EffectsEffects.{names_same, effects_of, known_after}
+use Rattle.papaya_promises.specs.Given.EffectsKnown.{Known}
+use Rattle.papaya_promises.specs.Given.EffectsDeclared.acting.Acting.TheVariants.{Call}
+use Rattle.papaya_promises.specs.Given.EffectsDeclared.role.Role.{Role}
+use Rattle.papaya_promises.specs.Given.EffectsDeclared.role.Role.TheVariants as role
+use Rattle.papaya_promises.specs.Given.FollowsBlocks.{HasRole}
+use Rattle.papaya_promises.proofs.Given.FollowsOnward.{KeepsRoles}
+use Rattle.papaya_promises.proofs.Given.FollowsOperations.{LeavesBy, Operated, operated_leaves}
+use Rattle.papaya_promises.proofs.Given.FollowsSteps.{WentTo, went_to, made_so}
+use Rattle.papaya_promises.specs.Given.HandsRows.{ReclaimsNone}
+use Rattle.papaya_promises.proofs.Given.HandsGuarded.{there_is}
+use Rattle.papaya_promises.proofs.Given.HandsHanding.{plan_aside, settle_aside}
+use Rattle.papaya_promises.specs.Given.MomentsWhole.{ShowsWhole}
+use Rattle.papaya_promises.specs.Given.SchedulesModel.{handing}
+use Rattle.papaya_promises.specs.Given.SchedulesMoment.{Moment}
+use Rattle.papaya_promises.specs.Given.SchedulesDeclared.effect.Effect.{Effect}
+use Rattle.papaya_promises.specs.Given.SchedulesDeclared.effect.Effect.TheVariants as effect
+use Rattle.papaya_promises.specs.Given.SchedulesDeclared.effect.Thing.{Thing}
+use Rattle.papaya_promises.specs.Given.SchedulesDeclared.effect.Thing.TheVariants.{APair, ATable}
 use Rattle.papaya_promises.specs.Sheltered.{IsOfThing}
-use Rattle.papaya_promises.proofs.Given.Spots.Handing.{AllKeep}
+use Rattle.papaya_promises.proofs.Given.SpotsHanding.{AllKeep}
 use Rattle.papaya_models.specs.Alike.{ChangesAlike}
 use Rattle.papaya_models.specs.Numbers.{HasNumber, AreOfThings}
 use Rattle.papaya_models.specs.Retires.{IsToRetireAt, IsToRetire, IsPast, HasRetired, HasToldSo, RetiresAreTold}
@@ -70,9 +70,9 @@ use Rattle.papaya_models.proofs.Handing.{nothing_handed, keep_of}
 use Rattle.papaya_models.proofs.Retires.{to_retire, retires, past_on, goes_row, past_row}
 use Rattle.papaya_models.proofs.Told.{quiet_keeps, first_retires, is_told}
 use Rattle.papaya_models.proofs.Unbatched.{IsKept, runs_unbatched}
-use Rattle.papaya_promises.specs.Given.Scenes.Held.{Held, IsAt}
-use Rattle.papaya_promises.specs.Given.Scenes.Scene.{Scene}
-use Rattle.papaya_promises.specs.Given.Scenes.Stepping.{StepLeads}
+use Rattle.papaya_promises.specs.Given.ScenesHeld.{Held, IsAt}
+use Rattle.papaya_promises.specs.Given.ScenesScene.{Scene}
+use Rattle.papaya_promises.specs.Given.ScenesStepping.{StepLeads}
 
 -- whether it is about to write into a block which batch it is of
 batches_or : (p : Settling) → ((block : ℕ) × (p ≡ at.Batches block)) ⊎ ((block : ℕ) → p ≡ at.Batches block → ⊥)

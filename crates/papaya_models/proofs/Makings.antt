@@ -1,46 +1,46 @@
 -- A step of the making of a map leaves the waiting sets as they were.
 use Rattle.std.specs.Prelude.{◌≡◌, ℕ, Bool, true, false, List, [], ◌∷◌, Option, Some, IsSome, if◌then◌else◌, None}
 use Rattle.std.proofs.Common.{refl, sym, subst}
-use Rattle.papaya_promises.specs.Given.SeizeWords.Mem.{value_at}
-use Rattle.papaya_promises.specs.Given.SeizeWords.Word.{block_in}
-use Rattle.papaya_promises.specs.Given.SeizeWords.declared.at.At.TheVariants.{Root, Used, Slot, Entry, Word}
-use Rattle.papaya_promises.specs.Given.Seize.WaitingSets.{Change, Sets, all_changed}
-use Rattle.papaya_promises.specs.Given.Seize.World.{World}
-use Rattle.papaya_promises.specs.Given.Seize.declared.progress.Progress.{Progress}
-use Rattle.papaya_promises.specs.Given.Tables.Nodes.{deferred_word}
-use Rattle.papaya_promises.specs.Given.Tables.declared.node.Node.{Node}
-use Rattle.papaya_promises.specs.Given.Tables.declared.setting.Setting.{Setting}
-use Rattle.papaya_promises.specs.Given.Resize.declared.new_map.NewMap.{NewMap}
-use Rattle.papaya_promises.specs.Given.Schedules.Moment.{Moment}
-use Rattle.papaya_promises.specs.Given.Schedules.declared.effect.Effect.{Effect}
-use Rattle.papaya_promises.specs.Given.Schedules.declared.effect.Effect.TheVariants.{Asked, Reclaimed}
-use Rattle.papaya_promises.specs.Given.Schedules.declared.effect.Growth.TheVariants.{ABlock}
-use Rattle.papaya_promises.specs.Given.Schedules.declared.effect.Thing.{Thing}
-use Rattle.papaya_promises.specs.Given.Schedules.declared.effect.Thing.TheVariants.{APair, ATable}
-use Rattle.papaya_promises.specs.Given.Teller.declared.changed.Changed.{Changed}
-use Rattle.papaya_promises.specs.Given.Teller.declared.changed.Changed.TheVariants as changed
-use Rattle.papaya_promises.specs.Given.Teller.declared.changed.Kind.{Kind}
-use Rattle.papaya_promises.specs.Given.Teller.declared.changed.Kind.TheVariants as kind
-use Rattle.papaya_promises.specs.Given.Effects.Effects.{names_same, named, made_by, taken_by, led_to, effects_of, known_after}
-use Rattle.papaya_promises.specs.Given.Effects.Known.{Known}
-use Rattle.papaya_promises.specs.Given.Effects.declared.acting.Acting.{Acting}
-use Rattle.papaya_promises.specs.Given.Effects.declared.acting.Acting.TheVariants as acts
-use Rattle.papaya_promises.specs.Given.Effects.declared.role.Role.{Role}
-use Rattle.papaya_promises.specs.Given.Effects.declared.role.Role.TheVariants as role
-use Rattle.papaya_promises.specs.Given.Finishes.Endings.{MakingStepsAmong}
-use Rattle.papaya_promises.specs.Given.Finishes.Makings.{Beginning}
-use Rattle.papaya_promises.proofs.Given.Follows.Alike.{is_calm, AllCalm}
-use Rattle.papaya_promises.proofs.Given.Follows.Onward.{IsOfMap}
-use Rattle.papaya_promises.proofs.Given.Follows.Operations.{LeavesBy}
-use Rattle.papaya_promises.specs.Given.Others.Makings.{making_after}
-use Rattle.papaya_promises.proofs.Given.Others.Leads.{word_says}
-use Rattle.papaya_promises.proofs.Given.Others.MakingPlans.{TellsMaking}
-use Rattle.papaya_promises.proofs.Given.Others.Makes.{no_table_word, tells, left}
-use Rattle.papaya_promises.proofs.Given.Spots.Handing.{AllKeep, calm_keep}
-use Rattle.papaya_promises.specs.Given.Moments.Whole.{ShowsWhole}
-use Rattle.papaya_promises.proofs.Given.Moments.Beside.{IsBeside}
-use Rattle.papaya_promises.proofs.Given.Moments.Makings.{before_free, not_of_map}
-use Rattle.papaya_promises.proofs.Given.Moments.MakingSteps.{makings_go_beside}
+use Rattle.papaya_promises.specs.Given.SeizeWordsMem.{value_at}
+use Rattle.papaya_promises.specs.Given.SeizeWordsWord.{block_in}
+use Rattle.papaya_promises.specs.Given.SeizeWordsDeclared.at.At.TheVariants.{Root, Used, Slot, Entry, Word}
+use Rattle.papaya_promises.specs.Given.SeizeWaitingSets.{Change, Sets, all_changed}
+use Rattle.papaya_promises.specs.Given.SeizeWorld.{World}
+use Rattle.papaya_promises.specs.Given.SeizeDeclared.progress.Progress.{Progress}
+use Rattle.papaya_promises.specs.Given.TablesNodes.{deferred_word}
+use Rattle.papaya_promises.specs.Given.TablesDeclared.node.Node.{Node}
+use Rattle.papaya_promises.specs.Given.TablesDeclared.setting.Setting.{Setting}
+use Rattle.papaya_promises.specs.Given.ResizeDeclared.new_map.NewMap.{NewMap}
+use Rattle.papaya_promises.specs.Given.SchedulesMoment.{Moment}
+use Rattle.papaya_promises.specs.Given.SchedulesDeclared.effect.Effect.{Effect}
+use Rattle.papaya_promises.specs.Given.SchedulesDeclared.effect.Effect.TheVariants.{Asked, Reclaimed}
+use Rattle.papaya_promises.specs.Given.SchedulesDeclared.effect.Growth.TheVariants.{ABlock}
+use Rattle.papaya_promises.specs.Given.SchedulesDeclared.effect.Thing.{Thing}
+use Rattle.papaya_promises.specs.Given.SchedulesDeclared.effect.Thing.TheVariants.{APair, ATable}
+use Rattle.papaya_promises.specs.Given.TellerDeclared.changed.Changed.{Changed}
+use Rattle.papaya_promises.specs.Given.TellerDeclared.changed.Changed.TheVariants as changed
+use Rattle.papaya_promises.specs.Given.TellerDeclared.changed.Kind.{Kind}
+use Rattle.papaya_promises.specs.Given.TellerDeclared.changed.Kind.TheVariants as kind
+use Rattle.papaya_promises.specs.Given.EffectsEffects.{names_same, named, made_by, taken_by, led_to, effects_of, known_after}
+use Rattle.papaya_promises.specs.Given.EffectsKnown.{Known}
+use Rattle.papaya_promises.specs.Given.EffectsDeclared.acting.Acting.{Acting}
+use Rattle.papaya_promises.specs.Given.EffectsDeclared.acting.Acting.TheVariants as acts
+use Rattle.papaya_promises.specs.Given.EffectsDeclared.role.Role.{Role}
+use Rattle.papaya_promises.specs.Given.EffectsDeclared.role.Role.TheVariants as role
+use Rattle.papaya_promises.specs.Given.FinishesEndings.{MakingStepsAmong}
+use Rattle.papaya_promises.specs.Given.FinishesMakings.{Beginning}
+use Rattle.papaya_promises.proofs.Given.FollowsAlike.{is_calm, AllCalm}
+use Rattle.papaya_promises.proofs.Given.FollowsOnward.{IsOfMap}
+use Rattle.papaya_promises.proofs.Given.FollowsOperations.{LeavesBy}
+use Rattle.papaya_promises.specs.Given.OthersMakings.{making_after}
+use Rattle.papaya_promises.proofs.Given.OthersLeads.{word_says}
+use Rattle.papaya_promises.proofs.Given.OthersMakingPlans.{TellsMaking}
+use Rattle.papaya_promises.proofs.Given.OthersMakes.{no_table_word, tells, left}
+use Rattle.papaya_promises.proofs.Given.SpotsHanding.{AllKeep, calm_keep}
+use Rattle.papaya_promises.specs.Given.MomentsWhole.{ShowsWhole}
+use Rattle.papaya_promises.proofs.Given.MomentsBeside.{IsBeside}
+use Rattle.papaya_promises.proofs.Given.MomentsMakings.{before_free, not_of_map}
+use Rattle.papaya_promises.proofs.Given.MomentsMakingSteps.{makings_go_beside}
 use Rattle.papaya_promises.specs.Sheltered.{IsOfThing}
 use Rattle.papaya_promises.proofs.Shelters.Makings.{comes_there}
 use Rattle.papaya_models.specs.Alike.{SetsAlike}
@@ -52,9 +52,9 @@ use Rattle.papaya_models.specs.Turns.{sets_of, CameByTurns}
 use Rattle.papaya_models.proofs.Alike.Again.{alike_again}
 use Rattle.papaya_models.proofs.Handing.{nothing_handed}
 use Rattle.papaya_models.proofs.Turns.{users_follow, all_there}
-use Rattle.papaya_promises.specs.Given.Scenes.Held.{Held, IsAt}
-use Rattle.papaya_promises.specs.Given.Scenes.Making.{MakingStepsFrom}
-use Rattle.papaya_promises.specs.Given.Scenes.Scene.{Scene, slot_of}
+use Rattle.papaya_promises.specs.Given.ScenesHeld.{Held, IsAt}
+use Rattle.papaya_promises.specs.Given.ScenesMaking.{MakingStepsFrom}
+use Rattle.papaya_promises.specs.Given.ScenesScene.{Scene, slot_of}
 
 -- a thing is of a map
 pub thing_of_map : (x : Thing) (r : Role) → IsOfThing x r → IsOfMap r

@@ -3,14 +3,14 @@ use Rattle.std.specs.Prelude.{flat_map}
 use Rattle.std.proofs.Common.{◌≡◌, ℕ, Bool, List, [], ◌∷◌, ◌++◌, refl, ap, sym, subst, ◌∙◌}
 use Rattle.std.proofs.lemmas.List.{append-nil}
 use Rattle.std.proofs.lemmas.List.Concat.{flat_map-cons}
-use Rattle.papaya_promises.specs.Given.Seize.WaitingSets.{Change, Sets, all_changed}
-use Rattle.papaya_promises.specs.Given.Schedules.Model.{came, thing_back, handing, things_in, sets_in}
-use Rattle.papaya_promises.specs.Given.Schedules.declared.effect.Effect.{Effect}
-use Rattle.papaya_promises.specs.Given.Schedules.declared.effect.Effect.TheVariants as effect
-use Rattle.papaya_promises.specs.Given.Schedules.declared.effect.Thing.{Thing}
-use Rattle.papaya_promises.specs.Given.Effects.Effects.{effects_of, known_after}
-use Rattle.papaya_promises.specs.Given.Effects.declared.acting.Acting.TheVariants.{Making}
-use Rattle.papaya_promises.proofs.Given.Spots.Handing.{KeepsAll, AllKeep}
+use Rattle.papaya_promises.specs.Given.SeizeWaitingSets.{Change, Sets, all_changed}
+use Rattle.papaya_promises.specs.Given.SchedulesModel.{came, thing_back, handing, things_in, sets_in}
+use Rattle.papaya_promises.specs.Given.SchedulesDeclared.effect.Effect.{Effect}
+use Rattle.papaya_promises.specs.Given.SchedulesDeclared.effect.Effect.TheVariants as effect
+use Rattle.papaya_promises.specs.Given.SchedulesDeclared.effect.Thing.{Thing}
+use Rattle.papaya_promises.specs.Given.EffectsEffects.{effects_of, known_after}
+use Rattle.papaya_promises.specs.Given.EffectsDeclared.acting.Acting.TheVariants.{Making}
+use Rattle.papaya_promises.proofs.Given.SpotsHanding.{KeepsAll, AllKeep}
 use Rattle.papaya_models.specs.CallEvents.{things_then}
 use Rattle.papaya_models.specs.Calls.{EndsNone, EndNone, sets_on}
 use Rattle.papaya_models.specs.Ends.{IsOfEnd, AreOfEnd}

@@ -4,43 +4,43 @@ use Rattle.std.proofs.Common.{◌≡◌, ℕ, Bool, List, [], ◌∷◌, ◌++�
 use Rattle.std.proofs.lemmas.Grind.{flat_map-append}
 use Rattle.std.proofs.lemmas.List.{append-nil, append_cancel_left}
 use Rattle.std.proofs.lemmas.List.Concat.{flat_map-cons}
-use Rattle.papaya_promises.specs.Given.SeizeWords.Mem.{Mem, value_at}
-use Rattle.papaya_promises.specs.Given.Seize.Law.{Effect as EffectOfWorld}
-use Rattle.papaya_promises.specs.Given.Seize.Sequence.{taken_in, changes, new_slot, entered_as, entered_at}
-use Rattle.papaya_promises.specs.Given.Seize.WaitingSets.{Change, ReclaimsAll, Sets, After, all_changed, at_start as sets_at_start}
-use Rattle.papaya_promises.specs.Given.Seize.World.{World, Rests, Step, Begins, Use, Vacant, Outside, Inside, Changing, Request, Register', Enter', Leave', LeaveOwned, Refresh, Unregister', Retire, Flush, Defer'}
-use Rattle.papaya_promises.proofs.Given.SeizeAlone.Histories.Reached.{Reached}
-use Rattle.papaya_promises.proofs.Given.SeizeAlone.Whole.Midway.{taken_append}
-use Rattle.papaya_promises.proofs.Given.SeizeSets.Turns.Append.{changed_append}
-use Rattle.papaya_promises.specs.Given.Callers.Together.{IsOfSlots}
-use Rattle.papaya_promises.proofs.Given.Callers.Together.Came.{came_reached}
-use Rattle.papaya_promises.specs.Given.Tables.Nodes.{deferred_word}
-use Rattle.papaya_promises.specs.Given.Tables.declared.node.Node.{Node}
-use Rattle.papaya_promises.specs.Given.Teller.declared.changed.Changed.{Changed}
-use Rattle.papaya_promises.specs.Given.Teller.declared.changed.Changed.TheVariants as changed
-use Rattle.papaya_promises.specs.Given.Schedules.After.{moment}
-use Rattle.papaya_promises.specs.Given.Schedules.Beginning.{at_work}
-use Rattle.papaya_promises.specs.Given.Schedules.Entry.{Entry}
-use Rattle.papaya_promises.specs.Given.Schedules.Model.{thing_back, number_in, changes_by, things_in, sets_in, changes_of, left_last}
-use Rattle.papaya_promises.specs.Given.Schedules.Moment.{Moment}
-use Rattle.papaya_promises.specs.Given.Schedules.Terms.{Terms}
-use Rattle.papaya_promises.specs.Given.Schedules.declared.effect.Effect.{Effect}
-use Rattle.papaya_promises.specs.Given.Schedules.declared.effect.Thing.{Thing}
-use Rattle.papaya_promises.specs.Given.Schedules.declared.event.Event.{Event}
-use Rattle.papaya_promises.specs.Given.Schedules.declared.event.Event.TheVariants as event
-use Rattle.papaya_promises.specs.Given.Schedules.declared.outcome.Outcome.{Outcome}
-use Rattle.papaya_promises.specs.Given.Schedules.declared.outcome.Outcome.TheVariants as outcome
-use Rattle.papaya_promises.specs.Given.Effects.Effects.{effects_of, known_after}
-use Rattle.papaya_promises.specs.Given.Effects.Known.{Known}
-use Rattle.papaya_promises.specs.Given.Effects.declared.acting.Acting.TheVariants.{Row}
-use Rattle.papaya_promises.specs.Given.Effects.declared.role.Role.{Role}
-use Rattle.papaya_promises.specs.Given.Effects.declared.role.Role.TheVariants as role
-use Rattle.papaya_promises.specs.Given.Scenes.declared.row.RowTold.{RowTold}
-use Rattle.papaya_promises.specs.Given.Scenes.declared.row.SlotRow.{SlotRow}
-use Rattle.papaya_promises.specs.Given.Follows.Blocks.{HasRole, ShowsBlocks}
-use Rattle.papaya_promises.proofs.Given.Follows.Operations.{LeavesBy, operated_leaves}
-use Rattle.papaya_promises.proofs.Given.Others.RowPlans.{TellsRow, row_tells, row_operated}
-use Rattle.papaya_promises.proofs.Given.Moments.OnSlots.{none_some}
+use Rattle.papaya_promises.specs.Given.SeizeWordsMem.{Mem, value_at}
+use Rattle.papaya_promises.specs.Given.SeizeLaw.{Effect as EffectOfWorld}
+use Rattle.papaya_promises.specs.Given.SeizeSequence.{taken_in, changes, new_slot, entered_as, entered_at}
+use Rattle.papaya_promises.specs.Given.SeizeWaitingSets.{Change, ReclaimsAll, Sets, After, all_changed, at_start as sets_at_start}
+use Rattle.papaya_promises.specs.Given.SeizeWorld.{World, Rests, Step, Begins, Use, Vacant, Outside, Inside, Changing, Request, Register', Enter', Leave', LeaveOwned, Refresh, Unregister', Retire, Flush, Defer'}
+use Rattle.papaya_promises.proofs.Given.SeizeAloneHistories.Reached.{Reached}
+use Rattle.papaya_promises.proofs.Given.SeizeAloneWhole.Midway.{taken_append}
+use Rattle.papaya_promises.proofs.Given.SeizeSetsTurns.Append.{changed_append}
+use Rattle.papaya_promises.specs.Given.CallersTogether.{IsOfSlots}
+use Rattle.papaya_promises.proofs.Given.CallersTogether.Came.{came_reached}
+use Rattle.papaya_promises.specs.Given.TablesNodes.{deferred_word}
+use Rattle.papaya_promises.specs.Given.TablesDeclared.node.Node.{Node}
+use Rattle.papaya_promises.specs.Given.TellerDeclared.changed.Changed.{Changed}
+use Rattle.papaya_promises.specs.Given.TellerDeclared.changed.Changed.TheVariants as changed
+use Rattle.papaya_promises.specs.Given.SchedulesAfter.{moment}
+use Rattle.papaya_promises.specs.Given.SchedulesBeginning.{at_work}
+use Rattle.papaya_promises.specs.Given.SchedulesEntry.{Entry}
+use Rattle.papaya_promises.specs.Given.SchedulesModel.{thing_back, number_in, changes_by, things_in, sets_in, changes_of, left_last}
+use Rattle.papaya_promises.specs.Given.SchedulesMoment.{Moment}
+use Rattle.papaya_promises.specs.Given.SchedulesTerms.{Terms}
+use Rattle.papaya_promises.specs.Given.SchedulesDeclared.effect.Effect.{Effect}
+use Rattle.papaya_promises.specs.Given.SchedulesDeclared.effect.Thing.{Thing}
+use Rattle.papaya_promises.specs.Given.SchedulesDeclared.event.Event.{Event}
+use Rattle.papaya_promises.specs.Given.SchedulesDeclared.event.Event.TheVariants as event
+use Rattle.papaya_promises.specs.Given.SchedulesDeclared.outcome.Outcome.{Outcome}
+use Rattle.papaya_promises.specs.Given.SchedulesDeclared.outcome.Outcome.TheVariants as outcome
+use Rattle.papaya_promises.specs.Given.EffectsEffects.{effects_of, known_after}
+use Rattle.papaya_promises.specs.Given.EffectsKnown.{Known}
+use Rattle.papaya_promises.specs.Given.EffectsDeclared.acting.Acting.TheVariants.{Row}
+use Rattle.papaya_promises.specs.Given.EffectsDeclared.role.Role.{Role}
+use Rattle.papaya_promises.specs.Given.EffectsDeclared.role.Role.TheVariants as role
+use Rattle.papaya_promises.specs.Given.ScenesDeclared.row.RowTold.{RowTold}
+use Rattle.papaya_promises.specs.Given.ScenesDeclared.row.SlotRow.{SlotRow}
+use Rattle.papaya_promises.specs.Given.FollowsBlocks.{HasRole, ShowsBlocks}
+use Rattle.papaya_promises.proofs.Given.FollowsOperations.{LeavesBy, operated_leaves}
+use Rattle.papaya_promises.proofs.Given.OthersRowPlans.{TellsRow, row_tells, row_operated}
+use Rattle.papaya_promises.proofs.Given.MomentsOnSlots.{none_some}
 use Rattle.papaya_promises.specs.Sheltered.{IsOfThing}
 use Rattle.papaya_models.specs.Alike.{AreAlike, SetsAlike, AfterAlike, ChangesAlike}
 use Rattle.papaya_models.specs.Follows.{IsFollowed}
@@ -53,10 +53,10 @@ use Rattle.papaya_models.proofs.Follows.{same_things, by_model, sets_then}
 use Rattle.papaya_models.proofs.Numbers.{the_thing, has_one, none_came, none_handed, both_of_row}
 use Rattle.papaya_models.proofs.RowSteps.{it, takes_so, step_back, roles_after}
 use Rattle.papaya_models.proofs.Turns.{rows_begin, rows_go_on, rows_end, all_there}
-use Rattle.papaya_promises.proofs.Given.Scenes.May.{may_row}
-use Rattle.papaya_promises.specs.Given.Scenes.Held.{Held, IsAt}
-use Rattle.papaya_promises.specs.Given.Scenes.OnSlots.{HappensAt, RowSteps}
-use Rattle.papaya_promises.specs.Given.Scenes.Scene.{IsOnSlot, Scene}
+use Rattle.papaya_promises.proofs.Given.ScenesMay.{may_row}
+use Rattle.papaya_promises.specs.Given.ScenesHeld.{Held, IsAt}
+use Rattle.papaya_promises.specs.Given.ScenesOnSlots.{HappensAt, RowSteps}
+use Rattle.papaya_promises.specs.Given.ScenesScene.{IsOnSlot, Scene}
 
 -- a row on slots that begins has done nothing yet
 begun_log : {T : Type 0} (defers : T → Option ℕ) (size i : ℕ) (request : Request) (w w2 : World T) → IsOfSlots request → Begins defers size i request w w2 → w2.log ≡ w.log

@@ -2,21 +2,21 @@
 use Rattle.std.specs.Prelude.{flat_map, map}
 use Rattle.std.proofs.Common.{◌≡◌, ◌≤◌, ℕ, suc, List, [], ◌∷◌, ◌++◌, refl, ap, sym, subst, ◌∙◌}
 use Rattle.std.proofs.lemmas.List.Concat.{flat_map-cons}
-use Rattle.papaya_promises.specs.Given.Seize.WaitingSets.{Change, Enters, Leaves, Refreshes, Retires, Flushes, Defers, Ends, ReclaimsAll, Sets, size, ended, all_changed}
-use Rattle.papaya_promises.specs.Given.SeizeWaiting.Handed.{HandOverBy}
-use Rattle.papaya_promises.specs.Given.SeizeWaiting.Held.{count}
-use Rattle.papaya_promises.proofs.Given.SeizeWaiting.Flushes.{retired_all_frame}
-use Rattle.papaya_promises.proofs.Given.SeizeWaiting.Laws.{active_slots_wait}
-use Rattle.papaya_promises.specs.Given.Schedules.Model.{number_in, handing, things_in, sets_in}
-use Rattle.papaya_promises.specs.Given.Schedules.declared.effect.Effect.{Effect}
-use Rattle.papaya_promises.specs.Given.Schedules.declared.effect.Effect.TheVariants as effect
-use Rattle.papaya_promises.specs.Given.Schedules.declared.effect.Thing.{Thing}
-use Rattle.papaya_promises.specs.Given.Schedules.declared.effect.Thing.TheVariants.{ATable}
+use Rattle.papaya_promises.specs.Given.SeizeWaitingSets.{Change, Enters, Leaves, Refreshes, Retires, Flushes, Defers, Ends, ReclaimsAll, Sets, size, ended, all_changed}
+use Rattle.papaya_promises.specs.Given.SeizeWaitingHanded.{HandOverBy}
+use Rattle.papaya_promises.specs.Given.SeizeWaitingHeld.{count}
+use Rattle.papaya_promises.proofs.Given.SeizeWaitingFlushes.{retired_all_frame}
+use Rattle.papaya_promises.proofs.Given.SeizeWaitingLaws.{active_slots_wait}
+use Rattle.papaya_promises.specs.Given.SchedulesModel.{number_in, handing, things_in, sets_in}
+use Rattle.papaya_promises.specs.Given.SchedulesDeclared.effect.Effect.{Effect}
+use Rattle.papaya_promises.specs.Given.SchedulesDeclared.effect.Effect.TheVariants as effect
+use Rattle.papaya_promises.specs.Given.SchedulesDeclared.effect.Thing.{Thing}
+use Rattle.papaya_promises.specs.Given.SchedulesDeclared.effect.Thing.TheVariants.{ATable}
 use Rattle.papaya_models.specs.Calls.{EndsNone, EndNone, InsidesFollow, HandingIsByModel}
 use Rattle.papaya_models.specs.Others.{HandsNone, HandNone, MapsAreByModel}
 use Rattle.papaya_models.proofs.Follows.{by_model, sets_then}
 use Rattle.papaya_models.proofs.Turns.{inside_active}
-use Rattle.papaya_promises.specs.Given.Tables.Nodes.{deferred_word}
+use Rattle.papaya_promises.specs.Given.TablesNodes.{deferred_word}
 
 -- nothing is reclaimed, and the same slots are active
 record IsQuiet (batch_size : ℕ) (changes : List Change) (w : Sets) : Type 0 where

@@ -3,21 +3,21 @@ use Rattle.std.specs.Prelude.{Option}
 use Rattle.std.proofs.Common.{◌≡◌, ◌<◌, ◌^◌, ◌+◌, ℕ, Bool, List, [], ◌++◌, refl, ap, sym, subst, ◌∙◌, arith, inl, inr}
 use Rattle.std.proofs.lemmas.Bool.{cases_lt}
 use Rattle.std.proofs.lemmas.List.{append-nil}
-use Rattle.papaya_promises.specs.Given.SeizeWords.declared.at.At.TheVariants as name
-use Rattle.papaya_promises.specs.Given.Seize.Sequence.{taken_in}
-use Rattle.papaya_promises.specs.Given.Seize.declared.states.TheConstants.{BATCH, LAST_SLOT}
-use Rattle.papaya_promises.specs.Given.Seize.WaitingSets.{Change, Sets, After, all_reclaimed, quietly, at_start as sets_at_start}
-use Rattle.papaya_promises.specs.Given.Seize.World.{World, Vacant, at_start}
-use Rattle.papaya_promises.proofs.Given.SeizeRule.Words.Named.{words_of}
-use Rattle.papaya_promises.proofs.Given.SeizeRule.World.Rested.{start_rested}
-use Rattle.papaya_promises.specs.Given.SeizeSets.Reclaims.{Reclaims, NothingWaits}
-use Rattle.papaya_promises.proofs.Given.SeizeSets.Reclaims.Ends.{Left, all_left_so, none_closed}
-use Rattle.papaya_promises.proofs.Given.SeizeSets.Reclaims.NeverTaken.{turns_past}
-use Rattle.papaya_promises.proofs.Given.SeizeSets.Reclaims.Rounds.{reclaimed_quiet}
-use Rattle.papaya_promises.proofs.Given.SeizeSets.Reclaims.Sets.{active_is, is_inside, open_none}
-use Rattle.papaya_promises.proofs.Given.SeizeSets.Turns.All.{turns_shown, start_shown}
-use Rattle.papaya_promises.proofs.Given.SeizeSets.Turns.Append.{turns_append, changed_append}
-use Rattle.papaya_promises.proofs.Given.SeizeSets.Turns.Begins.{Shown}
+use Rattle.papaya_promises.specs.Given.SeizeWordsDeclared.at.At.TheVariants as name
+use Rattle.papaya_promises.specs.Given.SeizeSequence.{taken_in}
+use Rattle.papaya_promises.specs.Given.SeizeDeclared.states.TheConstants.{BATCH, LAST_SLOT}
+use Rattle.papaya_promises.specs.Given.SeizeWaitingSets.{Change, Sets, After, all_reclaimed, quietly, at_start as sets_at_start}
+use Rattle.papaya_promises.specs.Given.SeizeWorld.{World, Vacant, at_start}
+use Rattle.papaya_promises.proofs.Given.SeizeRuleWords.Named.{words_of}
+use Rattle.papaya_promises.proofs.Given.SeizeRuleWorld.Rested.{start_rested}
+use Rattle.papaya_promises.specs.Given.SeizeSetsReclaims.{Reclaims, NothingWaits}
+use Rattle.papaya_promises.proofs.Given.SeizeSetsReclaims.Ends.{Left, all_left_so, none_closed}
+use Rattle.papaya_promises.proofs.Given.SeizeSetsReclaims.NeverTaken.{turns_past}
+use Rattle.papaya_promises.proofs.Given.SeizeSetsReclaims.Rounds.{reclaimed_quiet}
+use Rattle.papaya_promises.proofs.Given.SeizeSetsReclaims.Sets.{active_is, is_inside, open_none}
+use Rattle.papaya_promises.proofs.Given.SeizeSetsTurns.All.{turns_shown, start_shown}
+use Rattle.papaya_promises.proofs.Given.SeizeSetsTurns.Append.{turns_append, changed_append}
+use Rattle.papaya_promises.proofs.Given.SeizeSetsTurns.Begins.{Shown}
 use Rattle.papaya_models.specs.Reclaims.{HasReclaimed}
 use Rattle.papaya_models.specs.Turns.{sets_of, CameByTurns}
 

@@ -2,22 +2,22 @@
 use Rattle.std.specs.Prelude.{◌==◌, ◌<◌, ◌%◌, ◌^◌, nat_lt, Option, Some, Ok, Err, if◌then◌else◌}
 use Rattle.std.proofs.Common.{◌≡◌, ℕ, ◌+◌, ◌-◌, Bool, true, false, refl, ap, sym, subst, arith, ◌∙◌}
 use Rattle.std.proofs.lemmas.Bool.{eq-eqb, ne_eqb}
-use Rattle.papaya_promises.specs.Given.SeizeWords.declared.at.At.TheVariants.{Slot, Entry}
-use Rattle.papaya_promises.specs.Given.SeizeWords.Mem.{Mem, value_at, word_at, with_word, Gives, Took, after}
-use Rattle.papaya_promises.specs.Given.SeizeWords.Op.{Out, Load, Exchange, Found, Exchanged}
-use Rattle.papaya_promises.specs.Given.SeizeWords.Plan.{Now, Ends, Steps}
-use Rattle.papaya_promises.specs.Given.SeizeWords.Word.{link_to, block_in}
-use Rattle.papaya_promises.specs.Given.Seize.declared.states.TheConstants.{BATCH, HELD, NEVER, ACTIVE, NEXT, FIRST, LAST_SLOT}
-use Rattle.papaya_promises.specs.Given.Seize.declared.rows.settle.Settle.{Settle}
-use Rattle.papaya_promises.specs.Given.Seize.declared.rows.settle.Settled.{Settled}
-use Rattle.papaya_promises.specs.Given.Seize.declared.rows.settle.Settled.TheVariants as settled
-use Rattle.papaya_promises.specs.Given.Seize.declared.rows.settle.Settling.{Settling}
-use Rattle.papaya_promises.specs.Given.Seize.declared.rows.settle.Settling.TheVariants as at
-use Rattle.papaya_promises.specs.Given.Seize.Settle.{standing, with_batch, onward, behind, pushed_of, needs_none, closed, scanning, to, goes, seen, taken_hold, popped, first_read, counted, scanned, marked_next, slot_read, push_told, next_pushed, summed, plan_at}
-use Rattle.papaya_promises.specs.Given.Seize.World.{World, Rests, Settles, settles_on}
-use Rattle.papaya_promises.proofs.Given.SeizeRule.Points.Retire.{of_link}
-use Rattle.papaya_promises.proofs.Given.SeizeRule.Rows.Others.{with_here}
-use Rattle.papaya_promises.specs.Given.Hands.Rows.{IsAside, SettlesAside}
+use Rattle.papaya_promises.specs.Given.SeizeWordsDeclared.at.At.TheVariants.{Slot, Entry}
+use Rattle.papaya_promises.specs.Given.SeizeWordsMem.{Mem, value_at, word_at, with_word, Gives, Took, after}
+use Rattle.papaya_promises.specs.Given.SeizeWordsOp.{Out, Load, Exchange, Found, Exchanged}
+use Rattle.papaya_promises.specs.Given.SeizeWordsPlan.{Now, Ends, Steps}
+use Rattle.papaya_promises.specs.Given.SeizeWordsWord.{link_to, block_in}
+use Rattle.papaya_promises.specs.Given.SeizeDeclared.states.TheConstants.{BATCH, HELD, NEVER, ACTIVE, NEXT, FIRST, LAST_SLOT}
+use Rattle.papaya_promises.specs.Given.SeizeDeclared.rows.settle.Settle.{Settle}
+use Rattle.papaya_promises.specs.Given.SeizeDeclared.rows.settle.Settled.{Settled}
+use Rattle.papaya_promises.specs.Given.SeizeDeclared.rows.settle.Settled.TheVariants as settled
+use Rattle.papaya_promises.specs.Given.SeizeDeclared.rows.settle.Settling.{Settling}
+use Rattle.papaya_promises.specs.Given.SeizeDeclared.rows.settle.Settling.TheVariants as at
+use Rattle.papaya_promises.specs.Given.SeizeSettle.{standing, with_batch, onward, behind, pushed_of, needs_none, closed, scanning, to, goes, seen, taken_hold, popped, first_read, counted, scanned, marked_next, slot_read, push_told, next_pushed, summed, plan_at}
+use Rattle.papaya_promises.specs.Given.SeizeWorld.{World, Rests, Settles, settles_on}
+use Rattle.papaya_promises.proofs.Given.SeizeRulePoints.Retire.{of_link}
+use Rattle.papaya_promises.proofs.Given.SeizeRuleRows.Others.{with_here}
+use Rattle.papaya_promises.specs.Given.HandsRows.{IsAside, SettlesAside}
 use Rattle.papaya_models.specs.Retires.{IsToRetireAt, IsToRetire, IsPast, HasRetired}
 
 abbrev IsOn : {T : Type 0} → Settled T → Type 0

@@ -3,36 +3,36 @@ use Rattle.std.specs.Prelude.{◌&&◌, ◌==◌, ◌⊎◌, nat_lt, flat_map, i
 use Rattle.std.proofs.Common.{◌≡◌, ℕ, ◌+◌, Bool, true, false, List, [], ◌∷◌, ◌++◌, inl, inr, refl, ap, sym, subst, arith, eqb-true, ◌∙◌}
 use Rattle.std.proofs.lemmas.List.{append-nil}
 use Rattle.std.proofs.lemmas.List.Concat.{flat_map-cons}
-use Rattle.papaya_promises.specs.Given.SeizeWords.Mem.{value_at}
-use Rattle.papaya_promises.specs.Given.SeizeWords.declared.at.At.TheVariants.{Root, Used, Slot, Entry, Word}
-use Rattle.papaya_promises.specs.Given.Seize.Law.{Effect, Taken, is_retired, IsSound}
-use Rattle.papaya_promises.specs.Given.Seize.Sequence.{taken_in}
-use Rattle.papaya_promises.specs.Given.Seize.World.{World, Steps', times}
-use Rattle.papaya_promises.specs.Given.Seize.declared.states.TheConstants.{LAST_SLOT}
-use Rattle.papaya_promises.proofs.Given.SeizeMoves.State.Ghost.{Life, IsFree, IsOwned, IsLinked, IsUnlinked, IsDeferring, IsDeferred, IsPending, IsIn, IsDoomed, IsLeft, is_given}
-use Rattle.papaya_promises.proofs.Given.SeizeRule.Rows.Effects.{IsOneStep}
-use Rattle.papaya_promises.proofs.Given.SeizeRule.Words.Shows.{lives}
-use Rattle.papaya_promises.proofs.Given.SeizeRule.Words.There.{value_there}
-use Rattle.papaya_promises.proofs.Given.SeizeAlone.Histories.NotTaken.{did, taken_gone}
-use Rattle.papaya_promises.proofs.Given.SeizeAlone.Histories.Reached.{Reached, steps_reached}
-use Rattle.papaya_promises.proofs.Given.SeizeAlone.Spared.Rows.{RowStepped}
-use Rattle.papaya_promises.specs.Given.Tables.declared.node.Node.{Node}
-use Rattle.papaya_promises.specs.Given.Teller.declared.changed.Changed.{Changed}
-use Rattle.papaya_promises.specs.Given.Teller.declared.changed.Changed.TheVariants as changed
-use Rattle.papaya_promises.specs.Given.Schedules.Model.{thing_back}
-use Rattle.papaya_promises.specs.Given.Schedules.declared.effect.Effect.TheVariants as effect
-use Rattle.papaya_promises.specs.Given.Schedules.declared.effect.Growth.TheVariants.{ABucket}
-use Rattle.papaya_promises.specs.Given.Schedules.declared.effect.Thing.{Thing}
-use Rattle.papaya_promises.specs.Given.Schedules.declared.effect.Thing.TheVariants.{APair, ATable}
-use Rattle.papaya_promises.specs.Given.Effects.Effects.{names_same, taken_by, effects_of, known_after}
-use Rattle.papaya_promises.specs.Given.Effects.Known.{Known}
-use Rattle.papaya_promises.specs.Given.Effects.declared.acting.Acting.TheVariants.{Row}
-use Rattle.papaya_promises.specs.Given.Effects.declared.role.Role.{Role}
-use Rattle.papaya_promises.specs.Given.Effects.declared.role.Role.TheVariants as role
-use Rattle.papaya_promises.proofs.Given.Follows.Operations.{LeavesBy, StaysThere}
-use Rattle.papaya_promises.proofs.Given.Follows.Told.{roomed_as_many}
-use Rattle.papaya_promises.proofs.Given.Others.RowPlans.{TellsRow}
-use Rattle.papaya_promises.proofs.Given.Moments.OnSlots.{none_some}
+use Rattle.papaya_promises.specs.Given.SeizeWordsMem.{value_at}
+use Rattle.papaya_promises.specs.Given.SeizeWordsDeclared.at.At.TheVariants.{Root, Used, Slot, Entry, Word}
+use Rattle.papaya_promises.specs.Given.SeizeLaw.{Effect, Taken, is_retired, IsSound}
+use Rattle.papaya_promises.specs.Given.SeizeSequence.{taken_in}
+use Rattle.papaya_promises.specs.Given.SeizeWorld.{World, Steps', times}
+use Rattle.papaya_promises.specs.Given.SeizeDeclared.states.TheConstants.{LAST_SLOT}
+use Rattle.papaya_promises.proofs.Given.SeizeMovesState.Ghost.{Life, IsFree, IsOwned, IsLinked, IsUnlinked, IsDeferring, IsDeferred, IsPending, IsIn, IsDoomed, IsLeft, is_given}
+use Rattle.papaya_promises.proofs.Given.SeizeRuleRows.Effects.{IsOneStep}
+use Rattle.papaya_promises.proofs.Given.SeizeRuleWords.Shows.{lives}
+use Rattle.papaya_promises.proofs.Given.SeizeRuleWords.There.{value_there}
+use Rattle.papaya_promises.proofs.Given.SeizeAloneHistories.NotTaken.{did, taken_gone}
+use Rattle.papaya_promises.proofs.Given.SeizeAloneHistories.Reached.{Reached, steps_reached}
+use Rattle.papaya_promises.proofs.Given.SeizeAloneSpared.Rows.{RowStepped}
+use Rattle.papaya_promises.specs.Given.TablesDeclared.node.Node.{Node}
+use Rattle.papaya_promises.specs.Given.TellerDeclared.changed.Changed.{Changed}
+use Rattle.papaya_promises.specs.Given.TellerDeclared.changed.Changed.TheVariants as changed
+use Rattle.papaya_promises.specs.Given.SchedulesModel.{thing_back}
+use Rattle.papaya_promises.specs.Given.SchedulesDeclared.effect.Effect.TheVariants as effect
+use Rattle.papaya_promises.specs.Given.SchedulesDeclared.effect.Growth.TheVariants.{ABucket}
+use Rattle.papaya_promises.specs.Given.SchedulesDeclared.effect.Thing.{Thing}
+use Rattle.papaya_promises.specs.Given.SchedulesDeclared.effect.Thing.TheVariants.{APair, ATable}
+use Rattle.papaya_promises.specs.Given.EffectsEffects.{names_same, taken_by, effects_of, known_after}
+use Rattle.papaya_promises.specs.Given.EffectsKnown.{Known}
+use Rattle.papaya_promises.specs.Given.EffectsDeclared.acting.Acting.TheVariants.{Row}
+use Rattle.papaya_promises.specs.Given.EffectsDeclared.role.Role.{Role}
+use Rattle.papaya_promises.specs.Given.EffectsDeclared.role.Role.TheVariants as role
+use Rattle.papaya_promises.proofs.Given.FollowsOperations.{LeavesBy, StaysThere}
+use Rattle.papaya_promises.proofs.Given.FollowsTold.{roomed_as_many}
+use Rattle.papaya_promises.proofs.Given.OthersRowPlans.{TellsRow}
+use Rattle.papaya_promises.proofs.Given.MomentsOnSlots.{none_some}
 use Rattle.papaya_models.specs.Numbers.{things_of, AreOfRow}
 
 -- which blocks a step took away, as it is told

@@ -2,11 +2,11 @@
 use Rattle.std.specs.Prelude.{◌==◌, if◌then◌else◌, Some}
 use Rattle.std.proofs.Common.{◌≡◌, ◌≢◌, ℕ, Bool, List, [], ◌∷◌, refl, ap, sym, ◌∙◌}
 use Rattle.std.proofs.lemmas.Bool.{eq-eqb, ne_eqb}
-use Rattle.papaya_promises.specs.Given.Seize.Sequence.{new_slot, entered_as, entered_at, changes}
-use Rattle.papaya_promises.specs.Given.Seize.WaitingSets.{Change, Enters, Leaves, Refreshes}
-use Rattle.papaya_promises.specs.Given.Seize.World.{Use, Vacant, Outside, Inside, Changing, IsInside, Register'}
-use Rattle.papaya_promises.proofs.Given.SeizeSets.Slots.Least.{refused_changes}
-use Rattle.papaya_promises.specs.Given.Runs.Present.{slot_of_registration, slot_of_guard}
+use Rattle.papaya_promises.specs.Given.SeizeSequence.{new_slot, entered_as, entered_at, changes}
+use Rattle.papaya_promises.specs.Given.SeizeWaitingSets.{Change, Enters, Leaves, Refreshes}
+use Rattle.papaya_promises.specs.Given.SeizeWorld.{Use, Vacant, Outside, Inside, Changing, IsInside, Register'}
+use Rattle.papaya_promises.proofs.Given.SeizeSetsSlots.Least.{refused_changes}
+use Rattle.papaya_promises.specs.Given.RunsPresent.{slot_of_registration, slot_of_guard}
 use Rattle.papaya_models.specs.Rows.{guards_at, EventsAreRows}
 
 -- one guard more or less is on a slot

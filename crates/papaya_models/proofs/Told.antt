@@ -2,42 +2,42 @@
 use Rattle.std.specs.Prelude.{◌&&◌, ◌==◌, ◌%◌, ◌^◌, Option, Some, None, Ok, Err, IsSome, if◌then◌else◌, nat_lt}
 use Rattle.std.proofs.Common.{◌≡◌, ℕ, ◌+◌, Bool, true, false, List, [], ◌∷◌, inl, inr, refl, ap, sym, subst, arith, ◌∙◌}
 use Rattle.std.proofs.lemmas.Bool.{eq-eqb}
-use Rattle.papaya_promises.specs.Given.SeizeWords.declared.at.At.{At}
-use Rattle.papaya_promises.specs.Given.SeizeWords.declared.at.At.TheVariants.{Root, Used, Slot, Entry, Word}
-use Rattle.papaya_promises.specs.Given.SeizeWords.Mem.{Mem, same_at, block_of, value_in, value_at, word_at, with_block, with_room, with_word, fresh, Can, Took}
-use Rattle.papaya_promises.specs.Given.SeizeWords.Op.{Op, Out, Load, Store, Swap, Add, Or, Exchange, Make, Take, Rewrite, Room, Found, Exchanged, Made, Taken, Roomed}
-use Rattle.papaya_promises.specs.Given.SeizeWords.Word.{block_in, link_to}
-use Rattle.papaya_promises.proofs.Given.SeizeWords.OneOwner.AfterWrites.{word_at-with_word, word_at-with_value, value_at-with_word, block_of-with_block, block_of-made}
-use Rattle.papaya_promises.specs.Given.Seize.declared.states.TheConstants.{FIRST}
-use Rattle.papaya_promises.proofs.Given.SeizeRule.Words.Named.{same_at-true, block_there}
-use Rattle.papaya_promises.proofs.Given.SeizeRule.Points.Retire.{of_link}
-use Rattle.papaya_promises.proofs.Given.Hands.Handing.{IsHanding}
-use Rattle.papaya_promises.specs.Given.Tables.declared.table_words.TheConstants.{DEFERRED}
-use Rattle.papaya_promises.specs.Given.Tables.declared.node.Node.{Node}
-use Rattle.papaya_promises.specs.Given.Tells.Seen.{seen_of, word_or}
-use Rattle.papaya_promises.specs.Given.Teller.Tells.{told_of}
-use Rattle.papaya_promises.specs.Given.Teller.declared.changed.Changed.{Changed}
-use Rattle.papaya_promises.specs.Given.Teller.declared.changed.Changed.TheVariants as changed
-use Rattle.papaya_promises.specs.Given.Teller.declared.changed.Kind.{Kind}
-use Rattle.papaya_promises.specs.Given.Teller.declared.changed.Kind.TheVariants as kind
-use Rattle.papaya_promises.specs.Given.Schedules.declared.effect.Effect.{Effect}
-use Rattle.papaya_promises.specs.Given.Schedules.declared.effect.Effect.TheVariants as effect
-use Rattle.papaya_promises.specs.Given.Schedules.declared.effect.Growth.TheVariants.{ABucket, ABlock}
-use Rattle.papaya_promises.specs.Given.Schedules.declared.effect.Table.{Table}
-use Rattle.papaya_promises.specs.Given.Schedules.declared.effect.Thing.{Thing}
-use Rattle.papaya_promises.specs.Given.Schedules.declared.effect.Thing.TheVariants.{APair, ATable}
-use Rattle.papaya_promises.specs.Given.Effects.Effects.{names_same, named, led_to, in_block, batched, made_by, taken_by, effects_of, known_after}
-use Rattle.papaya_promises.specs.Given.Effects.Known.{Known, with_role}
-use Rattle.papaya_promises.specs.Given.Effects.declared.acting.Acting.{Acting}
-use Rattle.papaya_promises.specs.Given.Effects.declared.acting.Acting.TheVariants.{Call}
-use Rattle.papaya_promises.specs.Given.Effects.declared.role.Role.{Role}
-use Rattle.papaya_promises.specs.Given.Effects.declared.role.Role.TheVariants as role
-use Rattle.papaya_promises.proofs.Given.Follows.OfEach.{OfEach, led_so, operation_so}
-use Rattle.papaya_promises.proofs.Given.Follows.Onward.{IsLasting, IsOfMap, KeepsRoles}
-use Rattle.papaya_promises.proofs.Given.Follows.Operations.{Operated}
+use Rattle.papaya_promises.specs.Given.SeizeWordsDeclared.at.At.{At}
+use Rattle.papaya_promises.specs.Given.SeizeWordsDeclared.at.At.TheVariants.{Root, Used, Slot, Entry, Word}
+use Rattle.papaya_promises.specs.Given.SeizeWordsMem.{Mem, same_at, block_of, value_in, value_at, word_at, with_block, with_room, with_word, fresh, Can, Took}
+use Rattle.papaya_promises.specs.Given.SeizeWordsOp.{Op, Out, Load, Store, Swap, Add, Or, Exchange, Make, Take, Rewrite, Room, Found, Exchanged, Made, Taken, Roomed}
+use Rattle.papaya_promises.specs.Given.SeizeWordsWord.{block_in, link_to}
+use Rattle.papaya_promises.proofs.Given.SeizeWordsOneOwner.AfterWrites.{word_at-with_word, word_at-with_value, value_at-with_word, block_of-with_block, block_of-made}
+use Rattle.papaya_promises.specs.Given.SeizeDeclared.states.TheConstants.{FIRST}
+use Rattle.papaya_promises.proofs.Given.SeizeRuleWords.Named.{same_at-true, block_there}
+use Rattle.papaya_promises.proofs.Given.SeizeRulePoints.Retire.{of_link}
+use Rattle.papaya_promises.proofs.Given.HandsHanding.{IsHanding}
+use Rattle.papaya_promises.specs.Given.TablesDeclared.table_words.TheConstants.{DEFERRED}
+use Rattle.papaya_promises.specs.Given.TablesDeclared.node.Node.{Node}
+use Rattle.papaya_promises.specs.Given.TellsSeen.{seen_of, word_or}
+use Rattle.papaya_promises.specs.Given.TellerTells.{told_of}
+use Rattle.papaya_promises.specs.Given.TellerDeclared.changed.Changed.{Changed}
+use Rattle.papaya_promises.specs.Given.TellerDeclared.changed.Changed.TheVariants as changed
+use Rattle.papaya_promises.specs.Given.TellerDeclared.changed.Kind.{Kind}
+use Rattle.papaya_promises.specs.Given.TellerDeclared.changed.Kind.TheVariants as kind
+use Rattle.papaya_promises.specs.Given.SchedulesDeclared.effect.Effect.{Effect}
+use Rattle.papaya_promises.specs.Given.SchedulesDeclared.effect.Effect.TheVariants as effect
+use Rattle.papaya_promises.specs.Given.SchedulesDeclared.effect.Growth.TheVariants.{ABucket, ABlock}
+use Rattle.papaya_promises.specs.Given.SchedulesDeclared.effect.Table.{Table}
+use Rattle.papaya_promises.specs.Given.SchedulesDeclared.effect.Thing.{Thing}
+use Rattle.papaya_promises.specs.Given.SchedulesDeclared.effect.Thing.TheVariants.{APair, ATable}
+use Rattle.papaya_promises.specs.Given.EffectsEffects.{names_same, named, led_to, in_block, batched, made_by, taken_by, effects_of, known_after}
+use Rattle.papaya_promises.specs.Given.EffectsKnown.{Known, with_role}
+use Rattle.papaya_promises.specs.Given.EffectsDeclared.acting.Acting.{Acting}
+use Rattle.papaya_promises.specs.Given.EffectsDeclared.acting.Acting.TheVariants.{Call}
+use Rattle.papaya_promises.specs.Given.EffectsDeclared.role.Role.{Role}
+use Rattle.papaya_promises.specs.Given.EffectsDeclared.role.Role.TheVariants as role
+use Rattle.papaya_promises.proofs.Given.FollowsOfEach.{OfEach, led_so, operation_so}
+use Rattle.papaya_promises.proofs.Given.FollowsOnward.{IsLasting, IsOfMap, KeepsRoles}
+use Rattle.papaya_promises.proofs.Given.FollowsOperations.{Operated}
 use Rattle.papaya_promises.specs.Sheltered.{IsOfThing}
 use Rattle.papaya_models.specs.Numbers.{NoneBack}
-use Rattle.papaya_promises.proofs.Given.Spots.Handing.{AllKeep}
+use Rattle.papaya_promises.proofs.Given.SpotsHanding.{AllKeep}
 
 -- words that are the same name the same
 same_names : (old new : ℕ) → new ≡ old → names_same old new ≡ true

@@ -3,23 +3,23 @@ use Rattle.std.specs.Prelude.{Option, Some, None, IsSome}
 use Rattle.std.proofs.Common.{◌≡◌, ◌≤◌, ◌<◌, ◌^◌, ◌+◌, ℕ, suc, true, List, [], ◌∷◌, ◌++◌, refl, ap, sym, subst}
 use Rattle.std.proofs.Math.Path.{fun_ext}
 use Rattle.std.proofs.lemmas.List.{append-nil}
-use Rattle.papaya_promises.specs.Given.Seize.Sequence.{Turn, Whole, Between, IsBetween, IsUsers, Calls, TakesTurns, changes, ended_by}
-use Rattle.papaya_promises.specs.Given.Seize.WaitingSets.{Change, at_start as sets_at_start}
-use Rattle.papaya_promises.specs.Given.Seize.World.{World, Row, Rests, Request, Event, Begin, Step, Ends, LeavesOver, Relinks, Clears, Hand, Handed, IsInside, at_start}
-use Rattle.papaya_promises.specs.Given.Seize.declared.states.TheConstants.{LAST_SLOT}
-use Rattle.papaya_promises.specs.Given.SeizeWords.Mem.{value_at}
-use Rattle.papaya_promises.specs.Given.SeizeWaiting.Held.{count, Every}
-use Rattle.papaya_promises.proofs.Given.SeizeMoves.State.Ghost.{Life, IsFree, IsOwned, IsLinked, IsUnlinked, IsDeferring, IsDeferred, IsPending, IsIn, IsDoomed, IsLeft}
-use Rattle.papaya_promises.proofs.Given.SeizeRule.Points.Aside.{HandFits, is_handed}
-use Rattle.papaya_promises.proofs.Given.SeizeRule.Words.Shows.{lives}
-use Rattle.papaya_promises.proofs.Given.SeizeRule.Words.There.{value_there}
-use Rattle.papaya_promises.proofs.Given.SeizeRule.World.Rested.{Rested, start_rested, turns_rested}
-use Rattle.papaya_promises.proofs.Given.SeizeSets.Turns.All.{rows_follow, turns_shown, start_shown}
-use Rattle.papaya_promises.proofs.Given.SeizeSets.Turns.Append.{turns_append}
-use Rattle.papaya_promises.proofs.Given.SeizeSets.Turns.Begins.{Shown}
-use Rattle.papaya_promises.specs.Given.SeizeAlone.Alone.{History, IsHistory, at_rest}
-use Rattle.papaya_promises.proofs.Given.SeizeAlone.Laws.{waiting_was_handed, carriers_are_there, carriers_have_lists, insides_are_active}
-use Rattle.papaya_promises.proofs.Given.SeizeAlone.Whole.Register.{steps_more, steps_end}
+use Rattle.papaya_promises.specs.Given.SeizeSequence.{Turn, Whole, Between, IsBetween, IsUsers, Calls, TakesTurns, changes, ended_by}
+use Rattle.papaya_promises.specs.Given.SeizeWaitingSets.{Change, at_start as sets_at_start}
+use Rattle.papaya_promises.specs.Given.SeizeWorld.{World, Row, Rests, Request, Event, Begin, Step, Ends, LeavesOver, Relinks, Clears, Hand, Handed, IsInside, at_start}
+use Rattle.papaya_promises.specs.Given.SeizeDeclared.states.TheConstants.{LAST_SLOT}
+use Rattle.papaya_promises.specs.Given.SeizeWordsMem.{value_at}
+use Rattle.papaya_promises.specs.Given.SeizeWaitingHeld.{count, Every}
+use Rattle.papaya_promises.proofs.Given.SeizeMovesState.Ghost.{Life, IsFree, IsOwned, IsLinked, IsUnlinked, IsDeferring, IsDeferred, IsPending, IsIn, IsDoomed, IsLeft}
+use Rattle.papaya_promises.proofs.Given.SeizeRulePoints.Aside.{HandFits, is_handed}
+use Rattle.papaya_promises.proofs.Given.SeizeRuleWords.Shows.{lives}
+use Rattle.papaya_promises.proofs.Given.SeizeRuleWords.There.{value_there}
+use Rattle.papaya_promises.proofs.Given.SeizeRuleWorld.Rested.{Rested, start_rested, turns_rested}
+use Rattle.papaya_promises.proofs.Given.SeizeSetsTurns.All.{rows_follow, turns_shown, start_shown}
+use Rattle.papaya_promises.proofs.Given.SeizeSetsTurns.Append.{turns_append}
+use Rattle.papaya_promises.proofs.Given.SeizeSetsTurns.Begins.{Shown}
+use Rattle.papaya_promises.specs.Given.SeizeAloneAlone.{History, IsHistory, at_rest}
+use Rattle.papaya_promises.proofs.Given.SeizeAloneLaws.{waiting_was_handed, carriers_are_there, carriers_have_lists, insides_are_active}
+use Rattle.papaya_promises.proofs.Given.SeizeAloneWhole.Register.{steps_more, steps_end}
 use Rattle.papaya_models.specs.Alike.{AllAre}
 use Rattle.papaya_models.specs.Turns.{sets_of, CameByTurns, IsInRow, TurnsBegin, RowsBegin, RowsGoOn, RowsEnd, EventsFollow, UsersFollow}
 use Rattle.papaya_models.proofs.Alike.Again.{all_are}

@@ -2,24 +2,24 @@
 use Rattle.std.specs.Prelude.{◌==◌, Option, Some, Ok, Err, IsSome, if◌then◌else◌}
 use Rattle.std.proofs.Common.{◌≡◌, ℕ, Bool, true, false, List, [], ◌∷◌, refl, ap, sym, subst, arith, eqb-true, ◌∙◌}
 use Rattle.std.proofs.lemmas.Bool.{eq-eqb}
-use Rattle.papaya_promises.specs.Given.SeizeWords.declared.at.At.{At}
-use Rattle.papaya_promises.specs.Given.SeizeWords.declared.at.At.TheVariants.{Root, Used, Slot, Entry, Word}
-use Rattle.papaya_promises.specs.Given.SeizeWords.declared.block.Block.{Block}
-use Rattle.papaya_promises.specs.Given.SeizeWords.Mem.{Mem, block_of, entry_in, value_at, word_at, with_word, with_word_in, fresh, Gives, Took, after}
-use Rattle.papaya_promises.specs.Given.SeizeWords.Op.{Op, Out, Load, Store, Swap, Add, Or, Exchange, Make, Take, Rewrite, Room, Found, Stored, Exchanged, Made, Taken, Roomed}
-use Rattle.papaya_promises.proofs.Given.SeizeWords.OneOwner.AfterWrites.{block_of-with_block, block_of-made}
-use Rattle.papaya_promises.specs.Given.Seize.declared.states.TheConstants.{FIRST, NEXT}
-use Rattle.papaya_promises.specs.Given.Seize.Law.{Effect, Taken as TakenBlock}
-use Rattle.papaya_promises.specs.Given.Seize.WaitingSets.{is_one_of}
-use Rattle.papaya_promises.specs.Given.Seize.World.{World, Hand, NoBlock, Making, InUse, Parting, Cutting, Handed, LeftTo, MayCut, Request, Register', Enter', Leave', LeaveOwned, Refresh, Unregister', Retire, Flush, Defer', Event, Begin, Step, Makes, Drops, Links, Parts, Unlinks, Rewrites, Operates, Ends, LeavesOver, Relinks, Clears, Chooses, Begins, Steps', Happens, Runs, IsOwn, IsOwnOp, handed_by, with_at, made_by}
-use Rattle.papaya_promises.proofs.Given.SeizeMoves.State.Ghost.{Life, IsPending, IsDoomed}
-use Rattle.papaya_promises.proofs.Given.SeizeRule.Points.Aside.{HandFits}
-use Rattle.papaya_promises.proofs.Given.SeizeRule.Words.Named.{block_there}
-use Rattle.papaya_promises.proofs.Given.SeizeRule.Words.Shows.{lives}
-use Rattle.papaya_promises.proofs.Given.SeizeAlone.Histories.NotTaken.{did}
-use Rattle.papaya_promises.proofs.Given.SeizeAlone.Histories.Reached.{Reached, runs_reached}
-use Rattle.papaya_promises.proofs.Given.Rule.World.Hands.{at_cases}
-use Rattle.papaya_promises.proofs.Given.Hands.Firsts.{SameFirst, op_apart, written, row_keeps_first}
+use Rattle.papaya_promises.specs.Given.SeizeWordsDeclared.at.At.{At}
+use Rattle.papaya_promises.specs.Given.SeizeWordsDeclared.at.At.TheVariants.{Root, Used, Slot, Entry, Word}
+use Rattle.papaya_promises.specs.Given.SeizeWordsDeclared.block.Block.{Block}
+use Rattle.papaya_promises.specs.Given.SeizeWordsMem.{Mem, block_of, entry_in, value_at, word_at, with_word, with_word_in, fresh, Gives, Took, after}
+use Rattle.papaya_promises.specs.Given.SeizeWordsOp.{Op, Out, Load, Store, Swap, Add, Or, Exchange, Make, Take, Rewrite, Room, Found, Stored, Exchanged, Made, Taken, Roomed}
+use Rattle.papaya_promises.proofs.Given.SeizeWordsOneOwner.AfterWrites.{block_of-with_block, block_of-made}
+use Rattle.papaya_promises.specs.Given.SeizeDeclared.states.TheConstants.{FIRST, NEXT}
+use Rattle.papaya_promises.specs.Given.SeizeLaw.{Effect, Taken as TakenBlock}
+use Rattle.papaya_promises.specs.Given.SeizeWaitingSets.{is_one_of}
+use Rattle.papaya_promises.specs.Given.SeizeWorld.{World, Hand, NoBlock, Making, InUse, Parting, Cutting, Handed, LeftTo, MayCut, Request, Register', Enter', Leave', LeaveOwned, Refresh, Unregister', Retire, Flush, Defer', Event, Begin, Step, Makes, Drops, Links, Parts, Unlinks, Rewrites, Operates, Ends, LeavesOver, Relinks, Clears, Chooses, Begins, Steps', Happens, Runs, IsOwn, IsOwnOp, handed_by, with_at, made_by}
+use Rattle.papaya_promises.proofs.Given.SeizeMovesState.Ghost.{Life, IsPending, IsDoomed}
+use Rattle.papaya_promises.proofs.Given.SeizeRulePoints.Aside.{HandFits}
+use Rattle.papaya_promises.proofs.Given.SeizeRuleWords.Named.{block_there}
+use Rattle.papaya_promises.proofs.Given.SeizeRuleWords.Shows.{lives}
+use Rattle.papaya_promises.proofs.Given.SeizeAloneHistories.NotTaken.{did}
+use Rattle.papaya_promises.proofs.Given.SeizeAloneHistories.Reached.{Reached, runs_reached}
+use Rattle.papaya_promises.proofs.Given.RuleWorld.Hands.{at_cases}
+use Rattle.papaya_promises.proofs.Given.HandsFirsts.{SameFirst, op_apart, written, row_keeps_first}
 
 -- nobody has handed the block over, nor is it left to anybody
 abbrev pub IsKept : Hand → Type 0

@@ -1,36 +1,36 @@
 -- An event of a call, whole: after each of its steps the waiting sets of blocks are those of the model, by what the event has told so far, or the call is in the
 -- midst of a row that has told its part; and once the event is over it is by the model.
 use Rattle.std.specs.Prelude.{◌≡◌, ◌≢◌, ◌≤◌, ◌⊎◌, ℕ, Bool, List, [], ◌∷◌, ◌++◌, flat_map, Some}
-use Rattle.papaya_promises.specs.Given.Seize.WaitingSets.{Change, Sets}
-use Rattle.papaya_promises.specs.Given.Seize.World.{World, Rests, Request, Retire, Defer', Begin, Step, Happens}
-use Rattle.papaya_promises.specs.Given.SeizeWaiting.Held.{count}
-use Rattle.papaya_promises.specs.Given.Raw.declared.machines.progress.Progress.{Progress}
-use Rattle.papaya_promises.specs.Given.Tables.Nodes.{deferred_word}
-use Rattle.papaya_promises.specs.Given.Tables.declared.node.Node.{Node}
-use Rattle.papaya_promises.specs.Given.Callers.Together.{UnderWay, HandsOver}
-use Rattle.papaya_promises.specs.Given.Effects.Effects.{effects_of, known_after}
-use Rattle.papaya_promises.specs.Given.Effects.Known.{Known}
-use Rattle.papaya_promises.specs.Given.Effects.declared.acting.Acting.TheVariants.{Call}
-use Rattle.papaya_promises.specs.Given.Moments.Whole.{ShowsWhole}
-use Rattle.papaya_promises.specs.Given.Schedules.After.{moment}
-use Rattle.papaya_promises.specs.Given.Runs.Present.{slot_of_guard}
-use Rattle.papaya_promises.specs.Given.Schedules.Beginning.{at_work}
-use Rattle.papaya_promises.specs.Given.Schedules.Entry.{Entry, acting, caller_of}
-use Rattle.papaya_promises.specs.Given.Schedules.Model.{IsByModel, came, handing, guard_or, things_in, sets_in, changes_of, left_last}
-use Rattle.papaya_promises.specs.Given.Schedules.Moment.{Moment}
-use Rattle.papaya_promises.specs.Given.Schedules.Terms.{Terms}
-use Rattle.papaya_promises.specs.Given.Schedules.declared.effect.Effect.{Effect}
-use Rattle.papaya_promises.specs.Given.Schedules.declared.effect.Thing.{Thing}
-use Rattle.papaya_promises.specs.Given.Schedules.declared.event.Event.{Event}
-use Rattle.papaya_promises.specs.Given.Schedules.declared.event.Event.TheVariants as event
+use Rattle.papaya_promises.specs.Given.SeizeWaitingSets.{Change, Sets}
+use Rattle.papaya_promises.specs.Given.SeizeWorld.{World, Rests, Request, Retire, Defer', Begin, Step, Happens}
+use Rattle.papaya_promises.specs.Given.SeizeWaitingHeld.{count}
+use Rattle.papaya_promises.specs.Given.RawDeclared.machines.progress.Progress.{Progress}
+use Rattle.papaya_promises.specs.Given.TablesNodes.{deferred_word}
+use Rattle.papaya_promises.specs.Given.TablesDeclared.node.Node.{Node}
+use Rattle.papaya_promises.specs.Given.CallersTogether.{UnderWay, HandsOver}
+use Rattle.papaya_promises.specs.Given.EffectsEffects.{effects_of, known_after}
+use Rattle.papaya_promises.specs.Given.EffectsKnown.{Known}
+use Rattle.papaya_promises.specs.Given.EffectsDeclared.acting.Acting.TheVariants.{Call}
+use Rattle.papaya_promises.specs.Given.MomentsWhole.{ShowsWhole}
+use Rattle.papaya_promises.specs.Given.SchedulesAfter.{moment}
+use Rattle.papaya_promises.specs.Given.RunsPresent.{slot_of_guard}
+use Rattle.papaya_promises.specs.Given.SchedulesBeginning.{at_work}
+use Rattle.papaya_promises.specs.Given.SchedulesEntry.{Entry, acting, caller_of}
+use Rattle.papaya_promises.specs.Given.SchedulesModel.{IsByModel, came, handing, guard_or, things_in, sets_in, changes_of, left_last}
+use Rattle.papaya_promises.specs.Given.SchedulesMoment.{Moment}
+use Rattle.papaya_promises.specs.Given.SchedulesTerms.{Terms}
+use Rattle.papaya_promises.specs.Given.SchedulesDeclared.effect.Effect.{Effect}
+use Rattle.papaya_promises.specs.Given.SchedulesDeclared.effect.Thing.{Thing}
+use Rattle.papaya_promises.specs.Given.SchedulesDeclared.event.Event.{Event}
+use Rattle.papaya_promises.specs.Given.SchedulesDeclared.event.Event.TheVariants as event
 use Rattle.papaya_models.specs.Calls.{sets_on, FollowsInCall}
 use Rattle.papaya_models.specs.Defers.{AreNoted, HasToldIt}
 use Rattle.papaya_models.specs.Follows.{FollowsSets, FollowsModel, IsFollowed}
 use Rattle.papaya_models.specs.Numbers.{HasNumber, EachIsOnce, AreOfThings, NoneBack}
 use Rattle.papaya_models.specs.Retires.{HasToldSo}
-use Rattle.papaya_promises.specs.Given.Scenes.Held.{Held, IsAt}
-use Rattle.papaya_promises.specs.Given.Scenes.Scene.{Scene}
-use Rattle.papaya_promises.specs.Given.Scenes.Stepping.{StepLeads}
+use Rattle.papaya_promises.specs.Given.ScenesHeld.{Held, IsAt}
+use Rattle.papaya_promises.specs.Given.ScenesScene.{Scene}
+use Rattle.papaya_promises.specs.Given.ScenesStepping.{StepLeads}
 
 module _ (things : List Thing) (known : Known) (slot : ℕ) where
   -- what a row is to hand over is noted as things that came into maps, and it retires under this slot

@@ -1,20 +1,20 @@
 -- Events of calls, where they come one after another: what a call hands over changes the waiting sets of blocks as it does those of the model, once its row
 -- has run.
 use Rattle.std.specs.Prelude.{◌≡◌, ◌≢◌, ◌≤◌, ◌<◌, ◌^◌, ℕ, List, [], ◌∷◌, ◌++◌, flat_map}
-use Rattle.papaya_promises.specs.Given.Seize.Sequence.{changes}
-use Rattle.papaya_promises.specs.Given.Seize.WaitingSets.{Change, Sets, all_changed}
-use Rattle.papaya_promises.specs.Given.Seize.World.{World, Rests, Request, IsInside}
-use Rattle.papaya_promises.specs.Given.SeizeWaiting.Held.{count}
-use Rattle.papaya_promises.specs.Given.Tables.Nodes.{deferred_word}
-use Rattle.papaya_promises.specs.Given.Tables.declared.node.Node.{Node}
-use Rattle.papaya_promises.specs.Given.Schedules.After.{moment}
-use Rattle.papaya_promises.specs.Given.Schedules.Entry.{Entry}
-use Rattle.papaya_promises.specs.Given.Schedules.Model.{IsByModel, thing_back, handing, things_in, sets_in, changes_of, left_last}
-use Rattle.papaya_promises.specs.Given.Schedules.Terms.{Terms}
-use Rattle.papaya_promises.specs.Given.Schedules.declared.effect.Effect.{Effect}
-use Rattle.papaya_promises.specs.Given.Schedules.declared.effect.Effect.TheVariants.{Taken}
-use Rattle.papaya_promises.specs.Given.Schedules.declared.effect.Thing.{Thing}
-use Rattle.papaya_promises.specs.Given.Effects.Known.{Known}
+use Rattle.papaya_promises.specs.Given.SeizeSequence.{changes}
+use Rattle.papaya_promises.specs.Given.SeizeWaitingSets.{Change, Sets, all_changed}
+use Rattle.papaya_promises.specs.Given.SeizeWorld.{World, Rests, Request, IsInside}
+use Rattle.papaya_promises.specs.Given.SeizeWaitingHeld.{count}
+use Rattle.papaya_promises.specs.Given.TablesNodes.{deferred_word}
+use Rattle.papaya_promises.specs.Given.TablesDeclared.node.Node.{Node}
+use Rattle.papaya_promises.specs.Given.SchedulesAfter.{moment}
+use Rattle.papaya_promises.specs.Given.SchedulesEntry.{Entry}
+use Rattle.papaya_promises.specs.Given.SchedulesModel.{IsByModel, thing_back, handing, things_in, sets_in, changes_of, left_last}
+use Rattle.papaya_promises.specs.Given.SchedulesTerms.{Terms}
+use Rattle.papaya_promises.specs.Given.SchedulesDeclared.effect.Effect.{Effect}
+use Rattle.papaya_promises.specs.Given.SchedulesDeclared.effect.Effect.TheVariants.{Taken}
+use Rattle.papaya_promises.specs.Given.SchedulesDeclared.effect.Thing.{Thing}
+use Rattle.papaya_promises.specs.Given.EffectsKnown.{Known}
 use Rattle.papaya_models.specs.Alike.{SetsAlike, ChangesAlike}
 use Rattle.papaya_models.specs.Follows.{FollowsSets}
 use Rattle.papaya_models.specs.Numbers.{HasNumber, EachIsOnce}

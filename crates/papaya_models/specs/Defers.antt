@@ -1,22 +1,22 @@
 -- Rows within calls that defer a pair behind a table: such a row tells just that, once.
 use Rattle.std.specs.Prelude.{◌≡◌, ◌≢◌, ◌⊎◌, ℕ, true, List, [], ◌∷◌, ◌++◌}
-use Rattle.papaya_promises.specs.Given.SeizeWords.declared.at.At.{At}
-use Rattle.papaya_promises.specs.Given.SeizeWords.declared.at.At.TheVariants.{Word}
-use Rattle.papaya_promises.specs.Given.SeizeWords.Word.{link_to}
-use Rattle.papaya_promises.specs.Given.Seize.Sequence.{changes}
-use Rattle.papaya_promises.specs.Given.Seize.WaitingSets.{Change, Defers}
-use Rattle.papaya_promises.specs.Given.Seize.World.{World, Row, Rests, Defers as DefersRow, Use, Defer'}
-use Rattle.papaya_promises.specs.Given.Seize.declared.rows.defer.Deferring.{Deferring}
-use Rattle.papaya_promises.specs.Given.Seize.declared.rows.defer.Deferring.TheVariants as deferring
-use Rattle.papaya_promises.specs.Given.Tables.declared.node.Node.{Node}
-use Rattle.papaya_promises.specs.Given.Tables.declared.table_words.TheConstants.{DEFERRED}
-use Rattle.papaya_promises.specs.Given.Effects.Known.{Known}
-use Rattle.papaya_promises.specs.Given.Effects.declared.role.Role.TheVariants as role
-use Rattle.papaya_promises.specs.Given.Schedules.Lists.{is_in}
-use Rattle.papaya_promises.specs.Given.Schedules.Things.{same_thing}
-use Rattle.papaya_promises.specs.Given.Schedules.declared.effect.Table.{Table}
-use Rattle.papaya_promises.specs.Given.Schedules.declared.effect.Thing.{Thing}
-use Rattle.papaya_promises.specs.Given.Schedules.declared.effect.Thing.TheVariants.{APair, ATable}
+use Rattle.papaya_promises.specs.Given.SeizeWordsDeclared.at.At.{At}
+use Rattle.papaya_promises.specs.Given.SeizeWordsDeclared.at.At.TheVariants.{Word}
+use Rattle.papaya_promises.specs.Given.SeizeWordsWord.{link_to}
+use Rattle.papaya_promises.specs.Given.SeizeSequence.{changes}
+use Rattle.papaya_promises.specs.Given.SeizeWaitingSets.{Change, Defers}
+use Rattle.papaya_promises.specs.Given.SeizeWorld.{World, Row, Rests, Defers as DefersRow, Use, Defer'}
+use Rattle.papaya_promises.specs.Given.SeizeDeclared.rows.defer.Deferring.{Deferring}
+use Rattle.papaya_promises.specs.Given.SeizeDeclared.rows.defer.Deferring.TheVariants as deferring
+use Rattle.papaya_promises.specs.Given.TablesDeclared.node.Node.{Node}
+use Rattle.papaya_promises.specs.Given.TablesDeclared.table_words.TheConstants.{DEFERRED}
+use Rattle.papaya_promises.specs.Given.EffectsKnown.{Known}
+use Rattle.papaya_promises.specs.Given.EffectsDeclared.role.Role.TheVariants as role
+use Rattle.papaya_promises.specs.Given.SchedulesLists.{is_in}
+use Rattle.papaya_promises.specs.Given.SchedulesThings.{same_thing}
+use Rattle.papaya_promises.specs.Given.SchedulesDeclared.effect.Table.{Table}
+use Rattle.papaya_promises.specs.Given.SchedulesDeclared.effect.Thing.{Thing}
+use Rattle.papaya_promises.specs.Given.SchedulesDeclared.effect.Thing.TheVariants.{APair, ATable}
 use Rattle.papaya_models.specs.Alike.{ChangesAlike}
 use Rattle.papaya_models.specs.Numbers.{HasNumber}
 

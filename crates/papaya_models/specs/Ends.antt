@@ -2,38 +2,38 @@
 -- as each is taken away.
 use Rattle.std.specs.Prelude.{◌≡◌, ◌⊎◌, ◌<◌, ◌^◌, ℕ, Bool, true, List, [], ◌∷◌, ◌++◌, map, flat_map, Some, None}
 use Rattle.std.specs.List.{AllByRecursion}
-use Rattle.papaya_promises.specs.Given.SeizeWords.Mem.{value_at}
-use Rattle.papaya_promises.specs.Given.Seize.Law.{Ended}
-use Rattle.papaya_promises.specs.Given.Seize.WaitingSets.{Change, Ends, Sets, is_one_of}
-use Rattle.papaya_promises.specs.Given.Seize.World.{World, LeftTo, with_effect}
-use Rattle.papaya_promises.specs.Given.Seize.declared.rows.settle.Settled.{Settled}
-use Rattle.papaya_promises.specs.Given.SeizeWaiting.Held.{Every}
-use Rattle.papaya_promises.specs.Given.Tables.Nodes.{deferred_word}
-use Rattle.papaya_promises.specs.Given.Tables.declared.node.Node.{Node}
-use Rattle.papaya_promises.specs.Given.Schedules.After.{tables_taken}
-use Rattle.papaya_promises.specs.Given.Schedules.Lists.{is_in}
-use Rattle.papaya_promises.specs.Given.Schedules.Moment.{Moment}
-use Rattle.papaya_promises.specs.Given.Schedules.Things.{same_table}
-use Rattle.papaya_promises.specs.Given.Schedules.declared.effect.Effect.{Effect}
-use Rattle.papaya_promises.specs.Given.Schedules.declared.effect.Effect.TheVariants.{Stored, Linked, Reclaimed}
-use Rattle.papaya_promises.specs.Given.Schedules.declared.effect.Table.{Table}
-use Rattle.papaya_promises.specs.Given.Schedules.declared.effect.Thing.{Thing}
-use Rattle.papaya_promises.specs.Given.Effects.Effects.{effects_of, known_after}
-use Rattle.papaya_promises.specs.Given.Effects.Known.{Known}
-use Rattle.papaya_promises.specs.Given.Effects.declared.acting.Acting.TheVariants.{Ending}
-use Rattle.papaya_promises.specs.Given.Effects.declared.role.Role.TheVariants as role
-use Rattle.papaya_promises.specs.Given.Finishes.Endings.{Finishing}
-use Rattle.papaya_promises.specs.Given.Follows.Blocks.{ShowsBlocks}
-use Rattle.papaya_promises.specs.Given.Moments.Whole.{ShowsWhole}
+use Rattle.papaya_promises.specs.Given.SeizeWordsMem.{value_at}
+use Rattle.papaya_promises.specs.Given.SeizeLaw.{Ended}
+use Rattle.papaya_promises.specs.Given.SeizeWaitingSets.{Change, Ends, Sets, is_one_of}
+use Rattle.papaya_promises.specs.Given.SeizeWorld.{World, LeftTo, with_effect}
+use Rattle.papaya_promises.specs.Given.SeizeDeclared.rows.settle.Settled.{Settled}
+use Rattle.papaya_promises.specs.Given.SeizeWaitingHeld.{Every}
+use Rattle.papaya_promises.specs.Given.TablesNodes.{deferred_word}
+use Rattle.papaya_promises.specs.Given.TablesDeclared.node.Node.{Node}
+use Rattle.papaya_promises.specs.Given.SchedulesAfter.{tables_taken}
+use Rattle.papaya_promises.specs.Given.SchedulesLists.{is_in}
+use Rattle.papaya_promises.specs.Given.SchedulesMoment.{Moment}
+use Rattle.papaya_promises.specs.Given.SchedulesThings.{same_table}
+use Rattle.papaya_promises.specs.Given.SchedulesDeclared.effect.Effect.{Effect}
+use Rattle.papaya_promises.specs.Given.SchedulesDeclared.effect.Effect.TheVariants.{Stored, Linked, Reclaimed}
+use Rattle.papaya_promises.specs.Given.SchedulesDeclared.effect.Table.{Table}
+use Rattle.papaya_promises.specs.Given.SchedulesDeclared.effect.Thing.{Thing}
+use Rattle.papaya_promises.specs.Given.EffectsEffects.{effects_of, known_after}
+use Rattle.papaya_promises.specs.Given.EffectsKnown.{Known}
+use Rattle.papaya_promises.specs.Given.EffectsDeclared.acting.Acting.TheVariants.{Ending}
+use Rattle.papaya_promises.specs.Given.EffectsDeclared.role.Role.TheVariants as role
+use Rattle.papaya_promises.specs.Given.FinishesEndings.{Finishing}
+use Rattle.papaya_promises.specs.Given.FollowsBlocks.{ShowsBlocks}
+use Rattle.papaya_promises.specs.Given.MomentsWhole.{ShowsWhole}
 use Rattle.papaya_models.specs.Alike.{SetsAlike}
 use Rattle.papaya_models.specs.Calls.{sets_on}
 use Rattle.papaya_models.specs.Follows.{FollowsSets}
 use Rattle.papaya_models.specs.Numbers.{HasNumber, EachIsOnce}
 use Rattle.papaya_models.specs.Others.{HandNone}
 use Rattle.papaya_models.specs.Turns.{sets_of, CameByTurns}
-use Rattle.papaya_promises.specs.Given.Scenes.Ending.{EndingLeads}
-use Rattle.papaya_promises.specs.Given.Scenes.Held.{Held, IsAt}
-use Rattle.papaya_promises.specs.Given.Scenes.Scene.{Scene}
+use Rattle.papaya_promises.specs.Given.ScenesEnding.{EndingLeads}
+use Rattle.papaya_promises.specs.Given.ScenesHeld.{Held, IsAt}
+use Rattle.papaya_promises.specs.Given.ScenesScene.{Scene}
 
 -- an effect of the end of a map: nothing comes by it, and nothing that was handed over is reclaimed
 abbrev pub IsOfEnd : Effect → Type 0

@@ -1,15 +1,15 @@
 -- The waiting sets of the collector are those of the model, where calls come one after another.
 use Rattle.std.specs.Prelude.{◌≡◌, ℕ, List, [], ◌∷◌}
-use Rattle.papaya_promises.specs.Given.Seize.WaitingSets.{Change, Sets}
-use Rattle.papaya_promises.specs.Given.Seize.World.{World}
-use Rattle.papaya_promises.specs.Given.Tables.Nodes.{deferred_word}
-use Rattle.papaya_promises.specs.Given.Tables.declared.node.Node.{Node}
-use Rattle.papaya_promises.specs.Given.Schedules.After.{moment}
-use Rattle.papaya_promises.specs.Given.Schedules.Entry.{Entry}
-use Rattle.papaya_promises.specs.Given.Schedules.Model.{IsByModel, things_in, sets_in, changes_of, left_last}
-use Rattle.papaya_promises.specs.Given.Schedules.Terms.{Terms}
-use Rattle.papaya_promises.specs.Given.Schedules.declared.effect.Thing.{Thing}
-use Rattle.papaya_promises.specs.Given.Effects.Known.{Known}
+use Rattle.papaya_promises.specs.Given.SeizeWaitingSets.{Change, Sets}
+use Rattle.papaya_promises.specs.Given.SeizeWorld.{World}
+use Rattle.papaya_promises.specs.Given.TablesNodes.{deferred_word}
+use Rattle.papaya_promises.specs.Given.TablesDeclared.node.Node.{Node}
+use Rattle.papaya_promises.specs.Given.SchedulesAfter.{moment}
+use Rattle.papaya_promises.specs.Given.SchedulesEntry.{Entry}
+use Rattle.papaya_promises.specs.Given.SchedulesModel.{IsByModel, things_in, sets_in, changes_of, left_last}
+use Rattle.papaya_promises.specs.Given.SchedulesTerms.{Terms}
+use Rattle.papaya_promises.specs.Given.SchedulesDeclared.effect.Thing.{Thing}
+use Rattle.papaya_promises.specs.Given.EffectsKnown.{Known}
 use Rattle.papaya_models.specs.Alike.{SetsAlike}
 use Rattle.papaya_models.specs.Numbers.{HasNumber}
 use Rattle.papaya_models.specs.Turns.{sets_of, CameByTurns}

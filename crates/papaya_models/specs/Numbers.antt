@@ -1,15 +1,15 @@
 -- The numbers of things in the waiting sets, and the blocks in which things are, by what is noted of these.
 use Rattle.std.specs.Prelude.{◌≡◌, ℕ, true, List, [], ◌∷◌}
-use Rattle.papaya_promises.specs.Given.Schedules.Lists.{is_in}
-use Rattle.papaya_promises.specs.Given.Schedules.Model.{number_in}
-use Rattle.papaya_promises.specs.Given.Schedules.Things.{same_thing}
-use Rattle.papaya_promises.specs.Given.Schedules.declared.effect.Effect.{Effect}
-use Rattle.papaya_promises.specs.Given.Schedules.declared.effect.Effect.TheVariants.{Asked, PairGivenUp, TableGivenUp, Reclaimed, Retired, Deferred, Taken}
-use Rattle.papaya_promises.specs.Given.Schedules.declared.effect.Thing.{Thing}
-use Rattle.papaya_promises.specs.Given.Schedules.declared.effect.Thing.TheVariants.{APair, ATable}
-use Rattle.papaya_promises.specs.Given.Effects.Known.{Known}
-use Rattle.papaya_promises.specs.Given.Effects.declared.role.Role.{Role}
-use Rattle.papaya_promises.specs.Given.Effects.declared.role.Role.TheVariants as role
+use Rattle.papaya_promises.specs.Given.SchedulesLists.{is_in}
+use Rattle.papaya_promises.specs.Given.SchedulesModel.{number_in}
+use Rattle.papaya_promises.specs.Given.SchedulesThings.{same_thing}
+use Rattle.papaya_promises.specs.Given.SchedulesDeclared.effect.Effect.{Effect}
+use Rattle.papaya_promises.specs.Given.SchedulesDeclared.effect.Effect.TheVariants.{Asked, PairGivenUp, TableGivenUp, Reclaimed, Retired, Deferred, Taken}
+use Rattle.papaya_promises.specs.Given.SchedulesDeclared.effect.Thing.{Thing}
+use Rattle.papaya_promises.specs.Given.SchedulesDeclared.effect.Thing.TheVariants.{APair, ATable}
+use Rattle.papaya_promises.specs.Given.EffectsKnown.{Known}
+use Rattle.papaya_promises.specs.Given.EffectsDeclared.role.Role.{Role}
+use Rattle.papaya_promises.specs.Given.EffectsDeclared.role.Role.TheVariants as role
 use Rattle.papaya_promises.specs.Sheltered.{IsOfThing}
 
 -- what a block with this role is, if it is a thing

@@ -1,36 +1,36 @@
 -- Events that are rows on slots: in the midst of one, as it begins, goes on and ends.
 use Rattle.std.specs.Prelude.{◌≡◌, ◌⊎◌, ◌<◌, ◌^◌, ℕ, Bool, List, [], ◌++◌, flat_map}
-use Rattle.papaya_promises.specs.Given.Seize.Sequence.{changes, taken_in}
-use Rattle.papaya_promises.specs.Given.Seize.WaitingSets.{Change, Sets}
-use Rattle.papaya_promises.specs.Given.Seize.World.{World, Rests, Request, Begins, Step, Use}
-use Rattle.papaya_promises.specs.Given.Callers.Together.{IsOfSlots}
-use Rattle.papaya_promises.specs.Given.Tables.Nodes.{deferred_word}
-use Rattle.papaya_promises.specs.Given.Tables.declared.node.Node.{Node}
-use Rattle.papaya_promises.specs.Given.Schedules.After.{moment}
-use Rattle.papaya_promises.specs.Given.Schedules.Beginning.{at_work}
-use Rattle.papaya_promises.specs.Given.Schedules.Entry.{Entry}
-use Rattle.papaya_promises.specs.Given.Schedules.Model.{thing_back, changes_by, things_in, sets_in}
-use Rattle.papaya_promises.specs.Given.Schedules.Moment.{Moment}
-use Rattle.papaya_promises.specs.Given.Schedules.Terms.{Terms}
-use Rattle.papaya_promises.specs.Given.Schedules.declared.effect.Effect.{Effect}
-use Rattle.papaya_promises.specs.Given.Schedules.declared.effect.Thing.{Thing}
-use Rattle.papaya_promises.specs.Given.Schedules.declared.event.Event.{Event}
-use Rattle.papaya_promises.specs.Given.Schedules.declared.outcome.Outcome.{Outcome}
-use Rattle.papaya_promises.specs.Given.Effects.Effects.{effects_of, known_after}
-use Rattle.papaya_promises.specs.Given.Effects.Known.{Known}
-use Rattle.papaya_promises.specs.Given.Effects.declared.acting.Acting.TheVariants.{Row}
-use Rattle.papaya_promises.specs.Given.Effects.declared.role.Role.TheVariants.{Free}
-use Rattle.papaya_promises.specs.Given.Scenes.declared.row.RowTold.{RowTold}
-use Rattle.papaya_promises.specs.Given.Scenes.declared.row.SlotRow.{SlotRow}
-use Rattle.papaya_promises.specs.Given.Follows.Blocks.{ShowsBlocks}
-use Rattle.papaya_promises.specs.Given.Others.Rows.{scene_then}
+use Rattle.papaya_promises.specs.Given.SeizeSequence.{changes, taken_in}
+use Rattle.papaya_promises.specs.Given.SeizeWaitingSets.{Change, Sets}
+use Rattle.papaya_promises.specs.Given.SeizeWorld.{World, Rests, Request, Begins, Step, Use}
+use Rattle.papaya_promises.specs.Given.CallersTogether.{IsOfSlots}
+use Rattle.papaya_promises.specs.Given.TablesNodes.{deferred_word}
+use Rattle.papaya_promises.specs.Given.TablesDeclared.node.Node.{Node}
+use Rattle.papaya_promises.specs.Given.SchedulesAfter.{moment}
+use Rattle.papaya_promises.specs.Given.SchedulesBeginning.{at_work}
+use Rattle.papaya_promises.specs.Given.SchedulesEntry.{Entry}
+use Rattle.papaya_promises.specs.Given.SchedulesModel.{thing_back, changes_by, things_in, sets_in}
+use Rattle.papaya_promises.specs.Given.SchedulesMoment.{Moment}
+use Rattle.papaya_promises.specs.Given.SchedulesTerms.{Terms}
+use Rattle.papaya_promises.specs.Given.SchedulesDeclared.effect.Effect.{Effect}
+use Rattle.papaya_promises.specs.Given.SchedulesDeclared.effect.Thing.{Thing}
+use Rattle.papaya_promises.specs.Given.SchedulesDeclared.event.Event.{Event}
+use Rattle.papaya_promises.specs.Given.SchedulesDeclared.outcome.Outcome.{Outcome}
+use Rattle.papaya_promises.specs.Given.EffectsEffects.{effects_of, known_after}
+use Rattle.papaya_promises.specs.Given.EffectsKnown.{Known}
+use Rattle.papaya_promises.specs.Given.EffectsDeclared.acting.Acting.TheVariants.{Row}
+use Rattle.papaya_promises.specs.Given.EffectsDeclared.role.Role.TheVariants.{Free}
+use Rattle.papaya_promises.specs.Given.ScenesDeclared.row.RowTold.{RowTold}
+use Rattle.papaya_promises.specs.Given.ScenesDeclared.row.SlotRow.{SlotRow}
+use Rattle.papaya_promises.specs.Given.FollowsBlocks.{ShowsBlocks}
+use Rattle.papaya_promises.specs.Given.OthersRows.{scene_then}
 use Rattle.papaya_models.specs.Alike.{SetsAlike}
 use Rattle.papaya_models.specs.Follows.{FollowsSets, IsFollowed}
 use Rattle.papaya_models.specs.Numbers.{things_of, HasNumber, EachIsOnce, AreOfRow}
 use Rattle.papaya_models.specs.Turns.{sets_of, IsInRow}
-use Rattle.papaya_promises.specs.Given.Scenes.Held.{Held, IsAt}
-use Rattle.papaya_promises.specs.Given.Scenes.OnSlots.{RowLeads}
-use Rattle.papaya_promises.specs.Given.Scenes.Scene.{IsOnSlot, Scene}
+use Rattle.papaya_promises.specs.Given.ScenesHeld.{Held, IsAt}
+use Rattle.papaya_promises.specs.Given.ScenesOnSlots.{RowLeads}
+use Rattle.papaya_promises.specs.Given.ScenesScene.{IsOnSlot, Scene}
 
 module _ {K V : Type 0} (batch_size roots : ℕ) where
   -- In the midst of an event that is a row of caller i, which began in that world, once it has done this. As the row began these were the sets, by what was noted then; what it has

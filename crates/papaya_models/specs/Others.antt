@@ -1,27 +1,27 @@
 -- Makings and ends of maps, where calls come one after another.
 use Rattle.std.specs.Prelude.{◌≡◌, ℕ, Bool, List, [], ◌∷◌, flat_map, Option, Some}
-use Rattle.papaya_promises.specs.Given.Seize.WaitingSets.{Sets}
-use Rattle.papaya_promises.specs.Given.Seize.declared.progress.Progress.{Progress}
-use Rattle.papaya_promises.specs.Given.Tables.declared.setting.Setting.{Setting}
-use Rattle.papaya_promises.specs.Given.Schedules.After.{moment}
-use Rattle.papaya_promises.specs.Given.Schedules.Entry.{Entry}
-use Rattle.papaya_promises.specs.Given.Schedules.Model.{IsByModel, thing_back, handing, things_in, changes_of, left_last}
-use Rattle.papaya_promises.specs.Given.Schedules.Moment.{Moment}
-use Rattle.papaya_promises.specs.Given.Schedules.Terms.{Terms}
-use Rattle.papaya_promises.specs.Given.Schedules.declared.effect.Effect.{Effect}
-use Rattle.papaya_promises.specs.Given.Schedules.declared.effect.Effect.TheVariants.{Retired, Deferred}
-use Rattle.papaya_promises.specs.Given.Schedules.declared.effect.Thing.{Thing}
-use Rattle.papaya_promises.specs.Given.Effects.Effects.{effects_of, known_after}
-use Rattle.papaya_promises.specs.Given.Effects.Known.{Known}
-use Rattle.papaya_promises.specs.Given.Effects.declared.acting.Acting.TheVariants.{Making}
-use Rattle.papaya_promises.specs.Given.Finishes.Makings.{Beginning}
-use Rattle.papaya_promises.specs.Given.Moments.Whole.{ShowsWhole}
+use Rattle.papaya_promises.specs.Given.SeizeWaitingSets.{Sets}
+use Rattle.papaya_promises.specs.Given.SeizeDeclared.progress.Progress.{Progress}
+use Rattle.papaya_promises.specs.Given.TablesDeclared.setting.Setting.{Setting}
+use Rattle.papaya_promises.specs.Given.SchedulesAfter.{moment}
+use Rattle.papaya_promises.specs.Given.SchedulesEntry.{Entry}
+use Rattle.papaya_promises.specs.Given.SchedulesModel.{IsByModel, thing_back, handing, things_in, changes_of, left_last}
+use Rattle.papaya_promises.specs.Given.SchedulesMoment.{Moment}
+use Rattle.papaya_promises.specs.Given.SchedulesTerms.{Terms}
+use Rattle.papaya_promises.specs.Given.SchedulesDeclared.effect.Effect.{Effect}
+use Rattle.papaya_promises.specs.Given.SchedulesDeclared.effect.Effect.TheVariants.{Retired, Deferred}
+use Rattle.papaya_promises.specs.Given.SchedulesDeclared.effect.Thing.{Thing}
+use Rattle.papaya_promises.specs.Given.EffectsEffects.{effects_of, known_after}
+use Rattle.papaya_promises.specs.Given.EffectsKnown.{Known}
+use Rattle.papaya_promises.specs.Given.EffectsDeclared.acting.Acting.TheVariants.{Making}
+use Rattle.papaya_promises.specs.Given.FinishesMakings.{Beginning}
+use Rattle.papaya_promises.specs.Given.MomentsWhole.{ShowsWhole}
 use Rattle.papaya_models.specs.Calls.{sets_on}
-use Rattle.papaya_promises.specs.Given.Others.Makings.{WasNew}
+use Rattle.papaya_promises.specs.Given.OthersMakings.{WasNew}
 use Rattle.papaya_models.specs.Follows.{FollowsSets}
-use Rattle.papaya_promises.specs.Given.Scenes.Held.{Held, IsAt}
-use Rattle.papaya_promises.specs.Given.Scenes.Making.{MakingLeads}
-use Rattle.papaya_promises.specs.Given.Scenes.Scene.{Scene}
+use Rattle.papaya_promises.specs.Given.ScenesHeld.{Held, IsAt}
+use Rattle.papaya_promises.specs.Given.ScenesMaking.{MakingLeads}
+use Rattle.papaya_promises.specs.Given.ScenesScene.{Scene}
 
 -- it hands nothing over
 abbrev pub HandsNone : Effect → Type 0

@@ -1,9 +1,9 @@
 -- A caller that reclaims all, alone: its work on slots, by the waiting sets of blocks, and by those of the model.
 use Rattle.std.specs.Prelude.{◌≡◌, ◌<◌, ◌^◌, ℕ, List, ◌++◌, Option}
-use Rattle.papaya_promises.specs.Given.Seize.Sequence.{taken_in}
-use Rattle.papaya_promises.specs.Given.Seize.WaitingSets.{Change, all_reclaimed}
-use Rattle.papaya_promises.specs.Given.Seize.World.{World}
-use Rattle.papaya_promises.specs.Given.SeizeSets.Reclaims.{NothingWaits}
+use Rattle.papaya_promises.specs.Given.SeizeSequence.{taken_in}
+use Rattle.papaya_promises.specs.Given.SeizeWaitingSets.{Change, all_reclaimed}
+use Rattle.papaya_promises.specs.Given.SeizeWorld.{World}
+use Rattle.papaya_promises.specs.Given.SeizeSetsReclaims.{NothingWaits}
 use Rattle.papaya_models.specs.Turns.{sets_of, CameByTurns}
 
 module _ {T : Type 0} (defers : T → Option ℕ) (batch_size roots : ℕ) where

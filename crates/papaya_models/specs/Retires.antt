@@ -1,18 +1,18 @@
 -- Rows within calls that retire a block: such a row tells that the thing in it is retired, just once.
 use Rattle.std.specs.Prelude.{◌≡◌, ◌≢◌, ◌⊎◌, ℕ, Some, List, [], ◌∷◌, ◌++◌}
-use Rattle.papaya_promises.specs.Given.SeizeWords.declared.at.At.TheVariants.{Entry}
-use Rattle.papaya_promises.specs.Given.SeizeWords.Mem.{word_at}
-use Rattle.papaya_promises.specs.Given.SeizeWords.Word.{link_to}
-use Rattle.papaya_promises.specs.Given.Seize.Sequence.{changes}
-use Rattle.papaya_promises.specs.Given.Seize.WaitingSets.{Change, Retires}
-use Rattle.papaya_promises.specs.Given.Seize.World.{World, Row, Rests, Settles, Use, Retire}
-use Rattle.papaya_promises.specs.Given.Seize.declared.rows.settle.Settle.{Settle}
-use Rattle.papaya_promises.specs.Given.Seize.declared.rows.settle.Settling.{Settling}
-use Rattle.papaya_promises.specs.Given.Seize.declared.rows.settle.Settling.TheVariants as at
-use Rattle.papaya_promises.specs.Given.Seize.declared.states.TheConstants.{NEXT, FIRST}
-use Rattle.papaya_promises.specs.Given.Tables.declared.node.Node.{Node}
-use Rattle.papaya_promises.specs.Given.Effects.Known.{Known}
-use Rattle.papaya_promises.specs.Given.Schedules.declared.effect.Thing.{Thing}
+use Rattle.papaya_promises.specs.Given.SeizeWordsDeclared.at.At.TheVariants.{Entry}
+use Rattle.papaya_promises.specs.Given.SeizeWordsMem.{word_at}
+use Rattle.papaya_promises.specs.Given.SeizeWordsWord.{link_to}
+use Rattle.papaya_promises.specs.Given.SeizeSequence.{changes}
+use Rattle.papaya_promises.specs.Given.SeizeWaitingSets.{Change, Retires}
+use Rattle.papaya_promises.specs.Given.SeizeWorld.{World, Row, Rests, Settles, Use, Retire}
+use Rattle.papaya_promises.specs.Given.SeizeDeclared.rows.settle.Settle.{Settle}
+use Rattle.papaya_promises.specs.Given.SeizeDeclared.rows.settle.Settling.{Settling}
+use Rattle.papaya_promises.specs.Given.SeizeDeclared.rows.settle.Settling.TheVariants as at
+use Rattle.papaya_promises.specs.Given.SeizeDeclared.states.TheConstants.{NEXT, FIRST}
+use Rattle.papaya_promises.specs.Given.TablesDeclared.node.Node.{Node}
+use Rattle.papaya_promises.specs.Given.EffectsKnown.{Known}
+use Rattle.papaya_promises.specs.Given.SchedulesDeclared.effect.Thing.{Thing}
 use Rattle.papaya_models.specs.Alike.{ChangesAlike}
 use Rattle.papaya_models.specs.Numbers.{HasNumber}
 

@@ -1,15 +1,15 @@
 -- Which row an event of guards and registrations is to the waiting sets: the first guard on a slot enters it, and the only one refreshes and leaves it.
 use Rattle.std.specs.Prelude.{◌≡◌, ◌≢◌, ℕ, Bool, List, [], Some}
-use Rattle.papaya_promises.specs.Given.SeizeWords.declared.fault.Fault.{Fault}
-use Rattle.papaya_promises.specs.Given.Seize.Sequence.{new_slot}
-use Rattle.papaya_promises.specs.Given.Seize.World.{Use, IsInside, Register', Enter', Leave', LeaveOwned, Refresh, Unregister', Flush}
-use Rattle.papaya_promises.specs.Given.Runs.Present.{slot_of_registration, slot_of_guard, guards_on}
-use Rattle.papaya_promises.specs.Given.Schedules.Model.{changes_by}
-use Rattle.papaya_promises.specs.Given.Schedules.Moment.{Moment}
-use Rattle.papaya_promises.specs.Given.Schedules.declared.event.Event.{Event}
-use Rattle.papaya_promises.specs.Given.Schedules.declared.event.Event.TheVariants as event
-use Rattle.papaya_promises.specs.Given.Schedules.declared.outcome.Outcome.{Outcome}
-use Rattle.papaya_promises.specs.Given.Schedules.declared.outcome.Outcome.TheVariants.{Done, Slot, Refused}
+use Rattle.papaya_promises.specs.Given.SeizeWordsDeclared.fault.Fault.{Fault}
+use Rattle.papaya_promises.specs.Given.SeizeSequence.{new_slot}
+use Rattle.papaya_promises.specs.Given.SeizeWorld.{Use, IsInside, Register', Enter', Leave', LeaveOwned, Refresh, Unregister', Flush}
+use Rattle.papaya_promises.specs.Given.RunsPresent.{slot_of_registration, slot_of_guard, guards_on}
+use Rattle.papaya_promises.specs.Given.SchedulesModel.{changes_by}
+use Rattle.papaya_promises.specs.Given.SchedulesMoment.{Moment}
+use Rattle.papaya_promises.specs.Given.SchedulesDeclared.event.Event.{Event}
+use Rattle.papaya_promises.specs.Given.SchedulesDeclared.event.Event.TheVariants as event
+use Rattle.papaya_promises.specs.Given.SchedulesDeclared.outcome.Outcome.{Outcome}
+use Rattle.papaya_promises.specs.Given.SchedulesDeclared.outcome.Outcome.TheVariants.{Done, Slot, Refused}
 use Rattle.papaya_models.specs.OnSlots.{IsRowFor}
 
 module _ {K V : Type 0} (m : Moment K V) where

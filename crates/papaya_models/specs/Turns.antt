@@ -1,10 +1,10 @@
 -- Rows that run to their ends one after another: a world that came about so, and one in the midst of such a row.
 use Rattle.std.specs.Prelude.{◌≡◌, ◌<◌, ◌^◌, ℕ, List, [], ◌++◌, Option}
-use Rattle.papaya_promises.specs.Given.Seize.Sequence.{Turn, IsBetween, TakesTurns, taken_in, changes, ended_by}
-use Rattle.papaya_promises.specs.Given.Seize.WaitingSets.{Change, Sets, all_changed, at_start as sets_at_start}
-use Rattle.papaya_promises.specs.Given.Seize.World.{World, Rests, Request, Begins, Steps', Event, Happens, Runs, at_start}
-use Rattle.papaya_promises.specs.Given.SeizeAlone.Alone.{TakesSteps}
-use Rattle.papaya_promises.specs.Given.Rule.InWorld.{AllUsers}
+use Rattle.papaya_promises.specs.Given.SeizeSequence.{Turn, IsBetween, TakesTurns, taken_in, changes, ended_by}
+use Rattle.papaya_promises.specs.Given.SeizeWaitingSets.{Change, Sets, all_changed, at_start as sets_at_start}
+use Rattle.papaya_promises.specs.Given.SeizeWorld.{World, Rests, Request, Begins, Steps', Event, Happens, Runs, at_start}
+use Rattle.papaya_promises.specs.Given.SeizeAloneAlone.{TakesSteps}
+use Rattle.papaya_promises.specs.Given.RuleInWorld.{AllUsers}
 
 -- the waiting sets of blocks after these changes
 abbrev pub sets_of : ℕ → List Change → Sets

@@ -1,9 +1,9 @@
 -- Effects after effects.
 use Rattle.std.specs.Prelude.{◌≡◌, ℕ, List, [], ◌∷◌, ◌++◌, Option}
 use Rattle.std.proofs.Common.{refl}
-use Rattle.papaya_named.specs.Given.Schedules.declared.effect.Effect.{Effect}
-use Rattle.papaya_named.specs.Given.Schedules.Effects.{with_effect, with_effects, AtEachEffect}
-use Rattle.papaya_named.specs.Given.Schedules.Moment.{Moment}
+use Rattle.papaya_named.specs.Given.SchedulesDeclared.effect.Effect.{Effect}
+use Rattle.papaya_named.specs.Given.SchedulesEffects.{with_effect, with_effects, AtEachEffect}
+use Rattle.papaya_named.specs.Given.SchedulesMoment.{Moment}
 
 module _ {K V : Type 0} (caller : Option (List ℕ)) (acted : Option ℕ) where
   -- the moment after them is that after the ones behind, from where the first ones have led

@@ -2,38 +2,38 @@
 use Rattle.std.specs.Prelude.{◌≡◌, ℕ, ◌<◌, ◌≤◌, ◌==◌, Bool, true, List, length, find, Option, Some, None, IsSome, ◌⊎◌}
 use Rattle.std.specs.Int.{IsPowerOfTwo}
 use Rattle.std.proofs.Common.{refl, ap, sym, subst, ◌∙◌, inl, inr}
-use Rattle.papaya_named.specs.Given.SeizeWords.Mem.{value_at}
-use Rattle.papaya_named.specs.Given.SeizeWords.Word.{block_in}
-use Rattle.papaya_named.specs.Given.Seize.World.{InUse}
-use Rattle.papaya_named.specs.Given.Tables.declared.node.Node.{Node}
-use Rattle.papaya_named.specs.Given.Runs.Same.{is_same}
-use Rattle.papaya_named.specs.Given.Raw.declared.machines.asking.Asking.{Asking as AskingAt}
-use Rattle.papaya_named.specs.Given.Raw.declared.machines.asking.Asking.TheVariants as asking
-use Rattle.papaya_named.specs.Given.Raw.declared.machines.call.Calling.TheVariants as at
-use Rattle.papaya_named.specs.Given.Schedules.declared.call.Call.{Call}
-use Rattle.papaya_named.specs.Given.Schedules.declared.call.Call.TheVariants as call
-use Rattle.papaya_named.specs.Given.Schedules.declared.effect.Table.{Table}
-use Rattle.papaya_named.specs.Given.Schedules.Moment.{InMap, MapThere, UnderWay as CallThere, Moment}
-use Rattle.papaya_named.specs.Given.Schedules.Views.{is_in_a_map, map_at, call_of}
-use Rattle.papaya_named.specs.Given.Rule.Chart.{Chart, Still}
-use Rattle.papaya_named.specs.Given.Rule.Words.{byte_of}
-use Rattle.papaya_named.proofs.Given.Rule.Laws.{words_name_pairs, bytes_are_few}
-use Rattle.papaya_named.specs.Given.Points.Steps.{AreLawful}
-use Rattle.papaya_named.specs.Given.Callers.Sights.{seen_by}
-use Rattle.papaya_named.specs.Given.Callers.Together.{CallOnKey, UnderWay, OnKey, ForRoom, Counting, OverAll, AsksAbout, Together}
-use Rattle.papaya_named.proofs.Given.Callers.Together.Replies.{replies_stand_together}
-use Rattle.papaya_named.specs.Given.Effects.Known.{Known}
-use Rattle.papaya_named.specs.Given.Effects.declared.role.Role.TheVariants as role
-use Rattle.papaya_named.specs.Given.Finishes.Maps.{Standing}
-use Rattle.papaya_named.specs.Given.Follows.Blocks.{HasRole}
-use Rattle.papaya_named.specs.Given.Follows.Shows.{Shows}
-use Rattle.papaya_named.proofs.Given.Follows.Onward.{IsOfMap}
-use Rattle.papaya_named.specs.Given.Hands.Asked.{IsQuestion, IsAskedAs, IsAsked, ShowsAsked}
-use Rattle.papaya_named.specs.Given.Hands.Hands.{IsInUse, ShowsHands}
-use Rattle.papaya_named.proofs.Given.Hands.HandsOn.{in_one}
-use Rattle.papaya_named.specs.Given.Others.After.{ShowsAfter}
-use Rattle.papaya_named.specs.Given.Scenes.Held.{Held, IsAt}
-use Rattle.papaya_named.specs.Given.Scenes.Scene.{Scene, slot_of}
+use Rattle.papaya_named.specs.Given.SeizeWordsMem.{value_at}
+use Rattle.papaya_named.specs.Given.SeizeWordsWord.{block_in}
+use Rattle.papaya_named.specs.Given.SeizeWorld.{InUse}
+use Rattle.papaya_named.specs.Given.TablesDeclared.node.Node.{Node}
+use Rattle.papaya_named.specs.Given.RunsSame.{is_same}
+use Rattle.papaya_named.specs.Given.RawDeclared.machines.asking.Asking.{Asking as AskingAt}
+use Rattle.papaya_named.specs.Given.RawDeclared.machines.asking.Asking.TheVariants as asking
+use Rattle.papaya_named.specs.Given.RawDeclared.machines.call.Calling.TheVariants as at
+use Rattle.papaya_named.specs.Given.SchedulesDeclared.call.Call.{Call}
+use Rattle.papaya_named.specs.Given.SchedulesDeclared.call.Call.TheVariants as call
+use Rattle.papaya_named.specs.Given.SchedulesDeclared.effect.Table.{Table}
+use Rattle.papaya_named.specs.Given.SchedulesMoment.{InMap, MapThere, UnderWay as CallThere, Moment}
+use Rattle.papaya_named.specs.Given.SchedulesViews.{is_in_a_map, map_at, call_of}
+use Rattle.papaya_named.specs.Given.RuleChart.{Chart, Still}
+use Rattle.papaya_named.specs.Given.RuleWords.{byte_of}
+use Rattle.papaya_named.proofs.Given.RuleLaws.{words_name_pairs, bytes_are_few}
+use Rattle.papaya_named.specs.Given.PointsSteps.{AreLawful}
+use Rattle.papaya_named.specs.Given.CallersSights.{seen_by}
+use Rattle.papaya_named.specs.Given.CallersTogether.{CallOnKey, UnderWay, OnKey, ForRoom, Counting, OverAll, AsksAbout, Together}
+use Rattle.papaya_named.proofs.Given.CallersTogether.Replies.{replies_stand_together}
+use Rattle.papaya_named.specs.Given.EffectsKnown.{Known}
+use Rattle.papaya_named.specs.Given.EffectsDeclared.role.Role.TheVariants as role
+use Rattle.papaya_named.specs.Given.FinishesMaps.{Standing}
+use Rattle.papaya_named.specs.Given.FollowsBlocks.{HasRole}
+use Rattle.papaya_named.specs.Given.FollowsShows.{Shows}
+use Rattle.papaya_named.proofs.Given.FollowsOnward.{IsOfMap}
+use Rattle.papaya_named.specs.Given.HandsAsked.{IsQuestion, IsAskedAs, IsAsked, ShowsAsked}
+use Rattle.papaya_named.specs.Given.HandsHands.{IsInUse, ShowsHands}
+use Rattle.papaya_named.proofs.Given.HandsHandsOn.{in_one}
+use Rattle.papaya_named.specs.Given.OthersAfter.{ShowsAfter}
+use Rattle.papaya_named.specs.Given.ScenesHeld.{Held, IsAt}
+use Rattle.papaya_named.specs.Given.ScenesScene.{Scene, slot_of}
 
 module _ {K V : Type 0} (known known2 : Known) (s s2 : Scene K V) where
   -- a block came as a table: it is in use, and has its place in its map, if that stands

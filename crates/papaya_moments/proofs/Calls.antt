@@ -1,31 +1,31 @@
 -- Calls keep all that a moment shows.
 use Rattle.std.specs.Prelude.{◌≡◌, ℕ, Bool, List, Some, ◌⊎◌}
 use Rattle.std.proofs.Common.{inl, inr}
-use Rattle.papaya_named.specs.Given.Tables.declared.node.Node.{Node}
-use Rattle.papaya_named.specs.Given.Raw.declared.machines.progress.Progress.{Progress}
-use Rattle.papaya_named.specs.Given.Schedules.Beginning.{with_call}
-use Rattle.papaya_named.specs.Given.Schedules.Effects.{with_effects}
-use Rattle.papaya_named.specs.Given.Schedules.Moment.{Moment}
-use Rattle.papaya_named.specs.Given.Callers.Together.{UnderWay, OnKey, ForRoom, Counting, OverAll}
-use Rattle.papaya_named.specs.Given.Effects.Effects.{effects_of, known_after}
-use Rattle.papaya_named.specs.Given.Effects.Known.{Known}
-use Rattle.papaya_named.specs.Given.Effects.declared.acting.Acting.TheVariants as acts
-use Rattle.papaya_named.specs.Given.Follows.Calling.{told, come_to}
-use Rattle.papaya_named.specs.Given.Follows.Steps.{TakesNone}
-use Rattle.papaya_named.proofs.Given.Follows.Steps.{WentTo, went_to, DidSo, OfNoRow}
-use Rattle.papaya_named.specs.Given.Hands.Shows.{ShowsAll}
-use Rattle.papaya_named.proofs.Given.Hands.Beginning.{runs_begin_so}
-use Rattle.papaya_named.proofs.Given.Hands.Calling.{calls_begin_for, calls_come_to_so}
-use Rattle.papaya_named.proofs.Given.Hands.RowSteps.{rows_hand_theirs}
-use Rattle.papaya_named.proofs.Given.Hands.Steps.{calls_store_theirs}
-use Rattle.papaya_named.proofs.Given.Hands.Told.{calls_take}
-use Rattle.papaya_named.proofs.Given.Others.Counters.{calls_note_counters}
-use Rattle.papaya_named.proofs.Given.Spots.Begins.{places_begin, blocks_begin, calls_leave_places}
-use Rattle.papaya_named.proofs.Given.Spots.Steps.{calls_keep_places, calls_keep_blocks, calls_leave_outside}
+use Rattle.papaya_named.specs.Given.TablesDeclared.node.Node.{Node}
+use Rattle.papaya_named.specs.Given.RawDeclared.machines.progress.Progress.{Progress}
+use Rattle.papaya_named.specs.Given.SchedulesBeginning.{with_call}
+use Rattle.papaya_named.specs.Given.SchedulesEffects.{with_effects}
+use Rattle.papaya_named.specs.Given.SchedulesMoment.{Moment}
+use Rattle.papaya_named.specs.Given.CallersTogether.{UnderWay, OnKey, ForRoom, Counting, OverAll}
+use Rattle.papaya_named.specs.Given.EffectsEffects.{effects_of, known_after}
+use Rattle.papaya_named.specs.Given.EffectsKnown.{Known}
+use Rattle.papaya_named.specs.Given.EffectsDeclared.acting.Acting.TheVariants as acts
+use Rattle.papaya_named.specs.Given.FollowsCalling.{told, come_to}
+use Rattle.papaya_named.specs.Given.FollowsSteps.{TakesNone}
+use Rattle.papaya_named.proofs.Given.FollowsSteps.{WentTo, went_to, DidSo, OfNoRow}
+use Rattle.papaya_named.specs.Given.HandsShows.{ShowsAll}
+use Rattle.papaya_named.proofs.Given.HandsBeginning.{runs_begin_so}
+use Rattle.papaya_named.proofs.Given.HandsCalling.{calls_begin_for, calls_come_to_so}
+use Rattle.papaya_named.proofs.Given.HandsRowSteps.{rows_hand_theirs}
+use Rattle.papaya_named.proofs.Given.HandsSteps.{calls_store_theirs}
+use Rattle.papaya_named.proofs.Given.HandsTold.{calls_take}
+use Rattle.papaya_named.proofs.Given.OthersCounters.{calls_note_counters}
+use Rattle.papaya_named.proofs.Given.SpotsBegins.{places_begin, blocks_begin, calls_leave_places}
+use Rattle.papaya_named.proofs.Given.SpotsSteps.{calls_keep_places, calls_keep_blocks, calls_leave_outside}
 use Rattle.papaya_moments.specs.Whole.{ShowsWhole, WholeBegins, CallsKeepWhole, CallsTakeWhole, CallsBeginWhole, CallsComeToWhole}
-use Rattle.papaya_named.specs.Given.Scenes.Held.{Held, IsAt}
-use Rattle.papaya_named.specs.Given.Scenes.Scene.{Scene}
-use Rattle.papaya_named.specs.Given.Scenes.Stepping.{StepLeads, scene_after}
+use Rattle.papaya_named.specs.Given.ScenesHeld.{Held, IsAt}
+use Rattle.papaya_named.specs.Given.ScenesScene.{Scene}
+use Rattle.papaya_named.specs.Given.ScenesStepping.{StepLeads, scene_after}
 
 pub whole_begins : (K V : Type 0) → WholeBegins K V
 whole_begins K V same roots name = record {

@@ -3,62 +3,62 @@ use Rattle.std.specs.Prelude.{◌≡◌, ℕ, zero, suc, Bool, true, ◌&&◌, L
 use Rattle.std.specs.List.{list_any}
 use Rattle.std.proofs.Common.{refl, ap, sym, subst, ◌∙◌, arith, inl, inr}
 use Rattle.std.proofs.lemmas.Bool.{cases_eq}
-use Rattle.papaya_named.specs.Given.SeizeWords.Mem.{value_at}
-use Rattle.papaya_named.specs.Given.Seize.World.{World, with_at, times}
-use Rattle.papaya_named.specs.Given.Seize.declared.rows.settle.Settled.{Settled}
-use Rattle.papaya_named.specs.Given.Seize.declared.rows.settle.Settled.TheVariants as settled
-use Rattle.papaya_named.specs.Given.Tables.declared.node.Node.{Node}
-use Rattle.papaya_named.specs.Given.Raw.declared.machines.end_map.EndMap.{EndMap}
-use Rattle.papaya_named.specs.Given.Schedules.declared.effect.Effect.{Effect}
-use Rattle.papaya_named.specs.Given.Schedules.declared.effect.Effect.TheVariants.{Stored, Deferred, Taken}
-use Rattle.papaya_named.specs.Given.Schedules.Effects.{with_effect, with_effects, AtEachEffect}
-use Rattle.papaya_named.specs.Given.Schedules.Moment.{Place, Left, GivenBack, IsTaken, Moment}
-use Rattle.papaya_named.specs.Given.Schedules.Things.{same_table}
-use Rattle.papaya_named.specs.Given.Schedules.Views.{behind, is_there}
-use Rattle.papaya_named.specs.Given.Teller.declared.changed.Changed.{Changed}
-use Rattle.papaya_named.specs.Given.Teller.declared.changed.Changed.TheVariants as changed
-use Rattle.papaya_named.proofs.Given.Callers.Together.At.{at_other, at_same}
-use Rattle.papaya_named.specs.Given.Effects.Effects.{taken_by, effects_of, known_after}
-use Rattle.papaya_named.specs.Given.Effects.Known.{Known, with_role}
-use Rattle.papaya_named.specs.Given.Effects.declared.acting.Acting.{Acting}
-use Rattle.papaya_named.specs.Given.Effects.declared.acting.Acting.TheVariants.{Ending}
-use Rattle.papaya_named.specs.Given.Effects.declared.role.Role.{Role}
-use Rattle.papaya_named.specs.Given.Effects.declared.role.Role.TheVariants as role
-use Rattle.papaya_named.specs.Given.Finishes.Endings.{Finishing, StepsOfEnding}
-use Rattle.papaya_named.specs.Given.Finishes.FactsEnds.{taken_by as taken_of, left_by}
-use Rattle.papaya_named.specs.Given.Finishes.Maps.{Standing}
-use Rattle.papaya_named.proofs.Given.Follows.Alike.{is_calm, AllCalm, AreSame, calm_still, put_elsewhere}
-use Rattle.papaya_named.proofs.Given.Follows.Onward.{IsOfMap}
-use Rattle.papaya_named.proofs.Given.Follows.Operations.{LeavesBy}
-use Rattle.papaya_named.specs.Given.Hands.Hands.{IsInUse}
-use Rattle.papaya_named.specs.Given.Hands.Rows.{ShowsRows}
-use Rattle.papaya_named.proofs.Given.Hands.Others.{endings_begin_aside, endings_go_aside}
-use Rattle.papaya_named.specs.Given.Others.After.{ShowsAfter}
-use Rattle.papaya_named.specs.Given.Others.Counters.{NotesCounters}
-use Rattle.papaya_named.specs.Given.Others.Endings.{ending_after}
-use Rattle.papaya_named.specs.Given.Others.Gone.{EndsWith}
-use Rattle.papaya_named.proofs.Given.Others.Counters.{endings_note_counters}
-use Rattle.papaya_named.proofs.Given.Others.EndBegins.{endings_begin_shown}
-use Rattle.papaya_named.proofs.Given.Others.Ends.{left, says_or_takes, endings_are_shown}
-use Rattle.papaya_named.proofs.Given.Others.Quiet.{all_quiet}
-use Rattle.papaya_named.proofs.Given.Others.Stays.{same_maps}
-use Rattle.papaya_named.specs.Given.Spots.Deferred.{WaitOutside, FindsNumbers}
-use Rattle.papaya_named.specs.Given.Spots.Spots.{ShowsPlaces}
-use Rattle.papaya_named.specs.Given.Spots.Unreclaimed.{is_unreclaimed, ShowsUnreclaimed}
-use Rattle.papaya_named.proofs.Given.Spots.Begins.{fewer_maps_stand}
-use Rattle.papaya_named.proofs.Given.Spots.Calm.{put_back}
-use Rattle.papaya_named.proofs.Given.Spots.Deferred.{effects_leave_outside, each_waits_outside}
-use Rattle.papaya_named.proofs.Given.Spots.Effects.{AllAside, calm_aside}
-use Rattle.papaya_named.proofs.Given.Spots.Gone.{other_gone, pair_gone, table_gone}
-use Rattle.papaya_named.proofs.Given.Spots.Stays.{WerePairs, places_stay}
-use Rattle.papaya_named.proofs.Given.Spots.Unreclaimed.{unreclaimed_same}
+use Rattle.papaya_named.specs.Given.SeizeWordsMem.{value_at}
+use Rattle.papaya_named.specs.Given.SeizeWorld.{World, with_at, times}
+use Rattle.papaya_named.specs.Given.SeizeDeclared.rows.settle.Settled.{Settled}
+use Rattle.papaya_named.specs.Given.SeizeDeclared.rows.settle.Settled.TheVariants as settled
+use Rattle.papaya_named.specs.Given.TablesDeclared.node.Node.{Node}
+use Rattle.papaya_named.specs.Given.RawDeclared.machines.end_map.EndMap.{EndMap}
+use Rattle.papaya_named.specs.Given.SchedulesDeclared.effect.Effect.{Effect}
+use Rattle.papaya_named.specs.Given.SchedulesDeclared.effect.Effect.TheVariants.{Stored, Deferred, Taken}
+use Rattle.papaya_named.specs.Given.SchedulesEffects.{with_effect, with_effects, AtEachEffect}
+use Rattle.papaya_named.specs.Given.SchedulesMoment.{Place, Left, GivenBack, IsTaken, Moment}
+use Rattle.papaya_named.specs.Given.SchedulesThings.{same_table}
+use Rattle.papaya_named.specs.Given.SchedulesViews.{behind, is_there}
+use Rattle.papaya_named.specs.Given.TellerDeclared.changed.Changed.{Changed}
+use Rattle.papaya_named.specs.Given.TellerDeclared.changed.Changed.TheVariants as changed
+use Rattle.papaya_named.proofs.Given.CallersTogether.At.{at_other, at_same}
+use Rattle.papaya_named.specs.Given.EffectsEffects.{taken_by, effects_of, known_after}
+use Rattle.papaya_named.specs.Given.EffectsKnown.{Known, with_role}
+use Rattle.papaya_named.specs.Given.EffectsDeclared.acting.Acting.{Acting}
+use Rattle.papaya_named.specs.Given.EffectsDeclared.acting.Acting.TheVariants.{Ending}
+use Rattle.papaya_named.specs.Given.EffectsDeclared.role.Role.{Role}
+use Rattle.papaya_named.specs.Given.EffectsDeclared.role.Role.TheVariants as role
+use Rattle.papaya_named.specs.Given.FinishesEndings.{Finishing, StepsOfEnding}
+use Rattle.papaya_named.specs.Given.FinishesFactsEnds.{taken_by as taken_of, left_by}
+use Rattle.papaya_named.specs.Given.FinishesMaps.{Standing}
+use Rattle.papaya_named.proofs.Given.FollowsAlike.{is_calm, AllCalm, AreSame, calm_still, put_elsewhere}
+use Rattle.papaya_named.proofs.Given.FollowsOnward.{IsOfMap}
+use Rattle.papaya_named.proofs.Given.FollowsOperations.{LeavesBy}
+use Rattle.papaya_named.specs.Given.HandsHands.{IsInUse}
+use Rattle.papaya_named.specs.Given.HandsRows.{ShowsRows}
+use Rattle.papaya_named.proofs.Given.HandsOthers.{endings_begin_aside, endings_go_aside}
+use Rattle.papaya_named.specs.Given.OthersAfter.{ShowsAfter}
+use Rattle.papaya_named.specs.Given.OthersCounters.{NotesCounters}
+use Rattle.papaya_named.specs.Given.OthersEndings.{ending_after}
+use Rattle.papaya_named.specs.Given.OthersGone.{EndsWith}
+use Rattle.papaya_named.proofs.Given.OthersCounters.{endings_note_counters}
+use Rattle.papaya_named.proofs.Given.OthersEndBegins.{endings_begin_shown}
+use Rattle.papaya_named.proofs.Given.OthersEnds.{left, says_or_takes, endings_are_shown}
+use Rattle.papaya_named.proofs.Given.OthersQuiet.{all_quiet}
+use Rattle.papaya_named.proofs.Given.OthersStays.{same_maps}
+use Rattle.papaya_named.specs.Given.SpotsDeferred.{WaitOutside, FindsNumbers}
+use Rattle.papaya_named.specs.Given.SpotsSpots.{ShowsPlaces}
+use Rattle.papaya_named.specs.Given.SpotsUnreclaimed.{is_unreclaimed, ShowsUnreclaimed}
+use Rattle.papaya_named.proofs.Given.SpotsBegins.{fewer_maps_stand}
+use Rattle.papaya_named.proofs.Given.SpotsCalm.{put_back}
+use Rattle.papaya_named.proofs.Given.SpotsDeferred.{effects_leave_outside, each_waits_outside}
+use Rattle.papaya_named.proofs.Given.SpotsEffects.{AllAside, calm_aside}
+use Rattle.papaya_named.proofs.Given.SpotsGone.{other_gone, pair_gone, table_gone}
+use Rattle.papaya_named.proofs.Given.SpotsStays.{WerePairs, places_stay}
+use Rattle.papaya_named.proofs.Given.SpotsUnreclaimed.{unreclaimed_same}
 use Rattle.papaya_moments.specs.Endings.{IsOfIts, WaitsOn, EndingsBeginWhole, EndingsKeepWhole}
 use Rattle.papaya_moments.specs.Whole.{ShowsWhole}
 use Rattle.papaya_moments.proofs.Beside.{IsBeside, hands_beside, asked_beside}
 use Rattle.papaya_moments.proofs.OnSlots.{put_out, all_out, with_outside, IsAlone, alone, still_alone, none_some, Keeps, same_roles}
-use Rattle.papaya_named.specs.Given.Scenes.Ending.{EndingComesTo, EndingStepsFrom, ending_begun}
-use Rattle.papaya_named.specs.Given.Scenes.Held.{Held, IsAt}
-use Rattle.papaya_named.specs.Given.Scenes.Scene.{Scene, slot_of}
+use Rattle.papaya_named.specs.Given.ScenesEnding.{EndingComesTo, EndingStepsFrom, ending_begun}
+use Rattle.papaya_named.specs.Given.ScenesHeld.{Held, IsAt}
+use Rattle.papaya_named.specs.Given.ScenesScene.{Scene, slot_of}
 
 -- effects that move no pair and no table find numbers as they must
 module _ {K V : Type 0} (acted : Option ℕ) where

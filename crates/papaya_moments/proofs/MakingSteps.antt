@@ -2,56 +2,56 @@
 use Rattle.std.specs.Prelude.{◌≡◌, ℕ, ◌<◌, ◌≤◌, Bool, true, false, List, [], ◌∷◌, Option, Some, None, IsSome, if◌then◌else◌, ◌⊎◌}
 use Rattle.std.proofs.Common.{refl, ap, sym, subst, ◌∙◌, inl, inr, arith}
 use Rattle.std.proofs.lemmas.Bool.{cases_eq}
-use Rattle.papaya_named.specs.Given.SeizeWords.Mem.{value_at}
-use Rattle.papaya_named.specs.Given.SeizeWords.Word.{block_in}
-use Rattle.papaya_named.specs.Given.SeizeWords.declared.at.At.TheVariants.{Root, Used, Slot, Entry, Word}
-use Rattle.papaya_named.specs.Given.Seize.World.{World, Hand, NoBlock, Making, InUse, Parting, Cutting, Handed, LeftTo, with_at}
-use Rattle.papaya_named.specs.Given.Seize.declared.progress.Progress.{Progress}
-use Rattle.papaya_named.specs.Given.Seize.declared.progress.Progress.TheVariants as progress
-use Rattle.papaya_named.specs.Given.Tables.declared.node.Node.{Node}
-use Rattle.papaya_named.specs.Given.Tables.declared.setting.Setting.{Setting}
-use Rattle.papaya_named.specs.Given.Resize.declared.new_map.NewMap.{NewMap}
-use Rattle.papaya_named.specs.Given.Runs.declared.outcome.TableShape.{TableShape}
-use Rattle.papaya_named.specs.Given.Schedules.declared.effect.Effect.TheVariants.{Linked}
-use Rattle.papaya_named.specs.Given.Schedules.Effects.{with_effects}
-use Rattle.papaya_named.specs.Given.Schedules.Moment.{Moment}
-use Rattle.papaya_named.specs.Given.Teller.declared.changed.Changed.{Changed}
-use Rattle.papaya_named.specs.Given.Teller.declared.changed.Changed.TheVariants as changed
-use Rattle.papaya_named.specs.Given.Rule.InWorld.{IsOut, IsMapIn}
-use Rattle.papaya_named.proofs.Given.Callers.Together.At.{at_other, at_same}
-use Rattle.papaya_named.specs.Given.Finishes.Endings.{MakingStepsAmong}
-use Rattle.papaya_named.specs.Given.Finishes.Makings.{Beginning, IsMade}
-use Rattle.papaya_named.specs.Given.Finishes.Maps.{Standing}
-use Rattle.papaya_named.specs.Given.Effects.Effects.{table_at, made_role, taken_by, led_to, linked_on, named, names_same, effects_of, known_after}
-use Rattle.papaya_named.specs.Given.Effects.Known.{Known, with_role}
-use Rattle.papaya_named.specs.Given.Effects.declared.acting.Acting.{Acting}
-use Rattle.papaya_named.specs.Given.Effects.declared.acting.Acting.TheVariants as acts
-use Rattle.papaya_named.specs.Given.Effects.declared.role.Role.{Role}
-use Rattle.papaya_named.specs.Given.Effects.declared.role.Role.TheVariants as role
-use Rattle.papaya_named.proofs.Given.Follows.Alike.{AllStill, calm_still, put_here, put_elsewhere}
-use Rattle.papaya_named.proofs.Given.Follows.Onward.{IsOfMap}
-use Rattle.papaya_named.proofs.Given.Follows.Operations.{LeavesBy}
-use Rattle.papaya_named.proofs.Given.Follows.Steps.{one_of}
-use Rattle.papaya_named.specs.Given.Hands.Hands.{IsInUse}
-use Rattle.papaya_named.specs.Given.Hands.Rows.{ShowsRows}
-use Rattle.papaya_named.proofs.Given.Hands.Others.{makings_go_aside}
-use Rattle.papaya_named.specs.Given.Others.Makings.{IsNew, WasNew, making_after}
-use Rattle.papaya_named.proofs.Given.Others.Leads.{word_says}
-use Rattle.papaya_named.proofs.Given.Others.MakingGoes.{makings_note_counters}
-use Rattle.papaya_named.proofs.Given.Others.MakingPlans.{TellsMaking}
-use Rattle.papaya_named.proofs.Given.Others.MadeBlocks.{still_made, lasting_there}
-use Rattle.papaya_named.proofs.Given.Others.Makes.{no_table_word, not_going, not_refused, came_first, tells, left, makings_are_shown}
-use Rattle.papaya_named.proofs.Given.Others.Quiet.{calls_none, stored_none}
-use Rattle.papaya_named.proofs.Given.Spots.Calm.{put_back}
-use Rattle.papaya_named.proofs.Given.Spots.Makings.{makings_leave_places}
+use Rattle.papaya_named.specs.Given.SeizeWordsMem.{value_at}
+use Rattle.papaya_named.specs.Given.SeizeWordsWord.{block_in}
+use Rattle.papaya_named.specs.Given.SeizeWordsDeclared.at.At.TheVariants.{Root, Used, Slot, Entry, Word}
+use Rattle.papaya_named.specs.Given.SeizeWorld.{World, Hand, NoBlock, Making, InUse, Parting, Cutting, Handed, LeftTo, with_at}
+use Rattle.papaya_named.specs.Given.SeizeDeclared.progress.Progress.{Progress}
+use Rattle.papaya_named.specs.Given.SeizeDeclared.progress.Progress.TheVariants as progress
+use Rattle.papaya_named.specs.Given.TablesDeclared.node.Node.{Node}
+use Rattle.papaya_named.specs.Given.TablesDeclared.setting.Setting.{Setting}
+use Rattle.papaya_named.specs.Given.ResizeDeclared.new_map.NewMap.{NewMap}
+use Rattle.papaya_named.specs.Given.RunsDeclared.outcome.TableShape.{TableShape}
+use Rattle.papaya_named.specs.Given.SchedulesDeclared.effect.Effect.TheVariants.{Linked}
+use Rattle.papaya_named.specs.Given.SchedulesEffects.{with_effects}
+use Rattle.papaya_named.specs.Given.SchedulesMoment.{Moment}
+use Rattle.papaya_named.specs.Given.TellerDeclared.changed.Changed.{Changed}
+use Rattle.papaya_named.specs.Given.TellerDeclared.changed.Changed.TheVariants as changed
+use Rattle.papaya_named.specs.Given.RuleInWorld.{IsOut, IsMapIn}
+use Rattle.papaya_named.proofs.Given.CallersTogether.At.{at_other, at_same}
+use Rattle.papaya_named.specs.Given.FinishesEndings.{MakingStepsAmong}
+use Rattle.papaya_named.specs.Given.FinishesMakings.{Beginning, IsMade}
+use Rattle.papaya_named.specs.Given.FinishesMaps.{Standing}
+use Rattle.papaya_named.specs.Given.EffectsEffects.{table_at, made_role, taken_by, led_to, linked_on, named, names_same, effects_of, known_after}
+use Rattle.papaya_named.specs.Given.EffectsKnown.{Known, with_role}
+use Rattle.papaya_named.specs.Given.EffectsDeclared.acting.Acting.{Acting}
+use Rattle.papaya_named.specs.Given.EffectsDeclared.acting.Acting.TheVariants as acts
+use Rattle.papaya_named.specs.Given.EffectsDeclared.role.Role.{Role}
+use Rattle.papaya_named.specs.Given.EffectsDeclared.role.Role.TheVariants as role
+use Rattle.papaya_named.proofs.Given.FollowsAlike.{AllStill, calm_still, put_here, put_elsewhere}
+use Rattle.papaya_named.proofs.Given.FollowsOnward.{IsOfMap}
+use Rattle.papaya_named.proofs.Given.FollowsOperations.{LeavesBy}
+use Rattle.papaya_named.proofs.Given.FollowsSteps.{one_of}
+use Rattle.papaya_named.specs.Given.HandsHands.{IsInUse}
+use Rattle.papaya_named.specs.Given.HandsRows.{ShowsRows}
+use Rattle.papaya_named.proofs.Given.HandsOthers.{makings_go_aside}
+use Rattle.papaya_named.specs.Given.OthersMakings.{IsNew, WasNew, making_after}
+use Rattle.papaya_named.proofs.Given.OthersLeads.{word_says}
+use Rattle.papaya_named.proofs.Given.OthersMakingGoes.{makings_note_counters}
+use Rattle.papaya_named.proofs.Given.OthersMakingPlans.{TellsMaking}
+use Rattle.papaya_named.proofs.Given.OthersMadeBlocks.{still_made, lasting_there}
+use Rattle.papaya_named.proofs.Given.OthersMakes.{no_table_word, not_going, not_refused, came_first, tells, left, makings_are_shown}
+use Rattle.papaya_named.proofs.Given.OthersQuiet.{calls_none, stored_none}
+use Rattle.papaya_named.proofs.Given.SpotsCalm.{put_back}
+use Rattle.papaya_named.proofs.Given.SpotsMakings.{makings_leave_places}
 use Rattle.papaya_moments.specs.Makings.{MakingsKeepWhole}
 use Rattle.papaya_moments.specs.Whole.{ShowsWhole}
 use Rattle.papaya_moments.proofs.Beside.{CameAsTable, StoodSo, StandsNew, IsBeside, hands_beside, asked_beside}
 use Rattle.papaya_moments.proofs.Makings.{lasting_of, none_of_it, none_of_map, not_of_map, before_free, makings_keep_blocks}
 use Rattle.papaya_moments.proofs.OnSlots.{IsAlone, alone, still_alone, none_some, Keeps, same_roles}
-use Rattle.papaya_named.specs.Given.Scenes.Held.{Held, IsAt}
-use Rattle.papaya_named.specs.Given.Scenes.Making.{MakingLeads, MakingStepsFrom}
-use Rattle.papaya_named.specs.Given.Scenes.Scene.{Scene, slot_of}
+use Rattle.papaya_named.specs.Given.ScenesHeld.{Held, IsAt}
+use Rattle.papaya_named.specs.Given.ScenesMaking.{MakingLeads, MakingStepsFrom}
+use Rattle.papaya_named.specs.Given.ScenesScene.{Scene, slot_of}
 
 module _ {K V : Type 0} (same : K → K → Bool) (hash : ℕ → K → ℕ) (name : ℕ → List ℕ) (m : Moment K V) (known : Known) (s : Scene K V) (old new : Held K V) (at : IsAt same hash old s)
     (whole : ShowsWhole same name m known s) (i : ℕ) (b : Beginning K) (here : s.makers i ≡ Some b) (end : NewMap) (said : Progress Setting) (steps : MakingStepsFrom b.machine old new end said)

@@ -3,56 +3,56 @@ use Rattle.std.specs.Prelude.{◌≡◌, ℕ, ◌==◌, Bool, true, false, ◌&&
 use Rattle.std.specs.List.{list_any}
 use Rattle.std.proofs.Common.{refl, ap, sym, subst, ◌∙◌}
 use Rattle.std.proofs.lemmas.Bool.{eq-eqb}
-use Rattle.papaya_named.specs.Given.SeizeWords.Mem.{value_at, word_at}
-use Rattle.papaya_named.specs.Given.SeizeWords.Word.{block_in}
-use Rattle.papaya_named.specs.Given.SeizeWords.declared.at.At.TheVariants.{Root, Used, Slot, Entry, Word}
-use Rattle.papaya_named.specs.Given.Seize.World.{World}
-use Rattle.papaya_named.specs.Given.Seize.declared.progress.Progress.{Progress}
-use Rattle.papaya_named.specs.Given.Seize.declared.progress.Progress.TheVariants as progress
-use Rattle.papaya_named.specs.Given.Tables.declared.node.Node.{Node}
-use Rattle.papaya_named.specs.Given.Tables.declared.setting.Setting.{Setting}
-use Rattle.papaya_named.specs.Given.Resize.declared.new_map.NewMap.{NewMap}
-use Rattle.papaya_named.specs.Given.Schedules.declared.effect.Effect.{Effect}
-use Rattle.papaya_named.specs.Given.Schedules.declared.effect.Effect.TheVariants.{Asked, Linked}
-use Rattle.papaya_named.specs.Given.Schedules.declared.effect.Growth.TheVariants.{ABlock}
-use Rattle.papaya_named.specs.Given.Schedules.declared.effect.Table.{Table}
-use Rattle.papaya_named.specs.Given.Schedules.Effects.{with_effects}
-use Rattle.papaya_named.specs.Given.Schedules.Moment.{Place, Moment}
-use Rattle.papaya_named.specs.Given.Schedules.Things.{same_table}
-use Rattle.papaya_named.specs.Given.Schedules.Views.{is_there, tables_of}
-use Rattle.papaya_named.specs.Given.Teller.declared.changed.Changed.{Changed}
-use Rattle.papaya_named.specs.Given.Teller.declared.changed.Changed.TheVariants as changed
-use Rattle.papaya_named.specs.Given.Teller.declared.changed.Kind.{Kind}
-use Rattle.papaya_named.specs.Given.Teller.declared.changed.Kind.TheVariants as kind
-use Rattle.papaya_named.specs.Given.Finishes.Endings.{MakingStepsAmong}
-use Rattle.papaya_named.specs.Given.Finishes.Makings.{Beginning}
-use Rattle.papaya_named.specs.Given.Effects.Effects.{made_role, made_by, taken_by, led_to, linked_on, named, names_same, effects_of, known_after}
-use Rattle.papaya_named.specs.Given.Effects.Known.{Known, with_role}
-use Rattle.papaya_named.specs.Given.Effects.declared.acting.Acting.{Acting}
-use Rattle.papaya_named.specs.Given.Effects.declared.acting.Acting.TheVariants.{Making}
-use Rattle.papaya_named.specs.Given.Effects.declared.role.Role.{Role}
-use Rattle.papaya_named.specs.Given.Effects.declared.role.Role.TheVariants as role
-use Rattle.papaya_named.specs.Given.Follows.Blocks.{HasRole}
-use Rattle.papaya_named.specs.Given.Follows.Shows.{Shows}
-use Rattle.papaya_named.proofs.Given.Follows.Alike.{AllStill, calm_still, put_elsewhere}
-use Rattle.papaya_named.proofs.Given.Follows.Onward.{IsLasting, IsOfMap}
-use Rattle.papaya_named.proofs.Given.Follows.Operations.{LeavesBy}
-use Rattle.papaya_named.proofs.Given.Follows.Writes.{nothing_free}
-use Rattle.papaya_named.specs.Given.Others.Makings.{IsNew, WasNew}
-use Rattle.papaya_named.proofs.Given.Others.Leads.{word_says}
-use Rattle.papaya_named.proofs.Given.Others.MakingPlans.{TellsMaking}
-use Rattle.papaya_named.proofs.Given.Others.MadeBlocks.{still_made, lasting_there}
-use Rattle.papaya_named.proofs.Given.Others.Makes.{linked_stays, no_table_word, tells, left, not_going, not_refused}
-use Rattle.papaya_named.proofs.Given.Others.Quiet.{all_quiet}
-use Rattle.papaya_named.proofs.Given.Others.Retired.{any_kept}
-use Rattle.papaya_named.specs.Given.Spots.Unreclaimed.{is_unreclaimed, ShowsUnreclaimed}
-use Rattle.papaya_named.proofs.Given.Spots.Calm.{put_back}
-use Rattle.papaya_named.proofs.Given.Spots.Gone.{other_gone}
-use Rattle.papaya_named.proofs.Given.Spots.Unreclaimed.{AsUnreclaimed, unreclaimed_same, linked_unreclaimed, and_both, table_is}
+use Rattle.papaya_named.specs.Given.SeizeWordsMem.{value_at, word_at}
+use Rattle.papaya_named.specs.Given.SeizeWordsWord.{block_in}
+use Rattle.papaya_named.specs.Given.SeizeWordsDeclared.at.At.TheVariants.{Root, Used, Slot, Entry, Word}
+use Rattle.papaya_named.specs.Given.SeizeWorld.{World}
+use Rattle.papaya_named.specs.Given.SeizeDeclared.progress.Progress.{Progress}
+use Rattle.papaya_named.specs.Given.SeizeDeclared.progress.Progress.TheVariants as progress
+use Rattle.papaya_named.specs.Given.TablesDeclared.node.Node.{Node}
+use Rattle.papaya_named.specs.Given.TablesDeclared.setting.Setting.{Setting}
+use Rattle.papaya_named.specs.Given.ResizeDeclared.new_map.NewMap.{NewMap}
+use Rattle.papaya_named.specs.Given.SchedulesDeclared.effect.Effect.{Effect}
+use Rattle.papaya_named.specs.Given.SchedulesDeclared.effect.Effect.TheVariants.{Asked, Linked}
+use Rattle.papaya_named.specs.Given.SchedulesDeclared.effect.Growth.TheVariants.{ABlock}
+use Rattle.papaya_named.specs.Given.SchedulesDeclared.effect.Table.{Table}
+use Rattle.papaya_named.specs.Given.SchedulesEffects.{with_effects}
+use Rattle.papaya_named.specs.Given.SchedulesMoment.{Place, Moment}
+use Rattle.papaya_named.specs.Given.SchedulesThings.{same_table}
+use Rattle.papaya_named.specs.Given.SchedulesViews.{is_there, tables_of}
+use Rattle.papaya_named.specs.Given.TellerDeclared.changed.Changed.{Changed}
+use Rattle.papaya_named.specs.Given.TellerDeclared.changed.Changed.TheVariants as changed
+use Rattle.papaya_named.specs.Given.TellerDeclared.changed.Kind.{Kind}
+use Rattle.papaya_named.specs.Given.TellerDeclared.changed.Kind.TheVariants as kind
+use Rattle.papaya_named.specs.Given.FinishesEndings.{MakingStepsAmong}
+use Rattle.papaya_named.specs.Given.FinishesMakings.{Beginning}
+use Rattle.papaya_named.specs.Given.EffectsEffects.{made_role, made_by, taken_by, led_to, linked_on, named, names_same, effects_of, known_after}
+use Rattle.papaya_named.specs.Given.EffectsKnown.{Known, with_role}
+use Rattle.papaya_named.specs.Given.EffectsDeclared.acting.Acting.{Acting}
+use Rattle.papaya_named.specs.Given.EffectsDeclared.acting.Acting.TheVariants.{Making}
+use Rattle.papaya_named.specs.Given.EffectsDeclared.role.Role.{Role}
+use Rattle.papaya_named.specs.Given.EffectsDeclared.role.Role.TheVariants as role
+use Rattle.papaya_named.specs.Given.FollowsBlocks.{HasRole}
+use Rattle.papaya_named.specs.Given.FollowsShows.{Shows}
+use Rattle.papaya_named.proofs.Given.FollowsAlike.{AllStill, calm_still, put_elsewhere}
+use Rattle.papaya_named.proofs.Given.FollowsOnward.{IsLasting, IsOfMap}
+use Rattle.papaya_named.proofs.Given.FollowsOperations.{LeavesBy}
+use Rattle.papaya_named.proofs.Given.FollowsWrites.{nothing_free}
+use Rattle.papaya_named.specs.Given.OthersMakings.{IsNew, WasNew}
+use Rattle.papaya_named.proofs.Given.OthersLeads.{word_says}
+use Rattle.papaya_named.proofs.Given.OthersMakingPlans.{TellsMaking}
+use Rattle.papaya_named.proofs.Given.OthersMadeBlocks.{still_made, lasting_there}
+use Rattle.papaya_named.proofs.Given.OthersMakes.{linked_stays, no_table_word, tells, left, not_going, not_refused}
+use Rattle.papaya_named.proofs.Given.OthersQuiet.{all_quiet}
+use Rattle.papaya_named.proofs.Given.OthersRetired.{any_kept}
+use Rattle.papaya_named.specs.Given.SpotsUnreclaimed.{is_unreclaimed, ShowsUnreclaimed}
+use Rattle.papaya_named.proofs.Given.SpotsCalm.{put_back}
+use Rattle.papaya_named.proofs.Given.SpotsGone.{other_gone}
+use Rattle.papaya_named.proofs.Given.SpotsUnreclaimed.{AsUnreclaimed, unreclaimed_same, linked_unreclaimed, and_both, table_is}
 use Rattle.papaya_moments.specs.Makings.{MakingsKeepBlocks}
-use Rattle.papaya_named.specs.Given.Scenes.Held.{Held, IsAt}
-use Rattle.papaya_named.specs.Given.Scenes.Making.{MakingComesTo, MakingStepsFrom}
-use Rattle.papaya_named.specs.Given.Scenes.Scene.{Scene, slot_of}
+use Rattle.papaya_named.specs.Given.ScenesHeld.{Held, IsAt}
+use Rattle.papaya_named.specs.Given.ScenesMaking.{MakingComesTo, MakingStepsFrom}
+use Rattle.papaya_named.specs.Given.ScenesScene.{Scene, slot_of}
 
 -- what is of a map lasts
 pub lasting_of : (r : Role) → IsOfMap r → IsLasting r

@@ -4,22 +4,22 @@ use Rattle.std.specs.Option.{option_or}
 use Rattle.std.proofs.Common.{refl, ap, sym, subst, ◌∙◌}
 use Rattle.std.proofs.lemmas.Bool.{eqb-true}
 use Rattle.std.proofs.lemmas.List.Folds.{find-append}
-use Rattle.papaya_named.specs.Given.Runs.Same.{is_same}
-use Rattle.papaya_named.specs.Given.Schedules.declared.effect.Table.{Table}
-use Rattle.papaya_named.specs.Given.Schedules.Beginning.{with_map}
-use Rattle.papaya_named.specs.Given.Schedules.Moment.{UnderWay as CallThere, MapThere, Moment}
-use Rattle.papaya_named.specs.Given.Schedules.Views.{map_at}
-use Rattle.papaya_named.specs.Given.Effects.Known.{Known}
-use Rattle.papaya_named.specs.Given.Effects.declared.role.Role.TheVariants as role
-use Rattle.papaya_named.specs.Given.Follows.Shows.{Shows}
-use Rattle.papaya_named.specs.Given.Hands.Asked.{IsAsked, ShowsAsked}
-use Rattle.papaya_named.specs.Given.Hands.Hands.{IsInUse}
-use Rattle.papaya_named.specs.Given.Others.After.{ShowsAfter}
-use Rattle.papaya_named.proofs.Given.Others.Counters.{beginnings_note_counters}
-use Rattle.papaya_named.proofs.Given.Others.MakeBegins.{maps_are_there}
+use Rattle.papaya_named.specs.Given.RunsSame.{is_same}
+use Rattle.papaya_named.specs.Given.SchedulesDeclared.effect.Table.{Table}
+use Rattle.papaya_named.specs.Given.SchedulesBeginning.{with_map}
+use Rattle.papaya_named.specs.Given.SchedulesMoment.{UnderWay as CallThere, MapThere, Moment}
+use Rattle.papaya_named.specs.Given.SchedulesViews.{map_at}
+use Rattle.papaya_named.specs.Given.EffectsKnown.{Known}
+use Rattle.papaya_named.specs.Given.EffectsDeclared.role.Role.TheVariants as role
+use Rattle.papaya_named.specs.Given.FollowsShows.{Shows}
+use Rattle.papaya_named.specs.Given.HandsAsked.{IsAsked, ShowsAsked}
+use Rattle.papaya_named.specs.Given.HandsHands.{IsInUse}
+use Rattle.papaya_named.specs.Given.OthersAfter.{ShowsAfter}
+use Rattle.papaya_named.proofs.Given.OthersCounters.{beginnings_note_counters}
+use Rattle.papaya_named.proofs.Given.OthersMakeBegins.{maps_are_there}
 use Rattle.papaya_moments.specs.Makings.{MakingsBeginWhole, MapsComeWhole}
 use Rattle.papaya_moments.proofs.Makings.{none_of_it}
-use Rattle.papaya_named.specs.Given.Scenes.Scene.{Scene}
+use Rattle.papaya_named.specs.Given.ScenesScene.{Scene}
 
 module _ {K V : Type 0} (same : K → K → Bool) (name : ℕ → List ℕ) (m m2 : Moment K V) (known : Known) (s : Scene K V) (shown : Shows same name m known s) where
   -- what calls were asked and told stays as it was where they and the maps that stand are so

@@ -2,13 +2,13 @@
 use Rattle.std.specs.Prelude.{◌≡◌, ℕ, ◌<◌, List, [], ◌∷◌, Option, Some, None}
 use Rattle.std.proofs.Common.{refl, sym, subst, ◌∙◌, arith, inl, inr}
 use Rattle.std.proofs.lemmas.Bool.{cases_eq}
-use Rattle.papaya_named.specs.Given.Schedules.declared.effect.Effect.{Effect}
-use Rattle.papaya_named.specs.Given.Schedules.declared.effect.Effect.TheVariants.{Stored, Replaced, Removed, Retired, Deferred, Reclaimed, Ended, Taken}
-use Rattle.papaya_named.specs.Given.Schedules.declared.effect.Thing.TheVariants.{APair, ATable}
-use Rattle.papaya_named.specs.Given.Schedules.Effects.{in_map, with_effect, with_effects}
-use Rattle.papaya_named.specs.Given.Schedules.Moment.{InMap, Out, Handed, Behind, Left, GivenBack, Moment}
-use Rattle.papaya_named.specs.Given.Schedules.Views.{behind}
-use Rattle.papaya_named.proofs.Given.Follows.Alike.{put_here, put_elsewhere}
+use Rattle.papaya_named.specs.Given.SchedulesDeclared.effect.Effect.{Effect}
+use Rattle.papaya_named.specs.Given.SchedulesDeclared.effect.Effect.TheVariants.{Stored, Replaced, Removed, Retired, Deferred, Reclaimed, Ended, Taken}
+use Rattle.papaya_named.specs.Given.SchedulesDeclared.effect.Thing.TheVariants.{APair, ATable}
+use Rattle.papaya_named.specs.Given.SchedulesEffects.{in_map, with_effect, with_effects}
+use Rattle.papaya_named.specs.Given.SchedulesMoment.{InMap, Out, Handed, Behind, Left, GivenBack, Moment}
+use Rattle.papaya_named.specs.Given.SchedulesViews.{behind}
+use Rattle.papaya_named.proofs.Given.FollowsAlike.{put_here, put_elsewhere}
 use Rattle.papaya_moments.specs.Numbers.{PairsAreBelow, PairsBegin, PairsStayAsMapsCome, PairsStayAsMapsGo, EffectsKeepPairs, MapsComeAsNew}
 use Rattle.papaya_moments.proofs.Numbers.{itself, maps_come_by_number}
 use Rattle.papaya_moments.proofs.OnSlots.{put_out, all_out}

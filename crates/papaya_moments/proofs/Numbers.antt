@@ -6,30 +6,30 @@ use Rattle.std.proofs.Common.{refl, ap, sym, subst, ◌∙◌, arith}
 use Rattle.std.proofs.lemmas.Bool.{eq-eqb, eqb-true, ne_eqb}
 use Rattle.std.proofs.lemmas.List.Elements.{All-append, All-cons, All-filter, All-map}
 use Rattle.std.proofs.lemmas.List.Folds.{find-append}
-use Rattle.papaya_named.specs.Given.SeizeWords.declared.at.At.TheVariants.{Root, Used, Slot, Entry, Word}
-use Rattle.papaya_named.specs.Given.Runs.Same.{is_same}
-use Rattle.papaya_named.specs.Given.Schedules.declared.effect.Effect.{Effect}
-use Rattle.papaya_named.specs.Given.Schedules.declared.effect.Effect.TheVariants.{Asked, Linked, Promoted, Retired, Reclaimed, Taken}
-use Rattle.papaya_named.specs.Given.Schedules.declared.effect.Growth.TheVariants.{ABucket}
-use Rattle.papaya_named.specs.Given.Schedules.declared.effect.Table.{Table}
-use Rattle.papaya_named.specs.Given.Schedules.declared.effect.Thing.TheVariants.{APair, ATable}
-use Rattle.papaya_named.specs.Given.Schedules.Beginning.{with_map}
-use Rattle.papaya_named.specs.Given.Schedules.Effects.{at_stage, promoted, with_effect, with_effects}
-use Rattle.papaya_named.specs.Given.Schedules.Moment.{MapThere, Stage, IsLinked, IsRetired, IsReclaimed, IsTaken, TableThere, Moment}
-use Rattle.papaya_named.specs.Given.Schedules.Things.{same_table}
-use Rattle.papaya_named.specs.Given.Schedules.Views.{map_at}
-use Rattle.papaya_named.specs.Given.Teller.declared.changed.Changed.{Changed}
-use Rattle.papaya_named.specs.Given.Teller.declared.changed.Changed.TheVariants as changed
-use Rattle.papaya_named.specs.Given.Effects.Effects.{map_of, pair_taken, table_taken, names_same, taken_by, effects_of}
-use Rattle.papaya_named.specs.Given.Effects.Known.{Known}
-use Rattle.papaya_named.specs.Given.Effects.declared.acting.Acting.{Acting}
-use Rattle.papaya_named.specs.Given.Effects.declared.acting.Acting.TheVariants as acts
-use Rattle.papaya_named.specs.Given.Effects.declared.role.Role.{Role}
-use Rattle.papaya_named.specs.Given.Effects.declared.role.Role.TheVariants as role
-use Rattle.papaya_named.proofs.Given.Others.EndBegins.{found_still}
-use Rattle.papaya_named.proofs.Given.Others.RowPlans.{TellsRow, row_tells}
+use Rattle.papaya_named.specs.Given.SeizeWordsDeclared.at.At.TheVariants.{Root, Used, Slot, Entry, Word}
+use Rattle.papaya_named.specs.Given.RunsSame.{is_same}
+use Rattle.papaya_named.specs.Given.SchedulesDeclared.effect.Effect.{Effect}
+use Rattle.papaya_named.specs.Given.SchedulesDeclared.effect.Effect.TheVariants.{Asked, Linked, Promoted, Retired, Reclaimed, Taken}
+use Rattle.papaya_named.specs.Given.SchedulesDeclared.effect.Growth.TheVariants.{ABucket}
+use Rattle.papaya_named.specs.Given.SchedulesDeclared.effect.Table.{Table}
+use Rattle.papaya_named.specs.Given.SchedulesDeclared.effect.Thing.TheVariants.{APair, ATable}
+use Rattle.papaya_named.specs.Given.SchedulesBeginning.{with_map}
+use Rattle.papaya_named.specs.Given.SchedulesEffects.{at_stage, promoted, with_effect, with_effects}
+use Rattle.papaya_named.specs.Given.SchedulesMoment.{MapThere, Stage, IsLinked, IsRetired, IsReclaimed, IsTaken, TableThere, Moment}
+use Rattle.papaya_named.specs.Given.SchedulesThings.{same_table}
+use Rattle.papaya_named.specs.Given.SchedulesViews.{map_at}
+use Rattle.papaya_named.specs.Given.TellerDeclared.changed.Changed.{Changed}
+use Rattle.papaya_named.specs.Given.TellerDeclared.changed.Changed.TheVariants as changed
+use Rattle.papaya_named.specs.Given.EffectsEffects.{map_of, pair_taken, table_taken, names_same, taken_by, effects_of}
+use Rattle.papaya_named.specs.Given.EffectsKnown.{Known}
+use Rattle.papaya_named.specs.Given.EffectsDeclared.acting.Acting.{Acting}
+use Rattle.papaya_named.specs.Given.EffectsDeclared.acting.Acting.TheVariants as acts
+use Rattle.papaya_named.specs.Given.EffectsDeclared.role.Role.{Role}
+use Rattle.papaya_named.specs.Given.EffectsDeclared.role.Role.TheVariants as role
+use Rattle.papaya_named.proofs.Given.OthersEndBegins.{found_still}
+use Rattle.papaya_named.proofs.Given.OthersRowPlans.{TellsRow, row_tells}
 use Rattle.papaya_moments.specs.Numbers.{NumbersMaps, NumbersBegin, MapsComeByNumber, MapsGo, StepsKeepNumbers, NumbersAreBelow, RowsKeepNumbers}
-use Rattle.papaya_named.proofs.Given.Follows.OfEach.{OfEach, each_operation_so}
+use Rattle.papaya_named.proofs.Given.FollowsOfEach.{OfEach, each_operation_so}
 
 module _ {X : Type 0} where
   none_listed : (P : X → Type 0) → All P []

@@ -2,63 +2,63 @@
 use Rattle.std.specs.Prelude.{◌&&◌, ◌≡◌, ℕ, zero, suc, nat_lt, Bool, true, false, List, [], ◌∷◌, Option, Some, None, IsSome, if◌then◌else◌}
 use Rattle.std.proofs.Common.{refl, ap, sym, subst, ◌∙◌, arith, inl, inr}
 use Rattle.std.proofs.lemmas.Bool.{cases_eq}
-use Rattle.papaya_named.specs.Given.SeizeWords.declared.at.At.TheVariants.{Root, Used, Slot, Entry, Word}
-use Rattle.papaya_named.specs.Given.SeizeWords.Mem.{Mem, value_at}
-use Rattle.papaya_named.specs.Given.Seize.Sequence.{taken_in}
-use Rattle.papaya_named.specs.Given.Seize.World.{World, Hand, Begin, Step, Begins, times}
-use Rattle.papaya_named.proofs.Given.SeizeRule.Rows.Effects.{hand_kept}
-use Rattle.papaya_named.proofs.Given.SeizeAlone.Spared.Rows.{RowStepped}
-use Rattle.papaya_named.proofs.Given.SeizeAlone.Histories.NotTaken.{did, taken_gone}
-use Rattle.papaya_named.proofs.Given.SeizeAlone.Histories.Reached.{Reached}
-use Rattle.papaya_named.specs.Given.Tables.Nodes.{deferred_word}
-use Rattle.papaya_named.specs.Given.Tables.declared.node.Node.{Node}
-use Rattle.papaya_named.specs.Given.Schedules.declared.effect.Effect.{Effect}
-use Rattle.papaya_named.specs.Given.Schedules.declared.effect.Effect.TheVariants.{Asked, Reclaimed}
-use Rattle.papaya_named.specs.Given.Schedules.declared.effect.Growth.TheVariants.{ABucket}
-use Rattle.papaya_named.specs.Given.Schedules.declared.effect.Thing.TheVariants.{APair, ATable}
-use Rattle.papaya_named.specs.Given.Schedules.Effects.{with_effect, with_effects, all_at, AtEachEffect}
-use Rattle.papaya_named.specs.Given.Schedules.Lists.{put, is_among}
-use Rattle.papaya_named.specs.Given.Schedules.Moment.{Place, InMap, Handed, GivenBack, Moment}
-use Rattle.papaya_named.specs.Given.Schedules.Views.{behind}
-use Rattle.papaya_named.specs.Given.Teller.declared.changed.Changed.{Changed}
-use Rattle.papaya_named.specs.Given.Teller.declared.changed.Changed.TheVariants as changed
-use Rattle.papaya_named.proofs.Given.Callers.Together.Came.{came_reached}
-use Rattle.papaya_named.specs.Given.Finishes.Maps.{Standing, IsSameMap}
-use Rattle.papaya_named.specs.Given.Effects.Effects.{names_same, taken_by, effects_of, known_after}
-use Rattle.papaya_named.specs.Given.Effects.Known.{Known}
-use Rattle.papaya_named.specs.Given.Effects.declared.acting.Acting.TheVariants.{Row}
-use Rattle.papaya_named.specs.Given.Effects.declared.role.Role.{Role}
-use Rattle.papaya_named.specs.Given.Effects.declared.role.Role.TheVariants as role
-use Rattle.papaya_named.specs.Given.Scenes.declared.row.RowTold.{RowTold}
-use Rattle.papaya_named.specs.Given.Scenes.declared.row.SlotCall.{SlotCall}
-use Rattle.papaya_named.specs.Given.Scenes.declared.row.SlotCall.TheVariants as call
-use Rattle.papaya_named.specs.Given.Scenes.declared.row.SlotRow.{SlotRow}
-use Rattle.papaya_named.proofs.Given.Follows.Alike.{AllStill, put_here, put_elsewhere}
-use Rattle.papaya_named.proofs.Given.Follows.Onward.{IsOfMap}
-use Rattle.papaya_named.proofs.Given.Follows.Operations.{LeavesBy, operated_leaves}
-use Rattle.papaya_named.proofs.Given.Follows.Steps.{one_of}
-use Rattle.papaya_named.proofs.Given.Follows.Told.{roomed_as_many}
-use Rattle.papaya_named.specs.Given.Hands.Hands.{IsInUse}
-use Rattle.papaya_named.proofs.Given.Hands.Others.{rows_begin_aside, rows_go_aside}
-use Rattle.papaya_named.specs.Given.Others.Gone.{WasRetired}
-use Rattle.papaya_named.specs.Given.Others.Rows.{scene_then}
-use Rattle.papaya_named.proofs.Given.Others.Counters.{rows_note_counters}
-use Rattle.papaya_named.proofs.Given.Others.Quiet.{calls_none, all_quiet}
-use Rattle.papaya_named.proofs.Given.Others.RowBegins.{rows_begin_shown}
-use Rattle.papaya_named.proofs.Given.Others.RowPlans.{TellsRow, row_tells, row_operated}
-use Rattle.papaya_named.proofs.Given.Others.Rows.{rows_on_slots_are_shown}
-use Rattle.papaya_named.specs.Given.Spots.Deferred.{WaitOutside, FindsNumbers}
-use Rattle.papaya_named.proofs.Given.Spots.Calm.{put_back}
-use Rattle.papaya_named.proofs.Given.Spots.Deferred.{effects_leave_outside, each_waits_outside}
-use Rattle.papaya_named.proofs.Given.Spots.OnSlots.{row_beside as finds_numbers, rows_leave_places, rows_keep_blocks}
-use Rattle.papaya_named.proofs.Given.Spots.Stays.{places_stay}
+use Rattle.papaya_named.specs.Given.SeizeWordsDeclared.at.At.TheVariants.{Root, Used, Slot, Entry, Word}
+use Rattle.papaya_named.specs.Given.SeizeWordsMem.{Mem, value_at}
+use Rattle.papaya_named.specs.Given.SeizeSequence.{taken_in}
+use Rattle.papaya_named.specs.Given.SeizeWorld.{World, Hand, Begin, Step, Begins, times}
+use Rattle.papaya_named.proofs.Given.SeizeRuleRows.Effects.{hand_kept}
+use Rattle.papaya_named.proofs.Given.SeizeAloneSpared.Rows.{RowStepped}
+use Rattle.papaya_named.proofs.Given.SeizeAloneHistories.NotTaken.{did, taken_gone}
+use Rattle.papaya_named.proofs.Given.SeizeAloneHistories.Reached.{Reached}
+use Rattle.papaya_named.specs.Given.TablesNodes.{deferred_word}
+use Rattle.papaya_named.specs.Given.TablesDeclared.node.Node.{Node}
+use Rattle.papaya_named.specs.Given.SchedulesDeclared.effect.Effect.{Effect}
+use Rattle.papaya_named.specs.Given.SchedulesDeclared.effect.Effect.TheVariants.{Asked, Reclaimed}
+use Rattle.papaya_named.specs.Given.SchedulesDeclared.effect.Growth.TheVariants.{ABucket}
+use Rattle.papaya_named.specs.Given.SchedulesDeclared.effect.Thing.TheVariants.{APair, ATable}
+use Rattle.papaya_named.specs.Given.SchedulesEffects.{with_effect, with_effects, all_at, AtEachEffect}
+use Rattle.papaya_named.specs.Given.SchedulesLists.{put, is_among}
+use Rattle.papaya_named.specs.Given.SchedulesMoment.{Place, InMap, Handed, GivenBack, Moment}
+use Rattle.papaya_named.specs.Given.SchedulesViews.{behind}
+use Rattle.papaya_named.specs.Given.TellerDeclared.changed.Changed.{Changed}
+use Rattle.papaya_named.specs.Given.TellerDeclared.changed.Changed.TheVariants as changed
+use Rattle.papaya_named.proofs.Given.CallersTogether.Came.{came_reached}
+use Rattle.papaya_named.specs.Given.FinishesMaps.{Standing, IsSameMap}
+use Rattle.papaya_named.specs.Given.EffectsEffects.{names_same, taken_by, effects_of, known_after}
+use Rattle.papaya_named.specs.Given.EffectsKnown.{Known}
+use Rattle.papaya_named.specs.Given.EffectsDeclared.acting.Acting.TheVariants.{Row}
+use Rattle.papaya_named.specs.Given.EffectsDeclared.role.Role.{Role}
+use Rattle.papaya_named.specs.Given.EffectsDeclared.role.Role.TheVariants as role
+use Rattle.papaya_named.specs.Given.ScenesDeclared.row.RowTold.{RowTold}
+use Rattle.papaya_named.specs.Given.ScenesDeclared.row.SlotCall.{SlotCall}
+use Rattle.papaya_named.specs.Given.ScenesDeclared.row.SlotCall.TheVariants as call
+use Rattle.papaya_named.specs.Given.ScenesDeclared.row.SlotRow.{SlotRow}
+use Rattle.papaya_named.proofs.Given.FollowsAlike.{AllStill, put_here, put_elsewhere}
+use Rattle.papaya_named.proofs.Given.FollowsOnward.{IsOfMap}
+use Rattle.papaya_named.proofs.Given.FollowsOperations.{LeavesBy, operated_leaves}
+use Rattle.papaya_named.proofs.Given.FollowsSteps.{one_of}
+use Rattle.papaya_named.proofs.Given.FollowsTold.{roomed_as_many}
+use Rattle.papaya_named.specs.Given.HandsHands.{IsInUse}
+use Rattle.papaya_named.proofs.Given.HandsOthers.{rows_begin_aside, rows_go_aside}
+use Rattle.papaya_named.specs.Given.OthersGone.{WasRetired}
+use Rattle.papaya_named.specs.Given.OthersRows.{scene_then}
+use Rattle.papaya_named.proofs.Given.OthersCounters.{rows_note_counters}
+use Rattle.papaya_named.proofs.Given.OthersQuiet.{calls_none, all_quiet}
+use Rattle.papaya_named.proofs.Given.OthersRowBegins.{rows_begin_shown}
+use Rattle.papaya_named.proofs.Given.OthersRowPlans.{TellsRow, row_tells, row_operated}
+use Rattle.papaya_named.proofs.Given.OthersRows.{rows_on_slots_are_shown}
+use Rattle.papaya_named.specs.Given.SpotsDeferred.{WaitOutside, FindsNumbers}
+use Rattle.papaya_named.proofs.Given.SpotsCalm.{put_back}
+use Rattle.papaya_named.proofs.Given.SpotsDeferred.{effects_leave_outside, each_waits_outside}
+use Rattle.papaya_named.proofs.Given.SpotsOnSlots.{row_beside as finds_numbers, rows_leave_places, rows_keep_blocks}
+use Rattle.papaya_named.proofs.Given.SpotsStays.{places_stay}
 use Rattle.papaya_moments.specs.OnSlots.{HadRetired, RowsBeginWhole, RowsKeepWhole}
 use Rattle.papaya_moments.proofs.Beside.{IsBeside, hands_beside, asked_beside}
-use Rattle.papaya_named.proofs.Given.Scenes.May.{may_row}
-use Rattle.papaya_named.specs.Given.Scenes.Held.{Held, IsAt}
-use Rattle.papaya_named.specs.Given.Scenes.OnSlots.{HappensAt, RowBegins, RowSteps}
-use Rattle.papaya_named.specs.Given.Scenes.Rows.{request_of}
-use Rattle.papaya_named.specs.Given.Scenes.Scene.{IsOnSlot, Scene, slot_of}
+use Rattle.papaya_named.proofs.Given.ScenesMay.{may_row}
+use Rattle.papaya_named.specs.Given.ScenesHeld.{Held, IsAt}
+use Rattle.papaya_named.specs.Given.ScenesOnSlots.{HappensAt, RowBegins, RowSteps}
+use Rattle.papaya_named.specs.Given.ScenesRows.{request_of}
+use Rattle.papaya_named.specs.Given.ScenesScene.{IsOnSlot, Scene, slot_of}
 
 -- a map that stands then stood so, with its tables in the same blocks
 pub stood_same : {K : Type 0} (o o2 : Option (Standing K)) → IsSameMap o o2 → (st : Standing K) → o2 ≡ Some st

@@ -3,14 +3,14 @@ use Rattle.std.specs.Prelude.{◌≡◌, ℕ, ◌≤◌, ◌==◌, Bool, not, fi
 use Rattle.std.proofs.Common.{refl, ap, sym, ◌∙◌}
 use Rattle.std.proofs.lemmas.Bool.{eqb-true}
 use Rattle.std.proofs.lemmas.List.Elements.{All-filter}
-use Rattle.papaya_named.specs.Given.Runs.Same.{is_same}
-use Rattle.papaya_named.specs.Given.Schedules.declared.effect.Table.{Table}
-use Rattle.papaya_named.specs.Given.Schedules.Moment.{MapThere}
-use Rattle.papaya_named.specs.Given.Schedules.Views.{map_at}
-use Rattle.papaya_named.specs.Given.Effects.declared.role.Role.TheVariants as role
-use Rattle.papaya_named.specs.Given.Hands.Hands.{IsInUse}
-use Rattle.papaya_named.specs.Given.Others.Endings.{without_map}
-use Rattle.papaya_named.proofs.Given.Others.EndBegins.{endings_are_over}
+use Rattle.papaya_named.specs.Given.RunsSame.{is_same}
+use Rattle.papaya_named.specs.Given.SchedulesDeclared.effect.Table.{Table}
+use Rattle.papaya_named.specs.Given.SchedulesMoment.{MapThere}
+use Rattle.papaya_named.specs.Given.SchedulesViews.{map_at}
+use Rattle.papaya_named.specs.Given.EffectsDeclared.role.Role.TheVariants as role
+use Rattle.papaya_named.specs.Given.HandsHands.{IsInUse}
+use Rattle.papaya_named.specs.Given.OthersEndings.{without_map}
+use Rattle.papaya_named.proofs.Given.OthersEndBegins.{endings_are_over}
 use Rattle.papaya_moments.specs.Endings.{EndingsAreOverWhole}
 use Rattle.papaya_moments.proofs.MapsCome.{asked_still}
 use Rattle.papaya_moments.proofs.Numbers.{found_of}

@@ -2,21 +2,21 @@
 use Rattle.std.specs.Prelude.{◌≡◌, ◌<◌, ℕ, Bool, true, List, Option, Some}
 use Rattle.std.proofs.Common.{refl, ap, sym, ◌∙◌, inl, inr}
 use Rattle.std.proofs.lemmas.Bool.{cases_lt}
-use Rattle.papaya_named.specs.Given.SeizeWords.Mem.{Mem}
-use Rattle.papaya_named.specs.Given.Seize.World.{with_at}
-use Rattle.papaya_named.specs.Given.Tables.declared.node.Node.{Node}
-use Rattle.papaya_named.specs.Given.Raw.declared.machines.answer.Called.{Called}
-use Rattle.papaya_named.specs.Given.Raw.declared.machines.call.KeyCall.{KeyCall}
-use Rattle.papaya_named.specs.Given.Schedules.Moment.{Moment}
-use Rattle.papaya_named.specs.Given.Callers.Sights.{IsSight}
-use Rattle.papaya_named.specs.Given.Callers.Together.{CallOnKey}
-use Rattle.papaya_named.proofs.Given.Callers.Together.At.{at_same}
-use Rattle.papaya_named.specs.Given.Effects.Known.{Known}
-use Rattle.papaya_named.specs.Given.Effects.declared.role.Role.TheVariants as role
-use Rattle.papaya_named.specs.Given.Finishes.Endings.{StepsAmong}
-use Rattle.papaya_named.specs.Given.Finishes.Maps.{Standing}
-use Rattle.papaya_named.specs.Given.Follows.Shows.{Shows}
-use Rattle.papaya_named.specs.Given.Scenes.Scene.{Scene, slot_of}
+use Rattle.papaya_named.specs.Given.SeizeWordsMem.{Mem}
+use Rattle.papaya_named.specs.Given.SeizeWorld.{with_at}
+use Rattle.papaya_named.specs.Given.TablesDeclared.node.Node.{Node}
+use Rattle.papaya_named.specs.Given.RawDeclared.machines.answer.Called.{Called}
+use Rattle.papaya_named.specs.Given.RawDeclared.machines.call.KeyCall.{KeyCall}
+use Rattle.papaya_named.specs.Given.SchedulesMoment.{Moment}
+use Rattle.papaya_named.specs.Given.CallersSights.{IsSight}
+use Rattle.papaya_named.specs.Given.CallersTogether.{CallOnKey}
+use Rattle.papaya_named.proofs.Given.CallersTogether.At.{at_same}
+use Rattle.papaya_named.specs.Given.EffectsKnown.{Known}
+use Rattle.papaya_named.specs.Given.EffectsDeclared.role.Role.TheVariants as role
+use Rattle.papaya_named.specs.Given.FinishesEndings.{StepsAmong}
+use Rattle.papaya_named.specs.Given.FinishesMaps.{Standing}
+use Rattle.papaya_named.specs.Given.FollowsShows.{Shows}
+use Rattle.papaya_named.specs.Given.ScenesScene.{Scene, slot_of}
 
 module _ {K V : Type 0} (same : K → K → Bool) (batch_size roots : ℕ) (s : Scene K V) (map i : ℕ) (st : Standing K) (sight : IsSight st.chart st.blocks (st.sights (slot_of i))) (x : CallOnKey K V K)
     (m2 : Mem (Node K V)) (p2 : KeyCall K V K) (end : Called (Node K V))

@@ -1,30 +1,30 @@
 -- Walks that go on, or are given up, keep all that a moment shows.
 use Rattle.std.specs.Prelude.{◌≡◌, ℕ, Bool, true, false, List, Option, Some, None, ◌⊎◌}
 use Rattle.std.proofs.Common.{refl, ap, sym, subst, ◌∙◌, inl, inr}
-use Rattle.papaya_named.specs.Given.SeizeWords.declared.fault.Fault.TheVariants.{Memory}
-use Rattle.papaya_named.specs.Given.Raw.Machine.{machine_asked}
-use Rattle.papaya_named.specs.Given.Schedules.declared.outcome.Outcome.TheVariants.{Refused}
-use Rattle.papaya_named.specs.Given.Schedules.Moment.{UnderWay as CallThere, Moment}
-use Rattle.papaya_named.specs.Given.Schedules.Views.{call_of}
-use Rattle.papaya_named.specs.Given.Callers.Together.{UnderWay, OnKey, ForRoom, Counting, OverAll}
-use Rattle.papaya_named.specs.Given.Effects.Known.{Known}
-use Rattle.papaya_named.specs.Given.Finishes.Machines.{machine_of}
-use Rattle.papaya_named.specs.Given.Finishes.Maps.{Standing, with_call}
-use Rattle.papaya_named.specs.Given.Follows.Calling.{NoneNamed}
-use Rattle.papaya_named.proofs.Given.Follows.Steps.{one_of}
-use Rattle.papaya_named.specs.Given.Hands.Asked.{IsAsked, ShowsAsked}
-use Rattle.papaya_named.specs.Given.Hands.Calling.{AsksJust}
-use Rattle.papaya_named.proofs.Given.Hands.Asking.{which}
-use Rattle.papaya_named.proofs.Given.Hands.HandsOn.{hands_with}
-use Rattle.papaya_named.proofs.Given.Hands.Others.{calls_go_aside}
-use Rattle.papaya_named.specs.Given.Others.After.{ShowsAfter}
-use Rattle.papaya_named.specs.Given.Others.Walks.{given_up}
-use Rattle.papaya_named.proofs.Given.Others.Walks.{fewer_calls, with_calls, walks_go_on, walks_are_given_up}
+use Rattle.papaya_named.specs.Given.SeizeWordsDeclared.fault.Fault.TheVariants.{Memory}
+use Rattle.papaya_named.specs.Given.RawMachine.{machine_asked}
+use Rattle.papaya_named.specs.Given.SchedulesDeclared.outcome.Outcome.TheVariants.{Refused}
+use Rattle.papaya_named.specs.Given.SchedulesMoment.{UnderWay as CallThere, Moment}
+use Rattle.papaya_named.specs.Given.SchedulesViews.{call_of}
+use Rattle.papaya_named.specs.Given.CallersTogether.{UnderWay, OnKey, ForRoom, Counting, OverAll}
+use Rattle.papaya_named.specs.Given.EffectsKnown.{Known}
+use Rattle.papaya_named.specs.Given.FinishesMachines.{machine_of}
+use Rattle.papaya_named.specs.Given.FinishesMaps.{Standing, with_call}
+use Rattle.papaya_named.specs.Given.FollowsCalling.{NoneNamed}
+use Rattle.papaya_named.proofs.Given.FollowsSteps.{one_of}
+use Rattle.papaya_named.specs.Given.HandsAsked.{IsAsked, ShowsAsked}
+use Rattle.papaya_named.specs.Given.HandsCalling.{AsksJust}
+use Rattle.papaya_named.proofs.Given.HandsAsking.{which}
+use Rattle.papaya_named.proofs.Given.HandsHandsOn.{hands_with}
+use Rattle.papaya_named.proofs.Given.HandsOthers.{calls_go_aside}
+use Rattle.papaya_named.specs.Given.OthersAfter.{ShowsAfter}
+use Rattle.papaya_named.specs.Given.OthersWalks.{given_up}
+use Rattle.papaya_named.proofs.Given.OthersWalks.{fewer_calls, with_calls, walks_go_on, walks_are_given_up}
 use Rattle.papaya_moments.specs.Walks.{WalksGoOnWhole, WalksStopWhole}
 use Rattle.papaya_moments.specs.Whole.{ShowsWhole}
 use Rattle.papaya_moments.proofs.Calls.{calls_come_to_whole}
-use Rattle.papaya_named.specs.Given.Scenes.Replying.{unless_stopped}
-use Rattle.papaya_named.specs.Given.Scenes.Scene.{Scene}
+use Rattle.papaya_named.specs.Given.ScenesReplying.{unless_stopped}
+use Rattle.papaya_named.specs.Given.ScenesScene.{Scene}
 
 -- a call goes on as another one, or is under way no more, and nothing else has changed
 module _ {K V : Type 0} (same : K → K → Bool) (name : ℕ → List ℕ) (m : Moment K V) (known : Known) (s : Scene K V) (whole : ShowsWhole same name m known s)

@@ -5,24 +5,24 @@ use Rattle.std.proofs.lemmas.Bool.{eq-eqb, ne_eqb}
 use Rattle.std.proofs.lemmas.Grind.{flat_map-append}
 use Rattle.std.proofs.lemmas.List.{append-nil, map-append}
 use Rattle.std.proofs.lemmas.List.Elements.{filter-append}
-use Rattle.papaya_named.specs.Given.Seize.World.{times}
-use Rattle.papaya_named.specs.Given.Tables.Chunks.{is_incremental}
-use Rattle.papaya_named.specs.Given.Rule.Chart.{Chart}
-use Rattle.papaya_named.specs.Given.Schedules.declared.effect.Effect.{Effect}
-use Rattle.papaya_named.specs.Given.Schedules.declared.effect.Effect.TheVariants.{Ended, Taken}
-use Rattle.papaya_named.specs.Given.Schedules.declared.effect.Table.{Table}
-use Rattle.papaya_named.specs.Given.Schedules.After.{tables_taken}
-use Rattle.papaya_named.specs.Given.Schedules.Effects.{with_effect, with_effects}
-use Rattle.papaya_named.specs.Given.Schedules.Lists.{put}
-use Rattle.papaya_named.specs.Given.Schedules.Moment.{Place, InMap, Left, GivenBack, Stage, MapThere, TableThere, Moment}
-use Rattle.papaya_named.specs.Given.Schedules.Views.{is_in_map, places_below, first_or, map_at, tables_of, behind}
-use Rattle.papaya_named.specs.Given.Finishes.Endings.{AllPairsOnce}
-use Rattle.papaya_named.specs.Given.Finishes.Maps.{Standing}
-use Rattle.papaya_named.specs.Given.Finishes.Orders.{pairs_of}
-use Rattle.papaya_named.proofs.Given.Finishes.Ends.CountedBlocks.{some_of_first}
-use Rattle.papaya_named.specs.Given.Effects.Known.{Known}
-use Rattle.papaya_named.specs.Given.Follows.Maps.{ShowsMap, shape_at, table_of, tables_to}
-use Rattle.papaya_named.proofs.Given.Follows.Alike.{put_here}
+use Rattle.papaya_named.specs.Given.SeizeWorld.{times}
+use Rattle.papaya_named.specs.Given.TablesChunks.{is_incremental}
+use Rattle.papaya_named.specs.Given.RuleChart.{Chart}
+use Rattle.papaya_named.specs.Given.SchedulesDeclared.effect.Effect.{Effect}
+use Rattle.papaya_named.specs.Given.SchedulesDeclared.effect.Effect.TheVariants.{Ended, Taken}
+use Rattle.papaya_named.specs.Given.SchedulesDeclared.effect.Table.{Table}
+use Rattle.papaya_named.specs.Given.SchedulesAfter.{tables_taken}
+use Rattle.papaya_named.specs.Given.SchedulesEffects.{with_effect, with_effects}
+use Rattle.papaya_named.specs.Given.SchedulesLists.{put}
+use Rattle.papaya_named.specs.Given.SchedulesMoment.{Place, InMap, Left, GivenBack, Stage, MapThere, TableThere, Moment}
+use Rattle.papaya_named.specs.Given.SchedulesViews.{is_in_map, places_below, first_or, map_at, tables_of, behind}
+use Rattle.papaya_named.specs.Given.FinishesEndings.{AllPairsOnce}
+use Rattle.papaya_named.specs.Given.FinishesMaps.{Standing}
+use Rattle.papaya_named.specs.Given.FinishesOrders.{pairs_of}
+use Rattle.papaya_named.proofs.Given.FinishesEnds.CountedBlocks.{some_of_first}
+use Rattle.papaya_named.specs.Given.EffectsKnown.{Known}
+use Rattle.papaya_named.specs.Given.FollowsMaps.{ShowsMap, shape_at, table_of, tables_to}
+use Rattle.papaya_named.proofs.Given.FollowsAlike.{put_here}
 use Rattle.papaya_moments.specs.WholeEnds.{all_ended, tables_ended, WholeEndsTakeAll}
 use Rattle.papaya_moments.proofs.After.{effects_after}
 use Rattle.papaya_moments.proofs.OnSlots.{put_out, all_out}

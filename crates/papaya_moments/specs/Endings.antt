@@ -1,26 +1,26 @@
 -- Ends of maps: where one begins, and takes its steps, the moment shows all of the scene then.
 use Rattle.std.specs.Prelude.{◌≡◌, ℕ, true, false, Bool, List, Some, None}
-use Rattle.papaya_named.specs.Given.Seize.declared.rows.settle.Settled.{Settled}
-use Rattle.papaya_named.specs.Given.Tables.declared.node.Node.{Node}
-use Rattle.papaya_named.specs.Given.Schedules.declared.effect.Effect.{Effect}
-use Rattle.papaya_named.specs.Given.Schedules.declared.effect.Effect.TheVariants.{Taken}
-use Rattle.papaya_named.specs.Given.Schedules.Effects.{with_effects, AtEachEffect}
-use Rattle.papaya_named.specs.Given.Schedules.Lists.{is_among}
-use Rattle.papaya_named.specs.Given.Runs.Same.{is_same}
-use Rattle.papaya_named.specs.Given.Schedules.Moment.{MapThere, Remains, Moment}
-use Rattle.papaya_named.specs.Given.Schedules.Views.{map_at, behind}
-use Rattle.papaya_named.specs.Given.Effects.Effects.{effects_of, known_after}
-use Rattle.papaya_named.specs.Given.Effects.Known.{Known}
-use Rattle.papaya_named.specs.Given.Effects.declared.acting.Acting.TheVariants.{Ending}
-use Rattle.papaya_named.specs.Given.Finishes.Endings.{Finishing}
-use Rattle.papaya_named.specs.Given.Finishes.Maps.{Standing}
-use Rattle.papaya_named.specs.Given.Others.Endings.{ending_after, without_map}
-use Rattle.papaya_named.specs.Given.Spots.Unreclaimed.{is_unreclaimed}
+use Rattle.papaya_named.specs.Given.SeizeDeclared.rows.settle.Settled.{Settled}
+use Rattle.papaya_named.specs.Given.TablesDeclared.node.Node.{Node}
+use Rattle.papaya_named.specs.Given.SchedulesDeclared.effect.Effect.{Effect}
+use Rattle.papaya_named.specs.Given.SchedulesDeclared.effect.Effect.TheVariants.{Taken}
+use Rattle.papaya_named.specs.Given.SchedulesEffects.{with_effects, AtEachEffect}
+use Rattle.papaya_named.specs.Given.SchedulesLists.{is_among}
+use Rattle.papaya_named.specs.Given.RunsSame.{is_same}
+use Rattle.papaya_named.specs.Given.SchedulesMoment.{MapThere, Remains, Moment}
+use Rattle.papaya_named.specs.Given.SchedulesViews.{map_at, behind}
+use Rattle.papaya_named.specs.Given.EffectsEffects.{effects_of, known_after}
+use Rattle.papaya_named.specs.Given.EffectsKnown.{Known}
+use Rattle.papaya_named.specs.Given.EffectsDeclared.acting.Acting.TheVariants.{Ending}
+use Rattle.papaya_named.specs.Given.FinishesEndings.{Finishing}
+use Rattle.papaya_named.specs.Given.FinishesMaps.{Standing}
+use Rattle.papaya_named.specs.Given.OthersEndings.{ending_after, without_map}
+use Rattle.papaya_named.specs.Given.SpotsUnreclaimed.{is_unreclaimed}
 use Rattle.papaya_moments.specs.Numbers.{AreFound}
 use Rattle.papaya_moments.specs.Whole.{ShowsWhole}
-use Rattle.papaya_named.specs.Given.Scenes.Ending.{EndingLeads, ending_begun}
-use Rattle.papaya_named.specs.Given.Scenes.Held.{Held, IsAt}
-use Rattle.papaya_named.specs.Given.Scenes.Scene.{Scene}
+use Rattle.papaya_named.specs.Given.ScenesEnding.{EndingLeads, ending_begun}
+use Rattle.papaya_named.specs.Given.ScenesHeld.{Held, IsAt}
+use Rattle.papaya_named.specs.Given.ScenesScene.{Scene}
 
 -- a table that ends with this map is one of it
 abbrev pub IsOfIts : {K V : Type 0} → ℕ → Moment K V → Effect → Type 0

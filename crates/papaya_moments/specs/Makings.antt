@@ -1,23 +1,23 @@
 -- Makings of maps: where one begins, its map comes, and it takes its steps, the moment shows all of the scene then.
 use Rattle.std.specs.Prelude.{◌≡◌, ℕ, Bool, List, [], Option, Some, None}
-use Rattle.papaya_named.specs.Given.Seize.World.{with_at}
-use Rattle.papaya_named.specs.Given.Seize.declared.progress.Progress.{Progress}
-use Rattle.papaya_named.specs.Given.Tables.declared.setting.Setting.{Setting}
-use Rattle.papaya_named.specs.Given.Schedules.Beginning.{with_map}
-use Rattle.papaya_named.specs.Given.Schedules.Effects.{with_effects}
-use Rattle.papaya_named.specs.Given.Schedules.Moment.{MapThere, Moment}
-use Rattle.papaya_named.specs.Given.Schedules.Views.{tables_of}
-use Rattle.papaya_named.specs.Given.Effects.Effects.{effects_of, known_after}
-use Rattle.papaya_named.specs.Given.Effects.Known.{Known}
-use Rattle.papaya_named.specs.Given.Effects.declared.acting.Acting.TheVariants.{Making}
-use Rattle.papaya_named.specs.Given.Finishes.Makings.{Beginning, HasMade}
-use Rattle.papaya_named.specs.Given.Follows.Shows.{Shows}
-use Rattle.papaya_named.specs.Given.Others.Makings.{WasNew, making_after}
-use Rattle.papaya_named.specs.Given.Spots.Unreclaimed.{ShowsUnreclaimed}
+use Rattle.papaya_named.specs.Given.SeizeWorld.{with_at}
+use Rattle.papaya_named.specs.Given.SeizeDeclared.progress.Progress.{Progress}
+use Rattle.papaya_named.specs.Given.TablesDeclared.setting.Setting.{Setting}
+use Rattle.papaya_named.specs.Given.SchedulesBeginning.{with_map}
+use Rattle.papaya_named.specs.Given.SchedulesEffects.{with_effects}
+use Rattle.papaya_named.specs.Given.SchedulesMoment.{MapThere, Moment}
+use Rattle.papaya_named.specs.Given.SchedulesViews.{tables_of}
+use Rattle.papaya_named.specs.Given.EffectsEffects.{effects_of, known_after}
+use Rattle.papaya_named.specs.Given.EffectsKnown.{Known}
+use Rattle.papaya_named.specs.Given.EffectsDeclared.acting.Acting.TheVariants.{Making}
+use Rattle.papaya_named.specs.Given.FinishesMakings.{Beginning, HasMade}
+use Rattle.papaya_named.specs.Given.FollowsShows.{Shows}
+use Rattle.papaya_named.specs.Given.OthersMakings.{WasNew, making_after}
+use Rattle.papaya_named.specs.Given.SpotsUnreclaimed.{ShowsUnreclaimed}
 use Rattle.papaya_moments.specs.Whole.{ShowsWhole}
-use Rattle.papaya_named.specs.Given.Scenes.Held.{Held, IsAt}
-use Rattle.papaya_named.specs.Given.Scenes.Making.{MakingLeads}
-use Rattle.papaya_named.specs.Given.Scenes.Scene.{Scene}
+use Rattle.papaya_named.specs.Given.ScenesHeld.{Held, IsAt}
+use Rattle.papaya_named.specs.Given.ScenesMaking.{MakingLeads}
+use Rattle.papaya_named.specs.Given.ScenesScene.{Scene}
 
 module _ (K V : Type 0) (same : K → K → Bool) where
   -- The promises: so it is where a making begins, which has made no counter yet,

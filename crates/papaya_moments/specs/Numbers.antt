@@ -1,27 +1,27 @@
 -- Numbers of maps: each map that is there has one of its own, and the next one that comes has a higher one than any before.
 use Rattle.std.specs.Prelude.{◌≡◌, ℕ, ◌<◌, Bool, List, [], Option, Some, None}
 use Rattle.std.specs.List.{All}
-use Rattle.papaya_named.specs.Given.Tables.declared.node.Node.{Node}
-use Rattle.papaya_named.specs.Given.Tables.declared.setting.Setting.{Setting}
-use Rattle.papaya_named.specs.Given.Schedules.declared.effect.Effect.{Effect}
-use Rattle.papaya_named.specs.Given.Schedules.Beginning.{with_map}
-use Rattle.papaya_named.specs.Given.Schedules.Effects.{with_effects}
-use Rattle.papaya_named.specs.Given.Schedules.Moment.{InMap, MapThere, Remains, Moment, start}
-use Rattle.papaya_named.specs.Given.Schedules.Views.{map_at, tables_of}
-use Rattle.papaya_named.specs.Given.Teller.declared.changed.Changed.{Changed}
-use Rattle.papaya_named.specs.Given.Effects.Effects.{map_of, effects_of}
-use Rattle.papaya_named.specs.Given.Effects.Known.{Known}
-use Rattle.papaya_named.specs.Given.Effects.declared.acting.Acting.{Acting}
-use Rattle.papaya_named.specs.Given.Effects.declared.acting.Acting.TheVariants.{Row}
-use Rattle.papaya_named.specs.Given.Scenes.declared.row.RowTold.{RowTold}
-use Rattle.papaya_named.specs.Given.Scenes.declared.row.SlotRow.{SlotRow}
-use Rattle.papaya_named.specs.Given.Others.Endings.{without_map}
-use Rattle.papaya_named.specs.Given.Others.Makings.{IsNew}
-use Rattle.papaya_named.specs.Given.Finishes.Makings.{Beginning}
-use Rattle.papaya_named.specs.Given.Finishes.Maps.{Standing}
-use Rattle.papaya_named.specs.Given.Scenes.Held.{Held}
-use Rattle.papaya_named.specs.Given.Scenes.OnSlots.{RowLeads}
-use Rattle.papaya_named.specs.Given.Scenes.Scene.{IsOnSlot, Scene}
+use Rattle.papaya_named.specs.Given.TablesDeclared.node.Node.{Node}
+use Rattle.papaya_named.specs.Given.TablesDeclared.setting.Setting.{Setting}
+use Rattle.papaya_named.specs.Given.SchedulesDeclared.effect.Effect.{Effect}
+use Rattle.papaya_named.specs.Given.SchedulesBeginning.{with_map}
+use Rattle.papaya_named.specs.Given.SchedulesEffects.{with_effects}
+use Rattle.papaya_named.specs.Given.SchedulesMoment.{InMap, MapThere, Remains, Moment, start}
+use Rattle.papaya_named.specs.Given.SchedulesViews.{map_at, tables_of}
+use Rattle.papaya_named.specs.Given.TellerDeclared.changed.Changed.{Changed}
+use Rattle.papaya_named.specs.Given.EffectsEffects.{map_of, effects_of}
+use Rattle.papaya_named.specs.Given.EffectsKnown.{Known}
+use Rattle.papaya_named.specs.Given.EffectsDeclared.acting.Acting.{Acting}
+use Rattle.papaya_named.specs.Given.EffectsDeclared.acting.Acting.TheVariants.{Row}
+use Rattle.papaya_named.specs.Given.ScenesDeclared.row.RowTold.{RowTold}
+use Rattle.papaya_named.specs.Given.ScenesDeclared.row.SlotRow.{SlotRow}
+use Rattle.papaya_named.specs.Given.OthersEndings.{without_map}
+use Rattle.papaya_named.specs.Given.OthersMakings.{IsNew}
+use Rattle.papaya_named.specs.Given.FinishesMakings.{Beginning}
+use Rattle.papaya_named.specs.Given.FinishesMaps.{Standing}
+use Rattle.papaya_named.specs.Given.ScenesHeld.{Held}
+use Rattle.papaya_named.specs.Given.ScenesOnSlots.{RowLeads}
+use Rattle.papaya_named.specs.Given.ScenesScene.{IsOnSlot, Scene}
 
 module _ {K V : Type 0} where
   -- each map that is there is the one that is found by its number

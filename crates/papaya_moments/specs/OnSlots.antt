@@ -1,26 +1,26 @@
 -- Rows on slots: where one begins, and takes its steps, the moment shows all of the scene then.
 use Rattle.std.specs.Prelude.{◌≡◌, ℕ, Bool, true, List, None}
-use Rattle.papaya_named.specs.Given.Seize.World.{Begin, Step}
-use Rattle.papaya_named.specs.Given.Tables.declared.node.Node.{Node}
-use Rattle.papaya_named.specs.Given.Schedules.declared.effect.Effect.{Effect}
-use Rattle.papaya_named.specs.Given.Schedules.declared.effect.Effect.TheVariants.{Reclaimed}
-use Rattle.papaya_named.specs.Given.Schedules.declared.effect.Thing.TheVariants.{ATable}
-use Rattle.papaya_named.specs.Given.Schedules.Effects.{with_effects, AtEachEffect}
-use Rattle.papaya_named.specs.Given.Schedules.Moment.{Moment}
-use Rattle.papaya_named.specs.Given.Schedules.Views.{is_retired, is_stage}
-use Rattle.papaya_named.specs.Given.Effects.Effects.{effects_of, known_after}
-use Rattle.papaya_named.specs.Given.Effects.Known.{Known}
-use Rattle.papaya_named.specs.Given.Effects.declared.acting.Acting.TheVariants.{Row}
-use Rattle.papaya_named.specs.Given.Scenes.declared.row.RowTold.{RowTold}
-use Rattle.papaya_named.specs.Given.Scenes.declared.row.SlotCall.{SlotCall}
-use Rattle.papaya_named.specs.Given.Scenes.declared.row.SlotRow.{SlotRow}
-use Rattle.papaya_named.specs.Given.Others.Rows.{scene_then}
-use Rattle.papaya_named.specs.Given.Spots.OnSlots.{WaitUnreclaimed}
+use Rattle.papaya_named.specs.Given.SeizeWorld.{Begin, Step}
+use Rattle.papaya_named.specs.Given.TablesDeclared.node.Node.{Node}
+use Rattle.papaya_named.specs.Given.SchedulesDeclared.effect.Effect.{Effect}
+use Rattle.papaya_named.specs.Given.SchedulesDeclared.effect.Effect.TheVariants.{Reclaimed}
+use Rattle.papaya_named.specs.Given.SchedulesDeclared.effect.Thing.TheVariants.{ATable}
+use Rattle.papaya_named.specs.Given.SchedulesEffects.{with_effects, AtEachEffect}
+use Rattle.papaya_named.specs.Given.SchedulesMoment.{Moment}
+use Rattle.papaya_named.specs.Given.SchedulesViews.{is_retired, is_stage}
+use Rattle.papaya_named.specs.Given.EffectsEffects.{effects_of, known_after}
+use Rattle.papaya_named.specs.Given.EffectsKnown.{Known}
+use Rattle.papaya_named.specs.Given.EffectsDeclared.acting.Acting.TheVariants.{Row}
+use Rattle.papaya_named.specs.Given.ScenesDeclared.row.RowTold.{RowTold}
+use Rattle.papaya_named.specs.Given.ScenesDeclared.row.SlotCall.{SlotCall}
+use Rattle.papaya_named.specs.Given.ScenesDeclared.row.SlotRow.{SlotRow}
+use Rattle.papaya_named.specs.Given.OthersRows.{scene_then}
+use Rattle.papaya_named.specs.Given.SpotsOnSlots.{WaitUnreclaimed}
 use Rattle.papaya_moments.specs.Whole.{ShowsWhole}
-use Rattle.papaya_named.specs.Given.Scenes.Held.{Held, IsAt}
-use Rattle.papaya_named.specs.Given.Scenes.OnSlots.{RowBegins, RowLeads}
-use Rattle.papaya_named.specs.Given.Scenes.Rows.{request_of}
-use Rattle.papaya_named.specs.Given.Scenes.Scene.{IsOnSlot, Scene, slot_of}
+use Rattle.papaya_named.specs.Given.ScenesHeld.{Held, IsAt}
+use Rattle.papaya_named.specs.Given.ScenesOnSlots.{RowBegins, RowLeads}
+use Rattle.papaya_named.specs.Given.ScenesRows.{request_of}
+use Rattle.papaya_named.specs.Given.ScenesScene.{IsOnSlot, Scene, slot_of}
 
 -- a table that is reclaimed was retired
 abbrev pub HadRetired : {K V : Type 0} → Moment K V → Effect → Type 0

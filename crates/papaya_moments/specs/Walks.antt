@@ -1,15 +1,15 @@
 -- Walks: where one goes on, or is given up, the moment shows all of the scene then.
 use Rattle.std.specs.Prelude.{◌≡◌, ℕ, Bool, true, List, Some}
-use Rattle.papaya_named.specs.Given.Schedules.Moment.{Moment}
-use Rattle.papaya_named.specs.Given.Callers.Together.{UnderWay}
-use Rattle.papaya_named.specs.Given.Finishes.Maps.{with_call}
-use Rattle.papaya_named.specs.Given.Effects.Known.{Known}
-use Rattle.papaya_named.specs.Given.Follows.Calling.{NoneNamed}
-use Rattle.papaya_named.specs.Given.Others.Walks.{given_up}
+use Rattle.papaya_named.specs.Given.SchedulesMoment.{Moment}
+use Rattle.papaya_named.specs.Given.CallersTogether.{UnderWay}
+use Rattle.papaya_named.specs.Given.FinishesMaps.{with_call}
+use Rattle.papaya_named.specs.Given.EffectsKnown.{Known}
+use Rattle.papaya_named.specs.Given.FollowsCalling.{NoneNamed}
+use Rattle.papaya_named.specs.Given.OthersWalks.{given_up}
 use Rattle.papaya_moments.specs.Whole.{ShowsWhole}
-use Rattle.papaya_named.specs.Given.Scenes.Held.{Held}
-use Rattle.papaya_named.specs.Given.Scenes.Replying.{AskLeads, StopLeads, scene_with, unless_stopped}
-use Rattle.papaya_named.specs.Given.Scenes.Scene.{Scene}
+use Rattle.papaya_named.specs.Given.ScenesHeld.{Held}
+use Rattle.papaya_named.specs.Given.ScenesReplying.{AskLeads, StopLeads, scene_with, unless_stopped}
+use Rattle.papaya_named.specs.Given.ScenesScene.{Scene}
 
 module _ (K V : Type 0) (same : K → K → Bool) (hash : ℕ → K → ℕ) where
   -- The promises: so it is where a walk that is ready is asked for its next pair,

@@ -1,37 +1,37 @@
 -- What a moment of a run, with what is noted of the memory, shows of a scene, in one piece.
 use Rattle.std.specs.Prelude.{◌≡◌, ℕ, Bool, true, List, Option, Some, Ok}
-use Rattle.papaya_named.specs.Given.Seize.World.{Rests}
-use Rattle.papaya_named.specs.Given.Tables.declared.node.Node.{Node}
-use Rattle.papaya_named.specs.Given.Runs.Same.{is_same}
-use Rattle.papaya_named.specs.Given.Raw.Machine.{machine_replied}
-use Rattle.papaya_named.specs.Given.Raw.declared.machines.progress.Progress.{Progress}
-use Rattle.papaya_named.specs.Given.Schedules.declared.call.Call.{Call}
-use Rattle.papaya_named.specs.Given.Schedules.declared.call.Reply.{Reply}
-use Rattle.papaya_named.specs.Given.Schedules.declared.outcome.Outcome.{Outcome}
-use Rattle.papaya_named.specs.Given.Schedules.Beginning.{with_call}
-use Rattle.papaya_named.specs.Given.Schedules.Effects.{with_effects}
-use Rattle.papaya_named.specs.Given.Schedules.Entry.{ends_call}
-use Rattle.papaya_named.specs.Given.Schedules.Moment.{Asking, UnderWay as CallThere, Moment, start}
-use Rattle.papaya_named.specs.Given.Schedules.Views.{call_of}
-use Rattle.papaya_named.specs.Given.Callers.Together.{UnderWay}
-use Rattle.papaya_named.specs.Given.Effects.Effects.{effects_of, known_after}
-use Rattle.papaya_named.specs.Given.Effects.Known.{Known, nothing_known}
-use Rattle.papaya_named.specs.Given.Effects.declared.acting.Acting.TheVariants as acts
-use Rattle.papaya_named.specs.Given.Finishes.Machines.{machine_of, ToldOfKind}
-use Rattle.papaya_named.specs.Given.Finishes.Maps.{Standing}
-use Rattle.papaya_named.specs.Given.Follows.Calling.{NoneNamed, told, come_to}
-use Rattle.papaya_named.specs.Given.Follows.Calls.{IsCalled}
-use Rattle.papaya_named.specs.Given.Hands.Asked.{as_told}
-use Rattle.papaya_named.specs.Given.Hands.Calling.{IsBegunFor, AsksJust}
-use Rattle.papaya_named.specs.Given.Hands.Shows.{ShowsAll}
-use Rattle.papaya_named.specs.Given.Others.Counters.{NotesCounters}
-use Rattle.papaya_named.specs.Given.Spots.Deferred.{WaitOutside}
-use Rattle.papaya_named.specs.Given.Spots.Spots.{ShowsPlaces}
-use Rattle.papaya_named.specs.Given.Spots.Unreclaimed.{ShowsUnreclaimed}
-use Rattle.papaya_named.specs.Given.Scenes.Held.{Held, IsAt}
-use Rattle.papaya_named.specs.Given.Scenes.Replying.{scene_with}
-use Rattle.papaya_named.specs.Given.Scenes.Scene.{Scene, at_first, slot_of}
-use Rattle.papaya_named.specs.Given.Scenes.Stepping.{StepLeads, scene_after}
+use Rattle.papaya_named.specs.Given.SeizeWorld.{Rests}
+use Rattle.papaya_named.specs.Given.TablesDeclared.node.Node.{Node}
+use Rattle.papaya_named.specs.Given.RunsSame.{is_same}
+use Rattle.papaya_named.specs.Given.RawMachine.{machine_replied}
+use Rattle.papaya_named.specs.Given.RawDeclared.machines.progress.Progress.{Progress}
+use Rattle.papaya_named.specs.Given.SchedulesDeclared.call.Call.{Call}
+use Rattle.papaya_named.specs.Given.SchedulesDeclared.call.Reply.{Reply}
+use Rattle.papaya_named.specs.Given.SchedulesDeclared.outcome.Outcome.{Outcome}
+use Rattle.papaya_named.specs.Given.SchedulesBeginning.{with_call}
+use Rattle.papaya_named.specs.Given.SchedulesEffects.{with_effects}
+use Rattle.papaya_named.specs.Given.SchedulesEntry.{ends_call}
+use Rattle.papaya_named.specs.Given.SchedulesMoment.{Asking, UnderWay as CallThere, Moment, start}
+use Rattle.papaya_named.specs.Given.SchedulesViews.{call_of}
+use Rattle.papaya_named.specs.Given.CallersTogether.{UnderWay}
+use Rattle.papaya_named.specs.Given.EffectsEffects.{effects_of, known_after}
+use Rattle.papaya_named.specs.Given.EffectsKnown.{Known, nothing_known}
+use Rattle.papaya_named.specs.Given.EffectsDeclared.acting.Acting.TheVariants as acts
+use Rattle.papaya_named.specs.Given.FinishesMachines.{machine_of, ToldOfKind}
+use Rattle.papaya_named.specs.Given.FinishesMaps.{Standing}
+use Rattle.papaya_named.specs.Given.FollowsCalling.{NoneNamed, told, come_to}
+use Rattle.papaya_named.specs.Given.FollowsCalls.{IsCalled}
+use Rattle.papaya_named.specs.Given.HandsAsked.{as_told}
+use Rattle.papaya_named.specs.Given.HandsCalling.{IsBegunFor, AsksJust}
+use Rattle.papaya_named.specs.Given.HandsShows.{ShowsAll}
+use Rattle.papaya_named.specs.Given.OthersCounters.{NotesCounters}
+use Rattle.papaya_named.specs.Given.SpotsDeferred.{WaitOutside}
+use Rattle.papaya_named.specs.Given.SpotsSpots.{ShowsPlaces}
+use Rattle.papaya_named.specs.Given.SpotsUnreclaimed.{ShowsUnreclaimed}
+use Rattle.papaya_named.specs.Given.ScenesHeld.{Held, IsAt}
+use Rattle.papaya_named.specs.Given.ScenesReplying.{scene_with}
+use Rattle.papaya_named.specs.Given.ScenesScene.{Scene, at_first, slot_of}
+use Rattle.papaya_named.specs.Given.ScenesStepping.{StepLeads, scene_after}
 
 -- It shows what the scene has, what calls were told, in whose hands blocks are and what rows do; where pairs lie, which blocks are not reclaimed, that what waits
 -- behind tables is in no map; and the counters of maps that are being made.

@@ -1,19 +1,19 @@
 -- What a whole end of a map does: all of the map ends.
 use Rattle.std.specs.Prelude.{◌≡◌, ◌-◌, ℕ, zero, suc, Bool, List, [], ◌∷◌, ◌++◌, map, flat_map, Some, None}
-use Rattle.papaya_named.specs.Given.Tables.Chunks.{is_incremental}
-use Rattle.papaya_named.specs.Given.Rule.Chart.{Chart}
-use Rattle.papaya_named.specs.Given.Schedules.declared.effect.Effect.{Effect}
-use Rattle.papaya_named.specs.Given.Schedules.declared.effect.Effect.TheVariants.{Ended, Taken}
-use Rattle.papaya_named.specs.Given.Schedules.After.{tables_taken}
-use Rattle.papaya_named.specs.Given.Schedules.Effects.{with_effects}
-use Rattle.papaya_named.specs.Given.Schedules.Handing.{tables_in}
-use Rattle.papaya_named.specs.Given.Schedules.Moment.{Moment}
-use Rattle.papaya_named.specs.Given.Schedules.Views.{size_of, chain_of}
-use Rattle.papaya_named.specs.Given.Finishes.Endings.{AllPairsOnce}
-use Rattle.papaya_named.specs.Given.Finishes.Maps.{Standing}
-use Rattle.papaya_named.specs.Given.Finishes.Orders.{pairs_of}
-use Rattle.papaya_named.specs.Given.Effects.Known.{Known}
-use Rattle.papaya_named.specs.Given.Follows.Maps.{ShowsMap, table_of}
+use Rattle.papaya_named.specs.Given.TablesChunks.{is_incremental}
+use Rattle.papaya_named.specs.Given.RuleChart.{Chart}
+use Rattle.papaya_named.specs.Given.SchedulesDeclared.effect.Effect.{Effect}
+use Rattle.papaya_named.specs.Given.SchedulesDeclared.effect.Effect.TheVariants.{Ended, Taken}
+use Rattle.papaya_named.specs.Given.SchedulesAfter.{tables_taken}
+use Rattle.papaya_named.specs.Given.SchedulesEffects.{with_effects}
+use Rattle.papaya_named.specs.Given.SchedulesHanding.{tables_in}
+use Rattle.papaya_named.specs.Given.SchedulesMoment.{Moment}
+use Rattle.papaya_named.specs.Given.SchedulesViews.{size_of, chain_of}
+use Rattle.papaya_named.specs.Given.FinishesEndings.{AllPairsOnce}
+use Rattle.papaya_named.specs.Given.FinishesMaps.{Standing}
+use Rattle.papaya_named.specs.Given.FinishesOrders.{pairs_of}
+use Rattle.papaya_named.specs.Given.EffectsKnown.{Known}
+use Rattle.papaya_named.specs.Given.FollowsMaps.{ShowsMap, table_of}
 
 -- so many tables of a map end, from this one on
 abbrev pub tables_ended : ℕ → ℕ → ℕ → List Effect

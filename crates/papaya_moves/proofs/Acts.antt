@@ -16,28 +16,28 @@ use Rattle.papaya_deeds.specs.Given.Schedules.After.{AtEachEvent}
 use Rattle.papaya_deeds.specs.Given.Schedules.declared.outcome.Outcome.{Outcome}
 use Rattle.papaya_deeds.specs.Given.Schedules.declared.outcome.Outcome.TheVariants as outcome
 use Rattle.papaya_deeds.specs.Given.Schedules.Views.{capacity_or, map_at}
-use Rattle.papaya_grouped.specs.Given.Teller.declared.changed.Changed.{Changed}
-use Rattle.papaya_grouped.specs.Given.Teller.declared.changed.Changed.TheVariants.{Nothing as NoChange}
-use Rattle.papaya_grouped.specs.Given.Effects.Effects.{effects_of}
-use Rattle.papaya_grouped.specs.Given.Effects.declared.acting.Acting.TheVariants as acts
-use Rattle.papaya_grouped.specs.Given.Scenes.Held.{Held, IsAt}
-use Rattle.papaya_grouped.specs.Given.Scenes.Making.{MakingLeads}
-use Rattle.papaya_grouped.specs.Given.Scenes.Scene.{IsOnSlot, Scene, row_of, slot_of}
-use Rattle.papaya_grouped.specs.Given.Acts.Acts.{Act, Answer, BeginsCall, StepsCall, TellsCall, AsksCall, StopsCall, StepsMaking, StepsRow, OfCall, OfMaking, Wanted}
-use Rattle.papaya_grouped.specs.Given.Acts.AsSteps.{LeadsAs, changed_by, changed_of, held_in, row_changed, row_told}
-use Rattle.papaya_grouped.specs.Given.Acts.Leads.{Led, MayBe}
-use Rattle.papaya_grouped.proofs.Given.Acts.AsSteps.Told.{was_told}
+use Rattle.papaya_grouped.specs.Given.TellerDeclared.changed.Changed.{Changed}
+use Rattle.papaya_grouped.specs.Given.TellerDeclared.changed.Changed.TheVariants.{Nothing as NoChange}
+use Rattle.papaya_grouped.specs.Given.EffectsEffects.{effects_of}
+use Rattle.papaya_grouped.specs.Given.EffectsDeclared.acting.Acting.TheVariants as acts
+use Rattle.papaya_grouped.specs.Given.ScenesHeld.{Held, IsAt}
+use Rattle.papaya_grouped.specs.Given.ScenesMaking.{MakingLeads}
+use Rattle.papaya_grouped.specs.Given.ScenesScene.{IsOnSlot, Scene, row_of, slot_of}
+use Rattle.papaya_grouped.specs.Given.ActsActs.{Act, Answer, BeginsCall, StepsCall, TellsCall, AsksCall, StopsCall, StepsMaking, StepsRow, OfCall, OfMaking, Wanted}
+use Rattle.papaya_grouped.specs.Given.ActsAsSteps.{LeadsAs, changed_by, changed_of, held_in, row_changed, row_told}
+use Rattle.papaya_grouped.specs.Given.ActsLeads.{Led, MayBe}
+use Rattle.papaya_grouped.proofs.Given.ActsAsSteps.Told.{was_told}
 use Rattle.papaya_deeds.specs.Deeds.{Begins, Deed, Entry, Replies, Stops, moment}
 use Rattle.papaya_deeds.specs.History.{made_for}
-use Rattle.papaya_grouped.specs.Given.Played.Play.{State, call_for, call_stepped, has_root, is_refusal, making_deed, making_outcome, pairs_for, reply_for, row_outcome, row_stepped}
-use Rattle.papaya_grouped.specs.Given.Played.Reached.{IsOf, row_or_rests}
-use Rattle.papaya_grouped.proofs.Given.Played.PlayedAs.{PlayedAs}
-use Rattle.papaya_swept.specs.Given.Works.Makings.{in_hand, table_left}
-use Rattle.papaya_swept.specs.Given.Linear.Coming.{MapsComeAndGo}
-use Rattle.papaya_swept.proofs.Given.Linear.Coming.{comes_bare}
-use Rattle.papaya_swept.proofs.Given.Linear.Holds.{Holds}
-use Rattle.papaya_swept.proofs.Given.Linear.MakesRight.{was_new}
-use Rattle.papaya_grouped.proofs.Given.Played.Tied.{MakingTied, call_tied, making_tied}
+use Rattle.papaya_grouped.specs.Given.PlayedPlay.{State, call_for, call_stepped, has_root, is_refusal, making_deed, making_outcome, pairs_for, reply_for, row_outcome, row_stepped}
+use Rattle.papaya_grouped.specs.Given.PlayedReached.{IsOf, row_or_rests}
+use Rattle.papaya_grouped.proofs.Given.PlayedPlayedAs.{PlayedAs}
+use Rattle.papaya_swept.specs.Given.WorksMakings.{in_hand, table_left}
+use Rattle.papaya_swept.specs.Given.LinearComing.{MapsComeAndGo}
+use Rattle.papaya_swept.proofs.Given.LinearComing.{comes_bare}
+use Rattle.papaya_swept.proofs.Given.LinearHolds.{Holds}
+use Rattle.papaya_swept.proofs.Given.LinearMakesRight.{was_new}
+use Rattle.papaya_grouped.proofs.Given.PlayedTied.{MakingTied, call_tied, making_tied}
 use Rattle.papaya_moves.specs.Parts.{DoesIts}
 use Rattle.papaya_moves.proofs.CallMoves.{steps_move}
 use Rattle.papaya_moves.proofs.MadeHolds.{MadeHolds}

@@ -3,7 +3,7 @@ use Rattle.std.specs.Prelude.{◌≡◌, ℕ, Bool, true, List, [], ◌∷◌, N
 use Rattle.std.specs.List.{list_all}
 use Rattle.std.proofs.Common.{refl, sym, subst}
 use Rattle.std.proofs.lemmas.Bool.{and_parts}
-use Rattle.papaya_swept.specs.Given.Legal.AllEvents.{BehindAreLeft, FindsPair}
+use Rattle.papaya_swept.specs.Given.LegalAllEvents.{BehindAreLeft, FindsPair}
 use Rattle.seize_acts.specs.Given.Seize.declared.rows.reclaim_all.ReclaimAll.{ReclaimAll}
 use Rattle.seize_acts.specs.Given.Seize.declared.rows.settle.Settled.{Settled}
 use Rattle.papaya_deeds.specs.Given.Tables.declared.node.Node.{Node}
@@ -14,20 +14,20 @@ use Rattle.papaya_deeds.specs.Given.Schedules.Effects.{AtEachEffect, with_effect
 use Rattle.papaya_deeds.specs.Given.Schedules.Handing.{is_reclaiming}
 use Rattle.papaya_deeds.specs.Given.Schedules.Moment.{Moment}
 use Rattle.papaya_deeds.specs.Given.Schedules.Terms.{Terms}
-use Rattle.papaya_grouped.specs.Given.Effects.Effects.{effects_of}
-use Rattle.papaya_grouped.specs.Given.Effects.declared.acting.Acting.TheVariants as acts
-use Rattle.papaya_swept.specs.Given.Finds.Waiting.{PairsArePlaced}
-use Rattle.papaya_swept.specs.Given.Moments.OnSlots.{HadRetired}
-use Rattle.papaya_grouped.specs.Given.Scenes.Held.{Held}
-use Rattle.papaya_grouped.specs.Given.Scenes.Reclaiming.{IsReclaiming, ReclaimingLeads}
-use Rattle.papaya_grouped.specs.Given.Scenes.Scene.{Scene}
-use Rattle.papaya_swept.proofs.Given.Logged.Reclaiming.Rest.{reclaiming_found}
-use Rattle.papaya_swept.proofs.Given.Legal.OfAll.Pairs.{step_finds}
-use Rattle.papaya_swept.proofs.Given.Legal.OfAll.Tells.{gone_by, it_reclaims}
+use Rattle.papaya_grouped.specs.Given.EffectsEffects.{effects_of}
+use Rattle.papaya_grouped.specs.Given.EffectsDeclared.acting.Acting.TheVariants as acts
+use Rattle.papaya_swept.specs.Given.FindsWaiting.{PairsArePlaced}
+use Rattle.papaya_swept.specs.Given.MomentsOnSlots.{HadRetired}
+use Rattle.papaya_grouped.specs.Given.ScenesHeld.{Held}
+use Rattle.papaya_grouped.specs.Given.ScenesReclaiming.{IsReclaiming, ReclaimingLeads}
+use Rattle.papaya_grouped.specs.Given.ScenesScene.{Scene}
+use Rattle.papaya_swept.proofs.Given.LoggedReclaiming.Rest.{reclaiming_found}
+use Rattle.papaya_swept.proofs.Given.LegalOfAll.Pairs.{step_finds}
+use Rattle.papaya_swept.proofs.Given.LegalOfAll.Tells.{gone_by, it_reclaims}
 use Rattle.papaya_deeds.specs.Deeds.{Entry, ReclaimsAll, moment, named}
 use Rattle.papaya_deeds.specs.History.{FindsBy, past, transition}
-use Rattle.papaya_grouped.specs.Given.Played.Play.{State, is_over, is_refusal, settled_outcome}
-use Rattle.papaya_swept.specs.Given.Linear.Shown.{ShowsAnswers}
+use Rattle.papaya_grouped.specs.Given.PlayedPlay.{State, is_over, is_refusal, settled_outcome}
+use Rattle.papaya_swept.specs.Given.LinearShown.{ShowsAnswers}
 use Rattle.papaya_moves.proofs.RowMoves.{all_reclaim}
 
 module _ {K V S : Type 0} (same : K → K → Bool) (hash : ℕ → K → ℕ) (x : State K V S) (s : Scene K V) (old new : Held K V) (all : ShowsAnswers same (past x.history) (moment x.history) x.known s)

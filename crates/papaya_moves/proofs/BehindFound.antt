@@ -2,7 +2,7 @@
 use Rattle.std.specs.Prelude.{◌≡◌, ◌⊎◌, ◌<◌, ◌+◌, ◌==◌, ℕ, Bool, true, false, List, [], ◌∷◌, Some}
 use Rattle.std.specs.List.{list_any}
 use Rattle.std.proofs.Common.{refl, ap, sym, subst, ◌∙◌, arith, inl, inr, eqb-true}
-use Rattle.papaya_swept.specs.Given.Legal.AllEvents.{BehindAreLeft}
+use Rattle.papaya_swept.specs.Given.LegalAllEvents.{BehindAreLeft}
 use Rattle.seize_acts.specs.Given.Seize.World.{LeftTo, World, times}
 use Rattle.seize_acts.specs.Given.Seize.declared.rows.reclaim_all.ReclaimAll.{ReclaimAll}
 use Rattle.seize_acts.specs.Given.Seize.declared.rows.reclaim_all.Reclaiming.{Reclaiming}
@@ -13,25 +13,25 @@ use Rattle.papaya_deeds.specs.Given.Schedules.declared.effect.Table.{Table}
 use Rattle.papaya_deeds.specs.Given.Schedules.Moment.{Behind, Deferral, GivenBack, Handed as IsHanded, InMap, Left, MapThere, Moment, Out, Place, Unborn}
 use Rattle.papaya_deeds.specs.Given.Schedules.Reclaims.{is_handed}
 use Rattle.papaya_deeds.specs.Given.Schedules.Views.{is_in_map}
-use Rattle.papaya_grouped.specs.Given.Effects.Known.{Known}
-use Rattle.papaya_grouped.specs.Given.Effects.declared.role.Role.TheVariants as role
-use Rattle.papaya_swept.specs.Given.Finds.Waiting.{is_behind_one, is_out, once_if, owed_by, put_in}
-use Rattle.papaya_swept.specs.Given.Finds.Within.{AllIsInOrder}
-use Rattle.papaya_grouped.specs.Given.Finishes.Maps.{Standing}
-use Rattle.papaya_grouped.specs.Given.Follows.Maps.{ShowsMap}
-use Rattle.papaya_swept.specs.Given.Kept.Kept.{ShowsKept}
-use Rattle.papaya_swept.specs.Given.Lives.Behind.{EachWaits, IsLeft, LiesBehind, NoTableLeft}
-use Rattle.papaya_swept.specs.Given.Lives.Waiting.{waits_behind}
-use Rattle.papaya_swept.specs.Given.Logged.Given.SeizeReclaims.Roots.{all_lists}
-use Rattle.papaya_swept.specs.Given.Moments.Whole.{ShowsWhole}
-use Rattle.papaya_grouped.specs.Given.Reclaims.Reclaims.{ReclaimingAt}
-use Rattle.papaya_grouped.specs.Given.Scenes.Held.{Held}
-use Rattle.papaya_grouped.specs.Given.Scenes.Reclaiming.{IsReclaiming}
-use Rattle.papaya_grouped.specs.Given.Scenes.Scene.{Scene}
-use Rattle.papaya_grouped.specs.Given.Spots.Unreclaimed.{is_unreclaimed}
-use Rattle.papaya_swept.proofs.Given.Lives.LeftTables.{none_is_left}
-use Rattle.papaya_swept.proofs.Given.Lives.Worlds.{Kept, has_it, runs_kept, start_kept}
-use Rattle.papaya_grouped.proofs.Given.Rule.Laws.{current_is_known}
+use Rattle.papaya_grouped.specs.Given.EffectsKnown.{Known}
+use Rattle.papaya_grouped.specs.Given.EffectsDeclared.role.Role.TheVariants as role
+use Rattle.papaya_swept.specs.Given.FindsWaiting.{is_behind_one, is_out, once_if, owed_by, put_in}
+use Rattle.papaya_swept.specs.Given.FindsWithin.{AllIsInOrder}
+use Rattle.papaya_grouped.specs.Given.FinishesMaps.{Standing}
+use Rattle.papaya_grouped.specs.Given.FollowsMaps.{ShowsMap}
+use Rattle.papaya_swept.specs.Given.KeptKept.{ShowsKept}
+use Rattle.papaya_swept.specs.Given.LivesBehind.{EachWaits, IsLeft, LiesBehind, NoTableLeft}
+use Rattle.papaya_swept.specs.Given.LivesWaiting.{waits_behind}
+use Rattle.papaya_swept.specs.Given.SeizeReclaimsRoots.{all_lists}
+use Rattle.papaya_swept.specs.Given.MomentsWhole.{ShowsWhole}
+use Rattle.papaya_grouped.specs.Given.ReclaimsReclaims.{ReclaimingAt}
+use Rattle.papaya_grouped.specs.Given.ScenesHeld.{Held}
+use Rattle.papaya_grouped.specs.Given.ScenesReclaiming.{IsReclaiming}
+use Rattle.papaya_grouped.specs.Given.ScenesScene.{Scene}
+use Rattle.papaya_grouped.specs.Given.SpotsUnreclaimed.{is_unreclaimed}
+use Rattle.papaya_swept.proofs.Given.LivesLeftTables.{none_is_left}
+use Rattle.papaya_swept.proofs.Given.LivesWorlds.{Kept, has_it, runs_kept, start_kept}
+use Rattle.papaya_grouped.proofs.Given.RuleLaws.{current_is_known}
 
 -- where no table has such a pair behind it, it is behind none
 none_put : (P : ℕ → Table → Type 0) (n : ℕ) → ((t : Table) → P n t → ⊥) → (ds : List Deferral) → EachWaits P ds → put_in n ds ≡ 0

@@ -8,27 +8,27 @@ use Rattle.papaya_deeds.specs.Given.SeizeWords.Op.{Op, Out, Room}
 use Rattle.papaya_deeds.specs.Given.SeizeWords.Place.{capacity}
 use Rattle.papaya_deeds.proofs.Given.SeizeWords.Places.Words.{capacity-more, capacity_le_capacity, capacity_pos}
 use Rattle.papaya_deeds.specs.Given.Tables.declared.node.Node.{Node}
-use Rattle.papaya_grouped.specs.Given.Tells.Seen.{seen_of}
-use Rattle.papaya_grouped.specs.Given.Teller.Tells.{told_of}
-use Rattle.papaya_grouped.specs.Given.Teller.declared.changed.Changed.{Changed}
-use Rattle.papaya_grouped.specs.Given.Teller.declared.changed.Changed.TheVariants as changed
+use Rattle.papaya_grouped.specs.Given.TellsSeen.{seen_of}
+use Rattle.papaya_grouped.specs.Given.TellerTells.{told_of}
+use Rattle.papaya_grouped.specs.Given.TellerDeclared.changed.Changed.{Changed}
+use Rattle.papaya_grouped.specs.Given.TellerDeclared.changed.Changed.TheVariants as changed
 use Rattle.papaya_deeds.specs.Given.Schedules.declared.effect.Effect.{Effect}
 use Rattle.papaya_deeds.specs.Given.Schedules.declared.effect.Effect.TheVariants.{Asked}
 use Rattle.papaya_deeds.specs.Given.Schedules.declared.effect.Growth.TheVariants.{ABucket}
 use Rattle.papaya_deeds.specs.Given.Schedules.declared.outcome.Outcome.{Outcome}
 use Rattle.papaya_deeds.specs.Given.Schedules.Handing.{asks_for_bucket}
-use Rattle.papaya_grouped.specs.Given.Effects.Effects.{effects_of, known_after, pair_taken, table_taken}
-use Rattle.papaya_grouped.specs.Given.Effects.Known.{Known}
-use Rattle.papaya_grouped.specs.Given.Effects.declared.acting.Acting.{Acting}
-use Rattle.papaya_grouped.specs.Given.Effects.declared.acting.Acting.TheVariants as acts
-use Rattle.papaya_swept.specs.Given.Remains.Slots.{SlotsNoted}
-use Rattle.papaya_grouped.proofs.Given.Follows.OfEach.{OfEach, led_so, operation_so, taken_so}
-use Rattle.papaya_grouped.proofs.Given.Follows.Operations.{Operated}
-use Rattle.papaya_swept.proofs.Given.Remains.Slots.{IsNoRoom, IsOther, MakesRoom, buckets_stay, either_way, no_room_told, operation_notes}
-use Rattle.papaya_grouped.specs.Given.Acts.Acts.{Answer}
+use Rattle.papaya_grouped.specs.Given.EffectsEffects.{effects_of, known_after, pair_taken, table_taken}
+use Rattle.papaya_grouped.specs.Given.EffectsKnown.{Known}
+use Rattle.papaya_grouped.specs.Given.EffectsDeclared.acting.Acting.{Acting}
+use Rattle.papaya_grouped.specs.Given.EffectsDeclared.acting.Acting.TheVariants as acts
+use Rattle.papaya_swept.specs.Given.RemainsSlots.{SlotsNoted}
+use Rattle.papaya_grouped.proofs.Given.FollowsOfEach.{OfEach, led_so, operation_so, taken_so}
+use Rattle.papaya_grouped.proofs.Given.FollowsOperations.{Operated}
+use Rattle.papaya_swept.proofs.Given.RemainsSlots.{IsNoRoom, IsOther, MakesRoom, buckets_stay, either_way, no_room_told, operation_notes}
+use Rattle.papaya_grouped.specs.Given.ActsActs.{Answer}
 use Rattle.papaya_deeds.specs.Deeds.{Deed, Entry}
 use Rattle.papaya_deeds.specs.History.{buckets}
-use Rattle.papaya_grouped.specs.Given.Played.Play.{Now, State, did, is_refusal}
+use Rattle.papaya_grouped.specs.Given.PlayedPlay.{Now, State, did, is_refusal}
 
 -- words of slots are noted just where there are some, and as many buckets as were granted
 pub record BucketsHold {K V S : Type 0} (x : State K V S) : Type 0 where

@@ -12,29 +12,29 @@ use Rattle.papaya_deeds.specs.Given.Raw.EndMap.{end_map_plan}
 use Rattle.papaya_deeds.specs.Given.Raw.Machine.{machine_asked, machine_plan, machine_replied}
 use Rattle.papaya_deeds.specs.Given.Resize.NewMap.{new_map_plan}
 use Rattle.papaya_deeds.specs.Given.Schedules.declared.outcome.Outcome.TheVariants as outcome
-use Rattle.papaya_grouped.specs.Given.Teller.declared.changed.Changed.{Changed}
-use Rattle.papaya_grouped.specs.Given.Teller.declared.changed.Changed.TheVariants.{Nothing as NoChange}
-use Rattle.papaya_grouped.specs.Given.Effects.Effects.{known_after}
-use Rattle.papaya_grouped.specs.Given.Effects.declared.acting.Acting.TheVariants as acts
-use Rattle.papaya_grouped.specs.Given.Finishes.Machines.{machine_of}
-use Rattle.papaya_grouped.specs.Given.Named.Seen.{kind_of}
-use Rattle.papaya_grouped.specs.Given.Scenes.Held.{Held, IsAt}
-use Rattle.papaya_grouped.specs.Given.Scenes.Scene.{IsOnSlot, Scene, row_of, slot_of}
-use Rattle.papaya_grouped.specs.Given.Scenes.declared.row.RowTold.{RowTold}
-use Rattle.papaya_grouped.proofs.Given.Follows.Operations.{Operated, operated}
-use Rattle.papaya_grouped.proofs.Given.Others.RowPlans.{row_operated}
-use Rattle.papaya_swept.proofs.Given.Remains.Slots.{slots_begin}
-use Rattle.papaya_grouped.proofs.Given.Scenes.May.{may_end, may_make, may_reclaim, may_row, may_step}
-use Rattle.papaya_grouped.specs.Given.Acts.Acts.{Act, Answer, BeginsCall, StepsCall, TellsCall, AsksCall, StopsCall, BeginsMaking, StepsMaking, BeginsEnding, StepsEnding, BeginsRow, StepsRow}
-use Rattle.papaya_grouped.specs.Given.Acts.AsSteps.{LeadsAs, changed_by, held_in, row_changed, row_told}
-use Rattle.papaya_grouped.specs.Given.Acts.Leads.{Led, MayBe}
+use Rattle.papaya_grouped.specs.Given.TellerDeclared.changed.Changed.{Changed}
+use Rattle.papaya_grouped.specs.Given.TellerDeclared.changed.Changed.TheVariants.{Nothing as NoChange}
+use Rattle.papaya_grouped.specs.Given.EffectsEffects.{known_after}
+use Rattle.papaya_grouped.specs.Given.EffectsDeclared.acting.Acting.TheVariants as acts
+use Rattle.papaya_grouped.specs.Given.FinishesMachines.{machine_of}
+use Rattle.papaya_grouped.specs.Given.NamedSeen.{kind_of}
+use Rattle.papaya_grouped.specs.Given.ScenesHeld.{Held, IsAt}
+use Rattle.papaya_grouped.specs.Given.ScenesScene.{IsOnSlot, Scene, row_of, slot_of}
+use Rattle.papaya_grouped.specs.Given.ScenesDeclared.row.RowTold.{RowTold}
+use Rattle.papaya_grouped.proofs.Given.FollowsOperations.{Operated, operated}
+use Rattle.papaya_grouped.proofs.Given.OthersRowPlans.{row_operated}
+use Rattle.papaya_swept.proofs.Given.RemainsSlots.{slots_begin}
+use Rattle.papaya_grouped.proofs.Given.ScenesMay.{may_end, may_make, may_reclaim, may_row, may_step}
+use Rattle.papaya_grouped.specs.Given.ActsActs.{Act, Answer, BeginsCall, StepsCall, TellsCall, AsksCall, StopsCall, BeginsMaking, StepsMaking, BeginsEnding, StepsEnding, BeginsRow, StepsRow}
+use Rattle.papaya_grouped.specs.Given.ActsAsSteps.{LeadsAs, changed_by, held_in, row_changed, row_told}
+use Rattle.papaya_grouped.specs.Given.ActsLeads.{Led, MayBe}
 use Rattle.papaya_deeds.specs.Deeds.{Begins, Replies, Stops}
-use Rattle.papaya_grouped.specs.Given.Played.Play.{State, call_for, ending_deed, first_state, making_deed, making_outcome, outcome_of, reply_for, row_deed, row_outcome, row_stepped, settled_outcome}
-use Rattle.papaya_grouped.specs.Given.Played.Reached.{IsOf, row_or_rests, rows_beside}
-use Rattle.papaya_grouped.proofs.Given.Played.Along.{StaysSo, held}
-use Rattle.papaya_grouped.proofs.Given.Played.PlayedAs.{PlayedAs, played_as, reclaimed_as}
-use Rattle.papaya_swept.proofs.Given.Linear.Stays.{all_tied, change, end}
-use Rattle.papaya_grouped.proofs.Given.Played.Tied.{call_tied, ending_tied, making_tied}
+use Rattle.papaya_grouped.specs.Given.PlayedPlay.{State, call_for, ending_deed, first_state, making_deed, making_outcome, outcome_of, reply_for, row_deed, row_outcome, row_stepped, settled_outcome}
+use Rattle.papaya_grouped.specs.Given.PlayedReached.{IsOf, row_or_rests, rows_beside}
+use Rattle.papaya_grouped.proofs.Given.PlayedAlong.{StaysSo, held}
+use Rattle.papaya_grouped.proofs.Given.PlayedPlayedAs.{PlayedAs, played_as, reclaimed_as}
+use Rattle.papaya_swept.proofs.Given.LinearStays.{all_tied, change, end}
+use Rattle.papaya_grouped.proofs.Given.PlayedTied.{call_tied, ending_tied, making_tied}
 use Rattle.papaya_moves.proofs.Buckets.{BucketsHold, did_hold, worked_hold}
 
 pub first_buckets : {K V S : Type 0} (roots : ℕ) → BucketsHold {K = K} {V = V} {S = S} (first_state roots)

@@ -11,21 +11,21 @@ use Rattle.papaya_deeds.specs.Given.Schedules.Effects.{with_effects}
 use Rattle.papaya_deeds.specs.Given.Schedules.Entry.{IfCall}
 use Rattle.papaya_deeds.specs.Given.Schedules.Handing.{LeavesOf, comes_clear, is_call_effect}
 use Rattle.papaya_deeds.specs.Given.Schedules.Views.{call_of}
-use Rattle.papaya_grouped.specs.Given.Callers.Together.{UnderWay}
-use Rattle.papaya_grouped.specs.Given.Effects.Effects.{effects_of, known_after}
-use Rattle.papaya_grouped.specs.Given.Effects.Known.{Known}
-use Rattle.papaya_grouped.specs.Given.Effects.declared.acting.Acting.TheVariants as acts
-use Rattle.papaya_grouped.specs.Given.Scenes.Held.{Held, IsAt}
-use Rattle.papaya_grouped.specs.Given.Scenes.Scene.{Scene}
-use Rattle.papaya_grouped.specs.Given.Scenes.Stepping.{StepLeads, has_ended}
-use Rattle.papaya_grouped.specs.Given.Named.Seen.{kind_of}
-use Rattle.papaya_grouped.specs.Given.Named.declared.kind.Kind.{Kind}
-use Rattle.papaya_swept.proofs.Given.Finds.Steps.{steps_do_theirs}
+use Rattle.papaya_grouped.specs.Given.CallersTogether.{UnderWay}
+use Rattle.papaya_grouped.specs.Given.EffectsEffects.{effects_of, known_after}
+use Rattle.papaya_grouped.specs.Given.EffectsKnown.{Known}
+use Rattle.papaya_grouped.specs.Given.EffectsDeclared.acting.Acting.TheVariants as acts
+use Rattle.papaya_grouped.specs.Given.ScenesHeld.{Held, IsAt}
+use Rattle.papaya_grouped.specs.Given.ScenesScene.{Scene}
+use Rattle.papaya_grouped.specs.Given.ScenesStepping.{StepLeads, has_ended}
+use Rattle.papaya_grouped.specs.Given.NamedSeen.{kind_of}
+use Rattle.papaya_grouped.specs.Given.NamedDeclared.kind.Kind.{Kind}
+use Rattle.papaya_swept.proofs.Given.FindsSteps.{steps_do_theirs}
 use Rattle.papaya_deeds.specs.Deeds.{Entry, Steps, acted_on, map_of_call, moment, named}
 use Rattle.papaya_deeds.specs.History.{may_do, past}
-use Rattle.papaya_grouped.specs.Given.Played.Play.{Calling, State, is_refusal, outcome_of}
-use Rattle.papaya_grouped.proofs.Given.Played.Noted.{CallsAreNoted}
-use Rattle.papaya_swept.specs.Given.Linear.Shown.{ShowsAnswers}
+use Rattle.papaya_grouped.specs.Given.PlayedPlay.{Calling, State, is_refusal, outcome_of}
+use Rattle.papaya_grouped.proofs.Given.PlayedNoted.{CallsAreNoted}
+use Rattle.papaya_swept.specs.Given.LinearShown.{ShowsAnswers}
 use Rattle.papaya_moves.specs.Parts.{DoesIts}
 use Rattle.papaya_moves.proofs.Leaves.{leaves_nothing}
 use Rattle.papaya_moves.proofs.Parts.{all_also, granted_so, refuses_so}

@@ -9,13 +9,13 @@ use Rattle.papaya_deeds.specs.Given.Schedules.declared.effect.Effect.TheVariants
 use Rattle.papaya_deeds.specs.Given.Schedules.Handing.{is_table_made}
 use Rattle.papaya_deeds.specs.Given.Schedules.Moment.{Moment}
 use Rattle.papaya_deeds.specs.Given.Schedules.Views.{capacity_or, map_at}
-use Rattle.papaya_swept.specs.Given.Owes.Making.{making_in_opening}
-use Rattle.papaya_swept.specs.Given.Owes.Tables.{table_made}
-use Rattle.papaya_swept.proofs.Given.Finds.Capacities.{effects_keep_capacities}
+use Rattle.papaya_swept.specs.Given.OwesMaking.{making_in_opening}
+use Rattle.papaya_swept.specs.Given.OwesTables.{table_made}
+use Rattle.papaya_swept.proofs.Given.FindsCapacities.{effects_keep_capacities}
 use Rattle.papaya_deeds.specs.Deeds.{Deed, Entry, Makes, MapComes, MapFails, MapGoes, acted_on, after, begun, caller_of}
 use Rattle.papaya_deeds.specs.History.{made_by}
-use Rattle.papaya_grouped.specs.Given.Played.Play.{has_root, pairs_for}
-use Rattle.papaya_swept.specs.Given.Works.Makings.{in_hand}
+use Rattle.papaya_grouped.specs.Given.PlayedPlay.{has_root, pairs_for}
+use Rattle.papaya_swept.specs.Given.WorksMakings.{in_hand}
 use Rattle.papaya_moves.proofs.Rooted.{IsFreeing}
 
 -- as many effects that make tables

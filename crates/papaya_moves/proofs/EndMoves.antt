@@ -9,13 +9,13 @@ use Rattle.papaya_deeds.specs.Given.Schedules.Effects.{AtEachEffect, with_effect
 use Rattle.papaya_deeds.specs.Given.Schedules.Handing.{is_ending}
 use Rattle.papaya_deeds.specs.Given.Schedules.Moment.{Moment}
 use Rattle.papaya_deeds.specs.Given.Schedules.Views.{size_of}
-use Rattle.papaya_grouped.specs.Given.Teller.declared.changed.Changed.{Changed}
-use Rattle.papaya_grouped.specs.Given.Effects.Effects.{effects_of}
-use Rattle.papaya_grouped.specs.Given.Effects.Known.{Known}
-use Rattle.papaya_grouped.specs.Given.Effects.declared.acting.Acting.TheVariants as acts
+use Rattle.papaya_grouped.specs.Given.TellerDeclared.changed.Changed.{Changed}
+use Rattle.papaya_grouped.specs.Given.EffectsEffects.{effects_of}
+use Rattle.papaya_grouped.specs.Given.EffectsKnown.{Known}
+use Rattle.papaya_grouped.specs.Given.EffectsDeclared.acting.Acting.TheVariants as acts
 use Rattle.papaya_deeds.specs.Deeds.{Ends, Entry, MapGoes, moment}
 use Rattle.papaya_deeds.specs.History.{EndFinds, left_tables, may_do}
-use Rattle.papaya_grouped.specs.Given.Played.Play.{is_refusal}
+use Rattle.papaya_grouped.specs.Given.PlayedPlay.{is_refusal}
 use Rattle.papaya_moves.specs.Parts.{DoesIts}
 use Rattle.papaya_moves.proofs.Parts.{all_also, granted_so, none_may, refuses_so}
 

@@ -14,31 +14,31 @@ use Rattle.papaya_deeds.specs.Given.Schedules.Entry.{IfCall}
 use Rattle.papaya_deeds.specs.Given.Schedules.Handing.{HasGrown, LeavesOf, comes_clear}
 use Rattle.papaya_deeds.specs.Given.Schedules.Moment.{UnderWay as CallThere, Moment}
 use Rattle.papaya_deeds.specs.Given.Schedules.Views.{call_of}
-use Rattle.papaya_grouped.specs.Given.Callers.Together.{UnderWay}
-use Rattle.papaya_grouped.specs.Given.Effects.Effects.{effects_of, known_after}
-use Rattle.papaya_grouped.specs.Given.Effects.Known.{Known}
-use Rattle.papaya_grouped.specs.Given.Effects.declared.acting.Acting.TheVariants as acts
-use Rattle.papaya_grouped.specs.Given.Finishes.Machines.{machine_of}
-use Rattle.papaya_swept.specs.Given.Kept.Kept.{ShowsKept}
-use Rattle.papaya_swept.specs.Given.Moments.Whole.{ShowsWhole}
-use Rattle.papaya_swept.specs.Given.Owes.Events.{LeavesNothingMade}
-use Rattle.papaya_grouped.specs.Given.Scenes.Held.{Held, IsAt}
-use Rattle.papaya_grouped.specs.Given.Scenes.Scene.{Scene}
-use Rattle.papaya_grouped.specs.Given.Scenes.Stepping.{StepLeads, has_ended, scene_after}
-use Rattle.papaya_swept.specs.Given.Settles.Counts.{HasToCount}
-use Rattle.papaya_swept.proofs.Given.Legal.CallLeaves.{none_asked}
-use Rattle.papaya_swept.proofs.Given.Kept.Calls.{calls_keep_kept, own_made}
-use Rattle.papaya_swept.proofs.Given.Owes.Calls.{goes_as_one, step_keeps_made}
-use Rattle.papaya_swept.proofs.Given.Owes.Clear.{walks_are_clear}
-use Rattle.papaya_swept.proofs.Given.Owes.Kept.{calls_its}
-use Rattle.papaya_swept.proofs.Given.Owes.Ready.{ready_so}
-use Rattle.papaya_swept.proofs.Given.Owes.Short.Calls.{step_keeps_short}
-use Rattle.papaya_swept.proofs.Given.Owes.Tables.Calls.{step_keeps_tables}
-use Rattle.papaya_grouped.proofs.Given.Scenes.Goes.{goes_as}
-use Rattle.papaya_grouped.proofs.Given.Scenes.NoCall.{none_of}
-use Rattle.papaya_swept.proofs.Given.Settles.Calls.{calls_keep_counts}
-use Rattle.papaya_swept.proofs.Given.Settles.Hand.Asked.{walks_have_nothing}
-use Rattle.papaya_swept.proofs.Given.Settles.Hand.Calls.{calls_keep_owed}
+use Rattle.papaya_grouped.specs.Given.CallersTogether.{UnderWay}
+use Rattle.papaya_grouped.specs.Given.EffectsEffects.{effects_of, known_after}
+use Rattle.papaya_grouped.specs.Given.EffectsKnown.{Known}
+use Rattle.papaya_grouped.specs.Given.EffectsDeclared.acting.Acting.TheVariants as acts
+use Rattle.papaya_grouped.specs.Given.FinishesMachines.{machine_of}
+use Rattle.papaya_swept.specs.Given.KeptKept.{ShowsKept}
+use Rattle.papaya_swept.specs.Given.MomentsWhole.{ShowsWhole}
+use Rattle.papaya_swept.specs.Given.OwesEvents.{LeavesNothingMade}
+use Rattle.papaya_grouped.specs.Given.ScenesHeld.{Held, IsAt}
+use Rattle.papaya_grouped.specs.Given.ScenesScene.{Scene}
+use Rattle.papaya_grouped.specs.Given.ScenesStepping.{StepLeads, has_ended, scene_after}
+use Rattle.papaya_swept.specs.Given.SettlesCounts.{HasToCount}
+use Rattle.papaya_swept.proofs.Given.LegalCallLeaves.{none_asked}
+use Rattle.papaya_swept.proofs.Given.KeptCalls.{calls_keep_kept, own_made}
+use Rattle.papaya_swept.proofs.Given.OwesCalls.{goes_as_one, step_keeps_made}
+use Rattle.papaya_swept.proofs.Given.OwesClear.{walks_are_clear}
+use Rattle.papaya_swept.proofs.Given.OwesKept.{calls_its}
+use Rattle.papaya_swept.proofs.Given.OwesReady.{ready_so}
+use Rattle.papaya_swept.proofs.Given.OwesShort.Calls.{step_keeps_short}
+use Rattle.papaya_swept.proofs.Given.OwesTables.Calls.{step_keeps_tables}
+use Rattle.papaya_grouped.proofs.Given.ScenesGoes.{goes_as}
+use Rattle.papaya_grouped.proofs.Given.ScenesNoCall.{none_of}
+use Rattle.papaya_swept.proofs.Given.SettlesCalls.{calls_keep_counts}
+use Rattle.papaya_swept.proofs.Given.SettlesHand.Asked.{walks_have_nothing}
+use Rattle.papaya_swept.proofs.Given.SettlesHand.Calls.{calls_keep_owed}
 
 -- who is short of no growth has grown, whatever the outcome
 has_grown : {K V : Type 0} (o : Outcome V) (c : CallThere K V) → c.is_short ≡ false → HasGrown o c

@@ -5,15 +5,15 @@ use Rattle.std.proofs.Common.{◌≡◌, ℕ, sym, subst, ◌∙◌}
 use Rattle.seize_acts.proofs.Answers.{same_some}
 use Rattle.papaya_deeds.specs.Given.Schedules.After.{AtEachEvent}
 use Rattle.papaya_deeds.specs.Given.Schedules.Terms.{Terms, shards_of}
-use Rattle.papaya_grouped.specs.Given.Acts.Doings.{Doing, Does, BeginsReclaiming, BeginsClearing, StepsReclaiming, Chooses}
-use Rattle.papaya_grouped.specs.Given.Agrees.Agree.{Asks}
-use Rattle.papaya_grouped.specs.Given.Agrees.Places.{AsksMaps}
+use Rattle.papaya_grouped.specs.Given.ActsDoings.{Doing, Does, BeginsReclaiming, BeginsClearing, StepsReclaiming, Chooses}
+use Rattle.papaya_grouped.specs.Given.AgreesAgree.{Asks}
+use Rattle.papaya_grouped.specs.Given.AgreesPlaces.{AsksMaps}
 use Rattle.papaya_deeds.specs.Deeds.{Entry}
 use Rattle.papaya_deeds.specs.History.{IsLinearizable, IsProtected, IsSwept, MovesOn}
-use Rattle.papaya_grouped.specs.Given.Played.Play.{State}
-use Rattle.papaya_swept.specs.Given.Linear.Linear.{IsOfOwn}
-use Rattle.papaya_swept.proofs.Given.Linear.Linear.{lists_are_linearizable}
-use Rattle.papaya_swept.proofs.Given.Protects.Protected.{lists_are_protected}
+use Rattle.papaya_grouped.specs.Given.PlayedPlay.{State}
+use Rattle.papaya_swept.specs.Given.LinearLinear.{IsOfOwn}
+use Rattle.papaya_swept.proofs.Given.LinearLinear.{lists_are_linearizable}
+use Rattle.papaya_swept.proofs.Given.ProtectsProtected.{lists_are_protected}
 use Rattle.papaya_swept.proofs.Swept.{lists_are_swept}
 use Rattle.papaya_moves.specs.Legal.{KeepsAll, ListsKeepAll}
 use Rattle.papaya_moves.specs.Own.{IsOfItsCall}

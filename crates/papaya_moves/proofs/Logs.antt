@@ -3,9 +3,9 @@ use Rattle.std.specs.Prelude.{Bool}
 use Rattle.std.proofs.Common.{ℕ, sym, subst, ◌∙◌}
 use Rattle.seize_acts.proofs.Answers.{same_some}
 use Rattle.papaya_deeds.specs.Given.Schedules.After.{AtEachEvent}
-use Rattle.papaya_grouped.specs.Given.Scenes.Scene.{slot_of}
-use Rattle.papaya_grouped.proofs.Given.Acts.Lists.{lists_determine}
-use Rattle.papaya_grouped.specs.Given.Played.Play.{State}
+use Rattle.papaya_grouped.specs.Given.ScenesScene.{slot_of}
+use Rattle.papaya_grouped.proofs.Given.ActsLists.{lists_determine}
+use Rattle.papaya_grouped.specs.Given.PlayedPlay.{State}
 use Rattle.papaya_moves.specs.Legal.{KeepsAll}
 use Rattle.papaya_moves.specs.Logs.{LogsKeepAll}
 use Rattle.papaya_moves.proofs.Legal.{lists_keep_all}

@@ -13,25 +13,25 @@ use Rattle.papaya_deeds.specs.Given.Schedules.declared.outcome.Outcome.TheVarian
 use Rattle.papaya_deeds.specs.Given.Schedules.Effects.{with_effects}
 use Rattle.papaya_deeds.specs.Given.Schedules.Moment.{Moment}
 use Rattle.papaya_deeds.specs.Given.Schedules.Views.{capacity_or, map_at}
-use Rattle.papaya_grouped.specs.Given.Effects.Effects.{effects_of}
-use Rattle.papaya_grouped.specs.Given.Effects.Known.{Known}
-use Rattle.papaya_grouped.specs.Given.Effects.declared.acting.Acting.TheVariants as acts
-use Rattle.papaya_swept.proofs.Given.Finds.Capacities.{effects_keep_capacities}
-use Rattle.papaya_grouped.specs.Given.Acts.Acts.{Act, Answer, BeginsCall, StepsCall, TellsCall, AsksCall, StopsCall, BeginsMaking, StepsMaking, BeginsEnding, StepsEnding, BeginsRow, StepsRow}
-use Rattle.papaya_grouped.specs.Given.Acts.AsSteps.{changed_of}
-use Rattle.papaya_grouped.specs.Given.Agrees.Fresh.{AreNamed, HasNewNumber, gives_back, is_taken}
-use Rattle.papaya_grouped.proofs.Given.Agrees.Fresh.{was_not}
-use Rattle.papaya_grouped.proofs.Given.Agrees.Numbers.{with_so}
-use Rattle.papaya_grouped.proofs.Given.Agrees.Openings.{ending_keeps_numbers}
+use Rattle.papaya_grouped.specs.Given.EffectsEffects.{effects_of}
+use Rattle.papaya_grouped.specs.Given.EffectsKnown.{Known}
+use Rattle.papaya_grouped.specs.Given.EffectsDeclared.acting.Acting.TheVariants as acts
+use Rattle.papaya_swept.proofs.Given.FindsCapacities.{effects_keep_capacities}
+use Rattle.papaya_grouped.specs.Given.ActsActs.{Act, Answer, BeginsCall, StepsCall, TellsCall, AsksCall, StopsCall, BeginsMaking, StepsMaking, BeginsEnding, StepsEnding, BeginsRow, StepsRow}
+use Rattle.papaya_grouped.specs.Given.ActsAsSteps.{changed_of}
+use Rattle.papaya_grouped.specs.Given.AgreesFresh.{AreNamed, HasNewNumber, gives_back, is_taken}
+use Rattle.papaya_grouped.proofs.Given.AgreesFresh.{was_not}
+use Rattle.papaya_grouped.proofs.Given.AgreesNumbers.{with_so}
+use Rattle.papaya_grouped.proofs.Given.AgreesOpenings.{ending_keeps_numbers}
 use Rattle.papaya_deeds.specs.Deeds.{Deed, Ends, Entry, Leaves, MapFails, MapGoes, Opens, ReclaimsAll, Registers, Replies, Shuts, Steps, Stops, Tends, after, moment}
 use Rattle.papaya_deeds.specs.History.{made_for}
-use Rattle.papaya_grouped.specs.Given.Played.Play.{Ending, Making, Now, State, did, ending_deed, has_root, is_over, is_refusal, pairs_for, reply_for, row_deed, settled_outcome}
-use Rattle.papaya_grouped.proofs.Given.Played.PlayedAs.{PlayedAs, ReclaimedAs}
-use Rattle.papaya_swept.specs.Given.Works.Makings.{in_hand, table_left}
-use Rattle.papaya_swept.proofs.Given.Linear.Coming.{gone_leaves}
-use Rattle.papaya_swept.proofs.Given.Linear.RowsPlayed.{IsOfRow, is_of_row}
+use Rattle.papaya_grouped.specs.Given.PlayedPlay.{Ending, Making, Now, State, did, ending_deed, has_root, is_over, is_refusal, pairs_for, reply_for, row_deed, settled_outcome}
+use Rattle.papaya_grouped.proofs.Given.PlayedPlayedAs.{PlayedAs, ReclaimedAs}
+use Rattle.papaya_swept.specs.Given.WorksMakings.{in_hand, table_left}
+use Rattle.papaya_swept.proofs.Given.LinearComing.{gone_leaves}
+use Rattle.papaya_swept.proofs.Given.LinearRowsPlayed.{IsOfRow, is_of_row}
 use Rattle.papaya_moves.proofs.Counted.{IsStill, MakesNone, capacity_still, none_made}
-use Rattle.papaya_grouped.proofs.Given.Agrees.Names.{effects_named}
+use Rattle.papaya_grouped.proofs.Given.AgreesNames.{effects_named}
 
 module _ {K V S : Type 0} where
   abbrev pub IsComing : List (Entry K V) → Making S → Type 0

@@ -7,32 +7,32 @@ use Rattle.seize_acts.specs.Given.Seize.declared.progress.Progress.{Progress}
 use Rattle.seize_acts.specs.Given.Seize.declared.progress.Progress.TheVariants as progress
 use Rattle.papaya_deeds.specs.Given.Tables.declared.setting.Setting.{Setting}
 use Rattle.papaya_deeds.specs.Given.Resize.declared.new_map.NewMap.{NewMap}
-use Rattle.papaya_grouped.specs.Given.Teller.declared.changed.Changed.{Changed}
+use Rattle.papaya_grouped.specs.Given.TellerDeclared.changed.Changed.{Changed}
 use Rattle.papaya_deeds.specs.Given.Schedules.declared.effect.Effect.{Effect}
 use Rattle.papaya_deeds.specs.Given.Schedules.declared.outcome.Outcome.{Outcome}
 use Rattle.papaya_deeds.specs.Given.Schedules.Effects.{with_effects}
 use Rattle.papaya_deeds.specs.Given.Schedules.Handing.{is_table_made}
 use Rattle.papaya_deeds.specs.Given.Schedules.Moment.{MapThere, Moment}
 use Rattle.papaya_deeds.specs.Given.Schedules.Views.{capacity_or, map_at, tables_of}
-use Rattle.papaya_grouped.specs.Given.Effects.Effects.{effects_of}
-use Rattle.papaya_grouped.specs.Given.Effects.Known.{Known}
-use Rattle.papaya_grouped.specs.Given.Effects.declared.acting.Acting.TheVariants as acts
-use Rattle.papaya_grouped.proofs.Given.Callers.Together.At.{at_other, at_same}
-use Rattle.papaya_swept.proofs.Given.Finds.Capacities.{effects_keep_capacities}
-use Rattle.papaya_grouped.specs.Given.Acts.Acts.{Answer}
-use Rattle.papaya_grouped.specs.Given.Agrees.Fresh.{AreNamed, gives_back, is_taken}
-use Rattle.papaya_grouped.proofs.Given.Agrees.Fresh.{not_in_use}
-use Rattle.papaya_grouped.proofs.Given.Agrees.Numbers.{NumbersHold}
+use Rattle.papaya_grouped.specs.Given.EffectsEffects.{effects_of}
+use Rattle.papaya_grouped.specs.Given.EffectsKnown.{Known}
+use Rattle.papaya_grouped.specs.Given.EffectsDeclared.acting.Acting.TheVariants as acts
+use Rattle.papaya_grouped.proofs.Given.CallersTogether.At.{at_other, at_same}
+use Rattle.papaya_swept.proofs.Given.FindsCapacities.{effects_keep_capacities}
+use Rattle.papaya_grouped.specs.Given.ActsActs.{Answer}
+use Rattle.papaya_grouped.specs.Given.AgreesFresh.{AreNamed, gives_back, is_taken}
+use Rattle.papaya_grouped.proofs.Given.AgreesFresh.{not_in_use}
+use Rattle.papaya_grouped.proofs.Given.AgreesNumbers.{NumbersHold}
 use Rattle.papaya_deeds.specs.Deeds.{Deed, Entry, after, come, moment, named}
 use Rattle.papaya_deeds.specs.History.{made_by, made_for}
-use Rattle.papaya_grouped.specs.Given.Played.Play.{Making, Now, State, has_root, is_refusal, making_outcome, pairs_for}
-use Rattle.papaya_swept.specs.Given.Works.Makings.{in_hand, table_left}
-use Rattle.papaya_swept.proofs.Given.Linear.Coming.{come_leaves, come_there, gone_leaves}
-use Rattle.papaya_swept.proofs.Given.Linear.MapActs.{deed_by}
+use Rattle.papaya_grouped.specs.Given.PlayedPlay.{Making, Now, State, has_root, is_refusal, making_outcome, pairs_for}
+use Rattle.papaya_swept.specs.Given.WorksMakings.{in_hand, table_left}
+use Rattle.papaya_swept.proofs.Given.LinearComing.{come_leaves, come_there, gone_leaves}
+use Rattle.papaya_swept.proofs.Given.LinearMapActs.{deed_by}
 use Rattle.papaya_moves.proofs.Counted.{capacity_still, nothing_made, other_made, own_made}
 use Rattle.papaya_moves.proofs.MadeHolds.{IsComing, MadeHolds}
-use Rattle.papaya_grouped.proofs.Given.Agrees.Names.{effects_named}
-use Rattle.papaya_grouped.proofs.Given.Agrees.Openings.{gives_its}
+use Rattle.papaya_grouped.proofs.Given.AgreesNames.{effects_named}
+use Rattle.papaya_grouped.proofs.Given.AgreesOpenings.{gives_its}
 
 module _ {K V S : Type 0} (x : State K V S) (here : MadeHolds x) (numbers : NumbersHold true x) (names : AreNamed (moment x.history)) (i : ℕ) (b : Making S) (makes : x.now.makers i ≡ Some b) (machine : NewMap)
     (said : Progress Setting) (told : Changed) (apart : (j : ℕ) (d : Making S) → j ≢ i → x.now.makers j ≡ Some d → d.map ≢ b.map) where

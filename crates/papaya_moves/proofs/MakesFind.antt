@@ -11,27 +11,27 @@ use Rattle.papaya_deeds.specs.Given.Runs.Runs.{map_fault}
 use Rattle.papaya_deeds.specs.Given.Schedules.Moment.{MapThere, Moment}
 use Rattle.papaya_deeds.specs.Given.Schedules.Terms.{Terms}
 use Rattle.papaya_deeds.specs.Given.Schedules.Views.{capacity_or, map_at}
-use Rattle.papaya_grouped.specs.Given.Teller.declared.changed.Changed.TheVariants.{Nothing as NoChange}
-use Rattle.papaya_grouped.specs.Given.Effects.Effects.{effects_of}
-use Rattle.papaya_grouped.specs.Given.Effects.declared.acting.Acting.TheVariants as acts
-use Rattle.papaya_grouped.specs.Given.Named.Places.{first_places}
-use Rattle.papaya_grouped.specs.Given.Scenes.Held.{Held, IsAt}
-use Rattle.papaya_grouped.specs.Given.Scenes.Making.{MakingLeads}
-use Rattle.papaya_grouped.specs.Given.Scenes.Scene.{Scene, slot_of}
-use Rattle.papaya_grouped.specs.Given.Acts.Acts.{Act, Answer, OfMaking, StepsMaking}
-use Rattle.papaya_grouped.specs.Given.Acts.AsSteps.{LeadsAs, changed_by, changed_of, held_in}
-use Rattle.papaya_grouped.specs.Given.Acts.Leads.{Led}
-use Rattle.papaya_grouped.proofs.Given.Acts.AsSteps.Told.{was_told}
-use Rattle.papaya_grouped.proofs.Given.Agrees.Openings.{rootless_quiet}
+use Rattle.papaya_grouped.specs.Given.TellerDeclared.changed.Changed.TheVariants.{Nothing as NoChange}
+use Rattle.papaya_grouped.specs.Given.EffectsEffects.{effects_of}
+use Rattle.papaya_grouped.specs.Given.EffectsDeclared.acting.Acting.TheVariants as acts
+use Rattle.papaya_grouped.specs.Given.NamedPlaces.{first_places}
+use Rattle.papaya_grouped.specs.Given.ScenesHeld.{Held, IsAt}
+use Rattle.papaya_grouped.specs.Given.ScenesMaking.{MakingLeads}
+use Rattle.papaya_grouped.specs.Given.ScenesScene.{Scene, slot_of}
+use Rattle.papaya_grouped.specs.Given.ActsActs.{Act, Answer, OfMaking, StepsMaking}
+use Rattle.papaya_grouped.specs.Given.ActsAsSteps.{LeadsAs, changed_by, changed_of, held_in}
+use Rattle.papaya_grouped.specs.Given.ActsLeads.{Led}
+use Rattle.papaya_grouped.proofs.Given.ActsAsSteps.Told.{was_told}
+use Rattle.papaya_grouped.proofs.Given.AgreesOpenings.{rootless_quiet}
 use Rattle.papaya_deeds.specs.Deeds.{Entry, moment}
-use Rattle.papaya_grouped.specs.Given.Played.Play.{State, has_root, is_refusal, making_deed, making_outcome, pairs_for}
-use Rattle.papaya_grouped.specs.Given.Played.Reached.{IsOf}
-use Rattle.papaya_grouped.proofs.Given.Played.PlayedAs.{PlayedAs}
-use Rattle.papaya_swept.specs.Given.Linear.Coming.{ComesBy, MapsComeAndGo}
-use Rattle.papaya_swept.proofs.Given.Linear.Coming.{comes_bare}
-use Rattle.papaya_swept.proofs.Given.Linear.Holds.{Holds}
-use Rattle.papaya_swept.proofs.Given.Linear.MakesRight.{was_new}
-use Rattle.papaya_grouped.proofs.Given.Played.Tied.{MakingTied, making_tied}
+use Rattle.papaya_grouped.specs.Given.PlayedPlay.{State, has_root, is_refusal, making_deed, making_outcome, pairs_for}
+use Rattle.papaya_grouped.specs.Given.PlayedReached.{IsOf}
+use Rattle.papaya_grouped.proofs.Given.PlayedPlayedAs.{PlayedAs}
+use Rattle.papaya_swept.specs.Given.LinearComing.{ComesBy, MapsComeAndGo}
+use Rattle.papaya_swept.proofs.Given.LinearComing.{comes_bare}
+use Rattle.papaya_swept.proofs.Given.LinearHolds.{Holds}
+use Rattle.papaya_swept.proofs.Given.LinearMakesRight.{was_new}
+use Rattle.papaya_grouped.proofs.Given.PlayedTied.{MakingTied, making_tied}
 use Rattle.papaya_moves.specs.Finds.{FindsIts}
 use Rattle.papaya_moves.specs.Places.{OpensFor}
 use Rattle.papaya_moves.proofs.MadeHolds.{MadeHolds}

@@ -18,34 +18,34 @@ use Rattle.papaya_deeds.specs.Given.Schedules.Effects.{with_effects}
 use Rattle.papaya_deeds.specs.Given.Schedules.Handing.{is_table_made}
 use Rattle.papaya_deeds.specs.Given.Schedules.Moment.{Moment}
 use Rattle.papaya_deeds.specs.Given.Schedules.Views.{capacity_or, map_at, tables_of}
-use Rattle.papaya_grouped.specs.Given.Teller.declared.changed.Changed.TheVariants.{Nothing as NoChange}
-use Rattle.papaya_grouped.specs.Given.Effects.Effects.{effects_of, known_after}
-use Rattle.papaya_grouped.specs.Given.Effects.declared.acting.Acting.TheVariants as acts
-use Rattle.papaya_grouped.specs.Given.Finishes.Endings.{MakingStepsAmong}
-use Rattle.papaya_grouped.specs.Given.Finishes.Makings.{Beginning}
-use Rattle.papaya_swept.specs.Given.Owes.Making.{making_in_opening}
-use Rattle.papaya_swept.specs.Given.Owes.Tables.{table_made}
-use Rattle.papaya_grouped.specs.Given.Scenes.Held.{Held, IsAt}
-use Rattle.papaya_grouped.specs.Given.Scenes.Making.{MakingComesTo, MakingLeads}
-use Rattle.papaya_grouped.specs.Given.Scenes.Scene.{Scene, slot_of}
-use Rattle.papaya_grouped.proofs.Given.Callers.Together.At.{at_same}
-use Rattle.papaya_grouped.proofs.Given.Others.MakingGoes.{new_maps_stay}
-use Rattle.papaya_grouped.specs.Given.Acts.Acts.{Answer, StepsMaking}
-use Rattle.papaya_grouped.specs.Given.Acts.AsSteps.{MadeTo, changed_by, changed_of, held_in}
-use Rattle.papaya_grouped.specs.Given.Acts.Leads.{MakingCame, making_steps}
-use Rattle.papaya_grouped.proofs.Given.Acts.AsSteps.Told.{was_told}
-use Rattle.papaya_grouped.proofs.Given.Agrees.Numbers.{NumbersHold}
-use Rattle.papaya_grouped.proofs.Given.Agrees.Openings.{rootless_quiet}
+use Rattle.papaya_grouped.specs.Given.TellerDeclared.changed.Changed.TheVariants.{Nothing as NoChange}
+use Rattle.papaya_grouped.specs.Given.EffectsEffects.{effects_of, known_after}
+use Rattle.papaya_grouped.specs.Given.EffectsDeclared.acting.Acting.TheVariants as acts
+use Rattle.papaya_grouped.specs.Given.FinishesEndings.{MakingStepsAmong}
+use Rattle.papaya_grouped.specs.Given.FinishesMakings.{Beginning}
+use Rattle.papaya_swept.specs.Given.OwesMaking.{making_in_opening}
+use Rattle.papaya_swept.specs.Given.OwesTables.{table_made}
+use Rattle.papaya_grouped.specs.Given.ScenesHeld.{Held, IsAt}
+use Rattle.papaya_grouped.specs.Given.ScenesMaking.{MakingComesTo, MakingLeads}
+use Rattle.papaya_grouped.specs.Given.ScenesScene.{Scene, slot_of}
+use Rattle.papaya_grouped.proofs.Given.CallersTogether.At.{at_same}
+use Rattle.papaya_grouped.proofs.Given.OthersMakingGoes.{new_maps_stay}
+use Rattle.papaya_grouped.specs.Given.ActsActs.{Answer, StepsMaking}
+use Rattle.papaya_grouped.specs.Given.ActsAsSteps.{MadeTo, changed_by, changed_of, held_in}
+use Rattle.papaya_grouped.specs.Given.ActsLeads.{MakingCame, making_steps}
+use Rattle.papaya_grouped.proofs.Given.ActsAsSteps.Told.{was_told}
+use Rattle.papaya_grouped.proofs.Given.AgreesNumbers.{NumbersHold}
+use Rattle.papaya_grouped.proofs.Given.AgreesOpenings.{rootless_quiet}
 use Rattle.papaya_deeds.specs.Deeds.{Entry, moment, named}
 use Rattle.papaya_deeds.specs.History.{made_for}
-use Rattle.papaya_grouped.specs.Given.Played.Play.{Making, Now, State, has_root, is_refusal, made_on, making_deed, making_outcome, pairs_for}
-use Rattle.papaya_grouped.specs.Given.Played.Reached.{IsOf, made_so, makes_so}
-use Rattle.papaya_swept.specs.Given.Works.Makings.{in_hand, table_left}
-use Rattle.papaya_swept.specs.Given.Linear.Coming.{Comes, ComesBy, MapsComeAndGo}
-use Rattle.papaya_swept.proofs.Given.Linear.Coming.{comes_bare}
-use Rattle.papaya_swept.proofs.Given.Linear.Holds.{Holds}
-use Rattle.papaya_swept.proofs.Given.Linear.MakesRight.{was_new}
-use Rattle.papaya_swept.proofs.Given.Linear.StepsPlayed.{there_alike}
+use Rattle.papaya_grouped.specs.Given.PlayedPlay.{Making, Now, State, has_root, is_refusal, made_on, making_deed, making_outcome, pairs_for}
+use Rattle.papaya_grouped.specs.Given.PlayedReached.{IsOf, made_so, makes_so}
+use Rattle.papaya_swept.specs.Given.WorksMakings.{in_hand, table_left}
+use Rattle.papaya_swept.specs.Given.LinearComing.{Comes, ComesBy, MapsComeAndGo}
+use Rattle.papaya_swept.proofs.Given.LinearComing.{comes_bare}
+use Rattle.papaya_swept.proofs.Given.LinearHolds.{Holds}
+use Rattle.papaya_swept.proofs.Given.LinearMakesRight.{was_new}
+use Rattle.papaya_swept.proofs.Given.LinearStepsPlayed.{there_alike}
 use Rattle.papaya_moves.proofs.MadeHolds.{IsComing, MadeHolds}
 use Rattle.papaya_moves.proofs.MadeStep.{own_then, then_made}
 use Rattle.papaya_moves.proofs.MakingMoves.{counts as counts_made, frees_quietly}

@@ -11,23 +11,23 @@ use Rattle.papaya_deeds.specs.Given.Schedules.Lives.{EventFinds}
 use Rattle.papaya_deeds.specs.Given.Schedules.Moment.{MapThere, Moment}
 use Rattle.papaya_deeds.specs.Given.Schedules.Terms.{Terms}
 use Rattle.papaya_deeds.specs.Given.Schedules.Views.{map_at, tables_of}
-use Rattle.papaya_grouped.specs.Given.Effects.Effects.{effects_of}
-use Rattle.papaya_grouped.specs.Given.Effects.declared.acting.Acting.TheVariants as acts
-use Rattle.papaya_grouped.specs.Given.Finishes.Makings.{Beginning}
-use Rattle.papaya_grouped.specs.Given.Named.Places.{first_places}
-use Rattle.papaya_grouped.specs.Given.Others.Makings.{WasNew}
-use Rattle.papaya_grouped.specs.Given.Scenes.Held.{Held, IsAt}
-use Rattle.papaya_grouped.specs.Given.Scenes.Making.{MakingLeads}
-use Rattle.papaya_grouped.specs.Given.Scenes.Scene.{Scene}
-use Rattle.papaya_swept.proofs.Given.Finds.Life.{each_so}
+use Rattle.papaya_grouped.specs.Given.EffectsEffects.{effects_of}
+use Rattle.papaya_grouped.specs.Given.EffectsDeclared.acting.Acting.TheVariants as acts
+use Rattle.papaya_grouped.specs.Given.FinishesMakings.{Beginning}
+use Rattle.papaya_grouped.specs.Given.NamedPlaces.{first_places}
+use Rattle.papaya_grouped.specs.Given.OthersMakings.{WasNew}
+use Rattle.papaya_grouped.specs.Given.ScenesHeld.{Held, IsAt}
+use Rattle.papaya_grouped.specs.Given.ScenesMaking.{MakingLeads}
+use Rattle.papaya_grouped.specs.Given.ScenesScene.{Scene}
+use Rattle.papaya_swept.proofs.Given.FindsLife.{each_so}
 use Rattle.papaya_deeds.specs.Deeds.{Deed, Entry, Makes, MapFails, begun, moment, named}
 use Rattle.papaya_deeds.specs.History.{FindsBy, past, transition}
-use Rattle.papaya_grouped.specs.Given.Played.Play.{State, has_root, is_refusal, making_outcome}
-use Rattle.papaya_swept.specs.Given.Works.Firsts.{ShowsOpenings}
-use Rattle.papaya_swept.proofs.Given.Works.Makings.{makings_find_theirs}
-use Rattle.papaya_swept.specs.Given.Linear.Shown.{ShowsAnswers}
-use Rattle.papaya_swept.proofs.Given.Linear.MapActs.{deed_by}
-use Rattle.papaya_swept.proofs.Given.Linear.OthersGo.{makings_step}
+use Rattle.papaya_grouped.specs.Given.PlayedPlay.{State, has_root, is_refusal, making_outcome}
+use Rattle.papaya_swept.specs.Given.WorksFirsts.{ShowsOpenings}
+use Rattle.papaya_swept.proofs.Given.WorksMakings.{makings_find_theirs}
+use Rattle.papaya_swept.specs.Given.LinearShown.{ShowsAnswers}
+use Rattle.papaya_swept.proofs.Given.LinearMapActs.{deed_by}
+use Rattle.papaya_swept.proofs.Given.LinearOthersGo.{makings_step}
 use Rattle.papaya_moves.specs.Finds.{FindsIts}
 
 module _ {K V S : Type 0} (same : K → K → Bool) (hash : ℕ → K → ℕ) (x : State K V S) (s : Scene K V) (old new : Held K V) (at : IsAt same hash old s)

@@ -13,38 +13,38 @@ use Rattle.papaya_deeds.specs.Given.Resize.NewMap.{plan_at}
 use Rattle.papaya_deeds.specs.Given.Resize.declared.new_map.NewMap.{NewMap}
 use Rattle.papaya_deeds.specs.Given.Resize.declared.new_map.Opening.{Opening}
 use Rattle.papaya_deeds.specs.Given.Resize.declared.new_map.Opening.TheVariants as openings
-use Rattle.papaya_grouped.specs.Given.Rule.Chart.{Chart}
-use Rattle.papaya_grouped.specs.Given.Teller.Tells.{StepsTold}
-use Rattle.papaya_grouped.specs.Given.Teller.declared.changed.Changed.{Changed}
-use Rattle.papaya_grouped.specs.Given.Teller.declared.changed.Changed.TheVariants as changed
+use Rattle.papaya_grouped.specs.Given.RuleChart.{Chart}
+use Rattle.papaya_grouped.specs.Given.TellerTells.{StepsTold}
+use Rattle.papaya_grouped.specs.Given.TellerDeclared.changed.Changed.{Changed}
+use Rattle.papaya_grouped.specs.Given.TellerDeclared.changed.Changed.TheVariants as changed
 use Rattle.papaya_deeds.specs.Given.Schedules.declared.effect.Effect.{Effect}
 use Rattle.papaya_deeds.specs.Given.Schedules.Effects.{with_effects}
 use Rattle.papaya_deeds.specs.Given.Schedules.Handing.{is_first_making, is_granted, is_table_made}
 use Rattle.papaya_deeds.specs.Given.Schedules.Moment.{Moment}
 use Rattle.papaya_deeds.specs.Given.Schedules.Transition.{worked_by}
 use Rattle.papaya_deeds.specs.Given.Schedules.Views.{capacity_or, map_at, tables_of}
-use Rattle.papaya_grouped.specs.Given.Effects.Effects.{effects_of, known_after}
-use Rattle.papaya_grouped.specs.Given.Effects.Known.{Known}
-use Rattle.papaya_grouped.specs.Given.Effects.declared.acting.Acting.TheVariants as acts
-use Rattle.papaya_grouped.specs.Given.Finishes.Makings.{Beginning, IsNewChart, MakingFacts}
-use Rattle.papaya_grouped.specs.Given.Follows.Shows.{Shows}
-use Rattle.papaya_grouped.specs.Given.Others.Makings.{WasNew, making_after}
-use Rattle.papaya_grouped.specs.Given.Scenes.Held.{Held, IsAt}
-use Rattle.papaya_grouped.specs.Given.Scenes.Making.{MakingComesTo, MakingLeads}
-use Rattle.papaya_grouped.specs.Given.Scenes.Scene.{Scene}
-use Rattle.papaya_grouped.proofs.Given.Callers.Together.At.{at_same}
-use Rattle.papaya_swept.proofs.Given.Finds.Capacities.{effects_keep_capacities}
-use Rattle.papaya_grouped.proofs.Given.Follows.Finds.{tables_many}
-use Rattle.papaya_grouped.proofs.Given.Agrees.Openings.{rootless_quiet}
+use Rattle.papaya_grouped.specs.Given.EffectsEffects.{effects_of, known_after}
+use Rattle.papaya_grouped.specs.Given.EffectsKnown.{Known}
+use Rattle.papaya_grouped.specs.Given.EffectsDeclared.acting.Acting.TheVariants as acts
+use Rattle.papaya_grouped.specs.Given.FinishesMakings.{Beginning, IsNewChart, MakingFacts}
+use Rattle.papaya_grouped.specs.Given.FollowsShows.{Shows}
+use Rattle.papaya_grouped.specs.Given.OthersMakings.{WasNew, making_after}
+use Rattle.papaya_grouped.specs.Given.ScenesHeld.{Held, IsAt}
+use Rattle.papaya_grouped.specs.Given.ScenesMaking.{MakingComesTo, MakingLeads}
+use Rattle.papaya_grouped.specs.Given.ScenesScene.{Scene}
+use Rattle.papaya_grouped.proofs.Given.CallersTogether.At.{at_same}
+use Rattle.papaya_swept.proofs.Given.FindsCapacities.{effects_keep_capacities}
+use Rattle.papaya_grouped.proofs.Given.FollowsFinds.{tables_many}
+use Rattle.papaya_grouped.proofs.Given.AgreesOpenings.{rootless_quiet}
 use Rattle.papaya_deeds.specs.Deeds.{Entry, Makes, MapComes, MapFails, moment, named}
 use Rattle.papaya_deeds.specs.History.{IsWhole, Refuses, made_by, made_for, may_do, past, transition}
-use Rattle.papaya_grouped.specs.Given.Played.Play.{State, has_root, is_refusal, making_outcome, pairs_for}
-use Rattle.papaya_swept.proofs.Given.Works.Makings.{makings_do_theirs}
-use Rattle.papaya_swept.proofs.Given.Works.TablesMade.{makings_count_tables}
-use Rattle.papaya_swept.specs.Given.Works.Makings.{CountsTables, in_hand, table_left}
-use Rattle.papaya_swept.specs.Given.Linear.Shown.{ShowsAnswers}
-use Rattle.papaya_swept.proofs.Given.Linear.MapActs.{deed_by}
-use Rattle.papaya_swept.proofs.Given.Linear.OthersGo.{makings_step}
+use Rattle.papaya_grouped.specs.Given.PlayedPlay.{State, has_root, is_refusal, making_outcome, pairs_for}
+use Rattle.papaya_swept.proofs.Given.WorksMakings.{makings_do_theirs}
+use Rattle.papaya_swept.proofs.Given.WorksTablesMade.{makings_count_tables}
+use Rattle.papaya_swept.specs.Given.WorksMakings.{CountsTables, in_hand, table_left}
+use Rattle.papaya_swept.specs.Given.LinearShown.{ShowsAnswers}
+use Rattle.papaya_swept.proofs.Given.LinearMapActs.{deed_by}
+use Rattle.papaya_swept.proofs.Given.LinearOthersGo.{makings_step}
 use Rattle.papaya_moves.specs.Parts.{DoesIts}
 use Rattle.papaya_moves.proofs.Counted.{are_so_many, freeing_has_none, own_made, places_as_pairs, so_many}
 use Rattle.papaya_moves.proofs.Parts.{all_also, granted_so, none_may, refuses_so}

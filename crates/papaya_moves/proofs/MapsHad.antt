@@ -24,29 +24,29 @@ use Rattle.papaya_deeds.specs.Given.Schedules.declared.outcome.Outcome.{Outcome}
 use Rattle.papaya_deeds.specs.Given.Schedules.declared.outcome.Outcome.TheVariants as outcome
 use Rattle.papaya_deeds.specs.Given.Schedules.Moment.{MapThere, Moment}
 use Rattle.papaya_deeds.specs.Given.Schedules.Views.{map_at}
-use Rattle.papaya_grouped.specs.Given.Teller.declared.changed.Changed.{Changed}
-use Rattle.papaya_grouped.specs.Given.Effects.Effects.{effects_of, known_after}
-use Rattle.papaya_grouped.specs.Given.Effects.declared.acting.Acting.TheVariants as acts
-use Rattle.papaya_grouped.specs.Given.Finishes.Endings.{Finishing}
-use Rattle.papaya_grouped.specs.Given.Finishes.Maps.{Standing}
-use Rattle.papaya_grouped.specs.Given.Named.Seen.{kind_of}
-use Rattle.papaya_grouped.specs.Given.Scenes.Scene.{Scene, row_of, slot_of}
-use Rattle.papaya_grouped.proofs.Given.Callers.Together.At.{at_other, at_same}
-use Rattle.papaya_grouped.proofs.Given.Scenes.NoCall.{none_is}
-use Rattle.papaya_grouped.specs.Given.Acts.Acts.{Act, BeginsCall, StepsCall, TellsCall, AsksCall, StopsCall, BeginsMaking, StepsMaking, BeginsEnding, StepsEnding, BeginsRow, StepsRow}
-use Rattle.papaya_grouped.specs.Given.Acts.AsSteps.{changed_of, row_changed}
-use Rattle.papaya_grouped.specs.Given.Acts.Courses.{set_up}
-use Rattle.papaya_grouped.specs.Given.Acts.Leads.{MayBe}
-use Rattle.papaya_grouped.proofs.Given.Acts.AsSteps.Told.{was_told}
+use Rattle.papaya_grouped.specs.Given.TellerDeclared.changed.Changed.{Changed}
+use Rattle.papaya_grouped.specs.Given.EffectsEffects.{effects_of, known_after}
+use Rattle.papaya_grouped.specs.Given.EffectsDeclared.acting.Acting.TheVariants as acts
+use Rattle.papaya_grouped.specs.Given.FinishesEndings.{Finishing}
+use Rattle.papaya_grouped.specs.Given.FinishesMaps.{Standing}
+use Rattle.papaya_grouped.specs.Given.NamedSeen.{kind_of}
+use Rattle.papaya_grouped.specs.Given.ScenesScene.{Scene, row_of, slot_of}
+use Rattle.papaya_grouped.proofs.Given.CallersTogether.At.{at_other, at_same}
+use Rattle.papaya_grouped.proofs.Given.ScenesNoCall.{none_is}
+use Rattle.papaya_grouped.specs.Given.ActsActs.{Act, BeginsCall, StepsCall, TellsCall, AsksCall, StopsCall, BeginsMaking, StepsMaking, BeginsEnding, StepsEnding, BeginsRow, StepsRow}
+use Rattle.papaya_grouped.specs.Given.ActsAsSteps.{changed_of, row_changed}
+use Rattle.papaya_grouped.specs.Given.ActsCourses.{set_up}
+use Rattle.papaya_grouped.specs.Given.ActsLeads.{MayBe}
+use Rattle.papaya_grouped.proofs.Given.ActsAsSteps.Told.{was_told}
 use Rattle.papaya_deeds.specs.Deeds.{Begins, Deed, Ends, Entry, Leaves, Makes, MapGoes, Opens, ReclaimsAll, Registers, Replies, Shuts, Steps, Stops, Tends, moment}
-use Rattle.papaya_grouped.specs.Given.Played.Play.{Ending, Making, Now, State, all_stepped, call_begun, call_for, call_stepped, call_stopped, call_told, has_root, is_over, is_refusal, made_on, making_deed, making_outcome, outcome_of, pairs_for, reply_for, row_deed, row_outcome, row_stepped, settled_outcome}
-use Rattle.papaya_grouped.specs.Given.Played.Reached.{IsOf, made_so, makes_so, stands_so}
-use Rattle.papaya_grouped.proofs.Given.Played.PlayedAs.{PlayedAs, ReclaimedAs}
-use Rattle.papaya_swept.specs.Given.Linear.Coming.{ComesBy, MapsComeAndGo}
-use Rattle.papaya_swept.proofs.Given.Linear.Gone.{nothing_told}
-use Rattle.papaya_swept.proofs.Given.Linear.MapActs.{deed_by}
-use Rattle.papaya_swept.proofs.Given.Linear.RowsPlayed.{IsOfRow, is_of_row}
-use Rattle.papaya_swept.proofs.Given.Linear.StepsPlayed.{there_alike}
+use Rattle.papaya_grouped.specs.Given.PlayedPlay.{Ending, Making, Now, State, all_stepped, call_begun, call_for, call_stepped, call_stopped, call_told, has_root, is_over, is_refusal, made_on, making_deed, making_outcome, outcome_of, pairs_for, reply_for, row_deed, row_outcome, row_stepped, settled_outcome}
+use Rattle.papaya_grouped.specs.Given.PlayedReached.{IsOf, made_so, makes_so, stands_so}
+use Rattle.papaya_grouped.proofs.Given.PlayedPlayedAs.{PlayedAs, ReclaimedAs}
+use Rattle.papaya_swept.specs.Given.LinearComing.{ComesBy, MapsComeAndGo}
+use Rattle.papaya_swept.proofs.Given.LinearGone.{nothing_told}
+use Rattle.papaya_swept.proofs.Given.LinearMapActs.{deed_by}
+use Rattle.papaya_swept.proofs.Given.LinearRowsPlayed.{IsOfRow, is_of_row}
+use Rattle.papaya_swept.proofs.Given.LinearStepsPlayed.{there_alike}
 use Rattle.papaya_moves.proofs.MapsIn.{AreIn, LeavesMaps, comes_in, fails_in, found_in, goes_in, none_in, still_in, then_in}
 use Rattle.papaya_moves.proofs.Rooted.{Rooted, step_rooted}
 

@@ -11,8 +11,8 @@ use Rattle.papaya_deeds.specs.Given.Schedules.declared.effect.Effect.{Effect}
 use Rattle.papaya_deeds.specs.Given.Schedules.declared.effect.Effect.TheVariants.{Promoted}
 use Rattle.papaya_deeds.specs.Given.Schedules.declared.effect.Table.{Table}
 use Rattle.papaya_deeds.specs.Given.Schedules.declared.outcome.Outcome.{Outcome}
-use Rattle.papaya_grouped.proofs.Given.Follows.Calling.{is_same_refl}
-use Rattle.papaya_grouped.proofs.Given.Agrees.Lists.{all_kept}
+use Rattle.papaya_grouped.proofs.Given.FollowsCalling.{is_same_refl}
+use Rattle.papaya_grouped.proofs.Given.AgreesLists.{all_kept}
 use Rattle.papaya_deeds.specs.Deeds.{Begins, Deed, Entry, MapComes, MapFails, MapGoes, acted_on, after, begun, caller_of, named, without_map}
 
 -- each is one of these, by its name, too

@@ -3,8 +3,8 @@ use Rattle.std.specs.Prelude.{◌≡◌, ◌⊎◌, ℕ, List, [], ◌∷◌}
 use Rattle.std.proofs.Common.{refl, sym, subst, inl, inr}
 use Rattle.papaya_deeds.specs.Given.Schedules.After.{AtEachEvent}
 use Rattle.papaya_deeds.specs.Given.Schedules.Terms.{Terms}
-use Rattle.papaya_swept.specs.Given.Finds.Within.{AllIsInOrder}
-use Rattle.papaya_swept.proofs.Given.Finds.Runs.{all_in_order_at_first}
+use Rattle.papaya_swept.specs.Given.FindsWithin.{AllIsInOrder}
+use Rattle.papaya_swept.proofs.Given.FindsRuns.{all_in_order_at_first}
 use Rattle.papaya_deeds.specs.Deeds.{Begins, Deed, Ends, Entry, Leaves, Makes, MapComes, MapFails, MapGoes, Opens, ReclaimsAll, Registers, Replies, Shuts, Steps, Stops, Tends, moment}
 use Rattle.papaya_deeds.specs.History.{MovesOn}
 use Rattle.papaya_moves.specs.Finds.{FindsIts, IsOther}

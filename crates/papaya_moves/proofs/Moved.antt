@@ -5,28 +5,28 @@ use Rattle.std.proofs.Common.{ℕ, refl, sym, subst, ◌∙◌}
 use Rattle.seize_acts.proofs.Answers.{same_some}
 use Rattle.papaya_deeds.specs.Given.Schedules.After.{AtEachEvent}
 use Rattle.papaya_deeds.specs.Given.Schedules.Terms.{Terms, shards_of}
-use Rattle.papaya_grouped.specs.Given.Effects.Known.{nothing_known}
-use Rattle.papaya_grouped.specs.Given.Follows.Shows.{Shows}
-use Rattle.papaya_grouped.specs.Given.Scenes.Scene.{at_first, slot_of}
-use Rattle.papaya_grouped.specs.Given.Acts.Acts.{Act, BeginsMaking}
-use Rattle.papaya_grouped.specs.Given.Acts.Doings.{Doing, Does, BeginsReclaiming, BeginsClearing, StepsReclaiming, Chooses}
-use Rattle.papaya_grouped.specs.Given.Acts.Lists.{Course, LedTo, Reached, nothing_done}
-use Rattle.papaya_grouped.specs.Given.Agrees.Fresh.{HasNewNumber, MakesNew}
-use Rattle.papaya_grouped.specs.Given.Agrees.Places.{AsksMap, AsksMaps, AsksPlaces}
-use Rattle.papaya_grouped.specs.Given.Agrees.Shards.{AsksShards}
-use Rattle.papaya_grouped.proofs.Given.Agrees.Coming.{new_fits}
-use Rattle.papaya_grouped.proofs.Given.Agrees.GivenBack.{again_first}
-use Rattle.papaya_grouped.proofs.Given.Agrees.Guards.{guards_at_first}
+use Rattle.papaya_grouped.specs.Given.EffectsKnown.{nothing_known}
+use Rattle.papaya_grouped.specs.Given.FollowsShows.{Shows}
+use Rattle.papaya_grouped.specs.Given.ScenesScene.{at_first, slot_of}
+use Rattle.papaya_grouped.specs.Given.ActsActs.{Act, BeginsMaking}
+use Rattle.papaya_grouped.specs.Given.ActsDoings.{Doing, Does, BeginsReclaiming, BeginsClearing, StepsReclaiming, Chooses}
+use Rattle.papaya_grouped.specs.Given.ActsLists.{Course, LedTo, Reached, nothing_done}
+use Rattle.papaya_grouped.specs.Given.AgreesFresh.{HasNewNumber, MakesNew}
+use Rattle.papaya_grouped.specs.Given.AgreesPlaces.{AsksMap, AsksMaps, AsksPlaces}
+use Rattle.papaya_grouped.specs.Given.AgreesShards.{AsksShards}
+use Rattle.papaya_grouped.proofs.Given.AgreesComing.{new_fits}
+use Rattle.papaya_grouped.proofs.Given.AgreesGivenBack.{again_first}
+use Rattle.papaya_grouped.proofs.Given.AgreesGuards.{guards_at_first}
 use Rattle.papaya_deeds.specs.Deeds.{Entry, moment, named}
 use Rattle.papaya_deeds.specs.History.{MovesOn, past}
-use Rattle.papaya_grouped.specs.Given.Played.Play.{State, first_state, play_all}
-use Rattle.papaya_grouped.proofs.Given.Played.Along.{AllFit, AreOfTheirOwn, At, wherever}
-use Rattle.papaya_swept.specs.Given.Linear.Linear.{IsOfOwn}
-use Rattle.papaya_swept.proofs.Given.Linear.Holding.{AllHolds}
-use Rattle.papaya_swept.proofs.Given.Linear.Stays.{first_holds}
-use Rattle.papaya_swept.specs.Given.Endings.InOrder.{EndsInOrder}
-use Rattle.papaya_swept.proofs.Given.Endings.InOrder.{maps_end_in_order}
-use Rattle.papaya_swept.proofs.Given.Endings.Stays.{first_go}
+use Rattle.papaya_grouped.specs.Given.PlayedPlay.{State, first_state, play_all}
+use Rattle.papaya_grouped.proofs.Given.PlayedAlong.{AllFit, AreOfTheirOwn, At, wherever}
+use Rattle.papaya_swept.specs.Given.LinearLinear.{IsOfOwn}
+use Rattle.papaya_swept.proofs.Given.LinearHolding.{AllHolds}
+use Rattle.papaya_swept.proofs.Given.LinearStays.{first_holds}
+use Rattle.papaya_swept.specs.Given.EndingsInOrder.{EndsInOrder}
+use Rattle.papaya_swept.proofs.Given.EndingsInOrder.{maps_end_in_order}
+use Rattle.papaya_swept.proofs.Given.EndingsStays.{first_go}
 use Rattle.papaya_swept.proofs.Swept.{first_swept}
 use Rattle.papaya_moves.specs.Finds.{OthersFind}
 use Rattle.papaya_moves.specs.Moves.{ListsMoveOn}

@@ -19,23 +19,23 @@ use Rattle.seize_acts.proofs.Given.SeizeRule.World.Good.{Good}
 use Rattle.papaya_deeds.specs.Given.Tables.Nodes.{deferred_word}
 use Rattle.papaya_deeds.specs.Given.Tables.declared.node.Node.{Node}
 use Rattle.papaya_deeds.specs.Given.Schedules.Handing.{asks_for_bucket}
-use Rattle.papaya_grouped.specs.Given.Effects.Effects.{effects_of}
-use Rattle.papaya_grouped.specs.Given.Effects.declared.acting.Acting.TheVariants as acts
-use Rattle.papaya_swept.specs.Given.Remains.Slots.{SlotsNoted}
-use Rattle.papaya_grouped.specs.Given.Scenes.Held.{Held, IsAt}
-use Rattle.papaya_grouped.specs.Given.Scenes.OnSlots.{RowLeads}
-use Rattle.papaya_grouped.specs.Given.Scenes.Scene.{IsOnSlot, Scene}
-use Rattle.papaya_grouped.specs.Given.Scenes.declared.row.RowTold.{RowTold}
-use Rattle.papaya_grouped.specs.Given.Scenes.declared.row.SlotRow.{SlotRow}
-use Rattle.papaya_grouped.specs.Given.Scenes.declared.row.SlotRow.TheVariants as rows
-use Rattle.papaya_grouped.proofs.Given.Callers.Together.Came.{came_reached}
-use Rattle.papaya_grouped.proofs.Given.Scenes.May.{may_row}
-use Rattle.papaya_swept.proofs.Given.Works.Steps.{registers_tell}
+use Rattle.papaya_grouped.specs.Given.EffectsEffects.{effects_of}
+use Rattle.papaya_grouped.specs.Given.EffectsDeclared.acting.Acting.TheVariants as acts
+use Rattle.papaya_swept.specs.Given.RemainsSlots.{SlotsNoted}
+use Rattle.papaya_grouped.specs.Given.ScenesHeld.{Held, IsAt}
+use Rattle.papaya_grouped.specs.Given.ScenesOnSlots.{RowLeads}
+use Rattle.papaya_grouped.specs.Given.ScenesScene.{IsOnSlot, Scene}
+use Rattle.papaya_grouped.specs.Given.ScenesDeclared.row.RowTold.{RowTold}
+use Rattle.papaya_grouped.specs.Given.ScenesDeclared.row.SlotRow.{SlotRow}
+use Rattle.papaya_grouped.specs.Given.ScenesDeclared.row.SlotRow.TheVariants as rows
+use Rattle.papaya_grouped.proofs.Given.CallersTogether.Came.{came_reached}
+use Rattle.papaya_grouped.proofs.Given.ScenesMay.{may_row}
+use Rattle.papaya_swept.proofs.Given.WorksSteps.{registers_tell}
 use Rattle.papaya_deeds.specs.History.{NeedsBucket, buckets}
-use Rattle.papaya_grouped.specs.Given.Played.Play.{State}
+use Rattle.papaya_grouped.specs.Given.PlayedPlay.{State}
 use Rattle.papaya_moves.proofs.Buckets.{BucketsHold}
-use Rattle.papaya_swept.proofs.Given.Works.Needs.{asked_is}
-use Rattle.papaya_swept.proofs.Given.Works.Registering.{AsksAt, lacks_at}
+use Rattle.papaya_swept.proofs.Given.WorksNeeds.{asked_is}
+use Rattle.papaya_swept.proofs.Given.WorksRegistering.{AsksAt, lacks_at}
 
 -- what a row knows that asks for room of the bucket that is not there
 needs_at : (n i : ℕ) (m : Ghost) (x : Extra) (k slot bucket there : ℕ) (p : Registering) → FitsRegister n i m x k slot p → AsksAt p bucket → bucket ≡ there → NeedsBucket slot there

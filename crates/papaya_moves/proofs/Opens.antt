@@ -11,21 +11,21 @@ use Rattle.papaya_deeds.specs.Given.Tables.declared.node.Node.{Node}
 use Rattle.papaya_deeds.specs.Given.Tables.declared.setting.Setting.{Setting}
 use Rattle.papaya_deeds.specs.Given.Raw.declared.machines.end_map.EndMap.{EndMap}
 use Rattle.papaya_deeds.specs.Given.Resize.declared.new_map.NewMap.{NewMap}
-use Rattle.papaya_grouped.specs.Given.Teller.declared.changed.Changed.TheVariants.{Nothing as NoChange}
-use Rattle.papaya_grouped.specs.Given.Finishes.Endings.{Finishing}
-use Rattle.papaya_grouped.specs.Given.Finishes.FactsEnds.{Deed}
-use Rattle.papaya_grouped.specs.Given.Finishes.Makings.{Beginning}
-use Rattle.papaya_grouped.specs.Given.Others.Makings.{making_after}
-use Rattle.papaya_grouped.specs.Given.Scenes.Held.{Held}
-use Rattle.papaya_grouped.specs.Given.Scenes.Making.{MakingComesTo, making_begun}
-use Rattle.papaya_grouped.specs.Given.Scenes.Scene.{Scene, slot_of}
-use Rattle.papaya_grouped.specs.Given.Acts.Acts.{Act, Answer, BeginsCall, StepsCall, TellsCall, AsksCall, StopsCall, BeginsMaking, StepsMaking, BeginsEnding, StepsEnding, BeginsRow, StepsRow}
-use Rattle.papaya_grouped.specs.Given.Acts.AsSteps.{LeadsAs, MadeTo, changed_by, held_in}
-use Rattle.papaya_grouped.specs.Given.Acts.Leads.{EndingCame, Led}
-use Rattle.papaya_grouped.proofs.Given.Agrees.Numbers.{with_so}
-use Rattle.papaya_swept.specs.Given.Works.Firsts.{ShowsOpenings}
-use Rattle.papaya_swept.proofs.Given.Works.Firsts.{makings_go_on, makings_open}
-use Rattle.papaya_grouped.specs.Given.Agrees.Places.{ArePlaces, AsksPlaces}
+use Rattle.papaya_grouped.specs.Given.TellerDeclared.changed.Changed.TheVariants.{Nothing as NoChange}
+use Rattle.papaya_grouped.specs.Given.FinishesEndings.{Finishing}
+use Rattle.papaya_grouped.specs.Given.FinishesFactsEnds.{Deed}
+use Rattle.papaya_grouped.specs.Given.FinishesMakings.{Beginning}
+use Rattle.papaya_grouped.specs.Given.OthersMakings.{making_after}
+use Rattle.papaya_grouped.specs.Given.ScenesHeld.{Held}
+use Rattle.papaya_grouped.specs.Given.ScenesMaking.{MakingComesTo, making_begun}
+use Rattle.papaya_grouped.specs.Given.ScenesScene.{Scene, slot_of}
+use Rattle.papaya_grouped.specs.Given.ActsActs.{Act, Answer, BeginsCall, StepsCall, TellsCall, AsksCall, StopsCall, BeginsMaking, StepsMaking, BeginsEnding, StepsEnding, BeginsRow, StepsRow}
+use Rattle.papaya_grouped.specs.Given.ActsAsSteps.{LeadsAs, MadeTo, changed_by, held_in}
+use Rattle.papaya_grouped.specs.Given.ActsLeads.{EndingCame, Led}
+use Rattle.papaya_grouped.proofs.Given.AgreesNumbers.{with_so}
+use Rattle.papaya_swept.specs.Given.WorksFirsts.{ShowsOpenings}
+use Rattle.papaya_swept.proofs.Given.WorksFirsts.{makings_go_on, makings_open}
+use Rattle.papaya_grouped.specs.Given.AgreesPlaces.{ArePlaces, AsksPlaces}
 use Rattle.papaya_moves.specs.Places.{OpensFor}
 
 module _ {K V : Type 0} (s n : Scene K V) (here : OpensFor s) where

@@ -11,23 +11,23 @@ use Rattle.papaya_deeds.specs.Given.Schedules.Effects.{AtEachEffect}
 use Rattle.papaya_deeds.specs.Given.Schedules.Terms.{Terms}
 use Rattle.papaya_deeds.specs.Given.Schedules.declared.effect.Effect.{Effect}
 use Rattle.papaya_deeds.specs.Given.Schedules.declared.outcome.Outcome.{Outcome}
-use Rattle.papaya_grouped.specs.Given.Teller.declared.changed.Changed.{Changed}
-use Rattle.papaya_grouped.specs.Given.Teller.declared.changed.Changed.TheVariants.{Nothing as NoChange}
-use Rattle.papaya_grouped.specs.Given.Effects.Effects.{effects_of}
-use Rattle.papaya_grouped.specs.Given.Effects.declared.acting.Acting.TheVariants as acts
-use Rattle.papaya_grouped.specs.Given.Scenes.Held.{Held, IsAt}
-use Rattle.papaya_grouped.specs.Given.Scenes.Scene.{IsOnSlot, Scene, row_of, slot_of}
-use Rattle.papaya_grouped.specs.Given.Scenes.declared.row.RowTold.{RowTold}
-use Rattle.papaya_grouped.specs.Given.Acts.Acts.{Act, Answer, BeginsCall, StepsCall, TellsCall, AsksCall, StopsCall, BeginsMaking, StepsMaking, BeginsEnding, StepsEnding, BeginsRow, StepsRow}
-use Rattle.papaya_grouped.specs.Given.Acts.AsSteps.{LeadsAs, changed_by, held_in, row_changed, row_told}
-use Rattle.papaya_grouped.specs.Given.Acts.Leads.{Led, MayBe}
+use Rattle.papaya_grouped.specs.Given.TellerDeclared.changed.Changed.{Changed}
+use Rattle.papaya_grouped.specs.Given.TellerDeclared.changed.Changed.TheVariants.{Nothing as NoChange}
+use Rattle.papaya_grouped.specs.Given.EffectsEffects.{effects_of}
+use Rattle.papaya_grouped.specs.Given.EffectsDeclared.acting.Acting.TheVariants as acts
+use Rattle.papaya_grouped.specs.Given.ScenesHeld.{Held, IsAt}
+use Rattle.papaya_grouped.specs.Given.ScenesScene.{IsOnSlot, Scene, row_of, slot_of}
+use Rattle.papaya_grouped.specs.Given.ScenesDeclared.row.RowTold.{RowTold}
+use Rattle.papaya_grouped.specs.Given.ActsActs.{Act, Answer, BeginsCall, StepsCall, TellsCall, AsksCall, StopsCall, BeginsMaking, StepsMaking, BeginsEnding, StepsEnding, BeginsRow, StepsRow}
+use Rattle.papaya_grouped.specs.Given.ActsAsSteps.{LeadsAs, changed_by, held_in, row_changed, row_told}
+use Rattle.papaya_grouped.specs.Given.ActsLeads.{Led, MayBe}
 use Rattle.papaya_deeds.specs.Deeds.{Deed, Ends, Entry, Leaves, MapGoes, Opens, ReclaimsAll, Registers, Shuts, Tends, moment}
 use Rattle.papaya_deeds.specs.History.{FindsBy, transition}
-use Rattle.papaya_grouped.specs.Given.Played.Play.{Ending, State, ending_deed, is_over, is_refusal, row_deed, row_outcome, row_stepped}
-use Rattle.papaya_grouped.specs.Given.Played.Reached.{IsOf, row_or_rests}
-use Rattle.papaya_grouped.proofs.Given.Played.PlayedAs.{PlayedAs}
-use Rattle.papaya_swept.proofs.Given.Linear.Holding.{AllHolds}
-use Rattle.papaya_swept.proofs.Given.Linear.RowsPlayed.{IsOfRow, is_of_row}
+use Rattle.papaya_grouped.specs.Given.PlayedPlay.{Ending, State, ending_deed, is_over, is_refusal, row_deed, row_outcome, row_stepped}
+use Rattle.papaya_grouped.specs.Given.PlayedReached.{IsOf, row_or_rests}
+use Rattle.papaya_grouped.proofs.Given.PlayedPlayedAs.{PlayedAs}
+use Rattle.papaya_swept.proofs.Given.LinearHolding.{AllHolds}
+use Rattle.papaya_swept.proofs.Given.LinearRowsPlayed.{IsOfRow, is_of_row}
 use Rattle.papaya_moves.specs.Finds.{FindsIts, IsOfOthers, OthersFind}
 use Rattle.papaya_moves.specs.Places.{OpensFor}
 use Rattle.papaya_moves.proofs.Buckets.{BucketsHold}

@@ -5,18 +5,18 @@ use Rattle.std.proofs.Common.{refl, sym, subst}
 use Rattle.seize_acts.specs.Given.Seize.declared.rows.reclaim_all.ReclaimAll.{ReclaimAll}
 use Rattle.papaya_deeds.specs.Given.Schedules.Moment.{Moment, UnderWay}
 use Rattle.papaya_deeds.specs.Given.Schedules.Terms.{Terms}
-use Rattle.papaya_grouped.specs.Given.Teller.declared.changed.Changed.TheVariants.{Nothing as NoChange}
-use Rattle.papaya_grouped.specs.Given.Effects.Effects.{effects_of}
-use Rattle.papaya_grouped.specs.Given.Effects.declared.acting.Acting.TheVariants as acts
-use Rattle.papaya_grouped.specs.Given.Scenes.Scene.{Scene}
-use Rattle.papaya_grouped.specs.Given.Acts.Acts.{Act}
-use Rattle.papaya_grouped.specs.Given.Agrees.Fresh.{HasNewNumber}
+use Rattle.papaya_grouped.specs.Given.TellerDeclared.changed.Changed.TheVariants.{Nothing as NoChange}
+use Rattle.papaya_grouped.specs.Given.EffectsEffects.{effects_of}
+use Rattle.papaya_grouped.specs.Given.EffectsDeclared.acting.Acting.TheVariants as acts
+use Rattle.papaya_grouped.specs.Given.ScenesScene.{Scene}
+use Rattle.papaya_grouped.specs.Given.ActsActs.{Act}
+use Rattle.papaya_grouped.specs.Given.AgreesFresh.{HasNewNumber}
 use Rattle.papaya_deeds.specs.Deeds.{ReclaimsAll, moment, named}
-use Rattle.papaya_grouped.specs.Given.Played.Play.{State, is_over, is_refusal, settled_outcome}
-use Rattle.papaya_grouped.specs.Given.Played.Reached.{IsOf, rows_beside}
-use Rattle.papaya_grouped.proofs.Given.Played.Along.{At, StaysSo, held, lists_at}
-use Rattle.papaya_grouped.proofs.Given.Played.PlayedAs.{played_as, reclaimed_as}
-use Rattle.papaya_swept.proofs.Given.Linear.Stays.{all_tied, change}
+use Rattle.papaya_grouped.specs.Given.PlayedPlay.{State, is_over, is_refusal, settled_outcome}
+use Rattle.papaya_grouped.specs.Given.PlayedReached.{IsOf, rows_beside}
+use Rattle.papaya_grouped.proofs.Given.PlayedAlong.{At, StaysSo, held, lists_at}
+use Rattle.papaya_grouped.proofs.Given.PlayedPlayedAs.{played_as, reclaimed_as}
+use Rattle.papaya_swept.proofs.Given.LinearStays.{all_tied, change}
 use Rattle.papaya_moves.specs.Order.{AreUnderWay, IsUnderWay}
 use Rattle.papaya_moves.proofs.AllFinds.{all_find}
 use Rattle.papaya_moves.proofs.BehindFound.{behind_found}

@@ -5,10 +5,10 @@ use Rattle.std.proofs.Common.{refl, sym, subst}
 use Rattle.papaya_deeds.specs.Given.Schedules.Terms.{Terms}
 use Rattle.papaya_deeds.specs.Given.Schedules.declared.effect.Effect.{Effect}
 use Rattle.papaya_deeds.specs.Given.Schedules.declared.outcome.Outcome.{Outcome}
-use Rattle.papaya_swept.specs.Given.Finds.Within.{AllIsInOrder}
+use Rattle.papaya_swept.specs.Given.FindsWithin.{AllIsInOrder}
 use Rattle.papaya_deeds.specs.Deeds.{Begins, Deed, Ends, Entry, Leaves, Makes, MapComes, MapFails, MapGoes, Opens, ReclaimsAll, Registers, Replies, Shuts, Steps, Stops, Tends, moment}
 use Rattle.papaya_deeds.specs.History.{may_do}
-use Rattle.papaya_swept.specs.Given.Endings.InOrder.{EndsInOrder}
+use Rattle.papaya_swept.specs.Given.EndingsInOrder.{EndsInOrder}
 use Rattle.papaya_moves.specs.Finds.{FindsIts, IsOther, OthersFind}
 use Rattle.papaya_moves.specs.Parts.{DoesIts}
 

@@ -7,15 +7,15 @@ use Rattle.papaya_deeds.specs.Given.Schedules.declared.effect.Effect.{Effect}
 use Rattle.papaya_deeds.specs.Given.Schedules.declared.outcome.Outcome.{Outcome}
 use Rattle.papaya_deeds.specs.Given.Schedules.declared.outcome.Outcome.TheVariants as outcome
 use Rattle.papaya_deeds.specs.Given.Schedules.Handing.{is_granted}
-use Rattle.papaya_grouped.specs.Given.Teller.declared.changed.Changed.{Changed}
-use Rattle.papaya_grouped.specs.Given.Effects.Effects.{effects_of}
-use Rattle.papaya_grouped.specs.Given.Effects.Known.{Known}
-use Rattle.papaya_grouped.specs.Given.Effects.declared.acting.Acting.{Acting}
-use Rattle.papaya_swept.proofs.Given.Promises.Weights.{operations_are_single}
+use Rattle.papaya_grouped.specs.Given.TellerDeclared.changed.Changed.{Changed}
+use Rattle.papaya_grouped.specs.Given.EffectsEffects.{effects_of}
+use Rattle.papaya_grouped.specs.Given.EffectsKnown.{Known}
+use Rattle.papaya_grouped.specs.Given.EffectsDeclared.acting.Acting.{Acting}
+use Rattle.papaya_swept.proofs.Given.PromisesWeights.{operations_are_single}
 use Rattle.papaya_deeds.specs.Deeds.{Begins, Deed, Entry, ReclaimsAll, Replies, Stops}
 use Rattle.papaya_deeds.specs.History.{Refuses, may_do}
-use Rattle.papaya_grouped.specs.Given.Played.Play.{is_refusal}
-use Rattle.papaya_grouped.proofs.Given.Agrees.Grants.{each_refuses}
+use Rattle.papaya_grouped.specs.Given.PlayedPlay.{is_refusal}
+use Rattle.papaya_grouped.proofs.Given.AgreesGrants.{each_refuses}
 use Rattle.papaya_moves.specs.Parts.{DoesIts}
 
 -- what all pass that pass another test

@@ -17,11 +17,11 @@ use Rattle.papaya_deeds.specs.Given.Resize.declared.new_map.NewMap.{NewMap}
 use Rattle.papaya_deeds.specs.Given.Resize.declared.new_map.Opening.{Opening}
 use Rattle.papaya_deeds.specs.Given.Resize.declared.new_map.Opening.TheVariants as openings
 use Rattle.papaya_deeds.specs.Given.Resize.declared.new_table.NewTable.{NewTable}
-use Rattle.papaya_grouped.specs.Given.Teller.Tells.{StepsTold}
-use Rattle.papaya_grouped.specs.Given.Teller.declared.changed.Changed.{Changed}
-use Rattle.papaya_grouped.specs.Given.Teller.declared.changed.Changed.TheVariants as changed
-use Rattle.papaya_grouped.proofs.Given.Others.Outcomes.{told_in}
-use Rattle.papaya_grouped.specs.Given.Played.Play.{has_root}
+use Rattle.papaya_grouped.specs.Given.TellerTells.{StepsTold}
+use Rattle.papaya_grouped.specs.Given.TellerDeclared.changed.Changed.{Changed}
+use Rattle.papaya_grouped.specs.Given.TellerDeclared.changed.Changed.TheVariants as changed
+use Rattle.papaya_grouped.proofs.Given.OthersOutcomes.{told_in}
+use Rattle.papaya_grouped.specs.Given.PlayedPlay.{has_root}
 
 -- it gives its root up next
 abbrev pub IsFreeing : Opening → Type 0

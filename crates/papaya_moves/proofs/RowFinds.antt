@@ -20,23 +20,23 @@ use Rattle.papaya_deeds.specs.Given.Schedules.Lives.{Finds}
 use Rattle.papaya_deeds.specs.Given.Schedules.Moment.{Moment}
 use Rattle.papaya_deeds.specs.Given.Schedules.Terms.{Terms}
 use Rattle.papaya_deeds.specs.Given.Schedules.Transition.{Transition}
-use Rattle.papaya_grouped.specs.Given.Teller.declared.changed.Changed.TheVariants as changed
-use Rattle.papaya_grouped.specs.Given.Effects.Effects.{effects_of}
-use Rattle.papaya_grouped.specs.Given.Effects.declared.acting.Acting.TheVariants as acts
-use Rattle.papaya_grouped.specs.Given.Scenes.Held.{Held, IsAt}
-use Rattle.papaya_grouped.specs.Given.Scenes.OnSlots.{RowLeads, RowSteps}
-use Rattle.papaya_grouped.specs.Given.Scenes.Scene.{IsOnSlot, Scene}
-use Rattle.papaya_grouped.specs.Given.Scenes.declared.row.RowTold.{RowTold}
-use Rattle.papaya_grouped.specs.Given.Scenes.declared.row.SlotRow.{SlotRow}
-use Rattle.papaya_grouped.specs.Given.Scenes.declared.row.SlotRow.TheVariants as rows
-use Rattle.papaya_swept.proofs.Given.Legal.Found.{rows_find_theirs}
-use Rattle.papaya_swept.proofs.Given.Finds.Life.{each_so}
-use Rattle.papaya_swept.proofs.Given.Works.Needs.{none_need, reclaiming_asks_none}
-use Rattle.papaya_swept.proofs.Given.Works.Steps.{IsNoOwn, asks_alone, does_nothing, enters_tell, frees_tell, registers_tell, takes_no_own}
+use Rattle.papaya_grouped.specs.Given.TellerDeclared.changed.Changed.TheVariants as changed
+use Rattle.papaya_grouped.specs.Given.EffectsEffects.{effects_of}
+use Rattle.papaya_grouped.specs.Given.EffectsDeclared.acting.Acting.TheVariants as acts
+use Rattle.papaya_grouped.specs.Given.ScenesHeld.{Held, IsAt}
+use Rattle.papaya_grouped.specs.Given.ScenesOnSlots.{RowLeads, RowSteps}
+use Rattle.papaya_grouped.specs.Given.ScenesScene.{IsOnSlot, Scene}
+use Rattle.papaya_grouped.specs.Given.ScenesDeclared.row.RowTold.{RowTold}
+use Rattle.papaya_grouped.specs.Given.ScenesDeclared.row.SlotRow.{SlotRow}
+use Rattle.papaya_grouped.specs.Given.ScenesDeclared.row.SlotRow.TheVariants as rows
+use Rattle.papaya_swept.proofs.Given.LegalFound.{rows_find_theirs}
+use Rattle.papaya_swept.proofs.Given.FindsLife.{each_so}
+use Rattle.papaya_swept.proofs.Given.WorksNeeds.{none_need, reclaiming_asks_none}
+use Rattle.papaya_swept.proofs.Given.WorksSteps.{IsNoOwn, asks_alone, does_nothing, enters_tell, frees_tell, registers_tell, takes_no_own}
 use Rattle.papaya_deeds.specs.Deeds.{Deed, Entry, Leaves, Opens, Registers, Shuts, Tends, moment, named}
 use Rattle.papaya_deeds.specs.History.{FindsBy, NeedsBucket, buckets, past, transition}
-use Rattle.papaya_grouped.specs.Given.Played.Play.{State, is_refusal, leaves_as, registers_as, row_deed}
-use Rattle.papaya_swept.specs.Given.Linear.Shown.{ShowsAnswers}
+use Rattle.papaya_grouped.specs.Given.PlayedPlay.{State, is_refusal, leaves_as, registers_as, row_deed}
+use Rattle.papaya_swept.specs.Given.LinearShown.{ShowsAnswers}
 use Rattle.papaya_moves.proofs.Parts.{all_also}
 use Rattle.papaya_moves.proofs.RowKinds.{ends_quietly, enters_quietly, flushes_reclaim, left_quietly, leaves_reclaim}
 

@@ -22,23 +22,23 @@ use Rattle.seize_acts.specs.Given.Seize.declared.rows.settle.Settling.TheVariant
 use Rattle.seize_acts.specs.Given.Seize.declared.states.TheConstants.{ACTIVE}
 use Rattle.papaya_deeds.specs.Given.Tables.Nodes.{deferred_word}
 use Rattle.papaya_deeds.specs.Given.Tables.declared.node.Node.{Node}
-use Rattle.papaya_grouped.specs.Given.Tells.Seen.{seen_of}
-use Rattle.papaya_grouped.specs.Given.Teller.Tells.{StepsTold, told_of}
-use Rattle.papaya_grouped.specs.Given.Teller.declared.changed.Changed.{Changed}
-use Rattle.papaya_grouped.specs.Given.Teller.declared.changed.Changed.TheVariants as changed
+use Rattle.papaya_grouped.specs.Given.TellsSeen.{seen_of}
+use Rattle.papaya_grouped.specs.Given.TellerTells.{StepsTold, told_of}
+use Rattle.papaya_grouped.specs.Given.TellerDeclared.changed.Changed.{Changed}
+use Rattle.papaya_grouped.specs.Given.TellerDeclared.changed.Changed.TheVariants as changed
 use Rattle.papaya_deeds.specs.Given.Schedules.declared.effect.Effect.{Effect}
 use Rattle.papaya_deeds.specs.Given.Schedules.Handing.{asks_for_bucket, is_reclaiming}
-use Rattle.papaya_grouped.specs.Given.Effects.Effects.{effects_of}
-use Rattle.papaya_grouped.specs.Given.Effects.Known.{Known}
-use Rattle.papaya_grouped.specs.Given.Effects.declared.acting.Acting.TheVariants as acts
-use Rattle.papaya_grouped.specs.Given.Scenes.OnSlots.{RowSteps}
-use Rattle.papaya_grouped.specs.Given.Scenes.declared.row.RowTold.{RowTold}
-use Rattle.papaya_grouped.specs.Given.Scenes.declared.row.SlotRow.{SlotRow}
-use Rattle.papaya_grouped.specs.Given.Scenes.declared.row.SlotRow.TheVariants as rows
-use Rattle.papaya_swept.proofs.Given.Works.Steps.{IsNoOwn, IsTaking, Tells, asks_alone, does_nothing, enters_tell, flushes_tell, frees_tell, leaves_tell, reclaims_alone, registers_tell}
+use Rattle.papaya_grouped.specs.Given.EffectsEffects.{effects_of}
+use Rattle.papaya_grouped.specs.Given.EffectsKnown.{Known}
+use Rattle.papaya_grouped.specs.Given.EffectsDeclared.acting.Acting.TheVariants as acts
+use Rattle.papaya_grouped.specs.Given.ScenesOnSlots.{RowSteps}
+use Rattle.papaya_grouped.specs.Given.ScenesDeclared.row.RowTold.{RowTold}
+use Rattle.papaya_grouped.specs.Given.ScenesDeclared.row.SlotRow.{SlotRow}
+use Rattle.papaya_grouped.specs.Given.ScenesDeclared.row.SlotRow.TheVariants as rows
+use Rattle.papaya_swept.proofs.Given.WorksSteps.{IsNoOwn, IsTaking, Tells, asks_alone, does_nothing, enters_tell, flushes_tell, frees_tell, leaves_tell, reclaims_alone, registers_tell}
 use Rattle.papaya_deeds.specs.Deeds.{Leaves, Opens, Registers, Shuts, Tends}
 use Rattle.papaya_deeds.specs.History.{may_do}
-use Rattle.papaya_grouped.specs.Given.Played.Play.{leaves_as, registers_as, row_deed}
+use Rattle.papaya_grouped.specs.Given.PlayedPlay.{leaves_as, registers_as, row_deed}
 use Rattle.papaya_moves.proofs.Parts.{all_also, none_may}
 
 module _ {K V : Type 0} (m m2 : Mem (Node K V)) (told : Changed) (after : SlotRow × RowTold (Node K V)) (known : Known) where

@@ -10,23 +10,23 @@ use Rattle.papaya_deeds.specs.Given.Schedules.declared.effect.Effect.TheVariants
 use Rattle.papaya_deeds.specs.Given.Schedules.declared.effect.Thing.{Thing}
 use Rattle.papaya_deeds.specs.Given.Schedules.declared.outcome.Outcome.{Outcome}
 use Rattle.papaya_deeds.specs.Given.Schedules.Handing.{is_reclaiming}
-use Rattle.papaya_grouped.specs.Given.Teller.declared.changed.Changed.{Changed}
-use Rattle.papaya_grouped.specs.Given.Effects.Effects.{effects_of}
-use Rattle.papaya_grouped.specs.Given.Effects.Known.{Known}
-use Rattle.papaya_grouped.specs.Given.Effects.declared.acting.Acting.TheVariants as acts
-use Rattle.papaya_grouped.specs.Given.Scenes.Held.{Held, IsAt}
-use Rattle.papaya_grouped.specs.Given.Scenes.OnSlots.{RowLeads}
-use Rattle.papaya_grouped.specs.Given.Scenes.Reclaiming.{IsReclaiming, ReclaimingLeads}
-use Rattle.papaya_grouped.specs.Given.Scenes.Scene.{IsOnSlot, Scene}
-use Rattle.papaya_grouped.specs.Given.Scenes.declared.row.RowTold.{RowTold}
-use Rattle.papaya_grouped.specs.Given.Scenes.declared.row.SlotRow.{SlotRow}
-use Rattle.papaya_swept.proofs.Given.Legal.OfAll.Tells.{gone_by, it_reclaims}
-use Rattle.papaya_swept.proofs.Given.Works.Steps.{takes_no_own}
+use Rattle.papaya_grouped.specs.Given.TellerDeclared.changed.Changed.{Changed}
+use Rattle.papaya_grouped.specs.Given.EffectsEffects.{effects_of}
+use Rattle.papaya_grouped.specs.Given.EffectsKnown.{Known}
+use Rattle.papaya_grouped.specs.Given.EffectsDeclared.acting.Acting.TheVariants as acts
+use Rattle.papaya_grouped.specs.Given.ScenesHeld.{Held, IsAt}
+use Rattle.papaya_grouped.specs.Given.ScenesOnSlots.{RowLeads}
+use Rattle.papaya_grouped.specs.Given.ScenesReclaiming.{IsReclaiming, ReclaimingLeads}
+use Rattle.papaya_grouped.specs.Given.ScenesScene.{IsOnSlot, Scene}
+use Rattle.papaya_grouped.specs.Given.ScenesDeclared.row.RowTold.{RowTold}
+use Rattle.papaya_grouped.specs.Given.ScenesDeclared.row.SlotRow.{SlotRow}
+use Rattle.papaya_swept.proofs.Given.LegalOfAll.Tells.{gone_by, it_reclaims}
+use Rattle.papaya_swept.proofs.Given.WorksSteps.{takes_no_own}
 use Rattle.papaya_deeds.specs.Deeds.{Deed, Entry, Leaves, Opens, ReclaimsAll, Registers, Shuts, Tends, moment, named}
 use Rattle.papaya_deeds.specs.History.{may_do, past}
-use Rattle.papaya_grouped.specs.Given.Played.Play.{State, is_over, is_refusal, row_deed, settled_outcome}
-use Rattle.papaya_swept.specs.Given.Linear.Shown.{ShowsAnswers}
-use Rattle.papaya_swept.proofs.Given.Linear.RowsPlayed.{IsOfRow, is_of_row}
+use Rattle.papaya_grouped.specs.Given.PlayedPlay.{State, is_over, is_refusal, row_deed, settled_outcome}
+use Rattle.papaya_swept.specs.Given.LinearShown.{ShowsAnswers}
+use Rattle.papaya_swept.proofs.Given.LinearRowsPlayed.{IsOfRow, is_of_row}
 use Rattle.papaya_moves.specs.Parts.{DoesIts}
 use Rattle.papaya_moves.proofs.Parts.{all_also, granted_so, refuses_so}
 use Rattle.papaya_moves.proofs.RowKinds.{row_may}

@@ -4,8 +4,8 @@ use Rattle.std.specs.Prelude.{◌≡◌, ℕ}
 use Rattle.std.proofs.Common.{refl, arith}
 use Rattle.papaya_deeds.specs.Given.Tables.declared.resize_mode.ResizeMode.{ResizeMode}
 use Rattle.papaya_deeds.specs.Given.Tables.declared.resize_mode.ResizeMode.TheVariants.{Blocking, Incremental}
-use Rattle.papaya_grouped.specs.Given.Acts.Acts.{Act, BeginsMaking}
-use Rattle.papaya_grouped.specs.Given.Agrees.Places.{AsksPlaces}
+use Rattle.papaya_grouped.specs.Given.ActsActs.{Act, BeginsMaking}
+use Rattle.papaya_grouped.specs.Given.AgreesPlaces.{AsksPlaces}
 
 -- a making of a map, by caller 1, with number 7 and hasher 0
 abbrev makes : ResizeMode → ℕ → ℕ → Act ℕ ℕ ℕ

@@ -10,32 +10,32 @@ use Rattle.papaya_deeds.specs.Given.Tables.declared.node.Node.{Node}
 use Rattle.papaya_deeds.specs.Given.Tables.declared.setting.Setting.{Setting}
 use Rattle.papaya_deeds.specs.Given.Resize.declared.new_map.NewMap.{NewMap}
 use Rattle.papaya_deeds.specs.Given.Schedules.declared.effect.Effect.{Effect}
-use Rattle.papaya_grouped.specs.Given.Teller.declared.changed.Changed.TheVariants.{Nothing as NoChange}
-use Rattle.papaya_grouped.specs.Given.Effects.Effects.{effects_of}
-use Rattle.papaya_grouped.specs.Given.Effects.declared.acting.Acting.TheVariants as acts
-use Rattle.papaya_grouped.specs.Given.Finishes.Endings.{Finishing}
-use Rattle.papaya_grouped.specs.Given.Finishes.Makings.{Beginning}
-use Rattle.papaya_grouped.specs.Given.Scenes.Ending.{EndingComesTo}
-use Rattle.papaya_grouped.specs.Given.Scenes.Held.{Held, IsAt}
-use Rattle.papaya_grouped.specs.Given.Scenes.Making.{MakingLeads}
-use Rattle.papaya_grouped.specs.Given.Scenes.Scene.{Scene, slot_of}
-use Rattle.papaya_grouped.specs.Given.Acts.Acts.{Act, Answer, BeginsCall, StepsCall, TellsCall, AsksCall, StopsCall, BeginsMaking, StepsMaking, BeginsEnding, StepsEnding, BeginsRow, StepsRow, OfEnding, OfMaking}
-use Rattle.papaya_grouped.specs.Given.Acts.AsSteps.{LeadsAs, MadeTo, changed_by, held_in}
-use Rattle.papaya_grouped.specs.Given.Acts.Leads.{Led, MayBe}
-use Rattle.papaya_grouped.specs.Given.Agrees.Fresh.{HasNewNumber}
+use Rattle.papaya_grouped.specs.Given.TellerDeclared.changed.Changed.TheVariants.{Nothing as NoChange}
+use Rattle.papaya_grouped.specs.Given.EffectsEffects.{effects_of}
+use Rattle.papaya_grouped.specs.Given.EffectsDeclared.acting.Acting.TheVariants as acts
+use Rattle.papaya_grouped.specs.Given.FinishesEndings.{Finishing}
+use Rattle.papaya_grouped.specs.Given.FinishesMakings.{Beginning}
+use Rattle.papaya_grouped.specs.Given.ScenesEnding.{EndingComesTo}
+use Rattle.papaya_grouped.specs.Given.ScenesHeld.{Held, IsAt}
+use Rattle.papaya_grouped.specs.Given.ScenesMaking.{MakingLeads}
+use Rattle.papaya_grouped.specs.Given.ScenesScene.{Scene, slot_of}
+use Rattle.papaya_grouped.specs.Given.ActsActs.{Act, Answer, BeginsCall, StepsCall, TellsCall, AsksCall, StopsCall, BeginsMaking, StepsMaking, BeginsEnding, StepsEnding, BeginsRow, StepsRow, OfEnding, OfMaking}
+use Rattle.papaya_grouped.specs.Given.ActsAsSteps.{LeadsAs, MadeTo, changed_by, held_in}
+use Rattle.papaya_grouped.specs.Given.ActsLeads.{Led, MayBe}
+use Rattle.papaya_grouped.specs.Given.AgreesFresh.{HasNewNumber}
 use Rattle.papaya_deeds.specs.Deeds.{Ends, Entry, MapGoes, moment}
-use Rattle.papaya_grouped.specs.Given.Played.Play.{Ending, Making, State, all_begun, choice_come, ending_stepped, is_over, is_refusal, settled_outcome}
-use Rattle.papaya_grouped.specs.Given.Played.Reached.{IsOf, made_so, makes_so, rows_beside}
-use Rattle.papaya_grouped.proofs.Given.Played.Along.{At, StaysSo, held}
-use Rattle.papaya_grouped.proofs.Given.Played.PlayedAs.{PlayedAs, played_as, reclaimed_as}
-use Rattle.papaya_swept.proofs.Given.Linear.Holding.{AllHolds}
-use Rattle.papaya_swept.proofs.Given.Linear.Stays.{all_tied}
-use Rattle.papaya_swept.proofs.Given.Linear.StepsPlayed.{there_alike}
-use Rattle.papaya_grouped.proofs.Given.Played.Tied.{EndingTied, MakingTied, ending_tied, making_tied}
-use Rattle.papaya_swept.specs.Given.Endings.GoingOn.{EndsGoOn}
-use Rattle.papaya_swept.proofs.Given.Endings.EndStepGoes.{over_whole, step_finds}
-use Rattle.papaya_swept.proofs.Given.Endings.EndSteps.{none_done}
-use Rattle.papaya_swept.proofs.Given.Endings.Stays.{AllGo, ends_go_on}
+use Rattle.papaya_grouped.specs.Given.PlayedPlay.{Ending, Making, State, all_begun, choice_come, ending_stepped, is_over, is_refusal, settled_outcome}
+use Rattle.papaya_grouped.specs.Given.PlayedReached.{IsOf, made_so, makes_so, rows_beside}
+use Rattle.papaya_grouped.proofs.Given.PlayedAlong.{At, StaysSo, held}
+use Rattle.papaya_grouped.proofs.Given.PlayedPlayedAs.{PlayedAs, played_as, reclaimed_as}
+use Rattle.papaya_swept.proofs.Given.LinearHolding.{AllHolds}
+use Rattle.papaya_swept.proofs.Given.LinearStays.{all_tied}
+use Rattle.papaya_swept.proofs.Given.LinearStepsPlayed.{there_alike}
+use Rattle.papaya_grouped.proofs.Given.PlayedTied.{EndingTied, MakingTied, ending_tied, making_tied}
+use Rattle.papaya_swept.specs.Given.EndingsGoingOn.{EndsGoOn}
+use Rattle.papaya_swept.proofs.Given.EndingsEndStepGoes.{over_whole, step_finds}
+use Rattle.papaya_swept.proofs.Given.EndingsEndSteps.{none_done}
+use Rattle.papaya_swept.proofs.Given.EndingsStays.{AllGo, ends_go_on}
 use Rattle.papaya_moves.specs.Parts.{DoesIts}
 use Rattle.papaya_moves.proofs.Acts.{AllMove, asks_move, begins_move, call_steps_move, making_steps_move, row_steps_move, stops_move, told_move}
 use Rattle.papaya_moves.proofs.EndMoves.{ends_move, goes_move}

@@ -12,34 +12,34 @@ use Rattle.papaya_deeds.specs.Given.Schedules.Growing.{Has}
 use Rattle.papaya_deeds.specs.Given.Schedules.Moment.{MapThere}
 use Rattle.papaya_deeds.specs.Given.Schedules.Terms.{Terms, shards_of}
 use Rattle.papaya_deeds.specs.Given.Schedules.Views.{capacity_or, map_at}
-use Rattle.papaya_grouped.specs.Given.Teller.declared.changed.Changed.TheVariants.{Nothing as NoChange}
-use Rattle.papaya_grouped.specs.Given.Callers.Together.{Counting, ForRoom, OnKey, OverAll, UnderWay, UnlessCounts}
-use Rattle.papaya_grouped.specs.Given.Finishes.Makings.{Beginning}
-use Rattle.papaya_grouped.specs.Given.Named.Places.{first_places}
-use Rattle.papaya_grouped.specs.Given.Scenes.Held.{IsAt}
-use Rattle.papaya_grouped.specs.Given.Scenes.Scene.{Scene, slot_of}
-use Rattle.papaya_swept.proofs.Given.Finds.Capacities.{given_are_for}
-use Rattle.papaya_grouped.proofs.Given.Scenes.May.{standing_is}
-use Rattle.papaya_grouped.specs.Given.Acts.Acts.{Act}
-use Rattle.papaya_grouped.specs.Given.Acts.AsSteps.{held_in}
-use Rattle.papaya_grouped.specs.Given.Agrees.Fresh.{HasNewNumber}
-use Rattle.papaya_grouped.specs.Given.Agrees.Guards.{CallsHaveGuards, GuardsAgree, UnlessReclaimed}
-use Rattle.papaya_grouped.specs.Given.Agrees.Shards.{AsksShards, ShardsAre}
-use Rattle.papaya_grouped.proofs.Given.Agrees.Agree.{asks_more, both_stay}
-use Rattle.papaya_grouped.proofs.Given.Agrees.Calls.{calls_have_guards}
-use Rattle.papaya_grouped.proofs.Given.Agrees.Entries.{histories_grow}
-use Rattle.papaya_grouped.proofs.Given.Agrees.Guards.{GuardsHold, guards_stay}
-use Rattle.papaya_grouped.proofs.Given.Agrees.Shards.{shards_stay}
+use Rattle.papaya_grouped.specs.Given.TellerDeclared.changed.Changed.TheVariants.{Nothing as NoChange}
+use Rattle.papaya_grouped.specs.Given.CallersTogether.{Counting, ForRoom, OnKey, OverAll, UnderWay, UnlessCounts}
+use Rattle.papaya_grouped.specs.Given.FinishesMakings.{Beginning}
+use Rattle.papaya_grouped.specs.Given.NamedPlaces.{first_places}
+use Rattle.papaya_grouped.specs.Given.ScenesHeld.{IsAt}
+use Rattle.papaya_grouped.specs.Given.ScenesScene.{Scene, slot_of}
+use Rattle.papaya_swept.proofs.Given.FindsCapacities.{given_are_for}
+use Rattle.papaya_grouped.proofs.Given.ScenesMay.{standing_is}
+use Rattle.papaya_grouped.specs.Given.ActsActs.{Act}
+use Rattle.papaya_grouped.specs.Given.ActsAsSteps.{held_in}
+use Rattle.papaya_grouped.specs.Given.AgreesFresh.{HasNewNumber}
+use Rattle.papaya_grouped.specs.Given.AgreesGuards.{CallsHaveGuards, GuardsAgree, UnlessReclaimed}
+use Rattle.papaya_grouped.specs.Given.AgreesShards.{AsksShards, ShardsAre}
+use Rattle.papaya_grouped.proofs.Given.AgreesAgree.{asks_more, both_stay}
+use Rattle.papaya_grouped.proofs.Given.AgreesCalls.{calls_have_guards}
+use Rattle.papaya_grouped.proofs.Given.AgreesEntries.{histories_grow}
+use Rattle.papaya_grouped.proofs.Given.AgreesGuards.{GuardsHold, guards_stay}
+use Rattle.papaya_grouped.proofs.Given.AgreesShards.{shards_stay}
 use Rattle.papaya_deeds.specs.Deeds.{moment}
-use Rattle.papaya_grouped.specs.Given.Played.Play.{Making, State, has_root, pairs_for}
-use Rattle.papaya_grouped.specs.Given.Played.Reached.{IsOf, made_so, makes_so, rows_beside}
-use Rattle.papaya_grouped.proofs.Given.Played.Along.{At, StaysSo}
-use Rattle.papaya_grouped.proofs.Given.Played.Noted.{Anything}
-use Rattle.papaya_swept.specs.Given.Linear.Coming.{ComesBy}
-use Rattle.papaya_swept.proofs.Given.Linear.Holding.{AllHolds}
-use Rattle.papaya_swept.proofs.Given.Linear.StepsPlayed.{there_alike}
+use Rattle.papaya_grouped.specs.Given.PlayedPlay.{Making, State, has_root, pairs_for}
+use Rattle.papaya_grouped.specs.Given.PlayedReached.{IsOf, made_so, makes_so, rows_beside}
+use Rattle.papaya_grouped.proofs.Given.PlayedAlong.{At, StaysSo}
+use Rattle.papaya_grouped.proofs.Given.PlayedNoted.{Anything}
+use Rattle.papaya_swept.specs.Given.LinearComing.{ComesBy}
+use Rattle.papaya_swept.proofs.Given.LinearHolding.{AllHolds}
+use Rattle.papaya_swept.proofs.Given.LinearStepsPlayed.{there_alike}
 use Rattle.papaya_swept.proofs.KeptByAll.{Gives, With, all_kept}
-use Rattle.papaya_grouped.specs.Given.Agrees.Places.{ArePlaces, AsksPlaces}
+use Rattle.papaya_grouped.specs.Given.AgreesPlaces.{ArePlaces, AsksPlaces}
 use Rattle.papaya_moves.specs.Places.{OpensFor}
 use Rattle.papaya_moves.specs.Steps.{StepsMay}
 use Rattle.papaya_moves.proofs.MadeHolds.{MadeHolds}

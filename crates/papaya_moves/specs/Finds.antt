@@ -1,6 +1,6 @@
 -- What is promised of an entry of a history: its effects find what they must. Those of rows, of makings, and of who reclaims all, do where all is in order as it comes.
 use Rattle.std.specs.Prelude.{List}
-use Rattle.papaya_swept.specs.Given.Finds.Within.{AllIsInOrder}
+use Rattle.papaya_swept.specs.Given.FindsWithin.{AllIsInOrder}
 use Rattle.papaya_deeds.specs.Given.Schedules.Effects.{AtEachEffect}
 use Rattle.papaya_deeds.specs.Given.Schedules.Terms.{Terms}
 use Rattle.papaya_deeds.specs.Deeds.{Deed, Entry, Leaves, Makes, ReclaimsAll, Registers, Steps, Tends, moment}

@@ -3,14 +3,14 @@ use Rattle.std.specs.Prelude.{◌≡◌, ◌<◌, ◌^◌, ℕ, Bool, List, Some
 use Rattle.std.specs.List.{AllByRecursion}
 use Rattle.papaya_deeds.specs.Given.Schedules.After.{AtEachEvent}
 use Rattle.papaya_deeds.specs.Given.Schedules.Terms.{Terms, shards_of}
-use Rattle.papaya_grouped.specs.Given.Scenes.Scene.{slot_of}
-use Rattle.papaya_grouped.specs.Given.Acts.Doings.{Doing}
-use Rattle.papaya_grouped.specs.Given.Acts.Lists.{Course, LedTo, Reached}
-use Rattle.papaya_grouped.specs.Given.Agrees.Fresh.{MakesNew}
-use Rattle.papaya_grouped.specs.Given.Agrees.Places.{AsksMaps}
+use Rattle.papaya_grouped.specs.Given.ScenesScene.{slot_of}
+use Rattle.papaya_grouped.specs.Given.ActsDoings.{Doing}
+use Rattle.papaya_grouped.specs.Given.ActsLists.{Course, LedTo, Reached}
+use Rattle.papaya_grouped.specs.Given.AgreesFresh.{MakesNew}
+use Rattle.papaya_grouped.specs.Given.AgreesPlaces.{AsksMaps}
 use Rattle.papaya_deeds.specs.Deeds.{Entry}
 use Rattle.papaya_deeds.specs.History.{IsLinearizable, IsProtected, IsSwept, MovesOn}
-use Rattle.papaya_grouped.specs.Given.Played.Play.{State, first_state, play_all}
+use Rattle.papaya_grouped.specs.Given.PlayedPlay.{State, first_state, play_all}
 use Rattle.papaya_moves.specs.Own.{IsOfItsCall}
 
 -- An entry is linearizable, reclaims nothing that an open section may still look at, is swept, moves on, and is of its call.

@@ -3,7 +3,7 @@ use Rattle.std.specs.Prelude.{ℕ, Bool, List}
 use Rattle.papaya_deeds.specs.Given.Schedules.After.{AtEachEvent}
 use Rattle.papaya_deeds.specs.Given.Schedules.Entry.{Entry}
 use Rattle.papaya_deeds.specs.Given.Schedules.Terms.{Terms}
-use Rattle.papaya_grouped.specs.Given.Points.Steps.{AreLawful}
+use Rattle.papaya_grouped.specs.Given.PointsSteps.{AreLawful}
 use Rattle.papaya_grouped.specs.ByActs.{IsByActs}
 use Rattle.papaya_moves.specs.Legal.{KeepsAll}
 

@@ -4,15 +4,15 @@ use Rattle.std.specs.List.{AllByRecursion}
 use Rattle.papaya_deeds.specs.Given.Schedules.After.{AtEachEvent}
 use Rattle.papaya_deeds.specs.Given.Schedules.Moment.{Moment, UnderWay as CallThere}
 use Rattle.papaya_deeds.specs.Given.Schedules.Terms.{Terms}
-use Rattle.papaya_grouped.specs.Given.Callers.Together.{UnderWay}
-use Rattle.papaya_grouped.specs.Given.Finishes.Machines.{machine_of}
-use Rattle.papaya_grouped.specs.Given.Finishes.Makings.{Beginning}
-use Rattle.papaya_swept.specs.Given.Finds.Within.{AllIsInOrder}
-use Rattle.papaya_grouped.specs.Given.Named.Machines.{RefusedForRoom}
-use Rattle.papaya_grouped.specs.Given.Scenes.Scene.{Scene}
+use Rattle.papaya_grouped.specs.Given.CallersTogether.{UnderWay}
+use Rattle.papaya_grouped.specs.Given.FinishesMachines.{machine_of}
+use Rattle.papaya_grouped.specs.Given.FinishesMakings.{Beginning}
+use Rattle.papaya_swept.specs.Given.FindsWithin.{AllIsInOrder}
+use Rattle.papaya_grouped.specs.Given.NamedMachines.{RefusedForRoom}
+use Rattle.papaya_grouped.specs.Given.ScenesScene.{Scene}
 use Rattle.papaya_deeds.specs.Deeds.{Entry, moment, named}
-use Rattle.papaya_grouped.specs.Given.Agrees.Fresh.{AreNamed}
-use Rattle.papaya_swept.specs.Given.Linear.Coming.{Comes}
+use Rattle.papaya_grouped.specs.Given.AgreesFresh.{AreNamed}
+use Rattle.papaya_swept.specs.Given.LinearComing.{Comes}
 use Rattle.papaya_moves.specs.Parts.{DoesIts}
 use Rattle.papaya_moves.specs.Finds.{FindsIts}
 use Rattle.papaya_moves.specs.Own.{IsOfItsCall}

@@ -1,9 +1,9 @@
 -- With which places the makings are under way: each makes a first table for those that it was asked for.
 use Rattle.std.specs.Prelude.{◌≡◌, ℕ, Some}
-use Rattle.papaya_grouped.specs.Given.Finishes.Makings.{Beginning}
-use Rattle.papaya_grouped.specs.Given.Scenes.Scene.{Scene}
-use Rattle.papaya_grouped.specs.Given.Agrees.Places.{ArePlaces}
-use Rattle.papaya_swept.specs.Given.Works.Firsts.{ShowsOpenings}
+use Rattle.papaya_grouped.specs.Given.FinishesMakings.{Beginning}
+use Rattle.papaya_grouped.specs.Given.ScenesScene.{Scene}
+use Rattle.papaya_grouped.specs.Given.AgreesPlaces.{ArePlaces}
+use Rattle.papaya_swept.specs.Given.WorksFirsts.{ShowsOpenings}
 
 -- Each making that is under way makes a first table for its places.
 pub record OpensFor {K V : Type 0} (s : Scene K V) : Type 0 where

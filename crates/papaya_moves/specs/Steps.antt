@@ -9,18 +9,18 @@ use Rattle.papaya_deeds.specs.Given.Schedules.Terms.{Terms, shards_of}
 use Rattle.papaya_deeds.specs.Given.Schedules.Transition.{Past}
 use Rattle.papaya_deeds.specs.Given.Schedules.Views.{map_at}
 use Rattle.papaya_deeds.specs.Given.Runs.Present.{guard_of}
-use Rattle.papaya_grouped.specs.Given.Callers.Together.{UnderWay, UnlessCounts}
-use Rattle.papaya_grouped.specs.Given.Effects.Known.{Known}
-use Rattle.papaya_grouped.specs.Given.Finishes.Makings.{Beginning}
-use Rattle.papaya_swept.specs.Given.Finds.Life.{StoresOne}
-use Rattle.papaya_swept.specs.Given.Finds.Within.{AllIsInOrder}
-use Rattle.papaya_swept.specs.Given.Grows.Finding.{ShowsFinding}
-use Rattle.papaya_swept.specs.Given.Grows.Nexts.{ShowsNexts}
-use Rattle.papaya_swept.specs.Given.Grows.Tries.{ShowsTries}
-use Rattle.papaya_grouped.specs.Given.Scenes.Scene.{Scene, slot_of}
-use Rattle.papaya_swept.specs.Given.Grows.Given.Sources.Sources.{ShowsSources}
-use Rattle.papaya_grouped.specs.Given.Agrees.Guards.{CallsHaveGuards, guard_on}
-use Rattle.papaya_grouped.specs.Given.Agrees.Shards.{ShardsAre}
+use Rattle.papaya_grouped.specs.Given.CallersTogether.{UnderWay, UnlessCounts}
+use Rattle.papaya_grouped.specs.Given.EffectsKnown.{Known}
+use Rattle.papaya_grouped.specs.Given.FinishesMakings.{Beginning}
+use Rattle.papaya_swept.specs.Given.FindsLife.{StoresOne}
+use Rattle.papaya_swept.specs.Given.FindsWithin.{AllIsInOrder}
+use Rattle.papaya_swept.specs.Given.GrowsFinding.{ShowsFinding}
+use Rattle.papaya_swept.specs.Given.GrowsNexts.{ShowsNexts}
+use Rattle.papaya_swept.specs.Given.GrowsTries.{ShowsTries}
+use Rattle.papaya_grouped.specs.Given.ScenesScene.{Scene, slot_of}
+use Rattle.papaya_swept.specs.Given.SourcesSources.{ShowsSources}
+use Rattle.papaya_grouped.specs.Given.AgreesGuards.{CallsHaveGuards, guard_on}
+use Rattle.papaya_grouped.specs.Given.AgreesShards.{ShardsAre}
 use Rattle.papaya_deeds.specs.Deeds.{Deed, Entry, Steps, moment, named}
 use Rattle.papaya_deeds.specs.History.{past, transition}
 use Rattle.papaya_swept.specs.Shown.{HasSwept}

@@ -1,28 +1,28 @@
 -- A call as it begins on a map: what is under way then, and that it is what was called.
 use Rattle.std.specs.Prelude.{◌≡◌, ◌^◌, ℕ, Bool, true, [], Some, None}
 use Rattle.std.proofs.Common.{refl, sym, arith}
-use Rattle.papaya_hands.specs.Given.Reserves.Reserve.{reserving}
-use Rattle.papaya_hands.specs.Given.Resize.Sum.{summing}
-use Rattle.papaya_hands.specs.Given.Rule.Maps.{IsClass}
-use Rattle.papaya_hands.specs.Given.Points.Steps.{AreLawful}
-use Rattle.papaya_hands.specs.Given.Sweeps.declared.sweep.Purpose.TheVariants.{Walks, Clears, Retains}
-use Rattle.papaya_hands.specs.Given.Schedules.Sequential.{key_of}
-use Rattle.papaya_hands.specs.Given.Schedules.declared.call.Call.{Call}
-use Rattle.papaya_hands.specs.Given.Schedules.declared.call.Call.TheVariants.{On, Reserve, Clear, Retain, Len, Walk}
-use Rattle.papaya_hands.specs.Given.Schedules.declared.call.OneKey.{OneKey}
-use Rattle.papaya_hands.specs.Given.Schedules.declared.call.OneKey.TheVariants.{Get, GetKeyValue, ContainsKey, Insert, TryInsert, TryInsertWith, GetOrInsert, GetOrInsertWith, Update, UpdateOrInsert, UpdateOrInsertWith, Compute, Remove, RemoveEntry, RemoveIf}
-use Rattle.papaya_hands.specs.Given.Callers.OverAll.{begun_over_all}
-use Rattle.papaya_hands.specs.Given.Callers.Together.{UnderWay, OnKey, ForRoom, Counting, OverAll, IsBegun, Gets, Removes, Inserts, TriesToInsert, Computes, Updates, UpdatesOrInserts, TriesToInsertWith, RemovesIf, begun_at, in_slot}
-use Rattle.papaya_hands.specs.Given.Finishes.Machines.{machine_of}
-use Rattle.papaya_hands.specs.Given.Finishes.Maps.{Standing}
-use Rattle.papaya_hands.specs.Given.Follows.Calls.{IsCalled}
+use Rattle.papaya_hands.specs.Given.ReservesReserve.{reserving}
+use Rattle.papaya_hands.specs.Given.ResizeSum.{summing}
+use Rattle.papaya_hands.specs.Given.RuleMaps.{IsClass}
+use Rattle.papaya_hands.specs.Given.PointsSteps.{AreLawful}
+use Rattle.papaya_hands.specs.Given.SweepsDeclared.sweep.Purpose.TheVariants.{Walks, Clears, Retains}
+use Rattle.papaya_hands.specs.Given.SchedulesSequential.{key_of}
+use Rattle.papaya_hands.specs.Given.SchedulesDeclared.call.Call.{Call}
+use Rattle.papaya_hands.specs.Given.SchedulesDeclared.call.Call.TheVariants.{On, Reserve, Clear, Retain, Len, Walk}
+use Rattle.papaya_hands.specs.Given.SchedulesDeclared.call.OneKey.{OneKey}
+use Rattle.papaya_hands.specs.Given.SchedulesDeclared.call.OneKey.TheVariants.{Get, GetKeyValue, ContainsKey, Insert, TryInsert, TryInsertWith, GetOrInsert, GetOrInsertWith, Update, UpdateOrInsert, UpdateOrInsertWith, Compute, Remove, RemoveEntry, RemoveIf}
+use Rattle.papaya_hands.specs.Given.CallersOverAll.{begun_over_all}
+use Rattle.papaya_hands.specs.Given.CallersTogether.{UnderWay, OnKey, ForRoom, Counting, OverAll, IsBegun, Gets, Removes, Inserts, TriesToInsert, Computes, Updates, UpdatesOrInserts, TriesToInsertWith, RemovesIf, begun_at, in_slot}
+use Rattle.papaya_hands.specs.Given.FinishesMachines.{machine_of}
+use Rattle.papaya_hands.specs.Given.FinishesMaps.{Standing}
+use Rattle.papaya_hands.specs.Given.FollowsCalls.{IsCalled}
 use Rattle.papaya_hands.specs.Asked.{given_by}
 use Rattle.papaya_hands.specs.Calling.{IsBegunFor}
 use Rattle.papaya_named.specs.Machines.{IsAsFar, RefusedForRoom, machine_for, machine_on}
 use Rattle.papaya_named.specs.Seen.{kind_of}
 use Rattle.papaya_named.specs.declared.caller.Stands.TheVariants as far
-use Rattle.papaya_hands.specs.Given.Scenes.Beginning.{Begins}
-use Rattle.papaya_hands.specs.Given.Scenes.Scene.{slot_of}
+use Rattle.papaya_hands.specs.Given.ScenesBeginning.{Begins}
+use Rattle.papaya_hands.specs.Given.ScenesScene.{slot_of}
 
 -- a key stands for its class
 module _ {K : Type 0} (same : K → K → Bool) (hash : K → ℕ) (are : AreLawful same hash) where

@@ -1,28 +1,28 @@
 -- A call that asks takes each reply of its kind.
 use Rattle.std.specs.Prelude.{◌≡◌, ℕ, true, false, not, List, Option, Ok}
 use Rattle.std.proofs.Common.{refl, sym, subst}
-use Rattle.papaya_hands.specs.Given.Raw.CallAsks.{absent_told, present_told, told_at}
-use Rattle.papaya_hands.specs.Given.Raw.Machine.{sweep_told}
-use Rattle.papaya_hands.specs.Given.Raw.declared.machines.answer.Missing.TheVariants as missing
-use Rattle.papaya_hands.specs.Given.Raw.declared.machines.answer.There.TheVariants as there
-use Rattle.papaya_hands.specs.Given.Raw.declared.machines.asking.Asking.{Asking}
-use Rattle.papaya_hands.specs.Given.Raw.declared.machines.asking.Asking.TheVariants as asking
-use Rattle.papaya_hands.specs.Given.Raw.declared.machines.asking.Reply.TheVariants as reply
-use Rattle.papaya_hands.specs.Given.Raw.declared.machines.asking.Takes.{Takes}
-use Rattle.papaya_hands.specs.Given.Raw.declared.machines.asking.Takes.TheVariants as takes
-use Rattle.papaya_hands.specs.Given.Raw.declared.machines.call.Calling.TheVariants as at
-use Rattle.papaya_hands.specs.Given.Raw.declared.machines.call.KeyCall.{KeyCall}
-use Rattle.papaya_hands.specs.Given.Sweeps.declared.sweep.Sweep.{Sweep}
-use Rattle.papaya_hands.specs.Given.Sweeps.declared.sweep.Sweeping.{Sweeping}
-use Rattle.papaya_hands.specs.Given.Sweeps.declared.sweep.Sweeping.TheVariants as sweeping
-use Rattle.papaya_hands.specs.Given.Schedules.declared.call.OneKey.{OneKey}
-use Rattle.papaya_hands.specs.Given.Schedules.declared.call.OneKey.TheVariants.{Get, GetKeyValue, ContainsKey, Insert, TryInsert, TryInsertWith, GetOrInsert, GetOrInsertWith, Update, UpdateOrInsert, UpdateOrInsertWith, Compute, Remove, RemoveEntry, RemoveIf}
-use Rattle.papaya_hands.specs.Given.Schedules.declared.call.Reply.{Reply}
-use Rattle.papaya_hands.specs.Given.Schedules.declared.call.Reply.TheVariants.{Gives, Removes, Aborts, Decides}
-use Rattle.papaya_hands.specs.Given.Late.Kinds.{FitsAsking}
-use Rattle.papaya_hands.specs.Given.Callers.Asked.{Asked}
-use Rattle.papaya_hands.specs.Given.Callers.Pairs.{kind_of}
-use Rattle.papaya_hands.specs.Given.Effects.Known.{Known}
+use Rattle.papaya_hands.specs.Given.RawCallAsks.{absent_told, present_told, told_at}
+use Rattle.papaya_hands.specs.Given.RawMachine.{sweep_told}
+use Rattle.papaya_hands.specs.Given.RawDeclared.machines.answer.Missing.TheVariants as missing
+use Rattle.papaya_hands.specs.Given.RawDeclared.machines.answer.There.TheVariants as there
+use Rattle.papaya_hands.specs.Given.RawDeclared.machines.asking.Asking.{Asking}
+use Rattle.papaya_hands.specs.Given.RawDeclared.machines.asking.Asking.TheVariants as asking
+use Rattle.papaya_hands.specs.Given.RawDeclared.machines.asking.Reply.TheVariants as reply
+use Rattle.papaya_hands.specs.Given.RawDeclared.machines.asking.Takes.{Takes}
+use Rattle.papaya_hands.specs.Given.RawDeclared.machines.asking.Takes.TheVariants as takes
+use Rattle.papaya_hands.specs.Given.RawDeclared.machines.call.Calling.TheVariants as at
+use Rattle.papaya_hands.specs.Given.RawDeclared.machines.call.KeyCall.{KeyCall}
+use Rattle.papaya_hands.specs.Given.SweepsDeclared.sweep.Sweep.{Sweep}
+use Rattle.papaya_hands.specs.Given.SweepsDeclared.sweep.Sweeping.{Sweeping}
+use Rattle.papaya_hands.specs.Given.SweepsDeclared.sweep.Sweeping.TheVariants as sweeping
+use Rattle.papaya_hands.specs.Given.SchedulesDeclared.call.OneKey.{OneKey}
+use Rattle.papaya_hands.specs.Given.SchedulesDeclared.call.OneKey.TheVariants.{Get, GetKeyValue, ContainsKey, Insert, TryInsert, TryInsertWith, GetOrInsert, GetOrInsertWith, Update, UpdateOrInsert, UpdateOrInsertWith, Compute, Remove, RemoveEntry, RemoveIf}
+use Rattle.papaya_hands.specs.Given.SchedulesDeclared.call.Reply.{Reply}
+use Rattle.papaya_hands.specs.Given.SchedulesDeclared.call.Reply.TheVariants.{Gives, Removes, Aborts, Decides}
+use Rattle.papaya_hands.specs.Given.LateKinds.{FitsAsking}
+use Rattle.papaya_hands.specs.Given.CallersAsked.{Asked}
+use Rattle.papaya_hands.specs.Given.CallersPairs.{kind_of}
+use Rattle.papaya_hands.specs.Given.EffectsKnown.{Known}
 use Rattle.papaya_hands.specs.Asked.{IsQuestion, as_told, given_by}
 use Rattle.papaya_named.specs.Machines.{IsFor, SweepIsAt}
 use Rattle.papaya_named.specs.Seen.{fits, is_choice, is_gift, kind_on}

@@ -1,27 +1,27 @@
 -- The machine of a call, what it is told, and that it is as far as is seen.
 use Rattle.std.specs.Prelude.{◌≡◌, ℕ, Option, Some, None}
 use Rattle.papaya_present.specs.Given.Tables.declared.setting.Setting.{Setting}
-use Rattle.papaya_hands.specs.Given.Raw.CallAsks.{computing, updating, updating_or_inserting, trying_to_insert_with, removing_if}
-use Rattle.papaya_hands.specs.Given.Raw.CallPoints.{getting, removing, inserting, trying_to_insert}
-use Rattle.papaya_hands.specs.Given.Raw.declared.machines.asking.Told.TheVariants.{Nothing, Value}
-use Rattle.papaya_hands.specs.Given.Raw.declared.machines.call.KeyCall.{KeyCall}
-use Rattle.papaya_hands.specs.Given.Raw.declared.machines.machine.Machine.{Machine}
-use Rattle.papaya_hands.specs.Given.Raw.declared.machines.machine.Machine.TheVariants as kinds
-use Rattle.papaya_hands.specs.Given.Resize.Sum.{summing}
-use Rattle.papaya_hands.specs.Given.Reserves.Reserve.{reserving}
-use Rattle.papaya_hands.specs.Given.Sweeps.SweepPoints.{sweeping}
-use Rattle.papaya_hands.specs.Given.Sweeps.declared.sweep.Purpose.{Purpose}
-use Rattle.papaya_hands.specs.Given.Sweeps.declared.sweep.Purpose.TheVariants.{Walks, Clears, Retains}
-use Rattle.papaya_hands.specs.Given.Sweeps.declared.sweep.Sweep.{Sweep}
-use Rattle.papaya_hands.specs.Given.Sweeps.declared.sweep.Sweeping.{Sweeping}
-use Rattle.papaya_hands.specs.Given.Sweeps.declared.sweep.Sweeping.TheVariants as at
-use Rattle.papaya_hands.specs.Given.Late.Faults.{RoomInReserving, RoomInSweeping}
-use Rattle.papaya_hands.specs.Given.Schedules.declared.call.Call.{Call}
-use Rattle.papaya_hands.specs.Given.Schedules.declared.call.Call.TheVariants.{On, Reserve, Clear, Retain, Len, Walk}
-use Rattle.papaya_hands.specs.Given.Schedules.declared.call.OneKey.{OneKey}
-use Rattle.papaya_hands.specs.Given.Schedules.declared.call.OneKey.TheVariants.{Get, GetKeyValue, ContainsKey, Insert, TryInsert, TryInsertWith, GetOrInsert, GetOrInsertWith, Update, UpdateOrInsert, UpdateOrInsertWith, Compute, Remove, RemoveEntry, RemoveIf}
-use Rattle.papaya_hands.specs.Given.Schedules.declared.call.Reply.{Reply}
-use Rattle.papaya_hands.specs.Given.Schedules.declared.call.Reply.TheVariants.{Aborts}
+use Rattle.papaya_hands.specs.Given.RawCallAsks.{computing, updating, updating_or_inserting, trying_to_insert_with, removing_if}
+use Rattle.papaya_hands.specs.Given.RawCallPoints.{getting, removing, inserting, trying_to_insert}
+use Rattle.papaya_hands.specs.Given.RawDeclared.machines.asking.Told.TheVariants.{Nothing, Value}
+use Rattle.papaya_hands.specs.Given.RawDeclared.machines.call.KeyCall.{KeyCall}
+use Rattle.papaya_hands.specs.Given.RawDeclared.machines.machine.Machine.{Machine}
+use Rattle.papaya_hands.specs.Given.RawDeclared.machines.machine.Machine.TheVariants as kinds
+use Rattle.papaya_hands.specs.Given.ResizeSum.{summing}
+use Rattle.papaya_hands.specs.Given.ReservesReserve.{reserving}
+use Rattle.papaya_hands.specs.Given.SweepsSweepPoints.{sweeping}
+use Rattle.papaya_hands.specs.Given.SweepsDeclared.sweep.Purpose.{Purpose}
+use Rattle.papaya_hands.specs.Given.SweepsDeclared.sweep.Purpose.TheVariants.{Walks, Clears, Retains}
+use Rattle.papaya_hands.specs.Given.SweepsDeclared.sweep.Sweep.{Sweep}
+use Rattle.papaya_hands.specs.Given.SweepsDeclared.sweep.Sweeping.{Sweeping}
+use Rattle.papaya_hands.specs.Given.SweepsDeclared.sweep.Sweeping.TheVariants as at
+use Rattle.papaya_hands.specs.Given.LateFaults.{RoomInReserving, RoomInSweeping}
+use Rattle.papaya_hands.specs.Given.SchedulesDeclared.call.Call.{Call}
+use Rattle.papaya_hands.specs.Given.SchedulesDeclared.call.Call.TheVariants.{On, Reserve, Clear, Retain, Len, Walk}
+use Rattle.papaya_hands.specs.Given.SchedulesDeclared.call.OneKey.{OneKey}
+use Rattle.papaya_hands.specs.Given.SchedulesDeclared.call.OneKey.TheVariants.{Get, GetKeyValue, ContainsKey, Insert, TryInsert, TryInsertWith, GetOrInsert, GetOrInsertWith, Update, UpdateOrInsert, UpdateOrInsertWith, Compute, Remove, RemoveEntry, RemoveIf}
+use Rattle.papaya_hands.specs.Given.SchedulesDeclared.call.Reply.{Reply}
+use Rattle.papaya_hands.specs.Given.SchedulesDeclared.call.Reply.TheVariants.{Aborts}
 use Rattle.papaya_named.specs.declared.caller.Stands.{Stands as HowFar}
 use Rattle.papaya_named.specs.declared.caller.Stands.TheVariants as far
 use Rattle.papaya_named.specs.declared.kind.Kind.{Kind}

@@ -4,13 +4,13 @@ use Rattle.std.specs.List.{list_any}
 use Rattle.papaya_present.specs.Given.Tables.declared.setting.Setting.{Setting}
 use Rattle.papaya_present.specs.Given.Runs.Present.{Present, guard_of, living_slot}
 use Rattle.papaya_present.specs.Given.Runs.Same.{is_same}
-use Rattle.papaya_hands.specs.Given.Schedules.declared.call.Call.{Call}
-use Rattle.papaya_hands.specs.Given.Schedules.declared.call.Call.TheVariants.{On, Reserve, Clear, Retain, Len, Walk}
-use Rattle.papaya_hands.specs.Given.Schedules.declared.call.OneKey.{OneKey}
-use Rattle.papaya_hands.specs.Given.Schedules.declared.call.OneKey.TheVariants.{Get, GetKeyValue, ContainsKey, Insert, TryInsert, TryInsertWith, GetOrInsert, GetOrInsertWith, Update, UpdateOrInsert, UpdateOrInsertWith, Compute, Remove, RemoveEntry, RemoveIf}
-use Rattle.papaya_hands.specs.Given.Schedules.declared.call.Reply.{Reply}
-use Rattle.papaya_hands.specs.Given.Schedules.declared.call.Reply.TheVariants.{Gives, Decides}
-use Rattle.papaya_hands.specs.Given.Schedules.Moment.{Stands, Going, Asking, Told, IsReady, UnderWay, MapThere}
+use Rattle.papaya_hands.specs.Given.SchedulesDeclared.call.Call.{Call}
+use Rattle.papaya_hands.specs.Given.SchedulesDeclared.call.Call.TheVariants.{On, Reserve, Clear, Retain, Len, Walk}
+use Rattle.papaya_hands.specs.Given.SchedulesDeclared.call.OneKey.{OneKey}
+use Rattle.papaya_hands.specs.Given.SchedulesDeclared.call.OneKey.TheVariants.{Get, GetKeyValue, ContainsKey, Insert, TryInsert, TryInsertWith, GetOrInsert, GetOrInsertWith, Update, UpdateOrInsert, UpdateOrInsertWith, Compute, Remove, RemoveEntry, RemoveIf}
+use Rattle.papaya_hands.specs.Given.SchedulesDeclared.call.Reply.{Reply}
+use Rattle.papaya_hands.specs.Given.SchedulesDeclared.call.Reply.TheVariants.{Gives, Decides}
+use Rattle.papaya_hands.specs.Given.SchedulesMoment.{Stands, Going, Asking, Told, IsReady, UnderWay, MapThere}
 use Rattle.papaya_named.specs.declared.caller.Caller.{Caller}
 use Rattle.papaya_named.specs.declared.caller.Stands.{Stands as HowFar}
 use Rattle.papaya_named.specs.declared.caller.Stands.TheVariants as far

@@ -3,17 +3,17 @@ use Rattle.std.specs.Prelude.{ℕ, Bool, true, false, Option, Some, None}
 use Rattle.papaya_present.specs.Given.SeizeWords.Word.{block_in}
 use Rattle.papaya_present.specs.Given.Tables.declared.node.Node.{Node}
 use Rattle.papaya_present.specs.Given.Tables.declared.node.Node.TheVariants as node
-use Rattle.papaya_hands.specs.Given.Raw.declared.machines.answer.KeyAnswer.{KeyAnswer}
-use Rattle.papaya_hands.specs.Given.Raw.declared.machines.answer.KeyAnswer.TheVariants as says
-use Rattle.papaya_hands.specs.Given.Raw.declared.machines.progress.Answer.{Answer as Said}
-use Rattle.papaya_hands.specs.Given.Raw.declared.machines.progress.Answer.TheVariants as said
-use Rattle.papaya_hands.specs.Given.Schedules.declared.call.Answer.{Answer}
-use Rattle.papaya_hands.specs.Given.Schedules.declared.call.Answer.TheVariants as answer
-use Rattle.papaya_hands.specs.Given.Schedules.declared.outcome.Outcome.{Outcome}
-use Rattle.papaya_hands.specs.Given.Schedules.declared.outcome.Outcome.TheVariants as outcome
-use Rattle.papaya_hands.specs.Given.Effects.Known.{Known}
-use Rattle.papaya_hands.specs.Given.Effects.declared.role.Role.{Role}
-use Rattle.papaya_hands.specs.Given.Effects.declared.role.Role.TheVariants as role
+use Rattle.papaya_hands.specs.Given.RawDeclared.machines.answer.KeyAnswer.{KeyAnswer}
+use Rattle.papaya_hands.specs.Given.RawDeclared.machines.answer.KeyAnswer.TheVariants as says
+use Rattle.papaya_hands.specs.Given.RawDeclared.machines.progress.Answer.{Answer as Said}
+use Rattle.papaya_hands.specs.Given.RawDeclared.machines.progress.Answer.TheVariants as said
+use Rattle.papaya_hands.specs.Given.SchedulesDeclared.call.Answer.{Answer}
+use Rattle.papaya_hands.specs.Given.SchedulesDeclared.call.Answer.TheVariants as answer
+use Rattle.papaya_hands.specs.Given.SchedulesDeclared.outcome.Outcome.{Outcome}
+use Rattle.papaya_hands.specs.Given.SchedulesDeclared.outcome.Outcome.TheVariants as outcome
+use Rattle.papaya_hands.specs.Given.EffectsKnown.{Known}
+use Rattle.papaya_hands.specs.Given.EffectsDeclared.role.Role.{Role}
+use Rattle.papaya_hands.specs.Given.EffectsDeclared.role.Role.TheVariants as role
 use Rattle.papaya_named.specs.declared.kind.Kind.{Kind}
 use Rattle.papaya_named.specs.declared.kind.Kind.TheVariants as kind
 use Rattle.papaya_named.specs.declared.callers.Keeps.{Keeps}

@@ -1,6 +1,6 @@
 //! The machine of a call.
 ghost use Rattle.std.specs.Prelude.{◌≡◌};
-ghost use Rattle.papaya_hands.specs.Given.Schedules.Sequential.{key_of};
+ghost use Rattle.papaya_hands.specs.Given.SchedulesSequential.{key_of};
 ghost use Rattle.papaya_named.specs.Machines.{machine_for, machine_on};
 
 use papaya_hands::papaya_raw::machines::{KeyCall, Machine, Reserve, Sum, Sweep};

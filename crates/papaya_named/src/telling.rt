@@ -1,6 +1,6 @@
 //! What a call is told to have come to, by what its machine says.
 ghost use Rattle.std.specs.Prelude.{◌≡◌};
-ghost use Rattle.papaya_hands.specs.Given.Effects.Known.{known};
+ghost use Rattle.papaya_hands.specs.Given.EffectsKnown.{known};
 ghost use Rattle.papaya_named.specs.Telling.{answer_of, answer_on, aborted_with, number_by, occupied_by};
 
 use crate::kind::Kind;

@@ -2,30 +2,30 @@
 use Rattle.std.specs.Prelude.{◌≡◌, ℕ, Bool, Some}
 use Rattle.std.proofs.Common.{sym, subst, ◌∙◌, inl, inr}
 use Rattle.std.proofs.lemmas.Bool.{cases_eq}
-use Rattle.papaya_follows.specs.Given.Seize.declared.rows.settle.Settled.{Settled}
-use Rattle.papaya_follows.specs.Given.Seize.declared.rows.settle.Settled.TheVariants as settled
-use Rattle.papaya_follows.specs.Given.Tables.declared.node.Node.{Node}
-use Rattle.papaya_follows.specs.Given.Raw.EndMap.{end_map_plan}
-use Rattle.papaya_follows.specs.Given.Raw.Machine.{machine_plan}
-use Rattle.papaya_follows.specs.Given.Raw.declared.machines.end_map.EndMap.{EndMap}
-use Rattle.papaya_follows.proofs.Given.Callers.Together.At.{at_other, at_same}
-use Rattle.papaya_follows.specs.Given.Finishes.Endings.{StepsOfEnding}
-use Rattle.papaya_follows.specs.Given.Finishes.Makings.{Beginning, HasMade}
-use Rattle.papaya_follows.specs.Given.Finishes.Machines.{machine_of}
-use Rattle.papaya_follows.specs.Given.Effects.Effects.{known_after}
-use Rattle.papaya_follows.specs.Given.Effects.declared.acting.Acting.TheVariants as acts
-use Rattle.papaya_follows.specs.Given.Effects.declared.role.Role.TheVariants.{Counter}
+use Rattle.papaya_follows.specs.Given.SeizeDeclared.rows.settle.Settled.{Settled}
+use Rattle.papaya_follows.specs.Given.SeizeDeclared.rows.settle.Settled.TheVariants as settled
+use Rattle.papaya_follows.specs.Given.TablesDeclared.node.Node.{Node}
+use Rattle.papaya_follows.specs.Given.RawEndMap.{end_map_plan}
+use Rattle.papaya_follows.specs.Given.RawMachine.{machine_plan}
+use Rattle.papaya_follows.specs.Given.RawDeclared.machines.end_map.EndMap.{EndMap}
+use Rattle.papaya_follows.proofs.Given.CallersTogether.At.{at_other, at_same}
+use Rattle.papaya_follows.specs.Given.FinishesEndings.{StepsOfEnding}
+use Rattle.papaya_follows.specs.Given.FinishesMakings.{Beginning, HasMade}
+use Rattle.papaya_follows.specs.Given.FinishesMachines.{machine_of}
+use Rattle.papaya_follows.specs.Given.EffectsEffects.{known_after}
+use Rattle.papaya_follows.specs.Given.EffectsDeclared.acting.Acting.TheVariants as acts
+use Rattle.papaya_follows.specs.Given.EffectsDeclared.role.Role.TheVariants.{Counter}
 use Rattle.papaya_follows.proofs.Steps.{one_of}
 use Rattle.papaya_follows.proofs.Operations.{Operated, operated}
 use Rattle.papaya_others.specs.Counters.{NotesCounters, BeginningsNoteCounters, CallsNoteCounters, RowsNoteCounters, EndingsNoteCounters}
 use Rattle.papaya_others.specs.Endings.{ending_after}
 use Rattle.papaya_others.proofs.Noted.{counters_on}
 use Rattle.papaya_others.proofs.RowPlans.{row_operated}
-use Rattle.papaya_follows.proofs.Given.Scenes.May.{may_end, may_row, may_step}
-use Rattle.papaya_follows.specs.Given.Scenes.Ending.{EndingComesTo, EndingStepsFrom}
-use Rattle.papaya_follows.specs.Given.Scenes.Held.{IsAt}
-use Rattle.papaya_follows.specs.Given.Scenes.Scene.{Scene, slot_of}
-use Rattle.papaya_follows.specs.Given.Scenes.Stepping.{scene_after}
+use Rattle.papaya_follows.proofs.Given.ScenesMay.{may_end, may_row, may_step}
+use Rattle.papaya_follows.specs.Given.ScenesEnding.{EndingComesTo, EndingStepsFrom}
+use Rattle.papaya_follows.specs.Given.ScenesHeld.{IsAt}
+use Rattle.papaya_follows.specs.Given.ScenesScene.{Scene, slot_of}
+use Rattle.papaya_follows.specs.Given.ScenesStepping.{scene_after}
 
 pub beginnings_note_counters : (K V : Type 0) → BeginningsNoteCounters K V
 beginnings_note_counters K V known s notes i b none j d is made = elim (cases_eq j i) as (λ _. known.roles d.machine.setting.counter ≡ Counter d.map) [

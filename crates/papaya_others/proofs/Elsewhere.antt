@@ -1,10 +1,10 @@
 -- What happens elsewhere leaves what is shown as it was.
 use Rattle.std.specs.Prelude.{ℕ, Bool, Option}
 use Rattle.std.proofs.Common.{refl, ap, sym, subst}
-use Rattle.papaya_follows.specs.Given.SeizeWords.Mem.{Mem, value_at}
-use Rattle.papaya_follows.specs.Given.Seize.World.{Hand}
-use Rattle.papaya_follows.specs.Given.Tables.declared.node.Node.{Node}
-use Rattle.papaya_follows.specs.Given.Callers.Together.{UnderWay}
+use Rattle.papaya_follows.specs.Given.SeizeWordsMem.{Mem, value_at}
+use Rattle.papaya_follows.specs.Given.SeizeWorld.{Hand}
+use Rattle.papaya_follows.specs.Given.TablesDeclared.node.Node.{Node}
+use Rattle.papaya_follows.specs.Given.CallersTogether.{UnderWay}
 use Rattle.papaya_follows.specs.Blocks.{WasLinked}
 use Rattle.papaya_follows.specs.Calls.{ShowsCalls}
 use Rattle.papaya_others.specs.Elsewhere.{ShownElsewhere}

@@ -2,8 +2,8 @@
 use Rattle.std.specs.Prelude.{◌≡◌, ◌==◌, Bool, true, false, not, cond, List, [], ◌∷◌, filter, find, Some, None, if◌then◌else◌}
 use Rattle.std.proofs.Common.{refl, ap, sym, subst, ◌∙◌, inl, inr}
 use Rattle.std.proofs.lemmas.Bool.{cases_eq}
-use Rattle.papaya_follows.specs.Given.Runs.Same.{is_same}
-use Rattle.papaya_follows.proofs.Given.Callers.Together.At.{at_other, at_same}
+use Rattle.papaya_follows.specs.Given.RunsSame.{is_same}
+use Rattle.papaya_follows.proofs.Given.CallersTogether.At.{at_other, at_same}
 use Rattle.papaya_follows.specs.Maps.{ShowsMap}
 use Rattle.papaya_others.specs.Endings.{EndingsBeginShown, EndingsAreOver}
 

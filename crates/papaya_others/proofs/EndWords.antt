@@ -2,25 +2,25 @@
 use Rattle.std.specs.Prelude.{◌≡◌, ℕ, ◌<◌, ◌==◌, Bool, List, [], ◌∷◌, Some, if◌then◌else◌, ◌⊎◌}
 use Rattle.std.proofs.Common.{refl, ap, sym, subst, ◌∙◌, arith, inl, inr}
 use Rattle.std.proofs.lemmas.Bool.{eq-eqb}
-use Rattle.papaya_follows.specs.Given.SeizeWords.declared.at.At.TheVariants.{Root}
-use Rattle.papaya_follows.specs.Given.SeizeWords.Mem.{Mem, word_at}
-use Rattle.papaya_follows.specs.Given.SeizeWords.Word.{block_in}
-use Rattle.papaya_follows.specs.Given.Seize.World.{World, times}
-use Rattle.papaya_follows.specs.Given.Seize.declared.rows.settle.Settled.{Settled}
-use Rattle.papaya_follows.specs.Given.Tables.declared.node.Node.{Node}
-use Rattle.papaya_follows.specs.Given.Tables.declared.setting.Setting.{Setting}
-use Rattle.papaya_follows.specs.Given.Raw.EndMap as end_map
-use Rattle.papaya_follows.specs.Given.Raw.declared.machines.end_map.EndMap.{EndMap}
-use Rattle.papaya_follows.specs.Given.Raw.declared.machines.end_map.Ending.{Ending}
-use Rattle.papaya_follows.specs.Given.Raw.declared.machines.end_map.Ending.TheVariants as at
-use Rattle.papaya_follows.specs.Given.Teller.Tells.{StepsTold}
-use Rattle.papaya_follows.specs.Given.Teller.declared.changed.Changed.{Changed}
-use Rattle.papaya_follows.specs.Given.Teller.declared.changed.Changed.TheVariants as changed
-use Rattle.papaya_follows.specs.Given.Rule.Chart.{Chart}
-use Rattle.papaya_follows.specs.Given.Rule.Words.{Blocks, root_word}
-use Rattle.papaya_follows.proofs.Given.Rule.Words.TablesSeen.{block_of_link}
-use Rattle.papaya_follows.specs.Given.Callers.Kept.{IsPair}
-use Rattle.papaya_follows.specs.Given.Finishes.FactsEnds.{RootIs, RootAt}
+use Rattle.papaya_follows.specs.Given.SeizeWordsDeclared.at.At.TheVariants.{Root}
+use Rattle.papaya_follows.specs.Given.SeizeWordsMem.{Mem, word_at}
+use Rattle.papaya_follows.specs.Given.SeizeWordsWord.{block_in}
+use Rattle.papaya_follows.specs.Given.SeizeWorld.{World, times}
+use Rattle.papaya_follows.specs.Given.SeizeDeclared.rows.settle.Settled.{Settled}
+use Rattle.papaya_follows.specs.Given.TablesDeclared.node.Node.{Node}
+use Rattle.papaya_follows.specs.Given.TablesDeclared.setting.Setting.{Setting}
+use Rattle.papaya_follows.specs.Given.RawEndMap as end_map
+use Rattle.papaya_follows.specs.Given.RawDeclared.machines.end_map.EndMap.{EndMap}
+use Rattle.papaya_follows.specs.Given.RawDeclared.machines.end_map.Ending.{Ending}
+use Rattle.papaya_follows.specs.Given.RawDeclared.machines.end_map.Ending.TheVariants as at
+use Rattle.papaya_follows.specs.Given.TellerTells.{StepsTold}
+use Rattle.papaya_follows.specs.Given.TellerDeclared.changed.Changed.{Changed}
+use Rattle.papaya_follows.specs.Given.TellerDeclared.changed.Changed.TheVariants as changed
+use Rattle.papaya_follows.specs.Given.RuleChart.{Chart}
+use Rattle.papaya_follows.specs.Given.RuleWords.{Blocks, root_word}
+use Rattle.papaya_follows.proofs.Given.RuleWords.TablesSeen.{block_of_link}
+use Rattle.papaya_follows.specs.Given.CallersKept.{IsPair}
+use Rattle.papaya_follows.specs.Given.FinishesFactsEnds.{RootIs, RootAt}
 
 -- the word names nothing, or a pair
 abbrev pub NamesPair : {K V : Type 0} → World (Node K V) → ℕ → Type 0

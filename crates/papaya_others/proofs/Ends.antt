@@ -2,38 +2,38 @@
 use Rattle.std.specs.Prelude.{◌&&◌, ◌≡◌, ◌≢◌, ℕ, zero, suc, ◌<◌, ◌≤◌, nat_lt, Bool, true, false, List, [], ◌∷◌, ◌++◌, Option, Some, None, if◌then◌else◌, ◌⊎◌, ◌==◌, IsSome}
 use Rattle.std.proofs.Common.{refl, ap, sym, subst, ◌∙◌, arith, inl, inr}
 use Rattle.std.proofs.lemmas.Bool.{eq-eqb, cases_eq}
-use Rattle.papaya_follows.specs.Given.SeizeWords.declared.at.At.TheVariants.{Root, Used, Slot, Entry, Word}
-use Rattle.papaya_follows.specs.Given.SeizeWords.Mem.{Mem, value_at, word_at}
-use Rattle.papaya_follows.specs.Given.SeizeWords.Word.{block_in}
-use Rattle.papaya_follows.specs.Given.Seize.World.{World, Hand, times, with_at}
-use Rattle.papaya_follows.specs.Given.Seize.declared.rows.settle.Settled.{Settled}
-use Rattle.papaya_follows.specs.Given.Seize.declared.rows.settle.Settled.TheVariants as settled
-use Rattle.papaya_follows.specs.Given.Tables.declared.node.Node.{Node}
-use Rattle.papaya_follows.specs.Given.Raw.EndMap.{end_map_plan}
-use Rattle.papaya_follows.specs.Given.Raw.declared.machines.end_map.EndMap.{EndMap}
-use Rattle.papaya_follows.specs.Given.Raw.declared.machines.end_map.Ending.{Ending}
-use Rattle.papaya_follows.specs.Given.Raw.declared.machines.end_map.Ending.TheVariants as ending
-use Rattle.papaya_follows.specs.Given.Schedules.declared.effect.Effect.{Effect}
-use Rattle.papaya_follows.specs.Given.Schedules.declared.effect.Effect.TheVariants.{Asked, PairGivenUp, TableGivenUp, Ended, Taken}
-use Rattle.papaya_follows.specs.Given.Schedules.declared.effect.Growth.TheVariants.{ABlock}
-use Rattle.papaya_follows.specs.Given.Schedules.declared.effect.Table.{Table}
-use Rattle.papaya_follows.specs.Given.Schedules.Effects.{with_effects, AtEachEffect}
-use Rattle.papaya_follows.specs.Given.Schedules.Moment.{Left, IsTaken, Moment}
-use Rattle.papaya_follows.specs.Given.Schedules.Things.{same_table}
-use Rattle.papaya_follows.specs.Given.Teller.declared.changed.Changed.{Changed}
-use Rattle.papaya_follows.specs.Given.Teller.declared.changed.Changed.TheVariants as changed
-use Rattle.papaya_follows.specs.Given.Rule.InWorld.{IsMapIn}
-use Rattle.papaya_follows.specs.Given.Rule.Words.{root_word}
-use Rattle.papaya_follows.proofs.Given.Callers.Together.At.{at_same}
-use Rattle.papaya_follows.specs.Given.Finishes.Endings.{Finishing, FinishingFacts, StepsOfEnding, waiting_by}
-use Rattle.papaya_follows.specs.Given.Finishes.FactsEnds.{taken_by as taken_of, left_by, EndingFacts}
-use Rattle.papaya_follows.specs.Given.Finishes.Maps.{Standing}
-use Rattle.papaya_follows.specs.Given.Effects.Effects.{names_same, named, written_by, written_on, led_to, linked_on, taken_by, effects_of, known_after}
-use Rattle.papaya_follows.specs.Given.Effects.Known.{Known, with_role}
-use Rattle.papaya_follows.specs.Given.Effects.declared.acting.Acting.{Acting}
-use Rattle.papaya_follows.specs.Given.Effects.declared.acting.Acting.TheVariants as acts
-use Rattle.papaya_follows.specs.Given.Effects.declared.role.Role.{Role}
-use Rattle.papaya_follows.specs.Given.Effects.declared.role.Role.TheVariants as role
+use Rattle.papaya_follows.specs.Given.SeizeWordsDeclared.at.At.TheVariants.{Root, Used, Slot, Entry, Word}
+use Rattle.papaya_follows.specs.Given.SeizeWordsMem.{Mem, value_at, word_at}
+use Rattle.papaya_follows.specs.Given.SeizeWordsWord.{block_in}
+use Rattle.papaya_follows.specs.Given.SeizeWorld.{World, Hand, times, with_at}
+use Rattle.papaya_follows.specs.Given.SeizeDeclared.rows.settle.Settled.{Settled}
+use Rattle.papaya_follows.specs.Given.SeizeDeclared.rows.settle.Settled.TheVariants as settled
+use Rattle.papaya_follows.specs.Given.TablesDeclared.node.Node.{Node}
+use Rattle.papaya_follows.specs.Given.RawEndMap.{end_map_plan}
+use Rattle.papaya_follows.specs.Given.RawDeclared.machines.end_map.EndMap.{EndMap}
+use Rattle.papaya_follows.specs.Given.RawDeclared.machines.end_map.Ending.{Ending}
+use Rattle.papaya_follows.specs.Given.RawDeclared.machines.end_map.Ending.TheVariants as ending
+use Rattle.papaya_follows.specs.Given.SchedulesDeclared.effect.Effect.{Effect}
+use Rattle.papaya_follows.specs.Given.SchedulesDeclared.effect.Effect.TheVariants.{Asked, PairGivenUp, TableGivenUp, Ended, Taken}
+use Rattle.papaya_follows.specs.Given.SchedulesDeclared.effect.Growth.TheVariants.{ABlock}
+use Rattle.papaya_follows.specs.Given.SchedulesDeclared.effect.Table.{Table}
+use Rattle.papaya_follows.specs.Given.SchedulesEffects.{with_effects, AtEachEffect}
+use Rattle.papaya_follows.specs.Given.SchedulesMoment.{Left, IsTaken, Moment}
+use Rattle.papaya_follows.specs.Given.SchedulesThings.{same_table}
+use Rattle.papaya_follows.specs.Given.TellerDeclared.changed.Changed.{Changed}
+use Rattle.papaya_follows.specs.Given.TellerDeclared.changed.Changed.TheVariants as changed
+use Rattle.papaya_follows.specs.Given.RuleInWorld.{IsMapIn}
+use Rattle.papaya_follows.specs.Given.RuleWords.{root_word}
+use Rattle.papaya_follows.proofs.Given.CallersTogether.At.{at_same}
+use Rattle.papaya_follows.specs.Given.FinishesEndings.{Finishing, FinishingFacts, StepsOfEnding, waiting_by}
+use Rattle.papaya_follows.specs.Given.FinishesFactsEnds.{taken_by as taken_of, left_by, EndingFacts}
+use Rattle.papaya_follows.specs.Given.FinishesMaps.{Standing}
+use Rattle.papaya_follows.specs.Given.EffectsEffects.{names_same, named, written_by, written_on, led_to, linked_on, taken_by, effects_of, known_after}
+use Rattle.papaya_follows.specs.Given.EffectsKnown.{Known, with_role}
+use Rattle.papaya_follows.specs.Given.EffectsDeclared.acting.Acting.{Acting}
+use Rattle.papaya_follows.specs.Given.EffectsDeclared.acting.Acting.TheVariants as acts
+use Rattle.papaya_follows.specs.Given.EffectsDeclared.role.Role.{Role}
+use Rattle.papaya_follows.specs.Given.EffectsDeclared.role.Role.TheVariants as role
 use Rattle.papaya_follows.specs.Blocks.{WasLinked, HasRole}
 use Rattle.papaya_follows.specs.Calls.{ShowsCalls}
 use Rattle.papaya_follows.specs.Maps.{table_of}
@@ -51,10 +51,10 @@ use Rattle.papaya_others.proofs.EndWords.{NamesPair, root_leads, root_or_none, r
 use Rattle.papaya_others.proofs.Leads.{same_parts, roomed_still, either_still, DoesNothing, word_says, calls_then, quiet, nothing, gone_quiet, either_calm, roomed_calm}
 use Rattle.papaya_others.proofs.Scenes.{pair_gone, table_gone}
 use Rattle.papaya_others.proofs.Stays.{StaysBlock, same_there, same_maps}
-use Rattle.papaya_follows.proofs.Given.Scenes.May.{may_end}
-use Rattle.papaya_follows.specs.Given.Scenes.Ending.{EndingComesTo, EndingStepsFrom, ending_goes}
-use Rattle.papaya_follows.specs.Given.Scenes.Held.{Held, IsAt}
-use Rattle.papaya_follows.specs.Given.Scenes.Scene.{Scene, slot_of}
+use Rattle.papaya_follows.proofs.Given.ScenesMay.{may_end}
+use Rattle.papaya_follows.specs.Given.ScenesEnding.{EndingComesTo, EndingStepsFrom, ending_goes}
+use Rattle.papaya_follows.specs.Given.ScenesHeld.{Held, IsAt}
+use Rattle.papaya_follows.specs.Given.ScenesScene.{Scene, slot_of}
 
 -- a pair, or no block, has the role of no table
 abbrev IsNoTable : Role → Type 0

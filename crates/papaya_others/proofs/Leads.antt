@@ -1,23 +1,23 @@
 -- Where a step leads that is of no call, and leaves the blocks that are there as they are: its effects move nothing, or it takes one block away.
 use Rattle.std.specs.Prelude.{◌≡◌, ◌≢◌, ℕ, Bool, true, false, List, [], ◌∷◌, Option, Some, None, if◌then◌else◌}
 use Rattle.std.proofs.Common.{refl, ap, arith}
-use Rattle.papaya_follows.specs.Given.SeizeWords.Mem.{value_at}
-use Rattle.papaya_follows.specs.Given.Seize.World.{World}
-use Rattle.papaya_follows.specs.Given.Tables.declared.node.Node.{Node}
-use Rattle.papaya_follows.specs.Given.Schedules.declared.effect.Effect.{Effect}
-use Rattle.papaya_follows.specs.Given.Schedules.declared.effect.Effect.TheVariants.{Asked}
-use Rattle.papaya_follows.specs.Given.Schedules.declared.effect.Growth.TheVariants.{ABucket}
-use Rattle.papaya_follows.specs.Given.Schedules.declared.effect.Table.{Table}
-use Rattle.papaya_follows.specs.Given.Schedules.Effects.{with_effects}
-use Rattle.papaya_follows.specs.Given.Schedules.Moment.{Moment}
-use Rattle.papaya_follows.specs.Given.Schedules.Things.{same_table}
-use Rattle.papaya_follows.specs.Given.Rule.InWorld.{IsMapIn}
-use Rattle.papaya_follows.specs.Given.Finishes.Maps.{Standing, IsSameMap}
-use Rattle.papaya_follows.specs.Given.Effects.Effects.{in_block, in_block_on}
-use Rattle.papaya_follows.specs.Given.Effects.Known.{Known, with_role}
-use Rattle.papaya_follows.specs.Given.Effects.declared.acting.Acting.{Acting}
-use Rattle.papaya_follows.specs.Given.Effects.declared.role.Role.{Role}
-use Rattle.papaya_follows.specs.Given.Effects.declared.role.Role.TheVariants as role
+use Rattle.papaya_follows.specs.Given.SeizeWordsMem.{value_at}
+use Rattle.papaya_follows.specs.Given.SeizeWorld.{World}
+use Rattle.papaya_follows.specs.Given.TablesDeclared.node.Node.{Node}
+use Rattle.papaya_follows.specs.Given.SchedulesDeclared.effect.Effect.{Effect}
+use Rattle.papaya_follows.specs.Given.SchedulesDeclared.effect.Effect.TheVariants.{Asked}
+use Rattle.papaya_follows.specs.Given.SchedulesDeclared.effect.Growth.TheVariants.{ABucket}
+use Rattle.papaya_follows.specs.Given.SchedulesDeclared.effect.Table.{Table}
+use Rattle.papaya_follows.specs.Given.SchedulesEffects.{with_effects}
+use Rattle.papaya_follows.specs.Given.SchedulesMoment.{Moment}
+use Rattle.papaya_follows.specs.Given.SchedulesThings.{same_table}
+use Rattle.papaya_follows.specs.Given.RuleInWorld.{IsMapIn}
+use Rattle.papaya_follows.specs.Given.FinishesMaps.{Standing, IsSameMap}
+use Rattle.papaya_follows.specs.Given.EffectsEffects.{in_block, in_block_on}
+use Rattle.papaya_follows.specs.Given.EffectsKnown.{Known, with_role}
+use Rattle.papaya_follows.specs.Given.EffectsDeclared.acting.Acting.{Acting}
+use Rattle.papaya_follows.specs.Given.EffectsDeclared.role.Role.{Role}
+use Rattle.papaya_follows.specs.Given.EffectsDeclared.role.Role.TheVariants as role
 use Rattle.papaya_follows.specs.Blocks.{HasRole}
 use Rattle.papaya_follows.specs.Calls.{ShowsCalls}
 use Rattle.papaya_follows.specs.Shows.{Shows}
@@ -27,7 +27,7 @@ use Rattle.papaya_others.specs.After.{ShowsAfter}
 use Rattle.papaya_others.proofs.Quiet.{calls_none, stored_none, all_quiet, calls_shown}
 use Rattle.papaya_others.proofs.Scenes.{all_stay, one_put, still_gone}
 use Rattle.papaya_others.proofs.Stays.{StaysBlock}
-use Rattle.papaya_follows.specs.Given.Scenes.Scene.{Scene}
+use Rattle.papaya_follows.specs.Given.ScenesScene.{Scene}
 
 -- tables that are the same have one map and one turn
 pub same_parts : (t u : Table) → same_table t u ≡ true → (t.map ≡ u.map) × (t.turn ≡ u.turn)

@@ -2,19 +2,19 @@
 use Rattle.std.specs.Prelude.{◌≡◌, ℕ, zero, suc, List, ◌∷◌, Some, None, if◌then◌else◌}
 use Rattle.std.proofs.Common.{refl, ap, sym, subst, arith}
 use Rattle.std.proofs.lemmas.Bool.{ne_eqb}
-use Rattle.papaya_follows.specs.Given.SeizeWords.Mem.{value_at}
-use Rattle.papaya_follows.specs.Given.Seize.World.{World}
-use Rattle.papaya_follows.specs.Given.Tables.declared.node.Node.{Node}
-use Rattle.papaya_follows.specs.Given.Tables.declared.node.Node.TheVariants as node
-use Rattle.papaya_follows.specs.Given.Schedules.declared.effect.Effect.TheVariants.{Asked}
-use Rattle.papaya_follows.specs.Given.Schedules.declared.effect.Growth.TheVariants.{ABlock}
-use Rattle.papaya_follows.specs.Given.Teller.Changed.{kind_of}
-use Rattle.papaya_follows.specs.Given.Teller.declared.changed.Kind.{Kind}
-use Rattle.papaya_follows.specs.Given.Teller.declared.changed.Kind.TheVariants as kind
-use Rattle.papaya_follows.specs.Given.Effects.Effects.{made_by, made_role}
-use Rattle.papaya_follows.specs.Given.Effects.declared.acting.Acting.{Acting}
-use Rattle.papaya_follows.specs.Given.Effects.declared.role.Role.{Role}
-use Rattle.papaya_follows.specs.Given.Effects.declared.role.Role.TheVariants as role
+use Rattle.papaya_follows.specs.Given.SeizeWordsMem.{value_at}
+use Rattle.papaya_follows.specs.Given.SeizeWorld.{World}
+use Rattle.papaya_follows.specs.Given.TablesDeclared.node.Node.{Node}
+use Rattle.papaya_follows.specs.Given.TablesDeclared.node.Node.TheVariants as node
+use Rattle.papaya_follows.specs.Given.SchedulesDeclared.effect.Effect.TheVariants.{Asked}
+use Rattle.papaya_follows.specs.Given.SchedulesDeclared.effect.Growth.TheVariants.{ABlock}
+use Rattle.papaya_follows.specs.Given.TellerChanged.{kind_of}
+use Rattle.papaya_follows.specs.Given.TellerDeclared.changed.Kind.{Kind}
+use Rattle.papaya_follows.specs.Given.TellerDeclared.changed.Kind.TheVariants as kind
+use Rattle.papaya_follows.specs.Given.EffectsEffects.{made_by, made_role}
+use Rattle.papaya_follows.specs.Given.EffectsDeclared.acting.Acting.{Acting}
+use Rattle.papaya_follows.specs.Given.EffectsDeclared.role.Role.{Role}
+use Rattle.papaya_follows.specs.Given.EffectsDeclared.role.Role.TheVariants as role
 use Rattle.papaya_follows.specs.Blocks.{HasRole}
 use Rattle.papaya_follows.proofs.Alike.{AllStill}
 use Rattle.papaya_follows.proofs.Onward.{IsLasting}

@@ -3,56 +3,56 @@ use Rattle.std.specs.Prelude.{◌≡◌, ◌≢◌, ℕ, ◌*◌, ◌<◌, ◌�
 use Rattle.std.proofs.Common.{refl, ap, sym, subst, ◌∙◌, arith, inl, inr, append-nil}
 use Rattle.std.proofs.lemmas.Bool.{ne_eqb, eq-eqb, cases_eq}
 use Rattle.std.proofs.lemmas.List.Elements.{filter-append}
-use Rattle.papaya_follows.specs.Given.SeizeWords.declared.at.At.{At}
-use Rattle.papaya_follows.specs.Given.SeizeWords.declared.at.At.TheVariants.{Root, Used, Slot, Entry, Word}
-use Rattle.papaya_follows.specs.Given.SeizeWords.declared.fault.Fault.{Fault}
-use Rattle.papaya_follows.specs.Given.SeizeWords.Mem.{Mem, value_at, word_at}
-use Rattle.papaya_follows.specs.Given.SeizeWords.Word.{block_in}
-use Rattle.papaya_follows.specs.Given.Seize.World.{World, Hand, Making as MadeBy, with_at}
-use Rattle.papaya_follows.specs.Given.Seize.declared.progress.Progress.{Progress}
-use Rattle.papaya_follows.specs.Given.Seize.declared.progress.Progress.TheVariants as progress
-use Rattle.papaya_follows.specs.Given.Tables.Chunks.{is_incremental}
-use Rattle.papaya_follows.specs.Given.Tables.Nodes.{deferred_word}
-use Rattle.papaya_follows.specs.Given.Tables.declared.node.Node.{Node}
-use Rattle.papaya_follows.specs.Given.Tables.declared.node.Node.TheVariants as node
-use Rattle.papaya_follows.specs.Given.Tables.declared.setting.Setting.{Setting}
-use Rattle.papaya_follows.specs.Given.Tables.declared.status.TheConstants.Status.{PROMOTED}
-use Rattle.papaya_follows.specs.Given.Tables.declared.table.Table.{Table as Planned}
-use Rattle.papaya_follows.specs.Given.Resize.NewMap.{new_map_plan}
-use Rattle.papaya_follows.specs.Given.Resize.declared.new_map.NewMap.{NewMap}
-use Rattle.papaya_follows.specs.Given.Resize.declared.new_map.Opening.{Opening}
-use Rattle.papaya_follows.specs.Given.Resize.declared.new_map.Opening.TheVariants as opening
-use Rattle.papaya_follows.specs.Given.Runs.declared.outcome.TableShape.{TableShape}
-use Rattle.papaya_follows.specs.Given.Schedules.declared.effect.Effect.{Effect}
-use Rattle.papaya_follows.specs.Given.Schedules.declared.effect.Effect.TheVariants.{Asked, PairGivenUp, TableGivenUp, Linked}
-use Rattle.papaya_follows.specs.Given.Schedules.declared.effect.Growth.TheVariants.{ABlock}
-use Rattle.papaya_follows.specs.Given.Schedules.declared.effect.Table.{Table}
-use Rattle.papaya_follows.specs.Given.Schedules.Effects.{with_effects}
-use Rattle.papaya_follows.specs.Given.Schedules.Lists.{put}
-use Rattle.papaya_follows.specs.Given.Schedules.Moment.{IsLinked, TableThere, Moment}
-use Rattle.papaya_follows.specs.Given.Schedules.Views.{tables_of}
-use Rattle.papaya_follows.specs.Given.Teller.declared.changed.Changed.{Changed}
-use Rattle.papaya_follows.specs.Given.Teller.declared.changed.Changed.TheVariants as changed
-use Rattle.papaya_follows.specs.Given.Teller.declared.changed.Kind.{Kind}
-use Rattle.papaya_follows.specs.Given.Teller.declared.changed.Kind.TheVariants as kind
-use Rattle.papaya_follows.specs.Given.Rule.Chart.{Chart}
-use Rattle.papaya_follows.specs.Given.Rule.InWorld.{IsMapIn}
-use Rattle.papaya_follows.specs.Given.Rule.Maps.{spot_of}
-use Rattle.papaya_follows.specs.Given.Rule.Moves.{Links, after as after_move}
-use Rattle.papaya_follows.specs.Given.Rule.Rule.{no_table}
-use Rattle.papaya_follows.specs.Given.Rule.Words.{root_word}
-use Rattle.papaya_follows.proofs.Given.Rule.Words.TablesSeen.{block_of_link}
-use Rattle.papaya_follows.specs.Given.Points.FactsTables.{IsOwnTable, IsPlanned}
-use Rattle.papaya_follows.proofs.Given.Callers.Together.At.{at_other, at_same}
-use Rattle.papaya_follows.specs.Given.Finishes.Endings.{MakingStepsAmong}
-use Rattle.papaya_follows.specs.Given.Finishes.Makings.{Beginning, MakingFacts, OpeningFacts, HasTaken, HasMade, IsMade, IsNewChart, KeepsIts}
-use Rattle.papaya_follows.specs.Given.Finishes.Maps.{Standing}
-use Rattle.papaya_follows.specs.Given.Effects.Effects.{names_same, named, made_by, made_role, taken_by, effects_of, known_after}
-use Rattle.papaya_follows.specs.Given.Effects.Known.{Known, with_role}
-use Rattle.papaya_follows.specs.Given.Effects.declared.acting.Acting.{Acting}
-use Rattle.papaya_follows.specs.Given.Effects.declared.acting.Acting.TheVariants as acts
-use Rattle.papaya_follows.specs.Given.Effects.declared.role.Role.{Role}
-use Rattle.papaya_follows.specs.Given.Effects.declared.role.Role.TheVariants as role
+use Rattle.papaya_follows.specs.Given.SeizeWordsDeclared.at.At.{At}
+use Rattle.papaya_follows.specs.Given.SeizeWordsDeclared.at.At.TheVariants.{Root, Used, Slot, Entry, Word}
+use Rattle.papaya_follows.specs.Given.SeizeWordsDeclared.fault.Fault.{Fault}
+use Rattle.papaya_follows.specs.Given.SeizeWordsMem.{Mem, value_at, word_at}
+use Rattle.papaya_follows.specs.Given.SeizeWordsWord.{block_in}
+use Rattle.papaya_follows.specs.Given.SeizeWorld.{World, Hand, Making as MadeBy, with_at}
+use Rattle.papaya_follows.specs.Given.SeizeDeclared.progress.Progress.{Progress}
+use Rattle.papaya_follows.specs.Given.SeizeDeclared.progress.Progress.TheVariants as progress
+use Rattle.papaya_follows.specs.Given.TablesChunks.{is_incremental}
+use Rattle.papaya_follows.specs.Given.TablesNodes.{deferred_word}
+use Rattle.papaya_follows.specs.Given.TablesDeclared.node.Node.{Node}
+use Rattle.papaya_follows.specs.Given.TablesDeclared.node.Node.TheVariants as node
+use Rattle.papaya_follows.specs.Given.TablesDeclared.setting.Setting.{Setting}
+use Rattle.papaya_follows.specs.Given.TablesDeclared.status.TheConstants.Status.{PROMOTED}
+use Rattle.papaya_follows.specs.Given.TablesDeclared.table.Table.{Table as Planned}
+use Rattle.papaya_follows.specs.Given.ResizeNewMap.{new_map_plan}
+use Rattle.papaya_follows.specs.Given.ResizeDeclared.new_map.NewMap.{NewMap}
+use Rattle.papaya_follows.specs.Given.ResizeDeclared.new_map.Opening.{Opening}
+use Rattle.papaya_follows.specs.Given.ResizeDeclared.new_map.Opening.TheVariants as opening
+use Rattle.papaya_follows.specs.Given.RunsDeclared.outcome.TableShape.{TableShape}
+use Rattle.papaya_follows.specs.Given.SchedulesDeclared.effect.Effect.{Effect}
+use Rattle.papaya_follows.specs.Given.SchedulesDeclared.effect.Effect.TheVariants.{Asked, PairGivenUp, TableGivenUp, Linked}
+use Rattle.papaya_follows.specs.Given.SchedulesDeclared.effect.Growth.TheVariants.{ABlock}
+use Rattle.papaya_follows.specs.Given.SchedulesDeclared.effect.Table.{Table}
+use Rattle.papaya_follows.specs.Given.SchedulesEffects.{with_effects}
+use Rattle.papaya_follows.specs.Given.SchedulesLists.{put}
+use Rattle.papaya_follows.specs.Given.SchedulesMoment.{IsLinked, TableThere, Moment}
+use Rattle.papaya_follows.specs.Given.SchedulesViews.{tables_of}
+use Rattle.papaya_follows.specs.Given.TellerDeclared.changed.Changed.{Changed}
+use Rattle.papaya_follows.specs.Given.TellerDeclared.changed.Changed.TheVariants as changed
+use Rattle.papaya_follows.specs.Given.TellerDeclared.changed.Kind.{Kind}
+use Rattle.papaya_follows.specs.Given.TellerDeclared.changed.Kind.TheVariants as kind
+use Rattle.papaya_follows.specs.Given.RuleChart.{Chart}
+use Rattle.papaya_follows.specs.Given.RuleInWorld.{IsMapIn}
+use Rattle.papaya_follows.specs.Given.RuleMaps.{spot_of}
+use Rattle.papaya_follows.specs.Given.RuleMoves.{Links, after as after_move}
+use Rattle.papaya_follows.specs.Given.RuleRule.{no_table}
+use Rattle.papaya_follows.specs.Given.RuleWords.{root_word}
+use Rattle.papaya_follows.proofs.Given.RuleWords.TablesSeen.{block_of_link}
+use Rattle.papaya_follows.specs.Given.PointsFactsTables.{IsOwnTable, IsPlanned}
+use Rattle.papaya_follows.proofs.Given.CallersTogether.At.{at_other, at_same}
+use Rattle.papaya_follows.specs.Given.FinishesEndings.{MakingStepsAmong}
+use Rattle.papaya_follows.specs.Given.FinishesMakings.{Beginning, MakingFacts, OpeningFacts, HasTaken, HasMade, IsMade, IsNewChart, KeepsIts}
+use Rattle.papaya_follows.specs.Given.FinishesMaps.{Standing}
+use Rattle.papaya_follows.specs.Given.EffectsEffects.{names_same, named, made_by, made_role, taken_by, effects_of, known_after}
+use Rattle.papaya_follows.specs.Given.EffectsKnown.{Known, with_role}
+use Rattle.papaya_follows.specs.Given.EffectsDeclared.acting.Acting.{Acting}
+use Rattle.papaya_follows.specs.Given.EffectsDeclared.acting.Acting.TheVariants as acts
+use Rattle.papaya_follows.specs.Given.EffectsDeclared.role.Role.{Role}
+use Rattle.papaya_follows.specs.Given.EffectsDeclared.role.Role.TheVariants as role
 use Rattle.papaya_follows.specs.Blocks.{WasLinked, HasRole}
 use Rattle.papaya_follows.specs.Calls.{ShowsCalls}
 use Rattle.papaya_follows.specs.Maps.{table_of, shape_at, ShowsMap}
@@ -72,10 +72,10 @@ use Rattle.papaya_others.proofs.Quiet.{all_quiet, stored_none}
 use Rattle.papaya_others.proofs.Scenes.{one_put}
 use Rattle.papaya_others.proofs.Stays.{StaysBlock, same_maps}
 use Rattle.papaya_others.proofs.Users.{events_stay}
-use Rattle.papaya_follows.proofs.Given.Scenes.May.{may_make}
-use Rattle.papaya_follows.specs.Given.Scenes.Held.{Held, IsAt}
-use Rattle.papaya_follows.specs.Given.Scenes.Making.{MakingComesTo, MakingStepsFrom}
-use Rattle.papaya_follows.specs.Given.Scenes.Scene.{Scene, slot_of}
+use Rattle.papaya_follows.proofs.Given.ScenesMay.{may_make}
+use Rattle.papaya_follows.specs.Given.ScenesHeld.{Held, IsAt}
+use Rattle.papaya_follows.specs.Given.ScenesMaking.{MakingComesTo, MakingStepsFrom}
+use Rattle.papaya_follows.specs.Given.ScenesScene.{Scene, slot_of}
 
 module _ {K V : Type 0} (same : K → K → Bool) (hash : ℕ → K → ℕ) (name : ℕ → List ℕ) (m : Moment K V) (known : Known) (s : Scene K V) (old new : Held K V) (at : IsAt same hash old s)
     (shown : Shows same name m known s) (i : ℕ) (b : Beginning K) (here : s.makers i ≡ Some b) (end : NewMap) (said : Progress Setting) (steps : MakingStepsFrom b.machine old new end said)

@@ -2,30 +2,30 @@
 use Rattle.std.specs.Prelude.{◌≡◌, ℕ, ◌==◌, Bool, List, filter, find, Option, Some, None, ◌⊎◌}
 use Rattle.std.proofs.Common.{refl, ap, sym, subst, ◌∙◌, inl, inr}
 use Rattle.std.proofs.lemmas.Bool.{cases_eq}
-use Rattle.papaya_follows.specs.Given.SeizeWords.declared.at.At.TheVariants.{Root, Used, Slot, Entry, Word}
-use Rattle.papaya_follows.specs.Given.SeizeWords.Mem.{value_at}
-use Rattle.papaya_follows.specs.Given.SeizeWords.Word.{block_in}
-use Rattle.papaya_follows.specs.Given.Seize.World.{World, with_at}
-use Rattle.papaya_follows.specs.Given.Seize.declared.progress.Progress.{Progress}
-use Rattle.papaya_follows.specs.Given.Seize.declared.progress.Progress.TheVariants as progress
-use Rattle.papaya_follows.specs.Given.Tables.declared.node.Node.{Node}
-use Rattle.papaya_follows.specs.Given.Tables.declared.setting.Setting.{Setting}
-use Rattle.papaya_follows.specs.Given.Resize.NewMap.{new_map_plan}
-use Rattle.papaya_follows.specs.Given.Resize.declared.new_map.NewMap.{NewMap}
-use Rattle.papaya_follows.specs.Given.Schedules.Effects.{with_effects}
-use Rattle.papaya_follows.specs.Given.Schedules.Moment.{Place, Moment}
-use Rattle.papaya_follows.specs.Given.Teller.declared.changed.Changed.{Changed}
-use Rattle.papaya_follows.specs.Given.Teller.declared.changed.Changed.TheVariants as changed
-use Rattle.papaya_follows.specs.Given.Teller.declared.changed.Kind.TheVariants as kind
-use Rattle.papaya_follows.proofs.Given.Callers.Together.At.{at_other, at_same}
-use Rattle.papaya_follows.specs.Given.Finishes.Endings.{MakingStepsAmong}
-use Rattle.papaya_follows.specs.Given.Finishes.Makings.{Beginning, HasMade}
-use Rattle.papaya_follows.specs.Given.Effects.Effects.{names_same, named, made_role, taken_by, effects_of, known_after}
-use Rattle.papaya_follows.specs.Given.Effects.Known.{Known}
-use Rattle.papaya_follows.specs.Given.Effects.declared.acting.Acting.{Acting}
-use Rattle.papaya_follows.specs.Given.Effects.declared.acting.Acting.TheVariants as acts
-use Rattle.papaya_follows.specs.Given.Effects.declared.role.Role.{Role}
-use Rattle.papaya_follows.specs.Given.Effects.declared.role.Role.TheVariants as role
+use Rattle.papaya_follows.specs.Given.SeizeWordsDeclared.at.At.TheVariants.{Root, Used, Slot, Entry, Word}
+use Rattle.papaya_follows.specs.Given.SeizeWordsMem.{value_at}
+use Rattle.papaya_follows.specs.Given.SeizeWordsWord.{block_in}
+use Rattle.papaya_follows.specs.Given.SeizeWorld.{World, with_at}
+use Rattle.papaya_follows.specs.Given.SeizeDeclared.progress.Progress.{Progress}
+use Rattle.papaya_follows.specs.Given.SeizeDeclared.progress.Progress.TheVariants as progress
+use Rattle.papaya_follows.specs.Given.TablesDeclared.node.Node.{Node}
+use Rattle.papaya_follows.specs.Given.TablesDeclared.setting.Setting.{Setting}
+use Rattle.papaya_follows.specs.Given.ResizeNewMap.{new_map_plan}
+use Rattle.papaya_follows.specs.Given.ResizeDeclared.new_map.NewMap.{NewMap}
+use Rattle.papaya_follows.specs.Given.SchedulesEffects.{with_effects}
+use Rattle.papaya_follows.specs.Given.SchedulesMoment.{Place, Moment}
+use Rattle.papaya_follows.specs.Given.TellerDeclared.changed.Changed.{Changed}
+use Rattle.papaya_follows.specs.Given.TellerDeclared.changed.Changed.TheVariants as changed
+use Rattle.papaya_follows.specs.Given.TellerDeclared.changed.Kind.TheVariants as kind
+use Rattle.papaya_follows.proofs.Given.CallersTogether.At.{at_other, at_same}
+use Rattle.papaya_follows.specs.Given.FinishesEndings.{MakingStepsAmong}
+use Rattle.papaya_follows.specs.Given.FinishesMakings.{Beginning, HasMade}
+use Rattle.papaya_follows.specs.Given.EffectsEffects.{names_same, named, made_role, taken_by, effects_of, known_after}
+use Rattle.papaya_follows.specs.Given.EffectsKnown.{Known}
+use Rattle.papaya_follows.specs.Given.EffectsDeclared.acting.Acting.{Acting}
+use Rattle.papaya_follows.specs.Given.EffectsDeclared.acting.Acting.TheVariants as acts
+use Rattle.papaya_follows.specs.Given.EffectsDeclared.role.Role.{Role}
+use Rattle.papaya_follows.specs.Given.EffectsDeclared.role.Role.TheVariants as role
 use Rattle.papaya_follows.specs.Blocks.{HasRole}
 use Rattle.papaya_follows.specs.Shows.{Shows}
 use Rattle.papaya_follows.proofs.Alike.{AllStill, AreSame, calm_still, put_here}
@@ -39,10 +39,10 @@ use Rattle.papaya_others.proofs.Makes.{facts, tells, left, linked_stays, no_tabl
 use Rattle.papaya_others.proofs.MakingPlans.{TellsMaking, counter_from}
 use Rattle.papaya_others.proofs.Noted.{counter_on}
 use Rattle.papaya_others.proofs.Quiet.{all_quiet}
-use Rattle.papaya_follows.proofs.Given.Scenes.May.{may_make}
-use Rattle.papaya_follows.specs.Given.Scenes.Held.{Held, IsAt}
-use Rattle.papaya_follows.specs.Given.Scenes.Making.{MakingComesTo, MakingStepsFrom}
-use Rattle.papaya_follows.specs.Given.Scenes.Scene.{Scene, slot_of}
+use Rattle.papaya_follows.proofs.Given.ScenesMay.{may_make}
+use Rattle.papaya_follows.specs.Given.ScenesHeld.{Held, IsAt}
+use Rattle.papaya_follows.specs.Given.ScenesMaking.{MakingComesTo, MakingStepsFrom}
+use Rattle.papaya_follows.specs.Given.ScenesScene.{Scene, slot_of}
 
 -- a map is as new where no pair and no table has moved
 new_stays : {K V : Type 0} (map : ℕ) (setting : Setting) (m v : Moment K V) → AreSame m v → IsNew map setting m → IsNew map setting v

@@ -2,47 +2,47 @@
 use Rattle.std.specs.Prelude.{◌≡◌, ◌≢◌, ℕ, ◌+◌, ◌-◌, ◌%◌, ◌^◌, ◌<◌, ◌==◌, nat_lt, Bool, true, false, Some, None, Ok, Err, if◌then◌else◌, ◌⊎◌}
 use Rattle.std.proofs.Common.{refl, ap, sym, subst, ◌∙◌, arith, inl, inr}
 use Rattle.std.proofs.lemmas.Bool.{ne_eqb}
-use Rattle.papaya_follows.specs.Given.SeizeWords.declared.at.At.{At}
-use Rattle.papaya_follows.specs.Given.SeizeWords.declared.at.At.TheVariants.{Root, Used, Word}
-use Rattle.papaya_follows.specs.Given.SeizeWords.declared.fault.Fault.{Fault}
-use Rattle.papaya_follows.specs.Given.SeizeWords.declared.fault.Fault.TheVariants.{RootsUsedUp}
-use Rattle.papaya_follows.specs.Given.SeizeWords.Mem.{Mem, value_in, value_at, word_at, fresh, block_of, Can, Took}
-use Rattle.papaya_follows.specs.Given.SeizeWords.Op.{Op, Out, Load, Store, Swap, Add, Or, Exchange, Make, Take, Rewrite, Room, Exchanged, Made}
-use Rattle.papaya_follows.specs.Given.SeizeWords.Plan.{Plan, Turn, Do, May, Ends, plan_as, then_as}
-use Rattle.papaya_follows.specs.Given.SeizeWords.Word.{block_in}
-use Rattle.papaya_follows.proofs.Given.SeizeWords.OneOwner.AfterWrites.{value_at-with_word, block_of-with_block, block_of-made}
-use Rattle.papaya_follows.proofs.Given.SeizeRule.Words.Named.{block_there}
-use Rattle.papaya_follows.specs.Given.Seize.World.{World, Making as MadeBy}
-use Rattle.papaya_follows.specs.Given.Seize.declared.progress.Progress.{Progress}
-use Rattle.papaya_follows.specs.Given.Seize.declared.progress.Progress.TheVariants as progress
-use Rattle.papaya_follows.specs.Given.Tables.declared.node.Node.{Node}
-use Rattle.papaya_follows.specs.Given.Tables.declared.node.Node.TheVariants as node
-use Rattle.papaya_follows.specs.Given.Tables.declared.setting.Setting.{Setting}
-use Rattle.papaya_follows.specs.Given.Tables.declared.table.Table.{Table}
-use Rattle.papaya_follows.specs.Given.Tables.declared.status.TheConstants.Status.{PROMOTED}
-use Rattle.papaya_follows.specs.Given.Resize.NewMap as new_map
-use Rattle.papaya_follows.specs.Given.Resize.NewTable as new_table
-use Rattle.papaya_follows.specs.Given.Resize.Sum as sums
-use Rattle.papaya_follows.specs.Given.Resize.declared.new_map.NewMap.{NewMap}
-use Rattle.papaya_follows.specs.Given.Resize.declared.new_map.Opening.{Opening}
-use Rattle.papaya_follows.specs.Given.Resize.declared.new_map.Opening.TheVariants as at
-use Rattle.papaya_follows.specs.Given.Resize.declared.new_table.Making.{Making}
-use Rattle.papaya_follows.specs.Given.Resize.declared.new_table.Making.TheVariants as makes
-use Rattle.papaya_follows.specs.Given.Resize.declared.new_table.NewTable.{NewTable}
-use Rattle.papaya_follows.specs.Given.Resize.declared.sum.Sum.{Sum}
-use Rattle.papaya_follows.specs.Given.Resize.declared.sum.Summing.{Summing}
-use Rattle.papaya_follows.specs.Given.Resize.declared.sum.Summing.TheVariants as summing
-use Rattle.papaya_follows.specs.Given.Tells.Seen.{word_or, seen_of}
-use Rattle.papaya_follows.specs.Given.Teller.Tells.{told_of, StepsTold}
-use Rattle.papaya_follows.specs.Given.Teller.declared.changed.Changed.{Changed}
-use Rattle.papaya_follows.specs.Given.Teller.declared.changed.Changed.TheVariants as changed
-use Rattle.papaya_follows.specs.Given.Teller.declared.changed.Kind.TheVariants as kind
-use Rattle.papaya_follows.specs.Given.Rule.Rule.{no_table}
-use Rattle.papaya_follows.proofs.Given.Rule.Words.TablesSeen.{block_of_link}
-use Rattle.papaya_follows.specs.Given.Points.FactsTables.{IsOwnTable, IsPlanned, MakingFacts}
-use Rattle.papaya_follows.specs.Given.Callers.Together.{no_blocks}
+use Rattle.papaya_follows.specs.Given.SeizeWordsDeclared.at.At.{At}
+use Rattle.papaya_follows.specs.Given.SeizeWordsDeclared.at.At.TheVariants.{Root, Used, Word}
+use Rattle.papaya_follows.specs.Given.SeizeWordsDeclared.fault.Fault.{Fault}
+use Rattle.papaya_follows.specs.Given.SeizeWordsDeclared.fault.Fault.TheVariants.{RootsUsedUp}
+use Rattle.papaya_follows.specs.Given.SeizeWordsMem.{Mem, value_in, value_at, word_at, fresh, block_of, Can, Took}
+use Rattle.papaya_follows.specs.Given.SeizeWordsOp.{Op, Out, Load, Store, Swap, Add, Or, Exchange, Make, Take, Rewrite, Room, Exchanged, Made}
+use Rattle.papaya_follows.specs.Given.SeizeWordsPlan.{Plan, Turn, Do, May, Ends, plan_as, then_as}
+use Rattle.papaya_follows.specs.Given.SeizeWordsWord.{block_in}
+use Rattle.papaya_follows.proofs.Given.SeizeWordsOneOwner.AfterWrites.{value_at-with_word, block_of-with_block, block_of-made}
+use Rattle.papaya_follows.proofs.Given.SeizeRuleWords.Named.{block_there}
+use Rattle.papaya_follows.specs.Given.SeizeWorld.{World, Making as MadeBy}
+use Rattle.papaya_follows.specs.Given.SeizeDeclared.progress.Progress.{Progress}
+use Rattle.papaya_follows.specs.Given.SeizeDeclared.progress.Progress.TheVariants as progress
+use Rattle.papaya_follows.specs.Given.TablesDeclared.node.Node.{Node}
+use Rattle.papaya_follows.specs.Given.TablesDeclared.node.Node.TheVariants as node
+use Rattle.papaya_follows.specs.Given.TablesDeclared.setting.Setting.{Setting}
+use Rattle.papaya_follows.specs.Given.TablesDeclared.table.Table.{Table}
+use Rattle.papaya_follows.specs.Given.TablesDeclared.status.TheConstants.Status.{PROMOTED}
+use Rattle.papaya_follows.specs.Given.ResizeNewMap as new_map
+use Rattle.papaya_follows.specs.Given.ResizeNewTable as new_table
+use Rattle.papaya_follows.specs.Given.ResizeSum as sums
+use Rattle.papaya_follows.specs.Given.ResizeDeclared.new_map.NewMap.{NewMap}
+use Rattle.papaya_follows.specs.Given.ResizeDeclared.new_map.Opening.{Opening}
+use Rattle.papaya_follows.specs.Given.ResizeDeclared.new_map.Opening.TheVariants as at
+use Rattle.papaya_follows.specs.Given.ResizeDeclared.new_table.Making.{Making}
+use Rattle.papaya_follows.specs.Given.ResizeDeclared.new_table.Making.TheVariants as makes
+use Rattle.papaya_follows.specs.Given.ResizeDeclared.new_table.NewTable.{NewTable}
+use Rattle.papaya_follows.specs.Given.ResizeDeclared.sum.Sum.{Sum}
+use Rattle.papaya_follows.specs.Given.ResizeDeclared.sum.Summing.{Summing}
+use Rattle.papaya_follows.specs.Given.ResizeDeclared.sum.Summing.TheVariants as summing
+use Rattle.papaya_follows.specs.Given.TellsSeen.{word_or, seen_of}
+use Rattle.papaya_follows.specs.Given.TellerTells.{told_of, StepsTold}
+use Rattle.papaya_follows.specs.Given.TellerDeclared.changed.Changed.{Changed}
+use Rattle.papaya_follows.specs.Given.TellerDeclared.changed.Changed.TheVariants as changed
+use Rattle.papaya_follows.specs.Given.TellerDeclared.changed.Kind.TheVariants as kind
+use Rattle.papaya_follows.specs.Given.RuleRule.{no_table}
+use Rattle.papaya_follows.proofs.Given.RuleWords.TablesSeen.{block_of_link}
+use Rattle.papaya_follows.specs.Given.PointsFactsTables.{IsOwnTable, IsPlanned, MakingFacts}
+use Rattle.papaya_follows.specs.Given.CallersTogether.{no_blocks}
 use Rattle.papaya_others.proofs.Outcomes.{told_in}
-use Rattle.papaya_follows.specs.Given.Finishes.Makings.{OpeningFacts, HasTaken, HasMade}
+use Rattle.papaya_follows.specs.Given.FinishesMakings.{OpeningFacts, HasTaken, HasMade}
 
 -- what it leaves of values: all but that of a block that it makes, or takes away
 abbrev pub KeepsValues : {T : Type 0} → Mem T → Mem T → Changed → Type 0

@@ -1,12 +1,12 @@
 -- A map that stands as a new one, without a pair, and with one table at most, is shown.
 use Rattle.std.specs.Prelude.{◌≡◌, ℕ, ◌==◌, [], ◌∷◌, find}
 use Rattle.std.proofs.Common.{refl, ap, sym, subst, ◌∙◌, arith}
-use Rattle.papaya_follows.specs.Given.Tables.declared.setting.Setting.{Setting}
-use Rattle.papaya_follows.specs.Given.Schedules.Moment.{Place, Stage, IsLinked, Moment}
-use Rattle.papaya_follows.specs.Given.Schedules.Views.{tables_of}
-use Rattle.papaya_follows.specs.Given.Finishes.Maps.{Standing}
-use Rattle.papaya_follows.specs.Given.Effects.Known.{Known}
-use Rattle.papaya_follows.specs.Given.Effects.declared.role.Role.TheVariants as role
+use Rattle.papaya_follows.specs.Given.TablesDeclared.setting.Setting.{Setting}
+use Rattle.papaya_follows.specs.Given.SchedulesMoment.{Place, Stage, IsLinked, Moment}
+use Rattle.papaya_follows.specs.Given.SchedulesViews.{tables_of}
+use Rattle.papaya_follows.specs.Given.FinishesMaps.{Standing}
+use Rattle.papaya_follows.specs.Given.EffectsKnown.{Known}
+use Rattle.papaya_follows.specs.Given.EffectsDeclared.role.Role.TheVariants as role
 use Rattle.papaya_follows.specs.Maps.{table_of, shape_at, tables_to, ShowsTables, ShowsMap}
 use Rattle.papaya_others.specs.Makings.{IsNew}
 

@@ -1,34 +1,34 @@
 -- A counter goes on being noted while it is there, whoever acts.
 use Rattle.std.specs.Prelude.{◌≡◌, ◌≢◌, ℕ, ◌==◌, Bool, true, false, Some, if◌then◌else◌}
 use Rattle.std.proofs.Common.{refl, ap, sym, subst, ◌∙◌}
-use Rattle.papaya_follows.specs.Given.SeizeWords.declared.at.At.{At}
-use Rattle.papaya_follows.specs.Given.SeizeWords.declared.at.At.TheVariants.{Root, Used, Slot, Entry, Word}
-use Rattle.papaya_follows.specs.Given.SeizeWords.Mem.{Mem, value_at}
-use Rattle.papaya_follows.specs.Given.SeizeWords.Word.{block_in}
-use Rattle.papaya_follows.specs.Given.Seize.World.{World}
-use Rattle.papaya_follows.specs.Given.Tables.declared.node.Node.{Node}
-use Rattle.papaya_follows.specs.Given.Tables.declared.node.Node.TheVariants as node
-use Rattle.papaya_follows.specs.Given.Tables.declared.table_words.TheConstants.{NEXT}
-use Rattle.papaya_follows.specs.Given.Resize.declared.new_map.NewMap.{NewMap}
-use Rattle.papaya_follows.specs.Given.Resize.declared.new_map.Opening.{Opening}
-use Rattle.papaya_follows.specs.Given.Resize.declared.new_map.Opening.TheVariants as opening
-use Rattle.papaya_follows.specs.Given.Schedules.Lists.{put}
-use Rattle.papaya_follows.specs.Given.Schedules.Moment.{Moment}
-use Rattle.papaya_follows.specs.Given.Teller.declared.changed.Changed.{Changed}
-use Rattle.papaya_follows.specs.Given.Teller.declared.changed.Changed.TheVariants as changed
-use Rattle.papaya_follows.specs.Given.Finishes.Makings.{Beginning, OpeningFacts, HasMade}
-use Rattle.papaya_follows.specs.Given.Effects.Effects.{names_same, is_place, named, linked_on, stored_on, in_block_on, in_table_on, written_on, known_after}
-use Rattle.papaya_follows.specs.Given.Effects.Known.{Known}
-use Rattle.papaya_follows.specs.Given.Effects.declared.acting.Acting.{Acting}
-use Rattle.papaya_follows.specs.Given.Effects.declared.role.Role.{Role}
-use Rattle.papaya_follows.specs.Given.Effects.declared.role.Role.TheVariants as role
+use Rattle.papaya_follows.specs.Given.SeizeWordsDeclared.at.At.{At}
+use Rattle.papaya_follows.specs.Given.SeizeWordsDeclared.at.At.TheVariants.{Root, Used, Slot, Entry, Word}
+use Rattle.papaya_follows.specs.Given.SeizeWordsMem.{Mem, value_at}
+use Rattle.papaya_follows.specs.Given.SeizeWordsWord.{block_in}
+use Rattle.papaya_follows.specs.Given.SeizeWorld.{World}
+use Rattle.papaya_follows.specs.Given.TablesDeclared.node.Node.{Node}
+use Rattle.papaya_follows.specs.Given.TablesDeclared.node.Node.TheVariants as node
+use Rattle.papaya_follows.specs.Given.TablesDeclared.table_words.TheConstants.{NEXT}
+use Rattle.papaya_follows.specs.Given.ResizeDeclared.new_map.NewMap.{NewMap}
+use Rattle.papaya_follows.specs.Given.ResizeDeclared.new_map.Opening.{Opening}
+use Rattle.papaya_follows.specs.Given.ResizeDeclared.new_map.Opening.TheVariants as opening
+use Rattle.papaya_follows.specs.Given.SchedulesLists.{put}
+use Rattle.papaya_follows.specs.Given.SchedulesMoment.{Moment}
+use Rattle.papaya_follows.specs.Given.TellerDeclared.changed.Changed.{Changed}
+use Rattle.papaya_follows.specs.Given.TellerDeclared.changed.Changed.TheVariants as changed
+use Rattle.papaya_follows.specs.Given.FinishesMakings.{Beginning, OpeningFacts, HasMade}
+use Rattle.papaya_follows.specs.Given.EffectsEffects.{names_same, is_place, named, linked_on, stored_on, in_block_on, in_table_on, written_on, known_after}
+use Rattle.papaya_follows.specs.Given.EffectsKnown.{Known}
+use Rattle.papaya_follows.specs.Given.EffectsDeclared.acting.Acting.{Acting}
+use Rattle.papaya_follows.specs.Given.EffectsDeclared.role.Role.{Role}
+use Rattle.papaya_follows.specs.Given.EffectsDeclared.role.Role.TheVariants as role
 use Rattle.papaya_follows.specs.Blocks.{HasRole, ShowsBlocks}
 use Rattle.papaya_follows.proofs.Alike.{put_elsewhere}
 use Rattle.papaya_follows.proofs.Operations.{LeavesBy, Operated, operated_leaves}
 use Rattle.papaya_follows.proofs.Told.{roomed_as_many}
 use Rattle.papaya_others.specs.Counters.{NotesCounters}
-use Rattle.papaya_follows.specs.Given.Scenes.Held.{Held, IsAt}
-use Rattle.papaya_follows.specs.Given.Scenes.Scene.{Scene}
+use Rattle.papaya_follows.specs.Given.ScenesHeld.{Held, IsAt}
+use Rattle.papaya_follows.specs.Given.ScenesScene.{Scene}
 
 module _ {K V : Type 0} (m : Moment K V) (known : Known) (w w2 : World (Node K V)) (shown : ShowsBlocks m known w) (its : Acting) (c map : ℕ) (noted : known.roles c ≡ role.Counter map)
     (there : value_at w2.memory c ≡ Some node.Shards) where

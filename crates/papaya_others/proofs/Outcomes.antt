@@ -1,12 +1,12 @@
 -- The step of a plan whose outcome is turned into another one is a step of that plan.
 use Rattle.std.specs.Prelude.{◌≡◌}
 use Rattle.std.proofs.Common.{refl}
-use Rattle.papaya_follows.specs.Given.SeizeWords.Mem.{Mem, value_at}
-use Rattle.papaya_follows.specs.Given.SeizeWords.Plan.{Plan, Turn, Do, Then, Now, Seeing, Sure, Ends, plan_as, then_as}
-use Rattle.papaya_follows.specs.Given.Tables.declared.node.Node.{Node}
-use Rattle.papaya_follows.specs.Given.Teller.Tells.{StepsTold}
-use Rattle.papaya_follows.specs.Given.Teller.declared.changed.Changed.{Changed}
-use Rattle.papaya_follows.specs.Given.Teller.declared.changed.Changed.TheVariants as changed
+use Rattle.papaya_follows.specs.Given.SeizeWordsMem.{Mem, value_at}
+use Rattle.papaya_follows.specs.Given.SeizeWordsPlan.{Plan, Turn, Do, Then, Now, Seeing, Sure, Ends, plan_as, then_as}
+use Rattle.papaya_follows.specs.Given.TablesDeclared.node.Node.{Node}
+use Rattle.papaya_follows.specs.Given.TellerTells.{StepsTold}
+use Rattle.papaya_follows.specs.Given.TellerDeclared.changed.Changed.{Changed}
+use Rattle.papaya_follows.specs.Given.TellerDeclared.changed.Changed.TheVariants as changed
 
 module _ {K V : Type 0} (m m2 : Mem (Node K V)) (told : Changed) where
   outcome_in : {A B : Type 0} (f : A → B) (rest : Then (Node K V) A) (end : B) → Ends (value_at m2) (then_as f rest) end → (r : A) × (end ≡ f r) × Ends (value_at m2) rest r

@@ -2,15 +2,15 @@
 use Rattle.std.specs.Prelude.{◌≡◌, ℕ, zero, suc, ◌<◌, ◌≤◌, ◌==◌, Bool, true, false, List, [], ◌∷◌, ◌++◌, length, filter, find, map, if◌then◌else◌, ◌⊎◌}
 use Rattle.std.proofs.Common.{refl, ap, sym, ◌∙◌, arith, inl, inr}
 use Rattle.std.proofs.lemmas.Bool.{eq-eqb, cases_eq}
-use Rattle.papaya_follows.specs.Given.Schedules.declared.effect.Table.{Table}
-use Rattle.papaya_follows.specs.Given.Schedules.Effects.{all_at, at_stage}
-use Rattle.papaya_follows.specs.Given.Schedules.Lists.{put, is_among}
-use Rattle.papaya_follows.specs.Given.Schedules.Moment.{Place, InMap, Stage, TableThere, Moment}
-use Rattle.papaya_follows.specs.Given.Schedules.Things.{same_table}
-use Rattle.papaya_follows.specs.Given.Schedules.Views.{is_in_map, is_in_a_map, behind}
-use Rattle.papaya_follows.specs.Given.Rule.Chart.{Chart}
-use Rattle.papaya_follows.specs.Given.Finishes.Maps.{Standing}
-use Rattle.papaya_follows.specs.Given.Effects.Known.{Known}
+use Rattle.papaya_follows.specs.Given.SchedulesDeclared.effect.Table.{Table}
+use Rattle.papaya_follows.specs.Given.SchedulesEffects.{all_at, at_stage}
+use Rattle.papaya_follows.specs.Given.SchedulesLists.{put, is_among}
+use Rattle.papaya_follows.specs.Given.SchedulesMoment.{Place, InMap, Stage, TableThere, Moment}
+use Rattle.papaya_follows.specs.Given.SchedulesThings.{same_table}
+use Rattle.papaya_follows.specs.Given.SchedulesViews.{is_in_map, is_in_a_map, behind}
+use Rattle.papaya_follows.specs.Given.RuleChart.{Chart}
+use Rattle.papaya_follows.specs.Given.FinishesMaps.{Standing}
+use Rattle.papaya_follows.specs.Given.EffectsKnown.{Known}
 use Rattle.papaya_follows.specs.Maps.{table_of, shape_at, tables_to, ShowsMap}
 use Rattle.papaya_follows.proofs.Alike.{AlikePairs, put_here, put_elsewhere}
 use Rattle.papaya_follows.proofs.Onward.{blocks_same, pairs_same, pairs_on}

@@ -1,12 +1,12 @@
 -- Effects that are of no call: they change no call and store no pair, and those that move nothing leave the pairs and the tables as they were.
 use Rattle.std.specs.Prelude.{◌≡◌, ℕ, Bool, true, List, [], ◌∷◌, find, Option, Some, None}
 use Rattle.std.proofs.Common.{refl, ap, ◌∙◌}
-use Rattle.papaya_follows.specs.Given.Runs.Same.{is_same}
-use Rattle.papaya_follows.specs.Given.Schedules.declared.effect.Effect.{Effect}
-use Rattle.papaya_follows.specs.Given.Schedules.declared.effect.Effect.TheVariants.{Asked, PairMade, PairGivenUp, TableMade, TableGivenUp, Copied, Counted}
-use Rattle.papaya_follows.specs.Given.Schedules.Effects.{with_effect, with_effects}
-use Rattle.papaya_follows.specs.Given.Schedules.Moment.{UnderWay as CallThere, Moment}
-use Rattle.papaya_follows.specs.Given.Callers.Together.{UnderWay}
+use Rattle.papaya_follows.specs.Given.RunsSame.{is_same}
+use Rattle.papaya_follows.specs.Given.SchedulesDeclared.effect.Effect.{Effect}
+use Rattle.papaya_follows.specs.Given.SchedulesDeclared.effect.Effect.TheVariants.{Asked, PairMade, PairGivenUp, TableMade, TableGivenUp, Copied, Counted}
+use Rattle.papaya_follows.specs.Given.SchedulesEffects.{with_effect, with_effects}
+use Rattle.papaya_follows.specs.Given.SchedulesMoment.{UnderWay as CallThere, Moment}
+use Rattle.papaya_follows.specs.Given.CallersTogether.{UnderWay}
 use Rattle.papaya_follows.specs.Calls.{ShowsCalls}
 use Rattle.papaya_follows.proofs.Alike.{is_still, AllStill, AreSame, still_all}
 

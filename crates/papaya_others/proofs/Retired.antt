@@ -3,13 +3,13 @@ use Rattle.std.specs.Prelude.{◌≡◌, ℕ, zero, suc, ◌<◌, ◌≤◌, ◌
 use Rattle.std.specs.List.{list_any}
 use Rattle.std.proofs.Common.{refl, ap, sym, ◌∙◌, arith, inl, inr}
 use Rattle.std.proofs.lemmas.Bool.{eq-eqb}
-use Rattle.papaya_follows.specs.Given.Schedules.declared.effect.Table.{Table}
-use Rattle.papaya_follows.specs.Given.Schedules.Moment.{Stage, IsLinked, TableThere, Moment}
-use Rattle.papaya_follows.specs.Given.Schedules.Things.{same_table}
-use Rattle.papaya_follows.specs.Given.Schedules.Views.{is_retired, is_stage}
-use Rattle.papaya_follows.specs.Given.Rule.Chart.{Chart}
-use Rattle.papaya_follows.specs.Given.Finishes.Maps.{Standing}
-use Rattle.papaya_follows.specs.Given.Effects.Known.{Known}
+use Rattle.papaya_follows.specs.Given.SchedulesDeclared.effect.Table.{Table}
+use Rattle.papaya_follows.specs.Given.SchedulesMoment.{Stage, IsLinked, TableThere, Moment}
+use Rattle.papaya_follows.specs.Given.SchedulesThings.{same_table}
+use Rattle.papaya_follows.specs.Given.SchedulesViews.{is_retired, is_stage}
+use Rattle.papaya_follows.specs.Given.RuleChart.{Chart}
+use Rattle.papaya_follows.specs.Given.FinishesMaps.{Standing}
+use Rattle.papaya_follows.specs.Given.EffectsKnown.{Known}
 use Rattle.papaya_follows.specs.Maps.{table_of, shape_at, tables_to, ShowsMap}
 use Rattle.papaya_others.proofs.Leads.{same_parts}
 

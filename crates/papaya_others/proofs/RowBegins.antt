@@ -1,18 +1,18 @@
 -- A row begins on a slot: nothing is shown otherwise.
 use Rattle.std.specs.Prelude.{◌≡◌, ℕ, Bool}
 use Rattle.std.proofs.Common.{refl, ap, sym, subst}
-use Rattle.papaya_follows.specs.Given.SeizeWords.Mem.{Mem, value_at}
-use Rattle.papaya_follows.specs.Given.Seize.World.{World, Hand, Begins, Begin}
-use Rattle.papaya_follows.specs.Given.Tables.Nodes.{deferred_word}
-use Rattle.papaya_follows.specs.Given.Tables.declared.node.Node.{Node}
+use Rattle.papaya_follows.specs.Given.SeizeWordsMem.{Mem, value_at}
+use Rattle.papaya_follows.specs.Given.SeizeWorld.{World, Hand, Begins, Begin}
+use Rattle.papaya_follows.specs.Given.TablesNodes.{deferred_word}
+use Rattle.papaya_follows.specs.Given.TablesDeclared.node.Node.{Node}
 use Rattle.papaya_follows.specs.Blocks.{WasLinked}
-use Rattle.papaya_follows.specs.Given.Scenes.declared.row.SlotCall.{SlotCall}
-use Rattle.papaya_follows.specs.Given.Scenes.declared.row.SlotCall.TheVariants as call
+use Rattle.papaya_follows.specs.Given.ScenesDeclared.row.SlotCall.{SlotCall}
+use Rattle.papaya_follows.specs.Given.ScenesDeclared.row.SlotCall.TheVariants as call
 use Rattle.papaya_others.specs.Rows.{scene_then, RowsBeginShown}
 use Rattle.papaya_others.proofs.Scenes.{all_stay}
 use Rattle.papaya_others.proofs.Stays.{StaysBlock}
-use Rattle.papaya_follows.specs.Given.Scenes.Rows.{request_of}
-use Rattle.papaya_follows.specs.Given.Scenes.Scene.{slot_of}
+use Rattle.papaya_follows.specs.Given.ScenesRows.{request_of}
+use Rattle.papaya_follows.specs.Given.ScenesScene.{slot_of}
 
 module _ {K V : Type 0} (size slot i : ℕ) (w w2 : World (Node K V)) where
   -- the memory is the same, and so is who has each block

@@ -1,47 +1,47 @@
 -- A row on a slot hands out the value of the block that it has taken away.
 use Rattle.std.specs.Prelude.{◌≡◌, ℕ, nat_lt, Bool, true, false, List, [], Option, Some, Ok, Err, if◌then◌else◌}
 use Rattle.std.proofs.Common.{refl, ap, sym, subst}
-use Rattle.papaya_follows.specs.Given.SeizeWords.Mem.{Mem, Took, value_at}
-use Rattle.papaya_follows.specs.Given.SeizeWords.Op.{Op, Out, Load, Store, Swap, Add, Or, Exchange, Make, Take, Rewrite, Room, Found, Exchanged, Made, Taken, Roomed}
-use Rattle.papaya_follows.specs.Given.SeizeWords.Plan.{Plan, Turn, Do, Now, Ends}
-use Rattle.papaya_follows.specs.Given.SeizeWords.Word.{block_in}
-use Rattle.papaya_follows.specs.Given.Seize.Enter.{enter_plan, unregister_plan}
-use Rattle.papaya_follows.specs.Given.Seize.Law.{Effect}
-use Rattle.papaya_follows.specs.Given.Seize.Leave as leave
-use Rattle.papaya_follows.specs.Given.Seize.Register as register
-use Rattle.papaya_follows.specs.Given.Seize.Sequence.{taken_in}
-use Rattle.papaya_follows.specs.Given.Seize.Settle as settle
-use Rattle.papaya_follows.specs.Given.Seize.World.{settle_effects}
-use Rattle.papaya_follows.specs.Given.Seize.declared.progress.Progress.{Progress}
-use Rattle.papaya_follows.specs.Given.Seize.declared.progress.Progress.TheVariants as progress
-use Rattle.papaya_follows.specs.Given.Seize.declared.rows.leave.Leave.{Leave}
-use Rattle.papaya_follows.specs.Given.Seize.declared.rows.leave.Leaving.{Leaving}
-use Rattle.papaya_follows.specs.Given.Seize.declared.rows.leave.Leaving.TheVariants as leaving
-use Rattle.papaya_follows.specs.Given.Seize.declared.rows.register.Register.{Register}
-use Rattle.papaya_follows.specs.Given.Seize.declared.rows.register.Registering.{Registering}
-use Rattle.papaya_follows.specs.Given.Seize.declared.rows.register.Registering.TheVariants as registering
-use Rattle.papaya_follows.specs.Given.Seize.declared.rows.settle.Settle.{Settle}
-use Rattle.papaya_follows.specs.Given.Seize.declared.rows.settle.Settled.{Settled}
-use Rattle.papaya_follows.specs.Given.Seize.declared.rows.settle.Settled.TheVariants as settled
-use Rattle.papaya_follows.specs.Given.Seize.declared.rows.settle.Settling.{Settling}
-use Rattle.papaya_follows.specs.Given.Seize.declared.rows.settle.Settling.TheVariants as settling
-use Rattle.papaya_follows.specs.Given.Seize.declared.states.TheConstants.{ACTIVE}
-use Rattle.papaya_follows.proofs.Given.SeizeRule.Rows.Taken.{TellsTaken, settle_tells}
-use Rattle.papaya_follows.specs.Given.Tables.Nodes.{deferred_word}
-use Rattle.papaya_follows.specs.Given.Tables.declared.node.Node.{Node}
-use Rattle.papaya_follows.specs.Given.Tells.Seen.{seen_of}
-use Rattle.papaya_follows.specs.Given.Teller.Tells.{told_of, StepsTold}
-use Rattle.papaya_follows.specs.Given.Teller.declared.changed.Changed.{Changed}
-use Rattle.papaya_follows.specs.Given.Teller.declared.changed.Changed.TheVariants as changed
-use Rattle.papaya_follows.specs.Given.Scenes.declared.row.RowTold.{RowTold}
-use Rattle.papaya_follows.specs.Given.Scenes.declared.row.SlotRow.{SlotRow}
-use Rattle.papaya_follows.specs.Given.Scenes.declared.row.SlotRow.TheVariants as rows
+use Rattle.papaya_follows.specs.Given.SeizeWordsMem.{Mem, Took, value_at}
+use Rattle.papaya_follows.specs.Given.SeizeWordsOp.{Op, Out, Load, Store, Swap, Add, Or, Exchange, Make, Take, Rewrite, Room, Found, Exchanged, Made, Taken, Roomed}
+use Rattle.papaya_follows.specs.Given.SeizeWordsPlan.{Plan, Turn, Do, Now, Ends}
+use Rattle.papaya_follows.specs.Given.SeizeWordsWord.{block_in}
+use Rattle.papaya_follows.specs.Given.SeizeEnter.{enter_plan, unregister_plan}
+use Rattle.papaya_follows.specs.Given.SeizeLaw.{Effect}
+use Rattle.papaya_follows.specs.Given.SeizeLeave as leave
+use Rattle.papaya_follows.specs.Given.SeizeRegister as register
+use Rattle.papaya_follows.specs.Given.SeizeSequence.{taken_in}
+use Rattle.papaya_follows.specs.Given.SeizeSettle as settle
+use Rattle.papaya_follows.specs.Given.SeizeWorld.{settle_effects}
+use Rattle.papaya_follows.specs.Given.SeizeDeclared.progress.Progress.{Progress}
+use Rattle.papaya_follows.specs.Given.SeizeDeclared.progress.Progress.TheVariants as progress
+use Rattle.papaya_follows.specs.Given.SeizeDeclared.rows.leave.Leave.{Leave}
+use Rattle.papaya_follows.specs.Given.SeizeDeclared.rows.leave.Leaving.{Leaving}
+use Rattle.papaya_follows.specs.Given.SeizeDeclared.rows.leave.Leaving.TheVariants as leaving
+use Rattle.papaya_follows.specs.Given.SeizeDeclared.rows.register.Register.{Register}
+use Rattle.papaya_follows.specs.Given.SeizeDeclared.rows.register.Registering.{Registering}
+use Rattle.papaya_follows.specs.Given.SeizeDeclared.rows.register.Registering.TheVariants as registering
+use Rattle.papaya_follows.specs.Given.SeizeDeclared.rows.settle.Settle.{Settle}
+use Rattle.papaya_follows.specs.Given.SeizeDeclared.rows.settle.Settled.{Settled}
+use Rattle.papaya_follows.specs.Given.SeizeDeclared.rows.settle.Settled.TheVariants as settled
+use Rattle.papaya_follows.specs.Given.SeizeDeclared.rows.settle.Settling.{Settling}
+use Rattle.papaya_follows.specs.Given.SeizeDeclared.rows.settle.Settling.TheVariants as settling
+use Rattle.papaya_follows.specs.Given.SeizeDeclared.states.TheConstants.{ACTIVE}
+use Rattle.papaya_follows.proofs.Given.SeizeRuleRows.Taken.{TellsTaken, settle_tells}
+use Rattle.papaya_follows.specs.Given.TablesNodes.{deferred_word}
+use Rattle.papaya_follows.specs.Given.TablesDeclared.node.Node.{Node}
+use Rattle.papaya_follows.specs.Given.TellsSeen.{seen_of}
+use Rattle.papaya_follows.specs.Given.TellerTells.{told_of, StepsTold}
+use Rattle.papaya_follows.specs.Given.TellerDeclared.changed.Changed.{Changed}
+use Rattle.papaya_follows.specs.Given.TellerDeclared.changed.Changed.TheVariants as changed
+use Rattle.papaya_follows.specs.Given.ScenesDeclared.row.RowTold.{RowTold}
+use Rattle.papaya_follows.specs.Given.ScenesDeclared.row.SlotRow.{SlotRow}
+use Rattle.papaya_follows.specs.Given.ScenesDeclared.row.SlotRow.TheVariants as rows
 use Rattle.papaya_follows.specs.Steps.{TakesNone}
 use Rattle.papaya_others.specs.Gives.{GivesWhatItTook, RowsGiveWhatTheyTook}
 use Rattle.papaya_others.proofs.Outcomes.{told_in}
-use Rattle.papaya_follows.proofs.Given.Scenes.Told.{as_step}
-use Rattle.papaya_follows.specs.Given.Scenes.OnSlots.{RowSteps}
-use Rattle.papaya_follows.specs.Given.Scenes.Rows.{of_registering, of_settling, of_storing}
+use Rattle.papaya_follows.proofs.Given.ScenesTold.{as_step}
+use Rattle.papaya_follows.specs.Given.ScenesOnSlots.{RowSteps}
+use Rattle.papaya_follows.specs.Given.ScenesRows.{of_registering, of_settling, of_storing}
 
 module _ {T : Type 0} where
   -- the operation takes no block away

@@ -1,37 +1,37 @@
 -- What a row on a slot does by one operation: it writes words of slots and of entries, makes room for slots, or takes a block away.
 use Rattle.std.specs.Prelude.{ℕ, Option, Ok}
 use Rattle.std.proofs.Common.{sym, subst}
-use Rattle.papaya_follows.specs.Given.SeizeWords.declared.at.At.{At}
-use Rattle.papaya_follows.specs.Given.SeizeWords.declared.at.At.TheVariants.{Slot, Entry}
-use Rattle.papaya_follows.specs.Given.SeizeWords.Mem.{Mem}
-use Rattle.papaya_follows.specs.Given.SeizeWords.Op.{Op, Out, Load, Store, Swap, Add, Or, Exchange, Make, Take, Rewrite, Room, Found, Exchanged, Roomed}
-use Rattle.papaya_follows.specs.Given.SeizeWords.Plan.{Plan, Turn, Do, plan_as}
-use Rattle.papaya_follows.specs.Given.Seize.World.{MayStep}
-use Rattle.papaya_follows.specs.Given.Seize.declared.rows.leave.Leave.{Leave}
-use Rattle.papaya_follows.specs.Given.Seize.declared.rows.leave.Leaving.{Leaving}
-use Rattle.papaya_follows.specs.Given.Seize.declared.rows.leave.Leaving.TheVariants as leaving
-use Rattle.papaya_follows.specs.Given.Seize.declared.rows.register.Register.{Register}
-use Rattle.papaya_follows.specs.Given.Seize.declared.rows.register.Registering.{Registering}
-use Rattle.papaya_follows.specs.Given.Seize.declared.rows.register.Registering.TheVariants as registering
-use Rattle.papaya_follows.specs.Given.Seize.declared.rows.settle.Settle.{Settle}
-use Rattle.papaya_follows.specs.Given.Seize.declared.rows.settle.Settling.{Settling}
-use Rattle.papaya_follows.specs.Given.Seize.declared.rows.settle.Settling.TheVariants as settling
-use Rattle.papaya_follows.specs.Given.Seize.Enter.{enter_plan, unregister_plan}
-use Rattle.papaya_follows.specs.Given.Seize.Leave as leave
-use Rattle.papaya_follows.specs.Given.Seize.Register as register
-use Rattle.papaya_follows.specs.Given.Seize.Settle as settle
-use Rattle.papaya_follows.specs.Given.Tables.Nodes.{deferred_word}
-use Rattle.papaya_follows.specs.Given.Tables.declared.node.Node.{Node}
-use Rattle.papaya_follows.specs.Given.Tells.Seen.{seen_of}
-use Rattle.papaya_follows.specs.Given.Teller.Tells.{told_of, StepsTold}
-use Rattle.papaya_follows.specs.Given.Teller.declared.changed.Changed.{Changed}
-use Rattle.papaya_follows.specs.Given.Teller.declared.changed.Changed.TheVariants as changed
-use Rattle.papaya_follows.specs.Given.Scenes.declared.row.RowTold.{RowTold}
-use Rattle.papaya_follows.specs.Given.Scenes.declared.row.SlotRow.{SlotRow}
-use Rattle.papaya_follows.specs.Given.Scenes.declared.row.SlotRow.TheVariants as rows
+use Rattle.papaya_follows.specs.Given.SeizeWordsDeclared.at.At.{At}
+use Rattle.papaya_follows.specs.Given.SeizeWordsDeclared.at.At.TheVariants.{Slot, Entry}
+use Rattle.papaya_follows.specs.Given.SeizeWordsMem.{Mem}
+use Rattle.papaya_follows.specs.Given.SeizeWordsOp.{Op, Out, Load, Store, Swap, Add, Or, Exchange, Make, Take, Rewrite, Room, Found, Exchanged, Roomed}
+use Rattle.papaya_follows.specs.Given.SeizeWordsPlan.{Plan, Turn, Do, plan_as}
+use Rattle.papaya_follows.specs.Given.SeizeWorld.{MayStep}
+use Rattle.papaya_follows.specs.Given.SeizeDeclared.rows.leave.Leave.{Leave}
+use Rattle.papaya_follows.specs.Given.SeizeDeclared.rows.leave.Leaving.{Leaving}
+use Rattle.papaya_follows.specs.Given.SeizeDeclared.rows.leave.Leaving.TheVariants as leaving
+use Rattle.papaya_follows.specs.Given.SeizeDeclared.rows.register.Register.{Register}
+use Rattle.papaya_follows.specs.Given.SeizeDeclared.rows.register.Registering.{Registering}
+use Rattle.papaya_follows.specs.Given.SeizeDeclared.rows.register.Registering.TheVariants as registering
+use Rattle.papaya_follows.specs.Given.SeizeDeclared.rows.settle.Settle.{Settle}
+use Rattle.papaya_follows.specs.Given.SeizeDeclared.rows.settle.Settling.{Settling}
+use Rattle.papaya_follows.specs.Given.SeizeDeclared.rows.settle.Settling.TheVariants as settling
+use Rattle.papaya_follows.specs.Given.SeizeEnter.{enter_plan, unregister_plan}
+use Rattle.papaya_follows.specs.Given.SeizeLeave as leave
+use Rattle.papaya_follows.specs.Given.SeizeRegister as register
+use Rattle.papaya_follows.specs.Given.SeizeSettle as settle
+use Rattle.papaya_follows.specs.Given.TablesNodes.{deferred_word}
+use Rattle.papaya_follows.specs.Given.TablesDeclared.node.Node.{Node}
+use Rattle.papaya_follows.specs.Given.TellsSeen.{seen_of}
+use Rattle.papaya_follows.specs.Given.TellerTells.{told_of, StepsTold}
+use Rattle.papaya_follows.specs.Given.TellerDeclared.changed.Changed.{Changed}
+use Rattle.papaya_follows.specs.Given.TellerDeclared.changed.Changed.TheVariants as changed
+use Rattle.papaya_follows.specs.Given.ScenesDeclared.row.RowTold.{RowTold}
+use Rattle.papaya_follows.specs.Given.ScenesDeclared.row.SlotRow.{SlotRow}
+use Rattle.papaya_follows.specs.Given.ScenesDeclared.row.SlotRow.TheVariants as rows
 use Rattle.papaya_follows.proofs.Operations.{Operated, operated}
-use Rattle.papaya_follows.specs.Given.Scenes.OnSlots.{RowSteps}
-use Rattle.papaya_follows.specs.Given.Scenes.Scene.{row_of}
+use Rattle.papaya_follows.specs.Given.ScenesOnSlots.{RowSteps}
+use Rattle.papaya_follows.specs.Given.ScenesScene.{row_of}
 
 -- a word of the collector's own
 abbrev pub IsOfSlots : At → Type 0

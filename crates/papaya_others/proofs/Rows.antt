@@ -1,34 +1,34 @@
 -- A step of a row on a slot: the moment after its effects shows the scene after it, also where it reclaims a pair or a table.
 use Rattle.std.specs.Prelude.{◌&&◌, ◌≡◌, ◌≢◌, ℕ, zero, suc, nat_lt, Bool, List, [], ◌∷◌, Option, Some, None}
 use Rattle.std.proofs.Common.{refl, ap, sym, subst, ◌∙◌, arith}
-use Rattle.papaya_follows.specs.Given.SeizeWords.declared.at.At.TheVariants.{Root, Used, Slot, Entry, Word}
-use Rattle.papaya_follows.specs.Given.SeizeWords.Mem.{Mem, value_at}
-use Rattle.papaya_follows.specs.Given.Seize.Sequence.{taken_in}
-use Rattle.papaya_follows.specs.Given.Seize.World.{World, Hand, Step, Steps', times}
-use Rattle.papaya_follows.proofs.Given.Scenes.May.{may_row}
-use Rattle.papaya_follows.proofs.Given.SeizeRule.Rows.Effects.{hand_kept}
-use Rattle.papaya_follows.proofs.Given.SeizeAlone.Spared.Rows.{RowStepped}
-use Rattle.papaya_follows.proofs.Given.SeizeAlone.Histories.NotTaken.{did, taken_gone}
-use Rattle.papaya_follows.proofs.Given.SeizeAlone.Histories.Reached.{Reached}
-use Rattle.papaya_follows.specs.Given.Tables.Nodes.{deferred_word}
-use Rattle.papaya_follows.specs.Given.Tables.declared.node.Node.{Node}
-use Rattle.papaya_follows.specs.Given.Schedules.declared.effect.Effect.{Effect}
-use Rattle.papaya_follows.specs.Given.Schedules.declared.effect.Effect.TheVariants.{PairGivenUp, TableGivenUp, Reclaimed}
-use Rattle.papaya_follows.specs.Given.Schedules.declared.effect.Thing.TheVariants.{APair, ATable}
-use Rattle.papaya_follows.specs.Given.Schedules.Effects.{with_effects, AtEachEffect}
-use Rattle.papaya_follows.specs.Given.Schedules.Moment.{Handed, IsReclaimed, Moment}
-use Rattle.papaya_follows.specs.Given.Teller.declared.changed.Changed.{Changed}
-use Rattle.papaya_follows.specs.Given.Teller.declared.changed.Changed.TheVariants as changed
-use Rattle.papaya_follows.specs.Given.Rule.InWorld.{IsMapIn}
-use Rattle.papaya_follows.proofs.Given.Callers.Together.Came.{came_reached}
-use Rattle.papaya_follows.specs.Given.Finishes.Maps.{Standing, IsSameMap}
-use Rattle.papaya_follows.specs.Given.Effects.Effects.{names_same, taken_by, effects_of, known_after}
-use Rattle.papaya_follows.specs.Given.Effects.Known.{Known, with_role}
-use Rattle.papaya_follows.specs.Given.Effects.declared.acting.Acting.TheVariants.{Row}
-use Rattle.papaya_follows.specs.Given.Effects.declared.role.Role.{Role}
-use Rattle.papaya_follows.specs.Given.Effects.declared.role.Role.TheVariants as role
-use Rattle.papaya_follows.specs.Given.Scenes.declared.row.RowTold.{RowTold}
-use Rattle.papaya_follows.specs.Given.Scenes.declared.row.SlotRow.{SlotRow}
+use Rattle.papaya_follows.specs.Given.SeizeWordsDeclared.at.At.TheVariants.{Root, Used, Slot, Entry, Word}
+use Rattle.papaya_follows.specs.Given.SeizeWordsMem.{Mem, value_at}
+use Rattle.papaya_follows.specs.Given.SeizeSequence.{taken_in}
+use Rattle.papaya_follows.specs.Given.SeizeWorld.{World, Hand, Step, Steps', times}
+use Rattle.papaya_follows.proofs.Given.ScenesMay.{may_row}
+use Rattle.papaya_follows.proofs.Given.SeizeRuleRows.Effects.{hand_kept}
+use Rattle.papaya_follows.proofs.Given.SeizeAloneSpared.Rows.{RowStepped}
+use Rattle.papaya_follows.proofs.Given.SeizeAloneHistories.NotTaken.{did, taken_gone}
+use Rattle.papaya_follows.proofs.Given.SeizeAloneHistories.Reached.{Reached}
+use Rattle.papaya_follows.specs.Given.TablesNodes.{deferred_word}
+use Rattle.papaya_follows.specs.Given.TablesDeclared.node.Node.{Node}
+use Rattle.papaya_follows.specs.Given.SchedulesDeclared.effect.Effect.{Effect}
+use Rattle.papaya_follows.specs.Given.SchedulesDeclared.effect.Effect.TheVariants.{PairGivenUp, TableGivenUp, Reclaimed}
+use Rattle.papaya_follows.specs.Given.SchedulesDeclared.effect.Thing.TheVariants.{APair, ATable}
+use Rattle.papaya_follows.specs.Given.SchedulesEffects.{with_effects, AtEachEffect}
+use Rattle.papaya_follows.specs.Given.SchedulesMoment.{Handed, IsReclaimed, Moment}
+use Rattle.papaya_follows.specs.Given.TellerDeclared.changed.Changed.{Changed}
+use Rattle.papaya_follows.specs.Given.TellerDeclared.changed.Changed.TheVariants as changed
+use Rattle.papaya_follows.specs.Given.RuleInWorld.{IsMapIn}
+use Rattle.papaya_follows.proofs.Given.CallersTogether.Came.{came_reached}
+use Rattle.papaya_follows.specs.Given.FinishesMaps.{Standing, IsSameMap}
+use Rattle.papaya_follows.specs.Given.EffectsEffects.{names_same, taken_by, effects_of, known_after}
+use Rattle.papaya_follows.specs.Given.EffectsKnown.{Known, with_role}
+use Rattle.papaya_follows.specs.Given.EffectsDeclared.acting.Acting.TheVariants.{Row}
+use Rattle.papaya_follows.specs.Given.EffectsDeclared.role.Role.{Role}
+use Rattle.papaya_follows.specs.Given.EffectsDeclared.role.Role.TheVariants as role
+use Rattle.papaya_follows.specs.Given.ScenesDeclared.row.RowTold.{RowTold}
+use Rattle.papaya_follows.specs.Given.ScenesDeclared.row.SlotRow.{SlotRow}
 use Rattle.papaya_follows.specs.Blocks.{WasLinked}
 use Rattle.papaya_follows.specs.Calls.{ShowsCalls}
 use Rattle.papaya_follows.specs.Shows.{Shows}
@@ -43,9 +43,9 @@ use Rattle.papaya_others.proofs.RowPlans.{TellsRow, row_tells, row_operated}
 use Rattle.papaya_others.proofs.Retired.{retired_apart}
 use Rattle.papaya_others.proofs.Scenes.{pair_gone, table_gone}
 use Rattle.papaya_others.proofs.Stays.{StaysBlock, same_there}
-use Rattle.papaya_follows.specs.Given.Scenes.Held.{Held, IsAt}
-use Rattle.papaya_follows.specs.Given.Scenes.OnSlots.{HappensAt, RowSteps}
-use Rattle.papaya_follows.specs.Given.Scenes.Scene.{IsOnSlot, Scene}
+use Rattle.papaya_follows.specs.Given.ScenesHeld.{Held, IsAt}
+use Rattle.papaya_follows.specs.Given.ScenesOnSlots.{HappensAt, RowSteps}
+use Rattle.papaya_follows.specs.Given.ScenesScene.{IsOnSlot, Scene}
 
 -- a block that is there still, if it was, is as it was
 module _ {K V : Type 0} (size : ℕ) (w w2 : World (Node K V)) (r : Reached deferred_word size w) (i : ℕ) (step : Steps' deferred_word i (w.row i) w w2) where

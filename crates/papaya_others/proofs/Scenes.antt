@@ -1,23 +1,23 @@
 -- Scenes whose maps stand as they did, but for what may be looked at: what a moment shows of them where a block is another one.
 use Rattle.std.specs.Prelude.{◌≡◌, ◌≢◌, ℕ, ◌<◌, ◌≤◌, ◌==◌, Bool, true, false, List, filter, find, map, Option, Some, None}
 use Rattle.std.proofs.Common.{refl, ap, sym, subst, ◌∙◌}
-use Rattle.papaya_follows.specs.Given.SeizeWords.Mem.{value_at}
-use Rattle.papaya_follows.specs.Given.Seize.World.{World}
-use Rattle.papaya_follows.specs.Given.Tables.declared.node.Node.{Node}
-use Rattle.papaya_follows.specs.Given.Schedules.declared.effect.Table.{Table}
-use Rattle.papaya_follows.specs.Given.Schedules.Effects.{all_at, at_stage}
-use Rattle.papaya_follows.specs.Given.Schedules.Lists.{put}
-use Rattle.papaya_follows.specs.Given.Schedules.Moment.{Place, GivenBack, Stage, Moment}
-use Rattle.papaya_follows.specs.Given.Schedules.Things.{same_table}
-use Rattle.papaya_follows.specs.Given.Schedules.Views.{is_in_map, behind}
-use Rattle.papaya_follows.specs.Given.Rule.InWorld.{IsMapIn}
-use Rattle.papaya_follows.specs.Given.Rule.Words.{Blocks}
-use Rattle.papaya_follows.proofs.Given.Rule.World.Hands.{current_known}
-use Rattle.papaya_follows.specs.Given.Callers.Sights.{Sight, IsPartOf}
-use Rattle.papaya_follows.specs.Given.Finishes.Maps.{Standing, IsSameMap}
-use Rattle.papaya_follows.specs.Given.Effects.Known.{Known}
-use Rattle.papaya_follows.specs.Given.Effects.declared.role.Role.{Role}
-use Rattle.papaya_follows.specs.Given.Effects.declared.role.Role.TheVariants as role
+use Rattle.papaya_follows.specs.Given.SeizeWordsMem.{value_at}
+use Rattle.papaya_follows.specs.Given.SeizeWorld.{World}
+use Rattle.papaya_follows.specs.Given.TablesDeclared.node.Node.{Node}
+use Rattle.papaya_follows.specs.Given.SchedulesDeclared.effect.Table.{Table}
+use Rattle.papaya_follows.specs.Given.SchedulesEffects.{all_at, at_stage}
+use Rattle.papaya_follows.specs.Given.SchedulesLists.{put}
+use Rattle.papaya_follows.specs.Given.SchedulesMoment.{Place, GivenBack, Stage, Moment}
+use Rattle.papaya_follows.specs.Given.SchedulesThings.{same_table}
+use Rattle.papaya_follows.specs.Given.SchedulesViews.{is_in_map, behind}
+use Rattle.papaya_follows.specs.Given.RuleInWorld.{IsMapIn}
+use Rattle.papaya_follows.specs.Given.RuleWords.{Blocks}
+use Rattle.papaya_follows.proofs.Given.RuleWorld.Hands.{current_known}
+use Rattle.papaya_follows.specs.Given.CallersSights.{Sight, IsPartOf}
+use Rattle.papaya_follows.specs.Given.FinishesMaps.{Standing, IsSameMap}
+use Rattle.papaya_follows.specs.Given.EffectsKnown.{Known}
+use Rattle.papaya_follows.specs.Given.EffectsDeclared.role.Role.{Role}
+use Rattle.papaya_follows.specs.Given.EffectsDeclared.role.Role.TheVariants as role
 use Rattle.papaya_follows.specs.Blocks.{HasRole}
 use Rattle.papaya_follows.specs.Calls.{ShowsCalls}
 use Rattle.papaya_follows.specs.Maps.{table_of, ShowsMap}
@@ -29,7 +29,7 @@ use Rattle.papaya_others.specs.After.{ShowsAfter}
 use Rattle.papaya_others.specs.Gone.{WaitOutside}
 use Rattle.papaya_others.proofs.Outside.{in_map_of, pairs_outside, put_outside, all_outside, table_staged}
 use Rattle.papaya_others.proofs.Stays.{StaysBlock, blocks_stay, blocks_but}
-use Rattle.papaya_follows.specs.Given.Scenes.Scene.{Scene}
+use Rattle.papaya_follows.specs.Given.ScenesScene.{Scene}
 
 -- a block is there no more that no map has which stands
 module _ {K V : Type 0} (same : K → K → Bool) (n : ℕ) (number : ℕ → ℕ) (st : Standing K) (v : Moment K V) (known after : Known) (w2 : World (Node K V))

@@ -1,13 +1,13 @@
 -- What users do leaves a block that was linked as it was.
 use Rattle.std.specs.Prelude.{◌≡◌, ◌≢◌, ℕ, List, [], ◌∷◌, Option, None, Ok, Err, IsSome}
 use Rattle.std.proofs.Common.{refl, ap, sym, subst, ◌∙◌}
-use Rattle.papaya_follows.specs.Given.SeizeWords.Mem.{Mem, value_in, value_at, Took}
-use Rattle.papaya_follows.specs.Given.SeizeWords.Op.{Out, Make, Made}
-use Rattle.papaya_follows.proofs.Given.SeizeRule.World.Values.{own_op_value, taken_value, made_value, rewritten_value}
-use Rattle.papaya_follows.specs.Given.Seize.Sequence.{IsUsers}
-use Rattle.papaya_follows.specs.Given.Seize.World.{World, NoBlock, Making, InUse, Parting, Cutting, Event, Begin, Step, Makes, Drops, Links, Parts, Unlinks, Rewrites, Operates, Ends, LeavesOver, Relinks, Clears, Chooses, Happens, Runs, made_by}
-use Rattle.papaya_follows.specs.Given.Rule.InWorld.{AllUsers}
-use Rattle.papaya_follows.proofs.Given.Rule.World.Hands.{at_cases}
+use Rattle.papaya_follows.specs.Given.SeizeWordsMem.{Mem, value_in, value_at, Took}
+use Rattle.papaya_follows.specs.Given.SeizeWordsOp.{Out, Make, Made}
+use Rattle.papaya_follows.proofs.Given.SeizeRuleWorld.Values.{own_op_value, taken_value, made_value, rewritten_value}
+use Rattle.papaya_follows.specs.Given.SeizeSequence.{IsUsers}
+use Rattle.papaya_follows.specs.Given.SeizeWorld.{World, NoBlock, Making, InUse, Parting, Cutting, Event, Begin, Step, Makes, Drops, Links, Parts, Unlinks, Rewrites, Operates, Ends, LeavesOver, Relinks, Clears, Chooses, Happens, Runs, made_by}
+use Rattle.papaya_follows.specs.Given.RuleInWorld.{AllUsers}
+use Rattle.papaya_follows.proofs.Given.RuleWorld.Hands.{at_cases}
 use Rattle.papaya_follows.specs.Blocks.{WasLinked}
 
 module _ {T : Type 0} (defers : T → Option ℕ) (b : ℕ) where

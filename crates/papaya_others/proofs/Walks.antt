@@ -1,14 +1,14 @@
 -- A walk goes on, or is given up: nothing else has changed.
 use Rattle.std.specs.Prelude.{◌≡◌, ℕ, Bool, true, false, List, Option, Some, None}
 use Rattle.std.proofs.Common.{refl, sym}
-use Rattle.papaya_follows.specs.Given.SeizeWords.declared.fault.Fault.TheVariants.{Memory}
-use Rattle.papaya_follows.specs.Given.Raw.Machine.{machine_asked}
-use Rattle.papaya_follows.specs.Given.Schedules.declared.outcome.Outcome.TheVariants.{Refused}
-use Rattle.papaya_follows.specs.Given.Schedules.Moment.{Moment}
-use Rattle.papaya_follows.specs.Given.Callers.Together.{UnderWay, OnKey, ForRoom, Counting, OverAll}
-use Rattle.papaya_follows.specs.Given.Finishes.Machines.{machine_of}
-use Rattle.papaya_follows.specs.Given.Finishes.Maps.{with_call}
-use Rattle.papaya_follows.specs.Given.Effects.Known.{Known}
+use Rattle.papaya_follows.specs.Given.SeizeWordsDeclared.fault.Fault.TheVariants.{Memory}
+use Rattle.papaya_follows.specs.Given.RawMachine.{machine_asked}
+use Rattle.papaya_follows.specs.Given.SchedulesDeclared.outcome.Outcome.TheVariants.{Refused}
+use Rattle.papaya_follows.specs.Given.SchedulesMoment.{Moment}
+use Rattle.papaya_follows.specs.Given.CallersTogether.{UnderWay, OnKey, ForRoom, Counting, OverAll}
+use Rattle.papaya_follows.specs.Given.FinishesMachines.{machine_of}
+use Rattle.papaya_follows.specs.Given.FinishesMaps.{with_call}
+use Rattle.papaya_follows.specs.Given.EffectsKnown.{Known}
 use Rattle.papaya_follows.specs.Calling.{NoneNamed}
 use Rattle.papaya_follows.specs.Calls.{ShowsCalls}
 use Rattle.papaya_follows.specs.Shows.{Shows}
@@ -19,8 +19,8 @@ use Rattle.papaya_follows.proofs.Calls.{CalledOn, was_there}
 use Rattle.papaya_follows.proofs.Onward.{tables_same, pairs_same, blocks_same, map_on}
 use Rattle.papaya_others.specs.After.{ShowsAfter}
 use Rattle.papaya_others.specs.Walks.{given_up, WalksGoOn, WalksAreGivenUp}
-use Rattle.papaya_follows.specs.Given.Scenes.Replying.{unless_stopped}
-use Rattle.papaya_follows.specs.Given.Scenes.Scene.{Scene}
+use Rattle.papaya_follows.specs.Given.ScenesReplying.{unless_stopped}
+use Rattle.papaya_follows.specs.Given.ScenesScene.{Scene}
 
 module _ {K V : Type 0} (same : K → K → Bool) where
   -- calls of which one goes on, or is under way no more, are shown

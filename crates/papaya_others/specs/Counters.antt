@@ -1,29 +1,29 @@
 -- The counter of a map that is being made is noted as that of its map, whoever takes a step.
 use Rattle.std.specs.Prelude.{◌≡◌, ℕ, Bool, List, Some}
-use Rattle.papaya_follows.specs.Given.Seize.World.{with_at}
-use Rattle.papaya_follows.specs.Given.Seize.declared.progress.Progress.{Progress as Making}
-use Rattle.papaya_follows.specs.Given.Seize.declared.rows.settle.Settled.{Settled}
-use Rattle.papaya_follows.specs.Given.Tables.declared.node.Node.{Node}
-use Rattle.papaya_follows.specs.Given.Tables.declared.setting.Setting.{Setting}
-use Rattle.papaya_follows.specs.Given.Raw.declared.machines.progress.Progress.{Progress}
-use Rattle.papaya_follows.specs.Given.Schedules.Moment.{Moment}
-use Rattle.papaya_follows.specs.Given.Callers.Together.{UnderWay}
-use Rattle.papaya_follows.specs.Given.Finishes.Endings.{Finishing}
-use Rattle.papaya_follows.specs.Given.Finishes.Makings.{Beginning, HasMade}
-use Rattle.papaya_follows.specs.Given.Effects.Effects.{known_after}
-use Rattle.papaya_follows.specs.Given.Effects.Known.{Known}
-use Rattle.papaya_follows.specs.Given.Effects.declared.acting.Acting.TheVariants as acts
-use Rattle.papaya_follows.specs.Given.Scenes.declared.row.RowTold.{RowTold}
-use Rattle.papaya_follows.specs.Given.Scenes.declared.row.SlotRow.{SlotRow}
+use Rattle.papaya_follows.specs.Given.SeizeWorld.{with_at}
+use Rattle.papaya_follows.specs.Given.SeizeDeclared.progress.Progress.{Progress as Making}
+use Rattle.papaya_follows.specs.Given.SeizeDeclared.rows.settle.Settled.{Settled}
+use Rattle.papaya_follows.specs.Given.TablesDeclared.node.Node.{Node}
+use Rattle.papaya_follows.specs.Given.TablesDeclared.setting.Setting.{Setting}
+use Rattle.papaya_follows.specs.Given.RawDeclared.machines.progress.Progress.{Progress}
+use Rattle.papaya_follows.specs.Given.SchedulesMoment.{Moment}
+use Rattle.papaya_follows.specs.Given.CallersTogether.{UnderWay}
+use Rattle.papaya_follows.specs.Given.FinishesEndings.{Finishing}
+use Rattle.papaya_follows.specs.Given.FinishesMakings.{Beginning, HasMade}
+use Rattle.papaya_follows.specs.Given.EffectsEffects.{known_after}
+use Rattle.papaya_follows.specs.Given.EffectsKnown.{Known}
+use Rattle.papaya_follows.specs.Given.EffectsDeclared.acting.Acting.TheVariants as acts
+use Rattle.papaya_follows.specs.Given.ScenesDeclared.row.RowTold.{RowTold}
+use Rattle.papaya_follows.specs.Given.ScenesDeclared.row.SlotRow.{SlotRow}
 use Rattle.papaya_follows.specs.Shows.{Shows}
 use Rattle.papaya_others.specs.Endings.{ending_after}
 use Rattle.papaya_others.specs.Makings.{NotesCounter, making_after}
-use Rattle.papaya_follows.specs.Given.Scenes.Ending.{EndingLeads}
-use Rattle.papaya_follows.specs.Given.Scenes.Held.{Held, IsAt}
-use Rattle.papaya_follows.specs.Given.Scenes.Making.{MakingLeads}
-use Rattle.papaya_follows.specs.Given.Scenes.OnSlots.{RowLeads}
-use Rattle.papaya_follows.specs.Given.Scenes.Scene.{IsOnSlot, Scene}
-use Rattle.papaya_follows.specs.Given.Scenes.Stepping.{StepLeads, scene_after}
+use Rattle.papaya_follows.specs.Given.ScenesEnding.{EndingLeads}
+use Rattle.papaya_follows.specs.Given.ScenesHeld.{Held, IsAt}
+use Rattle.papaya_follows.specs.Given.ScenesMaking.{MakingLeads}
+use Rattle.papaya_follows.specs.Given.ScenesOnSlots.{RowLeads}
+use Rattle.papaya_follows.specs.Given.ScenesScene.{IsOnSlot, Scene}
+use Rattle.papaya_follows.specs.Given.ScenesStepping.{StepLeads, scene_after}
 
 -- the counter of each making, if it has made one, is noted
 abbrev pub NotesCounters : {K V : Type 0} → Known → Scene K V → Type 0

@@ -1,12 +1,12 @@
 -- What is nothing to what is shown: of a moment all but its pairs, maps, tables and calls, and of a scene all but its memory, who has which block, its maps, and
 -- its calls.
 use Rattle.std.specs.Prelude.{◌≡◌, ℕ, Bool, List}
-use Rattle.papaya_follows.specs.Given.Schedules.Moment.{Moment}
-use Rattle.papaya_follows.specs.Given.Finishes.Maps.{IsSameMap}
-use Rattle.papaya_follows.specs.Given.Effects.Known.{Known}
+use Rattle.papaya_follows.specs.Given.SchedulesMoment.{Moment}
+use Rattle.papaya_follows.specs.Given.FinishesMaps.{IsSameMap}
+use Rattle.papaya_follows.specs.Given.EffectsKnown.{Known}
 use Rattle.papaya_follows.specs.Shows.{Shows}
 use Rattle.papaya_others.specs.After.{ShowsAfter}
-use Rattle.papaya_follows.specs.Given.Scenes.Scene.{Scene}
+use Rattle.papaya_follows.specs.Given.ScenesScene.{Scene}
 
 -- the moment has the same pairs, maps, tables and calls
 pub record HasSame {K V : Type 0} (m m2 : Moment K V) : Type 0 where

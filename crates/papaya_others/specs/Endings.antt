@@ -1,29 +1,29 @@
 -- Ends of maps: where one begins, takes its steps and is over, the moment shows the scene then.
 use Rattle.std.specs.Prelude.{◌≡◌, ℕ, Bool, false, not, List, [], ◌∷◌, ◌++◌, filter, Some, None}
-use Rattle.papaya_follows.specs.Given.Seize.World.{World, with_at}
-use Rattle.papaya_follows.specs.Given.Seize.declared.rows.settle.Settled.{Settled}
-use Rattle.papaya_follows.specs.Given.Seize.declared.rows.settle.Settled.TheVariants as settled
-use Rattle.papaya_follows.specs.Given.Tables.declared.node.Node.{Node}
-use Rattle.papaya_follows.specs.Given.Runs.Same.{is_same}
-use Rattle.papaya_follows.specs.Given.Schedules.Effects.{with_effects, AtEachEffect}
-use Rattle.papaya_follows.specs.Given.Schedules.Moment.{MapThere, Remains, Moment}
-use Rattle.papaya_follows.specs.Given.Schedules.Views.{map_at}
-use Rattle.papaya_follows.specs.Given.Raw.declared.machines.end_map.EndMap.{EndMap}
-use Rattle.papaya_follows.specs.Given.Teller.declared.changed.Changed.{Changed}
-use Rattle.papaya_follows.specs.Given.Teller.declared.changed.Changed.TheVariants.{Took}
-use Rattle.papaya_follows.specs.Given.Effects.Effects.{effects_of, known_after}
-use Rattle.papaya_follows.specs.Given.Effects.Known.{Known}
-use Rattle.papaya_follows.specs.Given.Effects.declared.acting.Acting.TheVariants.{Ending}
-use Rattle.papaya_follows.specs.Given.Finishes.Endings.{Finishing}
-use Rattle.papaya_follows.specs.Given.Finishes.FactsEnds.{Deed}
-use Rattle.papaya_follows.specs.Given.Finishes.Maps.{Standing}
+use Rattle.papaya_follows.specs.Given.SeizeWorld.{World, with_at}
+use Rattle.papaya_follows.specs.Given.SeizeDeclared.rows.settle.Settled.{Settled}
+use Rattle.papaya_follows.specs.Given.SeizeDeclared.rows.settle.Settled.TheVariants as settled
+use Rattle.papaya_follows.specs.Given.TablesDeclared.node.Node.{Node}
+use Rattle.papaya_follows.specs.Given.RunsSame.{is_same}
+use Rattle.papaya_follows.specs.Given.SchedulesEffects.{with_effects, AtEachEffect}
+use Rattle.papaya_follows.specs.Given.SchedulesMoment.{MapThere, Remains, Moment}
+use Rattle.papaya_follows.specs.Given.SchedulesViews.{map_at}
+use Rattle.papaya_follows.specs.Given.RawDeclared.machines.end_map.EndMap.{EndMap}
+use Rattle.papaya_follows.specs.Given.TellerDeclared.changed.Changed.{Changed}
+use Rattle.papaya_follows.specs.Given.TellerDeclared.changed.Changed.TheVariants.{Took}
+use Rattle.papaya_follows.specs.Given.EffectsEffects.{effects_of, known_after}
+use Rattle.papaya_follows.specs.Given.EffectsKnown.{Known}
+use Rattle.papaya_follows.specs.Given.EffectsDeclared.acting.Acting.TheVariants.{Ending}
+use Rattle.papaya_follows.specs.Given.FinishesEndings.{Finishing}
+use Rattle.papaya_follows.specs.Given.FinishesFactsEnds.{Deed}
+use Rattle.papaya_follows.specs.Given.FinishesMaps.{Standing}
 use Rattle.papaya_follows.specs.Shows.{Shows}
 use Rattle.papaya_follows.specs.Steps.{TakesNone}
 use Rattle.papaya_others.specs.After.{ShowsAfter}
 use Rattle.papaya_others.specs.Gone.{EndsWith}
-use Rattle.papaya_follows.specs.Given.Scenes.Ending.{EndingComesTo, EndingLeads, ending_begun, ending_goes}
-use Rattle.papaya_follows.specs.Given.Scenes.Held.{Held, IsAt}
-use Rattle.papaya_follows.specs.Given.Scenes.Scene.{Scene}
+use Rattle.papaya_follows.specs.Given.ScenesEnding.{EndingComesTo, EndingLeads, ending_begun, ending_goes}
+use Rattle.papaya_follows.specs.Given.ScenesHeld.{Held, IsAt}
+use Rattle.papaya_follows.specs.Given.ScenesScene.{Scene}
 
 module _ {K V : Type 0} (same : K → K → Bool) (hash : ℕ → K → ℕ) (s : Scene K V) (new : Held K V) (i : ℕ) (f : Finishing K V) (ending : EndMap) (w2 : World (Node K V)) (deed : Deed) where
   -- the scene to which a step of the end has come

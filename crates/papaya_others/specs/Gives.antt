@@ -1,16 +1,16 @@
 -- What a row on a slot hands out: the value of the block that it has taken away.
 use Rattle.std.specs.Prelude.{◌≡◌, ℕ, Bool, Some}
-use Rattle.papaya_follows.specs.Given.SeizeWords.Mem.{Mem, value_at}
-use Rattle.papaya_follows.specs.Given.Tables.declared.node.Node.{Node}
-use Rattle.papaya_follows.specs.Given.Teller.declared.changed.Changed.{Changed}
-use Rattle.papaya_follows.specs.Given.Teller.declared.changed.Changed.TheVariants.{Took}
-use Rattle.papaya_follows.specs.Given.Scenes.declared.row.RowTold.{RowTold}
-use Rattle.papaya_follows.specs.Given.Scenes.declared.row.RowTold.TheVariants as rows
-use Rattle.papaya_follows.specs.Given.Scenes.declared.row.SlotRow.{SlotRow}
+use Rattle.papaya_follows.specs.Given.SeizeWordsMem.{Mem, value_at}
+use Rattle.papaya_follows.specs.Given.TablesDeclared.node.Node.{Node}
+use Rattle.papaya_follows.specs.Given.TellerDeclared.changed.Changed.{Changed}
+use Rattle.papaya_follows.specs.Given.TellerDeclared.changed.Changed.TheVariants.{Took}
+use Rattle.papaya_follows.specs.Given.ScenesDeclared.row.RowTold.{RowTold}
+use Rattle.papaya_follows.specs.Given.ScenesDeclared.row.RowTold.TheVariants as rows
+use Rattle.papaya_follows.specs.Given.ScenesDeclared.row.SlotRow.{SlotRow}
 use Rattle.papaya_follows.specs.Steps.{TakesNone}
-use Rattle.papaya_follows.specs.Given.Scenes.Held.{Held}
-use Rattle.papaya_follows.specs.Given.Scenes.OnSlots.{RowLeads}
-use Rattle.papaya_follows.specs.Given.Scenes.Scene.{IsOnSlot, Scene}
+use Rattle.papaya_follows.specs.Given.ScenesHeld.{Held}
+use Rattle.papaya_follows.specs.Given.ScenesOnSlots.{RowLeads}
+use Rattle.papaya_follows.specs.Given.ScenesScene.{IsOnSlot, Scene}
 
 -- a step that hands a value out has taken its block away, and no other step takes one
 abbrev pub GivesWhatItTook : {K V : Type 0} → Mem (Node K V) → Changed → RowTold (Node K V) → Type 0

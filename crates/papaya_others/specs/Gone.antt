@@ -1,12 +1,12 @@
 -- What is to be so of a table that is reclaimed, or that ends with its map.
 use Rattle.std.specs.Prelude.{◌≡◌, ℕ, true, false}
-use Rattle.papaya_follows.specs.Given.Schedules.declared.effect.Effect.{Effect}
-use Rattle.papaya_follows.specs.Given.Schedules.declared.effect.Effect.TheVariants.{Reclaimed, Taken}
-use Rattle.papaya_follows.specs.Given.Schedules.declared.effect.Table.{Table}
-use Rattle.papaya_follows.specs.Given.Schedules.declared.effect.Thing.TheVariants.{ATable}
-use Rattle.papaya_follows.specs.Given.Schedules.Lists.{is_among}
-use Rattle.papaya_follows.specs.Given.Schedules.Moment.{Moment}
-use Rattle.papaya_follows.specs.Given.Schedules.Views.{is_in_a_map, is_retired, is_stage, behind}
+use Rattle.papaya_follows.specs.Given.SchedulesDeclared.effect.Effect.{Effect}
+use Rattle.papaya_follows.specs.Given.SchedulesDeclared.effect.Effect.TheVariants.{Reclaimed, Taken}
+use Rattle.papaya_follows.specs.Given.SchedulesDeclared.effect.Table.{Table}
+use Rattle.papaya_follows.specs.Given.SchedulesDeclared.effect.Thing.TheVariants.{ATable}
+use Rattle.papaya_follows.specs.Given.SchedulesLists.{is_among}
+use Rattle.papaya_follows.specs.Given.SchedulesMoment.{Moment}
+use Rattle.papaya_follows.specs.Given.SchedulesViews.{is_in_a_map, is_retired, is_stage, behind}
 
 module _ {K V : Type 0} (m : Moment K V) where
   -- what waits behind the table is in no map

@@ -1,25 +1,25 @@
 -- Makings of maps: where one begins and takes its steps, the moment shows the scene then, and the map, once it stands.
 use Rattle.std.specs.Prelude.{◌≡◌, ℕ, Bool, List, [], Option, Some, None}
-use Rattle.papaya_follows.specs.Given.Seize.World.{World, with_at}
-use Rattle.papaya_follows.specs.Given.Seize.declared.progress.Progress.{Progress}
-use Rattle.papaya_follows.specs.Given.Seize.declared.progress.Progress.TheVariants as progress
-use Rattle.papaya_follows.specs.Given.Tables.declared.node.Node.{Node}
-use Rattle.papaya_follows.specs.Given.Tables.declared.setting.Setting.{Setting}
-use Rattle.papaya_follows.specs.Given.Resize.declared.new_map.NewMap.{NewMap}
-use Rattle.papaya_follows.specs.Given.Schedules.Beginning.{with_map}
-use Rattle.papaya_follows.specs.Given.Schedules.Effects.{with_effects}
-use Rattle.papaya_follows.specs.Given.Schedules.Moment.{InMap, MapThere, Moment}
-use Rattle.papaya_follows.specs.Given.Schedules.Views.{map_at, tables_of}
-use Rattle.papaya_follows.specs.Given.Effects.Effects.{effects_of, known_after}
-use Rattle.papaya_follows.specs.Given.Effects.Known.{Known}
-use Rattle.papaya_follows.specs.Given.Effects.declared.acting.Acting.TheVariants.{Making}
-use Rattle.papaya_follows.specs.Given.Effects.declared.role.Role.TheVariants.{Counter}
-use Rattle.papaya_follows.specs.Given.Finishes.Makings.{Beginning, HasMade}
+use Rattle.papaya_follows.specs.Given.SeizeWorld.{World, with_at}
+use Rattle.papaya_follows.specs.Given.SeizeDeclared.progress.Progress.{Progress}
+use Rattle.papaya_follows.specs.Given.SeizeDeclared.progress.Progress.TheVariants as progress
+use Rattle.papaya_follows.specs.Given.TablesDeclared.node.Node.{Node}
+use Rattle.papaya_follows.specs.Given.TablesDeclared.setting.Setting.{Setting}
+use Rattle.papaya_follows.specs.Given.ResizeDeclared.new_map.NewMap.{NewMap}
+use Rattle.papaya_follows.specs.Given.SchedulesBeginning.{with_map}
+use Rattle.papaya_follows.specs.Given.SchedulesEffects.{with_effects}
+use Rattle.papaya_follows.specs.Given.SchedulesMoment.{InMap, MapThere, Moment}
+use Rattle.papaya_follows.specs.Given.SchedulesViews.{map_at, tables_of}
+use Rattle.papaya_follows.specs.Given.EffectsEffects.{effects_of, known_after}
+use Rattle.papaya_follows.specs.Given.EffectsKnown.{Known}
+use Rattle.papaya_follows.specs.Given.EffectsDeclared.acting.Acting.TheVariants.{Making}
+use Rattle.papaya_follows.specs.Given.EffectsDeclared.role.Role.TheVariants.{Counter}
+use Rattle.papaya_follows.specs.Given.FinishesMakings.{Beginning, HasMade}
 use Rattle.papaya_follows.specs.Shows.{Shows}
 use Rattle.papaya_others.specs.After.{ShowsAfter}
-use Rattle.papaya_follows.specs.Given.Scenes.Held.{Held, IsAt}
-use Rattle.papaya_follows.specs.Given.Scenes.Making.{MakingComesTo, MakingLeads}
-use Rattle.papaya_follows.specs.Given.Scenes.Scene.{Scene}
+use Rattle.papaya_follows.specs.Given.ScenesHeld.{Held, IsAt}
+use Rattle.papaya_follows.specs.Given.ScenesMaking.{MakingComesTo, MakingLeads}
+use Rattle.papaya_follows.specs.Given.ScenesScene.{Scene}
 
 -- the map of this number is there with this setting, and has neither a pair nor a table yet
 pub record IsNew {K V : Type 0} (map : ℕ) (setting : Setting) (m : Moment K V) : Type 0 where

@@ -1,22 +1,22 @@
 -- Rows on slots: where one begins, and takes its steps, the moment shows the scene then.
 use Rattle.std.specs.Prelude.{ℕ, Bool, List, None}
-use Rattle.papaya_follows.specs.Given.Seize.World.{Event, Begin, Step}
-use Rattle.papaya_follows.specs.Given.Tables.declared.node.Node.{Node}
-use Rattle.papaya_follows.specs.Given.Schedules.Effects.{with_effects, AtEachEffect}
-use Rattle.papaya_follows.specs.Given.Schedules.Moment.{Moment}
-use Rattle.papaya_follows.specs.Given.Effects.Effects.{effects_of, known_after}
-use Rattle.papaya_follows.specs.Given.Effects.Known.{Known}
-use Rattle.papaya_follows.specs.Given.Effects.declared.acting.Acting.TheVariants.{Row}
-use Rattle.papaya_follows.specs.Given.Scenes.declared.row.RowTold.{RowTold}
-use Rattle.papaya_follows.specs.Given.Scenes.declared.row.SlotCall.{SlotCall}
-use Rattle.papaya_follows.specs.Given.Scenes.declared.row.SlotRow.{SlotRow}
+use Rattle.papaya_follows.specs.Given.SeizeWorld.{Event, Begin, Step}
+use Rattle.papaya_follows.specs.Given.TablesDeclared.node.Node.{Node}
+use Rattle.papaya_follows.specs.Given.SchedulesEffects.{with_effects, AtEachEffect}
+use Rattle.papaya_follows.specs.Given.SchedulesMoment.{Moment}
+use Rattle.papaya_follows.specs.Given.EffectsEffects.{effects_of, known_after}
+use Rattle.papaya_follows.specs.Given.EffectsKnown.{Known}
+use Rattle.papaya_follows.specs.Given.EffectsDeclared.acting.Acting.TheVariants.{Row}
+use Rattle.papaya_follows.specs.Given.ScenesDeclared.row.RowTold.{RowTold}
+use Rattle.papaya_follows.specs.Given.ScenesDeclared.row.SlotCall.{SlotCall}
+use Rattle.papaya_follows.specs.Given.ScenesDeclared.row.SlotRow.{SlotRow}
 use Rattle.papaya_follows.specs.Shows.{Shows}
 use Rattle.papaya_others.specs.After.{ShowsAfter}
 use Rattle.papaya_others.specs.Gone.{WasRetired}
-use Rattle.papaya_follows.specs.Given.Scenes.Held.{Held, IsAt}
-use Rattle.papaya_follows.specs.Given.Scenes.OnSlots.{HappensAt, RowBegins, RowLeads}
-use Rattle.papaya_follows.specs.Given.Scenes.Rows.{request_of}
-use Rattle.papaya_follows.specs.Given.Scenes.Scene.{IsOnSlot, Scene, slot_of}
+use Rattle.papaya_follows.specs.Given.ScenesHeld.{Held, IsAt}
+use Rattle.papaya_follows.specs.Given.ScenesOnSlots.{HappensAt, RowBegins, RowLeads}
+use Rattle.papaya_follows.specs.Given.ScenesRows.{request_of}
+use Rattle.papaya_follows.specs.Given.ScenesScene.{IsOnSlot, Scene, slot_of}
 
 -- the scene once this has happened
 abbrev pub scene_then : {K V : Type 0} (same : K → K → Bool) (hash : ℕ → K → ℕ) (event : Event (Node K V)) (s : Scene K V) (old new : Held K V) → HappensAt same hash event s old new → Scene K V

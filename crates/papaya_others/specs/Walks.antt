@@ -1,16 +1,16 @@
 -- Walks: one that is ready goes on, or is given up.
 use Rattle.std.specs.Prelude.{◌≡◌, ℕ, Bool, true, false, List, Some}
-use Rattle.papaya_follows.specs.Given.Schedules.After.{without_call}
-use Rattle.papaya_follows.specs.Given.Schedules.Moment.{Moment}
-use Rattle.papaya_follows.specs.Given.Callers.Together.{UnderWay}
-use Rattle.papaya_follows.specs.Given.Finishes.Maps.{with_call}
-use Rattle.papaya_follows.specs.Given.Effects.Known.{Known}
+use Rattle.papaya_follows.specs.Given.SchedulesAfter.{without_call}
+use Rattle.papaya_follows.specs.Given.SchedulesMoment.{Moment}
+use Rattle.papaya_follows.specs.Given.CallersTogether.{UnderWay}
+use Rattle.papaya_follows.specs.Given.FinishesMaps.{with_call}
+use Rattle.papaya_follows.specs.Given.EffectsKnown.{Known}
 use Rattle.papaya_follows.specs.Calling.{NoneNamed}
 use Rattle.papaya_follows.specs.Shows.{Shows}
 use Rattle.papaya_others.specs.After.{ShowsAfter}
-use Rattle.papaya_follows.specs.Given.Scenes.Held.{Held}
-use Rattle.papaya_follows.specs.Given.Scenes.Replying.{AskLeads, StopLeads, scene_with, unless_stopped}
-use Rattle.papaya_follows.specs.Given.Scenes.Scene.{Scene}
+use Rattle.papaya_follows.specs.Given.ScenesHeld.{Held}
+use Rattle.papaya_follows.specs.Given.ScenesReplying.{AskLeads, StopLeads, scene_with, unless_stopped}
+use Rattle.papaya_follows.specs.Given.ScenesScene.{Scene}
 
 -- the call of this name is under way no more, if it was stopped
 abbrev pub given_up : {K V : Type 0} → List ℕ → Bool → Moment K V → Moment K V

@@ -1,33 +1,33 @@
 -- A step that is of no call leaves blocks for pairs alone, if it neither makes, nor takes, nor stores one.
 use Rattle.std.specs.Prelude.{◌≡◌, ℕ, Bool, true, false, List, [], ◌∷◌, find, Option, Some, Ok, Err}
 use Rattle.std.proofs.Common.{refl, ap, sym, ◌∙◌}
-use Rattle.papaya_holds.specs.Given.SeizeWords.Mem.{Mem}
-use Rattle.papaya_holds.specs.Given.SeizeWords.Op.{Op, Out, Load, Store, Swap, Add, Or, Exchange, Make, Take, Rewrite, Room, Found, Exchanged, Made, Roomed}
-use Rattle.papaya_holds.specs.Given.SeizeWords.Plan.{Plan, Turn, Do, plan_as}
-use Rattle.papaya_holds.specs.Given.Tables.declared.node.Node.{Node}
-use Rattle.papaya_lives.specs.Given.Runs.Same.{is_same}
-use Rattle.papaya_lives.specs.Given.Schedules.declared.effect.Effect.{Effect}
-use Rattle.papaya_lives.specs.Given.Schedules.declared.effect.Effect.TheVariants as effect
-use Rattle.papaya_lives.specs.Given.Schedules.Moment.{UnderWay as CallThere, Moment}
-use Rattle.papaya_lives.specs.Given.Schedules.Views.{call_of}
-use Rattle.papaya_lives.specs.Given.Teller.Tells.{told_of, StepsTold}
-use Rattle.papaya_lives.specs.Given.Teller.declared.changed.Changed.{Changed}
-use Rattle.papaya_lives.specs.Given.Teller.declared.changed.Changed.TheVariants as changed
-use Rattle.papaya_lives.specs.Given.Teller.declared.changed.Kind.TheVariants as kind
-use Rattle.papaya_lives.specs.Given.Tells.Seen.{seen_of}
-use Rattle.papaya_holds.specs.Given.Callers.Together.{UnderWay}
-use Rattle.papaya_lives.specs.Given.Effects.Effects.{taken_by, effects_of, known_after}
-use Rattle.papaya_lives.specs.Given.Effects.Known.{Known}
-use Rattle.papaya_lives.specs.Given.Effects.declared.acting.Acting.{Acting}
-use Rattle.papaya_lives.specs.Given.Effects.declared.role.Role.{Role}
-use Rattle.papaya_lives.specs.Given.Effects.declared.role.Role.TheVariants as role
-use Rattle.papaya_lives.proofs.Given.Follows.Alike.{is_calm, AllCalm}
+use Rattle.papaya_holds.specs.Given.SeizeWordsMem.{Mem}
+use Rattle.papaya_holds.specs.Given.SeizeWordsOp.{Op, Out, Load, Store, Swap, Add, Or, Exchange, Make, Take, Rewrite, Room, Found, Exchanged, Made, Roomed}
+use Rattle.papaya_holds.specs.Given.SeizeWordsPlan.{Plan, Turn, Do, plan_as}
+use Rattle.papaya_holds.specs.Given.TablesDeclared.node.Node.{Node}
+use Rattle.papaya_lives.specs.Given.RunsSame.{is_same}
+use Rattle.papaya_lives.specs.Given.SchedulesDeclared.effect.Effect.{Effect}
+use Rattle.papaya_lives.specs.Given.SchedulesDeclared.effect.Effect.TheVariants as effect
+use Rattle.papaya_lives.specs.Given.SchedulesMoment.{UnderWay as CallThere, Moment}
+use Rattle.papaya_lives.specs.Given.SchedulesViews.{call_of}
+use Rattle.papaya_lives.specs.Given.TellerTells.{told_of, StepsTold}
+use Rattle.papaya_lives.specs.Given.TellerDeclared.changed.Changed.{Changed}
+use Rattle.papaya_lives.specs.Given.TellerDeclared.changed.Changed.TheVariants as changed
+use Rattle.papaya_lives.specs.Given.TellerDeclared.changed.Kind.TheVariants as kind
+use Rattle.papaya_lives.specs.Given.TellsSeen.{seen_of}
+use Rattle.papaya_holds.specs.Given.CallersTogether.{UnderWay}
+use Rattle.papaya_lives.specs.Given.EffectsEffects.{taken_by, effects_of, known_after}
+use Rattle.papaya_lives.specs.Given.EffectsKnown.{Known}
+use Rattle.papaya_lives.specs.Given.EffectsDeclared.acting.Acting.{Acting}
+use Rattle.papaya_lives.specs.Given.EffectsDeclared.role.Role.{Role}
+use Rattle.papaya_lives.specs.Given.EffectsDeclared.role.Role.TheVariants as role
+use Rattle.papaya_lives.proofs.Given.FollowsAlike.{is_calm, AllCalm}
 use Rattle.papaya_owes.specs.Beside.{of_block, NoneOfBlock, StaysMade}
 use Rattle.papaya_owes.specs.Made.{OwnsSo, own_word, IsItsBlock, HasBlock, NamesBlock, ShowsMade}
 use Rattle.papaya_owes.proofs.Roles.{own_of, own_is, IsStoring, StoresNew, StoresOver, DoesSo, Leaves, Makes, GivesUp, Stores, no_block}
 use Rattle.papaya_owes.proofs.Quiet.{pair_back, table_back}
-use Rattle.papaya_holds.specs.Given.Finishes.Machines.{machine_of}
-use Rattle.papaya_lives.specs.Given.Scenes.Scene.{Scene}
+use Rattle.papaya_holds.specs.Given.FinishesMachines.{machine_of}
+use Rattle.papaya_lives.specs.Given.ScenesScene.{Scene}
 
 -- Blocks are as much whose they were.
 abbrev pub AreTheirs : Known → Known → Type 0

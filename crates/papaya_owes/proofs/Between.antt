@@ -2,31 +2,31 @@
 use Rattle.std.specs.Prelude.{◌≡◌, ◌≢◌, ℕ, Bool, true, false, List, [], map, Option, Some, None}
 use Rattle.std.proofs.Common.{refl, ap, sym, subst, ◌∙◌, inl, inr}
 use Rattle.std.proofs.lemmas.Bool.{cases_eq}
-use Rattle.papaya_lives.specs.Given.Runs.Same.{is_same}
-use Rattle.papaya_holds.specs.Given.Raw.Machine.{machine_replied, machine_asked}
-use Rattle.papaya_holds.specs.Given.Raw.declared.machines.asking.Reply.{Reply as MachineReply}
-use Rattle.papaya_holds.specs.Given.Raw.declared.machines.machine.Machine.{Machine}
-use Rattle.papaya_holds.specs.Given.Raw.declared.machines.machine.Machine.TheVariants as kinds
-use Rattle.papaya_lives.specs.Given.Schedules.declared.call.Call.{Call}
-use Rattle.papaya_lives.specs.Given.Schedules.Beginning.{with_call}
-use Rattle.papaya_lives.specs.Given.Schedules.Moment.{UnderWay as CallThere, Moment}
-use Rattle.papaya_lives.specs.Given.Schedules.Views.{call_of}
-use Rattle.papaya_holds.specs.Given.Callers.Together.{UnderWay}
-use Rattle.papaya_lives.specs.Given.Effects.Known.{Known}
-use Rattle.papaya_holds.specs.Given.Finishes.Machines.{machine_of}
-use Rattle.papaya_holds.specs.Given.Finishes.Maps.{with_call as with_in}
-use Rattle.papaya_lives.specs.Given.Follows.Calling.{NoneNamed}
-use Rattle.papaya_lives.proofs.Given.Follows.Calling.{is_same_refl}
-use Rattle.papaya_lives.proofs.Given.Follows.Steps.{one_of}
-use Rattle.papaya_lives.proofs.Given.Hands.Asking.{which}
+use Rattle.papaya_lives.specs.Given.RunsSame.{is_same}
+use Rattle.papaya_holds.specs.Given.RawMachine.{machine_replied, machine_asked}
+use Rattle.papaya_holds.specs.Given.RawDeclared.machines.asking.Reply.{Reply as MachineReply}
+use Rattle.papaya_holds.specs.Given.RawDeclared.machines.machine.Machine.{Machine}
+use Rattle.papaya_holds.specs.Given.RawDeclared.machines.machine.Machine.TheVariants as kinds
+use Rattle.papaya_lives.specs.Given.SchedulesDeclared.call.Call.{Call}
+use Rattle.papaya_lives.specs.Given.SchedulesBeginning.{with_call}
+use Rattle.papaya_lives.specs.Given.SchedulesMoment.{UnderWay as CallThere, Moment}
+use Rattle.papaya_lives.specs.Given.SchedulesViews.{call_of}
+use Rattle.papaya_holds.specs.Given.CallersTogether.{UnderWay}
+use Rattle.papaya_lives.specs.Given.EffectsKnown.{Known}
+use Rattle.papaya_holds.specs.Given.FinishesMachines.{machine_of}
+use Rattle.papaya_holds.specs.Given.FinishesMaps.{with_call as with_in}
+use Rattle.papaya_lives.specs.Given.FollowsCalling.{NoneNamed}
+use Rattle.papaya_lives.proofs.Given.FollowsCalling.{is_same_refl}
+use Rattle.papaya_lives.proofs.Given.FollowsSteps.{one_of}
+use Rattle.papaya_lives.proofs.Given.HandsAsking.{which}
 use Rattle.papaya_holds.proofs.Calls.Runs.{told_so, calls_begin}
-use Rattle.papaya_lives.specs.Given.Others.Walks.{given_up}
+use Rattle.papaya_lives.specs.Given.OthersWalks.{given_up}
 use Rattle.papaya_owes.specs.Beside.{WalksGoOnMade, WalksStopMade}
 use Rattle.papaya_owes.specs.Keeping.{MadeBegins, CallsBeginMade, CallsBeginOwning, CallsTakeMade, CallsComeToMade}
 use Rattle.papaya_owes.specs.Made.{own_word, OwnsSo, IsItsBlock, HasBlock, NamesBlock, ShowsMade}
 use Rattle.papaya_owes.proofs.Kept.{calls_beside, calls_its, calls_without, HadAsMuch, fresh_has, others_there, told_had, left_had, come_had}
-use Rattle.papaya_lives.specs.Given.Scenes.Replying.{unless_stopped}
-use Rattle.papaya_lives.specs.Given.Scenes.Scene.{Scene}
+use Rattle.papaya_lives.specs.Given.ScenesReplying.{unless_stopped}
+use Rattle.papaya_lives.specs.Given.ScenesScene.{Scene}
 
 -- As a run begins there is no call, and no block.
 pub made_begins : (K V : Type 0) → MadeBegins K V

@@ -2,57 +2,57 @@
 use Rattle.std.specs.Prelude.{◌≡◌, ◌≢◌, ◌<◌, ℕ, ◌+◌, Bool, true, false, List, Option, Some, None, option_map, ◌⊎◌, if◌then◌else◌}
 use Rattle.std.proofs.Common.{refl, ap, sym, subst, ◌∙◌, inl, inr}
 use Rattle.std.proofs.lemmas.Bool.{cases_eq}
-use Rattle.papaya_holds.specs.Given.SeizeWords.Mem.{Mem, Can, Took, value_at}
-use Rattle.papaya_holds.specs.Given.SeizeWords.Plan.{May}
-use Rattle.papaya_holds.specs.Given.SeizeWords.Word.{block_in}
-use Rattle.papaya_holds.specs.Given.Seize.World.{World, with_at, IsInside}
-use Rattle.papaya_holds.specs.Given.Tables.declared.node.Node.{Node}
-use Rattle.papaya_holds.specs.Given.Resize.declared.new_table.NewTable.{NewTable}
-use Rattle.papaya_holds.specs.Given.Raw.Machine.{machine_plan, called as of_key}
-use Rattle.papaya_holds.specs.Given.Raw.Progress.{of_called}
-use Rattle.papaya_holds.specs.Given.Raw.declared.machines.answer.Called.{Called}
-use Rattle.papaya_holds.specs.Given.Raw.declared.machines.call.KeyCall.{KeyCall}
-use Rattle.papaya_holds.specs.Given.Raw.declared.machines.machine.Machine.{Machine}
-use Rattle.papaya_holds.specs.Given.Raw.declared.machines.progress.Progress.{Progress}
-use Rattle.papaya_holds.specs.Given.Raw.Call.{call_plan}
-use Rattle.papaya_lives.specs.Given.Runs.Same.{is_same}
-use Rattle.papaya_lives.specs.Given.Schedules.declared.effect.Effect.{Effect}
-use Rattle.papaya_lives.specs.Given.Schedules.Effects.{with_effects}
-use Rattle.papaya_lives.specs.Given.Schedules.Moment.{UnderWay as CallThere, Moment}
-use Rattle.papaya_lives.specs.Given.Schedules.Views.{call_of}
-use Rattle.papaya_lives.specs.Given.Schedules.Growing.{has_value_for}
-use Rattle.papaya_lives.specs.Given.Teller.declared.changed.Changed.{Changed}
-use Rattle.papaya_lives.specs.Given.Teller.declared.changed.Changed.TheVariants as changed
-use Rattle.papaya_lives.specs.Given.Teller.declared.changed.Kind.TheVariants as kind
-use Rattle.papaya_holds.specs.Given.Rule.InWorld.{IsHeldBy, SparesOthers}
-use Rattle.papaya_holds.specs.Given.Callers.OverAll.{CallOverAll}
-use Rattle.papaya_holds.specs.Given.Callers.Rooms.{CallForRoom}
-use Rattle.papaya_holds.specs.Given.Callers.Sights.{seen_by, IsSight}
-use Rattle.papaya_holds.specs.Given.Callers.Together.{CallOnKey, UnderWay, OnKey, ForRoom, Counting, OverAll, IsOneStep, Together}
-use Rattle.papaya_lives.specs.Given.Effects.Effects.{effects_of, known_after}
-use Rattle.papaya_lives.specs.Given.Effects.Known.{Known}
-use Rattle.papaya_lives.specs.Given.Effects.declared.acting.Acting.{Acting}
-use Rattle.papaya_lives.specs.Given.Effects.declared.acting.Acting.TheVariants as acts
-use Rattle.papaya_lives.specs.Given.Effects.declared.role.Role.{Role}
-use Rattle.papaya_lives.specs.Given.Effects.declared.role.Role.TheVariants as role
-use Rattle.papaya_holds.specs.Given.Finishes.Endings.{StepsAmong}
-use Rattle.papaya_holds.specs.Given.Finishes.Machines.{machine_of, GoesOnAs}
-use Rattle.papaya_holds.specs.Given.Finishes.Maps.{Standing}
-use Rattle.papaya_lives.specs.Given.Follows.Blocks.{WasLinked, HasRole}
-use Rattle.papaya_lives.specs.Given.Follows.Shows.{Shows}
-use Rattle.papaya_lives.specs.Given.Follows.Steps.{TakesNone}
-use Rattle.papaya_lives.proofs.Given.Follows.Alike.{put_here}
-use Rattle.papaya_lives.proofs.Given.Follows.Calling.{is_same_refl}
-use Rattle.papaya_lives.proofs.Given.Follows.Operations.{LeavesBy, operated_leaves}
-use Rattle.papaya_lives.proofs.Given.Follows.Rows.{one_step_leaves}
-use Rattle.papaya_lives.proofs.Given.Follows.RowSteps.{row_done}
-use Rattle.papaya_lives.proofs.Given.Follows.Steps.{WentTo, went_to, made_so, DidSo, OfNoRow, one_of}
-use Rattle.papaya_lives.specs.Given.Follows.Calls.{IsCalled}
-use Rattle.papaya_lives.proofs.Given.Hands.Asking.{which}
-use Rattle.papaya_lives.proofs.Given.Hands.RowSteps.{rows_hand_theirs}
-use Rattle.papaya_lives.specs.Given.Moments.Whole.{ShowsWhole}
-use Rattle.papaya_lives.proofs.Given.Moments.Calls.{of_row, calls_keep_whole}
-use Rattle.papaya_lives.proofs.Given.Moments.Roles.{roles_then}
+use Rattle.papaya_holds.specs.Given.SeizeWordsMem.{Mem, Can, Took, value_at}
+use Rattle.papaya_holds.specs.Given.SeizeWordsPlan.{May}
+use Rattle.papaya_holds.specs.Given.SeizeWordsWord.{block_in}
+use Rattle.papaya_holds.specs.Given.SeizeWorld.{World, with_at, IsInside}
+use Rattle.papaya_holds.specs.Given.TablesDeclared.node.Node.{Node}
+use Rattle.papaya_holds.specs.Given.ResizeDeclared.new_table.NewTable.{NewTable}
+use Rattle.papaya_holds.specs.Given.RawMachine.{machine_plan, called as of_key}
+use Rattle.papaya_holds.specs.Given.RawProgress.{of_called}
+use Rattle.papaya_holds.specs.Given.RawDeclared.machines.answer.Called.{Called}
+use Rattle.papaya_holds.specs.Given.RawDeclared.machines.call.KeyCall.{KeyCall}
+use Rattle.papaya_holds.specs.Given.RawDeclared.machines.machine.Machine.{Machine}
+use Rattle.papaya_holds.specs.Given.RawDeclared.machines.progress.Progress.{Progress}
+use Rattle.papaya_holds.specs.Given.RawCall.{call_plan}
+use Rattle.papaya_lives.specs.Given.RunsSame.{is_same}
+use Rattle.papaya_lives.specs.Given.SchedulesDeclared.effect.Effect.{Effect}
+use Rattle.papaya_lives.specs.Given.SchedulesEffects.{with_effects}
+use Rattle.papaya_lives.specs.Given.SchedulesMoment.{UnderWay as CallThere, Moment}
+use Rattle.papaya_lives.specs.Given.SchedulesViews.{call_of}
+use Rattle.papaya_lives.specs.Given.SchedulesGrowing.{has_value_for}
+use Rattle.papaya_lives.specs.Given.TellerDeclared.changed.Changed.{Changed}
+use Rattle.papaya_lives.specs.Given.TellerDeclared.changed.Changed.TheVariants as changed
+use Rattle.papaya_lives.specs.Given.TellerDeclared.changed.Kind.TheVariants as kind
+use Rattle.papaya_holds.specs.Given.RuleInWorld.{IsHeldBy, SparesOthers}
+use Rattle.papaya_holds.specs.Given.CallersOverAll.{CallOverAll}
+use Rattle.papaya_holds.specs.Given.CallersRooms.{CallForRoom}
+use Rattle.papaya_holds.specs.Given.CallersSights.{seen_by, IsSight}
+use Rattle.papaya_holds.specs.Given.CallersTogether.{CallOnKey, UnderWay, OnKey, ForRoom, Counting, OverAll, IsOneStep, Together}
+use Rattle.papaya_lives.specs.Given.EffectsEffects.{effects_of, known_after}
+use Rattle.papaya_lives.specs.Given.EffectsKnown.{Known}
+use Rattle.papaya_lives.specs.Given.EffectsDeclared.acting.Acting.{Acting}
+use Rattle.papaya_lives.specs.Given.EffectsDeclared.acting.Acting.TheVariants as acts
+use Rattle.papaya_lives.specs.Given.EffectsDeclared.role.Role.{Role}
+use Rattle.papaya_lives.specs.Given.EffectsDeclared.role.Role.TheVariants as role
+use Rattle.papaya_holds.specs.Given.FinishesEndings.{StepsAmong}
+use Rattle.papaya_holds.specs.Given.FinishesMachines.{machine_of, GoesOnAs}
+use Rattle.papaya_holds.specs.Given.FinishesMaps.{Standing}
+use Rattle.papaya_lives.specs.Given.FollowsBlocks.{WasLinked, HasRole}
+use Rattle.papaya_lives.specs.Given.FollowsShows.{Shows}
+use Rattle.papaya_lives.specs.Given.FollowsSteps.{TakesNone}
+use Rattle.papaya_lives.proofs.Given.FollowsAlike.{put_here}
+use Rattle.papaya_lives.proofs.Given.FollowsCalling.{is_same_refl}
+use Rattle.papaya_lives.proofs.Given.FollowsOperations.{LeavesBy, operated_leaves}
+use Rattle.papaya_lives.proofs.Given.FollowsRows.{one_step_leaves}
+use Rattle.papaya_lives.proofs.Given.FollowsRowSteps.{row_done}
+use Rattle.papaya_lives.proofs.Given.FollowsSteps.{WentTo, went_to, made_so, DidSo, OfNoRow, one_of}
+use Rattle.papaya_lives.specs.Given.FollowsCalls.{IsCalled}
+use Rattle.papaya_lives.proofs.Given.HandsAsking.{which}
+use Rattle.papaya_lives.proofs.Given.HandsRowSteps.{rows_hand_theirs}
+use Rattle.papaya_lives.specs.Given.MomentsWhole.{ShowsWhole}
+use Rattle.papaya_lives.proofs.Given.MomentsCalls.{of_row, calls_keep_whole}
+use Rattle.papaya_lives.proofs.Given.MomentsRoles.{roles_then}
 use Rattle.papaya_owes.specs.Beside.{NoneOfBlock}
 use Rattle.papaya_owes.specs.Keeping.{FindBlocks, CallsKeepMade}
 use Rattle.papaya_owes.specs.Made.{own_word, OwnsSo, IsItsBlock, HasBlock, NamesBlock, ShowsMade}
@@ -71,12 +71,12 @@ use Rattle.papaya_owes.proofs.Step.{LeavesMade, left_so, leaves_made, MakersHave
 use Rattle.papaya_owes.proofs.Words.{WordGoes, KeepsWord, none_for_pair}
 use Rattle.papaya_owes.proofs.Valued.{HasGiven, call_valued, row_no_own, knows_given}
 use Rattle.papaya_owes.proofs.Walks.{plan_made, call_makes}
-use Rattle.papaya_lives.proofs.Given.Others.Outcomes.{told_in}
-use Rattle.papaya_lives.proofs.Given.Scenes.Goes.{goes_as}
-use Rattle.papaya_lives.proofs.Given.Scenes.May.{may_step}
-use Rattle.papaya_lives.specs.Given.Scenes.Held.{Held, IsAt}
-use Rattle.papaya_lives.specs.Given.Scenes.Scene.{Scene, slot_of}
-use Rattle.papaya_lives.specs.Given.Scenes.Stepping.{StepLeads, StepsFrom, going_on, has_ended, scene_after}
+use Rattle.papaya_lives.proofs.Given.OthersOutcomes.{told_in}
+use Rattle.papaya_lives.proofs.Given.ScenesGoes.{goes_as}
+use Rattle.papaya_lives.proofs.Given.ScenesMay.{may_step}
+use Rattle.papaya_lives.specs.Given.ScenesHeld.{Held, IsAt}
+use Rattle.papaya_lives.specs.Given.ScenesScene.{Scene, slot_of}
+use Rattle.papaya_lives.specs.Given.ScenesStepping.{StepLeads, StepsFrom, going_on, has_ended, scene_after}
 
 -- a call that goes on is the machine that it has come to
 pub goes_as_one : {K V : Type 0} (machine : Machine K V K) (said : Progress (Node K V)) (next : Option (UnderWay K V K)) → GoesOnAs machine said next → (x : UnderWay K V K) → next ≡ Some x → machine_of x ≡ machine

@@ -1,17 +1,17 @@
 -- What the effects of an operation find of a call's block for a pair, and whether it has one after them.
 use Rattle.std.specs.Prelude.{◌≡◌, ℕ, ◌+◌, Bool, true, false, List, [], ◌∷◌, length, Option, Some}
 use Rattle.std.proofs.Common.{refl, ap, sym, subst, ◌∙◌}
-use Rattle.papaya_lives.specs.Given.Schedules.declared.call.Call.{Call}
-use Rattle.papaya_lives.specs.Given.Schedules.declared.call.Call.TheVariants as call
-use Rattle.papaya_lives.specs.Given.Schedules.declared.effect.Effect.{Effect}
-use Rattle.papaya_lives.specs.Given.Schedules.declared.effect.Effect.TheVariants as effect
-use Rattle.papaya_lives.specs.Given.Schedules.declared.effect.Growth.TheVariants.{ABlock}
-use Rattle.papaya_lives.specs.Given.Schedules.Effects.{due_for, call_by, with_effect}
-use Rattle.papaya_lives.specs.Given.Schedules.Entry.{ByCall}
-use Rattle.papaya_lives.specs.Given.Schedules.Growing.{has_value_for}
-use Rattle.papaya_lives.specs.Given.Schedules.Moment.{UnderWay as CallThere, Moment}
-use Rattle.papaya_lives.specs.Given.Schedules.Views.{call_of}
-use Rattle.papaya_lives.specs.Given.Schedules.declared.effect.Growth.{Growth}
+use Rattle.papaya_lives.specs.Given.SchedulesDeclared.call.Call.{Call}
+use Rattle.papaya_lives.specs.Given.SchedulesDeclared.call.Call.TheVariants as call
+use Rattle.papaya_lives.specs.Given.SchedulesDeclared.effect.Effect.{Effect}
+use Rattle.papaya_lives.specs.Given.SchedulesDeclared.effect.Effect.TheVariants as effect
+use Rattle.papaya_lives.specs.Given.SchedulesDeclared.effect.Growth.TheVariants.{ABlock}
+use Rattle.papaya_lives.specs.Given.SchedulesEffects.{due_for, call_by, with_effect}
+use Rattle.papaya_lives.specs.Given.SchedulesEntry.{ByCall}
+use Rattle.papaya_lives.specs.Given.SchedulesGrowing.{has_value_for}
+use Rattle.papaya_lives.specs.Given.SchedulesMoment.{UnderWay as CallThere, Moment}
+use Rattle.papaya_lives.specs.Given.SchedulesViews.{call_of}
+use Rattle.papaya_lives.specs.Given.SchedulesDeclared.effect.Growth.{Growth}
 use Rattle.papaya_owes.specs.Beside.{of_block, NoneOfBlock}
 use Rattle.papaya_owes.specs.Keeping.{FindsBlock, FindBlocks}
 use Rattle.papaya_owes.proofs.Fields.{all_by, its_effect}

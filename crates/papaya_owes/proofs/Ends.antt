@@ -1,23 +1,23 @@
 -- A call on one key that has ended names no block of its own any more, but that of the pair which it has stored.
 use Rattle.std.specs.Prelude.{◌≡◌, ◌≢◌, ◌<◌, ℕ, Bool, true, None, ◌⊎◌}
 use Rattle.std.proofs.Common.{refl, subst, inl, inr}
-use Rattle.papaya_holds.specs.Given.SeizeWords.Word.{block_in}
-use Rattle.papaya_holds.specs.Given.SeizeWords.declared.fault.Fault.{Fault}
-use Rattle.papaya_holds.specs.Given.Seize.World.{World}
-use Rattle.papaya_holds.specs.Given.Tables.declared.node.Node.{Node}
-use Rattle.papaya_holds.specs.Given.Tables.declared.setting.Setting.{Setting}
-use Rattle.papaya_holds.specs.Given.Raw.Progress.{of_called}
-use Rattle.papaya_holds.specs.Given.Raw.declared.machines.answer.Called.{Called}
-use Rattle.papaya_holds.specs.Given.Raw.declared.machines.answer.Called.TheVariants as called
-use Rattle.papaya_holds.specs.Given.Raw.declared.machines.answer.KeyAnswer.{KeyAnswer}
-use Rattle.papaya_holds.specs.Given.Raw.declared.machines.call.KeyCall.{KeyCall}
-use Rattle.papaya_holds.specs.Given.Rule.Chart.{Chart}
-use Rattle.papaya_holds.specs.Given.Rule.Words.{Blocks}
-use Rattle.papaya_holds.specs.Given.Points.FactsCalls.{Change}
-use Rattle.papaya_holds.specs.Given.Points.Steps.{AreLawful}
-use Rattle.papaya_holds.specs.Given.Callers.Together.{CallOnKey, in_slot, next_of, AnswersOnce}
-use Rattle.papaya_lives.specs.Given.Effects.Known.{Known}
-use Rattle.papaya_lives.specs.Given.Effects.declared.role.Role.TheVariants as role
+use Rattle.papaya_holds.specs.Given.SeizeWordsWord.{block_in}
+use Rattle.papaya_holds.specs.Given.SeizeWordsDeclared.fault.Fault.{Fault}
+use Rattle.papaya_holds.specs.Given.SeizeWorld.{World}
+use Rattle.papaya_holds.specs.Given.TablesDeclared.node.Node.{Node}
+use Rattle.papaya_holds.specs.Given.TablesDeclared.setting.Setting.{Setting}
+use Rattle.papaya_holds.specs.Given.RawProgress.{of_called}
+use Rattle.papaya_holds.specs.Given.RawDeclared.machines.answer.Called.{Called}
+use Rattle.papaya_holds.specs.Given.RawDeclared.machines.answer.Called.TheVariants as called
+use Rattle.papaya_holds.specs.Given.RawDeclared.machines.answer.KeyAnswer.{KeyAnswer}
+use Rattle.papaya_holds.specs.Given.RawDeclared.machines.call.KeyCall.{KeyCall}
+use Rattle.papaya_holds.specs.Given.RuleChart.{Chart}
+use Rattle.papaya_holds.specs.Given.RuleWords.{Blocks}
+use Rattle.papaya_holds.specs.Given.PointsFactsCalls.{Change}
+use Rattle.papaya_holds.specs.Given.PointsSteps.{AreLawful}
+use Rattle.papaya_holds.specs.Given.CallersTogether.{CallOnKey, in_slot, next_of, AnswersOnce}
+use Rattle.papaya_lives.specs.Given.EffectsKnown.{Known}
+use Rattle.papaya_lives.specs.Given.EffectsDeclared.role.Role.TheVariants as role
 use Rattle.papaya_holds.specs.Came.{TellsOwn, Owns}
 use Rattle.papaya_holds.proofs.Calls.Goes.{TellsSo}
 use Rattle.papaya_owes.proofs.Held.{disposes_pair, answered_pair}

@@ -1,37 +1,37 @@
 -- A step of the end of a map takes no block for a pair that is not stored: what it takes was in use, or was left over, or is the map's counter.
 use Rattle.std.specs.Prelude.{◌≡◌, ℕ, Bool, List, Some, None, ◌⊎◌}
 use Rattle.std.proofs.Common.{refl, ap, sym, subst, ◌∙◌, inl, inr}
-use Rattle.papaya_holds.specs.Given.Seize.World.{World}
-use Rattle.papaya_holds.specs.Given.Seize.declared.rows.settle.Settled.{Settled}
-use Rattle.papaya_holds.specs.Given.Seize.declared.rows.settle.Settled.TheVariants as settled
-use Rattle.papaya_holds.specs.Given.Tables.declared.node.Node.{Node}
-use Rattle.papaya_holds.specs.Given.Raw.declared.machines.end_map.EndMap.{EndMap}
-use Rattle.papaya_lives.specs.Given.Schedules.Effects.{with_effects}
-use Rattle.papaya_lives.specs.Given.Schedules.Moment.{Moment}
-use Rattle.papaya_lives.specs.Given.Teller.declared.changed.Changed.{Changed}
-use Rattle.papaya_lives.specs.Given.Teller.declared.changed.Changed.TheVariants as changed
-use Rattle.papaya_lives.specs.Given.Teller.declared.changed.Kind.TheVariants as kind
-use Rattle.papaya_lives.specs.Given.Effects.Effects.{effects_of, known_after}
-use Rattle.papaya_lives.specs.Given.Effects.Known.{Known}
-use Rattle.papaya_lives.specs.Given.Effects.declared.acting.Acting.{Acting}
-use Rattle.papaya_lives.specs.Given.Effects.declared.acting.Acting.TheVariants as acts
-use Rattle.papaya_lives.specs.Given.Effects.declared.role.Role.{Role}
-use Rattle.papaya_lives.specs.Given.Effects.declared.role.Role.TheVariants as role
-use Rattle.papaya_holds.specs.Given.Finishes.Endings.{Finishing, StepsOfEnding}
-use Rattle.papaya_lives.specs.Given.Follows.Shows.{Shows}
-use Rattle.papaya_lives.proofs.Given.Follows.Alike.{AllCalm, put_here}
-use Rattle.papaya_lives.proofs.Given.Follows.Operations.{LeavesBy}
-use Rattle.papaya_lives.specs.Given.Others.Endings.{ending_after}
-use Rattle.papaya_lives.proofs.Given.Others.Quiet.{calls_none}
+use Rattle.papaya_holds.specs.Given.SeizeWorld.{World}
+use Rattle.papaya_holds.specs.Given.SeizeDeclared.rows.settle.Settled.{Settled}
+use Rattle.papaya_holds.specs.Given.SeizeDeclared.rows.settle.Settled.TheVariants as settled
+use Rattle.papaya_holds.specs.Given.TablesDeclared.node.Node.{Node}
+use Rattle.papaya_holds.specs.Given.RawDeclared.machines.end_map.EndMap.{EndMap}
+use Rattle.papaya_lives.specs.Given.SchedulesEffects.{with_effects}
+use Rattle.papaya_lives.specs.Given.SchedulesMoment.{Moment}
+use Rattle.papaya_lives.specs.Given.TellerDeclared.changed.Changed.{Changed}
+use Rattle.papaya_lives.specs.Given.TellerDeclared.changed.Changed.TheVariants as changed
+use Rattle.papaya_lives.specs.Given.TellerDeclared.changed.Kind.TheVariants as kind
+use Rattle.papaya_lives.specs.Given.EffectsEffects.{effects_of, known_after}
+use Rattle.papaya_lives.specs.Given.EffectsKnown.{Known}
+use Rattle.papaya_lives.specs.Given.EffectsDeclared.acting.Acting.{Acting}
+use Rattle.papaya_lives.specs.Given.EffectsDeclared.acting.Acting.TheVariants as acts
+use Rattle.papaya_lives.specs.Given.EffectsDeclared.role.Role.{Role}
+use Rattle.papaya_lives.specs.Given.EffectsDeclared.role.Role.TheVariants as role
+use Rattle.papaya_holds.specs.Given.FinishesEndings.{Finishing, StepsOfEnding}
+use Rattle.papaya_lives.specs.Given.FollowsShows.{Shows}
+use Rattle.papaya_lives.proofs.Given.FollowsAlike.{AllCalm, put_here}
+use Rattle.papaya_lives.proofs.Given.FollowsOperations.{LeavesBy}
+use Rattle.papaya_lives.specs.Given.OthersEndings.{ending_after}
+use Rattle.papaya_lives.proofs.Given.OthersQuiet.{calls_none}
 use Rattle.papaya_owes.specs.Beside.{NoneOfBlock, EndingsKeepMade}
 use Rattle.papaya_owes.specs.Made.{ShowsMade}
 use Rattle.papaya_owes.proofs.Aside.{LeavesAlone, NoneStored, left_alone, not_storing, calm_none, taken_none, made_still}
 use Rattle.papaya_owes.proofs.InHand.{free_there, in_hand}
 use Rattle.papaya_owes.proofs.Roles.{MakesFree, does_so}
 use Rattle.papaya_owes.proofs.Lasting.{ending_leaves, ending_says, ending_keeps_held}
-use Rattle.papaya_lives.specs.Given.Scenes.Ending.{EndingComesTo, EndingStepsFrom}
-use Rattle.papaya_lives.specs.Given.Scenes.Held.{Held, IsAt}
-use Rattle.papaya_lives.specs.Given.Scenes.Scene.{Scene, slot_of}
+use Rattle.papaya_lives.specs.Given.ScenesEnding.{EndingComesTo, EndingStepsFrom}
+use Rattle.papaya_lives.specs.Given.ScenesHeld.{Held, IsAt}
+use Rattle.papaya_lives.specs.Given.ScenesScene.{Scene, slot_of}
 
 module _ {K V : Type 0} (same : K → K → Bool) (hash : ℕ → K → ℕ) (name : ℕ → List ℕ) (m : Moment K V) (known : Known) (s : Scene K V) (old new : Held K V) (at : IsAt same hash old s)
     (shown : Shows same name m known s) (made : ShowsMade name m known s) (i : ℕ) (f : Finishing K V) (here : s.enders i ≡ Some f) (end : EndMap) (said : Settled (Node K V))

@@ -1,15 +1,15 @@
 -- What effects leave of one field of a call: each of its own changes it, one after another, and those of others leave it.
 use Rattle.std.specs.Prelude.{◌≡◌, ℕ, Bool, true, false, List, [], ◌∷◌, Some, if◌then◌else◌}
 use Rattle.std.proofs.Common.{refl, ap, sym, ◌∙◌}
-use Rattle.papaya_lives.specs.Given.Runs.Same.{is_same}
-use Rattle.papaya_lives.specs.Given.Schedules.declared.effect.Effect.{Effect}
-use Rattle.papaya_lives.specs.Given.Schedules.Effects.{call_by, with_effect, with_effects}
-use Rattle.papaya_lives.specs.Given.Schedules.Moment.{UnderWay as CallThere, Moment}
-use Rattle.papaya_lives.specs.Given.Schedules.Views.{call_of}
-use Rattle.papaya_lives.proofs.Given.Follows.Calling.{found_passes, is_same_refl}
-use Rattle.papaya_lives.proofs.Given.Follows.Calls.{changed_same, changed, of_same, found}
-use Rattle.papaya_lives.proofs.Given.Follows.Steps.{one_of}
-use Rattle.papaya_lives.proofs.Given.Hands.Calling.{caller_is}
+use Rattle.papaya_lives.specs.Given.RunsSame.{is_same}
+use Rattle.papaya_lives.specs.Given.SchedulesDeclared.effect.Effect.{Effect}
+use Rattle.papaya_lives.specs.Given.SchedulesEffects.{call_by, with_effect, with_effects}
+use Rattle.papaya_lives.specs.Given.SchedulesMoment.{UnderWay as CallThere, Moment}
+use Rattle.papaya_lives.specs.Given.SchedulesViews.{call_of}
+use Rattle.papaya_lives.proofs.Given.FollowsCalling.{found_passes, is_same_refl}
+use Rattle.papaya_lives.proofs.Given.FollowsCalls.{changed_same, changed, of_same, found}
+use Rattle.papaya_lives.proofs.Given.FollowsSteps.{one_of}
+use Rattle.papaya_lives.proofs.Given.HandsCalling.{caller_is}
 
 -- one effect after another
 abbrev pub all_by : {X : Type 0} → (Effect → X → X) → List Effect → X → X

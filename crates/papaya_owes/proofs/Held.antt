@@ -1,34 +1,34 @@
 -- The block that a call on one key names as its own is in its hands, until the call has changed something; from then on it is a pair's.
 use Rattle.std.specs.Prelude.{◌≡◌, ◌≢◌, ℕ, ◌+◌, ◌*◌, ◌<◌, ◌^◌, Bool, true, false, Option, Some, ◌⊎◌}
 use Rattle.std.proofs.Common.{refl, ap, sym, ◌∙◌, arith, inl, inr}
-use Rattle.papaya_holds.specs.Given.SeizeWords.Mem.{value_at}
-use Rattle.papaya_holds.specs.Given.SeizeWords.Word.{block_in, link_word}
-use Rattle.papaya_holds.specs.Given.Seize.World.{World, Making}
-use Rattle.papaya_holds.specs.Given.Tables.declared.node.Node.{Node}
-use Rattle.papaya_holds.specs.Given.Tables.declared.node.Node.TheVariants as node
-use Rattle.papaya_holds.specs.Given.Tables.declared.setting.Setting.{Setting}
-use Rattle.papaya_holds.specs.Given.Tables.Nodes.{vacant}
-use Rattle.papaya_holds.specs.Given.Raw.declared.machines.answer.End.{End}
-use Rattle.papaya_holds.specs.Given.Raw.declared.machines.answer.End.TheVariants as ends
-use Rattle.papaya_holds.specs.Given.Raw.declared.machines.answer.KeyAnswer.{KeyAnswer}
-use Rattle.papaya_holds.specs.Given.Raw.declared.machines.answer.KeyAnswer.TheVariants as answers
-use Rattle.papaya_holds.specs.Given.Raw.declared.machines.asking.Asking.{Asking}
-use Rattle.papaya_holds.specs.Given.Raw.declared.machines.asking.Asking.TheVariants as asking
-use Rattle.papaya_holds.specs.Given.Raw.declared.machines.call.Calling.{Calling}
-use Rattle.papaya_holds.specs.Given.Raw.declared.machines.call.Calling.TheVariants as at
-use Rattle.papaya_holds.specs.Given.Raw.declared.machines.call.KeyCall.{KeyCall}
-use Rattle.papaya_holds.specs.Given.Rule.Chart.{Still, Holds, Chart}
-use Rattle.papaya_holds.specs.Given.Rule.Words.{Blocks, byte_of, mark_bits, place_word}
-use Rattle.papaya_holds.proofs.Given.Rule.Laws.{words_name_pairs, bytes_are_few}
-use Rattle.papaya_holds.specs.Given.Points.FactsCalls.{Holding, Apart, InBlock, ByReply, holding, Change, Unchanged, Stored, Replaced, Removed, IsOwnPair, IsVacant, HasOwn, HasIts, IsToFill, Tells, AskingFacts, CallingFacts}
-use Rattle.papaya_holds.specs.Given.Points.Steps.{AreLawful}
-use Rattle.papaya_holds.specs.Given.Points.Told.{IsRowOfCall}
-use Rattle.papaya_holds.specs.Given.Late.LateCalls.{LateAsking, LateCalling}
-use Rattle.papaya_holds.specs.Given.Callers.Rows.{past_row, once_over}
-use Rattle.papaya_holds.specs.Given.Callers.Since.{SoSince, Since}
-use Rattle.papaya_holds.specs.Given.Callers.Together.{CallOnKey, OnKey, in_slot, Knows, Stands}
-use Rattle.papaya_lives.specs.Given.Effects.Known.{Known}
-use Rattle.papaya_lives.specs.Given.Effects.declared.role.Role.TheVariants as role
+use Rattle.papaya_holds.specs.Given.SeizeWordsMem.{value_at}
+use Rattle.papaya_holds.specs.Given.SeizeWordsWord.{block_in, link_word}
+use Rattle.papaya_holds.specs.Given.SeizeWorld.{World, Making}
+use Rattle.papaya_holds.specs.Given.TablesDeclared.node.Node.{Node}
+use Rattle.papaya_holds.specs.Given.TablesDeclared.node.Node.TheVariants as node
+use Rattle.papaya_holds.specs.Given.TablesDeclared.setting.Setting.{Setting}
+use Rattle.papaya_holds.specs.Given.TablesNodes.{vacant}
+use Rattle.papaya_holds.specs.Given.RawDeclared.machines.answer.End.{End}
+use Rattle.papaya_holds.specs.Given.RawDeclared.machines.answer.End.TheVariants as ends
+use Rattle.papaya_holds.specs.Given.RawDeclared.machines.answer.KeyAnswer.{KeyAnswer}
+use Rattle.papaya_holds.specs.Given.RawDeclared.machines.answer.KeyAnswer.TheVariants as answers
+use Rattle.papaya_holds.specs.Given.RawDeclared.machines.asking.Asking.{Asking}
+use Rattle.papaya_holds.specs.Given.RawDeclared.machines.asking.Asking.TheVariants as asking
+use Rattle.papaya_holds.specs.Given.RawDeclared.machines.call.Calling.{Calling}
+use Rattle.papaya_holds.specs.Given.RawDeclared.machines.call.Calling.TheVariants as at
+use Rattle.papaya_holds.specs.Given.RawDeclared.machines.call.KeyCall.{KeyCall}
+use Rattle.papaya_holds.specs.Given.RuleChart.{Still, Holds, Chart}
+use Rattle.papaya_holds.specs.Given.RuleWords.{Blocks, byte_of, mark_bits, place_word}
+use Rattle.papaya_holds.proofs.Given.RuleLaws.{words_name_pairs, bytes_are_few}
+use Rattle.papaya_holds.specs.Given.PointsFactsCalls.{Holding, Apart, InBlock, ByReply, holding, Change, Unchanged, Stored, Replaced, Removed, IsOwnPair, IsVacant, HasOwn, HasIts, IsToFill, Tells, AskingFacts, CallingFacts}
+use Rattle.papaya_holds.specs.Given.PointsSteps.{AreLawful}
+use Rattle.papaya_holds.specs.Given.PointsTold.{IsRowOfCall}
+use Rattle.papaya_holds.specs.Given.LateLateCalls.{LateAsking, LateCalling}
+use Rattle.papaya_holds.specs.Given.CallersRows.{past_row, once_over}
+use Rattle.papaya_holds.specs.Given.CallersSince.{SoSince, Since}
+use Rattle.papaya_holds.specs.Given.CallersTogether.{CallOnKey, OnKey, in_slot, Knows, Stands}
+use Rattle.papaya_lives.specs.Given.EffectsKnown.{Known}
+use Rattle.papaya_lives.specs.Given.EffectsDeclared.role.Role.TheVariants as role
 use Rattle.papaya_holds.specs.Came.{TellsOwn, EndsOwn, OwnsAt, Owns}
 use Rattle.papaya_holds.proofs.Calls.Steps.{names_block}
 

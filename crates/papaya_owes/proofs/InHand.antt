@@ -1,23 +1,23 @@
 -- Wherever a moment shows it, a block for a pair that is not stored is in the hands of the caller whose it is.
 use Rattle.std.specs.Prelude.{◌≡◌, ℕ, Bool, List, Some, None}
 use Rattle.std.proofs.Common.{refl, ap, sym, subst, ◌∙◌, inl, inr}
-use Rattle.papaya_holds.specs.Given.SeizeWords.Mem.{value_at}
-use Rattle.papaya_holds.specs.Given.Seize.World.{World}
-use Rattle.papaya_holds.specs.Given.Tables.declared.node.Node.{Node}
-use Rattle.papaya_lives.specs.Given.Schedules.Moment.{Moment}
-use Rattle.papaya_holds.specs.Given.Callers.Sights.{seen_by, IsSight}
-use Rattle.papaya_holds.specs.Given.Callers.Together.{CallOnKey, UnderWay, OnKey, ForRoom, Counting, OverAll, Together}
-use Rattle.papaya_lives.specs.Given.Effects.Known.{Known}
-use Rattle.papaya_lives.specs.Given.Effects.declared.role.Role.{Role}
-use Rattle.papaya_lives.specs.Given.Effects.declared.role.Role.TheVariants as role
-use Rattle.papaya_holds.specs.Given.Finishes.Maps.{Standing}
-use Rattle.papaya_lives.specs.Given.Follows.Blocks.{HasRole}
-use Rattle.papaya_lives.specs.Given.Follows.Shows.{Shows}
+use Rattle.papaya_holds.specs.Given.SeizeWordsMem.{value_at}
+use Rattle.papaya_holds.specs.Given.SeizeWorld.{World}
+use Rattle.papaya_holds.specs.Given.TablesDeclared.node.Node.{Node}
+use Rattle.papaya_lives.specs.Given.SchedulesMoment.{Moment}
+use Rattle.papaya_holds.specs.Given.CallersSights.{seen_by, IsSight}
+use Rattle.papaya_holds.specs.Given.CallersTogether.{CallOnKey, UnderWay, OnKey, ForRoom, Counting, OverAll, Together}
+use Rattle.papaya_lives.specs.Given.EffectsKnown.{Known}
+use Rattle.papaya_lives.specs.Given.EffectsDeclared.role.Role.{Role}
+use Rattle.papaya_lives.specs.Given.EffectsDeclared.role.Role.TheVariants as role
+use Rattle.papaya_holds.specs.Given.FinishesMaps.{Standing}
+use Rattle.papaya_lives.specs.Given.FollowsBlocks.{HasRole}
+use Rattle.papaya_lives.specs.Given.FollowsShows.{Shows}
 use Rattle.papaya_owes.specs.Made.{IsItsBlock, ShowsMade}
 use Rattle.papaya_owes.proofs.Held.{IsInHand, stands_held}
-use Rattle.papaya_lives.proofs.Given.Scenes.May.{standing_is}
-use Rattle.papaya_lives.specs.Given.Scenes.Held.{Held, IsAt}
-use Rattle.papaya_lives.specs.Given.Scenes.Scene.{Scene, slot_of}
+use Rattle.papaya_lives.proofs.Given.ScenesMay.{standing_is}
+use Rattle.papaya_lives.specs.Given.ScenesHeld.{Held, IsAt}
+use Rattle.papaya_lives.specs.Given.ScenesScene.{Scene, slot_of}
 
 -- a block that is not there is free
 pub free_there : {K V : Type 0} (w : World (Node K V)) (stored : List (K × V)) (known : Known) → ((b : ℕ) → HasRole w stored b (known.roles b)) → (b : ℕ) → value_at w.memory b ≡ None → known.roles b ≡ role.Free

@@ -2,27 +2,27 @@
 use Rattle.std.specs.Prelude.{◌≡◌, ◌≢◌, ℕ, ◌+◌, Bool, true, false, cond, not, List, find, map, Option, Some, None, if◌then◌else◌}
 use Rattle.std.proofs.Common.{refl, ap, sym, subst, ◌∙◌, inl, inr}
 use Rattle.std.proofs.lemmas.Bool.{cases_eq}
-use Rattle.papaya_holds.specs.Given.Seize.World.{with_at}
-use Rattle.papaya_lives.specs.Given.Runs.Same.{is_same}
-use Rattle.papaya_lives.specs.Given.Schedules.declared.call.Call.{Call}
-use Rattle.papaya_lives.specs.Given.Schedules.declared.call.Reply.{Reply}
-use Rattle.papaya_lives.specs.Given.Schedules.declared.outcome.Outcome.{Outcome}
-use Rattle.papaya_lives.specs.Given.Schedules.declared.outcome.Outcome.TheVariants as outcome
-use Rattle.papaya_lives.specs.Given.Schedules.After.{asks_on, comes_to, replied, without_call}
-use Rattle.papaya_lives.specs.Given.Schedules.Beginning.{fresh_call, with_call}
-use Rattle.papaya_lives.specs.Given.Schedules.Entry.{ends_call}
-use Rattle.papaya_lives.specs.Given.Schedules.Moment.{Stands, Going, Asking, Told, IsReady, UnderWay as CallThere, Moment}
-use Rattle.papaya_lives.specs.Given.Schedules.Views.{call_of}
-use Rattle.papaya_holds.specs.Given.Callers.Together.{UnderWay}
-use Rattle.papaya_holds.proofs.Given.Callers.Together.At.{at_other, at_same}
-use Rattle.papaya_holds.specs.Given.Finishes.Maps.{with_call as with_in}
-use Rattle.papaya_lives.specs.Given.Follows.Calling.{told, come_to}
-use Rattle.papaya_lives.specs.Given.Follows.Calls.{ShowsCalls}
-use Rattle.papaya_lives.proofs.Given.Follows.Calling.{is_same_refl, apart_back, found_kept, come, come_of_same, replied_same}
-use Rattle.papaya_lives.proofs.Given.Follows.Calls.{IsOfSame, changed, found}
-use Rattle.papaya_lives.proofs.Given.Follows.Steps.{one_of}
-use Rattle.papaya_lives.proofs.Given.Hands.Asking.{which}
-use Rattle.papaya_lives.proofs.Given.Hands.Calling.{caller_is}
+use Rattle.papaya_holds.specs.Given.SeizeWorld.{with_at}
+use Rattle.papaya_lives.specs.Given.RunsSame.{is_same}
+use Rattle.papaya_lives.specs.Given.SchedulesDeclared.call.Call.{Call}
+use Rattle.papaya_lives.specs.Given.SchedulesDeclared.call.Reply.{Reply}
+use Rattle.papaya_lives.specs.Given.SchedulesDeclared.outcome.Outcome.{Outcome}
+use Rattle.papaya_lives.specs.Given.SchedulesDeclared.outcome.Outcome.TheVariants as outcome
+use Rattle.papaya_lives.specs.Given.SchedulesAfter.{asks_on, comes_to, replied, without_call}
+use Rattle.papaya_lives.specs.Given.SchedulesBeginning.{fresh_call, with_call}
+use Rattle.papaya_lives.specs.Given.SchedulesEntry.{ends_call}
+use Rattle.papaya_lives.specs.Given.SchedulesMoment.{Stands, Going, Asking, Told, IsReady, UnderWay as CallThere, Moment}
+use Rattle.papaya_lives.specs.Given.SchedulesViews.{call_of}
+use Rattle.papaya_holds.specs.Given.CallersTogether.{UnderWay}
+use Rattle.papaya_holds.proofs.Given.CallersTogether.At.{at_other, at_same}
+use Rattle.papaya_holds.specs.Given.FinishesMaps.{with_call as with_in}
+use Rattle.papaya_lives.specs.Given.FollowsCalling.{told, come_to}
+use Rattle.papaya_lives.specs.Given.FollowsCalls.{ShowsCalls}
+use Rattle.papaya_lives.proofs.Given.FollowsCalling.{is_same_refl, apart_back, found_kept, come, come_of_same, replied_same}
+use Rattle.papaya_lives.proofs.Given.FollowsCalls.{IsOfSame, changed, found}
+use Rattle.papaya_lives.proofs.Given.FollowsSteps.{one_of}
+use Rattle.papaya_lives.proofs.Given.HandsAsking.{which}
+use Rattle.papaya_lives.proofs.Given.HandsCalling.{caller_is}
 
 -- the calls of other callers are as they were
 pub calls_beside : {X : Type 0} (calls : ℕ → ℕ → Option X) (of i : ℕ) (next : Option X) (n j : ℕ) → j ≢ i → with_in calls of i next n j ≡ calls n j

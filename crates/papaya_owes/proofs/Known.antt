@@ -1,36 +1,36 @@
 -- What a call knows of the table where it changes its map, and, as its disposal reads the root, of that.
 use Rattle.std.specs.Prelude.{◌≡◌, ℕ, Bool, Some}
 use Rattle.std.proofs.Common.{ap, subst, inl, inr, arith}
-use Rattle.papaya_holds.specs.Given.SeizeWords.Mem.{word_at, value_at}
-use Rattle.papaya_holds.specs.Given.SeizeWords.Word.{block_in}
-use Rattle.papaya_holds.specs.Given.SeizeWords.declared.at.At.TheVariants.{Root}
-use Rattle.papaya_holds.specs.Given.Seize.World.{World}
-use Rattle.papaya_holds.specs.Given.Tables.Nodes.{table_seen}
-use Rattle.papaya_holds.specs.Given.Tables.declared.node.Node.{Node}
-use Rattle.papaya_holds.specs.Given.Tables.declared.setting.Setting.{Setting}
-use Rattle.papaya_holds.specs.Given.Tables.declared.table.Table.{Table}
-use Rattle.papaya_holds.specs.Given.Resize.declared.dispose.Dispose.{Dispose}
-use Rattle.papaya_holds.specs.Given.Resize.declared.dispose.Disposing.TheVariants as disposal
-use Rattle.papaya_holds.specs.Given.Sweeps.declared.sweep.Sweeping.{Sweeping}
-use Rattle.papaya_holds.specs.Given.Sweeps.declared.sweep.Sweeping.TheVariants as sweeping
-use Rattle.papaya_holds.specs.Given.Raw.declared.machines.answer.KeyAnswer.{KeyAnswer}
-use Rattle.papaya_holds.specs.Given.Raw.declared.machines.call.Calling.{Calling}
-use Rattle.papaya_holds.specs.Given.Raw.declared.machines.call.Calling.TheVariants as calling
-use Rattle.papaya_holds.specs.Given.Rule.Chart.{Chart}
-use Rattle.papaya_holds.specs.Given.Rule.InWorld.{IsMapIn}
-use Rattle.papaya_holds.specs.Given.Rule.Links.{IsLinkTo}
-use Rattle.papaya_holds.specs.Given.Rule.Maps.{IsTable}
-use Rattle.papaya_holds.specs.Given.Rule.Words.{Blocks}
-use Rattle.papaya_holds.proofs.Given.Rule.Words.LinksRead.{link_table}
-use Rattle.papaya_holds.proofs.Given.Rule.Words.LinksSeen.{link_made, root_leads}
-use Rattle.papaya_holds.specs.Given.Points.FactsCalls.{CallingFacts}
-use Rattle.papaya_holds.specs.Given.Points.FactsDisposes.{DisposeFacts}
-use Rattle.papaya_holds.specs.Given.Points.Told.{IsRowOf, IsRowOfCall}
-use Rattle.papaya_holds.specs.Given.Late.FactsSweeps.{SweepingFacts}
-use Rattle.papaya_holds.specs.Given.Late.LateCalls.{LateCalling}
-use Rattle.papaya_holds.specs.Given.Late.ToldSweeps.{IsRowOfSweep}
-use Rattle.papaya_holds.specs.Given.Callers.OverAll.{CallOverAll}
-use Rattle.papaya_holds.specs.Given.Callers.Together.{CallOnKey, OnKey, OverAll, Stands, in_slot}
+use Rattle.papaya_holds.specs.Given.SeizeWordsMem.{word_at, value_at}
+use Rattle.papaya_holds.specs.Given.SeizeWordsWord.{block_in}
+use Rattle.papaya_holds.specs.Given.SeizeWordsDeclared.at.At.TheVariants.{Root}
+use Rattle.papaya_holds.specs.Given.SeizeWorld.{World}
+use Rattle.papaya_holds.specs.Given.TablesNodes.{table_seen}
+use Rattle.papaya_holds.specs.Given.TablesDeclared.node.Node.{Node}
+use Rattle.papaya_holds.specs.Given.TablesDeclared.setting.Setting.{Setting}
+use Rattle.papaya_holds.specs.Given.TablesDeclared.table.Table.{Table}
+use Rattle.papaya_holds.specs.Given.ResizeDeclared.dispose.Dispose.{Dispose}
+use Rattle.papaya_holds.specs.Given.ResizeDeclared.dispose.Disposing.TheVariants as disposal
+use Rattle.papaya_holds.specs.Given.SweepsDeclared.sweep.Sweeping.{Sweeping}
+use Rattle.papaya_holds.specs.Given.SweepsDeclared.sweep.Sweeping.TheVariants as sweeping
+use Rattle.papaya_holds.specs.Given.RawDeclared.machines.answer.KeyAnswer.{KeyAnswer}
+use Rattle.papaya_holds.specs.Given.RawDeclared.machines.call.Calling.{Calling}
+use Rattle.papaya_holds.specs.Given.RawDeclared.machines.call.Calling.TheVariants as calling
+use Rattle.papaya_holds.specs.Given.RuleChart.{Chart}
+use Rattle.papaya_holds.specs.Given.RuleInWorld.{IsMapIn}
+use Rattle.papaya_holds.specs.Given.RuleLinks.{IsLinkTo}
+use Rattle.papaya_holds.specs.Given.RuleMaps.{IsTable}
+use Rattle.papaya_holds.specs.Given.RuleWords.{Blocks}
+use Rattle.papaya_holds.proofs.Given.RuleWords.LinksRead.{link_table}
+use Rattle.papaya_holds.proofs.Given.RuleWords.LinksSeen.{link_made, root_leads}
+use Rattle.papaya_holds.specs.Given.PointsFactsCalls.{CallingFacts}
+use Rattle.papaya_holds.specs.Given.PointsFactsDisposes.{DisposeFacts}
+use Rattle.papaya_holds.specs.Given.PointsTold.{IsRowOf, IsRowOfCall}
+use Rattle.papaya_holds.specs.Given.LateFactsSweeps.{SweepingFacts}
+use Rattle.papaya_holds.specs.Given.LateLateCalls.{LateCalling}
+use Rattle.papaya_holds.specs.Given.LateToldSweeps.{IsRowOfSweep}
+use Rattle.papaya_holds.specs.Given.CallersOverAll.{CallOverAll}
+use Rattle.papaya_holds.specs.Given.CallersTogether.{CallOnKey, OnKey, OverAll, Stands, in_slot}
 
 -- the root that a disposal reads is the first table of its map
 pub root_turn : {K V : Type 0} (same : K → K → Bool) (hash : K → ℕ) (setting : Setting) (w : World (Node K V)) (caller : ℕ) (c : Chart K) (blocks : Blocks) → IsMapIn same hash setting w c blocks

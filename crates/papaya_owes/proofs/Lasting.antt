@@ -1,43 +1,43 @@
 -- What is in somebody's hands is there still after a step of a row on a slot, and after one of the end of a map.
 use Rattle.std.proofs.Common.{ap, arith, refl, subst, sym, ◌∙◌}
 use Rattle.std.specs.Prelude.{◌≡◌, ◌≢◌, ◌<◌, ℕ, zero, suc, Bool, false, List, Some, None, ◌⊎◌}
-use Rattle.papaya_holds.specs.Given.SeizeWords.Mem.{Mem, Took, value_at}
-use Rattle.papaya_holds.specs.Given.SeizeWords.Plan.{Steps}
-use Rattle.papaya_holds.specs.Given.Seize.World.{InUse, LeftTo, Step, World, times}
-use Rattle.papaya_holds.specs.Given.Seize.declared.rows.settle.Settled.{Settled}
-use Rattle.papaya_holds.proofs.Given.SeizeAlone.Histories.NotTaken.{IsHad, kept_value}
-use Rattle.papaya_holds.specs.Given.SeizeAlone.Alone.{IsOfUsers}
-use Rattle.papaya_holds.specs.Given.Tables.Nodes.{deferred_word}
-use Rattle.papaya_holds.specs.Given.Tables.declared.node.Node.{Node}
-use Rattle.papaya_holds.specs.Given.Tables.declared.node.Node.TheVariants as node
-use Rattle.papaya_holds.specs.Given.Raw.EndMap.{end_map_plan}
-use Rattle.papaya_holds.specs.Given.Raw.declared.machines.end_map.EndMap.{EndMap}
-use Rattle.papaya_lives.specs.Given.Schedules.Moment.{Moment}
-use Rattle.papaya_lives.specs.Given.Teller.declared.changed.Changed.{Changed}
-use Rattle.papaya_lives.specs.Given.Teller.declared.changed.Changed.TheVariants as changed
-use Rattle.papaya_holds.proofs.Given.Callers.Together.Came.{came_reached}
-use Rattle.papaya_lives.specs.Given.Effects.Effects.{effects_of, known_after}
-use Rattle.papaya_lives.specs.Given.Effects.Known.{Known}
-use Rattle.papaya_lives.specs.Given.Effects.declared.acting.Acting.{Acting}
-use Rattle.papaya_lives.specs.Given.Effects.declared.acting.Acting.TheVariants as acts
-use Rattle.papaya_lives.specs.Given.Scenes.declared.row.RowTold.{RowTold}
-use Rattle.papaya_lives.specs.Given.Scenes.declared.row.SlotRow.{SlotRow}
-use Rattle.papaya_holds.proofs.Given.Finishes.Ends.Frames.{that_one}
-use Rattle.papaya_holds.proofs.Given.Finishes.Ends.Points.{end_steps}
-use Rattle.papaya_holds.specs.Given.Finishes.Endings.{Finishing, FinishingFacts, StepsOfEnding}
-use Rattle.papaya_holds.specs.Given.Finishes.FactsEnds.{Deed, EndWent, IsFresh, IsItsDeed, JoinsPair, LeavesTable, Looks, TakesCounter, TakesLeft, TakesPair, WritesRoot, taken_by}
-use Rattle.papaya_lives.proofs.Given.Follows.Alike.{AllCalm}
-use Rattle.papaya_lives.proofs.Given.Follows.Operations.{LeavesBy, operated_leaves}
-use Rattle.papaya_lives.specs.Given.Follows.Shows.{Shows}
-use Rattle.papaya_lives.proofs.Given.Others.Ends.{left, says_or_takes}
-use Rattle.papaya_lives.proofs.Given.Others.RowPlans.{row_operated}
+use Rattle.papaya_holds.specs.Given.SeizeWordsMem.{Mem, Took, value_at}
+use Rattle.papaya_holds.specs.Given.SeizeWordsPlan.{Steps}
+use Rattle.papaya_holds.specs.Given.SeizeWorld.{InUse, LeftTo, Step, World, times}
+use Rattle.papaya_holds.specs.Given.SeizeDeclared.rows.settle.Settled.{Settled}
+use Rattle.papaya_holds.proofs.Given.SeizeAloneHistories.NotTaken.{IsHad, kept_value}
+use Rattle.papaya_holds.specs.Given.SeizeAloneAlone.{IsOfUsers}
+use Rattle.papaya_holds.specs.Given.TablesNodes.{deferred_word}
+use Rattle.papaya_holds.specs.Given.TablesDeclared.node.Node.{Node}
+use Rattle.papaya_holds.specs.Given.TablesDeclared.node.Node.TheVariants as node
+use Rattle.papaya_holds.specs.Given.RawEndMap.{end_map_plan}
+use Rattle.papaya_holds.specs.Given.RawDeclared.machines.end_map.EndMap.{EndMap}
+use Rattle.papaya_lives.specs.Given.SchedulesMoment.{Moment}
+use Rattle.papaya_lives.specs.Given.TellerDeclared.changed.Changed.{Changed}
+use Rattle.papaya_lives.specs.Given.TellerDeclared.changed.Changed.TheVariants as changed
+use Rattle.papaya_holds.proofs.Given.CallersTogether.Came.{came_reached}
+use Rattle.papaya_lives.specs.Given.EffectsEffects.{effects_of, known_after}
+use Rattle.papaya_lives.specs.Given.EffectsKnown.{Known}
+use Rattle.papaya_lives.specs.Given.EffectsDeclared.acting.Acting.{Acting}
+use Rattle.papaya_lives.specs.Given.EffectsDeclared.acting.Acting.TheVariants as acts
+use Rattle.papaya_lives.specs.Given.ScenesDeclared.row.RowTold.{RowTold}
+use Rattle.papaya_lives.specs.Given.ScenesDeclared.row.SlotRow.{SlotRow}
+use Rattle.papaya_holds.proofs.Given.FinishesEnds.Frames.{that_one}
+use Rattle.papaya_holds.proofs.Given.FinishesEnds.Points.{end_steps}
+use Rattle.papaya_holds.specs.Given.FinishesEndings.{Finishing, FinishingFacts, StepsOfEnding}
+use Rattle.papaya_holds.specs.Given.FinishesFactsEnds.{Deed, EndWent, IsFresh, IsItsDeed, JoinsPair, LeavesTable, Looks, TakesCounter, TakesLeft, TakesPair, WritesRoot, taken_by}
+use Rattle.papaya_lives.proofs.Given.FollowsAlike.{AllCalm}
+use Rattle.papaya_lives.proofs.Given.FollowsOperations.{LeavesBy, operated_leaves}
+use Rattle.papaya_lives.specs.Given.FollowsShows.{Shows}
+use Rattle.papaya_lives.proofs.Given.OthersEnds.{left, says_or_takes}
+use Rattle.papaya_lives.proofs.Given.OthersRowPlans.{row_operated}
 use Rattle.papaya_owes.proofs.Held.{IsInHand}
-use Rattle.papaya_lives.proofs.Given.Scenes.May.{may_row}
-use Rattle.papaya_lives.proofs.Given.Scenes.Told.{as_step}
-use Rattle.papaya_lives.specs.Given.Scenes.Ending.{EndingComesTo, EndingStepsFrom}
-use Rattle.papaya_lives.specs.Given.Scenes.Held.{Held, IsAt}
-use Rattle.papaya_lives.specs.Given.Scenes.OnSlots.{HappensAt, RowSteps}
-use Rattle.papaya_lives.specs.Given.Scenes.Scene.{IsOnSlot, Scene, slot_of}
+use Rattle.papaya_lives.proofs.Given.ScenesMay.{may_row}
+use Rattle.papaya_lives.proofs.Given.ScenesTold.{as_step}
+use Rattle.papaya_lives.specs.Given.ScenesEnding.{EndingComesTo, EndingStepsFrom}
+use Rattle.papaya_lives.specs.Given.ScenesHeld.{Held, IsAt}
+use Rattle.papaya_lives.specs.Given.ScenesOnSlots.{HappensAt, RowSteps}
+use Rattle.papaya_lives.specs.Given.ScenesScene.{IsOnSlot, Scene, slot_of}
 
 module _ {K V : Type 0} (same : K → K → Bool) (hash : ℕ → K → ℕ) (s : Scene K V) (old new : Held K V) (at : IsAt same hash old s) (i : ℕ) (row : SlotRow) (here : IsOnSlot s i row)
     (end : SlotRow × RowTold (Node K V)) (steps : RowSteps K V row old.memory new.memory new.changed end) (happened : HappensAt same hash (Step i) s old new) where

@@ -1,54 +1,54 @@
 -- A step of the making of a map makes no block for a pair, and takes none: what it takes it has made itself.
 use Rattle.std.specs.Prelude.{◌≡◌, ◌<◌, ℕ, ◌+◌, ◌%◌, ◌^◌, Bool, List, [], Option, Some, None, ◌⊎◌, Ok, Err, if◌then◌else◌}
 use Rattle.std.proofs.Common.{refl, ap, sym, subst, ◌∙◌, arith, inl, inr}
-use Rattle.papaya_holds.specs.Given.SeizeWords.declared.at.At.TheVariants.{Root, Used, Slot, Entry, Word}
-use Rattle.papaya_holds.specs.Given.SeizeWords.Mem.{Mem}
-use Rattle.papaya_holds.specs.Given.SeizeWords.Op.{Out, Make, Made}
-use Rattle.papaya_holds.specs.Given.SeizeWords.Word.{block_in}
-use Rattle.papaya_holds.specs.Given.Seize.World.{World, Making as MadeBy}
-use Rattle.papaya_holds.specs.Given.Seize.declared.progress.Progress.{Progress}
-use Rattle.papaya_holds.specs.Given.Seize.declared.progress.Progress.TheVariants as progress
-use Rattle.papaya_holds.specs.Given.Tables.declared.node.Node.{Node}
-use Rattle.papaya_holds.specs.Given.Tables.declared.node.Node.TheVariants as node
-use Rattle.papaya_holds.specs.Given.Tables.declared.setting.Setting.{Setting}
-use Rattle.papaya_holds.specs.Given.Resize.NewMap as new_map
-use Rattle.papaya_holds.specs.Given.Resize.NewTable as new_table
-use Rattle.papaya_holds.specs.Given.Resize.Sum as sums
-use Rattle.papaya_holds.specs.Given.Resize.declared.new_map.NewMap.{NewMap}
-use Rattle.papaya_holds.specs.Given.Resize.declared.new_map.Opening.{Opening}
-use Rattle.papaya_holds.specs.Given.Resize.declared.new_map.Opening.TheVariants as opening
-use Rattle.papaya_holds.specs.Given.Resize.declared.new_table.Making.{Making}
-use Rattle.papaya_holds.specs.Given.Resize.declared.new_table.Making.TheVariants as makes
-use Rattle.papaya_holds.specs.Given.Resize.declared.new_table.NewTable.{NewTable}
-use Rattle.papaya_holds.specs.Given.Resize.declared.sum.Sum.{Sum}
-use Rattle.papaya_holds.specs.Given.Resize.declared.sum.Summing.{Summing}
-use Rattle.papaya_holds.specs.Given.Resize.declared.sum.Summing.TheVariants as summing
-use Rattle.papaya_lives.specs.Given.Schedules.Effects.{with_effects}
-use Rattle.papaya_lives.specs.Given.Schedules.Moment.{Moment}
-use Rattle.papaya_lives.specs.Given.Tells.Seen.{seen_of}
-use Rattle.papaya_lives.specs.Given.Teller.Tells.{told_of, StepsTold}
-use Rattle.papaya_lives.specs.Given.Teller.declared.changed.Changed.{Changed}
-use Rattle.papaya_lives.specs.Given.Teller.declared.changed.Changed.TheVariants as changed
-use Rattle.papaya_lives.specs.Given.Teller.declared.changed.Kind.{Kind}
-use Rattle.papaya_lives.specs.Given.Teller.declared.changed.Kind.TheVariants as kind
-use Rattle.papaya_lives.specs.Given.Teller.Changed.{kind_of}
-use Rattle.papaya_holds.specs.Given.Rule.Rule.{no_table}
-use Rattle.papaya_holds.specs.Given.Points.FactsTables.{MakingFacts}
-use Rattle.papaya_holds.specs.Given.Callers.Together.{no_blocks}
-use Rattle.papaya_lives.specs.Given.Effects.Effects.{names_same, named, made_by, led_to, effects_of, known_after}
-use Rattle.papaya_lives.specs.Given.Effects.Known.{Known}
-use Rattle.papaya_lives.specs.Given.Effects.declared.acting.Acting.{Acting}
-use Rattle.papaya_lives.specs.Given.Effects.declared.acting.Acting.TheVariants as acts
-use Rattle.papaya_lives.specs.Given.Effects.declared.role.Role.TheVariants as role
-use Rattle.papaya_holds.specs.Given.Finishes.Endings.{MakingStepsAmong}
-use Rattle.papaya_holds.specs.Given.Finishes.Makings.{Beginning, OpeningFacts}
-use Rattle.papaya_lives.specs.Given.Follows.Shows.{Shows}
-use Rattle.papaya_lives.proofs.Given.Follows.Operations.{LeavesBy}
-use Rattle.papaya_lives.specs.Given.Others.Makings.{making_after}
-use Rattle.papaya_lives.proofs.Given.Others.Leads.{word_says}
-use Rattle.papaya_lives.proofs.Given.Others.MakingPlans.{TellsMaking}
-use Rattle.papaya_lives.proofs.Given.Others.Makes.{no_table_word, facts, tells, left}
-use Rattle.papaya_lives.proofs.Given.Others.Quiet.{calls_none}
+use Rattle.papaya_holds.specs.Given.SeizeWordsDeclared.at.At.TheVariants.{Root, Used, Slot, Entry, Word}
+use Rattle.papaya_holds.specs.Given.SeizeWordsMem.{Mem}
+use Rattle.papaya_holds.specs.Given.SeizeWordsOp.{Out, Make, Made}
+use Rattle.papaya_holds.specs.Given.SeizeWordsWord.{block_in}
+use Rattle.papaya_holds.specs.Given.SeizeWorld.{World, Making as MadeBy}
+use Rattle.papaya_holds.specs.Given.SeizeDeclared.progress.Progress.{Progress}
+use Rattle.papaya_holds.specs.Given.SeizeDeclared.progress.Progress.TheVariants as progress
+use Rattle.papaya_holds.specs.Given.TablesDeclared.node.Node.{Node}
+use Rattle.papaya_holds.specs.Given.TablesDeclared.node.Node.TheVariants as node
+use Rattle.papaya_holds.specs.Given.TablesDeclared.setting.Setting.{Setting}
+use Rattle.papaya_holds.specs.Given.ResizeNewMap as new_map
+use Rattle.papaya_holds.specs.Given.ResizeNewTable as new_table
+use Rattle.papaya_holds.specs.Given.ResizeSum as sums
+use Rattle.papaya_holds.specs.Given.ResizeDeclared.new_map.NewMap.{NewMap}
+use Rattle.papaya_holds.specs.Given.ResizeDeclared.new_map.Opening.{Opening}
+use Rattle.papaya_holds.specs.Given.ResizeDeclared.new_map.Opening.TheVariants as opening
+use Rattle.papaya_holds.specs.Given.ResizeDeclared.new_table.Making.{Making}
+use Rattle.papaya_holds.specs.Given.ResizeDeclared.new_table.Making.TheVariants as makes
+use Rattle.papaya_holds.specs.Given.ResizeDeclared.new_table.NewTable.{NewTable}
+use Rattle.papaya_holds.specs.Given.ResizeDeclared.sum.Sum.{Sum}
+use Rattle.papaya_holds.specs.Given.ResizeDeclared.sum.Summing.{Summing}
+use Rattle.papaya_holds.specs.Given.ResizeDeclared.sum.Summing.TheVariants as summing
+use Rattle.papaya_lives.specs.Given.SchedulesEffects.{with_effects}
+use Rattle.papaya_lives.specs.Given.SchedulesMoment.{Moment}
+use Rattle.papaya_lives.specs.Given.TellsSeen.{seen_of}
+use Rattle.papaya_lives.specs.Given.TellerTells.{told_of, StepsTold}
+use Rattle.papaya_lives.specs.Given.TellerDeclared.changed.Changed.{Changed}
+use Rattle.papaya_lives.specs.Given.TellerDeclared.changed.Changed.TheVariants as changed
+use Rattle.papaya_lives.specs.Given.TellerDeclared.changed.Kind.{Kind}
+use Rattle.papaya_lives.specs.Given.TellerDeclared.changed.Kind.TheVariants as kind
+use Rattle.papaya_lives.specs.Given.TellerChanged.{kind_of}
+use Rattle.papaya_holds.specs.Given.RuleRule.{no_table}
+use Rattle.papaya_holds.specs.Given.PointsFactsTables.{MakingFacts}
+use Rattle.papaya_holds.specs.Given.CallersTogether.{no_blocks}
+use Rattle.papaya_lives.specs.Given.EffectsEffects.{names_same, named, made_by, led_to, effects_of, known_after}
+use Rattle.papaya_lives.specs.Given.EffectsKnown.{Known}
+use Rattle.papaya_lives.specs.Given.EffectsDeclared.acting.Acting.{Acting}
+use Rattle.papaya_lives.specs.Given.EffectsDeclared.acting.Acting.TheVariants as acts
+use Rattle.papaya_lives.specs.Given.EffectsDeclared.role.Role.TheVariants as role
+use Rattle.papaya_holds.specs.Given.FinishesEndings.{MakingStepsAmong}
+use Rattle.papaya_holds.specs.Given.FinishesMakings.{Beginning, OpeningFacts}
+use Rattle.papaya_lives.specs.Given.FollowsShows.{Shows}
+use Rattle.papaya_lives.proofs.Given.FollowsOperations.{LeavesBy}
+use Rattle.papaya_lives.specs.Given.OthersMakings.{making_after}
+use Rattle.papaya_lives.proofs.Given.OthersLeads.{word_says}
+use Rattle.papaya_lives.proofs.Given.OthersMakingPlans.{TellsMaking}
+use Rattle.papaya_lives.proofs.Given.OthersMakes.{no_table_word, facts, tells, left}
+use Rattle.papaya_lives.proofs.Given.OthersQuiet.{calls_none}
 use Rattle.papaya_owes.specs.Beside.{of_block, NoneOfBlock, MakingsKeepMade}
 use Rattle.papaya_owes.specs.Made.{ShowsMade}
 use Rattle.papaya_owes.specs.Making.{making_in_opening}
@@ -59,9 +59,9 @@ use Rattle.papaya_owes.proofs.Roles.{MakesFree, no_block, does_so}
 use Rattle.papaya_owes.proofs.Quiet.{none_if, led_none}
 use Rattle.papaya_owes.proofs.Walks.{PlanMakes, plan_made, makes_as, table_makes, IsToMake}
 use Rattle.papaya_owes.proofs.Words.{none_for_pair}
-use Rattle.papaya_lives.specs.Given.Scenes.Held.{Held, IsAt}
-use Rattle.papaya_lives.specs.Given.Scenes.Making.{MakingComesTo, MakingStepsFrom}
-use Rattle.papaya_lives.specs.Given.Scenes.Scene.{Scene, slot_of}
+use Rattle.papaya_lives.specs.Given.ScenesHeld.{Held, IsAt}
+use Rattle.papaya_lives.specs.Given.ScenesMaking.{MakingComesTo, MakingStepsFrom}
+use Rattle.papaya_lives.specs.Given.ScenesScene.{Scene, slot_of}
 
 module _ {K V : Type 0} (w : World (Node K V)) (i roots : ℕ) (n : NewMap) where
   -- it makes its table, or its counter

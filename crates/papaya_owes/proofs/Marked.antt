@@ -1,26 +1,26 @@
 -- Between the steps of calls: what is so of the machine of each call that has some mark stays so, where the mark is one that replies and outcomes leave.
 use Rattle.std.specs.Prelude.{◌≡◌, ℕ, Bool, true, false, List, find, Option, Some}
 use Rattle.std.proofs.Common.{refl, ap, sym, subst, ◌∙◌, inl, inr}
-use Rattle.papaya_holds.specs.Given.Raw.declared.machines.machine.Machine.{Machine}
-use Rattle.papaya_lives.specs.Given.Runs.Same.{is_same}
-use Rattle.papaya_lives.specs.Given.Schedules.declared.call.Call.{Call}
-use Rattle.papaya_lives.specs.Given.Schedules.declared.call.Reply.{Reply}
-use Rattle.papaya_lives.specs.Given.Schedules.declared.outcome.Outcome.{Outcome}
-use Rattle.papaya_lives.specs.Given.Schedules.Beginning.{with_call}
-use Rattle.papaya_lives.specs.Given.Schedules.Entry.{ends_call}
-use Rattle.papaya_lives.specs.Given.Schedules.Moment.{UnderWay as CallThere, Moment}
-use Rattle.papaya_lives.specs.Given.Schedules.Views.{call_of}
-use Rattle.papaya_holds.specs.Given.Callers.Together.{UnderWay}
-use Rattle.papaya_holds.specs.Given.Finishes.Machines.{machine_of}
-use Rattle.papaya_holds.specs.Given.Finishes.Maps.{with_call as with_in}
-use Rattle.papaya_lives.specs.Given.Follows.Calling.{NoneNamed, told, come_to}
-use Rattle.papaya_lives.specs.Given.Follows.Calls.{ShowsCalls}
-use Rattle.papaya_lives.proofs.Given.Follows.Steps.{one_of}
-use Rattle.papaya_lives.proofs.Given.Hands.Asking.{which}
-use Rattle.papaya_lives.specs.Given.Others.Walks.{given_up}
+use Rattle.papaya_holds.specs.Given.RawDeclared.machines.machine.Machine.{Machine}
+use Rattle.papaya_lives.specs.Given.RunsSame.{is_same}
+use Rattle.papaya_lives.specs.Given.SchedulesDeclared.call.Call.{Call}
+use Rattle.papaya_lives.specs.Given.SchedulesDeclared.call.Reply.{Reply}
+use Rattle.papaya_lives.specs.Given.SchedulesDeclared.outcome.Outcome.{Outcome}
+use Rattle.papaya_lives.specs.Given.SchedulesBeginning.{with_call}
+use Rattle.papaya_lives.specs.Given.SchedulesEntry.{ends_call}
+use Rattle.papaya_lives.specs.Given.SchedulesMoment.{UnderWay as CallThere, Moment}
+use Rattle.papaya_lives.specs.Given.SchedulesViews.{call_of}
+use Rattle.papaya_holds.specs.Given.CallersTogether.{UnderWay}
+use Rattle.papaya_holds.specs.Given.FinishesMachines.{machine_of}
+use Rattle.papaya_holds.specs.Given.FinishesMaps.{with_call as with_in}
+use Rattle.papaya_lives.specs.Given.FollowsCalling.{NoneNamed, told, come_to}
+use Rattle.papaya_lives.specs.Given.FollowsCalls.{ShowsCalls}
+use Rattle.papaya_lives.proofs.Given.FollowsSteps.{one_of}
+use Rattle.papaya_lives.proofs.Given.HandsAsking.{which}
+use Rattle.papaya_lives.specs.Given.OthersWalks.{given_up}
 use Rattle.papaya_owes.proofs.Kept.{calls_without, HasAsMuch, HadAsMuch, fresh_has, others_there, told_had, left_had, come_had}
-use Rattle.papaya_lives.specs.Given.Scenes.Replying.{scene_with, unless_stopped}
-use Rattle.papaya_lives.specs.Given.Scenes.Scene.{Scene}
+use Rattle.papaya_lives.specs.Given.ScenesReplying.{scene_with, unless_stopped}
+use Rattle.papaya_lives.specs.Given.ScenesScene.{Scene}
 
 module _ {K V : Type 0} (mark : CallThere K V → Bool) (P : Machine K V K → Type 0) (kept : (c d : CallThere K V) → HasAsMuch c d → mark d ≡ mark c) where
   abbrev pub Marked : (ℕ → List ℕ) → Moment K V → Scene K V → Type 0

@@ -1,39 +1,39 @@
 -- What a step of a call on one key does to its own block: it keeps it, or makes it, or takes it away.
 use Rattle.std.specs.Prelude.{◌≡◌, ◌≢◌, ℕ, ◌==◌, Bool, true, false, Option, Some, None, Ok, Err}
 use Rattle.std.proofs.Common.{refl, ap, sym, subst, ◌∙◌, eqb-true}
-use Rattle.papaya_holds.specs.Given.SeizeWords.Mem.{Mem, Took, value_at}
-use Rattle.papaya_holds.specs.Given.SeizeWords.Op.{Out, Make, Rewrite, Found, Stored, Exchanged, Made, Taken, Roomed}
-use Rattle.papaya_holds.specs.Given.SeizeWords.Plan.{Ends}
-use Rattle.papaya_holds.specs.Given.SeizeWords.Word.{block_in}
-use Rattle.papaya_holds.specs.Given.Tables.declared.node.Node.{Node}
-use Rattle.papaya_holds.specs.Given.Tables.declared.node.Node.TheVariants as node
-use Rattle.papaya_holds.specs.Given.Resize.Copier.{copier_plan}
-use Rattle.papaya_holds.specs.Given.Resize.Dispose.{dispose_plan}
-use Rattle.papaya_holds.specs.Given.Resize.Lookup.{lookup_plan}
-use Rattle.papaya_holds.specs.Given.Resize.NewTable.{new_table_plan}
-use Rattle.papaya_holds.specs.Given.Resize.declared.lookup.Lookup.{Lookup}
-use Rattle.papaya_holds.specs.Given.Raw.Call.{made, makes_of, looked, looks_for, first_made, next_made, disposed, helped, copied, plan_at, call_plan}
-use Rattle.papaya_holds.specs.Given.Raw.CallFills.{filled, putting_by, fill_by, emptied, fills_with}
-use Rattle.papaya_holds.specs.Given.Raw.CallPoints.{word_to}
-use Rattle.papaya_holds.specs.Given.Raw.Replies.{value_for, as_own}
-use Rattle.papaya_holds.specs.Given.Raw.declared.machines.answer.Called.{Called}
-use Rattle.papaya_holds.specs.Given.Raw.declared.machines.answer.End.TheVariants as ends
-use Rattle.papaya_holds.specs.Given.Raw.declared.machines.answer.KeyAnswer.TheVariants as answers
-use Rattle.papaya_holds.specs.Given.Raw.declared.machines.asking.Asking.TheVariants as asking
-use Rattle.papaya_holds.specs.Given.Raw.declared.machines.call.Calling.{Calling}
-use Rattle.papaya_holds.specs.Given.Raw.declared.machines.call.Calling.TheVariants as at
-use Rattle.papaya_holds.specs.Given.Raw.declared.machines.call.KeyCall.{KeyCall}
-use Rattle.papaya_holds.proofs.Given.Rule.Keys.Always.{AlwaysOf, always_plan_as, always_steps}
-use Rattle.papaya_lives.specs.Given.Tells.Seen.{seen_of}
-use Rattle.papaya_lives.specs.Given.Teller.Tells.{told_of, StepsTold}
-use Rattle.papaya_lives.specs.Given.Teller.declared.changed.Changed.{Changed}
-use Rattle.papaya_lives.specs.Given.Teller.declared.changed.Changed.TheVariants as changed
-use Rattle.papaya_lives.specs.Given.Teller.declared.changed.Kind.{Kind}
+use Rattle.papaya_holds.specs.Given.SeizeWordsMem.{Mem, Took, value_at}
+use Rattle.papaya_holds.specs.Given.SeizeWordsOp.{Out, Make, Rewrite, Found, Stored, Exchanged, Made, Taken, Roomed}
+use Rattle.papaya_holds.specs.Given.SeizeWordsPlan.{Ends}
+use Rattle.papaya_holds.specs.Given.SeizeWordsWord.{block_in}
+use Rattle.papaya_holds.specs.Given.TablesDeclared.node.Node.{Node}
+use Rattle.papaya_holds.specs.Given.TablesDeclared.node.Node.TheVariants as node
+use Rattle.papaya_holds.specs.Given.ResizeCopier.{copier_plan}
+use Rattle.papaya_holds.specs.Given.ResizeDispose.{dispose_plan}
+use Rattle.papaya_holds.specs.Given.ResizeLookup.{lookup_plan}
+use Rattle.papaya_holds.specs.Given.ResizeNewTable.{new_table_plan}
+use Rattle.papaya_holds.specs.Given.ResizeDeclared.lookup.Lookup.{Lookup}
+use Rattle.papaya_holds.specs.Given.RawCall.{made, makes_of, looked, looks_for, first_made, next_made, disposed, helped, copied, plan_at, call_plan}
+use Rattle.papaya_holds.specs.Given.RawCallFills.{filled, putting_by, fill_by, emptied, fills_with}
+use Rattle.papaya_holds.specs.Given.RawCallPoints.{word_to}
+use Rattle.papaya_holds.specs.Given.RawReplies.{value_for, as_own}
+use Rattle.papaya_holds.specs.Given.RawDeclared.machines.answer.Called.{Called}
+use Rattle.papaya_holds.specs.Given.RawDeclared.machines.answer.End.TheVariants as ends
+use Rattle.papaya_holds.specs.Given.RawDeclared.machines.answer.KeyAnswer.TheVariants as answers
+use Rattle.papaya_holds.specs.Given.RawDeclared.machines.asking.Asking.TheVariants as asking
+use Rattle.papaya_holds.specs.Given.RawDeclared.machines.call.Calling.{Calling}
+use Rattle.papaya_holds.specs.Given.RawDeclared.machines.call.Calling.TheVariants as at
+use Rattle.papaya_holds.specs.Given.RawDeclared.machines.call.KeyCall.{KeyCall}
+use Rattle.papaya_holds.proofs.Given.RuleKeys.Always.{AlwaysOf, always_plan_as, always_steps}
+use Rattle.papaya_lives.specs.Given.TellsSeen.{seen_of}
+use Rattle.papaya_lives.specs.Given.TellerTells.{told_of, StepsTold}
+use Rattle.papaya_lives.specs.Given.TellerDeclared.changed.Changed.{Changed}
+use Rattle.papaya_lives.specs.Given.TellerDeclared.changed.Changed.TheVariants as changed
+use Rattle.papaya_lives.specs.Given.TellerDeclared.changed.Kind.{Kind}
 use Rattle.papaya_holds.specs.Came.{OwnsAt, Owns}
 use Rattle.papaya_holds.proofs.Calls.Goes.{GoesWith, over_so, counted_so, looked_so, first_so, next_so, helped_so, copied_so, disposed_so, root_so, nexts_so, found_so, tried_so, told_over}
 use Rattle.papaya_holds.proofs.Calls.Steps.{names_block, some_word}
 use Rattle.papaya_owes.proofs.Walks.{IsToOwn}
-use Rattle.papaya_lives.proofs.Given.Scenes.Told.{as_step}
+use Rattle.papaya_lives.proofs.Given.ScenesTold.{as_step}
 
 -- no block was made
 abbrev pub NoneMade : Changed → Type 0

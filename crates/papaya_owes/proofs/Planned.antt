@@ -1,44 +1,44 @@
 -- A table that a call is to make has places, whatever the call is.
 use Rattle.std.specs.Prelude.{◌≡◌, ◌<◌, ◌≤◌, ℕ, ◌*◌, Bool, true, false, cond, Option, Some, ◌⊎◌}
 use Rattle.std.proofs.Common.{subst, ◌∙◌, arith, inl, inr}
-use Rattle.papaya_holds.specs.Given.SeizeWords.Mem.{value_at}
-use Rattle.papaya_holds.specs.Given.SeizeWords.declared.at.At.{At}
-use Rattle.papaya_holds.specs.Given.SeizeWords.declared.at.At.TheVariants.{Root, Word}
-use Rattle.papaya_holds.specs.Given.Seize.World.{World, Making as MadeBy}
-use Rattle.papaya_holds.specs.Given.Tables.Chunks.{is_incremental}
-use Rattle.papaya_holds.specs.Given.Tables.declared.node.Node.{Node}
-use Rattle.papaya_holds.specs.Given.Tables.declared.node.Node.TheVariants as node
-use Rattle.papaya_holds.specs.Given.Tables.declared.setting.Setting.{Setting}
-use Rattle.papaya_holds.specs.Given.Tables.declared.table.Table.{Table}
-use Rattle.papaya_holds.specs.Given.Tables.declared.table_words.TheConstants.{NEXT}
-use Rattle.papaya_holds.specs.Given.Resize.declared.copier.Copier.{Copier}
-use Rattle.papaya_holds.specs.Given.Resize.declared.copier.Copying.{Copying}
-use Rattle.papaya_holds.specs.Given.Resize.declared.copier.Copying.TheVariants as copying
-use Rattle.papaya_holds.specs.Given.Resize.declared.new_table.NewTable.{NewTable}
-use Rattle.papaya_holds.specs.Given.Resize.declared.new_table.Making.{Making}
-use Rattle.papaya_holds.specs.Given.Resize.declared.new_table.Making.TheVariants as making
-use Rattle.papaya_holds.specs.Given.Reserves.declared.reserve.Reserving.{Reserving}
-use Rattle.papaya_holds.specs.Given.Reserves.declared.reserve.Reserving.TheVariants as reserving
-use Rattle.papaya_holds.specs.Given.Sweeps.declared.sweep.Sweep.{Sweep}
-use Rattle.papaya_holds.specs.Given.Sweeps.declared.sweep.Sweeping.{Sweeping}
-use Rattle.papaya_holds.specs.Given.Sweeps.declared.sweep.Sweeping.TheVariants as sweeping
-use Rattle.papaya_holds.specs.Given.Raw.declared.machines.call.Calling.{Calling}
-use Rattle.papaya_holds.specs.Given.Raw.declared.machines.call.Calling.TheVariants as calling
-use Rattle.papaya_holds.specs.Given.Raw.declared.machines.call.KeyCall.{KeyCall}
-use Rattle.papaya_holds.specs.Given.Rule.Chart.{Chart}
-use Rattle.papaya_holds.specs.Given.Rule.Words.{Blocks}
-use Rattle.papaya_holds.specs.Given.Points.FactsCalls.{Change, CallingFacts}
-use Rattle.papaya_holds.specs.Given.Points.FactsCopies.{CopyingFacts, CopierFacts}
-use Rattle.papaya_holds.specs.Given.Points.FactsCopiesBlocking.{CopyingFactsBlocking, CopierFactsBlocking}
-use Rattle.papaya_holds.specs.Given.Points.FactsTables.{IsOwnTable, IsPlanned, IsLinkOf, StandsAs, MakingFacts, NewTableFacts}
-use Rattle.papaya_holds.specs.Given.Late.FactsReserves.{IsEnding, CopiesWhole, ReservingFacts}
-use Rattle.papaya_holds.specs.Given.Late.FactsSweeps.{CopiesTable, SweepingFacts}
-use Rattle.papaya_holds.specs.Given.Late.LateCalls.{LateFirst, LateFirstFacts, LateCalling}
-use Rattle.papaya_holds.specs.Given.Late.LateCopies.{LateCopying, LateCopierFacts}
-use Rattle.papaya_holds.specs.Given.Late.LateReserves.{LateReserving}
-use Rattle.papaya_holds.specs.Given.Callers.OverAll.{CallOverAll}
-use Rattle.papaya_holds.specs.Given.Callers.Together.{CallOnKey, in_slot, Knows, KnowsRoom, KnowsSweep}
-use Rattle.papaya_holds.specs.Given.Reserves.declared.reserve.Reserve.{Reserve}
+use Rattle.papaya_holds.specs.Given.SeizeWordsMem.{value_at}
+use Rattle.papaya_holds.specs.Given.SeizeWordsDeclared.at.At.{At}
+use Rattle.papaya_holds.specs.Given.SeizeWordsDeclared.at.At.TheVariants.{Root, Word}
+use Rattle.papaya_holds.specs.Given.SeizeWorld.{World, Making as MadeBy}
+use Rattle.papaya_holds.specs.Given.TablesChunks.{is_incremental}
+use Rattle.papaya_holds.specs.Given.TablesDeclared.node.Node.{Node}
+use Rattle.papaya_holds.specs.Given.TablesDeclared.node.Node.TheVariants as node
+use Rattle.papaya_holds.specs.Given.TablesDeclared.setting.Setting.{Setting}
+use Rattle.papaya_holds.specs.Given.TablesDeclared.table.Table.{Table}
+use Rattle.papaya_holds.specs.Given.TablesDeclared.table_words.TheConstants.{NEXT}
+use Rattle.papaya_holds.specs.Given.ResizeDeclared.copier.Copier.{Copier}
+use Rattle.papaya_holds.specs.Given.ResizeDeclared.copier.Copying.{Copying}
+use Rattle.papaya_holds.specs.Given.ResizeDeclared.copier.Copying.TheVariants as copying
+use Rattle.papaya_holds.specs.Given.ResizeDeclared.new_table.NewTable.{NewTable}
+use Rattle.papaya_holds.specs.Given.ResizeDeclared.new_table.Making.{Making}
+use Rattle.papaya_holds.specs.Given.ResizeDeclared.new_table.Making.TheVariants as making
+use Rattle.papaya_holds.specs.Given.ReservesDeclared.reserve.Reserving.{Reserving}
+use Rattle.papaya_holds.specs.Given.ReservesDeclared.reserve.Reserving.TheVariants as reserving
+use Rattle.papaya_holds.specs.Given.SweepsDeclared.sweep.Sweep.{Sweep}
+use Rattle.papaya_holds.specs.Given.SweepsDeclared.sweep.Sweeping.{Sweeping}
+use Rattle.papaya_holds.specs.Given.SweepsDeclared.sweep.Sweeping.TheVariants as sweeping
+use Rattle.papaya_holds.specs.Given.RawDeclared.machines.call.Calling.{Calling}
+use Rattle.papaya_holds.specs.Given.RawDeclared.machines.call.Calling.TheVariants as calling
+use Rattle.papaya_holds.specs.Given.RawDeclared.machines.call.KeyCall.{KeyCall}
+use Rattle.papaya_holds.specs.Given.RuleChart.{Chart}
+use Rattle.papaya_holds.specs.Given.RuleWords.{Blocks}
+use Rattle.papaya_holds.specs.Given.PointsFactsCalls.{Change, CallingFacts}
+use Rattle.papaya_holds.specs.Given.PointsFactsCopies.{CopyingFacts, CopierFacts}
+use Rattle.papaya_holds.specs.Given.PointsFactsCopiesBlocking.{CopyingFactsBlocking, CopierFactsBlocking}
+use Rattle.papaya_holds.specs.Given.PointsFactsTables.{IsOwnTable, IsPlanned, IsLinkOf, StandsAs, MakingFacts, NewTableFacts}
+use Rattle.papaya_holds.specs.Given.LateFactsReserves.{IsEnding, CopiesWhole, ReservingFacts}
+use Rattle.papaya_holds.specs.Given.LateFactsSweeps.{CopiesTable, SweepingFacts}
+use Rattle.papaya_holds.specs.Given.LateLateCalls.{LateFirst, LateFirstFacts, LateCalling}
+use Rattle.papaya_holds.specs.Given.LateLateCopies.{LateCopying, LateCopierFacts}
+use Rattle.papaya_holds.specs.Given.LateLateReserves.{LateReserving}
+use Rattle.papaya_holds.specs.Given.CallersOverAll.{CallOverAll}
+use Rattle.papaya_holds.specs.Given.CallersTogether.{CallOnKey, in_slot, Knows, KnowsRoom, KnowsSweep}
+use Rattle.papaya_holds.specs.Given.ReservesDeclared.reserve.Reserve.{Reserve}
 use Rattle.papaya_owes.specs.Making.{making_in_copying, making_in_calling, making_in_reserving, making_in_sweeping}
 
 -- the table that is to be made has places

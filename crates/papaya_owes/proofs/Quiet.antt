@@ -1,18 +1,18 @@
 -- What is written, and what is taken away, says nothing of what a call has made or asked for, save where a pair is stored or a table linked.
 use Rattle.std.specs.Prelude.{◌≡◌, ℕ, ◌+◌, ◌==◌, Bool, true, false, List, [], ◌∷◌, if◌then◌else◌}
 use Rattle.std.proofs.Common.{refl}
-use Rattle.papaya_holds.specs.Given.Seize.declared.states.TheConstants.{FIRST}
-use Rattle.papaya_lives.specs.Given.Schedules.declared.effect.Effect.{Effect}
-use Rattle.papaya_lives.specs.Given.Schedules.declared.effect.Effect.TheVariants as effect
-use Rattle.papaya_lives.specs.Given.Schedules.declared.effect.Spot.{Spot}
-use Rattle.papaya_lives.specs.Given.Schedules.declared.effect.Table.{Table}
-use Rattle.papaya_lives.specs.Given.Schedules.declared.effect.Thing.TheVariants.{APair, ATable}
-use Rattle.papaya_lives.specs.Given.Runs.declared.outcome.TableShape.{TableShape}
-use Rattle.papaya_lives.specs.Given.Effects.Effects.{table_at, pair_taken, table_taken, followed_by, led_to, carried, placed, batched}
-use Rattle.papaya_lives.specs.Given.Effects.declared.acting.Acting.{Acting}
-use Rattle.papaya_lives.specs.Given.Effects.declared.acting.Acting.TheVariants as acts
-use Rattle.papaya_lives.specs.Given.Effects.declared.role.Role.{Role}
-use Rattle.papaya_lives.specs.Given.Effects.declared.role.Role.TheVariants as role
+use Rattle.papaya_holds.specs.Given.SeizeDeclared.states.TheConstants.{FIRST}
+use Rattle.papaya_lives.specs.Given.SchedulesDeclared.effect.Effect.{Effect}
+use Rattle.papaya_lives.specs.Given.SchedulesDeclared.effect.Effect.TheVariants as effect
+use Rattle.papaya_lives.specs.Given.SchedulesDeclared.effect.Spot.{Spot}
+use Rattle.papaya_lives.specs.Given.SchedulesDeclared.effect.Table.{Table}
+use Rattle.papaya_lives.specs.Given.SchedulesDeclared.effect.Thing.TheVariants.{APair, ATable}
+use Rattle.papaya_lives.specs.Given.RunsDeclared.outcome.TableShape.{TableShape}
+use Rattle.papaya_lives.specs.Given.EffectsEffects.{table_at, pair_taken, table_taken, followed_by, led_to, carried, placed, batched}
+use Rattle.papaya_lives.specs.Given.EffectsDeclared.acting.Acting.{Acting}
+use Rattle.papaya_lives.specs.Given.EffectsDeclared.acting.Acting.TheVariants as acts
+use Rattle.papaya_lives.specs.Given.EffectsDeclared.role.Role.{Role}
+use Rattle.papaya_lives.specs.Given.EffectsDeclared.role.Role.TheVariants as role
 use Rattle.papaya_owes.specs.Beside.{NoneOf}
 
 -- the effect is of what the map has, not of what a call has made or asked for

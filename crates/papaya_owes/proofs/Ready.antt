@@ -1,51 +1,51 @@
 -- A step after which a walk says that it is ready leaves it where it is asked for its next pair.
 use Rattle.std.specs.Prelude.{◌≡◌, ℕ, ◌==◌, ◌&&◌, Bool, true, false, Ok, Err, if◌then◌else◌}
 use Rattle.std.proofs.Common.{refl, ap, sym, ◌∙◌}
-use Rattle.papaya_holds.specs.Given.SeizeWords.Mem.{Mem}
-use Rattle.papaya_holds.specs.Given.SeizeWords.Op.{Out, Found, Stored, Exchanged, Made, Taken, Roomed}
-use Rattle.papaya_holds.specs.Given.SeizeWords.Word.{block_in}
-use Rattle.papaya_holds.specs.Given.Seize.declared.progress.Progress.{Progress as Counting}
-use Rattle.papaya_holds.specs.Given.Seize.declared.progress.Progress.TheVariants as counting
-use Rattle.papaya_holds.specs.Given.Seize.declared.rows.settle.Settled.{Settled}
-use Rattle.papaya_holds.specs.Given.Seize.declared.rows.settle.Settled.TheVariants as settled
-use Rattle.papaya_holds.specs.Given.Tables.Marks.{has_mark}
-use Rattle.papaya_holds.specs.Given.Tables.declared.marks.TheConstants.{COPYING}
-use Rattle.papaya_holds.specs.Given.Tables.declared.node.Node.{Node}
-use Rattle.papaya_holds.specs.Given.Tables.declared.table.Table.{Table as Planned}
-use Rattle.papaya_holds.specs.Given.Tables.Nodes.{table_seen}
-use Rattle.papaya_holds.specs.Given.Resize.Copier.{copier_plan}
-use Rattle.papaya_holds.specs.Given.Resize.Dispose.{dispose_plan}
-use Rattle.papaya_holds.specs.Given.Resize.Sum.{sum_plan}
-use Rattle.papaya_holds.specs.Given.Resize.declared.copier.Copier.{Copier}
-use Rattle.papaya_holds.specs.Given.Resize.declared.dispose.Dispose.{Dispose}
-use Rattle.papaya_holds.specs.Given.Resize.declared.outcome.Outcome.{Outcome}
-use Rattle.papaya_holds.specs.Given.Resize.declared.outcome.Outcome.TheVariants as outcome
-use Rattle.papaya_holds.specs.Given.Reserves.Reserve.{reserve_plan}
-use Rattle.papaya_holds.specs.Given.Sweeps.Sweep.{sweep_plan}
-use Rattle.papaya_holds.specs.Given.Sweeps.Sweep as sweeps
-use Rattle.papaya_holds.specs.Given.Sweeps.SweepPoints as points
-use Rattle.papaya_holds.specs.Given.Sweeps.declared.sweep.Purpose.{Purpose}
-use Rattle.papaya_holds.specs.Given.Sweeps.declared.sweep.Purpose.TheVariants as purpose
-use Rattle.papaya_holds.specs.Given.Sweeps.declared.sweep.Sweep.{Sweep}
-use Rattle.papaya_holds.specs.Given.Sweeps.declared.sweep.Sweeping.{Sweeping}
-use Rattle.papaya_holds.specs.Given.Sweeps.declared.sweep.Sweeping.TheVariants as sweeping
-use Rattle.papaya_holds.specs.Given.Sweeps.declared.sweep.Swept.{Swept}
-use Rattle.papaya_holds.specs.Given.Sweeps.declared.sweep.Swept.TheVariants as swept
-use Rattle.papaya_holds.specs.Given.Raw.Call.{call_plan}
-use Rattle.papaya_holds.specs.Given.Raw.Machine.{machine_plan, machine_asked, is_ready, called as of_key, reserved as of_room, swept as of_sweep, counted as of_sum}
-use Rattle.papaya_holds.specs.Given.Raw.Progress.{of_called, of_outcome, of_swept, of_counting}
-use Rattle.papaya_holds.specs.Given.Raw.declared.machines.answer.Called.{Called}
-use Rattle.papaya_holds.specs.Given.Raw.declared.machines.answer.Called.TheVariants as called
-use Rattle.papaya_holds.specs.Given.Raw.declared.machines.machine.Machine.{Machine}
-use Rattle.papaya_holds.specs.Given.Raw.declared.machines.machine.Machine.TheVariants as kinds
-use Rattle.papaya_holds.specs.Given.Raw.declared.machines.progress.Progress.{Progress}
-use Rattle.papaya_holds.specs.Given.Raw.declared.machines.progress.Progress.TheVariants as progress
-use Rattle.papaya_holds.proofs.Given.Rule.Keys.Always.{Always, AlwaysOf, always_if, always_plan_as, always_steps}
-use Rattle.papaya_lives.specs.Given.Teller.Tells.{StepsTold}
-use Rattle.papaya_lives.specs.Given.Teller.declared.changed.Changed.{Changed}
-use Rattle.papaya_lives.specs.Given.Teller.declared.changed.Changed.TheVariants as changed
-use Rattle.papaya_lives.proofs.Given.Others.Outcomes.{told_in}
-use Rattle.papaya_lives.proofs.Given.Scenes.Told.{as_step}
+use Rattle.papaya_holds.specs.Given.SeizeWordsMem.{Mem}
+use Rattle.papaya_holds.specs.Given.SeizeWordsOp.{Out, Found, Stored, Exchanged, Made, Taken, Roomed}
+use Rattle.papaya_holds.specs.Given.SeizeWordsWord.{block_in}
+use Rattle.papaya_holds.specs.Given.SeizeDeclared.progress.Progress.{Progress as Counting}
+use Rattle.papaya_holds.specs.Given.SeizeDeclared.progress.Progress.TheVariants as counting
+use Rattle.papaya_holds.specs.Given.SeizeDeclared.rows.settle.Settled.{Settled}
+use Rattle.papaya_holds.specs.Given.SeizeDeclared.rows.settle.Settled.TheVariants as settled
+use Rattle.papaya_holds.specs.Given.TablesMarks.{has_mark}
+use Rattle.papaya_holds.specs.Given.TablesDeclared.marks.TheConstants.{COPYING}
+use Rattle.papaya_holds.specs.Given.TablesDeclared.node.Node.{Node}
+use Rattle.papaya_holds.specs.Given.TablesDeclared.table.Table.{Table as Planned}
+use Rattle.papaya_holds.specs.Given.TablesNodes.{table_seen}
+use Rattle.papaya_holds.specs.Given.ResizeCopier.{copier_plan}
+use Rattle.papaya_holds.specs.Given.ResizeDispose.{dispose_plan}
+use Rattle.papaya_holds.specs.Given.ResizeSum.{sum_plan}
+use Rattle.papaya_holds.specs.Given.ResizeDeclared.copier.Copier.{Copier}
+use Rattle.papaya_holds.specs.Given.ResizeDeclared.dispose.Dispose.{Dispose}
+use Rattle.papaya_holds.specs.Given.ResizeDeclared.outcome.Outcome.{Outcome}
+use Rattle.papaya_holds.specs.Given.ResizeDeclared.outcome.Outcome.TheVariants as outcome
+use Rattle.papaya_holds.specs.Given.ReservesReserve.{reserve_plan}
+use Rattle.papaya_holds.specs.Given.SweepsSweep.{sweep_plan}
+use Rattle.papaya_holds.specs.Given.SweepsSweep as sweeps
+use Rattle.papaya_holds.specs.Given.SweepsSweepPoints as points
+use Rattle.papaya_holds.specs.Given.SweepsDeclared.sweep.Purpose.{Purpose}
+use Rattle.papaya_holds.specs.Given.SweepsDeclared.sweep.Purpose.TheVariants as purpose
+use Rattle.papaya_holds.specs.Given.SweepsDeclared.sweep.Sweep.{Sweep}
+use Rattle.papaya_holds.specs.Given.SweepsDeclared.sweep.Sweeping.{Sweeping}
+use Rattle.papaya_holds.specs.Given.SweepsDeclared.sweep.Sweeping.TheVariants as sweeping
+use Rattle.papaya_holds.specs.Given.SweepsDeclared.sweep.Swept.{Swept}
+use Rattle.papaya_holds.specs.Given.SweepsDeclared.sweep.Swept.TheVariants as swept
+use Rattle.papaya_holds.specs.Given.RawCall.{call_plan}
+use Rattle.papaya_holds.specs.Given.RawMachine.{machine_plan, machine_asked, is_ready, called as of_key, reserved as of_room, swept as of_sweep, counted as of_sum}
+use Rattle.papaya_holds.specs.Given.RawProgress.{of_called, of_outcome, of_swept, of_counting}
+use Rattle.papaya_holds.specs.Given.RawDeclared.machines.answer.Called.{Called}
+use Rattle.papaya_holds.specs.Given.RawDeclared.machines.answer.Called.TheVariants as called
+use Rattle.papaya_holds.specs.Given.RawDeclared.machines.machine.Machine.{Machine}
+use Rattle.papaya_holds.specs.Given.RawDeclared.machines.machine.Machine.TheVariants as kinds
+use Rattle.papaya_holds.specs.Given.RawDeclared.machines.progress.Progress.{Progress}
+use Rattle.papaya_holds.specs.Given.RawDeclared.machines.progress.Progress.TheVariants as progress
+use Rattle.papaya_holds.proofs.Given.RuleKeys.Always.{Always, AlwaysOf, always_if, always_plan_as, always_steps}
+use Rattle.papaya_lives.specs.Given.TellerTells.{StepsTold}
+use Rattle.papaya_lives.specs.Given.TellerDeclared.changed.Changed.{Changed}
+use Rattle.papaya_lives.specs.Given.TellerDeclared.changed.Changed.TheVariants as changed
+use Rattle.papaya_lives.proofs.Given.OthersOutcomes.{told_in}
+use Rattle.papaya_lives.proofs.Given.ScenesTold.{as_step}
 
 module _ (K V : Type 0) (hash : K → ℕ) (c : Sweep) where
   -- what says that it is ready is

@@ -1,26 +1,26 @@
 -- A step of a row on a slot takes no block for a pair that is not stored: it takes what was handed to the collector.
 use Rattle.std.specs.Prelude.{◌&&◌, ◌≡◌, ℕ, nat_lt, Bool, List, [], ◌∷◌, None}
 use Rattle.std.proofs.Common.{refl, subst}
-use Rattle.papaya_holds.specs.Given.SeizeWords.declared.at.At.TheVariants.{Root, Used, Slot, Entry, Word}
-use Rattle.papaya_holds.specs.Given.Seize.World.{Step}
-use Rattle.papaya_holds.specs.Given.Tables.declared.node.Node.{Node}
-use Rattle.papaya_lives.specs.Given.Schedules.declared.effect.Effect.TheVariants.{Asked}
-use Rattle.papaya_lives.specs.Given.Schedules.declared.effect.Growth.TheVariants.{ABucket}
-use Rattle.papaya_lives.specs.Given.Schedules.Effects.{with_effects}
-use Rattle.papaya_lives.specs.Given.Schedules.Moment.{Moment}
-use Rattle.papaya_lives.specs.Given.Teller.declared.changed.Changed.{Changed}
-use Rattle.papaya_lives.specs.Given.Teller.declared.changed.Changed.TheVariants as changed
-use Rattle.papaya_lives.specs.Given.Teller.declared.changed.Kind.TheVariants as kind
-use Rattle.papaya_lives.specs.Given.Effects.Effects.{names_same, effects_of, known_after}
-use Rattle.papaya_lives.specs.Given.Effects.Known.{Known}
-use Rattle.papaya_lives.specs.Given.Effects.declared.acting.Acting.TheVariants.{Row}
-use Rattle.papaya_lives.specs.Given.Effects.declared.role.Role.TheVariants as role
-use Rattle.papaya_lives.specs.Given.Scenes.declared.row.RowTold.{RowTold}
-use Rattle.papaya_lives.specs.Given.Scenes.declared.row.SlotRow.{SlotRow}
-use Rattle.papaya_lives.specs.Given.Follows.Shows.{Shows}
-use Rattle.papaya_lives.specs.Given.Others.Rows.{scene_then}
-use Rattle.papaya_lives.proofs.Given.Others.Quiet.{calls_none}
-use Rattle.papaya_lives.proofs.Given.Others.RowPlans.{TellsRow, row_tells}
+use Rattle.papaya_holds.specs.Given.SeizeWordsDeclared.at.At.TheVariants.{Root, Used, Slot, Entry, Word}
+use Rattle.papaya_holds.specs.Given.SeizeWorld.{Step}
+use Rattle.papaya_holds.specs.Given.TablesDeclared.node.Node.{Node}
+use Rattle.papaya_lives.specs.Given.SchedulesDeclared.effect.Effect.TheVariants.{Asked}
+use Rattle.papaya_lives.specs.Given.SchedulesDeclared.effect.Growth.TheVariants.{ABucket}
+use Rattle.papaya_lives.specs.Given.SchedulesEffects.{with_effects}
+use Rattle.papaya_lives.specs.Given.SchedulesMoment.{Moment}
+use Rattle.papaya_lives.specs.Given.TellerDeclared.changed.Changed.{Changed}
+use Rattle.papaya_lives.specs.Given.TellerDeclared.changed.Changed.TheVariants as changed
+use Rattle.papaya_lives.specs.Given.TellerDeclared.changed.Kind.TheVariants as kind
+use Rattle.papaya_lives.specs.Given.EffectsEffects.{names_same, effects_of, known_after}
+use Rattle.papaya_lives.specs.Given.EffectsKnown.{Known}
+use Rattle.papaya_lives.specs.Given.EffectsDeclared.acting.Acting.TheVariants.{Row}
+use Rattle.papaya_lives.specs.Given.EffectsDeclared.role.Role.TheVariants as role
+use Rattle.papaya_lives.specs.Given.ScenesDeclared.row.RowTold.{RowTold}
+use Rattle.papaya_lives.specs.Given.ScenesDeclared.row.SlotRow.{SlotRow}
+use Rattle.papaya_lives.specs.Given.FollowsShows.{Shows}
+use Rattle.papaya_lives.specs.Given.OthersRows.{scene_then}
+use Rattle.papaya_lives.proofs.Given.OthersQuiet.{calls_none}
+use Rattle.papaya_lives.proofs.Given.OthersRowPlans.{TellsRow, row_tells}
 use Rattle.papaya_owes.specs.Beside.{of_block, NoneOfBlock, RowsKeepMade}
 use Rattle.papaya_owes.specs.Made.{ShowsMade}
 use Rattle.papaya_owes.proofs.Aside.{LeavesAlone, NoneStored, left_alone, not_storing, none_of, taken_none, made_still}
@@ -28,9 +28,9 @@ use Rattle.papaya_owes.proofs.InHand.{in_hand}
 use Rattle.papaya_owes.proofs.Roles.{MakesFree, does_so}
 use Rattle.papaya_owes.proofs.Quiet.{none_if}
 use Rattle.papaya_owes.proofs.Lasting.{row_keeps_held}
-use Rattle.papaya_lives.specs.Given.Scenes.Held.{Held, IsAt}
-use Rattle.papaya_lives.specs.Given.Scenes.OnSlots.{HappensAt, RowSteps}
-use Rattle.papaya_lives.specs.Given.Scenes.Scene.{IsOnSlot, Scene}
+use Rattle.papaya_lives.specs.Given.ScenesHeld.{Held, IsAt}
+use Rattle.papaya_lives.specs.Given.ScenesOnSlots.{HappensAt, RowSteps}
+use Rattle.papaya_lives.specs.Given.ScenesScene.{IsOnSlot, Scene}
 
 module _ {K V : Type 0} (same : K → K → Bool) (hash : ℕ → K → ℕ) (name : ℕ → List ℕ) (m : Moment K V) (known : Known) (s : Scene K V) (old new : Held K V) (at : IsAt same hash old s)
     (shown : Shows same name m known s) (made : ShowsMade name m known s) (i : ℕ) (row : SlotRow) (here : IsOnSlot s i row) (end : SlotRow × RowTold (Node K V))

@@ -1,50 +1,50 @@
 -- A call on one key that makes its own block has a value for it: it began with one, or was told one.
 use Rattle.std.specs.Prelude.{◌≡◌, ℕ, ◌==◌, ◌||◌, Bool, true, false, List, [], ◌∷◌, Option, Some, None, ◌⊎◌, if◌then◌else◌}
 use Rattle.std.proofs.Common.{refl, ap, sym, ◌∙◌, inl, inr}
-use Rattle.papaya_holds.specs.Given.SeizeWords.Mem.{Mem}
-use Rattle.papaya_holds.specs.Given.Seize.World.{World}
-use Rattle.papaya_holds.specs.Given.Tables.declared.node.Node.{Node}
-use Rattle.papaya_holds.specs.Given.Tables.declared.setting.Setting.{Setting}
-use Rattle.papaya_holds.specs.Given.Raw.Call as calls
-use Rattle.papaya_holds.specs.Given.Raw.CallFills.{fills_with}
-use Rattle.papaya_holds.specs.Given.Raw.Replies.{value_told, value_for}
-use Rattle.papaya_holds.specs.Given.Raw.declared.machines.asking.Asking.TheVariants as asking
-use Rattle.papaya_holds.specs.Given.Raw.declared.machines.asking.Reply.TheVariants as reply
-use Rattle.papaya_holds.specs.Given.Raw.declared.machines.asking.Takes.{Takes}
-use Rattle.papaya_holds.specs.Given.Raw.declared.machines.asking.Takes.TheVariants as takes
-use Rattle.papaya_holds.specs.Given.Raw.declared.machines.asking.Told.{Told}
-use Rattle.papaya_holds.specs.Given.Raw.declared.machines.asking.Told.TheVariants as tells
-use Rattle.papaya_holds.specs.Given.Raw.declared.machines.answer.Called.{Called}
-use Rattle.papaya_holds.specs.Given.Raw.declared.machines.call.Calling.{Calling}
-use Rattle.papaya_holds.specs.Given.Raw.declared.machines.call.Calling.TheVariants as at
-use Rattle.papaya_holds.specs.Given.Raw.declared.machines.call.KeyCall.{KeyCall}
-use Rattle.papaya_holds.specs.Given.Raw.declared.machines.answer.Missing.{Missing}
-use Rattle.papaya_holds.specs.Given.Raw.declared.machines.answer.Missing.TheVariants as missing
-use Rattle.papaya_lives.specs.Given.Schedules.declared.call.Call.{Call}
-use Rattle.papaya_lives.specs.Given.Schedules.declared.call.Call.TheVariants as call
-use Rattle.papaya_lives.specs.Given.Schedules.declared.call.OneKey.{OneKey}
-use Rattle.papaya_lives.specs.Given.Schedules.declared.call.OneKey.TheVariants.{Get, GetKeyValue, ContainsKey, Insert, TryInsert, TryInsertWith, GetOrInsert, GetOrInsertWith, Update, UpdateOrInsert, UpdateOrInsertWith, Compute, Remove, RemoveEntry, RemoveIf}
-use Rattle.papaya_lives.specs.Given.Schedules.declared.call.Reply.{Reply}
-use Rattle.papaya_lives.specs.Given.Schedules.declared.call.Reply.TheVariants.{Gives, Removes, Aborts, Decides}
-use Rattle.papaya_lives.specs.Given.Schedules.Growing.{has_value_for}
-use Rattle.papaya_lives.specs.Given.Schedules.Moment.{UnderWay as CallThere}
-use Rattle.papaya_lives.specs.Given.Schedules.Sequential.{has_value}
-use Rattle.papaya_lives.specs.Given.Schedules.Views.{is_gift, has_gift}
-use Rattle.papaya_holds.specs.Given.Rule.Chart.{Chart}
-use Rattle.papaya_holds.specs.Given.Rule.Words.{Blocks}
-use Rattle.papaya_holds.specs.Given.Points.FactsCalls.{ByReply, holding, Change, CallingFacts}
-use Rattle.papaya_holds.specs.Given.Points.Told.{IsRowOfCall}
-use Rattle.papaya_holds.specs.Given.Late.LateCalls.{LateCalling}
-use Rattle.papaya_holds.specs.Given.Callers.Asked.{Asked, is_about, last_told}
-use Rattle.papaya_holds.specs.Given.Callers.Kind.{Kind}
-use Rattle.papaya_holds.specs.Given.Callers.Pairs.{Given, Begun, IsTold, KeepsGiven}
-use Rattle.papaya_holds.specs.Given.Callers.Together.{CallOnKey, OnKey, in_slot, Knows}
-use Rattle.papaya_lives.specs.Given.Teller.declared.changed.Changed.{Changed}
-use Rattle.papaya_lives.specs.Given.Teller.declared.changed.Changed.TheVariants as changed
-use Rattle.papaya_lives.specs.Given.Teller.Tells.{StepsTold}
-use Rattle.papaya_lives.specs.Given.Effects.Known.{Known}
-use Rattle.papaya_lives.specs.Given.Follows.Calls.{IsCalled}
-use Rattle.papaya_lives.specs.Given.Hands.Asked.{as_told, given_by, AreReplies, IsAskedAs}
+use Rattle.papaya_holds.specs.Given.SeizeWordsMem.{Mem}
+use Rattle.papaya_holds.specs.Given.SeizeWorld.{World}
+use Rattle.papaya_holds.specs.Given.TablesDeclared.node.Node.{Node}
+use Rattle.papaya_holds.specs.Given.TablesDeclared.setting.Setting.{Setting}
+use Rattle.papaya_holds.specs.Given.RawCall as calls
+use Rattle.papaya_holds.specs.Given.RawCallFills.{fills_with}
+use Rattle.papaya_holds.specs.Given.RawReplies.{value_told, value_for}
+use Rattle.papaya_holds.specs.Given.RawDeclared.machines.asking.Asking.TheVariants as asking
+use Rattle.papaya_holds.specs.Given.RawDeclared.machines.asking.Reply.TheVariants as reply
+use Rattle.papaya_holds.specs.Given.RawDeclared.machines.asking.Takes.{Takes}
+use Rattle.papaya_holds.specs.Given.RawDeclared.machines.asking.Takes.TheVariants as takes
+use Rattle.papaya_holds.specs.Given.RawDeclared.machines.asking.Told.{Told}
+use Rattle.papaya_holds.specs.Given.RawDeclared.machines.asking.Told.TheVariants as tells
+use Rattle.papaya_holds.specs.Given.RawDeclared.machines.answer.Called.{Called}
+use Rattle.papaya_holds.specs.Given.RawDeclared.machines.call.Calling.{Calling}
+use Rattle.papaya_holds.specs.Given.RawDeclared.machines.call.Calling.TheVariants as at
+use Rattle.papaya_holds.specs.Given.RawDeclared.machines.call.KeyCall.{KeyCall}
+use Rattle.papaya_holds.specs.Given.RawDeclared.machines.answer.Missing.{Missing}
+use Rattle.papaya_holds.specs.Given.RawDeclared.machines.answer.Missing.TheVariants as missing
+use Rattle.papaya_lives.specs.Given.SchedulesDeclared.call.Call.{Call}
+use Rattle.papaya_lives.specs.Given.SchedulesDeclared.call.Call.TheVariants as call
+use Rattle.papaya_lives.specs.Given.SchedulesDeclared.call.OneKey.{OneKey}
+use Rattle.papaya_lives.specs.Given.SchedulesDeclared.call.OneKey.TheVariants.{Get, GetKeyValue, ContainsKey, Insert, TryInsert, TryInsertWith, GetOrInsert, GetOrInsertWith, Update, UpdateOrInsert, UpdateOrInsertWith, Compute, Remove, RemoveEntry, RemoveIf}
+use Rattle.papaya_lives.specs.Given.SchedulesDeclared.call.Reply.{Reply}
+use Rattle.papaya_lives.specs.Given.SchedulesDeclared.call.Reply.TheVariants.{Gives, Removes, Aborts, Decides}
+use Rattle.papaya_lives.specs.Given.SchedulesGrowing.{has_value_for}
+use Rattle.papaya_lives.specs.Given.SchedulesMoment.{UnderWay as CallThere}
+use Rattle.papaya_lives.specs.Given.SchedulesSequential.{has_value}
+use Rattle.papaya_lives.specs.Given.SchedulesViews.{is_gift, has_gift}
+use Rattle.papaya_holds.specs.Given.RuleChart.{Chart}
+use Rattle.papaya_holds.specs.Given.RuleWords.{Blocks}
+use Rattle.papaya_holds.specs.Given.PointsFactsCalls.{ByReply, holding, Change, CallingFacts}
+use Rattle.papaya_holds.specs.Given.PointsTold.{IsRowOfCall}
+use Rattle.papaya_holds.specs.Given.LateLateCalls.{LateCalling}
+use Rattle.papaya_holds.specs.Given.CallersAsked.{Asked, is_about, last_told}
+use Rattle.papaya_holds.specs.Given.CallersKind.{Kind}
+use Rattle.papaya_holds.specs.Given.CallersPairs.{Given, Begun, IsTold, KeepsGiven}
+use Rattle.papaya_holds.specs.Given.CallersTogether.{CallOnKey, OnKey, in_slot, Knows}
+use Rattle.papaya_lives.specs.Given.TellerDeclared.changed.Changed.{Changed}
+use Rattle.papaya_lives.specs.Given.TellerDeclared.changed.Changed.TheVariants as changed
+use Rattle.papaya_lives.specs.Given.TellerTells.{StepsTold}
+use Rattle.papaya_lives.specs.Given.EffectsKnown.{Known}
+use Rattle.papaya_lives.specs.Given.FollowsCalls.{IsCalled}
+use Rattle.papaya_lives.specs.Given.HandsAsked.{as_told, given_by, AreReplies, IsAskedAs}
 use Rattle.papaya_owes.proofs.Walks.{IsToOwn}
 
 gives : {V : Type 0} (r : Reply V) (value : V) → as_told r ≡ reply.Insert value → is_gift r ≡ true

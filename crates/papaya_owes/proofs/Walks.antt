@@ -1,72 +1,72 @@
 -- A block that a machine makes is a table's, by its making; a call on one key makes its own one, too.
 use Rattle.std.specs.Prelude.{◌≡◌, ℕ, Bool, Option, Some, None, Ok, Err}
 use Rattle.std.proofs.Common.{refl, sym, ◌∙◌, ◌⊎◌, inl, inr}
-use Rattle.papaya_holds.specs.Given.SeizeWords.Mem.{Mem}
-use Rattle.papaya_holds.specs.Given.SeizeWords.Op.{Op, Out, Load, Store, Swap, Add, Or, Exchange, Make, Take, Rewrite, Room, Found, Exchanged, Made, Roomed}
-use Rattle.papaya_holds.specs.Given.SeizeWords.Plan.{Plan, Turn, Do, plan_as}
-use Rattle.papaya_holds.specs.Given.Seize.Defer.{defer_plan}
-use Rattle.papaya_holds.specs.Given.Seize.Defer as defers
-use Rattle.papaya_holds.specs.Given.Seize.Settle.{settle_plan}
-use Rattle.papaya_holds.specs.Given.Seize.Settle as settles
-use Rattle.papaya_holds.specs.Given.Seize.declared.rows.defer.Defer.{Defer}
-use Rattle.papaya_holds.specs.Given.Seize.declared.rows.defer.Deferring.{Deferring}
-use Rattle.papaya_holds.specs.Given.Seize.declared.rows.defer.Deferring.TheVariants as deferring
-use Rattle.papaya_holds.specs.Given.Seize.declared.rows.settle.Settle.{Settle}
-use Rattle.papaya_holds.specs.Given.Seize.declared.rows.settle.Settling.{Settling}
-use Rattle.papaya_holds.specs.Given.Seize.declared.rows.settle.Settling.TheVariants as settling
-use Rattle.papaya_holds.specs.Given.Tables.Nodes.{deferred_word}
-use Rattle.papaya_holds.specs.Given.Tables.declared.node.Node.{Node}
-use Rattle.papaya_holds.specs.Given.Tables.declared.node.Node.TheVariants as node
-use Rattle.papaya_holds.specs.Given.Tables.declared.table.Table.{Table}
-use Rattle.papaya_holds.specs.Given.Resize.Copier.{copier_plan}
-use Rattle.papaya_holds.specs.Given.Resize.Copier as copiers
-use Rattle.papaya_holds.specs.Given.Resize.CopierFurther.{grown, remade}
-use Rattle.papaya_holds.specs.Given.Resize.CopierPromotes.{retired}
-use Rattle.papaya_holds.specs.Given.Resize.Dispose.{dispose_plan}
-use Rattle.papaya_holds.specs.Given.Resize.Dispose as disposes
-use Rattle.papaya_holds.specs.Given.Resize.Lookup.{lookup_plan}
-use Rattle.papaya_holds.specs.Given.Resize.Lookup as lookups
-use Rattle.papaya_holds.specs.Given.Resize.NewTable.{new_table_plan}
-use Rattle.papaya_holds.specs.Given.Resize.NewTable as tables
-use Rattle.papaya_holds.specs.Given.Resize.Sum.{sum_plan}
-use Rattle.papaya_holds.specs.Given.Resize.Sum as sums
-use Rattle.papaya_holds.specs.Given.Resize.declared.copier.Copier.{Copier}
-use Rattle.papaya_holds.specs.Given.Resize.declared.copier.Copying.{Copying}
-use Rattle.papaya_holds.specs.Given.Resize.declared.copier.Copying.TheVariants as copying
-use Rattle.papaya_holds.specs.Given.Resize.declared.dispose.Dispose.{Dispose}
-use Rattle.papaya_holds.specs.Given.Resize.declared.dispose.Disposing.{Disposing}
-use Rattle.papaya_holds.specs.Given.Resize.declared.dispose.Disposing.TheVariants as disposing
-use Rattle.papaya_holds.specs.Given.Resize.declared.lookup.Lookup.{Lookup}
-use Rattle.papaya_holds.specs.Given.Resize.declared.lookup.Looking.{Looking}
-use Rattle.papaya_holds.specs.Given.Resize.declared.lookup.Looking.TheVariants as looking
-use Rattle.papaya_holds.specs.Given.Resize.declared.new_table.NewTable.{NewTable}
-use Rattle.papaya_holds.specs.Given.Resize.declared.new_table.Making.{Making}
-use Rattle.papaya_holds.specs.Given.Resize.declared.new_table.Making.TheVariants as making
-use Rattle.papaya_holds.specs.Given.Resize.declared.sum.Sum.{Sum}
-use Rattle.papaya_holds.specs.Given.Resize.declared.sum.Summing.{Summing}
-use Rattle.papaya_holds.specs.Given.Resize.declared.sum.Summing.TheVariants as summing
-use Rattle.papaya_holds.specs.Given.Reserves.Reserve.{reserve_plan}
-use Rattle.papaya_holds.specs.Given.Reserves.Reserve as reserves
-use Rattle.papaya_holds.specs.Given.Reserves.declared.reserve.Reserve.{Reserve}
-use Rattle.papaya_holds.specs.Given.Reserves.declared.reserve.Reserving.{Reserving}
-use Rattle.papaya_holds.specs.Given.Reserves.declared.reserve.Reserving.TheVariants as reserving
-use Rattle.papaya_holds.specs.Given.Sweeps.Sweep.{sweep_plan}
-use Rattle.papaya_holds.specs.Given.Sweeps.Sweep as sweeps
-use Rattle.papaya_holds.specs.Given.Sweeps.declared.sweep.Sweep.{Sweep}
-use Rattle.papaya_holds.specs.Given.Sweeps.declared.sweep.Sweeping.{Sweeping}
-use Rattle.papaya_holds.specs.Given.Sweeps.declared.sweep.Sweeping.TheVariants as sweeping
-use Rattle.papaya_holds.specs.Given.Raw.Call.{call_plan, looked, looks_for, first_made, next_made, disposed, helped, copied}
-use Rattle.papaya_holds.specs.Given.Raw.Call as calls
-use Rattle.papaya_holds.specs.Given.Raw.declared.machines.asking.Asking.TheVariants as asking
-use Rattle.papaya_holds.specs.Given.Raw.declared.machines.call.Calling.{Calling}
-use Rattle.papaya_holds.specs.Given.Raw.declared.machines.call.Calling.TheVariants as calling
-use Rattle.papaya_holds.specs.Given.Raw.declared.machines.call.KeyCall.{KeyCall}
-use Rattle.papaya_lives.specs.Given.Tells.Seen.{seen_of}
-use Rattle.papaya_lives.specs.Given.Teller.Changed.{kind_of}
-use Rattle.papaya_lives.specs.Given.Teller.Tells.{told_of, StepsTold}
-use Rattle.papaya_lives.specs.Given.Teller.declared.changed.Changed.{Changed}
-use Rattle.papaya_lives.specs.Given.Teller.declared.changed.Changed.TheVariants as changed
-use Rattle.papaya_lives.specs.Given.Teller.declared.changed.Kind.{Kind}
+use Rattle.papaya_holds.specs.Given.SeizeWordsMem.{Mem}
+use Rattle.papaya_holds.specs.Given.SeizeWordsOp.{Op, Out, Load, Store, Swap, Add, Or, Exchange, Make, Take, Rewrite, Room, Found, Exchanged, Made, Roomed}
+use Rattle.papaya_holds.specs.Given.SeizeWordsPlan.{Plan, Turn, Do, plan_as}
+use Rattle.papaya_holds.specs.Given.SeizeDefer.{defer_plan}
+use Rattle.papaya_holds.specs.Given.SeizeDefer as defers
+use Rattle.papaya_holds.specs.Given.SeizeSettle.{settle_plan}
+use Rattle.papaya_holds.specs.Given.SeizeSettle as settles
+use Rattle.papaya_holds.specs.Given.SeizeDeclared.rows.defer.Defer.{Defer}
+use Rattle.papaya_holds.specs.Given.SeizeDeclared.rows.defer.Deferring.{Deferring}
+use Rattle.papaya_holds.specs.Given.SeizeDeclared.rows.defer.Deferring.TheVariants as deferring
+use Rattle.papaya_holds.specs.Given.SeizeDeclared.rows.settle.Settle.{Settle}
+use Rattle.papaya_holds.specs.Given.SeizeDeclared.rows.settle.Settling.{Settling}
+use Rattle.papaya_holds.specs.Given.SeizeDeclared.rows.settle.Settling.TheVariants as settling
+use Rattle.papaya_holds.specs.Given.TablesNodes.{deferred_word}
+use Rattle.papaya_holds.specs.Given.TablesDeclared.node.Node.{Node}
+use Rattle.papaya_holds.specs.Given.TablesDeclared.node.Node.TheVariants as node
+use Rattle.papaya_holds.specs.Given.TablesDeclared.table.Table.{Table}
+use Rattle.papaya_holds.specs.Given.ResizeCopier.{copier_plan}
+use Rattle.papaya_holds.specs.Given.ResizeCopier as copiers
+use Rattle.papaya_holds.specs.Given.ResizeCopierFurther.{grown, remade}
+use Rattle.papaya_holds.specs.Given.ResizeCopierPromotes.{retired}
+use Rattle.papaya_holds.specs.Given.ResizeDispose.{dispose_plan}
+use Rattle.papaya_holds.specs.Given.ResizeDispose as disposes
+use Rattle.papaya_holds.specs.Given.ResizeLookup.{lookup_plan}
+use Rattle.papaya_holds.specs.Given.ResizeLookup as lookups
+use Rattle.papaya_holds.specs.Given.ResizeNewTable.{new_table_plan}
+use Rattle.papaya_holds.specs.Given.ResizeNewTable as tables
+use Rattle.papaya_holds.specs.Given.ResizeSum.{sum_plan}
+use Rattle.papaya_holds.specs.Given.ResizeSum as sums
+use Rattle.papaya_holds.specs.Given.ResizeDeclared.copier.Copier.{Copier}
+use Rattle.papaya_holds.specs.Given.ResizeDeclared.copier.Copying.{Copying}
+use Rattle.papaya_holds.specs.Given.ResizeDeclared.copier.Copying.TheVariants as copying
+use Rattle.papaya_holds.specs.Given.ResizeDeclared.dispose.Dispose.{Dispose}
+use Rattle.papaya_holds.specs.Given.ResizeDeclared.dispose.Disposing.{Disposing}
+use Rattle.papaya_holds.specs.Given.ResizeDeclared.dispose.Disposing.TheVariants as disposing
+use Rattle.papaya_holds.specs.Given.ResizeDeclared.lookup.Lookup.{Lookup}
+use Rattle.papaya_holds.specs.Given.ResizeDeclared.lookup.Looking.{Looking}
+use Rattle.papaya_holds.specs.Given.ResizeDeclared.lookup.Looking.TheVariants as looking
+use Rattle.papaya_holds.specs.Given.ResizeDeclared.new_table.NewTable.{NewTable}
+use Rattle.papaya_holds.specs.Given.ResizeDeclared.new_table.Making.{Making}
+use Rattle.papaya_holds.specs.Given.ResizeDeclared.new_table.Making.TheVariants as making
+use Rattle.papaya_holds.specs.Given.ResizeDeclared.sum.Sum.{Sum}
+use Rattle.papaya_holds.specs.Given.ResizeDeclared.sum.Summing.{Summing}
+use Rattle.papaya_holds.specs.Given.ResizeDeclared.sum.Summing.TheVariants as summing
+use Rattle.papaya_holds.specs.Given.ReservesReserve.{reserve_plan}
+use Rattle.papaya_holds.specs.Given.ReservesReserve as reserves
+use Rattle.papaya_holds.specs.Given.ReservesDeclared.reserve.Reserve.{Reserve}
+use Rattle.papaya_holds.specs.Given.ReservesDeclared.reserve.Reserving.{Reserving}
+use Rattle.papaya_holds.specs.Given.ReservesDeclared.reserve.Reserving.TheVariants as reserving
+use Rattle.papaya_holds.specs.Given.SweepsSweep.{sweep_plan}
+use Rattle.papaya_holds.specs.Given.SweepsSweep as sweeps
+use Rattle.papaya_holds.specs.Given.SweepsDeclared.sweep.Sweep.{Sweep}
+use Rattle.papaya_holds.specs.Given.SweepsDeclared.sweep.Sweeping.{Sweeping}
+use Rattle.papaya_holds.specs.Given.SweepsDeclared.sweep.Sweeping.TheVariants as sweeping
+use Rattle.papaya_holds.specs.Given.RawCall.{call_plan, looked, looks_for, first_made, next_made, disposed, helped, copied}
+use Rattle.papaya_holds.specs.Given.RawCall as calls
+use Rattle.papaya_holds.specs.Given.RawDeclared.machines.asking.Asking.TheVariants as asking
+use Rattle.papaya_holds.specs.Given.RawDeclared.machines.call.Calling.{Calling}
+use Rattle.papaya_holds.specs.Given.RawDeclared.machines.call.Calling.TheVariants as calling
+use Rattle.papaya_holds.specs.Given.RawDeclared.machines.call.KeyCall.{KeyCall}
+use Rattle.papaya_lives.specs.Given.TellsSeen.{seen_of}
+use Rattle.papaya_lives.specs.Given.TellerChanged.{kind_of}
+use Rattle.papaya_lives.specs.Given.TellerTells.{told_of, StepsTold}
+use Rattle.papaya_lives.specs.Given.TellerDeclared.changed.Changed.{Changed}
+use Rattle.papaya_lives.specs.Given.TellerDeclared.changed.Changed.TheVariants as changed
+use Rattle.papaya_lives.specs.Given.TellerDeclared.changed.Kind.{Kind}
 use Rattle.papaya_owes.specs.Making.{making_in_copying, making_in_calling, making_in_reserving, making_in_sweeping}
 
 module _ {K V : Type 0} where

@@ -2,20 +2,20 @@
 use Rattle.std.specs.Prelude.{◌≡◌, ◌≢◌, ◌≤◌, ℕ, Bool, Option, Some, if◌then◌else◌}
 use Rattle.std.proofs.Common.{ap, sym, subst, ◌∙◌, arith, inl, inr}
 use Rattle.std.proofs.lemmas.Bool.{ne_eqb}
-use Rattle.papaya_holds.specs.Given.SeizeWords.Mem.{Mem}
-use Rattle.papaya_holds.specs.Given.SeizeWords.Word.{block_in}
-use Rattle.papaya_holds.specs.Given.Tables.declared.node.Node.{Node}
-use Rattle.papaya_holds.specs.Given.Tables.declared.node.Node.TheVariants as node
-use Rattle.papaya_holds.specs.Given.Resize.declared.new_table.NewTable.{NewTable}
-use Rattle.papaya_holds.specs.Given.Raw.Call.{call_plan}
-use Rattle.papaya_holds.specs.Given.Raw.declared.machines.answer.Called.{Called}
-use Rattle.papaya_holds.specs.Given.Raw.declared.machines.call.KeyCall.{KeyCall}
-use Rattle.papaya_lives.specs.Given.Teller.Changed.{kind_of}
-use Rattle.papaya_lives.specs.Given.Teller.Tells.{StepsTold}
-use Rattle.papaya_lives.specs.Given.Teller.declared.changed.Changed.{Changed}
-use Rattle.papaya_lives.specs.Given.Teller.declared.changed.Changed.TheVariants as changed
-use Rattle.papaya_lives.specs.Given.Teller.declared.changed.Kind.{Kind}
-use Rattle.papaya_lives.specs.Given.Teller.declared.changed.Kind.TheVariants as kind
+use Rattle.papaya_holds.specs.Given.SeizeWordsMem.{Mem}
+use Rattle.papaya_holds.specs.Given.SeizeWordsWord.{block_in}
+use Rattle.papaya_holds.specs.Given.TablesDeclared.node.Node.{Node}
+use Rattle.papaya_holds.specs.Given.TablesDeclared.node.Node.TheVariants as node
+use Rattle.papaya_holds.specs.Given.ResizeDeclared.new_table.NewTable.{NewTable}
+use Rattle.papaya_holds.specs.Given.RawCall.{call_plan}
+use Rattle.papaya_holds.specs.Given.RawDeclared.machines.answer.Called.{Called}
+use Rattle.papaya_holds.specs.Given.RawDeclared.machines.call.KeyCall.{KeyCall}
+use Rattle.papaya_lives.specs.Given.TellerChanged.{kind_of}
+use Rattle.papaya_lives.specs.Given.TellerTells.{StepsTold}
+use Rattle.papaya_lives.specs.Given.TellerDeclared.changed.Changed.{Changed}
+use Rattle.papaya_lives.specs.Given.TellerDeclared.changed.Changed.TheVariants as changed
+use Rattle.papaya_lives.specs.Given.TellerDeclared.changed.Kind.{Kind}
+use Rattle.papaya_lives.specs.Given.TellerDeclared.changed.Kind.TheVariants as kind
 use Rattle.papaya_holds.specs.Came.{Owns}
 use Rattle.papaya_owes.specs.Making.{making_in_calling}
 use Rattle.papaya_owes.proofs.Own.{NoneMade, OwnGoes, HasIt, MadeIt, TookIt, own_goes}

@@ -1,36 +1,36 @@
 -- What is promised of the blocks that calls have made for pairs where another one than a call takes a step, and where walks go on or are given up: they are as they were.
 use Rattle.std.specs.Prelude.{◌≡◌, ℕ, Bool, true, false, List, [], ◌∷◌, Option, Some, None}
-use Rattle.papaya_holds.specs.Given.Seize.World.{Step}
-use Rattle.papaya_holds.specs.Given.Seize.declared.progress.Progress.{Progress}
-use Rattle.papaya_holds.specs.Given.Seize.declared.rows.settle.Settled.{Settled}
-use Rattle.papaya_holds.specs.Given.Tables.declared.node.Node.{Node}
-use Rattle.papaya_holds.specs.Given.Tables.declared.setting.Setting.{Setting}
-use Rattle.papaya_lives.specs.Given.Schedules.declared.effect.Effect.{Effect}
-use Rattle.papaya_lives.specs.Given.Schedules.declared.effect.Effect.TheVariants.{PairMade, PairGivenUp, Stored}
-use Rattle.papaya_lives.specs.Given.Schedules.Effects.{with_effects}
-use Rattle.papaya_lives.specs.Given.Schedules.Moment.{Moment}
-use Rattle.papaya_holds.specs.Given.Callers.Together.{UnderWay}
-use Rattle.papaya_lives.specs.Given.Effects.Effects.{effects_of, known_after}
-use Rattle.papaya_lives.specs.Given.Effects.Known.{Known}
-use Rattle.papaya_lives.specs.Given.Effects.declared.acting.Acting.TheVariants as acts
-use Rattle.papaya_lives.specs.Given.Scenes.declared.row.RowTold.{RowTold}
-use Rattle.papaya_lives.specs.Given.Scenes.declared.row.SlotRow.{SlotRow}
-use Rattle.papaya_holds.specs.Given.Finishes.Endings.{Finishing}
-use Rattle.papaya_holds.specs.Given.Finishes.Makings.{Beginning}
-use Rattle.papaya_holds.specs.Given.Finishes.Maps.{with_call}
-use Rattle.papaya_lives.specs.Given.Follows.Calling.{NoneNamed}
-use Rattle.papaya_lives.specs.Given.Follows.Shows.{Shows}
-use Rattle.papaya_lives.specs.Given.Others.Endings.{ending_after}
-use Rattle.papaya_lives.specs.Given.Others.Makings.{making_after}
-use Rattle.papaya_lives.specs.Given.Others.Rows.{scene_then}
-use Rattle.papaya_lives.specs.Given.Others.Walks.{given_up}
+use Rattle.papaya_holds.specs.Given.SeizeWorld.{Step}
+use Rattle.papaya_holds.specs.Given.SeizeDeclared.progress.Progress.{Progress}
+use Rattle.papaya_holds.specs.Given.SeizeDeclared.rows.settle.Settled.{Settled}
+use Rattle.papaya_holds.specs.Given.TablesDeclared.node.Node.{Node}
+use Rattle.papaya_holds.specs.Given.TablesDeclared.setting.Setting.{Setting}
+use Rattle.papaya_lives.specs.Given.SchedulesDeclared.effect.Effect.{Effect}
+use Rattle.papaya_lives.specs.Given.SchedulesDeclared.effect.Effect.TheVariants.{PairMade, PairGivenUp, Stored}
+use Rattle.papaya_lives.specs.Given.SchedulesEffects.{with_effects}
+use Rattle.papaya_lives.specs.Given.SchedulesMoment.{Moment}
+use Rattle.papaya_holds.specs.Given.CallersTogether.{UnderWay}
+use Rattle.papaya_lives.specs.Given.EffectsEffects.{effects_of, known_after}
+use Rattle.papaya_lives.specs.Given.EffectsKnown.{Known}
+use Rattle.papaya_lives.specs.Given.EffectsDeclared.acting.Acting.TheVariants as acts
+use Rattle.papaya_lives.specs.Given.ScenesDeclared.row.RowTold.{RowTold}
+use Rattle.papaya_lives.specs.Given.ScenesDeclared.row.SlotRow.{SlotRow}
+use Rattle.papaya_holds.specs.Given.FinishesEndings.{Finishing}
+use Rattle.papaya_holds.specs.Given.FinishesMakings.{Beginning}
+use Rattle.papaya_holds.specs.Given.FinishesMaps.{with_call}
+use Rattle.papaya_lives.specs.Given.FollowsCalling.{NoneNamed}
+use Rattle.papaya_lives.specs.Given.FollowsShows.{Shows}
+use Rattle.papaya_lives.specs.Given.OthersEndings.{ending_after}
+use Rattle.papaya_lives.specs.Given.OthersMakings.{making_after}
+use Rattle.papaya_lives.specs.Given.OthersRows.{scene_then}
+use Rattle.papaya_lives.specs.Given.OthersWalks.{given_up}
 use Rattle.papaya_owes.specs.Made.{ShowsMade}
-use Rattle.papaya_lives.specs.Given.Scenes.Ending.{EndingLeads}
-use Rattle.papaya_lives.specs.Given.Scenes.Held.{Held, IsAt}
-use Rattle.papaya_lives.specs.Given.Scenes.Making.{MakingLeads}
-use Rattle.papaya_lives.specs.Given.Scenes.OnSlots.{RowLeads}
-use Rattle.papaya_lives.specs.Given.Scenes.Replying.{AskLeads, StopLeads, scene_with, unless_stopped}
-use Rattle.papaya_lives.specs.Given.Scenes.Scene.{IsOnSlot, Scene}
+use Rattle.papaya_lives.specs.Given.ScenesEnding.{EndingLeads}
+use Rattle.papaya_lives.specs.Given.ScenesHeld.{Held, IsAt}
+use Rattle.papaya_lives.specs.Given.ScenesMaking.{MakingLeads}
+use Rattle.papaya_lives.specs.Given.ScenesOnSlots.{RowLeads}
+use Rattle.papaya_lives.specs.Given.ScenesReplying.{AskLeads, StopLeads, scene_with, unless_stopped}
+use Rattle.papaya_lives.specs.Given.ScenesScene.{IsOnSlot, Scene}
 
 -- the effect says something of a block for a pair that is not stored
 abbrev pub of_block : Effect → Bool

@@ -1,15 +1,15 @@
 -- What is promised of a walk that is ready: it has as little in hand as a call that has ended.
 use Rattle.std.specs.Prelude.{◌≡◌, ℕ, true, false, List, Some, None}
-use Rattle.papaya_holds.specs.Given.Raw.Machine.{machine_asked}
-use Rattle.papaya_lives.specs.Given.Schedules.Moment.{UnderWay as CallThere, Moment}
-use Rattle.papaya_lives.specs.Given.Schedules.Views.{call_of}
-use Rattle.papaya_holds.specs.Given.Callers.Together.{UnderWay}
-use Rattle.papaya_lives.specs.Given.Effects.Known.{Known}
-use Rattle.papaya_holds.specs.Given.Finishes.Machines.{machine_of}
+use Rattle.papaya_holds.specs.Given.RawMachine.{machine_asked}
+use Rattle.papaya_lives.specs.Given.SchedulesMoment.{UnderWay as CallThere, Moment}
+use Rattle.papaya_lives.specs.Given.SchedulesViews.{call_of}
+use Rattle.papaya_holds.specs.Given.CallersTogether.{UnderWay}
+use Rattle.papaya_lives.specs.Given.EffectsKnown.{Known}
+use Rattle.papaya_holds.specs.Given.FinishesMachines.{machine_of}
 use Rattle.papaya_owes.specs.Made.{ShowsMade}
 use Rattle.papaya_owes.specs.Short.{ShowsShort}
 use Rattle.papaya_owes.specs.Tables.{ShowsTables}
-use Rattle.papaya_lives.specs.Given.Scenes.Scene.{Scene}
+use Rattle.papaya_lives.specs.Given.ScenesScene.{Scene}
 
 -- It has neither a block for a pair nor a table that it has made, and is short of no growth.
 abbrev pub WalksAreClear : Type 0 → Type 0 → Type 0

@@ -1,37 +1,37 @@
 -- What is promised of the block that a call has made for a pair: what effects find, and that each kind of step leaves it so.
 use Rattle.std.specs.Prelude.{◌≡◌, ℕ, Bool, true, false, List, Some, None}
-use Rattle.papaya_holds.specs.Given.Tables.declared.node.Node.{Node}
-use Rattle.papaya_holds.specs.Given.Tables.declared.setting.Setting.{Setting}
-use Rattle.papaya_holds.specs.Given.Raw.Machine.{machine_replied}
-use Rattle.papaya_holds.specs.Given.Raw.declared.machines.asking.Reply.{Reply as MachineReply}
-use Rattle.papaya_holds.specs.Given.Raw.declared.machines.call.KeyCall.{KeyCall}
-use Rattle.papaya_holds.specs.Given.Raw.declared.machines.progress.Progress.{Progress}
-use Rattle.papaya_lives.specs.Given.Schedules.declared.call.Call.{Call}
-use Rattle.papaya_lives.specs.Given.Schedules.declared.call.Reply.{Reply}
-use Rattle.papaya_lives.specs.Given.Schedules.declared.effect.Effect.{Effect}
-use Rattle.papaya_lives.specs.Given.Schedules.declared.effect.Effect.TheVariants.{PairMade, PairGivenUp, Stored}
-use Rattle.papaya_lives.specs.Given.Schedules.declared.outcome.Outcome.{Outcome}
-use Rattle.papaya_lives.specs.Given.Schedules.Beginning.{with_call}
-use Rattle.papaya_lives.specs.Given.Schedules.Effects.{with_effects, AtEachEffect}
-use Rattle.papaya_lives.specs.Given.Schedules.Entry.{ByCall, acting, ends_call}
-use Rattle.papaya_lives.specs.Given.Schedules.Growing.{has_value_for}
-use Rattle.papaya_lives.specs.Given.Schedules.Moment.{UnderWay as CallThere, Moment, start}
-use Rattle.papaya_lives.specs.Given.Schedules.Views.{call_of}
-use Rattle.papaya_holds.specs.Given.Points.Steps.{AreLawful}
-use Rattle.papaya_holds.specs.Given.Callers.Pairs.{Given}
-use Rattle.papaya_holds.specs.Given.Callers.Together.{UnderWay, IsBegun}
-use Rattle.papaya_lives.specs.Given.Effects.Effects.{effects_of, known_after}
-use Rattle.papaya_lives.specs.Given.Effects.Known.{Known, nothing_known}
-use Rattle.papaya_lives.specs.Given.Effects.declared.acting.Acting.TheVariants as acts
-use Rattle.papaya_holds.specs.Given.Finishes.Machines.{machine_of}
-use Rattle.papaya_lives.specs.Given.Follows.Calling.{NoneNamed, told, come_to}
+use Rattle.papaya_holds.specs.Given.TablesDeclared.node.Node.{Node}
+use Rattle.papaya_holds.specs.Given.TablesDeclared.setting.Setting.{Setting}
+use Rattle.papaya_holds.specs.Given.RawMachine.{machine_replied}
+use Rattle.papaya_holds.specs.Given.RawDeclared.machines.asking.Reply.{Reply as MachineReply}
+use Rattle.papaya_holds.specs.Given.RawDeclared.machines.call.KeyCall.{KeyCall}
+use Rattle.papaya_holds.specs.Given.RawDeclared.machines.progress.Progress.{Progress}
+use Rattle.papaya_lives.specs.Given.SchedulesDeclared.call.Call.{Call}
+use Rattle.papaya_lives.specs.Given.SchedulesDeclared.call.Reply.{Reply}
+use Rattle.papaya_lives.specs.Given.SchedulesDeclared.effect.Effect.{Effect}
+use Rattle.papaya_lives.specs.Given.SchedulesDeclared.effect.Effect.TheVariants.{PairMade, PairGivenUp, Stored}
+use Rattle.papaya_lives.specs.Given.SchedulesDeclared.outcome.Outcome.{Outcome}
+use Rattle.papaya_lives.specs.Given.SchedulesBeginning.{with_call}
+use Rattle.papaya_lives.specs.Given.SchedulesEffects.{with_effects, AtEachEffect}
+use Rattle.papaya_lives.specs.Given.SchedulesEntry.{ByCall, acting, ends_call}
+use Rattle.papaya_lives.specs.Given.SchedulesGrowing.{has_value_for}
+use Rattle.papaya_lives.specs.Given.SchedulesMoment.{UnderWay as CallThere, Moment, start}
+use Rattle.papaya_lives.specs.Given.SchedulesViews.{call_of}
+use Rattle.papaya_holds.specs.Given.PointsSteps.{AreLawful}
+use Rattle.papaya_holds.specs.Given.CallersPairs.{Given}
+use Rattle.papaya_holds.specs.Given.CallersTogether.{UnderWay, IsBegun}
+use Rattle.papaya_lives.specs.Given.EffectsEffects.{effects_of, known_after}
+use Rattle.papaya_lives.specs.Given.EffectsKnown.{Known, nothing_known}
+use Rattle.papaya_lives.specs.Given.EffectsDeclared.acting.Acting.TheVariants as acts
+use Rattle.papaya_holds.specs.Given.FinishesMachines.{machine_of}
+use Rattle.papaya_lives.specs.Given.FollowsCalling.{NoneNamed, told, come_to}
 use Rattle.papaya_holds.specs.Came.{Owns}
-use Rattle.papaya_lives.specs.Given.Moments.Whole.{ShowsWhole}
+use Rattle.papaya_lives.specs.Given.MomentsWhole.{ShowsWhole}
 use Rattle.papaya_owes.specs.Made.{OwnsSo, ShowsMade}
-use Rattle.papaya_lives.specs.Given.Scenes.Held.{Held, IsAt}
-use Rattle.papaya_lives.specs.Given.Scenes.Replying.{scene_with}
-use Rattle.papaya_lives.specs.Given.Scenes.Scene.{Scene, at_first}
-use Rattle.papaya_lives.specs.Given.Scenes.Stepping.{StepLeads, scene_after}
+use Rattle.papaya_lives.specs.Given.ScenesHeld.{Held, IsAt}
+use Rattle.papaya_lives.specs.Given.ScenesReplying.{scene_with}
+use Rattle.papaya_lives.specs.Given.ScenesScene.{Scene, at_first}
+use Rattle.papaya_lives.specs.Given.ScenesStepping.{StepLeads, scene_after}
 
 module _ {K V : Type 0} where
   -- A block for a pair is made on asking for it, by a call that has none, and a value for it; one is given up, and a pair stored, by a call that has one.

@@ -1,46 +1,46 @@
 -- What is promised of a call that has asked for a growth: where it was refused, its machine is to be refused for want of memory, and asks for nothing more.
 use Rattle.std.specs.Prelude.{◌≡◌, ℕ, Bool, true, false, List, Option, Some, None, ◌⊎◌}
-use Rattle.papaya_holds.specs.Given.SeizeWords.declared.fault.Fault.{Fault}
-use Rattle.papaya_holds.specs.Given.SeizeWords.declared.fault.Fault.TheVariants.{Memory}
-use Rattle.papaya_holds.specs.Given.Tables.declared.node.Node.{Node}
-use Rattle.papaya_holds.specs.Given.Resize.declared.copier.Copying.{Copying}
-use Rattle.papaya_holds.specs.Given.Resize.declared.copier.Copying.TheVariants as copying
-use Rattle.papaya_holds.specs.Given.Reserves.declared.reserve.Reserving.{Reserving}
-use Rattle.papaya_holds.specs.Given.Reserves.declared.reserve.Reserving.TheVariants as reserving
-use Rattle.papaya_holds.specs.Given.Sweeps.declared.sweep.Sweeping.{Sweeping}
-use Rattle.papaya_holds.specs.Given.Sweeps.declared.sweep.Sweeping.TheVariants as sweeping
-use Rattle.papaya_holds.specs.Given.Raw.declared.machines.answer.End.TheVariants as ends
-use Rattle.papaya_holds.specs.Given.Raw.declared.machines.call.Calling.{Calling}
-use Rattle.papaya_holds.specs.Given.Raw.declared.machines.call.Calling.TheVariants as calling
-use Rattle.papaya_holds.specs.Given.Raw.declared.machines.machine.Machine.{Machine}
-use Rattle.papaya_holds.specs.Given.Raw.declared.machines.machine.Machine.TheVariants as kinds
-use Rattle.papaya_holds.specs.Given.Raw.declared.machines.progress.Progress.{Progress}
-use Rattle.papaya_holds.specs.Given.Raw.declared.machines.progress.Progress.TheVariants as progress
-use Rattle.papaya_holds.specs.Given.Raw.Machine.{machine_replied}
-use Rattle.papaya_holds.specs.Given.Raw.declared.machines.asking.Reply.{Reply as MachineReply}
-use Rattle.papaya_lives.specs.Given.Schedules.declared.effect.Effect.{Effect}
-use Rattle.papaya_lives.specs.Given.Schedules.declared.effect.Effect.TheVariants.{Asked}
-use Rattle.papaya_lives.specs.Given.Schedules.Effects.{with_effects, AtEachEffect}
-use Rattle.papaya_lives.specs.Given.Schedules.Entry.{ByCall, acting, ends_call}
-use Rattle.papaya_lives.specs.Given.Schedules.Moment.{UnderWay as CallThere, Moment, start}
-use Rattle.papaya_lives.specs.Given.Schedules.Views.{call_of}
-use Rattle.papaya_lives.specs.Given.Schedules.declared.call.Call.{Call}
-use Rattle.papaya_lives.specs.Given.Schedules.declared.call.Reply.{Reply}
-use Rattle.papaya_lives.specs.Given.Schedules.declared.outcome.Outcome.{Outcome}
-use Rattle.papaya_lives.specs.Given.Schedules.Beginning.{with_call}
-use Rattle.papaya_holds.specs.Given.Callers.Together.{UnderWay}
-use Rattle.papaya_lives.specs.Given.Effects.Effects.{effects_of}
-use Rattle.papaya_lives.specs.Given.Effects.Known.{Known}
-use Rattle.papaya_lives.specs.Given.Effects.declared.acting.Acting.TheVariants as acts
-use Rattle.papaya_holds.specs.Given.Finishes.Machines.{machine_of}
-use Rattle.papaya_holds.specs.Given.Finishes.Maps.{with_call as with_in}
-use Rattle.papaya_lives.specs.Given.Moments.Whole.{ShowsWhole}
-use Rattle.papaya_lives.specs.Given.Follows.Calling.{NoneNamed, told, come_to}
-use Rattle.papaya_lives.specs.Given.Others.Walks.{given_up}
-use Rattle.papaya_lives.specs.Given.Scenes.Held.{Held, IsAt}
-use Rattle.papaya_lives.specs.Given.Scenes.Replying.{AskLeads, StopLeads, scene_with, unless_stopped}
-use Rattle.papaya_lives.specs.Given.Scenes.Scene.{Scene, at_first}
-use Rattle.papaya_lives.specs.Given.Scenes.Stepping.{StepLeads, scene_after}
+use Rattle.papaya_holds.specs.Given.SeizeWordsDeclared.fault.Fault.{Fault}
+use Rattle.papaya_holds.specs.Given.SeizeWordsDeclared.fault.Fault.TheVariants.{Memory}
+use Rattle.papaya_holds.specs.Given.TablesDeclared.node.Node.{Node}
+use Rattle.papaya_holds.specs.Given.ResizeDeclared.copier.Copying.{Copying}
+use Rattle.papaya_holds.specs.Given.ResizeDeclared.copier.Copying.TheVariants as copying
+use Rattle.papaya_holds.specs.Given.ReservesDeclared.reserve.Reserving.{Reserving}
+use Rattle.papaya_holds.specs.Given.ReservesDeclared.reserve.Reserving.TheVariants as reserving
+use Rattle.papaya_holds.specs.Given.SweepsDeclared.sweep.Sweeping.{Sweeping}
+use Rattle.papaya_holds.specs.Given.SweepsDeclared.sweep.Sweeping.TheVariants as sweeping
+use Rattle.papaya_holds.specs.Given.RawDeclared.machines.answer.End.TheVariants as ends
+use Rattle.papaya_holds.specs.Given.RawDeclared.machines.call.Calling.{Calling}
+use Rattle.papaya_holds.specs.Given.RawDeclared.machines.call.Calling.TheVariants as calling
+use Rattle.papaya_holds.specs.Given.RawDeclared.machines.machine.Machine.{Machine}
+use Rattle.papaya_holds.specs.Given.RawDeclared.machines.machine.Machine.TheVariants as kinds
+use Rattle.papaya_holds.specs.Given.RawDeclared.machines.progress.Progress.{Progress}
+use Rattle.papaya_holds.specs.Given.RawDeclared.machines.progress.Progress.TheVariants as progress
+use Rattle.papaya_holds.specs.Given.RawMachine.{machine_replied}
+use Rattle.papaya_holds.specs.Given.RawDeclared.machines.asking.Reply.{Reply as MachineReply}
+use Rattle.papaya_lives.specs.Given.SchedulesDeclared.effect.Effect.{Effect}
+use Rattle.papaya_lives.specs.Given.SchedulesDeclared.effect.Effect.TheVariants.{Asked}
+use Rattle.papaya_lives.specs.Given.SchedulesEffects.{with_effects, AtEachEffect}
+use Rattle.papaya_lives.specs.Given.SchedulesEntry.{ByCall, acting, ends_call}
+use Rattle.papaya_lives.specs.Given.SchedulesMoment.{UnderWay as CallThere, Moment, start}
+use Rattle.papaya_lives.specs.Given.SchedulesViews.{call_of}
+use Rattle.papaya_lives.specs.Given.SchedulesDeclared.call.Call.{Call}
+use Rattle.papaya_lives.specs.Given.SchedulesDeclared.call.Reply.{Reply}
+use Rattle.papaya_lives.specs.Given.SchedulesDeclared.outcome.Outcome.{Outcome}
+use Rattle.papaya_lives.specs.Given.SchedulesBeginning.{with_call}
+use Rattle.papaya_holds.specs.Given.CallersTogether.{UnderWay}
+use Rattle.papaya_lives.specs.Given.EffectsEffects.{effects_of}
+use Rattle.papaya_lives.specs.Given.EffectsKnown.{Known}
+use Rattle.papaya_lives.specs.Given.EffectsDeclared.acting.Acting.TheVariants as acts
+use Rattle.papaya_holds.specs.Given.FinishesMachines.{machine_of}
+use Rattle.papaya_holds.specs.Given.FinishesMaps.{with_call as with_in}
+use Rattle.papaya_lives.specs.Given.MomentsWhole.{ShowsWhole}
+use Rattle.papaya_lives.specs.Given.FollowsCalling.{NoneNamed, told, come_to}
+use Rattle.papaya_lives.specs.Given.OthersWalks.{given_up}
+use Rattle.papaya_lives.specs.Given.ScenesHeld.{Held, IsAt}
+use Rattle.papaya_lives.specs.Given.ScenesReplying.{AskLeads, StopLeads, scene_with, unless_stopped}
+use Rattle.papaya_lives.specs.Given.ScenesScene.{Scene, at_first}
+use Rattle.papaya_lives.specs.Given.ScenesStepping.{StepLeads, scene_after}
 
 -- The fault for which a machine is to be refused, if it is, by where it stands: a copier gives back first what it has marked and claimed,
 abbrev pub fault_in_copying : Copying → Option Fault

@@ -1,37 +1,37 @@
 -- What is promised of the tables that calls have made where another one than a call takes a step, and where walks go on or are given up.
 use Rattle.std.specs.Prelude.{◌≡◌, ℕ, Bool, true, List, [], ◌∷◌, Option, Some, None}
-use Rattle.papaya_holds.specs.Given.Seize.World.{Step, with_at}
-use Rattle.papaya_holds.specs.Given.Seize.declared.progress.Progress.{Progress}
-use Rattle.papaya_holds.specs.Given.Seize.declared.rows.settle.Settled.{Settled}
-use Rattle.papaya_holds.specs.Given.Tables.declared.node.Node.{Node}
-use Rattle.papaya_holds.specs.Given.Tables.declared.setting.Setting.{Setting}
-use Rattle.papaya_lives.specs.Given.Schedules.declared.effect.Effect.{Effect}
-use Rattle.papaya_lives.specs.Given.Schedules.declared.effect.Effect.TheVariants.{TableMade}
-use Rattle.papaya_lives.specs.Given.Schedules.Effects.{with_effects}
-use Rattle.papaya_lives.specs.Given.Schedules.Moment.{Moment, start}
-use Rattle.papaya_holds.specs.Given.Callers.Together.{UnderWay}
-use Rattle.papaya_lives.specs.Given.Effects.Effects.{effects_of, known_after}
-use Rattle.papaya_lives.specs.Given.Effects.Known.{Known, nothing_known}
-use Rattle.papaya_lives.specs.Given.Effects.declared.acting.Acting.TheVariants as acts
-use Rattle.papaya_lives.specs.Given.Scenes.declared.row.RowTold.{RowTold}
-use Rattle.papaya_lives.specs.Given.Scenes.declared.row.SlotRow.{SlotRow}
-use Rattle.papaya_holds.specs.Given.Finishes.Endings.{Finishing}
-use Rattle.papaya_holds.specs.Given.Finishes.Makings.{Beginning}
-use Rattle.papaya_holds.specs.Given.Finishes.Maps.{with_call}
-use Rattle.papaya_lives.specs.Given.Follows.Calling.{NoneNamed}
-use Rattle.papaya_lives.specs.Given.Follows.Shows.{Shows}
-use Rattle.papaya_lives.specs.Given.Moments.Whole.{ShowsWhole}
-use Rattle.papaya_lives.specs.Given.Others.Endings.{ending_after}
-use Rattle.papaya_lives.specs.Given.Others.Makings.{making_after}
-use Rattle.papaya_lives.specs.Given.Others.Rows.{scene_then}
-use Rattle.papaya_lives.specs.Given.Others.Walks.{given_up}
+use Rattle.papaya_holds.specs.Given.SeizeWorld.{Step, with_at}
+use Rattle.papaya_holds.specs.Given.SeizeDeclared.progress.Progress.{Progress}
+use Rattle.papaya_holds.specs.Given.SeizeDeclared.rows.settle.Settled.{Settled}
+use Rattle.papaya_holds.specs.Given.TablesDeclared.node.Node.{Node}
+use Rattle.papaya_holds.specs.Given.TablesDeclared.setting.Setting.{Setting}
+use Rattle.papaya_lives.specs.Given.SchedulesDeclared.effect.Effect.{Effect}
+use Rattle.papaya_lives.specs.Given.SchedulesDeclared.effect.Effect.TheVariants.{TableMade}
+use Rattle.papaya_lives.specs.Given.SchedulesEffects.{with_effects}
+use Rattle.papaya_lives.specs.Given.SchedulesMoment.{Moment, start}
+use Rattle.papaya_holds.specs.Given.CallersTogether.{UnderWay}
+use Rattle.papaya_lives.specs.Given.EffectsEffects.{effects_of, known_after}
+use Rattle.papaya_lives.specs.Given.EffectsKnown.{Known, nothing_known}
+use Rattle.papaya_lives.specs.Given.EffectsDeclared.acting.Acting.TheVariants as acts
+use Rattle.papaya_lives.specs.Given.ScenesDeclared.row.RowTold.{RowTold}
+use Rattle.papaya_lives.specs.Given.ScenesDeclared.row.SlotRow.{SlotRow}
+use Rattle.papaya_holds.specs.Given.FinishesEndings.{Finishing}
+use Rattle.papaya_holds.specs.Given.FinishesMakings.{Beginning}
+use Rattle.papaya_holds.specs.Given.FinishesMaps.{with_call}
+use Rattle.papaya_lives.specs.Given.FollowsCalling.{NoneNamed}
+use Rattle.papaya_lives.specs.Given.FollowsShows.{Shows}
+use Rattle.papaya_lives.specs.Given.MomentsWhole.{ShowsWhole}
+use Rattle.papaya_lives.specs.Given.OthersEndings.{ending_after}
+use Rattle.papaya_lives.specs.Given.OthersMakings.{making_after}
+use Rattle.papaya_lives.specs.Given.OthersRows.{scene_then}
+use Rattle.papaya_lives.specs.Given.OthersWalks.{given_up}
 use Rattle.papaya_owes.specs.Tables.{ShowsTables}
-use Rattle.papaya_lives.specs.Given.Scenes.Ending.{EndingLeads}
-use Rattle.papaya_lives.specs.Given.Scenes.Held.{Held, IsAt}
-use Rattle.papaya_lives.specs.Given.Scenes.Making.{MakingLeads}
-use Rattle.papaya_lives.specs.Given.Scenes.OnSlots.{RowLeads}
-use Rattle.papaya_lives.specs.Given.Scenes.Replying.{AskLeads, StopLeads, scene_with, unless_stopped}
-use Rattle.papaya_lives.specs.Given.Scenes.Scene.{IsOnSlot, Scene, at_first}
+use Rattle.papaya_lives.specs.Given.ScenesEnding.{EndingLeads}
+use Rattle.papaya_lives.specs.Given.ScenesHeld.{Held, IsAt}
+use Rattle.papaya_lives.specs.Given.ScenesMaking.{MakingLeads}
+use Rattle.papaya_lives.specs.Given.ScenesOnSlots.{RowLeads}
+use Rattle.papaya_lives.specs.Given.ScenesReplying.{AskLeads, StopLeads, scene_with, unless_stopped}
+use Rattle.papaya_lives.specs.Given.ScenesScene.{IsOnSlot, Scene, at_first}
 
 module _ (K V : Type 0) (same : K → K → Bool) (hash : ℕ → K → ℕ) where
   -- Where a walk goes on to its next pair, each has the table that it had,

@@ -1,20 +1,46 @@
 -- What is so by the crates below, given on to the crates above: these list this crate in place of those.
-pub use Rattle.papaya_whole.proofs.Given.SeizeRule
-pub use Rattle.papaya_whole.proofs.Given.SeizeAlone
-pub use Rattle.papaya_whole.proofs.Given.SeizeActs
-pub use Rattle.papaya_whole.proofs.Given.Rule
-pub use Rattle.papaya_whole.proofs.Given.Points
-pub use Rattle.papaya_whole.proofs.Given.Late
-pub use Rattle.papaya_whole.proofs.Given.Callers
-pub use Rattle.papaya_whole.proofs.Given.Waits
-pub use Rattle.papaya_whole.proofs.Given.Finishes
-pub use Rattle.papaya_whole.proofs.Given.Maps
-pub use Rattle.papaya_whole.proofs as Whole
-pub use Rattle.seize.proofs.Given.SeizeWords
-pub use Rattle.seize.proofs as Seize
-pub use Rattle.papaya_shown.proofs.Given.SeizeMoves
-pub use Rattle.papaya_shown.proofs as Shown
-pub use Rattle.papaya_shown.proofs.Given.SeizeWaiting
-pub use Rattle.papaya_whole.proofs.Given.SeizeSets
-pub use Rattle.papaya_whole.proofs.Given.SeizeEnds
-pub use Rattle.papaya_straight.proofs.Given.Tables
+pub use Rattle.papaya_whole.proofs.Given.SeizeRule.Points as SeizeRulePoints
+pub use Rattle.papaya_whole.proofs.Given.SeizeRule.Rows as SeizeRuleRows
+pub use Rattle.papaya_whole.proofs.Given.SeizeRule.Words as SeizeRuleWords
+pub use Rattle.papaya_whole.proofs.Given.SeizeRule.World as SeizeRuleWorld
+pub use Rattle.papaya_whole.proofs.Given.SeizeAlone.Histories as SeizeAloneHistories
+pub use Rattle.papaya_whole.proofs.Given.SeizeAlone.Laws as SeizeAloneLaws
+pub use Rattle.papaya_whole.proofs.Given.SeizeAlone.Spared as SeizeAloneSpared
+pub use Rattle.papaya_whole.proofs.Given.SeizeAlone.Whole as SeizeAloneWhole
+pub use Rattle.papaya_whole.proofs.Given.Rule.History as RuleHistory
+pub use Rattle.papaya_whole.proofs.Given.Rule.Keys as RuleKeys
+pub use Rattle.papaya_whole.proofs.Given.Rule.Laws as RuleLaws
+pub use Rattle.papaya_whole.proofs.Given.Rule.Moves as RuleMoves
+pub use Rattle.papaya_whole.proofs.Given.Rule.Spared as RuleSpared
+pub use Rattle.papaya_whole.proofs.Given.Rule.Words as RuleWords
+pub use Rattle.papaya_whole.proofs.Given.Rule.World as RuleWorld
+pub use Rattle.papaya_whole.proofs.Given.Points.Calls as PointsCalls
+pub use Rattle.papaya_whole.proofs.Given.Points.MovedLasts as PointsMovedLasts
+pub use Rattle.papaya_whole.proofs.Given.Points.Values as PointsValues
+pub use Rattle.papaya_whole.proofs.Given.Late.Copiers as LateCopiers
+pub use Rattle.papaya_whole.proofs.Given.Late.KindsKept as LateKindsKept
+pub use Rattle.papaya_whole.proofs.Given.Late.Swept as LateSwept
+pub use Rattle.papaya_whole.proofs.Given.Callers.Asked as CallersAsked
+pub use Rattle.papaya_whole.proofs.Given.Callers.Rows as CallersRows
+pub use Rattle.papaya_whole.proofs.Given.Callers.Sights as CallersSights
+pub use Rattle.papaya_whole.proofs.Given.Callers.Together as CallersTogether
+pub use Rattle.papaya_whole.proofs.Given.Finishes.Beside as FinishesBeside
+pub use Rattle.papaya_whole.proofs.Given.Finishes.Ends as FinishesEnds
+pub use Rattle.papaya_whole.proofs.Contents as WholeContents
+pub use Rattle.papaya_whole.proofs.Keys as WholeKeys
+pub use Rattle.papaya_whole.proofs.Rows as WholeRows
+pub use Rattle.papaya_whole.proofs.Sweeps as WholeSweeps
+pub use Rattle.seize.proofs.Given.SeizeWords.OneOwner as SeizeWordsOneOwner
+pub use Rattle.seize.proofs.Given.SeizeWords.Places as SeizeWordsPlaces
+pub use Rattle.seize.proofs.Given.SeizeWords.Plans as SeizeWordsPlans
+pub use Rattle.seize.proofs.StepsInto as SeizeStepsInto
+pub use Rattle.papaya_shown.proofs.Given.SeizeMoves.Sets as SeizeMovesSets
+pub use Rattle.papaya_shown.proofs.Given.SeizeMoves.State as SeizeMovesState
+pub use Rattle.papaya_shown.proofs.Chain as ShownChain
+pub use Rattle.papaya_shown.proofs.Links as ShownLinks
+pub use Rattle.papaya_whole.proofs.Given.SeizeSets.Reclaims as SeizeSetsReclaims
+pub use Rattle.papaya_whole.proofs.Given.SeizeSets.Slots as SeizeSetsSlots
+pub use Rattle.papaya_whole.proofs.Given.SeizeSets.Turns as SeizeSetsTurns
+pub use Rattle.papaya_whole.proofs.Given.SeizeEnds.Batches as SeizeEndsBatches
+pub use Rattle.papaya_straight.proofs.Given.Tables.Ends as TablesEnds
+pub use Rattle.papaya_straight.proofs.Given.Tables.TableLens as TablesTableLens

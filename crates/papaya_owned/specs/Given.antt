@@ -1,22 +1,121 @@
 -- The words of the crates below, given on to the crates above: these list this crate in place of those.
-pub use Rattle.seize.specs as Seize
-pub use Rattle.papaya_whole.specs.Given.SeizeAlone
-pub use Rattle.papaya_whole.specs.Given.SeizeActs
-pub use Rattle.papaya_shown.specs.Given.Resize
-pub use Rattle.papaya_whole.specs.Given.Sweeps
-pub use Rattle.papaya_whole.specs.Given.Reserves
-pub use Rattle.papaya_whole.specs.Given.Rule
-pub use Rattle.papaya_shown.specs as Shown
-pub use Rattle.papaya_whole.specs.Given.Points
-pub use Rattle.papaya_whole.specs.Given.Late
-pub use Rattle.papaya_whole.specs.Given.Callers
-pub use Rattle.papaya_whole.specs.Given.Waits
-pub use Rattle.papaya_whole.specs.Given.Alone
-pub use Rattle.papaya_whole.specs.Given.Maps
-pub use Rattle.papaya_whole.specs as Whole
-pub use Rattle.seize.specs.Given.SeizeWords
-pub use Rattle.papaya_straight.specs.Given.Tables
-pub use Rattle.papaya_straight.specs.Given.Raw
-pub use Rattle.papaya_whole.specs.Given.Finishes
-pub use Rattle.papaya_shown.specs.Given.SeizeWaiting
-pub use Rattle.papaya_whole.specs.Given.SeizeSets
+pub use Rattle.seize.specs.Defer as SeizeDefer
+pub use Rattle.seize.specs.Enter as SeizeEnter
+pub use Rattle.seize.specs.Further as SeizeFurther
+pub use Rattle.seize.specs.Law as SeizeLaw
+pub use Rattle.seize.specs.Leave as SeizeLeave
+pub use Rattle.seize.specs.ReclaimAll as SeizeReclaimAll
+pub use Rattle.seize.specs.Register as SeizeRegister
+pub use Rattle.seize.specs.Sequence as SeizeSequence
+pub use Rattle.seize.specs.Settle as SeizeSettle
+pub use Rattle.seize.specs.WaitingSets as SeizeWaitingSets
+pub use Rattle.seize.specs.World as SeizeWorld
+pub use Rattle.seize.specs.declared as SeizeDeclared
+pub use Rattle.papaya_whole.specs.Given.SeizeAlone.Alone as SeizeAloneAlone
+pub use Rattle.papaya_shown.specs.Given.Resize.Copier as ResizeCopier
+pub use Rattle.papaya_shown.specs.Given.Resize.CopierClaims as ResizeCopierClaims
+pub use Rattle.papaya_shown.specs.Given.Resize.CopierCounts as ResizeCopierCounts
+pub use Rattle.papaya_shown.specs.Given.Resize.CopierFurther as ResizeCopierFurther
+pub use Rattle.papaya_shown.specs.Given.Resize.CopierMarks as ResizeCopierMarks
+pub use Rattle.papaya_shown.specs.Given.Resize.CopierPlaces as ResizeCopierPlaces
+pub use Rattle.papaya_shown.specs.Given.Resize.CopierPromotes as ResizeCopierPromotes
+pub use Rattle.papaya_shown.specs.Given.Resize.CopierStates as ResizeCopierStates
+pub use Rattle.papaya_shown.specs.Given.Resize.Dispose as ResizeDispose
+pub use Rattle.papaya_shown.specs.Given.Resize.Lookup as ResizeLookup
+pub use Rattle.papaya_shown.specs.Given.Resize.NewMap as ResizeNewMap
+pub use Rattle.papaya_shown.specs.Given.Resize.NewTable as ResizeNewTable
+pub use Rattle.papaya_shown.specs.Given.Resize.Sum as ResizeSum
+pub use Rattle.papaya_shown.specs.Given.Resize.declared as ResizeDeclared
+pub use Rattle.papaya_whole.specs.Given.Sweeps.Sweep as SweepsSweep
+pub use Rattle.papaya_whole.specs.Given.Sweeps.SweepPoints as SweepsSweepPoints
+pub use Rattle.papaya_whole.specs.Given.Sweeps.declared as SweepsDeclared
+pub use Rattle.papaya_whole.specs.Given.Reserves.Reserve as ReservesReserve
+pub use Rattle.papaya_whole.specs.Given.Reserves.declared as ReservesDeclared
+pub use Rattle.papaya_whole.specs.Given.Rule.Chart as RuleChart
+pub use Rattle.papaya_whole.specs.Given.Rule.InWorld as RuleInWorld
+pub use Rattle.papaya_whole.specs.Given.Rule.Lasts as RuleLasts
+pub use Rattle.papaya_whole.specs.Given.Rule.Links as RuleLinks
+pub use Rattle.papaya_whole.specs.Given.Rule.Maps as RuleMaps
+pub use Rattle.papaya_whole.specs.Given.Rule.Moments as RuleMoments
+pub use Rattle.papaya_whole.specs.Given.Rule.Moves as RuleMoves
+pub use Rattle.papaya_whole.specs.Given.Rule.Rule as RuleRule
+pub use Rattle.papaya_whole.specs.Given.Rule.Words as RuleWords
+pub use Rattle.papaya_shown.specs.Chain as ShownChain
+pub use Rattle.papaya_shown.specs.Shown as ShownShown
+pub use Rattle.papaya_whole.specs.Given.Points.FactsCalls as PointsFactsCalls
+pub use Rattle.papaya_whole.specs.Given.Points.FactsCopies as PointsFactsCopies
+pub use Rattle.papaya_whole.specs.Given.Points.FactsCopiesBlocking as PointsFactsCopiesBlocking
+pub use Rattle.papaya_whole.specs.Given.Points.FactsDisposes as PointsFactsDisposes
+pub use Rattle.papaya_whole.specs.Given.Points.FactsTables as PointsFactsTables
+pub use Rattle.papaya_whole.specs.Given.Points.Steps as PointsSteps
+pub use Rattle.papaya_whole.specs.Given.Points.Told as PointsTold
+pub use Rattle.papaya_whole.specs.Given.Late.Covers as LateCovers
+pub use Rattle.papaya_whole.specs.Given.Late.CoversSweeps as LateCoversSweeps
+pub use Rattle.papaya_whole.specs.Given.Late.Ends as LateEnds
+pub use Rattle.papaya_whole.specs.Given.Late.FactsReserves as LateFactsReserves
+pub use Rattle.papaya_whole.specs.Given.Late.FactsSweeps as LateFactsSweeps
+pub use Rattle.papaya_whole.specs.Given.Late.Faults as LateFaults
+pub use Rattle.papaya_whole.specs.Given.Late.Kinds as LateKinds
+pub use Rattle.papaya_whole.specs.Given.Late.LateCalls as LateLateCalls
+pub use Rattle.papaya_whole.specs.Given.Late.LateCopies as LateLateCopies
+pub use Rattle.papaya_whole.specs.Given.Late.LateReserves as LateLateReserves
+pub use Rattle.papaya_whole.specs.Given.Late.Left as LateLeft
+pub use Rattle.papaya_whole.specs.Given.Late.ToldReserves as LateToldReserves
+pub use Rattle.papaya_whole.specs.Given.Late.ToldSweeps as LateToldSweeps
+pub use Rattle.papaya_whole.specs.Given.Callers.Asked as CallersAsked
+pub use Rattle.papaya_whole.specs.Given.Callers.Kept as CallersKept
+pub use Rattle.papaya_whole.specs.Given.Callers.Kind as CallersKind
+pub use Rattle.papaya_whole.specs.Given.Callers.OverAll as CallersOverAll
+pub use Rattle.papaya_whole.specs.Given.Callers.Pairs as CallersPairs
+pub use Rattle.papaya_whole.specs.Given.Callers.Rooms as CallersRooms
+pub use Rattle.papaya_whole.specs.Given.Callers.Rows as CallersRows
+pub use Rattle.papaya_whole.specs.Given.Callers.Sights as CallersSights
+pub use Rattle.papaya_whole.specs.Given.Callers.Since as CallersSince
+pub use Rattle.papaya_whole.specs.Given.Callers.Together as CallersTogether
+pub use Rattle.papaya_whole.specs.Given.Alone.Counted as AloneCounted
+pub use Rattle.papaya_whole.specs.Given.Alone.Counting as AloneCounting
+pub use Rattle.papaya_whole.specs.Given.Alone.Endings as AloneEndings
+pub use Rattle.papaya_whole.specs.Contents as WholeContents
+pub use Rattle.papaya_whole.specs.Limits as WholeLimits
+pub use Rattle.papaya_whole.specs.LoneSweeps as WholeLoneSweeps
+pub use Rattle.papaya_whole.specs.Owner as WholeOwner
+pub use Rattle.papaya_whole.specs.SweptPairs as WholeSweptPairs
+pub use Rattle.papaya_whole.specs.Whole as WholeWhole
+pub use Rattle.papaya_whole.specs.WholeSweeps as WholeWholeSweeps
+pub use Rattle.seize.specs.Given.SeizeWords.Mem as SeizeWordsMem
+pub use Rattle.seize.specs.Given.SeizeWords.Op as SeizeWordsOp
+pub use Rattle.seize.specs.Given.SeizeWords.Place as SeizeWordsPlace
+pub use Rattle.seize.specs.Given.SeizeWords.Plan as SeizeWordsPlan
+pub use Rattle.seize.specs.Given.SeizeWords.SlotWords as SeizeWordsSlotWords
+pub use Rattle.seize.specs.Given.SeizeWords.Word as SeizeWordsWord
+pub use Rattle.seize.specs.Given.SeizeWords.declared as SeizeWordsDeclared
+pub use Rattle.papaya_straight.specs.Given.Tables.Chunks as TablesChunks
+pub use Rattle.papaya_straight.specs.Given.Tables.Counts as TablesCounts
+pub use Rattle.papaya_straight.specs.Given.Tables.Finding as TablesFinding
+pub use Rattle.papaya_straight.specs.Given.Tables.Lengths as TablesLengths
+pub use Rattle.papaya_straight.specs.Given.Tables.Marks as TablesMarks
+pub use Rattle.papaya_straight.specs.Given.Tables.Nodes as TablesNodes
+pub use Rattle.papaya_straight.specs.Given.Tables.Powers as TablesPowers
+pub use Rattle.papaya_straight.specs.Given.Tables.Probes as TablesProbes
+pub use Rattle.papaya_straight.specs.Given.Tables.TablePlaces as TablesTablePlaces
+pub use Rattle.papaya_straight.specs.Given.Tables.Trials as TablesTrials
+pub use Rattle.papaya_straight.specs.Given.Tables.declared as TablesDeclared
+pub use Rattle.papaya_straight.specs.Given.Raw.Answers as RawAnswers
+pub use Rattle.papaya_straight.specs.Given.Raw.Call as RawCall
+pub use Rattle.papaya_straight.specs.Given.Raw.CallAsks as RawCallAsks
+pub use Rattle.papaya_straight.specs.Given.Raw.CallFills as RawCallFills
+pub use Rattle.papaya_straight.specs.Given.Raw.CallPoints as RawCallPoints
+pub use Rattle.papaya_straight.specs.Given.Raw.EndMap as RawEndMap
+pub use Rattle.papaya_straight.specs.Given.Raw.Machine as RawMachine
+pub use Rattle.papaya_straight.specs.Given.Raw.Progress as RawProgress
+pub use Rattle.papaya_straight.specs.Given.Raw.Replies as RawReplies
+pub use Rattle.papaya_straight.specs.Given.Raw.declared as RawDeclared
+pub use Rattle.papaya_whole.specs.Given.Finishes.Endings as FinishesEndings
+pub use Rattle.papaya_whole.specs.Given.Finishes.FactsEnds as FinishesFactsEnds
+pub use Rattle.papaya_whole.specs.Given.Finishes.Machines as FinishesMachines
+pub use Rattle.papaya_whole.specs.Given.Finishes.Makings as FinishesMakings
+pub use Rattle.papaya_whole.specs.Given.Finishes.Maps as FinishesMaps
+pub use Rattle.papaya_whole.specs.Given.Finishes.Orders as FinishesOrders
+pub use Rattle.papaya_whole.specs.Given.Finishes.Sweeps as FinishesSweeps
+pub use Rattle.papaya_shown.specs.Given.SeizeWaiting.Held as SeizeWaitingHeld
+pub use Rattle.papaya_whole.specs.Given.SeizeSets.Reclaims as SeizeSetsReclaims

@@ -6,8 +6,8 @@ use Rattle.papaya_tables.specs.Given.Seize.ReclaimAll.{clearing, reclaiming_all}
 use Rattle.papaya_tables.specs.Given.Seize.declared.rows.reclaim_all.ReclaimAll.{ReclaimAll}
 use Rattle.papaya_tables.specs.Given.Seize.declared.rows.settle.Settled.{Settled}
 use Rattle.papaya_tables.specs.Given.Seize.declared.rows.settle.Settled.TheVariants as settled
-use Rattle.papaya_grouped.specs.Given.Scenes.declared.callers.TheConstants.{SLOTS}
-use Rattle.papaya_grouped.specs.Given.Scenes.Scene.{slot_of}
+use Rattle.papaya_grouped.specs.Given.ScenesDeclared.callers.TheConstants.{SLOTS}
+use Rattle.papaya_grouped.specs.Given.ScenesScene.{slot_of}
 use Rattle.papaya_schedules.specs.declared.effect.Effect.{Effect}
 use Rattle.papaya_schedules.specs.declared.event.Event.{Event}
 use Rattle.papaya_schedules.specs.declared.event.Event.TheVariants as events
@@ -17,24 +17,24 @@ use Rattle.papaya_schedules.specs.After.{moment}
 use Rattle.papaya_schedules.specs.Entry.{Entry}
 use Rattle.papaya_schedules.specs.Terms.{shards_of}
 use Rattle.papaya_deeds.specs.Given.SeizeWords.declared.fault.Fault.TheVariants as fault
-use Rattle.papaya_events.specs.Given.Effects.Known.{Known, known}
-use Rattle.papaya_grouped.specs.Given.Executor.IsThere.{KeepsGiven}
-use Rattle.papaya_grouped.specs.Given.Executor.declared.executor.Executor.{Executor}
-use Rattle.papaya_events.specs.Given.Logged.Ends.{is_done}
-use Rattle.papaya_events.specs.Given.Logged.Goes.{Far, ReclaimingGoes, ReclaimingGone, ReclaimingOn, far}
-use Rattle.papaya_events.specs.Given.Logged.declared.logged.Logged.{Logged}
-use Rattle.papaya_grouped.specs.Given.Reclaiming.Reclaiming.{NobodyHas}
-use Rattle.papaya_events.specs.Given.Scheduler.AllWorks.{WorksOnAll}
-use Rattle.papaya_events.specs.Given.Scheduler.Played.{entry_of}
-use Rattle.papaya_events.specs.Given.Scheduler.Reclaiming.{NotesSlots, are_gone}
-use Rattle.papaya_events.specs.Given.Scheduler.Works.{DidNothing}
-use Rattle.papaya_events.specs.Given.Scheduler.declared.played.Played.{Played}
-use Rattle.papaya_events.specs.Given.Scheduler.declared.scheduler.Scheduler.{Scheduler}
-use Rattle.papaya_events.proofs.Given.Mapping.AllGiven.{nobody_has}
-use Rattle.papaya_events.specs.Given.Named.declared.caller.Caller.{Caller}
-use Rattle.papaya_grouped.specs.Given.Acts.Lists.{Course}
+use Rattle.papaya_events.specs.Given.EffectsKnown.{Known, known}
+use Rattle.papaya_grouped.specs.Given.ExecutorIsThere.{KeepsGiven}
+use Rattle.papaya_grouped.specs.Given.ExecutorDeclared.executor.Executor.{Executor}
+use Rattle.papaya_events.specs.Given.LoggedEnds.{is_done}
+use Rattle.papaya_events.specs.Given.LoggedGoes.{Far, ReclaimingGoes, ReclaimingGone, ReclaimingOn, far}
+use Rattle.papaya_events.specs.Given.LoggedDeclared.logged.Logged.{Logged}
+use Rattle.papaya_grouped.specs.Given.ReclaimingReclaiming.{NobodyHas}
+use Rattle.papaya_events.specs.Given.SchedulerAllWorks.{WorksOnAll}
+use Rattle.papaya_events.specs.Given.SchedulerPlayed.{entry_of}
+use Rattle.papaya_events.specs.Given.SchedulerReclaiming.{NotesSlots, are_gone}
+use Rattle.papaya_events.specs.Given.SchedulerWorks.{DidNothing}
+use Rattle.papaya_events.specs.Given.SchedulerDeclared.played.Played.{Played}
+use Rattle.papaya_events.specs.Given.SchedulerDeclared.scheduler.Scheduler.{Scheduler}
+use Rattle.papaya_events.proofs.Given.MappingAllGiven.{nobody_has}
+use Rattle.papaya_events.specs.Given.NamedDeclared.caller.Caller.{Caller}
+use Rattle.papaya_grouped.specs.Given.ActsLists.{Course}
 use Rattle.papaya_deeds.specs.Deeds.{ReclaimsAll}
-use Rattle.papaya_grouped.specs.Given.Played.Play.{State, settled_outcome}
+use Rattle.papaya_grouped.specs.Given.PlayedPlay.{State, settled_outcome}
 use Rattle.papaya_grouped.specs.Called.{PlaysSo}
 use Rattle.papaya_grouped.specs.Grouping.{MayHave, Names, refuses}
 use Rattle.papaya_grouped.specs.Reach.{LeadsTo, Reach}

@@ -4,8 +4,8 @@ use Rattle.std.specs.List.{AllByRecursion}
 use Rattle.std.proofs.Common.{◌≡◌, ℕ, Bool, true, false, List, [], ◌∷◌, refl, sym, ap, subst, ◌∙◌, inl}
 use Rattle.std.proofs.lemmas.Bool.{ne_eqb}
 use Rattle.papaya_runs.specs.Present.{guard_of, living_slot}
-use Rattle.papaya_events.specs.Given.Finishes.Maps.{Standing}
-use Rattle.papaya_grouped.specs.Given.Scenes.Scene.{slot_of}
+use Rattle.papaya_events.specs.Given.FinishesMaps.{Standing}
+use Rattle.papaya_grouped.specs.Given.ScenesScene.{slot_of}
 use Rattle.papaya_schedules.specs.declared.call.Call.{Call}
 use Rattle.papaya_schedules.specs.declared.effect.Effect.{Effect}
 use Rattle.papaya_schedules.specs.declared.event.Event.{Event}
@@ -19,24 +19,24 @@ use Rattle.papaya_schedules.specs.Terms.{Terms, shards_of}
 use Rattle.papaya_schedules.specs.Views.{number_of}
 use Rattle.papaya_runs.specs.Stopped.{most_steps}
 use Rattle.papaya_deeds.specs.Given.SeizeWords.declared.fault.Fault.TheVariants as fault
-use Rattle.papaya_events.specs.Given.Effects.Known.{Known, known}
-use Rattle.papaya_grouped.specs.Given.Executor.IsThere.{KeepsGiven, StaysGiven}
-use Rattle.papaya_grouped.specs.Given.Executor.declared.executor.Executor.{Executor}
-use Rattle.papaya_events.proofs.Given.Logged.KeptGiven.{given_on}
-use Rattle.papaya_grouped.proofs.Given.Executor.Fresh.{caller_in, no_calls_yet, no_work}
-use Rattle.papaya_events.specs.Given.Scheduler.Played.{Began, BeginsSo, HasBegun, IsPlayed, IsUnderWayAs, AsFar, StandsFor, entry_of}
-use Rattle.papaya_events.specs.Given.Scheduler.declared.played.Played.{Played}
-use Rattle.papaya_events.specs.Given.Scheduler.declared.scheduler.Scheduler.{Scheduler}
-use Rattle.papaya_events.proofs.Given.Scheduler.Begins.{at_slot, entered, fits}
-use Rattle.papaya_events.proofs.Given.Scheduler.Maps.{setting_of_it}
-use Rattle.papaya_events.specs.Given.Named.Seen.{Seen}
-use Rattle.papaya_events.specs.Given.Named.declared.caller.Caller.{Caller}
-use Rattle.papaya_events.specs.Given.Named.declared.caller.Stands.{Stands as HowFar}
-use Rattle.papaya_events.specs.Given.Named.declared.caller.Stands.TheVariants as far
-use Rattle.papaya_grouped.specs.Given.Acts.Lists.{Course}
+use Rattle.papaya_events.specs.Given.EffectsKnown.{Known, known}
+use Rattle.papaya_grouped.specs.Given.ExecutorIsThere.{KeepsGiven, StaysGiven}
+use Rattle.papaya_grouped.specs.Given.ExecutorDeclared.executor.Executor.{Executor}
+use Rattle.papaya_events.proofs.Given.LoggedKeptGiven.{given_on}
+use Rattle.papaya_grouped.proofs.Given.ExecutorFresh.{caller_in, no_calls_yet, no_work}
+use Rattle.papaya_events.specs.Given.SchedulerPlayed.{Began, BeginsSo, HasBegun, IsPlayed, IsUnderWayAs, AsFar, StandsFor, entry_of}
+use Rattle.papaya_events.specs.Given.SchedulerDeclared.played.Played.{Played}
+use Rattle.papaya_events.specs.Given.SchedulerDeclared.scheduler.Scheduler.{Scheduler}
+use Rattle.papaya_events.proofs.Given.SchedulerBegins.{at_slot, entered, fits}
+use Rattle.papaya_events.proofs.Given.SchedulerMaps.{setting_of_it}
+use Rattle.papaya_events.specs.Given.NamedSeen.{Seen}
+use Rattle.papaya_events.specs.Given.NamedDeclared.caller.Caller.{Caller}
+use Rattle.papaya_events.specs.Given.NamedDeclared.caller.Stands.{Stands as HowFar}
+use Rattle.papaya_events.specs.Given.NamedDeclared.caller.Stands.TheVariants as far
+use Rattle.papaya_grouped.specs.Given.ActsLists.{Course}
 use Rattle.papaya_deeds.specs.Deeds.{Begins}
-use Rattle.papaya_events.specs.Given.Stepping.Stepping.{GoneBy, GoneFor, SaysAgain, TakenBy, TookWhole}
-use Rattle.papaya_grouped.specs.Given.Played.Play.{State}
+use Rattle.papaya_events.specs.Given.SteppingStepping.{GoneBy, GoneFor, SaysAgain, TakenBy, TookWhole}
+use Rattle.papaya_grouped.specs.Given.PlayedPlay.{State}
 use Rattle.papaya_grouped.specs.Called.{PlaysSo}
 use Rattle.papaya_grouped.specs.Grouping.{MayHave, Names, beginner_of, number_called, refuses}
 use Rattle.papaya_grouped.specs.Reach.{Reach}

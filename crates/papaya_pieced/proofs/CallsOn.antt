@@ -8,19 +8,19 @@ use Rattle.papaya_tables.specs.declared.node.Node.{Node}
 use Rattle.papaya_raw.specs.declared.machines.machine.Machine.{Machine}
 use Rattle.papaya_raw.specs.declared.machines.progress.Progress.{Progress}
 use Rattle.papaya_raw.specs.declared.machines.progress.Progress.TheVariants as progress
-use Rattle.papaya_grouped.specs.Given.Teller.declared.changed.Changed.{Changed}
-use Rattle.papaya_grouped.specs.Given.Scenes.Stepping.{has_ended}
-use Rattle.papaya_events.specs.Given.Effects.Known.{Known}
-use Rattle.papaya_events.specs.Given.Named.Seen.{kind_of}
-use Rattle.papaya_events.specs.Given.Named.declared.caller.Caller.{Caller}
-use Rattle.papaya_events.specs.Given.Named.declared.caller.Stands.{Stands as HowFar}
-use Rattle.papaya_events.specs.Given.Named.declared.caller.Stands.TheVariants as far
-use Rattle.papaya_events.specs.Given.Named.declared.kind.Kind.{Kind}
-use Rattle.papaya_events.specs.Given.Named.Telling.{kept, number_by}
-use Rattle.papaya_grouped.specs.Given.Played.Play.{Calling, State, call_stepped, going, keeps}
-use Rattle.papaya_grouped.specs.Given.Played.Play as play
-use Rattle.papaya_events.specs.Given.Stepping.Stepping.{caller_then, callers_then}
-use Rattle.papaya_events.specs.Given.Stepping.Stepping as stepping
+use Rattle.papaya_grouped.specs.Given.TellerDeclared.changed.Changed.{Changed}
+use Rattle.papaya_grouped.specs.Given.ScenesStepping.{has_ended}
+use Rattle.papaya_events.specs.Given.EffectsKnown.{Known}
+use Rattle.papaya_events.specs.Given.NamedSeen.{kind_of}
+use Rattle.papaya_events.specs.Given.NamedDeclared.caller.Caller.{Caller}
+use Rattle.papaya_events.specs.Given.NamedDeclared.caller.Stands.{Stands as HowFar}
+use Rattle.papaya_events.specs.Given.NamedDeclared.caller.Stands.TheVariants as far
+use Rattle.papaya_events.specs.Given.NamedDeclared.kind.Kind.{Kind}
+use Rattle.papaya_events.specs.Given.NamedTelling.{kept, number_by}
+use Rattle.papaya_grouped.specs.Given.PlayedPlay.{Calling, State, call_stepped, going, keeps}
+use Rattle.papaya_grouped.specs.Given.PlayedPlay as play
+use Rattle.papaya_events.specs.Given.SteppingStepping.{caller_then, callers_then}
+use Rattle.papaya_events.specs.Given.SteppingStepping as stepping
 use Rattle.papaya_grouped.specs.Grouping.{Names}
 use Rattle.papaya_grouped.specs.Called.{CallersAre, IsCalledAs}
 use Rattle.papaya_grouped.proofs.Callers.{call_beside, call_here, remove_one, removed_count, set_count, set_one}

@@ -1,7 +1,7 @@
 -- What each step of a chain keeps is so at its end.
 use Rattle.std.specs.Prelude.{zero, suc}
 use Rattle.std.proofs.Common.{ℕ, subst}
-use Rattle.papaya_events.specs.Given.Logged.Goes.{GoesFor, GoesTo}
+use Rattle.papaya_events.specs.Given.LoggedGoes.{GoesFor, GoesTo}
 
 module _ {X : Type 0} (Goes : X → X → Type 0) (P : X → Type 0) (step : (x y : X) → P x → Goes x y → P y) where
   goes_for : (n : ℕ) (x y : X) → GoesFor Goes n x y → P x → P y

@@ -1,20 +1,20 @@
 -- An event by which a choice comes: the list of acts goes on by that, and it is the grouping of nothing.
 use Rattle.std.specs.Prelude.{◌≤◌, length}
 use Rattle.std.proofs.Common.{◌≡◌, ℕ, Bool, List, [], ◌∷◌, refl, sym, ap, subst, arith, inl, inr}
-use Rattle.papaya_grouped.specs.Given.Scenes.Scene.{slot_of}
+use Rattle.papaya_grouped.specs.Given.ScenesScene.{slot_of}
 use Rattle.papaya_schedules.specs.declared.event.Event.TheVariants as event
 use Rattle.papaya_schedules.specs.After.{moment}
 use Rattle.papaya_schedules.specs.Entry.{Entry}
 use Rattle.papaya_schedules.specs.Terms.{shards_of}
-use Rattle.papaya_events.specs.Given.Effects.Known.{known}
-use Rattle.papaya_events.specs.Given.Logged.Choosing.{logged_chosen}
-use Rattle.papaya_events.specs.Given.Scheduler.Played.{entry_of}
-use Rattle.papaya_events.specs.Given.Scheduler.Works.{WorksOnSetup}
-use Rattle.papaya_events.specs.Given.Scheduler.declared.played.Played.{Played}
-use Rattle.papaya_events.specs.Given.Scheduler.declared.scheduler.Scheduler.{Scheduler}
-use Rattle.papaya_events.specs.Given.Named.declared.caller.Caller.{Caller}
-use Rattle.papaya_grouped.specs.Given.Acts.Lists.{Course}
-use Rattle.papaya_grouped.specs.Given.Played.Play.{State, choice_come}
+use Rattle.papaya_events.specs.Given.EffectsKnown.{known}
+use Rattle.papaya_events.specs.Given.LoggedChoosing.{logged_chosen}
+use Rattle.papaya_events.specs.Given.SchedulerPlayed.{entry_of}
+use Rattle.papaya_events.specs.Given.SchedulerWorks.{WorksOnSetup}
+use Rattle.papaya_events.specs.Given.SchedulerDeclared.played.Played.{Played}
+use Rattle.papaya_events.specs.Given.SchedulerDeclared.scheduler.Scheduler.{Scheduler}
+use Rattle.papaya_events.specs.Given.NamedDeclared.caller.Caller.{Caller}
+use Rattle.papaya_grouped.specs.Given.ActsLists.{Course}
+use Rattle.papaya_grouped.specs.Given.PlayedPlay.{State, choice_come}
 use Rattle.papaya_grouped.specs.Called.{PlaysSo}
 use Rattle.papaya_grouped.proofs.Aside.{callers_same}
 use Rattle.papaya_grouped.proofs.Chosen.{choice_goes}

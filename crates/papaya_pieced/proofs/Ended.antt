@@ -4,7 +4,7 @@ use Rattle.std.proofs.Common.{◌≡◌, ℕ, Bool, true, false, List, [], ◌�
 use Rattle.papaya_tables.specs.Given.Seize.declared.rows.settle.Settled.{Settled}
 use Rattle.papaya_tables.specs.Given.Seize.declared.rows.settle.Settled.TheVariants as settled
 use Rattle.papaya_tables.specs.declared.node.Node.{Node}
-use Rattle.papaya_grouped.specs.Given.Scenes.Scene.{slot_of}
+use Rattle.papaya_grouped.specs.Given.ScenesScene.{slot_of}
 use Rattle.papaya_schedules.specs.declared.effect.Effect.{Effect}
 use Rattle.papaya_schedules.specs.declared.event.Event.{Event}
 use Rattle.papaya_schedules.specs.declared.event.Event.TheVariants as event
@@ -15,22 +15,22 @@ use Rattle.papaya_schedules.specs.Entry.{Entry}
 use Rattle.papaya_schedules.specs.Terms.{shards_of}
 use Rattle.papaya_schedules.specs.Views.{number_of}
 use Rattle.papaya_deeds.specs.Given.SeizeWords.declared.fault.Fault.{Fault}
-use Rattle.papaya_events.specs.Given.Effects.Known.{Known, known}
-use Rattle.papaya_grouped.specs.Given.Executor.IsThere.{KeepsGiven, work_of}
-use Rattle.papaya_events.specs.Given.Logged.Ends.{is_done}
-use Rattle.papaya_events.specs.Given.Logged.Goes.{EndGoes, EndGone, EndOn, Far, far}
-use Rattle.papaya_events.specs.Given.Logged.declared.logged.Logged.{Logged}
-use Rattle.papaya_grouped.proofs.Given.Executor.Fresh.{no_work}
-use Rattle.papaya_events.specs.Given.Scheduler.Played.{entry_of}
-use Rattle.papaya_events.specs.Given.Scheduler.Works.{DidNothing, HasEndedMap, WorksOnEnd}
-use Rattle.papaya_events.specs.Given.Scheduler.declared.played.Played.{Played}
-use Rattle.papaya_events.specs.Given.Scheduler.declared.scheduler.Scheduler.{Scheduler}
-use Rattle.papaya_events.proofs.Given.Scheduler.Maps.{number_is}
-use Rattle.papaya_events.proofs.Given.Mapping.MapsEnded.{no_call}
-use Rattle.papaya_events.specs.Given.Named.declared.caller.Caller.{Caller}
-use Rattle.papaya_grouped.specs.Given.Acts.Lists.{Course}
+use Rattle.papaya_events.specs.Given.EffectsKnown.{Known, known}
+use Rattle.papaya_grouped.specs.Given.ExecutorIsThere.{KeepsGiven, work_of}
+use Rattle.papaya_events.specs.Given.LoggedEnds.{is_done}
+use Rattle.papaya_events.specs.Given.LoggedGoes.{EndGoes, EndGone, EndOn, Far, far}
+use Rattle.papaya_events.specs.Given.LoggedDeclared.logged.Logged.{Logged}
+use Rattle.papaya_grouped.proofs.Given.ExecutorFresh.{no_work}
+use Rattle.papaya_events.specs.Given.SchedulerPlayed.{entry_of}
+use Rattle.papaya_events.specs.Given.SchedulerWorks.{DidNothing, HasEndedMap, WorksOnEnd}
+use Rattle.papaya_events.specs.Given.SchedulerDeclared.played.Played.{Played}
+use Rattle.papaya_events.specs.Given.SchedulerDeclared.scheduler.Scheduler.{Scheduler}
+use Rattle.papaya_events.proofs.Given.SchedulerMaps.{number_is}
+use Rattle.papaya_events.proofs.Given.MappingMapsEnded.{no_call}
+use Rattle.papaya_events.specs.Given.NamedDeclared.caller.Caller.{Caller}
+use Rattle.papaya_grouped.specs.Given.ActsLists.{Course}
 use Rattle.papaya_deeds.specs.Deeds.{Ends, MapGoes}
-use Rattle.papaya_grouped.specs.Given.Played.Play.{State, is_over, settled_outcome}
+use Rattle.papaya_grouped.specs.Given.PlayedPlay.{State, is_over, settled_outcome}
 use Rattle.papaya_grouped.specs.Called.{PlaysSo}
 use Rattle.papaya_grouped.specs.Grouping.{MayHave, Names, refuses}
 use Rattle.papaya_grouped.specs.Reach.{Reach}

@@ -1,14 +1,14 @@
 -- Before all events no act was done: the list of none leads to where the executor is, and a choice of a number that comes then is an act of the list.
 use Rattle.std.proofs.Common.{◌≡◌, ℕ, Bool, List, [], refl, sym, subst, arith}
-use Rattle.papaya_grouped.specs.Given.Scenes.Scene.{at_first, slot_of}
+use Rattle.papaya_grouped.specs.Given.ScenesScene.{at_first, slot_of}
 use Rattle.papaya_schedules.specs.Terms.{Terms, shards_of}
-use Rattle.papaya_events.specs.Given.Effects.Known.{known, nothing_known}
-use Rattle.papaya_grouped.specs.Given.Executor.IsThere.{IsThere}
-use Rattle.papaya_events.specs.Given.Logged.Choosing.{logged_chosen}
-use Rattle.papaya_events.specs.Given.Logged.declared.logged.Logged.{Logged}
-use Rattle.papaya_events.specs.Given.Named.declared.caller.Caller.{Caller}
-use Rattle.papaya_grouped.specs.Given.Acts.Lists.{Course, nothing_done}
-use Rattle.papaya_grouped.specs.Given.Played.Play.{State, first_state}
+use Rattle.papaya_events.specs.Given.EffectsKnown.{known, nothing_known}
+use Rattle.papaya_grouped.specs.Given.ExecutorIsThere.{IsThere}
+use Rattle.papaya_events.specs.Given.LoggedChoosing.{logged_chosen}
+use Rattle.papaya_events.specs.Given.LoggedDeclared.logged.Logged.{Logged}
+use Rattle.papaya_events.specs.Given.NamedDeclared.caller.Caller.{Caller}
+use Rattle.papaya_grouped.specs.Given.ActsLists.{Course, nothing_done}
+use Rattle.papaya_grouped.specs.Given.PlayedPlay.{State, first_state}
 use Rattle.papaya_grouped.specs.Called.{PlaysSo}
 use Rattle.papaya_grouped.proofs.Chosen.{choice_goes}
 use Rattle.papaya_pieced.specs.SoFar.{ActsSoFar}

@@ -1,14 +1,14 @@
 -- A run that stands where a list of acts has led is by acts; and there is a course, where each hasher gives keys lawful hashes.
 use Rattle.std.specs.Prelude.{◌<◌, ◌^◌}
 use Rattle.std.proofs.Common.{ℕ, Bool, List, subst}
-use Rattle.papaya_events.specs.Given.Points.Steps.{AreLawful}
-use Rattle.papaya_grouped.specs.Given.Scenes.Scene.{slot_of}
+use Rattle.papaya_events.specs.Given.PointsSteps.{AreLawful}
+use Rattle.papaya_grouped.specs.Given.ScenesScene.{slot_of}
 use Rattle.papaya_schedules.specs.Entry.{Entry}
 use Rattle.papaya_schedules.specs.Terms.{Terms}
-use Rattle.papaya_events.specs.Given.Logged.declared.logged.Logged.{Logged}
-use Rattle.papaya_events.specs.Given.Named.declared.caller.Caller.{Caller}
-use Rattle.papaya_grouped.specs.Given.Acts.Lists.{Course}
-use Rattle.papaya_grouped.proofs.Given.Acts.Lists.{lists_determine}
+use Rattle.papaya_events.specs.Given.LoggedDeclared.logged.Logged.{Logged}
+use Rattle.papaya_events.specs.Given.NamedDeclared.caller.Caller.{Caller}
+use Rattle.papaya_grouped.specs.Given.ActsLists.{Course}
+use Rattle.papaya_grouped.proofs.Given.ActsLists.{lists_determine}
 use Rattle.papaya_grouped.specs.ByActs.{IsByActs}
 use Rattle.papaya_pieced.specs.SoFar.{ActsSoFar}
 

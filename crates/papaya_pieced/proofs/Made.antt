@@ -4,19 +4,19 @@ use Rattle.std.specs.Int.{IsPowerOfTwo}
 use Rattle.std.proofs.Common.{◌≡◌, ℕ, Bool, true, false, List, [], ◌∷◌, inl, inr, refl, sym, ap, subst, arith, eqb-true, ◌∙◌}
 use Rattle.std.proofs.lemmas.Bool.{cases_eq}
 use Rattle.std.proofs.lemmas.List.{length-take-le}
-use Rattle.papaya_events.specs.Given.SeizeActs.Answers.{Grant}
-use Rattle.papaya_events.proofs.Given.SeizeActs.Answers.{same_some}
+use Rattle.papaya_events.specs.Given.SeizeActsAnswers.{Grant}
+use Rattle.papaya_events.proofs.Given.SeizeActsAnswers.{same_some}
 use Rattle.papaya_tables.specs.Given.Seize.declared.progress.Progress.{Progress}
 use Rattle.papaya_tables.specs.Given.Seize.declared.progress.Progress.TheVariants as progress
 use Rattle.papaya_tables.specs.declared.resize_mode.ResizeMode.{ResizeMode}
 use Rattle.papaya_tables.specs.declared.setting.Setting.{Setting}
 use Rattle.papaya_tables.specs.Powers.{next_power}
 use Rattle.papaya_raw.specs.Given.Resize.declared.new_map.NewMap.{NewMap}
-use Rattle.papaya_events.specs.Given.Points.Steps.{AreLawful}
-use Rattle.papaya_events.specs.Given.Finishes.Makings.{Beginning}
-use Rattle.papaya_events.specs.Given.Finishes.Maps.{Standing}
-use Rattle.papaya_events.proofs.Given.Callers.Together.At.{at_other, at_same}
-use Rattle.papaya_grouped.specs.Given.Scenes.Scene.{Scene, slot_of}
+use Rattle.papaya_events.specs.Given.PointsSteps.{AreLawful}
+use Rattle.papaya_events.specs.Given.FinishesMakings.{Beginning}
+use Rattle.papaya_events.specs.Given.FinishesMaps.{Standing}
+use Rattle.papaya_events.proofs.Given.CallersTogether.At.{at_other, at_same}
+use Rattle.papaya_grouped.specs.Given.ScenesScene.{Scene, slot_of}
 use Rattle.papaya_tables.proofs.Logarithms.{next-power-unique}
 use Rattle.papaya_schedules.specs.declared.effect.Effect.{Effect}
 use Rattle.papaya_schedules.specs.declared.event.Event.{Event}
@@ -27,28 +27,28 @@ use Rattle.papaya_schedules.specs.After.{moment}
 use Rattle.papaya_schedules.specs.Entry.{Entry}
 use Rattle.papaya_schedules.specs.Terms.{Terms, shards_of}
 use Rattle.papaya_deeds.specs.Given.SeizeWords.declared.fault.Fault.{Fault}
-use Rattle.papaya_events.specs.Given.Effects.Known.{Known, known}
-use Rattle.papaya_grouped.specs.Given.Executor.IsThere.{IsThere, StaysGiven, making_in, work_of}
-use Rattle.papaya_grouped.specs.Given.Executor.declared.executor.Executor.{Executor}
-use Rattle.papaya_events.specs.Given.Logged.Goes.{Far, MakingGoes, MakingGone, MakingOn, far}
-use Rattle.papaya_events.specs.Given.Logged.Makings.{given_back, is_over}
-use Rattle.papaya_events.specs.Given.Logged.declared.logged.Logged.{Logged}
-use Rattle.papaya_grouped.proofs.Given.Executor.Fresh.{no_work}
-use Rattle.papaya_events.proofs.Given.Logged.GivenBack.{reads_same, with_maps}
-use Rattle.papaya_events.specs.Given.Scheduler.Mapping.{numbers_made}
-use Rattle.papaya_events.specs.Given.Scheduler.Played.{entry_of}
-use Rattle.papaya_events.specs.Given.Scheduler.Works.{DidNothing, MakingHasRun, WorksOnMap}
-use Rattle.papaya_events.specs.Given.Scheduler.declared.played.Played.{Played}
-use Rattle.papaya_events.specs.Given.Scheduler.declared.scheduler.Scheduler.{Scheduler}
-use Rattle.papaya_events.specs.Given.Named.Places.{first_places}
-use Rattle.papaya_events.specs.Given.Named.declared.caller.Caller.{Caller}
-use Rattle.papaya_grouped.specs.Given.Acts.Acts.{OfMaking, StepsMaking}
-use Rattle.papaya_grouped.specs.Given.Acts.Leads.{Led}
-use Rattle.papaya_grouped.specs.Given.Acts.Leads as leads
-use Rattle.papaya_grouped.specs.Given.Acts.Lists.{Course}
+use Rattle.papaya_events.specs.Given.EffectsKnown.{Known, known}
+use Rattle.papaya_grouped.specs.Given.ExecutorIsThere.{IsThere, StaysGiven, making_in, work_of}
+use Rattle.papaya_grouped.specs.Given.ExecutorDeclared.executor.Executor.{Executor}
+use Rattle.papaya_events.specs.Given.LoggedGoes.{Far, MakingGoes, MakingGone, MakingOn, far}
+use Rattle.papaya_events.specs.Given.LoggedMakings.{given_back, is_over}
+use Rattle.papaya_events.specs.Given.LoggedDeclared.logged.Logged.{Logged}
+use Rattle.papaya_grouped.proofs.Given.ExecutorFresh.{no_work}
+use Rattle.papaya_events.proofs.Given.LoggedGivenBack.{reads_same, with_maps}
+use Rattle.papaya_events.specs.Given.SchedulerMapping.{numbers_made}
+use Rattle.papaya_events.specs.Given.SchedulerPlayed.{entry_of}
+use Rattle.papaya_events.specs.Given.SchedulerWorks.{DidNothing, MakingHasRun, WorksOnMap}
+use Rattle.papaya_events.specs.Given.SchedulerDeclared.played.Played.{Played}
+use Rattle.papaya_events.specs.Given.SchedulerDeclared.scheduler.Scheduler.{Scheduler}
+use Rattle.papaya_events.specs.Given.NamedPlaces.{first_places}
+use Rattle.papaya_events.specs.Given.NamedDeclared.caller.Caller.{Caller}
+use Rattle.papaya_grouped.specs.Given.ActsActs.{OfMaking, StepsMaking}
+use Rattle.papaya_grouped.specs.Given.ActsLeads.{Led}
+use Rattle.papaya_grouped.specs.Given.ActsLeads as leads
+use Rattle.papaya_grouped.specs.Given.ActsLists.{Course}
 use Rattle.papaya_deeds.specs.Deeds.{MapComes, MapFails, Makes}
-use Rattle.papaya_grouped.specs.Given.Agrees.Fresh.{is_taken}
-use Rattle.papaya_grouped.specs.Given.Played.Play.{State, has_root, making_deed, making_outcome, pairs_for}
+use Rattle.papaya_grouped.specs.Given.AgreesFresh.{is_taken}
+use Rattle.papaya_grouped.specs.Given.PlayedPlay.{State, has_root, making_deed, making_outcome, pairs_for}
 use Rattle.papaya_grouped.specs.Called.{PlaysSo}
 use Rattle.papaya_grouped.specs.Grouping.{MayHave, Names, refuses}
 use Rattle.papaya_grouped.specs.Reach.{Reach}
@@ -57,7 +57,7 @@ use Rattle.papaya_grouped.proofs.Midst.{InEvent, event_ends_so, at_rest}
 use Rattle.papaya_grouped.proofs.Reached.{goes_at, reach_so}
 use Rattle.papaya_pieced.specs.SoFar.{ActsSoFar, GoesOnByActs}
 use Rattle.papaya_pieced.proofs.Chains.{goes_to}
-use Rattle.papaya_grouped.proofs.Given.Agrees.FirstPlaces.{asked_places, first_back}
+use Rattle.papaya_grouped.proofs.Given.AgreesFirstPlaces.{asked_places, first_back}
 use Rattle.papaya_pieced.proofs.Quiet.{did_nothing}
 
 -- a making that is not over goes on

@@ -5,12 +5,12 @@ use Rattle.papaya_schedules.specs.declared.event.Event.{Event}
 use Rattle.papaya_schedules.specs.After.{moment}
 use Rattle.papaya_schedules.specs.Entry.{Entry}
 use Rattle.papaya_schedules.specs.Terms.{Terms}
-use Rattle.papaya_events.specs.Given.Named.declared.caller.Caller.{Caller}
-use Rattle.papaya_grouped.specs.Given.Executor.IsThere.{KeepsGiven}
-use Rattle.papaya_events.specs.Given.Logged.declared.logged.Logged.{Logged}
-use Rattle.papaya_events.specs.Given.Scheduler.Played.{entry_of}
-use Rattle.papaya_events.specs.Given.Scheduler.declared.played.Played.{Played}
-use Rattle.papaya_events.specs.Given.Scheduler.declared.scheduler.Scheduler.{Scheduler}
+use Rattle.papaya_events.specs.Given.NamedDeclared.caller.Caller.{Caller}
+use Rattle.papaya_grouped.specs.Given.ExecutorIsThere.{KeepsGiven}
+use Rattle.papaya_events.specs.Given.LoggedDeclared.logged.Logged.{Logged}
+use Rattle.papaya_events.specs.Given.SchedulerPlayed.{entry_of}
+use Rattle.papaya_events.specs.Given.SchedulerDeclared.played.Played.{Played}
+use Rattle.papaya_events.specs.Given.SchedulerDeclared.scheduler.Scheduler.{Scheduler}
 use Rattle.papaya_grouped.proofs.Midst.{maps_of}
 use Rattle.papaya_pieced.specs.SoFar.{ActsSoFar, GoesOnByActs}
 use Rattle.papaya_grouped.specs.Grouping.{MayRest}

@@ -3,11 +3,11 @@ use Rattle.std.specs.Prelude.{◌≤◌, ◌==◌, ◌+◌, ◌⊎◌, Some, Res
 use Rattle.std.specs.Result.{is_err}
 use Rattle.std.proofs.Common.{◌≡◌, ℕ, Bool, true, false, List, [], ◌∷◌, inl, inr, refl, sym, ap, subst, ◌∙◌}
 use Rattle.std.proofs.lemmas.Bool.{eq-eqb}
-use Rattle.papaya_events.proofs.Given.SeizeActs.Answers.{same_some}
+use Rattle.papaya_events.proofs.Given.SeizeActsAnswers.{same_some}
 use Rattle.papaya_raw.specs.Machine.{machine_replied}
 use Rattle.papaya_raw.specs.declared.machines.machine.Machine.{Machine}
-use Rattle.papaya_events.specs.Given.Finishes.Machines.{machine_of}
-use Rattle.papaya_grouped.specs.Given.Scenes.Scene.{Scene, slot_of}
+use Rattle.papaya_events.specs.Given.FinishesMachines.{machine_of}
+use Rattle.papaya_grouped.specs.Given.ScenesScene.{Scene, slot_of}
 use Rattle.papaya_schedules.specs.declared.call.Reply.{Reply}
 use Rattle.papaya_schedules.specs.declared.call.Reply.TheVariants as reply
 use Rattle.papaya_schedules.specs.declared.event.Event.TheVariants as event
@@ -17,31 +17,31 @@ use Rattle.papaya_schedules.specs.declared.outcome.Outcome.TheVariants as outcom
 use Rattle.papaya_schedules.specs.After.{moment}
 use Rattle.papaya_schedules.specs.Entry.{Entry}
 use Rattle.papaya_schedules.specs.Terms.{Terms, shards_of}
-use Rattle.papaya_events.specs.Given.Effects.Known.{known}
+use Rattle.papaya_events.specs.Given.EffectsKnown.{known}
 use Rattle.papaya_deeds.specs.Given.SeizeWords.declared.fault.Fault.TheVariants as fault
-use Rattle.papaya_grouped.specs.Given.Executor.IsThere.{IsThere, KeepsGiven, StaysGiven}
-use Rattle.papaya_grouped.specs.Given.Executor.Replying.{RepliesThere}
-use Rattle.papaya_grouped.specs.Given.Executor.declared.executor.Executor.{Executor}
-use Rattle.papaya_events.specs.Given.Hands.Asked.{as_told}
-use Rattle.papaya_events.specs.Given.Scheduler.Played.{HasReplied, IsPlayed, Replies as Told', entry_of}
-use Rattle.papaya_events.proofs.Given.Scheduler.Here.{here_at, read_here}
-use Rattle.papaya_events.specs.Given.Scheduler.declared.played.Played.{Played}
-use Rattle.papaya_events.specs.Given.Scheduler.declared.scheduler.Scheduler.{Scheduler}
-use Rattle.papaya_events.specs.Given.Named.Machines.{aborted_by}
-use Rattle.papaya_events.specs.Given.Named.Seen.{kind_of}
-use Rattle.papaya_events.specs.Given.Named.declared.caller.Caller.{Caller}
-use Rattle.papaya_events.specs.Given.Named.declared.caller.Stands.TheVariants as far
-use Rattle.papaya_grouped.specs.Given.Acts.Acts.{OfReply, TellsCall}
-use Rattle.papaya_grouped.specs.Given.Acts.Doings.{Stage}
-use Rattle.papaya_grouped.specs.Given.Acts.Leads.{Led}
-use Rattle.papaya_grouped.specs.Given.Acts.Lists.{Course}
+use Rattle.papaya_grouped.specs.Given.ExecutorIsThere.{IsThere, KeepsGiven, StaysGiven}
+use Rattle.papaya_grouped.specs.Given.ExecutorReplying.{RepliesThere}
+use Rattle.papaya_grouped.specs.Given.ExecutorDeclared.executor.Executor.{Executor}
+use Rattle.papaya_events.specs.Given.HandsAsked.{as_told}
+use Rattle.papaya_events.specs.Given.SchedulerPlayed.{HasReplied, IsPlayed, Replies as Told', entry_of}
+use Rattle.papaya_events.proofs.Given.SchedulerHere.{here_at, read_here}
+use Rattle.papaya_events.specs.Given.SchedulerDeclared.played.Played.{Played}
+use Rattle.papaya_events.specs.Given.SchedulerDeclared.scheduler.Scheduler.{Scheduler}
+use Rattle.papaya_events.specs.Given.NamedMachines.{aborted_by}
+use Rattle.papaya_events.specs.Given.NamedSeen.{kind_of}
+use Rattle.papaya_events.specs.Given.NamedDeclared.caller.Caller.{Caller}
+use Rattle.papaya_events.specs.Given.NamedDeclared.caller.Stands.TheVariants as far
+use Rattle.papaya_grouped.specs.Given.ActsActs.{OfReply, TellsCall}
+use Rattle.papaya_grouped.specs.Given.ActsDoings.{Stage}
+use Rattle.papaya_grouped.specs.Given.ActsLeads.{Led}
+use Rattle.papaya_grouped.specs.Given.ActsLists.{Course}
 use Rattle.papaya_deeds.specs.Deeds.{Replies}
 use Rattle.papaya_deeds.specs.Deeds.{Entry as Act}
-use Rattle.papaya_grouped.specs.Given.Drives.Executors.{IsAct}
-use Rattle.papaya_grouped.proofs.Given.Drives.Executors.{executors_act}
-use Rattle.papaya_grouped.specs.Given.Played.Play.{Calling, State, call_told, play_act, reply_for, told_call}
-use Rattle.papaya_grouped.specs.Given.Played.Reached.{IsOfStage}
-use Rattle.papaya_grouped.proofs.Given.Played.PlayedAs.{played_as}
+use Rattle.papaya_grouped.specs.Given.DrivesExecutors.{IsAct}
+use Rattle.papaya_grouped.proofs.Given.DrivesExecutors.{executors_act}
+use Rattle.papaya_grouped.specs.Given.PlayedPlay.{Calling, State, call_told, play_act, reply_for, told_call}
+use Rattle.papaya_grouped.specs.Given.PlayedReached.{IsOfStage}
+use Rattle.papaya_grouped.proofs.Given.PlayedPlayedAs.{played_as}
 use Rattle.papaya_grouped.specs.Called.{CallersAre, IsCalledAs, PlaysSo}
 use Rattle.papaya_grouped.specs.Grouping.{Names, number_called, refuses}
 use Rattle.papaya_grouped.specs.Reach.{Reach}

@@ -22,28 +22,28 @@ use Rattle.papaya_tables.specs.Given.Seize.declared.rows.settle.Settled.TheVaria
 use Rattle.papaya_tables.specs.Given.Seize.declared.states.TheConstants.{ACTIVE, IDLE, LAST_SLOT}
 use Rattle.papaya_tables.specs.Nodes.{deferred_word}
 use Rattle.papaya_tables.specs.declared.node.Node.{Node}
-use Rattle.papaya_grouped.specs.Given.Teller.declared.changed.Changed.{Changed}
-use Rattle.papaya_grouped.specs.Given.Teller.declared.changed.Changed.TheVariants.{Nothing}
-use Rattle.papaya_events.specs.Given.Callers.Rows.{IsRowOn}
-use Rattle.papaya_grouped.proofs.Given.Scenes.Told.{as_step}
-use Rattle.papaya_grouped.specs.Given.Scenes.OnSlots.{RowSteps}
-use Rattle.papaya_grouped.specs.Given.Scenes.Rows.{begun_row}
-use Rattle.papaya_grouped.specs.Given.Scenes.Scene.{row_of}
-use Rattle.papaya_grouped.specs.Given.Scenes.declared.row.RowTold.{RowTold}
-use Rattle.papaya_grouped.specs.Given.Scenes.declared.row.SlotCall.{SlotCall}
-use Rattle.papaya_grouped.specs.Given.Scenes.declared.row.SlotCall.TheVariants as call
-use Rattle.papaya_grouped.specs.Given.Scenes.declared.row.SlotRow.{SlotRow}
-use Rattle.papaya_grouped.specs.Given.Scenes.declared.row.SlotRow.TheVariants as rows
+use Rattle.papaya_grouped.specs.Given.TellerDeclared.changed.Changed.{Changed}
+use Rattle.papaya_grouped.specs.Given.TellerDeclared.changed.Changed.TheVariants.{Nothing}
+use Rattle.papaya_events.specs.Given.CallersRows.{IsRowOn}
+use Rattle.papaya_grouped.proofs.Given.ScenesTold.{as_step}
+use Rattle.papaya_grouped.specs.Given.ScenesOnSlots.{RowSteps}
+use Rattle.papaya_grouped.specs.Given.ScenesRows.{begun_row}
+use Rattle.papaya_grouped.specs.Given.ScenesScene.{row_of}
+use Rattle.papaya_grouped.specs.Given.ScenesDeclared.row.RowTold.{RowTold}
+use Rattle.papaya_grouped.specs.Given.ScenesDeclared.row.SlotCall.{SlotCall}
+use Rattle.papaya_grouped.specs.Given.ScenesDeclared.row.SlotCall.TheVariants as call
+use Rattle.papaya_grouped.specs.Given.ScenesDeclared.row.SlotRow.{SlotRow}
+use Rattle.papaya_grouped.specs.Given.ScenesDeclared.row.SlotRow.TheVariants as rows
 use Rattle.papaya_schedules.specs.declared.event.Event.{Event}
 use Rattle.papaya_schedules.specs.declared.event.Event.TheVariants as event
 use Rattle.papaya_schedules.specs.Moment.{Moment}
-use Rattle.papaya_events.proofs.Given.SeizeEnds.Batches.Free.{Outcomes, PlanOutcomes, if_outcome, plan_outcome}
-use Rattle.papaya_grouped.proofs.Given.SeizeRule.Rows.Leaving.{steps_back}
-use Rattle.papaya_events.specs.Given.Scheduler.Works.{IsAbout, IsItsRow, HasNoRow}
-use Rattle.papaya_events.specs.Given.Scheduler.declared.scheduler.Scheduler.{Scheduler}
-use Rattle.papaya_events.specs.Given.Named.Seen.{free_slot}
+use Rattle.papaya_events.proofs.Given.SeizeEndsBatches.Free.{Outcomes, PlanOutcomes, if_outcome, plan_outcome}
+use Rattle.papaya_grouped.proofs.Given.SeizeRuleRows.Leaving.{steps_back}
+use Rattle.papaya_events.specs.Given.SchedulerWorks.{IsAbout, IsItsRow, HasNoRow}
+use Rattle.papaya_events.specs.Given.SchedulerDeclared.scheduler.Scheduler.{Scheduler}
+use Rattle.papaya_events.specs.Given.NamedSeen.{free_slot}
 use Rattle.papaya_deeds.specs.Deeds.{Leaves, Opens}
-use Rattle.papaya_grouped.specs.Given.Played.Play.{leaves_as, registers_as, row_deed}
+use Rattle.papaya_grouped.specs.Given.PlayedPlay.{leaves_as, registers_as, row_deed}
 use Rattle.papaya_grouped.specs.Grouping.{MayHave, Names, IsShared}
 use Rattle.papaya_pieced.specs.RowFor.{IsRowFor}
 

@@ -2,14 +2,14 @@
 use Rattle.std.specs.Prelude.{◌⊎◌, Option, Some}
 use Rattle.std.proofs.Common.{◌≡◌, ℕ, Bool, true, false, List, [], ◌∷◌, inl, inr, refl, sym, ap, subst, ◌∙◌}
 use Rattle.papaya_tables.specs.declared.node.Node.{Node}
-use Rattle.papaya_events.specs.Given.Callers.Rows.{IsRowOn}
-use Rattle.papaya_grouped.proofs.Given.Scenes.NoCall.{none_is}
-use Rattle.papaya_grouped.specs.Given.Scenes.Scene.{row_of, slot_of}
-use Rattle.papaya_grouped.specs.Given.Scenes.declared.row.RowTold.{RowTold}
-use Rattle.papaya_grouped.specs.Given.Scenes.declared.row.RowTold.TheVariants as told
-use Rattle.papaya_grouped.specs.Given.Scenes.declared.row.SlotCall.{SlotCall}
-use Rattle.papaya_grouped.specs.Given.Scenes.declared.row.SlotCall.TheVariants as call
-use Rattle.papaya_grouped.specs.Given.Scenes.declared.row.SlotRow.{SlotRow}
+use Rattle.papaya_events.specs.Given.CallersRows.{IsRowOn}
+use Rattle.papaya_grouped.proofs.Given.ScenesNoCall.{none_is}
+use Rattle.papaya_grouped.specs.Given.ScenesScene.{row_of, slot_of}
+use Rattle.papaya_grouped.specs.Given.ScenesDeclared.row.RowTold.{RowTold}
+use Rattle.papaya_grouped.specs.Given.ScenesDeclared.row.RowTold.TheVariants as told
+use Rattle.papaya_grouped.specs.Given.ScenesDeclared.row.SlotCall.{SlotCall}
+use Rattle.papaya_grouped.specs.Given.ScenesDeclared.row.SlotCall.TheVariants as call
+use Rattle.papaya_grouped.specs.Given.ScenesDeclared.row.SlotRow.{SlotRow}
 use Rattle.papaya_schedules.specs.declared.effect.Effect.{Effect}
 use Rattle.papaya_schedules.specs.declared.event.Event.{Event}
 use Rattle.papaya_schedules.specs.declared.event.Event.TheVariants as event
@@ -20,29 +20,29 @@ use Rattle.papaya_schedules.specs.Entry.{Entry}
 use Rattle.papaya_schedules.specs.Terms.{Terms, shards_of}
 use Rattle.papaya_deeds.specs.Given.SeizeWords.declared.fault.Fault.{Fault}
 use Rattle.papaya_deeds.specs.Given.SeizeWords.declared.fault.Fault.TheVariants.{Memory, SlotsUsedUp}
-use Rattle.papaya_events.specs.Given.Effects.Known.{Known, known}
-use Rattle.papaya_grouped.specs.Given.Executor.IsThere.{KeepsGiven, work_of}
-use Rattle.papaya_grouped.specs.Given.Executor.OnSlots.{MayBegin, row_on}
-use Rattle.papaya_grouped.specs.Given.Executor.declared.worker.Work.{Work}
-use Rattle.papaya_grouped.specs.Given.Executor.declared.worker.Work.TheVariants.{OnSlot}
-use Rattle.papaya_events.specs.Given.Logged.Goes.{Far, RowGoes, RowGone, far}
-use Rattle.papaya_events.specs.Given.Logged.declared.logged.Logged.{Logged}
-use Rattle.papaya_events.specs.Given.Scheduler.Played.{IsDue, IsPlayed, entry_of}
-use Rattle.papaya_events.specs.Given.Scheduler.Works.{ComesBy, DidNothing, HasNoRow, IsAbout, IsItsRow, WorksOnSlot, told_so}
-use Rattle.papaya_events.specs.Given.Scheduler.declared.played.Played.{Played}
-use Rattle.papaya_events.specs.Given.Scheduler.declared.scheduler.Scheduler.{Scheduler}
-use Rattle.papaya_events.proofs.Given.Scheduler.Drops as drops
-use Rattle.papaya_events.proofs.Given.Scheduler.Enters as enters
-use Rattle.papaya_events.proofs.Given.Scheduler.Flushes as flushes
-use Rattle.papaya_events.proofs.Given.Scheduler.Refreshes as refreshes
-use Rattle.papaya_events.proofs.Given.Scheduler.SlotTaken as taking
-use Rattle.papaya_events.proofs.Given.Scheduler.Unregisters as unregisters
-use Rattle.papaya_events.specs.Given.Rows.Rows.{RowRan}
-use Rattle.papaya_events.proofs.Given.Rows.NeverWaits.{done_alone}
-use Rattle.papaya_events.proofs.Given.Rows.Ran.{done_once}
-use Rattle.papaya_events.specs.Given.Named.declared.caller.Caller.{Caller}
-use Rattle.papaya_grouped.specs.Given.Acts.Lists.{Course}
-use Rattle.papaya_grouped.specs.Given.Played.Play.{State, row_outcome}
+use Rattle.papaya_events.specs.Given.EffectsKnown.{Known, known}
+use Rattle.papaya_grouped.specs.Given.ExecutorIsThere.{KeepsGiven, work_of}
+use Rattle.papaya_grouped.specs.Given.ExecutorOnSlots.{MayBegin, row_on}
+use Rattle.papaya_grouped.specs.Given.ExecutorDeclared.worker.Work.{Work}
+use Rattle.papaya_grouped.specs.Given.ExecutorDeclared.worker.Work.TheVariants.{OnSlot}
+use Rattle.papaya_events.specs.Given.LoggedGoes.{Far, RowGoes, RowGone, far}
+use Rattle.papaya_events.specs.Given.LoggedDeclared.logged.Logged.{Logged}
+use Rattle.papaya_events.specs.Given.SchedulerPlayed.{IsDue, IsPlayed, entry_of}
+use Rattle.papaya_events.specs.Given.SchedulerWorks.{ComesBy, DidNothing, HasNoRow, IsAbout, IsItsRow, WorksOnSlot, told_so}
+use Rattle.papaya_events.specs.Given.SchedulerDeclared.played.Played.{Played}
+use Rattle.papaya_events.specs.Given.SchedulerDeclared.scheduler.Scheduler.{Scheduler}
+use Rattle.papaya_events.proofs.Given.SchedulerDrops as drops
+use Rattle.papaya_events.proofs.Given.SchedulerEnters as enters
+use Rattle.papaya_events.proofs.Given.SchedulerFlushes as flushes
+use Rattle.papaya_events.proofs.Given.SchedulerRefreshes as refreshes
+use Rattle.papaya_events.proofs.Given.SchedulerSlotTaken as taking
+use Rattle.papaya_events.proofs.Given.SchedulerUnregisters as unregisters
+use Rattle.papaya_events.specs.Given.RowsRows.{RowRan}
+use Rattle.papaya_events.proofs.Given.RowsNeverWaits.{done_alone}
+use Rattle.papaya_events.proofs.Given.RowsRan.{done_once}
+use Rattle.papaya_events.specs.Given.NamedDeclared.caller.Caller.{Caller}
+use Rattle.papaya_grouped.specs.Given.ActsLists.{Course}
+use Rattle.papaya_grouped.specs.Given.PlayedPlay.{State, row_outcome}
 use Rattle.papaya_grouped.specs.Called.{PlaysSo}
 use Rattle.papaya_grouped.specs.Reach.{Reach}
 use Rattle.papaya_grouped.proofs.Midst.{InEvent, event_begins, event_ends, maps_of, at_rest}

@@ -1,48 +1,48 @@
 -- A step of a call, in the midst of an event: the list of acts goes on by it.
 use Rattle.std.specs.Prelude.{◌+◌, ◌++◌, Option, Some, option_map}
 use Rattle.std.proofs.Common.{◌≡◌, ℕ, Bool, false, List, refl, sym, ap, subst, ◌∙◌}
-use Rattle.papaya_events.specs.Given.SeizeActs.Answers.{Grant}
-use Rattle.papaya_events.proofs.Given.SeizeActs.Answers.{same_some}
+use Rattle.papaya_events.specs.Given.SeizeActsAnswers.{Grant}
+use Rattle.papaya_events.proofs.Given.SeizeActsAnswers.{same_some}
 use Rattle.papaya_deeds.specs.Given.SeizeWords.Mem.{Mem}
 use Rattle.papaya_tables.specs.declared.node.Node.{Node}
 use Rattle.papaya_raw.specs.Machine.{machine_plan}
 use Rattle.papaya_raw.specs.declared.machines.machine.Machine.{Machine}
 use Rattle.papaya_raw.specs.declared.machines.progress.Progress.{Progress}
 use Rattle.papaya_raw.specs.declared.machines.progress.Progress.TheVariants as progress
-use Rattle.papaya_grouped.specs.Given.Teller.declared.changed.Changed.{Changed}
-use Rattle.papaya_events.specs.Given.Callers.Together.{UnderWay}
-use Rattle.papaya_events.specs.Given.Finishes.Machines.{GoesOnAs, machine_of}
-use Rattle.papaya_grouped.specs.Given.Scenes.Scene.{Scene, slot_of}
-use Rattle.papaya_grouped.specs.Given.Scenes.Stepping.{has_ended}
+use Rattle.papaya_grouped.specs.Given.TellerDeclared.changed.Changed.{Changed}
+use Rattle.papaya_events.specs.Given.CallersTogether.{UnderWay}
+use Rattle.papaya_events.specs.Given.FinishesMachines.{GoesOnAs, machine_of}
+use Rattle.papaya_grouped.specs.Given.ScenesScene.{Scene, slot_of}
+use Rattle.papaya_grouped.specs.Given.ScenesStepping.{has_ended}
 use Rattle.papaya_schedules.specs.declared.effect.Effect.{Effect}
 use Rattle.papaya_schedules.specs.declared.event.Event.{Event}
 use Rattle.papaya_schedules.specs.declared.outcome.Outcome.{Outcome}
 use Rattle.papaya_schedules.specs.After.{moment}
 use Rattle.papaya_schedules.specs.Entry.{Entry}
-use Rattle.papaya_events.specs.Given.Effects.Effects.{effects_of, known_after}
-use Rattle.papaya_events.specs.Given.Effects.Known.{Known, known}
-use Rattle.papaya_events.specs.Given.Effects.declared.acting.Acting.TheVariants as acting
-use Rattle.papaya_grouped.specs.Given.Executor.IsThere.{IsThere, StaysGiven, call_in, work_of}
-use Rattle.papaya_grouped.specs.Given.Executor.declared.executor.Executor.{Executor}
-use Rattle.papaya_events.specs.Given.Scheduler.declared.scheduler.Scheduler.{Scheduler}
-use Rattle.papaya_events.specs.Given.Named.Seen.{kind_of}
-use Rattle.papaya_events.specs.Given.Named.declared.caller.Caller.{Caller}
-use Rattle.papaya_events.specs.Given.Named.declared.kind.Kind.{Kind}
-use Rattle.papaya_grouped.specs.Given.Acts.Acts.{OfCall, StepsCall}
-use Rattle.papaya_grouped.specs.Given.Acts.AsSteps.{changed_by}
-use Rattle.papaya_grouped.specs.Given.Acts.Leads.{CallCame}
-use Rattle.papaya_grouped.specs.Given.Acts.Doings.{reclaiming}
-use Rattle.papaya_grouped.specs.Given.Acts.Lists.{Course}
+use Rattle.papaya_events.specs.Given.EffectsEffects.{effects_of, known_after}
+use Rattle.papaya_events.specs.Given.EffectsKnown.{Known, known}
+use Rattle.papaya_events.specs.Given.EffectsDeclared.acting.Acting.TheVariants as acting
+use Rattle.papaya_grouped.specs.Given.ExecutorIsThere.{IsThere, StaysGiven, call_in, work_of}
+use Rattle.papaya_grouped.specs.Given.ExecutorDeclared.executor.Executor.{Executor}
+use Rattle.papaya_events.specs.Given.SchedulerDeclared.scheduler.Scheduler.{Scheduler}
+use Rattle.papaya_events.specs.Given.NamedSeen.{kind_of}
+use Rattle.papaya_events.specs.Given.NamedDeclared.caller.Caller.{Caller}
+use Rattle.papaya_events.specs.Given.NamedDeclared.kind.Kind.{Kind}
+use Rattle.papaya_grouped.specs.Given.ActsActs.{OfCall, StepsCall}
+use Rattle.papaya_grouped.specs.Given.ActsAsSteps.{changed_by}
+use Rattle.papaya_grouped.specs.Given.ActsLeads.{CallCame}
+use Rattle.papaya_grouped.specs.Given.ActsDoings.{reclaiming}
+use Rattle.papaya_grouped.specs.Given.ActsLists.{Course}
 use Rattle.papaya_deeds.specs.Deeds.{Steps}
 use Rattle.papaya_deeds.specs.Deeds.{Entry as Act}
-use Rattle.papaya_grouped.specs.Given.Drives.Executors.{AreSteps, Computes, IsAct}
-use Rattle.papaya_grouped.proofs.Given.Drives.Executors.{executors_act}
-use Rattle.papaya_grouped.proofs.Given.Played.Tied.{call_tied}
-use Rattle.papaya_grouped.specs.Given.Played.Play.{Calling, State, call_stepped, is_refusal, play_act}
-use Rattle.papaya_grouped.specs.Given.Played.Play as play
-use Rattle.papaya_grouped.specs.Given.Played.Reached.{rows_beside}
-use Rattle.papaya_grouped.proofs.Given.Played.PlayedAs.{played_as}
-use Rattle.papaya_events.specs.Given.Stepping.Stepping.{IsStepped}
+use Rattle.papaya_grouped.specs.Given.DrivesExecutors.{AreSteps, Computes, IsAct}
+use Rattle.papaya_grouped.proofs.Given.DrivesExecutors.{executors_act}
+use Rattle.papaya_grouped.proofs.Given.PlayedTied.{call_tied}
+use Rattle.papaya_grouped.specs.Given.PlayedPlay.{Calling, State, call_stepped, is_refusal, play_act}
+use Rattle.papaya_grouped.specs.Given.PlayedPlay as play
+use Rattle.papaya_grouped.specs.Given.PlayedReached.{rows_beside}
+use Rattle.papaya_grouped.proofs.Given.PlayedPlayedAs.{played_as}
+use Rattle.papaya_events.specs.Given.SteppingStepping.{IsStepped}
 use Rattle.papaya_grouped.specs.Grouping.{MayHave, Names, names_after, number_called}
 use Rattle.papaya_grouped.specs.Reach.{Reach}
 use Rattle.papaya_grouped.specs.Called.{CallersAre, IsCalledAs}

@@ -2,25 +2,25 @@
 use Rattle.std.specs.Prelude.{◌+◌, zero, suc, Option, Some, slice_get, slice_set, if◌then◌else◌}
 use Rattle.std.specs.List.{remove}
 use Rattle.std.proofs.Common.{◌≡◌, ℕ, Bool, true, false, List, refl, sym, ap, subst, arith, ◌∙◌}
-use Rattle.papaya_events.proofs.Given.SeizeActs.Answers.{same_some}
+use Rattle.papaya_events.proofs.Given.SeizeActsAnswers.{same_some}
 use Rattle.papaya_tables.specs.declared.node.Node.{Node}
 use Rattle.papaya_raw.specs.declared.machines.progress.Progress.{Progress}
 use Rattle.papaya_raw.specs.declared.machines.progress.Progress.TheVariants as progress
-use Rattle.papaya_grouped.specs.Given.Scenes.Scene.{slot_of}
-use Rattle.papaya_grouped.specs.Given.Scenes.Stepping.{has_ended}
+use Rattle.papaya_grouped.specs.Given.ScenesScene.{slot_of}
+use Rattle.papaya_grouped.specs.Given.ScenesStepping.{has_ended}
 use Rattle.papaya_schedules.specs.declared.effect.Effect.{Effect}
 use Rattle.papaya_schedules.specs.declared.event.Event.{Event}
 use Rattle.papaya_schedules.specs.declared.outcome.Outcome.{Outcome}
 use Rattle.papaya_schedules.specs.After.{moment}
 use Rattle.papaya_schedules.specs.Entry.{Entry}
-use Rattle.papaya_events.specs.Given.Effects.Known.{Known, known}
-use Rattle.papaya_events.specs.Given.Scheduler.declared.scheduler.Scheduler.{Scheduler}
-use Rattle.papaya_events.specs.Given.Named.Telling.{goes_on}
-use Rattle.papaya_events.specs.Given.Named.declared.caller.Caller.{Caller}
-use Rattle.papaya_events.specs.Given.Named.declared.kind.Kind.{Kind}
-use Rattle.papaya_grouped.specs.Given.Acts.Lists.{Course}
+use Rattle.papaya_events.specs.Given.EffectsKnown.{Known, known}
+use Rattle.papaya_events.specs.Given.SchedulerDeclared.scheduler.Scheduler.{Scheduler}
+use Rattle.papaya_events.specs.Given.NamedTelling.{goes_on}
+use Rattle.papaya_events.specs.Given.NamedDeclared.caller.Caller.{Caller}
+use Rattle.papaya_events.specs.Given.NamedDeclared.kind.Kind.{Kind}
+use Rattle.papaya_grouped.specs.Given.ActsLists.{Course}
 use Rattle.papaya_deeds.specs.Deeds.{Steps}
-use Rattle.papaya_events.specs.Given.Stepping.Stepping.{GoneBy, GoneFor, IsStepped, caller_then, outcome_of}
+use Rattle.papaya_events.specs.Given.SteppingStepping.{GoneBy, GoneFor, IsStepped, caller_then, outcome_of}
 use Rattle.papaya_grouped.specs.Grouping.{MayHave, Names, number_called}
 use Rattle.papaya_grouped.specs.Reach.{Reach}
 use Rattle.papaya_grouped.proofs.Callers.{set_there}

@@ -2,12 +2,12 @@
 use Rattle.std.specs.Prelude.{◌≤◌, ◌==◌, ◌+◌, ◌⊎◌, Some, option_map, length, slice_get, if◌then◌else◌}
 use Rattle.std.proofs.Common.{◌≡◌, ℕ, Bool, true, false, List, [], ◌∷◌, inl, inr, refl, sym, ap, subst, arith, ◌∙◌}
 use Rattle.std.proofs.lemmas.Bool.{eq-eqb}
-use Rattle.papaya_events.proofs.Given.SeizeActs.Answers.{same_some}
+use Rattle.papaya_events.proofs.Given.SeizeActsAnswers.{same_some}
 use Rattle.papaya_raw.specs.Machine.{machine_asked}
 use Rattle.papaya_raw.specs.declared.machines.machine.Machine.{Machine}
-use Rattle.papaya_events.specs.Given.Finishes.Machines.{machine_of}
-use Rattle.papaya_grouped.specs.Given.Scenes.Replying.{unless_stopped}
-use Rattle.papaya_grouped.specs.Given.Scenes.Scene.{Scene, slot_of}
+use Rattle.papaya_events.specs.Given.FinishesMachines.{machine_of}
+use Rattle.papaya_grouped.specs.Given.ScenesReplying.{unless_stopped}
+use Rattle.papaya_grouped.specs.Given.ScenesScene.{Scene, slot_of}
 use Rattle.papaya_schedules.specs.declared.event.Event.TheVariants as event
 use Rattle.papaya_schedules.specs.declared.effect.Effect.{Effect}
 use Rattle.papaya_schedules.specs.declared.outcome.Outcome.{Outcome}
@@ -16,27 +16,27 @@ use Rattle.papaya_schedules.specs.After.{moment}
 use Rattle.papaya_schedules.specs.Entry.{Entry}
 use Rattle.papaya_schedules.specs.Terms.{Terms, shards_of}
 use Rattle.papaya_deeds.specs.Given.SeizeWords.declared.fault.Fault.TheVariants as fault
-use Rattle.papaya_events.specs.Given.Effects.Known.{known}
-use Rattle.papaya_grouped.specs.Given.Executor.IsThere.{IsThere, KeepsGiven, StaysGiven}
-use Rattle.papaya_grouped.specs.Given.Executor.Replying.{StopsThere}
-use Rattle.papaya_grouped.specs.Given.Executor.declared.executor.Executor.{Executor}
-use Rattle.papaya_events.specs.Given.Scheduler.Played.{HasStopped, IsPlayed, Stops as GivesUp, entry_of}
-use Rattle.papaya_events.specs.Given.Scheduler.declared.played.Played.{Played}
-use Rattle.papaya_events.specs.Given.Scheduler.declared.scheduler.Scheduler.{Scheduler}
-use Rattle.papaya_events.proofs.Given.Scheduler.Here.{here_at, read_here}
-use Rattle.papaya_events.proofs.Given.Scheduler.Stopped.{asked_ready, ready_parts, shows_is}
-use Rattle.papaya_events.specs.Given.Named.Machines.{IsAsFar}
-use Rattle.papaya_events.specs.Given.Named.Seen.{is_ready as is_ready_there}
-use Rattle.papaya_events.specs.Given.Named.declared.caller.Caller.{Caller}
-use Rattle.papaya_events.specs.Given.Named.declared.caller.Stands.{Stands as HowFar}
-use Rattle.papaya_grouped.specs.Given.Acts.Acts.{OfAsking, StopsCall}
-use Rattle.papaya_grouped.specs.Given.Acts.Lists.{Course}
+use Rattle.papaya_events.specs.Given.EffectsKnown.{known}
+use Rattle.papaya_grouped.specs.Given.ExecutorIsThere.{IsThere, KeepsGiven, StaysGiven}
+use Rattle.papaya_grouped.specs.Given.ExecutorReplying.{StopsThere}
+use Rattle.papaya_grouped.specs.Given.ExecutorDeclared.executor.Executor.{Executor}
+use Rattle.papaya_events.specs.Given.SchedulerPlayed.{HasStopped, IsPlayed, Stops as GivesUp, entry_of}
+use Rattle.papaya_events.specs.Given.SchedulerDeclared.played.Played.{Played}
+use Rattle.papaya_events.specs.Given.SchedulerDeclared.scheduler.Scheduler.{Scheduler}
+use Rattle.papaya_events.proofs.Given.SchedulerHere.{here_at, read_here}
+use Rattle.papaya_events.proofs.Given.SchedulerStopped.{asked_ready, ready_parts, shows_is}
+use Rattle.papaya_events.specs.Given.NamedMachines.{IsAsFar}
+use Rattle.papaya_events.specs.Given.NamedSeen.{is_ready as is_ready_there}
+use Rattle.papaya_events.specs.Given.NamedDeclared.caller.Caller.{Caller}
+use Rattle.papaya_events.specs.Given.NamedDeclared.caller.Stands.{Stands as HowFar}
+use Rattle.papaya_grouped.specs.Given.ActsActs.{OfAsking, StopsCall}
+use Rattle.papaya_grouped.specs.Given.ActsLists.{Course}
 use Rattle.papaya_deeds.specs.Deeds.{Stops}
 use Rattle.papaya_deeds.specs.Deeds.{Entry as Act}
-use Rattle.papaya_grouped.specs.Given.Drives.Executors.{IsAct}
-use Rattle.papaya_grouped.proofs.Given.Drives.Executors.{executors_act}
-use Rattle.papaya_grouped.specs.Given.Played.Play.{Calling, State, call_stopped}
-use Rattle.papaya_grouped.proofs.Given.Played.PlayedAs.{played_as}
+use Rattle.papaya_grouped.specs.Given.DrivesExecutors.{IsAct}
+use Rattle.papaya_grouped.proofs.Given.DrivesExecutors.{executors_act}
+use Rattle.papaya_grouped.specs.Given.PlayedPlay.{Calling, State, call_stopped}
+use Rattle.papaya_grouped.proofs.Given.PlayedPlayedAs.{played_as}
 use Rattle.papaya_grouped.specs.Called.{CallersAre, IsCalledAs, PlaysSo}
 use Rattle.papaya_grouped.specs.Grouping.{Names, number_called, refuses}
 use Rattle.papaya_grouped.specs.Reach.{Reach}

@@ -2,8 +2,8 @@
 use Rattle.std.specs.Prelude.{◌≤◌, ◌+◌, position, slice_get, Option, Some, None, option_map}
 use Rattle.std.proofs.Common.{◌≡◌, ℕ, Bool, true, List, [], ◌∷◌, refl, sym, ap, subst, arith, ◌∙◌, inl, inr}
 use Rattle.papaya_runs.proofs.Sames.{same_is}
-use Rattle.papaya_events.specs.Given.Finishes.Machines.{machine_of}
-use Rattle.papaya_grouped.specs.Given.Scenes.Scene.{slot_of}
+use Rattle.papaya_events.specs.Given.FinishesMachines.{machine_of}
+use Rattle.papaya_grouped.specs.Given.ScenesScene.{slot_of}
 use Rattle.papaya_deeds.specs.Given.SeizeWords.declared.fault.Fault.TheVariants as fault
 use Rattle.papaya_schedules.specs.declared.event.Event.{Event}
 use Rattle.papaya_schedules.specs.declared.event.Event.TheVariants as event
@@ -13,18 +13,18 @@ use Rattle.papaya_schedules.specs.After.{moment}
 use Rattle.papaya_schedules.specs.Entry.{Entry}
 use Rattle.papaya_schedules.specs.Moment.{Moment}
 use Rattle.papaya_schedules.specs.Terms.{Terms, shards_of}
-use Rattle.papaya_events.specs.Given.Effects.Known.{known}
-use Rattle.papaya_grouped.specs.Given.Executor.IsThere.{KeepsGiven}
-use Rattle.papaya_events.specs.Given.Scheduler.Played.{IsPlayed, IsUnderWayAs, AsFar, StandsFor, entry_of}
-use Rattle.papaya_events.specs.Given.Scheduler.declared.played.Played.{Played}
-use Rattle.papaya_events.specs.Given.Scheduler.declared.scheduler.Scheduler.{Scheduler}
-use Rattle.papaya_events.specs.Given.Named.Seen.{is_named}
-use Rattle.papaya_events.specs.Given.Named.declared.caller.Caller.{Caller}
-use Rattle.papaya_events.specs.Given.Named.declared.caller.Stands.{Stands as HowFar}
-use Rattle.papaya_events.specs.Given.Named.declared.caller.Stands.TheVariants as far
-use Rattle.papaya_grouped.specs.Given.Acts.Lists.{Course}
+use Rattle.papaya_events.specs.Given.EffectsKnown.{known}
+use Rattle.papaya_grouped.specs.Given.ExecutorIsThere.{KeepsGiven}
+use Rattle.papaya_events.specs.Given.SchedulerPlayed.{IsPlayed, IsUnderWayAs, AsFar, StandsFor, entry_of}
+use Rattle.papaya_events.specs.Given.SchedulerDeclared.played.Played.{Played}
+use Rattle.papaya_events.specs.Given.SchedulerDeclared.scheduler.Scheduler.{Scheduler}
+use Rattle.papaya_events.specs.Given.NamedSeen.{is_named}
+use Rattle.papaya_events.specs.Given.NamedDeclared.caller.Caller.{Caller}
+use Rattle.papaya_events.specs.Given.NamedDeclared.caller.Stands.{Stands as HowFar}
+use Rattle.papaya_events.specs.Given.NamedDeclared.caller.Stands.TheVariants as far
+use Rattle.papaya_grouped.specs.Given.ActsLists.{Course}
 use Rattle.papaya_deeds.specs.Deeds.{Steps}
-use Rattle.papaya_events.specs.Given.Stepping.Stepping.{SaysAgain, TakenBy, TookSteps}
+use Rattle.papaya_events.specs.Given.SteppingStepping.{SaysAgain, TakenBy, TookSteps}
 use Rattle.papaya_grouped.specs.Grouping.{MayHave, Names, number_called, MayRest, asks_for_steps}
 use Rattle.papaya_grouped.specs.Reach.{Reach}
 use Rattle.papaya_grouped.specs.Called.{PlaysSo}

@@ -3,11 +3,11 @@ use Rattle.std.specs.Prelude.{zero, suc, ◌≤◌, ◌==◌, ◌+◌, Option, S
 use Rattle.std.specs.List.{AllByRecursion}
 use Rattle.std.proofs.Common.{◌≡◌, ℕ, Bool, List, [], ◌∷◌, refl, sym, ap, subst, arith, ◌∙◌, inl}
 use Rattle.std.proofs.lemmas.Bool.{eq-eqb}
-use Rattle.papaya_events.proofs.Given.SeizeActs.Answers.{same_some}
+use Rattle.papaya_events.proofs.Given.SeizeActsAnswers.{same_some}
 use Rattle.papaya_raw.specs.Machine.{machine_asked}
 use Rattle.papaya_raw.specs.declared.machines.progress.Progress.TheVariants as progress
-use Rattle.papaya_events.specs.Given.Finishes.Machines.{machine_of}
-use Rattle.papaya_grouped.specs.Given.Scenes.Scene.{Scene, slot_of}
+use Rattle.papaya_events.specs.Given.FinishesMachines.{machine_of}
+use Rattle.papaya_grouped.specs.Given.ScenesScene.{Scene, slot_of}
 use Rattle.papaya_schedules.specs.declared.effect.Effect.{Effect}
 use Rattle.papaya_schedules.specs.declared.event.Event.{Event}
 use Rattle.papaya_schedules.specs.declared.event.Event.TheVariants as event
@@ -16,27 +16,27 @@ use Rattle.papaya_schedules.specs.declared.outcome.Outcome.TheVariants as outcom
 use Rattle.papaya_schedules.specs.After.{moment}
 use Rattle.papaya_schedules.specs.Entry.{Entry}
 use Rattle.papaya_schedules.specs.Terms.{shards_of}
-use Rattle.papaya_events.specs.Given.Effects.Known.{Known, known}
-use Rattle.papaya_grouped.specs.Given.Executor.IsThere.{IsThere, KeepsGiven, StaysGiven}
-use Rattle.papaya_grouped.specs.Given.Executor.Replying.{AsksThere}
-use Rattle.papaya_grouped.specs.Given.Executor.declared.executor.Executor.{Executor}
-use Rattle.papaya_events.specs.Given.Scheduler.Played.{entry_of}
-use Rattle.papaya_events.specs.Given.Scheduler.declared.played.Played.{Played}
-use Rattle.papaya_events.specs.Given.Scheduler.declared.scheduler.Scheduler.{Scheduler}
-use Rattle.papaya_events.proofs.Given.Scheduler.Here.{here_at}
-use Rattle.papaya_events.proofs.Given.Scheduler.Stopped.{ready_parts}
-use Rattle.papaya_events.specs.Given.Named.Seen.{kind_of, ready_place}
-use Rattle.papaya_events.specs.Given.Named.declared.caller.Caller.{Caller}
-use Rattle.papaya_events.specs.Given.Named.declared.caller.Stands.{Stands as HowFar}
-use Rattle.papaya_events.specs.Given.Named.declared.caller.Stands.TheVariants as far
-use Rattle.papaya_grouped.specs.Given.Acts.Acts.{AsksCall, OfAsking}
-use Rattle.papaya_grouped.specs.Given.Acts.Lists.{Course}
+use Rattle.papaya_events.specs.Given.EffectsKnown.{Known, known}
+use Rattle.papaya_grouped.specs.Given.ExecutorIsThere.{IsThere, KeepsGiven, StaysGiven}
+use Rattle.papaya_grouped.specs.Given.ExecutorReplying.{AsksThere}
+use Rattle.papaya_grouped.specs.Given.ExecutorDeclared.executor.Executor.{Executor}
+use Rattle.papaya_events.specs.Given.SchedulerPlayed.{entry_of}
+use Rattle.papaya_events.specs.Given.SchedulerDeclared.played.Played.{Played}
+use Rattle.papaya_events.specs.Given.SchedulerDeclared.scheduler.Scheduler.{Scheduler}
+use Rattle.papaya_events.proofs.Given.SchedulerHere.{here_at}
+use Rattle.papaya_events.proofs.Given.SchedulerStopped.{ready_parts}
+use Rattle.papaya_events.specs.Given.NamedSeen.{kind_of, ready_place}
+use Rattle.papaya_events.specs.Given.NamedDeclared.caller.Caller.{Caller}
+use Rattle.papaya_events.specs.Given.NamedDeclared.caller.Stands.{Stands as HowFar}
+use Rattle.papaya_events.specs.Given.NamedDeclared.caller.Stands.TheVariants as far
+use Rattle.papaya_grouped.specs.Given.ActsActs.{AsksCall, OfAsking}
+use Rattle.papaya_grouped.specs.Given.ActsLists.{Course}
 use Rattle.papaya_deeds.specs.Deeds.{Steps}
-use Rattle.papaya_grouped.specs.Given.Drives.Executors.{IsAct}
-use Rattle.papaya_grouped.proofs.Given.Drives.Executors.{executors_act}
-use Rattle.papaya_events.specs.Given.Stepping.Stepping.{HasWalked, IsStepOf, IsStepped, TookNext, WalkedFor}
-use Rattle.papaya_grouped.specs.Given.Played.Play.{Calling, State, call_asked}
-use Rattle.papaya_grouped.proofs.Given.Played.PlayedAs.{played_as}
+use Rattle.papaya_grouped.specs.Given.DrivesExecutors.{IsAct}
+use Rattle.papaya_grouped.proofs.Given.DrivesExecutors.{executors_act}
+use Rattle.papaya_events.specs.Given.SteppingStepping.{HasWalked, IsStepOf, IsStepped, TookNext, WalkedFor}
+use Rattle.papaya_grouped.specs.Given.PlayedPlay.{Calling, State, call_asked}
+use Rattle.papaya_grouped.proofs.Given.PlayedPlayedAs.{played_as}
 use Rattle.papaya_grouped.specs.Called.{CallersAre, IsCalledAs, PlaysSo}
 use Rattle.papaya_grouped.specs.Grouping.{MayHave, Names, names_after, number_called, refuses}
 use Rattle.papaya_grouped.specs.Reach.{Reach}

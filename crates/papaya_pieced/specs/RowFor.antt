@@ -2,8 +2,8 @@
 use Rattle.std.specs.Prelude.{◌≡◌, false}
 use Rattle.papaya_tables.specs.Given.Seize.declared.rows.register.Registering.TheVariants as registers
 use Rattle.papaya_tables.specs.Given.Seize.declared.states.TheConstants.{IDLE}
-use Rattle.papaya_grouped.specs.Given.Scenes.declared.row.SlotRow.{SlotRow}
-use Rattle.papaya_grouped.specs.Given.Scenes.declared.row.SlotRow.TheVariants as rows
+use Rattle.papaya_grouped.specs.Given.ScenesDeclared.row.SlotRow.{SlotRow}
+use Rattle.papaya_grouped.specs.Given.ScenesDeclared.row.SlotRow.TheVariants as rows
 use Rattle.papaya_schedules.specs.declared.event.Event.{Event}
 use Rattle.papaya_schedules.specs.declared.event.Event.TheVariants as event
 

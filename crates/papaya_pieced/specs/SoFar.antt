@@ -4,12 +4,12 @@ use Rattle.papaya_schedules.specs.declared.event.Event.{Event}
 use Rattle.papaya_schedules.specs.After.{moment}
 use Rattle.papaya_schedules.specs.Entry.{Entry}
 use Rattle.papaya_schedules.specs.Terms.{Terms, shards_of}
-use Rattle.papaya_events.specs.Given.Named.declared.caller.Caller.{Caller}
-use Rattle.papaya_events.specs.Given.Effects.Known.{known}
-use Rattle.papaya_events.specs.Given.Logged.declared.logged.Logged.{Logged}
-use Rattle.papaya_events.specs.Given.Scheduler.Played.{IsPlayed, entry_of}
-use Rattle.papaya_events.specs.Given.Scheduler.declared.played.Played.{Played}
-use Rattle.papaya_events.specs.Given.Scheduler.declared.scheduler.Scheduler.{Scheduler}
+use Rattle.papaya_events.specs.Given.NamedDeclared.caller.Caller.{Caller}
+use Rattle.papaya_events.specs.Given.EffectsKnown.{known}
+use Rattle.papaya_events.specs.Given.LoggedDeclared.logged.Logged.{Logged}
+use Rattle.papaya_events.specs.Given.SchedulerPlayed.{IsPlayed, entry_of}
+use Rattle.papaya_events.specs.Given.SchedulerDeclared.played.Played.{Played}
+use Rattle.papaya_events.specs.Given.SchedulerDeclared.scheduler.Scheduler.{Scheduler}
 use Rattle.papaya_grouped.specs.Called.{PlaysSo}
 use Rattle.papaya_grouped.specs.Reach.{Reach}
 

@@ -3,12 +3,12 @@ use Rattle.std.specs.Prelude.{◌≢◌, ◌⊎◌, Option, Some, None, option_m
 use Rattle.std.proofs.Common.{◌≡◌, ℕ, inl, inr, refl, ap, sym, ◌∙◌}
 use Rattle.std.proofs.lemmas.Bool.{cases_eq}
 use Rattle.papaya_runs.specs.Given.Seize.World.{Rests, with_at}
-use Rattle.papaya_acts.proofs.Given.SeizeActs.Answers.{same_some}
-use Rattle.papaya_acts.proofs.Given.Callers.Together.At.{at_same, at_other}
-use Rattle.papaya_acts.specs.Given.Finishes.Maps.{with_call}
-use Rattle.papaya_acts.proofs.Given.Scenes.Rows.{never_rests}
+use Rattle.papaya_acts.proofs.Given.SeizeActsAnswers.{same_some}
+use Rattle.papaya_acts.proofs.Given.CallersTogether.At.{at_same, at_other}
+use Rattle.papaya_acts.specs.Given.FinishesMaps.{with_call}
+use Rattle.papaya_acts.proofs.Given.ScenesRows.{never_rests}
 use Rattle.papaya_acts.proofs.Counts as counts
-use Rattle.papaya_acts.specs.Given.Scenes.declared.row.SlotRow.{SlotRow}
+use Rattle.papaya_acts.specs.Given.ScenesDeclared.row.SlotRow.{SlotRow}
 use Rattle.papaya_played.specs.Reached.{row_or_rests}
 
 -- what is there in one is there in the other

@@ -9,12 +9,12 @@ use Rattle.papaya_runs.specs.Given.Seize.World.{Rests}
 use Rattle.papaya_runs.specs.Given.Seize.declared.rows.reclaim_all.ReclaimAll.{ReclaimAll}
 use Rattle.papaya_runs.specs.Given.Seize.declared.rows.settle.Settled.{Settled}
 use Rattle.papaya_runs.specs.Given.Seize.declared.rows.settle.Settled.TheVariants as settled
-use Rattle.papaya_acts.specs.Given.SeizeActs.Answers.{Grant, stepped, then_on}
-use Rattle.papaya_acts.proofs.Given.SeizeActs.Begun.{rests_is}
+use Rattle.papaya_acts.specs.Given.SeizeActsAnswers.{Grant, stepped, then_on}
+use Rattle.papaya_acts.proofs.Given.SeizeActsBegun.{rests_is}
 use Rattle.papaya_runs.specs.Given.Tables.Nodes.{deferred_word, was_left}
 use Rattle.papaya_runs.specs.Given.Tables.declared.node.Node.{Node}
-use Rattle.papaya_acts.proofs.Given.Scenes.NoCall.{none_is}
-use Rattle.papaya_acts.specs.Given.Scenes.Scene.{Scene, slot_of}
+use Rattle.papaya_acts.proofs.Given.ScenesNoCall.{none_is}
+use Rattle.papaya_acts.specs.Given.ScenesScene.{Scene, slot_of}
 use Rattle.papaya_acts.specs.Acts.{Act, Answer, Nothing, OfReclaiming, BeginsCall, StepsCall, TellsCall, AsksCall, StopsCall, BeginsMaking, StepsMaking, BeginsEnding, StepsEnding, BeginsRow, StepsRow}
 use Rattle.papaya_acts.specs.AsSteps.{changed_of}
 use Rattle.papaya_acts.specs.Doings.{Doing, Does, BeginsReclaiming, BeginsClearing, StepsReclaiming, Chooses, memory_chosen, scene_chosen, AllAreFree, HasBegun, HasDone, HasStepped, MayDo, Stage, reclaiming, still}

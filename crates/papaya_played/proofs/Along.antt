@@ -5,20 +5,20 @@ use Rattle.papaya_runs.specs.Given.Seize.ReclaimAll.{clearing, reclaim_all_plan,
 use Rattle.papaya_runs.specs.Given.Seize.declared.rows.reclaim_all.ReclaimAll.{ReclaimAll}
 use Rattle.papaya_runs.specs.Given.Seize.declared.rows.settle.Settled.{Settled}
 use Rattle.papaya_runs.specs.Given.Seize.declared.rows.settle.Settled.TheVariants as settled
-use Rattle.papaya_acts.specs.Given.SeizeActs.Answers.{Grant, then_on}
-use Rattle.papaya_acts.proofs.Given.SeizeActs.Answers.{same_some}
+use Rattle.papaya_acts.specs.Given.SeizeActsAnswers.{Grant, then_on}
+use Rattle.papaya_acts.proofs.Given.SeizeActsAnswers.{same_some}
 use Rattle.papaya_runs.specs.Given.Tables.Nodes.{deferred_word, was_left}
 use Rattle.papaya_runs.specs.Given.Tables.declared.node.Node.{Node}
-use Rattle.papaya_acts.specs.Given.Teller.declared.changed.Changed.{Changed}
-use Rattle.papaya_acts.specs.Given.Teller.declared.changed.Changed.TheVariants.{Nothing as NoChange}
-use Rattle.papaya_acts.specs.Given.Callers.Rows.{IsRowOn}
-use Rattle.papaya_acts.specs.Given.Finishes.Makings.{Beginning}
-use Rattle.papaya_acts.specs.Given.Finishes.Maps.{Standing}
-use Rattle.papaya_acts.proofs.Given.Scenes.Goes.{same_map_keeps}
-use Rattle.papaya_acts.proofs.Given.Scenes.NoCall.{none_is}
-use Rattle.papaya_acts.specs.Given.Scenes.Held.{Held, IsAt}
-use Rattle.papaya_acts.specs.Given.Scenes.Reclaiming.{IsReclaiming, ReclaimingLeads}
-use Rattle.papaya_acts.specs.Given.Scenes.Scene.{Scene, slot_of}
+use Rattle.papaya_acts.specs.Given.TellerDeclared.changed.Changed.{Changed}
+use Rattle.papaya_acts.specs.Given.TellerDeclared.changed.Changed.TheVariants.{Nothing as NoChange}
+use Rattle.papaya_acts.specs.Given.CallersRows.{IsRowOn}
+use Rattle.papaya_acts.specs.Given.FinishesMakings.{Beginning}
+use Rattle.papaya_acts.specs.Given.FinishesMaps.{Standing}
+use Rattle.papaya_acts.proofs.Given.ScenesGoes.{same_map_keeps}
+use Rattle.papaya_acts.proofs.Given.ScenesNoCall.{none_is}
+use Rattle.papaya_acts.specs.Given.ScenesHeld.{Held, IsAt}
+use Rattle.papaya_acts.specs.Given.ScenesReclaiming.{IsReclaiming, ReclaimingLeads}
+use Rattle.papaya_acts.specs.Given.ScenesScene.{Scene, slot_of}
 use Rattle.papaya_acts.specs.Acts.{Act, Answer, BeginsRow}
 use Rattle.papaya_acts.specs.AsSteps.{IsOwn, LeadsAs, changed_by, changed_of, held_in}
 use Rattle.papaya_acts.specs.Doings.{Doing, Does, BeginsReclaiming, BeginsClearing, StepsReclaiming, Chooses, scene_chosen, AllAreFree, HasDone, HasStepped, MayDo, Stage, behind, reclaiming, still}

@@ -6,8 +6,8 @@ use Rattle.std.proofs.lemmas.Bool.{cases_eq}
 use Rattle.papaya_deeds.specs.Given.SeizeWords.Mem.{Mem}
 use Rattle.papaya_deeds.specs.Given.SeizeWords.Plan.{Plan}
 use Rattle.papaya_runs.specs.Given.Seize.World.{World, Rests, with_at}
-use Rattle.papaya_acts.specs.Given.SeizeActs.Answers.{Grant, stepped, then_on}
-use Rattle.papaya_acts.proofs.Given.SeizeActs.Begun.{rests_is}
+use Rattle.papaya_acts.specs.Given.SeizeActsAnswers.{Grant, stepped, then_on}
+use Rattle.papaya_acts.proofs.Given.SeizeActsBegun.{rests_is}
 use Rattle.papaya_runs.specs.Given.Tables.declared.node.Node.{Node}
 use Rattle.papaya_runs.specs.Given.Tables.declared.setting.Setting.{Setting}
 use Rattle.papaya_deeds.specs.Given.Sweeps.declared.sweep.Purpose.TheVariants as purpose
@@ -15,14 +15,14 @@ use Rattle.papaya_deeds.specs.Given.Raw.Machine.{machine_plan, machine_replied, 
 use Rattle.papaya_deeds.specs.Given.Raw.declared.machines.asking.Reply.{Reply}
 use Rattle.papaya_deeds.specs.Given.Raw.declared.machines.machine.Machine.{Machine}
 use Rattle.papaya_deeds.specs.Given.Raw.declared.machines.progress.Progress.{Progress}
-use Rattle.papaya_acts.specs.Given.Callers.Together.{UnderWay, in_slot}
-use Rattle.papaya_acts.specs.Given.Finishes.Machines.{machine_of}
-use Rattle.papaya_acts.specs.Given.Finishes.Maps.{Standing, with_call}
-use Rattle.papaya_acts.proofs.Given.Scenes.Goes.{goes_as}
-use Rattle.papaya_acts.proofs.Given.Scenes.NoCall.{none_is}
-use Rattle.papaya_acts.specs.Given.Scenes.Replying.{unless_stopped}
-use Rattle.papaya_acts.specs.Given.Scenes.Scene.{Scene, slot_of}
-use Rattle.papaya_acts.specs.Given.Scenes.Stepping.{going_on, has_ended}
+use Rattle.papaya_acts.specs.Given.CallersTogether.{UnderWay, in_slot}
+use Rattle.papaya_acts.specs.Given.FinishesMachines.{machine_of}
+use Rattle.papaya_acts.specs.Given.FinishesMaps.{Standing, with_call}
+use Rattle.papaya_acts.proofs.Given.ScenesGoes.{goes_as}
+use Rattle.papaya_acts.proofs.Given.ScenesNoCall.{none_is}
+use Rattle.papaya_acts.specs.Given.ScenesReplying.{unless_stopped}
+use Rattle.papaya_acts.specs.Given.ScenesScene.{Scene, slot_of}
+use Rattle.papaya_acts.specs.Given.ScenesStepping.{going_on, has_ended}
 use Rattle.papaya_acts.specs.Acts.{Act, Answer, Nothing, OfCall, OfReply, OfAsking, BeginsCall, StepsCall, TellsCall, AsksCall, StopsCall, begun}
 use Rattle.papaya_acts.specs.Acts.{Wanted, Get, Remove, Insert, TryToInsert, Compute, Update, UpdateOrInsert, TryToInsertWith, RemoveIf, GetKeyValue, ContainsKey, GetOrInsert, GetOrInsertWith, RemoveEntry, MakeRoom, Count, GoOver}
 use Rattle.papaya_acts.specs.AsSteps.{changed_of}

@@ -8,20 +8,20 @@ use Rattle.papaya_runs.specs.Given.Seize.declared.progress.Progress.{Progress}
 use Rattle.papaya_runs.specs.Given.Seize.declared.progress.Progress.TheVariants as progress
 use Rattle.papaya_runs.specs.Given.Seize.declared.rows.settle.Settled.{Settled}
 use Rattle.papaya_runs.specs.Given.Seize.declared.rows.settle.Settled.TheVariants as settled
-use Rattle.papaya_acts.specs.Given.SeizeActs.Answers.{Grant, stepped, then_on}
+use Rattle.papaya_acts.specs.Given.SeizeActsAnswers.{Grant, stepped, then_on}
 use Rattle.papaya_runs.specs.Given.Tables.declared.node.Node.{Node}
 use Rattle.papaya_runs.specs.Given.Tables.declared.setting.Setting.{Setting}
-use Rattle.papaya_acts.specs.Given.Resize.NewMap.{new_map_plan}
-use Rattle.papaya_acts.specs.Given.Resize.declared.new_map.NewMap.{NewMap}
+use Rattle.papaya_acts.specs.Given.ResizeNewMap.{new_map_plan}
+use Rattle.papaya_acts.specs.Given.ResizeDeclared.new_map.NewMap.{NewMap}
 use Rattle.papaya_deeds.specs.Given.Raw.EndMap.{ending, end_map_plan}
 use Rattle.papaya_deeds.specs.Given.Raw.declared.machines.end_map.EndMap.{EndMap}
-use Rattle.papaya_acts.proofs.Given.Callers.Together.Users.{events_rows}
-use Rattle.papaya_acts.specs.Given.Finishes.Endings.{Finishing, StepsOfEnding, MakingStepsAmong, finishing_of, waiting_by}
-use Rattle.papaya_acts.specs.Given.Finishes.Makings.{Beginning}
-use Rattle.papaya_acts.specs.Given.Finishes.Maps.{Standing}
-use Rattle.papaya_acts.specs.Given.Scenes.Ending.{ending_begun as scene_ending}
-use Rattle.papaya_acts.specs.Given.Scenes.Making.{making_begun as begun_making}
-use Rattle.papaya_acts.specs.Given.Scenes.Scene.{Scene, slot_of}
+use Rattle.papaya_acts.proofs.Given.CallersTogether.Users.{events_rows}
+use Rattle.papaya_acts.specs.Given.FinishesEndings.{Finishing, StepsOfEnding, MakingStepsAmong, finishing_of, waiting_by}
+use Rattle.papaya_acts.specs.Given.FinishesMakings.{Beginning}
+use Rattle.papaya_acts.specs.Given.FinishesMaps.{Standing}
+use Rattle.papaya_acts.specs.Given.ScenesEnding.{ending_begun as scene_ending}
+use Rattle.papaya_acts.specs.Given.ScenesMaking.{making_begun as begun_making}
+use Rattle.papaya_acts.specs.Given.ScenesScene.{Scene, slot_of}
 use Rattle.papaya_acts.specs.Acts.{Act, Answer, Nothing, OfMaking, OfEnding, BeginsMaking, StepsMaking, BeginsEnding, StepsEnding}
 use Rattle.papaya_acts.specs.AsSteps.{changed_of}
 use Rattle.papaya_acts.specs.Courses.{set_up}

@@ -13,26 +13,26 @@ use Rattle.papaya_runs.specs.Given.Seize.declared.rows.settle.Settled.{Settled}
 use Rattle.papaya_runs.specs.Given.Seize.declared.states.TheConstants.{ACTIVE}
 use Rattle.papaya_runs.specs.Given.Tables.declared.node.Node.{Node}
 use Rattle.papaya_runs.specs.Given.Tables.declared.setting.Setting.{Setting}
-use Rattle.papaya_acts.specs.Given.Resize.declared.new_map.NewMap.{NewMap}
+use Rattle.papaya_acts.specs.Given.ResizeDeclared.new_map.NewMap.{NewMap}
 use Rattle.papaya_runs.specs.Given.Seize.ReclaimAll.{reclaim_all_plan}
 use Rattle.papaya_runs.specs.Given.Tables.Nodes.{deferred_word, was_left}
-use Rattle.papaya_acts.specs.Given.Resize.NewMap.{new_map_plan}
+use Rattle.papaya_acts.specs.Given.ResizeNewMap.{new_map_plan}
 use Rattle.papaya_deeds.specs.Given.Raw.EndMap.{end_map_plan}
 use Rattle.papaya_deeds.specs.Given.Raw.Machine.{machine_asked, machine_plan, machine_replied}
 use Rattle.papaya_deeds.specs.Given.Raw.declared.machines.progress.Progress.{Progress as CallProgress}
 use Rattle.papaya_deeds.specs.Given.Raw.declared.machines.progress.Progress.TheVariants as comes
-use Rattle.papaya_acts.specs.Given.Finishes.Maps.{with_call}
-use Rattle.papaya_acts.proofs.Given.Callers.Together.At.{at_other}
+use Rattle.papaya_acts.specs.Given.FinishesMaps.{with_call}
+use Rattle.papaya_acts.proofs.Given.CallersTogether.At.{at_other}
 use Rattle.papaya_runs.specs.Given.Seize.World.{with_at}
-use Rattle.papaya_acts.specs.Given.Finishes.Machines.{machine_of}
-use Rattle.papaya_acts.proofs.Given.Scenes.NoCall.{none_is}
-use Rattle.papaya_acts.specs.Given.Scenes.Replying.{unless_stopped}
-use Rattle.papaya_acts.specs.Given.SeizeActs.Answers.{Grant}
-use Rattle.papaya_acts.proofs.Given.SeizeActs.Answers.{same_some}
-use Rattle.papaya_acts.specs.Given.Scenes.Scene.{row_of, slot_of}
-use Rattle.papaya_acts.specs.Given.Scenes.Stepping.{has_ended}
-use Rattle.papaya_acts.specs.Given.Scenes.declared.row.SlotRow.{SlotRow}
-use Rattle.papaya_acts.specs.Given.Scenes.declared.row.SlotRow.TheVariants as rows
+use Rattle.papaya_acts.specs.Given.FinishesMachines.{machine_of}
+use Rattle.papaya_acts.proofs.Given.ScenesNoCall.{none_is}
+use Rattle.papaya_acts.specs.Given.ScenesReplying.{unless_stopped}
+use Rattle.papaya_acts.specs.Given.SeizeActsAnswers.{Grant}
+use Rattle.papaya_acts.proofs.Given.SeizeActsAnswers.{same_some}
+use Rattle.papaya_acts.specs.Given.ScenesScene.{row_of, slot_of}
+use Rattle.papaya_acts.specs.Given.ScenesStepping.{has_ended}
+use Rattle.papaya_acts.specs.Given.ScenesDeclared.row.SlotRow.{SlotRow}
+use Rattle.papaya_acts.specs.Given.ScenesDeclared.row.SlotRow.TheVariants as rows
 use Rattle.papaya_runs.specs.Same.{is_same}
 use Rattle.papaya_deeds.specs.Given.Schedules.declared.call.Call.{Call}
 use Rattle.papaya_deeds.specs.Given.Schedules.declared.call.Reply.{Reply}
@@ -45,11 +45,11 @@ use Rattle.papaya_deeds.specs.Given.Schedules.Effects.{call_by, with_effect, wit
 use Rattle.papaya_deeds.specs.Given.Schedules.Entry.{ends_call}
 use Rattle.papaya_deeds.specs.Given.Schedules.Moment.{UnderWay, Moment}
 use Rattle.papaya_deeds.specs.Given.Schedules.Views.{call_of}
-use Rattle.papaya_named.specs.Given.Effects.Effects.{effects_of, known_after}
-use Rattle.papaya_named.specs.Given.Effects.Known.{Known}
-use Rattle.papaya_named.specs.Given.Effects.declared.acting.Acting.TheVariants as acting
-use Rattle.papaya_named.proofs.Given.Follows.Calling.{apart_back, found_kept, found_passes, is_same_is, is_same_refl, come_same, replied_same}
-use Rattle.papaya_named.proofs.Given.Follows.Calls.{IsOfSame, changed, changed_same, found, of_same}
+use Rattle.papaya_named.specs.Given.EffectsEffects.{effects_of, known_after}
+use Rattle.papaya_named.specs.Given.EffectsKnown.{Known}
+use Rattle.papaya_named.specs.Given.EffectsDeclared.acting.Acting.TheVariants as acting
+use Rattle.papaya_named.proofs.Given.FollowsCalling.{apart_back, found_kept, found_passes, is_same_is, is_same_refl, come_same, replied_same}
+use Rattle.papaya_named.proofs.Given.FollowsCalls.{IsOfSame, changed, changed_same, found, of_same}
 use Rattle.papaya_named.specs.declared.kind.Kind.{Kind}
 use Rattle.papaya_named.specs.Seen.{kind_of}
 use Rattle.papaya_deeds.specs.Deeds.{Deed, Begins, Steps, Replies, Stops, Registers, Opens, Leaves, MapComes, Makes, MapFails, Ends, MapGoes, ReclaimsAll, Entry, acted_on, after, at_work, begun, caller_of, calls_on, moment, named, worked}

@@ -2,14 +2,14 @@
 use Rattle.std.specs.Prelude.{Option, Some, None, option_map}
 use Rattle.std.proofs.Common.{◌≡◌, ℕ, Bool, refl, sym}
 use Rattle.papaya_runs.specs.Given.Seize.ReclaimAll.{reclaim_all_plan}
-use Rattle.papaya_acts.specs.Given.SeizeActs.Answers.{Grant, stepped, then_on}
-use Rattle.papaya_acts.proofs.Given.SeizeActs.Answers.{same_some, some}
+use Rattle.papaya_acts.specs.Given.SeizeActsAnswers.{Grant, stepped, then_on}
+use Rattle.papaya_acts.proofs.Given.SeizeActsAnswers.{same_some, some}
 use Rattle.papaya_runs.specs.Given.Tables.Nodes.{deferred_word, was_left}
 use Rattle.papaya_runs.specs.Given.Tables.declared.setting.Setting.{Setting}
-use Rattle.papaya_acts.specs.Given.Resize.NewMap.{new_map_plan}
+use Rattle.papaya_acts.specs.Given.ResizeNewMap.{new_map_plan}
 use Rattle.papaya_deeds.specs.Given.Raw.EndMap.{end_map_plan}
 use Rattle.papaya_deeds.specs.Given.Raw.Machine.{machine_plan}
-use Rattle.papaya_acts.specs.Given.Scenes.Scene.{row_of}
+use Rattle.papaya_acts.specs.Given.ScenesScene.{row_of}
 use Rattle.papaya_acts.specs.Acts.{Act, BeginsCall, StepsCall, TellsCall, AsksCall, StopsCall, BeginsMaking, StepsMaking, BeginsEnding, StepsEnding, BeginsRow, StepsRow}
 use Rattle.papaya_acts.specs.AsSteps.{changed_of, row_changed}
 use Rattle.papaya_acts.specs.Doings.{StepsReclaiming}

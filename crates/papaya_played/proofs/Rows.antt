@@ -22,25 +22,25 @@ use Rattle.papaya_runs.specs.Given.Seize.declared.rows.settle.Settle.{Settle}
 use Rattle.papaya_runs.specs.Given.Seize.declared.rows.settle.Settled.{Settled}
 use Rattle.papaya_runs.specs.Given.Seize.declared.rows.settle.Settled.TheVariants as settled
 use Rattle.papaya_runs.specs.Given.Seize.declared.states.TheConstants.{ACTIVE, FREE, HEAD}
-use Rattle.papaya_acts.specs.Given.SeizeActs.Acts.{row_steps}
-use Rattle.papaya_acts.specs.Given.SeizeActs.Answers.{Grant, answer, stepped, then_on}
-use Rattle.papaya_acts.proofs.Given.SeizeActs.Answers.{same_some, some}
-use Rattle.papaya_acts.proofs.Given.SeizeRule.Rows.Others.{begins_others, steps_others, with_here}
-use Rattle.papaya_acts.proofs.Given.SeizeEnds.Batches.Rows.{begins_memory}
-use Rattle.papaya_acts.proofs.Given.Callers.Together.At.{at_same, at_other}
+use Rattle.papaya_acts.specs.Given.SeizeActsActs.{row_steps}
+use Rattle.papaya_acts.specs.Given.SeizeActsAnswers.{Grant, answer, stepped, then_on}
+use Rattle.papaya_acts.proofs.Given.SeizeActsAnswers.{same_some, some}
+use Rattle.papaya_acts.proofs.Given.SeizeRuleRows.Others.{begins_others, steps_others, with_here}
+use Rattle.papaya_acts.proofs.Given.SeizeEndsBatches.Rows.{begins_memory}
+use Rattle.papaya_acts.proofs.Given.CallersTogether.At.{at_same, at_other}
 use Rattle.papaya_runs.specs.Given.Tables.Nodes.{deferred_word}
 use Rattle.papaya_runs.specs.Given.Tables.declared.node.Node.{Node}
-use Rattle.papaya_acts.specs.Given.Callers.Together.{UnderWay}
-use Rattle.papaya_acts.specs.Given.Finishes.Maps.{Standing, IsSameMap}
-use Rattle.papaya_acts.proofs.Given.Scenes.NoCall.{no_call}
-use Rattle.papaya_acts.proofs.Given.Scenes.Rows.{begun_there}
-use Rattle.papaya_acts.specs.Given.Scenes.Rows.{begun_row, request_of, of_registering, of_storing, of_settling}
-use Rattle.papaya_acts.specs.Given.Scenes.Scene.{Scene, HasNoCall, row_of, slot_of}
-use Rattle.papaya_acts.specs.Given.Scenes.declared.row.RowTold.{RowTold}
-use Rattle.papaya_acts.specs.Given.Scenes.declared.row.SlotCall.{SlotCall}
-use Rattle.papaya_acts.specs.Given.Scenes.declared.row.SlotCall.TheVariants as call
-use Rattle.papaya_acts.specs.Given.Scenes.declared.row.SlotRow.{SlotRow}
-use Rattle.papaya_acts.specs.Given.Scenes.declared.row.SlotRow.TheVariants as rows
+use Rattle.papaya_acts.specs.Given.CallersTogether.{UnderWay}
+use Rattle.papaya_acts.specs.Given.FinishesMaps.{Standing, IsSameMap}
+use Rattle.papaya_acts.proofs.Given.ScenesNoCall.{no_call}
+use Rattle.papaya_acts.proofs.Given.ScenesRows.{begun_there}
+use Rattle.papaya_acts.specs.Given.ScenesRows.{begun_row, request_of, of_registering, of_storing, of_settling}
+use Rattle.papaya_acts.specs.Given.ScenesScene.{Scene, HasNoCall, row_of, slot_of}
+use Rattle.papaya_acts.specs.Given.ScenesDeclared.row.RowTold.{RowTold}
+use Rattle.papaya_acts.specs.Given.ScenesDeclared.row.SlotCall.{SlotCall}
+use Rattle.papaya_acts.specs.Given.ScenesDeclared.row.SlotCall.TheVariants as call
+use Rattle.papaya_acts.specs.Given.ScenesDeclared.row.SlotRow.{SlotRow}
+use Rattle.papaya_acts.specs.Given.ScenesDeclared.row.SlotRow.TheVariants as rows
 use Rattle.papaya_acts.specs.Acts.{Act, Answer, Nothing, BeginsRow, StepsRow}
 use Rattle.papaya_acts.specs.AsSteps.{row_changed}
 use Rattle.papaya_acts.specs.Leads.{Led, MayBe}

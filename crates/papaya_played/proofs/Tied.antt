@@ -9,23 +9,23 @@ use Rattle.papaya_runs.specs.Given.Seize.declared.progress.Progress.{Progress as
 use Rattle.papaya_runs.specs.Given.Seize.declared.rows.settle.Settled.{Settled}
 use Rattle.papaya_runs.specs.Given.Tables.declared.node.Node.{Node}
 use Rattle.papaya_runs.specs.Given.Tables.declared.setting.Setting.{Setting}
-use Rattle.papaya_acts.specs.Given.Resize.NewMap.{new_map_plan}
-use Rattle.papaya_acts.specs.Given.Resize.declared.new_map.NewMap.{NewMap}
+use Rattle.papaya_acts.specs.Given.ResizeNewMap.{new_map_plan}
+use Rattle.papaya_acts.specs.Given.ResizeDeclared.new_map.NewMap.{NewMap}
 use Rattle.papaya_deeds.specs.Given.Raw.EndMap.{end_map_plan}
 use Rattle.papaya_deeds.specs.Given.Raw.Machine.{machine_plan}
 use Rattle.papaya_deeds.specs.Given.Raw.declared.machines.end_map.EndMap.{EndMap}
 use Rattle.papaya_deeds.specs.Given.Raw.declared.machines.machine.Machine.{Machine}
 use Rattle.papaya_deeds.specs.Given.Raw.declared.machines.progress.Progress.{Progress}
-use Rattle.papaya_acts.specs.Given.Teller.declared.changed.Changed.{Changed}
-use Rattle.papaya_acts.specs.Given.Teller.declared.changed.Changed.TheVariants.{Nothing as NoChange}
-use Rattle.papaya_acts.specs.Given.Callers.Together.{UnderWay}
-use Rattle.papaya_acts.specs.Given.Finishes.Endings.{Finishing}
-use Rattle.papaya_acts.specs.Given.Finishes.Machines.{machine_of}
-use Rattle.papaya_acts.specs.Given.Finishes.Makings.{Beginning}
-use Rattle.papaya_acts.specs.Given.Finishes.Maps.{Standing}
-use Rattle.papaya_acts.specs.Given.Scenes.Scene.{Scene, slot_of}
-use Rattle.papaya_acts.specs.Given.SeizeActs.Answers.{Grant, stepped, then_on}
-use Rattle.papaya_acts.proofs.Given.SeizeActs.Answers.{same_some}
+use Rattle.papaya_acts.specs.Given.TellerDeclared.changed.Changed.{Changed}
+use Rattle.papaya_acts.specs.Given.TellerDeclared.changed.Changed.TheVariants.{Nothing as NoChange}
+use Rattle.papaya_acts.specs.Given.CallersTogether.{UnderWay}
+use Rattle.papaya_acts.specs.Given.FinishesEndings.{Finishing}
+use Rattle.papaya_acts.specs.Given.FinishesMachines.{machine_of}
+use Rattle.papaya_acts.specs.Given.FinishesMakings.{Beginning}
+use Rattle.papaya_acts.specs.Given.FinishesMaps.{Standing}
+use Rattle.papaya_acts.specs.Given.ScenesScene.{Scene, slot_of}
+use Rattle.papaya_acts.specs.Given.SeizeActsAnswers.{Grant, stepped, then_on}
+use Rattle.papaya_acts.proofs.Given.SeizeActsAnswers.{same_some}
 use Rattle.papaya_acts.specs.Acts.{Answer, StepsCall, StepsEnding, StepsMaking}
 use Rattle.papaya_acts.specs.AsSteps.{changed_by, changed_of}
 use Rattle.papaya_acts.specs.Courses.{set_up}

@@ -4,7 +4,7 @@ use Rattle.papaya_acts.specs.Acts.{Act, Answer, Nothing, OfCall, OfReply, OfAski
 use Rattle.papaya_acts.specs.Acts.{Wanted, Get, Remove, Insert, TryToInsert, Compute, Update, UpdateOrInsert, TryToInsertWith, RemoveIf, GetKeyValue, ContainsKey, GetOrInsert, GetOrInsertWith, RemoveEntry, MakeRoom, Count, GoOver}
 use Rattle.papaya_acts.specs.AsSteps.{changed_of, row_changed}
 use Rattle.papaya_acts.specs.Doings.{Doing, Does, BeginsReclaiming, BeginsClearing, StepsReclaiming, Chooses, memory_chosen}
-use Rattle.papaya_acts.specs.Given.SeizeActs.Answers.{Grant, stepped, then_on}
+use Rattle.papaya_acts.specs.Given.SeizeActsAnswers.{Grant, stepped, then_on}
 use Rattle.papaya_deeds.specs.Given.SeizeWords.Mem.{Mem}
 use Rattle.papaya_runs.specs.Given.Seize.Enter.{enter_plan, unregister_plan}
 use Rattle.papaya_runs.specs.Given.Seize.Leave.{leave_plan}
@@ -26,10 +26,10 @@ use Rattle.papaya_runs.specs.Given.Seize.declared.states.TheConstants.{ACTIVE}
 use Rattle.papaya_runs.specs.Given.Tables.Nodes.{deferred_word, was_left}
 use Rattle.papaya_runs.specs.Given.Tables.declared.node.Node.{Node}
 use Rattle.papaya_runs.specs.Given.Tables.declared.setting.Setting.{Setting}
-use Rattle.papaya_acts.specs.Given.Resize.NewMap.{new_map_plan, opening}
-use Rattle.papaya_acts.specs.Given.Resize.declared.new_map.NewMap.{NewMap}
-use Rattle.papaya_acts.specs.Given.Resize.declared.new_map.Opening.{Opening}
-use Rattle.papaya_acts.specs.Given.Resize.declared.new_map.Opening.TheVariants as openings
+use Rattle.papaya_acts.specs.Given.ResizeNewMap.{new_map_plan, opening}
+use Rattle.papaya_acts.specs.Given.ResizeDeclared.new_map.NewMap.{NewMap}
+use Rattle.papaya_acts.specs.Given.ResizeDeclared.new_map.Opening.{Opening}
+use Rattle.papaya_acts.specs.Given.ResizeDeclared.new_map.Opening.TheVariants as openings
 use Rattle.papaya_deeds.specs.Given.Sweeps.declared.sweep.Purpose.TheVariants as purpose
 use Rattle.papaya_deeds.specs.Given.Raw.EndMap.{ending, end_map_plan}
 use Rattle.papaya_deeds.specs.Given.Raw.Machine.{machine_plan, machine_replied, machine_asked}
@@ -39,20 +39,20 @@ use Rattle.papaya_deeds.specs.Given.Raw.declared.machines.end_map.EndMap.{EndMap
 use Rattle.papaya_deeds.specs.Given.Raw.declared.machines.machine.Machine.{Machine}
 use Rattle.papaya_deeds.specs.Given.Raw.declared.machines.progress.Progress.{Progress as CallProgress}
 use Rattle.papaya_deeds.specs.Given.Raw.declared.machines.progress.Progress.TheVariants as comes
-use Rattle.papaya_acts.specs.Given.Teller.declared.changed.Changed.{Changed}
-use Rattle.papaya_acts.specs.Given.Teller.declared.changed.Changed.TheVariants as changes
-use Rattle.papaya_acts.specs.Given.Callers.Together.{in_slot}
-use Rattle.papaya_acts.specs.Given.Finishes.Maps.{with_call}
-use Rattle.papaya_acts.specs.Given.Scenes.Replying.{unless_stopped}
-use Rattle.papaya_acts.specs.Given.Scenes.Rows.{begun_row, of_registering, of_settling, of_storing}
-use Rattle.papaya_acts.specs.Given.Scenes.Scene.{at_first, row_of, slot_of}
-use Rattle.papaya_acts.specs.Given.Scenes.Stepping.{has_ended}
-use Rattle.papaya_acts.specs.Given.Scenes.declared.row.RowTold.{RowTold}
-use Rattle.papaya_acts.specs.Given.Scenes.declared.row.RowTold.TheVariants as rows_tell
-use Rattle.papaya_acts.specs.Given.Scenes.declared.row.SlotCall.{SlotCall}
-use Rattle.papaya_acts.specs.Given.Scenes.declared.row.SlotCall.TheVariants as slot_call
-use Rattle.papaya_acts.specs.Given.Scenes.declared.row.SlotRow.{SlotRow}
-use Rattle.papaya_acts.specs.Given.Scenes.declared.row.SlotRow.TheVariants as rows
+use Rattle.papaya_acts.specs.Given.TellerDeclared.changed.Changed.{Changed}
+use Rattle.papaya_acts.specs.Given.TellerDeclared.changed.Changed.TheVariants as changes
+use Rattle.papaya_acts.specs.Given.CallersTogether.{in_slot}
+use Rattle.papaya_acts.specs.Given.FinishesMaps.{with_call}
+use Rattle.papaya_acts.specs.Given.ScenesReplying.{unless_stopped}
+use Rattle.papaya_acts.specs.Given.ScenesRows.{begun_row, of_registering, of_settling, of_storing}
+use Rattle.papaya_acts.specs.Given.ScenesScene.{at_first, row_of, slot_of}
+use Rattle.papaya_acts.specs.Given.ScenesStepping.{has_ended}
+use Rattle.papaya_acts.specs.Given.ScenesDeclared.row.RowTold.{RowTold}
+use Rattle.papaya_acts.specs.Given.ScenesDeclared.row.RowTold.TheVariants as rows_tell
+use Rattle.papaya_acts.specs.Given.ScenesDeclared.row.SlotCall.{SlotCall}
+use Rattle.papaya_acts.specs.Given.ScenesDeclared.row.SlotCall.TheVariants as slot_call
+use Rattle.papaya_acts.specs.Given.ScenesDeclared.row.SlotRow.{SlotRow}
+use Rattle.papaya_acts.specs.Given.ScenesDeclared.row.SlotRow.TheVariants as rows
 use Rattle.papaya_deeds.specs.Given.Schedules.declared.call.Call.{Call}
 use Rattle.papaya_deeds.specs.Given.Schedules.declared.call.Call.TheVariants as calls
 use Rattle.papaya_deeds.specs.Given.Schedules.declared.call.OneKey.TheVariants as one
@@ -60,10 +60,10 @@ use Rattle.papaya_deeds.specs.Given.Schedules.declared.call.Reply.{Reply}
 use Rattle.papaya_deeds.specs.Given.Schedules.declared.call.Reply.TheVariants as reply
 use Rattle.papaya_deeds.specs.Given.Schedules.declared.outcome.Outcome.{Outcome}
 use Rattle.papaya_deeds.specs.Given.Schedules.declared.outcome.Outcome.TheVariants as outcome
-use Rattle.papaya_named.specs.Given.Effects.Effects.{effects_of, known_after}
-use Rattle.papaya_named.specs.Given.Effects.Known.{Known, nothing_known}
-use Rattle.papaya_named.specs.Given.Effects.declared.acting.Acting.{Acting}
-use Rattle.papaya_named.specs.Given.Effects.declared.acting.Acting.TheVariants as acting
+use Rattle.papaya_named.specs.Given.EffectsEffects.{effects_of, known_after}
+use Rattle.papaya_named.specs.Given.EffectsKnown.{Known, nothing_known}
+use Rattle.papaya_named.specs.Given.EffectsDeclared.acting.Acting.{Acting}
+use Rattle.papaya_named.specs.Given.EffectsDeclared.acting.Acting.TheVariants as acting
 use Rattle.papaya_named.specs.Machines.{aborted_by, machine_for}
 use Rattle.papaya_named.specs.Seen.{kind_of}
 use Rattle.papaya_named.specs.Telling.{answer_of, kept, number_by}

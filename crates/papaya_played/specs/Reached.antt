@@ -4,17 +4,17 @@ use Rattle.papaya_acts.specs.Acts.{BeginsRow}
 use Rattle.papaya_acts.specs.Courses.{set_up}
 use Rattle.papaya_acts.specs.Doings.{Doing, Does, Stage, reclaiming}
 use Rattle.papaya_acts.specs.Lists.{Course, Reached, LedTo}
-use Rattle.papaya_acts.specs.Given.Callers.Together.{UnderWay}
-use Rattle.papaya_acts.specs.Given.Finishes.Machines.{machine_of}
-use Rattle.papaya_acts.specs.Given.Finishes.Makings.{Beginning}
-use Rattle.papaya_acts.specs.Given.Resize.declared.new_map.NewMap.{NewMap}
+use Rattle.papaya_acts.specs.Given.CallersTogether.{UnderWay}
+use Rattle.papaya_acts.specs.Given.FinishesMachines.{machine_of}
+use Rattle.papaya_acts.specs.Given.FinishesMakings.{Beginning}
+use Rattle.papaya_acts.specs.Given.ResizeDeclared.new_map.NewMap.{NewMap}
 use Rattle.papaya_runs.specs.Given.Seize.World.{Row, Rests}
 use Rattle.papaya_runs.specs.Given.Seize.declared.rows.reclaim_all.ReclaimAll.{ReclaimAll}
 use Rattle.papaya_runs.specs.Given.Tables.declared.setting.Setting.{Setting}
-use Rattle.papaya_acts.specs.Given.Scenes.Rows.{request_of}
-use Rattle.papaya_acts.specs.Given.Scenes.Scene.{HasNoCall, Scene, row_of, slot_of}
-use Rattle.papaya_acts.specs.Given.Scenes.declared.row.SlotCall.{SlotCall}
-use Rattle.papaya_acts.specs.Given.Scenes.declared.row.SlotRow.{SlotRow}
+use Rattle.papaya_acts.specs.Given.ScenesRows.{request_of}
+use Rattle.papaya_acts.specs.Given.ScenesScene.{HasNoCall, Scene, row_of, slot_of}
+use Rattle.papaya_acts.specs.Given.ScenesDeclared.row.SlotCall.{SlotCall}
+use Rattle.papaya_acts.specs.Given.ScenesDeclared.row.SlotRow.{SlotRow}
 use Rattle.papaya_played.specs.Play.{Making, Now, State, first_state, play_all}
 
 -- a row between calls, if there is one

@@ -5,21 +5,21 @@ use Rattle.std.specs.Option.{option_or}
 use Rattle.std.proofs.Common.{refl, ap, sym, subst, ◌∙◌, arith}
 use Rattle.std.proofs.lemmas.Bool.{eq-eqb}
 use Rattle.std.proofs.lemmas.List.Folds.{find-append}
-use Rattle.papaya_mapping.specs.Given.Seize.Law.{holds}
-use Rattle.papaya_mapping.specs.Given.Seize.World.{World, IsInside}
-use Rattle.papaya_mapping.specs.Given.Tables.declared.node.Node.{Node}
-use Rattle.papaya_mapping.specs.Given.Runs.Present.{Present, guard_of, guards_on, slot_of_registration, enters_slot, drops, forgotten_as, forgotten_if, forgets}
-use Rattle.papaya_mapping.specs.Given.Runs.Same.{is_same}
-use Rattle.papaya_mapping.specs.Given.Runs.declared.holders.Guard.{Guard}
-use Rattle.papaya_mapping.proofs.Given.Runs.Laws.{same_tells, drops_counts}
-use Rattle.papaya_mapping.specs.Given.Schedules.declared.event.Event.{Event}
-use Rattle.papaya_mapping.specs.Given.Schedules.declared.event.Event.TheVariants.{Register, Unregister, Enter, Own, Refresh, DropGuard, Forget, ReclaimAll, Close}
-use Rattle.papaya_mapping.specs.Given.Schedules.declared.outcome.Outcome.{Outcome}
-use Rattle.papaya_mapping.specs.Given.Schedules.declared.outcome.Outcome.TheVariants.{Done, Slot}
-use Rattle.papaya_mapping.specs.Given.Schedules.After.{there_on, unsheltered, sheltered_on}
-use Rattle.papaya_mapping.specs.Given.Schedules.Moment.{Sheltered}
-use Rattle.papaya_mapping.specs.Given.Effects.Known.{Known}
-use Rattle.papaya_mapping.proofs.Given.Follows.Steps.{one_of}
+use Rattle.papaya_mapping.specs.Given.SeizeLaw.{holds}
+use Rattle.papaya_mapping.specs.Given.SeizeWorld.{World, IsInside}
+use Rattle.papaya_mapping.specs.Given.TablesDeclared.node.Node.{Node}
+use Rattle.papaya_mapping.specs.Given.RunsPresent.{Present, guard_of, guards_on, slot_of_registration, enters_slot, drops, forgotten_as, forgotten_if, forgets}
+use Rattle.papaya_mapping.specs.Given.RunsSame.{is_same}
+use Rattle.papaya_mapping.specs.Given.RunsDeclared.holders.Guard.{Guard}
+use Rattle.papaya_mapping.proofs.Given.RunsLaws.{same_tells, drops_counts}
+use Rattle.papaya_mapping.specs.Given.SchedulesDeclared.event.Event.{Event}
+use Rattle.papaya_mapping.specs.Given.SchedulesDeclared.event.Event.TheVariants.{Register, Unregister, Enter, Own, Refresh, DropGuard, Forget, ReclaimAll, Close}
+use Rattle.papaya_mapping.specs.Given.SchedulesDeclared.outcome.Outcome.{Outcome}
+use Rattle.papaya_mapping.specs.Given.SchedulesDeclared.outcome.Outcome.TheVariants.{Done, Slot}
+use Rattle.papaya_mapping.specs.Given.SchedulesAfter.{there_on, unsheltered, sheltered_on}
+use Rattle.papaya_mapping.specs.Given.SchedulesMoment.{Sheltered}
+use Rattle.papaya_mapping.specs.Given.EffectsKnown.{Known}
+use Rattle.papaya_mapping.proofs.Given.FollowsSteps.{one_of}
 use Rattle.papaya_promises.specs.Guards.{EntersInside, GuardsComeAndGo, OneIsInsideAgain, OnlyGuardsLeaveNobody}
 use Rattle.papaya_promises.specs.Sheltered.{GuardsAreInside, IsSheltered, AreSheltered}
 use Rattle.papaya_promises.proofs.Lists.{all_of}

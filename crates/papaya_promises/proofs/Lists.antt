@@ -5,14 +5,14 @@ use Rattle.std.proofs.Common.{refl, ap, sym, subst, arith}
 use Rattle.std.proofs.lemmas.Bool.Decides.{nat_tests}
 use Rattle.std.proofs.lemmas.List.{append_assoc}
 use Rattle.std.proofs.lemmas.List.Concat.{flat_map-cons}
-use Rattle.papaya_mapping.specs.Given.Runs.Present.{guard_of}
-use Rattle.papaya_mapping.specs.Given.Runs.Same.{is_same}
-use Rattle.papaya_mapping.specs.Given.Runs.declared.holders.Guard.{Guard}
-use Rattle.papaya_mapping.proofs.Given.Runs.Laws.{same_tells}
-use Rattle.papaya_mapping.specs.Given.Schedules.declared.effect.Thing.{Thing}
-use Rattle.papaya_mapping.specs.Given.Schedules.declared.effect.Thing.TheVariants.{ATable}
-use Rattle.papaya_mapping.specs.Given.Schedules.Effects.{passed}
-use Rattle.papaya_mapping.specs.Given.Schedules.Moment.{Sheltered}
+use Rattle.papaya_mapping.specs.Given.RunsPresent.{guard_of}
+use Rattle.papaya_mapping.specs.Given.RunsSame.{is_same}
+use Rattle.papaya_mapping.specs.Given.RunsDeclared.holders.Guard.{Guard}
+use Rattle.papaya_mapping.proofs.Given.RunsLaws.{same_tells}
+use Rattle.papaya_mapping.specs.Given.SchedulesDeclared.effect.Thing.{Thing}
+use Rattle.papaya_mapping.specs.Given.SchedulesDeclared.effect.Thing.TheVariants.{ATable}
+use Rattle.papaya_mapping.specs.Given.SchedulesEffects.{passed}
+use Rattle.papaya_mapping.specs.Given.SchedulesMoment.{Sheltered}
 
 pub all_append : {X : Type 0} (P : X → Type 0) (xs ys : List X) → AllByRecursion P xs → AllByRecursion P ys → AllByRecursion P (xs ++ ys)
 all_append P [] ys a b = b

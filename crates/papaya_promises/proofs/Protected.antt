@@ -3,34 +3,34 @@ use Rattle.std.specs.Prelude.{◌&&◌, ◌≡◌, ℕ, nat_lt, Bool, true, fals
 use Rattle.std.specs.List.{AllByRecursion}
 use Rattle.std.proofs.Common.{refl, ap, sym, subst, ◌∙◌}
 use Rattle.std.proofs.lemmas.Grind.{flat_map-append}
-use Rattle.papaya_mapping.specs.Given.SeizeWords.declared.at.At.TheVariants.{Root, Used, Slot as SlotWord, Entry as EntryWord, Word}
-use Rattle.papaya_mapping.specs.Given.Seize.World.{World}
-use Rattle.papaya_mapping.specs.Given.Tables.declared.node.Node.{Node}
-use Rattle.papaya_mapping.specs.Given.Runs.Present.{Present, slot_of_registration}
-use Rattle.papaya_mapping.specs.Given.Schedules.declared.call.Call.{Call}
-use Rattle.papaya_mapping.specs.Given.Schedules.declared.effect.Effect.{Effect}
-use Rattle.papaya_mapping.specs.Given.Schedules.declared.effect.Thing.{Thing}
-use Rattle.papaya_mapping.specs.Given.Schedules.declared.event.Event.{Event}
-use Rattle.papaya_mapping.specs.Given.Schedules.declared.event.Event.TheVariants.{Register, Unregister, Enter, Own, Refresh, Flush, DropGuard, Forget, ReclaimAll, Close, MakeMap, Begin, OneCall}
-use Rattle.papaya_mapping.specs.Given.Schedules.declared.outcome.Outcome.{Outcome}
-use Rattle.papaya_mapping.specs.Given.Schedules.declared.outcome.Outcome.TheVariants.{Done, Slot, Goes}
-use Rattle.papaya_mapping.specs.Given.Schedules.After.{there_on, unsheltered, sheltered_on, after, moment}
-use Rattle.papaya_mapping.specs.Given.Schedules.Beginning.{with_call, begun, at_work}
-use Rattle.papaya_mapping.specs.Given.Schedules.Effects.{with_effect, with_effects, worked}
-use Rattle.papaya_mapping.specs.Given.Schedules.Entry.{Entry, is_busy, nameless, caller_of, acted_on}
-use Rattle.papaya_mapping.specs.Given.Schedules.Lists.{is_in}
-use Rattle.papaya_mapping.specs.Given.Schedules.Model.{thing_back}
-use Rattle.papaya_mapping.specs.Given.Schedules.Moment.{Sheltered, Moment}
-use Rattle.papaya_mapping.specs.Given.Schedules.Things.{same_thing}
-use Rattle.papaya_mapping.specs.Given.Schedules.Views.{number_of}
-use Rattle.papaya_mapping.specs.Given.Teller.declared.changed.Changed.{Changed}
-use Rattle.papaya_mapping.specs.Given.Teller.declared.changed.Changed.TheVariants as changed
-use Rattle.papaya_mapping.specs.Given.Effects.Effects.{names_same, taken_by, effects_of}
-use Rattle.papaya_mapping.specs.Given.Effects.Known.{Known}
-use Rattle.papaya_mapping.specs.Given.Effects.declared.acting.Acting.TheVariants as acts
-use Rattle.papaya_mapping.specs.Given.Effects.declared.role.Role.{Role}
-use Rattle.papaya_mapping.specs.Given.Effects.declared.role.Role.TheVariants as role
-use Rattle.papaya_mapping.proofs.Given.Others.RowPlans.{TellsRow, row_tells}
+use Rattle.papaya_mapping.specs.Given.SeizeWordsDeclared.at.At.TheVariants.{Root, Used, Slot as SlotWord, Entry as EntryWord, Word}
+use Rattle.papaya_mapping.specs.Given.SeizeWorld.{World}
+use Rattle.papaya_mapping.specs.Given.TablesDeclared.node.Node.{Node}
+use Rattle.papaya_mapping.specs.Given.RunsPresent.{Present, slot_of_registration}
+use Rattle.papaya_mapping.specs.Given.SchedulesDeclared.call.Call.{Call}
+use Rattle.papaya_mapping.specs.Given.SchedulesDeclared.effect.Effect.{Effect}
+use Rattle.papaya_mapping.specs.Given.SchedulesDeclared.effect.Thing.{Thing}
+use Rattle.papaya_mapping.specs.Given.SchedulesDeclared.event.Event.{Event}
+use Rattle.papaya_mapping.specs.Given.SchedulesDeclared.event.Event.TheVariants.{Register, Unregister, Enter, Own, Refresh, Flush, DropGuard, Forget, ReclaimAll, Close, MakeMap, Begin, OneCall}
+use Rattle.papaya_mapping.specs.Given.SchedulesDeclared.outcome.Outcome.{Outcome}
+use Rattle.papaya_mapping.specs.Given.SchedulesDeclared.outcome.Outcome.TheVariants.{Done, Slot, Goes}
+use Rattle.papaya_mapping.specs.Given.SchedulesAfter.{there_on, unsheltered, sheltered_on, after, moment}
+use Rattle.papaya_mapping.specs.Given.SchedulesBeginning.{with_call, begun, at_work}
+use Rattle.papaya_mapping.specs.Given.SchedulesEffects.{with_effect, with_effects, worked}
+use Rattle.papaya_mapping.specs.Given.SchedulesEntry.{Entry, is_busy, nameless, caller_of, acted_on}
+use Rattle.papaya_mapping.specs.Given.SchedulesLists.{is_in}
+use Rattle.papaya_mapping.specs.Given.SchedulesModel.{thing_back}
+use Rattle.papaya_mapping.specs.Given.SchedulesMoment.{Sheltered, Moment}
+use Rattle.papaya_mapping.specs.Given.SchedulesThings.{same_thing}
+use Rattle.papaya_mapping.specs.Given.SchedulesViews.{number_of}
+use Rattle.papaya_mapping.specs.Given.TellerDeclared.changed.Changed.{Changed}
+use Rattle.papaya_mapping.specs.Given.TellerDeclared.changed.Changed.TheVariants as changed
+use Rattle.papaya_mapping.specs.Given.EffectsEffects.{names_same, taken_by, effects_of}
+use Rattle.papaya_mapping.specs.Given.EffectsKnown.{Known}
+use Rattle.papaya_mapping.specs.Given.EffectsDeclared.acting.Acting.TheVariants as acts
+use Rattle.papaya_mapping.specs.Given.EffectsDeclared.role.Role.{Role}
+use Rattle.papaya_mapping.specs.Given.EffectsDeclared.role.Role.TheVariants as role
+use Rattle.papaya_mapping.proofs.Given.OthersRowPlans.{TellsRow, row_tells}
 use Rattle.papaya_promises.specs.Guards.{EntersInside}
 use Rattle.papaya_promises.specs.Protected.{is_of_slots, there_in, HasSpared, InMidst, EndsInside, EventsBeginProtected, EventsEndProtected, OtherEventsEndProtected, SlotEventsEndProtected, AllIsEndedProtected, IdleEventsAreProtected, CallsProtect, MakingsProtect, EndingsProtect, RowsBeginProtect, RowsProtect}
 use Rattle.papaya_promises.specs.Sheltered.{GuardsAreInside, AreSheltered, SectionsHold}
@@ -43,7 +43,7 @@ use Rattle.papaya_promises.proofs.Shelters.Events.{steps_protect, events_are_pro
 use Rattle.papaya_promises.proofs.Shelters.Makings.{makings_shelter}
 use Rattle.papaya_promises.proofs.Shelters.Outs.{KeepsIn, room_keeps, keep_all}
 use Rattle.papaya_promises.proofs.Shelters.Rows.{none_back, rows_shelter}
-use Rattle.papaya_mapping.specs.Given.Schedules.Transition.{transition}
+use Rattle.papaya_mapping.specs.Given.SchedulesTransition.{transition}
 
 -- what work begins, and what it does, leaves who is there
 

@@ -2,26 +2,26 @@
 use Rattle.std.specs.Prelude.{◌≡◌, ℕ, true, false, List, [], ◌∷◌}
 use Rattle.std.proofs.Common.{refl, sym, subst, ◌∙◌, arith, inl, inr}
 use Rattle.std.proofs.lemmas.Bool.{cases_eq}
-use Rattle.papaya_mapping.specs.Given.Seize.Law.{Entered, Linked, holds}
-use Rattle.papaya_mapping.specs.Given.Seize.World.{World, Inside}
-use Rattle.papaya_mapping.specs.Given.Tables.declared.node.Node.{Node}
-use Rattle.papaya_mapping.specs.Given.Runs.Present.{Present, drops}
-use Rattle.papaya_mapping.specs.Given.Runs.declared.holders.Guard.{Guard}
-use Rattle.papaya_mapping.specs.Given.Schedules.declared.effect.Effect.TheVariants.{Reclaimed}
-use Rattle.papaya_mapping.specs.Given.Schedules.declared.effect.Thing.TheVariants.{APair}
-use Rattle.papaya_mapping.specs.Given.Schedules.declared.event.Event.TheVariants.{Refresh, Flush}
-use Rattle.papaya_mapping.specs.Given.Schedules.Lists.{put}
-use Rattle.papaya_mapping.specs.Given.Schedules.Moment.{Sheltered, Moment, start}
-use Rattle.papaya_mapping.specs.Given.Effects.Known.{Known}
-use Rattle.papaya_mapping.specs.Given.Effects.declared.role.Role.TheVariants as role
-use Rattle.papaya_mapping.specs.Given.Scenes.declared.row.SlotCall.TheVariants as call
-use Rattle.papaya_mapping.proofs.Given.Follows.Alike.{put_elsewhere}
+use Rattle.papaya_mapping.specs.Given.SeizeLaw.{Entered, Linked, holds}
+use Rattle.papaya_mapping.specs.Given.SeizeWorld.{World, Inside}
+use Rattle.papaya_mapping.specs.Given.TablesDeclared.node.Node.{Node}
+use Rattle.papaya_mapping.specs.Given.RunsPresent.{Present, drops}
+use Rattle.papaya_mapping.specs.Given.RunsDeclared.holders.Guard.{Guard}
+use Rattle.papaya_mapping.specs.Given.SchedulesDeclared.effect.Effect.TheVariants.{Reclaimed}
+use Rattle.papaya_mapping.specs.Given.SchedulesDeclared.effect.Thing.TheVariants.{APair}
+use Rattle.papaya_mapping.specs.Given.SchedulesDeclared.event.Event.TheVariants.{Refresh, Flush}
+use Rattle.papaya_mapping.specs.Given.SchedulesLists.{put}
+use Rattle.papaya_mapping.specs.Given.SchedulesMoment.{Sheltered, Moment, start}
+use Rattle.papaya_mapping.specs.Given.EffectsKnown.{Known}
+use Rattle.papaya_mapping.specs.Given.EffectsDeclared.role.Role.TheVariants as role
+use Rattle.papaya_mapping.specs.Given.ScenesDeclared.row.SlotCall.TheVariants as call
+use Rattle.papaya_mapping.proofs.Given.FollowsAlike.{put_elsewhere}
 use Rattle.papaya_promises.specs.Others.{SparesGuards}
 use Rattle.papaya_promises.specs.Protected.{InMidst}
 use Rattle.papaya_promises.specs.Sheltered.{GuardsAreInside, IsSheltered}
 use Rattle.papaya_promises.specs.Shelters.{NoneIsBack}
 use Rattle.papaya_promises.proofs.Guards.{no_guard}
-use Rattle.papaya_mapping.specs.Given.Scenes.Scene.{at_first}
+use Rattle.papaya_mapping.specs.Given.ScenesScene.{at_first}
 
 -- a guard on slot 0, and the first pair, in block 5, which left its map while that was there
 

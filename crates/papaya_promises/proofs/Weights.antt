@@ -2,17 +2,17 @@
 use Rattle.std.specs.Prelude.{◌≡◌, ℕ, Bool, true, false, List, [], ◌∷◌, ◌++◌}
 use Rattle.std.proofs.Common.{refl, arith}
 use Rattle.std.proofs.lemmas.List.Sums.{sum_by-append}
-use Rattle.papaya_mapping.specs.Given.Schedules.declared.effect.Effect.{Effect}
-use Rattle.papaya_mapping.specs.Given.Schedules.declared.effect.Effect.TheVariants.{Asked, PairMade, PairGivenUp, TableMade, TableGivenUp, Linked, Promoted, Copied, Stored, Replaced, Removed, Counted, Deferred, Retired, Reclaimed, Ended, Taken}
-use Rattle.papaya_mapping.specs.Given.Schedules.declared.effect.Table.{Table}
-use Rattle.papaya_mapping.specs.Given.Schedules.Handing.{is_granted}
-use Rattle.papaya_mapping.specs.Given.Schedules.Steps.{weight}
-use Rattle.papaya_mapping.specs.Given.Effects.Effects.{pair_taken, table_taken}
-use Rattle.papaya_mapping.specs.Given.Effects.Known.{Known}
-use Rattle.papaya_mapping.specs.Given.Effects.declared.acting.Acting.{Acting}
-use Rattle.papaya_mapping.specs.Given.Effects.declared.acting.Acting.TheVariants.{Ending}
+use Rattle.papaya_mapping.specs.Given.SchedulesDeclared.effect.Effect.{Effect}
+use Rattle.papaya_mapping.specs.Given.SchedulesDeclared.effect.Effect.TheVariants.{Asked, PairMade, PairGivenUp, TableMade, TableGivenUp, Linked, Promoted, Copied, Stored, Replaced, Removed, Counted, Deferred, Retired, Reclaimed, Ended, Taken}
+use Rattle.papaya_mapping.specs.Given.SchedulesDeclared.effect.Table.{Table}
+use Rattle.papaya_mapping.specs.Given.SchedulesHanding.{is_granted}
+use Rattle.papaya_mapping.specs.Given.SchedulesSteps.{weight}
+use Rattle.papaya_mapping.specs.Given.EffectsEffects.{pair_taken, table_taken}
+use Rattle.papaya_mapping.specs.Given.EffectsKnown.{Known}
+use Rattle.papaya_mapping.specs.Given.EffectsDeclared.acting.Acting.{Acting}
+use Rattle.papaya_mapping.specs.Given.EffectsDeclared.acting.Acting.TheVariants.{Ending}
 use Rattle.papaya_promises.specs.Weights.{AreDoneBy, OperationsAreSingle, PartsAddUp, GrantsAddUp}
-use Rattle.papaya_mapping.proofs.Given.Follows.OfEach.{OfEach, each_operation_so}
+use Rattle.papaya_mapping.proofs.Given.FollowsOfEach.{OfEach, each_operation_so}
 
 abbrev IsOne : List Effect → Type 0
 IsOne effects = AreDoneBy 1 effects × (is_granted false effects ≡ true)

@@ -1,29 +1,29 @@
 -- How many words a lookup has read, at each of its points: it stays within what it may read.
 use Rattle.std.specs.Prelude.{◌≡◌, ℕ, zero, suc, ◌+◌, ◌<◌, ◌≤◌, nat_le, Bool, false, List, ◌∷◌, sum_by, Option, if◌then◌else◌}
-use Rattle.papaya_mapping.specs.Given.SeizeWords.Mem.{Mem, Took, value_at}
-use Rattle.papaya_mapping.specs.Given.SeizeWords.Plan.{Steps}
-use Rattle.papaya_mapping.specs.Given.Seize.declared.progress.Progress.{Progress}
-use Rattle.papaya_mapping.specs.Given.Seize.declared.progress.Progress.TheVariants.{Goes, Done}
-use Rattle.papaya_mapping.specs.Given.Tables.Chunks.{is_incremental}
-use Rattle.papaya_mapping.specs.Given.Tables.declared.node.Node.{Node}
-use Rattle.papaya_mapping.specs.Given.Tables.declared.resize_mode.ResizeMode.{ResizeMode}
-use Rattle.papaya_mapping.specs.Given.Resize.Lookup.{lookup_plan}
-use Rattle.papaya_mapping.specs.Given.Resize.declared.lookup.Lookup.{Lookup}
-use Rattle.papaya_mapping.specs.Given.Resize.declared.lookup.Looking.{Looking}
-use Rattle.papaya_mapping.specs.Given.Resize.declared.lookup.Looking.TheVariants as at
-use Rattle.papaya_mapping.specs.Given.Rule.Chart.{Chart}
-use Rattle.papaya_mapping.specs.Given.Rule.Words.{Blocks}
-use Rattle.papaya_mapping.specs.Given.Rule.Maps.{IsClass, IsMap}
-use Rattle.papaya_mapping.specs.Given.Points.FactsLooks.{LookupFacts}
-use Rattle.papaya_mapping.specs.Given.Points.Steps.{AreLawful}
-use Rattle.papaya_mapping.specs.Given.Finishes.Maps.{Standing}
-use Rattle.papaya_mapping.specs.Given.Schedules.Lists.{OneOf}
-use Rattle.papaya_mapping.specs.Given.Schedules.Lives.{IsFrom}
-use Rattle.papaya_mapping.specs.Given.Schedules.Moment.{UnderWay as CallThere, TableThere, Moment}
-use Rattle.papaya_mapping.specs.Given.Schedules.Steps.{root_table, ReadsFew}
-use Rattle.papaya_mapping.specs.Given.Schedules.Views.{first_of}
-use Rattle.papaya_mapping.specs.Given.Effects.Known.{Known}
-use Rattle.papaya_mapping.specs.Given.Follows.Maps.{ShowsThere, ShowsTables}
+use Rattle.papaya_mapping.specs.Given.SeizeWordsMem.{Mem, Took, value_at}
+use Rattle.papaya_mapping.specs.Given.SeizeWordsPlan.{Steps}
+use Rattle.papaya_mapping.specs.Given.SeizeDeclared.progress.Progress.{Progress}
+use Rattle.papaya_mapping.specs.Given.SeizeDeclared.progress.Progress.TheVariants.{Goes, Done}
+use Rattle.papaya_mapping.specs.Given.TablesChunks.{is_incremental}
+use Rattle.papaya_mapping.specs.Given.TablesDeclared.node.Node.{Node}
+use Rattle.papaya_mapping.specs.Given.TablesDeclared.resize_mode.ResizeMode.{ResizeMode}
+use Rattle.papaya_mapping.specs.Given.ResizeLookup.{lookup_plan}
+use Rattle.papaya_mapping.specs.Given.ResizeDeclared.lookup.Lookup.{Lookup}
+use Rattle.papaya_mapping.specs.Given.ResizeDeclared.lookup.Looking.{Looking}
+use Rattle.papaya_mapping.specs.Given.ResizeDeclared.lookup.Looking.TheVariants as at
+use Rattle.papaya_mapping.specs.Given.RuleChart.{Chart}
+use Rattle.papaya_mapping.specs.Given.RuleWords.{Blocks}
+use Rattle.papaya_mapping.specs.Given.RuleMaps.{IsClass, IsMap}
+use Rattle.papaya_mapping.specs.Given.PointsFactsLooks.{LookupFacts}
+use Rattle.papaya_mapping.specs.Given.PointsSteps.{AreLawful}
+use Rattle.papaya_mapping.specs.Given.FinishesMaps.{Standing}
+use Rattle.papaya_mapping.specs.Given.SchedulesLists.{OneOf}
+use Rattle.papaya_mapping.specs.Given.SchedulesLives.{IsFrom}
+use Rattle.papaya_mapping.specs.Given.SchedulesMoment.{UnderWay as CallThere, TableThere, Moment}
+use Rattle.papaya_mapping.specs.Given.SchedulesSteps.{root_table, ReadsFew}
+use Rattle.papaya_mapping.specs.Given.SchedulesViews.{first_of}
+use Rattle.papaya_mapping.specs.Given.EffectsKnown.{Known}
+use Rattle.papaya_mapping.specs.Given.FollowsMaps.{ShowsThere, ShowsTables}
 
 -- the words of a table that a lookup may read
 abbrev pub words_of : TableThere → ℕ

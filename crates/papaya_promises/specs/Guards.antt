@@ -1,16 +1,16 @@
 -- What is promised of guards that come and go: those that are there are within sections, and these shelter what they do.
 use Rattle.std.specs.Prelude.{◌≡◌, ℕ, List, Some}
-use Rattle.papaya_mapping.specs.Given.Seize.World.{World, IsInside}
-use Rattle.papaya_mapping.specs.Given.Tables.declared.node.Node.{Node}
-use Rattle.papaya_mapping.specs.Given.Runs.Present.{Present, HaveNames, guard_of, guards_on, slot_of_registration, drops}
-use Rattle.papaya_mapping.specs.Given.Runs.declared.holders.Guard.{Guard}
-use Rattle.papaya_mapping.specs.Given.Schedules.declared.event.Event.{Event}
-use Rattle.papaya_mapping.specs.Given.Schedules.declared.event.Event.TheVariants.{Enter, Own}
-use Rattle.papaya_mapping.specs.Given.Schedules.declared.outcome.Outcome.{Outcome}
-use Rattle.papaya_mapping.specs.Given.Schedules.declared.outcome.Outcome.TheVariants.{Done, Slot}
-use Rattle.papaya_mapping.specs.Given.Schedules.After.{there_on, sheltered_on}
-use Rattle.papaya_mapping.specs.Given.Schedules.Moment.{Sheltered}
-use Rattle.papaya_mapping.specs.Given.Effects.Known.{Known}
+use Rattle.papaya_mapping.specs.Given.SeizeWorld.{World, IsInside}
+use Rattle.papaya_mapping.specs.Given.TablesDeclared.node.Node.{Node}
+use Rattle.papaya_mapping.specs.Given.RunsPresent.{Present, HaveNames, guard_of, guards_on, slot_of_registration, drops}
+use Rattle.papaya_mapping.specs.Given.RunsDeclared.holders.Guard.{Guard}
+use Rattle.papaya_mapping.specs.Given.SchedulesDeclared.event.Event.{Event}
+use Rattle.papaya_mapping.specs.Given.SchedulesDeclared.event.Event.TheVariants.{Enter, Own}
+use Rattle.papaya_mapping.specs.Given.SchedulesDeclared.outcome.Outcome.{Outcome}
+use Rattle.papaya_mapping.specs.Given.SchedulesDeclared.outcome.Outcome.TheVariants.{Done, Slot}
+use Rattle.papaya_mapping.specs.Given.SchedulesAfter.{there_on, sheltered_on}
+use Rattle.papaya_mapping.specs.Given.SchedulesMoment.{Sheltered}
+use Rattle.papaya_mapping.specs.Given.EffectsKnown.{Known}
 use Rattle.papaya_promises.specs.Others.{NobodyOn}
 use Rattle.papaya_promises.specs.Sheltered.{GuardsAreInside, AreSheltered}
 

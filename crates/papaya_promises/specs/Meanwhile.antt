@@ -1,36 +1,36 @@
 -- What lookups under way have read, where calls begin, step and come to an outcome meanwhile.
 use Rattle.std.specs.Prelude.{◌≡◌, ℕ, Bool, true, false, List, Some, None, if◌then◌else◌, Option}
-use Rattle.papaya_mapping.specs.Given.Runs.Same.{is_same}
-use Rattle.papaya_mapping.specs.Given.Tables.declared.node.Node.{Node}
-use Rattle.papaya_mapping.specs.Given.Resize.declared.lookup.Lookup.{Lookup}
-use Rattle.papaya_mapping.specs.Given.Resize.declared.lookup.Looking.TheVariants as looking
-use Rattle.papaya_mapping.specs.Given.Raw.declared.machines.call.Calling.TheVariants as at
-use Rattle.papaya_mapping.specs.Given.Raw.declared.machines.progress.Progress.{Progress}
-use Rattle.papaya_mapping.specs.Given.Schedules.declared.call.Call.{Call}
-use Rattle.papaya_mapping.specs.Given.Schedules.declared.call.Reply.{Reply}
-use Rattle.papaya_mapping.specs.Given.Schedules.declared.outcome.Outcome.{Outcome}
-use Rattle.papaya_mapping.specs.Given.Schedules.Beginning.{with_call}
-use Rattle.papaya_mapping.specs.Given.Schedules.Effects.{with_effects}
-use Rattle.papaya_mapping.specs.Given.Schedules.Entry.{ends_call}
-use Rattle.papaya_mapping.specs.Given.Schedules.Moment.{UnderWay as CallThere, Moment}
-use Rattle.papaya_mapping.specs.Given.Schedules.Views.{call_of}
-use Rattle.papaya_mapping.specs.Given.Callers.Together.{CallOnKey, UnderWay, OnKey}
-use Rattle.papaya_mapping.specs.Given.Effects.Effects.{effects_of}
-use Rattle.papaya_mapping.specs.Given.Effects.Known.{Known}
-use Rattle.papaya_mapping.specs.Given.Effects.declared.acting.Acting.TheVariants as acts
-use Rattle.papaya_mapping.specs.Given.Seize.World.{Event as WorldEvent}
-use Rattle.papaya_mapping.specs.Given.Finishes.Maps.{Standing}
-use Rattle.papaya_mapping.specs.Given.Others.Rows.{scene_then}
-use Rattle.papaya_mapping.specs.Given.Schedules.declared.effect.Effect.{Effect}
-use Rattle.papaya_mapping.specs.Given.Follows.Calling.{NoneNamed, told, come_to}
-use Rattle.papaya_mapping.specs.Given.Moments.Whole.{ShowsWhole}
+use Rattle.papaya_mapping.specs.Given.RunsSame.{is_same}
+use Rattle.papaya_mapping.specs.Given.TablesDeclared.node.Node.{Node}
+use Rattle.papaya_mapping.specs.Given.ResizeDeclared.lookup.Lookup.{Lookup}
+use Rattle.papaya_mapping.specs.Given.ResizeDeclared.lookup.Looking.TheVariants as looking
+use Rattle.papaya_mapping.specs.Given.RawDeclared.machines.call.Calling.TheVariants as at
+use Rattle.papaya_mapping.specs.Given.RawDeclared.machines.progress.Progress.{Progress}
+use Rattle.papaya_mapping.specs.Given.SchedulesDeclared.call.Call.{Call}
+use Rattle.papaya_mapping.specs.Given.SchedulesDeclared.call.Reply.{Reply}
+use Rattle.papaya_mapping.specs.Given.SchedulesDeclared.outcome.Outcome.{Outcome}
+use Rattle.papaya_mapping.specs.Given.SchedulesBeginning.{with_call}
+use Rattle.papaya_mapping.specs.Given.SchedulesEffects.{with_effects}
+use Rattle.papaya_mapping.specs.Given.SchedulesEntry.{ends_call}
+use Rattle.papaya_mapping.specs.Given.SchedulesMoment.{UnderWay as CallThere, Moment}
+use Rattle.papaya_mapping.specs.Given.SchedulesViews.{call_of}
+use Rattle.papaya_mapping.specs.Given.CallersTogether.{CallOnKey, UnderWay, OnKey}
+use Rattle.papaya_mapping.specs.Given.EffectsEffects.{effects_of}
+use Rattle.papaya_mapping.specs.Given.EffectsKnown.{Known}
+use Rattle.papaya_mapping.specs.Given.EffectsDeclared.acting.Acting.TheVariants as acts
+use Rattle.papaya_mapping.specs.Given.SeizeWorld.{Event as WorldEvent}
+use Rattle.papaya_mapping.specs.Given.FinishesMaps.{Standing}
+use Rattle.papaya_mapping.specs.Given.OthersRows.{scene_then}
+use Rattle.papaya_mapping.specs.Given.SchedulesDeclared.effect.Effect.{Effect}
+use Rattle.papaya_mapping.specs.Given.FollowsCalling.{NoneNamed, told, come_to}
+use Rattle.papaya_mapping.specs.Given.MomentsWhole.{ShowsWhole}
 use Rattle.papaya_promises.specs.Reading.{looks, HasStood, ShowsReading}
-use Rattle.papaya_mapping.specs.Given.Scenes.Held.{Held, IsAt}
-use Rattle.papaya_mapping.specs.Given.Scenes.OnSlots.{HappensAt}
-use Rattle.papaya_mapping.specs.Given.Scenes.Replying.{scene_with}
-use Rattle.papaya_mapping.specs.Given.Scenes.Scene.{Scene}
-use Rattle.papaya_mapping.specs.Given.Scenes.Stepping.{StepLeads, scene_after}
-use Rattle.papaya_mapping.specs.Given.Schedules.Transition.{Past}
+use Rattle.papaya_mapping.specs.Given.ScenesHeld.{Held, IsAt}
+use Rattle.papaya_mapping.specs.Given.ScenesOnSlots.{HappensAt}
+use Rattle.papaya_mapping.specs.Given.ScenesReplying.{scene_with}
+use Rattle.papaya_mapping.specs.Given.ScenesScene.{Scene}
+use Rattle.papaya_mapping.specs.Given.ScenesStepping.{StepLeads, scene_after}
+use Rattle.papaya_mapping.specs.Given.SchedulesTransition.{Past}
 
 module _ (K V : Type 0) (same : K → K → Bool) where
   -- The promises: so it is where a call has come to an outcome by the steps that it has made, if it is a lookup, and no other one has made some,

@@ -1,39 +1,39 @@
 -- What is promised of what left its map, where anything else happens than a step of a call or of a row: it is sheltered still.
 use Rattle.std.specs.Prelude.{◌≡◌, ℕ, Bool, List, [], Option, Some, None, flat_map}
-use Rattle.papaya_mapping.specs.Given.SeizeWords.Mem.{Mem}
-use Rattle.papaya_mapping.specs.Given.Seize.Law.{Ended}
-use Rattle.papaya_mapping.specs.Given.Seize.World.{World, with_effect}
-use Rattle.papaya_mapping.specs.Given.Seize.declared.progress.Progress.{Progress}
-use Rattle.papaya_mapping.specs.Given.Seize.declared.rows.settle.Settled.{Settled}
-use Rattle.papaya_mapping.specs.Given.Tables.declared.node.Node.{Node}
-use Rattle.papaya_mapping.specs.Given.Tables.declared.setting.Setting.{Setting}
-use Rattle.papaya_mapping.specs.Given.Runs.Present.{Present, guard_of}
-use Rattle.papaya_mapping.specs.Given.Runs.declared.holders.Guard.{Guard}
-use Rattle.papaya_mapping.specs.Given.Schedules.declared.call.Call.{Call}
-use Rattle.papaya_mapping.specs.Given.Schedules.declared.call.Reply.{Reply}
-use Rattle.papaya_mapping.specs.Given.Schedules.declared.outcome.Outcome.{Outcome}
-use Rattle.papaya_mapping.specs.Given.Schedules.Beginning.{with_call, with_map}
-use Rattle.papaya_mapping.specs.Given.Schedules.Effects.{with_effects}
-use Rattle.papaya_mapping.specs.Given.Schedules.Model.{thing_back}
-use Rattle.papaya_mapping.specs.Given.Schedules.Moment.{MapThere, Remains, Sheltered, Moment}
-use Rattle.papaya_mapping.specs.Given.Effects.Effects.{effects_of, known_after}
-use Rattle.papaya_mapping.specs.Given.Effects.Known.{Known}
-use Rattle.papaya_mapping.specs.Given.Effects.declared.acting.Acting.TheVariants as acts
-use Rattle.papaya_mapping.specs.Given.Finishes.Endings.{Finishing}
-use Rattle.papaya_mapping.specs.Given.Finishes.Makings.{Beginning}
-use Rattle.papaya_mapping.specs.Given.Scenes.declared.row.SlotCall.{SlotCall}
-use Rattle.papaya_mapping.specs.Given.Scenes.declared.row.SlotCall.TheVariants as call
-use Rattle.papaya_mapping.specs.Given.Follows.Calling.{told as told_so, come_to}
-use Rattle.papaya_mapping.specs.Given.Others.Endings.{without_map}
-use Rattle.papaya_mapping.specs.Given.Others.Makings.{WasNew}
-use Rattle.papaya_mapping.specs.Given.Others.Walks.{given_up}
-use Rattle.papaya_mapping.specs.Given.Moments.Whole.{ShowsWhole}
+use Rattle.papaya_mapping.specs.Given.SeizeWordsMem.{Mem}
+use Rattle.papaya_mapping.specs.Given.SeizeLaw.{Ended}
+use Rattle.papaya_mapping.specs.Given.SeizeWorld.{World, with_effect}
+use Rattle.papaya_mapping.specs.Given.SeizeDeclared.progress.Progress.{Progress}
+use Rattle.papaya_mapping.specs.Given.SeizeDeclared.rows.settle.Settled.{Settled}
+use Rattle.papaya_mapping.specs.Given.TablesDeclared.node.Node.{Node}
+use Rattle.papaya_mapping.specs.Given.TablesDeclared.setting.Setting.{Setting}
+use Rattle.papaya_mapping.specs.Given.RunsPresent.{Present, guard_of}
+use Rattle.papaya_mapping.specs.Given.RunsDeclared.holders.Guard.{Guard}
+use Rattle.papaya_mapping.specs.Given.SchedulesDeclared.call.Call.{Call}
+use Rattle.papaya_mapping.specs.Given.SchedulesDeclared.call.Reply.{Reply}
+use Rattle.papaya_mapping.specs.Given.SchedulesDeclared.outcome.Outcome.{Outcome}
+use Rattle.papaya_mapping.specs.Given.SchedulesBeginning.{with_call, with_map}
+use Rattle.papaya_mapping.specs.Given.SchedulesEffects.{with_effects}
+use Rattle.papaya_mapping.specs.Given.SchedulesModel.{thing_back}
+use Rattle.papaya_mapping.specs.Given.SchedulesMoment.{MapThere, Remains, Sheltered, Moment}
+use Rattle.papaya_mapping.specs.Given.EffectsEffects.{effects_of, known_after}
+use Rattle.papaya_mapping.specs.Given.EffectsKnown.{Known}
+use Rattle.papaya_mapping.specs.Given.EffectsDeclared.acting.Acting.TheVariants as acts
+use Rattle.papaya_mapping.specs.Given.FinishesEndings.{Finishing}
+use Rattle.papaya_mapping.specs.Given.FinishesMakings.{Beginning}
+use Rattle.papaya_mapping.specs.Given.ScenesDeclared.row.SlotCall.{SlotCall}
+use Rattle.papaya_mapping.specs.Given.ScenesDeclared.row.SlotCall.TheVariants as call
+use Rattle.papaya_mapping.specs.Given.FollowsCalling.{told as told_so, come_to}
+use Rattle.papaya_mapping.specs.Given.OthersEndings.{without_map}
+use Rattle.papaya_mapping.specs.Given.OthersMakings.{WasNew}
+use Rattle.papaya_mapping.specs.Given.OthersWalks.{given_up}
+use Rattle.papaya_mapping.specs.Given.MomentsWhole.{ShowsWhole}
 use Rattle.papaya_promises.specs.Sheltered.{GuardsAreInside, AreSheltered, SectionsHold}
-use Rattle.papaya_mapping.specs.Given.Scenes.Ending.{EndingLeads}
-use Rattle.papaya_mapping.specs.Given.Scenes.Held.{Held, IsAt}
-use Rattle.papaya_mapping.specs.Given.Scenes.Making.{MakingLeads}
-use Rattle.papaya_mapping.specs.Given.Scenes.OnSlots.{RowBegins}
-use Rattle.papaya_mapping.specs.Given.Scenes.Scene.{Scene, slot_of}
+use Rattle.papaya_mapping.specs.Given.ScenesEnding.{EndingLeads}
+use Rattle.papaya_mapping.specs.Given.ScenesHeld.{Held, IsAt}
+use Rattle.papaya_mapping.specs.Given.ScenesMaking.{MakingLeads}
+use Rattle.papaya_mapping.specs.Given.ScenesOnSlots.{RowBegins}
+use Rattle.papaya_mapping.specs.Given.ScenesScene.{Scene, slot_of}
 
 -- no guard that is there is on this slot
 abbrev pub NobodyOn : ℕ → Present → Type 0

@@ -1,47 +1,47 @@
 -- What is promised of an event as it goes on: what left its map in sections that it does not end is sheltered by these, and not reclaimed.
 use Rattle.std.specs.Prelude.{◌≡◌, ℕ, Bool, true, false, List, [], ◌++◌, Option, Some, None, flat_map}
-use Rattle.papaya_mapping.specs.Given.Seize.World.{World, Step, IsInside}
-use Rattle.papaya_mapping.specs.Given.Seize.declared.progress.Progress.{Progress as Making}
-use Rattle.papaya_mapping.specs.Given.Seize.declared.rows.settle.Settled.{Settled}
-use Rattle.papaya_mapping.specs.Given.Tables.declared.node.Node.{Node}
-use Rattle.papaya_mapping.specs.Given.Tables.declared.setting.Setting.{Setting}
-use Rattle.papaya_mapping.specs.Given.Raw.declared.machines.progress.Progress.{Progress}
-use Rattle.papaya_mapping.specs.Given.Runs.Present.{Present, nobody, guard_of, slot_of_registration, drops}
-use Rattle.papaya_mapping.specs.Given.Runs.declared.holders.Guard.{Guard}
-use Rattle.papaya_mapping.specs.Given.Schedules.declared.effect.Effect.{Effect}
-use Rattle.papaya_mapping.specs.Given.Schedules.declared.event.Event.{Event}
-use Rattle.papaya_mapping.specs.Given.Schedules.declared.event.Event.TheVariants.{Register, Unregister, Enter, Own, Refresh, Flush, DropGuard, ReclaimAll, Close}
-use Rattle.papaya_mapping.specs.Given.Schedules.declared.outcome.Outcome.{Outcome}
-use Rattle.papaya_mapping.specs.Given.Schedules.declared.outcome.Outcome.TheVariants.{Done, Slot}
-use Rattle.papaya_mapping.specs.Given.Schedules.After.{sheltered_on, after, moment}
-use Rattle.papaya_mapping.specs.Given.Schedules.Beginning.{at_work}
-use Rattle.papaya_mapping.specs.Given.Schedules.Effects.{with_effects, worked}
-use Rattle.papaya_mapping.specs.Given.Schedules.Entry.{Entry, caller_of, acted_on}
-use Rattle.papaya_mapping.specs.Given.Schedules.Model.{thing_back}
-use Rattle.papaya_mapping.specs.Given.Schedules.Moment.{Sheltered, Moment}
-use Rattle.papaya_mapping.specs.Given.Schedules.Reclaims.{IsProtected}
-use Rattle.papaya_mapping.specs.Given.Callers.Together.{UnderWay}
-use Rattle.papaya_mapping.specs.Given.Effects.Effects.{effects_of, known_after}
-use Rattle.papaya_mapping.specs.Given.Effects.Known.{Known}
-use Rattle.papaya_mapping.specs.Given.Effects.declared.acting.Acting.TheVariants as acts
-use Rattle.papaya_mapping.specs.Given.Finishes.Endings.{Finishing}
-use Rattle.papaya_mapping.specs.Given.Finishes.Makings.{Beginning}
-use Rattle.papaya_mapping.specs.Given.Scenes.declared.row.RowTold.{RowTold}
-use Rattle.papaya_mapping.specs.Given.Scenes.declared.row.SlotCall.{SlotCall}
-use Rattle.papaya_mapping.specs.Given.Scenes.declared.row.SlotRow.{SlotRow}
-use Rattle.papaya_mapping.specs.Given.Others.Makings.{WasNew}
-use Rattle.papaya_mapping.specs.Given.Others.Rows.{scene_then}
-use Rattle.papaya_mapping.specs.Given.Moments.Whole.{ShowsWhole}
+use Rattle.papaya_mapping.specs.Given.SeizeWorld.{World, Step, IsInside}
+use Rattle.papaya_mapping.specs.Given.SeizeDeclared.progress.Progress.{Progress as Making}
+use Rattle.papaya_mapping.specs.Given.SeizeDeclared.rows.settle.Settled.{Settled}
+use Rattle.papaya_mapping.specs.Given.TablesDeclared.node.Node.{Node}
+use Rattle.papaya_mapping.specs.Given.TablesDeclared.setting.Setting.{Setting}
+use Rattle.papaya_mapping.specs.Given.RawDeclared.machines.progress.Progress.{Progress}
+use Rattle.papaya_mapping.specs.Given.RunsPresent.{Present, nobody, guard_of, slot_of_registration, drops}
+use Rattle.papaya_mapping.specs.Given.RunsDeclared.holders.Guard.{Guard}
+use Rattle.papaya_mapping.specs.Given.SchedulesDeclared.effect.Effect.{Effect}
+use Rattle.papaya_mapping.specs.Given.SchedulesDeclared.event.Event.{Event}
+use Rattle.papaya_mapping.specs.Given.SchedulesDeclared.event.Event.TheVariants.{Register, Unregister, Enter, Own, Refresh, Flush, DropGuard, ReclaimAll, Close}
+use Rattle.papaya_mapping.specs.Given.SchedulesDeclared.outcome.Outcome.{Outcome}
+use Rattle.papaya_mapping.specs.Given.SchedulesDeclared.outcome.Outcome.TheVariants.{Done, Slot}
+use Rattle.papaya_mapping.specs.Given.SchedulesAfter.{sheltered_on, after, moment}
+use Rattle.papaya_mapping.specs.Given.SchedulesBeginning.{at_work}
+use Rattle.papaya_mapping.specs.Given.SchedulesEffects.{with_effects, worked}
+use Rattle.papaya_mapping.specs.Given.SchedulesEntry.{Entry, caller_of, acted_on}
+use Rattle.papaya_mapping.specs.Given.SchedulesModel.{thing_back}
+use Rattle.papaya_mapping.specs.Given.SchedulesMoment.{Sheltered, Moment}
+use Rattle.papaya_mapping.specs.Given.SchedulesReclaims.{IsProtected}
+use Rattle.papaya_mapping.specs.Given.CallersTogether.{UnderWay}
+use Rattle.papaya_mapping.specs.Given.EffectsEffects.{effects_of, known_after}
+use Rattle.papaya_mapping.specs.Given.EffectsKnown.{Known}
+use Rattle.papaya_mapping.specs.Given.EffectsDeclared.acting.Acting.TheVariants as acts
+use Rattle.papaya_mapping.specs.Given.FinishesEndings.{Finishing}
+use Rattle.papaya_mapping.specs.Given.FinishesMakings.{Beginning}
+use Rattle.papaya_mapping.specs.Given.ScenesDeclared.row.RowTold.{RowTold}
+use Rattle.papaya_mapping.specs.Given.ScenesDeclared.row.SlotCall.{SlotCall}
+use Rattle.papaya_mapping.specs.Given.ScenesDeclared.row.SlotRow.{SlotRow}
+use Rattle.papaya_mapping.specs.Given.OthersMakings.{WasNew}
+use Rattle.papaya_mapping.specs.Given.OthersRows.{scene_then}
+use Rattle.papaya_mapping.specs.Given.MomentsWhole.{ShowsWhole}
 use Rattle.papaya_promises.specs.Guards.{EntersInside}
 use Rattle.papaya_promises.specs.Others.{SparesGuards}
 use Rattle.papaya_promises.specs.Sheltered.{GuardsAreInside, AreSheltered, SectionsHold}
 use Rattle.papaya_promises.specs.Shelters.{NoneIsBack}
-use Rattle.papaya_mapping.specs.Given.Scenes.Ending.{EndingLeads}
-use Rattle.papaya_mapping.specs.Given.Scenes.Held.{Held, IsAt}
-use Rattle.papaya_mapping.specs.Given.Scenes.Making.{MakingLeads}
-use Rattle.papaya_mapping.specs.Given.Scenes.OnSlots.{RowBegins, RowLeads}
-use Rattle.papaya_mapping.specs.Given.Scenes.Scene.{IsOnSlot, Scene, slot_of}
-use Rattle.papaya_mapping.specs.Given.Scenes.Stepping.{StepLeads}
+use Rattle.papaya_mapping.specs.Given.ScenesEnding.{EndingLeads}
+use Rattle.papaya_mapping.specs.Given.ScenesHeld.{Held, IsAt}
+use Rattle.papaya_mapping.specs.Given.ScenesMaking.{MakingLeads}
+use Rattle.papaya_mapping.specs.Given.ScenesOnSlots.{RowBegins, RowLeads}
+use Rattle.papaya_mapping.specs.Given.ScenesScene.{IsOnSlot, Scene, slot_of}
+use Rattle.papaya_mapping.specs.Given.ScenesStepping.{StepLeads}
 
 -- rows on slots are its work
 abbrev pub is_of_slots : {K V : Type 0} → Event K V → Bool

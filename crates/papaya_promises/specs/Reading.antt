@@ -1,30 +1,30 @@
 -- Lookups that are under way at a moment of a run: what they have read so far.
 use Rattle.std.specs.Prelude.{◌≡◌, ℕ, suc, ◌+◌, ◌==◌, ◌≤◌, Bool, true, false, List, [], Option, Some, if◌then◌else◌}
-use Rattle.papaya_mapping.specs.Given.Tables.Chunks.{is_incremental}
-use Rattle.papaya_mapping.specs.Given.Tables.declared.node.Node.{Node}
-use Rattle.papaya_mapping.specs.Given.Resize.declared.lookup.Lookup.{Lookup}
-use Rattle.papaya_mapping.specs.Given.Raw.declared.machines.call.Calling.TheVariants as at
-use Rattle.papaya_mapping.specs.Given.Raw.declared.machines.progress.Progress.{Progress}
-use Rattle.papaya_mapping.specs.Given.Rule.Chart.{Chart}
-use Rattle.papaya_mapping.specs.Given.Schedules.declared.call.Call.{Call}
-use Rattle.papaya_mapping.specs.Given.Schedules.declared.call.Call.TheVariants.{On}
-use Rattle.papaya_mapping.specs.Given.Schedules.Moment.{UnderWay as CallThere, Moment}
-use Rattle.papaya_mapping.specs.Given.Schedules.Sequential.{is_lookup}
-use Rattle.papaya_mapping.specs.Given.Schedules.Views.{call_of}
-use Rattle.papaya_mapping.specs.Given.Callers.Together.{UnderWay, OnKey}
-use Rattle.papaya_mapping.specs.Given.Finishes.Maps.{Standing}
-use Rattle.papaya_mapping.specs.Given.Effects.Effects.{effects_of}
-use Rattle.papaya_mapping.specs.Given.Effects.Known.{Known}
-use Rattle.papaya_mapping.specs.Given.Effects.declared.acting.Acting.TheVariants as acts
-use Rattle.papaya_mapping.specs.Given.Moments.Whole.{ShowsWhole}
+use Rattle.papaya_mapping.specs.Given.TablesChunks.{is_incremental}
+use Rattle.papaya_mapping.specs.Given.TablesDeclared.node.Node.{Node}
+use Rattle.papaya_mapping.specs.Given.ResizeDeclared.lookup.Lookup.{Lookup}
+use Rattle.papaya_mapping.specs.Given.RawDeclared.machines.call.Calling.TheVariants as at
+use Rattle.papaya_mapping.specs.Given.RawDeclared.machines.progress.Progress.{Progress}
+use Rattle.papaya_mapping.specs.Given.RuleChart.{Chart}
+use Rattle.papaya_mapping.specs.Given.SchedulesDeclared.call.Call.{Call}
+use Rattle.papaya_mapping.specs.Given.SchedulesDeclared.call.Call.TheVariants.{On}
+use Rattle.papaya_mapping.specs.Given.SchedulesMoment.{UnderWay as CallThere, Moment}
+use Rattle.papaya_mapping.specs.Given.SchedulesSequential.{is_lookup}
+use Rattle.papaya_mapping.specs.Given.SchedulesViews.{call_of}
+use Rattle.papaya_mapping.specs.Given.CallersTogether.{UnderWay, OnKey}
+use Rattle.papaya_mapping.specs.Given.FinishesMaps.{Standing}
+use Rattle.papaya_mapping.specs.Given.EffectsEffects.{effects_of}
+use Rattle.papaya_mapping.specs.Given.EffectsKnown.{Known}
+use Rattle.papaya_mapping.specs.Given.EffectsDeclared.acting.Acting.TheVariants as acts
+use Rattle.papaya_mapping.specs.Given.MomentsWhole.{ShowsWhole}
 use Rattle.papaya_promises.specs.Brief.{TablesLast, ReadsSince}
-use Rattle.papaya_mapping.specs.Given.Scenes.Held.{Held, IsAt}
-use Rattle.papaya_mapping.specs.Given.Scenes.Scene.{Scene}
-use Rattle.papaya_mapping.specs.Given.Scenes.Stepping.{StepLeads, scene_after}
-use Rattle.papaya_mapping.specs.Given.Schedules.Transition.{Past, further}
-use Rattle.papaya_mapping.specs.Given.Histories.Histories.{IsPast}
-use Rattle.papaya_mapping.specs.Given.Schedules.Entry.{IfCall, acting}
-use Rattle.papaya_mapping.specs.Given.Schedules.Steps.{IsBrief}
+use Rattle.papaya_mapping.specs.Given.ScenesHeld.{Held, IsAt}
+use Rattle.papaya_mapping.specs.Given.ScenesScene.{Scene}
+use Rattle.papaya_mapping.specs.Given.ScenesStepping.{StepLeads, scene_after}
+use Rattle.papaya_mapping.specs.Given.SchedulesTransition.{Past, further}
+use Rattle.papaya_mapping.specs.Given.HistoriesHistories.{IsPast}
+use Rattle.papaya_mapping.specs.Given.SchedulesEntry.{IfCall, acting}
+use Rattle.papaya_mapping.specs.Given.SchedulesSteps.{IsBrief}
 
 module _ {K V : Type 0} where
   -- the call is a lookup

@@ -1,31 +1,31 @@
 -- What is promised of what left its map while guards were there: each kind of step leaves it sheltered, and reclaims none of it.
 use Rattle.std.specs.Prelude.{◌≡◌, ℕ, Bool, false, List, [], ◌++◌, Some, flat_map}
 use Rattle.std.specs.List.{AllByRecursion}
-use Rattle.papaya_mapping.specs.Given.Seize.World.{Step}
-use Rattle.papaya_mapping.specs.Given.Tables.declared.node.Node.{Node}
-use Rattle.papaya_mapping.specs.Given.Raw.declared.machines.progress.Progress.{Progress}
-use Rattle.papaya_mapping.specs.Given.Runs.Present.{Present}
-use Rattle.papaya_mapping.specs.Given.Schedules.declared.effect.Effect.{Effect}
-use Rattle.papaya_mapping.specs.Given.Schedules.Effects.{with_effects}
-use Rattle.papaya_mapping.specs.Given.Schedules.Lists.{is_in}
-use Rattle.papaya_mapping.specs.Given.Schedules.Model.{thing_back}
-use Rattle.papaya_mapping.specs.Given.Schedules.Moment.{Sheltered, Moment}
-use Rattle.papaya_mapping.specs.Given.Schedules.Things.{same_thing}
-use Rattle.papaya_mapping.specs.Given.Callers.Together.{UnderWay}
-use Rattle.papaya_mapping.specs.Given.Effects.Effects.{effects_of, known_after}
-use Rattle.papaya_mapping.specs.Given.Effects.Known.{Known}
-use Rattle.papaya_mapping.specs.Given.Effects.declared.acting.Acting.TheVariants as acts
-use Rattle.papaya_mapping.specs.Given.Scenes.declared.row.RowTold.{RowTold}
-use Rattle.papaya_mapping.specs.Given.Scenes.declared.row.SlotRow.{SlotRow}
-use Rattle.papaya_mapping.specs.Given.Others.Rows.{scene_then}
-use Rattle.papaya_mapping.specs.Given.Moments.Whole.{ShowsWhole}
+use Rattle.papaya_mapping.specs.Given.SeizeWorld.{Step}
+use Rattle.papaya_mapping.specs.Given.TablesDeclared.node.Node.{Node}
+use Rattle.papaya_mapping.specs.Given.RawDeclared.machines.progress.Progress.{Progress}
+use Rattle.papaya_mapping.specs.Given.RunsPresent.{Present}
+use Rattle.papaya_mapping.specs.Given.SchedulesDeclared.effect.Effect.{Effect}
+use Rattle.papaya_mapping.specs.Given.SchedulesEffects.{with_effects}
+use Rattle.papaya_mapping.specs.Given.SchedulesLists.{is_in}
+use Rattle.papaya_mapping.specs.Given.SchedulesModel.{thing_back}
+use Rattle.papaya_mapping.specs.Given.SchedulesMoment.{Sheltered, Moment}
+use Rattle.papaya_mapping.specs.Given.SchedulesThings.{same_thing}
+use Rattle.papaya_mapping.specs.Given.CallersTogether.{UnderWay}
+use Rattle.papaya_mapping.specs.Given.EffectsEffects.{effects_of, known_after}
+use Rattle.papaya_mapping.specs.Given.EffectsKnown.{Known}
+use Rattle.papaya_mapping.specs.Given.EffectsDeclared.acting.Acting.TheVariants as acts
+use Rattle.papaya_mapping.specs.Given.ScenesDeclared.row.RowTold.{RowTold}
+use Rattle.papaya_mapping.specs.Given.ScenesDeclared.row.SlotRow.{SlotRow}
+use Rattle.papaya_mapping.specs.Given.OthersRows.{scene_then}
+use Rattle.papaya_mapping.specs.Given.MomentsWhole.{ShowsWhole}
 use Rattle.papaya_promises.specs.Sheltered.{GuardsAreInside, AreSheltered}
-use Rattle.papaya_mapping.specs.Given.Scenes.Held.{Held, IsAt}
-use Rattle.papaya_mapping.specs.Given.Scenes.OnSlots.{RowLeads}
-use Rattle.papaya_mapping.specs.Given.Scenes.Scene.{IsOnSlot, Scene}
-use Rattle.papaya_mapping.specs.Given.Scenes.Stepping.{StepLeads}
-use Rattle.papaya_mapping.specs.Given.Schedules.Transition.{Transition}
-use Rattle.papaya_mapping.specs.Given.Schedules.Reclaims.{Protects}
+use Rattle.papaya_mapping.specs.Given.ScenesHeld.{Held, IsAt}
+use Rattle.papaya_mapping.specs.Given.ScenesOnSlots.{RowLeads}
+use Rattle.papaya_mapping.specs.Given.ScenesScene.{IsOnSlot, Scene}
+use Rattle.papaya_mapping.specs.Given.ScenesStepping.{StepLeads}
+use Rattle.papaya_mapping.specs.Given.SchedulesTransition.{Transition}
+use Rattle.papaya_mapping.specs.Given.SchedulesReclaims.{Protects}
 
 -- none of these things is reclaimed by the effects
 abbrev pub NoneIsBack : List Effect → List Sheltered → Type 0

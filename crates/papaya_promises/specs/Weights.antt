@@ -1,12 +1,12 @@
 -- What is promised of the number of steps: each does one thing at most, so an event does no more things than it makes steps; and what it makes it has asked for.
 use Rattle.std.specs.Prelude.{◌≡◌, ℕ, ◌+◌, ◌≤◌, true, false, List, ◌++◌, sum_by}
-use Rattle.papaya_mapping.specs.Given.Schedules.declared.effect.Effect.{Effect}
-use Rattle.papaya_mapping.specs.Given.Schedules.Handing.{is_granted}
-use Rattle.papaya_mapping.specs.Given.Schedules.Steps.{weight}
-use Rattle.papaya_mapping.specs.Given.Teller.declared.changed.Changed.{Changed}
-use Rattle.papaya_mapping.specs.Given.Effects.Effects.{effects_of}
-use Rattle.papaya_mapping.specs.Given.Effects.Known.{Known}
-use Rattle.papaya_mapping.specs.Given.Effects.declared.acting.Acting.{Acting}
+use Rattle.papaya_mapping.specs.Given.SchedulesDeclared.effect.Effect.{Effect}
+use Rattle.papaya_mapping.specs.Given.SchedulesHanding.{is_granted}
+use Rattle.papaya_mapping.specs.Given.SchedulesSteps.{weight}
+use Rattle.papaya_mapping.specs.Given.TellerDeclared.changed.Changed.{Changed}
+use Rattle.papaya_mapping.specs.Given.EffectsEffects.{effects_of}
+use Rattle.papaya_mapping.specs.Given.EffectsKnown.{Known}
+use Rattle.papaya_mapping.specs.Given.EffectsDeclared.acting.Acting.{Acting}
 
 -- these effects are done by so many steps
 abbrev pub AreDoneBy : ℕ → List Effect → Type 0

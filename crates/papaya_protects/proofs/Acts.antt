@@ -4,14 +4,14 @@ use Rattle.papaya_runs.specs.Given.Seize.World.{Begins, World}
 use Rattle.papaya_runs.specs.Given.Tables.Nodes.{deferred_word}
 use Rattle.papaya_runs.specs.Given.Tables.declared.node.Node.{Node}
 use Rattle.papaya_schedules.specs.After.{AtEachEvent}
-use Rattle.papaya_linear.specs.Given.Effects.Known.{Known}
-use Rattle.papaya_linear.specs.Given.Scenes.Rows.{request_of}
-use Rattle.papaya_linear.specs.Given.Scenes.Scene.{Scene}
-use Rattle.papaya_linear.specs.Given.Scenes.declared.row.SlotCall.{SlotCall}
-use Rattle.papaya_linear.specs.Given.Scenes.declared.row.SlotCall.TheVariants as call
+use Rattle.papaya_linear.specs.Given.EffectsKnown.{Known}
+use Rattle.papaya_linear.specs.Given.ScenesRows.{request_of}
+use Rattle.papaya_linear.specs.Given.ScenesScene.{Scene}
+use Rattle.papaya_linear.specs.Given.ScenesDeclared.row.SlotCall.{SlotCall}
+use Rattle.papaya_linear.specs.Given.ScenesDeclared.row.SlotCall.TheVariants as call
 use Rattle.papaya_deeds.specs.Deeds.{Entry, after, moment}
 use Rattle.papaya_deeds.specs.History.{IsProtected}
-use Rattle.papaya_linear.specs.Given.Played.Play.{State}
+use Rattle.papaya_linear.specs.Given.PlayedPlay.{State}
 use Rattle.papaya_protects.specs.Shelters.{SectionsShelter}
 use Rattle.papaya_protects.proofs.Quiet.{shelters_still}
 use Rattle.papaya_protects.proofs.Sections.{Keeps, keeps_same}

@@ -16,17 +16,17 @@ use Rattle.papaya_schedules.specs.Moment.{Moment, Sheltered}
 use Rattle.papaya_schedules.specs.Things.{same_thing}
 use Rattle.papaya_schedules.specs.declared.effect.Effect.{Effect}
 use Rattle.papaya_schedules.specs.declared.effect.Thing.{Thing}
-use Rattle.papaya_linear.specs.Given.Effects.Known.{Known}
-use Rattle.papaya_linear.proofs.Given.Follows.Calling.{is_same_is, is_same_refl}
-use Rattle.papaya_linear.specs.Given.Promises.Sheltered.{AreShelteredOn, GuardsAreOn, IsShelteredOn}
-use Rattle.papaya_linear.specs.Given.Promises.Shelters.{NoneIsBack}
-use Rattle.papaya_linear.proofs.Given.Promises.Lists.{IsFound, all_of}
-use Rattle.papaya_linear.proofs.Given.Promises.Shelters.Events.{events_are_protected}
+use Rattle.papaya_linear.specs.Given.EffectsKnown.{Known}
+use Rattle.papaya_linear.proofs.Given.FollowsCalling.{is_same_is, is_same_refl}
+use Rattle.papaya_linear.specs.Given.PromisesSheltered.{AreShelteredOn, GuardsAreOn, IsShelteredOn}
+use Rattle.papaya_linear.specs.Given.PromisesShelters.{NoneIsBack}
+use Rattle.papaya_linear.proofs.Given.PromisesLists.{IsFound, all_of}
+use Rattle.papaya_linear.proofs.Given.PromisesShelters.Events.{events_are_protected}
 use Rattle.papaya_deeds.specs.Deeds.{Deed, Entry, after, moment, named, sheltered_on, there_on, worked}
 use Rattle.papaya_deeds.specs.History.{IsProtected, transition}
-use Rattle.papaya_linear.specs.Given.Agrees.Guards.{guard_on}
-use Rattle.papaya_linear.proofs.Given.Agrees.Leads.{LeavesThere, there_after}
-use Rattle.papaya_linear.proofs.Given.Agrees.Lists.{all_kept, found_kept, found_so}
+use Rattle.papaya_linear.specs.Given.AgreesGuards.{guard_on}
+use Rattle.papaya_linear.proofs.Given.AgreesLeads.{LeavesThere, there_after}
+use Rattle.papaya_linear.proofs.Given.AgreesLists.{all_kept, found_kept, found_so}
 use Rattle.papaya_protects.specs.Shelters.{IsOpen, SectionsShelter}
 
 -- where nothing is reclaimed, none of these is

@@ -13,29 +13,29 @@ use Rattle.papaya_runs.specs.Present.{Present}
 use Rattle.papaya_schedules.specs.Effects.{with_effects}
 use Rattle.papaya_schedules.specs.Model.{thing_back}
 use Rattle.papaya_schedules.specs.Moment.{Moment, Sheltered}
-use Rattle.papaya_linear.specs.Given.Callers.Together.{UnderWay}
-use Rattle.papaya_linear.specs.Given.Effects.Effects.{effects_of, known_after}
-use Rattle.papaya_linear.specs.Given.Effects.Known.{Known}
-use Rattle.papaya_linear.specs.Given.Effects.declared.acting.Acting.TheVariants as acts
-use Rattle.papaya_linear.specs.Given.Finishes.Endings.{Finishing}
-use Rattle.papaya_linear.specs.Given.Finishes.FactsEnds.{Deed, JoinsPair, LeavesTable, Looks, TakesCounter, TakesLeft, TakesPair, WritesRoot, events_of}
-use Rattle.papaya_linear.specs.Given.Finishes.Makings.{Beginning}
-use Rattle.papaya_linear.specs.Given.Moments.Whole.{ShowsWhole}
-use Rattle.papaya_linear.specs.Given.Others.Makings.{WasNew}
-use Rattle.papaya_linear.specs.Given.Scenes.Ending.{EndingLeads}
-use Rattle.papaya_linear.specs.Given.Scenes.Held.{Held, IsAt}
-use Rattle.papaya_linear.specs.Given.Scenes.Making.{MakingLeads}
-use Rattle.papaya_linear.specs.Given.Scenes.OnSlots.{RowLeads}
-use Rattle.papaya_linear.specs.Given.Scenes.Scene.{IsOnSlot, Scene}
-use Rattle.papaya_linear.specs.Given.Scenes.Stepping.{StepLeads}
-use Rattle.papaya_linear.specs.Given.Scenes.declared.row.RowTold.{RowTold}
-use Rattle.papaya_linear.specs.Given.Scenes.declared.row.SlotRow.{SlotRow}
-use Rattle.papaya_linear.specs.Given.Promises.Sheltered.{AreShelteredOn, GuardsAreOn}
-use Rattle.papaya_linear.specs.Given.Promises.Shelters.{NoneIsBack}
-use Rattle.papaya_linear.proofs.Given.Promises.Shelters.Calls.{call_shelters}
-use Rattle.papaya_linear.proofs.Given.Promises.Shelters.Ends.{endings_shelter_on}
-use Rattle.papaya_linear.proofs.Given.Promises.Shelters.Makings.{makings_shelter_on}
-use Rattle.papaya_linear.proofs.Given.Promises.Shelters.Rows.{row_shelters}
+use Rattle.papaya_linear.specs.Given.CallersTogether.{UnderWay}
+use Rattle.papaya_linear.specs.Given.EffectsEffects.{effects_of, known_after}
+use Rattle.papaya_linear.specs.Given.EffectsKnown.{Known}
+use Rattle.papaya_linear.specs.Given.EffectsDeclared.acting.Acting.TheVariants as acts
+use Rattle.papaya_linear.specs.Given.FinishesEndings.{Finishing}
+use Rattle.papaya_linear.specs.Given.FinishesFactsEnds.{Deed, JoinsPair, LeavesTable, Looks, TakesCounter, TakesLeft, TakesPair, WritesRoot, events_of}
+use Rattle.papaya_linear.specs.Given.FinishesMakings.{Beginning}
+use Rattle.papaya_linear.specs.Given.MomentsWhole.{ShowsWhole}
+use Rattle.papaya_linear.specs.Given.OthersMakings.{WasNew}
+use Rattle.papaya_linear.specs.Given.ScenesEnding.{EndingLeads}
+use Rattle.papaya_linear.specs.Given.ScenesHeld.{Held, IsAt}
+use Rattle.papaya_linear.specs.Given.ScenesMaking.{MakingLeads}
+use Rattle.papaya_linear.specs.Given.ScenesOnSlots.{RowLeads}
+use Rattle.papaya_linear.specs.Given.ScenesScene.{IsOnSlot, Scene}
+use Rattle.papaya_linear.specs.Given.ScenesStepping.{StepLeads}
+use Rattle.papaya_linear.specs.Given.ScenesDeclared.row.RowTold.{RowTold}
+use Rattle.papaya_linear.specs.Given.ScenesDeclared.row.SlotRow.{SlotRow}
+use Rattle.papaya_linear.specs.Given.PromisesSheltered.{AreShelteredOn, GuardsAreOn}
+use Rattle.papaya_linear.specs.Given.PromisesShelters.{NoneIsBack}
+use Rattle.papaya_linear.proofs.Given.PromisesShelters.Calls.{call_shelters}
+use Rattle.papaya_linear.proofs.Given.PromisesShelters.Ends.{endings_shelter_on}
+use Rattle.papaya_linear.proofs.Given.PromisesShelters.Makings.{makings_shelter_on}
+use Rattle.papaya_linear.proofs.Given.PromisesShelters.Rows.{row_shelters}
 use Rattle.papaya_protects.specs.Shelters.{IsOpen, SectionsShelter}
 use Rattle.papaya_protects.proofs.Goes.{IsSpared, open_sections, spared_by_rows, spared_sections}
 use Rattle.papaya_protects.proofs.Sections.{step_keeps}

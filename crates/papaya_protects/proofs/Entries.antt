@@ -16,29 +16,29 @@ use Rattle.papaya_schedules.specs.Moment.{Moment, UnderWay as CallThere}
 use Rattle.papaya_schedules.specs.declared.call.Call.{Call}
 use Rattle.papaya_schedules.specs.declared.effect.Effect.{Effect}
 use Rattle.papaya_schedules.specs.declared.outcome.Outcome.{Outcome}
-use Rattle.papaya_linear.specs.Given.Callers.Together.{UnderWay}
-use Rattle.papaya_linear.proofs.Given.Callers.Together.Came.{came_reached}
-use Rattle.papaya_linear.proofs.Given.SeizeAlone.Histories.Reached.{Reached}
-use Rattle.papaya_linear.specs.Given.Effects.Effects.{effects_of, known_after}
-use Rattle.papaya_linear.specs.Given.Effects.Known.{Known}
-use Rattle.papaya_linear.specs.Given.Effects.declared.acting.Acting.TheVariants as acts
-use Rattle.papaya_linear.specs.Given.Finishes.Endings.{Finishing}
-use Rattle.papaya_linear.specs.Given.Finishes.Makings.{Beginning}
-use Rattle.papaya_linear.specs.Given.Moments.Whole.{ShowsWhole}
-use Rattle.papaya_linear.specs.Given.Others.Makings.{WasNew}
-use Rattle.papaya_linear.specs.Given.Scenes.Ending.{EndingLeads}
-use Rattle.papaya_linear.specs.Given.Scenes.Held.{Held, IsAt}
-use Rattle.papaya_linear.specs.Given.Scenes.Making.{MakingLeads}
-use Rattle.papaya_linear.specs.Given.Scenes.Scene.{HasNoCall, Scene, row_of}
-use Rattle.papaya_linear.specs.Given.Scenes.Stepping.{StepLeads}
-use Rattle.papaya_linear.specs.Given.Scenes.declared.row.SlotRow.{SlotRow}
-use Rattle.papaya_linear.specs.Given.Promises.Sheltered.{AreShelteredOn, GuardsAreOn}
+use Rattle.papaya_linear.specs.Given.CallersTogether.{UnderWay}
+use Rattle.papaya_linear.proofs.Given.CallersTogether.Came.{came_reached}
+use Rattle.papaya_linear.proofs.Given.SeizeAloneHistories.Reached.{Reached}
+use Rattle.papaya_linear.specs.Given.EffectsEffects.{effects_of, known_after}
+use Rattle.papaya_linear.specs.Given.EffectsKnown.{Known}
+use Rattle.papaya_linear.specs.Given.EffectsDeclared.acting.Acting.TheVariants as acts
+use Rattle.papaya_linear.specs.Given.FinishesEndings.{Finishing}
+use Rattle.papaya_linear.specs.Given.FinishesMakings.{Beginning}
+use Rattle.papaya_linear.specs.Given.MomentsWhole.{ShowsWhole}
+use Rattle.papaya_linear.specs.Given.OthersMakings.{WasNew}
+use Rattle.papaya_linear.specs.Given.ScenesEnding.{EndingLeads}
+use Rattle.papaya_linear.specs.Given.ScenesHeld.{Held, IsAt}
+use Rattle.papaya_linear.specs.Given.ScenesMaking.{MakingLeads}
+use Rattle.papaya_linear.specs.Given.ScenesScene.{HasNoCall, Scene, row_of}
+use Rattle.papaya_linear.specs.Given.ScenesStepping.{StepLeads}
+use Rattle.papaya_linear.specs.Given.ScenesDeclared.row.SlotRow.{SlotRow}
+use Rattle.papaya_linear.specs.Given.PromisesSheltered.{AreShelteredOn, GuardsAreOn}
 use Rattle.papaya_deeds.specs.Deeds.{Deed, Ends, Entry, Makes, MapComes, MapFails, MapGoes, Steps, acted_on, after, at_work, begun, caller_of, map_of_call, moment, named, worked}
 use Rattle.papaya_deeds.specs.History.{IsProtected}
-use Rattle.papaya_linear.specs.Given.Played.Play.{Ending, State, ending_deed, has_root, is_over, making_deed, pairs_for}
-use Rattle.papaya_linear.specs.Given.Played.Reached.{IsOf, row_or_rests}
-use Rattle.papaya_linear.proofs.Given.Played.Noted.{IsNoted}
-use Rattle.papaya_linear.specs.Given.Agrees.Guards.{GuardsAgree}
+use Rattle.papaya_linear.specs.Given.PlayedPlay.{Ending, State, ending_deed, has_root, is_over, making_deed, pairs_for}
+use Rattle.papaya_linear.specs.Given.PlayedReached.{IsOf, row_or_rests}
+use Rattle.papaya_linear.proofs.Given.PlayedNoted.{IsNoted}
+use Rattle.papaya_linear.specs.Given.AgreesGuards.{GuardsAgree}
 use Rattle.papaya_protects.specs.Shelters.{IsOpen, SectionsShelter}
 use Rattle.papaya_protects.proofs.After.{IsCalm, calm_shelters, none_back, protected_so}
 use Rattle.papaya_protects.proofs.Guards.{all_spared, guards_spared}

@@ -5,16 +5,16 @@ use Rattle.papaya_runs.specs.Given.Seize.Law.{Deferred}
 use Rattle.papaya_runs.specs.Given.Seize.World.{Begin, Defer', Defers, Enter', Flush, Happens, IsInside, Leave', LeaveOwned, Leaves, Refresh, Register', Request, Retire, Row, Settles, Unregister', World}
 use Rattle.papaya_runs.specs.Given.Seize.declared.rows.leave.Leave.{Leave}
 use Rattle.papaya_runs.specs.Given.Seize.declared.rows.leave.Leaving.TheVariants as leaving
-use Rattle.papaya_linear.proofs.Given.SeizeAlone.Histories.Reached.{Reached}
-use Rattle.papaya_linear.proofs.Given.SeizeRule.Rows.Known.{leaving_on, works_on}
-use Rattle.papaya_linear.proofs.Given.SeizeRule.Rows.Teams.{is_shared, no_other, shares}
+use Rattle.papaya_linear.proofs.Given.SeizeAloneHistories.Reached.{Reached}
+use Rattle.papaya_linear.proofs.Given.SeizeRuleRows.Known.{leaving_on, works_on}
+use Rattle.papaya_linear.proofs.Given.SeizeRuleRows.Teams.{is_shared, no_other, shares}
 use Rattle.papaya_runs.specs.Given.Tables.Nodes.{deferred_word}
 use Rattle.papaya_runs.specs.Given.Tables.declared.node.Node.{Node}
 use Rattle.papaya_runs.specs.Given.Tables.declared.setting.Setting.{Setting}
-use Rattle.papaya_linear.specs.Given.Callers.Together.{HandsOver, IsOneStep}
-use Rattle.papaya_linear.proofs.Given.Callers.Together.At.{at_same}
-use Rattle.papaya_linear.proofs.Given.Promises.Shelters.Within.{GoOnByRows, Sections}
-use Rattle.papaya_linear.proofs.Given.Agrees.Slots.{inside_shared}
+use Rattle.papaya_linear.specs.Given.CallersTogether.{HandsOver, IsOneStep}
+use Rattle.papaya_linear.proofs.Given.CallersTogether.At.{at_same}
+use Rattle.papaya_linear.proofs.Given.PromisesShelters.Within.{GoOnByRows, Sections}
+use Rattle.papaya_linear.proofs.Given.AgreesSlots.{inside_shared}
 use Rattle.papaya_protects.specs.Shelters.{IsOpen}
 use Rattle.papaya_protects.proofs.Sections.{Keeps, Spares, keeps_by, keeps_same, keeps_then, step_keeps, users_keep}
 

@@ -2,21 +2,21 @@
 use Rattle.std.specs.Prelude.{Option, Some, None}
 use Rattle.std.proofs.Common.{◌≡◌, ℕ, List, inl, inr, ap, sym, ◌∙◌}
 use Rattle.papaya_runs.specs.Given.Seize.World.{World}
-use Rattle.papaya_linear.proofs.Given.SeizeAlone.Histories.Reached.{Reached}
+use Rattle.papaya_linear.proofs.Given.SeizeAloneHistories.Reached.{Reached}
 use Rattle.papaya_runs.specs.Given.Tables.Nodes.{deferred_word}
 use Rattle.papaya_runs.specs.Given.Tables.declared.node.Node.{Node}
 use Rattle.papaya_runs.specs.Present.{Present, guard_of}
 use Rattle.papaya_runs.specs.Same.{is_same}
 use Rattle.papaya_runs.specs.declared.holders.Guard.{Guard}
 use Rattle.papaya_schedules.specs.Moment.{Sheltered}
-use Rattle.papaya_linear.specs.Given.Effects.Known.{Known}
-use Rattle.papaya_linear.specs.Given.Promises.Sheltered.{AreShelteredOn, GuardsAreOn, IsShelteredOn}
-use Rattle.papaya_linear.proofs.Given.Promises.Lists.{all_of}
-use Rattle.papaya_linear.specs.Given.Scenes.Scene.{row_of}
-use Rattle.papaya_linear.specs.Given.Scenes.declared.row.SlotRow.{SlotRow}
-use Rattle.papaya_linear.specs.Given.Scenes.declared.row.SlotRow.TheVariants as rows
-use Rattle.papaya_linear.specs.Given.Agrees.Guards.{GuardsAre, IsOpen as IsOpenOn, guard_on}
-use Rattle.papaya_linear.proofs.Given.Agrees.Lists.{found_so}
+use Rattle.papaya_linear.specs.Given.EffectsKnown.{Known}
+use Rattle.papaya_linear.specs.Given.PromisesSheltered.{AreShelteredOn, GuardsAreOn, IsShelteredOn}
+use Rattle.papaya_linear.proofs.Given.PromisesLists.{all_of}
+use Rattle.papaya_linear.specs.Given.ScenesScene.{row_of}
+use Rattle.papaya_linear.specs.Given.ScenesDeclared.row.SlotRow.{SlotRow}
+use Rattle.papaya_linear.specs.Given.ScenesDeclared.row.SlotRow.TheVariants as rows
+use Rattle.papaya_linear.specs.Given.AgreesGuards.{GuardsAre, IsOpen as IsOpenOn, guard_on}
+use Rattle.papaya_linear.proofs.Given.AgreesLists.{found_so}
 use Rattle.papaya_protects.specs.Shelters.{IsOpen}
 use Rattle.papaya_protects.proofs.Goes.{IsSpared, inside_spares, leaving_spares}
 use Rattle.papaya_protects.proofs.Sections.{Spares}

@@ -1,8 +1,8 @@
 -- Each act that is played leaves it so: nothing is reclaimed that is sheltered, and what is is sheltered still.
 use Rattle.std.specs.Prelude.{Bool, true, false, Some, is_ok, length, if◌then◌else◌}
 use Rattle.std.proofs.Common.{◌≡◌, ℕ, [], ◌∷◌, refl, ap, sym, subst, ◌∙◌}
-use Rattle.papaya_linear.specs.Given.SeizeActs.Acts.{row_steps}
-use Rattle.papaya_linear.specs.Given.SeizeActs.Answers.{Grant}
+use Rattle.papaya_linear.specs.Given.SeizeActsActs.{row_steps}
+use Rattle.papaya_linear.specs.Given.SeizeActsAnswers.{Grant}
 use Rattle.papaya_runs.specs.Given.Seize.Law.{Ended}
 use Rattle.papaya_runs.specs.Given.Seize.World.{Row, World}
 use Rattle.papaya_runs.specs.Given.Seize.declared.progress.Progress.{Progress}
@@ -19,33 +19,33 @@ use Rattle.papaya_runs.specs.declared.holders.Guard.{Guard}
 use Rattle.papaya_schedules.specs.Moment.{Moment}
 use Rattle.papaya_schedules.specs.declared.outcome.Outcome.{Outcome}
 use Rattle.papaya_schedules.specs.declared.outcome.Outcome.TheVariants as outcome
-use Rattle.papaya_linear.specs.Given.Teller.declared.changed.Changed.{Changed}
-use Rattle.papaya_linear.specs.Given.Teller.declared.changed.Changed.TheVariants.{Nothing as NoChange}
-use Rattle.papaya_linear.specs.Given.Effects.Effects.{effects_of, known_after}
-use Rattle.papaya_linear.specs.Given.Effects.declared.acting.Acting.TheVariants as acts
-use Rattle.papaya_linear.specs.Given.Finishes.Endings.{Finishing}
-use Rattle.papaya_linear.specs.Given.Finishes.FactsEnds.{Deed as EndDeed}
-use Rattle.papaya_linear.specs.Given.Finishes.Makings.{Beginning}
-use Rattle.papaya_linear.specs.Given.Others.Makings.{WasNew}
-use Rattle.papaya_linear.specs.Given.Scenes.Ending.{EndingComesTo}
-use Rattle.papaya_linear.specs.Given.Scenes.Held.{Held, IsAt}
-use Rattle.papaya_linear.specs.Given.Scenes.Making.{MakingComesTo, MakingLeads}
-use Rattle.papaya_linear.specs.Given.Scenes.Scene.{HasNoCall, IsOnSlot, Scene, row_of, slot_of}
-use Rattle.papaya_linear.specs.Given.Acts.Acts.{Act, Answer, AsksCall, BeginsCall, BeginsEnding, BeginsMaking, BeginsRow, OfEnding, OfMaking, StepsCall, StepsEnding, StepsMaking, StepsRow, StopsCall, TellsCall}
-use Rattle.papaya_linear.specs.Given.Acts.AsSteps.{EndedTo, LeadsAs, MadeTo, changed_by, held_in, row_changed, row_told}
-use Rattle.papaya_linear.specs.Given.Acts.Leads.{Led, MayBe}
+use Rattle.papaya_linear.specs.Given.TellerDeclared.changed.Changed.{Changed}
+use Rattle.papaya_linear.specs.Given.TellerDeclared.changed.Changed.TheVariants.{Nothing as NoChange}
+use Rattle.papaya_linear.specs.Given.EffectsEffects.{effects_of, known_after}
+use Rattle.papaya_linear.specs.Given.EffectsDeclared.acting.Acting.TheVariants as acts
+use Rattle.papaya_linear.specs.Given.FinishesEndings.{Finishing}
+use Rattle.papaya_linear.specs.Given.FinishesFactsEnds.{Deed as EndDeed}
+use Rattle.papaya_linear.specs.Given.FinishesMakings.{Beginning}
+use Rattle.papaya_linear.specs.Given.OthersMakings.{WasNew}
+use Rattle.papaya_linear.specs.Given.ScenesEnding.{EndingComesTo}
+use Rattle.papaya_linear.specs.Given.ScenesHeld.{Held, IsAt}
+use Rattle.papaya_linear.specs.Given.ScenesMaking.{MakingComesTo, MakingLeads}
+use Rattle.papaya_linear.specs.Given.ScenesScene.{HasNoCall, IsOnSlot, Scene, row_of, slot_of}
+use Rattle.papaya_linear.specs.Given.ActsActs.{Act, Answer, AsksCall, BeginsCall, BeginsEnding, BeginsMaking, BeginsRow, OfEnding, OfMaking, StepsCall, StepsEnding, StepsMaking, StepsRow, StopsCall, TellsCall}
+use Rattle.papaya_linear.specs.Given.ActsAsSteps.{EndedTo, LeadsAs, MadeTo, changed_by, held_in, row_changed, row_told}
+use Rattle.papaya_linear.specs.Given.ActsLeads.{Led, MayBe}
 use Rattle.papaya_deeds.specs.Deeds.{Begins, Entry, Replies, Steps, Stops, begun, moment}
-use Rattle.papaya_linear.specs.Given.Named.Seen.{kind_of}
-use Rattle.papaya_linear.specs.Given.Played.Play.{State, call_for, ending_deed, has_root, is_refusal, making_deed, making_outcome, outcome_of, reply_for, row_deed, row_outcome, row_stepped, settled_outcome}
-use Rattle.papaya_linear.specs.Given.Played.Reached.{IsOf, row_or_rests}
-use Rattle.papaya_linear.proofs.Given.Played.PlayedAs.{PlayedAs}
-use Rattle.papaya_linear.specs.Given.Agrees.Guards.{GuardsAgree, IsOpen as IsOpenOn, guard_on}
-use Rattle.papaya_linear.proofs.Given.Agrees.Openings.{rootless_quiet}
-use Rattle.papaya_linear.proofs.Given.Agrees.Rows.{rows_by}
-use Rattle.papaya_linear.proofs.Given.Promises.Lists.{all_found, all_of}
+use Rattle.papaya_linear.specs.Given.NamedSeen.{kind_of}
+use Rattle.papaya_linear.specs.Given.PlayedPlay.{State, call_for, ending_deed, has_root, is_refusal, making_deed, making_outcome, outcome_of, reply_for, row_deed, row_outcome, row_stepped, settled_outcome}
+use Rattle.papaya_linear.specs.Given.PlayedReached.{IsOf, row_or_rests}
+use Rattle.papaya_linear.proofs.Given.PlayedPlayedAs.{PlayedAs}
+use Rattle.papaya_linear.specs.Given.AgreesGuards.{GuardsAgree, IsOpen as IsOpenOn, guard_on}
+use Rattle.papaya_linear.proofs.Given.AgreesOpenings.{rootless_quiet}
+use Rattle.papaya_linear.proofs.Given.AgreesRows.{rows_by}
+use Rattle.papaya_linear.proofs.Given.PromisesLists.{all_found, all_of}
 use Rattle.papaya_linear.proofs.Holding.{AllHolds}
 use Rattle.papaya_linear.proofs.MakesRight.{was_new}
-use Rattle.papaya_linear.proofs.Given.Played.Tied.{MakingTied, call_tied, ending_tied, making_tied}
+use Rattle.papaya_linear.proofs.Given.PlayedTied.{MakingTied, call_tied, ending_tied, making_tied}
 use Rattle.papaya_protects.specs.Shelters.{IsOpen}
 use Rattle.papaya_protects.proofs.Acts.{Protected, begun_keeps, none_more, one_more}
 use Rattle.papaya_protects.proofs.After.{IsCalm, all_on, protected_so}

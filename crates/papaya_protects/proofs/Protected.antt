@@ -1,10 +1,10 @@
 -- By the history of each list of acts nothing is reclaimed that left its map in a section that goes on.
 use Rattle.std.specs.Prelude.{Bool}
 use Rattle.std.proofs.Common.{ℕ, refl}
-use Rattle.papaya_linear.specs.Given.Scenes.Scene.{slot_of}
-use Rattle.papaya_linear.specs.Given.Acts.Lists.{nothing_done}
-use Rattle.papaya_linear.proofs.Given.Agrees.Guards.{guards_at_first}
-use Rattle.papaya_linear.proofs.Given.Agrees.GivenBack.{again_first}
+use Rattle.papaya_linear.specs.Given.ScenesScene.{slot_of}
+use Rattle.papaya_linear.specs.Given.ActsLists.{nothing_done}
+use Rattle.papaya_linear.proofs.Given.AgreesGuards.{guards_at_first}
+use Rattle.papaya_linear.proofs.Given.AgreesGivenBack.{again_first}
 use Rattle.papaya_linear.proofs.Linear.{wherever_led}
 use Rattle.papaya_linear.proofs.Stays.{first_holds}
 use Rattle.papaya_protects.specs.Protected.{ListsAreProtected}

@@ -11,19 +11,19 @@ use Rattle.papaya_schedules.specs.Given.Resize.NewMap.{plan_at}
 use Rattle.papaya_schedules.specs.Given.Resize.declared.new_map.NewMap.{NewMap}
 use Rattle.papaya_schedules.specs.Given.Resize.declared.new_map.Opening.{Opening}
 use Rattle.papaya_schedules.specs.Given.Resize.declared.new_map.Opening.TheVariants as openings
-use Rattle.papaya_linear.specs.Given.Tells.Seen.{seen_of}
-use Rattle.papaya_linear.specs.Given.Teller.Tells.{StepsTold, told_of}
-use Rattle.papaya_linear.specs.Given.Teller.declared.changed.Changed.{Changed}
-use Rattle.papaya_linear.specs.Given.Teller.declared.changed.Changed.TheVariants as changed
+use Rattle.papaya_linear.specs.Given.TellsSeen.{seen_of}
+use Rattle.papaya_linear.specs.Given.TellerTells.{StepsTold, told_of}
+use Rattle.papaya_linear.specs.Given.TellerDeclared.changed.Changed.{Changed}
+use Rattle.papaya_linear.specs.Given.TellerDeclared.changed.Changed.TheVariants as changed
 use Rattle.papaya_runs.specs.Given.Seize.World.{World}
 use Rattle.papaya_runs.specs.Present.{Present}
 use Rattle.papaya_schedules.specs.Moment.{Moment, Sheltered}
-use Rattle.papaya_linear.specs.Given.Effects.Effects.{known_after}
-use Rattle.papaya_linear.specs.Given.Effects.Known.{Known}
-use Rattle.papaya_linear.specs.Given.Effects.declared.acting.Acting.{Acting}
-use Rattle.papaya_linear.specs.Given.Promises.Sheltered.{AreShelteredOn, IsShelteredOn}
-use Rattle.papaya_linear.proofs.Given.Promises.Lists.{all_of}
-use Rattle.papaya_linear.specs.Given.Played.Play.{has_root}
+use Rattle.papaya_linear.specs.Given.EffectsEffects.{known_after}
+use Rattle.papaya_linear.specs.Given.EffectsKnown.{Known}
+use Rattle.papaya_linear.specs.Given.EffectsDeclared.acting.Acting.{Acting}
+use Rattle.papaya_linear.specs.Given.PromisesSheltered.{AreShelteredOn, IsShelteredOn}
+use Rattle.papaya_linear.proofs.Given.PromisesLists.{all_of}
+use Rattle.papaya_linear.specs.Given.PlayedPlay.{has_root}
 use Rattle.papaya_protects.specs.Shelters.{IsOpen, SectionsShelter}
 use Rattle.papaya_protects.proofs.Sections.{Keeps}
 

@@ -13,37 +13,37 @@ use Rattle.papaya_runs.specs.Given.Seize.declared.rows.register.Registering.TheV
 use Rattle.papaya_runs.specs.Given.Seize.declared.states.TheConstants.{ACTIVE}
 use Rattle.papaya_runs.specs.Given.Tables.Nodes.{deferred_word}
 use Rattle.papaya_runs.specs.Given.Tables.declared.node.Node.{Node}
-use Rattle.papaya_linear.specs.Given.Teller.declared.changed.Changed.{Changed}
-use Rattle.papaya_linear.specs.Given.Teller.declared.changed.Changed.TheVariants as changed
+use Rattle.papaya_linear.specs.Given.TellerDeclared.changed.Changed.{Changed}
+use Rattle.papaya_linear.specs.Given.TellerDeclared.changed.Changed.TheVariants as changed
 use Rattle.papaya_runs.specs.Present.{Present, drops, enters_slot}
 use Rattle.papaya_runs.specs.declared.holders.Guard.{Guard}
 use Rattle.papaya_schedules.specs.After.{unsheltered}
 use Rattle.papaya_schedules.specs.Moment.{Moment, Sheltered}
 use Rattle.papaya_schedules.specs.declared.effect.Effect.{Effect}
-use Rattle.papaya_linear.specs.Given.Effects.Effects.{effects_of, known_after, names_same, taken_by}
-use Rattle.papaya_linear.specs.Given.Effects.Known.{Known}
-use Rattle.papaya_linear.specs.Given.Effects.declared.acting.Acting.TheVariants as acts
-use Rattle.papaya_linear.specs.Given.Effects.declared.role.Role.{Role}
-use Rattle.papaya_linear.specs.Given.Effects.declared.role.Role.TheVariants as role
-use Rattle.papaya_linear.specs.Given.Scenes.Held.{Held, IsAt}
-use Rattle.papaya_linear.specs.Given.Scenes.OnSlots.{RowLeads}
-use Rattle.papaya_linear.specs.Given.Scenes.Scene.{IsOnSlot, Scene}
-use Rattle.papaya_linear.specs.Given.Scenes.declared.row.RowTold.{RowTold}
-use Rattle.papaya_linear.proofs.Given.Callers.Together.Came.{came_reached}
-use Rattle.papaya_linear.proofs.Given.SeizeAlone.Histories.Reached.{Reached}
-use Rattle.papaya_linear.proofs.Given.SeizeAlone.Histories.Uses.{inside_open}
-use Rattle.papaya_linear.proofs.Given.Others.RowPlans.{TellsRow, row_tells}
-use Rattle.papaya_linear.specs.Given.Promises.Sheltered.{AreShelteredOn, GuardsAreOn, IsShelteredOn}
-use Rattle.papaya_linear.specs.Given.Promises.Shelters.{NoneIsBack}
-use Rattle.papaya_linear.proofs.Given.Promises.Lists.{all_of}
-use Rattle.papaya_linear.proofs.Given.Promises.Shelters.Outs.{KeepsIn, keep_all}
-use Rattle.papaya_linear.specs.Given.Scenes.Scene.{row_of}
-use Rattle.papaya_linear.specs.Given.Scenes.declared.row.SlotRow.{SlotRow}
-use Rattle.papaya_linear.specs.Given.Scenes.declared.row.SlotRow.TheVariants as rows
+use Rattle.papaya_linear.specs.Given.EffectsEffects.{effects_of, known_after, names_same, taken_by}
+use Rattle.papaya_linear.specs.Given.EffectsKnown.{Known}
+use Rattle.papaya_linear.specs.Given.EffectsDeclared.acting.Acting.TheVariants as acts
+use Rattle.papaya_linear.specs.Given.EffectsDeclared.role.Role.{Role}
+use Rattle.papaya_linear.specs.Given.EffectsDeclared.role.Role.TheVariants as role
+use Rattle.papaya_linear.specs.Given.ScenesHeld.{Held, IsAt}
+use Rattle.papaya_linear.specs.Given.ScenesOnSlots.{RowLeads}
+use Rattle.papaya_linear.specs.Given.ScenesScene.{IsOnSlot, Scene}
+use Rattle.papaya_linear.specs.Given.ScenesDeclared.row.RowTold.{RowTold}
+use Rattle.papaya_linear.proofs.Given.CallersTogether.Came.{came_reached}
+use Rattle.papaya_linear.proofs.Given.SeizeAloneHistories.Reached.{Reached}
+use Rattle.papaya_linear.proofs.Given.SeizeAloneHistories.Uses.{inside_open}
+use Rattle.papaya_linear.proofs.Given.OthersRowPlans.{TellsRow, row_tells}
+use Rattle.papaya_linear.specs.Given.PromisesSheltered.{AreShelteredOn, GuardsAreOn, IsShelteredOn}
+use Rattle.papaya_linear.specs.Given.PromisesShelters.{NoneIsBack}
+use Rattle.papaya_linear.proofs.Given.PromisesLists.{all_of}
+use Rattle.papaya_linear.proofs.Given.PromisesShelters.Outs.{KeepsIn, keep_all}
+use Rattle.papaya_linear.specs.Given.ScenesScene.{row_of}
+use Rattle.papaya_linear.specs.Given.ScenesDeclared.row.SlotRow.{SlotRow}
+use Rattle.papaya_linear.specs.Given.ScenesDeclared.row.SlotRow.TheVariants as rows
 use Rattle.papaya_deeds.specs.Deeds.{Begins, Deed, Entry, Leaves, MapComes, Opens, Registers, Shuts, acted_on, after, at_work, begun, caller_of, named, sheltered_on, there_on, worked}
-use Rattle.papaya_linear.specs.Given.Played.Play.{leaves_as, registers_as, row_deed}
-use Rattle.papaya_linear.specs.Given.Agrees.Guards.{guard_on}
-use Rattle.papaya_linear.proofs.Given.Agrees.Rows.{InsideBy}
+use Rattle.papaya_linear.specs.Given.PlayedPlay.{leaves_as, registers_as, row_deed}
+use Rattle.papaya_linear.specs.Given.AgreesGuards.{guard_on}
+use Rattle.papaya_linear.proofs.Given.AgreesRows.{InsideBy}
 use Rattle.papaya_protects.specs.Shelters.{IsOpen, SectionsShelter}
 use Rattle.papaya_protects.proofs.After.{IsCalm, opened_guards, opened_held, shelter_then, shut_guards, shut_held}
 use Rattle.papaya_protects.proofs.Goes.{IsSpared}

@@ -16,14 +16,14 @@ use Rattle.papaya_runs.specs.Given.Seize.declared.rows.settle.Settle.{Settle}
 use Rattle.papaya_runs.specs.Given.Seize.declared.rows.settle.Settled.{Settled}
 use Rattle.papaya_runs.specs.Given.Seize.declared.rows.settle.Settled.TheVariants as settled
 use Rattle.papaya_runs.specs.Given.Seize.declared.states.TheConstants.{LAST_SLOT}
-use Rattle.papaya_linear.proofs.Given.SeizeMoves.Moves.Blocks.{never_held}
-use Rattle.papaya_linear.proofs.Given.SeizeMoves.State.Held.{NoneLeft, NotLeft, held_beside, held_through}
-use Rattle.papaya_linear.proofs.Given.SeizeRule.Points.Aside.{HandFits}
-use Rattle.papaya_linear.proofs.Given.SeizeRule.Rows.Effects.{leave_goes_on, register_goes_on, settle_goes_on}
-use Rattle.papaya_linear.proofs.Given.SeizeAlone.Histories.Reached.{Reached, happens_reached}
+use Rattle.papaya_linear.proofs.Given.SeizeMovesMoves.Blocks.{never_held}
+use Rattle.papaya_linear.proofs.Given.SeizeMovesState.Held.{NoneLeft, NotLeft, held_beside, held_through}
+use Rattle.papaya_linear.proofs.Given.SeizeRulePoints.Aside.{HandFits}
+use Rattle.papaya_linear.proofs.Given.SeizeRuleRows.Effects.{leave_goes_on, register_goes_on, settle_goes_on}
+use Rattle.papaya_linear.proofs.Given.SeizeAloneHistories.Reached.{Reached, happens_reached}
 use Rattle.papaya_runs.specs.Given.Tables.Nodes.{deferred_word}
 use Rattle.papaya_runs.specs.Given.Tables.declared.node.Node.{Node}
-use Rattle.papaya_linear.specs.Given.Rule.InWorld.{AllUsers}
+use Rattle.papaya_linear.specs.Given.RuleInWorld.{AllUsers}
 
 -- an open section is open still after what does not end it
 open_on : (s : ℕ) (e : Effect) (log : List Effect) → NotLeft s e → is_open s log ≡ true → is_open s (e ∷ log) ≡ true

@@ -1,36 +1,36 @@
 -- So it stays by whatever is done: what left its map in an open section is held by that, unless somebody reclaims all, and no entry reclaims any of it.
 use Rattle.std.specs.Prelude.{◌≡◌, ℕ, Bool, [], Option, Some, None}
 use Rattle.std.proofs.Common.{◌∷◌, List, ap, sym, subst, ◌∙◌}
-use Rattle.papaya_linear.specs.Given.SeizeActs.Answers.{Grant}
+use Rattle.papaya_linear.specs.Given.SeizeActsAnswers.{Grant}
 use Rattle.papaya_runs.specs.Given.Seize.ReclaimAll.{reclaim_all_plan}
 use Rattle.papaya_runs.specs.Given.Seize.World.{World}
 use Rattle.papaya_runs.specs.Given.Seize.declared.rows.reclaim_all.ReclaimAll.{ReclaimAll}
 use Rattle.papaya_runs.specs.Given.Tables.Nodes.{deferred_word, was_left}
 use Rattle.papaya_runs.specs.Given.Tables.declared.node.Node.{Node}
-use Rattle.papaya_linear.specs.Given.Teller.declared.changed.Changed.TheVariants.{Nothing as NoChange}
+use Rattle.papaya_linear.specs.Given.TellerDeclared.changed.Changed.TheVariants.{Nothing as NoChange}
 use Rattle.papaya_schedules.specs.After.{AtEachEvent}
 use Rattle.papaya_schedules.specs.Moment.{Moment}
 use Rattle.papaya_runs.specs.Present.{nobody}
-use Rattle.papaya_linear.specs.Given.Effects.Effects.{effects_of}
-use Rattle.papaya_linear.specs.Given.Effects.Known.{Known}
-use Rattle.papaya_linear.specs.Given.Effects.declared.acting.Acting.TheVariants as acting
-use Rattle.papaya_linear.specs.Given.Promises.Sheltered.{AreShelteredOn, GuardsAreOn}
-use Rattle.papaya_linear.specs.Given.Scenes.Held.{IsAt}
-use Rattle.papaya_linear.specs.Given.Scenes.Scene.{Scene, slot_of}
-use Rattle.papaya_linear.specs.Given.Acts.Acts.{Act, Answer}
-use Rattle.papaya_linear.specs.Given.Acts.AsSteps.{LeadsAs, changed_by, changed_of}
-use Rattle.papaya_linear.specs.Given.Acts.Doings.{scene_chosen}
-use Rattle.papaya_linear.specs.Given.Acts.Leads.{Led, MayBe}
+use Rattle.papaya_linear.specs.Given.EffectsEffects.{effects_of}
+use Rattle.papaya_linear.specs.Given.EffectsKnown.{Known}
+use Rattle.papaya_linear.specs.Given.EffectsDeclared.acting.Acting.TheVariants as acting
+use Rattle.papaya_linear.specs.Given.PromisesSheltered.{AreShelteredOn, GuardsAreOn}
+use Rattle.papaya_linear.specs.Given.ScenesHeld.{IsAt}
+use Rattle.papaya_linear.specs.Given.ScenesScene.{Scene, slot_of}
+use Rattle.papaya_linear.specs.Given.ActsActs.{Act, Answer}
+use Rattle.papaya_linear.specs.Given.ActsAsSteps.{LeadsAs, changed_by, changed_of}
+use Rattle.papaya_linear.specs.Given.ActsDoings.{scene_chosen}
+use Rattle.papaya_linear.specs.Given.ActsLeads.{Led, MayBe}
 use Rattle.papaya_deeds.specs.Deeds.{Entry, ReclaimsAll, moment}
 use Rattle.papaya_deeds.specs.History.{IsProtected}
-use Rattle.papaya_linear.specs.Given.Played.Play.{State, choice_come, is_over, is_refusal, play_act, settled_outcome}
-use Rattle.papaya_linear.specs.Given.Played.Reached.{IsOf, rows_beside}
-use Rattle.papaya_linear.proofs.Given.Played.Along.{At, Is, StaysSo, far, held}
-use Rattle.papaya_linear.proofs.Given.Played.Noted.{Anything}
-use Rattle.papaya_linear.proofs.Given.Played.PlayedAs.{ReclaimedAs, played_as, reclaimed_as}
-use Rattle.papaya_linear.specs.Given.Agrees.Fresh.{HasNewNumber}
-use Rattle.papaya_linear.specs.Given.Agrees.Guards.{GuardsAgree, UnlessReclaimed}
-use Rattle.papaya_linear.proofs.Given.Agrees.Guards.{GuardsHold, guards_stay, nobody_then, unless}
+use Rattle.papaya_linear.specs.Given.PlayedPlay.{State, choice_come, is_over, is_refusal, play_act, settled_outcome}
+use Rattle.papaya_linear.specs.Given.PlayedReached.{IsOf, rows_beside}
+use Rattle.papaya_linear.proofs.Given.PlayedAlong.{At, Is, StaysSo, far, held}
+use Rattle.papaya_linear.proofs.Given.PlayedNoted.{Anything}
+use Rattle.papaya_linear.proofs.Given.PlayedPlayedAs.{ReclaimedAs, played_as, reclaimed_as}
+use Rattle.papaya_linear.specs.Given.AgreesFresh.{HasNewNumber}
+use Rattle.papaya_linear.specs.Given.AgreesGuards.{GuardsAgree, UnlessReclaimed}
+use Rattle.papaya_linear.proofs.Given.AgreesGuards.{GuardsHold, guards_stay, nobody_then, unless}
 use Rattle.papaya_linear.proofs.Stays.{Of, all_stay}
 use Rattle.papaya_protects.specs.Shelters.{IsOpen, SectionsShelter}
 use Rattle.papaya_protects.proofs.After.{protected_so}

@@ -4,8 +4,8 @@ use Rattle.papaya_runs.specs.Given.Seize.Law.{is_open}
 use Rattle.papaya_runs.specs.Given.Seize.World.{World}
 use Rattle.papaya_runs.specs.Given.Tables.declared.node.Node.{Node}
 use Rattle.papaya_schedules.specs.Moment.{Moment}
-use Rattle.papaya_linear.specs.Given.Effects.Known.{Known}
-use Rattle.papaya_linear.specs.Given.Promises.Sheltered.{AreShelteredOn, GuardsAreOn}
+use Rattle.papaya_linear.specs.Given.EffectsKnown.{Known}
+use Rattle.papaya_linear.specs.Given.PromisesSheltered.{AreShelteredOn, GuardsAreOn}
 
 module _ {K V : Type 0} where
   -- the section of a slot is open

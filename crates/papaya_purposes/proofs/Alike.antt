@@ -1,12 +1,12 @@
 -- A map that has the pairs that it had has the same numbers at both moments.
 use Rattle.std.specs.Prelude.{◌≡◌, ℕ, ◌<◌, Bool, true, false}
 use Rattle.std.proofs.Common.{refl, ap, sym, subst, ◌∙◌}
-use Rattle.papaya_shards.specs.Given.Schedules.Moment.{Moment}
-use Rattle.papaya_shards.specs.Given.Schedules.Views.{is_in_map}
-use Rattle.papaya_shards.specs.Given.Finishes.Maps.{Standing}
-use Rattle.papaya_shards.specs.Given.Effects.Known.{Known}
-use Rattle.papaya_shards.specs.Given.Follows.Maps.{ShowsPairs}
-use Rattle.papaya_shards.proofs.Given.Follows.Stored.{in_map_true}
+use Rattle.papaya_shards.specs.Given.SchedulesMoment.{Moment}
+use Rattle.papaya_shards.specs.Given.SchedulesViews.{is_in_map}
+use Rattle.papaya_shards.specs.Given.FinishesMaps.{Standing}
+use Rattle.papaya_shards.specs.Given.EffectsKnown.{Known}
+use Rattle.papaya_shards.specs.Given.FollowsMaps.{ShowsPairs}
+use Rattle.papaya_shards.proofs.Given.FollowsStored.{in_map_true}
 
 module _ {K V : Type 0} (of : ℕ) where
   -- what one of them has, the other has

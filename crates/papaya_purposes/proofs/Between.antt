@@ -1,50 +1,50 @@
 -- Before all events, between the steps of calls, and where an event is over, the moment says what calls on whole maps have come to, and what they are for.
 use Rattle.std.specs.Prelude.{◌≡◌, ℕ, ◌+◌, ◌≤◌, ◌==◌, nat_lt, Bool, true, false, cond, List, [], ◌∷◌, find, Option, Some, if◌then◌else◌, ◌⊎◌, suc}
 use Rattle.std.proofs.Common.{refl, ap, sym, subst, ◌∙◌, arith, inl, inr}
-use Rattle.papaya_shards.specs.Given.Tables.Chunks.{is_incremental}
-use Rattle.papaya_shards.specs.Given.Tables.declared.setting.Setting.{Setting}
-use Rattle.papaya_shards.specs.Given.Resize.Sum.{summing}
-use Rattle.papaya_shards.specs.Given.Resize.declared.sum.Sum.{Sum}
-use Rattle.papaya_shards.specs.Given.Reserves.declared.reserve.Reserving.{Reserving}
-use Rattle.papaya_shards.specs.Given.Reserves.declared.reserve.Reserving.TheVariants as reserving
-use Rattle.papaya_shards.specs.Given.Sweeps.SweepPoints.{next_at, after_next}
-use Rattle.papaya_shards.specs.Given.Sweeps.declared.sweep.Purpose.{Purpose}
-use Rattle.papaya_shards.specs.Given.Sweeps.declared.sweep.Purpose.TheVariants.{Walks}
-use Rattle.papaya_shards.specs.Given.Sweeps.declared.sweep.Sweep.{Sweep}
-use Rattle.papaya_shards.specs.Given.Sweeps.declared.sweep.Sweeping.{Sweeping}
-use Rattle.papaya_shards.specs.Given.Sweeps.declared.sweep.Sweeping.TheVariants as sweeping
-use Rattle.papaya_shards.specs.Given.Runs.Same.{is_same}
-use Rattle.papaya_shards.specs.Given.Schedules.declared.call.Call.{Call}
-use Rattle.papaya_shards.specs.Given.Schedules.declared.call.Call.TheVariants as call
-use Rattle.papaya_shards.specs.Given.Schedules.declared.outcome.Outcome.{Outcome}
-use Rattle.papaya_shards.specs.Given.Schedules.After.{comes_to}
-use Rattle.papaya_shards.specs.Given.Schedules.Beginning.{fresh_call, with_call}
-use Rattle.papaya_shards.specs.Given.Schedules.Lists.{OneOf}
-use Rattle.papaya_shards.specs.Given.Schedules.Moment.{Place, MapThere, UnderWay as CallThere, Moment}
-use Rattle.papaya_shards.specs.Given.Schedules.Views.{call_of, is_in_map, finite_map, first_or, first_of}
-use Rattle.papaya_shards.specs.Given.Rule.Maps.{spot_of}
-use Rattle.papaya_shards.specs.Given.Callers.OverAll.{CallOverAll, begun_over_all, gone_on}
-use Rattle.papaya_shards.specs.Given.Callers.Rooms.{CallForRoom}
-use Rattle.papaya_shards.specs.Given.Callers.Together.{UnderWay, OnKey, ForRoom, Counting, OverAll, in_slot}
-use Rattle.papaya_shards.specs.Given.Effects.Known.{Known}
-use Rattle.papaya_shards.specs.Given.Finishes.Maps.{Standing, with_call as with_in}
-use Rattle.papaya_shards.specs.Given.Follows.Calling.{come_to}
-use Rattle.papaya_shards.specs.Given.Follows.Shows.{Shows}
-use Rattle.papaya_shards.proofs.Given.Follows.Called.{called_as, some_is, sweep_called}
-use Rattle.papaya_shards.proofs.Given.Follows.Calling.{is_same_refl, come, begins_with, come_with}
-use Rattle.papaya_shards.proofs.Given.Follows.Steps.{one_of}
-use Rattle.papaya_shards.proofs.Given.Hands.Asking.{which}
-use Rattle.papaya_shards.specs.Given.Histories.Had.{HadThen}
-use Rattle.papaya_shards.specs.Given.Histories.Histories.{IsWithin}
-use Rattle.papaya_shards.proofs.Given.Histories.Calling.{came_so}
-use Rattle.papaya_shards.proofs.Given.Histories.Found.{map_alike}
-use Rattle.papaya_shards.proofs.Given.Histories.Logs.{now_there, grows, further_is_past}
-use Rattle.papaya_shards.proofs.Given.Histories.Now.{now_had}
-use Rattle.papaya_shards.specs.Given.Others.After.{ShowsAfter}
-use Rattle.papaya_shards.proofs.Given.Others.Walks.{fewer_calls, with_calls}
+use Rattle.papaya_shards.specs.Given.TablesChunks.{is_incremental}
+use Rattle.papaya_shards.specs.Given.TablesDeclared.setting.Setting.{Setting}
+use Rattle.papaya_shards.specs.Given.ResizeSum.{summing}
+use Rattle.papaya_shards.specs.Given.ResizeDeclared.sum.Sum.{Sum}
+use Rattle.papaya_shards.specs.Given.ReservesDeclared.reserve.Reserving.{Reserving}
+use Rattle.papaya_shards.specs.Given.ReservesDeclared.reserve.Reserving.TheVariants as reserving
+use Rattle.papaya_shards.specs.Given.SweepsSweepPoints.{next_at, after_next}
+use Rattle.papaya_shards.specs.Given.SweepsDeclared.sweep.Purpose.{Purpose}
+use Rattle.papaya_shards.specs.Given.SweepsDeclared.sweep.Purpose.TheVariants.{Walks}
+use Rattle.papaya_shards.specs.Given.SweepsDeclared.sweep.Sweep.{Sweep}
+use Rattle.papaya_shards.specs.Given.SweepsDeclared.sweep.Sweeping.{Sweeping}
+use Rattle.papaya_shards.specs.Given.SweepsDeclared.sweep.Sweeping.TheVariants as sweeping
+use Rattle.papaya_shards.specs.Given.RunsSame.{is_same}
+use Rattle.papaya_shards.specs.Given.SchedulesDeclared.call.Call.{Call}
+use Rattle.papaya_shards.specs.Given.SchedulesDeclared.call.Call.TheVariants as call
+use Rattle.papaya_shards.specs.Given.SchedulesDeclared.outcome.Outcome.{Outcome}
+use Rattle.papaya_shards.specs.Given.SchedulesAfter.{comes_to}
+use Rattle.papaya_shards.specs.Given.SchedulesBeginning.{fresh_call, with_call}
+use Rattle.papaya_shards.specs.Given.SchedulesLists.{OneOf}
+use Rattle.papaya_shards.specs.Given.SchedulesMoment.{Place, MapThere, UnderWay as CallThere, Moment}
+use Rattle.papaya_shards.specs.Given.SchedulesViews.{call_of, is_in_map, finite_map, first_or, first_of}
+use Rattle.papaya_shards.specs.Given.RuleMaps.{spot_of}
+use Rattle.papaya_shards.specs.Given.CallersOverAll.{CallOverAll, begun_over_all, gone_on}
+use Rattle.papaya_shards.specs.Given.CallersRooms.{CallForRoom}
+use Rattle.papaya_shards.specs.Given.CallersTogether.{UnderWay, OnKey, ForRoom, Counting, OverAll, in_slot}
+use Rattle.papaya_shards.specs.Given.EffectsKnown.{Known}
+use Rattle.papaya_shards.specs.Given.FinishesMaps.{Standing, with_call as with_in}
+use Rattle.papaya_shards.specs.Given.FollowsCalling.{come_to}
+use Rattle.papaya_shards.specs.Given.FollowsShows.{Shows}
+use Rattle.papaya_shards.proofs.Given.FollowsCalled.{called_as, some_is, sweep_called}
+use Rattle.papaya_shards.proofs.Given.FollowsCalling.{is_same_refl, come, begins_with, come_with}
+use Rattle.papaya_shards.proofs.Given.FollowsSteps.{one_of}
+use Rattle.papaya_shards.proofs.Given.HandsAsking.{which}
+use Rattle.papaya_shards.specs.Given.HistoriesHad.{HadThen}
+use Rattle.papaya_shards.specs.Given.HistoriesHistories.{IsWithin}
+use Rattle.papaya_shards.proofs.Given.HistoriesCalling.{came_so}
+use Rattle.papaya_shards.proofs.Given.HistoriesFound.{map_alike}
+use Rattle.papaya_shards.proofs.Given.HistoriesLogs.{now_there, grows, further_is_past}
+use Rattle.papaya_shards.proofs.Given.HistoriesNow.{now_had}
+use Rattle.papaya_shards.specs.Given.OthersAfter.{ShowsAfter}
+use Rattle.papaya_shards.proofs.Given.OthersWalks.{fewer_calls, with_calls}
 use Rattle.papaya_purposes.specs.Kept.{TellsNone, CallsBeginPurposes, WalksGoOnPurposes, CallsComeToPurposes, EventsKeepPurposes, FirstStepsChangePairsFirst}
 use Rattle.papaya_purposes.specs.Purposes.{IsFor, HasAdded, RoomAt, HasMet, TellsDone, KeysOf, HasSwept, HasCome}
-use Rattle.papaya_shards.specs.Given.Named.Machines.{IsBefore}
+use Rattle.papaya_shards.specs.Given.NamedMachines.{IsBefore}
 use Rattle.papaya_purposes.proofs.For.{sweep_for}
 use Rattle.papaya_purposes.proofs.KeysOn.{keys_next}
 use Rattle.papaya_purposes.proofs.Needs.{needs_wider, reserves_wider}
@@ -53,13 +53,13 @@ use Rattle.papaya_purposes.proofs.Shown.{IsStill, same_still, comes_still}
 use Rattle.papaya_purposes.proofs.Still.{come_still, for_still}
 use Rattle.papaya_purposes.proofs.Sums.{added_wider, counts_wider}
 use Rattle.papaya_purposes.proofs.Within.{pairs_within_moments}
-use Rattle.papaya_shards.specs.Given.Scenes.Beginning.{Begins}
-use Rattle.papaya_shards.specs.Given.Scenes.Held.{Held, IsAt}
-use Rattle.papaya_shards.specs.Given.Scenes.Replying.{scene_with}
-use Rattle.papaya_shards.specs.Given.Scenes.Scene.{Scene, slot_of}
-use Rattle.papaya_shards.specs.Given.Schedules.Transition.{Past, further}
+use Rattle.papaya_shards.specs.Given.ScenesBeginning.{Begins}
+use Rattle.papaya_shards.specs.Given.ScenesHeld.{Held, IsAt}
+use Rattle.papaya_shards.specs.Given.ScenesReplying.{scene_with}
+use Rattle.papaya_shards.specs.Given.ScenesScene.{Scene, slot_of}
+use Rattle.papaya_shards.specs.Given.SchedulesTransition.{Past, further}
 use Rattle.std.specs.List.{AllByRecursion}
-use Rattle.papaya_shards.proofs.Given.Follows.Contents.{Lasts}
+use Rattle.papaya_shards.proofs.Given.FollowsContents.{Lasts}
 
 -- an event that is over adds its moment
 module _ {K V : Type 0} (same : K → K → Bool) (log : Past K V) (next : Moment K V) (c : CallThere K V) (before : c.begun ≤ log.entries) where

@@ -1,37 +1,37 @@
 -- A copier of a whole table goes on from its table, into the one that it copies into or into another one that it begins anew with; and ends with the former.
 use Rattle.std.specs.Prelude.{◌≡◌, ℕ, ◌+◌, ◌-◌, ◌%◌, ◌^◌, ◌==◌, nat_lt, Bool, true, false, Ok, Err, if◌then◌else◌, ◌⊎◌}
 use Rattle.std.proofs.Common.{refl, inl, inr}
-use Rattle.papaya_shards.specs.Given.SeizeWords.Word.{block_in}
-use Rattle.papaya_shards.specs.Given.SeizeWords.Op.{Out, Found, Stored, Exchanged, Made, Taken, Roomed}
-use Rattle.papaya_shards.specs.Given.SeizeWords.declared.fault.Fault.{Fault}
-use Rattle.papaya_shards.specs.Given.Seize.declared.progress.Progress.{Progress as Counted}
-use Rattle.papaya_shards.specs.Given.Seize.declared.progress.Progress.TheVariants as counted
-use Rattle.papaya_shards.specs.Given.Seize.declared.rows.settle.Settle.{Settle}
-use Rattle.papaya_shards.specs.Given.Seize.declared.rows.settle.Settled.{Settled}
-use Rattle.papaya_shards.specs.Given.Seize.declared.rows.settle.Settled.TheVariants as settled
-use Rattle.papaya_shards.specs.Given.Seize.Settle.{settle_plan}
-use Rattle.papaya_shards.specs.Given.Tables.Chunks.{is_incremental}
-use Rattle.papaya_shards.specs.Given.Tables.Nodes.{deferred_word}
-use Rattle.papaya_shards.specs.Given.Tables.declared.node.Node.{Node}
-use Rattle.papaya_shards.specs.Given.Tables.declared.probe.Probe.{Probe}
-use Rattle.papaya_shards.specs.Given.Tables.declared.status.TheConstants.Status.{ABORTED, PROMOTED}
-use Rattle.papaya_shards.specs.Given.Tables.declared.table.Table.{Table}
-use Rattle.papaya_shards.specs.Given.Resize.Copier.{plan_at}
-use Rattle.papaya_shards.specs.Given.Resize.CopierClaims.{status_read, claim_read, claimed, range_claimed}
-use Rattle.papaya_shards.specs.Given.Resize.CopierCounts.{refusing, counted as count_read}
-use Rattle.papaya_shards.specs.Given.Resize.CopierFurther.{further_read, grown, replacement_read, remade}
-use Rattle.papaya_shards.specs.Given.Resize.CopierMarks.{is_mine, is_awaited, mine_marked, marked}
-use Rattle.papaya_shards.specs.Given.Resize.CopierPlaces.{next_try, pair_put, place_read, put_told}
-use Rattle.papaya_shards.specs.Given.Resize.CopierPromotes.{promoted, successor_read, table_retired, retired}
-use Rattle.papaya_shards.specs.Given.Resize.CopierStates.{behind, none_left, next_place, place_done}
-use Rattle.papaya_shards.specs.Given.Resize.NewTable.{new_table_plan}
-use Rattle.papaya_shards.specs.Given.Resize.declared.copier.Copier.{Copier}
-use Rattle.papaya_shards.specs.Given.Resize.declared.copier.Copying.{Copying}
-use Rattle.papaya_shards.specs.Given.Resize.declared.copier.Copying.TheVariants as at
-use Rattle.papaya_shards.specs.Given.Resize.declared.new_table.NewTable.{NewTable}
-use Rattle.papaya_shards.specs.Given.Resize.declared.outcome.Outcome.{Outcome}
-use Rattle.papaya_shards.specs.Given.Resize.declared.outcome.Outcome.TheVariants as outcome
-use Rattle.papaya_shards.proofs.Given.Rule.Keys.Always.{Always, AlwaysOf, always_if, always_plan_as}
+use Rattle.papaya_shards.specs.Given.SeizeWordsWord.{block_in}
+use Rattle.papaya_shards.specs.Given.SeizeWordsOp.{Out, Found, Stored, Exchanged, Made, Taken, Roomed}
+use Rattle.papaya_shards.specs.Given.SeizeWordsDeclared.fault.Fault.{Fault}
+use Rattle.papaya_shards.specs.Given.SeizeDeclared.progress.Progress.{Progress as Counted}
+use Rattle.papaya_shards.specs.Given.SeizeDeclared.progress.Progress.TheVariants as counted
+use Rattle.papaya_shards.specs.Given.SeizeDeclared.rows.settle.Settle.{Settle}
+use Rattle.papaya_shards.specs.Given.SeizeDeclared.rows.settle.Settled.{Settled}
+use Rattle.papaya_shards.specs.Given.SeizeDeclared.rows.settle.Settled.TheVariants as settled
+use Rattle.papaya_shards.specs.Given.SeizeSettle.{settle_plan}
+use Rattle.papaya_shards.specs.Given.TablesChunks.{is_incremental}
+use Rattle.papaya_shards.specs.Given.TablesNodes.{deferred_word}
+use Rattle.papaya_shards.specs.Given.TablesDeclared.node.Node.{Node}
+use Rattle.papaya_shards.specs.Given.TablesDeclared.probe.Probe.{Probe}
+use Rattle.papaya_shards.specs.Given.TablesDeclared.status.TheConstants.Status.{ABORTED, PROMOTED}
+use Rattle.papaya_shards.specs.Given.TablesDeclared.table.Table.{Table}
+use Rattle.papaya_shards.specs.Given.ResizeCopier.{plan_at}
+use Rattle.papaya_shards.specs.Given.ResizeCopierClaims.{status_read, claim_read, claimed, range_claimed}
+use Rattle.papaya_shards.specs.Given.ResizeCopierCounts.{refusing, counted as count_read}
+use Rattle.papaya_shards.specs.Given.ResizeCopierFurther.{further_read, grown, replacement_read, remade}
+use Rattle.papaya_shards.specs.Given.ResizeCopierMarks.{is_mine, is_awaited, mine_marked, marked}
+use Rattle.papaya_shards.specs.Given.ResizeCopierPlaces.{next_try, pair_put, place_read, put_told}
+use Rattle.papaya_shards.specs.Given.ResizeCopierPromotes.{promoted, successor_read, table_retired, retired}
+use Rattle.papaya_shards.specs.Given.ResizeCopierStates.{behind, none_left, next_place, place_done}
+use Rattle.papaya_shards.specs.Given.ResizeNewTable.{new_table_plan}
+use Rattle.papaya_shards.specs.Given.ResizeDeclared.copier.Copier.{Copier}
+use Rattle.papaya_shards.specs.Given.ResizeDeclared.copier.Copying.{Copying}
+use Rattle.papaya_shards.specs.Given.ResizeDeclared.copier.Copying.TheVariants as at
+use Rattle.papaya_shards.specs.Given.ResizeDeclared.new_table.NewTable.{NewTable}
+use Rattle.papaya_shards.specs.Given.ResizeDeclared.outcome.Outcome.{Outcome}
+use Rattle.papaya_shards.specs.Given.ResizeDeclared.outcome.Outcome.TheVariants as outcome
+use Rattle.papaya_shards.proofs.Given.RuleKeys.Always.{Always, AlwaysOf, always_if, always_plan_as}
 
 -- it is to copy a whole table, and knows which
 abbrev pub KnowsTables : Copying → Type 0

@@ -1,39 +1,39 @@
 -- A step of a counting that is under way, in the words of a run.
 use Rattle.std.specs.Prelude.{◌≡◌, ℕ, suc, ◌≤◌, Bool, Option, Some}
 use Rattle.std.proofs.Common.{ap, sym, subst, ◌∙◌}
-use Rattle.papaya_shards.specs.Given.SeizeWords.Mem.{Mem, word_at}
-use Rattle.papaya_shards.specs.Given.SeizeWords.declared.at.At.TheVariants.{Word}
-use Rattle.papaya_shards.proofs.Given.SeizeRule.Rows.Leaving.{steps_back}
-use Rattle.papaya_shards.specs.Given.Seize.declared.progress.Progress.{Progress as Counted}
-use Rattle.papaya_shards.specs.Given.Seize.declared.progress.Progress.TheVariants as counting
-use Rattle.papaya_shards.specs.Given.Tables.declared.node.Node.{Node}
-use Rattle.papaya_shards.specs.Given.Tables.declared.setting.Setting.{Setting}
-use Rattle.papaya_shards.specs.Given.Resize.Sum.{sum_plan}
-use Rattle.papaya_shards.specs.Given.Resize.declared.sum.Sum.{Sum}
-use Rattle.papaya_shards.specs.Given.Raw.Machine.{machine_plan, counted}
-use Rattle.papaya_shards.specs.Given.Raw.declared.machines.machine.Machine.{Machine}
-use Rattle.papaya_shards.specs.Given.Raw.declared.machines.machine.Machine.TheVariants as kinds
-use Rattle.papaya_shards.specs.Given.Raw.declared.machines.progress.Answer.TheVariants as answers
-use Rattle.papaya_shards.specs.Given.Raw.declared.machines.progress.Progress.{Progress}
-use Rattle.papaya_shards.specs.Given.Raw.declared.machines.progress.Progress.TheVariants as progress
-use Rattle.papaya_shards.specs.Given.Schedules.Counts.{Counts}
-use Rattle.papaya_shards.specs.Given.Schedules.Moment.{UnderWay as CallThere, Moment}
-use Rattle.papaya_shards.specs.Given.Points.FactsTables.{CountsShards, SumFacts}
-use Rattle.papaya_shards.specs.Given.Callers.Together.{UnderWay, Counting, in_slot}
-use Rattle.papaya_shards.specs.Given.Finishes.Machines.{GoesOnAs}
-use Rattle.papaya_shards.specs.Given.Finishes.Maps.{Standing}
-use Rattle.papaya_shards.specs.Given.Teller.declared.changed.Changed.TheVariants.{Nothing}
-use Rattle.papaya_shards.proofs.Given.Histories.Logs.{now_there}
+use Rattle.papaya_shards.specs.Given.SeizeWordsMem.{Mem, word_at}
+use Rattle.papaya_shards.specs.Given.SeizeWordsDeclared.at.At.TheVariants.{Word}
+use Rattle.papaya_shards.proofs.Given.SeizeRuleRows.Leaving.{steps_back}
+use Rattle.papaya_shards.specs.Given.SeizeDeclared.progress.Progress.{Progress as Counted}
+use Rattle.papaya_shards.specs.Given.SeizeDeclared.progress.Progress.TheVariants as counting
+use Rattle.papaya_shards.specs.Given.TablesDeclared.node.Node.{Node}
+use Rattle.papaya_shards.specs.Given.TablesDeclared.setting.Setting.{Setting}
+use Rattle.papaya_shards.specs.Given.ResizeSum.{sum_plan}
+use Rattle.papaya_shards.specs.Given.ResizeDeclared.sum.Sum.{Sum}
+use Rattle.papaya_shards.specs.Given.RawMachine.{machine_plan, counted}
+use Rattle.papaya_shards.specs.Given.RawDeclared.machines.machine.Machine.{Machine}
+use Rattle.papaya_shards.specs.Given.RawDeclared.machines.machine.Machine.TheVariants as kinds
+use Rattle.papaya_shards.specs.Given.RawDeclared.machines.progress.Answer.TheVariants as answers
+use Rattle.papaya_shards.specs.Given.RawDeclared.machines.progress.Progress.{Progress}
+use Rattle.papaya_shards.specs.Given.RawDeclared.machines.progress.Progress.TheVariants as progress
+use Rattle.papaya_shards.specs.Given.SchedulesCounts.{Counts}
+use Rattle.papaya_shards.specs.Given.SchedulesMoment.{UnderWay as CallThere, Moment}
+use Rattle.papaya_shards.specs.Given.PointsFactsTables.{CountsShards, SumFacts}
+use Rattle.papaya_shards.specs.Given.CallersTogether.{UnderWay, Counting, in_slot}
+use Rattle.papaya_shards.specs.Given.FinishesMachines.{GoesOnAs}
+use Rattle.papaya_shards.specs.Given.FinishesMaps.{Standing}
+use Rattle.papaya_shards.specs.Given.TellerDeclared.changed.Changed.TheVariants.{Nothing}
+use Rattle.papaya_shards.proofs.Given.HistoriesLogs.{now_there}
 use Rattle.papaya_shards.specs.ShardWords.{ShowsShards}
 use Rattle.papaya_purposes.specs.Purposes.{HasAdded}
 use Rattle.papaya_purposes.specs.Shards.{NoneCounted}
 use Rattle.papaya_purposes.proofs.Sums.{After, counting_on}
-use Rattle.papaya_shards.proofs.Given.Scenes.Told.{as_step}
-use Rattle.papaya_shards.specs.Given.Scenes.Held.{Held, IsAt}
-use Rattle.papaya_shards.specs.Given.Scenes.Scene.{Scene, slot_of}
-use Rattle.papaya_shards.specs.Given.Scenes.Stepping.{StepsFrom}
-use Rattle.papaya_shards.specs.Given.Histories.Histories.{IsPast}
-use Rattle.papaya_shards.specs.Given.Schedules.Transition.{Past}
+use Rattle.papaya_shards.proofs.Given.ScenesTold.{as_step}
+use Rattle.papaya_shards.specs.Given.ScenesHeld.{Held, IsAt}
+use Rattle.papaya_shards.specs.Given.ScenesScene.{Scene, slot_of}
+use Rattle.papaya_shards.specs.Given.ScenesStepping.{StepsFrom}
+use Rattle.papaya_shards.specs.Given.HistoriesHistories.{IsPast}
+use Rattle.papaya_shards.specs.Given.SchedulesTransition.{Past}
 
 module _ {K V : Type 0} (same : K → K → Bool) (hash : ℕ → K → ℕ) (log : Past K V) (is_past : IsPast log) (m : Moment K V) (s : Scene K V) (old new : Held K V) (at : IsAt same hash old s)
     (of i : ℕ) (sum : Sum) (here : s.calls of i ≡ Some (Counting sum)) (st : Standing K) (there : s.maps of ≡ Some st) (c : CallThere K V) (before : c.begun ≤ log.entries)

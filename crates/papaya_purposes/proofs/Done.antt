@@ -2,26 +2,26 @@
 use Rattle.std.specs.Prelude.{◌≡◌, ℕ, ◌<◌, true, List, [], map, Option, Some, ◌⊎◌}
 use Rattle.std.specs.List.{AllByRecursion}
 use Rattle.std.proofs.Common.{ap, sym, subst, ◌∙◌, inl, inr}
-use Rattle.papaya_shards.specs.Given.Sweeps.declared.sweep.Purpose.TheVariants.{Walks}
-use Rattle.papaya_shards.specs.Given.Sweeps.declared.sweep.Sweeping.{Sweeping}
-use Rattle.papaya_shards.specs.Given.Sweeps.declared.sweep.Sweeping.TheVariants as at
-use Rattle.papaya_shards.specs.Given.Sweeps.declared.sweep.Swept.{Swept}
-use Rattle.papaya_shards.specs.Given.Sweeps.declared.sweep.Swept.TheVariants as swept
-use Rattle.papaya_shards.specs.Given.Raw.Progress.{of_swept}
-use Rattle.papaya_shards.specs.Given.Schedules.declared.call.Call.{Call}
-use Rattle.papaya_shards.specs.Given.Schedules.declared.call.Call.TheVariants as call
-use Rattle.papaya_shards.specs.Given.Schedules.declared.call.Reply.{Reply}
-use Rattle.papaya_shards.specs.Given.Schedules.Moment.{UnderWay as CallThere}
-use Rattle.papaya_shards.specs.Given.Schedules.Sweeps.{is_yes}
-use Rattle.papaya_shards.specs.Given.Schedules.Views.{reply_to}
-use Rattle.papaya_shards.specs.Given.Rule.Chart.{Chart}
-use Rattle.papaya_shards.specs.Given.Rule.Words.{Blocks}
-use Rattle.papaya_shards.specs.Given.Late.CoversSweeps.{DoneBy, DoneAt}
-use Rattle.papaya_shards.specs.Given.Callers.OverAll.{CallOverAll}
-use Rattle.papaya_shards.specs.Given.Callers.Together.{OverAll}
+use Rattle.papaya_shards.specs.Given.SweepsDeclared.sweep.Purpose.TheVariants.{Walks}
+use Rattle.papaya_shards.specs.Given.SweepsDeclared.sweep.Sweeping.{Sweeping}
+use Rattle.papaya_shards.specs.Given.SweepsDeclared.sweep.Sweeping.TheVariants as at
+use Rattle.papaya_shards.specs.Given.SweepsDeclared.sweep.Swept.{Swept}
+use Rattle.papaya_shards.specs.Given.SweepsDeclared.sweep.Swept.TheVariants as swept
+use Rattle.papaya_shards.specs.Given.RawProgress.{of_swept}
+use Rattle.papaya_shards.specs.Given.SchedulesDeclared.call.Call.{Call}
+use Rattle.papaya_shards.specs.Given.SchedulesDeclared.call.Call.TheVariants as call
+use Rattle.papaya_shards.specs.Given.SchedulesDeclared.call.Reply.{Reply}
+use Rattle.papaya_shards.specs.Given.SchedulesMoment.{UnderWay as CallThere}
+use Rattle.papaya_shards.specs.Given.SchedulesSweeps.{is_yes}
+use Rattle.papaya_shards.specs.Given.SchedulesViews.{reply_to}
+use Rattle.papaya_shards.specs.Given.RuleChart.{Chart}
+use Rattle.papaya_shards.specs.Given.RuleWords.{Blocks}
+use Rattle.papaya_shards.specs.Given.LateCoversSweeps.{DoneBy, DoneAt}
+use Rattle.papaya_shards.specs.Given.CallersOverAll.{CallOverAll}
+use Rattle.papaya_shards.specs.Given.CallersTogether.{OverAll}
 use Rattle.papaya_purposes.specs.Kept.{ShowsNone}
 use Rattle.papaya_purposes.specs.Purposes.{IsFor, TellsDone}
-use Rattle.papaya_shards.specs.Given.Named.Machines.{IsBefore}
+use Rattle.papaya_shards.specs.Given.NamedMachines.{IsBefore}
 use Rattle.papaya_purposes.proofs.Lists.{all_on, all_both, maps_alike}
 use Rattle.papaya_purposes.proofs.Shown.{IsStill}
 

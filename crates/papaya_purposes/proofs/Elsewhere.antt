@@ -1,25 +1,25 @@
 -- What calls on whole maps have come to stays so where anything else happens than a step of a call.
 use Rattle.std.specs.Prelude.{◌≡◌, ℕ, Bool, List, find, Option, Some}
 use Rattle.std.proofs.Common.{ap, sym, subst, ◌∙◌}
-use Rattle.papaya_shards.specs.Given.SeizeWords.declared.fault.Fault.TheVariants.{Memory}
-use Rattle.papaya_shards.specs.Given.Runs.Same.{is_same}
-use Rattle.papaya_shards.specs.Given.Schedules.declared.outcome.Outcome.TheVariants.{Refused}
-use Rattle.papaya_shards.specs.Given.Schedules.Moment.{UnderWay as CallThere, Moment}
-use Rattle.papaya_shards.specs.Given.Schedules.Views.{call_of}
-use Rattle.papaya_shards.specs.Given.Callers.Together.{UnderWay}
-use Rattle.papaya_shards.specs.Given.Effects.Known.{Known}
-use Rattle.papaya_shards.specs.Given.Finishes.Maps.{Standing}
-use Rattle.papaya_shards.proofs.Given.Histories.Aside.Elsewhere.{stays_elsewhere}
-use Rattle.papaya_shards.specs.Given.Others.After.{ShowsAfter}
+use Rattle.papaya_shards.specs.Given.SeizeWordsDeclared.fault.Fault.TheVariants.{Memory}
+use Rattle.papaya_shards.specs.Given.RunsSame.{is_same}
+use Rattle.papaya_shards.specs.Given.SchedulesDeclared.outcome.Outcome.TheVariants.{Refused}
+use Rattle.papaya_shards.specs.Given.SchedulesMoment.{UnderWay as CallThere, Moment}
+use Rattle.papaya_shards.specs.Given.SchedulesViews.{call_of}
+use Rattle.papaya_shards.specs.Given.CallersTogether.{UnderWay}
+use Rattle.papaya_shards.specs.Given.EffectsKnown.{Known}
+use Rattle.papaya_shards.specs.Given.FinishesMaps.{Standing}
+use Rattle.papaya_shards.proofs.Given.HistoriesAside.Elsewhere.{stays_elsewhere}
+use Rattle.papaya_shards.specs.Given.OthersAfter.{ShowsAfter}
 use Rattle.papaya_purposes.specs.Elsewhere.{PurposesStay}
 use Rattle.papaya_purposes.specs.Purposes.{HasCome, ShowsPurposes}
 use Rattle.papaya_purposes.proofs.Between.{calls_come_to_purposes, walks_go_on_purposes}
 use Rattle.papaya_purposes.proofs.Rows.{beside_purposes}
 use Rattle.papaya_purposes.proofs.Shown.{same_still}
 use Rattle.papaya_purposes.proofs.Still.{come_still}
-use Rattle.papaya_shards.specs.Given.Scenes.Scene.{Scene}
-use Rattle.papaya_shards.specs.Given.Schedules.Transition.{Past}
-use Rattle.papaya_shards.proofs.Given.Follows.Contents.{lasts_same}
+use Rattle.papaya_shards.specs.Given.ScenesScene.{Scene}
+use Rattle.papaya_shards.specs.Given.SchedulesTransition.{Past}
+use Rattle.papaya_shards.proofs.Given.FollowsContents.{lasts_same}
 use Rattle.papaya_purposes.proofs.Stored.{numbers_last}
 
 -- the same pairs were stored and lie where they lay, and no call comes

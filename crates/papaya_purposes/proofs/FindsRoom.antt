@@ -2,42 +2,42 @@
 use Rattle.std.specs.Prelude.{◌≡◌, ℕ, zero, suc, ◌+◌, ◌<◌, ◌≤◌, nat_le, Bool, true, false, cond, List, [], ◌∷◌, ◌++◌, filter, Option, Some, ◌⊎◌}
 use Rattle.std.proofs.Common.{refl, ap, sym, subst, ◌∙◌, arith, inl, inr}
 use Rattle.std.proofs.lemmas.Bool.{cases_eq}
-use Rattle.papaya_shards.specs.Given.Seize.World.{IsInside}
-use Rattle.papaya_shards.specs.Given.Tables.Lengths.{len_of}
-use Rattle.papaya_shards.specs.Given.Tables.declared.node.Node.{Node}
-use Rattle.papaya_shards.specs.Given.Resize.declared.outcome.Outcome.{Outcome}
-use Rattle.papaya_shards.specs.Given.Resize.declared.outcome.Outcome.TheVariants as outcome
-use Rattle.papaya_shards.specs.Given.Raw.Progress.{of_outcome}
-use Rattle.papaya_shards.specs.Given.Raw.declared.machines.progress.Answer.TheVariants as answers
-use Rattle.papaya_shards.specs.Given.Raw.declared.machines.progress.Progress.{Progress}
-use Rattle.papaya_shards.specs.Given.Raw.declared.machines.progress.Progress.TheVariants as progress
-use Rattle.papaya_shards.specs.Given.Schedules.declared.call.Answer.TheVariants.{Completed}
-use Rattle.papaya_shards.specs.Given.Schedules.declared.call.Call.{Call}
-use Rattle.papaya_shards.specs.Given.Schedules.declared.call.Call.TheVariants as call
-use Rattle.papaya_shards.specs.Given.Schedules.declared.outcome.Outcome.TheVariants.{Answered}
-use Rattle.papaya_shards.specs.Given.Schedules.Counts.{Counts}
-use Rattle.papaya_shards.specs.Given.Schedules.Lists.{OneOf}
-use Rattle.papaya_shards.specs.Given.Schedules.Moment.{UnderWay as CallThere, Stage, TableThere, Moment}
-use Rattle.papaya_shards.specs.Given.Schedules.Steps.{met_from}
-use Rattle.papaya_shards.specs.Given.Schedules.Sweeps.{Fits, roots_since, FindsRoom}
-use Rattle.papaya_shards.specs.Given.Schedules.Terms.{Terms, shards_of}
-use Rattle.papaya_shards.specs.Given.Schedules.Views.{call_of, first_or, first_of, tables_of}
-use Rattle.papaya_shards.specs.Given.Rule.Chart.{Chart}
-use Rattle.papaya_shards.specs.Given.Rule.InWorld.{IsMapIn}
-use Rattle.papaya_shards.proofs.Given.Points.MovedLasts.{moved_lasts}
-use Rattle.papaya_shards.specs.Given.Callers.Rooms.{CallForRoom}
-use Rattle.papaya_shards.specs.Given.Callers.Sights.{seen_by}
-use Rattle.papaya_shards.specs.Given.Callers.Together.{UnderWay, OnKey, ForRoom, Counting, OverAll, in_slot}
-use Rattle.papaya_shards.proofs.Given.Callers.Sights.Seen.{map_seen}
-use Rattle.papaya_shards.proofs.Given.Callers.Together.At.{at_same}
-use Rattle.papaya_shards.proofs.Given.Callers.Together.Fits.{map_in_slot}
-use Rattle.papaya_shards.specs.Given.Effects.Known.{Known}
-use Rattle.papaya_shards.specs.Given.Finishes.Machines.{machine_of}
-use Rattle.papaya_shards.specs.Given.Finishes.Maps.{Standing}
-use Rattle.papaya_shards.specs.Given.Follows.Maps.{tables_to, ShowsTables}
-use Rattle.papaya_shards.proofs.Given.Follows.Steps.{WentTo, made_so, is_sight}
-use Rattle.papaya_shards.proofs.Given.Histories.Logs.{each_of}
-use Rattle.papaya_shards.specs.Given.Moments.Whole.{ShowsWhole}
+use Rattle.papaya_shards.specs.Given.SeizeWorld.{IsInside}
+use Rattle.papaya_shards.specs.Given.TablesLengths.{len_of}
+use Rattle.papaya_shards.specs.Given.TablesDeclared.node.Node.{Node}
+use Rattle.papaya_shards.specs.Given.ResizeDeclared.outcome.Outcome.{Outcome}
+use Rattle.papaya_shards.specs.Given.ResizeDeclared.outcome.Outcome.TheVariants as outcome
+use Rattle.papaya_shards.specs.Given.RawProgress.{of_outcome}
+use Rattle.papaya_shards.specs.Given.RawDeclared.machines.progress.Answer.TheVariants as answers
+use Rattle.papaya_shards.specs.Given.RawDeclared.machines.progress.Progress.{Progress}
+use Rattle.papaya_shards.specs.Given.RawDeclared.machines.progress.Progress.TheVariants as progress
+use Rattle.papaya_shards.specs.Given.SchedulesDeclared.call.Answer.TheVariants.{Completed}
+use Rattle.papaya_shards.specs.Given.SchedulesDeclared.call.Call.{Call}
+use Rattle.papaya_shards.specs.Given.SchedulesDeclared.call.Call.TheVariants as call
+use Rattle.papaya_shards.specs.Given.SchedulesDeclared.outcome.Outcome.TheVariants.{Answered}
+use Rattle.papaya_shards.specs.Given.SchedulesCounts.{Counts}
+use Rattle.papaya_shards.specs.Given.SchedulesLists.{OneOf}
+use Rattle.papaya_shards.specs.Given.SchedulesMoment.{UnderWay as CallThere, Stage, TableThere, Moment}
+use Rattle.papaya_shards.specs.Given.SchedulesSteps.{met_from}
+use Rattle.papaya_shards.specs.Given.SchedulesSweeps.{Fits, roots_since, FindsRoom}
+use Rattle.papaya_shards.specs.Given.SchedulesTerms.{Terms, shards_of}
+use Rattle.papaya_shards.specs.Given.SchedulesViews.{call_of, first_or, first_of, tables_of}
+use Rattle.papaya_shards.specs.Given.RuleChart.{Chart}
+use Rattle.papaya_shards.specs.Given.RuleInWorld.{IsMapIn}
+use Rattle.papaya_shards.proofs.Given.PointsMovedLasts.{moved_lasts}
+use Rattle.papaya_shards.specs.Given.CallersRooms.{CallForRoom}
+use Rattle.papaya_shards.specs.Given.CallersSights.{seen_by}
+use Rattle.papaya_shards.specs.Given.CallersTogether.{UnderWay, OnKey, ForRoom, Counting, OverAll, in_slot}
+use Rattle.papaya_shards.proofs.Given.CallersSights.Seen.{map_seen}
+use Rattle.papaya_shards.proofs.Given.CallersTogether.At.{at_same}
+use Rattle.papaya_shards.proofs.Given.CallersTogether.Fits.{map_in_slot}
+use Rattle.papaya_shards.specs.Given.EffectsKnown.{Known}
+use Rattle.papaya_shards.specs.Given.FinishesMachines.{machine_of}
+use Rattle.papaya_shards.specs.Given.FinishesMaps.{Standing}
+use Rattle.papaya_shards.specs.Given.FollowsMaps.{tables_to, ShowsTables}
+use Rattle.papaya_shards.proofs.Given.FollowsSteps.{WentTo, made_so, is_sight}
+use Rattle.papaya_shards.proofs.Given.HistoriesLogs.{each_of}
+use Rattle.papaya_shards.specs.Given.MomentsWhole.{ShowsWhole}
 use Rattle.papaya_purposes.specs.Purposes.{IsFor, HasMet, ShowsPurposes}
 use Rattle.papaya_purposes.specs.Shards.{ReadsShards}
 use Rattle.papaya_purposes.specs.Swept.{ReservationsAreSwept}
@@ -45,10 +45,10 @@ use Rattle.papaya_purposes.proofs.RoomSteps.{EndsSo, room_ends}
 use Rattle.papaya_purposes.proofs.Steps.{went, on, known2, Did}
 use Rattle.papaya_purposes.proofs.Sums.{counts_wider}
 use Rattle.papaya_purposes.proofs.Swept.{v, then_call, then_is, still, on_map, swept_by, same_map, completed_said}
-use Rattle.papaya_shards.specs.Given.Scenes.Held.{Held, IsAt}
-use Rattle.papaya_shards.specs.Given.Scenes.Scene.{Scene, slot_of}
-use Rattle.papaya_shards.specs.Given.Scenes.Stepping.{StepLeads, StepsFrom}
-use Rattle.papaya_shards.specs.Given.Schedules.Transition.{Past}
+use Rattle.papaya_shards.specs.Given.ScenesHeld.{Held, IsAt}
+use Rattle.papaya_shards.specs.Given.ScenesScene.{Scene, slot_of}
+use Rattle.papaya_shards.specs.Given.ScenesStepping.{StepLeads, StepsFrom}
+use Rattle.papaya_shards.specs.Given.SchedulesTransition.{Past}
 
 module _ {X : Type 0} where
   one_left : (P : X → Type 0) (xs ys : List X) → OneOf P xs → OneOf P (xs ++ ys)

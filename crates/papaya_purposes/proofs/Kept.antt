@@ -1,27 +1,27 @@
 -- After each step of a call the moment says what calls on whole maps have come to, and what they are for.
 use Rattle.std.specs.Prelude.{◌≡◌, ℕ, ◌≤◌, Bool, List, Option, Some, ◌⊎◌}
 use Rattle.std.proofs.Common.{ap, sym, subst, ◌∙◌, inl, inr}
-use Rattle.papaya_shards.specs.Given.Tables.declared.node.Node.{Node}
-use Rattle.papaya_shards.specs.Given.Raw.declared.machines.progress.Progress.{Progress}
-use Rattle.papaya_shards.specs.Given.Schedules.Moment.{UnderWay as CallThere, Moment}
-use Rattle.papaya_shards.specs.Given.Schedules.Views.{call_of}
-use Rattle.papaya_shards.specs.Given.Callers.Together.{UnderWay}
-use Rattle.papaya_shards.specs.Given.Finishes.Maps.{Standing}
-use Rattle.papaya_shards.specs.Given.Effects.Known.{Known}
-use Rattle.papaya_shards.proofs.Given.Hands.Asking.{which}
-use Rattle.papaya_shards.specs.Given.Moments.Whole.{ShowsWhole}
-use Rattle.papaya_shards.specs.Given.Histories.Kept.{ChangesFirst}
+use Rattle.papaya_shards.specs.Given.TablesDeclared.node.Node.{Node}
+use Rattle.papaya_shards.specs.Given.RawDeclared.machines.progress.Progress.{Progress}
+use Rattle.papaya_shards.specs.Given.SchedulesMoment.{UnderWay as CallThere, Moment}
+use Rattle.papaya_shards.specs.Given.SchedulesViews.{call_of}
+use Rattle.papaya_shards.specs.Given.CallersTogether.{UnderWay}
+use Rattle.papaya_shards.specs.Given.FinishesMaps.{Standing}
+use Rattle.papaya_shards.specs.Given.EffectsKnown.{Known}
+use Rattle.papaya_shards.proofs.Given.HandsAsking.{which}
+use Rattle.papaya_shards.specs.Given.MomentsWhole.{ShowsWhole}
+use Rattle.papaya_shards.specs.Given.HistoriesKept.{ChangesFirst}
 use Rattle.papaya_purposes.specs.Kept.{PairsChangeFirst, CallsKeepPurposes}
 use Rattle.papaya_purposes.specs.Purposes.{IsFor, HasCome, ShowsPurposes, NumbersLast}
 use Rattle.papaya_purposes.proofs.Steps.{went, on, v2, scene2, same_call, kept_come, own_come, own_for}
 use Rattle.papaya_purposes.proofs.Still.{for_still}
-use Rattle.papaya_shards.specs.Given.Scenes.Held.{Held, IsAt}
-use Rattle.papaya_shards.specs.Given.Scenes.Scene.{Scene}
-use Rattle.papaya_shards.specs.Given.Scenes.Stepping.{StepLeads}
-use Rattle.papaya_shards.specs.Given.Schedules.Transition.{Past}
+use Rattle.papaya_shards.specs.Given.ScenesHeld.{Held, IsAt}
+use Rattle.papaya_shards.specs.Given.ScenesScene.{Scene}
+use Rattle.papaya_shards.specs.Given.ScenesStepping.{StepLeads}
+use Rattle.papaya_shards.specs.Given.SchedulesTransition.{Past}
 use Rattle.papaya_purposes.proofs.Stored.{effects_stored, numbers_last}
-use Rattle.papaya_shards.specs.Given.Effects.Effects.{effects_of}
-use Rattle.papaya_shards.specs.Given.Effects.declared.acting.Acting.TheVariants as acts
+use Rattle.papaya_shards.specs.Given.EffectsEffects.{effects_of}
+use Rattle.papaya_shards.specs.Given.EffectsDeclared.acting.Acting.TheVariants as acts
 
 module _ {K V : Type 0} (same : K → K → Bool) (hash : ℕ → K → ℕ) (name : ℕ → List ℕ) (log : Past K V) (m : Moment K V) (known : Known) (s : Scene K V) (old new : Held K V)
     (at : IsAt same hash old s) (whole : ShowsWhole same name m known s) (purposes : ShowsPurposes same name log m known s) (of i : ℕ) (u : UnderWay K V K) (here : s.calls of i ≡ Some u)

@@ -3,52 +3,52 @@ use Rattle.std.specs.Prelude.{◌≡◌, ◌≢◌, ℕ, ◌<◌, ◌≤◌, Boo
 use Rattle.std.specs.Int.{IsPowerOfTwo}
 use Rattle.std.specs.List.{AllByRecursion}
 use Rattle.std.proofs.Common.{refl, ap, sym, subst, ◌∙◌, arith, inl, inr}
-use Rattle.papaya_shards.specs.Given.SeizeWords.Mem.{Mem, Took, value_at}
-use Rattle.papaya_shards.specs.Given.SeizeWords.Plan.{Steps}
-use Rattle.papaya_shards.specs.Given.SeizeWords.declared.fault.Fault.{Fault}
-use Rattle.papaya_shards.proofs.Given.SeizeRule.Rows.Leaving.{steps_back}
-use Rattle.papaya_shards.specs.Given.Seize.World.{World}
-use Rattle.papaya_shards.specs.Given.Tables.Chunks.{is_incremental}
-use Rattle.papaya_shards.specs.Given.Tables.declared.node.Node.{Node}
-use Rattle.papaya_shards.specs.Given.Tables.declared.setting.Setting.{Setting}
-use Rattle.papaya_shards.specs.Given.Tables.declared.status.TheConstants.Status.{ABORTED}
-use Rattle.papaya_shards.specs.Given.Tables.declared.table.Table.{Table}
-use Rattle.papaya_shards.specs.Given.Resize.Copier.{copier_plan}
-use Rattle.papaya_shards.specs.Given.Resize.declared.copier.Copier.{Copier}
-use Rattle.papaya_shards.specs.Given.Resize.declared.outcome.Outcome.{Outcome}
-use Rattle.papaya_shards.specs.Given.Resize.declared.outcome.Outcome.TheVariants as outcome
-use Rattle.papaya_shards.specs.Given.Sweeps.Sweep.{copied, plan_at, sweep_plan}
-use Rattle.papaya_shards.specs.Given.Sweeps.SweepPoints.{entering, told}
-use Rattle.papaya_shards.specs.Given.Sweeps.declared.sweep.Purpose.TheVariants.{Walks}
-use Rattle.papaya_shards.specs.Given.Sweeps.declared.sweep.Sweep.{Sweep}
-use Rattle.papaya_shards.specs.Given.Sweeps.declared.sweep.Sweeping.{Sweeping}
-use Rattle.papaya_shards.specs.Given.Sweeps.declared.sweep.Sweeping.TheVariants as at
-use Rattle.papaya_shards.specs.Given.Sweeps.declared.sweep.Swept.{Swept}
-use Rattle.papaya_shards.specs.Given.Sweeps.declared.sweep.Swept.TheVariants as swept
-use Rattle.papaya_shards.specs.Given.Rule.Chart.{Chart}
-use Rattle.papaya_shards.specs.Given.Rule.InWorld.{IsMapIn, Moved}
-use Rattle.papaya_shards.specs.Given.Rule.Maps.{spot_of}
-use Rattle.papaya_shards.specs.Given.Rule.Moments.{Moments}
-use Rattle.papaya_shards.specs.Given.Rule.Rule.{IsLawful, Rule}
-use Rattle.papaya_shards.specs.Given.Rule.Words.{Blocks}
-use Rattle.papaya_shards.proofs.Given.Rule.Moves.Promised.{moves_keep}
-use Rattle.papaya_shards.specs.Given.Points.Steps.{AreLawful}
-use Rattle.papaya_shards.specs.Given.Late.Covers.{times, WasSince, CoversAt}
-use Rattle.papaya_shards.specs.Given.Late.FactsSweeps.{GoesOver, SweepingFacts}
-use Rattle.papaya_shards.specs.Given.Late.ToldSweeps.{IsRowOfSweep}
-use Rattle.papaya_shards.proofs.Given.Late.Swept.Sweeps.Points.{went_sweep}
-use Rattle.papaya_shards.proofs.Given.Late.Swept.Sweeps.Tables.{upto_in, live_in}
-use Rattle.papaya_shards.specs.Given.Callers.OverAll.{CallOverAll, sweep_once_over, past_sweeping}
-use Rattle.papaya_shards.specs.Given.Callers.Sights.{Sight, seen_by}
-use Rattle.papaya_shards.specs.Given.Callers.Together.{UnderWay, OverAll, Stands, Together, in_slot}
-use Rattle.papaya_shards.proofs.Given.Callers.Sights.Seen.{map_seen}
-use Rattle.papaya_shards.proofs.Given.Callers.Together.Few.{claim_few}
-use Rattle.papaya_shards.proofs.Given.Callers.Together.Fits.{map_in_slot}
-use Rattle.papaya_shards.specs.Given.Finishes.Maps.{Standing, IsSameMap}
-use Rattle.papaya_shards.proofs.Given.Follows.Steps.{one_of}
+use Rattle.papaya_shards.specs.Given.SeizeWordsMem.{Mem, Took, value_at}
+use Rattle.papaya_shards.specs.Given.SeizeWordsPlan.{Steps}
+use Rattle.papaya_shards.specs.Given.SeizeWordsDeclared.fault.Fault.{Fault}
+use Rattle.papaya_shards.proofs.Given.SeizeRuleRows.Leaving.{steps_back}
+use Rattle.papaya_shards.specs.Given.SeizeWorld.{World}
+use Rattle.papaya_shards.specs.Given.TablesChunks.{is_incremental}
+use Rattle.papaya_shards.specs.Given.TablesDeclared.node.Node.{Node}
+use Rattle.papaya_shards.specs.Given.TablesDeclared.setting.Setting.{Setting}
+use Rattle.papaya_shards.specs.Given.TablesDeclared.status.TheConstants.Status.{ABORTED}
+use Rattle.papaya_shards.specs.Given.TablesDeclared.table.Table.{Table}
+use Rattle.papaya_shards.specs.Given.ResizeCopier.{copier_plan}
+use Rattle.papaya_shards.specs.Given.ResizeDeclared.copier.Copier.{Copier}
+use Rattle.papaya_shards.specs.Given.ResizeDeclared.outcome.Outcome.{Outcome}
+use Rattle.papaya_shards.specs.Given.ResizeDeclared.outcome.Outcome.TheVariants as outcome
+use Rattle.papaya_shards.specs.Given.SweepsSweep.{copied, plan_at, sweep_plan}
+use Rattle.papaya_shards.specs.Given.SweepsSweepPoints.{entering, told}
+use Rattle.papaya_shards.specs.Given.SweepsDeclared.sweep.Purpose.TheVariants.{Walks}
+use Rattle.papaya_shards.specs.Given.SweepsDeclared.sweep.Sweep.{Sweep}
+use Rattle.papaya_shards.specs.Given.SweepsDeclared.sweep.Sweeping.{Sweeping}
+use Rattle.papaya_shards.specs.Given.SweepsDeclared.sweep.Sweeping.TheVariants as at
+use Rattle.papaya_shards.specs.Given.SweepsDeclared.sweep.Swept.{Swept}
+use Rattle.papaya_shards.specs.Given.SweepsDeclared.sweep.Swept.TheVariants as swept
+use Rattle.papaya_shards.specs.Given.RuleChart.{Chart}
+use Rattle.papaya_shards.specs.Given.RuleInWorld.{IsMapIn, Moved}
+use Rattle.papaya_shards.specs.Given.RuleMaps.{spot_of}
+use Rattle.papaya_shards.specs.Given.RuleMoments.{Moments}
+use Rattle.papaya_shards.specs.Given.RuleRule.{IsLawful, Rule}
+use Rattle.papaya_shards.specs.Given.RuleWords.{Blocks}
+use Rattle.papaya_shards.proofs.Given.RuleMoves.Promised.{moves_keep}
+use Rattle.papaya_shards.specs.Given.PointsSteps.{AreLawful}
+use Rattle.papaya_shards.specs.Given.LateCovers.{times, WasSince, CoversAt}
+use Rattle.papaya_shards.specs.Given.LateFactsSweeps.{GoesOver, SweepingFacts}
+use Rattle.papaya_shards.specs.Given.LateToldSweeps.{IsRowOfSweep}
+use Rattle.papaya_shards.proofs.Given.LateSwept.Sweeps.Points.{went_sweep}
+use Rattle.papaya_shards.proofs.Given.LateSwept.Sweeps.Tables.{upto_in, live_in}
+use Rattle.papaya_shards.specs.Given.CallersOverAll.{CallOverAll, sweep_once_over, past_sweeping}
+use Rattle.papaya_shards.specs.Given.CallersSights.{Sight, seen_by}
+use Rattle.papaya_shards.specs.Given.CallersTogether.{UnderWay, OverAll, Stands, Together, in_slot}
+use Rattle.papaya_shards.proofs.Given.CallersSights.Seen.{map_seen}
+use Rattle.papaya_shards.proofs.Given.CallersTogether.Few.{claim_few}
+use Rattle.papaya_shards.proofs.Given.CallersTogether.Fits.{map_in_slot}
+use Rattle.papaya_shards.specs.Given.FinishesMaps.{Standing, IsSameMap}
+use Rattle.papaya_shards.proofs.Given.FollowsSteps.{one_of}
 use Rattle.papaya_purposes.specs.Keys.{KeysAt, AreKeyed}
 use Rattle.papaya_purposes.specs.Purposes.{KeysOf}
-use Rattle.papaya_shards.specs.Given.Named.Machines.{IsBefore}
+use Rattle.papaya_shards.specs.Given.NamedMachines.{IsBefore}
 use Rattle.papaya_purposes.proofs.KeysOn.{IsLow, StandsLow, keys_at_on}
 use Rattle.papaya_purposes.proofs.KeysSteps.{Leads, copies_lead, walk_leads}
 use Rattle.papaya_purposes.proofs.Lists.{all_on, all_both}

@@ -3,50 +3,50 @@ use Rattle.std.specs.Prelude.{◌≡◌, ℕ, ◌<◌, ◌≤◌, Bool, true, Li
 use Rattle.std.specs.List.{AllByRecursion}
 use Rattle.std.proofs.Common.{refl, ap, sym, subst, ◌∙◌, inl, inr}
 use Rattle.std.proofs.lemmas.Bool.{cases_eq}
-use Rattle.papaya_shards.specs.Given.SeizeWords.Mem.{Mem, Took, value_at}
-use Rattle.papaya_shards.specs.Given.SeizeWords.Plan.{Steps}
-use Rattle.papaya_shards.proofs.Given.SeizeRule.Rows.Leaving.{steps_back}
-use Rattle.papaya_shards.specs.Given.Seize.World.{with_at}
-use Rattle.papaya_shards.specs.Given.Tables.Chunks.{is_incremental}
-use Rattle.papaya_shards.specs.Given.Tables.declared.node.Node.{Node}
-use Rattle.papaya_shards.specs.Given.Sweeps.Sweep.{sweep_plan}
-use Rattle.papaya_shards.specs.Given.Sweeps.declared.sweep.Purpose.TheVariants.{Walks}
-use Rattle.papaya_shards.specs.Given.Sweeps.declared.sweep.Sweep.{Sweep}
-use Rattle.papaya_shards.specs.Given.Sweeps.declared.sweep.Swept.{Swept}
-use Rattle.papaya_shards.specs.Given.Raw.Machine.{machine_plan, swept}
-use Rattle.papaya_shards.specs.Given.Raw.Progress.{of_swept}
-use Rattle.papaya_shards.specs.Given.Raw.declared.machines.machine.Machine.TheVariants as kinds
-use Rattle.papaya_shards.specs.Given.Raw.declared.machines.progress.Progress.{Progress}
-use Rattle.papaya_shards.specs.Given.Raw.declared.machines.progress.Progress.TheVariants as progress
-use Rattle.papaya_shards.specs.Given.Schedules.Moment.{Moment}
-use Rattle.papaya_shards.specs.Given.Rule.Chart.{Chart}
-use Rattle.papaya_shards.specs.Given.Rule.InWorld.{Moved}
-use Rattle.papaya_shards.specs.Given.Rule.Maps.{spot_of}
-use Rattle.papaya_shards.specs.Given.Rule.Words.{Blocks}
-use Rattle.papaya_shards.specs.Given.Points.Steps.{AreLawful}
-use Rattle.papaya_shards.specs.Given.Late.Covers.{NamesPair}
-use Rattle.papaya_shards.specs.Given.Callers.OverAll.{CallOverAll}
-use Rattle.papaya_shards.specs.Given.Callers.Sights.{Sight, seen_by}
-use Rattle.papaya_shards.specs.Given.Callers.Together.{UnderWay, OnKey, ForRoom, Counting, OverAll, Together}
-use Rattle.papaya_shards.proofs.Given.Callers.Together.At.{at_same}
-use Rattle.papaya_shards.specs.Given.Effects.Known.{Known}
-use Rattle.papaya_shards.specs.Given.Finishes.Maps.{Standing}
-use Rattle.papaya_shards.specs.Given.Follows.Shows.{Shows}
-use Rattle.papaya_shards.proofs.Given.Follows.Steps.{WentTo, DidSo, one_of}
-use Rattle.papaya_shards.specs.Given.Moments.Whole.{ShowsWhole}
-use Rattle.papaya_shards.specs.Given.Teller.declared.changed.Changed.TheVariants.{Nothing}
-use Rattle.papaya_shards.proofs.Given.Histories.Steps.{to}
+use Rattle.papaya_shards.specs.Given.SeizeWordsMem.{Mem, Took, value_at}
+use Rattle.papaya_shards.specs.Given.SeizeWordsPlan.{Steps}
+use Rattle.papaya_shards.proofs.Given.SeizeRuleRows.Leaving.{steps_back}
+use Rattle.papaya_shards.specs.Given.SeizeWorld.{with_at}
+use Rattle.papaya_shards.specs.Given.TablesChunks.{is_incremental}
+use Rattle.papaya_shards.specs.Given.TablesDeclared.node.Node.{Node}
+use Rattle.papaya_shards.specs.Given.SweepsSweep.{sweep_plan}
+use Rattle.papaya_shards.specs.Given.SweepsDeclared.sweep.Purpose.TheVariants.{Walks}
+use Rattle.papaya_shards.specs.Given.SweepsDeclared.sweep.Sweep.{Sweep}
+use Rattle.papaya_shards.specs.Given.SweepsDeclared.sweep.Swept.{Swept}
+use Rattle.papaya_shards.specs.Given.RawMachine.{machine_plan, swept}
+use Rattle.papaya_shards.specs.Given.RawProgress.{of_swept}
+use Rattle.papaya_shards.specs.Given.RawDeclared.machines.machine.Machine.TheVariants as kinds
+use Rattle.papaya_shards.specs.Given.RawDeclared.machines.progress.Progress.{Progress}
+use Rattle.papaya_shards.specs.Given.RawDeclared.machines.progress.Progress.TheVariants as progress
+use Rattle.papaya_shards.specs.Given.SchedulesMoment.{Moment}
+use Rattle.papaya_shards.specs.Given.RuleChart.{Chart}
+use Rattle.papaya_shards.specs.Given.RuleInWorld.{Moved}
+use Rattle.papaya_shards.specs.Given.RuleMaps.{spot_of}
+use Rattle.papaya_shards.specs.Given.RuleWords.{Blocks}
+use Rattle.papaya_shards.specs.Given.PointsSteps.{AreLawful}
+use Rattle.papaya_shards.specs.Given.LateCovers.{NamesPair}
+use Rattle.papaya_shards.specs.Given.CallersOverAll.{CallOverAll}
+use Rattle.papaya_shards.specs.Given.CallersSights.{Sight, seen_by}
+use Rattle.papaya_shards.specs.Given.CallersTogether.{UnderWay, OnKey, ForRoom, Counting, OverAll, Together}
+use Rattle.papaya_shards.proofs.Given.CallersTogether.At.{at_same}
+use Rattle.papaya_shards.specs.Given.EffectsKnown.{Known}
+use Rattle.papaya_shards.specs.Given.FinishesMaps.{Standing}
+use Rattle.papaya_shards.specs.Given.FollowsShows.{Shows}
+use Rattle.papaya_shards.proofs.Given.FollowsSteps.{WentTo, DidSo, one_of}
+use Rattle.papaya_shards.specs.Given.MomentsWhole.{ShowsWhole}
+use Rattle.papaya_shards.specs.Given.TellerDeclared.changed.Changed.TheVariants.{Nothing}
+use Rattle.papaya_shards.proofs.Given.HistoriesSteps.{to}
 use Rattle.papaya_purposes.specs.Keys.{KeysAt, AreKeyed}
 use Rattle.papaya_purposes.specs.Kept.{ShowsNone}
 use Rattle.papaya_purposes.specs.Purposes.{KeysOf}
-use Rattle.papaya_shards.specs.Given.Named.Machines.{IsBefore}
+use Rattle.papaya_shards.specs.Given.NamedMachines.{IsBefore}
 use Rattle.papaya_purposes.proofs.KeysCarried.{StandsMoved, stood_moved, keys_carried, keyed_carried, its_map, since, LeadsOn, leads_on}
 use Rattle.papaya_purposes.proofs.KeysOn.{StandsLow}
 use Rattle.papaya_purposes.proofs.Pairs.{pair_swept}
-use Rattle.papaya_shards.proofs.Given.Scenes.Told.{as_step}
-use Rattle.papaya_shards.specs.Given.Scenes.Held.{Held, IsAt}
-use Rattle.papaya_shards.specs.Given.Scenes.Scene.{Scene, slot_of}
-use Rattle.papaya_shards.specs.Given.Scenes.Stepping.{StepLeads, StepsFrom}
+use Rattle.papaya_shards.proofs.Given.ScenesTold.{as_step}
+use Rattle.papaya_shards.specs.Given.ScenesHeld.{Held, IsAt}
+use Rattle.papaya_shards.specs.Given.ScenesScene.{Scene, slot_of}
+use Rattle.papaya_shards.specs.Given.ScenesStepping.{StepLeads, StepsFrom}
 
 module _ {K V : Type 0} (same : K → K → Bool) (hash : ℕ → K → ℕ) (name : ℕ → List ℕ) (m : Moment K V) (known : Known) (s : Scene K V) (old new : Held K V) (at : IsAt same hash old s)
     (whole : ShowsWhole same name m known s) (shown : Shows same name m known s) (of i : ℕ) (u : UnderWay K V K) (here : s.calls of i ≡ Some u) (said : Progress (Node K V))

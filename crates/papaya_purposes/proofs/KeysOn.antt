@@ -3,24 +3,24 @@ use Rattle.std.specs.Prelude.{◌≡◌, ◌≢◌, ℕ, suc, ◌+◌, ◌<◌, 
 use Rattle.std.specs.List.{AllByRecursion}
 use Rattle.std.proofs.Common.{refl, ap, sym, subst, ◌∙◌, arith, inl, inr}
 use Rattle.std.proofs.lemmas.Bool.{cases_lt, ltb-true, ltb-false}
-use Rattle.papaya_shards.specs.Given.Tables.declared.status.TheConstants.Status.{ABORTED}
-use Rattle.papaya_shards.specs.Given.Tables.declared.table.Table.{Table}
-use Rattle.papaya_shards.specs.Given.Sweeps.SweepPoints.{standing, next_at, after_next}
-use Rattle.papaya_shards.specs.Given.Sweeps.declared.sweep.Sweep.{Sweep}
-use Rattle.papaya_shards.specs.Given.Sweeps.declared.sweep.Sweeping.{Sweeping}
-use Rattle.papaya_shards.specs.Given.Sweeps.declared.sweep.Sweeping.TheVariants as at
-use Rattle.papaya_shards.specs.Given.Rule.Chart.{Phase, Still, Copying, Copied, Place, Empty, Tombstone, Holds, Chart, put, put_in, is_taken}
-use Rattle.papaya_shards.specs.Given.Rule.Lasts.{Lasts}
-use Rattle.papaya_shards.specs.Given.Rule.Maps.{spot_of}
-use Rattle.papaya_shards.specs.Given.Rule.Moments.{Moments, Remembers}
-use Rattle.papaya_shards.specs.Given.Rule.Moves.{Move, Links, Stores, Replaces, Removes, Marks, MarksBlocking, Skips, Unmarks, Puts, Covers, PutsLate, Claims, Reclaims, Counts, GivesUp, Aborts, Promotes, Announces}
-use Rattle.papaya_shards.specs.Given.Rule.Moves.{marked, still_place, copied_place, lent_place, without, after, Allowed}
-use Rattle.papaya_shards.specs.Given.Rule.Rule.{IsLawful, Common, Rule, is_of, names}
-use Rattle.papaya_shards.proofs.Given.Rule.History.History.{history_kept}
-use Rattle.papaya_shards.proofs.Given.Rule.Moves.Promised.{moves_keep}
-use Rattle.papaya_shards.proofs.Given.Rule.Moves.Writes.{put_cases, put_in_cases, put_in_one, put_in_elsewhere}
-use Rattle.papaya_shards.proofs.Given.Late.Swept.Sweeps.Tables.{root_is, still_current}
-use Rattle.papaya_shards.proofs.Given.Callers.Asked.OneCurrent.{one_current}
+use Rattle.papaya_shards.specs.Given.TablesDeclared.status.TheConstants.Status.{ABORTED}
+use Rattle.papaya_shards.specs.Given.TablesDeclared.table.Table.{Table}
+use Rattle.papaya_shards.specs.Given.SweepsSweepPoints.{standing, next_at, after_next}
+use Rattle.papaya_shards.specs.Given.SweepsDeclared.sweep.Sweep.{Sweep}
+use Rattle.papaya_shards.specs.Given.SweepsDeclared.sweep.Sweeping.{Sweeping}
+use Rattle.papaya_shards.specs.Given.SweepsDeclared.sweep.Sweeping.TheVariants as at
+use Rattle.papaya_shards.specs.Given.RuleChart.{Phase, Still, Copying, Copied, Place, Empty, Tombstone, Holds, Chart, put, put_in, is_taken}
+use Rattle.papaya_shards.specs.Given.RuleLasts.{Lasts}
+use Rattle.papaya_shards.specs.Given.RuleMaps.{spot_of}
+use Rattle.papaya_shards.specs.Given.RuleMoments.{Moments, Remembers}
+use Rattle.papaya_shards.specs.Given.RuleMoves.{Move, Links, Stores, Replaces, Removes, Marks, MarksBlocking, Skips, Unmarks, Puts, Covers, PutsLate, Claims, Reclaims, Counts, GivesUp, Aborts, Promotes, Announces}
+use Rattle.papaya_shards.specs.Given.RuleMoves.{marked, still_place, copied_place, lent_place, without, after, Allowed}
+use Rattle.papaya_shards.specs.Given.RuleRule.{IsLawful, Common, Rule, is_of, names}
+use Rattle.papaya_shards.proofs.Given.RuleHistory.History.{history_kept}
+use Rattle.papaya_shards.proofs.Given.RuleMoves.Promised.{moves_keep}
+use Rattle.papaya_shards.proofs.Given.RuleMoves.Writes.{put_cases, put_in_cases, put_in_one, put_in_elsewhere}
+use Rattle.papaya_shards.proofs.Given.LateSwept.Sweeps.Tables.{root_is, still_current}
+use Rattle.papaya_shards.proofs.Given.CallersAsked.OneCurrent.{one_current}
 use Rattle.papaya_purposes.specs.Keys.{HasClass, HadAlways, of_class, StandsTo, KeysTo, KeysCame, KeysAt}
 
 -- a place has a pair

@@ -2,45 +2,45 @@
 use Rattle.std.specs.Prelude.{◌≡◌, ◌≢◌, ℕ, suc, ◌+◌, ◌%◌, ◌^◌, ◌<◌, ◌≤◌, ◌==◌, ◌&&◌, nat_lt, Bool, true, false, cond, List, [], ◌∷◌, if◌then◌else◌}
 use Rattle.std.proofs.Common.{refl, ap, sym, subst, ◌∙◌, arith, inl, inr}
 use Rattle.std.proofs.lemmas.Bool.{cases_eq, ltb-false, eqb-false, eqb-true}
-use Rattle.papaya_shards.specs.Given.SeizeWords.Word.{block_in}
-use Rattle.papaya_shards.specs.Given.Seize.World.{World}
-use Rattle.papaya_shards.specs.Given.Tables.Chunks.{is_incremental}
-use Rattle.papaya_shards.specs.Given.Tables.Marks.{has_mark}
-use Rattle.papaya_shards.specs.Given.Tables.declared.marks.TheConstants.{COPYING}
-use Rattle.papaya_shards.specs.Given.Tables.declared.node.Node.{Node}
-use Rattle.papaya_shards.specs.Given.Tables.declared.setting.Setting.{Setting}
-use Rattle.papaya_shards.specs.Given.Tables.declared.status.TheConstants.Status.{ABORTED}
-use Rattle.papaya_shards.specs.Given.Tables.declared.table.Table.{Table}
-use Rattle.papaya_shards.specs.Given.Resize.declared.copier.Copier.{Copier}
-use Rattle.papaya_shards.specs.Given.Resize.declared.outcome.Outcome.{Outcome}
-use Rattle.papaya_shards.specs.Given.Resize.declared.outcome.Outcome.TheVariants as outcome
-use Rattle.papaya_shards.specs.Given.Sweeps.Sweep.{copied}
-use Rattle.papaya_shards.specs.Given.Sweeps.SweepPoints.{removes, standing, past, beginning, entering, tableless, further, telling, at_pair, seen}
-use Rattle.papaya_shards.specs.Given.Sweeps.declared.sweep.Purpose.{Purpose}
-use Rattle.papaya_shards.specs.Given.Sweeps.declared.sweep.Purpose.TheVariants.{Walks, Clears, Retains}
-use Rattle.papaya_shards.specs.Given.Sweeps.declared.sweep.Sweep.{Sweep}
-use Rattle.papaya_shards.specs.Given.Sweeps.declared.sweep.Sweeping.{Sweeping}
-use Rattle.papaya_shards.specs.Given.Sweeps.declared.sweep.Sweeping.TheVariants as at
-use Rattle.papaya_shards.specs.Given.Sweeps.declared.sweep.Swept.{Swept}
-use Rattle.papaya_shards.specs.Given.Sweeps.declared.sweep.Swept.TheVariants as swept
-use Rattle.papaya_shards.specs.Given.Raw.Progress.{of_swept}
-use Rattle.papaya_shards.specs.Given.Rule.Chart.{Phase, Holds, Chart}
-use Rattle.papaya_shards.specs.Given.Rule.InWorld.{IsMapIn}
-use Rattle.papaya_shards.specs.Given.Rule.Maps.{spot_of, IsTable}
-use Rattle.papaya_shards.specs.Given.Rule.Moments.{Moments}
-use Rattle.papaya_shards.specs.Given.Rule.Rule.{is_of, names}
-use Rattle.papaya_shards.specs.Given.Rule.Words.{Blocks, byte_of, place_word}
-use Rattle.papaya_shards.proofs.Given.Rule.Words.PlaceWordsRead.{word-pair}
-use Rattle.papaya_shards.specs.Given.Points.Steps.{AreLawful}
-use Rattle.papaya_shards.specs.Given.Late.Covers.{NamesPair}
-use Rattle.papaya_shards.specs.Given.Late.FactsSweeps.{WasRoot, HasNoTable, GoesOver, SweepingFacts}
-use Rattle.papaya_shards.proofs.Given.Late.Swept.Covers.Begins.{names_current}
-use Rattle.papaya_shards.proofs.Given.Late.Swept.Covers.Told.{next_is}
-use Rattle.papaya_shards.proofs.Given.Late.Swept.Sweeps.Moved.{SweepMoves}
-use Rattle.papaya_shards.proofs.Given.Late.Swept.Sweeps.Tables.{upto_in, live_in, pair_some}
+use Rattle.papaya_shards.specs.Given.SeizeWordsWord.{block_in}
+use Rattle.papaya_shards.specs.Given.SeizeWorld.{World}
+use Rattle.papaya_shards.specs.Given.TablesChunks.{is_incremental}
+use Rattle.papaya_shards.specs.Given.TablesMarks.{has_mark}
+use Rattle.papaya_shards.specs.Given.TablesDeclared.marks.TheConstants.{COPYING}
+use Rattle.papaya_shards.specs.Given.TablesDeclared.node.Node.{Node}
+use Rattle.papaya_shards.specs.Given.TablesDeclared.setting.Setting.{Setting}
+use Rattle.papaya_shards.specs.Given.TablesDeclared.status.TheConstants.Status.{ABORTED}
+use Rattle.papaya_shards.specs.Given.TablesDeclared.table.Table.{Table}
+use Rattle.papaya_shards.specs.Given.ResizeDeclared.copier.Copier.{Copier}
+use Rattle.papaya_shards.specs.Given.ResizeDeclared.outcome.Outcome.{Outcome}
+use Rattle.papaya_shards.specs.Given.ResizeDeclared.outcome.Outcome.TheVariants as outcome
+use Rattle.papaya_shards.specs.Given.SweepsSweep.{copied}
+use Rattle.papaya_shards.specs.Given.SweepsSweepPoints.{removes, standing, past, beginning, entering, tableless, further, telling, at_pair, seen}
+use Rattle.papaya_shards.specs.Given.SweepsDeclared.sweep.Purpose.{Purpose}
+use Rattle.papaya_shards.specs.Given.SweepsDeclared.sweep.Purpose.TheVariants.{Walks, Clears, Retains}
+use Rattle.papaya_shards.specs.Given.SweepsDeclared.sweep.Sweep.{Sweep}
+use Rattle.papaya_shards.specs.Given.SweepsDeclared.sweep.Sweeping.{Sweeping}
+use Rattle.papaya_shards.specs.Given.SweepsDeclared.sweep.Sweeping.TheVariants as at
+use Rattle.papaya_shards.specs.Given.SweepsDeclared.sweep.Swept.{Swept}
+use Rattle.papaya_shards.specs.Given.SweepsDeclared.sweep.Swept.TheVariants as swept
+use Rattle.papaya_shards.specs.Given.RawProgress.{of_swept}
+use Rattle.papaya_shards.specs.Given.RuleChart.{Phase, Holds, Chart}
+use Rattle.papaya_shards.specs.Given.RuleInWorld.{IsMapIn}
+use Rattle.papaya_shards.specs.Given.RuleMaps.{spot_of, IsTable}
+use Rattle.papaya_shards.specs.Given.RuleMoments.{Moments}
+use Rattle.papaya_shards.specs.Given.RuleRule.{is_of, names}
+use Rattle.papaya_shards.specs.Given.RuleWords.{Blocks, byte_of, place_word}
+use Rattle.papaya_shards.proofs.Given.RuleWords.PlaceWordsRead.{word-pair}
+use Rattle.papaya_shards.specs.Given.PointsSteps.{AreLawful}
+use Rattle.papaya_shards.specs.Given.LateCovers.{NamesPair}
+use Rattle.papaya_shards.specs.Given.LateFactsSweeps.{WasRoot, HasNoTable, GoesOver, SweepingFacts}
+use Rattle.papaya_shards.proofs.Given.LateSwept.Covers.Begins.{names_current}
+use Rattle.papaya_shards.proofs.Given.LateSwept.Covers.Told.{next_is}
+use Rattle.papaya_shards.proofs.Given.LateSwept.Sweeps.Moved.{SweepMoves}
+use Rattle.papaya_shards.proofs.Given.LateSwept.Sweeps.Tables.{upto_in, live_in, pair_some}
 use Rattle.papaya_purposes.specs.Keys.{of_class, StandsTo, KeysTo, KeysCame, KeysAt}
 use Rattle.papaya_purposes.specs.Kept.{ShowsNone}
-use Rattle.papaya_shards.specs.Given.Named.Machines.{IsBefore}
+use Rattle.papaya_shards.specs.Given.NamedMachines.{IsBefore}
 use Rattle.papaya_purposes.proofs.KeysOn.{named_held, names_by, inside_of, IsLow, StandsLow}
 use Rattle.papaya_purposes.proofs.Onward.{not_walking, not_retaining}
 

@@ -3,12 +3,12 @@ use Rattle.std.specs.Prelude.{◌≡◌, ◌≢◌, ℕ, ◌+◌, ◌<◌, ◌==
 use Rattle.std.specs.List.{AllByRecursion, list_all}
 use Rattle.std.proofs.Common.{refl, ap, sym, subst, ◌∙◌, arith, inl, inr}
 use Rattle.std.proofs.lemmas.Bool.{cases_eq, ne_eqb, eq-eqb}
-use Rattle.papaya_shards.specs.Given.Schedules.declared.call.Reply.{Reply}
-use Rattle.papaya_shards.specs.Given.Schedules.declared.call.Reply.TheVariants.{Decides}
-use Rattle.papaya_shards.specs.Given.Schedules.Lists.{OneOf, is_among}
-use Rattle.papaya_shards.specs.Given.Schedules.Sweeps.{is_yes}
-use Rattle.papaya_shards.specs.Given.Schedules.Views.{reply_to}
-use Rattle.papaya_shards.specs.Given.Late.Covers.{times}
+use Rattle.papaya_shards.specs.Given.SchedulesDeclared.call.Reply.{Reply}
+use Rattle.papaya_shards.specs.Given.SchedulesDeclared.call.Reply.TheVariants.{Decides}
+use Rattle.papaya_shards.specs.Given.SchedulesLists.{OneOf, is_among}
+use Rattle.papaya_shards.specs.Given.SchedulesSweeps.{is_yes}
+use Rattle.papaya_shards.specs.Given.SchedulesViews.{reply_to}
+use Rattle.papaya_shards.specs.Given.LateCovers.{times}
 
 module _ {X : Type 0} (P Q : X → Type 0) where
   pub all_on : ((n : X) → P n → Q n) → (xs : List X) → AllByRecursion P xs → AllByRecursion Q xs

@@ -2,47 +2,47 @@
 use Rattle.std.specs.Prelude.{◌≡◌, ℕ, suc, ◌+◌, ◌-◌, ◌^◌, ◌==◌, nat_le, nat_lt, max, Bool, true, false, List, Result, Ok, Err, if◌then◌else◌}
 use Rattle.std.proofs.Common.{refl, sym, subst, arith}
 use Rattle.std.proofs.lemmas.Bool.{ltb-false, leb-true}
-use Rattle.papaya_shards.specs.Given.SeizeWords.Mem.{Mem}
-use Rattle.papaya_shards.specs.Given.SeizeWords.Op.{Out, Found}
-use Rattle.papaya_shards.specs.Given.SeizeWords.declared.fault.Fault.{Fault}
-use Rattle.papaya_shards.specs.Given.SeizeWords.declared.fault.Fault.TheVariants.{Capacity}
-use Rattle.papaya_shards.specs.Given.Seize.declared.progress.Progress.{Progress}
-use Rattle.papaya_shards.specs.Given.Seize.declared.progress.Progress.TheVariants as progress
-use Rattle.papaya_shards.specs.Given.Tables.Lengths.{len_of, next_limit, next_turn, places_for}
-use Rattle.papaya_shards.specs.Given.Tables.Powers.{next_power}
-use Rattle.papaya_shards.specs.Given.Tables.Probes.{limit_of}
-use Rattle.papaya_shards.specs.Given.Tables.declared.lengths.Reason.TheVariants.{Reserved}
-use Rattle.papaya_shards.specs.Given.Tables.declared.node.Node.{Node}
-use Rattle.papaya_shards.specs.Given.Tables.declared.table.Table.{Table}
-use Rattle.papaya_shards.specs.Given.Resize.Copier.{copier_plan}
-use Rattle.papaya_shards.specs.Given.Resize.NewTable.{first_table, following, new_table_plan, planned, table_reserved}
-use Rattle.papaya_shards.specs.Given.Resize.Sum.{sum_plan}
-use Rattle.papaya_shards.specs.Given.Resize.declared.copier.Copier.{Copier}
-use Rattle.papaya_shards.specs.Given.Resize.declared.new_table.Making.{Making}
-use Rattle.papaya_shards.specs.Given.Resize.declared.new_table.Making.TheVariants as makes
-use Rattle.papaya_shards.specs.Given.Resize.declared.new_table.NewTable.{NewTable}
-use Rattle.papaya_shards.specs.Given.Resize.declared.outcome.Outcome.{Outcome}
-use Rattle.papaya_shards.specs.Given.Resize.declared.outcome.Outcome.TheVariants as outcome
-use Rattle.papaya_shards.specs.Given.Resize.declared.sum.Sum.{Sum}
-use Rattle.papaya_shards.specs.Given.Reserves.Reserve as reserves
-use Rattle.papaya_shards.specs.Given.Reserves.declared.reserve.Reserve.{Reserve}
-use Rattle.papaya_shards.specs.Given.Reserves.declared.reserve.Reserving.{Reserving}
-use Rattle.papaya_shards.specs.Given.Reserves.declared.reserve.Reserving.TheVariants as at
-use Rattle.papaya_shards.specs.Given.Schedules.Counts.{Counts}
-use Rattle.papaya_shards.specs.Given.Schedules.Growing.{Has}
-use Rattle.papaya_shards.specs.Given.Schedules.Lists.{OneOf}
-use Rattle.papaya_shards.specs.Given.Schedules.Moment.{Moment}
-use Rattle.papaya_shards.specs.Given.Teller.Tells.{StepsTold}
-use Rattle.papaya_shards.specs.Given.Teller.declared.changed.Changed.{Changed}
-use Rattle.papaya_shards.specs.Given.Teller.declared.changed.Changed.TheVariants as changed
-use Rattle.papaya_shards.proofs.Given.Others.Outcomes.{told_in}
-use Rattle.papaya_shards.proofs.Given.Rule.Keys.Always.{Always, AlwaysOf, always_if, always_plan_as, always_steps}
-use Rattle.papaya_shards.specs.Given.Finds.Reserving.{FitsAt, ReservesAt, SumTells}
-use Rattle.papaya_shards.specs.Given.Finds.Shaping.{ShapedAt}
-use Rattle.papaya_shards.proofs.Given.Finds.Shaping.{always_plan_more, goes_shaped}
+use Rattle.papaya_shards.specs.Given.SeizeWordsMem.{Mem}
+use Rattle.papaya_shards.specs.Given.SeizeWordsOp.{Out, Found}
+use Rattle.papaya_shards.specs.Given.SeizeWordsDeclared.fault.Fault.{Fault}
+use Rattle.papaya_shards.specs.Given.SeizeWordsDeclared.fault.Fault.TheVariants.{Capacity}
+use Rattle.papaya_shards.specs.Given.SeizeDeclared.progress.Progress.{Progress}
+use Rattle.papaya_shards.specs.Given.SeizeDeclared.progress.Progress.TheVariants as progress
+use Rattle.papaya_shards.specs.Given.TablesLengths.{len_of, next_limit, next_turn, places_for}
+use Rattle.papaya_shards.specs.Given.TablesPowers.{next_power}
+use Rattle.papaya_shards.specs.Given.TablesProbes.{limit_of}
+use Rattle.papaya_shards.specs.Given.TablesDeclared.lengths.Reason.TheVariants.{Reserved}
+use Rattle.papaya_shards.specs.Given.TablesDeclared.node.Node.{Node}
+use Rattle.papaya_shards.specs.Given.TablesDeclared.table.Table.{Table}
+use Rattle.papaya_shards.specs.Given.ResizeCopier.{copier_plan}
+use Rattle.papaya_shards.specs.Given.ResizeNewTable.{first_table, following, new_table_plan, planned, table_reserved}
+use Rattle.papaya_shards.specs.Given.ResizeSum.{sum_plan}
+use Rattle.papaya_shards.specs.Given.ResizeDeclared.copier.Copier.{Copier}
+use Rattle.papaya_shards.specs.Given.ResizeDeclared.new_table.Making.{Making}
+use Rattle.papaya_shards.specs.Given.ResizeDeclared.new_table.Making.TheVariants as makes
+use Rattle.papaya_shards.specs.Given.ResizeDeclared.new_table.NewTable.{NewTable}
+use Rattle.papaya_shards.specs.Given.ResizeDeclared.outcome.Outcome.{Outcome}
+use Rattle.papaya_shards.specs.Given.ResizeDeclared.outcome.Outcome.TheVariants as outcome
+use Rattle.papaya_shards.specs.Given.ResizeDeclared.sum.Sum.{Sum}
+use Rattle.papaya_shards.specs.Given.ReservesReserve as reserves
+use Rattle.papaya_shards.specs.Given.ReservesDeclared.reserve.Reserve.{Reserve}
+use Rattle.papaya_shards.specs.Given.ReservesDeclared.reserve.Reserving.{Reserving}
+use Rattle.papaya_shards.specs.Given.ReservesDeclared.reserve.Reserving.TheVariants as at
+use Rattle.papaya_shards.specs.Given.SchedulesCounts.{Counts}
+use Rattle.papaya_shards.specs.Given.SchedulesGrowing.{Has}
+use Rattle.papaya_shards.specs.Given.SchedulesLists.{OneOf}
+use Rattle.papaya_shards.specs.Given.SchedulesMoment.{Moment}
+use Rattle.papaya_shards.specs.Given.TellerTells.{StepsTold}
+use Rattle.papaya_shards.specs.Given.TellerDeclared.changed.Changed.{Changed}
+use Rattle.papaya_shards.specs.Given.TellerDeclared.changed.Changed.TheVariants as changed
+use Rattle.papaya_shards.proofs.Given.OthersOutcomes.{told_in}
+use Rattle.papaya_shards.proofs.Given.RuleKeys.Always.{Always, AlwaysOf, always_if, always_plan_as, always_steps}
+use Rattle.papaya_shards.specs.Given.FindsReserving.{FitsAt, ReservesAt, SumTells}
+use Rattle.papaya_shards.specs.Given.FindsShaping.{ShapedAt}
+use Rattle.papaya_shards.proofs.Given.FindsShaping.{always_plan_more, goes_shaped}
 use Rattle.papaya_purposes.specs.Needs.{IsFirstFor, IsLaterFor, Needs, NeedsAt}
 use Rattle.papaya_purposes.proofs.Sums.{counts_wider}
-use Rattle.papaya_shards.proofs.Given.Scenes.Told.{as_step}
+use Rattle.papaya_shards.proofs.Given.ScenesTold.{as_step}
 
 -- With more moments.
 module _ {K V : Type 0} (of : ℕ) (moments moments2 : List (Moment K V)) (wider : (P : Moment K V → Type 0) → OneOf P moments → OneOf P moments2) (p : Reserve) where

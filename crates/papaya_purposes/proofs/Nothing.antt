@@ -1,16 +1,16 @@
 -- Events of which nothing is promised.
 use Rattle.std.specs.Prelude.{ℕ, Bool, List, Option, Some, None}
 use Rattle.std.proofs.Common.{ap, sym, subst}
-use Rattle.papaya_shards.specs.Given.Schedules.declared.call.Call.{Call}
-use Rattle.papaya_shards.specs.Given.Schedules.declared.call.Call.TheVariants as call
-use Rattle.papaya_shards.specs.Given.Schedules.declared.outcome.Outcome.{Outcome}
-use Rattle.papaya_shards.specs.Given.Schedules.declared.outcome.Outcome.TheVariants as outcome
-use Rattle.papaya_shards.specs.Given.Schedules.Entry.{IfCall, acting}
-use Rattle.papaya_shards.specs.Given.Schedules.Moment.{UnderWay as CallThere, Moment}
-use Rattle.papaya_shards.specs.Given.Schedules.Sweeps.{Sweeps}
-use Rattle.papaya_shards.specs.Given.Schedules.Terms.{Terms}
+use Rattle.papaya_shards.specs.Given.SchedulesDeclared.call.Call.{Call}
+use Rattle.papaya_shards.specs.Given.SchedulesDeclared.call.Call.TheVariants as call
+use Rattle.papaya_shards.specs.Given.SchedulesDeclared.outcome.Outcome.{Outcome}
+use Rattle.papaya_shards.specs.Given.SchedulesDeclared.outcome.Outcome.TheVariants as outcome
+use Rattle.papaya_shards.specs.Given.SchedulesEntry.{IfCall, acting}
+use Rattle.papaya_shards.specs.Given.SchedulesMoment.{UnderWay as CallThere, Moment}
+use Rattle.papaya_shards.specs.Given.SchedulesSweeps.{Sweeps}
+use Rattle.papaya_shards.specs.Given.SchedulesTerms.{Terms}
 use Rattle.papaya_purposes.specs.Swept.{SaysNothing, OtherOutcomesAreSwept, CallsOnKeysAreSwept, NoCallsAreSwept}
-use Rattle.papaya_shards.specs.Given.Schedules.Transition.{call_left, worked_by}
+use Rattle.papaya_shards.specs.Given.SchedulesTransition.{call_left, worked_by}
 
 module _ {K V : Type 0} (same : K → K → Bool) (terms : Terms) (c : CallThere K V) (moments : List (Moment K V)) (now : Moment K V) where
   by_walk : (o : Outcome V) → SaysNothing o → Sweeps same terms call.Walk c moments now o

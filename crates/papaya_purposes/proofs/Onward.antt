@@ -1,38 +1,38 @@
 -- A walk that goes over its table does not begin anew.
 use Rattle.std.specs.Prelude.{◌≡◌, ℕ, ◌==◌, ◌&&◌, nat_lt, Bool, true, false, if◌then◌else◌, ◌⊎◌}
 use Rattle.std.proofs.Common.{ap, inl, inr}
-use Rattle.papaya_shards.specs.Given.SeizeWords.Op.{Out, Found, Stored, Exchanged, Made, Taken, Roomed}
-use Rattle.papaya_shards.specs.Given.SeizeWords.Plan.{plan_as}
-use Rattle.papaya_shards.specs.Given.SeizeWords.Word.{block_in}
-use Rattle.papaya_shards.specs.Given.Seize.World.{World}
-use Rattle.papaya_shards.specs.Given.Tables.Marks.{has_mark}
-use Rattle.papaya_shards.specs.Given.Tables.declared.marks.TheConstants.{COPYING}
-use Rattle.papaya_shards.specs.Given.Tables.declared.node.Node.{Node}
-use Rattle.papaya_shards.specs.Given.Tables.declared.setting.Setting.{Setting}
-use Rattle.papaya_shards.specs.Given.Sweeps.Sweep.{word_found, plan_at}
-use Rattle.papaya_shards.specs.Given.Sweeps.SweepPoints.{removes, past, further, at_end, telling, at_pair, seen}
-use Rattle.papaya_shards.specs.Given.Sweeps.declared.sweep.Purpose.{Purpose}
-use Rattle.papaya_shards.specs.Given.Sweeps.declared.sweep.Purpose.TheVariants.{Walks, Clears, Retains}
-use Rattle.papaya_shards.specs.Given.Sweeps.declared.sweep.Sweep.{Sweep}
-use Rattle.papaya_shards.specs.Given.Sweeps.declared.sweep.Sweeping.{Sweeping}
-use Rattle.papaya_shards.specs.Given.Sweeps.declared.sweep.Sweeping.TheVariants as at
-use Rattle.papaya_shards.specs.Given.Sweeps.declared.sweep.Swept.{Swept}
-use Rattle.papaya_shards.specs.Given.Raw.Machine.{swept}
-use Rattle.papaya_shards.specs.Given.Raw.declared.machines.machine.Machine.{Machine}
-use Rattle.papaya_shards.specs.Given.Raw.declared.machines.machine.Machine.TheVariants as kinds
-use Rattle.papaya_shards.specs.Given.Raw.declared.machines.progress.Progress.{Progress}
-use Rattle.papaya_shards.specs.Given.Teller.declared.changed.Changed.TheVariants.{Nothing}
-use Rattle.papaya_shards.specs.Given.Rule.Chart.{Chart}
-use Rattle.papaya_shards.specs.Given.Rule.Words.{Blocks}
-use Rattle.papaya_shards.proofs.Given.Rule.Keys.Always.{Always, AlwaysOf}
-use Rattle.papaya_shards.specs.Given.Late.FactsSweeps.{SweepingFacts}
-use Rattle.papaya_shards.specs.Given.Late.ToldSweeps.{IsRowOfSweep}
-use Rattle.papaya_shards.specs.Given.Callers.OverAll.{CallOverAll, sweep_once_over, past_sweeping}
-use Rattle.papaya_shards.specs.Given.Callers.Together.{OverAll, Stands}
-use Rattle.papaya_shards.proofs.Given.Histories.Asking.{always_told, always_turned}
-use Rattle.papaya_shards.specs.Given.Named.Machines.{IsBefore}
-use Rattle.papaya_shards.specs.Given.Scenes.Held.{Held}
-use Rattle.papaya_shards.specs.Given.Scenes.Stepping.{StepsFrom}
+use Rattle.papaya_shards.specs.Given.SeizeWordsOp.{Out, Found, Stored, Exchanged, Made, Taken, Roomed}
+use Rattle.papaya_shards.specs.Given.SeizeWordsPlan.{plan_as}
+use Rattle.papaya_shards.specs.Given.SeizeWordsWord.{block_in}
+use Rattle.papaya_shards.specs.Given.SeizeWorld.{World}
+use Rattle.papaya_shards.specs.Given.TablesMarks.{has_mark}
+use Rattle.papaya_shards.specs.Given.TablesDeclared.marks.TheConstants.{COPYING}
+use Rattle.papaya_shards.specs.Given.TablesDeclared.node.Node.{Node}
+use Rattle.papaya_shards.specs.Given.TablesDeclared.setting.Setting.{Setting}
+use Rattle.papaya_shards.specs.Given.SweepsSweep.{word_found, plan_at}
+use Rattle.papaya_shards.specs.Given.SweepsSweepPoints.{removes, past, further, at_end, telling, at_pair, seen}
+use Rattle.papaya_shards.specs.Given.SweepsDeclared.sweep.Purpose.{Purpose}
+use Rattle.papaya_shards.specs.Given.SweepsDeclared.sweep.Purpose.TheVariants.{Walks, Clears, Retains}
+use Rattle.papaya_shards.specs.Given.SweepsDeclared.sweep.Sweep.{Sweep}
+use Rattle.papaya_shards.specs.Given.SweepsDeclared.sweep.Sweeping.{Sweeping}
+use Rattle.papaya_shards.specs.Given.SweepsDeclared.sweep.Sweeping.TheVariants as at
+use Rattle.papaya_shards.specs.Given.SweepsDeclared.sweep.Swept.{Swept}
+use Rattle.papaya_shards.specs.Given.RawMachine.{swept}
+use Rattle.papaya_shards.specs.Given.RawDeclared.machines.machine.Machine.{Machine}
+use Rattle.papaya_shards.specs.Given.RawDeclared.machines.machine.Machine.TheVariants as kinds
+use Rattle.papaya_shards.specs.Given.RawDeclared.machines.progress.Progress.{Progress}
+use Rattle.papaya_shards.specs.Given.TellerDeclared.changed.Changed.TheVariants.{Nothing}
+use Rattle.papaya_shards.specs.Given.RuleChart.{Chart}
+use Rattle.papaya_shards.specs.Given.RuleWords.{Blocks}
+use Rattle.papaya_shards.proofs.Given.RuleKeys.Always.{Always, AlwaysOf}
+use Rattle.papaya_shards.specs.Given.LateFactsSweeps.{SweepingFacts}
+use Rattle.papaya_shards.specs.Given.LateToldSweeps.{IsRowOfSweep}
+use Rattle.papaya_shards.specs.Given.CallersOverAll.{CallOverAll, sweep_once_over, past_sweeping}
+use Rattle.papaya_shards.specs.Given.CallersTogether.{OverAll, Stands}
+use Rattle.papaya_shards.proofs.Given.HistoriesAsking.{always_told, always_turned}
+use Rattle.papaya_shards.specs.Given.NamedMachines.{IsBefore}
+use Rattle.papaya_shards.specs.Given.ScenesHeld.{Held}
+use Rattle.papaya_shards.specs.Given.ScenesStepping.{StepsFrom}
 
 pub before_or : (p : Sweeping) → IsBefore p ⊎ (IsBefore p → ⊥)
 before_or at.Reads = inl tt

@@ -2,21 +2,21 @@
 use Rattle.std.specs.Prelude.{◌≡◌, ℕ, Bool, ◌<◌, ◌≤◌, true, false, List, ◌∷◌}
 use Rattle.std.specs.List.{AllByRecursion}
 use Rattle.std.proofs.Common.{refl, sym, subst, arith}
-use Rattle.papaya_shards.specs.Given.Schedules.Moment.{UnderWay as CallThere, Moment}
-use Rattle.papaya_shards.specs.Given.Schedules.Views.{is_in_map}
-use Rattle.papaya_shards.specs.Given.Sweeps.declared.sweep.Purpose.TheVariants.{Walks}
-use Rattle.papaya_shards.specs.Given.Callers.OverAll.{CallOverAll}
-use Rattle.papaya_shards.specs.Given.Callers.Together.{UnderWay, OnKey, ForRoom, Counting, OverAll}
-use Rattle.papaya_shards.specs.Given.Finishes.Maps.{Standing}
-use Rattle.papaya_shards.specs.Given.Histories.Histories.{since, IsPast, IsWithin}
-use Rattle.papaya_shards.proofs.Given.Histories.Later.{IsLater}
+use Rattle.papaya_shards.specs.Given.SchedulesMoment.{UnderWay as CallThere, Moment}
+use Rattle.papaya_shards.specs.Given.SchedulesViews.{is_in_map}
+use Rattle.papaya_shards.specs.Given.SweepsDeclared.sweep.Purpose.TheVariants.{Walks}
+use Rattle.papaya_shards.specs.Given.CallersOverAll.{CallOverAll}
+use Rattle.papaya_shards.specs.Given.CallersTogether.{UnderWay, OnKey, ForRoom, Counting, OverAll}
+use Rattle.papaya_shards.specs.Given.FinishesMaps.{Standing}
+use Rattle.papaya_shards.specs.Given.HistoriesHistories.{since, IsPast, IsWithin}
+use Rattle.papaya_shards.proofs.Given.HistoriesLater.{IsLater}
 use Rattle.papaya_purposes.specs.Kept.{PairsChangeFirst}
 use Rattle.papaya_purposes.specs.Purposes.{PairsWithin, HasAdded, HasMet, KeysOf, HasSwept, HasCome}
 use Rattle.papaya_purposes.proofs.Done.{tells_kept}
 use Rattle.papaya_purposes.proofs.Lists.{all_on}
 use Rattle.papaya_purposes.proofs.Shown.{IsStill}
 use Rattle.papaya_purposes.proofs.Within.{pairs_within_on}
-use Rattle.papaya_shards.specs.Given.Schedules.Transition.{Past}
+use Rattle.papaya_shards.specs.Given.SchedulesTransition.{Past}
 
 module _ {K V : Type 0} (same : K → K → Bool) (of : ℕ) (st st2 : Standing K) (number number2 : ℕ → ℕ) (later : IsLater st.chart st2.chart) (first : st.chart.first ≤ st2.chart.first) (numbers : (n : ℕ) → n < st.chart.stored → number2 n ≡ number n)
     (log : Past K V) (is_past : IsPast log) (m v : Moment K V) (c d : CallThere K V) (still : IsStill c d) (begun : c.begun ≤ log.entries) (changes : PairsChangeFirst log m of v)

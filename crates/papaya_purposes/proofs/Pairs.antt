@@ -1,10 +1,10 @@
 -- A sweep that shows a pair says so.
 use Rattle.std.specs.Prelude.{◌≡◌, ℕ}
 use Rattle.std.proofs.Common.{ap}
-use Rattle.papaya_shards.specs.Given.Sweeps.declared.sweep.Swept.{Swept}
-use Rattle.papaya_shards.specs.Given.Sweeps.declared.sweep.Swept.TheVariants as swept
-use Rattle.papaya_shards.specs.Given.Raw.Progress.{of_swept}
-use Rattle.papaya_shards.specs.Given.Raw.declared.machines.progress.Progress.TheVariants as progress
+use Rattle.papaya_shards.specs.Given.SweepsDeclared.sweep.Swept.{Swept}
+use Rattle.papaya_shards.specs.Given.SweepsDeclared.sweep.Swept.TheVariants as swept
+use Rattle.papaya_shards.specs.Given.RawProgress.{of_swept}
+use Rattle.papaya_shards.specs.Given.RawDeclared.machines.progress.Progress.TheVariants as progress
 
 pub pair_swept : {T : Type 0} (word : ℕ) (end : Swept T) → of_swept end ≡ progress.Pair word → end ≡ swept.Pair word
 pair_swept word swept.Goes e = absurd (cc e)

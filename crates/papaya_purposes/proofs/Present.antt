@@ -1,18 +1,18 @@
 -- Which pairs a map has now, and where a call begins.
 use Rattle.std.specs.Prelude.{◌≡◌, ℕ, ◌<◌, ◌≤◌, Bool, true, false, List, ◌∷◌, Some}
 use Rattle.std.proofs.Common.{refl, ap, sym, ◌∙◌, arith, inl}
-use Rattle.papaya_shards.specs.Given.Schedules.Moment.{Place, Moment}
-use Rattle.papaya_shards.specs.Given.Schedules.Views.{is_in_map}
-use Rattle.papaya_shards.specs.Given.Rule.Chart.{Chart}
-use Rattle.papaya_shards.proofs.Given.Rule.Laws.{current_is_known}
-use Rattle.papaya_shards.specs.Given.Callers.Together.{Together}
-use Rattle.papaya_shards.specs.Given.Effects.Known.{Known}
-use Rattle.papaya_shards.specs.Given.Finishes.Maps.{Standing}
-use Rattle.papaya_shards.specs.Given.Follows.Shows.{Shows}
-use Rattle.papaya_shards.proofs.Given.Follows.Stored.{in_map_true}
+use Rattle.papaya_shards.specs.Given.SchedulesMoment.{Place, Moment}
+use Rattle.papaya_shards.specs.Given.SchedulesViews.{is_in_map}
+use Rattle.papaya_shards.specs.Given.RuleChart.{Chart}
+use Rattle.papaya_shards.proofs.Given.RuleLaws.{current_is_known}
+use Rattle.papaya_shards.specs.Given.CallersTogether.{Together}
+use Rattle.papaya_shards.specs.Given.EffectsKnown.{Known}
+use Rattle.papaya_shards.specs.Given.FinishesMaps.{Standing}
+use Rattle.papaya_shards.specs.Given.FollowsShows.{Shows}
+use Rattle.papaya_shards.proofs.Given.FollowsStored.{in_map_true}
 use Rattle.papaya_purposes.specs.Purposes.{PairsWithin}
-use Rattle.papaya_shards.specs.Given.Scenes.Held.{Held, IsAt}
-use Rattle.papaya_shards.specs.Given.Scenes.Scene.{Scene, slot_of}
+use Rattle.papaya_shards.specs.Given.ScenesHeld.{Held, IsAt}
+use Rattle.papaya_shards.specs.Given.ScenesScene.{Scene, slot_of}
 
 module _ {K V : Type 0} (same : K → K → Bool) (hash : ℕ → K → ℕ) (name : ℕ → List ℕ) (m : Moment K V) (known : Known) (s : Scene K V) (e : Held K V) (at : IsAt same hash e s)
     (shown : Shows same name m known s) (of : ℕ) (st : Standing K) (there : s.maps of ≡ Some st) where

@@ -1,30 +1,30 @@
 -- What a reservation knows of the tables to which it has come.
 use Rattle.std.specs.Prelude.{◌≡◌, ℕ, suc, ◌<◌, ◌≤◌, Bool, true, false, cond, ◌⊎◌}
 use Rattle.std.proofs.Common.{ap, subst, arith, inl, inr}
-use Rattle.papaya_shards.specs.Given.Seize.World.{World}
-use Rattle.papaya_shards.specs.Given.Tables.Chunks.{is_incremental}
-use Rattle.papaya_shards.specs.Given.Tables.declared.node.Node.{Node}
-use Rattle.papaya_shards.specs.Given.Tables.declared.setting.Setting.{Setting}
-use Rattle.papaya_shards.specs.Given.Tables.declared.table.Table.{Table}
-use Rattle.papaya_shards.specs.Given.Resize.declared.copier.Copier.{Copier}
-use Rattle.papaya_shards.specs.Given.Resize.declared.copier.Copying.{Copying}
-use Rattle.papaya_shards.specs.Given.Resize.declared.copier.Copying.TheVariants as copies
-use Rattle.papaya_shards.specs.Given.Resize.declared.sum.Sum.{Sum}
-use Rattle.papaya_shards.specs.Given.Reserves.declared.reserve.Reserve.{Reserve}
-use Rattle.papaya_shards.specs.Given.Reserves.declared.reserve.Reserving.{Reserving}
-use Rattle.papaya_shards.specs.Given.Reserves.declared.reserve.Reserving.TheVariants as at
-use Rattle.papaya_shards.specs.Given.Rule.Chart.{Chart}
-use Rattle.papaya_shards.specs.Given.Rule.Maps.{IsTable}
-use Rattle.papaya_shards.specs.Given.Rule.Words.{Blocks}
-use Rattle.papaya_shards.specs.Given.Points.FactsCopies.{CopyingFacts, CopierFacts}
-use Rattle.papaya_shards.specs.Given.Points.FactsCopiesBlocking.{CopyingFactsBlocking, CopierFactsBlocking}
-use Rattle.papaya_shards.specs.Given.Points.FactsTables.{SumFacts}
-use Rattle.papaya_shards.specs.Given.Late.FactsReserves.{IsEnding, CopiesWhole, ReservingFacts}
-use Rattle.papaya_shards.specs.Given.Late.LateCopies.{LateCopying}
-use Rattle.papaya_shards.specs.Given.Late.LateReserves.{LateReserving}
-use Rattle.papaya_shards.specs.Given.Late.ToldReserves.{IsRowOfReserve}
-use Rattle.papaya_shards.specs.Given.Callers.Rooms.{CallForRoom, room_once_over}
-use Rattle.papaya_shards.specs.Given.Callers.Together.{ForRoom, KnowsRoom, Stands, in_slot}
+use Rattle.papaya_shards.specs.Given.SeizeWorld.{World}
+use Rattle.papaya_shards.specs.Given.TablesChunks.{is_incremental}
+use Rattle.papaya_shards.specs.Given.TablesDeclared.node.Node.{Node}
+use Rattle.papaya_shards.specs.Given.TablesDeclared.setting.Setting.{Setting}
+use Rattle.papaya_shards.specs.Given.TablesDeclared.table.Table.{Table}
+use Rattle.papaya_shards.specs.Given.ResizeDeclared.copier.Copier.{Copier}
+use Rattle.papaya_shards.specs.Given.ResizeDeclared.copier.Copying.{Copying}
+use Rattle.papaya_shards.specs.Given.ResizeDeclared.copier.Copying.TheVariants as copies
+use Rattle.papaya_shards.specs.Given.ResizeDeclared.sum.Sum.{Sum}
+use Rattle.papaya_shards.specs.Given.ReservesDeclared.reserve.Reserve.{Reserve}
+use Rattle.papaya_shards.specs.Given.ReservesDeclared.reserve.Reserving.{Reserving}
+use Rattle.papaya_shards.specs.Given.ReservesDeclared.reserve.Reserving.TheVariants as at
+use Rattle.papaya_shards.specs.Given.RuleChart.{Chart}
+use Rattle.papaya_shards.specs.Given.RuleMaps.{IsTable}
+use Rattle.papaya_shards.specs.Given.RuleWords.{Blocks}
+use Rattle.papaya_shards.specs.Given.PointsFactsCopies.{CopyingFacts, CopierFacts}
+use Rattle.papaya_shards.specs.Given.PointsFactsCopiesBlocking.{CopyingFactsBlocking, CopierFactsBlocking}
+use Rattle.papaya_shards.specs.Given.PointsFactsTables.{SumFacts}
+use Rattle.papaya_shards.specs.Given.LateFactsReserves.{IsEnding, CopiesWhole, ReservingFacts}
+use Rattle.papaya_shards.specs.Given.LateLateCopies.{LateCopying}
+use Rattle.papaya_shards.specs.Given.LateLateReserves.{LateReserving}
+use Rattle.papaya_shards.specs.Given.LateToldReserves.{IsRowOfReserve}
+use Rattle.papaya_shards.specs.Given.CallersRooms.{CallForRoom, room_once_over}
+use Rattle.papaya_shards.specs.Given.CallersTogether.{ForRoom, KnowsRoom, Stands, in_slot}
 use Rattle.papaya_purposes.proofs.Copiers.{KnowsTables}
 use Rattle.papaya_purposes.proofs.RoomPoints.{IsTold}
 

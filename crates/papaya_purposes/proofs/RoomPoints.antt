@@ -1,47 +1,47 @@
 -- A step of a reservation leads to the root, and from there to later tables.
 use Rattle.std.specs.Prelude.{◌≡◌, ℕ, zero, suc, ◌^◌, ◌≤◌, ◌==◌, nat_lt, Bool, true, false, List, Some, if◌then◌else◌, ◌⊎◌}
 use Rattle.std.proofs.Common.{refl, ap, sym, subst, ◌∙◌, arith, inl, inr}
-use Rattle.papaya_shards.specs.Given.SeizeWords.Mem.{Mem, Took, value_at, word_at}
-use Rattle.papaya_shards.specs.Given.SeizeWords.Op.{Out, Found, Stored, Exchanged, Made, Taken, Roomed}
-use Rattle.papaya_shards.specs.Given.SeizeWords.Plan.{Steps}
-use Rattle.papaya_shards.specs.Given.SeizeWords.declared.at.At.TheVariants.{Root, Word}
-use Rattle.papaya_shards.specs.Given.SeizeWords.declared.fault.Fault.TheVariants.{Capacity}
-use Rattle.papaya_shards.proofs.Given.SeizeWords.OneOwner.Operations.{loaded}
-use Rattle.papaya_shards.proofs.Given.SeizeRule.Rows.Leaving.{steps_back}
-use Rattle.papaya_shards.specs.Given.Seize.World.{World}
-use Rattle.papaya_shards.specs.Given.Seize.declared.progress.Progress.{Progress}
-use Rattle.papaya_shards.specs.Given.Seize.declared.progress.Progress.TheVariants as progress
-use Rattle.papaya_shards.specs.Given.Tables.declared.node.Node.{Node}
-use Rattle.papaya_shards.specs.Given.Tables.declared.setting.Setting.{Setting}
-use Rattle.papaya_shards.specs.Given.Tables.declared.table.Table.{Table}
-use Rattle.papaya_shards.specs.Given.Tables.Chunks.{is_incremental}
-use Rattle.papaya_shards.specs.Given.Resize.Copier.{copier_plan}
-use Rattle.papaya_shards.specs.Given.Resize.CopierStates.{resting, copying_all}
-use Rattle.papaya_shards.specs.Given.Resize.NewTable.{first_table, new_table_plan}
-use Rattle.papaya_shards.specs.Given.Resize.Sum.{sum_plan}
-use Rattle.papaya_shards.specs.Given.Resize.declared.copier.Copier.{Copier}
-use Rattle.papaya_shards.specs.Given.Resize.declared.copier.Copying.{Copying}
-use Rattle.papaya_shards.specs.Given.Resize.declared.copier.Copying.TheVariants as copies
-use Rattle.papaya_shards.specs.Given.Resize.declared.new_table.NewTable.{NewTable}
-use Rattle.papaya_shards.specs.Given.Resize.declared.outcome.Outcome.{Outcome}
-use Rattle.papaya_shards.specs.Given.Resize.declared.outcome.Outcome.TheVariants as outcome
-use Rattle.papaya_shards.specs.Given.Resize.declared.sum.Sum.{Sum}
-use Rattle.papaya_shards.specs.Given.Resize.declared.sum.Summing.TheVariants as sums
-use Rattle.papaya_shards.specs.Given.Reserves.Reserve.{needed, standing, counting, refusing, enough, summed, made, grown, copied, root_read, next_read, plan_at}
-use Rattle.papaya_shards.specs.Given.Reserves.declared.reserve.Reserve.{Reserve}
-use Rattle.papaya_shards.specs.Given.Reserves.declared.reserve.Reserving.{Reserving}
-use Rattle.papaya_shards.specs.Given.Reserves.declared.reserve.Reserving.TheVariants as at
-use Rattle.papaya_shards.specs.Given.Schedules.Counts.{Counts}
-use Rattle.papaya_shards.specs.Given.Schedules.Lists.{OneOf}
-use Rattle.papaya_shards.specs.Given.Schedules.Moment.{Moment}
-use Rattle.papaya_shards.specs.Given.Rule.Chart.{Chart}
-use Rattle.papaya_shards.specs.Given.Rule.InWorld.{IsMapIn}
-use Rattle.papaya_shards.specs.Given.Rule.Words.{Blocks}
-use Rattle.papaya_shards.proofs.Given.Rule.Keys.Always.{Always, always_if, always_plan_as, always_steps}
-use Rattle.papaya_shards.proofs.Given.Rule.Words.LinksRead.{link_ends}
-use Rattle.papaya_shards.proofs.Given.Rule.Words.LinksSeen.{root_leads}
-use Rattle.papaya_shards.specs.Given.Points.FactsTables.{CountsShards}
-use Rattle.papaya_shards.proofs.Given.Histories.Asking.{always_turned}
+use Rattle.papaya_shards.specs.Given.SeizeWordsMem.{Mem, Took, value_at, word_at}
+use Rattle.papaya_shards.specs.Given.SeizeWordsOp.{Out, Found, Stored, Exchanged, Made, Taken, Roomed}
+use Rattle.papaya_shards.specs.Given.SeizeWordsPlan.{Steps}
+use Rattle.papaya_shards.specs.Given.SeizeWordsDeclared.at.At.TheVariants.{Root, Word}
+use Rattle.papaya_shards.specs.Given.SeizeWordsDeclared.fault.Fault.TheVariants.{Capacity}
+use Rattle.papaya_shards.proofs.Given.SeizeWordsOneOwner.Operations.{loaded}
+use Rattle.papaya_shards.proofs.Given.SeizeRuleRows.Leaving.{steps_back}
+use Rattle.papaya_shards.specs.Given.SeizeWorld.{World}
+use Rattle.papaya_shards.specs.Given.SeizeDeclared.progress.Progress.{Progress}
+use Rattle.papaya_shards.specs.Given.SeizeDeclared.progress.Progress.TheVariants as progress
+use Rattle.papaya_shards.specs.Given.TablesDeclared.node.Node.{Node}
+use Rattle.papaya_shards.specs.Given.TablesDeclared.setting.Setting.{Setting}
+use Rattle.papaya_shards.specs.Given.TablesDeclared.table.Table.{Table}
+use Rattle.papaya_shards.specs.Given.TablesChunks.{is_incremental}
+use Rattle.papaya_shards.specs.Given.ResizeCopier.{copier_plan}
+use Rattle.papaya_shards.specs.Given.ResizeCopierStates.{resting, copying_all}
+use Rattle.papaya_shards.specs.Given.ResizeNewTable.{first_table, new_table_plan}
+use Rattle.papaya_shards.specs.Given.ResizeSum.{sum_plan}
+use Rattle.papaya_shards.specs.Given.ResizeDeclared.copier.Copier.{Copier}
+use Rattle.papaya_shards.specs.Given.ResizeDeclared.copier.Copying.{Copying}
+use Rattle.papaya_shards.specs.Given.ResizeDeclared.copier.Copying.TheVariants as copies
+use Rattle.papaya_shards.specs.Given.ResizeDeclared.new_table.NewTable.{NewTable}
+use Rattle.papaya_shards.specs.Given.ResizeDeclared.outcome.Outcome.{Outcome}
+use Rattle.papaya_shards.specs.Given.ResizeDeclared.outcome.Outcome.TheVariants as outcome
+use Rattle.papaya_shards.specs.Given.ResizeDeclared.sum.Sum.{Sum}
+use Rattle.papaya_shards.specs.Given.ResizeDeclared.sum.Summing.TheVariants as sums
+use Rattle.papaya_shards.specs.Given.ReservesReserve.{needed, standing, counting, refusing, enough, summed, made, grown, copied, root_read, next_read, plan_at}
+use Rattle.papaya_shards.specs.Given.ReservesDeclared.reserve.Reserve.{Reserve}
+use Rattle.papaya_shards.specs.Given.ReservesDeclared.reserve.Reserving.{Reserving}
+use Rattle.papaya_shards.specs.Given.ReservesDeclared.reserve.Reserving.TheVariants as at
+use Rattle.papaya_shards.specs.Given.SchedulesCounts.{Counts}
+use Rattle.papaya_shards.specs.Given.SchedulesLists.{OneOf}
+use Rattle.papaya_shards.specs.Given.SchedulesMoment.{Moment}
+use Rattle.papaya_shards.specs.Given.RuleChart.{Chart}
+use Rattle.papaya_shards.specs.Given.RuleInWorld.{IsMapIn}
+use Rattle.papaya_shards.specs.Given.RuleWords.{Blocks}
+use Rattle.papaya_shards.proofs.Given.RuleKeys.Always.{Always, always_if, always_plan_as, always_steps}
+use Rattle.papaya_shards.proofs.Given.RuleWords.LinksRead.{link_ends}
+use Rattle.papaya_shards.proofs.Given.RuleWords.LinksSeen.{root_leads}
+use Rattle.papaya_shards.specs.Given.PointsFactsTables.{CountsShards}
+use Rattle.papaya_shards.proofs.Given.HistoriesAsking.{always_turned}
 use Rattle.papaya_purposes.specs.Purposes.{HasAdded, RoomAt}
 use Rattle.papaya_purposes.proofs.Copiers.{KnowsTables, Keeps, copier_keeps}
 use Rattle.papaya_purposes.proofs.Sums.{After, counting_on}

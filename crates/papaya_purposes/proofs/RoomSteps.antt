@@ -1,48 +1,48 @@
 -- A step of a reservation that is under way, in the words of a run.
 use Rattle.std.specs.Prelude.{◌≡◌, ℕ, zero, suc, ◌+◌, ◌^◌, ◌<◌, ◌≤◌, nat_lt, Bool, false, List, Option, Some, None, Result, Ok, Err}
 use Rattle.std.proofs.Common.{refl, ap, sym, subst, ◌∙◌, arith}
-use Rattle.papaya_shards.specs.Given.SeizeWords.Mem.{Mem, Took, value_at, word_at}
-use Rattle.papaya_shards.specs.Given.SeizeWords.Plan.{Steps}
-use Rattle.papaya_shards.specs.Given.SeizeWords.declared.at.At.TheVariants.{Word}
-use Rattle.papaya_shards.specs.Given.SeizeWords.declared.fault.Fault.{Fault}
-use Rattle.papaya_shards.proofs.Given.SeizeRule.Rows.Leaving.{steps_back}
-use Rattle.papaya_shards.specs.Given.Seize.declared.progress.Progress.TheVariants as counting
-use Rattle.papaya_shards.specs.Given.Tables.Lengths.{len_of}
-use Rattle.papaya_shards.specs.Given.Tables.declared.node.Node.{Node}
-use Rattle.papaya_shards.specs.Given.Tables.declared.setting.Setting.{Setting}
-use Rattle.papaya_shards.specs.Given.Tables.declared.table.Table.{Table}
-use Rattle.papaya_shards.specs.Given.Resize.declared.outcome.Outcome.{Outcome}
-use Rattle.papaya_shards.specs.Given.Resize.declared.outcome.Outcome.TheVariants as outcome
-use Rattle.papaya_shards.specs.Given.Resize.Sum.{sum_plan}
-use Rattle.papaya_shards.specs.Given.Resize.declared.sum.Sum.{Sum}
-use Rattle.papaya_shards.specs.Given.Reserves.Reserve.{or_too_long, needed, plan_at, reserve_plan}
-use Rattle.papaya_shards.specs.Given.Reserves.declared.reserve.Reserve.{Reserve}
-use Rattle.papaya_shards.specs.Given.Reserves.declared.reserve.Reserving.{Reserving}
-use Rattle.papaya_shards.specs.Given.Reserves.declared.reserve.Reserving.TheVariants as reserving
-use Rattle.papaya_shards.specs.Given.Raw.Machine.{machine_plan, reserved}
-use Rattle.papaya_shards.specs.Given.Raw.declared.machines.machine.Machine.{Machine}
-use Rattle.papaya_shards.specs.Given.Raw.declared.machines.machine.Machine.TheVariants as kinds
-use Rattle.papaya_shards.specs.Given.Raw.declared.machines.progress.Answer.TheVariants as answers
-use Rattle.papaya_shards.specs.Given.Raw.declared.machines.progress.Progress.{Progress}
-use Rattle.papaya_shards.specs.Given.Raw.declared.machines.progress.Progress.TheVariants as progress
-use Rattle.papaya_shards.specs.Given.Schedules.Counts.{AddsUp, Counts}
-use Rattle.papaya_shards.specs.Given.Schedules.Lists.{OneOf}
-use Rattle.papaya_shards.specs.Given.Schedules.Moment.{UnderWay as CallThere, Moment}
-use Rattle.papaya_shards.specs.Given.Schedules.Sweeps.{Fits}
-use Rattle.papaya_shards.specs.Given.Rule.InWorld.{IsMapIn}
-use Rattle.papaya_shards.specs.Given.Rule.Maps.{IsTable}
-use Rattle.papaya_shards.specs.Given.Points.FactsTables.{CountsShards, SumFacts}
-use Rattle.papaya_shards.specs.Given.Callers.Rooms.{CallForRoom}
-use Rattle.papaya_shards.specs.Given.Callers.Sights.{seen_by}
-use Rattle.papaya_shards.specs.Given.Callers.Together.{UnderWay, ForRoom, Together, in_slot}
-use Rattle.papaya_shards.specs.Given.Finishes.Machines.{GoesOnAs}
-use Rattle.papaya_shards.specs.Given.Finishes.Maps.{Standing}
-use Rattle.papaya_shards.specs.Given.Late.ToldReserves.{IsRowOfReserve}
-use Rattle.papaya_shards.specs.Given.Teller.declared.changed.Changed.TheVariants.{Nothing}
-use Rattle.papaya_shards.proofs.Given.Others.Outcomes.{told_in}
-use Rattle.papaya_shards.proofs.Given.Histories.Logs.{now_there}
-use Rattle.papaya_shards.specs.Given.Finds.Reserving.{ReservesAt, SumTells}
-use Rattle.papaya_shards.proofs.Given.Finds.Reserving.{rooms_keep_count}
+use Rattle.papaya_shards.specs.Given.SeizeWordsMem.{Mem, Took, value_at, word_at}
+use Rattle.papaya_shards.specs.Given.SeizeWordsPlan.{Steps}
+use Rattle.papaya_shards.specs.Given.SeizeWordsDeclared.at.At.TheVariants.{Word}
+use Rattle.papaya_shards.specs.Given.SeizeWordsDeclared.fault.Fault.{Fault}
+use Rattle.papaya_shards.proofs.Given.SeizeRuleRows.Leaving.{steps_back}
+use Rattle.papaya_shards.specs.Given.SeizeDeclared.progress.Progress.TheVariants as counting
+use Rattle.papaya_shards.specs.Given.TablesLengths.{len_of}
+use Rattle.papaya_shards.specs.Given.TablesDeclared.node.Node.{Node}
+use Rattle.papaya_shards.specs.Given.TablesDeclared.setting.Setting.{Setting}
+use Rattle.papaya_shards.specs.Given.TablesDeclared.table.Table.{Table}
+use Rattle.papaya_shards.specs.Given.ResizeDeclared.outcome.Outcome.{Outcome}
+use Rattle.papaya_shards.specs.Given.ResizeDeclared.outcome.Outcome.TheVariants as outcome
+use Rattle.papaya_shards.specs.Given.ResizeSum.{sum_plan}
+use Rattle.papaya_shards.specs.Given.ResizeDeclared.sum.Sum.{Sum}
+use Rattle.papaya_shards.specs.Given.ReservesReserve.{or_too_long, needed, plan_at, reserve_plan}
+use Rattle.papaya_shards.specs.Given.ReservesDeclared.reserve.Reserve.{Reserve}
+use Rattle.papaya_shards.specs.Given.ReservesDeclared.reserve.Reserving.{Reserving}
+use Rattle.papaya_shards.specs.Given.ReservesDeclared.reserve.Reserving.TheVariants as reserving
+use Rattle.papaya_shards.specs.Given.RawMachine.{machine_plan, reserved}
+use Rattle.papaya_shards.specs.Given.RawDeclared.machines.machine.Machine.{Machine}
+use Rattle.papaya_shards.specs.Given.RawDeclared.machines.machine.Machine.TheVariants as kinds
+use Rattle.papaya_shards.specs.Given.RawDeclared.machines.progress.Answer.TheVariants as answers
+use Rattle.papaya_shards.specs.Given.RawDeclared.machines.progress.Progress.{Progress}
+use Rattle.papaya_shards.specs.Given.RawDeclared.machines.progress.Progress.TheVariants as progress
+use Rattle.papaya_shards.specs.Given.SchedulesCounts.{AddsUp, Counts}
+use Rattle.papaya_shards.specs.Given.SchedulesLists.{OneOf}
+use Rattle.papaya_shards.specs.Given.SchedulesMoment.{UnderWay as CallThere, Moment}
+use Rattle.papaya_shards.specs.Given.SchedulesSweeps.{Fits}
+use Rattle.papaya_shards.specs.Given.RuleInWorld.{IsMapIn}
+use Rattle.papaya_shards.specs.Given.RuleMaps.{IsTable}
+use Rattle.papaya_shards.specs.Given.PointsFactsTables.{CountsShards, SumFacts}
+use Rattle.papaya_shards.specs.Given.CallersRooms.{CallForRoom}
+use Rattle.papaya_shards.specs.Given.CallersSights.{seen_by}
+use Rattle.papaya_shards.specs.Given.CallersTogether.{UnderWay, ForRoom, Together, in_slot}
+use Rattle.papaya_shards.specs.Given.FinishesMachines.{GoesOnAs}
+use Rattle.papaya_shards.specs.Given.FinishesMaps.{Standing}
+use Rattle.papaya_shards.specs.Given.LateToldReserves.{IsRowOfReserve}
+use Rattle.papaya_shards.specs.Given.TellerDeclared.changed.Changed.TheVariants.{Nothing}
+use Rattle.papaya_shards.proofs.Given.OthersOutcomes.{told_in}
+use Rattle.papaya_shards.proofs.Given.HistoriesLogs.{now_there}
+use Rattle.papaya_shards.specs.Given.FindsReserving.{ReservesAt, SumTells}
+use Rattle.papaya_shards.proofs.Given.FindsReserving.{rooms_keep_count}
 use Rattle.papaya_purposes.specs.Needs.{NeedsAt}
 use Rattle.papaya_purposes.specs.Purposes.{RoomAt, HasMet}
 use Rattle.papaya_purposes.specs.Shards.{ReadsShards}
@@ -50,12 +50,12 @@ use Rattle.papaya_purposes.proofs.Needs.{rooms_keep_needs}
 use Rattle.papaya_purposes.proofs.RoomFacts.{turn_is, Point, StandsSo, room_setting, room_point, room_knows, was_root}
 use Rattle.papaya_purposes.proofs.RoomPoints.{LedAt, Led, reads_lead, makes_lead, sums_lead, follows_lead, grows_lead, copies_lead}
 use Rattle.papaya_purposes.proofs.Sums.{counting_on}
-use Rattle.papaya_shards.proofs.Given.Scenes.Told.{as_step}
-use Rattle.papaya_shards.specs.Given.Scenes.Held.{Held, IsAt}
-use Rattle.papaya_shards.specs.Given.Scenes.Scene.{Scene, slot_of}
-use Rattle.papaya_shards.specs.Given.Scenes.Stepping.{StepsFrom}
-use Rattle.papaya_shards.specs.Given.Histories.Histories.{IsPast}
-use Rattle.papaya_shards.specs.Given.Schedules.Transition.{Past}
+use Rattle.papaya_shards.proofs.Given.ScenesTold.{as_step}
+use Rattle.papaya_shards.specs.Given.ScenesHeld.{Held, IsAt}
+use Rattle.papaya_shards.specs.Given.ScenesScene.{Scene, slot_of}
+use Rattle.papaya_shards.specs.Given.ScenesStepping.{StepsFrom}
+use Rattle.papaya_shards.specs.Given.HistoriesHistories.{IsPast}
+use Rattle.papaya_shards.specs.Given.SchedulesTransition.{Past}
 
 -- a table that is not too short, for a length that can be had
 fits_so : (o : Result ℕ Fault) (len : ℕ) → nat_lt (2 ^ 48) (or_too_long o) ≡ false → nat_lt len (or_too_long o) ≡ false → Fits o len

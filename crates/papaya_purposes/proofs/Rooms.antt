@@ -1,34 +1,34 @@
 -- A reservation that goes on is for as many further pairs as before.
 use Rattle.std.specs.Prelude.{◌≡◌, ℕ, ◌^◌, ◌==◌, nat_lt, Bool, true, false, if◌then◌else◌}
 use Rattle.std.proofs.Common.{refl}
-use Rattle.papaya_shards.specs.Given.SeizeWords.Op.{Out, Found, Stored, Exchanged, Made, Taken, Roomed}
-use Rattle.papaya_shards.specs.Given.SeizeWords.Plan.{plan_as}
-use Rattle.papaya_shards.specs.Given.SeizeWords.declared.fault.Fault.TheVariants.{Capacity}
-use Rattle.papaya_shards.specs.Given.Seize.declared.progress.Progress.{Progress as Counted}
-use Rattle.papaya_shards.specs.Given.Seize.declared.progress.Progress.TheVariants as counted
-use Rattle.papaya_shards.specs.Given.Tables.declared.node.Node.{Node}
-use Rattle.papaya_shards.specs.Given.Tables.declared.table.Table.{Table}
-use Rattle.papaya_shards.specs.Given.Resize.Copier.{copier_plan}
-use Rattle.papaya_shards.specs.Given.Resize.NewTable.{new_table_plan}
-use Rattle.papaya_shards.specs.Given.Resize.Sum.{sum_plan}
-use Rattle.papaya_shards.specs.Given.Resize.declared.copier.Copier.{Copier}
-use Rattle.papaya_shards.specs.Given.Resize.declared.new_table.NewTable.{NewTable}
-use Rattle.papaya_shards.specs.Given.Resize.declared.outcome.Outcome.{Outcome}
-use Rattle.papaya_shards.specs.Given.Resize.declared.outcome.Outcome.TheVariants as outcome
-use Rattle.papaya_shards.specs.Given.Resize.declared.sum.Sum.{Sum}
-use Rattle.papaya_shards.specs.Given.Reserves.Reserve.{standing, refusing, enough, needed, summed, made, grown, copied, root_read, next_read, plan_at}
-use Rattle.papaya_shards.specs.Given.Reserves.declared.reserve.Reserve.{Reserve}
-use Rattle.papaya_shards.specs.Given.Reserves.declared.reserve.Reserving.{Reserving}
-use Rattle.papaya_shards.specs.Given.Reserves.declared.reserve.Reserving.TheVariants as at
-use Rattle.papaya_shards.specs.Given.Raw.Machine.{reserved}
-use Rattle.papaya_shards.specs.Given.Raw.declared.machines.machine.Machine.{Machine}
-use Rattle.papaya_shards.specs.Given.Raw.declared.machines.machine.Machine.TheVariants as kinds
-use Rattle.papaya_shards.specs.Given.Raw.declared.machines.progress.Progress.{Progress}
-use Rattle.papaya_shards.proofs.Given.Rule.Keys.Always.{Always, AlwaysOf, always_if, always_plan_as}
-use Rattle.papaya_shards.specs.Given.Teller.declared.changed.Changed.TheVariants.{Nothing}
-use Rattle.papaya_shards.proofs.Given.Histories.Asking.{always_told, always_turned}
-use Rattle.papaya_shards.specs.Given.Scenes.Held.{Held}
-use Rattle.papaya_shards.specs.Given.Scenes.Stepping.{StepsFrom}
+use Rattle.papaya_shards.specs.Given.SeizeWordsOp.{Out, Found, Stored, Exchanged, Made, Taken, Roomed}
+use Rattle.papaya_shards.specs.Given.SeizeWordsPlan.{plan_as}
+use Rattle.papaya_shards.specs.Given.SeizeWordsDeclared.fault.Fault.TheVariants.{Capacity}
+use Rattle.papaya_shards.specs.Given.SeizeDeclared.progress.Progress.{Progress as Counted}
+use Rattle.papaya_shards.specs.Given.SeizeDeclared.progress.Progress.TheVariants as counted
+use Rattle.papaya_shards.specs.Given.TablesDeclared.node.Node.{Node}
+use Rattle.papaya_shards.specs.Given.TablesDeclared.table.Table.{Table}
+use Rattle.papaya_shards.specs.Given.ResizeCopier.{copier_plan}
+use Rattle.papaya_shards.specs.Given.ResizeNewTable.{new_table_plan}
+use Rattle.papaya_shards.specs.Given.ResizeSum.{sum_plan}
+use Rattle.papaya_shards.specs.Given.ResizeDeclared.copier.Copier.{Copier}
+use Rattle.papaya_shards.specs.Given.ResizeDeclared.new_table.NewTable.{NewTable}
+use Rattle.papaya_shards.specs.Given.ResizeDeclared.outcome.Outcome.{Outcome}
+use Rattle.papaya_shards.specs.Given.ResizeDeclared.outcome.Outcome.TheVariants as outcome
+use Rattle.papaya_shards.specs.Given.ResizeDeclared.sum.Sum.{Sum}
+use Rattle.papaya_shards.specs.Given.ReservesReserve.{standing, refusing, enough, needed, summed, made, grown, copied, root_read, next_read, plan_at}
+use Rattle.papaya_shards.specs.Given.ReservesDeclared.reserve.Reserve.{Reserve}
+use Rattle.papaya_shards.specs.Given.ReservesDeclared.reserve.Reserving.{Reserving}
+use Rattle.papaya_shards.specs.Given.ReservesDeclared.reserve.Reserving.TheVariants as at
+use Rattle.papaya_shards.specs.Given.RawMachine.{reserved}
+use Rattle.papaya_shards.specs.Given.RawDeclared.machines.machine.Machine.{Machine}
+use Rattle.papaya_shards.specs.Given.RawDeclared.machines.machine.Machine.TheVariants as kinds
+use Rattle.papaya_shards.specs.Given.RawDeclared.machines.progress.Progress.{Progress}
+use Rattle.papaya_shards.proofs.Given.RuleKeys.Always.{Always, AlwaysOf, always_if, always_plan_as}
+use Rattle.papaya_shards.specs.Given.TellerDeclared.changed.Changed.TheVariants.{Nothing}
+use Rattle.papaya_shards.proofs.Given.HistoriesAsking.{always_told, always_turned}
+use Rattle.papaya_shards.specs.Given.ScenesHeld.{Held}
+use Rattle.papaya_shards.specs.Given.ScenesStepping.{StepsFrom}
 
 module _ (K V : Type 0) (p : Reserve) where
   abbrev Keeps : Reserve × Outcome (Node K V) Unit → Type 0

@@ -1,35 +1,35 @@
 -- What is of no call leaves what calls on whole maps have come to: no pair of a map comes or goes.
 use Rattle.std.specs.Prelude.{◌≡◌, ℕ, ◌==◌, ◌<◌, ◌≤◌, Bool, List, find, Option, Some, ◌⊎◌}
 use Rattle.std.proofs.Common.{ap, sym, subst, ◌∙◌, arith, inl, inr}
-use Rattle.papaya_shards.specs.Given.Tables.Chunks.{is_incremental}
-use Rattle.papaya_shards.specs.Given.Sweeps.declared.sweep.Purpose.TheVariants.{Walks}
-use Rattle.papaya_shards.specs.Given.Runs.Same.{is_same}
-use Rattle.papaya_shards.specs.Given.Schedules.Moment.{MapThere, UnderWay as CallThere, Moment}
-use Rattle.papaya_shards.specs.Given.Schedules.Views.{call_of, is_in_map, finite_map}
-use Rattle.papaya_shards.specs.Given.Rule.Chart.{Chart}
-use Rattle.papaya_shards.specs.Given.Callers.OverAll.{CallOverAll}
-use Rattle.papaya_shards.specs.Given.Callers.Together.{UnderWay, OverAll}
-use Rattle.papaya_shards.specs.Given.Effects.Known.{Known}
-use Rattle.papaya_shards.specs.Given.Finishes.Maps.{Standing}
-use Rattle.papaya_shards.specs.Given.Others.After.{ShowsAfter}
-use Rattle.papaya_shards.proofs.Given.Moments.Beside.{IsBeside, StoodSo, StandsNew}
-use Rattle.papaya_shards.proofs.Given.Follows.Steps.{one_of}
-use Rattle.papaya_shards.specs.Given.Histories.Had.{HadThen}
-use Rattle.papaya_shards.specs.Given.Histories.Histories.{since, IsWithin}
-use Rattle.papaya_shards.proofs.Given.Histories.Had.{had_on, had_one}
-use Rattle.papaya_shards.proofs.Given.Histories.Now.{now_had}
-use Rattle.papaya_shards.proofs.Given.Histories.Within.{within_on}
-use Rattle.papaya_shards.proofs.Given.Histories.Later.{IsLater, same_later}
+use Rattle.papaya_shards.specs.Given.TablesChunks.{is_incremental}
+use Rattle.papaya_shards.specs.Given.SweepsDeclared.sweep.Purpose.TheVariants.{Walks}
+use Rattle.papaya_shards.specs.Given.RunsSame.{is_same}
+use Rattle.papaya_shards.specs.Given.SchedulesMoment.{MapThere, UnderWay as CallThere, Moment}
+use Rattle.papaya_shards.specs.Given.SchedulesViews.{call_of, is_in_map, finite_map}
+use Rattle.papaya_shards.specs.Given.RuleChart.{Chart}
+use Rattle.papaya_shards.specs.Given.CallersOverAll.{CallOverAll}
+use Rattle.papaya_shards.specs.Given.CallersTogether.{UnderWay, OverAll}
+use Rattle.papaya_shards.specs.Given.EffectsKnown.{Known}
+use Rattle.papaya_shards.specs.Given.FinishesMaps.{Standing}
+use Rattle.papaya_shards.specs.Given.OthersAfter.{ShowsAfter}
+use Rattle.papaya_shards.proofs.Given.MomentsBeside.{IsBeside, StoodSo, StandsNew}
+use Rattle.papaya_shards.proofs.Given.FollowsSteps.{one_of}
+use Rattle.papaya_shards.specs.Given.HistoriesHad.{HadThen}
+use Rattle.papaya_shards.specs.Given.HistoriesHistories.{since, IsWithin}
+use Rattle.papaya_shards.proofs.Given.HistoriesHad.{had_on, had_one}
+use Rattle.papaya_shards.proofs.Given.HistoriesNow.{now_had}
+use Rattle.papaya_shards.proofs.Given.HistoriesWithin.{within_on}
+use Rattle.papaya_shards.proofs.Given.HistoriesLater.{IsLater, same_later}
 use Rattle.papaya_purposes.specs.Purposes.{KeysOf, HasSwept, HasCome, ShowsPurposes}
 use Rattle.papaya_purposes.proofs.Alike.{alike}
 use Rattle.papaya_purposes.proofs.KeysCarried.{StandsMoved, keys_kept}
 use Rattle.papaya_purposes.proofs.Over.{come_over}
 use Rattle.papaya_purposes.proofs.Present.{now_stored, now_there, absent}
 use Rattle.papaya_purposes.proofs.Shown.{same_still}
-use Rattle.papaya_shards.specs.Given.Scenes.Held.{Held, IsAt}
-use Rattle.papaya_shards.specs.Given.Scenes.Scene.{Scene, slot_of}
-use Rattle.papaya_shards.specs.Given.Schedules.Transition.{Past}
-use Rattle.papaya_shards.proofs.Given.Follows.Contents.{lasts_same}
+use Rattle.papaya_shards.specs.Given.ScenesHeld.{Held, IsAt}
+use Rattle.papaya_shards.specs.Given.ScenesScene.{Scene, slot_of}
+use Rattle.papaya_shards.specs.Given.SchedulesTransition.{Past}
+use Rattle.papaya_shards.proofs.Given.FollowsContents.{lasts_same}
 use Rattle.papaya_purposes.proofs.Stored.{numbers_last}
 
 module _ {K V : Type 0} (same : K → K → Bool) (hash : ℕ → K → ℕ) (name : ℕ → List ℕ) (log : Past K V) (m m2 : Moment K V) (known known2 : Known) (s s2 : Scene K V) (old new : Held K V)

@@ -1,11 +1,11 @@
 -- A call that adds shards up reads those that the moment says.
 use Rattle.std.specs.Prelude.{ℕ, ◌==◌, Bool, List, filter, length, Some}
 use Rattle.std.proofs.Common.{ap, sym, ◌∙◌, arith}
-use Rattle.papaya_shards.specs.Given.Schedules.Moment.{TableThere}
-use Rattle.papaya_shards.specs.Given.Effects.Effects.{effects_of}
-use Rattle.papaya_shards.specs.Given.Effects.declared.acting.Acting.TheVariants as acts
-use Rattle.papaya_shards.proofs.Given.Follows.Finds.{tables_many}
-use Rattle.papaya_shards.proofs.Given.Finds.Grows.Steps.{tables_have_been}
+use Rattle.papaya_shards.specs.Given.SchedulesMoment.{TableThere}
+use Rattle.papaya_shards.specs.Given.EffectsEffects.{effects_of}
+use Rattle.papaya_shards.specs.Given.EffectsDeclared.acting.Acting.TheVariants as acts
+use Rattle.papaya_shards.proofs.Given.FollowsFinds.{tables_many}
+use Rattle.papaya_shards.proofs.Given.FindsGrows.Steps.{tables_have_been}
 use Rattle.papaya_shards.proofs.ShardCalls.{rooms_count_nothing}
 use Rattle.papaya_purposes.specs.Shards.{EventsBeginUncounted, StepsReadShards}
 

@@ -1,21 +1,21 @@
 -- No effect changes what a walk has shown, nor which event began a call, nor what it was told.
 use Rattle.std.specs.Prelude.{◌≡◌, ℕ, Bool, true, false, List, [], ◌∷◌, Option, Some, if◌then◌else◌}
 use Rattle.std.proofs.Common.{refl, ap, sym, ◌∙◌}
-use Rattle.papaya_shards.specs.Given.Runs.Same.{is_same}
-use Rattle.papaya_shards.specs.Given.Schedules.declared.call.Call.{Call}
-use Rattle.papaya_shards.specs.Given.Schedules.declared.call.Call.TheVariants as call
-use Rattle.papaya_shards.specs.Given.Schedules.declared.effect.Effect.{Effect}
-use Rattle.papaya_shards.specs.Given.Schedules.declared.effect.Effect.TheVariants as effect
-use Rattle.papaya_shards.specs.Given.Schedules.declared.outcome.Outcome.{Outcome}
-use Rattle.papaya_shards.specs.Given.Schedules.declared.outcome.Outcome.TheVariants as outcome
-use Rattle.papaya_shards.specs.Given.Schedules.After.{asks_on, comes_to}
-use Rattle.papaya_shards.specs.Given.Schedules.Effects.{due_for, call_by, with_effect, with_effects}
-use Rattle.papaya_shards.specs.Given.Schedules.Moment.{Stands, Going, Asking, Told, IsReady, UnderWay as CallThere, Moment}
-use Rattle.papaya_shards.specs.Given.Schedules.Views.{call_of}
-use Rattle.papaya_shards.proofs.Given.Follows.Calls.{changed_same, changed, found}
-use Rattle.papaya_shards.proofs.Given.Follows.Steps.{one_of}
-use Rattle.papaya_shards.proofs.Given.Hands.Replacing.{calls_after}
-use Rattle.papaya_shards.proofs.Given.Histories.Begun.{effects_begun}
+use Rattle.papaya_shards.specs.Given.RunsSame.{is_same}
+use Rattle.papaya_shards.specs.Given.SchedulesDeclared.call.Call.{Call}
+use Rattle.papaya_shards.specs.Given.SchedulesDeclared.call.Call.TheVariants as call
+use Rattle.papaya_shards.specs.Given.SchedulesDeclared.effect.Effect.{Effect}
+use Rattle.papaya_shards.specs.Given.SchedulesDeclared.effect.Effect.TheVariants as effect
+use Rattle.papaya_shards.specs.Given.SchedulesDeclared.outcome.Outcome.{Outcome}
+use Rattle.papaya_shards.specs.Given.SchedulesDeclared.outcome.Outcome.TheVariants as outcome
+use Rattle.papaya_shards.specs.Given.SchedulesAfter.{asks_on, comes_to}
+use Rattle.papaya_shards.specs.Given.SchedulesEffects.{due_for, call_by, with_effect, with_effects}
+use Rattle.papaya_shards.specs.Given.SchedulesMoment.{Stands, Going, Asking, Told, IsReady, UnderWay as CallThere, Moment}
+use Rattle.papaya_shards.specs.Given.SchedulesViews.{call_of}
+use Rattle.papaya_shards.proofs.Given.FollowsCalls.{changed_same, changed, found}
+use Rattle.papaya_shards.proofs.Given.FollowsSteps.{one_of}
+use Rattle.papaya_shards.proofs.Given.HandsReplacing.{calls_after}
+use Rattle.papaya_shards.proofs.Given.HistoriesBegun.{effects_begun}
 use Rattle.papaya_purposes.specs.Kept.{TellsNone}
 
 module _ {K V : Type 0} where

@@ -2,37 +2,37 @@
 use Rattle.std.specs.Prelude.{◌≡◌, ℕ, ◌<◌, ◌≤◌, Bool, true, false, cond, eqb, List, ◌∷◌, map, Option, Some}
 use Rattle.std.proofs.Common.{refl, ap, sym, subst, ◌∙◌, arith, inl, inr}
 use Rattle.std.proofs.lemmas.Bool.{eq-eqb}
-use Rattle.papaya_shards.specs.Given.Seize.World.{World, with_at}
-use Rattle.papaya_shards.specs.Given.Tables.declared.node.Node.{Node}
-use Rattle.papaya_shards.specs.Given.Sweeps.declared.sweep.Sweep.{Sweep}
-use Rattle.papaya_shards.specs.Given.Sweeps.declared.sweep.Sweeping.TheVariants as sweeping
-use Rattle.papaya_shards.specs.Given.Sweeps.declared.sweep.Swept.{Swept}
-use Rattle.papaya_shards.specs.Given.Sweeps.declared.sweep.Swept.TheVariants as swept
-use Rattle.papaya_shards.specs.Given.Raw.declared.machines.progress.Answer.{Answer}
-use Rattle.papaya_shards.specs.Given.Raw.declared.machines.progress.Answer.TheVariants as answers
-use Rattle.papaya_shards.specs.Given.Raw.declared.machines.progress.Progress.TheVariants as progress
-use Rattle.papaya_shards.specs.Given.Schedules.declared.call.Call.{Call}
-use Rattle.papaya_shards.specs.Given.Schedules.declared.call.Call.TheVariants as call
-use Rattle.papaya_shards.specs.Given.Schedules.declared.outcome.Outcome.TheVariants.{Shows as ShowsOne}
-use Rattle.papaya_shards.specs.Given.Schedules.Lists.{OneOf, is_among}
-use Rattle.papaya_shards.specs.Given.Schedules.Moment.{UnderWay as CallThere, Moment}
-use Rattle.papaya_shards.specs.Given.Schedules.Sweeps.{MayShow}
-use Rattle.papaya_shards.specs.Given.Schedules.Views.{call_of, is_in_map}
-use Rattle.papaya_shards.specs.Given.Rule.Chart.{Chart}
-use Rattle.papaya_shards.specs.Given.Rule.Words.{Blocks}
-use Rattle.papaya_shards.specs.Given.Late.Covers.{times, AreShown, CoversAt}
-use Rattle.papaya_shards.specs.Given.Late.CoversSweeps.{Adds, DoneAt}
-use Rattle.papaya_shards.specs.Given.Late.ToldSweeps.{IsRowOfSweep, TellsSo}
-use Rattle.papaya_shards.specs.Given.Callers.OverAll.{CallOverAll, come_to}
-use Rattle.papaya_shards.specs.Given.Callers.Together.{UnderWay, OnKey, ForRoom, Counting, OverAll, Stands, next_over_all}
-use Rattle.papaya_shards.proofs.Given.Callers.Together.At.{at_same}
-use Rattle.papaya_shards.specs.Given.Effects.Known.{Known}
-use Rattle.papaya_shards.specs.Given.Finishes.Maps.{Standing}
-use Rattle.papaya_shards.specs.Given.Finishes.Sweeps.{SweepStepsAmong}
-use Rattle.papaya_shards.specs.Given.Histories.Answers.{NamesPair}
-use Rattle.papaya_shards.specs.Given.Histories.Histories.{since}
-use Rattle.papaya_shards.proofs.Given.Histories.Logs.{each_of, now_there}
-use Rattle.papaya_shards.specs.Given.Moments.Whole.{ShowsWhole}
+use Rattle.papaya_shards.specs.Given.SeizeWorld.{World, with_at}
+use Rattle.papaya_shards.specs.Given.TablesDeclared.node.Node.{Node}
+use Rattle.papaya_shards.specs.Given.SweepsDeclared.sweep.Sweep.{Sweep}
+use Rattle.papaya_shards.specs.Given.SweepsDeclared.sweep.Sweeping.TheVariants as sweeping
+use Rattle.papaya_shards.specs.Given.SweepsDeclared.sweep.Swept.{Swept}
+use Rattle.papaya_shards.specs.Given.SweepsDeclared.sweep.Swept.TheVariants as swept
+use Rattle.papaya_shards.specs.Given.RawDeclared.machines.progress.Answer.{Answer}
+use Rattle.papaya_shards.specs.Given.RawDeclared.machines.progress.Answer.TheVariants as answers
+use Rattle.papaya_shards.specs.Given.RawDeclared.machines.progress.Progress.TheVariants as progress
+use Rattle.papaya_shards.specs.Given.SchedulesDeclared.call.Call.{Call}
+use Rattle.papaya_shards.specs.Given.SchedulesDeclared.call.Call.TheVariants as call
+use Rattle.papaya_shards.specs.Given.SchedulesDeclared.outcome.Outcome.TheVariants.{Shows as ShowsOne}
+use Rattle.papaya_shards.specs.Given.SchedulesLists.{OneOf, is_among}
+use Rattle.papaya_shards.specs.Given.SchedulesMoment.{UnderWay as CallThere, Moment}
+use Rattle.papaya_shards.specs.Given.SchedulesSweeps.{MayShow}
+use Rattle.papaya_shards.specs.Given.SchedulesViews.{call_of, is_in_map}
+use Rattle.papaya_shards.specs.Given.RuleChart.{Chart}
+use Rattle.papaya_shards.specs.Given.RuleWords.{Blocks}
+use Rattle.papaya_shards.specs.Given.LateCovers.{times, AreShown, CoversAt}
+use Rattle.papaya_shards.specs.Given.LateCoversSweeps.{Adds, DoneAt}
+use Rattle.papaya_shards.specs.Given.LateToldSweeps.{IsRowOfSweep, TellsSo}
+use Rattle.papaya_shards.specs.Given.CallersOverAll.{CallOverAll, come_to}
+use Rattle.papaya_shards.specs.Given.CallersTogether.{UnderWay, OnKey, ForRoom, Counting, OverAll, Stands, next_over_all}
+use Rattle.papaya_shards.proofs.Given.CallersTogether.At.{at_same}
+use Rattle.papaya_shards.specs.Given.EffectsKnown.{Known}
+use Rattle.papaya_shards.specs.Given.FinishesMaps.{Standing}
+use Rattle.papaya_shards.specs.Given.FinishesSweeps.{SweepStepsAmong}
+use Rattle.papaya_shards.specs.Given.HistoriesAnswers.{NamesPair}
+use Rattle.papaya_shards.specs.Given.HistoriesHistories.{since}
+use Rattle.papaya_shards.proofs.Given.HistoriesLogs.{each_of, now_there}
+use Rattle.papaya_shards.specs.Given.MomentsWhole.{ShowsWhole}
 use Rattle.papaya_purposes.specs.Kept.{NoneCame, PairsChangeFirst}
 use Rattle.papaya_purposes.specs.Purposes.{IsFor, PairsWithin, TellsDone, HasSwept, ShowsPurposes}
 use Rattle.papaya_purposes.specs.Swept.{ComesSo, WalksShow}
@@ -44,10 +44,10 @@ use Rattle.papaya_purposes.proofs.Swept.{then_call, then_is, still, on_map, swep
 use Rattle.papaya_purposes.proofs.Told.{numbers_apart}
 use Rattle.papaya_purposes.proofs.Pairs.{pair_swept}
 use Rattle.papaya_purposes.proofs.Walks.{adds_one}
-use Rattle.papaya_shards.specs.Given.Scenes.Held.{Held, IsAt}
-use Rattle.papaya_shards.specs.Given.Scenes.Scene.{Scene, slot_of}
-use Rattle.papaya_shards.specs.Given.Scenes.Stepping.{StepLeads}
-use Rattle.papaya_shards.specs.Given.Schedules.Transition.{Past}
+use Rattle.papaya_shards.specs.Given.ScenesHeld.{Held, IsAt}
+use Rattle.papaya_shards.specs.Given.ScenesScene.{Scene, slot_of}
+use Rattle.papaya_shards.specs.Given.ScenesStepping.{StepLeads}
+use Rattle.papaya_shards.specs.Given.SchedulesTransition.{Past}
 
 -- a sweep that is ready has shown each pair that it has done once
 module _ {K : Type 0} (hash : K → ℕ) (c : Chart K) (blocks : Blocks) (p : Sweep) (entered : ℕ) (done : List ℕ) where

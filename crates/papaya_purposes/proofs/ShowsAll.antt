@@ -2,45 +2,45 @@
 use Rattle.std.specs.Prelude.{◌≡◌, ℕ, ◌+◌, ◌<◌, ◌≤◌, Bool, true, false, cond, List, [], ◌∷◌, length, map, Option, Some, None, is_some, if◌then◌else◌}
 use Rattle.std.specs.List.{AllByRecursion}
 use Rattle.std.proofs.Common.{refl, ap, sym, subst, ◌∙◌, inl, inr}
-use Rattle.papaya_shards.specs.Given.Tables.Chunks.{is_incremental}
-use Rattle.papaya_shards.specs.Given.Tables.declared.node.Node.{Node}
-use Rattle.papaya_shards.specs.Given.Sweeps.declared.sweep.Purpose.TheVariants.{Walks}
-use Rattle.papaya_shards.specs.Given.Sweeps.declared.sweep.Sweep.{Sweep}
-use Rattle.papaya_shards.specs.Given.Sweeps.declared.sweep.Sweeping.TheVariants as sweeping
-use Rattle.papaya_shards.specs.Given.Sweeps.declared.sweep.Swept.{Swept}
-use Rattle.papaya_shards.specs.Given.Sweeps.declared.sweep.Swept.TheVariants as swept
-use Rattle.papaya_shards.specs.Given.Raw.Progress.{of_swept}
-use Rattle.papaya_shards.specs.Given.Raw.declared.machines.progress.Answer.TheVariants as answers
-use Rattle.papaya_shards.specs.Given.Raw.declared.machines.progress.Progress.{Progress}
-use Rattle.papaya_shards.specs.Given.Raw.declared.machines.progress.Progress.TheVariants as progress
-use Rattle.papaya_shards.specs.Given.Runs.Log.{pair_at, is_key}
-use Rattle.papaya_shards.specs.Given.Schedules.declared.call.Answer.TheVariants.{Absent}
-use Rattle.papaya_shards.specs.Given.Schedules.declared.call.Call.{Call}
-use Rattle.papaya_shards.specs.Given.Schedules.declared.call.Call.TheVariants as call
-use Rattle.papaya_shards.specs.Given.Schedules.declared.outcome.Outcome.TheVariants.{Answered}
-use Rattle.papaya_shards.specs.Given.Schedules.Lists.{OneOf}
-use Rattle.papaya_shards.specs.Given.Schedules.Moment.{UnderWay as CallThere, Moment}
-use Rattle.papaya_shards.specs.Given.Schedules.Sweeps.{with_key, HasBeen, ShowsAll}
-use Rattle.papaya_shards.specs.Given.Schedules.Views.{call_of, is_in_map, finite_map}
-use Rattle.papaya_shards.specs.Given.Rule.Chart.{Chart}
-use Rattle.papaya_shards.specs.Given.Rule.Maps.{spot_of}
-use Rattle.papaya_shards.specs.Given.Rule.Rule.{is_of}
-use Rattle.papaya_shards.specs.Given.Late.Covers.{times, WasSince}
-use Rattle.papaya_shards.specs.Given.Late.ToldSweeps.{TellsSo}
-use Rattle.papaya_shards.specs.Given.Callers.OverAll.{CallOverAll}
-use Rattle.papaya_shards.specs.Given.Callers.Together.{UnderWay, OnKey, ForRoom, Counting, OverAll}
-use Rattle.papaya_shards.specs.Given.Effects.Effects.{effects_of}
-use Rattle.papaya_shards.specs.Given.Effects.Known.{Known}
-use Rattle.papaya_shards.specs.Given.Effects.declared.acting.Acting.TheVariants as acts
-use Rattle.papaya_shards.specs.Given.Finishes.Machines.{machine_of}
-use Rattle.papaya_shards.specs.Given.Finishes.Maps.{Standing}
-use Rattle.papaya_shards.proofs.Given.Follows.Contents.{Lasts}
-use Rattle.papaya_shards.specs.Given.Histories.Had.{Had, HadJust, HadThen}
-use Rattle.papaya_shards.specs.Given.Histories.Histories.{since}
-use Rattle.papaya_shards.proofs.Given.Histories.Found.{FoundIn, found}
-use Rattle.papaya_shards.proofs.Given.Histories.Logs.{now_there}
-use Rattle.papaya_shards.proofs.Given.Histories.Now.{both_true}
-use Rattle.papaya_shards.specs.Given.Moments.Whole.{ShowsWhole}
+use Rattle.papaya_shards.specs.Given.TablesChunks.{is_incremental}
+use Rattle.papaya_shards.specs.Given.TablesDeclared.node.Node.{Node}
+use Rattle.papaya_shards.specs.Given.SweepsDeclared.sweep.Purpose.TheVariants.{Walks}
+use Rattle.papaya_shards.specs.Given.SweepsDeclared.sweep.Sweep.{Sweep}
+use Rattle.papaya_shards.specs.Given.SweepsDeclared.sweep.Sweeping.TheVariants as sweeping
+use Rattle.papaya_shards.specs.Given.SweepsDeclared.sweep.Swept.{Swept}
+use Rattle.papaya_shards.specs.Given.SweepsDeclared.sweep.Swept.TheVariants as swept
+use Rattle.papaya_shards.specs.Given.RawProgress.{of_swept}
+use Rattle.papaya_shards.specs.Given.RawDeclared.machines.progress.Answer.TheVariants as answers
+use Rattle.papaya_shards.specs.Given.RawDeclared.machines.progress.Progress.{Progress}
+use Rattle.papaya_shards.specs.Given.RawDeclared.machines.progress.Progress.TheVariants as progress
+use Rattle.papaya_shards.specs.Given.RunsLog.{pair_at, is_key}
+use Rattle.papaya_shards.specs.Given.SchedulesDeclared.call.Answer.TheVariants.{Absent}
+use Rattle.papaya_shards.specs.Given.SchedulesDeclared.call.Call.{Call}
+use Rattle.papaya_shards.specs.Given.SchedulesDeclared.call.Call.TheVariants as call
+use Rattle.papaya_shards.specs.Given.SchedulesDeclared.outcome.Outcome.TheVariants.{Answered}
+use Rattle.papaya_shards.specs.Given.SchedulesLists.{OneOf}
+use Rattle.papaya_shards.specs.Given.SchedulesMoment.{UnderWay as CallThere, Moment}
+use Rattle.papaya_shards.specs.Given.SchedulesSweeps.{with_key, HasBeen, ShowsAll}
+use Rattle.papaya_shards.specs.Given.SchedulesViews.{call_of, is_in_map, finite_map}
+use Rattle.papaya_shards.specs.Given.RuleChart.{Chart}
+use Rattle.papaya_shards.specs.Given.RuleMaps.{spot_of}
+use Rattle.papaya_shards.specs.Given.RuleRule.{is_of}
+use Rattle.papaya_shards.specs.Given.LateCovers.{times, WasSince}
+use Rattle.papaya_shards.specs.Given.LateToldSweeps.{TellsSo}
+use Rattle.papaya_shards.specs.Given.CallersOverAll.{CallOverAll}
+use Rattle.papaya_shards.specs.Given.CallersTogether.{UnderWay, OnKey, ForRoom, Counting, OverAll}
+use Rattle.papaya_shards.specs.Given.EffectsEffects.{effects_of}
+use Rattle.papaya_shards.specs.Given.EffectsKnown.{Known}
+use Rattle.papaya_shards.specs.Given.EffectsDeclared.acting.Acting.TheVariants as acts
+use Rattle.papaya_shards.specs.Given.FinishesMachines.{machine_of}
+use Rattle.papaya_shards.specs.Given.FinishesMaps.{Standing}
+use Rattle.papaya_shards.proofs.Given.FollowsContents.{Lasts}
+use Rattle.papaya_shards.specs.Given.HistoriesHad.{Had, HadJust, HadThen}
+use Rattle.papaya_shards.specs.Given.HistoriesHistories.{since}
+use Rattle.papaya_shards.proofs.Given.HistoriesFound.{FoundIn, found}
+use Rattle.papaya_shards.proofs.Given.HistoriesLogs.{now_there}
+use Rattle.papaya_shards.proofs.Given.HistoriesNow.{both_true}
+use Rattle.papaya_shards.specs.Given.MomentsWhole.{ShowsWhole}
 use Rattle.papaya_purposes.specs.Keys.{HasClass, HadAlways, of_class, KeysCame, KeysAt}
 use Rattle.papaya_purposes.specs.Purposes.{IsFor, TellsDone, HasSwept, ShowsPurposes}
 use Rattle.papaya_purposes.specs.Swept.{LosesNone, WalksShowAll}
@@ -50,10 +50,10 @@ use Rattle.papaya_purposes.proofs.Lists.{all_among, each_among, one_with}
 use Rattle.papaya_purposes.proofs.Steps.{went, v2, Did}
 use Rattle.papaya_purposes.proofs.Stored.{effects_stored}
 use Rattle.papaya_purposes.proofs.Swept.{then_call, then_is, still, on_map, swept_by, done_swept}
-use Rattle.papaya_shards.specs.Given.Scenes.Held.{Held, IsAt}
-use Rattle.papaya_shards.specs.Given.Scenes.Scene.{Scene, slot_of}
-use Rattle.papaya_shards.specs.Given.Scenes.Stepping.{StepLeads, StepsFrom}
-use Rattle.papaya_shards.specs.Given.Schedules.Transition.{Past}
+use Rattle.papaya_shards.specs.Given.ScenesHeld.{Held, IsAt}
+use Rattle.papaya_shards.specs.Given.ScenesScene.{Scene, slot_of}
+use Rattle.papaya_shards.specs.Given.ScenesStepping.{StepLeads, StepsFrom}
+use Rattle.papaya_shards.specs.Given.SchedulesTransition.{Past}
 
 -- the pair of a number has such a key
 key_some : {K V : Type 0} (same : K → K → Bool) (k : K) (o : Option (K × V)) → is_key same o k ≡ true → (p : K × V) × (o ≡ Some p) × (same p.0 k ≡ true)

@@ -3,48 +3,48 @@ use Rattle.std.specs.Prelude.{◌≡◌, ◌≢◌, ℕ, ◌<◌, ◌≤◌, Boo
 use Rattle.std.specs.List.{AllByRecursion}
 use Rattle.std.proofs.Common.{refl, ap, sym, subst, ◌∙◌, arith, inl, inr}
 use Rattle.std.proofs.lemmas.Bool.{cases_eq}
-use Rattle.papaya_shards.specs.Given.Seize.World.{with_at}
-use Rattle.papaya_shards.specs.Given.Tables.Chunks.{is_incremental}
-use Rattle.papaya_shards.specs.Given.Tables.declared.node.Node.{Node}
-use Rattle.papaya_shards.specs.Given.Reserves.declared.reserve.Reserve.{Reserve}
-use Rattle.papaya_shards.specs.Given.Reserves.declared.reserve.Reserving.{Reserving}
-use Rattle.papaya_shards.specs.Given.Reserves.declared.reserve.Reserving.TheVariants as reserving
-use Rattle.papaya_shards.specs.Given.Sweeps.declared.sweep.Purpose.TheVariants.{Walks}
-use Rattle.papaya_shards.specs.Given.Raw.declared.machines.machine.Machine.{Machine}
-use Rattle.papaya_shards.specs.Given.Raw.declared.machines.machine.Machine.TheVariants as kinds
-use Rattle.papaya_shards.specs.Given.Raw.declared.machines.progress.Progress.{Progress}
-use Rattle.papaya_shards.specs.Given.Schedules.declared.call.Call.{Call}
-use Rattle.papaya_shards.specs.Given.Schedules.Moment.{UnderWay as CallThere, Moment}
-use Rattle.papaya_shards.specs.Given.Schedules.Views.{call_of, is_in_map, finite_map}
-use Rattle.papaya_shards.specs.Given.Rule.Chart.{Chart}
-use Rattle.papaya_shards.specs.Given.Rule.Maps.{spot_of}
-use Rattle.papaya_shards.specs.Given.Callers.OverAll.{CallOverAll, come_to, gone_on}
-use Rattle.papaya_shards.specs.Given.Callers.Rooms.{CallForRoom}
-use Rattle.papaya_shards.specs.Given.Callers.Sights.{seen_by}
-use Rattle.papaya_shards.specs.Given.Callers.Together.{UnderWay, OnKey, ForRoom, Counting, OverAll}
-use Rattle.papaya_shards.proofs.Given.Callers.Together.At.{at_same}
-use Rattle.papaya_shards.specs.Given.Finishes.Machines.{machine_of}
-use Rattle.papaya_shards.specs.Given.Finishes.Maps.{Standing}
-use Rattle.papaya_shards.specs.Given.Effects.Effects.{effects_of}
-use Rattle.papaya_shards.specs.Given.Effects.Known.{Known}
-use Rattle.papaya_shards.specs.Given.Effects.declared.acting.Acting.TheVariants as acts
-use Rattle.papaya_shards.specs.Given.Follows.Shows.{Shows}
-use Rattle.papaya_shards.proofs.Given.Follows.Called.{key_goes_on, room_goes_on, sweep_goes_on, counting_goes_on}
-use Rattle.papaya_shards.proofs.Given.Follows.Steps.{WentTo, DidSo, LeadsThere, one_of}
-use Rattle.papaya_shards.specs.Given.Moments.Whole.{ShowsWhole}
-use Rattle.papaya_shards.proofs.Given.Moments.OnSlots.{stood_same}
-use Rattle.papaya_shards.specs.Given.Histories.Histories.{since, IsWithin}
-use Rattle.papaya_shards.specs.Given.Histories.Kept.{ChangesFirst}
-use Rattle.papaya_shards.proofs.Given.Histories.Later.{IsLater}
-use Rattle.papaya_shards.proofs.Given.Histories.Steps.{to, led_on, v, after, s2, maps_later, now_then, same_elsewhere}
-use Rattle.papaya_shards.proofs.Given.Histories.Within.{within_on}
-use Rattle.papaya_shards.proofs.Given.Histories.NoKey.Sweeps.{SweepsOn, sweeps_on}
+use Rattle.papaya_shards.specs.Given.SeizeWorld.{with_at}
+use Rattle.papaya_shards.specs.Given.TablesChunks.{is_incremental}
+use Rattle.papaya_shards.specs.Given.TablesDeclared.node.Node.{Node}
+use Rattle.papaya_shards.specs.Given.ReservesDeclared.reserve.Reserve.{Reserve}
+use Rattle.papaya_shards.specs.Given.ReservesDeclared.reserve.Reserving.{Reserving}
+use Rattle.papaya_shards.specs.Given.ReservesDeclared.reserve.Reserving.TheVariants as reserving
+use Rattle.papaya_shards.specs.Given.SweepsDeclared.sweep.Purpose.TheVariants.{Walks}
+use Rattle.papaya_shards.specs.Given.RawDeclared.machines.machine.Machine.{Machine}
+use Rattle.papaya_shards.specs.Given.RawDeclared.machines.machine.Machine.TheVariants as kinds
+use Rattle.papaya_shards.specs.Given.RawDeclared.machines.progress.Progress.{Progress}
+use Rattle.papaya_shards.specs.Given.SchedulesDeclared.call.Call.{Call}
+use Rattle.papaya_shards.specs.Given.SchedulesMoment.{UnderWay as CallThere, Moment}
+use Rattle.papaya_shards.specs.Given.SchedulesViews.{call_of, is_in_map, finite_map}
+use Rattle.papaya_shards.specs.Given.RuleChart.{Chart}
+use Rattle.papaya_shards.specs.Given.RuleMaps.{spot_of}
+use Rattle.papaya_shards.specs.Given.CallersOverAll.{CallOverAll, come_to, gone_on}
+use Rattle.papaya_shards.specs.Given.CallersRooms.{CallForRoom}
+use Rattle.papaya_shards.specs.Given.CallersSights.{seen_by}
+use Rattle.papaya_shards.specs.Given.CallersTogether.{UnderWay, OnKey, ForRoom, Counting, OverAll}
+use Rattle.papaya_shards.proofs.Given.CallersTogether.At.{at_same}
+use Rattle.papaya_shards.specs.Given.FinishesMachines.{machine_of}
+use Rattle.papaya_shards.specs.Given.FinishesMaps.{Standing}
+use Rattle.papaya_shards.specs.Given.EffectsEffects.{effects_of}
+use Rattle.papaya_shards.specs.Given.EffectsKnown.{Known}
+use Rattle.papaya_shards.specs.Given.EffectsDeclared.acting.Acting.TheVariants as acts
+use Rattle.papaya_shards.specs.Given.FollowsShows.{Shows}
+use Rattle.papaya_shards.proofs.Given.FollowsCalled.{key_goes_on, room_goes_on, sweep_goes_on, counting_goes_on}
+use Rattle.papaya_shards.proofs.Given.FollowsSteps.{WentTo, DidSo, LeadsThere, one_of}
+use Rattle.papaya_shards.specs.Given.MomentsWhole.{ShowsWhole}
+use Rattle.papaya_shards.proofs.Given.MomentsOnSlots.{stood_same}
+use Rattle.papaya_shards.specs.Given.HistoriesHistories.{since, IsWithin}
+use Rattle.papaya_shards.specs.Given.HistoriesKept.{ChangesFirst}
+use Rattle.papaya_shards.proofs.Given.HistoriesLater.{IsLater}
+use Rattle.papaya_shards.proofs.Given.HistoriesSteps.{to, led_on, v, after, s2, maps_later, now_then, same_elsewhere}
+use Rattle.papaya_shards.proofs.Given.HistoriesWithin.{within_on}
+use Rattle.papaya_shards.proofs.Given.HistoriesNoKey.Sweeps.{SweepsOn, sweeps_on}
 use Rattle.papaya_purposes.specs.Keys.{KeysAt, AreKeyed}
 use Rattle.papaya_purposes.specs.Kept.{ShowsNone, PairsChangeFirst}
-use Rattle.papaya_shards.specs.Given.Finds.Reserving.{ReservesAt}
+use Rattle.papaya_shards.specs.Given.FindsReserving.{ReservesAt}
 use Rattle.papaya_purposes.specs.Needs.{NeedsAt}
 use Rattle.papaya_purposes.specs.Purposes.{IsFor, PairsWithin, HasAdded, RoomAt, HasMet, KeysOf, HasSwept, HasCome, ShowsPurposes}
-use Rattle.papaya_shards.specs.Given.Named.Machines.{IsBefore}
+use Rattle.papaya_shards.specs.Given.NamedMachines.{IsBefore}
 use Rattle.papaya_purposes.specs.Shards.{ReadsShards}
 use Rattle.papaya_purposes.proofs.Alike.{alike}
 use Rattle.papaya_purposes.proofs.Counts.{counts_on}
@@ -61,10 +61,10 @@ use Rattle.papaya_purposes.proofs.RoomPoints.{LedAt}
 use Rattle.papaya_purposes.proofs.RoomSteps.{EndsSo, room_goes, room_keeps}
 use Rattle.papaya_purposes.proofs.Rooms.{IsForRoom, room_kept}
 use Rattle.papaya_purposes.proofs.Shown.{IsStill, effects_still}
-use Rattle.papaya_shards.specs.Given.Scenes.Held.{Held, IsAt}
-use Rattle.papaya_shards.specs.Given.Scenes.Scene.{Scene, slot_of}
-use Rattle.papaya_shards.specs.Given.Scenes.Stepping.{StepLeads, StepsFrom}
-use Rattle.papaya_shards.specs.Given.Schedules.Transition.{Past}
+use Rattle.papaya_shards.specs.Given.ScenesHeld.{Held, IsAt}
+use Rattle.papaya_shards.specs.Given.ScenesScene.{Scene, slot_of}
+use Rattle.papaya_shards.specs.Given.ScenesStepping.{StepLeads, StepsFrom}
+use Rattle.papaya_shards.specs.Given.SchedulesTransition.{Past}
 
 module _ {K V : Type 0} (same : K → K → Bool) (hash : ℕ → K → ℕ) (name : ℕ → List ℕ) (log : Past K V) (m : Moment K V) (known : Known) (s : Scene K V) (old new : Held K V)
     (at : IsAt same hash old s) (whole : ShowsWhole same name m known s) (purposes : ShowsPurposes same name log m known s) (of i : ℕ) (u : UnderWay K V K) (here : s.calls of i ≡ Some u)

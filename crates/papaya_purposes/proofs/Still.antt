@@ -1,20 +1,20 @@
 -- Where only calls have changed, and this one has been told and has shown what it was told and had shown, it has come to what it had come to.
 use Rattle.std.specs.Prelude.{◌≡◌, ℕ, Bool, ◌∷◌}
 use Rattle.std.proofs.Common.{refl, ap, sym, subst, ◌∙◌, inl, inr}
-use Rattle.papaya_shards.specs.Given.Schedules.declared.call.Call.{Call}
-use Rattle.papaya_shards.specs.Given.Schedules.Lists.{OneOf}
-use Rattle.papaya_shards.specs.Given.Schedules.Moment.{Place, UnderWay as CallThere, Moment}
-use Rattle.papaya_shards.specs.Given.Schedules.Views.{is_in_map}
-use Rattle.papaya_shards.specs.Given.Callers.Together.{UnderWay, OnKey, ForRoom, Counting, OverAll}
-use Rattle.papaya_shards.specs.Given.Finishes.Maps.{Standing}
-use Rattle.papaya_shards.specs.Given.Histories.Histories.{IsWithin}
-use Rattle.papaya_shards.proofs.Given.Histories.Found.{map_alike}
-use Rattle.papaya_shards.proofs.Given.Histories.Within.{within_alike}
+use Rattle.papaya_shards.specs.Given.SchedulesDeclared.call.Call.{Call}
+use Rattle.papaya_shards.specs.Given.SchedulesLists.{OneOf}
+use Rattle.papaya_shards.specs.Given.SchedulesMoment.{Place, UnderWay as CallThere, Moment}
+use Rattle.papaya_shards.specs.Given.SchedulesViews.{is_in_map}
+use Rattle.papaya_shards.specs.Given.CallersTogether.{UnderWay, OnKey, ForRoom, Counting, OverAll}
+use Rattle.papaya_shards.specs.Given.FinishesMaps.{Standing}
+use Rattle.papaya_shards.specs.Given.HistoriesHistories.{IsWithin}
+use Rattle.papaya_shards.proofs.Given.HistoriesFound.{map_alike}
+use Rattle.papaya_shards.proofs.Given.HistoriesWithin.{within_alike}
 use Rattle.papaya_purposes.specs.Purposes.{PairsWithin, IsFor, HasAdded, HasMet, HasCome}
 use Rattle.papaya_purposes.proofs.Done.{tells_kept}
 use Rattle.papaya_purposes.proofs.Shown.{IsStill}
 use Rattle.papaya_purposes.proofs.Within.{pairs_within_moments}
-use Rattle.papaya_shards.specs.Given.Schedules.Transition.{Past}
+use Rattle.papaya_shards.specs.Given.SchedulesTransition.{Past}
 
 module _ {K V : Type 0} (same : K → K → Bool) (of : ℕ) (st : Standing K) (number : ℕ → ℕ) (log : Past K V) (m m2 : Moment K V) (place : m2.place ≡ m.place) (stored : m2.stored ≡ m.stored) (c d : CallThere K V) where
   pub within_still : d.begun ≡ c.begun → (began : ℕ) → PairsWithin of st number (m ∷ log.since c.begun) began → PairsWithin of st number (m2 ∷ log.since d.begun) began

@@ -1,24 +1,24 @@
 -- A walk that is given up: other calls have come to what they had come to.
 use Rattle.std.specs.Prelude.{◌≡◌, ℕ, Bool, true, false, List, Option, Some, None, ◌⊎◌}
 use Rattle.std.proofs.Common.{refl, ap, sym, subst, ◌∙◌, inl, inr}
-use Rattle.papaya_shards.specs.Given.SeizeWords.declared.fault.Fault.TheVariants.{Memory}
-use Rattle.papaya_shards.specs.Given.Schedules.declared.outcome.Outcome.TheVariants.{Refused}
-use Rattle.papaya_shards.specs.Given.Schedules.Moment.{Moment}
-use Rattle.papaya_shards.specs.Given.Callers.Together.{UnderWay}
-use Rattle.papaya_shards.specs.Given.Effects.Known.{Known}
-use Rattle.papaya_shards.specs.Given.Finishes.Maps.{with_call as with_in}
-use Rattle.papaya_shards.specs.Given.Follows.Calling.{NoneNamed}
-use Rattle.papaya_shards.proofs.Given.Follows.Calls.{CalledOn}
-use Rattle.papaya_shards.proofs.Given.Follows.Steps.{one_of}
-use Rattle.papaya_shards.proofs.Given.Hands.Asking.{which}
-use Rattle.papaya_shards.specs.Given.Others.After.{ShowsAfter}
-use Rattle.papaya_shards.specs.Given.Others.Walks.{given_up}
-use Rattle.papaya_shards.proofs.Given.Others.Walks.{fewer_calls, with_calls}
+use Rattle.papaya_shards.specs.Given.SeizeWordsDeclared.fault.Fault.TheVariants.{Memory}
+use Rattle.papaya_shards.specs.Given.SchedulesDeclared.outcome.Outcome.TheVariants.{Refused}
+use Rattle.papaya_shards.specs.Given.SchedulesMoment.{Moment}
+use Rattle.papaya_shards.specs.Given.CallersTogether.{UnderWay}
+use Rattle.papaya_shards.specs.Given.EffectsKnown.{Known}
+use Rattle.papaya_shards.specs.Given.FinishesMaps.{with_call as with_in}
+use Rattle.papaya_shards.specs.Given.FollowsCalling.{NoneNamed}
+use Rattle.papaya_shards.proofs.Given.FollowsCalls.{CalledOn}
+use Rattle.papaya_shards.proofs.Given.FollowsSteps.{one_of}
+use Rattle.papaya_shards.proofs.Given.HandsAsking.{which}
+use Rattle.papaya_shards.specs.Given.OthersAfter.{ShowsAfter}
+use Rattle.papaya_shards.specs.Given.OthersWalks.{given_up}
+use Rattle.papaya_shards.proofs.Given.OthersWalks.{fewer_calls, with_calls}
 use Rattle.papaya_purposes.specs.Purposes.{HasCome, ShowsPurposes}
 use Rattle.papaya_purposes.proofs.Between.{calls_come_to_purposes}
-use Rattle.papaya_shards.specs.Given.Scenes.Replying.{unless_stopped}
-use Rattle.papaya_shards.specs.Given.Scenes.Scene.{Scene}
-use Rattle.papaya_shards.specs.Given.Schedules.Transition.{Past}
+use Rattle.papaya_shards.specs.Given.ScenesReplying.{unless_stopped}
+use Rattle.papaya_shards.specs.Given.ScenesScene.{Scene}
+use Rattle.papaya_shards.specs.Given.SchedulesTransition.{Past}
 
 module _ {K V : Type 0} (same : K → K → Bool) (name : ℕ → List ℕ) (log : Past K V) (m : Moment K V) (known : Known) (s : Scene K V) (purposes : ShowsPurposes same name log m known s)
     (of i : ℕ) (u : UnderWay K V K) (here : s.calls of i ≡ Some u) where

@@ -1,13 +1,13 @@
 -- What was stored at a moment of a run has its number still at each later one.
 use Rattle.std.specs.Prelude.{ℕ, ◌==◌, Bool, true, false, List, [], ◌∷◌, Option, Some, None, if◌then◌else◌}
 use Rattle.std.specs.List.{AllByRecursion}
-use Rattle.papaya_shards.specs.Given.Schedules.declared.effect.Effect.{Effect}
-use Rattle.papaya_shards.specs.Given.Schedules.declared.effect.Effect.TheVariants as effect
-use Rattle.papaya_shards.specs.Given.Schedules.Effects.{new_pair, stored_by, with_effect, with_effects}
-use Rattle.papaya_shards.specs.Given.Schedules.Entry.{acting}
-use Rattle.papaya_shards.specs.Given.Schedules.Moment.{UnderWay as CallThere, Moment, start}
-use Rattle.papaya_shards.specs.Given.Schedules.Transition.{Past, past}
-use Rattle.papaya_shards.proofs.Given.Follows.Contents.{Lasts, lasts_more}
+use Rattle.papaya_shards.specs.Given.SchedulesDeclared.effect.Effect.{Effect}
+use Rattle.papaya_shards.specs.Given.SchedulesDeclared.effect.Effect.TheVariants as effect
+use Rattle.papaya_shards.specs.Given.SchedulesEffects.{new_pair, stored_by, with_effect, with_effects}
+use Rattle.papaya_shards.specs.Given.SchedulesEntry.{acting}
+use Rattle.papaya_shards.specs.Given.SchedulesMoment.{UnderWay as CallThere, Moment, start}
+use Rattle.papaya_shards.specs.Given.SchedulesTransition.{Past, past}
+use Rattle.papaya_shards.proofs.Given.FollowsContents.{Lasts, lasts_more}
 use Rattle.papaya_purposes.specs.Purposes.{NumbersLast}
 use Rattle.papaya_purposes.proofs.Lists.{all_on}
 

@@ -1,24 +1,24 @@
 -- A step of a counting adds the shard that it reads, as it was at the last moment of the run.
 use Rattle.std.specs.Prelude.{◌≡◌, ℕ, zero, suc, ◌+◌, ◌%◌, ◌^◌, ◌≤◌, false, nat_lt, List, Some}
 use Rattle.std.proofs.Common.{refl, ap, sym, subst, ◌∙◌, arith, inl, inr}
-use Rattle.papaya_shards.specs.Given.SeizeWords.Mem.{Mem, Took, value_at, word_at}
-use Rattle.papaya_shards.specs.Given.SeizeWords.Plan.{Now, Steps}
-use Rattle.papaya_shards.specs.Given.SeizeWords.declared.at.At.TheVariants.{Word}
-use Rattle.papaya_shards.proofs.Given.SeizeWords.OneOwner.Operations.{loaded}
-use Rattle.papaya_shards.proofs.Given.SeizeWords.Plans.{ends_if}
-use Rattle.papaya_shards.specs.Given.Seize.declared.progress.Progress.{Progress}
-use Rattle.papaya_shards.specs.Given.Seize.declared.progress.Progress.TheVariants as progress
-use Rattle.papaya_shards.specs.Given.Tables.Counts.{count_in}
-use Rattle.papaya_shards.specs.Given.Tables.declared.node.Node.{Node}
-use Rattle.papaya_shards.specs.Given.Resize.Sum.{sum_plan, plan_at, added, summed, standing}
-use Rattle.papaya_shards.specs.Given.Resize.declared.sum.Sum.{Sum}
-use Rattle.papaya_shards.specs.Given.Resize.declared.sum.Summing.{Summing}
-use Rattle.papaya_shards.specs.Given.Resize.declared.sum.Summing.TheVariants as sums
-use Rattle.papaya_shards.specs.Given.Schedules.Counts.{AddsUp, Counts}
-use Rattle.papaya_shards.specs.Given.Schedules.Lists.{OneOf}
-use Rattle.papaya_shards.specs.Given.Schedules.Moment.{Moment}
-use Rattle.papaya_shards.specs.Given.Points.FactsTables.{CountsShards}
-use Rattle.papaya_shards.proofs.Given.Histories.Logs.{each_of}
+use Rattle.papaya_shards.specs.Given.SeizeWordsMem.{Mem, Took, value_at, word_at}
+use Rattle.papaya_shards.specs.Given.SeizeWordsPlan.{Now, Steps}
+use Rattle.papaya_shards.specs.Given.SeizeWordsDeclared.at.At.TheVariants.{Word}
+use Rattle.papaya_shards.proofs.Given.SeizeWordsOneOwner.Operations.{loaded}
+use Rattle.papaya_shards.proofs.Given.SeizeWordsPlans.{ends_if}
+use Rattle.papaya_shards.specs.Given.SeizeDeclared.progress.Progress.{Progress}
+use Rattle.papaya_shards.specs.Given.SeizeDeclared.progress.Progress.TheVariants as progress
+use Rattle.papaya_shards.specs.Given.TablesCounts.{count_in}
+use Rattle.papaya_shards.specs.Given.TablesDeclared.node.Node.{Node}
+use Rattle.papaya_shards.specs.Given.ResizeSum.{sum_plan, plan_at, added, summed, standing}
+use Rattle.papaya_shards.specs.Given.ResizeDeclared.sum.Sum.{Sum}
+use Rattle.papaya_shards.specs.Given.ResizeDeclared.sum.Summing.{Summing}
+use Rattle.papaya_shards.specs.Given.ResizeDeclared.sum.Summing.TheVariants as sums
+use Rattle.papaya_shards.specs.Given.SchedulesCounts.{AddsUp, Counts}
+use Rattle.papaya_shards.specs.Given.SchedulesLists.{OneOf}
+use Rattle.papaya_shards.specs.Given.SchedulesMoment.{Moment}
+use Rattle.papaya_shards.specs.Given.PointsFactsTables.{CountsShards}
+use Rattle.papaya_shards.proofs.Given.HistoriesLogs.{each_of}
 use Rattle.papaya_purposes.specs.Purposes.{HasAdded}
 
 module _ {K V : Type 0} (of : ℕ) (moments : List (Moment K V)) (mem : Mem (Node K V)) (c : Sum) (now : Moment K V)

@@ -2,46 +2,46 @@
 use Rattle.std.specs.Prelude.{◌≡◌, ℕ, suc, ◌<◌, ◌≤◌, ◌&&◌, ◌||◌, Bool, true, false, not, List, [], ◌∷◌, length, Option, Some, None, ◌⊎◌}
 use Rattle.std.specs.List.{AllByRecursion, list_all}
 use Rattle.std.proofs.Common.{refl, ap, sym, subst, ◌∙◌, arith, inl, inr}
-use Rattle.papaya_shards.specs.Given.Tables.declared.node.Node.{Node}
-use Rattle.papaya_shards.specs.Given.Sweeps.declared.sweep.Purpose.{Purpose}
-use Rattle.papaya_shards.specs.Given.Sweeps.declared.sweep.Purpose.TheVariants.{Clears, Retains}
-use Rattle.papaya_shards.specs.Given.Sweeps.declared.sweep.Sweeping.{Sweeping}
-use Rattle.papaya_shards.specs.Given.Sweeps.declared.sweep.Sweeping.TheVariants as sweeping
-use Rattle.papaya_shards.specs.Given.Sweeps.declared.sweep.Swept.{Swept}
-use Rattle.papaya_shards.specs.Given.Sweeps.declared.sweep.Swept.TheVariants as swept
-use Rattle.papaya_shards.specs.Given.Raw.Progress.{of_swept}
-use Rattle.papaya_shards.specs.Given.Raw.declared.machines.progress.Answer.TheVariants as answers
-use Rattle.papaya_shards.specs.Given.Raw.declared.machines.progress.Progress.{Progress}
-use Rattle.papaya_shards.specs.Given.Raw.declared.machines.progress.Progress.TheVariants as progress
-use Rattle.papaya_shards.specs.Given.Schedules.declared.call.Answer.TheVariants.{Completed, Counted}
-use Rattle.papaya_shards.specs.Given.Schedules.declared.call.Call.{Call}
-use Rattle.papaya_shards.specs.Given.Schedules.declared.call.Call.TheVariants as call
-use Rattle.papaya_shards.specs.Given.Schedules.declared.outcome.Outcome.{Outcome}
-use Rattle.papaya_shards.specs.Given.Schedules.declared.outcome.Outcome.TheVariants.{Answered}
-use Rattle.papaya_shards.specs.Given.Schedules.Counts.{Counts}
-use Rattle.papaya_shards.specs.Given.Schedules.Entry.{IfCall, acting}
-use Rattle.papaya_shards.specs.Given.Schedules.Lists.{numbers_from}
-use Rattle.papaya_shards.specs.Given.Schedules.Moment.{UnderWay as CallThere, Moment}
-use Rattle.papaya_shards.specs.Given.Schedules.Sweeps.{is_yes, stays, ClearsAll, RetainsOnly, Sweeps, SweepsRight}
-use Rattle.papaya_shards.specs.Given.Schedules.Terms.{Terms, shards_of}
-use Rattle.papaya_shards.specs.Given.Schedules.Views.{call_of, is_in_map, reply_to}
-use Rattle.papaya_shards.specs.Given.Rule.Chart.{Chart}
-use Rattle.papaya_shards.specs.Given.Rule.Words.{Blocks}
-use Rattle.papaya_shards.specs.Given.Late.Covers.{times, IsKept, WasAlways, Came}
-use Rattle.papaya_shards.specs.Given.Late.CoversSweeps.{DoneAt}
-use Rattle.papaya_shards.specs.Given.Callers.OverAll.{CallOverAll}
-use Rattle.papaya_shards.specs.Given.Callers.Together.{UnderWay, OnKey, ForRoom, Counting, OverAll}
-use Rattle.papaya_shards.proofs.Given.Callers.Together.At.{at_same}
-use Rattle.papaya_shards.specs.Given.Effects.Effects.{effects_of}
-use Rattle.papaya_shards.specs.Given.Effects.Known.{Known}
-use Rattle.papaya_shards.specs.Given.Effects.declared.acting.Acting.TheVariants as acts
-use Rattle.papaya_shards.specs.Given.Finishes.Machines.{machine_of}
-use Rattle.papaya_shards.specs.Given.Finishes.Maps.{Standing, IsSameMap}
-use Rattle.papaya_shards.proofs.Given.Follows.Steps.{WentTo, one_of}
-use Rattle.papaya_shards.proofs.Given.Follows.Stored.{in_map_true}
-use Rattle.papaya_shards.proofs.Given.Hands.Replacing.{calls_after}
-use Rattle.papaya_shards.specs.Given.Histories.Histories.{since}
-use Rattle.papaya_shards.specs.Given.Moments.Whole.{ShowsWhole}
+use Rattle.papaya_shards.specs.Given.TablesDeclared.node.Node.{Node}
+use Rattle.papaya_shards.specs.Given.SweepsDeclared.sweep.Purpose.{Purpose}
+use Rattle.papaya_shards.specs.Given.SweepsDeclared.sweep.Purpose.TheVariants.{Clears, Retains}
+use Rattle.papaya_shards.specs.Given.SweepsDeclared.sweep.Sweeping.{Sweeping}
+use Rattle.papaya_shards.specs.Given.SweepsDeclared.sweep.Sweeping.TheVariants as sweeping
+use Rattle.papaya_shards.specs.Given.SweepsDeclared.sweep.Swept.{Swept}
+use Rattle.papaya_shards.specs.Given.SweepsDeclared.sweep.Swept.TheVariants as swept
+use Rattle.papaya_shards.specs.Given.RawProgress.{of_swept}
+use Rattle.papaya_shards.specs.Given.RawDeclared.machines.progress.Answer.TheVariants as answers
+use Rattle.papaya_shards.specs.Given.RawDeclared.machines.progress.Progress.{Progress}
+use Rattle.papaya_shards.specs.Given.RawDeclared.machines.progress.Progress.TheVariants as progress
+use Rattle.papaya_shards.specs.Given.SchedulesDeclared.call.Answer.TheVariants.{Completed, Counted}
+use Rattle.papaya_shards.specs.Given.SchedulesDeclared.call.Call.{Call}
+use Rattle.papaya_shards.specs.Given.SchedulesDeclared.call.Call.TheVariants as call
+use Rattle.papaya_shards.specs.Given.SchedulesDeclared.outcome.Outcome.{Outcome}
+use Rattle.papaya_shards.specs.Given.SchedulesDeclared.outcome.Outcome.TheVariants.{Answered}
+use Rattle.papaya_shards.specs.Given.SchedulesCounts.{Counts}
+use Rattle.papaya_shards.specs.Given.SchedulesEntry.{IfCall, acting}
+use Rattle.papaya_shards.specs.Given.SchedulesLists.{numbers_from}
+use Rattle.papaya_shards.specs.Given.SchedulesMoment.{UnderWay as CallThere, Moment}
+use Rattle.papaya_shards.specs.Given.SchedulesSweeps.{is_yes, stays, ClearsAll, RetainsOnly, Sweeps, SweepsRight}
+use Rattle.papaya_shards.specs.Given.SchedulesTerms.{Terms, shards_of}
+use Rattle.papaya_shards.specs.Given.SchedulesViews.{call_of, is_in_map, reply_to}
+use Rattle.papaya_shards.specs.Given.RuleChart.{Chart}
+use Rattle.papaya_shards.specs.Given.RuleWords.{Blocks}
+use Rattle.papaya_shards.specs.Given.LateCovers.{times, IsKept, WasAlways, Came}
+use Rattle.papaya_shards.specs.Given.LateCoversSweeps.{DoneAt}
+use Rattle.papaya_shards.specs.Given.CallersOverAll.{CallOverAll}
+use Rattle.papaya_shards.specs.Given.CallersTogether.{UnderWay, OnKey, ForRoom, Counting, OverAll}
+use Rattle.papaya_shards.proofs.Given.CallersTogether.At.{at_same}
+use Rattle.papaya_shards.specs.Given.EffectsEffects.{effects_of}
+use Rattle.papaya_shards.specs.Given.EffectsKnown.{Known}
+use Rattle.papaya_shards.specs.Given.EffectsDeclared.acting.Acting.TheVariants as acts
+use Rattle.papaya_shards.specs.Given.FinishesMachines.{machine_of}
+use Rattle.papaya_shards.specs.Given.FinishesMaps.{Standing, IsSameMap}
+use Rattle.papaya_shards.proofs.Given.FollowsSteps.{WentTo, one_of}
+use Rattle.papaya_shards.proofs.Given.FollowsStored.{in_map_true}
+use Rattle.papaya_shards.proofs.Given.HandsReplacing.{calls_after}
+use Rattle.papaya_shards.specs.Given.HistoriesHistories.{since}
+use Rattle.papaya_shards.specs.Given.MomentsWhole.{ShowsWhole}
 use Rattle.papaya_purposes.specs.Kept.{PairsChangeFirst}
 use Rattle.papaya_purposes.specs.Purposes.{IsFor, PairsWithin, TellsDone, HasSwept, ShowsPurposes}
 use Rattle.papaya_purposes.specs.Shards.{ReadsShards}
@@ -51,10 +51,10 @@ use Rattle.papaya_purposes.proofs.Done.{tells_kept}
 use Rattle.papaya_purposes.proofs.Lists.{all_among, all_pass, one_passes}
 use Rattle.papaya_purposes.proofs.Shown.{IsStill}
 use Rattle.papaya_purposes.proofs.Steps.{went, on, v2, known2, scene2, Did, same_call, before_then, its_before, had, own_within}
-use Rattle.papaya_shards.specs.Given.Scenes.Held.{Held, IsAt}
-use Rattle.papaya_shards.specs.Given.Scenes.Scene.{Scene}
-use Rattle.papaya_shards.specs.Given.Scenes.Stepping.{StepLeads, StepsFrom}
-use Rattle.papaya_shards.specs.Given.Schedules.Transition.{Past, Transition, call_left, worked_by}
+use Rattle.papaya_shards.specs.Given.ScenesHeld.{Held, IsAt}
+use Rattle.papaya_shards.specs.Given.ScenesScene.{Scene}
+use Rattle.papaya_shards.specs.Given.ScenesStepping.{StepLeads, StepsFrom}
+use Rattle.papaya_shards.specs.Given.SchedulesTransition.{Past, Transition, call_left, worked_by}
 
 -- what is so of the call is so of the event
 module _ {K V : Type 0} (same : K → K → Bool) (terms : Terms) (log : Past K V) (t : Transition K V) (own : List ℕ) (v : Moment K V) (d : CallThere K V) (caller : t.caller ≡ Some own)

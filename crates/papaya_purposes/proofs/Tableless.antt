@@ -2,38 +2,38 @@
 use Rattle.std.specs.Prelude.{◌≡◌, ◌≢◌, ℕ, ◌+◌, ◌<◌, Bool, true, false, not, List, [], ◌∷◌, map, Option, Some, None, if◌then◌else◌}
 use Rattle.std.specs.List.{AllByRecursion}
 use Rattle.std.proofs.Common.{refl, ap, sym, subst, ◌∙◌, arith}
-use Rattle.papaya_shards.specs.Given.Runs.Same.{is_same}
-use Rattle.papaya_shards.specs.Given.Schedules.declared.call.Call.{Call}
-use Rattle.papaya_shards.specs.Given.Schedules.declared.effect.Effect.{Effect}
-use Rattle.papaya_shards.specs.Given.Schedules.declared.effect.Effect.TheVariants as effect
-use Rattle.papaya_shards.specs.Given.Schedules.declared.event.Event.{Event}
-use Rattle.papaya_shards.specs.Given.Schedules.declared.event.Event.TheVariants as event
-use Rattle.papaya_shards.specs.Given.Schedules.declared.call.Reply.{Reply}
-use Rattle.papaya_shards.specs.Given.Schedules.declared.outcome.Outcome.{Outcome}
-use Rattle.papaya_shards.specs.Given.Schedules.declared.outcome.Outcome.TheVariants as outcome
-use Rattle.papaya_shards.specs.Given.Schedules.After.{asks_on, calls_on, comes_to, moment, replied, stepped, without_call}
-use Rattle.papaya_shards.specs.Given.Schedules.Beginning.{begun, with_call}
-use Rattle.papaya_shards.specs.Given.Schedules.Effects.{AtEachEffect, call_by, shards_by, with_effect, with_effects, worked, word_with}
-use Rattle.papaya_shards.specs.Given.Schedules.Entry.{ByCall, acted_on, acting, caller_of, ends_call, is_busy, nameless}
-use Rattle.papaya_shards.specs.Given.Schedules.Growing.{only_looks}
-use Rattle.papaya_shards.specs.Given.Schedules.Handing.{gives_all, moments_of}
-use Rattle.papaya_shards.specs.Given.Schedules.Lists.{put}
-use Rattle.papaya_shards.specs.Given.Schedules.Lives.{CallFinds, Finds}
-use Rattle.papaya_shards.specs.Given.Schedules.Moment.{Asking, Going, IsReady, Moment, Stands, Told, UnderWay}
-use Rattle.papaya_shards.specs.Given.Schedules.Terms.{Terms}
-use Rattle.papaya_shards.specs.Given.Schedules.Views.{call_of, is_linked, number_of}
-use Rattle.papaya_shards.proofs.Given.Follows.Alike.{put_elsewhere}
-use Rattle.papaya_shards.proofs.Given.Follows.Calls.{changed, changed_same}
-use Rattle.papaya_shards.specs.Given.Finds.Life.{StoresOne}
-use Rattle.papaya_shards.specs.Given.Finds.Waiting.{is_unborn}
-use Rattle.papaya_shards.specs.Given.Finds.Within.{ActsOn, AllIsInOrder, many_of}
-use Rattle.papaya_shards.proofs.Given.Finds.Begun.{all_begun}
-use Rattle.papaya_shards.proofs.Given.Finds.Grown.{found_of, many_grow, only_one}
-use Rattle.papaya_shards.proofs.Given.Finds.Lists.{all_both, all_so}
-use Rattle.papaya_shards.proofs.Given.Finds.Over.{acts, both_at}
-use Rattle.papaya_shards.proofs.Given.Finds.Runs.{acts_still}
-use Rattle.papaya_shards.proofs.Given.Finds.Tables.{all_kept, all_under}
-use Rattle.papaya_shards.proofs.Given.Finds.Within.{in_order, place_below}
+use Rattle.papaya_shards.specs.Given.RunsSame.{is_same}
+use Rattle.papaya_shards.specs.Given.SchedulesDeclared.call.Call.{Call}
+use Rattle.papaya_shards.specs.Given.SchedulesDeclared.effect.Effect.{Effect}
+use Rattle.papaya_shards.specs.Given.SchedulesDeclared.effect.Effect.TheVariants as effect
+use Rattle.papaya_shards.specs.Given.SchedulesDeclared.event.Event.{Event}
+use Rattle.papaya_shards.specs.Given.SchedulesDeclared.event.Event.TheVariants as event
+use Rattle.papaya_shards.specs.Given.SchedulesDeclared.call.Reply.{Reply}
+use Rattle.papaya_shards.specs.Given.SchedulesDeclared.outcome.Outcome.{Outcome}
+use Rattle.papaya_shards.specs.Given.SchedulesDeclared.outcome.Outcome.TheVariants as outcome
+use Rattle.papaya_shards.specs.Given.SchedulesAfter.{asks_on, calls_on, comes_to, moment, replied, stepped, without_call}
+use Rattle.papaya_shards.specs.Given.SchedulesBeginning.{begun, with_call}
+use Rattle.papaya_shards.specs.Given.SchedulesEffects.{AtEachEffect, call_by, shards_by, with_effect, with_effects, worked, word_with}
+use Rattle.papaya_shards.specs.Given.SchedulesEntry.{ByCall, acted_on, acting, caller_of, ends_call, is_busy, nameless}
+use Rattle.papaya_shards.specs.Given.SchedulesGrowing.{only_looks}
+use Rattle.papaya_shards.specs.Given.SchedulesHanding.{gives_all, moments_of}
+use Rattle.papaya_shards.specs.Given.SchedulesLists.{put}
+use Rattle.papaya_shards.specs.Given.SchedulesLives.{CallFinds, Finds}
+use Rattle.papaya_shards.specs.Given.SchedulesMoment.{Asking, Going, IsReady, Moment, Stands, Told, UnderWay}
+use Rattle.papaya_shards.specs.Given.SchedulesTerms.{Terms}
+use Rattle.papaya_shards.specs.Given.SchedulesViews.{call_of, is_linked, number_of}
+use Rattle.papaya_shards.proofs.Given.FollowsAlike.{put_elsewhere}
+use Rattle.papaya_shards.proofs.Given.FollowsCalls.{changed, changed_same}
+use Rattle.papaya_shards.specs.Given.FindsLife.{StoresOne}
+use Rattle.papaya_shards.specs.Given.FindsWaiting.{is_unborn}
+use Rattle.papaya_shards.specs.Given.FindsWithin.{ActsOn, AllIsInOrder, many_of}
+use Rattle.papaya_shards.proofs.Given.FindsBegun.{all_begun}
+use Rattle.papaya_shards.proofs.Given.FindsGrown.{found_of, many_grow, only_one}
+use Rattle.papaya_shards.proofs.Given.FindsLists.{all_both, all_so}
+use Rattle.papaya_shards.proofs.Given.FindsOver.{acts, both_at}
+use Rattle.papaya_shards.proofs.Given.FindsRuns.{acts_still}
+use Rattle.papaya_shards.proofs.Given.FindsTables.{all_kept, all_under}
+use Rattle.papaya_shards.proofs.Given.FindsWithin.{in_order, place_below}
 use Rattle.papaya_purposes.specs.Tableless.{EventsKeepTableless, HasTable, TablelessAtFirst, TablelessUncounted}
 
 pub tableless_at_first : (K V : Type 0) → TablelessAtFirst K V

@@ -3,57 +3,57 @@ use Rattle.std.specs.Prelude.{◌≡◌, ◌≢◌, ℕ, ◌+◌, ◌<◌, ◌�
 use Rattle.std.specs.List.{AllByRecursion}
 use Rattle.std.proofs.Common.{refl, ap, sym, subst, ◌∙◌, arith, inl, inr}
 use Rattle.std.proofs.lemmas.Bool.{cases_order, eq-eqb}
-use Rattle.papaya_shards.specs.Given.Sweeps.SweepPoints.{reply_at, after_reply}
-use Rattle.papaya_shards.specs.Given.Sweeps.declared.sweep.Purpose.TheVariants.{Retains}
-use Rattle.papaya_shards.specs.Given.Sweeps.declared.sweep.Sweep.{Sweep}
-use Rattle.papaya_shards.specs.Given.Sweeps.declared.sweep.Sweeping.{Sweeping}
-use Rattle.papaya_shards.specs.Given.Sweeps.declared.sweep.Sweeping.TheVariants as sweeping
-use Rattle.papaya_shards.specs.Given.Raw.Machine.{machine_replied, sweep_told}
-use Rattle.papaya_shards.specs.Given.Raw.declared.machines.asking.Reply.{Reply as MachineReply}
-use Rattle.papaya_shards.specs.Given.Raw.declared.machines.asking.Reply.TheVariants as reply
-use Rattle.papaya_shards.specs.Given.Runs.Same.{is_same}
-use Rattle.papaya_shards.specs.Given.Schedules.declared.call.Call.{Call}
-use Rattle.papaya_shards.specs.Given.Schedules.declared.call.Call.TheVariants as call
-use Rattle.papaya_shards.specs.Given.Schedules.declared.call.Reply.{Reply}
-use Rattle.papaya_shards.specs.Given.Schedules.declared.call.Reply.TheVariants.{Gives, Removes, Aborts, Decides}
-use Rattle.papaya_shards.specs.Given.Schedules.After.{replied}
-use Rattle.papaya_shards.specs.Given.Schedules.Moment.{Asking, Told, UnderWay as CallThere, Moment}
-use Rattle.papaya_shards.specs.Given.Schedules.Sweeps.{is_yes}
-use Rattle.papaya_shards.specs.Given.Schedules.Views.{call_of, reply_to}
-use Rattle.papaya_shards.specs.Given.Rule.Words.{Blocks}
-use Rattle.papaya_shards.specs.Given.Points.Steps.{AreLawful}
-use Rattle.papaya_shards.specs.Given.Late.Covers.{times, NamesPair, CoversAt}
-use Rattle.papaya_shards.specs.Given.Late.FactsSweeps.{SweepingFacts}
-use Rattle.papaya_shards.specs.Given.Late.ToldSweeps.{IsRowOfSweep}
-use Rattle.papaya_shards.specs.Given.Callers.OverAll.{CallOverAll, told_of}
-use Rattle.papaya_shards.specs.Given.Callers.Sights.{IsSight, seen_by}
-use Rattle.papaya_shards.specs.Given.Callers.Together.{UnderWay, OnKey, ForRoom, Counting, OverAll, KnowsSweep, Together, in_slot}
-use Rattle.papaya_shards.specs.Given.Effects.Known.{Known}
-use Rattle.papaya_shards.specs.Given.Effects.declared.role.Role.TheVariants as role
-use Rattle.papaya_shards.specs.Given.Finishes.Machines.{machine_of, ToldOfKind}
-use Rattle.papaya_shards.specs.Given.Finishes.Maps.{Standing}
-use Rattle.papaya_shards.specs.Given.Follows.Calling.{told}
-use Rattle.papaya_shards.specs.Given.Follows.Shows.{Shows}
-use Rattle.papaya_shards.proofs.Given.Follows.Calling.{is_same_refl, replied_same, told_with}
-use Rattle.papaya_shards.proofs.Given.Follows.Calls.{found}
-use Rattle.papaya_shards.proofs.Given.Follows.Steps.{one_of}
-use Rattle.papaya_shards.specs.Given.Hands.Asked.{as_told}
-use Rattle.papaya_shards.proofs.Given.Hands.Asking.{which}
-use Rattle.papaya_shards.proofs.Given.Hands.Calling.{caller_is}
-use Rattle.papaya_shards.specs.Given.Histories.Answers.{NamesPair as NamesNumber}
-use Rattle.papaya_shards.specs.Given.Histories.Histories.{since, IsWithin}
-use Rattle.papaya_shards.proofs.Given.Histories.Roles.{named_by}
-use Rattle.papaya_shards.specs.Given.Moments.Whole.{ShowsWhole}
+use Rattle.papaya_shards.specs.Given.SweepsSweepPoints.{reply_at, after_reply}
+use Rattle.papaya_shards.specs.Given.SweepsDeclared.sweep.Purpose.TheVariants.{Retains}
+use Rattle.papaya_shards.specs.Given.SweepsDeclared.sweep.Sweep.{Sweep}
+use Rattle.papaya_shards.specs.Given.SweepsDeclared.sweep.Sweeping.{Sweeping}
+use Rattle.papaya_shards.specs.Given.SweepsDeclared.sweep.Sweeping.TheVariants as sweeping
+use Rattle.papaya_shards.specs.Given.RawMachine.{machine_replied, sweep_told}
+use Rattle.papaya_shards.specs.Given.RawDeclared.machines.asking.Reply.{Reply as MachineReply}
+use Rattle.papaya_shards.specs.Given.RawDeclared.machines.asking.Reply.TheVariants as reply
+use Rattle.papaya_shards.specs.Given.RunsSame.{is_same}
+use Rattle.papaya_shards.specs.Given.SchedulesDeclared.call.Call.{Call}
+use Rattle.papaya_shards.specs.Given.SchedulesDeclared.call.Call.TheVariants as call
+use Rattle.papaya_shards.specs.Given.SchedulesDeclared.call.Reply.{Reply}
+use Rattle.papaya_shards.specs.Given.SchedulesDeclared.call.Reply.TheVariants.{Gives, Removes, Aborts, Decides}
+use Rattle.papaya_shards.specs.Given.SchedulesAfter.{replied}
+use Rattle.papaya_shards.specs.Given.SchedulesMoment.{Asking, Told, UnderWay as CallThere, Moment}
+use Rattle.papaya_shards.specs.Given.SchedulesSweeps.{is_yes}
+use Rattle.papaya_shards.specs.Given.SchedulesViews.{call_of, reply_to}
+use Rattle.papaya_shards.specs.Given.RuleWords.{Blocks}
+use Rattle.papaya_shards.specs.Given.PointsSteps.{AreLawful}
+use Rattle.papaya_shards.specs.Given.LateCovers.{times, NamesPair, CoversAt}
+use Rattle.papaya_shards.specs.Given.LateFactsSweeps.{SweepingFacts}
+use Rattle.papaya_shards.specs.Given.LateToldSweeps.{IsRowOfSweep}
+use Rattle.papaya_shards.specs.Given.CallersOverAll.{CallOverAll, told_of}
+use Rattle.papaya_shards.specs.Given.CallersSights.{IsSight, seen_by}
+use Rattle.papaya_shards.specs.Given.CallersTogether.{UnderWay, OnKey, ForRoom, Counting, OverAll, KnowsSweep, Together, in_slot}
+use Rattle.papaya_shards.specs.Given.EffectsKnown.{Known}
+use Rattle.papaya_shards.specs.Given.EffectsDeclared.role.Role.TheVariants as role
+use Rattle.papaya_shards.specs.Given.FinishesMachines.{machine_of, ToldOfKind}
+use Rattle.papaya_shards.specs.Given.FinishesMaps.{Standing}
+use Rattle.papaya_shards.specs.Given.FollowsCalling.{told}
+use Rattle.papaya_shards.specs.Given.FollowsShows.{Shows}
+use Rattle.papaya_shards.proofs.Given.FollowsCalling.{is_same_refl, replied_same, told_with}
+use Rattle.papaya_shards.proofs.Given.FollowsCalls.{found}
+use Rattle.papaya_shards.proofs.Given.FollowsSteps.{one_of}
+use Rattle.papaya_shards.specs.Given.HandsAsked.{as_told}
+use Rattle.papaya_shards.proofs.Given.HandsAsking.{which}
+use Rattle.papaya_shards.proofs.Given.HandsCalling.{caller_is}
+use Rattle.papaya_shards.specs.Given.HistoriesAnswers.{NamesPair as NamesNumber}
+use Rattle.papaya_shards.specs.Given.HistoriesHistories.{since, IsWithin}
+use Rattle.papaya_shards.proofs.Given.HistoriesRoles.{named_by}
+use Rattle.papaya_shards.specs.Given.MomentsWhole.{ShowsWhole}
 use Rattle.papaya_purposes.specs.Kept.{AsksAboutIt, CallsTakePurposes}
 use Rattle.papaya_purposes.specs.Purposes.{IsFor, PairsWithin, HasAdded, HasMet, TellsDone, HasSwept, HasCome, ShowsPurposes}
 use Rattle.papaya_purposes.proofs.For.{key_is_for, sweep_for}
 use Rattle.papaya_purposes.proofs.Lists.{all_on, all_both, yes_now, yes_still}
 use Rattle.papaya_purposes.proofs.Shown.{same_still}
 use Rattle.papaya_purposes.proofs.Still.{within_still, classes_still, come_still}
-use Rattle.papaya_shards.specs.Given.Scenes.Held.{Held, IsAt}
-use Rattle.papaya_shards.specs.Given.Scenes.Replying.{scene_with}
-use Rattle.papaya_shards.specs.Given.Scenes.Scene.{Scene, slot_of}
-use Rattle.papaya_shards.specs.Given.Schedules.Transition.{Past}
+use Rattle.papaya_shards.specs.Given.ScenesHeld.{Held, IsAt}
+use Rattle.papaya_shards.specs.Given.ScenesReplying.{scene_with}
+use Rattle.papaya_shards.specs.Given.ScenesScene.{Scene, slot_of}
+use Rattle.papaya_shards.specs.Given.SchedulesTransition.{Past}
 
 -- a pair that is not among them is none of them
 apart_step : (p x : ℕ) (xs : List ℕ) → times p (x ∷ xs) ≡ 0 → (x ≢ p) × (times p xs ≡ 0)

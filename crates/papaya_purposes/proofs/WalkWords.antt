@@ -1,38 +1,38 @@
 -- What a step of a walk says: what it shows is a pair of the run, and it answers only that its sweep is over.
 use Rattle.std.specs.Prelude.{◌≡◌, ℕ, Bool, List, Some}
 use Rattle.std.proofs.Common.{sym, subst, ◌∙◌, inl, inr}
-use Rattle.papaya_shards.specs.Given.Seize.World.{with_at}
-use Rattle.papaya_shards.specs.Given.Tables.declared.node.Node.{Node}
-use Rattle.papaya_shards.specs.Given.Sweeps.declared.sweep.Sweep.{Sweep}
-use Rattle.papaya_shards.specs.Given.Sweeps.declared.sweep.Swept.{Swept}
-use Rattle.papaya_shards.specs.Given.Sweeps.declared.sweep.Swept.TheVariants as swept
-use Rattle.papaya_shards.specs.Given.Raw.Progress.{of_swept}
-use Rattle.papaya_shards.specs.Given.Raw.declared.machines.progress.Answer.{Answer}
-use Rattle.papaya_shards.specs.Given.Raw.declared.machines.progress.Answer.TheVariants as answers
-use Rattle.papaya_shards.specs.Given.Raw.declared.machines.progress.Progress.{Progress}
-use Rattle.papaya_shards.specs.Given.Raw.declared.machines.progress.Progress.TheVariants as progress
-use Rattle.papaya_shards.specs.Given.Schedules.declared.call.Call.{Call}
-use Rattle.papaya_shards.specs.Given.Schedules.declared.call.Call.TheVariants as call
-use Rattle.papaya_shards.specs.Given.Schedules.Moment.{Moment}
-use Rattle.papaya_shards.specs.Given.Late.CoversSweeps.{Adds, DoneAt}
-use Rattle.papaya_shards.specs.Given.Late.ToldSweeps.{TellsSo}
-use Rattle.papaya_shards.specs.Given.Callers.OverAll.{CallOverAll}
-use Rattle.papaya_shards.specs.Given.Callers.Together.{UnderWay, OnKey, ForRoom, Counting, OverAll}
-use Rattle.papaya_shards.specs.Given.Effects.Known.{Known}
-use Rattle.papaya_shards.specs.Given.Finishes.Maps.{Standing}
-use Rattle.papaya_shards.specs.Given.Finishes.Sweeps.{SweepStepsAmong}
-use Rattle.papaya_shards.specs.Given.Histories.Answers.{NamesPair}
-use Rattle.papaya_shards.specs.Given.Moments.Whole.{ShowsWhole}
+use Rattle.papaya_shards.specs.Given.SeizeWorld.{with_at}
+use Rattle.papaya_shards.specs.Given.TablesDeclared.node.Node.{Node}
+use Rattle.papaya_shards.specs.Given.SweepsDeclared.sweep.Sweep.{Sweep}
+use Rattle.papaya_shards.specs.Given.SweepsDeclared.sweep.Swept.{Swept}
+use Rattle.papaya_shards.specs.Given.SweepsDeclared.sweep.Swept.TheVariants as swept
+use Rattle.papaya_shards.specs.Given.RawProgress.{of_swept}
+use Rattle.papaya_shards.specs.Given.RawDeclared.machines.progress.Answer.{Answer}
+use Rattle.papaya_shards.specs.Given.RawDeclared.machines.progress.Answer.TheVariants as answers
+use Rattle.papaya_shards.specs.Given.RawDeclared.machines.progress.Progress.{Progress}
+use Rattle.papaya_shards.specs.Given.RawDeclared.machines.progress.Progress.TheVariants as progress
+use Rattle.papaya_shards.specs.Given.SchedulesDeclared.call.Call.{Call}
+use Rattle.papaya_shards.specs.Given.SchedulesDeclared.call.Call.TheVariants as call
+use Rattle.papaya_shards.specs.Given.SchedulesMoment.{Moment}
+use Rattle.papaya_shards.specs.Given.LateCoversSweeps.{Adds, DoneAt}
+use Rattle.papaya_shards.specs.Given.LateToldSweeps.{TellsSo}
+use Rattle.papaya_shards.specs.Given.CallersOverAll.{CallOverAll}
+use Rattle.papaya_shards.specs.Given.CallersTogether.{UnderWay, OnKey, ForRoom, Counting, OverAll}
+use Rattle.papaya_shards.specs.Given.EffectsKnown.{Known}
+use Rattle.papaya_shards.specs.Given.FinishesMaps.{Standing}
+use Rattle.papaya_shards.specs.Given.FinishesSweeps.{SweepStepsAmong}
+use Rattle.papaya_shards.specs.Given.HistoriesAnswers.{NamesPair}
+use Rattle.papaya_shards.specs.Given.MomentsWhole.{ShowsWhole}
 use Rattle.papaya_purposes.specs.Purposes.{IsFor, ShowsPurposes}
 use Rattle.papaya_purposes.specs.Swept.{SaysAsWalk, WalksHaveWords}
 use Rattle.papaya_purposes.proofs.Named.{pair_named}
 use Rattle.papaya_purposes.proofs.Pairs.{pair_swept}
 use Rattle.papaya_purposes.proofs.Steps.{Did, known2, on, went}
 use Rattle.papaya_purposes.proofs.Walks.{adds_one}
-use Rattle.papaya_shards.specs.Given.Scenes.Held.{Held, IsAt}
-use Rattle.papaya_shards.specs.Given.Scenes.Scene.{Scene, slot_of}
-use Rattle.papaya_shards.specs.Given.Scenes.Stepping.{StepLeads}
-use Rattle.papaya_shards.specs.Given.Schedules.Transition.{Past}
+use Rattle.papaya_shards.specs.Given.ScenesHeld.{Held, IsAt}
+use Rattle.papaya_shards.specs.Given.ScenesScene.{Scene, slot_of}
+use Rattle.papaya_shards.specs.Given.ScenesStepping.{StepLeads}
+use Rattle.papaya_shards.specs.Given.SchedulesTransition.{Past}
 
 -- a sweep answers that it is over
 over_swept : {T : Type 0} (end : Swept T) (answer : Answer) → of_swept end ≡ progress.Done answer → answer ≡ answers.Swept

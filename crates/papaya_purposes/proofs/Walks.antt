@@ -2,59 +2,59 @@
 use Rattle.std.specs.Prelude.{◌≡◌, ℕ, ◌<◌, ◌≤◌, Bool, true, false, List, ◌∷◌, map, Option, Some, if◌then◌else◌}
 use Rattle.std.specs.List.{AllByRecursion}
 use Rattle.std.proofs.Common.{refl, ap, sym, subst, ◌∙◌, inl, inr}
-use Rattle.papaya_shards.specs.Given.Seize.World.{World}
-use Rattle.papaya_shards.specs.Given.Seize.declared.progress.Progress.{Progress as Counted}
-use Rattle.papaya_shards.specs.Given.Seize.declared.progress.Progress.TheVariants as counting
-use Rattle.papaya_shards.specs.Given.Tables.Chunks.{is_incremental}
-use Rattle.papaya_shards.specs.Given.Tables.declared.node.Node.{Node}
-use Rattle.papaya_shards.specs.Given.Tables.declared.setting.Setting.{Setting}
-use Rattle.papaya_shards.specs.Given.Resize.declared.outcome.Outcome.{Outcome}
-use Rattle.papaya_shards.specs.Given.Resize.declared.outcome.Outcome.TheVariants as outcome
-use Rattle.papaya_shards.specs.Given.Sweeps.declared.sweep.Purpose.TheVariants.{Walks}
-use Rattle.papaya_shards.specs.Given.Sweeps.declared.sweep.Sweep.{Sweep}
-use Rattle.papaya_shards.specs.Given.Sweeps.declared.sweep.Sweeping.{Sweeping}
-use Rattle.papaya_shards.specs.Given.Sweeps.declared.sweep.Sweeping.TheVariants as sweeping
-use Rattle.papaya_shards.specs.Given.Sweeps.declared.sweep.Swept.{Swept}
-use Rattle.papaya_shards.specs.Given.Sweeps.declared.sweep.Swept.TheVariants as swept
-use Rattle.papaya_shards.specs.Given.Raw.Progress.{of_outcome, of_counting}
-use Rattle.papaya_shards.specs.Given.Raw.declared.machines.progress.Progress.TheVariants as progress
-use Rattle.papaya_shards.specs.Given.Runs.Same.{is_same}
-use Rattle.papaya_shards.specs.Given.Schedules.declared.call.Call.{Call}
-use Rattle.papaya_shards.specs.Given.Schedules.declared.call.Call.TheVariants as call
-use Rattle.papaya_shards.specs.Given.Schedules.declared.outcome.Outcome.TheVariants.{Shows as ShowsOne}
-use Rattle.papaya_shards.specs.Given.Schedules.Moment.{UnderWay as CallThere, Moment}
-use Rattle.papaya_shards.specs.Given.Schedules.Views.{call_of}
-use Rattle.papaya_shards.specs.Given.Rule.Chart.{Chart}
-use Rattle.papaya_shards.specs.Given.Rule.Maps.{spot_of}
-use Rattle.papaya_shards.specs.Given.Rule.Words.{Blocks}
-use Rattle.papaya_shards.specs.Given.Late.Covers.{NamesPair as LateNames}
-use Rattle.papaya_shards.specs.Given.Late.CoversSweeps.{Adds, DoneAt}
-use Rattle.papaya_shards.specs.Given.Late.FactsSweeps.{SweepingFacts}
-use Rattle.papaya_shards.specs.Given.Late.ToldSweeps.{TellsSo, SweepAfter}
-use Rattle.papaya_shards.proofs.Given.Late.Swept.Covers.Kept.{names_on}
-use Rattle.papaya_shards.proofs.Given.Late.Swept.Covers.Shows.{names_one}
-use Rattle.papaya_shards.specs.Given.Callers.OverAll.{CallOverAll, come_to as came_to}
-use Rattle.papaya_shards.specs.Given.Callers.Sights.{seen_by}
-use Rattle.papaya_shards.specs.Given.Callers.Together.{UnderWay, OnKey, ForRoom, Counting, OverAll, in_slot}
-use Rattle.papaya_shards.specs.Given.Finishes.Machines.{machine_of}
-use Rattle.papaya_shards.specs.Given.Finishes.Maps.{Standing}
-use Rattle.papaya_shards.specs.Given.Effects.Known.{Known}
-use Rattle.papaya_shards.specs.Given.Follows.Calling.{come_to}
-use Rattle.papaya_shards.specs.Given.Follows.Shows.{Shows}
-use Rattle.papaya_shards.proofs.Given.Follows.Called.{key_goes_on, sweep_goes_on}
-use Rattle.papaya_shards.proofs.Given.Follows.Calling.{is_same_refl, come, come_of_same, come_with}
-use Rattle.papaya_shards.proofs.Given.Follows.Calls.{found}
-use Rattle.papaya_shards.proofs.Given.Follows.Steps.{one_of}
-use Rattle.papaya_shards.proofs.Given.Hands.Calling.{caller_is}
-use Rattle.papaya_shards.specs.Given.Histories.Answers.{NamesPair}
-use Rattle.papaya_shards.specs.Given.Histories.Histories.{since}
-use Rattle.papaya_shards.specs.Given.Histories.Kept.{ChangesFirst}
-use Rattle.papaya_shards.proofs.Given.Histories.Later.{IsLater}
-use Rattle.papaya_shards.specs.Given.Moments.Whole.{ShowsWhole}
+use Rattle.papaya_shards.specs.Given.SeizeWorld.{World}
+use Rattle.papaya_shards.specs.Given.SeizeDeclared.progress.Progress.{Progress as Counted}
+use Rattle.papaya_shards.specs.Given.SeizeDeclared.progress.Progress.TheVariants as counting
+use Rattle.papaya_shards.specs.Given.TablesChunks.{is_incremental}
+use Rattle.papaya_shards.specs.Given.TablesDeclared.node.Node.{Node}
+use Rattle.papaya_shards.specs.Given.TablesDeclared.setting.Setting.{Setting}
+use Rattle.papaya_shards.specs.Given.ResizeDeclared.outcome.Outcome.{Outcome}
+use Rattle.papaya_shards.specs.Given.ResizeDeclared.outcome.Outcome.TheVariants as outcome
+use Rattle.papaya_shards.specs.Given.SweepsDeclared.sweep.Purpose.TheVariants.{Walks}
+use Rattle.papaya_shards.specs.Given.SweepsDeclared.sweep.Sweep.{Sweep}
+use Rattle.papaya_shards.specs.Given.SweepsDeclared.sweep.Sweeping.{Sweeping}
+use Rattle.papaya_shards.specs.Given.SweepsDeclared.sweep.Sweeping.TheVariants as sweeping
+use Rattle.papaya_shards.specs.Given.SweepsDeclared.sweep.Swept.{Swept}
+use Rattle.papaya_shards.specs.Given.SweepsDeclared.sweep.Swept.TheVariants as swept
+use Rattle.papaya_shards.specs.Given.RawProgress.{of_outcome, of_counting}
+use Rattle.papaya_shards.specs.Given.RawDeclared.machines.progress.Progress.TheVariants as progress
+use Rattle.papaya_shards.specs.Given.RunsSame.{is_same}
+use Rattle.papaya_shards.specs.Given.SchedulesDeclared.call.Call.{Call}
+use Rattle.papaya_shards.specs.Given.SchedulesDeclared.call.Call.TheVariants as call
+use Rattle.papaya_shards.specs.Given.SchedulesDeclared.outcome.Outcome.TheVariants.{Shows as ShowsOne}
+use Rattle.papaya_shards.specs.Given.SchedulesMoment.{UnderWay as CallThere, Moment}
+use Rattle.papaya_shards.specs.Given.SchedulesViews.{call_of}
+use Rattle.papaya_shards.specs.Given.RuleChart.{Chart}
+use Rattle.papaya_shards.specs.Given.RuleMaps.{spot_of}
+use Rattle.papaya_shards.specs.Given.RuleWords.{Blocks}
+use Rattle.papaya_shards.specs.Given.LateCovers.{NamesPair as LateNames}
+use Rattle.papaya_shards.specs.Given.LateCoversSweeps.{Adds, DoneAt}
+use Rattle.papaya_shards.specs.Given.LateFactsSweeps.{SweepingFacts}
+use Rattle.papaya_shards.specs.Given.LateToldSweeps.{TellsSo, SweepAfter}
+use Rattle.papaya_shards.proofs.Given.LateSwept.Covers.Kept.{names_on}
+use Rattle.papaya_shards.proofs.Given.LateSwept.Covers.Shows.{names_one}
+use Rattle.papaya_shards.specs.Given.CallersOverAll.{CallOverAll, come_to as came_to}
+use Rattle.papaya_shards.specs.Given.CallersSights.{seen_by}
+use Rattle.papaya_shards.specs.Given.CallersTogether.{UnderWay, OnKey, ForRoom, Counting, OverAll, in_slot}
+use Rattle.papaya_shards.specs.Given.FinishesMachines.{machine_of}
+use Rattle.papaya_shards.specs.Given.FinishesMaps.{Standing}
+use Rattle.papaya_shards.specs.Given.EffectsKnown.{Known}
+use Rattle.papaya_shards.specs.Given.FollowsCalling.{come_to}
+use Rattle.papaya_shards.specs.Given.FollowsShows.{Shows}
+use Rattle.papaya_shards.proofs.Given.FollowsCalled.{key_goes_on, sweep_goes_on}
+use Rattle.papaya_shards.proofs.Given.FollowsCalling.{is_same_refl, come, come_of_same, come_with}
+use Rattle.papaya_shards.proofs.Given.FollowsCalls.{found}
+use Rattle.papaya_shards.proofs.Given.FollowsSteps.{one_of}
+use Rattle.papaya_shards.proofs.Given.HandsCalling.{caller_is}
+use Rattle.papaya_shards.specs.Given.HistoriesAnswers.{NamesPair}
+use Rattle.papaya_shards.specs.Given.HistoriesHistories.{since}
+use Rattle.papaya_shards.specs.Given.HistoriesKept.{ChangesFirst}
+use Rattle.papaya_shards.proofs.Given.HistoriesLater.{IsLater}
+use Rattle.papaya_shards.specs.Given.MomentsWhole.{ShowsWhole}
 use Rattle.papaya_purposes.specs.Keys.{KeysAt, AreKeyed}
 use Rattle.papaya_purposes.specs.Kept.{PairsChangeFirst, WalksShowPurposes}
 use Rattle.papaya_purposes.specs.Purposes.{IsFor, TellsDone, KeysOf, HasSwept, HasCome, ShowsPurposes}
-use Rattle.papaya_shards.specs.Given.Named.Machines.{IsBefore}
+use Rattle.papaya_shards.specs.Given.NamedMachines.{IsBefore}
 use Rattle.papaya_purposes.proofs.Done.{maps_kept}
 use Rattle.papaya_purposes.proofs.Kept.{then_at, v, next, number2, Which, which_is, begun_then, for_then, other_come, lasts_then}
 use Rattle.papaya_purposes.proofs.KeysMoved.{one_shown, carried, keyed_then, names_keyed}
@@ -64,10 +64,10 @@ use Rattle.papaya_purposes.proofs.Named.{number_told, stands_then, stands_is}
 use Rattle.papaya_purposes.proofs.Shown.{IsStill, same_still}
 use Rattle.papaya_purposes.proofs.Steps.{went, on, known2, Did, same_call, before_then, its_before, had, own_within, below_then, classes_then}
 use Rattle.papaya_purposes.proofs.Still.{within_still, classes_still, come_still}
-use Rattle.papaya_shards.specs.Given.Scenes.Held.{Held, IsAt}
-use Rattle.papaya_shards.specs.Given.Scenes.Scene.{Scene, slot_of}
-use Rattle.papaya_shards.specs.Given.Scenes.Stepping.{StepLeads, StepsFrom}
-use Rattle.papaya_shards.specs.Given.Schedules.Transition.{Past}
+use Rattle.papaya_shards.specs.Given.ScenesHeld.{Held, IsAt}
+use Rattle.papaya_shards.specs.Given.ScenesScene.{Scene, slot_of}
+use Rattle.papaya_shards.specs.Given.ScenesStepping.{StepLeads, StepsFrom}
+use Rattle.papaya_shards.specs.Given.SchedulesTransition.{Past}
 
 module _ {K : Type 0} (hash : K → ℕ) (c : Chart K) (blocks : Blocks) (done done2 : List ℕ) (entered entered2 word : ℕ) where
   -- one that shows a pair has read its word at a place of its table, and has done one pair more

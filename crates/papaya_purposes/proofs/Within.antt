@@ -2,15 +2,15 @@
 use Rattle.std.specs.Prelude.{◌≡◌, ℕ, suc, ◌<◌, ◌≤◌, Bool, true, false, List, ◌∷◌, ◌⊎◌}
 use Rattle.std.proofs.Common.{refl, ap, sym, ◌∙◌, arith, inl, inr}
 use Rattle.std.proofs.lemmas.Bool.{cases_eq, cases_lt}
-use Rattle.papaya_shards.specs.Given.Schedules.Lists.{OneOf}
-use Rattle.papaya_shards.specs.Given.Schedules.Moment.{Moment}
-use Rattle.papaya_shards.specs.Given.Schedules.Views.{is_in_map}
-use Rattle.papaya_shards.specs.Given.Finishes.Maps.{Standing}
-use Rattle.papaya_shards.proofs.Given.Histories.Later.{IsLater}
-use Rattle.papaya_shards.proofs.Given.Histories.Logs.{each_of, now_there as now_is_there}
+use Rattle.papaya_shards.specs.Given.SchedulesLists.{OneOf}
+use Rattle.papaya_shards.specs.Given.SchedulesMoment.{Moment}
+use Rattle.papaya_shards.specs.Given.SchedulesViews.{is_in_map}
+use Rattle.papaya_shards.specs.Given.FinishesMaps.{Standing}
+use Rattle.papaya_shards.proofs.Given.HistoriesLater.{IsLater}
+use Rattle.papaya_shards.proofs.Given.HistoriesLogs.{each_of, now_there as now_is_there}
 use Rattle.papaya_purposes.specs.Purposes.{PairsWithin}
-use Rattle.papaya_shards.specs.Given.Histories.Histories.{IsPast}
-use Rattle.papaya_shards.specs.Given.Schedules.Transition.{Past}
+use Rattle.papaya_shards.specs.Given.HistoriesHistories.{IsPast}
+use Rattle.papaya_shards.specs.Given.SchedulesTransition.{Past}
 
 -- from one moment to the next, of the map and of the run
 module _ {K V : Type 0} (of : ℕ) (s s2 : Standing K) (number number2 : ℕ → ℕ) (later : IsLater s.chart s2.chart)

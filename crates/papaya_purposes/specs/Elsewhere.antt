@@ -1,8 +1,8 @@
 -- What calls on whole maps have come to stays so where anything else happens than a step of a call.
 use Rattle.std.specs.Prelude.{ℕ, Bool, List}
-use Rattle.papaya_shards.specs.Given.Histories.Elsewhere.{StaysElsewhere}
+use Rattle.papaya_shards.specs.Given.HistoriesElsewhere.{StaysElsewhere}
 use Rattle.papaya_purposes.specs.Purposes.{ShowsPurposes}
-use Rattle.papaya_shards.specs.Given.Schedules.Transition.{Past}
+use Rattle.papaya_shards.specs.Given.SchedulesTransition.{Past}
 
 module _ (K V : Type 0) (same : K → K → Bool) (hash : ℕ → K → ℕ) where
   -- The promise: it does where a row on a slot, the making and the end of a map begin and take their steps, and where a walk goes on or is given up.

@@ -1,41 +1,41 @@
 -- Where a run goes on, the moment says what calls on whole maps have come to, and what they are for.
 use Rattle.std.specs.Prelude.{◌≡◌, ℕ, Bool, true, List, Option, Some, Ok, ◌⊎◌, suc}
-use Rattle.papaya_shards.specs.Given.Tables.declared.node.Node.{Node}
-use Rattle.papaya_shards.specs.Given.Sweeps.SweepPoints.{after_next}
-use Rattle.papaya_shards.specs.Given.Sweeps.declared.sweep.Sweeping.TheVariants as at
-use Rattle.papaya_shards.specs.Given.Raw.Machine.{machine_replied}
-use Rattle.papaya_shards.specs.Given.Raw.declared.machines.progress.Progress.{Progress}
-use Rattle.papaya_shards.specs.Given.Raw.declared.machines.progress.Progress.TheVariants as progress
-use Rattle.papaya_shards.specs.Given.Schedules.declared.call.Call.{Call}
-use Rattle.papaya_shards.specs.Given.Schedules.declared.call.Reply.{Reply}
-use Rattle.papaya_shards.specs.Given.Schedules.declared.outcome.Outcome.{Outcome}
-use Rattle.papaya_shards.specs.Given.Schedules.declared.outcome.Outcome.TheVariants.{Shows}
-use Rattle.papaya_shards.specs.Given.Schedules.Beginning.{with_call}
-use Rattle.papaya_shards.specs.Given.Schedules.Effects.{with_effects}
-use Rattle.papaya_shards.specs.Given.Schedules.Entry.{ends_call}
-use Rattle.papaya_shards.specs.Given.Schedules.Moment.{Asking, UnderWay as CallThere, Moment}
-use Rattle.papaya_shards.specs.Given.Schedules.Views.{call_of, is_in_map}
-use Rattle.papaya_shards.specs.Given.Callers.OverAll.{CallOverAll, gone_on}
-use Rattle.papaya_shards.specs.Given.Callers.Together.{UnderWay, OverAll}
-use Rattle.papaya_shards.specs.Given.Effects.Effects.{effects_of, known_after}
-use Rattle.papaya_shards.specs.Given.Effects.Known.{Known}
-use Rattle.papaya_shards.specs.Given.Effects.declared.acting.Acting.TheVariants as acts
-use Rattle.papaya_shards.specs.Given.Finishes.Machines.{machine_of, ToldOfKind}
-use Rattle.papaya_shards.specs.Given.Finishes.Maps.{Standing}
-use Rattle.papaya_shards.specs.Given.Follows.Calling.{NoneNamed, told, come_to}
-use Rattle.papaya_shards.specs.Given.Follows.Calls.{IsCalled}
-use Rattle.papaya_shards.specs.Given.Hands.Asked.{as_told}
-use Rattle.papaya_shards.specs.Given.Histories.Answers.{NamesPair}
-use Rattle.papaya_shards.specs.Given.Histories.Kept.{HasJustBegun, ChangesFirst}
-use Rattle.papaya_shards.specs.Given.Moments.Whole.{ShowsWhole}
+use Rattle.papaya_shards.specs.Given.TablesDeclared.node.Node.{Node}
+use Rattle.papaya_shards.specs.Given.SweepsSweepPoints.{after_next}
+use Rattle.papaya_shards.specs.Given.SweepsDeclared.sweep.Sweeping.TheVariants as at
+use Rattle.papaya_shards.specs.Given.RawMachine.{machine_replied}
+use Rattle.papaya_shards.specs.Given.RawDeclared.machines.progress.Progress.{Progress}
+use Rattle.papaya_shards.specs.Given.RawDeclared.machines.progress.Progress.TheVariants as progress
+use Rattle.papaya_shards.specs.Given.SchedulesDeclared.call.Call.{Call}
+use Rattle.papaya_shards.specs.Given.SchedulesDeclared.call.Reply.{Reply}
+use Rattle.papaya_shards.specs.Given.SchedulesDeclared.outcome.Outcome.{Outcome}
+use Rattle.papaya_shards.specs.Given.SchedulesDeclared.outcome.Outcome.TheVariants.{Shows}
+use Rattle.papaya_shards.specs.Given.SchedulesBeginning.{with_call}
+use Rattle.papaya_shards.specs.Given.SchedulesEffects.{with_effects}
+use Rattle.papaya_shards.specs.Given.SchedulesEntry.{ends_call}
+use Rattle.papaya_shards.specs.Given.SchedulesMoment.{Asking, UnderWay as CallThere, Moment}
+use Rattle.papaya_shards.specs.Given.SchedulesViews.{call_of, is_in_map}
+use Rattle.papaya_shards.specs.Given.CallersOverAll.{CallOverAll, gone_on}
+use Rattle.papaya_shards.specs.Given.CallersTogether.{UnderWay, OverAll}
+use Rattle.papaya_shards.specs.Given.EffectsEffects.{effects_of, known_after}
+use Rattle.papaya_shards.specs.Given.EffectsKnown.{Known}
+use Rattle.papaya_shards.specs.Given.EffectsDeclared.acting.Acting.TheVariants as acts
+use Rattle.papaya_shards.specs.Given.FinishesMachines.{machine_of, ToldOfKind}
+use Rattle.papaya_shards.specs.Given.FinishesMaps.{Standing}
+use Rattle.papaya_shards.specs.Given.FollowsCalling.{NoneNamed, told, come_to}
+use Rattle.papaya_shards.specs.Given.FollowsCalls.{IsCalled}
+use Rattle.papaya_shards.specs.Given.HandsAsked.{as_told}
+use Rattle.papaya_shards.specs.Given.HistoriesAnswers.{NamesPair}
+use Rattle.papaya_shards.specs.Given.HistoriesKept.{HasJustBegun, ChangesFirst}
+use Rattle.papaya_shards.specs.Given.MomentsWhole.{ShowsWhole}
 use Rattle.papaya_purposes.specs.Purposes.{IsFor, ShowsPurposes}
 use Rattle.papaya_purposes.specs.Shards.{ReadsShards}
-use Rattle.papaya_shards.specs.Given.Scenes.Beginning.{Begins}
-use Rattle.papaya_shards.specs.Given.Scenes.Held.{Held, IsAt}
-use Rattle.papaya_shards.specs.Given.Scenes.Replying.{scene_with}
-use Rattle.papaya_shards.specs.Given.Scenes.Scene.{Scene, slot_of}
-use Rattle.papaya_shards.specs.Given.Scenes.Stepping.{StepLeads, scene_after}
-use Rattle.papaya_shards.specs.Given.Schedules.Transition.{Past, further}
+use Rattle.papaya_shards.specs.Given.ScenesBeginning.{Begins}
+use Rattle.papaya_shards.specs.Given.ScenesHeld.{Held, IsAt}
+use Rattle.papaya_shards.specs.Given.ScenesReplying.{scene_with}
+use Rattle.papaya_shards.specs.Given.ScenesScene.{Scene, slot_of}
+use Rattle.papaya_shards.specs.Given.ScenesStepping.{StepLeads, scene_after}
+use Rattle.papaya_shards.specs.Given.SchedulesTransition.{Past, further}
 
 -- the step shows no pair of a walk
 abbrev pub ShowsNone : {T : Type 0} → Progress T → Type 0

@@ -1,12 +1,12 @@
 -- What a walk has come to by key: of each class of keys that its map had all the time since the walk began, it has shown one pair, or is to show one.
 use Rattle.std.specs.Prelude.{◌≡◌, ℕ, ◌+◌, ◌<◌, ◌≤◌, Bool, true, cond, List, [], ◌∷◌, Some, ◌⊎◌}
 use Rattle.std.specs.List.{AllByRecursion}
-use Rattle.papaya_shards.specs.Given.Tables.declared.table.Table.{Table}
-use Rattle.papaya_shards.specs.Given.Sweeps.declared.sweep.Sweep.{Sweep}
-use Rattle.papaya_shards.specs.Given.Sweeps.declared.sweep.Sweeping.{Sweeping}
-use Rattle.papaya_shards.specs.Given.Sweeps.declared.sweep.Sweeping.TheVariants as at
-use Rattle.papaya_shards.specs.Given.Rule.Chart.{Chart}
-use Rattle.papaya_shards.specs.Given.Rule.Rule.{is_of, names}
+use Rattle.papaya_shards.specs.Given.TablesDeclared.table.Table.{Table}
+use Rattle.papaya_shards.specs.Given.SweepsDeclared.sweep.Sweep.{Sweep}
+use Rattle.papaya_shards.specs.Given.SweepsDeclared.sweep.Sweeping.{Sweeping}
+use Rattle.papaya_shards.specs.Given.SweepsDeclared.sweep.Sweeping.TheVariants as at
+use Rattle.papaya_shards.specs.Given.RuleChart.{Chart}
+use Rattle.papaya_shards.specs.Given.RuleRule.{is_of, names}
 
 module _ {K : Type 0} (same : K → K → Bool) (spot : ℕ → K → ℕ → ℕ) (incremental : Bool) (c : Chart K) where
   -- at this moment the map had a pair of the class

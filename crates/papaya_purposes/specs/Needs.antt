@@ -1,16 +1,16 @@
 -- How long a table a reservation makes: the first one of its map for so many further pairs, and a later one for these and the pairs that it has counted.
 use Rattle.std.specs.Prelude.{◌≡◌, ℕ, suc, ◌+◌, List}
-use Rattle.papaya_shards.specs.Given.Tables.Lengths.{len_of, next_limit}
-use Rattle.papaya_shards.specs.Given.Tables.Probes.{limit_of}
-use Rattle.papaya_shards.specs.Given.Tables.declared.lengths.Reason.TheVariants.{Reserved}
-use Rattle.papaya_shards.specs.Given.Tables.declared.table.Table.{Table}
-use Rattle.papaya_shards.specs.Given.Reserves.declared.reserve.Reserve.{Reserve}
-use Rattle.papaya_shards.specs.Given.Reserves.declared.reserve.Reserving.{Reserving}
-use Rattle.papaya_shards.specs.Given.Reserves.declared.reserve.Reserving.TheVariants as reserving
-use Rattle.papaya_shards.specs.Given.Schedules.Counts.{Counts}
-use Rattle.papaya_shards.specs.Given.Schedules.Growing.{Has}
-use Rattle.papaya_shards.specs.Given.Schedules.Moment.{Moment}
-use Rattle.papaya_shards.specs.Given.Finds.Shaping.{ShapedAt}
+use Rattle.papaya_shards.specs.Given.TablesLengths.{len_of, next_limit}
+use Rattle.papaya_shards.specs.Given.TablesProbes.{limit_of}
+use Rattle.papaya_shards.specs.Given.TablesDeclared.lengths.Reason.TheVariants.{Reserved}
+use Rattle.papaya_shards.specs.Given.TablesDeclared.table.Table.{Table}
+use Rattle.papaya_shards.specs.Given.ReservesDeclared.reserve.Reserve.{Reserve}
+use Rattle.papaya_shards.specs.Given.ReservesDeclared.reserve.Reserving.{Reserving}
+use Rattle.papaya_shards.specs.Given.ReservesDeclared.reserve.Reserving.TheVariants as reserving
+use Rattle.papaya_shards.specs.Given.SchedulesCounts.{Counts}
+use Rattle.papaya_shards.specs.Given.SchedulesGrowing.{Has}
+use Rattle.papaya_shards.specs.Given.SchedulesMoment.{Moment}
+use Rattle.papaya_shards.specs.Given.FindsShaping.{ShapedAt}
 
 -- a first table is long enough for the further pairs, and no pairs are counted for it;
 abbrev pub IsFirstFor : Reserve → Table → Type 0

@@ -2,34 +2,34 @@
 -- called.
 use Rattle.std.specs.Prelude.{◌≡◌, ℕ, suc, ◌<◌, ◌≤◌, ◌%◌, ◌^◌, Bool, true, List, [], map, Some}
 use Rattle.std.specs.List.{AllByRecursion}
-use Rattle.papaya_shards.specs.Given.Tables.Chunks.{is_incremental}
-use Rattle.papaya_shards.specs.Given.Resize.declared.sum.Summing.{Summing}
-use Rattle.papaya_shards.specs.Given.Resize.declared.sum.Summing.TheVariants as sums
-use Rattle.papaya_shards.specs.Given.Reserves.declared.reserve.Reserving.{Reserving}
-use Rattle.papaya_shards.specs.Given.Reserves.declared.reserve.Reserving.TheVariants as reserving
-use Rattle.papaya_shards.specs.Given.Sweeps.declared.sweep.Purpose.TheVariants.{Walks, Clears, Retains}
-use Rattle.papaya_shards.specs.Given.Schedules.declared.call.Call.{Call}
-use Rattle.papaya_shards.specs.Given.Schedules.declared.call.Call.TheVariants.{On, Reserve, Clear, Retain, Len, Walk}
-use Rattle.papaya_shards.specs.Given.Schedules.Counts.{AddsUp, Counts}
-use Rattle.papaya_shards.specs.Given.Schedules.Lists.{OneOf}
-use Rattle.papaya_shards.specs.Given.Schedules.Moment.{UnderWay as CallThere, Moment}
-use Rattle.papaya_shards.specs.Given.Schedules.Sweeps.{is_yes}
-use Rattle.papaya_shards.specs.Given.Schedules.Views.{call_of, is_in_map, first_of, reply_to}
-use Rattle.papaya_shards.specs.Given.Rule.Maps.{spot_of}
-use Rattle.papaya_shards.specs.Given.Callers.OverAll.{CallOverAll}
-use Rattle.papaya_shards.specs.Given.Callers.Rooms.{CallForRoom}
-use Rattle.papaya_shards.specs.Given.Callers.Together.{UnderWay, OnKey, ForRoom, Counting, OverAll}
-use Rattle.papaya_shards.specs.Given.Effects.Known.{Known}
-use Rattle.papaya_shards.specs.Given.Finishes.Maps.{Standing}
-use Rattle.papaya_shards.specs.Given.Follows.Shows.{Shows}
-use Rattle.papaya_shards.specs.Given.Histories.Histories.{since, IsWithin, IsPast}
-use Rattle.papaya_shards.specs.Given.Finds.Reserving.{ReservesAt}
+use Rattle.papaya_shards.specs.Given.TablesChunks.{is_incremental}
+use Rattle.papaya_shards.specs.Given.ResizeDeclared.sum.Summing.{Summing}
+use Rattle.papaya_shards.specs.Given.ResizeDeclared.sum.Summing.TheVariants as sums
+use Rattle.papaya_shards.specs.Given.ReservesDeclared.reserve.Reserving.{Reserving}
+use Rattle.papaya_shards.specs.Given.ReservesDeclared.reserve.Reserving.TheVariants as reserving
+use Rattle.papaya_shards.specs.Given.SweepsDeclared.sweep.Purpose.TheVariants.{Walks, Clears, Retains}
+use Rattle.papaya_shards.specs.Given.SchedulesDeclared.call.Call.{Call}
+use Rattle.papaya_shards.specs.Given.SchedulesDeclared.call.Call.TheVariants.{On, Reserve, Clear, Retain, Len, Walk}
+use Rattle.papaya_shards.specs.Given.SchedulesCounts.{AddsUp, Counts}
+use Rattle.papaya_shards.specs.Given.SchedulesLists.{OneOf}
+use Rattle.papaya_shards.specs.Given.SchedulesMoment.{UnderWay as CallThere, Moment}
+use Rattle.papaya_shards.specs.Given.SchedulesSweeps.{is_yes}
+use Rattle.papaya_shards.specs.Given.SchedulesViews.{call_of, is_in_map, first_of, reply_to}
+use Rattle.papaya_shards.specs.Given.RuleMaps.{spot_of}
+use Rattle.papaya_shards.specs.Given.CallersOverAll.{CallOverAll}
+use Rattle.papaya_shards.specs.Given.CallersRooms.{CallForRoom}
+use Rattle.papaya_shards.specs.Given.CallersTogether.{UnderWay, OnKey, ForRoom, Counting, OverAll}
+use Rattle.papaya_shards.specs.Given.EffectsKnown.{Known}
+use Rattle.papaya_shards.specs.Given.FinishesMaps.{Standing}
+use Rattle.papaya_shards.specs.Given.FollowsShows.{Shows}
+use Rattle.papaya_shards.specs.Given.HistoriesHistories.{since, IsWithin, IsPast}
+use Rattle.papaya_shards.specs.Given.FindsReserving.{ReservesAt}
 use Rattle.papaya_purposes.specs.Keys.{KeysAt, AreKeyed}
 use Rattle.papaya_purposes.specs.Needs.{NeedsAt}
-use Rattle.papaya_shards.specs.Given.Named.Machines.{IsBefore}
-use Rattle.papaya_shards.specs.Given.Scenes.Scene.{Scene}
-use Rattle.papaya_shards.specs.Given.Schedules.Transition.{Past}
-use Rattle.papaya_shards.specs.Given.Runs.Log.{pair_at}
+use Rattle.papaya_shards.specs.Given.NamedMachines.{IsBefore}
+use Rattle.papaya_shards.specs.Given.ScenesScene.{Scene}
+use Rattle.papaya_shards.specs.Given.SchedulesTransition.{Past}
+use Rattle.papaya_shards.specs.Given.RunsLog.{pair_at}
 
 -- by key, what a sweep that is a walk has come to in its map
 abbrev pub KeysOf : {K : Type 0} → (K → K → Bool) → Standing K → CallOverAll → Type 0

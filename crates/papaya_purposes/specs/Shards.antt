@@ -1,23 +1,23 @@
 -- Which words of a map's count a call that adds them up reads, in the words of a run.
 use Rattle.std.specs.Prelude.{◌≡◌, ℕ, Bool, List, Some}
-use Rattle.papaya_shards.specs.Given.Tables.declared.node.Node.{Node}
-use Rattle.papaya_shards.specs.Given.Raw.declared.machines.progress.Progress.{Progress}
-use Rattle.papaya_shards.specs.Given.Schedules.Effects.{with_effects}
-use Rattle.papaya_shards.specs.Given.Schedules.Moment.{Moment}
-use Rattle.papaya_shards.specs.Given.Callers.Together.{UnderWay}
-use Rattle.papaya_shards.specs.Given.Effects.Effects.{effects_of}
-use Rattle.papaya_shards.specs.Given.Effects.Known.{Known}
-use Rattle.papaya_shards.specs.Given.Effects.declared.acting.Acting.TheVariants as acts
-use Rattle.papaya_shards.specs.Given.Finishes.Maps.{Standing}
-use Rattle.papaya_shards.specs.Given.Moments.Whole.{ShowsWhole}
-use Rattle.papaya_shards.specs.Given.Finds.Within.{many_of}
+use Rattle.papaya_shards.specs.Given.TablesDeclared.node.Node.{Node}
+use Rattle.papaya_shards.specs.Given.RawDeclared.machines.progress.Progress.{Progress}
+use Rattle.papaya_shards.specs.Given.SchedulesEffects.{with_effects}
+use Rattle.papaya_shards.specs.Given.SchedulesMoment.{Moment}
+use Rattle.papaya_shards.specs.Given.CallersTogether.{UnderWay}
+use Rattle.papaya_shards.specs.Given.EffectsEffects.{effects_of}
+use Rattle.papaya_shards.specs.Given.EffectsKnown.{Known}
+use Rattle.papaya_shards.specs.Given.EffectsDeclared.acting.Acting.TheVariants as acts
+use Rattle.papaya_shards.specs.Given.FinishesMaps.{Standing}
+use Rattle.papaya_shards.specs.Given.MomentsWhole.{ShowsWhole}
+use Rattle.papaya_shards.specs.Given.FindsWithin.{many_of}
 use Rattle.papaya_shards.specs.ShardSteps.{AddsUp}
 use Rattle.papaya_shards.specs.ShardWords.{ShowsShards, ShowsCounters}
 use Rattle.papaya_purposes.specs.Tableless.{TablelessUncounted}
-use Rattle.papaya_shards.specs.Given.Scenes.Held.{Held, IsAt}
-use Rattle.papaya_shards.specs.Given.Scenes.Scene.{Scene}
-use Rattle.papaya_shards.specs.Given.Scenes.Stepping.{StepLeads}
-use Rattle.papaya_shards.specs.Given.Schedules.Transition.{Past}
+use Rattle.papaya_shards.specs.Given.ScenesHeld.{Held, IsAt}
+use Rattle.papaya_shards.specs.Given.ScenesScene.{Scene}
+use Rattle.papaya_shards.specs.Given.ScenesStepping.{StepLeads}
+use Rattle.papaya_shards.specs.Given.SchedulesTransition.{Past}
 
 module _ {K V : Type 0} where
   -- no shard of this map has changed since the last event of the log, and they said nothing if the map has had no table

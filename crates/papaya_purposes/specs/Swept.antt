@@ -1,34 +1,34 @@
 -- Events of calls on whole maps do what these are for.
 use Rattle.std.specs.Prelude.{◌≡◌, ℕ, suc, Bool, true, List, Some, None, is_some}
-use Rattle.papaya_shards.specs.Given.Tables.declared.node.Node.{Node}
-use Rattle.papaya_shards.specs.Given.Raw.declared.machines.progress.Answer.{Answer}
-use Rattle.papaya_shards.specs.Given.Raw.declared.machines.progress.Answer.TheVariants as answers
-use Rattle.papaya_shards.specs.Given.Raw.declared.machines.progress.Progress.{Progress}
-use Rattle.papaya_shards.specs.Given.Raw.declared.machines.progress.Progress.TheVariants as progress
-use Rattle.papaya_shards.specs.Given.Schedules.declared.call.Answer.TheVariants.{Absent, Completed, Counted}
-use Rattle.papaya_shards.specs.Given.Schedules.declared.call.Call.TheVariants.{On, Reserve, Clear, Retain, Len, Walk}
-use Rattle.papaya_shards.specs.Given.Schedules.declared.call.OneKey.{OneKey}
-use Rattle.papaya_shards.specs.Given.Schedules.declared.outcome.Outcome.{Outcome}
-use Rattle.papaya_shards.specs.Given.Schedules.declared.outcome.Outcome.TheVariants.{Shows, Answered}
-use Rattle.papaya_shards.specs.Given.Schedules.Effects.{with_effects}
-use Rattle.papaya_shards.specs.Given.Schedules.Moment.{UnderWay as CallThere, Moment}
-use Rattle.papaya_shards.specs.Given.Schedules.Terms.{Terms, shards_of}
-use Rattle.papaya_shards.specs.Given.Schedules.Views.{call_of, finite_map}
-use Rattle.papaya_shards.specs.Given.Callers.Together.{UnderWay}
-use Rattle.papaya_shards.specs.Given.Effects.Effects.{effects_of, known_after}
-use Rattle.papaya_shards.specs.Given.Effects.Known.{Known}
-use Rattle.papaya_shards.specs.Given.Effects.declared.acting.Acting.TheVariants as acts
-use Rattle.papaya_shards.specs.Given.Finishes.Maps.{Standing}
-use Rattle.papaya_shards.specs.Given.Histories.Answers.{NamesPair}
-use Rattle.papaya_shards.specs.Given.Moments.Whole.{ShowsWhole}
+use Rattle.papaya_shards.specs.Given.TablesDeclared.node.Node.{Node}
+use Rattle.papaya_shards.specs.Given.RawDeclared.machines.progress.Answer.{Answer}
+use Rattle.papaya_shards.specs.Given.RawDeclared.machines.progress.Answer.TheVariants as answers
+use Rattle.papaya_shards.specs.Given.RawDeclared.machines.progress.Progress.{Progress}
+use Rattle.papaya_shards.specs.Given.RawDeclared.machines.progress.Progress.TheVariants as progress
+use Rattle.papaya_shards.specs.Given.SchedulesDeclared.call.Answer.TheVariants.{Absent, Completed, Counted}
+use Rattle.papaya_shards.specs.Given.SchedulesDeclared.call.Call.TheVariants.{On, Reserve, Clear, Retain, Len, Walk}
+use Rattle.papaya_shards.specs.Given.SchedulesDeclared.call.OneKey.{OneKey}
+use Rattle.papaya_shards.specs.Given.SchedulesDeclared.outcome.Outcome.{Outcome}
+use Rattle.papaya_shards.specs.Given.SchedulesDeclared.outcome.Outcome.TheVariants.{Shows, Answered}
+use Rattle.papaya_shards.specs.Given.SchedulesEffects.{with_effects}
+use Rattle.papaya_shards.specs.Given.SchedulesMoment.{UnderWay as CallThere, Moment}
+use Rattle.papaya_shards.specs.Given.SchedulesTerms.{Terms, shards_of}
+use Rattle.papaya_shards.specs.Given.SchedulesViews.{call_of, finite_map}
+use Rattle.papaya_shards.specs.Given.CallersTogether.{UnderWay}
+use Rattle.papaya_shards.specs.Given.EffectsEffects.{effects_of, known_after}
+use Rattle.papaya_shards.specs.Given.EffectsKnown.{Known}
+use Rattle.papaya_shards.specs.Given.EffectsDeclared.acting.Acting.TheVariants as acts
+use Rattle.papaya_shards.specs.Given.FinishesMaps.{Standing}
+use Rattle.papaya_shards.specs.Given.HistoriesAnswers.{NamesPair}
+use Rattle.papaya_shards.specs.Given.MomentsWhole.{ShowsWhole}
 use Rattle.papaya_purposes.specs.Kept.{NoneCame, PairsChangeFirst}
 use Rattle.papaya_purposes.specs.Purposes.{ShowsPurposes}
 use Rattle.papaya_purposes.specs.Shards.{ReadsShards}
-use Rattle.papaya_shards.specs.Given.Scenes.Held.{Held, IsAt}
-use Rattle.papaya_shards.specs.Given.Scenes.Scene.{Scene}
-use Rattle.papaya_shards.specs.Given.Scenes.Stepping.{StepLeads}
-use Rattle.papaya_shards.specs.Given.Schedules.Transition.{Past, Transition, call_left, worked_by}
-use Rattle.papaya_shards.specs.Given.Schedules.Sweeps.{SweepsRight}
+use Rattle.papaya_shards.specs.Given.ScenesHeld.{Held, IsAt}
+use Rattle.papaya_shards.specs.Given.ScenesScene.{Scene}
+use Rattle.papaya_shards.specs.Given.ScenesStepping.{StepLeads}
+use Rattle.papaya_shards.specs.Given.SchedulesTransition.{Past, Transition, call_left, worked_by}
+use Rattle.papaya_shards.specs.Given.SchedulesSweeps.{SweepsRight}
 
 -- what a call has ended with is told as this
 abbrev pub ComesSo : {K V : Type 0} → Known → Progress (Node K V) → Outcome V → Type 0

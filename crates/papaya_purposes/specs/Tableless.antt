@@ -1,11 +1,11 @@
 -- A map that has had no table has counted nothing: so it is at each moment of a run whose events go in order.
 use Rattle.std.specs.Prelude.{◌≡◌, ℕ, ◌+◌, ◌<◌, List}
 use Rattle.std.specs.List.{AllByRecursion}
-use Rattle.papaya_shards.specs.Given.Schedules.After.{after, moment}
-use Rattle.papaya_shards.specs.Given.Schedules.Entry.{Entry}
-use Rattle.papaya_shards.specs.Given.Schedules.Moment.{Moment, UnderWay, start}
-use Rattle.papaya_shards.specs.Given.Schedules.Terms.{Terms}
-use Rattle.papaya_shards.specs.Given.Finds.Within.{AllIsInOrder, GoesInOrder, ReadyOweNone, many_of}
+use Rattle.papaya_shards.specs.Given.SchedulesAfter.{after, moment}
+use Rattle.papaya_shards.specs.Given.SchedulesEntry.{Entry}
+use Rattle.papaya_shards.specs.Given.SchedulesMoment.{Moment, UnderWay, start}
+use Rattle.papaya_shards.specs.Given.SchedulesTerms.{Terms}
+use Rattle.papaya_shards.specs.Given.FindsWithin.{AllIsInOrder, GoesInOrder, ReadyOweNone, many_of}
 
 module _ {K V : Type 0} where
   -- a call that has something to count is on a map that has had a table

@@ -1,34 +1,34 @@
 -- All is reclaimed in the memory of an executor: it begins, each step may be taken, and at the end the executor is there.
 use Rattle.std.specs.Prelude.{◌≡◌, ℕ, Bool, true, false, List, length, Option, None, option_map, slice_index_or, if◌then◌else◌}
 use Rattle.std.proofs.Common.{refl, sym, ap, subst, ◌∙◌}
-use Rattle.papaya_executor.specs.Given.SeizeWords.Mem.{Mem, Took, value_at}
-use Rattle.papaya_executor.specs.Given.SeizeWords.Plan.{Steps}
+use Rattle.papaya_executor.specs.Given.SeizeWordsMem.{Mem, Took, value_at}
+use Rattle.papaya_executor.specs.Given.SeizeWordsPlan.{Steps}
 use Rattle.seize.specs.declared.rows.reclaim_all.ReclaimAll.{ReclaimAll}
 use Rattle.seize.specs.declared.rows.settle.Settled.{Settled}
 use Rattle.seize.specs.declared.rows.settle.Settled.TheVariants as settled
 use Rattle.seize.specs.ReclaimAll.{reclaiming_all, clearing, reclaim_all_plan}
 use Rattle.seize.specs.World.{Rests}
-use Rattle.papaya_executor.specs.Given.Tables.Nodes.{deferred_word, was_left}
-use Rattle.papaya_executor.specs.Given.Tables.declared.node.Node.{Node}
-use Rattle.papaya_executor.specs.Given.Teller.Tells.{StepsTold}
-use Rattle.papaya_executor.specs.Given.Teller.declared.changed.Changed.TheVariants.{Nothing}
-use Rattle.papaya_executor.specs.Given.Teller.declared.teller.Teller.{Teller}
-use Rattle.papaya_executor.specs.Given.Callers.Rows.{IsRowOn}
-use Rattle.papaya_executor.specs.Given.Finishes.Endings.{Finishing}
-use Rattle.papaya_executor.specs.Given.Finishes.Machines.{machine_of}
-use Rattle.papaya_executor.specs.Given.Finishes.Makings.{Beginning}
-use Rattle.papaya_executor.specs.Given.Reclaims.Reclaims.{AllStandIdle, AllIsReclaimed, ReclaimingTogether, StepsOfReclaiming}
-use Rattle.papaya_executor.proofs.Given.Reclaims.Promised.{reclaiming_begins, reclaiming_stands}
+use Rattle.papaya_executor.specs.Given.TablesNodes.{deferred_word, was_left}
+use Rattle.papaya_executor.specs.Given.TablesDeclared.node.Node.{Node}
+use Rattle.papaya_executor.specs.Given.TellerTells.{StepsTold}
+use Rattle.papaya_executor.specs.Given.TellerDeclared.changed.Changed.TheVariants.{Nothing}
+use Rattle.papaya_executor.specs.Given.TellerDeclared.teller.Teller.{Teller}
+use Rattle.papaya_executor.specs.Given.CallersRows.{IsRowOn}
+use Rattle.papaya_executor.specs.Given.FinishesEndings.{Finishing}
+use Rattle.papaya_executor.specs.Given.FinishesMachines.{machine_of}
+use Rattle.papaya_executor.specs.Given.FinishesMakings.{Beginning}
+use Rattle.papaya_executor.specs.Given.ReclaimsReclaims.{AllStandIdle, AllIsReclaimed, ReclaimingTogether, StepsOfReclaiming}
+use Rattle.papaya_executor.proofs.Given.ReclaimsPromised.{reclaiming_begins, reclaiming_stands}
 use Rattle.papaya_executor.specs.declared.executor.Executor.{Executor}
-use Rattle.papaya_executor.specs.Given.Scenes.declared.row.SlotUse.{SlotUse}
+use Rattle.papaya_executor.specs.Given.ScenesDeclared.row.SlotUse.{SlotUse}
 use Rattle.papaya_executor.specs.declared.worker.Work.{Work}
 use Rattle.papaya_reclaiming.specs.Reclaiming.{NobodyHas, MayReclaim, IsReclaimingThere, Leaves, ReclaimsThere}
-use Rattle.papaya_executor.proofs.Given.Scenes.NoCall.{none_of}
+use Rattle.papaya_executor.proofs.Given.ScenesNoCall.{none_of}
 use Rattle.papaya_executor.specs.IsThere.{HasRow, IsThere, IsUsedAs, KeepsGiven, call_in, ending_in, held_by, making_in}
-use Rattle.papaya_executor.proofs.Given.Scenes.Goes.{same_map_keeps}
-use Rattle.papaya_executor.proofs.Given.Scenes.Told.{as_step}
-use Rattle.papaya_executor.specs.Given.Scenes.Reclaiming.{ReclaimingComesToThere}
-use Rattle.papaya_executor.specs.Given.Scenes.Scene.{Scene, slot_of}
+use Rattle.papaya_executor.proofs.Given.ScenesGoes.{same_map_keeps}
+use Rattle.papaya_executor.proofs.Given.ScenesTold.{as_step}
+use Rattle.papaya_executor.specs.Given.ScenesReclaiming.{ReclaimingComesToThere}
+use Rattle.papaya_executor.specs.Given.ScenesScene.{Scene, slot_of}
 
 module _ {K V S : Type 0} (same : K → K → Bool) (hash : K → ℕ) (e : Executor K V S) (s : Scene K V) (at : IsThere same hash e s) (nobody : NobodyHas e) where
   idle : AllStandIdle V same same e.batch_size e.roots slot_of s.maps s.calls s.makers s.enders s.world

@@ -1,20 +1,20 @@
 -- That all is being reclaimed in the memory of an executor, and what a step of it leads to.
 use Rattle.std.specs.Prelude.{◌≡◌, ℕ, Bool, true, false, List, length, None, option_map, slice_index_or, IsSome}
-use Rattle.papaya_executor.specs.Given.SeizeWords.declared.at.At.TheVariants.{Slot}
-use Rattle.papaya_executor.specs.Given.SeizeWords.Mem.{word_at}
+use Rattle.papaya_executor.specs.Given.SeizeWordsDeclared.at.At.TheVariants.{Slot}
+use Rattle.papaya_executor.specs.Given.SeizeWordsMem.{word_at}
 use Rattle.seize.specs.declared.rows.reclaim_all.ReclaimAll.{ReclaimAll}
 use Rattle.seize.specs.declared.rows.settle.Settled.{Settled}
 use Rattle.seize.specs.declared.rows.settle.Settled.TheVariants as settled
 use Rattle.seize.specs.declared.states.TheConstants.{HEAD}
-use Rattle.papaya_executor.specs.Given.Tables.declared.node.Node.{Node}
-use Rattle.papaya_executor.specs.Given.Reclaims.Reclaims.{LeftBehind}
-use Rattle.papaya_executor.specs.Given.Reclaims.Slots.{IsQuiet}
+use Rattle.papaya_executor.specs.Given.TablesDeclared.node.Node.{Node}
+use Rattle.papaya_executor.specs.Given.ReclaimsReclaims.{LeftBehind}
+use Rattle.papaya_executor.specs.Given.ReclaimsSlots.{IsQuiet}
 use Rattle.papaya_executor.specs.declared.executor.Executor.{Executor}
-use Rattle.papaya_executor.specs.Given.Scenes.declared.callers.TheConstants.{SLOTS}
-use Rattle.papaya_executor.specs.Given.Scenes.declared.row.SlotUse.TheVariants.{Vacant}
+use Rattle.papaya_executor.specs.Given.ScenesDeclared.callers.TheConstants.{SLOTS}
+use Rattle.papaya_executor.specs.Given.ScenesDeclared.row.SlotUse.TheVariants.{Vacant}
 use Rattle.papaya_executor.specs.IsThere.{IsThere, held_by, use_at, work_of}
-use Rattle.papaya_executor.specs.Given.Scenes.Reclaiming.{IsReclaiming, ReclaimingLeadsTo}
-use Rattle.papaya_executor.specs.Given.Scenes.Scene.{Scene}
+use Rattle.papaya_executor.specs.Given.ScenesReclaiming.{IsReclaiming, ReclaimingLeadsTo}
+use Rattle.papaya_executor.specs.Given.ScenesScene.{Scene}
 
 module _ {K V S : Type 0} where
   -- nobody has anything under way

@@ -3,7 +3,7 @@ ghost use Rattle.std.specs.Prelude.{◌≡◌, ℕ, Bool, List, if◌then◌else
 ghost use Rattle.seize.specs.ReclaimAll.{reclaiming_all, clearing};
 ghost use Rattle.papaya_reclaiming.specs.Reclaiming.{NobodyHas, MayReclaim, IsReclaimingThere, Leaves, ReclaimsThere};
 ghost use Rattle.papaya_executor.specs.IsThere.{IsThere, KeepsGiven};
-ghost use Rattle.papaya_executor.specs.Given.Scenes.Scene.{Scene};
+ghost use Rattle.papaya_executor.specs.Given.ScenesScene.{Scene};
 
 use papaya_executor::executor::Executor;
 use papaya_executor::papaya_raw::Node;

@@ -3,35 +3,35 @@ use Rattle.std.specs.Prelude.{◌≢◌, ◌≤◌, ◌⊎◌, ◌==◌, ◌++�
 use Rattle.std.proofs.Common.{◌≡◌, ℕ, Bool, true, false, List, [], ◌∷◌, inl, inr, refl, ap, sym, subst, ◌∙◌, arith}
 use Rattle.std.proofs.lemmas.Bool.{cases_eq}
 use Rattle.std.proofs.lemmas.List.{append-nil}
-use Rattle.papaya_kept.specs.Given.Seize.Law.{Ended}
-use Rattle.papaya_kept.specs.Given.Seize.World.{times, with_at, with_effect}
-use Rattle.papaya_kept.specs.Given.Seize.declared.rows.settle.Settled.{Settled}
-use Rattle.papaya_kept.specs.Given.Seize.declared.rows.settle.Settled.TheVariants as settled
-use Rattle.papaya_kept.specs.Given.Tables.declared.node.Node.{Node}
-use Rattle.papaya_kept.specs.Given.Raw.declared.machines.end_map.EndMap.{EndMap}
-use Rattle.papaya_kept.specs.Given.Runs.LifeCycle.{times as root_times}
-use Rattle.papaya_kept.specs.Given.Schedules.declared.effect.Effect.{Effect}
-use Rattle.papaya_kept.specs.Given.Schedules.Beginning.{used_roots}
-use Rattle.papaya_kept.specs.Given.Schedules.Effects.{with_effects}
-use Rattle.papaya_kept.specs.Given.Schedules.Lists.{is_among}
-use Rattle.papaya_kept.specs.Given.Schedules.Moment.{Moment, Remains}
-use Rattle.papaya_kept.proofs.Given.Callers.Together.At.{at_other, at_same}
-use Rattle.papaya_kept.specs.Given.Effects.Known.{Known}
-use Rattle.papaya_kept.specs.Given.Effects.declared.role.Role.TheVariants as role
-use Rattle.papaya_kept.specs.Given.Finishes.Endings.{Finishing, StepsOfEnding, finishing_of, waiting_by}
-use Rattle.papaya_kept.specs.Given.Finishes.FactsEnds.{taken_by}
-use Rattle.papaya_kept.specs.Given.Others.Endings.{ending_after}
-use Rattle.papaya_kept.specs.Given.Reclaims.Left.{LeftAmong}
-use Rattle.papaya_kept.proofs.Given.Reclaims.Behind.Kept.{in_all}
-use Rattle.papaya_kept.proofs.Given.Reclaims.Left.Endings.{endings_begin_and_leave_it, endings_leave_it}
+use Rattle.papaya_kept.specs.Given.SeizeLaw.{Ended}
+use Rattle.papaya_kept.specs.Given.SeizeWorld.{times, with_at, with_effect}
+use Rattle.papaya_kept.specs.Given.SeizeDeclared.rows.settle.Settled.{Settled}
+use Rattle.papaya_kept.specs.Given.SeizeDeclared.rows.settle.Settled.TheVariants as settled
+use Rattle.papaya_kept.specs.Given.TablesDeclared.node.Node.{Node}
+use Rattle.papaya_kept.specs.Given.RawDeclared.machines.end_map.EndMap.{EndMap}
+use Rattle.papaya_kept.specs.Given.RunsLifeCycle.{times as root_times}
+use Rattle.papaya_kept.specs.Given.SchedulesDeclared.effect.Effect.{Effect}
+use Rattle.papaya_kept.specs.Given.SchedulesBeginning.{used_roots}
+use Rattle.papaya_kept.specs.Given.SchedulesEffects.{with_effects}
+use Rattle.papaya_kept.specs.Given.SchedulesLists.{is_among}
+use Rattle.papaya_kept.specs.Given.SchedulesMoment.{Moment, Remains}
+use Rattle.papaya_kept.proofs.Given.CallersTogether.At.{at_other, at_same}
+use Rattle.papaya_kept.specs.Given.EffectsKnown.{Known}
+use Rattle.papaya_kept.specs.Given.EffectsDeclared.role.Role.TheVariants as role
+use Rattle.papaya_kept.specs.Given.FinishesEndings.{Finishing, StepsOfEnding, finishing_of, waiting_by}
+use Rattle.papaya_kept.specs.Given.FinishesFactsEnds.{taken_by}
+use Rattle.papaya_kept.specs.Given.OthersEndings.{ending_after}
+use Rattle.papaya_kept.specs.Given.ReclaimsLeft.{LeftAmong}
+use Rattle.papaya_kept.proofs.Given.ReclaimsBehind.Kept.{in_all}
+use Rattle.papaya_kept.proofs.Given.ReclaimsLeft.Endings.{endings_begin_and_leave_it, endings_leave_it}
 use Rattle.papaya_remains.specs.Remains.{AscendFrom, LeftNoted, ShowsRemains, has_some, left_at, map_roots}
-use Rattle.papaya_kept.proofs.Given.Lives.Order.{noted_still}
+use Rattle.papaya_kept.proofs.Given.LivesOrder.{noted_still}
 use Rattle.papaya_remains.specs.Steps.{EndingsBeginRemain, EndingsKeepRemains}
 use Rattle.papaya_remains.proofs.Lists.{found_among}
 use Rattle.papaya_remains.proofs.Stays.{goes_on, remains_stay, roots_stay, used_then}
-use Rattle.papaya_kept.specs.Given.Scenes.Ending.{EndingComesTo, ending_begun}
-use Rattle.papaya_kept.specs.Given.Scenes.Held.{Held, IsAt}
-use Rattle.papaya_kept.specs.Given.Scenes.Scene.{Scene, slot_of}
+use Rattle.papaya_kept.specs.Given.ScenesEnding.{EndingComesTo, ending_begun}
+use Rattle.papaya_kept.specs.Given.ScenesHeld.{Held, IsAt}
+use Rattle.papaya_kept.specs.Given.ScenesScene.{Scene, slot_of}
 
 module _ {K V : Type 0} (roots : List ℕ) (enders : ℕ → Option (Finishing K V)) (i : ℕ) (each : (j : ℕ) (g : Finishing K V) → enders j ≡ Some g → is_among g.setting.root roots ≡ true) where
   -- an end of such a root comes, or goes on

@@ -3,11 +3,11 @@ use Rattle.std.specs.Prelude.{◌≡◌, ◌⊎◌, ◌<◌, ◌≤◌, ◌==◌
 use Rattle.std.proofs.Common.{refl, ap, sym, ◌∙◌, inl, inr, arith, eqb-true}
 use Rattle.std.proofs.lemmas.Bool.{eq-eqb, le-ltb, lt-ltb}
 use Rattle.std.proofs.lemmas.List.{append-nil, append_assoc}
-use Rattle.papaya_kept.specs.Given.Schedules.Lists.{is_among}
-use Rattle.papaya_kept.specs.Given.Schedules.Moment.{Remains}
-use Rattle.papaya_kept.specs.Given.Effects.declared.role.Role.{Role}
-use Rattle.papaya_kept.specs.Given.Effects.declared.role.Role.TheVariants as role
-use Rattle.papaya_kept.specs.Given.SeizeReclaims.Roots.{all_lists}
+use Rattle.papaya_kept.specs.Given.SchedulesLists.{is_among}
+use Rattle.papaya_kept.specs.Given.SchedulesMoment.{Remains}
+use Rattle.papaya_kept.specs.Given.EffectsDeclared.role.Role.{Role}
+use Rattle.papaya_kept.specs.Given.EffectsDeclared.role.Role.TheVariants as role
+use Rattle.papaya_kept.specs.Given.SeizeReclaimsRoots.{all_lists}
 use Rattle.papaya_remains.specs.Remains.{AscendFrom, left_at}
 
 -- what is told of the roots below this one, where roots ascend

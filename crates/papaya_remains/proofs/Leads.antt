@@ -1,15 +1,15 @@
 -- Behind a root of a memory is one list.
 use Rattle.std.specs.Prelude.{◌≡◌, ℕ, List, [], ◌∷◌, Some}
 use Rattle.std.proofs.Common.{refl, sym, subst, ◌∙◌}
-use Rattle.papaya_kept.specs.Given.SeizeWords.declared.at.At.TheVariants.{Root, Used}
-use Rattle.papaya_kept.specs.Given.SeizeWords.Mem.{Mem, word_at}
-use Rattle.papaya_kept.specs.Given.Seize.Further.{ListFrom}
-use Rattle.papaya_kept.specs.Given.Seize.World.{World}
-use Rattle.papaya_kept.specs.Given.Tables.declared.node.Node.{Node}
-use Rattle.papaya_kept.specs.Given.Tables.declared.setting.Setting.{Setting}
-use Rattle.papaya_kept.specs.Given.Finishes.FactsEnds.{RootIs}
-use Rattle.papaya_kept.specs.Given.Reclaims.Reclaims.{RootLeads}
-use Rattle.papaya_kept.proofs.Given.SeizeReclaims.Roots.Once.{list_once}
+use Rattle.papaya_kept.specs.Given.SeizeWordsDeclared.at.At.TheVariants.{Root, Used}
+use Rattle.papaya_kept.specs.Given.SeizeWordsMem.{Mem, word_at}
+use Rattle.papaya_kept.specs.Given.SeizeFurther.{ListFrom}
+use Rattle.papaya_kept.specs.Given.SeizeWorld.{World}
+use Rattle.papaya_kept.specs.Given.TablesDeclared.node.Node.{Node}
+use Rattle.papaya_kept.specs.Given.TablesDeclared.setting.Setting.{Setting}
+use Rattle.papaya_kept.specs.Given.FinishesFactsEnds.{RootIs}
+use Rattle.papaya_kept.specs.Given.ReclaimsReclaims.{RootLeads}
+use Rattle.papaya_kept.proofs.Given.SeizeReclaimsRoots.Once.{list_once}
 
 module _ {K V : Type 0} (m : Mem (Node K V)) (r : ℕ) where
   abbrev Leads : List ℕ → Type 0

@@ -2,12 +2,12 @@
 use Rattle.std.specs.Prelude.{◌==◌, ◌||◌, ◌≢◌, suc, nat_lt, not, filter, find, length, map, cond, if◌then◌else◌, Some}
 use Rattle.std.proofs.Common.{◌≡◌, ◌≤◌, ℕ, eqb-true, ◌+◌, Bool, true, false, List, [], ◌∷◌, ◌++◌, refl, ap, sym, ◌∙◌, arith}
 use Rattle.std.proofs.lemmas.Bool.{eq-eqb, ltb-true, ltb-false}
-use Rattle.papaya_kept.specs.Given.Runs.LifeCycle.{times}
-use Rattle.papaya_kept.specs.Given.Schedules.After.{with_remains}
-use Rattle.papaya_kept.specs.Given.Schedules.Lists.{is_among}
-use Rattle.papaya_kept.specs.Given.Schedules.Moment.{Remains}
-use Rattle.papaya_kept.specs.Given.Effects.declared.role.Role.{Role}
-use Rattle.papaya_kept.specs.Given.Effects.declared.role.Role.TheVariants as role
+use Rattle.papaya_kept.specs.Given.RunsLifeCycle.{times}
+use Rattle.papaya_kept.specs.Given.SchedulesAfter.{with_remains}
+use Rattle.papaya_kept.specs.Given.SchedulesLists.{is_among}
+use Rattle.papaya_kept.specs.Given.SchedulesMoment.{Remains}
+use Rattle.papaya_kept.specs.Given.EffectsDeclared.role.Role.{Role}
+use Rattle.papaya_kept.specs.Given.EffectsDeclared.role.Role.TheVariants as role
 use Rattle.papaya_remains.specs.Remains.{AscendFrom, has_some, left_at}
 
 pub among_append : (r : ℕ) (xs ys : List ℕ) → is_among r (xs ++ ys) ≡ (is_among r xs || is_among r ys)

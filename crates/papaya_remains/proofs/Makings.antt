@@ -2,34 +2,34 @@
 use Rattle.std.specs.Prelude.{◌≢◌, ◌⊎◌, Option, Some, None, option_map}
 use Rattle.std.proofs.Common.{◌≡◌, ℕ, Bool, true, List, inl, inr, refl, ap, sym, subst, ◌∙◌}
 use Rattle.std.proofs.lemmas.Bool.{cases_eq}
-use Rattle.papaya_kept.specs.Given.SeizeWords.declared.at.At.TheVariants.{Used}
-use Rattle.papaya_kept.specs.Given.SeizeWords.Mem.{word_at}
-use Rattle.papaya_kept.specs.Given.Seize.World.{World, with_at}
-use Rattle.papaya_kept.specs.Given.Seize.declared.progress.Progress.{Progress}
-use Rattle.papaya_kept.specs.Given.Seize.declared.progress.Progress.TheVariants as progress
-use Rattle.papaya_kept.specs.Given.Tables.declared.node.Node.{Node}
-use Rattle.papaya_kept.specs.Given.Tables.declared.setting.Setting.{Setting}
-use Rattle.papaya_kept.specs.Given.Resize.declared.new_map.NewMap.{NewMap}
-use Rattle.papaya_kept.specs.Given.Schedules.declared.effect.Effect.{Effect}
-use Rattle.papaya_kept.specs.Given.Schedules.Effects.{with_effects}
-use Rattle.papaya_kept.specs.Given.Schedules.Moment.{Moment}
-use Rattle.papaya_kept.proofs.Given.Callers.Together.At.{at_other, at_same}
-use Rattle.papaya_kept.specs.Given.Effects.Known.{Known}
-use Rattle.papaya_kept.specs.Given.Finishes.Endings.{EndingsTogether, MakingStepsAmong}
-use Rattle.papaya_kept.specs.Given.Finishes.Makings.{Beginning}
-use Rattle.papaya_kept.specs.Given.Finishes.Maps.{Standing}
-use Rattle.papaya_kept.specs.Given.Others.Makings.{making_after}
-use Rattle.papaya_kept.specs.Given.Reclaims.Left.{LeftAmong, MakingLeft}
-use Rattle.papaya_kept.specs.Given.Reclaims.Reclaims.{IsRootOf}
-use Rattle.papaya_kept.proofs.Given.Reclaims.Behind.Kept.{keeps_still}
-use Rattle.papaya_kept.proofs.Given.Reclaims.Left.Makings.{makings_begin_and_leave_it, makings_leave_it}
-use Rattle.papaya_kept.proofs.Given.Reclaims.Left.Stays.{left_stays}
+use Rattle.papaya_kept.specs.Given.SeizeWordsDeclared.at.At.TheVariants.{Used}
+use Rattle.papaya_kept.specs.Given.SeizeWordsMem.{word_at}
+use Rattle.papaya_kept.specs.Given.SeizeWorld.{World, with_at}
+use Rattle.papaya_kept.specs.Given.SeizeDeclared.progress.Progress.{Progress}
+use Rattle.papaya_kept.specs.Given.SeizeDeclared.progress.Progress.TheVariants as progress
+use Rattle.papaya_kept.specs.Given.TablesDeclared.node.Node.{Node}
+use Rattle.papaya_kept.specs.Given.TablesDeclared.setting.Setting.{Setting}
+use Rattle.papaya_kept.specs.Given.ResizeDeclared.new_map.NewMap.{NewMap}
+use Rattle.papaya_kept.specs.Given.SchedulesDeclared.effect.Effect.{Effect}
+use Rattle.papaya_kept.specs.Given.SchedulesEffects.{with_effects}
+use Rattle.papaya_kept.specs.Given.SchedulesMoment.{Moment}
+use Rattle.papaya_kept.proofs.Given.CallersTogether.At.{at_other, at_same}
+use Rattle.papaya_kept.specs.Given.EffectsKnown.{Known}
+use Rattle.papaya_kept.specs.Given.FinishesEndings.{EndingsTogether, MakingStepsAmong}
+use Rattle.papaya_kept.specs.Given.FinishesMakings.{Beginning}
+use Rattle.papaya_kept.specs.Given.FinishesMaps.{Standing}
+use Rattle.papaya_kept.specs.Given.OthersMakings.{making_after}
+use Rattle.papaya_kept.specs.Given.ReclaimsLeft.{LeftAmong, MakingLeft}
+use Rattle.papaya_kept.specs.Given.ReclaimsReclaims.{IsRootOf}
+use Rattle.papaya_kept.proofs.Given.ReclaimsBehind.Kept.{keeps_still}
+use Rattle.papaya_kept.proofs.Given.ReclaimsLeft.Makings.{makings_begin_and_leave_it, makings_leave_it}
+use Rattle.papaya_kept.proofs.Given.ReclaimsLeft.Stays.{left_stays}
 use Rattle.papaya_remains.specs.Remains.{LeftNoted, ShowsRemains}
 use Rattle.papaya_remains.specs.Steps.{MakingsBeginRemain, MakingsKeepRemains}
 use Rattle.papaya_remains.proofs.Stays.{goes_on, remains_stay, roots_stay}
-use Rattle.papaya_kept.specs.Given.Scenes.Held.{Held, IsAt}
-use Rattle.papaya_kept.specs.Given.Scenes.Making.{MakingComesTo}
-use Rattle.papaya_kept.specs.Given.Scenes.Scene.{Scene, slot_of}
+use Rattle.papaya_kept.specs.Given.ScenesHeld.{Held, IsAt}
+use Rattle.papaya_kept.specs.Given.ScenesMaking.{MakingComesTo}
+use Rattle.papaya_kept.specs.Given.ScenesScene.{Scene, slot_of}
 
 -- maps with the same settings have the same roots
 module _ {K : Type 0} (maps maps2 : ℕ → Option (Standing K)) (alike : (n : ℕ) → option_map (λ (x : Standing K). x.setting) (maps n) ≡ option_map (λ (x : Standing K). x.setting) (maps2 n)) where

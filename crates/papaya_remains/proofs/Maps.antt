@@ -3,24 +3,24 @@ use Rattle.std.specs.Prelude.{◌≤◌, ◌<◌, ◌⊎◌, ◌==◌, ◌||◌,
 use Rattle.std.proofs.Common.{◌≡◌, ℕ, ◌+◌, Bool, true, false, List, [], ◌∷◌, inl, inr, refl, ap, sym, subst, ◌∙◌, arith, eqb-true}
 use Rattle.std.proofs.lemmas.Bool.{eq-eqb}
 use Rattle.std.proofs.lemmas.List.{map-append}
-use Rattle.papaya_kept.specs.Given.Runs.LifeCycle.{times}
-use Rattle.papaya_kept.proofs.Given.Runs.Pairs.Held.{times-append}
-use Rattle.papaya_kept.specs.Given.Runs.Same.{is_same}
-use Rattle.papaya_kept.specs.Given.Schedules.After.{if_any}
-use Rattle.papaya_kept.specs.Given.Schedules.Beginning.{used_roots, with_map}
-use Rattle.papaya_kept.specs.Given.Schedules.Lists.{is_among}
-use Rattle.papaya_kept.specs.Given.Schedules.Moment.{MapThere, Moment, Remains}
-use Rattle.papaya_kept.specs.Given.Schedules.Views.{map_of}
-use Rattle.papaya_kept.specs.Given.Effects.Known.{Known}
-use Rattle.papaya_kept.specs.Given.Effects.declared.role.Role.TheVariants as role
-use Rattle.papaya_kept.specs.Given.Finishes.Makings.{IsFreeRoot}
-use Rattle.papaya_kept.specs.Given.Others.Endings.{without_map}
-use Rattle.papaya_kept.specs.Given.Reclaims.Left.{IsSomebodys}
-use Rattle.papaya_kept.proofs.Given.Reclaims.Left.Stays.{nothing_is_left}
+use Rattle.papaya_kept.specs.Given.RunsLifeCycle.{times}
+use Rattle.papaya_kept.proofs.Given.RunsPairs.Held.{times-append}
+use Rattle.papaya_kept.specs.Given.RunsSame.{is_same}
+use Rattle.papaya_kept.specs.Given.SchedulesAfter.{if_any}
+use Rattle.papaya_kept.specs.Given.SchedulesBeginning.{used_roots, with_map}
+use Rattle.papaya_kept.specs.Given.SchedulesLists.{is_among}
+use Rattle.papaya_kept.specs.Given.SchedulesMoment.{MapThere, Moment, Remains}
+use Rattle.papaya_kept.specs.Given.SchedulesViews.{map_of}
+use Rattle.papaya_kept.specs.Given.EffectsKnown.{Known}
+use Rattle.papaya_kept.specs.Given.EffectsDeclared.role.Role.TheVariants as role
+use Rattle.papaya_kept.specs.Given.FinishesMakings.{IsFreeRoot}
+use Rattle.papaya_kept.specs.Given.OthersEndings.{without_map}
+use Rattle.papaya_kept.specs.Given.ReclaimsLeft.{IsSomebodys}
+use Rattle.papaya_kept.proofs.Given.ReclaimsLeft.Stays.{nothing_is_left}
 use Rattle.papaya_remains.specs.Remains.{AscendFrom, ShowsRemains, has_some, left_at, left_roots, map_roots}
 use Rattle.papaya_remains.specs.Steps.{MapsComeRemain, MapsGoRemain, ReclaimedRemain}
 use Rattle.papaya_remains.proofs.Lists.{among_append, among_remains, ascends, either, left_new, left_none, left_other, neither, none_times, not_among, some_noted, some_times, taken_out, times_remains}
-use Rattle.papaya_kept.specs.Given.Scenes.Scene.{Scene}
+use Rattle.papaya_kept.specs.Given.ScenesScene.{Scene}
 
 or_true : (a b : Bool) → b ≡ true → (a || b) ≡ true
 or_true true b e = refl

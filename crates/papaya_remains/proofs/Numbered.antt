@@ -3,24 +3,24 @@ use Rattle.std.specs.Prelude.{◌<◌, ◌==◌, find, List, [], ◌∷◌, Opti
 use Rattle.std.specs.List.{All}
 use Rattle.std.proofs.Common.{◌≡◌, ℕ, zero, suc, Bool, true, false, refl, ap, subst, arith}
 use Rattle.std.proofs.lemmas.List.{length-map}
-use Rattle.papaya_kept.specs.Given.SeizeWords.declared.at.At.TheVariants.{Root, Used, Slot, Entry, Word}
-use Rattle.papaya_kept.specs.Given.Teller.declared.changed.Changed.{Changed}
-use Rattle.papaya_kept.specs.Given.Teller.declared.changed.Changed.TheVariants as changed
-use Rattle.papaya_kept.specs.Given.Teller.declared.changed.Changed.TheVariants.{Took}
-use Rattle.papaya_kept.specs.Given.Schedules.declared.effect.Effect.{Effect}
-use Rattle.papaya_kept.specs.Given.Schedules.declared.effect.Effect.TheVariants.{Asked, Taken}
-use Rattle.papaya_kept.specs.Given.Schedules.declared.effect.Growth.TheVariants.{ABucket}
-use Rattle.papaya_kept.specs.Given.Schedules.declared.effect.Table.{Table}
-use Rattle.papaya_kept.specs.Given.Schedules.Effects.{at_stage, maps_by, tables_by, with_effect, with_effects}
-use Rattle.papaya_kept.specs.Given.Schedules.Moment.{IsReclaimed, IsTaken, MapThere, Moment, TableThere}
-use Rattle.papaya_kept.specs.Given.Effects.Effects.{names_same, taken_by, effects_of}
-use Rattle.papaya_kept.specs.Given.Effects.Known.{Known}
-use Rattle.papaya_kept.specs.Given.Effects.declared.acting.Acting.TheVariants as acts
-use Rattle.papaya_kept.specs.Given.Effects.declared.role.Role.{Role}
-use Rattle.papaya_kept.specs.Given.Effects.declared.role.Role.TheVariants as role
-use Rattle.papaya_kept.proofs.Given.Others.RowPlans.{TellsRow}
-use Rattle.papaya_kept.specs.Given.Moments.Numbers.{NumbersMaps}
-use Rattle.papaya_kept.proofs.Given.Moments.Numbers.{rows_keep_numbers, steps_keep_numbers}
+use Rattle.papaya_kept.specs.Given.SeizeWordsDeclared.at.At.TheVariants.{Root, Used, Slot, Entry, Word}
+use Rattle.papaya_kept.specs.Given.TellerDeclared.changed.Changed.{Changed}
+use Rattle.papaya_kept.specs.Given.TellerDeclared.changed.Changed.TheVariants as changed
+use Rattle.papaya_kept.specs.Given.TellerDeclared.changed.Changed.TheVariants.{Took}
+use Rattle.papaya_kept.specs.Given.SchedulesDeclared.effect.Effect.{Effect}
+use Rattle.papaya_kept.specs.Given.SchedulesDeclared.effect.Effect.TheVariants.{Asked, Taken}
+use Rattle.papaya_kept.specs.Given.SchedulesDeclared.effect.Growth.TheVariants.{ABucket}
+use Rattle.papaya_kept.specs.Given.SchedulesDeclared.effect.Table.{Table}
+use Rattle.papaya_kept.specs.Given.SchedulesEffects.{at_stage, maps_by, tables_by, with_effect, with_effects}
+use Rattle.papaya_kept.specs.Given.SchedulesMoment.{IsReclaimed, IsTaken, MapThere, Moment, TableThere}
+use Rattle.papaya_kept.specs.Given.EffectsEffects.{names_same, taken_by, effects_of}
+use Rattle.papaya_kept.specs.Given.EffectsKnown.{Known}
+use Rattle.papaya_kept.specs.Given.EffectsDeclared.acting.Acting.TheVariants as acts
+use Rattle.papaya_kept.specs.Given.EffectsDeclared.role.Role.{Role}
+use Rattle.papaya_kept.specs.Given.EffectsDeclared.role.Role.TheVariants as role
+use Rattle.papaya_kept.proofs.Given.OthersRowPlans.{TellsRow}
+use Rattle.papaya_kept.specs.Given.MomentsNumbers.{NumbersMaps}
+use Rattle.papaya_kept.proofs.Given.MomentsNumbers.{rows_keep_numbers, steps_keep_numbers}
 use Rattle.papaya_remains.specs.Numbered.{CallsKeepCount, EndsKeepCount, MakingsKeepCount, MoreAreCounted, NumbersUpTo, RowsKeepCount}
 
 module _ {K V : Type 0} (caller : Option (List ℕ)) (acted : Option ℕ) where

@@ -2,27 +2,27 @@
 use Rattle.std.specs.Prelude.{◌<◌, ◌||◌, ◌==◌, map, Some, None, if◌then◌else◌}
 use Rattle.std.specs.List.{All, AllByRecursion}
 use Rattle.std.proofs.Common.{◌≡◌, ℕ, suc, Bool, true, false, List, [], ◌∷◌, inl, inr, refl, ap, sym, subst, ◌∙◌, arith, eqb-true}
-use Rattle.papaya_kept.specs.Given.SeizeWords.declared.at.At.TheVariants.{Used}
-use Rattle.papaya_kept.specs.Given.SeizeWords.Mem.{Mem, word_at}
-use Rattle.papaya_kept.specs.Given.Tables.declared.node.Node.{Node}
-use Rattle.papaya_kept.specs.Given.Schedules.Beginning.{used_roots}
-use Rattle.papaya_kept.specs.Given.Schedules.Lists.{is_among}
-use Rattle.papaya_kept.specs.Given.Schedules.Moment.{MapThere, Moment}
-use Rattle.papaya_kept.specs.Given.Schedules.Views.{map_at}
-use Rattle.papaya_kept.specs.Given.Effects.Known.{Known}
-use Rattle.papaya_kept.specs.Given.Effects.declared.role.Role.TheVariants as role
-use Rattle.papaya_kept.specs.Given.Finishes.Maps.{Standing}
-use Rattle.papaya_kept.specs.Given.Follows.Shows.{Shows}
-use Rattle.papaya_kept.proofs.Given.Runs.Pairs.Held.{times-append}
-use Rattle.papaya_kept.specs.Given.Moments.Numbers.{AreFound}
-use Rattle.papaya_kept.specs.Given.Reclaims.Left.{IsSomebodys}
-use Rattle.papaya_kept.specs.Given.Reclaims.Reclaims.{IsRootOf, RootLeads}
-use Rattle.papaya_kept.proofs.Given.Reclaims.Left.Stays.{left_is_left_behind}
+use Rattle.papaya_kept.specs.Given.SeizeWordsDeclared.at.At.TheVariants.{Used}
+use Rattle.papaya_kept.specs.Given.SeizeWordsMem.{Mem, word_at}
+use Rattle.papaya_kept.specs.Given.TablesDeclared.node.Node.{Node}
+use Rattle.papaya_kept.specs.Given.SchedulesBeginning.{used_roots}
+use Rattle.papaya_kept.specs.Given.SchedulesLists.{is_among}
+use Rattle.papaya_kept.specs.Given.SchedulesMoment.{MapThere, Moment}
+use Rattle.papaya_kept.specs.Given.SchedulesViews.{map_at}
+use Rattle.papaya_kept.specs.Given.EffectsKnown.{Known}
+use Rattle.papaya_kept.specs.Given.EffectsDeclared.role.Role.TheVariants as role
+use Rattle.papaya_kept.specs.Given.FinishesMaps.{Standing}
+use Rattle.papaya_kept.specs.Given.FollowsShows.{Shows}
+use Rattle.papaya_kept.proofs.Given.RunsPairs.Held.{times-append}
+use Rattle.papaya_kept.specs.Given.MomentsNumbers.{AreFound}
+use Rattle.papaya_kept.specs.Given.ReclaimsLeft.{IsSomebodys}
+use Rattle.papaya_kept.specs.Given.ReclaimsReclaims.{IsRootOf, RootLeads}
+use Rattle.papaya_kept.proofs.Given.ReclaimsLeft.Stays.{left_is_left_behind}
 use Rattle.papaya_remains.specs.Remains.{AllStand, RootsAreTaken, ShowsRemains, has_some, left_at, left_roots, map_roots}
 use Rattle.papaya_remains.specs.Steps.{RestsNoted, RestsRemain}
 use Rattle.papaya_remains.proofs.Lists.{among_append, found_among, left_none, not_among, some_times}
-use Rattle.papaya_kept.specs.Given.Scenes.Held.{Held, IsAt}
-use Rattle.papaya_kept.specs.Given.Scenes.Scene.{Scene}
+use Rattle.papaya_kept.specs.Given.ScenesHeld.{Held, IsAt}
+use Rattle.papaya_kept.specs.Given.ScenesScene.{Scene}
 
 -- a root that is there is that of one that is there
 root_there : (P Q : MapThere → Type 0) (r : ℕ) (fs : List MapThere) → is_among r (map (λ f. f.root) fs) ≡ true → All P fs → AllByRecursion Q fs → (f : MapThere) × (f.root ≡ r) × P f × Q f

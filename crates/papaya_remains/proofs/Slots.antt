@@ -3,38 +3,38 @@ use Rattle.std.specs.Prelude.{◌⊎◌, ◌≤◌, ◌<◌, ◌==◌, nat_le, s
 use Rattle.std.proofs.Common.{◌≡◌, ℕ, zero, suc, ◌+◌, Bool, true, false, inl, inr, refl, ap, sym, subst, ◌∙◌, arith, length-append}
 use Rattle.std.proofs.lemmas.Bool.{eq-eqb}
 use Rattle.std.proofs.lemmas.List.{get_or-replicate, length-replicate}
-use Rattle.papaya_kept.specs.Given.SeizeWords.declared.at.At.{At}
-use Rattle.papaya_kept.specs.Given.SeizeWords.declared.at.At.TheVariants.{Root, Used, Slot, Entry, Word}
-use Rattle.papaya_kept.specs.Given.SeizeWords.declared.slots.TheConstants.{SLOT_WORDS}
-use Rattle.papaya_kept.specs.Given.SeizeWords.Mem.{Mem, Can, after, same_at, with_room, with_word, word_at}
-use Rattle.papaya_kept.specs.Given.SeizeWords.Op.{Op, Out, Load, Store, Swap, Add, Or, Exchange, Make, Take, Rewrite, Room, Found, Exchanged, Made, Roomed}
-use Rattle.papaya_kept.specs.Given.SeizeWords.Place.{capacity}
-use Rattle.papaya_kept.specs.Given.SeizeWords.SlotWords.{slot_word, with_bucket as with_slots}
-use Rattle.papaya_kept.specs.Given.SeizeWords.Word.{block_in}
-use Rattle.papaya_kept.proofs.Given.SeizeWords.OneOwner.AfterWrites.{word_at-with_word}
-use Rattle.papaya_kept.proofs.Given.SeizeWords.Places.Words.{capacity-more, capacity_le_capacity, capacity_pos, with_bucket_next, with_bucket_there}
-use Rattle.papaya_kept.proofs.Given.SeizeRule.Words.Room.{same_length}
-use Rattle.papaya_kept.specs.Given.Seize.declared.states.TheConstants.{HEAD}
-use Rattle.papaya_kept.specs.Given.Tables.declared.node.Node.{Node}
-use Rattle.papaya_kept.specs.Given.Tables.declared.table_words.TheConstants.{NEXT}
-use Rattle.papaya_kept.specs.Given.Raw.EndMap.{end_map_plan}
-use Rattle.papaya_kept.specs.Given.Raw.Machine.{machine_plan}
-use Rattle.papaya_kept.specs.Given.Resize.NewMap.{new_map_plan}
-use Rattle.papaya_kept.specs.Given.Teller.Tells.{told_of}
-use Rattle.papaya_kept.specs.Given.Teller.declared.changed.Changed.{Changed}
-use Rattle.papaya_kept.specs.Given.Teller.declared.changed.Changed.TheVariants as changed
-use Rattle.papaya_kept.specs.Given.Tells.Seen.{seen_of}
-use Rattle.papaya_kept.specs.Given.Effects.Effects.{in_block_on, in_table_on, is_place, known_after, linked_on, named, names_same, stored_on, written_on}
-use Rattle.papaya_kept.specs.Given.Effects.Known.{Known, with_bucket}
-use Rattle.papaya_kept.specs.Given.Effects.declared.acting.Acting.{Acting}
-use Rattle.papaya_kept.specs.Given.Effects.declared.acting.Acting.TheVariants as acts
-use Rattle.papaya_kept.specs.Given.Effects.declared.role.Role.{Role}
-use Rattle.papaya_kept.specs.Given.Effects.declared.role.Role.TheVariants as role
-use Rattle.papaya_kept.specs.Given.Finishes.Machines.{machine_of}
-use Rattle.papaya_kept.proofs.Given.Follows.Operations.{Operated, operated}
-use Rattle.papaya_kept.proofs.Given.Others.RowPlans.{row_operated}
+use Rattle.papaya_kept.specs.Given.SeizeWordsDeclared.at.At.{At}
+use Rattle.papaya_kept.specs.Given.SeizeWordsDeclared.at.At.TheVariants.{Root, Used, Slot, Entry, Word}
+use Rattle.papaya_kept.specs.Given.SeizeWordsDeclared.slots.TheConstants.{SLOT_WORDS}
+use Rattle.papaya_kept.specs.Given.SeizeWordsMem.{Mem, Can, after, same_at, with_room, with_word, word_at}
+use Rattle.papaya_kept.specs.Given.SeizeWordsOp.{Op, Out, Load, Store, Swap, Add, Or, Exchange, Make, Take, Rewrite, Room, Found, Exchanged, Made, Roomed}
+use Rattle.papaya_kept.specs.Given.SeizeWordsPlace.{capacity}
+use Rattle.papaya_kept.specs.Given.SeizeWordsSlotWords.{slot_word, with_bucket as with_slots}
+use Rattle.papaya_kept.specs.Given.SeizeWordsWord.{block_in}
+use Rattle.papaya_kept.proofs.Given.SeizeWordsOneOwner.AfterWrites.{word_at-with_word}
+use Rattle.papaya_kept.proofs.Given.SeizeWordsPlaces.Words.{capacity-more, capacity_le_capacity, capacity_pos, with_bucket_next, with_bucket_there}
+use Rattle.papaya_kept.proofs.Given.SeizeRuleWords.Room.{same_length}
+use Rattle.papaya_kept.specs.Given.SeizeDeclared.states.TheConstants.{HEAD}
+use Rattle.papaya_kept.specs.Given.TablesDeclared.node.Node.{Node}
+use Rattle.papaya_kept.specs.Given.TablesDeclared.table_words.TheConstants.{NEXT}
+use Rattle.papaya_kept.specs.Given.RawEndMap.{end_map_plan}
+use Rattle.papaya_kept.specs.Given.RawMachine.{machine_plan}
+use Rattle.papaya_kept.specs.Given.ResizeNewMap.{new_map_plan}
+use Rattle.papaya_kept.specs.Given.TellerTells.{told_of}
+use Rattle.papaya_kept.specs.Given.TellerDeclared.changed.Changed.{Changed}
+use Rattle.papaya_kept.specs.Given.TellerDeclared.changed.Changed.TheVariants as changed
+use Rattle.papaya_kept.specs.Given.TellsSeen.{seen_of}
+use Rattle.papaya_kept.specs.Given.EffectsEffects.{in_block_on, in_table_on, is_place, known_after, linked_on, named, names_same, stored_on, written_on}
+use Rattle.papaya_kept.specs.Given.EffectsKnown.{Known, with_bucket}
+use Rattle.papaya_kept.specs.Given.EffectsDeclared.acting.Acting.{Acting}
+use Rattle.papaya_kept.specs.Given.EffectsDeclared.acting.Acting.TheVariants as acts
+use Rattle.papaya_kept.specs.Given.EffectsDeclared.role.Role.{Role}
+use Rattle.papaya_kept.specs.Given.EffectsDeclared.role.Role.TheVariants as role
+use Rattle.papaya_kept.specs.Given.FinishesMachines.{machine_of}
+use Rattle.papaya_kept.proofs.Given.FollowsOperations.{Operated, operated}
+use Rattle.papaya_kept.proofs.Given.OthersRowPlans.{row_operated}
 use Rattle.papaya_remains.specs.Slots.{CallsNoteSlots, EndingsNoteSlots, MakingsNoteSlots, RowsNoteSlots, SlotsBegin, SlotsNoted}
-use Rattle.papaya_kept.proofs.Given.Scenes.May.{may_end, may_make, may_row, may_step}
+use Rattle.papaya_kept.proofs.Given.ScenesMay.{may_end, may_make, may_row, may_step}
 
 -- no bucket came
 abbrev pub IsNoRoom : Changed → Type 0

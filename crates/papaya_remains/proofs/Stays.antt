@@ -3,28 +3,28 @@ use Rattle.std.specs.Prelude.{◌==◌, ◌++◌, List, [], ◌∷◌, map, repl
 use Rattle.std.proofs.Common.{◌≡◌, ◌≤◌, ◌<◌, ℕ, Bool, true, false, inr, refl, ap, sym, subst, ◌∙◌, arith}
 use Rattle.std.proofs.lemmas.List.{get_or-replicate, length-replicate}
 use Rattle.std.proofs.lemmas.Option.{slice_get-get_or}
-use Rattle.papaya_kept.specs.Given.Seize.World.{World}
-use Rattle.papaya_kept.specs.Given.Tables.declared.node.Node.{Node}
-use Rattle.papaya_kept.specs.Given.Runs.LifeCycle.{times}
-use Rattle.papaya_kept.specs.Given.Schedules.declared.effect.Effect.{Effect}
-use Rattle.papaya_kept.specs.Given.Schedules.declared.effect.Effect.TheVariants.{Promoted}
-use Rattle.papaya_kept.specs.Given.Schedules.declared.effect.Table.{Table}
-use Rattle.papaya_kept.specs.Given.Schedules.Beginning.{used_roots}
-use Rattle.papaya_kept.specs.Given.Schedules.Effects.{maps_by, promoted, with_effect, with_effects}
-use Rattle.papaya_kept.specs.Given.Schedules.Lists.{is_among}
-use Rattle.papaya_kept.specs.Given.Schedules.Moment.{MapThere, Remains, Moment}
-use Rattle.papaya_kept.specs.Given.Effects.Known.{Known}
-use Rattle.papaya_kept.specs.Given.Effects.declared.role.Role.TheVariants as role
-use Rattle.papaya_kept.specs.Given.Finishes.Endings.{Finishing}
-use Rattle.papaya_kept.specs.Given.Finishes.Makings.{Beginning}
-use Rattle.papaya_kept.specs.Given.Finishes.Maps.{Standing}
-use Rattle.papaya_kept.specs.Given.Reclaims.Left.{LeftAmong}
-use Rattle.papaya_kept.proofs.Given.Reclaims.Behind.Kept.{in_all}
-use Rattle.papaya_kept.proofs.Given.Reclaims.Left.Stays.{nothing_is_left}
+use Rattle.papaya_kept.specs.Given.SeizeWorld.{World}
+use Rattle.papaya_kept.specs.Given.TablesDeclared.node.Node.{Node}
+use Rattle.papaya_kept.specs.Given.RunsLifeCycle.{times}
+use Rattle.papaya_kept.specs.Given.SchedulesDeclared.effect.Effect.{Effect}
+use Rattle.papaya_kept.specs.Given.SchedulesDeclared.effect.Effect.TheVariants.{Promoted}
+use Rattle.papaya_kept.specs.Given.SchedulesDeclared.effect.Table.{Table}
+use Rattle.papaya_kept.specs.Given.SchedulesBeginning.{used_roots}
+use Rattle.papaya_kept.specs.Given.SchedulesEffects.{maps_by, promoted, with_effect, with_effects}
+use Rattle.papaya_kept.specs.Given.SchedulesLists.{is_among}
+use Rattle.papaya_kept.specs.Given.SchedulesMoment.{MapThere, Remains, Moment}
+use Rattle.papaya_kept.specs.Given.EffectsKnown.{Known}
+use Rattle.papaya_kept.specs.Given.EffectsDeclared.role.Role.TheVariants as role
+use Rattle.papaya_kept.specs.Given.FinishesEndings.{Finishing}
+use Rattle.papaya_kept.specs.Given.FinishesMakings.{Beginning}
+use Rattle.papaya_kept.specs.Given.FinishesMaps.{Standing}
+use Rattle.papaya_kept.specs.Given.ReclaimsLeft.{LeftAmong}
+use Rattle.papaya_kept.proofs.Given.ReclaimsBehind.Kept.{in_all}
+use Rattle.papaya_kept.proofs.Given.ReclaimsLeft.Stays.{nothing_is_left}
 use Rattle.papaya_remains.specs.Remains.{AscendFrom, LeftNoted, ShowsRemains, left_at, map_roots}
 use Rattle.papaya_remains.specs.Steps.{BeginsRemain, StaysRemain}
-use Rattle.papaya_kept.proofs.Given.Lives.Order.{noted_still}
-use Rattle.papaya_kept.specs.Given.Scenes.Scene.{Scene, at_first}
+use Rattle.papaya_kept.proofs.Given.LivesOrder.{noted_still}
+use Rattle.papaya_kept.specs.Given.ScenesScene.{Scene, at_first}
 
 -- a map whose root's table is another one has its root
 root_same : (t : Table) (f : MapThere) → (promoted t f).root ≡ f.root

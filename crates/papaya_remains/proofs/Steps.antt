@@ -1,18 +1,18 @@
 -- Each step of a call leaves what is left over where it is, and so does each row on a slot.
 use Rattle.std.specs.Prelude.{ℕ, Bool}
 use Rattle.std.proofs.Common.{refl}
-use Rattle.papaya_kept.specs.Given.Seize.World.{Begin, Step}
-use Rattle.papaya_kept.specs.Given.Schedules.Effects.{with_effects}
-use Rattle.papaya_kept.specs.Given.Callers.Together.{IsOfSlots}
-use Rattle.papaya_kept.specs.Given.Scenes.declared.row.SlotCall.{SlotCall}
-use Rattle.papaya_kept.specs.Given.Scenes.declared.row.SlotCall.TheVariants as call
-use Rattle.papaya_kept.specs.Given.Others.Rows.{scene_then}
-use Rattle.papaya_kept.proofs.Given.Reclaims.Left.Calls.{guards_leave_it, machines_leave_it}
+use Rattle.papaya_kept.specs.Given.SeizeWorld.{Begin, Step}
+use Rattle.papaya_kept.specs.Given.SchedulesEffects.{with_effects}
+use Rattle.papaya_kept.specs.Given.CallersTogether.{IsOfSlots}
+use Rattle.papaya_kept.specs.Given.ScenesDeclared.row.SlotCall.{SlotCall}
+use Rattle.papaya_kept.specs.Given.ScenesDeclared.row.SlotCall.TheVariants as call
+use Rattle.papaya_kept.specs.Given.OthersRows.{scene_then}
+use Rattle.papaya_kept.proofs.Given.ReclaimsLeft.Calls.{guards_leave_it, machines_leave_it}
 use Rattle.papaya_remains.specs.Steps.{CallsKeepRemains, RowsBeginRemain, RowsKeepRemains}
 use Rattle.papaya_remains.proofs.Stays.{goes_on, remains_stay, roots_stay}
-use Rattle.papaya_kept.specs.Given.Scenes.Rows.{request_of}
-use Rattle.papaya_kept.specs.Given.Scenes.Scene.{slot_of}
-use Rattle.papaya_kept.specs.Given.Scenes.Stepping.{scene_after}
+use Rattle.papaya_kept.specs.Given.ScenesRows.{request_of}
+use Rattle.papaya_kept.specs.Given.ScenesScene.{slot_of}
+use Rattle.papaya_kept.specs.Given.ScenesStepping.{scene_after}
 
 -- what callers ask of slots is of slots
 is_of_slots : (slot : ℕ) (called : SlotCall) → IsOfSlots (request_of slot called)

@@ -1,22 +1,22 @@
 -- Numbers of maps, as they are given: those that are there and those of all tables are below the next one, while maps are made, too.
 use Rattle.std.specs.Prelude.{◌≡◌, ◌+◌, ℕ, Bool, List, Option, Some, None}
-use Rattle.papaya_kept.specs.Given.Tables.declared.node.Node.{Node}
-use Rattle.papaya_kept.specs.Given.Raw.declared.machines.progress.Progress.{Progress as CallTold}
-use Rattle.papaya_kept.specs.Given.Schedules.Effects.{with_effects}
-use Rattle.papaya_kept.specs.Given.Schedules.Moment.{Moment}
-use Rattle.papaya_kept.specs.Given.Callers.Together.{UnderWay}
-use Rattle.papaya_kept.specs.Given.Effects.Effects.{effects_of, taken_by}
-use Rattle.papaya_kept.specs.Given.Effects.Known.{Known}
-use Rattle.papaya_kept.specs.Given.Effects.declared.acting.Acting.TheVariants as acts
-use Rattle.papaya_kept.specs.Given.Effects.declared.role.Role.{Role}
-use Rattle.papaya_kept.specs.Given.Scenes.declared.row.RowTold.{RowTold}
-use Rattle.papaya_kept.specs.Given.Scenes.declared.row.SlotRow.{SlotRow}
-use Rattle.papaya_kept.specs.Given.Finishes.Makings.{Beginning}
-use Rattle.papaya_kept.specs.Given.Moments.Numbers.{MapsAreBelow, NumbersMaps}
-use Rattle.papaya_kept.specs.Given.Scenes.Held.{Held}
-use Rattle.papaya_kept.specs.Given.Scenes.OnSlots.{RowLeads}
-use Rattle.papaya_kept.specs.Given.Scenes.Scene.{IsOnSlot, Scene}
-use Rattle.papaya_kept.specs.Given.Scenes.Stepping.{StepLeads}
+use Rattle.papaya_kept.specs.Given.TablesDeclared.node.Node.{Node}
+use Rattle.papaya_kept.specs.Given.RawDeclared.machines.progress.Progress.{Progress as CallTold}
+use Rattle.papaya_kept.specs.Given.SchedulesEffects.{with_effects}
+use Rattle.papaya_kept.specs.Given.SchedulesMoment.{Moment}
+use Rattle.papaya_kept.specs.Given.CallersTogether.{UnderWay}
+use Rattle.papaya_kept.specs.Given.EffectsEffects.{effects_of, taken_by}
+use Rattle.papaya_kept.specs.Given.EffectsKnown.{Known}
+use Rattle.papaya_kept.specs.Given.EffectsDeclared.acting.Acting.TheVariants as acts
+use Rattle.papaya_kept.specs.Given.EffectsDeclared.role.Role.{Role}
+use Rattle.papaya_kept.specs.Given.ScenesDeclared.row.RowTold.{RowTold}
+use Rattle.papaya_kept.specs.Given.ScenesDeclared.row.SlotRow.{SlotRow}
+use Rattle.papaya_kept.specs.Given.FinishesMakings.{Beginning}
+use Rattle.papaya_kept.specs.Given.MomentsNumbers.{MapsAreBelow, NumbersMaps}
+use Rattle.papaya_kept.specs.Given.ScenesHeld.{Held}
+use Rattle.papaya_kept.specs.Given.ScenesOnSlots.{RowLeads}
+use Rattle.papaya_kept.specs.Given.ScenesScene.{IsOnSlot, Scene}
+use Rattle.papaya_kept.specs.Given.ScenesStepping.{StepLeads}
 
 -- numbers are as they are where so many have been given
 abbrev pub NumbersUpTo : {K V : Type 0} → ℕ → Moment K V → Type 0

@@ -1,20 +1,20 @@
 -- What ended maps have left over, while others go on: it is behind the roots that the moment says, and roots are used as it says.
 use Rattle.std.specs.Prelude.{◌≡◌, ◌<◌, ◌≤◌, ◌==◌, ℕ, suc, Bool, true, false, List, [], ◌∷◌, map, Some, if◌then◌else◌}
 use Rattle.std.specs.List.{AllByRecursion}
-use Rattle.papaya_kept.specs.Given.SeizeWords.declared.at.At.TheVariants.{Used}
-use Rattle.papaya_kept.specs.Given.SeizeWords.Mem.{Mem, word_at}
-use Rattle.papaya_kept.specs.Given.Seize.World.{World, LeftTo}
-use Rattle.papaya_kept.specs.Given.Tables.declared.node.Node.{Node}
-use Rattle.papaya_kept.specs.Given.Runs.LifeCycle.{times}
-use Rattle.papaya_kept.specs.Given.Schedules.Beginning.{used_roots}
-use Rattle.papaya_kept.specs.Given.Schedules.Lists.{is_among}
-use Rattle.papaya_kept.specs.Given.Schedules.Moment.{Moment, Remains}
-use Rattle.papaya_kept.specs.Given.Effects.Known.{Known}
-use Rattle.papaya_kept.specs.Given.Effects.declared.role.Role.TheVariants as role
-use Rattle.papaya_kept.specs.Given.Finishes.Endings.{Finishing}
-use Rattle.papaya_kept.specs.Given.Finishes.Maps.{Standing}
-use Rattle.papaya_kept.specs.Given.Reclaims.Left.{LeftAmong}
-use Rattle.papaya_kept.specs.Given.Scenes.Scene.{Scene}
+use Rattle.papaya_kept.specs.Given.SeizeWordsDeclared.at.At.TheVariants.{Used}
+use Rattle.papaya_kept.specs.Given.SeizeWordsMem.{Mem, word_at}
+use Rattle.papaya_kept.specs.Given.SeizeWorld.{World, LeftTo}
+use Rattle.papaya_kept.specs.Given.TablesDeclared.node.Node.{Node}
+use Rattle.papaya_kept.specs.Given.RunsLifeCycle.{times}
+use Rattle.papaya_kept.specs.Given.SchedulesBeginning.{used_roots}
+use Rattle.papaya_kept.specs.Given.SchedulesLists.{is_among}
+use Rattle.papaya_kept.specs.Given.SchedulesMoment.{Moment, Remains}
+use Rattle.papaya_kept.specs.Given.EffectsKnown.{Known}
+use Rattle.papaya_kept.specs.Given.EffectsDeclared.role.Role.TheVariants as role
+use Rattle.papaya_kept.specs.Given.FinishesEndings.{Finishing}
+use Rattle.papaya_kept.specs.Given.FinishesMaps.{Standing}
+use Rattle.papaya_kept.specs.Given.ReclaimsLeft.{LeftAmong}
+use Rattle.papaya_kept.specs.Given.ScenesScene.{Scene}
 
 -- there is something in the list
 abbrev pub has_some : List ℕ → Bool

@@ -1,28 +1,28 @@
 -- That words of slots are noted just where there are some, and what is promised of each kind of step.
 use Rattle.std.specs.Prelude.{◌≡◌, ◌<◌, ◌+◌, ℕ, Bool, [], length, Some, IsSome}
-use Rattle.papaya_kept.specs.Given.SeizeWords.declared.at.At.TheVariants.{Slot}
-use Rattle.papaya_kept.specs.Given.SeizeWords.Mem.{Mem, word_at}
-use Rattle.papaya_kept.specs.Given.SeizeWords.Place.{capacity}
-use Rattle.papaya_kept.specs.Given.Seize.declared.progress.Progress.{Progress}
-use Rattle.papaya_kept.specs.Given.Seize.declared.rows.settle.Settled.{Settled}
-use Rattle.papaya_kept.specs.Given.Seize.declared.states.TheConstants.{HEAD}
-use Rattle.papaya_kept.specs.Given.Tables.declared.node.Node.{Node}
-use Rattle.papaya_kept.specs.Given.Tables.declared.setting.Setting.{Setting}
-use Rattle.papaya_kept.specs.Given.Raw.declared.machines.progress.Progress.{Progress as CallTold}
-use Rattle.papaya_kept.specs.Given.Callers.Together.{UnderWay}
-use Rattle.papaya_kept.specs.Given.Effects.Effects.{known_after}
-use Rattle.papaya_kept.specs.Given.Effects.Known.{Known, nothing_known}
-use Rattle.papaya_kept.specs.Given.Effects.declared.acting.Acting.TheVariants as acts
-use Rattle.papaya_kept.specs.Given.Scenes.declared.row.RowTold.{RowTold}
-use Rattle.papaya_kept.specs.Given.Scenes.declared.row.SlotRow.{SlotRow}
-use Rattle.papaya_kept.specs.Given.Finishes.Endings.{Finishing}
-use Rattle.papaya_kept.specs.Given.Finishes.Makings.{Beginning}
-use Rattle.papaya_kept.specs.Given.Scenes.Ending.{EndingLeads}
-use Rattle.papaya_kept.specs.Given.Scenes.Held.{Held, IsAt}
-use Rattle.papaya_kept.specs.Given.Scenes.Making.{MakingLeads}
-use Rattle.papaya_kept.specs.Given.Scenes.OnSlots.{RowLeads}
-use Rattle.papaya_kept.specs.Given.Scenes.Scene.{IsOnSlot, Scene, at_first}
-use Rattle.papaya_kept.specs.Given.Scenes.Stepping.{StepLeads}
+use Rattle.papaya_kept.specs.Given.SeizeWordsDeclared.at.At.TheVariants.{Slot}
+use Rattle.papaya_kept.specs.Given.SeizeWordsMem.{Mem, word_at}
+use Rattle.papaya_kept.specs.Given.SeizeWordsPlace.{capacity}
+use Rattle.papaya_kept.specs.Given.SeizeDeclared.progress.Progress.{Progress}
+use Rattle.papaya_kept.specs.Given.SeizeDeclared.rows.settle.Settled.{Settled}
+use Rattle.papaya_kept.specs.Given.SeizeDeclared.states.TheConstants.{HEAD}
+use Rattle.papaya_kept.specs.Given.TablesDeclared.node.Node.{Node}
+use Rattle.papaya_kept.specs.Given.TablesDeclared.setting.Setting.{Setting}
+use Rattle.papaya_kept.specs.Given.RawDeclared.machines.progress.Progress.{Progress as CallTold}
+use Rattle.papaya_kept.specs.Given.CallersTogether.{UnderWay}
+use Rattle.papaya_kept.specs.Given.EffectsEffects.{known_after}
+use Rattle.papaya_kept.specs.Given.EffectsKnown.{Known, nothing_known}
+use Rattle.papaya_kept.specs.Given.EffectsDeclared.acting.Acting.TheVariants as acts
+use Rattle.papaya_kept.specs.Given.ScenesDeclared.row.RowTold.{RowTold}
+use Rattle.papaya_kept.specs.Given.ScenesDeclared.row.SlotRow.{SlotRow}
+use Rattle.papaya_kept.specs.Given.FinishesEndings.{Finishing}
+use Rattle.papaya_kept.specs.Given.FinishesMakings.{Beginning}
+use Rattle.papaya_kept.specs.Given.ScenesEnding.{EndingLeads}
+use Rattle.papaya_kept.specs.Given.ScenesHeld.{Held, IsAt}
+use Rattle.papaya_kept.specs.Given.ScenesMaking.{MakingLeads}
+use Rattle.papaya_kept.specs.Given.ScenesOnSlots.{RowLeads}
+use Rattle.papaya_kept.specs.Given.ScenesScene.{IsOnSlot, Scene, at_first}
+use Rattle.papaya_kept.specs.Given.ScenesStepping.{StepLeads}
 
 -- where a bucket is noted the first slot has a word, and where none is there is no slot; slots are as many as the buckets that are noted have
 pub record SlotsNoted {T : Type 0} (noted : Known) (m : Mem T) : Type 0 where

@@ -1,42 +1,42 @@
 -- What is promised of each kind of step: what ended maps have left over is behind the roots that the moment after it says. So it is where maps come and go, and once all is reclaimed.
 use Rattle.std.specs.Prelude.{◌≡◌, ◌<◌, ◌≤◌, ℕ, Bool, false, List, [], length, filter, map, Option, Some, None}
-use Rattle.papaya_kept.specs.Given.Seize.World.{Begin, Step, with_at}
-use Rattle.papaya_kept.specs.Given.Seize.declared.progress.Progress.{Progress}
-use Rattle.papaya_kept.specs.Given.Seize.declared.rows.settle.Settled.{Settled}
-use Rattle.papaya_kept.specs.Given.Tables.declared.node.Node.{Node}
-use Rattle.papaya_kept.specs.Given.Tables.declared.setting.Setting.{Setting}
-use Rattle.papaya_kept.specs.Given.Raw.declared.machines.progress.Progress.{Progress as CallTold}
-use Rattle.papaya_kept.specs.Given.Runs.Same.{is_same}
-use Rattle.papaya_kept.specs.Given.Schedules.declared.effect.Effect.{Effect}
-use Rattle.papaya_kept.specs.Given.Schedules.After.{if_any}
-use Rattle.papaya_kept.specs.Given.Schedules.Beginning.{used_roots, with_map}
-use Rattle.papaya_kept.specs.Given.Schedules.Effects.{with_effects}
-use Rattle.papaya_kept.specs.Given.Schedules.Lists.{is_among}
-use Rattle.papaya_kept.specs.Given.Schedules.Moment.{MapThere, Moment, start}
-use Rattle.papaya_kept.specs.Given.Schedules.Views.{map_of}
-use Rattle.papaya_kept.specs.Given.Callers.Together.{UnderWay}
-use Rattle.papaya_kept.specs.Given.Effects.Known.{Known, nothing_known}
-use Rattle.papaya_kept.specs.Given.Effects.declared.role.Role.TheVariants as role
-use Rattle.papaya_kept.specs.Given.Scenes.declared.row.RowTold.{RowTold}
-use Rattle.papaya_kept.specs.Given.Scenes.declared.row.SlotCall.{SlotCall}
-use Rattle.papaya_kept.specs.Given.Scenes.declared.row.SlotRow.{SlotRow}
-use Rattle.papaya_kept.specs.Given.Finishes.Endings.{Finishing}
-use Rattle.papaya_kept.specs.Given.Finishes.Makings.{Beginning, HasTaken}
-use Rattle.papaya_kept.specs.Given.Finishes.Maps.{Standing}
-use Rattle.papaya_kept.specs.Given.Follows.Shows.{Shows}
-use Rattle.papaya_kept.specs.Given.Others.Endings.{ending_after, without_map}
-use Rattle.papaya_kept.specs.Given.Others.Makings.{making_after}
-use Rattle.papaya_kept.specs.Given.Others.Rows.{scene_then}
-use Rattle.papaya_kept.specs.Given.Moments.Numbers.{AreFound}
-use Rattle.papaya_kept.specs.Given.Reclaims.Reclaims.{AllIsReclaimed, LeftBehind}
+use Rattle.papaya_kept.specs.Given.SeizeWorld.{Begin, Step, with_at}
+use Rattle.papaya_kept.specs.Given.SeizeDeclared.progress.Progress.{Progress}
+use Rattle.papaya_kept.specs.Given.SeizeDeclared.rows.settle.Settled.{Settled}
+use Rattle.papaya_kept.specs.Given.TablesDeclared.node.Node.{Node}
+use Rattle.papaya_kept.specs.Given.TablesDeclared.setting.Setting.{Setting}
+use Rattle.papaya_kept.specs.Given.RawDeclared.machines.progress.Progress.{Progress as CallTold}
+use Rattle.papaya_kept.specs.Given.RunsSame.{is_same}
+use Rattle.papaya_kept.specs.Given.SchedulesDeclared.effect.Effect.{Effect}
+use Rattle.papaya_kept.specs.Given.SchedulesAfter.{if_any}
+use Rattle.papaya_kept.specs.Given.SchedulesBeginning.{used_roots, with_map}
+use Rattle.papaya_kept.specs.Given.SchedulesEffects.{with_effects}
+use Rattle.papaya_kept.specs.Given.SchedulesLists.{is_among}
+use Rattle.papaya_kept.specs.Given.SchedulesMoment.{MapThere, Moment, start}
+use Rattle.papaya_kept.specs.Given.SchedulesViews.{map_of}
+use Rattle.papaya_kept.specs.Given.CallersTogether.{UnderWay}
+use Rattle.papaya_kept.specs.Given.EffectsKnown.{Known, nothing_known}
+use Rattle.papaya_kept.specs.Given.EffectsDeclared.role.Role.TheVariants as role
+use Rattle.papaya_kept.specs.Given.ScenesDeclared.row.RowTold.{RowTold}
+use Rattle.papaya_kept.specs.Given.ScenesDeclared.row.SlotCall.{SlotCall}
+use Rattle.papaya_kept.specs.Given.ScenesDeclared.row.SlotRow.{SlotRow}
+use Rattle.papaya_kept.specs.Given.FinishesEndings.{Finishing}
+use Rattle.papaya_kept.specs.Given.FinishesMakings.{Beginning, HasTaken}
+use Rattle.papaya_kept.specs.Given.FinishesMaps.{Standing}
+use Rattle.papaya_kept.specs.Given.FollowsShows.{Shows}
+use Rattle.papaya_kept.specs.Given.OthersEndings.{ending_after, without_map}
+use Rattle.papaya_kept.specs.Given.OthersMakings.{making_after}
+use Rattle.papaya_kept.specs.Given.OthersRows.{scene_then}
+use Rattle.papaya_kept.specs.Given.MomentsNumbers.{AreFound}
+use Rattle.papaya_kept.specs.Given.ReclaimsReclaims.{AllIsReclaimed, LeftBehind}
 use Rattle.papaya_remains.specs.Remains.{AllStand, LeftNoted, RootsAreTaken, ShowsRemains, left_at, map_roots}
-use Rattle.papaya_kept.specs.Given.Scenes.Ending.{EndingLeads, ending_begun}
-use Rattle.papaya_kept.specs.Given.Scenes.Held.{Held, IsAt}
-use Rattle.papaya_kept.specs.Given.Scenes.Making.{MakingLeads}
-use Rattle.papaya_kept.specs.Given.Scenes.OnSlots.{RowBegins, RowLeads}
-use Rattle.papaya_kept.specs.Given.Scenes.Rows.{request_of}
-use Rattle.papaya_kept.specs.Given.Scenes.Scene.{IsOnSlot, Scene, at_first, slot_of}
-use Rattle.papaya_kept.specs.Given.Scenes.Stepping.{StepLeads, scene_after}
+use Rattle.papaya_kept.specs.Given.ScenesEnding.{EndingLeads, ending_begun}
+use Rattle.papaya_kept.specs.Given.ScenesHeld.{Held, IsAt}
+use Rattle.papaya_kept.specs.Given.ScenesMaking.{MakingLeads}
+use Rattle.papaya_kept.specs.Given.ScenesOnSlots.{RowBegins, RowLeads}
+use Rattle.papaya_kept.specs.Given.ScenesRows.{request_of}
+use Rattle.papaya_kept.specs.Given.ScenesScene.{IsOnSlot, Scene, at_first, slot_of}
+use Rattle.papaya_kept.specs.Given.ScenesStepping.{StepLeads, scene_after}
 
 module _ (K V : Type 0) where
   -- The promises: so it is before all events,

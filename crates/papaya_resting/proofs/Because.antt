@@ -5,8 +5,8 @@ use Rattle.seize_words.specs.declared.fault.Fault.{Fault}
 use Rattle.papaya_raw.specs.declared.machines.answer.KeyAnswer.{KeyAnswer}
 use Rattle.papaya_asks.specs.declared.computing.Computed.{Computed}
 use Rattle.papaya_asks.specs.declared.computing.Computed.TheVariants as computed
-use Rattle.papaya_asks.specs.Given.Owned.Calling.{stop_by}
-use Rattle.papaya_asks.specs.Given.Owned.declared.machines.Stop.{Stop}
+use Rattle.papaya_asks.specs.Given.OwnedCalling.{stop_by}
+use Rattle.papaya_asks.specs.Given.OwnedDeclared.machines.Stop.{Stop}
 use Rattle.papaya_asks.specs.Closures.{computing_stop}
 use Rattle.seize_words.specs.declared.refused.RefusedKey.{RefusedKey}
 use Rattle.papaya_resting.specs.Asking.{ended_by, computing_ended_by}

@@ -17,8 +17,8 @@ use Rattle.papaya_asks.specs.declared.computing.Computed.TheVariants as computed
 use Rattle.papaya_operation.specs.declared.operation.Operation.{Operation}
 use Rattle.seize_words.specs.declared.refused.RefusedKey.{RefusedKey}
 use Rattle.seize_words.specs.declared.refused.Refused.{Refused}
-use Rattle.papaya_asks.specs.Given.Shown.Chain.{CannotGrowIn}
-use Rattle.papaya_asks.specs.Given.Owned.Owned.{found_by}
+use Rattle.papaya_asks.specs.Given.ShownChain.{CannotGrowIn}
+use Rattle.papaya_asks.specs.Given.OwnedOwned.{found_by}
 use Rattle.papaya_resting.specs.Asking.{HasDone, IsRefusedFor, ComesToIt, ComputesToIt, changed_by, ended_by, computing_ended_by}
 use Rattle.papaya_resting.specs.Lasts.{RestsWith, no_words, words_of, words_of_computing, words_of_end}
 use Rattle.papaya_resting.specs.declared.last.Last.{Last}

@@ -12,18 +12,18 @@ use Rattle.papaya_raw.specs.declared.machines.answer.KeyAnswer.{KeyAnswer}
 use Rattle.papaya_raw.specs.declared.machines.answer.KeyAnswer.TheVariants as answers
 use Rattle.papaya_raw.specs.declared.machines.asking.Reply.{Reply}
 use Rattle.papaya_raw.specs.declared.machines.asking.Reply.TheVariants as reply
-use Rattle.papaya_asks.specs.Given.Callers.Kind.{inserts, removes, tries_to_insert}
+use Rattle.papaya_asks.specs.Given.CallersKind.{inserts, removes, tries_to_insert}
 use Rattle.papaya_asks.specs.Asking.{AnswersAs, EndsAs}
 use Rattle.papaya_asks.specs.Closures.{ComputesTo, computing_stop}
 use Rattle.papaya_asks.specs.declared.computing.Computed.{Computed}
 use Rattle.papaya_asks.specs.declared.computing.Computed.TheVariants as computed
 use Rattle.papaya_operation.specs.declared.operation.Operation.{Operation}
 use Rattle.seize_words.specs.declared.refused.RefusedKey.{RefusedKey}
-use Rattle.papaya_asks.specs.Given.Callers.Pairs.{Given}
-use Rattle.papaya_asks.specs.Given.Owned.Calling.{HasStopped, stop_by}
-use Rattle.papaya_asks.specs.Given.Owned.Owned.{Holds, EndsBy}
-use Rattle.papaya_asks.specs.Given.Owned.declared.machines.Stop.{Stop}
-use Rattle.papaya_asks.specs.Given.Owned.declared.machines.Stop.TheVariants as stop
+use Rattle.papaya_asks.specs.Given.CallersPairs.{Given}
+use Rattle.papaya_asks.specs.Given.OwnedCalling.{HasStopped, stop_by}
+use Rattle.papaya_asks.specs.Given.OwnedOwned.{Holds, EndsBy}
+use Rattle.papaya_asks.specs.Given.OwnedDeclared.machines.Stop.{Stop}
+use Rattle.papaya_asks.specs.Given.OwnedDeclared.machines.Stop.TheVariants as stop
 use Rattle.papaya_holds.specs.Came.{NoneCame, stored_by}
 use Rattle.papaya_holds.specs.Held.{HoldsOn, held_in, pair_at_word, with_pair}
 use Rattle.papaya_holds.proofs.Changes.{call_holds_on, refused_holds_on}

@@ -6,7 +6,7 @@ use Rattle.seize_words.specs.Word.{block_in}
 use Rattle.papaya_tables.specs.declared.node.Node.{Node}
 use Rattle.papaya_tables.specs.declared.node.Node.TheVariants as node
 use Rattle.papaya_tables.specs.declared.setting.Setting.{Setting}
-use Rattle.papaya_asks.specs.Given.Owned.Owned.{IsShownAt, NamesAPair}
+use Rattle.papaya_asks.specs.Given.OwnedOwned.{IsShownAt, NamesAPair}
 use Rattle.papaya_resting.specs.Lasts.{IsPairOf, RestsWith, is_named, pair_in, pair_of}
 use Rattle.papaya_resting.specs.declared.last.Last.{Last}
 

@@ -8,12 +8,12 @@ use Rattle.papaya_tables.specs.declared.node.Node.{Node}
 use Rattle.papaya_tables.specs.declared.setting.Setting.{Setting}
 use Rattle.papaya_resize.specs.Lookup.{looking}
 use Rattle.papaya_resize.specs.declared.lookup.Lookup.{Lookup}
-use Rattle.papaya_asks.specs.Given.Rule.Maps.{IsClass}
-use Rattle.papaya_asks.specs.Given.Alone.Counting.{shards_sum, number_in}
-use Rattle.papaya_asks.proofs.Given.Whole.Contents.Length.{countings_come_to}
-use Rattle.papaya_asks.specs.Given.Owned.Looking.{LooksIn, Finds}
-use Rattle.papaya_asks.specs.Given.Owned.Owned.{Holds, IsWordOf}
-use Rattle.papaya_asks.proofs.Given.Owned.Owned.Lookups.{look_in, finds_word}
+use Rattle.papaya_asks.specs.Given.RuleMaps.{IsClass}
+use Rattle.papaya_asks.specs.Given.AloneCounting.{shards_sum, number_in}
+use Rattle.papaya_asks.proofs.Given.WholeContents.Length.{countings_come_to}
+use Rattle.papaya_asks.specs.Given.OwnedLooking.{LooksIn, Finds}
+use Rattle.papaya_asks.specs.Given.OwnedOwned.{Holds, IsWordOf}
+use Rattle.papaya_asks.proofs.Given.OwnedOwned.Lookups.{look_in, finds_word}
 
 module _ {K V : Type 0} (same : K → K → Bool) (hash : K → ℕ) (setting : Setting) (m : Mem (Node K V)) (xs : List (K × V)) (h : Holds same hash setting m xs) where
   pub look_ready : (keys : K → Bool) (code : ℕ) → IsClass same hash keys code → (l : Lookup) → l ≡ looking setting.root setting.mode code → LooksIn same hash keys m h.chart h.blocks l l

@@ -9,9 +9,9 @@ use Rattle.seize_words.specs.declared.fault.Fault.{Fault}
 use Rattle.seize_words.specs.declared.fault.Fault.TheVariants as fault
 use Rattle.seize.specs.World.{IsInside, Inside, Vacant}
 use Rattle.seize.specs.Sequence.{new_slot}
-use Rattle.papaya_asks.specs.Given.SeizeAlone.Alone.{History, IsHistory, IsRefusal, nothing_yet, registered}
-use Rattle.papaya_asks.proofs.Given.SeizeAlone.Laws.{histories_begin}
-use Rattle.papaya_asks.proofs.Given.SeizeRule.Rows.Others.{with_here}
+use Rattle.papaya_asks.specs.Given.SeizeAloneAlone.{History, IsHistory, IsRefusal, nothing_yet, registered}
+use Rattle.papaya_asks.proofs.Given.SeizeAloneLaws.{histories_begin}
+use Rattle.papaya_asks.proofs.Given.SeizeRuleRows.Others.{with_here}
 use Rattle.papaya_tables.specs.Lengths.{IsTableLen, entries_of, if_few, len_of, places_for}
 use Rattle.papaya_tables.specs.Nodes.{deferred_word}
 use Rattle.papaya_tables.specs.Powers.{next_power}
@@ -20,12 +20,12 @@ use Rattle.papaya_tables.specs.declared.resize_mode.ResizeMode.TheVariants.{Incr
 use Rattle.papaya_tables.specs.declared.setting.Setting.{Setting}
 use Rattle.papaya_resize.specs.NewMap.{opening, new_map_plan}
 use Rattle.papaya_resize.specs.declared.new_map.NewMap.{NewMap}
-use Rattle.papaya_asks.specs.Given.Points.Steps.{AreLawful}
-use Rattle.papaya_asks.specs.Given.Owned.Ending.{Ends, RunsTo}
+use Rattle.papaya_asks.specs.Given.PointsSteps.{AreLawful}
+use Rattle.papaya_asks.specs.Given.OwnedEnding.{Ends, RunsTo}
 use Rattle.papaya_raw.specs.Given.Reserves.Reserve.{needed, or_too_long}
-use Rattle.papaya_asks.specs.Given.Owned.Owned.{Holds}
-use Rattle.papaya_asks.specs.Given.Owned.Rooms.{ShowTables, tables_for, tables_with}
-use Rattle.papaya_asks.proofs.Given.Owned.Owned.Making.{Opens, Made, opens_first, opens_end, runs_made, first_refused}
+use Rattle.papaya_asks.specs.Given.OwnedOwned.{Holds}
+use Rattle.papaya_asks.specs.Given.OwnedRooms.{ShowTables, tables_for, tables_with}
+use Rattle.papaya_asks.proofs.Given.OwnedOwned.Making.{Opens, Made, opens_first, opens_end, runs_made, first_refused}
 
 module _ {K V : Type 0} (same : K → K → Bool) (hash : K → ℕ) (lawful : AreLawful same hash) (slot places initial : ℕ) (is : initial ≡ max places 1) (power : IsPowerOfTwo (max places 1))
     (table : IsTableLen (max places 8)) (m : Mem (Node K V)) (h : History) (had : IsHistory deferred_word 32 1 m h) (inside : IsInside (h.uses slot)) (root : word_at m (Root 0) ≡ Some 0)

@@ -19,23 +19,23 @@ use Rattle.seize.specs.declared.states.TheConstants.{ACTIVE, HEAD}
 use Rattle.papaya_tables.specs.Nodes.{deferred_word}
 use Rattle.papaya_tables.specs.declared.node.Node.{Node}
 use Rattle.papaya_tables.specs.declared.setting.Setting.{Setting}
-use Rattle.papaya_asks.specs.Given.Callers.Kind.{Kind, removes}
-use Rattle.papaya_asks.specs.Given.Late.Faults.{IsRoom}
-use Rattle.papaya_asks.specs.Given.Late.Kinds.{FaultFits}
+use Rattle.papaya_asks.specs.Given.CallersKind.{Kind, removes}
+use Rattle.papaya_asks.specs.Given.LateFaults.{IsRoom}
+use Rattle.papaya_asks.specs.Given.LateKinds.{FaultFits}
 use Rattle.papaya_raw.specs.declared.machines.asking.Takes.TheVariants as replies
-use Rattle.papaya_asks.specs.Given.Owned.Ending.{Ends, RunsTo, stops, goes}
-use Rattle.papaya_asks.specs.Given.Owned.Machines.{refreshes_plan, refreshes_after}
-use Rattle.papaya_asks.specs.Given.Owned.Owned.{Holds, EndsBy, found_by, left_by}
-use Rattle.papaya_asks.specs.Given.Owned.declared.machines.Refreshes.{Refreshes}
-use Rattle.papaya_asks.specs.Given.Owned.declared.machines.Stop.{Stop}
-use Rattle.papaya_asks.specs.Given.Owned.declared.machines.Stop.TheVariants as stop
+use Rattle.papaya_asks.specs.Given.OwnedEnding.{Ends, RunsTo, stops, goes}
+use Rattle.papaya_asks.specs.Given.OwnedMachines.{refreshes_plan, refreshes_after}
+use Rattle.papaya_asks.specs.Given.OwnedOwned.{Holds, EndsBy, found_by, left_by}
+use Rattle.papaya_asks.specs.Given.OwnedDeclared.machines.Refreshes.{Refreshes}
+use Rattle.papaya_asks.specs.Given.OwnedDeclared.machines.Stop.{Stop}
+use Rattle.papaya_asks.specs.Given.OwnedDeclared.machines.Stop.TheVariants as stop
 use Rattle.papaya_raw.specs.declared.machines.answer.KeyAnswer.TheVariants as answers
 use Rattle.papaya_resting.specs.Calls.{has_removed}
 use Rattle.papaya_resting.specs.Lasts.{IsPairOf, RestsWith, words_of_stop}
 use Rattle.papaya_resting.specs.Refreshed.{HasRefreshed}
 use Rattle.papaya_resting.specs.declared.last.Last.{Last}
-use Rattle.papaya_asks.proofs.Given.Owned.Owned.Refreshes.{refreshing_ends, refreshed, begins_refreshing}
-use Rattle.papaya_asks.proofs.Given.Owned.Runs.Steps.{ends_on, may_step}
+use Rattle.papaya_asks.proofs.Given.OwnedOwned.Refreshes.{refreshing_ends, refreshed, begins_refreshing}
+use Rattle.papaya_asks.proofs.Given.OwnedRuns.Steps.{ends_on, may_step}
 use Rattle.papaya_holds.specs.Came.{NoneCame}
 use Rattle.papaya_holds.proofs.Runs.None.{refreshes_put_none}
 

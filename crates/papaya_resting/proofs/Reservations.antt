@@ -5,9 +5,9 @@ use Rattle.seize_words.specs.declared.fault.Fault.{Fault}
 use Rattle.seize_words.specs.declared.fault.Fault.TheVariants.{Capacity}
 use Rattle.papaya_tables.specs.declared.node.Node.{Node}
 use Rattle.papaya_tables.specs.declared.setting.Setting.{Setting}
-use Rattle.papaya_asks.specs.Given.Late.Faults.{IsRoom}
-use Rattle.papaya_asks.specs.Given.Owned.Owned.{Holds}
-use Rattle.papaya_asks.specs.Given.Owned.Rooms.{CannotMakeRoom, HasRoomFor, RoomBy}
+use Rattle.papaya_asks.specs.Given.LateFaults.{IsRoom}
+use Rattle.papaya_asks.specs.Given.OwnedOwned.{Holds}
+use Rattle.papaya_asks.specs.Given.OwnedRooms.{CannotMakeRoom, HasRoomFor, RoomBy}
 
 module _ {K V : Type 0} (same : K → K → Bool) (hash : K → ℕ) (setting : Setting) (additional : ℕ) (m : Mem (Node K V)) (xs : List (K × V)) where
   pub room_holds : (r : Result (Unit {0}) Fault) → RoomBy same hash setting additional m xs r → Holds same hash setting m xs

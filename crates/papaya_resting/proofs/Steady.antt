@@ -7,13 +7,13 @@ use Rattle.seize_words.specs.declared.fault.Fault.{Fault}
 use Rattle.papaya_tables.specs.declared.node.Node.{Node}
 use Rattle.papaya_tables.specs.declared.setting.Setting.{Setting}
 use Rattle.papaya_raw.specs.declared.machines.answer.KeyAnswer.{KeyAnswer}
-use Rattle.papaya_asks.specs.Given.Callers.Pairs.{Given, kind_of}
+use Rattle.papaya_asks.specs.Given.CallersPairs.{Given, kind_of}
 use Rattle.papaya_raw.specs.Given.Sweeps.SweepPoints.{removes}
 use Rattle.papaya_raw.specs.Given.Sweeps.declared.sweep.Purpose.{Purpose}
-use Rattle.papaya_holds.specs.Given.Sifts.Sweeping.{HasSwept}
-use Rattle.papaya_asks.specs.Given.Owned.Calling.{HasStopped, stop_by}
-use Rattle.papaya_asks.specs.Given.Owned.Owned.{Holds}
-use Rattle.papaya_asks.specs.Given.Owned.declared.machines.Stop.{Stop}
+use Rattle.papaya_holds.specs.Given.SiftsSweeping.{HasSwept}
+use Rattle.papaya_asks.specs.Given.OwnedCalling.{HasStopped, stop_by}
+use Rattle.papaya_asks.specs.Given.OwnedOwned.{Holds}
+use Rattle.papaya_asks.specs.Given.OwnedDeclared.machines.Stop.{Stop}
 use Rattle.papaya_steady.specs.Steady.{HasOneTable, OnlyRemoves}
 use Rattle.papaya_steady.proofs.Calls.Runs.{removals_are_steady}
 use Rattle.papaya_steady.proofs.Refreshes.{refreshes_keep_one_table}

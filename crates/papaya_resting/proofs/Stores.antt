@@ -6,28 +6,28 @@ use Rattle.seize_words.specs.Mem.{Mem, value_at}
 use Rattle.seize_words.specs.Word.{block_in}
 use Rattle.seize_words.specs.declared.fault.Fault.{Fault}
 use Rattle.seize_words.specs.declared.fault.Fault.TheVariants.{Capacity}
-use Rattle.papaya_asks.specs.Given.Shown.Chain.{CannotGrowIn}
+use Rattle.papaya_asks.specs.Given.ShownChain.{CannotGrowIn}
 use Rattle.papaya_tables.specs.declared.node.Node.{Node}
 use Rattle.papaya_tables.specs.declared.node.Node.TheVariants as node
 use Rattle.papaya_tables.specs.declared.setting.Setting.{Setting}
 use Rattle.papaya_raw.specs.CallPoints.{inserting, trying_to_insert}
 use Rattle.papaya_raw.specs.declared.machines.answer.KeyAnswer.TheVariants as answers
 use Rattle.papaya_raw.specs.declared.machines.call.KeyCall.{KeyCall}
-use Rattle.papaya_asks.specs.Given.Callers.Kind.{Kind, inserts, tries_to_insert}
-use Rattle.papaya_asks.specs.Given.Callers.Pairs.{Begun}
-use Rattle.papaya_asks.specs.Given.Callers.Together.{Inserts, TriesToInsert}
-use Rattle.papaya_asks.specs.Given.Late.Kinds.{FaultFits}
-use Rattle.papaya_asks.specs.Given.Owned.Calling.{IsCalling, HasStopped, begun}
-use Rattle.papaya_asks.specs.Given.Owned.Ending.{Ends, RunsTo}
-use Rattle.papaya_asks.specs.Given.Owned.Machines.{on_key_plan}
-use Rattle.papaya_asks.specs.Given.Owned.Owned.{Holds, EndsBy, ComesBack, IsPairAt, found_by, left_by}
-use Rattle.papaya_asks.specs.Given.Owned.declared.machines.OnKey.{OnKey}
-use Rattle.papaya_asks.specs.Given.Owned.declared.machines.Stop.{Stop}
-use Rattle.papaya_asks.specs.Given.Owned.declared.machines.Stop.TheVariants as stop
-use Rattle.papaya_asks.proofs.Given.Owned.Owned.Calls.{UnderIt, begins_under, ends_by}
-use Rattle.papaya_asks.proofs.Given.Owned.Owned.ComesBack.{comes_back}
-use Rattle.papaya_asks.proofs.Given.Owned.Owned.HandsBack.{HasPair}
-use Rattle.papaya_asks.proofs.Given.Owned.Owned.Keys.{under_ends, comes_to}
+use Rattle.papaya_asks.specs.Given.CallersKind.{Kind, inserts, tries_to_insert}
+use Rattle.papaya_asks.specs.Given.CallersPairs.{Begun}
+use Rattle.papaya_asks.specs.Given.CallersTogether.{Inserts, TriesToInsert}
+use Rattle.papaya_asks.specs.Given.LateKinds.{FaultFits}
+use Rattle.papaya_asks.specs.Given.OwnedCalling.{IsCalling, HasStopped, begun}
+use Rattle.papaya_asks.specs.Given.OwnedEnding.{Ends, RunsTo}
+use Rattle.papaya_asks.specs.Given.OwnedMachines.{on_key_plan}
+use Rattle.papaya_asks.specs.Given.OwnedOwned.{Holds, EndsBy, ComesBack, IsPairAt, found_by, left_by}
+use Rattle.papaya_asks.specs.Given.OwnedDeclared.machines.OnKey.{OnKey}
+use Rattle.papaya_asks.specs.Given.OwnedDeclared.machines.Stop.{Stop}
+use Rattle.papaya_asks.specs.Given.OwnedDeclared.machines.Stop.TheVariants as stop
+use Rattle.papaya_asks.proofs.Given.OwnedOwned.Calls.{UnderIt, begins_under, ends_by}
+use Rattle.papaya_asks.proofs.Given.OwnedOwned.ComesBack.{comes_back}
+use Rattle.papaya_asks.proofs.Given.OwnedOwned.HandsBack.{HasPair}
+use Rattle.papaya_asks.proofs.Given.OwnedOwned.Keys.{under_ends, comes_to}
 use Rattle.papaya_resting.specs.Calls.{StoresPair, has_found, has_replaced}
 use Rattle.papaya_resting.specs.Lasts.{IsPairOf, RestsWith, words_of_stop}
 use Rattle.papaya_resting.specs.declared.last.Last.{Last}

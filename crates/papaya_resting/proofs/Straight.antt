@@ -27,14 +27,14 @@ use Rattle.papaya_raw.specs.declared.machines.call.Calling.TheVariants as at
 use Rattle.papaya_raw.specs.declared.machines.call.KeyCall.{KeyCall}
 use Rattle.papaya_straight.specs.Going.{CallGoes}
 use Rattle.seize_straight.specs.Runs.{Leads, Tells}
-use Rattle.papaya_asks.specs.Given.Owned.Ending.{Ends, stops, goes}
-use Rattle.papaya_asks.specs.Given.Owned.Machines.{on_call, on_key_plan}
+use Rattle.papaya_asks.specs.Given.OwnedEnding.{Ends, stops, goes}
+use Rattle.papaya_asks.specs.Given.OwnedMachines.{on_call, on_key_plan}
 use Rattle.papaya_resting.specs.Storing.{StoresTo, storing, with_own}
-use Rattle.papaya_asks.specs.Given.Owned.declared.machines.OnKey.{OnKey}
-use Rattle.papaya_asks.specs.Given.Owned.declared.machines.Stop.{Stop}
-use Rattle.papaya_asks.specs.Given.Owned.declared.machines.Stop.TheVariants as stop
-use Rattle.papaya_asks.proofs.Given.Owned.Runs.Steps.{ends_on}
-use Rattle.papaya_asks.proofs.Given.Owned.Straight.{runs_out, runs_there}
+use Rattle.papaya_asks.specs.Given.OwnedDeclared.machines.OnKey.{OnKey}
+use Rattle.papaya_asks.specs.Given.OwnedDeclared.machines.Stop.{Stop}
+use Rattle.papaya_asks.specs.Given.OwnedDeclared.machines.Stop.TheVariants as stop
+use Rattle.papaya_asks.proofs.Given.OwnedRuns.Steps.{ends_on}
+use Rattle.papaya_asks.proofs.Given.OwnedStraight.{runs_out, runs_there}
 
 module _ {K V S : Type 0} (same : K → K → Bool) (hashes : S → K → ℕ) (setting : Setting) (hasher : Bor S) (hash : ℕ) (there : There) where
   abbrev plan_of : OnKey K V K S → Plan (Node K V) (OnKey K V K S × Progress Stop)

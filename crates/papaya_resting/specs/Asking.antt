@@ -6,13 +6,13 @@ use Rattle.papaya_raw.specs.declared.machines.answer.KeyAnswer.{KeyAnswer}
 use Rattle.papaya_raw.specs.declared.machines.answer.KeyAnswer.TheVariants as answers
 use Rattle.papaya_raw.specs.declared.machines.asking.Reply.{Reply}
 use Rattle.papaya_raw.specs.declared.machines.asking.Reply.TheVariants as reply
-use Rattle.papaya_asks.specs.Given.Late.Faults.{IsRoom}
+use Rattle.papaya_asks.specs.Given.LateFaults.{IsRoom}
 use Rattle.papaya_asks.specs.Closures.{Computing}
 use Rattle.papaya_asks.specs.declared.computing.Computed.{Computed}
 use Rattle.papaya_asks.specs.declared.computing.Computed.TheVariants as computed
 use Rattle.papaya_operation.specs.declared.operation.Operation.{Operation}
 use Rattle.papaya_operation.specs.declared.operation.Operation.TheVariants as operation
-use Rattle.papaya_asks.specs.Given.Owned.Owned.{found_by, left_by}
+use Rattle.papaya_asks.specs.Given.OwnedOwned.{found_by, left_by}
 use Rattle.papaya_resting.specs.declared.change.Change.{Change}
 use Rattle.papaya_resting.specs.declared.change.Change.TheVariants as change
 use Rattle.papaya_resting.specs.declared.change.Compute.{Compute}

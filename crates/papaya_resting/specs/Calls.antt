@@ -3,10 +3,10 @@ use Rattle.std.specs.Prelude.{◌≡◌, ℕ, Bool, true, false, ◌⊎◌}
 use Rattle.papaya_tables.specs.declared.setting.Setting.{Setting}
 use Rattle.papaya_raw.specs.CallPoints.{inserting, trying_to_insert}
 use Rattle.papaya_raw.specs.declared.machines.call.KeyCall.{KeyCall}
-use Rattle.papaya_asks.specs.Given.Callers.Kind.{Kind, inserts, tries_to_insert}
+use Rattle.papaya_asks.specs.Given.CallersKind.{Kind, inserts, tries_to_insert}
 use Rattle.papaya_raw.specs.declared.machines.answer.KeyAnswer.TheVariants as answers
-use Rattle.papaya_asks.specs.Given.Owned.declared.machines.Stop.{Stop}
-use Rattle.papaya_asks.specs.Given.Owned.declared.machines.Stop.TheVariants as stop
+use Rattle.papaya_asks.specs.Given.OwnedDeclared.machines.Stop.{Stop}
+use Rattle.papaya_asks.specs.Given.OwnedDeclared.machines.Stop.TheVariants as stop
 
 -- a call on one key has removed a pair
 abbrev pub has_removed : Stop → Bool

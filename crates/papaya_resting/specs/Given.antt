@@ -5,6 +5,6 @@ pub use Rattle.papaya_asks.specs.Given.Owned.Rooms.{AreTooMany, IsUnmade}
 pub use Rattle.papaya_holds.specs.Given.Sifts.Retaining.{AnswersByTest, AskedAlong, KeepsOf}
 pub use Rattle.papaya_asks.specs.Given.Whole.Contents.{HasOneEach, pair_for}
 pub use Rattle.papaya_steady.specs.Steady.{HasOneTable}
-pub use Rattle.papaya_raw.specs.Given.Reserves
-pub use Rattle.papaya_raw.specs as Raw
-pub use Rattle.papaya_asks.specs as Asks
+pub use Rattle.papaya_raw.specs.Given.Reserves.Reserve as ReservesReserve
+pub use Rattle.papaya_raw.specs.declared as RawDeclared
+pub use Rattle.papaya_asks.specs.Closures as AsksClosures

@@ -7,9 +7,9 @@ use Rattle.seize.specs.declared.states.TheConstants.{ACTIVE}
 use Rattle.papaya_tables.specs.Nodes.{deferred_word}
 use Rattle.papaya_tables.specs.declared.node.Node.{Node}
 use Rattle.papaya_tables.specs.declared.setting.Setting.{Setting}
-use Rattle.papaya_asks.specs.Given.Owned.Ending.{RunsTo}
-use Rattle.papaya_asks.specs.Given.Owned.Machines.{refreshes_plan}
-use Rattle.papaya_asks.specs.Given.Owned.declared.machines.Refreshes.{Refreshes}
+use Rattle.papaya_asks.specs.Given.OwnedEnding.{RunsTo}
+use Rattle.papaya_asks.specs.Given.OwnedMachines.{refreshes_plan}
+use Rattle.papaya_asks.specs.Given.OwnedDeclared.machines.Refreshes.{Refreshes}
 
 module _ {K V : Type 0} (setting : Setting) where
   -- the section was refreshed: the row that does so was run to its end

@@ -13,10 +13,10 @@ use Rattle.papaya_raw.specs.declared.machines.answer.There.{There}
 use Rattle.papaya_raw.specs.declared.machines.answer.Missing.TheVariants as missing
 use Rattle.papaya_raw.specs.declared.machines.call.Calling.{Calling}
 use Rattle.papaya_raw.specs.declared.machines.call.Calling.TheVariants as at
-use Rattle.papaya_asks.specs.Given.Owned.Ending.{RunsTo}
-use Rattle.papaya_asks.specs.Given.Owned.Machines.{on_key_plan}
-use Rattle.papaya_asks.specs.Given.Owned.declared.machines.OnKey.{OnKey}
-use Rattle.papaya_asks.specs.Given.Owned.declared.machines.Stop.{Stop}
+use Rattle.papaya_asks.specs.Given.OwnedEnding.{RunsTo}
+use Rattle.papaya_asks.specs.Given.OwnedMachines.{on_key_plan}
+use Rattle.papaya_asks.specs.Given.OwnedDeclared.machines.OnKey.{OnKey}
+use Rattle.papaya_asks.specs.Given.OwnedDeclared.machines.Stop.{Stop}
 
 module _ {K V S : Type 0} (setting : Setting) (hasher : Bor S) (hash : ℕ) (there : There) where
   -- it begins

@@ -1,17 +1,17 @@
 //! Refreshes of the owner's section, and removals. Each change begins with a refresh.
 ghost use Rattle.std.specs.Prelude.{◌≡◌, List, [], None, is_some, IfErr, IfOk, IsOk, OnOk, OnErr, Err};
-ghost use Rattle.papaya_asks.specs.Given.Late.Faults.{IsRoom};
-ghost use Rattle.papaya_asks.specs.Given.Shown.Chain.{CannotGrowIn};
+ghost use Rattle.papaya_asks.specs.Given.LateFaults.{IsRoom};
+ghost use Rattle.papaya_asks.specs.Given.ShownChain.{CannotGrowIn};
 ghost use Rattle.seize_words.specs.declared.fault.Fault.TheVariants.{Capacity};
 ghost use Rattle.papaya_holds.specs.Came.{NoneCame};
 ghost use Rattle.papaya_holds.specs.Held.{HoldsOn, held_in};
-ghost use Rattle.papaya_asks.specs.Given.Owned.Owned.{Holds, found_by, hashed_by, left_by};
+ghost use Rattle.papaya_asks.specs.Given.OwnedOwned.{Holds, found_by, hashed_by, left_by};
 ghost use Rattle.papaya_resting.specs.Calls.{has_removed};
 ghost use Rattle.papaya_resting.specs.Lasts.{RestsWith};
 ghost use Rattle.papaya_resting.specs.Refreshed.{HasRefreshed, OnceRefreshed};
-ghost use Rattle.papaya_asks.specs.Given.Owned.Calling.{HasStopped};
-ghost use Rattle.papaya_asks.specs.Given.Callers.Pairs.{Begun};
-ghost use Rattle.papaya_asks.specs.Given.Callers.Kind.{removes};
+ghost use Rattle.papaya_asks.specs.Given.OwnedCalling.{HasStopped};
+ghost use Rattle.papaya_asks.specs.Given.CallersPairs.{Begun};
+ghost use Rattle.papaya_asks.specs.Given.CallersKind.{removes};
 ghost use Rattle.papaya_asks.specs.Asking.{by_lent};
 ghost use Rattle.papaya_steady.specs.Steady.{HasOneTable};
 

@@ -2,16 +2,16 @@
 ghost use Rattle.std.specs.Prelude.{◌≡◌, List, Some, IfErr, [], Err};
 ghost use Rattle.papaya_asks.specs.Closures.{ComputesAs, ComputingTakes};
 ghost use Rattle.papaya_holds.specs.Held.{HoldsOn, held_in};
-ghost use Rattle.papaya_asks.specs.Given.Shown.Chain.{CannotGrowIn};
-ghost use Rattle.papaya_asks.specs.Given.Owned.Owned.{Holds, found_by, hashed_by};
+ghost use Rattle.papaya_asks.specs.Given.ShownChain.{CannotGrowIn};
+ghost use Rattle.papaya_asks.specs.Given.OwnedOwned.{Holds, found_by, hashed_by};
 ghost use Rattle.papaya_resting.specs.Asking.{ComputesToIt};
 ghost use Rattle.papaya_resting.specs.Held.{stored_computing};
 ghost use Rattle.papaya_resting.specs.Lasts.{RestsWith, pair_in};
 ghost use Rattle.seize_words.specs.declared.fault.Fault.TheVariants.{Capacity};
 ghost use Rattle.papaya_resting.specs.Refreshed.{OnceRefreshed};
-ghost use Rattle.papaya_asks.specs.Given.Owned.Calling.{HasStopped};
-ghost use Rattle.papaya_asks.specs.Given.Callers.Pairs.{IsTold};
-ghost use Rattle.papaya_asks.specs.Given.Callers.Kind.{computes};
+ghost use Rattle.papaya_asks.specs.Given.OwnedCalling.{HasStopped};
+ghost use Rattle.papaya_asks.specs.Given.CallersPairs.{IsTold};
+ghost use Rattle.papaya_asks.specs.Given.CallersKind.{computes};
 
 use crate::change::{Compute, computed};
 use crate::changes::refresh;

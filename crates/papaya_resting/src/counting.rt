@@ -1,6 +1,6 @@
 //! How many pairs a memory has.
 ghost use Rattle.std.specs.Prelude.{◌≡◌, List, length};
-ghost use Rattle.papaya_asks.specs.Given.Owned.Owned.{Holds, hashed_by};
+ghost use Rattle.papaya_asks.specs.Given.OwnedOwned.{Holds, hashed_by};
 
 use papaya_tables::{Counter, Node, Setting};
 use seize_words::{At, Look, Plain};

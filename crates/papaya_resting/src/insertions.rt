@@ -1,14 +1,14 @@
 //! Insertions, each after a refresh.
 ghost use Rattle.std.specs.Prelude.{◌≡◌, true, false, List, [], ◌∷◌, ◌++◌, None, Some, is_some, IsTrue, IfOk, IfErr, OnOk, OnErr, Err};
-ghost use Rattle.papaya_asks.specs.Given.Callers.Kind.{Kind, inserts, tries_to_insert};
-ghost use Rattle.papaya_asks.specs.Given.Late.Faults.{IsRoom};
-ghost use Rattle.papaya_asks.specs.Given.Shown.Chain.{CannotGrowIn};
+ghost use Rattle.papaya_asks.specs.Given.CallersKind.{Kind, inserts, tries_to_insert};
+ghost use Rattle.papaya_asks.specs.Given.LateFaults.{IsRoom};
+ghost use Rattle.papaya_asks.specs.Given.ShownChain.{CannotGrowIn};
 ghost use Rattle.seize_words.specs.declared.fault.Fault.TheVariants.{Capacity};
 ghost use Rattle.papaya_tables.specs.declared.node.Node.TheVariants as node;
 ghost use Rattle.papaya_holds.specs.Held.{HoldsOn, held_in};
-ghost use Rattle.papaya_asks.specs.Given.Callers.Pairs.{Begun};
-ghost use Rattle.papaya_asks.specs.Given.Owned.Calling.{HasStopped};
-ghost use Rattle.papaya_asks.specs.Given.Owned.Owned.{Holds, EndsBy, ComesBack, found_by, hashed_by, left_by};
+ghost use Rattle.papaya_asks.specs.Given.CallersPairs.{Begun};
+ghost use Rattle.papaya_asks.specs.Given.OwnedCalling.{HasStopped};
+ghost use Rattle.papaya_asks.specs.Given.OwnedOwned.{Holds, EndsBy, ComesBack, found_by, hashed_by, left_by};
 ghost use Rattle.papaya_resting.specs.Storing.{storing};
 ghost use Rattle.papaya_resting.specs.Calls.{StoresPair, has_found, has_replaced};
 ghost use Rattle.papaya_resting.specs.Held.{if_stored, if_tried};

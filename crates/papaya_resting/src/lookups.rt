@@ -1,6 +1,6 @@
 //! A lookup. It reads words, and takes no memory.
 ghost use Rattle.std.specs.Prelude.{◌≡◌, List, option_map};
-ghost use Rattle.papaya_asks.specs.Given.Owned.Owned.{Holds, found_by, hashed_by};
+ghost use Rattle.papaya_asks.specs.Given.OwnedOwned.{Holds, found_by, hashed_by};
 
 use papaya_asks::papaya_owned::find;
 use papaya_raw::machines::Lookup;

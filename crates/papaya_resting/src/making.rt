@@ -5,12 +5,12 @@ ghost use Rattle.seize_words.specs.Mem.{value_at, word_at};
 ghost use Rattle.seize_words.specs.declared.at.At.TheVariants.{Root, Used};
 ghost use Rattle.seize_words.specs.declared.fault.Fault.TheVariants.{Capacity, Memory};
 ghost use Rattle.seize.specs.World.{IsInside};
-ghost use Rattle.papaya_asks.specs.Given.SeizeAlone.Alone.{History, IsHistory};
+ghost use Rattle.papaya_asks.specs.Given.SeizeAloneAlone.{History, IsHistory};
 ghost use Rattle.papaya_tables.specs.Lengths.{IsTableLen};
 ghost use Rattle.papaya_tables.specs.Nodes.{deferred_word};
 ghost use Rattle.papaya_holds.specs.Held.{held_in};
-ghost use Rattle.papaya_asks.specs.Given.Owned.Owned.{Holds, hashed_by};
-ghost use Rattle.papaya_asks.specs.Given.Owned.Rooms.{AreTooMany, ShowTables, tables_for, tables_with};
+ghost use Rattle.papaya_asks.specs.Given.OwnedOwned.{Holds, hashed_by};
+ghost use Rattle.papaya_asks.specs.Given.OwnedRooms.{AreTooMany, ShowTables, tables_for, tables_with};
 
 use papaya_asks::papaya_owned::run;
 use papaya_raw::machines::NewMap;

@@ -1,12 +1,12 @@
 //! Room for further pairs, after a refresh.
 ghost use Rattle.std.specs.Prelude.{◌≡◌, Err, List, [], length, IfErr, OnOk};
-ghost use Rattle.papaya_asks.specs.Given.Late.Faults.{IsRoom};
+ghost use Rattle.papaya_asks.specs.Given.LateFaults.{IsRoom};
 ghost use Rattle.papaya_holds.specs.Held.{HoldsOn, held_in};
-ghost use Rattle.papaya_asks.specs.Given.Owned.Owned.{Holds, hashed_by};
-ghost use Rattle.papaya_asks.specs.Given.Owned.Rooms.{CannotMakeRoom, HasRoomFor, NeedTooMany};
-ghost use Rattle.papaya_asks.specs.Given.Owned.Ending.{HasCome};
+ghost use Rattle.papaya_asks.specs.Given.OwnedOwned.{Holds, hashed_by};
+ghost use Rattle.papaya_asks.specs.Given.OwnedRooms.{CannotMakeRoom, HasRoomFor, NeedTooMany};
+ghost use Rattle.papaya_asks.specs.Given.OwnedEnding.{HasCome};
 ghost use Rattle.papaya_raw.specs.Given.Reserves.Reserve.{reserving};
-ghost use Rattle.papaya_asks.specs.Given.Owned.Machines.{for_room_plan};
+ghost use Rattle.papaya_asks.specs.Given.OwnedMachines.{for_room_plan};
 ghost use Rattle.papaya_resting.specs.Refreshed.{OnceRefreshed};
 ghost use Rattle.seize_words.specs.declared.fault.Fault.TheVariants.{Capacity};
 

@@ -1,7 +1,7 @@
 //! A call that stores a pair of its own: straight code up to an end of the call, or a machine from where that stops.
 ghost use Rattle.std.specs.Prelude.{◌≡◌};
-ghost use Rattle.papaya_asks.specs.Given.Owned.Ending.{Ends};
-ghost use Rattle.papaya_asks.specs.Given.Owned.Machines.{on_key_plan};
+ghost use Rattle.papaya_asks.specs.Given.OwnedEnding.{Ends};
+ghost use Rattle.papaya_asks.specs.Given.OwnedMachines.{on_key_plan};
 ghost use Rattle.papaya_resting.specs.Storing.{StoresTo, storing, with_own};
 ghost use Rattle.papaya_raw.specs.CallPoints.{untried};
 ghost use Rattle.papaya_raw.specs.declared.machines.call.Calling.TheVariants as at;

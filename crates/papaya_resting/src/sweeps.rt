@@ -1,13 +1,13 @@
 //! What goes over all pairs, and removes them, each after a refresh.
 ghost use Rattle.std.specs.Prelude.{◌≡◌, List, [], IfErr, IsOk, OnOk, OnErr};
-ghost use Rattle.papaya_asks.specs.Given.Late.Faults.{IsRoom};
-ghost use Rattle.papaya_asks.specs.Given.Shown.Chain.{CannotGrowIn};
+ghost use Rattle.papaya_asks.specs.Given.LateFaults.{IsRoom};
+ghost use Rattle.papaya_asks.specs.Given.ShownChain.{CannotGrowIn};
 ghost use Rattle.papaya_holds.specs.Held.{HoldsOn, held_in};
-ghost use Rattle.papaya_asks.specs.Given.Owned.Owned.{Holds, hashed_by};
-ghost use Rattle.papaya_holds.specs.Given.Sifts.Retaining.{KeepsOf};
+ghost use Rattle.papaya_asks.specs.Given.OwnedOwned.{Holds, hashed_by};
+ghost use Rattle.papaya_holds.specs.Given.SiftsRetaining.{KeepsOf};
 ghost use Rattle.papaya_raw.specs.Given.Sweeps.declared.sweep.Purpose.TheVariants.{Clears, Retains};
 ghost use Rattle.papaya_resting.specs.Refreshed.{OnceRefreshed};
-ghost use Rattle.papaya_holds.specs.Given.Sifts.Sweeping.{HasSwept};
+ghost use Rattle.papaya_holds.specs.Given.SiftsSweeping.{HasSwept};
 ghost use Rattle.papaya_steady.specs.Steady.{HasOneTable};
 ghost use Rattle.seize_words.specs.declared.fault.Fault.TheVariants.{Capacity};
 

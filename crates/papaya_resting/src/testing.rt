@@ -3,15 +3,15 @@ ghost use Rattle.std.specs.Prelude.{◌≡◌, List, [], None, IfErr, IsOk, Err}
 ghost use Rattle.std.specs.Option.{ForSome};
 ghost use Rattle.papaya_asks.specs.Closures.{Removing, TestsAs, TestTakes};
 ghost use Rattle.papaya_holds.specs.Held.{HoldsOn, held_in};
-ghost use Rattle.papaya_asks.specs.Given.Shown.Chain.{CannotGrowIn};
-ghost use Rattle.papaya_asks.specs.Given.Owned.Owned.{Holds, found_by, hashed_by};
+ghost use Rattle.papaya_asks.specs.Given.ShownChain.{CannotGrowIn};
+ghost use Rattle.papaya_asks.specs.Given.OwnedOwned.{Holds, found_by, hashed_by};
 ghost use Rattle.papaya_resting.specs.Asking.{ComesToIt};
 ghost use Rattle.papaya_resting.specs.Lasts.{RestsWith};
 ghost use Rattle.seize_words.specs.declared.fault.Fault.TheVariants.{Capacity};
 ghost use Rattle.papaya_resting.specs.Refreshed.{OnceRefreshed};
-ghost use Rattle.papaya_asks.specs.Given.Owned.Calling.{HasStopped};
-ghost use Rattle.papaya_asks.specs.Given.Callers.Pairs.{IsTold};
-ghost use Rattle.papaya_asks.specs.Given.Callers.Kind.{removes_if};
+ghost use Rattle.papaya_asks.specs.Given.OwnedCalling.{HasStopped};
+ghost use Rattle.papaya_asks.specs.Given.CallersPairs.{IsTold};
+ghost use Rattle.papaya_asks.specs.Given.CallersKind.{removes_if};
 ghost use Rattle.papaya_asks.specs.Asking.{by_lent};
 ghost use Rattle.papaya_steady.specs.Steady.{HasOneTable};
 

@@ -1,18 +1,18 @@
 -- What is nothing to what is shown: of a moment all but its pairs, maps, tables and calls.
 use Rattle.std.specs.Prelude.{◌≡◌, ℕ, Bool, List}
 use Rattle.std.proofs.Common.{refl}
-use Rattle.papaya_logged.specs.Given.Runs.Present.{Present}
-use Rattle.papaya_logged.specs.Given.Schedules.Moment.{Remains, Sheltered, Moment}
-use Rattle.papaya_logged.specs.Given.Finishes.Maps.{Standing}
-use Rattle.papaya_logged.specs.Given.Effects.Known.{Known, known as noted_in}
-use Rattle.papaya_logged.specs.Given.Follows.Maps.{ShowsMap}
-use Rattle.papaya_logged.specs.Given.Moments.Whole.{ShowsWhole}
-use Rattle.papaya_logged.specs.Given.Kept.Kept.{ShowsKept}
-use Rattle.papaya_logged.proofs.Given.Kept.Stays.{stays_kept}
-use Rattle.papaya_logged.proofs.Given.Remains.Stays.{stays_remain}
+use Rattle.papaya_logged.specs.Given.RunsPresent.{Present}
+use Rattle.papaya_logged.specs.Given.SchedulesMoment.{Remains, Sheltered, Moment}
+use Rattle.papaya_logged.specs.Given.FinishesMaps.{Standing}
+use Rattle.papaya_logged.specs.Given.EffectsKnown.{Known, known as noted_in}
+use Rattle.papaya_logged.specs.Given.FollowsMaps.{ShowsMap}
+use Rattle.papaya_logged.specs.Given.MomentsWhole.{ShowsWhole}
+use Rattle.papaya_logged.specs.Given.KeptKept.{ShowsKept}
+use Rattle.papaya_logged.proofs.Given.KeptStays.{stays_kept}
+use Rattle.papaya_logged.proofs.Given.RemainsStays.{stays_remain}
 use Rattle.papaya_logged.specs.Shown.{AreNumbered, IsCounted}
 use Rattle.papaya_logged.specs.declared.logged.Logged.{Logged}
-use Rattle.papaya_logged.specs.Given.Scenes.Scene.{Scene}
+use Rattle.papaya_logged.specs.Given.ScenesScene.{Scene}
 
 -- the moment with other events so far, guards and sections, and with other remains of maps
 abbrev pub elsewhere : {K V : Type 0} → ℕ → Bool → Bool → Bool → Present → ℕ → List Sheltered → List Remains → Moment K V → Moment K V

@@ -3,18 +3,18 @@ use Rattle.std.specs.Prelude.{◌≡◌, ◌≢◌, ◌<◌, ◌≤◌, ◌⊎�
 use Rattle.std.proofs.Common.{refl, sym, ap, subst, ◌∙◌, inl, inr, arith}
 use Rattle.std.proofs.lemmas.Bool.{cases_lt, eq-eqb}
 use Rattle.std.proofs.lemmas.List.{get_or_past}
-use Rattle.papaya_logged.specs.Given.Seize.World.{Use, Rests}
-use Rattle.papaya_logged.specs.Given.Finishes.Machines.{machine_of}
-use Rattle.papaya_logged.specs.Given.Executor.declared.executor.Executor.{Executor}
-use Rattle.papaya_logged.specs.Given.Scenes.declared.row.SlotUse.{SlotUse}
-use Rattle.papaya_logged.specs.Given.Scenes.declared.row.SlotUse.TheVariants as used
-use Rattle.papaya_logged.specs.Given.Scenes.declared.callers.TheConstants.{SLOTS}
-use Rattle.papaya_logged.specs.Given.Executor.declared.worker.Work.{Work}
-use Rattle.papaya_logged.specs.Given.Executor.declared.worker.Work.TheVariants as work
-use Rattle.papaya_logged.proofs.Given.Scenes.NoCall.{none_of}
-use Rattle.papaya_logged.specs.Given.Executor.IsThere.{HasRow, IsThere, IsUsedAs, call_in, ending_in, making_in, use_at, work_of}
-use Rattle.papaya_logged.specs.Given.Scenes.Scene.{Scene}
-use Rattle.papaya_logged.proofs.Given.Scenes.Rows.{never_rests}
+use Rattle.papaya_logged.specs.Given.SeizeWorld.{Use, Rests}
+use Rattle.papaya_logged.specs.Given.FinishesMachines.{machine_of}
+use Rattle.papaya_logged.specs.Given.ExecutorDeclared.executor.Executor.{Executor}
+use Rattle.papaya_logged.specs.Given.ScenesDeclared.row.SlotUse.{SlotUse}
+use Rattle.papaya_logged.specs.Given.ScenesDeclared.row.SlotUse.TheVariants as used
+use Rattle.papaya_logged.specs.Given.ScenesDeclared.callers.TheConstants.{SLOTS}
+use Rattle.papaya_logged.specs.Given.ExecutorDeclared.worker.Work.{Work}
+use Rattle.papaya_logged.specs.Given.ExecutorDeclared.worker.Work.TheVariants as work
+use Rattle.papaya_logged.proofs.Given.ScenesNoCall.{none_of}
+use Rattle.papaya_logged.specs.Given.ExecutorIsThere.{HasRow, IsThere, IsUsedAs, call_in, ending_in, making_in, use_at, work_of}
+use Rattle.papaya_logged.specs.Given.ScenesScene.{Scene}
+use Rattle.papaya_logged.proofs.Given.ScenesRows.{never_rests}
 
 none_mapped : {A B : Type 0} (f : A → B) (o : Option A) → o ≡ None → (b : B) → option_map f o ≡ Some b → ⊥
 none_mapped f None e b h = cc h

@@ -1,33 +1,33 @@
 -- Who has the batch of a slot in hand, wherever the executor is: its row works on that slot, and the slot's word says that the batch is held.
 use Rattle.std.specs.Prelude.{◌≡◌, ◌<◌, ◌+◌, ◌⊎◌, ℕ, Bool, true, IsSome}
 use Rattle.std.proofs.Common.{refl, sym, ap, subst, ◌∙◌, arith}
-use Rattle.papaya_logged.specs.Given.Seize.Settle.{flushing}
-use Rattle.papaya_logged.specs.Given.Seize.World.{World, Row, Rests, Registers, Enters, Settles, Leaves, Defers, Frees, Begin, Flush, at_start, one_more, with_row, with_use}
-use Rattle.papaya_logged.specs.Given.Seize.declared.states.TheConstants.{BATCH, HELD, LAST_SLOT}
-use Rattle.papaya_logged.specs.Given.SeizeWords.Mem.{Mem, word_at}
-use Rattle.papaya_logged.specs.Given.SeizeWords.declared.at.At.TheVariants.{Slot}
-use Rattle.papaya_logged.proofs.Given.SeizeRule.Rows.Others.{with_here}
-use Rattle.papaya_logged.proofs.Given.SeizeRule.Words.Named.{words_of}
-use Rattle.papaya_logged.proofs.Given.SeizeRule.World.Good.{Good}
-use Rattle.papaya_logged.proofs.Given.SeizeRule.World.Kept.{happens_good, row_may}
-use Rattle.papaya_logged.proofs.Given.SeizeRule.World.Start.{start_good}
-use Rattle.papaya_logged.specs.Given.SeizeEnds.Holders.{has_batch}
-use Rattle.papaya_logged.proofs.Given.SeizeEnds.Batches.Rows.{HeldByRows, runs_held, start_held}
-use Rattle.papaya_logged.specs.Given.SeizeActs.Waits.{SettlesOn}
-use Rattle.papaya_logged.proofs.Given.SeizeActs.Waits.{has_its, held_while}
-use Rattle.papaya_logged.specs.Given.Tables.Nodes.{deferred_word}
-use Rattle.papaya_logged.specs.Given.Tables.declared.node.Node.{Node}
-use Rattle.papaya_logged.specs.Given.Callers.Rows.{IsRowOn}
-use Rattle.papaya_logged.specs.Given.Callers.Together.{CameAbout}
-use Rattle.papaya_logged.specs.Given.Executor.declared.executor.Executor.{Executor}
-use Rattle.papaya_logged.specs.Given.Scenes.declared.row.SlotUse.TheVariants as used
-use Rattle.papaya_logged.specs.Given.Scenes.declared.callers.TheConstants.{SLOTS}
+use Rattle.papaya_logged.specs.Given.SeizeSettle.{flushing}
+use Rattle.papaya_logged.specs.Given.SeizeWorld.{World, Row, Rests, Registers, Enters, Settles, Leaves, Defers, Frees, Begin, Flush, at_start, one_more, with_row, with_use}
+use Rattle.papaya_logged.specs.Given.SeizeDeclared.states.TheConstants.{BATCH, HELD, LAST_SLOT}
+use Rattle.papaya_logged.specs.Given.SeizeWordsMem.{Mem, word_at}
+use Rattle.papaya_logged.specs.Given.SeizeWordsDeclared.at.At.TheVariants.{Slot}
+use Rattle.papaya_logged.proofs.Given.SeizeRuleRows.Others.{with_here}
+use Rattle.papaya_logged.proofs.Given.SeizeRuleWords.Named.{words_of}
+use Rattle.papaya_logged.proofs.Given.SeizeRuleWorld.Good.{Good}
+use Rattle.papaya_logged.proofs.Given.SeizeRuleWorld.Kept.{happens_good, row_may}
+use Rattle.papaya_logged.proofs.Given.SeizeRuleWorld.Start.{start_good}
+use Rattle.papaya_logged.specs.Given.SeizeEndsHolders.{has_batch}
+use Rattle.papaya_logged.proofs.Given.SeizeEndsBatches.Rows.{HeldByRows, runs_held, start_held}
+use Rattle.papaya_logged.specs.Given.SeizeActsWaits.{SettlesOn}
+use Rattle.papaya_logged.proofs.Given.SeizeActsWaits.{has_its, held_while}
+use Rattle.papaya_logged.specs.Given.TablesNodes.{deferred_word}
+use Rattle.papaya_logged.specs.Given.TablesDeclared.node.Node.{Node}
+use Rattle.papaya_logged.specs.Given.CallersRows.{IsRowOn}
+use Rattle.papaya_logged.specs.Given.CallersTogether.{CameAbout}
+use Rattle.papaya_logged.specs.Given.ExecutorDeclared.executor.Executor.{Executor}
+use Rattle.papaya_logged.specs.Given.ScenesDeclared.row.SlotUse.TheVariants as used
+use Rattle.papaya_logged.specs.Given.ScenesDeclared.callers.TheConstants.{SLOTS}
 use Rattle.papaya_rows.proofs.Facts.{row_rests}
-use Rattle.papaya_logged.proofs.Given.Executor.Fresh.{caller_in, resting}
-use Rattle.papaya_logged.proofs.Given.Executor.Uses.{reached, taken_now}
-use Rattle.papaya_logged.specs.Given.Executor.IsThere.{IsThere, use_at}
-use Rattle.papaya_logged.specs.Given.Executor.OnSlots.{NobodyIn}
-use Rattle.papaya_logged.specs.Given.Scenes.Scene.{Scene, slot_of}
+use Rattle.papaya_logged.proofs.Given.ExecutorFresh.{caller_in, resting}
+use Rattle.papaya_logged.proofs.Given.ExecutorUses.{reached, taken_now}
+use Rattle.papaya_logged.specs.Given.ExecutorIsThere.{IsThere, use_at}
+use Rattle.papaya_logged.specs.Given.ExecutorOnSlots.{NobodyIn}
+use Rattle.papaya_logged.specs.Given.ScenesScene.{Scene, slot_of}
 
 -- a row that settles on a slot is on that one alone
 its_slot : (slot t : ℕ) (row : Row) → SettlesOn slot row → IsRowOn t row → t ≡ slot

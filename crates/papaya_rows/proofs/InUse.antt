@@ -2,13 +2,13 @@
 use Rattle.std.specs.Prelude.{◌==◌, ◌||◌, not, map, if◌then◌else◌}
 use Rattle.std.proofs.Common.{◌≡◌, ℕ, ◌+◌, Bool, true, false, List, [], ◌∷◌, ◌++◌, refl, sym, ap, ◌∙◌, arith, eqb-true}
 use Rattle.std.proofs.lemmas.Bool.{eq-eqb, ne_eqb}
-use Rattle.papaya_logged.specs.Given.Runs.declared.holders.Guard.{Guard}
-use Rattle.papaya_logged.specs.Given.Runs.declared.holders.Registration.{Registration}
-use Rattle.papaya_logged.specs.Given.Runs.Present.{Present, guards_on, has_registration}
-use Rattle.papaya_logged.specs.Given.Schedules.InUse.{used_slots}
-use Rattle.papaya_logged.specs.Given.Schedules.Lists.{is_among}
-use Rattle.papaya_logged.specs.Given.Scenes.declared.row.SlotUse.{SlotUse}
-use Rattle.papaya_logged.specs.Given.Scenes.declared.row.SlotUse.TheVariants as used
+use Rattle.papaya_logged.specs.Given.RunsDeclared.holders.Guard.{Guard}
+use Rattle.papaya_logged.specs.Given.RunsDeclared.holders.Registration.{Registration}
+use Rattle.papaya_logged.specs.Given.RunsPresent.{Present, guards_on, has_registration}
+use Rattle.papaya_logged.specs.Given.SchedulesInUse.{used_slots}
+use Rattle.papaya_logged.specs.Given.SchedulesLists.{is_among}
+use Rattle.papaya_logged.specs.Given.ScenesDeclared.row.SlotUse.{SlotUse}
+use Rattle.papaya_logged.specs.Given.ScenesDeclared.row.SlotUse.TheVariants as used
 use Rattle.papaya_rows.specs.Rows.{used_as}
 
 eqb_turned : (a b : ℕ) → (a == b) ≡ (b == a)

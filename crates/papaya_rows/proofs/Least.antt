@@ -2,7 +2,7 @@
 use Rattle.std.specs.Prelude.{◌==◌, ◌||◌, if◌then◌else◌}
 use Rattle.std.proofs.Common.{◌≡◌, ℕ, zero, suc, ◌+◌, ◌≤◌, ◌<◌, Bool, true, false, List, [], ◌∷◌, length, ◌⊎◌, inl, inr, refl, sym, ap, ◌∙◌, arith, eqb-true}
 use Rattle.std.proofs.lemmas.Bool.{cases_lt}
-use Rattle.papaya_logged.specs.Given.Schedules.Lists.{free_from, is_among, least_free}
+use Rattle.papaya_logged.specs.Given.SchedulesLists.{free_from, is_among, least_free}
 
 -- all numbers before this one are in the list
 abbrev pub AllBefore : ℕ → List ℕ → Type 0

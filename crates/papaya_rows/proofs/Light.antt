@@ -2,32 +2,32 @@
 use Rattle.std.specs.Prelude.{◌==◌, option_map, Option, Some, None, if◌then◌else◌}
 use Rattle.std.proofs.Common.{◌≡◌, ℕ, ◌+◌, Bool, true, ◌⊎◌, inl, inr, refl, sym, ap, subst, ◌∙◌, arith}
 use Rattle.std.proofs.lemmas.Bool.{eq-eqb}
-use Rattle.papaya_logged.specs.Given.Seize.World.{Row, Rests, Vacant}
-use Rattle.papaya_logged.proofs.Given.SeizeRule.Rows.Known.{works_on}
-use Rattle.papaya_logged.proofs.Given.SeizeRule.Rows.Teams.{is_shared, shares}
-use Rattle.papaya_logged.specs.Given.Raw.declared.machines.call.Calling.{Calling}
-use Rattle.papaya_logged.specs.Given.Raw.declared.machines.call.Calling.TheVariants as calling
-use Rattle.papaya_logged.specs.Given.Raw.declared.machines.machine.Machine.{Machine}
-use Rattle.papaya_logged.specs.Given.Resize.declared.copier.Copying.{Copying}
-use Rattle.papaya_logged.specs.Given.Resize.declared.copier.Copying.TheVariants as copies
-use Rattle.papaya_logged.specs.Given.Resize.declared.dispose.Disposing.{Disposing}
-use Rattle.papaya_logged.specs.Given.Resize.declared.dispose.Disposing.TheVariants as disposes
-use Rattle.papaya_logged.specs.Given.Reserves.declared.reserve.Reserving.{Reserving}
-use Rattle.papaya_logged.specs.Given.Reserves.declared.reserve.Reserving.TheVariants as reserving
-use Rattle.papaya_logged.specs.Given.Sweeps.declared.sweep.Sweeping.{Sweeping}
-use Rattle.papaya_logged.specs.Given.Sweeps.declared.sweep.Sweeping.TheVariants as sweeping
-use Rattle.papaya_logged.specs.Given.Callers.OverAll.{row_of_sweep}
-use Rattle.papaya_logged.specs.Given.Callers.Rooms.{row_of_room}
-use Rattle.papaya_logged.specs.Given.Callers.Rows.{row_of, row_of_copier, row_of_disposal}
-use Rattle.papaya_logged.specs.Given.Callers.Together.{UnderWay, OnKey, ForRoom, Counting, OverAll}
-use Rattle.papaya_logged.specs.Given.Finishes.Machines.{machine_of}
-use Rattle.papaya_logged.specs.Given.Finishes.Maps.{Standing}
-use Rattle.papaya_logged.specs.Given.Executor.declared.executor.Executor.{Executor}
-use Rattle.papaya_logged.specs.Given.Executor.declared.worker.Work.{Work}
-use Rattle.papaya_logged.specs.Given.Executor.declared.worker.Work.TheVariants as work
-use Rattle.papaya_logged.proofs.Given.Executor.Uses.{reached}
-use Rattle.papaya_logged.specs.Given.Executor.IsThere.{IsThere, call_in, work_of}
-use Rattle.papaya_logged.specs.Given.Scenes.Scene.{Scene, slot_of}
+use Rattle.papaya_logged.specs.Given.SeizeWorld.{Row, Rests, Vacant}
+use Rattle.papaya_logged.proofs.Given.SeizeRuleRows.Known.{works_on}
+use Rattle.papaya_logged.proofs.Given.SeizeRuleRows.Teams.{is_shared, shares}
+use Rattle.papaya_logged.specs.Given.RawDeclared.machines.call.Calling.{Calling}
+use Rattle.papaya_logged.specs.Given.RawDeclared.machines.call.Calling.TheVariants as calling
+use Rattle.papaya_logged.specs.Given.RawDeclared.machines.machine.Machine.{Machine}
+use Rattle.papaya_logged.specs.Given.ResizeDeclared.copier.Copying.{Copying}
+use Rattle.papaya_logged.specs.Given.ResizeDeclared.copier.Copying.TheVariants as copies
+use Rattle.papaya_logged.specs.Given.ResizeDeclared.dispose.Disposing.{Disposing}
+use Rattle.papaya_logged.specs.Given.ResizeDeclared.dispose.Disposing.TheVariants as disposes
+use Rattle.papaya_logged.specs.Given.ReservesDeclared.reserve.Reserving.{Reserving}
+use Rattle.papaya_logged.specs.Given.ReservesDeclared.reserve.Reserving.TheVariants as reserving
+use Rattle.papaya_logged.specs.Given.SweepsDeclared.sweep.Sweeping.{Sweeping}
+use Rattle.papaya_logged.specs.Given.SweepsDeclared.sweep.Sweeping.TheVariants as sweeping
+use Rattle.papaya_logged.specs.Given.CallersOverAll.{row_of_sweep}
+use Rattle.papaya_logged.specs.Given.CallersRooms.{row_of_room}
+use Rattle.papaya_logged.specs.Given.CallersRows.{row_of, row_of_copier, row_of_disposal}
+use Rattle.papaya_logged.specs.Given.CallersTogether.{UnderWay, OnKey, ForRoom, Counting, OverAll}
+use Rattle.papaya_logged.specs.Given.FinishesMachines.{machine_of}
+use Rattle.papaya_logged.specs.Given.FinishesMaps.{Standing}
+use Rattle.papaya_logged.specs.Given.ExecutorDeclared.executor.Executor.{Executor}
+use Rattle.papaya_logged.specs.Given.ExecutorDeclared.worker.Work.{Work}
+use Rattle.papaya_logged.specs.Given.ExecutorDeclared.worker.Work.TheVariants as work
+use Rattle.papaya_logged.proofs.Given.ExecutorUses.{reached}
+use Rattle.papaya_logged.specs.Given.ExecutorIsThere.{IsThere, call_in, work_of}
+use Rattle.papaya_logged.specs.Given.ScenesScene.{Scene, slot_of}
 
 -- a row works on no slot, or shares the one that it works on
 abbrev IsLight : Row → Type 0

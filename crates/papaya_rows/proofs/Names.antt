@@ -1,9 +1,9 @@
 -- Names of their own: who is there keeps them when one comes, leaves or is forgotten.
 use Rattle.std.proofs.Common.{◌≡◌, ℕ, ◌≤◌, Bool, true, false, List, [], ◌∷◌, ◌++◌, None, refl, sym, ap, ◌∙◌, arith}
-use Rattle.papaya_logged.specs.Given.Runs.declared.holders.Guard.{Guard}
-use Rattle.papaya_logged.specs.Given.Runs.Same.{is_same}
-use Rattle.papaya_logged.specs.Given.Runs.Present.{Present, HaveNames, nobody, guard_of, guards_named, enters_slot, drops, forgets}
-use Rattle.papaya_logged.proofs.Given.Runs.Laws.{same_tells, none_is_named, enters_counts, drops_counts, forgets_counts}
+use Rattle.papaya_logged.specs.Given.RunsDeclared.holders.Guard.{Guard}
+use Rattle.papaya_logged.specs.Given.RunsSame.{is_same}
+use Rattle.papaya_logged.specs.Given.RunsPresent.{Present, HaveNames, nobody, guard_of, guards_named, enters_slot, drops, forgets}
+use Rattle.papaya_logged.proofs.Given.RunsLaws.{same_tells, none_is_named, enters_counts, drops_counts, forgets_counts}
 
 pub nobody_named : HaveNames nobody
 nobody_named = record { guards = λ name. omega arith; registrations = λ name. omega arith; slots = λ slot. omega arith }

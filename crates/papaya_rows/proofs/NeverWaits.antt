@@ -1,30 +1,30 @@
 -- A row that leaves its slot, refreshes or flushes never waits where nobody has the batch of its slot in hand as it begins: it ends done.
 use Rattle.std.specs.Prelude.{◌≡◌, ◌≢◌, ℕ, Bool, true, false, List, Option, Some, None}
 use Rattle.std.proofs.Common.{refl, sym, ap, subst, ◌∙◌}
-use Rattle.papaya_logged.specs.Given.Seize.Leave.{leave_plan}
-use Rattle.papaya_logged.specs.Given.Seize.Settle.{settle_plan}
-use Rattle.papaya_logged.specs.Given.Seize.World.{Row}
-use Rattle.papaya_logged.specs.Given.Seize.declared.rows.settle.Settled.{Settled}
-use Rattle.papaya_logged.specs.Given.Seize.declared.rows.settle.Settled.TheVariants as settled
-use Rattle.papaya_logged.specs.Given.SeizeWords.Mem.{Mem, Took, value_at}
-use Rattle.papaya_logged.specs.Given.SeizeWords.Plan.{Steps}
-use Rattle.papaya_logged.specs.Given.SeizeEnds.Holders.{has_batch}
-use Rattle.papaya_logged.proofs.Given.SeizeActs.Waits.{leaves_wait, settles_wait}
-use Rattle.papaya_logged.specs.Given.Tables.Nodes.{deferred_word}
-use Rattle.papaya_logged.specs.Given.Tables.declared.node.Node.{Node}
-use Rattle.papaya_logged.specs.Given.Teller.declared.changed.Changed.{Changed}
-use Rattle.papaya_logged.specs.Given.Teller.declared.changed.Changed.TheVariants.{Nothing}
-use Rattle.papaya_logged.specs.Given.Schedules.declared.effect.Effect.{Effect}
-use Rattle.papaya_logged.specs.Given.Schedules.Moment.{Moment}
-use Rattle.papaya_logged.specs.Given.Callers.Rows.{IsRowOn}
-use Rattle.papaya_logged.specs.Given.Executor.declared.executor.Executor.{Executor}
-use Rattle.papaya_logged.specs.Given.Scenes.declared.row.RowTold.{RowTold}
-use Rattle.papaya_logged.specs.Given.Scenes.declared.row.RowTold.TheVariants as told
-use Rattle.papaya_logged.specs.Given.Scenes.declared.row.SlotCall.{SlotCall}
-use Rattle.papaya_logged.specs.Given.Scenes.declared.row.SlotRow.{SlotRow}
-use Rattle.papaya_logged.specs.Given.Scenes.declared.row.SlotRow.TheVariants as rows
-use Rattle.papaya_logged.specs.Given.Executor.declared.worker.Work.{Work}
-use Rattle.papaya_logged.specs.Given.Executor.declared.worker.Work.TheVariants.{OnSlot}
+use Rattle.papaya_logged.specs.Given.SeizeLeave.{leave_plan}
+use Rattle.papaya_logged.specs.Given.SeizeSettle.{settle_plan}
+use Rattle.papaya_logged.specs.Given.SeizeWorld.{Row}
+use Rattle.papaya_logged.specs.Given.SeizeDeclared.rows.settle.Settled.{Settled}
+use Rattle.papaya_logged.specs.Given.SeizeDeclared.rows.settle.Settled.TheVariants as settled
+use Rattle.papaya_logged.specs.Given.SeizeWordsMem.{Mem, Took, value_at}
+use Rattle.papaya_logged.specs.Given.SeizeWordsPlan.{Steps}
+use Rattle.papaya_logged.specs.Given.SeizeEndsHolders.{has_batch}
+use Rattle.papaya_logged.proofs.Given.SeizeActsWaits.{leaves_wait, settles_wait}
+use Rattle.papaya_logged.specs.Given.TablesNodes.{deferred_word}
+use Rattle.papaya_logged.specs.Given.TablesDeclared.node.Node.{Node}
+use Rattle.papaya_logged.specs.Given.TellerDeclared.changed.Changed.{Changed}
+use Rattle.papaya_logged.specs.Given.TellerDeclared.changed.Changed.TheVariants.{Nothing}
+use Rattle.papaya_logged.specs.Given.SchedulesDeclared.effect.Effect.{Effect}
+use Rattle.papaya_logged.specs.Given.SchedulesMoment.{Moment}
+use Rattle.papaya_logged.specs.Given.CallersRows.{IsRowOn}
+use Rattle.papaya_logged.specs.Given.ExecutorDeclared.executor.Executor.{Executor}
+use Rattle.papaya_logged.specs.Given.ScenesDeclared.row.RowTold.{RowTold}
+use Rattle.papaya_logged.specs.Given.ScenesDeclared.row.RowTold.TheVariants as told
+use Rattle.papaya_logged.specs.Given.ScenesDeclared.row.SlotCall.{SlotCall}
+use Rattle.papaya_logged.specs.Given.ScenesDeclared.row.SlotRow.{SlotRow}
+use Rattle.papaya_logged.specs.Given.ScenesDeclared.row.SlotRow.TheVariants as rows
+use Rattle.papaya_logged.specs.Given.ExecutorDeclared.worker.Work.{Work}
+use Rattle.papaya_logged.specs.Given.ExecutorDeclared.worker.Work.TheVariants.{OnSlot}
 use Rattle.papaya_logged.specs.OnSlots.{has_come}
 use Rattle.papaya_logged.specs.Shown.{IsShown}
 use Rattle.papaya_logged.specs.declared.logged.Logged.{Logged}
@@ -32,12 +32,12 @@ use Rattle.papaya_rows.specs.Rows.{RowRan}
 use Rattle.papaya_rows.specs.Settling.{IsSettling}
 use Rattle.papaya_rows.proofs.Holders.{good, held}
 use Rattle.papaya_rows.proofs.Ran.{Led, begun_way, goes_led, step_led}
-use Rattle.papaya_logged.proofs.Given.Scenes.Told.{as_step}
-use Rattle.papaya_logged.specs.Given.Executor.IsThere.{HasRow, work_of}
-use Rattle.papaya_logged.specs.Given.Executor.OnSlots.{MayBegin, RowStepsThere, row_on}
-use Rattle.papaya_logged.specs.Given.Scenes.OnSlots.{RowSteps}
-use Rattle.papaya_logged.specs.Given.Scenes.Rows.{begun_row, of_settling}
-use Rattle.papaya_logged.specs.Given.Scenes.Scene.{Scene, row_of, slot_of}
+use Rattle.papaya_logged.proofs.Given.ScenesTold.{as_step}
+use Rattle.papaya_logged.specs.Given.ExecutorIsThere.{HasRow, work_of}
+use Rattle.papaya_logged.specs.Given.ExecutorOnSlots.{MayBegin, RowStepsThere, row_on}
+use Rattle.papaya_logged.specs.Given.ScenesOnSlots.{RowSteps}
+use Rattle.papaya_logged.specs.Given.ScenesRows.{begun_row, of_settling}
+use Rattle.papaya_logged.specs.Given.ScenesScene.{Scene, row_of, slot_of}
 
 module _ (K V : Type 0) where
   abbrev Told : Type 0

@@ -1,39 +1,39 @@
 -- Where a row on a slot has led that ran: the executor is there, maps have the settings that they had, and others have under way what they had.
 use Rattle.std.specs.Prelude.{◌≡◌, ◌≢◌, ℕ, zero, suc, Bool, false, List, Option, Some, None, option_map}
 use Rattle.std.proofs.Common.{sym, ap, subst, ◌∙◌}
-use Rattle.papaya_logged.specs.Given.Seize.World.{World}
-use Rattle.papaya_logged.specs.Given.Seize.declared.progress.Progress.{Progress}
-use Rattle.papaya_logged.specs.Given.Seize.declared.rows.enter.Enter.{Enter}
-use Rattle.papaya_logged.specs.Given.Seize.declared.rows.enter.Unregister.{Unregister}
-use Rattle.papaya_logged.specs.Given.Seize.Enter.{enter_plan, unregister_plan}
-use Rattle.papaya_logged.specs.Given.SeizeWords.Mem.{Mem}
-use Rattle.papaya_logged.proofs.Given.SeizeRule.Rows.Others.{begins_others, steps_others}
-use Rattle.papaya_logged.specs.Given.Tables.Nodes.{deferred_word}
-use Rattle.papaya_logged.specs.Given.Tables.declared.node.Node.{Node}
-use Rattle.papaya_logged.specs.Given.Teller.declared.changed.Changed.{Changed}
-use Rattle.papaya_logged.specs.Given.Teller.declared.changed.Changed.TheVariants.{Nothing}
-use Rattle.papaya_logged.specs.Given.Schedules.declared.effect.Effect.{Effect}
-use Rattle.papaya_logged.specs.Given.Schedules.Moment.{Moment}
-use Rattle.papaya_logged.specs.Given.Executor.declared.executor.Executor.{Executor}
-use Rattle.papaya_logged.specs.Given.Scenes.declared.row.RowTold.{RowTold}
-use Rattle.papaya_logged.specs.Given.Scenes.declared.row.RowTold.TheVariants as told
-use Rattle.papaya_logged.specs.Given.Scenes.declared.row.SlotCall.{SlotCall}
-use Rattle.papaya_logged.specs.Given.Scenes.declared.row.SlotRow.{SlotRow}
-use Rattle.papaya_logged.specs.Given.Scenes.declared.row.SlotRow.TheVariants as rows
-use Rattle.papaya_logged.specs.Given.Executor.declared.worker.Work.TheVariants.{OnSlot}
-use Rattle.papaya_logged.specs.Given.Finishes.Maps.{IsSameMap, Standing}
+use Rattle.papaya_logged.specs.Given.SeizeWorld.{World}
+use Rattle.papaya_logged.specs.Given.SeizeDeclared.progress.Progress.{Progress}
+use Rattle.papaya_logged.specs.Given.SeizeDeclared.rows.enter.Enter.{Enter}
+use Rattle.papaya_logged.specs.Given.SeizeDeclared.rows.enter.Unregister.{Unregister}
+use Rattle.papaya_logged.specs.Given.SeizeEnter.{enter_plan, unregister_plan}
+use Rattle.papaya_logged.specs.Given.SeizeWordsMem.{Mem}
+use Rattle.papaya_logged.proofs.Given.SeizeRuleRows.Others.{begins_others, steps_others}
+use Rattle.papaya_logged.specs.Given.TablesNodes.{deferred_word}
+use Rattle.papaya_logged.specs.Given.TablesDeclared.node.Node.{Node}
+use Rattle.papaya_logged.specs.Given.TellerDeclared.changed.Changed.{Changed}
+use Rattle.papaya_logged.specs.Given.TellerDeclared.changed.Changed.TheVariants.{Nothing}
+use Rattle.papaya_logged.specs.Given.SchedulesDeclared.effect.Effect.{Effect}
+use Rattle.papaya_logged.specs.Given.SchedulesMoment.{Moment}
+use Rattle.papaya_logged.specs.Given.ExecutorDeclared.executor.Executor.{Executor}
+use Rattle.papaya_logged.specs.Given.ScenesDeclared.row.RowTold.{RowTold}
+use Rattle.papaya_logged.specs.Given.ScenesDeclared.row.RowTold.TheVariants as told
+use Rattle.papaya_logged.specs.Given.ScenesDeclared.row.SlotCall.{SlotCall}
+use Rattle.papaya_logged.specs.Given.ScenesDeclared.row.SlotRow.{SlotRow}
+use Rattle.papaya_logged.specs.Given.ScenesDeclared.row.SlotRow.TheVariants as rows
+use Rattle.papaya_logged.specs.Given.ExecutorDeclared.worker.Work.TheVariants.{OnSlot}
+use Rattle.papaya_logged.specs.Given.FinishesMaps.{IsSameMap, Standing}
 use Rattle.papaya_logged.specs.OnSlots.{GoesOnFor, OnSlotLast, StepsOn, has_come}
 use Rattle.papaya_logged.specs.Shown.{IsShown}
 use Rattle.papaya_logged.specs.declared.logged.Logged.{Logged}
 use Rattle.papaya_logged.proofs.RowsFall.{under_way_on}
 use Rattle.papaya_rows.specs.Rows.{RowRan}
 use Rattle.papaya_rows.specs.Stores.{StoresOnce}
-use Rattle.papaya_logged.proofs.Given.Scenes.Told.{as_step}
-use Rattle.papaya_logged.specs.Given.Executor.IsThere.{IsThere, work_of}
-use Rattle.papaya_logged.specs.Given.Executor.OnSlots.{MayBegin, RowBeginsThere, row_on}
-use Rattle.papaya_logged.specs.Given.Scenes.OnSlots.{RowSteps}
-use Rattle.papaya_logged.specs.Given.Scenes.Rows.{begun_row, of_storing, request_of}
-use Rattle.papaya_logged.specs.Given.Scenes.Scene.{Scene, slot_of}
+use Rattle.papaya_logged.proofs.Given.ScenesTold.{as_step}
+use Rattle.papaya_logged.specs.Given.ExecutorIsThere.{IsThere, work_of}
+use Rattle.papaya_logged.specs.Given.ExecutorOnSlots.{MayBegin, RowBeginsThere, row_on}
+use Rattle.papaya_logged.specs.Given.ScenesOnSlots.{RowSteps}
+use Rattle.papaya_logged.specs.Given.ScenesRows.{begun_row, of_storing, request_of}
+use Rattle.papaya_logged.specs.Given.ScenesScene.{Scene, slot_of}
 
 -- a map that is the same has its setting
 setting_same : {K : Type 0} (before after : Option (Standing K)) → IsSameMap before after → option_map (λ st. st.setting) after ≡ option_map (λ st. st.setting) before

@@ -1,23 +1,23 @@
 -- A row that registers is refused for want of memory just by the operation that found no room for a bucket.
 use Rattle.std.specs.Prelude.{nat_lt, Ok, Err, Option, Some, None, if◌then◌else◌}
 use Rattle.std.proofs.Common.{◌≡◌, ℕ, ◌+◌, Bool, true, false, refl, ap}
-use Rattle.papaya_logged.specs.Given.SeizeWords.declared.fault.Fault.{Fault}
-use Rattle.papaya_logged.specs.Given.SeizeWords.declared.fault.Fault.TheVariants.{Memory, SlotsUsedUp}
-use Rattle.papaya_logged.specs.Given.SeizeWords.Mem.{Mem, value_at}
-use Rattle.papaya_logged.specs.Given.SeizeWords.Op.{Out, Room, Found, Stored, Exchanged, Made, Taken, Roomed}
-use Rattle.papaya_logged.specs.Given.SeizeWords.Plan.{Ends}
-use Rattle.papaya_logged.specs.Given.Seize.declared.states.TheConstants.{LAST_SLOT}
-use Rattle.papaya_logged.specs.Given.Seize.declared.progress.Progress.{Progress}
-use Rattle.papaya_logged.specs.Given.Seize.declared.progress.Progress.TheVariants as progress
-use Rattle.papaya_logged.specs.Given.Seize.declared.rows.register.Register.{Register}
-use Rattle.papaya_logged.specs.Given.Seize.declared.rows.register.Registering.{Registering}
-use Rattle.papaya_logged.specs.Given.Seize.declared.rows.register.Registering.TheVariants as at
-use Rattle.papaya_logged.specs.Given.Seize.Register.{begun, looked, widened, taken, further, taking, going, refused, registered, can_be_taken, bucket_needed, plan_at}
-use Rattle.papaya_logged.specs.Given.Tables.declared.node.Node.{Node}
-use Rattle.papaya_logged.specs.Given.Tells.Seen.{seen_of}
-use Rattle.papaya_logged.specs.Given.Teller.Tells.{StepsTold, told_of}
-use Rattle.papaya_logged.specs.Given.Teller.declared.changed.Changed.{Changed}
-use Rattle.papaya_logged.specs.Given.Teller.declared.changed.Changed.TheVariants as changed
+use Rattle.papaya_logged.specs.Given.SeizeWordsDeclared.fault.Fault.{Fault}
+use Rattle.papaya_logged.specs.Given.SeizeWordsDeclared.fault.Fault.TheVariants.{Memory, SlotsUsedUp}
+use Rattle.papaya_logged.specs.Given.SeizeWordsMem.{Mem, value_at}
+use Rattle.papaya_logged.specs.Given.SeizeWordsOp.{Out, Room, Found, Stored, Exchanged, Made, Taken, Roomed}
+use Rattle.papaya_logged.specs.Given.SeizeWordsPlan.{Ends}
+use Rattle.papaya_logged.specs.Given.SeizeDeclared.states.TheConstants.{LAST_SLOT}
+use Rattle.papaya_logged.specs.Given.SeizeDeclared.progress.Progress.{Progress}
+use Rattle.papaya_logged.specs.Given.SeizeDeclared.progress.Progress.TheVariants as progress
+use Rattle.papaya_logged.specs.Given.SeizeDeclared.rows.register.Register.{Register}
+use Rattle.papaya_logged.specs.Given.SeizeDeclared.rows.register.Registering.{Registering}
+use Rattle.papaya_logged.specs.Given.SeizeDeclared.rows.register.Registering.TheVariants as at
+use Rattle.papaya_logged.specs.Given.SeizeRegister.{begun, looked, widened, taken, further, taking, going, refused, registered, can_be_taken, bucket_needed, plan_at}
+use Rattle.papaya_logged.specs.Given.TablesDeclared.node.Node.{Node}
+use Rattle.papaya_logged.specs.Given.TellsSeen.{seen_of}
+use Rattle.papaya_logged.specs.Given.TellerTells.{StepsTold, told_of}
+use Rattle.papaya_logged.specs.Given.TellerDeclared.changed.Changed.{Changed}
+use Rattle.papaya_logged.specs.Given.TellerDeclared.changed.Changed.TheVariants as changed
 
 abbrev is_memory : Progress ℕ → Bool
 is_memory (progress.Refused Memory) = true

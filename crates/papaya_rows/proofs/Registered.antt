@@ -2,10 +2,10 @@
 use Rattle.std.specs.Prelude.{filter, ◌==◌, ◌||◌, not, option_map, if◌then◌else◌}
 use Rattle.std.proofs.Common.{◌≡◌, ℕ, ◌+◌, ◌≤◌, Bool, true, false, cond, List, [], ◌∷◌, ◌++◌, Option, Some, None, refl, sym, ap, ◌∙◌, arith, eqb-true}
 use Rattle.std.proofs.lemmas.Bool.{eq-eqb, ne_eqb}
-use Rattle.papaya_logged.specs.Given.Runs.declared.holders.Registration.{Registration}
-use Rattle.papaya_logged.specs.Given.Runs.Same.{is_same}
-use Rattle.papaya_logged.specs.Given.Runs.Present.{Present, HaveNames, registration_of, registrations_named, registrations_on, has_registration, registers, unregisters}
-use Rattle.papaya_logged.proofs.Given.Runs.Laws.{same_tells}
+use Rattle.papaya_logged.specs.Given.RunsDeclared.holders.Registration.{Registration}
+use Rattle.papaya_logged.specs.Given.RunsSame.{is_same}
+use Rattle.papaya_logged.specs.Given.RunsPresent.{Present, HaveNames, registration_of, registrations_named, registrations_on, has_registration, registers, unregisters}
+use Rattle.papaya_logged.proofs.Given.RunsLaws.{same_tells}
 
 -- a slot has a registration exactly if their number is not zero
 pub has_counted : (slot : ℕ) (registrations : List Registration) → has_registration slot registrations ≡ not (registrations_on slot registrations == 0)

@@ -1,15 +1,15 @@
 -- A row on a slot begins, and runs: what is told of that.
 use Rattle.std.specs.Prelude.{◌≡◌, ℕ, Bool, true, List, Some}
 use Rattle.std.proofs.Common.{◌<◌, ◌+◌, ◌*◌, sym, ap, subst, ◌∙◌, arith}
-use Rattle.papaya_logged.specs.Given.Tables.declared.node.Node.{Node}
-use Rattle.papaya_logged.specs.Given.Schedules.declared.effect.Effect.{Effect}
-use Rattle.papaya_logged.specs.Given.Schedules.Moment.{Moment}
-use Rattle.papaya_logged.specs.Given.Scenes.declared.row.RowTold.{RowTold}
-use Rattle.papaya_logged.specs.Given.Scenes.declared.row.SlotCall.{SlotCall}
-use Rattle.papaya_logged.specs.Given.Scenes.declared.row.SlotRow.{SlotRow}
-use Rattle.papaya_logged.specs.Given.Scenes.declared.row.SlotUse.{SlotUse}
-use Rattle.papaya_logged.specs.Given.Scenes.declared.callers.TheConstants.{SLOTS}
-use Rattle.papaya_logged.specs.Given.Executor.declared.worker.Work.TheVariants.{OnSlot}
+use Rattle.papaya_logged.specs.Given.TablesDeclared.node.Node.{Node}
+use Rattle.papaya_logged.specs.Given.SchedulesDeclared.effect.Effect.{Effect}
+use Rattle.papaya_logged.specs.Given.SchedulesMoment.{Moment}
+use Rattle.papaya_logged.specs.Given.ScenesDeclared.row.RowTold.{RowTold}
+use Rattle.papaya_logged.specs.Given.ScenesDeclared.row.SlotCall.{SlotCall}
+use Rattle.papaya_logged.specs.Given.ScenesDeclared.row.SlotRow.{SlotRow}
+use Rattle.papaya_logged.specs.Given.ScenesDeclared.row.SlotUse.{SlotUse}
+use Rattle.papaya_logged.specs.Given.ScenesDeclared.callers.TheConstants.{SLOTS}
+use Rattle.papaya_logged.specs.Given.ExecutorDeclared.worker.Work.TheVariants.{OnSlot}
 use Rattle.papaya_logged.specs.Ended.{has_ended, uses_ended}
 use Rattle.papaya_logged.specs.Goes.{RowGoes, RowGone, far}
 use Rattle.papaya_logged.specs.OnSlots.{EndsTelling, OnSlotBegins, OnSlotComes, OnSlotLast, OnSlotRan}
@@ -17,10 +17,10 @@ use Rattle.papaya_logged.specs.Shown.{IsShown}
 use Rattle.papaya_logged.specs.declared.logged.Logged.{Logged}
 use Rattle.papaya_logged.proofs.Goes.{goes_more}
 use Rattle.papaya_rows.specs.Rows.{RowRan}
-use Rattle.papaya_logged.specs.Given.Executor.IsThere.{IsThere, KeepsGiven, work_of}
-use Rattle.papaya_logged.specs.Given.Executor.OnSlots.{MayBegin, RowBeginsThere}
-use Rattle.papaya_logged.specs.Given.Scenes.Rows.{begun_row, uses_begun}
-use Rattle.papaya_logged.specs.Given.Scenes.Scene.{Scene, slot_of}
+use Rattle.papaya_logged.specs.Given.ExecutorIsThere.{IsThere, KeepsGiven, work_of}
+use Rattle.papaya_logged.specs.Given.ExecutorOnSlots.{MayBegin, RowBeginsThere}
+use Rattle.papaya_logged.specs.Given.ScenesRows.{begun_row, uses_begun}
+use Rattle.papaya_logged.specs.Given.ScenesScene.{Scene, slot_of}
 
 pub in_its_slot : (n slot caller : ℕ) → slot < SLOTS → caller ≡ n * SLOTS + slot → slot_of caller ≡ slot
 in_its_slot n slot caller fits is = omega (arith, fits, is)

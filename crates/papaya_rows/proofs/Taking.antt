@@ -1,53 +1,53 @@
 -- A row that registers while no other takes or frees a slot takes the first vacant one, or is refused: how it has begun, goes on and ends.
 use Rattle.std.specs.Prelude.{Some, None}
 use Rattle.std.proofs.Common.{◌≡◌, ℕ, zero, suc, ◌+◌, Bool, true, false, List, length, ◌⊎◌, inl, inr, refl, sym, ap, subst, ◌∙◌, arith}
-use Rattle.papaya_logged.specs.Given.SeizeWords.declared.fault.Fault.{Fault}
-use Rattle.papaya_logged.specs.Given.SeizeWords.declared.fault.Fault.TheVariants.{Memory}
-use Rattle.papaya_logged.specs.Given.SeizeWords.Mem.{Mem, Took, value_at}
-use Rattle.papaya_logged.specs.Given.SeizeWords.Plan.{Steps}
-use Rattle.papaya_logged.specs.Given.Seize.declared.states.TheConstants.{LAST_SLOT}
-use Rattle.papaya_logged.specs.Given.Seize.declared.progress.Progress.{Progress}
-use Rattle.papaya_logged.specs.Given.Seize.declared.progress.Progress.TheVariants as progress
-use Rattle.papaya_logged.specs.Given.Seize.declared.rows.register.Register.{Register}
-use Rattle.papaya_logged.specs.Given.Seize.declared.rows.register.Registering.{Registering}
-use Rattle.papaya_logged.specs.Given.Seize.declared.rows.register.Registering.TheVariants as at
-use Rattle.papaya_logged.specs.Given.Seize.Register.{register_plan}
-use Rattle.papaya_logged.specs.Given.Seize.Sequence.{new_slot}
-use Rattle.papaya_logged.specs.Given.Seize.World.{World, Row, Registers, Use, Begin, Step, Happens, Steps', registers_on}
-use Rattle.papaya_logged.proofs.Given.SeizeRule.Rows.Known.{FitsRow, FitsRegister, works_on}
-use Rattle.papaya_logged.proofs.Given.SeizeRule.Rows.Others.{begins_others, steps_others}
-use Rattle.papaya_logged.proofs.Given.SeizeRule.Words.View.{view}
-use Rattle.papaya_logged.proofs.Given.SeizeRule.World.Good.{Good}
-use Rattle.papaya_logged.proofs.Given.SeizeSets.Slots.Registers.{Comes, GoesOn, IsRefused, NoneOnVacant, RegistersOn, TakesFirst, WhyRefused, registers_apart}
-use Rattle.papaya_logged.specs.Given.Tables.Nodes.{deferred_word}
-use Rattle.papaya_logged.specs.Given.Tables.declared.node.Node.{Node}
-use Rattle.papaya_logged.specs.Given.Teller.declared.changed.Changed.TheVariants as changed
-use Rattle.papaya_logged.specs.Given.Callers.Together.{CameAbout}
-use Rattle.papaya_logged.proofs.Given.Callers.Together.Came.{came_next, came_reached}
-use Rattle.papaya_logged.specs.Given.Schedules.declared.effect.Effect.{Effect}
-use Rattle.papaya_logged.specs.Given.Schedules.Moment.{Moment}
-use Rattle.papaya_logged.specs.Given.Executor.declared.executor.Executor.{Executor}
-use Rattle.papaya_logged.specs.Given.Scenes.declared.row.RowTold.{RowTold}
-use Rattle.papaya_logged.specs.Given.Scenes.declared.row.RowTold.TheVariants as told
-use Rattle.papaya_logged.specs.Given.Scenes.declared.row.SlotCall.TheVariants as call
-use Rattle.papaya_logged.specs.Given.Scenes.declared.row.SlotRow.{SlotRow}
-use Rattle.papaya_logged.specs.Given.Scenes.declared.row.SlotRow.TheVariants as rows
-use Rattle.papaya_logged.specs.Given.Executor.declared.worker.Work.TheVariants.{OnSlot}
+use Rattle.papaya_logged.specs.Given.SeizeWordsDeclared.fault.Fault.{Fault}
+use Rattle.papaya_logged.specs.Given.SeizeWordsDeclared.fault.Fault.TheVariants.{Memory}
+use Rattle.papaya_logged.specs.Given.SeizeWordsMem.{Mem, Took, value_at}
+use Rattle.papaya_logged.specs.Given.SeizeWordsPlan.{Steps}
+use Rattle.papaya_logged.specs.Given.SeizeDeclared.states.TheConstants.{LAST_SLOT}
+use Rattle.papaya_logged.specs.Given.SeizeDeclared.progress.Progress.{Progress}
+use Rattle.papaya_logged.specs.Given.SeizeDeclared.progress.Progress.TheVariants as progress
+use Rattle.papaya_logged.specs.Given.SeizeDeclared.rows.register.Register.{Register}
+use Rattle.papaya_logged.specs.Given.SeizeDeclared.rows.register.Registering.{Registering}
+use Rattle.papaya_logged.specs.Given.SeizeDeclared.rows.register.Registering.TheVariants as at
+use Rattle.papaya_logged.specs.Given.SeizeRegister.{register_plan}
+use Rattle.papaya_logged.specs.Given.SeizeSequence.{new_slot}
+use Rattle.papaya_logged.specs.Given.SeizeWorld.{World, Row, Registers, Use, Begin, Step, Happens, Steps', registers_on}
+use Rattle.papaya_logged.proofs.Given.SeizeRuleRows.Known.{FitsRow, FitsRegister, works_on}
+use Rattle.papaya_logged.proofs.Given.SeizeRuleRows.Others.{begins_others, steps_others}
+use Rattle.papaya_logged.proofs.Given.SeizeRuleWords.View.{view}
+use Rattle.papaya_logged.proofs.Given.SeizeRuleWorld.Good.{Good}
+use Rattle.papaya_logged.proofs.Given.SeizeSetsSlots.Registers.{Comes, GoesOn, IsRefused, NoneOnVacant, RegistersOn, TakesFirst, WhyRefused, registers_apart}
+use Rattle.papaya_logged.specs.Given.TablesNodes.{deferred_word}
+use Rattle.papaya_logged.specs.Given.TablesDeclared.node.Node.{Node}
+use Rattle.papaya_logged.specs.Given.TellerDeclared.changed.Changed.TheVariants as changed
+use Rattle.papaya_logged.specs.Given.CallersTogether.{CameAbout}
+use Rattle.papaya_logged.proofs.Given.CallersTogether.Came.{came_next, came_reached}
+use Rattle.papaya_logged.specs.Given.SchedulesDeclared.effect.Effect.{Effect}
+use Rattle.papaya_logged.specs.Given.SchedulesMoment.{Moment}
+use Rattle.papaya_logged.specs.Given.ExecutorDeclared.executor.Executor.{Executor}
+use Rattle.papaya_logged.specs.Given.ScenesDeclared.row.RowTold.{RowTold}
+use Rattle.papaya_logged.specs.Given.ScenesDeclared.row.RowTold.TheVariants as told
+use Rattle.papaya_logged.specs.Given.ScenesDeclared.row.SlotCall.TheVariants as call
+use Rattle.papaya_logged.specs.Given.ScenesDeclared.row.SlotRow.{SlotRow}
+use Rattle.papaya_logged.specs.Given.ScenesDeclared.row.SlotRow.TheVariants as rows
+use Rattle.papaya_logged.specs.Given.ExecutorDeclared.worker.Work.TheVariants.{OnSlot}
 use Rattle.papaya_logged.specs.OnSlots.{GoesOnFor, OnSlotLast, has_come}
 use Rattle.papaya_logged.specs.Shown.{IsShown}
 use Rattle.papaya_logged.specs.declared.logged.Logged.{Logged}
 use Rattle.papaya_rows.specs.Rows.{RowRan}
 use Rattle.papaya_rows.proofs.Ran.{Led, begun_led, step_led}
 use Rattle.papaya_rows.proofs.Refusals.{found_none}
-use Rattle.papaya_logged.proofs.Given.Scenes.Told.{as_step}
-use Rattle.papaya_logged.specs.Given.Executor.IsThere.{held_by, work_of}
-use Rattle.papaya_logged.specs.Given.Executor.OnSlots.{RowBeginsThere, row_on}
-use Rattle.papaya_logged.specs.Given.Scenes.OnSlots.{RowBegins, RowSteps}
-use Rattle.papaya_logged.specs.Given.Scenes.Rows.{of_registering, request_of}
-use Rattle.papaya_logged.specs.Given.Scenes.Scene.{Scene, slot_of}
+use Rattle.papaya_logged.proofs.Given.ScenesTold.{as_step}
+use Rattle.papaya_logged.specs.Given.ExecutorIsThere.{held_by, work_of}
+use Rattle.papaya_logged.specs.Given.ExecutorOnSlots.{RowBeginsThere, row_on}
+use Rattle.papaya_logged.specs.Given.ScenesOnSlots.{RowBegins, RowSteps}
+use Rattle.papaya_logged.specs.Given.ScenesRows.{of_registering, request_of}
+use Rattle.papaya_logged.specs.Given.ScenesScene.{Scene, slot_of}
 use Rattle.papaya_logged.proofs.Held.{begun_held}
-use Rattle.papaya_logged.proofs.Given.Scenes.Rows.{begun_there}
-use Rattle.papaya_logged.specs.Given.Scenes.Held.{Held, IsAt}
+use Rattle.papaya_logged.proofs.Given.ScenesRows.{begun_there}
+use Rattle.papaya_logged.specs.Given.ScenesHeld.{Held, IsAt}
 
 module _ {K V : Type 0} (same : K → K → Bool) (hash : ℕ → K → ℕ) (i : ℕ) (s : Scene K V) (size : ℕ) (enters : Bool) (apart : NoneOnVacant i s.world) where
   -- It registers on in a world with this memory, which came about from the start, and in which the others have the rows that they had.

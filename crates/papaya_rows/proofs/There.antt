@@ -3,13 +3,13 @@ use Rattle.std.specs.Prelude.{◌==◌, ◌&&◌, ◌||◌, not, cond, filter, i
 use Rattle.std.specs.List.{list_any}
 use Rattle.std.proofs.Common.{◌≡◌, ◌≢◌, ℕ, ◌+◌, ◌≤◌, Bool, true, false, List, [], ◌∷◌, refl, sym, ap, ◌∙◌, arith}
 use Rattle.std.proofs.lemmas.Bool.{eq-eqb}
-use Rattle.papaya_logged.specs.Given.Runs.declared.holders.Guard.{Guard}
-use Rattle.papaya_logged.specs.Given.Runs.declared.holders.Registration.{Registration}
-use Rattle.papaya_logged.specs.Given.Runs.Present.{Present, guard_of, guards_named, guards_on, living_slot, registration_of, has_registration, forgotten_if, forgets, slot_of_registration, slot_or}
-use Rattle.papaya_logged.specs.Given.Runs.Same.{is_same}
-use Rattle.papaya_logged.proofs.Given.Runs.Laws.{same_tells, forgets_counts}
-use Rattle.papaya_logged.specs.Given.Scenes.declared.row.SlotUse.TheVariants as used
-use Rattle.papaya_logged.specs.Given.Schedules.InUse.{is_registered, is_guard, is_living}
+use Rattle.papaya_logged.specs.Given.RunsDeclared.holders.Guard.{Guard}
+use Rattle.papaya_logged.specs.Given.RunsDeclared.holders.Registration.{Registration}
+use Rattle.papaya_logged.specs.Given.RunsPresent.{Present, guard_of, guards_named, guards_on, living_slot, registration_of, has_registration, forgotten_if, forgets, slot_of_registration, slot_or}
+use Rattle.papaya_logged.specs.Given.RunsSame.{is_same}
+use Rattle.papaya_logged.proofs.Given.RunsLaws.{same_tells, forgets_counts}
+use Rattle.papaya_logged.specs.Given.ScenesDeclared.row.SlotUse.TheVariants as used
+use Rattle.papaya_logged.specs.Given.SchedulesInUse.{is_registered, is_guard, is_living}
 use Rattle.papaya_rows.specs.Rows.{used_as}
 use Rattle.papaya_rows.proofs.Lists.{is_found}
 

@@ -1,26 +1,26 @@
 -- What a caller does with its slot, run to its end.
 use Rattle.std.specs.Prelude.{◌≡◌, ◌==◌, ℕ, Bool, true, List, ◌++◌, Option, None, if◌then◌else◌}
-use Rattle.papaya_logged.specs.Given.Seize.World.{World}
-use Rattle.papaya_logged.specs.Given.Tables.declared.node.Node.{Node}
-use Rattle.papaya_logged.specs.Given.Runs.Present.{Present, guards_on, has_registration}
-use Rattle.papaya_logged.specs.Given.Schedules.declared.effect.Effect.{Effect}
-use Rattle.papaya_logged.specs.Given.Schedules.Effects.{with_effects}
-use Rattle.papaya_logged.specs.Given.Schedules.Moment.{Moment}
-use Rattle.papaya_logged.specs.Given.Scenes.declared.row.RowTold.{RowTold}
-use Rattle.papaya_logged.specs.Given.Scenes.declared.row.SlotCall.{SlotCall}
-use Rattle.papaya_logged.specs.Given.Scenes.declared.row.SlotCall.TheVariants as call
-use Rattle.papaya_logged.specs.Given.Scenes.declared.row.SlotUse.{SlotUse}
-use Rattle.papaya_logged.specs.Given.Scenes.declared.row.SlotUse.TheVariants as used
-use Rattle.papaya_logged.specs.Given.Finishes.Maps.{Standing}
+use Rattle.papaya_logged.specs.Given.SeizeWorld.{World}
+use Rattle.papaya_logged.specs.Given.TablesDeclared.node.Node.{Node}
+use Rattle.papaya_logged.specs.Given.RunsPresent.{Present, guards_on, has_registration}
+use Rattle.papaya_logged.specs.Given.SchedulesDeclared.effect.Effect.{Effect}
+use Rattle.papaya_logged.specs.Given.SchedulesEffects.{with_effects}
+use Rattle.papaya_logged.specs.Given.SchedulesMoment.{Moment}
+use Rattle.papaya_logged.specs.Given.ScenesDeclared.row.RowTold.{RowTold}
+use Rattle.papaya_logged.specs.Given.ScenesDeclared.row.SlotCall.{SlotCall}
+use Rattle.papaya_logged.specs.Given.ScenesDeclared.row.SlotCall.TheVariants as call
+use Rattle.papaya_logged.specs.Given.ScenesDeclared.row.SlotUse.{SlotUse}
+use Rattle.papaya_logged.specs.Given.ScenesDeclared.row.SlotUse.TheVariants as used
+use Rattle.papaya_logged.specs.Given.FinishesMaps.{Standing}
 use Rattle.papaya_logged.specs.Ended.{has_ended, uses_ended}
 use Rattle.papaya_logged.specs.Goes.{GoesTo, RowGoes, RowGone, far}
 use Rattle.papaya_logged.specs.OnSlots.{EndsTelling, OnSlotBegins, OnSlotLast, has_come}
 use Rattle.papaya_logged.specs.Shown.{IsShown}
 use Rattle.papaya_logged.specs.declared.logged.Logged.{Logged}
-use Rattle.papaya_logged.specs.Given.Executor.IsThere.{IsThere, KeepsGiven}
-use Rattle.papaya_logged.specs.Given.Executor.OnSlots.{MayBegin, RowBeginsThere}
-use Rattle.papaya_logged.specs.Given.Scenes.Rows.{begun_row, uses_begun}
-use Rattle.papaya_logged.specs.Given.Scenes.Scene.{Scene, slot_of}
+use Rattle.papaya_logged.specs.Given.ExecutorIsThere.{IsThere, KeepsGiven}
+use Rattle.papaya_logged.specs.Given.ExecutorOnSlots.{MayBegin, RowBeginsThere}
+use Rattle.papaya_logged.specs.Given.ScenesRows.{begun_row, uses_begun}
+use Rattle.papaya_logged.specs.Given.ScenesScene.{Scene, slot_of}
 
 -- A row has begun in this slot, and has run until it ended, or waits: which steps it took, each as it was noted, what they did, the last one's at the end, and how slots are
 -- used then. The moment after all that shows the executor.

@@ -1,7 +1,7 @@
 -- Rows that settle: they leave their slot, refresh it, or flush its batch.
 use Rattle.std.specs.Prelude.{◌≡◌}
-use Rattle.papaya_logged.specs.Given.Scenes.declared.row.SlotRow.{SlotRow}
-use Rattle.papaya_logged.specs.Given.Scenes.declared.row.SlotRow.TheVariants as rows
+use Rattle.papaya_logged.specs.Given.ScenesDeclared.row.SlotRow.{SlotRow}
+use Rattle.papaya_logged.specs.Given.ScenesDeclared.row.SlotRow.TheVariants as rows
 
 -- a row that settles, by itself or as it leaves
 abbrev pub IsSettling : SlotRow → Type 0

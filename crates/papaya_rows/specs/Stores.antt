@@ -1,7 +1,7 @@
 -- Rows that make one store.
 use Rattle.std.specs.Prelude.{◌≡◌}
-use Rattle.papaya_logged.specs.Given.Scenes.declared.row.SlotRow.{SlotRow}
-use Rattle.papaya_logged.specs.Given.Scenes.declared.row.SlotRow.TheVariants as rows
+use Rattle.papaya_logged.specs.Given.ScenesDeclared.row.SlotRow.{SlotRow}
+use Rattle.papaya_logged.specs.Given.ScenesDeclared.row.SlotRow.TheVariants as rows
 
 -- a row that makes one store
 abbrev pub StoresOnce : SlotRow → Type 0

@@ -1,10 +1,10 @@
 -- What comes of a registering.
 use Rattle.std.specs.Prelude.{ℕ, Bool, List, Result, Ok, Err}
-use Rattle.papaya_logged.specs.Given.SeizeWords.declared.fault.Fault.{Fault}
-use Rattle.papaya_logged.specs.Given.Schedules.declared.effect.Effect.{Effect}
-use Rattle.papaya_logged.specs.Given.Scenes.declared.row.RowTold.{RowTold}
-use Rattle.papaya_logged.specs.Given.Scenes.declared.row.RowTold.TheVariants as told
-use Rattle.papaya_logged.specs.Given.Scenes.declared.row.SlotCall.TheVariants as call
+use Rattle.papaya_logged.specs.Given.SeizeWordsDeclared.fault.Fault.{Fault}
+use Rattle.papaya_logged.specs.Given.SchedulesDeclared.effect.Effect.{Effect}
+use Rattle.papaya_logged.specs.Given.ScenesDeclared.row.RowTold.{RowTold}
+use Rattle.papaya_logged.specs.Given.ScenesDeclared.row.RowTold.TheVariants as told
+use Rattle.papaya_logged.specs.Given.ScenesDeclared.row.SlotCall.TheVariants as call
 use Rattle.papaya_logged.specs.declared.logged.Logged.{Logged}
 use Rattle.papaya_rows.specs.Rows.{RowRan}
 

@@ -8,8 +8,8 @@ use Rattle.papaya_schedules.specs.Entry.{Entry}
 use Rattle.papaya_schedules.specs.Moment.{Moment}
 use Rattle.papaya_schedules.specs.Runs.{IsLegal, IsRunOf, TellsEnd, log_of}
 use Rattle.papaya_schedules.specs.Terms.{Terms}
-use Rattle.papaya_pieced.specs.Given.Finds.TornDown.{StoredAreSomewhere}
-use Rattle.papaya_pieced.specs.Given.Finds.Waiting.{is_unborn}
+use Rattle.papaya_pieced.specs.Given.FindsTornDown.{StoredAreSomewhere}
+use Rattle.papaya_pieced.specs.Given.FindsWaiting.{is_unborn}
 use Rattle.papaya_tally.specs.Told.{ArePlaced}
 use Rattle.papaya_running.specs.Back.{ReclaimsRight}
 use Rattle.papaya_running.specs.Run.{IsRightRun}

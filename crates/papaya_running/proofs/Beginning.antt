@@ -1,47 +1,47 @@
 -- Before all events a scheduler is as events ask of it, whatever was chosen of numbers of blocks.
 use Rattle.std.specs.Prelude.{◌≡◌, ◌<◌, ◌≤◌, ◌^◌, ℕ, Bool, List, [], ◌∷◌, length, Option, None, Some, min, slice_get, slice_index_or, map}
 use Rattle.std.proofs.Common.{refl, sym, ap, subst, ◌∙◌, inr, arith, inl}
-use Rattle.papaya_pieced.specs.Given.Seize.declared.states.TheConstants.{HEAD}
-use Rattle.papaya_pieced.specs.Given.Tables.declared.node.Node.{Node}
-use Rattle.papaya_pieced.specs.Given.Points.Steps.{AreLawful}
-use Rattle.papaya_pieced.proofs.Given.Points.Making.OwnTables.{zero_at}
-use Rattle.papaya_pieced.proofs.Given.Moments.NewMaps.{pairs_begin}
-use Rattle.papaya_pieced.proofs.Given.Moments.Numbers.{numbers_begin}
-use Rattle.papaya_pieced.specs.Given.Seize.World.{Chooses, SlotsTaken, World}
-use Rattle.papaya_pieced.specs.Given.Tables.Nodes.{deferred_word}
-use Rattle.papaya_pieced.specs.Given.Tables.declared.setting.Setting.{Setting}
+use Rattle.papaya_pieced.specs.Given.SeizeDeclared.states.TheConstants.{HEAD}
+use Rattle.papaya_pieced.specs.Given.TablesDeclared.node.Node.{Node}
+use Rattle.papaya_pieced.specs.Given.PointsSteps.{AreLawful}
+use Rattle.papaya_pieced.proofs.Given.PointsMaking.OwnTables.{zero_at}
+use Rattle.papaya_pieced.proofs.Given.MomentsNewMaps.{pairs_begin}
+use Rattle.papaya_pieced.proofs.Given.MomentsNumbers.{numbers_begin}
+use Rattle.papaya_pieced.specs.Given.SeizeWorld.{Chooses, SlotsTaken, World}
+use Rattle.papaya_pieced.specs.Given.TablesNodes.{deferred_word}
+use Rattle.papaya_pieced.specs.Given.TablesDeclared.setting.Setting.{Setting}
 use Rattle.seize_words.specs.Mem.{Mem, word_at}
 use Rattle.seize_words.specs.SlotWords.{slot_word}
 use Rattle.seize_words.specs.declared.at.At.TheVariants.{Root, Used}
 use Rattle.papaya_schedules.specs.Moment.{start}
 use Rattle.papaya_schedules.specs.Terms.{Terms}
 use Rattle.papaya_tally.specs.Given.Effects.Known.{Known, known}
-use Rattle.papaya_pieced.specs.Given.Models.Turns.{CameByTurns}
-use Rattle.papaya_pieced.proofs.Given.Models.Turns.{events_follow, turns_begin}
-use Rattle.papaya_pieced.proofs.Given.Legal.Come.{nothing_has_come}
-use Rattle.papaya_pieced.proofs.Given.Legal.Begin.{runs_begin_in}
-use Rattle.papaya_pieced.specs.Given.Logged.Choosing.{logged_chosen, memory_chosen}
-use Rattle.papaya_pieced.specs.Given.Logged.Shown.{IsShown}
-use Rattle.papaya_pieced.proofs.Given.Logged.Choosing.{choice_shown}
-use Rattle.papaya_pieced.specs.Given.Logged.declared.logged.Logged.{Logged}
-use Rattle.papaya_pieced.proofs.Given.Reclaims.Left.Stays.{left_is_left_behind, nothing_is_left}
-use Rattle.papaya_pieced.specs.Given.Scheduler.First.{HasJustBegun}
-use Rattle.papaya_pieced.specs.Given.Scheduler.Mapping.{CountsMaps}
-use Rattle.papaya_pieced.specs.Given.Scheduler.Played.{IsPlayed, StandsFor, terms_given}
-use Rattle.papaya_pieced.specs.Given.Scheduler.Reclaiming.{MayGiveAll}
+use Rattle.papaya_pieced.specs.Given.ModelsTurns.{CameByTurns}
+use Rattle.papaya_pieced.proofs.Given.ModelsTurns.{events_follow, turns_begin}
+use Rattle.papaya_pieced.proofs.Given.LegalCome.{nothing_has_come}
+use Rattle.papaya_pieced.proofs.Given.LegalBegin.{runs_begin_in}
+use Rattle.papaya_pieced.specs.Given.LoggedChoosing.{logged_chosen, memory_chosen}
+use Rattle.papaya_pieced.specs.Given.LoggedShown.{IsShown}
+use Rattle.papaya_pieced.proofs.Given.LoggedChoosing.{choice_shown}
+use Rattle.papaya_pieced.specs.Given.LoggedDeclared.logged.Logged.{Logged}
+use Rattle.papaya_pieced.proofs.Given.ReclaimsLeft.Stays.{left_is_left_behind, nothing_is_left}
+use Rattle.papaya_pieced.specs.Given.SchedulerFirst.{HasJustBegun}
+use Rattle.papaya_pieced.specs.Given.SchedulerMapping.{CountsMaps}
+use Rattle.papaya_pieced.specs.Given.SchedulerPlayed.{IsPlayed, StandsFor, terms_given}
+use Rattle.papaya_pieced.specs.Given.SchedulerReclaiming.{MayGiveAll}
 use Rattle.papaya_runs.specs.declared.event.Setup.{Setup}
-use Rattle.papaya_pieced.specs.Given.Scheduler.declared.scheduler.Scheduler.{Scheduler}
-use Rattle.papaya_pieced.proofs.Given.Scheduler.Chosen.{stands_chosen}
-use Rattle.papaya_pieced.specs.Given.Named.Seen.{seen, seen_of}
-use Rattle.papaya_pieced.specs.Given.Named.declared.caller.Caller.{Caller}
-use Rattle.papaya_pieced.specs.Given.Events.Asked.{Holds}
-use Rattle.papaya_pieced.specs.Given.Events.OfCalls.{HaveShards, HaveValues, Runs}
+use Rattle.papaya_pieced.specs.Given.SchedulerDeclared.scheduler.Scheduler.{Scheduler}
+use Rattle.papaya_pieced.proofs.Given.SchedulerChosen.{stands_chosen}
+use Rattle.papaya_pieced.specs.Given.NamedSeen.{seen, seen_of}
+use Rattle.papaya_pieced.specs.Given.NamedDeclared.caller.Caller.{Caller}
+use Rattle.papaya_pieced.specs.Given.EventsAsked.{Holds}
+use Rattle.papaya_pieced.specs.Given.EventsOfCalls.{HaveShards, HaveValues, Runs}
 use Rattle.papaya_pieced.specs.SoFar.{ActsSoFar}
 use Rattle.papaya_pieced.proofs.First.{none_yet, one_choice_yet}
 use Rattle.papaya_pieced.proofs.Last.{any_course}
 use Rattle.papaya_running.specs.Run.{bounded}
-use Rattle.papaya_pieced.proofs.Given.Events.OfCalls.Scenes.{its_named, stands_in}
-use Rattle.papaya_pieced.specs.Given.Scenes.Scene.{at_first}
+use Rattle.papaya_pieced.proofs.Given.EventsOfCalls.Scenes.{its_named, stands_in}
+use Rattle.papaya_pieced.specs.Given.ScenesScene.{at_first}
 
 -- Nothing is under way in a world that came about by what was chosen of numbers of blocks.
 pub record BeginsIn {K V S : Type 0} (same : K → K → Bool) (hash : K → ℕ) (setup : Setup) (p : Scheduler K V S) : Type 0 where

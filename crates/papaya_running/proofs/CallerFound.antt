@@ -1,10 +1,10 @@
 -- Who stands at the place of a name is who is found by it.
 use Rattle.std.specs.Prelude.{◌≡◌, ℕ, false, List, find, position, is_some, Option, Some, None}
 use Rattle.std.proofs.Common.{refl, sym, ◌∙◌}
-use Rattle.papaya_pieced.proofs.Given.Rows.Lists.{is_found, place_found, place_some}
-use Rattle.papaya_pieced.specs.Given.Named.Roll.{at_place, called}
-use Rattle.papaya_pieced.specs.Given.Named.Seen.{is_named}
-use Rattle.papaya_pieced.specs.Given.Named.declared.caller.Caller.{Caller}
+use Rattle.papaya_pieced.proofs.Given.RowsLists.{is_found, place_found, place_some}
+use Rattle.papaya_pieced.specs.Given.NamedRoll.{at_place, called}
+use Rattle.papaya_pieced.specs.Given.NamedSeen.{is_named}
+use Rattle.papaya_pieced.specs.Given.NamedDeclared.caller.Caller.{Caller}
 
 none_is : {X : Type 0} (o : Option X) → is_some o ≡ false → None ≡ o
 none_is None e = refl

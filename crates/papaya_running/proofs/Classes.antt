@@ -29,11 +29,11 @@ use Rattle.papaya_schedules.specs.Runs.{IsLegalLog}
 use Rattle.papaya_schedules.specs.Sequential.{Deed, Leaves, Puts, Takes, Meaning, Answers, Refuses, Wants, Shift, ComesIn, GivesWay, GoesOut, key_of, means, shifts, value_put}
 use Rattle.papaya_schedules.specs.Terms.{Terms}
 use Rattle.papaya_schedules.specs.Views.{behind, call_of, is_in_map, number_of, reply_to}
-use Rattle.papaya_pieced.proofs.Given.Histories.Found.{FoundIn, found}
-use Rattle.papaya_pieced.proofs.Given.Follows.Contents.{pair_next}
-use Rattle.papaya_pieced.proofs.Given.Follows.Calls.{changed, changed_same, of_same, found as found_on}
-use Rattle.papaya_pieced.proofs.Given.Spots.Unreclaimed.{and_both}
-use Rattle.papaya_pieced.proofs.Given.Finds.Over.{acts}
+use Rattle.papaya_pieced.proofs.Given.HistoriesFound.{FoundIn, found}
+use Rattle.papaya_pieced.proofs.Given.FollowsContents.{pair_next}
+use Rattle.papaya_pieced.proofs.Given.FollowsCalls.{changed, changed_same, of_same, found as found_on}
+use Rattle.papaya_pieced.proofs.Given.SpotsUnreclaimed.{and_both}
+use Rattle.papaya_pieced.proofs.Given.FindsOver.{acts}
 use Rattle.papaya_running.specs.Classes.{Has, HaveTheirOwn}
 
 number_is : (a b : ℕ) → (a == b) ≡ true → a ≡ b

@@ -4,7 +4,7 @@ use Rattle.std.proofs.Common.{refl, ap, sym, subst, ◌∙◌, arith}
 use Rattle.std.proofs.lemmas.List.{length-map}
 use Rattle.seize_words.specs.declared.fault.Fault.{Fault}
 use Rattle.seize_words.specs.declared.fault.Fault.TheVariants.{Busy}
-use Rattle.papaya_pieced.specs.Given.Tables.declared.resize_mode.ResizeMode.{ResizeMode}
+use Rattle.papaya_pieced.specs.Given.TablesDeclared.resize_mode.ResizeMode.{ResizeMode}
 use Rattle.papaya_runs.specs.Runs.{map_fault}
 use Rattle.papaya_runs.specs.Same.{is_same}
 use Rattle.papaya_runs.proofs.Sames.{same_is}
@@ -20,11 +20,11 @@ use Rattle.papaya_schedules.specs.InTurn.{ComesTo, InTurn, IsKeptOut, IsMade}
 use Rattle.papaya_schedules.specs.Moment.{MapThere, Moment}
 use Rattle.papaya_schedules.specs.Terms.{Terms}
 use Rattle.papaya_schedules.specs.Views.{map_of, number_of}
-use Rattle.papaya_pieced.proofs.Given.Rows.Lists.{is_found, none_kept}
-use Rattle.papaya_pieced.specs.Given.Named.Seen.{named}
-use Rattle.papaya_pieced.specs.Given.Scheduler.declared.played.Played.{Played}
-use Rattle.papaya_pieced.proofs.Given.Mapping.MapLists.{kept_map}
-use Rattle.papaya_pieced.specs.Given.Events.Asked.{FindsBy, is_of_calls, is_of_maps, numbers_on}
+use Rattle.papaya_pieced.proofs.Given.RowsLists.{is_found, none_kept}
+use Rattle.papaya_pieced.specs.Given.NamedSeen.{named}
+use Rattle.papaya_pieced.specs.Given.SchedulerDeclared.played.Played.{Played}
+use Rattle.papaya_pieced.proofs.Given.MappingMapLists.{kept_map}
+use Rattle.papaya_pieced.specs.Given.EventsAsked.{FindsBy, is_of_calls, is_of_maps, numbers_on}
 
 -- names are apart
 abbrev pub NamesApart : List MapThere → Type 0

@@ -15,8 +15,8 @@ use Rattle.papaya_schedules.specs.InTurn.{IsKeptOut}
 use Rattle.papaya_schedules.specs.Moment.{Moment, Stands, UnderWay}
 use Rattle.papaya_schedules.specs.Steps.{DoesFew, MakesSteps}
 use Rattle.papaya_schedules.specs.Waiting.{WaitsLawfully, WaitsRight}
-use Rattle.papaya_pieced.proofs.Given.Scheduler.Rights.{entry}
-use Rattle.papaya_pieced.specs.Given.Events.Asked.{takes_steps}
+use Rattle.papaya_pieced.proofs.Given.SchedulerRights.{entry}
+use Rattle.papaya_pieced.specs.Given.EventsAsked.{takes_steps}
 
 -- what does nothing does few
 pub does_nothing : (own : Option (List ℕ)) (steps : ℕ) (effects : List Effect) → effects ≡ [] → DoesFew own steps effects

@@ -7,11 +7,11 @@ use Rattle.papaya_schedules.specs.declared.effect.Effect.{Effect}
 use Rattle.papaya_schedules.specs.declared.event.Event.{Event}
 use Rattle.papaya_schedules.specs.declared.event.Event.TheVariants.{Begin, Step, Go, Replied, OneCall, Next, Stop}
 use Rattle.papaya_schedules.specs.Effects.{pairs_back}
-use Rattle.papaya_pieced.specs.Given.Logged.Back.{ComesBack}
-use Rattle.papaya_pieced.specs.Given.Scheduler.Back.{GivesAllBack, GivesBack}
-use Rattle.papaya_pieced.specs.Given.Scheduler.declared.played.Played.{Played}
-use Rattle.papaya_pieced.specs.Given.Scheduler.declared.scheduler.Scheduler.{Scheduler}
-use Rattle.papaya_pieced.specs.Given.Events.Asked.{is_of_calls}
+use Rattle.papaya_pieced.specs.Given.LoggedBack.{ComesBack}
+use Rattle.papaya_pieced.specs.Given.SchedulerBack.{GivesAllBack, GivesBack}
+use Rattle.papaya_pieced.specs.Given.SchedulerDeclared.played.Played.{Played}
+use Rattle.papaya_pieced.specs.Given.SchedulerDeclared.scheduler.Scheduler.{Scheduler}
+use Rattle.papaya_pieced.specs.Given.EventsAsked.{is_of_calls}
 use Rattle.papaya_running.specs.Back.{GivesAt, GivesDue, ReclaimsBy}
 use Rattle.papaya_running.proofs.Happened.{due_so}
 

@@ -17,19 +17,19 @@ use Rattle.papaya_schedules.specs.InTurn.{IsKeptOut}
 use Rattle.papaya_schedules.specs.Terms.{Terms}
 use Rattle.papaya_schedules.specs.Views.{call_of}
 use Rattle.papaya_raw.specs.Given.Tables.declared.resize_mode.ResizeMode.{ResizeMode}
-use Rattle.papaya_pieced.specs.Given.Scheduler.AllWorks.{WorksOnAll}
-use Rattle.papaya_pieced.specs.Given.Scheduler.Played.{Began, IsDue, PlaysAt, Replies, Stops, entry_of}
-use Rattle.papaya_pieced.specs.Given.Scheduler.Quiet.{StaysBusy}
-use Rattle.papaya_pieced.specs.Given.Scheduler.Works.{DidNothing, WorksOnEnd, WorksOnMap, WorksOnSetup, WorksOnSlot}
-use Rattle.papaya_pieced.specs.Given.Scheduler.Mapping.{numbers_made}
-use Rattle.papaya_pieced.specs.Given.Scheduler.declared.played.Played.{Played}
-use Rattle.papaya_pieced.specs.Given.Scheduler.declared.scheduler.Scheduler.{Scheduler}
-use Rattle.papaya_pieced.specs.Given.Stepping.Stepping.{TookNext, TookSteps, TookWhole}
-use Rattle.papaya_pieced.specs.Given.Events.Asked.{MayHappenDue}
-use Rattle.papaya_pieced.specs.Given.Executor.IsThere.{KeepsGiven}
-use Rattle.papaya_pieced.proofs.Given.Events.OfCalls.Happens.{either, in_turn_comes}
-use Rattle.papaya_pieced.specs.Given.Grouped.Grouping.{acts_on_none, refuses}
-use Rattle.papaya_pieced.proofs.Given.Grouped.Midst.{maps_of}
+use Rattle.papaya_pieced.specs.Given.SchedulerAllWorks.{WorksOnAll}
+use Rattle.papaya_pieced.specs.Given.SchedulerPlayed.{Began, IsDue, PlaysAt, Replies, Stops, entry_of}
+use Rattle.papaya_pieced.specs.Given.SchedulerQuiet.{StaysBusy}
+use Rattle.papaya_pieced.specs.Given.SchedulerWorks.{DidNothing, WorksOnEnd, WorksOnMap, WorksOnSetup, WorksOnSlot}
+use Rattle.papaya_pieced.specs.Given.SchedulerMapping.{numbers_made}
+use Rattle.papaya_pieced.specs.Given.SchedulerDeclared.played.Played.{Played}
+use Rattle.papaya_pieced.specs.Given.SchedulerDeclared.scheduler.Scheduler.{Scheduler}
+use Rattle.papaya_pieced.specs.Given.SteppingStepping.{TookNext, TookSteps, TookWhole}
+use Rattle.papaya_pieced.specs.Given.EventsAsked.{MayHappenDue}
+use Rattle.papaya_pieced.specs.Given.ExecutorIsThere.{KeepsGiven}
+use Rattle.papaya_pieced.proofs.Given.EventsOfCalls.Happens.{either, in_turn_comes}
+use Rattle.papaya_pieced.specs.Given.GroupedGrouping.{acts_on_none, refuses}
+use Rattle.papaya_pieced.proofs.Given.GroupedMidst.{maps_of}
 use Rattle.papaya_pieced.proofs.AllDone.{close_goes_on, reclaim_goes_on}
 use Rattle.papaya_pieced.proofs.Begun.{begin_goes_on, whole_goes_on}
 use Rattle.papaya_pieced.proofs.Chosen.{choice_goes_on}

@@ -9,16 +9,16 @@ use Rattle.papaya_schedules.specs.Entry.{Entry, acting, caller_of}
 use Rattle.papaya_schedules.specs.InTurn.{IsKeptOut}
 use Rattle.papaya_schedules.specs.Steps.{stands_or}
 use Rattle.papaya_schedules.specs.Terms.{Terms}
-use Rattle.papaya_pieced.specs.Given.Scheduler.KeptOut.{PlaysKeptOut}
-use Rattle.papaya_pieced.specs.Given.Scheduler.Mapping.{MayMap}
-use Rattle.papaya_pieced.specs.Given.Scheduler.Played.{IsDue, MayPlay, Plays, entry_of}
-use Rattle.papaya_pieced.specs.Given.Scheduler.Quiet.{IsQuiet}
-use Rattle.papaya_pieced.specs.Given.Scheduler.Reclaiming.{MayReclaimAll}
-use Rattle.papaya_pieced.specs.Given.Scheduler.declared.played.Played.{Played}
-use Rattle.papaya_pieced.specs.Given.Scheduler.declared.scheduler.Scheduler.{Scheduler}
-use Rattle.papaya_pieced.specs.Given.Stepping.Stepping.{ComesInCase, PlaysNextAt, PlaysOnAt}
-use Rattle.papaya_pieced.proofs.Given.Scheduler.Busy.{none_quiet}
-use Rattle.papaya_pieced.specs.Given.Events.Asked.{FindsRight, Happens, HappensAt, HappensDue, Holds, MayHappenDue, takes_steps}
+use Rattle.papaya_pieced.specs.Given.SchedulerKeptOut.{PlaysKeptOut}
+use Rattle.papaya_pieced.specs.Given.SchedulerMapping.{MayMap}
+use Rattle.papaya_pieced.specs.Given.SchedulerPlayed.{IsDue, MayPlay, Plays, entry_of}
+use Rattle.papaya_pieced.specs.Given.SchedulerQuiet.{IsQuiet}
+use Rattle.papaya_pieced.specs.Given.SchedulerReclaiming.{MayReclaimAll}
+use Rattle.papaya_pieced.specs.Given.SchedulerDeclared.played.Played.{Played}
+use Rattle.papaya_pieced.specs.Given.SchedulerDeclared.scheduler.Scheduler.{Scheduler}
+use Rattle.papaya_pieced.specs.Given.SteppingStepping.{ComesInCase, PlaysNextAt, PlaysOnAt}
+use Rattle.papaya_pieced.proofs.Given.SchedulerBusy.{none_quiet}
+use Rattle.papaya_pieced.specs.Given.EventsAsked.{FindsRight, Happens, HappensAt, HappensDue, Holds, MayHappenDue, takes_steps}
 use Rattle.papaya_running.proofs.Forms.{does_none, does_nothing, makes_none, makes_out, waits_none, waits_out}
 
 module _ {K V S : Type 0} (same : K → K → Bool) (hash : K → ℕ) (event form : Event K V) (is : event ≡ form) (old : Scheduler K V S) where

@@ -2,12 +2,12 @@
 use Rattle.std.specs.Prelude.{◌≡◌, ◌≤◌, ◌<◌, ◌^◌, ℕ, Bool, true, false, List, ◌∷◌, length, find, Option, Some, None, option_map, Result, Ok, Err, IfOk, if◌then◌else◌}
 use Rattle.std.specs.List.{All}
 use Rattle.std.proofs.Common.{refl, ap, sym, subst, ◌∙◌, arith}
-use Rattle.papaya_pieced.specs.Given.Callers.Together.{UnderWay}
-use Rattle.papaya_pieced.specs.Given.Finishes.Maps.{Standing}
-use Rattle.papaya_pieced.specs.Given.Moments.Numbers.{NumbersMaps, PairsAreBelow}
-use Rattle.papaya_pieced.proofs.Given.Moments.NewMaps.{effects_keep_pairs}
-use Rattle.papaya_pieced.proofs.Given.Moments.Numbers.{found_of, maps_come_by_number}
-use Rattle.papaya_pieced.specs.Given.Tables.declared.resize_mode.ResizeMode.{ResizeMode}
+use Rattle.papaya_pieced.specs.Given.CallersTogether.{UnderWay}
+use Rattle.papaya_pieced.specs.Given.FinishesMaps.{Standing}
+use Rattle.papaya_pieced.specs.Given.MomentsNumbers.{NumbersMaps, PairsAreBelow}
+use Rattle.papaya_pieced.proofs.Given.MomentsNewMaps.{effects_keep_pairs}
+use Rattle.papaya_pieced.proofs.Given.MomentsNumbers.{found_of, maps_come_by_number}
+use Rattle.papaya_pieced.specs.Given.TablesDeclared.resize_mode.ResizeMode.{ResizeMode}
 use Rattle.papaya_runs.specs.Same.{is_same}
 use Rattle.papaya_schedules.specs.declared.call.Call.{Call}
 use Rattle.papaya_schedules.specs.declared.event.Event.{Event}
@@ -22,22 +22,22 @@ use Rattle.papaya_schedules.specs.Lists.{least_free}
 use Rattle.papaya_schedules.specs.Moment.{MapThere, Moment, Place, TableThere}
 use Rattle.papaya_schedules.specs.Terms.{Terms}
 use Rattle.papaya_schedules.specs.Views.{call_of, map_of, number_of}
-use Rattle.papaya_pieced.proofs.Given.Remains.Numbered.{made_stays}
-use Rattle.papaya_pieced.proofs.Given.Logged.Held.{maps_below}
-use Rattle.papaya_pieced.proofs.Given.Rows.Lists.{found_has}
-use Rattle.papaya_pieced.specs.Given.Scheduler.Mapping.{CountsMaps}
-use Rattle.papaya_pieced.specs.Given.Scheduler.Played.{IsPlayed, IsUnderWay, Plays, entry_of, terms_given}
-use Rattle.papaya_pieced.specs.Given.Named.Seen.{is_named}
-use Rattle.papaya_pieced.specs.Given.Named.declared.caller.Caller.{Caller}
-use Rattle.papaya_pieced.specs.Given.Scheduler.declared.played.Played.{Played}
-use Rattle.papaya_pieced.specs.Given.Scheduler.declared.scheduler.Scheduler.{Scheduler}
-use Rattle.papaya_pieced.proofs.Given.Scheduler.RanOn.{maps_named}
-use Rattle.papaya_pieced.specs.Given.Events.Asked.{FindsRight, HappensAt, Holds, HoldsThen, numbers_on}
+use Rattle.papaya_pieced.proofs.Given.RemainsNumbered.{made_stays}
+use Rattle.papaya_pieced.proofs.Given.LoggedHeld.{maps_below}
+use Rattle.papaya_pieced.proofs.Given.RowsLists.{found_has}
+use Rattle.papaya_pieced.specs.Given.SchedulerMapping.{CountsMaps}
+use Rattle.papaya_pieced.specs.Given.SchedulerPlayed.{IsPlayed, IsUnderWay, Plays, entry_of, terms_given}
+use Rattle.papaya_pieced.specs.Given.NamedSeen.{is_named}
+use Rattle.papaya_pieced.specs.Given.NamedDeclared.caller.Caller.{Caller}
+use Rattle.papaya_pieced.specs.Given.SchedulerDeclared.played.Played.{Played}
+use Rattle.papaya_pieced.specs.Given.SchedulerDeclared.scheduler.Scheduler.{Scheduler}
+use Rattle.papaya_pieced.proofs.Given.SchedulerRanOn.{maps_named}
+use Rattle.papaya_pieced.specs.Given.EventsAsked.{FindsRight, HappensAt, Holds, HoldsThen, numbers_on}
 use Rattle.papaya_running.proofs.Counts.{NamesApart, begun_apart, gone_apart, made_begun, named_apart}
 use Rattle.papaya_running.proofs.Logs.{begun_same, called_so}
-use Rattle.papaya_pieced.proofs.Given.Events.Remaining.{gives_all, rested}
-use Rattle.papaya_pieced.specs.Given.Executor.IsThere.{StaysGiven}
-use Rattle.papaya_pieced.specs.Given.Scenes.Scene.{Scene}
+use Rattle.papaya_pieced.proofs.Given.EventsRemaining.{gives_all, rested}
+use Rattle.papaya_pieced.specs.Given.ExecutorIsThere.{StaysGiven}
+use Rattle.papaya_pieced.specs.Given.ScenesScene.{Scene}
 
 module _ {K V S : Type 0} (same : K → K → Bool) (hash : K → ℕ) (terms : Terms) (log : List (Entry K V)) (p : Scheduler K V S) (holds : Holds same hash terms (moment log) p) where
   abbrev m : Moment K V

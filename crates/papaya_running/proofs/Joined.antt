@@ -11,18 +11,18 @@ use Rattle.papaya_schedules.specs.InTurn.{ComesRight}
 use Rattle.papaya_schedules.specs.Terms.{Terms}
 use Rattle.papaya_schedules.specs.Runs.{IsLegal}
 use Rattle.papaya_tally.specs.Given.Effects.Known.{known}
-use Rattle.papaya_pieced.specs.Given.Finds.Little.{ReclaimsAll, WhereAll}
-use Rattle.papaya_pieced.proofs.Given.Legal.Legal.{events_are_legal}
-use Rattle.papaya_pieced.specs.Given.Scheduler.Played.{entry_of}
-use Rattle.papaya_pieced.specs.Given.Scheduler.declared.played.Played.{Played}
-use Rattle.papaya_pieced.specs.Given.Scheduler.declared.scheduler.Scheduler.{Scheduler}
-use Rattle.papaya_pieced.specs.Given.Events.Asked.{FindsBy, FindsRight, Happens, HappensAt, Holds, is_of_calls}
-use Rattle.papaya_pieced.specs.Given.Events.OfAll.{KeepsAll}
-use Rattle.papaya_pieced.specs.Given.Folded.Folded.{HandsInOrder}
-use Rattle.papaya_pieced.specs.Given.Events.OfCalls.{KeepsAt, Runs, RunsOn}
-use Rattle.papaya_pieced.specs.Given.Events.OfRows.{KeepsRunAt, is_of_rows}
-use Rattle.papaya_pieced.specs.Given.Events.OfSetups.{KeepsSetup, is_of_setups}
-use Rattle.papaya_pieced.proofs.Given.Events.Nobody.{is_word, shows_nobody}
+use Rattle.papaya_pieced.specs.Given.FindsLittle.{ReclaimsAll, WhereAll}
+use Rattle.papaya_pieced.proofs.Given.LegalLegal.{events_are_legal}
+use Rattle.papaya_pieced.specs.Given.SchedulerPlayed.{entry_of}
+use Rattle.papaya_pieced.specs.Given.SchedulerDeclared.played.Played.{Played}
+use Rattle.papaya_pieced.specs.Given.SchedulerDeclared.scheduler.Scheduler.{Scheduler}
+use Rattle.papaya_pieced.specs.Given.EventsAsked.{FindsBy, FindsRight, Happens, HappensAt, Holds, is_of_calls}
+use Rattle.papaya_pieced.specs.Given.EventsOfAll.{KeepsAll}
+use Rattle.papaya_pieced.specs.Given.FoldedFolded.{HandsInOrder}
+use Rattle.papaya_pieced.specs.Given.EventsOfCalls.{KeepsAt, Runs, RunsOn}
+use Rattle.papaya_pieced.specs.Given.EventsOfRows.{KeepsRunAt, is_of_rows}
+use Rattle.papaya_pieced.specs.Given.EventsOfSetups.{KeepsSetup, is_of_setups}
+use Rattle.papaya_pieced.proofs.Given.EventsNobody.{is_word, shows_nobody}
 
 module _ {K V : Type 0} where
   -- an event of no call, whose work is no row, no making and no end, and which does not reclaim all, is one by which no steps run

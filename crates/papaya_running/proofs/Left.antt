@@ -3,8 +3,8 @@ use Rattle.std.specs.Prelude.{◌≡◌, ◌≢◌, ◌<◌, ◌≤◌, ◌+◌,
 use Rattle.std.specs.List.{AllByRecursion}
 use Rattle.std.proofs.Common.{refl, sym, ap, subst, ◌∙◌, arith, eqb-true, inl, inr}
 use Rattle.std.proofs.lemmas.Bool.{cases_eq, cases_lt, eq-eqb}
-use Rattle.papaya_pieced.specs.Given.Tables.declared.node.Node.{Node}
-use Rattle.papaya_pieced.specs.Given.Tables.declared.node.Node.TheVariants as node
+use Rattle.papaya_pieced.specs.Given.TablesDeclared.node.Node.{Node}
+use Rattle.papaya_pieced.specs.Given.TablesDeclared.node.Node.TheVariants as node
 use Rattle.papaya_runs.specs.declared.record.Pair.{Pair}
 use Rattle.papaya_runs.specs.LifeCycle.{times}
 use Rattle.papaya_runs.specs.Log.{pair_at}
@@ -18,9 +18,9 @@ use Rattle.papaya_schedules.specs.Views.{is_in_a_map, is_waiting}
 use Rattle.papaya_tally.specs.Given.Effects.Known.{Known}
 use Rattle.papaya_tally.specs.Given.Effects.declared.role.Role.{Role}
 use Rattle.papaya_tally.specs.Given.Effects.declared.role.Role.TheVariants as role
-use Rattle.papaya_pieced.specs.Given.Follows.Blocks.{HasRole, ShowsBlocks}
-use Rattle.papaya_pieced.specs.Given.Spots.Unreclaimed.{ShowsUnreclaimed, is_unreclaimed}
-use Rattle.papaya_pieced.specs.Given.Seize.World.{World}
+use Rattle.papaya_pieced.specs.Given.FollowsBlocks.{HasRole, ShowsBlocks}
+use Rattle.papaya_pieced.specs.Given.SpotsUnreclaimed.{ShowsUnreclaimed, is_unreclaimed}
+use Rattle.papaya_pieced.specs.Given.SeizeWorld.{World}
 use Rattle.seize_words.specs.Mem.{value_at}
 use Rattle.papaya_tally.specs.Left.{HoldPairs, noted, noted_below}
 use Rattle.papaya_tally.proofs.Back.{joined}

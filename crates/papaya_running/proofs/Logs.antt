@@ -18,12 +18,12 @@ use Rattle.papaya_schedules.specs.Moment.{MapThere, UnderWay, Moment}
 use Rattle.papaya_schedules.specs.Runs.{log_on, singles, singles_of}
 use Rattle.papaya_schedules.specs.Terms.{Terms}
 use Rattle.papaya_schedules.specs.Views.{call_of, number_of}
-use Rattle.papaya_pieced.proofs.Given.Rows.Lists.{found_alike}
-use Rattle.papaya_pieced.specs.Given.Scheduler.Played.{StandsFor}
-use Rattle.papaya_pieced.specs.Given.Named.Seen.{Seen, is_named, number_named, seen, seen_of}
-use Rattle.papaya_pieced.specs.Given.Named.declared.caller.Caller.{Caller}
-use Rattle.papaya_pieced.specs.Given.Scheduler.declared.scheduler.Scheduler.{Scheduler}
-use Rattle.papaya_pieced.proofs.Given.Scheduler.Maps.{number_is}
+use Rattle.papaya_pieced.proofs.Given.RowsLists.{found_alike}
+use Rattle.papaya_pieced.specs.Given.SchedulerPlayed.{StandsFor}
+use Rattle.papaya_pieced.specs.Given.NamedSeen.{Seen, is_named, number_named, seen, seen_of}
+use Rattle.papaya_pieced.specs.Given.NamedDeclared.caller.Caller.{Caller}
+use Rattle.papaya_pieced.specs.Given.SchedulerDeclared.scheduler.Scheduler.{Scheduler}
+use Rattle.papaya_pieced.proofs.Given.SchedulerMaps.{number_is}
 use Rattle.papaya_running.specs.Acting.{acting_of, called_map, map_acted, or_else, singles_as, traced}
 use Rattle.papaya_running.specs.declared.acting.Traced.{Traced}
 use Rattle.papaya_running.specs.declared.acting.Traced.TheVariants.{Whole}

@@ -1,7 +1,7 @@
 -- Which kinds are of calls and of maps.
 use Rattle.std.specs.Prelude.{◌≡◌, true, false}
 use Rattle.std.proofs.Common.{refl}
-use Rattle.papaya_pieced.specs.Given.Events.Asked.{is_of_calls, is_of_maps}
+use Rattle.papaya_pieced.specs.Given.EventsAsked.{is_of_calls, is_of_maps}
 use Rattle.papaya_running.specs.Kinds.{event_of_call, event_of_maps, event_of_slots}
 use Rattle.papaya_running.specs.declared.kinds.CallEvent.{CallEvent}
 use Rattle.papaya_running.specs.declared.kinds.CallEvent.TheVariants.{Begin, Step, Go, Replied, OneCall, Next, Stop}

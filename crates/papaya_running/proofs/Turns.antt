@@ -17,29 +17,29 @@ use Rattle.papaya_schedules.specs.Moment.{Place, Deferral, MapThere, TableThere,
 use Rattle.papaya_schedules.specs.Runs.{IsLegal, IsLegalLog, IsRunOf, Lists, ShowsMaps, log_of, log_on, trace_of}
 use Rattle.papaya_schedules.specs.Terms.{Terms}
 use Rattle.papaya_schedules.specs.Views.{is_in_map, is_retired}
-use Rattle.papaya_pieced.specs.Given.Scheduler.Played.{entry_of}
-use Rattle.papaya_pieced.specs.Given.Named.Seen.{named, named_of}
-use Rattle.papaya_pieced.specs.Given.Scheduler.declared.played.Played.{Played}
-use Rattle.papaya_pieced.specs.Given.Named.declared.named_map.NamedMap.{NamedMap}
-use Rattle.papaya_pieced.specs.Given.Scheduler.declared.scheduler.Scheduler.{Scheduler}
+use Rattle.papaya_pieced.specs.Given.SchedulerPlayed.{entry_of}
+use Rattle.papaya_pieced.specs.Given.NamedSeen.{named, named_of}
+use Rattle.papaya_pieced.specs.Given.SchedulerDeclared.played.Played.{Played}
+use Rattle.papaya_pieced.specs.Given.NamedDeclared.named_map.NamedMap.{NamedMap}
+use Rattle.papaya_pieced.specs.Given.SchedulerDeclared.scheduler.Scheduler.{Scheduler}
 use Rattle.papaya_running.specs.Acting.{acting_of, map_acted, singles_as, traced}
-use Rattle.papaya_pieced.specs.Given.Events.Asked.{Happens, Holds}
+use Rattle.papaya_pieced.specs.Given.EventsAsked.{Happens, Holds}
 use Rattle.papaya_running.specs.Back.{BackSoFar, ReclaimsBy, ReclaimsRight, TellsBack}
 use Rattle.papaya_running.specs.Ending.{shown_of, told_map}
-use Rattle.papaya_pieced.specs.Given.Events.OfCalls.{Runs}
-use Rattle.papaya_pieced.specs.Given.Folded.Folded.{HandsInOrder}
-use Rattle.papaya_pieced.proofs.Given.Folded.Logs.{ended_calls_fold}
+use Rattle.papaya_pieced.specs.Given.EventsOfCalls.{Runs}
+use Rattle.papaya_pieced.specs.Given.FoldedFolded.{HandsInOrder}
+use Rattle.papaya_pieced.proofs.Given.FoldedLogs.{ended_calls_fold}
 use Rattle.papaya_running.specs.Run.{GoesRight, HandsOn, IsRightRun, SoFar, TellsMost, log_so}
 use Rattle.papaya_tally.specs.Places.{Leads}
 use Rattle.papaya_tally.specs.Tally.{Tells, TellsAll, TellsMoment, counted, deferral, flag_of}
 use Rattle.papaya_running.specs.declared.record.Record.{Record}
-use Rattle.papaya_pieced.specs.Given.Logged.Back.{ComesBack}
+use Rattle.papaya_pieced.specs.Given.LoggedBack.{ComesBack}
 use Rattle.papaya_tally.specs.Told.{AreBack}
 use Rattle.papaya_tally.proofs.Back.{back_then}
 use Rattle.papaya_tally.specs.declared.tally.Tally.{Tally}
 use Rattle.papaya_tally.specs.declared.tally.Whereabouts.{Whereabouts}
 use Rattle.papaya_tally.specs.declared.tally.Whereabouts.TheVariants.{Unborn}
-use Rattle.papaya_pieced.specs.Given.Finds.TornDown.{StoredAreSomewhere}
+use Rattle.papaya_pieced.specs.Given.FindsTornDown.{StoredAreSomewhere}
 use Rattle.papaya_running.proofs.AsRun.{all_reclaim_right, as_run}
 use Rattle.papaya_running.proofs.Logs.{acted_so, begun_same, log_long, log_more, singles_are}
 use Rattle.papaya_tally.proofs.Numbers.{lists_map}

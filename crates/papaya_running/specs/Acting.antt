@@ -7,8 +7,8 @@ use Rattle.papaya_schedules.specs.declared.event.Event.TheVariants.{MakeMap, End
 use Rattle.papaya_schedules.specs.declared.outcome.Outcome.{Outcome}
 use Rattle.papaya_schedules.specs.declared.outcome.Outcome.TheVariants.{Done}
 use Rattle.papaya_schedules.specs.Entry.{is_busy, nameless}
-use Rattle.papaya_pieced.specs.Given.Named.Seen.{is_named, number_named}
-use Rattle.papaya_pieced.specs.Given.Scheduler.declared.scheduler.Scheduler.{Scheduler}
+use Rattle.papaya_pieced.specs.Given.NamedSeen.{is_named, number_named}
+use Rattle.papaya_pieced.specs.Given.SchedulerDeclared.scheduler.Scheduler.{Scheduler}
 use Rattle.papaya_running.specs.declared.acting.Acting.{Acting}
 use Rattle.papaya_running.specs.declared.acting.Acting.TheVariants.{On, Calls, Makes}
 use Rattle.papaya_running.specs.declared.acting.Traced.{Traced}

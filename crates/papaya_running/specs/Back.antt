@@ -15,11 +15,11 @@ use Rattle.papaya_schedules.specs.Entry.{Entry}
 use Rattle.papaya_schedules.specs.Moment.{Moment}
 use Rattle.papaya_schedules.specs.Runs.{pair_of}
 use Rattle.papaya_schedules.specs.Terms.{Terms}
-use Rattle.papaya_pieced.specs.Given.Logged.Back.{ComesBack}
-use Rattle.papaya_pieced.specs.Given.Scheduler.declared.played.Played.{Played}
-use Rattle.papaya_pieced.specs.Given.Scheduler.declared.scheduler.Scheduler.{Scheduler}
+use Rattle.papaya_pieced.specs.Given.LoggedBack.{ComesBack}
+use Rattle.papaya_pieced.specs.Given.SchedulerDeclared.played.Played.{Played}
+use Rattle.papaya_pieced.specs.Given.SchedulerDeclared.scheduler.Scheduler.{Scheduler}
 use Rattle.papaya_tally.specs.Told.{AreBack, ArePlaced}
-use Rattle.papaya_pieced.specs.Given.Events.Asked.{Holds}
+use Rattle.papaya_pieced.specs.Given.EventsAsked.{Holds}
 
 module _ {K V : Type 0} where
   -- Pairs are reclaimed by those alone who do something with a slot, end a map, or reclaim everything.

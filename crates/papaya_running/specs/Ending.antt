@@ -1,7 +1,7 @@
 -- What is told of maps at the end of a run.
 use Rattle.std.specs.Prelude.{ℕ, List, Some}
 use Rattle.papaya_runs.specs.declared.record.Living.{Living}
-use Rattle.papaya_pieced.specs.Given.Named.declared.named_map.NamedMap.{NamedMap}
+use Rattle.papaya_pieced.specs.Given.NamedDeclared.named_map.NamedMap.{NamedMap}
 use Rattle.papaya_tally.specs.Tally.{numbers_at, passes}
 use Rattle.papaya_tally.specs.declared.tally.Tally.{Tally}
 

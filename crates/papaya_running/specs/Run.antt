@@ -17,14 +17,14 @@ use Rattle.papaya_schedules.specs.Steps.{DoesFew, MakesSteps, stands_or}
 use Rattle.papaya_schedules.specs.Terms.{Terms}
 use Rattle.papaya_schedules.specs.Views.{is_in_a_map, is_retired, is_waiting}
 use Rattle.papaya_runs.specs.declared.event.Setup.{Setup}
-use Rattle.papaya_pieced.specs.Given.Scheduler.Quiet.{IsQuiet}
-use Rattle.papaya_pieced.specs.Given.Scheduler.declared.scheduler.Scheduler.{Scheduler}
-use Rattle.papaya_pieced.specs.Given.Events.Asked.{Holds}
+use Rattle.papaya_pieced.specs.Given.SchedulerQuiet.{IsQuiet}
+use Rattle.papaya_pieced.specs.Given.SchedulerDeclared.scheduler.Scheduler.{Scheduler}
+use Rattle.papaya_pieced.specs.Given.EventsAsked.{Holds}
 use Rattle.papaya_running.specs.Back.{BackSoFar, TellsBack}
-use Rattle.papaya_pieced.specs.Given.Events.OfCalls.{Runs}
-use Rattle.papaya_pieced.specs.Given.Points.Steps.{AreLawful}
+use Rattle.papaya_pieced.specs.Given.EventsOfCalls.{Runs}
+use Rattle.papaya_pieced.specs.Given.PointsSteps.{AreLawful}
 use Rattle.papaya_pieced.specs.SoFar.{ActsSoFar}
-use Rattle.papaya_pieced.specs.Given.Folded.Folded.{HandsAllOver, HandsInOrder}
+use Rattle.papaya_pieced.specs.Given.FoldedFolded.{HandsAllOver, HandsInOrder}
 use Rattle.papaya_tally.specs.Tally.{TellsMoment}
 use Rattle.papaya_running.specs.declared.record.Record.{Record}
 use Rattle.papaya_running.specs.declared.running.Running.{Running}

@@ -1,14 +1,14 @@
 //! An event of a schedule happens.
 ghost use Rattle.std.specs.Prelude.{◌≡◌, length, IfOk};
-ghost use Rattle.papaya_pieced.specs.Given.Events.Asked.{HappensAt, HappensDue, HoldsThen, MayHappen, MayHappenDue, numbers_on};
+ghost use Rattle.papaya_pieced.specs.Given.EventsAsked.{HappensAt, HappensDue, HoldsThen, MayHappen, MayHappenDue, numbers_on};
 ghost use Rattle.papaya_running.specs.Back.{GivesAt, GivesDue};
 ghost use Rattle.papaya_running.specs.GoingOn.{GoesOnAt, GoesOnDue};
 ghost use Rattle.papaya_running.specs.Kinds.{event_of_call, event_of_maps, event_of_slots};
-ghost use Rattle.papaya_pieced.specs.Given.Events.OfAll.{KeepsAll};
-ghost use Rattle.papaya_pieced.specs.Given.Events.OfCalls.{KeepsAt, KeepsDue};
-ghost use Rattle.papaya_pieced.specs.Given.Events.OfRows.{KeepsRun, KeepsRunAt};
-ghost use Rattle.papaya_pieced.specs.Given.Events.OfSetups.{KeepsSetup};
-ghost use Rattle.papaya_pieced.specs.Given.Executor.IsThere.{KeepsGiven, StaysGiven};
+ghost use Rattle.papaya_pieced.specs.Given.EventsOfAll.{KeepsAll};
+ghost use Rattle.papaya_pieced.specs.Given.EventsOfCalls.{KeepsAt, KeepsDue};
+ghost use Rattle.papaya_pieced.specs.Given.EventsOfRows.{KeepsRun, KeepsRunAt};
+ghost use Rattle.papaya_pieced.specs.Given.EventsOfSetups.{KeepsSetup};
+ghost use Rattle.papaya_pieced.specs.Given.ExecutorIsThere.{KeepsGiven, StaysGiven};
 
 use crate::kinds::{CallEvent, Kind, MapEvent, SlotEvent, kind_of};
 use papaya_pieced::papaya_mapping::endings::end_map;

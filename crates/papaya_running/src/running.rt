@@ -5,8 +5,8 @@ ghost use Rattle.papaya_schedules.specs.After.{AtEachEvent};
 ghost use Rattle.papaya_schedules.specs.Runs.{IsRunOf, log_of};
 ghost use Rattle.papaya_schedules.specs.Terms.{Terms};
 ghost use Rattle.papaya_schedules.specs.declared.event.Event.{Event};
-ghost use Rattle.papaya_pieced.specs.Given.Scheduler.Played.{terms_given};
-ghost use Rattle.papaya_pieced.specs.Given.Grouped.ByActs.{IsByActs};
+ghost use Rattle.papaya_pieced.specs.Given.SchedulerPlayed.{terms_given};
+ghost use Rattle.papaya_pieced.specs.Given.GroupedByActs.{IsByActs};
 ghost use Rattle.papaya_running.specs.Run.{HandsOn, HasCome, HoldsBlocks, IsRightRun, bounded};
 
 use crate::acting::{acting_of, traced_as};

@@ -2,24 +2,24 @@
 use Rattle.std.specs.Prelude.{◌≡◌, ℕ, Bool, List, [], ◌++◌}
 use Rattle.std.proofs.Common.{sym, ap, subst, ◌∙◌}
 use Rattle.papaya_runs.specs.declared.record.Pair.{Pair}
-use Rattle.papaya_rows.specs.Given.Schedules.declared.effect.Effect.{Effect}
-use Rattle.papaya_rows.specs.Given.Schedules.declared.event.Event.{Event}
-use Rattle.papaya_rows.specs.Given.Schedules.After.{moment}
-use Rattle.papaya_rows.specs.Given.Schedules.Entry.{Entry}
-use Rattle.papaya_rows.specs.Given.Schedules.Moment.{Moment}
-use Rattle.papaya_rows.specs.Given.Schedules.Terms.{Terms}
-use Rattle.papaya_rows.specs.Given.Scenes.declared.row.SlotCall.{SlotCall}
-use Rattle.papaya_rows.specs.Given.Reclaiming.Reclaiming.{MayReclaim, NobodyHas}
-use Rattle.papaya_rows.specs.Given.Logged.Back.{AllBringsBack, BringsBack, ComesBack}
-use Rattle.papaya_rows.specs.Given.Logged.OnSlots.{OnSlotBegins}
-use Rattle.papaya_rows.specs.Given.Logged.Shown.{IsShown}
-use Rattle.papaya_rows.specs.Given.Logged.declared.logged.Logged.{Logged}
-use Rattle.papaya_rows.proofs.Given.Logged.BroughtBack.{none_back}
+use Rattle.papaya_rows.specs.Given.SchedulesDeclared.effect.Effect.{Effect}
+use Rattle.papaya_rows.specs.Given.SchedulesDeclared.event.Event.{Event}
+use Rattle.papaya_rows.specs.Given.SchedulesAfter.{moment}
+use Rattle.papaya_rows.specs.Given.SchedulesEntry.{Entry}
+use Rattle.papaya_rows.specs.Given.SchedulesMoment.{Moment}
+use Rattle.papaya_rows.specs.Given.SchedulesTerms.{Terms}
+use Rattle.papaya_rows.specs.Given.ScenesDeclared.row.SlotCall.{SlotCall}
+use Rattle.papaya_rows.specs.Given.ReclaimingReclaiming.{MayReclaim, NobodyHas}
+use Rattle.papaya_rows.specs.Given.LoggedBack.{AllBringsBack, BringsBack, ComesBack}
+use Rattle.papaya_rows.specs.Given.LoggedOnSlots.{OnSlotBegins}
+use Rattle.papaya_rows.specs.Given.LoggedShown.{IsShown}
+use Rattle.papaya_rows.specs.Given.LoggedDeclared.logged.Logged.{Logged}
+use Rattle.papaya_rows.proofs.Given.LoggedBroughtBack.{none_back}
 use Rattle.papaya_scheduler.specs.Played.{IsDue}
 use Rattle.papaya_scheduler.specs.declared.scheduler.Scheduler.{Scheduler}
-use Rattle.papaya_rows.specs.Given.Executor.OnSlots.{MayBegin}
-use Rattle.papaya_rows.specs.Given.Scenes.Scene.{Scene, slot_of}
-use Rattle.papaya_rows.specs.Given.Executor.IsThere.{in_slot}
+use Rattle.papaya_rows.specs.Given.ExecutorOnSlots.{MayBegin}
+use Rattle.papaya_rows.specs.Given.ScenesScene.{Scene, slot_of}
+use Rattle.papaya_rows.specs.Given.ExecutorIsThere.{in_slot}
 
 module _ {K V S : Type 0} where
   -- what a row brings back that has begun before it ran

@@ -6,40 +6,40 @@ use Rattle.std.proofs.lemmas.Bool.{cases_eq, eq-eqb, ne_eqb}
 use Rattle.papaya_runs.specs.Given.Tables.declared.setting.Setting.{Setting}
 use Rattle.papaya_runs.specs.Present.{guard_of, living_slot}
 use Rattle.papaya_runs.specs.Same.{is_same}
-use Rattle.papaya_rows.specs.Given.Schedules.declared.call.Call.{Call}
-use Rattle.papaya_rows.specs.Given.Schedules.Beginning.{with_call}
-use Rattle.papaya_rows.specs.Given.Schedules.InUse.{is_living}
-use Rattle.papaya_rows.specs.Given.Schedules.Lists.{put}
-use Rattle.papaya_rows.specs.Given.Schedules.Moment.{Moment}
-use Rattle.papaya_rows.specs.Given.Schedules.Terms.{Terms}
-use Rattle.papaya_rows.specs.Given.Schedules.Views.{call_of, map_of, number_of}
-use Rattle.papaya_rows.specs.Given.Callers.Together.{UnderWay, in_slot}
-use Rattle.papaya_rows.proofs.Given.Callers.Together.At.{at_other, at_same}
-use Rattle.papaya_rows.specs.Given.Scenes.declared.row.SlotUse.TheVariants as used
-use Rattle.papaya_rows.specs.Given.Scenes.declared.callers.TheConstants.{SLOTS}
-use Rattle.papaya_rows.specs.Given.Finishes.Machines.{machine_of}
-use Rattle.papaya_rows.specs.Given.Finishes.Maps.{Standing}
-use Rattle.papaya_rows.specs.Given.Follows.Calling.{NoneNamed}
-use Rattle.papaya_rows.proofs.Given.Follows.Calling.{apart_back, is_same_is}
-use Rattle.papaya_rows.specs.Given.Logged.Calling.{CallBegins}
-use Rattle.papaya_rows.specs.Given.Logged.Shown.{IsShown}
-use Rattle.papaya_rows.specs.Given.Logged.declared.logged.Logged.{Logged}
-use Rattle.papaya_rows.specs.Given.Named.Machines.{IsAsFar, machine_for}
+use Rattle.papaya_rows.specs.Given.SchedulesDeclared.call.Call.{Call}
+use Rattle.papaya_rows.specs.Given.SchedulesBeginning.{with_call}
+use Rattle.papaya_rows.specs.Given.SchedulesInUse.{is_living}
+use Rattle.papaya_rows.specs.Given.SchedulesLists.{put}
+use Rattle.papaya_rows.specs.Given.SchedulesMoment.{Moment}
+use Rattle.papaya_rows.specs.Given.SchedulesTerms.{Terms}
+use Rattle.papaya_rows.specs.Given.SchedulesViews.{call_of, map_of, number_of}
+use Rattle.papaya_rows.specs.Given.CallersTogether.{UnderWay, in_slot}
+use Rattle.papaya_rows.proofs.Given.CallersTogether.At.{at_other, at_same}
+use Rattle.papaya_rows.specs.Given.ScenesDeclared.row.SlotUse.TheVariants as used
+use Rattle.papaya_rows.specs.Given.ScenesDeclared.callers.TheConstants.{SLOTS}
+use Rattle.papaya_rows.specs.Given.FinishesMachines.{machine_of}
+use Rattle.papaya_rows.specs.Given.FinishesMaps.{Standing}
+use Rattle.papaya_rows.specs.Given.FollowsCalling.{NoneNamed}
+use Rattle.papaya_rows.proofs.Given.FollowsCalling.{apart_back, is_same_is}
+use Rattle.papaya_rows.specs.Given.LoggedCalling.{CallBegins}
+use Rattle.papaya_rows.specs.Given.LoggedShown.{IsShown}
+use Rattle.papaya_rows.specs.Given.LoggedDeclared.logged.Logged.{Logged}
+use Rattle.papaya_rows.specs.Given.NamedMachines.{IsAsFar, machine_for}
 use Rattle.papaya_scheduler.specs.Played.{BeginsSo, CallsAre, IsUnderWay, StandsFor}
-use Rattle.papaya_rows.specs.Given.Named.Seen.{Seen, is_named, kind_of, seen, seen_of, setting_named}
-use Rattle.papaya_rows.specs.Given.Named.declared.caller.Caller.{Caller}
-use Rattle.papaya_rows.specs.Given.Named.declared.caller.Stands.TheVariants as far
+use Rattle.papaya_rows.specs.Given.NamedSeen.{Seen, is_named, kind_of, seen, seen_of, setting_named}
+use Rattle.papaya_rows.specs.Given.NamedDeclared.caller.Caller.{Caller}
+use Rattle.papaya_rows.specs.Given.NamedDeclared.caller.Stands.TheVariants as far
 use Rattle.papaya_scheduler.specs.declared.scheduler.Scheduler.{Scheduler}
-use Rattle.papaya_rows.proofs.Given.Named.Called.{begins_for_room, begun_call, begins_so, is_as_far, is_begun_for, is_called, its_machine}
+use Rattle.papaya_rows.proofs.Given.NamedCalled.{begins_for_room, begun_call, begins_so, is_as_far, is_begun_for, is_called, its_machine}
 use Rattle.papaya_rows.proofs.Facts.{no_ending_of, no_making_of, no_work_at, row_rests, slot_fits, used_still}
 use Rattle.papaya_rows.proofs.Lists.{all_but, all_so, as_some, found_alike, is_found, none_kept, one_of}
 use Rattle.papaya_scheduler.proofs.Maps.{setting_of_it, setting_some}
 use Rattle.papaya_rows.proofs.There.{is_inside, living_is, on_its_slot}
-use Rattle.papaya_rows.proofs.Given.Executor.Fresh.{caller_in, no_calls_yet, slot_is}
-use Rattle.papaya_rows.specs.Given.Executor.Beginning.{BeginsThere}
-use Rattle.papaya_rows.specs.Given.Executor.IsThere.{IsThere, use_at, work_of}
-use Rattle.papaya_rows.specs.Given.Scenes.Replying.{scene_with}
-use Rattle.papaya_rows.specs.Given.Scenes.Scene.{Scene, slot_of}
+use Rattle.papaya_rows.proofs.Given.ExecutorFresh.{caller_in, no_calls_yet, slot_is}
+use Rattle.papaya_rows.specs.Given.ExecutorBeginning.{BeginsThere}
+use Rattle.papaya_rows.specs.Given.ExecutorIsThere.{IsThere, use_at, work_of}
+use Rattle.papaya_rows.specs.Given.ScenesReplying.{scene_with}
+use Rattle.papaya_rows.specs.Given.ScenesScene.{Scene, slot_of}
 
 and_parts : (a b : Bool) → (a && b) ≡ true → (a ≡ true) × (b ≡ true)
 and_parts true b e = (refl, e)

@@ -4,29 +4,29 @@ use Rattle.std.specs.List.{list_any}
 use Rattle.std.proofs.Common.{refl, sym, ap, subst, ◌∙◌}
 use Rattle.papaya_runs.specs.Given.Tables.declared.setting.Setting.{Setting}
 use Rattle.papaya_runs.specs.Present.{guard_of, living_slot}
-use Rattle.papaya_rows.specs.Given.Schedules.Moment.{Moment}
-use Rattle.papaya_rows.specs.Given.Schedules.Terms.{Terms}
-use Rattle.papaya_rows.specs.Given.Schedules.InUse.{is_living}
-use Rattle.papaya_rows.specs.Given.Schedules.Views.{call_of, map_of}
-use Rattle.papaya_rows.specs.Given.Schedules.declared.call.Call.{Call}
-use Rattle.papaya_rows.specs.Given.Raw.declared.machines.machine.Machine.{Machine}
-use Rattle.papaya_rows.specs.Given.Scenes.declared.callers.TheConstants.{SLOTS}
-use Rattle.papaya_rows.specs.Given.Logged.Calling.{CallBegins}
-use Rattle.papaya_rows.specs.Given.Logged.Shown.{IsShown}
-use Rattle.papaya_rows.specs.Given.Logged.declared.logged.Logged.{Logged}
-use Rattle.papaya_rows.specs.Given.Named.Machines.{machine_for}
+use Rattle.papaya_rows.specs.Given.SchedulesMoment.{Moment}
+use Rattle.papaya_rows.specs.Given.SchedulesTerms.{Terms}
+use Rattle.papaya_rows.specs.Given.SchedulesInUse.{is_living}
+use Rattle.papaya_rows.specs.Given.SchedulesViews.{call_of, map_of}
+use Rattle.papaya_rows.specs.Given.SchedulesDeclared.call.Call.{Call}
+use Rattle.papaya_rows.specs.Given.RawDeclared.machines.machine.Machine.{Machine}
+use Rattle.papaya_rows.specs.Given.ScenesDeclared.callers.TheConstants.{SLOTS}
+use Rattle.papaya_rows.specs.Given.LoggedCalling.{CallBegins}
+use Rattle.papaya_rows.specs.Given.LoggedShown.{IsShown}
+use Rattle.papaya_rows.specs.Given.LoggedDeclared.logged.Logged.{Logged}
+use Rattle.papaya_rows.specs.Given.NamedMachines.{machine_for}
 use Rattle.papaya_scheduler.specs.Played.{BeginsSo, StandsFor}
-use Rattle.papaya_rows.specs.Given.Named.Seen.{Seen, is_named, kind_of, setting_named}
-use Rattle.papaya_rows.specs.Given.Named.declared.caller.Caller.{Caller}
-use Rattle.papaya_rows.specs.Given.Named.declared.caller.Stands.TheVariants as far
-use Rattle.papaya_rows.specs.Given.Named.declared.kind.Kind.{Kind}
+use Rattle.papaya_rows.specs.Given.NamedSeen.{Seen, is_named, kind_of, setting_named}
+use Rattle.papaya_rows.specs.Given.NamedDeclared.caller.Caller.{Caller}
+use Rattle.papaya_rows.specs.Given.NamedDeclared.caller.Stands.TheVariants as far
+use Rattle.papaya_rows.specs.Given.NamedDeclared.kind.Kind.{Kind}
 use Rattle.papaya_scheduler.specs.declared.scheduler.Scheduler.{Scheduler}
-use Rattle.papaya_rows.specs.Given.Executor.Beginning.{BeginsThere}
-use Rattle.papaya_rows.specs.Given.Executor.IsThere.{IsThere}
+use Rattle.papaya_rows.specs.Given.ExecutorBeginning.{BeginsThere}
+use Rattle.papaya_rows.specs.Given.ExecutorIsThere.{IsThere}
 use Rattle.papaya_scheduler.proofs.Begins.{begun, called_is, lives_is, not_begun}
 use Rattle.papaya_rows.proofs.Lists.{place_some}
 use Rattle.papaya_scheduler.proofs.Maps.{setting_some}
-use Rattle.papaya_rows.specs.Given.Scenes.Scene.{Scene}
+use Rattle.papaya_rows.specs.Given.ScenesScene.{Scene}
 
 module _ {K V S : Type 0} (same : K → K → Bool) (hash : K → ℕ) (terms : Terms) (m : Moment K V) (p : Scheduler K V S) (stands : StandsFor same hash terms m p) (own guard name : List ℕ)
     (call : Call K V) where

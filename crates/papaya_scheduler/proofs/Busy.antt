@@ -4,12 +4,12 @@ use Rattle.std.proofs.Common.{sym, subst, inl, inr}
 use Rattle.seize_words.specs.declared.fault.Fault.{Fault}
 use Rattle.seize_words.specs.declared.fault.Fault.TheVariants.{Busy, SlotsUsedUp}
 use Rattle.papaya_runs.specs.Present.{Present}
-use Rattle.papaya_rows.specs.Given.Schedules.declared.effect.Effect.{Effect}
-use Rattle.papaya_rows.specs.Given.Schedules.declared.outcome.Outcome.{Outcome}
-use Rattle.papaya_rows.specs.Given.Schedules.declared.outcome.Outcome.TheVariants.{Refused, Slot}
-use Rattle.papaya_rows.specs.Given.Schedules.InTurn.{GetsSlot, IsShort, most_slots}
-use Rattle.papaya_rows.specs.Given.Schedules.InUse.{used_slots}
-use Rattle.papaya_rows.specs.Given.Schedules.Lists.{least_free}
+use Rattle.papaya_rows.specs.Given.SchedulesDeclared.effect.Effect.{Effect}
+use Rattle.papaya_rows.specs.Given.SchedulesDeclared.outcome.Outcome.{Outcome}
+use Rattle.papaya_rows.specs.Given.SchedulesDeclared.outcome.Outcome.TheVariants.{Refused, Slot}
+use Rattle.papaya_rows.specs.Given.SchedulesInTurn.{GetsSlot, IsShort, most_slots}
+use Rattle.papaya_rows.specs.Given.SchedulesInUse.{used_slots}
+use Rattle.papaya_rows.specs.Given.SchedulesLists.{least_free}
 use Rattle.papaya_scheduler.specs.Quiet.{IsQuiet}
 
 pub none_quiet : {V : Type 0} (o : Outcome V) (effects : List Effect) → effects ≡ [] → IsQuiet o effects

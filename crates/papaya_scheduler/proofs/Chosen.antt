@@ -1,15 +1,15 @@
 -- A scheduler stands as before where a choice of a block number comes.
 use Rattle.std.specs.Prelude.{◌≡◌, ◌+◌, ◌&&◌, ℕ, Bool, List, []}
 use Rattle.std.proofs.Common.{refl, ap, sym, subst}
-use Rattle.papaya_rows.specs.Given.Schedules.declared.event.Event.TheVariants.{Choose}
-use Rattle.papaya_rows.specs.Given.Schedules.declared.outcome.Outcome.TheVariants.{Done}
-use Rattle.papaya_rows.specs.Given.Schedules.After.{is_alone_on, moment}
-use Rattle.papaya_rows.specs.Given.Schedules.Entry.{Entry}
-use Rattle.papaya_rows.specs.Given.Schedules.Moment.{Moment}
-use Rattle.papaya_rows.specs.Given.Schedules.Terms.{Terms}
-use Rattle.papaya_rows.specs.Given.Logged.Choosing.{logged_chosen, scene_chosen}
-use Rattle.papaya_rows.specs.Given.Logged.declared.logged.Logged.{Logged}
-use Rattle.papaya_rows.proofs.Given.Logged.Choosing.{choice_shown}
+use Rattle.papaya_rows.specs.Given.SchedulesDeclared.event.Event.TheVariants.{Choose}
+use Rattle.papaya_rows.specs.Given.SchedulesDeclared.outcome.Outcome.TheVariants.{Done}
+use Rattle.papaya_rows.specs.Given.SchedulesAfter.{is_alone_on, moment}
+use Rattle.papaya_rows.specs.Given.SchedulesEntry.{Entry}
+use Rattle.papaya_rows.specs.Given.SchedulesMoment.{Moment}
+use Rattle.papaya_rows.specs.Given.SchedulesTerms.{Terms}
+use Rattle.papaya_rows.specs.Given.LoggedChoosing.{logged_chosen, scene_chosen}
+use Rattle.papaya_rows.specs.Given.LoggedDeclared.logged.Logged.{Logged}
+use Rattle.papaya_rows.proofs.Given.LoggedChoosing.{choice_shown}
 use Rattle.papaya_scheduler.specs.Played.{IsDue, Plays, StandsFor}
 use Rattle.papaya_scheduler.specs.Works.{WorksOnSetup}
 use Rattle.papaya_scheduler.specs.declared.played.Played.{Played}

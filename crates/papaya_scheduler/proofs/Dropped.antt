@@ -7,21 +7,21 @@ use Rattle.papaya_runs.specs.declared.holders.Guard.{Guard}
 use Rattle.papaya_runs.specs.Present.{Present, HaveNames, drops, guard_of, guards_on, living_slot}
 use Rattle.papaya_runs.specs.Same.{is_same}
 use Rattle.papaya_runs.proofs.Laws.{drops_counts}
-use Rattle.papaya_rows.specs.Given.Schedules.Moment.{Moment}
-use Rattle.papaya_rows.specs.Given.Schedules.Terms.{Terms}
-use Rattle.papaya_rows.specs.Given.Scenes.declared.row.SlotUse.TheVariants as used
-use Rattle.papaya_rows.specs.Given.Scenes.declared.callers.TheConstants.{SLOTS}
+use Rattle.papaya_rows.specs.Given.SchedulesMoment.{Moment}
+use Rattle.papaya_rows.specs.Given.SchedulesTerms.{Terms}
+use Rattle.papaya_rows.specs.Given.ScenesDeclared.row.SlotUse.TheVariants as used
+use Rattle.papaya_rows.specs.Given.ScenesDeclared.callers.TheConstants.{SLOTS}
 use Rattle.papaya_rows.specs.Rows.{used_as}
 use Rattle.papaya_scheduler.specs.Played.{IsUnderWay, StandsFor}
-use Rattle.papaya_rows.specs.Given.Named.Seen.{free_slot}
+use Rattle.papaya_rows.specs.Given.NamedSeen.{free_slot}
 use Rattle.papaya_scheduler.specs.declared.scheduler.Scheduler.{Scheduler}
 use Rattle.papaya_rows.proofs.Facts.{slot_fits}
 use Rattle.papaya_rows.proofs.Lists.{all_but}
 use Rattle.papaya_scheduler.proofs.RanOn.{nobody_by}
 use Rattle.papaya_scheduler.proofs.Seats.{none_uses}
 use Rattle.papaya_rows.proofs.There.{is_inside, on_its_slot, others_left, used_alike}
-use Rattle.papaya_rows.specs.Given.Executor.IsThere.{use_at}
-use Rattle.papaya_rows.specs.Given.Executor.OnSlots.{NobodyIn}
+use Rattle.papaya_rows.specs.Given.ExecutorIsThere.{use_at}
+use Rattle.papaya_rows.specs.Given.ExecutorOnSlots.{NobodyIn}
 
 -- the guard that lives on a slot
 pub lives_on : (o : Option Guard) (slot : ℕ) → living_slot o ≡ Some slot → (g : Guard) × (o ≡ Some g) × (g.slot ≡ slot)

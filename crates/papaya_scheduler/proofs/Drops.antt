@@ -5,31 +5,31 @@ use Rattle.std.proofs.Common.{[], ◌++◌, ◌≡◌, ℕ, ◌+◌, ◌<◌, Bo
 use Rattle.std.proofs.lemmas.Bool.{cases_eq}
 use Rattle.std.proofs.lemmas.List.{get_or-set_other, get_or-set_same, length-set}
 use Rattle.seize_words.specs.declared.fault.Fault.TheVariants.{Busy}
-use Rattle.papaya_rows.specs.Given.SeizeEnds.Holders.{has_batch}
+use Rattle.papaya_rows.specs.Given.SeizeEndsHolders.{has_batch}
 use Rattle.papaya_runs.specs.Given.Tables.declared.node.Node.{Node}
 use Rattle.papaya_runs.specs.Present.{Present, drops, guard_of, guards_on, has_registration, living_slot}
-use Rattle.papaya_rows.specs.Given.Schedules.declared.effect.Effect.{Effect}
-use Rattle.papaya_rows.specs.Given.Schedules.declared.event.Event.TheVariants.{DropGuard}
-use Rattle.papaya_rows.specs.Given.Schedules.declared.outcome.Outcome.TheVariants.{Done, Refused}
-use Rattle.papaya_rows.specs.Given.Schedules.After.{is_alone_on, moment, unsheltered}
-use Rattle.papaya_rows.specs.Given.Schedules.Effects.{with_effects}
-use Rattle.papaya_rows.specs.Given.Schedules.Entry.{Entry}
-use Rattle.papaya_rows.specs.Given.Schedules.InTurn.{IsDone}
-use Rattle.papaya_rows.specs.Given.Schedules.InUse.{is_free_guard}
-use Rattle.papaya_rows.specs.Given.Schedules.Moment.{Moment}
-use Rattle.papaya_rows.specs.Given.Schedules.Terms.{Terms}
-use Rattle.papaya_rows.specs.Given.Scenes.declared.row.RowTold.{RowTold}
-use Rattle.papaya_rows.specs.Given.Scenes.declared.row.RowTold.TheVariants as told
-use Rattle.papaya_rows.specs.Given.Scenes.declared.row.SlotCall.{SlotCall}
-use Rattle.papaya_rows.specs.Given.Scenes.declared.row.SlotCall.TheVariants as call
-use Rattle.papaya_rows.specs.Given.Scenes.declared.row.SlotUse.{SlotUse}
-use Rattle.papaya_rows.specs.Given.Scenes.declared.row.SlotUse.TheVariants as used
-use Rattle.papaya_rows.specs.Given.Scenes.declared.callers.TheConstants.{SLOTS}
-use Rattle.papaya_rows.specs.Given.Logged.Ended.{has_ended, uses_ended}
-use Rattle.papaya_rows.specs.Given.Logged.declared.logged.Logged.{Logged}
+use Rattle.papaya_rows.specs.Given.SchedulesDeclared.effect.Effect.{Effect}
+use Rattle.papaya_rows.specs.Given.SchedulesDeclared.event.Event.TheVariants.{DropGuard}
+use Rattle.papaya_rows.specs.Given.SchedulesDeclared.outcome.Outcome.TheVariants.{Done, Refused}
+use Rattle.papaya_rows.specs.Given.SchedulesAfter.{is_alone_on, moment, unsheltered}
+use Rattle.papaya_rows.specs.Given.SchedulesEffects.{with_effects}
+use Rattle.papaya_rows.specs.Given.SchedulesEntry.{Entry}
+use Rattle.papaya_rows.specs.Given.SchedulesInTurn.{IsDone}
+use Rattle.papaya_rows.specs.Given.SchedulesInUse.{is_free_guard}
+use Rattle.papaya_rows.specs.Given.SchedulesMoment.{Moment}
+use Rattle.papaya_rows.specs.Given.SchedulesTerms.{Terms}
+use Rattle.papaya_rows.specs.Given.ScenesDeclared.row.RowTold.{RowTold}
+use Rattle.papaya_rows.specs.Given.ScenesDeclared.row.RowTold.TheVariants as told
+use Rattle.papaya_rows.specs.Given.ScenesDeclared.row.SlotCall.{SlotCall}
+use Rattle.papaya_rows.specs.Given.ScenesDeclared.row.SlotCall.TheVariants as call
+use Rattle.papaya_rows.specs.Given.ScenesDeclared.row.SlotUse.{SlotUse}
+use Rattle.papaya_rows.specs.Given.ScenesDeclared.row.SlotUse.TheVariants as used
+use Rattle.papaya_rows.specs.Given.ScenesDeclared.callers.TheConstants.{SLOTS}
+use Rattle.papaya_rows.specs.Given.LoggedEnded.{has_ended, uses_ended}
+use Rattle.papaya_rows.specs.Given.LoggedDeclared.logged.Logged.{Logged}
 use Rattle.papaya_scheduler.specs.Played.{IsDue, IsUnderWay, Plays, StandsFor}
 use Rattle.papaya_rows.specs.Rows.{RowRan, RowRanOn, left_as, used_as}
-use Rattle.papaya_rows.specs.Given.Named.Seen.{free_slot}
+use Rattle.papaya_rows.specs.Given.NamedSeen.{free_slot}
 use Rattle.papaya_scheduler.specs.declared.scheduler.Scheduler.{Scheduler}
 use Rattle.papaya_scheduler.proofs.Dropped.{each_left, fits, free_lives, inside, nobody_else, none_left, others_used, used_still}
 use Rattle.papaya_rows.proofs.Holders.{none_has}
@@ -40,9 +40,9 @@ use Rattle.papaya_scheduler.proofs.Quiet.{stands_on}
 use Rattle.papaya_scheduler.proofs.RanOn.{stands_ran, there_stays}
 use Rattle.papaya_scheduler.proofs.Rights.{entry, in_turn, out_of_turn, plays, quiet}
 use Rattle.papaya_scheduler.proofs.Seats.{free_is, stands_there}
-use Rattle.papaya_rows.specs.Given.Executor.IsThere.{use_at}
-use Rattle.papaya_rows.specs.Given.Executor.OnSlots.{MayBegin, NobodyIn}
-use Rattle.papaya_rows.specs.Given.Scenes.Rows.{begun_row, uses_begun}
+use Rattle.papaya_rows.specs.Given.ExecutorIsThere.{use_at}
+use Rattle.papaya_rows.specs.Given.ExecutorOnSlots.{MayBegin, NobodyIn}
+use Rattle.papaya_rows.specs.Given.ScenesRows.{begun_row, uses_begun}
 
 -- how the slot is used then, and how slots are once its row has ended
 abbrev left_use : Bool → SlotUse

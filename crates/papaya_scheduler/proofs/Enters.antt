@@ -11,25 +11,25 @@ use Rattle.papaya_runs.specs.Present.{Present, enters_slot, guard_of, guards_on,
 use Rattle.papaya_runs.specs.Runs.{MOST_GUARDS}
 use Rattle.papaya_runs.specs.Same.{is_same}
 use Rattle.papaya_runs.proofs.Laws.{enters_counts}
-use Rattle.papaya_rows.specs.Given.Schedules.declared.effect.Effect.{Effect}
-use Rattle.papaya_rows.specs.Given.Schedules.declared.event.Event.TheVariants.{Enter}
-use Rattle.papaya_rows.specs.Given.Schedules.declared.outcome.Outcome.{Outcome}
-use Rattle.papaya_rows.specs.Given.Schedules.declared.outcome.Outcome.TheVariants.{Done, Refused}
-use Rattle.papaya_rows.specs.Given.Schedules.After.{is_alone_on, moment, there_on}
-use Rattle.papaya_rows.specs.Given.Schedules.Effects.{with_effects}
-use Rattle.papaya_rows.specs.Given.Schedules.Entry.{Entry}
-use Rattle.papaya_rows.specs.Given.Schedules.InTurn.{IsEntered}
-use Rattle.papaya_rows.specs.Given.Schedules.InUse.{is_guard, is_registered}
-use Rattle.papaya_rows.specs.Given.Schedules.Moment.{Moment}
-use Rattle.papaya_rows.specs.Given.Schedules.Terms.{Terms}
-use Rattle.papaya_rows.specs.Given.Scenes.declared.row.RowTold.{RowTold}
-use Rattle.papaya_rows.specs.Given.Scenes.declared.row.RowTold.TheVariants as told
-use Rattle.papaya_rows.specs.Given.Scenes.declared.row.SlotCall.TheVariants as call
-use Rattle.papaya_rows.specs.Given.Scenes.declared.row.SlotUse.{SlotUse}
-use Rattle.papaya_rows.specs.Given.Scenes.declared.row.SlotUse.TheVariants as used
-use Rattle.papaya_rows.specs.Given.Scenes.declared.callers.TheConstants.{SLOTS}
-use Rattle.papaya_rows.specs.Given.Logged.Ended.{has_ended}
-use Rattle.papaya_rows.specs.Given.Logged.declared.logged.Logged.{Logged}
+use Rattle.papaya_rows.specs.Given.SchedulesDeclared.effect.Effect.{Effect}
+use Rattle.papaya_rows.specs.Given.SchedulesDeclared.event.Event.TheVariants.{Enter}
+use Rattle.papaya_rows.specs.Given.SchedulesDeclared.outcome.Outcome.{Outcome}
+use Rattle.papaya_rows.specs.Given.SchedulesDeclared.outcome.Outcome.TheVariants.{Done, Refused}
+use Rattle.papaya_rows.specs.Given.SchedulesAfter.{is_alone_on, moment, there_on}
+use Rattle.papaya_rows.specs.Given.SchedulesEffects.{with_effects}
+use Rattle.papaya_rows.specs.Given.SchedulesEntry.{Entry}
+use Rattle.papaya_rows.specs.Given.SchedulesInTurn.{IsEntered}
+use Rattle.papaya_rows.specs.Given.SchedulesInUse.{is_guard, is_registered}
+use Rattle.papaya_rows.specs.Given.SchedulesMoment.{Moment}
+use Rattle.papaya_rows.specs.Given.SchedulesTerms.{Terms}
+use Rattle.papaya_rows.specs.Given.ScenesDeclared.row.RowTold.{RowTold}
+use Rattle.papaya_rows.specs.Given.ScenesDeclared.row.RowTold.TheVariants as told
+use Rattle.papaya_rows.specs.Given.ScenesDeclared.row.SlotCall.TheVariants as call
+use Rattle.papaya_rows.specs.Given.ScenesDeclared.row.SlotUse.{SlotUse}
+use Rattle.papaya_rows.specs.Given.ScenesDeclared.row.SlotUse.TheVariants as used
+use Rattle.papaya_rows.specs.Given.ScenesDeclared.callers.TheConstants.{SLOTS}
+use Rattle.papaya_rows.specs.Given.LoggedEnded.{has_ended}
+use Rattle.papaya_rows.specs.Given.LoggedDeclared.logged.Logged.{Logged}
 use Rattle.papaya_scheduler.specs.Played.{IsDue, IsUnderWay, Plays, StandsFor}
 use Rattle.papaya_rows.specs.Rows.{RowRan, RowRanOn, used_as}
 use Rattle.papaya_scheduler.specs.declared.scheduler.Scheduler.{Scheduler}
@@ -43,9 +43,9 @@ use Rattle.papaya_rows.proofs.Registered.{found_has, slot_found}
 use Rattle.papaya_scheduler.proofs.Seats.{stands_there}
 use Rattle.papaya_rows.proofs.There.{guard_is, is_inside, is_outside, registered_is, slot_is, slot_some, used_alike}
 use Rattle.papaya_scheduler.proofs.Rights.{entry, in_turn, out_of_turn, plays, quiet}
-use Rattle.papaya_rows.specs.Given.Executor.IsThere.{use_at}
-use Rattle.papaya_rows.specs.Given.Executor.OnSlots.{MayBegin}
-use Rattle.papaya_rows.specs.Given.Scenes.Scene.{slot_of}
+use Rattle.papaya_rows.specs.Given.ExecutorIsThere.{use_at}
+use Rattle.papaya_rows.specs.Given.ExecutorOnSlots.{MayBegin}
+use Rattle.papaya_rows.specs.Given.ScenesScene.{slot_of}
 
 pub none_is : {X : Type 0} (o : Option X) → is_some o ≡ false → o ≡ None
 none_is None e = refl

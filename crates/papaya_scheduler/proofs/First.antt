@@ -3,18 +3,18 @@ use Rattle.std.specs.Prelude.{◌≡◌, ℕ, Bool, false, List, []}
 use Rattle.std.proofs.Common.{refl, sym, subst, ◌∙◌, arith}
 use Rattle.seize.specs.World.{Vacant}
 use Rattle.papaya_runs.specs.Present.{HaveNames, Present, nobody}
-use Rattle.papaya_rows.specs.Given.Schedules.Moment.{start}
-use Rattle.papaya_rows.specs.Given.Scenes.declared.row.SlotUse.TheVariants as used
-use Rattle.papaya_rows.specs.Given.Logged.Shown.{IsShown}
+use Rattle.papaya_rows.specs.Given.SchedulesMoment.{start}
+use Rattle.papaya_rows.specs.Given.ScenesDeclared.row.SlotUse.TheVariants as used
+use Rattle.papaya_rows.specs.Given.LoggedShown.{IsShown}
 use Rattle.papaya_rows.specs.Rows.{used_as}
 use Rattle.papaya_scheduler.specs.Played.{CallsAre, IsPlayed, MapsAre, terms_given}
-use Rattle.papaya_rows.specs.Given.Named.declared.caller.Caller.{Caller}
-use Rattle.papaya_rows.specs.Given.Named.declared.named_map.NamedMap.{NamedMap}
+use Rattle.papaya_rows.specs.Given.NamedDeclared.caller.Caller.{Caller}
+use Rattle.papaya_rows.specs.Given.NamedDeclared.named_map.NamedMap.{NamedMap}
 use Rattle.papaya_scheduler.specs.declared.scheduler.Scheduler.{Scheduler}
 use Rattle.papaya_rows.proofs.Facts.{no_work_at, used_once}
 use Rattle.papaya_rows.proofs.Names.{nobody_named}
-use Rattle.papaya_rows.specs.Given.Executor.IsThere.{use_at}
-use Rattle.papaya_rows.specs.Given.Scenes.Scene.{at_first}
+use Rattle.papaya_rows.specs.Given.ExecutorIsThere.{use_at}
+use Rattle.papaya_rows.specs.Given.ScenesScene.{at_first}
 
 module _ {K V S : Type 0} (same : K → K → Bool) (hash : K → ℕ) (p : Scheduler K V S) (roots : ℕ)
     (shown : (name : ℕ → List ℕ) → IsShown {K = K} {V = V} {S = S} same hash name start p.logged (at_first roots))

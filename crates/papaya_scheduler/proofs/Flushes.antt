@@ -6,29 +6,29 @@ use Rattle.seize.specs.declared.states.TheConstants.{BATCH, HELD}
 use Rattle.seize_words.specs.Mem.{Mem, word_at}
 use Rattle.seize_words.specs.declared.at.At.TheVariants.{Slot}
 use Rattle.seize_words.specs.declared.fault.Fault.TheVariants.{Busy}
-use Rattle.papaya_rows.proofs.Given.SeizeRule.Words.Named.{word_found, words_of}
-use Rattle.papaya_rows.specs.Given.SeizeEnds.Holders.{has_batch}
+use Rattle.papaya_rows.proofs.Given.SeizeRuleWords.Named.{word_found, words_of}
+use Rattle.papaya_rows.specs.Given.SeizeEndsHolders.{has_batch}
 use Rattle.papaya_runs.specs.Given.Tables.declared.node.Node.{Node}
 use Rattle.papaya_runs.specs.Present.{guard_of, guards_slot_or, living_slot, slot_of_guard}
-use Rattle.papaya_rows.specs.Given.Schedules.declared.effect.Effect.{Effect}
-use Rattle.papaya_rows.specs.Given.Schedules.declared.event.Event.TheVariants.{Flush}
-use Rattle.papaya_rows.specs.Given.Schedules.declared.outcome.Outcome.{Outcome}
-use Rattle.papaya_rows.specs.Given.Schedules.declared.outcome.Outcome.TheVariants.{Done, Refused}
-use Rattle.papaya_rows.specs.Given.Schedules.After.{is_alone_on, moment}
-use Rattle.papaya_rows.specs.Given.Schedules.Effects.{with_effects}
-use Rattle.papaya_rows.specs.Given.Schedules.Entry.{Entry}
-use Rattle.papaya_rows.specs.Given.Schedules.InTurn.{IsFlushed}
-use Rattle.papaya_rows.specs.Given.Schedules.InUse.{is_held, is_living}
-use Rattle.papaya_rows.specs.Given.Schedules.Moment.{Moment}
-use Rattle.papaya_rows.specs.Given.Schedules.Terms.{Terms}
-use Rattle.papaya_rows.specs.Given.Scenes.declared.row.RowTold.{RowTold}
-use Rattle.papaya_rows.specs.Given.Scenes.declared.row.RowTold.TheVariants as told
-use Rattle.papaya_rows.specs.Given.Scenes.declared.row.SlotCall.TheVariants as call
-use Rattle.papaya_rows.specs.Given.Scenes.declared.row.SlotUse.{SlotUse}
-use Rattle.papaya_rows.specs.Given.Scenes.declared.row.SlotUse.TheVariants as used
-use Rattle.papaya_rows.specs.Given.Scenes.declared.callers.TheConstants.{SLOTS}
-use Rattle.papaya_rows.specs.Given.Logged.Ended.{has_ended}
-use Rattle.papaya_rows.specs.Given.Logged.declared.logged.Logged.{Logged}
+use Rattle.papaya_rows.specs.Given.SchedulesDeclared.effect.Effect.{Effect}
+use Rattle.papaya_rows.specs.Given.SchedulesDeclared.event.Event.TheVariants.{Flush}
+use Rattle.papaya_rows.specs.Given.SchedulesDeclared.outcome.Outcome.{Outcome}
+use Rattle.papaya_rows.specs.Given.SchedulesDeclared.outcome.Outcome.TheVariants.{Done, Refused}
+use Rattle.papaya_rows.specs.Given.SchedulesAfter.{is_alone_on, moment}
+use Rattle.papaya_rows.specs.Given.SchedulesEffects.{with_effects}
+use Rattle.papaya_rows.specs.Given.SchedulesEntry.{Entry}
+use Rattle.papaya_rows.specs.Given.SchedulesInTurn.{IsFlushed}
+use Rattle.papaya_rows.specs.Given.SchedulesInUse.{is_held, is_living}
+use Rattle.papaya_rows.specs.Given.SchedulesMoment.{Moment}
+use Rattle.papaya_rows.specs.Given.SchedulesTerms.{Terms}
+use Rattle.papaya_rows.specs.Given.ScenesDeclared.row.RowTold.{RowTold}
+use Rattle.papaya_rows.specs.Given.ScenesDeclared.row.RowTold.TheVariants as told
+use Rattle.papaya_rows.specs.Given.ScenesDeclared.row.SlotCall.TheVariants as call
+use Rattle.papaya_rows.specs.Given.ScenesDeclared.row.SlotUse.{SlotUse}
+use Rattle.papaya_rows.specs.Given.ScenesDeclared.row.SlotUse.TheVariants as used
+use Rattle.papaya_rows.specs.Given.ScenesDeclared.callers.TheConstants.{SLOTS}
+use Rattle.papaya_rows.specs.Given.LoggedEnded.{has_ended}
+use Rattle.papaya_rows.specs.Given.LoggedDeclared.logged.Logged.{Logged}
 use Rattle.papaya_scheduler.specs.Played.{IsDue, Plays, StandsFor}
 use Rattle.papaya_scheduler.specs.Works.{FlushesUnlessHeld}
 use Rattle.papaya_rows.specs.Rows.{RowRan, RowRanOn, used_as}
@@ -41,8 +41,8 @@ use Rattle.papaya_scheduler.proofs.Quiet.{stands_on}
 use Rattle.papaya_scheduler.proofs.RanOn.{stands_ran, there_stays}
 use Rattle.papaya_scheduler.proofs.Rights.{entry, in_turn, out_of_turn, plays, quiet}
 use Rattle.papaya_rows.proofs.There.{living_is}
-use Rattle.papaya_rows.specs.Given.Executor.IsThere.{use_at}
-use Rattle.papaya_rows.specs.Given.Executor.OnSlots.{MayBegin}
+use Rattle.papaya_rows.specs.Given.ExecutorIsThere.{use_at}
+use Rattle.papaya_rows.specs.Given.ExecutorOnSlots.{MayBegin}
 
 -- a word that is there is read so
 read_there : (o : Option ℕ) → IsSome o → (word : ℕ) × (o ≡ Some word)

@@ -6,34 +6,34 @@ use Rattle.std.proofs.lemmas.Bool.{eq-eqb}
 use Rattle.seize.specs.declared.states.TheConstants.{BATCH, HELD}
 use Rattle.seize_words.specs.Mem.{Mem, word_at}
 use Rattle.seize_words.specs.declared.at.At.TheVariants.{Slot}
-use Rattle.papaya_rows.proofs.Given.SeizeRule.Words.Named.{word_found, words_of}
-use Rattle.papaya_rows.specs.Given.SeizeEnds.Holders.{has_batch}
+use Rattle.papaya_rows.proofs.Given.SeizeRuleWords.Named.{word_found, words_of}
+use Rattle.papaya_rows.specs.Given.SeizeEndsHolders.{has_batch}
 use Rattle.papaya_runs.specs.Given.Tables.declared.node.Node.{Node}
-use Rattle.papaya_rows.specs.Given.Raw.declared.machines.machine.Machine.{Machine}
+use Rattle.papaya_rows.specs.Given.RawDeclared.machines.machine.Machine.{Machine}
 use Rattle.papaya_runs.specs.Present.{guard_of, guards_slot_or, slot_of_guard}
 use Rattle.papaya_runs.specs.Same.{is_same}
 use Rattle.papaya_runs.proofs.Laws.{same_tells}
-use Rattle.papaya_rows.specs.Given.Schedules.InUse.{is_handing, is_held}
-use Rattle.papaya_rows.specs.Given.Schedules.Moment.{UnderWay as CallThere, Moment}
-use Rattle.papaya_rows.specs.Given.Schedules.Terms.{Terms}
-use Rattle.papaya_rows.specs.Given.Schedules.Views.{call_of}
-use Rattle.papaya_rows.specs.Given.Callers.Together.{UnderWay}
-use Rattle.papaya_rows.specs.Given.Finishes.Machines.{machine_of}
-use Rattle.papaya_rows.specs.Given.Follows.Calls.{IsCalled}
-use Rattle.papaya_rows.specs.Given.Executor.declared.worker.Work.{Work}
-use Rattle.papaya_rows.specs.Given.Executor.declared.worker.Work.TheVariants as work
+use Rattle.papaya_rows.specs.Given.SchedulesInUse.{is_handing, is_held}
+use Rattle.papaya_rows.specs.Given.SchedulesMoment.{UnderWay as CallThere, Moment}
+use Rattle.papaya_rows.specs.Given.SchedulesTerms.{Terms}
+use Rattle.papaya_rows.specs.Given.SchedulesViews.{call_of}
+use Rattle.papaya_rows.specs.Given.CallersTogether.{UnderWay}
+use Rattle.papaya_rows.specs.Given.FinishesMachines.{machine_of}
+use Rattle.papaya_rows.specs.Given.FollowsCalls.{IsCalled}
+use Rattle.papaya_rows.specs.Given.ExecutorDeclared.worker.Work.{Work}
+use Rattle.papaya_rows.specs.Given.ExecutorDeclared.worker.Work.TheVariants as work
 use Rattle.papaya_scheduler.specs.Played.{IsUnderWay, StandsFor}
-use Rattle.papaya_rows.specs.Given.Named.Seen.{Seen, is_named, seen, seen_of}
-use Rattle.papaya_rows.specs.Given.Named.declared.caller.Caller.{Caller}
+use Rattle.papaya_rows.specs.Given.NamedSeen.{Seen, is_named, seen, seen_of}
+use Rattle.papaya_rows.specs.Given.NamedDeclared.caller.Caller.{Caller}
 use Rattle.papaya_scheduler.specs.declared.scheduler.Scheduler.{Scheduler}
 use Rattle.papaya_scheduler.proofs.Dropped.{lives_on}
 use Rattle.papaya_rows.proofs.Facts.{row_rests}
 use Rattle.papaya_rows.proofs.Holders.{held, works_there}
 use Rattle.papaya_rows.proofs.Lists.{all_so, both_some, found_alike, found_has, found_once}
 use Rattle.papaya_scheduler.proofs.RanOn.{both_true}
-use Rattle.papaya_rows.proofs.Given.Scenes.NoCall.{none_of}
-use Rattle.papaya_rows.specs.Given.Executor.IsThere.{call_in, work_of}
-use Rattle.papaya_rows.specs.Given.Scenes.Scene.{slot_of}
+use Rattle.papaya_rows.proofs.Given.ScenesNoCall.{none_of}
+use Rattle.papaya_rows.specs.Given.ExecutorIsThere.{call_in, work_of}
+use Rattle.papaya_rows.specs.Given.ScenesScene.{slot_of}
 
 -- where a slot's batch is held, a call under way that may hold it hands something over
 abbrev pub HeldIsTold : {K V S : Type 0} → Moment K V → Scheduler K V S → Type 0

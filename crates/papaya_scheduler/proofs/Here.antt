@@ -2,15 +2,15 @@
 use Rattle.std.specs.Prelude.{◌≡◌, ℕ, Bool, true, List, find, position, slice_get, slice_index_or, is_some, Option, Some, None, option_map}
 use Rattle.std.specs.List.{list_any, position_or_len}
 use Rattle.std.proofs.Common.{refl, sym, ap, ◌∙◌}
-use Rattle.papaya_rows.specs.Given.Raw.declared.machines.machine.Machine.{Machine}
+use Rattle.papaya_rows.specs.Given.RawDeclared.machines.machine.Machine.{Machine}
 use Rattle.papaya_runs.specs.Same.{is_same}
-use Rattle.papaya_rows.specs.Given.Schedules.Moment.{UnderWay as CallThere, Moment}
-use Rattle.papaya_rows.specs.Given.Schedules.Terms.{Terms}
-use Rattle.papaya_rows.specs.Given.Schedules.Views.{call_of}
-use Rattle.papaya_rows.proofs.Given.Follows.Calling.{is_same_is}
+use Rattle.papaya_rows.specs.Given.SchedulesMoment.{UnderWay as CallThere, Moment}
+use Rattle.papaya_rows.specs.Given.SchedulesTerms.{Terms}
+use Rattle.papaya_rows.specs.Given.SchedulesViews.{call_of}
+use Rattle.papaya_rows.proofs.Given.FollowsCalling.{is_same_is}
 use Rattle.papaya_scheduler.specs.Played.{AsFar, IsUnderWayAs, StandsAs, StandsFor}
-use Rattle.papaya_rows.specs.Given.Named.Seen.{Seen, is_named, seen, seen_of}
-use Rattle.papaya_rows.specs.Given.Named.declared.caller.Caller.{Caller}
+use Rattle.papaya_rows.specs.Given.NamedSeen.{Seen, is_named, seen, seen_of}
+use Rattle.papaya_rows.specs.Given.NamedDeclared.caller.Caller.{Caller}
 use Rattle.papaya_scheduler.specs.declared.scheduler.Scheduler.{Scheduler}
 use Rattle.papaya_rows.proofs.Lists.{got, as_some, both_some, found_alike, found_has, found_passes, is_found, place_found, place_is, place_some}
 

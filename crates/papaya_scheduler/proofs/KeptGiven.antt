@@ -1,7 +1,7 @@
 -- What the executor of a scheduler was given stays, where the scheduler is one of which that is so.
 use Rattle.std.proofs.Common.{◌≡◌, refl, sym, subst}
 use Rattle.papaya_scheduler.specs.declared.scheduler.Scheduler.{Scheduler}
-use Rattle.papaya_rows.specs.Given.Executor.IsThere.{KeepsGiven}
+use Rattle.papaya_rows.specs.Given.ExecutorIsThere.{KeepsGiven}
 
 module _ {K V S : Type 0} where
   pub given_as : (p q r : Scheduler K V S) → KeepsGiven p.logged.executor q.logged.executor → r ≡ q → KeepsGiven p.logged.executor r.logged.executor

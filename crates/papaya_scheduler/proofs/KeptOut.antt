@@ -6,25 +6,25 @@ use Rattle.seize_words.specs.declared.fault.Fault.TheVariants.{Busy}
 use Rattle.papaya_runs.specs.Given.Tables.declared.resize_mode.ResizeMode.{ResizeMode}
 use Rattle.papaya_runs.specs.Runs.{map_fault}
 use Rattle.papaya_runs.specs.Same.{is_same}
-use Rattle.papaya_rows.specs.Given.Schedules.declared.event.Event.{Event}
-use Rattle.papaya_rows.specs.Given.Schedules.declared.event.Event.TheVariants.{Collector, Hash, Choose, Register, Unregister, Enter, Own, Refresh, Flush, DropGuard, Forget, ReclaimAll, Close, MakeMap, EndMap, ShowShape, Begin, Step, Go, Replied, OneCall, Next, Stop}
-use Rattle.papaya_rows.specs.Given.Schedules.declared.outcome.Outcome.{Outcome}
-use Rattle.papaya_rows.specs.Given.Schedules.declared.outcome.Outcome.TheVariants.{Refused}
-use Rattle.papaya_rows.specs.Given.Schedules.After.{after, comes_to, is_alone_on, mapped_on, moment}
-use Rattle.papaya_rows.specs.Given.Schedules.Entry.{Entry, nameless}
-use Rattle.papaya_rows.specs.Given.Schedules.InTurn.{ComesRight, ComesTo, IsKeptOut}
-use Rattle.papaya_rows.specs.Given.Schedules.Moment.{UnderWay as CallThere, Moment}
-use Rattle.papaya_rows.specs.Given.Schedules.Terms.{Terms}
-use Rattle.papaya_rows.specs.Given.Callers.Together.{UnderWay, OnKey, ForRoom, Counting, OverAll}
-use Rattle.papaya_rows.specs.Given.Effects.Known.{Known, known}
-use Rattle.papaya_rows.specs.Given.Follows.Calling.{come_to}
-use Rattle.papaya_rows.specs.Given.Hands.Calling.{AsksJust}
-use Rattle.papaya_rows.proofs.Given.Moments.Calls.{calls_come_to_whole}
-use Rattle.papaya_rows.proofs.Given.Kept.Stays.{calls_come_to_kept}
+use Rattle.papaya_rows.specs.Given.SchedulesDeclared.event.Event.{Event}
+use Rattle.papaya_rows.specs.Given.SchedulesDeclared.event.Event.TheVariants.{Collector, Hash, Choose, Register, Unregister, Enter, Own, Refresh, Flush, DropGuard, Forget, ReclaimAll, Close, MakeMap, EndMap, ShowShape, Begin, Step, Go, Replied, OneCall, Next, Stop}
+use Rattle.papaya_rows.specs.Given.SchedulesDeclared.outcome.Outcome.{Outcome}
+use Rattle.papaya_rows.specs.Given.SchedulesDeclared.outcome.Outcome.TheVariants.{Refused}
+use Rattle.papaya_rows.specs.Given.SchedulesAfter.{after, comes_to, is_alone_on, mapped_on, moment}
+use Rattle.papaya_rows.specs.Given.SchedulesEntry.{Entry, nameless}
+use Rattle.papaya_rows.specs.Given.SchedulesInTurn.{ComesRight, ComesTo, IsKeptOut}
+use Rattle.papaya_rows.specs.Given.SchedulesMoment.{UnderWay as CallThere, Moment}
+use Rattle.papaya_rows.specs.Given.SchedulesTerms.{Terms}
+use Rattle.papaya_rows.specs.Given.CallersTogether.{UnderWay, OnKey, ForRoom, Counting, OverAll}
+use Rattle.papaya_rows.specs.Given.EffectsKnown.{Known, known}
+use Rattle.papaya_rows.specs.Given.FollowsCalling.{come_to}
+use Rattle.papaya_rows.specs.Given.HandsCalling.{AsksJust}
+use Rattle.papaya_rows.proofs.Given.MomentsCalls.{calls_come_to_whole}
+use Rattle.papaya_rows.proofs.Given.KeptStays.{calls_come_to_kept}
 use Rattle.papaya_scheduler.specs.Played.{IsPlayed, Plays, StandsFor}
-use Rattle.papaya_rows.specs.Given.Named.Seen.{seen}
+use Rattle.papaya_rows.specs.Given.NamedSeen.{seen}
 use Rattle.papaya_scheduler.specs.declared.scheduler.Scheduler.{Scheduler}
-use Rattle.papaya_rows.proofs.Given.Logged.Counted.{counted_calls}
+use Rattle.papaya_rows.proofs.Given.LoggedCounted.{counted_calls}
 use Rattle.papaya_rows.proofs.Elsewhere.{elsewhere, shown_elsewhere, kept_elsewhere, counted_elsewhere}
 use Rattle.papaya_rows.proofs.Lists.{unseen}
 use Rattle.papaya_scheduler.proofs.Quiet.{stands_on}

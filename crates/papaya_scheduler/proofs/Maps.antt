@@ -3,13 +3,13 @@ use Rattle.std.specs.Prelude.{◌≡◌, ℕ, Bool, true, List, find, is_some, O
 use Rattle.std.proofs.Common.{refl, sym, ap, subst, ◌∙◌}
 use Rattle.papaya_runs.specs.Given.Tables.declared.setting.Setting.{Setting}
 use Rattle.papaya_runs.specs.Same.{is_same}
-use Rattle.papaya_rows.specs.Given.Schedules.Moment.{MapThere, Moment}
-use Rattle.papaya_rows.specs.Given.Schedules.Terms.{Terms}
-use Rattle.papaya_rows.specs.Given.Schedules.Views.{map_of, number_of}
-use Rattle.papaya_rows.specs.Given.Finishes.Maps.{Standing}
+use Rattle.papaya_rows.specs.Given.SchedulesMoment.{MapThere, Moment}
+use Rattle.papaya_rows.specs.Given.SchedulesTerms.{Terms}
+use Rattle.papaya_rows.specs.Given.SchedulesViews.{map_of, number_of}
+use Rattle.papaya_rows.specs.Given.FinishesMaps.{Standing}
 use Rattle.papaya_scheduler.specs.Played.{StandsFor}
-use Rattle.papaya_rows.specs.Given.Named.Seen.{named, named_of, number_named, setting_named, with_setting}
-use Rattle.papaya_rows.specs.Given.Named.declared.named_map.NamedMap.{NamedMap}
+use Rattle.papaya_rows.specs.Given.NamedSeen.{named, named_of, number_named, setting_named, with_setting}
+use Rattle.papaya_rows.specs.Given.NamedDeclared.named_map.NamedMap.{NamedMap}
 use Rattle.papaya_scheduler.specs.declared.scheduler.Scheduler.{Scheduler}
 use Rattle.papaya_rows.proofs.Lists.{found_alike, found_has}
 

@@ -1,9 +1,9 @@
 -- A scheduler stands as before for a moment in which nothing has changed that is seen of it.
 use Rattle.std.specs.Prelude.{ℕ, Bool, List}
 use Rattle.std.proofs.Common.{refl}
-use Rattle.papaya_rows.specs.Given.Schedules.Moment.{Sheltered, Moment}
-use Rattle.papaya_rows.specs.Given.Schedules.Terms.{Terms}
-use Rattle.papaya_rows.specs.Given.Effects.Known.{known}
+use Rattle.papaya_rows.specs.Given.SchedulesMoment.{Sheltered, Moment}
+use Rattle.papaya_rows.specs.Given.SchedulesTerms.{Terms}
+use Rattle.papaya_rows.specs.Given.EffectsKnown.{known}
 use Rattle.papaya_scheduler.specs.Played.{StandsFor}
 use Rattle.papaya_scheduler.specs.declared.scheduler.Scheduler.{Scheduler}
 use Rattle.papaya_rows.proofs.Elsewhere.{elsewhere, shown_elsewhere, kept_elsewhere, counted_elsewhere}

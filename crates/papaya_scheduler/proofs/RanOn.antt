@@ -6,35 +6,35 @@ use Rattle.std.proofs.lemmas.Bool.{cases_eq}
 use Rattle.seize.specs.World.{World}
 use Rattle.papaya_runs.specs.Given.Tables.declared.setting.Setting.{Setting}
 use Rattle.papaya_runs.specs.Present.{Present, HaveNames, guards_on}
-use Rattle.papaya_rows.specs.Given.Schedules.declared.effect.Effect.{Effect}
-use Rattle.papaya_rows.specs.Given.Schedules.declared.effect.Effect.TheVariants.{Promoted}
-use Rattle.papaya_rows.specs.Given.Schedules.declared.effect.Table.{Table}
-use Rattle.papaya_rows.specs.Given.Schedules.Effects.{maps_by, promoted, with_effect, with_effects}
-use Rattle.papaya_rows.specs.Given.Schedules.Moment.{MapThere, Remains, Sheltered, UnderWay as CallThere, Moment}
-use Rattle.papaya_rows.specs.Given.Schedules.Terms.{Terms}
-use Rattle.papaya_rows.specs.Given.Callers.Together.{UnderWay}
-use Rattle.papaya_rows.specs.Given.Effects.Known.{known}
-use Rattle.papaya_rows.specs.Given.Scenes.declared.row.RowTold.{RowTold}
-use Rattle.papaya_rows.specs.Given.Scenes.declared.row.SlotCall.{SlotCall}
-use Rattle.papaya_rows.specs.Given.Finishes.Maps.{Standing}
-use Rattle.papaya_rows.specs.Given.Logged.Shown.{IsShown}
-use Rattle.papaya_rows.specs.Given.Logged.declared.logged.Logged.{Logged}
-use Rattle.papaya_rows.proofs.Given.Others.Quiet.{calls_none}
+use Rattle.papaya_rows.specs.Given.SchedulesDeclared.effect.Effect.{Effect}
+use Rattle.papaya_rows.specs.Given.SchedulesDeclared.effect.Effect.TheVariants.{Promoted}
+use Rattle.papaya_rows.specs.Given.SchedulesDeclared.effect.Table.{Table}
+use Rattle.papaya_rows.specs.Given.SchedulesEffects.{maps_by, promoted, with_effect, with_effects}
+use Rattle.papaya_rows.specs.Given.SchedulesMoment.{MapThere, Remains, Sheltered, UnderWay as CallThere, Moment}
+use Rattle.papaya_rows.specs.Given.SchedulesTerms.{Terms}
+use Rattle.papaya_rows.specs.Given.CallersTogether.{UnderWay}
+use Rattle.papaya_rows.specs.Given.EffectsKnown.{known}
+use Rattle.papaya_rows.specs.Given.ScenesDeclared.row.RowTold.{RowTold}
+use Rattle.papaya_rows.specs.Given.ScenesDeclared.row.SlotCall.{SlotCall}
+use Rattle.papaya_rows.specs.Given.FinishesMaps.{Standing}
+use Rattle.papaya_rows.specs.Given.LoggedShown.{IsShown}
+use Rattle.papaya_rows.specs.Given.LoggedDeclared.logged.Logged.{Logged}
+use Rattle.papaya_rows.proofs.Given.OthersQuiet.{calls_none}
 use Rattle.papaya_runs.specs.Given.Tables.declared.node.Node.{Node}
 use Rattle.papaya_scheduler.specs.Played.{IsUnderWay, StandsFor}
 use Rattle.papaya_rows.specs.Rows.{RowRan, used_as}
-use Rattle.papaya_rows.specs.Given.Named.Seen.{named, seen}
-use Rattle.papaya_rows.specs.Given.Named.declared.named_map.NamedMap.{NamedMap}
+use Rattle.papaya_rows.specs.Given.NamedSeen.{named, seen}
+use Rattle.papaya_rows.specs.Given.NamedDeclared.named_map.NamedMap.{NamedMap}
 use Rattle.papaya_scheduler.specs.declared.scheduler.Scheduler.{Scheduler}
-use Rattle.papaya_rows.proofs.Given.Remains.Stays.{remains_stay}
+use Rattle.papaya_rows.proofs.Given.RemainsStays.{remains_stay}
 use Rattle.papaya_rows.proofs.Elsewhere.{elsewhere, shown_elsewhere, kept_elsewhere, counted_elsewhere}
 use Rattle.papaya_rows.proofs.Facts.{no_ending_of, no_making_of, no_work_at, row_rests}
 use Rattle.papaya_rows.proofs.Lists.{all_so, one_of, unseen}
 use Rattle.papaya_rows.proofs.Ran.{Led}
 use Rattle.papaya_rows.proofs.There.{on_its_slot}
-use Rattle.papaya_rows.specs.Given.Executor.IsThere.{use_at, work_of}
-use Rattle.papaya_rows.specs.Given.Executor.OnSlots.{MayBegin, NobodyIn}
-use Rattle.papaya_rows.specs.Given.Scenes.Scene.{Scene, slot_of}
+use Rattle.papaya_rows.specs.Given.ExecutorIsThere.{use_at, work_of}
+use Rattle.papaya_rows.specs.Given.ExecutorOnSlots.{MayBegin, NobodyIn}
+use Rattle.papaya_rows.specs.Given.ScenesScene.{Scene, slot_of}
 
 -- names and numbers of maps stay, whatever effects there are
 same_named : (t : Table) (f : MapThere) → named (promoted t f) ≡ named f

@@ -5,14 +5,14 @@ use Rattle.seize_words.specs.declared.fault.Fault.{Fault}
 use Rattle.seize_words.specs.declared.fault.Fault.TheVariants.{Busy}
 use Rattle.papaya_runs.specs.Given.Tables.declared.resize_mode.ResizeMode.{ResizeMode}
 use Rattle.papaya_runs.specs.Runs.{map_fault}
-use Rattle.papaya_rows.specs.Given.Schedules.declared.event.Event.{Event}
-use Rattle.papaya_rows.specs.Given.Schedules.declared.event.Event.TheVariants.{Collector, Hash, Choose, Register, Unregister, Enter, Own, Refresh, Flush, DropGuard, Forget, ReclaimAll, Close, MakeMap, EndMap, ShowShape, Begin, Step, Go, Replied, OneCall, Next, Stop}
-use Rattle.papaya_rows.specs.Given.Schedules.declared.outcome.Outcome.{Outcome}
-use Rattle.papaya_rows.specs.Given.Schedules.declared.outcome.Outcome.TheVariants.{Refused}
-use Rattle.papaya_rows.specs.Given.Schedules.After.{mapped_on}
-use Rattle.papaya_rows.specs.Given.Schedules.Entry.{Entry}
-use Rattle.papaya_rows.specs.Given.Schedules.InTurn.{IsKeptOut}
-use Rattle.papaya_rows.specs.Given.Schedules.Terms.{Terms}
+use Rattle.papaya_rows.specs.Given.SchedulesDeclared.event.Event.{Event}
+use Rattle.papaya_rows.specs.Given.SchedulesDeclared.event.Event.TheVariants.{Collector, Hash, Choose, Register, Unregister, Enter, Own, Refresh, Flush, DropGuard, Forget, ReclaimAll, Close, MakeMap, EndMap, ShowShape, Begin, Step, Go, Replied, OneCall, Next, Stop}
+use Rattle.papaya_rows.specs.Given.SchedulesDeclared.outcome.Outcome.{Outcome}
+use Rattle.papaya_rows.specs.Given.SchedulesDeclared.outcome.Outcome.TheVariants.{Refused}
+use Rattle.papaya_rows.specs.Given.SchedulesAfter.{mapped_on}
+use Rattle.papaya_rows.specs.Given.SchedulesEntry.{Entry}
+use Rattle.papaya_rows.specs.Given.SchedulesInTurn.{IsKeptOut}
+use Rattle.papaya_rows.specs.Given.SchedulesTerms.{Terms}
 use Rattle.papaya_scheduler.specs.Played.{IsPlayed, Plays, entry_of}
 use Rattle.papaya_scheduler.specs.Turns.{IsMakingOut}
 use Rattle.papaya_scheduler.specs.declared.played.Played.{Played}

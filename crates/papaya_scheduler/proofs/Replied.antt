@@ -6,76 +6,76 @@ use Rattle.std.proofs.lemmas.Bool.{cases_eq}
 use Rattle.seize_words.specs.declared.fault.Fault.TheVariants.{Busy}
 use Rattle.papaya_runs.specs.Given.Tables.declared.node.Node.{Node}
 use Rattle.seize_words.specs.Mem.{Mem}
-use Rattle.papaya_rows.specs.Given.Rule.Chart.{Chart}
-use Rattle.papaya_rows.specs.Given.Rule.Words.{Blocks}
-use Rattle.papaya_rows.specs.Given.Points.FactsCalls.{Change}
-use Rattle.papaya_rows.specs.Given.Sweeps.SweepPoints.{reply_at}
-use Rattle.papaya_rows.specs.Given.Sweeps.declared.sweep.Sweep.{Sweep}
-use Rattle.papaya_rows.specs.Given.Sweeps.declared.sweep.Sweeping.{Sweeping}
-use Rattle.papaya_rows.specs.Given.Sweeps.declared.sweep.Sweeping.TheVariants as sweeping
-use Rattle.papaya_rows.specs.Given.Raw.declared.machines.call.KeyCall.{KeyCall}
-use Rattle.papaya_rows.specs.Given.Raw.declared.machines.machine.Machine.TheVariants as kinds
-use Rattle.papaya_rows.specs.Given.Raw.declared.machines.asking.Reply.TheVariants as machine_reply
-use Rattle.papaya_rows.specs.Given.Raw.Machine.{machine_replied, sweep_told}
-use Rattle.papaya_rows.specs.Given.Raw.CallAsks.{told_at}
-use Rattle.papaya_rows.specs.Given.Raw.declared.machines.asking.Asking.{Asking}
-use Rattle.papaya_rows.specs.Given.Raw.declared.machines.asking.Reply.{Reply as MachineReply}
-use Rattle.papaya_rows.specs.Given.Raw.declared.machines.call.Calling.{Calling}
-use Rattle.papaya_rows.specs.Given.Raw.declared.machines.call.Calling.TheVariants as at
-use Rattle.papaya_rows.specs.Given.Raw.declared.machines.machine.Machine.{Machine}
+use Rattle.papaya_rows.specs.Given.RuleChart.{Chart}
+use Rattle.papaya_rows.specs.Given.RuleWords.{Blocks}
+use Rattle.papaya_rows.specs.Given.PointsFactsCalls.{Change}
+use Rattle.papaya_rows.specs.Given.SweepsSweepPoints.{reply_at}
+use Rattle.papaya_rows.specs.Given.SweepsDeclared.sweep.Sweep.{Sweep}
+use Rattle.papaya_rows.specs.Given.SweepsDeclared.sweep.Sweeping.{Sweeping}
+use Rattle.papaya_rows.specs.Given.SweepsDeclared.sweep.Sweeping.TheVariants as sweeping
+use Rattle.papaya_rows.specs.Given.RawDeclared.machines.call.KeyCall.{KeyCall}
+use Rattle.papaya_rows.specs.Given.RawDeclared.machines.machine.Machine.TheVariants as kinds
+use Rattle.papaya_rows.specs.Given.RawDeclared.machines.asking.Reply.TheVariants as machine_reply
+use Rattle.papaya_rows.specs.Given.RawMachine.{machine_replied, sweep_told}
+use Rattle.papaya_rows.specs.Given.RawCallAsks.{told_at}
+use Rattle.papaya_rows.specs.Given.RawDeclared.machines.asking.Asking.{Asking}
+use Rattle.papaya_rows.specs.Given.RawDeclared.machines.asking.Reply.{Reply as MachineReply}
+use Rattle.papaya_rows.specs.Given.RawDeclared.machines.call.Calling.{Calling}
+use Rattle.papaya_rows.specs.Given.RawDeclared.machines.call.Calling.TheVariants as at
+use Rattle.papaya_rows.specs.Given.RawDeclared.machines.machine.Machine.{Machine}
 use Rattle.papaya_runs.specs.Same.{is_same}
-use Rattle.papaya_rows.specs.Given.Schedules.declared.call.Call.{Call}
-use Rattle.papaya_rows.specs.Given.Schedules.declared.call.Call.TheVariants.{On, Reserve, Clear, Retain, Len, Walk}
-use Rattle.papaya_rows.specs.Given.Schedules.declared.call.OneKey.{OneKey}
-use Rattle.papaya_rows.specs.Given.Schedules.declared.call.OneKey.TheVariants.{Compute, RemoveIf}
-use Rattle.papaya_rows.specs.Given.Schedules.declared.call.Reply.{Reply}
-use Rattle.papaya_rows.specs.Given.Schedules.declared.call.Reply.TheVariants.{Gives, Removes, Aborts, Decides}
-use Rattle.papaya_rows.specs.Given.Schedules.declared.event.Event.TheVariants.{Replied}
-use Rattle.papaya_rows.specs.Given.Schedules.declared.outcome.Outcome.{Outcome}
-use Rattle.papaya_rows.specs.Given.Schedules.declared.outcome.Outcome.TheVariants.{Goes, Refused}
-use Rattle.papaya_rows.specs.Given.Schedules.After.{is_alone_on, moment, replied}
-use Rattle.papaya_rows.specs.Given.Schedules.Coming.{fits_key, fits_reply, is_asking, is_fit}
-use Rattle.papaya_rows.specs.Given.Schedules.Entry.{Entry}
-use Rattle.papaya_rows.specs.Given.Schedules.Moment.{Stands, Going, Asking as Asks, Told, IsReady, UnderWay as CallThere, Moment}
-use Rattle.papaya_rows.specs.Given.Schedules.Terms.{Terms}
-use Rattle.papaya_rows.specs.Given.Schedules.Views.{call_of}
-use Rattle.papaya_rows.specs.Given.Callers.Pairs.{Given, Begun, IsTold, KeepsGiven, IsOfKind, kind_of as kind_given}
-use Rattle.papaya_rows.specs.Given.Callers.Sights.{seen_by}
-use Rattle.papaya_rows.specs.Given.Callers.Together.{CallOnKey, UnderWay, OnKey, ForRoom, Counting, OverAll, Together, Stands as TogetherStands}
-use Rattle.papaya_rows.proofs.Given.Callers.Together.At.{at_other, at_same}
-use Rattle.papaya_rows.specs.Given.Finishes.Machines.{machine_of}
-use Rattle.papaya_rows.specs.Given.Finishes.Maps.{Standing}
-use Rattle.papaya_rows.specs.Given.Follows.Calling.{told as told_so}
-use Rattle.papaya_rows.specs.Given.Follows.Calls.{IsCalled}
-use Rattle.papaya_rows.specs.Given.Hands.Asked.{IsAskedAs, as_told}
-use Rattle.papaya_rows.specs.Given.Effects.Known.{known}
-use Rattle.papaya_rows.proofs.Given.Follows.Calling.{is_same_refl}
-use Rattle.papaya_rows.specs.Given.Late.Faults.{RoomInSweeping}
-use Rattle.papaya_rows.proofs.Given.Late.KindsKept.Laws.{told_sweeps_refuse_room}
-use Rattle.papaya_rows.specs.Given.Late.Kinds.{FitsAsking, FitsAt}
-use Rattle.papaya_rows.specs.Given.Points.Told.{IsRowOfCall}
-use Rattle.papaya_rows.specs.Given.Logged.Calling.{CallTakes}
-use Rattle.papaya_rows.specs.Given.Logged.Shown.{IsShown}
-use Rattle.papaya_rows.specs.Given.Logged.declared.logged.Logged.{Logged}
-use Rattle.papaya_rows.specs.Given.Named.Machines.{IsAsFar, IsFor, RefusedForRoom}
+use Rattle.papaya_rows.specs.Given.SchedulesDeclared.call.Call.{Call}
+use Rattle.papaya_rows.specs.Given.SchedulesDeclared.call.Call.TheVariants.{On, Reserve, Clear, Retain, Len, Walk}
+use Rattle.papaya_rows.specs.Given.SchedulesDeclared.call.OneKey.{OneKey}
+use Rattle.papaya_rows.specs.Given.SchedulesDeclared.call.OneKey.TheVariants.{Compute, RemoveIf}
+use Rattle.papaya_rows.specs.Given.SchedulesDeclared.call.Reply.{Reply}
+use Rattle.papaya_rows.specs.Given.SchedulesDeclared.call.Reply.TheVariants.{Gives, Removes, Aborts, Decides}
+use Rattle.papaya_rows.specs.Given.SchedulesDeclared.event.Event.TheVariants.{Replied}
+use Rattle.papaya_rows.specs.Given.SchedulesDeclared.outcome.Outcome.{Outcome}
+use Rattle.papaya_rows.specs.Given.SchedulesDeclared.outcome.Outcome.TheVariants.{Goes, Refused}
+use Rattle.papaya_rows.specs.Given.SchedulesAfter.{is_alone_on, moment, replied}
+use Rattle.papaya_rows.specs.Given.SchedulesComing.{fits_key, fits_reply, is_asking, is_fit}
+use Rattle.papaya_rows.specs.Given.SchedulesEntry.{Entry}
+use Rattle.papaya_rows.specs.Given.SchedulesMoment.{Stands, Going, Asking as Asks, Told, IsReady, UnderWay as CallThere, Moment}
+use Rattle.papaya_rows.specs.Given.SchedulesTerms.{Terms}
+use Rattle.papaya_rows.specs.Given.SchedulesViews.{call_of}
+use Rattle.papaya_rows.specs.Given.CallersPairs.{Given, Begun, IsTold, KeepsGiven, IsOfKind, kind_of as kind_given}
+use Rattle.papaya_rows.specs.Given.CallersSights.{seen_by}
+use Rattle.papaya_rows.specs.Given.CallersTogether.{CallOnKey, UnderWay, OnKey, ForRoom, Counting, OverAll, Together, Stands as TogetherStands}
+use Rattle.papaya_rows.proofs.Given.CallersTogether.At.{at_other, at_same}
+use Rattle.papaya_rows.specs.Given.FinishesMachines.{machine_of}
+use Rattle.papaya_rows.specs.Given.FinishesMaps.{Standing}
+use Rattle.papaya_rows.specs.Given.FollowsCalling.{told as told_so}
+use Rattle.papaya_rows.specs.Given.FollowsCalls.{IsCalled}
+use Rattle.papaya_rows.specs.Given.HandsAsked.{IsAskedAs, as_told}
+use Rattle.papaya_rows.specs.Given.EffectsKnown.{known}
+use Rattle.papaya_rows.proofs.Given.FollowsCalling.{is_same_refl}
+use Rattle.papaya_rows.specs.Given.LateFaults.{RoomInSweeping}
+use Rattle.papaya_rows.proofs.Given.LateKindsKept.Laws.{told_sweeps_refuse_room}
+use Rattle.papaya_rows.specs.Given.LateKinds.{FitsAsking, FitsAt}
+use Rattle.papaya_rows.specs.Given.PointsTold.{IsRowOfCall}
+use Rattle.papaya_rows.specs.Given.LoggedCalling.{CallTakes}
+use Rattle.papaya_rows.specs.Given.LoggedShown.{IsShown}
+use Rattle.papaya_rows.specs.Given.LoggedDeclared.logged.Logged.{Logged}
+use Rattle.papaya_rows.specs.Given.NamedMachines.{IsAsFar, IsFor, RefusedForRoom}
 use Rattle.papaya_scheduler.specs.Played.{CallsAre, IsDue, IsUnderWay, Plays, StandsFor}
-use Rattle.papaya_rows.specs.Given.Named.Seen.{Seen, asks, far_of, fits, is_named, kind_of, kind_on, seen, seen_of, takes}
-use Rattle.papaya_rows.specs.Given.Named.declared.caller.Caller.{Caller}
-use Rattle.papaya_rows.specs.Given.Named.declared.caller.Stands.{Stands as HowFar}
-use Rattle.papaya_rows.specs.Given.Named.declared.caller.Stands.TheVariants as far
-use Rattle.papaya_rows.specs.Given.Named.declared.kind.Kind.{Kind}
+use Rattle.papaya_rows.specs.Given.NamedSeen.{Seen, asks, far_of, fits, is_named, kind_of, kind_on, seen, seen_of, takes}
+use Rattle.papaya_rows.specs.Given.NamedDeclared.caller.Caller.{Caller}
+use Rattle.papaya_rows.specs.Given.NamedDeclared.caller.Stands.{Stands as HowFar}
+use Rattle.papaya_rows.specs.Given.NamedDeclared.caller.Stands.TheVariants as far
+use Rattle.papaya_rows.specs.Given.NamedDeclared.kind.Kind.{Kind}
 use Rattle.papaya_scheduler.specs.declared.scheduler.Scheduler.{Scheduler}
 use Rattle.papaya_rows.proofs.Facts.{no_ending_of, no_making_of, no_work_at, row_rests, used_still}
 use Rattle.papaya_scheduler.proofs.Here.{Here, here_at, there_is}
 use Rattle.papaya_rows.proofs.Lists.{changed_at, set_all, set_any, set_count}
 use Rattle.papaya_scheduler.proofs.Quiet.{stands_on}
-use Rattle.papaya_rows.proofs.Given.Named.Takes.{key_takes, sweep_takes}
+use Rattle.papaya_rows.proofs.Given.NamedTakes.{key_takes, sweep_takes}
 use Rattle.papaya_scheduler.proofs.Rights.{in_turn, out_of_turn, plays, quiet}
-use Rattle.papaya_rows.specs.Given.Executor.IsThere.{held_by, work_of}
-use Rattle.papaya_rows.specs.Given.Executor.Replying.{RepliesThere}
-use Rattle.papaya_rows.proofs.Given.Scenes.May.{standing_is}
-use Rattle.papaya_rows.specs.Given.Scenes.Replying.{scene_with}
-use Rattle.papaya_rows.specs.Given.Scenes.Scene.{HasCall, Scene, slot_of}
+use Rattle.papaya_rows.specs.Given.ExecutorIsThere.{held_by, work_of}
+use Rattle.papaya_rows.specs.Given.ExecutorReplying.{RepliesThere}
+use Rattle.papaya_rows.proofs.Given.ScenesMay.{standing_is}
+use Rattle.papaya_rows.specs.Given.ScenesReplying.{scene_with}
+use Rattle.papaya_rows.specs.Given.ScenesScene.{HasCall, Scene, slot_of}
 
 -- What a call on a key was begun with, and told since, says of which kind it is.
 pub of_kind : {K V : Type 0} (hash : K → ℕ) (m : Mem (Node K V)) (c : Chart K) (blocks : Blocks) (keys : K → Bool) (pair : Given K V) (change : Change) (p : KeyCall K V K) (stands : Calling)

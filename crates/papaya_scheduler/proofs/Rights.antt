@@ -2,14 +2,14 @@
 use Rattle.std.specs.Prelude.{◌≡◌, ℕ, Bool, true, false, List, [], ◌∷◌, MatchBool}
 use Rattle.std.proofs.Common.{sym, subst}
 use Rattle.seize_words.specs.declared.fault.Fault.TheVariants.{Busy}
-use Rattle.papaya_rows.specs.Given.Schedules.declared.effect.Effect.{Effect}
-use Rattle.papaya_rows.specs.Given.Schedules.declared.event.Event.{Event}
-use Rattle.papaya_rows.specs.Given.Schedules.declared.outcome.Outcome.{Outcome}
-use Rattle.papaya_rows.specs.Given.Schedules.declared.outcome.Outcome.TheVariants.{Refused}
-use Rattle.papaya_rows.specs.Given.Schedules.After.{moment}
-use Rattle.papaya_rows.specs.Given.Schedules.Entry.{Entry}
-use Rattle.papaya_rows.specs.Given.Schedules.InTurn.{ComesRight, ComesTo, InTurn, IsKeptOut}
-use Rattle.papaya_rows.specs.Given.Schedules.Terms.{Terms}
+use Rattle.papaya_rows.specs.Given.SchedulesDeclared.effect.Effect.{Effect}
+use Rattle.papaya_rows.specs.Given.SchedulesDeclared.event.Event.{Event}
+use Rattle.papaya_rows.specs.Given.SchedulesDeclared.outcome.Outcome.{Outcome}
+use Rattle.papaya_rows.specs.Given.SchedulesDeclared.outcome.Outcome.TheVariants.{Refused}
+use Rattle.papaya_rows.specs.Given.SchedulesAfter.{moment}
+use Rattle.papaya_rows.specs.Given.SchedulesEntry.{Entry}
+use Rattle.papaya_rows.specs.Given.SchedulesInTurn.{ComesRight, ComesTo, InTurn, IsKeptOut}
+use Rattle.papaya_rows.specs.Given.SchedulesTerms.{Terms}
 use Rattle.papaya_scheduler.specs.Played.{IsDue, IsPlayed, Plays, entry_of}
 use Rattle.papaya_scheduler.specs.declared.played.Played.{Played}
 use Rattle.papaya_scheduler.specs.declared.scheduler.Scheduler.{Scheduler}

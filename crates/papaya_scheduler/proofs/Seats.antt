@@ -5,18 +5,18 @@ use Rattle.std.proofs.Common.{refl, sym, ap, subst, ◌∙◌}
 use Rattle.seize_words.specs.declared.fault.Fault.TheVariants.{Busy}
 use Rattle.papaya_runs.specs.Present.{Present, HaveNames, guard_of, living_slot, forgets}
 use Rattle.papaya_runs.specs.Same.{is_same}
-use Rattle.papaya_rows.specs.Given.Schedules.declared.event.Event.TheVariants.{Forget}
-use Rattle.papaya_rows.specs.Given.Schedules.declared.outcome.Outcome.TheVariants.{Done, Refused}
-use Rattle.papaya_rows.specs.Given.Schedules.After.{is_alone_on, moment}
-use Rattle.papaya_rows.specs.Given.Schedules.Entry.{Entry}
-use Rattle.papaya_rows.specs.Given.Schedules.InTurn.{IsDone}
-use Rattle.papaya_rows.specs.Given.Schedules.InUse.{is_free_guard, is_living}
-use Rattle.papaya_rows.specs.Given.Schedules.Moment.{Sheltered, Moment}
-use Rattle.papaya_rows.specs.Given.Schedules.Terms.{Terms}
-use Rattle.papaya_rows.specs.Given.Effects.Known.{known}
+use Rattle.papaya_rows.specs.Given.SchedulesDeclared.event.Event.TheVariants.{Forget}
+use Rattle.papaya_rows.specs.Given.SchedulesDeclared.outcome.Outcome.TheVariants.{Done, Refused}
+use Rattle.papaya_rows.specs.Given.SchedulesAfter.{is_alone_on, moment}
+use Rattle.papaya_rows.specs.Given.SchedulesEntry.{Entry}
+use Rattle.papaya_rows.specs.Given.SchedulesInTurn.{IsDone}
+use Rattle.papaya_rows.specs.Given.SchedulesInUse.{is_free_guard, is_living}
+use Rattle.papaya_rows.specs.Given.SchedulesMoment.{Sheltered, Moment}
+use Rattle.papaya_rows.specs.Given.SchedulesTerms.{Terms}
+use Rattle.papaya_rows.specs.Given.EffectsKnown.{known}
 use Rattle.papaya_rows.specs.Rows.{used_as}
 use Rattle.papaya_scheduler.specs.Played.{IsDue, IsUnderWay, Plays, StandsFor}
-use Rattle.papaya_rows.specs.Given.Named.Seen.{Seen, free_slot, seen, seen_of}
+use Rattle.papaya_rows.specs.Given.NamedSeen.{Seen, free_slot, seen, seen_of}
 use Rattle.papaya_scheduler.specs.declared.scheduler.Scheduler.{Scheduler}
 use Rattle.papaya_rows.proofs.Elsewhere.{elsewhere, shown_elsewhere, kept_elsewhere, counted_elsewhere}
 use Rattle.papaya_rows.proofs.Lists.{all_but, any_alike}

@@ -9,24 +9,24 @@ use Rattle.seize_words.specs.declared.fault.Fault.TheVariants.{Busy}
 use Rattle.papaya_runs.specs.Given.Tables.declared.node.Node.{Node}
 use Rattle.papaya_runs.specs.Given.Tables.declared.setting.Setting.{Setting}
 use Rattle.papaya_runs.specs.Given.Tables.declared.table.Table.{Table}
-use Rattle.papaya_rows.specs.Given.Rule.Chart.{Chart}
-use Rattle.papaya_rows.specs.Given.Rule.Maps.{IsMap}
-use Rattle.papaya_rows.specs.Given.Rule.Words.{Blocks}
+use Rattle.papaya_rows.specs.Given.RuleChart.{Chart}
+use Rattle.papaya_rows.specs.Given.RuleMaps.{IsMap}
+use Rattle.papaya_rows.specs.Given.RuleWords.{Blocks}
 use Rattle.papaya_runs.specs.declared.outcome.TableShape.{TableShape}
-use Rattle.papaya_rows.specs.Given.Shown.Shown.{Stands, table_of, tables_on}
-use Rattle.papaya_rows.specs.Given.Schedules.declared.event.Event.TheVariants.{ShowShape}
-use Rattle.papaya_rows.specs.Given.Schedules.declared.outcome.Outcome.{Outcome}
-use Rattle.papaya_rows.specs.Given.Schedules.declared.outcome.Outcome.TheVariants.{Refused, Shape}
-use Rattle.papaya_rows.specs.Given.Schedules.After.{is_alone_on, moment}
-use Rattle.papaya_rows.specs.Given.Schedules.Entry.{Entry}
-use Rattle.papaya_rows.specs.Given.Schedules.InTurn.{IsShapeOf, chain_named}
-use Rattle.papaya_rows.specs.Given.Schedules.Moment.{Stage, TableThere, Moment}
-use Rattle.papaya_rows.specs.Given.Schedules.Terms.{Terms}
-use Rattle.papaya_rows.specs.Given.Schedules.Views.{first_of, first_or, map_of, number_of, tables_of}
-use Rattle.papaya_rows.specs.Given.Finishes.Maps.{Standing}
-use Rattle.papaya_rows.specs.Given.Follows.Maps.{tables_to}
+use Rattle.papaya_rows.specs.Given.ShownShown.{Stands, table_of, tables_on}
+use Rattle.papaya_rows.specs.Given.SchedulesDeclared.event.Event.TheVariants.{ShowShape}
+use Rattle.papaya_rows.specs.Given.SchedulesDeclared.outcome.Outcome.{Outcome}
+use Rattle.papaya_rows.specs.Given.SchedulesDeclared.outcome.Outcome.TheVariants.{Refused, Shape}
+use Rattle.papaya_rows.specs.Given.SchedulesAfter.{is_alone_on, moment}
+use Rattle.papaya_rows.specs.Given.SchedulesEntry.{Entry}
+use Rattle.papaya_rows.specs.Given.SchedulesInTurn.{IsShapeOf, chain_named}
+use Rattle.papaya_rows.specs.Given.SchedulesMoment.{Stage, TableThere, Moment}
+use Rattle.papaya_rows.specs.Given.SchedulesTerms.{Terms}
+use Rattle.papaya_rows.specs.Given.SchedulesViews.{first_of, first_or, map_of, number_of, tables_of}
+use Rattle.papaya_rows.specs.Given.FinishesMaps.{Standing}
+use Rattle.papaya_rows.specs.Given.FollowsMaps.{tables_to}
 use Rattle.papaya_scheduler.specs.Played.{IsDue, Plays, StandsFor}
-use Rattle.papaya_rows.specs.Given.Named.Seen.{setting_named}
+use Rattle.papaya_rows.specs.Given.NamedSeen.{setting_named}
 use Rattle.papaya_scheduler.specs.Shapes.{shape_of}
 use Rattle.papaya_scheduler.specs.declared.scheduler.Scheduler.{Scheduler}
 use Rattle.papaya_scheduler.proofs.Maps.{setting_of_it, setting_some}

@@ -7,41 +7,41 @@ use Rattle.seize_words.specs.declared.fault.Fault.{Fault}
 use Rattle.seize_words.specs.declared.fault.Fault.TheVariants.{Memory, SlotsUsedUp}
 use Rattle.seize.specs.declared.rows.register.Register.{Register}
 use Rattle.seize.specs.declared.rows.register.Registering.TheVariants as at
-use Rattle.papaya_rows.proofs.Given.SeizeSets.Slots.Registers.{NoneOnVacant, WhyRefused}
+use Rattle.papaya_rows.proofs.Given.SeizeSetsSlots.Registers.{NoneOnVacant, WhyRefused}
 use Rattle.seize.specs.Sequence.{new_slot}
 use Rattle.papaya_runs.specs.Given.Tables.declared.node.Node.{Node}
-use Rattle.papaya_rows.specs.Given.Teller.declared.changed.Changed.{Changed}
-use Rattle.papaya_rows.specs.Given.Teller.declared.changed.Changed.TheVariants as changed
+use Rattle.papaya_rows.specs.Given.TellerDeclared.changed.Changed.{Changed}
+use Rattle.papaya_rows.specs.Given.TellerDeclared.changed.Changed.TheVariants as changed
 use Rattle.papaya_runs.specs.Present.{Present}
-use Rattle.papaya_rows.specs.Given.Schedules.declared.effect.Effect.{Effect}
-use Rattle.papaya_rows.specs.Given.Schedules.declared.effect.Effect.TheVariants.{Asked}
-use Rattle.papaya_rows.specs.Given.Schedules.declared.effect.Growth.{Growth}
-use Rattle.papaya_rows.specs.Given.Schedules.declared.effect.Growth.TheVariants.{ABucket}
-use Rattle.papaya_rows.specs.Given.Schedules.declared.outcome.Outcome.{Outcome}
-use Rattle.papaya_rows.specs.Given.Schedules.declared.outcome.Outcome.TheVariants.{Refused, Slot}
-use Rattle.papaya_rows.specs.Given.Schedules.InTurn.{GetsSlot, IsShort, has_grown, is_growth, most_slots}
-use Rattle.papaya_rows.specs.Given.Schedules.InUse.{used_slots}
-use Rattle.papaya_rows.specs.Given.Schedules.Lists.{least_free}
-use Rattle.papaya_rows.specs.Given.Schedules.Moment.{Moment}
-use Rattle.papaya_rows.specs.Given.Schedules.Terms.{Terms}
-use Rattle.papaya_rows.specs.Given.Effects.Effects.{effects_of}
-use Rattle.papaya_rows.specs.Given.Effects.declared.acting.Acting.TheVariants as acts
-use Rattle.papaya_rows.specs.Given.Scenes.declared.row.RowTold.{RowTold}
-use Rattle.papaya_rows.specs.Given.Scenes.declared.row.RowTold.TheVariants as told
-use Rattle.papaya_rows.specs.Given.Scenes.declared.row.SlotCall.TheVariants as call
-use Rattle.papaya_rows.specs.Given.Scenes.declared.row.SlotRow.TheVariants as rows
-use Rattle.papaya_rows.specs.Given.Scenes.declared.row.SlotUse.{SlotUse}
-use Rattle.papaya_rows.specs.Given.Scenes.declared.row.SlotUse.TheVariants as used
-use Rattle.papaya_rows.specs.Given.Scenes.declared.callers.TheConstants.{SLOTS}
-use Rattle.papaya_rows.specs.Given.Logged.Ended.{has_ended, uses_ended}
-use Rattle.papaya_rows.specs.Given.Logged.declared.logged.Logged.{Logged}
+use Rattle.papaya_rows.specs.Given.SchedulesDeclared.effect.Effect.{Effect}
+use Rattle.papaya_rows.specs.Given.SchedulesDeclared.effect.Effect.TheVariants.{Asked}
+use Rattle.papaya_rows.specs.Given.SchedulesDeclared.effect.Growth.{Growth}
+use Rattle.papaya_rows.specs.Given.SchedulesDeclared.effect.Growth.TheVariants.{ABucket}
+use Rattle.papaya_rows.specs.Given.SchedulesDeclared.outcome.Outcome.{Outcome}
+use Rattle.papaya_rows.specs.Given.SchedulesDeclared.outcome.Outcome.TheVariants.{Refused, Slot}
+use Rattle.papaya_rows.specs.Given.SchedulesInTurn.{GetsSlot, IsShort, has_grown, is_growth, most_slots}
+use Rattle.papaya_rows.specs.Given.SchedulesInUse.{used_slots}
+use Rattle.papaya_rows.specs.Given.SchedulesLists.{least_free}
+use Rattle.papaya_rows.specs.Given.SchedulesMoment.{Moment}
+use Rattle.papaya_rows.specs.Given.SchedulesTerms.{Terms}
+use Rattle.papaya_rows.specs.Given.EffectsEffects.{effects_of}
+use Rattle.papaya_rows.specs.Given.EffectsDeclared.acting.Acting.TheVariants as acts
+use Rattle.papaya_rows.specs.Given.ScenesDeclared.row.RowTold.{RowTold}
+use Rattle.papaya_rows.specs.Given.ScenesDeclared.row.RowTold.TheVariants as told
+use Rattle.papaya_rows.specs.Given.ScenesDeclared.row.SlotCall.TheVariants as call
+use Rattle.papaya_rows.specs.Given.ScenesDeclared.row.SlotRow.TheVariants as rows
+use Rattle.papaya_rows.specs.Given.ScenesDeclared.row.SlotUse.{SlotUse}
+use Rattle.papaya_rows.specs.Given.ScenesDeclared.row.SlotUse.TheVariants as used
+use Rattle.papaya_rows.specs.Given.ScenesDeclared.callers.TheConstants.{SLOTS}
+use Rattle.papaya_rows.specs.Given.LoggedEnded.{has_ended, uses_ended}
+use Rattle.papaya_rows.specs.Given.LoggedDeclared.logged.Logged.{Logged}
 use Rattle.papaya_scheduler.specs.Played.{StandsFor}
 use Rattle.papaya_rows.specs.Rows.{RowRan, used_as}
 use Rattle.papaya_scheduler.specs.declared.scheduler.Scheduler.{Scheduler}
 use Rattle.papaya_rows.proofs.Ran.{Led}
 use Rattle.papaya_rows.proofs.Taking.{Ends, taken}
 use Rattle.papaya_scheduler.proofs.Vacancies.{IsFirst, first_is, none_left, none_on_vacant}
-use Rattle.papaya_rows.specs.Given.Executor.IsThere.{held_by, use_at, work_of}
+use Rattle.papaya_rows.specs.Given.ExecutorIsThere.{held_by, use_at, work_of}
 
 -- what ends with a growth that was asked for has one
 grown_last : (first : List Effect) (growth : Growth) → has_grown (first ++ Asked growth ∷ []) ≡ true

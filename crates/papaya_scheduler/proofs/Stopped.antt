@@ -5,50 +5,50 @@ use Rattle.std.proofs.Common.{refl, sym, ap, subst, ◌∙◌, inl, inr, arith, 
 use Rattle.std.proofs.lemmas.Bool.{cases_eq, ne_eqb}
 use Rattle.seize_words.specs.declared.fault.Fault.TheVariants.{Busy}
 use Rattle.seize.specs.World.{Rests}
-use Rattle.papaya_rows.specs.Given.Raw.Machine.{is_ready as sweep_is_ready, machine_asked}
-use Rattle.papaya_rows.specs.Given.Raw.declared.machines.machine.Machine.{Machine}
-use Rattle.papaya_rows.specs.Given.Raw.declared.machines.machine.Machine.TheVariants as kinds
-use Rattle.papaya_rows.specs.Given.Sweeps.declared.sweep.Sweeping.{Sweeping}
+use Rattle.papaya_rows.specs.Given.RawMachine.{is_ready as sweep_is_ready, machine_asked}
+use Rattle.papaya_rows.specs.Given.RawDeclared.machines.machine.Machine.{Machine}
+use Rattle.papaya_rows.specs.Given.RawDeclared.machines.machine.Machine.TheVariants as kinds
+use Rattle.papaya_rows.specs.Given.SweepsDeclared.sweep.Sweeping.{Sweeping}
 use Rattle.papaya_runs.specs.Same.{is_same}
-use Rattle.papaya_rows.specs.Given.Schedules.declared.event.Event.TheVariants.{Stop}
-use Rattle.papaya_rows.specs.Given.Schedules.declared.outcome.Outcome.TheVariants.{Done, Refused}
-use Rattle.papaya_rows.specs.Given.Schedules.After.{is_alone_on, moment}
-use Rattle.papaya_rows.specs.Given.Schedules.Coming.{is_ready, shows_now}
-use Rattle.papaya_rows.specs.Given.Schedules.Entry.{Entry}
-use Rattle.papaya_rows.specs.Given.Schedules.InTurn.{IsDone}
-use Rattle.papaya_rows.specs.Given.Schedules.Moment.{Stands, Going, Asking, Told, IsReady, UnderWay as CallThere, Moment}
-use Rattle.papaya_rows.specs.Given.Schedules.Terms.{Terms}
-use Rattle.papaya_rows.specs.Given.Schedules.Views.{call_of}
-use Rattle.papaya_rows.specs.Given.Callers.Sights.{seen_by}
-use Rattle.papaya_rows.specs.Given.Callers.Together.{UnderWay, OnKey, ForRoom, Counting, OverAll, Together, Stands as TogetherStands}
-use Rattle.papaya_rows.specs.Given.Late.ToldSweeps.{IsRowOfSweep}
-use Rattle.papaya_rows.specs.Given.Sweeps.declared.sweep.Sweeping.TheVariants as sweeping
-use Rattle.papaya_rows.proofs.Given.Callers.Together.At.{at_other, at_same}
-use Rattle.papaya_rows.specs.Given.Finishes.Machines.{machine_of}
-use Rattle.papaya_rows.specs.Given.Finishes.Maps.{Standing, with_call as with_call_of}
-use Rattle.papaya_rows.specs.Given.Follows.Calling.{NoneNamed}
-use Rattle.papaya_rows.proofs.Given.Follows.Calling.{apart_back, is_same_refl}
-use Rattle.papaya_rows.specs.Given.Logged.Calling.{WalkStops}
-use Rattle.papaya_rows.specs.Given.Logged.Shown.{IsShown}
-use Rattle.papaya_rows.specs.Given.Logged.declared.logged.Logged.{Logged}
-use Rattle.papaya_rows.specs.Given.Others.Walks.{given_up}
-use Rattle.papaya_rows.specs.Given.Named.Machines.{IsAsFar}
+use Rattle.papaya_rows.specs.Given.SchedulesDeclared.event.Event.TheVariants.{Stop}
+use Rattle.papaya_rows.specs.Given.SchedulesDeclared.outcome.Outcome.TheVariants.{Done, Refused}
+use Rattle.papaya_rows.specs.Given.SchedulesAfter.{is_alone_on, moment}
+use Rattle.papaya_rows.specs.Given.SchedulesComing.{is_ready, shows_now}
+use Rattle.papaya_rows.specs.Given.SchedulesEntry.{Entry}
+use Rattle.papaya_rows.specs.Given.SchedulesInTurn.{IsDone}
+use Rattle.papaya_rows.specs.Given.SchedulesMoment.{Stands, Going, Asking, Told, IsReady, UnderWay as CallThere, Moment}
+use Rattle.papaya_rows.specs.Given.SchedulesTerms.{Terms}
+use Rattle.papaya_rows.specs.Given.SchedulesViews.{call_of}
+use Rattle.papaya_rows.specs.Given.CallersSights.{seen_by}
+use Rattle.papaya_rows.specs.Given.CallersTogether.{UnderWay, OnKey, ForRoom, Counting, OverAll, Together, Stands as TogetherStands}
+use Rattle.papaya_rows.specs.Given.LateToldSweeps.{IsRowOfSweep}
+use Rattle.papaya_rows.specs.Given.SweepsDeclared.sweep.Sweeping.TheVariants as sweeping
+use Rattle.papaya_rows.proofs.Given.CallersTogether.At.{at_other, at_same}
+use Rattle.papaya_rows.specs.Given.FinishesMachines.{machine_of}
+use Rattle.papaya_rows.specs.Given.FinishesMaps.{Standing, with_call as with_call_of}
+use Rattle.papaya_rows.specs.Given.FollowsCalling.{NoneNamed}
+use Rattle.papaya_rows.proofs.Given.FollowsCalling.{apart_back, is_same_refl}
+use Rattle.papaya_rows.specs.Given.LoggedCalling.{WalkStops}
+use Rattle.papaya_rows.specs.Given.LoggedShown.{IsShown}
+use Rattle.papaya_rows.specs.Given.LoggedDeclared.logged.Logged.{Logged}
+use Rattle.papaya_rows.specs.Given.OthersWalks.{given_up}
+use Rattle.papaya_rows.specs.Given.NamedMachines.{IsAsFar}
 use Rattle.papaya_scheduler.specs.Played.{CallsAre, IsDue, IsUnderWay, Plays, StandsFor}
-use Rattle.papaya_rows.specs.Given.Named.Seen.{Seen, far_of, if_ready, is_named, is_ready as is_ready_there, ready_place, seen, seen_of, shows}
-use Rattle.papaya_rows.specs.Given.Named.declared.caller.Caller.{Caller}
-use Rattle.papaya_rows.specs.Given.Named.declared.caller.Stands.{Stands as HowFar}
-use Rattle.papaya_rows.specs.Given.Named.declared.caller.Stands.TheVariants as far
-use Rattle.papaya_rows.specs.Given.Named.declared.kind.Kind.{Kind}
+use Rattle.papaya_rows.specs.Given.NamedSeen.{Seen, far_of, if_ready, is_named, is_ready as is_ready_there, ready_place, seen, seen_of, shows}
+use Rattle.papaya_rows.specs.Given.NamedDeclared.caller.Caller.{Caller}
+use Rattle.papaya_rows.specs.Given.NamedDeclared.caller.Stands.{Stands as HowFar}
+use Rattle.papaya_rows.specs.Given.NamedDeclared.caller.Stands.TheVariants as far
+use Rattle.papaya_rows.specs.Given.NamedDeclared.kind.Kind.{Kind}
 use Rattle.papaya_scheduler.specs.declared.scheduler.Scheduler.{Scheduler}
 use Rattle.papaya_rows.proofs.Facts.{no_ending_of, no_making_of, no_work_at, row_rests, used_still}
 use Rattle.papaya_scheduler.proofs.Here.{Here, here_at, there_is}
 use Rattle.papaya_rows.proofs.Lists.{one_of, removed_all, removed_any, removed_at, removed_count}
 use Rattle.papaya_scheduler.proofs.Quiet.{stands_on}
 use Rattle.papaya_scheduler.proofs.Rights.{in_turn, out_of_turn, plays, quiet}
-use Rattle.papaya_rows.specs.Given.Executor.IsThere.{held_by, work_of}
-use Rattle.papaya_rows.proofs.Given.Scenes.May.{standing_is}
-use Rattle.papaya_rows.specs.Given.Scenes.Replying.{unless_stopped}
-use Rattle.papaya_rows.specs.Given.Scenes.Scene.{HasCall, Scene, slot_of}
+use Rattle.papaya_rows.specs.Given.ExecutorIsThere.{held_by, work_of}
+use Rattle.papaya_rows.proofs.Given.ScenesMay.{standing_is}
+use Rattle.papaya_rows.specs.Given.ScenesReplying.{unless_stopped}
+use Rattle.papaya_rows.specs.Given.ScenesScene.{HasCall, Scene, slot_of}
 
 shows_seen : (stands : Stands) → is_ready stands ≡ shows (far_of stands)
 shows_seen Going = refl

@@ -7,24 +7,24 @@ use Rattle.seize_words.specs.declared.fault.Fault.TheVariants.{Busy}
 use Rattle.papaya_runs.specs.Given.Tables.declared.node.Node.{Node}
 use Rattle.papaya_runs.specs.declared.holders.Registration.{Registration}
 use Rattle.papaya_runs.specs.Present.{Present, guards_on, has_registration, living_on, registration_of, slot_of_registration, unregisters}
-use Rattle.papaya_rows.specs.Given.Schedules.declared.effect.Effect.{Effect}
-use Rattle.papaya_rows.specs.Given.Schedules.declared.event.Event.TheVariants.{Unregister}
-use Rattle.papaya_rows.specs.Given.Schedules.declared.outcome.Outcome.TheVariants.{Done, Refused}
-use Rattle.papaya_rows.specs.Given.Schedules.After.{is_alone_on, moment}
-use Rattle.papaya_rows.specs.Given.Schedules.Effects.{with_effects}
-use Rattle.papaya_rows.specs.Given.Schedules.Entry.{Entry}
-use Rattle.papaya_rows.specs.Given.Schedules.InTurn.{IsDone}
-use Rattle.papaya_rows.specs.Given.Schedules.InUse.{is_registered}
-use Rattle.papaya_rows.specs.Given.Schedules.Moment.{Moment}
-use Rattle.papaya_rows.specs.Given.Schedules.Terms.{Terms}
-use Rattle.papaya_rows.specs.Given.Scenes.declared.row.RowTold.{RowTold}
-use Rattle.papaya_rows.specs.Given.Scenes.declared.row.RowTold.TheVariants as told
-use Rattle.papaya_rows.specs.Given.Scenes.declared.row.SlotCall.TheVariants as call
-use Rattle.papaya_rows.specs.Given.Scenes.declared.row.SlotUse.{SlotUse}
-use Rattle.papaya_rows.specs.Given.Scenes.declared.row.SlotUse.TheVariants as used
-use Rattle.papaya_rows.specs.Given.Scenes.declared.callers.TheConstants.{SLOTS}
-use Rattle.papaya_rows.specs.Given.Logged.Ended.{has_ended}
-use Rattle.papaya_rows.specs.Given.Logged.declared.logged.Logged.{Logged}
+use Rattle.papaya_rows.specs.Given.SchedulesDeclared.effect.Effect.{Effect}
+use Rattle.papaya_rows.specs.Given.SchedulesDeclared.event.Event.TheVariants.{Unregister}
+use Rattle.papaya_rows.specs.Given.SchedulesDeclared.outcome.Outcome.TheVariants.{Done, Refused}
+use Rattle.papaya_rows.specs.Given.SchedulesAfter.{is_alone_on, moment}
+use Rattle.papaya_rows.specs.Given.SchedulesEffects.{with_effects}
+use Rattle.papaya_rows.specs.Given.SchedulesEntry.{Entry}
+use Rattle.papaya_rows.specs.Given.SchedulesInTurn.{IsDone}
+use Rattle.papaya_rows.specs.Given.SchedulesInUse.{is_registered}
+use Rattle.papaya_rows.specs.Given.SchedulesMoment.{Moment}
+use Rattle.papaya_rows.specs.Given.SchedulesTerms.{Terms}
+use Rattle.papaya_rows.specs.Given.ScenesDeclared.row.RowTold.{RowTold}
+use Rattle.papaya_rows.specs.Given.ScenesDeclared.row.RowTold.TheVariants as told
+use Rattle.papaya_rows.specs.Given.ScenesDeclared.row.SlotCall.TheVariants as call
+use Rattle.papaya_rows.specs.Given.ScenesDeclared.row.SlotUse.{SlotUse}
+use Rattle.papaya_rows.specs.Given.ScenesDeclared.row.SlotUse.TheVariants as used
+use Rattle.papaya_rows.specs.Given.ScenesDeclared.callers.TheConstants.{SLOTS}
+use Rattle.papaya_rows.specs.Given.LoggedEnded.{has_ended}
+use Rattle.papaya_rows.specs.Given.LoggedDeclared.logged.Logged.{Logged}
 use Rattle.papaya_scheduler.specs.Played.{IsDue, Plays, StandsFor}
 use Rattle.papaya_rows.specs.Rows.{RowRan, RowRanOn, used_as}
 use Rattle.papaya_scheduler.specs.declared.scheduler.Scheduler.{Scheduler}
@@ -36,8 +36,8 @@ use Rattle.papaya_rows.proofs.Registered.{found_has, none_then, others_then, slo
 use Rattle.papaya_scheduler.proofs.Seats.{stands_there}
 use Rattle.papaya_rows.proofs.There.{is_inside, is_outside, is_vacant, registered_is, slot_is, slot_some, used_alike}
 use Rattle.papaya_scheduler.proofs.Rights.{entry, in_turn, out_of_turn, plays, quiet}
-use Rattle.papaya_rows.specs.Given.Executor.IsThere.{use_at}
-use Rattle.papaya_rows.specs.Given.Executor.OnSlots.{MayBegin}
+use Rattle.papaya_rows.specs.Given.ExecutorIsThere.{use_at}
+use Rattle.papaya_rows.specs.Given.ExecutorOnSlots.{MayBegin}
 
 module _ {K V S : Type 0} (same : K → K → Bool) (hash : K → ℕ) (terms : Terms) (log : List (Entry K V)) (p : Scheduler K V S) (registration : List ℕ)
     (due : IsDue same hash terms log (Unregister registration) p) where

@@ -4,20 +4,20 @@ use Rattle.std.proofs.Common.{◌≡◌, ℕ, ◌+◌, ◌≤◌, ◌<◌, Bool,
 use Rattle.seize.specs.declared.states.TheConstants.{LAST_SLOT}
 use Rattle.seize.specs.Sequence.{new_slot}
 use Rattle.seize.specs.World.{Use, Vacant}
-use Rattle.papaya_rows.proofs.Given.SeizeRule.Rows.Known.{works_on}
-use Rattle.papaya_rows.proofs.Given.SeizeSets.Slots.Registers.{NoneOnVacant}
-use Rattle.papaya_rows.proofs.Given.SeizeSets.Slots.Vacant.{first_vacant_says, first_vacant_says_none}
-use Rattle.papaya_rows.specs.Given.Finishes.Machines.{machine_of}
+use Rattle.papaya_rows.proofs.Given.SeizeRuleRows.Known.{works_on}
+use Rattle.papaya_rows.proofs.Given.SeizeSetsSlots.Registers.{NoneOnVacant}
+use Rattle.papaya_rows.proofs.Given.SeizeSetsSlots.Vacant.{first_vacant_says, first_vacant_says_none}
+use Rattle.papaya_rows.specs.Given.FinishesMachines.{machine_of}
 use Rattle.papaya_runs.specs.Present.{guards_on, has_registration}
-use Rattle.papaya_rows.specs.Given.Schedules.InUse.{used_slots}
-use Rattle.papaya_rows.specs.Given.Schedules.Lists.{is_among, least_free}
-use Rattle.papaya_rows.specs.Given.Schedules.Moment.{Moment}
-use Rattle.papaya_rows.specs.Given.Schedules.Terms.{Terms}
-use Rattle.papaya_rows.specs.Given.Executor.declared.executor.Executor.{Executor}
-use Rattle.papaya_rows.specs.Given.Scenes.declared.row.SlotUse.{SlotUse}
-use Rattle.papaya_rows.specs.Given.Scenes.declared.row.SlotUse.TheVariants as used
-use Rattle.papaya_rows.specs.Given.Executor.declared.worker.Work.{Work}
-use Rattle.papaya_rows.specs.Given.Executor.declared.worker.Work.TheVariants as work
+use Rattle.papaya_rows.specs.Given.SchedulesInUse.{used_slots}
+use Rattle.papaya_rows.specs.Given.SchedulesLists.{is_among, least_free}
+use Rattle.papaya_rows.specs.Given.SchedulesMoment.{Moment}
+use Rattle.papaya_rows.specs.Given.SchedulesTerms.{Terms}
+use Rattle.papaya_rows.specs.Given.ExecutorDeclared.executor.Executor.{Executor}
+use Rattle.papaya_rows.specs.Given.ScenesDeclared.row.SlotUse.{SlotUse}
+use Rattle.papaya_rows.specs.Given.ScenesDeclared.row.SlotUse.TheVariants as used
+use Rattle.papaya_rows.specs.Given.ExecutorDeclared.worker.Work.{Work}
+use Rattle.papaya_rows.specs.Given.ExecutorDeclared.worker.Work.TheVariants as work
 use Rattle.papaya_rows.proofs.InUse.{among_used, unused_by, used_by}
 use Rattle.papaya_rows.proofs.Light.{has_call, light, within_call}
 use Rattle.papaya_rows.specs.Rows.{used_as}
@@ -25,9 +25,9 @@ use Rattle.papaya_scheduler.specs.Played.{StandsFor}
 use Rattle.papaya_scheduler.specs.declared.scheduler.Scheduler.{Scheduler}
 use Rattle.papaya_rows.proofs.Facts.{row_rests, used_once}
 use Rattle.papaya_rows.proofs.Least.{least_is, least_past}
-use Rattle.papaya_rows.proofs.Given.Scenes.NoCall.{none_of}
-use Rattle.papaya_rows.specs.Given.Executor.IsThere.{IsUsedAs, call_in, use_at, work_of}
-use Rattle.papaya_rows.specs.Given.Scenes.Scene.{Scene}
+use Rattle.papaya_rows.proofs.Given.ScenesNoCall.{none_of}
+use Rattle.papaya_rows.specs.Given.ExecutorIsThere.{IsUsedAs, call_in, use_at, work_of}
+use Rattle.papaya_rows.specs.Given.ScenesScene.{Scene}
 
 module _ {K V S : Type 0} (same : K → K → Bool) (hash : K → ℕ) (terms : Terms) (m : Moment K V) (p : Scheduler K V S) (stands : StandsFor same hash terms m p) where
   abbrev e : Executor K V S

@@ -5,16 +5,16 @@ use Rattle.seize.specs.declared.progress.Progress.{Progress}
 use Rattle.seize_words.specs.declared.fault.Fault.{Fault}
 use Rattle.papaya_runs.specs.Given.Tables.declared.node.Node.{Node}
 use Rattle.papaya_runs.specs.Given.Tables.declared.setting.Setting.{Setting}
-use Rattle.papaya_rows.specs.Given.Schedules.declared.effect.Effect.{Effect}
-use Rattle.papaya_rows.specs.Given.Schedules.declared.event.Event.{Event}
-use Rattle.papaya_rows.specs.Given.Schedules.declared.outcome.Outcome.TheVariants.{Done, Refused}
-use Rattle.papaya_rows.specs.Given.Scenes.declared.row.RowTold.{RowTold}
-use Rattle.papaya_rows.specs.Given.Scenes.declared.row.SlotCall.{SlotCall}
-use Rattle.papaya_rows.specs.Given.Logged.Ends.{EndRan}
-use Rattle.papaya_rows.specs.Given.Logged.Goes.{EndGone, MakingGone}
-use Rattle.papaya_rows.specs.Given.Logged.Makings.{MakingRan}
-use Rattle.papaya_rows.specs.Given.Logged.Roots.{MakingFinds}
-use Rattle.papaya_rows.specs.Given.Logged.declared.logged.Logged.{Logged}
+use Rattle.papaya_rows.specs.Given.SchedulesDeclared.effect.Effect.{Effect}
+use Rattle.papaya_rows.specs.Given.SchedulesDeclared.event.Event.{Event}
+use Rattle.papaya_rows.specs.Given.SchedulesDeclared.outcome.Outcome.TheVariants.{Done, Refused}
+use Rattle.papaya_rows.specs.Given.ScenesDeclared.row.RowTold.{RowTold}
+use Rattle.papaya_rows.specs.Given.ScenesDeclared.row.SlotCall.{SlotCall}
+use Rattle.papaya_rows.specs.Given.LoggedEnds.{EndRan}
+use Rattle.papaya_rows.specs.Given.LoggedGoes.{EndGone, MakingGone}
+use Rattle.papaya_rows.specs.Given.LoggedMakings.{MakingRan}
+use Rattle.papaya_rows.specs.Given.LoggedRoots.{MakingFinds}
+use Rattle.papaya_rows.specs.Given.LoggedDeclared.logged.Logged.{Logged}
 use Rattle.papaya_rows.specs.Rows.{RowRan, RowRanOn}
 use Rattle.papaya_scheduler.specs.Works.{ComesBy, HasNoRow, IsAbout, IsItsRow, WorksOnSlot}
 use Rattle.papaya_scheduler.specs.declared.played.Played.{Played}

@@ -1,9 +1,9 @@
 -- What an event has done that reclaims all: which steps ran.
 use Rattle.std.specs.Prelude.{◌≡◌, ◌⊎◌, nat_lt, true, []}
 use Rattle.seize_words.specs.declared.fault.Fault.TheVariants.{Busy}
-use Rattle.papaya_rows.specs.Given.Schedules.declared.outcome.Outcome.TheVariants.{Done, Refused}
-use Rattle.papaya_rows.specs.Given.Effects.Known.{known}
-use Rattle.papaya_rows.specs.Given.Logged.Goes.{ReclaimingGone}
+use Rattle.papaya_rows.specs.Given.SchedulesDeclared.outcome.Outcome.TheVariants.{Done, Refused}
+use Rattle.papaya_rows.specs.Given.EffectsKnown.{known}
+use Rattle.papaya_rows.specs.Given.LoggedGoes.{ReclaimingGone}
 use Rattle.papaya_scheduler.specs.Reclaiming.{are_gone}
 use Rattle.papaya_scheduler.specs.Works.{DidNothing}
 use Rattle.papaya_scheduler.specs.declared.played.Played.{Played}

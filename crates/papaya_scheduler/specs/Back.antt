@@ -1,11 +1,11 @@
 -- What an event gives back.
 use Rattle.std.specs.Prelude.{ℕ, Bool, List}
 use Rattle.papaya_runs.specs.declared.record.Pair.{Pair}
-use Rattle.papaya_rows.specs.Given.Schedules.declared.event.Event.{Event}
-use Rattle.papaya_rows.specs.Given.Schedules.After.{moment}
-use Rattle.papaya_rows.specs.Given.Schedules.Entry.{Entry}
-use Rattle.papaya_rows.specs.Given.Schedules.Terms.{Terms}
-use Rattle.papaya_rows.specs.Given.Logged.Back.{ComesBack}
+use Rattle.papaya_rows.specs.Given.SchedulesDeclared.event.Event.{Event}
+use Rattle.papaya_rows.specs.Given.SchedulesAfter.{moment}
+use Rattle.papaya_rows.specs.Given.SchedulesEntry.{Entry}
+use Rattle.papaya_rows.specs.Given.SchedulesTerms.{Terms}
+use Rattle.papaya_rows.specs.Given.LoggedBack.{ComesBack}
 use Rattle.papaya_scheduler.specs.Played.{IsDue}
 use Rattle.papaya_scheduler.specs.Reclaiming.{MayGiveAll}
 use Rattle.papaya_scheduler.specs.declared.played.Played.{Played}

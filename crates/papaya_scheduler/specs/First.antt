@@ -1,6 +1,6 @@
 -- How a scheduler begins.
 use Rattle.std.specs.Prelude.{◌≡◌, [], replicate}
-use Rattle.papaya_rows.specs.Given.Effects.Known.{known, nothing_known}
+use Rattle.papaya_rows.specs.Given.EffectsKnown.{known, nothing_known}
 use Rattle.papaya_runs.specs.declared.event.Setup.{Setup}
 use Rattle.papaya_scheduler.specs.declared.scheduler.Scheduler.{Scheduler}
 

@@ -3,24 +3,24 @@ use Rattle.std.specs.Prelude.{◌≡◌, ◌<◌, ◌≤◌, ◌+◌, ◌^◌, �
 use Rattle.std.specs.Int.{IsNextPowerOfTwo}
 use Rattle.papaya_runs.specs.Given.Tables.declared.resize_mode.ResizeMode.{ResizeMode}
 use Rattle.papaya_runs.specs.Given.Tables.declared.setting.Setting.{Setting}
-use Rattle.papaya_rows.specs.Given.Points.Steps.{AreLawful}
+use Rattle.papaya_rows.specs.Given.PointsSteps.{AreLawful}
 use Rattle.papaya_runs.specs.LifeCycle.{times}
 use Rattle.papaya_runs.specs.Same.{is_same}
-use Rattle.papaya_rows.specs.Given.Schedules.declared.event.Event.{Event}
-use Rattle.papaya_rows.specs.Given.Schedules.declared.outcome.Outcome.{Outcome}
-use Rattle.papaya_rows.specs.Given.Schedules.declared.outcome.Outcome.TheVariants.{Done}
-use Rattle.papaya_rows.specs.Given.Schedules.After.{moment}
-use Rattle.papaya_rows.specs.Given.Schedules.Beginning.{used_roots}
-use Rattle.papaya_rows.specs.Given.Schedules.Entry.{Entry}
-use Rattle.papaya_rows.specs.Given.Schedules.Lists.{is_among}
-use Rattle.papaya_rows.specs.Given.Schedules.Moment.{Moment}
-use Rattle.papaya_rows.specs.Given.Schedules.Terms.{Terms}
-use Rattle.papaya_rows.specs.Given.Moments.Numbers.{NumbersMaps, PairsAreBelow}
-use Rattle.papaya_rows.specs.Given.Logged.Roots.{AreTaken}
+use Rattle.papaya_rows.specs.Given.SchedulesDeclared.event.Event.{Event}
+use Rattle.papaya_rows.specs.Given.SchedulesDeclared.outcome.Outcome.{Outcome}
+use Rattle.papaya_rows.specs.Given.SchedulesDeclared.outcome.Outcome.TheVariants.{Done}
+use Rattle.papaya_rows.specs.Given.SchedulesAfter.{moment}
+use Rattle.papaya_rows.specs.Given.SchedulesBeginning.{used_roots}
+use Rattle.papaya_rows.specs.Given.SchedulesEntry.{Entry}
+use Rattle.papaya_rows.specs.Given.SchedulesLists.{is_among}
+use Rattle.papaya_rows.specs.Given.SchedulesMoment.{Moment}
+use Rattle.papaya_rows.specs.Given.SchedulesTerms.{Terms}
+use Rattle.papaya_rows.specs.Given.MomentsNumbers.{NumbersMaps, PairsAreBelow}
+use Rattle.papaya_rows.specs.Given.LoggedRoots.{AreTaken}
 use Rattle.papaya_scheduler.specs.Played.{IsDue, Plays, entry_of}
-use Rattle.papaya_rows.specs.Given.Named.Seen.{number_named}
+use Rattle.papaya_rows.specs.Given.NamedSeen.{number_named}
 use Rattle.papaya_scheduler.specs.declared.played.Played.{Played}
-use Rattle.papaya_rows.specs.Given.Named.declared.named_map.NamedMap.{NamedMap}
+use Rattle.papaya_rows.specs.Given.NamedDeclared.named_map.NamedMap.{NamedMap}
 use Rattle.papaya_scheduler.specs.declared.scheduler.Scheduler.{Scheduler}
 
 -- so many maps have a number, of so many before, once the making of one came to this

@@ -4,41 +4,41 @@ use Rattle.std.specs.List.{AllByRecursion, list_any, remove}
 use Rattle.std.specs.Result.{is_err}
 use Rattle.seize_words.specs.declared.fault.Fault.TheVariants.{Busy}
 use Rattle.papaya_runs.specs.Given.Tables.declared.setting.Setting.{Setting}
-use Rattle.papaya_rows.specs.Given.Callers.Together.{UnderWay}
-use Rattle.papaya_rows.specs.Given.Finishes.Machines.{machine_of}
-use Rattle.papaya_rows.specs.Given.Finishes.Maps.{Standing}
-use Rattle.papaya_rows.specs.Given.Hands.Asked.{as_told}
-use Rattle.papaya_rows.specs.Given.Raw.declared.machines.asking.Reply.{Reply as MachineReply}
-use Rattle.papaya_rows.specs.Given.Raw.declared.machines.machine.Machine.{Machine}
+use Rattle.papaya_rows.specs.Given.CallersTogether.{UnderWay}
+use Rattle.papaya_rows.specs.Given.FinishesMachines.{machine_of}
+use Rattle.papaya_rows.specs.Given.FinishesMaps.{Standing}
+use Rattle.papaya_rows.specs.Given.HandsAsked.{as_told}
+use Rattle.papaya_rows.specs.Given.RawDeclared.machines.asking.Reply.{Reply as MachineReply}
+use Rattle.papaya_rows.specs.Given.RawDeclared.machines.machine.Machine.{Machine}
 use Rattle.papaya_runs.specs.Present.{Present, HaveNames, guard_of, living_slot}
 use Rattle.papaya_runs.specs.declared.event.Setup.{Setup}
-use Rattle.papaya_rows.specs.Given.Schedules.declared.call.Call.{Call}
-use Rattle.papaya_rows.specs.Given.Schedules.declared.call.Reply.{Reply}
-use Rattle.papaya_rows.specs.Given.Schedules.declared.event.Event.{Event}
-use Rattle.papaya_rows.specs.Given.Schedules.declared.outcome.Outcome.TheVariants.{Done, Goes, Refused}
-use Rattle.papaya_rows.specs.Given.Schedules.After.{moment}
-use Rattle.papaya_rows.specs.Given.Schedules.Beginning.{with_call}
-use Rattle.papaya_rows.specs.Given.Schedules.Entry.{Entry}
-use Rattle.papaya_rows.specs.Given.Schedules.InTurn.{ComesRight}
-use Rattle.papaya_rows.specs.Given.Schedules.InUse.{is_living}
-use Rattle.papaya_rows.specs.Given.Schedules.Moment.{Moment}
-use Rattle.papaya_rows.specs.Given.Schedules.Terms.{Terms}
-use Rattle.papaya_rows.specs.Given.Schedules.Views.{call_of, map_of, number_of}
-use Rattle.papaya_rows.specs.Given.Scenes.declared.callers.TheConstants.{SLOTS}
-use Rattle.papaya_rows.specs.Given.Logged.Calling.{CallBegins}
-use Rattle.papaya_rows.specs.Given.Logged.Shown.{IsShown}
-use Rattle.papaya_rows.specs.Given.Named.Machines.{IsAsFar, RefusedForRoom, aborted_by, machine_for}
+use Rattle.papaya_rows.specs.Given.SchedulesDeclared.call.Call.{Call}
+use Rattle.papaya_rows.specs.Given.SchedulesDeclared.call.Reply.{Reply}
+use Rattle.papaya_rows.specs.Given.SchedulesDeclared.event.Event.{Event}
+use Rattle.papaya_rows.specs.Given.SchedulesDeclared.outcome.Outcome.TheVariants.{Done, Goes, Refused}
+use Rattle.papaya_rows.specs.Given.SchedulesAfter.{moment}
+use Rattle.papaya_rows.specs.Given.SchedulesBeginning.{with_call}
+use Rattle.papaya_rows.specs.Given.SchedulesEntry.{Entry}
+use Rattle.papaya_rows.specs.Given.SchedulesInTurn.{ComesRight}
+use Rattle.papaya_rows.specs.Given.SchedulesInUse.{is_living}
+use Rattle.papaya_rows.specs.Given.SchedulesMoment.{Moment}
+use Rattle.papaya_rows.specs.Given.SchedulesTerms.{Terms}
+use Rattle.papaya_rows.specs.Given.SchedulesViews.{call_of, map_of, number_of}
+use Rattle.papaya_rows.specs.Given.ScenesDeclared.callers.TheConstants.{SLOTS}
+use Rattle.papaya_rows.specs.Given.LoggedCalling.{CallBegins}
+use Rattle.papaya_rows.specs.Given.LoggedShown.{IsShown}
+use Rattle.papaya_rows.specs.Given.NamedMachines.{IsAsFar, RefusedForRoom, aborted_by, machine_for}
 use Rattle.papaya_rows.specs.Rows.{used_as}
-use Rattle.papaya_rows.specs.Given.Named.Seen.{is_named, kind_of, named, named_of, ready_place, seen, seen_of, setting_named, takes}
-use Rattle.papaya_rows.specs.Given.Named.declared.caller.Caller.{Caller}
-use Rattle.papaya_rows.specs.Given.Named.declared.caller.Stands.TheVariants as far
+use Rattle.papaya_rows.specs.Given.NamedSeen.{is_named, kind_of, named, named_of, ready_place, seen, seen_of, setting_named, takes}
+use Rattle.papaya_rows.specs.Given.NamedDeclared.caller.Caller.{Caller}
+use Rattle.papaya_rows.specs.Given.NamedDeclared.caller.Stands.TheVariants as far
 use Rattle.papaya_scheduler.specs.declared.played.Played.{Played}
-use Rattle.papaya_rows.specs.Given.Named.declared.named_map.NamedMap.{NamedMap}
+use Rattle.papaya_rows.specs.Given.NamedDeclared.named_map.NamedMap.{NamedMap}
 use Rattle.papaya_scheduler.specs.declared.scheduler.Scheduler.{Scheduler}
-use Rattle.papaya_rows.specs.Given.Executor.Beginning.{BeginsThere}
-use Rattle.papaya_rows.specs.Given.Executor.IsThere.{IsThere, use_at, work_of}
-use Rattle.papaya_rows.specs.Given.Executor.Replying.{RepliesThere, StopsThere}
-use Rattle.papaya_rows.specs.Given.Scenes.Scene.{Scene, slot_of}
+use Rattle.papaya_rows.specs.Given.ExecutorBeginning.{BeginsThere}
+use Rattle.papaya_rows.specs.Given.ExecutorIsThere.{IsThere, use_at, work_of}
+use Rattle.papaya_rows.specs.Given.ExecutorReplying.{RepliesThere, StopsThere}
+use Rattle.papaya_rows.specs.Given.ScenesScene.{Scene, slot_of}
 
 -- what the run is made with
 abbrev pub terms_given : Setup → Terms

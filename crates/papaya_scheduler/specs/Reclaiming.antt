@@ -4,16 +4,16 @@ use Rattle.seize.specs.declared.states.TheConstants.{HEAD}
 use Rattle.seize_words.specs.Mem.{Mem, word_at}
 use Rattle.seize_words.specs.declared.at.At.TheVariants.{Slot}
 use Rattle.papaya_runs.specs.Present.{Present, all_forgotten}
-use Rattle.papaya_rows.specs.Given.Schedules.declared.event.Event.{Event}
-use Rattle.papaya_rows.specs.Given.Schedules.Entry.{Entry}
-use Rattle.papaya_rows.specs.Given.Schedules.Terms.{Terms}
-use Rattle.papaya_rows.specs.Given.Effects.Known.{Known, known}
-use Rattle.papaya_rows.specs.Given.Reclaims.Reclaims.{LeftBehind}
+use Rattle.papaya_rows.specs.Given.SchedulesDeclared.event.Event.{Event}
+use Rattle.papaya_rows.specs.Given.SchedulesEntry.{Entry}
+use Rattle.papaya_rows.specs.Given.SchedulesTerms.{Terms}
+use Rattle.papaya_rows.specs.Given.EffectsKnown.{Known, known}
+use Rattle.papaya_rows.specs.Given.ReclaimsReclaims.{LeftBehind}
 use Rattle.papaya_scheduler.specs.Played.{IsDue, Plays, entry_of}
-use Rattle.papaya_rows.specs.Given.Named.declared.caller.Caller.{Caller}
+use Rattle.papaya_rows.specs.Given.NamedDeclared.caller.Caller.{Caller}
 use Rattle.papaya_scheduler.specs.declared.played.Played.{Played}
 use Rattle.papaya_scheduler.specs.declared.scheduler.Scheduler.{Scheduler}
-use Rattle.papaya_rows.specs.Given.Scenes.Scene.{Scene}
+use Rattle.papaya_rows.specs.Given.ScenesScene.{Scene}
 
 -- nobody is there but guards that were forgotten, and no call is under way
 abbrev pub are_gone : {V : Type 0} → Present → List (Caller V) → Bool

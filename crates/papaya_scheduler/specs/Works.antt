@@ -13,33 +13,33 @@ use Rattle.papaya_runs.specs.Given.Tables.declared.resize_mode.ResizeMode.{Resiz
 use Rattle.papaya_runs.specs.Given.Tables.declared.setting.Setting.{Setting}
 use Rattle.papaya_runs.specs.Runs.{map_fault}
 use Rattle.papaya_runs.specs.Present.{Present, guard_of, guards_on, living_on, living_slot, registration_of}
-use Rattle.papaya_rows.specs.Given.Schedules.declared.event.Event.{Event}
-use Rattle.papaya_rows.specs.Given.Schedules.declared.event.Event.TheVariants.{Choose, Register, Unregister, Enter, Own, Refresh, Flush, DropGuard}
-use Rattle.papaya_rows.specs.Given.Schedules.declared.outcome.Outcome.{Outcome}
-use Rattle.papaya_rows.specs.Given.Schedules.declared.outcome.Outcome.TheVariants.{Done, Slot, Refused}
-use Rattle.papaya_rows.specs.Given.Schedules.Moment.{Moment}
-use Rattle.papaya_rows.specs.Given.Named.Places.{IsFirstLen, first_places}
-use Rattle.papaya_rows.specs.Given.Scenes.declared.row.RowTold.{RowTold}
-use Rattle.papaya_rows.specs.Given.Scenes.declared.row.RowTold.TheVariants as told
-use Rattle.papaya_rows.specs.Given.Scenes.declared.row.SlotCall.{SlotCall}
-use Rattle.papaya_rows.specs.Given.Scenes.declared.callers.TheConstants.{SLOTS}
-use Rattle.papaya_rows.specs.Given.Scenes.declared.row.SlotCall.TheVariants as call
-use Rattle.papaya_rows.specs.Given.Logged.Choosing.{logged_chosen}
-use Rattle.papaya_rows.specs.Given.Logged.Ends.{EndIsBegun, EndIsOver, EndRan}
-use Rattle.papaya_rows.specs.Given.Logged.Goes.{EndGone, MakingGone}
-use Rattle.papaya_rows.specs.Given.Logged.Makings.{MakingIsBegun, MakingRan, MapIsThere}
-use Rattle.papaya_rows.specs.Given.Logged.Roots.{MakingFinds}
-use Rattle.papaya_rows.specs.Given.Logged.Shown.{IsShown}
-use Rattle.papaya_rows.specs.Given.Logged.declared.logged.Logged.{Logged}
+use Rattle.papaya_rows.specs.Given.SchedulesDeclared.event.Event.{Event}
+use Rattle.papaya_rows.specs.Given.SchedulesDeclared.event.Event.TheVariants.{Choose, Register, Unregister, Enter, Own, Refresh, Flush, DropGuard}
+use Rattle.papaya_rows.specs.Given.SchedulesDeclared.outcome.Outcome.{Outcome}
+use Rattle.papaya_rows.specs.Given.SchedulesDeclared.outcome.Outcome.TheVariants.{Done, Slot, Refused}
+use Rattle.papaya_rows.specs.Given.SchedulesMoment.{Moment}
+use Rattle.papaya_rows.specs.Given.NamedPlaces.{IsFirstLen, first_places}
+use Rattle.papaya_rows.specs.Given.ScenesDeclared.row.RowTold.{RowTold}
+use Rattle.papaya_rows.specs.Given.ScenesDeclared.row.RowTold.TheVariants as told
+use Rattle.papaya_rows.specs.Given.ScenesDeclared.row.SlotCall.{SlotCall}
+use Rattle.papaya_rows.specs.Given.ScenesDeclared.callers.TheConstants.{SLOTS}
+use Rattle.papaya_rows.specs.Given.ScenesDeclared.row.SlotCall.TheVariants as call
+use Rattle.papaya_rows.specs.Given.LoggedChoosing.{logged_chosen}
+use Rattle.papaya_rows.specs.Given.LoggedEnds.{EndIsBegun, EndIsOver, EndRan}
+use Rattle.papaya_rows.specs.Given.LoggedGoes.{EndGone, MakingGone}
+use Rattle.papaya_rows.specs.Given.LoggedMakings.{MakingIsBegun, MakingRan, MapIsThere}
+use Rattle.papaya_rows.specs.Given.LoggedRoots.{MakingFinds}
+use Rattle.papaya_rows.specs.Given.LoggedShown.{IsShown}
+use Rattle.papaya_rows.specs.Given.LoggedDeclared.logged.Logged.{Logged}
 use Rattle.papaya_rows.specs.Rows.{RowRan, left_as}
 use Rattle.papaya_scheduler.specs.Mapping.{IsGivenFor}
-use Rattle.papaya_rows.specs.Given.Named.Seen.{free_slot, number_named}
+use Rattle.papaya_rows.specs.Given.NamedSeen.{free_slot, number_named}
 use Rattle.papaya_scheduler.specs.declared.played.Played.{Played}
 use Rattle.papaya_scheduler.specs.declared.scheduler.Scheduler.{Scheduler}
-use Rattle.papaya_rows.specs.Given.Executor.Ending.{EndingBegins}
-use Rattle.papaya_rows.specs.Given.Executor.IsThere.{IsThere, KeepsGiven, StaysGiven}
-use Rattle.papaya_rows.specs.Given.Executor.MakingBegins.{MakingBegins}
-use Rattle.papaya_rows.specs.Given.Scenes.Scene.{Scene}
+use Rattle.papaya_rows.specs.Given.ExecutorEnding.{EndingBegins}
+use Rattle.papaya_rows.specs.Given.ExecutorIsThere.{IsThere, KeepsGiven, StaysGiven}
+use Rattle.papaya_rows.specs.Given.ExecutorMakingBegins.{MakingBegins}
+use Rattle.papaya_rows.specs.Given.ScenesScene.{Scene}
 
 module _ {K V S : Type 0} where
   -- The event is about this slot, by who is there as it comes; a registering finds a slot of its own.

@@ -1,14 +1,14 @@
 //! Calls begin, get replies, and are given up.
 ghost use Rattle.std.specs.Prelude.{◌≡◌, ℕ, Bool, List, None, IfOk, MatchOption};
-ghost use Rattle.papaya_rows.specs.Given.Schedules.declared.event.Event.TheVariants as event;
-ghost use Rattle.papaya_rows.specs.Given.Schedules.Moment.{Moment};
-ghost use Rattle.papaya_rows.specs.Given.Schedules.Terms.{Terms};
-ghost use Rattle.papaya_rows.specs.Given.Hands.Asked.{as_told};
-ghost use Rattle.papaya_rows.specs.Given.Named.Machines.{aborted_by};
+ghost use Rattle.papaya_rows.specs.Given.SchedulesDeclared.event.Event.TheVariants as event;
+ghost use Rattle.papaya_rows.specs.Given.SchedulesMoment.{Moment};
+ghost use Rattle.papaya_rows.specs.Given.SchedulesTerms.{Terms};
+ghost use Rattle.papaya_rows.specs.Given.HandsAsked.{as_told};
+ghost use Rattle.papaya_rows.specs.Given.NamedMachines.{aborted_by};
 ghost use Rattle.papaya_scheduler.specs.Played.{Began, BeginsSo, MayPlay, PlaysAt, Replies, StandsFor, Stops};
 ghost use Rattle.papaya_scheduler.specs.Quiet.{IsQuiet, StaysBusy};
-ghost use Rattle.papaya_rows.specs.Given.Named.Seen.{IsReadyAt, ready_place};
-ghost use Rattle.papaya_rows.specs.Given.Executor.IsThere.{KeepsGiven};
+ghost use Rattle.papaya_rows.specs.Given.NamedSeen.{IsReadyAt, ready_place};
+ghost use Rattle.papaya_rows.specs.Given.ExecutorIsThere.{KeepsGiven};
 
 use crate::played::Played;
 use crate::scheduler::Scheduler;

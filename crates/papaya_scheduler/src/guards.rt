@@ -3,13 +3,13 @@ ghost use Rattle.std.specs.Prelude.{◌≡◌, ◌==◌, ℕ, Bool, Some, IfOk, 
 ghost use Rattle.seize.specs.declared.states.TheConstants.{BATCH, HELD};
 ghost use Rattle.seize_words.specs.Mem.{word_at};
 ghost use Rattle.seize_words.specs.declared.at.At.TheVariants.{Slot};
-ghost use Rattle.papaya_rows.specs.Given.Schedules.declared.event.Event.TheVariants as event;
+ghost use Rattle.papaya_rows.specs.Given.SchedulesDeclared.event.Event.TheVariants as event;
 ghost use Rattle.papaya_scheduler.specs.Back.{GivesBack};
 ghost use Rattle.papaya_scheduler.specs.Played.{MayPlay, PlaysAt};
 ghost use Rattle.papaya_scheduler.specs.Quiet.{IsQuiet};
 ghost use Rattle.papaya_rows.specs.Rows.{left_as};
 ghost use Rattle.papaya_scheduler.specs.Works.{FlushesUnlessHeld, WorksOnSetup, WorksOnSlot};
-ghost use Rattle.papaya_rows.specs.Given.Executor.IsThere.{KeepsGiven};
+ghost use Rattle.papaya_rows.specs.Given.ExecutorIsThere.{KeepsGiven};
 
 use crate::played::Played;
 use crate::scheduler::Scheduler;

@@ -1,15 +1,15 @@
 //! Slots are taken and given up: registrations, and guards that own theirs.
 ghost use Rattle.std.specs.Prelude.{◌≡◌, ℕ, Bool, List, IfOk};
-ghost use Rattle.papaya_rows.specs.Given.Schedules.Moment.{Moment};
-ghost use Rattle.papaya_rows.specs.Given.Schedules.Terms.{Terms};
-ghost use Rattle.papaya_rows.specs.Given.Schedules.declared.event.Event.TheVariants as event;
-ghost use Rattle.papaya_rows.specs.Given.Logged.Back.{BringsBack};
+ghost use Rattle.papaya_rows.specs.Given.SchedulesMoment.{Moment};
+ghost use Rattle.papaya_rows.specs.Given.SchedulesTerms.{Terms};
+ghost use Rattle.papaya_rows.specs.Given.SchedulesDeclared.event.Event.TheVariants as event;
+ghost use Rattle.papaya_rows.specs.Given.LoggedBack.{BringsBack};
 ghost use Rattle.papaya_scheduler.specs.Back.{GivesBack};
 ghost use Rattle.papaya_scheduler.specs.Played.{MayPlay, PlaysAt, StandsFor};
 ghost use Rattle.papaya_scheduler.specs.Quiet.{IsQuiet};
 ghost use Rattle.papaya_rows.specs.Taking.{SlotTaken};
 ghost use Rattle.papaya_scheduler.specs.Works.{WorksOnSlot};
-ghost use Rattle.papaya_rows.specs.Given.Executor.IsThere.{KeepsGiven};
+ghost use Rattle.papaya_rows.specs.Given.ExecutorIsThere.{KeepsGiven};
 
 use crate::played::Played;
 use crate::scheduler::Scheduler;

@@ -1,17 +1,17 @@
 //! The state of a run whose calls stay under way: the executor, and who is there by name.
 ghost use Rattle.std.specs.Prelude.{◌≡◌, ◌<◌, ℕ, Bool, List, [], IfOk, OnOk};
-ghost use Rattle.papaya_rows.specs.Given.Schedules.Moment.{Moment, start};
-ghost use Rattle.papaya_rows.specs.Given.Logged.Back.{BringsBack};
-ghost use Rattle.papaya_rows.specs.Given.Logged.Shown.{IsShown};
-ghost use Rattle.papaya_rows.specs.Given.Scenes.declared.callers.TheConstants.{SLOTS};
-ghost use Rattle.papaya_rows.specs.Given.Named.Seen.{free_slot, number_named, setting_named};
+ghost use Rattle.papaya_rows.specs.Given.SchedulesMoment.{Moment, start};
+ghost use Rattle.papaya_rows.specs.Given.LoggedBack.{BringsBack};
+ghost use Rattle.papaya_rows.specs.Given.LoggedShown.{IsShown};
+ghost use Rattle.papaya_rows.specs.Given.ScenesDeclared.callers.TheConstants.{SLOTS};
+ghost use Rattle.papaya_rows.specs.Given.NamedSeen.{free_slot, number_named, setting_named};
 ghost use Rattle.papaya_scheduler.specs.First.{HasJustBegun};
 ghost use Rattle.papaya_scheduler.specs.Played.{IsPlayed, terms_given};
 ghost use Rattle.papaya_rows.specs.Rows.{RowRan, RowRanOn};
 ghost use Rattle.seize_words.specs.declared.fault.Fault.TheVariants.{Busy};
-ghost use Rattle.papaya_rows.specs.Given.Executor.IsThere.{KeepsGiven};
-ghost use Rattle.papaya_rows.specs.Given.Executor.OnSlots.{MayBegin};
-ghost use Rattle.papaya_rows.specs.Given.Scenes.Scene.{Scene, at_first};
+ghost use Rattle.papaya_rows.specs.Given.ExecutorIsThere.{KeepsGiven};
+ghost use Rattle.papaya_rows.specs.Given.ExecutorOnSlots.{MayBegin};
+ghost use Rattle.papaya_rows.specs.Given.ScenesScene.{Scene, at_first};
 
 use crate::played::Played;
 use papaya_present::Present;

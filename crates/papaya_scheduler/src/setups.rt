@@ -1,11 +1,11 @@
 //! Events of the setup.
 ghost use Rattle.std.specs.Prelude.{[], ◌≡◌, ℕ, Bool, IfOk, if◌then◌else◌};
-ghost use Rattle.papaya_rows.specs.Given.Schedules.declared.event.Event.TheVariants as event;
+ghost use Rattle.papaya_rows.specs.Given.SchedulesDeclared.event.Event.TheVariants as event;
 ghost use Rattle.seize_words.specs.declared.fault.Fault.TheVariants.{Busy};
 ghost use Rattle.papaya_scheduler.specs.Played.{MayPlay, PlaysAt, PlaysFirst};
 ghost use Rattle.papaya_scheduler.specs.Quiet.{IsQuiet};
 ghost use Rattle.papaya_scheduler.specs.Works.{WorksOnSetup};
-ghost use Rattle.papaya_rows.specs.Given.Executor.IsThere.{KeepsGiven};
+ghost use Rattle.papaya_rows.specs.Given.ExecutorIsThere.{KeepsGiven};
 
 use crate::played::Played;
 use crate::scheduler::Scheduler;

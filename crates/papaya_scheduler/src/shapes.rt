@@ -1,9 +1,9 @@
 //! The tables of a map, as a schedule is shown them.
 ghost use Rattle.std.specs.Prelude.{◌≡◌, ◌-◌, ◌++◌, ℕ, Bool, map, IfOk};
-ghost use Rattle.papaya_rows.specs.Given.Schedules.declared.event.Event.TheVariants as event;
-ghost use Rattle.papaya_rows.specs.Given.Rule.Chart.{Chart};
-ghost use Rattle.papaya_rows.specs.Given.Rule.Words.{Blocks};
-ghost use Rattle.papaya_rows.specs.Given.Shown.Shown.{Stands, tables_on};
+ghost use Rattle.papaya_rows.specs.Given.SchedulesDeclared.event.Event.TheVariants as event;
+ghost use Rattle.papaya_rows.specs.Given.RuleChart.{Chart};
+ghost use Rattle.papaya_rows.specs.Given.RuleWords.{Blocks};
+ghost use Rattle.papaya_rows.specs.Given.ShownShown.{Stands, tables_on};
 ghost use Rattle.papaya_scheduler.specs.Played.{MayPlay, PlaysAt};
 ghost use Rattle.papaya_scheduler.specs.Shapes.{shape_of};
 ghost use Rattle.papaya_scheduler.specs.Quiet.{IsQuiet};

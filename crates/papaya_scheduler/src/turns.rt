@@ -1,8 +1,8 @@
 //! Events that are kept out, once the collector has ended.
 ghost use Rattle.std.specs.Prelude.{◌≡◌, ℕ, Bool, true, []};
 ghost use Rattle.papaya_runs.specs.Runs.{map_fault};
-ghost use Rattle.papaya_rows.specs.Given.Schedules.After.{mapped_on};
-ghost use Rattle.papaya_rows.specs.Given.Schedules.InTurn.{IsKeptOut};
+ghost use Rattle.papaya_rows.specs.Given.SchedulesAfter.{mapped_on};
+ghost use Rattle.papaya_rows.specs.Given.SchedulesInTurn.{IsKeptOut};
 ghost use Rattle.papaya_scheduler.specs.KeptOut.{PlaysKeptOut};
 ghost use Rattle.papaya_scheduler.specs.Turns.{IsMakingOut};
 

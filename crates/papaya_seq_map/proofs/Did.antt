@@ -2,17 +2,17 @@
 use Rattle.std.specs.Prelude.{false, IsTrue, MatchOption, is_some}
 use Rattle.std.specs.Option.{unwrap_or}
 use Rattle.std.proofs.Common.{◌≡◌, Bool, [], ◌∷◌, ◌++◌, Option, Some, None, Ok, refl, sym, ap, subst}
-use Rattle.papaya_seq_shows.specs.Given.Asks.Closures.{Removing}
+use Rattle.papaya_seq_shows.specs.Given.AsksClosures.{Removing}
 use Rattle.papaya_operation.specs.declared.operation.Operation.{Operation}
 use Rattle.papaya_operation.specs.declared.operation.Operation.TheVariants as operation
 use Rattle.seize_words.specs.declared.refused.RefusedKey.{RefusedKey}
-use Rattle.papaya_seq_shows.specs.Given.Resting.Asking.{HasComputed, HasDone}
-use Rattle.papaya_seq_shows.specs.Given.Resting.Given.{found_by, left_by}
-use Rattle.papaya_seq_shows.specs.Given.Resting.Held.{as_list, stored_computing}
-use Rattle.papaya_seq_shows.specs.Given.Resting.declared.change.Change.{Change}
-use Rattle.papaya_seq_shows.specs.Given.Resting.declared.change.Change.TheVariants as change
-use Rattle.papaya_seq_shows.specs.Given.Resting.declared.change.Compute.{Compute}
-use Rattle.papaya_seq_shows.specs.Given.Resting.declared.change.Compute.TheVariants as compute
+use Rattle.papaya_seq_shows.specs.Given.RestingAsking.{HasComputed, HasDone}
+use Rattle.papaya_seq_shows.specs.Given.RestingGiven.{found_by, left_by}
+use Rattle.papaya_seq_shows.specs.Given.RestingHeld.{as_list, stored_computing}
+use Rattle.papaya_seq_shows.specs.Given.RestingDeclared.change.Change.{Change}
+use Rattle.papaya_seq_shows.specs.Given.RestingDeclared.change.Change.TheVariants as change
+use Rattle.papaya_seq_shows.specs.Given.RestingDeclared.change.Compute.{Compute}
+use Rattle.papaya_seq_shows.specs.Given.RestingDeclared.change.Compute.TheVariants as compute
 use Rattle.papaya_seq_map.specs.Answers.{HasRemoved, HasReplaced, IsLeft}
 use Rattle.papaya_seq_shows.specs.Maps.{HasNow, Keeps, Map}
 

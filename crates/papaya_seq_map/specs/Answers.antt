@@ -6,7 +6,7 @@ use Rattle.std.specs.declared.hash.Hasher as hasher
 use Rattle.std.specs.declared.hash.BuildHasher as builder
 use Rattle.seize_words.specs.declared.fault.Fault.{Fault}
 use Rattle.seize_words.specs.declared.fault.Fault.TheVariants.{Capacity}
-use Rattle.papaya_seq_shows.specs.Given.Resting.Given.{left_by}
+use Rattle.papaya_seq_shows.specs.Given.RestingGiven.{left_by}
 use Rattle.papaya_shown.specs.Chain.{CannotGrow}
 use Rattle.papaya_seq_map.specs.Lent.{map_row}
 use Rattle.papaya_seq_shows.specs.Maps.{HasNow, Keeps, Map}

@@ -3,7 +3,7 @@ use Rattle.std.specs.Prelude.{◌≡◌, ⊤, Bool, IsTrue, Option, Some, None, 
 use Rattle.std.specs.Borrow.{GName}
 use Rattle.papaya_operation.specs.declared.operation.Operation.{Operation}
 use Rattle.papaya_operation.specs.declared.operation.Operation.TheVariants as operation
-use Rattle.papaya_seq_shows.specs.Given.Resting.Given.{found_by}
+use Rattle.papaya_seq_shows.specs.Given.RestingGiven.{found_by}
 use Rattle.papaya_seq_map.specs.Answers.{HasAdded, HasRemoved, HasReplaced, IsLeft}
 use Rattle.papaya_seq_shows.specs.Maps.{Map}
 use Rattle.papaya_seq_map.specs.declared.answers.Compute.{Compute}

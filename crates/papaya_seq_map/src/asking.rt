@@ -2,13 +2,13 @@
 ghost use Rattle.std.specs.Prelude.{◌≡◌, None, Some, IfOk, IfErr, OnErr};
 ghost use Rattle.std.specs.Fn.{FnOnceReturns, FnOnceReturnsAt, FnOnceTakesAt};
 ghost use Rattle.std.specs.Option.{ForNone, ForSome};
-ghost use Rattle.papaya_seq_shows.specs.Given.Asks.Closures.{Updating, UpdatingOrStoring, Storing};
-ghost use Rattle.papaya_seq_shows.specs.Given.Late.Faults.{IsRoom};
+ghost use Rattle.papaya_seq_shows.specs.Given.AsksClosures.{Updating, UpdatingOrStoring, Storing};
+ghost use Rattle.papaya_seq_shows.specs.Given.LateFaults.{IsRoom};
 ghost use Rattle.papaya_shown.specs.Chain.{CannotGrow};
 ghost use Rattle.seize_words.specs.declared.fault.Fault.TheVariants.{Capacity};
-ghost use Rattle.papaya_seq_shows.specs.Given.Resting.Given.{found_by};
-ghost use Rattle.papaya_seq_shows.specs.Given.Resting.Asking.{HasDone};
-ghost use Rattle.papaya_seq_shows.specs.Given.Resting.Held.{stored_in};
+ghost use Rattle.papaya_seq_shows.specs.Given.RestingGiven.{found_by};
+ghost use Rattle.papaya_seq_shows.specs.Given.RestingAsking.{HasDone};
+ghost use Rattle.papaya_seq_shows.specs.Given.RestingHeld.{stored_in};
 ghost use Rattle.papaya_seq_shows.specs.Maps.{HasNow, Keeps};
 
 use crate::map::HashMap;

@@ -3,10 +3,10 @@ ghost use Rattle.std.specs.Prelude.{◌≡◌, ◌≤◌, [], None, is_some, len
 ghost use Rattle.std.specs.Borrow.{sem};
 ghost use Rattle.std.specs.List.Sorted.{IsPermutation};
 ghost use Rattle.std.specs.Option.{option_copied};
-ghost use Rattle.papaya_seq_shows.specs.Given.Late.Faults.{IsRoom};
+ghost use Rattle.papaya_seq_shows.specs.Given.LateFaults.{IsRoom};
 ghost use Rattle.papaya_shown.specs.Chain.{CannotGrow};
 ghost use Rattle.seize_words.specs.declared.fault.Fault.TheVariants.{Capacity};
-ghost use Rattle.papaya_seq_shows.specs.Given.Resting.Given.{found_by, left_by};
+ghost use Rattle.papaya_seq_shows.specs.Given.RestingGiven.{found_by, left_by};
 ghost use Rattle.papaya_seq_shows.specs.Maps.{HasNow, Keeps, LastTook};
 
 use crate::map::HashMap;

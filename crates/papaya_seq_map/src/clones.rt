@@ -1,9 +1,9 @@
 //! Maps for one owner with clones of the pairs of another map, or of an array.
 ghost use Rattle.std.specs.Prelude.{◌≡◌, [], Bool, true, length, IfOk, IfErr, OnOk};
 ghost use Rattle.std.specs.List.Sorted.{IsPermutation};
-ghost use Rattle.papaya_seq_shows.specs.Given.Late.Faults.{IsRoom};
-ghost use Rattle.papaya_seq_shows.specs.Given.Pairs.Equals.{agree};
-ghost use Rattle.papaya_seq_shows.specs.Given.Pairs.Puts.{ClonesAreSame, IsCloneOf, put_all};
+ghost use Rattle.papaya_seq_shows.specs.Given.LateFaults.{IsRoom};
+ghost use Rattle.papaya_seq_shows.specs.Given.PairsEquals.{agree};
+ghost use Rattle.papaya_seq_shows.specs.Given.PairsPuts.{ClonesAreSame, IsCloneOf, put_all};
 ghost use Rattle.papaya_seq_shows.specs.Stored.{ClonesAreEqual, HasPut, IsMadeOfClones};
 
 use crate::insertions::store;

@@ -1,14 +1,14 @@
 //! A call on a map for one owner that computes what is to be done with a key. It begins with a refresh.
 ghost use Rattle.std.specs.Prelude.{◌≡◌, None, Some, IfOk, IfErr, OnErr};
 ghost use Rattle.std.specs.Borrow.{sem};
-ghost use Rattle.papaya_seq_shows.specs.Given.Asks.Closures.{Computing, ComputesAs, ComputingTakes};
+ghost use Rattle.papaya_seq_shows.specs.Given.AsksClosures.{Computing, ComputesAs, ComputingTakes};
 ghost use Rattle.papaya_shown.specs.Chain.{CannotGrow};
 ghost use Rattle.seize_words.specs.declared.fault.Fault.TheVariants.{Capacity};
-ghost use Rattle.papaya_seq_shows.specs.Given.Resting.Given.{found_by};
-ghost use Rattle.papaya_seq_shows.specs.Given.Resting.Asking.{HasComputed, IsRefusedFor};
+ghost use Rattle.papaya_seq_shows.specs.Given.RestingGiven.{found_by};
+ghost use Rattle.papaya_seq_shows.specs.Given.RestingAsking.{HasComputed, IsRefusedFor};
 ghost use Rattle.papaya_seq_map.specs.Answers.{IsRefused, RestsUnless};
 ghost use Rattle.papaya_seq_map.specs.Computes as computes;
-ghost use Rattle.papaya_seq_shows.specs.Given.Resting.Held.{stored_computing};
+ghost use Rattle.papaya_seq_shows.specs.Given.RestingHeld.{stored_computing};
 ghost use Rattle.papaya_seq_shows.specs.Maps.{HasNow, Keeps};
 
 use crate::answers::{Aborted, Compute, Present, Removed, Updated};

@@ -2,8 +2,8 @@
 ghost use Rattle.std.specs.Prelude.{◌≡◌, Some, option_map};
 ghost use Rattle.std.specs.Option.{option_eq};
 ghost use Rattle.std.specs.Cmp.{equiv, partial_equiv_from_equiv};
-ghost use Rattle.papaya_seq_shows.specs.Given.Resting.Given.{found_by};
-ghost use Rattle.papaya_seq_shows.specs.Given.Pairs.Equals.{agree, agree_turned, agree_through, agree_itself};
+ghost use Rattle.papaya_seq_shows.specs.Given.RestingGiven.{found_by};
+ghost use Rattle.papaya_seq_shows.specs.Given.PairsEquals.{agree, agree_turned, agree_through, agree_itself};
 
 use crate::map::HashMap;
 use seize_receivers::Receiver;

@@ -1,7 +1,7 @@
 //! What an iterator gives is put into a map for one owner.
 ghost use Rattle.std.specs.Prelude.{◌≡◌, IfOk, IfErr};
 ghost use Rattle.std.specs.Iterator.{IsFiniteIterable};
-ghost use Rattle.papaya_seq_shows.specs.Given.Late.Faults.{IsRoom};
+ghost use Rattle.papaya_seq_shows.specs.Given.LateFaults.{IsRoom};
 ghost use Rattle.papaya_shown.specs.Chain.{CannotGrow};
 ghost use Rattle.seize_words.specs.declared.fault.Fault.TheVariants.{Capacity};
 ghost use Rattle.papaya_seq_shows.specs.Stored.{Collects, Extends};

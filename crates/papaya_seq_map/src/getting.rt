@@ -3,8 +3,8 @@ ghost use Rattle.std.specs.Prelude.{◌≡◌, None, Some, MatchOption, MatchRes
 ghost use Rattle.std.specs.Borrow.{sem};
 ghost use Rattle.std.specs.Fn.{FnOnceReturns};
 ghost use Rattle.std.specs.Option.{ForNone};
-ghost use Rattle.papaya_seq_shows.specs.Given.Late.Faults.{IsRoom};
-ghost use Rattle.papaya_seq_shows.specs.Given.Resting.Given.{found_by};
+ghost use Rattle.papaya_seq_shows.specs.Given.LateFaults.{IsRoom};
+ghost use Rattle.papaya_seq_shows.specs.Given.RestingGiven.{found_by};
 ghost use Rattle.papaya_seq_map.specs.Answers.{HasAdded, IsLeft, IsRefused, RestsUnless, name_of_either};
 
 use crate::answers::Present;

@@ -2,11 +2,11 @@
 ghost use Rattle.std.specs.Borrow.{sem};
 ghost use Rattle.std.specs.Prelude.{◌≡◌, List, [], ◌∷◌, ◌++◌, None, Some, is_some, IsTrue, IfOk, IfErr, OnOk, OnErr, MatchResult};
 ghost use Rattle.std.specs.List.Sorted.{IsPermutation};
-ghost use Rattle.papaya_seq_shows.specs.Given.Late.Faults.{IsRoom};
+ghost use Rattle.papaya_seq_shows.specs.Given.LateFaults.{IsRoom};
 ghost use Rattle.papaya_shown.specs.Chain.{CannotGrow};
 ghost use Rattle.seize_words.specs.declared.fault.Fault.TheVariants.{Capacity};
-ghost use Rattle.papaya_seq_shows.specs.Given.Resting.Given.{found_by, left_by};
-ghost use Rattle.papaya_seq_shows.specs.Given.Resting.Held.{if_stored, if_tried};
+ghost use Rattle.papaya_seq_shows.specs.Given.RestingGiven.{found_by, left_by};
+ghost use Rattle.papaya_seq_shows.specs.Given.RestingHeld.{if_stored, if_tried};
 ghost use Rattle.papaya_seq_map.specs.Answers.{HasAdded, IsLeft, IsRefused, RestsUnless, name_of_either};
 ghost use Rattle.papaya_seq_shows.specs.Maps.{Keeps, LastTook};
 ghost use Rattle.papaya_seq_shows.specs.Stored.{HasPut};

@@ -2,7 +2,7 @@
 ghost use Rattle.std.specs.Prelude.{◌≡◌, IsSome, List, Some, is_some, option_map};
 ghost use Rattle.std.specs.List.Sorted.{IsPermutation};
 ghost use Rattle.std.specs.Option.{option_copied};
-ghost use Rattle.papaya_seq_shows.specs.Given.Resting.Given.{found_by};
+ghost use Rattle.papaya_seq_shows.specs.Given.RestingGiven.{found_by};
 
 use crate::map::HashMap;
 use papaya_seq_shows::papaya_resting::pair_of;

@@ -1,8 +1,8 @@
 //! How a map for one owner is made.
 ghost use Rattle.std.specs.Prelude.{◌≡◌, [], None, IfOk, IfErr, OnOk};
 ghost use Rattle.seize_words.specs.declared.fault.Fault.TheVariants.{Memory};
-ghost use Rattle.papaya_seq_shows.specs.Given.Owned.Rooms.{tables_for};
-ghost use Rattle.papaya_seq_shows.specs.Given.Resting.Given.{AreTooMany, IsUnmade};
+ghost use Rattle.papaya_seq_shows.specs.Given.OwnedRooms.{tables_for};
+ghost use Rattle.papaya_seq_shows.specs.Given.RestingGiven.{AreTooMany, IsUnmade};
 ghost use Rattle.papaya_seq_shows.specs.Maps.{LastTook};
 
 use crate::map::{HashMap, Resting};

@@ -1,6 +1,6 @@
 //! A hash map for one owner.
 ghost use Rattle.std.specs.Prelude.{◌≡◌, true};
-ghost use Rattle.papaya_seq_shows.specs.Given.Resting.Lasts.{is_named};
+ghost use Rattle.papaya_seq_shows.specs.Given.RestingLasts.{is_named};
 ghost use Rattle.papaya_shown.specs.Chain.{CountsTables, counts_tables_prop, root_link};
 
 use papaya_seq_shows::papaya_resting::Last;
@@ -45,8 +45,8 @@ pub struct HashMap<
 
 impl<K: Eq + Hash, V, S: BuildHasher, R: Receiver<(K, V)>> Model for HashMap<K, V, S, R> {
     ghost use Rattle.std.specs.Prelude.{List};
-    ghost use Rattle.papaya_seq_shows.specs.Given.Resting.Given.{held_in, Holds, hashed_by};
-    ghost use Rattle.papaya_seq_shows.specs.Given.Resting.Lasts.{pair_in};
+    ghost use Rattle.papaya_seq_shows.specs.Given.RestingGiven.{held_in, Holds, hashed_by};
+    ghost use Rattle.papaya_seq_shows.specs.Given.RestingLasts.{pair_in};
     ghost use Rattle.papaya_seq_shows.specs.Maps.{Map, pairs_shown, tables_shown};
 
     ghost Value = { Map K V S };

@@ -1,9 +1,9 @@
 //! Room for further pairs in a map for one owner. It begins with a refresh, as a change does.
 ghost use Rattle.std.specs.Prelude.{◌≡◌, ◌⊎◌, [], Err, None, IfErr, OnOk, length};
 ghost use Rattle.std.specs.List.Sorted.{IsPermutation};
-ghost use Rattle.papaya_seq_shows.specs.Given.Late.Faults.{IsRoom};
-ghost use Rattle.papaya_seq_shows.specs.Given.Reserves.Reserve.{needed};
-ghost use Rattle.papaya_seq_shows.specs.Given.Owned.Rooms.{NeedTooMany};
+ghost use Rattle.papaya_seq_shows.specs.Given.LateFaults.{IsRoom};
+ghost use Rattle.papaya_seq_shows.specs.Given.ReservesReserve.{needed};
+ghost use Rattle.papaya_seq_shows.specs.Given.OwnedRooms.{NeedTooMany};
 ghost use Rattle.papaya_shown.specs.Chain.{CannotGrow, FirstHas};
 ghost use Rattle.seize_words.specs.declared.fault.Fault.TheVariants.{Capacity};
 ghost use Rattle.papaya_seq_shows.specs.Maps.{Keeps, LastTook};

@@ -1,10 +1,10 @@
 //! What goes over all pairs of a map for one owner, and removes them. Each change begins with a refresh.
 ghost use Rattle.std.specs.Prelude.{◌≡◌, ◌≤◌, None, Bool, List, [], length, IfErr, IsOk, OnOk, OnErr, filter};
 ghost use Rattle.std.specs.List.Sorted.{IsPermutation};
-ghost use Rattle.papaya_seq_shows.specs.Given.Late.Faults.{IsRoom};
+ghost use Rattle.papaya_seq_shows.specs.Given.LateFaults.{IsRoom};
 ghost use Rattle.papaya_shown.specs.Chain.{CannotGrow};
 ghost use Rattle.seize_words.specs.declared.fault.Fault.TheVariants.{Capacity};
-ghost use Rattle.papaya_seq_shows.specs.Given.Resting.Given.{AnswersByTest, KeepsOf};
+ghost use Rattle.papaya_seq_shows.specs.Given.RestingGiven.{AnswersByTest, KeepsOf};
 ghost use Rattle.papaya_seq_shows.specs.Maps.{Keeps, LastTook};
 
 use crate::map::HashMap;

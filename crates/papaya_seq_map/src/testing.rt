@@ -2,12 +2,12 @@
 ghost use Rattle.std.specs.Prelude.{◌≡◌, ◌≤◌, [], None, Some, true, false, length, option_map, MatchOption, MatchResult, IfOk, IfErr, IsOk, OnErr};
 ghost use Rattle.std.specs.Borrow.{sem};
 ghost use Rattle.std.specs.Option.{ForSome};
-ghost use Rattle.papaya_seq_shows.specs.Given.Asks.Closures.{Removing, TestsAs, TestTakes};
-ghost use Rattle.papaya_seq_shows.specs.Given.Late.Faults.{IsRoom};
+ghost use Rattle.papaya_seq_shows.specs.Given.AsksClosures.{Removing, TestsAs, TestTakes};
+ghost use Rattle.papaya_seq_shows.specs.Given.LateFaults.{IsRoom};
 ghost use Rattle.papaya_shown.specs.Chain.{CannotGrow};
 ghost use Rattle.seize_words.specs.declared.fault.Fault.TheVariants.{Capacity};
-ghost use Rattle.papaya_seq_shows.specs.Given.Resting.Given.{found_by};
-ghost use Rattle.papaya_seq_shows.specs.Given.Resting.Asking.{HasDone};
+ghost use Rattle.papaya_seq_shows.specs.Given.RestingGiven.{found_by};
+ghost use Rattle.papaya_seq_shows.specs.Given.RestingAsking.{HasDone};
 ghost use Rattle.papaya_seq_map.specs.Answers.{HasRemoved, IsLeft, IsRefused};
 ghost use Rattle.papaya_seq_shows.specs.Maps.{HasNow, Keeps};
 

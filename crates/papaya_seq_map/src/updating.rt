@@ -3,8 +3,8 @@ ghost use Rattle.std.specs.Prelude.{◌≡◌, None, Some, MatchOption, IsTrue, 
 ghost use Rattle.std.specs.Borrow.{sem};
 ghost use Rattle.std.specs.Fn.{FnOnceReturns, FnOnceReturnsAt, FnOnceTakesAt};
 ghost use Rattle.std.specs.Option.{ForNone, ForSome};
-ghost use Rattle.papaya_seq_shows.specs.Given.Late.Faults.{IsRoom};
-ghost use Rattle.papaya_seq_shows.specs.Given.Resting.Given.{found_by};
+ghost use Rattle.papaya_seq_shows.specs.Given.LateFaults.{IsRoom};
+ghost use Rattle.papaya_seq_shows.specs.Given.RestingGiven.{found_by};
 ghost use Rattle.papaya_seq_map.specs.Answers.{HasAdded, HasReplaced, IsLeft, IsRefused, RestsUnless};
 
 use crate::answers::{Present, Updated};

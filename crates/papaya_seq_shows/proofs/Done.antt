@@ -7,10 +7,10 @@ use Rattle.seize_words.specs.Mem.{Mem}
 use Rattle.seize_words.specs.declared.fault.Fault.{Fault}
 use Rattle.papaya_tables.specs.declared.node.Node.{Node}
 use Rattle.papaya_tables.specs.declared.setting.Setting.{Setting}
-use Rattle.papaya_resting.specs.Given.Raw.declared.machines.asking.Reply.{Reply}
-use Rattle.papaya_resting.specs.Given.Raw.declared.machines.asking.Reply.TheVariants as reply
-use Rattle.papaya_pairs.specs.Given.Late.Faults.{IsRoom}
-use Rattle.papaya_resting.specs.Given.Asks.Closures.{Computing}
+use Rattle.papaya_resting.specs.Given.RawDeclared.machines.asking.Reply.{Reply}
+use Rattle.papaya_resting.specs.Given.RawDeclared.machines.asking.Reply.TheVariants as reply
+use Rattle.papaya_pairs.specs.Given.LateFaults.{IsRoom}
+use Rattle.papaya_resting.specs.Given.AsksClosures.{Computing}
 use Rattle.papaya_operation.specs.declared.operation.Operation.{Operation}
 use Rattle.papaya_operation.specs.declared.operation.Operation.TheVariants as operation
 use Rattle.papaya_resting.specs.Given.{found_by, left_by}

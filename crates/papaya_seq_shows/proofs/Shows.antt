@@ -14,8 +14,8 @@ use Rattle.papaya_tables.specs.declared.node.Node.{Node}
 use Rattle.papaya_tables.specs.declared.setting.Setting.{Setting}
 use Rattle.papaya_tables.specs.Chunks.{is_incremental}
 use Rattle.papaya_shown.specs.Given.Rule.Words.{root_word}
-use Rattle.papaya_pairs.specs.Given.Owned.Rooms.{CannotMakeRoom, HasRoomFor, NeedTooMany, ShowTables}
-use Rattle.papaya_resting.specs.Given.Reserves.Reserve.{needed}
+use Rattle.papaya_pairs.specs.Given.OwnedRooms.{CannotMakeRoom, HasRoomFor, NeedTooMany, ShowTables}
+use Rattle.papaya_resting.specs.Given.ReservesReserve.{needed}
 use Rattle.papaya_resting.proofs.Given.{one_each_below, keeps_by_test, holds_stands, holds_moves_none, holds_pairs}
 use Rattle.papaya_shown.specs.Chain.{CannotGrow, CannotGrowIn, CountsTables, FirstHas, HasTables, behind, one_count, pairs_from_root, pairs_on, root_link, shape_of, shapes_on, word_or_none}
 use Rattle.papaya_shown.specs.Shown.{NoneMoves, Stands, pairs_stored}

@@ -1,46 +1,46 @@
 -- What a call writes of users' words, by what it knows where it stands: words of tables of its map, and of a table that it has made.
 use Rattle.std.specs.Prelude.{◌≡◌, ◌<◌, ◌*◌, ℕ, Bool, true, false, cond, Some}
 use Rattle.std.proofs.Common.{ap, sym, subst, ◌∙◌, inl, inr}
-use Rattle.papaya_histories.specs.Given.SeizeWords.declared.at.At.{At}
-use Rattle.papaya_histories.specs.Given.SeizeWords.Mem.{value_at}
-use Rattle.papaya_histories.specs.Given.SeizeWords.Word.{block_in}
-use Rattle.papaya_histories.specs.Given.Seize.World.{World}
-use Rattle.papaya_histories.specs.Given.Tables.Chunks.{is_incremental}
-use Rattle.papaya_histories.specs.Given.Tables.declared.node.Node.{Node}
-use Rattle.papaya_histories.specs.Given.Tables.declared.node.Node.TheVariants as node
-use Rattle.papaya_histories.specs.Given.Tables.declared.setting.Setting.{Setting}
-use Rattle.papaya_histories.specs.Given.Tables.declared.table.Table.{Table}
-use Rattle.papaya_histories.specs.Given.Resize.declared.copier.Copier.{Copier}
-use Rattle.papaya_histories.specs.Given.Resize.declared.copier.Copying.{Copying}
-use Rattle.papaya_histories.specs.Given.Resize.declared.copier.Copying.TheVariants as copying
-use Rattle.papaya_histories.specs.Given.Resize.declared.dispose.Dispose.{Dispose}
-use Rattle.papaya_histories.specs.Given.Resize.declared.dispose.Disposing.{Disposing}
-use Rattle.papaya_histories.specs.Given.Resize.declared.dispose.Disposing.TheVariants as disposing
-use Rattle.papaya_histories.specs.Given.Resize.declared.new_table.NewTable.{NewTable}
-use Rattle.papaya_histories.specs.Given.Resize.declared.new_table.Making.{Making}
-use Rattle.papaya_histories.specs.Given.Resize.declared.new_table.Making.TheVariants as making
-use Rattle.papaya_histories.specs.Given.Reserves.declared.reserve.Reserving.{Reserving}
-use Rattle.papaya_histories.specs.Given.Reserves.declared.reserve.Reserving.TheVariants as reserving
-use Rattle.papaya_histories.specs.Given.Sweeps.declared.sweep.Sweep.{Sweep}
-use Rattle.papaya_histories.specs.Given.Sweeps.declared.sweep.Sweeping.{Sweeping}
-use Rattle.papaya_histories.specs.Given.Sweeps.declared.sweep.Sweeping.TheVariants as sweeping
-use Rattle.papaya_histories.specs.Given.Raw.declared.machines.call.Calling.{Calling}
-use Rattle.papaya_histories.specs.Given.Raw.declared.machines.call.Calling.TheVariants as calling
-use Rattle.papaya_histories.specs.Given.Raw.declared.machines.call.KeyCall.{KeyCall}
-use Rattle.papaya_histories.specs.Given.Rule.Chart.{Chart}
-use Rattle.papaya_histories.specs.Given.Rule.Maps.{IsTable}
-use Rattle.papaya_histories.specs.Given.Rule.Words.{Blocks}
-use Rattle.papaya_histories.proofs.Given.Rule.Words.TablesSeen.{block_of_link}
-use Rattle.papaya_histories.specs.Given.Points.FactsCalls.{Change, CallingFacts}
-use Rattle.papaya_histories.specs.Given.Points.FactsCopies.{CopyingFacts, CopierFacts}
-use Rattle.papaya_histories.specs.Given.Points.FactsCopiesBlocking.{CopyingFactsBlocking, CopierFactsBlocking}
-use Rattle.papaya_histories.specs.Given.Points.FactsDisposes.{DisposingFacts, DisposeFacts}
-use Rattle.papaya_histories.specs.Given.Points.FactsTables.{IsOwnTable, IsLinkOf, MakingFacts, NewTableFacts}
-use Rattle.papaya_histories.specs.Given.Late.FactsReserves.{CopiesWhole, IsEnding, ReservingFacts}
-use Rattle.papaya_histories.specs.Given.Late.FactsSweeps.{CopiesTable, SweepingFacts}
-use Rattle.papaya_histories.specs.Given.Late.LateCalls.{LateFirst, LateFirstFacts, LateCalling}
-use Rattle.papaya_histories.specs.Given.Late.LateCopies.{LateCopying, LateCopierFacts}
-use Rattle.papaya_histories.specs.Given.Late.LateReserves.{LateReserving}
+use Rattle.papaya_histories.specs.Given.SeizeWordsDeclared.at.At.{At}
+use Rattle.papaya_histories.specs.Given.SeizeWordsMem.{value_at}
+use Rattle.papaya_histories.specs.Given.SeizeWordsWord.{block_in}
+use Rattle.papaya_histories.specs.Given.SeizeWorld.{World}
+use Rattle.papaya_histories.specs.Given.TablesChunks.{is_incremental}
+use Rattle.papaya_histories.specs.Given.TablesDeclared.node.Node.{Node}
+use Rattle.papaya_histories.specs.Given.TablesDeclared.node.Node.TheVariants as node
+use Rattle.papaya_histories.specs.Given.TablesDeclared.setting.Setting.{Setting}
+use Rattle.papaya_histories.specs.Given.TablesDeclared.table.Table.{Table}
+use Rattle.papaya_histories.specs.Given.ResizeDeclared.copier.Copier.{Copier}
+use Rattle.papaya_histories.specs.Given.ResizeDeclared.copier.Copying.{Copying}
+use Rattle.papaya_histories.specs.Given.ResizeDeclared.copier.Copying.TheVariants as copying
+use Rattle.papaya_histories.specs.Given.ResizeDeclared.dispose.Dispose.{Dispose}
+use Rattle.papaya_histories.specs.Given.ResizeDeclared.dispose.Disposing.{Disposing}
+use Rattle.papaya_histories.specs.Given.ResizeDeclared.dispose.Disposing.TheVariants as disposing
+use Rattle.papaya_histories.specs.Given.ResizeDeclared.new_table.NewTable.{NewTable}
+use Rattle.papaya_histories.specs.Given.ResizeDeclared.new_table.Making.{Making}
+use Rattle.papaya_histories.specs.Given.ResizeDeclared.new_table.Making.TheVariants as making
+use Rattle.papaya_histories.specs.Given.ReservesDeclared.reserve.Reserving.{Reserving}
+use Rattle.papaya_histories.specs.Given.ReservesDeclared.reserve.Reserving.TheVariants as reserving
+use Rattle.papaya_histories.specs.Given.SweepsDeclared.sweep.Sweep.{Sweep}
+use Rattle.papaya_histories.specs.Given.SweepsDeclared.sweep.Sweeping.{Sweeping}
+use Rattle.papaya_histories.specs.Given.SweepsDeclared.sweep.Sweeping.TheVariants as sweeping
+use Rattle.papaya_histories.specs.Given.RawDeclared.machines.call.Calling.{Calling}
+use Rattle.papaya_histories.specs.Given.RawDeclared.machines.call.Calling.TheVariants as calling
+use Rattle.papaya_histories.specs.Given.RawDeclared.machines.call.KeyCall.{KeyCall}
+use Rattle.papaya_histories.specs.Given.RuleChart.{Chart}
+use Rattle.papaya_histories.specs.Given.RuleMaps.{IsTable}
+use Rattle.papaya_histories.specs.Given.RuleWords.{Blocks}
+use Rattle.papaya_histories.proofs.Given.RuleWords.TablesSeen.{block_of_link}
+use Rattle.papaya_histories.specs.Given.PointsFactsCalls.{Change, CallingFacts}
+use Rattle.papaya_histories.specs.Given.PointsFactsCopies.{CopyingFacts, CopierFacts}
+use Rattle.papaya_histories.specs.Given.PointsFactsCopiesBlocking.{CopyingFactsBlocking, CopierFactsBlocking}
+use Rattle.papaya_histories.specs.Given.PointsFactsDisposes.{DisposingFacts, DisposeFacts}
+use Rattle.papaya_histories.specs.Given.PointsFactsTables.{IsOwnTable, IsLinkOf, MakingFacts, NewTableFacts}
+use Rattle.papaya_histories.specs.Given.LateFactsReserves.{CopiesWhole, IsEnding, ReservingFacts}
+use Rattle.papaya_histories.specs.Given.LateFactsSweeps.{CopiesTable, SweepingFacts}
+use Rattle.papaya_histories.specs.Given.LateLateCalls.{LateFirst, LateFirstFacts, LateCalling}
+use Rattle.papaya_histories.specs.Given.LateLateCopies.{LateCopying, LateCopierFacts}
+use Rattle.papaya_histories.specs.Given.LateLateReserves.{LateReserving}
 use Rattle.papaya_settles.proofs.Aims.{AimsAt, DeferAims, DisposeAims, MakingAims, NewAims, CopyingAims, CopierAims, ReservingAims, SweepingAims, CallingAims}
 
 -- a sweep, and a call on one key, are elsewhere than about to count

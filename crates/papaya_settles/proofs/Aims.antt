@@ -1,74 +1,74 @@
 -- Which words of blocks a step may write, by its plan: those of blocks of which this is so.
 use Rattle.std.specs.Prelude.{◌≡◌, ◌==◌, ℕ, Bool, true, false, Option, Some, None, Ok, Err}
 use Rattle.std.proofs.Common.{sym, subst, ◌∙◌}
-use Rattle.papaya_histories.specs.Given.SeizeWords.declared.at.At.{At}
-use Rattle.papaya_histories.specs.Given.SeizeWords.declared.at.At.TheVariants.{Word}
-use Rattle.papaya_histories.specs.Given.SeizeWords.Mem.{Mem}
-use Rattle.papaya_histories.specs.Given.SeizeWords.Op.{Op, Out, Load, Store, Swap, Add, Or, Exchange, Make, Take, Rewrite, Room, Found, Exchanged, Made, Roomed}
-use Rattle.papaya_histories.specs.Given.SeizeWords.Plan.{Plan, Turn, Do, plan_as}
-use Rattle.papaya_histories.specs.Given.SeizeWords.Word.{block_in}
-use Rattle.papaya_histories.specs.Given.Seize.Defer.{defer_plan}
-use Rattle.papaya_histories.specs.Given.Seize.Defer as defers
-use Rattle.papaya_histories.specs.Given.Seize.Settle.{settle_plan}
-use Rattle.papaya_histories.specs.Given.Seize.Settle as settles
-use Rattle.papaya_histories.specs.Given.Seize.declared.rows.defer.Defer.{Defer}
-use Rattle.papaya_histories.specs.Given.Seize.declared.rows.defer.Deferring.{Deferring}
-use Rattle.papaya_histories.specs.Given.Seize.declared.rows.defer.Deferring.TheVariants as deferring
-use Rattle.papaya_histories.specs.Given.Seize.declared.rows.settle.Settle.{Settle}
-use Rattle.papaya_histories.specs.Given.Seize.declared.rows.settle.Settling.{Settling}
-use Rattle.papaya_histories.specs.Given.Seize.declared.rows.settle.Settling.TheVariants as settling
-use Rattle.papaya_histories.specs.Given.Tables.Nodes.{deferred_word}
-use Rattle.papaya_histories.specs.Given.Tables.Trials.{place_tried}
-use Rattle.papaya_histories.specs.Given.Tables.declared.node.Node.{Node}
-use Rattle.papaya_histories.specs.Given.Resize.Copier.{copier_plan}
-use Rattle.papaya_histories.specs.Given.Resize.Copier as copiers
-use Rattle.papaya_histories.specs.Given.Resize.CopierFurther.{grown, remade}
-use Rattle.papaya_histories.specs.Given.Resize.CopierPromotes.{retired}
-use Rattle.papaya_histories.specs.Given.Resize.Dispose.{dispose_plan}
-use Rattle.papaya_histories.specs.Given.Resize.Dispose as disposes
-use Rattle.papaya_histories.specs.Given.Resize.Lookup.{lookup_plan}
-use Rattle.papaya_histories.specs.Given.Resize.Lookup as lookups
-use Rattle.papaya_histories.specs.Given.Resize.NewTable.{new_table_plan}
-use Rattle.papaya_histories.specs.Given.Resize.NewTable as tables
-use Rattle.papaya_histories.specs.Given.Resize.Sum.{sum_plan}
-use Rattle.papaya_histories.specs.Given.Resize.Sum as sums
-use Rattle.papaya_histories.specs.Given.Resize.declared.copier.Copier.{Copier}
-use Rattle.papaya_histories.specs.Given.Resize.declared.copier.Copying.{Copying}
-use Rattle.papaya_histories.specs.Given.Resize.declared.copier.Copying.TheVariants as copying
-use Rattle.papaya_histories.specs.Given.Resize.declared.dispose.Dispose.{Dispose}
-use Rattle.papaya_histories.specs.Given.Resize.declared.dispose.Disposing.{Disposing}
-use Rattle.papaya_histories.specs.Given.Resize.declared.dispose.Disposing.TheVariants as disposing
-use Rattle.papaya_histories.specs.Given.Resize.declared.lookup.Lookup.{Lookup}
-use Rattle.papaya_histories.specs.Given.Resize.declared.lookup.Looking.{Looking}
-use Rattle.papaya_histories.specs.Given.Resize.declared.lookup.Looking.TheVariants as looking
-use Rattle.papaya_histories.specs.Given.Resize.declared.new_table.NewTable.{NewTable}
-use Rattle.papaya_histories.specs.Given.Resize.declared.new_table.Making.{Making}
-use Rattle.papaya_histories.specs.Given.Resize.declared.new_table.Making.TheVariants as making
-use Rattle.papaya_histories.specs.Given.Resize.declared.sum.Sum.{Sum}
-use Rattle.papaya_histories.specs.Given.Resize.declared.sum.Summing.{Summing}
-use Rattle.papaya_histories.specs.Given.Resize.declared.sum.Summing.TheVariants as summing
-use Rattle.papaya_histories.specs.Given.Reserves.Reserve.{reserve_plan}
-use Rattle.papaya_histories.specs.Given.Reserves.Reserve as reserves
-use Rattle.papaya_histories.specs.Given.Reserves.declared.reserve.Reserve.{Reserve}
-use Rattle.papaya_histories.specs.Given.Reserves.declared.reserve.Reserving.{Reserving}
-use Rattle.papaya_histories.specs.Given.Reserves.declared.reserve.Reserving.TheVariants as reserving
-use Rattle.papaya_histories.specs.Given.Sweeps.Sweep.{sweep_plan}
-use Rattle.papaya_histories.specs.Given.Sweeps.Sweep as sweeps
-use Rattle.papaya_histories.specs.Given.Sweeps.declared.sweep.Sweep.{Sweep}
-use Rattle.papaya_histories.specs.Given.Sweeps.declared.sweep.Sweeping.{Sweeping}
-use Rattle.papaya_histories.specs.Given.Sweeps.declared.sweep.Sweeping.TheVariants as sweeping
-use Rattle.papaya_histories.specs.Given.Raw.Call.{makes_of, call_plan, looked, looks_for, first_made, next_made, disposed, helped, copied}
-use Rattle.papaya_histories.specs.Given.Raw.Call as calls
-use Rattle.papaya_histories.specs.Given.Raw.CallFills.{putting_by, fill_by, fills_with}
-use Rattle.papaya_histories.specs.Given.Raw.Replies.{value_for, as_own}
-use Rattle.papaya_histories.specs.Given.Raw.declared.machines.asking.Asking.TheVariants as asking
-use Rattle.papaya_histories.specs.Given.Raw.declared.machines.call.Calling.{Calling}
-use Rattle.papaya_histories.specs.Given.Raw.declared.machines.call.Calling.TheVariants as calling
-use Rattle.papaya_histories.specs.Given.Raw.declared.machines.call.KeyCall.{KeyCall}
-use Rattle.papaya_histories.specs.Given.Tells.Seen.{seen_of}
-use Rattle.papaya_histories.specs.Given.Teller.Tells.{told_of, StepsTold}
-use Rattle.papaya_histories.specs.Given.Teller.declared.changed.Changed.{Changed}
-use Rattle.papaya_histories.specs.Given.Teller.declared.changed.Changed.TheVariants as changed
+use Rattle.papaya_histories.specs.Given.SeizeWordsDeclared.at.At.{At}
+use Rattle.papaya_histories.specs.Given.SeizeWordsDeclared.at.At.TheVariants.{Word}
+use Rattle.papaya_histories.specs.Given.SeizeWordsMem.{Mem}
+use Rattle.papaya_histories.specs.Given.SeizeWordsOp.{Op, Out, Load, Store, Swap, Add, Or, Exchange, Make, Take, Rewrite, Room, Found, Exchanged, Made, Roomed}
+use Rattle.papaya_histories.specs.Given.SeizeWordsPlan.{Plan, Turn, Do, plan_as}
+use Rattle.papaya_histories.specs.Given.SeizeWordsWord.{block_in}
+use Rattle.papaya_histories.specs.Given.SeizeDefer.{defer_plan}
+use Rattle.papaya_histories.specs.Given.SeizeDefer as defers
+use Rattle.papaya_histories.specs.Given.SeizeSettle.{settle_plan}
+use Rattle.papaya_histories.specs.Given.SeizeSettle as settles
+use Rattle.papaya_histories.specs.Given.SeizeDeclared.rows.defer.Defer.{Defer}
+use Rattle.papaya_histories.specs.Given.SeizeDeclared.rows.defer.Deferring.{Deferring}
+use Rattle.papaya_histories.specs.Given.SeizeDeclared.rows.defer.Deferring.TheVariants as deferring
+use Rattle.papaya_histories.specs.Given.SeizeDeclared.rows.settle.Settle.{Settle}
+use Rattle.papaya_histories.specs.Given.SeizeDeclared.rows.settle.Settling.{Settling}
+use Rattle.papaya_histories.specs.Given.SeizeDeclared.rows.settle.Settling.TheVariants as settling
+use Rattle.papaya_histories.specs.Given.TablesNodes.{deferred_word}
+use Rattle.papaya_histories.specs.Given.TablesTrials.{place_tried}
+use Rattle.papaya_histories.specs.Given.TablesDeclared.node.Node.{Node}
+use Rattle.papaya_histories.specs.Given.ResizeCopier.{copier_plan}
+use Rattle.papaya_histories.specs.Given.ResizeCopier as copiers
+use Rattle.papaya_histories.specs.Given.ResizeCopierFurther.{grown, remade}
+use Rattle.papaya_histories.specs.Given.ResizeCopierPromotes.{retired}
+use Rattle.papaya_histories.specs.Given.ResizeDispose.{dispose_plan}
+use Rattle.papaya_histories.specs.Given.ResizeDispose as disposes
+use Rattle.papaya_histories.specs.Given.ResizeLookup.{lookup_plan}
+use Rattle.papaya_histories.specs.Given.ResizeLookup as lookups
+use Rattle.papaya_histories.specs.Given.ResizeNewTable.{new_table_plan}
+use Rattle.papaya_histories.specs.Given.ResizeNewTable as tables
+use Rattle.papaya_histories.specs.Given.ResizeSum.{sum_plan}
+use Rattle.papaya_histories.specs.Given.ResizeSum as sums
+use Rattle.papaya_histories.specs.Given.ResizeDeclared.copier.Copier.{Copier}
+use Rattle.papaya_histories.specs.Given.ResizeDeclared.copier.Copying.{Copying}
+use Rattle.papaya_histories.specs.Given.ResizeDeclared.copier.Copying.TheVariants as copying
+use Rattle.papaya_histories.specs.Given.ResizeDeclared.dispose.Dispose.{Dispose}
+use Rattle.papaya_histories.specs.Given.ResizeDeclared.dispose.Disposing.{Disposing}
+use Rattle.papaya_histories.specs.Given.ResizeDeclared.dispose.Disposing.TheVariants as disposing
+use Rattle.papaya_histories.specs.Given.ResizeDeclared.lookup.Lookup.{Lookup}
+use Rattle.papaya_histories.specs.Given.ResizeDeclared.lookup.Looking.{Looking}
+use Rattle.papaya_histories.specs.Given.ResizeDeclared.lookup.Looking.TheVariants as looking
+use Rattle.papaya_histories.specs.Given.ResizeDeclared.new_table.NewTable.{NewTable}
+use Rattle.papaya_histories.specs.Given.ResizeDeclared.new_table.Making.{Making}
+use Rattle.papaya_histories.specs.Given.ResizeDeclared.new_table.Making.TheVariants as making
+use Rattle.papaya_histories.specs.Given.ResizeDeclared.sum.Sum.{Sum}
+use Rattle.papaya_histories.specs.Given.ResizeDeclared.sum.Summing.{Summing}
+use Rattle.papaya_histories.specs.Given.ResizeDeclared.sum.Summing.TheVariants as summing
+use Rattle.papaya_histories.specs.Given.ReservesReserve.{reserve_plan}
+use Rattle.papaya_histories.specs.Given.ReservesReserve as reserves
+use Rattle.papaya_histories.specs.Given.ReservesDeclared.reserve.Reserve.{Reserve}
+use Rattle.papaya_histories.specs.Given.ReservesDeclared.reserve.Reserving.{Reserving}
+use Rattle.papaya_histories.specs.Given.ReservesDeclared.reserve.Reserving.TheVariants as reserving
+use Rattle.papaya_histories.specs.Given.SweepsSweep.{sweep_plan}
+use Rattle.papaya_histories.specs.Given.SweepsSweep as sweeps
+use Rattle.papaya_histories.specs.Given.SweepsDeclared.sweep.Sweep.{Sweep}
+use Rattle.papaya_histories.specs.Given.SweepsDeclared.sweep.Sweeping.{Sweeping}
+use Rattle.papaya_histories.specs.Given.SweepsDeclared.sweep.Sweeping.TheVariants as sweeping
+use Rattle.papaya_histories.specs.Given.RawCall.{makes_of, call_plan, looked, looks_for, first_made, next_made, disposed, helped, copied}
+use Rattle.papaya_histories.specs.Given.RawCall as calls
+use Rattle.papaya_histories.specs.Given.RawCallFills.{putting_by, fill_by, fills_with}
+use Rattle.papaya_histories.specs.Given.RawReplies.{value_for, as_own}
+use Rattle.papaya_histories.specs.Given.RawDeclared.machines.asking.Asking.TheVariants as asking
+use Rattle.papaya_histories.specs.Given.RawDeclared.machines.call.Calling.{Calling}
+use Rattle.papaya_histories.specs.Given.RawDeclared.machines.call.Calling.TheVariants as calling
+use Rattle.papaya_histories.specs.Given.RawDeclared.machines.call.KeyCall.{KeyCall}
+use Rattle.papaya_histories.specs.Given.TellsSeen.{seen_of}
+use Rattle.papaya_histories.specs.Given.TellerTells.{told_of, StepsTold}
+use Rattle.papaya_histories.specs.Given.TellerDeclared.changed.Changed.{Changed}
+use Rattle.papaya_histories.specs.Given.TellerDeclared.changed.Changed.TheVariants as changed
 
 module _ (P : ℕ → Type 0) where
   -- it is so of the block of a user's word

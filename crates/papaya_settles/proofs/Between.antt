@@ -1,59 +1,59 @@
 -- Between the steps of calls, and as others take steps: where a call begins, is told a reply, or has come to an outcome, each has to count what the moment says.
 use Rattle.std.specs.Prelude.{◌≡◌, ◌==◌, ◌+◌, ℕ, Bool, true, false, cond, not, List, find, map, Option, Some, None, if◌then◌else◌}
 use Rattle.std.proofs.Common.{refl, ap, sym, subst, ◌∙◌, inl, inr}
-use Rattle.papaya_histories.specs.Given.Sweeps.SweepPoints.{next_at, reply_at, after_reply, further}
-use Rattle.papaya_histories.specs.Given.Sweeps.declared.sweep.Sweep.{Sweep}
-use Rattle.papaya_histories.specs.Given.Sweeps.declared.sweep.Sweeping.{Sweeping}
-use Rattle.papaya_histories.specs.Given.Sweeps.declared.sweep.Sweeping.TheVariants as sweeping
-use Rattle.papaya_histories.specs.Given.Runs.Same.{is_same}
-use Rattle.papaya_histories.specs.Given.Raw.CallAsks.{with_absent, with_present, absent_told, present_told, told_at}
-use Rattle.papaya_histories.specs.Given.Raw.CallPoints.{going, over, ending, storing, burying, at_gap}
-use Rattle.papaya_histories.specs.Given.Raw.Machine.{sweep_told, machine_replied, machine_asked}
-use Rattle.papaya_histories.specs.Given.Raw.declared.machines.answer.Called.{Called}
-use Rattle.papaya_histories.specs.Given.Raw.declared.machines.answer.End.{End}
-use Rattle.papaya_histories.specs.Given.Raw.declared.machines.answer.End.TheVariants as ends
-use Rattle.papaya_histories.specs.Given.Raw.declared.machines.answer.KeyAnswer.TheVariants as answers
-use Rattle.papaya_histories.specs.Given.Raw.declared.machines.asking.Asking.TheVariants as asking
-use Rattle.papaya_histories.specs.Given.Raw.declared.machines.asking.Gap.{Gap}
-use Rattle.papaya_histories.specs.Given.Raw.declared.machines.asking.Gap.TheVariants as gaps
-use Rattle.papaya_histories.specs.Given.Raw.declared.machines.asking.Reply.{Reply as MachineReply}
-use Rattle.papaya_histories.specs.Given.Raw.declared.machines.asking.Reply.TheVariants as reply
-use Rattle.papaya_histories.specs.Given.Raw.declared.machines.asking.Takes.{Takes}
-use Rattle.papaya_histories.specs.Given.Raw.declared.machines.asking.Takes.TheVariants as takes
-use Rattle.papaya_histories.specs.Given.Raw.declared.machines.asking.Told.{Told}
-use Rattle.papaya_histories.specs.Given.Raw.declared.machines.asking.Told.TheVariants as tells
-use Rattle.papaya_histories.specs.Given.Raw.declared.machines.call.Calling.{Calling}
-use Rattle.papaya_histories.specs.Given.Raw.declared.machines.call.Calling.TheVariants as at
-use Rattle.papaya_histories.specs.Given.Raw.declared.machines.call.KeyCall.{KeyCall}
-use Rattle.papaya_histories.specs.Given.Raw.declared.machines.machine.Machine.{Machine}
-use Rattle.papaya_histories.specs.Given.Raw.declared.machines.machine.Machine.TheVariants as kinds
-use Rattle.papaya_histories.specs.Given.Tables.declared.marks.TheConstants.{TOMBSTONE}
-use Rattle.papaya_histories.specs.Given.Tables.declared.node.Node.{Node}
-use Rattle.papaya_histories.specs.Given.Schedules.declared.call.Reply.{Reply}
-use Rattle.papaya_histories.specs.Given.Schedules.declared.outcome.Outcome.{Outcome}
-use Rattle.papaya_histories.specs.Given.Schedules.declared.outcome.Outcome.TheVariants as outcome
-use Rattle.papaya_histories.specs.Given.Schedules.After.{asks_on, comes_to, replied, without_call}
-use Rattle.papaya_histories.specs.Given.Schedules.Beginning.{fresh_call, with_call}
-use Rattle.papaya_histories.specs.Given.Schedules.Entry.{ends_call}
-use Rattle.papaya_histories.specs.Given.Schedules.Moment.{Stands, Going, Asking, Told as WasTold, IsReady, UnderWay as CallThere, Moment}
-use Rattle.papaya_histories.specs.Given.Schedules.Views.{call_of}
-use Rattle.papaya_histories.specs.Given.Callers.Together.{UnderWay, Gets, Removes, Inserts, TriesToInsert, Computes, Updates, UpdatesOrInserts, TriesToInsertWith, RemovesIf}
-use Rattle.papaya_histories.specs.Given.Finishes.Machines.{machine_of}
-use Rattle.papaya_histories.specs.Given.Finishes.Maps.{with_call as with_in}
-use Rattle.papaya_histories.specs.Given.Follows.Calling.{NoneNamed}
-use Rattle.papaya_histories.specs.Given.Follows.Calls.{ShowsCalls}
-use Rattle.papaya_histories.proofs.Given.Follows.Calling.{is_same_refl, apart_back, found_kept, come, come_of_same, replied_same}
-use Rattle.papaya_histories.proofs.Given.Follows.Calls.{IsOfSame, changed, found}
-use Rattle.papaya_histories.proofs.Given.Follows.Steps.{one_of}
-use Rattle.papaya_histories.proofs.Given.Hands.Asking.{which}
-use Rattle.papaya_histories.proofs.Given.Hands.Calling.{caller_is}
-use Rattle.papaya_histories.specs.Given.Others.Walks.{given_up}
+use Rattle.papaya_histories.specs.Given.SweepsSweepPoints.{next_at, reply_at, after_reply, further}
+use Rattle.papaya_histories.specs.Given.SweepsDeclared.sweep.Sweep.{Sweep}
+use Rattle.papaya_histories.specs.Given.SweepsDeclared.sweep.Sweeping.{Sweeping}
+use Rattle.papaya_histories.specs.Given.SweepsDeclared.sweep.Sweeping.TheVariants as sweeping
+use Rattle.papaya_histories.specs.Given.RunsSame.{is_same}
+use Rattle.papaya_histories.specs.Given.RawCallAsks.{with_absent, with_present, absent_told, present_told, told_at}
+use Rattle.papaya_histories.specs.Given.RawCallPoints.{going, over, ending, storing, burying, at_gap}
+use Rattle.papaya_histories.specs.Given.RawMachine.{sweep_told, machine_replied, machine_asked}
+use Rattle.papaya_histories.specs.Given.RawDeclared.machines.answer.Called.{Called}
+use Rattle.papaya_histories.specs.Given.RawDeclared.machines.answer.End.{End}
+use Rattle.papaya_histories.specs.Given.RawDeclared.machines.answer.End.TheVariants as ends
+use Rattle.papaya_histories.specs.Given.RawDeclared.machines.answer.KeyAnswer.TheVariants as answers
+use Rattle.papaya_histories.specs.Given.RawDeclared.machines.asking.Asking.TheVariants as asking
+use Rattle.papaya_histories.specs.Given.RawDeclared.machines.asking.Gap.{Gap}
+use Rattle.papaya_histories.specs.Given.RawDeclared.machines.asking.Gap.TheVariants as gaps
+use Rattle.papaya_histories.specs.Given.RawDeclared.machines.asking.Reply.{Reply as MachineReply}
+use Rattle.papaya_histories.specs.Given.RawDeclared.machines.asking.Reply.TheVariants as reply
+use Rattle.papaya_histories.specs.Given.RawDeclared.machines.asking.Takes.{Takes}
+use Rattle.papaya_histories.specs.Given.RawDeclared.machines.asking.Takes.TheVariants as takes
+use Rattle.papaya_histories.specs.Given.RawDeclared.machines.asking.Told.{Told}
+use Rattle.papaya_histories.specs.Given.RawDeclared.machines.asking.Told.TheVariants as tells
+use Rattle.papaya_histories.specs.Given.RawDeclared.machines.call.Calling.{Calling}
+use Rattle.papaya_histories.specs.Given.RawDeclared.machines.call.Calling.TheVariants as at
+use Rattle.papaya_histories.specs.Given.RawDeclared.machines.call.KeyCall.{KeyCall}
+use Rattle.papaya_histories.specs.Given.RawDeclared.machines.machine.Machine.{Machine}
+use Rattle.papaya_histories.specs.Given.RawDeclared.machines.machine.Machine.TheVariants as kinds
+use Rattle.papaya_histories.specs.Given.TablesDeclared.marks.TheConstants.{TOMBSTONE}
+use Rattle.papaya_histories.specs.Given.TablesDeclared.node.Node.{Node}
+use Rattle.papaya_histories.specs.Given.SchedulesDeclared.call.Reply.{Reply}
+use Rattle.papaya_histories.specs.Given.SchedulesDeclared.outcome.Outcome.{Outcome}
+use Rattle.papaya_histories.specs.Given.SchedulesDeclared.outcome.Outcome.TheVariants as outcome
+use Rattle.papaya_histories.specs.Given.SchedulesAfter.{asks_on, comes_to, replied, without_call}
+use Rattle.papaya_histories.specs.Given.SchedulesBeginning.{fresh_call, with_call}
+use Rattle.papaya_histories.specs.Given.SchedulesEntry.{ends_call}
+use Rattle.papaya_histories.specs.Given.SchedulesMoment.{Stands, Going, Asking, Told as WasTold, IsReady, UnderWay as CallThere, Moment}
+use Rattle.papaya_histories.specs.Given.SchedulesViews.{call_of}
+use Rattle.papaya_histories.specs.Given.CallersTogether.{UnderWay, Gets, Removes, Inserts, TriesToInsert, Computes, Updates, UpdatesOrInserts, TriesToInsertWith, RemovesIf}
+use Rattle.papaya_histories.specs.Given.FinishesMachines.{machine_of}
+use Rattle.papaya_histories.specs.Given.FinishesMaps.{with_call as with_in}
+use Rattle.papaya_histories.specs.Given.FollowsCalling.{NoneNamed}
+use Rattle.papaya_histories.specs.Given.FollowsCalls.{ShowsCalls}
+use Rattle.papaya_histories.proofs.Given.FollowsCalling.{is_same_refl, apart_back, found_kept, come, come_of_same, replied_same}
+use Rattle.papaya_histories.proofs.Given.FollowsCalls.{IsOfSame, changed, found}
+use Rattle.papaya_histories.proofs.Given.FollowsSteps.{one_of}
+use Rattle.papaya_histories.proofs.Given.HandsAsking.{which}
+use Rattle.papaya_histories.proofs.Given.HandsCalling.{caller_is}
+use Rattle.papaya_histories.specs.Given.OthersWalks.{given_up}
 use Rattle.papaya_settles.specs.Beside.{StaysCounts, EffectsLeaveCounts, WalksGoOnCounts, WalksStopCounts}
 use Rattle.papaya_settles.specs.Counts.{counts_in_calling, counts_in_sweeping, is_to_count, HasToCount, ShowsCounts}
 use Rattle.papaya_settles.specs.Keeping.{CountsBegin, CallsBeginCounts, CallsBeginUncounted, CallsTakeCounts, CallsComeToCounts}
 use Rattle.papaya_settles.proofs.Gains.{to_count, none_changed}
 use Rattle.papaya_settles.proofs.Points.{points_apart, further_idle}
-use Rattle.papaya_histories.specs.Given.Scenes.Scene.{Scene}
+use Rattle.papaya_histories.specs.Given.ScenesScene.{Scene}
 
 -- As a run begins there is no call.
 pub counts_begin : (K V : Type 0) → CountsBegin K V

@@ -1,40 +1,40 @@
 -- A step of a call, of whichever kind: it finds what it counts, and each has to count what the moment says after it.
 use Rattle.std.specs.Prelude.{◌≡◌, ◌+◌, ℕ, Bool, true, false, List, Option, Some, None, option_map, if◌then◌else◌}
 use Rattle.std.proofs.Common.{refl, ap, sym, subst, ◌∙◌, inl, inr}
-use Rattle.papaya_histories.specs.Given.Runs.Same.{is_same}
-use Rattle.papaya_histories.specs.Given.Tables.declared.node.Node.{Node}
-use Rattle.papaya_histories.specs.Given.Raw.declared.machines.machine.Machine.{Machine}
-use Rattle.papaya_histories.specs.Given.Raw.declared.machines.progress.Progress.{Progress}
-use Rattle.papaya_histories.specs.Given.Schedules.declared.call.Call.{Call}
-use Rattle.papaya_histories.specs.Given.Schedules.declared.call.Call.TheVariants as call
-use Rattle.papaya_histories.specs.Given.Schedules.declared.call.Call.TheVariants.{On}
-use Rattle.papaya_histories.specs.Given.Schedules.declared.effect.Effect.{Effect}
-use Rattle.papaya_histories.specs.Given.Schedules.Effects.{with_effects}
-use Rattle.papaya_histories.specs.Given.Schedules.Moment.{UnderWay as CallThere, Moment}
-use Rattle.papaya_histories.specs.Given.Schedules.Views.{call_of}
-use Rattle.papaya_histories.specs.Given.Callers.Together.{UnderWay, OnKey, ForRoom, Counting, OverAll}
-use Rattle.papaya_histories.specs.Given.Effects.Effects.{effects_of}
-use Rattle.papaya_histories.specs.Given.Effects.Known.{Known}
-use Rattle.papaya_histories.specs.Given.Effects.declared.acting.Acting.TheVariants as acts
-use Rattle.papaya_histories.specs.Given.Finishes.Machines.{machine_of, GoesOnAs}
-use Rattle.papaya_histories.specs.Given.Follows.Calls.{IsCalled}
-use Rattle.papaya_histories.specs.Given.Follows.Shows.{Shows}
-use Rattle.papaya_histories.specs.Given.Follows.Steps.{TakesNone}
-use Rattle.papaya_histories.proofs.Given.Follows.Steps.{WentTo, went_to, DidSo, OfNoRow, one_of}
-use Rattle.papaya_histories.specs.Given.Hands.Asked.{IsAskedAs}
-use Rattle.papaya_histories.proofs.Given.Hands.Asking.{which}
-use Rattle.papaya_histories.proofs.Given.Hands.Calling.{caller_is}
-use Rattle.papaya_histories.proofs.Given.Hands.RowSteps.{rows_hand_theirs}
-use Rattle.papaya_histories.specs.Given.Moments.Whole.{ShowsWhole}
+use Rattle.papaya_histories.specs.Given.RunsSame.{is_same}
+use Rattle.papaya_histories.specs.Given.TablesDeclared.node.Node.{Node}
+use Rattle.papaya_histories.specs.Given.RawDeclared.machines.machine.Machine.{Machine}
+use Rattle.papaya_histories.specs.Given.RawDeclared.machines.progress.Progress.{Progress}
+use Rattle.papaya_histories.specs.Given.SchedulesDeclared.call.Call.{Call}
+use Rattle.papaya_histories.specs.Given.SchedulesDeclared.call.Call.TheVariants as call
+use Rattle.papaya_histories.specs.Given.SchedulesDeclared.call.Call.TheVariants.{On}
+use Rattle.papaya_histories.specs.Given.SchedulesDeclared.effect.Effect.{Effect}
+use Rattle.papaya_histories.specs.Given.SchedulesEffects.{with_effects}
+use Rattle.papaya_histories.specs.Given.SchedulesMoment.{UnderWay as CallThere, Moment}
+use Rattle.papaya_histories.specs.Given.SchedulesViews.{call_of}
+use Rattle.papaya_histories.specs.Given.CallersTogether.{UnderWay, OnKey, ForRoom, Counting, OverAll}
+use Rattle.papaya_histories.specs.Given.EffectsEffects.{effects_of}
+use Rattle.papaya_histories.specs.Given.EffectsKnown.{Known}
+use Rattle.papaya_histories.specs.Given.EffectsDeclared.acting.Acting.TheVariants as acts
+use Rattle.papaya_histories.specs.Given.FinishesMachines.{machine_of, GoesOnAs}
+use Rattle.papaya_histories.specs.Given.FollowsCalls.{IsCalled}
+use Rattle.papaya_histories.specs.Given.FollowsShows.{Shows}
+use Rattle.papaya_histories.specs.Given.FollowsSteps.{TakesNone}
+use Rattle.papaya_histories.proofs.Given.FollowsSteps.{WentTo, went_to, DidSo, OfNoRow, one_of}
+use Rattle.papaya_histories.specs.Given.HandsAsked.{IsAskedAs}
+use Rattle.papaya_histories.proofs.Given.HandsAsking.{which}
+use Rattle.papaya_histories.proofs.Given.HandsCalling.{caller_is}
+use Rattle.papaya_histories.proofs.Given.HandsRowSteps.{rows_hand_theirs}
+use Rattle.papaya_histories.specs.Given.MomentsWhole.{ShowsWhole}
 use Rattle.papaya_settles.specs.Counts.{is_to_count, HasToCount, ShowsCounts, shard_for, FindCounts}
 use Rattle.papaya_settles.specs.Keeping.{CallsKeepCounts}
 use Rattle.papaya_settles.proofs.Gains.{CountGoes, Left, counts_left, others_stay}
 use Rattle.papaya_settles.proofs.Keys.{key_counts}
 use Rattle.papaya_settles.proofs.Rest.{room_counts, sum_counts, sweep_counts}
-use Rattle.papaya_histories.proofs.Given.Scenes.Goes.{goes_as}
-use Rattle.papaya_histories.specs.Given.Scenes.Held.{Held, IsAt}
-use Rattle.papaya_histories.specs.Given.Scenes.Scene.{Scene}
-use Rattle.papaya_histories.specs.Given.Scenes.Stepping.{StepLeads, going_on, has_ended, scene_after}
+use Rattle.papaya_histories.proofs.Given.ScenesGoes.{goes_as}
+use Rattle.papaya_histories.specs.Given.ScenesHeld.{Held, IsAt}
+use Rattle.papaya_histories.specs.Given.ScenesScene.{Scene}
+use Rattle.papaya_histories.specs.Given.ScenesStepping.{StepLeads, going_on, has_ended, scene_after}
 
 -- a call that goes on is the machine that it has come to
 pub goes_as_one : {K V : Type 0} (machine : Machine K V K) (said : Progress (Node K V)) (next : Option (UnderWay K V K)) → GoesOnAs machine said next → (x : UnderWay K V K) → next ≡ Some x → machine_of x ≡ machine

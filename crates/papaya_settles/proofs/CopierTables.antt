@@ -1,21 +1,21 @@
 -- What a copier knows of the tables that it unlinks: where it makes its target the root, and where it reads which table comes next.
 use Rattle.std.specs.Prelude.{◌*◌}
 use Rattle.std.proofs.Common.{◌≡◌, ℕ, suc, ◌<◌, ◌≤◌, Bool, true, false, cond, arith, ap, subst, ◌∙◌}
-use Rattle.papaya_histories.specs.Given.Seize.World.{World, Cutting}
-use Rattle.papaya_histories.specs.Given.Tables.Chunks.{is_incremental}
-use Rattle.papaya_histories.specs.Given.Tables.declared.node.Node.{Node}
-use Rattle.papaya_histories.specs.Given.Tables.declared.setting.Setting.{Setting}
-use Rattle.papaya_histories.specs.Given.Tables.declared.table.Table.{Table}
-use Rattle.papaya_histories.specs.Given.Resize.declared.copier.Copier.{Copier}
-use Rattle.papaya_histories.specs.Given.Resize.declared.copier.Copying.{Copying}
-use Rattle.papaya_histories.specs.Given.Resize.declared.copier.Copying.TheVariants as copies
-use Rattle.papaya_histories.specs.Given.Rule.Chart.{Chart}
-use Rattle.papaya_histories.specs.Given.Rule.Maps.{IsTable}
-use Rattle.papaya_histories.specs.Given.Rule.Words.{Blocks}
-use Rattle.papaya_histories.specs.Given.Points.FactsCopies.{CopyingFacts, CopierFacts}
-use Rattle.papaya_histories.specs.Given.Points.FactsCopiesBlocking.{CopyingFactsBlocking, CopierFactsBlocking}
-use Rattle.papaya_histories.specs.Given.Late.FactsReserves.{CopiesWhole, IsEnding}
-use Rattle.papaya_histories.specs.Given.Late.LateCopies.{LateCopying, LateCopierFacts}
+use Rattle.papaya_histories.specs.Given.SeizeWorld.{World, Cutting}
+use Rattle.papaya_histories.specs.Given.TablesChunks.{is_incremental}
+use Rattle.papaya_histories.specs.Given.TablesDeclared.node.Node.{Node}
+use Rattle.papaya_histories.specs.Given.TablesDeclared.setting.Setting.{Setting}
+use Rattle.papaya_histories.specs.Given.TablesDeclared.table.Table.{Table}
+use Rattle.papaya_histories.specs.Given.ResizeDeclared.copier.Copier.{Copier}
+use Rattle.papaya_histories.specs.Given.ResizeDeclared.copier.Copying.{Copying}
+use Rattle.papaya_histories.specs.Given.ResizeDeclared.copier.Copying.TheVariants as copies
+use Rattle.papaya_histories.specs.Given.RuleChart.{Chart}
+use Rattle.papaya_histories.specs.Given.RuleMaps.{IsTable}
+use Rattle.papaya_histories.specs.Given.RuleWords.{Blocks}
+use Rattle.papaya_histories.specs.Given.PointsFactsCopies.{CopyingFacts, CopierFacts}
+use Rattle.papaya_histories.specs.Given.PointsFactsCopiesBlocking.{CopyingFactsBlocking, CopierFactsBlocking}
+use Rattle.papaya_histories.specs.Given.LateFactsReserves.{CopiesWhole, IsEnding}
+use Rattle.papaya_histories.specs.Given.LateLateCopies.{LateCopying, LateCopierFacts}
 
 module _ {K V : Type 0} (same : K → K → Bool) (hash : K → ℕ) (w : World (Node K V)) (caller : ℕ) (setting : Setting) (c : Chart K) (blocks : Blocks) where
   -- its source is a table, and its target one behind that

@@ -1,99 +1,99 @@
 -- A step of a row within a call tells of what the call's row has in hand: by each kind of call.
 use Rattle.std.specs.Prelude.{◌≡◌, ℕ, Bool, true, false, cond, List, Option, Some, None, if◌then◌else◌}
 use Rattle.std.proofs.Common.{refl, ap, sym, subst, ◌∙◌, inl, inr}
-use Rattle.papaya_histories.specs.Given.Seize.declared.rows.settle.Settled.{Settled}
-use Rattle.papaya_histories.specs.Given.Seize.declared.rows.settle.Settled.TheVariants as settled
-use Rattle.papaya_histories.specs.Given.Seize.World.{World, Hand}
-use Rattle.papaya_histories.proofs.Given.SeizeMoves.State.Ghost.{IsOwned, can_carry}
-use Rattle.papaya_histories.proofs.Given.SeizeRule.Points.Aside.{HandFits}
-use Rattle.papaya_histories.proofs.Given.SeizeRule.Words.View.{view, list_in}
-use Rattle.papaya_histories.specs.Given.SeizeWords.Mem.{Mem, value_at}
-use Rattle.papaya_histories.proofs.Given.SeizeAlone.Histories.Reached.{Reached}
-use Rattle.papaya_histories.specs.Given.Tables.Nodes.{deferred_word}
-use Rattle.papaya_histories.specs.Given.Tables.Chunks.{is_incremental}
-use Rattle.papaya_histories.specs.Given.Tables.declared.node.Node.{Node}
-use Rattle.papaya_histories.specs.Given.Tables.declared.node.Node.TheVariants as node
-use Rattle.papaya_histories.specs.Given.Tables.declared.setting.Setting.{Setting}
-use Rattle.papaya_histories.specs.Given.Tables.declared.table.Table.{Table}
-use Rattle.papaya_histories.specs.Given.Resize.Copier.{copier_plan}
-use Rattle.papaya_histories.specs.Given.Resize.Dispose.{dispose_plan}
-use Rattle.papaya_histories.specs.Given.Resize.declared.copier.Copier.{Copier}
-use Rattle.papaya_histories.specs.Given.Resize.declared.copier.Copying.{Copying}
-use Rattle.papaya_histories.specs.Given.Resize.declared.copier.Copying.TheVariants as copying
-use Rattle.papaya_histories.specs.Given.Resize.declared.dispose.Dispose.{Dispose}
-use Rattle.papaya_histories.specs.Given.Resize.declared.dispose.Disposing.{Disposing}
-use Rattle.papaya_histories.specs.Given.Resize.declared.dispose.Disposing.TheVariants as disposing
-use Rattle.papaya_histories.specs.Given.Resize.declared.outcome.Outcome.{Outcome}
-use Rattle.papaya_histories.specs.Given.Resize.declared.outcome.Outcome.TheVariants as outcome
-use Rattle.papaya_histories.specs.Given.Reserves.Reserve.{reserve_plan}
-use Rattle.papaya_histories.specs.Given.Reserves.Reserve as reserves
-use Rattle.papaya_histories.specs.Given.Reserves.declared.reserve.Reserve.{Reserve}
-use Rattle.papaya_histories.specs.Given.Reserves.declared.reserve.Reserving.{Reserving}
-use Rattle.papaya_histories.specs.Given.Reserves.declared.reserve.Reserving.TheVariants as reserving
-use Rattle.papaya_histories.specs.Given.Sweeps.SweepPoints as points
-use Rattle.papaya_histories.specs.Given.Sweeps.Sweep.{sweep_plan}
-use Rattle.papaya_histories.specs.Given.Sweeps.Sweep as sweeps
-use Rattle.papaya_histories.specs.Given.Sweeps.declared.sweep.Sweep.{Sweep}
-use Rattle.papaya_histories.specs.Given.Sweeps.declared.sweep.Sweeping.{Sweeping}
-use Rattle.papaya_histories.specs.Given.Sweeps.declared.sweep.Sweeping.TheVariants as sweeping
-use Rattle.papaya_histories.specs.Given.Sweeps.declared.sweep.Swept.{Swept}
-use Rattle.papaya_histories.specs.Given.Raw.Call.{call_plan, disposed, helped, copied}
-use Rattle.papaya_histories.specs.Given.Raw.Call as calls
-use Rattle.papaya_histories.specs.Given.Raw.Machine.{called as of_key, reserved as of_room, swept as of_sweep}
-use Rattle.papaya_histories.specs.Given.Raw.declared.machines.answer.Called.{Called}
-use Rattle.papaya_histories.specs.Given.Raw.declared.machines.answer.KeyAnswer.{KeyAnswer}
-use Rattle.papaya_histories.specs.Given.Raw.declared.machines.call.Calling.{Calling}
-use Rattle.papaya_histories.specs.Given.Raw.declared.machines.call.Calling.TheVariants as calling
-use Rattle.papaya_histories.specs.Given.Raw.declared.machines.call.KeyCall.{KeyCall}
-use Rattle.papaya_histories.specs.Given.Raw.declared.machines.machine.Machine.{Machine}
-use Rattle.papaya_histories.specs.Given.Raw.declared.machines.machine.Machine.TheVariants as kinds
-use Rattle.papaya_histories.specs.Given.Raw.declared.machines.progress.Progress.{Progress}
-use Rattle.papaya_histories.specs.Given.Runs.declared.outcome.TableShape.{TableShape}
-use Rattle.papaya_histories.specs.Given.Schedules.declared.effect.Table.{Table as Numbered}
-use Rattle.papaya_histories.specs.Given.Schedules.Moment.{Moment}
-use Rattle.papaya_histories.specs.Given.Teller.Tells.{StepsTold}
-use Rattle.papaya_histories.specs.Given.Teller.declared.changed.Changed.{Changed}
-use Rattle.papaya_histories.specs.Given.Teller.declared.changed.Changed.TheVariants as changed
-use Rattle.papaya_histories.specs.Given.Rule.Chart.{Chart}
-use Rattle.papaya_histories.specs.Given.Rule.Words.{Blocks}
-use Rattle.papaya_histories.specs.Given.Points.FactsCalls.{Change, CallingFacts}
-use Rattle.papaya_histories.specs.Given.Points.FactsCopies.{CopierFacts, CopyingFacts}
-use Rattle.papaya_histories.specs.Given.Points.FactsCopiesBlocking.{CopierFactsBlocking, CopyingFactsBlocking}
-use Rattle.papaya_histories.specs.Given.Points.FactsDisposes.{DisposeFacts, DisposingFacts}
-use Rattle.papaya_histories.specs.Given.Points.Told.{IsRowOf, IsRowOfCopier, IsRowOfCall}
-use Rattle.papaya_histories.specs.Given.Late.LateCalls.{LateCalling}
-use Rattle.papaya_histories.specs.Given.Late.LateCopies.{LateCopierFacts, LateCopying}
-use Rattle.papaya_histories.specs.Given.Late.LateReserves.{LateReserving}
-use Rattle.papaya_histories.specs.Given.Late.FactsReserves.{CopiesWhole, IsEnding, ReservingFacts}
-use Rattle.papaya_histories.specs.Given.Late.FactsSweeps.{CopiesTable, SweepingFacts}
-use Rattle.papaya_histories.specs.Given.Late.ToldReserves.{IsRowOfReserve}
-use Rattle.papaya_histories.specs.Given.Late.ToldSweeps.{IsRowOfSweep}
-use Rattle.papaya_histories.specs.Given.Callers.OverAll.{CallOverAll, row_of_sweep}
-use Rattle.papaya_histories.specs.Given.Callers.Rooms.{CallForRoom, row_of_room}
-use Rattle.papaya_histories.specs.Given.Callers.Rows.{row_of_disposal, row_of_copier, row_of}
-use Rattle.papaya_histories.specs.Given.Callers.Sights.{seen_by}
-use Rattle.papaya_histories.specs.Given.Callers.Together.{UnderWay, CallOnKey, OnKey, ForRoom, Counting, OverAll, Together, in_slot}
-use Rattle.papaya_histories.proofs.Given.Callers.Together.Came.{came_reached}
-use Rattle.papaya_histories.specs.Given.Effects.Effects.{effects_of}
-use Rattle.papaya_histories.specs.Given.Effects.Known.{Known}
-use Rattle.papaya_histories.specs.Given.Effects.declared.acting.Acting.TheVariants as acts
-use Rattle.papaya_histories.specs.Given.Effects.declared.role.Role.{Role}
-use Rattle.papaya_histories.specs.Given.Effects.declared.role.Role.TheVariants as role
-use Rattle.papaya_histories.specs.Given.Finishes.Machines.{machine_of}
-use Rattle.papaya_histories.specs.Given.Finishes.Maps.{Standing}
-use Rattle.papaya_histories.specs.Given.Follows.Blocks.{HasRole}
-use Rattle.papaya_histories.specs.Given.Follows.Shows.{Shows}
-use Rattle.papaya_histories.proofs.Given.Follows.Steps.{WentTo, went_to, DidSo, OfNoRow}
-use Rattle.papaya_histories.specs.Given.Hands.Rows.{ReclaimsNone, ShowsRows}
-use Rattle.papaya_histories.proofs.Given.Others.Outcomes.{told_in}
+use Rattle.papaya_histories.specs.Given.SeizeDeclared.rows.settle.Settled.{Settled}
+use Rattle.papaya_histories.specs.Given.SeizeDeclared.rows.settle.Settled.TheVariants as settled
+use Rattle.papaya_histories.specs.Given.SeizeWorld.{World, Hand}
+use Rattle.papaya_histories.proofs.Given.SeizeMovesState.Ghost.{IsOwned, can_carry}
+use Rattle.papaya_histories.proofs.Given.SeizeRulePoints.Aside.{HandFits}
+use Rattle.papaya_histories.proofs.Given.SeizeRuleWords.View.{view, list_in}
+use Rattle.papaya_histories.specs.Given.SeizeWordsMem.{Mem, value_at}
+use Rattle.papaya_histories.proofs.Given.SeizeAloneHistories.Reached.{Reached}
+use Rattle.papaya_histories.specs.Given.TablesNodes.{deferred_word}
+use Rattle.papaya_histories.specs.Given.TablesChunks.{is_incremental}
+use Rattle.papaya_histories.specs.Given.TablesDeclared.node.Node.{Node}
+use Rattle.papaya_histories.specs.Given.TablesDeclared.node.Node.TheVariants as node
+use Rattle.papaya_histories.specs.Given.TablesDeclared.setting.Setting.{Setting}
+use Rattle.papaya_histories.specs.Given.TablesDeclared.table.Table.{Table}
+use Rattle.papaya_histories.specs.Given.ResizeCopier.{copier_plan}
+use Rattle.papaya_histories.specs.Given.ResizeDispose.{dispose_plan}
+use Rattle.papaya_histories.specs.Given.ResizeDeclared.copier.Copier.{Copier}
+use Rattle.papaya_histories.specs.Given.ResizeDeclared.copier.Copying.{Copying}
+use Rattle.papaya_histories.specs.Given.ResizeDeclared.copier.Copying.TheVariants as copying
+use Rattle.papaya_histories.specs.Given.ResizeDeclared.dispose.Dispose.{Dispose}
+use Rattle.papaya_histories.specs.Given.ResizeDeclared.dispose.Disposing.{Disposing}
+use Rattle.papaya_histories.specs.Given.ResizeDeclared.dispose.Disposing.TheVariants as disposing
+use Rattle.papaya_histories.specs.Given.ResizeDeclared.outcome.Outcome.{Outcome}
+use Rattle.papaya_histories.specs.Given.ResizeDeclared.outcome.Outcome.TheVariants as outcome
+use Rattle.papaya_histories.specs.Given.ReservesReserve.{reserve_plan}
+use Rattle.papaya_histories.specs.Given.ReservesReserve as reserves
+use Rattle.papaya_histories.specs.Given.ReservesDeclared.reserve.Reserve.{Reserve}
+use Rattle.papaya_histories.specs.Given.ReservesDeclared.reserve.Reserving.{Reserving}
+use Rattle.papaya_histories.specs.Given.ReservesDeclared.reserve.Reserving.TheVariants as reserving
+use Rattle.papaya_histories.specs.Given.SweepsSweepPoints as points
+use Rattle.papaya_histories.specs.Given.SweepsSweep.{sweep_plan}
+use Rattle.papaya_histories.specs.Given.SweepsSweep as sweeps
+use Rattle.papaya_histories.specs.Given.SweepsDeclared.sweep.Sweep.{Sweep}
+use Rattle.papaya_histories.specs.Given.SweepsDeclared.sweep.Sweeping.{Sweeping}
+use Rattle.papaya_histories.specs.Given.SweepsDeclared.sweep.Sweeping.TheVariants as sweeping
+use Rattle.papaya_histories.specs.Given.SweepsDeclared.sweep.Swept.{Swept}
+use Rattle.papaya_histories.specs.Given.RawCall.{call_plan, disposed, helped, copied}
+use Rattle.papaya_histories.specs.Given.RawCall as calls
+use Rattle.papaya_histories.specs.Given.RawMachine.{called as of_key, reserved as of_room, swept as of_sweep}
+use Rattle.papaya_histories.specs.Given.RawDeclared.machines.answer.Called.{Called}
+use Rattle.papaya_histories.specs.Given.RawDeclared.machines.answer.KeyAnswer.{KeyAnswer}
+use Rattle.papaya_histories.specs.Given.RawDeclared.machines.call.Calling.{Calling}
+use Rattle.papaya_histories.specs.Given.RawDeclared.machines.call.Calling.TheVariants as calling
+use Rattle.papaya_histories.specs.Given.RawDeclared.machines.call.KeyCall.{KeyCall}
+use Rattle.papaya_histories.specs.Given.RawDeclared.machines.machine.Machine.{Machine}
+use Rattle.papaya_histories.specs.Given.RawDeclared.machines.machine.Machine.TheVariants as kinds
+use Rattle.papaya_histories.specs.Given.RawDeclared.machines.progress.Progress.{Progress}
+use Rattle.papaya_histories.specs.Given.RunsDeclared.outcome.TableShape.{TableShape}
+use Rattle.papaya_histories.specs.Given.SchedulesDeclared.effect.Table.{Table as Numbered}
+use Rattle.papaya_histories.specs.Given.SchedulesMoment.{Moment}
+use Rattle.papaya_histories.specs.Given.TellerTells.{StepsTold}
+use Rattle.papaya_histories.specs.Given.TellerDeclared.changed.Changed.{Changed}
+use Rattle.papaya_histories.specs.Given.TellerDeclared.changed.Changed.TheVariants as changed
+use Rattle.papaya_histories.specs.Given.RuleChart.{Chart}
+use Rattle.papaya_histories.specs.Given.RuleWords.{Blocks}
+use Rattle.papaya_histories.specs.Given.PointsFactsCalls.{Change, CallingFacts}
+use Rattle.papaya_histories.specs.Given.PointsFactsCopies.{CopierFacts, CopyingFacts}
+use Rattle.papaya_histories.specs.Given.PointsFactsCopiesBlocking.{CopierFactsBlocking, CopyingFactsBlocking}
+use Rattle.papaya_histories.specs.Given.PointsFactsDisposes.{DisposeFacts, DisposingFacts}
+use Rattle.papaya_histories.specs.Given.PointsTold.{IsRowOf, IsRowOfCopier, IsRowOfCall}
+use Rattle.papaya_histories.specs.Given.LateLateCalls.{LateCalling}
+use Rattle.papaya_histories.specs.Given.LateLateCopies.{LateCopierFacts, LateCopying}
+use Rattle.papaya_histories.specs.Given.LateLateReserves.{LateReserving}
+use Rattle.papaya_histories.specs.Given.LateFactsReserves.{CopiesWhole, IsEnding, ReservingFacts}
+use Rattle.papaya_histories.specs.Given.LateFactsSweeps.{CopiesTable, SweepingFacts}
+use Rattle.papaya_histories.specs.Given.LateToldReserves.{IsRowOfReserve}
+use Rattle.papaya_histories.specs.Given.LateToldSweeps.{IsRowOfSweep}
+use Rattle.papaya_histories.specs.Given.CallersOverAll.{CallOverAll, row_of_sweep}
+use Rattle.papaya_histories.specs.Given.CallersRooms.{CallForRoom, row_of_room}
+use Rattle.papaya_histories.specs.Given.CallersRows.{row_of_disposal, row_of_copier, row_of}
+use Rattle.papaya_histories.specs.Given.CallersSights.{seen_by}
+use Rattle.papaya_histories.specs.Given.CallersTogether.{UnderWay, CallOnKey, OnKey, ForRoom, Counting, OverAll, Together, in_slot}
+use Rattle.papaya_histories.proofs.Given.CallersTogether.Came.{came_reached}
+use Rattle.papaya_histories.specs.Given.EffectsEffects.{effects_of}
+use Rattle.papaya_histories.specs.Given.EffectsKnown.{Known}
+use Rattle.papaya_histories.specs.Given.EffectsDeclared.acting.Acting.TheVariants as acts
+use Rattle.papaya_histories.specs.Given.EffectsDeclared.role.Role.{Role}
+use Rattle.papaya_histories.specs.Given.EffectsDeclared.role.Role.TheVariants as role
+use Rattle.papaya_histories.specs.Given.FinishesMachines.{machine_of}
+use Rattle.papaya_histories.specs.Given.FinishesMaps.{Standing}
+use Rattle.papaya_histories.specs.Given.FollowsBlocks.{HasRole}
+use Rattle.papaya_histories.specs.Given.FollowsShows.{Shows}
+use Rattle.papaya_histories.proofs.Given.FollowsSteps.{WentTo, went_to, DidSo, OfNoRow}
+use Rattle.papaya_histories.specs.Given.HandsRows.{ReclaimsNone, ShowsRows}
+use Rattle.papaya_histories.proofs.Given.OthersOutcomes.{told_in}
 use Rattle.papaya_settles.specs.Due.{Due, due_in_disposing, due_in_copying, due_in_calling, due_in_reserving, due_in_sweeping, due_in_row, RowTells, OwnAreMade, RowsTellDue}
 use Rattle.papaya_settles.proofs.DueDefers.{AreTables}
 use Rattle.papaya_settles.specs.Entries.{IsSomebodys, IsBlank, RetiresOne, ShowsEntries}
 use Rattle.papaya_settles.proofs.DueRows.{GoesOn, IsSettling, IsToSettle, IsPutting, IsToPut, DisposingIs, CopyingIs, dispose_row, copier_row}
 use Rattle.papaya_settles.proofs.DueSettles.{effects_by}
-use Rattle.papaya_histories.specs.Given.Scenes.Held.{Held, IsAt}
-use Rattle.papaya_histories.specs.Given.Scenes.Scene.{Scene, slot_of}
-use Rattle.papaya_histories.specs.Given.Scenes.Stepping.{StepLeads, StepsFrom}
+use Rattle.papaya_histories.specs.Given.ScenesHeld.{Held, IsAt}
+use Rattle.papaya_histories.specs.Given.ScenesScene.{Scene, slot_of}
+use Rattle.papaya_histories.specs.Given.ScenesStepping.{StepLeads, StepsFrom}
 
 -- where it stands, a call's row is as the call's machine says
 module _ {T : Type 0} (w : World T) (i : ℕ) where

@@ -2,42 +2,42 @@
 use Rattle.std.specs.Prelude.{◌≡◌, ℕ, ◌+◌, ◌<◌, Option, Some, None, Ok, Err, Bool, true, false, List, [], ◌∷◌, ◌==◌, if◌then◌else◌}
 use Rattle.std.proofs.Common.{refl, ap, sym, subst, ◌∙◌, arith}
 use Rattle.std.proofs.lemmas.Bool.{ne_eqb, eq-eqb}
-use Rattle.papaya_histories.specs.Given.SeizeWords.declared.at.At.{At}
-use Rattle.papaya_histories.specs.Given.SeizeWords.declared.at.At.TheVariants as name
-use Rattle.papaya_histories.specs.Given.SeizeWords.Op.{Found, Stored, Exchanged, Made, Taken, Roomed}
-use Rattle.papaya_histories.specs.Given.SeizeWords.Mem.{Mem, value_at, word_at}
-use Rattle.papaya_histories.specs.Given.SeizeWords.Word.{block_in}
-use Rattle.papaya_histories.specs.Given.Seize.Further.{IsWordOf}
-use Rattle.papaya_histories.specs.Given.Seize.declared.progress.Progress.{Progress}
-use Rattle.papaya_histories.specs.Given.Seize.declared.states.TheConstants.{LAST_SLOT}
-use Rattle.papaya_histories.specs.Given.Seize.declared.rows.defer.Defer.{Defer}
-use Rattle.papaya_histories.specs.Given.Seize.declared.rows.defer.Deferring.{Deferring}
-use Rattle.papaya_histories.specs.Given.Seize.declared.rows.defer.Deferring.TheVariants as at
-use Rattle.papaya_histories.specs.Given.Seize.Defer as plans
-use Rattle.papaya_histories.specs.Given.Seize.Law.{holds}
-use Rattle.papaya_histories.specs.Given.SeizeWaiting.Held.{count}
-use Rattle.papaya_histories.proofs.Given.SeizeMoves.State.Ghost.{Debt, Life, IsDoomed, IsLeft, State, can_carry, is_deferred, lies_with}
-use Rattle.papaya_histories.proofs.Given.SeizeMoves.State.Rule.{IsGuarded}
-use Rattle.papaya_histories.proofs.Given.SeizeRule.Rows.Known.{FitsDefer, OnWay}
-use Rattle.papaya_histories.proofs.Given.SeizeRule.Words.Chains.{Chain, count_first}
-use Rattle.papaya_histories.proofs.Given.SeizeRule.Words.Named.{link, word_found}
-use Rattle.papaya_histories.proofs.Given.SeizeRule.Words.Shows.{DeferredIs, DrainedIs}
-use Rattle.papaya_histories.proofs.Given.SeizeRule.Words.View.{view, list_in}
-use Rattle.papaya_histories.proofs.Given.SeizeAlone.Histories.Reached.{Reached}
-use Rattle.papaya_histories.specs.Given.Seize.World.{World}
-use Rattle.papaya_histories.specs.Given.Tables.Nodes.{deferred_word}
-use Rattle.papaya_histories.specs.Given.Tables.declared.node.Node.{Node}
-use Rattle.papaya_histories.specs.Given.Tables.declared.node.Node.TheVariants as node
-use Rattle.papaya_histories.specs.Given.Tables.declared.table_words.TheConstants.{DEFERRED}
-use Rattle.papaya_histories.specs.Given.Schedules.declared.effect.Table.{Table}
-use Rattle.papaya_histories.specs.Given.Teller.Tells.{StepsTold}
-use Rattle.papaya_histories.specs.Given.Teller.declared.changed.Changed.{Changed}
-use Rattle.papaya_histories.specs.Given.Teller.declared.changed.Changed.TheVariants as changed
-use Rattle.papaya_histories.specs.Given.Effects.Effects.{carried, in_block, named, names_same}
-use Rattle.papaya_histories.specs.Given.Effects.Known.{Known}
-use Rattle.papaya_histories.specs.Given.Effects.declared.acting.Acting.TheVariants as acts
-use Rattle.papaya_histories.specs.Given.Effects.declared.role.Role.{Role}
-use Rattle.papaya_histories.specs.Given.Effects.declared.role.Role.TheVariants as role
+use Rattle.papaya_histories.specs.Given.SeizeWordsDeclared.at.At.{At}
+use Rattle.papaya_histories.specs.Given.SeizeWordsDeclared.at.At.TheVariants as name
+use Rattle.papaya_histories.specs.Given.SeizeWordsOp.{Found, Stored, Exchanged, Made, Taken, Roomed}
+use Rattle.papaya_histories.specs.Given.SeizeWordsMem.{Mem, value_at, word_at}
+use Rattle.papaya_histories.specs.Given.SeizeWordsWord.{block_in}
+use Rattle.papaya_histories.specs.Given.SeizeFurther.{IsWordOf}
+use Rattle.papaya_histories.specs.Given.SeizeDeclared.progress.Progress.{Progress}
+use Rattle.papaya_histories.specs.Given.SeizeDeclared.states.TheConstants.{LAST_SLOT}
+use Rattle.papaya_histories.specs.Given.SeizeDeclared.rows.defer.Defer.{Defer}
+use Rattle.papaya_histories.specs.Given.SeizeDeclared.rows.defer.Deferring.{Deferring}
+use Rattle.papaya_histories.specs.Given.SeizeDeclared.rows.defer.Deferring.TheVariants as at
+use Rattle.papaya_histories.specs.Given.SeizeDefer as plans
+use Rattle.papaya_histories.specs.Given.SeizeLaw.{holds}
+use Rattle.papaya_histories.specs.Given.SeizeWaitingHeld.{count}
+use Rattle.papaya_histories.proofs.Given.SeizeMovesState.Ghost.{Debt, Life, IsDoomed, IsLeft, State, can_carry, is_deferred, lies_with}
+use Rattle.papaya_histories.proofs.Given.SeizeMovesState.Rule.{IsGuarded}
+use Rattle.papaya_histories.proofs.Given.SeizeRuleRows.Known.{FitsDefer, OnWay}
+use Rattle.papaya_histories.proofs.Given.SeizeRuleWords.Chains.{Chain, count_first}
+use Rattle.papaya_histories.proofs.Given.SeizeRuleWords.Named.{link, word_found}
+use Rattle.papaya_histories.proofs.Given.SeizeRuleWords.Shows.{DeferredIs, DrainedIs}
+use Rattle.papaya_histories.proofs.Given.SeizeRuleWords.View.{view, list_in}
+use Rattle.papaya_histories.proofs.Given.SeizeAloneHistories.Reached.{Reached}
+use Rattle.papaya_histories.specs.Given.SeizeWorld.{World}
+use Rattle.papaya_histories.specs.Given.TablesNodes.{deferred_word}
+use Rattle.papaya_histories.specs.Given.TablesDeclared.node.Node.{Node}
+use Rattle.papaya_histories.specs.Given.TablesDeclared.node.Node.TheVariants as node
+use Rattle.papaya_histories.specs.Given.TablesDeclared.table_words.TheConstants.{DEFERRED}
+use Rattle.papaya_histories.specs.Given.SchedulesDeclared.effect.Table.{Table}
+use Rattle.papaya_histories.specs.Given.TellerTells.{StepsTold}
+use Rattle.papaya_histories.specs.Given.TellerDeclared.changed.Changed.{Changed}
+use Rattle.papaya_histories.specs.Given.TellerDeclared.changed.Changed.TheVariants as changed
+use Rattle.papaya_histories.specs.Given.EffectsEffects.{carried, in_block, named, names_same}
+use Rattle.papaya_histories.specs.Given.EffectsKnown.{Known}
+use Rattle.papaya_histories.specs.Given.EffectsDeclared.acting.Acting.TheVariants as acts
+use Rattle.papaya_histories.specs.Given.EffectsDeclared.role.Role.{Role}
+use Rattle.papaya_histories.specs.Given.EffectsDeclared.role.Role.TheVariants as role
 use Rattle.papaya_settles.specs.Due.{ToPut, due_in_defer, RowTells, TellsNone, TellsDeferred}
 use Rattle.papaya_settles.proofs.DueSettles.{effects_by, plan_none}
 use Rattle.papaya_settles.proofs.EntryRows.{named as named_by}

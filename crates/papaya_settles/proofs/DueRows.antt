@@ -1,71 +1,71 @@
 -- A step of a row within a disposal, or a copier, tells of what that has in hand.
 use Rattle.std.specs.Prelude.{◌≡◌, ◌≢◌, ℕ, ◌+◌, ◌*◌, ◌<◌, ◌==◌, Option, Some, None, Ok, Err, Bool, true, false, List, [], ◌∷◌, length, if◌then◌else◌}
 use Rattle.std.proofs.Common.{refl, ap, sym, subst, ◌∙◌, arith}
-use Rattle.papaya_histories.specs.Given.SeizeWords.declared.at.At.{At}
-use Rattle.papaya_histories.specs.Given.SeizeWords.Op.{Found, Stored, Exchanged, Made, Taken, Roomed}
-use Rattle.papaya_histories.specs.Given.SeizeWords.Mem.{Mem, value_at}
-use Rattle.papaya_histories.specs.Given.SeizeWords.Plan.{Ends, Now}
-use Rattle.papaya_histories.specs.Given.SeizeWords.Word.{block_in}
-use Rattle.papaya_histories.specs.Given.Seize.declared.progress.Progress.{Progress}
-use Rattle.papaya_histories.specs.Given.Seize.declared.progress.Progress.TheVariants as progress
-use Rattle.papaya_histories.specs.Given.Seize.declared.states.TheConstants.{HELD, LAST_SLOT}
-use Rattle.papaya_histories.specs.Given.Seize.declared.rows.defer.Defer.{Defer}
-use Rattle.papaya_histories.specs.Given.Seize.declared.rows.defer.Deferring.{Deferring}
-use Rattle.papaya_histories.specs.Given.Seize.declared.rows.defer.Deferring.TheVariants as deferring
-use Rattle.papaya_histories.specs.Given.Seize.declared.rows.settle.Settle.{Settle}
-use Rattle.papaya_histories.specs.Given.Seize.declared.rows.settle.Settled.{Settled}
-use Rattle.papaya_histories.specs.Given.Seize.declared.rows.settle.Settled.TheVariants as settled
-use Rattle.papaya_histories.specs.Given.Seize.declared.rows.settle.Settling.{Settling}
-use Rattle.papaya_histories.specs.Given.Seize.declared.rows.settle.Settling.TheVariants as at
-use Rattle.papaya_histories.specs.Given.Seize.Defer.{deferring as putting, defer_plan}
-use Rattle.papaya_histories.specs.Given.Seize.Defer as defers
-use Rattle.papaya_histories.specs.Given.Seize.Settle.{retiring, settle_plan, plan_at}
-use Rattle.papaya_histories.specs.Given.Seize.Settle as plans
-use Rattle.papaya_histories.specs.Given.Seize.World.{World, Hand, Cutting, Row, Settles, Defers}
-use Rattle.papaya_histories.proofs.Given.SeizeMoves.State.Ghost.{State}
-use Rattle.papaya_histories.proofs.Given.SeizeRule.Points.Aside.{HandFits}
-use Rattle.papaya_histories.proofs.Given.SeizeRule.Points.Known.{FitsAt, bare, open_blocks}
-use Rattle.papaya_histories.proofs.Given.SeizeRule.Points.Retire.{open_chain}
-use Rattle.papaya_histories.proofs.Given.SeizeRule.Points.Settle.{is_over, settle_steps}
-use Rattle.papaya_histories.proofs.Given.SeizeRule.Points.Stepped.{IsGoing}
-use Rattle.papaya_histories.proofs.Given.SeizeRule.Rows.Known.{FitsRow}
-use Rattle.papaya_histories.proofs.Given.SeizeRule.Words.Chains.{Chain, first_or}
-use Rattle.papaya_histories.proofs.Given.SeizeRule.Words.Named.{link, link-block}
-use Rattle.papaya_histories.proofs.Given.SeizeRule.Words.Shows.{lives}
-use Rattle.papaya_histories.proofs.Given.SeizeRule.Words.There.{live_pos}
-use Rattle.papaya_histories.proofs.Given.SeizeRule.Words.View.{view}
-use Rattle.papaya_histories.proofs.Given.SeizeRule.World.Start.{words_good}
-use Rattle.papaya_histories.proofs.Given.SeizeAlone.Histories.Reached.{Reached}
-use Rattle.papaya_histories.specs.Given.Tables.Nodes.{deferred_word}
-use Rattle.papaya_histories.specs.Given.Tables.declared.node.Node.{Node}
-use Rattle.papaya_histories.specs.Given.Tables.declared.table.Table.{Table}
-use Rattle.papaya_histories.specs.Given.Resize.Copier.{copier_plan}
-use Rattle.papaya_histories.specs.Given.Resize.Copier as copiers
-use Rattle.papaya_histories.specs.Given.Resize.CopierPromotes.{retired, table_retired}
-use Rattle.papaya_histories.specs.Given.Resize.CopierStates.{standing}
-use Rattle.papaya_histories.specs.Given.Resize.Dispose.{dispose_plan}
-use Rattle.papaya_histories.specs.Given.Resize.Dispose as disposes
-use Rattle.papaya_histories.specs.Given.Resize.declared.copier.Copier.{Copier}
-use Rattle.papaya_histories.specs.Given.Resize.declared.copier.Copying.{Copying}
-use Rattle.papaya_histories.specs.Given.Resize.declared.copier.Copying.TheVariants as copying
-use Rattle.papaya_histories.specs.Given.Resize.declared.dispose.Dispose.{Dispose}
-use Rattle.papaya_histories.specs.Given.Resize.declared.dispose.Disposing.{Disposing}
-use Rattle.papaya_histories.specs.Given.Resize.declared.dispose.Disposing.TheVariants as disposing
-use Rattle.papaya_histories.specs.Given.Resize.declared.outcome.Outcome.{Outcome}
-use Rattle.papaya_histories.specs.Given.Resize.declared.outcome.Outcome.TheVariants as outcome
-use Rattle.papaya_histories.specs.Given.Schedules.declared.effect.Effect.{Effect}
-use Rattle.papaya_histories.specs.Given.Teller.Tells.{StepsTold}
-use Rattle.papaya_histories.specs.Given.Teller.declared.changed.Changed.{Changed}
-use Rattle.papaya_histories.specs.Given.Teller.declared.changed.Changed.TheVariants as changed
-use Rattle.papaya_histories.specs.Given.Effects.Known.{Known}
-use Rattle.papaya_histories.specs.Given.Hands.Rows.{SettlesAside, ReclaimsNone}
-use Rattle.papaya_histories.proofs.Given.Others.Outcomes.{told_in}
+use Rattle.papaya_histories.specs.Given.SeizeWordsDeclared.at.At.{At}
+use Rattle.papaya_histories.specs.Given.SeizeWordsOp.{Found, Stored, Exchanged, Made, Taken, Roomed}
+use Rattle.papaya_histories.specs.Given.SeizeWordsMem.{Mem, value_at}
+use Rattle.papaya_histories.specs.Given.SeizeWordsPlan.{Ends, Now}
+use Rattle.papaya_histories.specs.Given.SeizeWordsWord.{block_in}
+use Rattle.papaya_histories.specs.Given.SeizeDeclared.progress.Progress.{Progress}
+use Rattle.papaya_histories.specs.Given.SeizeDeclared.progress.Progress.TheVariants as progress
+use Rattle.papaya_histories.specs.Given.SeizeDeclared.states.TheConstants.{HELD, LAST_SLOT}
+use Rattle.papaya_histories.specs.Given.SeizeDeclared.rows.defer.Defer.{Defer}
+use Rattle.papaya_histories.specs.Given.SeizeDeclared.rows.defer.Deferring.{Deferring}
+use Rattle.papaya_histories.specs.Given.SeizeDeclared.rows.defer.Deferring.TheVariants as deferring
+use Rattle.papaya_histories.specs.Given.SeizeDeclared.rows.settle.Settle.{Settle}
+use Rattle.papaya_histories.specs.Given.SeizeDeclared.rows.settle.Settled.{Settled}
+use Rattle.papaya_histories.specs.Given.SeizeDeclared.rows.settle.Settled.TheVariants as settled
+use Rattle.papaya_histories.specs.Given.SeizeDeclared.rows.settle.Settling.{Settling}
+use Rattle.papaya_histories.specs.Given.SeizeDeclared.rows.settle.Settling.TheVariants as at
+use Rattle.papaya_histories.specs.Given.SeizeDefer.{deferring as putting, defer_plan}
+use Rattle.papaya_histories.specs.Given.SeizeDefer as defers
+use Rattle.papaya_histories.specs.Given.SeizeSettle.{retiring, settle_plan, plan_at}
+use Rattle.papaya_histories.specs.Given.SeizeSettle as plans
+use Rattle.papaya_histories.specs.Given.SeizeWorld.{World, Hand, Cutting, Row, Settles, Defers}
+use Rattle.papaya_histories.proofs.Given.SeizeMovesState.Ghost.{State}
+use Rattle.papaya_histories.proofs.Given.SeizeRulePoints.Aside.{HandFits}
+use Rattle.papaya_histories.proofs.Given.SeizeRulePoints.Known.{FitsAt, bare, open_blocks}
+use Rattle.papaya_histories.proofs.Given.SeizeRulePoints.Retire.{open_chain}
+use Rattle.papaya_histories.proofs.Given.SeizeRulePoints.Settle.{is_over, settle_steps}
+use Rattle.papaya_histories.proofs.Given.SeizeRulePoints.Stepped.{IsGoing}
+use Rattle.papaya_histories.proofs.Given.SeizeRuleRows.Known.{FitsRow}
+use Rattle.papaya_histories.proofs.Given.SeizeRuleWords.Chains.{Chain, first_or}
+use Rattle.papaya_histories.proofs.Given.SeizeRuleWords.Named.{link, link-block}
+use Rattle.papaya_histories.proofs.Given.SeizeRuleWords.Shows.{lives}
+use Rattle.papaya_histories.proofs.Given.SeizeRuleWords.There.{live_pos}
+use Rattle.papaya_histories.proofs.Given.SeizeRuleWords.View.{view}
+use Rattle.papaya_histories.proofs.Given.SeizeRuleWorld.Start.{words_good}
+use Rattle.papaya_histories.proofs.Given.SeizeAloneHistories.Reached.{Reached}
+use Rattle.papaya_histories.specs.Given.TablesNodes.{deferred_word}
+use Rattle.papaya_histories.specs.Given.TablesDeclared.node.Node.{Node}
+use Rattle.papaya_histories.specs.Given.TablesDeclared.table.Table.{Table}
+use Rattle.papaya_histories.specs.Given.ResizeCopier.{copier_plan}
+use Rattle.papaya_histories.specs.Given.ResizeCopier as copiers
+use Rattle.papaya_histories.specs.Given.ResizeCopierPromotes.{retired, table_retired}
+use Rattle.papaya_histories.specs.Given.ResizeCopierStates.{standing}
+use Rattle.papaya_histories.specs.Given.ResizeDispose.{dispose_plan}
+use Rattle.papaya_histories.specs.Given.ResizeDispose as disposes
+use Rattle.papaya_histories.specs.Given.ResizeDeclared.copier.Copier.{Copier}
+use Rattle.papaya_histories.specs.Given.ResizeDeclared.copier.Copying.{Copying}
+use Rattle.papaya_histories.specs.Given.ResizeDeclared.copier.Copying.TheVariants as copying
+use Rattle.papaya_histories.specs.Given.ResizeDeclared.dispose.Dispose.{Dispose}
+use Rattle.papaya_histories.specs.Given.ResizeDeclared.dispose.Disposing.{Disposing}
+use Rattle.papaya_histories.specs.Given.ResizeDeclared.dispose.Disposing.TheVariants as disposing
+use Rattle.papaya_histories.specs.Given.ResizeDeclared.outcome.Outcome.{Outcome}
+use Rattle.papaya_histories.specs.Given.ResizeDeclared.outcome.Outcome.TheVariants as outcome
+use Rattle.papaya_histories.specs.Given.SchedulesDeclared.effect.Effect.{Effect}
+use Rattle.papaya_histories.specs.Given.TellerTells.{StepsTold}
+use Rattle.papaya_histories.specs.Given.TellerDeclared.changed.Changed.{Changed}
+use Rattle.papaya_histories.specs.Given.TellerDeclared.changed.Changed.TheVariants as changed
+use Rattle.papaya_histories.specs.Given.EffectsKnown.{Known}
+use Rattle.papaya_histories.specs.Given.HandsRows.{SettlesAside, ReclaimsNone}
+use Rattle.papaya_histories.proofs.Given.OthersOutcomes.{told_in}
 use Rattle.papaya_settles.specs.Due.{Due, ToPut, due_in_settle, due_in_defer, due_in_disposing, due_in_copying, RowTells, TellsNone}
 use Rattle.papaya_settles.specs.Entries.{IsSomebodys, IsBlank, OneAt, RetiresOne}
 use Rattle.papaya_settles.proofs.DueDefers.{AreTables, defer_tells}
 use Rattle.papaya_settles.proofs.DueSettles.{effects_by, settle_tells}
 use Rattle.papaya_settles.proofs.EntryRows.{named}
-use Rattle.papaya_histories.proofs.Given.Scenes.Told.{as_step}
+use Rattle.papaya_histories.proofs.Given.ScenesTold.{as_step}
 
 over_is : (p : Settling) → is_over p ≡ true → p ≡ at.Over
 over_is at.Over e = refl

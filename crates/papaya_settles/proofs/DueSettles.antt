@@ -2,38 +2,38 @@
 use Rattle.std.specs.Prelude.{◌≡◌, ◌≢◌, ℕ, ◌==◌, nat_lt, Option, Some, None, Ok, Err, Bool, true, false, List, [], ◌∷◌, if◌then◌else◌}
 use Rattle.std.proofs.Common.{refl, ap, sym, subst, ◌∙◌, arith, eqb-true}
 use Rattle.std.proofs.lemmas.Bool.{ne_eqb}
-use Rattle.papaya_histories.specs.Given.SeizeWords.declared.at.At.{At}
-use Rattle.papaya_histories.specs.Given.SeizeWords.declared.at.At.TheVariants as name
-use Rattle.papaya_histories.specs.Given.SeizeWords.Op.{Op, Out, Load, Store, Swap, Add, Or, Exchange, Make, Take, Rewrite, Room, Found, Exchanged}
-use Rattle.papaya_histories.specs.Given.SeizeWords.Mem.{Mem, value_at, word_at}
-use Rattle.papaya_histories.specs.Given.SeizeWords.Plan.{Plan, Then, Turn, Do, Now, Seeing, Sure, Ends}
-use Rattle.papaya_histories.specs.Given.SeizeWords.Word.{block_in}
-use Rattle.papaya_histories.specs.Given.Seize.declared.states.TheConstants.{HELD, ACTIVE, FIRST}
-use Rattle.papaya_histories.specs.Given.Seize.declared.rows.settle.Settle.{Settle}
-use Rattle.papaya_histories.specs.Given.Seize.declared.rows.settle.Settled.{Settled}
-use Rattle.papaya_histories.specs.Given.Seize.declared.rows.settle.Settling.{Settling}
-use Rattle.papaya_histories.specs.Given.Seize.declared.rows.settle.Settling.TheVariants as at
-use Rattle.papaya_histories.specs.Given.Seize.declared.rows.settle.Settled.TheVariants as settled
-use Rattle.papaya_histories.specs.Given.Seize.Settle as plans
-use Rattle.papaya_histories.specs.Given.Tables.Nodes.{deferred_word}
-use Rattle.papaya_histories.specs.Given.Tables.declared.node.Node.{Node}
-use Rattle.papaya_histories.specs.Given.Schedules.declared.effect.Effect.{Effect}
-use Rattle.papaya_histories.specs.Given.Schedules.declared.effect.Effect.TheVariants as effect
-use Rattle.papaya_histories.specs.Given.Schedules.declared.effect.Thing.TheVariants.{APair, ATable}
-use Rattle.papaya_histories.specs.Given.Teller.Tells.{told_of, StepsTold}
-use Rattle.papaya_histories.specs.Given.Teller.declared.changed.Changed.{Changed}
-use Rattle.papaya_histories.specs.Given.Teller.declared.changed.Changed.TheVariants as changed
-use Rattle.papaya_histories.specs.Given.Tells.Seen.{word_or, seen_of}
-use Rattle.papaya_histories.specs.Given.Effects.Effects.{effects_of, batched, names_same}
-use Rattle.papaya_histories.specs.Given.Effects.Known.{Known}
-use Rattle.papaya_histories.specs.Given.Effects.declared.acting.Acting.TheVariants as acts
-use Rattle.papaya_histories.specs.Given.Effects.declared.role.Role.{Role}
-use Rattle.papaya_histories.specs.Given.Effects.declared.role.Role.TheVariants as role
-use Rattle.papaya_histories.specs.Given.Hands.Rows.{IsAside, SettlesAside}
+use Rattle.papaya_histories.specs.Given.SeizeWordsDeclared.at.At.{At}
+use Rattle.papaya_histories.specs.Given.SeizeWordsDeclared.at.At.TheVariants as name
+use Rattle.papaya_histories.specs.Given.SeizeWordsOp.{Op, Out, Load, Store, Swap, Add, Or, Exchange, Make, Take, Rewrite, Room, Found, Exchanged}
+use Rattle.papaya_histories.specs.Given.SeizeWordsMem.{Mem, value_at, word_at}
+use Rattle.papaya_histories.specs.Given.SeizeWordsPlan.{Plan, Then, Turn, Do, Now, Seeing, Sure, Ends}
+use Rattle.papaya_histories.specs.Given.SeizeWordsWord.{block_in}
+use Rattle.papaya_histories.specs.Given.SeizeDeclared.states.TheConstants.{HELD, ACTIVE, FIRST}
+use Rattle.papaya_histories.specs.Given.SeizeDeclared.rows.settle.Settle.{Settle}
+use Rattle.papaya_histories.specs.Given.SeizeDeclared.rows.settle.Settled.{Settled}
+use Rattle.papaya_histories.specs.Given.SeizeDeclared.rows.settle.Settling.{Settling}
+use Rattle.papaya_histories.specs.Given.SeizeDeclared.rows.settle.Settling.TheVariants as at
+use Rattle.papaya_histories.specs.Given.SeizeDeclared.rows.settle.Settled.TheVariants as settled
+use Rattle.papaya_histories.specs.Given.SeizeSettle as plans
+use Rattle.papaya_histories.specs.Given.TablesNodes.{deferred_word}
+use Rattle.papaya_histories.specs.Given.TablesDeclared.node.Node.{Node}
+use Rattle.papaya_histories.specs.Given.SchedulesDeclared.effect.Effect.{Effect}
+use Rattle.papaya_histories.specs.Given.SchedulesDeclared.effect.Effect.TheVariants as effect
+use Rattle.papaya_histories.specs.Given.SchedulesDeclared.effect.Thing.TheVariants.{APair, ATable}
+use Rattle.papaya_histories.specs.Given.TellerTells.{told_of, StepsTold}
+use Rattle.papaya_histories.specs.Given.TellerDeclared.changed.Changed.{Changed}
+use Rattle.papaya_histories.specs.Given.TellerDeclared.changed.Changed.TheVariants as changed
+use Rattle.papaya_histories.specs.Given.TellsSeen.{word_or, seen_of}
+use Rattle.papaya_histories.specs.Given.EffectsEffects.{effects_of, batched, names_same}
+use Rattle.papaya_histories.specs.Given.EffectsKnown.{Known}
+use Rattle.papaya_histories.specs.Given.EffectsDeclared.acting.Acting.TheVariants as acts
+use Rattle.papaya_histories.specs.Given.EffectsDeclared.role.Role.{Role}
+use Rattle.papaya_histories.specs.Given.EffectsDeclared.role.Role.TheVariants as role
+use Rattle.papaya_histories.specs.Given.HandsRows.{IsAside, SettlesAside}
 use Rattle.papaya_settles.specs.Due.{ToRetire, due_in_settle, told_retired, RowTells, TellsNone, TellsRetired}
 use Rattle.papaya_settles.specs.Entries.{IsBlank, OneAt}
 use Rattle.papaya_settles.proofs.EntrySettles.{goes_one}
-use Rattle.papaya_histories.proofs.Given.Scenes.Told.{as_step}
+use Rattle.papaya_histories.proofs.Given.ScenesTold.{as_step}
 
 -- what is told of words of entries
 

@@ -1,13 +1,13 @@
 -- What operations write of an entry: a word of it that is 0 is so still, unless it is written.
 use Rattle.std.specs.Prelude.{Some, None, IsSome, Ok, if◌then◌else◌, bit_or}
 use Rattle.std.proofs.Common.{◌≡◌, ℕ, ◌+◌, ◌%◌, ◌^◌, Bool, true, false, cond, eqb, refl, arith, ap, ◌∙◌}
-use Rattle.papaya_histories.specs.Given.SeizeWords.declared.at.At.{At}
-use Rattle.papaya_histories.specs.Given.SeizeWords.declared.at.At.TheVariants as name
-use Rattle.papaya_histories.specs.Given.SeizeWords.Op.{Op, Out, Load, Store, Swap, Add, Or, Exchange, Make, Take, Rewrite, Room, Found, Exchanged, Made, Roomed}
-use Rattle.papaya_histories.specs.Given.SeizeWords.Mem.{Mem, same_at, value_at, word_at, with_word, with_block, Can, Took, Gives, after}
-use Rattle.papaya_histories.specs.Given.SeizeWords.Plan.{Plan, Turn, Do, May, Steps, plan_as}
-use Rattle.papaya_histories.proofs.Given.SeizeWords.OneOwner.AfterWrites.{word_at-with_word, word_at-with_value}
-use Rattle.papaya_histories.proofs.Given.SeizeRule.Words.Named.{or_zero, words_of, made_one, taken_one}
+use Rattle.papaya_histories.specs.Given.SeizeWordsDeclared.at.At.{At}
+use Rattle.papaya_histories.specs.Given.SeizeWordsDeclared.at.At.TheVariants as name
+use Rattle.papaya_histories.specs.Given.SeizeWordsOp.{Op, Out, Load, Store, Swap, Add, Or, Exchange, Make, Take, Rewrite, Room, Found, Exchanged, Made, Roomed}
+use Rattle.papaya_histories.specs.Given.SeizeWordsMem.{Mem, same_at, value_at, word_at, with_word, with_block, Can, Took, Gives, after}
+use Rattle.papaya_histories.specs.Given.SeizeWordsPlan.{Plan, Turn, Do, May, Steps, plan_as}
+use Rattle.papaya_histories.proofs.Given.SeizeWordsOneOwner.AfterWrites.{word_at-with_word, word_at-with_value}
+use Rattle.papaya_histories.proofs.Given.SeizeRuleWords.Named.{or_zero, words_of, made_one, taken_one}
 
 module _ (x f : ℕ) where
   -- a name of another word than this one of the entry

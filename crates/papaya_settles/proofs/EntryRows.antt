@@ -1,44 +1,44 @@
 -- A step of a row leaves an entry as blank as it is, of a block that the row is not to retire or to put behind another one, and that is in no batch.
 use Rattle.std.specs.Prelude.{Option, ◌⊎◌}
 use Rattle.std.proofs.Common.{◌≡◌, ℕ, ◌+◌, ◌/◌, ◌<◌, List, length, refl, arith, inl, inr, ap, sym, subst, ◌∙◌}
-use Rattle.papaya_histories.specs.Given.SeizeWords.Mem.{Mem}
-use Rattle.papaya_histories.specs.Given.Seize.declared.states.TheConstants.{NEXT, FIRST, COUNT, LINK, LAST_SLOT}
-use Rattle.papaya_histories.specs.Given.Seize.declared.progress.Progress.{Progress}
-use Rattle.papaya_histories.specs.Given.Seize.declared.progress.Progress.TheVariants as progress
-use Rattle.papaya_histories.specs.Given.Seize.declared.rows.defer.Defer.{Defer}
-use Rattle.papaya_histories.specs.Given.Seize.declared.rows.defer.Deferring.{Deferring}
-use Rattle.papaya_histories.specs.Given.Seize.declared.rows.defer.Deferring.TheVariants as deferring
-use Rattle.papaya_histories.specs.Given.Seize.declared.rows.leave.Leave.{Leave}
-use Rattle.papaya_histories.specs.Given.Seize.declared.rows.leave.Leaving.{Leaving}
-use Rattle.papaya_histories.specs.Given.Seize.declared.rows.leave.Leaving.TheVariants as leaving
-use Rattle.papaya_histories.specs.Given.Seize.declared.rows.register.Register.{Register}
-use Rattle.papaya_histories.specs.Given.Seize.declared.rows.register.Registering.{Registering}
-use Rattle.papaya_histories.specs.Given.Seize.declared.rows.register.Registering.TheVariants as registering
-use Rattle.papaya_histories.specs.Given.Seize.declared.rows.settle.Settle.{Settle}
-use Rattle.papaya_histories.specs.Given.Seize.declared.rows.settle.Settled.{Settled}
-use Rattle.papaya_histories.specs.Given.Seize.declared.rows.settle.Settled.TheVariants.{Goes, Waits, Gave, Done}
-use Rattle.papaya_histories.specs.Given.Seize.declared.rows.settle.Settling.{Settling}
-use Rattle.papaya_histories.specs.Given.Seize.declared.rows.settle.Settling.TheVariants as at
-use Rattle.papaya_histories.specs.Given.Seize.Defer as defer
-use Rattle.papaya_histories.specs.Given.Seize.Enter.{enter_plan, unregister_plan}
-use Rattle.papaya_histories.specs.Given.Seize.Leave as leave
-use Rattle.papaya_histories.specs.Given.Seize.Register as register
-use Rattle.papaya_histories.specs.Given.Seize.Settle.{settle_plan, plan_at}
-use Rattle.papaya_histories.specs.Given.Seize.World.{World, Row, Rests, Registers, Enters, Settles, Leaves, Defers, Frees, Steps', settles_on, registers_on, defers_on}
-use Rattle.papaya_histories.specs.Given.SeizeWaiting.Held.{count}
-use Rattle.papaya_histories.proofs.Given.SeizeMoves.Moves.Tries.{first_pending}
-use Rattle.papaya_histories.proofs.Given.SeizeMoves.State.Ghost.{Life, IsDeferring, IsPending, IsIn, State}
-use Rattle.papaya_histories.proofs.Given.SeizeRule.Points.Deferred.{puts_some}
-use Rattle.papaya_histories.proofs.Given.SeizeRule.Points.Known.{FitsAt, Appends, bare, open_blocks}
-use Rattle.papaya_histories.proofs.Given.SeizeRule.Points.Retire.{open_stage, some_last}
-use Rattle.papaya_histories.proofs.Given.SeizeRule.Rows.Known.{FitsLeave, FitsDefer, FitsRow}
-use Rattle.papaya_histories.proofs.Given.SeizeRule.Words.Apart.{is_pending_put}
-use Rattle.papaya_histories.proofs.Given.SeizeRule.Words.Chains.{last_of, last_from, count_last}
-use Rattle.papaya_histories.proofs.Given.SeizeRule.Words.Named.{link, link-block}
-use Rattle.papaya_histories.proofs.Given.SeizeRule.Words.View.{view}
-use Rattle.papaya_histories.proofs.Given.SeizeRule.World.Kept.{row_may}
-use Rattle.papaya_histories.proofs.Given.SeizeRule.Written.Retire.{in_batch}
-use Rattle.papaya_histories.proofs.Given.SeizeAlone.Histories.Reached.{Reached}
+use Rattle.papaya_histories.specs.Given.SeizeWordsMem.{Mem}
+use Rattle.papaya_histories.specs.Given.SeizeDeclared.states.TheConstants.{NEXT, FIRST, COUNT, LINK, LAST_SLOT}
+use Rattle.papaya_histories.specs.Given.SeizeDeclared.progress.Progress.{Progress}
+use Rattle.papaya_histories.specs.Given.SeizeDeclared.progress.Progress.TheVariants as progress
+use Rattle.papaya_histories.specs.Given.SeizeDeclared.rows.defer.Defer.{Defer}
+use Rattle.papaya_histories.specs.Given.SeizeDeclared.rows.defer.Deferring.{Deferring}
+use Rattle.papaya_histories.specs.Given.SeizeDeclared.rows.defer.Deferring.TheVariants as deferring
+use Rattle.papaya_histories.specs.Given.SeizeDeclared.rows.leave.Leave.{Leave}
+use Rattle.papaya_histories.specs.Given.SeizeDeclared.rows.leave.Leaving.{Leaving}
+use Rattle.papaya_histories.specs.Given.SeizeDeclared.rows.leave.Leaving.TheVariants as leaving
+use Rattle.papaya_histories.specs.Given.SeizeDeclared.rows.register.Register.{Register}
+use Rattle.papaya_histories.specs.Given.SeizeDeclared.rows.register.Registering.{Registering}
+use Rattle.papaya_histories.specs.Given.SeizeDeclared.rows.register.Registering.TheVariants as registering
+use Rattle.papaya_histories.specs.Given.SeizeDeclared.rows.settle.Settle.{Settle}
+use Rattle.papaya_histories.specs.Given.SeizeDeclared.rows.settle.Settled.{Settled}
+use Rattle.papaya_histories.specs.Given.SeizeDeclared.rows.settle.Settled.TheVariants.{Goes, Waits, Gave, Done}
+use Rattle.papaya_histories.specs.Given.SeizeDeclared.rows.settle.Settling.{Settling}
+use Rattle.papaya_histories.specs.Given.SeizeDeclared.rows.settle.Settling.TheVariants as at
+use Rattle.papaya_histories.specs.Given.SeizeDefer as defer
+use Rattle.papaya_histories.specs.Given.SeizeEnter.{enter_plan, unregister_plan}
+use Rattle.papaya_histories.specs.Given.SeizeLeave as leave
+use Rattle.papaya_histories.specs.Given.SeizeRegister as register
+use Rattle.papaya_histories.specs.Given.SeizeSettle.{settle_plan, plan_at}
+use Rattle.papaya_histories.specs.Given.SeizeWorld.{World, Row, Rests, Registers, Enters, Settles, Leaves, Defers, Frees, Steps', settles_on, registers_on, defers_on}
+use Rattle.papaya_histories.specs.Given.SeizeWaitingHeld.{count}
+use Rattle.papaya_histories.proofs.Given.SeizeMovesMoves.Tries.{first_pending}
+use Rattle.papaya_histories.proofs.Given.SeizeMovesState.Ghost.{Life, IsDeferring, IsPending, IsIn, State}
+use Rattle.papaya_histories.proofs.Given.SeizeRulePoints.Deferred.{puts_some}
+use Rattle.papaya_histories.proofs.Given.SeizeRulePoints.Known.{FitsAt, Appends, bare, open_blocks}
+use Rattle.papaya_histories.proofs.Given.SeizeRulePoints.Retire.{open_stage, some_last}
+use Rattle.papaya_histories.proofs.Given.SeizeRuleRows.Known.{FitsLeave, FitsDefer, FitsRow}
+use Rattle.papaya_histories.proofs.Given.SeizeRuleWords.Apart.{is_pending_put}
+use Rattle.papaya_histories.proofs.Given.SeizeRuleWords.Chains.{last_of, last_from, count_last}
+use Rattle.papaya_histories.proofs.Given.SeizeRuleWords.Named.{link, link-block}
+use Rattle.papaya_histories.proofs.Given.SeizeRuleWords.View.{view}
+use Rattle.papaya_histories.proofs.Given.SeizeRuleWorld.Kept.{row_may}
+use Rattle.papaya_histories.proofs.Given.SeizeRuleWritten.Retire.{in_batch}
+use Rattle.papaya_histories.proofs.Given.SeizeAloneHistories.Reached.{Reached}
 use Rattle.papaya_settles.proofs.EntryOps.{IsApart, IsPlanApart, apart_as, Zero, plan_zero}
 
 -- a row of this caller leaves it alone

@@ -2,41 +2,41 @@
 use Rattle.std.specs.Prelude.{◌≡◌, ◌≢◌, ℕ, Bool, List, [], ◌∷◌, Option, Some, None, ◌⊎◌}
 use Rattle.std.proofs.Common.{refl, ap, sym, subst, ◌∙◌, inl, inr}
 use Rattle.std.proofs.lemmas.Bool.{cases_eq}
-use Rattle.papaya_histories.specs.Given.SeizeWords.Mem.{Mem, word_at}
-use Rattle.papaya_histories.specs.Given.SeizeWords.declared.at.At.{At}
-use Rattle.papaya_histories.specs.Given.SeizeWords.declared.at.At.TheVariants.{Entry}
-use Rattle.papaya_histories.specs.Given.Seize.declared.states.TheConstants.{NEXT, FIRST}
-use Rattle.papaya_histories.specs.Given.Seize.declared.rows.settle.Settling.{Settling}
-use Rattle.papaya_histories.specs.Given.Seize.declared.rows.settle.Settling.TheVariants as at
-use Rattle.papaya_histories.specs.Given.Seize.World.{World, Row, Rests, Settles, Request, Register', Enter', Leave', LeaveOwned, Refresh, Unregister', Retire, Flush, Defer', Event, Begin, Happens, Runs, Steps'}
-use Rattle.papaya_histories.proofs.Given.SeizeRule.Words.Named.{or_zero, words_of}
-use Rattle.papaya_histories.proofs.Given.SeizeAlone.Histories.Reached.{Reached, happens_reached}
-use Rattle.papaya_histories.specs.Given.Tables.Nodes.{deferred_word}
-use Rattle.papaya_histories.specs.Given.Tables.declared.node.Node.{Node}
-use Rattle.papaya_histories.specs.Given.Tables.declared.setting.Setting.{Setting}
-use Rattle.papaya_histories.specs.Given.Raw.declared.machines.progress.Progress.{Progress}
-use Rattle.papaya_histories.specs.Given.Rule.InWorld.{AllUsers}
-use Rattle.papaya_histories.specs.Given.Schedules.Moment.{Moment}
-use Rattle.papaya_histories.specs.Given.Callers.Together.{UnderWay, OnKey, ForRoom, Counting, OverAll, HandsOver, IsOneStep}
-use Rattle.papaya_histories.proofs.Given.Callers.Together.Came.{came_reached}
-use Rattle.papaya_histories.specs.Given.Effects.Known.{Known}
-use Rattle.papaya_histories.specs.Given.Finishes.FactsEnds.{events_of}
-use Rattle.papaya_histories.specs.Given.Finishes.Maps.{with_call}
-use Rattle.papaya_histories.specs.Given.Follows.Shows.{Shows}
-use Rattle.papaya_histories.proofs.Given.Follows.Steps.{WentTo, went_to, DidSo}
-use Rattle.papaya_histories.specs.Given.Hands.Rows.{ReclaimsNone, ShowsRows}
-use Rattle.papaya_histories.proofs.Given.Hands.Asking.{which}
+use Rattle.papaya_histories.specs.Given.SeizeWordsMem.{Mem, word_at}
+use Rattle.papaya_histories.specs.Given.SeizeWordsDeclared.at.At.{At}
+use Rattle.papaya_histories.specs.Given.SeizeWordsDeclared.at.At.TheVariants.{Entry}
+use Rattle.papaya_histories.specs.Given.SeizeDeclared.states.TheConstants.{NEXT, FIRST}
+use Rattle.papaya_histories.specs.Given.SeizeDeclared.rows.settle.Settling.{Settling}
+use Rattle.papaya_histories.specs.Given.SeizeDeclared.rows.settle.Settling.TheVariants as at
+use Rattle.papaya_histories.specs.Given.SeizeWorld.{World, Row, Rests, Settles, Request, Register', Enter', Leave', LeaveOwned, Refresh, Unregister', Retire, Flush, Defer', Event, Begin, Happens, Runs, Steps'}
+use Rattle.papaya_histories.proofs.Given.SeizeRuleWords.Named.{or_zero, words_of}
+use Rattle.papaya_histories.proofs.Given.SeizeAloneHistories.Reached.{Reached, happens_reached}
+use Rattle.papaya_histories.specs.Given.TablesNodes.{deferred_word}
+use Rattle.papaya_histories.specs.Given.TablesDeclared.node.Node.{Node}
+use Rattle.papaya_histories.specs.Given.TablesDeclared.setting.Setting.{Setting}
+use Rattle.papaya_histories.specs.Given.RawDeclared.machines.progress.Progress.{Progress}
+use Rattle.papaya_histories.specs.Given.RuleInWorld.{AllUsers}
+use Rattle.papaya_histories.specs.Given.SchedulesMoment.{Moment}
+use Rattle.papaya_histories.specs.Given.CallersTogether.{UnderWay, OnKey, ForRoom, Counting, OverAll, HandsOver, IsOneStep}
+use Rattle.papaya_histories.proofs.Given.CallersTogether.Came.{came_reached}
+use Rattle.papaya_histories.specs.Given.EffectsKnown.{Known}
+use Rattle.papaya_histories.specs.Given.FinishesFactsEnds.{events_of}
+use Rattle.papaya_histories.specs.Given.FinishesMaps.{with_call}
+use Rattle.papaya_histories.specs.Given.FollowsShows.{Shows}
+use Rattle.papaya_histories.proofs.Given.FollowsSteps.{WentTo, went_to, DidSo}
+use Rattle.papaya_histories.specs.Given.HandsRows.{ReclaimsNone, ShowsRows}
+use Rattle.papaya_histories.proofs.Given.HandsAsking.{which}
 use Rattle.papaya_settles.specs.Entries.{IsBlank, OneAt, RetiresOne, ShowsEntries, EntriesBegin, CallsKeepEntries, CallsGoOnEntries, RowsBeginEntries, RowsKeepEntries, MakingsKeepEntries, EndingsBeginEntries, EndingsKeepEntries}
 use Rattle.papaya_settles.proofs.EntryUsers.{IsZero, AllZero, event_zeros}
 use Rattle.papaya_settles.proofs.EntryWorlds.{event_one, step_zeros, step_one, begin_zeros, begin_one, HandsOne, begin_own, own_one}
-use Rattle.papaya_histories.specs.Given.Scenes.Held.{Held, IsAt}
-use Rattle.papaya_histories.specs.Given.Scenes.Rows.{request_of}
-use Rattle.papaya_histories.proofs.Given.Scenes.NoCall.{no_call}
-use Rattle.papaya_histories.specs.Given.Scenes.Scene.{Scene, slot_of}
-use Rattle.papaya_histories.specs.Given.Scenes.Stepping.{StepLeads, scene_after}
-use Rattle.papaya_histories.proofs.Given.SeizeAlone.Histories.UsersTurn.{AreBetween}
-use Rattle.papaya_histories.proofs.Given.Callers.Together.Slots.{all_between}
-use Rattle.papaya_histories.proofs.Given.Scenes.Between.{deed_between}
+use Rattle.papaya_histories.specs.Given.ScenesHeld.{Held, IsAt}
+use Rattle.papaya_histories.specs.Given.ScenesRows.{request_of}
+use Rattle.papaya_histories.proofs.Given.ScenesNoCall.{no_call}
+use Rattle.papaya_histories.specs.Given.ScenesScene.{Scene, slot_of}
+use Rattle.papaya_histories.specs.Given.ScenesStepping.{StepLeads, scene_after}
+use Rattle.papaya_histories.proofs.Given.SeizeAloneHistories.UsersTurn.{AreBetween}
+use Rattle.papaya_histories.proofs.Given.CallersTogether.Slots.{all_between}
+use Rattle.papaya_histories.proofs.Given.ScenesBetween.{deed_between}
 
 -- a blank entry has zeros, and the other way round
 module _ {T : Type 0} (m : Mem T) where

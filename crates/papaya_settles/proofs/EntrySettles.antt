@@ -1,19 +1,19 @@
 -- A row within a call that has one block to retire goes on so with each step, by its plan.
 use Rattle.std.specs.Prelude.{◌≡◌, ◌≢◌, ℕ, Option, Some, Ok, Err, Bool, true, false, if◌then◌else◌, nat_lt, ◌==◌, ◌+◌, ◌-◌, ◌%◌, ◌^◌}
 use Rattle.std.proofs.Common.{refl, ap, sym, subst, eqb-true}
-use Rattle.papaya_histories.specs.Given.SeizeWords.declared.at.At.TheVariants.{Entry}
-use Rattle.papaya_histories.specs.Given.SeizeWords.Op.{Out, Load, Found, Exchanged}
-use Rattle.papaya_histories.specs.Given.SeizeWords.Mem.{Mem, Took, Gives, value_at, word_at}
-use Rattle.papaya_histories.specs.Given.SeizeWords.Plan.{Plan, Then, Turn, Do, Now, Seeing, Sure, Steps, Ends}
-use Rattle.papaya_histories.specs.Given.SeizeWords.Word.{block_in}
-use Rattle.papaya_histories.specs.Given.Seize.declared.states.TheConstants.{HELD, NEVER, ACTIVE, NEXT, LAST_SLOT}
-use Rattle.papaya_histories.specs.Given.Seize.declared.rows.settle.Settle.{Settle}
-use Rattle.papaya_histories.specs.Given.Seize.declared.rows.settle.Settling.{Settling}
-use Rattle.papaya_histories.specs.Given.Seize.declared.rows.settle.Settling.TheVariants as at
-use Rattle.papaya_histories.specs.Given.Seize.declared.rows.settle.Settled.{Settled}
-use Rattle.papaya_histories.specs.Given.Seize.declared.rows.settle.Settled.TheVariants as settled
-use Rattle.papaya_histories.specs.Given.Seize.Settle as plans
-use Rattle.papaya_histories.specs.Given.Hands.Rows.{IsAside, SettlesAside}
+use Rattle.papaya_histories.specs.Given.SeizeWordsDeclared.at.At.TheVariants.{Entry}
+use Rattle.papaya_histories.specs.Given.SeizeWordsOp.{Out, Load, Found, Exchanged}
+use Rattle.papaya_histories.specs.Given.SeizeWordsMem.{Mem, Took, Gives, value_at, word_at}
+use Rattle.papaya_histories.specs.Given.SeizeWordsPlan.{Plan, Then, Turn, Do, Now, Seeing, Sure, Steps, Ends}
+use Rattle.papaya_histories.specs.Given.SeizeWordsWord.{block_in}
+use Rattle.papaya_histories.specs.Given.SeizeDeclared.states.TheConstants.{HELD, NEVER, ACTIVE, NEXT, LAST_SLOT}
+use Rattle.papaya_histories.specs.Given.SeizeDeclared.rows.settle.Settle.{Settle}
+use Rattle.papaya_histories.specs.Given.SeizeDeclared.rows.settle.Settling.{Settling}
+use Rattle.papaya_histories.specs.Given.SeizeDeclared.rows.settle.Settling.TheVariants as at
+use Rattle.papaya_histories.specs.Given.SeizeDeclared.rows.settle.Settled.{Settled}
+use Rattle.papaya_histories.specs.Given.SeizeDeclared.rows.settle.Settled.TheVariants as settled
+use Rattle.papaya_histories.specs.Given.SeizeSettle as plans
+use Rattle.papaya_histories.specs.Given.HandsRows.{IsAside, SettlesAside}
 use Rattle.papaya_settles.specs.Entries.{OneAt}
 
 -- its block is told of

@@ -1,20 +1,20 @@
 -- What happens between the steps of rows leaves an entry as blank as it is, unless its block is left over; and what somebody has is blank still.
 use Rattle.std.specs.Prelude.{Option, Some, None, IsSome, Ok, Err, if◌then◌else◌, ◌==◌, bit_or}
 use Rattle.std.proofs.Common.{◌≡◌, ℕ, ◌+◌, ◌%◌, ◌^◌, Bool, true, false, List, ◌∷◌, refl, arith, ap, sym, subst, ◌∙◌, eqb-true}
-use Rattle.papaya_histories.specs.Given.SeizeWords.declared.at.At.{At}
-use Rattle.papaya_histories.specs.Given.SeizeWords.declared.at.At.TheVariants as name
-use Rattle.papaya_histories.specs.Given.SeizeWords.Op.{Op, Out, Load, Store, Swap, Add, Or, Exchange, Make, Take, Rewrite, Room, Found, Stored, Exchanged, Made, Taken, Roomed}
-use Rattle.papaya_histories.specs.Given.SeizeWords.Mem.{Mem, block_of, entry_in, word_at, with_word, Took, after}
-use Rattle.papaya_histories.specs.Given.Seize.declared.states.TheConstants.{NEXT, FIRST}
-use Rattle.papaya_histories.specs.Given.Seize.Sequence.{IsBetween}
-use Rattle.papaya_histories.specs.Given.Seize.WaitingSets.{is_one_of}
-use Rattle.papaya_histories.specs.Given.Seize.World.{World, Hand, NoBlock, Making, InUse, Parting, Cutting, Handed, LeftTo, MayCut, Event, Begin, Step, Makes, Drops, Links, Parts, Unlinks, Rewrites, Operates, Ends, LeavesOver, Relinks, Clears, Chooses, Happens, IsOwn, IsOwnOp, made_by, with_at, all_left_to}
-use Rattle.papaya_histories.proofs.Given.SeizeMoves.State.Ghost.{IsLeft}
-use Rattle.papaya_histories.proofs.Given.SeizeRule.Points.Aside.{HandFits}
-use Rattle.papaya_histories.proofs.Given.SeizeRule.Words.Named.{or_zero}
-use Rattle.papaya_histories.proofs.Given.SeizeRule.Words.Shows.{lives}
-use Rattle.papaya_histories.proofs.Given.SeizeRule.World.Events.{missing}
-use Rattle.papaya_histories.proofs.Given.SeizeAlone.Histories.Reached.{Reached}
+use Rattle.papaya_histories.specs.Given.SeizeWordsDeclared.at.At.{At}
+use Rattle.papaya_histories.specs.Given.SeizeWordsDeclared.at.At.TheVariants as name
+use Rattle.papaya_histories.specs.Given.SeizeWordsOp.{Op, Out, Load, Store, Swap, Add, Or, Exchange, Make, Take, Rewrite, Room, Found, Stored, Exchanged, Made, Taken, Roomed}
+use Rattle.papaya_histories.specs.Given.SeizeWordsMem.{Mem, block_of, entry_in, word_at, with_word, Took, after}
+use Rattle.papaya_histories.specs.Given.SeizeDeclared.states.TheConstants.{NEXT, FIRST}
+use Rattle.papaya_histories.specs.Given.SeizeSequence.{IsBetween}
+use Rattle.papaya_histories.specs.Given.SeizeWaitingSets.{is_one_of}
+use Rattle.papaya_histories.specs.Given.SeizeWorld.{World, Hand, NoBlock, Making, InUse, Parting, Cutting, Handed, LeftTo, MayCut, Event, Begin, Step, Makes, Drops, Links, Parts, Unlinks, Rewrites, Operates, Ends, LeavesOver, Relinks, Clears, Chooses, Happens, IsOwn, IsOwnOp, made_by, with_at, all_left_to}
+use Rattle.papaya_histories.proofs.Given.SeizeMovesState.Ghost.{IsLeft}
+use Rattle.papaya_histories.proofs.Given.SeizeRulePoints.Aside.{HandFits}
+use Rattle.papaya_histories.proofs.Given.SeizeRuleWords.Named.{or_zero}
+use Rattle.papaya_histories.proofs.Given.SeizeRuleWords.Shows.{lives}
+use Rattle.papaya_histories.proofs.Given.SeizeRuleWorld.Events.{missing}
+use Rattle.papaya_histories.proofs.Given.SeizeAloneHistories.Reached.{Reached}
 use Rattle.papaya_settles.specs.Entries.{IsSomebodys}
 use Rattle.papaya_settles.proofs.EntryOps.{IsApart, Zero, written, op_zero}
 

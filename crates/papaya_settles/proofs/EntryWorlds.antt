@@ -1,40 +1,40 @@
 -- What happens in a world leaves entries blank: of what somebody has, and of the one block that a row is to retire.
 use Rattle.std.specs.Prelude.{◌≡◌, ◌≢◌, ℕ, ◌+◌, ◌<◌, Bool, true, false, eqb, Option, length, List, [], ◌∷◌}
 use Rattle.std.proofs.Common.{eqb-true, refl, ap, sym, subst, ◌∙◌, arith, inl, inr}
-use Rattle.papaya_histories.specs.Given.SeizeWords.Mem.{Mem, Can, Took, value_at}
-use Rattle.papaya_histories.specs.Given.SeizeWords.Plan.{May, Steps}
-use Rattle.papaya_histories.specs.Given.SeizeWords.Word.{block_in, link_to}
-use Rattle.papaya_histories.specs.Given.SeizeWords.declared.at.At.TheVariants.{Entry}
-use Rattle.papaya_histories.specs.Given.Seize.declared.progress.Progress.{Progress}
-use Rattle.papaya_histories.specs.Given.Seize.declared.progress.Progress.TheVariants as progress
-use Rattle.papaya_histories.specs.Given.Seize.declared.rows.defer.Defer.{Defer}
-use Rattle.papaya_histories.specs.Given.Seize.declared.rows.register.Register.{Register}
-use Rattle.papaya_histories.specs.Given.Seize.declared.rows.settle.Settle.{Settle}
-use Rattle.papaya_histories.specs.Given.Seize.declared.rows.settle.Settled.{Settled}
-use Rattle.papaya_histories.specs.Given.Seize.declared.rows.settle.Settled.TheVariants as settled
-use Rattle.papaya_histories.specs.Given.Seize.declared.rows.settle.Settling.{Settling}
-use Rattle.papaya_histories.specs.Given.Seize.declared.rows.settle.Settling.TheVariants as at
-use Rattle.papaya_histories.specs.Given.Seize.declared.states.TheConstants.{NEXT, FIRST, LAST_SLOT}
-use Rattle.papaya_histories.specs.Given.Seize.Law.{Effect, Taken}
-use Rattle.papaya_histories.specs.Given.Seize.Sequence.{IsBetween}
-use Rattle.papaya_histories.specs.Given.Seize.Settle.{settle_plan, plan_at}
-use Rattle.papaya_histories.specs.Given.Seize.World.{World, Hand, NoBlock, Making, InUse, Parting, Cutting, Handed, LeftTo, Row, Rests, Registers, Enters, Settles, Leaves, Defers, Frees, Request, Register', Enter', Leave', LeaveOwned, Refresh, Unregister', Retire, Flush, Defer', Event, Happens, Begins, Steps', handed_by, with_at, settles_on, registers_on, defers_on}
-use Rattle.papaya_histories.proofs.Given.SeizeMoves.Moves.Tries.{first_pending}
-use Rattle.papaya_histories.proofs.Given.SeizeMoves.State.Ghost.{Life, IsPending, State}
-use Rattle.papaya_histories.proofs.Given.SeizeRule.Points.Aside.{HandFits}
-use Rattle.papaya_histories.proofs.Given.SeizeRule.Points.Known.{FitsAt, Rest, FirstsOf, bare}
-use Rattle.papaya_histories.proofs.Given.SeizeRule.Rows.Known.{FitsRow}
-use Rattle.papaya_histories.proofs.Given.SeizeRule.Rows.Others.{begins_others, steps_others}
-use Rattle.papaya_histories.proofs.Given.SeizeRule.Words.Chains.{Chain, waiting}
-use Rattle.papaya_histories.proofs.Given.SeizeRule.Words.Named.{link, link-block, word_found}
-use Rattle.papaya_histories.proofs.Given.SeizeRule.Words.Shows.{lives}
-use Rattle.papaya_histories.proofs.Given.SeizeRule.Words.There.{live_pos}
-use Rattle.papaya_histories.proofs.Given.SeizeRule.Words.View.{view}
-use Rattle.papaya_histories.proofs.Given.SeizeRule.World.Kept.{row_may}
-use Rattle.papaya_histories.proofs.Given.SeizeAlone.Histories.NotTaken.{did}
-use Rattle.papaya_histories.proofs.Given.SeizeAlone.Histories.Reached.{Reached}
-use Rattle.papaya_histories.proofs.Given.Rule.World.Hands.{at_cases}
-use Rattle.papaya_histories.specs.Given.Hands.Rows.{SettlesAside, ReclaimsNone}
+use Rattle.papaya_histories.specs.Given.SeizeWordsMem.{Mem, Can, Took, value_at}
+use Rattle.papaya_histories.specs.Given.SeizeWordsPlan.{May, Steps}
+use Rattle.papaya_histories.specs.Given.SeizeWordsWord.{block_in, link_to}
+use Rattle.papaya_histories.specs.Given.SeizeWordsDeclared.at.At.TheVariants.{Entry}
+use Rattle.papaya_histories.specs.Given.SeizeDeclared.progress.Progress.{Progress}
+use Rattle.papaya_histories.specs.Given.SeizeDeclared.progress.Progress.TheVariants as progress
+use Rattle.papaya_histories.specs.Given.SeizeDeclared.rows.defer.Defer.{Defer}
+use Rattle.papaya_histories.specs.Given.SeizeDeclared.rows.register.Register.{Register}
+use Rattle.papaya_histories.specs.Given.SeizeDeclared.rows.settle.Settle.{Settle}
+use Rattle.papaya_histories.specs.Given.SeizeDeclared.rows.settle.Settled.{Settled}
+use Rattle.papaya_histories.specs.Given.SeizeDeclared.rows.settle.Settled.TheVariants as settled
+use Rattle.papaya_histories.specs.Given.SeizeDeclared.rows.settle.Settling.{Settling}
+use Rattle.papaya_histories.specs.Given.SeizeDeclared.rows.settle.Settling.TheVariants as at
+use Rattle.papaya_histories.specs.Given.SeizeDeclared.states.TheConstants.{NEXT, FIRST, LAST_SLOT}
+use Rattle.papaya_histories.specs.Given.SeizeLaw.{Effect, Taken}
+use Rattle.papaya_histories.specs.Given.SeizeSequence.{IsBetween}
+use Rattle.papaya_histories.specs.Given.SeizeSettle.{settle_plan, plan_at}
+use Rattle.papaya_histories.specs.Given.SeizeWorld.{World, Hand, NoBlock, Making, InUse, Parting, Cutting, Handed, LeftTo, Row, Rests, Registers, Enters, Settles, Leaves, Defers, Frees, Request, Register', Enter', Leave', LeaveOwned, Refresh, Unregister', Retire, Flush, Defer', Event, Happens, Begins, Steps', handed_by, with_at, settles_on, registers_on, defers_on}
+use Rattle.papaya_histories.proofs.Given.SeizeMovesMoves.Tries.{first_pending}
+use Rattle.papaya_histories.proofs.Given.SeizeMovesState.Ghost.{Life, IsPending, State}
+use Rattle.papaya_histories.proofs.Given.SeizeRulePoints.Aside.{HandFits}
+use Rattle.papaya_histories.proofs.Given.SeizeRulePoints.Known.{FitsAt, Rest, FirstsOf, bare}
+use Rattle.papaya_histories.proofs.Given.SeizeRuleRows.Known.{FitsRow}
+use Rattle.papaya_histories.proofs.Given.SeizeRuleRows.Others.{begins_others, steps_others}
+use Rattle.papaya_histories.proofs.Given.SeizeRuleWords.Chains.{Chain, waiting}
+use Rattle.papaya_histories.proofs.Given.SeizeRuleWords.Named.{link, link-block, word_found}
+use Rattle.papaya_histories.proofs.Given.SeizeRuleWords.Shows.{lives}
+use Rattle.papaya_histories.proofs.Given.SeizeRuleWords.There.{live_pos}
+use Rattle.papaya_histories.proofs.Given.SeizeRuleWords.View.{view}
+use Rattle.papaya_histories.proofs.Given.SeizeRuleWorld.Kept.{row_may}
+use Rattle.papaya_histories.proofs.Given.SeizeAloneHistories.NotTaken.{did}
+use Rattle.papaya_histories.proofs.Given.SeizeAloneHistories.Reached.{Reached}
+use Rattle.papaya_histories.proofs.Given.RuleWorld.Hands.{at_cases}
+use Rattle.papaya_histories.specs.Given.HandsRows.{SettlesAside, ReclaimsNone}
 use Rattle.papaya_settles.specs.Entries.{IsSomebodys, OneAt, RetiresOne}
 use Rattle.papaya_settles.proofs.EntryOps.{IsPlanApart, plan_zero}
 use Rattle.papaya_settles.proofs.EntryRows.{IsSpared, named, row_keeps_zero}

@@ -1,57 +1,57 @@
 -- A call on one key that has not changed its map yet goes on to count, or to dispose of a pair in the place of another one, or it has changed nothing.
 use Rattle.std.specs.Prelude.{◌==◌, Option, Some, None, Ok, Err, if◌then◌else◌}
 use Rattle.std.proofs.Common.{◌≡◌, ℕ, Bool, true, false, refl}
-use Rattle.papaya_histories.specs.Given.SeizeWords.Mem.{Mem, Took, value_at}
-use Rattle.papaya_histories.specs.Given.SeizeWords.Op.{Out, Found, Stored, Exchanged, Made, Taken, Roomed}
-use Rattle.papaya_histories.specs.Given.SeizeWords.Plan.{Steps}
-use Rattle.papaya_histories.specs.Given.SeizeWords.Word.{block_in}
-use Rattle.papaya_histories.specs.Given.Seize.declared.progress.Progress.{Progress}
-use Rattle.papaya_histories.specs.Given.Seize.declared.progress.Progress.TheVariants as progress
-use Rattle.papaya_histories.specs.Given.Tables.Chunks.{is_incremental}
-use Rattle.papaya_histories.specs.Given.Tables.Finding.{may_name}
-use Rattle.papaya_histories.specs.Given.Tables.Trials.{next_trial, with_met}
-use Rattle.papaya_histories.specs.Given.Tables.declared.finding.Finding.{Finding}
-use Rattle.papaya_histories.specs.Given.Tables.declared.finding.Finding.TheVariants as finds
-use Rattle.papaya_histories.specs.Given.Tables.declared.marks.TheConstants.{TOMBSTONE}
-use Rattle.papaya_histories.specs.Given.Tables.declared.node.Node.{Node}
-use Rattle.papaya_histories.specs.Given.Tables.declared.node.Node.TheVariants as node
-use Rattle.papaya_histories.specs.Given.Tables.declared.setting.Setting.{Setting}
-use Rattle.papaya_histories.specs.Given.Tables.declared.table.Table.{Table}
-use Rattle.papaya_histories.specs.Given.Resize.Dispose.{disposing}
-use Rattle.papaya_histories.specs.Given.Resize.declared.dispose.Dispose.{Dispose}
-use Rattle.papaya_histories.specs.Given.Resize.Copier.{copier_plan}
-use Rattle.papaya_histories.specs.Given.Resize.CopierStates.{copying_all}
-use Rattle.papaya_histories.specs.Given.Resize.Lookup.{lookup_plan}
-use Rattle.papaya_histories.specs.Given.Resize.NewTable.{new_table_plan}
-use Rattle.papaya_histories.specs.Given.Resize.declared.copier.Copier.{Copier}
-use Rattle.papaya_histories.specs.Given.Resize.declared.lookup.Lookup.{Lookup}
-use Rattle.papaya_histories.specs.Given.Resize.declared.new_table.NewTable.{NewTable}
-use Rattle.papaya_histories.specs.Given.Resize.declared.outcome.Outcome.{Outcome}
-use Rattle.papaya_histories.specs.Given.Resize.declared.outcome.Outcome.TheVariants as outcome
-use Rattle.papaya_histories.specs.Given.Raw.Call.{made, makes_of, root_found, next_found, dropped, key_read, pair_read, word_read, word_found, tried, looked, looks_for, first_made, next_made, helped, copied, plan_at, call_plan}
-use Rattle.papaya_histories.specs.Given.Raw.CallFills.{filled, putting_by, fill_by, emptied, fills_with, given_up}
-use Rattle.papaya_histories.specs.Given.Raw.CallPoints.{going, over, ending, storing, burying, at_gap, gap_by, asking_at, pair_by, tableless, at_free, at_last, at_pair, told_of, entering, went_on, changed, having_met}
-use Rattle.papaya_histories.specs.Given.Raw.Replies.{value_for, as_own}
-use Rattle.papaya_histories.specs.Given.Raw.declared.machines.answer.Called.{Called}
-use Rattle.papaya_histories.specs.Given.Raw.declared.machines.answer.Called.TheVariants as called
-use Rattle.papaya_histories.specs.Given.Raw.declared.machines.answer.End.{End}
-use Rattle.papaya_histories.specs.Given.Raw.declared.machines.answer.End.TheVariants as ends
-use Rattle.papaya_histories.specs.Given.Raw.declared.machines.answer.KeyAnswer.{KeyAnswer}
-use Rattle.papaya_histories.specs.Given.Raw.declared.machines.answer.KeyAnswer.TheVariants as answers
-use Rattle.papaya_histories.specs.Given.Raw.declared.machines.answer.Missing.{Missing}
-use Rattle.papaya_histories.specs.Given.Raw.declared.machines.answer.Missing.TheVariants as missing
-use Rattle.papaya_histories.specs.Given.Raw.declared.machines.answer.There.{There}
-use Rattle.papaya_histories.specs.Given.Raw.declared.machines.answer.There.TheVariants as there
-use Rattle.papaya_histories.specs.Given.Raw.declared.machines.asking.Asking.TheVariants as asking
-use Rattle.papaya_histories.specs.Given.Raw.declared.machines.asking.Gap.{Gap}
-use Rattle.papaya_histories.specs.Given.Raw.declared.machines.asking.Gap.TheVariants as gaps
-use Rattle.papaya_histories.specs.Given.Raw.declared.machines.asking.Told.{Told}
-use Rattle.papaya_histories.specs.Given.Raw.declared.machines.asking.Told.TheVariants as tells
-use Rattle.papaya_histories.specs.Given.Raw.declared.machines.call.Calling.{Calling}
-use Rattle.papaya_histories.specs.Given.Raw.declared.machines.call.Calling.TheVariants as at
-use Rattle.papaya_histories.specs.Given.Raw.declared.machines.call.KeyCall.{KeyCall}
-use Rattle.papaya_histories.proofs.Given.Points.Calls.Asked.{passed_so}
-use Rattle.papaya_histories.proofs.Given.Rule.Keys.Always.{Always, AlwaysOf, always_if, always_plan_as, always_steps}
+use Rattle.papaya_histories.specs.Given.SeizeWordsMem.{Mem, Took, value_at}
+use Rattle.papaya_histories.specs.Given.SeizeWordsOp.{Out, Found, Stored, Exchanged, Made, Taken, Roomed}
+use Rattle.papaya_histories.specs.Given.SeizeWordsPlan.{Steps}
+use Rattle.papaya_histories.specs.Given.SeizeWordsWord.{block_in}
+use Rattle.papaya_histories.specs.Given.SeizeDeclared.progress.Progress.{Progress}
+use Rattle.papaya_histories.specs.Given.SeizeDeclared.progress.Progress.TheVariants as progress
+use Rattle.papaya_histories.specs.Given.TablesChunks.{is_incremental}
+use Rattle.papaya_histories.specs.Given.TablesFinding.{may_name}
+use Rattle.papaya_histories.specs.Given.TablesTrials.{next_trial, with_met}
+use Rattle.papaya_histories.specs.Given.TablesDeclared.finding.Finding.{Finding}
+use Rattle.papaya_histories.specs.Given.TablesDeclared.finding.Finding.TheVariants as finds
+use Rattle.papaya_histories.specs.Given.TablesDeclared.marks.TheConstants.{TOMBSTONE}
+use Rattle.papaya_histories.specs.Given.TablesDeclared.node.Node.{Node}
+use Rattle.papaya_histories.specs.Given.TablesDeclared.node.Node.TheVariants as node
+use Rattle.papaya_histories.specs.Given.TablesDeclared.setting.Setting.{Setting}
+use Rattle.papaya_histories.specs.Given.TablesDeclared.table.Table.{Table}
+use Rattle.papaya_histories.specs.Given.ResizeDispose.{disposing}
+use Rattle.papaya_histories.specs.Given.ResizeDeclared.dispose.Dispose.{Dispose}
+use Rattle.papaya_histories.specs.Given.ResizeCopier.{copier_plan}
+use Rattle.papaya_histories.specs.Given.ResizeCopierStates.{copying_all}
+use Rattle.papaya_histories.specs.Given.ResizeLookup.{lookup_plan}
+use Rattle.papaya_histories.specs.Given.ResizeNewTable.{new_table_plan}
+use Rattle.papaya_histories.specs.Given.ResizeDeclared.copier.Copier.{Copier}
+use Rattle.papaya_histories.specs.Given.ResizeDeclared.lookup.Lookup.{Lookup}
+use Rattle.papaya_histories.specs.Given.ResizeDeclared.new_table.NewTable.{NewTable}
+use Rattle.papaya_histories.specs.Given.ResizeDeclared.outcome.Outcome.{Outcome}
+use Rattle.papaya_histories.specs.Given.ResizeDeclared.outcome.Outcome.TheVariants as outcome
+use Rattle.papaya_histories.specs.Given.RawCall.{made, makes_of, root_found, next_found, dropped, key_read, pair_read, word_read, word_found, tried, looked, looks_for, first_made, next_made, helped, copied, plan_at, call_plan}
+use Rattle.papaya_histories.specs.Given.RawCallFills.{filled, putting_by, fill_by, emptied, fills_with, given_up}
+use Rattle.papaya_histories.specs.Given.RawCallPoints.{going, over, ending, storing, burying, at_gap, gap_by, asking_at, pair_by, tableless, at_free, at_last, at_pair, told_of, entering, went_on, changed, having_met}
+use Rattle.papaya_histories.specs.Given.RawReplies.{value_for, as_own}
+use Rattle.papaya_histories.specs.Given.RawDeclared.machines.answer.Called.{Called}
+use Rattle.papaya_histories.specs.Given.RawDeclared.machines.answer.Called.TheVariants as called
+use Rattle.papaya_histories.specs.Given.RawDeclared.machines.answer.End.{End}
+use Rattle.papaya_histories.specs.Given.RawDeclared.machines.answer.End.TheVariants as ends
+use Rattle.papaya_histories.specs.Given.RawDeclared.machines.answer.KeyAnswer.{KeyAnswer}
+use Rattle.papaya_histories.specs.Given.RawDeclared.machines.answer.KeyAnswer.TheVariants as answers
+use Rattle.papaya_histories.specs.Given.RawDeclared.machines.answer.Missing.{Missing}
+use Rattle.papaya_histories.specs.Given.RawDeclared.machines.answer.Missing.TheVariants as missing
+use Rattle.papaya_histories.specs.Given.RawDeclared.machines.answer.There.{There}
+use Rattle.papaya_histories.specs.Given.RawDeclared.machines.answer.There.TheVariants as there
+use Rattle.papaya_histories.specs.Given.RawDeclared.machines.asking.Asking.TheVariants as asking
+use Rattle.papaya_histories.specs.Given.RawDeclared.machines.asking.Gap.{Gap}
+use Rattle.papaya_histories.specs.Given.RawDeclared.machines.asking.Gap.TheVariants as gaps
+use Rattle.papaya_histories.specs.Given.RawDeclared.machines.asking.Told.{Told}
+use Rattle.papaya_histories.specs.Given.RawDeclared.machines.asking.Told.TheVariants as tells
+use Rattle.papaya_histories.specs.Given.RawDeclared.machines.call.Calling.{Calling}
+use Rattle.papaya_histories.specs.Given.RawDeclared.machines.call.Calling.TheVariants as at
+use Rattle.papaya_histories.specs.Given.RawDeclared.machines.call.KeyCall.{KeyCall}
+use Rattle.papaya_histories.proofs.Given.PointsCalls.Asked.{passed_so}
+use Rattle.papaya_histories.proofs.Given.RuleKeys.Always.{Always, AlwaysOf, always_if, always_plan_as, always_steps}
 use Rattle.papaya_settles.specs.Counts.{counts_in_calling}
 
 -- it has neither counted, nor begun to dispose of a pair, nor ended

@@ -1,18 +1,18 @@
 -- What effects find of what a call has to count, and what it has to count after them.
 use Rattle.std.specs.Prelude.{◌≡◌, ◌<◌, ◌+◌, ℕ, Bool, true, false, List, [], ◌∷◌, flat_map, length, Option, Some, None, if◌then◌else◌}
 use Rattle.std.proofs.Common.{refl, ap, sym, subst, ◌∙◌, arith}
-use Rattle.papaya_histories.specs.Given.Runs.Same.{is_same}
-use Rattle.papaya_histories.specs.Given.Schedules.declared.call.Call.{Call}
-use Rattle.papaya_histories.specs.Given.Schedules.declared.call.Call.TheVariants as call
-use Rattle.papaya_histories.specs.Given.Schedules.declared.effect.Effect.{Effect}
-use Rattle.papaya_histories.specs.Given.Schedules.declared.effect.Effect.TheVariants as effect
-use Rattle.papaya_histories.specs.Given.Schedules.declared.effect.Spot.{Spot}
-use Rattle.papaya_histories.specs.Given.Schedules.Effects.{gain, due_for, call_by, with_effect, with_effects}
-use Rattle.papaya_histories.specs.Given.Schedules.Entry.{ByCall}
-use Rattle.papaya_histories.specs.Given.Schedules.Linearizable.{shift_of}
-use Rattle.papaya_histories.specs.Given.Schedules.Moment.{UnderWay as CallThere, Moment}
-use Rattle.papaya_histories.specs.Given.Schedules.Views.{call_of}
-use Rattle.papaya_histories.proofs.Given.Follows.Calls.{changed_same, found}
+use Rattle.papaya_histories.specs.Given.RunsSame.{is_same}
+use Rattle.papaya_histories.specs.Given.SchedulesDeclared.call.Call.{Call}
+use Rattle.papaya_histories.specs.Given.SchedulesDeclared.call.Call.TheVariants as call
+use Rattle.papaya_histories.specs.Given.SchedulesDeclared.effect.Effect.{Effect}
+use Rattle.papaya_histories.specs.Given.SchedulesDeclared.effect.Effect.TheVariants as effect
+use Rattle.papaya_histories.specs.Given.SchedulesDeclared.effect.Spot.{Spot}
+use Rattle.papaya_histories.specs.Given.SchedulesEffects.{gain, due_for, call_by, with_effect, with_effects}
+use Rattle.papaya_histories.specs.Given.SchedulesEntry.{ByCall}
+use Rattle.papaya_histories.specs.Given.SchedulesLinearizable.{shift_of}
+use Rattle.papaya_histories.specs.Given.SchedulesMoment.{UnderWay as CallThere, Moment}
+use Rattle.papaya_histories.specs.Given.SchedulesViews.{call_of}
+use Rattle.papaya_histories.proofs.Given.FollowsCalls.{changed_same, found}
 use Rattle.papaya_histories.proofs.Changes.{acted_on}
 use Rattle.papaya_histories.proofs.Dues.{none_of}
 use Rattle.papaya_settles.specs.Counts.{HasToCount, FindsCount, FindCounts}

@@ -1,49 +1,49 @@
 -- Each call whose row is under way hands something over: after each step of a call, as others take steps, and where a call begins, is told a reply, or has come to an outcome.
 use Rattle.std.specs.Prelude.{◌≡◌, ◌≢◌, ◌+◌, ◌++◌, ◌||◌, ℕ, Bool, true, false, cond, not, List, [], ◌∷◌, find, length, map, Option, Some, None, if◌then◌else◌}
 use Rattle.std.proofs.Common.{refl, ap, sym, subst, ◌∙◌, inl, inr}
-use Rattle.papaya_histories.specs.Given.Seize.World.{World, Row, Rests, Event, Runs}
-use Rattle.papaya_histories.specs.Given.Tables.Nodes.{deferred_word}
-use Rattle.papaya_histories.specs.Given.Tables.declared.node.Node.{Node}
-use Rattle.papaya_histories.specs.Given.Runs.Same.{is_same}
-use Rattle.papaya_histories.specs.Given.Raw.declared.machines.progress.Progress.{Progress}
-use Rattle.papaya_histories.specs.Given.Schedules.declared.call.Reply.{Reply}
-use Rattle.papaya_histories.specs.Given.Schedules.declared.effect.Effect.{Effect}
-use Rattle.papaya_histories.specs.Given.Schedules.declared.effect.Effect.TheVariants as effect
-use Rattle.papaya_histories.specs.Given.Schedules.declared.effect.Thing.{Thing}
-use Rattle.papaya_histories.specs.Given.Schedules.declared.outcome.Outcome.{Outcome}
-use Rattle.papaya_histories.specs.Given.Schedules.declared.outcome.Outcome.TheVariants as outcome
-use Rattle.papaya_histories.specs.Given.Schedules.After.{asks_on, comes_to, replied, without_call}
-use Rattle.papaya_histories.specs.Given.Schedules.Beginning.{fresh_call}
-use Rattle.papaya_histories.specs.Given.Schedules.Effects.{call_by, due_for, out_by, with_effect, with_effects}
-use Rattle.papaya_histories.specs.Given.Schedules.Entry.{ends_call}
-use Rattle.papaya_histories.specs.Given.Schedules.InUse.{is_handing}
-use Rattle.papaya_histories.specs.Given.Schedules.Lists.{is_empty}
-use Rattle.papaya_histories.specs.Given.Schedules.Moment.{Stands, Going, Asking, Told as WasTold, IsReady, UnderWay as CallThere, Moment}
-use Rattle.papaya_histories.specs.Given.Schedules.Views.{call_of}
-use Rattle.papaya_histories.specs.Given.Rule.InWorld.{AllUsers}
-use Rattle.papaya_histories.specs.Given.Callers.Together.{UnderWay, OnKey, ForRoom, Counting, OverAll}
-use Rattle.papaya_histories.proofs.Given.Callers.Together.Users.{events_rows}
-use Rattle.papaya_histories.specs.Given.Effects.Effects.{effects_of}
-use Rattle.papaya_histories.specs.Given.Effects.Known.{Known}
-use Rattle.papaya_histories.specs.Given.Effects.declared.acting.Acting.TheVariants as acts
-use Rattle.papaya_histories.specs.Given.Follows.Calls.{IsCalled, ShowsCalls}
-use Rattle.papaya_histories.specs.Given.Follows.Shows.{Shows}
-use Rattle.papaya_histories.proofs.Given.Follows.Calling.{apart_back, found_kept, come, come_of_same, replied_same}
-use Rattle.papaya_histories.proofs.Given.Follows.Calls.{IsOfSame, changed, found}
-use Rattle.papaya_histories.proofs.Given.Follows.Steps.{DidSo, WentTo, one_of, went_to}
-use Rattle.papaya_histories.proofs.Given.Hands.Asking.{which}
-use Rattle.papaya_histories.proofs.Given.Hands.Calling.{caller_is}
+use Rattle.papaya_histories.specs.Given.SeizeWorld.{World, Row, Rests, Event, Runs}
+use Rattle.papaya_histories.specs.Given.TablesNodes.{deferred_word}
+use Rattle.papaya_histories.specs.Given.TablesDeclared.node.Node.{Node}
+use Rattle.papaya_histories.specs.Given.RunsSame.{is_same}
+use Rattle.papaya_histories.specs.Given.RawDeclared.machines.progress.Progress.{Progress}
+use Rattle.papaya_histories.specs.Given.SchedulesDeclared.call.Reply.{Reply}
+use Rattle.papaya_histories.specs.Given.SchedulesDeclared.effect.Effect.{Effect}
+use Rattle.papaya_histories.specs.Given.SchedulesDeclared.effect.Effect.TheVariants as effect
+use Rattle.papaya_histories.specs.Given.SchedulesDeclared.effect.Thing.{Thing}
+use Rattle.papaya_histories.specs.Given.SchedulesDeclared.outcome.Outcome.{Outcome}
+use Rattle.papaya_histories.specs.Given.SchedulesDeclared.outcome.Outcome.TheVariants as outcome
+use Rattle.papaya_histories.specs.Given.SchedulesAfter.{asks_on, comes_to, replied, without_call}
+use Rattle.papaya_histories.specs.Given.SchedulesBeginning.{fresh_call}
+use Rattle.papaya_histories.specs.Given.SchedulesEffects.{call_by, due_for, out_by, with_effect, with_effects}
+use Rattle.papaya_histories.specs.Given.SchedulesEntry.{ends_call}
+use Rattle.papaya_histories.specs.Given.SchedulesInUse.{is_handing}
+use Rattle.papaya_histories.specs.Given.SchedulesLists.{is_empty}
+use Rattle.papaya_histories.specs.Given.SchedulesMoment.{Stands, Going, Asking, Told as WasTold, IsReady, UnderWay as CallThere, Moment}
+use Rattle.papaya_histories.specs.Given.SchedulesViews.{call_of}
+use Rattle.papaya_histories.specs.Given.RuleInWorld.{AllUsers}
+use Rattle.papaya_histories.specs.Given.CallersTogether.{UnderWay, OnKey, ForRoom, Counting, OverAll}
+use Rattle.papaya_histories.proofs.Given.CallersTogether.Users.{events_rows}
+use Rattle.papaya_histories.specs.Given.EffectsEffects.{effects_of}
+use Rattle.papaya_histories.specs.Given.EffectsKnown.{Known}
+use Rattle.papaya_histories.specs.Given.EffectsDeclared.acting.Acting.TheVariants as acts
+use Rattle.papaya_histories.specs.Given.FollowsCalls.{IsCalled, ShowsCalls}
+use Rattle.papaya_histories.specs.Given.FollowsShows.{Shows}
+use Rattle.papaya_histories.proofs.Given.FollowsCalling.{apart_back, found_kept, come, come_of_same, replied_same}
+use Rattle.papaya_histories.proofs.Given.FollowsCalls.{IsOfSame, changed, found}
+use Rattle.papaya_histories.proofs.Given.FollowsSteps.{DidSo, WentTo, one_of, went_to}
+use Rattle.papaya_histories.proofs.Given.HandsAsking.{which}
+use Rattle.papaya_histories.proofs.Given.HandsCalling.{caller_is}
 use Rattle.papaya_histories.proofs.Changes.{acted_on}
-use Rattle.papaya_histories.specs.Given.Moments.Whole.{ShowsWhole}
-use Rattle.papaya_histories.specs.Given.Others.Walks.{given_up}
+use Rattle.papaya_histories.specs.Given.MomentsWhole.{ShowsWhole}
+use Rattle.papaya_histories.specs.Given.OthersWalks.{given_up}
 use Rattle.papaya_settles.specs.Hand.{ShowsOwed}
 use Rattle.papaya_settles.specs.Handing.{HandsTold, CallsBeginHanding, CallsComeToHanding, CallsKeepHanding, CallsTakeHanding, HandingBegins, OthersLeaveHanding, WalksGoOnHanding, WalksStopHanding}
 use Rattle.papaya_settles.proofs.Gains.{others_stay}
 use Rattle.papaya_settles.proofs.HandingRows.{IsInRow, is_in_row, row_hands}
 use Rattle.papaya_settles.proofs.Owing.{due_owes}
-use Rattle.papaya_histories.specs.Given.Scenes.Held.{Held, IsAt}
-use Rattle.papaya_histories.specs.Given.Scenes.Scene.{Scene}
-use Rattle.papaya_histories.specs.Given.Scenes.Stepping.{StepLeads, scene_after}
+use Rattle.papaya_histories.specs.Given.ScenesHeld.{Held, IsAt}
+use Rattle.papaya_histories.specs.Given.ScenesScene.{Scene}
+use Rattle.papaya_histories.specs.Given.ScenesStepping.{StepLeads, scene_after}
 
 -- A call that hands something over does so after whatever effects of it.
 abbrev hands : List Thing → Bool → Bool

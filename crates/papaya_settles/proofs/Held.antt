@@ -1,48 +1,48 @@
 -- A call on one key that has a pair in hand has it still after a step that is none of a row.
 use Rattle.std.specs.Prelude.{◌≡◌, ℕ, ◌==◌, nat_lt, Bool, true, false, Option, Some, None, if◌then◌else◌}
 use Rattle.std.proofs.Common.{refl, ap, subst, ◌∙◌, inl, inr}
-use Rattle.papaya_histories.specs.Given.SeizeWords.Op.{Out, Found}
-use Rattle.papaya_histories.specs.Given.SeizeWords.Plan.{Plan, Then, Turn, Do, Now, Seeing, Sure, then_as, plan_as}
-use Rattle.papaya_histories.specs.Given.SeizeWords.Word.{block_in}
-use Rattle.papaya_histories.specs.Given.Seize.declared.rows.settle.Settled.{Settled}
-use Rattle.papaya_histories.specs.Given.Seize.declared.rows.settle.Settled.TheVariants as settled
-use Rattle.papaya_histories.proofs.Given.SeizeRule.Words.Named.{link-block}
-use Rattle.papaya_histories.specs.Given.Tables.Marks.{link_in}
-use Rattle.papaya_histories.specs.Given.Tables.Nodes.{table_seen}
-use Rattle.papaya_histories.specs.Given.Tables.declared.node.Node.{Node}
-use Rattle.papaya_histories.specs.Given.Tables.declared.table.Table.{Table}
-use Rattle.papaya_histories.specs.Given.Resize.Dispose.{dispose_plan, disposing}
-use Rattle.papaya_histories.specs.Given.Resize.Dispose as disposes
-use Rattle.papaya_histories.specs.Given.Resize.declared.dispose.Dispose.{Dispose}
-use Rattle.papaya_histories.specs.Given.Resize.declared.dispose.Disposing.{Disposing}
-use Rattle.papaya_histories.specs.Given.Resize.declared.dispose.Disposing.TheVariants as disposal
-use Rattle.papaya_histories.specs.Given.Sweeps.Sweep.{sweep_plan}
-use Rattle.papaya_histories.specs.Given.Sweeps.Sweep as sweeps
-use Rattle.papaya_histories.specs.Given.Sweeps.declared.sweep.Sweep.{Sweep}
-use Rattle.papaya_histories.specs.Given.Sweeps.declared.sweep.Sweeping.{Sweeping}
-use Rattle.papaya_histories.specs.Given.Sweeps.declared.sweep.Sweeping.TheVariants as sweeping
-use Rattle.papaya_histories.specs.Given.Sweeps.declared.sweep.Swept.{Swept}
-use Rattle.papaya_histories.specs.Given.Raw.Call.{call_plan, plan_at, disposed}
-use Rattle.papaya_histories.specs.Given.Raw.CallPoints.{counted, going, over}
-use Rattle.papaya_histories.specs.Given.Raw.declared.machines.answer.Called.{Called}
-use Rattle.papaya_histories.specs.Given.Raw.declared.machines.answer.End.TheVariants as ends
-use Rattle.papaya_histories.specs.Given.Raw.declared.machines.answer.KeyAnswer.{KeyAnswer}
-use Rattle.papaya_histories.specs.Given.Raw.declared.machines.answer.KeyAnswer.TheVariants as answers
-use Rattle.papaya_histories.specs.Given.Raw.declared.machines.call.Calling.{Calling}
-use Rattle.papaya_histories.specs.Given.Raw.declared.machines.call.Calling.TheVariants as at
-use Rattle.papaya_histories.specs.Given.Raw.declared.machines.call.KeyCall.{KeyCall}
-use Rattle.papaya_histories.specs.Given.Raw.declared.machines.machine.Machine.TheVariants as kinds
-use Rattle.papaya_histories.specs.Given.Teller.declared.changed.Changed.TheVariants as changed
-use Rattle.papaya_histories.proofs.Given.Rule.Keys.Always.{Always, AlwaysOf, always_if, always_steps}
-use Rattle.papaya_histories.specs.Given.Points.Told.{IsRowOf, IsRowOfCall}
-use Rattle.papaya_histories.specs.Given.Late.ToldSweeps.{IsRowOfSweep}
-use Rattle.papaya_histories.specs.Given.Callers.Together.{OnKey, OverAll}
-use Rattle.papaya_histories.proofs.Given.Follows.Steps.{went_to, DidSo, OfNoRow}
+use Rattle.papaya_histories.specs.Given.SeizeWordsOp.{Out, Found}
+use Rattle.papaya_histories.specs.Given.SeizeWordsPlan.{Plan, Then, Turn, Do, Now, Seeing, Sure, then_as, plan_as}
+use Rattle.papaya_histories.specs.Given.SeizeWordsWord.{block_in}
+use Rattle.papaya_histories.specs.Given.SeizeDeclared.rows.settle.Settled.{Settled}
+use Rattle.papaya_histories.specs.Given.SeizeDeclared.rows.settle.Settled.TheVariants as settled
+use Rattle.papaya_histories.proofs.Given.SeizeRuleWords.Named.{link-block}
+use Rattle.papaya_histories.specs.Given.TablesMarks.{link_in}
+use Rattle.papaya_histories.specs.Given.TablesNodes.{table_seen}
+use Rattle.papaya_histories.specs.Given.TablesDeclared.node.Node.{Node}
+use Rattle.papaya_histories.specs.Given.TablesDeclared.table.Table.{Table}
+use Rattle.papaya_histories.specs.Given.ResizeDispose.{dispose_plan, disposing}
+use Rattle.papaya_histories.specs.Given.ResizeDispose as disposes
+use Rattle.papaya_histories.specs.Given.ResizeDeclared.dispose.Dispose.{Dispose}
+use Rattle.papaya_histories.specs.Given.ResizeDeclared.dispose.Disposing.{Disposing}
+use Rattle.papaya_histories.specs.Given.ResizeDeclared.dispose.Disposing.TheVariants as disposal
+use Rattle.papaya_histories.specs.Given.SweepsSweep.{sweep_plan}
+use Rattle.papaya_histories.specs.Given.SweepsSweep as sweeps
+use Rattle.papaya_histories.specs.Given.SweepsDeclared.sweep.Sweep.{Sweep}
+use Rattle.papaya_histories.specs.Given.SweepsDeclared.sweep.Sweeping.{Sweeping}
+use Rattle.papaya_histories.specs.Given.SweepsDeclared.sweep.Sweeping.TheVariants as sweeping
+use Rattle.papaya_histories.specs.Given.SweepsDeclared.sweep.Swept.{Swept}
+use Rattle.papaya_histories.specs.Given.RawCall.{call_plan, plan_at, disposed}
+use Rattle.papaya_histories.specs.Given.RawCallPoints.{counted, going, over}
+use Rattle.papaya_histories.specs.Given.RawDeclared.machines.answer.Called.{Called}
+use Rattle.papaya_histories.specs.Given.RawDeclared.machines.answer.End.TheVariants as ends
+use Rattle.papaya_histories.specs.Given.RawDeclared.machines.answer.KeyAnswer.{KeyAnswer}
+use Rattle.papaya_histories.specs.Given.RawDeclared.machines.answer.KeyAnswer.TheVariants as answers
+use Rattle.papaya_histories.specs.Given.RawDeclared.machines.call.Calling.{Calling}
+use Rattle.papaya_histories.specs.Given.RawDeclared.machines.call.Calling.TheVariants as at
+use Rattle.papaya_histories.specs.Given.RawDeclared.machines.call.KeyCall.{KeyCall}
+use Rattle.papaya_histories.specs.Given.RawDeclared.machines.machine.Machine.TheVariants as kinds
+use Rattle.papaya_histories.specs.Given.TellerDeclared.changed.Changed.TheVariants as changed
+use Rattle.papaya_histories.proofs.Given.RuleKeys.Always.{Always, AlwaysOf, always_if, always_steps}
+use Rattle.papaya_histories.specs.Given.PointsTold.{IsRowOf, IsRowOfCall}
+use Rattle.papaya_histories.specs.Given.LateToldSweeps.{IsRowOfSweep}
+use Rattle.papaya_histories.specs.Given.CallersTogether.{OnKey, OverAll}
+use Rattle.papaya_histories.proofs.Given.FollowsSteps.{went_to, DidSo, OfNoRow}
 use Rattle.papaya_settles.specs.InHand.{pair_in_disposing, pair_in_calling, pair_in_sweeping, CallsHoldTheirs, SweepsTakeInHand, SweepsHoldTheirs}
 use Rattle.papaya_settles.proofs.Keys.{steps}
 use Rattle.papaya_settles.proofs.Rest.{sweep_takes, steps as sweep_steps}
 use Rattle.papaya_settles.proofs.Taken.{disposal_word}
-use Rattle.papaya_histories.proofs.Given.Scenes.Told.{as_step}
+use Rattle.papaya_histories.proofs.Given.ScenesTold.{as_step}
 
 -- what is always so of a step is so as a step of its own
 module _ {T A B : Type 0} (Q : A → Type 0) (P : B → Type 0) (f : A → B) (turn : (a : A) → Q a → P (f a)) where

@@ -1,49 +1,49 @@
 -- Where a call takes a step: what it may write of users' words is no map's count, unless it stands where it counts.
 use Rattle.std.specs.Prelude.{◌≡◌, ◌≢◌, ◌<◌, ◌+◌, ℕ, Bool, true, List, Option, Some, None}
 use Rattle.std.proofs.Common.{ap, sym, subst, inl, inr}
-use Rattle.papaya_histories.specs.Given.SeizeWords.Mem.{value_at}
-use Rattle.papaya_histories.specs.Given.Seize.World.{World, Defers, IsInside}
-use Rattle.papaya_histories.specs.Given.Seize.declared.rows.defer.Defer.{Defer}
-use Rattle.papaya_histories.specs.Given.Seize.declared.rows.defer.Deferring.{Deferring}
-use Rattle.papaya_histories.specs.Given.Seize.declared.rows.defer.Deferring.TheVariants as deferring
-use Rattle.papaya_histories.specs.Given.Seize.declared.states.TheConstants.{LAST_SLOT}
-use Rattle.papaya_histories.proofs.Given.SeizeAlone.Histories.Reached.{Reached}
-use Rattle.papaya_histories.proofs.Given.SeizeRule.Rows.Known.{FitsDefer, FitsRow}
-use Rattle.papaya_histories.proofs.Given.SeizeRule.Words.View.{View, view}
-use Rattle.papaya_histories.specs.Given.Tables.Nodes.{deferred_word}
-use Rattle.papaya_histories.specs.Given.Tables.declared.node.Node.{Node}
-use Rattle.papaya_histories.specs.Given.Tables.declared.node.Node.TheVariants as node
-use Rattle.papaya_histories.specs.Given.Resize.declared.copier.Copier.{Copier}
-use Rattle.papaya_histories.specs.Given.Resize.declared.copier.Copying.{Copying}
-use Rattle.papaya_histories.specs.Given.Resize.declared.copier.Copying.TheVariants as copying
-use Rattle.papaya_histories.specs.Given.Resize.declared.dispose.Disposing.{Disposing}
-use Rattle.papaya_histories.specs.Given.Resize.declared.dispose.Disposing.TheVariants as disposing
-use Rattle.papaya_histories.specs.Given.Reserves.declared.reserve.Reserving.{Reserving}
-use Rattle.papaya_histories.specs.Given.Reserves.declared.reserve.Reserving.TheVariants as reserving
-use Rattle.papaya_histories.specs.Given.Sweeps.declared.sweep.Sweeping.{Sweeping}
-use Rattle.papaya_histories.specs.Given.Sweeps.declared.sweep.Sweeping.TheVariants as sweeping
-use Rattle.papaya_histories.specs.Given.Raw.declared.machines.call.Calling.{Calling}
-use Rattle.papaya_histories.specs.Given.Raw.declared.machines.call.Calling.TheVariants as calling
-use Rattle.papaya_histories.specs.Given.Schedules.Moment.{Moment}
-use Rattle.papaya_histories.specs.Given.Rule.Words.{Blocks}
-use Rattle.papaya_histories.specs.Given.Points.Told.{IsRowOf, IsRowOfCopier, IsRowOfCall}
-use Rattle.papaya_histories.specs.Given.Late.ToldReserves.{IsRowOfReserve}
-use Rattle.papaya_histories.specs.Given.Late.ToldSweeps.{IsRowOfSweep}
-use Rattle.papaya_histories.specs.Given.Callers.OverAll.{CallOverAll, row_of_sweep}
-use Rattle.papaya_histories.specs.Given.Callers.Rooms.{CallForRoom}
-use Rattle.papaya_histories.specs.Given.Callers.Rows.{row_of_disposal, row_of}
-use Rattle.papaya_histories.specs.Given.Callers.Sights.{Sight, seen_by, IsSight}
-use Rattle.papaya_histories.specs.Given.Callers.Together.{CallOnKey, UnderWay, OnKey, ForRoom, OverAll, Together}
-use Rattle.papaya_histories.proofs.Given.Callers.Together.Came.{came_reached}
-use Rattle.papaya_histories.specs.Given.Effects.Known.{Known}
-use Rattle.papaya_histories.specs.Given.Effects.declared.role.Role.TheVariants as role
-use Rattle.papaya_histories.specs.Given.Finishes.Maps.{Standing}
-use Rattle.papaya_histories.specs.Given.Follows.Blocks.{HasRole}
-use Rattle.papaya_histories.specs.Given.Follows.Shows.{Shows}
+use Rattle.papaya_histories.specs.Given.SeizeWordsMem.{value_at}
+use Rattle.papaya_histories.specs.Given.SeizeWorld.{World, Defers, IsInside}
+use Rattle.papaya_histories.specs.Given.SeizeDeclared.rows.defer.Defer.{Defer}
+use Rattle.papaya_histories.specs.Given.SeizeDeclared.rows.defer.Deferring.{Deferring}
+use Rattle.papaya_histories.specs.Given.SeizeDeclared.rows.defer.Deferring.TheVariants as deferring
+use Rattle.papaya_histories.specs.Given.SeizeDeclared.states.TheConstants.{LAST_SLOT}
+use Rattle.papaya_histories.proofs.Given.SeizeAloneHistories.Reached.{Reached}
+use Rattle.papaya_histories.proofs.Given.SeizeRuleRows.Known.{FitsDefer, FitsRow}
+use Rattle.papaya_histories.proofs.Given.SeizeRuleWords.View.{View, view}
+use Rattle.papaya_histories.specs.Given.TablesNodes.{deferred_word}
+use Rattle.papaya_histories.specs.Given.TablesDeclared.node.Node.{Node}
+use Rattle.papaya_histories.specs.Given.TablesDeclared.node.Node.TheVariants as node
+use Rattle.papaya_histories.specs.Given.ResizeDeclared.copier.Copier.{Copier}
+use Rattle.papaya_histories.specs.Given.ResizeDeclared.copier.Copying.{Copying}
+use Rattle.papaya_histories.specs.Given.ResizeDeclared.copier.Copying.TheVariants as copying
+use Rattle.papaya_histories.specs.Given.ResizeDeclared.dispose.Disposing.{Disposing}
+use Rattle.papaya_histories.specs.Given.ResizeDeclared.dispose.Disposing.TheVariants as disposing
+use Rattle.papaya_histories.specs.Given.ReservesDeclared.reserve.Reserving.{Reserving}
+use Rattle.papaya_histories.specs.Given.ReservesDeclared.reserve.Reserving.TheVariants as reserving
+use Rattle.papaya_histories.specs.Given.SweepsDeclared.sweep.Sweeping.{Sweeping}
+use Rattle.papaya_histories.specs.Given.SweepsDeclared.sweep.Sweeping.TheVariants as sweeping
+use Rattle.papaya_histories.specs.Given.RawDeclared.machines.call.Calling.{Calling}
+use Rattle.papaya_histories.specs.Given.RawDeclared.machines.call.Calling.TheVariants as calling
+use Rattle.papaya_histories.specs.Given.SchedulesMoment.{Moment}
+use Rattle.papaya_histories.specs.Given.RuleWords.{Blocks}
+use Rattle.papaya_histories.specs.Given.PointsTold.{IsRowOf, IsRowOfCopier, IsRowOfCall}
+use Rattle.papaya_histories.specs.Given.LateToldReserves.{IsRowOfReserve}
+use Rattle.papaya_histories.specs.Given.LateToldSweeps.{IsRowOfSweep}
+use Rattle.papaya_histories.specs.Given.CallersOverAll.{CallOverAll, row_of_sweep}
+use Rattle.papaya_histories.specs.Given.CallersRooms.{CallForRoom}
+use Rattle.papaya_histories.specs.Given.CallersRows.{row_of_disposal, row_of}
+use Rattle.papaya_histories.specs.Given.CallersSights.{Sight, seen_by, IsSight}
+use Rattle.papaya_histories.specs.Given.CallersTogether.{CallOnKey, UnderWay, OnKey, ForRoom, OverAll, Together}
+use Rattle.papaya_histories.proofs.Given.CallersTogether.Came.{came_reached}
+use Rattle.papaya_histories.specs.Given.EffectsKnown.{Known}
+use Rattle.papaya_histories.specs.Given.EffectsDeclared.role.Role.TheVariants as role
+use Rattle.papaya_histories.specs.Given.FinishesMaps.{Standing}
+use Rattle.papaya_histories.specs.Given.FollowsBlocks.{HasRole}
+use Rattle.papaya_histories.specs.Given.FollowsShows.{Shows}
 use Rattle.papaya_settles.proofs.Aimed.{IsElsewhere, CallsElsewhere, room_aims, late_room_aims, over_all_aims, key_aims, late_key_aims}
 use Rattle.papaya_settles.proofs.Aims.{AimsAt, DeferringAims, DisposeAims, CopyingAims, ReservingAims, SweepingAims, CallingAims}
-use Rattle.papaya_histories.specs.Given.Scenes.Held.{Held, IsAt}
-use Rattle.papaya_histories.specs.Given.Scenes.Scene.{Scene, slot_of}
+use Rattle.papaya_histories.specs.Given.ScenesHeld.{Held, IsAt}
+use Rattle.papaya_histories.specs.Given.ScenesScene.{Scene, slot_of}
 
 -- the block is no map's count
 abbrev pub IsNoCount : Known → ℕ → Type 0

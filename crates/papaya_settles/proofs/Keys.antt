@@ -1,60 +1,60 @@
 -- What a step of a call on one key does to what it has to count.
 use Rattle.std.specs.Prelude.{◌≡◌, ◌<◌, ◌+◌, ◌%◌, ◌^◌, ℕ, Bool, true, false, bit_and, List, [], ◌∷◌, flat_map, Some, None, ◌⊎◌}
 use Rattle.std.proofs.Common.{refl, ap, sym, subst, ◌∙◌, inl, inr}
-use Rattle.papaya_histories.specs.Given.SeizeWords.declared.at.At.TheVariants.{Word}
-use Rattle.papaya_histories.specs.Given.SeizeWords.Mem.{Mem}
-use Rattle.papaya_histories.specs.Given.SeizeWords.Op.{Found, Stored as StoredOut, Exchanged, Made, Taken, Roomed}
-use Rattle.papaya_histories.specs.Given.Seize.World.{World}
-use Rattle.papaya_histories.specs.Given.Tables.Chunks.{is_incremental}
-use Rattle.papaya_histories.specs.Given.Tables.Counts.{count_change}
-use Rattle.papaya_histories.specs.Given.Tables.declared.node.Node.{Node}
-use Rattle.papaya_histories.specs.Given.Tables.declared.setting.Setting.{Setting}
-use Rattle.papaya_histories.specs.Given.Resize.declared.dispose.Dispose.{Dispose}
-use Rattle.papaya_histories.specs.Given.Raw.Call.{call_plan, plan_at}
-use Rattle.papaya_histories.specs.Given.Raw.Machine.{called as of_key}
-use Rattle.papaya_histories.specs.Given.Raw.Progress.{of_called}
-use Rattle.papaya_histories.specs.Given.Raw.declared.machines.answer.Called.{Called}
-use Rattle.papaya_histories.specs.Given.Raw.declared.machines.answer.Called.TheVariants as called
-use Rattle.papaya_histories.specs.Given.Raw.declared.machines.answer.End.{End}
-use Rattle.papaya_histories.specs.Given.Raw.declared.machines.answer.KeyAnswer.{KeyAnswer}
-use Rattle.papaya_histories.specs.Given.Raw.declared.machines.call.Calling.{Calling}
-use Rattle.papaya_histories.specs.Given.Raw.declared.machines.call.Calling.TheVariants as at
-use Rattle.papaya_histories.specs.Given.Raw.declared.machines.call.KeyCall.{KeyCall}
-use Rattle.papaya_histories.specs.Given.Raw.declared.machines.machine.Machine.{Machine}
-use Rattle.papaya_histories.specs.Given.Raw.declared.machines.machine.Machine.TheVariants as kinds
-use Rattle.papaya_histories.specs.Given.Raw.declared.machines.progress.Progress.{Progress}
-use Rattle.papaya_histories.specs.Given.Schedules.declared.effect.Effect.{Effect}
-use Rattle.papaya_histories.specs.Given.Schedules.declared.effect.Effect.TheVariants as effect
-use Rattle.papaya_histories.specs.Given.Schedules.Linearizable.{shift_of}
-use Rattle.papaya_histories.specs.Given.Schedules.Moment.{Moment}
-use Rattle.papaya_histories.specs.Given.Teller.Tells.{StepsTold}
-use Rattle.papaya_histories.specs.Given.Teller.declared.changed.Changed.{Changed}
-use Rattle.papaya_histories.specs.Given.Teller.declared.changed.Changed.TheVariants as changed
-use Rattle.papaya_histories.specs.Given.Rule.Chart.{Chart}
-use Rattle.papaya_histories.specs.Given.Rule.Words.{Blocks}
-use Rattle.papaya_histories.proofs.Given.Rule.Laws.{current_is_known}
-use Rattle.papaya_histories.specs.Given.Points.FactsCalls.{Change, Unchanged, Seeks, Tells, CallingFacts, Changes}
-use Rattle.papaya_histories.specs.Given.Points.Told.{IsRowOfCall}
-use Rattle.papaya_histories.specs.Given.Late.LateCalls.{LateCalling}
-use Rattle.papaya_histories.specs.Given.Callers.Sights.{seen_by}
-use Rattle.papaya_histories.specs.Given.Callers.Together.{CallOnKey, OnKey, Knows, Stands, IsOneStep, StepTold, Fresh, Late, StepsTogether, change_told, next_of, in_slot}
-use Rattle.papaya_histories.specs.Given.Effects.Effects.{names_same, in_block, named, effects_of}
-use Rattle.papaya_histories.specs.Given.Effects.Known.{Known}
-use Rattle.papaya_histories.specs.Given.Effects.declared.acting.Acting.{Acting}
-use Rattle.papaya_histories.specs.Given.Effects.declared.acting.Acting.TheVariants as acts
-use Rattle.papaya_histories.specs.Given.Effects.declared.role.Role.{Role}
-use Rattle.papaya_histories.specs.Given.Finishes.Endings.{StepsAmong}
-use Rattle.papaya_histories.specs.Given.Finishes.Maps.{Standing}
-use Rattle.papaya_histories.specs.Given.Follows.Shows.{Shows}
-use Rattle.papaya_histories.specs.Given.Follows.Steps.{TakesNone}
-use Rattle.papaya_histories.proofs.Given.Follows.Operations.{LeavesBy, operated_leaves}
-use Rattle.papaya_histories.proofs.Given.Follows.RowSteps.{row_done}
-use Rattle.papaya_histories.proofs.Given.Follows.Rows.{one_step_leaves}
-use Rattle.papaya_histories.proofs.Given.Follows.Steps.{WentTo, went_to, made_so, is_inside, DidSo, OfNoRow}
-use Rattle.papaya_histories.proofs.Given.Hands.Done.{stepped, here}
-use Rattle.papaya_histories.proofs.Given.Others.Outcomes.{told_in}
-use Rattle.papaya_histories.proofs.Given.Spots.Shifts.{Shifts}
-use Rattle.papaya_histories.proofs.Given.Spots.Steps.{moved_shifts}
+use Rattle.papaya_histories.specs.Given.SeizeWordsDeclared.at.At.TheVariants.{Word}
+use Rattle.papaya_histories.specs.Given.SeizeWordsMem.{Mem}
+use Rattle.papaya_histories.specs.Given.SeizeWordsOp.{Found, Stored as StoredOut, Exchanged, Made, Taken, Roomed}
+use Rattle.papaya_histories.specs.Given.SeizeWorld.{World}
+use Rattle.papaya_histories.specs.Given.TablesChunks.{is_incremental}
+use Rattle.papaya_histories.specs.Given.TablesCounts.{count_change}
+use Rattle.papaya_histories.specs.Given.TablesDeclared.node.Node.{Node}
+use Rattle.papaya_histories.specs.Given.TablesDeclared.setting.Setting.{Setting}
+use Rattle.papaya_histories.specs.Given.ResizeDeclared.dispose.Dispose.{Dispose}
+use Rattle.papaya_histories.specs.Given.RawCall.{call_plan, plan_at}
+use Rattle.papaya_histories.specs.Given.RawMachine.{called as of_key}
+use Rattle.papaya_histories.specs.Given.RawProgress.{of_called}
+use Rattle.papaya_histories.specs.Given.RawDeclared.machines.answer.Called.{Called}
+use Rattle.papaya_histories.specs.Given.RawDeclared.machines.answer.Called.TheVariants as called
+use Rattle.papaya_histories.specs.Given.RawDeclared.machines.answer.End.{End}
+use Rattle.papaya_histories.specs.Given.RawDeclared.machines.answer.KeyAnswer.{KeyAnswer}
+use Rattle.papaya_histories.specs.Given.RawDeclared.machines.call.Calling.{Calling}
+use Rattle.papaya_histories.specs.Given.RawDeclared.machines.call.Calling.TheVariants as at
+use Rattle.papaya_histories.specs.Given.RawDeclared.machines.call.KeyCall.{KeyCall}
+use Rattle.papaya_histories.specs.Given.RawDeclared.machines.machine.Machine.{Machine}
+use Rattle.papaya_histories.specs.Given.RawDeclared.machines.machine.Machine.TheVariants as kinds
+use Rattle.papaya_histories.specs.Given.RawDeclared.machines.progress.Progress.{Progress}
+use Rattle.papaya_histories.specs.Given.SchedulesDeclared.effect.Effect.{Effect}
+use Rattle.papaya_histories.specs.Given.SchedulesDeclared.effect.Effect.TheVariants as effect
+use Rattle.papaya_histories.specs.Given.SchedulesLinearizable.{shift_of}
+use Rattle.papaya_histories.specs.Given.SchedulesMoment.{Moment}
+use Rattle.papaya_histories.specs.Given.TellerTells.{StepsTold}
+use Rattle.papaya_histories.specs.Given.TellerDeclared.changed.Changed.{Changed}
+use Rattle.papaya_histories.specs.Given.TellerDeclared.changed.Changed.TheVariants as changed
+use Rattle.papaya_histories.specs.Given.RuleChart.{Chart}
+use Rattle.papaya_histories.specs.Given.RuleWords.{Blocks}
+use Rattle.papaya_histories.proofs.Given.RuleLaws.{current_is_known}
+use Rattle.papaya_histories.specs.Given.PointsFactsCalls.{Change, Unchanged, Seeks, Tells, CallingFacts, Changes}
+use Rattle.papaya_histories.specs.Given.PointsTold.{IsRowOfCall}
+use Rattle.papaya_histories.specs.Given.LateLateCalls.{LateCalling}
+use Rattle.papaya_histories.specs.Given.CallersSights.{seen_by}
+use Rattle.papaya_histories.specs.Given.CallersTogether.{CallOnKey, OnKey, Knows, Stands, IsOneStep, StepTold, Fresh, Late, StepsTogether, change_told, next_of, in_slot}
+use Rattle.papaya_histories.specs.Given.EffectsEffects.{names_same, in_block, named, effects_of}
+use Rattle.papaya_histories.specs.Given.EffectsKnown.{Known}
+use Rattle.papaya_histories.specs.Given.EffectsDeclared.acting.Acting.{Acting}
+use Rattle.papaya_histories.specs.Given.EffectsDeclared.acting.Acting.TheVariants as acts
+use Rattle.papaya_histories.specs.Given.EffectsDeclared.role.Role.{Role}
+use Rattle.papaya_histories.specs.Given.FinishesEndings.{StepsAmong}
+use Rattle.papaya_histories.specs.Given.FinishesMaps.{Standing}
+use Rattle.papaya_histories.specs.Given.FollowsShows.{Shows}
+use Rattle.papaya_histories.specs.Given.FollowsSteps.{TakesNone}
+use Rattle.papaya_histories.proofs.Given.FollowsOperations.{LeavesBy, operated_leaves}
+use Rattle.papaya_histories.proofs.Given.FollowsRowSteps.{row_done}
+use Rattle.papaya_histories.proofs.Given.FollowsRows.{one_step_leaves}
+use Rattle.papaya_histories.proofs.Given.FollowsSteps.{WentTo, went_to, made_so, is_inside, DidSo, OfNoRow}
+use Rattle.papaya_histories.proofs.Given.HandsDone.{stepped, here}
+use Rattle.papaya_histories.proofs.Given.OthersOutcomes.{told_in}
+use Rattle.papaya_histories.proofs.Given.SpotsShifts.{Shifts}
+use Rattle.papaya_histories.proofs.Given.SpotsSteps.{moved_shifts}
 use Rattle.papaya_histories.proofs.Changes.{hands_shift}
 use Rattle.papaya_histories.proofs.Which.{DidOnce, DidNone, DidStore, DidReplace, DidRemove, did_once, none_shifted}
 use Rattle.papaya_settles.specs.Counts.{counts_in_calling, is_to_count, shard_for}
@@ -66,10 +66,10 @@ use Rattle.papaya_settles.proofs.Here.{IsNoCount, each, key_no}
 use Rattle.papaya_settles.proofs.Points.{IsBeyond, past_step}
 use Rattle.papaya_settles.proofs.Status.{same_called, KindOf, ToCount, ToDispose, IsAtEnd, ToChange, kind_at, before_elsewhere, before_not, elsewhere_not, row_beyond, Status, IsNone, IsOver, IsNew, IsGone, plain_tells, unchanged_tells, stands_status}
 use Rattle.papaya_settles.proofs.Uncounted.{CountsNowhere, none_counts}
-use Rattle.papaya_histories.proofs.Given.Scenes.Told.{as_step}
-use Rattle.papaya_histories.specs.Given.Scenes.Held.{Held, IsAt}
-use Rattle.papaya_histories.specs.Given.Scenes.Scene.{Scene, slot_of}
-use Rattle.papaya_histories.specs.Given.Scenes.Stepping.{StepLeads}
+use Rattle.papaya_histories.proofs.Given.ScenesTold.{as_step}
+use Rattle.papaya_histories.specs.Given.ScenesHeld.{Held, IsAt}
+use Rattle.papaya_histories.specs.Given.ScenesScene.{Scene, slot_of}
+use Rattle.papaya_histories.specs.Given.ScenesStepping.{StepLeads}
 
 module _ {K V : Type 0} (same : K → K → Bool) (hash : ℕ → K → ℕ) (name : ℕ → List ℕ) (m : Moment K V) (known : Known) (s : Scene K V) (old new : Held K V) (at_old : IsAt same hash old s)
     (shown : Shows same name m known s) (map i : ℕ) (x : CallOnKey K V K) (under_way : s.calls map i ≡ Some (OnKey x)) (said : Progress (Node K V)) (leads : StepLeads same hash i said s old new) where

@@ -1,23 +1,23 @@
 -- Where a call on one key that is no copier comes to by its step, it has unlinked no table.
 use Rattle.std.specs.Prelude.{◌≡◌, ℕ, ◌==◌, Bool, true, false, Ok, Err, Option, Some, None}
 use Rattle.std.proofs.Common.{refl}
-use Rattle.papaya_histories.specs.Given.SeizeWords.Mem.{Mem, Took, value_at}
-use Rattle.papaya_histories.specs.Given.SeizeWords.Op.{Out, Found, Stored, Exchanged, Made, Taken, Roomed}
-use Rattle.papaya_histories.specs.Given.SeizeWords.Plan.{Steps}
-use Rattle.papaya_histories.specs.Given.Tables.declared.node.Node.{Node}
-use Rattle.papaya_histories.specs.Given.Tables.declared.node.Node.TheVariants as node
-use Rattle.papaya_histories.specs.Given.Raw.Call.{plan_at}
-use Rattle.papaya_histories.specs.Given.Raw.CallFills.{filled, putting_by, fill_by, emptied, fills_with, given_up}
-use Rattle.papaya_histories.specs.Given.Raw.Replies.{value_for, as_own}
-use Rattle.papaya_histories.specs.Given.Raw.declared.machines.answer.Called.{Called}
-use Rattle.papaya_histories.specs.Given.Raw.declared.machines.asking.Asking.{Asking}
-use Rattle.papaya_histories.specs.Given.Raw.declared.machines.asking.Asking.TheVariants as asking
-use Rattle.papaya_histories.specs.Given.Raw.declared.machines.call.Calling.{Calling}
-use Rattle.papaya_histories.specs.Given.Raw.declared.machines.call.Calling.TheVariants as at
-use Rattle.papaya_histories.specs.Given.Raw.declared.machines.call.KeyCall.{KeyCall}
-use Rattle.papaya_histories.proofs.Given.Rule.Keys.Always.{Always, AlwaysOf, always_steps}
-use Rattle.papaya_histories.specs.Given.Alone.Handed.{call_has_unlinked}
-use Rattle.papaya_histories.proofs.Given.Alone.Handed.Fresh.{IsFreshAt, call_fresh}
+use Rattle.papaya_histories.specs.Given.SeizeWordsMem.{Mem, Took, value_at}
+use Rattle.papaya_histories.specs.Given.SeizeWordsOp.{Out, Found, Stored, Exchanged, Made, Taken, Roomed}
+use Rattle.papaya_histories.specs.Given.SeizeWordsPlan.{Steps}
+use Rattle.papaya_histories.specs.Given.TablesDeclared.node.Node.{Node}
+use Rattle.papaya_histories.specs.Given.TablesDeclared.node.Node.TheVariants as node
+use Rattle.papaya_histories.specs.Given.RawCall.{plan_at}
+use Rattle.papaya_histories.specs.Given.RawCallFills.{filled, putting_by, fill_by, emptied, fills_with, given_up}
+use Rattle.papaya_histories.specs.Given.RawReplies.{value_for, as_own}
+use Rattle.papaya_histories.specs.Given.RawDeclared.machines.answer.Called.{Called}
+use Rattle.papaya_histories.specs.Given.RawDeclared.machines.asking.Asking.{Asking}
+use Rattle.papaya_histories.specs.Given.RawDeclared.machines.asking.Asking.TheVariants as asking
+use Rattle.papaya_histories.specs.Given.RawDeclared.machines.call.Calling.{Calling}
+use Rattle.papaya_histories.specs.Given.RawDeclared.machines.call.Calling.TheVariants as at
+use Rattle.papaya_histories.specs.Given.RawDeclared.machines.call.KeyCall.{KeyCall}
+use Rattle.papaya_histories.proofs.Given.RuleKeys.Always.{Always, AlwaysOf, always_steps}
+use Rattle.papaya_histories.specs.Given.AloneHanded.{call_has_unlinked}
+use Rattle.papaya_histories.proofs.Given.AloneHanded.Fresh.{IsFreshAt, call_fresh}
 use Rattle.papaya_settles.proofs.Fresh.{IsBefore}
 
 -- no copier

@@ -1,73 +1,73 @@
 -- What a step of a reservation, of a counting and of a sweep does to what it has to count.
 use Rattle.std.specs.Prelude.{◌≡◌, ◌<◌, ◌+◌, ◌%◌, ◌^◌, ℕ, Bool, true, false, bit_and, List, [], ◌∷◌, flat_map, Some, None, Ok, Err}
 use Rattle.std.proofs.Common.{refl, ap, sym, subst, ◌∙◌, arith, inl, inr}
-use Rattle.papaya_histories.specs.Given.SeizeWords.declared.at.At.{At}
-use Rattle.papaya_histories.specs.Given.SeizeWords.declared.at.At.TheVariants.{Word}
-use Rattle.papaya_histories.specs.Given.SeizeWords.Mem.{Mem}
-use Rattle.papaya_histories.specs.Given.SeizeWords.Op.{Found, Stored as StoredOut, Exchanged, Made, Taken, Roomed}
-use Rattle.papaya_histories.specs.Given.SeizeWords.Word.{block_in}
-use Rattle.papaya_histories.specs.Given.Seize.World.{World, IsInside}
-use Rattle.papaya_histories.specs.Given.Tables.Chunks.{is_incremental}
-use Rattle.papaya_histories.specs.Given.Tables.Counts.{count_change}
-use Rattle.papaya_histories.specs.Given.Tables.TablePlaces.{at_place}
-use Rattle.papaya_histories.specs.Given.Tables.declared.marks.TheConstants.{TOMBSTONE}
-use Rattle.papaya_histories.specs.Given.Tables.declared.node.Node.{Node}
-use Rattle.papaya_histories.specs.Given.Tables.declared.setting.Setting.{Setting}
-use Rattle.papaya_histories.specs.Given.Tables.declared.table.Table.{Table}
-use Rattle.papaya_histories.specs.Given.Tables.declared.table_words.TheConstants.{PLACES}
-use Rattle.papaya_histories.specs.Given.Resize.Sum.{sum_plan}
-use Rattle.papaya_histories.specs.Given.Resize.declared.sum.Sum.{Sum}
-use Rattle.papaya_histories.specs.Given.Reserves.Reserve.{reserve_plan}
-use Rattle.papaya_histories.specs.Given.Sweeps.Sweep.{sweep_plan}
-use Rattle.papaya_histories.specs.Given.Sweeps.Sweep as sweeps
-use Rattle.papaya_histories.specs.Given.Sweeps.declared.sweep.Sweep.{Sweep}
-use Rattle.papaya_histories.specs.Given.Sweeps.declared.sweep.Sweeping.{Sweeping}
-use Rattle.papaya_histories.specs.Given.Sweeps.declared.sweep.Sweeping.TheVariants as sweeping
-use Rattle.papaya_histories.specs.Given.Sweeps.declared.sweep.Swept.{Swept}
-use Rattle.papaya_histories.specs.Given.Sweeps.declared.sweep.Swept.TheVariants as swept
-use Rattle.papaya_histories.specs.Given.Raw.Machine.{reserved as of_room, swept as of_sweep, counted as of_sum}
-use Rattle.papaya_histories.specs.Given.Raw.Progress.{of_swept}
-use Rattle.papaya_histories.specs.Given.Raw.declared.machines.machine.Machine.{Machine}
-use Rattle.papaya_histories.specs.Given.Raw.declared.machines.machine.Machine.TheVariants as kinds
-use Rattle.papaya_histories.specs.Given.Raw.declared.machines.progress.Progress.{Progress}
-use Rattle.papaya_histories.specs.Given.Schedules.declared.effect.Effect.{Effect}
-use Rattle.papaya_histories.specs.Given.Schedules.declared.effect.Effect.TheVariants as effect
-use Rattle.papaya_histories.specs.Given.Schedules.Linearizable.{shift_of}
-use Rattle.papaya_histories.specs.Given.Schedules.Moment.{Moment}
-use Rattle.papaya_histories.specs.Given.Teller.Tells.{StepsTold}
-use Rattle.papaya_histories.specs.Given.Teller.declared.changed.Changed.{Changed}
-use Rattle.papaya_histories.specs.Given.Teller.declared.changed.Changed.TheVariants as changed
-use Rattle.papaya_histories.specs.Given.Rule.Chart.{Still, Chart}
-use Rattle.papaya_histories.specs.Given.Rule.Words.{Blocks, byte_of}
-use Rattle.papaya_histories.proofs.Given.Rule.Laws.{current_is_known, words_name_pairs, bytes_are_few}
-use Rattle.papaya_histories.proofs.Given.Rule.Words.WritesWords.{at_place_block}
-use Rattle.papaya_histories.specs.Given.Points.FactsCalls.{Unchanged}
-use Rattle.papaya_histories.specs.Given.Late.FactsSweeps.{SweepingFacts}
-use Rattle.papaya_histories.specs.Given.Late.ToldSweeps.{IsRowOfSweep}
-use Rattle.papaya_histories.specs.Given.Callers.OverAll.{CallOverAll}
-use Rattle.papaya_histories.specs.Given.Callers.Rooms.{CallForRoom}
-use Rattle.papaya_histories.specs.Given.Callers.Sights.{seen_by, IsSight}
-use Rattle.papaya_histories.specs.Given.Callers.Together.{UnderWay, ForRoom, Counting, OverAll, IsOneStep, Together, next_over_all, in_slot}
-use Rattle.papaya_histories.specs.Given.Effects.Effects.{names_same, in_block, named, effects_of}
-use Rattle.papaya_histories.specs.Given.Effects.Known.{Known}
-use Rattle.papaya_histories.specs.Given.Effects.declared.acting.Acting.{Acting}
-use Rattle.papaya_histories.specs.Given.Effects.declared.acting.Acting.TheVariants as acts
-use Rattle.papaya_histories.specs.Given.Effects.declared.role.Role.{Role}
-use Rattle.papaya_histories.specs.Given.Effects.declared.role.Role.TheVariants as role
-use Rattle.papaya_histories.specs.Given.Finishes.Machines.{machine_of}
-use Rattle.papaya_histories.specs.Given.Finishes.Maps.{Standing}
-use Rattle.papaya_histories.specs.Given.Finishes.Sweeps.{SweepStepsAmong}
-use Rattle.papaya_histories.specs.Given.Follows.Maps.{table_of}
-use Rattle.papaya_histories.specs.Given.Follows.Shows.{Shows}
-use Rattle.papaya_histories.specs.Given.Follows.Steps.{TakesNone}
-use Rattle.papaya_histories.proofs.Given.Follows.Operations.{LeavesBy, operated_leaves}
-use Rattle.papaya_histories.proofs.Given.Follows.RowSteps.{row_done}
-use Rattle.papaya_histories.proofs.Given.Follows.Rows.{one_step_leaves}
-use Rattle.papaya_histories.proofs.Given.Follows.Steps.{WentTo, went_to, made_so, DidSo, OfNoRow}
-use Rattle.papaya_histories.proofs.Given.Follows.Writes.{nothing_free, place_says}
-use Rattle.papaya_histories.proofs.Given.Others.Outcomes.{told_in}
-use Rattle.papaya_histories.proofs.Given.Spots.Shifts.{calm_shifts, Shifts}
-use Rattle.papaya_histories.proofs.Given.Spots.Steps.{moved_shifts, stayed_calm}
+use Rattle.papaya_histories.specs.Given.SeizeWordsDeclared.at.At.{At}
+use Rattle.papaya_histories.specs.Given.SeizeWordsDeclared.at.At.TheVariants.{Word}
+use Rattle.papaya_histories.specs.Given.SeizeWordsMem.{Mem}
+use Rattle.papaya_histories.specs.Given.SeizeWordsOp.{Found, Stored as StoredOut, Exchanged, Made, Taken, Roomed}
+use Rattle.papaya_histories.specs.Given.SeizeWordsWord.{block_in}
+use Rattle.papaya_histories.specs.Given.SeizeWorld.{World, IsInside}
+use Rattle.papaya_histories.specs.Given.TablesChunks.{is_incremental}
+use Rattle.papaya_histories.specs.Given.TablesCounts.{count_change}
+use Rattle.papaya_histories.specs.Given.TablesTablePlaces.{at_place}
+use Rattle.papaya_histories.specs.Given.TablesDeclared.marks.TheConstants.{TOMBSTONE}
+use Rattle.papaya_histories.specs.Given.TablesDeclared.node.Node.{Node}
+use Rattle.papaya_histories.specs.Given.TablesDeclared.setting.Setting.{Setting}
+use Rattle.papaya_histories.specs.Given.TablesDeclared.table.Table.{Table}
+use Rattle.papaya_histories.specs.Given.TablesDeclared.table_words.TheConstants.{PLACES}
+use Rattle.papaya_histories.specs.Given.ResizeSum.{sum_plan}
+use Rattle.papaya_histories.specs.Given.ResizeDeclared.sum.Sum.{Sum}
+use Rattle.papaya_histories.specs.Given.ReservesReserve.{reserve_plan}
+use Rattle.papaya_histories.specs.Given.SweepsSweep.{sweep_plan}
+use Rattle.papaya_histories.specs.Given.SweepsSweep as sweeps
+use Rattle.papaya_histories.specs.Given.SweepsDeclared.sweep.Sweep.{Sweep}
+use Rattle.papaya_histories.specs.Given.SweepsDeclared.sweep.Sweeping.{Sweeping}
+use Rattle.papaya_histories.specs.Given.SweepsDeclared.sweep.Sweeping.TheVariants as sweeping
+use Rattle.papaya_histories.specs.Given.SweepsDeclared.sweep.Swept.{Swept}
+use Rattle.papaya_histories.specs.Given.SweepsDeclared.sweep.Swept.TheVariants as swept
+use Rattle.papaya_histories.specs.Given.RawMachine.{reserved as of_room, swept as of_sweep, counted as of_sum}
+use Rattle.papaya_histories.specs.Given.RawProgress.{of_swept}
+use Rattle.papaya_histories.specs.Given.RawDeclared.machines.machine.Machine.{Machine}
+use Rattle.papaya_histories.specs.Given.RawDeclared.machines.machine.Machine.TheVariants as kinds
+use Rattle.papaya_histories.specs.Given.RawDeclared.machines.progress.Progress.{Progress}
+use Rattle.papaya_histories.specs.Given.SchedulesDeclared.effect.Effect.{Effect}
+use Rattle.papaya_histories.specs.Given.SchedulesDeclared.effect.Effect.TheVariants as effect
+use Rattle.papaya_histories.specs.Given.SchedulesLinearizable.{shift_of}
+use Rattle.papaya_histories.specs.Given.SchedulesMoment.{Moment}
+use Rattle.papaya_histories.specs.Given.TellerTells.{StepsTold}
+use Rattle.papaya_histories.specs.Given.TellerDeclared.changed.Changed.{Changed}
+use Rattle.papaya_histories.specs.Given.TellerDeclared.changed.Changed.TheVariants as changed
+use Rattle.papaya_histories.specs.Given.RuleChart.{Still, Chart}
+use Rattle.papaya_histories.specs.Given.RuleWords.{Blocks, byte_of}
+use Rattle.papaya_histories.proofs.Given.RuleLaws.{current_is_known, words_name_pairs, bytes_are_few}
+use Rattle.papaya_histories.proofs.Given.RuleWords.WritesWords.{at_place_block}
+use Rattle.papaya_histories.specs.Given.PointsFactsCalls.{Unchanged}
+use Rattle.papaya_histories.specs.Given.LateFactsSweeps.{SweepingFacts}
+use Rattle.papaya_histories.specs.Given.LateToldSweeps.{IsRowOfSweep}
+use Rattle.papaya_histories.specs.Given.CallersOverAll.{CallOverAll}
+use Rattle.papaya_histories.specs.Given.CallersRooms.{CallForRoom}
+use Rattle.papaya_histories.specs.Given.CallersSights.{seen_by, IsSight}
+use Rattle.papaya_histories.specs.Given.CallersTogether.{UnderWay, ForRoom, Counting, OverAll, IsOneStep, Together, next_over_all, in_slot}
+use Rattle.papaya_histories.specs.Given.EffectsEffects.{names_same, in_block, named, effects_of}
+use Rattle.papaya_histories.specs.Given.EffectsKnown.{Known}
+use Rattle.papaya_histories.specs.Given.EffectsDeclared.acting.Acting.{Acting}
+use Rattle.papaya_histories.specs.Given.EffectsDeclared.acting.Acting.TheVariants as acts
+use Rattle.papaya_histories.specs.Given.EffectsDeclared.role.Role.{Role}
+use Rattle.papaya_histories.specs.Given.EffectsDeclared.role.Role.TheVariants as role
+use Rattle.papaya_histories.specs.Given.FinishesMachines.{machine_of}
+use Rattle.papaya_histories.specs.Given.FinishesMaps.{Standing}
+use Rattle.papaya_histories.specs.Given.FinishesSweeps.{SweepStepsAmong}
+use Rattle.papaya_histories.specs.Given.FollowsMaps.{table_of}
+use Rattle.papaya_histories.specs.Given.FollowsShows.{Shows}
+use Rattle.papaya_histories.specs.Given.FollowsSteps.{TakesNone}
+use Rattle.papaya_histories.proofs.Given.FollowsOperations.{LeavesBy, operated_leaves}
+use Rattle.papaya_histories.proofs.Given.FollowsRowSteps.{row_done}
+use Rattle.papaya_histories.proofs.Given.FollowsRows.{one_step_leaves}
+use Rattle.papaya_histories.proofs.Given.FollowsSteps.{WentTo, went_to, made_so, DidSo, OfNoRow}
+use Rattle.papaya_histories.proofs.Given.FollowsWrites.{nothing_free, place_says}
+use Rattle.papaya_histories.proofs.Given.OthersOutcomes.{told_in}
+use Rattle.papaya_histories.proofs.Given.SpotsShifts.{calm_shifts, Shifts}
+use Rattle.papaya_histories.proofs.Given.SpotsSteps.{moved_shifts, stayed_calm}
 use Rattle.papaya_histories.proofs.Changes.{hands_shift}
 use Rattle.papaya_histories.proofs.Which.{did_once, none_shifted}
 use Rattle.papaya_settles.specs.Counts.{counts_in_sweeping, is_to_count, shard_for}
@@ -77,10 +77,10 @@ use Rattle.papaya_settles.proofs.Gains.{AllApart, all_apart, NoneCounts, CountGo
 use Rattle.papaya_settles.proofs.Here.{IsNoCount, each, is_sight, room_no, over_all_no}
 use Rattle.papaya_settles.proofs.Points.{IsNoTry, seen_idle, idle_step}
 use Rattle.papaya_settles.proofs.Uncounted.{CountsNowhere, none_counts}
-use Rattle.papaya_histories.proofs.Given.Scenes.Told.{as_step}
-use Rattle.papaya_histories.specs.Given.Scenes.Held.{Held, IsAt}
-use Rattle.papaya_histories.specs.Given.Scenes.Scene.{Scene, slot_of}
-use Rattle.papaya_histories.specs.Given.Scenes.Stepping.{StepLeads, StepsFrom}
+use Rattle.papaya_histories.proofs.Given.ScenesTold.{as_step}
+use Rattle.papaya_histories.specs.Given.ScenesHeld.{Held, IsAt}
+use Rattle.papaya_histories.specs.Given.ScenesScene.{Scene, slot_of}
+use Rattle.papaya_histories.specs.Given.ScenesStepping.{StepLeads, StepsFrom}
 
 -- what a sweep says of how far it is, it says in one way
 pub same_swept : {T : Type 0} (a b : Swept T) → of_swept a ≡ of_swept b → a ≡ b

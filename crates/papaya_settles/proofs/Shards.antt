@@ -2,22 +2,22 @@
 use Rattle.std.specs.Prelude.{◌≡◌, ℕ, ◌+◌, ◌-◌, ◌%◌, ◌^◌, Bool, true, false, nat_le, bit_and, List, [], ◌∷◌, Option, Some, if◌then◌else◌}
 use Rattle.std.proofs.Common.{arith, refl, ap, sym, subst, ◌∙◌}
 use Rattle.std.proofs.lemmas.Nat.{and_mask}
-use Rattle.papaya_histories.specs.Given.Tables.Powers.{floor_log2, next_power}
-use Rattle.papaya_histories.specs.Given.Runs.Present.{slot_of_guard}
-use Rattle.papaya_histories.specs.Given.Schedules.declared.call.Call.{Call}
-use Rattle.papaya_histories.specs.Given.Schedules.declared.call.Call.TheVariants as call
-use Rattle.papaya_histories.specs.Given.Schedules.declared.effect.Effect.{Effect}
-use Rattle.papaya_histories.specs.Given.Schedules.declared.effect.Effect.TheVariants as effect
-use Rattle.papaya_histories.specs.Given.Schedules.Effects.{call_by, due_for, with_effect, AtEachEffect}
-use Rattle.papaya_histories.specs.Given.Schedules.Entry.{ByCall, acting}
-use Rattle.papaya_histories.specs.Given.Schedules.Lives.{CallFinds}
-use Rattle.papaya_histories.specs.Given.Schedules.Moment.{UnderWay as CallThere, Moment}
-use Rattle.papaya_histories.specs.Given.Schedules.Terms.{shards_of}
-use Rattle.papaya_histories.specs.Given.Schedules.Views.{call_of}
+use Rattle.papaya_histories.specs.Given.TablesPowers.{floor_log2, next_power}
+use Rattle.papaya_histories.specs.Given.RunsPresent.{slot_of_guard}
+use Rattle.papaya_histories.specs.Given.SchedulesDeclared.call.Call.{Call}
+use Rattle.papaya_histories.specs.Given.SchedulesDeclared.call.Call.TheVariants as call
+use Rattle.papaya_histories.specs.Given.SchedulesDeclared.effect.Effect.{Effect}
+use Rattle.papaya_histories.specs.Given.SchedulesDeclared.effect.Effect.TheVariants as effect
+use Rattle.papaya_histories.specs.Given.SchedulesEffects.{call_by, due_for, with_effect, AtEachEffect}
+use Rattle.papaya_histories.specs.Given.SchedulesEntry.{ByCall, acting}
+use Rattle.papaya_histories.specs.Given.SchedulesLives.{CallFinds}
+use Rattle.papaya_histories.specs.Given.SchedulesMoment.{UnderWay as CallThere, Moment}
+use Rattle.papaya_histories.specs.Given.SchedulesTerms.{shards_of}
+use Rattle.papaya_histories.specs.Given.SchedulesViews.{call_of}
 use Rattle.papaya_histories.proofs.Changes.{acted_on}
 use Rattle.papaya_settles.specs.Counts.{FindsCount, FindCounts, shard_for}
 use Rattle.papaya_settles.specs.Shards.{is_counting, CountsFindShards}
-use Rattle.papaya_histories.specs.Given.Scenes.Scene.{slot_of}
+use Rattle.papaya_histories.specs.Given.ScenesScene.{slot_of}
 
 -- so many shards are a power of two
 bits_of : (n : ℕ) → (bits : ℕ) × (next_power n ≡ 2 ^ bits)

@@ -1,36 +1,36 @@
 -- The steps of reservations and of sweeps write no root that names a table, but the exchange that promotes one.
 use Rattle.std.specs.Prelude.{◌≡◌, ℕ, Bool, false}
 use Rattle.std.proofs.Common.{refl, inl}
-use Rattle.papaya_histories.specs.Given.SeizeWords.Plan.{Plan, Turn, Do, plan_as}
-use Rattle.papaya_histories.specs.Given.Tables.declared.node.Node.{Node}
-use Rattle.papaya_histories.specs.Given.Tables.declared.setting.Setting.{Setting}
-use Rattle.papaya_histories.specs.Given.Resize.Copier.{plan_at as copier_plan_at}
-use Rattle.papaya_histories.specs.Given.Resize.Dispose.{dispose_plan}
-use Rattle.papaya_histories.specs.Given.Resize.NewTable.{new_table_plan}
-use Rattle.papaya_histories.specs.Given.Resize.Sum.{plan_at as sum_plan_at, sum_plan}
-use Rattle.papaya_histories.specs.Given.Resize.declared.dispose.Dispose.{Dispose}
-use Rattle.papaya_histories.specs.Given.Resize.declared.new_table.NewTable.{NewTable}
-use Rattle.papaya_histories.specs.Given.Resize.declared.sum.Sum.{Sum}
-use Rattle.papaya_histories.specs.Given.Resize.declared.sum.Summing.{Summing}
-use Rattle.papaya_histories.specs.Given.Resize.declared.sum.Summing.TheVariants as sums
-use Rattle.papaya_histories.specs.Given.Reserves.Reserve as reserves
-use Rattle.papaya_histories.specs.Given.Reserves.declared.reserve.Reserve.{Reserve}
-use Rattle.papaya_histories.specs.Given.Reserves.declared.reserve.Reserving.{Reserving}
-use Rattle.papaya_histories.specs.Given.Reserves.declared.reserve.Reserving.TheVariants as reserving
-use Rattle.papaya_histories.specs.Given.Sweeps.Sweep as sweeps
-use Rattle.papaya_histories.specs.Given.Sweeps.declared.sweep.Sweep.{Sweep}
-use Rattle.papaya_histories.specs.Given.Sweeps.declared.sweep.Sweeping.{Sweeping}
-use Rattle.papaya_histories.specs.Given.Sweeps.declared.sweep.Sweeping.TheVariants as sweeping
-use Rattle.papaya_histories.specs.Given.Raw.Call.{first_made, disposed}
-use Rattle.papaya_histories.specs.Given.Raw.CallPoints.{getting}
-use Rattle.papaya_histories.specs.Given.Raw.declared.machines.answer.KeyAnswer.TheVariants as answers
-use Rattle.papaya_histories.specs.Given.Raw.declared.machines.call.KeyCall.{KeyCall}
-use Rattle.papaya_histories.specs.Given.Raw.declared.machines.call.Calling.TheVariants as at
-use Rattle.papaya_histories.proofs.Given.Rule.World.RootSpared.{PlanSparesRoot, spares_as}
-use Rattle.papaya_histories.specs.Given.Points.Told.{IsRowOf}
-use Rattle.papaya_histories.proofs.Given.Points.Steps.RootSteps.{is_promoting, spares_copier, spares_call}
-use Rattle.papaya_histories.specs.Given.Late.ToldReserves.{IsRowOfReserve}
-use Rattle.papaya_histories.specs.Given.Late.ToldSweeps.{IsRowOfSweep}
+use Rattle.papaya_histories.specs.Given.SeizeWordsPlan.{Plan, Turn, Do, plan_as}
+use Rattle.papaya_histories.specs.Given.TablesDeclared.node.Node.{Node}
+use Rattle.papaya_histories.specs.Given.TablesDeclared.setting.Setting.{Setting}
+use Rattle.papaya_histories.specs.Given.ResizeCopier.{plan_at as copier_plan_at}
+use Rattle.papaya_histories.specs.Given.ResizeDispose.{dispose_plan}
+use Rattle.papaya_histories.specs.Given.ResizeNewTable.{new_table_plan}
+use Rattle.papaya_histories.specs.Given.ResizeSum.{plan_at as sum_plan_at, sum_plan}
+use Rattle.papaya_histories.specs.Given.ResizeDeclared.dispose.Dispose.{Dispose}
+use Rattle.papaya_histories.specs.Given.ResizeDeclared.new_table.NewTable.{NewTable}
+use Rattle.papaya_histories.specs.Given.ResizeDeclared.sum.Sum.{Sum}
+use Rattle.papaya_histories.specs.Given.ResizeDeclared.sum.Summing.{Summing}
+use Rattle.papaya_histories.specs.Given.ResizeDeclared.sum.Summing.TheVariants as sums
+use Rattle.papaya_histories.specs.Given.ReservesReserve as reserves
+use Rattle.papaya_histories.specs.Given.ReservesDeclared.reserve.Reserve.{Reserve}
+use Rattle.papaya_histories.specs.Given.ReservesDeclared.reserve.Reserving.{Reserving}
+use Rattle.papaya_histories.specs.Given.ReservesDeclared.reserve.Reserving.TheVariants as reserving
+use Rattle.papaya_histories.specs.Given.SweepsSweep as sweeps
+use Rattle.papaya_histories.specs.Given.SweepsDeclared.sweep.Sweep.{Sweep}
+use Rattle.papaya_histories.specs.Given.SweepsDeclared.sweep.Sweeping.{Sweeping}
+use Rattle.papaya_histories.specs.Given.SweepsDeclared.sweep.Sweeping.TheVariants as sweeping
+use Rattle.papaya_histories.specs.Given.RawCall.{first_made, disposed}
+use Rattle.papaya_histories.specs.Given.RawCallPoints.{getting}
+use Rattle.papaya_histories.specs.Given.RawDeclared.machines.answer.KeyAnswer.TheVariants as answers
+use Rattle.papaya_histories.specs.Given.RawDeclared.machines.call.KeyCall.{KeyCall}
+use Rattle.papaya_histories.specs.Given.RawDeclared.machines.call.Calling.TheVariants as at
+use Rattle.papaya_histories.proofs.Given.RuleWorld.RootSpared.{PlanSparesRoot, spares_as}
+use Rattle.papaya_histories.specs.Given.PointsTold.{IsRowOf}
+use Rattle.papaya_histories.proofs.Given.PointsSteps.RootSteps.{is_promoting, spares_copier, spares_call}
+use Rattle.papaya_histories.specs.Given.LateToldReserves.{IsRowOfReserve}
+use Rattle.papaya_histories.specs.Given.LateToldSweeps.{IsRowOfSweep}
 
 -- it is to exchange the root
 abbrev pub room_is_promoting : Reserving → Bool

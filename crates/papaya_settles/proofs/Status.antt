@@ -1,26 +1,26 @@
 -- What a call on one key has changed, by where it stands, and whether it is about to count then.
 use Rattle.std.specs.Prelude.{◌≡◌, ℕ, Bool, true, false}
 use Rattle.std.proofs.Common.{refl, ap, subst, inl, inr}
-use Rattle.papaya_histories.specs.Given.Seize.World.{World}
-use Rattle.papaya_histories.specs.Given.Tables.declared.node.Node.{Node}
-use Rattle.papaya_histories.specs.Given.Tables.declared.setting.Setting.{Setting}
-use Rattle.papaya_histories.specs.Given.Resize.declared.dispose.Dispose.{Dispose}
-use Rattle.papaya_histories.specs.Given.Raw.Progress.{of_called}
-use Rattle.papaya_histories.specs.Given.Raw.declared.machines.answer.Called.{Called}
-use Rattle.papaya_histories.specs.Given.Raw.declared.machines.answer.Called.TheVariants as called
-use Rattle.papaya_histories.specs.Given.Raw.declared.machines.answer.End.{End}
-use Rattle.papaya_histories.specs.Given.Raw.declared.machines.answer.KeyAnswer.{KeyAnswer}
-use Rattle.papaya_histories.specs.Given.Raw.declared.machines.answer.KeyAnswer.TheVariants as answers
-use Rattle.papaya_histories.specs.Given.Raw.declared.machines.call.Calling.{Calling}
-use Rattle.papaya_histories.specs.Given.Raw.declared.machines.call.Calling.TheVariants as at
-use Rattle.papaya_histories.specs.Given.Raw.declared.machines.call.KeyCall.{KeyCall}
-use Rattle.papaya_histories.specs.Given.Rule.Chart.{Chart}
-use Rattle.papaya_histories.specs.Given.Rule.Words.{Blocks}
-use Rattle.papaya_histories.specs.Given.Points.FactsCalls.{Change, Unchanged, Stored, Replaced, Removed, Seeks, Tells, CallingFacts}
-use Rattle.papaya_histories.specs.Given.Points.Told.{IsRowOfCall}
-use Rattle.papaya_histories.specs.Given.Late.LateCalls.{LateCalling}
-use Rattle.papaya_histories.specs.Given.Callers.Rows.{past_row, once_over}
-use Rattle.papaya_histories.specs.Given.Callers.Together.{CallOnKey, OnKey, Knows, Stands, in_slot}
+use Rattle.papaya_histories.specs.Given.SeizeWorld.{World}
+use Rattle.papaya_histories.specs.Given.TablesDeclared.node.Node.{Node}
+use Rattle.papaya_histories.specs.Given.TablesDeclared.setting.Setting.{Setting}
+use Rattle.papaya_histories.specs.Given.ResizeDeclared.dispose.Dispose.{Dispose}
+use Rattle.papaya_histories.specs.Given.RawProgress.{of_called}
+use Rattle.papaya_histories.specs.Given.RawDeclared.machines.answer.Called.{Called}
+use Rattle.papaya_histories.specs.Given.RawDeclared.machines.answer.Called.TheVariants as called
+use Rattle.papaya_histories.specs.Given.RawDeclared.machines.answer.End.{End}
+use Rattle.papaya_histories.specs.Given.RawDeclared.machines.answer.KeyAnswer.{KeyAnswer}
+use Rattle.papaya_histories.specs.Given.RawDeclared.machines.answer.KeyAnswer.TheVariants as answers
+use Rattle.papaya_histories.specs.Given.RawDeclared.machines.call.Calling.{Calling}
+use Rattle.papaya_histories.specs.Given.RawDeclared.machines.call.Calling.TheVariants as at
+use Rattle.papaya_histories.specs.Given.RawDeclared.machines.call.KeyCall.{KeyCall}
+use Rattle.papaya_histories.specs.Given.RuleChart.{Chart}
+use Rattle.papaya_histories.specs.Given.RuleWords.{Blocks}
+use Rattle.papaya_histories.specs.Given.PointsFactsCalls.{Change, Unchanged, Stored, Replaced, Removed, Seeks, Tells, CallingFacts}
+use Rattle.papaya_histories.specs.Given.PointsTold.{IsRowOfCall}
+use Rattle.papaya_histories.specs.Given.LateLateCalls.{LateCalling}
+use Rattle.papaya_histories.specs.Given.CallersRows.{past_row, once_over}
+use Rattle.papaya_histories.specs.Given.CallersTogether.{CallOnKey, OnKey, Knows, Stands, in_slot}
 use Rattle.papaya_settles.specs.Counts.{counts_in_calling}
 use Rattle.papaya_settles.proofs.Aimed.{CallsElsewhere}
 use Rattle.papaya_settles.proofs.Fresh.{IsBefore, IsPlain, IsFreshAt, IsFreshLike, fresh_like}

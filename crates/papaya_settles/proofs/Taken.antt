@@ -1,58 +1,58 @@
 -- A call on one key that has just taken a pair out of its map has that in hand.
 use Rattle.std.specs.Prelude.{◌≡◌, ℕ, ◌<◌, ◌==◌, Bool, true, false, List, [], flat_map, Some, None, if◌then◌else◌}
 use Rattle.std.proofs.Common.{refl, ap, sym, subst, ◌∙◌, inl, inr, eqb-true}
-use Rattle.papaya_histories.specs.Given.SeizeWords.Word.{block_in}
-use Rattle.papaya_histories.specs.Given.Seize.World.{World}
-use Rattle.papaya_histories.proofs.Given.SeizeRule.Words.Named.{link-block}
-use Rattle.papaya_histories.specs.Given.Tables.Chunks.{is_incremental}
-use Rattle.papaya_histories.specs.Given.Tables.Marks.{link_in, has_mark}
-use Rattle.papaya_histories.specs.Given.Tables.declared.marks.TheConstants.{BORROWED}
-use Rattle.papaya_histories.specs.Given.Tables.declared.node.Node.{Node}
-use Rattle.papaya_histories.specs.Given.Tables.declared.resize_mode.ResizeMode.{ResizeMode}
-use Rattle.papaya_histories.specs.Given.Tables.declared.resize_mode.ResizeMode.TheVariants.{Incremental, Blocking}
-use Rattle.papaya_histories.specs.Given.Tables.declared.setting.Setting.{Setting}
-use Rattle.papaya_histories.specs.Given.Tables.declared.table.Table.{Table}
-use Rattle.papaya_histories.specs.Given.Resize.Dispose.{start_of}
-use Rattle.papaya_histories.specs.Given.Resize.declared.dispose.Dispose.{Dispose}
-use Rattle.papaya_histories.specs.Given.Raw.declared.machines.answer.Called.{Called}
-use Rattle.papaya_histories.specs.Given.Raw.declared.machines.answer.Called.TheVariants as called
-use Rattle.papaya_histories.specs.Given.Raw.declared.machines.answer.KeyAnswer.TheVariants as answers
-use Rattle.papaya_histories.specs.Given.Raw.declared.machines.call.Calling.{Calling}
-use Rattle.papaya_histories.specs.Given.Raw.declared.machines.call.Calling.TheVariants as at
-use Rattle.papaya_histories.specs.Given.Raw.declared.machines.call.KeyCall.{KeyCall}
-use Rattle.papaya_histories.specs.Given.Raw.declared.machines.machine.Machine.TheVariants as kinds
-use Rattle.papaya_histories.specs.Given.Raw.declared.machines.progress.Progress.{Progress}
-use Rattle.papaya_histories.specs.Given.Raw.Progress.{of_called}
-use Rattle.papaya_histories.specs.Given.Schedules.declared.effect.Effect.{Effect}
-use Rattle.papaya_histories.specs.Given.Schedules.Linearizable.{shift_of}
-use Rattle.papaya_histories.specs.Given.Schedules.Moment.{Moment}
-use Rattle.papaya_histories.specs.Given.Teller.declared.changed.Changed.{Changed}
-use Rattle.papaya_histories.specs.Given.Rule.Chart.{Phase, Still, Holds, Chart}
-use Rattle.papaya_histories.specs.Given.Rule.Words.{Blocks, byte_of, place_word}
-use Rattle.papaya_histories.proofs.Given.Rule.Laws.{current_is_known, words_name_pairs, bytes_are_few}
-use Rattle.papaya_histories.specs.Given.Points.FactsCalls.{Change, Unchanged, Stored, Replaced, Removed, Seeks, Tells, CallingFacts}
-use Rattle.papaya_histories.specs.Given.Callers.Rows.{past_row, once_over}
-use Rattle.papaya_histories.specs.Given.Callers.Sights.{seen_by}
-use Rattle.papaya_histories.specs.Given.Callers.Together.{CallOnKey, OnKey, Stands, change_told, in_slot}
-use Rattle.papaya_histories.specs.Given.Effects.Effects.{effects_of}
-use Rattle.papaya_histories.specs.Given.Effects.Known.{Known}
-use Rattle.papaya_histories.specs.Given.Effects.declared.acting.Acting.TheVariants as acts
-use Rattle.papaya_histories.specs.Given.Effects.declared.role.Role.TheVariants as role
-use Rattle.papaya_histories.specs.Given.Finishes.Endings.{StepsAmong}
-use Rattle.papaya_histories.specs.Given.Finishes.Maps.{Standing}
-use Rattle.papaya_histories.specs.Given.Follows.Shows.{Shows}
-use Rattle.papaya_histories.proofs.Given.Follows.Steps.{WentTo, went_to, DidSo, OfNoRow}
-use Rattle.papaya_histories.proofs.Given.Follows.Writes.{nothing_free}
-use Rattle.papaya_histories.proofs.Given.Hands.Done.{stepped, here}
+use Rattle.papaya_histories.specs.Given.SeizeWordsWord.{block_in}
+use Rattle.papaya_histories.specs.Given.SeizeWorld.{World}
+use Rattle.papaya_histories.proofs.Given.SeizeRuleWords.Named.{link-block}
+use Rattle.papaya_histories.specs.Given.TablesChunks.{is_incremental}
+use Rattle.papaya_histories.specs.Given.TablesMarks.{link_in, has_mark}
+use Rattle.papaya_histories.specs.Given.TablesDeclared.marks.TheConstants.{BORROWED}
+use Rattle.papaya_histories.specs.Given.TablesDeclared.node.Node.{Node}
+use Rattle.papaya_histories.specs.Given.TablesDeclared.resize_mode.ResizeMode.{ResizeMode}
+use Rattle.papaya_histories.specs.Given.TablesDeclared.resize_mode.ResizeMode.TheVariants.{Incremental, Blocking}
+use Rattle.papaya_histories.specs.Given.TablesDeclared.setting.Setting.{Setting}
+use Rattle.papaya_histories.specs.Given.TablesDeclared.table.Table.{Table}
+use Rattle.papaya_histories.specs.Given.ResizeDispose.{start_of}
+use Rattle.papaya_histories.specs.Given.ResizeDeclared.dispose.Dispose.{Dispose}
+use Rattle.papaya_histories.specs.Given.RawDeclared.machines.answer.Called.{Called}
+use Rattle.papaya_histories.specs.Given.RawDeclared.machines.answer.Called.TheVariants as called
+use Rattle.papaya_histories.specs.Given.RawDeclared.machines.answer.KeyAnswer.TheVariants as answers
+use Rattle.papaya_histories.specs.Given.RawDeclared.machines.call.Calling.{Calling}
+use Rattle.papaya_histories.specs.Given.RawDeclared.machines.call.Calling.TheVariants as at
+use Rattle.papaya_histories.specs.Given.RawDeclared.machines.call.KeyCall.{KeyCall}
+use Rattle.papaya_histories.specs.Given.RawDeclared.machines.machine.Machine.TheVariants as kinds
+use Rattle.papaya_histories.specs.Given.RawDeclared.machines.progress.Progress.{Progress}
+use Rattle.papaya_histories.specs.Given.RawProgress.{of_called}
+use Rattle.papaya_histories.specs.Given.SchedulesDeclared.effect.Effect.{Effect}
+use Rattle.papaya_histories.specs.Given.SchedulesLinearizable.{shift_of}
+use Rattle.papaya_histories.specs.Given.SchedulesMoment.{Moment}
+use Rattle.papaya_histories.specs.Given.TellerDeclared.changed.Changed.{Changed}
+use Rattle.papaya_histories.specs.Given.RuleChart.{Phase, Still, Holds, Chart}
+use Rattle.papaya_histories.specs.Given.RuleWords.{Blocks, byte_of, place_word}
+use Rattle.papaya_histories.proofs.Given.RuleLaws.{current_is_known, words_name_pairs, bytes_are_few}
+use Rattle.papaya_histories.specs.Given.PointsFactsCalls.{Change, Unchanged, Stored, Replaced, Removed, Seeks, Tells, CallingFacts}
+use Rattle.papaya_histories.specs.Given.CallersRows.{past_row, once_over}
+use Rattle.papaya_histories.specs.Given.CallersSights.{seen_by}
+use Rattle.papaya_histories.specs.Given.CallersTogether.{CallOnKey, OnKey, Stands, change_told, in_slot}
+use Rattle.papaya_histories.specs.Given.EffectsEffects.{effects_of}
+use Rattle.papaya_histories.specs.Given.EffectsKnown.{Known}
+use Rattle.papaya_histories.specs.Given.EffectsDeclared.acting.Acting.TheVariants as acts
+use Rattle.papaya_histories.specs.Given.EffectsDeclared.role.Role.TheVariants as role
+use Rattle.papaya_histories.specs.Given.FinishesEndings.{StepsAmong}
+use Rattle.papaya_histories.specs.Given.FinishesMaps.{Standing}
+use Rattle.papaya_histories.specs.Given.FollowsShows.{Shows}
+use Rattle.papaya_histories.proofs.Given.FollowsSteps.{WentTo, went_to, DidSo, OfNoRow}
+use Rattle.papaya_histories.proofs.Given.FollowsWrites.{nothing_free}
+use Rattle.papaya_histories.proofs.Given.HandsDone.{stepped, here}
 use Rattle.papaya_histories.proofs.Which.{DidOnce, DidNone, DidStore, DidReplace, DidRemove}
 use Rattle.papaya_settles.specs.InHand.{pair_in_disposing, pair_in_calling, TakesPair, CallsTakeInHand}
 use Rattle.papaya_settles.proofs.Fresh.{IsBefore, IsNewDisposal, IsFreshAt, IsFresh}
 use Rattle.papaya_settles.proofs.Here.{each}
 use Rattle.papaya_settles.proofs.Keys.{Together2, change2, once, did, none_moved, fresh, counts_now, disposing_tells, steps, SteppedAt}
 use Rattle.papaya_settles.proofs.Status.{KindOf, ToCount, ToDispose, IsAtEnd, ToChange, kind_at, plain_tells, unchanged_tells}
-use Rattle.papaya_histories.specs.Given.Scenes.Held.{Held, IsAt}
-use Rattle.papaya_histories.specs.Given.Scenes.Scene.{Scene, slot_of}
-use Rattle.papaya_histories.specs.Given.Scenes.Stepping.{StepLeads}
+use Rattle.papaya_histories.specs.Given.ScenesHeld.{Held, IsAt}
+use Rattle.papaya_histories.specs.Given.ScenesScene.{Scene, slot_of}
+use Rattle.papaya_histories.specs.Given.ScenesStepping.{StepLeads}
 
 -- the change takes this pair out
 abbrev pub IsOut : ℕ → Change → Type 0

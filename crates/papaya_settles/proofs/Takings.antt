@@ -3,46 +3,46 @@ use Rattle.std.specs.Prelude.{◌≡◌, ℕ, ◌+◌, Bool, true, false, ◌||�
 use Rattle.std.specs.List.{list_any}
 use Rattle.std.proofs.Common.{refl, ap, sym, subst, ◌∙◌, inl, inr}
 use Rattle.std.proofs.lemmas.List.{append-nil}
-use Rattle.papaya_histories.specs.Given.SeizeWords.declared.at.At.{At}
-use Rattle.papaya_histories.specs.Given.SeizeWords.Mem.{Mem}
-use Rattle.papaya_histories.specs.Given.Seize.World.{World, IsInside}
-use Rattle.papaya_histories.specs.Given.Tables.declared.node.Node.{Node}
-use Rattle.papaya_histories.specs.Given.Tables.declared.setting.Setting.{Setting}
-use Rattle.papaya_histories.specs.Given.Raw.declared.machines.progress.Progress.{Progress}
-use Rattle.papaya_histories.specs.Given.Schedules.declared.effect.Effect.{Effect}
-use Rattle.papaya_histories.specs.Given.Schedules.declared.effect.Effect.TheVariants as effect
-use Rattle.papaya_histories.specs.Given.Schedules.declared.effect.Thing.{Thing}
-use Rattle.papaya_histories.specs.Given.Schedules.declared.effect.Thing.TheVariants.{APair}
-use Rattle.papaya_histories.specs.Given.Schedules.Moment.{Moment}
-use Rattle.papaya_histories.specs.Given.Teller.declared.changed.Changed.{Changed}
-use Rattle.papaya_histories.specs.Given.Teller.declared.changed.Changed.TheVariants as changed
-use Rattle.papaya_histories.specs.Given.Tells.Seen.{Seen, Unseen, Wrote, seen_of}
-use Rattle.papaya_histories.specs.Given.Tells.Tells.{IsTold}
-use Rattle.papaya_histories.proofs.Given.Tells.Promised.{operations_tell, still_steps_tell}
-use Rattle.papaya_histories.specs.Given.Rule.Chart.{Chart}
-use Rattle.papaya_histories.specs.Given.Rule.InWorld.{IsMapIn, Moved, Went}
-use Rattle.papaya_histories.specs.Given.Rule.Moves.{Move, Links, Stores, Replaces, Removes, Marks, MarksBlocking, Skips, Unmarks, Puts, Covers, PutsLate, Claims, Reclaims, Counts, GivesUp, Aborts, Promotes, Announces}
-use Rattle.papaya_histories.specs.Given.Rule.Words.{Blocks}
-use Rattle.papaya_histories.proofs.Given.Rule.World.WentTold.{went_as}
-use Rattle.papaya_histories.specs.Given.Points.Steps.{AreLawful}
-use Rattle.papaya_histories.specs.Given.Callers.Sights.{Sight, seen_by, IsGrown, IsSight}
-use Rattle.papaya_histories.specs.Given.Callers.Together.{UnderWay, OnKey, ForRoom, Counting, OverAll, in_slot, Together}
-use Rattle.papaya_histories.proofs.Given.Callers.Sights.Seen.{map_seen}
-use Rattle.papaya_histories.proofs.Given.Callers.Together.Fits.{map_in_slot}
-use Rattle.papaya_histories.specs.Given.Effects.Effects.{effects_of}
-use Rattle.papaya_histories.specs.Given.Effects.Known.{Known}
-use Rattle.papaya_histories.specs.Given.Effects.declared.acting.Acting.TheVariants.{Call}
-use Rattle.papaya_histories.specs.Given.Finishes.Maps.{Standing}
-use Rattle.papaya_histories.specs.Given.Follows.Shows.{Shows}
-use Rattle.papaya_histories.proofs.Given.Follows.Alike.{is_calm, AllCalm}
-use Rattle.papaya_histories.proofs.Given.Follows.Operations.{LeavesBy, Operated, operated_leaves, seen_write, told_write}
-use Rattle.papaya_histories.proofs.Given.Follows.Steps.{WentTo, went_to, made_so, DidSo, OfNoRow}
-use Rattle.papaya_histories.proofs.Given.Spots.Done.{DidBy, DidMoved, did_moved}
-use Rattle.papaya_histories.proofs.Given.Spots.Steps.{stayed_calm}
+use Rattle.papaya_histories.specs.Given.SeizeWordsDeclared.at.At.{At}
+use Rattle.papaya_histories.specs.Given.SeizeWordsMem.{Mem}
+use Rattle.papaya_histories.specs.Given.SeizeWorld.{World, IsInside}
+use Rattle.papaya_histories.specs.Given.TablesDeclared.node.Node.{Node}
+use Rattle.papaya_histories.specs.Given.TablesDeclared.setting.Setting.{Setting}
+use Rattle.papaya_histories.specs.Given.RawDeclared.machines.progress.Progress.{Progress}
+use Rattle.papaya_histories.specs.Given.SchedulesDeclared.effect.Effect.{Effect}
+use Rattle.papaya_histories.specs.Given.SchedulesDeclared.effect.Effect.TheVariants as effect
+use Rattle.papaya_histories.specs.Given.SchedulesDeclared.effect.Thing.{Thing}
+use Rattle.papaya_histories.specs.Given.SchedulesDeclared.effect.Thing.TheVariants.{APair}
+use Rattle.papaya_histories.specs.Given.SchedulesMoment.{Moment}
+use Rattle.papaya_histories.specs.Given.TellerDeclared.changed.Changed.{Changed}
+use Rattle.papaya_histories.specs.Given.TellerDeclared.changed.Changed.TheVariants as changed
+use Rattle.papaya_histories.specs.Given.TellsSeen.{Seen, Unseen, Wrote, seen_of}
+use Rattle.papaya_histories.specs.Given.TellsTells.{IsTold}
+use Rattle.papaya_histories.proofs.Given.TellsPromised.{operations_tell, still_steps_tell}
+use Rattle.papaya_histories.specs.Given.RuleChart.{Chart}
+use Rattle.papaya_histories.specs.Given.RuleInWorld.{IsMapIn, Moved, Went}
+use Rattle.papaya_histories.specs.Given.RuleMoves.{Move, Links, Stores, Replaces, Removes, Marks, MarksBlocking, Skips, Unmarks, Puts, Covers, PutsLate, Claims, Reclaims, Counts, GivesUp, Aborts, Promotes, Announces}
+use Rattle.papaya_histories.specs.Given.RuleWords.{Blocks}
+use Rattle.papaya_histories.proofs.Given.RuleWorld.WentTold.{went_as}
+use Rattle.papaya_histories.specs.Given.PointsSteps.{AreLawful}
+use Rattle.papaya_histories.specs.Given.CallersSights.{Sight, seen_by, IsGrown, IsSight}
+use Rattle.papaya_histories.specs.Given.CallersTogether.{UnderWay, OnKey, ForRoom, Counting, OverAll, in_slot, Together}
+use Rattle.papaya_histories.proofs.Given.CallersSights.Seen.{map_seen}
+use Rattle.papaya_histories.proofs.Given.CallersTogether.Fits.{map_in_slot}
+use Rattle.papaya_histories.specs.Given.EffectsEffects.{effects_of}
+use Rattle.papaya_histories.specs.Given.EffectsKnown.{Known}
+use Rattle.papaya_histories.specs.Given.EffectsDeclared.acting.Acting.TheVariants.{Call}
+use Rattle.papaya_histories.specs.Given.FinishesMaps.{Standing}
+use Rattle.papaya_histories.specs.Given.FollowsShows.{Shows}
+use Rattle.papaya_histories.proofs.Given.FollowsAlike.{is_calm, AllCalm}
+use Rattle.papaya_histories.proofs.Given.FollowsOperations.{LeavesBy, Operated, operated_leaves, seen_write, told_write}
+use Rattle.papaya_histories.proofs.Given.FollowsSteps.{WentTo, went_to, made_so, DidSo, OfNoRow}
+use Rattle.papaya_histories.proofs.Given.SpotsDone.{DidBy, DidMoved, did_moved}
+use Rattle.papaya_histories.proofs.Given.SpotsSteps.{stayed_calm}
 use Rattle.papaya_settles.specs.Owing.{hands_over, leaves_owed, AllLeave, OwesGo, KeepsOwed, TakesOut, PutsOver, Passes, StepsTakeOut}
-use Rattle.papaya_histories.specs.Given.Scenes.Held.{Held, IsAt}
-use Rattle.papaya_histories.specs.Given.Scenes.Scene.{Scene, slot_of}
-use Rattle.papaya_histories.specs.Given.Scenes.Stepping.{StepLeads}
+use Rattle.papaya_histories.specs.Given.ScenesHeld.{Held, IsAt}
+use Rattle.papaya_histories.specs.Given.ScenesScene.{Scene, slot_of}
+use Rattle.papaya_histories.specs.Given.ScenesStepping.{StepLeads}
 
 -- calm effects leave what is owed, and hand nothing over
 calm_leaves : (f : Effect) → is_calm f ≡ true → (leaves_owed f ≡ true) × (hands_over f ≡ false)

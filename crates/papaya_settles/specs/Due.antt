@@ -1,49 +1,49 @@
 -- What the row within a call has in hand, and has neither retired nor put behind a table: by where its machine stands.
 use Rattle.std.specs.Prelude.{◌≡◌, ℕ, Bool, List, [], ◌∷◌, Option, Some, None}
-use Rattle.papaya_histories.specs.Given.SeizeWords.Word.{block_in}
-use Rattle.papaya_histories.specs.Given.SeizeWords.declared.at.At.{At}
-use Rattle.papaya_histories.specs.Given.Seize.Further.{IsWordOf}
-use Rattle.papaya_histories.specs.Given.Seize.World.{World, Making}
-use Rattle.papaya_histories.specs.Given.Seize.declared.rows.defer.Defer.{Defer}
-use Rattle.papaya_histories.specs.Given.Seize.declared.rows.defer.Deferring.{Deferring}
-use Rattle.papaya_histories.specs.Given.Seize.declared.rows.defer.Deferring.TheVariants as deferring
-use Rattle.papaya_histories.specs.Given.Seize.declared.rows.settle.Settle.{Settle}
-use Rattle.papaya_histories.specs.Given.Seize.declared.rows.settle.Settling.{Settling}
-use Rattle.papaya_histories.specs.Given.Seize.declared.rows.settle.Settling.TheVariants as settling
-use Rattle.papaya_histories.specs.Given.Resize.declared.copier.Copying.{Copying}
-use Rattle.papaya_histories.specs.Given.Resize.declared.copier.Copying.TheVariants as copying
-use Rattle.papaya_histories.specs.Given.Resize.declared.dispose.Disposing.{Disposing}
-use Rattle.papaya_histories.specs.Given.Resize.declared.dispose.Disposing.TheVariants as disposing
-use Rattle.papaya_histories.specs.Given.Reserves.declared.reserve.Reserving.{Reserving}
-use Rattle.papaya_histories.specs.Given.Reserves.declared.reserve.Reserving.TheVariants as reserving
-use Rattle.papaya_histories.specs.Given.Sweeps.declared.sweep.Sweeping.{Sweeping}
-use Rattle.papaya_histories.specs.Given.Sweeps.declared.sweep.Sweeping.TheVariants as sweeping
-use Rattle.papaya_histories.specs.Given.Raw.declared.machines.call.Calling.{Calling}
-use Rattle.papaya_histories.specs.Given.Raw.declared.machines.call.Calling.TheVariants as calling
-use Rattle.papaya_histories.specs.Given.Raw.declared.machines.machine.Machine.{Machine}
-use Rattle.papaya_histories.specs.Given.Raw.declared.machines.machine.Machine.TheVariants as kinds
-use Rattle.papaya_histories.specs.Given.Raw.declared.machines.progress.Progress.{Progress}
-use Rattle.papaya_histories.specs.Given.Runs.declared.outcome.TableShape.{TableShape}
-use Rattle.papaya_histories.specs.Given.Tables.declared.node.Node.{Node}
-use Rattle.papaya_histories.specs.Given.Schedules.declared.effect.Effect.{Effect}
-use Rattle.papaya_histories.specs.Given.Schedules.declared.effect.Effect.TheVariants as effect
-use Rattle.papaya_histories.specs.Given.Schedules.declared.effect.Table.{Table}
-use Rattle.papaya_histories.specs.Given.Schedules.declared.effect.Thing.TheVariants.{APair, ATable}
-use Rattle.papaya_histories.specs.Given.Schedules.Moment.{Moment}
-use Rattle.papaya_histories.specs.Given.Callers.Together.{UnderWay}
-use Rattle.papaya_histories.specs.Given.Effects.Effects.{carried, named, effects_of}
-use Rattle.papaya_histories.specs.Given.Effects.Known.{Known}
-use Rattle.papaya_histories.specs.Given.Effects.declared.acting.Acting.TheVariants.{Call}
-use Rattle.papaya_histories.specs.Given.Effects.declared.role.Role.{Role}
-use Rattle.papaya_histories.specs.Given.Effects.declared.role.Role.TheVariants as role
-use Rattle.papaya_histories.specs.Given.Finishes.Machines.{machine_of}
-use Rattle.papaya_histories.specs.Given.Follows.Shows.{Shows}
-use Rattle.papaya_histories.specs.Given.Follows.Steps.{IsOfNoRow}
-use Rattle.papaya_histories.specs.Given.Hands.Rows.{ShowsRows}
+use Rattle.papaya_histories.specs.Given.SeizeWordsWord.{block_in}
+use Rattle.papaya_histories.specs.Given.SeizeWordsDeclared.at.At.{At}
+use Rattle.papaya_histories.specs.Given.SeizeFurther.{IsWordOf}
+use Rattle.papaya_histories.specs.Given.SeizeWorld.{World, Making}
+use Rattle.papaya_histories.specs.Given.SeizeDeclared.rows.defer.Defer.{Defer}
+use Rattle.papaya_histories.specs.Given.SeizeDeclared.rows.defer.Deferring.{Deferring}
+use Rattle.papaya_histories.specs.Given.SeizeDeclared.rows.defer.Deferring.TheVariants as deferring
+use Rattle.papaya_histories.specs.Given.SeizeDeclared.rows.settle.Settle.{Settle}
+use Rattle.papaya_histories.specs.Given.SeizeDeclared.rows.settle.Settling.{Settling}
+use Rattle.papaya_histories.specs.Given.SeizeDeclared.rows.settle.Settling.TheVariants as settling
+use Rattle.papaya_histories.specs.Given.ResizeDeclared.copier.Copying.{Copying}
+use Rattle.papaya_histories.specs.Given.ResizeDeclared.copier.Copying.TheVariants as copying
+use Rattle.papaya_histories.specs.Given.ResizeDeclared.dispose.Disposing.{Disposing}
+use Rattle.papaya_histories.specs.Given.ResizeDeclared.dispose.Disposing.TheVariants as disposing
+use Rattle.papaya_histories.specs.Given.ReservesDeclared.reserve.Reserving.{Reserving}
+use Rattle.papaya_histories.specs.Given.ReservesDeclared.reserve.Reserving.TheVariants as reserving
+use Rattle.papaya_histories.specs.Given.SweepsDeclared.sweep.Sweeping.{Sweeping}
+use Rattle.papaya_histories.specs.Given.SweepsDeclared.sweep.Sweeping.TheVariants as sweeping
+use Rattle.papaya_histories.specs.Given.RawDeclared.machines.call.Calling.{Calling}
+use Rattle.papaya_histories.specs.Given.RawDeclared.machines.call.Calling.TheVariants as calling
+use Rattle.papaya_histories.specs.Given.RawDeclared.machines.machine.Machine.{Machine}
+use Rattle.papaya_histories.specs.Given.RawDeclared.machines.machine.Machine.TheVariants as kinds
+use Rattle.papaya_histories.specs.Given.RawDeclared.machines.progress.Progress.{Progress}
+use Rattle.papaya_histories.specs.Given.RunsDeclared.outcome.TableShape.{TableShape}
+use Rattle.papaya_histories.specs.Given.TablesDeclared.node.Node.{Node}
+use Rattle.papaya_histories.specs.Given.SchedulesDeclared.effect.Effect.{Effect}
+use Rattle.papaya_histories.specs.Given.SchedulesDeclared.effect.Effect.TheVariants as effect
+use Rattle.papaya_histories.specs.Given.SchedulesDeclared.effect.Table.{Table}
+use Rattle.papaya_histories.specs.Given.SchedulesDeclared.effect.Thing.TheVariants.{APair, ATable}
+use Rattle.papaya_histories.specs.Given.SchedulesMoment.{Moment}
+use Rattle.papaya_histories.specs.Given.CallersTogether.{UnderWay}
+use Rattle.papaya_histories.specs.Given.EffectsEffects.{carried, named, effects_of}
+use Rattle.papaya_histories.specs.Given.EffectsKnown.{Known}
+use Rattle.papaya_histories.specs.Given.EffectsDeclared.acting.Acting.TheVariants.{Call}
+use Rattle.papaya_histories.specs.Given.EffectsDeclared.role.Role.{Role}
+use Rattle.papaya_histories.specs.Given.EffectsDeclared.role.Role.TheVariants as role
+use Rattle.papaya_histories.specs.Given.FinishesMachines.{machine_of}
+use Rattle.papaya_histories.specs.Given.FollowsShows.{Shows}
+use Rattle.papaya_histories.specs.Given.FollowsSteps.{IsOfNoRow}
+use Rattle.papaya_histories.specs.Given.HandsRows.{ShowsRows}
 use Rattle.papaya_settles.specs.Entries.{ShowsEntries}
-use Rattle.papaya_histories.specs.Given.Scenes.Held.{Held, IsAt}
-use Rattle.papaya_histories.specs.Given.Scenes.Scene.{Scene}
-use Rattle.papaya_histories.specs.Given.Scenes.Stepping.{StepLeads}
+use Rattle.papaya_histories.specs.Given.ScenesHeld.{Held, IsAt}
+use Rattle.papaya_histories.specs.Given.ScenesScene.{Scene}
+use Rattle.papaya_histories.specs.Given.ScenesStepping.{StepLeads}
 
 -- the word of a block that a row is to retire, or to put behind another one, which has this word
 pub data Due : Type 0 where

@@ -1,35 +1,35 @@
 -- The entries of blocks that somebody has: no list leads on from them, and no batch is told of; so a row within a call retires one block.
 use Rattle.std.specs.Prelude.{◌≡◌, ◌≢◌, ℕ, Bool, List, Option, Some, ◌⊎◌}
-use Rattle.papaya_histories.specs.Given.SeizeWords.Mem.{Mem, word_at}
-use Rattle.papaya_histories.specs.Given.SeizeWords.Word.{block_in}
-use Rattle.papaya_histories.specs.Given.SeizeWords.declared.at.At.TheVariants.{Entry}
-use Rattle.papaya_histories.specs.Given.Seize.declared.progress.Progress.{Progress as Making}
-use Rattle.papaya_histories.specs.Given.Seize.declared.rows.settle.Settle.{Settle}
-use Rattle.papaya_histories.specs.Given.Seize.declared.rows.settle.Settled.{Settled}
-use Rattle.papaya_histories.specs.Given.Seize.declared.rows.settle.Settling.{Settling}
-use Rattle.papaya_histories.specs.Given.Seize.declared.rows.settle.Settling.TheVariants as settling
-use Rattle.papaya_histories.specs.Given.Seize.declared.states.TheConstants.{NEXT, FIRST}
-use Rattle.papaya_histories.specs.Given.Seize.World.{Hand, Making as IsMade, InUse, Parting, Cutting, Row, Rests, Settles}
-use Rattle.papaya_histories.specs.Given.Tables.declared.node.Node.{Node}
-use Rattle.papaya_histories.specs.Given.Tables.declared.setting.Setting.{Setting}
-use Rattle.papaya_histories.specs.Given.Raw.declared.machines.progress.Progress.{Progress}
-use Rattle.papaya_histories.specs.Given.Schedules.Moment.{Moment}
-use Rattle.papaya_histories.specs.Given.Callers.Together.{UnderWay}
-use Rattle.papaya_histories.specs.Given.Effects.Known.{Known}
-use Rattle.papaya_histories.specs.Given.Scenes.declared.row.RowTold.{RowTold}
-use Rattle.papaya_histories.specs.Given.Scenes.declared.row.SlotCall.{SlotCall}
-use Rattle.papaya_histories.specs.Given.Scenes.declared.row.SlotRow.{SlotRow}
-use Rattle.papaya_histories.specs.Given.Finishes.Endings.{Finishing}
-use Rattle.papaya_histories.specs.Given.Finishes.Makings.{Beginning}
-use Rattle.papaya_histories.specs.Given.Finishes.Maps.{Standing, with_call}
-use Rattle.papaya_histories.specs.Given.Follows.Shows.{Shows}
-use Rattle.papaya_histories.specs.Given.Hands.Rows.{ShowsRows}
-use Rattle.papaya_histories.specs.Given.Scenes.Ending.{EndingLeads, ending_begun}
-use Rattle.papaya_histories.specs.Given.Scenes.Held.{Held, IsAt}
-use Rattle.papaya_histories.specs.Given.Scenes.Making.{MakingLeads}
-use Rattle.papaya_histories.specs.Given.Scenes.OnSlots.{RowBegins, RowLeads}
-use Rattle.papaya_histories.specs.Given.Scenes.Scene.{IsOnSlot, Scene, at_first}
-use Rattle.papaya_histories.specs.Given.Scenes.Stepping.{StepLeads, scene_after}
+use Rattle.papaya_histories.specs.Given.SeizeWordsMem.{Mem, word_at}
+use Rattle.papaya_histories.specs.Given.SeizeWordsWord.{block_in}
+use Rattle.papaya_histories.specs.Given.SeizeWordsDeclared.at.At.TheVariants.{Entry}
+use Rattle.papaya_histories.specs.Given.SeizeDeclared.progress.Progress.{Progress as Making}
+use Rattle.papaya_histories.specs.Given.SeizeDeclared.rows.settle.Settle.{Settle}
+use Rattle.papaya_histories.specs.Given.SeizeDeclared.rows.settle.Settled.{Settled}
+use Rattle.papaya_histories.specs.Given.SeizeDeclared.rows.settle.Settling.{Settling}
+use Rattle.papaya_histories.specs.Given.SeizeDeclared.rows.settle.Settling.TheVariants as settling
+use Rattle.papaya_histories.specs.Given.SeizeDeclared.states.TheConstants.{NEXT, FIRST}
+use Rattle.papaya_histories.specs.Given.SeizeWorld.{Hand, Making as IsMade, InUse, Parting, Cutting, Row, Rests, Settles}
+use Rattle.papaya_histories.specs.Given.TablesDeclared.node.Node.{Node}
+use Rattle.papaya_histories.specs.Given.TablesDeclared.setting.Setting.{Setting}
+use Rattle.papaya_histories.specs.Given.RawDeclared.machines.progress.Progress.{Progress}
+use Rattle.papaya_histories.specs.Given.SchedulesMoment.{Moment}
+use Rattle.papaya_histories.specs.Given.CallersTogether.{UnderWay}
+use Rattle.papaya_histories.specs.Given.EffectsKnown.{Known}
+use Rattle.papaya_histories.specs.Given.ScenesDeclared.row.RowTold.{RowTold}
+use Rattle.papaya_histories.specs.Given.ScenesDeclared.row.SlotCall.{SlotCall}
+use Rattle.papaya_histories.specs.Given.ScenesDeclared.row.SlotRow.{SlotRow}
+use Rattle.papaya_histories.specs.Given.FinishesEndings.{Finishing}
+use Rattle.papaya_histories.specs.Given.FinishesMakings.{Beginning}
+use Rattle.papaya_histories.specs.Given.FinishesMaps.{Standing, with_call}
+use Rattle.papaya_histories.specs.Given.FollowsShows.{Shows}
+use Rattle.papaya_histories.specs.Given.HandsRows.{ShowsRows}
+use Rattle.papaya_histories.specs.Given.ScenesEnding.{EndingLeads, ending_begun}
+use Rattle.papaya_histories.specs.Given.ScenesHeld.{Held, IsAt}
+use Rattle.papaya_histories.specs.Given.ScenesMaking.{MakingLeads}
+use Rattle.papaya_histories.specs.Given.ScenesOnSlots.{RowBegins, RowLeads}
+use Rattle.papaya_histories.specs.Given.ScenesScene.{IsOnSlot, Scene, at_first}
+use Rattle.papaya_histories.specs.Given.ScenesStepping.{StepLeads, scene_after}
 
 -- somebody has it: it was made, or is linked, or was taken out of what it was in
 abbrev pub IsSomebodys : Hand → Type 0

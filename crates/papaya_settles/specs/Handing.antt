@@ -1,31 +1,31 @@
 -- Calls whose rows are under way: the moment says of each that it hands something over.
 use Rattle.std.specs.Prelude.{◌≡◌, ℕ, Bool, true, List, Some}
-use Rattle.papaya_histories.specs.Given.Seize.World.{Rests}
-use Rattle.papaya_histories.specs.Given.Tables.declared.node.Node.{Node}
-use Rattle.papaya_histories.specs.Given.Raw.declared.machines.progress.Progress.{Progress}
-use Rattle.papaya_histories.specs.Given.Schedules.declared.call.Call.{Call}
-use Rattle.papaya_histories.specs.Given.Schedules.declared.call.Reply.{Reply}
-use Rattle.papaya_histories.specs.Given.Schedules.declared.outcome.Outcome.{Outcome}
-use Rattle.papaya_histories.specs.Given.Schedules.Beginning.{with_call}
-use Rattle.papaya_histories.specs.Given.Schedules.Effects.{with_effects}
-use Rattle.papaya_histories.specs.Given.Schedules.Entry.{ends_call}
-use Rattle.papaya_histories.specs.Given.Schedules.InUse.{is_handing}
-use Rattle.papaya_histories.specs.Given.Schedules.Moment.{UnderWay as CallThere, Moment, start}
-use Rattle.papaya_histories.specs.Given.Schedules.Views.{call_of}
-use Rattle.papaya_histories.specs.Given.Callers.Together.{UnderWay}
-use Rattle.papaya_histories.specs.Given.Effects.Effects.{effects_of}
-use Rattle.papaya_histories.specs.Given.Effects.Known.{Known}
-use Rattle.papaya_histories.specs.Given.Effects.declared.acting.Acting.TheVariants.{Call as OfCall}
-use Rattle.papaya_histories.specs.Given.Finishes.Maps.{with_call as with_in}
-use Rattle.papaya_histories.specs.Given.Follows.Calling.{NoneNamed, told, come_to}
-use Rattle.papaya_histories.specs.Given.Follows.Calls.{ShowsCalls}
-use Rattle.papaya_histories.specs.Given.Moments.Whole.{ShowsWhole}
-use Rattle.papaya_histories.specs.Given.Others.Walks.{given_up}
+use Rattle.papaya_histories.specs.Given.SeizeWorld.{Rests}
+use Rattle.papaya_histories.specs.Given.TablesDeclared.node.Node.{Node}
+use Rattle.papaya_histories.specs.Given.RawDeclared.machines.progress.Progress.{Progress}
+use Rattle.papaya_histories.specs.Given.SchedulesDeclared.call.Call.{Call}
+use Rattle.papaya_histories.specs.Given.SchedulesDeclared.call.Reply.{Reply}
+use Rattle.papaya_histories.specs.Given.SchedulesDeclared.outcome.Outcome.{Outcome}
+use Rattle.papaya_histories.specs.Given.SchedulesBeginning.{with_call}
+use Rattle.papaya_histories.specs.Given.SchedulesEffects.{with_effects}
+use Rattle.papaya_histories.specs.Given.SchedulesEntry.{ends_call}
+use Rattle.papaya_histories.specs.Given.SchedulesInUse.{is_handing}
+use Rattle.papaya_histories.specs.Given.SchedulesMoment.{UnderWay as CallThere, Moment, start}
+use Rattle.papaya_histories.specs.Given.SchedulesViews.{call_of}
+use Rattle.papaya_histories.specs.Given.CallersTogether.{UnderWay}
+use Rattle.papaya_histories.specs.Given.EffectsEffects.{effects_of}
+use Rattle.papaya_histories.specs.Given.EffectsKnown.{Known}
+use Rattle.papaya_histories.specs.Given.EffectsDeclared.acting.Acting.TheVariants.{Call as OfCall}
+use Rattle.papaya_histories.specs.Given.FinishesMaps.{with_call as with_in}
+use Rattle.papaya_histories.specs.Given.FollowsCalling.{NoneNamed, told, come_to}
+use Rattle.papaya_histories.specs.Given.FollowsCalls.{ShowsCalls}
+use Rattle.papaya_histories.specs.Given.MomentsWhole.{ShowsWhole}
+use Rattle.papaya_histories.specs.Given.OthersWalks.{given_up}
 use Rattle.papaya_settles.specs.Hand.{ShowsOwed}
-use Rattle.papaya_histories.specs.Given.Scenes.Held.{Held, IsAt}
-use Rattle.papaya_histories.specs.Given.Scenes.Replying.{AskLeads, StopLeads, scene_with, unless_stopped}
-use Rattle.papaya_histories.specs.Given.Scenes.Scene.{Scene, at_first}
-use Rattle.papaya_histories.specs.Given.Scenes.Stepping.{StepLeads, scene_after}
+use Rattle.papaya_histories.specs.Given.ScenesHeld.{Held, IsAt}
+use Rattle.papaya_histories.specs.Given.ScenesReplying.{AskLeads, StopLeads, scene_with, unless_stopped}
+use Rattle.papaya_histories.specs.Given.ScenesScene.{Scene, at_first}
+use Rattle.papaya_histories.specs.Given.ScenesStepping.{StepLeads, scene_after}
 
 -- each call whose row is under way hands something over
 abbrev pub HandsTold : {K V : Type 0} → (ℕ → List ℕ) → Moment K V → Scene K V → Type 0

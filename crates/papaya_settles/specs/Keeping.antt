@@ -1,32 +1,32 @@
 -- What is promised of what calls have to count: what effects find, and that each step of a call leaves it so, and what happens to calls between their steps.
 use Rattle.std.specs.Prelude.{◌≡◌, ◌+◌, ℕ, Bool, true, false, List, Some, None}
-use Rattle.papaya_histories.specs.Given.Tables.declared.node.Node.{Node}
-use Rattle.papaya_histories.specs.Given.Tables.declared.setting.Setting.{Setting}
-use Rattle.papaya_histories.specs.Given.Raw.Machine.{machine_replied}
-use Rattle.papaya_histories.specs.Given.Raw.declared.machines.asking.Reply.{Reply as MachineReply}
-use Rattle.papaya_histories.specs.Given.Raw.declared.machines.call.KeyCall.{KeyCall}
-use Rattle.papaya_histories.specs.Given.Raw.declared.machines.progress.Progress.{Progress}
-use Rattle.papaya_histories.specs.Given.Schedules.declared.call.Call.{Call}
-use Rattle.papaya_histories.specs.Given.Schedules.declared.call.Reply.{Reply}
-use Rattle.papaya_histories.specs.Given.Schedules.declared.outcome.Outcome.{Outcome}
-use Rattle.papaya_histories.specs.Given.Schedules.Beginning.{with_call}
-use Rattle.papaya_histories.specs.Given.Schedules.Effects.{with_effects}
-use Rattle.papaya_histories.specs.Given.Schedules.Entry.{ends_call}
-use Rattle.papaya_histories.specs.Given.Schedules.Moment.{UnderWay as CallThere, Moment, start}
-use Rattle.papaya_histories.specs.Given.Schedules.Views.{call_of}
-use Rattle.papaya_histories.specs.Given.Callers.Pairs.{Given}
-use Rattle.papaya_histories.specs.Given.Callers.Together.{UnderWay, IsBegun}
-use Rattle.papaya_histories.specs.Given.Effects.Effects.{effects_of}
-use Rattle.papaya_histories.specs.Given.Effects.Known.{Known}
-use Rattle.papaya_histories.specs.Given.Effects.declared.acting.Acting.TheVariants as acts
-use Rattle.papaya_histories.specs.Given.Finishes.Machines.{machine_of}
-use Rattle.papaya_histories.specs.Given.Follows.Calling.{NoneNamed, told, come_to}
-use Rattle.papaya_histories.specs.Given.Moments.Whole.{ShowsWhole}
+use Rattle.papaya_histories.specs.Given.TablesDeclared.node.Node.{Node}
+use Rattle.papaya_histories.specs.Given.TablesDeclared.setting.Setting.{Setting}
+use Rattle.papaya_histories.specs.Given.RawMachine.{machine_replied}
+use Rattle.papaya_histories.specs.Given.RawDeclared.machines.asking.Reply.{Reply as MachineReply}
+use Rattle.papaya_histories.specs.Given.RawDeclared.machines.call.KeyCall.{KeyCall}
+use Rattle.papaya_histories.specs.Given.RawDeclared.machines.progress.Progress.{Progress}
+use Rattle.papaya_histories.specs.Given.SchedulesDeclared.call.Call.{Call}
+use Rattle.papaya_histories.specs.Given.SchedulesDeclared.call.Reply.{Reply}
+use Rattle.papaya_histories.specs.Given.SchedulesDeclared.outcome.Outcome.{Outcome}
+use Rattle.papaya_histories.specs.Given.SchedulesBeginning.{with_call}
+use Rattle.papaya_histories.specs.Given.SchedulesEffects.{with_effects}
+use Rattle.papaya_histories.specs.Given.SchedulesEntry.{ends_call}
+use Rattle.papaya_histories.specs.Given.SchedulesMoment.{UnderWay as CallThere, Moment, start}
+use Rattle.papaya_histories.specs.Given.SchedulesViews.{call_of}
+use Rattle.papaya_histories.specs.Given.CallersPairs.{Given}
+use Rattle.papaya_histories.specs.Given.CallersTogether.{UnderWay, IsBegun}
+use Rattle.papaya_histories.specs.Given.EffectsEffects.{effects_of}
+use Rattle.papaya_histories.specs.Given.EffectsKnown.{Known}
+use Rattle.papaya_histories.specs.Given.EffectsDeclared.acting.Acting.TheVariants as acts
+use Rattle.papaya_histories.specs.Given.FinishesMachines.{machine_of}
+use Rattle.papaya_histories.specs.Given.FollowsCalling.{NoneNamed, told, come_to}
+use Rattle.papaya_histories.specs.Given.MomentsWhole.{ShowsWhole}
 use Rattle.papaya_settles.specs.Counts.{counts_in_calling, is_to_count, ShowsCounts, shard_for, FindCounts}
-use Rattle.papaya_histories.specs.Given.Scenes.Held.{Held, IsAt}
-use Rattle.papaya_histories.specs.Given.Scenes.Replying.{scene_with}
-use Rattle.papaya_histories.specs.Given.Scenes.Scene.{Scene, at_first}
-use Rattle.papaya_histories.specs.Given.Scenes.Stepping.{StepLeads, scene_after}
+use Rattle.papaya_histories.specs.Given.ScenesHeld.{Held, IsAt}
+use Rattle.papaya_histories.specs.Given.ScenesReplying.{scene_with}
+use Rattle.papaya_histories.specs.Given.ScenesScene.{Scene, at_first}
+use Rattle.papaya_histories.specs.Given.ScenesStepping.{StepLeads, scene_after}
 
 -- The promises: nobody has anything to count as a run begins,
 abbrev pub CountsBegin : Type 0 → Type 0 → Type 0

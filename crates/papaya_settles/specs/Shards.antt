@@ -1,17 +1,17 @@
 -- What is promised of the shard in which a call counts, in the words of schedules: it is that of the slot of its guard, where a moment shows the guard there.
 use Rattle.std.specs.Prelude.{◌≡◌, ℕ, ◌+◌, Bool, true, false, List, Some}
-use Rattle.papaya_histories.specs.Given.Tables.declared.setting.Setting.{Setting}
-use Rattle.papaya_histories.specs.Given.Runs.Present.{slot_of_guard}
-use Rattle.papaya_histories.specs.Given.Schedules.declared.effect.Effect.{Effect}
-use Rattle.papaya_histories.specs.Given.Schedules.declared.effect.Effect.TheVariants.{Counted}
-use Rattle.papaya_histories.specs.Given.Schedules.Effects.{AtEachEffect}
-use Rattle.papaya_histories.specs.Given.Schedules.Entry.{ByCall, acting}
-use Rattle.papaya_histories.specs.Given.Schedules.Lives.{CallFinds}
-use Rattle.papaya_histories.specs.Given.Schedules.Moment.{UnderWay as CallThere, Moment}
-use Rattle.papaya_histories.specs.Given.Schedules.Terms.{Terms, shards_of}
-use Rattle.papaya_histories.specs.Given.Schedules.Views.{call_of}
+use Rattle.papaya_histories.specs.Given.TablesDeclared.setting.Setting.{Setting}
+use Rattle.papaya_histories.specs.Given.RunsPresent.{slot_of_guard}
+use Rattle.papaya_histories.specs.Given.SchedulesDeclared.effect.Effect.{Effect}
+use Rattle.papaya_histories.specs.Given.SchedulesDeclared.effect.Effect.TheVariants.{Counted}
+use Rattle.papaya_histories.specs.Given.SchedulesEffects.{AtEachEffect}
+use Rattle.papaya_histories.specs.Given.SchedulesEntry.{ByCall, acting}
+use Rattle.papaya_histories.specs.Given.SchedulesLives.{CallFinds}
+use Rattle.papaya_histories.specs.Given.SchedulesMoment.{UnderWay as CallThere, Moment}
+use Rattle.papaya_histories.specs.Given.SchedulesTerms.{Terms, shards_of}
+use Rattle.papaya_histories.specs.Given.SchedulesViews.{call_of}
 use Rattle.papaya_settles.specs.Counts.{shard_for, FindCounts}
-use Rattle.papaya_histories.specs.Given.Scenes.Scene.{slot_of}
+use Rattle.papaya_histories.specs.Given.ScenesScene.{slot_of}
 
 -- an effect that counts
 abbrev pub is_counting : Effect → Bool

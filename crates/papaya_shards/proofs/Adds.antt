@@ -1,29 +1,29 @@
 -- What a step of a call does to the words of counts, and to what it is about to add there.
 use Rattle.std.specs.Prelude.{◌≡◌, ◌==◌, ◌+◌, ◌-◌, ◌%◌, ◌^◌, ℕ, Bool, true, false, cond, List, [], ◌∷◌, length, Option, Some, None, if◌then◌else◌, ◌⊎◌}
 use Rattle.std.proofs.Common.{refl, ap, sym, subst, ◌∙◌, arith, inl, inr}
-use Rattle.papaya_sources.specs.Given.SeizeWords.declared.at.At.TheVariants.{Word}
-use Rattle.papaya_sources.specs.Given.Tables.Counts.{count_change}
-use Rattle.papaya_sources.specs.Given.Raw.declared.machines.call.Calling.{Calling}
-use Rattle.papaya_sources.specs.Given.Raw.declared.machines.call.Calling.TheVariants as calling
-use Rattle.papaya_sources.specs.Given.Raw.declared.machines.machine.Machine.{Machine}
-use Rattle.papaya_sources.specs.Given.Raw.declared.machines.machine.Machine.TheVariants as kinds
-use Rattle.papaya_sources.specs.Given.Schedules.declared.effect.Effect.{Effect}
-use Rattle.papaya_sources.specs.Given.Schedules.declared.effect.Effect.TheVariants as effect
-use Rattle.papaya_sources.specs.Given.Schedules.declared.effect.Spot.{Spot}
-use Rattle.papaya_sources.specs.Given.Schedules.Effects.{gain, word_with, call_by, with_effects}
-use Rattle.papaya_sources.specs.Given.Schedules.Moment.{UnderWay as CallThere, Moment}
-use Rattle.papaya_sources.specs.Given.Schedules.Views.{call_of}
-use Rattle.papaya_sources.specs.Given.Sweeps.declared.sweep.Sweeping.{Sweeping}
-use Rattle.papaya_sources.specs.Given.Sweeps.declared.sweep.Sweeping.TheVariants as sweeping
-use Rattle.papaya_sources.specs.Given.Teller.declared.changed.Changed.{Changed}
-use Rattle.papaya_sources.specs.Given.Teller.declared.changed.Changed.TheVariants as changed
-use Rattle.papaya_sources.specs.Given.Effects.Known.{Known}
-use Rattle.papaya_sources.proofs.Given.Follows.Steps.{one_of}
-use Rattle.papaya_sources.proofs.Given.Histories.Changes.{acted_on}
+use Rattle.papaya_sources.specs.Given.SeizeWordsDeclared.at.At.TheVariants.{Word}
+use Rattle.papaya_sources.specs.Given.TablesCounts.{count_change}
+use Rattle.papaya_sources.specs.Given.RawDeclared.machines.call.Calling.{Calling}
+use Rattle.papaya_sources.specs.Given.RawDeclared.machines.call.Calling.TheVariants as calling
+use Rattle.papaya_sources.specs.Given.RawDeclared.machines.machine.Machine.{Machine}
+use Rattle.papaya_sources.specs.Given.RawDeclared.machines.machine.Machine.TheVariants as kinds
+use Rattle.papaya_sources.specs.Given.SchedulesDeclared.effect.Effect.{Effect}
+use Rattle.papaya_sources.specs.Given.SchedulesDeclared.effect.Effect.TheVariants as effect
+use Rattle.papaya_sources.specs.Given.SchedulesDeclared.effect.Spot.{Spot}
+use Rattle.papaya_sources.specs.Given.SchedulesEffects.{gain, word_with, call_by, with_effects}
+use Rattle.papaya_sources.specs.Given.SchedulesMoment.{UnderWay as CallThere, Moment}
+use Rattle.papaya_sources.specs.Given.SchedulesViews.{call_of}
+use Rattle.papaya_sources.specs.Given.SweepsDeclared.sweep.Sweeping.{Sweeping}
+use Rattle.papaya_sources.specs.Given.SweepsDeclared.sweep.Sweeping.TheVariants as sweeping
+use Rattle.papaya_sources.specs.Given.TellerDeclared.changed.Changed.{Changed}
+use Rattle.papaya_sources.specs.Given.TellerDeclared.changed.Changed.TheVariants as changed
+use Rattle.papaya_sources.specs.Given.EffectsKnown.{Known}
+use Rattle.papaya_sources.proofs.Given.FollowsSteps.{one_of}
+use Rattle.papaya_sources.proofs.Given.HistoriesChanges.{acted_on}
 use Rattle.papaya_shards.specs.Adds.{adds_in_calling, adds_in_sweeping, adds_of, Adds}
-use Rattle.papaya_sources.specs.Given.Settles.Counts.{counts_in_calling, counts_in_sweeping, is_to_count}
-use Rattle.papaya_sources.proofs.Given.Settles.Gains.{due_same}
-use Rattle.papaya_sources.proofs.Given.Settles.Uncounted.{CountsNowhere}
+use Rattle.papaya_sources.specs.Given.SettlesCounts.{counts_in_calling, counts_in_sweeping, is_to_count}
+use Rattle.papaya_sources.proofs.Given.SettlesGains.{due_same}
+use Rattle.papaya_sources.proofs.Given.SettlesUncounted.{CountsNowhere}
 
 -- what is about to add something is about to count
 pub adds_counts : (p : Calling) (removed : ℕ) → adds_in_calling p ≡ Some removed → counts_in_calling p ≡ true

@@ -2,52 +2,52 @@
 -- one more just if it has stored a pair, and one less just if it has removed one.
 use Rattle.std.specs.Prelude.{◌≡◌, ◌==◌, ℕ, Bool, true, false, List, [], ◌∷◌, Some, None, if◌then◌else◌, ◌⊎◌}
 use Rattle.std.proofs.Common.{refl, ap, sym, subst, ◌∙◌, inl, inr}
-use Rattle.papaya_sources.specs.Given.Seize.World.{World}
-use Rattle.papaya_sources.specs.Given.Tables.Chunks.{is_incremental}
-use Rattle.papaya_sources.specs.Given.Tables.declared.node.Node.{Node}
-use Rattle.papaya_sources.specs.Given.Tables.declared.setting.Setting.{Setting}
-use Rattle.papaya_sources.specs.Given.Raw.Progress.{of_called}
-use Rattle.papaya_sources.specs.Given.Raw.declared.machines.answer.Called.{Called}
-use Rattle.papaya_sources.specs.Given.Raw.declared.machines.answer.Called.TheVariants as called
-use Rattle.papaya_sources.specs.Given.Raw.declared.machines.call.Calling.{Calling}
-use Rattle.papaya_sources.specs.Given.Raw.declared.machines.call.Calling.TheVariants as at
-use Rattle.papaya_sources.specs.Given.Raw.declared.machines.call.KeyCall.{KeyCall}
-use Rattle.papaya_sources.specs.Given.Raw.declared.machines.machine.Machine.TheVariants as kinds
-use Rattle.papaya_sources.specs.Given.Raw.declared.machines.progress.Progress.{Progress}
-use Rattle.papaya_sources.specs.Given.Schedules.declared.effect.Effect.{Effect}
-use Rattle.papaya_sources.specs.Given.Schedules.declared.effect.Effect.TheVariants as effect
-use Rattle.papaya_sources.specs.Given.Schedules.declared.effect.Spot.{Spot}
-use Rattle.papaya_sources.specs.Given.Schedules.Moment.{Moment}
-use Rattle.papaya_sources.specs.Given.Rule.Chart.{Chart}
-use Rattle.papaya_sources.specs.Given.Rule.Words.{Blocks}
-use Rattle.papaya_sources.specs.Given.Points.FactsCalls.{Change, Removed, CallingFacts}
-use Rattle.papaya_sources.specs.Given.Points.Told.{IsRowOfCall}
-use Rattle.papaya_sources.specs.Given.Late.LateCalls.{LateCalling}
-use Rattle.papaya_sources.specs.Given.Callers.Sights.{seen_by}
-use Rattle.papaya_sources.specs.Given.Callers.Together.{CallOnKey, OnKey, Stands, change_told, in_slot}
-use Rattle.papaya_sources.specs.Given.Effects.Effects.{effects_of}
-use Rattle.papaya_sources.specs.Given.Effects.Known.{Known}
-use Rattle.papaya_sources.specs.Given.Effects.declared.acting.Acting.TheVariants as acts
-use Rattle.papaya_sources.specs.Given.Finishes.Endings.{StepsAmong}
-use Rattle.papaya_sources.specs.Given.Finishes.Maps.{Standing}
-use Rattle.papaya_sources.specs.Given.Follows.Shows.{Shows}
-use Rattle.papaya_sources.proofs.Given.Follows.Steps.{WentTo, went_to, DidSo}
-use Rattle.papaya_sources.proofs.Given.Hands.Done.{stepped, here}
-use Rattle.papaya_sources.proofs.Given.Histories.Which.{DidOnce, DidNone, DidStore, DidReplace, DidRemove}
+use Rattle.papaya_sources.specs.Given.SeizeWorld.{World}
+use Rattle.papaya_sources.specs.Given.TablesChunks.{is_incremental}
+use Rattle.papaya_sources.specs.Given.TablesDeclared.node.Node.{Node}
+use Rattle.papaya_sources.specs.Given.TablesDeclared.setting.Setting.{Setting}
+use Rattle.papaya_sources.specs.Given.RawProgress.{of_called}
+use Rattle.papaya_sources.specs.Given.RawDeclared.machines.answer.Called.{Called}
+use Rattle.papaya_sources.specs.Given.RawDeclared.machines.answer.Called.TheVariants as called
+use Rattle.papaya_sources.specs.Given.RawDeclared.machines.call.Calling.{Calling}
+use Rattle.papaya_sources.specs.Given.RawDeclared.machines.call.Calling.TheVariants as at
+use Rattle.papaya_sources.specs.Given.RawDeclared.machines.call.KeyCall.{KeyCall}
+use Rattle.papaya_sources.specs.Given.RawDeclared.machines.machine.Machine.TheVariants as kinds
+use Rattle.papaya_sources.specs.Given.RawDeclared.machines.progress.Progress.{Progress}
+use Rattle.papaya_sources.specs.Given.SchedulesDeclared.effect.Effect.{Effect}
+use Rattle.papaya_sources.specs.Given.SchedulesDeclared.effect.Effect.TheVariants as effect
+use Rattle.papaya_sources.specs.Given.SchedulesDeclared.effect.Spot.{Spot}
+use Rattle.papaya_sources.specs.Given.SchedulesMoment.{Moment}
+use Rattle.papaya_sources.specs.Given.RuleChart.{Chart}
+use Rattle.papaya_sources.specs.Given.RuleWords.{Blocks}
+use Rattle.papaya_sources.specs.Given.PointsFactsCalls.{Change, Removed, CallingFacts}
+use Rattle.papaya_sources.specs.Given.PointsTold.{IsRowOfCall}
+use Rattle.papaya_sources.specs.Given.LateLateCalls.{LateCalling}
+use Rattle.papaya_sources.specs.Given.CallersSights.{seen_by}
+use Rattle.papaya_sources.specs.Given.CallersTogether.{CallOnKey, OnKey, Stands, change_told, in_slot}
+use Rattle.papaya_sources.specs.Given.EffectsEffects.{effects_of}
+use Rattle.papaya_sources.specs.Given.EffectsKnown.{Known}
+use Rattle.papaya_sources.specs.Given.EffectsDeclared.acting.Acting.TheVariants as acts
+use Rattle.papaya_sources.specs.Given.FinishesEndings.{StepsAmong}
+use Rattle.papaya_sources.specs.Given.FinishesMaps.{Standing}
+use Rattle.papaya_sources.specs.Given.FollowsShows.{Shows}
+use Rattle.papaya_sources.proofs.Given.FollowsSteps.{WentTo, went_to, DidSo}
+use Rattle.papaya_sources.proofs.Given.HandsDone.{stepped, here}
+use Rattle.papaya_sources.proofs.Given.HistoriesWhich.{DidOnce, DidNone, DidStore, DidReplace, DidRemove}
 use Rattle.papaya_shards.specs.Adds.{adds_in_calling, adds_of}
-use Rattle.papaya_sources.specs.Given.Settles.Counts.{counts_in_calling, shard_for}
-use Rattle.papaya_sources.specs.Given.Settles.InHand.{pair_in_calling}
+use Rattle.papaya_sources.specs.Given.SettlesCounts.{counts_in_calling, shard_for}
+use Rattle.papaya_sources.specs.Given.SettlesInHand.{pair_in_calling}
 use Rattle.papaya_shards.proofs.Adds.{adds_counts, adds_at, adds_none, Brings, StepAdds, AddsNone, AddsIts}
-use Rattle.papaya_sources.proofs.Given.Settles.Aimed.{CallsElsewhere}
-use Rattle.papaya_sources.proofs.Given.Settles.Fresh.{IsBefore, IsFresh}
-use Rattle.papaya_sources.proofs.Given.Settles.Gains.{CountGoes, KeepsCount, AddsOne, GivesWay, TakesOne, CountsAll}
-use Rattle.papaya_sources.proofs.Given.Settles.Keys.{Together2, change2, once, did, fresh, unchanged, nowhere, past, adds_now, counts_now, own_goes}
-use Rattle.papaya_sources.proofs.Given.Settles.Points.{IsBeyond}
-use Rattle.papaya_sources.proofs.Given.Settles.Status.{KindOf, ToCount, ToDispose, IsAtEnd, ToChange, kind_at, before_elsewhere, before_not, elsewhere_not, row_beyond}
-use Rattle.papaya_sources.proofs.Given.Settles.Taken.{key_takes}
-use Rattle.papaya_sources.specs.Given.Scenes.Held.{Held, IsAt}
-use Rattle.papaya_sources.specs.Given.Scenes.Scene.{Scene, slot_of}
-use Rattle.papaya_sources.specs.Given.Scenes.Stepping.{StepLeads}
+use Rattle.papaya_sources.proofs.Given.SettlesAimed.{CallsElsewhere}
+use Rattle.papaya_sources.proofs.Given.SettlesFresh.{IsBefore, IsFresh}
+use Rattle.papaya_sources.proofs.Given.SettlesGains.{CountGoes, KeepsCount, AddsOne, GivesWay, TakesOne, CountsAll}
+use Rattle.papaya_sources.proofs.Given.SettlesKeys.{Together2, change2, once, did, fresh, unchanged, nowhere, past, adds_now, counts_now, own_goes}
+use Rattle.papaya_sources.proofs.Given.SettlesPoints.{IsBeyond}
+use Rattle.papaya_sources.proofs.Given.SettlesStatus.{KindOf, ToCount, ToDispose, IsAtEnd, ToChange, kind_at, before_elsewhere, before_not, elsewhere_not, row_beyond}
+use Rattle.papaya_sources.proofs.Given.SettlesTaken.{key_takes}
+use Rattle.papaya_sources.specs.Given.ScenesHeld.{Held, IsAt}
+use Rattle.papaya_sources.specs.Given.ScenesScene.{Scene, slot_of}
+use Rattle.papaya_sources.specs.Given.ScenesStepping.{StepLeads}
 
 -- what it is to count is a pair that it has stored, where that is 0, or it has removed one
 abbrev pub IsCounted : Change → ℕ → Type 0

@@ -1,40 +1,40 @@
 -- What a step of a reservation, of a counting and of a sweep does to the words of counts: a sweep that counts adds to its shard what it is to; no other step writes one.
 use Rattle.std.specs.Prelude.{◌≡◌, ◌==◌, ℕ, Bool, true, false, List, [], ◌∷◌, Some, None}
 use Rattle.std.proofs.Common.{refl, ap, sym, subst, ◌∙◌, eqb-true, inl, inr}
-use Rattle.papaya_sources.specs.Given.SeizeWords.Word.{block_in}
-use Rattle.papaya_sources.specs.Given.Tables.declared.node.Node.{Node}
-use Rattle.papaya_sources.specs.Given.Resize.declared.sum.Sum.{Sum}
-use Rattle.papaya_sources.specs.Given.Sweeps.declared.sweep.Sweep.{Sweep}
-use Rattle.papaya_sources.specs.Given.Sweeps.declared.sweep.Sweeping.TheVariants as sweeping
-use Rattle.papaya_sources.specs.Given.Sweeps.declared.sweep.Swept.{Swept}
-use Rattle.papaya_sources.specs.Given.Raw.Progress.{of_swept}
-use Rattle.papaya_sources.specs.Given.Raw.declared.machines.machine.Machine.TheVariants as kinds
-use Rattle.papaya_sources.specs.Given.Raw.declared.machines.progress.Progress.{Progress}
-use Rattle.papaya_sources.specs.Given.Schedules.declared.effect.Effect.{Effect}
-use Rattle.papaya_sources.specs.Given.Schedules.declared.effect.Effect.TheVariants as effect
-use Rattle.papaya_sources.specs.Given.Schedules.Moment.{Moment}
-use Rattle.papaya_sources.specs.Given.Callers.OverAll.{CallOverAll}
-use Rattle.papaya_sources.specs.Given.Callers.Rooms.{CallForRoom}
-use Rattle.papaya_sources.specs.Given.Callers.Together.{UnderWay, ForRoom, Counting, OverAll}
-use Rattle.papaya_sources.specs.Given.Effects.Effects.{effects_of}
-use Rattle.papaya_sources.specs.Given.Effects.Known.{Known}
-use Rattle.papaya_sources.specs.Given.Effects.declared.acting.Acting.TheVariants as acts
-use Rattle.papaya_sources.specs.Given.Effects.declared.role.Role.TheVariants as role
-use Rattle.papaya_sources.specs.Given.Finishes.Maps.{Standing}
-use Rattle.papaya_sources.specs.Given.Finishes.Sweeps.{SweepStepsAmong}
-use Rattle.papaya_sources.specs.Given.Follows.Shows.{Shows}
-use Rattle.papaya_sources.proofs.Given.Follows.Steps.{WentTo, went_to, DidSo}
-use Rattle.papaya_sources.proofs.Given.Follows.Writes.{nothing_free}
+use Rattle.papaya_sources.specs.Given.SeizeWordsWord.{block_in}
+use Rattle.papaya_sources.specs.Given.TablesDeclared.node.Node.{Node}
+use Rattle.papaya_sources.specs.Given.ResizeDeclared.sum.Sum.{Sum}
+use Rattle.papaya_sources.specs.Given.SweepsDeclared.sweep.Sweep.{Sweep}
+use Rattle.papaya_sources.specs.Given.SweepsDeclared.sweep.Sweeping.TheVariants as sweeping
+use Rattle.papaya_sources.specs.Given.SweepsDeclared.sweep.Swept.{Swept}
+use Rattle.papaya_sources.specs.Given.RawProgress.{of_swept}
+use Rattle.papaya_sources.specs.Given.RawDeclared.machines.machine.Machine.TheVariants as kinds
+use Rattle.papaya_sources.specs.Given.RawDeclared.machines.progress.Progress.{Progress}
+use Rattle.papaya_sources.specs.Given.SchedulesDeclared.effect.Effect.{Effect}
+use Rattle.papaya_sources.specs.Given.SchedulesDeclared.effect.Effect.TheVariants as effect
+use Rattle.papaya_sources.specs.Given.SchedulesMoment.{Moment}
+use Rattle.papaya_sources.specs.Given.CallersOverAll.{CallOverAll}
+use Rattle.papaya_sources.specs.Given.CallersRooms.{CallForRoom}
+use Rattle.papaya_sources.specs.Given.CallersTogether.{UnderWay, ForRoom, Counting, OverAll}
+use Rattle.papaya_sources.specs.Given.EffectsEffects.{effects_of}
+use Rattle.papaya_sources.specs.Given.EffectsKnown.{Known}
+use Rattle.papaya_sources.specs.Given.EffectsDeclared.acting.Acting.TheVariants as acts
+use Rattle.papaya_sources.specs.Given.EffectsDeclared.role.Role.TheVariants as role
+use Rattle.papaya_sources.specs.Given.FinishesMaps.{Standing}
+use Rattle.papaya_sources.specs.Given.FinishesSweeps.{SweepStepsAmong}
+use Rattle.papaya_sources.specs.Given.FollowsShows.{Shows}
+use Rattle.papaya_sources.proofs.Given.FollowsSteps.{WentTo, went_to, DidSo}
+use Rattle.papaya_sources.proofs.Given.FollowsWrites.{nothing_free}
 use Rattle.papaya_shards.specs.Adds.{adds_in_sweeping, adds_of}
-use Rattle.papaya_sources.specs.Given.Settles.Counts.{counts_in_sweeping, shard_for}
+use Rattle.papaya_sources.specs.Given.SettlesCounts.{counts_in_sweeping, shard_for}
 use Rattle.papaya_shards.proofs.Adds.{sweep_adds_counts, sweep_adds_at, sweep_adds_none, Brings, StepAdds, AddsNone, AddsIts}
-use Rattle.papaya_sources.proofs.Given.Settles.Aimed.{IsElsewhere}
-use Rattle.papaya_sources.proofs.Given.Settles.Gains.{CountGoes, KeepsCount, AddsOne, GivesWay, TakesOne, CountsAll}
-use Rattle.papaya_sources.proofs.Given.Settles.Points.{IsNoTry}
-use Rattle.papaya_sources.proofs.Given.Settles.Rest.{KindOf, ToCount, ToTry, IsApart, kind_at, elsewhere_not, row_apart, room_nowhere, sum_nowhere, nowhere, idle, adds_now, counts_now, own_goes, own_takes}
-use Rattle.papaya_sources.specs.Given.Scenes.Held.{Held, IsAt}
-use Rattle.papaya_sources.specs.Given.Scenes.Scene.{Scene, slot_of}
-use Rattle.papaya_sources.specs.Given.Scenes.Stepping.{StepLeads}
+use Rattle.papaya_sources.proofs.Given.SettlesAimed.{IsElsewhere}
+use Rattle.papaya_sources.proofs.Given.SettlesGains.{CountGoes, KeepsCount, AddsOne, GivesWay, TakesOne, CountsAll}
+use Rattle.papaya_sources.proofs.Given.SettlesPoints.{IsNoTry}
+use Rattle.papaya_sources.proofs.Given.SettlesRest.{KindOf, ToCount, ToTry, IsApart, kind_at, elsewhere_not, row_apart, room_nowhere, sum_nowhere, nowhere, idle, adds_now, counts_now, own_goes, own_takes}
+use Rattle.papaya_sources.specs.Given.ScenesHeld.{Held, IsAt}
+use Rattle.papaya_sources.specs.Given.ScenesScene.{Scene, slot_of}
+use Rattle.papaya_sources.specs.Given.ScenesStepping.{StepLeads}
 
 module _ {K V : Type 0} (same : K → K → Bool) (hash : ℕ → K → ℕ) (name : ℕ → List ℕ) (m : Moment K V) (known : Known) (s : Scene K V) (old new : Held K V) (at_old : IsAt same hash old s)
     (shown : Shows same name m known s) (map i : ℕ) (u : UnderWay K V K) (under_way : s.calls map i ≡ Some u) (said : Progress (Node K V)) (leads : StepLeads same hash i said s old new) where

@@ -1,47 +1,47 @@
 -- Between the steps of calls: where one begins, is told a reply, or has come to an outcome, shards are what they were, and so is what each is about to add.
 use Rattle.std.specs.Prelude.{◌≡◌, ℕ, ◌+◌, Bool, true, false, cond, not, List, find, map, Option, Some, if◌then◌else◌}
 use Rattle.std.proofs.Common.{refl, ap, sym, subst, ◌∙◌, inl, inr}
-use Rattle.papaya_sources.specs.Given.SeizeWords.Mem.{Mem, word_at}
-use Rattle.papaya_sources.specs.Given.SeizeWords.declared.at.At.TheVariants.{Word}
-use Rattle.papaya_sources.specs.Given.Tables.declared.node.Node.{Node}
-use Rattle.papaya_sources.specs.Given.Runs.Same.{is_same}
-use Rattle.papaya_sources.specs.Given.Sweeps.declared.sweep.Sweep.{Sweep}
-use Rattle.papaya_sources.specs.Given.Sweeps.declared.sweep.Sweeping.{Sweeping}
-use Rattle.papaya_sources.specs.Given.Sweeps.declared.sweep.Sweeping.TheVariants as sweeping
-use Rattle.papaya_sources.specs.Given.Raw.CallAsks.{told_at}
-use Rattle.papaya_sources.specs.Given.Raw.Machine.{sweep_told, machine_replied}
-use Rattle.papaya_sources.specs.Given.Raw.declared.machines.asking.Reply.{Reply as MachineReply}
-use Rattle.papaya_sources.specs.Given.Raw.declared.machines.call.Calling.{Calling}
-use Rattle.papaya_sources.specs.Given.Raw.declared.machines.call.Calling.TheVariants as at
-use Rattle.papaya_sources.specs.Given.Raw.declared.machines.call.KeyCall.{KeyCall}
-use Rattle.papaya_sources.specs.Given.Raw.declared.machines.machine.Machine.{Machine}
-use Rattle.papaya_sources.specs.Given.Raw.declared.machines.machine.Machine.TheVariants as kinds
-use Rattle.papaya_sources.specs.Given.Schedules.declared.call.Reply.{Reply}
-use Rattle.papaya_sources.specs.Given.Schedules.declared.outcome.Outcome.{Outcome}
-use Rattle.papaya_sources.specs.Given.Schedules.declared.outcome.Outcome.TheVariants as outcome
-use Rattle.papaya_sources.specs.Given.Schedules.After.{asks_on, comes_to, replied, without_call}
-use Rattle.papaya_sources.specs.Given.Schedules.Beginning.{fresh_call, with_call}
-use Rattle.papaya_sources.specs.Given.Schedules.Entry.{ends_call}
-use Rattle.papaya_sources.specs.Given.Schedules.Moment.{Stands, Going, Asking, Told as WasTold, IsReady, UnderWay as CallThere, Moment}
-use Rattle.papaya_sources.specs.Given.Schedules.Views.{call_of}
-use Rattle.papaya_sources.specs.Given.Callers.Together.{UnderWay}
-use Rattle.papaya_sources.specs.Given.Finishes.Machines.{machine_of}
-use Rattle.papaya_sources.specs.Given.Finishes.Makings.{Beginning}
-use Rattle.papaya_sources.specs.Given.Finishes.Maps.{Standing, with_call as with_in}
-use Rattle.papaya_sources.specs.Given.Follows.Calling.{NoneNamed}
-use Rattle.papaya_sources.specs.Given.Follows.Calls.{ShowsCalls}
-use Rattle.papaya_sources.proofs.Given.Follows.Calling.{apart_back, found_kept, come, come_of_same, replied_same}
-use Rattle.papaya_sources.proofs.Given.Follows.Calls.{IsOfSame, changed, found}
-use Rattle.papaya_sources.proofs.Given.Follows.Steps.{one_of}
-use Rattle.papaya_sources.proofs.Given.Hands.Asking.{which}
-use Rattle.papaya_sources.proofs.Given.Hands.Calling.{caller_is}
+use Rattle.papaya_sources.specs.Given.SeizeWordsMem.{Mem, word_at}
+use Rattle.papaya_sources.specs.Given.SeizeWordsDeclared.at.At.TheVariants.{Word}
+use Rattle.papaya_sources.specs.Given.TablesDeclared.node.Node.{Node}
+use Rattle.papaya_sources.specs.Given.RunsSame.{is_same}
+use Rattle.papaya_sources.specs.Given.SweepsDeclared.sweep.Sweep.{Sweep}
+use Rattle.papaya_sources.specs.Given.SweepsDeclared.sweep.Sweeping.{Sweeping}
+use Rattle.papaya_sources.specs.Given.SweepsDeclared.sweep.Sweeping.TheVariants as sweeping
+use Rattle.papaya_sources.specs.Given.RawCallAsks.{told_at}
+use Rattle.papaya_sources.specs.Given.RawMachine.{sweep_told, machine_replied}
+use Rattle.papaya_sources.specs.Given.RawDeclared.machines.asking.Reply.{Reply as MachineReply}
+use Rattle.papaya_sources.specs.Given.RawDeclared.machines.call.Calling.{Calling}
+use Rattle.papaya_sources.specs.Given.RawDeclared.machines.call.Calling.TheVariants as at
+use Rattle.papaya_sources.specs.Given.RawDeclared.machines.call.KeyCall.{KeyCall}
+use Rattle.papaya_sources.specs.Given.RawDeclared.machines.machine.Machine.{Machine}
+use Rattle.papaya_sources.specs.Given.RawDeclared.machines.machine.Machine.TheVariants as kinds
+use Rattle.papaya_sources.specs.Given.SchedulesDeclared.call.Reply.{Reply}
+use Rattle.papaya_sources.specs.Given.SchedulesDeclared.outcome.Outcome.{Outcome}
+use Rattle.papaya_sources.specs.Given.SchedulesDeclared.outcome.Outcome.TheVariants as outcome
+use Rattle.papaya_sources.specs.Given.SchedulesAfter.{asks_on, comes_to, replied, without_call}
+use Rattle.papaya_sources.specs.Given.SchedulesBeginning.{fresh_call, with_call}
+use Rattle.papaya_sources.specs.Given.SchedulesEntry.{ends_call}
+use Rattle.papaya_sources.specs.Given.SchedulesMoment.{Stands, Going, Asking, Told as WasTold, IsReady, UnderWay as CallThere, Moment}
+use Rattle.papaya_sources.specs.Given.SchedulesViews.{call_of}
+use Rattle.papaya_sources.specs.Given.CallersTogether.{UnderWay}
+use Rattle.papaya_sources.specs.Given.FinishesMachines.{machine_of}
+use Rattle.papaya_sources.specs.Given.FinishesMakings.{Beginning}
+use Rattle.papaya_sources.specs.Given.FinishesMaps.{Standing, with_call as with_in}
+use Rattle.papaya_sources.specs.Given.FollowsCalling.{NoneNamed}
+use Rattle.papaya_sources.specs.Given.FollowsCalls.{ShowsCalls}
+use Rattle.papaya_sources.proofs.Given.FollowsCalling.{apart_back, found_kept, come, come_of_same, replied_same}
+use Rattle.papaya_sources.proofs.Given.FollowsCalls.{IsOfSame, changed, found}
+use Rattle.papaya_sources.proofs.Given.FollowsSteps.{one_of}
+use Rattle.papaya_sources.proofs.Given.HandsAsking.{which}
+use Rattle.papaya_sources.proofs.Given.HandsCalling.{caller_is}
 use Rattle.papaya_shards.specs.Adds.{adds_in_calling, adds_in_sweeping, adds_of, Adds, ShowsAdds}
-use Rattle.papaya_sources.specs.Given.Settles.Counts.{counts_in_calling, counts_in_sweeping, is_to_count}
+use Rattle.papaya_sources.specs.Given.SettlesCounts.{counts_in_calling, counts_in_sweeping, is_to_count}
 use Rattle.papaya_shards.specs.ShardSteps.{CallsBeginCounters, CallsTakeCounters, CallsComeToCounters, CountersStay}
 use Rattle.papaya_shards.specs.ShardWords.{ShowsShards, MakesUncounted}
 use Rattle.papaya_shards.proofs.Adds.{machine_adds}
-use Rattle.papaya_sources.proofs.Given.Settles.Between.{told_same}
-use Rattle.papaya_sources.specs.Given.Scenes.Scene.{Scene}
+use Rattle.papaya_sources.proofs.Given.SettlesBetween.{told_same}
+use Rattle.papaya_sources.specs.Given.ScenesScene.{Scene}
 
 -- a machine that is about to add something takes no reply
 key_told : {K V : Type 0} (p : KeyCall K V K) (stands : Calling) (told : MachineReply V) → p.stands ≡ stands → counts_in_calling stands ≡ true → adds_in_calling (told_at stands p told).0.stands ≡ adds_in_calling p.stands

@@ -2,54 +2,54 @@
 use Rattle.std.specs.Prelude.{◌≡◌, ◌≢◌, ◌+◌, ◌%◌, ◌^◌, ℕ, ◌≤◌, Bool, true, false, List, [], ◌∷◌, Option, Some}
 use Rattle.std.proofs.Common.{refl, ap, sym, subst, ◌∙◌, arith, inl, inr}
 use Rattle.std.proofs.lemmas.Bool.{cases_eq}
-use Rattle.papaya_sources.specs.Given.SeizeWords.Mem.{Mem, word_at}
-use Rattle.papaya_sources.specs.Given.SeizeWords.declared.at.At.TheVariants.{Word}
-use Rattle.papaya_sources.proofs.Given.SeizeRule.Words.Named.{or_zero}
-use Rattle.papaya_sources.specs.Given.Tables.Counts.{count_change}
-use Rattle.papaya_sources.specs.Given.Tables.declared.node.Node.{Node}
-use Rattle.papaya_sources.specs.Given.Tables.declared.setting.Setting.{Setting}
-use Rattle.papaya_sources.specs.Given.Runs.Same.{is_same}
-use Rattle.papaya_sources.specs.Given.Raw.declared.machines.progress.Progress.{Progress}
-use Rattle.papaya_sources.specs.Given.Schedules.declared.effect.Effect.{Effect}
-use Rattle.papaya_sources.specs.Given.Schedules.declared.effect.Effect.TheVariants.{Counted}
-use Rattle.papaya_sources.specs.Given.Schedules.Effects.{word_with, shards_by, with_effects}
-use Rattle.papaya_sources.specs.Given.Schedules.Lists.{put}
-use Rattle.papaya_sources.specs.Given.Schedules.Moment.{UnderWay as CallThere, Moment}
-use Rattle.papaya_sources.specs.Given.Schedules.Views.{call_of}
-use Rattle.papaya_sources.specs.Given.Teller.declared.changed.Changed.{Changed}
-use Rattle.papaya_sources.specs.Given.Teller.declared.changed.Changed.TheVariants as changed
-use Rattle.papaya_sources.specs.Given.Callers.Together.{UnderWay, OnKey, ForRoom, Counting, OverAll}
-use Rattle.papaya_sources.specs.Given.Effects.Effects.{effects_of}
-use Rattle.papaya_sources.specs.Given.Effects.Known.{Known}
-use Rattle.papaya_sources.specs.Given.Effects.declared.acting.Acting.TheVariants as acts
-use Rattle.papaya_sources.specs.Given.Effects.declared.role.Role.TheVariants as role
-use Rattle.papaya_sources.specs.Given.Finishes.Machines.{machine_of}
-use Rattle.papaya_sources.specs.Given.Finishes.Makings.{Beginning, HasMade}
-use Rattle.papaya_sources.specs.Given.Finishes.Maps.{Standing}
-use Rattle.papaya_sources.specs.Given.Follows.Calls.{IsCalled}
-use Rattle.papaya_sources.specs.Given.Follows.Shows.{Shows}
-use Rattle.papaya_sources.proofs.Given.Follows.Alike.{put_here, put_elsewhere}
-use Rattle.papaya_sources.proofs.Given.Follows.Operations.{LeavesBy, Operated, operated_leaves}
-use Rattle.papaya_sources.proofs.Given.Follows.Steps.{WentTo, went_to, made_so, one_of}
-use Rattle.papaya_sources.proofs.Given.Hands.Asking.{which}
-use Rattle.papaya_sources.proofs.Given.Hands.Calling.{caller_is}
-use Rattle.papaya_sources.specs.Given.Moments.Whole.{ShowsWhole}
+use Rattle.papaya_sources.specs.Given.SeizeWordsMem.{Mem, word_at}
+use Rattle.papaya_sources.specs.Given.SeizeWordsDeclared.at.At.TheVariants.{Word}
+use Rattle.papaya_sources.proofs.Given.SeizeRuleWords.Named.{or_zero}
+use Rattle.papaya_sources.specs.Given.TablesCounts.{count_change}
+use Rattle.papaya_sources.specs.Given.TablesDeclared.node.Node.{Node}
+use Rattle.papaya_sources.specs.Given.TablesDeclared.setting.Setting.{Setting}
+use Rattle.papaya_sources.specs.Given.RunsSame.{is_same}
+use Rattle.papaya_sources.specs.Given.RawDeclared.machines.progress.Progress.{Progress}
+use Rattle.papaya_sources.specs.Given.SchedulesDeclared.effect.Effect.{Effect}
+use Rattle.papaya_sources.specs.Given.SchedulesDeclared.effect.Effect.TheVariants.{Counted}
+use Rattle.papaya_sources.specs.Given.SchedulesEffects.{word_with, shards_by, with_effects}
+use Rattle.papaya_sources.specs.Given.SchedulesLists.{put}
+use Rattle.papaya_sources.specs.Given.SchedulesMoment.{UnderWay as CallThere, Moment}
+use Rattle.papaya_sources.specs.Given.SchedulesViews.{call_of}
+use Rattle.papaya_sources.specs.Given.TellerDeclared.changed.Changed.{Changed}
+use Rattle.papaya_sources.specs.Given.TellerDeclared.changed.Changed.TheVariants as changed
+use Rattle.papaya_sources.specs.Given.CallersTogether.{UnderWay, OnKey, ForRoom, Counting, OverAll}
+use Rattle.papaya_sources.specs.Given.EffectsEffects.{effects_of}
+use Rattle.papaya_sources.specs.Given.EffectsKnown.{Known}
+use Rattle.papaya_sources.specs.Given.EffectsDeclared.acting.Acting.TheVariants as acts
+use Rattle.papaya_sources.specs.Given.EffectsDeclared.role.Role.TheVariants as role
+use Rattle.papaya_sources.specs.Given.FinishesMachines.{machine_of}
+use Rattle.papaya_sources.specs.Given.FinishesMakings.{Beginning, HasMade}
+use Rattle.papaya_sources.specs.Given.FinishesMaps.{Standing}
+use Rattle.papaya_sources.specs.Given.FollowsCalls.{IsCalled}
+use Rattle.papaya_sources.specs.Given.FollowsShows.{Shows}
+use Rattle.papaya_sources.proofs.Given.FollowsAlike.{put_here, put_elsewhere}
+use Rattle.papaya_sources.proofs.Given.FollowsOperations.{LeavesBy, Operated, operated_leaves}
+use Rattle.papaya_sources.proofs.Given.FollowsSteps.{WentTo, went_to, made_so, one_of}
+use Rattle.papaya_sources.proofs.Given.HandsAsking.{which}
+use Rattle.papaya_sources.proofs.Given.HandsCalling.{caller_is}
+use Rattle.papaya_sources.specs.Given.MomentsWhole.{ShowsWhole}
 use Rattle.papaya_shards.specs.Adds.{adds_of, Adds}
-use Rattle.papaya_sources.specs.Given.Settles.Counts.{HasToCount, ShowsCounts, shard_for}
+use Rattle.papaya_sources.specs.Given.SettlesCounts.{HasToCount, ShowsCounts, shard_for}
 use Rattle.papaya_shards.specs.ShardSteps.{AddsUp, CallsKeepCounters, RoomsCountNothing}
 use Rattle.papaya_shards.specs.ShardWords.{ShowsShards, MakesUncounted, ShowsCounters}
 use Rattle.papaya_shards.proofs.Adds.{machine_not_adds, StepAdds, AddsNone, AddsIts, word_added, then_adds}
-use Rattle.papaya_sources.proofs.Given.Settles.Calls.{goes_as_one, MayStore, replaces_none}
-use Rattle.papaya_sources.proofs.Given.Settles.Gains.{others_stay}
+use Rattle.papaya_sources.proofs.Given.SettlesCalls.{goes_as_one, MayStore, replaces_none}
+use Rattle.papaya_sources.proofs.Given.SettlesGains.{others_stay}
 use Rattle.papaya_shards.proofs.KeyAdds.{key_adds}
-use Rattle.papaya_sources.proofs.Given.Settles.Rest.{room_nowhere, sum_nowhere}
+use Rattle.papaya_sources.proofs.Given.SettlesRest.{room_nowhere, sum_nowhere}
 use Rattle.papaya_shards.proofs.RestAdds.{room_adds, sum_adds, sweep_adds}
 use Rattle.papaya_shards.proofs.ShardKept.{uncounted_shards, same_setting, word_kept, shard_there, made_there, shards_kept, makes_kept}
-use Rattle.papaya_sources.proofs.Given.Settles.Uncounted.{CountsNowhere, none_counts}
+use Rattle.papaya_sources.proofs.Given.SettlesUncounted.{CountsNowhere, none_counts}
 use Rattle.papaya_shards.proofs.WordOps.{word_lasts}
-use Rattle.papaya_sources.specs.Given.Scenes.Held.{Held, IsAt}
-use Rattle.papaya_sources.specs.Given.Scenes.Scene.{Scene}
-use Rattle.papaya_sources.specs.Given.Scenes.Stepping.{StepLeads, scene_after}
+use Rattle.papaya_sources.specs.Given.ScenesHeld.{Held, IsAt}
+use Rattle.papaya_sources.specs.Given.ScenesScene.{Scene}
+use Rattle.papaya_sources.specs.Given.ScenesStepping.{StepLeads, scene_after}
 
 module _ {K V : Type 0} (same : K → K → Bool) (hash : ℕ → K → ℕ) (name : ℕ → List ℕ) (m : Moment K V) (known : Known) (s : Scene K V) (old new : Held K V) (at_old : IsAt same hash old s)
     (whole : ShowsWhole same name m known s) (counts : ShowsCounts name m s) (counters : ShowsCounters name m s) (map i : ℕ) (u : UnderWay K V K) (here : s.calls map i ≡ Some u)

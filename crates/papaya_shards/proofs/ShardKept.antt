@@ -1,34 +1,34 @@
 -- Where a step writes no word of a map's count, and the moment counts nothing, shards are what they were.
 use Rattle.std.specs.Prelude.{◌≡◌, ℕ, ◌≤◌, Bool, false, List, [], ◌∷◌, find, Option, Some, None}
 use Rattle.std.proofs.Common.{refl, ap, sym, subst, ◌∙◌, inl, inr}
-use Rattle.papaya_sources.specs.Given.SeizeWords.Mem.{Mem, word_at}
-use Rattle.papaya_sources.specs.Given.SeizeWords.declared.at.At.TheVariants.{Word}
-use Rattle.papaya_sources.proofs.Given.SeizeRule.Words.Named.{or_zero}
-use Rattle.papaya_sources.specs.Given.Tables.declared.node.Node.{Node}
-use Rattle.papaya_sources.specs.Given.Tables.declared.setting.Setting.{Setting}
-use Rattle.papaya_sources.specs.Given.Runs.Same.{is_same}
-use Rattle.papaya_sources.specs.Given.Schedules.declared.effect.Effect.{Effect}
-use Rattle.papaya_sources.specs.Given.Schedules.declared.effect.Effect.TheVariants as effect
-use Rattle.papaya_sources.specs.Given.Schedules.Effects.{shards_by, with_effect, with_effects}
-use Rattle.papaya_sources.specs.Given.Schedules.Entry.{acting}
-use Rattle.papaya_sources.specs.Given.Schedules.Moment.{UnderWay as CallThere, Moment}
-use Rattle.papaya_sources.specs.Given.Teller.declared.changed.Changed.{Changed}
-use Rattle.papaya_sources.specs.Given.Callers.Together.{UnderWay}
-use Rattle.papaya_sources.specs.Given.Effects.Known.{Known}
-use Rattle.papaya_sources.specs.Given.Effects.declared.role.Role.TheVariants as role
-use Rattle.papaya_sources.specs.Given.Finishes.Makings.{Beginning, HasMade, HasOwnCounter}
-use Rattle.papaya_sources.specs.Given.Finishes.Maps.{Standing, IsSameMap}
-use Rattle.papaya_sources.proofs.Given.Finishes.Beside.Makings.Lasts.{made_counter}
-use Rattle.papaya_sources.proofs.Given.Follows.Operations.{Operated}
-use Rattle.papaya_sources.proofs.Given.Follows.Steps.{one_of}
+use Rattle.papaya_sources.specs.Given.SeizeWordsMem.{Mem, word_at}
+use Rattle.papaya_sources.specs.Given.SeizeWordsDeclared.at.At.TheVariants.{Word}
+use Rattle.papaya_sources.proofs.Given.SeizeRuleWords.Named.{or_zero}
+use Rattle.papaya_sources.specs.Given.TablesDeclared.node.Node.{Node}
+use Rattle.papaya_sources.specs.Given.TablesDeclared.setting.Setting.{Setting}
+use Rattle.papaya_sources.specs.Given.RunsSame.{is_same}
+use Rattle.papaya_sources.specs.Given.SchedulesDeclared.effect.Effect.{Effect}
+use Rattle.papaya_sources.specs.Given.SchedulesDeclared.effect.Effect.TheVariants as effect
+use Rattle.papaya_sources.specs.Given.SchedulesEffects.{shards_by, with_effect, with_effects}
+use Rattle.papaya_sources.specs.Given.SchedulesEntry.{acting}
+use Rattle.papaya_sources.specs.Given.SchedulesMoment.{UnderWay as CallThere, Moment}
+use Rattle.papaya_sources.specs.Given.TellerDeclared.changed.Changed.{Changed}
+use Rattle.papaya_sources.specs.Given.CallersTogether.{UnderWay}
+use Rattle.papaya_sources.specs.Given.EffectsKnown.{Known}
+use Rattle.papaya_sources.specs.Given.EffectsDeclared.role.Role.TheVariants as role
+use Rattle.papaya_sources.specs.Given.FinishesMakings.{Beginning, HasMade, HasOwnCounter}
+use Rattle.papaya_sources.specs.Given.FinishesMaps.{Standing, IsSameMap}
+use Rattle.papaya_sources.proofs.Given.FinishesBeside.Makings.Lasts.{made_counter}
+use Rattle.papaya_sources.proofs.Given.FollowsOperations.{Operated}
+use Rattle.papaya_sources.proofs.Given.FollowsSteps.{one_of}
 use Rattle.papaya_shards.specs.Adds.{ShowsAdds}
 use Rattle.papaya_shards.specs.ShardWords.{ShowsShards, IsUncounted, MakesUncounted}
-use Rattle.papaya_sources.specs.Given.Settles.Shards.{is_counting}
-use Rattle.papaya_sources.proofs.Given.Settles.Gains.{NoneCounts}
-use Rattle.papaya_sources.proofs.Given.Settles.Uncounted.{CountsNowhere}
+use Rattle.papaya_sources.specs.Given.SettlesShards.{is_counting}
+use Rattle.papaya_sources.proofs.Given.SettlesGains.{NoneCounts}
+use Rattle.papaya_sources.proofs.Given.SettlesUncounted.{CountsNowhere}
 use Rattle.papaya_shards.proofs.WordOps.{word_lasts}
-use Rattle.papaya_sources.specs.Given.Scenes.Held.{Held, IsAt}
-use Rattle.papaya_sources.specs.Given.Scenes.Scene.{Scene}
+use Rattle.papaya_sources.specs.Given.ScenesHeld.{Held, IsAt}
+use Rattle.papaya_sources.specs.Given.ScenesScene.{Scene}
 
 -- effects of which none counts leave shards, and so do those of no call
 module _ {K V : Type 0} where

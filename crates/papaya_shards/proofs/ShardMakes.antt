@@ -2,55 +2,55 @@
 use Rattle.std.specs.Prelude.{◌≡◌, ℕ, ◌<◌, ◌≤◌, Bool, List, Option, Some, None}
 use Rattle.std.proofs.Common.{refl, ap, sym, subst, ◌∙◌, arith, inl, inr}
 use Rattle.std.proofs.lemmas.Bool.{cases_eq}
-use Rattle.papaya_sources.specs.Given.SeizeWords.Mem.{Mem, value_at, word_at}
-use Rattle.papaya_sources.specs.Given.SeizeWords.declared.at.At.TheVariants.{Root, Word}
-use Rattle.papaya_sources.specs.Given.Seize.World.{World, with_at}
-use Rattle.papaya_sources.specs.Given.Seize.declared.progress.Progress.{Progress}
-use Rattle.papaya_sources.specs.Given.Seize.declared.progress.Progress.TheVariants as progress
-use Rattle.papaya_sources.specs.Given.Tables.declared.node.Node.{Node}
-use Rattle.papaya_sources.specs.Given.Tables.declared.node.Node.TheVariants as node
-use Rattle.papaya_sources.specs.Given.Tables.declared.setting.Setting.{Setting}
-use Rattle.papaya_sources.specs.Given.Resize.NewMap.{opened, new_map_plan}
-use Rattle.papaya_sources.specs.Given.Resize.NewMap as new_map
-use Rattle.papaya_sources.specs.Given.Resize.NewTable.{new_table_plan}
-use Rattle.papaya_sources.specs.Given.Resize.declared.new_map.NewMap.{NewMap}
-use Rattle.papaya_sources.specs.Given.Resize.declared.new_map.Opening.{Opening}
-use Rattle.papaya_sources.specs.Given.Resize.declared.new_map.Opening.TheVariants as at
-use Rattle.papaya_sources.specs.Given.Schedules.declared.effect.Effect.{Effect}
-use Rattle.papaya_sources.specs.Given.Schedules.Effects.{with_effects}
-use Rattle.papaya_sources.specs.Given.Schedules.Moment.{Moment}
-use Rattle.papaya_sources.specs.Given.Teller.declared.changed.Changed.{Changed}
-use Rattle.papaya_sources.specs.Given.Teller.declared.changed.Changed.TheVariants as changed
-use Rattle.papaya_sources.specs.Given.Teller.declared.changed.Kind.{Kind}
-use Rattle.papaya_sources.specs.Given.Teller.declared.changed.Kind.TheVariants as kind
-use Rattle.papaya_sources.specs.Given.Rule.Rule.{no_table}
-use Rattle.papaya_sources.specs.Given.Callers.Together.{no_blocks}
-use Rattle.papaya_sources.proofs.Given.Callers.Together.At.{at_other, at_same}
-use Rattle.papaya_sources.specs.Given.Effects.Effects.{effects_of}
-use Rattle.papaya_sources.specs.Given.Effects.Known.{Known}
-use Rattle.papaya_sources.specs.Given.Effects.declared.acting.Acting.TheVariants as acts
-use Rattle.papaya_sources.specs.Given.Effects.declared.role.Role.TheVariants as role
-use Rattle.papaya_sources.specs.Given.Finishes.Endings.{MakingStepsAmong}
-use Rattle.papaya_sources.specs.Given.Finishes.Makings.{Beginning, HasMade, OpeningFacts, MakingFacts, IsMade, KeepsIts}
-use Rattle.papaya_sources.specs.Given.Finishes.Maps.{Standing}
-use Rattle.papaya_sources.specs.Given.Follows.Blocks.{HasRole}
-use Rattle.papaya_sources.proofs.Given.Follows.Operations.{LeavesBy, Operated, operated, operated_leaves}
-use Rattle.papaya_sources.proofs.Given.Follows.Steps.{one_of}
-use Rattle.papaya_sources.specs.Given.Moments.Whole.{ShowsWhole}
-use Rattle.papaya_sources.proofs.Given.Others.MakingPlans.{DoneBy, making_done, CounterFrom, counter_from}
+use Rattle.papaya_sources.specs.Given.SeizeWordsMem.{Mem, value_at, word_at}
+use Rattle.papaya_sources.specs.Given.SeizeWordsDeclared.at.At.TheVariants.{Root, Word}
+use Rattle.papaya_sources.specs.Given.SeizeWorld.{World, with_at}
+use Rattle.papaya_sources.specs.Given.SeizeDeclared.progress.Progress.{Progress}
+use Rattle.papaya_sources.specs.Given.SeizeDeclared.progress.Progress.TheVariants as progress
+use Rattle.papaya_sources.specs.Given.TablesDeclared.node.Node.{Node}
+use Rattle.papaya_sources.specs.Given.TablesDeclared.node.Node.TheVariants as node
+use Rattle.papaya_sources.specs.Given.TablesDeclared.setting.Setting.{Setting}
+use Rattle.papaya_sources.specs.Given.ResizeNewMap.{opened, new_map_plan}
+use Rattle.papaya_sources.specs.Given.ResizeNewMap as new_map
+use Rattle.papaya_sources.specs.Given.ResizeNewTable.{new_table_plan}
+use Rattle.papaya_sources.specs.Given.ResizeDeclared.new_map.NewMap.{NewMap}
+use Rattle.papaya_sources.specs.Given.ResizeDeclared.new_map.Opening.{Opening}
+use Rattle.papaya_sources.specs.Given.ResizeDeclared.new_map.Opening.TheVariants as at
+use Rattle.papaya_sources.specs.Given.SchedulesDeclared.effect.Effect.{Effect}
+use Rattle.papaya_sources.specs.Given.SchedulesEffects.{with_effects}
+use Rattle.papaya_sources.specs.Given.SchedulesMoment.{Moment}
+use Rattle.papaya_sources.specs.Given.TellerDeclared.changed.Changed.{Changed}
+use Rattle.papaya_sources.specs.Given.TellerDeclared.changed.Changed.TheVariants as changed
+use Rattle.papaya_sources.specs.Given.TellerDeclared.changed.Kind.{Kind}
+use Rattle.papaya_sources.specs.Given.TellerDeclared.changed.Kind.TheVariants as kind
+use Rattle.papaya_sources.specs.Given.RuleRule.{no_table}
+use Rattle.papaya_sources.specs.Given.CallersTogether.{no_blocks}
+use Rattle.papaya_sources.proofs.Given.CallersTogether.At.{at_other, at_same}
+use Rattle.papaya_sources.specs.Given.EffectsEffects.{effects_of}
+use Rattle.papaya_sources.specs.Given.EffectsKnown.{Known}
+use Rattle.papaya_sources.specs.Given.EffectsDeclared.acting.Acting.TheVariants as acts
+use Rattle.papaya_sources.specs.Given.EffectsDeclared.role.Role.TheVariants as role
+use Rattle.papaya_sources.specs.Given.FinishesEndings.{MakingStepsAmong}
+use Rattle.papaya_sources.specs.Given.FinishesMakings.{Beginning, HasMade, OpeningFacts, MakingFacts, IsMade, KeepsIts}
+use Rattle.papaya_sources.specs.Given.FinishesMaps.{Standing}
+use Rattle.papaya_sources.specs.Given.FollowsBlocks.{HasRole}
+use Rattle.papaya_sources.proofs.Given.FollowsOperations.{LeavesBy, Operated, operated, operated_leaves}
+use Rattle.papaya_sources.proofs.Given.FollowsSteps.{one_of}
+use Rattle.papaya_sources.specs.Given.MomentsWhole.{ShowsWhole}
+use Rattle.papaya_sources.proofs.Given.OthersMakingPlans.{DoneBy, making_done, CounterFrom, counter_from}
 use Rattle.papaya_shards.specs.ShardSteps.{MakingsKeepCounters}
 use Rattle.papaya_shards.specs.ShardWords.{ShowsShards, IsUncounted, MakesUncounted, ShowsCounters}
-use Rattle.papaya_sources.proofs.Given.Settles.Aimed.{new_aims}
-use Rattle.papaya_sources.proofs.Given.Settles.Aims.{NewAims, PlanAims, aims_as, table_at, plan_aimed}
-use Rattle.papaya_sources.proofs.Given.Settles.Gains.{none_changed}
-use Rattle.papaya_sources.proofs.Given.Settles.Here.{IsNoCount}
+use Rattle.papaya_sources.proofs.Given.SettlesAimed.{new_aims}
+use Rattle.papaya_sources.proofs.Given.SettlesAims.{NewAims, PlanAims, aims_as, table_at, plan_aimed}
+use Rattle.papaya_sources.proofs.Given.SettlesGains.{none_changed}
+use Rattle.papaya_sources.proofs.Given.SettlesHere.{IsNoCount}
 use Rattle.papaya_shards.proofs.ShardKept.{none_shards, word_kept, shard_there, made_there, shard_kept, shards_kept, made_kept, adds_kept}
-use Rattle.papaya_sources.proofs.Given.Settles.Uncounted.{CountsNowhere}
+use Rattle.papaya_sources.proofs.Given.SettlesUncounted.{CountsNowhere}
 use Rattle.papaya_shards.proofs.WordOps.{word_lasts, none_there}
-use Rattle.papaya_sources.proofs.Given.Scenes.May.{may_make}
-use Rattle.papaya_sources.specs.Given.Scenes.Held.{Held, IsAt}
-use Rattle.papaya_sources.specs.Given.Scenes.Making.{MakingStepsFrom}
-use Rattle.papaya_sources.specs.Given.Scenes.Scene.{Scene, slot_of}
+use Rattle.papaya_sources.proofs.Given.ScenesMay.{may_make}
+use Rattle.papaya_sources.specs.Given.ScenesHeld.{Held, IsAt}
+use Rattle.papaya_sources.specs.Given.ScenesMaking.{MakingStepsFrom}
+use Rattle.papaya_sources.specs.Given.ScenesScene.{Scene, slot_of}
 
 -- which words of blocks the step of a making may write
 module _ (P : ℕ → Type 0) where

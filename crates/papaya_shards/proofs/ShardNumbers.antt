@@ -1,23 +1,23 @@
 -- Nothing was counted on a number that no map has had yet.
 use Rattle.std.specs.Prelude.{◌≡◌, ◌≢◌, ℕ, Bool, List, Some}
 use Rattle.std.proofs.Common.{refl, ◌∙◌}
-use Rattle.papaya_sources.specs.Given.Tables.declared.node.Node.{Node}
-use Rattle.papaya_sources.specs.Given.Raw.declared.machines.progress.Progress.{Progress}
-use Rattle.papaya_sources.specs.Given.Schedules.Effects.{with_effects}
-use Rattle.papaya_sources.specs.Given.Schedules.Moment.{Moment}
-use Rattle.papaya_sources.specs.Given.Callers.Together.{UnderWay, OnKey, ForRoom, Counting, OverAll}
-use Rattle.papaya_sources.specs.Given.Effects.Effects.{effects_of}
-use Rattle.papaya_sources.specs.Given.Effects.Known.{Known}
-use Rattle.papaya_sources.specs.Given.Effects.declared.acting.Acting.TheVariants as acts
-use Rattle.papaya_sources.specs.Given.Moments.Whole.{ShowsWhole}
-use Rattle.papaya_sources.specs.Given.Settles.Counts.{ShowsCounts}
+use Rattle.papaya_sources.specs.Given.TablesDeclared.node.Node.{Node}
+use Rattle.papaya_sources.specs.Given.RawDeclared.machines.progress.Progress.{Progress}
+use Rattle.papaya_sources.specs.Given.SchedulesEffects.{with_effects}
+use Rattle.papaya_sources.specs.Given.SchedulesMoment.{Moment}
+use Rattle.papaya_sources.specs.Given.CallersTogether.{UnderWay, OnKey, ForRoom, Counting, OverAll}
+use Rattle.papaya_sources.specs.Given.EffectsEffects.{effects_of}
+use Rattle.papaya_sources.specs.Given.EffectsKnown.{Known}
+use Rattle.papaya_sources.specs.Given.EffectsDeclared.acting.Acting.TheVariants as acts
+use Rattle.papaya_sources.specs.Given.MomentsWhole.{ShowsWhole}
+use Rattle.papaya_sources.specs.Given.SettlesCounts.{ShowsCounts}
 use Rattle.papaya_shards.specs.ShardWords.{ShowsCounters}
 use Rattle.papaya_shards.proofs.KeyAdds.{key_adds}
 use Rattle.papaya_shards.proofs.RestAdds.{room_adds, sum_adds, sweep_adds}
 use Rattle.papaya_shards.proofs.ShardCalls.{others_then}
-use Rattle.papaya_sources.specs.Given.Scenes.Held.{Held, IsAt}
-use Rattle.papaya_sources.specs.Given.Scenes.Scene.{Scene}
-use Rattle.papaya_sources.specs.Given.Scenes.Stepping.{StepLeads}
+use Rattle.papaya_sources.specs.Given.ScenesHeld.{Held, IsAt}
+use Rattle.papaya_sources.specs.Given.ScenesScene.{Scene}
+use Rattle.papaya_sources.specs.Given.ScenesStepping.{StepLeads}
 
 -- a step of a call counts on its map alone
 pub calls_spare_others : {K V : Type 0} (same : K → K → Bool) (hash : ℕ → K → ℕ) (name : ℕ → List ℕ) (m : Moment K V) (known : Known) (s : Scene K V) (old new : Held K V) → IsAt same hash old s

@@ -2,44 +2,44 @@
 use Rattle.std.specs.Prelude.{◌≡◌, ℕ, zero, suc, ◌≤◌, Bool, List, Option, Some, None}
 use Rattle.std.proofs.Common.{refl, ap, sym, subst, ◌∙◌, arith, inl, inr}
 use Rattle.std.proofs.lemmas.Bool.{cases_eq}
-use Rattle.papaya_sources.specs.Given.SeizeWords.Mem.{Mem, word_at}
-use Rattle.papaya_sources.specs.Given.SeizeWords.declared.at.At.TheVariants.{Word}
-use Rattle.papaya_sources.specs.Given.Seize.World.{World, Begin, Step, with_at, times}
-use Rattle.papaya_sources.specs.Given.Tables.declared.node.Node.{Node}
-use Rattle.papaya_sources.specs.Given.Tables.declared.setting.Setting.{Setting}
-use Rattle.papaya_sources.specs.Given.Schedules.declared.effect.Effect.{Effect}
-use Rattle.papaya_sources.specs.Given.Schedules.Effects.{with_effects}
-use Rattle.papaya_sources.specs.Given.Schedules.Moment.{Moment}
-use Rattle.papaya_sources.specs.Given.Teller.declared.changed.Changed.{Changed}
-use Rattle.papaya_sources.proofs.Given.Callers.Together.At.{at_other, at_same}
-use Rattle.papaya_sources.specs.Given.Effects.Effects.{effects_of}
-use Rattle.papaya_sources.specs.Given.Effects.Known.{Known}
-use Rattle.papaya_sources.specs.Given.Effects.declared.acting.Acting.TheVariants as acts
-use Rattle.papaya_sources.specs.Given.Effects.declared.role.Role.TheVariants as role
-use Rattle.papaya_sources.specs.Given.Scenes.declared.row.RowTold.{RowTold}
-use Rattle.papaya_sources.specs.Given.Scenes.declared.row.SlotRow.{SlotRow}
-use Rattle.papaya_sources.specs.Given.Finishes.FactsEnds.{Deed, Spares, taken_by}
-use Rattle.papaya_sources.specs.Given.Finishes.Makings.{Beginning, HasMade}
-use Rattle.papaya_sources.specs.Given.Finishes.Maps.{Standing}
-use Rattle.papaya_sources.proofs.Given.Follows.Operations.{Operated}
-use Rattle.papaya_sources.proofs.Given.Follows.Steps.{one_of}
-use Rattle.papaya_sources.specs.Given.Moments.Whole.{ShowsWhole}
-use Rattle.papaya_sources.specs.Given.Others.Endings.{ending_after}
-use Rattle.papaya_sources.specs.Given.Others.Rows.{scene_then}
-use Rattle.papaya_sources.proofs.Given.Others.RowPlans.{TellsRow, row_tells, row_operated}
-use Rattle.papaya_sources.proofs.Given.Histories.Aside.Elsewhere.{ending_at}
+use Rattle.papaya_sources.specs.Given.SeizeWordsMem.{Mem, word_at}
+use Rattle.papaya_sources.specs.Given.SeizeWordsDeclared.at.At.TheVariants.{Word}
+use Rattle.papaya_sources.specs.Given.SeizeWorld.{World, Begin, Step, with_at, times}
+use Rattle.papaya_sources.specs.Given.TablesDeclared.node.Node.{Node}
+use Rattle.papaya_sources.specs.Given.TablesDeclared.setting.Setting.{Setting}
+use Rattle.papaya_sources.specs.Given.SchedulesDeclared.effect.Effect.{Effect}
+use Rattle.papaya_sources.specs.Given.SchedulesEffects.{with_effects}
+use Rattle.papaya_sources.specs.Given.SchedulesMoment.{Moment}
+use Rattle.papaya_sources.specs.Given.TellerDeclared.changed.Changed.{Changed}
+use Rattle.papaya_sources.proofs.Given.CallersTogether.At.{at_other, at_same}
+use Rattle.papaya_sources.specs.Given.EffectsEffects.{effects_of}
+use Rattle.papaya_sources.specs.Given.EffectsKnown.{Known}
+use Rattle.papaya_sources.specs.Given.EffectsDeclared.acting.Acting.TheVariants as acts
+use Rattle.papaya_sources.specs.Given.EffectsDeclared.role.Role.TheVariants as role
+use Rattle.papaya_sources.specs.Given.ScenesDeclared.row.RowTold.{RowTold}
+use Rattle.papaya_sources.specs.Given.ScenesDeclared.row.SlotRow.{SlotRow}
+use Rattle.papaya_sources.specs.Given.FinishesFactsEnds.{Deed, Spares, taken_by}
+use Rattle.papaya_sources.specs.Given.FinishesMakings.{Beginning, HasMade}
+use Rattle.papaya_sources.specs.Given.FinishesMaps.{Standing}
+use Rattle.papaya_sources.proofs.Given.FollowsOperations.{Operated}
+use Rattle.papaya_sources.proofs.Given.FollowsSteps.{one_of}
+use Rattle.papaya_sources.specs.Given.MomentsWhole.{ShowsWhole}
+use Rattle.papaya_sources.specs.Given.OthersEndings.{ending_after}
+use Rattle.papaya_sources.specs.Given.OthersRows.{scene_then}
+use Rattle.papaya_sources.proofs.Given.OthersRowPlans.{TellsRow, row_tells, row_operated}
+use Rattle.papaya_sources.proofs.Given.HistoriesAside.Elsewhere.{ending_at}
 use Rattle.papaya_shards.specs.ShardSteps.{RowsBeginCounters, RowsKeepCounters, EndingsKeepCounters, MakingsBeginCounters, EndingsBeginCounters}
 use Rattle.papaya_shards.specs.ShardWords.{ShowsShards, IsUncounted, MakesUncounted, ShowsCounters}
-use Rattle.papaya_sources.proofs.Given.Settles.Gains.{none_changed}
+use Rattle.papaya_sources.proofs.Given.SettlesGains.{none_changed}
 use Rattle.papaya_shards.proofs.ShardKept.{none_shards, same_setting, word_kept, shards_kept, makes_kept, adds_kept}
-use Rattle.papaya_sources.proofs.Given.Settles.Uncounted.{CountsNowhere}
+use Rattle.papaya_sources.proofs.Given.SettlesUncounted.{CountsNowhere}
 use Rattle.papaya_shards.proofs.WordOps.{gone_there}
-use Rattle.papaya_sources.proofs.Given.Scenes.May.{may_row}
-use Rattle.papaya_sources.specs.Given.Scenes.Ending.{ending_begun}
-use Rattle.papaya_sources.specs.Given.Scenes.Held.{Held, IsAt}
-use Rattle.papaya_sources.specs.Given.Scenes.OnSlots.{HappensAt, RowSteps}
-use Rattle.papaya_sources.specs.Given.Scenes.Rows.{request_of}
-use Rattle.papaya_sources.specs.Given.Scenes.Scene.{IsOnSlot, Scene, slot_of}
+use Rattle.papaya_sources.proofs.Given.ScenesMay.{may_row}
+use Rattle.papaya_sources.specs.Given.ScenesEnding.{ending_begun}
+use Rattle.papaya_sources.specs.Given.ScenesHeld.{Held, IsAt}
+use Rattle.papaya_sources.specs.Given.ScenesOnSlots.{HappensAt, RowSteps}
+use Rattle.papaya_sources.specs.Given.ScenesRows.{request_of}
+use Rattle.papaya_sources.specs.Given.ScenesScene.{IsOnSlot, Scene, slot_of}
 
 -- in the same memory words are the same
 memory_kept : {K V : Type 0} (m m2 : Mem (Node K V)) → m2 ≡ m → (c f x y : ℕ) → word_at m (Word c f) ≡ Some x → word_at m2 (Word c f) ≡ Some y → y ≡ x

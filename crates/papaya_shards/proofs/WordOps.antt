@@ -1,19 +1,19 @@
 -- What one operation leaves of a word of a block's own that is there after it: it is what it was, and 0 if it was not there, unless it is told as written.
 use Rattle.std.specs.Prelude.{◌≡◌, ◌==◌, ℕ, Bool, true, false, Option, Some, None, Ok, Err, IsSome, if◌then◌else◌, ◌⊎◌}
 use Rattle.std.proofs.Common.{refl, ap, sym, subst, ◌∙◌, inl, inr}
-use Rattle.papaya_sources.specs.Given.SeizeWords.declared.at.At.{At}
-use Rattle.papaya_sources.specs.Given.SeizeWords.declared.at.At.TheVariants.{Word}
-use Rattle.papaya_sources.specs.Given.SeizeWords.declared.block.Block.{Block}
-use Rattle.papaya_sources.specs.Given.SeizeWords.Mem.{Mem, same_at, block_of, value_in, word_in, value_at, word_at, with_word, Can, Took}
-use Rattle.papaya_sources.specs.Given.SeizeWords.Op.{Op, Out, Load, Store, Swap, Add, Or, Exchange, Make, Take, Rewrite, Room, Found, Stored, Exchanged, Made, Taken, Roomed}
-use Rattle.papaya_sources.proofs.Given.SeizeWords.OneOwner.AfterWrites.{word_at-with_word, word_at-with_value, block_of-with_block}
-use Rattle.papaya_sources.proofs.Given.SeizeRule.Words.Named.{or_zero, words_of, same_at-true, block_there, made_one}
-use Rattle.papaya_sources.specs.Given.Tables.declared.node.Node.{Node}
-use Rattle.papaya_sources.specs.Given.Tells.Seen.{seen_of}
-use Rattle.papaya_sources.specs.Given.Teller.Tells.{told_of}
-use Rattle.papaya_sources.specs.Given.Teller.declared.changed.Changed.{Changed}
-use Rattle.papaya_sources.specs.Given.Teller.declared.changed.Changed.TheVariants as changed
-use Rattle.papaya_sources.proofs.Given.Follows.Operations.{Operated}
+use Rattle.papaya_sources.specs.Given.SeizeWordsDeclared.at.At.{At}
+use Rattle.papaya_sources.specs.Given.SeizeWordsDeclared.at.At.TheVariants.{Word}
+use Rattle.papaya_sources.specs.Given.SeizeWordsDeclared.block.Block.{Block}
+use Rattle.papaya_sources.specs.Given.SeizeWordsMem.{Mem, same_at, block_of, value_in, word_in, value_at, word_at, with_word, Can, Took}
+use Rattle.papaya_sources.specs.Given.SeizeWordsOp.{Op, Out, Load, Store, Swap, Add, Or, Exchange, Make, Take, Rewrite, Room, Found, Stored, Exchanged, Made, Taken, Roomed}
+use Rattle.papaya_sources.proofs.Given.SeizeWordsOneOwner.AfterWrites.{word_at-with_word, word_at-with_value, block_of-with_block}
+use Rattle.papaya_sources.proofs.Given.SeizeRuleWords.Named.{or_zero, words_of, same_at-true, block_there, made_one}
+use Rattle.papaya_sources.specs.Given.TablesDeclared.node.Node.{Node}
+use Rattle.papaya_sources.specs.Given.TellsSeen.{seen_of}
+use Rattle.papaya_sources.specs.Given.TellerTells.{told_of}
+use Rattle.papaya_sources.specs.Given.TellerDeclared.changed.Changed.{Changed}
+use Rattle.papaya_sources.specs.Given.TellerDeclared.changed.Changed.TheVariants as changed
+use Rattle.papaya_sources.proofs.Given.FollowsOperations.{Operated}
 
 module _ {K V : Type 0} (m m2 : Mem (Node K V)) (c f y : ℕ) (is : word_at m2 (Word c f) ≡ Some y) where
   -- it is what it was, or is told as written

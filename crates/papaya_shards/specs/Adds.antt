@@ -1,16 +1,16 @@
 -- What a machine that is about to count adds, and that it is what a moment of a run says that the call has stored or removed.
 use Rattle.std.specs.Prelude.{◌≡◌, ◌==◌, ℕ, cond, List, Option, Some, None}
-use Rattle.papaya_sources.specs.Given.Sweeps.declared.sweep.Sweeping.{Sweeping}
-use Rattle.papaya_sources.specs.Given.Sweeps.declared.sweep.Sweeping.TheVariants as sweeping
-use Rattle.papaya_sources.specs.Given.Raw.declared.machines.call.Calling.{Calling}
-use Rattle.papaya_sources.specs.Given.Raw.declared.machines.call.Calling.TheVariants as calling
-use Rattle.papaya_sources.specs.Given.Raw.declared.machines.machine.Machine.{Machine}
-use Rattle.papaya_sources.specs.Given.Raw.declared.machines.machine.Machine.TheVariants as kinds
-use Rattle.papaya_sources.specs.Given.Schedules.Moment.{UnderWay as CallThere, Moment}
-use Rattle.papaya_sources.specs.Given.Schedules.Views.{call_of}
-use Rattle.papaya_sources.specs.Given.Callers.Together.{UnderWay}
-use Rattle.papaya_sources.specs.Given.Finishes.Machines.{machine_of}
-use Rattle.papaya_sources.specs.Given.Scenes.Scene.{Scene}
+use Rattle.papaya_sources.specs.Given.SweepsDeclared.sweep.Sweeping.{Sweeping}
+use Rattle.papaya_sources.specs.Given.SweepsDeclared.sweep.Sweeping.TheVariants as sweeping
+use Rattle.papaya_sources.specs.Given.RawDeclared.machines.call.Calling.{Calling}
+use Rattle.papaya_sources.specs.Given.RawDeclared.machines.call.Calling.TheVariants as calling
+use Rattle.papaya_sources.specs.Given.RawDeclared.machines.machine.Machine.{Machine}
+use Rattle.papaya_sources.specs.Given.RawDeclared.machines.machine.Machine.TheVariants as kinds
+use Rattle.papaya_sources.specs.Given.SchedulesMoment.{UnderWay as CallThere, Moment}
+use Rattle.papaya_sources.specs.Given.SchedulesViews.{call_of}
+use Rattle.papaya_sources.specs.Given.CallersTogether.{UnderWay}
+use Rattle.papaya_sources.specs.Given.FinishesMachines.{machine_of}
+use Rattle.papaya_sources.specs.Given.ScenesScene.{Scene}
 
 -- a call on one key is about to count the pair of this word, which it has removed, or one that it has stored, if the word is 0
 abbrev pub adds_in_calling : Calling → Option ℕ

@@ -1,47 +1,47 @@
 -- What is promised of the words of maps' counts: the memory's are those of the moment, whoever takes a step.
 use Rattle.std.specs.Prelude.{◌≡◌, ℕ, ◌≤◌, Bool, true, false, List, Option, Some, None}
-use Rattle.papaya_sources.specs.Given.Seize.World.{Begin, Step, with_at}
-use Rattle.papaya_sources.specs.Given.Seize.declared.progress.Progress.{Progress as Making}
-use Rattle.papaya_sources.specs.Given.Seize.declared.rows.settle.Settled.{Settled}
-use Rattle.papaya_sources.specs.Given.Tables.declared.node.Node.{Node}
-use Rattle.papaya_sources.specs.Given.Tables.declared.setting.Setting.{Setting}
-use Rattle.papaya_sources.specs.Given.Raw.Machine.{machine_replied}
-use Rattle.papaya_sources.specs.Given.Raw.declared.machines.asking.Reply.{Reply as MachineReply}
-use Rattle.papaya_sources.specs.Given.Raw.declared.machines.progress.Progress.{Progress}
-use Rattle.papaya_sources.specs.Given.Schedules.declared.call.Call.{Call}
-use Rattle.papaya_sources.specs.Given.Schedules.declared.call.Reply.{Reply}
-use Rattle.papaya_sources.specs.Given.Schedules.declared.outcome.Outcome.{Outcome}
-use Rattle.papaya_sources.specs.Given.Schedules.Beginning.{with_call}
-use Rattle.papaya_sources.specs.Given.Schedules.Effects.{with_effects}
-use Rattle.papaya_sources.specs.Given.Schedules.Entry.{ends_call}
-use Rattle.papaya_sources.specs.Given.Schedules.Moment.{Moment}
-use Rattle.papaya_sources.specs.Given.Callers.Together.{UnderWay, ForRoom, Counting}
-use Rattle.papaya_sources.specs.Given.Effects.Effects.{effects_of}
-use Rattle.papaya_sources.specs.Given.Effects.Known.{Known}
-use Rattle.papaya_sources.specs.Given.Effects.declared.acting.Acting.TheVariants as acts
-use Rattle.papaya_sources.specs.Given.Scenes.declared.row.RowTold.{RowTold}
-use Rattle.papaya_sources.specs.Given.Scenes.declared.row.SlotCall.{SlotCall}
-use Rattle.papaya_sources.specs.Given.Scenes.declared.row.SlotRow.{SlotRow}
-use Rattle.papaya_sources.specs.Given.Finishes.Endings.{Finishing}
-use Rattle.papaya_sources.specs.Given.Finishes.Machines.{machine_of}
-use Rattle.papaya_sources.specs.Given.Finishes.Makings.{Beginning, HasMade}
-use Rattle.papaya_sources.specs.Given.Finishes.Maps.{Standing}
-use Rattle.papaya_sources.specs.Given.Follows.Calling.{NoneNamed, told, come_to}
-use Rattle.papaya_sources.specs.Given.Moments.Whole.{ShowsWhole}
-use Rattle.papaya_sources.specs.Given.Others.Endings.{ending_after}
-use Rattle.papaya_sources.specs.Given.Others.Makings.{making_after}
-use Rattle.papaya_sources.specs.Given.Others.Rows.{scene_then}
+use Rattle.papaya_sources.specs.Given.SeizeWorld.{Begin, Step, with_at}
+use Rattle.papaya_sources.specs.Given.SeizeDeclared.progress.Progress.{Progress as Making}
+use Rattle.papaya_sources.specs.Given.SeizeDeclared.rows.settle.Settled.{Settled}
+use Rattle.papaya_sources.specs.Given.TablesDeclared.node.Node.{Node}
+use Rattle.papaya_sources.specs.Given.TablesDeclared.setting.Setting.{Setting}
+use Rattle.papaya_sources.specs.Given.RawMachine.{machine_replied}
+use Rattle.papaya_sources.specs.Given.RawDeclared.machines.asking.Reply.{Reply as MachineReply}
+use Rattle.papaya_sources.specs.Given.RawDeclared.machines.progress.Progress.{Progress}
+use Rattle.papaya_sources.specs.Given.SchedulesDeclared.call.Call.{Call}
+use Rattle.papaya_sources.specs.Given.SchedulesDeclared.call.Reply.{Reply}
+use Rattle.papaya_sources.specs.Given.SchedulesDeclared.outcome.Outcome.{Outcome}
+use Rattle.papaya_sources.specs.Given.SchedulesBeginning.{with_call}
+use Rattle.papaya_sources.specs.Given.SchedulesEffects.{with_effects}
+use Rattle.papaya_sources.specs.Given.SchedulesEntry.{ends_call}
+use Rattle.papaya_sources.specs.Given.SchedulesMoment.{Moment}
+use Rattle.papaya_sources.specs.Given.CallersTogether.{UnderWay, ForRoom, Counting}
+use Rattle.papaya_sources.specs.Given.EffectsEffects.{effects_of}
+use Rattle.papaya_sources.specs.Given.EffectsKnown.{Known}
+use Rattle.papaya_sources.specs.Given.EffectsDeclared.acting.Acting.TheVariants as acts
+use Rattle.papaya_sources.specs.Given.ScenesDeclared.row.RowTold.{RowTold}
+use Rattle.papaya_sources.specs.Given.ScenesDeclared.row.SlotCall.{SlotCall}
+use Rattle.papaya_sources.specs.Given.ScenesDeclared.row.SlotRow.{SlotRow}
+use Rattle.papaya_sources.specs.Given.FinishesEndings.{Finishing}
+use Rattle.papaya_sources.specs.Given.FinishesMachines.{machine_of}
+use Rattle.papaya_sources.specs.Given.FinishesMakings.{Beginning, HasMade}
+use Rattle.papaya_sources.specs.Given.FinishesMaps.{Standing}
+use Rattle.papaya_sources.specs.Given.FollowsCalling.{NoneNamed, told, come_to}
+use Rattle.papaya_sources.specs.Given.MomentsWhole.{ShowsWhole}
+use Rattle.papaya_sources.specs.Given.OthersEndings.{ending_after}
+use Rattle.papaya_sources.specs.Given.OthersMakings.{making_after}
+use Rattle.papaya_sources.specs.Given.OthersRows.{scene_then}
 use Rattle.papaya_shards.specs.Adds.{adds_of}
-use Rattle.papaya_sources.specs.Given.Settles.Counts.{is_to_count, ShowsCounts}
+use Rattle.papaya_sources.specs.Given.SettlesCounts.{is_to_count, ShowsCounts}
 use Rattle.papaya_shards.specs.ShardWords.{IsUncounted, ShowsCounters}
-use Rattle.papaya_sources.specs.Given.Scenes.Ending.{EndingLeads, ending_begun}
-use Rattle.papaya_sources.specs.Given.Scenes.Held.{Held, IsAt}
-use Rattle.papaya_sources.specs.Given.Scenes.Making.{MakingLeads}
-use Rattle.papaya_sources.specs.Given.Scenes.OnSlots.{RowBegins, RowLeads}
-use Rattle.papaya_sources.specs.Given.Scenes.Replying.{scene_with}
-use Rattle.papaya_sources.specs.Given.Scenes.Rows.{request_of}
-use Rattle.papaya_sources.specs.Given.Scenes.Scene.{IsOnSlot, Scene, slot_of}
-use Rattle.papaya_sources.specs.Given.Scenes.Stepping.{StepLeads, scene_after}
+use Rattle.papaya_sources.specs.Given.ScenesEnding.{EndingLeads, ending_begun}
+use Rattle.papaya_sources.specs.Given.ScenesHeld.{Held, IsAt}
+use Rattle.papaya_sources.specs.Given.ScenesMaking.{MakingLeads}
+use Rattle.papaya_sources.specs.Given.ScenesOnSlots.{RowBegins, RowLeads}
+use Rattle.papaya_sources.specs.Given.ScenesReplying.{scene_with}
+use Rattle.papaya_sources.specs.Given.ScenesRows.{request_of}
+use Rattle.papaya_sources.specs.Given.ScenesScene.{IsOnSlot, Scene, slot_of}
+use Rattle.papaya_sources.specs.Given.ScenesStepping.{StepLeads, scene_after}
 
 -- it adds shards up, or may
 abbrev pub AddsUp : {K V : Type 0} → UnderWay K V K → Type 0

@@ -1,12 +1,12 @@
 -- The words of a map's count, as the memory has them, and as the moment says.
 use Rattle.std.specs.Prelude.{◌≡◌, ℕ, ◌≤◌, List, Some}
-use Rattle.papaya_sources.specs.Given.SeizeWords.Mem.{word_at}
-use Rattle.papaya_sources.specs.Given.SeizeWords.declared.at.At.TheVariants.{Word}
-use Rattle.papaya_sources.specs.Given.Schedules.Moment.{Moment}
-use Rattle.papaya_sources.specs.Given.Finishes.Makings.{Beginning, HasMade}
-use Rattle.papaya_sources.specs.Given.Finishes.Maps.{Standing}
+use Rattle.papaya_sources.specs.Given.SeizeWordsMem.{word_at}
+use Rattle.papaya_sources.specs.Given.SeizeWordsDeclared.at.At.TheVariants.{Word}
+use Rattle.papaya_sources.specs.Given.SchedulesMoment.{Moment}
+use Rattle.papaya_sources.specs.Given.FinishesMakings.{Beginning, HasMade}
+use Rattle.papaya_sources.specs.Given.FinishesMaps.{Standing}
 use Rattle.papaya_shards.specs.Adds.{ShowsAdds}
-use Rattle.papaya_sources.specs.Given.Scenes.Scene.{Scene}
+use Rattle.papaya_sources.specs.Given.ScenesScene.{Scene}
 
 module _ {K V : Type 0} where
   -- each shard of a map that stands says what the moment says

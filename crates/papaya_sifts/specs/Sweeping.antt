@@ -1,22 +1,22 @@
 -- What a step of a sweep's machine does, and what a whole sweep comes to.
 use Rattle.std.specs.Prelude.{◌≡◌, ℕ, Bool, List, [], Result, Ok, Err}
 use denote.Ref.{Bor}
-use Rattle.papaya_owned.specs.Given.SeizeWords.Mem.{Mem}
-use Rattle.papaya_owned.specs.Given.SeizeWords.Plan.{Plan, plan_as}
-use Rattle.papaya_owned.specs.Given.SeizeWords.declared.fault.Fault.{Fault}
-use Rattle.papaya_owned.specs.Given.SeizeWords.declared.fault.Fault.TheVariants.{Capacity}
-use Rattle.papaya_owned.specs.Given.Seize.declared.progress.Progress.{Progress}
-use Rattle.papaya_owned.specs.Given.Seize.declared.progress.Progress.TheVariants as progress
-use Rattle.papaya_owned.specs.Given.Tables.declared.node.Node.{Node}
-use Rattle.papaya_owned.specs.Given.Tables.declared.setting.Setting.{Setting}
-use Rattle.papaya_owned.specs.Given.Sweeps.Sweep.{sweep_plan}
-use Rattle.papaya_owned.specs.Given.Sweeps.SweepPoints.{sweeping, after_reply}
-use Rattle.papaya_owned.specs.Given.Sweeps.declared.sweep.Purpose.{Purpose}
-use Rattle.papaya_owned.specs.Given.Sweeps.declared.sweep.Sweep.{Sweep}
-use Rattle.papaya_owned.specs.Given.Sweeps.declared.sweep.Swept.{Swept}
-use Rattle.papaya_owned.specs.Given.Sweeps.declared.sweep.Swept.TheVariants as swept
-use Rattle.papaya_owned.specs.Given.Callers.Together.{in_slot}
-use Rattle.papaya_owned.specs.Given.Shown.Chain.{CannotGrowIn}
+use Rattle.papaya_owned.specs.Given.SeizeWordsMem.{Mem}
+use Rattle.papaya_owned.specs.Given.SeizeWordsPlan.{Plan, plan_as}
+use Rattle.papaya_owned.specs.Given.SeizeWordsDeclared.fault.Fault.{Fault}
+use Rattle.papaya_owned.specs.Given.SeizeWordsDeclared.fault.Fault.TheVariants.{Capacity}
+use Rattle.papaya_owned.specs.Given.SeizeDeclared.progress.Progress.{Progress}
+use Rattle.papaya_owned.specs.Given.SeizeDeclared.progress.Progress.TheVariants as progress
+use Rattle.papaya_owned.specs.Given.TablesDeclared.node.Node.{Node}
+use Rattle.papaya_owned.specs.Given.TablesDeclared.setting.Setting.{Setting}
+use Rattle.papaya_owned.specs.Given.SweepsSweep.{sweep_plan}
+use Rattle.papaya_owned.specs.Given.SweepsSweepPoints.{sweeping, after_reply}
+use Rattle.papaya_owned.specs.Given.SweepsDeclared.sweep.Purpose.{Purpose}
+use Rattle.papaya_owned.specs.Given.SweepsDeclared.sweep.Sweep.{Sweep}
+use Rattle.papaya_owned.specs.Given.SweepsDeclared.sweep.Swept.{Swept}
+use Rattle.papaya_owned.specs.Given.SweepsDeclared.sweep.Swept.TheVariants as swept
+use Rattle.papaya_owned.specs.Given.CallersTogether.{in_slot}
+use Rattle.papaya_owned.specs.Given.ShownChain.{CannotGrowIn}
 use Rattle.papaya_owned.specs.Ending.{RunsTo}
 use Rattle.papaya_owned.specs.Owned.{Holds}
 use Rattle.papaya_sifts.specs.declared.sweeping.OverPairs.{OverPairs}

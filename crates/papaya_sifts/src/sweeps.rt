@@ -1,12 +1,12 @@
 //! Sweeps that remove pairs from one owner's map, run to their ends.
 ghost use Rattle.std.specs.Prelude.{◌≡◌, List, [], IfErr, OnOk, OnErr, length};
-ghost use Rattle.papaya_owned.specs.Given.Late.Faults.{IsRoom};
-ghost use Rattle.papaya_owned.specs.Given.Sweeps.declared.sweep.Purpose.TheVariants.{Clears, Retains};
-ghost use Rattle.papaya_owned.specs.Given.Shown.Chain.{CannotGrowIn};
+ghost use Rattle.papaya_owned.specs.Given.LateFaults.{IsRoom};
+ghost use Rattle.papaya_owned.specs.Given.SweepsDeclared.sweep.Purpose.TheVariants.{Clears, Retains};
+ghost use Rattle.papaya_owned.specs.Given.ShownChain.{CannotGrowIn};
 ghost use Rattle.papaya_owned.specs.Owned.{Holds};
 ghost use Rattle.papaya_sifts.specs.Retaining.{KeepsOf};
 ghost use Rattle.papaya_sifts.specs.Sweeping.{HasSwept};
-ghost use Rattle.papaya_owned.specs.Given.SeizeWords.declared.fault.Fault.TheVariants.{Capacity};
+ghost use Rattle.papaya_owned.specs.Given.SeizeWordsDeclared.fault.Fault.TheVariants.{Capacity};
 
 use crate::sweeping::{OverPairs, Pause};
 use papaya_owned::papaya_raw::machines::Sweep;

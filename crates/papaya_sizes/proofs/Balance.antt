@@ -1,11 +1,11 @@
 -- What is said of how many pairs a map has, by its shards and by calls, and how many are there: both go up alike from one moment to another.
 use Rattle.std.specs.Prelude.{◌≡◌, ℕ, ◌+◌, ◌*◌, ◌-◌, ◌/◌, ◌%◌, ◌^◌, ◌==◌, Bool, true, false, is_some, List, sum_by, Option, None, if◌then◌else◌}
 use Rattle.std.proofs.Common.{refl, ap, ◌∙◌, arith}
-use Rattle.papaya_finds.specs.Given.Schedules.declared.effect.Effect.{Effect}
-use Rattle.papaya_finds.specs.Given.Schedules.declared.effect.Effect.TheVariants.{Replaced}
-use Rattle.papaya_finds.specs.Given.Schedules.Entry.{ByCall, acting}
-use Rattle.papaya_finds.specs.Given.Schedules.Moment.{UnderWay, Moment}
-use Rattle.papaya_finds.specs.Given.Schedules.Views.{size_of}
+use Rattle.papaya_finds.specs.Given.SchedulesDeclared.effect.Effect.{Effect}
+use Rattle.papaya_finds.specs.Given.SchedulesDeclared.effect.Effect.TheVariants.{Replaced}
+use Rattle.papaya_finds.specs.Given.SchedulesEntry.{ByCall, acting}
+use Rattle.papaya_finds.specs.Given.SchedulesMoment.{UnderWay, Moment}
+use Rattle.papaya_finds.specs.Given.SchedulesViews.{size_of}
 use Rattle.papaya_finds.specs.Waiting.{once_if}
 use Rattle.papaya_sizes.specs.Sizes.{sum_below}
 

@@ -4,15 +4,15 @@ use Rattle.std.specs.List.{AllByRecursion, list_any}
 use Rattle.std.proofs.Common.{refl, ap, sym, subst, ◌∙◌, arith}
 use Rattle.std.proofs.lemmas.Bool.{ne_eqb}
 use Rattle.std.proofs.lemmas.List.Sums.{sum_by-cons}
-use Rattle.papaya_finds.specs.Given.Schedules.declared.call.Call.{Call}
-use Rattle.papaya_finds.specs.Given.Schedules.declared.event.Event.{Event}
-use Rattle.papaya_finds.specs.Given.Schedules.declared.event.Event.TheVariants as event
-use Rattle.papaya_finds.specs.Given.Schedules.declared.outcome.Outcome.{Outcome}
-use Rattle.papaya_finds.specs.Given.Schedules.declared.outcome.Outcome.TheVariants as outcome
-use Rattle.papaya_finds.specs.Given.Schedules.Beginning.{begun, fresh_call, with_call}
-use Rattle.papaya_finds.specs.Given.Schedules.Entry.{is_busy, nameless}
-use Rattle.papaya_finds.specs.Given.Schedules.Moment.{MapThere, Place, Unborn, UnderWay, Moment}
-use Rattle.papaya_finds.specs.Given.Schedules.Views.{is_in_map, number_of, places_below}
+use Rattle.papaya_finds.specs.Given.SchedulesDeclared.call.Call.{Call}
+use Rattle.papaya_finds.specs.Given.SchedulesDeclared.event.Event.{Event}
+use Rattle.papaya_finds.specs.Given.SchedulesDeclared.event.Event.TheVariants as event
+use Rattle.papaya_finds.specs.Given.SchedulesDeclared.outcome.Outcome.{Outcome}
+use Rattle.papaya_finds.specs.Given.SchedulesDeclared.outcome.Outcome.TheVariants as outcome
+use Rattle.papaya_finds.specs.Given.SchedulesBeginning.{begun, fresh_call, with_call}
+use Rattle.papaya_finds.specs.Given.SchedulesEntry.{is_busy, nameless}
+use Rattle.papaya_finds.specs.Given.SchedulesMoment.{MapThere, Place, Unborn, UnderWay, Moment}
+use Rattle.papaya_finds.specs.Given.SchedulesViews.{is_in_map, number_of, places_below}
 use Rattle.papaya_finds.specs.Waiting.{once_if}
 use Rattle.papaya_finds.specs.Within.{AllIsInOrder, HasItsMap}
 use Rattle.papaya_finds.proofs.Grown.{number_is}

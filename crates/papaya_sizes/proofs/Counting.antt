@@ -4,22 +4,22 @@ use Rattle.std.proofs.Common.{refl, ap, sym, subst, ◌∙◌, arith, inl, inr}
 use Rattle.std.proofs.lemmas.Bool.{cases_eq, eq-eqb, ne_eqb}
 use Rattle.std.proofs.Math.Nat.{mod-lt}
 use Rattle.std.proofs.lemmas.Nat.{pow_pos}
-use Rattle.papaya_finds.specs.Given.Tables.Powers.{floor_log2, next_power}
-use Rattle.papaya_finds.specs.Given.Schedules.declared.call.Call.{Call}
-use Rattle.papaya_finds.specs.Given.Schedules.declared.call.Call.TheVariants as call
-use Rattle.papaya_finds.specs.Given.Schedules.declared.effect.Effect.{Effect}
-use Rattle.papaya_finds.specs.Given.Schedules.declared.effect.Effect.TheVariants as effect
-use Rattle.papaya_finds.specs.Given.Schedules.declared.effect.Spot.{Spot}
-use Rattle.papaya_finds.specs.Given.Schedules.declared.effect.Thing.TheVariants.{APair, ATable}
-use Rattle.papaya_finds.specs.Given.Schedules.Effects.{call_by, due_for, gain, shards_by, with_effect, word_with}
-use Rattle.papaya_finds.specs.Given.Schedules.Entry.{ByCall}
-use Rattle.papaya_finds.specs.Given.Schedules.Growing.{only_looks}
-use Rattle.papaya_finds.specs.Given.Schedules.Lists.{put}
-use Rattle.papaya_finds.specs.Given.Schedules.Lives.{CallFinds, EventFinds, Finds}
-use Rattle.papaya_finds.specs.Given.Schedules.Moment.{Place, UnderWay, Moment}
-use Rattle.papaya_finds.specs.Given.Schedules.Terms.{Terms, shards_of}
-use Rattle.papaya_finds.specs.Given.Schedules.Views.{call_of, is_in_map, size_of}
-use Rattle.papaya_finds.proofs.Given.Follows.Alike.{put_here, put_elsewhere}
+use Rattle.papaya_finds.specs.Given.TablesPowers.{floor_log2, next_power}
+use Rattle.papaya_finds.specs.Given.SchedulesDeclared.call.Call.{Call}
+use Rattle.papaya_finds.specs.Given.SchedulesDeclared.call.Call.TheVariants as call
+use Rattle.papaya_finds.specs.Given.SchedulesDeclared.effect.Effect.{Effect}
+use Rattle.papaya_finds.specs.Given.SchedulesDeclared.effect.Effect.TheVariants as effect
+use Rattle.papaya_finds.specs.Given.SchedulesDeclared.effect.Spot.{Spot}
+use Rattle.papaya_finds.specs.Given.SchedulesDeclared.effect.Thing.TheVariants.{APair, ATable}
+use Rattle.papaya_finds.specs.Given.SchedulesEffects.{call_by, due_for, gain, shards_by, with_effect, word_with}
+use Rattle.papaya_finds.specs.Given.SchedulesEntry.{ByCall}
+use Rattle.papaya_finds.specs.Given.SchedulesGrowing.{only_looks}
+use Rattle.papaya_finds.specs.Given.SchedulesLists.{put}
+use Rattle.papaya_finds.specs.Given.SchedulesLives.{CallFinds, EventFinds, Finds}
+use Rattle.papaya_finds.specs.Given.SchedulesMoment.{Place, UnderWay, Moment}
+use Rattle.papaya_finds.specs.Given.SchedulesTerms.{Terms, shards_of}
+use Rattle.papaya_finds.specs.Given.SchedulesViews.{call_of, is_in_map, size_of}
+use Rattle.papaya_finds.proofs.Given.FollowsAlike.{put_here, put_elsewhere}
 use Rattle.papaya_finds.specs.Life.{StoresOne}
 use Rattle.papaya_finds.specs.Waiting.{FindsPlaced, once_if}
 use Rattle.papaya_finds.specs.Within.{AllIsInOrder, ActsOn}

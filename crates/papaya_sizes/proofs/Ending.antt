@@ -4,23 +4,23 @@ use Rattle.std.specs.List.{AllByRecursion, list_all}
 use Rattle.std.proofs.Common.{refl, ap, sym, subst, ◌∙◌, arith, inl, inr}
 use Rattle.std.proofs.lemmas.Bool.{and_parts}
 use Rattle.std.proofs.lemmas.List.Elements.{recursion_from_All}
-use Rattle.papaya_finds.specs.Given.SeizeWords.declared.fault.Fault.TheVariants.{Busy}
-use Rattle.papaya_finds.specs.Given.Runs.Same.{is_same}
-use Rattle.papaya_finds.specs.Given.Schedules.declared.effect.Effect.{Effect}
-use Rattle.papaya_finds.specs.Given.Schedules.declared.effect.Effect.TheVariants as effect
-use Rattle.papaya_finds.specs.Given.Schedules.declared.event.Event.{Event}
-use Rattle.papaya_finds.specs.Given.Schedules.declared.event.Event.TheVariants as event
-use Rattle.papaya_finds.specs.Given.Schedules.declared.outcome.Outcome.{Outcome}
-use Rattle.papaya_finds.specs.Given.Schedules.declared.outcome.Outcome.TheVariants as outcome
-use Rattle.papaya_finds.specs.Given.Schedules.After.{after, calls_on, comes_to, maps_on, moment, replied, stepped, without_call}
-use Rattle.papaya_finds.specs.Given.Schedules.Beginning.{begun}
-use Rattle.papaya_finds.specs.Given.Schedules.Effects.{worked}
-use Rattle.papaya_finds.specs.Given.Schedules.Entry.{Entry, IfCall, acted_on, caller_of, ends_call}
-use Rattle.papaya_finds.specs.Given.Schedules.Coming.{shows_now}
-use Rattle.papaya_finds.specs.Given.Schedules.Handing.{IsWhole, comes_clear, is_only, is_reclaiming, may_do}
-use Rattle.papaya_finds.specs.Given.Schedules.Moment.{MapThere, UnderWay, Moment}
-use Rattle.papaya_finds.specs.Given.Schedules.Terms.{Terms}
-use Rattle.papaya_finds.specs.Given.Schedules.Views.{call_of, map_at, map_of, number_of}
+use Rattle.papaya_finds.specs.Given.SeizeWordsDeclared.fault.Fault.TheVariants.{Busy}
+use Rattle.papaya_finds.specs.Given.RunsSame.{is_same}
+use Rattle.papaya_finds.specs.Given.SchedulesDeclared.effect.Effect.{Effect}
+use Rattle.papaya_finds.specs.Given.SchedulesDeclared.effect.Effect.TheVariants as effect
+use Rattle.papaya_finds.specs.Given.SchedulesDeclared.event.Event.{Event}
+use Rattle.papaya_finds.specs.Given.SchedulesDeclared.event.Event.TheVariants as event
+use Rattle.papaya_finds.specs.Given.SchedulesDeclared.outcome.Outcome.{Outcome}
+use Rattle.papaya_finds.specs.Given.SchedulesDeclared.outcome.Outcome.TheVariants as outcome
+use Rattle.papaya_finds.specs.Given.SchedulesAfter.{after, calls_on, comes_to, maps_on, moment, replied, stepped, without_call}
+use Rattle.papaya_finds.specs.Given.SchedulesBeginning.{begun}
+use Rattle.papaya_finds.specs.Given.SchedulesEffects.{worked}
+use Rattle.papaya_finds.specs.Given.SchedulesEntry.{Entry, IfCall, acted_on, caller_of, ends_call}
+use Rattle.papaya_finds.specs.Given.SchedulesComing.{shows_now}
+use Rattle.papaya_finds.specs.Given.SchedulesHanding.{IsWhole, comes_clear, is_only, is_reclaiming, may_do}
+use Rattle.papaya_finds.specs.Given.SchedulesMoment.{MapThere, UnderWay, Moment}
+use Rattle.papaya_finds.specs.Given.SchedulesTerms.{Terms}
+use Rattle.papaya_finds.specs.Given.SchedulesViews.{call_of, map_at, map_of, number_of}
 use Rattle.papaya_finds.specs.Events.{ended_by}
 use Rattle.papaya_finds.specs.Waiting.{AreApart, once_if}
 use Rattle.papaya_finds.specs.Within.{AllIsInOrder, GoesInOrder}

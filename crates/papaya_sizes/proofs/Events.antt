@@ -2,26 +2,26 @@
 use Rattle.std.specs.Prelude.{◌≡◌, ℕ, Bool, true, false, not, List, [], ◌∷◌, filter, flat_map, map, Option, Some, None}
 use Rattle.std.specs.List.{AllByRecursion}
 use Rattle.std.proofs.Common.{refl, ap, sym, subst, ◌∙◌}
-use Rattle.papaya_finds.specs.Given.Runs.Same.{is_same}
-use Rattle.papaya_finds.specs.Given.Schedules.declared.effect.Effect.{Effect}
-use Rattle.papaya_finds.specs.Given.Schedules.declared.effect.Effect.TheVariants as effect
-use Rattle.papaya_finds.specs.Given.Schedules.declared.event.Event.{Event}
-use Rattle.papaya_finds.specs.Given.Schedules.declared.event.Event.TheVariants as event
-use Rattle.papaya_finds.specs.Given.Schedules.declared.outcome.Outcome.{Outcome}
-use Rattle.papaya_finds.specs.Given.Schedules.declared.outcome.Outcome.TheVariants as outcome
-use Rattle.papaya_finds.specs.Given.Schedules.After.{after, maps_on, moment}
-use Rattle.papaya_finds.specs.Given.Schedules.Beginning.{begun}
-use Rattle.papaya_finds.specs.Given.Schedules.Effects.{AtEachEffect, promoted, with_effect, with_effects, worked}
-use Rattle.papaya_finds.specs.Given.Schedules.Entry.{ByCall, Entry, IfCall, acted_on, acting, caller_of}
-use Rattle.papaya_finds.specs.Given.Schedules.Growing.{only_looks}
-use Rattle.papaya_finds.specs.Given.Schedules.Handing.{gives_all, moments_of}
-use Rattle.papaya_finds.specs.Given.Schedules.Linearizable.{ActsOf, shift_of}
-use Rattle.papaya_finds.specs.Given.Schedules.Lives.{CallFinds, EventFinds, Finds}
-use Rattle.papaya_finds.specs.Given.Schedules.Moment.{InMap, MapThere, UnderWay, Moment}
-use Rattle.papaya_finds.specs.Given.Schedules.Runs.{IsLegal}
-use Rattle.papaya_finds.specs.Given.Schedules.Sequential.{Shift}
-use Rattle.papaya_finds.specs.Given.Schedules.Terms.{Terms, shards_of}
-use Rattle.papaya_finds.specs.Given.Schedules.Views.{call_of}
+use Rattle.papaya_finds.specs.Given.RunsSame.{is_same}
+use Rattle.papaya_finds.specs.Given.SchedulesDeclared.effect.Effect.{Effect}
+use Rattle.papaya_finds.specs.Given.SchedulesDeclared.effect.Effect.TheVariants as effect
+use Rattle.papaya_finds.specs.Given.SchedulesDeclared.event.Event.{Event}
+use Rattle.papaya_finds.specs.Given.SchedulesDeclared.event.Event.TheVariants as event
+use Rattle.papaya_finds.specs.Given.SchedulesDeclared.outcome.Outcome.{Outcome}
+use Rattle.papaya_finds.specs.Given.SchedulesDeclared.outcome.Outcome.TheVariants as outcome
+use Rattle.papaya_finds.specs.Given.SchedulesAfter.{after, maps_on, moment}
+use Rattle.papaya_finds.specs.Given.SchedulesBeginning.{begun}
+use Rattle.papaya_finds.specs.Given.SchedulesEffects.{AtEachEffect, promoted, with_effect, with_effects, worked}
+use Rattle.papaya_finds.specs.Given.SchedulesEntry.{ByCall, Entry, IfCall, acted_on, acting, caller_of}
+use Rattle.papaya_finds.specs.Given.SchedulesGrowing.{only_looks}
+use Rattle.papaya_finds.specs.Given.SchedulesHanding.{gives_all, moments_of}
+use Rattle.papaya_finds.specs.Given.SchedulesLinearizable.{ActsOf, shift_of}
+use Rattle.papaya_finds.specs.Given.SchedulesLives.{CallFinds, EventFinds, Finds}
+use Rattle.papaya_finds.specs.Given.SchedulesMoment.{InMap, MapThere, UnderWay, Moment}
+use Rattle.papaya_finds.specs.Given.SchedulesRuns.{IsLegal}
+use Rattle.papaya_finds.specs.Given.SchedulesSequential.{Shift}
+use Rattle.papaya_finds.specs.Given.SchedulesTerms.{Terms, shards_of}
+use Rattle.papaya_finds.specs.Given.SchedulesViews.{call_of}
 use Rattle.papaya_finds.specs.Events.{ended_by}
 use Rattle.papaya_finds.specs.Life.{StoresOne}
 use Rattle.papaya_finds.specs.Within.{ActsOn, AllIsInOrder, GoesInOrder, ReadyOweNone}

@@ -4,30 +4,30 @@ use Rattle.std.specs.List.{AllByRecursion}
 use Rattle.std.proofs.Common.{refl, ap, sym, subst, ◌∙◌, arith, inl, inr}
 use Rattle.std.proofs.lemmas.Bool.{cases_eq}
 use Rattle.std.proofs.Math.Nat.{mod-lt}
-use Rattle.papaya_finds.specs.Given.Tables.Counts.{count_in}
-use Rattle.papaya_finds.specs.Given.Runs.Present.{slot_of_guard}
-use Rattle.papaya_finds.specs.Given.Runs.Same.{is_same}
-use Rattle.papaya_finds.specs.Given.Schedules.declared.call.Answer.TheVariants as answer
-use Rattle.papaya_finds.specs.Given.Schedules.declared.call.Call.{Call}
-use Rattle.papaya_finds.specs.Given.Schedules.declared.call.Call.TheVariants as call
-use Rattle.papaya_finds.specs.Given.Schedules.declared.effect.Effect.{Effect}
-use Rattle.papaya_finds.specs.Given.Schedules.declared.outcome.Outcome.{Outcome}
-use Rattle.papaya_finds.specs.Given.Schedules.declared.outcome.Outcome.TheVariants as outcome
-use Rattle.papaya_finds.specs.Given.Schedules.After.{after, moment, moments_from}
-use Rattle.papaya_finds.specs.Given.Schedules.Counts.{AddsUp, Counts}
-use Rattle.papaya_finds.specs.Given.Schedules.Beginning.{at_work}
-use Rattle.papaya_finds.specs.Given.Schedules.Effects.{AtEachEffect, with_effect, with_effects, worked}
-use Rattle.papaya_finds.specs.Given.Schedules.Entry.{ByCall, Entry, IfCall, acted_on, acting, caller_of}
-use Rattle.papaya_finds.specs.Given.Schedules.Growing.{only_looks}
-use Rattle.papaya_finds.specs.Given.Schedules.Handing.{gives_all, moments_of}
-use Rattle.papaya_finds.specs.Given.Schedules.Lists.{OneOf, put}
-use Rattle.papaya_finds.specs.Given.Schedules.Lives.{CallFinds, Finds}
-use Rattle.papaya_finds.specs.Given.Schedules.Moment.{MapThere, UnderWay, Moment}
-use Rattle.papaya_finds.specs.Given.Schedules.Runs.{IsLegal, IsLegalLog}
-use Rattle.papaya_finds.specs.Given.Schedules.Sweeps.{Sweeps}
-use Rattle.papaya_finds.specs.Given.Schedules.Terms.{Terms, shards_of}
-use Rattle.papaya_finds.specs.Given.Schedules.Views.{call_of, size_of}
-use Rattle.papaya_finds.proofs.Given.Follows.Alike.{put_here, put_elsewhere}
+use Rattle.papaya_finds.specs.Given.TablesCounts.{count_in}
+use Rattle.papaya_finds.specs.Given.RunsPresent.{slot_of_guard}
+use Rattle.papaya_finds.specs.Given.RunsSame.{is_same}
+use Rattle.papaya_finds.specs.Given.SchedulesDeclared.call.Answer.TheVariants as answer
+use Rattle.papaya_finds.specs.Given.SchedulesDeclared.call.Call.{Call}
+use Rattle.papaya_finds.specs.Given.SchedulesDeclared.call.Call.TheVariants as call
+use Rattle.papaya_finds.specs.Given.SchedulesDeclared.effect.Effect.{Effect}
+use Rattle.papaya_finds.specs.Given.SchedulesDeclared.outcome.Outcome.{Outcome}
+use Rattle.papaya_finds.specs.Given.SchedulesDeclared.outcome.Outcome.TheVariants as outcome
+use Rattle.papaya_finds.specs.Given.SchedulesAfter.{after, moment, moments_from}
+use Rattle.papaya_finds.specs.Given.SchedulesCounts.{AddsUp, Counts}
+use Rattle.papaya_finds.specs.Given.SchedulesBeginning.{at_work}
+use Rattle.papaya_finds.specs.Given.SchedulesEffects.{AtEachEffect, with_effect, with_effects, worked}
+use Rattle.papaya_finds.specs.Given.SchedulesEntry.{ByCall, Entry, IfCall, acted_on, acting, caller_of}
+use Rattle.papaya_finds.specs.Given.SchedulesGrowing.{only_looks}
+use Rattle.papaya_finds.specs.Given.SchedulesHanding.{gives_all, moments_of}
+use Rattle.papaya_finds.specs.Given.SchedulesLists.{OneOf, put}
+use Rattle.papaya_finds.specs.Given.SchedulesLives.{CallFinds, Finds}
+use Rattle.papaya_finds.specs.Given.SchedulesMoment.{MapThere, UnderWay, Moment}
+use Rattle.papaya_finds.specs.Given.SchedulesRuns.{IsLegal, IsLegalLog}
+use Rattle.papaya_finds.specs.Given.SchedulesSweeps.{Sweeps}
+use Rattle.papaya_finds.specs.Given.SchedulesTerms.{Terms, shards_of}
+use Rattle.papaya_finds.specs.Given.SchedulesViews.{call_of, size_of}
+use Rattle.papaya_finds.proofs.Given.FollowsAlike.{put_here, put_elsewhere}
 use Rattle.papaya_finds.specs.Within.{HasItsMap}
 use Rattle.papaya_finds.proofs.Grown.{found_of, number_is}
 use Rattle.papaya_finds.proofs.Lists.{all_so, one_of_them}

@@ -3,17 +3,17 @@ use Rattle.std.specs.Prelude.{◌≡◌, ℕ, zero, suc, ◌+◌, ◌≤◌, ◌
 use Rattle.std.proofs.Common.{refl, ap, sym, subst, ◌∙◌, arith}
 use Rattle.std.proofs.lemmas.Bool.{eq-eqb, le-leb, leb-false, leb-true}
 use Rattle.std.proofs.lemmas.List.{map-append}
-use Rattle.papaya_finds.specs.Given.Runs.declared.record.Pair.{Pair}
-use Rattle.papaya_finds.specs.Given.Runs.LifeCycle.{times}
-use Rattle.papaya_finds.specs.Given.Runs.Log.{pair_at}
-use Rattle.papaya_finds.specs.Given.Runs.Pairs.{numbers}
-use Rattle.papaya_finds.specs.Given.Schedules.declared.event.Event.{Event}
-use Rattle.papaya_finds.specs.Given.Schedules.declared.record.Run.{Run}
-use Rattle.papaya_finds.specs.Given.Schedules.After.{moment}
-use Rattle.papaya_finds.specs.Given.Schedules.Moment.{Place, Unborn, InMap, Out, Handed, Behind, Left, GivenBack, Moment}
-use Rattle.papaya_finds.specs.Given.Schedules.Runs.{IsRunOf, log_of, pair_of}
-use Rattle.papaya_finds.specs.Given.Schedules.Terms.{Terms}
-use Rattle.papaya_finds.specs.Given.Schedules.Views.{is_in_a_map, is_waiting}
+use Rattle.papaya_finds.specs.Given.RunsDeclared.record.Pair.{Pair}
+use Rattle.papaya_finds.specs.Given.RunsLifeCycle.{times}
+use Rattle.papaya_finds.specs.Given.RunsLog.{pair_at}
+use Rattle.papaya_finds.specs.Given.RunsPairs.{numbers}
+use Rattle.papaya_finds.specs.Given.SchedulesDeclared.event.Event.{Event}
+use Rattle.papaya_finds.specs.Given.SchedulesDeclared.record.Run.{Run}
+use Rattle.papaya_finds.specs.Given.SchedulesAfter.{moment}
+use Rattle.papaya_finds.specs.Given.SchedulesMoment.{Place, Unborn, InMap, Out, Handed, Behind, Left, GivenBack, Moment}
+use Rattle.papaya_finds.specs.Given.SchedulesRuns.{IsRunOf, log_of, pair_of}
+use Rattle.papaya_finds.specs.Given.SchedulesTerms.{Terms}
+use Rattle.papaya_finds.specs.Given.SchedulesViews.{is_in_a_map, is_waiting}
 use Rattle.papaya_finds.specs.Waiting.{is_back, is_unborn, once_if}
 use Rattle.papaya_finds.specs.Within.{AllIsInOrder}
 use Rattle.papaya_finds.proofs.Grown.{number_is}

@@ -2,18 +2,18 @@
 use Rattle.std.specs.Prelude.{◌≡◌, ℕ, suc, ◌+◌, Bool, true, false, List, length, Option, Some, None, if◌then◌else◌}
 use Rattle.std.proofs.Common.{refl, ap, sym, subst, ◌∙◌, arith, inl, inr}
 use Rattle.std.proofs.lemmas.Bool.{cases_eq, eq-eqb}
-use Rattle.papaya_finds.specs.Given.Schedules.declared.effect.Effect.{Effect}
-use Rattle.papaya_finds.specs.Given.Schedules.declared.effect.Effect.TheVariants as effect
-use Rattle.papaya_finds.specs.Given.Schedules.declared.effect.Spot.{Spot}
-use Rattle.papaya_finds.specs.Given.Schedules.declared.effect.Table.{Table}
-use Rattle.papaya_finds.specs.Given.Schedules.declared.effect.Thing.TheVariants.{APair, ATable}
-use Rattle.papaya_finds.specs.Given.Schedules.Effects.{all_at, in_map, place_by, with_effect}
-use Rattle.papaya_finds.specs.Given.Schedules.Entry.{ByCall, acting}
-use Rattle.papaya_finds.specs.Given.Schedules.Lists.{is_among, is_in, put}
-use Rattle.papaya_finds.specs.Given.Schedules.Moment.{Place, Unborn, InMap, Out, Handed, Behind, Left, GivenBack, UnderWay, Moment}
-use Rattle.papaya_finds.specs.Given.Schedules.Things.{same_thing}
-use Rattle.papaya_finds.specs.Given.Schedules.Views.{behind, call_of, is_in_map, places_below, size_of}
-use Rattle.papaya_finds.proofs.Given.Follows.Alike.{put_here, put_elsewhere}
+use Rattle.papaya_finds.specs.Given.SchedulesDeclared.effect.Effect.{Effect}
+use Rattle.papaya_finds.specs.Given.SchedulesDeclared.effect.Effect.TheVariants as effect
+use Rattle.papaya_finds.specs.Given.SchedulesDeclared.effect.Spot.{Spot}
+use Rattle.papaya_finds.specs.Given.SchedulesDeclared.effect.Table.{Table}
+use Rattle.papaya_finds.specs.Given.SchedulesDeclared.effect.Thing.TheVariants.{APair, ATable}
+use Rattle.papaya_finds.specs.Given.SchedulesEffects.{all_at, in_map, place_by, with_effect}
+use Rattle.papaya_finds.specs.Given.SchedulesEntry.{ByCall, acting}
+use Rattle.papaya_finds.specs.Given.SchedulesLists.{is_among, is_in, put}
+use Rattle.papaya_finds.specs.Given.SchedulesMoment.{Place, Unborn, InMap, Out, Handed, Behind, Left, GivenBack, UnderWay, Moment}
+use Rattle.papaya_finds.specs.Given.SchedulesThings.{same_thing}
+use Rattle.papaya_finds.specs.Given.SchedulesViews.{behind, call_of, is_in_map, places_below, size_of}
+use Rattle.papaya_finds.proofs.Given.FollowsAlike.{put_here, put_elsewhere}
 use Rattle.papaya_finds.specs.Waiting.{FindsPlaced, OwesPair, PairsArePlaced, is_behind_one, is_let_go, is_out, is_unborn, once_if, owed_by}
 use Rattle.papaya_finds.specs.Within.{AllIsInOrder}
 use Rattle.papaya_finds.proofs.Counted.{was_behind}

@@ -1,24 +1,24 @@
 -- What the definitions refuse: maps whose count says another size than they have, and runs that lose a pair, or have one twice.
 use Rattle.std.specs.Prelude.{◌≡◌, ℕ, ◌+◌, ◌%◌, ◌^◌, ◌&&◌, nat_le, false, List, [], ◌∷◌, ◌++◌, if◌then◌else◌}
 use Rattle.std.proofs.Common.{refl, ap, ◌∙◌, inl, inr}
-use Rattle.papaya_finds.specs.Given.Runs.declared.record.Pair.{Pair}
-use Rattle.papaya_finds.specs.Given.Runs.LifeCycle.{times}
-use Rattle.papaya_finds.specs.Given.Runs.Pairs.{numbers}
-use Rattle.papaya_finds.specs.Given.Tables.declared.resize_mode.ResizeMode.TheVariants.{Blocking}
-use Rattle.papaya_finds.specs.Given.Schedules.declared.call.Answer.TheVariants.{Absent}
-use Rattle.papaya_finds.specs.Given.Schedules.declared.call.Call.TheVariants.{On}
-use Rattle.papaya_finds.specs.Given.Schedules.declared.call.OneKey.TheVariants.{Insert}
-use Rattle.papaya_finds.specs.Given.Schedules.declared.effect.Effect.{Effect}
-use Rattle.papaya_finds.specs.Given.Schedules.declared.effect.Effect.TheVariants.{Counted, Stored}
-use Rattle.papaya_finds.specs.Given.Schedules.declared.event.Event.TheVariants.{Begin, MakeMap, Step}
-use Rattle.papaya_finds.specs.Given.Schedules.declared.outcome.Outcome.{Outcome}
-use Rattle.papaya_finds.specs.Given.Schedules.declared.outcome.Outcome.TheVariants.{Answered, Done, Goes}
-use Rattle.papaya_finds.specs.Given.Schedules.declared.record.Run.{Run}
-use Rattle.papaya_finds.specs.Given.Tables.Counts.{count_in}
-use Rattle.papaya_finds.specs.Given.Schedules.After.{moment}
-use Rattle.papaya_finds.specs.Given.Schedules.Counts.{Counts}
-use Rattle.papaya_finds.specs.Given.Schedules.Moment.{Moment}
-use Rattle.papaya_finds.specs.Given.Schedules.Terms.{Terms}
+use Rattle.papaya_finds.specs.Given.RunsDeclared.record.Pair.{Pair}
+use Rattle.papaya_finds.specs.Given.RunsLifeCycle.{times}
+use Rattle.papaya_finds.specs.Given.RunsPairs.{numbers}
+use Rattle.papaya_finds.specs.Given.TablesDeclared.resize_mode.ResizeMode.TheVariants.{Blocking}
+use Rattle.papaya_finds.specs.Given.SchedulesDeclared.call.Answer.TheVariants.{Absent}
+use Rattle.papaya_finds.specs.Given.SchedulesDeclared.call.Call.TheVariants.{On}
+use Rattle.papaya_finds.specs.Given.SchedulesDeclared.call.OneKey.TheVariants.{Insert}
+use Rattle.papaya_finds.specs.Given.SchedulesDeclared.effect.Effect.{Effect}
+use Rattle.papaya_finds.specs.Given.SchedulesDeclared.effect.Effect.TheVariants.{Counted, Stored}
+use Rattle.papaya_finds.specs.Given.SchedulesDeclared.event.Event.TheVariants.{Begin, MakeMap, Step}
+use Rattle.papaya_finds.specs.Given.SchedulesDeclared.outcome.Outcome.{Outcome}
+use Rattle.papaya_finds.specs.Given.SchedulesDeclared.outcome.Outcome.TheVariants.{Answered, Done, Goes}
+use Rattle.papaya_finds.specs.Given.SchedulesDeclared.record.Run.{Run}
+use Rattle.papaya_finds.specs.Given.TablesCounts.{count_in}
+use Rattle.papaya_finds.specs.Given.SchedulesAfter.{moment}
+use Rattle.papaya_finds.specs.Given.SchedulesCounts.{Counts}
+use Rattle.papaya_finds.specs.Given.SchedulesMoment.{Moment}
+use Rattle.papaya_finds.specs.Given.SchedulesTerms.{Terms}
 use Rattle.papaya_sizes.specs.Once.{HasEachOnce}
 use Rattle.papaya_sizes.specs.Sizes.{IsCounted, StaysCounted}
 

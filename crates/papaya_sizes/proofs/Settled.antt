@@ -2,23 +2,23 @@
 use Rattle.std.specs.Prelude.{◌≡◌, ℕ, ◌+◌, Bool, true, false, not, ◌⊎◌, List, [], ◌∷◌, find, map, Option, Some, None, if◌then◌else◌}
 use Rattle.std.specs.List.{AllByRecursion, list_any}
 use Rattle.std.proofs.Common.{refl, ap, sym, subst, ◌∙◌, inl, inr}
-use Rattle.papaya_finds.specs.Given.Runs.Same.{is_same}
-use Rattle.papaya_finds.specs.Given.Schedules.declared.call.Reply.{Reply}
-use Rattle.papaya_finds.specs.Given.Schedules.declared.effect.Effect.{Effect}
-use Rattle.papaya_finds.specs.Given.Schedules.declared.event.Event.{Event}
-use Rattle.papaya_finds.specs.Given.Schedules.declared.event.Event.TheVariants as event
-use Rattle.papaya_finds.specs.Given.Schedules.declared.outcome.Outcome.{Outcome}
-use Rattle.papaya_finds.specs.Given.Schedules.declared.outcome.Outcome.TheVariants as outcome
-use Rattle.papaya_finds.specs.Given.Schedules.After.{asks_on, calls_on, comes_to, moment, moments_from, replied, stepped, without_call}
-use Rattle.papaya_finds.specs.Given.Schedules.Beginning.{begun, with_call}
-use Rattle.papaya_finds.specs.Given.Schedules.Coming.{Progresses, is_ready}
-use Rattle.papaya_finds.specs.Given.Schedules.Effects.{call_by, with_effect, with_effects, worked}
-use Rattle.papaya_finds.specs.Given.Schedules.Entry.{ByCall, Entry, IfCall, acting, caller_of, ends_call, is_busy, nameless}
-use Rattle.papaya_finds.specs.Given.Schedules.Handing.{LeavesOf, comes_clear}
-use Rattle.papaya_finds.specs.Given.Schedules.Moment.{Stands, Going, Asking, Told, IsReady, UnderWay, Moment}
-use Rattle.papaya_finds.specs.Given.Schedules.Terms.{Terms}
-use Rattle.papaya_finds.specs.Given.Schedules.Views.{call_of, number_of}
-use Rattle.papaya_finds.proofs.Given.Follows.Calls.{changed_same}
+use Rattle.papaya_finds.specs.Given.RunsSame.{is_same}
+use Rattle.papaya_finds.specs.Given.SchedulesDeclared.call.Reply.{Reply}
+use Rattle.papaya_finds.specs.Given.SchedulesDeclared.effect.Effect.{Effect}
+use Rattle.papaya_finds.specs.Given.SchedulesDeclared.event.Event.{Event}
+use Rattle.papaya_finds.specs.Given.SchedulesDeclared.event.Event.TheVariants as event
+use Rattle.papaya_finds.specs.Given.SchedulesDeclared.outcome.Outcome.{Outcome}
+use Rattle.papaya_finds.specs.Given.SchedulesDeclared.outcome.Outcome.TheVariants as outcome
+use Rattle.papaya_finds.specs.Given.SchedulesAfter.{asks_on, calls_on, comes_to, moment, moments_from, replied, stepped, without_call}
+use Rattle.papaya_finds.specs.Given.SchedulesBeginning.{begun, with_call}
+use Rattle.papaya_finds.specs.Given.SchedulesComing.{Progresses, is_ready}
+use Rattle.papaya_finds.specs.Given.SchedulesEffects.{call_by, with_effect, with_effects, worked}
+use Rattle.papaya_finds.specs.Given.SchedulesEntry.{ByCall, Entry, IfCall, acting, caller_of, ends_call, is_busy, nameless}
+use Rattle.papaya_finds.specs.Given.SchedulesHanding.{LeavesOf, comes_clear}
+use Rattle.papaya_finds.specs.Given.SchedulesMoment.{Stands, Going, Asking, Told, IsReady, UnderWay, Moment}
+use Rattle.papaya_finds.specs.Given.SchedulesTerms.{Terms}
+use Rattle.papaya_finds.specs.Given.SchedulesViews.{call_of, number_of}
+use Rattle.papaya_finds.proofs.Given.FollowsCalls.{changed_same}
 use Rattle.papaya_finds.specs.Waiting.{AreApart}
 use Rattle.papaya_finds.specs.Within.{GoesInOrder}
 use Rattle.papaya_finds.proofs.Endings.{entry}

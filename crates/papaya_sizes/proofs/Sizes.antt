@@ -2,12 +2,12 @@
 use Rattle.std.specs.Prelude.{◌≡◌, ℕ, ◌+◌, ◌%◌, ◌^◌, ◌==◌, Bool, is_some, List, [], ◌∷◌, sum_by, Option, if◌then◌else◌}
 use Rattle.std.specs.List.{AllByRecursion}
 use Rattle.std.proofs.Common.{refl, ap, ◌∙◌, arith}
-use Rattle.papaya_finds.specs.Given.Schedules.After.{moment}
-use Rattle.papaya_finds.specs.Given.Schedules.Entry.{Entry}
-use Rattle.papaya_finds.specs.Given.Schedules.Moment.{MapThere, UnderWay, Moment}
-use Rattle.papaya_finds.specs.Given.Schedules.Runs.{IsLegalLog}
-use Rattle.papaya_finds.specs.Given.Schedules.Terms.{Terms, shards_of}
-use Rattle.papaya_finds.specs.Given.Schedules.Views.{size_of}
+use Rattle.papaya_finds.specs.Given.SchedulesAfter.{moment}
+use Rattle.papaya_finds.specs.Given.SchedulesEntry.{Entry}
+use Rattle.papaya_finds.specs.Given.SchedulesMoment.{MapThere, UnderWay, Moment}
+use Rattle.papaya_finds.specs.Given.SchedulesRuns.{IsLegalLog}
+use Rattle.papaya_finds.specs.Given.SchedulesTerms.{Terms, shards_of}
+use Rattle.papaya_finds.specs.Given.SchedulesViews.{size_of}
 use Rattle.papaya_finds.specs.Waiting.{once_if}
 use Rattle.papaya_finds.proofs.Lists.{all_so}
 use Rattle.papaya_finds.proofs.Runs.{all_in_order_at_first}

@@ -4,22 +4,22 @@ use Rattle.std.specs.List.{AllByRecursion}
 use Rattle.std.proofs.Common.{refl, ap, sym, subst, ◌∙◌, arith, length-append, inl, inr}
 use Rattle.std.proofs.lemmas.List.{length-map}
 use Rattle.std.proofs.lemmas.List.Concat.{flat_map-cons}
-use Rattle.papaya_finds.specs.Given.Runs.Same.{is_same}
-use Rattle.papaya_finds.specs.Given.Schedules.declared.call.Call.{Call}
-use Rattle.papaya_finds.specs.Given.Schedules.declared.call.Call.TheVariants as call
-use Rattle.papaya_finds.specs.Given.Schedules.declared.call.OneKey.{OneKey}
-use Rattle.papaya_finds.specs.Given.Schedules.declared.call.Answer.{Answer}
-use Rattle.papaya_finds.specs.Given.Schedules.declared.call.Reply.{Reply}
-use Rattle.papaya_finds.specs.Given.Schedules.declared.effect.Effect.{Effect}
-use Rattle.papaya_finds.specs.Given.Schedules.declared.effect.Effect.TheVariants as effect
-use Rattle.papaya_finds.specs.Given.Schedules.Effects.{AtEachEffect, call_by, due_for, new_pair, stored_by, with_effect, with_effects}
-use Rattle.papaya_finds.specs.Given.Schedules.Entry.{ByCall}
-use Rattle.papaya_finds.specs.Given.Schedules.Linearizable.{Changes, MayRemove, RemovesOnly, shift_of, there_for}
-use Rattle.papaya_finds.specs.Given.Schedules.Moment.{UnderWay, Moment}
-use Rattle.papaya_finds.specs.Given.Schedules.Sequential.{Deed, Leaves, Puts, Takes, Meaning, Answers, Shift, ComesIn, GivesWay, GoesOut, key_of, means, shifts, value_put}
-use Rattle.papaya_finds.specs.Given.Schedules.Views.{call_of, reply_to}
-use Rattle.papaya_finds.proofs.Given.Follows.Calls.{changed_same}
-use Rattle.papaya_finds.proofs.Given.Histories.Changes.{acted_on}
+use Rattle.papaya_finds.specs.Given.RunsSame.{is_same}
+use Rattle.papaya_finds.specs.Given.SchedulesDeclared.call.Call.{Call}
+use Rattle.papaya_finds.specs.Given.SchedulesDeclared.call.Call.TheVariants as call
+use Rattle.papaya_finds.specs.Given.SchedulesDeclared.call.OneKey.{OneKey}
+use Rattle.papaya_finds.specs.Given.SchedulesDeclared.call.Answer.{Answer}
+use Rattle.papaya_finds.specs.Given.SchedulesDeclared.call.Reply.{Reply}
+use Rattle.papaya_finds.specs.Given.SchedulesDeclared.effect.Effect.{Effect}
+use Rattle.papaya_finds.specs.Given.SchedulesDeclared.effect.Effect.TheVariants as effect
+use Rattle.papaya_finds.specs.Given.SchedulesEffects.{AtEachEffect, call_by, due_for, new_pair, stored_by, with_effect, with_effects}
+use Rattle.papaya_finds.specs.Given.SchedulesEntry.{ByCall}
+use Rattle.papaya_finds.specs.Given.SchedulesLinearizable.{Changes, MayRemove, RemovesOnly, shift_of, there_for}
+use Rattle.papaya_finds.specs.Given.SchedulesMoment.{UnderWay, Moment}
+use Rattle.papaya_finds.specs.Given.SchedulesSequential.{Deed, Leaves, Puts, Takes, Meaning, Answers, Shift, ComesIn, GivesWay, GoesOut, key_of, means, shifts, value_put}
+use Rattle.papaya_finds.specs.Given.SchedulesViews.{call_of, reply_to}
+use Rattle.papaya_finds.proofs.Given.FollowsCalls.{changed_same}
+use Rattle.papaya_finds.proofs.Given.HistoriesChanges.{acted_on}
 use Rattle.papaya_finds.specs.Life.{StoresOne}
 use Rattle.papaya_finds.proofs.Tables.{all_under}
 use Rattle.papaya_sizes.proofs.Balance.{ReplacesFirst}

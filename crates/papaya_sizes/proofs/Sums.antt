@@ -4,13 +4,13 @@ use Rattle.std.specs.List.{AllByRecursion, list_any}
 use Rattle.std.proofs.Common.{refl, ap, sym, subst, ◌∙◌, arith, inl, inr}
 use Rattle.std.proofs.lemmas.Bool.{cases_eq, or_parts}
 use Rattle.std.proofs.lemmas.List.Sums.{sum_by-cons}
-use Rattle.papaya_finds.specs.Given.Runs.Same.{is_same}
-use Rattle.papaya_finds.specs.Given.Schedules.After.{without_call}
-use Rattle.papaya_finds.specs.Given.Schedules.Lists.{put}
-use Rattle.papaya_finds.specs.Given.Schedules.Moment.{Place, UnderWay}
-use Rattle.papaya_finds.specs.Given.Schedules.Views.{places_below}
-use Rattle.papaya_finds.proofs.Given.Follows.Alike.{put_here, put_elsewhere}
-use Rattle.papaya_finds.proofs.Given.Follows.Calling.{is_same_is}
+use Rattle.papaya_finds.specs.Given.RunsSame.{is_same}
+use Rattle.papaya_finds.specs.Given.SchedulesAfter.{without_call}
+use Rattle.papaya_finds.specs.Given.SchedulesLists.{put}
+use Rattle.papaya_finds.specs.Given.SchedulesMoment.{Place, UnderWay}
+use Rattle.papaya_finds.specs.Given.SchedulesViews.{places_below}
+use Rattle.papaya_finds.proofs.Given.FollowsAlike.{put_here, put_elsewhere}
+use Rattle.papaya_finds.proofs.Given.FollowsCalling.{is_same_is}
 use Rattle.papaya_finds.specs.Waiting.{once_if, AreApart}
 use Rattle.papaya_sizes.specs.Sizes.{sum_below}
 

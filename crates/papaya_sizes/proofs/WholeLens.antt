@@ -3,26 +3,26 @@ use Rattle.std.specs.Prelude.{◌≡◌, ℕ, ◌%◌, ◌^◌, ◌<◌, ◌==�
 use Rattle.std.specs.List.{AllByRecursion}
 use Rattle.std.proofs.Common.{refl, ap, sym, subst, ◌∙◌, arith}
 use Rattle.std.proofs.lemmas.Bool.{eq-eqb, lt-ltb, ne_eqb}
-use Rattle.papaya_finds.specs.Given.Tables.Counts.{count_in}
-use Rattle.papaya_finds.specs.Given.Schedules.declared.call.Answer.TheVariants.{Counted}
-use Rattle.papaya_finds.specs.Given.Schedules.declared.call.Call.TheVariants.{Len}
-use Rattle.papaya_finds.specs.Given.Schedules.declared.effect.Effect.{Effect}
-use Rattle.papaya_finds.specs.Given.Schedules.declared.event.Event.TheVariants.{OneCall}
-use Rattle.papaya_finds.specs.Given.Schedules.declared.outcome.Outcome.TheVariants.{Answered}
-use Rattle.papaya_finds.specs.Given.Schedules.After.{moment, moments_from}
-use Rattle.papaya_finds.specs.Given.Schedules.Beginning.{fresh_call, with_call}
-use Rattle.papaya_finds.specs.Given.Schedules.Effects.{AtEachEffect, with_effects, worked}
-use Rattle.papaya_finds.specs.Given.Schedules.Entry.{ByCall, Entry, acted_on, nameless}
-use Rattle.papaya_finds.specs.Given.Schedules.Growing.{only_looks}
-use Rattle.papaya_finds.specs.Given.Schedules.Handing.{moments_of}
-use Rattle.papaya_finds.specs.Given.Schedules.InTurn.{is_called}
-use Rattle.papaya_finds.specs.Given.Schedules.Lives.{CallFinds, Finds}
-use Rattle.papaya_finds.specs.Given.Schedules.Moment.{UnderWay, Moment}
-use Rattle.papaya_finds.specs.Given.Schedules.Runs.{IsLegalLog}
-use Rattle.papaya_finds.specs.Given.Schedules.Terms.{Terms}
-use Rattle.papaya_finds.specs.Given.Schedules.Views.{call_of, number_of, size_of}
-use Rattle.papaya_finds.proofs.Given.Histories.Logs.{events_are}
-use Rattle.papaya_finds.proofs.Given.Histories.Logs.{moments_grow}
+use Rattle.papaya_finds.specs.Given.TablesCounts.{count_in}
+use Rattle.papaya_finds.specs.Given.SchedulesDeclared.call.Answer.TheVariants.{Counted}
+use Rattle.papaya_finds.specs.Given.SchedulesDeclared.call.Call.TheVariants.{Len}
+use Rattle.papaya_finds.specs.Given.SchedulesDeclared.effect.Effect.{Effect}
+use Rattle.papaya_finds.specs.Given.SchedulesDeclared.event.Event.TheVariants.{OneCall}
+use Rattle.papaya_finds.specs.Given.SchedulesDeclared.outcome.Outcome.TheVariants.{Answered}
+use Rattle.papaya_finds.specs.Given.SchedulesAfter.{moment, moments_from}
+use Rattle.papaya_finds.specs.Given.SchedulesBeginning.{fresh_call, with_call}
+use Rattle.papaya_finds.specs.Given.SchedulesEffects.{AtEachEffect, with_effects, worked}
+use Rattle.papaya_finds.specs.Given.SchedulesEntry.{ByCall, Entry, acted_on, nameless}
+use Rattle.papaya_finds.specs.Given.SchedulesGrowing.{only_looks}
+use Rattle.papaya_finds.specs.Given.SchedulesHanding.{moments_of}
+use Rattle.papaya_finds.specs.Given.SchedulesInTurn.{is_called}
+use Rattle.papaya_finds.specs.Given.SchedulesLives.{CallFinds, Finds}
+use Rattle.papaya_finds.specs.Given.SchedulesMoment.{UnderWay, Moment}
+use Rattle.papaya_finds.specs.Given.SchedulesRuns.{IsLegalLog}
+use Rattle.papaya_finds.specs.Given.SchedulesTerms.{Terms}
+use Rattle.papaya_finds.specs.Given.SchedulesViews.{call_of, number_of, size_of}
+use Rattle.papaya_finds.proofs.Given.HistoriesLogs.{events_are}
+use Rattle.papaya_finds.proofs.Given.HistoriesLogs.{moments_grow}
 use Rattle.papaya_finds.proofs.Endings.{entry}
 use Rattle.papaya_finds.proofs.Grown.{number_is}
 use Rattle.papaya_finds.proofs.Lists.{all_so, none_of_them}

@@ -2,27 +2,27 @@
 use Rattle.std.specs.Prelude.{◌≡◌, ◌≢◌, ℕ, ◌%◌, ◌^◌, ◌<◌, ◌≤◌, ◌⊎◌, Bool, true, false, List, [], ◌∷◌, Option, Some, None, if◌then◌else◌}
 use Rattle.std.proofs.Common.{refl, ap, sym, subst, ◌∙◌, arith, inl, inr}
 use Rattle.std.proofs.lemmas.Bool.{cases_eq}
-use Rattle.papaya_finds.specs.Given.Runs.Present.{slot_of_guard}
-use Rattle.papaya_finds.specs.Given.Runs.Same.{is_same}
-use Rattle.papaya_finds.specs.Given.Schedules.declared.call.Call.{Call}
-use Rattle.papaya_finds.specs.Given.Schedules.declared.call.Call.TheVariants as call
-use Rattle.papaya_finds.specs.Given.Schedules.declared.effect.Effect.{Effect}
-use Rattle.papaya_finds.specs.Given.Schedules.declared.effect.Effect.TheVariants as effect
-use Rattle.papaya_finds.specs.Given.Schedules.declared.event.Event.{Event}
-use Rattle.papaya_finds.specs.Given.Schedules.declared.event.Event.TheVariants as event
-use Rattle.papaya_finds.specs.Given.Schedules.declared.outcome.Outcome.{Outcome}
-use Rattle.papaya_finds.specs.Given.Schedules.declared.outcome.Outcome.TheVariants as outcome
-use Rattle.papaya_finds.specs.Given.Schedules.Beginning.{begun, with_call}
-use Rattle.papaya_finds.specs.Given.Schedules.Effects.{AtEachEffect, call_by, due_for, shards_by, with_effect, with_effects, word_with}
-use Rattle.papaya_finds.specs.Given.Schedules.Entry.{ByCall, IfCall, acting, is_busy, nameless}
-use Rattle.papaya_finds.specs.Given.Schedules.Growing.{only_looks}
-use Rattle.papaya_finds.specs.Given.Schedules.Lists.{put}
-use Rattle.papaya_finds.specs.Given.Schedules.Lives.{CallFinds, Finds}
-use Rattle.papaya_finds.specs.Given.Schedules.Moment.{UnderWay, Moment}
-use Rattle.papaya_finds.specs.Given.Schedules.Terms.{Terms, shards_of}
-use Rattle.papaya_finds.specs.Given.Schedules.Views.{call_of, number_of}
-use Rattle.papaya_finds.proofs.Given.Follows.Alike.{put_here, put_elsewhere}
-use Rattle.papaya_finds.proofs.Given.Histories.Changes.{acted_on}
+use Rattle.papaya_finds.specs.Given.RunsPresent.{slot_of_guard}
+use Rattle.papaya_finds.specs.Given.RunsSame.{is_same}
+use Rattle.papaya_finds.specs.Given.SchedulesDeclared.call.Call.{Call}
+use Rattle.papaya_finds.specs.Given.SchedulesDeclared.call.Call.TheVariants as call
+use Rattle.papaya_finds.specs.Given.SchedulesDeclared.effect.Effect.{Effect}
+use Rattle.papaya_finds.specs.Given.SchedulesDeclared.effect.Effect.TheVariants as effect
+use Rattle.papaya_finds.specs.Given.SchedulesDeclared.event.Event.{Event}
+use Rattle.papaya_finds.specs.Given.SchedulesDeclared.event.Event.TheVariants as event
+use Rattle.papaya_finds.specs.Given.SchedulesDeclared.outcome.Outcome.{Outcome}
+use Rattle.papaya_finds.specs.Given.SchedulesDeclared.outcome.Outcome.TheVariants as outcome
+use Rattle.papaya_finds.specs.Given.SchedulesBeginning.{begun, with_call}
+use Rattle.papaya_finds.specs.Given.SchedulesEffects.{AtEachEffect, call_by, due_for, shards_by, with_effect, with_effects, word_with}
+use Rattle.papaya_finds.specs.Given.SchedulesEntry.{ByCall, IfCall, acting, is_busy, nameless}
+use Rattle.papaya_finds.specs.Given.SchedulesGrowing.{only_looks}
+use Rattle.papaya_finds.specs.Given.SchedulesLists.{put}
+use Rattle.papaya_finds.specs.Given.SchedulesLives.{CallFinds, Finds}
+use Rattle.papaya_finds.specs.Given.SchedulesMoment.{UnderWay, Moment}
+use Rattle.papaya_finds.specs.Given.SchedulesTerms.{Terms, shards_of}
+use Rattle.papaya_finds.specs.Given.SchedulesViews.{call_of, number_of}
+use Rattle.papaya_finds.proofs.Given.FollowsAlike.{put_here, put_elsewhere}
+use Rattle.papaya_finds.proofs.Given.HistoriesChanges.{acted_on}
 use Rattle.papaya_finds.specs.Within.{AllIsInOrder}
 use Rattle.papaya_finds.proofs.Grown.{found_of}
 use Rattle.papaya_sizes.proofs.Beginning.{calls_below_made}

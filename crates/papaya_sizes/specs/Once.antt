@@ -1,11 +1,11 @@
 -- Where all pairs of a run are: among those that it gave back, or among those that it has kept.
 use Rattle.std.specs.Prelude.{◌≡◌, ℕ, ◌&&◌, nat_le, Bool, List, ◌++◌, if◌then◌else◌}
-use Rattle.papaya_finds.specs.Given.Runs.LifeCycle.{times}
-use Rattle.papaya_finds.specs.Given.Runs.Pairs.{numbers}
-use Rattle.papaya_finds.specs.Given.Schedules.declared.event.Event.{Event}
-use Rattle.papaya_finds.specs.Given.Schedules.declared.record.Run.{Run}
-use Rattle.papaya_finds.specs.Given.Schedules.Runs.{IsRunOf}
-use Rattle.papaya_finds.specs.Given.Schedules.Terms.{Terms}
+use Rattle.papaya_finds.specs.Given.RunsLifeCycle.{times}
+use Rattle.papaya_finds.specs.Given.RunsPairs.{numbers}
+use Rattle.papaya_finds.specs.Given.SchedulesDeclared.event.Event.{Event}
+use Rattle.papaya_finds.specs.Given.SchedulesDeclared.record.Run.{Run}
+use Rattle.papaya_finds.specs.Given.SchedulesRuns.{IsRunOf}
+use Rattle.papaya_finds.specs.Given.SchedulesTerms.{Terms}
 
 module _ {K V : Type 0} where
   -- Each number, from 1 to how many pairs were stored, stands there once, and no other one does.

@@ -1,19 +1,19 @@
 -- How many pairs maps have, by what is counted of them: the shards of a map, and what calls under way have added to it, and taken out, and not yet counted.
 use Rattle.std.specs.Prelude.{◌≡◌, ℕ, zero, suc, ◌+◌, ◌%◌, ◌^◌, ◌==◌, Bool, false, List, ◌∷◌, sum_by, Some, if◌then◌else◌}
 use Rattle.std.specs.List.{AllByRecursion}
-use Rattle.papaya_finds.specs.Given.Tables.Counts.{count_in}
-use Rattle.papaya_finds.specs.Given.Schedules.declared.call.Answer.TheVariants.{Counted}
-use Rattle.papaya_finds.specs.Given.Schedules.declared.call.Call.TheVariants.{Len}
-use Rattle.papaya_finds.specs.Given.Schedules.declared.event.Event.TheVariants.{OneCall}
-use Rattle.papaya_finds.specs.Given.Schedules.declared.outcome.Outcome.TheVariants.{Answered}
-use Rattle.papaya_finds.specs.Given.Schedules.After.{moment, moments_from}
-use Rattle.papaya_finds.specs.Given.Schedules.Effects.{worked}
-use Rattle.papaya_finds.specs.Given.Schedules.Entry.{Entry, acting, caller_of}
-use Rattle.papaya_finds.specs.Given.Schedules.InTurn.{is_called}
-use Rattle.papaya_finds.specs.Given.Schedules.Moment.{MapThere, Moment, UnderWay}
-use Rattle.papaya_finds.specs.Given.Schedules.Runs.{IsLegalLog}
-use Rattle.papaya_finds.specs.Given.Schedules.Terms.{Terms, shards_of}
-use Rattle.papaya_finds.specs.Given.Schedules.Views.{number_of, size_of}
+use Rattle.papaya_finds.specs.Given.TablesCounts.{count_in}
+use Rattle.papaya_finds.specs.Given.SchedulesDeclared.call.Answer.TheVariants.{Counted}
+use Rattle.papaya_finds.specs.Given.SchedulesDeclared.call.Call.TheVariants.{Len}
+use Rattle.papaya_finds.specs.Given.SchedulesDeclared.event.Event.TheVariants.{OneCall}
+use Rattle.papaya_finds.specs.Given.SchedulesDeclared.outcome.Outcome.TheVariants.{Answered}
+use Rattle.papaya_finds.specs.Given.SchedulesAfter.{moment, moments_from}
+use Rattle.papaya_finds.specs.Given.SchedulesEffects.{worked}
+use Rattle.papaya_finds.specs.Given.SchedulesEntry.{Entry, acting, caller_of}
+use Rattle.papaya_finds.specs.Given.SchedulesInTurn.{is_called}
+use Rattle.papaya_finds.specs.Given.SchedulesMoment.{MapThere, Moment, UnderWay}
+use Rattle.papaya_finds.specs.Given.SchedulesRuns.{IsLegalLog}
+use Rattle.papaya_finds.specs.Given.SchedulesTerms.{Terms, shards_of}
+use Rattle.papaya_finds.specs.Given.SchedulesViews.{number_of, size_of}
 
 -- the sum of so many words, from the first on
 abbrev pub sum_below : ℕ → (ℕ → ℕ) → ℕ

@@ -2,7 +2,7 @@
 use Rattle.std.specs.Prelude.{◌≡◌, ℕ, suc, ◌+◌, ◌≤◌, ◌==◌, Bool, true, false, List, [], ◌∷◌, length, if◌then◌else◌}
 use Rattle.std.proofs.Common.{refl, ap, sym, subst, arith}
 use Rattle.std.proofs.lemmas.Bool.{eq-eqb}
-use Rattle.papaya_finds.specs.Given.Runs.LifeCycle.{times}
+use Rattle.papaya_finds.specs.Given.RunsLifeCycle.{times}
 
 -- without the first such number
 without : ℕ → List ℕ → List ℕ

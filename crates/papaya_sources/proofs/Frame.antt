@@ -2,11 +2,11 @@
 use Rattle.std.specs.Prelude.{◌≡◌, ℕ, ◌+◌, ◌<◌, ◌≤◌, length}
 use Rattle.std.proofs.Common.{ap, sym, subst, ◌∙◌, arith, inl, inr}
 use Rattle.std.proofs.lemmas.Bool.{cases_lt}
-use Rattle.papaya_finds.specs.Given.Schedules.declared.effect.Table.{Table}
-use Rattle.papaya_finds.specs.Given.Schedules.Moment.{Moment}
-use Rattle.papaya_finds.specs.Given.Effects.Known.{Known}
-use Rattle.papaya_finds.specs.Given.Finishes.Maps.{Standing}
-use Rattle.papaya_finds.specs.Given.Follows.Maps.{ShowsMap}
+use Rattle.papaya_finds.specs.Given.SchedulesDeclared.effect.Table.{Table}
+use Rattle.papaya_finds.specs.Given.SchedulesMoment.{Moment}
+use Rattle.papaya_finds.specs.Given.EffectsKnown.{Known}
+use Rattle.papaya_finds.specs.Given.FinishesMaps.{Standing}
+use Rattle.papaya_finds.specs.Given.FollowsMaps.{ShowsMap}
 use Rattle.papaya_sources.specs.Sources.{AreNumbered, CameFromPlaces, HasSource}
 
 module _ {K V : Type 0} (map : ℕ) (number number2 : ℕ → ℕ) (st st2 : Standing K) (m v : Moment K V) (known known2 : Known) (shown : ShowsMap map number st m known) (shown2 : ShowsMap map number2 st2 v known2)

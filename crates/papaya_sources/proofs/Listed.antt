@@ -3,14 +3,14 @@ use Rattle.std.specs.Prelude.{◌≡◌, ℕ, zero, suc, ◌+◌, ◌≤◌, ◌
 use Rattle.std.specs.List.{AllByRecursion}
 use Rattle.std.proofs.Common.{refl, ap, sym, ◌∙◌, arith, length-append, inl, inr}
 use Rattle.std.proofs.lemmas.Bool.{cases_eq, ne_eqb}
-use Rattle.papaya_finds.specs.Given.Runs.LifeCycle.{times}
-use Rattle.papaya_finds.specs.Given.Schedules.declared.effect.Table.{Table}
-use Rattle.papaya_finds.specs.Given.Schedules.Moment.{Place, Unborn, InMap, Out, Handed, Behind, Left, GivenBack, UnderWay, Deferral, Stage, Moment}
-use Rattle.papaya_finds.specs.Given.Schedules.Things.{same_table}
-use Rattle.papaya_finds.specs.Given.Schedules.Views.{call_of, behind}
-use Rattle.papaya_finds.specs.Given.Rule.Chart.{Chart}
-use Rattle.papaya_finds.specs.Given.Follows.Maps.{table_of, shape_at, tables_to}
-use Rattle.papaya_finds.specs.Given.Runs.Same.{is_same}
+use Rattle.papaya_finds.specs.Given.RunsLifeCycle.{times}
+use Rattle.papaya_finds.specs.Given.SchedulesDeclared.effect.Table.{Table}
+use Rattle.papaya_finds.specs.Given.SchedulesMoment.{Place, Unborn, InMap, Out, Handed, Behind, Left, GivenBack, UnderWay, Deferral, Stage, Moment}
+use Rattle.papaya_finds.specs.Given.SchedulesThings.{same_table}
+use Rattle.papaya_finds.specs.Given.SchedulesViews.{call_of, behind}
+use Rattle.papaya_finds.specs.Given.RuleChart.{Chart}
+use Rattle.papaya_finds.specs.Given.FollowsMaps.{table_of, shape_at, tables_to}
+use Rattle.papaya_finds.specs.Given.RunsSame.{is_same}
 use Rattle.papaya_finds.specs.Waiting.{is_out, is_behind_one, once_if, owed_in, put_in, owed_by, PairsArePlaced}
 
 -- a map has so many tables

@@ -1,10 +1,10 @@
 -- A place from which a pair was copied is left by each change of the tables; and as a pair is put into a later table, the place is such a one.
 use Rattle.std.specs.Prelude.{◌≡◌, ◌≢◌, ℕ, ◌<◌, Bool, true, false}
 use Rattle.std.proofs.Common.{refl, sym, subst, ◌∙◌, inl, inr}
-use Rattle.papaya_finds.specs.Given.Rule.Chart.{Phase, Still, Copying, Copied, Place, Empty, Tombstone, Holds, Share, Claimed, Chart, put_in}
-use Rattle.papaya_finds.specs.Given.Rule.Rule.{Agrees, Rule}
-use Rattle.papaya_finds.specs.Given.Rule.Moves.{Move, Links, Stores, Replaces, Removes, Marks, MarksBlocking, Skips, Unmarks, Puts, Covers, PutsLate, Claims, Reclaims, Counts, GivesUp, Aborts, Promotes, Announces, Allowed, after, marked, still_place, copied_place, lent_place}
-use Rattle.papaya_finds.proofs.Given.Rule.Moves.Writes.{put_in_cases}
+use Rattle.papaya_finds.specs.Given.RuleChart.{Phase, Still, Copying, Copied, Place, Empty, Tombstone, Holds, Share, Claimed, Chart, put_in}
+use Rattle.papaya_finds.specs.Given.RuleRule.{Agrees, Rule}
+use Rattle.papaya_finds.specs.Given.RuleMoves.{Move, Links, Stores, Replaces, Removes, Marks, MarksBlocking, Skips, Unmarks, Puts, Covers, PutsLate, Claims, Reclaims, Counts, GivesUp, Aborts, Promotes, Announces, Allowed, after, marked, still_place, copied_place, lent_place}
+use Rattle.papaya_finds.proofs.Given.RuleMoves.Writes.{put_in_cases}
 
 module _ {K : Type 0} (same : K → K → Bool) (spot : ℕ → K → ℕ → ℕ) (c : Chart K) (rule : Rule same spot true c) (n : ℕ) where
   -- the place names the pair, and it is being copied, or was

@@ -1,38 +1,38 @@
 -- The pair that a step of a call stores which is none of a row: one at most, in the call's map, and it lies in the table in which it was stored.
 use Rattle.std.specs.Prelude.{◌≡◌, ℕ, ◌+◌, ◌<◌, ◌≤◌, Bool, true, List, [], ◌∷◌, length, Option, Some, None}
 use Rattle.std.proofs.Common.{refl, ap, sym, ◌∙◌, arith, inl, inr}
-use Rattle.papaya_finds.specs.Given.SeizeWords.Mem.{Mem}
-use Rattle.papaya_finds.specs.Given.Seize.World.{World}
-use Rattle.papaya_finds.specs.Given.Tables.Chunks.{is_incremental}
-use Rattle.papaya_finds.specs.Given.Tables.declared.node.Node.{Node}
-use Rattle.papaya_finds.specs.Given.Schedules.declared.effect.Effect.{Effect}
-use Rattle.papaya_finds.specs.Given.Schedules.declared.effect.Effect.TheVariants as effect
-use Rattle.papaya_finds.specs.Given.Schedules.declared.effect.Spot.{Spot}
-use Rattle.papaya_finds.specs.Given.Schedules.declared.effect.Table.{Table}
-use Rattle.papaya_finds.specs.Given.Schedules.Effects.{stored_by, with_effect, with_effects}
-use Rattle.papaya_finds.specs.Given.Schedules.Entry.{acting}
-use Rattle.papaya_finds.specs.Given.Schedules.Lists.{put}
-use Rattle.papaya_finds.specs.Given.Schedules.Moment.{UnderWay, Moment}
-use Rattle.papaya_finds.specs.Given.Teller.declared.changed.Changed.{Changed}
-use Rattle.papaya_finds.specs.Given.Rule.Chart.{Chart}
-use Rattle.papaya_finds.specs.Given.Rule.InWorld.{IsMapIn, Moved, Went}
-use Rattle.papaya_finds.specs.Given.Rule.Maps.{spot_of}
-use Rattle.papaya_finds.specs.Given.Rule.Moves.{Move, Links, Stores, Replaces, Removes, Marks, MarksBlocking, Skips, Unmarks, Puts, Covers, PutsLate, Claims, Reclaims, Counts, GivesUp, Aborts, Promotes, Announces, after}
-use Rattle.papaya_finds.specs.Given.Rule.Words.{Blocks}
-use Rattle.papaya_finds.specs.Given.Points.Steps.{AreLawful}
-use Rattle.papaya_finds.specs.Given.Callers.Sights.{Sight, seen_by, IsGrown, IsSight}
-use Rattle.papaya_finds.specs.Given.Callers.Together.{in_slot}
-use Rattle.papaya_finds.specs.Given.Effects.Effects.{effects_of, known_after}
-use Rattle.papaya_finds.specs.Given.Effects.Known.{Known, with_pair}
-use Rattle.papaya_finds.specs.Given.Effects.declared.acting.Acting.TheVariants.{Call}
-use Rattle.papaya_finds.specs.Given.Finishes.Maps.{Standing}
-use Rattle.papaya_finds.specs.Given.Follows.Blocks.{ShowsBlocks}
-use Rattle.papaya_finds.specs.Given.Follows.Maps.{table_of, ShowsMap}
-use Rattle.papaya_finds.proofs.Given.Follows.Alike.{put_here}
-use Rattle.papaya_finds.proofs.Given.Follows.Operations.{LeavesBy}
-use Rattle.papaya_finds.specs.Given.Spots.Spots.{spot_in}
-use Rattle.papaya_finds.proofs.Given.Spots.Done.{DidBy, DidMoved}
-use Rattle.papaya_finds.proofs.Given.Spots.Effects.{is_aside, AllAside, calm_aside}
+use Rattle.papaya_finds.specs.Given.SeizeWordsMem.{Mem}
+use Rattle.papaya_finds.specs.Given.SeizeWorld.{World}
+use Rattle.papaya_finds.specs.Given.TablesChunks.{is_incremental}
+use Rattle.papaya_finds.specs.Given.TablesDeclared.node.Node.{Node}
+use Rattle.papaya_finds.specs.Given.SchedulesDeclared.effect.Effect.{Effect}
+use Rattle.papaya_finds.specs.Given.SchedulesDeclared.effect.Effect.TheVariants as effect
+use Rattle.papaya_finds.specs.Given.SchedulesDeclared.effect.Spot.{Spot}
+use Rattle.papaya_finds.specs.Given.SchedulesDeclared.effect.Table.{Table}
+use Rattle.papaya_finds.specs.Given.SchedulesEffects.{stored_by, with_effect, with_effects}
+use Rattle.papaya_finds.specs.Given.SchedulesEntry.{acting}
+use Rattle.papaya_finds.specs.Given.SchedulesLists.{put}
+use Rattle.papaya_finds.specs.Given.SchedulesMoment.{UnderWay, Moment}
+use Rattle.papaya_finds.specs.Given.TellerDeclared.changed.Changed.{Changed}
+use Rattle.papaya_finds.specs.Given.RuleChart.{Chart}
+use Rattle.papaya_finds.specs.Given.RuleInWorld.{IsMapIn, Moved, Went}
+use Rattle.papaya_finds.specs.Given.RuleMaps.{spot_of}
+use Rattle.papaya_finds.specs.Given.RuleMoves.{Move, Links, Stores, Replaces, Removes, Marks, MarksBlocking, Skips, Unmarks, Puts, Covers, PutsLate, Claims, Reclaims, Counts, GivesUp, Aborts, Promotes, Announces, after}
+use Rattle.papaya_finds.specs.Given.RuleWords.{Blocks}
+use Rattle.papaya_finds.specs.Given.PointsSteps.{AreLawful}
+use Rattle.papaya_finds.specs.Given.CallersSights.{Sight, seen_by, IsGrown, IsSight}
+use Rattle.papaya_finds.specs.Given.CallersTogether.{in_slot}
+use Rattle.papaya_finds.specs.Given.EffectsEffects.{effects_of, known_after}
+use Rattle.papaya_finds.specs.Given.EffectsKnown.{Known, with_pair}
+use Rattle.papaya_finds.specs.Given.EffectsDeclared.acting.Acting.TheVariants.{Call}
+use Rattle.papaya_finds.specs.Given.FinishesMaps.{Standing}
+use Rattle.papaya_finds.specs.Given.FollowsBlocks.{ShowsBlocks}
+use Rattle.papaya_finds.specs.Given.FollowsMaps.{table_of, ShowsMap}
+use Rattle.papaya_finds.proofs.Given.FollowsAlike.{put_here}
+use Rattle.papaya_finds.proofs.Given.FollowsOperations.{LeavesBy}
+use Rattle.papaya_finds.specs.Given.SpotsSpots.{spot_in}
+use Rattle.papaya_finds.proofs.Given.SpotsDone.{DidBy, DidMoved}
+use Rattle.papaya_finds.proofs.Given.SpotsEffects.{is_aside, AllAside, calm_aside}
 
 -- what neither stores, nor copies, nor brings a root on, stores nothing
 module _ {K V : Type 0} (who : Option (List ℕ)) (acted : Option ℕ) where

@@ -2,43 +2,43 @@
 use Rattle.std.specs.Prelude.{◌≡◌, ◌≢◌, ℕ, ◌+◌, ◌<◌, ◌≤◌, nat_lt, Bool, true, false, List, [], ◌∷◌, Option, Some, if◌then◌else◌}
 use Rattle.std.proofs.Common.{refl, ap, sym, subst, ◌∙◌, arith, inl, inr}
 use Rattle.std.proofs.lemmas.Bool.{cases_eq, cases_lt}
-use Rattle.papaya_finds.specs.Given.SeizeWords.Mem.{Mem}
-use Rattle.papaya_finds.specs.Given.Seize.World.{World}
-use Rattle.papaya_finds.specs.Given.Tables.Chunks.{is_incremental}
-use Rattle.papaya_finds.specs.Given.Tables.declared.node.Node.{Node}
-use Rattle.papaya_finds.specs.Given.Schedules.declared.effect.Effect.{Effect}
-use Rattle.papaya_finds.specs.Given.Schedules.declared.effect.Effect.TheVariants.{Copied as CopiedTo, Stored, Replaced, Removed, Linked, Promoted}
-use Rattle.papaya_finds.specs.Given.Schedules.declared.effect.Spot.{Spot}
-use Rattle.papaya_finds.specs.Given.Schedules.declared.effect.Table.{Table}
-use Rattle.papaya_finds.specs.Given.Schedules.Effects.{later, is_chunked, spot_by, with_effects}
-use Rattle.papaya_finds.specs.Given.Schedules.Lists.{put}
-use Rattle.papaya_finds.specs.Given.Schedules.Moment.{Moment}
-use Rattle.papaya_finds.specs.Given.Teller.declared.changed.Changed.{Changed}
-use Rattle.papaya_finds.specs.Given.Rule.Chart.{Phase, Copying, Holds, Chart, is_settled}
-use Rattle.papaya_finds.specs.Given.Rule.InWorld.{IsMapIn, Moved, Went}
-use Rattle.papaya_finds.specs.Given.Rule.Lasts.{Lasts}
-use Rattle.papaya_finds.specs.Given.Rule.Maps.{spot_of}
-use Rattle.papaya_finds.specs.Given.Rule.Moves.{Move, Links, Stores, Replaces, Removes, Marks, MarksBlocking, Skips, Unmarks, Puts, Covers, PutsLate, Claims, Reclaims, Counts, GivesUp, Aborts, Promotes, Announces, Allowed, after, lent_place}
-use Rattle.papaya_finds.specs.Given.Rule.Rule.{Rule}
-use Rattle.papaya_finds.specs.Given.Rule.Words.{Blocks}
-use Rattle.papaya_finds.proofs.Given.Rule.Moves.Promised.{moves_keep}
-use Rattle.papaya_finds.proofs.Given.Rule.Moves.Writes.{put_in_elsewhere}
-use Rattle.papaya_finds.specs.Given.Points.Steps.{AreLawful}
-use Rattle.papaya_finds.specs.Given.Callers.Sights.{Sight, seen_by, IsGrown, IsSight}
-use Rattle.papaya_finds.specs.Given.Callers.Together.{in_slot}
-use Rattle.papaya_finds.specs.Given.Effects.Effects.{effects_of}
-use Rattle.papaya_finds.specs.Given.Effects.Known.{Known}
-use Rattle.papaya_finds.specs.Given.Effects.declared.acting.Acting.TheVariants.{Call}
-use Rattle.papaya_finds.specs.Given.Finishes.Maps.{Standing}
-use Rattle.papaya_finds.specs.Given.Follows.Blocks.{ShowsBlocks}
-use Rattle.papaya_finds.specs.Given.Follows.Maps.{table_of, ShowsMap}
-use Rattle.papaya_finds.proofs.Given.Follows.Alike.{put_elsewhere}
-use Rattle.papaya_finds.proofs.Given.Follows.Finds.{chunks_are}
-use Rattle.papaya_finds.proofs.Given.Follows.Operations.{LeavesBy}
-use Rattle.papaya_finds.specs.Given.Spots.Spots.{spot_in, LiesAt}
-use Rattle.papaya_finds.proofs.Given.Spots.Done.{DidBy, DidMoved}
-use Rattle.papaya_finds.proofs.Given.Spots.Effects.{AllAside, AreAside, aside_all, calm_aside, spot_copied, spot_copied_other}
-use Rattle.papaya_finds.proofs.Given.Spots.Names.{holds_is}
+use Rattle.papaya_finds.specs.Given.SeizeWordsMem.{Mem}
+use Rattle.papaya_finds.specs.Given.SeizeWorld.{World}
+use Rattle.papaya_finds.specs.Given.TablesChunks.{is_incremental}
+use Rattle.papaya_finds.specs.Given.TablesDeclared.node.Node.{Node}
+use Rattle.papaya_finds.specs.Given.SchedulesDeclared.effect.Effect.{Effect}
+use Rattle.papaya_finds.specs.Given.SchedulesDeclared.effect.Effect.TheVariants.{Copied as CopiedTo, Stored, Replaced, Removed, Linked, Promoted}
+use Rattle.papaya_finds.specs.Given.SchedulesDeclared.effect.Spot.{Spot}
+use Rattle.papaya_finds.specs.Given.SchedulesDeclared.effect.Table.{Table}
+use Rattle.papaya_finds.specs.Given.SchedulesEffects.{later, is_chunked, spot_by, with_effects}
+use Rattle.papaya_finds.specs.Given.SchedulesLists.{put}
+use Rattle.papaya_finds.specs.Given.SchedulesMoment.{Moment}
+use Rattle.papaya_finds.specs.Given.TellerDeclared.changed.Changed.{Changed}
+use Rattle.papaya_finds.specs.Given.RuleChart.{Phase, Copying, Holds, Chart, is_settled}
+use Rattle.papaya_finds.specs.Given.RuleInWorld.{IsMapIn, Moved, Went}
+use Rattle.papaya_finds.specs.Given.RuleLasts.{Lasts}
+use Rattle.papaya_finds.specs.Given.RuleMaps.{spot_of}
+use Rattle.papaya_finds.specs.Given.RuleMoves.{Move, Links, Stores, Replaces, Removes, Marks, MarksBlocking, Skips, Unmarks, Puts, Covers, PutsLate, Claims, Reclaims, Counts, GivesUp, Aborts, Promotes, Announces, Allowed, after, lent_place}
+use Rattle.papaya_finds.specs.Given.RuleRule.{Rule}
+use Rattle.papaya_finds.specs.Given.RuleWords.{Blocks}
+use Rattle.papaya_finds.proofs.Given.RuleMoves.Promised.{moves_keep}
+use Rattle.papaya_finds.proofs.Given.RuleMoves.Writes.{put_in_elsewhere}
+use Rattle.papaya_finds.specs.Given.PointsSteps.{AreLawful}
+use Rattle.papaya_finds.specs.Given.CallersSights.{Sight, seen_by, IsGrown, IsSight}
+use Rattle.papaya_finds.specs.Given.CallersTogether.{in_slot}
+use Rattle.papaya_finds.specs.Given.EffectsEffects.{effects_of}
+use Rattle.papaya_finds.specs.Given.EffectsKnown.{Known}
+use Rattle.papaya_finds.specs.Given.EffectsDeclared.acting.Acting.TheVariants.{Call}
+use Rattle.papaya_finds.specs.Given.FinishesMaps.{Standing}
+use Rattle.papaya_finds.specs.Given.FollowsBlocks.{ShowsBlocks}
+use Rattle.papaya_finds.specs.Given.FollowsMaps.{table_of, ShowsMap}
+use Rattle.papaya_finds.proofs.Given.FollowsAlike.{put_elsewhere}
+use Rattle.papaya_finds.proofs.Given.FollowsFinds.{chunks_are}
+use Rattle.papaya_finds.proofs.Given.FollowsOperations.{LeavesBy}
+use Rattle.papaya_finds.specs.Given.SpotsSpots.{spot_in, LiesAt}
+use Rattle.papaya_finds.proofs.Given.SpotsDone.{DidBy, DidMoved}
+use Rattle.papaya_finds.proofs.Given.SpotsEffects.{AllAside, AreAside, aside_all, calm_aside, spot_copied, spot_copied_other}
+use Rattle.papaya_finds.proofs.Given.SpotsNames.{holds_is}
 use Rattle.papaya_sources.specs.Sources.{HasSource, CameFromPlaces}
 use Rattle.papaya_sources.proofs.Moves.{Moving, NamedBehind, stays}
 

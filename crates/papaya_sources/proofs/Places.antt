@@ -5,10 +5,10 @@ use Rattle.std.proofs.lemmas.Bool.{cases_eq, eq-eqb}
 use Rattle.std.proofs.lemmas.List.{length-append}
 use Rattle.std.proofs.lemmas.List.Elements.{filter-append}
 use Rattle.std.proofs.lemmas.List.Sums.{sum_by-append}
-use Rattle.papaya_finds.specs.Given.Runs.LifeCycle.{times}
-use Rattle.papaya_finds.specs.Given.Schedules.Moment.{Stage, TableThere}
-use Rattle.papaya_finds.specs.Given.Rule.Chart.{Chart}
-use Rattle.papaya_finds.specs.Given.Follows.Maps.{tables_to, table_of, shape_at}
+use Rattle.papaya_finds.specs.Given.RunsLifeCycle.{times}
+use Rattle.papaya_finds.specs.Given.SchedulesMoment.{Stage, TableThere}
+use Rattle.papaya_finds.specs.Given.RuleChart.{Chart}
+use Rattle.papaya_finds.specs.Given.FollowsMaps.{tables_to, table_of, shape_at}
 
 times_append : (n : ℕ) (xs ys : List ℕ) → times n (xs ++ ys) ≡ times n xs + times n ys
 times_append n [] ys = omega arith

@@ -2,10 +2,10 @@
 use Rattle.std.specs.Prelude.{◌≡◌, ℕ, suc, ◌<◌, ◌≤◌, List, ◌∷◌, length}
 use Rattle.std.proofs.Common.{ap, ◌∙◌, arith, inl, inr}
 use Rattle.std.proofs.lemmas.Bool.{cases_lt}
-use Rattle.papaya_finds.specs.Given.Runs.LifeCycle.{times}
-use Rattle.papaya_finds.specs.Given.Schedules.Moment.{Stage}
-use Rattle.papaya_finds.specs.Given.Rule.Chart.{Place, Holds, Chart}
-use Rattle.papaya_finds.specs.Given.Follows.Maps.{tables_to}
+use Rattle.papaya_finds.specs.Given.RunsLifeCycle.{times}
+use Rattle.papaya_finds.specs.Given.SchedulesMoment.{Stage}
+use Rattle.papaya_finds.specs.Given.RuleChart.{Place, Holds, Chart}
+use Rattle.papaya_finds.specs.Given.FollowsMaps.{tables_to}
 use Rattle.papaya_sources.specs.Sources.{HasSource}
 use Rattle.papaya_sources.proofs.Counting.{no_longer}
 use Rattle.papaya_sources.proofs.Places.{names_before, found_before, enough, places_to}

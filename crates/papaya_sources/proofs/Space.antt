@@ -3,44 +3,44 @@ use Rattle.std.specs.Prelude.{◌≡◌, ℕ, suc, ◌<◌, ◌≤◌, ◌==◌,
 use Rattle.std.specs.List.{AllByRecursion, list_any}
 use Rattle.std.proofs.Common.{refl, ap, sym, subst, ◌∙◌, arith, inl, inr}
 use Rattle.std.proofs.lemmas.Bool.{cases_eq, eq-eqb, ne_eqb}
-use Rattle.papaya_finds.specs.Given.SeizeWords.declared.at.At.{At}
-use Rattle.papaya_finds.specs.Given.SeizeWords.Word.{block_in}
-use Rattle.papaya_finds.specs.Given.Tables.Chunks.{is_incremental}
-use Rattle.papaya_finds.specs.Given.Tables.declared.node.Node.{Node}
-use Rattle.papaya_finds.specs.Given.Raw.declared.machines.progress.Progress.{Progress}
-use Rattle.papaya_finds.specs.Given.Runs.LifeCycle.{times}
-use Rattle.papaya_finds.specs.Given.Runs.Same.{is_same}
-use Rattle.papaya_finds.specs.Given.Schedules.declared.effect.Effect.{Effect}
-use Rattle.papaya_finds.specs.Given.Schedules.declared.effect.Effect.TheVariants as effect
-use Rattle.papaya_finds.specs.Given.Schedules.declared.effect.Table.{Table}
-use Rattle.papaya_finds.specs.Given.Schedules.declared.effect.Thing.{Thing}
-use Rattle.papaya_finds.specs.Given.Schedules.declared.effect.Thing.TheVariants.{APair, ATable}
-use Rattle.papaya_finds.specs.Given.Schedules.Effects.{call_by, with_effect}
-use Rattle.papaya_finds.specs.Given.Schedules.Entry.{ByCall}
-use Rattle.papaya_finds.specs.Given.Schedules.Moment.{UnderWay as CallThere, TableThere, Moment}
-use Rattle.papaya_finds.specs.Given.Schedules.Views.{call_of, grows_in_chunks, map_at, behind, tables_of}
-use Rattle.papaya_finds.specs.Given.Callers.Together.{UnderWay}
-use Rattle.papaya_finds.specs.Given.Effects.Effects.{carried, effects_of}
-use Rattle.papaya_finds.specs.Given.Effects.Known.{Known}
-use Rattle.papaya_finds.specs.Given.Effects.declared.acting.Acting.TheVariants as acts
-use Rattle.papaya_finds.specs.Given.Effects.declared.role.Role.{Role}
-use Rattle.papaya_finds.specs.Given.Effects.declared.role.Role.TheVariants as role
-use Rattle.papaya_finds.specs.Given.Finishes.Machines.{machine_of}
-use Rattle.papaya_finds.specs.Given.Finishes.Maps.{Standing}
-use Rattle.papaya_finds.specs.Given.Follows.Calls.{IsCalled}
-use Rattle.papaya_finds.specs.Given.Follows.Maps.{tables_to, ShowsMap}
-use Rattle.papaya_finds.proofs.Given.Follows.Finds.{chunks_are}
-use Rattle.papaya_finds.proofs.Given.Follows.Steps.{WentTo, went_to}
-use Rattle.papaya_finds.proofs.Given.Others.Leads.{same_parts}
-use Rattle.papaya_finds.specs.Given.Moments.Whole.{ShowsWhole}
-use Rattle.papaya_finds.proofs.Given.Owes.Fields.{its_effect}
-use Rattle.papaya_finds.specs.Given.Settles.Due.{ToPut, due_in_row, told_retired, RowTells, TellsNone, TellsRetired, TellsDeferred, OwnAreMade}
-use Rattle.papaya_finds.specs.Given.Settles.Entries.{ShowsEntries}
-use Rattle.papaya_finds.specs.Given.Settles.Hand.{thing_as, ShowsOwed}
-use Rattle.papaya_finds.specs.Given.Settles.Owing.{hands_over}
-use Rattle.papaya_finds.proofs.Given.Settles.DueCalls.{rows_tell_due}
-use Rattle.papaya_finds.proofs.Given.Settles.Hand.All.{own_or_row}
-use Rattle.papaya_finds.proofs.Given.Settles.Takings.{steps_take_out}
+use Rattle.papaya_finds.specs.Given.SeizeWordsDeclared.at.At.{At}
+use Rattle.papaya_finds.specs.Given.SeizeWordsWord.{block_in}
+use Rattle.papaya_finds.specs.Given.TablesChunks.{is_incremental}
+use Rattle.papaya_finds.specs.Given.TablesDeclared.node.Node.{Node}
+use Rattle.papaya_finds.specs.Given.RawDeclared.machines.progress.Progress.{Progress}
+use Rattle.papaya_finds.specs.Given.RunsLifeCycle.{times}
+use Rattle.papaya_finds.specs.Given.RunsSame.{is_same}
+use Rattle.papaya_finds.specs.Given.SchedulesDeclared.effect.Effect.{Effect}
+use Rattle.papaya_finds.specs.Given.SchedulesDeclared.effect.Effect.TheVariants as effect
+use Rattle.papaya_finds.specs.Given.SchedulesDeclared.effect.Table.{Table}
+use Rattle.papaya_finds.specs.Given.SchedulesDeclared.effect.Thing.{Thing}
+use Rattle.papaya_finds.specs.Given.SchedulesDeclared.effect.Thing.TheVariants.{APair, ATable}
+use Rattle.papaya_finds.specs.Given.SchedulesEffects.{call_by, with_effect}
+use Rattle.papaya_finds.specs.Given.SchedulesEntry.{ByCall}
+use Rattle.papaya_finds.specs.Given.SchedulesMoment.{UnderWay as CallThere, TableThere, Moment}
+use Rattle.papaya_finds.specs.Given.SchedulesViews.{call_of, grows_in_chunks, map_at, behind, tables_of}
+use Rattle.papaya_finds.specs.Given.CallersTogether.{UnderWay}
+use Rattle.papaya_finds.specs.Given.EffectsEffects.{carried, effects_of}
+use Rattle.papaya_finds.specs.Given.EffectsKnown.{Known}
+use Rattle.papaya_finds.specs.Given.EffectsDeclared.acting.Acting.TheVariants as acts
+use Rattle.papaya_finds.specs.Given.EffectsDeclared.role.Role.{Role}
+use Rattle.papaya_finds.specs.Given.EffectsDeclared.role.Role.TheVariants as role
+use Rattle.papaya_finds.specs.Given.FinishesMachines.{machine_of}
+use Rattle.papaya_finds.specs.Given.FinishesMaps.{Standing}
+use Rattle.papaya_finds.specs.Given.FollowsCalls.{IsCalled}
+use Rattle.papaya_finds.specs.Given.FollowsMaps.{tables_to, ShowsMap}
+use Rattle.papaya_finds.proofs.Given.FollowsFinds.{chunks_are}
+use Rattle.papaya_finds.proofs.Given.FollowsSteps.{WentTo, went_to}
+use Rattle.papaya_finds.proofs.Given.OthersLeads.{same_parts}
+use Rattle.papaya_finds.specs.Given.MomentsWhole.{ShowsWhole}
+use Rattle.papaya_finds.proofs.Given.OwesFields.{its_effect}
+use Rattle.papaya_finds.specs.Given.SettlesDue.{ToPut, due_in_row, told_retired, RowTells, TellsNone, TellsRetired, TellsDeferred, OwnAreMade}
+use Rattle.papaya_finds.specs.Given.SettlesEntries.{ShowsEntries}
+use Rattle.papaya_finds.specs.Given.SettlesHand.{thing_as, ShowsOwed}
+use Rattle.papaya_finds.specs.Given.SettlesOwing.{hands_over}
+use Rattle.papaya_finds.proofs.Given.SettlesDueCalls.{rows_tell_due}
+use Rattle.papaya_finds.proofs.Given.SettlesHand.All.{own_or_row}
+use Rattle.papaya_finds.proofs.Given.SettlesTakings.{steps_take_out}
 use Rattle.papaya_finds.specs.Waiting.{once_if, owed_in, put_in, is_behind_one}
 use Rattle.papaya_finds.specs.Waits.{FindsPast, FindPast, FindsBehind, FindBehind, FindsSpace, FindSpace}
 use Rattle.papaya_finds.specs.Within.{many_of, HasItsMap, LiesNext, AllIsInOrder}
@@ -53,9 +53,9 @@ use Rattle.papaya_sources.specs.Sources.{HasSource, ShowsSources}
 use Rattle.papaya_sources.specs.Steps.{CallsFindSpace}
 use Rattle.papaya_sources.proofs.Listed.{many_tables, no_more_behind, listed_waits, owed_not_behind}
 use Rattle.papaya_sources.proofs.Room.{CameFrom, has_room}
-use Rattle.papaya_finds.specs.Given.Scenes.Held.{Held, IsAt}
-use Rattle.papaya_finds.specs.Given.Scenes.Scene.{Scene}
-use Rattle.papaya_finds.specs.Given.Scenes.Stepping.{StepLeads}
+use Rattle.papaya_finds.specs.Given.ScenesHeld.{Held, IsAt}
+use Rattle.papaya_finds.specs.Given.ScenesScene.{Scene}
+use Rattle.papaya_finds.specs.Given.ScenesStepping.{StepLeads}
 
 at_most_one : (q : Bool) → once_if q ≤ 1
 at_most_one true = omega arith

@@ -1,14 +1,14 @@
 -- Where pairs were copied from is so still wherever tables are as they were, and pairs lie where they lay: as others than calls take steps, or an event begins, or is over.
 use Rattle.std.specs.Prelude.{◌≡◌, ℕ, suc, ◌-◌, ◌<◌, ◌≤◌, true, length, Some}
 use Rattle.std.proofs.Common.{ap, sym, subst, ◌∙◌, arith, inl, inr}
-use Rattle.papaya_finds.specs.Given.Tables.Chunks.{is_incremental}
-use Rattle.papaya_finds.specs.Given.Schedules.declared.effect.Spot.{Spot}
-use Rattle.papaya_finds.specs.Given.Schedules.declared.effect.Table.{Table}
-use Rattle.papaya_finds.specs.Given.Schedules.Moment.{Moment}
-use Rattle.papaya_finds.specs.Given.Effects.Known.{Known}
-use Rattle.papaya_finds.specs.Given.Finishes.Maps.{Standing}
-use Rattle.papaya_finds.specs.Given.Follows.Maps.{ShowsMap}
-use Rattle.papaya_finds.specs.Given.Rule.Chart.{Chart}
+use Rattle.papaya_finds.specs.Given.TablesChunks.{is_incremental}
+use Rattle.papaya_finds.specs.Given.SchedulesDeclared.effect.Spot.{Spot}
+use Rattle.papaya_finds.specs.Given.SchedulesDeclared.effect.Table.{Table}
+use Rattle.papaya_finds.specs.Given.SchedulesMoment.{Moment}
+use Rattle.papaya_finds.specs.Given.EffectsKnown.{Known}
+use Rattle.papaya_finds.specs.Given.FinishesMaps.{Standing}
+use Rattle.papaya_finds.specs.Given.FollowsMaps.{ShowsMap}
+use Rattle.papaya_finds.specs.Given.RuleChart.{Chart}
 use Rattle.papaya_sources.specs.Sources.{AreNumbered, CameFromPlaces, HasSource, WereLeft}
 use Rattle.papaya_sources.specs.Stays.{StandsAsBefore, PairsStay, SourcesStay}
 use Rattle.papaya_sources.proofs.Rising.{same_numbers}

@@ -2,51 +2,51 @@
 use Rattle.std.specs.Prelude.{◌≡◌, ◌≢◌, ℕ, ◌+◌, ◌<◌, ◌≤◌, Bool, true, false, List, length, Option, Some, None}
 use Rattle.std.proofs.Common.{refl, ap, sym, subst, ◌∙◌, arith, inl, inr}
 use Rattle.std.proofs.lemmas.Bool.{cases_eq, ne_eqb}
-use Rattle.papaya_finds.specs.Given.SeizeWords.declared.at.At.{At}
-use Rattle.papaya_finds.specs.Given.SeizeWords.Mem.{Mem}
-use Rattle.papaya_finds.specs.Given.Seize.World.{World, IsInside, with_at}
-use Rattle.papaya_finds.specs.Given.Tables.Chunks.{is_incremental}
-use Rattle.papaya_finds.specs.Given.Tables.declared.node.Node.{Node}
-use Rattle.papaya_finds.specs.Given.Tables.declared.setting.Setting.{Setting}
-use Rattle.papaya_finds.specs.Given.Raw.declared.machines.progress.Progress.{Progress}
-use Rattle.papaya_finds.specs.Given.Schedules.declared.effect.Effect.{Effect}
-use Rattle.papaya_finds.specs.Given.Schedules.declared.effect.Spot.{Spot}
-use Rattle.papaya_finds.specs.Given.Schedules.declared.effect.Table.{Table}
-use Rattle.papaya_finds.specs.Given.Schedules.Effects.{with_effects}
-use Rattle.papaya_finds.specs.Given.Schedules.Moment.{Place, Unborn, InMap, Out, Handed, Behind, Left, GivenBack, Moment}
-use Rattle.papaya_finds.specs.Given.Schedules.Views.{is_in_map}
-use Rattle.papaya_finds.specs.Given.Teller.declared.changed.Changed.{Changed}
-use Rattle.papaya_finds.specs.Given.Teller.declared.changed.Changed.TheVariants as changed
-use Rattle.papaya_finds.specs.Given.Tells.Seen.{Seen, Unseen, Wrote, seen_of}
-use Rattle.papaya_finds.specs.Given.Tells.Tells.{IsTold}
-use Rattle.papaya_finds.proofs.Given.Tells.Promised.{operations_tell, still_steps_tell}
-use Rattle.papaya_finds.specs.Given.Rule.Chart.{Chart}
-use Rattle.papaya_finds.specs.Given.Rule.InWorld.{IsMapIn, Went}
-use Rattle.papaya_finds.specs.Given.Rule.Words.{Blocks}
-use Rattle.papaya_finds.proofs.Given.Rule.Laws.{current_is_known}
-use Rattle.papaya_finds.proofs.Given.Rule.World.WentTold.{went_as}
-use Rattle.papaya_finds.specs.Given.Points.Steps.{AreLawful}
-use Rattle.papaya_finds.specs.Given.Callers.Sights.{Sight, seen_by, IsGrown, IsSight}
-use Rattle.papaya_finds.specs.Given.Callers.Together.{UnderWay, OnKey, ForRoom, Counting, OverAll, in_slot, IsOneStep, Together}
-use Rattle.papaya_finds.proofs.Given.Callers.Sights.Seen.{map_seen}
-use Rattle.papaya_finds.proofs.Given.Callers.Together.At.{at_same}
-use Rattle.papaya_finds.proofs.Given.Callers.Together.Fits.{map_in_slot}
-use Rattle.papaya_finds.specs.Given.Effects.Effects.{effects_of, known_after}
-use Rattle.papaya_finds.specs.Given.Effects.Known.{Known}
-use Rattle.papaya_finds.specs.Given.Effects.declared.acting.Acting.TheVariants.{Call}
-use Rattle.papaya_finds.specs.Given.Finishes.Maps.{Standing, IsSameMap}
-use Rattle.papaya_finds.specs.Given.Follows.Shows.{Shows}
-use Rattle.papaya_finds.proofs.Given.Follows.Operations.{LeavesBy, Operated, operated_leaves, seen_write, told_write}
-use Rattle.papaya_finds.proofs.Given.Follows.Rows.{one_step_leaves}
-use Rattle.papaya_finds.proofs.Given.Follows.Steps.{WentTo, went_to, made_so, DidSo, LeadsThere, one_of}
-use Rattle.papaya_finds.specs.Given.Spots.Spots.{LiesAt}
-use Rattle.papaya_finds.proofs.Given.Spots.Done.{DidMoved, did_moved}
-use Rattle.papaya_finds.proofs.Given.Spots.Effects.{AllAside, aside_all, calm_aside}
-use Rattle.papaya_finds.proofs.Given.Spots.Elsewhere.{IsElsewhere, moved_leaves, stored_grows}
-use Rattle.papaya_finds.proofs.Given.Spots.Rows.{row_aside}
-use Rattle.papaya_finds.proofs.Given.Spots.Steps.{stayed_calm}
-use Rattle.papaya_finds.specs.Given.Moments.Whole.{ShowsWhole}
-use Rattle.papaya_finds.proofs.Given.Histories.Steps.{led_on}
+use Rattle.papaya_finds.specs.Given.SeizeWordsDeclared.at.At.{At}
+use Rattle.papaya_finds.specs.Given.SeizeWordsMem.{Mem}
+use Rattle.papaya_finds.specs.Given.SeizeWorld.{World, IsInside, with_at}
+use Rattle.papaya_finds.specs.Given.TablesChunks.{is_incremental}
+use Rattle.papaya_finds.specs.Given.TablesDeclared.node.Node.{Node}
+use Rattle.papaya_finds.specs.Given.TablesDeclared.setting.Setting.{Setting}
+use Rattle.papaya_finds.specs.Given.RawDeclared.machines.progress.Progress.{Progress}
+use Rattle.papaya_finds.specs.Given.SchedulesDeclared.effect.Effect.{Effect}
+use Rattle.papaya_finds.specs.Given.SchedulesDeclared.effect.Spot.{Spot}
+use Rattle.papaya_finds.specs.Given.SchedulesDeclared.effect.Table.{Table}
+use Rattle.papaya_finds.specs.Given.SchedulesEffects.{with_effects}
+use Rattle.papaya_finds.specs.Given.SchedulesMoment.{Place, Unborn, InMap, Out, Handed, Behind, Left, GivenBack, Moment}
+use Rattle.papaya_finds.specs.Given.SchedulesViews.{is_in_map}
+use Rattle.papaya_finds.specs.Given.TellerDeclared.changed.Changed.{Changed}
+use Rattle.papaya_finds.specs.Given.TellerDeclared.changed.Changed.TheVariants as changed
+use Rattle.papaya_finds.specs.Given.TellsSeen.{Seen, Unseen, Wrote, seen_of}
+use Rattle.papaya_finds.specs.Given.TellsTells.{IsTold}
+use Rattle.papaya_finds.proofs.Given.TellsPromised.{operations_tell, still_steps_tell}
+use Rattle.papaya_finds.specs.Given.RuleChart.{Chart}
+use Rattle.papaya_finds.specs.Given.RuleInWorld.{IsMapIn, Went}
+use Rattle.papaya_finds.specs.Given.RuleWords.{Blocks}
+use Rattle.papaya_finds.proofs.Given.RuleLaws.{current_is_known}
+use Rattle.papaya_finds.proofs.Given.RuleWorld.WentTold.{went_as}
+use Rattle.papaya_finds.specs.Given.PointsSteps.{AreLawful}
+use Rattle.papaya_finds.specs.Given.CallersSights.{Sight, seen_by, IsGrown, IsSight}
+use Rattle.papaya_finds.specs.Given.CallersTogether.{UnderWay, OnKey, ForRoom, Counting, OverAll, in_slot, IsOneStep, Together}
+use Rattle.papaya_finds.proofs.Given.CallersSights.Seen.{map_seen}
+use Rattle.papaya_finds.proofs.Given.CallersTogether.At.{at_same}
+use Rattle.papaya_finds.proofs.Given.CallersTogether.Fits.{map_in_slot}
+use Rattle.papaya_finds.specs.Given.EffectsEffects.{effects_of, known_after}
+use Rattle.papaya_finds.specs.Given.EffectsKnown.{Known}
+use Rattle.papaya_finds.specs.Given.EffectsDeclared.acting.Acting.TheVariants.{Call}
+use Rattle.papaya_finds.specs.Given.FinishesMaps.{Standing, IsSameMap}
+use Rattle.papaya_finds.specs.Given.FollowsShows.{Shows}
+use Rattle.papaya_finds.proofs.Given.FollowsOperations.{LeavesBy, Operated, operated_leaves, seen_write, told_write}
+use Rattle.papaya_finds.proofs.Given.FollowsRows.{one_step_leaves}
+use Rattle.papaya_finds.proofs.Given.FollowsSteps.{WentTo, went_to, made_so, DidSo, LeadsThere, one_of}
+use Rattle.papaya_finds.specs.Given.SpotsSpots.{LiesAt}
+use Rattle.papaya_finds.proofs.Given.SpotsDone.{DidMoved, did_moved}
+use Rattle.papaya_finds.proofs.Given.SpotsEffects.{AllAside, aside_all, calm_aside}
+use Rattle.papaya_finds.proofs.Given.SpotsElsewhere.{IsElsewhere, moved_leaves, stored_grows}
+use Rattle.papaya_finds.proofs.Given.SpotsRows.{row_aside}
+use Rattle.papaya_finds.proofs.Given.SpotsSteps.{stayed_calm}
+use Rattle.papaya_finds.specs.Given.MomentsWhole.{ShowsWhole}
+use Rattle.papaya_finds.proofs.Given.HistoriesSteps.{led_on}
 use Rattle.papaya_sources.specs.Sources.{AreNumbered, CameFromPlaces, HasSource, ShowsSources, WereLeft}
 use Rattle.papaya_sources.specs.Steps.{CallsKeepSources}
 use Rattle.papaya_sources.proofs.Frame.{numbered_then, came_then}
@@ -54,9 +54,9 @@ use Rattle.papaya_sources.proofs.New.{new_are_there, aside_stores_none}
 use Rattle.papaya_sources.proofs.Left.{own_left}
 use Rattle.papaya_sources.proofs.Own.{own_came}
 use Rattle.papaya_sources.proofs.Stays.{sources_stay}
-use Rattle.papaya_finds.specs.Given.Scenes.Held.{Held, IsAt}
-use Rattle.papaya_finds.specs.Given.Scenes.Scene.{Scene, slot_of}
-use Rattle.papaya_finds.specs.Given.Scenes.Stepping.{StepLeads, scene_after}
+use Rattle.papaya_finds.specs.Given.ScenesHeld.{Held, IsAt}
+use Rattle.papaya_finds.specs.Given.ScenesScene.{Scene, slot_of}
+use Rattle.papaya_finds.specs.Given.ScenesStepping.{StepLeads, scene_after}
 
 -- a pair that is not in this map
 not_in_it : (map : ℕ) (p : Place) → (p ≡ InMap map → ⊥) → is_in_map map p ≡ false

@@ -1,13 +1,13 @@
 -- Where pairs were copied from: an older table names each pair for ever that was put into a later one. And where those lay that were removed.
 use Rattle.std.specs.Prelude.{◌≡◌, ◌≢◌, ℕ, ◌<◌, ◌≤◌, Bool, true, List, length, Some}
-use Rattle.papaya_finds.specs.Given.Tables.Chunks.{is_incremental}
-use Rattle.papaya_finds.specs.Given.Schedules.Moment.{Moment}
-use Rattle.papaya_finds.specs.Given.Rule.Chart.{Phase, Still, Tombstone, Holds, Chart}
-use Rattle.papaya_finds.specs.Given.Effects.Known.{Known}
-use Rattle.papaya_finds.specs.Given.Finishes.Maps.{Standing}
-use Rattle.papaya_finds.specs.Given.Follows.Shows.{Shows}
-use Rattle.papaya_finds.specs.Given.Spots.Spots.{spot_in}
-use Rattle.papaya_finds.specs.Given.Scenes.Scene.{Scene}
+use Rattle.papaya_finds.specs.Given.TablesChunks.{is_incremental}
+use Rattle.papaya_finds.specs.Given.SchedulesMoment.{Moment}
+use Rattle.papaya_finds.specs.Given.RuleChart.{Phase, Still, Tombstone, Holds, Chart}
+use Rattle.papaya_finds.specs.Given.EffectsKnown.{Known}
+use Rattle.papaya_finds.specs.Given.FinishesMaps.{Standing}
+use Rattle.papaya_finds.specs.Given.FollowsShows.{Shows}
+use Rattle.papaya_finds.specs.Given.SpotsSpots.{spot_in}
+use Rattle.papaya_finds.specs.Given.ScenesScene.{Scene}
 
 module _ {K : Type 0} (c : Chart K) (n : ℕ) where
   -- this place of a table names the pair, and it is being copied, or was

@@ -1,13 +1,13 @@
 -- Where pairs were copied from is so still wherever tables are as they were, and pairs lie where they lay.
 use Rattle.std.specs.Prelude.{◌≡◌, ◌≢◌, ◌⊎◌, ℕ, ◌<◌, ◌≤◌, Bool, List, length, Some}
-use Rattle.papaya_finds.specs.Given.Tables.Chunks.{is_incremental}
-use Rattle.papaya_finds.specs.Given.Schedules.Moment.{Moment}
-use Rattle.papaya_finds.specs.Given.Effects.Known.{Known}
-use Rattle.papaya_finds.specs.Given.Finishes.Maps.{Standing}
-use Rattle.papaya_finds.specs.Given.Rule.Chart.{Tombstone}
-use Rattle.papaya_finds.specs.Given.Follows.Shows.{Shows}
+use Rattle.papaya_finds.specs.Given.TablesChunks.{is_incremental}
+use Rattle.papaya_finds.specs.Given.SchedulesMoment.{Moment}
+use Rattle.papaya_finds.specs.Given.EffectsKnown.{Known}
+use Rattle.papaya_finds.specs.Given.FinishesMaps.{Standing}
+use Rattle.papaya_finds.specs.Given.RuleChart.{Tombstone}
+use Rattle.papaya_finds.specs.Given.FollowsShows.{Shows}
 use Rattle.papaya_sources.specs.Sources.{ShowsSources}
-use Rattle.papaya_finds.specs.Given.Scenes.Scene.{Scene}
+use Rattle.papaya_finds.specs.Given.ScenesScene.{Scene}
 
 module _ {K V : Type 0} where
   -- pairs were stored where they were stored, and lie where they lay, and none has come

@@ -1,23 +1,23 @@
 -- A step of a call, whichever it is: where pairs were copied from is so after it; and what it puts behind a table finds room there.
 use Rattle.std.specs.Prelude.{◌≡◌, ℕ, Bool, List, Some}
-use Rattle.papaya_finds.specs.Given.Tables.declared.node.Node.{Node}
-use Rattle.papaya_finds.specs.Given.Raw.declared.machines.progress.Progress.{Progress}
-use Rattle.papaya_finds.specs.Given.Schedules.Effects.{with_effects}
-use Rattle.papaya_finds.specs.Given.Schedules.Moment.{Moment}
-use Rattle.papaya_finds.specs.Given.Callers.Together.{UnderWay}
-use Rattle.papaya_finds.specs.Given.Effects.Effects.{effects_of, known_after}
-use Rattle.papaya_finds.specs.Given.Effects.Known.{Known}
-use Rattle.papaya_finds.specs.Given.Effects.declared.acting.Acting.TheVariants as acts
-use Rattle.papaya_finds.specs.Given.Moments.Whole.{ShowsWhole}
-use Rattle.papaya_finds.specs.Given.Settles.Due.{OwnAreMade}
-use Rattle.papaya_finds.specs.Given.Settles.Entries.{ShowsEntries}
-use Rattle.papaya_finds.specs.Given.Settles.Hand.{ShowsOwed}
+use Rattle.papaya_finds.specs.Given.TablesDeclared.node.Node.{Node}
+use Rattle.papaya_finds.specs.Given.RawDeclared.machines.progress.Progress.{Progress}
+use Rattle.papaya_finds.specs.Given.SchedulesEffects.{with_effects}
+use Rattle.papaya_finds.specs.Given.SchedulesMoment.{Moment}
+use Rattle.papaya_finds.specs.Given.CallersTogether.{UnderWay}
+use Rattle.papaya_finds.specs.Given.EffectsEffects.{effects_of, known_after}
+use Rattle.papaya_finds.specs.Given.EffectsKnown.{Known}
+use Rattle.papaya_finds.specs.Given.EffectsDeclared.acting.Acting.TheVariants as acts
+use Rattle.papaya_finds.specs.Given.MomentsWhole.{ShowsWhole}
+use Rattle.papaya_finds.specs.Given.SettlesDue.{OwnAreMade}
+use Rattle.papaya_finds.specs.Given.SettlesEntries.{ShowsEntries}
+use Rattle.papaya_finds.specs.Given.SettlesHand.{ShowsOwed}
 use Rattle.papaya_finds.specs.Waits.{FindPast, FindBehind, FindSpace}
 use Rattle.papaya_finds.specs.Within.{AllIsInOrder}
 use Rattle.papaya_sources.specs.Sources.{ShowsSources}
-use Rattle.papaya_finds.specs.Given.Scenes.Held.{Held, IsAt}
-use Rattle.papaya_finds.specs.Given.Scenes.Scene.{Scene}
-use Rattle.papaya_finds.specs.Given.Scenes.Stepping.{StepLeads, scene_after}
+use Rattle.papaya_finds.specs.Given.ScenesHeld.{Held, IsAt}
+use Rattle.papaya_finds.specs.Given.ScenesScene.{Scene}
+use Rattle.papaya_finds.specs.Given.ScenesStepping.{StepLeads, scene_after}
 
 module _ (K V : Type 0) (same : K → K → Bool) (hash : ℕ → K → ℕ) where
   abbrev pub CallsKeepSources : Type 0

@@ -2,12 +2,12 @@
 use Rattle.std.specs.Prelude.{◌≡◌, ◌≢◌, ℕ, ◌<◌, ◌≤◌, Bool, true, false, cond, eqb}
 use Rattle.std.proofs.Common.{ap, sym, subst, ◌∙◌, arith, inl, inr}
 use Rattle.std.proofs.lemmas.Bool.{cases_eq}
-use Rattle.papaya_others.specs.Given.Tables.declared.status.TheConstants.Status.{PENDING, ABORTED, PROMOTED}
-use Rattle.papaya_others.specs.Given.Rule.Chart.{Still, Place, Tombstone, Holds, Chart, put, put_in}
-use Rattle.papaya_others.specs.Given.Rule.Rule.{Rule}
-use Rattle.papaya_others.specs.Given.Rule.Moments.{Moments}
-use Rattle.papaya_others.specs.Given.Rule.Moves.{Move, Links, Stores, Replaces, Removes, Marks, MarksBlocking, Skips, Unmarks, Puts, Covers, PutsLate, Claims, Reclaims, Counts, GivesUp, Aborts, Promotes, Announces, marked, still_place, copied_place, lent_place, Allowed, after}
-use Rattle.papaya_others.proofs.Given.Rule.Moves.Writes.{put_here, put_elsewhere, put_in_one}
+use Rattle.papaya_others.specs.Given.TablesDeclared.status.TheConstants.Status.{PENDING, ABORTED, PROMOTED}
+use Rattle.papaya_others.specs.Given.RuleChart.{Still, Place, Tombstone, Holds, Chart, put, put_in}
+use Rattle.papaya_others.specs.Given.RuleRule.{Rule}
+use Rattle.papaya_others.specs.Given.RuleMoments.{Moments}
+use Rattle.papaya_others.specs.Given.RuleMoves.{Move, Links, Stores, Replaces, Removes, Marks, MarksBlocking, Skips, Unmarks, Puts, Covers, PutsLate, Claims, Reclaims, Counts, GivesUp, Aborts, Promotes, Announces, marked, still_place, copied_place, lent_place, Allowed, after}
+use Rattle.papaya_others.proofs.Given.RuleMoves.Writes.{put_here, put_elsewhere, put_in_one}
 use Rattle.papaya_spots.specs.Spots.{ThePair, named_by}
 use Rattle.papaya_spots.proofs.Moves.{lent_named}
 use Rattle.papaya_spots.proofs.Names.{other_pair, nobody, marked_names, still_names, copied_names}

@@ -2,36 +2,36 @@
 use Rattle.std.specs.Prelude.{◌&&◌, ◌≡◌, ℕ, ◌<◌, nat_lt, Bool, true, false, List, [], ◌∷◌, if◌then◌else◌}
 use Rattle.std.proofs.Common.{refl, sym, subst, ◌∙◌, inl, inr}
 use Rattle.std.proofs.lemmas.Bool.{cases_eq}
-use Rattle.papaya_others.specs.Given.SeizeWords.declared.at.At.{At}
-use Rattle.papaya_others.specs.Given.SeizeWords.Mem.{Mem}
-use Rattle.papaya_others.specs.Given.Seize.World.{World}
-use Rattle.papaya_others.specs.Given.Tables.declared.node.Node.{Node}
-use Rattle.papaya_others.specs.Given.Tables.declared.setting.Setting.{Setting}
-use Rattle.papaya_others.specs.Given.Schedules.declared.effect.Effect.{Effect}
-use Rattle.papaya_others.specs.Given.Schedules.declared.effect.Effect.TheVariants.{Asked}
-use Rattle.papaya_others.specs.Given.Schedules.declared.effect.Growth.TheVariants.{ABlock, ABucket}
-use Rattle.papaya_others.specs.Given.Schedules.Lists.{put}
-use Rattle.papaya_others.specs.Given.Teller.declared.changed.Changed.{Changed}
-use Rattle.papaya_others.specs.Given.Teller.declared.changed.Changed.TheVariants as changed
-use Rattle.papaya_others.specs.Given.Teller.declared.changed.Kind.{Kind}
-use Rattle.papaya_others.specs.Given.Teller.declared.changed.Kind.TheVariants as kind
-use Rattle.papaya_others.specs.Given.Tells.Tells.{KeepsNames}
-use Rattle.papaya_others.specs.Given.Rule.Chart.{Chart}
-use Rattle.papaya_others.specs.Given.Rule.Words.{Blocks}
-use Rattle.papaya_others.specs.Given.Rule.InWorld.{IsMapIn, Went}
-use Rattle.papaya_others.specs.Given.Effects.Effects.{made_by, taken_by, effects_of, known_after}
-use Rattle.papaya_others.specs.Given.Effects.Known.{Known}
-use Rattle.papaya_others.specs.Given.Effects.declared.acting.Acting.{Acting}
-use Rattle.papaya_others.specs.Given.Effects.declared.acting.Acting.TheVariants.{Call}
-use Rattle.papaya_others.specs.Given.Effects.declared.role.Role.{Role}
-use Rattle.papaya_others.specs.Given.Effects.declared.role.Role.TheVariants as role
-use Rattle.papaya_others.specs.Given.Follows.Blocks.{HasRole}
-use Rattle.papaya_others.specs.Given.Follows.Maps.{table_of}
-use Rattle.papaya_others.proofs.Given.Follows.Alike.{AllCalm, put_here, put_elsewhere}
-use Rattle.papaya_others.proofs.Given.Follows.Onward.{IsLasting, IsOfMap, KeepsRoles}
-use Rattle.papaya_others.proofs.Given.Follows.Operations.{LeavesBy}
-use Rattle.papaya_others.proofs.Given.Follows.Quiet.{written_still}
-use Rattle.papaya_others.proofs.Given.Follows.Told.{ArePairsOnce, IsQuiet, quiet_told}
+use Rattle.papaya_others.specs.Given.SeizeWordsDeclared.at.At.{At}
+use Rattle.papaya_others.specs.Given.SeizeWordsMem.{Mem}
+use Rattle.papaya_others.specs.Given.SeizeWorld.{World}
+use Rattle.papaya_others.specs.Given.TablesDeclared.node.Node.{Node}
+use Rattle.papaya_others.specs.Given.TablesDeclared.setting.Setting.{Setting}
+use Rattle.papaya_others.specs.Given.SchedulesDeclared.effect.Effect.{Effect}
+use Rattle.papaya_others.specs.Given.SchedulesDeclared.effect.Effect.TheVariants.{Asked}
+use Rattle.papaya_others.specs.Given.SchedulesDeclared.effect.Growth.TheVariants.{ABlock, ABucket}
+use Rattle.papaya_others.specs.Given.SchedulesLists.{put}
+use Rattle.papaya_others.specs.Given.TellerDeclared.changed.Changed.{Changed}
+use Rattle.papaya_others.specs.Given.TellerDeclared.changed.Changed.TheVariants as changed
+use Rattle.papaya_others.specs.Given.TellerDeclared.changed.Kind.{Kind}
+use Rattle.papaya_others.specs.Given.TellerDeclared.changed.Kind.TheVariants as kind
+use Rattle.papaya_others.specs.Given.TellsTells.{KeepsNames}
+use Rattle.papaya_others.specs.Given.RuleChart.{Chart}
+use Rattle.papaya_others.specs.Given.RuleWords.{Blocks}
+use Rattle.papaya_others.specs.Given.RuleInWorld.{IsMapIn, Went}
+use Rattle.papaya_others.specs.Given.EffectsEffects.{made_by, taken_by, effects_of, known_after}
+use Rattle.papaya_others.specs.Given.EffectsKnown.{Known}
+use Rattle.papaya_others.specs.Given.EffectsDeclared.acting.Acting.{Acting}
+use Rattle.papaya_others.specs.Given.EffectsDeclared.acting.Acting.TheVariants.{Call}
+use Rattle.papaya_others.specs.Given.EffectsDeclared.role.Role.{Role}
+use Rattle.papaya_others.specs.Given.EffectsDeclared.role.Role.TheVariants as role
+use Rattle.papaya_others.specs.Given.FollowsBlocks.{HasRole}
+use Rattle.papaya_others.specs.Given.FollowsMaps.{table_of}
+use Rattle.papaya_others.proofs.Given.FollowsAlike.{AllCalm, put_here, put_elsewhere}
+use Rattle.papaya_others.proofs.Given.FollowsOnward.{IsLasting, IsOfMap, KeepsRoles}
+use Rattle.papaya_others.proofs.Given.FollowsOperations.{LeavesBy}
+use Rattle.papaya_others.proofs.Given.FollowsQuiet.{written_still}
+use Rattle.papaya_others.proofs.Given.FollowsTold.{ArePairsOnce, IsQuiet, quiet_told}
 
 made_calm : (acting : Acting) (k : Kind) → AllCalm (Asked ABlock ∷ made_by acting k)
 made_calm acting kind.Pair = (refl, (refl, tt))

@@ -2,14 +2,14 @@
 use Rattle.std.specs.Prelude.{◌≡◌, ◌≢◌, ℕ, suc, ◌<◌, ◌≤◌, nat_lt, Bool, true, false, Some, if◌then◌else◌}
 use Rattle.std.proofs.Common.{refl, ap, sym, subst, ◌∙◌, arith, inl, inr}
 use Rattle.std.proofs.lemmas.Bool.{cases_eq, cases_lt}
-use Rattle.papaya_others.specs.Given.Tables.declared.status.TheConstants.Status.{ABORTED}
-use Rattle.papaya_others.specs.Given.Schedules.declared.effect.Spot.{Spot}
-use Rattle.papaya_others.specs.Given.Schedules.Effects.{later}
-use Rattle.papaya_others.specs.Given.Rule.Chart.{Phase, Still, Copying, Copied, Place, Empty, Holds, Share, Counted, Chart, put_in, is_settled}
-use Rattle.papaya_others.specs.Given.Rule.Rule.{IsLawful, is_of, names, is_past, is_over, Agrees, Rule}
-use Rattle.papaya_others.specs.Given.Rule.Moves.{Puts, PutsLate, Promotes, lent_place, Allowed, after}
-use Rattle.papaya_others.proofs.Given.Rule.Moves.StoodAlone.{alone_there}
-use Rattle.papaya_others.proofs.Given.Rule.Moves.Writes.{put_in_here, put_in_one}
+use Rattle.papaya_others.specs.Given.TablesDeclared.status.TheConstants.Status.{ABORTED}
+use Rattle.papaya_others.specs.Given.SchedulesDeclared.effect.Spot.{Spot}
+use Rattle.papaya_others.specs.Given.SchedulesEffects.{later}
+use Rattle.papaya_others.specs.Given.RuleChart.{Phase, Still, Copying, Copied, Place, Empty, Holds, Share, Counted, Chart, put_in, is_settled}
+use Rattle.papaya_others.specs.Given.RuleRule.{IsLawful, is_of, names, is_past, is_over, Agrees, Rule}
+use Rattle.papaya_others.specs.Given.RuleMoves.{Puts, PutsLate, Promotes, lent_place, Allowed, after}
+use Rattle.papaya_others.proofs.Given.RuleMoves.StoodAlone.{alone_there}
+use Rattle.papaya_others.proofs.Given.RuleMoves.Writes.{put_in_here, put_in_one}
 use Rattle.papaya_spots.specs.Spots.{ThePair, named_by, spot_in, LiesAt, IsCopiedTo}
 use Rattle.papaya_spots.proofs.Names.{holds_is}
 use Rattle.papaya_spots.proofs.Moves.{names_none, named_made}

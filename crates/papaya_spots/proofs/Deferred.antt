@@ -2,16 +2,16 @@
 use Rattle.std.specs.Prelude.{◌≡◌, ℕ, ◌≤◌, ◌==◌, Bool, true, false, not, ◌||◌, List, [], ◌∷◌, length, filter, map, Option, if◌then◌else◌, ◌⊎◌}
 use Rattle.std.proofs.Common.{refl, ap, sym, subst, ◌∙◌, arith, inl, inr}
 use Rattle.std.proofs.lemmas.Bool.{cases_eq}
-use Rattle.papaya_others.specs.Given.Schedules.declared.effect.Effect.{Effect}
-use Rattle.papaya_others.specs.Given.Schedules.declared.effect.Effect.TheVariants.{Asked, PairMade, PairGivenUp, TableMade, TableGivenUp, Linked, Promoted, Copied, Stored, Replaced, Removed, Counted, Deferred, Retired, Reclaimed, Ended, Taken}
-use Rattle.papaya_others.specs.Given.Schedules.declared.effect.Table.{Table}
-use Rattle.papaya_others.specs.Given.Schedules.declared.effect.Thing.TheVariants.{APair, ATable}
-use Rattle.papaya_others.specs.Given.Schedules.Effects.{all_at, in_map, place_by, deferred_by, with_effect}
-use Rattle.papaya_others.specs.Given.Schedules.Lists.{is_among, put}
-use Rattle.papaya_others.specs.Given.Schedules.Moment.{Place, Out, Handed, Behind, Left, GivenBack, Deferral, Moment}
-use Rattle.papaya_others.specs.Given.Schedules.Things.{same_table}
-use Rattle.papaya_others.specs.Given.Schedules.Views.{is_in_a_map, behind}
-use Rattle.papaya_others.proofs.Given.Follows.Alike.{put_here, put_elsewhere}
+use Rattle.papaya_others.specs.Given.SchedulesDeclared.effect.Effect.{Effect}
+use Rattle.papaya_others.specs.Given.SchedulesDeclared.effect.Effect.TheVariants.{Asked, PairMade, PairGivenUp, TableMade, TableGivenUp, Linked, Promoted, Copied, Stored, Replaced, Removed, Counted, Deferred, Retired, Reclaimed, Ended, Taken}
+use Rattle.papaya_others.specs.Given.SchedulesDeclared.effect.Table.{Table}
+use Rattle.papaya_others.specs.Given.SchedulesDeclared.effect.Thing.TheVariants.{APair, ATable}
+use Rattle.papaya_others.specs.Given.SchedulesEffects.{all_at, in_map, place_by, deferred_by, with_effect}
+use Rattle.papaya_others.specs.Given.SchedulesLists.{is_among, put}
+use Rattle.papaya_others.specs.Given.SchedulesMoment.{Place, Out, Handed, Behind, Left, GivenBack, Deferral, Moment}
+use Rattle.papaya_others.specs.Given.SchedulesThings.{same_table}
+use Rattle.papaya_others.specs.Given.SchedulesViews.{is_in_a_map, behind}
+use Rattle.papaya_others.proofs.Given.FollowsAlike.{put_here, put_elsewhere}
 use Rattle.papaya_spots.specs.Deferred.{WaitOutside, FindsNumbers, EffectsLeaveOutside, EachWaitsOutside}
 use Rattle.papaya_spots.proofs.Elsewhere.{stored_grows}
 

@@ -2,49 +2,49 @@
 use Rattle.std.specs.Prelude.{◌≡◌, ◌≢◌, ℕ, zero, suc, ◌+◌, ◌*◌, ◌<◌, ◌≤◌, Bool, true, false, cond, eqb, List, [], ◌∷◌, ◌++◌, Option}
 use Rattle.std.proofs.Common.{refl, ap, sym, subst, ◌∙◌, arith, inl, inr}
 use Rattle.std.proofs.lemmas.Bool.{ne_eqb, eq-eqb, cases_eq}
-use Rattle.papaya_others.specs.Given.SeizeWords.declared.at.At.{At}
-use Rattle.papaya_others.specs.Given.SeizeWords.declared.at.At.TheVariants.{Root}
-use Rattle.papaya_others.specs.Given.SeizeWords.Mem.{Mem, value_at}
-use Rattle.papaya_others.specs.Given.SeizeWords.Word.{block_in}
-use Rattle.papaya_others.specs.Given.Seize.World.{World}
-use Rattle.papaya_others.specs.Given.Runs.declared.outcome.TableShape.{TableShape}
-use Rattle.papaya_others.specs.Given.Tables.Chunks.{is_incremental}
-use Rattle.papaya_others.specs.Given.Tables.declared.marks.TheConstants.{TOMBSTONE}
-use Rattle.papaya_others.specs.Given.Tables.declared.node.Node.{Node}
-use Rattle.papaya_others.specs.Given.Tables.declared.setting.Setting.{Setting}
-use Rattle.papaya_others.specs.Given.Tables.declared.table_words.TheConstants.{PLACES}
-use Rattle.papaya_others.specs.Given.Schedules.declared.effect.Effect.{Effect}
-use Rattle.papaya_others.specs.Given.Schedules.declared.effect.Effect.TheVariants.{Copied, Stored, Replaced, Removed, Linked, Promoted}
-use Rattle.papaya_others.specs.Given.Schedules.declared.effect.Spot.{Spot}
-use Rattle.papaya_others.specs.Given.Schedules.Moment.{Moment}
-use Rattle.papaya_others.specs.Given.Teller.declared.changed.Changed.{Changed}
-use Rattle.papaya_others.specs.Given.Teller.declared.changed.Changed.TheVariants as changed
-use Rattle.papaya_others.specs.Given.Tells.Seen.{Seen, Wrote}
-use Rattle.papaya_others.specs.Given.Tells.Tells.{place_at, last_link, IsQuiet, new_word, IsSeenAs, IsTold}
-use Rattle.papaya_others.specs.Given.Rule.Chart.{Phase, Still, Copying, Holds, Chart}
-use Rattle.papaya_others.specs.Given.Rule.Moves.{Move, Links, Stores, Replaces, Removes, Marks, MarksBlocking, Skips, Unmarks, Puts, Covers, PutsLate, Claims, Reclaims, Counts, GivesUp, Aborts, Promotes, Announces, Allowed, after, without}
-use Rattle.papaya_others.specs.Given.Rule.Words.{Blocks, byte_of, place_word}
-use Rattle.papaya_others.specs.Given.Rule.Maps.{spot_of}
-use Rattle.papaya_others.specs.Given.Rule.InWorld.{IsMapIn, Moved, Went}
-use Rattle.papaya_others.proofs.Given.Rule.Moves.Writes.{put_in_here}
-use Rattle.papaya_others.proofs.Given.Rule.Laws.{words_name_pairs, bytes_are_few}
-use Rattle.papaya_others.proofs.Given.Rule.Words.TablesSeen.{block_of_link}
-use Rattle.papaya_others.specs.Given.Points.Steps.{AreLawful}
-use Rattle.papaya_others.specs.Given.Callers.Sights.{Sight, seen_by, IsGrown, IsSight}
-use Rattle.papaya_others.specs.Given.Callers.Together.{in_slot}
-use Rattle.papaya_others.specs.Given.Finishes.Maps.{Standing}
-use Rattle.papaya_others.specs.Given.Effects.Effects.{spot_at, placed, effects_of, known_after}
-use Rattle.papaya_others.specs.Given.Effects.Known.{Known, with_pair, with_role}
-use Rattle.papaya_others.specs.Given.Effects.declared.acting.Acting.{Acting}
-use Rattle.papaya_others.specs.Given.Effects.declared.acting.Acting.TheVariants.{Call}
-use Rattle.papaya_others.specs.Given.Effects.declared.role.Role.{Role}
-use Rattle.papaya_others.specs.Given.Effects.declared.role.Role.TheVariants as role
-use Rattle.papaya_others.specs.Given.Follows.Blocks.{ShowsBlocks}
-use Rattle.papaya_others.specs.Given.Follows.Maps.{table_of, ShowsMap}
-use Rattle.papaya_others.proofs.Given.Follows.Linked.{was_own as own_before}
-use Rattle.papaya_others.proofs.Given.Follows.Operations.{LeavesBy}
-use Rattle.papaya_others.proofs.Given.Follows.Stored.{inside, still_home, was_own}
-use Rattle.papaya_others.proofs.Given.Follows.Writes.{Says, nothing_free, place_says, next_says, root_says}
+use Rattle.papaya_others.specs.Given.SeizeWordsDeclared.at.At.{At}
+use Rattle.papaya_others.specs.Given.SeizeWordsDeclared.at.At.TheVariants.{Root}
+use Rattle.papaya_others.specs.Given.SeizeWordsMem.{Mem, value_at}
+use Rattle.papaya_others.specs.Given.SeizeWordsWord.{block_in}
+use Rattle.papaya_others.specs.Given.SeizeWorld.{World}
+use Rattle.papaya_others.specs.Given.RunsDeclared.outcome.TableShape.{TableShape}
+use Rattle.papaya_others.specs.Given.TablesChunks.{is_incremental}
+use Rattle.papaya_others.specs.Given.TablesDeclared.marks.TheConstants.{TOMBSTONE}
+use Rattle.papaya_others.specs.Given.TablesDeclared.node.Node.{Node}
+use Rattle.papaya_others.specs.Given.TablesDeclared.setting.Setting.{Setting}
+use Rattle.papaya_others.specs.Given.TablesDeclared.table_words.TheConstants.{PLACES}
+use Rattle.papaya_others.specs.Given.SchedulesDeclared.effect.Effect.{Effect}
+use Rattle.papaya_others.specs.Given.SchedulesDeclared.effect.Effect.TheVariants.{Copied, Stored, Replaced, Removed, Linked, Promoted}
+use Rattle.papaya_others.specs.Given.SchedulesDeclared.effect.Spot.{Spot}
+use Rattle.papaya_others.specs.Given.SchedulesMoment.{Moment}
+use Rattle.papaya_others.specs.Given.TellerDeclared.changed.Changed.{Changed}
+use Rattle.papaya_others.specs.Given.TellerDeclared.changed.Changed.TheVariants as changed
+use Rattle.papaya_others.specs.Given.TellsSeen.{Seen, Wrote}
+use Rattle.papaya_others.specs.Given.TellsTells.{place_at, last_link, IsQuiet, new_word, IsSeenAs, IsTold}
+use Rattle.papaya_others.specs.Given.RuleChart.{Phase, Still, Copying, Holds, Chart}
+use Rattle.papaya_others.specs.Given.RuleMoves.{Move, Links, Stores, Replaces, Removes, Marks, MarksBlocking, Skips, Unmarks, Puts, Covers, PutsLate, Claims, Reclaims, Counts, GivesUp, Aborts, Promotes, Announces, Allowed, after, without}
+use Rattle.papaya_others.specs.Given.RuleWords.{Blocks, byte_of, place_word}
+use Rattle.papaya_others.specs.Given.RuleMaps.{spot_of}
+use Rattle.papaya_others.specs.Given.RuleInWorld.{IsMapIn, Moved, Went}
+use Rattle.papaya_others.proofs.Given.RuleMoves.Writes.{put_in_here}
+use Rattle.papaya_others.proofs.Given.RuleLaws.{words_name_pairs, bytes_are_few}
+use Rattle.papaya_others.proofs.Given.RuleWords.TablesSeen.{block_of_link}
+use Rattle.papaya_others.specs.Given.PointsSteps.{AreLawful}
+use Rattle.papaya_others.specs.Given.CallersSights.{Sight, seen_by, IsGrown, IsSight}
+use Rattle.papaya_others.specs.Given.CallersTogether.{in_slot}
+use Rattle.papaya_others.specs.Given.FinishesMaps.{Standing}
+use Rattle.papaya_others.specs.Given.EffectsEffects.{spot_at, placed, effects_of, known_after}
+use Rattle.papaya_others.specs.Given.EffectsKnown.{Known, with_pair, with_role}
+use Rattle.papaya_others.specs.Given.EffectsDeclared.acting.Acting.{Acting}
+use Rattle.papaya_others.specs.Given.EffectsDeclared.acting.Acting.TheVariants.{Call}
+use Rattle.papaya_others.specs.Given.EffectsDeclared.role.Role.{Role}
+use Rattle.papaya_others.specs.Given.EffectsDeclared.role.Role.TheVariants as role
+use Rattle.papaya_others.specs.Given.FollowsBlocks.{ShowsBlocks}
+use Rattle.papaya_others.specs.Given.FollowsMaps.{table_of, ShowsMap}
+use Rattle.papaya_others.proofs.Given.FollowsLinked.{was_own as own_before}
+use Rattle.papaya_others.proofs.Given.FollowsOperations.{LeavesBy}
+use Rattle.papaya_others.proofs.Given.FollowsStored.{inside, still_home, was_own}
+use Rattle.papaya_others.proofs.Given.FollowsWrites.{Says, nothing_free, place_says, next_says, root_says}
 use Rattle.papaya_spots.specs.Spots.{spot_in}
 use Rattle.papaya_spots.proofs.Calm.{IsCalm, calm_done}
 

@@ -1,14 +1,14 @@
 -- What effects leave of where pairs lie.
 use Rattle.std.specs.Prelude.{◌≡◌, ◌≢◌, ℕ, ◌==◌, Bool, true, false, ◌&&◌, List, [], ◌∷◌, Option, Some, None, if◌then◌else◌}
 use Rattle.std.proofs.Common.{refl, ap, ◌∙◌}
-use Rattle.papaya_others.specs.Given.Schedules.declared.effect.Effect.{Effect}
-use Rattle.papaya_others.specs.Given.Schedules.declared.effect.Effect.TheVariants.{Stored, Copied, Promoted}
-use Rattle.papaya_others.specs.Given.Schedules.declared.effect.Spot.{Spot}
-use Rattle.papaya_others.specs.Given.Schedules.declared.effect.Table.{Table}
-use Rattle.papaya_others.specs.Given.Schedules.Effects.{later, born_by, copy_by, spot_by, with_effect, with_effects}
-use Rattle.papaya_others.specs.Given.Schedules.Moment.{Place, Moment}
-use Rattle.papaya_others.specs.Given.Schedules.Views.{is_in_map}
-use Rattle.papaya_others.proofs.Given.Follows.Alike.{is_calm, AllCalm, put_here, put_elsewhere}
+use Rattle.papaya_others.specs.Given.SchedulesDeclared.effect.Effect.{Effect}
+use Rattle.papaya_others.specs.Given.SchedulesDeclared.effect.Effect.TheVariants.{Stored, Copied, Promoted}
+use Rattle.papaya_others.specs.Given.SchedulesDeclared.effect.Spot.{Spot}
+use Rattle.papaya_others.specs.Given.SchedulesDeclared.effect.Table.{Table}
+use Rattle.papaya_others.specs.Given.SchedulesEffects.{later, born_by, copy_by, spot_by, with_effect, with_effects}
+use Rattle.papaya_others.specs.Given.SchedulesMoment.{Place, Moment}
+use Rattle.papaya_others.specs.Given.SchedulesViews.{is_in_map}
+use Rattle.papaya_others.proofs.Given.FollowsAlike.{is_calm, AllCalm, put_here, put_elsewhere}
 
 -- the effect neither stores nor copies a pair, and leaves the root where it is
 abbrev pub is_aside : Effect → Bool

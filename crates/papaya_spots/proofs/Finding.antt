@@ -3,46 +3,46 @@ use Rattle.std.specs.Prelude.{◌≡◌, ℕ, zero, suc, ◌+◌, ◌<◌, ◌�
 use Rattle.std.specs.List.{list_any}
 use Rattle.std.proofs.Common.{refl, ap, sym, subst, ◌∙◌, arith, inl, inr}
 use Rattle.std.proofs.lemmas.Bool.{eq-eqb, cases_eq}
-use Rattle.papaya_others.specs.Given.SeizeWords.Mem.{Mem}
-use Rattle.papaya_others.specs.Given.Seize.World.{World}
-use Rattle.papaya_others.specs.Given.Tables.Chunks.{is_incremental}
-use Rattle.papaya_others.specs.Given.Tables.declared.node.Node.{Node}
-use Rattle.papaya_others.specs.Given.Tables.declared.table_words.TheConstants.{PLACES}
-use Rattle.papaya_others.specs.Given.Schedules.declared.effect.Effect.{Effect}
-use Rattle.papaya_others.specs.Given.Schedules.declared.effect.Effect.TheVariants.{Asked, Stored, Replaced, Copied}
-use Rattle.papaya_others.specs.Given.Schedules.declared.effect.Growth.TheVariants.{ABucket}
-use Rattle.papaya_others.specs.Given.Schedules.declared.effect.Spot.{Spot}
-use Rattle.papaya_others.specs.Given.Schedules.Lives.{MayCopy}
-use Rattle.papaya_others.specs.Given.Schedules.Tries.{has_pair_at}
-use Rattle.papaya_others.specs.Given.Schedules.declared.effect.Table.{Table}
-use Rattle.papaya_others.specs.Given.Schedules.Moment.{Place, GivenBack, Stage, TableThere, Moment}
-use Rattle.papaya_others.specs.Given.Schedules.Things.{same_table, same_spot}
-use Rattle.papaya_others.specs.Given.Schedules.Views.{is_there, is_linked, is_stage, is_place}
-use Rattle.papaya_others.specs.Given.Teller.declared.changed.Changed.{Changed}
-use Rattle.papaya_others.specs.Given.Teller.declared.changed.Changed.TheVariants as changed
-use Rattle.papaya_others.specs.Given.Rule.Chart.{Still, Copying, Empty, Holds, Chart}
-use Rattle.papaya_others.specs.Given.Rule.Moments.{Moments}
-use Rattle.papaya_others.specs.Given.Rule.Rule.{Rule}
-use Rattle.papaya_others.specs.Given.Rule.Moves.{Move, Links, Stores, Replaces, Removes, Marks, MarksBlocking, Skips, Unmarks, Puts, Covers, PutsLate, Claims, Reclaims, Counts, GivesUp, Aborts, Promotes, Announces, MayChange, Allowed}
-use Rattle.papaya_others.specs.Given.Rule.Words.{Blocks}
-use Rattle.papaya_others.specs.Given.Rule.Maps.{spot_of}
-use Rattle.papaya_others.specs.Given.Rule.InWorld.{IsMapIn, Moved, Went}
-use Rattle.papaya_others.specs.Given.Points.Steps.{AreLawful}
-use Rattle.papaya_others.specs.Given.Callers.Sights.{Sight, seen_by, IsGrown, IsSight}
-use Rattle.papaya_others.specs.Given.Callers.Together.{in_slot}
-use Rattle.papaya_others.specs.Given.Finishes.Maps.{Standing}
-use Rattle.papaya_others.specs.Given.Effects.Effects.{spot_at, taken_by, effects_of, known_after}
-use Rattle.papaya_others.specs.Given.Effects.Known.{Known}
-use Rattle.papaya_others.specs.Given.Effects.declared.acting.Acting.TheVariants.{Call}
-use Rattle.papaya_others.specs.Given.Effects.declared.role.Role.{Role}
-use Rattle.papaya_others.specs.Given.Effects.declared.role.Role.TheVariants as role
-use Rattle.papaya_others.specs.Given.Follows.Blocks.{ShowsBlocks}
-use Rattle.papaya_others.specs.Given.Follows.Maps.{table_of, shape_at, tables_to, ShowsMap}
-use Rattle.papaya_others.proofs.Given.Follows.Alike.{AllCalm}
-use Rattle.papaya_others.proofs.Given.Follows.Finds.{first_is, chunks_are, same_one, among, may_stand}
-use Rattle.papaya_others.proofs.Given.Follows.Operations.{LeavesBy}
-use Rattle.papaya_others.proofs.Given.Follows.Rows.{HandsOn, IsStill, Puts as PutsBehind, Retires, RowLeaves, row_written}
-use Rattle.papaya_others.proofs.Given.Follows.Stored.{in_map_true, still_current}
+use Rattle.papaya_others.specs.Given.SeizeWordsMem.{Mem}
+use Rattle.papaya_others.specs.Given.SeizeWorld.{World}
+use Rattle.papaya_others.specs.Given.TablesChunks.{is_incremental}
+use Rattle.papaya_others.specs.Given.TablesDeclared.node.Node.{Node}
+use Rattle.papaya_others.specs.Given.TablesDeclared.table_words.TheConstants.{PLACES}
+use Rattle.papaya_others.specs.Given.SchedulesDeclared.effect.Effect.{Effect}
+use Rattle.papaya_others.specs.Given.SchedulesDeclared.effect.Effect.TheVariants.{Asked, Stored, Replaced, Copied}
+use Rattle.papaya_others.specs.Given.SchedulesDeclared.effect.Growth.TheVariants.{ABucket}
+use Rattle.papaya_others.specs.Given.SchedulesDeclared.effect.Spot.{Spot}
+use Rattle.papaya_others.specs.Given.SchedulesLives.{MayCopy}
+use Rattle.papaya_others.specs.Given.SchedulesTries.{has_pair_at}
+use Rattle.papaya_others.specs.Given.SchedulesDeclared.effect.Table.{Table}
+use Rattle.papaya_others.specs.Given.SchedulesMoment.{Place, GivenBack, Stage, TableThere, Moment}
+use Rattle.papaya_others.specs.Given.SchedulesThings.{same_table, same_spot}
+use Rattle.papaya_others.specs.Given.SchedulesViews.{is_there, is_linked, is_stage, is_place}
+use Rattle.papaya_others.specs.Given.TellerDeclared.changed.Changed.{Changed}
+use Rattle.papaya_others.specs.Given.TellerDeclared.changed.Changed.TheVariants as changed
+use Rattle.papaya_others.specs.Given.RuleChart.{Still, Copying, Empty, Holds, Chart}
+use Rattle.papaya_others.specs.Given.RuleMoments.{Moments}
+use Rattle.papaya_others.specs.Given.RuleRule.{Rule}
+use Rattle.papaya_others.specs.Given.RuleMoves.{Move, Links, Stores, Replaces, Removes, Marks, MarksBlocking, Skips, Unmarks, Puts, Covers, PutsLate, Claims, Reclaims, Counts, GivesUp, Aborts, Promotes, Announces, MayChange, Allowed}
+use Rattle.papaya_others.specs.Given.RuleWords.{Blocks}
+use Rattle.papaya_others.specs.Given.RuleMaps.{spot_of}
+use Rattle.papaya_others.specs.Given.RuleInWorld.{IsMapIn, Moved, Went}
+use Rattle.papaya_others.specs.Given.PointsSteps.{AreLawful}
+use Rattle.papaya_others.specs.Given.CallersSights.{Sight, seen_by, IsGrown, IsSight}
+use Rattle.papaya_others.specs.Given.CallersTogether.{in_slot}
+use Rattle.papaya_others.specs.Given.FinishesMaps.{Standing}
+use Rattle.papaya_others.specs.Given.EffectsEffects.{spot_at, taken_by, effects_of, known_after}
+use Rattle.papaya_others.specs.Given.EffectsKnown.{Known}
+use Rattle.papaya_others.specs.Given.EffectsDeclared.acting.Acting.TheVariants.{Call}
+use Rattle.papaya_others.specs.Given.EffectsDeclared.role.Role.{Role}
+use Rattle.papaya_others.specs.Given.EffectsDeclared.role.Role.TheVariants as role
+use Rattle.papaya_others.specs.Given.FollowsBlocks.{ShowsBlocks}
+use Rattle.papaya_others.specs.Given.FollowsMaps.{table_of, shape_at, tables_to, ShowsMap}
+use Rattle.papaya_others.proofs.Given.FollowsAlike.{AllCalm}
+use Rattle.papaya_others.proofs.Given.FollowsFinds.{first_is, chunks_are, same_one, among, may_stand}
+use Rattle.papaya_others.proofs.Given.FollowsOperations.{LeavesBy}
+use Rattle.papaya_others.proofs.Given.FollowsRows.{HandsOn, IsStill, Puts as PutsBehind, Retires, RowLeaves, row_written}
+use Rattle.papaya_others.proofs.Given.FollowsStored.{in_map_true, still_current}
 use Rattle.papaya_spots.specs.Placed.{FindPlaces}
 use Rattle.papaya_spots.specs.Spots.{ThePair, named_by, spot_in, LiesAt, ShowsSpots}
 use Rattle.papaya_spots.specs.Unreclaimed.{is_unreclaimed, ShowsUnreclaimed}

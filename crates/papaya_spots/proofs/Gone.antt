@@ -2,17 +2,17 @@
 use Rattle.std.specs.Prelude.{◌≡◌, ◌≢◌, ℕ, Bool, true, false, ◌&&◌, ◌||◌, List, [], ◌∷◌, map, if◌then◌else◌}
 use Rattle.std.specs.List.{list_any}
 use Rattle.std.proofs.Common.{refl, ap, sym, subst, ◌∙◌}
-use Rattle.papaya_others.specs.Given.Schedules.declared.effect.Table.{Table}
-use Rattle.papaya_others.specs.Given.Schedules.Effects.{all_at, at_stage}
-use Rattle.papaya_others.specs.Given.Schedules.Lists.{is_among, put}
-use Rattle.papaya_others.specs.Given.Schedules.Moment.{Place, GivenBack, Stage, TableThere, Moment}
-use Rattle.papaya_others.specs.Given.Schedules.Things.{same_table}
-use Rattle.papaya_others.specs.Given.Schedules.Views.{is_there, is_stage, behind}
-use Rattle.papaya_others.specs.Given.Effects.Known.{Known, with_role}
-use Rattle.papaya_others.specs.Given.Effects.declared.role.Role.{Role}
-use Rattle.papaya_others.specs.Given.Effects.declared.role.Role.TheVariants as role
-use Rattle.papaya_others.proofs.Given.Follows.Alike.{put_here, put_elsewhere}
-use Rattle.papaya_others.proofs.Given.Follows.Onward.{IsOfMap}
+use Rattle.papaya_others.specs.Given.SchedulesDeclared.effect.Table.{Table}
+use Rattle.papaya_others.specs.Given.SchedulesEffects.{all_at, at_stage}
+use Rattle.papaya_others.specs.Given.SchedulesLists.{is_among, put}
+use Rattle.papaya_others.specs.Given.SchedulesMoment.{Place, GivenBack, Stage, TableThere, Moment}
+use Rattle.papaya_others.specs.Given.SchedulesThings.{same_table}
+use Rattle.papaya_others.specs.Given.SchedulesViews.{is_there, is_stage, behind}
+use Rattle.papaya_others.specs.Given.EffectsKnown.{Known, with_role}
+use Rattle.papaya_others.specs.Given.EffectsDeclared.role.Role.{Role}
+use Rattle.papaya_others.specs.Given.EffectsDeclared.role.Role.TheVariants as role
+use Rattle.papaya_others.proofs.Given.FollowsAlike.{put_here, put_elsewhere}
+use Rattle.papaya_others.proofs.Given.FollowsOnward.{IsOfMap}
 use Rattle.papaya_spots.specs.Unreclaimed.{is_unreclaimed, ShowsUnreclaimed}
 use Rattle.papaya_spots.proofs.Calm.{put_back}
 use Rattle.papaya_spots.proofs.Unreclaimed.{AsUnreclaimed, unreclaimed_same, Now, staged_other}

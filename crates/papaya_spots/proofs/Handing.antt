@@ -1,28 +1,28 @@
 -- What hands nothing over, and reclaims nothing: a step of a call that is none of a row.
 use Rattle.std.specs.Prelude.{◌≡◌, ℕ, Bool, true, List, [], ◌∷◌, Option}
 use Rattle.std.proofs.Common.{sym, subst, inl, inr}
-use Rattle.papaya_others.specs.Given.SeizeWords.Mem.{Mem}
-use Rattle.papaya_others.specs.Given.Seize.World.{World}
-use Rattle.papaya_others.specs.Given.Tables.declared.node.Node.{Node}
-use Rattle.papaya_others.specs.Given.Schedules.Moment.{Moment}
-use Rattle.papaya_others.specs.Given.Schedules.declared.effect.Effect.{Effect}
-use Rattle.papaya_others.specs.Given.Schedules.declared.effect.Effect.TheVariants.{Retired, Deferred, Reclaimed, Ended, Taken}
-use Rattle.papaya_others.specs.Given.Teller.declared.changed.Changed.{Changed}
-use Rattle.papaya_others.specs.Given.Rule.Chart.{Chart}
-use Rattle.papaya_others.specs.Given.Rule.InWorld.{IsMapIn, Moved, Went}
-use Rattle.papaya_others.specs.Given.Rule.Moves.{Move, Links, Stores, Replaces, Removes, Marks, MarksBlocking, Skips, Unmarks, Puts, Covers, PutsLate, Claims, Reclaims, Counts, GivesUp, Aborts, Promotes, Announces}
-use Rattle.papaya_others.specs.Given.Rule.Words.{Blocks}
-use Rattle.papaya_others.specs.Given.Points.Steps.{AreLawful}
-use Rattle.papaya_others.specs.Given.Callers.Sights.{Sight, seen_by, IsGrown, IsSight}
-use Rattle.papaya_others.specs.Given.Callers.Together.{in_slot}
-use Rattle.papaya_others.specs.Given.Finishes.Maps.{Standing}
-use Rattle.papaya_others.specs.Given.Effects.Effects.{effects_of, known_after}
-use Rattle.papaya_others.specs.Given.Effects.Known.{Known}
-use Rattle.papaya_others.specs.Given.Effects.declared.acting.Acting.TheVariants.{Call}
-use Rattle.papaya_others.specs.Given.Follows.Blocks.{ShowsBlocks}
-use Rattle.papaya_others.specs.Given.Follows.Maps.{ShowsMap}
-use Rattle.papaya_others.proofs.Given.Follows.Alike.{is_calm, AllCalm}
-use Rattle.papaya_others.proofs.Given.Follows.Operations.{LeavesBy}
+use Rattle.papaya_others.specs.Given.SeizeWordsMem.{Mem}
+use Rattle.papaya_others.specs.Given.SeizeWorld.{World}
+use Rattle.papaya_others.specs.Given.TablesDeclared.node.Node.{Node}
+use Rattle.papaya_others.specs.Given.SchedulesMoment.{Moment}
+use Rattle.papaya_others.specs.Given.SchedulesDeclared.effect.Effect.{Effect}
+use Rattle.papaya_others.specs.Given.SchedulesDeclared.effect.Effect.TheVariants.{Retired, Deferred, Reclaimed, Ended, Taken}
+use Rattle.papaya_others.specs.Given.TellerDeclared.changed.Changed.{Changed}
+use Rattle.papaya_others.specs.Given.RuleChart.{Chart}
+use Rattle.papaya_others.specs.Given.RuleInWorld.{IsMapIn, Moved, Went}
+use Rattle.papaya_others.specs.Given.RuleMoves.{Move, Links, Stores, Replaces, Removes, Marks, MarksBlocking, Skips, Unmarks, Puts, Covers, PutsLate, Claims, Reclaims, Counts, GivesUp, Aborts, Promotes, Announces}
+use Rattle.papaya_others.specs.Given.RuleWords.{Blocks}
+use Rattle.papaya_others.specs.Given.PointsSteps.{AreLawful}
+use Rattle.papaya_others.specs.Given.CallersSights.{Sight, seen_by, IsGrown, IsSight}
+use Rattle.papaya_others.specs.Given.CallersTogether.{in_slot}
+use Rattle.papaya_others.specs.Given.FinishesMaps.{Standing}
+use Rattle.papaya_others.specs.Given.EffectsEffects.{effects_of, known_after}
+use Rattle.papaya_others.specs.Given.EffectsKnown.{Known}
+use Rattle.papaya_others.specs.Given.EffectsDeclared.acting.Acting.TheVariants.{Call}
+use Rattle.papaya_others.specs.Given.FollowsBlocks.{ShowsBlocks}
+use Rattle.papaya_others.specs.Given.FollowsMaps.{ShowsMap}
+use Rattle.papaya_others.proofs.Given.FollowsAlike.{is_calm, AllCalm}
+use Rattle.papaya_others.proofs.Given.FollowsOperations.{LeavesBy}
 use Rattle.papaya_spots.proofs.Calm.{IsCalm}
 use Rattle.papaya_spots.proofs.Done.{DidBy, DidMoved}
 

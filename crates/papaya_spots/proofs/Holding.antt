@@ -2,44 +2,44 @@
 use Rattle.std.specs.Prelude.{◌≡◌, ℕ, ◌+◌, nat_lt, ◌&&◌, Bool, true, false, List, [], ◌∷◌, Option, Some, if◌then◌else◌}
 use Rattle.std.specs.List.{list_any}
 use Rattle.std.proofs.Common.{refl, ap, sym, subst, ◌∙◌, arith, inl, inr}
-use Rattle.papaya_others.specs.Given.SeizeWords.Mem.{Mem}
-use Rattle.papaya_others.specs.Given.Seize.World.{World}
-use Rattle.papaya_others.specs.Given.Tables.Chunks.{is_incremental}
-use Rattle.papaya_others.specs.Given.Tables.declared.node.Node.{Node}
-use Rattle.papaya_others.specs.Given.Schedules.declared.effect.Effect.{Effect}
-use Rattle.papaya_others.specs.Given.Schedules.declared.effect.Effect.TheVariants.{Asked, Copied, Stored, Replaced, Removed, Linked, Promoted, Deferred, Retired}
-use Rattle.papaya_others.specs.Given.Schedules.declared.effect.Growth.TheVariants.{ABucket}
-use Rattle.papaya_others.specs.Given.Schedules.declared.effect.Thing.TheVariants.{APair, ATable}
-use Rattle.papaya_others.specs.Given.Schedules.Effects.{with_effect, with_effects}
-use Rattle.papaya_others.specs.Given.Schedules.Moment.{Place, Unborn, InMap, Out, Handed, Behind, Left, GivenBack, Moment}
-use Rattle.papaya_others.specs.Given.Schedules.Things.{same_table}
-use Rattle.papaya_others.specs.Given.Schedules.Views.{is_in_map, is_there}
-use Rattle.papaya_others.specs.Given.Teller.declared.changed.Changed.{Changed}
-use Rattle.papaya_others.specs.Given.Teller.declared.changed.Changed.TheVariants as changed
-use Rattle.papaya_others.specs.Given.Rule.Chart.{Still, Holds, Chart}
-use Rattle.papaya_others.specs.Given.Rule.Moves.{Move, Links, Stores, Replaces, Removes, Marks, MarksBlocking, Skips, Unmarks, Puts, Covers, PutsLate, Claims, Reclaims, Counts, GivesUp, Aborts, Promotes, Announces, MayChange, Allowed}
-use Rattle.papaya_others.specs.Given.Rule.Words.{Blocks}
-use Rattle.papaya_others.specs.Given.Rule.Maps.{spot_of}
-use Rattle.papaya_others.specs.Given.Rule.InWorld.{IsMapIn, Moved, Went}
-use Rattle.papaya_others.specs.Given.Points.Steps.{AreLawful}
-use Rattle.papaya_others.specs.Given.Callers.Sights.{Sight, seen_by, IsGrown, IsSight}
-use Rattle.papaya_others.specs.Given.Callers.Together.{in_slot}
-use Rattle.papaya_others.specs.Given.Finishes.Maps.{Standing}
-use Rattle.papaya_others.specs.Given.Effects.Effects.{effects_of, known_after}
-use Rattle.papaya_others.specs.Given.Effects.Known.{Known}
-use Rattle.papaya_others.specs.Given.Effects.declared.acting.Acting.{Acting}
-use Rattle.papaya_others.specs.Given.Effects.declared.acting.Acting.TheVariants.{Call}
-use Rattle.papaya_others.specs.Given.Effects.declared.role.Role.{Role}
-use Rattle.papaya_others.specs.Given.Effects.declared.role.Role.TheVariants as role
-use Rattle.papaya_others.specs.Given.Follows.Blocks.{ShowsBlocks}
-use Rattle.papaya_others.specs.Given.Follows.Maps.{table_of, ShowsMap}
-use Rattle.papaya_others.specs.Given.Follows.Steps.{TakesNone}
-use Rattle.papaya_others.proofs.Given.Follows.Alike.{AreSame, calm_still, still_all}
-use Rattle.papaya_others.proofs.Given.Follows.Onward.{IsLasting}
-use Rattle.papaya_others.proofs.Given.Follows.Operations.{LeavesBy}
-use Rattle.papaya_others.proofs.Given.Follows.Rows.{HandsOn, IsStill, Puts as PutsBehind, Retires, RowLeaves}
-use Rattle.papaya_others.proofs.Given.Follows.RowSteps.{row_done}
-use Rattle.papaya_others.proofs.Given.Follows.Stored.{still_current}
+use Rattle.papaya_others.specs.Given.SeizeWordsMem.{Mem}
+use Rattle.papaya_others.specs.Given.SeizeWorld.{World}
+use Rattle.papaya_others.specs.Given.TablesChunks.{is_incremental}
+use Rattle.papaya_others.specs.Given.TablesDeclared.node.Node.{Node}
+use Rattle.papaya_others.specs.Given.SchedulesDeclared.effect.Effect.{Effect}
+use Rattle.papaya_others.specs.Given.SchedulesDeclared.effect.Effect.TheVariants.{Asked, Copied, Stored, Replaced, Removed, Linked, Promoted, Deferred, Retired}
+use Rattle.papaya_others.specs.Given.SchedulesDeclared.effect.Growth.TheVariants.{ABucket}
+use Rattle.papaya_others.specs.Given.SchedulesDeclared.effect.Thing.TheVariants.{APair, ATable}
+use Rattle.papaya_others.specs.Given.SchedulesEffects.{with_effect, with_effects}
+use Rattle.papaya_others.specs.Given.SchedulesMoment.{Place, Unborn, InMap, Out, Handed, Behind, Left, GivenBack, Moment}
+use Rattle.papaya_others.specs.Given.SchedulesThings.{same_table}
+use Rattle.papaya_others.specs.Given.SchedulesViews.{is_in_map, is_there}
+use Rattle.papaya_others.specs.Given.TellerDeclared.changed.Changed.{Changed}
+use Rattle.papaya_others.specs.Given.TellerDeclared.changed.Changed.TheVariants as changed
+use Rattle.papaya_others.specs.Given.RuleChart.{Still, Holds, Chart}
+use Rattle.papaya_others.specs.Given.RuleMoves.{Move, Links, Stores, Replaces, Removes, Marks, MarksBlocking, Skips, Unmarks, Puts, Covers, PutsLate, Claims, Reclaims, Counts, GivesUp, Aborts, Promotes, Announces, MayChange, Allowed}
+use Rattle.papaya_others.specs.Given.RuleWords.{Blocks}
+use Rattle.papaya_others.specs.Given.RuleMaps.{spot_of}
+use Rattle.papaya_others.specs.Given.RuleInWorld.{IsMapIn, Moved, Went}
+use Rattle.papaya_others.specs.Given.PointsSteps.{AreLawful}
+use Rattle.papaya_others.specs.Given.CallersSights.{Sight, seen_by, IsGrown, IsSight}
+use Rattle.papaya_others.specs.Given.CallersTogether.{in_slot}
+use Rattle.papaya_others.specs.Given.FinishesMaps.{Standing}
+use Rattle.papaya_others.specs.Given.EffectsEffects.{effects_of, known_after}
+use Rattle.papaya_others.specs.Given.EffectsKnown.{Known}
+use Rattle.papaya_others.specs.Given.EffectsDeclared.acting.Acting.{Acting}
+use Rattle.papaya_others.specs.Given.EffectsDeclared.acting.Acting.TheVariants.{Call}
+use Rattle.papaya_others.specs.Given.EffectsDeclared.role.Role.{Role}
+use Rattle.papaya_others.specs.Given.EffectsDeclared.role.Role.TheVariants as role
+use Rattle.papaya_others.specs.Given.FollowsBlocks.{ShowsBlocks}
+use Rattle.papaya_others.specs.Given.FollowsMaps.{table_of, ShowsMap}
+use Rattle.papaya_others.specs.Given.FollowsSteps.{TakesNone}
+use Rattle.papaya_others.proofs.Given.FollowsAlike.{AreSame, calm_still, still_all}
+use Rattle.papaya_others.proofs.Given.FollowsOnward.{IsLasting}
+use Rattle.papaya_others.proofs.Given.FollowsOperations.{LeavesBy}
+use Rattle.papaya_others.proofs.Given.FollowsRows.{HandsOn, IsStill, Puts as PutsBehind, Retires, RowLeaves}
+use Rattle.papaya_others.proofs.Given.FollowsRowSteps.{row_done}
+use Rattle.papaya_others.proofs.Given.FollowsStored.{still_current}
 use Rattle.papaya_spots.specs.Spots.{spot_in}
 use Rattle.papaya_spots.specs.Unreclaimed.{is_unreclaimed, ShowsUnreclaimed}
 use Rattle.papaya_spots.proofs.Calm.{IsCalm}

@@ -1,11 +1,11 @@
 -- Where a pair of the map lies after each change of its tables, in either mode.
 use Rattle.std.specs.Prelude.{◌≡◌, ℕ, ◌<◌, ◌≤◌, Bool, true, false, if◌then◌else◌}
 use Rattle.std.proofs.Common.{refl, ap}
-use Rattle.papaya_others.specs.Given.Schedules.declared.effect.Spot.{Spot}
-use Rattle.papaya_others.specs.Given.Schedules.Effects.{later}
-use Rattle.papaya_others.specs.Given.Rule.Chart.{Copying, Holds, Chart}
-use Rattle.papaya_others.specs.Given.Rule.Rule.{IsLawful, Rule}
-use Rattle.papaya_others.specs.Given.Rule.Moves.{Move, Puts, PutsLate, Promotes, Allowed, after}
+use Rattle.papaya_others.specs.Given.SchedulesDeclared.effect.Spot.{Spot}
+use Rattle.papaya_others.specs.Given.SchedulesEffects.{later}
+use Rattle.papaya_others.specs.Given.RuleChart.{Copying, Holds, Chart}
+use Rattle.papaya_others.specs.Given.RuleRule.{IsLawful, Rule}
+use Rattle.papaya_others.specs.Given.RuleMoves.{Move, Puts, PutsLate, Promotes, Allowed, after}
 use Rattle.papaya_spots.specs.Spots.{spot_in, LiesAt, IsCopiedTo}
 use Rattle.papaya_spots.proofs.Copies.{puts_lies, promotes_lies, puts_copied, puts_stays, late_stays, late_copied, copy_is, promotes_there, promotes_copied}
 use Rattle.papaya_spots.proofs.Moves.{Spares, keeps_move}

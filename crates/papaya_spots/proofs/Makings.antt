@@ -2,40 +2,40 @@
 use Rattle.std.specs.Prelude.{◌≡◌, ◌≢◌, ℕ, Bool, true, false, List, [], ◌∷◌, Option, Some, None, if◌then◌else◌}
 use Rattle.std.proofs.Common.{refl, ap, sym, subst, ◌∙◌, arith, inl, inr}
 use Rattle.std.proofs.lemmas.Bool.{cases_eq}
-use Rattle.papaya_others.specs.Given.SeizeWords.Mem.{word_at}
-use Rattle.papaya_others.specs.Given.SeizeWords.Word.{block_in}
-use Rattle.papaya_others.specs.Given.SeizeWords.declared.at.At.TheVariants.{Root, Used, Slot, Entry, Word}
-use Rattle.papaya_others.specs.Given.Seize.World.{World}
-use Rattle.papaya_others.specs.Given.Seize.declared.progress.Progress.{Progress}
-use Rattle.papaya_others.specs.Given.Seize.declared.progress.Progress.TheVariants as progress
-use Rattle.papaya_others.specs.Given.Tables.declared.node.Node.{Node}
-use Rattle.papaya_others.specs.Given.Tables.declared.setting.Setting.{Setting}
-use Rattle.papaya_others.specs.Given.Tables.declared.status.TheConstants.Status.{ABORTED}
-use Rattle.papaya_others.specs.Given.Resize.declared.new_map.NewMap.{NewMap}
-use Rattle.papaya_others.specs.Given.Schedules.declared.effect.Effect.{Effect}
-use Rattle.papaya_others.specs.Given.Schedules.declared.effect.Effect.TheVariants.{Asked}
-use Rattle.papaya_others.specs.Given.Schedules.declared.effect.Growth.TheVariants.{ABlock}
-use Rattle.papaya_others.specs.Given.Schedules.declared.effect.Table.{Table}
-use Rattle.papaya_others.specs.Given.Schedules.Effects.{with_effects, AtEachEffect}
-use Rattle.papaya_others.specs.Given.Schedules.Moment.{Moment}
-use Rattle.papaya_others.specs.Given.Teller.declared.changed.Changed.{Changed}
-use Rattle.papaya_others.specs.Given.Teller.declared.changed.Changed.TheVariants as changed
-use Rattle.papaya_others.specs.Given.Teller.declared.changed.Kind.{Kind}
-use Rattle.papaya_others.specs.Given.Teller.declared.changed.Kind.TheVariants as kind
-use Rattle.papaya_others.specs.Given.Rule.Chart.{Chart}
-use Rattle.papaya_others.proofs.Given.Callers.Together.At.{at_other, at_same}
-use Rattle.papaya_others.specs.Given.Finishes.Makings.{Beginning, IsNewChart}
-use Rattle.papaya_others.specs.Given.Finishes.Maps.{Standing}
-use Rattle.papaya_others.specs.Given.Effects.Effects.{made_role, made_by, taken_by, led_to, in_block, in_block_on, linked_on, named, names_same, effects_of, known_after}
-use Rattle.papaya_others.specs.Given.Effects.Known.{Known, with_role}
-use Rattle.papaya_others.specs.Given.Effects.declared.acting.Acting.{Acting}
-use Rattle.papaya_others.specs.Given.Effects.declared.acting.Acting.TheVariants.{Making}
-use Rattle.papaya_others.specs.Given.Effects.declared.role.Role.{Role}
-use Rattle.papaya_others.specs.Given.Effects.declared.role.Role.TheVariants as role
-use Rattle.papaya_others.proofs.Given.Follows.Alike.{put_here, put_elsewhere}
-use Rattle.papaya_others.proofs.Given.Follows.Operations.{LeavesBy}
-use Rattle.papaya_others.proofs.Given.Follows.Steps.{one_of}
-use Rattle.papaya_others.proofs.Given.Follows.Writes.{nothing_free}
+use Rattle.papaya_others.specs.Given.SeizeWordsMem.{word_at}
+use Rattle.papaya_others.specs.Given.SeizeWordsWord.{block_in}
+use Rattle.papaya_others.specs.Given.SeizeWordsDeclared.at.At.TheVariants.{Root, Used, Slot, Entry, Word}
+use Rattle.papaya_others.specs.Given.SeizeWorld.{World}
+use Rattle.papaya_others.specs.Given.SeizeDeclared.progress.Progress.{Progress}
+use Rattle.papaya_others.specs.Given.SeizeDeclared.progress.Progress.TheVariants as progress
+use Rattle.papaya_others.specs.Given.TablesDeclared.node.Node.{Node}
+use Rattle.papaya_others.specs.Given.TablesDeclared.setting.Setting.{Setting}
+use Rattle.papaya_others.specs.Given.TablesDeclared.status.TheConstants.Status.{ABORTED}
+use Rattle.papaya_others.specs.Given.ResizeDeclared.new_map.NewMap.{NewMap}
+use Rattle.papaya_others.specs.Given.SchedulesDeclared.effect.Effect.{Effect}
+use Rattle.papaya_others.specs.Given.SchedulesDeclared.effect.Effect.TheVariants.{Asked}
+use Rattle.papaya_others.specs.Given.SchedulesDeclared.effect.Growth.TheVariants.{ABlock}
+use Rattle.papaya_others.specs.Given.SchedulesDeclared.effect.Table.{Table}
+use Rattle.papaya_others.specs.Given.SchedulesEffects.{with_effects, AtEachEffect}
+use Rattle.papaya_others.specs.Given.SchedulesMoment.{Moment}
+use Rattle.papaya_others.specs.Given.TellerDeclared.changed.Changed.{Changed}
+use Rattle.papaya_others.specs.Given.TellerDeclared.changed.Changed.TheVariants as changed
+use Rattle.papaya_others.specs.Given.TellerDeclared.changed.Kind.{Kind}
+use Rattle.papaya_others.specs.Given.TellerDeclared.changed.Kind.TheVariants as kind
+use Rattle.papaya_others.specs.Given.RuleChart.{Chart}
+use Rattle.papaya_others.proofs.Given.CallersTogether.At.{at_other, at_same}
+use Rattle.papaya_others.specs.Given.FinishesMakings.{Beginning, IsNewChart}
+use Rattle.papaya_others.specs.Given.FinishesMaps.{Standing}
+use Rattle.papaya_others.specs.Given.EffectsEffects.{made_role, made_by, taken_by, led_to, in_block, in_block_on, linked_on, named, names_same, effects_of, known_after}
+use Rattle.papaya_others.specs.Given.EffectsKnown.{Known, with_role}
+use Rattle.papaya_others.specs.Given.EffectsDeclared.acting.Acting.{Acting}
+use Rattle.papaya_others.specs.Given.EffectsDeclared.acting.Acting.TheVariants.{Making}
+use Rattle.papaya_others.specs.Given.EffectsDeclared.role.Role.{Role}
+use Rattle.papaya_others.specs.Given.EffectsDeclared.role.Role.TheVariants as role
+use Rattle.papaya_others.proofs.Given.FollowsAlike.{put_here, put_elsewhere}
+use Rattle.papaya_others.proofs.Given.FollowsOperations.{LeavesBy}
+use Rattle.papaya_others.proofs.Given.FollowsSteps.{one_of}
+use Rattle.papaya_others.proofs.Given.FollowsWrites.{nothing_free}
 use Rattle.papaya_others.specs.Makings.{making_after}
 use Rattle.papaya_others.proofs.MakingPlans.{TellsMaking}
 use Rattle.papaya_others.proofs.Makes.{tells, left, no_table_word}
@@ -47,9 +47,9 @@ use Rattle.papaya_spots.proofs.Deferred.{effects_leave_outside}
 use Rattle.papaya_spots.proofs.Effects.{AllAside}
 use Rattle.papaya_spots.proofs.Rows.{same_pairs}
 use Rattle.papaya_spots.proofs.Stays.{WerePairs, places_stay}
-use Rattle.papaya_others.specs.Given.Scenes.Held.{Held}
-use Rattle.papaya_others.specs.Given.Scenes.Making.{MakingComesTo}
-use Rattle.papaya_others.specs.Given.Scenes.Scene.{Scene}
+use Rattle.papaya_others.specs.Given.ScenesHeld.{Held}
+use Rattle.papaya_others.specs.Given.ScenesMaking.{MakingComesTo}
+use Rattle.papaya_others.specs.Given.ScenesScene.{Scene}
 
 -- a block becomes no pair
 pub put_pairs : (known : Known) (x : ℕ) (r : Role) → ((n : ℕ) → r ≡ role.Pair n → ⊥) → WerePairs known (with_role x r known)

@@ -2,11 +2,11 @@
 use Rattle.std.specs.Prelude.{◌≡◌, ◌≢◌, ℕ, ◌<◌, Bool, true, false, cond, eqb}
 use Rattle.std.proofs.Common.{refl, ap, sym, subst, ◌∙◌, arith, inl, inr}
 use Rattle.std.proofs.lemmas.Bool.{cases_eq, cases_lt}
-use Rattle.papaya_others.specs.Given.Tables.declared.status.TheConstants.Status.{PENDING, ABORTED, PROMOTED}
-use Rattle.papaya_others.specs.Given.Rule.Chart.{Phase, Still, Place, Empty, Tombstone, Holds, Chart, put, put_in}
-use Rattle.papaya_others.specs.Given.Rule.Rule.{Rule}
-use Rattle.papaya_others.specs.Given.Rule.Moves.{Move, Links, Stores, Replaces, Removes, Marks, MarksBlocking, Skips, Unmarks, Puts, Covers, PutsLate, Claims, Reclaims, Counts, GivesUp, Aborts, Promotes, Announces, marked, still_place, copied_place, lent_place, without, Allowed, after}
-use Rattle.papaya_others.proofs.Given.Rule.Moves.Writes.{put_here, put_elsewhere}
+use Rattle.papaya_others.specs.Given.TablesDeclared.status.TheConstants.Status.{PENDING, ABORTED, PROMOTED}
+use Rattle.papaya_others.specs.Given.RuleChart.{Phase, Still, Place, Empty, Tombstone, Holds, Chart, put, put_in}
+use Rattle.papaya_others.specs.Given.RuleRule.{Rule}
+use Rattle.papaya_others.specs.Given.RuleMoves.{Move, Links, Stores, Replaces, Removes, Marks, MarksBlocking, Skips, Unmarks, Puts, Covers, PutsLate, Claims, Reclaims, Counts, GivesUp, Aborts, Promotes, Announces, marked, still_place, copied_place, lent_place, without, Allowed, after}
+use Rattle.papaya_others.proofs.Given.RuleMoves.Writes.{put_here, put_elsewhere}
 use Rattle.papaya_spots.specs.Spots.{ThePair, named_by}
 use Rattle.papaya_spots.proofs.Names.{holds_is, other_pair, nobody, marked_names, still_names, copied_names, alike_same, alike_neither, SameOf, same_all, same_put, Keeps}
 

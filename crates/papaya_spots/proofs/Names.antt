@@ -1,11 +1,11 @@
 -- Which places name a pair, and where it lies, after a change of a map's tables that leaves the pair where it was.
 use Rattle.std.specs.Prelude.{◌≡◌, ◌≢◌, ℕ, ◌<◌, nat_lt, Bool, true, false}
 use Rattle.std.proofs.Common.{refl, ap, sym, ◌∙◌, arith}
-use Rattle.papaya_others.specs.Given.Tables.declared.status.TheConstants.Status.{ABORTED}
-use Rattle.papaya_others.specs.Given.Schedules.declared.effect.Spot.{Spot}
-use Rattle.papaya_others.specs.Given.Rule.Chart.{Phase, Still, Copying, Copied, Place, Empty, Tombstone, Holds, Chart, put_in}
-use Rattle.papaya_others.specs.Given.Rule.Moves.{marked, still_place, copied_place}
-use Rattle.papaya_others.proofs.Given.Rule.Moves.Writes.{put_in_one}
+use Rattle.papaya_others.specs.Given.TablesDeclared.status.TheConstants.Status.{ABORTED}
+use Rattle.papaya_others.specs.Given.SchedulesDeclared.effect.Spot.{Spot}
+use Rattle.papaya_others.specs.Given.RuleChart.{Phase, Still, Copying, Copied, Place, Empty, Tombstone, Holds, Chart, put_in}
+use Rattle.papaya_others.specs.Given.RuleMoves.{marked, still_place, copied_place}
+use Rattle.papaya_others.proofs.Given.RuleMoves.Writes.{put_in_one}
 use Rattle.papaya_spots.specs.Spots.{Nobody, ThePair, named_by, LiesAt, IsCopiedTo}
 
 -- what a place holds that names the pair

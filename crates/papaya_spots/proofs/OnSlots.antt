@@ -2,24 +2,24 @@
 use Rattle.std.specs.Prelude.{◌≡◌, ℕ, nat_lt, ◌&&◌, Bool, true, false, List, [], ◌∷◌, None, if◌then◌else◌}
 use Rattle.std.specs.List.{list_any}
 use Rattle.std.proofs.Common.{refl, ap, sym, subst, ◌∙◌}
-use Rattle.papaya_others.specs.Given.SeizeWords.declared.at.At.TheVariants.{Root, Used, Slot, Entry, Word}
-use Rattle.papaya_others.specs.Given.Schedules.declared.effect.Effect.{Effect}
-use Rattle.papaya_others.specs.Given.Schedules.declared.effect.Effect.TheVariants.{Asked}
-use Rattle.papaya_others.specs.Given.Schedules.declared.effect.Growth.TheVariants.{ABucket}
-use Rattle.papaya_others.specs.Given.Schedules.Effects.{with_effect, with_effects, AtEachEffect}
-use Rattle.papaya_others.specs.Given.Schedules.Moment.{Place, Handed, IsReclaimed, Moment}
-use Rattle.papaya_others.specs.Given.Schedules.Things.{same_table}
-use Rattle.papaya_others.specs.Given.Schedules.Views.{is_there}
-use Rattle.papaya_others.specs.Given.Teller.declared.changed.Changed.{Changed}
-use Rattle.papaya_others.specs.Given.Teller.declared.changed.Changed.TheVariants as changed
-use Rattle.papaya_others.specs.Given.Effects.Effects.{names_same, taken_by, effects_of, known_after}
-use Rattle.papaya_others.specs.Given.Effects.Known.{Known, with_role}
-use Rattle.papaya_others.specs.Given.Effects.declared.acting.Acting.TheVariants.{Row}
-use Rattle.papaya_others.specs.Given.Effects.declared.role.Role.{Role}
-use Rattle.papaya_others.specs.Given.Effects.declared.role.Role.TheVariants as role
-use Rattle.papaya_others.specs.Given.Follows.Shows.{Shows}
-use Rattle.papaya_others.proofs.Given.Follows.Onward.{IsOfMap}
-use Rattle.papaya_others.proofs.Given.Follows.Told.{roomed_as_many}
+use Rattle.papaya_others.specs.Given.SeizeWordsDeclared.at.At.TheVariants.{Root, Used, Slot, Entry, Word}
+use Rattle.papaya_others.specs.Given.SchedulesDeclared.effect.Effect.{Effect}
+use Rattle.papaya_others.specs.Given.SchedulesDeclared.effect.Effect.TheVariants.{Asked}
+use Rattle.papaya_others.specs.Given.SchedulesDeclared.effect.Growth.TheVariants.{ABucket}
+use Rattle.papaya_others.specs.Given.SchedulesEffects.{with_effect, with_effects, AtEachEffect}
+use Rattle.papaya_others.specs.Given.SchedulesMoment.{Place, Handed, IsReclaimed, Moment}
+use Rattle.papaya_others.specs.Given.SchedulesThings.{same_table}
+use Rattle.papaya_others.specs.Given.SchedulesViews.{is_there}
+use Rattle.papaya_others.specs.Given.TellerDeclared.changed.Changed.{Changed}
+use Rattle.papaya_others.specs.Given.TellerDeclared.changed.Changed.TheVariants as changed
+use Rattle.papaya_others.specs.Given.EffectsEffects.{names_same, taken_by, effects_of, known_after}
+use Rattle.papaya_others.specs.Given.EffectsKnown.{Known, with_role}
+use Rattle.papaya_others.specs.Given.EffectsDeclared.acting.Acting.TheVariants.{Row}
+use Rattle.papaya_others.specs.Given.EffectsDeclared.role.Role.{Role}
+use Rattle.papaya_others.specs.Given.EffectsDeclared.role.Role.TheVariants as role
+use Rattle.papaya_others.specs.Given.FollowsShows.{Shows}
+use Rattle.papaya_others.proofs.Given.FollowsOnward.{IsOfMap}
+use Rattle.papaya_others.proofs.Given.FollowsTold.{roomed_as_many}
 use Rattle.papaya_others.proofs.RowPlans.{TellsRow, row_tells}
 use Rattle.papaya_spots.specs.Deferred.{FindsNumbers}
 use Rattle.papaya_spots.specs.OnSlots.{WaitUnreclaimed, RowsLeavePlaces, RowsKeepBlocks}
@@ -31,7 +31,7 @@ use Rattle.papaya_spots.proofs.Gone.{other_gone, pair_gone, table_gone}
 use Rattle.papaya_spots.proofs.Rows.{roomed_aside, same_pairs}
 use Rattle.papaya_spots.proofs.Stays.{WerePairs, places_stay}
 use Rattle.papaya_spots.proofs.Unreclaimed.{unreclaimed_same}
-use Rattle.papaya_others.specs.Given.Scenes.Scene.{Scene}
+use Rattle.papaya_others.specs.Given.ScenesScene.{Scene}
 
 module _ {K V : Type 0} (m : Moment K V) (known : Known) where
   -- effects that neither move a pair nor find a number

@@ -2,42 +2,42 @@
 use Rattle.std.specs.Prelude.{◌≡◌, ◌≢◌, ℕ, suc, ◌+◌, ◌<◌, ◌≤◌, Bool, true, false, cond, List, [], ◌∷◌, length, Option, Some, if◌then◌else◌}
 use Rattle.std.proofs.Common.{refl, ap, sym, subst, ◌∙◌, arith, inl, inr}
 use Rattle.std.proofs.lemmas.Bool.{eq-eqb, cases_eq, cases_lt}
-use Rattle.papaya_others.specs.Given.SeizeWords.Mem.{Mem}
-use Rattle.papaya_others.specs.Given.Seize.World.{World}
-use Rattle.papaya_others.specs.Given.Tables.Chunks.{is_incremental}
-use Rattle.papaya_others.specs.Given.Tables.declared.node.Node.{Node}
-use Rattle.papaya_others.specs.Given.Tables.declared.status.TheConstants.Status.{ABORTED}
-use Rattle.papaya_others.specs.Given.Schedules.declared.effect.Effect.{Effect}
-use Rattle.papaya_others.specs.Given.Schedules.declared.effect.Effect.TheVariants.{Copied, Stored, Replaced, Promoted}
-use Rattle.papaya_others.specs.Given.Schedules.declared.effect.Spot.{Spot}
-use Rattle.papaya_others.specs.Given.Schedules.declared.effect.Table.{Table}
-use Rattle.papaya_others.specs.Given.Schedules.Effects.{later, is_chunked, spot_by, with_effects}
-use Rattle.papaya_others.specs.Given.Schedules.Lists.{put}
-use Rattle.papaya_others.specs.Given.Schedules.Moment.{Moment}
-use Rattle.papaya_others.specs.Given.Teller.declared.changed.Changed.{Changed}
-use Rattle.papaya_others.specs.Given.Rule.Chart.{Still, Copying, Holds, Chart, put_in}
-use Rattle.papaya_others.specs.Given.Rule.Moments.{Moments}
-use Rattle.papaya_others.specs.Given.Rule.Rule.{Rule}
-use Rattle.papaya_others.specs.Given.Rule.Moves.{Move, Links, Stores, Replaces, Removes, Marks, MarksBlocking, Skips, Unmarks, Puts, Covers, PutsLate, Claims, Reclaims, Counts, GivesUp, Aborts, Promotes, Announces, Allowed, after}
-use Rattle.papaya_others.specs.Given.Rule.Words.{Blocks}
-use Rattle.papaya_others.specs.Given.Rule.Maps.{spot_of}
-use Rattle.papaya_others.specs.Given.Rule.InWorld.{IsMapIn, Moved, Went}
-use Rattle.papaya_others.specs.Given.Points.Steps.{AreLawful}
-use Rattle.papaya_others.specs.Given.Callers.Sights.{Sight, seen_by, IsGrown, IsSight}
-use Rattle.papaya_others.specs.Given.Callers.Together.{in_slot}
-use Rattle.papaya_others.specs.Given.Finishes.Maps.{Standing}
-use Rattle.papaya_others.specs.Given.Effects.Effects.{effects_of, known_after}
-use Rattle.papaya_others.specs.Given.Effects.Known.{Known, with_pair, with_role}
-use Rattle.papaya_others.specs.Given.Effects.declared.acting.Acting.TheVariants.{Call}
-use Rattle.papaya_others.specs.Given.Effects.declared.role.Role.{Role}
-use Rattle.papaya_others.specs.Given.Effects.declared.role.Role.TheVariants as role
-use Rattle.papaya_others.specs.Given.Follows.Blocks.{ShowsBlocks}
-use Rattle.papaya_others.specs.Given.Follows.Maps.{table_of, ShowsMap}
-use Rattle.papaya_others.proofs.Given.Follows.Alike.{put_here, put_elsewhere}
-use Rattle.papaya_others.proofs.Given.Follows.Finds.{chunks_are}
-use Rattle.papaya_others.proofs.Given.Follows.Onward.{IsLasting, KeepsRoles}
-use Rattle.papaya_others.proofs.Given.Follows.Operations.{LeavesBy}
-use Rattle.papaya_others.proofs.Given.Follows.Stored.{in_root, still_home}
+use Rattle.papaya_others.specs.Given.SeizeWordsMem.{Mem}
+use Rattle.papaya_others.specs.Given.SeizeWorld.{World}
+use Rattle.papaya_others.specs.Given.TablesChunks.{is_incremental}
+use Rattle.papaya_others.specs.Given.TablesDeclared.node.Node.{Node}
+use Rattle.papaya_others.specs.Given.TablesDeclared.status.TheConstants.Status.{ABORTED}
+use Rattle.papaya_others.specs.Given.SchedulesDeclared.effect.Effect.{Effect}
+use Rattle.papaya_others.specs.Given.SchedulesDeclared.effect.Effect.TheVariants.{Copied, Stored, Replaced, Promoted}
+use Rattle.papaya_others.specs.Given.SchedulesDeclared.effect.Spot.{Spot}
+use Rattle.papaya_others.specs.Given.SchedulesDeclared.effect.Table.{Table}
+use Rattle.papaya_others.specs.Given.SchedulesEffects.{later, is_chunked, spot_by, with_effects}
+use Rattle.papaya_others.specs.Given.SchedulesLists.{put}
+use Rattle.papaya_others.specs.Given.SchedulesMoment.{Moment}
+use Rattle.papaya_others.specs.Given.TellerDeclared.changed.Changed.{Changed}
+use Rattle.papaya_others.specs.Given.RuleChart.{Still, Copying, Holds, Chart, put_in}
+use Rattle.papaya_others.specs.Given.RuleMoments.{Moments}
+use Rattle.papaya_others.specs.Given.RuleRule.{Rule}
+use Rattle.papaya_others.specs.Given.RuleMoves.{Move, Links, Stores, Replaces, Removes, Marks, MarksBlocking, Skips, Unmarks, Puts, Covers, PutsLate, Claims, Reclaims, Counts, GivesUp, Aborts, Promotes, Announces, Allowed, after}
+use Rattle.papaya_others.specs.Given.RuleWords.{Blocks}
+use Rattle.papaya_others.specs.Given.RuleMaps.{spot_of}
+use Rattle.papaya_others.specs.Given.RuleInWorld.{IsMapIn, Moved, Went}
+use Rattle.papaya_others.specs.Given.PointsSteps.{AreLawful}
+use Rattle.papaya_others.specs.Given.CallersSights.{Sight, seen_by, IsGrown, IsSight}
+use Rattle.papaya_others.specs.Given.CallersTogether.{in_slot}
+use Rattle.papaya_others.specs.Given.FinishesMaps.{Standing}
+use Rattle.papaya_others.specs.Given.EffectsEffects.{effects_of, known_after}
+use Rattle.papaya_others.specs.Given.EffectsKnown.{Known, with_pair, with_role}
+use Rattle.papaya_others.specs.Given.EffectsDeclared.acting.Acting.TheVariants.{Call}
+use Rattle.papaya_others.specs.Given.EffectsDeclared.role.Role.{Role}
+use Rattle.papaya_others.specs.Given.EffectsDeclared.role.Role.TheVariants as role
+use Rattle.papaya_others.specs.Given.FollowsBlocks.{ShowsBlocks}
+use Rattle.papaya_others.specs.Given.FollowsMaps.{table_of, ShowsMap}
+use Rattle.papaya_others.proofs.Given.FollowsAlike.{put_here, put_elsewhere}
+use Rattle.papaya_others.proofs.Given.FollowsFinds.{chunks_are}
+use Rattle.papaya_others.proofs.Given.FollowsOnward.{IsLasting, KeepsRoles}
+use Rattle.papaya_others.proofs.Given.FollowsOperations.{LeavesBy}
+use Rattle.papaya_others.proofs.Given.FollowsStored.{in_root, still_home}
 use Rattle.papaya_spots.specs.Spots.{ThePair, named_by, spot_in, IsPairOf, ShowsSpots}
 use Rattle.papaya_spots.proofs.Born.{born_move, whole_move}
 use Rattle.papaya_spots.proofs.Copies.{alone, new_lies, new_copied}

@@ -1,8 +1,8 @@
 -- The word of the place at which a pair lies names the pair's block.
 use Rattle.std.specs.Prelude.{◌≡◌, ℕ, ◌+◌, ◌<◌, ◌≤◌, Bool, true, false}
 use Rattle.std.proofs.Common.{◌∙◌, arith}
-use Rattle.papaya_others.specs.Given.Schedules.declared.effect.Spot.{Spot}
-use Rattle.papaya_others.specs.Given.Rule.Chart.{Chart}
+use Rattle.papaya_others.specs.Given.SchedulesDeclared.effect.Spot.{Spot}
+use Rattle.papaya_others.specs.Given.RuleChart.{Chart}
 use Rattle.papaya_spots.specs.Spots.{ThePair, named_by, LiesAt}
 
 -- in either mode a place from the root on names the pair

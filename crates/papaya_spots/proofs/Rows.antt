@@ -1,25 +1,25 @@
 -- A step of a row within a call leaves pairs where they lie: it hands over, or takes away, what has left its map.
 use Rattle.std.specs.Prelude.{◌&&◌, ◌≡◌, ℕ, nat_lt, Bool, true, false, List, [], ◌∷◌, if◌then◌else◌}
 use Rattle.std.proofs.Common.{refl, ap, sym, subst, ◌∙◌}
-use Rattle.papaya_others.specs.Given.Seize.World.{World}
-use Rattle.papaya_others.specs.Given.Tables.declared.node.Node.{Node}
-use Rattle.papaya_others.specs.Given.Schedules.declared.effect.Effect.{Effect}
-use Rattle.papaya_others.specs.Given.Schedules.declared.effect.Effect.TheVariants.{Asked}
-use Rattle.papaya_others.specs.Given.Schedules.declared.effect.Growth.TheVariants.{ABucket}
-use Rattle.papaya_others.specs.Given.Schedules.Moment.{Moment}
-use Rattle.papaya_others.specs.Given.Teller.declared.changed.Changed.{Changed}
-use Rattle.papaya_others.specs.Given.Teller.declared.changed.Changed.TheVariants as changed
-use Rattle.papaya_others.specs.Given.Effects.Effects.{taken_by, effects_of, known_after}
-use Rattle.papaya_others.specs.Given.Effects.Known.{Known}
-use Rattle.papaya_others.specs.Given.Effects.declared.acting.Acting.{Acting}
-use Rattle.papaya_others.specs.Given.Effects.declared.acting.Acting.TheVariants.{Call}
-use Rattle.papaya_others.specs.Given.Effects.declared.role.Role.{Role}
-use Rattle.papaya_others.specs.Given.Effects.declared.role.Role.TheVariants as role
-use Rattle.papaya_others.specs.Given.Follows.Blocks.{ShowsBlocks}
-use Rattle.papaya_others.proofs.Given.Follows.Onward.{IsOfMap}
-use Rattle.papaya_others.proofs.Given.Follows.Operations.{LeavesBy}
-use Rattle.papaya_others.proofs.Given.Follows.Rows.{HandsOn, IsStill, Puts, Retires, RowLeaves, row_written}
-use Rattle.papaya_others.proofs.Given.Follows.Told.{roomed_as_many}
+use Rattle.papaya_others.specs.Given.SeizeWorld.{World}
+use Rattle.papaya_others.specs.Given.TablesDeclared.node.Node.{Node}
+use Rattle.papaya_others.specs.Given.SchedulesDeclared.effect.Effect.{Effect}
+use Rattle.papaya_others.specs.Given.SchedulesDeclared.effect.Effect.TheVariants.{Asked}
+use Rattle.papaya_others.specs.Given.SchedulesDeclared.effect.Growth.TheVariants.{ABucket}
+use Rattle.papaya_others.specs.Given.SchedulesMoment.{Moment}
+use Rattle.papaya_others.specs.Given.TellerDeclared.changed.Changed.{Changed}
+use Rattle.papaya_others.specs.Given.TellerDeclared.changed.Changed.TheVariants as changed
+use Rattle.papaya_others.specs.Given.EffectsEffects.{taken_by, effects_of, known_after}
+use Rattle.papaya_others.specs.Given.EffectsKnown.{Known}
+use Rattle.papaya_others.specs.Given.EffectsDeclared.acting.Acting.{Acting}
+use Rattle.papaya_others.specs.Given.EffectsDeclared.acting.Acting.TheVariants.{Call}
+use Rattle.papaya_others.specs.Given.EffectsDeclared.role.Role.{Role}
+use Rattle.papaya_others.specs.Given.EffectsDeclared.role.Role.TheVariants as role
+use Rattle.papaya_others.specs.Given.FollowsBlocks.{ShowsBlocks}
+use Rattle.papaya_others.proofs.Given.FollowsOnward.{IsOfMap}
+use Rattle.papaya_others.proofs.Given.FollowsOperations.{LeavesBy}
+use Rattle.papaya_others.proofs.Given.FollowsRows.{HandsOn, IsStill, Puts, Retires, RowLeaves, row_written}
+use Rattle.papaya_others.proofs.Given.FollowsTold.{roomed_as_many}
 use Rattle.papaya_spots.proofs.Calm.{put_back}
 use Rattle.papaya_spots.proofs.Effects.{AllAside, calm_aside}
 use Rattle.papaya_spots.proofs.Stays.{WerePairs}

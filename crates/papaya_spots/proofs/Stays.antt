@@ -1,17 +1,17 @@
 -- Pairs lie where they lay, where effects leave them so and no map has changed.
 use Rattle.std.specs.Prelude.{◌≡◌, ℕ, ◌≤◌, List, Option, Some, None}
 use Rattle.std.proofs.Common.{refl, ap, sym, subst, ◌∙◌, arith}
-use Rattle.papaya_others.specs.Given.Tables.Chunks.{is_incremental}
-use Rattle.papaya_others.specs.Given.Schedules.declared.effect.Effect.{Effect}
-use Rattle.papaya_others.specs.Given.Schedules.declared.effect.Spot.{Spot}
-use Rattle.papaya_others.specs.Given.Schedules.declared.effect.Table.{Table}
-use Rattle.papaya_others.specs.Given.Schedules.Effects.{with_effects}
-use Rattle.papaya_others.specs.Given.Schedules.Moment.{Moment}
-use Rattle.papaya_others.specs.Given.Rule.Words.{Blocks}
-use Rattle.papaya_others.specs.Given.Callers.Sights.{Sight, IsPartOf}
-use Rattle.papaya_others.specs.Given.Finishes.Maps.{Standing, IsSameMap}
-use Rattle.papaya_others.specs.Given.Effects.Known.{Known}
-use Rattle.papaya_others.specs.Given.Effects.declared.role.Role.TheVariants as role
+use Rattle.papaya_others.specs.Given.TablesChunks.{is_incremental}
+use Rattle.papaya_others.specs.Given.SchedulesDeclared.effect.Effect.{Effect}
+use Rattle.papaya_others.specs.Given.SchedulesDeclared.effect.Spot.{Spot}
+use Rattle.papaya_others.specs.Given.SchedulesDeclared.effect.Table.{Table}
+use Rattle.papaya_others.specs.Given.SchedulesEffects.{with_effects}
+use Rattle.papaya_others.specs.Given.SchedulesMoment.{Moment}
+use Rattle.papaya_others.specs.Given.RuleWords.{Blocks}
+use Rattle.papaya_others.specs.Given.CallersSights.{Sight, IsPartOf}
+use Rattle.papaya_others.specs.Given.FinishesMaps.{Standing, IsSameMap}
+use Rattle.papaya_others.specs.Given.EffectsKnown.{Known}
+use Rattle.papaya_others.specs.Given.EffectsDeclared.role.Role.TheVariants as role
 use Rattle.papaya_spots.specs.Spots.{LiesAt, IsCopiedTo, IsPairOf, ShowsSpots, ShowsPlaces}
 use Rattle.papaya_spots.proofs.Effects.{AllAside, AreAside, aside_all}
 use Rattle.papaya_spots.proofs.Elsewhere.{stored_grows}

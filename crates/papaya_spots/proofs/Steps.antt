@@ -2,48 +2,48 @@
 use Rattle.std.specs.Prelude.{◌≡◌, ◌≢◌, ℕ, ◌<◌, Bool, true, false, List, Option, Some, length}
 use Rattle.std.proofs.Common.{refl, ap, sym, subst, ◌∙◌, arith, inl, inr}
 use Rattle.std.proofs.lemmas.Bool.{ne_eqb, cases_eq}
-use Rattle.papaya_others.specs.Given.SeizeWords.declared.at.At.{At}
-use Rattle.papaya_others.specs.Given.SeizeWords.Mem.{Mem}
-use Rattle.papaya_others.specs.Given.Seize.World.{World, IsInside, with_at}
-use Rattle.papaya_others.specs.Given.Tables.declared.node.Node.{Node}
-use Rattle.papaya_others.specs.Given.Tables.declared.setting.Setting.{Setting}
-use Rattle.papaya_others.specs.Given.Raw.Machine.{machine_plan}
-use Rattle.papaya_others.specs.Given.Raw.declared.machines.machine.Machine.{Machine}
-use Rattle.papaya_others.specs.Given.Raw.declared.machines.progress.Progress.{Progress}
-use Rattle.papaya_others.specs.Given.Schedules.declared.effect.Effect.{Effect}
-use Rattle.papaya_others.specs.Given.Schedules.Effects.{with_effects, AtEachEffect}
-use Rattle.papaya_others.specs.Given.Schedules.Moment.{Place, Unborn, InMap, Out, Handed, Behind, Left, GivenBack, Moment}
-use Rattle.papaya_others.specs.Given.Schedules.Views.{is_in_map}
-use Rattle.papaya_others.specs.Given.Teller.declared.changed.Changed.{Changed}
-use Rattle.papaya_others.specs.Given.Teller.declared.changed.Changed.TheVariants as changed
-use Rattle.papaya_others.specs.Given.Tells.Seen.{Seen, Unseen, Wrote, seen_of}
-use Rattle.papaya_others.specs.Given.Tells.Tells.{IsTold}
-use Rattle.papaya_others.proofs.Given.Tells.Promised.{operations_tell, still_steps_tell}
-use Rattle.papaya_others.specs.Given.Rule.Chart.{Chart}
-use Rattle.papaya_others.specs.Given.Rule.Words.{Blocks}
-use Rattle.papaya_others.specs.Given.Rule.InWorld.{IsMapIn, Went}
-use Rattle.papaya_others.proofs.Given.Rule.Laws.{current_is_known}
-use Rattle.papaya_others.proofs.Given.Rule.World.WentTold.{went_as}
-use Rattle.papaya_others.specs.Given.Points.Steps.{AreLawful}
-use Rattle.papaya_others.specs.Given.Callers.Sights.{Sight, seen_by, IsGrown, IsSight}
-use Rattle.papaya_others.specs.Given.Callers.Together.{UnderWay, OnKey, ForRoom, Counting, OverAll, in_slot, IsOneStep, Together}
-use Rattle.papaya_others.proofs.Given.Callers.Sights.Seen.{map_seen}
-use Rattle.papaya_others.proofs.Given.Callers.Together.At.{at_other, at_same}
-use Rattle.papaya_others.proofs.Given.Callers.Together.Fits.{map_in_slot}
-use Rattle.papaya_others.specs.Given.Finishes.Machines.{machine_of, MachineStepsAmong}
-use Rattle.papaya_others.specs.Given.Finishes.Maps.{Standing, IsSameMap}
-use Rattle.papaya_others.specs.Given.Effects.Effects.{effects_of, known_after}
-use Rattle.papaya_others.specs.Given.Effects.Known.{Known}
-use Rattle.papaya_others.specs.Given.Effects.declared.acting.Acting.{Acting}
-use Rattle.papaya_others.specs.Given.Effects.declared.acting.Acting.TheVariants.{Call}
-use Rattle.papaya_others.specs.Given.Follows.Maps.{ShowsMap}
-use Rattle.papaya_others.specs.Given.Follows.Shows.{Shows}
-use Rattle.papaya_others.specs.Given.Follows.Steps.{TakesNone, Did, IsOfNoRow}
-use Rattle.papaya_others.proofs.Given.Follows.Nowhere.{names_stay, went_nowhere}
-use Rattle.papaya_others.proofs.Given.Follows.Onward.{IsOfMap}
-use Rattle.papaya_others.proofs.Given.Follows.Operations.{LeavesBy, Operated, operated, operated_leaves, seen_write, told_write}
-use Rattle.papaya_others.proofs.Given.Follows.Rows.{one_step_leaves}
-use Rattle.papaya_others.proofs.Given.Follows.Steps.{one_of}
+use Rattle.papaya_others.specs.Given.SeizeWordsDeclared.at.At.{At}
+use Rattle.papaya_others.specs.Given.SeizeWordsMem.{Mem}
+use Rattle.papaya_others.specs.Given.SeizeWorld.{World, IsInside, with_at}
+use Rattle.papaya_others.specs.Given.TablesDeclared.node.Node.{Node}
+use Rattle.papaya_others.specs.Given.TablesDeclared.setting.Setting.{Setting}
+use Rattle.papaya_others.specs.Given.RawMachine.{machine_plan}
+use Rattle.papaya_others.specs.Given.RawDeclared.machines.machine.Machine.{Machine}
+use Rattle.papaya_others.specs.Given.RawDeclared.machines.progress.Progress.{Progress}
+use Rattle.papaya_others.specs.Given.SchedulesDeclared.effect.Effect.{Effect}
+use Rattle.papaya_others.specs.Given.SchedulesEffects.{with_effects, AtEachEffect}
+use Rattle.papaya_others.specs.Given.SchedulesMoment.{Place, Unborn, InMap, Out, Handed, Behind, Left, GivenBack, Moment}
+use Rattle.papaya_others.specs.Given.SchedulesViews.{is_in_map}
+use Rattle.papaya_others.specs.Given.TellerDeclared.changed.Changed.{Changed}
+use Rattle.papaya_others.specs.Given.TellerDeclared.changed.Changed.TheVariants as changed
+use Rattle.papaya_others.specs.Given.TellsSeen.{Seen, Unseen, Wrote, seen_of}
+use Rattle.papaya_others.specs.Given.TellsTells.{IsTold}
+use Rattle.papaya_others.proofs.Given.TellsPromised.{operations_tell, still_steps_tell}
+use Rattle.papaya_others.specs.Given.RuleChart.{Chart}
+use Rattle.papaya_others.specs.Given.RuleWords.{Blocks}
+use Rattle.papaya_others.specs.Given.RuleInWorld.{IsMapIn, Went}
+use Rattle.papaya_others.proofs.Given.RuleLaws.{current_is_known}
+use Rattle.papaya_others.proofs.Given.RuleWorld.WentTold.{went_as}
+use Rattle.papaya_others.specs.Given.PointsSteps.{AreLawful}
+use Rattle.papaya_others.specs.Given.CallersSights.{Sight, seen_by, IsGrown, IsSight}
+use Rattle.papaya_others.specs.Given.CallersTogether.{UnderWay, OnKey, ForRoom, Counting, OverAll, in_slot, IsOneStep, Together}
+use Rattle.papaya_others.proofs.Given.CallersSights.Seen.{map_seen}
+use Rattle.papaya_others.proofs.Given.CallersTogether.At.{at_other, at_same}
+use Rattle.papaya_others.proofs.Given.CallersTogether.Fits.{map_in_slot}
+use Rattle.papaya_others.specs.Given.FinishesMachines.{machine_of, MachineStepsAmong}
+use Rattle.papaya_others.specs.Given.FinishesMaps.{Standing, IsSameMap}
+use Rattle.papaya_others.specs.Given.EffectsEffects.{effects_of, known_after}
+use Rattle.papaya_others.specs.Given.EffectsKnown.{Known}
+use Rattle.papaya_others.specs.Given.EffectsDeclared.acting.Acting.{Acting}
+use Rattle.papaya_others.specs.Given.EffectsDeclared.acting.Acting.TheVariants.{Call}
+use Rattle.papaya_others.specs.Given.FollowsMaps.{ShowsMap}
+use Rattle.papaya_others.specs.Given.FollowsShows.{Shows}
+use Rattle.papaya_others.specs.Given.FollowsSteps.{TakesNone, Did, IsOfNoRow}
+use Rattle.papaya_others.proofs.Given.FollowsNowhere.{names_stay, went_nowhere}
+use Rattle.papaya_others.proofs.Given.FollowsOnward.{IsOfMap}
+use Rattle.papaya_others.proofs.Given.FollowsOperations.{LeavesBy, Operated, operated, operated_leaves, seen_write, told_write}
+use Rattle.papaya_others.proofs.Given.FollowsRows.{one_step_leaves}
+use Rattle.papaya_others.proofs.Given.FollowsSteps.{one_of}
 use Rattle.papaya_spots.specs.Deferred.{FindsNumbers, CallsLeaveOutside}
 use Rattle.papaya_spots.specs.Placed.{FindPlaces, CallsFindPlaces}
 use Rattle.papaya_spots.specs.Spots.{ShowsSpots, ShowsPlaces}
@@ -62,10 +62,10 @@ use Rattle.papaya_spots.proofs.Own.{own_lies}
 use Rattle.papaya_spots.proofs.Rows.{row_aside}
 use Rattle.papaya_spots.proofs.Shifts.{Shifts, shifted}
 use Rattle.papaya_spots.proofs.Stays.{places_stay}
-use Rattle.papaya_others.proofs.Given.Scenes.May.{may_step}
-use Rattle.papaya_others.specs.Given.Scenes.Held.{Held, IsAt}
-use Rattle.papaya_others.specs.Given.Scenes.Scene.{Scene, slot_of}
-use Rattle.papaya_others.specs.Given.Scenes.Stepping.{StepLeads, StepsFrom, scene_after}
+use Rattle.papaya_others.proofs.Given.ScenesMay.{may_step}
+use Rattle.papaya_others.specs.Given.ScenesHeld.{Held, IsAt}
+use Rattle.papaya_others.specs.Given.ScenesScene.{Scene, slot_of}
+use Rattle.papaya_others.specs.Given.ScenesStepping.{StepLeads, StepsFrom, scene_after}
 
 -- a pair that is in one map is in no other
 in_one_map : (a b : ℕ) (p : Place) → a ≢ b → is_in_map a p ≡ true → is_in_map b p ≡ false

@@ -2,11 +2,11 @@
 use Rattle.std.specs.Prelude.{◌≡◌, ℕ, ◌≤◌, Bool, true, false}
 use Rattle.std.proofs.Common.{refl, ap, sym, ◌∙◌, arith, inl, inr}
 use Rattle.std.proofs.lemmas.Bool.{cases_lt}
-use Rattle.papaya_others.specs.Given.Schedules.declared.effect.Spot.{Spot}
-use Rattle.papaya_others.specs.Given.Rule.Chart.{Still, Holds, Chart}
-use Rattle.papaya_others.specs.Given.Rule.Rule.{IsLawful, Rule}
-use Rattle.papaya_others.specs.Given.Rule.Maps.{spot_of}
-use Rattle.papaya_others.proofs.Given.Rule.Moves.StoodAlone.{alone_there, never_later}
+use Rattle.papaya_others.specs.Given.SchedulesDeclared.effect.Spot.{Spot}
+use Rattle.papaya_others.specs.Given.RuleChart.{Still, Holds, Chart}
+use Rattle.papaya_others.specs.Given.RuleRule.{IsLawful, Rule}
+use Rattle.papaya_others.specs.Given.RuleMaps.{spot_of}
+use Rattle.papaya_others.proofs.Given.RuleMoves.StoodAlone.{alone_there, never_later}
 use Rattle.papaya_spots.specs.Spots.{named_by, spot_in, LiesAt}
 use Rattle.papaya_spots.proofs.Names.{holds_is}
 

@@ -3,16 +3,16 @@ use Rattle.std.specs.Prelude.{◌≡◌, ◌≢◌, ℕ, zero, suc, ◌+◌, ◌
 use Rattle.std.specs.List.{list_any}
 use Rattle.std.proofs.Common.{refl, ap, sym, ◌∙◌, arith, inl, inr}
 use Rattle.std.proofs.lemmas.Bool.{cases_eq, eq-eqb}
-use Rattle.papaya_others.specs.Given.Schedules.declared.effect.Spot.{Spot}
-use Rattle.papaya_others.specs.Given.Schedules.Lists.{numbers_from}
-use Rattle.papaya_others.specs.Given.Schedules.Moment.{Moment}
-use Rattle.papaya_others.specs.Given.Schedules.Things.{same_spot}
-use Rattle.papaya_others.specs.Given.Schedules.Tries.{has_pair_at, is_taken_at}
-use Rattle.papaya_others.specs.Given.Schedules.Views.{is_in_map}
-use Rattle.papaya_others.specs.Given.Finishes.Maps.{Standing}
-use Rattle.papaya_others.specs.Given.Effects.Known.{Known}
-use Rattle.papaya_others.specs.Given.Follows.Maps.{ShowsMap}
-use Rattle.papaya_others.proofs.Given.Follows.Stored.{in_map_true}
+use Rattle.papaya_others.specs.Given.SchedulesDeclared.effect.Spot.{Spot}
+use Rattle.papaya_others.specs.Given.SchedulesLists.{numbers_from}
+use Rattle.papaya_others.specs.Given.SchedulesMoment.{Moment}
+use Rattle.papaya_others.specs.Given.SchedulesThings.{same_spot}
+use Rattle.papaya_others.specs.Given.SchedulesTries.{has_pair_at, is_taken_at}
+use Rattle.papaya_others.specs.Given.SchedulesViews.{is_in_map}
+use Rattle.papaya_others.specs.Given.FinishesMaps.{Standing}
+use Rattle.papaya_others.specs.Given.EffectsKnown.{Known}
+use Rattle.papaya_others.specs.Given.FollowsMaps.{ShowsMap}
+use Rattle.papaya_others.proofs.Given.FollowsStored.{in_map_true}
 use Rattle.papaya_spots.specs.Spots.{ThePair, named_by, spot_in, LiesAt}
 use Rattle.papaya_spots.proofs.Placed.{lies_named}
 use Rattle.papaya_spots.proofs.Unreclaimed.{and_both}

@@ -3,18 +3,18 @@ use Rattle.std.specs.Prelude.{◌≡◌, ◌≢◌, ℕ, ◌+◌, ◌==◌, Bool
 use Rattle.std.specs.List.{list_any}
 use Rattle.std.proofs.Common.{refl, ap, sym, subst, ◌∙◌, arith, inl, inr}
 use Rattle.std.proofs.lemmas.Bool.{eq-eqb, cases_eq}
-use Rattle.papaya_others.specs.Given.Runs.declared.outcome.TableShape.{TableShape}
-use Rattle.papaya_others.specs.Given.Schedules.declared.effect.Table.{Table}
-use Rattle.papaya_others.specs.Given.Schedules.Effects.{at_stage}
-use Rattle.papaya_others.specs.Given.Schedules.Lists.{put}
-use Rattle.papaya_others.specs.Given.Schedules.Moment.{Place, Stage, IsLinked, IsRetired, TableThere, Moment}
-use Rattle.papaya_others.specs.Given.Schedules.Things.{same_table}
-use Rattle.papaya_others.specs.Given.Schedules.Views.{is_there, is_stage}
-use Rattle.papaya_others.specs.Given.Effects.Known.{Known, with_pair, with_role}
-use Rattle.papaya_others.specs.Given.Effects.declared.role.Role.{Role}
-use Rattle.papaya_others.specs.Given.Effects.declared.role.Role.TheVariants as role
-use Rattle.papaya_others.proofs.Given.Follows.Alike.{put_here, put_elsewhere}
-use Rattle.papaya_others.proofs.Given.Follows.Onward.{IsLasting, IsOfMap, KeepsRoles}
+use Rattle.papaya_others.specs.Given.RunsDeclared.outcome.TableShape.{TableShape}
+use Rattle.papaya_others.specs.Given.SchedulesDeclared.effect.Table.{Table}
+use Rattle.papaya_others.specs.Given.SchedulesEffects.{at_stage}
+use Rattle.papaya_others.specs.Given.SchedulesLists.{put}
+use Rattle.papaya_others.specs.Given.SchedulesMoment.{Place, Stage, IsLinked, IsRetired, TableThere, Moment}
+use Rattle.papaya_others.specs.Given.SchedulesThings.{same_table}
+use Rattle.papaya_others.specs.Given.SchedulesViews.{is_there, is_stage}
+use Rattle.papaya_others.specs.Given.EffectsKnown.{Known, with_pair, with_role}
+use Rattle.papaya_others.specs.Given.EffectsDeclared.role.Role.{Role}
+use Rattle.papaya_others.specs.Given.EffectsDeclared.role.Role.TheVariants as role
+use Rattle.papaya_others.proofs.Given.FollowsAlike.{put_here, put_elsewhere}
+use Rattle.papaya_others.proofs.Given.FollowsOnward.{IsLasting, IsOfMap, KeepsRoles}
 use Rattle.papaya_spots.specs.Unreclaimed.{is_unreclaimed, ShowsUnreclaimed}
 
 -- blocks of maps are those that they were, and stay those

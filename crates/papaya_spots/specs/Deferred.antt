@@ -1,22 +1,22 @@
 -- What was put behind tables is in no map, whatever happens to it.
 use Rattle.std.specs.Prelude.{◌≡◌, ℕ, ◌+◌, ◌≤◌, Bool, true, false, List, length, map, Option, Some}
-use Rattle.papaya_others.specs.Given.Raw.declared.machines.progress.Progress.{Progress}
-use Rattle.papaya_others.specs.Given.Tables.declared.node.Node.{Node}
-use Rattle.papaya_others.specs.Given.Schedules.declared.effect.Effect.{Effect}
-use Rattle.papaya_others.specs.Given.Schedules.declared.effect.Effect.TheVariants.{Stored, Deferred}
-use Rattle.papaya_others.specs.Given.Schedules.declared.effect.Table.{Table}
-use Rattle.papaya_others.specs.Given.Schedules.Effects.{with_effects, AtEachEffect}
-use Rattle.papaya_others.specs.Given.Schedules.Lists.{is_among}
-use Rattle.papaya_others.specs.Given.Schedules.Moment.{Moment}
-use Rattle.papaya_others.specs.Given.Schedules.Views.{is_in_a_map, behind}
-use Rattle.papaya_others.specs.Given.Callers.Together.{UnderWay}
-use Rattle.papaya_others.specs.Given.Effects.Effects.{effects_of}
-use Rattle.papaya_others.specs.Given.Effects.Known.{Known}
-use Rattle.papaya_others.specs.Given.Effects.declared.acting.Acting.TheVariants.{Call}
-use Rattle.papaya_others.specs.Given.Follows.Shows.{Shows}
-use Rattle.papaya_others.specs.Given.Scenes.Held.{Held, IsAt}
-use Rattle.papaya_others.specs.Given.Scenes.Scene.{Scene}
-use Rattle.papaya_others.specs.Given.Scenes.Stepping.{StepLeads}
+use Rattle.papaya_others.specs.Given.RawDeclared.machines.progress.Progress.{Progress}
+use Rattle.papaya_others.specs.Given.TablesDeclared.node.Node.{Node}
+use Rattle.papaya_others.specs.Given.SchedulesDeclared.effect.Effect.{Effect}
+use Rattle.papaya_others.specs.Given.SchedulesDeclared.effect.Effect.TheVariants.{Stored, Deferred}
+use Rattle.papaya_others.specs.Given.SchedulesDeclared.effect.Table.{Table}
+use Rattle.papaya_others.specs.Given.SchedulesEffects.{with_effects, AtEachEffect}
+use Rattle.papaya_others.specs.Given.SchedulesLists.{is_among}
+use Rattle.papaya_others.specs.Given.SchedulesMoment.{Moment}
+use Rattle.papaya_others.specs.Given.SchedulesViews.{is_in_a_map, behind}
+use Rattle.papaya_others.specs.Given.CallersTogether.{UnderWay}
+use Rattle.papaya_others.specs.Given.EffectsEffects.{effects_of}
+use Rattle.papaya_others.specs.Given.EffectsKnown.{Known}
+use Rattle.papaya_others.specs.Given.EffectsDeclared.acting.Acting.TheVariants.{Call}
+use Rattle.papaya_others.specs.Given.FollowsShows.{Shows}
+use Rattle.papaya_others.specs.Given.ScenesHeld.{Held, IsAt}
+use Rattle.papaya_others.specs.Given.ScenesScene.{Scene}
+use Rattle.papaya_others.specs.Given.ScenesStepping.{StepLeads}
 
 module _ {K V : Type 0} where
   -- each pair that waits behind some table was stored, and is in no map

@@ -1,20 +1,20 @@
 -- Where pairs lie, and what waits behind tables, after a step of the making of a map.
 use Rattle.std.specs.Prelude.{◌≡◌, ℕ, Bool, List, Option, Some, None}
-use Rattle.papaya_others.specs.Given.Seize.declared.progress.Progress.{Progress}
-use Rattle.papaya_others.specs.Given.Tables.declared.setting.Setting.{Setting}
-use Rattle.papaya_others.specs.Given.Schedules.Effects.{with_effects}
-use Rattle.papaya_others.specs.Given.Schedules.Moment.{Moment}
-use Rattle.papaya_others.specs.Given.Finishes.Makings.{Beginning}
-use Rattle.papaya_others.specs.Given.Effects.Effects.{effects_of, known_after}
-use Rattle.papaya_others.specs.Given.Effects.Known.{Known}
-use Rattle.papaya_others.specs.Given.Effects.declared.acting.Acting.TheVariants.{Making}
-use Rattle.papaya_others.specs.Given.Follows.Shows.{Shows}
+use Rattle.papaya_others.specs.Given.SeizeDeclared.progress.Progress.{Progress}
+use Rattle.papaya_others.specs.Given.TablesDeclared.setting.Setting.{Setting}
+use Rattle.papaya_others.specs.Given.SchedulesEffects.{with_effects}
+use Rattle.papaya_others.specs.Given.SchedulesMoment.{Moment}
+use Rattle.papaya_others.specs.Given.FinishesMakings.{Beginning}
+use Rattle.papaya_others.specs.Given.EffectsEffects.{effects_of, known_after}
+use Rattle.papaya_others.specs.Given.EffectsKnown.{Known}
+use Rattle.papaya_others.specs.Given.EffectsDeclared.acting.Acting.TheVariants.{Making}
+use Rattle.papaya_others.specs.Given.FollowsShows.{Shows}
 use Rattle.papaya_others.specs.Makings.{making_after}
 use Rattle.papaya_spots.specs.Deferred.{WaitOutside}
 use Rattle.papaya_spots.specs.Spots.{ShowsPlaces}
-use Rattle.papaya_others.specs.Given.Scenes.Held.{Held, IsAt}
-use Rattle.papaya_others.specs.Given.Scenes.Making.{MakingLeads}
-use Rattle.papaya_others.specs.Given.Scenes.Scene.{Scene}
+use Rattle.papaya_others.specs.Given.ScenesHeld.{Held, IsAt}
+use Rattle.papaya_others.specs.Given.ScenesMaking.{MakingLeads}
+use Rattle.papaya_others.specs.Given.ScenesScene.{Scene}
 
 module _ (K V : Type 0) (same : K → K → Bool) (hash : ℕ → K → ℕ) where
   -- The promise, on whichever map its effects are told, if on any: pairs lie where they lay, none lies in the map that is made, and what waits behind tables

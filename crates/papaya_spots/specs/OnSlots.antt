@@ -1,27 +1,27 @@
 -- Where pairs lie, which blocks are unreclaimed, and what waits behind tables, after a step of a row on a slot.
 use Rattle.std.specs.Prelude.{◌≡◌, ℕ, Bool, true, List, None}
-use Rattle.papaya_others.specs.Given.Seize.World.{Step}
-use Rattle.papaya_others.specs.Given.Schedules.declared.effect.Effect.{Effect}
-use Rattle.papaya_others.specs.Given.Schedules.declared.effect.Effect.TheVariants.{Reclaimed}
-use Rattle.papaya_others.specs.Given.Schedules.declared.effect.Thing.TheVariants.{ATable}
-use Rattle.papaya_others.specs.Given.Schedules.Effects.{with_effects, AtEachEffect}
-use Rattle.papaya_others.specs.Given.Schedules.Lists.{is_among}
-use Rattle.papaya_others.specs.Given.Schedules.Moment.{Moment}
-use Rattle.papaya_others.specs.Given.Schedules.Views.{behind}
-use Rattle.papaya_others.specs.Given.Tables.declared.node.Node.{Node}
-use Rattle.papaya_others.specs.Given.Effects.Effects.{effects_of, known_after}
-use Rattle.papaya_others.specs.Given.Effects.Known.{Known}
-use Rattle.papaya_others.specs.Given.Effects.declared.acting.Acting.TheVariants.{Row}
-use Rattle.papaya_others.specs.Given.Scenes.declared.row.RowTold.{RowTold}
-use Rattle.papaya_others.specs.Given.Scenes.declared.row.SlotRow.{SlotRow}
-use Rattle.papaya_others.specs.Given.Follows.Shows.{Shows}
+use Rattle.papaya_others.specs.Given.SeizeWorld.{Step}
+use Rattle.papaya_others.specs.Given.SchedulesDeclared.effect.Effect.{Effect}
+use Rattle.papaya_others.specs.Given.SchedulesDeclared.effect.Effect.TheVariants.{Reclaimed}
+use Rattle.papaya_others.specs.Given.SchedulesDeclared.effect.Thing.TheVariants.{ATable}
+use Rattle.papaya_others.specs.Given.SchedulesEffects.{with_effects, AtEachEffect}
+use Rattle.papaya_others.specs.Given.SchedulesLists.{is_among}
+use Rattle.papaya_others.specs.Given.SchedulesMoment.{Moment}
+use Rattle.papaya_others.specs.Given.SchedulesViews.{behind}
+use Rattle.papaya_others.specs.Given.TablesDeclared.node.Node.{Node}
+use Rattle.papaya_others.specs.Given.EffectsEffects.{effects_of, known_after}
+use Rattle.papaya_others.specs.Given.EffectsKnown.{Known}
+use Rattle.papaya_others.specs.Given.EffectsDeclared.acting.Acting.TheVariants.{Row}
+use Rattle.papaya_others.specs.Given.ScenesDeclared.row.RowTold.{RowTold}
+use Rattle.papaya_others.specs.Given.ScenesDeclared.row.SlotRow.{SlotRow}
+use Rattle.papaya_others.specs.Given.FollowsShows.{Shows}
 use Rattle.papaya_others.specs.Rows.{scene_then}
 use Rattle.papaya_spots.specs.Deferred.{WaitOutside}
 use Rattle.papaya_spots.specs.Spots.{ShowsPlaces}
 use Rattle.papaya_spots.specs.Unreclaimed.{is_unreclaimed, ShowsUnreclaimed}
-use Rattle.papaya_others.specs.Given.Scenes.Held.{Held}
-use Rattle.papaya_others.specs.Given.Scenes.OnSlots.{RowLeads}
-use Rattle.papaya_others.specs.Given.Scenes.Scene.{IsOnSlot, Scene}
+use Rattle.papaya_others.specs.Given.ScenesHeld.{Held}
+use Rattle.papaya_others.specs.Given.ScenesOnSlots.{RowLeads}
+use Rattle.papaya_others.specs.Given.ScenesScene.{IsOnSlot, Scene}
 
 -- what waits behind a table that is reclaimed is not reclaimed itself
 abbrev pub WaitUnreclaimed : {K V : Type 0} → Moment K V → Effect → Type 0

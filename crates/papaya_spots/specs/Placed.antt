@@ -1,24 +1,24 @@
 -- What the words of tables say of where pairs lie, and what effects find there.
 use Rattle.std.specs.Prelude.{◌≡◌, ℕ, ◌+◌, ◌<◌, Bool, true, false, List, [], ◌∷◌, Some}
-use Rattle.papaya_others.specs.Given.Tables.declared.node.Node.{Node}
-use Rattle.papaya_others.specs.Given.Raw.declared.machines.progress.Progress.{Progress}
-use Rattle.papaya_others.specs.Given.Schedules.declared.effect.Effect.{Effect}
-use Rattle.papaya_others.specs.Given.Schedules.declared.effect.Effect.TheVariants.{Stored, Replaced, Copied}
-use Rattle.papaya_others.specs.Given.Schedules.Lives.{MayCopy}
-use Rattle.papaya_others.specs.Given.Schedules.Tries.{has_pair_at}
-use Rattle.papaya_others.specs.Given.Schedules.Moment.{Moment}
-use Rattle.papaya_others.specs.Given.Schedules.Things.{same_spot}
-use Rattle.papaya_others.specs.Given.Schedules.Views.{map_at, grows_in_chunks}
-use Rattle.papaya_others.specs.Given.Callers.Together.{UnderWay}
-use Rattle.papaya_others.specs.Given.Effects.Effects.{effects_of}
-use Rattle.papaya_others.specs.Given.Effects.Known.{Known}
-use Rattle.papaya_others.specs.Given.Effects.declared.acting.Acting.TheVariants.{Call}
-use Rattle.papaya_others.specs.Given.Follows.Shows.{Shows}
+use Rattle.papaya_others.specs.Given.TablesDeclared.node.Node.{Node}
+use Rattle.papaya_others.specs.Given.RawDeclared.machines.progress.Progress.{Progress}
+use Rattle.papaya_others.specs.Given.SchedulesDeclared.effect.Effect.{Effect}
+use Rattle.papaya_others.specs.Given.SchedulesDeclared.effect.Effect.TheVariants.{Stored, Replaced, Copied}
+use Rattle.papaya_others.specs.Given.SchedulesLives.{MayCopy}
+use Rattle.papaya_others.specs.Given.SchedulesTries.{has_pair_at}
+use Rattle.papaya_others.specs.Given.SchedulesMoment.{Moment}
+use Rattle.papaya_others.specs.Given.SchedulesThings.{same_spot}
+use Rattle.papaya_others.specs.Given.SchedulesViews.{map_at, grows_in_chunks}
+use Rattle.papaya_others.specs.Given.CallersTogether.{UnderWay}
+use Rattle.papaya_others.specs.Given.EffectsEffects.{effects_of}
+use Rattle.papaya_others.specs.Given.EffectsKnown.{Known}
+use Rattle.papaya_others.specs.Given.EffectsDeclared.acting.Acting.TheVariants.{Call}
+use Rattle.papaya_others.specs.Given.FollowsShows.{Shows}
 use Rattle.papaya_spots.specs.Spots.{ShowsPlaces}
 use Rattle.papaya_spots.specs.Unreclaimed.{ShowsUnreclaimed}
-use Rattle.papaya_others.specs.Given.Scenes.Held.{Held, IsAt}
-use Rattle.papaya_others.specs.Given.Scenes.Scene.{Scene}
-use Rattle.papaya_others.specs.Given.Scenes.Stepping.{StepLeads}
+use Rattle.papaya_others.specs.Given.ScenesHeld.{Held, IsAt}
+use Rattle.papaya_others.specs.Given.ScenesScene.{Scene}
+use Rattle.papaya_others.specs.Given.ScenesStepping.{StepLeads}
 
 module _ {K V : Type 0} (map : ℕ) (m : Moment K V) where
   -- A pair is copied to a table that comes after the one in which it lies. One that is stored takes a place where no pair of the map lies, or that of the

@@ -1,13 +1,13 @@
 -- Where the pairs of maps lie at a moment of a run: where the tables of their maps name them.
 use Rattle.std.specs.Prelude.{◌≡◌, ◌≢◌, ℕ, ◌<◌, ◌≤◌, nat_lt, Bool, true, false, length, Option, Some}
-use Rattle.papaya_others.specs.Given.Tables.Chunks.{is_incremental}
-use Rattle.papaya_others.specs.Given.Tables.declared.status.TheConstants.Status.{ABORTED}
-use Rattle.papaya_others.specs.Given.Schedules.declared.effect.Spot.{Spot}
-use Rattle.papaya_others.specs.Given.Schedules.Moment.{Moment}
-use Rattle.papaya_others.specs.Given.Rule.Chart.{Place, Holds, Chart}
-use Rattle.papaya_others.specs.Given.Finishes.Maps.{Standing}
-use Rattle.papaya_others.specs.Given.Effects.Known.{Known}
-use Rattle.papaya_others.specs.Given.Effects.declared.role.Role.TheVariants as role
+use Rattle.papaya_others.specs.Given.TablesChunks.{is_incremental}
+use Rattle.papaya_others.specs.Given.TablesDeclared.status.TheConstants.Status.{ABORTED}
+use Rattle.papaya_others.specs.Given.SchedulesDeclared.effect.Spot.{Spot}
+use Rattle.papaya_others.specs.Given.SchedulesMoment.{Moment}
+use Rattle.papaya_others.specs.Given.RuleChart.{Place, Holds, Chart}
+use Rattle.papaya_others.specs.Given.FinishesMaps.{Standing}
+use Rattle.papaya_others.specs.Given.EffectsKnown.{Known}
+use Rattle.papaya_others.specs.Given.EffectsDeclared.role.Role.TheVariants as role
 
 -- which pair a place names, if it names one, and whether the pair is borrowed there
 pub data Named : Type 0 where

@@ -1,21 +1,21 @@
 -- How steps lead on from where the pairs of maps lie.
 use Rattle.std.specs.Prelude.{◌≡◌, ℕ, Bool, List, Option, Some}
-use Rattle.papaya_others.specs.Given.Tables.declared.node.Node.{Node}
-use Rattle.papaya_others.specs.Given.Raw.declared.machines.progress.Progress.{Progress}
-use Rattle.papaya_others.specs.Given.Schedules.Effects.{with_effects}
-use Rattle.papaya_others.specs.Given.Schedules.Moment.{UnderWay as CallThere, Moment, start}
-use Rattle.papaya_others.specs.Given.Callers.Together.{UnderWay}
-use Rattle.papaya_others.specs.Given.Finishes.Maps.{Standing}
-use Rattle.papaya_others.specs.Given.Effects.Effects.{effects_of, known_after}
-use Rattle.papaya_others.specs.Given.Effects.Known.{Known, nothing_known}
-use Rattle.papaya_others.specs.Given.Effects.declared.acting.Acting.TheVariants.{Call}
-use Rattle.papaya_others.specs.Given.Follows.Shows.{Shows}
-use Rattle.papaya_others.specs.Given.Follows.Steps.{TakesNone, IsOfNoRow}
+use Rattle.papaya_others.specs.Given.TablesDeclared.node.Node.{Node}
+use Rattle.papaya_others.specs.Given.RawDeclared.machines.progress.Progress.{Progress}
+use Rattle.papaya_others.specs.Given.SchedulesEffects.{with_effects}
+use Rattle.papaya_others.specs.Given.SchedulesMoment.{UnderWay as CallThere, Moment, start}
+use Rattle.papaya_others.specs.Given.CallersTogether.{UnderWay}
+use Rattle.papaya_others.specs.Given.FinishesMaps.{Standing}
+use Rattle.papaya_others.specs.Given.EffectsEffects.{effects_of, known_after}
+use Rattle.papaya_others.specs.Given.EffectsKnown.{Known, nothing_known}
+use Rattle.papaya_others.specs.Given.EffectsDeclared.acting.Acting.TheVariants.{Call}
+use Rattle.papaya_others.specs.Given.FollowsShows.{Shows}
+use Rattle.papaya_others.specs.Given.FollowsSteps.{TakesNone, IsOfNoRow}
 use Rattle.papaya_spots.specs.Spots.{ShowsPlaces}
 use Rattle.papaya_spots.specs.Unreclaimed.{ShowsUnreclaimed}
-use Rattle.papaya_others.specs.Given.Scenes.Held.{Held, IsAt}
-use Rattle.papaya_others.specs.Given.Scenes.Scene.{Scene, at_first}
-use Rattle.papaya_others.specs.Given.Scenes.Stepping.{StepLeads}
+use Rattle.papaya_others.specs.Given.ScenesHeld.{Held, IsAt}
+use Rattle.papaya_others.specs.Given.ScenesScene.{Scene, at_first}
+use Rattle.papaya_others.specs.Given.ScenesStepping.{StepLeads}
 
 -- no pair lies anywhere as a run begins
 abbrev pub PlacesBegin : Type 0 → Type 0 → Type 0

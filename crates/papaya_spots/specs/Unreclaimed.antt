@@ -1,10 +1,10 @@
 -- Which blocks are not reclaimed at a moment of a run: those of the pairs and the tables that were not given back.
 use Rattle.std.specs.Prelude.{◌≡◌, ℕ, Bool, true, false}
-use Rattle.papaya_others.specs.Given.Schedules.declared.effect.Table.{Table}
-use Rattle.papaya_others.specs.Given.Schedules.Moment.{Place, Unborn, GivenBack, Moment}
-use Rattle.papaya_others.specs.Given.Schedules.Views.{is_there, is_stage}
-use Rattle.papaya_others.specs.Given.Effects.Known.{Known}
-use Rattle.papaya_others.specs.Given.Effects.declared.role.Role.TheVariants as role
+use Rattle.papaya_others.specs.Given.SchedulesDeclared.effect.Table.{Table}
+use Rattle.papaya_others.specs.Given.SchedulesMoment.{Place, Unborn, GivenBack, Moment}
+use Rattle.papaya_others.specs.Given.SchedulesViews.{is_there, is_stage}
+use Rattle.papaya_others.specs.Given.EffectsKnown.{Known}
+use Rattle.papaya_others.specs.Given.EffectsDeclared.role.Role.TheVariants as role
 
 -- the pair was stored, and is not reclaimed
 abbrev pub is_unreclaimed : Place → Bool

@@ -3,33 +3,33 @@
 use Rattle.std.specs.Prelude.{◌≡◌, ◌≢◌, ℕ, zero, suc, ◌+◌, ◌*◌, ◌<◌, ◌≤◌, ◌==◌, ◌&&◌, Bool, true, false, cond, Some}
 use Rattle.std.proofs.Common.{refl, sym, subst, ap, ◌∙◌, inl, inr, arith, eqb}
 use Rattle.std.proofs.lemmas.Bool.{cases_eq, ne_eqb}
-use Rattle.papaya_sifts.specs.Given.SeizeWords.Mem.{Mem, Can, Took, value_at, word_at, same_at}
-use Rattle.papaya_sifts.specs.Given.SeizeWords.Plan.{Plan, May, Steps}
-use Rattle.papaya_sifts.specs.Given.SeizeWords.Word.{block_in}
-use Rattle.papaya_sifts.specs.Given.SeizeWords.declared.at.At.{At}
-use Rattle.papaya_sifts.specs.Given.SeizeWords.declared.at.At.TheVariants.{Root, Word}
-use Rattle.papaya_sifts.specs.Given.Seize.World.{World}
-use Rattle.papaya_sifts.specs.Given.Tables.Nodes.{table_seen}
-use Rattle.papaya_sifts.specs.Given.Tables.TablePlaces.{at_place}
-use Rattle.papaya_sifts.specs.Given.Tables.declared.node.Node.{Node}
-use Rattle.papaya_sifts.specs.Given.Tables.declared.node.Node.TheVariants as node
-use Rattle.papaya_sifts.specs.Given.Tables.declared.setting.Setting.{Setting}
-use Rattle.papaya_sifts.specs.Given.Tables.declared.table.Table.{Table}
-use Rattle.papaya_sifts.specs.Given.Tables.declared.table_words.TheConstants.{NEXT, PLACES}
-use Rattle.papaya_sifts.specs.Given.Resize.Dispose.{dispose_plan}
-use Rattle.papaya_sifts.specs.Given.Resize.Dispose as disposes
-use Rattle.papaya_sifts.specs.Given.Resize.declared.dispose.Dispose.{Dispose}
-use Rattle.papaya_sifts.specs.Given.Resize.declared.dispose.Disposing.{Disposing}
-use Rattle.papaya_sifts.specs.Given.Resize.declared.dispose.Disposing.TheVariants as disposal
-use Rattle.papaya_sifts.specs.Given.Rule.Chart.{Chart}
-use Rattle.papaya_sifts.specs.Given.Rule.InWorld.{IsMapIn}
-use Rattle.papaya_sifts.specs.Given.Rule.Maps.{IsTable}
-use Rattle.papaya_sifts.specs.Given.Rule.Words.{Blocks, next_word, root_word}
-use Rattle.papaya_sifts.specs.Given.Points.Told.{IsRowOf}
-use Rattle.papaya_sifts.specs.Given.Shown.Chain.{CountsTables, HasTables, behind, word_or_none}
-use Rattle.papaya_sifts.proofs.Given.Rule.Spared.{PlanSpares, step_spares}
-use Rattle.papaya_sifts.proofs.Given.Rule.Words.BlocksApart.{values_apart}
-use Rattle.papaya_sifts.proofs.Given.Rule.Words.TablesSeen.{block_of_link, place_stands}
+use Rattle.papaya_sifts.specs.Given.SeizeWordsMem.{Mem, Can, Took, value_at, word_at, same_at}
+use Rattle.papaya_sifts.specs.Given.SeizeWordsPlan.{Plan, May, Steps}
+use Rattle.papaya_sifts.specs.Given.SeizeWordsWord.{block_in}
+use Rattle.papaya_sifts.specs.Given.SeizeWordsDeclared.at.At.{At}
+use Rattle.papaya_sifts.specs.Given.SeizeWordsDeclared.at.At.TheVariants.{Root, Word}
+use Rattle.papaya_sifts.specs.Given.SeizeWorld.{World}
+use Rattle.papaya_sifts.specs.Given.TablesNodes.{table_seen}
+use Rattle.papaya_sifts.specs.Given.TablesTablePlaces.{at_place}
+use Rattle.papaya_sifts.specs.Given.TablesDeclared.node.Node.{Node}
+use Rattle.papaya_sifts.specs.Given.TablesDeclared.node.Node.TheVariants as node
+use Rattle.papaya_sifts.specs.Given.TablesDeclared.setting.Setting.{Setting}
+use Rattle.papaya_sifts.specs.Given.TablesDeclared.table.Table.{Table}
+use Rattle.papaya_sifts.specs.Given.TablesDeclared.table_words.TheConstants.{NEXT, PLACES}
+use Rattle.papaya_sifts.specs.Given.ResizeDispose.{dispose_plan}
+use Rattle.papaya_sifts.specs.Given.ResizeDispose as disposes
+use Rattle.papaya_sifts.specs.Given.ResizeDeclared.dispose.Dispose.{Dispose}
+use Rattle.papaya_sifts.specs.Given.ResizeDeclared.dispose.Disposing.{Disposing}
+use Rattle.papaya_sifts.specs.Given.ResizeDeclared.dispose.Disposing.TheVariants as disposal
+use Rattle.papaya_sifts.specs.Given.RuleChart.{Chart}
+use Rattle.papaya_sifts.specs.Given.RuleInWorld.{IsMapIn}
+use Rattle.papaya_sifts.specs.Given.RuleMaps.{IsTable}
+use Rattle.papaya_sifts.specs.Given.RuleWords.{Blocks, next_word, root_word}
+use Rattle.papaya_sifts.specs.Given.PointsTold.{IsRowOf}
+use Rattle.papaya_sifts.specs.Given.ShownChain.{CountsTables, HasTables, behind, word_or_none}
+use Rattle.papaya_sifts.proofs.Given.RuleSpared.{PlanSpares, step_spares}
+use Rattle.papaya_sifts.proofs.Given.RuleWords.BlocksApart.{values_apart}
+use Rattle.papaya_sifts.proofs.Given.RuleWords.TablesSeen.{block_of_link, place_stands}
 use Rattle.papaya_steady.specs.Steady.{HasOneTable}
 
 -- the root leads there, and where it leads to a table, none is behind that

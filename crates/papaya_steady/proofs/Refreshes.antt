@@ -1,31 +1,31 @@
 -- A refresh of the owner's section leaves a map with one table at most.
 use Rattle.std.specs.Prelude.{◌≡◌, ℕ, Bool, false, List, None, Result}
 use Rattle.std.proofs.Common.{refl, sym, ◌∙◌, subst}
-use Rattle.papaya_sifts.specs.Given.SeizeWords.Mem.{Mem, Took, value_at}
-use Rattle.papaya_sifts.specs.Given.SeizeWords.Plan.{Steps}
-use Rattle.papaya_sifts.specs.Given.SeizeWords.declared.fault.Fault.{Fault}
-use Rattle.papaya_sifts.specs.Given.Seize.Leave.{leave_plan, leaving}
-use Rattle.papaya_sifts.specs.Given.Seize.World.{World, Row, Leaves, Steps', left_row, leaves_on}
-use Rattle.papaya_sifts.specs.Given.Seize.declared.progress.Progress.{Progress}
-use Rattle.papaya_sifts.specs.Given.Seize.declared.rows.leave.Leave.{Leave}
-use Rattle.papaya_sifts.specs.Given.Seize.declared.rows.settle.Settled.{Settled}
-use Rattle.papaya_sifts.specs.Given.Seize.declared.rows.settle.Settled.TheVariants as settling
-use Rattle.papaya_sifts.specs.Given.Seize.declared.states.TheConstants.{ACTIVE}
-use Rattle.papaya_sifts.proofs.Given.SeizeRule.Rows.Others.{with_here}
-use Rattle.papaya_sifts.specs.Given.Tables.Nodes.{deferred_word}
-use Rattle.papaya_sifts.specs.Given.Tables.declared.node.Node.{Node}
-use Rattle.papaya_sifts.specs.Given.Tables.declared.setting.Setting.{Setting}
-use Rattle.papaya_sifts.specs.Given.Rule.Words.{Blocks, root_word}
-use Rattle.papaya_sifts.specs.Given.Callers.Sights.{Sight}
-use Rattle.papaya_sifts.specs.Given.Callers.Together.{Together, AllStand}
-use Rattle.papaya_sifts.proofs.Given.Callers.Together.Guards.{guards_stand_together}
-use Rattle.papaya_sifts.proofs.Given.Callers.Together.Rows.{map2}
-use Rattle.papaya_sifts.specs.Given.Owned.Ending.{RunsTo}
-use Rattle.papaya_sifts.specs.Given.Owned.Machines.{refreshes_plan, refreshes_after, refreshes_settled}
-use Rattle.papaya_sifts.specs.Given.Owned.Owned.{Holds}
-use Rattle.papaya_sifts.specs.Given.Owned.declared.machines.Refreshes.{Refreshes}
-use Rattle.papaya_sifts.proofs.Given.Owned.Owned.Refreshes.{begins_refreshing}
-use Rattle.papaya_sifts.proofs.Given.Owned.Runs.Comes.{NextOf, next_turned, run_comes}
+use Rattle.papaya_sifts.specs.Given.SeizeWordsMem.{Mem, Took, value_at}
+use Rattle.papaya_sifts.specs.Given.SeizeWordsPlan.{Steps}
+use Rattle.papaya_sifts.specs.Given.SeizeWordsDeclared.fault.Fault.{Fault}
+use Rattle.papaya_sifts.specs.Given.SeizeLeave.{leave_plan, leaving}
+use Rattle.papaya_sifts.specs.Given.SeizeWorld.{World, Row, Leaves, Steps', left_row, leaves_on}
+use Rattle.papaya_sifts.specs.Given.SeizeDeclared.progress.Progress.{Progress}
+use Rattle.papaya_sifts.specs.Given.SeizeDeclared.rows.leave.Leave.{Leave}
+use Rattle.papaya_sifts.specs.Given.SeizeDeclared.rows.settle.Settled.{Settled}
+use Rattle.papaya_sifts.specs.Given.SeizeDeclared.rows.settle.Settled.TheVariants as settling
+use Rattle.papaya_sifts.specs.Given.SeizeDeclared.states.TheConstants.{ACTIVE}
+use Rattle.papaya_sifts.proofs.Given.SeizeRuleRows.Others.{with_here}
+use Rattle.papaya_sifts.specs.Given.TablesNodes.{deferred_word}
+use Rattle.papaya_sifts.specs.Given.TablesDeclared.node.Node.{Node}
+use Rattle.papaya_sifts.specs.Given.TablesDeclared.setting.Setting.{Setting}
+use Rattle.papaya_sifts.specs.Given.RuleWords.{Blocks, root_word}
+use Rattle.papaya_sifts.specs.Given.CallersSights.{Sight}
+use Rattle.papaya_sifts.specs.Given.CallersTogether.{Together, AllStand}
+use Rattle.papaya_sifts.proofs.Given.CallersTogether.Guards.{guards_stand_together}
+use Rattle.papaya_sifts.proofs.Given.CallersTogether.Rows.{map2}
+use Rattle.papaya_sifts.specs.Given.OwnedEnding.{RunsTo}
+use Rattle.papaya_sifts.specs.Given.OwnedMachines.{refreshes_plan, refreshes_after, refreshes_settled}
+use Rattle.papaya_sifts.specs.Given.OwnedOwned.{Holds}
+use Rattle.papaya_sifts.specs.Given.OwnedDeclared.machines.Refreshes.{Refreshes}
+use Rattle.papaya_sifts.proofs.Given.OwnedOwned.Refreshes.{begins_refreshing}
+use Rattle.papaya_sifts.proofs.Given.OwnedRuns.Comes.{NextOf, next_turned, run_comes}
 use Rattle.papaya_steady.proofs.Ends.{EndsAt, ends_at, ends_on, shows_one}
 use Rattle.papaya_steady.specs.Steady.{HasOneTable, RefreshesKeepOneTable}
 

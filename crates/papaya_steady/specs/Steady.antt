@@ -1,25 +1,25 @@
 -- Changes of one owner's map that are never refused: those that store nothing, while the map has one table at most.
 use Rattle.std.specs.Prelude.{◌≡◌, ℕ, ◌≤◌, ◌⊎◌, Bool, true, false, List, Result, IsOk}
 use denote.Ref.{Bor}
-use Rattle.papaya_sifts.specs.Given.SeizeWords.Mem.{Mem}
-use Rattle.papaya_sifts.specs.Given.SeizeWords.declared.fault.Fault.{Fault}
-use Rattle.papaya_sifts.specs.Given.Seize.Leave.{leaving}
-use Rattle.papaya_sifts.specs.Given.Seize.declared.states.TheConstants.{ACTIVE}
-use Rattle.papaya_sifts.specs.Given.Tables.Nodes.{deferred_word}
-use Rattle.papaya_sifts.specs.Given.Tables.declared.node.Node.{Node}
-use Rattle.papaya_sifts.specs.Given.Tables.declared.setting.Setting.{Setting}
-use Rattle.papaya_sifts.specs.Given.Sweeps.SweepPoints.{removes}
-use Rattle.papaya_sifts.specs.Given.Sweeps.declared.sweep.Purpose.{Purpose}
-use Rattle.papaya_sifts.specs.Given.Callers.Kind.{Kind, removes_if}
-use Rattle.papaya_sifts.specs.Given.Callers.Kind as kinds
-use Rattle.papaya_sifts.specs.Given.Callers.Pairs.{Given, kind_of}
-use Rattle.papaya_sifts.specs.Given.Shown.Chain.{CountsTables, root_link}
-use Rattle.papaya_sifts.specs.Given.Owned.Calling.{HasStopped}
-use Rattle.papaya_sifts.specs.Given.Owned.Ending.{RunsTo}
-use Rattle.papaya_sifts.specs.Given.Owned.Machines.{refreshes_plan}
-use Rattle.papaya_sifts.specs.Given.Owned.Owned.{Holds}
-use Rattle.papaya_sifts.specs.Given.Owned.declared.machines.Refreshes.{Refreshes}
-use Rattle.papaya_sifts.specs.Given.Owned.declared.machines.Stop.{Stop}
+use Rattle.papaya_sifts.specs.Given.SeizeWordsMem.{Mem}
+use Rattle.papaya_sifts.specs.Given.SeizeWordsDeclared.fault.Fault.{Fault}
+use Rattle.papaya_sifts.specs.Given.SeizeLeave.{leaving}
+use Rattle.papaya_sifts.specs.Given.SeizeDeclared.states.TheConstants.{ACTIVE}
+use Rattle.papaya_sifts.specs.Given.TablesNodes.{deferred_word}
+use Rattle.papaya_sifts.specs.Given.TablesDeclared.node.Node.{Node}
+use Rattle.papaya_sifts.specs.Given.TablesDeclared.setting.Setting.{Setting}
+use Rattle.papaya_sifts.specs.Given.SweepsSweepPoints.{removes}
+use Rattle.papaya_sifts.specs.Given.SweepsDeclared.sweep.Purpose.{Purpose}
+use Rattle.papaya_sifts.specs.Given.CallersKind.{Kind, removes_if}
+use Rattle.papaya_sifts.specs.Given.CallersKind as kinds
+use Rattle.papaya_sifts.specs.Given.CallersPairs.{Given, kind_of}
+use Rattle.papaya_sifts.specs.Given.ShownChain.{CountsTables, root_link}
+use Rattle.papaya_sifts.specs.Given.OwnedCalling.{HasStopped}
+use Rattle.papaya_sifts.specs.Given.OwnedEnding.{RunsTo}
+use Rattle.papaya_sifts.specs.Given.OwnedMachines.{refreshes_plan}
+use Rattle.papaya_sifts.specs.Given.OwnedOwned.{Holds}
+use Rattle.papaya_sifts.specs.Given.OwnedDeclared.machines.Refreshes.{Refreshes}
+use Rattle.papaya_sifts.specs.Given.OwnedDeclared.machines.Stop.{Stop}
 use Rattle.papaya_sifts.specs.Sweeping.{HasSwept}
 
 -- The words of a map show one table, or none: behind its first one there is none.

@@ -2,14 +2,14 @@
 use Rattle.std.specs.Prelude.{◌≡◌, ℕ, Bool, true, false, List, [], ◌∷◌, map, Option, Some, if◌then◌else◌}
 use Rattle.std.proofs.Common.{refl, ◌∙◌}
 use Rattle.papaya_runs.specs.Same.{is_same}
-use Rattle.papaya_works.specs.Given.Schedules.declared.call.Call.{Call}
-use Rattle.papaya_works.specs.Given.Schedules.declared.call.Call.TheVariants.{On}
-use Rattle.papaya_works.specs.Given.Schedules.declared.effect.Effect.{Effect}
-use Rattle.papaya_works.specs.Given.Schedules.declared.effect.Effect.TheVariants.{Removed, Stored}
-use Rattle.papaya_works.specs.Given.Schedules.Effects.{call_by, due_for, with_effect, with_effects}
-use Rattle.papaya_works.specs.Given.Schedules.Moment.{UnderWay as CallThere, Moment}
-use Rattle.papaya_works.specs.Given.Named.Seen.{seen}
-use Rattle.papaya_works.proofs.Given.Rows.Lists.{unseen}
+use Rattle.papaya_works.specs.Given.SchedulesDeclared.call.Call.{Call}
+use Rattle.papaya_works.specs.Given.SchedulesDeclared.call.Call.TheVariants.{On}
+use Rattle.papaya_works.specs.Given.SchedulesDeclared.effect.Effect.{Effect}
+use Rattle.papaya_works.specs.Given.SchedulesDeclared.effect.Effect.TheVariants.{Removed, Stored}
+use Rattle.papaya_works.specs.Given.SchedulesEffects.{call_by, due_for, with_effect, with_effects}
+use Rattle.papaya_works.specs.Given.SchedulesMoment.{UnderWay as CallThere, Moment}
+use Rattle.papaya_works.specs.Given.NamedSeen.{seen}
+use Rattle.papaya_works.proofs.Given.RowsLists.{unseen}
 
 module _ {K V : Type 0} where
   due_seen : (call : Call K V) (c : CallThere K V) (old : Option ℕ) (new : ℕ) → seen (due_for call c old new) ≡ seen c

@@ -2,39 +2,39 @@
 use Rattle.std.specs.Prelude.{◌≡◌, ◌+◌, ℕ, Bool, true, false, not, List, filter, find, map, slice_set, Option, Some, if◌then◌else◌}
 use Rattle.std.proofs.Common.{refl, sym, ap, subst, ◌∙◌}
 use Rattle.papaya_runs.specs.Same.{is_same}
-use Rattle.papaya_works.specs.Given.Schedules.declared.call.Call.{Call}
-use Rattle.papaya_works.specs.Given.Schedules.declared.call.Call.TheVariants.{On}
-use Rattle.papaya_works.specs.Given.Schedules.declared.outcome.Outcome.{Outcome}
-use Rattle.papaya_works.specs.Given.Schedules.declared.outcome.Outcome.TheVariants.{Asks, Ready}
-use Rattle.papaya_works.specs.Given.Schedules.After.{asks_on, comes_to}
-use Rattle.papaya_works.specs.Given.Schedules.Entry.{ends_call}
-use Rattle.papaya_works.specs.Given.Schedules.Moment.{Asking, IsReady, Stands, UnderWay as CallThere, Moment}
-use Rattle.papaya_works.specs.Given.Schedules.Terms.{Terms}
-use Rattle.papaya_works.specs.Given.Schedules.Views.{call_of}
+use Rattle.papaya_works.specs.Given.SchedulesDeclared.call.Call.{Call}
+use Rattle.papaya_works.specs.Given.SchedulesDeclared.call.Call.TheVariants.{On}
+use Rattle.papaya_works.specs.Given.SchedulesDeclared.outcome.Outcome.{Outcome}
+use Rattle.papaya_works.specs.Given.SchedulesDeclared.outcome.Outcome.TheVariants.{Asks, Ready}
+use Rattle.papaya_works.specs.Given.SchedulesAfter.{asks_on, comes_to}
+use Rattle.papaya_works.specs.Given.SchedulesEntry.{ends_call}
+use Rattle.papaya_works.specs.Given.SchedulesMoment.{Asking, IsReady, Stands, UnderWay as CallThere, Moment}
+use Rattle.papaya_works.specs.Given.SchedulesTerms.{Terms}
+use Rattle.papaya_works.specs.Given.SchedulesViews.{call_of}
 use Rattle.papaya_lowers.specs.Given.Callers.Together.{UnderWay, OnKey}
 use Rattle.papaya_lowers.specs.Given.Finishes.Maps.{Standing}
-use Rattle.papaya_works.specs.Given.Effects.Known.{known}
-use Rattle.papaya_works.specs.Given.Follows.Calling.{come_to}
-use Rattle.papaya_works.specs.Given.Follows.Calls.{IsCalled}
-use Rattle.papaya_works.proofs.Given.Follows.Calling.{is_same_is}
-use Rattle.papaya_works.specs.Given.Hands.Asked.{AsksThere, IsAskedAs}
-use Rattle.papaya_works.specs.Given.Hands.Calling.{AsksJust}
-use Rattle.papaya_works.proofs.Given.Moments.Calls.{calls_come_to_whole}
-use Rattle.papaya_works.proofs.Given.Kept.Stays.{calls_come_to_kept}
-use Rattle.papaya_works.proofs.Given.Logged.Counted.{counted_calls}
-use Rattle.papaya_works.specs.Given.Scheduler.Played.{StandsFor}
-use Rattle.papaya_works.specs.Given.Named.Seen.{Seen, far_of, is_named, seen, seen_of}
-use Rattle.papaya_works.specs.Given.Named.declared.caller.Caller.{Caller}
-use Rattle.papaya_works.specs.Given.Named.declared.caller.Stands.{Stands as HowFar}
-use Rattle.papaya_works.specs.Given.Named.declared.caller.Stands.TheVariants as far
-use Rattle.papaya_works.specs.Given.Scheduler.declared.scheduler.Scheduler.{Scheduler}
-use Rattle.papaya_works.proofs.Given.Scheduler.Here.{Here}
-use Rattle.papaya_works.proofs.Given.Rows.Lists.{changed_at, set_seen}
-use Rattle.papaya_works.proofs.Given.Scheduler.Replied.{far_asks}
+use Rattle.papaya_works.specs.Given.EffectsKnown.{known}
+use Rattle.papaya_works.specs.Given.FollowsCalling.{come_to}
+use Rattle.papaya_works.specs.Given.FollowsCalls.{IsCalled}
+use Rattle.papaya_works.proofs.Given.FollowsCalling.{is_same_is}
+use Rattle.papaya_works.specs.Given.HandsAsked.{AsksThere, IsAskedAs}
+use Rattle.papaya_works.specs.Given.HandsCalling.{AsksJust}
+use Rattle.papaya_works.proofs.Given.MomentsCalls.{calls_come_to_whole}
+use Rattle.papaya_works.proofs.Given.KeptStays.{calls_come_to_kept}
+use Rattle.papaya_works.proofs.Given.LoggedCounted.{counted_calls}
+use Rattle.papaya_works.specs.Given.SchedulerPlayed.{StandsFor}
+use Rattle.papaya_works.specs.Given.NamedSeen.{Seen, far_of, is_named, seen, seen_of}
+use Rattle.papaya_works.specs.Given.NamedDeclared.caller.Caller.{Caller}
+use Rattle.papaya_works.specs.Given.NamedDeclared.caller.Stands.{Stands as HowFar}
+use Rattle.papaya_works.specs.Given.NamedDeclared.caller.Stands.TheVariants as far
+use Rattle.papaya_works.specs.Given.SchedulerDeclared.scheduler.Scheduler.{Scheduler}
+use Rattle.papaya_works.proofs.Given.SchedulerHere.{Here}
+use Rattle.papaya_works.proofs.Given.RowsLists.{changed_at, set_seen}
+use Rattle.papaya_works.proofs.Given.SchedulerReplied.{far_asks}
 use Rattle.papaya_stepping.proofs.StepSays.{the}
-use Rattle.papaya_works.proofs.Given.Scenes.May.{standing_is}
-use Rattle.papaya_works.specs.Given.Scenes.Scene.{Scene}
-use Rattle.papaya_works.specs.Given.Executor.IsThere.{held_by}
+use Rattle.papaya_works.proofs.Given.ScenesMay.{standing_is}
+use Rattle.papaya_works.specs.Given.ScenesScene.{Scene}
+use Rattle.papaya_works.specs.Given.ExecutorIsThere.{held_by}
 
 pub far_ready : (stand : Stands) → far_of stand ≡ far.Ready → stand ≡ IsReady
 far_ready IsReady e = refl

@@ -3,24 +3,24 @@ use Rattle.std.specs.Prelude.{◌≡◌, ℕ, Bool, List, Option, Some}
 use Rattle.std.proofs.Common.{refl}
 use Rattle.papaya_runs.specs.Given.Tables.declared.node.Node.{Node}
 use Rattle.papaya_lowers.specs.Given.Raw.declared.machines.progress.Progress.{Progress}
-use Rattle.papaya_works.specs.Given.Schedules.declared.call.Call.{Call}
-use Rattle.papaya_works.specs.Given.Schedules.declared.call.Call.TheVariants.{On, Reserve, Clear, Retain, Len, Walk}
-use Rattle.papaya_works.specs.Given.Schedules.Moment.{UnderWay as CallThere, Moment}
-use Rattle.papaya_works.specs.Given.Schedules.Views.{call_of}
+use Rattle.papaya_works.specs.Given.SchedulesDeclared.call.Call.{Call}
+use Rattle.papaya_works.specs.Given.SchedulesDeclared.call.Call.TheVariants.{On, Reserve, Clear, Retain, Len, Walk}
+use Rattle.papaya_works.specs.Given.SchedulesMoment.{UnderWay as CallThere, Moment}
+use Rattle.papaya_works.specs.Given.SchedulesViews.{call_of}
 use Rattle.papaya_lowers.specs.Given.Callers.Together.{UnderWay, OnKey, ForRoom, Counting, OverAll}
 use Rattle.papaya_lowers.specs.Given.Finishes.Machines.{machine_of}
-use Rattle.papaya_works.specs.Given.Effects.Known.{Known}
-use Rattle.papaya_works.specs.Given.Follows.Calls.{IsCalled}
-use Rattle.papaya_works.specs.Given.Moments.Whole.{ShowsWhole}
-use Rattle.papaya_works.specs.Given.Named.Machines.{IsAsFar, RefusedForRoom}
-use Rattle.papaya_works.specs.Given.Named.Seen.{kind_of}
-use Rattle.papaya_works.specs.Given.Named.declared.caller.Stands.TheVariants as far
-use Rattle.papaya_works.specs.Given.Named.declared.kind.Kind.{Kind}
+use Rattle.papaya_works.specs.Given.EffectsKnown.{Known}
+use Rattle.papaya_works.specs.Given.FollowsCalls.{IsCalled}
+use Rattle.papaya_works.specs.Given.MomentsWhole.{ShowsWhole}
+use Rattle.papaya_works.specs.Given.NamedMachines.{IsAsFar, RefusedForRoom}
+use Rattle.papaya_works.specs.Given.NamedSeen.{kind_of}
+use Rattle.papaya_works.specs.Given.NamedDeclared.caller.Stands.TheVariants as far
+use Rattle.papaya_works.specs.Given.NamedDeclared.kind.Kind.{Kind}
 use Rattle.papaya_stepping.proofs.StepSays.{Says, is_called, key_says, room_says, sum_says}
 use Rattle.papaya_stepping.proofs.SweepSteps.{clear_says, retain_says, walk_step_says}
-use Rattle.papaya_works.specs.Given.Scenes.Held.{Held, IsAt}
-use Rattle.papaya_works.specs.Given.Scenes.Scene.{Scene}
-use Rattle.papaya_works.specs.Given.Scenes.Stepping.{StepLeads}
+use Rattle.papaya_works.specs.Given.ScenesHeld.{Held, IsAt}
+use Rattle.papaya_works.specs.Given.ScenesScene.{Scene}
+use Rattle.papaya_works.specs.Given.ScenesStepping.{StepLeads}
 
 module _ {K V : Type 0} (same : K → K → Bool) (hash : ℕ → K → ℕ) (name : ℕ → List ℕ) (m : Moment K V) (known : Known) (s : Scene K V) (old new : Held K V) (at_old : IsAt same hash old s)
     (whole : ShowsWhole same name m known s) (map i : ℕ) (c : CallThere K V) (c_is : call_of (name i) m ≡ Some c) (its : Kind) (its_is : kind_of c.call ≡ its) (value : Option V)

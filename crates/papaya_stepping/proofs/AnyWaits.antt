@@ -24,30 +24,30 @@ use Rattle.papaya_lowers.specs.Given.Raw.declared.machines.progress.Progress.The
 use Rattle.papaya_lowers.specs.Given.Callers.OverAll.{CallOverAll}
 use Rattle.papaya_lowers.specs.Given.Callers.Rooms.{CallForRoom}
 use Rattle.papaya_lowers.specs.Given.Callers.Together.{CallOnKey, UnderWay, OnKey, ForRoom, Counting, OverAll}
-use Rattle.papaya_works.specs.Given.Schedules.declared.effect.Effect.{Effect}
-use Rattle.papaya_works.specs.Given.Schedules.Moment.{UnderWay as CallThere, Moment}
-use Rattle.papaya_works.specs.Given.Schedules.Terms.{Terms}
-use Rattle.papaya_works.specs.Given.Schedules.Views.{call_of}
-use Rattle.papaya_works.specs.Given.Schedules.Waiting.{may_wait_for}
-use Rattle.papaya_works.specs.Given.Effects.Effects.{effects_of}
-use Rattle.papaya_works.specs.Given.Effects.Known.{known}
-use Rattle.papaya_works.specs.Given.Effects.declared.acting.Acting.TheVariants as acts
-use Rattle.papaya_works.specs.Given.Teller.declared.changed.Changed.{Changed}
+use Rattle.papaya_works.specs.Given.SchedulesDeclared.effect.Effect.{Effect}
+use Rattle.papaya_works.specs.Given.SchedulesMoment.{UnderWay as CallThere, Moment}
+use Rattle.papaya_works.specs.Given.SchedulesTerms.{Terms}
+use Rattle.papaya_works.specs.Given.SchedulesViews.{call_of}
+use Rattle.papaya_works.specs.Given.SchedulesWaiting.{may_wait_for}
+use Rattle.papaya_works.specs.Given.EffectsEffects.{effects_of}
+use Rattle.papaya_works.specs.Given.EffectsKnown.{known}
+use Rattle.papaya_works.specs.Given.EffectsDeclared.acting.Acting.TheVariants as acts
+use Rattle.papaya_works.specs.Given.TellerDeclared.changed.Changed.{Changed}
 use Rattle.papaya_lowers.specs.Given.Finishes.Machines.{machine_of}
 use Rattle.papaya_lowers.specs.Given.Finishes.Maps.{Standing}
-use Rattle.papaya_works.specs.Given.Follows.Calls.{IsCalled}
-use Rattle.papaya_works.proofs.Given.Others.Outcomes.{told_in}
-use Rattle.papaya_works.proofs.Given.Owes.Tables.Hosts.{Step}
-use Rattle.papaya_works.specs.Given.Scheduler.Played.{StandsFor}
-use Rattle.papaya_works.specs.Given.Scheduler.declared.scheduler.Scheduler.{Scheduler}
+use Rattle.papaya_works.specs.Given.FollowsCalls.{IsCalled}
+use Rattle.papaya_works.proofs.Given.OthersOutcomes.{told_in}
+use Rattle.papaya_works.proofs.Given.OwesTables.Hosts.{Step}
+use Rattle.papaya_works.specs.Given.SchedulerPlayed.{StandsFor}
+use Rattle.papaya_works.specs.Given.SchedulerDeclared.scheduler.Scheduler.{Scheduler}
 use Rattle.papaya_stepping.proofs.LookSays.{key_waits, never_waits}
 use Rattle.papaya_stepping.proofs.RoomsWait.{SaysWaits, room_says, sweep_says}
 use Rattle.papaya_stepping.proofs.StepSays.{the}
 use Rattle.papaya_stepping.proofs.WaitsFor.{quiet, waits_so}
-use Rattle.papaya_works.proofs.Given.Scenes.May.{standing_is}
-use Rattle.papaya_works.specs.Given.Scenes.Stepping.{StepsFrom}
-use Rattle.papaya_works.specs.Given.Executor.IsThere.{held_by}
-use Rattle.papaya_works.specs.Given.Scenes.Held.{Held}
+use Rattle.papaya_works.proofs.Given.ScenesMay.{standing_is}
+use Rattle.papaya_works.specs.Given.ScenesStepping.{StepsFrom}
+use Rattle.papaya_works.specs.Given.ExecutorIsThere.{held_by}
+use Rattle.papaya_works.specs.Given.ScenesHeld.{Held}
 
 -- what a reservation, or a sweep, says as it waits
 room_waits : {T : Type 0} (x : Outcome T Unit) → of_outcome x ≡ progress.Waits → x ≡ outcome.Waits

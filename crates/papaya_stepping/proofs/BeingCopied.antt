@@ -7,19 +7,19 @@ use Rattle.papaya_lowers.specs.Given.Rule.Chart.{Chart, Copying, Holds}
 use Rattle.papaya_lowers.proofs.Given.Rule.Laws.{current_is_known}
 use Rattle.papaya_lowers.specs.Given.Points.Steps.{AreLawful}
 use Rattle.papaya_lowers.specs.Given.Callers.Together.{Together}
-use Rattle.papaya_works.specs.Given.Schedules.Moment.{Moment}
-use Rattle.papaya_works.specs.Given.Schedules.Terms.{Terms}
-use Rattle.papaya_works.specs.Given.Schedules.Views.{finite_map, first_of}
-use Rattle.papaya_works.specs.Given.Schedules.Waiting.{is_to_be_copied}
-use Rattle.papaya_works.specs.Given.Effects.Known.{known}
+use Rattle.papaya_works.specs.Given.SchedulesMoment.{Moment}
+use Rattle.papaya_works.specs.Given.SchedulesTerms.{Terms}
+use Rattle.papaya_works.specs.Given.SchedulesViews.{finite_map, first_of}
+use Rattle.papaya_works.specs.Given.SchedulesWaiting.{is_to_be_copied}
+use Rattle.papaya_works.specs.Given.EffectsKnown.{known}
 use Rattle.papaya_lowers.specs.Given.Finishes.Maps.{Standing}
-use Rattle.papaya_works.specs.Given.Follows.Maps.{ShowsPairs}
-use Rattle.papaya_works.specs.Given.Histories.Had.{Had, HadJust}
-use Rattle.papaya_works.proofs.Given.Histories.Now.{now_had}
-use Rattle.papaya_works.specs.Given.Scheduler.Played.{StandsFor}
-use Rattle.papaya_works.specs.Given.Scheduler.declared.scheduler.Scheduler.{Scheduler}
+use Rattle.papaya_works.specs.Given.FollowsMaps.{ShowsPairs}
+use Rattle.papaya_works.specs.Given.HistoriesHad.{Had, HadJust}
+use Rattle.papaya_works.proofs.Given.HistoriesNow.{now_had}
+use Rattle.papaya_works.specs.Given.SchedulerPlayed.{StandsFor}
+use Rattle.papaya_works.specs.Given.SchedulerDeclared.scheduler.Scheduler.{Scheduler}
 use Rattle.papaya_stepping.proofs.Waiting.{both_true, chain_longer, first_as}
-use Rattle.papaya_works.specs.Given.Scenes.Scene.{slot_of}
+use Rattle.papaya_works.specs.Given.ScenesScene.{slot_of}
 
 upto : (a b : ℕ) → a ≤ b → nat_le a b ≡ true
 upto a b l = grind (arith, l)

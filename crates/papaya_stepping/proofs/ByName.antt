@@ -1,8 +1,8 @@
 -- The call of a name, and its place.
 use Rattle.std.specs.Prelude.{◌≡◌, ℕ, true, false, List, is_some, slice_get, MatchOption, Option, Some, None}
 use Rattle.std.proofs.Common.{refl, sym, ap, subst, ◌∙◌}
-use Rattle.papaya_works.specs.Given.Named.Roll.{at_place, called}
-use Rattle.papaya_works.specs.Given.Named.declared.caller.Caller.{Caller}
+use Rattle.papaya_works.specs.Given.NamedRoll.{at_place, called}
+use Rattle.papaya_works.specs.Given.NamedDeclared.caller.Caller.{Caller}
 use Rattle.papaya_stepping.specs.Stepping.{HasCaller, IsCaller, IsPlaced}
 use Rattle.papaya_stepping.proofs.StepSays.{the}
 

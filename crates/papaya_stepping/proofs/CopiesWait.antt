@@ -3,7 +3,7 @@ use Rattle.std.specs.Prelude.{◌*◌, ◌∷◌, is_some, Option, Some, None}
 use Rattle.std.specs.List.{list_any}
 use Rattle.std.proofs.Common.{◌≡◌, ◌≢◌, ℕ, suc, ◌<◌, ◌⊎◌, inl, inr, Bool, true, false, refl, ap, sym, subst, ◌∙◌, arith}
 use Rattle.papaya_lowers.specs.Given.Waits.Others.{EndsAt, copier_in, copier_in_room, copier_in_sweep, copier_of}
-use Rattle.papaya_works.proofs.Given.Waiters.Stands.{copier_knows as knows_at_once}
+use Rattle.papaya_works.proofs.Given.WaitersStands.{copier_knows as knows_at_once}
 use Rattle.papaya_runs.specs.Given.SeizeWords.Word.{block_in}
 use Rattle.papaya_runs.specs.Given.Seize.World.{World, IsInside}
 use Rattle.papaya_lowers.proofs.Given.SeizeRule.Words.There.{live_pos}
@@ -39,28 +39,28 @@ use Rattle.papaya_lowers.specs.Given.Callers.Sights.{IsSight, seen_by}
 use Rattle.papaya_lowers.specs.Given.Callers.Together.{CallOnKey, UnderWay, UnlessCounts, OnKey, ForRoom, Counting, OverAll, Together, in_slot}
 use Rattle.papaya_lowers.proofs.Given.Waits.Awaited.{HasOther}
 use Rattle.papaya_lowers.proofs.Given.Waits.Claimed.{chosen}
-use Rattle.papaya_works.specs.Given.Schedules.Moment.{UnderWay as CallThere, Moment}
-use Rattle.papaya_works.specs.Given.Schedules.Terms.{Terms}
-use Rattle.papaya_works.specs.Given.Schedules.Views.{call_of}
-use Rattle.papaya_works.specs.Given.Schedules.Waiting.{may_wait_for}
-use Rattle.papaya_works.specs.Given.Effects.Known.{Known, known}
-use Rattle.papaya_works.specs.Given.Effects.declared.role.Role.{Role}
-use Rattle.papaya_works.specs.Given.Effects.declared.role.Role.TheVariants as role
+use Rattle.papaya_works.specs.Given.SchedulesMoment.{UnderWay as CallThere, Moment}
+use Rattle.papaya_works.specs.Given.SchedulesTerms.{Terms}
+use Rattle.papaya_works.specs.Given.SchedulesViews.{call_of}
+use Rattle.papaya_works.specs.Given.SchedulesWaiting.{may_wait_for}
+use Rattle.papaya_works.specs.Given.EffectsKnown.{Known, known}
+use Rattle.papaya_works.specs.Given.EffectsDeclared.role.Role.{Role}
+use Rattle.papaya_works.specs.Given.EffectsDeclared.role.Role.TheVariants as role
 use Rattle.papaya_lowers.specs.Given.Finishes.Machines.{machine_of}
 use Rattle.papaya_lowers.specs.Given.Finishes.Maps.{Standing}
-use Rattle.papaya_works.specs.Given.Follows.Blocks.{HasRole}
-use Rattle.papaya_works.specs.Given.Follows.Calls.{IsCalled}
-use Rattle.papaya_works.specs.Given.Follows.Maps.{table_of}
-use Rattle.papaya_works.specs.Given.Owes.Looking.{IsLooking}
-use Rattle.papaya_works.specs.Given.Settles.Hand.{in_hand, in_hand_of_call, in_hand_of_room, in_hand_of_sweep, tables_in_hand}
-use Rattle.papaya_works.proofs.Given.Settles.Passed.{numbered, passed_first, tables_named}
-use Rattle.papaya_works.specs.Given.Schedules.Effects.{passed}
-use Rattle.papaya_works.specs.Given.Scheduler.Played.{StandsFor}
-use Rattle.papaya_works.specs.Given.Scheduler.declared.scheduler.Scheduler.{Scheduler}
+use Rattle.papaya_works.specs.Given.FollowsBlocks.{HasRole}
+use Rattle.papaya_works.specs.Given.FollowsCalls.{IsCalled}
+use Rattle.papaya_works.specs.Given.FollowsMaps.{table_of}
+use Rattle.papaya_works.specs.Given.OwesLooking.{IsLooking}
+use Rattle.papaya_works.specs.Given.SettlesHand.{in_hand, in_hand_of_call, in_hand_of_room, in_hand_of_sweep, tables_in_hand}
+use Rattle.papaya_works.proofs.Given.SettlesPassed.{numbered, passed_first, tables_named}
+use Rattle.papaya_works.specs.Given.SchedulesEffects.{passed}
+use Rattle.papaya_works.specs.Given.SchedulerPlayed.{StandsFor}
+use Rattle.papaya_works.specs.Given.SchedulerDeclared.scheduler.Scheduler.{Scheduler}
 use Rattle.papaya_stepping.proofs.StepSays.{the}
 use Rattle.papaya_stepping.proofs.Waiting.{IsForResizes, owing_hands, waits_for_copier, waits_for_handing}
 use Rattle.papaya_lowers.proofs.Given.Waits.Works.{OnlyLooks, works}
-use Rattle.papaya_works.specs.Given.Scenes.Scene.{slot_of}
+use Rattle.papaya_works.specs.Given.ScenesScene.{slot_of}
 
 -- the row of a call that copies is its copier's
 key_row : (stands : Calling) (q : Copier) → copier_in stands ≡ Some q → IsRowOfCall stands → IsRowOfCopier q.stands

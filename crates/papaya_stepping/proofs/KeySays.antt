@@ -5,16 +5,16 @@ use Rattle.papaya_runs.specs.Given.SeizeWords.declared.fault.Fault.{Fault}
 use Rattle.papaya_runs.specs.Given.SeizeWords.declared.fault.Fault.TheVariants.{Capacity, Memory, RemoveNothing}
 use Rattle.papaya_lowers.specs.Given.Raw.declared.machines.asking.Asking.{Asking}
 use Rattle.papaya_lowers.specs.Given.Raw.declared.machines.asking.Asking.TheVariants as asking
-use Rattle.papaya_works.specs.Given.Schedules.declared.call.Call.TheVariants.{On}
-use Rattle.papaya_works.specs.Given.Schedules.Coming.{asks_of_key, is_compute}
-use Rattle.papaya_works.specs.Given.Schedules.declared.call.OneKey.{OneKey}
-use Rattle.papaya_works.specs.Given.Schedules.declared.call.OneKey.TheVariants.{Get, GetKeyValue, ContainsKey, Insert, TryInsert, TryInsertWith, GetOrInsert, GetOrInsertWith, Update, UpdateOrInsert, UpdateOrInsertWith, Compute, Remove, RemoveEntry, RemoveIf}
+use Rattle.papaya_works.specs.Given.SchedulesDeclared.call.Call.TheVariants.{On}
+use Rattle.papaya_works.specs.Given.SchedulesComing.{asks_of_key, is_compute}
+use Rattle.papaya_works.specs.Given.SchedulesDeclared.call.OneKey.{OneKey}
+use Rattle.papaya_works.specs.Given.SchedulesDeclared.call.OneKey.TheVariants.{Get, GetKeyValue, ContainsKey, Insert, TryInsert, TryInsertWith, GetOrInsert, GetOrInsertWith, Update, UpdateOrInsert, UpdateOrInsertWith, Compute, Remove, RemoveEntry, RemoveIf}
 use Rattle.papaya_lowers.specs.Given.Late.Faults.{IsRoom}
 use Rattle.papaya_lowers.specs.Given.Late.Kinds.{FaultFits, FitsAsking}
 use Rattle.papaya_lowers.specs.Given.Callers.Asked.{Asked}
 use Rattle.papaya_lowers.specs.Given.Callers.Pairs.{kind_of}
-use Rattle.papaya_works.specs.Given.Effects.Known.{Known}
-use Rattle.papaya_works.specs.Given.Hands.Asked.{IsQuestion, given_by}
+use Rattle.papaya_works.specs.Given.EffectsKnown.{Known}
+use Rattle.papaya_works.specs.Given.HandsAsked.{IsQuestion, given_by}
 use Rattle.papaya_stepping.specs.Stepping.{IsFaultOn}
 
 module _ {K V : Type 0} where

@@ -26,13 +26,13 @@ use Rattle.papaya_lowers.specs.Given.Raw.declared.machines.progress.Progress.{Pr
 use Rattle.papaya_lowers.specs.Given.Raw.declared.machines.progress.Progress.TheVariants as progress
 use Rattle.papaya_lowers.proofs.Given.Rule.Keys.Always.{always_steps}
 use Rattle.papaya_lowers.specs.Given.Late.Kinds.{LooksAt}
-use Rattle.papaya_works.specs.Given.Teller.declared.changed.Changed.TheVariants.{Nothing}
+use Rattle.papaya_works.specs.Given.TellerDeclared.changed.Changed.TheVariants.{Nothing}
 use Rattle.papaya_lowers.proofs.Given.Waits.Laws.{lookups_never_wait}
 use Rattle.papaya_lowers.proofs.Given.Waits.Never.{Advances, sum_goes}
-use Rattle.papaya_works.specs.Given.Owes.Looking.{IsLooking}
-use Rattle.papaya_works.proofs.Given.Scenes.Told.{as_step}
-use Rattle.papaya_works.specs.Given.Scenes.Held.{Held}
-use Rattle.papaya_works.specs.Given.Scenes.Stepping.{StepsFrom}
+use Rattle.papaya_works.specs.Given.OwesLooking.{IsLooking}
+use Rattle.papaya_works.proofs.Given.ScenesTold.{as_step}
+use Rattle.papaya_works.specs.Given.ScenesHeld.{Held}
+use Rattle.papaya_works.specs.Given.ScenesStepping.{StepsFrom}
 
 abbrev SumOn : Sum × Counted ℕ → Type 0
 SumOn end = Advances end

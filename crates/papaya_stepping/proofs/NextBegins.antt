@@ -12,34 +12,34 @@ use Rattle.papaya_lowers.specs.Given.Sweeps.declared.sweep.Sweeping.TheVariants 
 use Rattle.papaya_lowers.specs.Given.Raw.Machine.{is_ready as sweep_is_ready, machine_asked}
 use Rattle.papaya_lowers.specs.Given.Raw.declared.machines.machine.Machine.TheVariants as kinds
 use Rattle.papaya_runs.specs.Same.{is_same}
-use Rattle.papaya_works.specs.Given.Schedules.Moment.{Moment}
-use Rattle.papaya_works.specs.Given.Schedules.Terms.{Terms}
+use Rattle.papaya_works.specs.Given.SchedulesMoment.{Moment}
+use Rattle.papaya_works.specs.Given.SchedulesTerms.{Terms}
 use Rattle.papaya_lowers.specs.Given.Callers.Together.{UnderWay, OnKey, ForRoom, Counting, OverAll}
 use Rattle.papaya_lowers.proofs.Given.Callers.Together.At.{at_other, at_same}
 use Rattle.papaya_lowers.specs.Given.Finishes.Machines.{machine_of}
 use Rattle.papaya_lowers.specs.Given.Finishes.Maps.{Standing}
-use Rattle.papaya_works.proofs.Given.Follows.Calling.{is_same_refl}
-use Rattle.papaya_works.specs.Given.Logged.Calling.{WalkGoesOn}
-use Rattle.papaya_works.specs.Given.Logged.Shown.{IsShown}
-use Rattle.papaya_works.specs.Given.Logged.declared.logged.Logged.{Logged}
-use Rattle.papaya_works.specs.Given.Named.Machines.{IsAsFar, IsFor}
-use Rattle.papaya_works.specs.Given.Scheduler.Played.{IsUnderWay, IsUnderWayAs, StandsAs, StandsFor}
-use Rattle.papaya_works.specs.Given.Named.Seen.{is_named}
+use Rattle.papaya_works.proofs.Given.FollowsCalling.{is_same_refl}
+use Rattle.papaya_works.specs.Given.LoggedCalling.{WalkGoesOn}
+use Rattle.papaya_works.specs.Given.LoggedShown.{IsShown}
+use Rattle.papaya_works.specs.Given.LoggedDeclared.logged.Logged.{Logged}
+use Rattle.papaya_works.specs.Given.NamedMachines.{IsAsFar, IsFor}
+use Rattle.papaya_works.specs.Given.SchedulerPlayed.{IsUnderWay, IsUnderWayAs, StandsAs, StandsFor}
+use Rattle.papaya_works.specs.Given.NamedSeen.{is_named}
 use Rattle.papaya_stepping.specs.Stepping.{IsWalking, WalksFar}
-use Rattle.papaya_works.specs.Given.Named.declared.caller.Caller.{Caller}
-use Rattle.papaya_works.specs.Given.Named.declared.caller.Stands.{Stands as HowFar}
-use Rattle.papaya_works.specs.Given.Named.declared.caller.Stands.TheVariants as far
-use Rattle.papaya_works.specs.Given.Named.declared.kind.Kind.{Kind}
-use Rattle.papaya_works.specs.Given.Named.declared.kind.Kind.TheVariants as kind
-use Rattle.papaya_works.specs.Given.Scheduler.declared.scheduler.Scheduler.{Scheduler}
-use Rattle.papaya_works.proofs.Given.Rows.Facts.{no_ending_of, no_making_of, no_work_at, row_rests, used_still}
-use Rattle.papaya_works.proofs.Given.Scheduler.Here.{Here}
-use Rattle.papaya_works.proofs.Given.Rows.Lists.{set_all, set_itself}
+use Rattle.papaya_works.specs.Given.NamedDeclared.caller.Caller.{Caller}
+use Rattle.papaya_works.specs.Given.NamedDeclared.caller.Stands.{Stands as HowFar}
+use Rattle.papaya_works.specs.Given.NamedDeclared.caller.Stands.TheVariants as far
+use Rattle.papaya_works.specs.Given.NamedDeclared.kind.Kind.{Kind}
+use Rattle.papaya_works.specs.Given.NamedDeclared.kind.Kind.TheVariants as kind
+use Rattle.papaya_works.specs.Given.SchedulerDeclared.scheduler.Scheduler.{Scheduler}
+use Rattle.papaya_works.proofs.Given.RowsFacts.{no_ending_of, no_making_of, no_work_at, row_rests, used_still}
+use Rattle.papaya_works.proofs.Given.SchedulerHere.{Here}
+use Rattle.papaya_works.proofs.Given.RowsLists.{set_all, set_itself}
 use Rattle.papaya_stepping.proofs.SweepSteps.{walks_at}
-use Rattle.papaya_works.proofs.Given.Scenes.May.{standing_is}
-use Rattle.papaya_works.specs.Given.Executor.IsThere.{held_by, work_of}
-use Rattle.papaya_works.specs.Given.Scenes.Replying.{scene_with}
-use Rattle.papaya_works.specs.Given.Scenes.Scene.{HasCall, Scene}
+use Rattle.papaya_works.proofs.Given.ScenesMay.{standing_is}
+use Rattle.papaya_works.specs.Given.ExecutorIsThere.{held_by, work_of}
+use Rattle.papaya_works.specs.Given.ScenesReplying.{scene_with}
+use Rattle.papaya_works.specs.Given.ScenesScene.{HasCall, Scene}
 
 -- a call that walks is of the kind of walks
 pub kind_walks : (its : Kind) (purpose : Purpose) → IsFor its purpose → purpose ≡ Walks → its ≡ kind.Walks

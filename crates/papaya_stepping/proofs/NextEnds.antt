@@ -12,46 +12,46 @@ use Rattle.papaya_lowers.specs.Given.Raw.declared.machines.progress.Answer.TheVa
 use Rattle.papaya_lowers.specs.Given.Raw.declared.machines.progress.Progress.{Progress}
 use Rattle.papaya_lowers.specs.Given.Raw.declared.machines.progress.Progress.TheVariants as progress
 use Rattle.papaya_runs.specs.Same.{is_same}
-use Rattle.papaya_works.specs.Given.Schedules.declared.call.Answer.TheVariants.{Absent}
-use Rattle.papaya_works.specs.Given.Schedules.declared.effect.Effect.{Effect}
-use Rattle.papaya_works.specs.Given.Schedules.declared.event.Event.TheVariants.{Next}
-use Rattle.papaya_works.specs.Given.Schedules.declared.outcome.Outcome.{Outcome}
-use Rattle.papaya_works.specs.Given.Schedules.declared.outcome.Outcome.TheVariants.{Answered, Refused, Shows}
-use Rattle.papaya_works.specs.Given.Schedules.After.{comes_to, is_alone_on, moment, slots_on}
-use Rattle.papaya_works.specs.Given.Schedules.Coming.{shows_now}
-use Rattle.papaya_works.specs.Given.Schedules.Effects.{with_effects}
-use Rattle.papaya_works.specs.Given.Schedules.Entry.{Entry}
-use Rattle.papaya_works.specs.Given.Schedules.InTurn.{IsNext}
-use Rattle.papaya_works.specs.Given.Schedules.Moment.{Stands, UnderWay as CallThere, Moment}
-use Rattle.papaya_works.specs.Given.Schedules.Steps.{MakesSteps, stands_or, weight}
-use Rattle.papaya_works.specs.Given.Schedules.Terms.{Terms}
-use Rattle.papaya_works.specs.Given.Schedules.Views.{call_of}
+use Rattle.papaya_works.specs.Given.SchedulesDeclared.call.Answer.TheVariants.{Absent}
+use Rattle.papaya_works.specs.Given.SchedulesDeclared.effect.Effect.{Effect}
+use Rattle.papaya_works.specs.Given.SchedulesDeclared.event.Event.TheVariants.{Next}
+use Rattle.papaya_works.specs.Given.SchedulesDeclared.outcome.Outcome.{Outcome}
+use Rattle.papaya_works.specs.Given.SchedulesDeclared.outcome.Outcome.TheVariants.{Answered, Refused, Shows}
+use Rattle.papaya_works.specs.Given.SchedulesAfter.{comes_to, is_alone_on, moment, slots_on}
+use Rattle.papaya_works.specs.Given.SchedulesComing.{shows_now}
+use Rattle.papaya_works.specs.Given.SchedulesEffects.{with_effects}
+use Rattle.papaya_works.specs.Given.SchedulesEntry.{Entry}
+use Rattle.papaya_works.specs.Given.SchedulesInTurn.{IsNext}
+use Rattle.papaya_works.specs.Given.SchedulesMoment.{Stands, UnderWay as CallThere, Moment}
+use Rattle.papaya_works.specs.Given.SchedulesSteps.{MakesSteps, stands_or, weight}
+use Rattle.papaya_works.specs.Given.SchedulesTerms.{Terms}
+use Rattle.papaya_works.specs.Given.SchedulesViews.{call_of}
 use Rattle.papaya_lowers.specs.Given.Late.Faults.{RoomInSweeping}
 use Rattle.papaya_lowers.specs.Given.Callers.Together.{UnderWay}
-use Rattle.papaya_works.specs.Given.Effects.Known.{Known, known}
+use Rattle.papaya_works.specs.Given.EffectsKnown.{Known, known}
 use Rattle.papaya_lowers.specs.Given.Finishes.Machines.{machine_of}
-use Rattle.papaya_works.specs.Given.Follows.Calling.{come_to}
-use Rattle.papaya_works.specs.Given.Logged.Calling.{CallGoesOn, WalkGoesOn, step_did}
-use Rattle.papaya_works.specs.Given.Logged.Shown.{IsShown}
-use Rattle.papaya_works.specs.Given.Logged.declared.logged.Logged.{Logged}
-use Rattle.papaya_works.proofs.Given.Kept.Stays.{calls_come_to_kept}
-use Rattle.papaya_works.proofs.Given.Moments.Calls.{calls_come_to_whole}
-use Rattle.papaya_works.proofs.Given.Remains.Stays.{remains_stay}
-use Rattle.papaya_works.proofs.Given.Logged.Counted.{counted_calls}
-use Rattle.papaya_works.specs.Given.Named.Machines.{IsFor}
-use Rattle.papaya_works.specs.Given.Scheduler.Played.{AsFar, IsDue, StandsAs, StandsFor}
-use Rattle.papaya_works.specs.Given.Named.Seen.{Seen, is_named, is_ready as is_ready_there, ready_place, seen, seen_of}
-use Rattle.papaya_works.specs.Given.Scheduler.Quiet.{IsQuiet}
+use Rattle.papaya_works.specs.Given.FollowsCalling.{come_to}
+use Rattle.papaya_works.specs.Given.LoggedCalling.{CallGoesOn, WalkGoesOn, step_did}
+use Rattle.papaya_works.specs.Given.LoggedShown.{IsShown}
+use Rattle.papaya_works.specs.Given.LoggedDeclared.logged.Logged.{Logged}
+use Rattle.papaya_works.proofs.Given.KeptStays.{calls_come_to_kept}
+use Rattle.papaya_works.proofs.Given.MomentsCalls.{calls_come_to_whole}
+use Rattle.papaya_works.proofs.Given.RemainsStays.{remains_stay}
+use Rattle.papaya_works.proofs.Given.LoggedCounted.{counted_calls}
+use Rattle.papaya_works.specs.Given.NamedMachines.{IsFor}
+use Rattle.papaya_works.specs.Given.SchedulerPlayed.{AsFar, IsDue, StandsAs, StandsFor}
+use Rattle.papaya_works.specs.Given.NamedSeen.{Seen, is_named, is_ready as is_ready_there, ready_place, seen, seen_of}
+use Rattle.papaya_works.specs.Given.SchedulerQuiet.{IsQuiet}
 use Rattle.papaya_stepping.specs.Stepping.{IsMidWalk, IsPlaced, IsStepOf, PlaysNext, ReadyAt, WalkComes, WalksFar, callers_then, outcome_of}
-use Rattle.papaya_works.specs.Given.Named.Telling.{answer_of, number_by, swept}
-use Rattle.papaya_works.specs.Given.Named.declared.caller.Caller.{Caller}
-use Rattle.papaya_works.specs.Given.Named.declared.caller.Stands.{Stands as HowFar}
-use Rattle.papaya_works.specs.Given.Named.declared.caller.Stands.TheVariants as far
-use Rattle.papaya_works.specs.Given.Named.declared.kind.Kind.{Kind}
-use Rattle.papaya_works.specs.Given.Scheduler.declared.scheduler.Scheduler.{Scheduler}
+use Rattle.papaya_works.specs.Given.NamedTelling.{answer_of, number_by, swept}
+use Rattle.papaya_works.specs.Given.NamedDeclared.caller.Caller.{Caller}
+use Rattle.papaya_works.specs.Given.NamedDeclared.caller.Stands.{Stands as HowFar}
+use Rattle.papaya_works.specs.Given.NamedDeclared.caller.Stands.TheVariants as far
+use Rattle.papaya_works.specs.Given.NamedDeclared.kind.Kind.{Kind}
+use Rattle.papaya_works.specs.Given.SchedulerDeclared.scheduler.Scheduler.{Scheduler}
 use Rattle.papaya_stepping.proofs.AfterEffects.{closed_stays, mapped_stays}
-use Rattle.papaya_works.proofs.Given.Scheduler.Here.{Here, HereAs, here_at}
-use Rattle.papaya_works.proofs.Given.Rows.Lists.{changed_at, removed_at}
+use Rattle.papaya_works.proofs.Given.SchedulerHere.{Here, HereAs, here_at}
+use Rattle.papaya_works.proofs.Given.RowsLists.{changed_at, removed_at}
 use Rattle.papaya_stepping.proofs.NextBegins.{has_walk, walk_begins}
 use Rattle.papaya_stepping.proofs.NextOn.{alike, all_did, follows_all, goes_as_said, here, idle_all, is_ready, its_place, its_sweep, its_walk, leads_is, last_did, midst_w, saying, shown, then_at, then_next, under_way}
 use Rattle.papaya_stepping.proofs.NextSays.{NextSays}
@@ -59,12 +59,12 @@ use Rattle.papaya_stepping.proofs.OneStep.{over_next}
 use Rattle.papaya_stepping.proofs.PlaysAgain.{busy_stands}
 use Rattle.papaya_stepping.proofs.PlaysSteps.{stands_elsewhere}
 use Rattle.papaya_stepping.proofs.RightSteps.{waits_never}
-use Rattle.papaya_works.proofs.Given.Scheduler.RanOn.{maps_named, there_stays}
-use Rattle.papaya_works.proofs.Given.Scheduler.Rights.{entry, in_turn, out_of_turn, plays, quiet}
+use Rattle.papaya_works.proofs.Given.SchedulerRanOn.{maps_named, there_stays}
+use Rattle.papaya_works.proofs.Given.SchedulerRights.{entry, in_turn, out_of_turn, plays, quiet}
 use Rattle.papaya_stepping.proofs.StepSays.{asks_nothing, the}
 use Rattle.papaya_stepping.proofs.SteppedTo.{going_on, has_gone, none_named}
-use Rattle.papaya_works.proofs.Given.Scheduler.Stopped.{ready_parts, shows_by, shows_is}
-use Rattle.papaya_works.specs.Given.Scenes.Scene.{HasCall}
+use Rattle.papaya_works.proofs.Given.SchedulerStopped.{ready_parts, shows_by, shows_is}
+use Rattle.papaya_works.specs.Given.ScenesScene.{HasCall}
 
 module _ {K V S : Type 0} (same : K → K → Bool) (hash : K → ℕ) (terms : Terms) (own : List ℕ) (n : ℕ) (w : Moment K V) (p : Scheduler K V S) (stands : StandsAs (WalksFar own n) same hash terms w p)
     (place : ℕ) (at_place : ReadyAt own place p) where

@@ -12,44 +12,44 @@ use Rattle.papaya_lowers.specs.Given.Raw.declared.machines.machine.Machine.TheVa
 use Rattle.papaya_lowers.specs.Given.Raw.declared.machines.progress.Progress.{Progress}
 use Rattle.papaya_lowers.specs.Given.Raw.declared.machines.progress.Progress.TheVariants as progress
 use Rattle.papaya_runs.specs.Same.{is_same}
-use Rattle.papaya_works.specs.Given.Schedules.declared.effect.Effect.{Effect}
-use Rattle.papaya_works.specs.Given.Schedules.Effects.{with_effects}
-use Rattle.papaya_works.specs.Given.Schedules.Moment.{UnderWay as CallThere, Moment}
-use Rattle.papaya_works.specs.Given.Schedules.Terms.{Terms}
+use Rattle.papaya_works.specs.Given.SchedulesDeclared.effect.Effect.{Effect}
+use Rattle.papaya_works.specs.Given.SchedulesEffects.{with_effects}
+use Rattle.papaya_works.specs.Given.SchedulesMoment.{UnderWay as CallThere, Moment}
+use Rattle.papaya_works.specs.Given.SchedulesTerms.{Terms}
 use Rattle.papaya_lowers.specs.Given.Callers.Together.{UnderWay, OnKey, ForRoom, Counting, OverAll, Together}
-use Rattle.papaya_works.specs.Given.Effects.Effects.{effects_of}
-use Rattle.papaya_works.specs.Given.Effects.Known.{known}
-use Rattle.papaya_works.specs.Given.Effects.declared.acting.Acting.TheVariants as acts
+use Rattle.papaya_works.specs.Given.EffectsEffects.{effects_of}
+use Rattle.papaya_works.specs.Given.EffectsKnown.{known}
+use Rattle.papaya_works.specs.Given.EffectsDeclared.acting.Acting.TheVariants as acts
 use Rattle.papaya_lowers.specs.Given.Finishes.Machines.{machine_of}
 use Rattle.papaya_lowers.specs.Given.Finishes.Maps.{Standing}
-use Rattle.papaya_works.specs.Given.Teller.declared.changed.Changed.TheVariants.{Nothing}
-use Rattle.papaya_works.proofs.Given.Follows.Calling.{is_same_refl}
-use Rattle.papaya_works.proofs.Given.Hands.Replacing.{calls_after}
-use Rattle.papaya_works.specs.Given.Logged.Calling.{CallGoesOn, step_did}
-use Rattle.papaya_works.specs.Given.Logged.Shown.{IsShown}
-use Rattle.papaya_works.specs.Given.Logged.declared.logged.Logged.{Logged}
-use Rattle.papaya_works.proofs.Given.Moments.After.{effects_after}
-use Rattle.papaya_works.specs.Given.Scheduler.Played.{StandsAs}
-use Rattle.papaya_works.specs.Given.Named.Seen.{Seen, seen, seen_of}
+use Rattle.papaya_works.specs.Given.TellerDeclared.changed.Changed.TheVariants.{Nothing}
+use Rattle.papaya_works.proofs.Given.FollowsCalling.{is_same_refl}
+use Rattle.papaya_works.proofs.Given.HandsReplacing.{calls_after}
+use Rattle.papaya_works.specs.Given.LoggedCalling.{CallGoesOn, step_did}
+use Rattle.papaya_works.specs.Given.LoggedShown.{IsShown}
+use Rattle.papaya_works.specs.Given.LoggedDeclared.logged.Logged.{Logged}
+use Rattle.papaya_works.proofs.Given.MomentsAfter.{effects_after}
+use Rattle.papaya_works.specs.Given.SchedulerPlayed.{StandsAs}
+use Rattle.papaya_works.specs.Given.NamedSeen.{Seen, seen, seen_of}
 use Rattle.papaya_stepping.specs.Stepping.{IsMidWalk, IsStepOf, IsWalking, ReadyAt, WalksFar}
-use Rattle.papaya_works.specs.Given.Named.declared.caller.Caller.{Caller}
-use Rattle.papaya_works.specs.Given.Named.declared.caller.Stands.TheVariants as far
-use Rattle.papaya_works.specs.Given.Named.declared.kind.Kind.TheVariants as kind
-use Rattle.papaya_works.specs.Given.Scheduler.declared.scheduler.Scheduler.{Scheduler}
+use Rattle.papaya_works.specs.Given.NamedDeclared.caller.Caller.{Caller}
+use Rattle.papaya_works.specs.Given.NamedDeclared.caller.Stands.TheVariants as far
+use Rattle.papaya_works.specs.Given.NamedDeclared.kind.Kind.TheVariants as kind
+use Rattle.papaya_works.specs.Given.SchedulerDeclared.scheduler.Scheduler.{Scheduler}
 use Rattle.papaya_stepping.proofs.AfterEffects.{calls_seen, closed_stays, mapped_stays}
-use Rattle.papaya_works.proofs.Given.Scheduler.Here.{HereAs, here_as_at}
-use Rattle.papaya_works.proofs.Given.Rows.Lists.{set_itself}
+use Rattle.papaya_works.proofs.Given.SchedulerHere.{HereAs, here_as_at}
+use Rattle.papaya_works.proofs.Given.RowsLists.{set_itself}
 use Rattle.papaya_stepping.proofs.NextSays.{IsNextSaying, NextSays, over_idle, over_says, words_idle, words_say}
 use Rattle.papaya_stepping.proofs.OneStep.{goes_next}
-use Rattle.papaya_works.proofs.Given.Scheduler.RanOn.{maps_named, there_stays}
+use Rattle.papaya_works.proofs.Given.SchedulerRanOn.{maps_named, there_stays}
 use Rattle.papaya_stepping.proofs.StepSays.{goes_as, the}
 use Rattle.papaya_stepping.proofs.SteppedTo.{going_on}
 use Rattle.papaya_stepping.proofs.SweepSteps.{knows_at}
-use Rattle.papaya_works.proofs.Given.Scenes.May.{standing_is}
-use Rattle.papaya_works.specs.Given.Executor.IsThere.{IsThere, held_by}
-use Rattle.papaya_works.specs.Given.Scenes.Scene.{HasCall, Scene, slot_of}
-use Rattle.papaya_works.specs.Given.Scenes.Stepping.{StepLeads, StepsFrom, has_ended, scene_after}
-use Rattle.papaya_works.specs.Given.Scenes.Held.{Held}
+use Rattle.papaya_works.proofs.Given.ScenesMay.{standing_is}
+use Rattle.papaya_works.specs.Given.ExecutorIsThere.{IsThere, held_by}
+use Rattle.papaya_works.specs.Given.ScenesScene.{HasCall, Scene, slot_of}
+use Rattle.papaya_works.specs.Given.ScenesStepping.{StepLeads, StepsFrom, has_ended, scene_after}
+use Rattle.papaya_works.specs.Given.ScenesHeld.{Held}
 
 module _ {K V : Type 0} where
   -- what says so is a sweep

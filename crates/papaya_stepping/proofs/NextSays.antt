@@ -22,10 +22,10 @@ use Rattle.papaya_lowers.specs.Given.Raw.declared.machines.machine.Machine.TheVa
 use Rattle.papaya_lowers.specs.Given.Raw.declared.machines.progress.Answer.TheVariants as answers
 use Rattle.papaya_lowers.specs.Given.Raw.declared.machines.progress.Progress.{Progress}
 use Rattle.papaya_lowers.specs.Given.Raw.declared.machines.progress.Progress.TheVariants as progress
-use Rattle.papaya_works.specs.Given.Teller.Tells.{StepsTold}
-use Rattle.papaya_works.specs.Given.Teller.declared.changed.Changed.TheVariants.{Nothing}
-use Rattle.papaya_works.specs.Given.Scenes.Held.{Held}
-use Rattle.papaya_works.specs.Given.Scenes.Stepping.{StepsFrom}
+use Rattle.papaya_works.specs.Given.TellerTells.{StepsTold}
+use Rattle.papaya_works.specs.Given.TellerDeclared.changed.Changed.TheVariants.{Nothing}
+use Rattle.papaya_works.specs.Given.ScenesHeld.{Held}
+use Rattle.papaya_works.specs.Given.ScenesStepping.{StepsFrom}
 
 module _ {K V : Type 0} where
   abbrev pub NextSays : Sweep → Progress (Node K V) → Sweep → Type 0

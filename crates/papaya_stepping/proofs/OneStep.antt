@@ -9,57 +9,57 @@ use Rattle.papaya_lowers.specs.Given.Raw.declared.machines.machine.Machine.{Mach
 use Rattle.papaya_lowers.specs.Given.Raw.declared.machines.progress.Progress.{Progress}
 use Rattle.papaya_lowers.specs.Given.Raw.declared.machines.progress.Progress.TheVariants as progress
 use Rattle.papaya_runs.specs.Same.{is_same}
-use Rattle.papaya_works.specs.Given.Schedules.declared.call.Call.{Call}
-use Rattle.papaya_works.specs.Given.Schedules.declared.call.Call.TheVariants.{On}
-use Rattle.papaya_works.specs.Given.Schedules.declared.effect.Effect.{Effect}
-use Rattle.papaya_works.specs.Given.Schedules.declared.outcome.Outcome.{Outcome}
-use Rattle.papaya_works.specs.Given.Schedules.declared.outcome.Outcome.TheVariants.{Refused, Waits}
-use Rattle.papaya_works.specs.Given.Schedules.After.{asks_on, comes_to}
-use Rattle.papaya_works.specs.Given.Schedules.Effects.{with_effects}
-use Rattle.papaya_works.specs.Given.Schedules.Entry.{ends_call}
-use Rattle.papaya_works.specs.Given.Schedules.Growing.{only_looks}
-use Rattle.papaya_works.specs.Given.Schedules.Moment.{Stands, Going, Asking, Told, IsReady, UnderWay as CallThere, Moment}
-use Rattle.papaya_works.specs.Given.Schedules.Terms.{Terms}
-use Rattle.papaya_works.specs.Given.Schedules.Views.{call_of}
-use Rattle.papaya_works.specs.Given.Schedules.Waiting.{may_wait_for}
+use Rattle.papaya_works.specs.Given.SchedulesDeclared.call.Call.{Call}
+use Rattle.papaya_works.specs.Given.SchedulesDeclared.call.Call.TheVariants.{On}
+use Rattle.papaya_works.specs.Given.SchedulesDeclared.effect.Effect.{Effect}
+use Rattle.papaya_works.specs.Given.SchedulesDeclared.outcome.Outcome.{Outcome}
+use Rattle.papaya_works.specs.Given.SchedulesDeclared.outcome.Outcome.TheVariants.{Refused, Waits}
+use Rattle.papaya_works.specs.Given.SchedulesAfter.{asks_on, comes_to}
+use Rattle.papaya_works.specs.Given.SchedulesEffects.{with_effects}
+use Rattle.papaya_works.specs.Given.SchedulesEntry.{ends_call}
+use Rattle.papaya_works.specs.Given.SchedulesGrowing.{only_looks}
+use Rattle.papaya_works.specs.Given.SchedulesMoment.{Stands, Going, Asking, Told, IsReady, UnderWay as CallThere, Moment}
+use Rattle.papaya_works.specs.Given.SchedulesTerms.{Terms}
+use Rattle.papaya_works.specs.Given.SchedulesViews.{call_of}
+use Rattle.papaya_works.specs.Given.SchedulesWaiting.{may_wait_for}
 use Rattle.papaya_lowers.specs.Given.Callers.Together.{UnderWay}
 use Rattle.papaya_lowers.specs.Given.Finishes.Machines.{GoesOnAs, machine_of}
-use Rattle.papaya_works.specs.Given.Effects.Known.{Known, known}
-use Rattle.papaya_works.specs.Given.Effects.Effects.{known_after}
-use Rattle.papaya_works.specs.Given.Effects.declared.acting.Acting.TheVariants as acts
-use Rattle.papaya_works.specs.Given.Follows.Calling.{come_to}
-use Rattle.papaya_works.proofs.Given.Follows.Calling.{apart_back}
-use Rattle.papaya_works.specs.Given.Hands.Calling.{AsksJust}
-use Rattle.papaya_works.specs.Given.Logged.Calling.{CallGoesOn, step_did}
-use Rattle.papaya_works.specs.Given.Logged.Shown.{IsShown}
-use Rattle.papaya_works.specs.Given.Logged.declared.logged.Logged.{Logged}
-use Rattle.papaya_works.proofs.Given.Moments.Calls.{calls_come_to_whole}
-use Rattle.papaya_works.proofs.Given.Kept.Stays.{calls_come_to_kept}
-use Rattle.papaya_works.proofs.Given.Logged.Counted.{counted_calls}
-use Rattle.papaya_works.proofs.Given.Owes.Grown.Calls.{step_keeps_grown}
-use Rattle.papaya_works.proofs.Given.Promises.Weights.{operations_are_single}
-use Rattle.papaya_works.specs.Given.Named.Machines.{IsAsFar}
-use Rattle.papaya_works.specs.Given.Scheduler.Played.{AsFar, StandsFor}
-use Rattle.papaya_works.specs.Given.Named.Seen.{Seen, far_of, is_named, seen, seen_of}
+use Rattle.papaya_works.specs.Given.EffectsKnown.{Known, known}
+use Rattle.papaya_works.specs.Given.EffectsEffects.{known_after}
+use Rattle.papaya_works.specs.Given.EffectsDeclared.acting.Acting.TheVariants as acts
+use Rattle.papaya_works.specs.Given.FollowsCalling.{come_to}
+use Rattle.papaya_works.proofs.Given.FollowsCalling.{apart_back}
+use Rattle.papaya_works.specs.Given.HandsCalling.{AsksJust}
+use Rattle.papaya_works.specs.Given.LoggedCalling.{CallGoesOn, step_did}
+use Rattle.papaya_works.specs.Given.LoggedShown.{IsShown}
+use Rattle.papaya_works.specs.Given.LoggedDeclared.logged.Logged.{Logged}
+use Rattle.papaya_works.proofs.Given.MomentsCalls.{calls_come_to_whole}
+use Rattle.papaya_works.proofs.Given.KeptStays.{calls_come_to_kept}
+use Rattle.papaya_works.proofs.Given.LoggedCounted.{counted_calls}
+use Rattle.papaya_works.proofs.Given.OwesGrown.Calls.{step_keeps_grown}
+use Rattle.papaya_works.proofs.Given.PromisesWeights.{operations_are_single}
+use Rattle.papaya_works.specs.Given.NamedMachines.{IsAsFar}
+use Rattle.papaya_works.specs.Given.SchedulerPlayed.{AsFar, StandsFor}
+use Rattle.papaya_works.specs.Given.NamedSeen.{Seen, far_of, is_named, seen, seen_of}
 use Rattle.papaya_stepping.specs.Stepping.{ComesAs, ComesBy, GoesAt, IsStepped, caller_then, callers_then, far_then, outcome_of}
-use Rattle.papaya_works.specs.Given.Named.Telling.{goes_on, kept}
-use Rattle.papaya_works.specs.Given.Named.declared.caller.Caller.{Caller}
-use Rattle.papaya_works.specs.Given.Named.declared.caller.Stands.{Stands as HowFar}
-use Rattle.papaya_works.specs.Given.Named.declared.caller.Stands.TheVariants as far
-use Rattle.papaya_works.specs.Given.Named.declared.kind.Kind.{Kind}
-use Rattle.papaya_works.specs.Given.Scheduler.declared.scheduler.Scheduler.{Scheduler}
+use Rattle.papaya_works.specs.Given.NamedTelling.{goes_on, kept}
+use Rattle.papaya_works.specs.Given.NamedDeclared.caller.Caller.{Caller}
+use Rattle.papaya_works.specs.Given.NamedDeclared.caller.Stands.{Stands as HowFar}
+use Rattle.papaya_works.specs.Given.NamedDeclared.caller.Stands.TheVariants as far
+use Rattle.papaya_works.specs.Given.NamedDeclared.kind.Kind.{Kind}
+use Rattle.papaya_works.specs.Given.SchedulerDeclared.scheduler.Scheduler.{Scheduler}
 use Rattle.papaya_stepping.proofs.AfterEffects.{calls_seen, closed_stays, mapped_stays}
 use Rattle.papaya_stepping.proofs.AnySays.{any_says}
 use Rattle.papaya_stepping.proofs.LookSays.{never_waits}
-use Rattle.papaya_works.proofs.Given.Scheduler.Here.{Here, here_at}
-use Rattle.papaya_works.proofs.Given.Rows.Lists.{changed_at, removed_at, set_get, set_position, set_seen}
-use Rattle.papaya_works.proofs.Given.Scheduler.RanOn.{maps_named, there_stays}
+use Rattle.papaya_works.proofs.Given.SchedulerHere.{Here, here_at}
+use Rattle.papaya_works.proofs.Given.RowsLists.{changed_at, removed_at, set_get, set_position, set_seen}
+use Rattle.papaya_works.proofs.Given.SchedulerRanOn.{maps_named, there_stays}
 use Rattle.papaya_stepping.proofs.StepSays.{Says, the}
 use Rattle.papaya_stepping.proofs.SteppedTo.{going_on, has_gone, here_then, name_is, next, none_named, s2}
 use Rattle.papaya_stepping.proofs.AnyWaits.{any_quiet, any_waits_for}
-use Rattle.papaya_works.specs.Given.Scenes.Scene.{Scene}
-use Rattle.papaya_works.specs.Given.Scenes.Stepping.{StepLeads, StepsFrom, has_ended}
-use Rattle.papaya_works.specs.Given.Executor.IsThere.{held_by}
+use Rattle.papaya_works.specs.Given.ScenesScene.{Scene}
+use Rattle.papaya_works.specs.Given.ScenesStepping.{StepLeads, StepsFrom, has_ended}
+use Rattle.papaya_works.specs.Given.ExecutorIsThere.{held_by}
 
 module _ {K V : Type 0} (by : Known) (its : Kind) (value : Option V) where
   -- what a caller keeps

@@ -3,29 +3,29 @@ use Rattle.std.specs.Prelude.{◌≡◌, ◌+◌, ◌&&◌, ℕ, Bool, true, fal
 use Rattle.std.proofs.Common.{refl, sym, ap, subst, ◌∙◌, arith}
 use Rattle.papaya_runs.specs.Given.SeizeWords.declared.fault.Fault.TheVariants.{Busy}
 use Rattle.papaya_runs.specs.Same.{is_same}
-use Rattle.papaya_works.specs.Given.Schedules.declared.event.Event.TheVariants.{Go, Step}
-use Rattle.papaya_works.specs.Given.Schedules.declared.outcome.Outcome.TheVariants.{Asks, Ready, Refused}
-use Rattle.papaya_works.specs.Given.Schedules.After.{comes_to, is_alone_on, moment, moments_from}
-use Rattle.papaya_works.specs.Given.Schedules.Coming.{Progresses}
-use Rattle.papaya_works.specs.Given.Schedules.Entry.{ByCall, Entry}
-use Rattle.papaya_works.specs.Given.Schedules.InTurn.{GoesOn}
-use Rattle.papaya_works.specs.Given.Schedules.Moment.{Asking, IsReady, Stands, UnderWay as CallThere, Moment}
-use Rattle.papaya_works.specs.Given.Schedules.Steps.{MakesSteps, stands_or}
-use Rattle.papaya_works.specs.Given.Schedules.Terms.{Terms}
-use Rattle.papaya_works.specs.Given.Schedules.Views.{call_of}
-use Rattle.papaya_works.specs.Given.Follows.Calling.{come_to}
-use Rattle.papaya_works.specs.Given.Scheduler.Played.{IsDue, StandsFor}
-use Rattle.papaya_works.specs.Given.Named.Seen.{Seen, is_named}
+use Rattle.papaya_works.specs.Given.SchedulesDeclared.event.Event.TheVariants.{Go, Step}
+use Rattle.papaya_works.specs.Given.SchedulesDeclared.outcome.Outcome.TheVariants.{Asks, Ready, Refused}
+use Rattle.papaya_works.specs.Given.SchedulesAfter.{comes_to, is_alone_on, moment, moments_from}
+use Rattle.papaya_works.specs.Given.SchedulesComing.{Progresses}
+use Rattle.papaya_works.specs.Given.SchedulesEntry.{ByCall, Entry}
+use Rattle.papaya_works.specs.Given.SchedulesInTurn.{GoesOn}
+use Rattle.papaya_works.specs.Given.SchedulesMoment.{Asking, IsReady, Stands, UnderWay as CallThere, Moment}
+use Rattle.papaya_works.specs.Given.SchedulesSteps.{MakesSteps, stands_or}
+use Rattle.papaya_works.specs.Given.SchedulesTerms.{Terms}
+use Rattle.papaya_works.specs.Given.SchedulesViews.{call_of}
+use Rattle.papaya_works.specs.Given.FollowsCalling.{come_to}
+use Rattle.papaya_works.specs.Given.SchedulerPlayed.{IsDue, StandsFor}
+use Rattle.papaya_works.specs.Given.NamedSeen.{Seen, is_named}
 use Rattle.papaya_stepping.specs.Stepping.{PlaysOn}
-use Rattle.papaya_works.specs.Given.Named.declared.caller.Stands.TheVariants as far
-use Rattle.papaya_works.specs.Given.Scheduler.declared.scheduler.Scheduler.{Scheduler}
+use Rattle.papaya_works.specs.Given.NamedDeclared.caller.Stands.TheVariants as far
+use Rattle.papaya_works.specs.Given.SchedulerDeclared.scheduler.Scheduler.{Scheduler}
 use Rattle.papaya_stepping.proofs.Again.{asks_again, far_ready, ready_again}
-use Rattle.papaya_works.proofs.Given.Scheduler.Here.{Here, here_at, there_is}
+use Rattle.papaya_works.proofs.Given.SchedulerHere.{Here, here_at, there_is}
 use Rattle.papaya_stepping.proofs.PlaysSteps.{stands_elsewhere}
 use Rattle.papaya_stepping.proofs.RightSteps.{waits_never}
-use Rattle.papaya_works.proofs.Given.Scheduler.Quiet.{stands_on}
-use Rattle.papaya_works.proofs.Given.Scheduler.Replied.{far_asks}
-use Rattle.papaya_works.proofs.Given.Scheduler.Rights.{in_turn, out_of_turn, plays, quiet}
+use Rattle.papaya_works.proofs.Given.SchedulerQuiet.{stands_on}
+use Rattle.papaya_works.proofs.Given.SchedulerReplied.{far_asks}
+use Rattle.papaya_works.proofs.Given.SchedulerRights.{in_turn, out_of_turn, plays, quiet}
 
 module _ {K V S : Type 0} (same : K → K → Bool) (hash : K → ℕ) (terms : Terms) (log : List (Entry K V)) (own : List ℕ) (refuse : Bool) (p : Scheduler K V S) where
   abbrev m : Moment K V

@@ -5,36 +5,36 @@ use Rattle.std.proofs.Common.{refl, sym, ap, subst, ◌∙◌}
 use Rattle.papaya_runs.specs.Given.SeizeWords.declared.fault.Fault.TheVariants.{Busy, Memory}
 use Rattle.papaya_runs.specs.Present.{Present}
 use Rattle.papaya_runs.specs.Stopped.{most_steps}
-use Rattle.papaya_works.specs.Given.Schedules.declared.call.Call.{Call}
-use Rattle.papaya_works.specs.Given.Schedules.declared.effect.Effect.{Effect}
-use Rattle.papaya_works.specs.Given.Schedules.declared.event.Event.TheVariants.{Go, Step}
-use Rattle.papaya_works.specs.Given.Schedules.declared.outcome.Outcome.{Outcome}
-use Rattle.papaya_works.specs.Given.Schedules.declared.outcome.Outcome.TheVariants.{Refused, Waits}
-use Rattle.papaya_works.specs.Given.Schedules.After.{is_alone_on, moment, moments_from, slots_on}
-use Rattle.papaya_works.specs.Given.Schedules.Coming.{Progresses}
-use Rattle.papaya_works.specs.Given.Schedules.Effects.{with_effects}
-use Rattle.papaya_works.specs.Given.Schedules.Entry.{ByCall, Entry, IfCall}
-use Rattle.papaya_works.specs.Given.Schedules.Growing.{only_looks}
-use Rattle.papaya_works.specs.Given.Schedules.InTurn.{GoesOn}
-use Rattle.papaya_works.specs.Given.Schedules.Moment.{Remains, Sheltered, UnderWay as CallThere, Moment}
-use Rattle.papaya_works.specs.Given.Schedules.Steps.{stands_or, weight}
-use Rattle.papaya_works.specs.Given.Schedules.Terms.{Terms}
-use Rattle.papaya_works.specs.Given.Schedules.Views.{call_of}
-use Rattle.papaya_works.specs.Given.Schedules.Waiting.{WaitsRight, may_wait_for}
-use Rattle.papaya_works.specs.Given.Effects.Known.{known}
-use Rattle.papaya_works.specs.Given.Follows.Calling.{come_to}
-use Rattle.papaya_works.proofs.Given.Hands.Replacing.{IsOn, calls_after}
-use Rattle.papaya_works.specs.Given.Scheduler.Played.{IsDue, StandsFor}
-use Rattle.papaya_works.specs.Given.Named.Seen.{Seen, far_of, is_named}
+use Rattle.papaya_works.specs.Given.SchedulesDeclared.call.Call.{Call}
+use Rattle.papaya_works.specs.Given.SchedulesDeclared.effect.Effect.{Effect}
+use Rattle.papaya_works.specs.Given.SchedulesDeclared.event.Event.TheVariants.{Go, Step}
+use Rattle.papaya_works.specs.Given.SchedulesDeclared.outcome.Outcome.{Outcome}
+use Rattle.papaya_works.specs.Given.SchedulesDeclared.outcome.Outcome.TheVariants.{Refused, Waits}
+use Rattle.papaya_works.specs.Given.SchedulesAfter.{is_alone_on, moment, moments_from, slots_on}
+use Rattle.papaya_works.specs.Given.SchedulesComing.{Progresses}
+use Rattle.papaya_works.specs.Given.SchedulesEffects.{with_effects}
+use Rattle.papaya_works.specs.Given.SchedulesEntry.{ByCall, Entry, IfCall}
+use Rattle.papaya_works.specs.Given.SchedulesGrowing.{only_looks}
+use Rattle.papaya_works.specs.Given.SchedulesInTurn.{GoesOn}
+use Rattle.papaya_works.specs.Given.SchedulesMoment.{Remains, Sheltered, UnderWay as CallThere, Moment}
+use Rattle.papaya_works.specs.Given.SchedulesSteps.{stands_or, weight}
+use Rattle.papaya_works.specs.Given.SchedulesTerms.{Terms}
+use Rattle.papaya_works.specs.Given.SchedulesViews.{call_of}
+use Rattle.papaya_works.specs.Given.SchedulesWaiting.{WaitsRight, may_wait_for}
+use Rattle.papaya_works.specs.Given.EffectsKnown.{known}
+use Rattle.papaya_works.specs.Given.FollowsCalling.{come_to}
+use Rattle.papaya_works.proofs.Given.HandsReplacing.{IsOn, calls_after}
+use Rattle.papaya_works.specs.Given.SchedulerPlayed.{IsDue, StandsFor}
+use Rattle.papaya_works.specs.Given.NamedSeen.{Seen, far_of, is_named}
 use Rattle.papaya_stepping.specs.Stepping.{ComesAs, ComesBy, IsInCase, PlaysOn, TakesUpTo}
-use Rattle.papaya_works.specs.Given.Named.declared.caller.Stands.TheVariants as far
-use Rattle.papaya_works.specs.Given.Scheduler.declared.scheduler.Scheduler.{Scheduler}
+use Rattle.papaya_works.specs.Given.NamedDeclared.caller.Stands.TheVariants as far
+use Rattle.papaya_works.specs.Given.SchedulerDeclared.scheduler.Scheduler.{Scheduler}
 use Rattle.papaya_stepping.proofs.AfterEffects.{closed_stays, mapped_stays}
-use Rattle.papaya_works.proofs.Given.Remains.Stays.{remains_stay}
-use Rattle.papaya_works.proofs.Given.Rows.Elsewhere.{elsewhere, shown_elsewhere, kept_elsewhere, counted_elsewhere}
-use Rattle.papaya_works.proofs.Given.Scheduler.Here.{Here, here_at}
+use Rattle.papaya_works.proofs.Given.RemainsStays.{remains_stay}
+use Rattle.papaya_works.proofs.Given.RowsElsewhere.{elsewhere, shown_elsewhere, kept_elsewhere, counted_elsewhere}
+use Rattle.papaya_works.proofs.Given.SchedulerHere.{Here, here_at}
 use Rattle.papaya_stepping.proofs.RightSteps.{makes_many, makes_one, may_come, never_quiet, not_busy, progresses, waits_right}
-use Rattle.papaya_works.proofs.Given.Scheduler.Rights.{entry, in_turn, plays}
+use Rattle.papaya_works.proofs.Given.SchedulerRights.{entry, in_turn, plays}
 
 -- it stands for a moment that is elsewhere as it says
 pub stands_elsewhere : {K V S : Type 0} (same : K → K → Bool) (hash : K → ℕ) (terms : Terms) (m : Moment K V) (p : Scheduler K V S) → StandsFor same hash terms m p

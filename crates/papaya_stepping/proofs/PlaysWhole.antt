@@ -4,40 +4,40 @@ use Rattle.std.proofs.Common.{refl, sym, ap, subst, ◌∙◌, arith}
 use Rattle.papaya_runs.specs.Given.SeizeWords.declared.fault.Fault.TheVariants.{Busy}
 use Rattle.papaya_runs.specs.Same.{is_same}
 use Rattle.papaya_runs.specs.Stopped.{most_steps}
-use Rattle.papaya_works.specs.Given.Schedules.declared.call.Call.{Call}
-use Rattle.papaya_works.specs.Given.Schedules.declared.effect.Effect.{Effect}
-use Rattle.papaya_works.specs.Given.Schedules.declared.event.Event.TheVariants.{OneCall}
-use Rattle.papaya_works.specs.Given.Schedules.declared.outcome.Outcome.{Outcome}
-use Rattle.papaya_works.specs.Given.Schedules.declared.outcome.Outcome.TheVariants.{Refused}
-use Rattle.papaya_works.specs.Given.Schedules.After.{is_alone_on, moment, moments_from, slots_on}
-use Rattle.papaya_works.specs.Given.Schedules.Beginning.{fresh_call, with_call}
-use Rattle.papaya_works.specs.Given.Schedules.Coming.{Progresses}
-use Rattle.papaya_works.specs.Given.Schedules.Effects.{with_effects}
-use Rattle.papaya_works.specs.Given.Schedules.Entry.{ByCall, Entry, IfCall, is_busy, nameless}
-use Rattle.papaya_works.specs.Given.Schedules.InTurn.{GoesOn}
-use Rattle.papaya_works.specs.Given.Schedules.InUse.{is_living}
-use Rattle.papaya_works.specs.Given.Schedules.Moment.{MapThere, Moment}
-use Rattle.papaya_works.specs.Given.Schedules.Steps.{stands_or}
-use Rattle.papaya_works.specs.Given.Schedules.Terms.{Terms}
-use Rattle.papaya_works.specs.Given.Schedules.Views.{call_of, map_of, number_of}
-use Rattle.papaya_works.specs.Given.Schedules.Waiting.{WaitsRight}
-use Rattle.papaya_works.specs.Given.Follows.Calling.{come_to}
-use Rattle.papaya_works.proofs.Given.Follows.Calling.{is_same_refl}
-use Rattle.papaya_works.specs.Given.Scheduler.Played.{BeginsSo, IsDue, StandsFor, entry_of}
-use Rattle.papaya_works.specs.Given.Named.Seen.{Seen, is_named, seen, seen_of}
+use Rattle.papaya_works.specs.Given.SchedulesDeclared.call.Call.{Call}
+use Rattle.papaya_works.specs.Given.SchedulesDeclared.effect.Effect.{Effect}
+use Rattle.papaya_works.specs.Given.SchedulesDeclared.event.Event.TheVariants.{OneCall}
+use Rattle.papaya_works.specs.Given.SchedulesDeclared.outcome.Outcome.{Outcome}
+use Rattle.papaya_works.specs.Given.SchedulesDeclared.outcome.Outcome.TheVariants.{Refused}
+use Rattle.papaya_works.specs.Given.SchedulesAfter.{is_alone_on, moment, moments_from, slots_on}
+use Rattle.papaya_works.specs.Given.SchedulesBeginning.{fresh_call, with_call}
+use Rattle.papaya_works.specs.Given.SchedulesComing.{Progresses}
+use Rattle.papaya_works.specs.Given.SchedulesEffects.{with_effects}
+use Rattle.papaya_works.specs.Given.SchedulesEntry.{ByCall, Entry, IfCall, is_busy, nameless}
+use Rattle.papaya_works.specs.Given.SchedulesInTurn.{GoesOn}
+use Rattle.papaya_works.specs.Given.SchedulesInUse.{is_living}
+use Rattle.papaya_works.specs.Given.SchedulesMoment.{MapThere, Moment}
+use Rattle.papaya_works.specs.Given.SchedulesSteps.{stands_or}
+use Rattle.papaya_works.specs.Given.SchedulesTerms.{Terms}
+use Rattle.papaya_works.specs.Given.SchedulesViews.{call_of, map_of, number_of}
+use Rattle.papaya_works.specs.Given.SchedulesWaiting.{WaitsRight}
+use Rattle.papaya_works.specs.Given.FollowsCalling.{come_to}
+use Rattle.papaya_works.proofs.Given.FollowsCalling.{is_same_refl}
+use Rattle.papaya_works.specs.Given.SchedulerPlayed.{BeginsSo, IsDue, StandsFor, entry_of}
+use Rattle.papaya_works.specs.Given.NamedSeen.{Seen, is_named, seen, seen_of}
 use Rattle.papaya_stepping.specs.Stepping.{ComesBy, GoesAt, IsInCase, PlaysOn, StepsCome, TakenAs, TakenBy, TakesUpTo, may_begin}
-use Rattle.papaya_works.specs.Given.Named.declared.caller.Caller.{Caller}
-use Rattle.papaya_works.specs.Given.Named.declared.caller.Stands.{Stands as HowFar}
-use Rattle.papaya_works.specs.Given.Named.declared.caller.Stands.TheVariants as far
-use Rattle.papaya_works.specs.Given.Scheduler.declared.played.Played.{Played}
-use Rattle.papaya_works.specs.Given.Scheduler.declared.scheduler.Scheduler.{Scheduler}
-use Rattle.papaya_works.proofs.Given.Rows.Elsewhere.{elsewhere}
-use Rattle.papaya_works.proofs.Given.Scheduler.Here.{Here, here_at}
-use Rattle.papaya_works.proofs.Given.Rows.Lists.{first_position}
+use Rattle.papaya_works.specs.Given.NamedDeclared.caller.Caller.{Caller}
+use Rattle.papaya_works.specs.Given.NamedDeclared.caller.Stands.{Stands as HowFar}
+use Rattle.papaya_works.specs.Given.NamedDeclared.caller.Stands.TheVariants as far
+use Rattle.papaya_works.specs.Given.SchedulerDeclared.played.Played.{Played}
+use Rattle.papaya_works.specs.Given.SchedulerDeclared.scheduler.Scheduler.{Scheduler}
+use Rattle.papaya_works.proofs.Given.RowsElsewhere.{elsewhere}
+use Rattle.papaya_works.proofs.Given.SchedulerHere.{Here, here_at}
+use Rattle.papaya_works.proofs.Given.RowsLists.{first_position}
 use Rattle.papaya_stepping.proofs.PlaysAgain.{busy_stands}
 use Rattle.papaya_stepping.proofs.PlaysSteps.{few_steps, goes_right, never_busy, stands_elsewhere, stands_then, waits_so}
 use Rattle.papaya_stepping.proofs.RightSteps.{makes_whole, never_quiet, waits_never}
-use Rattle.papaya_works.proofs.Given.Scheduler.Rights.{entry, in_turn, out_of_turn, plays, quiet}
+use Rattle.papaya_works.proofs.Given.SchedulerRights.{entry, in_turn, out_of_turn, plays, quiet}
 use Rattle.papaya_stepping.proofs.StepSays.{the}
 
 plain : {V : Type 0} (o : Outcome V) → (o ≡ Refused Busy → ⊥) → is_busy o ≡ false

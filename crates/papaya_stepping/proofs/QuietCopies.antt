@@ -36,16 +36,16 @@ use Rattle.papaya_lowers.proofs.Given.Rule.Words.PlaceWordsWritten.{or_copying}
 use Rattle.papaya_lowers.specs.Given.Rule.Chart.{Chart}
 use Rattle.papaya_lowers.specs.Given.Late.ToldReserves.{IsRowOfReserve}
 use Rattle.papaya_lowers.specs.Given.Late.ToldSweeps.{IsRowOfSweep}
-use Rattle.papaya_works.specs.Given.Teller.declared.changed.Changed.{Changed}
-use Rattle.papaya_works.specs.Given.Teller.declared.changed.Changed.TheVariants as changed
-use Rattle.papaya_works.specs.Given.Effects.Effects.{effects_of, in_block, named, names_same}
-use Rattle.papaya_works.specs.Given.Effects.Known.{Known}
-use Rattle.papaya_works.specs.Given.Effects.declared.acting.Acting.{Acting}
-use Rattle.papaya_works.specs.Given.Effects.declared.role.Role.{Role}
-use Rattle.papaya_works.specs.Given.Effects.declared.role.Role.TheVariants as role
-use Rattle.papaya_works.proofs.Given.Others.Outcomes.{told_in}
-use Rattle.papaya_works.specs.Given.Schedules.declared.effect.Table.{Table as Numbered}
-use Rattle.papaya_works.proofs.Given.Owes.Tables.Hosts.{Step}
+use Rattle.papaya_works.specs.Given.TellerDeclared.changed.Changed.{Changed}
+use Rattle.papaya_works.specs.Given.TellerDeclared.changed.Changed.TheVariants as changed
+use Rattle.papaya_works.specs.Given.EffectsEffects.{effects_of, in_block, named, names_same}
+use Rattle.papaya_works.specs.Given.EffectsKnown.{Known}
+use Rattle.papaya_works.specs.Given.EffectsDeclared.acting.Acting.{Acting}
+use Rattle.papaya_works.specs.Given.EffectsDeclared.role.Role.{Role}
+use Rattle.papaya_works.specs.Given.EffectsDeclared.role.Role.TheVariants as role
+use Rattle.papaya_works.proofs.Given.OthersOutcomes.{told_in}
+use Rattle.papaya_works.specs.Given.SchedulesDeclared.effect.Table.{Table as Numbered}
+use Rattle.papaya_works.proofs.Given.OwesTables.Hosts.{Step}
 use Rattle.papaya_lowers.proofs.Given.Waits.Copyings.{SweepsOn, telling_goes}
 use Rattle.papaya_lowers.specs.Given.Waits.Waits.{CopierAwaits}
 use Rattle.papaya_stepping.proofs.QuietWaits.{copier_quiet, dispose_quiet}

@@ -41,12 +41,12 @@ use Rattle.papaya_lowers.specs.Given.Raw.declared.machines.call.Calling.{Calling
 use Rattle.papaya_lowers.specs.Given.Raw.declared.machines.call.Calling.TheVariants as at
 use Rattle.papaya_lowers.specs.Given.Raw.declared.machines.call.KeyCall.{KeyCall}
 use Rattle.papaya_lowers.specs.Given.Points.Told.{IsRowOf, IsRowOfCall, IsRowOfCopier}
-use Rattle.papaya_works.specs.Given.Teller.declared.changed.Changed.{Changed}
-use Rattle.papaya_works.specs.Given.Teller.declared.changed.Changed.TheVariants as changed
-use Rattle.papaya_works.proofs.Given.Others.Outcomes.{told_in}
+use Rattle.papaya_works.specs.Given.TellerDeclared.changed.Changed.{Changed}
+use Rattle.papaya_works.specs.Given.TellerDeclared.changed.Changed.TheVariants as changed
+use Rattle.papaya_works.proofs.Given.OthersOutcomes.{told_in}
 use Rattle.papaya_lowers.proofs.Given.Waits.CallPlans.{Continues, ending_goes}
-use Rattle.papaya_works.proofs.Given.Owes.Tables.Hosts.{Step}
-use Rattle.papaya_works.proofs.Given.Scenes.Told.{as_step}
+use Rattle.papaya_works.proofs.Given.OwesTables.Hosts.{Step}
+use Rattle.papaya_works.proofs.Given.ScenesTold.{as_step}
 
 module _ {K V : Type 0} (m m2 : Mem (Node K V)) (told : Changed) where
   -- a row that settles waits where it has read the batch of its slot

@@ -5,23 +5,23 @@ use Rattle.std.proofs.Common.{refl, sym, ap, subst, ◌∙◌, arith, inl, inr}
 use Rattle.papaya_runs.specs.Given.SeizeWords.declared.fault.Fault.{Fault}
 use Rattle.papaya_runs.specs.Given.SeizeWords.declared.fault.Fault.TheVariants.{Busy, Capacity, Memory, RemoveNothing}
 use Rattle.papaya_runs.specs.Stopped.{most_steps}
-use Rattle.papaya_works.specs.Given.Schedules.declared.call.Call.{Call}
-use Rattle.papaya_works.specs.Given.Schedules.declared.call.Call.TheVariants.{On, Reserve, Clear, Retain, Len, Walk}
-use Rattle.papaya_works.specs.Given.Schedules.declared.effect.Effect.{Effect}
-use Rattle.papaya_works.specs.Given.Schedules.declared.event.Event.TheVariants.{Go, OneCall, Step}
-use Rattle.papaya_works.specs.Given.Schedules.declared.outcome.Outcome.{Outcome}
-use Rattle.papaya_works.specs.Given.Schedules.declared.outcome.Outcome.TheVariants.{Answered, Asks, Goes, Ready, Refused, Waits}
-use Rattle.papaya_works.specs.Given.Schedules.Coming.{MayCome, Progresses, is_compute}
-use Rattle.papaya_works.specs.Given.Schedules.Entry.{IfCall}
-use Rattle.papaya_works.specs.Given.Schedules.Growing.{only_looks}
-use Rattle.papaya_works.specs.Given.Schedules.Moment.{Stands, Going, Asking, Told, IsReady, UnderWay as CallThere, Moment}
-use Rattle.papaya_works.specs.Given.Schedules.Steps.{MakesSteps}
-use Rattle.papaya_works.specs.Given.Schedules.Terms.{Terms}
-use Rattle.papaya_works.specs.Given.Schedules.Waiting.{WaitsRight, may_wait_for}
-use Rattle.papaya_works.specs.Given.Scheduler.Quiet.{IsQuiet}
-use Rattle.papaya_works.specs.Given.Named.Seen.{far_of}
+use Rattle.papaya_works.specs.Given.SchedulesDeclared.call.Call.{Call}
+use Rattle.papaya_works.specs.Given.SchedulesDeclared.call.Call.TheVariants.{On, Reserve, Clear, Retain, Len, Walk}
+use Rattle.papaya_works.specs.Given.SchedulesDeclared.effect.Effect.{Effect}
+use Rattle.papaya_works.specs.Given.SchedulesDeclared.event.Event.TheVariants.{Go, OneCall, Step}
+use Rattle.papaya_works.specs.Given.SchedulesDeclared.outcome.Outcome.{Outcome}
+use Rattle.papaya_works.specs.Given.SchedulesDeclared.outcome.Outcome.TheVariants.{Answered, Asks, Goes, Ready, Refused, Waits}
+use Rattle.papaya_works.specs.Given.SchedulesComing.{MayCome, Progresses, is_compute}
+use Rattle.papaya_works.specs.Given.SchedulesEntry.{IfCall}
+use Rattle.papaya_works.specs.Given.SchedulesGrowing.{only_looks}
+use Rattle.papaya_works.specs.Given.SchedulesMoment.{Stands, Going, Asking, Told, IsReady, UnderWay as CallThere, Moment}
+use Rattle.papaya_works.specs.Given.SchedulesSteps.{MakesSteps}
+use Rattle.papaya_works.specs.Given.SchedulesTerms.{Terms}
+use Rattle.papaya_works.specs.Given.SchedulesWaiting.{WaitsRight, may_wait_for}
+use Rattle.papaya_works.specs.Given.SchedulerQuiet.{IsQuiet}
+use Rattle.papaya_works.specs.Given.NamedSeen.{far_of}
 use Rattle.papaya_stepping.specs.Stepping.{ComesAs, IsInCase, TakesUpTo}
-use Rattle.papaya_works.specs.Given.Named.declared.caller.Stands.TheVariants as far
+use Rattle.papaya_works.specs.Given.NamedDeclared.caller.Stands.TheVariants as far
 
 module _ {K V : Type 0} where
   -- a call on one key is refused as out of turn never, and for removing nothing only where it computes

@@ -26,12 +26,12 @@ use Rattle.papaya_lowers.specs.Given.Raw.declared.machines.progress.Progress.The
 use Rattle.papaya_lowers.specs.Given.Late.Faults.{IsRoom, RefusesRoom, RoomInReserving, RoomInSweeping, SweepRefusesRoom}
 use Rattle.papaya_lowers.proofs.Given.Late.KindsKept.Laws.{reserves_refuse_room, sweeps_refuse_room}
 use Rattle.papaya_lowers.proofs.Given.Late.KindsKept.Rooms.Making.{CountsOn, sum_counts}
-use Rattle.papaya_works.specs.Given.Teller.declared.changed.Changed.TheVariants.{Nothing}
-use Rattle.papaya_works.proofs.Given.Histories.Asking.{always_told, always_turned}
-use Rattle.papaya_works.specs.Given.Named.Machines.{RefusedForRoom}
-use Rattle.papaya_works.proofs.Given.Scenes.Told.{as_step}
-use Rattle.papaya_works.specs.Given.Scenes.Held.{Held}
-use Rattle.papaya_works.specs.Given.Scenes.Stepping.{StepsFrom}
+use Rattle.papaya_works.specs.Given.TellerDeclared.changed.Changed.TheVariants.{Nothing}
+use Rattle.papaya_works.proofs.Given.HistoriesAsking.{always_told, always_turned}
+use Rattle.papaya_works.specs.Given.NamedMachines.{RefusedForRoom}
+use Rattle.papaya_works.proofs.Given.ScenesTold.{as_step}
+use Rattle.papaya_works.specs.Given.ScenesHeld.{Held}
+use Rattle.papaya_works.specs.Given.ScenesStepping.{StepsFrom}
 
 module _ {K V : Type 0} where
   -- what it says is no refusal, or one for room

@@ -4,7 +4,7 @@ use Rattle.std.specs.List.{list_any}
 use Rattle.std.proofs.Common.{◌≡◌, ℕ, ◌⊎◌, inl, inr, Bool, true, refl, ap, sym, subst, ◌∙◌, false}
 use Rattle.papaya_lowers.specs.Given.Waits.Waits.{AnotherHolds, CopierAwaits, RoomAwaits, SweepAwaits, row_of_sweep}
 use Rattle.papaya_lowers.specs.Given.Waits.Others.{copier_in_room, copier_in_sweep, copier_of}
-use Rattle.papaya_works.proofs.Given.Waiters.Awaited.{asked_at_once}
+use Rattle.papaya_works.proofs.Given.WaitersAwaited.{asked_at_once}
 use Rattle.papaya_runs.specs.Given.SeizeWords.Mem.{Mem, Took, value_at}
 use Rattle.papaya_runs.specs.Given.SeizeWords.Plan.{Plan, Steps}
 use Rattle.papaya_runs.specs.Given.SeizeWords.Word.{block_in}
@@ -50,32 +50,32 @@ use Rattle.papaya_lowers.proofs.Given.Whole.Sweeps.Leads.{sweep_decided}
 use Rattle.papaya_lowers.proofs.Given.Waits.Awaited.{by_copier}
 use Rattle.papaya_lowers.proofs.Given.Waits.Laws.{rooms_wait_for_a_copying, room_rows_wait_for_a_holder, sweeps_wait_for_a_copying, sweep_rows_wait_for_a_holder}
 use Rattle.papaya_lowers.proofs.Given.Waits.Promised.{map_of}
-use Rattle.papaya_works.specs.Given.Schedules.declared.effect.Table.{Table as Numbered}
-use Rattle.papaya_works.specs.Given.Schedules.Moment.{UnderWay as CallThere, Moment}
-use Rattle.papaya_works.specs.Given.Schedules.Terms.{Terms}
-use Rattle.papaya_works.specs.Given.Schedules.Views.{call_of}
-use Rattle.papaya_works.specs.Given.Schedules.Waiting.{may_wait_for}
-use Rattle.papaya_works.specs.Given.Effects.Effects.{effects_of}
-use Rattle.papaya_works.specs.Given.Effects.Known.{known}
-use Rattle.papaya_works.specs.Given.Effects.declared.acting.Acting.TheVariants as acts
-use Rattle.papaya_works.specs.Given.Effects.declared.role.Role.TheVariants as role
-use Rattle.papaya_works.specs.Given.Teller.declared.changed.Changed.{Changed}
-use Rattle.papaya_works.specs.Given.Teller.declared.changed.Changed.TheVariants as changed
+use Rattle.papaya_works.specs.Given.SchedulesDeclared.effect.Table.{Table as Numbered}
+use Rattle.papaya_works.specs.Given.SchedulesMoment.{UnderWay as CallThere, Moment}
+use Rattle.papaya_works.specs.Given.SchedulesTerms.{Terms}
+use Rattle.papaya_works.specs.Given.SchedulesViews.{call_of}
+use Rattle.papaya_works.specs.Given.SchedulesWaiting.{may_wait_for}
+use Rattle.papaya_works.specs.Given.EffectsEffects.{effects_of}
+use Rattle.papaya_works.specs.Given.EffectsKnown.{known}
+use Rattle.papaya_works.specs.Given.EffectsDeclared.acting.Acting.TheVariants as acts
+use Rattle.papaya_works.specs.Given.EffectsDeclared.role.Role.TheVariants as role
+use Rattle.papaya_works.specs.Given.TellerDeclared.changed.Changed.{Changed}
+use Rattle.papaya_works.specs.Given.TellerDeclared.changed.Changed.TheVariants as changed
 use Rattle.papaya_lowers.specs.Given.Finishes.Maps.{Standing}
-use Rattle.papaya_works.specs.Given.Follows.Calls.{IsCalled}
-use Rattle.papaya_works.specs.Given.Follows.Maps.{table_of}
-use Rattle.papaya_works.proofs.Given.Owes.Tables.Hosts.{Step}
-use Rattle.papaya_works.specs.Given.Scheduler.Played.{StandsFor}
-use Rattle.papaya_works.specs.Given.Scheduler.declared.scheduler.Scheduler.{Scheduler}
+use Rattle.papaya_works.specs.Given.FollowsCalls.{IsCalled}
+use Rattle.papaya_works.specs.Given.FollowsMaps.{table_of}
+use Rattle.papaya_works.proofs.Given.OwesTables.Hosts.{Step}
+use Rattle.papaya_works.specs.Given.SchedulerPlayed.{StandsFor}
+use Rattle.papaya_works.specs.Given.SchedulerDeclared.scheduler.Scheduler.{Scheduler}
 use Rattle.papaya_stepping.proofs.CopiesWait.{all_together, within_section, copier_knows, is_lawful, noted_table, other_waits}
 use Rattle.papaya_stepping.proofs.QuietCopies.{IsQuiet, quiet_does, room_copier_told, room_row_quiet, sweep_copier_told, sweep_row_quiet}
 use Rattle.papaya_stepping.proofs.Waiting.{IsForResizes, room_for_resizes, sweep_for_resizes, waits_for_holder}
 use Rattle.papaya_lowers.specs.Given.Points.FactsCopiesBlocking.{CopierFactsBlocking, CopyingFactsBlocking}
 use Rattle.papaya_lowers.specs.Given.Late.LateCopies.{LateCopierFacts, LateCopying}
-use Rattle.papaya_works.specs.Given.Kept.Ends.{HaveEndsIn}
+use Rattle.papaya_works.specs.Given.KeptEnds.{HaveEndsIn}
 use Rattle.papaya_lowers.specs.Given.SeizeActs.Waits.{SettlesOn}
-use Rattle.papaya_works.proofs.Given.Scenes.Told.{as_step}
-use Rattle.papaya_works.specs.Given.Scenes.Scene.{slot_of}
+use Rattle.papaya_works.proofs.Given.ScenesTold.{as_step}
+use Rattle.papaya_works.specs.Given.ScenesScene.{slot_of}
 
 -- a row that works on one slot settles on that
 pub on_slot : (slot s : ℕ) (row : Row) → IsRowOn slot row → SettlesOn s row → s ≡ slot

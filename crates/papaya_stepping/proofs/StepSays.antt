@@ -20,16 +20,16 @@ use Rattle.papaya_lowers.specs.Given.Raw.declared.machines.machine.Machine.{Mach
 use Rattle.papaya_lowers.specs.Given.Raw.declared.machines.machine.Machine.TheVariants as kinds
 use Rattle.papaya_lowers.specs.Given.Raw.declared.machines.progress.Progress.{Progress}
 use Rattle.papaya_lowers.specs.Given.Raw.declared.machines.progress.Progress.TheVariants as progress
-use Rattle.papaya_works.specs.Given.Schedules.declared.call.Call.{Call}
-use Rattle.papaya_works.specs.Given.Schedules.declared.call.Call.TheVariants.{On, Reserve as Reserves, Len, Walk}
-use Rattle.papaya_works.specs.Given.Schedules.declared.call.OneKey.{OneKey}
-use Rattle.papaya_works.specs.Given.Schedules.declared.outcome.Outcome.{Outcome}
-use Rattle.papaya_works.specs.Given.Schedules.declared.outcome.Outcome.TheVariants.{Asks}
-use Rattle.papaya_works.specs.Given.Schedules.declared.effect.Effect.{Effect}
-use Rattle.papaya_works.specs.Given.Schedules.Coming.{asks_of_key}
-use Rattle.papaya_works.specs.Given.Schedules.Effects.{with_effects}
-use Rattle.papaya_works.specs.Given.Schedules.Moment.{UnderWay as CallThere, Moment}
-use Rattle.papaya_works.specs.Given.Schedules.Views.{call_of}
+use Rattle.papaya_works.specs.Given.SchedulesDeclared.call.Call.{Call}
+use Rattle.papaya_works.specs.Given.SchedulesDeclared.call.Call.TheVariants.{On, Reserve as Reserves, Len, Walk}
+use Rattle.papaya_works.specs.Given.SchedulesDeclared.call.OneKey.{OneKey}
+use Rattle.papaya_works.specs.Given.SchedulesDeclared.outcome.Outcome.{Outcome}
+use Rattle.papaya_works.specs.Given.SchedulesDeclared.outcome.Outcome.TheVariants.{Asks}
+use Rattle.papaya_works.specs.Given.SchedulesDeclared.effect.Effect.{Effect}
+use Rattle.papaya_works.specs.Given.SchedulesComing.{asks_of_key}
+use Rattle.papaya_works.specs.Given.SchedulesEffects.{with_effects}
+use Rattle.papaya_works.specs.Given.SchedulesMoment.{UnderWay as CallThere, Moment}
+use Rattle.papaya_works.specs.Given.SchedulesViews.{call_of}
 use Rattle.papaya_lowers.specs.Given.Late.Faults.{RoomInReserving}
 use Rattle.papaya_lowers.specs.Given.Late.Kinds.{FaultFits, FitsAsking, FitsAt}
 use Rattle.papaya_lowers.specs.Given.Points.Told.{IsRowOfCall}
@@ -40,34 +40,34 @@ use Rattle.papaya_lowers.specs.Given.Callers.Together.{CallOnKey, UnderWay, OnKe
 use Rattle.papaya_lowers.proofs.Given.Callers.Together.At.{at_same}
 use Rattle.papaya_lowers.specs.Given.Finishes.Machines.{GoesOnAs, machine_of}
 use Rattle.papaya_lowers.specs.Given.Finishes.Maps.{Standing}
-use Rattle.papaya_works.specs.Given.Effects.Effects.{effects_of, known_after}
-use Rattle.papaya_works.specs.Given.Effects.Known.{Known}
-use Rattle.papaya_works.specs.Given.Effects.declared.acting.Acting.TheVariants as acts
-use Rattle.papaya_works.specs.Given.Effects.declared.role.Role.TheVariants as role
-use Rattle.papaya_works.specs.Given.Follows.Calls.{IsCalled}
-use Rattle.papaya_works.specs.Given.Hands.Asked.{AsksThere, IsAskedAs, IsAskedOn}
-use Rattle.papaya_works.specs.Given.Hands.Calling.{AsksJust}
-use Rattle.papaya_works.proofs.Given.Hands.Replacing.{IsOn, calls_after}
-use Rattle.papaya_works.specs.Given.Moments.Whole.{ShowsWhole}
-use Rattle.papaya_works.proofs.Given.Moments.Calls.{calls_keep_whole}
-use Rattle.papaya_works.specs.Given.Histories.Asking.{IsToldQuestion}
-use Rattle.papaya_works.proofs.Given.Histories.AnyCall.HasWords.{questions_have_words}
-use Rattle.papaya_works.proofs.Given.Histories.Asking.{asking_steps_stand_there}
-use Rattle.papaya_works.proofs.Given.Histories.Refusals.{refused}
-use Rattle.papaya_works.specs.Given.Named.Machines.{IsAsFar, RefusedForRoom}
-use Rattle.papaya_works.specs.Given.Named.Seen.{kind_of}
+use Rattle.papaya_works.specs.Given.EffectsEffects.{effects_of, known_after}
+use Rattle.papaya_works.specs.Given.EffectsKnown.{Known}
+use Rattle.papaya_works.specs.Given.EffectsDeclared.acting.Acting.TheVariants as acts
+use Rattle.papaya_works.specs.Given.EffectsDeclared.role.Role.TheVariants as role
+use Rattle.papaya_works.specs.Given.FollowsCalls.{IsCalled}
+use Rattle.papaya_works.specs.Given.HandsAsked.{AsksThere, IsAskedAs, IsAskedOn}
+use Rattle.papaya_works.specs.Given.HandsCalling.{AsksJust}
+use Rattle.papaya_works.proofs.Given.HandsReplacing.{IsOn, calls_after}
+use Rattle.papaya_works.specs.Given.MomentsWhole.{ShowsWhole}
+use Rattle.papaya_works.proofs.Given.MomentsCalls.{calls_keep_whole}
+use Rattle.papaya_works.specs.Given.HistoriesAsking.{IsToldQuestion}
+use Rattle.papaya_works.proofs.Given.HistoriesAnyCall.HasWords.{questions_have_words}
+use Rattle.papaya_works.proofs.Given.HistoriesAsking.{asking_steps_stand_there}
+use Rattle.papaya_works.proofs.Given.HistoriesRefusals.{refused}
+use Rattle.papaya_works.specs.Given.NamedMachines.{IsAsFar, RefusedForRoom}
+use Rattle.papaya_works.specs.Given.NamedSeen.{kind_of}
 use Rattle.papaya_stepping.specs.Stepping.{ComesAs, IsFaultOn, far_then, outcome_of}
-use Rattle.papaya_works.specs.Given.Named.Telling.{number_by, number_in}
-use Rattle.papaya_works.specs.Given.Named.declared.kind.Kind.{Kind}
-use Rattle.papaya_works.specs.Given.Named.declared.kind.Kind.TheVariants as kind
+use Rattle.papaya_works.specs.Given.NamedTelling.{number_by, number_in}
+use Rattle.papaya_works.specs.Given.NamedDeclared.kind.Kind.{Kind}
+use Rattle.papaya_works.specs.Given.NamedDeclared.kind.Kind.TheVariants as kind
 use Rattle.papaya_stepping.proofs.RoomSays.{NeverRefused, SaysRoom, reserve_room, sum_room}
 use Rattle.papaya_stepping.proofs.KeySays.{key_asks, key_refused}
-use Rattle.papaya_works.proofs.Given.Scheduler.Replied.{of_kind}
+use Rattle.papaya_works.proofs.Given.SchedulerReplied.{of_kind}
 use Rattle.papaya_stepping.proofs.SweepSays.{WalkSays}
-use Rattle.papaya_works.proofs.Given.Scenes.May.{standing_is}
-use Rattle.papaya_works.specs.Given.Scenes.Held.{Held, IsAt}
-use Rattle.papaya_works.specs.Given.Scenes.Scene.{Scene, slot_of}
-use Rattle.papaya_works.specs.Given.Scenes.Stepping.{StepLeads, scene_after}
+use Rattle.papaya_works.proofs.Given.ScenesMay.{standing_is}
+use Rattle.papaya_works.specs.Given.ScenesHeld.{Held, IsAt}
+use Rattle.papaya_works.specs.Given.ScenesScene.{Scene, slot_of}
+use Rattle.papaya_works.specs.Given.ScenesStepping.{StepLeads, scene_after}
 
 pub the : {X : Type 0} (a b : X) → ◌≡◌ {A = Option X} (Some a) (Some b) → a ≡ b
 the a b e = cc e

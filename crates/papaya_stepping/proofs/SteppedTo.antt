@@ -8,31 +8,31 @@ use Rattle.papaya_runs.specs.Given.Tables.declared.node.Node.{Node}
 use Rattle.papaya_lowers.specs.Given.Raw.declared.machines.machine.Machine.{Machine}
 use Rattle.papaya_lowers.specs.Given.Raw.declared.machines.progress.Progress.{Progress}
 use Rattle.papaya_runs.specs.Same.{is_same}
-use Rattle.papaya_works.specs.Given.Schedules.Moment.{Moment}
-use Rattle.papaya_works.specs.Given.Schedules.Terms.{Terms}
+use Rattle.papaya_works.specs.Given.SchedulesMoment.{Moment}
+use Rattle.papaya_works.specs.Given.SchedulesTerms.{Terms}
 use Rattle.papaya_lowers.specs.Given.Callers.Rows.{IsUsedAlike}
 use Rattle.papaya_lowers.specs.Given.Callers.Together.{UnderWay}
 use Rattle.papaya_lowers.proofs.Given.Callers.Together.At.{at_other, at_same}
 use Rattle.papaya_lowers.specs.Given.Finishes.Machines.{MachineStepsAmong, machine_of}
 use Rattle.papaya_lowers.specs.Given.Finishes.Maps.{IsSameMap, Standing}
-use Rattle.papaya_works.specs.Given.Scenes.declared.row.SlotUse.{SlotUse}
-use Rattle.papaya_works.specs.Given.Scenes.declared.row.SlotUse.TheVariants as used
-use Rattle.papaya_works.specs.Given.Follows.Calling.{NoneNamed}
-use Rattle.papaya_works.proofs.Given.Follows.Calling.{apart_back, is_same_refl}
-use Rattle.papaya_works.specs.Given.Logged.Shown.{IsShown}
-use Rattle.papaya_works.specs.Given.Logged.declared.logged.Logged.{Logged}
-use Rattle.papaya_works.specs.Given.Scheduler.Played.{CallsAs, IsUnderWayAs, StandsAs}
-use Rattle.papaya_works.specs.Given.Named.Seen.{is_named, named, seen, seen_of}
-use Rattle.papaya_works.specs.Given.Named.declared.caller.Caller.{Caller}
-use Rattle.papaya_works.specs.Given.Named.declared.caller.Stands.{Stands as HowFar}
-use Rattle.papaya_works.specs.Given.Named.declared.named_map.NamedMap.{NamedMap}
-use Rattle.papaya_works.specs.Given.Scheduler.declared.scheduler.Scheduler.{Scheduler}
-use Rattle.papaya_works.proofs.Given.Rows.Facts.{no_ending_of, no_making_of, no_work_at, row_rests, used_once}
-use Rattle.papaya_works.proofs.Given.Scheduler.Here.{HereAs}
-use Rattle.papaya_works.proofs.Given.Rows.Lists.{all_so, one_of, removed_all, removed_any, removed_count, set_all, set_any, set_count}
-use Rattle.papaya_works.specs.Given.Executor.IsThere.{IsUsedAs, held_by, use_at, work_of}
-use Rattle.papaya_works.specs.Given.Scenes.Scene.{Scene, slot_of}
-use Rattle.papaya_works.specs.Given.Scenes.Stepping.{StepLeads, scene_after}
+use Rattle.papaya_works.specs.Given.ScenesDeclared.row.SlotUse.{SlotUse}
+use Rattle.papaya_works.specs.Given.ScenesDeclared.row.SlotUse.TheVariants as used
+use Rattle.papaya_works.specs.Given.FollowsCalling.{NoneNamed}
+use Rattle.papaya_works.proofs.Given.FollowsCalling.{apart_back, is_same_refl}
+use Rattle.papaya_works.specs.Given.LoggedShown.{IsShown}
+use Rattle.papaya_works.specs.Given.LoggedDeclared.logged.Logged.{Logged}
+use Rattle.papaya_works.specs.Given.SchedulerPlayed.{CallsAs, IsUnderWayAs, StandsAs}
+use Rattle.papaya_works.specs.Given.NamedSeen.{is_named, named, seen, seen_of}
+use Rattle.papaya_works.specs.Given.NamedDeclared.caller.Caller.{Caller}
+use Rattle.papaya_works.specs.Given.NamedDeclared.caller.Stands.{Stands as HowFar}
+use Rattle.papaya_works.specs.Given.NamedDeclared.named_map.NamedMap.{NamedMap}
+use Rattle.papaya_works.specs.Given.SchedulerDeclared.scheduler.Scheduler.{Scheduler}
+use Rattle.papaya_works.proofs.Given.RowsFacts.{no_ending_of, no_making_of, no_work_at, row_rests, used_once}
+use Rattle.papaya_works.proofs.Given.SchedulerHere.{HereAs}
+use Rattle.papaya_works.proofs.Given.RowsLists.{all_so, one_of, removed_all, removed_any, removed_count, set_all, set_any, set_count}
+use Rattle.papaya_works.specs.Given.ExecutorIsThere.{IsUsedAs, held_by, use_at, work_of}
+use Rattle.papaya_works.specs.Given.ScenesScene.{Scene, slot_of}
+use Rattle.papaya_works.specs.Given.ScenesStepping.{StepLeads, scene_after}
 
 -- a slot that is used alike is used in that way
 used_alike : (v : SlotUse) (u u2 : Use) → IsUsedAs v u → IsUsedAlike u u2 → IsUsedAs v u2

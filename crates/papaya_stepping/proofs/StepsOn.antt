@@ -1,16 +1,16 @@
 -- Many steps of a call: what the loop over them keeps, and what they come to.
 use Rattle.std.specs.Prelude.{◌≡◌, ◌<◌, ◌+◌, ℕ, Bool, true, false, List}
 use Rattle.std.proofs.Common.{refl, sym, subst, ◌∙◌, arith}
-use Rattle.papaya_works.specs.Given.Schedules.declared.effect.Effect.{Effect}
-use Rattle.papaya_works.specs.Given.Schedules.declared.outcome.Outcome.{Outcome}
-use Rattle.papaya_works.specs.Given.Schedules.Moment.{Moment}
-use Rattle.papaya_works.specs.Given.Schedules.Terms.{Terms}
-use Rattle.papaya_works.specs.Given.Scheduler.Played.{StandsFor}
+use Rattle.papaya_works.specs.Given.SchedulesDeclared.effect.Effect.{Effect}
+use Rattle.papaya_works.specs.Given.SchedulesDeclared.outcome.Outcome.{Outcome}
+use Rattle.papaya_works.specs.Given.SchedulesMoment.{Moment}
+use Rattle.papaya_works.specs.Given.SchedulesTerms.{Terms}
+use Rattle.papaya_works.specs.Given.SchedulerPlayed.{StandsFor}
 use Rattle.papaya_stepping.specs.Stepping.{ComesBy, GoesAt, GoneFor, IsMidst, IsPlaced, IsStepped, MayGo, MayStep, StepsCome}
-use Rattle.papaya_works.specs.Given.Named.Telling.{goes_on}
-use Rattle.papaya_works.specs.Given.Scheduler.declared.scheduler.Scheduler.{Scheduler}
+use Rattle.papaya_works.specs.Given.NamedTelling.{goes_on}
+use Rattle.papaya_works.specs.Given.SchedulerDeclared.scheduler.Scheduler.{Scheduler}
 use Rattle.papaya_stepping.proofs.ComesOn.{comes_next, midst_next}
-use Rattle.papaya_works.proofs.Given.Scheduler.Here.{here_at}
+use Rattle.papaya_works.proofs.Given.SchedulerHere.{here_at}
 use Rattle.papaya_stepping.proofs.StepSays.{the}
 
 module _ {K V S : Type 0} (same : K → K → Bool) (hash : K → ℕ) (place : ℕ) (first : Scheduler K V S) (before : List Effect) where

@@ -33,11 +33,11 @@ use Rattle.papaya_lowers.specs.Given.Raw.declared.machines.machine.Machine.TheVa
 use Rattle.papaya_lowers.specs.Given.Raw.declared.machines.progress.Progress.{Progress}
 use Rattle.papaya_lowers.specs.Given.Raw.declared.machines.progress.Progress.TheVariants as progress
 use Rattle.papaya_lowers.proofs.Given.Rule.Keys.Always.{Always, AlwaysOf, always_if, always_plan_as}
-use Rattle.papaya_works.specs.Given.Teller.declared.changed.Changed.TheVariants.{Nothing}
-use Rattle.papaya_works.proofs.Given.Histories.Asking.{always_told, always_turned}
-use Rattle.papaya_works.specs.Given.Named.Machines.{IsBefore}
-use Rattle.papaya_works.specs.Given.Scenes.Held.{Held}
-use Rattle.papaya_works.specs.Given.Scenes.Stepping.{StepsFrom}
+use Rattle.papaya_works.specs.Given.TellerDeclared.changed.Changed.TheVariants.{Nothing}
+use Rattle.papaya_works.proofs.Given.HistoriesAsking.{always_told, always_turned}
+use Rattle.papaya_works.specs.Given.NamedMachines.{IsBefore}
+use Rattle.papaya_works.specs.Given.ScenesHeld.{Held}
+use Rattle.papaya_works.specs.Given.ScenesStepping.{StepsFrom}
 
 -- a walk before its first pair
 module _ (K V : Type 0) (p : Sweep) (walks : p.purpose ≡ Walks) where

@@ -14,10 +14,10 @@ use Rattle.papaya_lowers.specs.Given.Raw.declared.machines.machine.Machine.{Mach
 use Rattle.papaya_lowers.specs.Given.Raw.declared.machines.machine.Machine.TheVariants as kinds
 use Rattle.papaya_lowers.specs.Given.Raw.declared.machines.progress.Progress.{Progress}
 use Rattle.papaya_lowers.specs.Given.Raw.declared.machines.progress.Progress.TheVariants as progress
-use Rattle.papaya_works.specs.Given.Schedules.declared.call.Call.{Call}
-use Rattle.papaya_works.specs.Given.Schedules.declared.call.Call.TheVariants.{Clear, Retain, Walk}
-use Rattle.papaya_works.specs.Given.Schedules.Moment.{UnderWay as CallThere, Moment}
-use Rattle.papaya_works.specs.Given.Schedules.Views.{call_of}
+use Rattle.papaya_works.specs.Given.SchedulesDeclared.call.Call.{Call}
+use Rattle.papaya_works.specs.Given.SchedulesDeclared.call.Call.TheVariants.{Clear, Retain, Walk}
+use Rattle.papaya_works.specs.Given.SchedulesMoment.{UnderWay as CallThere, Moment}
+use Rattle.papaya_works.specs.Given.SchedulesViews.{call_of}
 use Rattle.papaya_lowers.specs.Given.Late.Faults.{RoomInSweeping}
 use Rattle.papaya_lowers.specs.Given.Late.FactsSweeps.{SweepingFacts}
 use Rattle.papaya_lowers.specs.Given.Late.ToldSweeps.{IsRowOfSweep}
@@ -26,23 +26,23 @@ use Rattle.papaya_lowers.specs.Given.Callers.Sights.{seen_by}
 use Rattle.papaya_lowers.specs.Given.Callers.Together.{UnderWay, OverAll, Stands as TogetherStands, Together, in_slot}
 use Rattle.papaya_lowers.specs.Given.Finishes.Machines.{GoesOnAs, machine_of}
 use Rattle.papaya_lowers.specs.Given.Finishes.Maps.{Standing}
-use Rattle.papaya_works.specs.Given.Effects.Known.{Known}
-use Rattle.papaya_works.specs.Given.Hands.Calling.{AsksJust}
-use Rattle.papaya_works.specs.Given.Moments.Whole.{ShowsWhole}
-use Rattle.papaya_works.proofs.Given.Histories.NoKey.Sweeps.{SweepsOn, sweeps_on}
-use Rattle.papaya_works.specs.Given.Named.Machines.{IsAsFar, IsFor, RefusedForRoom}
-use Rattle.papaya_works.specs.Given.Named.Seen.{kind_of}
+use Rattle.papaya_works.specs.Given.EffectsKnown.{Known}
+use Rattle.papaya_works.specs.Given.HandsCalling.{AsksJust}
+use Rattle.papaya_works.specs.Given.MomentsWhole.{ShowsWhole}
+use Rattle.papaya_works.proofs.Given.HistoriesNoKey.Sweeps.{SweepsOn, sweeps_on}
+use Rattle.papaya_works.specs.Given.NamedMachines.{IsAsFar, IsFor, RefusedForRoom}
+use Rattle.papaya_works.specs.Given.NamedSeen.{kind_of}
 use Rattle.papaya_stepping.specs.Stepping.{ComesAs, far_then, outcome_of}
-use Rattle.papaya_works.specs.Given.Named.declared.caller.Stands.TheVariants as far
-use Rattle.papaya_works.specs.Given.Named.declared.kind.Kind.{Kind}
-use Rattle.papaya_works.specs.Given.Named.declared.kind.Kind.TheVariants as kind
+use Rattle.papaya_works.specs.Given.NamedDeclared.caller.Stands.TheVariants as far
+use Rattle.papaya_works.specs.Given.NamedDeclared.kind.Kind.{Kind}
+use Rattle.papaya_works.specs.Given.NamedDeclared.kind.Kind.TheVariants as kind
 use Rattle.papaya_stepping.proofs.RoomSays.{SaysRoom, sweep_room}
 use Rattle.papaya_stepping.proofs.StepSays.{Says, ended_not, goes_as, here_then, known2, no_key, s2, then_there, together2, walk_comes, walk_far}
 use Rattle.papaya_stepping.proofs.SweepSays.{IsWalkSaying, ShowsNone, WalkSays, shows_none, walk_says}
-use Rattle.papaya_works.proofs.Given.Scenes.May.{standing_is}
-use Rattle.papaya_works.specs.Given.Scenes.Held.{Held, IsAt}
-use Rattle.papaya_works.specs.Given.Scenes.Scene.{Scene, slot_of}
-use Rattle.papaya_works.specs.Given.Scenes.Stepping.{StepLeads}
+use Rattle.papaya_works.proofs.Given.ScenesMay.{standing_is}
+use Rattle.papaya_works.specs.Given.ScenesHeld.{Held, IsAt}
+use Rattle.papaya_works.specs.Given.ScenesScene.{Scene, slot_of}
+use Rattle.papaya_works.specs.Given.ScenesStepping.{StepLeads}
 
 -- what a sweep knows where it stands, if it stands in no row
 module _ {K V : Type 0} (same : K → K → Bool) (s : Scene K V) (map i : ℕ) (st : Standing K)

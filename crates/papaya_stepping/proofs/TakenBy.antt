@@ -2,25 +2,25 @@
 use Rattle.std.specs.Prelude.{◌≡◌, ℕ, Bool, List, [], position, Some}
 use Rattle.std.proofs.Common.{refl, sym, subst, arith}
 use Rattle.papaya_runs.specs.Stopped.{most_steps}
-use Rattle.papaya_works.specs.Given.Schedules.declared.event.Event.{Event}
-use Rattle.papaya_works.specs.Given.Schedules.declared.event.Event.TheVariants.{Go, Step}
-use Rattle.papaya_works.specs.Given.Schedules.declared.outcome.Outcome.{Outcome}
-use Rattle.papaya_works.specs.Given.Schedules.declared.outcome.Outcome.TheVariants.{Asks, Ready}
-use Rattle.papaya_works.specs.Given.Schedules.After.{moment}
-use Rattle.papaya_works.specs.Given.Schedules.Entry.{Entry}
-use Rattle.papaya_works.specs.Given.Schedules.Moment.{Moment}
-use Rattle.papaya_works.specs.Given.Schedules.Terms.{Terms}
-use Rattle.papaya_works.specs.Given.Scheduler.Played.{IsDue, entry_of}
-use Rattle.papaya_works.specs.Given.Named.Seen.{is_named}
+use Rattle.papaya_works.specs.Given.SchedulesDeclared.event.Event.{Event}
+use Rattle.papaya_works.specs.Given.SchedulesDeclared.event.Event.TheVariants.{Go, Step}
+use Rattle.papaya_works.specs.Given.SchedulesDeclared.outcome.Outcome.{Outcome}
+use Rattle.papaya_works.specs.Given.SchedulesDeclared.outcome.Outcome.TheVariants.{Asks, Ready}
+use Rattle.papaya_works.specs.Given.SchedulesAfter.{moment}
+use Rattle.papaya_works.specs.Given.SchedulesEntry.{Entry}
+use Rattle.papaya_works.specs.Given.SchedulesMoment.{Moment}
+use Rattle.papaya_works.specs.Given.SchedulesTerms.{Terms}
+use Rattle.papaya_works.specs.Given.SchedulerPlayed.{IsDue, entry_of}
+use Rattle.papaya_works.specs.Given.NamedSeen.{is_named}
 use Rattle.papaya_stepping.specs.Stepping.{PlaysOn, SaysAgain, TakenAs, TakenBy}
-use Rattle.papaya_works.specs.Given.Named.declared.caller.Stands.{Stands as HowFar}
-use Rattle.papaya_works.specs.Given.Named.declared.caller.Stands.TheVariants as far
-use Rattle.papaya_works.specs.Given.Scheduler.declared.played.Played.{Played}
-use Rattle.papaya_works.specs.Given.Scheduler.declared.scheduler.Scheduler.{Scheduler}
-use Rattle.papaya_works.proofs.Given.Scheduler.Here.{Here, here_at}
+use Rattle.papaya_works.specs.Given.NamedDeclared.caller.Stands.{Stands as HowFar}
+use Rattle.papaya_works.specs.Given.NamedDeclared.caller.Stands.TheVariants as far
+use Rattle.papaya_works.specs.Given.SchedulerDeclared.played.Played.{Played}
+use Rattle.papaya_works.specs.Given.SchedulerDeclared.scheduler.Scheduler.{Scheduler}
+use Rattle.papaya_works.proofs.Given.SchedulerHere.{Here, here_at}
 use Rattle.papaya_stepping.proofs.PlaysAgain.{go_asks, go_ready, step_asks, step_ready}
 use Rattle.papaya_stepping.proofs.PlaysSteps.{plays_go, plays_step}
-use Rattle.papaya_works.proofs.Given.Scheduler.Rights.{entry_is, quiet}
+use Rattle.papaya_works.proofs.Given.SchedulerRights.{entry_is, quiet}
 
 module _ {K V S : Type 0} (same : K → K → Bool) (hash : K → ℕ) (terms : Terms) (log : List (Entry K V)) (own : List ℕ) (refuse : Bool) (old new : Scheduler K V S) (place : ℕ)
     (placed : Some place ≡ position (is_named own) old.calls) (played : Played V) where

@@ -11,21 +11,21 @@ use Rattle.papaya_lowers.specs.Given.Raw.declared.machines.call.Calling.{Calling
 use Rattle.papaya_lowers.specs.Given.Raw.declared.machines.call.Calling.TheVariants as at
 use Rattle.papaya_lowers.specs.Given.Rule.Chart.{Chart}
 use Rattle.papaya_lowers.specs.Given.Rule.Words.{Blocks}
-use Rattle.papaya_works.specs.Given.Shown.Shown.{tables_on}
+use Rattle.papaya_works.specs.Given.ShownShown.{tables_on}
 use Rattle.papaya_runs.specs.Present.{slot_of_guard}
 use Rattle.papaya_runs.specs.Same.{is_same}
-use Rattle.papaya_works.specs.Given.Schedules.declared.call.Call.{Call}
-use Rattle.papaya_works.specs.Given.Schedules.declared.call.Call.TheVariants.{Clear, On, Reserve, Retain, Walk}
-use Rattle.papaya_works.specs.Given.Schedules.declared.call.OneKey.{OneKey}
-use Rattle.papaya_works.specs.Given.Schedules.declared.effect.Thing.{Thing}
-use Rattle.papaya_works.specs.Given.Schedules.Growing.{only_looks}
-use Rattle.papaya_works.specs.Given.Schedules.InUse.{is_handing}
-use Rattle.papaya_works.specs.Given.Schedules.Lists.{is_empty}
-use Rattle.papaya_works.specs.Given.Schedules.Moment.{TableThere, UnderWay as CallThere, Moment}
-use Rattle.papaya_works.specs.Given.Schedules.Terms.{Terms}
-use Rattle.papaya_works.specs.Given.Schedules.Sequential.{key_of}
-use Rattle.papaya_works.specs.Given.Schedules.Views.{call_of, chain_of, finite_map, first_of, first_or, grows_in_chunks, map_at, tables_of}
-use Rattle.papaya_works.specs.Given.Schedules.Waiting.{is_resizing, is_to_be_copied, may_wait_for, waits_on_map}
+use Rattle.papaya_works.specs.Given.SchedulesDeclared.call.Call.{Call}
+use Rattle.papaya_works.specs.Given.SchedulesDeclared.call.Call.TheVariants.{Clear, On, Reserve, Retain, Walk}
+use Rattle.papaya_works.specs.Given.SchedulesDeclared.call.OneKey.{OneKey}
+use Rattle.papaya_works.specs.Given.SchedulesDeclared.effect.Thing.{Thing}
+use Rattle.papaya_works.specs.Given.SchedulesGrowing.{only_looks}
+use Rattle.papaya_works.specs.Given.SchedulesInUse.{is_handing}
+use Rattle.papaya_works.specs.Given.SchedulesLists.{is_empty}
+use Rattle.papaya_works.specs.Given.SchedulesMoment.{TableThere, UnderWay as CallThere, Moment}
+use Rattle.papaya_works.specs.Given.SchedulesTerms.{Terms}
+use Rattle.papaya_works.specs.Given.SchedulesSequential.{key_of}
+use Rattle.papaya_works.specs.Given.SchedulesViews.{call_of, chain_of, finite_map, first_of, first_or, grows_in_chunks, map_at, tables_of}
+use Rattle.papaya_works.specs.Given.SchedulesWaiting.{is_resizing, is_to_be_copied, may_wait_for, waits_on_map}
 use Rattle.papaya_lowers.specs.Given.Late.Kinds.{LooksAt}
 use Rattle.papaya_lowers.specs.Given.Points.Told.{IsRowOfCall}
 use Rattle.papaya_lowers.specs.Given.Callers.OverAll.{CallOverAll}
@@ -33,18 +33,18 @@ use Rattle.papaya_lowers.specs.Given.Callers.Rooms.{CallForRoom}
 use Rattle.papaya_lowers.specs.Given.Callers.Together.{CallOnKey, UnderWay, OnKey, ForRoom, Counting, OverAll}
 use Rattle.papaya_lowers.specs.Given.Finishes.Machines.{machine_of}
 use Rattle.papaya_lowers.specs.Given.Finishes.Maps.{Standing}
-use Rattle.papaya_works.specs.Given.Follows.Calls.{IsCalled}
-use Rattle.papaya_works.proofs.Given.Hands.Calling.{caller_is}
-use Rattle.papaya_works.specs.Given.Owes.Looking.{IsLooking}
-use Rattle.papaya_works.proofs.Given.Rows.Holders.{works_there}
-use Rattle.papaya_works.specs.Given.Scheduler.Played.{StandsFor}
-use Rattle.papaya_works.specs.Given.Scheduler.Shapes.{shape_of}
-use Rattle.papaya_works.specs.Given.Scheduler.declared.scheduler.Scheduler.{Scheduler}
-use Rattle.papaya_works.proofs.Given.Scheduler.HeldTold.{has_call, its_guard, one_passes}
-use Rattle.papaya_works.proofs.Given.Scheduler.ShapesHere.{shapes_from}
-use Rattle.papaya_works.proofs.Given.Scenes.May.{standing_is}
-use Rattle.papaya_works.specs.Given.Scenes.Scene.{slot_of}
-use Rattle.papaya_works.specs.Given.Executor.IsThere.{held_by}
+use Rattle.papaya_works.specs.Given.FollowsCalls.{IsCalled}
+use Rattle.papaya_works.proofs.Given.HandsCalling.{caller_is}
+use Rattle.papaya_works.specs.Given.OwesLooking.{IsLooking}
+use Rattle.papaya_works.proofs.Given.RowsHolders.{works_there}
+use Rattle.papaya_works.specs.Given.SchedulerPlayed.{StandsFor}
+use Rattle.papaya_works.specs.Given.SchedulerShapes.{shape_of}
+use Rattle.papaya_works.specs.Given.SchedulerDeclared.scheduler.Scheduler.{Scheduler}
+use Rattle.papaya_works.proofs.Given.SchedulerHeldTold.{has_call, its_guard, one_passes}
+use Rattle.papaya_works.proofs.Given.SchedulerShapesHere.{shapes_from}
+use Rattle.papaya_works.proofs.Given.ScenesMay.{standing_is}
+use Rattle.papaya_works.specs.Given.ScenesScene.{slot_of}
+use Rattle.papaya_works.specs.Given.ExecutorIsThere.{held_by}
 
 -- as many tables as are counted
 tables_count : {K : Type 0} (c : Chart K) (blocks : Blocks) (t k : ℕ) → length (tables_on c blocks t k) ≡ k

@@ -35,26 +35,26 @@ use Rattle.papaya_lowers.proofs.ItsPair.{waits_for_its_pair}
 use Rattle.papaya_lowers.proofs.Given.Waits.Laws.{calls_wait_for_a_copying, call_rows_wait_for_a_holder}
 use Rattle.papaya_lowers.proofs.Given.Waits.Promised.{map_of}
 use Rattle.papaya_lowers.proofs.Given.Waits.Works.{not_idle, works}
-use Rattle.papaya_works.specs.Given.Schedules.declared.call.OneKey.{OneKey}
-use Rattle.papaya_works.specs.Given.Schedules.Moment.{UnderWay as CallThere, Moment}
-use Rattle.papaya_works.specs.Given.Schedules.Sequential.{key_of}
-use Rattle.papaya_works.specs.Given.Schedules.Terms.{Terms}
-use Rattle.papaya_works.specs.Given.Schedules.Views.{call_of, finite_map, grows_in_chunks, map_at}
-use Rattle.papaya_works.specs.Given.Schedules.Waiting.{is_to_be_copied, may_wait_for, waits_on_map}
-use Rattle.papaya_works.specs.Given.Teller.declared.changed.Changed.{Changed}
-use Rattle.papaya_works.specs.Given.Teller.declared.changed.Changed.TheVariants as changed
+use Rattle.papaya_works.specs.Given.SchedulesDeclared.call.OneKey.{OneKey}
+use Rattle.papaya_works.specs.Given.SchedulesMoment.{UnderWay as CallThere, Moment}
+use Rattle.papaya_works.specs.Given.SchedulesSequential.{key_of}
+use Rattle.papaya_works.specs.Given.SchedulesTerms.{Terms}
+use Rattle.papaya_works.specs.Given.SchedulesViews.{call_of, finite_map, grows_in_chunks, map_at}
+use Rattle.papaya_works.specs.Given.SchedulesWaiting.{is_to_be_copied, may_wait_for, waits_on_map}
+use Rattle.papaya_works.specs.Given.TellerDeclared.changed.Changed.{Changed}
+use Rattle.papaya_works.specs.Given.TellerDeclared.changed.Changed.TheVariants as changed
 use Rattle.papaya_lowers.specs.Given.Finishes.Maps.{Standing}
-use Rattle.papaya_works.specs.Given.Follows.Calls.{IsCalled}
-use Rattle.papaya_works.proofs.Given.Owes.Tables.Hosts.{Step}
-use Rattle.papaya_works.specs.Given.Scheduler.Played.{StandsFor}
-use Rattle.papaya_works.specs.Given.Scheduler.declared.scheduler.Scheduler.{Scheduler}
+use Rattle.papaya_works.specs.Given.FollowsCalls.{IsCalled}
+use Rattle.papaya_works.proofs.Given.OwesTables.Hosts.{Step}
+use Rattle.papaya_works.specs.Given.SchedulerPlayed.{StandsFor}
+use Rattle.papaya_works.specs.Given.SchedulerDeclared.scheduler.Scheduler.{Scheduler}
 use Rattle.papaya_stepping.proofs.CopiesWait.{only_looks_by}
 use Rattle.papaya_stepping.proofs.BeingCopied.{may_be_copied}
 use Rattle.papaya_stepping.proofs.QuietWaits.{asked_quiet, row_quiet, try_quiet}
 use Rattle.papaya_stepping.proofs.Waiting.{at_once_for_resizes, for_pair, grows_as, waits_for_holder, waits_for_worker}
 use Rattle.papaya_stepping.proofs.RoomsWait.{at_once_on, copier_on, copier_waits, dispose_on, late_on, on_slot}
-use Rattle.papaya_works.proofs.Given.Scenes.Told.{as_step}
-use Rattle.papaya_works.specs.Given.Scenes.Scene.{slot_of}
+use Rattle.papaya_works.proofs.Given.ScenesTold.{as_step}
+use Rattle.papaya_works.specs.Given.ScenesScene.{slot_of}
 
 module _ {K V S : Type 0} (same : K → K → Bool) (hash : K → ℕ) (terms : Terms) (m : Moment K V) (p : Scheduler K V S) (stands : StandsFor same hash terms m p) (of i : ℕ) (u : CallOnKey K V K)
     (under : stands.scene.calls of i ≡ Some (OnKey u)) (st : Standing K) (is : stands.scene.maps of ≡ Some st) where

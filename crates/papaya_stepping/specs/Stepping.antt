@@ -11,49 +11,49 @@ use Rattle.papaya_lowers.specs.Given.Raw.declared.machines.machine.Machine.TheVa
 use Rattle.papaya_lowers.specs.Given.Raw.declared.machines.progress.Progress.{Progress}
 use Rattle.papaya_lowers.specs.Given.Raw.declared.machines.progress.Progress.TheVariants as progress
 use Rattle.papaya_runs.specs.Stopped.{most_steps}
-use Rattle.papaya_works.specs.Given.Schedules.declared.call.Call.{Call}
-use Rattle.papaya_works.specs.Given.Schedules.declared.call.Call.TheVariants.{Len, On}
-use Rattle.papaya_works.specs.Given.Schedules.declared.call.OneKey.{OneKey}
-use Rattle.papaya_works.specs.Given.Schedules.declared.effect.Effect.{Effect}
-use Rattle.papaya_works.specs.Given.Schedules.declared.event.Event.{Event}
-use Rattle.papaya_works.specs.Given.Schedules.declared.event.Event.TheVariants.{Next}
-use Rattle.papaya_works.specs.Given.Schedules.declared.outcome.Outcome.{Outcome}
-use Rattle.papaya_works.specs.Given.Schedules.declared.outcome.Outcome.TheVariants.{Goes, Asks, Waits, Ready, Shows, Answered, Refused}
-use Rattle.papaya_works.specs.Given.Schedules.After.{moment, moments_from}
-use Rattle.papaya_works.specs.Given.Schedules.Beginning.{at_work}
-use Rattle.papaya_works.specs.Given.Schedules.Coming.{CountsTooMany, is_answer, is_at_limit, is_compute, is_walk, may_ask}
-use Rattle.papaya_works.specs.Given.Schedules.Effects.{with_effects, worked}
-use Rattle.papaya_works.specs.Given.Schedules.Entry.{Entry, IfCall, acting, caller_of, nameless}
-use Rattle.papaya_works.specs.Given.Schedules.InUse.{is_living}
-use Rattle.papaya_works.specs.Given.Schedules.Growing.{only_looks}
-use Rattle.papaya_works.specs.Given.Schedules.Lists.{OneOf}
-use Rattle.papaya_works.specs.Given.Schedules.Moment.{UnderWay as CallThere, Moment}
-use Rattle.papaya_works.specs.Given.Schedules.Sequential.{is_lookup}
-use Rattle.papaya_works.specs.Given.Schedules.Steps.{DoesFew, MakesSteps, stands_or, weight}
-use Rattle.papaya_works.specs.Given.Schedules.Terms.{Terms}
-use Rattle.papaya_works.specs.Given.Schedules.Views.{call_of, map_of}
-use Rattle.papaya_works.specs.Given.Schedules.Waiting.{WaitsLawfully, may_wait_for}
+use Rattle.papaya_works.specs.Given.SchedulesDeclared.call.Call.{Call}
+use Rattle.papaya_works.specs.Given.SchedulesDeclared.call.Call.TheVariants.{Len, On}
+use Rattle.papaya_works.specs.Given.SchedulesDeclared.call.OneKey.{OneKey}
+use Rattle.papaya_works.specs.Given.SchedulesDeclared.effect.Effect.{Effect}
+use Rattle.papaya_works.specs.Given.SchedulesDeclared.event.Event.{Event}
+use Rattle.papaya_works.specs.Given.SchedulesDeclared.event.Event.TheVariants.{Next}
+use Rattle.papaya_works.specs.Given.SchedulesDeclared.outcome.Outcome.{Outcome}
+use Rattle.papaya_works.specs.Given.SchedulesDeclared.outcome.Outcome.TheVariants.{Goes, Asks, Waits, Ready, Shows, Answered, Refused}
+use Rattle.papaya_works.specs.Given.SchedulesAfter.{moment, moments_from}
+use Rattle.papaya_works.specs.Given.SchedulesBeginning.{at_work}
+use Rattle.papaya_works.specs.Given.SchedulesComing.{CountsTooMany, is_answer, is_at_limit, is_compute, is_walk, may_ask}
+use Rattle.papaya_works.specs.Given.SchedulesEffects.{with_effects, worked}
+use Rattle.papaya_works.specs.Given.SchedulesEntry.{Entry, IfCall, acting, caller_of, nameless}
+use Rattle.papaya_works.specs.Given.SchedulesInUse.{is_living}
+use Rattle.papaya_works.specs.Given.SchedulesGrowing.{only_looks}
+use Rattle.papaya_works.specs.Given.SchedulesLists.{OneOf}
+use Rattle.papaya_works.specs.Given.SchedulesMoment.{UnderWay as CallThere, Moment}
+use Rattle.papaya_works.specs.Given.SchedulesSequential.{is_lookup}
+use Rattle.papaya_works.specs.Given.SchedulesSteps.{DoesFew, MakesSteps, stands_or, weight}
+use Rattle.papaya_works.specs.Given.SchedulesTerms.{Terms}
+use Rattle.papaya_works.specs.Given.SchedulesViews.{call_of, map_of}
+use Rattle.papaya_works.specs.Given.SchedulesWaiting.{WaitsLawfully, may_wait_for}
 use Rattle.papaya_lowers.specs.Given.Late.Faults.{IsRoom}
-use Rattle.papaya_works.specs.Given.Effects.Known.{Known, known}
-use Rattle.papaya_works.specs.Given.Follows.Calling.{come_to}
-use Rattle.papaya_works.specs.Given.Logged.Calling.{CallGoesOn, CallSteps, WalkGoesOn}
-use Rattle.papaya_works.specs.Given.Logged.Shown.{IsShown}
-use Rattle.papaya_works.specs.Given.Logged.declared.logged.Logged.{Logged}
-use Rattle.papaya_works.specs.Given.Scheduler.Played.{AsFar, BeginsSo, IsDue, IsPlayed, Plays, StandsAs, StandsFor, entry_of}
-use Rattle.papaya_works.specs.Given.Scheduler.Quiet.{IsQuiet}
-use Rattle.papaya_works.specs.Given.Named.Seen.{is_named, ready_place}
-use Rattle.papaya_works.specs.Given.Named.Telling.{answer_of, goes_on, number_by, kept}
-use Rattle.papaya_works.specs.Given.Named.declared.caller.Caller.{Caller}
-use Rattle.papaya_works.specs.Given.Named.declared.caller.Stands.{Stands as HowFar}
-use Rattle.papaya_works.specs.Given.Named.declared.caller.Stands.TheVariants as far
-use Rattle.papaya_works.specs.Given.Named.declared.kind.Kind.{Kind}
-use Rattle.papaya_works.specs.Given.Named.declared.kind.Kind.TheVariants as kind
-use Rattle.papaya_works.specs.Given.Scheduler.declared.played.Played.{Played}
-use Rattle.papaya_works.specs.Given.Scheduler.declared.scheduler.Scheduler.{Scheduler}
-use Rattle.papaya_works.specs.Given.Executor.IsThere.{IsThere, KeepsGiven}
-use Rattle.papaya_works.specs.Given.Executor.Replying.{AsksThere}
-use Rattle.papaya_works.specs.Given.Scenes.Scene.{HasCall, Scene}
-use Rattle.papaya_works.specs.Given.Scenes.Stepping.{has_ended}
+use Rattle.papaya_works.specs.Given.EffectsKnown.{Known, known}
+use Rattle.papaya_works.specs.Given.FollowsCalling.{come_to}
+use Rattle.papaya_works.specs.Given.LoggedCalling.{CallGoesOn, CallSteps, WalkGoesOn}
+use Rattle.papaya_works.specs.Given.LoggedShown.{IsShown}
+use Rattle.papaya_works.specs.Given.LoggedDeclared.logged.Logged.{Logged}
+use Rattle.papaya_works.specs.Given.SchedulerPlayed.{AsFar, BeginsSo, IsDue, IsPlayed, Plays, StandsAs, StandsFor, entry_of}
+use Rattle.papaya_works.specs.Given.SchedulerQuiet.{IsQuiet}
+use Rattle.papaya_works.specs.Given.NamedSeen.{is_named, ready_place}
+use Rattle.papaya_works.specs.Given.NamedTelling.{answer_of, goes_on, number_by, kept}
+use Rattle.papaya_works.specs.Given.NamedDeclared.caller.Caller.{Caller}
+use Rattle.papaya_works.specs.Given.NamedDeclared.caller.Stands.{Stands as HowFar}
+use Rattle.papaya_works.specs.Given.NamedDeclared.caller.Stands.TheVariants as far
+use Rattle.papaya_works.specs.Given.NamedDeclared.kind.Kind.{Kind}
+use Rattle.papaya_works.specs.Given.NamedDeclared.kind.Kind.TheVariants as kind
+use Rattle.papaya_works.specs.Given.SchedulerDeclared.played.Played.{Played}
+use Rattle.papaya_works.specs.Given.SchedulerDeclared.scheduler.Scheduler.{Scheduler}
+use Rattle.papaya_works.specs.Given.ExecutorIsThere.{IsThere, KeepsGiven}
+use Rattle.papaya_works.specs.Given.ExecutorReplying.{AsksThere}
+use Rattle.papaya_works.specs.Given.ScenesScene.{HasCall, Scene}
+use Rattle.papaya_works.specs.Given.ScenesStepping.{has_ended}
 
 module _ {K V : Type 0} (by : Known) where
   -- what a step says, in the words of an outcome, of a call of this kind that keeps this value

@@ -1,14 +1,14 @@
 //! Calls take steps, one or many.
 ghost use Rattle.std.specs.Prelude.{◌≡◌, ◌≤◌, ℕ, [], IfOk};
-ghost use Rattle.papaya_works.specs.Given.Schedules.declared.event.Event.TheVariants as event;
-ghost use Rattle.papaya_works.specs.Given.Effects.Known.{known};
-ghost use Rattle.papaya_works.specs.Given.Logged.Calling.{MakesNoMore};
-ghost use Rattle.papaya_works.specs.Given.Scheduler.Played.{MayPlay};
+ghost use Rattle.papaya_works.specs.Given.SchedulesDeclared.event.Event.TheVariants as event;
+ghost use Rattle.papaya_works.specs.Given.EffectsKnown.{known};
+ghost use Rattle.papaya_works.specs.Given.LoggedCalling.{MakesNoMore};
+ghost use Rattle.papaya_works.specs.Given.SchedulerPlayed.{MayPlay};
 ghost use Rattle.papaya_runs.specs.Stopped.{most_steps};
 ghost use Rattle.papaya_stepping.specs.Stepping.{HasCaller, IsCaller, IsPlaced, IsStepped, MayGo, MayStep, MayTake, PlaysOnAt, StepsCome, TakenAs, TookSteps, TookWhole, callers_then, outcome_of};
-ghost use Rattle.papaya_works.specs.Given.Named.Telling.{goes_on};
-ghost use Rattle.papaya_works.specs.Given.Named.declared.caller.Caller.{Caller};
-ghost use Rattle.papaya_works.specs.Given.Executor.IsThere.{KeepsGiven};
+ghost use Rattle.papaya_works.specs.Given.NamedTelling.{goes_on};
+ghost use Rattle.papaya_works.specs.Given.NamedDeclared.caller.Caller.{Caller};
+ghost use Rattle.papaya_works.specs.Given.ExecutorIsThere.{KeepsGiven};
 
 use papaya_lowers::papaya_raw::machines::Progress;
 use papaya_lowers::papaya_raw::{Hashes, Node};

@@ -1,9 +1,9 @@
 //! Walks show their pairs, one by one.
 ghost use Rattle.std.specs.Prelude.{◌≡◌, ◌↔◌, ℕ, true, IfOk};
-ghost use Rattle.papaya_works.specs.Given.Schedules.declared.event.Event.TheVariants as event;
-ghost use Rattle.papaya_works.specs.Given.Scheduler.Played.{MayPlay};
+ghost use Rattle.papaya_works.specs.Given.SchedulesDeclared.event.Event.TheVariants as event;
+ghost use Rattle.papaya_works.specs.Given.SchedulerPlayed.{MayPlay};
 ghost use Rattle.papaya_stepping.specs.Stepping.{IsPlaced, MayWalk, PlaysNextAt, TookNext, WalkComes};
-ghost use Rattle.papaya_works.specs.Given.Executor.IsThere.{KeepsGiven};
+ghost use Rattle.papaya_works.specs.Given.ExecutorIsThere.{KeepsGiven};
 
 use crate::stepping::{come_to, way_of};
 use papaya_lowers::papaya_raw::machines::Progress;

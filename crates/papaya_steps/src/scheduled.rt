@@ -2,7 +2,7 @@
 ghost use Rattle.std.specs.Prelude.{◌≡◌, ◌++◌, ◌∷◌, [], List, IfOk, IfErr, OnOk};
 ghost use Rattle.papaya_runs.specs.declared.event.Setup.{Setup};
 ghost use Rattle.papaya_schedules.specs.declared.event.Event.{Event};
-ghost use Rattle.papaya_running.specs.Given.Scheduler.Played.{terms_given};
+ghost use Rattle.papaya_running.specs.Given.SchedulerPlayed.{terms_given};
 ghost use Rattle.papaya_running.specs.Run.{HasCome, bounded};
 ghost use Rattle.papaya_steps.specs.Scheduled.{IsWholeRun};
 
@@ -30,7 +30,7 @@ impl<K: Eq + Hash + Clone + Drop, V: PartialEq + Clone + Drop, S: BuildHasher + 
 > for Scheduled<K, V, S> {
     ghost use Rattle.papaya_copies.specs.Copies.{AreAlike, ClonesAreSame};
     ghost use Rattle.papaya_copies.specs.Same.{same_event as are_same_events, same_outcome as are_same_outcomes};
-    ghost use Rattle.papaya_running.specs.Given.Scheduler.Played.{terms_given};
+    ghost use Rattle.papaya_running.specs.Given.SchedulerPlayed.{terms_given};
     ghost use Rattle.papaya_running.specs.Run.{HasCome, bounded};
     ghost use Rattle.papaya_steps.specs.Scheduled.{IsWholeRun};
 

@@ -11,10 +11,10 @@ use Rattle.papaya_deeds.specs.Given.Tables.declared.node.Node.{Node}
 use Rattle.papaya_deeds.specs.Given.Raw.Machine.{machine_replied}
 use Rattle.papaya_deeds.specs.Given.Raw.declared.machines.progress.Progress.{Progress}
 use Rattle.papaya_deeds.specs.Given.Raw.declared.machines.progress.Progress.TheVariants as progress
-use Rattle.papaya_endings.specs.Given.Callers.OverAll.{CallOverAll, gone_on}
-use Rattle.papaya_endings.specs.Given.Callers.Together.{OverAll, UnderWay}
-use Rattle.papaya_endings.specs.Given.Finishes.Machines.{ToldOfKind, machine_of}
-use Rattle.papaya_endings.specs.Given.Finishes.Maps.{Standing, with_call as with_call_of}
+use Rattle.papaya_endings.specs.Given.CallersOverAll.{CallOverAll, gone_on}
+use Rattle.papaya_endings.specs.Given.CallersTogether.{OverAll, UnderWay}
+use Rattle.papaya_endings.specs.Given.FinishesMachines.{ToldOfKind, machine_of}
+use Rattle.papaya_endings.specs.Given.FinishesMaps.{Standing, with_call as with_call_of}
 use Rattle.papaya_deeds.specs.Given.Schedules.declared.call.Call.{Call}
 use Rattle.papaya_deeds.specs.Given.Schedules.declared.call.Reply.{Reply}
 use Rattle.papaya_deeds.specs.Given.Schedules.declared.outcome.Outcome.{Outcome}
@@ -25,49 +25,49 @@ use Rattle.papaya_deeds.specs.Given.Schedules.Entry.{ends_call}
 use Rattle.papaya_deeds.specs.Given.Schedules.Moment.{Asking, Moment, UnderWay as CallThere}
 use Rattle.papaya_deeds.specs.Given.Schedules.Transition.{Past}
 use Rattle.papaya_deeds.specs.Given.Schedules.Views.{call_of}
-use Rattle.papaya_endings.specs.Given.Effects.Effects.{effects_of, known_after}
-use Rattle.papaya_endings.specs.Given.Effects.Known.{Known}
-use Rattle.papaya_endings.specs.Given.Effects.declared.acting.Acting.TheVariants as acts
-use Rattle.papaya_endings.specs.Given.Scenes.Beginning.{Begins as BeginsSo}
-use Rattle.papaya_endings.specs.Given.Scenes.Held.{Held, IsAt}
-use Rattle.papaya_endings.specs.Given.Scenes.Replying.{AskLeads, StopLeads, scene_with, unless_stopped}
-use Rattle.papaya_endings.specs.Given.Scenes.Scene.{Scene, slot_of}
-use Rattle.papaya_endings.specs.Given.Scenes.Stepping.{StepLeads, scene_after}
-use Rattle.papaya_endings.specs.Given.Follows.Calling.{NoneNamed, come_to, told}
-use Rattle.papaya_endings.specs.Given.Follows.Calls.{IsCalled}
-use Rattle.papaya_endings.specs.Given.Hands.Asked.{as_told}
-use Rattle.papaya_endings.specs.Given.Others.Walks.{given_up}
-use Rattle.papaya_endings.proofs.Given.Hands.Asking.{which}
-use Rattle.papaya_endings.proofs.Given.Moments.Calls.{calls_keep_whole}
-use Rattle.papaya_endings.specs.Given.Histories.Answers.{NamesPair}
-use Rattle.papaya_endings.specs.Given.Histories.AsCalled.{IsAsCalled, IsSweptAs}
-use Rattle.papaya_endings.specs.Given.Histories.Asking.{IsToldQuestion}
-use Rattle.papaya_endings.proofs.Given.Histories.Calling.{first_steps_change_first}
-use Rattle.papaya_endings.proofs.Given.Kept.Between.{uncounted_at_first}
-use Rattle.papaya_endings.specs.Given.Settles.Counts.{is_to_count}
-use Rattle.papaya_endings.proofs.Given.Settles.Between.{told_same}
-use Rattle.papaya_endings.specs.Given.Shards.Adds.{adds_in_sweeping, adds_of}
-use Rattle.papaya_endings.specs.Given.Shards.ShardWords.{ShowsCounters}
-use Rattle.papaya_endings.proofs.Given.Shards.Adds.{machine_adds, machine_not_adds}
-use Rattle.papaya_endings.proofs.Given.Shards.ShardBetween.{calls_begin_counters, calls_come_to_counters, calls_take_counters, counters_stay, fewer_add}
-use Rattle.papaya_endings.proofs.Given.Shards.ShardCalls.{calls_keep_counters}
-use Rattle.papaya_endings.specs.Given.Purposes.Kept.{AsksAboutIt, PairsChangeFirst, ShowsNone, TellsNone}
-use Rattle.papaya_endings.specs.Given.Purposes.Purposes.{IsFor, ShowsPurposes}
-use Rattle.papaya_endings.specs.Given.Purposes.Shards.{ReadsShards}
-use Rattle.papaya_endings.proofs.Given.Purposes.Between.{calls_begin_purposes, calls_come_to_purposes, first_steps_change_pairs_first}
-use Rattle.papaya_endings.proofs.Given.Purposes.Elsewhere.{purposes_stay}
-use Rattle.papaya_endings.proofs.Given.Purposes.Kept.{calls_keep_purposes}
-use Rattle.papaya_endings.proofs.Given.Purposes.ShardsRead.{steps_read_shards}
-use Rattle.papaya_endings.proofs.Given.Purposes.Told.{calls_take_purposes}
-use Rattle.papaya_endings.proofs.Given.Purposes.Walks.{walks_show_purposes}
-use Rattle.papaya_endings.specs.Given.Named.Telling.{number_by, number_in}
-use Rattle.papaya_endings.specs.Given.Acts.Acts.{Wanted, begun}
-use Rattle.papaya_endings.specs.Given.Acts.Acts.{Get, Remove, Insert, TryToInsert, Compute, Update, UpdateOrInsert, TryToInsertWith, RemoveIf, GetKeyValue, ContainsKey, GetOrInsert, GetOrInsertWith, RemoveEntry, MakeRoom, Count, GoOver}
-use Rattle.papaya_endings.specs.Given.Named.Seen.{kind_of}
+use Rattle.papaya_endings.specs.Given.EffectsEffects.{effects_of, known_after}
+use Rattle.papaya_endings.specs.Given.EffectsKnown.{Known}
+use Rattle.papaya_endings.specs.Given.EffectsDeclared.acting.Acting.TheVariants as acts
+use Rattle.papaya_endings.specs.Given.ScenesBeginning.{Begins as BeginsSo}
+use Rattle.papaya_endings.specs.Given.ScenesHeld.{Held, IsAt}
+use Rattle.papaya_endings.specs.Given.ScenesReplying.{AskLeads, StopLeads, scene_with, unless_stopped}
+use Rattle.papaya_endings.specs.Given.ScenesScene.{Scene, slot_of}
+use Rattle.papaya_endings.specs.Given.ScenesStepping.{StepLeads, scene_after}
+use Rattle.papaya_endings.specs.Given.FollowsCalling.{NoneNamed, come_to, told}
+use Rattle.papaya_endings.specs.Given.FollowsCalls.{IsCalled}
+use Rattle.papaya_endings.specs.Given.HandsAsked.{as_told}
+use Rattle.papaya_endings.specs.Given.OthersWalks.{given_up}
+use Rattle.papaya_endings.proofs.Given.HandsAsking.{which}
+use Rattle.papaya_endings.proofs.Given.MomentsCalls.{calls_keep_whole}
+use Rattle.papaya_endings.specs.Given.HistoriesAnswers.{NamesPair}
+use Rattle.papaya_endings.specs.Given.HistoriesAsCalled.{IsAsCalled, IsSweptAs}
+use Rattle.papaya_endings.specs.Given.HistoriesAsking.{IsToldQuestion}
+use Rattle.papaya_endings.proofs.Given.HistoriesCalling.{first_steps_change_first}
+use Rattle.papaya_endings.proofs.Given.KeptBetween.{uncounted_at_first}
+use Rattle.papaya_endings.specs.Given.SettlesCounts.{is_to_count}
+use Rattle.papaya_endings.proofs.Given.SettlesBetween.{told_same}
+use Rattle.papaya_endings.specs.Given.ShardsAdds.{adds_in_sweeping, adds_of}
+use Rattle.papaya_endings.specs.Given.ShardsShardWords.{ShowsCounters}
+use Rattle.papaya_endings.proofs.Given.ShardsAdds.{machine_adds, machine_not_adds}
+use Rattle.papaya_endings.proofs.Given.ShardsShardBetween.{calls_begin_counters, calls_come_to_counters, calls_take_counters, counters_stay, fewer_add}
+use Rattle.papaya_endings.proofs.Given.ShardsShardCalls.{calls_keep_counters}
+use Rattle.papaya_endings.specs.Given.PurposesKept.{AsksAboutIt, PairsChangeFirst, ShowsNone, TellsNone}
+use Rattle.papaya_endings.specs.Given.PurposesPurposes.{IsFor, ShowsPurposes}
+use Rattle.papaya_endings.specs.Given.PurposesShards.{ReadsShards}
+use Rattle.papaya_endings.proofs.Given.PurposesBetween.{calls_begin_purposes, calls_come_to_purposes, first_steps_change_pairs_first}
+use Rattle.papaya_endings.proofs.Given.PurposesElsewhere.{purposes_stay}
+use Rattle.papaya_endings.proofs.Given.PurposesKept.{calls_keep_purposes}
+use Rattle.papaya_endings.proofs.Given.PurposesShardsRead.{steps_read_shards}
+use Rattle.papaya_endings.proofs.Given.PurposesTold.{calls_take_purposes}
+use Rattle.papaya_endings.proofs.Given.PurposesWalks.{walks_show_purposes}
+use Rattle.papaya_endings.specs.Given.NamedTelling.{number_by, number_in}
+use Rattle.papaya_endings.specs.Given.ActsActs.{Wanted, begun}
+use Rattle.papaya_endings.specs.Given.ActsActs.{Get, Remove, Insert, TryToInsert, Compute, Update, UpdateOrInsert, TryToInsertWith, RemoveIf, GetKeyValue, ContainsKey, GetOrInsert, GetOrInsertWith, RemoveEntry, MakeRoom, Count, GoOver}
+use Rattle.papaya_endings.specs.Given.NamedSeen.{kind_of}
 use Rattle.papaya_deeds.specs.Deeds.{named}
-use Rattle.papaya_endings.specs.Given.Played.Play.{call_for, outcome_of}
-use Rattle.papaya_endings.specs.Given.Linear.Shown.{ShowsAnswers}
-use Rattle.papaya_endings.proofs.Given.Linear.Begun.{begun_rightly}
+use Rattle.papaya_endings.specs.Given.PlayedPlay.{call_for, outcome_of}
+use Rattle.papaya_endings.specs.Given.LinearShown.{ShowsAnswers}
+use Rattle.papaya_endings.proofs.Given.LinearBegun.{begun_rightly}
 use Rattle.papaya_swept.specs.Shown.{ShowsSweeps}
 use Rattle.papaya_swept.proofs.Tabled.{calls_keep_tabled, tabled_stays}
 

@@ -2,7 +2,7 @@
 use Rattle.std.specs.Prelude.{◌≡◌, ℕ, suc, Bool, true, List, ◌∷◌, Option, Some, None}
 use Rattle.std.proofs.Common.{refl, ap, sym, subst, ◌∙◌, arith}
 use Rattle.seize_acts.proofs.Answers.{same_some}
-use Rattle.papaya_endings.specs.Given.Finishes.Maps.{Standing}
+use Rattle.papaya_endings.specs.Given.FinishesMaps.{Standing}
 use Rattle.papaya_deeds.specs.Given.Schedules.declared.effect.Effect.{Effect}
 use Rattle.papaya_deeds.specs.Given.Schedules.declared.outcome.Outcome.{Outcome}
 use Rattle.papaya_deeds.specs.Given.Schedules.declared.outcome.Outcome.TheVariants as outcome
@@ -12,25 +12,25 @@ use Rattle.papaya_deeds.specs.Given.Schedules.Entry.{IfCall, acting}
 use Rattle.papaya_deeds.specs.Given.Schedules.Moment.{Moment, UnderWay as CallThere}
 use Rattle.papaya_deeds.specs.Given.Schedules.Terms.{Terms, shards_of}
 use Rattle.papaya_deeds.specs.Given.Schedules.Transition.{worked_by}
-use Rattle.papaya_endings.specs.Given.Effects.Effects.{effects_of, known_after}
-use Rattle.papaya_endings.specs.Given.Effects.Known.{Known}
-use Rattle.papaya_endings.specs.Given.Effects.declared.acting.Acting.TheVariants as acts
-use Rattle.papaya_endings.specs.Given.Scenes.Scene.{Scene, slot_of}
-use Rattle.papaya_endings.specs.Given.Scenes.Stepping.{scene_after}
-use Rattle.papaya_endings.specs.Given.Follows.Calling.{come_to, told}
-use Rattle.papaya_endings.specs.Given.Others.Endings.{without_map}
-use Rattle.papaya_endings.specs.Given.Others.Walks.{given_up}
-use Rattle.papaya_endings.proofs.Given.Purposes.Nothing.{no_calls_are_swept}
-use Rattle.papaya_endings.specs.Given.Agrees.Shards.{ShardsAre}
+use Rattle.papaya_endings.specs.Given.EffectsEffects.{effects_of, known_after}
+use Rattle.papaya_endings.specs.Given.EffectsKnown.{Known}
+use Rattle.papaya_endings.specs.Given.EffectsDeclared.acting.Acting.TheVariants as acts
+use Rattle.papaya_endings.specs.Given.ScenesScene.{Scene, slot_of}
+use Rattle.papaya_endings.specs.Given.ScenesStepping.{scene_after}
+use Rattle.papaya_endings.specs.Given.FollowsCalling.{come_to, told}
+use Rattle.papaya_endings.specs.Given.OthersEndings.{without_map}
+use Rattle.papaya_endings.specs.Given.OthersWalks.{given_up}
+use Rattle.papaya_endings.proofs.Given.PurposesNothing.{no_calls_are_swept}
+use Rattle.papaya_endings.specs.Given.AgreesShards.{ShardsAre}
 use Rattle.papaya_deeds.specs.Deeds.{Begins, Ends, Entry, Makes, MapFails, MapGoes, ReclaimsAll, Replies, Steps, Stops, acted_on, after, caller_of, come, map_of_call, moment, named, worked}
 use Rattle.papaya_deeds.specs.History.{IsSwept, is_of_kind, past, transition}
-use Rattle.papaya_endings.specs.Given.Named.Seen.{kind_of}
-use Rattle.papaya_endings.specs.Given.Played.Play.{call_for, is_over, is_refusal, making_outcome, outcome_of, row_deed, settled_outcome}
-use Rattle.papaya_endings.specs.Given.Linear.Shown.{ShowsAnswers}
-use Rattle.papaya_endings.proofs.Given.Linear.Like.{IsLike}
-use Rattle.papaya_endings.proofs.Given.Linear.OthersGo.{makings_step, ends_step, maps_come}
-use Rattle.papaya_endings.proofs.Given.Linear.Like.{likes_answer}
-use Rattle.papaya_endings.proofs.Given.Linear.RowsPlayed.{is_of_row, no_caller, rows_like}
+use Rattle.papaya_endings.specs.Given.NamedSeen.{kind_of}
+use Rattle.papaya_endings.specs.Given.PlayedPlay.{call_for, is_over, is_refusal, making_outcome, outcome_of, row_deed, settled_outcome}
+use Rattle.papaya_endings.specs.Given.LinearShown.{ShowsAnswers}
+use Rattle.papaya_endings.proofs.Given.LinearLike.{IsLike}
+use Rattle.papaya_endings.proofs.Given.LinearOthersGo.{makings_step, ends_step, maps_come}
+use Rattle.papaya_endings.proofs.Given.LinearLike.{likes_answer}
+use Rattle.papaya_endings.proofs.Given.LinearRowsPlayed.{is_of_row, no_caller, rows_like}
 use Rattle.papaya_swept.specs.Shown.{HasSwept, ShowsSweeps}
 use Rattle.papaya_swept.proofs.Calls.{reads, sweeps_begin, sweeps_go_on, sweeps_step, sweeps_stop, sweeps_take}
 use Rattle.papaya_swept.proofs.Kept.{IsKept, alone, coming, comes_by}

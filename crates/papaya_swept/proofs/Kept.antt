@@ -11,12 +11,12 @@ use Rattle.papaya_deeds.specs.Given.Tables.declared.setting.Setting.{Setting}
 use Rattle.papaya_deeds.specs.Given.Resize.declared.new_map.NewMap.{NewMap}
 use Rattle.papaya_deeds.specs.Given.Raw.Machine.{machine_replied}
 use Rattle.papaya_deeds.specs.Given.Raw.declared.machines.progress.Progress.{Progress}
-use Rattle.papaya_endings.specs.Given.Callers.OverAll.{CallOverAll, gone_on}
-use Rattle.papaya_endings.specs.Given.Callers.Together.{OverAll, UnderWay}
-use Rattle.papaya_endings.specs.Given.Finishes.Endings.{Finishing}
-use Rattle.papaya_endings.specs.Given.Finishes.Machines.{ToldOfKind, machine_of}
-use Rattle.papaya_endings.specs.Given.Finishes.Makings.{Beginning, HasMade}
-use Rattle.papaya_endings.specs.Given.Finishes.Maps.{Standing, with_call}
+use Rattle.papaya_endings.specs.Given.CallersOverAll.{CallOverAll, gone_on}
+use Rattle.papaya_endings.specs.Given.CallersTogether.{OverAll, UnderWay}
+use Rattle.papaya_endings.specs.Given.FinishesEndings.{Finishing}
+use Rattle.papaya_endings.specs.Given.FinishesMachines.{ToldOfKind, machine_of}
+use Rattle.papaya_endings.specs.Given.FinishesMakings.{Beginning, HasMade}
+use Rattle.papaya_endings.specs.Given.FinishesMaps.{Standing, with_call}
 use Rattle.papaya_deeds.specs.Given.Schedules.declared.call.Call.{Call}
 use Rattle.papaya_deeds.specs.Given.Schedules.declared.call.Reply.{Reply}
 use Rattle.papaya_deeds.specs.Given.Schedules.declared.outcome.Outcome.{Outcome}
@@ -25,39 +25,39 @@ use Rattle.papaya_deeds.specs.Given.Schedules.Effects.{AtEachEffect, with_effect
 use Rattle.papaya_deeds.specs.Given.Schedules.Entry.{ends_call}
 use Rattle.papaya_deeds.specs.Given.Schedules.Moment.{Asking, MapThere, UnderWay as CallThere}
 use Rattle.papaya_deeds.specs.Given.Schedules.Views.{call_of, tables_of}
-use Rattle.papaya_endings.specs.Given.Effects.Effects.{effects_of, known_after}
-use Rattle.papaya_endings.specs.Given.Effects.Known.{Known}
-use Rattle.papaya_endings.specs.Given.Effects.declared.acting.Acting.TheVariants as acts
-use Rattle.papaya_endings.specs.Given.Scenes.Beginning.{Begins as BeginsSo}
-use Rattle.papaya_endings.specs.Given.Scenes.Ending.{EndingLeads, ending_begun}
-use Rattle.papaya_endings.specs.Given.Scenes.Held.{Held, IsAt}
-use Rattle.papaya_endings.specs.Given.Scenes.Making.{MakingLeads, scene_making}
-use Rattle.papaya_endings.specs.Given.Scenes.OnSlots.{RowBegins, RowLeads}
-use Rattle.papaya_endings.specs.Given.Scenes.Reclaiming.{IsReclaiming, ReclaimingLeads}
-use Rattle.papaya_endings.specs.Given.Scenes.Replying.{AskLeads, StopLeads, scene_with, unless_stopped}
-use Rattle.papaya_endings.specs.Given.Scenes.Rows.{request_of}
-use Rattle.papaya_endings.specs.Given.Scenes.Scene.{IsOnSlot, Scene, slot_of}
-use Rattle.papaya_endings.specs.Given.Scenes.Stepping.{StepLeads, scene_after}
-use Rattle.papaya_endings.specs.Given.Scenes.declared.row.RowTold.{RowTold}
-use Rattle.papaya_endings.specs.Given.Scenes.declared.row.SlotCall.{SlotCall}
-use Rattle.papaya_endings.specs.Given.Scenes.declared.row.SlotRow.{SlotRow}
-use Rattle.papaya_endings.specs.Given.Follows.Calling.{NoneNamed}
-use Rattle.papaya_endings.specs.Given.Hands.Asked.{as_told}
-use Rattle.papaya_endings.specs.Given.Others.Endings.{ending_after}
-use Rattle.papaya_endings.specs.Given.Others.Makings.{WasNew, making_after}
-use Rattle.papaya_endings.specs.Given.Others.Rows.{scene_then}
-use Rattle.papaya_endings.specs.Given.Moments.Endings.{IsOfIts}
-use Rattle.papaya_endings.specs.Given.Moments.Numbers.{AreFound}
-use Rattle.papaya_endings.specs.Given.Named.Seen.{kind_of}
-use Rattle.papaya_endings.specs.Given.Values.Values.{KeepsValue}
-use Rattle.papaya_endings.specs.Given.Acts.Acts.{Wanted, begun}
-use Rattle.papaya_endings.specs.Given.Acts.Doings.{scene_chosen}
-use Rattle.papaya_endings.specs.Given.Agrees.Fresh.{IsFresh}
+use Rattle.papaya_endings.specs.Given.EffectsEffects.{effects_of, known_after}
+use Rattle.papaya_endings.specs.Given.EffectsKnown.{Known}
+use Rattle.papaya_endings.specs.Given.EffectsDeclared.acting.Acting.TheVariants as acts
+use Rattle.papaya_endings.specs.Given.ScenesBeginning.{Begins as BeginsSo}
+use Rattle.papaya_endings.specs.Given.ScenesEnding.{EndingLeads, ending_begun}
+use Rattle.papaya_endings.specs.Given.ScenesHeld.{Held, IsAt}
+use Rattle.papaya_endings.specs.Given.ScenesMaking.{MakingLeads, scene_making}
+use Rattle.papaya_endings.specs.Given.ScenesOnSlots.{RowBegins, RowLeads}
+use Rattle.papaya_endings.specs.Given.ScenesReclaiming.{IsReclaiming, ReclaimingLeads}
+use Rattle.papaya_endings.specs.Given.ScenesReplying.{AskLeads, StopLeads, scene_with, unless_stopped}
+use Rattle.papaya_endings.specs.Given.ScenesRows.{request_of}
+use Rattle.papaya_endings.specs.Given.ScenesScene.{IsOnSlot, Scene, slot_of}
+use Rattle.papaya_endings.specs.Given.ScenesStepping.{StepLeads, scene_after}
+use Rattle.papaya_endings.specs.Given.ScenesDeclared.row.RowTold.{RowTold}
+use Rattle.papaya_endings.specs.Given.ScenesDeclared.row.SlotCall.{SlotCall}
+use Rattle.papaya_endings.specs.Given.ScenesDeclared.row.SlotRow.{SlotRow}
+use Rattle.papaya_endings.specs.Given.FollowsCalling.{NoneNamed}
+use Rattle.papaya_endings.specs.Given.HandsAsked.{as_told}
+use Rattle.papaya_endings.specs.Given.OthersEndings.{ending_after}
+use Rattle.papaya_endings.specs.Given.OthersMakings.{WasNew, making_after}
+use Rattle.papaya_endings.specs.Given.OthersRows.{scene_then}
+use Rattle.papaya_endings.specs.Given.MomentsEndings.{IsOfIts}
+use Rattle.papaya_endings.specs.Given.MomentsNumbers.{AreFound}
+use Rattle.papaya_endings.specs.Given.NamedSeen.{kind_of}
+use Rattle.papaya_endings.specs.Given.ValuesValues.{KeepsValue}
+use Rattle.papaya_endings.specs.Given.ActsActs.{Wanted, begun}
+use Rattle.papaya_endings.specs.Given.ActsDoings.{scene_chosen}
+use Rattle.papaya_endings.specs.Given.AgreesFresh.{IsFresh}
 use Rattle.papaya_deeds.specs.Deeds.{Begins, Deed, Ends, Entry, Makes, MapComes, MapFails, MapGoes, ReclaimsAll, Replies, Steps, Stops, come, moment, named}
 use Rattle.papaya_deeds.specs.History.{past}
-use Rattle.papaya_endings.specs.Given.Played.Play.{call_for, has_root, is_over, is_refusal, making_outcome, outcome_of, pairs_for, row_deed, settled_outcome}
-use Rattle.papaya_endings.specs.Given.Linear.Shown.{ShowsAnswers}
-use Rattle.papaya_endings.proofs.Given.Linear.MapsPlayed.{IsApart}
+use Rattle.papaya_endings.specs.Given.PlayedPlay.{call_for, has_root, is_over, is_refusal, making_outcome, outcome_of, pairs_for, row_deed, settled_outcome}
+use Rattle.papaya_endings.specs.Given.LinearShown.{ShowsAnswers}
+use Rattle.papaya_endings.proofs.Given.LinearMapsPlayed.{IsApart}
 
 -- the map that comes of a making
 abbrev pub coming : {K : Type 0} → Beginning K → NewMap → MapThere

@@ -4,22 +4,22 @@ use Rattle.std.proofs.Common.{ap, sym, subst, ◌∙◌}
 use Rattle.seize_acts.specs.Answers.{Grant}
 use Rattle.seize_acts.specs.Given.Seize.World.{Request, Row}
 use Rattle.seize_acts.specs.Given.Seize.declared.rows.reclaim_all.ReclaimAll.{ReclaimAll}
-use Rattle.papaya_endings.specs.Given.Teller.declared.changed.Changed.TheVariants.{Nothing as NoChange}
-use Rattle.papaya_endings.specs.Given.Scenes.Held.{Held, IsAt}
-use Rattle.papaya_endings.specs.Given.Scenes.Scene.{HasNoCall, IsOnSlot, Scene, row_of, slot_of}
-use Rattle.papaya_endings.specs.Given.Effects.Known.{Known}
-use Rattle.papaya_endings.specs.Given.Acts.Acts.{Act, Answer, BeginsCall, StepsCall, TellsCall, AsksCall, StopsCall, BeginsMaking, StepsMaking, BeginsEnding, StepsEnding, BeginsRow, StepsRow}
-use Rattle.papaya_endings.specs.Given.Acts.AsSteps.{LeadsAs, changed_by, held_in, row_changed, row_told}
-use Rattle.papaya_endings.specs.Given.Acts.Leads.{Led, MayBe}
-use Rattle.papaya_endings.specs.Given.Agrees.Fresh.{HasNewNumber}
+use Rattle.papaya_endings.specs.Given.TellerDeclared.changed.Changed.TheVariants.{Nothing as NoChange}
+use Rattle.papaya_endings.specs.Given.ScenesHeld.{Held, IsAt}
+use Rattle.papaya_endings.specs.Given.ScenesScene.{HasNoCall, IsOnSlot, Scene, row_of, slot_of}
+use Rattle.papaya_endings.specs.Given.EffectsKnown.{Known}
+use Rattle.papaya_endings.specs.Given.ActsActs.{Act, Answer, BeginsCall, StepsCall, TellsCall, AsksCall, StopsCall, BeginsMaking, StepsMaking, BeginsEnding, StepsEnding, BeginsRow, StepsRow}
+use Rattle.papaya_endings.specs.Given.ActsAsSteps.{LeadsAs, changed_by, held_in, row_changed, row_told}
+use Rattle.papaya_endings.specs.Given.ActsLeads.{Led, MayBe}
+use Rattle.papaya_endings.specs.Given.AgreesFresh.{HasNewNumber}
 use Rattle.papaya_deeds.specs.Deeds.{Entry}
-use Rattle.papaya_endings.specs.Given.Played.Play.{State, all_stepped, row_outcome, row_stepped}
-use Rattle.papaya_endings.specs.Given.Played.Reached.{IsOf, row_or_rests, rows_beside}
-use Rattle.papaya_endings.proofs.Given.Played.Along.{At, Is, StaysSo, far, held, lists_at}
-use Rattle.papaya_endings.proofs.Given.Played.Noted.{CallsAreNoted}
-use Rattle.papaya_endings.proofs.Given.Played.PlayedAs.{PlayedAs, played_as, reclaimed_as}
-use Rattle.papaya_endings.proofs.Given.Linear.Holding.{AllHolds, ending_so, making_so}
-use Rattle.papaya_endings.proofs.Given.Linear.Stays.{Of, all_stay, all_tied, change, end}
+use Rattle.papaya_endings.specs.Given.PlayedPlay.{State, all_stepped, row_outcome, row_stepped}
+use Rattle.papaya_endings.specs.Given.PlayedReached.{IsOf, row_or_rests, rows_beside}
+use Rattle.papaya_endings.proofs.Given.PlayedAlong.{At, Is, StaysSo, far, held, lists_at}
+use Rattle.papaya_endings.proofs.Given.PlayedNoted.{CallsAreNoted}
+use Rattle.papaya_endings.proofs.Given.PlayedPlayedAs.{PlayedAs, played_as, reclaimed_as}
+use Rattle.papaya_endings.proofs.Given.LinearHolding.{AllHolds, ending_so, making_so}
+use Rattle.papaya_endings.proofs.Given.LinearStays.{Of, all_stay, all_tied, change, end}
 use Rattle.papaya_swept.proofs.Kept.{IsKept, Now}
 use Rattle.papaya_swept.proofs.KeptByCalls.{asks_kept, begins_kept, steps_kept, stops_kept, told_kept}
 use Rattle.papaya_swept.proofs.KeptByMaps.{end_begins_kept, ending_steps_kept, making_begins_kept, making_steps_kept}

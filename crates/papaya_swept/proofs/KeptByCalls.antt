@@ -8,36 +8,36 @@ use Rattle.papaya_deeds.specs.Given.Raw.declared.machines.machine.Machine.{Machi
 use Rattle.papaya_deeds.specs.Given.Raw.declared.machines.progress.Progress.{Progress}
 use Rattle.seize_acts.specs.Given.Seize.World.{Row}
 use Rattle.papaya_deeds.specs.Given.Tables.declared.node.Node.{Node}
-use Rattle.papaya_endings.specs.Given.Callers.Together.{UnderWay}
-use Rattle.papaya_endings.specs.Given.Finishes.Machines.{ToldOfKind, machine_of}
-use Rattle.papaya_endings.specs.Given.Finishes.Maps.{with_call}
-use Rattle.papaya_endings.specs.Given.Teller.declared.changed.Changed.{Changed}
-use Rattle.papaya_endings.proofs.Given.Scenes.NoCall.{none_is}
-use Rattle.papaya_endings.specs.Given.Scenes.Held.{Held, IsAt}
-use Rattle.papaya_endings.specs.Given.Scenes.Replying.{StopLeads, scene_with, unless_stopped}
-use Rattle.papaya_endings.specs.Given.Scenes.Scene.{Scene, slot_of}
+use Rattle.papaya_endings.specs.Given.CallersTogether.{UnderWay}
+use Rattle.papaya_endings.specs.Given.FinishesMachines.{ToldOfKind, machine_of}
+use Rattle.papaya_endings.specs.Given.FinishesMaps.{with_call}
+use Rattle.papaya_endings.specs.Given.TellerDeclared.changed.Changed.{Changed}
+use Rattle.papaya_endings.proofs.Given.ScenesNoCall.{none_is}
+use Rattle.papaya_endings.specs.Given.ScenesHeld.{Held, IsAt}
+use Rattle.papaya_endings.specs.Given.ScenesReplying.{StopLeads, scene_with, unless_stopped}
+use Rattle.papaya_endings.specs.Given.ScenesScene.{Scene, slot_of}
 use Rattle.papaya_deeds.specs.Given.Schedules.declared.call.Reply.{Reply}
 use Rattle.papaya_deeds.specs.Given.Schedules.declared.outcome.Outcome.TheVariants as outcome
 use Rattle.papaya_deeds.specs.Given.Schedules.Moment.{Asking}
-use Rattle.papaya_endings.specs.Given.Effects.Known.{Known}
-use Rattle.papaya_endings.specs.Given.Values.Values.{KeepsValue}
-use Rattle.papaya_endings.specs.Given.Acts.Acts.{Act, Answer, OfCall, OfReply, OfAsking, Wanted, begun}
-use Rattle.papaya_endings.specs.Given.Acts.Acts.{BeginsCall, StepsCall, TellsCall, AsksCall, StopsCall}
-use Rattle.papaya_endings.specs.Given.Acts.AsSteps.{LeadsAs, changed_by, held_in}
-use Rattle.papaya_endings.specs.Given.Acts.Leads.{Led, MayBe, asked_on}
+use Rattle.papaya_endings.specs.Given.EffectsKnown.{Known}
+use Rattle.papaya_endings.specs.Given.ValuesValues.{KeepsValue}
+use Rattle.papaya_endings.specs.Given.ActsActs.{Act, Answer, OfCall, OfReply, OfAsking, Wanted, begun}
+use Rattle.papaya_endings.specs.Given.ActsActs.{BeginsCall, StepsCall, TellsCall, AsksCall, StopsCall}
+use Rattle.papaya_endings.specs.Given.ActsAsSteps.{LeadsAs, changed_by, held_in}
+use Rattle.papaya_endings.specs.Given.ActsLeads.{Led, MayBe, asked_on}
 use Rattle.papaya_deeds.specs.Deeds.{Entry, Replies, Stops, moment}
-use Rattle.papaya_endings.specs.Given.Played.Play.{Calling, State, call_asked, call_begun, call_for, call_stepped, did, reply_for, told_call}
-use Rattle.papaya_endings.specs.Given.Played.Reached.{IsOf}
-use Rattle.papaya_endings.proofs.Given.Played.PlayedAs.{PlayedAs}
-use Rattle.papaya_endings.proofs.Given.Linear.BeginsPlayed.{asked_so, none_named, none_then, same_calls}
-use Rattle.papaya_endings.proofs.Given.Linear.CallActs.{err_is, its_machine, ok_is, resting}
-use Rattle.papaya_endings.proofs.Given.Linear.Gone.{nothing_told}
-use Rattle.papaya_endings.proofs.Given.Linear.Heard.{IsHeard}
-use Rattle.papaya_endings.proofs.Given.Linear.Holds.{Holds}
-use Rattle.papaya_endings.proofs.Given.Linear.RepliesPlayed.{told_back}
-use Rattle.papaya_endings.proofs.Given.Linear.TakesReply.{TakesNone, refuses}
-use Rattle.papaya_endings.proofs.Given.Linear.StepsPlayed.{led, played_ended, there_is}
-use Rattle.papaya_endings.proofs.Given.Played.Tied.{call_tied}
+use Rattle.papaya_endings.specs.Given.PlayedPlay.{Calling, State, call_asked, call_begun, call_for, call_stepped, did, reply_for, told_call}
+use Rattle.papaya_endings.specs.Given.PlayedReached.{IsOf}
+use Rattle.papaya_endings.proofs.Given.PlayedPlayedAs.{PlayedAs}
+use Rattle.papaya_endings.proofs.Given.LinearBeginsPlayed.{asked_so, none_named, none_then, same_calls}
+use Rattle.papaya_endings.proofs.Given.LinearCallActs.{err_is, its_machine, ok_is, resting}
+use Rattle.papaya_endings.proofs.Given.LinearGone.{nothing_told}
+use Rattle.papaya_endings.proofs.Given.LinearHeard.{IsHeard}
+use Rattle.papaya_endings.proofs.Given.LinearHolds.{Holds}
+use Rattle.papaya_endings.proofs.Given.LinearRepliesPlayed.{told_back}
+use Rattle.papaya_endings.proofs.Given.LinearTakesReply.{TakesNone, refuses}
+use Rattle.papaya_endings.proofs.Given.LinearStepsPlayed.{led, played_ended, there_is}
+use Rattle.papaya_endings.proofs.Given.PlayedTied.{call_tied}
 use Rattle.papaya_swept.proofs.Kept.{IsKept, Now}
 
 module _ {K V S : Type 0} (same : K → K → Bool) (by_hasher : S → K → ℕ) (hash : ℕ → K → ℕ) (batch_size roots : ℕ) (aborts : ℕ → V) (R P : List (Entry K V) → Known → Scene K V → Type 0)

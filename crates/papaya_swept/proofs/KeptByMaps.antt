@@ -11,36 +11,36 @@ use Rattle.papaya_deeds.specs.Given.Tables.declared.node.Node.{Node}
 use Rattle.papaya_deeds.specs.Given.Tables.declared.setting.Setting.{Setting}
 use Rattle.papaya_deeds.specs.Given.Resize.NewMap.{new_map_plan}
 use Rattle.papaya_deeds.specs.Given.Resize.declared.new_map.NewMap.{NewMap}
-use Rattle.papaya_endings.specs.Given.Finishes.Endings.{Finishing}
-use Rattle.papaya_endings.specs.Given.Finishes.Makings.{Beginning}
-use Rattle.papaya_endings.specs.Given.Teller.declared.changed.Changed.{Changed}
-use Rattle.papaya_endings.proofs.Given.Scenes.NoCall.{none_is}
-use Rattle.papaya_endings.specs.Given.Scenes.Held.{Held, IsAt}
-use Rattle.papaya_endings.specs.Given.Scenes.Ending.{ending_begun}
-use Rattle.papaya_endings.specs.Given.Scenes.Making.{MakingLeads, making_begun, scene_making}
-use Rattle.papaya_endings.specs.Given.Scenes.Scene.{Scene, slot_of}
+use Rattle.papaya_endings.specs.Given.FinishesEndings.{Finishing}
+use Rattle.papaya_endings.specs.Given.FinishesMakings.{Beginning}
+use Rattle.papaya_endings.specs.Given.TellerDeclared.changed.Changed.{Changed}
+use Rattle.papaya_endings.proofs.Given.ScenesNoCall.{none_is}
+use Rattle.papaya_endings.specs.Given.ScenesHeld.{Held, IsAt}
+use Rattle.papaya_endings.specs.Given.ScenesEnding.{ending_begun}
+use Rattle.papaya_endings.specs.Given.ScenesMaking.{MakingLeads, making_begun, scene_making}
+use Rattle.papaya_endings.specs.Given.ScenesScene.{Scene, slot_of}
 use Rattle.papaya_deeds.specs.Given.Schedules.Effects.{AtEachEffect, with_effects}
 use Rattle.papaya_deeds.specs.Given.Schedules.Moment.{Moment}
-use Rattle.papaya_endings.specs.Given.Effects.Effects.{effects_of, known_after}
-use Rattle.papaya_endings.specs.Given.Effects.Known.{Known}
-use Rattle.papaya_endings.specs.Given.Effects.declared.acting.Acting.TheVariants as acts
-use Rattle.papaya_endings.specs.Given.Moments.Endings.{IsOfIts}
-use Rattle.papaya_endings.proofs.Given.Logged.EndTold.{ends_alone}
-use Rattle.papaya_endings.specs.Given.Acts.Acts.{Act, Answer, OfEnding, OfMaking}
-use Rattle.papaya_endings.specs.Given.Acts.Acts.{BeginsMaking, StepsMaking, BeginsEnding, StepsEnding}
-use Rattle.papaya_endings.specs.Given.Acts.AsSteps.{LeadsAs, changed_by, changed_of, held_in}
-use Rattle.papaya_endings.specs.Given.Acts.Leads.{Led, MayBe}
-use Rattle.papaya_endings.proofs.Given.Acts.AsSteps.Told.{was_told}
-use Rattle.papaya_endings.specs.Given.Agrees.Fresh.{IsFresh}
+use Rattle.papaya_endings.specs.Given.EffectsEffects.{effects_of, known_after}
+use Rattle.papaya_endings.specs.Given.EffectsKnown.{Known}
+use Rattle.papaya_endings.specs.Given.EffectsDeclared.acting.Acting.TheVariants as acts
+use Rattle.papaya_endings.specs.Given.MomentsEndings.{IsOfIts}
+use Rattle.papaya_endings.proofs.Given.LoggedEndTold.{ends_alone}
+use Rattle.papaya_endings.specs.Given.ActsActs.{Act, Answer, OfEnding, OfMaking}
+use Rattle.papaya_endings.specs.Given.ActsActs.{BeginsMaking, StepsMaking, BeginsEnding, StepsEnding}
+use Rattle.papaya_endings.specs.Given.ActsAsSteps.{LeadsAs, changed_by, changed_of, held_in}
+use Rattle.papaya_endings.specs.Given.ActsLeads.{Led, MayBe}
+use Rattle.papaya_endings.proofs.Given.ActsAsSteps.Told.{was_told}
+use Rattle.papaya_endings.specs.Given.AgreesFresh.{IsFresh}
 use Rattle.papaya_deeds.specs.Deeds.{Deed, Ends, Entry, MapGoes, moment, named}
-use Rattle.papaya_endings.specs.Given.Played.Play.{Ending, State, ending_begun as end_begun, ending_stepped, has_root, is_over, is_refusal, making_begun as made_begun, making_deed, making_outcome, making_stepped, settled_outcome}
-use Rattle.papaya_endings.specs.Given.Played.Reached.{IsOf}
-use Rattle.papaya_endings.proofs.Given.Played.Noted.{CallsAreNoted}
-use Rattle.papaya_endings.proofs.Given.Played.PlayedAs.{PlayedAs}
-use Rattle.papaya_endings.proofs.Given.Linear.Holds.{Holds}
-use Rattle.papaya_endings.proofs.Given.Linear.MapActs.{EndsSo, MakesSo, MakingDid, deed_by, ended_is, made_is}
-use Rattle.papaya_endings.proofs.Given.Linear.MapsPlayed.{IsApart, ended, made}
-use Rattle.papaya_endings.proofs.Given.Played.Tied.{EndingTied, MakingTied, ending_tied, making_tied}
+use Rattle.papaya_endings.specs.Given.PlayedPlay.{Ending, State, ending_begun as end_begun, ending_stepped, has_root, is_over, is_refusal, making_begun as made_begun, making_deed, making_outcome, making_stepped, settled_outcome}
+use Rattle.papaya_endings.specs.Given.PlayedReached.{IsOf}
+use Rattle.papaya_endings.proofs.Given.PlayedNoted.{CallsAreNoted}
+use Rattle.papaya_endings.proofs.Given.PlayedPlayedAs.{PlayedAs}
+use Rattle.papaya_endings.proofs.Given.LinearHolds.{Holds}
+use Rattle.papaya_endings.proofs.Given.LinearMapActs.{EndsSo, MakesSo, MakingDid, deed_by, ended_is, made_is}
+use Rattle.papaya_endings.proofs.Given.LinearMapsPlayed.{IsApart, ended, made}
+use Rattle.papaya_endings.proofs.Given.PlayedTied.{EndingTied, MakingTied, ending_tied, making_tied}
 use Rattle.papaya_swept.proofs.Kept.{IsKept, Now}
 use Rattle.papaya_swept.proofs.Rooting.{comes_going}
 

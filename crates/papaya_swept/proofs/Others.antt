@@ -13,12 +13,12 @@ use Rattle.seize_acts.specs.Given.Seize.declared.rows.settle.Settled.TheVariants
 use Rattle.papaya_deeds.specs.Given.Tables.Nodes.{deferred_word, was_left}
 use Rattle.papaya_deeds.specs.Given.Tables.declared.node.Node.{Node}
 use Rattle.papaya_deeds.specs.Given.Tables.declared.setting.Setting.{Setting}
-use Rattle.papaya_endings.specs.Given.Teller.declared.changed.Changed.{Changed}
-use Rattle.papaya_endings.specs.Given.Callers.Together.{UnderWay}
-use Rattle.papaya_endings.specs.Given.Finishes.Endings.{Finishing}
-use Rattle.papaya_endings.specs.Given.Finishes.Machines.{machine_of}
-use Rattle.papaya_endings.specs.Given.Finishes.Makings.{Beginning, HasMade}
-use Rattle.papaya_endings.specs.Given.Finishes.Maps.{Standing}
+use Rattle.papaya_endings.specs.Given.TellerDeclared.changed.Changed.{Changed}
+use Rattle.papaya_endings.specs.Given.CallersTogether.{UnderWay}
+use Rattle.papaya_endings.specs.Given.FinishesEndings.{Finishing}
+use Rattle.papaya_endings.specs.Given.FinishesMachines.{machine_of}
+use Rattle.papaya_endings.specs.Given.FinishesMakings.{Beginning, HasMade}
+use Rattle.papaya_endings.specs.Given.FinishesMaps.{Standing}
 use Rattle.papaya_deeds.specs.Given.Runs.Same.{is_same}
 use Rattle.papaya_deeds.specs.Given.Schedules.declared.effect.Effect.{Effect}
 use Rattle.papaya_deeds.specs.Given.Schedules.Beginning.{with_map}
@@ -26,46 +26,46 @@ use Rattle.papaya_deeds.specs.Given.Schedules.Effects.{AtEachEffect, with_effect
 use Rattle.papaya_deeds.specs.Given.Schedules.Moment.{MapThere, Moment, Remains}
 use Rattle.papaya_deeds.specs.Given.Schedules.Transition.{Past, further}
 use Rattle.papaya_deeds.specs.Given.Schedules.Views.{map_at, tables_of}
-use Rattle.papaya_endings.specs.Given.Effects.Effects.{effects_of, known_after}
-use Rattle.papaya_endings.specs.Given.Effects.Known.{Known}
-use Rattle.papaya_endings.specs.Given.Effects.declared.acting.Acting.TheVariants as acts
-use Rattle.papaya_endings.specs.Given.Scenes.Ending.{EndingLeads, ending_begun}
-use Rattle.papaya_endings.specs.Given.Scenes.Held.{Held, IsAt}
-use Rattle.papaya_endings.specs.Given.Scenes.Making.{MakingLeads, scene_making}
-use Rattle.papaya_endings.specs.Given.Scenes.OnSlots.{RowBegins, RowLeads}
-use Rattle.papaya_endings.specs.Given.Scenes.Reclaiming.{IsReclaiming, ReclaimingLeads}
-use Rattle.papaya_endings.specs.Given.Scenes.Rows.{request_of}
-use Rattle.papaya_endings.specs.Given.Scenes.Scene.{IsOnSlot, Scene, slot_of}
-use Rattle.papaya_endings.specs.Given.Scenes.declared.row.RowTold.{RowTold}
-use Rattle.papaya_endings.specs.Given.Scenes.declared.row.SlotCall.{SlotCall}
-use Rattle.papaya_endings.specs.Given.Scenes.declared.row.SlotRow.{SlotRow}
-use Rattle.papaya_endings.specs.Given.Others.Endings.{ending_after, without_map}
-use Rattle.papaya_endings.specs.Given.Others.Makings.{WasNew, making_after}
-use Rattle.papaya_endings.specs.Given.Others.Rows.{scene_then}
-use Rattle.papaya_endings.specs.Given.Moments.Endings.{IsOfIts}
-use Rattle.papaya_endings.proofs.Given.Follows.Operations.{Operated, operated}
-use Rattle.papaya_endings.proofs.Given.Others.RowPlans.{TellsRow}
-use Rattle.papaya_endings.proofs.Given.Scenes.May.{may_reclaim}
-use Rattle.papaya_endings.proofs.Given.Kept.Others.{rows_find_kept}
-use Rattle.papaya_endings.proofs.Given.Logged.Reclaiming.Rest.{reclaiming_found}
-use Rattle.papaya_endings.proofs.Given.Logged.Reclaiming.Rows.{EmptiesRoot, reclaiming_tells}
-use Rattle.papaya_endings.proofs.Given.Logged.Reclaiming.Steps.{reclaiming_whole}
-use Rattle.papaya_endings.proofs.Given.Finds.Grows.Steps.{tables_have_been}
-use Rattle.papaya_endings.specs.Given.Settles.Counts.{is_to_count}
-use Rattle.papaya_endings.proofs.Given.Settles.Uncounted.{CountsNowhere}
-use Rattle.papaya_endings.specs.Given.Shards.ShardWords.{IsUncounted, ShowsShards}
-use Rattle.papaya_endings.proofs.Given.Shards.ShardBetween.{counters_stay}
-use Rattle.papaya_endings.proofs.Given.Shards.ShardKept.{none_shards, same_setting, word_kept}
-use Rattle.papaya_endings.proofs.Given.Shards.ShardMakes.{makings_keep_counters}
-use Rattle.papaya_endings.proofs.Given.Shards.ShardOthers.{endings_begin_counters, endings_keep_counters, makings_begin_counters, rows_begin_counters, rows_keep_counters}
-use Rattle.papaya_endings.proofs.Given.Purposes.Between.{events_keep_purposes}
-use Rattle.papaya_endings.proofs.Given.Purposes.Elsewhere.{purposes_stay}
-use Rattle.papaya_endings.proofs.Given.Purposes.Stored.{effects_stored, numbers_last}
-use Rattle.papaya_endings.specs.Given.Acts.Doings.{scene_chosen}
+use Rattle.papaya_endings.specs.Given.EffectsEffects.{effects_of, known_after}
+use Rattle.papaya_endings.specs.Given.EffectsKnown.{Known}
+use Rattle.papaya_endings.specs.Given.EffectsDeclared.acting.Acting.TheVariants as acts
+use Rattle.papaya_endings.specs.Given.ScenesEnding.{EndingLeads, ending_begun}
+use Rattle.papaya_endings.specs.Given.ScenesHeld.{Held, IsAt}
+use Rattle.papaya_endings.specs.Given.ScenesMaking.{MakingLeads, scene_making}
+use Rattle.papaya_endings.specs.Given.ScenesOnSlots.{RowBegins, RowLeads}
+use Rattle.papaya_endings.specs.Given.ScenesReclaiming.{IsReclaiming, ReclaimingLeads}
+use Rattle.papaya_endings.specs.Given.ScenesRows.{request_of}
+use Rattle.papaya_endings.specs.Given.ScenesScene.{IsOnSlot, Scene, slot_of}
+use Rattle.papaya_endings.specs.Given.ScenesDeclared.row.RowTold.{RowTold}
+use Rattle.papaya_endings.specs.Given.ScenesDeclared.row.SlotCall.{SlotCall}
+use Rattle.papaya_endings.specs.Given.ScenesDeclared.row.SlotRow.{SlotRow}
+use Rattle.papaya_endings.specs.Given.OthersEndings.{ending_after, without_map}
+use Rattle.papaya_endings.specs.Given.OthersMakings.{WasNew, making_after}
+use Rattle.papaya_endings.specs.Given.OthersRows.{scene_then}
+use Rattle.papaya_endings.specs.Given.MomentsEndings.{IsOfIts}
+use Rattle.papaya_endings.proofs.Given.FollowsOperations.{Operated, operated}
+use Rattle.papaya_endings.proofs.Given.OthersRowPlans.{TellsRow}
+use Rattle.papaya_endings.proofs.Given.ScenesMay.{may_reclaim}
+use Rattle.papaya_endings.proofs.Given.KeptOthers.{rows_find_kept}
+use Rattle.papaya_endings.proofs.Given.LoggedReclaiming.Rest.{reclaiming_found}
+use Rattle.papaya_endings.proofs.Given.LoggedReclaiming.Rows.{EmptiesRoot, reclaiming_tells}
+use Rattle.papaya_endings.proofs.Given.LoggedReclaiming.Steps.{reclaiming_whole}
+use Rattle.papaya_endings.proofs.Given.FindsGrows.Steps.{tables_have_been}
+use Rattle.papaya_endings.specs.Given.SettlesCounts.{is_to_count}
+use Rattle.papaya_endings.proofs.Given.SettlesUncounted.{CountsNowhere}
+use Rattle.papaya_endings.specs.Given.ShardsShardWords.{IsUncounted, ShowsShards}
+use Rattle.papaya_endings.proofs.Given.ShardsShardBetween.{counters_stay}
+use Rattle.papaya_endings.proofs.Given.ShardsShardKept.{none_shards, same_setting, word_kept}
+use Rattle.papaya_endings.proofs.Given.ShardsShardMakes.{makings_keep_counters}
+use Rattle.papaya_endings.proofs.Given.ShardsShardOthers.{endings_begin_counters, endings_keep_counters, makings_begin_counters, rows_begin_counters, rows_keep_counters}
+use Rattle.papaya_endings.proofs.Given.PurposesBetween.{events_keep_purposes}
+use Rattle.papaya_endings.proofs.Given.PurposesElsewhere.{purposes_stay}
+use Rattle.papaya_endings.proofs.Given.PurposesStored.{effects_stored, numbers_last}
+use Rattle.papaya_endings.specs.Given.ActsDoings.{scene_chosen}
 use Rattle.papaya_deeds.specs.Deeds.{named}
-use Rattle.papaya_endings.specs.Given.Linear.Shown.{ShowsAnswers}
-use Rattle.papaya_endings.proofs.Given.Linear.Chosen.{shown_chosen}
-use Rattle.papaya_endings.proofs.Given.Linear.Like.{IsLike}
+use Rattle.papaya_endings.specs.Given.LinearShown.{ShowsAnswers}
+use Rattle.papaya_endings.proofs.Given.LinearChosen.{shown_chosen}
+use Rattle.papaya_endings.proofs.Given.LinearLike.{IsLike}
 use Rattle.papaya_swept.specs.Shown.{IsTabled, ShowsSweeps}
 use Rattle.papaya_swept.proofs.Tabled.{tabled_stays}
 

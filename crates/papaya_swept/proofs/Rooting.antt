@@ -13,10 +13,10 @@ use Rattle.papaya_deeds.specs.Given.Resize.NewMap.{at_root, goes, plan_at, refus
 use Rattle.papaya_deeds.specs.Given.Resize.declared.new_map.NewMap.{NewMap}
 use Rattle.papaya_deeds.specs.Given.Resize.declared.new_map.Opening.{Opening}
 use Rattle.papaya_deeds.specs.Given.Resize.declared.new_map.Opening.TheVariants as openings
-use Rattle.papaya_endings.specs.Given.Teller.Tells.{StepsTold}
-use Rattle.papaya_endings.specs.Given.Teller.declared.changed.Changed.{Changed}
-use Rattle.papaya_endings.specs.Given.Teller.declared.changed.Changed.TheVariants as changed
-use Rattle.papaya_endings.specs.Given.Played.Play.{has_root}
+use Rattle.papaya_endings.specs.Given.TellerTells.{StepsTold}
+use Rattle.papaya_endings.specs.Given.TellerDeclared.changed.Changed.{Changed}
+use Rattle.papaya_endings.specs.Given.TellerDeclared.changed.Changed.TheVariants as changed
+use Rattle.papaya_endings.specs.Given.PlayedPlay.{has_root}
 
 module _ {K V : Type 0} (c : NewMap) (m n : Mem (Node K V)) (told : Changed) (end : NewMap × Progress Setting) where
   -- if it has a root then it goes on

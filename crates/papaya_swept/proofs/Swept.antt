@@ -3,26 +3,26 @@ use Rattle.std.specs.Prelude.{ℕ, Bool, List, [], ◌∷◌}
 use Rattle.std.specs.List.{AllByRecursion}
 use Rattle.std.proofs.Common.{refl}
 use Rattle.papaya_deeds.specs.Given.Schedules.Terms.{Terms, shards_of}
-use Rattle.papaya_endings.specs.Given.Effects.Known.{nothing_known}
-use Rattle.papaya_endings.specs.Given.Scenes.Scene.{at_first, slot_of}
-use Rattle.papaya_endings.proofs.Given.Moments.Calls.{whole_begins}
-use Rattle.papaya_endings.proofs.Given.Histories.DueOn.{dues_begin}
-use Rattle.papaya_endings.proofs.Given.Purposes.Stored.{first_lasts}
-use Rattle.papaya_endings.specs.Given.Acts.Acts.{Act}
-use Rattle.papaya_endings.specs.Given.Acts.Doings.{Doing, Does, BeginsReclaiming, BeginsClearing, StepsReclaiming, Chooses}
-use Rattle.papaya_endings.specs.Given.Acts.Lists.{nothing_done}
-use Rattle.papaya_endings.specs.Given.Agrees.Agree.{Asks}
-use Rattle.papaya_endings.specs.Given.Agrees.Shards.{AsksShards, ShardsAre}
-use Rattle.papaya_endings.proofs.Given.Agrees.Agree.{own_so}
-use Rattle.papaya_endings.proofs.Given.Agrees.Coming.{new_fits}
-use Rattle.papaya_endings.specs.Given.Agrees.Fresh.{HasNewNumber}
-use Rattle.papaya_endings.proofs.Given.Agrees.GivenBack.{again_first}
-use Rattle.papaya_endings.proofs.Given.Agrees.Shards.{shards_stay}
+use Rattle.papaya_endings.specs.Given.EffectsKnown.{nothing_known}
+use Rattle.papaya_endings.specs.Given.ScenesScene.{at_first, slot_of}
+use Rattle.papaya_endings.proofs.Given.MomentsCalls.{whole_begins}
+use Rattle.papaya_endings.proofs.Given.HistoriesDueOn.{dues_begin}
+use Rattle.papaya_endings.proofs.Given.PurposesStored.{first_lasts}
+use Rattle.papaya_endings.specs.Given.ActsActs.{Act}
+use Rattle.papaya_endings.specs.Given.ActsDoings.{Doing, Does, BeginsReclaiming, BeginsClearing, StepsReclaiming, Chooses}
+use Rattle.papaya_endings.specs.Given.ActsLists.{nothing_done}
+use Rattle.papaya_endings.specs.Given.AgreesAgree.{Asks}
+use Rattle.papaya_endings.specs.Given.AgreesShards.{AsksShards, ShardsAre}
+use Rattle.papaya_endings.proofs.Given.AgreesAgree.{own_so}
+use Rattle.papaya_endings.proofs.Given.AgreesComing.{new_fits}
+use Rattle.papaya_endings.specs.Given.AgreesFresh.{HasNewNumber}
+use Rattle.papaya_endings.proofs.Given.AgreesGivenBack.{again_first}
+use Rattle.papaya_endings.proofs.Given.AgreesShards.{shards_stay}
 use Rattle.papaya_deeds.specs.Deeds.{moment, named}
 use Rattle.papaya_deeds.specs.History.{past}
-use Rattle.papaya_endings.specs.Given.Played.Play.{State, first_state}
-use Rattle.papaya_endings.proofs.Given.Played.Along.{AllFit, At, wherever}
-use Rattle.papaya_endings.proofs.Given.Linear.Stays.{first_holds}
+use Rattle.papaya_endings.specs.Given.PlayedPlay.{State, first_state}
+use Rattle.papaya_endings.proofs.Given.PlayedAlong.{AllFit, At, wherever}
+use Rattle.papaya_endings.proofs.Given.LinearStays.{first_holds}
 use Rattle.papaya_swept.specs.Shown.{HasSwept, ShowsSweeps}
 use Rattle.papaya_swept.specs.Swept.{ListsAreSwept}
 use Rattle.papaya_swept.proofs.Instance.{P, Shards, sweeps_are_kept}

@@ -19,11 +19,11 @@ use Rattle.papaya_deeds.specs.Given.Raw.declared.machines.machine.Machine.TheVar
 use Rattle.papaya_deeds.specs.Given.Raw.declared.machines.progress.Answer.TheVariants as answers
 use Rattle.papaya_deeds.specs.Given.Raw.declared.machines.progress.Progress.{Progress}
 use Rattle.papaya_deeds.specs.Given.Raw.declared.machines.progress.Progress.TheVariants as progress
-use Rattle.papaya_endings.specs.Given.Late.ToldSweeps.{TellsSo}
-use Rattle.papaya_endings.specs.Given.Callers.OverAll.{CallOverAll}
-use Rattle.papaya_endings.specs.Given.Callers.Together.{UnderWay, OnKey, ForRoom, Counting, OverAll}
-use Rattle.papaya_endings.specs.Given.Finishes.Machines.{GoesOnAs, machine_of}
-use Rattle.papaya_endings.specs.Given.Finishes.Maps.{Standing}
+use Rattle.papaya_endings.specs.Given.LateToldSweeps.{TellsSo}
+use Rattle.papaya_endings.specs.Given.CallersOverAll.{CallOverAll}
+use Rattle.papaya_endings.specs.Given.CallersTogether.{UnderWay, OnKey, ForRoom, Counting, OverAll}
+use Rattle.papaya_endings.specs.Given.FinishesMachines.{GoesOnAs, machine_of}
+use Rattle.papaya_endings.specs.Given.FinishesMaps.{Standing}
 use Rattle.papaya_deeds.specs.Given.Schedules.declared.call.Answer.TheVariants as answer
 use Rattle.papaya_deeds.specs.Given.Schedules.declared.call.Call.{Call}
 use Rattle.papaya_deeds.specs.Given.Schedules.declared.call.Call.TheVariants as call
@@ -38,42 +38,42 @@ use Rattle.papaya_deeds.specs.Given.Schedules.Sweeps.{SweepsRight}
 use Rattle.papaya_deeds.specs.Given.Schedules.Terms.{Terms, shards_of}
 use Rattle.papaya_deeds.specs.Given.Schedules.Transition.{Past, Transition, call_left, worked_by}
 use Rattle.papaya_deeds.specs.Given.Schedules.Views.{call_of, is_in_map}
-use Rattle.papaya_endings.specs.Given.Effects.Effects.{effects_of, known_after}
-use Rattle.papaya_endings.specs.Given.Effects.Known.{Known}
-use Rattle.papaya_endings.specs.Given.Effects.declared.acting.Acting.TheVariants as acts
-use Rattle.papaya_endings.specs.Given.Scenes.Held.{Held, IsAt}
-use Rattle.papaya_endings.specs.Given.Scenes.Scene.{Scene}
-use Rattle.papaya_endings.specs.Given.Scenes.Stepping.{StepLeads, scene_after}
-use Rattle.papaya_endings.proofs.Given.Hands.Replacing.{calls_after}
-use Rattle.papaya_endings.proofs.Given.Callers.Together.At.{at_same}
-use Rattle.papaya_endings.specs.Given.Moments.Whole.{ShowsWhole}
-use Rattle.papaya_endings.proofs.Given.Scenes.May.{standing_is}
-use Rattle.papaya_endings.proofs.Given.Moments.Calls.{calls_keep_whole}
-use Rattle.papaya_endings.specs.Given.Histories.Answers.{NamesPair}
-use Rattle.papaya_endings.specs.Given.Histories.InEvent.{InEvent}
-use Rattle.papaya_endings.proofs.Given.Histories.AnyCall.InEvent.{events_begin}
-use Rattle.papaya_endings.proofs.Given.Histories.OtherMidsts.{fewer_so}
-use Rattle.papaya_endings.proofs.Given.Histories.Retaining.{found_there}
-use Rattle.papaya_endings.specs.Given.Legal.CallEvents.{EachIsItsOwn}
-use Rattle.papaya_endings.proofs.Given.Legal.CallPairs.{each_is_its_own}
-use Rattle.papaya_endings.specs.Given.Named.Seen.{kind_of}
-use Rattle.papaya_endings.specs.Given.Named.Telling.{number_by, number_in}
-use Rattle.papaya_endings.proofs.Given.Stepping.SweepSteps.{walks_at}
-use Rattle.papaya_endings.specs.Given.Purposes.Kept.{NoneCame, PairsChangeFirst}
-use Rattle.papaya_endings.specs.Given.Purposes.Purposes.{IsFor, ShowsPurposes}
-use Rattle.papaya_endings.specs.Given.Purposes.Shards.{ReadsShards}
-use Rattle.papaya_endings.specs.Given.Purposes.Swept.{ComesSo as IsToldSo, SaysNothing}
-use Rattle.papaya_endings.proofs.Given.Purposes.Between.{first_steps_change_pairs_first}
-use Rattle.papaya_endings.proofs.Given.Purposes.FindsRoom.{reservations_are_swept}
-use Rattle.papaya_endings.proofs.Given.Purposes.Nothing.{calls_on_keys_are_swept, other_outcomes_are_swept}
-use Rattle.papaya_endings.proofs.Given.Purposes.Shows.{walks_show}
-use Rattle.papaya_endings.proofs.Given.Purposes.ShowsAll.{walks_show_all}
-use Rattle.papaya_endings.proofs.Given.Purposes.Swept.{clearings_are_swept, countings_are_swept, retainings_are_swept}
-use Rattle.papaya_endings.proofs.Given.Purposes.WalkWords.{walks_have_words}
+use Rattle.papaya_endings.specs.Given.EffectsEffects.{effects_of, known_after}
+use Rattle.papaya_endings.specs.Given.EffectsKnown.{Known}
+use Rattle.papaya_endings.specs.Given.EffectsDeclared.acting.Acting.TheVariants as acts
+use Rattle.papaya_endings.specs.Given.ScenesHeld.{Held, IsAt}
+use Rattle.papaya_endings.specs.Given.ScenesScene.{Scene}
+use Rattle.papaya_endings.specs.Given.ScenesStepping.{StepLeads, scene_after}
+use Rattle.papaya_endings.proofs.Given.HandsReplacing.{calls_after}
+use Rattle.papaya_endings.proofs.Given.CallersTogether.At.{at_same}
+use Rattle.papaya_endings.specs.Given.MomentsWhole.{ShowsWhole}
+use Rattle.papaya_endings.proofs.Given.ScenesMay.{standing_is}
+use Rattle.papaya_endings.proofs.Given.MomentsCalls.{calls_keep_whole}
+use Rattle.papaya_endings.specs.Given.HistoriesAnswers.{NamesPair}
+use Rattle.papaya_endings.specs.Given.HistoriesInEvent.{InEvent}
+use Rattle.papaya_endings.proofs.Given.HistoriesAnyCall.InEvent.{events_begin}
+use Rattle.papaya_endings.proofs.Given.HistoriesOtherMidsts.{fewer_so}
+use Rattle.papaya_endings.proofs.Given.HistoriesRetaining.{found_there}
+use Rattle.papaya_endings.specs.Given.LegalCallEvents.{EachIsItsOwn}
+use Rattle.papaya_endings.proofs.Given.LegalCallPairs.{each_is_its_own}
+use Rattle.papaya_endings.specs.Given.NamedSeen.{kind_of}
+use Rattle.papaya_endings.specs.Given.NamedTelling.{number_by, number_in}
+use Rattle.papaya_endings.proofs.Given.SteppingSweepSteps.{walks_at}
+use Rattle.papaya_endings.specs.Given.PurposesKept.{NoneCame, PairsChangeFirst}
+use Rattle.papaya_endings.specs.Given.PurposesPurposes.{IsFor, ShowsPurposes}
+use Rattle.papaya_endings.specs.Given.PurposesShards.{ReadsShards}
+use Rattle.papaya_endings.specs.Given.PurposesSwept.{ComesSo as IsToldSo, SaysNothing}
+use Rattle.papaya_endings.proofs.Given.PurposesBetween.{first_steps_change_pairs_first}
+use Rattle.papaya_endings.proofs.Given.PurposesFindsRoom.{reservations_are_swept}
+use Rattle.papaya_endings.proofs.Given.PurposesNothing.{calls_on_keys_are_swept, other_outcomes_are_swept}
+use Rattle.papaya_endings.proofs.Given.PurposesShows.{walks_show}
+use Rattle.papaya_endings.proofs.Given.PurposesShowsAll.{walks_show_all}
+use Rattle.papaya_endings.proofs.Given.PurposesSwept.{clearings_are_swept, countings_are_swept, retainings_are_swept}
+use Rattle.papaya_endings.proofs.Given.PurposesWalkWords.{walks_have_words}
 use Rattle.papaya_deeds.specs.Deeds.{Entry, moment, named}
 use Rattle.papaya_deeds.specs.History.{is_of_kind, past}
-use Rattle.papaya_endings.specs.Given.Played.Play.{outcome_of}
-use Rattle.papaya_endings.specs.Given.Linear.Shown.{ShowsAnswers}
+use Rattle.papaya_endings.specs.Given.PlayedPlay.{outcome_of}
+use Rattle.papaya_endings.specs.Given.LinearShown.{ShowsAnswers}
 
 -- what a machine says, by its kind
 abbrev SaidBy : {K V : Type 0} → UnderWay K V K → Progress (Node K V) → Type 0

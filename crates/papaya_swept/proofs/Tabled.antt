@@ -5,38 +5,38 @@ use Rattle.std.proofs.Common.{refl, ap, sym, subst, ◌∙◌, arith, inl, inr}
 use Rattle.std.proofs.lemmas.Bool.{cases_eq, cases_lt, eq-eqb}
 use Rattle.papaya_deeds.specs.Given.Tables.declared.node.Node.{Node}
 use Rattle.papaya_deeds.specs.Given.Raw.declared.machines.progress.Progress.{Progress}
-use Rattle.papaya_endings.specs.Given.Callers.Together.{UnderWay, OnKey, ForRoom, Counting, OverAll}
-use Rattle.papaya_endings.specs.Given.Finishes.Machines.{machine_of}
-use Rattle.papaya_endings.specs.Given.Finishes.Maps.{Standing}
+use Rattle.papaya_endings.specs.Given.CallersTogether.{UnderWay, OnKey, ForRoom, Counting, OverAll}
+use Rattle.papaya_endings.specs.Given.FinishesMachines.{machine_of}
+use Rattle.papaya_endings.specs.Given.FinishesMaps.{Standing}
 use Rattle.papaya_deeds.specs.Given.Schedules.declared.effect.Effect.{Effect}
 use Rattle.papaya_deeds.specs.Given.Schedules.declared.effect.Spot.{Spot}
 use Rattle.papaya_deeds.specs.Given.Schedules.Effects.{AtEachEffect, with_effects}
 use Rattle.papaya_deeds.specs.Given.Schedules.Moment.{InMap, Moment, TableThere}
 use Rattle.papaya_deeds.specs.Given.Schedules.Things.{same_table}
 use Rattle.papaya_deeds.specs.Given.Schedules.Views.{is_in_map, is_linked}
-use Rattle.papaya_endings.specs.Given.Effects.Effects.{effects_of}
-use Rattle.papaya_endings.specs.Given.Effects.Known.{Known}
-use Rattle.papaya_endings.specs.Given.Effects.declared.acting.Acting.TheVariants as acts
-use Rattle.papaya_endings.specs.Given.Scenes.Held.{Held, IsAt}
-use Rattle.papaya_endings.specs.Given.Scenes.Scene.{Scene}
-use Rattle.papaya_endings.specs.Given.Scenes.Stepping.{StepLeads, scene_after}
-use Rattle.papaya_endings.specs.Given.Follows.Finds.{FindsMap}
-use Rattle.papaya_endings.specs.Given.Moments.Whole.{ShowsWhole}
-use Rattle.papaya_endings.proofs.Given.Follows.Finds.{tables_many}
-use Rattle.papaya_endings.proofs.Given.Hands.Asking.{which}
-use Rattle.papaya_endings.specs.Given.Settles.Counts.{ShowsCounts, is_to_count}
-use Rattle.papaya_endings.proofs.Given.Settles.Calls.{goes_as_one}
-use Rattle.papaya_endings.proofs.Given.Settles.Uncounted.{none_counts}
-use Rattle.papaya_endings.specs.Given.Shards.Adds.{adds_of}
-use Rattle.papaya_endings.specs.Given.Shards.ShardWords.{ShowsCounters}
-use Rattle.papaya_endings.proofs.Given.Shards.Adds.{AddsIts, AddsNone, Brings, StepAdds, machine_adds, machine_not_adds}
-use Rattle.papaya_endings.proofs.Given.Shards.KeyAdds.{key_adds}
-use Rattle.papaya_endings.proofs.Given.Shards.RestAdds.{room_adds, sum_adds, sweep_adds}
-use Rattle.papaya_endings.proofs.Given.Shards.ShardKept.{uncounted_shards}
-use Rattle.papaya_endings.proofs.Given.Shards.ShardNumbers.{calls_spare_others}
-use Rattle.papaya_endings.specs.Given.Finds.Within.{many_of}
-use Rattle.papaya_endings.proofs.Given.Finds.Grows.Steps.{tables_have_been}
-use Rattle.papaya_endings.proofs.Given.Finds.Steps.{steps_find_places}
+use Rattle.papaya_endings.specs.Given.EffectsEffects.{effects_of}
+use Rattle.papaya_endings.specs.Given.EffectsKnown.{Known}
+use Rattle.papaya_endings.specs.Given.EffectsDeclared.acting.Acting.TheVariants as acts
+use Rattle.papaya_endings.specs.Given.ScenesHeld.{Held, IsAt}
+use Rattle.papaya_endings.specs.Given.ScenesScene.{Scene}
+use Rattle.papaya_endings.specs.Given.ScenesStepping.{StepLeads, scene_after}
+use Rattle.papaya_endings.specs.Given.FollowsFinds.{FindsMap}
+use Rattle.papaya_endings.specs.Given.MomentsWhole.{ShowsWhole}
+use Rattle.papaya_endings.proofs.Given.FollowsFinds.{tables_many}
+use Rattle.papaya_endings.proofs.Given.HandsAsking.{which}
+use Rattle.papaya_endings.specs.Given.SettlesCounts.{ShowsCounts, is_to_count}
+use Rattle.papaya_endings.proofs.Given.SettlesCalls.{goes_as_one}
+use Rattle.papaya_endings.proofs.Given.SettlesUncounted.{none_counts}
+use Rattle.papaya_endings.specs.Given.ShardsAdds.{adds_of}
+use Rattle.papaya_endings.specs.Given.ShardsShardWords.{ShowsCounters}
+use Rattle.papaya_endings.proofs.Given.ShardsAdds.{AddsIts, AddsNone, Brings, StepAdds, machine_adds, machine_not_adds}
+use Rattle.papaya_endings.proofs.Given.ShardsKeyAdds.{key_adds}
+use Rattle.papaya_endings.proofs.Given.ShardsRestAdds.{room_adds, sum_adds, sweep_adds}
+use Rattle.papaya_endings.proofs.Given.ShardsShardKept.{uncounted_shards}
+use Rattle.papaya_endings.proofs.Given.ShardsShardNumbers.{calls_spare_others}
+use Rattle.papaya_endings.specs.Given.FindsWithin.{many_of}
+use Rattle.papaya_endings.proofs.Given.FindsGrows.Steps.{tables_have_been}
+use Rattle.papaya_endings.proofs.Given.FindsSteps.{steps_find_places}
 use Rattle.papaya_deeds.specs.Deeds.{named}
 use Rattle.papaya_swept.specs.Shown.{IsTabled}
 

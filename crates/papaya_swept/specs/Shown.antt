@@ -1,17 +1,17 @@
 -- What the moment of a history shows of calls on whole maps, in the scene to which a list of acts has led, by which its next entry does what its call is for.
 use Rattle.std.specs.Prelude.{◌≡◌, ◌<◌, ℕ, Bool, true, List, Some}
-use Rattle.papaya_endings.specs.Given.Callers.Together.{UnderWay}
-use Rattle.papaya_endings.specs.Given.Finishes.Machines.{machine_of}
+use Rattle.papaya_endings.specs.Given.CallersTogether.{UnderWay}
+use Rattle.papaya_endings.specs.Given.FinishesMachines.{machine_of}
 use Rattle.papaya_deeds.specs.Given.Schedules.After.{AtEachEvent}
 use Rattle.papaya_deeds.specs.Given.Schedules.Moment.{Moment}
 use Rattle.papaya_deeds.specs.Given.Schedules.Terms.{Terms}
 use Rattle.papaya_deeds.specs.Given.Schedules.Transition.{Past}
-use Rattle.papaya_endings.specs.Given.Effects.Known.{Known}
-use Rattle.papaya_endings.specs.Given.Scenes.Scene.{Scene}
-use Rattle.papaya_endings.specs.Given.Finds.Within.{many_of}
-use Rattle.papaya_endings.specs.Given.Settles.Counts.{is_to_count}
-use Rattle.papaya_endings.specs.Given.Shards.ShardWords.{ShowsCounters}
-use Rattle.papaya_endings.specs.Given.Purposes.Purposes.{ShowsPurposes}
+use Rattle.papaya_endings.specs.Given.EffectsKnown.{Known}
+use Rattle.papaya_endings.specs.Given.ScenesScene.{Scene}
+use Rattle.papaya_endings.specs.Given.FindsWithin.{many_of}
+use Rattle.papaya_endings.specs.Given.SettlesCounts.{is_to_count}
+use Rattle.papaya_endings.specs.Given.ShardsShardWords.{ShowsCounters}
+use Rattle.papaya_endings.specs.Given.PurposesPurposes.{ShowsPurposes}
 use Rattle.papaya_deeds.specs.Deeds.{Entry, moment, named}
 use Rattle.papaya_deeds.specs.History.{IsSwept, past}
 

@@ -3,13 +3,13 @@ use Rattle.std.specs.Prelude.{◌≡◌, ◌<◌, ◌^◌, ℕ, Bool, List, Some
 use Rattle.std.specs.List.{AllByRecursion}
 use Rattle.papaya_deeds.specs.Given.Schedules.After.{AtEachEvent}
 use Rattle.papaya_deeds.specs.Given.Schedules.Terms.{Terms, shards_of}
-use Rattle.papaya_endings.specs.Given.Scenes.Scene.{slot_of}
-use Rattle.papaya_endings.specs.Given.Acts.Doings.{Doing}
-use Rattle.papaya_endings.specs.Given.Acts.Lists.{Course, LedTo, Reached}
-use Rattle.papaya_endings.specs.Given.Agrees.Agree.{Asks}
-use Rattle.papaya_endings.specs.Given.Agrees.Fresh.{MakesNew}
+use Rattle.papaya_endings.specs.Given.ScenesScene.{slot_of}
+use Rattle.papaya_endings.specs.Given.ActsDoings.{Doing}
+use Rattle.papaya_endings.specs.Given.ActsLists.{Course, LedTo, Reached}
+use Rattle.papaya_endings.specs.Given.AgreesAgree.{Asks}
+use Rattle.papaya_endings.specs.Given.AgreesFresh.{MakesNew}
 use Rattle.papaya_deeds.specs.History.{IsSwept}
-use Rattle.papaya_endings.specs.Given.Played.Play.{State, first_state, play_all}
+use Rattle.papaya_endings.specs.Given.PlayedPlay.{State, first_state, play_all}
 
 -- Keys have a hash by each hasher, and each map has one by its number.
 module _ {K S : Type 0} (V : Type 0) (same : K → K → Bool) (by_hasher : S → K → ℕ) (hash : ℕ → K → ℕ) (batch_size roots : ℕ) (terms : Terms) where

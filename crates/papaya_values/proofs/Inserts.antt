@@ -1,44 +1,44 @@
 -- A call that tries to insert a pair, at any moment: it takes no reply, has a block of its own at each try, and answers that its key is there only where it is over.
 use Rattle.std.specs.Prelude.{◌≡◌, ℕ, ◌<◌, ◌^◌, Bool, List, Some}
 use Rattle.std.proofs.Common.{refl, ap, sym, subst, ◌∙◌, arith, inl, inr}
-use Rattle.papaya_moments.specs.Given.Tables.declared.node.Node.TheVariants as node
-use Rattle.papaya_moments.specs.Given.Tables.declared.setting.Setting.{Setting}
-use Rattle.papaya_moments.specs.Given.Resize.declared.dispose.Dispose.{Dispose}
-use Rattle.papaya_moments.specs.Given.Resize.declared.lookup.Lookup.{Lookup}
-use Rattle.papaya_moments.specs.Given.Rule.Words.{Blocks}
-use Rattle.papaya_moments.specs.Given.Raw.CallPoints.{word_to}
-use Rattle.papaya_moments.specs.Given.Raw.declared.machines.answer.End.TheVariants as ends
-use Rattle.papaya_moments.specs.Given.Raw.declared.machines.answer.KeyAnswer.{KeyAnswer}
-use Rattle.papaya_moments.specs.Given.Raw.declared.machines.answer.KeyAnswer.TheVariants as answers
-use Rattle.papaya_moments.specs.Given.Raw.declared.machines.answer.Missing.TheVariants as missing
-use Rattle.papaya_moments.specs.Given.Raw.declared.machines.asking.Takes.{Takes}
-use Rattle.papaya_moments.specs.Given.Raw.declared.machines.asking.Takes.TheVariants as takes
-use Rattle.papaya_moments.specs.Given.Raw.declared.machines.call.Calling.{Calling}
-use Rattle.papaya_moments.specs.Given.Raw.declared.machines.call.Calling.TheVariants as at
-use Rattle.papaya_moments.specs.Given.Raw.declared.machines.call.KeyCall.{KeyCall}
-use Rattle.papaya_moments.specs.Given.Schedules.declared.call.Call.{Call}
-use Rattle.papaya_moments.specs.Given.Schedules.declared.call.Call.TheVariants.{On}
-use Rattle.papaya_moments.specs.Given.Schedules.declared.call.OneKey.{OneKey}
-use Rattle.papaya_moments.specs.Given.Schedules.declared.call.OneKey.TheVariants.{TryInsert}
-use Rattle.papaya_moments.specs.Given.Schedules.Moment.{UnderWay as CallThere, Moment}
-use Rattle.papaya_moments.specs.Given.Schedules.Views.{call_of}
-use Rattle.papaya_moments.specs.Given.Points.FactsCalls.{Change, Stored, Replaced, Removed, Unchanged, Holding, InBlock, CallingFacts, HasIts, HasOwn, Tells, holding}
-use Rattle.papaya_moments.specs.Given.Points.Told.{IsRowOfCall}
-use Rattle.papaya_moments.specs.Given.Late.Kinds.{FitsAt}
-use Rattle.papaya_moments.specs.Given.Late.LateCalls.{LateCalling}
-use Rattle.papaya_moments.specs.Given.Callers.Kind.{tries_to_insert}
-use Rattle.papaya_moments.specs.Given.Callers.Pairs.{Begun, Given, KeepsGiven}
-use Rattle.papaya_moments.specs.Given.Callers.Rows.{once_over, past_row}
-use Rattle.papaya_moments.specs.Given.Callers.Sights.{seen_by}
-use Rattle.papaya_moments.specs.Given.Callers.Together.{CallOnKey, UnderWay, OnKey, Knows, Stands, in_slot}
-use Rattle.papaya_moments.specs.Given.Effects.Known.{Known}
-use Rattle.papaya_moments.specs.Given.Finishes.Maps.{Standing}
-use Rattle.papaya_moments.specs.Given.Follows.Calls.{IsCalled}
-use Rattle.papaya_moments.specs.Given.Hands.Asked.{IsAsked, IsAskedAs, IsAskedOn}
+use Rattle.papaya_moments.specs.Given.TablesDeclared.node.Node.TheVariants as node
+use Rattle.papaya_moments.specs.Given.TablesDeclared.setting.Setting.{Setting}
+use Rattle.papaya_moments.specs.Given.ResizeDeclared.dispose.Dispose.{Dispose}
+use Rattle.papaya_moments.specs.Given.ResizeDeclared.lookup.Lookup.{Lookup}
+use Rattle.papaya_moments.specs.Given.RuleWords.{Blocks}
+use Rattle.papaya_moments.specs.Given.RawCallPoints.{word_to}
+use Rattle.papaya_moments.specs.Given.RawDeclared.machines.answer.End.TheVariants as ends
+use Rattle.papaya_moments.specs.Given.RawDeclared.machines.answer.KeyAnswer.{KeyAnswer}
+use Rattle.papaya_moments.specs.Given.RawDeclared.machines.answer.KeyAnswer.TheVariants as answers
+use Rattle.papaya_moments.specs.Given.RawDeclared.machines.answer.Missing.TheVariants as missing
+use Rattle.papaya_moments.specs.Given.RawDeclared.machines.asking.Takes.{Takes}
+use Rattle.papaya_moments.specs.Given.RawDeclared.machines.asking.Takes.TheVariants as takes
+use Rattle.papaya_moments.specs.Given.RawDeclared.machines.call.Calling.{Calling}
+use Rattle.papaya_moments.specs.Given.RawDeclared.machines.call.Calling.TheVariants as at
+use Rattle.papaya_moments.specs.Given.RawDeclared.machines.call.KeyCall.{KeyCall}
+use Rattle.papaya_moments.specs.Given.SchedulesDeclared.call.Call.{Call}
+use Rattle.papaya_moments.specs.Given.SchedulesDeclared.call.Call.TheVariants.{On}
+use Rattle.papaya_moments.specs.Given.SchedulesDeclared.call.OneKey.{OneKey}
+use Rattle.papaya_moments.specs.Given.SchedulesDeclared.call.OneKey.TheVariants.{TryInsert}
+use Rattle.papaya_moments.specs.Given.SchedulesMoment.{UnderWay as CallThere, Moment}
+use Rattle.papaya_moments.specs.Given.SchedulesViews.{call_of}
+use Rattle.papaya_moments.specs.Given.PointsFactsCalls.{Change, Stored, Replaced, Removed, Unchanged, Holding, InBlock, CallingFacts, HasIts, HasOwn, Tells, holding}
+use Rattle.papaya_moments.specs.Given.PointsTold.{IsRowOfCall}
+use Rattle.papaya_moments.specs.Given.LateKinds.{FitsAt}
+use Rattle.papaya_moments.specs.Given.LateLateCalls.{LateCalling}
+use Rattle.papaya_moments.specs.Given.CallersKind.{tries_to_insert}
+use Rattle.papaya_moments.specs.Given.CallersPairs.{Begun, Given, KeepsGiven}
+use Rattle.papaya_moments.specs.Given.CallersRows.{once_over, past_row}
+use Rattle.papaya_moments.specs.Given.CallersSights.{seen_by}
+use Rattle.papaya_moments.specs.Given.CallersTogether.{CallOnKey, UnderWay, OnKey, Knows, Stands, in_slot}
+use Rattle.papaya_moments.specs.Given.EffectsKnown.{Known}
+use Rattle.papaya_moments.specs.Given.FinishesMaps.{Standing}
+use Rattle.papaya_moments.specs.Given.FollowsCalls.{IsCalled}
+use Rattle.papaya_moments.specs.Given.HandsAsked.{IsAsked, IsAskedAs, IsAskedOn}
 use Rattle.papaya_moments.specs.Whole.{ShowsWhole}
 use Rattle.papaya_values.proofs.KeyEnds.{MayFind}
-use Rattle.papaya_moments.specs.Given.Scenes.Held.{Held, IsAt}
-use Rattle.papaya_moments.specs.Given.Scenes.Scene.{Scene, slot_of}
+use Rattle.papaya_moments.specs.Given.ScenesHeld.{Held, IsAt}
+use Rattle.papaya_moments.specs.Given.ScenesScene.{Scene, slot_of}
 
 -- the word of a block is not that of none
 word_some : (block code : ℕ) → 0 < block → block < 2 ^ 53 → code < 2 ^ 64 → word_to block code ≡ 0 → ⊥

@@ -1,66 +1,66 @@
 -- What the caller of a call keeps as its value: as its call begins, after each step, once it has a reply, and where `try_insert` answers that its key is there.
 use Rattle.std.specs.Prelude.{◌≡◌, ℕ, ◌==◌, Bool, true, false, List, ◌∷◌, Option, Some, Ok, Err, if◌then◌else◌}
 use Rattle.std.proofs.Common.{refl, ap, sym, subst, ◌∙◌, inl, inr}
-use Rattle.papaya_moments.specs.Given.SeizeWords.Mem.{Took, value_at}
-use Rattle.papaya_moments.specs.Given.SeizeWords.Plan.{Steps}
-use Rattle.papaya_moments.specs.Given.Tables.declared.node.Node.{Node}
-use Rattle.papaya_moments.specs.Given.Tables.declared.node.Node.TheVariants as node
-use Rattle.papaya_moments.specs.Given.Raw.Call.{call_plan}
-use Rattle.papaya_moments.specs.Given.Raw.CallAsks.{absent_told, present_told, told_at}
-use Rattle.papaya_moments.specs.Given.Raw.CallPoints.{ending, going, over}
-use Rattle.papaya_moments.specs.Given.Raw.Machine.{called, machine_replied}
-use Rattle.papaya_moments.specs.Given.Raw.Progress.{of_called}
-use Rattle.papaya_moments.specs.Given.Raw.declared.machines.answer.Called.{Called}
-use Rattle.papaya_moments.specs.Given.Raw.declared.machines.answer.Called.TheVariants as calls
-use Rattle.papaya_moments.specs.Given.Raw.declared.machines.answer.End.{End}
-use Rattle.papaya_moments.specs.Given.Raw.declared.machines.answer.End.TheVariants as ends
-use Rattle.papaya_moments.specs.Given.Raw.declared.machines.answer.KeyAnswer.TheVariants as answers
-use Rattle.papaya_moments.specs.Given.Raw.declared.machines.asking.Asking.{Asking as AskingAt}
-use Rattle.papaya_moments.specs.Given.Raw.declared.machines.asking.Asking.TheVariants as asking
-use Rattle.papaya_moments.specs.Given.Raw.declared.machines.asking.Gap.{Gap}
-use Rattle.papaya_moments.specs.Given.Raw.declared.machines.asking.Reply.{Reply as MachineReply}
-use Rattle.papaya_moments.specs.Given.Raw.declared.machines.asking.Reply.TheVariants as reply
-use Rattle.papaya_moments.specs.Given.Raw.declared.machines.asking.Takes.{Takes}
-use Rattle.papaya_moments.specs.Given.Raw.declared.machines.asking.Takes.TheVariants as takes
-use Rattle.papaya_moments.specs.Given.Raw.declared.machines.call.Calling.{Calling}
-use Rattle.papaya_moments.specs.Given.Raw.declared.machines.call.Calling.TheVariants as at
-use Rattle.papaya_moments.specs.Given.Raw.declared.machines.call.KeyCall.{KeyCall}
-use Rattle.papaya_moments.specs.Given.Raw.declared.machines.machine.Machine.{Machine}
-use Rattle.papaya_moments.specs.Given.Raw.declared.machines.machine.Machine.TheVariants as kinds
-use Rattle.papaya_moments.specs.Given.Raw.declared.machines.progress.Answer.TheVariants as said_of
-use Rattle.papaya_moments.specs.Given.Raw.declared.machines.progress.Progress.{Progress}
-use Rattle.papaya_moments.specs.Given.Raw.declared.machines.progress.Progress.TheVariants as progress
-use Rattle.papaya_moments.specs.Given.Schedules.declared.call.Call.{Call}
-use Rattle.papaya_moments.specs.Given.Schedules.declared.call.Call.TheVariants.{On}
-use Rattle.papaya_moments.specs.Given.Schedules.declared.call.OneKey.{OneKey}
-use Rattle.papaya_moments.specs.Given.Schedules.declared.call.OneKey.TheVariants.{Compute, TryInsert}
-use Rattle.papaya_moments.specs.Given.Schedules.declared.call.Reply.{Reply}
-use Rattle.papaya_moments.specs.Given.Schedules.declared.call.Reply.TheVariants.{Aborts}
-use Rattle.papaya_moments.specs.Given.Schedules.Moment.{Asking, UnderWay as CallThere, Moment}
-use Rattle.papaya_moments.specs.Given.Schedules.Things.{same_question}
-use Rattle.papaya_moments.specs.Given.Schedules.Views.{call_of, reply_to}
-use Rattle.papaya_moments.specs.Given.Callers.Kind.{Kind, tries_to_insert}
-use Rattle.papaya_moments.specs.Given.Callers.Pairs.{Begun, Given, HandsBack}
-use Rattle.papaya_moments.specs.Given.Callers.Together.{CallOnKey, UnderWay, OnKey, ForRoom, Counting, OverAll}
-use Rattle.papaya_moments.specs.Given.Effects.Known.{Known}
-use Rattle.papaya_moments.specs.Given.Finishes.Machines.{DidOfKind, GoesOnAs, machine_of}
-use Rattle.papaya_moments.specs.Given.Finishes.Maps.{Standing}
-use Rattle.papaya_moments.specs.Given.Follows.Calls.{IsCalled}
-use Rattle.papaya_moments.specs.Given.Hands.Asked.{AsksThere, as_told}
+use Rattle.papaya_moments.specs.Given.SeizeWordsMem.{Took, value_at}
+use Rattle.papaya_moments.specs.Given.SeizeWordsPlan.{Steps}
+use Rattle.papaya_moments.specs.Given.TablesDeclared.node.Node.{Node}
+use Rattle.papaya_moments.specs.Given.TablesDeclared.node.Node.TheVariants as node
+use Rattle.papaya_moments.specs.Given.RawCall.{call_plan}
+use Rattle.papaya_moments.specs.Given.RawCallAsks.{absent_told, present_told, told_at}
+use Rattle.papaya_moments.specs.Given.RawCallPoints.{ending, going, over}
+use Rattle.papaya_moments.specs.Given.RawMachine.{called, machine_replied}
+use Rattle.papaya_moments.specs.Given.RawProgress.{of_called}
+use Rattle.papaya_moments.specs.Given.RawDeclared.machines.answer.Called.{Called}
+use Rattle.papaya_moments.specs.Given.RawDeclared.machines.answer.Called.TheVariants as calls
+use Rattle.papaya_moments.specs.Given.RawDeclared.machines.answer.End.{End}
+use Rattle.papaya_moments.specs.Given.RawDeclared.machines.answer.End.TheVariants as ends
+use Rattle.papaya_moments.specs.Given.RawDeclared.machines.answer.KeyAnswer.TheVariants as answers
+use Rattle.papaya_moments.specs.Given.RawDeclared.machines.asking.Asking.{Asking as AskingAt}
+use Rattle.papaya_moments.specs.Given.RawDeclared.machines.asking.Asking.TheVariants as asking
+use Rattle.papaya_moments.specs.Given.RawDeclared.machines.asking.Gap.{Gap}
+use Rattle.papaya_moments.specs.Given.RawDeclared.machines.asking.Reply.{Reply as MachineReply}
+use Rattle.papaya_moments.specs.Given.RawDeclared.machines.asking.Reply.TheVariants as reply
+use Rattle.papaya_moments.specs.Given.RawDeclared.machines.asking.Takes.{Takes}
+use Rattle.papaya_moments.specs.Given.RawDeclared.machines.asking.Takes.TheVariants as takes
+use Rattle.papaya_moments.specs.Given.RawDeclared.machines.call.Calling.{Calling}
+use Rattle.papaya_moments.specs.Given.RawDeclared.machines.call.Calling.TheVariants as at
+use Rattle.papaya_moments.specs.Given.RawDeclared.machines.call.KeyCall.{KeyCall}
+use Rattle.papaya_moments.specs.Given.RawDeclared.machines.machine.Machine.{Machine}
+use Rattle.papaya_moments.specs.Given.RawDeclared.machines.machine.Machine.TheVariants as kinds
+use Rattle.papaya_moments.specs.Given.RawDeclared.machines.progress.Answer.TheVariants as said_of
+use Rattle.papaya_moments.specs.Given.RawDeclared.machines.progress.Progress.{Progress}
+use Rattle.papaya_moments.specs.Given.RawDeclared.machines.progress.Progress.TheVariants as progress
+use Rattle.papaya_moments.specs.Given.SchedulesDeclared.call.Call.{Call}
+use Rattle.papaya_moments.specs.Given.SchedulesDeclared.call.Call.TheVariants.{On}
+use Rattle.papaya_moments.specs.Given.SchedulesDeclared.call.OneKey.{OneKey}
+use Rattle.papaya_moments.specs.Given.SchedulesDeclared.call.OneKey.TheVariants.{Compute, TryInsert}
+use Rattle.papaya_moments.specs.Given.SchedulesDeclared.call.Reply.{Reply}
+use Rattle.papaya_moments.specs.Given.SchedulesDeclared.call.Reply.TheVariants.{Aborts}
+use Rattle.papaya_moments.specs.Given.SchedulesMoment.{Asking, UnderWay as CallThere, Moment}
+use Rattle.papaya_moments.specs.Given.SchedulesThings.{same_question}
+use Rattle.papaya_moments.specs.Given.SchedulesViews.{call_of, reply_to}
+use Rattle.papaya_moments.specs.Given.CallersKind.{Kind, tries_to_insert}
+use Rattle.papaya_moments.specs.Given.CallersPairs.{Begun, Given, HandsBack}
+use Rattle.papaya_moments.specs.Given.CallersTogether.{CallOnKey, UnderWay, OnKey, ForRoom, Counting, OverAll}
+use Rattle.papaya_moments.specs.Given.EffectsKnown.{Known}
+use Rattle.papaya_moments.specs.Given.FinishesMachines.{DidOfKind, GoesOnAs, machine_of}
+use Rattle.papaya_moments.specs.Given.FinishesMaps.{Standing}
+use Rattle.papaya_moments.specs.Given.FollowsCalls.{IsCalled}
+use Rattle.papaya_moments.specs.Given.HandsAsked.{AsksThere, as_told}
 use Rattle.papaya_moments.specs.Whole.{ShowsWhole}
-use Rattle.papaya_moments.proofs.Given.Others.Outcomes.{told_in}
-use Rattle.papaya_moments.specs.Given.Teller.declared.changed.Changed.TheVariants as changed
-use Rattle.papaya_moments.specs.Given.Named.Machines.{aborted_by}
-use Rattle.papaya_moments.specs.Given.Named.Seen.{kind_of}
-use Rattle.papaya_moments.specs.Given.Named.Telling.{value_of}
-use Rattle.papaya_moments.specs.Given.Named.declared.kind.Kind.TheVariants as kind
+use Rattle.papaya_moments.proofs.Given.OthersOutcomes.{told_in}
+use Rattle.papaya_moments.specs.Given.TellerDeclared.changed.Changed.TheVariants as changed
+use Rattle.papaya_moments.specs.Given.NamedMachines.{aborted_by}
+use Rattle.papaya_moments.specs.Given.NamedSeen.{kind_of}
+use Rattle.papaya_moments.specs.Given.NamedTelling.{value_of}
+use Rattle.papaya_moments.specs.Given.NamedDeclared.kind.Kind.TheVariants as kind
 use Rattle.papaya_values.specs.Values.{InsertsTellTheirs, IsEnding, KeepsValue, ValuesBegin, ValuesGoOn, ValuesTaken, kept_after}
 use Rattle.papaya_values.proofs.KeyEnds.{Comes, IsNotOver, MayFind, ending_stays, key_comes_so}
 use Rattle.papaya_values.proofs.Inserts.{FoundOver, asked_on, called_so, its_pair, may_find, same_call, takes_nothing}
-use Rattle.papaya_moments.proofs.Given.Scenes.Told.{as_step}
-use Rattle.papaya_moments.specs.Given.Scenes.Held.{Held, IsAt}
-use Rattle.papaya_moments.specs.Given.Scenes.Scene.{Scene, slot_of}
-use Rattle.papaya_moments.specs.Given.Scenes.Stepping.{StepLeads, has_ended}
+use Rattle.papaya_moments.proofs.Given.ScenesTold.{as_step}
+use Rattle.papaya_moments.specs.Given.ScenesHeld.{Held, IsAt}
+use Rattle.papaya_moments.specs.Given.ScenesScene.{Scene, slot_of}
+use Rattle.papaya_moments.specs.Given.ScenesStepping.{StepLeads, has_ended}
 
 pub values_begin : (K V : Type 0) → ValuesBegin K V
 values_begin K V setting hash (On (TryInsert k v)) value = λ word e. absurd (cc e)

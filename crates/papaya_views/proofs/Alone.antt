@@ -3,7 +3,7 @@ use Rattle.std.specs.Prelude.{Option, Some, None}
 use Rattle.std.proofs.Common.{◌≡◌, ℕ, Bool, inl, inr, sym, subst, ap, ◌∙◌}
 use Rattle.papaya_tables.specs.Given.Seize.World.{Row, Rests, Registers, Enters, Settles, Leaves, Defers, Frees, Use, Inside}
 use Rattle.papaya_looks.specs.Given.Callers.Rows.{IsRowOn}
-use Rattle.papaya_acts.specs.Given.Scenes.Scene.{Scene}
+use Rattle.papaya_acts.specs.Given.ScenesScene.{Scene}
 use Rattle.seize_acts.specs.Waits.{SettlesOn}
 use Rattle.seize_acts.proofs.Answers.{same_some}
 use Rattle.seize_bounds.specs.Bounds.{IsAloneOnSlot}

@@ -13,7 +13,7 @@ use Rattle.papaya_looks.specs.Given.Callers.Together.{UnderWay}
 use Rattle.papaya_tables.specs.Given.Seize.World.{Row}
 use Rattle.papaya_looks.specs.Given.Finishes.Machines.{machine_of}
 use Rattle.papaya_looks.specs.Given.Finishes.Maps.{Standing, new_map, with_call}
-use Rattle.papaya_acts.specs.Given.Scenes.Scene.{Scene, slot_of}
+use Rattle.papaya_acts.specs.Given.ScenesScene.{Scene, slot_of}
 use Rattle.papaya_acts.specs.Acts.{Wanted, Get, Count, UnlessToCount, BeginsCall, TellsCall, begun}
 use Rattle.papaya_acts.specs.Doings.{Does, MayDo}
 use Rattle.papaya_acts.specs.Leads.{AreFewWith, Led}

@@ -11,7 +11,7 @@ use Rattle.seize_alone.proofs.Given.SeizeMoves.State.Ghost.{emptied}
 use Rattle.seize_alone.proofs.Given.SeizeRule.Rows.Known.{works_on}
 use Rattle.seize_alone.proofs.Given.SeizeRule.Rows.Teams.{UseFits, shares, is_shared}
 use Rattle.papaya_looks.proofs.Given.Callers.Together.Came.{came_reached}
-use Rattle.papaya_acts.specs.Given.Scenes.Scene.{Scene}
+use Rattle.papaya_acts.specs.Given.ScenesScene.{Scene}
 use Rattle.seize_alone.proofs.Histories.Reached.{Reached}
 use Rattle.seize_acts.proofs.Answers.{same_some}
 use Rattle.seize_seats.specs.State.{State, view_of}

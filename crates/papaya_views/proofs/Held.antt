@@ -3,7 +3,7 @@ use Rattle.std.specs.Prelude.{Some, IsSome, ◌==◌, if◌then◌else◌}
 use Rattle.std.proofs.Common.{◌≡◌, ℕ, Bool, true, false, List, [], ◌∷◌, refl, sym, subst, ap, ◌∙◌, eqb-true}
 use Rattle.seize_words.specs.Mem.{Mem, value_at}
 use Rattle.papaya_tables.specs.declared.node.Node.{Node}
-use Rattle.papaya_acts.specs.Given.Scenes.Scene.{Scene}
+use Rattle.papaya_acts.specs.Given.ScenesScene.{Scene}
 use Rattle.seize_acts.proofs.Answers.{same_some}
 use Rattle.seize_seats.specs.State.{State, view_of}
 use Rattle.seize_views.specs.declared.view.View.{View as SlotView}

@@ -9,7 +9,7 @@ use Rattle.papaya_tables.specs.declared.node.Node.{Node}
 use Rattle.papaya_looks.specs.Given.Callers.Together.{CameAbout}
 use Rattle.seize_alone.proofs.Given.SeizeRule.World.Kept.{rows_may}
 use Rattle.papaya_looks.proofs.Given.Callers.Together.Came.{came_reached}
-use Rattle.papaya_acts.specs.Given.Scenes.Scene.{Scene}
+use Rattle.papaya_acts.specs.Given.ScenesScene.{Scene}
 use Rattle.seize_bounds.specs.Bounds.{HasCounted, HasTried, IsAloneOnSlot, Meanwhile}
 use Rattle.seize_bounds.proofs.Bounds.Passing.{still_within}
 use Rattle.seize_views.specs.Rows.{row_of, settles_for, IsPlain, IsKnown, IsBounded}

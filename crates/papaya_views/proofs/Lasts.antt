@@ -9,7 +9,7 @@ use Rattle.papaya_raw.specs.declared.machines.machine.Machine.{Machine}
 use Rattle.papaya_looks.specs.Given.Callers.Together.{CameAbout}
 use Rattle.seize_alone.proofs.Given.SeizeRule.World.Kept.{rows_may}
 use Rattle.papaya_looks.proofs.Given.Callers.Together.Came.{came_reached}
-use Rattle.papaya_acts.specs.Given.Scenes.Scene.{Scene, slot_of}
+use Rattle.papaya_acts.specs.Given.ScenesScene.{Scene, slot_of}
 use Rattle.papaya_acts.specs.Leads.{AllStand}
 use Rattle.seize_acts.proofs.Answers.{same_some}
 use Rattle.seize_views.proofs.Reclaims.{reclaiming_there}

@@ -9,7 +9,7 @@ use Rattle.papaya_tables.specs.declared.node.Node.{Node}
 use Rattle.papaya_looks.specs.Given.Callers.Rows.{IsUsedAlike, IsRowOn}
 use Rattle.papaya_looks.specs.Given.Callers.Together.{UnderWay}
 use Rattle.papaya_looks.specs.Given.Finishes.Maps.{Standing, with_call}
-use Rattle.papaya_acts.specs.Given.Scenes.Scene.{Scene}
+use Rattle.papaya_acts.specs.Given.ScenesScene.{Scene}
 use Rattle.seize_acts.specs.Stays.{how_many, is_end_of_owner}
 use Rattle.papaya_acts.proofs.Counts.{its_call, other_call}
 use Rattle.seize_views.specs.Rows.{use_of}

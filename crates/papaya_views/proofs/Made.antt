@@ -13,8 +13,8 @@ use Rattle.papaya_resize.specs.NewMap.{new_map_plan}
 use Rattle.papaya_resize.specs.declared.new_map.NewMap.{NewMap}
 use Rattle.papaya_raw.specs.declared.machines.machine.Machine.{Machine}
 use Rattle.papaya_raw.specs.declared.machines.progress.Progress.{Progress}
-use Rattle.papaya_acts.specs.Given.Rule.InWorld.{IsHeldBy, KeepsBlocks}
-use Rattle.papaya_acts.proofs.Given.Rule.World.OthersSpared.{held_once, keeps_same, keeps_then, keeps_handed}
+use Rattle.papaya_acts.specs.Given.RuleInWorld.{IsHeldBy, KeepsBlocks}
+use Rattle.papaya_acts.proofs.Given.RuleWorld.OthersSpared.{held_once, keeps_same, keeps_then, keeps_handed}
 use Rattle.papaya_looks.specs.Given.Callers.Together.{UnderWay, OnKey, ForRoom, Counting, OverAll, IsOneStep, HandsOver}
 use Rattle.papaya_looks.proofs.Given.Callers.Rows.Beside.{row_keeps_blocks}
 use Rattle.papaya_looks.proofs.Given.Callers.Together.Came.{came_reached}
@@ -22,7 +22,7 @@ use Rattle.papaya_looks.specs.Given.Finishes.Machines.{MachineStepsAmong, DidOfK
 use Rattle.papaya_looks.specs.Given.Finishes.Makings.{Beginning}
 use Rattle.papaya_looks.specs.Given.Finishes.Maps.{Standing}
 use Rattle.papaya_looks.proofs.Given.Finishes.Beside.Makings.Promised.{makings_went}
-use Rattle.papaya_acts.specs.Given.Scenes.Scene.{Scene, slot_of}
+use Rattle.papaya_acts.specs.Given.ScenesScene.{Scene, slot_of}
 use Rattle.papaya_looks.specs.Sees.{IsOwnOf}
 use Rattle.papaya_looks.proofs.Sees.Made.{own_pairs_made}
 use Rattle.papaya_acts.specs.Leads.{AllStand}

@@ -23,8 +23,8 @@ use Rattle.papaya_looks.specs.Given.Finishes.Maps.{Standing}
 use Rattle.papaya_looks.proofs.Given.Callers.Together.At.{at_same, at_other}
 use Rattle.papaya_looks.proofs.Given.Callers.Together.Came.{came_reached}
 use Rattle.papaya_looks.proofs.Given.Callers.Together.Users.{events_rows, events_uses}
-use Rattle.papaya_acts.specs.Given.Scenes.Making.{making_begun}
-use Rattle.papaya_acts.specs.Given.Scenes.Scene.{Scene, slot_of}
+use Rattle.papaya_acts.specs.Given.ScenesMaking.{making_begun}
+use Rattle.papaya_acts.specs.Given.ScenesScene.{Scene, slot_of}
 use Rattle.papaya_acts.specs.Acts.{BeginsMaking, StepsMaking}
 use Rattle.papaya_acts.specs.Doings.{Does, MayDo}
 use Rattle.papaya_acts.specs.Leads.{AllStand, Led, MakingCame, making_steps}

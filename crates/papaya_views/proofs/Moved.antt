@@ -6,7 +6,7 @@ use Rattle.seize_words.specs.Mem.{Mem}
 use Rattle.papaya_tables.specs.Given.Seize.World.{Use, Inside}
 use Rattle.papaya_tables.specs.declared.node.Node.{Node}
 use Rattle.papaya_looks.specs.Given.Callers.Together.{CameAbout}
-use Rattle.papaya_acts.specs.Given.Scenes.Scene.{Scene, slot_of}
+use Rattle.papaya_acts.specs.Given.ScenesScene.{Scene, slot_of}
 use Rattle.papaya_acts.specs.Acts.{Act}
 use Rattle.papaya_acts.specs.Doings.{Does, MayDo}
 use Rattle.papaya_acts.specs.Leads.{AllStand}

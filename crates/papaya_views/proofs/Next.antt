@@ -15,7 +15,7 @@ use Rattle.papaya_looks.specs.Given.Finishes.Endings.{Finishing}
 use Rattle.papaya_looks.specs.Given.Finishes.Machines.{machine_of, MachineStepsAmong, GoesOnAs}
 use Rattle.papaya_looks.specs.Given.Finishes.Makings.{Beginning}
 use Rattle.papaya_looks.specs.Given.Finishes.Maps.{Standing, IsSameMap, with_call}
-use Rattle.papaya_acts.specs.Given.Scenes.Scene.{Scene, slot_of}
+use Rattle.papaya_acts.specs.Given.ScenesScene.{Scene, slot_of}
 use Rattle.papaya_acts.specs.Leads.{AllStand}
 use Rattle.papaya_looks.proofs.Given.Callers.Together.Came.{came_reached}
 use Rattle.seize_alone.proofs.Histories.Reached.{Reached}

@@ -1,7 +1,7 @@
 -- A seat is another caller in each slot.
 use Rattle.std.specs.Prelude.{◌/◌}
 use Rattle.std.proofs.Common.{◌≡◌, ℕ, ◌%◌, arith}
-use Rattle.papaya_acts.specs.Given.Scenes.Scene.{slot_of}
+use Rattle.papaya_acts.specs.Given.ScenesScene.{slot_of}
 use Rattle.papaya_views.specs.Rule.{caller_at, IsSlot}
 
 pub slot_at : (seat t : ℕ) → IsSlot t → slot_of (caller_at seat t) ≡ t

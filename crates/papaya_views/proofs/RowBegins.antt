@@ -9,7 +9,7 @@ use Rattle.papaya_tables.specs.Nodes.{deferred_word}
 use Rattle.papaya_tables.specs.declared.node.Node.{Node}
 use Rattle.papaya_looks.specs.Given.Callers.Rows.{IsUsedAlike}
 use Rattle.papaya_looks.specs.Given.Callers.Together.{UnderWay, OnKey, ForRoom, Counting, OverAll, UnlessCounts, IsOfSlots, Closes}
-use Rattle.papaya_acts.specs.Given.Scenes.Scene.{Scene, slot_of}
+use Rattle.papaya_acts.specs.Given.ScenesScene.{Scene, slot_of}
 use Rattle.papaya_acts.specs.Acts.{BeginsRow}
 use Rattle.papaya_acts.specs.Doings.{Does, MayDo}
 use Rattle.papaya_acts.specs.Leads.{Led}

@@ -9,7 +9,7 @@ use Rattle.papaya_tables.specs.declared.node.Node.{Node}
 use Rattle.papaya_looks.specs.Given.Callers.Rows.{IsUsedAlike}
 use Rattle.seize_alone.proofs.Given.SeizeRule.Rows.Known.{works_on}
 use Rattle.papaya_looks.proofs.Given.Callers.Together.Came.{came_reached}
-use Rattle.papaya_acts.specs.Given.Scenes.Scene.{Scene, slot_of}
+use Rattle.papaya_acts.specs.Given.ScenesScene.{Scene, slot_of}
 use Rattle.papaya_acts.specs.Acts.{StepsRow}
 use Rattle.papaya_acts.specs.Doings.{Does, MayDo}
 use Rattle.papaya_acts.specs.Leads.{Led}

@@ -8,7 +8,7 @@ use Rattle.papaya_tables.specs.Given.Seize.declared.rows.settle.Settle.{Settle}
 use Rattle.papaya_tables.specs.Nodes.{deferred_word}
 use Rattle.papaya_tables.specs.declared.node.Node.{Node}
 use Rattle.papaya_looks.specs.Given.Callers.Rows.{IsUsedAlike}
-use Rattle.papaya_acts.specs.Given.Scenes.Scene.{Scene}
+use Rattle.papaya_acts.specs.Given.ScenesScene.{Scene}
 use Rattle.seize_acts.proofs.Answers.{same_some}
 use Rattle.seize_seats.specs.State.{State, view_of, Goes}
 use Rattle.papaya_tables.specs.Given.Seize.Settle.{flushing}

@@ -8,11 +8,11 @@ use Rattle.papaya_tables.specs.declared.node.Node.{Node}
 use Rattle.papaya_tables.specs.declared.setting.Setting.{Setting}
 use Rattle.papaya_raw.specs.declared.machines.machine.Machine.{Machine}
 use Rattle.papaya_raw.specs.declared.machines.progress.Progress.{Progress}
-use Rattle.papaya_acts.specs.Given.Rule.InWorld.{AllUsers}
+use Rattle.papaya_acts.specs.Given.RuleInWorld.{AllUsers}
 use Rattle.papaya_looks.specs.Given.Callers.Together.{UnderWay, OnKey, ForRoom, Counting, OverAll, IsOneStep, HandsOver}
 use Rattle.papaya_looks.specs.Given.Finishes.Machines.{MachineStepsAmong, DidOfKind}
 use Rattle.papaya_looks.specs.Given.Finishes.Maps.{Standing}
-use Rattle.papaya_acts.specs.Given.Scenes.Scene.{Scene}
+use Rattle.papaya_acts.specs.Given.ScenesScene.{Scene}
 use Rattle.papaya_acts.specs.Leads.{AllStand}
 use Rattle.papaya_views.proofs.Quiet.{AllOfUsers, HandsOne}
 use Rattle.papaya_views.proofs.Ran.{Stepped, Ran}

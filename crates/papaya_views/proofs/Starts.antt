@@ -3,7 +3,7 @@ use Rattle.std.specs.Prelude.{Some, None}
 use Rattle.std.proofs.Common.{◌≡◌, ℕ, Bool, [], ◌⊎◌, inl, inr, refl, sym, subst, ap}
 use Rattle.papaya_tables.specs.Given.Seize.World.{Use}
 use Rattle.papaya_tables.specs.declared.node.Node.{Node}
-use Rattle.papaya_acts.specs.Given.Scenes.Scene.{Scene, slot_of, at_first}
+use Rattle.papaya_acts.specs.Given.ScenesScene.{Scene, slot_of, at_first}
 use Rattle.papaya_acts.specs.Lists.{nothing_done}
 use Rattle.papaya_acts.proofs.Lists.{lists_determine}
 use Rattle.seize_seats.specs.State.{State, view_of}

@@ -30,7 +30,7 @@ use Rattle.papaya_looks.specs.Given.Callers.Rows.{IsRowOn}
 use Rattle.papaya_looks.specs.Given.Callers.Together.{UnderWay, OnKey, ForRoom, Counting, OverAll}
 use Rattle.papaya_looks.specs.Given.Finishes.Machines.{machine_of}
 use Rattle.papaya_looks.specs.Given.Finishes.Maps.{Standing}
-use Rattle.papaya_acts.specs.Given.Scenes.Scene.{Scene, slot_of}
+use Rattle.papaya_acts.specs.Given.ScenesScene.{Scene, slot_of}
 use Rattle.papaya_looks.specs.Looks.{IsAtRow}
 use Rattle.papaya_looks.specs.Sees.{HasSeen, GoesOn, IsOwnOf}
 use Rattle.papaya_looks.proofs.Sees.Promised.{steps_see}

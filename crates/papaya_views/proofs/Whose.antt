@@ -2,7 +2,7 @@
 use Rattle.std.specs.Prelude.{◌≢◌, Option, Some, None, ◌/◌}
 use Rattle.std.proofs.Common.{◌≡◌, ℕ, ◌%◌, Bool, ◌⊎◌, inl, inr, refl, sym, subst}
 use Rattle.std.proofs.lemmas.Bool.{cases_eq}
-use Rattle.papaya_acts.specs.Given.Scenes.Scene.{Scene}
+use Rattle.papaya_acts.specs.Given.ScenesScene.{Scene}
 use Rattle.papaya_views.specs.Rule.{IsSlot, IsIdle, DoesSo, Fits, caller_at, place_of}
 use Rattle.papaya_views.specs.declared.view.View.{View}
 use Rattle.papaya_views.proofs.Numbers.{its_caller, its_place}

@@ -20,8 +20,8 @@ use Rattle.papaya_raw.specs.Given.Sweeps.declared.sweep.Sweeping.TheVariants as 
 use Rattle.papaya_raw.specs.declared.machines.call.Calling.{Calling}
 use Rattle.papaya_raw.specs.declared.machines.call.Calling.TheVariants as at
 use Rattle.papaya_raw.specs.declared.machines.call.KeyCall.{KeyCall}
-use Rattle.papaya_acts.specs.Given.Rule.Chart.{Chart}
-use Rattle.papaya_acts.specs.Given.Rule.Words.{Blocks}
+use Rattle.papaya_acts.specs.Given.RuleChart.{Chart}
+use Rattle.papaya_acts.specs.Given.RuleWords.{Blocks}
 use Rattle.papaya_looks.specs.Given.Points.FactsCalls.{Change, CallingFacts}
 use Rattle.papaya_looks.specs.Given.Points.FactsCopies.{CopyingFacts, CopierFacts}
 use Rattle.papaya_looks.specs.Given.Points.FactsCopiesBlocking.{CopyingFactsBlocking, CopierFactsBlocking}
@@ -38,7 +38,7 @@ use Rattle.papaya_looks.specs.Given.Callers.Sights.{seen_by}
 use Rattle.papaya_looks.specs.Given.Callers.Together.{UnderWay, OnKey, ForRoom, Counting, OverAll, Together, Stands, in_slot}
 use Rattle.papaya_looks.specs.Given.Finishes.Machines.{machine_of}
 use Rattle.papaya_looks.specs.Given.Finishes.Maps.{Standing}
-use Rattle.papaya_acts.specs.Given.Scenes.Scene.{Scene, slot_of}
+use Rattle.papaya_acts.specs.Given.ScenesScene.{Scene, slot_of}
 use Rattle.papaya_acts.specs.Leads.{AllStand}
 use Rattle.seize_views.specs.Rows.{IsReclaiming}
 use Rattle.papaya_views.specs.Reclaims.{IsToReclaim, DisposesNext, CopiesNext, CallsNext, ReservesNext, SweepsNext, IsNextOf}

@@ -13,8 +13,8 @@ use Rattle.papaya_looks.specs.Given.Callers.Together.{UnderWay}
 use Rattle.papaya_looks.specs.Given.Finishes.Machines.{machine_of}
 use Rattle.papaya_looks.specs.Given.Finishes.Makings.{Beginning}
 use Rattle.papaya_looks.specs.Given.Finishes.Maps.{Standing}
-use Rattle.papaya_acts.specs.Given.Scenes.Scene.{Scene, slot_of}
-use Rattle.papaya_acts.specs.Given.Scenes.declared.callers.TheConstants.{SLOTS}
+use Rattle.papaya_acts.specs.Given.ScenesScene.{Scene, slot_of}
+use Rattle.papaya_acts.specs.Given.ScenesDeclared.callers.TheConstants.{SLOTS}
 use Rattle.papaya_looks.specs.Sees.{IsOwnOf}
 use Rattle.papaya_acts.specs.Doings.{Doing, reclaiming}
 use Rattle.papaya_acts.specs.Lists.{Course, Reached, LedTo}

@@ -3,22 +3,22 @@ use Rattle.std.specs.Prelude.{◌≡◌, ◌<◌, ◌≤◌, ◌+◌, ◌-◌, �
 use Rattle.std.specs.List.{list_any}
 use Rattle.std.proofs.Common.{refl, sym, ap, subst, ◌∙◌, arith, inl, inr, eqb-true}
 use Rattle.std.proofs.lemmas.Bool.{cases_order, eq-eqb}
-use Rattle.papaya_folded.specs.Given.Seize.World.{times}
-use Rattle.papaya_folded.specs.Given.Tables.Chunks.{is_incremental}
-use Rattle.papaya_folded.specs.Given.Schedules.declared.effect.Effect.{Effect}
-use Rattle.papaya_folded.specs.Given.Schedules.declared.effect.Effect.TheVariants.{Ended, Taken}
-use Rattle.papaya_folded.specs.Given.Schedules.declared.effect.Table.{Table}
-use Rattle.papaya_folded.specs.Given.Schedules.Effects.{AtEachEffect, at_stage, with_effect}
-use Rattle.papaya_folded.specs.Given.Schedules.Lives.{EventFinds}
-use Rattle.papaya_folded.specs.Given.Schedules.Moment.{Place, InMap, GivenBack, IsTaken, TableThere, Moment}
-use Rattle.papaya_folded.specs.Given.Schedules.Things.{same_table}
-use Rattle.papaya_folded.specs.Given.Schedules.Views.{is_in_map, is_linked, is_stage}
-use Rattle.papaya_folded.specs.Given.Finishes.Orders.{pairs_of}
-use Rattle.papaya_folded.specs.Given.Follows.Maps.{table_of}
-use Rattle.papaya_folded.proofs.Given.Follows.Alike.{put_elsewhere}
-use Rattle.papaya_folded.proofs.Given.Follows.Finds.{among, same_one}
-use Rattle.papaya_folded.proofs.Given.Spots.Unreclaimed.{table_is}
-use Rattle.papaya_folded.specs.Given.Moments.WholeEnds.{tables_ended}
+use Rattle.papaya_folded.specs.Given.SeizeWorld.{times}
+use Rattle.papaya_folded.specs.Given.TablesChunks.{is_incremental}
+use Rattle.papaya_folded.specs.Given.SchedulesDeclared.effect.Effect.{Effect}
+use Rattle.papaya_folded.specs.Given.SchedulesDeclared.effect.Effect.TheVariants.{Ended, Taken}
+use Rattle.papaya_folded.specs.Given.SchedulesDeclared.effect.Table.{Table}
+use Rattle.papaya_folded.specs.Given.SchedulesEffects.{AtEachEffect, at_stage, with_effect}
+use Rattle.papaya_folded.specs.Given.SchedulesLives.{EventFinds}
+use Rattle.papaya_folded.specs.Given.SchedulesMoment.{Place, InMap, GivenBack, IsTaken, TableThere, Moment}
+use Rattle.papaya_folded.specs.Given.SchedulesThings.{same_table}
+use Rattle.papaya_folded.specs.Given.SchedulesViews.{is_in_map, is_linked, is_stage}
+use Rattle.papaya_folded.specs.Given.FinishesOrders.{pairs_of}
+use Rattle.papaya_folded.specs.Given.FollowsMaps.{table_of}
+use Rattle.papaya_folded.proofs.Given.FollowsAlike.{put_elsewhere}
+use Rattle.papaya_folded.proofs.Given.FollowsFinds.{among, same_one}
+use Rattle.papaya_folded.proofs.Given.SpotsUnreclaimed.{table_is}
+use Rattle.papaya_folded.specs.Given.MomentsWholeEnds.{tables_ended}
 use Rattle.papaya_works.specs.Ends.{EndsFindAll}
 
 -- a place in a map

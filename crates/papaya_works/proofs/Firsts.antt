@@ -3,71 +3,71 @@ use Rattle.std.specs.Prelude.{◌≡◌, ◌≢◌, ℕ, ◌+◌, ◌-◌, ◌^�
 use Rattle.std.specs.List.{list_all}
 use Rattle.std.proofs.Common.{refl, ap, sym, subst, ◌∙◌, inl, inr}
 use Rattle.std.proofs.lemmas.Bool.{cases_eq, and_parts}
-use Rattle.papaya_folded.specs.Given.SeizeWords.Mem.{Mem}
-use Rattle.papaya_folded.specs.Given.SeizeWords.Op.{Out, Exchanged, Made}
-use Rattle.papaya_folded.specs.Given.SeizeWords.declared.at.At.TheVariants.{Root}
-use Rattle.papaya_folded.specs.Given.SeizeWords.declared.fault.Fault.{Fault}
-use Rattle.papaya_folded.specs.Given.SeizeWords.declared.fault.Fault.TheVariants.{Capacity, RootsUsedUp}
-use Rattle.papaya_folded.specs.Given.Seize.World.{World, with_at}
-use Rattle.papaya_folded.specs.Given.Seize.declared.progress.Progress.{Progress}
-use Rattle.papaya_folded.specs.Given.Seize.declared.progress.Progress.TheVariants as progress
-use Rattle.papaya_folded.specs.Given.Tables.Lengths.{places_for, len_of}
-use Rattle.papaya_folded.specs.Given.Tables.Powers.{next_power}
-use Rattle.papaya_folded.specs.Given.Tables.Probes.{limit_of}
-use Rattle.papaya_folded.specs.Given.Tables.declared.node.Node.{Node}
-use Rattle.papaya_folded.specs.Given.Tables.declared.setting.Setting.{Setting}
-use Rattle.papaya_folded.specs.Given.Tables.declared.table.Table.{Table as Planned}
-use Rattle.papaya_folded.specs.Given.Resize.NewMap.{at_root, with_counter, goes, done, refused, next_root, opened, taken, made, plan_at, new_map_plan}
-use Rattle.papaya_folded.specs.Given.Resize.NewTable.{first_table, new_table_plan}
-use Rattle.papaya_folded.specs.Given.Resize.declared.new_map.NewMap.{NewMap}
-use Rattle.papaya_folded.specs.Given.Resize.declared.new_map.Opening.{Opening}
-use Rattle.papaya_folded.specs.Given.Resize.declared.new_map.Opening.TheVariants as at
-use Rattle.papaya_folded.specs.Given.Resize.declared.new_table.Making.TheVariants as makes
-use Rattle.papaya_folded.specs.Given.Resize.declared.new_table.NewTable.{NewTable}
-use Rattle.papaya_folded.specs.Given.Runs.Runs.{map_fault}
-use Rattle.papaya_folded.specs.Given.Schedules.declared.effect.Effect.{Effect}
-use Rattle.papaya_folded.specs.Given.Schedules.declared.effect.Effect.TheVariants as effect
-use Rattle.papaya_folded.specs.Given.Schedules.declared.effect.Growth.TheVariants.{ABlock, ABucket}
-use Rattle.papaya_folded.specs.Given.Schedules.Effects.{AtEachEffect, with_effect, with_effects}
-use Rattle.papaya_folded.specs.Given.Schedules.Growing.{Has}
-use Rattle.papaya_folded.specs.Given.Schedules.Handing.{is_first_making}
-use Rattle.papaya_folded.specs.Given.Schedules.Lives.{IsMapsFirst, EventFinds}
-use Rattle.papaya_folded.specs.Given.Schedules.Moment.{MapThere, Moment}
-use Rattle.papaya_folded.specs.Given.Schedules.Views.{map_at, tables_of}
-use Rattle.papaya_folded.specs.Given.Teller.Tells.{StepsTold}
-use Rattle.papaya_folded.specs.Given.Teller.declared.changed.Changed.{Changed}
-use Rattle.papaya_folded.specs.Given.Teller.declared.changed.Changed.TheVariants as changed
-use Rattle.papaya_folded.proofs.Given.Rule.Keys.Always.{Always, AlwaysOf, always_steps}
-use Rattle.papaya_folded.specs.Given.Rule.Rule.{no_table}
-use Rattle.papaya_folded.specs.Given.Callers.Together.{no_blocks}
-use Rattle.papaya_folded.proofs.Given.Callers.Together.At.{at_other, at_same}
-use Rattle.papaya_folded.specs.Given.Named.Places.{first_places}
-use Rattle.papaya_folded.specs.Given.Effects.Effects.{table_at, effects_of, known_after}
-use Rattle.papaya_folded.specs.Given.Effects.Known.{Known}
-use Rattle.papaya_folded.specs.Given.Effects.declared.acting.Acting.{Acting}
-use Rattle.papaya_folded.specs.Given.Effects.declared.acting.Acting.TheVariants as acts
-use Rattle.papaya_folded.specs.Given.Finishes.Makings.{Beginning, OpeningFacts}
-use Rattle.papaya_folded.specs.Given.Follows.Shows.{Shows}
-use Rattle.papaya_folded.proofs.Given.Follows.Steps.{one_of}
-use Rattle.papaya_folded.specs.Given.Others.Makings.{making_after}
-use Rattle.papaya_folded.specs.Given.Owes.Making.{making_in_opening}
-use Rattle.papaya_folded.specs.Given.Owes.Tables.{table_in, table_made, ShowsTables}
-use Rattle.papaya_folded.specs.Given.Owes.TablesBeside.{MakesFirst}
-use Rattle.papaya_folded.proofs.Given.Owes.Tables.Held.{shape_of, some_making}
-use Rattle.papaya_folded.proofs.Given.Owes.Tables.Leaves.{Stays, IsMade, IsGivenUp, IsLinked}
-use Rattle.papaya_folded.proofs.Given.Owes.Tables.MakingsOfMaps.{left_tables}
-use Rattle.papaya_folded.proofs.Given.Owes.Tables.Roles.{of_table, NoneOfTable}
+use Rattle.papaya_folded.specs.Given.SeizeWordsMem.{Mem}
+use Rattle.papaya_folded.specs.Given.SeizeWordsOp.{Out, Exchanged, Made}
+use Rattle.papaya_folded.specs.Given.SeizeWordsDeclared.at.At.TheVariants.{Root}
+use Rattle.papaya_folded.specs.Given.SeizeWordsDeclared.fault.Fault.{Fault}
+use Rattle.papaya_folded.specs.Given.SeizeWordsDeclared.fault.Fault.TheVariants.{Capacity, RootsUsedUp}
+use Rattle.papaya_folded.specs.Given.SeizeWorld.{World, with_at}
+use Rattle.papaya_folded.specs.Given.SeizeDeclared.progress.Progress.{Progress}
+use Rattle.papaya_folded.specs.Given.SeizeDeclared.progress.Progress.TheVariants as progress
+use Rattle.papaya_folded.specs.Given.TablesLengths.{places_for, len_of}
+use Rattle.papaya_folded.specs.Given.TablesPowers.{next_power}
+use Rattle.papaya_folded.specs.Given.TablesProbes.{limit_of}
+use Rattle.papaya_folded.specs.Given.TablesDeclared.node.Node.{Node}
+use Rattle.papaya_folded.specs.Given.TablesDeclared.setting.Setting.{Setting}
+use Rattle.papaya_folded.specs.Given.TablesDeclared.table.Table.{Table as Planned}
+use Rattle.papaya_folded.specs.Given.ResizeNewMap.{at_root, with_counter, goes, done, refused, next_root, opened, taken, made, plan_at, new_map_plan}
+use Rattle.papaya_folded.specs.Given.ResizeNewTable.{first_table, new_table_plan}
+use Rattle.papaya_folded.specs.Given.ResizeDeclared.new_map.NewMap.{NewMap}
+use Rattle.papaya_folded.specs.Given.ResizeDeclared.new_map.Opening.{Opening}
+use Rattle.papaya_folded.specs.Given.ResizeDeclared.new_map.Opening.TheVariants as at
+use Rattle.papaya_folded.specs.Given.ResizeDeclared.new_table.Making.TheVariants as makes
+use Rattle.papaya_folded.specs.Given.ResizeDeclared.new_table.NewTable.{NewTable}
+use Rattle.papaya_folded.specs.Given.RunsRuns.{map_fault}
+use Rattle.papaya_folded.specs.Given.SchedulesDeclared.effect.Effect.{Effect}
+use Rattle.papaya_folded.specs.Given.SchedulesDeclared.effect.Effect.TheVariants as effect
+use Rattle.papaya_folded.specs.Given.SchedulesDeclared.effect.Growth.TheVariants.{ABlock, ABucket}
+use Rattle.papaya_folded.specs.Given.SchedulesEffects.{AtEachEffect, with_effect, with_effects}
+use Rattle.papaya_folded.specs.Given.SchedulesGrowing.{Has}
+use Rattle.papaya_folded.specs.Given.SchedulesHanding.{is_first_making}
+use Rattle.papaya_folded.specs.Given.SchedulesLives.{IsMapsFirst, EventFinds}
+use Rattle.papaya_folded.specs.Given.SchedulesMoment.{MapThere, Moment}
+use Rattle.papaya_folded.specs.Given.SchedulesViews.{map_at, tables_of}
+use Rattle.papaya_folded.specs.Given.TellerTells.{StepsTold}
+use Rattle.papaya_folded.specs.Given.TellerDeclared.changed.Changed.{Changed}
+use Rattle.papaya_folded.specs.Given.TellerDeclared.changed.Changed.TheVariants as changed
+use Rattle.papaya_folded.proofs.Given.RuleKeys.Always.{Always, AlwaysOf, always_steps}
+use Rattle.papaya_folded.specs.Given.RuleRule.{no_table}
+use Rattle.papaya_folded.specs.Given.CallersTogether.{no_blocks}
+use Rattle.papaya_folded.proofs.Given.CallersTogether.At.{at_other, at_same}
+use Rattle.papaya_folded.specs.Given.NamedPlaces.{first_places}
+use Rattle.papaya_folded.specs.Given.EffectsEffects.{table_at, effects_of, known_after}
+use Rattle.papaya_folded.specs.Given.EffectsKnown.{Known}
+use Rattle.papaya_folded.specs.Given.EffectsDeclared.acting.Acting.{Acting}
+use Rattle.papaya_folded.specs.Given.EffectsDeclared.acting.Acting.TheVariants as acts
+use Rattle.papaya_folded.specs.Given.FinishesMakings.{Beginning, OpeningFacts}
+use Rattle.papaya_folded.specs.Given.FollowsShows.{Shows}
+use Rattle.papaya_folded.proofs.Given.FollowsSteps.{one_of}
+use Rattle.papaya_folded.specs.Given.OthersMakings.{making_after}
+use Rattle.papaya_folded.specs.Given.OwesMaking.{making_in_opening}
+use Rattle.papaya_folded.specs.Given.OwesTables.{table_in, table_made, ShowsTables}
+use Rattle.papaya_folded.specs.Given.OwesTablesBeside.{MakesFirst}
+use Rattle.papaya_folded.proofs.Given.OwesTables.Held.{shape_of, some_making}
+use Rattle.papaya_folded.proofs.Given.OwesTables.Leaves.{Stays, IsMade, IsGivenUp, IsLinked}
+use Rattle.papaya_folded.proofs.Given.OwesTables.MakingsOfMaps.{left_tables}
+use Rattle.papaya_folded.proofs.Given.OwesTables.Roles.{of_table, NoneOfTable}
 use Rattle.papaya_works.specs.Firsts.{IsForPlaces, OpensFor, ShowsOpenings, FindsFirst, MakingsOpen, FirstsAreAll, MakingsGoOn, MakingsLinkFirst}
-use Rattle.papaya_folded.specs.Given.Finds.Shaping.{ShapedAt}
-use Rattle.papaya_folded.proofs.Given.Finds.Capacities.{few_places, no_fault}
-use Rattle.papaya_folded.proofs.Given.Finds.Grown.{found_of, number_is}
-use Rattle.papaya_folded.proofs.Given.Finds.Linking.{made_so as made_as_shaped, turn_new}
-use Rattle.papaya_folded.proofs.Given.Finds.Lists.{each_is}
-use Rattle.papaya_folded.proofs.Given.Finds.Shaping.{always_plan_more, goes_shaped}
-use Rattle.papaya_folded.proofs.Given.Scenes.Told.{as_step}
-use Rattle.papaya_folded.specs.Given.Scenes.Held.{Held, IsAt}
-use Rattle.papaya_folded.specs.Given.Scenes.Making.{MakingComesTo, MakingLeads}
-use Rattle.papaya_folded.specs.Given.Scenes.Scene.{Scene}
+use Rattle.papaya_folded.specs.Given.FindsShaping.{ShapedAt}
+use Rattle.papaya_folded.proofs.Given.FindsCapacities.{few_places, no_fault}
+use Rattle.papaya_folded.proofs.Given.FindsGrown.{found_of, number_is}
+use Rattle.papaya_folded.proofs.Given.FindsLinking.{made_so as made_as_shaped, turn_new}
+use Rattle.papaya_folded.proofs.Given.FindsLists.{each_is}
+use Rattle.papaya_folded.proofs.Given.FindsShaping.{always_plan_more, goes_shaped}
+use Rattle.papaya_folded.proofs.Given.ScenesTold.{as_step}
+use Rattle.papaya_folded.specs.Given.ScenesHeld.{Held, IsAt}
+use Rattle.papaya_folded.specs.Given.ScenesMaking.{MakingComesTo, MakingLeads}
+use Rattle.papaya_folded.specs.Given.ScenesScene.{Scene}
 
 -- A step of the making of a map leaves it the places that its table is to have, and makes a table for those.
 

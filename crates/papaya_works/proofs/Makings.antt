@@ -3,54 +3,54 @@ use Rattle.std.specs.Prelude.{◌≡◌, ◌<◌, ◌+◌, ◌%◌, ◌^◌, ℕ
 use Rattle.std.specs.List.{list_all}
 use Rattle.std.proofs.Common.{refl, ap, subst, sym, ◌∙◌, arith}
 use Rattle.std.proofs.lemmas.Bool.{ne_eqb}
-use Rattle.papaya_folded.specs.Given.SeizeWords.declared.at.At.{At}
-use Rattle.papaya_folded.specs.Given.SeizeWords.declared.at.At.TheVariants.{Root, Used}
-use Rattle.papaya_folded.specs.Given.SeizeWords.Mem.{Mem, Took}
-use Rattle.papaya_folded.specs.Given.SeizeWords.Op.{Out, Found, Stored, Exchanged, Made, Taken, Roomed, Exchange, Make}
-use Rattle.papaya_folded.specs.Given.SeizeWords.Plan.{plan_as}
-use Rattle.papaya_folded.specs.Given.SeizeWords.Word.{block_in}
-use Rattle.papaya_folded.specs.Given.Seize.World.{World}
-use Rattle.papaya_folded.specs.Given.Seize.declared.progress.Progress.{Progress}
-use Rattle.papaya_folded.specs.Given.Tables.declared.node.Node.{Node}
-use Rattle.papaya_folded.specs.Given.Tables.declared.node.Node.TheVariants as node
-use Rattle.papaya_folded.specs.Given.Tables.declared.setting.Setting.{Setting}
-use Rattle.papaya_folded.specs.Given.Tables.declared.table.Table.{Table}
-use Rattle.papaya_folded.specs.Given.Tables.declared.table_words.TheConstants.{PLACES, STATUS}
-use Rattle.papaya_folded.specs.Given.Tables.declared.lengths.Reason.{Reason}
-use Rattle.papaya_folded.specs.Given.Resize.NewMap as new_map
-use Rattle.papaya_folded.specs.Given.Resize.NewTable as new_table
-use Rattle.papaya_folded.specs.Given.Resize.Sum as sums
-use Rattle.papaya_folded.specs.Given.Resize.declared.sum.Sum.{Sum}
-use Rattle.papaya_folded.specs.Given.Resize.declared.sum.Summing.{Summing}
-use Rattle.papaya_folded.specs.Given.Resize.declared.sum.Summing.TheVariants as summing
-use Rattle.papaya_folded.specs.Given.Resize.declared.new_table.NewTable.{NewTable}
-use Rattle.papaya_folded.specs.Given.Resize.declared.new_table.Making.{Making}
-use Rattle.papaya_folded.specs.Given.Resize.declared.new_table.Making.TheVariants as makes
-use Rattle.papaya_folded.specs.Given.Resize.declared.new_map.NewMap.{NewMap}
-use Rattle.papaya_folded.specs.Given.Resize.declared.new_map.Opening.{Opening}
-use Rattle.papaya_folded.specs.Given.Resize.declared.new_map.Opening.TheVariants as opens
-use Rattle.papaya_folded.specs.Given.Rule.Rule.{no_table}
-use Rattle.papaya_folded.proofs.Given.Rule.Words.TablesSeen.{block_of_link}
-use Rattle.papaya_folded.specs.Given.Points.FactsTables.{IsOwnTable, IsPlanned, MakingFacts}
-use Rattle.papaya_folded.specs.Given.Schedules.declared.effect.Effect.TheVariants.{Asked}
-use Rattle.papaya_folded.specs.Given.Schedules.declared.effect.Growth.TheVariants.{ABlock}
-use Rattle.papaya_folded.specs.Given.Schedules.Handing.{is_first_making}
-use Rattle.papaya_folded.specs.Given.Teller.Tells.{StepsTold}
-use Rattle.papaya_folded.specs.Given.Teller.declared.changed.Changed.{Changed}
-use Rattle.papaya_folded.specs.Given.Teller.declared.changed.Changed.TheVariants as changed
-use Rattle.papaya_folded.specs.Given.Teller.declared.changed.Kind.TheVariants as kind
-use Rattle.papaya_folded.specs.Given.Effects.Effects.{effects_of, in_block, led_to, made_by, named, names_same, taken_by}
-use Rattle.papaya_folded.specs.Given.Effects.Known.{Known}
-use Rattle.papaya_folded.specs.Given.Effects.declared.acting.Acting.TheVariants as acts
-use Rattle.papaya_folded.specs.Given.Effects.declared.role.Role.{Role}
-use Rattle.papaya_folded.specs.Given.Effects.declared.role.Role.TheVariants as role
-use Rattle.papaya_folded.specs.Given.Callers.Together.{no_blocks}
-use Rattle.papaya_folded.specs.Given.Finishes.Makings.{HasMade, OpeningFacts}
-use Rattle.papaya_folded.specs.Given.Follows.Blocks.{HasRole}
-use Rattle.papaya_folded.proofs.Given.Follows.Writes.{nothing_free, own_table}
-use Rattle.papaya_folded.proofs.Given.Logged.MakingAsks.{told_as, told_back}
+use Rattle.papaya_folded.specs.Given.SeizeWordsDeclared.at.At.{At}
+use Rattle.papaya_folded.specs.Given.SeizeWordsDeclared.at.At.TheVariants.{Root, Used}
+use Rattle.papaya_folded.specs.Given.SeizeWordsMem.{Mem, Took}
+use Rattle.papaya_folded.specs.Given.SeizeWordsOp.{Out, Found, Stored, Exchanged, Made, Taken, Roomed, Exchange, Make}
+use Rattle.papaya_folded.specs.Given.SeizeWordsPlan.{plan_as}
+use Rattle.papaya_folded.specs.Given.SeizeWordsWord.{block_in}
+use Rattle.papaya_folded.specs.Given.SeizeWorld.{World}
+use Rattle.papaya_folded.specs.Given.SeizeDeclared.progress.Progress.{Progress}
+use Rattle.papaya_folded.specs.Given.TablesDeclared.node.Node.{Node}
+use Rattle.papaya_folded.specs.Given.TablesDeclared.node.Node.TheVariants as node
+use Rattle.papaya_folded.specs.Given.TablesDeclared.setting.Setting.{Setting}
+use Rattle.papaya_folded.specs.Given.TablesDeclared.table.Table.{Table}
+use Rattle.papaya_folded.specs.Given.TablesDeclared.table_words.TheConstants.{PLACES, STATUS}
+use Rattle.papaya_folded.specs.Given.TablesDeclared.lengths.Reason.{Reason}
+use Rattle.papaya_folded.specs.Given.ResizeNewMap as new_map
+use Rattle.papaya_folded.specs.Given.ResizeNewTable as new_table
+use Rattle.papaya_folded.specs.Given.ResizeSum as sums
+use Rattle.papaya_folded.specs.Given.ResizeDeclared.sum.Sum.{Sum}
+use Rattle.papaya_folded.specs.Given.ResizeDeclared.sum.Summing.{Summing}
+use Rattle.papaya_folded.specs.Given.ResizeDeclared.sum.Summing.TheVariants as summing
+use Rattle.papaya_folded.specs.Given.ResizeDeclared.new_table.NewTable.{NewTable}
+use Rattle.papaya_folded.specs.Given.ResizeDeclared.new_table.Making.{Making}
+use Rattle.papaya_folded.specs.Given.ResizeDeclared.new_table.Making.TheVariants as makes
+use Rattle.papaya_folded.specs.Given.ResizeDeclared.new_map.NewMap.{NewMap}
+use Rattle.papaya_folded.specs.Given.ResizeDeclared.new_map.Opening.{Opening}
+use Rattle.papaya_folded.specs.Given.ResizeDeclared.new_map.Opening.TheVariants as opens
+use Rattle.papaya_folded.specs.Given.RuleRule.{no_table}
+use Rattle.papaya_folded.proofs.Given.RuleWords.TablesSeen.{block_of_link}
+use Rattle.papaya_folded.specs.Given.PointsFactsTables.{IsOwnTable, IsPlanned, MakingFacts}
+use Rattle.papaya_folded.specs.Given.SchedulesDeclared.effect.Effect.TheVariants.{Asked}
+use Rattle.papaya_folded.specs.Given.SchedulesDeclared.effect.Growth.TheVariants.{ABlock}
+use Rattle.papaya_folded.specs.Given.SchedulesHanding.{is_first_making}
+use Rattle.papaya_folded.specs.Given.TellerTells.{StepsTold}
+use Rattle.papaya_folded.specs.Given.TellerDeclared.changed.Changed.{Changed}
+use Rattle.papaya_folded.specs.Given.TellerDeclared.changed.Changed.TheVariants as changed
+use Rattle.papaya_folded.specs.Given.TellerDeclared.changed.Kind.TheVariants as kind
+use Rattle.papaya_folded.specs.Given.EffectsEffects.{effects_of, in_block, led_to, made_by, named, names_same, taken_by}
+use Rattle.papaya_folded.specs.Given.EffectsKnown.{Known}
+use Rattle.papaya_folded.specs.Given.EffectsDeclared.acting.Acting.TheVariants as acts
+use Rattle.papaya_folded.specs.Given.EffectsDeclared.role.Role.{Role}
+use Rattle.papaya_folded.specs.Given.EffectsDeclared.role.Role.TheVariants as role
+use Rattle.papaya_folded.specs.Given.CallersTogether.{no_blocks}
+use Rattle.papaya_folded.specs.Given.FinishesMakings.{HasMade, OpeningFacts}
+use Rattle.papaya_folded.specs.Given.FollowsBlocks.{HasRole}
+use Rattle.papaya_folded.proofs.Given.FollowsWrites.{nothing_free, own_table}
+use Rattle.papaya_folded.proofs.Given.LoggedMakingAsks.{told_as, told_back}
 use Rattle.papaya_works.proofs.Firsts.{firsts_are_all, makings_link_first}
-use Rattle.papaya_folded.proofs.Given.Owes.Tables.MakingsOfMaps.{makings_keep_tables}
+use Rattle.papaya_folded.proofs.Given.OwesTables.MakingsOfMaps.{makings_keep_tables}
 use Rattle.papaya_works.specs.Makings.{MakingsDoTheirs, MakingsFindTheirs}
 
 module _ (map : ℕ) (known : Known) where

@@ -3,41 +3,41 @@ use Rattle.std.specs.Prelude.{◌≡◌, ◌⊎◌, ◌&&◌, ℕ, Bool, true, f
 use Rattle.std.specs.List.{list_all}
 use Rattle.std.proofs.Common.{refl, ap, sym, subst, inl, inr, ◌∙◌}
 use Rattle.std.proofs.lemmas.List.Folds.{list_all-append}
-use Rattle.papaya_folded.specs.Given.Seize.declared.rows.settle.Settle.{Settle}
-use Rattle.papaya_folded.specs.Given.Seize.declared.rows.settle.Settling.{Settling}
-use Rattle.papaya_folded.specs.Given.Seize.declared.rows.settle.Settling.TheVariants as settling
-use Rattle.papaya_folded.specs.Given.Seize.World.{World, Rests, Settles, Begins}
-use Rattle.papaya_folded.proofs.Given.SeizeMoves.State.Ghost.{State}
-use Rattle.papaya_folded.proofs.Given.SeizeRule.Points.Told.{part, part_at}
-use Rattle.papaya_folded.specs.Given.Tables.Nodes.{deferred_word}
-use Rattle.papaya_folded.specs.Given.Tables.declared.node.Node.{Node}
-use Rattle.papaya_folded.specs.Given.Teller.declared.changed.Changed.TheVariants as changed
-use Rattle.papaya_folded.proofs.Given.Callers.Together.Came.{came_reached}
-use Rattle.papaya_folded.specs.Given.Schedules.declared.effect.Effect.{Effect}
-use Rattle.papaya_folded.specs.Given.Schedules.declared.event.Event.{Event}
-use Rattle.papaya_folded.specs.Given.Schedules.Entry.{Entry}
-use Rattle.papaya_folded.specs.Given.Schedules.Terms.{Terms}
-use Rattle.papaya_folded.specs.Given.Effects.Effects.{effects_of}
-use Rattle.papaya_folded.specs.Given.Effects.Known.{Known}
-use Rattle.papaya_folded.specs.Given.Effects.declared.acting.Acting.TheVariants as acts
-use Rattle.papaya_folded.specs.Given.Scenes.declared.row.RowTold.{RowTold}
-use Rattle.papaya_folded.specs.Given.Scenes.declared.row.RowTold.TheVariants as told
-use Rattle.papaya_folded.specs.Given.Scenes.declared.row.SlotCall.{SlotCall}
-use Rattle.papaya_folded.specs.Given.Scenes.declared.row.SlotCall.TheVariants as call
-use Rattle.papaya_folded.specs.Given.Scenes.declared.row.SlotRow.{SlotRow}
-use Rattle.papaya_folded.specs.Given.Scenes.declared.row.SlotRow.TheVariants as rows
-use Rattle.papaya_folded.specs.Given.Legal.Chains.{Come, RowSteps}
-use Rattle.papaya_folded.specs.Given.Legal.SlotEvents.{InSlotEvent}
-use Rattle.papaya_folded.proofs.Given.Legal.Chains.{chains_keep}
-use Rattle.papaya_folded.proofs.Given.Legal.Slots.{slot_events_go_on_so}
+use Rattle.papaya_folded.specs.Given.SeizeDeclared.rows.settle.Settle.{Settle}
+use Rattle.papaya_folded.specs.Given.SeizeDeclared.rows.settle.Settling.{Settling}
+use Rattle.papaya_folded.specs.Given.SeizeDeclared.rows.settle.Settling.TheVariants as settling
+use Rattle.papaya_folded.specs.Given.SeizeWorld.{World, Rests, Settles, Begins}
+use Rattle.papaya_folded.proofs.Given.SeizeMovesState.Ghost.{State}
+use Rattle.papaya_folded.proofs.Given.SeizeRulePoints.Told.{part, part_at}
+use Rattle.papaya_folded.specs.Given.TablesNodes.{deferred_word}
+use Rattle.papaya_folded.specs.Given.TablesDeclared.node.Node.{Node}
+use Rattle.papaya_folded.specs.Given.TellerDeclared.changed.Changed.TheVariants as changed
+use Rattle.papaya_folded.proofs.Given.CallersTogether.Came.{came_reached}
+use Rattle.papaya_folded.specs.Given.SchedulesDeclared.effect.Effect.{Effect}
+use Rattle.papaya_folded.specs.Given.SchedulesDeclared.event.Event.{Event}
+use Rattle.papaya_folded.specs.Given.SchedulesEntry.{Entry}
+use Rattle.papaya_folded.specs.Given.SchedulesTerms.{Terms}
+use Rattle.papaya_folded.specs.Given.EffectsEffects.{effects_of}
+use Rattle.papaya_folded.specs.Given.EffectsKnown.{Known}
+use Rattle.papaya_folded.specs.Given.EffectsDeclared.acting.Acting.TheVariants as acts
+use Rattle.papaya_folded.specs.Given.ScenesDeclared.row.RowTold.{RowTold}
+use Rattle.papaya_folded.specs.Given.ScenesDeclared.row.RowTold.TheVariants as told
+use Rattle.papaya_folded.specs.Given.ScenesDeclared.row.SlotCall.{SlotCall}
+use Rattle.papaya_folded.specs.Given.ScenesDeclared.row.SlotCall.TheVariants as call
+use Rattle.papaya_folded.specs.Given.ScenesDeclared.row.SlotRow.{SlotRow}
+use Rattle.papaya_folded.specs.Given.ScenesDeclared.row.SlotRow.TheVariants as rows
+use Rattle.papaya_folded.specs.Given.LegalChains.{Come, RowSteps}
+use Rattle.papaya_folded.specs.Given.LegalSlotEvents.{InSlotEvent}
+use Rattle.papaya_folded.proofs.Given.LegalChains.{chains_keep}
+use Rattle.papaya_folded.proofs.Given.LegalSlots.{slot_events_go_on_so}
 use Rattle.papaya_works.specs.Rows.{RowsDoTheirs, may_row, row_begun}
 use Rattle.papaya_works.proofs.Flushes.Moves.{FlushesOn}
 use Rattle.papaya_works.proofs.Flushes.Worlds.{Flushing, flush_begins, flush_steps}
 use Rattle.papaya_works.proofs.Steps.{IsNoOwn, IsTaking, asks_alone, does_nothing, enters_tell, flushes_tell, frees_tell, leaves_tell, reclaims_alone, registers_tell, takes_no_own}
-use Rattle.papaya_folded.specs.Given.Scenes.OnSlots.{RowSteps as StepsAs, row_then}
-use Rattle.papaya_folded.proofs.Given.Scenes.Rows.{begun_there, never_rests, one_row}
-use Rattle.papaya_folded.specs.Given.Scenes.Rows.{begun_row, request_of}
-use Rattle.papaya_folded.specs.Given.Scenes.Scene.{row_of, slot_of}
+use Rattle.papaya_folded.specs.Given.ScenesOnSlots.{RowSteps as StepsAs, row_then}
+use Rattle.papaya_folded.proofs.Given.ScenesRows.{begun_there, never_rests, one_row}
+use Rattle.papaya_folded.specs.Given.ScenesRows.{begun_row, request_of}
+use Rattle.papaya_folded.specs.Given.ScenesScene.{row_of, slot_of}
 
 -- a flush that takes nothing is not about to take a block away
 never_takes : (i s : ℕ) (c : Settle) (m : State) → FlushesOn i s (part c) m → IsTaking c.stands → ⊥

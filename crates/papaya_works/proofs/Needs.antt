@@ -2,51 +2,51 @@
 use Rattle.std.specs.Prelude.{◌≡◌, ◌⊎◌, ◌≤◌, ◌+◌, ◌&&◌, ◌||◌, ◌++◌, nat_lt, ℕ, Bool, true, false, List, [], ◌∷◌, length, Some, None, if◌then◌else◌}
 use Rattle.std.specs.List.{list_all, list_any}
 use Rattle.std.proofs.Common.{refl, ap, sym, subst, inl, inr, ◌∙◌, arith}
-use Rattle.papaya_folded.specs.Given.SeizeWords.declared.at.At.TheVariants.{Root, Used, Slot, Entry as EntryWord, Word}
-use Rattle.papaya_folded.specs.Given.SeizeWords.Place.{capacity}
-use Rattle.papaya_folded.proofs.Given.SeizeWords.Places.Words.{capacity_le_capacity}
-use Rattle.papaya_folded.specs.Given.Seize.declared.rows.register.Register.{Register}
-use Rattle.papaya_folded.specs.Given.Seize.declared.rows.register.Registering.TheVariants as at
-use Rattle.papaya_folded.specs.Given.Seize.Sequence.{new_slot}
-use Rattle.papaya_folded.specs.Given.Seize.World.{World, Rests}
-use Rattle.papaya_folded.proofs.Given.SeizeSets.Slots.Registers.{NoneOnVacant}
-use Rattle.papaya_folded.specs.Given.Tables.Nodes.{deferred_word}
-use Rattle.papaya_folded.specs.Given.Tables.declared.node.Node.{Node}
-use Rattle.papaya_folded.specs.Given.Teller.declared.changed.Changed.{Changed}
-use Rattle.papaya_folded.specs.Given.Teller.declared.changed.Changed.TheVariants as changed
-use Rattle.papaya_folded.specs.Given.Schedules.declared.effect.Effect.{Effect}
-use Rattle.papaya_folded.specs.Given.Schedules.declared.effect.Effect.TheVariants.{Asked}
-use Rattle.papaya_folded.specs.Given.Schedules.declared.effect.Growth.TheVariants.{ABucket}
-use Rattle.papaya_folded.specs.Given.Schedules.Effects.{AtEachEffect, with_effect}
-use Rattle.papaya_folded.specs.Given.Schedules.Growing.{AsksForBucket}
-use Rattle.papaya_folded.specs.Given.Schedules.Handing.{asks_for_bucket, is_reclaiming}
-use Rattle.papaya_folded.specs.Given.Schedules.InUse.{used_slots}
-use Rattle.papaya_folded.specs.Given.Schedules.Lists.{least_free}
-use Rattle.papaya_folded.specs.Given.Schedules.Moment.{Moment}
-use Rattle.papaya_folded.specs.Given.Schedules.Terms.{Terms}
-use Rattle.papaya_folded.specs.Given.Effects.Effects.{effects_of, names_same}
-use Rattle.papaya_folded.specs.Given.Effects.Known.{Known}
-use Rattle.papaya_folded.specs.Given.Effects.declared.acting.Acting.TheVariants as acts
-use Rattle.papaya_folded.specs.Given.Scenes.declared.row.RowTold.{RowTold}
-use Rattle.papaya_folded.specs.Given.Scenes.declared.row.RowTold.TheVariants as told
-use Rattle.papaya_folded.specs.Given.Scenes.declared.row.SlotCall.TheVariants as call
-use Rattle.papaya_folded.specs.Given.Scenes.declared.row.SlotRow.{SlotRow}
-use Rattle.papaya_folded.specs.Given.Scenes.declared.row.SlotRow.TheVariants as rows
-use Rattle.papaya_folded.proofs.Given.Spots.Unreclaimed.{and_both}
-use Rattle.papaya_folded.specs.Given.Legal.Chains.{Chain, Come, RowSteps}
-use Rattle.papaya_folded.specs.Given.Legal.Found.{AsksInNeed}
-use Rattle.papaya_folded.proofs.Given.Legal.Chains.{chains_keep}
-use Rattle.papaya_folded.specs.Given.Remains.Slots.{SlotsNoted}
-use Rattle.papaya_folded.proofs.Given.Remains.Slots.{buckets_grow, rows_note_slots}
-use Rattle.papaya_folded.proofs.Given.Rows.Taking.{Next, OnIt, first_on, next}
+use Rattle.papaya_folded.specs.Given.SeizeWordsDeclared.at.At.TheVariants.{Root, Used, Slot, Entry as EntryWord, Word}
+use Rattle.papaya_folded.specs.Given.SeizeWordsPlace.{capacity}
+use Rattle.papaya_folded.proofs.Given.SeizeWordsPlaces.Words.{capacity_le_capacity}
+use Rattle.papaya_folded.specs.Given.SeizeDeclared.rows.register.Register.{Register}
+use Rattle.papaya_folded.specs.Given.SeizeDeclared.rows.register.Registering.TheVariants as at
+use Rattle.papaya_folded.specs.Given.SeizeSequence.{new_slot}
+use Rattle.papaya_folded.specs.Given.SeizeWorld.{World, Rests}
+use Rattle.papaya_folded.proofs.Given.SeizeSetsSlots.Registers.{NoneOnVacant}
+use Rattle.papaya_folded.specs.Given.TablesNodes.{deferred_word}
+use Rattle.papaya_folded.specs.Given.TablesDeclared.node.Node.{Node}
+use Rattle.papaya_folded.specs.Given.TellerDeclared.changed.Changed.{Changed}
+use Rattle.papaya_folded.specs.Given.TellerDeclared.changed.Changed.TheVariants as changed
+use Rattle.papaya_folded.specs.Given.SchedulesDeclared.effect.Effect.{Effect}
+use Rattle.papaya_folded.specs.Given.SchedulesDeclared.effect.Effect.TheVariants.{Asked}
+use Rattle.papaya_folded.specs.Given.SchedulesDeclared.effect.Growth.TheVariants.{ABucket}
+use Rattle.papaya_folded.specs.Given.SchedulesEffects.{AtEachEffect, with_effect}
+use Rattle.papaya_folded.specs.Given.SchedulesGrowing.{AsksForBucket}
+use Rattle.papaya_folded.specs.Given.SchedulesHanding.{asks_for_bucket, is_reclaiming}
+use Rattle.papaya_folded.specs.Given.SchedulesInUse.{used_slots}
+use Rattle.papaya_folded.specs.Given.SchedulesLists.{least_free}
+use Rattle.papaya_folded.specs.Given.SchedulesMoment.{Moment}
+use Rattle.papaya_folded.specs.Given.SchedulesTerms.{Terms}
+use Rattle.papaya_folded.specs.Given.EffectsEffects.{effects_of, names_same}
+use Rattle.papaya_folded.specs.Given.EffectsKnown.{Known}
+use Rattle.papaya_folded.specs.Given.EffectsDeclared.acting.Acting.TheVariants as acts
+use Rattle.papaya_folded.specs.Given.ScenesDeclared.row.RowTold.{RowTold}
+use Rattle.papaya_folded.specs.Given.ScenesDeclared.row.RowTold.TheVariants as told
+use Rattle.papaya_folded.specs.Given.ScenesDeclared.row.SlotCall.TheVariants as call
+use Rattle.papaya_folded.specs.Given.ScenesDeclared.row.SlotRow.{SlotRow}
+use Rattle.papaya_folded.specs.Given.ScenesDeclared.row.SlotRow.TheVariants as rows
+use Rattle.papaya_folded.proofs.Given.SpotsUnreclaimed.{and_both}
+use Rattle.papaya_folded.specs.Given.LegalChains.{Chain, Come, RowSteps}
+use Rattle.papaya_folded.specs.Given.LegalFound.{AsksInNeed}
+use Rattle.papaya_folded.proofs.Given.LegalChains.{chains_keep}
+use Rattle.papaya_folded.specs.Given.RemainsSlots.{SlotsNoted}
+use Rattle.papaya_folded.proofs.Given.RemainsSlots.{buckets_grow, rows_note_slots}
+use Rattle.papaya_folded.proofs.Given.RowsTaking.{Next, OnIt, first_on, next}
 use Rattle.papaya_works.specs.Needs.{AreReached}
 use Rattle.papaya_works.proofs.Mays.{goes_as}
 use Rattle.papaya_works.proofs.Registering.{NeedsSlot, asks_in_need}
 use Rattle.papaya_works.proofs.Steps.{Tells, registers_tell}
-use Rattle.papaya_folded.specs.Given.Scenes.Held.{Held, IsAt}
-use Rattle.papaya_folded.specs.Given.Scenes.OnSlots.{RowBegins, RowSteps as StepsAs, row_then}
-use Rattle.papaya_folded.specs.Given.Scenes.Scene.{Scene, row_of, slot_of}
-use Rattle.papaya_folded.proofs.Given.Scenes.Rows.{begun_there, never_rests, one_row}
+use Rattle.papaya_folded.specs.Given.ScenesHeld.{Held, IsAt}
+use Rattle.papaya_folded.specs.Given.ScenesOnSlots.{RowBegins, RowSteps as StepsAs, row_then}
+use Rattle.papaya_folded.specs.Given.ScenesScene.{Scene, row_of, slot_of}
+use Rattle.papaya_folded.proofs.Given.ScenesRows.{begun_there, never_rests, one_row}
 
 -- a bucket is asked for among the effects of a step that makes room, where it was not known
 module _ (known : Known) where

@@ -1,14 +1,14 @@
 -- No bucket of slots is forgotten: so many are noted, as an event goes on, as were before.
 use Rattle.std.specs.Prelude.{◌≡◌, ◌≤◌, ℕ, Bool}
 use Rattle.std.proofs.Common.{ap, inl, inr, arith}
-use Rattle.papaya_folded.proofs.Given.SeizeWords.Places.Words.{capacity_le_capacity}
-use Rattle.papaya_folded.specs.Given.Schedules.Terms.{Terms}
-use Rattle.papaya_folded.specs.Given.Effects.Known.{Known}
-use Rattle.papaya_folded.specs.Given.Effects.declared.acting.Acting.TheVariants as acts
-use Rattle.papaya_folded.specs.Given.Legal.AllEvents.{AllCome, AllSteps}
-use Rattle.papaya_folded.specs.Given.Legal.Chains.{Chain, Come, EndSteps, MakingSteps, RowSteps}
-use Rattle.papaya_folded.proofs.Given.Legal.Chains.{chains_keep}
-use Rattle.papaya_folded.proofs.Given.Remains.Slots.{buckets_grow}
+use Rattle.papaya_folded.proofs.Given.SeizeWordsPlaces.Words.{capacity_le_capacity}
+use Rattle.papaya_folded.specs.Given.SchedulesTerms.{Terms}
+use Rattle.papaya_folded.specs.Given.EffectsKnown.{Known}
+use Rattle.papaya_folded.specs.Given.EffectsDeclared.acting.Acting.TheVariants as acts
+use Rattle.papaya_folded.specs.Given.LegalAllEvents.{AllCome, AllSteps}
+use Rattle.papaya_folded.specs.Given.LegalChains.{Chain, Come, EndSteps, MakingSteps, RowSteps}
+use Rattle.papaya_folded.proofs.Given.LegalChains.{chains_keep}
+use Rattle.papaya_folded.proofs.Given.RemainsSlots.{buckets_grow}
 use Rattle.papaya_works.specs.Needs.{AreReached}
 
 -- where no fewer buckets are noted the slots that were ever taken have their words still

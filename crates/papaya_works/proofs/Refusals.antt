@@ -1,31 +1,31 @@
 -- A making of a map that is refused for want of something else than memory has done nothing: it was looking for a root.
 use Rattle.std.specs.Prelude.{◌≡◌, ◌≤◌, ◌⊎◌, ◌+◌, ◌-◌, ◌^◌, ◌==◌, nat_lt, max, ℕ, Bool, true, false, List, [], ◌++◌, Ok, Err, if◌then◌else◌}
 use Rattle.std.proofs.Common.{refl, ap, sym, subst, ◌∙◌, inl, inr}
-use Rattle.papaya_folded.specs.Given.SeizeWords.declared.at.At.TheVariants.{Used}
-use Rattle.papaya_folded.specs.Given.SeizeWords.declared.fault.Fault.TheVariants.{Memory, RootsUsedUp}
-use Rattle.papaya_folded.specs.Given.SeizeWords.Mem.{Mem, value_at}
-use Rattle.papaya_folded.specs.Given.SeizeWords.Op.{Out, Found, Stored, Exchanged, Made, Taken, Roomed, Exchange}
-use Rattle.papaya_folded.specs.Given.SeizeWords.Plan.{Ends}
-use Rattle.papaya_folded.specs.Given.Seize.declared.progress.Progress.{Progress}
-use Rattle.papaya_folded.specs.Given.Seize.declared.progress.Progress.TheVariants as progress
-use Rattle.papaya_folded.specs.Given.Tables.declared.node.Node.{Node}
-use Rattle.papaya_folded.specs.Given.Tables.declared.setting.Setting.{Setting}
-use Rattle.papaya_folded.specs.Given.Tables.declared.table.Table.{Table}
-use Rattle.papaya_folded.specs.Given.Resize.NewMap as new_map
-use Rattle.papaya_folded.specs.Given.Resize.NewTable as new_table
-use Rattle.papaya_folded.specs.Given.Resize.declared.new_map.NewMap.{NewMap}
-use Rattle.papaya_folded.specs.Given.Resize.declared.new_map.Opening.{Opening}
-use Rattle.papaya_folded.specs.Given.Resize.declared.new_map.Opening.TheVariants as opens
-use Rattle.papaya_folded.specs.Given.Resize.declared.new_table.NewTable.{NewTable}
-use Rattle.papaya_folded.specs.Given.Schedules.declared.effect.Effect.{Effect}
-use Rattle.papaya_folded.specs.Given.Teller.Tells.{StepsTold}
-use Rattle.papaya_folded.specs.Given.Teller.declared.changed.Changed.{Changed}
-use Rattle.papaya_folded.specs.Given.Teller.declared.changed.Changed.TheVariants as changed
-use Rattle.papaya_folded.specs.Given.Effects.Effects.{effects_of}
-use Rattle.papaya_folded.specs.Given.Effects.Known.{Known}
-use Rattle.papaya_folded.specs.Given.Effects.declared.acting.Acting.TheVariants as acts
-use Rattle.papaya_folded.proofs.Given.Logged.MakingAsks.{told_as, told_back}
-use Rattle.papaya_folded.proofs.Given.Logged.MakingTables.{IsFirstMaking, TableThen, begins_first, first_tables_then}
+use Rattle.papaya_folded.specs.Given.SeizeWordsDeclared.at.At.TheVariants.{Used}
+use Rattle.papaya_folded.specs.Given.SeizeWordsDeclared.fault.Fault.TheVariants.{Memory, RootsUsedUp}
+use Rattle.papaya_folded.specs.Given.SeizeWordsMem.{Mem, value_at}
+use Rattle.papaya_folded.specs.Given.SeizeWordsOp.{Out, Found, Stored, Exchanged, Made, Taken, Roomed, Exchange}
+use Rattle.papaya_folded.specs.Given.SeizeWordsPlan.{Ends}
+use Rattle.papaya_folded.specs.Given.SeizeDeclared.progress.Progress.{Progress}
+use Rattle.papaya_folded.specs.Given.SeizeDeclared.progress.Progress.TheVariants as progress
+use Rattle.papaya_folded.specs.Given.TablesDeclared.node.Node.{Node}
+use Rattle.papaya_folded.specs.Given.TablesDeclared.setting.Setting.{Setting}
+use Rattle.papaya_folded.specs.Given.TablesDeclared.table.Table.{Table}
+use Rattle.papaya_folded.specs.Given.ResizeNewMap as new_map
+use Rattle.papaya_folded.specs.Given.ResizeNewTable as new_table
+use Rattle.papaya_folded.specs.Given.ResizeDeclared.new_map.NewMap.{NewMap}
+use Rattle.papaya_folded.specs.Given.ResizeDeclared.new_map.Opening.{Opening}
+use Rattle.papaya_folded.specs.Given.ResizeDeclared.new_map.Opening.TheVariants as opens
+use Rattle.papaya_folded.specs.Given.ResizeDeclared.new_table.NewTable.{NewTable}
+use Rattle.papaya_folded.specs.Given.SchedulesDeclared.effect.Effect.{Effect}
+use Rattle.papaya_folded.specs.Given.TellerTells.{StepsTold}
+use Rattle.papaya_folded.specs.Given.TellerDeclared.changed.Changed.{Changed}
+use Rattle.papaya_folded.specs.Given.TellerDeclared.changed.Changed.TheVariants as changed
+use Rattle.papaya_folded.specs.Given.EffectsEffects.{effects_of}
+use Rattle.papaya_folded.specs.Given.EffectsKnown.{Known}
+use Rattle.papaya_folded.specs.Given.EffectsDeclared.acting.Acting.TheVariants as acts
+use Rattle.papaya_folded.proofs.Given.LoggedMakingAsks.{told_as, told_back}
+use Rattle.papaya_folded.proofs.Given.LoggedMakingTables.{IsFirstMaking, TableThen, begins_first, first_tables_then}
 
 -- While it looks for a root it has done nothing, and after that it may be refused for want of memory alone.
 abbrev pub MayBeRefused : List Effect → Opening → Type 0

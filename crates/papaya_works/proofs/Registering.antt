@@ -2,44 +2,44 @@
 use Rattle.std.specs.Prelude.{◌≡◌, ◌≤◌, ◌+◌, ◌&&◌, nat_lt, ℕ, Bool, true, false, length, Option, Some, None, IsSome, Ok, Err}
 use Rattle.std.proofs.Common.{refl, ap, sym, subst, inl, inr, ◌∙◌, arith}
 use Rattle.std.proofs.lemmas.Bool.{cases_lt}
-use Rattle.papaya_folded.specs.Given.SeizeWords.declared.at.At.{At}
-use Rattle.papaya_folded.specs.Given.SeizeWords.declared.at.At.TheVariants.{Slot}
-use Rattle.papaya_folded.specs.Given.SeizeWords.declared.fault.Fault.TheVariants.{Memory}
-use Rattle.papaya_folded.specs.Given.SeizeWords.Mem.{Mem, Can, Took, value_at, word_at}
-use Rattle.papaya_folded.specs.Given.SeizeWords.Op.{Out, Exchange, Room, Found, Stored, Exchanged, Made, Taken, Roomed}
-use Rattle.papaya_folded.specs.Given.SeizeWords.Place.{capacity}
-use Rattle.papaya_folded.specs.Given.SeizeWords.Plan.{May, Steps}
-use Rattle.papaya_folded.proofs.Given.SeizeWords.Places.Words.{capacity_le_capacity}
-use Rattle.papaya_folded.specs.Given.Seize.declared.progress.Progress.{Progress}
-use Rattle.papaya_folded.specs.Given.Seize.declared.progress.Progress.TheVariants as progress
-use Rattle.papaya_folded.specs.Given.Seize.declared.rows.register.Register.{Register}
-use Rattle.papaya_folded.specs.Given.Seize.declared.rows.register.Registering.{Registering}
-use Rattle.papaya_folded.specs.Given.Seize.declared.rows.register.Registering.TheVariants as at
-use Rattle.papaya_folded.specs.Given.Seize.declared.states.TheConstants.{HEAD, IDLE, LAST_SLOT}
-use Rattle.papaya_folded.specs.Given.Seize.Register.{MayNeedRoom, plan_at, refused, register_plan}
-use Rattle.papaya_folded.specs.Given.Seize.Sequence.{new_slot}
-use Rattle.papaya_folded.specs.Given.Seize.World.{World, Registers, Use, registers_on}
-use Rattle.papaya_folded.proofs.Given.SeizeRule.Rows.Known.{works_on}
-use Rattle.papaya_folded.proofs.Given.SeizeRule.Words.Room.{slot_there}
-use Rattle.papaya_folded.proofs.Given.SeizeRule.World.Good.{Good}
-use Rattle.papaya_folded.proofs.Given.SeizeRule.World.Kept.{row_may}
-use Rattle.papaya_folded.proofs.Given.SeizeSets.Slots.Registers.{Comes, GoesOn, IsRefused, NoneOnVacant, TakesFirst, registers_apart}
-use Rattle.papaya_folded.specs.Given.Tables.Nodes.{deferred_word}
-use Rattle.papaya_folded.specs.Given.Tables.declared.node.Node.{Node}
-use Rattle.papaya_folded.specs.Given.Tells.Seen.{seen_of}
-use Rattle.papaya_folded.specs.Given.Teller.Tells.{told_of, StepsTold}
-use Rattle.papaya_folded.specs.Given.Teller.declared.changed.Changed.{Changed}
-use Rattle.papaya_folded.specs.Given.Teller.declared.changed.Changed.TheVariants as changed
-use Rattle.papaya_folded.proofs.Given.Callers.Together.Came.{came_reached}
-use Rattle.papaya_folded.specs.Given.Effects.Known.{Known}
-use Rattle.papaya_folded.specs.Given.Scenes.declared.row.RowTold.{RowTold}
-use Rattle.papaya_folded.specs.Given.Scenes.declared.row.SlotRow.{SlotRow}
-use Rattle.papaya_folded.specs.Given.Scenes.declared.row.SlotRow.TheVariants as rows
-use Rattle.papaya_folded.specs.Given.Remains.Slots.{SlotsNoted}
-use Rattle.papaya_folded.proofs.Given.Rows.Taking.{OnIt}
-use Rattle.papaya_folded.specs.Given.Scenes.Held.{Held}
-use Rattle.papaya_folded.specs.Given.Scenes.OnSlots.{RowSteps}
-use Rattle.papaya_folded.specs.Given.Scenes.Scene.{Scene}
+use Rattle.papaya_folded.specs.Given.SeizeWordsDeclared.at.At.{At}
+use Rattle.papaya_folded.specs.Given.SeizeWordsDeclared.at.At.TheVariants.{Slot}
+use Rattle.papaya_folded.specs.Given.SeizeWordsDeclared.fault.Fault.TheVariants.{Memory}
+use Rattle.papaya_folded.specs.Given.SeizeWordsMem.{Mem, Can, Took, value_at, word_at}
+use Rattle.papaya_folded.specs.Given.SeizeWordsOp.{Out, Exchange, Room, Found, Stored, Exchanged, Made, Taken, Roomed}
+use Rattle.papaya_folded.specs.Given.SeizeWordsPlace.{capacity}
+use Rattle.papaya_folded.specs.Given.SeizeWordsPlan.{May, Steps}
+use Rattle.papaya_folded.proofs.Given.SeizeWordsPlaces.Words.{capacity_le_capacity}
+use Rattle.papaya_folded.specs.Given.SeizeDeclared.progress.Progress.{Progress}
+use Rattle.papaya_folded.specs.Given.SeizeDeclared.progress.Progress.TheVariants as progress
+use Rattle.papaya_folded.specs.Given.SeizeDeclared.rows.register.Register.{Register}
+use Rattle.papaya_folded.specs.Given.SeizeDeclared.rows.register.Registering.{Registering}
+use Rattle.papaya_folded.specs.Given.SeizeDeclared.rows.register.Registering.TheVariants as at
+use Rattle.papaya_folded.specs.Given.SeizeDeclared.states.TheConstants.{HEAD, IDLE, LAST_SLOT}
+use Rattle.papaya_folded.specs.Given.SeizeRegister.{MayNeedRoom, plan_at, refused, register_plan}
+use Rattle.papaya_folded.specs.Given.SeizeSequence.{new_slot}
+use Rattle.papaya_folded.specs.Given.SeizeWorld.{World, Registers, Use, registers_on}
+use Rattle.papaya_folded.proofs.Given.SeizeRuleRows.Known.{works_on}
+use Rattle.papaya_folded.proofs.Given.SeizeRuleWords.Room.{slot_there}
+use Rattle.papaya_folded.proofs.Given.SeizeRuleWorld.Good.{Good}
+use Rattle.papaya_folded.proofs.Given.SeizeRuleWorld.Kept.{row_may}
+use Rattle.papaya_folded.proofs.Given.SeizeSetsSlots.Registers.{Comes, GoesOn, IsRefused, NoneOnVacant, TakesFirst, registers_apart}
+use Rattle.papaya_folded.specs.Given.TablesNodes.{deferred_word}
+use Rattle.papaya_folded.specs.Given.TablesDeclared.node.Node.{Node}
+use Rattle.papaya_folded.specs.Given.TellsSeen.{seen_of}
+use Rattle.papaya_folded.specs.Given.TellerTells.{told_of, StepsTold}
+use Rattle.papaya_folded.specs.Given.TellerDeclared.changed.Changed.{Changed}
+use Rattle.papaya_folded.specs.Given.TellerDeclared.changed.Changed.TheVariants as changed
+use Rattle.papaya_folded.proofs.Given.CallersTogether.Came.{came_reached}
+use Rattle.papaya_folded.specs.Given.EffectsKnown.{Known}
+use Rattle.papaya_folded.specs.Given.ScenesDeclared.row.RowTold.{RowTold}
+use Rattle.papaya_folded.specs.Given.ScenesDeclared.row.SlotRow.{SlotRow}
+use Rattle.papaya_folded.specs.Given.ScenesDeclared.row.SlotRow.TheVariants as rows
+use Rattle.papaya_folded.specs.Given.RemainsSlots.{SlotsNoted}
+use Rattle.papaya_folded.proofs.Given.RowsTaking.{OnIt}
+use Rattle.papaya_folded.specs.Given.ScenesHeld.{Held}
+use Rattle.papaya_folded.specs.Given.ScenesOnSlots.{RowSteps}
+use Rattle.papaya_folded.specs.Given.ScenesScene.{Scene}
 
 -- it asks for room of this bucket by its next step
 abbrev pub AsksAt : Registering → ℕ → Type 0

@@ -2,55 +2,55 @@
 use Rattle.std.specs.Prelude.{◌≡◌, ℕ, nat_lt, Bool, true, false, ◌&&◌, List, [], ◌∷◌, Option, Ok, if◌then◌else◌}
 use Rattle.std.specs.List.{list_all}
 use Rattle.std.proofs.Common.{refl, ap, subst, sym}
-use Rattle.papaya_folded.specs.Given.SeizeWords.declared.at.At.TheVariants.{Root, Used, Slot, Entry, Word}
-use Rattle.papaya_folded.specs.Given.SeizeWords.Mem.{Mem}
-use Rattle.papaya_folded.specs.Given.SeizeWords.Op.{Op, Out, Load, Store, Swap, Add, Or, Exchange, Make, Take, Rewrite, Room, Found, Exchanged, Roomed}
-use Rattle.papaya_folded.specs.Given.SeizeWords.Plan.{Plan, Turn, Do, plan_as}
-use Rattle.papaya_folded.specs.Given.Seize.declared.rows.enter.Enter.{Enter}
-use Rattle.papaya_folded.specs.Given.Seize.declared.rows.enter.Unregister.{Unregister}
-use Rattle.papaya_folded.specs.Given.Seize.declared.rows.leave.Leave.{Leave}
-use Rattle.papaya_folded.specs.Given.Seize.declared.rows.leave.Leaving.{Leaving}
-use Rattle.papaya_folded.specs.Given.Seize.declared.rows.leave.Leaving.TheVariants as leaving
-use Rattle.papaya_folded.specs.Given.Seize.declared.rows.register.Register.{Register}
-use Rattle.papaya_folded.specs.Given.Seize.declared.rows.register.Registering.{Registering}
-use Rattle.papaya_folded.specs.Given.Seize.declared.rows.register.Registering.TheVariants as registering
-use Rattle.papaya_folded.specs.Given.Seize.declared.rows.settle.Settle.{Settle}
-use Rattle.papaya_folded.specs.Given.Seize.declared.rows.settle.Settling.{Settling}
-use Rattle.papaya_folded.specs.Given.Seize.declared.rows.settle.Settling.TheVariants as settling
-use Rattle.papaya_folded.specs.Given.Seize.Enter.{enter_plan, unregister_plan}
-use Rattle.papaya_folded.specs.Given.Seize.Leave as leave
-use Rattle.papaya_folded.specs.Given.Seize.Register as register
-use Rattle.papaya_folded.specs.Given.Seize.Settle as settle
-use Rattle.papaya_folded.specs.Given.Seize.World.{Step}
-use Rattle.papaya_folded.specs.Given.Tables.Nodes.{deferred_word}
-use Rattle.papaya_folded.specs.Given.Tables.declared.node.Node.{Node}
-use Rattle.papaya_folded.specs.Given.Tells.Seen.{seen_of}
-use Rattle.papaya_folded.specs.Given.Teller.Tells.{told_of, StepsTold}
-use Rattle.papaya_folded.specs.Given.Teller.declared.changed.Changed.{Changed}
-use Rattle.papaya_folded.specs.Given.Teller.declared.changed.Changed.TheVariants as changed
-use Rattle.papaya_folded.specs.Given.Schedules.declared.effect.Effect.{Effect}
-use Rattle.papaya_folded.specs.Given.Schedules.declared.effect.Effect.TheVariants.{Asked}
-use Rattle.papaya_folded.specs.Given.Schedules.declared.effect.Growth.TheVariants.{ABucket}
-use Rattle.papaya_folded.specs.Given.Schedules.Handing.{asks_for_bucket, is_reclaiming}
-use Rattle.papaya_folded.specs.Given.Schedules.Moment.{Moment}
-use Rattle.papaya_folded.specs.Given.Effects.Effects.{effects_of, names_same, taken_by}
-use Rattle.papaya_folded.specs.Given.Effects.Known.{Known}
-use Rattle.papaya_folded.specs.Given.Effects.declared.acting.Acting.TheVariants.{Row}
-use Rattle.papaya_folded.specs.Given.Effects.declared.role.Role.{Role}
-use Rattle.papaya_folded.specs.Given.Effects.declared.role.Role.TheVariants as role
-use Rattle.papaya_folded.specs.Given.Scenes.declared.row.RowTold.{RowTold}
-use Rattle.papaya_folded.specs.Given.Scenes.declared.row.SlotRow.{SlotRow}
-use Rattle.papaya_folded.specs.Given.Scenes.declared.row.SlotRow.TheVariants as rows
-use Rattle.papaya_folded.specs.Given.Follows.Shows.{Shows}
-use Rattle.papaya_folded.proofs.Given.Others.RowPlans.{IsOfSlots}
-use Rattle.papaya_folded.specs.Given.Owes.Made.{ShowsMade}
-use Rattle.papaya_folded.specs.Given.Owes.Tables.{ShowsTables}
-use Rattle.papaya_folded.proofs.Given.Owes.InHand.{in_hand}
-use Rattle.papaya_folded.proofs.Given.Owes.Lasting.{row_keeps_held}
-use Rattle.papaya_folded.proofs.Given.Owes.Tables.Held.{held_by}
-use Rattle.papaya_folded.specs.Given.Scenes.Held.{Held, IsAt}
-use Rattle.papaya_folded.specs.Given.Scenes.OnSlots.{HappensAt, RowSteps}
-use Rattle.papaya_folded.specs.Given.Scenes.Scene.{IsOnSlot, Scene}
+use Rattle.papaya_folded.specs.Given.SeizeWordsDeclared.at.At.TheVariants.{Root, Used, Slot, Entry, Word}
+use Rattle.papaya_folded.specs.Given.SeizeWordsMem.{Mem}
+use Rattle.papaya_folded.specs.Given.SeizeWordsOp.{Op, Out, Load, Store, Swap, Add, Or, Exchange, Make, Take, Rewrite, Room, Found, Exchanged, Roomed}
+use Rattle.papaya_folded.specs.Given.SeizeWordsPlan.{Plan, Turn, Do, plan_as}
+use Rattle.papaya_folded.specs.Given.SeizeDeclared.rows.enter.Enter.{Enter}
+use Rattle.papaya_folded.specs.Given.SeizeDeclared.rows.enter.Unregister.{Unregister}
+use Rattle.papaya_folded.specs.Given.SeizeDeclared.rows.leave.Leave.{Leave}
+use Rattle.papaya_folded.specs.Given.SeizeDeclared.rows.leave.Leaving.{Leaving}
+use Rattle.papaya_folded.specs.Given.SeizeDeclared.rows.leave.Leaving.TheVariants as leaving
+use Rattle.papaya_folded.specs.Given.SeizeDeclared.rows.register.Register.{Register}
+use Rattle.papaya_folded.specs.Given.SeizeDeclared.rows.register.Registering.{Registering}
+use Rattle.papaya_folded.specs.Given.SeizeDeclared.rows.register.Registering.TheVariants as registering
+use Rattle.papaya_folded.specs.Given.SeizeDeclared.rows.settle.Settle.{Settle}
+use Rattle.papaya_folded.specs.Given.SeizeDeclared.rows.settle.Settling.{Settling}
+use Rattle.papaya_folded.specs.Given.SeizeDeclared.rows.settle.Settling.TheVariants as settling
+use Rattle.papaya_folded.specs.Given.SeizeEnter.{enter_plan, unregister_plan}
+use Rattle.papaya_folded.specs.Given.SeizeLeave as leave
+use Rattle.papaya_folded.specs.Given.SeizeRegister as register
+use Rattle.papaya_folded.specs.Given.SeizeSettle as settle
+use Rattle.papaya_folded.specs.Given.SeizeWorld.{Step}
+use Rattle.papaya_folded.specs.Given.TablesNodes.{deferred_word}
+use Rattle.papaya_folded.specs.Given.TablesDeclared.node.Node.{Node}
+use Rattle.papaya_folded.specs.Given.TellsSeen.{seen_of}
+use Rattle.papaya_folded.specs.Given.TellerTells.{told_of, StepsTold}
+use Rattle.papaya_folded.specs.Given.TellerDeclared.changed.Changed.{Changed}
+use Rattle.papaya_folded.specs.Given.TellerDeclared.changed.Changed.TheVariants as changed
+use Rattle.papaya_folded.specs.Given.SchedulesDeclared.effect.Effect.{Effect}
+use Rattle.papaya_folded.specs.Given.SchedulesDeclared.effect.Effect.TheVariants.{Asked}
+use Rattle.papaya_folded.specs.Given.SchedulesDeclared.effect.Growth.TheVariants.{ABucket}
+use Rattle.papaya_folded.specs.Given.SchedulesHanding.{asks_for_bucket, is_reclaiming}
+use Rattle.papaya_folded.specs.Given.SchedulesMoment.{Moment}
+use Rattle.papaya_folded.specs.Given.EffectsEffects.{effects_of, names_same, taken_by}
+use Rattle.papaya_folded.specs.Given.EffectsKnown.{Known}
+use Rattle.papaya_folded.specs.Given.EffectsDeclared.acting.Acting.TheVariants.{Row}
+use Rattle.papaya_folded.specs.Given.EffectsDeclared.role.Role.{Role}
+use Rattle.papaya_folded.specs.Given.EffectsDeclared.role.Role.TheVariants as role
+use Rattle.papaya_folded.specs.Given.ScenesDeclared.row.RowTold.{RowTold}
+use Rattle.papaya_folded.specs.Given.ScenesDeclared.row.SlotRow.{SlotRow}
+use Rattle.papaya_folded.specs.Given.ScenesDeclared.row.SlotRow.TheVariants as rows
+use Rattle.papaya_folded.specs.Given.FollowsShows.{Shows}
+use Rattle.papaya_folded.proofs.Given.OthersRowPlans.{IsOfSlots}
+use Rattle.papaya_folded.specs.Given.OwesMade.{ShowsMade}
+use Rattle.papaya_folded.specs.Given.OwesTables.{ShowsTables}
+use Rattle.papaya_folded.proofs.Given.OwesInHand.{in_hand}
+use Rattle.papaya_folded.proofs.Given.OwesLasting.{row_keeps_held}
+use Rattle.papaya_folded.proofs.Given.OwesTables.Held.{held_by}
+use Rattle.papaya_folded.specs.Given.ScenesHeld.{Held, IsAt}
+use Rattle.papaya_folded.specs.Given.ScenesOnSlots.{HappensAt, RowSteps}
+use Rattle.papaya_folded.specs.Given.ScenesScene.{IsOnSlot, Scene}
 
 -- What a step tells that writes words of the collector alone, or takes a block away too, or makes room.
 abbrev pub Tells : (takes rooms : Bool) → Changed → Type 0

@@ -4,36 +4,36 @@ use Rattle.std.specs.List.{list_all}
 use Rattle.std.proofs.Common.{refl, ap, sym, subst, ◌∙◌, arith, length-append}
 use Rattle.std.proofs.lemmas.Bool.{and_parts, eq-eqb}
 use Rattle.std.proofs.lemmas.List.Elements.{filter-append}
-use Rattle.papaya_folded.specs.Given.Seize.declared.progress.Progress.{Progress}
-use Rattle.papaya_folded.specs.Given.Seize.declared.progress.Progress.TheVariants as progress
-use Rattle.papaya_folded.specs.Given.Tables.declared.setting.Setting.{Setting}
-use Rattle.papaya_folded.specs.Given.Tables.declared.table.Table.{Table as Planned}
-use Rattle.papaya_folded.specs.Given.Runs.declared.outcome.TableShape.{TableShape}
-use Rattle.papaya_folded.specs.Given.Schedules.declared.effect.Effect.{Effect}
-use Rattle.papaya_folded.specs.Given.Schedules.declared.effect.Effect.TheVariants as effect
-use Rattle.papaya_folded.specs.Given.Schedules.declared.effect.Growth.TheVariants.{ABlock}
-use Rattle.papaya_folded.specs.Given.Schedules.declared.effect.Table.{Table}
-use Rattle.papaya_folded.specs.Given.Schedules.Effects.{with_effect, with_effects}
-use Rattle.papaya_folded.specs.Given.Schedules.Handing.{is_first_making, is_table_made}
-use Rattle.papaya_folded.specs.Given.Schedules.Moment.{IsLinked as AtLinked, TableThere, Moment}
-use Rattle.papaya_folded.specs.Given.Schedules.Views.{tables_of}
-use Rattle.papaya_folded.specs.Given.Effects.Effects.{effects_of, known_after, table_at}
-use Rattle.papaya_folded.specs.Given.Effects.Known.{Known}
-use Rattle.papaya_folded.specs.Given.Effects.declared.acting.Acting.{Acting}
-use Rattle.papaya_folded.specs.Given.Effects.declared.acting.Acting.TheVariants as acts
-use Rattle.papaya_folded.specs.Given.Finishes.Makings.{Beginning}
-use Rattle.papaya_folded.specs.Given.Follows.Shows.{Shows}
-use Rattle.papaya_folded.specs.Given.Others.Makings.{NotesCounter, making_after}
-use Rattle.papaya_folded.specs.Given.Owes.Tables.{ShowsTables}
-use Rattle.papaya_folded.proofs.Given.Owes.Tables.Held.{shape_of}
-use Rattle.papaya_folded.proofs.Given.Owes.Tables.Leaves.{Stays, IsMade, IsGivenUp, IsLinked}
-use Rattle.papaya_folded.proofs.Given.Owes.Tables.MakingsOfMaps.{left_tables}
-use Rattle.papaya_folded.proofs.Given.Owes.Tables.Roles.{of_table, NoneOfTable}
+use Rattle.papaya_folded.specs.Given.SeizeDeclared.progress.Progress.{Progress}
+use Rattle.papaya_folded.specs.Given.SeizeDeclared.progress.Progress.TheVariants as progress
+use Rattle.papaya_folded.specs.Given.TablesDeclared.setting.Setting.{Setting}
+use Rattle.papaya_folded.specs.Given.TablesDeclared.table.Table.{Table as Planned}
+use Rattle.papaya_folded.specs.Given.RunsDeclared.outcome.TableShape.{TableShape}
+use Rattle.papaya_folded.specs.Given.SchedulesDeclared.effect.Effect.{Effect}
+use Rattle.papaya_folded.specs.Given.SchedulesDeclared.effect.Effect.TheVariants as effect
+use Rattle.papaya_folded.specs.Given.SchedulesDeclared.effect.Growth.TheVariants.{ABlock}
+use Rattle.papaya_folded.specs.Given.SchedulesDeclared.effect.Table.{Table}
+use Rattle.papaya_folded.specs.Given.SchedulesEffects.{with_effect, with_effects}
+use Rattle.papaya_folded.specs.Given.SchedulesHanding.{is_first_making, is_table_made}
+use Rattle.papaya_folded.specs.Given.SchedulesMoment.{IsLinked as AtLinked, TableThere, Moment}
+use Rattle.papaya_folded.specs.Given.SchedulesViews.{tables_of}
+use Rattle.papaya_folded.specs.Given.EffectsEffects.{effects_of, known_after, table_at}
+use Rattle.papaya_folded.specs.Given.EffectsKnown.{Known}
+use Rattle.papaya_folded.specs.Given.EffectsDeclared.acting.Acting.{Acting}
+use Rattle.papaya_folded.specs.Given.EffectsDeclared.acting.Acting.TheVariants as acts
+use Rattle.papaya_folded.specs.Given.FinishesMakings.{Beginning}
+use Rattle.papaya_folded.specs.Given.FollowsShows.{Shows}
+use Rattle.papaya_folded.specs.Given.OthersMakings.{NotesCounter, making_after}
+use Rattle.papaya_folded.specs.Given.OwesTables.{ShowsTables}
+use Rattle.papaya_folded.proofs.Given.OwesTables.Held.{shape_of}
+use Rattle.papaya_folded.proofs.Given.OwesTables.Leaves.{Stays, IsMade, IsGivenUp, IsLinked}
+use Rattle.papaya_folded.proofs.Given.OwesTables.MakingsOfMaps.{left_tables}
+use Rattle.papaya_folded.proofs.Given.OwesTables.Roles.{of_table, NoneOfTable}
 use Rattle.papaya_works.specs.Makings.{CountsTables, MakingsCountTables, in_hand, table_left}
 use Rattle.papaya_works.proofs.Makings.{makings_do_theirs}
-use Rattle.papaya_folded.specs.Given.Scenes.Held.{Held, IsAt}
-use Rattle.papaya_folded.specs.Given.Scenes.Making.{MakingLeads}
-use Rattle.papaya_folded.specs.Given.Scenes.Scene.{Scene}
+use Rattle.papaya_folded.specs.Given.ScenesHeld.{Held, IsAt}
+use Rattle.papaya_folded.specs.Given.ScenesMaking.{MakingLeads}
+use Rattle.papaya_folded.specs.Given.ScenesScene.{Scene}
 
 abbrev linked : Table → TableShape → TableThere
 linked t shape = record { table = t; shape = shape; stage = AtLinked }

@@ -1,15 +1,15 @@
 -- What the end of a map finds: pairs that are in the map, and tables of it that are linked.
 use Rattle.std.specs.Prelude.{◌≡◌, ◌<◌, ℕ, true, false, Some, None}
-use Rattle.papaya_folded.specs.Given.Tables.Chunks.{is_incremental}
-use Rattle.papaya_folded.specs.Given.Rule.Chart.{Chart}
-use Rattle.papaya_folded.specs.Given.Schedules.Effects.{AtEachEffect}
-use Rattle.papaya_folded.specs.Given.Schedules.Lives.{EventFinds}
-use Rattle.papaya_folded.specs.Given.Schedules.Moment.{Moment}
-use Rattle.papaya_folded.specs.Given.Effects.Known.{Known}
-use Rattle.papaya_folded.specs.Given.Finishes.Endings.{AllPairsOnce}
-use Rattle.papaya_folded.specs.Given.Finishes.Maps.{Standing}
-use Rattle.papaya_folded.specs.Given.Follows.Maps.{ShowsMap}
-use Rattle.papaya_folded.specs.Given.Moments.WholeEnds.{all_ended}
+use Rattle.papaya_folded.specs.Given.TablesChunks.{is_incremental}
+use Rattle.papaya_folded.specs.Given.RuleChart.{Chart}
+use Rattle.papaya_folded.specs.Given.SchedulesEffects.{AtEachEffect}
+use Rattle.papaya_folded.specs.Given.SchedulesLives.{EventFinds}
+use Rattle.papaya_folded.specs.Given.SchedulesMoment.{Moment}
+use Rattle.papaya_folded.specs.Given.EffectsKnown.{Known}
+use Rattle.papaya_folded.specs.Given.FinishesEndings.{AllPairsOnce}
+use Rattle.papaya_folded.specs.Given.FinishesMaps.{Standing}
+use Rattle.papaya_folded.specs.Given.FollowsMaps.{ShowsMap}
+use Rattle.papaya_folded.specs.Given.MomentsWholeEnds.{all_ended}
 
 -- these are the numbers of the pairs that a map has
 abbrev pub NumbersPairs : {K : Type 0} → Chart K → (number other : ℕ → ℕ) → Type 0

@@ -1,35 +1,35 @@
 -- The first table of a map that is being made has the length that its capacity needs, and the last try that goes with it.
 use Rattle.std.specs.Prelude.{◌≡◌, ℕ, Bool, true, List, [], max, Option, Some, None}
 use Rattle.std.specs.List.{list_all}
-use Rattle.papaya_folded.specs.Given.Seize.World.{with_at}
-use Rattle.papaya_folded.specs.Given.Seize.declared.progress.Progress.{Progress}
-use Rattle.papaya_folded.specs.Given.Tables.Probes.{limit_of}
-use Rattle.papaya_folded.specs.Given.Tables.declared.setting.Setting.{Setting}
-use Rattle.papaya_folded.specs.Given.Tables.declared.table.Table.{Table as Planned}
-use Rattle.papaya_folded.specs.Given.Resize.NewMap.{opening}
-use Rattle.papaya_folded.specs.Given.Resize.declared.new_map.Opening.{Opening}
-use Rattle.papaya_folded.specs.Given.Resize.declared.new_map.Opening.TheVariants as at
-use Rattle.papaya_folded.specs.Given.Runs.Runs.{map_fault}
-use Rattle.papaya_folded.specs.Given.Schedules.declared.effect.Effect.{Effect}
-use Rattle.papaya_folded.specs.Given.Schedules.declared.effect.Effect.TheVariants.{Linked}
-use Rattle.papaya_folded.specs.Given.Schedules.Effects.{AtEachEffect, with_effects}
-use Rattle.papaya_folded.specs.Given.Schedules.Handing.{is_first_making}
-use Rattle.papaya_folded.specs.Given.Schedules.Lives.{IsMapsFirst, EventFinds}
-use Rattle.papaya_folded.specs.Given.Schedules.Moment.{MapThere, Moment}
-use Rattle.papaya_folded.specs.Given.Schedules.Views.{map_at, tables_of}
-use Rattle.papaya_folded.specs.Given.Named.Places.{first_places}
-use Rattle.papaya_folded.specs.Given.Effects.Effects.{effects_of, known_after}
-use Rattle.papaya_folded.specs.Given.Effects.Known.{Known}
-use Rattle.papaya_folded.specs.Given.Effects.declared.acting.Acting.TheVariants as acts
-use Rattle.papaya_folded.specs.Given.Finishes.Makings.{Beginning}
-use Rattle.papaya_folded.specs.Given.Follows.Shows.{Shows}
-use Rattle.papaya_folded.specs.Given.Others.Makings.{making_after}
-use Rattle.papaya_folded.specs.Given.Owes.Tables.{ShowsTables}
-use Rattle.papaya_folded.specs.Given.Owes.TablesBeside.{MakesFirst}
-use Rattle.papaya_folded.specs.Given.Finds.Shaping.{ShapedAt}
-use Rattle.papaya_folded.specs.Given.Scenes.Held.{Held, IsAt}
-use Rattle.papaya_folded.specs.Given.Scenes.Making.{MakingLeads}
-use Rattle.papaya_folded.specs.Given.Scenes.Scene.{Scene}
+use Rattle.papaya_folded.specs.Given.SeizeWorld.{with_at}
+use Rattle.papaya_folded.specs.Given.SeizeDeclared.progress.Progress.{Progress}
+use Rattle.papaya_folded.specs.Given.TablesProbes.{limit_of}
+use Rattle.papaya_folded.specs.Given.TablesDeclared.setting.Setting.{Setting}
+use Rattle.papaya_folded.specs.Given.TablesDeclared.table.Table.{Table as Planned}
+use Rattle.papaya_folded.specs.Given.ResizeNewMap.{opening}
+use Rattle.papaya_folded.specs.Given.ResizeDeclared.new_map.Opening.{Opening}
+use Rattle.papaya_folded.specs.Given.ResizeDeclared.new_map.Opening.TheVariants as at
+use Rattle.papaya_folded.specs.Given.RunsRuns.{map_fault}
+use Rattle.papaya_folded.specs.Given.SchedulesDeclared.effect.Effect.{Effect}
+use Rattle.papaya_folded.specs.Given.SchedulesDeclared.effect.Effect.TheVariants.{Linked}
+use Rattle.papaya_folded.specs.Given.SchedulesEffects.{AtEachEffect, with_effects}
+use Rattle.papaya_folded.specs.Given.SchedulesHanding.{is_first_making}
+use Rattle.papaya_folded.specs.Given.SchedulesLives.{IsMapsFirst, EventFinds}
+use Rattle.papaya_folded.specs.Given.SchedulesMoment.{MapThere, Moment}
+use Rattle.papaya_folded.specs.Given.SchedulesViews.{map_at, tables_of}
+use Rattle.papaya_folded.specs.Given.NamedPlaces.{first_places}
+use Rattle.papaya_folded.specs.Given.EffectsEffects.{effects_of, known_after}
+use Rattle.papaya_folded.specs.Given.EffectsKnown.{Known}
+use Rattle.papaya_folded.specs.Given.EffectsDeclared.acting.Acting.TheVariants as acts
+use Rattle.papaya_folded.specs.Given.FinishesMakings.{Beginning}
+use Rattle.papaya_folded.specs.Given.FollowsShows.{Shows}
+use Rattle.papaya_folded.specs.Given.OthersMakings.{making_after}
+use Rattle.papaya_folded.specs.Given.OwesTables.{ShowsTables}
+use Rattle.papaya_folded.specs.Given.OwesTablesBeside.{MakesFirst}
+use Rattle.papaya_folded.specs.Given.FindsShaping.{ShapedAt}
+use Rattle.papaya_folded.specs.Given.ScenesHeld.{Held, IsAt}
+use Rattle.papaya_folded.specs.Given.ScenesMaking.{MakingLeads}
+use Rattle.papaya_folded.specs.Given.ScenesScene.{Scene}
 
 -- a table for so many places, of which there are eight at least
 abbrev pub IsForPlaces : ℕ → Planned → Type 0

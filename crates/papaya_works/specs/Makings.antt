@@ -1,31 +1,31 @@
 -- What the making of a map does: it asks for blocks, makes the map's first table, and links it.
 use Rattle.std.specs.Prelude.{◌≡◌, ℕ, ◌+◌, Bool, true, false, List, [], ◌++◌, length, filter, Option, Some, None}
 use Rattle.std.specs.List.{list_all}
-use Rattle.papaya_folded.specs.Given.Seize.declared.progress.Progress.{Progress}
-use Rattle.papaya_folded.specs.Given.Seize.declared.progress.Progress.TheVariants as progress
-use Rattle.papaya_folded.specs.Given.Tables.declared.setting.Setting.{Setting}
-use Rattle.papaya_folded.specs.Given.Tables.declared.table.Table.{Table as Planned}
-use Rattle.papaya_folded.specs.Given.Resize.declared.new_map.NewMap.{NewMap}
-use Rattle.papaya_folded.specs.Given.Runs.Runs.{map_fault}
-use Rattle.papaya_folded.specs.Given.Schedules.declared.effect.Effect.{Effect}
-use Rattle.papaya_folded.specs.Given.Schedules.Effects.{AtEachEffect, with_effects}
-use Rattle.papaya_folded.specs.Given.Schedules.Handing.{is_first_making, is_table_made}
-use Rattle.papaya_folded.specs.Given.Schedules.Lives.{EventFinds}
-use Rattle.papaya_folded.specs.Given.Schedules.Moment.{MapThere, Moment}
-use Rattle.papaya_folded.specs.Given.Schedules.Views.{map_at, tables_of}
-use Rattle.papaya_folded.specs.Given.Effects.Effects.{effects_of, known_after}
-use Rattle.papaya_folded.specs.Given.Effects.Known.{Known}
-use Rattle.papaya_folded.specs.Given.Effects.declared.acting.Acting.TheVariants as acts
-use Rattle.papaya_folded.specs.Given.Finishes.Makings.{Beginning}
-use Rattle.papaya_folded.specs.Given.Follows.Shows.{Shows}
-use Rattle.papaya_folded.specs.Given.Others.Makings.{NotesCounter, making_after}
-use Rattle.papaya_folded.specs.Given.Owes.Making.{making_in_opening}
-use Rattle.papaya_folded.specs.Given.Owes.Tables.{ShowsTables, table_made}
+use Rattle.papaya_folded.specs.Given.SeizeDeclared.progress.Progress.{Progress}
+use Rattle.papaya_folded.specs.Given.SeizeDeclared.progress.Progress.TheVariants as progress
+use Rattle.papaya_folded.specs.Given.TablesDeclared.setting.Setting.{Setting}
+use Rattle.papaya_folded.specs.Given.TablesDeclared.table.Table.{Table as Planned}
+use Rattle.papaya_folded.specs.Given.ResizeDeclared.new_map.NewMap.{NewMap}
+use Rattle.papaya_folded.specs.Given.RunsRuns.{map_fault}
+use Rattle.papaya_folded.specs.Given.SchedulesDeclared.effect.Effect.{Effect}
+use Rattle.papaya_folded.specs.Given.SchedulesEffects.{AtEachEffect, with_effects}
+use Rattle.papaya_folded.specs.Given.SchedulesHanding.{is_first_making, is_table_made}
+use Rattle.papaya_folded.specs.Given.SchedulesLives.{EventFinds}
+use Rattle.papaya_folded.specs.Given.SchedulesMoment.{MapThere, Moment}
+use Rattle.papaya_folded.specs.Given.SchedulesViews.{map_at, tables_of}
+use Rattle.papaya_folded.specs.Given.EffectsEffects.{effects_of, known_after}
+use Rattle.papaya_folded.specs.Given.EffectsKnown.{Known}
+use Rattle.papaya_folded.specs.Given.EffectsDeclared.acting.Acting.TheVariants as acts
+use Rattle.papaya_folded.specs.Given.FinishesMakings.{Beginning}
+use Rattle.papaya_folded.specs.Given.FollowsShows.{Shows}
+use Rattle.papaya_folded.specs.Given.OthersMakings.{NotesCounter, making_after}
+use Rattle.papaya_folded.specs.Given.OwesMaking.{making_in_opening}
+use Rattle.papaya_folded.specs.Given.OwesTables.{ShowsTables, table_made}
 use Rattle.papaya_works.specs.Firsts.{ShowsOpenings}
-use Rattle.papaya_folded.specs.Given.Named.Places.{first_places}
-use Rattle.papaya_folded.specs.Given.Scenes.Held.{Held, IsAt}
-use Rattle.papaya_folded.specs.Given.Scenes.Making.{MakingLeads}
-use Rattle.papaya_folded.specs.Given.Scenes.Scene.{Scene}
+use Rattle.papaya_folded.specs.Given.NamedPlaces.{first_places}
+use Rattle.papaya_folded.specs.Given.ScenesHeld.{Held, IsAt}
+use Rattle.papaya_folded.specs.Given.ScenesMaking.{MakingLeads}
+use Rattle.papaya_folded.specs.Given.ScenesScene.{Scene}
 
 -- the table that a making has made and not linked, by what it has told: one that is over has none
 abbrev pub table_left : NewMap → Progress Setting → Option Planned

@@ -1,7 +1,7 @@
 -- How many buckets of slots are noted, by the slots that were ever taken.
 use Rattle.std.specs.Prelude.{◌≡◌, ◌<◌, ◌+◌, ◌⊎◌, ℕ}
-use Rattle.papaya_folded.specs.Given.SeizeWords.Place.{capacity}
-use Rattle.papaya_folded.specs.Given.Effects.Known.{Known}
+use Rattle.papaya_folded.specs.Given.SeizeWordsPlace.{capacity}
+use Rattle.papaya_folded.specs.Given.EffectsKnown.{Known}
 
 -- Slots that were ever taken have their words, and so has the one behind them.
 abbrev pub AreReached : ℕ → Known → Type 0

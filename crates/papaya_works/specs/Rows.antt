@@ -1,23 +1,23 @@
 -- What rows on slots do, from their beginnings on: some do nothing, registering asks for buckets of slots alone, and what leaves a slot reclaims alone.
 use Rattle.std.specs.Prelude.{◌≡◌, ℕ, Bool, true, false, List, []}
 use Rattle.std.specs.List.{list_all}
-use Rattle.papaya_folded.specs.Given.Seize.World.{Begin, IsInside}
-use Rattle.papaya_folded.specs.Given.Schedules.declared.effect.Effect.{Effect}
-use Rattle.papaya_folded.specs.Given.Schedules.declared.event.Event.{Event}
-use Rattle.papaya_folded.specs.Given.Schedules.After.{moment}
-use Rattle.papaya_folded.specs.Given.Schedules.Entry.{Entry}
-use Rattle.papaya_folded.specs.Given.Schedules.Handing.{asks_for_bucket, is_reclaiming}
-use Rattle.papaya_folded.specs.Given.Schedules.Terms.{Terms}
-use Rattle.papaya_folded.specs.Given.Effects.Known.{Known}
-use Rattle.papaya_folded.specs.Given.Scenes.declared.row.SlotCall.{SlotCall}
-use Rattle.papaya_folded.specs.Given.Scenes.declared.row.SlotCall.TheVariants as call
-use Rattle.papaya_folded.specs.Given.Others.Rows.{scene_then}
-use Rattle.papaya_folded.specs.Given.Legal.Chains.{Chain, Come, RowSteps}
-use Rattle.papaya_folded.specs.Given.Legal.SlotEvents.{InSlotEvent}
-use Rattle.papaya_folded.specs.Given.Scenes.Held.{Held, IsAt}
-use Rattle.papaya_folded.specs.Given.Scenes.OnSlots.{RowBegins}
-use Rattle.papaya_folded.specs.Given.Scenes.Rows.{request_of}
-use Rattle.papaya_folded.specs.Given.Scenes.Scene.{Scene, slot_of}
+use Rattle.papaya_folded.specs.Given.SeizeWorld.{Begin, IsInside}
+use Rattle.papaya_folded.specs.Given.SchedulesDeclared.effect.Effect.{Effect}
+use Rattle.papaya_folded.specs.Given.SchedulesDeclared.event.Event.{Event}
+use Rattle.papaya_folded.specs.Given.SchedulesAfter.{moment}
+use Rattle.papaya_folded.specs.Given.SchedulesEntry.{Entry}
+use Rattle.papaya_folded.specs.Given.SchedulesHanding.{asks_for_bucket, is_reclaiming}
+use Rattle.papaya_folded.specs.Given.SchedulesTerms.{Terms}
+use Rattle.papaya_folded.specs.Given.EffectsKnown.{Known}
+use Rattle.papaya_folded.specs.Given.ScenesDeclared.row.SlotCall.{SlotCall}
+use Rattle.papaya_folded.specs.Given.ScenesDeclared.row.SlotCall.TheVariants as call
+use Rattle.papaya_folded.specs.Given.OthersRows.{scene_then}
+use Rattle.papaya_folded.specs.Given.LegalChains.{Chain, Come, RowSteps}
+use Rattle.papaya_folded.specs.Given.LegalSlotEvents.{InSlotEvent}
+use Rattle.papaya_folded.specs.Given.ScenesHeld.{Held, IsAt}
+use Rattle.papaya_folded.specs.Given.ScenesOnSlots.{RowBegins}
+use Rattle.papaya_folded.specs.Given.ScenesRows.{request_of}
+use Rattle.papaya_folded.specs.Given.ScenesScene.{Scene, slot_of}
 
 -- what a caller's row may do on its slot
 abbrev pub may_row : SlotCall → Effect → Bool

@@ -8,13 +8,13 @@ use Rattle.papaya_raw.specs.CallAsks.{computing, updating, updating_or_inserting
 use Rattle.papaya_raw.specs.declared.machines.asking.Takes.TheVariants as takes
 use Rattle.papaya_raw.specs.declared.machines.asking.Told.TheVariants as tells
 use Rattle.papaya_raw.specs.declared.machines.call.KeyCall.{KeyCall}
-use Rattle.papaya_owned.specs.Given.Rule.Maps.{IsClass}
-use Rattle.papaya_owned.specs.Given.Points.Steps.{AreLawful}
-use Rattle.papaya_owned.specs.Given.Alone.Counted.{counted_at}
-use Rattle.papaya_owned.specs.Given.Late.Kinds.{MayPut, IsFit}
-use Rattle.papaya_owned.specs.Given.Callers.Kind.{Kind, computes, updates, updates_or_inserts, tries_to_insert_with, removes_if}
-use Rattle.papaya_owned.specs.Given.Callers.Pairs.{Given, Begun, IsTold}
-use Rattle.papaya_owned.specs.Given.Callers.Together.{IsBegun, Gets, Removes, Inserts, TriesToInsert, Computes, Updates, UpdatesOrInserts, TriesToInsertWith, RemovesIf}
+use Rattle.papaya_owned.specs.Given.RuleMaps.{IsClass}
+use Rattle.papaya_owned.specs.Given.PointsSteps.{AreLawful}
+use Rattle.papaya_owned.specs.Given.AloneCounted.{counted_at}
+use Rattle.papaya_owned.specs.Given.LateKinds.{MayPut, IsFit}
+use Rattle.papaya_owned.specs.Given.CallersKind.{Kind, computes, updates, updates_or_inserts, tries_to_insert_with, removes_if}
+use Rattle.papaya_owned.specs.Given.CallersPairs.{Given, Begun, IsTold}
+use Rattle.papaya_owned.specs.Given.CallersTogether.{IsBegun, Gets, Removes, Inserts, TriesToInsert, Computes, Updates, UpdatesOrInserts, TriesToInsertWith, RemovesIf}
 use Rattle.papaya_asks.proofs.Asks.Undisturbed.{Undisturbed}
 
 module _ {K V Q : Type 0} (same : K → K → Bool) (hash : K → ℕ) (asks : Q → K → Bool) (setting : Setting) (slot : ℕ → ℕ) (lawful : AreLawful same hash) where

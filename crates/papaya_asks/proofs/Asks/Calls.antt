@@ -12,7 +12,7 @@ use Rattle.papaya_raw.specs.declared.machines.answer.There.TheVariants as there
 use Rattle.papaya_raw.specs.declared.machines.asking.Reply.{Reply}
 use Rattle.papaya_raw.specs.declared.machines.asking.Reply.TheVariants as reply
 use Rattle.papaya_raw.specs.declared.machines.asking.Takes.TheVariants as takes
-use Rattle.papaya_owned.specs.Given.Callers.Kind.{Kind}
+use Rattle.papaya_owned.specs.Given.CallersKind.{Kind}
 use Rattle.papaya_asks.specs.Asking.{meant, IsTaken, AnswersAs, RefusedAs, Unasked, ToldThis}
 use Rattle.papaya_asks.specs.Closures.{Removing}
 use Rattle.papaya_owned.specs.Owned.{NamesAPair, IsWordOf, found_by}

@@ -13,9 +13,9 @@ use Rattle.papaya_raw.specs.declared.machines.answer.Missing.TheVariants as miss
 use Rattle.papaya_raw.specs.declared.machines.answer.There.TheVariants as there
 use Rattle.papaya_raw.specs.declared.machines.asking.Reply.{Reply}
 use Rattle.papaya_raw.specs.declared.machines.asking.Reply.TheVariants as reply
-use Rattle.papaya_owned.specs.Given.Callers.Kind.{Kind}
-use Rattle.papaya_owned.specs.Given.Late.Faults.{IsRoom}
-use Rattle.papaya_owned.specs.Given.Shown.Chain.{CannotGrowIn}
+use Rattle.papaya_owned.specs.Given.CallersKind.{Kind}
+use Rattle.papaya_owned.specs.Given.LateFaults.{IsRoom}
+use Rattle.papaya_owned.specs.Given.ShownChain.{CannotGrowIn}
 use Rattle.papaya_asks.specs.Asking.{meant, AnswersAs, RefusedAs, EndsAs, Pauses, AsksOf, StartsAs, ToldThis, HasKeyBack}
 use Rattle.papaya_asks.specs.Closures.{ComesTo, ComesToWith}
 use Rattle.papaya_owned.specs.Owned.{Holds, IsWordOf, found_by}

@@ -4,7 +4,7 @@ use Rattle.std.proofs.Common.{refl, sym, ◌∙◌, ap, subst, inl, inr}
 use denote.Ref.{Bor}
 use Rattle.seize_words.specs.Mem.{Mem}
 use Rattle.seize_words.specs.Plan.{Plan}
-use Rattle.papaya_owned.specs.Given.Seize.declared.progress.Progress.{Progress}
+use Rattle.papaya_owned.specs.Given.SeizeDeclared.progress.Progress.{Progress}
 use Rattle.seize_words.specs.declared.fault.Fault.{Fault}
 use Rattle.seize_words.specs.declared.fault.Fault.TheVariants.{RemoveNothing}
 use Rattle.papaya_tables.specs.declared.node.Node.{Node}
@@ -14,12 +14,12 @@ use Rattle.papaya_raw.specs.declared.machines.answer.KeyAnswer.{KeyAnswer}
 use Rattle.papaya_raw.specs.declared.machines.answer.KeyAnswer.TheVariants as answers
 use Rattle.papaya_raw.specs.declared.machines.call.KeyCall.{KeyCall}
 use Rattle.papaya_raw.specs.declared.machines.call.Calling.TheVariants as at
-use Rattle.papaya_owned.specs.Given.Late.Faults.{IsRoom}
-use Rattle.papaya_owned.specs.Given.Late.Kinds.{FaultFits, TellsFit}
+use Rattle.papaya_owned.specs.Given.LateFaults.{IsRoom}
+use Rattle.papaya_owned.specs.Given.LateKinds.{FaultFits, TellsFit}
 use Rattle.papaya_raw.specs.declared.machines.answer.Called.TheVariants as called
-use Rattle.papaya_owned.specs.Given.Callers.Kind.{Kind}
-use Rattle.papaya_owned.specs.Given.Callers.Pairs.{IsTold, RemovesNone}
-use Rattle.papaya_owned.specs.Given.Callers.Together.{IsBegun}
+use Rattle.papaya_owned.specs.Given.CallersKind.{Kind}
+use Rattle.papaya_owned.specs.Given.CallersPairs.{IsTold, RemovesNone}
+use Rattle.papaya_owned.specs.Given.CallersTogether.{IsBegun}
 use Rattle.papaya_asks.specs.Asking.{AnswersAs, Pauses, AsksOf, Unasked, StartsAs, HasKeyBack, HasPairBack}
 use Rattle.papaya_owned.specs.Ending.{Ends, RunsTo}
 use Rattle.papaya_owned.specs.Machines.{on_key_plan}

@@ -10,7 +10,7 @@ use Rattle.papaya_raw.specs.declared.machines.answer.KeyAnswer.{KeyAnswer}
 use Rattle.papaya_raw.specs.declared.machines.asking.Reply.{Reply}
 use Rattle.papaya_raw.specs.declared.machines.asking.Reply.TheVariants as reply
 use Rattle.papaya_raw.specs.declared.machines.call.KeyCall.{KeyCall}
-use Rattle.papaya_owned.specs.Given.Callers.Kind.{Kind}
+use Rattle.papaya_owned.specs.Given.CallersKind.{Kind}
 use Rattle.papaya_asks.specs.Asking.{IsTaken, AnswersAs, RefusedAs, Pauses, ToldThis, HasKeyBack, HasPairBack}
 use Rattle.papaya_owned.specs.Ending.{Ends, RunsTo}
 use Rattle.papaya_owned.specs.Machines.{on_key_plan}

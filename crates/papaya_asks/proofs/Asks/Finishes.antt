@@ -19,21 +19,21 @@ use Rattle.papaya_raw.specs.declared.machines.asking.Takes.{Takes}
 use Rattle.papaya_raw.specs.declared.machines.asking.Takes.TheVariants as takes
 use Rattle.papaya_raw.specs.declared.machines.call.KeyCall.{KeyCall}
 use Rattle.papaya_raw.specs.declared.machines.call.Calling.TheVariants as at
-use Rattle.papaya_owned.specs.Given.Rule.Chart.{Chart}
-use Rattle.papaya_owned.specs.Given.Rule.Words.{Blocks}
-use Rattle.papaya_owned.specs.Given.Alone.Counted.{HasAdded}
-use Rattle.papaya_owned.specs.Given.Late.Faults.{IsRoom}
-use Rattle.papaya_owned.specs.Given.Late.Kinds.{FaultFits, FitsAt}
-use Rattle.papaya_owned.proofs.Given.Late.KindsKept.Laws.{replies_keep_the_kind}
-use Rattle.papaya_owned.proofs.Given.Late.KindsKept.Rooms.Calling.{key_told_as}
-use Rattle.papaya_owned.specs.Given.Callers.Asked.{last_told}
-use Rattle.papaya_owned.specs.Given.Callers.Kind.{Kind}
-use Rattle.papaya_owned.specs.Given.Callers.Pairs.{Given, IsTold, and_told}
-use Rattle.papaya_owned.specs.Given.Callers.Sights.{seen_by}
-use Rattle.papaya_owned.specs.Given.Callers.Together.{CallOnKey, AsksAbout, RepliesTaken, OnKey as OnKeyOf}
-use Rattle.papaya_owned.specs.Given.Whole.Limits.{IsForTheLast, IsTheLast}
-use Rattle.papaya_owned.specs.Given.Whole.Owner.{IsAlone}
-use Rattle.papaya_owned.proofs.Given.Whole.Keys.Replies.{replies_lead_on, replies_count_nothing}
+use Rattle.papaya_owned.specs.Given.RuleChart.{Chart}
+use Rattle.papaya_owned.specs.Given.RuleWords.{Blocks}
+use Rattle.papaya_owned.specs.Given.AloneCounted.{HasAdded}
+use Rattle.papaya_owned.specs.Given.LateFaults.{IsRoom}
+use Rattle.papaya_owned.specs.Given.LateKinds.{FaultFits, FitsAt}
+use Rattle.papaya_owned.proofs.Given.LateKindsKept.Laws.{replies_keep_the_kind}
+use Rattle.papaya_owned.proofs.Given.LateKindsKept.Rooms.Calling.{key_told_as}
+use Rattle.papaya_owned.specs.Given.CallersAsked.{last_told}
+use Rattle.papaya_owned.specs.Given.CallersKind.{Kind}
+use Rattle.papaya_owned.specs.Given.CallersPairs.{Given, IsTold, and_told}
+use Rattle.papaya_owned.specs.Given.CallersSights.{seen_by}
+use Rattle.papaya_owned.specs.Given.CallersTogether.{CallOnKey, AsksAbout, RepliesTaken, OnKey as OnKeyOf}
+use Rattle.papaya_owned.specs.Given.WholeLimits.{IsForTheLast, IsTheLast}
+use Rattle.papaya_owned.specs.Given.WholeOwner.{IsAlone}
+use Rattle.papaya_owned.proofs.Given.WholeKeys.Replies.{replies_lead_on, replies_count_nothing}
 use Rattle.papaya_asks.specs.Asking.{IsTaken, AnswersAs, RefusedAs, Pauses, AsksOf, StartsAs, ToldThis, HasKeyBack, HasPairBack}
 use Rattle.papaya_owned.specs.Ending.{Ends, RunsTo}
 use Rattle.papaya_owned.specs.Machines.{on_key_plan}

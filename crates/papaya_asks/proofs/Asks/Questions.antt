@@ -13,14 +13,14 @@ use Rattle.papaya_raw.specs.declared.machines.asking.Asking.{Asking}
 use Rattle.papaya_raw.specs.declared.machines.asking.Asking.TheVariants as asking
 use Rattle.papaya_raw.specs.declared.machines.call.KeyCall.{KeyCall}
 use Rattle.papaya_raw.specs.declared.machines.call.Calling.TheVariants as at
-use Rattle.papaya_owned.specs.Given.Rule.Words.{Blocks}
-use Rattle.papaya_owned.specs.Given.Points.FactsCalls.{Unchanged, Seeks}
-use Rattle.papaya_owned.specs.Given.Points.Told.{HasAnswered, IsRowOfCall}
-use Rattle.papaya_owned.specs.Given.Callers.Pairs.{Given}
-use Rattle.papaya_owned.specs.Given.Callers.Since.{SoSince}
-use Rattle.papaya_owned.specs.Given.Callers.Together.{in_slot}
-use Rattle.papaya_owned.specs.Given.Whole.Contents.{HasRun}
-use Rattle.papaya_owned.proofs.Given.Whole.Keys.Own as own
+use Rattle.papaya_owned.specs.Given.RuleWords.{Blocks}
+use Rattle.papaya_owned.specs.Given.PointsFactsCalls.{Unchanged, Seeks}
+use Rattle.papaya_owned.specs.Given.PointsTold.{HasAnswered, IsRowOfCall}
+use Rattle.papaya_owned.specs.Given.CallersPairs.{Given}
+use Rattle.papaya_owned.specs.Given.CallersSince.{SoSince}
+use Rattle.papaya_owned.specs.Given.CallersTogether.{in_slot}
+use Rattle.papaya_owned.specs.Given.WholeContents.{HasRun}
+use Rattle.papaya_owned.proofs.Given.WholeKeys.Own as own
 use Rattle.papaya_owned.specs.Owned.{Holds, IsWordOf}
 use Rattle.papaya_owned.specs.declared.machines.OnKey.{OnKey}
 use Rattle.papaya_owned.proofs.Owned.Answered as by

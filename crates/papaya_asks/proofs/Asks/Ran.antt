@@ -10,8 +10,8 @@ use Rattle.papaya_raw.specs.CallAsks.{replied}
 use Rattle.papaya_raw.specs.declared.machines.answer.KeyAnswer.{KeyAnswer}
 use Rattle.papaya_raw.specs.declared.machines.asking.Reply.{Reply}
 use Rattle.papaya_raw.specs.declared.machines.call.KeyCall.{KeyCall}
-use Rattle.papaya_owned.specs.Given.Callers.Pairs.{Given}
-use Rattle.papaya_owned.specs.Given.Callers.Together.{IsBegun}
+use Rattle.papaya_owned.specs.Given.CallersPairs.{Given}
+use Rattle.papaya_owned.specs.Given.CallersTogether.{IsBegun}
 use Rattle.papaya_owned.specs.Calling.{IsCalling, HasStopped, StopsTold, begun, asked}
 use Rattle.papaya_owned.specs.Ending.{RunsTo}
 use Rattle.papaya_owned.specs.Machines.{on_key_plan}

@@ -6,16 +6,16 @@ use Rattle.seize_words.specs.Op.{Found, Stored, Exchanged, Made, Taken, Roomed}
 use Rattle.seize_words.specs.Plan.{Plan, Steps}
 use Rattle.seize_words.specs.declared.fault.Fault.{Fault}
 use Rattle.seize_words.specs.declared.fault.Fault.TheVariants.{RemoveNothing}
-use Rattle.papaya_owned.specs.Given.Seize.declared.progress.Progress.{Progress}
-use Rattle.papaya_owned.specs.Given.Seize.declared.progress.Progress.TheVariants as progress
-use Rattle.papaya_owned.specs.Given.Seize.declared.rows.settle.Settled.{Settled}
-use Rattle.papaya_owned.specs.Given.Seize.declared.rows.settle.Settled.TheVariants as settled
-use Rattle.papaya_owned.proofs.Given.SeizeRule.Rows.Leaving.{steps_back}
+use Rattle.papaya_owned.specs.Given.SeizeDeclared.progress.Progress.{Progress}
+use Rattle.papaya_owned.specs.Given.SeizeDeclared.progress.Progress.TheVariants as progress
+use Rattle.papaya_owned.specs.Given.SeizeDeclared.rows.settle.Settled.{Settled}
+use Rattle.papaya_owned.specs.Given.SeizeDeclared.rows.settle.Settled.TheVariants as settled
+use Rattle.papaya_owned.proofs.Given.SeizeRuleRows.Leaving.{steps_back}
 use Rattle.papaya_tables.specs.declared.marks.TheConstants.{TOMBSTONE}
 use Rattle.papaya_tables.specs.declared.node.Node.{Node}
 use Rattle.papaya_tables.specs.declared.setting.Setting.{Setting}
-use Rattle.papaya_owned.specs.Given.Resize.Dispose.{disposing, dispose_plan}
-use Rattle.papaya_owned.specs.Given.Resize.declared.dispose.Dispose.{Dispose}
+use Rattle.papaya_owned.specs.Given.ResizeDispose.{disposing, dispose_plan}
+use Rattle.papaya_owned.specs.Given.ResizeDeclared.dispose.Dispose.{Dispose}
 use Rattle.papaya_raw.specs.Call.{call_plan, counts, disposed, plan_at, tries}
 use Rattle.papaya_raw.specs.CallAsks.{with_present, absent_told, present_told, told_at, replied}
 use Rattle.papaya_raw.specs.CallPoints.{going, over, ending, burying, changed, counted}
@@ -36,9 +36,9 @@ use Rattle.papaya_raw.specs.declared.machines.asking.Told.TheVariants as tells
 use Rattle.papaya_raw.specs.declared.machines.call.KeyCall.{KeyCall}
 use Rattle.papaya_raw.specs.declared.machines.call.Calling.{Calling}
 use Rattle.papaya_raw.specs.declared.machines.call.Calling.TheVariants as at
-use Rattle.papaya_owned.proofs.Given.Rule.Keys.Always.{always_plan_as, always_steps}
-use Rattle.papaya_owned.specs.Given.Callers.Kind.{Kind}
-use Rattle.papaya_owned.specs.Given.Late.Faults.{IsRoom}
+use Rattle.papaya_owned.proofs.Given.RuleKeys.Always.{always_plan_as, always_steps}
+use Rattle.papaya_owned.specs.Given.CallersKind.{Kind}
+use Rattle.papaya_owned.specs.Given.LateFaults.{IsRoom}
 use Rattle.papaya_asks.specs.Asking.{IsTaken, MayRefuse, Pauses, ToldThis, ToldCallsRefuse}
 use Rattle.papaya_owned.specs.Ending.{GoesOn, Tells, RunsTo, stops, goes}
 use Rattle.papaya_owned.specs.Machines.{on_key_after, on_key_plan}

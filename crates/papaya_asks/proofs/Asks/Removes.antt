@@ -8,10 +8,10 @@ use Rattle.papaya_tables.specs.declared.node.Node.{Node}
 use Rattle.papaya_tables.specs.declared.setting.Setting.{Setting}
 use Rattle.papaya_raw.specs.CallPoints.{removing}
 use Rattle.papaya_raw.specs.declared.machines.call.KeyCall.{KeyCall}
-use Rattle.papaya_owned.specs.Given.Rule.Maps.{IsClass}
-use Rattle.papaya_owned.specs.Given.Callers.Kind.{removes}
-use Rattle.papaya_owned.specs.Given.Callers.Pairs.{Begun}
-use Rattle.papaya_owned.specs.Given.Callers.Together.{IsBegun, Removes}
+use Rattle.papaya_owned.specs.Given.RuleMaps.{IsClass}
+use Rattle.papaya_owned.specs.Given.CallersKind.{removes}
+use Rattle.papaya_owned.specs.Given.CallersPairs.{Begun}
+use Rattle.papaya_owned.specs.Given.CallersTogether.{IsBegun, Removes}
 use Rattle.papaya_owned.specs.Calling.{HasStopped}
 use Rattle.papaya_owned.specs.Ending.{Ends, RunsTo}
 use Rattle.papaya_owned.specs.Machines.{on_key_plan}

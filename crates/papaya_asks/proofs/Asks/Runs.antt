@@ -4,7 +4,7 @@ use Rattle.std.proofs.Common.{◌≡◌, ap, inl, inr}
 use Rattle.seize_words.specs.Mem.{Mem, Took, value_at}
 use Rattle.seize_words.specs.Plan.{Plan, Steps}
 use Rattle.seize_words.specs.declared.fault.Fault.{Fault}
-use Rattle.papaya_owned.specs.Given.Seize.declared.progress.Progress.{Progress}
+use Rattle.papaya_owned.specs.Given.SeizeDeclared.progress.Progress.{Progress}
 use Rattle.papaya_tables.specs.declared.node.Node.{Node}
 use Rattle.papaya_tables.specs.declared.node.Node.TheVariants as node
 use Rattle.papaya_raw.specs.Call.{call_plan}

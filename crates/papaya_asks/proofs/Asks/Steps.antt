@@ -12,9 +12,9 @@ use Rattle.papaya_tables.specs.Finding.{may_name, finding}
 use Rattle.papaya_tables.specs.declared.finding.Finding.TheVariants as finds
 use Rattle.papaya_tables.specs.declared.node.Node.{Node}
 use Rattle.papaya_tables.specs.declared.node.Node.TheVariants as node
-use Rattle.papaya_owned.specs.Given.Resize.Copier.{copier_plan}
-use Rattle.papaya_owned.specs.Given.Resize.Dispose.{dispose_plan}
-use Rattle.papaya_owned.specs.Given.Resize.NewTable.{new_table_plan}
+use Rattle.papaya_owned.specs.Given.ResizeCopier.{copier_plan}
+use Rattle.papaya_owned.specs.Given.ResizeDispose.{dispose_plan}
+use Rattle.papaya_owned.specs.Given.ResizeNewTable.{new_table_plan}
 use Rattle.papaya_raw.specs.declared.machines.answer.Called.{Called}
 use Rattle.papaya_raw.specs.declared.machines.answer.End.{End}
 use Rattle.papaya_raw.specs.declared.machines.answer.End.TheVariants as ends
@@ -23,7 +23,7 @@ use Rattle.papaya_raw.specs.declared.machines.asking.Asking.TheVariants as askin
 use Rattle.papaya_raw.specs.declared.machines.call.KeyCall.{KeyCall}
 use Rattle.papaya_raw.specs.declared.machines.call.Calling.{Calling}
 use Rattle.papaya_raw.specs.declared.machines.call.Calling.TheVariants as at
-use Rattle.papaya_owned.proofs.Given.Rule.Keys.Always.{Always, AlwaysOf, always_if, always_ends, always_plan_as, always_steps}
+use Rattle.papaya_owned.proofs.Given.RuleKeys.Always.{Always, AlwaysOf, always_if, always_ends, always_plan_as, always_steps}
 use Rattle.papaya_asks.proofs.Asks.Undisturbed.{AsksThere, AsksMissing, AsksFor, word_made, free_is, IsBare, WordIs, IsToFill, Undisturbed, UndisturbedAt, StaysSo, stays_counted, stays_disposed, stays_changed, stays_tableless, stays_last, stays_told, stays_entering, stays_on, stays_first, stays_next, stays_helped, stays_copied}
 
 module _ {K V Q : Type 0} (its : Option K) (known value : Option V) (seeks : Bool) (has_key : (v : V) → known ≡ Some v → (value ≡ Some v) × (k : K) × (its ≡ Some k))

@@ -9,7 +9,7 @@ use Rattle.papaya_raw.specs.declared.machines.asking.Reply.{Reply}
 use Rattle.papaya_raw.specs.declared.machines.asking.Reply.TheVariants as reply
 use Rattle.papaya_raw.specs.declared.machines.asking.Takes.{Takes}
 use Rattle.papaya_raw.specs.declared.machines.asking.Takes.TheVariants as takes
-use Rattle.papaya_owned.specs.Given.Callers.Asked.{Asked, last_told, LeavesPair, LeavesNone}
+use Rattle.papaya_owned.specs.Given.CallersAsked.{Asked, last_told, LeavesPair, LeavesNone}
 use Rattle.papaya_asks.specs.Asking.{meant}
 
 -- the only thing that it was told, about this

@@ -8,10 +8,10 @@ use Rattle.seize_words.specs.Word.{block_in}
 use Rattle.seize_words.specs.Mem.{Mem, word_at, word_in, block_of, fresh, IsFreeNumber, after}
 use Rattle.seize_words.specs.Op.{Make, Made}
 use Rattle.seize_words.proofs.OneOwner.AfterWrites.{block_of-made}
-use Rattle.papaya_owned.specs.Given.Seize.declared.progress.Progress.{Progress}
-use Rattle.papaya_owned.specs.Given.Seize.declared.progress.Progress.TheVariants as progress
-use Rattle.papaya_owned.specs.Given.Seize.declared.rows.settle.Settled.{Settled}
-use Rattle.papaya_owned.specs.Given.Seize.declared.rows.settle.Settled.TheVariants as settled
+use Rattle.papaya_owned.specs.Given.SeizeDeclared.progress.Progress.{Progress}
+use Rattle.papaya_owned.specs.Given.SeizeDeclared.progress.Progress.TheVariants as progress
+use Rattle.papaya_owned.specs.Given.SeizeDeclared.rows.settle.Settled.{Settled}
+use Rattle.papaya_owned.specs.Given.SeizeDeclared.rows.settle.Settled.TheVariants as settled
 use Rattle.papaya_raw.specs.Call.{first_made, next_made, disposed, helped, copied}
 use Rattle.papaya_raw.specs.CallPoints.{going, standing, over, ending, following_made, storing, at_gap, gap_by, asking_at, pair_by, tableless, at_free, at_last, at_pair, told_of, entering, went_on, changed, counted, having_met}
 use Rattle.papaya_raw.specs.Replies.{value_told, value_for}
@@ -27,13 +27,13 @@ use Rattle.papaya_tables.specs.declared.node.Node.{Node}
 use Rattle.papaya_tables.specs.declared.node.Node.TheVariants as node
 use Rattle.papaya_tables.specs.declared.resize_mode.ResizeMode.{ResizeMode}
 use Rattle.papaya_tables.specs.declared.table.Table.{Table}
-use Rattle.papaya_owned.specs.Given.Resize.CopierStates.{copying_all}
-use Rattle.papaya_owned.specs.Given.Resize.Dispose.{disposing}
-use Rattle.papaya_owned.specs.Given.Resize.declared.copier.Copier.{Copier}
-use Rattle.papaya_owned.specs.Given.Resize.declared.dispose.Dispose.{Dispose}
-use Rattle.papaya_owned.specs.Given.Resize.declared.new_table.NewTable.{NewTable}
-use Rattle.papaya_owned.specs.Given.Resize.declared.outcome.Outcome.{Outcome}
-use Rattle.papaya_owned.specs.Given.Resize.declared.outcome.Outcome.TheVariants as outcome
+use Rattle.papaya_owned.specs.Given.ResizeCopierStates.{copying_all}
+use Rattle.papaya_owned.specs.Given.ResizeDispose.{disposing}
+use Rattle.papaya_owned.specs.Given.ResizeDeclared.copier.Copier.{Copier}
+use Rattle.papaya_owned.specs.Given.ResizeDeclared.dispose.Dispose.{Dispose}
+use Rattle.papaya_owned.specs.Given.ResizeDeclared.new_table.NewTable.{NewTable}
+use Rattle.papaya_owned.specs.Given.ResizeDeclared.outcome.Outcome.{Outcome}
+use Rattle.papaya_owned.specs.Given.ResizeDeclared.outcome.Outcome.TheVariants as outcome
 use Rattle.papaya_raw.specs.declared.machines.answer.KeyAnswer.{KeyAnswer}
 use Rattle.papaya_raw.specs.declared.machines.answer.KeyAnswer.TheVariants as answers
 use Rattle.papaya_raw.specs.declared.machines.answer.Called.{Called}
@@ -53,8 +53,8 @@ use Rattle.papaya_raw.specs.declared.machines.asking.Told.TheVariants as tells
 use Rattle.papaya_raw.specs.declared.machines.call.KeyCall.{KeyCall}
 use Rattle.papaya_raw.specs.declared.machines.call.Calling.{Calling}
 use Rattle.papaya_raw.specs.declared.machines.call.Calling.TheVariants as at
-use Rattle.papaya_owned.specs.Given.Points.Steps.{told_first}
-use Rattle.papaya_owned.proofs.Given.Points.Calls.Asked.{passed_so}
+use Rattle.papaya_owned.specs.Given.PointsSteps.{told_first}
+use Rattle.papaya_owned.proofs.Given.PointsCalls.Asked.{passed_so}
 use Rattle.papaya_owned.proofs.Owned.HandsBack.{IsOver}
 
 -- where the key is there it asks, or answers with the pair

@@ -1,19 +1,19 @@
 -- Wherever a run has come, what is behind the roots is what the moment says is left over, in that order.
 use Rattle.std.specs.Prelude.{◌≡◌, ◌<◌, ◌||◌, ℕ, Bool, true, false, List}
 use Rattle.std.proofs.Common.{refl, sym, subst, ◌∙◌}
-use Rattle.papaya_values.specs.Given.Moments.Numbers.{AreFound}
-use Rattle.papaya_values.specs.Given.Schedules.After.{moment}
-use Rattle.papaya_values.specs.Given.Schedules.Entry.{Entry}
-use Rattle.papaya_values.specs.Given.Schedules.Lists.{is_among}
-use Rattle.papaya_values.specs.Given.Schedules.Moment.{Moment}
-use Rattle.papaya_values.specs.Given.Schedules.Terms.{Terms}
-use Rattle.papaya_values.specs.Given.Effects.Known.{known}
-use Rattle.papaya_stepping.specs.Given.Legal.AllEvents.{BehindAreLeft, BehindIsLeft, LeftIsBehind}
-use Rattle.papaya_stepping.proofs.Given.Legal.BehindTold.{behind_is_told}
-use Rattle.papaya_stepping.specs.Given.Remains.Remains.{ShowsRemains, left_roots, map_roots}
-use Rattle.papaya_stepping.proofs.Given.Remains.InOrder.{all_noted}
-use Rattle.papaya_stepping.proofs.Given.Remains.Lists.{among_append}
-use Rattle.papaya_stepping.specs.Given.Scheduler.declared.scheduler.Scheduler.{Scheduler}
+use Rattle.papaya_values.specs.Given.MomentsNumbers.{AreFound}
+use Rattle.papaya_values.specs.Given.SchedulesAfter.{moment}
+use Rattle.papaya_values.specs.Given.SchedulesEntry.{Entry}
+use Rattle.papaya_values.specs.Given.SchedulesLists.{is_among}
+use Rattle.papaya_values.specs.Given.SchedulesMoment.{Moment}
+use Rattle.papaya_values.specs.Given.SchedulesTerms.{Terms}
+use Rattle.papaya_values.specs.Given.EffectsKnown.{known}
+use Rattle.papaya_stepping.specs.Given.LegalAllEvents.{BehindAreLeft, BehindIsLeft, LeftIsBehind}
+use Rattle.papaya_stepping.proofs.Given.LegalBehindTold.{behind_is_told}
+use Rattle.papaya_stepping.specs.Given.RemainsRemains.{ShowsRemains, left_roots, map_roots}
+use Rattle.papaya_stepping.proofs.Given.RemainsInOrder.{all_noted}
+use Rattle.papaya_stepping.proofs.Given.RemainsLists.{among_append}
+use Rattle.papaya_stepping.specs.Given.SchedulerDeclared.scheduler.Scheduler.{Scheduler}
 use Rattle.papaya_events.specs.OfCalls.{Runs}
 use Rattle.papaya_events.proofs.Remaining.{noted_at}
 

@@ -1,29 +1,29 @@
 -- The steps by which all was reclaimed are a chain of steps from the scene in which that began.
 use Rattle.std.specs.Prelude.{◌≡◌, ◌++◌, ℕ, zero, suc, Bool, true, false, List, None, option_map}
 use Rattle.std.proofs.Common.{refl, ap, subst, ◌∙◌}
-use Rattle.papaya_stepping.specs.Given.Seize.declared.rows.reclaim_all.ReclaimAll.{ReclaimAll}
-use Rattle.papaya_stepping.specs.Given.Seize.declared.rows.settle.Settled.{Settled}
-use Rattle.papaya_stepping.specs.Given.Seize.declared.rows.settle.Settled.TheVariants as settled
-use Rattle.papaya_stepping.specs.Given.Tables.declared.node.Node.{Node}
-use Rattle.papaya_values.specs.Given.Effects.Effects.{effects_of, known_after}
-use Rattle.papaya_values.specs.Given.Effects.declared.acting.Acting.TheVariants as acts
-use Rattle.papaya_values.specs.Given.Schedules.declared.effect.Effect.{Effect}
-use Rattle.papaya_values.specs.Given.Schedules.Effects.{with_effects}
-use Rattle.papaya_values.specs.Given.Schedules.Moment.{Moment}
-use Rattle.papaya_values.specs.Given.Schedules.Terms.{Terms}
-use Rattle.papaya_values.specs.Given.Effects.Known.{known}
-use Rattle.papaya_values.specs.Given.Reclaims.Reclaims.{AllIsReclaimed}
-use Rattle.papaya_stepping.specs.Given.Reclaiming.Reclaiming.{IsReclaimingThere, ReclaimsThere}
-use Rattle.papaya_values.specs.Given.Scenes.Reclaiming.{ReclaimingComesToThere, ReclaimingLeads}
-use Rattle.papaya_stepping.proofs.Given.Logged.Held.{reclaim_held}
-use Rattle.papaya_stepping.specs.Given.Logged.Ends.{is_done}
-use Rattle.papaya_stepping.specs.Given.Logged.Goes.{Far, GoesFor, ReclaimingGoes, ReclaimingOn}
-use Rattle.papaya_stepping.proofs.Given.Logged.ReclaimsRun.{same_setting}
-use Rattle.papaya_stepping.specs.Given.Legal.AllEvents.{AllCome, AllSteps, scene_in}
-use Rattle.papaya_stepping.specs.Given.Legal.Chains.{Chain, Come}
+use Rattle.papaya_stepping.specs.Given.SeizeDeclared.rows.reclaim_all.ReclaimAll.{ReclaimAll}
+use Rattle.papaya_stepping.specs.Given.SeizeDeclared.rows.settle.Settled.{Settled}
+use Rattle.papaya_stepping.specs.Given.SeizeDeclared.rows.settle.Settled.TheVariants as settled
+use Rattle.papaya_stepping.specs.Given.TablesDeclared.node.Node.{Node}
+use Rattle.papaya_values.specs.Given.EffectsEffects.{effects_of, known_after}
+use Rattle.papaya_values.specs.Given.EffectsDeclared.acting.Acting.TheVariants as acts
+use Rattle.papaya_values.specs.Given.SchedulesDeclared.effect.Effect.{Effect}
+use Rattle.papaya_values.specs.Given.SchedulesEffects.{with_effects}
+use Rattle.papaya_values.specs.Given.SchedulesMoment.{Moment}
+use Rattle.papaya_values.specs.Given.SchedulesTerms.{Terms}
+use Rattle.papaya_values.specs.Given.EffectsKnown.{known}
+use Rattle.papaya_values.specs.Given.ReclaimsReclaims.{AllIsReclaimed}
+use Rattle.papaya_stepping.specs.Given.ReclaimingReclaiming.{IsReclaimingThere, ReclaimsThere}
+use Rattle.papaya_values.specs.Given.ScenesReclaiming.{ReclaimingComesToThere, ReclaimingLeads}
+use Rattle.papaya_stepping.proofs.Given.LoggedHeld.{reclaim_held}
+use Rattle.papaya_stepping.specs.Given.LoggedEnds.{is_done}
+use Rattle.papaya_stepping.specs.Given.LoggedGoes.{Far, GoesFor, ReclaimingGoes, ReclaimingOn}
+use Rattle.papaya_stepping.proofs.Given.LoggedReclaimsRun.{same_setting}
+use Rattle.papaya_stepping.specs.Given.LegalAllEvents.{AllCome, AllSteps, scene_in}
+use Rattle.papaya_stepping.specs.Given.LegalChains.{Chain, Come}
 use Rattle.papaya_events.proofs.OfRows.Chain.{come_as, come_by}
-use Rattle.papaya_stepping.specs.Given.Executor.IsThere.{IsThere, held_by}
-use Rattle.papaya_values.specs.Given.Scenes.Scene.{Scene}
+use Rattle.papaya_stepping.specs.Given.ExecutorIsThere.{IsThere, held_by}
+use Rattle.papaya_values.specs.Given.ScenesScene.{Scene}
 
 module _ {K V S : Type 0} where
   -- how far an event has come that has run so far, at this moment, in this scene, with these lists behind the roots

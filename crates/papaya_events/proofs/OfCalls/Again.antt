@@ -2,44 +2,44 @@
 use Rattle.std.specs.Prelude.{◌≡◌, ◌≤◌, ℕ, Bool, true, false, cond, List, [], ◌∷◌, filter, find, length, map, position, Some}
 use Rattle.std.specs.List.{AllByRecursion}
 use Rattle.std.proofs.Common.{refl, ap, sym, subst, ◌∙◌, arith}
-use Rattle.papaya_stepping.specs.Given.Raw.Machine.{machine_asked}
-use Rattle.papaya_stepping.specs.Given.Runs.Same.{is_same}
-use Rattle.papaya_values.specs.Given.Schedules.declared.event.Event.{Event}
-use Rattle.papaya_values.specs.Given.Schedules.declared.outcome.Outcome.{Outcome}
-use Rattle.papaya_values.specs.Given.Schedules.declared.outcome.Outcome.TheVariants.{Asks, Ready}
-use Rattle.papaya_values.specs.Given.Schedules.After.{moment, slots_on}
-use Rattle.papaya_values.specs.Given.Schedules.Entry.{Entry}
-use Rattle.papaya_values.specs.Given.Schedules.InTurn.{ComesRight}
-use Rattle.papaya_values.specs.Given.Schedules.Moment.{UnderWay as CallThere, Stands}
-use Rattle.papaya_values.specs.Given.Schedules.Terms.{Terms}
-use Rattle.papaya_values.specs.Given.Schedules.Views.{call_of}
-use Rattle.papaya_values.specs.Given.Effects.Known.{known}
-use Rattle.papaya_stepping.specs.Given.Finishes.Machines.{machine_of}
-use Rattle.papaya_values.specs.Given.Schedules.Moment.{Moment}
-use Rattle.papaya_values.specs.Given.Schedules.After.{after}
-use Rattle.papaya_values.specs.Given.Schedules.declared.event.Event.TheVariants.{Go, Step}
-use Rattle.papaya_stepping.specs.Given.Legal.CallEvents.{IsLegalBut}
-use Rattle.papaya_stepping.specs.Given.Legal.Carried.{ShowsRun}
-use Rattle.papaya_stepping.specs.Given.Legal.Over.{GoesOnBy, IsSaidSo}
-use Rattle.papaya_stepping.proofs.Given.Legal.Again.{again_events_end}
-use Rattle.papaya_values.specs.Given.Named.Machines.{IsAsFar}
-use Rattle.papaya_values.specs.Given.Named.Seen.{Seen, far_of, is_named, seen, seen_of}
-use Rattle.papaya_values.specs.Given.Named.declared.caller.Caller.{Caller}
-use Rattle.papaya_values.specs.Given.Named.declared.caller.Stands.{Stands as HowFar}
-use Rattle.papaya_values.specs.Given.Named.declared.caller.Stands.TheVariants as far
-use Rattle.papaya_stepping.specs.Given.Scheduler.Played.{IsPlayed, entry_of}
-use Rattle.papaya_stepping.specs.Given.Scheduler.declared.played.Played.{Played}
-use Rattle.papaya_stepping.specs.Given.Scheduler.declared.scheduler.Scheduler.{Scheduler}
-use Rattle.papaya_stepping.proofs.Given.Scheduler.Here.{Here, here_at}
-use Rattle.papaya_stepping.proofs.Given.Scheduler.Replied.{far_asks}
-use Rattle.papaya_stepping.proofs.Given.Scheduler.Rights.{entry_is}
-use Rattle.papaya_stepping.proofs.Given.Scheduler.Stopped.{asked_ready}
+use Rattle.papaya_stepping.specs.Given.RawMachine.{machine_asked}
+use Rattle.papaya_stepping.specs.Given.RunsSame.{is_same}
+use Rattle.papaya_values.specs.Given.SchedulesDeclared.event.Event.{Event}
+use Rattle.papaya_values.specs.Given.SchedulesDeclared.outcome.Outcome.{Outcome}
+use Rattle.papaya_values.specs.Given.SchedulesDeclared.outcome.Outcome.TheVariants.{Asks, Ready}
+use Rattle.papaya_values.specs.Given.SchedulesAfter.{moment, slots_on}
+use Rattle.papaya_values.specs.Given.SchedulesEntry.{Entry}
+use Rattle.papaya_values.specs.Given.SchedulesInTurn.{ComesRight}
+use Rattle.papaya_values.specs.Given.SchedulesMoment.{UnderWay as CallThere, Stands}
+use Rattle.papaya_values.specs.Given.SchedulesTerms.{Terms}
+use Rattle.papaya_values.specs.Given.SchedulesViews.{call_of}
+use Rattle.papaya_values.specs.Given.EffectsKnown.{known}
+use Rattle.papaya_stepping.specs.Given.FinishesMachines.{machine_of}
+use Rattle.papaya_values.specs.Given.SchedulesMoment.{Moment}
+use Rattle.papaya_values.specs.Given.SchedulesAfter.{after}
+use Rattle.papaya_values.specs.Given.SchedulesDeclared.event.Event.TheVariants.{Go, Step}
+use Rattle.papaya_stepping.specs.Given.LegalCallEvents.{IsLegalBut}
+use Rattle.papaya_stepping.specs.Given.LegalCarried.{ShowsRun}
+use Rattle.papaya_stepping.specs.Given.LegalOver.{GoesOnBy, IsSaidSo}
+use Rattle.papaya_stepping.proofs.Given.LegalAgain.{again_events_end}
+use Rattle.papaya_values.specs.Given.NamedMachines.{IsAsFar}
+use Rattle.papaya_values.specs.Given.NamedSeen.{Seen, far_of, is_named, seen, seen_of}
+use Rattle.papaya_values.specs.Given.NamedDeclared.caller.Caller.{Caller}
+use Rattle.papaya_values.specs.Given.NamedDeclared.caller.Stands.{Stands as HowFar}
+use Rattle.papaya_values.specs.Given.NamedDeclared.caller.Stands.TheVariants as far
+use Rattle.papaya_stepping.specs.Given.SchedulerPlayed.{IsPlayed, entry_of}
+use Rattle.papaya_stepping.specs.Given.SchedulerDeclared.played.Played.{Played}
+use Rattle.papaya_stepping.specs.Given.SchedulerDeclared.scheduler.Scheduler.{Scheduler}
+use Rattle.papaya_stepping.proofs.Given.SchedulerHere.{Here, here_at}
+use Rattle.papaya_stepping.proofs.Given.SchedulerReplied.{far_asks}
+use Rattle.papaya_stepping.proofs.Given.SchedulerRights.{entry_is}
+use Rattle.papaya_stepping.proofs.Given.SchedulerStopped.{asked_ready}
 use Rattle.papaya_stepping.specs.Stepping.{SaysAgain}
 use Rattle.papaya_stepping.proofs.Again.{far_ready}
 use Rattle.papaya_events.proofs.OfCalls.Worth.{SaidIn, event_says}
 use Rattle.papaya_events.specs.OfCalls.{Runs, RunsOn}
 use Rattle.papaya_events.proofs.OfCalls.AsBefore.{as_before}
-use Rattle.papaya_stepping.specs.Given.Executor.IsThere.{held_by}
+use Rattle.papaya_stepping.specs.Given.ExecutorIsThere.{held_by}
 
 -- Who has a name that one caller has at most is as far as that caller.
 

@@ -3,31 +3,31 @@ use Rattle.std.specs.Prelude.{◌≡◌, ◌≢◌, ◌<◌, ◌≤◌, ◌^◌,
 use Rattle.std.specs.List.{AllByRecursion, list_all, list_any}
 use Rattle.std.proofs.Common.{refl, ap, sym, subst, ◌∙◌, inl, inr}
 use Rattle.std.proofs.lemmas.Bool.{eqb-true}
-use Rattle.papaya_stepping.specs.Given.SeizeWaiting.Held.{count}
-use Rattle.papaya_stepping.specs.Given.Seize.World.{IsInside, Rests, Use}
-use Rattle.papaya_stepping.specs.Given.Runs.Present.{guard_of, living_slot}
-use Rattle.papaya_stepping.specs.Given.Runs.Same.{is_same}
-use Rattle.papaya_values.specs.Given.Schedules.declared.event.Event.{Event}
-use Rattle.papaya_values.specs.Given.Schedules.After.{is_by, moment}
-use Rattle.papaya_values.specs.Given.Schedules.Entry.{Entry, speaker}
-use Rattle.papaya_values.specs.Given.Schedules.Model.{sets_in}
-use Rattle.papaya_values.specs.Given.Schedules.Terms.{Terms}
-use Rattle.papaya_stepping.specs.Given.Callers.Together.{UnderWay}
-use Rattle.papaya_values.specs.Given.Effects.Known.{known}
-use Rattle.papaya_values.specs.Given.Scenes.declared.row.SlotUse.{SlotUse}
-use Rattle.papaya_values.specs.Given.Scenes.declared.row.SlotUse.TheVariants as used
-use Rattle.papaya_stepping.proofs.Given.Models.Quiet.{insides_follow}
-use Rattle.papaya_stepping.specs.Given.Legal.Carried.{ComesAlone, FollowsOrRows}
-use Rattle.papaya_stepping.proofs.Given.Rows.Facts.{row_rests}
-use Rattle.papaya_stepping.proofs.Given.Rows.Lists.{all_alike, one_of}
-use Rattle.papaya_stepping.proofs.Given.Rows.There.{is_inside, on_its_slot}
-use Rattle.papaya_stepping.specs.Given.Scheduler.Played.{IsPlayed, IsUnderWay}
-use Rattle.papaya_values.specs.Given.Named.Seen.{Seen, is_named, seen, seen_of}
-use Rattle.papaya_values.specs.Given.Named.declared.caller.Caller.{Caller}
-use Rattle.papaya_stepping.specs.Given.Scheduler.declared.scheduler.Scheduler.{Scheduler}
+use Rattle.papaya_stepping.specs.Given.SeizeWaitingHeld.{count}
+use Rattle.papaya_stepping.specs.Given.SeizeWorld.{IsInside, Rests, Use}
+use Rattle.papaya_stepping.specs.Given.RunsPresent.{guard_of, living_slot}
+use Rattle.papaya_stepping.specs.Given.RunsSame.{is_same}
+use Rattle.papaya_values.specs.Given.SchedulesDeclared.event.Event.{Event}
+use Rattle.papaya_values.specs.Given.SchedulesAfter.{is_by, moment}
+use Rattle.papaya_values.specs.Given.SchedulesEntry.{Entry, speaker}
+use Rattle.papaya_values.specs.Given.SchedulesModel.{sets_in}
+use Rattle.papaya_values.specs.Given.SchedulesTerms.{Terms}
+use Rattle.papaya_stepping.specs.Given.CallersTogether.{UnderWay}
+use Rattle.papaya_values.specs.Given.EffectsKnown.{known}
+use Rattle.papaya_values.specs.Given.ScenesDeclared.row.SlotUse.{SlotUse}
+use Rattle.papaya_values.specs.Given.ScenesDeclared.row.SlotUse.TheVariants as used
+use Rattle.papaya_stepping.proofs.Given.ModelsQuiet.{insides_follow}
+use Rattle.papaya_stepping.specs.Given.LegalCarried.{ComesAlone, FollowsOrRows}
+use Rattle.papaya_stepping.proofs.Given.RowsFacts.{row_rests}
+use Rattle.papaya_stepping.proofs.Given.RowsLists.{all_alike, one_of}
+use Rattle.papaya_stepping.proofs.Given.RowsThere.{is_inside, on_its_slot}
+use Rattle.papaya_stepping.specs.Given.SchedulerPlayed.{IsPlayed, IsUnderWay}
+use Rattle.papaya_values.specs.Given.NamedSeen.{Seen, is_named, seen, seen_of}
+use Rattle.papaya_values.specs.Given.NamedDeclared.caller.Caller.{Caller}
+use Rattle.papaya_stepping.specs.Given.SchedulerDeclared.scheduler.Scheduler.{Scheduler}
 use Rattle.papaya_events.proofs.OfCalls.InRows.{insides_follow_in_rows}
-use Rattle.papaya_stepping.specs.Given.Executor.IsThere.{IsUsedAs}
-use Rattle.papaya_values.specs.Given.Scenes.Scene.{slot_of}
+use Rattle.papaya_stepping.specs.Given.ExecutorIsThere.{IsUsedAs}
+use Rattle.papaya_values.specs.Given.ScenesScene.{slot_of}
 
 both : (a b : Bool) → (a && b) ≡ true → (a ≡ true) × (b ≡ true)
 both true b is = (refl, is)

@@ -1,51 +1,51 @@
 -- What a step of a call on one key answers is told as the call means, as its caller keeps the value that it is to tell back; and what it asks, by the number of the pair about which it asks.
 use Rattle.std.specs.Prelude.{◌≡◌, ◌⊎◌, ℕ, Bool, true, false, List, Option, Some, None, option_map}
 use Rattle.std.proofs.Common.{refl, ap, sym, subst, ◌∙◌, inl, inr}
-use Rattle.papaya_stepping.specs.Given.Tables.declared.node.Node.{Node}
-use Rattle.papaya_stepping.specs.Given.Raw.declared.machines.answer.KeyAnswer.{KeyAnswer}
-use Rattle.papaya_stepping.specs.Given.Raw.declared.machines.answer.KeyAnswer.TheVariants as says
-use Rattle.papaya_stepping.specs.Given.Raw.declared.machines.progress.Answer.TheVariants as answers
-use Rattle.papaya_stepping.specs.Given.Raw.declared.machines.progress.Progress.{Progress}
-use Rattle.papaya_stepping.specs.Given.Raw.declared.machines.progress.Progress.TheVariants as progress
-use Rattle.papaya_values.specs.Given.Schedules.declared.call.Answer.{Answer}
-use Rattle.papaya_values.specs.Given.Schedules.declared.call.Answer.TheVariants as answer
-use Rattle.papaya_values.specs.Given.Schedules.declared.call.Call.{Call}
-use Rattle.papaya_values.specs.Given.Schedules.declared.call.Call.TheVariants.{Clear, Len, On, Reserve, Retain, Walk}
-use Rattle.papaya_values.specs.Given.Schedules.declared.call.OneKey.{OneKey}
-use Rattle.papaya_values.specs.Given.Schedules.declared.call.OneKey.TheVariants.{Get, GetKeyValue, ContainsKey, Insert, TryInsert, TryInsertWith, GetOrInsert, GetOrInsertWith, Update, UpdateOrInsert, UpdateOrInsertWith, Compute, Remove, RemoveEntry, RemoveIf}
-use Rattle.papaya_values.specs.Given.Schedules.declared.call.Reply.{Reply}
-use Rattle.papaya_values.specs.Given.Schedules.declared.call.Reply.TheVariants.{Gives, Removes, Aborts, Decides}
-use Rattle.papaya_values.specs.Given.Schedules.declared.outcome.Outcome.{Outcome}
-use Rattle.papaya_values.specs.Given.Schedules.declared.outcome.Outcome.TheVariants as outcome
-use Rattle.papaya_values.specs.Given.Schedules.Sequential.{Answers, Leaves, Puts, Takes, means, puts_reply}
-use Rattle.papaya_values.specs.Given.Schedules.Views.{reply_to}
-use Rattle.papaya_values.specs.Given.Effects.Effects.{known_after}
-use Rattle.papaya_values.specs.Given.Effects.declared.acting.Acting.TheVariants as acts
-use Rattle.papaya_values.specs.Given.Effects.Known.{Known}
-use Rattle.papaya_values.specs.Given.Effects.declared.role.Role.TheVariants as role
-use Rattle.papaya_stepping.specs.Given.Histories.Answers.{IsToldAs, IsToldDone, NamesPair}
-use Rattle.papaya_stepping.specs.Given.Histories.Asking.{IsToldQuestion}
-use Rattle.papaya_stepping.specs.Given.Histories.Events.{ComesToIt}
-use Rattle.papaya_stepping.specs.Given.Histories.InEvent.{ComesSo}
-use Rattle.papaya_stepping.specs.Given.Histories.OtherMidsts.{AsksAsSaid}
-use Rattle.papaya_stepping.proofs.Given.Histories.AnyCall.InEvent.{events_have_words}
-use Rattle.papaya_stepping.specs.Given.Histories.InEvent.{InEvent, here_of}
-use Rattle.papaya_values.specs.Given.Schedules.declared.effect.Effect.{Effect}
-use Rattle.papaya_values.specs.Given.Schedules.Entry.{Entry}
-use Rattle.papaya_values.specs.Given.Schedules.Moment.{UnderWay as CallThere, Moment}
-use Rattle.papaya_stepping.specs.Given.Callers.Together.{UnderWay, CallOnKey, OnKey, ForRoom, Counting, OverAll}
-use Rattle.papaya_stepping.specs.Given.Finishes.Machines.{machine_of}
-use Rattle.papaya_stepping.specs.Given.Histories.OtherCalls.{IsOnNoKey}
-use Rattle.papaya_values.specs.Given.Named.Seen.{kind_of, kind_on}
-use Rattle.papaya_values.specs.Given.Named.Telling.{aborted_with, answer_on, number_by, number_in, occupied_by}
+use Rattle.papaya_stepping.specs.Given.TablesDeclared.node.Node.{Node}
+use Rattle.papaya_stepping.specs.Given.RawDeclared.machines.answer.KeyAnswer.{KeyAnswer}
+use Rattle.papaya_stepping.specs.Given.RawDeclared.machines.answer.KeyAnswer.TheVariants as says
+use Rattle.papaya_stepping.specs.Given.RawDeclared.machines.progress.Answer.TheVariants as answers
+use Rattle.papaya_stepping.specs.Given.RawDeclared.machines.progress.Progress.{Progress}
+use Rattle.papaya_stepping.specs.Given.RawDeclared.machines.progress.Progress.TheVariants as progress
+use Rattle.papaya_values.specs.Given.SchedulesDeclared.call.Answer.{Answer}
+use Rattle.papaya_values.specs.Given.SchedulesDeclared.call.Answer.TheVariants as answer
+use Rattle.papaya_values.specs.Given.SchedulesDeclared.call.Call.{Call}
+use Rattle.papaya_values.specs.Given.SchedulesDeclared.call.Call.TheVariants.{Clear, Len, On, Reserve, Retain, Walk}
+use Rattle.papaya_values.specs.Given.SchedulesDeclared.call.OneKey.{OneKey}
+use Rattle.papaya_values.specs.Given.SchedulesDeclared.call.OneKey.TheVariants.{Get, GetKeyValue, ContainsKey, Insert, TryInsert, TryInsertWith, GetOrInsert, GetOrInsertWith, Update, UpdateOrInsert, UpdateOrInsertWith, Compute, Remove, RemoveEntry, RemoveIf}
+use Rattle.papaya_values.specs.Given.SchedulesDeclared.call.Reply.{Reply}
+use Rattle.papaya_values.specs.Given.SchedulesDeclared.call.Reply.TheVariants.{Gives, Removes, Aborts, Decides}
+use Rattle.papaya_values.specs.Given.SchedulesDeclared.outcome.Outcome.{Outcome}
+use Rattle.papaya_values.specs.Given.SchedulesDeclared.outcome.Outcome.TheVariants as outcome
+use Rattle.papaya_values.specs.Given.SchedulesSequential.{Answers, Leaves, Puts, Takes, means, puts_reply}
+use Rattle.papaya_values.specs.Given.SchedulesViews.{reply_to}
+use Rattle.papaya_values.specs.Given.EffectsEffects.{known_after}
+use Rattle.papaya_values.specs.Given.EffectsDeclared.acting.Acting.TheVariants as acts
+use Rattle.papaya_values.specs.Given.EffectsKnown.{Known}
+use Rattle.papaya_values.specs.Given.EffectsDeclared.role.Role.TheVariants as role
+use Rattle.papaya_stepping.specs.Given.HistoriesAnswers.{IsToldAs, IsToldDone, NamesPair}
+use Rattle.papaya_stepping.specs.Given.HistoriesAsking.{IsToldQuestion}
+use Rattle.papaya_stepping.specs.Given.HistoriesEvents.{ComesToIt}
+use Rattle.papaya_stepping.specs.Given.HistoriesInEvent.{ComesSo}
+use Rattle.papaya_stepping.specs.Given.HistoriesOtherMidsts.{AsksAsSaid}
+use Rattle.papaya_stepping.proofs.Given.HistoriesAnyCall.InEvent.{events_have_words}
+use Rattle.papaya_stepping.specs.Given.HistoriesInEvent.{InEvent, here_of}
+use Rattle.papaya_values.specs.Given.SchedulesDeclared.effect.Effect.{Effect}
+use Rattle.papaya_values.specs.Given.SchedulesEntry.{Entry}
+use Rattle.papaya_values.specs.Given.SchedulesMoment.{UnderWay as CallThere, Moment}
+use Rattle.papaya_stepping.specs.Given.CallersTogether.{UnderWay, CallOnKey, OnKey, ForRoom, Counting, OverAll}
+use Rattle.papaya_stepping.specs.Given.FinishesMachines.{machine_of}
+use Rattle.papaya_stepping.specs.Given.HistoriesOtherCalls.{IsOnNoKey}
+use Rattle.papaya_values.specs.Given.NamedSeen.{kind_of, kind_on}
+use Rattle.papaya_values.specs.Given.NamedTelling.{aborted_with, answer_on, number_by, number_in, occupied_by}
 use Rattle.papaya_stepping.specs.Stepping.{outcome_of}
 use Rattle.papaya_values.specs.Values.{KeepsValue}
 use Rattle.papaya_values.proofs.Values.{inserts_tell_theirs}
 use Rattle.papaya_events.specs.OfCalls.{LastStepsTell}
 use Rattle.papaya_events.proofs.OfCalls.Words.{tells_of}
-use Rattle.papaya_values.specs.Given.Scenes.Scene.{Scene}
-use Rattle.papaya_values.specs.Given.Scenes.Stepping.{StepLeads}
-use Rattle.papaya_values.specs.Given.Schedules.Transition.{past}
+use Rattle.papaya_values.specs.Given.ScenesScene.{Scene}
+use Rattle.papaya_values.specs.Given.ScenesStepping.{StepLeads}
+use Rattle.papaya_values.specs.Given.SchedulesTransition.{past}
 
 -- what is stored is the reply's value, and else nothing is meant
 module _ {V : Type 0} where

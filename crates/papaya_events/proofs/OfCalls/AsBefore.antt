@@ -1,30 +1,30 @@
 -- An event after which executor, notes and callers are as they were: the run goes on with it, in the same scene, if it is legal.
 use Rattle.std.specs.Prelude.{◌≡◌, ℕ, Bool, List, [], ◌∷◌}
 use Rattle.std.proofs.Common.{ap, refl, subst, sym, ◌∙◌}
-use Rattle.papaya_values.specs.Given.Schedules.After.{moment, slots_on}
-use Rattle.papaya_values.specs.Given.Schedules.Entry.{Entry}
-use Rattle.papaya_values.specs.Given.Schedules.InTurn.{ComesRight}
-use Rattle.papaya_values.specs.Given.Schedules.Terms.{Terms}
-use Rattle.papaya_values.specs.Given.Effects.Known.{known}
-use Rattle.papaya_stepping.specs.Given.Seize.World.{SlotsTaken}
-use Rattle.papaya_values.specs.Given.Moments.Whole.{ShowsWhole}
-use Rattle.papaya_stepping.specs.Given.Kept.Kept.{ShowsKept}
-use Rattle.papaya_stepping.proofs.Given.Legal.Come.{events_bring_things}
-use Rattle.papaya_stepping.specs.Given.Legal.CallEvents.{IsLegalBut}
-use Rattle.papaya_stepping.specs.Given.Legal.Carried.{ShowsRun}
-use Rattle.papaya_values.specs.Given.Reclaims.Left.{LeftAmong}
-use Rattle.papaya_stepping.specs.Given.Logged.Shown.{IsShown}
-use Rattle.papaya_stepping.specs.Given.Logged.declared.logged.Logged.{Logged}
-use Rattle.papaya_stepping.specs.Given.Scheduler.Played.{IsPlayed}
-use Rattle.papaya_values.specs.Given.Named.declared.caller.Caller.{Caller}
-use Rattle.papaya_stepping.specs.Given.Scheduler.declared.scheduler.Scheduler.{Scheduler}
-use Rattle.papaya_stepping.proofs.Given.Folded.Steps.{idle_in_order}
+use Rattle.papaya_values.specs.Given.SchedulesAfter.{moment, slots_on}
+use Rattle.papaya_values.specs.Given.SchedulesEntry.{Entry}
+use Rattle.papaya_values.specs.Given.SchedulesInTurn.{ComesRight}
+use Rattle.papaya_values.specs.Given.SchedulesTerms.{Terms}
+use Rattle.papaya_values.specs.Given.EffectsKnown.{known}
+use Rattle.papaya_stepping.specs.Given.SeizeWorld.{SlotsTaken}
+use Rattle.papaya_values.specs.Given.MomentsWhole.{ShowsWhole}
+use Rattle.papaya_stepping.specs.Given.KeptKept.{ShowsKept}
+use Rattle.papaya_stepping.proofs.Given.LegalCome.{events_bring_things}
+use Rattle.papaya_stepping.specs.Given.LegalCallEvents.{IsLegalBut}
+use Rattle.papaya_stepping.specs.Given.LegalCarried.{ShowsRun}
+use Rattle.papaya_values.specs.Given.ReclaimsLeft.{LeftAmong}
+use Rattle.papaya_stepping.specs.Given.LoggedShown.{IsShown}
+use Rattle.papaya_stepping.specs.Given.LoggedDeclared.logged.Logged.{Logged}
+use Rattle.papaya_stepping.specs.Given.SchedulerPlayed.{IsPlayed}
+use Rattle.papaya_values.specs.Given.NamedDeclared.caller.Caller.{Caller}
+use Rattle.papaya_stepping.specs.Given.SchedulerDeclared.scheduler.Scheduler.{Scheduler}
+use Rattle.papaya_stepping.proofs.Given.FoldedSteps.{idle_in_order}
 use Rattle.papaya_events.proofs.OfCalls.Worth.{SaidIn, have_values_then}
 use Rattle.papaya_events.specs.OfCalls.{HaveShards, HaveValues, Runs, RunsOn}
 use Rattle.papaya_events.proofs.OfCalls.Scenes.{AreNamed, its_named, stands_in}
 use Rattle.papaya_events.proofs.Remaining.{counted_in}
 use Rattle.papaya_events.proofs.Reached.{reached_by}
-use Rattle.papaya_stepping.specs.Given.Executor.IsThere.{IsThere}
+use Rattle.papaya_stepping.specs.Given.ExecutorIsThere.{IsThere}
 
 module _ {K V S : Type 0} (same : K → K → Bool) (hash : K → ℕ) (terms : Terms) (log : List (Entry K V)) (old new : Scheduler K V S) (runs : Runs same hash terms log old) (logged_is : new.logged ≡ old.logged)
     (calls_are : new.calls ≡ old.calls) (e : Entry K V) (nothing : e.effects ≡ []) (legal : IsLegalBut same terms log e) (run : ShowsRun same runs.stands.name terms (e ∷ log) (known old.logged.notes) runs.stands.scene)

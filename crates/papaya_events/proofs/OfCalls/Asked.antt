@@ -1,21 +1,21 @@
 -- A walk that is ready is asked for its next pair: with which sweep it goes on.
 use Rattle.std.specs.Prelude.{◌≡◌, ◌==◌, ℕ, Bool, true, false, Option, Some, option_map, if◌then◌else◌}
 use Rattle.std.proofs.Common.{refl, ap, sym, subst, ◌∙◌}
-use Rattle.papaya_stepping.specs.Given.Seize.World.{with_at}
-use Rattle.papaya_stepping.specs.Given.Sweeps.SweepPoints.{after_next}
-use Rattle.papaya_stepping.specs.Given.Callers.OverAll.{CallOverAll, gone_on}
-use Rattle.papaya_stepping.specs.Given.Callers.Together.{UnderWay, OverAll}
-use Rattle.papaya_stepping.specs.Given.Executor.declared.executor.Executor.{Executor}
-use Rattle.papaya_stepping.specs.Given.Finishes.Endings.{EndingsTogether}
-use Rattle.papaya_stepping.specs.Given.Finishes.Machines.{machine_of}
-use Rattle.papaya_stepping.specs.Given.Finishes.Maps.{with_call}
-use Rattle.papaya_stepping.proofs.Given.Finishes.Among.Sweeps.{sweeps_told_among}
-use Rattle.papaya_values.proofs.Given.Scenes.May.{standing_is}
-use Rattle.papaya_stepping.specs.Given.Executor.IsThere.{IsThere, KeepsGiven, held_by}
-use Rattle.papaya_stepping.specs.Given.Executor.Replying.{AsksThere}
-use Rattle.papaya_values.specs.Given.Scenes.Replying.{AskLeads, scene_with}
-use Rattle.papaya_values.specs.Given.Scenes.Scene.{Scene, slot_of}
-use Rattle.papaya_stepping.proofs.Given.Logged.Held.{ask_held}
+use Rattle.papaya_stepping.specs.Given.SeizeWorld.{with_at}
+use Rattle.papaya_stepping.specs.Given.SweepsSweepPoints.{after_next}
+use Rattle.papaya_stepping.specs.Given.CallersOverAll.{CallOverAll, gone_on}
+use Rattle.papaya_stepping.specs.Given.CallersTogether.{UnderWay, OverAll}
+use Rattle.papaya_stepping.specs.Given.ExecutorDeclared.executor.Executor.{Executor}
+use Rattle.papaya_stepping.specs.Given.FinishesEndings.{EndingsTogether}
+use Rattle.papaya_stepping.specs.Given.FinishesMachines.{machine_of}
+use Rattle.papaya_stepping.specs.Given.FinishesMaps.{with_call}
+use Rattle.papaya_stepping.proofs.Given.FinishesAmong.Sweeps.{sweeps_told_among}
+use Rattle.papaya_values.proofs.Given.ScenesMay.{standing_is}
+use Rattle.papaya_stepping.specs.Given.ExecutorIsThere.{IsThere, KeepsGiven, held_by}
+use Rattle.papaya_stepping.specs.Given.ExecutorReplying.{AsksThere}
+use Rattle.papaya_values.specs.Given.ScenesReplying.{AskLeads, scene_with}
+use Rattle.papaya_values.specs.Given.ScenesScene.{Scene, slot_of}
+use Rattle.papaya_stepping.proofs.Given.LoggedHeld.{ask_held}
 
 -- another one with the same machine in the place of a call
 same_call : {K V : Type 0} (calls : ℕ → ℕ → Option (UnderWay K V K)) (map i : ℕ) (x y : UnderWay K V K) → machine_of x ≡ machine_of y → (n j : ℕ)

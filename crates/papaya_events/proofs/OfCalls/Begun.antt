@@ -2,47 +2,47 @@
 use Rattle.std.specs.Prelude.{◌≡◌, ◌||◌, cond, ℕ, Bool, true, false, List, [], ◌∷◌, Option, Some, None}
 use Rattle.std.specs.List.{AllByRecursion, list_any}
 use Rattle.std.proofs.Common.{refl, ap, sym, subst, ◌∙◌, inl, inr}
-use Rattle.papaya_stepping.specs.Given.Seize.World.{Rests}
-use Rattle.papaya_stepping.specs.Given.Runs.Same.{is_same}
-use Rattle.papaya_values.specs.Given.Schedules.declared.call.Call.{Call}
-use Rattle.papaya_values.specs.Given.Schedules.declared.call.Call.TheVariants.{Clear, Len, On, Reserve, Retain, Walk}
-use Rattle.papaya_values.specs.Given.Schedules.declared.call.OneKey.{OneKey}
-use Rattle.papaya_values.specs.Given.Schedules.declared.call.OneKey.TheVariants.{Get, GetKeyValue, ContainsKey, Insert, TryInsert, TryInsertWith, GetOrInsert, GetOrInsertWith, Update, UpdateOrInsert, UpdateOrInsertWith, Compute, Remove, RemoveEntry, RemoveIf}
-use Rattle.papaya_values.specs.Given.Schedules.declared.event.Event.TheVariants.{Begin}
-use Rattle.papaya_values.specs.Given.Schedules.declared.outcome.Outcome.TheVariants.{Goes}
-use Rattle.papaya_values.specs.Given.Schedules.After.{moment}
-use Rattle.papaya_values.specs.Given.Schedules.Beginning.{fresh_call, with_call}
-use Rattle.papaya_values.specs.Given.Schedules.Entry.{Entry}
-use Rattle.papaya_values.specs.Given.Schedules.InTurn.{ComesRight}
-use Rattle.papaya_values.specs.Given.Schedules.Moment.{UnderWay as CallThere, Moment}
-use Rattle.papaya_values.specs.Given.Schedules.Terms.{Terms}
-use Rattle.papaya_values.specs.Given.Schedules.Views.{call_of, number_of}
-use Rattle.papaya_stepping.specs.Given.Callers.Together.{UnderWay}
-use Rattle.papaya_values.specs.Given.Effects.Known.{Known, known}
-use Rattle.papaya_stepping.specs.Given.Finishes.Maps.{Standing}
-use Rattle.papaya_values.specs.Given.Follows.Calling.{NoneNamed}
-use Rattle.papaya_stepping.specs.Given.Histories.AsCalled.{IsBegunAs}
-use Rattle.papaya_stepping.specs.Given.Raw.declared.machines.machine.Machine.{Machine}
-use Rattle.papaya_stepping.specs.Given.Finishes.Machines.{machine_of}
-use Rattle.papaya_values.proofs.Given.Follows.Calling.{apart_back, is_same_refl}
-use Rattle.papaya_values.proofs.Given.Hands.Asking.{which}
-use Rattle.papaya_stepping.specs.Given.Promises.Meanwhile.{BeginsToLook}
-use Rattle.papaya_stepping.specs.Given.Purposes.Purposes.{IsFor}
-use Rattle.papaya_stepping.proofs.Given.Legal.Come.{events_bring_things}
-use Rattle.papaya_stepping.specs.Given.Legal.Between.{IsBegunRight}
-use Rattle.papaya_stepping.specs.Given.Legal.CallEvents.{IsLegalBut}
-use Rattle.papaya_stepping.specs.Given.Legal.Carried.{ShowsRun}
-use Rattle.papaya_stepping.proofs.Given.Legal.Begun.{begun_events_end}
-use Rattle.papaya_stepping.proofs.Given.Legal.Over.{runs_by_other_names}
-use Rattle.papaya_stepping.specs.Given.Logged.Shown.{IsCounted, IsShown}
-use Rattle.papaya_stepping.proofs.Given.Rows.Facts.{row_rests}
-use Rattle.papaya_stepping.specs.Given.Scheduler.Played.{HasBegun, IsPlayed, IsUnderWay}
-use Rattle.papaya_values.specs.Given.Named.Seen.{Seen, is_named}
-use Rattle.papaya_values.specs.Given.Named.declared.caller.Caller.{Caller}
-use Rattle.papaya_stepping.specs.Given.Scheduler.declared.scheduler.Scheduler.{Scheduler}
-use Rattle.papaya_stepping.proofs.Given.Scheduler.Begins as beginning
-use Rattle.papaya_values.proofs.Given.Named.Called.{begins_so, begun_call, is_begun_for, is_called, its_machine}
-use Rattle.papaya_stepping.proofs.Given.Scheduler.Rights.{quiet}
+use Rattle.papaya_stepping.specs.Given.SeizeWorld.{Rests}
+use Rattle.papaya_stepping.specs.Given.RunsSame.{is_same}
+use Rattle.papaya_values.specs.Given.SchedulesDeclared.call.Call.{Call}
+use Rattle.papaya_values.specs.Given.SchedulesDeclared.call.Call.TheVariants.{Clear, Len, On, Reserve, Retain, Walk}
+use Rattle.papaya_values.specs.Given.SchedulesDeclared.call.OneKey.{OneKey}
+use Rattle.papaya_values.specs.Given.SchedulesDeclared.call.OneKey.TheVariants.{Get, GetKeyValue, ContainsKey, Insert, TryInsert, TryInsertWith, GetOrInsert, GetOrInsertWith, Update, UpdateOrInsert, UpdateOrInsertWith, Compute, Remove, RemoveEntry, RemoveIf}
+use Rattle.papaya_values.specs.Given.SchedulesDeclared.event.Event.TheVariants.{Begin}
+use Rattle.papaya_values.specs.Given.SchedulesDeclared.outcome.Outcome.TheVariants.{Goes}
+use Rattle.papaya_values.specs.Given.SchedulesAfter.{moment}
+use Rattle.papaya_values.specs.Given.SchedulesBeginning.{fresh_call, with_call}
+use Rattle.papaya_values.specs.Given.SchedulesEntry.{Entry}
+use Rattle.papaya_values.specs.Given.SchedulesInTurn.{ComesRight}
+use Rattle.papaya_values.specs.Given.SchedulesMoment.{UnderWay as CallThere, Moment}
+use Rattle.papaya_values.specs.Given.SchedulesTerms.{Terms}
+use Rattle.papaya_values.specs.Given.SchedulesViews.{call_of, number_of}
+use Rattle.papaya_stepping.specs.Given.CallersTogether.{UnderWay}
+use Rattle.papaya_values.specs.Given.EffectsKnown.{Known, known}
+use Rattle.papaya_stepping.specs.Given.FinishesMaps.{Standing}
+use Rattle.papaya_values.specs.Given.FollowsCalling.{NoneNamed}
+use Rattle.papaya_stepping.specs.Given.HistoriesAsCalled.{IsBegunAs}
+use Rattle.papaya_stepping.specs.Given.RawDeclared.machines.machine.Machine.{Machine}
+use Rattle.papaya_stepping.specs.Given.FinishesMachines.{machine_of}
+use Rattle.papaya_values.proofs.Given.FollowsCalling.{apart_back, is_same_refl}
+use Rattle.papaya_values.proofs.Given.HandsAsking.{which}
+use Rattle.papaya_stepping.specs.Given.PromisesMeanwhile.{BeginsToLook}
+use Rattle.papaya_stepping.specs.Given.PurposesPurposes.{IsFor}
+use Rattle.papaya_stepping.proofs.Given.LegalCome.{events_bring_things}
+use Rattle.papaya_stepping.specs.Given.LegalBetween.{IsBegunRight}
+use Rattle.papaya_stepping.specs.Given.LegalCallEvents.{IsLegalBut}
+use Rattle.papaya_stepping.specs.Given.LegalCarried.{ShowsRun}
+use Rattle.papaya_stepping.proofs.Given.LegalBegun.{begun_events_end}
+use Rattle.papaya_stepping.proofs.Given.LegalOver.{runs_by_other_names}
+use Rattle.papaya_stepping.specs.Given.LoggedShown.{IsCounted, IsShown}
+use Rattle.papaya_stepping.proofs.Given.RowsFacts.{row_rests}
+use Rattle.papaya_stepping.specs.Given.SchedulerPlayed.{HasBegun, IsPlayed, IsUnderWay}
+use Rattle.papaya_values.specs.Given.NamedSeen.{Seen, is_named}
+use Rattle.papaya_values.specs.Given.NamedDeclared.caller.Caller.{Caller}
+use Rattle.papaya_stepping.specs.Given.SchedulerDeclared.scheduler.Scheduler.{Scheduler}
+use Rattle.papaya_stepping.proofs.Given.SchedulerBegins as beginning
+use Rattle.papaya_values.proofs.Given.NamedCalled.{begins_so, begun_call, is_begun_for, is_called, its_machine}
+use Rattle.papaya_stepping.proofs.Given.SchedulerRights.{quiet}
 use Rattle.papaya_values.specs.Values.{KeepsValue}
 use Rattle.papaya_values.proofs.Values.{values_begin}
 use Rattle.papaya_events.proofs.OfCalls.Worth.{SaidIn, event_says, have_values_then}
@@ -50,10 +50,10 @@ use Rattle.papaya_events.specs.OfCalls.{HaveShards, HaveValues, IsWorth, Runs, R
 use Rattle.papaya_events.proofs.OfCalls.Scenes.{AreNamed, stands_in}
 use Rattle.papaya_events.proofs.Remaining.{counted_in}
 use Rattle.papaya_events.proofs.Reached.{reached_by}
-use Rattle.papaya_values.specs.Given.Scenes.Beginning.{Begins}
-use Rattle.papaya_values.specs.Given.Scenes.Replying.{scene_with}
-use Rattle.papaya_values.specs.Given.Scenes.Scene.{HasCall, Scene, slot_of}
-use Rattle.papaya_stepping.specs.Given.Executor.IsThere.{held_by}
+use Rattle.papaya_values.specs.Given.ScenesBeginning.{Begins}
+use Rattle.papaya_values.specs.Given.ScenesReplying.{scene_with}
+use Rattle.papaya_values.specs.Given.ScenesScene.{HasCall, Scene, slot_of}
+use Rattle.papaya_stepping.specs.Given.ExecutorIsThere.{held_by}
 
 -- what is under way then is a call as it was called
 module _ {K V : Type 0} (same : K → K → Bool) (st : Standing K) (i : ℕ) where

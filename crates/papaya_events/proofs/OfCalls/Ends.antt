@@ -2,54 +2,54 @@
 use Rattle.std.specs.Prelude.{◌≡◌, ◌⊎◌, ◌≤◌, ◌+◌, ℕ, suc, Bool, true, List, [], ◌∷◌, not, ◌||◌, Option, Some}
 use Rattle.std.specs.List.{list_any}
 use Rattle.std.proofs.Common.{refl, ap, sym, subst, ◌∙◌, arith}
-use Rattle.papaya_stepping.specs.Given.SeizeWaiting.Held.{count}
-use Rattle.papaya_stepping.specs.Given.SeizeWords.declared.fault.Fault.TheVariants.{Busy}
-use Rattle.papaya_stepping.specs.Given.Seize.World.{SlotsTaken}
-use Rattle.papaya_stepping.specs.Given.Tables.declared.node.Node.{Node}
-use Rattle.papaya_stepping.specs.Given.Raw.declared.machines.progress.Progress.{Progress as Told}
-use Rattle.papaya_stepping.specs.Given.Raw.declared.machines.progress.Progress.TheVariants as told
-use Rattle.papaya_values.specs.Given.Schedules.declared.effect.Effect.{Effect}
-use Rattle.papaya_values.specs.Given.Schedules.declared.event.Event.{Event}
-use Rattle.papaya_values.specs.Given.Schedules.declared.outcome.Outcome.{Outcome}
-use Rattle.papaya_values.specs.Given.Schedules.declared.outcome.Outcome.TheVariants.{Refused}
-use Rattle.papaya_values.specs.Given.Schedules.After.{moment, moments_from, slots_on}
-use Rattle.papaya_values.specs.Given.Schedules.Beginning.{at_work}
-use Rattle.papaya_values.specs.Given.Schedules.Entry.{Entry, acted_on}
-use Rattle.papaya_values.specs.Given.Schedules.Handing.{is_made, refuses}
-use Rattle.papaya_values.specs.Given.Schedules.InTurn.{ComesRight}
-use Rattle.papaya_values.specs.Given.Schedules.Model.{sets_in, things_in}
-use Rattle.papaya_values.specs.Given.Schedules.Moment.{UnderWay as CallThere, Moment}
-use Rattle.papaya_values.specs.Given.Schedules.Sweeps.{IsSwept}
-use Rattle.papaya_values.specs.Given.Schedules.Terms.{Terms, shards_of}
-use Rattle.papaya_values.specs.Given.Schedules.Views.{call_of}
-use Rattle.papaya_values.specs.Given.Effects.Known.{Known, known}
-use Rattle.papaya_values.specs.Given.Effects.declared.acting.Acting.TheVariants as acts
-use Rattle.papaya_stepping.specs.Given.Finishes.Maps.{Standing}
-use Rattle.papaya_stepping.specs.Given.Histories.InEvent.{ComesSo}
-use Rattle.papaya_stepping.specs.Given.Finishes.Machines.{machine_of}
-use Rattle.papaya_stepping.specs.Given.Models.CallEvents.{slot_of_call}
-use Rattle.papaya_stepping.specs.Given.Finds.Doing.{takes_steps}
-use Rattle.papaya_stepping.specs.Given.Finds.Parts.{FindAll}
-use Rattle.papaya_stepping.specs.Given.Legal.Noted.{HaveCome}
-use Rattle.papaya_stepping.proofs.Given.Legal.Come.{events_bring_things}
-use Rattle.papaya_stepping.specs.Given.Legal.CallEvents.{IsLegalBut}
-use Rattle.papaya_stepping.specs.Given.Legal.CallRuns.{ShowsAsTold, TellsEnd}
-use Rattle.papaya_stepping.specs.Given.Legal.CallSwept.{TellsOf}
-use Rattle.papaya_stepping.specs.Given.Legal.Carried.{ComesAlone, ShowsRun}
-use Rattle.papaya_stepping.proofs.Given.Legal.CallRuns.{call_events_run}
-use Rattle.papaya_stepping.proofs.Given.Legal.CallSwept.{calls_are_swept}
-use Rattle.papaya_stepping.specs.Given.Remains.Remains.{ShowsRemains}
-use Rattle.papaya_stepping.proofs.Given.Remains.Slots.{buckets_grow}
-use Rattle.papaya_stepping.specs.Given.Logged.Shown.{IsShown}
-use Rattle.papaya_stepping.specs.Given.Scheduler.Played.{IsPlayed, entry_of}
-use Rattle.papaya_values.specs.Given.Named.Seen.{kind_of}
-use Rattle.papaya_values.specs.Given.Named.declared.caller.Caller.{Caller}
-use Rattle.papaya_values.specs.Given.Named.declared.kind.Kind.{Kind}
-use Rattle.papaya_stepping.specs.Given.Scheduler.declared.played.Played.{Played}
-use Rattle.papaya_stepping.specs.Given.Scheduler.declared.scheduler.Scheduler.{Scheduler}
+use Rattle.papaya_stepping.specs.Given.SeizeWaitingHeld.{count}
+use Rattle.papaya_stepping.specs.Given.SeizeWordsDeclared.fault.Fault.TheVariants.{Busy}
+use Rattle.papaya_stepping.specs.Given.SeizeWorld.{SlotsTaken}
+use Rattle.papaya_stepping.specs.Given.TablesDeclared.node.Node.{Node}
+use Rattle.papaya_stepping.specs.Given.RawDeclared.machines.progress.Progress.{Progress as Told}
+use Rattle.papaya_stepping.specs.Given.RawDeclared.machines.progress.Progress.TheVariants as told
+use Rattle.papaya_values.specs.Given.SchedulesDeclared.effect.Effect.{Effect}
+use Rattle.papaya_values.specs.Given.SchedulesDeclared.event.Event.{Event}
+use Rattle.papaya_values.specs.Given.SchedulesDeclared.outcome.Outcome.{Outcome}
+use Rattle.papaya_values.specs.Given.SchedulesDeclared.outcome.Outcome.TheVariants.{Refused}
+use Rattle.papaya_values.specs.Given.SchedulesAfter.{moment, moments_from, slots_on}
+use Rattle.papaya_values.specs.Given.SchedulesBeginning.{at_work}
+use Rattle.papaya_values.specs.Given.SchedulesEntry.{Entry, acted_on}
+use Rattle.papaya_values.specs.Given.SchedulesHanding.{is_made, refuses}
+use Rattle.papaya_values.specs.Given.SchedulesInTurn.{ComesRight}
+use Rattle.papaya_values.specs.Given.SchedulesModel.{sets_in, things_in}
+use Rattle.papaya_values.specs.Given.SchedulesMoment.{UnderWay as CallThere, Moment}
+use Rattle.papaya_values.specs.Given.SchedulesSweeps.{IsSwept}
+use Rattle.papaya_values.specs.Given.SchedulesTerms.{Terms, shards_of}
+use Rattle.papaya_values.specs.Given.SchedulesViews.{call_of}
+use Rattle.papaya_values.specs.Given.EffectsKnown.{Known, known}
+use Rattle.papaya_values.specs.Given.EffectsDeclared.acting.Acting.TheVariants as acts
+use Rattle.papaya_stepping.specs.Given.FinishesMaps.{Standing}
+use Rattle.papaya_stepping.specs.Given.HistoriesInEvent.{ComesSo}
+use Rattle.papaya_stepping.specs.Given.FinishesMachines.{machine_of}
+use Rattle.papaya_stepping.specs.Given.ModelsCallEvents.{slot_of_call}
+use Rattle.papaya_stepping.specs.Given.FindsDoing.{takes_steps}
+use Rattle.papaya_stepping.specs.Given.FindsParts.{FindAll}
+use Rattle.papaya_stepping.specs.Given.LegalNoted.{HaveCome}
+use Rattle.papaya_stepping.proofs.Given.LegalCome.{events_bring_things}
+use Rattle.papaya_stepping.specs.Given.LegalCallEvents.{IsLegalBut}
+use Rattle.papaya_stepping.specs.Given.LegalCallRuns.{ShowsAsTold, TellsEnd}
+use Rattle.papaya_stepping.specs.Given.LegalCallSwept.{TellsOf}
+use Rattle.papaya_stepping.specs.Given.LegalCarried.{ComesAlone, ShowsRun}
+use Rattle.papaya_stepping.proofs.Given.LegalCallRuns.{call_events_run}
+use Rattle.papaya_stepping.proofs.Given.LegalCallSwept.{calls_are_swept}
+use Rattle.papaya_stepping.specs.Given.RemainsRemains.{ShowsRemains}
+use Rattle.papaya_stepping.proofs.Given.RemainsSlots.{buckets_grow}
+use Rattle.papaya_stepping.specs.Given.LoggedShown.{IsShown}
+use Rattle.papaya_stepping.specs.Given.SchedulerPlayed.{IsPlayed, entry_of}
+use Rattle.papaya_values.specs.Given.NamedSeen.{kind_of}
+use Rattle.papaya_values.specs.Given.NamedDeclared.caller.Caller.{Caller}
+use Rattle.papaya_values.specs.Given.NamedDeclared.kind.Kind.{Kind}
+use Rattle.papaya_stepping.specs.Given.SchedulerDeclared.played.Played.{Played}
+use Rattle.papaya_stepping.specs.Given.SchedulerDeclared.scheduler.Scheduler.{Scheduler}
 use Rattle.papaya_stepping.specs.Stepping.{ComesAs, IsStepped, outcome_of}
-use Rattle.papaya_stepping.specs.Given.Folded.Folded.{HandInOrder}
-use Rattle.papaya_stepping.proofs.Given.Folded.Steps.{event_in_order}
+use Rattle.papaya_stepping.specs.Given.FoldedFolded.{HandInOrder}
+use Rattle.papaya_stepping.proofs.Given.FoldedSteps.{event_in_order}
 use Rattle.papaya_events.specs.OfCalls.{HaveValues, RunsOn}
 use Rattle.papaya_events.proofs.OfCalls.Answers.{last_steps_tell}
 use Rattle.papaya_events.proofs.OfCalls.Found.{mask_is}
@@ -60,8 +60,8 @@ use Rattle.papaya_values.specs.Values.{KeepsValue}
 use Rattle.papaya_events.proofs.OfCalls.Words.{not_busy, shows_as_told, tells_end}
 use Rattle.papaya_events.proofs.Remaining.{counted_in}
 use Rattle.papaya_events.proofs.Reached.{reached_after}
-use Rattle.papaya_values.specs.Given.Scenes.Scene.{Scene, slot_of}
-use Rattle.papaya_stepping.specs.Given.Executor.IsThere.{held_by}
+use Rattle.papaya_values.specs.Given.ScenesScene.{Scene, slot_of}
+use Rattle.papaya_stepping.specs.Given.ExecutorIsThere.{held_by}
 
 module _ {K V S : Type 0} (same : K → K → Bool) (hash : K → ℕ) (name : ℕ → List ℕ) (terms : Terms) (log : List (Entry K V)) (event : Event K V) (beginning : Moment K V)
     (map i : ℕ) (c : CallThere K V) (place : ℕ) (c_is : call_of (name i) beginning ≡ Some c) (first : Known) (before : Scene K V) (run : ShowsRun same name terms log first before) (had : HaveCome (things_in log) (moment log))

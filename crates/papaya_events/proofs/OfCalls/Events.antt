@@ -2,30 +2,30 @@
 use Rattle.std.specs.Prelude.{◌≡◌, ◌||◌, ℕ, Bool, true, false, not, List, [], ◌∷◌, position, Option, Some, None, if◌then◌else◌}
 use Rattle.std.specs.List.{list_any}
 use Rattle.std.proofs.Common.{refl, ap, sym, subst, ◌∙◌}
-use Rattle.papaya_stepping.specs.Given.SeizeWords.declared.fault.Fault.TheVariants.{Busy}
-use Rattle.papaya_stepping.specs.Given.Runs.Stopped.{most_steps}
-use Rattle.papaya_values.specs.Given.Schedules.declared.call.Call.{Call}
-use Rattle.papaya_values.specs.Given.Schedules.declared.call.Reply.{Reply}
-use Rattle.papaya_values.specs.Given.Schedules.declared.event.Event.{Event}
-use Rattle.papaya_values.specs.Given.Schedules.declared.event.Event.TheVariants.{Begin, Go, Next, OneCall, Replied, Step, Stop}
-use Rattle.papaya_values.specs.Given.Schedules.declared.outcome.Outcome.TheVariants.{Asks, Goes, Ready, Refused}
-use Rattle.papaya_values.specs.Given.Schedules.After.{moment}
-use Rattle.papaya_values.specs.Given.Schedules.Beginning.{with_call}
-use Rattle.papaya_values.specs.Given.Schedules.Entry.{Entry, nameless}
-use Rattle.papaya_values.specs.Given.Schedules.Handing.{is_made}
-use Rattle.papaya_values.specs.Given.Schedules.InTurn.{ComesRight, ComesTo}
-use Rattle.papaya_values.specs.Given.Schedules.Terms.{Terms}
-use Rattle.papaya_values.specs.Given.Schedules.Views.{number_of}
-use Rattle.papaya_stepping.specs.Given.Legal.Over.{GoesOnBy}
-use Rattle.papaya_stepping.specs.Given.Logged.Calling.{MakesNoMore}
-use Rattle.papaya_stepping.specs.Given.Scheduler.Played.{Began, BeginsSo, HasBegun, IsPlayed, StandsFor, entry_of}
-use Rattle.papaya_values.specs.Given.Named.Seen.{is_named, ready_place}
-use Rattle.papaya_values.specs.Given.Named.declared.caller.Stands.{Stands as HowFar}
-use Rattle.papaya_values.specs.Given.Named.declared.caller.Stands.TheVariants as far
-use Rattle.papaya_stepping.specs.Given.Scheduler.declared.played.Played.{Played}
-use Rattle.papaya_stepping.specs.Given.Scheduler.declared.scheduler.Scheduler.{Scheduler}
-use Rattle.papaya_stepping.proofs.Given.Scheduler.Here.{Here, here_at}
-use Rattle.papaya_stepping.proofs.Given.Scheduler.Rights.{entry_is, quiet}
+use Rattle.papaya_stepping.specs.Given.SeizeWordsDeclared.fault.Fault.TheVariants.{Busy}
+use Rattle.papaya_stepping.specs.Given.RunsStopped.{most_steps}
+use Rattle.papaya_values.specs.Given.SchedulesDeclared.call.Call.{Call}
+use Rattle.papaya_values.specs.Given.SchedulesDeclared.call.Reply.{Reply}
+use Rattle.papaya_values.specs.Given.SchedulesDeclared.event.Event.{Event}
+use Rattle.papaya_values.specs.Given.SchedulesDeclared.event.Event.TheVariants.{Begin, Go, Next, OneCall, Replied, Step, Stop}
+use Rattle.papaya_values.specs.Given.SchedulesDeclared.outcome.Outcome.TheVariants.{Asks, Goes, Ready, Refused}
+use Rattle.papaya_values.specs.Given.SchedulesAfter.{moment}
+use Rattle.papaya_values.specs.Given.SchedulesBeginning.{with_call}
+use Rattle.papaya_values.specs.Given.SchedulesEntry.{Entry, nameless}
+use Rattle.papaya_values.specs.Given.SchedulesHanding.{is_made}
+use Rattle.papaya_values.specs.Given.SchedulesInTurn.{ComesRight, ComesTo}
+use Rattle.papaya_values.specs.Given.SchedulesTerms.{Terms}
+use Rattle.papaya_values.specs.Given.SchedulesViews.{number_of}
+use Rattle.papaya_stepping.specs.Given.LegalOver.{GoesOnBy}
+use Rattle.papaya_stepping.specs.Given.LoggedCalling.{MakesNoMore}
+use Rattle.papaya_stepping.specs.Given.SchedulerPlayed.{Began, BeginsSo, HasBegun, IsPlayed, StandsFor, entry_of}
+use Rattle.papaya_values.specs.Given.NamedSeen.{is_named, ready_place}
+use Rattle.papaya_values.specs.Given.NamedDeclared.caller.Stands.{Stands as HowFar}
+use Rattle.papaya_values.specs.Given.NamedDeclared.caller.Stands.TheVariants as far
+use Rattle.papaya_stepping.specs.Given.SchedulerDeclared.played.Played.{Played}
+use Rattle.papaya_stepping.specs.Given.SchedulerDeclared.scheduler.Scheduler.{Scheduler}
+use Rattle.papaya_stepping.proofs.Given.SchedulerHere.{Here, here_at}
+use Rattle.papaya_stepping.proofs.Given.SchedulerRights.{entry_is, quiet}
 use Rattle.papaya_stepping.specs.Stepping.{GoesAt, SaysAgain, StepsCome, TakenAs, TakenBy, TookNext, TookSteps, TookWhole}
 use Rattle.papaya_stepping.proofs.PlaysWhole.{goes_first, map_there}
 use Rattle.papaya_events.specs.OfCalls.{Runs, RunsOn}

@@ -1,27 +1,27 @@
 -- An event by which a call goes on, whichever it is, is refused for the length of a table only in its case: one of its map's tables is at the limit, or was, or it has counted too many pairs.
 use Rattle.std.specs.Prelude.{◌≡◌, ℕ, Bool, true, false, List, [], position, Option, Some, None}
 use Rattle.std.proofs.Common.{refl, sym, subst, ◌∙◌}
-use Rattle.papaya_stepping.specs.Given.SeizeWords.declared.fault.Fault.TheVariants.{Busy, Capacity}
-use Rattle.papaya_stepping.specs.Given.Runs.Stopped.{most_steps}
-use Rattle.papaya_values.specs.Given.Schedules.declared.call.Call.{Call}
-use Rattle.papaya_values.specs.Given.Schedules.declared.event.Event.{Event}
-use Rattle.papaya_values.specs.Given.Schedules.declared.event.Event.TheVariants.{Go, OneCall, Step}
-use Rattle.papaya_values.specs.Given.Schedules.declared.outcome.Outcome.{Outcome}
-use Rattle.papaya_values.specs.Given.Schedules.declared.outcome.Outcome.TheVariants.{Asks, Ready, Refused}
-use Rattle.papaya_values.specs.Given.Schedules.After.{moment, moments_from}
-use Rattle.papaya_values.specs.Given.Schedules.Beginning.{with_call}
-use Rattle.papaya_values.specs.Given.Schedules.Effects.{worked}
-use Rattle.papaya_values.specs.Given.Schedules.Entry.{Entry, acting, caller_of, nameless}
-use Rattle.papaya_values.specs.Given.Schedules.Moment.{UnderWay as CallThere}
-use Rattle.papaya_values.specs.Given.Schedules.Terms.{Terms}
-use Rattle.papaya_values.specs.Given.Schedules.Views.{number_of}
-use Rattle.papaya_stepping.specs.Given.Scheduler.Played.{BeginsSo, HasBegun, StandsFor, entry_of}
-use Rattle.papaya_values.specs.Given.Named.Seen.{is_named}
-use Rattle.papaya_values.specs.Given.Named.declared.caller.Stands.{Stands as HowFar}
-use Rattle.papaya_values.specs.Given.Named.declared.caller.Stands.TheVariants as far
-use Rattle.papaya_stepping.specs.Given.Scheduler.declared.played.Played.{Played}
-use Rattle.papaya_stepping.specs.Given.Scheduler.declared.scheduler.Scheduler.{Scheduler}
-use Rattle.papaya_stepping.proofs.Given.Scheduler.Here.{here_at}
+use Rattle.papaya_stepping.specs.Given.SeizeWordsDeclared.fault.Fault.TheVariants.{Busy, Capacity}
+use Rattle.papaya_stepping.specs.Given.RunsStopped.{most_steps}
+use Rattle.papaya_values.specs.Given.SchedulesDeclared.call.Call.{Call}
+use Rattle.papaya_values.specs.Given.SchedulesDeclared.event.Event.{Event}
+use Rattle.papaya_values.specs.Given.SchedulesDeclared.event.Event.TheVariants.{Go, OneCall, Step}
+use Rattle.papaya_values.specs.Given.SchedulesDeclared.outcome.Outcome.{Outcome}
+use Rattle.papaya_values.specs.Given.SchedulesDeclared.outcome.Outcome.TheVariants.{Asks, Ready, Refused}
+use Rattle.papaya_values.specs.Given.SchedulesAfter.{moment, moments_from}
+use Rattle.papaya_values.specs.Given.SchedulesBeginning.{with_call}
+use Rattle.papaya_values.specs.Given.SchedulesEffects.{worked}
+use Rattle.papaya_values.specs.Given.SchedulesEntry.{Entry, acting, caller_of, nameless}
+use Rattle.papaya_values.specs.Given.SchedulesMoment.{UnderWay as CallThere}
+use Rattle.papaya_values.specs.Given.SchedulesTerms.{Terms}
+use Rattle.papaya_values.specs.Given.SchedulesViews.{number_of}
+use Rattle.papaya_stepping.specs.Given.SchedulerPlayed.{BeginsSo, HasBegun, StandsFor, entry_of}
+use Rattle.papaya_values.specs.Given.NamedSeen.{is_named}
+use Rattle.papaya_values.specs.Given.NamedDeclared.caller.Stands.{Stands as HowFar}
+use Rattle.papaya_values.specs.Given.NamedDeclared.caller.Stands.TheVariants as far
+use Rattle.papaya_stepping.specs.Given.SchedulerDeclared.played.Played.{Played}
+use Rattle.papaya_stepping.specs.Given.SchedulerDeclared.scheduler.Scheduler.{Scheduler}
+use Rattle.papaya_stepping.proofs.Given.SchedulerHere.{here_at}
 use Rattle.papaya_stepping.specs.Stepping.{ComesInCase, GoesAt, IsInCase, SaysAgain, StepsCome, TakenAs, TakenBy, TookSteps, TookWhole}
 use Rattle.papaya_stepping.proofs.PlaysWhole.{goes_first, map_there}
 use Rattle.papaya_events.specs.OfCalls.{Runs}

@@ -1,43 +1,43 @@
 -- The effects of the steps of a call find what they must, if what is still asked is so of all of them.
 use Rattle.std.specs.Prelude.{◌≡◌, ◌+◌, ℕ, Bool, false, zero, suc, List, [], ◌∷◌, ◌++◌, map as list_map, Option, Some, option_map}
 use Rattle.std.proofs.Common.{ap, sym, subst, ◌∙◌, inl, inr}
-use Rattle.papaya_stepping.specs.Given.Resize.declared.new_table.NewTable.{NewTable}
-use Rattle.papaya_stepping.specs.Given.Runs.Same.{is_same}
-use Rattle.papaya_values.specs.Given.Schedules.declared.effect.Effect.{Effect}
-use Rattle.papaya_values.specs.Given.Schedules.declared.event.Event.{Event}
-use Rattle.papaya_values.specs.Given.Schedules.After.{moments_from}
-use Rattle.papaya_values.specs.Given.Schedules.Growing.{HasNext}
-use Rattle.papaya_values.specs.Given.Schedules.Lists.{OneOf}
-use Rattle.papaya_values.specs.Given.Schedules.Entry.{Entry}
-use Rattle.papaya_values.specs.Given.Schedules.Moment.{UnderWay as CallThere, Moment}
-use Rattle.papaya_values.specs.Given.Schedules.Terms.{Terms, shards_of}
-use Rattle.papaya_values.specs.Given.Schedules.Views.{call_of}
-use Rattle.papaya_values.specs.Given.Effects.Known.{known}
-use Rattle.papaya_stepping.specs.Given.Finishes.Machines.{machine_of}
-use Rattle.papaya_stepping.specs.Given.Finishes.Maps.{Standing}
-use Rattle.papaya_values.specs.Given.Follows.Calls.{IsCalled}
-use Rattle.papaya_stepping.proofs.Given.Histories.Begun.{effects_begun}
-use Rattle.papaya_stepping.specs.Given.Grows.Copiers.{making_of_copier}
-use Rattle.papaya_stepping.specs.Given.Finds.Parts.{FindAll, FindRest}
-use Rattle.papaya_stepping.proofs.Given.Finds.Joined.{several_find_all}
-use Rattle.papaya_values.specs.Given.Schedules.Lives.{Finds}
-use Rattle.papaya_stepping.specs.Given.Finds.Life.{StoresOne}
-use Rattle.papaya_stepping.specs.Given.Finds.Within.{ActsOn, AllIsInOrder}
-use Rattle.papaya_stepping.proofs.Given.Finds.Over.{both_at}
-use Rattle.papaya_stepping.proofs.Given.Finds.Runs.{life_keeps_order}
-use Rattle.papaya_stepping.specs.Given.Grows.Nexts.{MayFollow}
-use Rattle.papaya_stepping.proofs.Given.Legal.CallFinds.{steps_find_all}
-use Rattle.papaya_stepping.proofs.Given.Grows.Finding.Links.{such_of_making}
-use Rattle.papaya_stepping.proofs.Given.Grows.Finding.Rest.{steps_find_rest}
-use Rattle.papaya_stepping.proofs.Given.Grows.Tries.Log.{found_full_so, tables_last}
-use Rattle.papaya_values.specs.Given.Named.Seen.{Seen, seen}
-use Rattle.papaya_stepping.proofs.Given.Rows.Lists.{both_some, found_alike}
-use Rattle.papaya_stepping.specs.Given.Scheduler.declared.scheduler.Scheduler.{Scheduler}
+use Rattle.papaya_stepping.specs.Given.ResizeDeclared.new_table.NewTable.{NewTable}
+use Rattle.papaya_stepping.specs.Given.RunsSame.{is_same}
+use Rattle.papaya_values.specs.Given.SchedulesDeclared.effect.Effect.{Effect}
+use Rattle.papaya_values.specs.Given.SchedulesDeclared.event.Event.{Event}
+use Rattle.papaya_values.specs.Given.SchedulesAfter.{moments_from}
+use Rattle.papaya_values.specs.Given.SchedulesGrowing.{HasNext}
+use Rattle.papaya_values.specs.Given.SchedulesLists.{OneOf}
+use Rattle.papaya_values.specs.Given.SchedulesEntry.{Entry}
+use Rattle.papaya_values.specs.Given.SchedulesMoment.{UnderWay as CallThere, Moment}
+use Rattle.papaya_values.specs.Given.SchedulesTerms.{Terms, shards_of}
+use Rattle.papaya_values.specs.Given.SchedulesViews.{call_of}
+use Rattle.papaya_values.specs.Given.EffectsKnown.{known}
+use Rattle.papaya_stepping.specs.Given.FinishesMachines.{machine_of}
+use Rattle.papaya_stepping.specs.Given.FinishesMaps.{Standing}
+use Rattle.papaya_values.specs.Given.FollowsCalls.{IsCalled}
+use Rattle.papaya_stepping.proofs.Given.HistoriesBegun.{effects_begun}
+use Rattle.papaya_stepping.specs.Given.GrowsCopiers.{making_of_copier}
+use Rattle.papaya_stepping.specs.Given.FindsParts.{FindAll, FindRest}
+use Rattle.papaya_stepping.proofs.Given.FindsJoined.{several_find_all}
+use Rattle.papaya_values.specs.Given.SchedulesLives.{Finds}
+use Rattle.papaya_stepping.specs.Given.FindsLife.{StoresOne}
+use Rattle.papaya_stepping.specs.Given.FindsWithin.{ActsOn, AllIsInOrder}
+use Rattle.papaya_stepping.proofs.Given.FindsOver.{both_at}
+use Rattle.papaya_stepping.proofs.Given.FindsRuns.{life_keeps_order}
+use Rattle.papaya_stepping.specs.Given.GrowsNexts.{MayFollow}
+use Rattle.papaya_stepping.proofs.Given.LegalCallFinds.{steps_find_all}
+use Rattle.papaya_stepping.proofs.Given.GrowsFinding.Links.{such_of_making}
+use Rattle.papaya_stepping.proofs.Given.GrowsFinding.Rest.{steps_find_rest}
+use Rattle.papaya_stepping.proofs.Given.GrowsTries.Log.{found_full_so, tables_last}
+use Rattle.papaya_values.specs.Given.NamedSeen.{Seen, seen}
+use Rattle.papaya_stepping.proofs.Given.RowsLists.{both_some, found_alike}
+use Rattle.papaya_stepping.specs.Given.SchedulerDeclared.scheduler.Scheduler.{Scheduler}
 use Rattle.papaya_stepping.specs.Stepping.{GoneFor}
 use Rattle.papaya_stepping.proofs.AfterEffects.{calls_seen}
 use Rattle.papaya_events.proofs.OfCalls.Steps.{HasCome, IsStep, as_told, did, follows, has_come, its_here, leads, the}
-use Rattle.papaya_stepping.specs.Given.Executor.IsThere.{held_by}
-use Rattle.papaya_values.specs.Given.Schedules.Transition.{past}
+use Rattle.papaya_stepping.specs.Given.ExecutorIsThere.{held_by}
+use Rattle.papaya_values.specs.Given.SchedulesTransition.{past}
 
 module _ {K V : Type 0} (name : ℕ → List ℕ) (terms : Terms) (map i : ℕ) (c : CallThere K V) (moments : List (Moment K V)) where
   abbrev All : List Effect → Moment K V → Type 0

@@ -1,34 +1,34 @@
 -- An event that is in turn, or kept out, keeps its promises, and the run goes on with it.
 use Rattle.std.specs.Prelude.{◌≡◌, ◌⊎◌, ℕ, Bool, true, false, List, [], ◌∷◌, Result, Ok, Err, IfOk, MatchBool}
 use Rattle.std.proofs.Common.{ap, sym, subst, inl, inr, ◌∙◌}
-use Rattle.papaya_stepping.specs.Given.SeizeWords.declared.fault.Fault.TheVariants.{Busy}
-use Rattle.papaya_stepping.specs.Given.Runs.Stopped.{most_steps}
-use Rattle.papaya_values.specs.Given.Schedules.declared.call.Call.{Call}
-use Rattle.papaya_values.specs.Given.Schedules.declared.call.Reply.{Reply}
-use Rattle.papaya_values.specs.Given.Schedules.declared.event.Event.{Event}
-use Rattle.papaya_values.specs.Given.Schedules.declared.event.Event.TheVariants as event
-use Rattle.papaya_values.specs.Given.Schedules.declared.outcome.Outcome.TheVariants.{Done, Goes, Refused}
-use Rattle.papaya_values.specs.Given.Schedules.After.{moment}
-use Rattle.papaya_values.specs.Given.Schedules.Coming.{fits_reply, shows_now}
-use Rattle.papaya_values.specs.Given.Schedules.Entry.{Entry}
-use Rattle.papaya_values.specs.Given.Schedules.InTurn.{ComesRight, ComesTo, IsKeptOut}
-use Rattle.papaya_values.specs.Given.Schedules.Terms.{Terms}
-use Rattle.papaya_values.specs.Given.Schedules.Views.{call_of}
-use Rattle.papaya_stepping.specs.Given.Logged.Calling.{MakesNoMore}
-use Rattle.papaya_stepping.specs.Given.Scheduler.KeptOut.{PlaysKeptOut}
-use Rattle.papaya_stepping.specs.Given.Scheduler.Played.{Began, IsDue, IsPlayed, PlaysAt, Replies, Stops, entry_of}
-use Rattle.papaya_stepping.specs.Given.Scheduler.Quiet.{StaysBusy}
-use Rattle.papaya_stepping.specs.Given.Scheduler.declared.played.Played.{Played}
-use Rattle.papaya_stepping.specs.Given.Scheduler.declared.scheduler.Scheduler.{Scheduler}
-use Rattle.papaya_stepping.proofs.Given.Scheduler.Rights.{entry_is}
+use Rattle.papaya_stepping.specs.Given.SeizeWordsDeclared.fault.Fault.TheVariants.{Busy}
+use Rattle.papaya_stepping.specs.Given.RunsStopped.{most_steps}
+use Rattle.papaya_values.specs.Given.SchedulesDeclared.call.Call.{Call}
+use Rattle.papaya_values.specs.Given.SchedulesDeclared.call.Reply.{Reply}
+use Rattle.papaya_values.specs.Given.SchedulesDeclared.event.Event.{Event}
+use Rattle.papaya_values.specs.Given.SchedulesDeclared.event.Event.TheVariants as event
+use Rattle.papaya_values.specs.Given.SchedulesDeclared.outcome.Outcome.TheVariants.{Done, Goes, Refused}
+use Rattle.papaya_values.specs.Given.SchedulesAfter.{moment}
+use Rattle.papaya_values.specs.Given.SchedulesComing.{fits_reply, shows_now}
+use Rattle.papaya_values.specs.Given.SchedulesEntry.{Entry}
+use Rattle.papaya_values.specs.Given.SchedulesInTurn.{ComesRight, ComesTo, IsKeptOut}
+use Rattle.papaya_values.specs.Given.SchedulesTerms.{Terms}
+use Rattle.papaya_values.specs.Given.SchedulesViews.{call_of}
+use Rattle.papaya_stepping.specs.Given.LoggedCalling.{MakesNoMore}
+use Rattle.papaya_stepping.specs.Given.SchedulerKeptOut.{PlaysKeptOut}
+use Rattle.papaya_stepping.specs.Given.SchedulerPlayed.{Began, IsDue, IsPlayed, PlaysAt, Replies, Stops, entry_of}
+use Rattle.papaya_stepping.specs.Given.SchedulerQuiet.{StaysBusy}
+use Rattle.papaya_stepping.specs.Given.SchedulerDeclared.played.Played.{Played}
+use Rattle.papaya_stepping.specs.Given.SchedulerDeclared.scheduler.Scheduler.{Scheduler}
+use Rattle.papaya_stepping.proofs.Given.SchedulerRights.{entry_is}
 use Rattle.papaya_stepping.specs.Stepping.{PlaysNextAt, PlaysOnAt, TookNext, TookSteps, TookWhole}
 use Rattle.papaya_events.specs.Asked.{is_of_calls}
 use Rattle.papaya_events.specs.OfCalls.{KeepsAt, KeepsDue, Runs, RunsOn}
 use Rattle.papaya_events.proofs.OfCalls.Events.{ask_on, begin_on, begin_out, go_on, go_out, next_out, reply_out, step_on, step_out, stop_out, whole_goes_on, whole_out}
 use Rattle.papaya_events.proofs.OfCalls.Finds.{go_finds, not_busy, quiet_in_case, step_finds, whole_finds}
 use Rattle.papaya_events.proofs.OfCalls.Told.{stopped_on, told_on}
-use Rattle.papaya_stepping.specs.Given.Executor.IsThere.{KeepsGiven}
-use Rattle.papaya_values.proofs.Given.Scenes.Leads.{happens}
+use Rattle.papaya_stepping.specs.Given.ExecutorIsThere.{KeepsGiven}
+use Rattle.papaya_values.proofs.Given.ScenesLeads.{happens}
 
 -- one that is in turn comes to what it must
 pub in_turn_comes : {K V : Type 0} (terms : Terms) (log : List (Entry K V)) (e : Entry K V) → (moment log).is_closed ≡ false → ComesRight terms log e

@@ -1,43 +1,43 @@
 -- An event of a call that goes on is refused for the length of a table only in its case.
 use Rattle.std.specs.Prelude.{◌≡◌, ℕ, suc, Bool, List, Option, Some, None}
 use Rattle.std.proofs.Common.{refl, ap, sym, subst, ◌∙◌}
-use Rattle.papaya_stepping.specs.Given.SeizeWords.declared.fault.Fault.{Fault}
-use Rattle.papaya_stepping.specs.Given.SeizeWords.declared.fault.Fault.TheVariants.{Capacity}
-use Rattle.papaya_stepping.specs.Given.Tables.declared.node.Node.{Node}
-use Rattle.papaya_stepping.specs.Given.Raw.declared.machines.progress.Progress.{Progress}
-use Rattle.papaya_stepping.specs.Given.Raw.declared.machines.progress.Progress.TheVariants as progress
-use Rattle.papaya_stepping.specs.Given.Runs.Same.{is_same}
-use Rattle.papaya_values.specs.Given.Schedules.declared.effect.Effect.{Effect}
-use Rattle.papaya_values.specs.Given.Schedules.declared.event.Event.{Event}
-use Rattle.papaya_values.specs.Given.Schedules.declared.outcome.Outcome.{Outcome}
-use Rattle.papaya_values.specs.Given.Schedules.declared.outcome.Outcome.TheVariants.{Refused}
-use Rattle.papaya_values.specs.Given.Schedules.After.{moment, moments_from}
-use Rattle.papaya_values.specs.Given.Schedules.Beginning.{at_work}
-use Rattle.papaya_values.specs.Given.Schedules.Effects.{with_effects, worked}
-use Rattle.papaya_values.specs.Given.Schedules.Entry.{Entry, IfCall, acted_on, acting, caller_of}
-use Rattle.papaya_values.specs.Given.Schedules.Moment.{UnderWay as CallThere, Moment}
-use Rattle.papaya_values.specs.Given.Schedules.Terms.{Terms, shards_of}
-use Rattle.papaya_values.specs.Given.Schedules.Views.{call_of}
-use Rattle.papaya_stepping.specs.Given.Callers.Rooms.{CallForRoom}
-use Rattle.papaya_stepping.specs.Given.Callers.Together.{ForRoom}
-use Rattle.papaya_values.specs.Given.Effects.Known.{Known, known}
-use Rattle.papaya_stepping.proofs.Given.Histories.Begun.{effects_begun}
-use Rattle.papaya_values.proofs.Given.Moments.After.{effects_after}
-use Rattle.papaya_stepping.proofs.Given.Legal.CallChanges.{reads_shards}
-use Rattle.papaya_stepping.proofs.Given.Grows.Limits.Cases.{room_shards, steps_in_case}
-use Rattle.papaya_values.specs.Given.Named.Seen.{Seen, seen}
-use Rattle.papaya_values.specs.Given.Named.declared.kind.Kind.{Kind}
-use Rattle.papaya_stepping.proofs.Given.Rows.Lists.{both_some, found_alike}
-use Rattle.papaya_stepping.specs.Given.Scheduler.Played.{entry_of}
-use Rattle.papaya_stepping.specs.Given.Scheduler.declared.played.Played.{Played}
-use Rattle.papaya_stepping.specs.Given.Scheduler.declared.scheduler.Scheduler.{Scheduler}
+use Rattle.papaya_stepping.specs.Given.SeizeWordsDeclared.fault.Fault.{Fault}
+use Rattle.papaya_stepping.specs.Given.SeizeWordsDeclared.fault.Fault.TheVariants.{Capacity}
+use Rattle.papaya_stepping.specs.Given.TablesDeclared.node.Node.{Node}
+use Rattle.papaya_stepping.specs.Given.RawDeclared.machines.progress.Progress.{Progress}
+use Rattle.papaya_stepping.specs.Given.RawDeclared.machines.progress.Progress.TheVariants as progress
+use Rattle.papaya_stepping.specs.Given.RunsSame.{is_same}
+use Rattle.papaya_values.specs.Given.SchedulesDeclared.effect.Effect.{Effect}
+use Rattle.papaya_values.specs.Given.SchedulesDeclared.event.Event.{Event}
+use Rattle.papaya_values.specs.Given.SchedulesDeclared.outcome.Outcome.{Outcome}
+use Rattle.papaya_values.specs.Given.SchedulesDeclared.outcome.Outcome.TheVariants.{Refused}
+use Rattle.papaya_values.specs.Given.SchedulesAfter.{moment, moments_from}
+use Rattle.papaya_values.specs.Given.SchedulesBeginning.{at_work}
+use Rattle.papaya_values.specs.Given.SchedulesEffects.{with_effects, worked}
+use Rattle.papaya_values.specs.Given.SchedulesEntry.{Entry, IfCall, acted_on, acting, caller_of}
+use Rattle.papaya_values.specs.Given.SchedulesMoment.{UnderWay as CallThere, Moment}
+use Rattle.papaya_values.specs.Given.SchedulesTerms.{Terms, shards_of}
+use Rattle.papaya_values.specs.Given.SchedulesViews.{call_of}
+use Rattle.papaya_stepping.specs.Given.CallersRooms.{CallForRoom}
+use Rattle.papaya_stepping.specs.Given.CallersTogether.{ForRoom}
+use Rattle.papaya_values.specs.Given.EffectsKnown.{Known, known}
+use Rattle.papaya_stepping.proofs.Given.HistoriesBegun.{effects_begun}
+use Rattle.papaya_values.proofs.Given.MomentsAfter.{effects_after}
+use Rattle.papaya_stepping.proofs.Given.LegalCallChanges.{reads_shards}
+use Rattle.papaya_stepping.proofs.Given.GrowsLimits.Cases.{room_shards, steps_in_case}
+use Rattle.papaya_values.specs.Given.NamedSeen.{Seen, seen}
+use Rattle.papaya_values.specs.Given.NamedDeclared.kind.Kind.{Kind}
+use Rattle.papaya_stepping.proofs.Given.RowsLists.{both_some, found_alike}
+use Rattle.papaya_stepping.specs.Given.SchedulerPlayed.{entry_of}
+use Rattle.papaya_stepping.specs.Given.SchedulerDeclared.played.Played.{Played}
+use Rattle.papaya_stepping.specs.Given.SchedulerDeclared.scheduler.Scheduler.{Scheduler}
 use Rattle.papaya_stepping.specs.Stepping.{ComesInCase, IsInCase, IsStepped, outcome_of}
 use Rattle.papaya_stepping.proofs.AfterEffects.{calls_seen}
 use Rattle.papaya_events.proofs.OfCalls.Found.{mask_is}
 use Rattle.papaya_events.proofs.OfCalls.Steps.{HasCome, IsStep, as_told, did, follows, its_here, leads, the}
 use Rattle.papaya_events.proofs.OfCalls.Worth.{effects_say}
-use Rattle.papaya_stepping.specs.Given.Executor.IsThere.{held_by}
-use Rattle.papaya_values.specs.Given.Schedules.Transition.{past}
+use Rattle.papaya_stepping.specs.Given.ExecutorIsThere.{held_by}
+use Rattle.papaya_values.specs.Given.SchedulesTransition.{past}
 
 -- what is told as a refusal was said as one
 refused_said : {K V : Type 0} (by : Known) (kind : Kind) (value : Option V) (said : Progress (Node K V)) (fault : Fault) → outcome_of by kind value said ≡ Refused fault → said ≡ progress.Refused fault

@@ -2,29 +2,29 @@
 use Rattle.std.specs.Prelude.{◌≡◌, ◌≤◌, ℕ, zero, suc, List, [], ◌∷◌, Option}
 use Rattle.std.proofs.Common.{refl, ap, sym, subst, ◌∙◌, inl, inr}
 use Rattle.std.proofs.lemmas.Bool.{cases_eq}
-use Rattle.papaya_stepping.specs.Given.SeizeWaiting.Held.{count}
-use Rattle.papaya_stepping.specs.Given.SeizeWords.Mem.{Mem}
-use Rattle.papaya_stepping.specs.Given.Seize.WaitingSets.{Change, Retires, Defers as PutsBehind, Sets, all_changed, size}
-use Rattle.papaya_stepping.specs.Given.Seize.World.{World, Row, Rests, Settles, Defers, Use, Vacant, Outside, Inside, Changing, IsInside, Request, Retire, Defer', Begins, Steps', one_less, one_more, with_at, settles_on, defers_on}
-use Rattle.papaya_stepping.specs.Given.Seize.declared.rows.settle.Settle.{Settle}
-use Rattle.papaya_stepping.specs.Given.Seize.declared.rows.settle.Settled.{Settled}
-use Rattle.papaya_stepping.specs.Given.Seize.declared.rows.settle.Settled.TheVariants as settled
-use Rattle.papaya_stepping.specs.Given.Seize.declared.rows.defer.Defer.{Defer}
-use Rattle.papaya_stepping.specs.Given.Seize.declared.progress.Progress.{Progress}
-use Rattle.papaya_stepping.specs.Given.Seize.declared.progress.Progress.TheVariants as progress
-use Rattle.papaya_stepping.specs.Given.SeizeAlone.Alone.{TakesSteps}
-use Rattle.papaya_stepping.specs.Given.Tables.Nodes.{deferred_word}
-use Rattle.papaya_stepping.specs.Given.Tables.declared.node.Node.{Node}
-use Rattle.papaya_values.specs.Given.Effects.Known.{Known}
-use Rattle.papaya_values.specs.Given.Schedules.declared.effect.Thing.{Thing}
-use Rattle.papaya_stepping.proofs.Given.Callers.Together.At.{at_other, at_same}
-use Rattle.papaya_stepping.proofs.Given.SeizeWaiting.Flushes.{retired_all_frame}
-use Rattle.papaya_stepping.specs.Given.Models.Alike.{ChangesAlike}
-use Rattle.papaya_stepping.specs.Given.Models.CallEvents.{HasToldPart}
-use Rattle.papaya_stepping.specs.Given.Models.Numbers.{HasNumber}
-use Rattle.papaya_stepping.proofs.Given.Models.Turns.{inside_active}
+use Rattle.papaya_stepping.specs.Given.SeizeWaitingHeld.{count}
+use Rattle.papaya_stepping.specs.Given.SeizeWordsMem.{Mem}
+use Rattle.papaya_stepping.specs.Given.SeizeWaitingSets.{Change, Retires, Defers as PutsBehind, Sets, all_changed, size}
+use Rattle.papaya_stepping.specs.Given.SeizeWorld.{World, Row, Rests, Settles, Defers, Use, Vacant, Outside, Inside, Changing, IsInside, Request, Retire, Defer', Begins, Steps', one_less, one_more, with_at, settles_on, defers_on}
+use Rattle.papaya_stepping.specs.Given.SeizeDeclared.rows.settle.Settle.{Settle}
+use Rattle.papaya_stepping.specs.Given.SeizeDeclared.rows.settle.Settled.{Settled}
+use Rattle.papaya_stepping.specs.Given.SeizeDeclared.rows.settle.Settled.TheVariants as settled
+use Rattle.papaya_stepping.specs.Given.SeizeDeclared.rows.defer.Defer.{Defer}
+use Rattle.papaya_stepping.specs.Given.SeizeDeclared.progress.Progress.{Progress}
+use Rattle.papaya_stepping.specs.Given.SeizeDeclared.progress.Progress.TheVariants as progress
+use Rattle.papaya_stepping.specs.Given.SeizeAloneAlone.{TakesSteps}
+use Rattle.papaya_stepping.specs.Given.TablesNodes.{deferred_word}
+use Rattle.papaya_stepping.specs.Given.TablesDeclared.node.Node.{Node}
+use Rattle.papaya_values.specs.Given.EffectsKnown.{Known}
+use Rattle.papaya_values.specs.Given.SchedulesDeclared.effect.Thing.{Thing}
+use Rattle.papaya_stepping.proofs.Given.CallersTogether.At.{at_other, at_same}
+use Rattle.papaya_stepping.proofs.Given.SeizeWaitingFlushes.{retired_all_frame}
+use Rattle.papaya_stepping.specs.Given.ModelsAlike.{ChangesAlike}
+use Rattle.papaya_stepping.specs.Given.ModelsCallEvents.{HasToldPart}
+use Rattle.papaya_stepping.specs.Given.ModelsNumbers.{HasNumber}
+use Rattle.papaya_stepping.proofs.Given.ModelsTurns.{inside_active}
 use Rattle.papaya_events.specs.OfCalls.{InsidesFollowInRows}
-use Rattle.papaya_values.specs.Given.Scenes.Scene.{at_first}
+use Rattle.papaya_values.specs.Given.ScenesScene.{at_first}
 
 less_inside : (u : Use) → IsInside (one_less u) → IsInside u
 less_inside Vacant h = h

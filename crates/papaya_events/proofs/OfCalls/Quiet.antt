@@ -1,41 +1,41 @@
 -- An event of a call that is out of turn, or kept out, does nothing: it keeps its promises, and the run goes on with it.
 use Rattle.std.specs.Prelude.{◌≡◌, ◌+◌, ℕ, Bool, false, is_some, List, [], ◌∷◌, position, Option, Some, None}
 use Rattle.std.proofs.Common.{refl, ap, sym, subst, ◌∙◌, arith}
-use Rattle.papaya_stepping.specs.Given.SeizeWords.declared.fault.Fault.TheVariants.{Busy}
-use Rattle.papaya_values.specs.Given.Schedules.declared.event.Event.{Event}
-use Rattle.papaya_values.specs.Given.Schedules.declared.outcome.Outcome.TheVariants.{Refused}
-use Rattle.papaya_values.specs.Given.Schedules.After.{moment, moments_from}
-use Rattle.papaya_values.specs.Given.Schedules.Effects.{worked}
-use Rattle.papaya_values.specs.Given.Schedules.Entry.{Entry, IfCall, acting, caller_of}
-use Rattle.papaya_values.specs.Given.Schedules.Handing.{IsWhole}
-use Rattle.papaya_values.specs.Given.Schedules.InTurn.{ComesRight}
-use Rattle.papaya_values.specs.Given.Schedules.Moment.{UnderWay as CallThere, Moment}
-use Rattle.papaya_values.specs.Given.Schedules.Steps.{IsBrief, ReadsBriefly}
-use Rattle.papaya_values.specs.Given.Schedules.Terms.{Terms}
-use Rattle.papaya_values.specs.Given.Schedules.Views.{call_of}
-use Rattle.papaya_values.specs.Given.Effects.Known.{known}
-use Rattle.papaya_stepping.specs.Given.Promises.Guards.{EntersInside}
-use Rattle.papaya_stepping.specs.Given.Promises.Sheltered.{SectionsHold}
-use Rattle.papaya_stepping.proofs.Given.Promises.Brief.Ends.{events_read_briefly}
-use Rattle.papaya_stepping.proofs.Given.Purposes.Nothing.{other_outcomes_are_swept}
-use Rattle.papaya_stepping.specs.Given.Models.CallEvents.{IsOfNoSlot}
-use Rattle.papaya_stepping.proofs.Given.Models.CallEvents.{others_hand_over}
-use Rattle.papaya_stepping.specs.Given.Finds.Little.{ReclaimsAll}
-use Rattle.papaya_stepping.specs.Given.Legal.CallEvents.{IsLegalBut}
-use Rattle.papaya_stepping.specs.Given.Legal.Carried.{ShowsRun}
-use Rattle.papaya_stepping.specs.Given.Legal.Over.{LeavesAll}
-use Rattle.papaya_stepping.proofs.Given.Legal.Idle.{idle_events_are_legal}
-use Rattle.papaya_stepping.proofs.Given.Legal.Over.{idle_events_end}
-use Rattle.papaya_stepping.specs.Given.Scheduler.Played.{IsPlayed}
-use Rattle.papaya_values.specs.Given.Named.Seen.{is_named}
-use Rattle.papaya_stepping.specs.Given.Scheduler.declared.scheduler.Scheduler.{Scheduler}
-use Rattle.papaya_stepping.proofs.Given.Scheduler.Here.{here_at, there_is}
-use Rattle.papaya_stepping.proofs.Given.Scheduler.Rights.{quiet}
+use Rattle.papaya_stepping.specs.Given.SeizeWordsDeclared.fault.Fault.TheVariants.{Busy}
+use Rattle.papaya_values.specs.Given.SchedulesDeclared.event.Event.{Event}
+use Rattle.papaya_values.specs.Given.SchedulesDeclared.outcome.Outcome.TheVariants.{Refused}
+use Rattle.papaya_values.specs.Given.SchedulesAfter.{moment, moments_from}
+use Rattle.papaya_values.specs.Given.SchedulesEffects.{worked}
+use Rattle.papaya_values.specs.Given.SchedulesEntry.{Entry, IfCall, acting, caller_of}
+use Rattle.papaya_values.specs.Given.SchedulesHanding.{IsWhole}
+use Rattle.papaya_values.specs.Given.SchedulesInTurn.{ComesRight}
+use Rattle.papaya_values.specs.Given.SchedulesMoment.{UnderWay as CallThere, Moment}
+use Rattle.papaya_values.specs.Given.SchedulesSteps.{IsBrief, ReadsBriefly}
+use Rattle.papaya_values.specs.Given.SchedulesTerms.{Terms}
+use Rattle.papaya_values.specs.Given.SchedulesViews.{call_of}
+use Rattle.papaya_values.specs.Given.EffectsKnown.{known}
+use Rattle.papaya_stepping.specs.Given.PromisesGuards.{EntersInside}
+use Rattle.papaya_stepping.specs.Given.PromisesSheltered.{SectionsHold}
+use Rattle.papaya_stepping.proofs.Given.PromisesBrief.Ends.{events_read_briefly}
+use Rattle.papaya_stepping.proofs.Given.PurposesNothing.{other_outcomes_are_swept}
+use Rattle.papaya_stepping.specs.Given.ModelsCallEvents.{IsOfNoSlot}
+use Rattle.papaya_stepping.proofs.Given.ModelsCallEvents.{others_hand_over}
+use Rattle.papaya_stepping.specs.Given.FindsLittle.{ReclaimsAll}
+use Rattle.papaya_stepping.specs.Given.LegalCallEvents.{IsLegalBut}
+use Rattle.papaya_stepping.specs.Given.LegalCarried.{ShowsRun}
+use Rattle.papaya_stepping.specs.Given.LegalOver.{LeavesAll}
+use Rattle.papaya_stepping.proofs.Given.LegalIdle.{idle_events_are_legal}
+use Rattle.papaya_stepping.proofs.Given.LegalOver.{idle_events_end}
+use Rattle.papaya_stepping.specs.Given.SchedulerPlayed.{IsPlayed}
+use Rattle.papaya_values.specs.Given.NamedSeen.{is_named}
+use Rattle.papaya_stepping.specs.Given.SchedulerDeclared.scheduler.Scheduler.{Scheduler}
+use Rattle.papaya_stepping.proofs.Given.SchedulerHere.{here_at, there_is}
+use Rattle.papaya_stepping.proofs.Given.SchedulerRights.{quiet}
 use Rattle.papaya_events.proofs.OfCalls.Worth.{busy_says}
 use Rattle.papaya_events.specs.OfCalls.{Runs, RunsOn}
 use Rattle.papaya_events.proofs.OfCalls.AsBefore.{as_before}
-use Rattle.papaya_stepping.specs.Given.Executor.IsThere.{held_by}
-use Rattle.papaya_values.specs.Given.Schedules.Transition.{past, transition}
+use Rattle.papaya_stepping.specs.Given.ExecutorIsThere.{held_by}
+use Rattle.papaya_values.specs.Given.SchedulesTransition.{past, transition}
 
 -- whatever call there is, nothing is asked of it
 nothing_asked : {K V : Type 0} (o : Option (CallThere K V)) → IfCall (λ (c : CallThere K V). Unit {0}) o

@@ -2,20 +2,20 @@
 use Rattle.std.specs.Prelude.{◌≡◌, ℕ, Bool, List, [], ◌∷◌, slice_set, Some, option_map}
 use Rattle.std.specs.List.{AllByRecursion, remove}
 use Rattle.std.proofs.Common.{sym, subst, ◌∙◌}
-use Rattle.papaya_stepping.specs.Given.Tables.declared.setting.Setting.{Setting}
-use Rattle.papaya_stepping.specs.Given.Raw.declared.machines.machine.Machine.{Machine}
-use Rattle.papaya_values.specs.Given.Schedules.Moment.{Moment}
-use Rattle.papaya_values.specs.Given.Schedules.Terms.{Terms}
-use Rattle.papaya_stepping.specs.Given.Finishes.Machines.{machine_of}
-use Rattle.papaya_stepping.specs.Given.Finishes.Maps.{Standing}
-use Rattle.papaya_stepping.specs.Given.Logged.Shown.{IsShown}
-use Rattle.papaya_stepping.proofs.Given.Rows.Lists.{all_so, both_none, both_some}
-use Rattle.papaya_stepping.specs.Given.Scheduler.Played.{AsFar, IsUnderWay, StandsFor}
-use Rattle.papaya_values.specs.Given.Named.declared.caller.Caller.{Caller}
-use Rattle.papaya_values.specs.Given.Named.declared.named_map.NamedMap.{NamedMap}
+use Rattle.papaya_stepping.specs.Given.TablesDeclared.setting.Setting.{Setting}
+use Rattle.papaya_stepping.specs.Given.RawDeclared.machines.machine.Machine.{Machine}
+use Rattle.papaya_values.specs.Given.SchedulesMoment.{Moment}
+use Rattle.papaya_values.specs.Given.SchedulesTerms.{Terms}
+use Rattle.papaya_stepping.specs.Given.FinishesMachines.{machine_of}
+use Rattle.papaya_stepping.specs.Given.FinishesMaps.{Standing}
+use Rattle.papaya_stepping.specs.Given.LoggedShown.{IsShown}
+use Rattle.papaya_stepping.proofs.Given.RowsLists.{all_so, both_none, both_some}
+use Rattle.papaya_stepping.specs.Given.SchedulerPlayed.{AsFar, IsUnderWay, StandsFor}
+use Rattle.papaya_values.specs.Given.NamedDeclared.caller.Caller.{Caller}
+use Rattle.papaya_values.specs.Given.NamedDeclared.named_map.NamedMap.{NamedMap}
 use Rattle.papaya_events.proofs.OfCalls.Worth.{all_left, all_set}
-use Rattle.papaya_stepping.specs.Given.Scheduler.declared.scheduler.Scheduler.{Scheduler}
-use Rattle.papaya_values.specs.Given.Scenes.Scene.{Scene}
+use Rattle.papaya_stepping.specs.Given.SchedulerDeclared.scheduler.Scheduler.{Scheduler}
+use Rattle.papaya_values.specs.Given.ScenesScene.{Scene}
 
 -- callers have these names
 abbrev pub AreNamed : {V : Type 0} → (ℕ → List ℕ) → List (Caller V) → Type 0

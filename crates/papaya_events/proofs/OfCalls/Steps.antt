@@ -4,76 +4,76 @@ use Rattle.std.specs.List.{remove}
 use Rattle.std.proofs.Common.{refl, ap, sym, subst, ◌∙◌, inl, inr, arith}
 use Rattle.std.proofs.lemmas.Bool.{cases_eq}
 use Rattle.std.specs.Prelude.{filter, length, ◌≤◌}
-use Rattle.papaya_stepping.specs.Given.Seize.World.{Begin, Happens, Request, SlotsTaken, Step, World}
-use Rattle.papaya_stepping.specs.Given.Tables.Nodes.{deferred_word}
-use Rattle.papaya_stepping.specs.Given.Tables.declared.node.Node.{Node}
-use Rattle.papaya_stepping.specs.Given.Tables.declared.setting.Setting.{Setting}
-use Rattle.papaya_stepping.specs.Given.Raw.declared.machines.progress.Progress.{Progress}
-use Rattle.papaya_stepping.specs.Given.Raw.declared.machines.progress.Progress.TheVariants as progress
-use Rattle.papaya_stepping.specs.Given.Runs.Present.{slot_of_guard}
-use Rattle.papaya_stepping.specs.Given.Runs.Same.{is_same}
-use Rattle.papaya_values.specs.Given.Schedules.After.{moment}
-use Rattle.papaya_values.specs.Given.Schedules.declared.effect.Effect.{Effect}
-use Rattle.papaya_values.specs.Given.Schedules.declared.event.Event.{Event}
-use Rattle.papaya_values.specs.Given.Schedules.declared.outcome.Outcome.{Outcome}
-use Rattle.papaya_values.specs.Given.Schedules.Effects.{with_effects}
-use Rattle.papaya_values.specs.Given.Schedules.Entry.{Entry}
-use Rattle.papaya_values.specs.Given.Schedules.Model.{things_in}
-use Rattle.papaya_values.specs.Given.Schedules.Moment.{UnderWay as CallThere, Moment}
-use Rattle.papaya_values.specs.Given.Schedules.Terms.{Terms, shards_of}
-use Rattle.papaya_values.specs.Given.Schedules.Views.{call_of}
-use Rattle.papaya_stepping.specs.Given.Callers.Together.{UnderWay, HandsOver}
-use Rattle.papaya_values.specs.Given.Effects.Effects.{effects_of, known_after}
-use Rattle.papaya_values.specs.Given.Effects.Known.{Known, known}
-use Rattle.papaya_values.specs.Given.Effects.declared.acting.Acting.TheVariants as acts
-use Rattle.papaya_stepping.specs.Given.Finishes.Maps.{Standing, IsSameMap}
-use Rattle.papaya_stepping.specs.Given.Histories.InEvent.{here_of}
-use Rattle.papaya_values.specs.Given.Schedules.declared.effect.Thing.{Thing}
-use Rattle.papaya_values.specs.Given.Schedules.declared.call.Call.{Call}
-use Rattle.papaya_values.specs.Given.Schedules.declared.call.Reply.{Reply}
-use Rattle.papaya_stepping.specs.Given.Finishes.Machines.{machine_of}
-use Rattle.papaya_values.proofs.Given.Follows.Calling.{is_same_is, is_same_refl}
-use Rattle.papaya_values.proofs.Given.Hands.Asking.{which}
-use Rattle.papaya_stepping.specs.Given.Models.CallEvents.{IsNoted, things_then}
-use Rattle.papaya_stepping.specs.Given.Legal.Noted.{HaveCome}
-use Rattle.papaya_stepping.proofs.Given.Legal.Come.{calls_bring_things}
-use Rattle.papaya_stepping.proofs.Given.Legal.Noted.{calls_hand_noted}
-use Rattle.papaya_stepping.proofs.Given.Models.CallEvents.{things_more}
-use Rattle.papaya_stepping.specs.Given.Purposes.Kept.{ShowsNone}
-use Rattle.papaya_stepping.specs.Given.Legal.CallEvents.{InCallEvent}
-use Rattle.papaya_stepping.proofs.Given.Legal.Calls.{call_events_go_on_so}
-use Rattle.papaya_stepping.proofs.Given.Legal.Heads.Rows.{slots_stay}
-use Rattle.papaya_stepping.proofs.Given.Legal.Heads.Steps.{call_taken}
-use Rattle.papaya_stepping.specs.Given.Logged.Calling.{CallGoesOn}
-use Rattle.papaya_stepping.specs.Given.Logged.Shown.{IsShown}
-use Rattle.papaya_stepping.proofs.Given.Rows.Lists.{both_some, found_alike, set_get}
-use Rattle.papaya_values.specs.Given.Named.Seen.{Seen, kind_of, seen}
-use Rattle.papaya_values.specs.Given.Named.Telling.{goes_on}
-use Rattle.papaya_values.specs.Given.Named.declared.caller.Caller.{Caller}
-use Rattle.papaya_stepping.specs.Given.Scheduler.declared.scheduler.Scheduler.{Scheduler}
-use Rattle.papaya_stepping.proofs.Given.Scheduler.RanOn.{there_stays}
+use Rattle.papaya_stepping.specs.Given.SeizeWorld.{Begin, Happens, Request, SlotsTaken, Step, World}
+use Rattle.papaya_stepping.specs.Given.TablesNodes.{deferred_word}
+use Rattle.papaya_stepping.specs.Given.TablesDeclared.node.Node.{Node}
+use Rattle.papaya_stepping.specs.Given.TablesDeclared.setting.Setting.{Setting}
+use Rattle.papaya_stepping.specs.Given.RawDeclared.machines.progress.Progress.{Progress}
+use Rattle.papaya_stepping.specs.Given.RawDeclared.machines.progress.Progress.TheVariants as progress
+use Rattle.papaya_stepping.specs.Given.RunsPresent.{slot_of_guard}
+use Rattle.papaya_stepping.specs.Given.RunsSame.{is_same}
+use Rattle.papaya_values.specs.Given.SchedulesAfter.{moment}
+use Rattle.papaya_values.specs.Given.SchedulesDeclared.effect.Effect.{Effect}
+use Rattle.papaya_values.specs.Given.SchedulesDeclared.event.Event.{Event}
+use Rattle.papaya_values.specs.Given.SchedulesDeclared.outcome.Outcome.{Outcome}
+use Rattle.papaya_values.specs.Given.SchedulesEffects.{with_effects}
+use Rattle.papaya_values.specs.Given.SchedulesEntry.{Entry}
+use Rattle.papaya_values.specs.Given.SchedulesModel.{things_in}
+use Rattle.papaya_values.specs.Given.SchedulesMoment.{UnderWay as CallThere, Moment}
+use Rattle.papaya_values.specs.Given.SchedulesTerms.{Terms, shards_of}
+use Rattle.papaya_values.specs.Given.SchedulesViews.{call_of}
+use Rattle.papaya_stepping.specs.Given.CallersTogether.{UnderWay, HandsOver}
+use Rattle.papaya_values.specs.Given.EffectsEffects.{effects_of, known_after}
+use Rattle.papaya_values.specs.Given.EffectsKnown.{Known, known}
+use Rattle.papaya_values.specs.Given.EffectsDeclared.acting.Acting.TheVariants as acts
+use Rattle.papaya_stepping.specs.Given.FinishesMaps.{Standing, IsSameMap}
+use Rattle.papaya_stepping.specs.Given.HistoriesInEvent.{here_of}
+use Rattle.papaya_values.specs.Given.SchedulesDeclared.effect.Thing.{Thing}
+use Rattle.papaya_values.specs.Given.SchedulesDeclared.call.Call.{Call}
+use Rattle.papaya_values.specs.Given.SchedulesDeclared.call.Reply.{Reply}
+use Rattle.papaya_stepping.specs.Given.FinishesMachines.{machine_of}
+use Rattle.papaya_values.proofs.Given.FollowsCalling.{is_same_is, is_same_refl}
+use Rattle.papaya_values.proofs.Given.HandsAsking.{which}
+use Rattle.papaya_stepping.specs.Given.ModelsCallEvents.{IsNoted, things_then}
+use Rattle.papaya_stepping.specs.Given.LegalNoted.{HaveCome}
+use Rattle.papaya_stepping.proofs.Given.LegalCome.{calls_bring_things}
+use Rattle.papaya_stepping.proofs.Given.LegalNoted.{calls_hand_noted}
+use Rattle.papaya_stepping.proofs.Given.ModelsCallEvents.{things_more}
+use Rattle.papaya_stepping.specs.Given.PurposesKept.{ShowsNone}
+use Rattle.papaya_stepping.specs.Given.LegalCallEvents.{InCallEvent}
+use Rattle.papaya_stepping.proofs.Given.LegalCalls.{call_events_go_on_so}
+use Rattle.papaya_stepping.proofs.Given.LegalHeads.Rows.{slots_stay}
+use Rattle.papaya_stepping.proofs.Given.LegalHeads.Steps.{call_taken}
+use Rattle.papaya_stepping.specs.Given.LoggedCalling.{CallGoesOn}
+use Rattle.papaya_stepping.specs.Given.LoggedShown.{IsShown}
+use Rattle.papaya_stepping.proofs.Given.RowsLists.{both_some, found_alike, set_get}
+use Rattle.papaya_values.specs.Given.NamedSeen.{Seen, kind_of, seen}
+use Rattle.papaya_values.specs.Given.NamedTelling.{goes_on}
+use Rattle.papaya_values.specs.Given.NamedDeclared.caller.Caller.{Caller}
+use Rattle.papaya_stepping.specs.Given.SchedulerDeclared.scheduler.Scheduler.{Scheduler}
+use Rattle.papaya_stepping.proofs.Given.SchedulerRanOn.{there_stays}
 use Rattle.papaya_stepping.specs.Stepping.{GoneFor, IsStepOf, IsStepped, WalkedFor, caller_then, far_then, outcome_of}
 use Rattle.papaya_stepping.proofs.AfterEffects.{calls_seen}
 use Rattle.papaya_stepping.proofs.OneStep.{caller_as, going_not_ended, goes_next, value_then}
 use Rattle.papaya_values.specs.Values.{KeepsValue, kept_after}
 use Rattle.papaya_values.proofs.Values.{values_go_on}
-use Rattle.papaya_values.specs.Given.Named.Seen.{is_named}
-use Rattle.papaya_values.specs.Given.Named.declared.kind.Kind.{Kind}
-use Rattle.papaya_stepping.proofs.Given.Rows.Lists.{set_count}
+use Rattle.papaya_values.specs.Given.NamedSeen.{is_named}
+use Rattle.papaya_values.specs.Given.NamedDeclared.kind.Kind.{Kind}
+use Rattle.papaya_stepping.proofs.Given.RowsLists.{set_count}
 use Rattle.papaya_events.specs.OfCalls.{HaveValues, IsWorth}
 use Rattle.papaya_events.proofs.OfCalls.Worth.{AreWorth, SaidIn, all_gone, all_once, all_set, effects_say, is_worth_then, said_same}
-use Rattle.papaya_stepping.proofs.Given.Remains.Slots.{buckets_grow}
-use Rattle.papaya_stepping.specs.Given.Works.Needs.{AreReached}
-use Rattle.papaya_stepping.proofs.Given.Works.Reached.{reached_still}
+use Rattle.papaya_stepping.proofs.Given.RemainsSlots.{buckets_grow}
+use Rattle.papaya_stepping.specs.Given.WorksNeeds.{AreReached}
+use Rattle.papaya_stepping.proofs.Given.WorksReached.{reached_still}
 use Rattle.papaya_events.specs.OfCalls.{HaveShards}
-use Rattle.papaya_stepping.specs.Given.Folded.Folded.{HandInOrder}
-use Rattle.papaya_stepping.proofs.Given.Folded.Steps.{more_in_order}
+use Rattle.papaya_stepping.specs.Given.FoldedFolded.{HandInOrder}
+use Rattle.papaya_stepping.proofs.Given.FoldedSteps.{more_in_order}
 use Rattle.papaya_events.proofs.OfCalls.Scenes.{AreNamed, named_left, named_set}
 use Rattle.papaya_events.proofs.OfCalls.Words.{shows_none}
-use Rattle.papaya_stepping.specs.Given.Executor.IsThere.{KeepsGiven, held_by}
-use Rattle.papaya_values.specs.Given.Scenes.Scene.{Scene, slot_of}
-use Rattle.papaya_values.specs.Given.Scenes.Stepping.{StepLeads, has_ended, scene_after}
-use Rattle.papaya_values.specs.Given.Schedules.Transition.{past}
+use Rattle.papaya_stepping.specs.Given.ExecutorIsThere.{KeepsGiven, held_by}
+use Rattle.papaya_values.specs.Given.ScenesScene.{Scene, slot_of}
+use Rattle.papaya_values.specs.Given.ScenesStepping.{StepLeads, has_ended, scene_after}
+use Rattle.papaya_values.specs.Given.SchedulesTransition.{past}
 
 one_more : (n : ℕ) → n + 1 ≡ suc n
 one_more n = omega arith

@@ -4,40 +4,40 @@ use Rattle.std.specs.List.{list_any}
 use Rattle.std.proofs.Common.{refl, ap, sym, subst, ◌∙◌, inl}
 use Rattle.std.proofs.lemmas.List.{append-nil}
 use Rattle.std.specs.Prelude.{filter, length}
-use Rattle.papaya_stepping.specs.Given.SeizeWaiting.Held.{count}
-use Rattle.papaya_stepping.specs.Given.Runs.Present.{slot_of_guard}
-use Rattle.papaya_values.specs.Given.Schedules.declared.event.Event.{Event}
-use Rattle.papaya_values.specs.Given.Schedules.After.{moment}
-use Rattle.papaya_values.specs.Given.Schedules.Beginning.{at_work}
-use Rattle.papaya_values.specs.Given.Schedules.Entry.{Entry, acted_on, acting, caller_of, speaker}
-use Rattle.papaya_values.specs.Given.Schedules.Handing.{is_made, refuses}
-use Rattle.papaya_values.specs.Given.Schedules.Model.{guard_or, sets_in, things_in}
-use Rattle.papaya_values.specs.Given.Schedules.InTurn.{ComesRight}
-use Rattle.papaya_values.specs.Given.Schedules.Moment.{UnderWay as CallThere, Moment}
-use Rattle.papaya_values.specs.Given.Schedules.Terms.{Terms}
-use Rattle.papaya_values.specs.Given.Schedules.Views.{call_of}
-use Rattle.papaya_stepping.specs.Given.Callers.Together.{UnderWay}
-use Rattle.papaya_values.specs.Given.Effects.Known.{known}
-use Rattle.papaya_values.specs.Given.Schedules.declared.effect.Thing.{Thing}
-use Rattle.papaya_values.specs.Given.Schedules.declared.event.Event.TheVariants.{Replied}
-use Rattle.papaya_values.specs.Given.Schedules.declared.outcome.Outcome.{Outcome}
-use Rattle.papaya_stepping.specs.Given.Finds.Doing.{takes_steps}
-use Rattle.papaya_stepping.specs.Given.Finds.Within.{AllIsInOrder}
-use Rattle.papaya_stepping.proofs.Given.Finds.Begun.{all_begun}
-use Rattle.papaya_stepping.specs.Given.Legal.Noted.{HaveCome}
-use Rattle.papaya_stepping.specs.Given.Legal.Carried.{ComesAlone}
-use Rattle.papaya_stepping.proofs.Given.Legal.Calls.{call_events_begin_so}
-use Rattle.papaya_stepping.specs.Given.Scheduler.Played.{IsPlayed, entry_of}
-use Rattle.papaya_values.specs.Given.Named.Seen.{Seen, is_named}
-use Rattle.papaya_values.specs.Given.Named.declared.caller.Stands.TheVariants as far
-use Rattle.papaya_stepping.specs.Given.Scheduler.declared.played.Played.{Played}
-use Rattle.papaya_stepping.specs.Given.Scheduler.declared.scheduler.Scheduler.{Scheduler}
-use Rattle.papaya_stepping.proofs.Given.Scheduler.HeldTold.{its_guard}
-use Rattle.papaya_stepping.proofs.Given.Scheduler.Here.{Here, here_at}
+use Rattle.papaya_stepping.specs.Given.SeizeWaitingHeld.{count}
+use Rattle.papaya_stepping.specs.Given.RunsPresent.{slot_of_guard}
+use Rattle.papaya_values.specs.Given.SchedulesDeclared.event.Event.{Event}
+use Rattle.papaya_values.specs.Given.SchedulesAfter.{moment}
+use Rattle.papaya_values.specs.Given.SchedulesBeginning.{at_work}
+use Rattle.papaya_values.specs.Given.SchedulesEntry.{Entry, acted_on, acting, caller_of, speaker}
+use Rattle.papaya_values.specs.Given.SchedulesHanding.{is_made, refuses}
+use Rattle.papaya_values.specs.Given.SchedulesModel.{guard_or, sets_in, things_in}
+use Rattle.papaya_values.specs.Given.SchedulesInTurn.{ComesRight}
+use Rattle.papaya_values.specs.Given.SchedulesMoment.{UnderWay as CallThere, Moment}
+use Rattle.papaya_values.specs.Given.SchedulesTerms.{Terms}
+use Rattle.papaya_values.specs.Given.SchedulesViews.{call_of}
+use Rattle.papaya_stepping.specs.Given.CallersTogether.{UnderWay}
+use Rattle.papaya_values.specs.Given.EffectsKnown.{known}
+use Rattle.papaya_values.specs.Given.SchedulesDeclared.effect.Thing.{Thing}
+use Rattle.papaya_values.specs.Given.SchedulesDeclared.event.Event.TheVariants.{Replied}
+use Rattle.papaya_values.specs.Given.SchedulesDeclared.outcome.Outcome.{Outcome}
+use Rattle.papaya_stepping.specs.Given.FindsDoing.{takes_steps}
+use Rattle.papaya_stepping.specs.Given.FindsWithin.{AllIsInOrder}
+use Rattle.papaya_stepping.proofs.Given.FindsBegun.{all_begun}
+use Rattle.papaya_stepping.specs.Given.LegalNoted.{HaveCome}
+use Rattle.papaya_stepping.specs.Given.LegalCarried.{ComesAlone}
+use Rattle.papaya_stepping.proofs.Given.LegalCalls.{call_events_begin_so}
+use Rattle.papaya_stepping.specs.Given.SchedulerPlayed.{IsPlayed, entry_of}
+use Rattle.papaya_values.specs.Given.NamedSeen.{Seen, is_named}
+use Rattle.papaya_values.specs.Given.NamedDeclared.caller.Stands.TheVariants as far
+use Rattle.papaya_stepping.specs.Given.SchedulerDeclared.played.Played.{Played}
+use Rattle.papaya_stepping.specs.Given.SchedulerDeclared.scheduler.Scheduler.{Scheduler}
+use Rattle.papaya_stepping.proofs.Given.SchedulerHeldTold.{its_guard}
+use Rattle.papaya_stepping.proofs.Given.SchedulerHere.{Here, here_at}
 use Rattle.papaya_stepping.specs.Stepping.{ComesAs, ComesBy, ComesInCase, StepsCome}
 use Rattle.papaya_stepping.proofs.RightSteps.{not_busy as never_busy}
-use Rattle.papaya_values.specs.Given.Named.declared.caller.Caller.{Caller}
-use Rattle.papaya_stepping.proofs.Given.Rows.Lists.{all_so, found_has}
+use Rattle.papaya_values.specs.Given.NamedDeclared.caller.Caller.{Caller}
+use Rattle.papaya_stepping.proofs.Given.RowsLists.{all_so, found_has}
 use Rattle.papaya_events.proofs.OfCalls.Worth.{TellsNone}
 use Rattle.papaya_events.specs.OfCalls.{IsWorth, Runs, RunsOn}
 use Rattle.papaya_events.proofs.OfCalls.Alone.{active_of, inside_of, only_its_row}
@@ -46,8 +46,8 @@ use Rattle.papaya_events.proofs.OfCalls.Found.{all_find, gone_find}
 use Rattle.papaya_events.proofs.OfCalls.InCase.{comes_in_case}
 use Rattle.papaya_events.proofs.OfCalls.Scenes.{its_named}
 use Rattle.papaya_events.proofs.OfCalls.Steps.{HasCome, as_told, has_come, the}
-use Rattle.papaya_values.specs.Given.Scenes.Scene.{slot_of}
-use Rattle.papaya_stepping.specs.Given.Executor.IsThere.{held_by}
+use Rattle.papaya_values.specs.Given.ScenesScene.{slot_of}
+use Rattle.papaya_stepping.specs.Given.ExecutorIsThere.{held_by}
 
 -- an event that takes steps tells no reply
 steps_tell_none : {K V : Type 0} (event : Event K V) → takes_steps event ≡ true → (outcome : Outcome V) → TellsNone event outcome

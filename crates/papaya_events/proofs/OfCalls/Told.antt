@@ -3,68 +3,68 @@ use Rattle.std.specs.Prelude.{◌≡◌, ◌&&◌, ℕ, Bool, true, false, List,
 use Rattle.std.specs.Result.{is_err}
 use Rattle.std.proofs.Common.{refl, ap, sym, subst, ◌∙◌, inl, inr}
 use Rattle.std.specs.List.{AllByRecursion}
-use Rattle.papaya_stepping.specs.Given.Runs.Same.{is_same}
-use Rattle.papaya_stepping.specs.Given.Raw.Machine.{machine_replied}
-use Rattle.papaya_stepping.specs.Given.Raw.declared.machines.asking.Reply.{Reply as MachineReply}
-use Rattle.papaya_values.specs.Given.Schedules.declared.call.Call.TheVariants.{On}
-use Rattle.papaya_values.specs.Given.Schedules.declared.call.OneKey.{OneKey}
-use Rattle.papaya_values.specs.Given.Schedules.declared.call.OneKey.TheVariants.{Compute, RemoveIf}
-use Rattle.papaya_values.specs.Given.Schedules.declared.call.Reply.{Reply}
-use Rattle.papaya_values.specs.Given.Schedules.declared.call.Reply.TheVariants.{Gives, Removes, Aborts, Decides}
-use Rattle.papaya_values.specs.Given.Schedules.declared.event.Event.TheVariants.{Replied, Stop}
-use Rattle.papaya_values.specs.Given.Schedules.declared.outcome.Outcome.TheVariants.{Done, Goes}
-use Rattle.papaya_values.specs.Given.Schedules.After.{moment, replied, slots_on}
-use Rattle.papaya_stepping.specs.Given.SeizeWords.Mem.{Mem}
-use Rattle.papaya_stepping.specs.Given.Seize.World.{SlotsTaken}
-use Rattle.papaya_stepping.specs.Given.Tables.declared.node.Node.{Node}
-use Rattle.papaya_values.specs.Given.Schedules.Entry.{Entry}
-use Rattle.papaya_values.specs.Given.Schedules.InTurn.{ComesRight}
-use Rattle.papaya_values.specs.Given.Schedules.Moment.{Asking, Moment, Stands, Told as IsTold, UnderWay as CallThere}
-use Rattle.papaya_values.specs.Given.Schedules.Terms.{Terms}
-use Rattle.papaya_values.specs.Given.Schedules.Views.{call_of}
-use Rattle.papaya_stepping.specs.Given.Callers.Together.{UnderWay}
-use Rattle.papaya_values.specs.Given.Effects.Known.{Known, known}
-use Rattle.papaya_stepping.specs.Given.Finishes.Machines.{machine_of}
-use Rattle.papaya_stepping.specs.Given.Finishes.Maps.{Standing, with_call as with_call_of}
-use Rattle.papaya_values.specs.Given.Follows.Calling.{NoneNamed}
-use Rattle.papaya_values.specs.Given.Hands.Asked.{as_told}
-use Rattle.papaya_values.proofs.Given.Follows.Calling.{apart_back}
-use Rattle.papaya_values.proofs.Given.Hands.Asking.{which}
-use Rattle.papaya_stepping.specs.Given.Histories.Changes.{IsTaken}
-use Rattle.papaya_stepping.specs.Given.Raw.declared.machines.machine.Machine.{Machine}
-use Rattle.papaya_values.proofs.Given.Follows.Calling.{is_same_refl}
-use Rattle.papaya_stepping.proofs.Given.Legal.Come.{events_bring_things}
-use Rattle.papaya_stepping.specs.Given.Legal.CallEvents.{IsLegalBut}
-use Rattle.papaya_stepping.specs.Given.Legal.Carried.{ShowsRun}
-use Rattle.papaya_stepping.proofs.Given.Legal.Begun.{stopped_events_end, told_events_end}
-use Rattle.papaya_values.specs.Given.Reclaims.Left.{LeftAmong}
-use Rattle.papaya_stepping.specs.Given.Logged.Shown.{IsCounted}
-use Rattle.papaya_values.specs.Given.Named.Machines.{IsAsFar}
-use Rattle.papaya_stepping.specs.Given.Scheduler.Played.{HasReplied, HasStopped, IsPlayed}
-use Rattle.papaya_values.specs.Given.Named.Seen.{Seen, asks, fits, is_named, is_ready as is_ready_there, kind_of, kind_on, takes}
-use Rattle.papaya_values.specs.Given.Named.declared.caller.Caller.{Caller}
-use Rattle.papaya_values.specs.Given.Named.declared.caller.Stands.{Stands as HowFar}
-use Rattle.papaya_values.specs.Given.Named.declared.caller.Stands.TheVariants as far
-use Rattle.papaya_values.specs.Given.Named.declared.kind.Kind.{Kind}
-use Rattle.papaya_stepping.specs.Given.Scheduler.declared.scheduler.Scheduler.{Scheduler}
-use Rattle.papaya_stepping.proofs.Given.Scheduler.Here.{Here, here_at, read_here}
-use Rattle.papaya_stepping.proofs.Given.Scheduler.Replied.{asks_what, far_asks}
-use Rattle.papaya_stepping.proofs.Given.Scheduler.Rights.{quiet}
-use Rattle.papaya_stepping.proofs.Given.Scheduler.Stopped.{asked_ready, ready_parts, shows_is}
+use Rattle.papaya_stepping.specs.Given.RunsSame.{is_same}
+use Rattle.papaya_stepping.specs.Given.RawMachine.{machine_replied}
+use Rattle.papaya_stepping.specs.Given.RawDeclared.machines.asking.Reply.{Reply as MachineReply}
+use Rattle.papaya_values.specs.Given.SchedulesDeclared.call.Call.TheVariants.{On}
+use Rattle.papaya_values.specs.Given.SchedulesDeclared.call.OneKey.{OneKey}
+use Rattle.papaya_values.specs.Given.SchedulesDeclared.call.OneKey.TheVariants.{Compute, RemoveIf}
+use Rattle.papaya_values.specs.Given.SchedulesDeclared.call.Reply.{Reply}
+use Rattle.papaya_values.specs.Given.SchedulesDeclared.call.Reply.TheVariants.{Gives, Removes, Aborts, Decides}
+use Rattle.papaya_values.specs.Given.SchedulesDeclared.event.Event.TheVariants.{Replied, Stop}
+use Rattle.papaya_values.specs.Given.SchedulesDeclared.outcome.Outcome.TheVariants.{Done, Goes}
+use Rattle.papaya_values.specs.Given.SchedulesAfter.{moment, replied, slots_on}
+use Rattle.papaya_stepping.specs.Given.SeizeWordsMem.{Mem}
+use Rattle.papaya_stepping.specs.Given.SeizeWorld.{SlotsTaken}
+use Rattle.papaya_stepping.specs.Given.TablesDeclared.node.Node.{Node}
+use Rattle.papaya_values.specs.Given.SchedulesEntry.{Entry}
+use Rattle.papaya_values.specs.Given.SchedulesInTurn.{ComesRight}
+use Rattle.papaya_values.specs.Given.SchedulesMoment.{Asking, Moment, Stands, Told as IsTold, UnderWay as CallThere}
+use Rattle.papaya_values.specs.Given.SchedulesTerms.{Terms}
+use Rattle.papaya_values.specs.Given.SchedulesViews.{call_of}
+use Rattle.papaya_stepping.specs.Given.CallersTogether.{UnderWay}
+use Rattle.papaya_values.specs.Given.EffectsKnown.{Known, known}
+use Rattle.papaya_stepping.specs.Given.FinishesMachines.{machine_of}
+use Rattle.papaya_stepping.specs.Given.FinishesMaps.{Standing, with_call as with_call_of}
+use Rattle.papaya_values.specs.Given.FollowsCalling.{NoneNamed}
+use Rattle.papaya_values.specs.Given.HandsAsked.{as_told}
+use Rattle.papaya_values.proofs.Given.FollowsCalling.{apart_back}
+use Rattle.papaya_values.proofs.Given.HandsAsking.{which}
+use Rattle.papaya_stepping.specs.Given.HistoriesChanges.{IsTaken}
+use Rattle.papaya_stepping.specs.Given.RawDeclared.machines.machine.Machine.{Machine}
+use Rattle.papaya_values.proofs.Given.FollowsCalling.{is_same_refl}
+use Rattle.papaya_stepping.proofs.Given.LegalCome.{events_bring_things}
+use Rattle.papaya_stepping.specs.Given.LegalCallEvents.{IsLegalBut}
+use Rattle.papaya_stepping.specs.Given.LegalCarried.{ShowsRun}
+use Rattle.papaya_stepping.proofs.Given.LegalBegun.{stopped_events_end, told_events_end}
+use Rattle.papaya_values.specs.Given.ReclaimsLeft.{LeftAmong}
+use Rattle.papaya_stepping.specs.Given.LoggedShown.{IsCounted}
+use Rattle.papaya_values.specs.Given.NamedMachines.{IsAsFar}
+use Rattle.papaya_stepping.specs.Given.SchedulerPlayed.{HasReplied, HasStopped, IsPlayed}
+use Rattle.papaya_values.specs.Given.NamedSeen.{Seen, asks, fits, is_named, is_ready as is_ready_there, kind_of, kind_on, takes}
+use Rattle.papaya_values.specs.Given.NamedDeclared.caller.Caller.{Caller}
+use Rattle.papaya_values.specs.Given.NamedDeclared.caller.Stands.{Stands as HowFar}
+use Rattle.papaya_values.specs.Given.NamedDeclared.caller.Stands.TheVariants as far
+use Rattle.papaya_values.specs.Given.NamedDeclared.kind.Kind.{Kind}
+use Rattle.papaya_stepping.specs.Given.SchedulerDeclared.scheduler.Scheduler.{Scheduler}
+use Rattle.papaya_stepping.proofs.Given.SchedulerHere.{Here, here_at, read_here}
+use Rattle.papaya_stepping.proofs.Given.SchedulerReplied.{asks_what, far_asks}
+use Rattle.papaya_stepping.proofs.Given.SchedulerRights.{quiet}
+use Rattle.papaya_stepping.proofs.Given.SchedulerStopped.{asked_ready, ready_parts, shows_is}
 use Rattle.papaya_values.specs.Values.{KeepsValue}
 use Rattle.papaya_values.proofs.Values.{values_taken}
-use Rattle.papaya_stepping.proofs.Given.Rows.Lists.{all_so, found_has, set_all}
+use Rattle.papaya_stepping.proofs.Given.RowsLists.{all_so, found_has, set_all}
 use Rattle.papaya_events.proofs.OfCalls.Worth.{all_left, event_says, found_changed, found_unchanged, is_worth_then}
-use Rattle.papaya_stepping.proofs.Given.Folded.Steps.{idle_in_order}
+use Rattle.papaya_stepping.proofs.Given.FoldedSteps.{idle_in_order}
 use Rattle.papaya_events.specs.OfCalls.{HaveValues, IsWorth, Runs, RunsOn}
 use Rattle.papaya_events.proofs.OfCalls.Scenes.{AreNamed, its_named, named_left, named_set, stands_in}
 use Rattle.papaya_events.proofs.Remaining.{counted_in}
 use Rattle.papaya_events.proofs.Reached.{reached_by}
-use Rattle.papaya_stepping.specs.Given.Executor.IsThere.{IsThere, KeepsGiven, held_by}
-use Rattle.papaya_stepping.specs.Given.Executor.Replying.{RepliesThere, StopsThere}
-use Rattle.papaya_values.specs.Given.Scenes.Replying.{scene_with, unless_stopped}
-use Rattle.papaya_values.specs.Given.Scenes.Scene.{Scene}
-use Rattle.papaya_stepping.proofs.Given.Logged.Held.{stop_held}
+use Rattle.papaya_stepping.specs.Given.ExecutorIsThere.{IsThere, KeepsGiven, held_by}
+use Rattle.papaya_stepping.specs.Given.ExecutorReplying.{RepliesThere, StopsThere}
+use Rattle.papaya_values.specs.Given.ScenesReplying.{scene_with, unless_stopped}
+use Rattle.papaya_values.specs.Given.ScenesScene.{Scene}
+use Rattle.papaya_stepping.proofs.Given.LoggedHeld.{stop_held}
 
 -- a call takes a reply of its kind
 taken_by : {K V : Type 0} (one : OneKey K V) (reply : Reply V) → fits (kind_on one) reply ≡ true → IsTaken one reply

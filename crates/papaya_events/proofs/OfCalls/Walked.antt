@@ -4,70 +4,70 @@ use Rattle.std.proofs.Common.{refl, ap, sym, subst, ◌∙◌, inl, inr}
 use Rattle.std.proofs.lemmas.List.{append-nil}
 use Rattle.std.specs.List.{AllByRecursion}
 use Rattle.std.specs.Prelude.{◌≤◌, false, filter, length}
-use Rattle.papaya_stepping.specs.Given.SeizeWords.declared.fault.Fault.TheVariants.{Busy}
-use Rattle.papaya_stepping.specs.Given.Tables.declared.node.Node.{Node}
-use Rattle.papaya_stepping.specs.Given.Sweeps.SweepPoints.{after_next}
-use Rattle.papaya_stepping.specs.Given.Sweeps.declared.sweep.Purpose.TheVariants.{Walks}
-use Rattle.papaya_stepping.specs.Given.Raw.declared.machines.progress.Answer.{Answer}
-use Rattle.papaya_stepping.specs.Given.Raw.declared.machines.progress.Progress.{Progress}
-use Rattle.papaya_stepping.specs.Given.Raw.declared.machines.progress.Progress.TheVariants as progress
-use Rattle.papaya_values.specs.Given.Schedules.declared.call.Call.{Call}
-use Rattle.papaya_values.specs.Given.Schedules.declared.call.Call.TheVariants.{Clear, Retain, Walk}
-use Rattle.papaya_values.specs.Given.Schedules.declared.effect.Effect.{Effect}
-use Rattle.papaya_values.specs.Given.Schedules.declared.effect.Thing.{Thing}
-use Rattle.papaya_values.specs.Given.Schedules.declared.event.Event.{Event}
-use Rattle.papaya_values.specs.Given.Schedules.declared.event.Event.TheVariants.{Next}
-use Rattle.papaya_values.specs.Given.Schedules.declared.outcome.Outcome.{Outcome}
-use Rattle.papaya_values.specs.Given.Schedules.declared.outcome.Outcome.TheVariants.{Answered, Refused}
-use Rattle.papaya_values.specs.Given.Schedules.After.{moment, moments_from}
-use Rattle.papaya_values.specs.Given.Schedules.Effects.{with_effects}
-use Rattle.papaya_values.specs.Given.Schedules.Entry.{Entry}
-use Rattle.papaya_values.specs.Given.Schedules.InTurn.{ComesRight, ComesTo, IsNext}
-use Rattle.papaya_values.specs.Given.Schedules.Model.{things_in}
-use Rattle.papaya_values.specs.Given.Schedules.Moment.{UnderWay as CallThere, Moment}
-use Rattle.papaya_values.specs.Given.Schedules.Terms.{Terms}
-use Rattle.papaya_values.specs.Given.Schedules.Views.{call_of, finite_map}
-use Rattle.papaya_stepping.specs.Given.Callers.OverAll.{CallOverAll, gone_on}
-use Rattle.papaya_stepping.specs.Given.Callers.Together.{UnderWay, OnKey, ForRoom, Counting, OverAll}
-use Rattle.papaya_values.specs.Given.Effects.Known.{Known, known}
-use Rattle.papaya_stepping.specs.Given.Finishes.Machines.{machine_of}
-use Rattle.papaya_values.specs.Given.Moments.Whole.{ShowsWhole}
-use Rattle.papaya_stepping.specs.Given.Histories.Answers.{NamesPair}
-use Rattle.papaya_stepping.specs.Given.Histories.InEvent.{ComesSo}
-use Rattle.papaya_stepping.specs.Given.Histories.OtherMidsts.{AsksAsSaid}
-use Rattle.papaya_stepping.specs.Given.Runs.Same.{is_same}
-use Rattle.papaya_values.proofs.Given.Follows.Calling.{is_same_refl}
-use Rattle.papaya_values.proofs.Given.Hands.Asking.{which}
-use Rattle.papaya_stepping.specs.Given.Purposes.Purposes.{IsFor}
-use Rattle.papaya_stepping.specs.Given.Purposes.Swept.{LosesNone, SaysAsWalk}
-use Rattle.papaya_stepping.proofs.Given.Purposes.WalkWords.{walks_have_words}
-use Rattle.papaya_stepping.specs.Given.Finds.Parts.{FindAll}
-use Rattle.papaya_stepping.specs.Given.Kept.Kept.{ShowsKept}
-use Rattle.papaya_stepping.specs.Given.Legal.CallEvents.{InCallEvent}
-use Rattle.papaya_stepping.specs.Given.Legal.CallRuns.{ShowsAsTold}
-use Rattle.papaya_stepping.specs.Given.Legal.CallSwept.{TellsOf}
-use Rattle.papaya_stepping.specs.Given.Legal.Noted.{HaveCome}
-use Rattle.papaya_stepping.proofs.Given.Legal.CallBegins.{nexts_begin}
-use Rattle.papaya_stepping.proofs.Given.Legal.CallReads.{there_still}
-use Rattle.papaya_stepping.specs.Given.Logged.Calling.{WalkGoesOn}
-use Rattle.papaya_stepping.specs.Given.Logged.Shown.{IsCounted, IsShown}
-use Rattle.papaya_values.specs.Given.Named.Machines.{IsAsFar}
-use Rattle.papaya_values.specs.Given.Named.Seen.{Seen, is_named, is_ready as is_ready_there, kind_of, ready_place}
-use Rattle.papaya_values.specs.Given.Named.Telling.{answer_of, number_by}
-use Rattle.papaya_values.specs.Given.Named.declared.caller.Caller.{Caller}
-use Rattle.papaya_values.specs.Given.Named.declared.caller.Stands.{Stands as HowFar}
-use Rattle.papaya_values.specs.Given.Named.declared.caller.Stands.TheVariants as far
-use Rattle.papaya_values.specs.Given.Named.declared.kind.Kind.TheVariants as kind
-use Rattle.papaya_stepping.specs.Given.Scheduler.Played.{IsPlayed, entry_of}
-use Rattle.papaya_stepping.specs.Given.Scheduler.declared.played.Played.{Played}
-use Rattle.papaya_stepping.specs.Given.Scheduler.declared.scheduler.Scheduler.{Scheduler}
-use Rattle.papaya_stepping.proofs.Given.Scheduler.Here.{Here, here_at}
-use Rattle.papaya_stepping.proofs.Given.Scheduler.Stopped.{asked_ready, ready_parts, shows_by, shows_is}
+use Rattle.papaya_stepping.specs.Given.SeizeWordsDeclared.fault.Fault.TheVariants.{Busy}
+use Rattle.papaya_stepping.specs.Given.TablesDeclared.node.Node.{Node}
+use Rattle.papaya_stepping.specs.Given.SweepsSweepPoints.{after_next}
+use Rattle.papaya_stepping.specs.Given.SweepsDeclared.sweep.Purpose.TheVariants.{Walks}
+use Rattle.papaya_stepping.specs.Given.RawDeclared.machines.progress.Answer.{Answer}
+use Rattle.papaya_stepping.specs.Given.RawDeclared.machines.progress.Progress.{Progress}
+use Rattle.papaya_stepping.specs.Given.RawDeclared.machines.progress.Progress.TheVariants as progress
+use Rattle.papaya_values.specs.Given.SchedulesDeclared.call.Call.{Call}
+use Rattle.papaya_values.specs.Given.SchedulesDeclared.call.Call.TheVariants.{Clear, Retain, Walk}
+use Rattle.papaya_values.specs.Given.SchedulesDeclared.effect.Effect.{Effect}
+use Rattle.papaya_values.specs.Given.SchedulesDeclared.effect.Thing.{Thing}
+use Rattle.papaya_values.specs.Given.SchedulesDeclared.event.Event.{Event}
+use Rattle.papaya_values.specs.Given.SchedulesDeclared.event.Event.TheVariants.{Next}
+use Rattle.papaya_values.specs.Given.SchedulesDeclared.outcome.Outcome.{Outcome}
+use Rattle.papaya_values.specs.Given.SchedulesDeclared.outcome.Outcome.TheVariants.{Answered, Refused}
+use Rattle.papaya_values.specs.Given.SchedulesAfter.{moment, moments_from}
+use Rattle.papaya_values.specs.Given.SchedulesEffects.{with_effects}
+use Rattle.papaya_values.specs.Given.SchedulesEntry.{Entry}
+use Rattle.papaya_values.specs.Given.SchedulesInTurn.{ComesRight, ComesTo, IsNext}
+use Rattle.papaya_values.specs.Given.SchedulesModel.{things_in}
+use Rattle.papaya_values.specs.Given.SchedulesMoment.{UnderWay as CallThere, Moment}
+use Rattle.papaya_values.specs.Given.SchedulesTerms.{Terms}
+use Rattle.papaya_values.specs.Given.SchedulesViews.{call_of, finite_map}
+use Rattle.papaya_stepping.specs.Given.CallersOverAll.{CallOverAll, gone_on}
+use Rattle.papaya_stepping.specs.Given.CallersTogether.{UnderWay, OnKey, ForRoom, Counting, OverAll}
+use Rattle.papaya_values.specs.Given.EffectsKnown.{Known, known}
+use Rattle.papaya_stepping.specs.Given.FinishesMachines.{machine_of}
+use Rattle.papaya_values.specs.Given.MomentsWhole.{ShowsWhole}
+use Rattle.papaya_stepping.specs.Given.HistoriesAnswers.{NamesPair}
+use Rattle.papaya_stepping.specs.Given.HistoriesInEvent.{ComesSo}
+use Rattle.papaya_stepping.specs.Given.HistoriesOtherMidsts.{AsksAsSaid}
+use Rattle.papaya_stepping.specs.Given.RunsSame.{is_same}
+use Rattle.papaya_values.proofs.Given.FollowsCalling.{is_same_refl}
+use Rattle.papaya_values.proofs.Given.HandsAsking.{which}
+use Rattle.papaya_stepping.specs.Given.PurposesPurposes.{IsFor}
+use Rattle.papaya_stepping.specs.Given.PurposesSwept.{LosesNone, SaysAsWalk}
+use Rattle.papaya_stepping.proofs.Given.PurposesWalkWords.{walks_have_words}
+use Rattle.papaya_stepping.specs.Given.FindsParts.{FindAll}
+use Rattle.papaya_stepping.specs.Given.KeptKept.{ShowsKept}
+use Rattle.papaya_stepping.specs.Given.LegalCallEvents.{InCallEvent}
+use Rattle.papaya_stepping.specs.Given.LegalCallRuns.{ShowsAsTold}
+use Rattle.papaya_stepping.specs.Given.LegalCallSwept.{TellsOf}
+use Rattle.papaya_stepping.specs.Given.LegalNoted.{HaveCome}
+use Rattle.papaya_stepping.proofs.Given.LegalCallBegins.{nexts_begin}
+use Rattle.papaya_stepping.proofs.Given.LegalCallReads.{there_still}
+use Rattle.papaya_stepping.specs.Given.LoggedCalling.{WalkGoesOn}
+use Rattle.papaya_stepping.specs.Given.LoggedShown.{IsCounted, IsShown}
+use Rattle.papaya_values.specs.Given.NamedMachines.{IsAsFar}
+use Rattle.papaya_values.specs.Given.NamedSeen.{Seen, is_named, is_ready as is_ready_there, kind_of, ready_place}
+use Rattle.papaya_values.specs.Given.NamedTelling.{answer_of, number_by}
+use Rattle.papaya_values.specs.Given.NamedDeclared.caller.Caller.{Caller}
+use Rattle.papaya_values.specs.Given.NamedDeclared.caller.Stands.{Stands as HowFar}
+use Rattle.papaya_values.specs.Given.NamedDeclared.caller.Stands.TheVariants as far
+use Rattle.papaya_values.specs.Given.NamedDeclared.kind.Kind.TheVariants as kind
+use Rattle.papaya_stepping.specs.Given.SchedulerPlayed.{IsPlayed, entry_of}
+use Rattle.papaya_stepping.specs.Given.SchedulerDeclared.played.Played.{Played}
+use Rattle.papaya_stepping.specs.Given.SchedulerDeclared.scheduler.Scheduler.{Scheduler}
+use Rattle.papaya_stepping.proofs.Given.SchedulerHere.{Here, here_at}
+use Rattle.papaya_stepping.proofs.Given.SchedulerStopped.{asked_ready, ready_parts, shows_by, shows_is}
 use Rattle.papaya_stepping.specs.Stepping.{HasWalked, outcome_of}
 use Rattle.papaya_stepping.proofs.SweepSteps.{walks_at}
 use Rattle.papaya_values.specs.Values.{KeepsValue}
 use Rattle.papaya_events.specs.OfCalls.{HaveValues, IsWorth, Runs, RunsOn}
-use Rattle.papaya_stepping.specs.Given.Works.Needs.{AreReached}
+use Rattle.papaya_stepping.specs.Given.WorksNeeds.{AreReached}
 use Rattle.papaya_events.proofs.OfCalls.Alone.{only_its_row}
 use Rattle.papaya_events.proofs.OfCalls.Answers.{number_is}
 use Rattle.papaya_events.proofs.OfCalls.Asked.{leads_next, next_at}
@@ -75,12 +75,12 @@ use Rattle.papaya_events.proofs.OfCalls.Ends as ends
 use Rattle.papaya_events.proofs.OfCalls.Scenes.{AreNamed, its_named}
 use Rattle.papaya_events.proofs.OfCalls.Steps.{HasCome, IsStep, as_told, did, follows, has_walked_on, its_here, leads, the}
 use Rattle.papaya_events.proofs.OfCalls.Taken as taken
-use Rattle.papaya_values.proofs.Given.Scenes.May.{standing_is}
-use Rattle.papaya_stepping.specs.Given.Executor.Replying.{AsksThere}
-use Rattle.papaya_values.specs.Given.Scenes.Replying.{scene_with}
-use Rattle.papaya_values.specs.Given.Scenes.Scene.{Scene}
-use Rattle.papaya_stepping.specs.Given.Executor.IsThere.{held_by}
-use Rattle.papaya_values.specs.Given.Schedules.Transition.{past}
+use Rattle.papaya_values.proofs.Given.ScenesMay.{standing_is}
+use Rattle.papaya_stepping.specs.Given.ExecutorReplying.{AsksThere}
+use Rattle.papaya_values.specs.Given.ScenesReplying.{scene_with}
+use Rattle.papaya_values.specs.Given.ScenesScene.{Scene}
+use Rattle.papaya_stepping.specs.Given.ExecutorIsThere.{held_by}
+use Rattle.papaya_values.specs.Given.SchedulesTransition.{past}
 
 -- a word of a pair names the one of its number
 named_so : (by : Known) (word : ℕ) → (n : ℕ) × NamesPair by word n → NamesPair by word (number_by by word)

@@ -4,46 +4,46 @@ use Rattle.std.proofs.Common.{refl, ap, sym, subst, ◌∙◌, inl}
 use Rattle.std.proofs.lemmas.List.{append-nil}
 use Rattle.std.specs.List.{AllByRecursion}
 use Rattle.std.specs.Prelude.{filter, length}
-use Rattle.papaya_stepping.specs.Given.SeizeWaiting.Held.{count}
-use Rattle.papaya_stepping.specs.Given.SeizeWords.declared.fault.Fault.TheVariants.{Busy}
-use Rattle.papaya_stepping.specs.Given.Seize.World.{Rests}
-use Rattle.papaya_stepping.specs.Given.Runs.Present.{slot_of_guard}
-use Rattle.papaya_stepping.specs.Given.Runs.Stopped.{most_steps}
-use Rattle.papaya_values.specs.Given.Schedules.declared.call.Call.{Call}
-use Rattle.papaya_values.specs.Given.Schedules.declared.event.Event.{Event}
-use Rattle.papaya_values.specs.Given.Schedules.declared.event.Event.TheVariants.{OneCall}
-use Rattle.papaya_values.specs.Given.Schedules.declared.outcome.Outcome.TheVariants.{Refused}
-use Rattle.papaya_values.specs.Given.Schedules.After.{moment}
-use Rattle.papaya_values.specs.Given.Schedules.Beginning.{at_work, fresh_call, with_call}
-use Rattle.papaya_values.specs.Given.Schedules.Entry.{Entry, acted_on, nameless}
-use Rattle.papaya_values.specs.Given.Schedules.Model.{guard_or, sets_in, things_in}
-use Rattle.papaya_values.specs.Given.Schedules.InTurn.{ComesRight}
-use Rattle.papaya_values.specs.Given.Schedules.Moment.{UnderWay as CallThere, Moment}
-use Rattle.papaya_values.specs.Given.Schedules.Terms.{Terms}
-use Rattle.papaya_values.specs.Given.Schedules.Views.{call_of, number_of}
-use Rattle.papaya_values.specs.Given.Effects.Known.{Known, known}
-use Rattle.papaya_values.specs.Given.Schedules.declared.effect.Thing.{Thing}
-use Rattle.papaya_stepping.specs.Given.Runs.Same.{is_same}
-use Rattle.papaya_stepping.specs.Given.Finds.Within.{AllIsInOrder}
-use Rattle.papaya_stepping.proofs.Given.Finds.Begun.{all_begun}
-use Rattle.papaya_stepping.specs.Given.Legal.Noted.{HaveCome}
-use Rattle.papaya_stepping.proofs.Given.Legal.Come.{called}
-use Rattle.papaya_stepping.specs.Given.Legal.CallEvents.{InCallEvent}
-use Rattle.papaya_stepping.specs.Given.Legal.Carried.{ComesAlone}
-use Rattle.papaya_stepping.proofs.Given.Legal.CallBegins.{whole_calls_begin}
-use Rattle.papaya_stepping.specs.Given.Logged.Shown.{IsShown}
-use Rattle.papaya_stepping.specs.Given.Scheduler.Played.{HasBegun, IsPlayed, StandsFor, entry_of}
-use Rattle.papaya_values.specs.Given.Named.Seen.{Seen}
-use Rattle.papaya_values.specs.Given.Named.declared.caller.Caller.{Caller}
-use Rattle.papaya_stepping.specs.Given.Scheduler.declared.played.Played.{Played}
-use Rattle.papaya_stepping.specs.Given.Scheduler.declared.scheduler.Scheduler.{Scheduler}
-use Rattle.papaya_stepping.proofs.Given.Scheduler.HeldTold.{its_guard}
+use Rattle.papaya_stepping.specs.Given.SeizeWaitingHeld.{count}
+use Rattle.papaya_stepping.specs.Given.SeizeWordsDeclared.fault.Fault.TheVariants.{Busy}
+use Rattle.papaya_stepping.specs.Given.SeizeWorld.{Rests}
+use Rattle.papaya_stepping.specs.Given.RunsPresent.{slot_of_guard}
+use Rattle.papaya_stepping.specs.Given.RunsStopped.{most_steps}
+use Rattle.papaya_values.specs.Given.SchedulesDeclared.call.Call.{Call}
+use Rattle.papaya_values.specs.Given.SchedulesDeclared.event.Event.{Event}
+use Rattle.papaya_values.specs.Given.SchedulesDeclared.event.Event.TheVariants.{OneCall}
+use Rattle.papaya_values.specs.Given.SchedulesDeclared.outcome.Outcome.TheVariants.{Refused}
+use Rattle.papaya_values.specs.Given.SchedulesAfter.{moment}
+use Rattle.papaya_values.specs.Given.SchedulesBeginning.{at_work, fresh_call, with_call}
+use Rattle.papaya_values.specs.Given.SchedulesEntry.{Entry, acted_on, nameless}
+use Rattle.papaya_values.specs.Given.SchedulesModel.{guard_or, sets_in, things_in}
+use Rattle.papaya_values.specs.Given.SchedulesInTurn.{ComesRight}
+use Rattle.papaya_values.specs.Given.SchedulesMoment.{UnderWay as CallThere, Moment}
+use Rattle.papaya_values.specs.Given.SchedulesTerms.{Terms}
+use Rattle.papaya_values.specs.Given.SchedulesViews.{call_of, number_of}
+use Rattle.papaya_values.specs.Given.EffectsKnown.{Known, known}
+use Rattle.papaya_values.specs.Given.SchedulesDeclared.effect.Thing.{Thing}
+use Rattle.papaya_stepping.specs.Given.RunsSame.{is_same}
+use Rattle.papaya_stepping.specs.Given.FindsWithin.{AllIsInOrder}
+use Rattle.papaya_stepping.proofs.Given.FindsBegun.{all_begun}
+use Rattle.papaya_stepping.specs.Given.LegalNoted.{HaveCome}
+use Rattle.papaya_stepping.proofs.Given.LegalCome.{called}
+use Rattle.papaya_stepping.specs.Given.LegalCallEvents.{InCallEvent}
+use Rattle.papaya_stepping.specs.Given.LegalCarried.{ComesAlone}
+use Rattle.papaya_stepping.proofs.Given.LegalCallBegins.{whole_calls_begin}
+use Rattle.papaya_stepping.specs.Given.LoggedShown.{IsShown}
+use Rattle.papaya_stepping.specs.Given.SchedulerPlayed.{HasBegun, IsPlayed, StandsFor, entry_of}
+use Rattle.papaya_values.specs.Given.NamedSeen.{Seen}
+use Rattle.papaya_values.specs.Given.NamedDeclared.caller.Caller.{Caller}
+use Rattle.papaya_stepping.specs.Given.SchedulerDeclared.played.Played.{Played}
+use Rattle.papaya_stepping.specs.Given.SchedulerDeclared.scheduler.Scheduler.{Scheduler}
+use Rattle.papaya_stepping.proofs.Given.SchedulerHeldTold.{its_guard}
 use Rattle.papaya_stepping.specs.Stepping.{ComesAs, ComesBy, ComesInCase, GoesAt, StepsCome}
 use Rattle.papaya_stepping.proofs.RightSteps.{not_busy as never_busy}
-use Rattle.papaya_stepping.proofs.Given.Rows.Lists.{all_so}
-use Rattle.papaya_values.specs.Given.Named.Seen.{is_named}
+use Rattle.papaya_stepping.proofs.Given.RowsLists.{all_so}
+use Rattle.papaya_values.specs.Given.NamedSeen.{is_named}
 use Rattle.papaya_events.specs.OfCalls.{HaveValues, IsWorth, Runs, RunsOn}
-use Rattle.papaya_stepping.specs.Given.Works.Needs.{AreReached}
+use Rattle.papaya_stepping.specs.Given.WorksNeeds.{AreReached}
 use Rattle.papaya_events.proofs.OfCalls.Alone.{active_of, inside_of, no_row}
 use Rattle.papaya_events.proofs.OfCalls.Begun as begun
 use Rattle.papaya_events.proofs.OfCalls.Ends.{runs_on, tells_so}
@@ -52,8 +52,8 @@ use Rattle.papaya_events.proofs.OfCalls.InCase.{comes_in_case}
 use Rattle.papaya_events.proofs.OfCalls.Scenes.{stands_in}
 use Rattle.papaya_events.proofs.OfCalls.Steps.{HasCome, as_told, has_come, the}
 use Rattle.papaya_events.proofs.OfCalls.Words.{not_busy}
-use Rattle.papaya_values.specs.Given.Scenes.Scene.{slot_of}
-use Rattle.papaya_stepping.specs.Given.Executor.IsThere.{held_by}
+use Rattle.papaya_values.specs.Given.ScenesScene.{slot_of}
+use Rattle.papaya_stepping.specs.Given.ExecutorIsThere.{held_by}
 
 module _ {K V S : Type 0} (same : K → K → Bool) (hash : K → ℕ) (terms : Terms) (log : List (Entry K V)) (old : Scheduler K V S) (runs : Runs same hash terms log old)
     (guard on : List ℕ) (call : Call K V) (mid : Scheduler K V S) (led : HasBegun same hash nameless guard on call old mid)

@@ -1,25 +1,25 @@
 -- What a step of a call says, in the words of an outcome: where it ends the call, is ready, asks, or shows nothing; and what it tells of a call on a whole map.
 use Rattle.std.specs.Prelude.{◌≡◌, ℕ, Bool, true, false, List, Option}
 use Rattle.std.proofs.Common.{refl, ap, inl, inr}
-use Rattle.papaya_stepping.specs.Given.SeizeWords.declared.fault.Fault.TheVariants.{Busy}
-use Rattle.papaya_stepping.specs.Given.Tables.declared.node.Node.{Node}
-use Rattle.papaya_stepping.specs.Given.Raw.declared.machines.progress.Answer.TheVariants as answers
-use Rattle.papaya_stepping.specs.Given.Raw.declared.machines.answer.KeyAnswer.TheVariants as says
-use Rattle.papaya_stepping.specs.Given.Raw.declared.machines.progress.Progress.{Progress}
-use Rattle.papaya_stepping.specs.Given.Raw.declared.machines.progress.Progress.TheVariants as progress
-use Rattle.papaya_values.specs.Given.Schedules.declared.call.Call.{Call}
-use Rattle.papaya_values.specs.Given.Schedules.declared.call.Call.TheVariants.{Clear, Len, On, Reserve, Retain, Walk}
-use Rattle.papaya_values.specs.Given.Schedules.declared.outcome.Outcome.{Outcome}
-use Rattle.papaya_values.specs.Given.Schedules.declared.outcome.Outcome.TheVariants as outcome
-use Rattle.papaya_values.specs.Given.Schedules.Entry.{Entry, is_busy}
-use Rattle.papaya_values.specs.Given.Schedules.Moment.{Moment}
-use Rattle.papaya_values.specs.Given.Effects.Known.{Known}
-use Rattle.papaya_stepping.specs.Given.Purposes.Kept.{ShowsNone}
-use Rattle.papaya_stepping.specs.Given.Legal.CallRuns.{ShowsAsTold, TellsEnd}
-use Rattle.papaya_stepping.specs.Given.Legal.CallSwept.{TellsOf}
-use Rattle.papaya_values.specs.Given.Named.Seen.{kind_of}
-use Rattle.papaya_values.specs.Given.Named.Telling.{goes_on}
-use Rattle.papaya_values.specs.Given.Named.declared.kind.Kind.{Kind}
+use Rattle.papaya_stepping.specs.Given.SeizeWordsDeclared.fault.Fault.TheVariants.{Busy}
+use Rattle.papaya_stepping.specs.Given.TablesDeclared.node.Node.{Node}
+use Rattle.papaya_stepping.specs.Given.RawDeclared.machines.progress.Answer.TheVariants as answers
+use Rattle.papaya_stepping.specs.Given.RawDeclared.machines.answer.KeyAnswer.TheVariants as says
+use Rattle.papaya_stepping.specs.Given.RawDeclared.machines.progress.Progress.{Progress}
+use Rattle.papaya_stepping.specs.Given.RawDeclared.machines.progress.Progress.TheVariants as progress
+use Rattle.papaya_values.specs.Given.SchedulesDeclared.call.Call.{Call}
+use Rattle.papaya_values.specs.Given.SchedulesDeclared.call.Call.TheVariants.{Clear, Len, On, Reserve, Retain, Walk}
+use Rattle.papaya_values.specs.Given.SchedulesDeclared.outcome.Outcome.{Outcome}
+use Rattle.papaya_values.specs.Given.SchedulesDeclared.outcome.Outcome.TheVariants as outcome
+use Rattle.papaya_values.specs.Given.SchedulesEntry.{Entry, is_busy}
+use Rattle.papaya_values.specs.Given.SchedulesMoment.{Moment}
+use Rattle.papaya_values.specs.Given.EffectsKnown.{Known}
+use Rattle.papaya_stepping.specs.Given.PurposesKept.{ShowsNone}
+use Rattle.papaya_stepping.specs.Given.LegalCallRuns.{ShowsAsTold, TellsEnd}
+use Rattle.papaya_stepping.specs.Given.LegalCallSwept.{TellsOf}
+use Rattle.papaya_values.specs.Given.NamedSeen.{kind_of}
+use Rattle.papaya_values.specs.Given.NamedTelling.{goes_on}
+use Rattle.papaya_values.specs.Given.NamedDeclared.kind.Kind.{Kind}
 use Rattle.papaya_stepping.specs.Stepping.{ComesAs, outcome_of}
 use Rattle.papaya_stepping.proofs.OneStep.{ends_as}
 

@@ -2,33 +2,33 @@
 use Rattle.std.specs.Prelude.{◌≡◌, ◌≤◌, ◌+◌, ℕ, zero, suc, Bool, true, false, not, ◌||◌, cond, if◌then◌else◌, List, [], ◌∷◌, filter, find, length, map, slice_get, slice_set, Option, Some, None}
 use Rattle.std.specs.List.{AllByRecursion, list_any, remove}
 use Rattle.std.proofs.Common.{refl, ap, sym, subst, ◌∙◌, arith}
-use Rattle.papaya_stepping.specs.Given.SeizeWords.declared.fault.Fault.TheVariants.{Busy}
-use Rattle.papaya_stepping.specs.Given.Runs.Same.{is_same}
-use Rattle.papaya_values.specs.Given.Schedules.declared.call.Call.{Call}
-use Rattle.papaya_values.specs.Given.Schedules.declared.call.Call.TheVariants.{On}
-use Rattle.papaya_values.specs.Given.Schedules.declared.call.Reply.{Reply}
-use Rattle.papaya_values.specs.Given.Schedules.declared.effect.Effect.{Effect}
-use Rattle.papaya_values.specs.Given.Schedules.declared.effect.Effect.TheVariants.{Stored, Removed}
-use Rattle.papaya_values.specs.Given.Schedules.declared.event.Event.{Event}
-use Rattle.papaya_values.specs.Given.Schedules.declared.event.Event.TheVariants.{Begin, MakeMap, OneCall, Replied, Stop}
-use Rattle.papaya_values.specs.Given.Schedules.declared.outcome.Outcome.{Outcome}
-use Rattle.papaya_values.specs.Given.Schedules.declared.outcome.Outcome.TheVariants.{Done, Goes, Waits, Asks, Ready, Shows, Refused}
-use Rattle.papaya_values.specs.Given.Schedules.After.{after, asks_on, calls_on, comes_to, stepped, without_call}
-use Rattle.papaya_values.specs.Given.Schedules.Beginning.{at_work, begun}
-use Rattle.papaya_values.specs.Given.Schedules.Effects.{call_by, due_for, with_effect, with_effects, worked}
-use Rattle.papaya_values.specs.Given.Schedules.Entry.{Entry, acted_on, caller_of, ends_call}
-use Rattle.papaya_values.specs.Given.Schedules.Moment.{Asking, Moment, Stands, UnderWay as CallThere}
-use Rattle.papaya_stepping.specs.Given.Callers.Together.{UnderWay}
-use Rattle.papaya_stepping.specs.Given.Finishes.Machines.{machine_of}
-use Rattle.papaya_values.proofs.Given.Follows.Calling.{apart_back, is_same_is}
-use Rattle.papaya_values.specs.Given.Named.Seen.{is_named}
-use Rattle.papaya_values.specs.Given.Named.declared.caller.Caller.{Caller}
-use Rattle.papaya_stepping.proofs.Given.Rows.Lists.{all_but, both_some, found_alike, unseen}
-use Rattle.papaya_stepping.proofs.Given.Scheduler.Rights.{quiet}
+use Rattle.papaya_stepping.specs.Given.SeizeWordsDeclared.fault.Fault.TheVariants.{Busy}
+use Rattle.papaya_stepping.specs.Given.RunsSame.{is_same}
+use Rattle.papaya_values.specs.Given.SchedulesDeclared.call.Call.{Call}
+use Rattle.papaya_values.specs.Given.SchedulesDeclared.call.Call.TheVariants.{On}
+use Rattle.papaya_values.specs.Given.SchedulesDeclared.call.Reply.{Reply}
+use Rattle.papaya_values.specs.Given.SchedulesDeclared.effect.Effect.{Effect}
+use Rattle.papaya_values.specs.Given.SchedulesDeclared.effect.Effect.TheVariants.{Stored, Removed}
+use Rattle.papaya_values.specs.Given.SchedulesDeclared.event.Event.{Event}
+use Rattle.papaya_values.specs.Given.SchedulesDeclared.event.Event.TheVariants.{Begin, MakeMap, OneCall, Replied, Stop}
+use Rattle.papaya_values.specs.Given.SchedulesDeclared.outcome.Outcome.{Outcome}
+use Rattle.papaya_values.specs.Given.SchedulesDeclared.outcome.Outcome.TheVariants.{Done, Goes, Waits, Asks, Ready, Shows, Refused}
+use Rattle.papaya_values.specs.Given.SchedulesAfter.{after, asks_on, calls_on, comes_to, stepped, without_call}
+use Rattle.papaya_values.specs.Given.SchedulesBeginning.{at_work, begun}
+use Rattle.papaya_values.specs.Given.SchedulesEffects.{call_by, due_for, with_effect, with_effects, worked}
+use Rattle.papaya_values.specs.Given.SchedulesEntry.{Entry, acted_on, caller_of, ends_call}
+use Rattle.papaya_values.specs.Given.SchedulesMoment.{Asking, Moment, Stands, UnderWay as CallThere}
+use Rattle.papaya_stepping.specs.Given.CallersTogether.{UnderWay}
+use Rattle.papaya_stepping.specs.Given.FinishesMachines.{machine_of}
+use Rattle.papaya_values.proofs.Given.FollowsCalling.{apart_back, is_same_is}
+use Rattle.papaya_values.specs.Given.NamedSeen.{is_named}
+use Rattle.papaya_values.specs.Given.NamedDeclared.caller.Caller.{Caller}
+use Rattle.papaya_stepping.proofs.Given.RowsLists.{all_but, both_some, found_alike, unseen}
+use Rattle.papaya_stepping.proofs.Given.SchedulerRights.{quiet}
 use Rattle.papaya_values.specs.Values.{KeepsValue}
 use Rattle.papaya_events.specs.Asked.{is_of_calls}
 use Rattle.papaya_events.specs.OfCalls.{HaveValues, IsWorth}
-use Rattle.papaya_values.specs.Given.Scenes.Scene.{Scene}
+use Rattle.papaya_values.specs.Given.ScenesScene.{Scene}
 
 module _ {X : Type 0} where
   -- of those that are left it is so,

@@ -2,23 +2,23 @@
 use Rattle.std.specs.Prelude.{◌≡◌, ◌<◌, ◌+◌, ◌^◌, ℕ, Bool, List, Some, None}
 use Rattle.std.specs.Int.{IsPowerOfTwo}
 use Rattle.std.proofs.Common.{sym, subst, arith}
-use Rattle.papaya_stepping.specs.Given.Seize.declared.progress.Progress.{Progress}
-use Rattle.papaya_stepping.specs.Given.Seize.World.{with_at}
-use Rattle.papaya_stepping.specs.Given.Tables.declared.resize_mode.ResizeMode.{ResizeMode}
-use Rattle.papaya_stepping.specs.Given.Tables.declared.setting.Setting.{Setting}
-use Rattle.papaya_stepping.specs.Given.Finishes.Makings.{Beginning}
-use Rattle.papaya_values.specs.Given.Schedules.After.{moment}
-use Rattle.papaya_values.specs.Given.Schedules.Entry.{Entry}
-use Rattle.papaya_values.specs.Given.Schedules.Terms.{Terms}
-use Rattle.papaya_stepping.specs.Given.Logged.Shown.{IsShown}
-use Rattle.papaya_stepping.specs.Given.Scheduler.Works.{MakingHasRun}
-use Rattle.papaya_stepping.specs.Given.Scheduler.declared.played.Played.{Played}
-use Rattle.papaya_stepping.specs.Given.Scheduler.declared.scheduler.Scheduler.{Scheduler}
+use Rattle.papaya_stepping.specs.Given.SeizeDeclared.progress.Progress.{Progress}
+use Rattle.papaya_stepping.specs.Given.SeizeWorld.{with_at}
+use Rattle.papaya_stepping.specs.Given.TablesDeclared.resize_mode.ResizeMode.{ResizeMode}
+use Rattle.papaya_stepping.specs.Given.TablesDeclared.setting.Setting.{Setting}
+use Rattle.papaya_stepping.specs.Given.FinishesMakings.{Beginning}
+use Rattle.papaya_values.specs.Given.SchedulesAfter.{moment}
+use Rattle.papaya_values.specs.Given.SchedulesEntry.{Entry}
+use Rattle.papaya_values.specs.Given.SchedulesTerms.{Terms}
+use Rattle.papaya_stepping.specs.Given.LoggedShown.{IsShown}
+use Rattle.papaya_stepping.specs.Given.SchedulerWorks.{MakingHasRun}
+use Rattle.papaya_stepping.specs.Given.SchedulerDeclared.played.Played.{Played}
+use Rattle.papaya_stepping.specs.Given.SchedulerDeclared.scheduler.Scheduler.{Scheduler}
 use Rattle.papaya_events.specs.Asked.{Holds}
 use Rattle.papaya_events.specs.OfCalls.{Runs}
-use Rattle.papaya_stepping.proofs.Given.Executor.Fresh.{no_making_yet}
-use Rattle.papaya_stepping.specs.Given.Executor.MakingBegins.{next_making}
-use Rattle.papaya_values.specs.Given.Scenes.Scene.{Scene}
+use Rattle.papaya_stepping.proofs.Given.ExecutorFresh.{no_making_yet}
+use Rattle.papaya_stepping.specs.Given.ExecutorMakingBegins.{next_making}
+use Rattle.papaya_values.specs.Given.ScenesScene.{Scene}
 
 module _ {K V S : Type 0} {same : K → K → Bool} {hash : K → ℕ} {terms : Terms} {log : List (Entry K V)} {own : List ℕ} {mode : ResizeMode} {capacity : ℕ} {told : Progress Setting} {played : Played V}
     {old new : Scheduler K V S} (run : Runs same hash terms log old) (holds : Holds same hash terms (moment log) old) (d : MakingHasRun played old new own mode capacity told) where

@@ -4,62 +4,62 @@ use Rattle.std.specs.List.{list_all}
 use Rattle.std.proofs.Common.{refl, sym, ap, subst, inl, inr, ◌∙◌}
 use Rattle.std.proofs.lemmas.Bool.{cases_eq}
 use Rattle.std.proofs.lemmas.List.Folds.{list_all-append}
-use Rattle.papaya_stepping.specs.Given.Seize.declared.progress.Progress.{Progress}
-use Rattle.papaya_stepping.specs.Given.Seize.declared.progress.Progress.TheVariants as progress
-use Rattle.papaya_stepping.specs.Given.Seize.World.{with_at}
-use Rattle.papaya_stepping.specs.Given.Resize.declared.new_map.NewMap.{NewMap}
-use Rattle.papaya_stepping.specs.Given.Tables.declared.resize_mode.ResizeMode.{ResizeMode}
-use Rattle.papaya_stepping.specs.Given.Tables.declared.setting.Setting.{Setting}
-use Rattle.papaya_stepping.proofs.Given.Callers.Together.At.{at_other, at_same}
-use Rattle.papaya_stepping.specs.Given.Runs.Runs.{map_fault}
-use Rattle.papaya_values.specs.Given.Schedules.declared.effect.Effect.{Effect}
-use Rattle.papaya_values.specs.Given.Schedules.declared.effect.Effect.TheVariants.{Asked, Linked, TableMade}
-use Rattle.papaya_values.specs.Given.Schedules.declared.effect.Growth.TheVariants.{ABlock}
-use Rattle.papaya_values.specs.Given.Schedules.declared.event.Event.TheVariants.{MakeMap}
-use Rattle.papaya_values.specs.Given.Schedules.Effects.{AtEachEffect, maps_by, with_effect, with_effects}
-use Rattle.papaya_values.specs.Given.Schedules.Entry.{Entry}
-use Rattle.papaya_values.specs.Given.Schedules.Handing.{is_first_making}
-use Rattle.papaya_values.specs.Given.Schedules.Lives.{EventFinds}
-use Rattle.papaya_values.specs.Given.Schedules.Moment.{MapThere, Moment}
-use Rattle.papaya_values.specs.Given.Schedules.Terms.{Terms}
-use Rattle.papaya_values.specs.Given.Schedules.Views.{map_at}
-use Rattle.papaya_values.specs.Given.Effects.Effects.{effects_of, known_after}
-use Rattle.papaya_values.specs.Given.Effects.Known.{Known, known}
-use Rattle.papaya_values.specs.Given.Effects.declared.acting.Acting.TheVariants as acts
-use Rattle.papaya_stepping.specs.Given.Finishes.Makings.{Beginning, IsMade}
-use Rattle.papaya_stepping.specs.Given.Finishes.Maps.{Standing}
-use Rattle.papaya_values.specs.Given.Follows.Shows.{Shows}
-use Rattle.papaya_values.proofs.Given.Spots.Unreclaimed.{and_both}
-use Rattle.papaya_values.specs.Given.Others.Makings.{IsNew, WasNew, making_after}
-use Rattle.papaya_values.proofs.Given.Others.MakingGoes.{new_maps_stay}
-use Rattle.papaya_stepping.specs.Given.Finds.Linking.{IsMadeFor}
-use Rattle.papaya_stepping.proofs.Given.Finds.Capacities.{effects_keep_capacities}
-use Rattle.papaya_stepping.specs.Given.Legal.Chains.{Chain, Come, MakingSteps}
-use Rattle.papaya_stepping.specs.Given.Legal.MapEvents.{FindsItsMap, HasNotMade, InMakingEvent}
-use Rattle.papaya_stepping.proofs.Given.Legal.Chains.{makings_chain}
-use Rattle.papaya_stepping.proofs.Given.Legal.Maps.{unmade_maps}
-use Rattle.papaya_stepping.proofs.Given.Grows.Finding.Alike.{made_still}
-use Rattle.papaya_stepping.proofs.Given.Legal.Slots.{each_join}
-use Rattle.papaya_stepping.specs.Given.Works.Firsts.{ShowsOpenings}
-use Rattle.papaya_stepping.specs.Given.Works.Makings.{CountsTables, table_left}
-use Rattle.papaya_stepping.proofs.Given.Works.Firsts.{makings_go_on}
-use Rattle.papaya_stepping.proofs.Given.Remains.Numbered.{made_stays}
-use Rattle.papaya_stepping.specs.Given.Logged.Goes.{Far, GoesFor, MakingGoes, MakingOn}
-use Rattle.papaya_stepping.specs.Given.Logged.Makings.{is_over}
-use Rattle.papaya_stepping.specs.Given.Logged.Shown.{IsCounted}
-use Rattle.papaya_stepping.proofs.Given.Logged.Counted.{counted_making_steps}
-use Rattle.papaya_stepping.proofs.Given.Logged.LeftNoted.{makings_note_left}
-use Rattle.papaya_stepping.proofs.Given.Logged.MakingSteps.{is_there}
-use Rattle.papaya_stepping.proofs.Given.Logged.Held.{making_held, maps_below}
-use Rattle.papaya_values.specs.Given.Named.Places.{first_places}
-use Rattle.papaya_stepping.proofs.Given.Works.Makings.{makings_do_theirs, makings_find_theirs}
-use Rattle.papaya_stepping.proofs.Given.Works.TablesMade.{makings_count_tables}
+use Rattle.papaya_stepping.specs.Given.SeizeDeclared.progress.Progress.{Progress}
+use Rattle.papaya_stepping.specs.Given.SeizeDeclared.progress.Progress.TheVariants as progress
+use Rattle.papaya_stepping.specs.Given.SeizeWorld.{with_at}
+use Rattle.papaya_stepping.specs.Given.ResizeDeclared.new_map.NewMap.{NewMap}
+use Rattle.papaya_stepping.specs.Given.TablesDeclared.resize_mode.ResizeMode.{ResizeMode}
+use Rattle.papaya_stepping.specs.Given.TablesDeclared.setting.Setting.{Setting}
+use Rattle.papaya_stepping.proofs.Given.CallersTogether.At.{at_other, at_same}
+use Rattle.papaya_stepping.specs.Given.RunsRuns.{map_fault}
+use Rattle.papaya_values.specs.Given.SchedulesDeclared.effect.Effect.{Effect}
+use Rattle.papaya_values.specs.Given.SchedulesDeclared.effect.Effect.TheVariants.{Asked, Linked, TableMade}
+use Rattle.papaya_values.specs.Given.SchedulesDeclared.effect.Growth.TheVariants.{ABlock}
+use Rattle.papaya_values.specs.Given.SchedulesDeclared.event.Event.TheVariants.{MakeMap}
+use Rattle.papaya_values.specs.Given.SchedulesEffects.{AtEachEffect, maps_by, with_effect, with_effects}
+use Rattle.papaya_values.specs.Given.SchedulesEntry.{Entry}
+use Rattle.papaya_values.specs.Given.SchedulesHanding.{is_first_making}
+use Rattle.papaya_values.specs.Given.SchedulesLives.{EventFinds}
+use Rattle.papaya_values.specs.Given.SchedulesMoment.{MapThere, Moment}
+use Rattle.papaya_values.specs.Given.SchedulesTerms.{Terms}
+use Rattle.papaya_values.specs.Given.SchedulesViews.{map_at}
+use Rattle.papaya_values.specs.Given.EffectsEffects.{effects_of, known_after}
+use Rattle.papaya_values.specs.Given.EffectsKnown.{Known, known}
+use Rattle.papaya_values.specs.Given.EffectsDeclared.acting.Acting.TheVariants as acts
+use Rattle.papaya_stepping.specs.Given.FinishesMakings.{Beginning, IsMade}
+use Rattle.papaya_stepping.specs.Given.FinishesMaps.{Standing}
+use Rattle.papaya_values.specs.Given.FollowsShows.{Shows}
+use Rattle.papaya_values.proofs.Given.SpotsUnreclaimed.{and_both}
+use Rattle.papaya_values.specs.Given.OthersMakings.{IsNew, WasNew, making_after}
+use Rattle.papaya_values.proofs.Given.OthersMakingGoes.{new_maps_stay}
+use Rattle.papaya_stepping.specs.Given.FindsLinking.{IsMadeFor}
+use Rattle.papaya_stepping.proofs.Given.FindsCapacities.{effects_keep_capacities}
+use Rattle.papaya_stepping.specs.Given.LegalChains.{Chain, Come, MakingSteps}
+use Rattle.papaya_stepping.specs.Given.LegalMapEvents.{FindsItsMap, HasNotMade, InMakingEvent}
+use Rattle.papaya_stepping.proofs.Given.LegalChains.{makings_chain}
+use Rattle.papaya_stepping.proofs.Given.LegalMaps.{unmade_maps}
+use Rattle.papaya_stepping.proofs.Given.GrowsFinding.Alike.{made_still}
+use Rattle.papaya_stepping.proofs.Given.LegalSlots.{each_join}
+use Rattle.papaya_stepping.specs.Given.WorksFirsts.{ShowsOpenings}
+use Rattle.papaya_stepping.specs.Given.WorksMakings.{CountsTables, table_left}
+use Rattle.papaya_stepping.proofs.Given.WorksFirsts.{makings_go_on}
+use Rattle.papaya_stepping.proofs.Given.RemainsNumbered.{made_stays}
+use Rattle.papaya_stepping.specs.Given.LoggedGoes.{Far, GoesFor, MakingGoes, MakingOn}
+use Rattle.papaya_stepping.specs.Given.LoggedMakings.{is_over}
+use Rattle.papaya_stepping.specs.Given.LoggedShown.{IsCounted}
+use Rattle.papaya_stepping.proofs.Given.LoggedCounted.{counted_making_steps}
+use Rattle.papaya_stepping.proofs.Given.LoggedLeftNoted.{makings_note_left}
+use Rattle.papaya_stepping.proofs.Given.LoggedMakingSteps.{is_there}
+use Rattle.papaya_stepping.proofs.Given.LoggedHeld.{making_held, maps_below}
+use Rattle.papaya_values.specs.Given.NamedPlaces.{first_places}
+use Rattle.papaya_stepping.proofs.Given.WorksMakings.{makings_do_theirs, makings_find_theirs}
+use Rattle.papaya_stepping.proofs.Given.WorksTablesMade.{makings_count_tables}
 use Rattle.papaya_events.proofs.OfRows.Chain.{come_as, come_by}
-use Rattle.papaya_stepping.specs.Given.Executor.IsThere.{IsThere, held_by}
-use Rattle.papaya_stepping.specs.Given.Executor.Making.{MakesThere}
-use Rattle.papaya_values.specs.Given.Scenes.Scene.{Scene, slot_of}
-use Rattle.papaya_values.specs.Given.Scenes.Held.{Held, IsAt}
-use Rattle.papaya_values.specs.Given.Scenes.Making.{MakingLeads}
+use Rattle.papaya_stepping.specs.Given.ExecutorIsThere.{IsThere, held_by}
+use Rattle.papaya_stepping.specs.Given.ExecutorMaking.{MakesThere}
+use Rattle.papaya_values.specs.Given.ScenesScene.{Scene, slot_of}
+use Rattle.papaya_values.specs.Given.ScenesHeld.{Held, IsAt}
+use Rattle.papaya_values.specs.Given.ScenesMaking.{MakingLeads}
 
 -- By what a step of a making told: it goes on as another machine, of the same map.
 module _ {K V : Type 0} (same : K → K → Bool) (hash : ℕ → K → ℕ) (s : Scene K V) (old new : Held K V) (i : ℕ) (b : Beginning K) (here : s.makers i ≡ Some b) where

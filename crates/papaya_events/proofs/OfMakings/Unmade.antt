@@ -3,55 +3,55 @@ use Rattle.std.specs.Prelude.{◌≡◌, ◌≤◌, ◌⊎◌, ◌^◌, ◌++◌
 use Rattle.std.specs.List.{list_all}
 use Rattle.std.proofs.Common.{refl, sym, ap, subst, inr, ◌∙◌, arith}
 use Rattle.std.proofs.lemmas.List.Folds.{list_all-append}
-use Rattle.papaya_stepping.specs.Given.Seize.declared.progress.Progress.{Progress}
-use Rattle.papaya_stepping.specs.Given.Seize.declared.progress.Progress.TheVariants as progress
-use Rattle.papaya_stepping.specs.Given.Seize.World.{SlotsTaken}
-use Rattle.papaya_stepping.specs.Given.Tables.declared.resize_mode.ResizeMode.{ResizeMode}
-use Rattle.papaya_stepping.specs.Given.Tables.declared.setting.Setting.{Setting}
-use Rattle.papaya_stepping.proofs.Given.Callers.Together.At.{at_same}
-use Rattle.papaya_values.proofs.Given.Spots.Unreclaimed.{and_both}
-use Rattle.papaya_stepping.specs.Given.Executor.declared.executor.Executor.{Executor}
-use Rattle.papaya_stepping.specs.Given.Finishes.Makings.{Beginning}
-use Rattle.papaya_stepping.specs.Given.Finishes.Maps.{Standing}
-use Rattle.papaya_values.specs.Given.Others.Makings.{WasNew}
-use Rattle.papaya_stepping.specs.Given.SeizeWords.declared.fault.Fault.{Fault}
-use Rattle.papaya_stepping.specs.Given.SeizeWords.declared.fault.Fault.TheVariants.{Memory}
-use Rattle.papaya_values.specs.Given.Schedules.declared.effect.Effect.{Effect}
-use Rattle.papaya_values.specs.Given.Schedules.declared.event.Event.TheVariants.{MakeMap}
-use Rattle.papaya_values.specs.Given.Schedules.declared.outcome.Outcome.TheVariants.{Refused}
-use Rattle.papaya_values.specs.Given.Schedules.After.{moment}
-use Rattle.papaya_values.specs.Given.Schedules.Entry.{Entry, is_busy}
-use Rattle.papaya_values.specs.Given.Schedules.InTurn.{ComesRight, is_growth}
-use Rattle.papaya_values.specs.Given.Schedules.Moment.{MapThere, Moment}
-use Rattle.papaya_values.specs.Given.Schedules.Terms.{Terms}
-use Rattle.papaya_values.specs.Given.Effects.Effects.{effects_of}
-use Rattle.papaya_values.specs.Given.Effects.Known.{Known, known}
-use Rattle.papaya_values.specs.Given.Effects.declared.acting.Acting.TheVariants as acts
-use Rattle.papaya_values.specs.Given.Effects.declared.notes.Notes.{Notes}
-use Rattle.papaya_stepping.specs.Given.Legal.CallEvents.{IsLegalBut}
-use Rattle.papaya_stepping.specs.Given.Legal.Carried.{ShowsRun}
-use Rattle.papaya_stepping.specs.Given.Legal.Chains.{Come}
-use Rattle.papaya_stepping.specs.Given.Legal.MapEvents.{HasNotMade, InMakingEvent}
-use Rattle.papaya_stepping.proofs.Given.Legal.Growths.{growths_leave}
-use Rattle.papaya_stepping.proofs.Given.Legal.Heads.Chains.{makings_taken}
-use Rattle.papaya_stepping.proofs.Given.Legal.Heads.Rows.{slots_stay}
-use Rattle.papaya_stepping.proofs.Given.Legal.Maps.{unmade_maps}
-use Rattle.papaya_stepping.proofs.Given.Legal.Refused.{refused_begins, refused_ends}
-use Rattle.papaya_values.specs.Given.Reclaims.Left.{LeftAmong}
-use Rattle.papaya_stepping.specs.Given.Logged.Goes.{Far, GoesFor, MakingGoes, MakingOn, far}
-use Rattle.papaya_stepping.specs.Given.Logged.Makings.{MakingCame, MakingIsBegun, given_back, is_over}
-use Rattle.papaya_stepping.specs.Given.Logged.declared.logged.Logged.{Logged}
-use Rattle.papaya_stepping.proofs.Given.Logged.GivenBack.{at_given}
-use Rattle.papaya_stepping.proofs.Given.Logged.MakingsRun.{came_on}
-use Rattle.papaya_stepping.specs.Given.Scheduler.Mapping.{MayMap}
-use Rattle.papaya_stepping.specs.Given.Scheduler.Played.{IsPlayed}
-use Rattle.papaya_stepping.specs.Given.Scheduler.Works.{MakingHasRun}
-use Rattle.papaya_stepping.specs.Given.Scheduler.declared.played.Played.{Played}
-use Rattle.papaya_stepping.specs.Given.Scheduler.declared.scheduler.Scheduler.{Scheduler}
-use Rattle.papaya_stepping.proofs.Given.Scheduler.Rights.{entry}
-use Rattle.papaya_stepping.proofs.Given.Mapping.MapsMade.{refused_never}
-use Rattle.papaya_stepping.proofs.Given.Works.Reached.{makings_note_more}
-use Rattle.papaya_stepping.proofs.Given.Works.Refusals.{IsRefusedSo, MayBeRefused, refused_so}
+use Rattle.papaya_stepping.specs.Given.SeizeDeclared.progress.Progress.{Progress}
+use Rattle.papaya_stepping.specs.Given.SeizeDeclared.progress.Progress.TheVariants as progress
+use Rattle.papaya_stepping.specs.Given.SeizeWorld.{SlotsTaken}
+use Rattle.papaya_stepping.specs.Given.TablesDeclared.resize_mode.ResizeMode.{ResizeMode}
+use Rattle.papaya_stepping.specs.Given.TablesDeclared.setting.Setting.{Setting}
+use Rattle.papaya_stepping.proofs.Given.CallersTogether.At.{at_same}
+use Rattle.papaya_values.proofs.Given.SpotsUnreclaimed.{and_both}
+use Rattle.papaya_stepping.specs.Given.ExecutorDeclared.executor.Executor.{Executor}
+use Rattle.papaya_stepping.specs.Given.FinishesMakings.{Beginning}
+use Rattle.papaya_stepping.specs.Given.FinishesMaps.{Standing}
+use Rattle.papaya_values.specs.Given.OthersMakings.{WasNew}
+use Rattle.papaya_stepping.specs.Given.SeizeWordsDeclared.fault.Fault.{Fault}
+use Rattle.papaya_stepping.specs.Given.SeizeWordsDeclared.fault.Fault.TheVariants.{Memory}
+use Rattle.papaya_values.specs.Given.SchedulesDeclared.effect.Effect.{Effect}
+use Rattle.papaya_values.specs.Given.SchedulesDeclared.event.Event.TheVariants.{MakeMap}
+use Rattle.papaya_values.specs.Given.SchedulesDeclared.outcome.Outcome.TheVariants.{Refused}
+use Rattle.papaya_values.specs.Given.SchedulesAfter.{moment}
+use Rattle.papaya_values.specs.Given.SchedulesEntry.{Entry, is_busy}
+use Rattle.papaya_values.specs.Given.SchedulesInTurn.{ComesRight, is_growth}
+use Rattle.papaya_values.specs.Given.SchedulesMoment.{MapThere, Moment}
+use Rattle.papaya_values.specs.Given.SchedulesTerms.{Terms}
+use Rattle.papaya_values.specs.Given.EffectsEffects.{effects_of}
+use Rattle.papaya_values.specs.Given.EffectsKnown.{Known, known}
+use Rattle.papaya_values.specs.Given.EffectsDeclared.acting.Acting.TheVariants as acts
+use Rattle.papaya_values.specs.Given.EffectsDeclared.notes.Notes.{Notes}
+use Rattle.papaya_stepping.specs.Given.LegalCallEvents.{IsLegalBut}
+use Rattle.papaya_stepping.specs.Given.LegalCarried.{ShowsRun}
+use Rattle.papaya_stepping.specs.Given.LegalChains.{Come}
+use Rattle.papaya_stepping.specs.Given.LegalMapEvents.{HasNotMade, InMakingEvent}
+use Rattle.papaya_stepping.proofs.Given.LegalGrowths.{growths_leave}
+use Rattle.papaya_stepping.proofs.Given.LegalHeads.Chains.{makings_taken}
+use Rattle.papaya_stepping.proofs.Given.LegalHeads.Rows.{slots_stay}
+use Rattle.papaya_stepping.proofs.Given.LegalMaps.{unmade_maps}
+use Rattle.papaya_stepping.proofs.Given.LegalRefused.{refused_begins, refused_ends}
+use Rattle.papaya_values.specs.Given.ReclaimsLeft.{LeftAmong}
+use Rattle.papaya_stepping.specs.Given.LoggedGoes.{Far, GoesFor, MakingGoes, MakingOn, far}
+use Rattle.papaya_stepping.specs.Given.LoggedMakings.{MakingCame, MakingIsBegun, given_back, is_over}
+use Rattle.papaya_stepping.specs.Given.LoggedDeclared.logged.Logged.{Logged}
+use Rattle.papaya_stepping.proofs.Given.LoggedGivenBack.{at_given}
+use Rattle.papaya_stepping.proofs.Given.LoggedMakingsRun.{came_on}
+use Rattle.papaya_stepping.specs.Given.SchedulerMapping.{MayMap}
+use Rattle.papaya_stepping.specs.Given.SchedulerPlayed.{IsPlayed}
+use Rattle.papaya_stepping.specs.Given.SchedulerWorks.{MakingHasRun}
+use Rattle.papaya_stepping.specs.Given.SchedulerDeclared.played.Played.{Played}
+use Rattle.papaya_stepping.specs.Given.SchedulerDeclared.scheduler.Scheduler.{Scheduler}
+use Rattle.papaya_stepping.proofs.Given.SchedulerRights.{entry}
+use Rattle.papaya_stepping.proofs.Given.MappingMapsMade.{refused_never}
+use Rattle.papaya_stepping.proofs.Given.WorksReached.{makings_note_more}
+use Rattle.papaya_stepping.proofs.Given.WorksRefusals.{IsRefusedSo, MayBeRefused, refused_so}
 use Rattle.papaya_events.specs.Asked.{Holds}
 use Rattle.papaya_events.specs.OfCalls.{HaveShards, Runs, RunsOn}
 use Rattle.papaya_events.proofs.OfMakings.Begun.{begun_as, begun_in, begun_shown, none_begun}
@@ -59,10 +59,10 @@ use Rattle.papaya_events.proofs.OfMakings.Chain.{IsUnder, MakingComes, just_goes
 use Rattle.papaya_events.proofs.OfRows.Chain.{come_by}
 use Rattle.papaya_events.proofs.OfRows.Lone.{alone_follows}
 use Rattle.papaya_events.proofs.OfRows.Over.{over_runs}
-use Rattle.papaya_stepping.specs.Given.Executor.IsThere.{IsThere, held_by}
-use Rattle.papaya_values.specs.Given.Scenes.Scene.{Scene}
-use Rattle.papaya_stepping.proofs.Given.Logged.Held.{making_held}
-use Rattle.papaya_values.specs.Given.Scenes.Making.{MakingLeads}
+use Rattle.papaya_stepping.specs.Given.ExecutorIsThere.{IsThere, held_by}
+use Rattle.papaya_values.specs.Given.ScenesScene.{Scene}
+use Rattle.papaya_stepping.proofs.Given.LoggedHeld.{making_held}
+use Rattle.papaya_values.specs.Given.ScenesMaking.{MakingLeads}
 
 -- where all that was asked for were growths, so were those before, and those that follow
 asked_before : (xs ys zs : List Effect) → zs ≡ xs ++ ys → list_all is_growth zs ≡ true → (list_all is_growth xs ≡ true) × (list_all is_growth ys ≡ true)

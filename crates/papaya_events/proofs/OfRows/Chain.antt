@@ -1,24 +1,24 @@
 -- The steps that a row took are a chain of steps from the scene in which it began.
 use Rattle.std.specs.Prelude.{◌≡◌, ℕ, zero, suc, Bool, List, ◌++◌, None}
 use Rattle.std.proofs.Common.{refl, subst, ◌∙◌}
-use Rattle.papaya_stepping.specs.Given.Seize.World.{Step}
-use Rattle.papaya_stepping.specs.Given.Executor.declared.executor.Executor.{Executor}
-use Rattle.papaya_values.specs.Given.Others.Rows.{scene_then}
-use Rattle.papaya_values.specs.Given.Schedules.declared.effect.Effect.{Effect}
-use Rattle.papaya_values.specs.Given.Schedules.Effects.{with_effects}
-use Rattle.papaya_values.specs.Given.Schedules.Moment.{Moment}
-use Rattle.papaya_values.specs.Given.Schedules.Terms.{Terms}
-use Rattle.papaya_values.specs.Given.Effects.Effects.{effects_of, known_after}
-use Rattle.papaya_values.specs.Given.Effects.Known.{Known, known}
-use Rattle.papaya_values.specs.Given.Effects.declared.acting.Acting.TheVariants as acts
-use Rattle.papaya_stepping.specs.Given.Logged.Goes.{Far, GoesFor, RowGoes}
-use Rattle.papaya_stepping.specs.Given.Logged.Shown.{IsCounted}
-use Rattle.papaya_stepping.proofs.Given.Logged.Counted.{counted_row_steps}
-use Rattle.papaya_stepping.proofs.Given.Logged.LeftNoted.{rows_note_left}
-use Rattle.papaya_stepping.specs.Given.Legal.Chains.{Chain, Come, RowSteps}
-use Rattle.papaya_stepping.specs.Given.Executor.IsThere.{IsThere, held_by}
-use Rattle.papaya_values.specs.Given.Scenes.Scene.{Scene}
-use Rattle.papaya_stepping.proofs.Given.Executor.RowLeads.{has_row, held_row}
+use Rattle.papaya_stepping.specs.Given.SeizeWorld.{Step}
+use Rattle.papaya_stepping.specs.Given.ExecutorDeclared.executor.Executor.{Executor}
+use Rattle.papaya_values.specs.Given.OthersRows.{scene_then}
+use Rattle.papaya_values.specs.Given.SchedulesDeclared.effect.Effect.{Effect}
+use Rattle.papaya_values.specs.Given.SchedulesEffects.{with_effects}
+use Rattle.papaya_values.specs.Given.SchedulesMoment.{Moment}
+use Rattle.papaya_values.specs.Given.SchedulesTerms.{Terms}
+use Rattle.papaya_values.specs.Given.EffectsEffects.{effects_of, known_after}
+use Rattle.papaya_values.specs.Given.EffectsKnown.{Known, known}
+use Rattle.papaya_values.specs.Given.EffectsDeclared.acting.Acting.TheVariants as acts
+use Rattle.papaya_stepping.specs.Given.LoggedGoes.{Far, GoesFor, RowGoes}
+use Rattle.papaya_stepping.specs.Given.LoggedShown.{IsCounted}
+use Rattle.papaya_stepping.proofs.Given.LoggedCounted.{counted_row_steps}
+use Rattle.papaya_stepping.proofs.Given.LoggedLeftNoted.{rows_note_left}
+use Rattle.papaya_stepping.specs.Given.LegalChains.{Chain, Come, RowSteps}
+use Rattle.papaya_stepping.specs.Given.ExecutorIsThere.{IsThere, held_by}
+use Rattle.papaya_values.specs.Given.ScenesScene.{Scene}
+use Rattle.papaya_stepping.proofs.Given.ExecutorRowLeads.{has_row, held_row}
 
 module _ {K V S : Type 0} where
   -- how far an event has come that has run so far, at this moment, in this scene

@@ -1,56 +1,56 @@
 -- What is so of the row that is an event's work: it might begin, it is over, it ends the section of no other guard, and it is the event's row to the waiting sets.
 use Rattle.std.specs.Prelude.{◌≡◌, ◌==◌, ◌⊎◌, ℕ, Bool, true, false, List, [], Option, Some, None, if◌then◌else◌}
 use Rattle.std.proofs.Common.{refl, sym, ap, subst, inl, inr, ◌∙◌}
-use Rattle.papaya_stepping.specs.Given.SeizeWords.Mem.{word_at}
-use Rattle.papaya_stepping.specs.Given.SeizeWords.declared.at.At.TheVariants as at
-use Rattle.papaya_stepping.specs.Given.SeizeWords.declared.fault.Fault.{Fault}
-use Rattle.papaya_stepping.specs.Given.SeizeWords.declared.fault.Fault.TheVariants.{Memory, SlotsUsedUp}
-use Rattle.papaya_stepping.specs.Given.Seize.declared.states.TheConstants.{BATCH, HELD}
-use Rattle.papaya_stepping.specs.Given.Seize.Sequence.{changes, entered_at, new_slot}
-use Rattle.papaya_stepping.specs.Given.Seize.WaitingSets.{Change}
-use Rattle.papaya_stepping.specs.Given.Seize.World.{World, IsInside, Use, Enter', Flush as Flush', Leave', LeaveOwned, Refresh as Refresh', Register'}
-use Rattle.papaya_stepping.specs.Given.Tables.declared.node.Node.{Node}
-use Rattle.papaya_stepping.specs.Given.Runs.Present.{Present, drops, guard_of, guards_on, guards_slot_or, has_registration, living_slot, slot_of_guard, slot_of_registration}
-use Rattle.papaya_values.specs.Given.Schedules.declared.effect.Effect.{Effect}
-use Rattle.papaya_values.specs.Given.Schedules.declared.event.Event.{Event}
-use Rattle.papaya_values.specs.Given.Schedules.declared.event.Event.TheVariants.{DropGuard, Enter, Flush, Own, Refresh, Register, Unregister}
-use Rattle.papaya_values.specs.Given.Schedules.declared.outcome.Outcome.{Outcome}
-use Rattle.papaya_values.specs.Given.Schedules.declared.outcome.Outcome.TheVariants.{Done, Refused, Slot}
-use Rattle.papaya_values.specs.Given.Schedules.After.{moment}
-use Rattle.papaya_values.specs.Given.Schedules.Beginning.{begun}
-use Rattle.papaya_values.specs.Given.Schedules.Entry.{Entry, is_busy}
-use Rattle.papaya_values.specs.Given.Schedules.Moment.{Moment}
-use Rattle.papaya_values.specs.Given.Schedules.Terms.{Terms}
-use Rattle.papaya_values.specs.Given.Scenes.declared.row.RowTold.{RowTold}
-use Rattle.papaya_values.specs.Given.Scenes.declared.row.RowTold.TheVariants as told
-use Rattle.papaya_values.specs.Given.Scenes.declared.row.SlotCall.{SlotCall}
-use Rattle.papaya_values.specs.Given.Scenes.declared.row.SlotCall.TheVariants as call
-use Rattle.papaya_values.specs.Given.Scenes.declared.row.SlotUse.{SlotUse}
-use Rattle.papaya_values.specs.Given.Scenes.declared.row.SlotUse.TheVariants as used
-use Rattle.papaya_stepping.specs.Given.Promises.Others.{NobodyOn, SparesGuards}
-use Rattle.papaya_stepping.specs.Given.Promises.Protected.{EndsInside, there_in}
-use Rattle.papaya_stepping.proofs.Given.Promises.Guards.{only_guards_leave_nobody}
-use Rattle.papaya_stepping.specs.Given.Models.OnSlots.{IsRowFor}
-use Rattle.papaya_stepping.specs.Given.Models.Rows.{RowsAre}
-use Rattle.papaya_stepping.proofs.Given.Models.Rows.{events_are_rows}
-use Rattle.papaya_stepping.specs.Given.Logged.declared.logged.Logged.{Logged}
-use Rattle.papaya_stepping.specs.Given.Rows.Rows.{RowRan, left_as}
-use Rattle.papaya_stepping.proofs.Given.Rows.NeverWaits.{led_alone, over_alone}
-use Rattle.papaya_stepping.proofs.Given.Rows.Ran.{Led, led_once, over_once}
-use Rattle.papaya_stepping.specs.Given.Scheduler.Played.{IsDue, StandsFor}
-use Rattle.papaya_stepping.specs.Given.Scheduler.Works.{ComesBy, IsAbout, IsItsRow, told_so}
-use Rattle.papaya_stepping.specs.Given.Scheduler.declared.scheduler.Scheduler.{Scheduler}
-use Rattle.papaya_stepping.proofs.Given.Scheduler.Dropped.{free_lives, lives_on}
-use Rattle.papaya_stepping.proofs.Given.Scheduler.Drops as drops_so
-use Rattle.papaya_stepping.proofs.Given.Scheduler.Enters as enters_so
-use Rattle.papaya_stepping.proofs.Given.Scheduler.Flushes as flushes_so
-use Rattle.papaya_stepping.proofs.Given.Scheduler.Refreshes as refreshes_so
-use Rattle.papaya_stepping.proofs.Given.Scheduler.SlotTaken.{first_vacant, led_taking, over_taking, use_still, use_with, used_so, which}
-use Rattle.papaya_stepping.proofs.Given.Scheduler.Unregisters as unregisters_so
-use Rattle.papaya_stepping.proofs.Given.Scheduler.Vacancies.{first_is}
-use Rattle.papaya_stepping.specs.Given.Executor.IsThere.{IsUsedAs, use_at, work_of}
-use Rattle.papaya_stepping.specs.Given.Executor.OnSlots.{MayBegin}
-use Rattle.papaya_values.specs.Given.Scenes.Rows.{request_of}
+use Rattle.papaya_stepping.specs.Given.SeizeWordsMem.{word_at}
+use Rattle.papaya_stepping.specs.Given.SeizeWordsDeclared.at.At.TheVariants as at
+use Rattle.papaya_stepping.specs.Given.SeizeWordsDeclared.fault.Fault.{Fault}
+use Rattle.papaya_stepping.specs.Given.SeizeWordsDeclared.fault.Fault.TheVariants.{Memory, SlotsUsedUp}
+use Rattle.papaya_stepping.specs.Given.SeizeDeclared.states.TheConstants.{BATCH, HELD}
+use Rattle.papaya_stepping.specs.Given.SeizeSequence.{changes, entered_at, new_slot}
+use Rattle.papaya_stepping.specs.Given.SeizeWaitingSets.{Change}
+use Rattle.papaya_stepping.specs.Given.SeizeWorld.{World, IsInside, Use, Enter', Flush as Flush', Leave', LeaveOwned, Refresh as Refresh', Register'}
+use Rattle.papaya_stepping.specs.Given.TablesDeclared.node.Node.{Node}
+use Rattle.papaya_stepping.specs.Given.RunsPresent.{Present, drops, guard_of, guards_on, guards_slot_or, has_registration, living_slot, slot_of_guard, slot_of_registration}
+use Rattle.papaya_values.specs.Given.SchedulesDeclared.effect.Effect.{Effect}
+use Rattle.papaya_values.specs.Given.SchedulesDeclared.event.Event.{Event}
+use Rattle.papaya_values.specs.Given.SchedulesDeclared.event.Event.TheVariants.{DropGuard, Enter, Flush, Own, Refresh, Register, Unregister}
+use Rattle.papaya_values.specs.Given.SchedulesDeclared.outcome.Outcome.{Outcome}
+use Rattle.papaya_values.specs.Given.SchedulesDeclared.outcome.Outcome.TheVariants.{Done, Refused, Slot}
+use Rattle.papaya_values.specs.Given.SchedulesAfter.{moment}
+use Rattle.papaya_values.specs.Given.SchedulesBeginning.{begun}
+use Rattle.papaya_values.specs.Given.SchedulesEntry.{Entry, is_busy}
+use Rattle.papaya_values.specs.Given.SchedulesMoment.{Moment}
+use Rattle.papaya_values.specs.Given.SchedulesTerms.{Terms}
+use Rattle.papaya_values.specs.Given.ScenesDeclared.row.RowTold.{RowTold}
+use Rattle.papaya_values.specs.Given.ScenesDeclared.row.RowTold.TheVariants as told
+use Rattle.papaya_values.specs.Given.ScenesDeclared.row.SlotCall.{SlotCall}
+use Rattle.papaya_values.specs.Given.ScenesDeclared.row.SlotCall.TheVariants as call
+use Rattle.papaya_values.specs.Given.ScenesDeclared.row.SlotUse.{SlotUse}
+use Rattle.papaya_values.specs.Given.ScenesDeclared.row.SlotUse.TheVariants as used
+use Rattle.papaya_stepping.specs.Given.PromisesOthers.{NobodyOn, SparesGuards}
+use Rattle.papaya_stepping.specs.Given.PromisesProtected.{EndsInside, there_in}
+use Rattle.papaya_stepping.proofs.Given.PromisesGuards.{only_guards_leave_nobody}
+use Rattle.papaya_stepping.specs.Given.ModelsOnSlots.{IsRowFor}
+use Rattle.papaya_stepping.specs.Given.ModelsRows.{RowsAre}
+use Rattle.papaya_stepping.proofs.Given.ModelsRows.{events_are_rows}
+use Rattle.papaya_stepping.specs.Given.LoggedDeclared.logged.Logged.{Logged}
+use Rattle.papaya_stepping.specs.Given.RowsRows.{RowRan, left_as}
+use Rattle.papaya_stepping.proofs.Given.RowsNeverWaits.{led_alone, over_alone}
+use Rattle.papaya_stepping.proofs.Given.RowsRan.{Led, led_once, over_once}
+use Rattle.papaya_stepping.specs.Given.SchedulerPlayed.{IsDue, StandsFor}
+use Rattle.papaya_stepping.specs.Given.SchedulerWorks.{ComesBy, IsAbout, IsItsRow, told_so}
+use Rattle.papaya_stepping.specs.Given.SchedulerDeclared.scheduler.Scheduler.{Scheduler}
+use Rattle.papaya_stepping.proofs.Given.SchedulerDropped.{free_lives, lives_on}
+use Rattle.papaya_stepping.proofs.Given.SchedulerDrops as drops_so
+use Rattle.papaya_stepping.proofs.Given.SchedulerEnters as enters_so
+use Rattle.papaya_stepping.proofs.Given.SchedulerFlushes as flushes_so
+use Rattle.papaya_stepping.proofs.Given.SchedulerRefreshes as refreshes_so
+use Rattle.papaya_stepping.proofs.Given.SchedulerSlotTaken.{first_vacant, led_taking, over_taking, use_still, use_with, used_so, which}
+use Rattle.papaya_stepping.proofs.Given.SchedulerUnregisters as unregisters_so
+use Rattle.papaya_stepping.proofs.Given.SchedulerVacancies.{first_is}
+use Rattle.papaya_stepping.specs.Given.ExecutorIsThere.{IsUsedAs, use_at, work_of}
+use Rattle.papaya_stepping.specs.Given.ExecutorOnSlots.{MayBegin}
+use Rattle.papaya_values.specs.Given.ScenesRows.{request_of}
 
 -- by how a slot is used it is within a section, or not
 pub inside_by : (kind : SlotUse) (v : Use) → IsUsedAs kind v → kind ≡ used.Inside → IsInside v

@@ -1,20 +1,20 @@
 -- An event that is kept out keeps the run, and one that is in turn does so as it is said of it.
 use Rattle.std.specs.Prelude.{◌≡◌, ℕ, Bool, true, false, [], ◌∷◌, Option, Some, None, MatchOption, Result, Ok, Err, IfOk}
 use Rattle.std.proofs.Common.{refl, sym, ap, subst, ◌∙◌}
-use Rattle.papaya_stepping.specs.Given.SeizeWords.declared.fault.Fault.{Fault}
-use Rattle.papaya_stepping.specs.Given.SeizeWords.declared.fault.Fault.TheVariants.{Busy}
-use Rattle.papaya_stepping.specs.Given.Runs.Runs.{map_fault}
-use Rattle.papaya_values.specs.Given.Schedules.declared.event.Event.{Event}
-use Rattle.papaya_values.specs.Given.Schedules.declared.event.Event.TheVariants.{Begin, DropGuard, EndMap, Enter, Flush, Go, MakeMap, Next, OneCall, Own, Refresh, Register, Replied, Step, Stop, Unregister}
-use Rattle.papaya_values.specs.Given.Schedules.declared.outcome.Outcome.{Outcome}
-use Rattle.papaya_values.specs.Given.Schedules.declared.outcome.Outcome.TheVariants.{Refused}
-use Rattle.papaya_values.specs.Given.Schedules.After.{mapped_on}
-use Rattle.papaya_values.specs.Given.Schedules.Entry.{Entry}
-use Rattle.papaya_values.specs.Given.Schedules.InTurn.{ComesRight, IsKeptOut}
-use Rattle.papaya_stepping.specs.Given.Scheduler.Played.{IsPlayed}
-use Rattle.papaya_stepping.specs.Given.Scheduler.declared.played.Played.{Played}
-use Rattle.papaya_stepping.specs.Given.Scheduler.declared.scheduler.Scheduler.{Scheduler}
-use Rattle.papaya_stepping.proofs.Given.Scheduler.Rights.{entry, entry_is}
+use Rattle.papaya_stepping.specs.Given.SeizeWordsDeclared.fault.Fault.{Fault}
+use Rattle.papaya_stepping.specs.Given.SeizeWordsDeclared.fault.Fault.TheVariants.{Busy}
+use Rattle.papaya_stepping.specs.Given.RunsRuns.{map_fault}
+use Rattle.papaya_values.specs.Given.SchedulesDeclared.event.Event.{Event}
+use Rattle.papaya_values.specs.Given.SchedulesDeclared.event.Event.TheVariants.{Begin, DropGuard, EndMap, Enter, Flush, Go, MakeMap, Next, OneCall, Own, Refresh, Register, Replied, Step, Stop, Unregister}
+use Rattle.papaya_values.specs.Given.SchedulesDeclared.outcome.Outcome.{Outcome}
+use Rattle.papaya_values.specs.Given.SchedulesDeclared.outcome.Outcome.TheVariants.{Refused}
+use Rattle.papaya_values.specs.Given.SchedulesAfter.{mapped_on}
+use Rattle.papaya_values.specs.Given.SchedulesEntry.{Entry}
+use Rattle.papaya_values.specs.Given.SchedulesInTurn.{ComesRight, IsKeptOut}
+use Rattle.papaya_stepping.specs.Given.SchedulerPlayed.{IsPlayed}
+use Rattle.papaya_stepping.specs.Given.SchedulerDeclared.played.Played.{Played}
+use Rattle.papaya_stepping.specs.Given.SchedulerDeclared.scheduler.Scheduler.{Scheduler}
+use Rattle.papaya_stepping.proofs.Given.SchedulerRights.{entry, entry_is}
 use Rattle.papaya_events.specs.Asked.{is_of_calls}
 use Rattle.papaya_events.specs.OfCalls.{RunsOn}
 use Rattle.papaya_events.specs.OfRows.{KeepsRun, KeepsRunAt, is_of_rows}

@@ -2,17 +2,17 @@
 use Rattle.std.specs.Prelude.{◌≡◌, ◌==◌, ◌&&◌, ℕ, Bool, true, false, List, [], ◌∷◌, Option, None, map}
 use Rattle.std.specs.List.{list_all, list_any}
 use Rattle.std.proofs.Common.{refl, ap, sym, subst, inl, inr, ◌∙◌}
-use Rattle.papaya_values.specs.Given.Schedules.declared.event.Event.{Event}
-use Rattle.papaya_values.specs.Given.Schedules.After.{is_by, moment}
-use Rattle.papaya_values.specs.Given.Schedules.Entry.{Entry, speaker}
-use Rattle.papaya_values.specs.Given.Schedules.Moment.{UnderWay as CallThere}
-use Rattle.papaya_values.specs.Given.Schedules.Terms.{Terms}
-use Rattle.papaya_values.specs.Given.Effects.Known.{known}
-use Rattle.papaya_stepping.specs.Given.Models.Follows.{FollowsModel}
-use Rattle.papaya_stepping.specs.Given.Legal.Carried.{ComesAlone, FollowsOrRows}
-use Rattle.papaya_values.specs.Given.Named.Seen.{seen, seen_of}
-use Rattle.papaya_values.specs.Given.Named.declared.caller.Caller.{Caller}
-use Rattle.papaya_stepping.specs.Given.Scheduler.declared.scheduler.Scheduler.{Scheduler}
+use Rattle.papaya_values.specs.Given.SchedulesDeclared.event.Event.{Event}
+use Rattle.papaya_values.specs.Given.SchedulesAfter.{is_by, moment}
+use Rattle.papaya_values.specs.Given.SchedulesEntry.{Entry, speaker}
+use Rattle.papaya_values.specs.Given.SchedulesMoment.{UnderWay as CallThere}
+use Rattle.papaya_values.specs.Given.SchedulesTerms.{Terms}
+use Rattle.papaya_values.specs.Given.EffectsKnown.{known}
+use Rattle.papaya_stepping.specs.Given.ModelsFollows.{FollowsModel}
+use Rattle.papaya_stepping.specs.Given.LegalCarried.{ComesAlone, FollowsOrRows}
+use Rattle.papaya_values.specs.Given.NamedSeen.{seen, seen_of}
+use Rattle.papaya_values.specs.Given.NamedDeclared.caller.Caller.{Caller}
+use Rattle.papaya_stepping.specs.Given.SchedulerDeclared.scheduler.Scheduler.{Scheduler}
 use Rattle.papaya_events.specs.OfCalls.{Runs}
 use Rattle.papaya_events.proofs.OfCalls.Alone.{row_of_caller}
 

@@ -2,24 +2,24 @@
 use Rattle.std.specs.Prelude.{◌≡◌, ◌==◌, ◌&&◌, ℕ, Bool, true, false, List, [], ◌∷◌, if◌then◌else◌}
 use Rattle.std.specs.List.{list_all}
 use Rattle.std.proofs.Common.{refl, ap, sym, ◌∙◌}
-use Rattle.papaya_stepping.specs.Given.Seize.World.{IsInside}
-use Rattle.papaya_values.proofs.Given.Spots.Unreclaimed.{and_both}
-use Rattle.papaya_stepping.specs.Given.Runs.Present.{guards_on, has_registration}
-use Rattle.papaya_values.specs.Given.Schedules.declared.effect.Effect.{Effect}
-use Rattle.papaya_values.specs.Given.Schedules.declared.event.Event.{Event}
-use Rattle.papaya_values.specs.Given.Schedules.declared.event.Event.TheVariants.{DropGuard, Enter, Flush, Own, Refresh, Register, Unregister}
-use Rattle.papaya_values.specs.Given.Schedules.After.{moment}
-use Rattle.papaya_values.specs.Given.Schedules.Entry.{Entry}
-use Rattle.papaya_values.specs.Given.Schedules.Handing.{is_only, is_reclaiming, may_do}
-use Rattle.papaya_values.specs.Given.Schedules.Terms.{Terms}
-use Rattle.papaya_values.specs.Given.Scenes.declared.row.SlotCall.{SlotCall}
-use Rattle.papaya_values.specs.Given.Scenes.declared.row.SlotCall.TheVariants as call
-use Rattle.papaya_stepping.proofs.Given.Rows.There.{is_inside, on_its_slot}
-use Rattle.papaya_stepping.specs.Given.Scheduler.Played.{StandsFor}
-use Rattle.papaya_stepping.specs.Given.Scheduler.Works.{IsAbout, IsItsRow}
-use Rattle.papaya_stepping.specs.Given.Scheduler.declared.scheduler.Scheduler.{Scheduler}
-use Rattle.papaya_stepping.proofs.Given.Scheduler.Dropped.{free_lives}
-use Rattle.papaya_stepping.specs.Given.Works.Rows.{may_row}
+use Rattle.papaya_stepping.specs.Given.SeizeWorld.{IsInside}
+use Rattle.papaya_values.proofs.Given.SpotsUnreclaimed.{and_both}
+use Rattle.papaya_stepping.specs.Given.RunsPresent.{guards_on, has_registration}
+use Rattle.papaya_values.specs.Given.SchedulesDeclared.effect.Effect.{Effect}
+use Rattle.papaya_values.specs.Given.SchedulesDeclared.event.Event.{Event}
+use Rattle.papaya_values.specs.Given.SchedulesDeclared.event.Event.TheVariants.{DropGuard, Enter, Flush, Own, Refresh, Register, Unregister}
+use Rattle.papaya_values.specs.Given.SchedulesAfter.{moment}
+use Rattle.papaya_values.specs.Given.SchedulesEntry.{Entry}
+use Rattle.papaya_values.specs.Given.SchedulesHanding.{is_only, is_reclaiming, may_do}
+use Rattle.papaya_values.specs.Given.SchedulesTerms.{Terms}
+use Rattle.papaya_values.specs.Given.ScenesDeclared.row.SlotCall.{SlotCall}
+use Rattle.papaya_values.specs.Given.ScenesDeclared.row.SlotCall.TheVariants as call
+use Rattle.papaya_stepping.proofs.Given.RowsThere.{is_inside, on_its_slot}
+use Rattle.papaya_stepping.specs.Given.SchedulerPlayed.{StandsFor}
+use Rattle.papaya_stepping.specs.Given.SchedulerWorks.{IsAbout, IsItsRow}
+use Rattle.papaya_stepping.specs.Given.SchedulerDeclared.scheduler.Scheduler.{Scheduler}
+use Rattle.papaya_stepping.proofs.Given.SchedulerDropped.{free_lives}
+use Rattle.papaya_stepping.specs.Given.WorksRows.{may_row}
 use Rattle.papaya_events.proofs.OfRows.Facts.{inside_by, one_on}
 
 -- what passes one test passes another one

@@ -2,55 +2,55 @@
 use Rattle.std.specs.Prelude.{◌≡◌, ◌≢◌, ◌||◌, ◌+◌, ℕ, Bool, true, false, List, [], ◌∷◌, not, Option, None, flat_map}
 use Rattle.std.specs.List.{list_all, list_any}
 use Rattle.std.proofs.Common.{refl, sym, ap, subst, ◌∙◌}
-use Rattle.papaya_stepping.specs.Given.Seize.World.{World, IsInside}
-use Rattle.papaya_stepping.specs.Given.Tables.declared.node.Node.{Node}
-use Rattle.papaya_stepping.proofs.Given.Histories.OtherCalls.{no_calls_are_linearizable}
-use Rattle.papaya_stepping.specs.Given.SeizeWords.declared.fault.Fault.{Fault}
-use Rattle.papaya_stepping.specs.Given.SeizeWords.declared.fault.Fault.TheVariants.{Busy}
-use Rattle.papaya_stepping.specs.Given.Runs.Present.{Present, guards_on, slot_of_guard, slot_of_registration}
-use Rattle.papaya_values.specs.Given.Schedules.declared.effect.Effect.{Effect}
-use Rattle.papaya_values.specs.Given.Schedules.declared.event.Event.{Event}
-use Rattle.papaya_values.specs.Given.Schedules.declared.event.Event.TheVariants.{DropGuard, EndMap, Enter, Flush, MakeMap, Own, Refresh, Register, Unregister}
-use Rattle.papaya_values.specs.Given.Schedules.declared.outcome.Outcome.TheVariants.{Done, Refused}
-use Rattle.papaya_values.specs.Given.Schedules.After.{after, moment, moments_from, slots_on}
-use Rattle.papaya_values.specs.Given.Schedules.Beginning.{at_work}
-use Rattle.papaya_values.specs.Given.Schedules.Effects.{AtEachEffect, worked}
-use Rattle.papaya_values.specs.Given.Schedules.Entry.{Entry, IfCall, acted_on, acting, caller_of}
-use Rattle.papaya_values.specs.Given.Schedules.Handing.{IsWhole, LeavesOf, comes_clear, gives_all, is_granted, is_made, may_do, moments_of, refuses as refuses_growth}
-use Rattle.papaya_values.specs.Given.Schedules.InTurn.{ComesRight}
-use Rattle.papaya_values.specs.Given.Schedules.Lives.{Finds}
-use Rattle.papaya_values.specs.Given.Schedules.Model.{changes_of, left_last}
-use Rattle.papaya_values.specs.Given.Schedules.Moment.{UnderWay as CallThere, Moment}
-use Rattle.papaya_values.specs.Given.Schedules.Reclaims.{IsProtected}
-use Rattle.papaya_values.specs.Given.Schedules.Steps.{IsBrief}
-use Rattle.papaya_values.specs.Given.Schedules.Terms.{Terms}
-use Rattle.papaya_values.specs.Given.Effects.Known.{Known, known}
-use Rattle.papaya_values.specs.Given.Schedules.Linearizable.{shift_of}
-use Rattle.papaya_stepping.specs.Given.Promises.Guards.{EntersInside}
-use Rattle.papaya_stepping.specs.Given.Promises.Sheltered.{SectionsHold}
-use Rattle.papaya_stepping.proofs.Given.Promises.Protected.{idle_events_are_protected}
-use Rattle.papaya_stepping.proofs.Given.Models.Follows.{idle_events_follow}
-use Rattle.papaya_stepping.proofs.Given.Models.Rows.{events_are_rows}
-use Rattle.papaya_stepping.proofs.Given.Purposes.Nothing.{no_calls_are_swept}
-use Rattle.papaya_stepping.specs.Given.Finds.Little.{ReclaimsAll}
-use Rattle.papaya_stepping.specs.Given.Legal.CallEvents.{IsLegalBut}
-use Rattle.papaya_stepping.specs.Given.Legal.Carried.{ShowsRun}
-use Rattle.papaya_stepping.specs.Given.Legal.Over.{LeavesAll}
-use Rattle.papaya_stepping.proofs.Given.Legal.Over.{idle_events_end}
-use Rattle.papaya_stepping.proofs.Given.Rows.There.{is_inside}
-use Rattle.papaya_stepping.specs.Given.Scheduler.Played.{IsDue, IsPlayed, StandsFor}
-use Rattle.papaya_stepping.specs.Given.Scheduler.Works.{HasNoRow, IsAbout}
-use Rattle.papaya_stepping.specs.Given.Scheduler.declared.scheduler.Scheduler.{Scheduler}
-use Rattle.papaya_stepping.proofs.Given.Scheduler.Dropped.{free_lives}
-use Rattle.papaya_stepping.proofs.Given.Scheduler.Enters as enters_so
-use Rattle.papaya_stepping.proofs.Given.Scheduler.Rights.{entry}
+use Rattle.papaya_stepping.specs.Given.SeizeWorld.{World, IsInside}
+use Rattle.papaya_stepping.specs.Given.TablesDeclared.node.Node.{Node}
+use Rattle.papaya_stepping.proofs.Given.HistoriesOtherCalls.{no_calls_are_linearizable}
+use Rattle.papaya_stepping.specs.Given.SeizeWordsDeclared.fault.Fault.{Fault}
+use Rattle.papaya_stepping.specs.Given.SeizeWordsDeclared.fault.Fault.TheVariants.{Busy}
+use Rattle.papaya_stepping.specs.Given.RunsPresent.{Present, guards_on, slot_of_guard, slot_of_registration}
+use Rattle.papaya_values.specs.Given.SchedulesDeclared.effect.Effect.{Effect}
+use Rattle.papaya_values.specs.Given.SchedulesDeclared.event.Event.{Event}
+use Rattle.papaya_values.specs.Given.SchedulesDeclared.event.Event.TheVariants.{DropGuard, EndMap, Enter, Flush, MakeMap, Own, Refresh, Register, Unregister}
+use Rattle.papaya_values.specs.Given.SchedulesDeclared.outcome.Outcome.TheVariants.{Done, Refused}
+use Rattle.papaya_values.specs.Given.SchedulesAfter.{after, moment, moments_from, slots_on}
+use Rattle.papaya_values.specs.Given.SchedulesBeginning.{at_work}
+use Rattle.papaya_values.specs.Given.SchedulesEffects.{AtEachEffect, worked}
+use Rattle.papaya_values.specs.Given.SchedulesEntry.{Entry, IfCall, acted_on, acting, caller_of}
+use Rattle.papaya_values.specs.Given.SchedulesHanding.{IsWhole, LeavesOf, comes_clear, gives_all, is_granted, is_made, may_do, moments_of, refuses as refuses_growth}
+use Rattle.papaya_values.specs.Given.SchedulesInTurn.{ComesRight}
+use Rattle.papaya_values.specs.Given.SchedulesLives.{Finds}
+use Rattle.papaya_values.specs.Given.SchedulesModel.{changes_of, left_last}
+use Rattle.papaya_values.specs.Given.SchedulesMoment.{UnderWay as CallThere, Moment}
+use Rattle.papaya_values.specs.Given.SchedulesReclaims.{IsProtected}
+use Rattle.papaya_values.specs.Given.SchedulesSteps.{IsBrief}
+use Rattle.papaya_values.specs.Given.SchedulesTerms.{Terms}
+use Rattle.papaya_values.specs.Given.EffectsKnown.{Known, known}
+use Rattle.papaya_values.specs.Given.SchedulesLinearizable.{shift_of}
+use Rattle.papaya_stepping.specs.Given.PromisesGuards.{EntersInside}
+use Rattle.papaya_stepping.specs.Given.PromisesSheltered.{SectionsHold}
+use Rattle.papaya_stepping.proofs.Given.PromisesProtected.{idle_events_are_protected}
+use Rattle.papaya_stepping.proofs.Given.ModelsFollows.{idle_events_follow}
+use Rattle.papaya_stepping.proofs.Given.ModelsRows.{events_are_rows}
+use Rattle.papaya_stepping.proofs.Given.PurposesNothing.{no_calls_are_swept}
+use Rattle.papaya_stepping.specs.Given.FindsLittle.{ReclaimsAll}
+use Rattle.papaya_stepping.specs.Given.LegalCallEvents.{IsLegalBut}
+use Rattle.papaya_stepping.specs.Given.LegalCarried.{ShowsRun}
+use Rattle.papaya_stepping.specs.Given.LegalOver.{LeavesAll}
+use Rattle.papaya_stepping.proofs.Given.LegalOver.{idle_events_end}
+use Rattle.papaya_stepping.proofs.Given.RowsThere.{is_inside}
+use Rattle.papaya_stepping.specs.Given.SchedulerPlayed.{IsDue, IsPlayed, StandsFor}
+use Rattle.papaya_stepping.specs.Given.SchedulerWorks.{HasNoRow, IsAbout}
+use Rattle.papaya_stepping.specs.Given.SchedulerDeclared.scheduler.Scheduler.{Scheduler}
+use Rattle.papaya_stepping.proofs.Given.SchedulerDropped.{free_lives}
+use Rattle.papaya_stepping.proofs.Given.SchedulerEnters as enters_so
+use Rattle.papaya_stepping.proofs.Given.SchedulerRights.{entry}
 use Rattle.papaya_events.specs.Asked.{is_of_calls}
 use Rattle.papaya_events.proofs.OfCalls.Worth.{nobody_says}
 use Rattle.papaya_events.specs.OfCalls.{Runs, RunsOn}
 use Rattle.papaya_events.specs.OfRows.{is_of_rows}
 use Rattle.papaya_events.proofs.OfCalls.AsBefore.{as_before}
 use Rattle.papaya_events.proofs.OfRows.Facts.{inside_by, slot_is}
-use Rattle.papaya_values.specs.Given.Schedules.Transition.{past, transition}
+use Rattle.papaya_values.specs.Given.SchedulesTransition.{past, transition}
 
 none_made : (q : Bool) → (not q || true) ≡ true
 none_made true = refl

@@ -1,42 +1,42 @@
 -- Of the effects of a step that makes a block, or is refused one, the one that asks for it finds what it must, if the call may ask; of the others nothing is left.
 use Rattle.std.specs.Prelude.{◌≡◌, ℕ, Bool, false, List, [], ◌∷◌, Option, Some}
 use Rattle.std.proofs.Common.{refl, sym, subst}
-use Rattle.papaya_owes.specs.Given.SeizeWords.Mem.{Mem}
-use Rattle.papaya_owes.specs.Given.SeizeWords.Plan.{Plan}
-use Rattle.papaya_owes.specs.Given.Tables.declared.node.Node.{Node}
-use Rattle.papaya_owes.specs.Given.Resize.declared.new_table.NewTable.{NewTable}
-use Rattle.papaya_owes.specs.Given.Raw.declared.machines.progress.Progress.{Progress}
-use Rattle.papaya_owes.specs.Given.Schedules.declared.effect.Effect.{Effect}
-use Rattle.papaya_owes.specs.Given.Schedules.declared.effect.Effect.TheVariants as effect
-use Rattle.papaya_owes.specs.Given.Schedules.declared.effect.Growth.TheVariants.{ABlock, ABucket}
-use Rattle.papaya_owes.specs.Given.Schedules.Effects.{call_by, with_effect}
-use Rattle.papaya_owes.specs.Given.Schedules.Entry.{ByCall}
-use Rattle.papaya_owes.specs.Given.Schedules.Growing.{MayGrow}
-use Rattle.papaya_owes.specs.Given.Schedules.Moment.{UnderWay as CallThere, Moment}
-use Rattle.papaya_owes.specs.Given.Schedules.Terms.{Terms}
-use Rattle.papaya_owes.specs.Given.Schedules.Views.{call_of}
-use Rattle.papaya_owes.specs.Given.Teller.Tells.{StepsTold}
-use Rattle.papaya_owes.specs.Given.Teller.declared.changed.Changed.{Changed}
-use Rattle.papaya_owes.specs.Given.Teller.declared.changed.Changed.TheVariants as changed
-use Rattle.papaya_owes.specs.Given.Teller.declared.changed.Kind.{Kind}
-use Rattle.papaya_owes.specs.Given.Teller.declared.changed.Kind.TheVariants as kind
-use Rattle.papaya_owes.specs.Given.Callers.Together.{UnderWay}
-use Rattle.papaya_owes.specs.Given.Effects.Effects.{table_at, effects_of}
-use Rattle.papaya_owes.specs.Given.Effects.Known.{Known}
-use Rattle.papaya_owes.specs.Given.Effects.declared.acting.Acting.{Acting}
-use Rattle.papaya_owes.specs.Given.Effects.declared.acting.Acting.TheVariants as acts
-use Rattle.papaya_owes.specs.Given.Finishes.Machines.{machine_of}
-use Rattle.papaya_owes.proofs.Given.Follows.Steps.{WentTo, went_to}
-use Rattle.papaya_owes.specs.Given.Moments.Whole.{ShowsWhole}
+use Rattle.papaya_owes.specs.Given.SeizeWordsMem.{Mem}
+use Rattle.papaya_owes.specs.Given.SeizeWordsPlan.{Plan}
+use Rattle.papaya_owes.specs.Given.TablesDeclared.node.Node.{Node}
+use Rattle.papaya_owes.specs.Given.ResizeDeclared.new_table.NewTable.{NewTable}
+use Rattle.papaya_owes.specs.Given.RawDeclared.machines.progress.Progress.{Progress}
+use Rattle.papaya_owes.specs.Given.SchedulesDeclared.effect.Effect.{Effect}
+use Rattle.papaya_owes.specs.Given.SchedulesDeclared.effect.Effect.TheVariants as effect
+use Rattle.papaya_owes.specs.Given.SchedulesDeclared.effect.Growth.TheVariants.{ABlock, ABucket}
+use Rattle.papaya_owes.specs.Given.SchedulesEffects.{call_by, with_effect}
+use Rattle.papaya_owes.specs.Given.SchedulesEntry.{ByCall}
+use Rattle.papaya_owes.specs.Given.SchedulesGrowing.{MayGrow}
+use Rattle.papaya_owes.specs.Given.SchedulesMoment.{UnderWay as CallThere, Moment}
+use Rattle.papaya_owes.specs.Given.SchedulesTerms.{Terms}
+use Rattle.papaya_owes.specs.Given.SchedulesViews.{call_of}
+use Rattle.papaya_owes.specs.Given.TellerTells.{StepsTold}
+use Rattle.papaya_owes.specs.Given.TellerDeclared.changed.Changed.{Changed}
+use Rattle.papaya_owes.specs.Given.TellerDeclared.changed.Changed.TheVariants as changed
+use Rattle.papaya_owes.specs.Given.TellerDeclared.changed.Kind.{Kind}
+use Rattle.papaya_owes.specs.Given.TellerDeclared.changed.Kind.TheVariants as kind
+use Rattle.papaya_owes.specs.Given.CallersTogether.{UnderWay}
+use Rattle.papaya_owes.specs.Given.EffectsEffects.{table_at, effects_of}
+use Rattle.papaya_owes.specs.Given.EffectsKnown.{Known}
+use Rattle.papaya_owes.specs.Given.EffectsDeclared.acting.Acting.{Acting}
+use Rattle.papaya_owes.specs.Given.EffectsDeclared.acting.Acting.TheVariants as acts
+use Rattle.papaya_owes.specs.Given.FinishesMachines.{machine_of}
+use Rattle.papaya_owes.proofs.Given.FollowsSteps.{WentTo, went_to}
+use Rattle.papaya_owes.specs.Given.MomentsWhole.{ShowsWhole}
 use Rattle.papaya_owes.proofs.Fields.{its_effect}
 use Rattle.papaya_owes.proofs.Short.Effects.{of_growth, NoneOfGrowth, none_asked}
 use Rattle.papaya_owes.proofs.Tables.Held.{call_unmade}
 use Rattle.papaya_owes.proofs.Tables.Kinds.{no_room}
 use Rattle.papaya_owes.proofs.Walks.{IsToMake, PlanMakes, plan_made, plan_unmade_so}
 use Rattle.papaya_finds.specs.Growing.{FindsAsked, FindAsked}
-use Rattle.papaya_owes.specs.Given.Scenes.Held.{Held, IsAt}
-use Rattle.papaya_owes.specs.Given.Scenes.Scene.{Scene}
-use Rattle.papaya_owes.specs.Given.Scenes.Stepping.{StepLeads}
+use Rattle.papaya_owes.specs.Given.ScenesHeld.{Held, IsAt}
+use Rattle.papaya_owes.specs.Given.ScenesScene.{Scene}
+use Rattle.papaya_owes.specs.Given.ScenesStepping.{StepLeads}
 
 -- of a call that may ask for a block
 module _ {K V : Type 0} (terms : Terms) (moments : List (Moment K V)) (own : List ℕ) (map : ℕ) where

@@ -1,23 +1,23 @@
 -- Between the steps of calls: where a call begins, takes a reply, goes on as a walk, or is under way no more, each that makes a table has what it stores.
 use Rattle.std.specs.Prelude.{◌≡◌, ℕ, Bool, Some}
 use Rattle.std.proofs.Common.{ap, sym, subst, ◌∙◌, inl, inr}
-use Rattle.papaya_owes.specs.Given.Raw.CallAsks.{replied}
-use Rattle.papaya_owes.specs.Given.Raw.Machine.{machine_asked, machine_replied, sweep_asked, sweep_replied}
-use Rattle.papaya_owes.specs.Given.Raw.declared.machines.call.KeyCall.{KeyCall}
-use Rattle.papaya_owes.specs.Given.Raw.declared.machines.machine.Machine.{Machine}
-use Rattle.papaya_owes.specs.Given.Raw.declared.machines.machine.Machine.TheVariants as kinds
-use Rattle.papaya_owes.specs.Given.Schedules.Moment.{Moment}
-use Rattle.papaya_owes.specs.Given.Callers.Pairs.{Given}
-use Rattle.papaya_owes.specs.Given.Callers.Together.{CallOnKey, UnderWay, OnKey, ForRoom, Counting, OverAll, IsBegun, Gets, Removes, Inserts, TriesToInsert, Computes, Updates, UpdatesOrInserts, TriesToInsertWith, RemovesIf}
-use Rattle.papaya_owes.specs.Given.Finishes.Machines.{machine_of}
-use Rattle.papaya_owes.specs.Given.Finishes.Maps.{Standing}
-use Rattle.papaya_owes.proofs.Given.Hands.Asking.{which}
+use Rattle.papaya_owes.specs.Given.RawCallAsks.{replied}
+use Rattle.papaya_owes.specs.Given.RawMachine.{machine_asked, machine_replied, sweep_asked, sweep_replied}
+use Rattle.papaya_owes.specs.Given.RawDeclared.machines.call.KeyCall.{KeyCall}
+use Rattle.papaya_owes.specs.Given.RawDeclared.machines.machine.Machine.{Machine}
+use Rattle.papaya_owes.specs.Given.RawDeclared.machines.machine.Machine.TheVariants as kinds
+use Rattle.papaya_owes.specs.Given.SchedulesMoment.{Moment}
+use Rattle.papaya_owes.specs.Given.CallersPairs.{Given}
+use Rattle.papaya_owes.specs.Given.CallersTogether.{CallOnKey, UnderWay, OnKey, ForRoom, Counting, OverAll, IsBegun, Gets, Removes, Inserts, TriesToInsert, Computes, Updates, UpdatesOrInserts, TriesToInsertWith, RemovesIf}
+use Rattle.papaya_owes.specs.Given.FinishesMachines.{machine_of}
+use Rattle.papaya_owes.specs.Given.FinishesMaps.{Standing}
+use Rattle.papaya_owes.proofs.Given.HandsAsking.{which}
 use Rattle.papaya_finds.specs.Growing.{GrowsAt, ShowsGrowing, GrowingStays, CallsBeginGrowing, CallsTakeGrowing, WalksGoOnGrowing}
 use Rattle.papaya_finds.specs.Within.{many_of}
 use Rattle.papaya_finds.proofs.Grows.On.{grows_later, reply_grows}
-use Rattle.papaya_owes.specs.Given.Scenes.Beginning.{Begins}
-use Rattle.papaya_owes.specs.Given.Scenes.Replying.{scene_with}
-use Rattle.papaya_owes.specs.Given.Scenes.Scene.{Scene, slot_of}
+use Rattle.papaya_owes.specs.Given.ScenesBeginning.{Begins}
+use Rattle.papaya_owes.specs.Given.ScenesReplying.{scene_with}
+use Rattle.papaya_owes.specs.Given.ScenesScene.{Scene, slot_of}
 
 pub growing_stays : (K V : Type 0) → GrowingStays K V
 growing_stays K V m v s t growing later keeps map i u is =

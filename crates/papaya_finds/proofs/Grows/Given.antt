@@ -1,37 +1,37 @@
 -- A call on one key that makes a table has a value for a pair: it began with one, or was told one.
 use Rattle.std.specs.Prelude.{◌≡◌, ◌≢◌, ℕ, Bool, true, List, Option, Some, None, ◌⊎◌}
 use Rattle.std.proofs.Common.{refl, ap, sym, ◌∙◌, inl, inr}
-use Rattle.papaya_owes.specs.Given.SeizeWords.Mem.{Mem}
-use Rattle.papaya_owes.specs.Given.Seize.World.{World}
-use Rattle.papaya_owes.specs.Given.Tables.declared.node.Node.{Node}
-use Rattle.papaya_owes.specs.Given.Tables.declared.setting.Setting.{Setting}
-use Rattle.papaya_owes.specs.Given.Resize.declared.new_table.NewTable.{NewTable}
-use Rattle.papaya_owes.specs.Given.Raw.declared.machines.answer.Missing.TheVariants as missing
-use Rattle.papaya_owes.specs.Given.Raw.declared.machines.asking.Reply.TheVariants as reply
-use Rattle.papaya_owes.specs.Given.Raw.declared.machines.asking.Told.{Told}
-use Rattle.papaya_owes.specs.Given.Raw.declared.machines.asking.Told.TheVariants as tells
-use Rattle.papaya_owes.specs.Given.Raw.declared.machines.call.Calling.{Calling}
-use Rattle.papaya_owes.specs.Given.Raw.declared.machines.call.Calling.TheVariants as at
-use Rattle.papaya_owes.specs.Given.Raw.declared.machines.call.KeyCall.{KeyCall}
-use Rattle.papaya_owes.specs.Given.Schedules.declared.call.Call.{Call}
-use Rattle.papaya_owes.specs.Given.Schedules.declared.call.Call.TheVariants as call
-use Rattle.papaya_owes.specs.Given.Schedules.declared.call.OneKey.{OneKey}
-use Rattle.papaya_owes.specs.Given.Schedules.declared.call.OneKey.TheVariants.{Get, GetKeyValue, ContainsKey, Insert, TryInsert, TryInsertWith, GetOrInsert, GetOrInsertWith, Update, UpdateOrInsert, UpdateOrInsertWith, Compute, Remove, RemoveEntry, RemoveIf}
-use Rattle.papaya_owes.specs.Given.Schedules.declared.call.Reply.{Reply}
-use Rattle.papaya_owes.specs.Given.Schedules.Growing.{has_value_for}
-use Rattle.papaya_owes.specs.Given.Schedules.Moment.{UnderWay as CallThere}
-use Rattle.papaya_owes.specs.Given.Schedules.Sequential.{has_value}
-use Rattle.papaya_owes.specs.Given.Schedules.Views.{has_gift}
-use Rattle.papaya_owes.specs.Given.Rule.Chart.{Chart}
-use Rattle.papaya_owes.specs.Given.Rule.Words.{Blocks}
-use Rattle.papaya_owes.specs.Given.Points.FactsCalls.{Change, IsCopying}
-use Rattle.papaya_owes.specs.Given.Callers.Asked.{Asked, last_told, IsAsTold}
-use Rattle.papaya_owes.specs.Given.Callers.Kind.{Kind}
-use Rattle.papaya_owes.specs.Given.Callers.Pairs.{Given, Begun, IsTold, kind_of, KeepsGiven}
-use Rattle.papaya_owes.specs.Given.Callers.Together.{CallOnKey, OnKey, Knows}
-use Rattle.papaya_owes.specs.Given.Effects.Known.{Known}
-use Rattle.papaya_owes.specs.Given.Follows.Calls.{IsCalled}
-use Rattle.papaya_owes.specs.Given.Hands.Asked.{given_by, AreReplies, IsAskedAs}
+use Rattle.papaya_owes.specs.Given.SeizeWordsMem.{Mem}
+use Rattle.papaya_owes.specs.Given.SeizeWorld.{World}
+use Rattle.papaya_owes.specs.Given.TablesDeclared.node.Node.{Node}
+use Rattle.papaya_owes.specs.Given.TablesDeclared.setting.Setting.{Setting}
+use Rattle.papaya_owes.specs.Given.ResizeDeclared.new_table.NewTable.{NewTable}
+use Rattle.papaya_owes.specs.Given.RawDeclared.machines.answer.Missing.TheVariants as missing
+use Rattle.papaya_owes.specs.Given.RawDeclared.machines.asking.Reply.TheVariants as reply
+use Rattle.papaya_owes.specs.Given.RawDeclared.machines.asking.Told.{Told}
+use Rattle.papaya_owes.specs.Given.RawDeclared.machines.asking.Told.TheVariants as tells
+use Rattle.papaya_owes.specs.Given.RawDeclared.machines.call.Calling.{Calling}
+use Rattle.papaya_owes.specs.Given.RawDeclared.machines.call.Calling.TheVariants as at
+use Rattle.papaya_owes.specs.Given.RawDeclared.machines.call.KeyCall.{KeyCall}
+use Rattle.papaya_owes.specs.Given.SchedulesDeclared.call.Call.{Call}
+use Rattle.papaya_owes.specs.Given.SchedulesDeclared.call.Call.TheVariants as call
+use Rattle.papaya_owes.specs.Given.SchedulesDeclared.call.OneKey.{OneKey}
+use Rattle.papaya_owes.specs.Given.SchedulesDeclared.call.OneKey.TheVariants.{Get, GetKeyValue, ContainsKey, Insert, TryInsert, TryInsertWith, GetOrInsert, GetOrInsertWith, Update, UpdateOrInsert, UpdateOrInsertWith, Compute, Remove, RemoveEntry, RemoveIf}
+use Rattle.papaya_owes.specs.Given.SchedulesDeclared.call.Reply.{Reply}
+use Rattle.papaya_owes.specs.Given.SchedulesGrowing.{has_value_for}
+use Rattle.papaya_owes.specs.Given.SchedulesMoment.{UnderWay as CallThere}
+use Rattle.papaya_owes.specs.Given.SchedulesSequential.{has_value}
+use Rattle.papaya_owes.specs.Given.SchedulesViews.{has_gift}
+use Rattle.papaya_owes.specs.Given.RuleChart.{Chart}
+use Rattle.papaya_owes.specs.Given.RuleWords.{Blocks}
+use Rattle.papaya_owes.specs.Given.PointsFactsCalls.{Change, IsCopying}
+use Rattle.papaya_owes.specs.Given.CallersAsked.{Asked, last_told, IsAsTold}
+use Rattle.papaya_owes.specs.Given.CallersKind.{Kind}
+use Rattle.papaya_owes.specs.Given.CallersPairs.{Given, Begun, IsTold, kind_of, KeepsGiven}
+use Rattle.papaya_owes.specs.Given.CallersTogether.{CallOnKey, OnKey, Knows}
+use Rattle.papaya_owes.specs.Given.EffectsKnown.{Known}
+use Rattle.papaya_owes.specs.Given.FollowsCalls.{IsCalled}
+use Rattle.papaya_owes.specs.Given.HandsAsked.{given_by, AreReplies, IsAskedAs}
 use Rattle.papaya_owes.specs.Making.{making_in_calling}
 use Rattle.papaya_owes.proofs.Valued.{gift_told}
 use Rattle.papaya_finds.specs.Growing.{HasForNone, GrowsAt}

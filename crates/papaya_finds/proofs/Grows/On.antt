@@ -1,74 +1,74 @@
 -- A step of a call on one key comes to the making of a table only where the call has what it stores.
 use Rattle.std.specs.Prelude.{◌≡◌, ℕ, suc, ◌<◌, ◌≤◌, ◌==◌, Bool, true, false, Option, Some, None, Ok, Err, ◌⊎◌, if◌then◌else◌}
 use Rattle.std.proofs.Common.{refl, ap, sym, subst, ◌∙◌, inl, inr, arith}
-use Rattle.papaya_owes.specs.Given.SeizeWords.Mem.{Mem, Gives, value_at, word_at}
-use Rattle.papaya_owes.specs.Given.SeizeWords.Op.{Out, Load, Exchange, Found, Exchanged, Made, Taken}
-use Rattle.papaya_owes.specs.Given.SeizeWords.Plan.{Now, Seeing, Ends}
-use Rattle.papaya_owes.specs.Given.SeizeWords.Word.{block_in}
-use Rattle.papaya_owes.specs.Given.SeizeWords.declared.fault.Fault.TheVariants.{RemoveNothing}
-use Rattle.papaya_owes.specs.Given.Seize.declared.progress.Progress.{Progress}
-use Rattle.papaya_owes.specs.Given.Seize.declared.progress.Progress.TheVariants as progress
-use Rattle.papaya_owes.specs.Given.Seize.declared.rows.settle.Settled.{Settled}
-use Rattle.papaya_owes.specs.Given.Seize.declared.rows.settle.Settled.TheVariants as settling
-use Rattle.papaya_owes.specs.Given.Tables.Chunks.{is_incremental}
-use Rattle.papaya_owes.specs.Given.Tables.Finding.{may_name, finding}
-use Rattle.papaya_owes.specs.Given.Tables.Nodes.{table_seen}
-use Rattle.papaya_owes.specs.Given.Tables.TablePlaces.{at_word}
-use Rattle.papaya_owes.specs.Given.Tables.Trials.{found_full, next_trial, with_met, place_tried}
-use Rattle.papaya_owes.specs.Given.Tables.declared.finding.Finding.{Finding}
-use Rattle.papaya_owes.specs.Given.Tables.declared.finding.Finding.TheVariants as is
-use Rattle.papaya_owes.specs.Given.Tables.declared.marks.TheConstants.{TOMBSTONE}
-use Rattle.papaya_owes.specs.Given.Tables.declared.node.Node.{Node}
-use Rattle.papaya_owes.specs.Given.Tables.declared.node.Node.TheVariants as nodes
-use Rattle.papaya_owes.specs.Given.Tables.declared.table.Table.{Table}
-use Rattle.papaya_owes.specs.Given.Tables.declared.table_words.TheConstants.{NEXT}
-use Rattle.papaya_owes.specs.Given.Tables.declared.trial.Trial.{Trial}
-use Rattle.papaya_owes.specs.Given.Resize.Copier.{copier_plan}
-use Rattle.papaya_owes.specs.Given.Resize.CopierStates.{helping, copying_all}
-use Rattle.papaya_owes.specs.Given.Resize.Dispose.{disposing, dispose_plan}
-use Rattle.papaya_owes.specs.Given.Resize.Lookup.{names_pair, lookup_plan}
-use Rattle.papaya_owes.specs.Given.Resize.NewTable.{new_table_plan}
-use Rattle.papaya_owes.specs.Given.Resize.declared.copier.Copier.{Copier}
-use Rattle.papaya_owes.specs.Given.Resize.declared.dispose.Dispose.{Dispose}
-use Rattle.papaya_owes.specs.Given.Resize.declared.lookup.Lookup.{Lookup}
-use Rattle.papaya_owes.specs.Given.Resize.declared.new_table.NewTable.{NewTable}
-use Rattle.papaya_owes.specs.Given.Resize.declared.outcome.Outcome.{Outcome}
-use Rattle.papaya_owes.specs.Given.Resize.declared.outcome.Outcome.TheVariants as outcome
-use Rattle.papaya_owes.specs.Given.Raw.Call.{have_one_key, made, makes_of, root_found, next_read, next_found, dropped, key_read, pair_read, word_read, word_found, tried, looked, looks_for, first_made, next_made, disposed, helped, copied, plan_at}
-use Rattle.papaya_owes.specs.Given.Raw.CallAsks.{with_absent, with_present, absent_told, present_told, told_at, replied}
-use Rattle.papaya_owes.specs.Given.Raw.CallFills.{filled, putting_by, fill_by, emptied, fills_with, given_up}
-use Rattle.papaya_owes.specs.Given.Raw.CallPoints.{aim_of, standing, going, over, ending, following_made, storing, burying, at_gap, gap_by, asking_at, pair_by, tableless, at_free, at_end, at_last, at_pair, passed, told_of, told, entering, went_on, changed, counted, having_met}
-use Rattle.papaya_owes.specs.Given.Raw.Replies.{value_for, as_own}
-use Rattle.papaya_owes.specs.Given.Raw.declared.machines.answer.Called.{Called}
-use Rattle.papaya_owes.specs.Given.Raw.declared.machines.answer.Called.TheVariants as called
-use Rattle.papaya_owes.specs.Given.Raw.declared.machines.answer.End.{End}
-use Rattle.papaya_owes.specs.Given.Raw.declared.machines.answer.End.TheVariants as ends
-use Rattle.papaya_owes.specs.Given.Raw.declared.machines.answer.KeyAnswer.{KeyAnswer}
-use Rattle.papaya_owes.specs.Given.Raw.declared.machines.answer.KeyAnswer.TheVariants as answers
-use Rattle.papaya_owes.specs.Given.Raw.declared.machines.answer.Missing.{Missing}
-use Rattle.papaya_owes.specs.Given.Raw.declared.machines.answer.Missing.TheVariants as missing
-use Rattle.papaya_owes.specs.Given.Raw.declared.machines.answer.There.{There}
-use Rattle.papaya_owes.specs.Given.Raw.declared.machines.answer.There.TheVariants as there
-use Rattle.papaya_owes.specs.Given.Raw.declared.machines.asking.Asking.TheVariants as asking
-use Rattle.papaya_owes.specs.Given.Raw.declared.machines.asking.Gap.{Gap}
-use Rattle.papaya_owes.specs.Given.Raw.declared.machines.asking.Gap.TheVariants as gaps
-use Rattle.papaya_owes.specs.Given.Raw.declared.machines.asking.Reply.{Reply as MachineReply}
-use Rattle.papaya_owes.specs.Given.Raw.declared.machines.asking.Reply.TheVariants as replies
-use Rattle.papaya_owes.specs.Given.Raw.declared.machines.asking.Takes.{Takes}
-use Rattle.papaya_owes.specs.Given.Raw.declared.machines.asking.Takes.TheVariants as takes
-use Rattle.papaya_owes.specs.Given.Raw.declared.machines.asking.Told.{Told}
-use Rattle.papaya_owes.specs.Given.Raw.declared.machines.asking.Told.TheVariants as tells
-use Rattle.papaya_owes.specs.Given.Raw.declared.machines.call.Calling.{Calling}
-use Rattle.papaya_owes.specs.Given.Raw.declared.machines.call.Calling.TheVariants as at
-use Rattle.papaya_owes.specs.Given.Raw.declared.machines.call.KeyCall.{KeyCall}
-use Rattle.papaya_owes.proofs.Given.Rule.Keys.Always.{Always, AlwaysOf, always_if, always_ends, always_plan_as, always_steps}
-use Rattle.papaya_owes.specs.Given.Teller.Tells.{StepsTold}
-use Rattle.papaya_owes.specs.Given.Teller.declared.changed.Changed.{Changed}
-use Rattle.papaya_owes.specs.Given.Teller.declared.changed.Changed.TheVariants as changes
+use Rattle.papaya_owes.specs.Given.SeizeWordsMem.{Mem, Gives, value_at, word_at}
+use Rattle.papaya_owes.specs.Given.SeizeWordsOp.{Out, Load, Exchange, Found, Exchanged, Made, Taken}
+use Rattle.papaya_owes.specs.Given.SeizeWordsPlan.{Now, Seeing, Ends}
+use Rattle.papaya_owes.specs.Given.SeizeWordsWord.{block_in}
+use Rattle.papaya_owes.specs.Given.SeizeWordsDeclared.fault.Fault.TheVariants.{RemoveNothing}
+use Rattle.papaya_owes.specs.Given.SeizeDeclared.progress.Progress.{Progress}
+use Rattle.papaya_owes.specs.Given.SeizeDeclared.progress.Progress.TheVariants as progress
+use Rattle.papaya_owes.specs.Given.SeizeDeclared.rows.settle.Settled.{Settled}
+use Rattle.papaya_owes.specs.Given.SeizeDeclared.rows.settle.Settled.TheVariants as settling
+use Rattle.papaya_owes.specs.Given.TablesChunks.{is_incremental}
+use Rattle.papaya_owes.specs.Given.TablesFinding.{may_name, finding}
+use Rattle.papaya_owes.specs.Given.TablesNodes.{table_seen}
+use Rattle.papaya_owes.specs.Given.TablesTablePlaces.{at_word}
+use Rattle.papaya_owes.specs.Given.TablesTrials.{found_full, next_trial, with_met, place_tried}
+use Rattle.papaya_owes.specs.Given.TablesDeclared.finding.Finding.{Finding}
+use Rattle.papaya_owes.specs.Given.TablesDeclared.finding.Finding.TheVariants as is
+use Rattle.papaya_owes.specs.Given.TablesDeclared.marks.TheConstants.{TOMBSTONE}
+use Rattle.papaya_owes.specs.Given.TablesDeclared.node.Node.{Node}
+use Rattle.papaya_owes.specs.Given.TablesDeclared.node.Node.TheVariants as nodes
+use Rattle.papaya_owes.specs.Given.TablesDeclared.table.Table.{Table}
+use Rattle.papaya_owes.specs.Given.TablesDeclared.table_words.TheConstants.{NEXT}
+use Rattle.papaya_owes.specs.Given.TablesDeclared.trial.Trial.{Trial}
+use Rattle.papaya_owes.specs.Given.ResizeCopier.{copier_plan}
+use Rattle.papaya_owes.specs.Given.ResizeCopierStates.{helping, copying_all}
+use Rattle.papaya_owes.specs.Given.ResizeDispose.{disposing, dispose_plan}
+use Rattle.papaya_owes.specs.Given.ResizeLookup.{names_pair, lookup_plan}
+use Rattle.papaya_owes.specs.Given.ResizeNewTable.{new_table_plan}
+use Rattle.papaya_owes.specs.Given.ResizeDeclared.copier.Copier.{Copier}
+use Rattle.papaya_owes.specs.Given.ResizeDeclared.dispose.Dispose.{Dispose}
+use Rattle.papaya_owes.specs.Given.ResizeDeclared.lookup.Lookup.{Lookup}
+use Rattle.papaya_owes.specs.Given.ResizeDeclared.new_table.NewTable.{NewTable}
+use Rattle.papaya_owes.specs.Given.ResizeDeclared.outcome.Outcome.{Outcome}
+use Rattle.papaya_owes.specs.Given.ResizeDeclared.outcome.Outcome.TheVariants as outcome
+use Rattle.papaya_owes.specs.Given.RawCall.{have_one_key, made, makes_of, root_found, next_read, next_found, dropped, key_read, pair_read, word_read, word_found, tried, looked, looks_for, first_made, next_made, disposed, helped, copied, plan_at}
+use Rattle.papaya_owes.specs.Given.RawCallAsks.{with_absent, with_present, absent_told, present_told, told_at, replied}
+use Rattle.papaya_owes.specs.Given.RawCallFills.{filled, putting_by, fill_by, emptied, fills_with, given_up}
+use Rattle.papaya_owes.specs.Given.RawCallPoints.{aim_of, standing, going, over, ending, following_made, storing, burying, at_gap, gap_by, asking_at, pair_by, tableless, at_free, at_end, at_last, at_pair, passed, told_of, told, entering, went_on, changed, counted, having_met}
+use Rattle.papaya_owes.specs.Given.RawReplies.{value_for, as_own}
+use Rattle.papaya_owes.specs.Given.RawDeclared.machines.answer.Called.{Called}
+use Rattle.papaya_owes.specs.Given.RawDeclared.machines.answer.Called.TheVariants as called
+use Rattle.papaya_owes.specs.Given.RawDeclared.machines.answer.End.{End}
+use Rattle.papaya_owes.specs.Given.RawDeclared.machines.answer.End.TheVariants as ends
+use Rattle.papaya_owes.specs.Given.RawDeclared.machines.answer.KeyAnswer.{KeyAnswer}
+use Rattle.papaya_owes.specs.Given.RawDeclared.machines.answer.KeyAnswer.TheVariants as answers
+use Rattle.papaya_owes.specs.Given.RawDeclared.machines.answer.Missing.{Missing}
+use Rattle.papaya_owes.specs.Given.RawDeclared.machines.answer.Missing.TheVariants as missing
+use Rattle.papaya_owes.specs.Given.RawDeclared.machines.answer.There.{There}
+use Rattle.papaya_owes.specs.Given.RawDeclared.machines.answer.There.TheVariants as there
+use Rattle.papaya_owes.specs.Given.RawDeclared.machines.asking.Asking.TheVariants as asking
+use Rattle.papaya_owes.specs.Given.RawDeclared.machines.asking.Gap.{Gap}
+use Rattle.papaya_owes.specs.Given.RawDeclared.machines.asking.Gap.TheVariants as gaps
+use Rattle.papaya_owes.specs.Given.RawDeclared.machines.asking.Reply.{Reply as MachineReply}
+use Rattle.papaya_owes.specs.Given.RawDeclared.machines.asking.Reply.TheVariants as replies
+use Rattle.papaya_owes.specs.Given.RawDeclared.machines.asking.Takes.{Takes}
+use Rattle.papaya_owes.specs.Given.RawDeclared.machines.asking.Takes.TheVariants as takes
+use Rattle.papaya_owes.specs.Given.RawDeclared.machines.asking.Told.{Told}
+use Rattle.papaya_owes.specs.Given.RawDeclared.machines.asking.Told.TheVariants as tells
+use Rattle.papaya_owes.specs.Given.RawDeclared.machines.call.Calling.{Calling}
+use Rattle.papaya_owes.specs.Given.RawDeclared.machines.call.Calling.TheVariants as at
+use Rattle.papaya_owes.specs.Given.RawDeclared.machines.call.KeyCall.{KeyCall}
+use Rattle.papaya_owes.proofs.Given.RuleKeys.Always.{Always, AlwaysOf, always_if, always_ends, always_plan_as, always_steps}
+use Rattle.papaya_owes.specs.Given.TellerTells.{StepsTold}
+use Rattle.papaya_owes.specs.Given.TellerDeclared.changed.Changed.{Changed}
+use Rattle.papaya_owes.specs.Given.TellerDeclared.changed.Changed.TheVariants as changes
 use Rattle.papaya_finds.specs.Growing.{HasForNone, GrowsAt}
 use Rattle.papaya_finds.proofs.Shaping.{always_plan_more, FirstGoes, first_goes, first_begun, NextGoes, next_goes, next_begun}
 use Rattle.papaya_finds.proofs.Grown.{number_is}
-use Rattle.papaya_owes.proofs.Given.Scenes.Told.{as_step}
+use Rattle.papaya_owes.proofs.Given.ScenesTold.{as_step}
 
 -- What its table says, by the word that it reads: in blocking mode a place that sends it on has a next table, and the last table has none.
 module _ {K V : Type 0} (had : ℕ) (p : KeyCall K V K) (m : Mem (Node K V)) where

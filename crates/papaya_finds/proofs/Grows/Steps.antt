@@ -1,44 +1,44 @@
 -- A step of a call, whichever it is: each call on one key that makes a table after it has what it stores; and one that makes a block in it may ask for that.
 use Rattle.std.specs.Prelude.{◌≡◌, ℕ, ◌≤◌, Bool, true, List, [], ◌∷◌, Some}
 use Rattle.std.proofs.Common.{ap, sym, subst, ◌∙◌, inl, inr, arith}
-use Rattle.papaya_owes.specs.Given.SeizeWords.Mem.{Mem}
-use Rattle.papaya_owes.specs.Given.Tables.declared.node.Node.{Node}
-use Rattle.papaya_owes.specs.Given.Raw.Call.{call_plan}
-use Rattle.papaya_owes.specs.Given.Raw.Machine.{machine_plan, called as of_key, reserved as of_room, swept as of_sweep, counted as of_sum}
-use Rattle.papaya_owes.specs.Given.Raw.declared.machines.answer.Called.{Called}
-use Rattle.papaya_owes.specs.Given.Raw.declared.machines.call.KeyCall.{KeyCall}
-use Rattle.papaya_owes.specs.Given.Raw.declared.machines.machine.Machine.{Machine}
-use Rattle.papaya_owes.specs.Given.Raw.declared.machines.machine.Machine.TheVariants as kinds
-use Rattle.papaya_owes.specs.Given.Raw.declared.machines.progress.Progress.{Progress}
-use Rattle.papaya_owes.specs.Given.Reserves.Reserve.{reserve_plan}
-use Rattle.papaya_owes.specs.Given.Resize.Sum.{sum_plan}
-use Rattle.papaya_owes.specs.Given.Resize.declared.new_table.NewTable.{NewTable}
-use Rattle.papaya_owes.specs.Given.Sweeps.Sweep.{sweep_plan}
-use Rattle.papaya_owes.specs.Given.Schedules.declared.effect.Effect.{Effect}
-use Rattle.papaya_owes.specs.Given.Schedules.Effects.{with_effect, with_effects}
-use Rattle.papaya_owes.specs.Given.Schedules.Growing.{has_value_for}
-use Rattle.papaya_owes.specs.Given.Schedules.Moment.{UnderWay as CallThere, Moment}
-use Rattle.papaya_owes.specs.Given.Schedules.Terms.{Terms}
-use Rattle.papaya_owes.specs.Given.Schedules.Views.{call_of}
-use Rattle.papaya_owes.specs.Given.Teller.Tells.{StepsTold}
-use Rattle.papaya_owes.specs.Given.Teller.declared.changed.Changed.{Changed}
-use Rattle.papaya_owes.specs.Given.Teller.declared.changed.Changed.TheVariants as changed
-use Rattle.papaya_owes.specs.Given.Points.FactsCalls.{IsCopying}
-use Rattle.papaya_owes.specs.Given.Callers.Sights.{seen_by}
-use Rattle.papaya_owes.specs.Given.Callers.Together.{CallOnKey, UnderWay, OnKey, ForRoom, Counting, OverAll, Together}
-use Rattle.papaya_owes.specs.Given.Effects.Effects.{effects_of}
-use Rattle.papaya_owes.specs.Given.Effects.Known.{Known}
-use Rattle.papaya_owes.specs.Given.Effects.declared.acting.Acting.{Acting}
-use Rattle.papaya_owes.specs.Given.Effects.declared.acting.Acting.TheVariants as acts
-use Rattle.papaya_owes.specs.Given.Finishes.Machines.{machine_of}
-use Rattle.papaya_owes.specs.Given.Finishes.Maps.{Standing}
-use Rattle.papaya_owes.specs.Given.Follows.Calls.{IsCalled}
-use Rattle.papaya_owes.specs.Given.Hands.Asked.{IsAskedAs}
-use Rattle.papaya_owes.proofs.Given.Follows.Finds.{tables_many}
-use Rattle.papaya_owes.proofs.Given.Follows.Steps.{WentTo, went_to}
-use Rattle.papaya_owes.proofs.Given.Hands.Asking.{which}
-use Rattle.papaya_owes.specs.Given.Moments.Whole.{ShowsWhole}
-use Rattle.papaya_owes.proofs.Given.Others.Outcomes.{told_in}
+use Rattle.papaya_owes.specs.Given.SeizeWordsMem.{Mem}
+use Rattle.papaya_owes.specs.Given.TablesDeclared.node.Node.{Node}
+use Rattle.papaya_owes.specs.Given.RawCall.{call_plan}
+use Rattle.papaya_owes.specs.Given.RawMachine.{machine_plan, called as of_key, reserved as of_room, swept as of_sweep, counted as of_sum}
+use Rattle.papaya_owes.specs.Given.RawDeclared.machines.answer.Called.{Called}
+use Rattle.papaya_owes.specs.Given.RawDeclared.machines.call.KeyCall.{KeyCall}
+use Rattle.papaya_owes.specs.Given.RawDeclared.machines.machine.Machine.{Machine}
+use Rattle.papaya_owes.specs.Given.RawDeclared.machines.machine.Machine.TheVariants as kinds
+use Rattle.papaya_owes.specs.Given.RawDeclared.machines.progress.Progress.{Progress}
+use Rattle.papaya_owes.specs.Given.ReservesReserve.{reserve_plan}
+use Rattle.papaya_owes.specs.Given.ResizeSum.{sum_plan}
+use Rattle.papaya_owes.specs.Given.ResizeDeclared.new_table.NewTable.{NewTable}
+use Rattle.papaya_owes.specs.Given.SweepsSweep.{sweep_plan}
+use Rattle.papaya_owes.specs.Given.SchedulesDeclared.effect.Effect.{Effect}
+use Rattle.papaya_owes.specs.Given.SchedulesEffects.{with_effect, with_effects}
+use Rattle.papaya_owes.specs.Given.SchedulesGrowing.{has_value_for}
+use Rattle.papaya_owes.specs.Given.SchedulesMoment.{UnderWay as CallThere, Moment}
+use Rattle.papaya_owes.specs.Given.SchedulesTerms.{Terms}
+use Rattle.papaya_owes.specs.Given.SchedulesViews.{call_of}
+use Rattle.papaya_owes.specs.Given.TellerTells.{StepsTold}
+use Rattle.papaya_owes.specs.Given.TellerDeclared.changed.Changed.{Changed}
+use Rattle.papaya_owes.specs.Given.TellerDeclared.changed.Changed.TheVariants as changed
+use Rattle.papaya_owes.specs.Given.PointsFactsCalls.{IsCopying}
+use Rattle.papaya_owes.specs.Given.CallersSights.{seen_by}
+use Rattle.papaya_owes.specs.Given.CallersTogether.{CallOnKey, UnderWay, OnKey, ForRoom, Counting, OverAll, Together}
+use Rattle.papaya_owes.specs.Given.EffectsEffects.{effects_of}
+use Rattle.papaya_owes.specs.Given.EffectsKnown.{Known}
+use Rattle.papaya_owes.specs.Given.EffectsDeclared.acting.Acting.{Acting}
+use Rattle.papaya_owes.specs.Given.EffectsDeclared.acting.Acting.TheVariants as acts
+use Rattle.papaya_owes.specs.Given.FinishesMachines.{machine_of}
+use Rattle.papaya_owes.specs.Given.FinishesMaps.{Standing}
+use Rattle.papaya_owes.specs.Given.FollowsCalls.{IsCalled}
+use Rattle.papaya_owes.specs.Given.HandsAsked.{IsAskedAs}
+use Rattle.papaya_owes.proofs.Given.FollowsFinds.{tables_many}
+use Rattle.papaya_owes.proofs.Given.FollowsSteps.{WentTo, went_to}
+use Rattle.papaya_owes.proofs.Given.HandsAsking.{which}
+use Rattle.papaya_owes.specs.Given.MomentsWhole.{ShowsWhole}
+use Rattle.papaya_owes.proofs.Given.OthersOutcomes.{told_in}
 use Rattle.papaya_owes.proofs.Calls.{goes_as_one}
 use Rattle.papaya_owes.proofs.Machines.{call_none}
 use Rattle.papaya_owes.proofs.Valued.{call_valued, row_no_own, knows_given}
@@ -52,9 +52,9 @@ use Rattle.papaya_finds.proofs.Grows.Given.{called_valued, knows_for_none}
 use Rattle.papaya_finds.proofs.Grows.On.{TableTells, grows_later, step_grows}
 use Rattle.papaya_finds.proofs.Grows.There.{table_tells, row_tells}
 use Rattle.papaya_finds.proofs.Joined.{valued_grows}
-use Rattle.papaya_owes.specs.Given.Scenes.Held.{Held, IsAt}
-use Rattle.papaya_owes.specs.Given.Scenes.Scene.{Scene, slot_of}
-use Rattle.papaya_owes.specs.Given.Scenes.Stepping.{StepLeads, StepsFrom, scene_after}
+use Rattle.papaya_owes.specs.Given.ScenesHeld.{Held, IsAt}
+use Rattle.papaya_owes.specs.Given.ScenesScene.{Scene, slot_of}
+use Rattle.papaya_owes.specs.Given.ScenesStepping.{StepLeads, StepsFrom, scene_after}
 
 -- A map has had no fewer tables after any effects.
 pub tables_have_been : (K V : Type 0) → TablesHaveBeen K V

@@ -2,43 +2,43 @@
 -- table, and the last table has none.
 use Rattle.std.specs.Prelude.{◌≡◌, ℕ, suc, ◌<◌, ◌==◌, Bool, true, false, Some, if◌then◌else◌}
 use Rattle.std.proofs.Common.{refl, ap, sym, subst, ◌∙◌, inl, inr, arith}
-use Rattle.papaya_owes.specs.Given.SeizeWords.Mem.{Mem, word_at}
-use Rattle.papaya_owes.specs.Given.SeizeWords.Word.{block_in}
-use Rattle.papaya_owes.specs.Given.Seize.World.{World}
-use Rattle.papaya_owes.specs.Given.Tables.Chunks.{is_incremental}
-use Rattle.papaya_owes.specs.Given.Tables.Finding.{finding, shut, vacant, marked, named}
-use Rattle.papaya_owes.specs.Given.Tables.Marks.{has_mark}
-use Rattle.papaya_owes.specs.Given.Tables.TablePlaces.{at_word, at_place}
-use Rattle.papaya_owes.specs.Given.Tables.Trials.{place_tried}
-use Rattle.papaya_owes.specs.Given.Tables.declared.finding.Aim.{Aim}
-use Rattle.papaya_owes.specs.Given.Tables.declared.finding.Finding.{Finding}
-use Rattle.papaya_owes.specs.Given.Tables.declared.finding.Finding.TheVariants as finds
-use Rattle.papaya_owes.specs.Given.Tables.declared.marks.TheConstants.{COPYING}
-use Rattle.papaya_owes.specs.Given.Tables.declared.node.Node.{Node}
-use Rattle.papaya_owes.specs.Given.Tables.declared.resize_mode.ResizeMode.{ResizeMode}
-use Rattle.papaya_owes.specs.Given.Tables.declared.setting.Setting.{Setting}
-use Rattle.papaya_owes.specs.Given.Tables.declared.table.Table.{Table}
-use Rattle.papaya_owes.specs.Given.Tables.declared.table_words.TheConstants.{NEXT}
-use Rattle.papaya_owes.specs.Given.Tables.declared.trial.Trial.{Trial}
-use Rattle.papaya_owes.specs.Given.Raw.CallPoints.{aim_of}
-use Rattle.papaya_owes.specs.Given.Raw.declared.machines.call.Calling.{Calling}
-use Rattle.papaya_owes.specs.Given.Raw.declared.machines.call.Calling.TheVariants as at
-use Rattle.papaya_owes.specs.Given.Raw.declared.machines.call.KeyCall.{KeyCall}
-use Rattle.papaya_owes.specs.Given.Rule.Chart.{Place, Chart, is_marked}
-use Rattle.papaya_owes.specs.Given.Rule.InWorld.{IsMapIn}
-use Rattle.papaya_owes.specs.Given.Rule.Maps.{spot_at, spot_of, IsTable, IsTrial}
-use Rattle.papaya_owes.specs.Given.Rule.Rule.{Rule}
-use Rattle.papaya_owes.specs.Given.Rule.Words.{Blocks, byte_of, place_word}
-use Rattle.papaya_owes.proofs.Given.Rule.Keys.TriesSeen.{spot_inside}
-use Rattle.papaya_owes.proofs.Given.Rule.Words.LinksSeen.{link_made, next_leads}
-use Rattle.papaya_owes.proofs.Given.Rule.Words.PlaceWordsMarks.{has_copying}
-use Rattle.papaya_owes.proofs.Given.Rule.Words.TablesSeen.{place_there, link_not_zero}
-use Rattle.papaya_owes.specs.Given.Points.FactsCalls.{Change, CallingFacts}
-use Rattle.papaya_owes.specs.Given.Points.Told.{IsRowOfCall}
-use Rattle.papaya_owes.specs.Given.Late.LateCalls.{LateCalling}
-use Rattle.papaya_owes.specs.Given.Late.Left.{Left}
-use Rattle.papaya_owes.specs.Given.Callers.Sights.{Sight, seen_by, IsSight}
-use Rattle.papaya_owes.specs.Given.Callers.Together.{CallOnKey, in_slot, Knows}
+use Rattle.papaya_owes.specs.Given.SeizeWordsMem.{Mem, word_at}
+use Rattle.papaya_owes.specs.Given.SeizeWordsWord.{block_in}
+use Rattle.papaya_owes.specs.Given.SeizeWorld.{World}
+use Rattle.papaya_owes.specs.Given.TablesChunks.{is_incremental}
+use Rattle.papaya_owes.specs.Given.TablesFinding.{finding, shut, vacant, marked, named}
+use Rattle.papaya_owes.specs.Given.TablesMarks.{has_mark}
+use Rattle.papaya_owes.specs.Given.TablesTablePlaces.{at_word, at_place}
+use Rattle.papaya_owes.specs.Given.TablesTrials.{place_tried}
+use Rattle.papaya_owes.specs.Given.TablesDeclared.finding.Aim.{Aim}
+use Rattle.papaya_owes.specs.Given.TablesDeclared.finding.Finding.{Finding}
+use Rattle.papaya_owes.specs.Given.TablesDeclared.finding.Finding.TheVariants as finds
+use Rattle.papaya_owes.specs.Given.TablesDeclared.marks.TheConstants.{COPYING}
+use Rattle.papaya_owes.specs.Given.TablesDeclared.node.Node.{Node}
+use Rattle.papaya_owes.specs.Given.TablesDeclared.resize_mode.ResizeMode.{ResizeMode}
+use Rattle.papaya_owes.specs.Given.TablesDeclared.setting.Setting.{Setting}
+use Rattle.papaya_owes.specs.Given.TablesDeclared.table.Table.{Table}
+use Rattle.papaya_owes.specs.Given.TablesDeclared.table_words.TheConstants.{NEXT}
+use Rattle.papaya_owes.specs.Given.TablesDeclared.trial.Trial.{Trial}
+use Rattle.papaya_owes.specs.Given.RawCallPoints.{aim_of}
+use Rattle.papaya_owes.specs.Given.RawDeclared.machines.call.Calling.{Calling}
+use Rattle.papaya_owes.specs.Given.RawDeclared.machines.call.Calling.TheVariants as at
+use Rattle.papaya_owes.specs.Given.RawDeclared.machines.call.KeyCall.{KeyCall}
+use Rattle.papaya_owes.specs.Given.RuleChart.{Place, Chart, is_marked}
+use Rattle.papaya_owes.specs.Given.RuleInWorld.{IsMapIn}
+use Rattle.papaya_owes.specs.Given.RuleMaps.{spot_at, spot_of, IsTable, IsTrial}
+use Rattle.papaya_owes.specs.Given.RuleRule.{Rule}
+use Rattle.papaya_owes.specs.Given.RuleWords.{Blocks, byte_of, place_word}
+use Rattle.papaya_owes.proofs.Given.RuleKeys.TriesSeen.{spot_inside}
+use Rattle.papaya_owes.proofs.Given.RuleWords.LinksSeen.{link_made, next_leads}
+use Rattle.papaya_owes.proofs.Given.RuleWords.PlaceWordsMarks.{has_copying}
+use Rattle.papaya_owes.proofs.Given.RuleWords.TablesSeen.{place_there, link_not_zero}
+use Rattle.papaya_owes.specs.Given.PointsFactsCalls.{Change, CallingFacts}
+use Rattle.papaya_owes.specs.Given.PointsTold.{IsRowOfCall}
+use Rattle.papaya_owes.specs.Given.LateLateCalls.{LateCalling}
+use Rattle.papaya_owes.specs.Given.LateLeft.{Left}
+use Rattle.papaya_owes.specs.Given.CallersSights.{Sight, seen_by, IsSight}
+use Rattle.papaya_owes.specs.Given.CallersTogether.{CallOnKey, in_slot, Knows}
 use Rattle.papaya_finds.proofs.Grown.{number_is}
 use Rattle.papaya_finds.proofs.Grows.On.{TableTells}
 

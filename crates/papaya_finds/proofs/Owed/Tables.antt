@@ -3,16 +3,16 @@ use Rattle.std.specs.Prelude.{◌≡◌, ℕ, zero, suc, ◌≤◌, ◌<◌, ◌
 use Rattle.std.specs.List.{list_any}
 use Rattle.std.proofs.Common.{refl, ap, sym, subst, ◌∙◌, arith, inl, inr}
 use Rattle.std.proofs.lemmas.Bool.{cases_eq, or_left, or_right, le-ltb}
-use Rattle.papaya_owes.specs.Given.Runs.Same.{is_same}
-use Rattle.papaya_owes.specs.Given.Schedules.declared.effect.Table.{Table}
-use Rattle.papaya_owes.specs.Given.Schedules.declared.effect.Thing.{Thing}
-use Rattle.papaya_owes.specs.Given.Schedules.declared.effect.Thing.TheVariants.{APair, ATable}
-use Rattle.papaya_owes.specs.Given.Schedules.Effects.{passed}
-use Rattle.papaya_owes.specs.Given.Schedules.Lists.{is_in, without_one}
-use Rattle.papaya_owes.specs.Given.Schedules.Moment.{UnderWay}
-use Rattle.papaya_owes.specs.Given.Schedules.Things.{same_table, same_thing}
-use Rattle.papaya_owes.proofs.Given.Follows.Calls.{IsOfSame, changed}
-use Rattle.papaya_owes.proofs.Given.Spots.Unreclaimed.{table_is, same_itself}
+use Rattle.papaya_owes.specs.Given.RunsSame.{is_same}
+use Rattle.papaya_owes.specs.Given.SchedulesDeclared.effect.Table.{Table}
+use Rattle.papaya_owes.specs.Given.SchedulesDeclared.effect.Thing.{Thing}
+use Rattle.papaya_owes.specs.Given.SchedulesDeclared.effect.Thing.TheVariants.{APair, ATable}
+use Rattle.papaya_owes.specs.Given.SchedulesEffects.{passed}
+use Rattle.papaya_owes.specs.Given.SchedulesLists.{is_in, without_one}
+use Rattle.papaya_owes.specs.Given.SchedulesMoment.{UnderWay}
+use Rattle.papaya_owes.specs.Given.SchedulesThings.{same_table, same_thing}
+use Rattle.papaya_owes.proofs.Given.FollowsCalls.{IsOfSame, changed}
+use Rattle.papaya_owes.proofs.Given.SpotsUnreclaimed.{table_is, same_itself}
 
 -- among things
 

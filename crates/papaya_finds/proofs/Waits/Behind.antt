@@ -1,41 +1,41 @@
 -- What a call knows of the table behind which its row, which has not begun, is to put a pair: it comes just before the one in which that lies.
 use Rattle.std.specs.Prelude.{◌≡◌, ℕ, ◌+◌, ◌<◌, Bool, true, Option, Some}
 use Rattle.std.proofs.Common.{refl, ap, sym, subst, ◌∙◌, inl, inr, arith}
-use Rattle.papaya_owes.specs.Given.SeizeWords.declared.at.At.{At}
-use Rattle.papaya_owes.specs.Given.SeizeWords.declared.at.At.TheVariants.{Word}
-use Rattle.papaya_owes.specs.Given.Seize.Further.{IsWordOf}
-use Rattle.papaya_owes.specs.Given.Seize.World.{World, Rests}
-use Rattle.papaya_owes.specs.Given.Seize.declared.rows.defer.Defer.{Defer}
-use Rattle.papaya_owes.specs.Given.Seize.declared.rows.defer.Deferring.{Deferring}
-use Rattle.papaya_owes.specs.Given.Seize.declared.rows.defer.Deferring.TheVariants as deferring
-use Rattle.papaya_owes.specs.Given.Tables.declared.node.Node.{Node}
-use Rattle.papaya_owes.specs.Given.Tables.declared.setting.Setting.{Setting}
-use Rattle.papaya_owes.specs.Given.Tables.declared.table.Table.{Table}
-use Rattle.papaya_owes.specs.Given.Tables.declared.table_words.TheConstants.{DEFERRED}
-use Rattle.papaya_owes.specs.Given.Resize.declared.copier.Copying.{Copying}
-use Rattle.papaya_owes.specs.Given.Resize.declared.copier.Copying.TheVariants as copying
-use Rattle.papaya_owes.specs.Given.Resize.declared.dispose.Dispose.{Dispose}
-use Rattle.papaya_owes.specs.Given.Resize.declared.dispose.Disposing.{Disposing}
-use Rattle.papaya_owes.specs.Given.Resize.declared.dispose.Disposing.TheVariants as disposing
-use Rattle.papaya_owes.specs.Given.Reserves.declared.reserve.Reserving.{Reserving}
-use Rattle.papaya_owes.specs.Given.Reserves.declared.reserve.Reserving.TheVariants as reserving
-use Rattle.papaya_owes.specs.Given.Sweeps.declared.sweep.Sweep.{Sweep}
-use Rattle.papaya_owes.specs.Given.Sweeps.declared.sweep.Sweeping.{Sweeping}
-use Rattle.papaya_owes.specs.Given.Sweeps.declared.sweep.Sweeping.TheVariants as sweeping
-use Rattle.papaya_owes.specs.Given.Raw.declared.machines.call.Calling.{Calling}
-use Rattle.papaya_owes.specs.Given.Raw.declared.machines.call.Calling.TheVariants as calling
-use Rattle.papaya_owes.specs.Given.Raw.declared.machines.call.KeyCall.{KeyCall}
-use Rattle.papaya_owes.specs.Given.Rule.Chart.{Chart}
-use Rattle.papaya_owes.specs.Given.Rule.Words.{Blocks}
-use Rattle.papaya_owes.specs.Given.Points.FactsCalls.{CallingFacts}
-use Rattle.papaya_owes.specs.Given.Points.FactsDisposes.{DisposingFacts, DisposeFacts}
-use Rattle.papaya_owes.specs.Given.Late.FactsSweeps.{SweepingFacts}
-use Rattle.papaya_owes.specs.Given.Late.LateCalls.{LateCalling}
-use Rattle.papaya_owes.specs.Given.Callers.OverAll.{CallOverAll, row_of_sweep}
-use Rattle.papaya_owes.specs.Given.Callers.Rows.{row_of_disposal, row_of}
-use Rattle.papaya_owes.specs.Given.Callers.Together.{CallOnKey, OnKey, OverAll, Stands, in_slot}
-use Rattle.papaya_owes.specs.Given.Settles.Due.{ToPut, due_in_defer, due_in_disposing, due_in_copying, due_in_calling, due_in_reserving, due_in_sweeping}
-use Rattle.papaya_owes.specs.Given.Settles.InHand.{pair_in_calling, pair_in_sweeping}
+use Rattle.papaya_owes.specs.Given.SeizeWordsDeclared.at.At.{At}
+use Rattle.papaya_owes.specs.Given.SeizeWordsDeclared.at.At.TheVariants.{Word}
+use Rattle.papaya_owes.specs.Given.SeizeFurther.{IsWordOf}
+use Rattle.papaya_owes.specs.Given.SeizeWorld.{World, Rests}
+use Rattle.papaya_owes.specs.Given.SeizeDeclared.rows.defer.Defer.{Defer}
+use Rattle.papaya_owes.specs.Given.SeizeDeclared.rows.defer.Deferring.{Deferring}
+use Rattle.papaya_owes.specs.Given.SeizeDeclared.rows.defer.Deferring.TheVariants as deferring
+use Rattle.papaya_owes.specs.Given.TablesDeclared.node.Node.{Node}
+use Rattle.papaya_owes.specs.Given.TablesDeclared.setting.Setting.{Setting}
+use Rattle.papaya_owes.specs.Given.TablesDeclared.table.Table.{Table}
+use Rattle.papaya_owes.specs.Given.TablesDeclared.table_words.TheConstants.{DEFERRED}
+use Rattle.papaya_owes.specs.Given.ResizeDeclared.copier.Copying.{Copying}
+use Rattle.papaya_owes.specs.Given.ResizeDeclared.copier.Copying.TheVariants as copying
+use Rattle.papaya_owes.specs.Given.ResizeDeclared.dispose.Dispose.{Dispose}
+use Rattle.papaya_owes.specs.Given.ResizeDeclared.dispose.Disposing.{Disposing}
+use Rattle.papaya_owes.specs.Given.ResizeDeclared.dispose.Disposing.TheVariants as disposing
+use Rattle.papaya_owes.specs.Given.ReservesDeclared.reserve.Reserving.{Reserving}
+use Rattle.papaya_owes.specs.Given.ReservesDeclared.reserve.Reserving.TheVariants as reserving
+use Rattle.papaya_owes.specs.Given.SweepsDeclared.sweep.Sweep.{Sweep}
+use Rattle.papaya_owes.specs.Given.SweepsDeclared.sweep.Sweeping.{Sweeping}
+use Rattle.papaya_owes.specs.Given.SweepsDeclared.sweep.Sweeping.TheVariants as sweeping
+use Rattle.papaya_owes.specs.Given.RawDeclared.machines.call.Calling.{Calling}
+use Rattle.papaya_owes.specs.Given.RawDeclared.machines.call.Calling.TheVariants as calling
+use Rattle.papaya_owes.specs.Given.RawDeclared.machines.call.KeyCall.{KeyCall}
+use Rattle.papaya_owes.specs.Given.RuleChart.{Chart}
+use Rattle.papaya_owes.specs.Given.RuleWords.{Blocks}
+use Rattle.papaya_owes.specs.Given.PointsFactsCalls.{CallingFacts}
+use Rattle.papaya_owes.specs.Given.PointsFactsDisposes.{DisposingFacts, DisposeFacts}
+use Rattle.papaya_owes.specs.Given.LateFactsSweeps.{SweepingFacts}
+use Rattle.papaya_owes.specs.Given.LateLateCalls.{LateCalling}
+use Rattle.papaya_owes.specs.Given.CallersOverAll.{CallOverAll, row_of_sweep}
+use Rattle.papaya_owes.specs.Given.CallersRows.{row_of_disposal, row_of}
+use Rattle.papaya_owes.specs.Given.CallersTogether.{CallOnKey, OnKey, OverAll, Stands, in_slot}
+use Rattle.papaya_owes.specs.Given.SettlesDue.{ToPut, due_in_defer, due_in_disposing, due_in_copying, due_in_calling, due_in_reserving, due_in_sweeping}
+use Rattle.papaya_owes.specs.Given.SettlesInHand.{pair_in_calling, pair_in_sweeping}
 use Rattle.papaya_finds.specs.Waits.{waits_in_disposing, waits_in_calling, waits_in_sweeping}
 use Rattle.papaya_finds.proofs.Waits.Due.{never_put, dispose_due}
 

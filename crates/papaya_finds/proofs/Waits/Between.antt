@@ -1,17 +1,17 @@
 -- Between the steps of calls, and as others take steps, each pair that a call has in hand lies as it lay.
 use Rattle.std.specs.Prelude.{◌≡◌, false, cond, find, Some, None}
 use Rattle.std.proofs.Common.{ap, sym, subst, ◌∙◌, inl, inr}
-use Rattle.papaya_owes.specs.Given.Runs.Same.{is_same}
-use Rattle.papaya_owes.specs.Given.Raw.declared.machines.machine.Machine.{Machine}
-use Rattle.papaya_owes.specs.Given.Schedules.Beginning.{fresh_call, with_call}
-use Rattle.papaya_owes.specs.Given.Schedules.Moment.{UnderWay as CallThere}
-use Rattle.papaya_owes.specs.Given.Schedules.Views.{call_of}
-use Rattle.papaya_owes.specs.Given.Callers.Together.{UnderWay}
-use Rattle.papaya_owes.specs.Given.Finishes.Machines.{machine_of}
-use Rattle.papaya_owes.proofs.Given.Follows.Steps.{one_of}
-use Rattle.papaya_owes.proofs.Given.Hands.Asking.{which}
-use Rattle.papaya_owes.specs.Given.Settles.Hand.{in_hand}
-use Rattle.papaya_owes.proofs.Given.Settles.Hand.Roles.{hand_same}
+use Rattle.papaya_owes.specs.Given.RunsSame.{is_same}
+use Rattle.papaya_owes.specs.Given.RawDeclared.machines.machine.Machine.{Machine}
+use Rattle.papaya_owes.specs.Given.SchedulesBeginning.{fresh_call, with_call}
+use Rattle.papaya_owes.specs.Given.SchedulesMoment.{UnderWay as CallThere}
+use Rattle.papaya_owes.specs.Given.SchedulesViews.{call_of}
+use Rattle.papaya_owes.specs.Given.CallersTogether.{UnderWay}
+use Rattle.papaya_owes.specs.Given.FinishesMachines.{machine_of}
+use Rattle.papaya_owes.proofs.Given.FollowsSteps.{one_of}
+use Rattle.papaya_owes.proofs.Given.HandsAsking.{which}
+use Rattle.papaya_owes.specs.Given.SettlesHand.{in_hand}
+use Rattle.papaya_owes.proofs.Given.SettlesHand.Roles.{hand_same}
 use Rattle.papaya_finds.specs.Waits.{waits_in, pair_in, IsHeldPast, KeepsHands, WaitsStay, WaitsFollowOwed, CallsBeginWaits}
 
 pub waits_stay : (K V : Type 0) → WaitsStay K V

@@ -1,52 +1,52 @@
 -- What follows of a step of a call, whichever it is, for a pair that the call has in hand then.
 use Rattle.std.specs.Prelude.{◌≡◌, ℕ, ◌≤◌, nat_lt, Bool, true, false, MatchBool, List, [], ◌∷◌, Option, Some, None}
 use Rattle.std.proofs.Common.{ap, sym, subst, ◌∙◌, arith}
-use Rattle.papaya_owes.specs.Given.SeizeWords.Mem.{Mem, word_at, value_at}
-use Rattle.papaya_owes.specs.Given.SeizeWords.Word.{block_in}
-use Rattle.papaya_owes.specs.Given.SeizeWords.declared.at.At.TheVariants.{Root, Word}
-use Rattle.papaya_owes.specs.Given.Seize.World.{IsInside}
-use Rattle.papaya_owes.specs.Given.Tables.Nodes.{table_seen}
-use Rattle.papaya_owes.specs.Given.Tables.declared.node.Node.{Node}
-use Rattle.papaya_owes.specs.Given.Tables.declared.setting.Setting.{Setting}
-use Rattle.papaya_owes.specs.Given.Tables.declared.table.Table.{Table}
-use Rattle.papaya_owes.specs.Given.Resize.Dispose.{disposing}
-use Rattle.papaya_owes.specs.Given.Resize.declared.dispose.Dispose.{Dispose}
-use Rattle.papaya_owes.specs.Given.Raw.declared.machines.progress.Progress.{Progress}
-use Rattle.papaya_owes.specs.Given.Schedules.declared.effect.Effect.{Effect}
-use Rattle.papaya_owes.specs.Given.Schedules.declared.effect.Thing.{Thing}
-use Rattle.papaya_owes.specs.Given.Schedules.declared.effect.Thing.TheVariants.{APair}
-use Rattle.papaya_owes.specs.Given.Schedules.Effects.{with_effects, AtEachEffect}
-use Rattle.papaya_owes.specs.Given.Schedules.Lives.{IsPast}
-use Rattle.papaya_owes.specs.Given.Schedules.Moment.{UnderWay as CallThere, Moment}
-use Rattle.papaya_owes.specs.Given.Schedules.Views.{call_of, first_of}
-use Rattle.papaya_owes.specs.Given.Teller.declared.changed.Changed.{Changed}
-use Rattle.papaya_owes.specs.Given.Teller.declared.changed.Changed.TheVariants as changed
-use Rattle.papaya_owes.specs.Given.Rule.Maps.{IsTable}
-use Rattle.papaya_owes.specs.Given.Rule.Words.{Blocks}
-use Rattle.papaya_owes.specs.Given.Points.FactsDisposes.{DisposeFacts}
-use Rattle.papaya_owes.specs.Given.Callers.Sights.{seen_by}
-use Rattle.papaya_owes.specs.Given.Callers.Together.{UnderWay, in_slot}
-use Rattle.papaya_owes.specs.Given.Effects.Effects.{effects_of}
-use Rattle.papaya_owes.specs.Given.Effects.Known.{Known}
-use Rattle.papaya_owes.specs.Given.Effects.declared.acting.Acting.TheVariants as acts
-use Rattle.papaya_owes.specs.Given.Finishes.Machines.{machine_of}
-use Rattle.papaya_owes.specs.Given.Finishes.Maps.{Standing}
-use Rattle.papaya_owes.specs.Given.Follows.Calls.{IsCalled}
-use Rattle.papaya_owes.specs.Given.Follows.Finds.{FindsMap}
-use Rattle.papaya_owes.specs.Given.Follows.Shows.{Shows}
-use Rattle.papaya_owes.proofs.Given.Follows.Finds.{first_is}
-use Rattle.papaya_owes.proofs.Given.Follows.Operations.{Operated}
-use Rattle.papaya_owes.proofs.Given.Follows.Steps.{WentTo, went_to, made_so, OfNoRow}
-use Rattle.papaya_owes.specs.Given.Moments.Whole.{ShowsWhole}
-use Rattle.papaya_owes.specs.Given.Settles.Due.{OwnAreMade}
-use Rattle.papaya_owes.specs.Given.Settles.Entries.{ShowsEntries}
-use Rattle.papaya_owes.specs.Given.Settles.Hand.{in_hand, ShowsOwed}
-use Rattle.papaya_owes.specs.Given.Settles.InHand.{TakesPair}
-use Rattle.papaya_owes.specs.Given.Settles.Owed.{HandGoes}
-use Rattle.papaya_owes.specs.Given.Settles.Owing.{OwesGo}
-use Rattle.papaya_owes.proofs.Given.Settles.DueCalls.{rows_tell_due}
-use Rattle.papaya_owes.proofs.Given.Settles.Hand.All.{calls_go_in_hand}
-use Rattle.papaya_owes.proofs.Given.Settles.Owing.{owes_follow}
+use Rattle.papaya_owes.specs.Given.SeizeWordsMem.{Mem, word_at, value_at}
+use Rattle.papaya_owes.specs.Given.SeizeWordsWord.{block_in}
+use Rattle.papaya_owes.specs.Given.SeizeWordsDeclared.at.At.TheVariants.{Root, Word}
+use Rattle.papaya_owes.specs.Given.SeizeWorld.{IsInside}
+use Rattle.papaya_owes.specs.Given.TablesNodes.{table_seen}
+use Rattle.papaya_owes.specs.Given.TablesDeclared.node.Node.{Node}
+use Rattle.papaya_owes.specs.Given.TablesDeclared.setting.Setting.{Setting}
+use Rattle.papaya_owes.specs.Given.TablesDeclared.table.Table.{Table}
+use Rattle.papaya_owes.specs.Given.ResizeDispose.{disposing}
+use Rattle.papaya_owes.specs.Given.ResizeDeclared.dispose.Dispose.{Dispose}
+use Rattle.papaya_owes.specs.Given.RawDeclared.machines.progress.Progress.{Progress}
+use Rattle.papaya_owes.specs.Given.SchedulesDeclared.effect.Effect.{Effect}
+use Rattle.papaya_owes.specs.Given.SchedulesDeclared.effect.Thing.{Thing}
+use Rattle.papaya_owes.specs.Given.SchedulesDeclared.effect.Thing.TheVariants.{APair}
+use Rattle.papaya_owes.specs.Given.SchedulesEffects.{with_effects, AtEachEffect}
+use Rattle.papaya_owes.specs.Given.SchedulesLives.{IsPast}
+use Rattle.papaya_owes.specs.Given.SchedulesMoment.{UnderWay as CallThere, Moment}
+use Rattle.papaya_owes.specs.Given.SchedulesViews.{call_of, first_of}
+use Rattle.papaya_owes.specs.Given.TellerDeclared.changed.Changed.{Changed}
+use Rattle.papaya_owes.specs.Given.TellerDeclared.changed.Changed.TheVariants as changed
+use Rattle.papaya_owes.specs.Given.RuleMaps.{IsTable}
+use Rattle.papaya_owes.specs.Given.RuleWords.{Blocks}
+use Rattle.papaya_owes.specs.Given.PointsFactsDisposes.{DisposeFacts}
+use Rattle.papaya_owes.specs.Given.CallersSights.{seen_by}
+use Rattle.papaya_owes.specs.Given.CallersTogether.{UnderWay, in_slot}
+use Rattle.papaya_owes.specs.Given.EffectsEffects.{effects_of}
+use Rattle.papaya_owes.specs.Given.EffectsKnown.{Known}
+use Rattle.papaya_owes.specs.Given.EffectsDeclared.acting.Acting.TheVariants as acts
+use Rattle.papaya_owes.specs.Given.FinishesMachines.{machine_of}
+use Rattle.papaya_owes.specs.Given.FinishesMaps.{Standing}
+use Rattle.papaya_owes.specs.Given.FollowsCalls.{IsCalled}
+use Rattle.papaya_owes.specs.Given.FollowsFinds.{FindsMap}
+use Rattle.papaya_owes.specs.Given.FollowsShows.{Shows}
+use Rattle.papaya_owes.proofs.Given.FollowsFinds.{first_is}
+use Rattle.papaya_owes.proofs.Given.FollowsOperations.{Operated}
+use Rattle.papaya_owes.proofs.Given.FollowsSteps.{WentTo, went_to, made_so, OfNoRow}
+use Rattle.papaya_owes.specs.Given.MomentsWhole.{ShowsWhole}
+use Rattle.papaya_owes.specs.Given.SettlesDue.{OwnAreMade}
+use Rattle.papaya_owes.specs.Given.SettlesEntries.{ShowsEntries}
+use Rattle.papaya_owes.specs.Given.SettlesHand.{in_hand, ShowsOwed}
+use Rattle.papaya_owes.specs.Given.SettlesInHand.{TakesPair}
+use Rattle.papaya_owes.specs.Given.SettlesOwed.{HandGoes}
+use Rattle.papaya_owes.specs.Given.SettlesOwing.{OwesGo}
+use Rattle.papaya_owes.proofs.Given.SettlesDueCalls.{rows_tell_due}
+use Rattle.papaya_owes.proofs.Given.SettlesHand.All.{calls_go_in_hand}
+use Rattle.papaya_owes.proofs.Given.SettlesOwing.{owes_follow}
 use Rattle.papaya_finds.specs.Past.{FindsOnward}
 use Rattle.papaya_finds.specs.Parts.{FindPlacesOf}
 use Rattle.papaya_finds.specs.Waits.{waits_of, waits_in, pair_in, IsHeldPast, ShowsWaits, LeavesHeld}
@@ -57,9 +57,9 @@ use Rattle.papaya_finds.proofs.Waits.Held.{calls_leave_held, taken_held}
 use Rattle.papaya_finds.proofs.Waits.New.{new_lies}
 use Rattle.papaya_finds.proofs.Waits.Owes.{OwedBefore, owed_before, row_takes}
 use Rattle.papaya_finds.proofs.Waits.Taken.{TookPair, is_map}
-use Rattle.papaya_owes.specs.Given.Scenes.Held.{Held, IsAt}
-use Rattle.papaya_owes.specs.Given.Scenes.Scene.{Scene, slot_of}
-use Rattle.papaya_owes.specs.Given.Scenes.Stepping.{StepLeads}
+use Rattle.papaya_owes.specs.Given.ScenesHeld.{Held, IsAt}
+use Rattle.papaya_owes.specs.Given.ScenesScene.{Scene, slot_of}
+use Rattle.papaya_owes.specs.Given.ScenesStepping.{StepLeads}
 
 -- one that lies no further on than the root is past it
 past_of : (born lies first : ℕ) → lies ≤ first → IsPast born lies first

@@ -2,34 +2,34 @@
 use Rattle.std.specs.Prelude.{◌≡◌, ℕ, ◌≤◌, ◌==◌, nat_lt, Option, Some, None}
 use Rattle.std.proofs.Common.{refl, ap, sym, subst, ◌∙◌, inl, inr}
 use Rattle.std.proofs.lemmas.Bool.{ltb-false}
-use Rattle.papaya_owes.proofs.Given.SeizeWords.Plans.{ends_if}
-use Rattle.papaya_owes.specs.Given.SeizeWords.Mem.{Mem, word_at, value_at}
-use Rattle.papaya_owes.specs.Given.SeizeWords.Op.{Out, Load, Found}
-use Rattle.papaya_owes.specs.Given.SeizeWords.Plan.{Ends}
-use Rattle.papaya_owes.specs.Given.SeizeWords.Word.{block_in}
-use Rattle.papaya_owes.specs.Given.SeizeWords.declared.at.At.TheVariants.{Root}
-use Rattle.papaya_owes.specs.Given.Seize.Settle.{settle_plan}
-use Rattle.papaya_owes.specs.Given.Seize.Defer.{defer_plan}
-use Rattle.papaya_owes.specs.Given.Seize.declared.progress.Progress.{Progress}
-use Rattle.papaya_owes.specs.Given.Seize.declared.progress.Progress.TheVariants as progress
-use Rattle.papaya_owes.specs.Given.Seize.declared.rows.defer.Defer.{Defer}
-use Rattle.papaya_owes.specs.Given.Seize.declared.rows.settle.Settle.{Settle}
-use Rattle.papaya_owes.specs.Given.Seize.declared.rows.settle.Settled.{Settled}
-use Rattle.papaya_owes.specs.Given.Seize.declared.rows.settle.Settled.TheVariants as settled
-use Rattle.papaya_owes.specs.Given.Tables.Nodes.{deferred_word, table_seen}
-use Rattle.papaya_owes.specs.Given.Tables.declared.node.Node.{Node}
-use Rattle.papaya_owes.specs.Given.Resize.Dispose as disposes
-use Rattle.papaya_owes.specs.Given.Resize.declared.dispose.Dispose.{Dispose}
-use Rattle.papaya_owes.specs.Given.Resize.declared.dispose.Disposing.{Disposing}
-use Rattle.papaya_owes.specs.Given.Resize.declared.dispose.Disposing.TheVariants as at
-use Rattle.papaya_owes.specs.Given.Points.Told.{IsRowOf}
-use Rattle.papaya_owes.proofs.Given.Rule.Keys.Always.{Always, AlwaysOf, always_if, always_plan_as, always_steps}
-use Rattle.papaya_owes.specs.Given.Teller.Tells.{StepsTold, ToldAs}
-use Rattle.papaya_owes.specs.Given.Teller.declared.changed.Changed.{Changed}
-use Rattle.papaya_owes.specs.Given.Teller.declared.changed.Changed.TheVariants as changed
-use Rattle.papaya_owes.specs.Given.Settles.InHand.{pair_in_disposing}
+use Rattle.papaya_owes.proofs.Given.SeizeWordsPlans.{ends_if}
+use Rattle.papaya_owes.specs.Given.SeizeWordsMem.{Mem, word_at, value_at}
+use Rattle.papaya_owes.specs.Given.SeizeWordsOp.{Out, Load, Found}
+use Rattle.papaya_owes.specs.Given.SeizeWordsPlan.{Ends}
+use Rattle.papaya_owes.specs.Given.SeizeWordsWord.{block_in}
+use Rattle.papaya_owes.specs.Given.SeizeWordsDeclared.at.At.TheVariants.{Root}
+use Rattle.papaya_owes.specs.Given.SeizeSettle.{settle_plan}
+use Rattle.papaya_owes.specs.Given.SeizeDefer.{defer_plan}
+use Rattle.papaya_owes.specs.Given.SeizeDeclared.progress.Progress.{Progress}
+use Rattle.papaya_owes.specs.Given.SeizeDeclared.progress.Progress.TheVariants as progress
+use Rattle.papaya_owes.specs.Given.SeizeDeclared.rows.defer.Defer.{Defer}
+use Rattle.papaya_owes.specs.Given.SeizeDeclared.rows.settle.Settle.{Settle}
+use Rattle.papaya_owes.specs.Given.SeizeDeclared.rows.settle.Settled.{Settled}
+use Rattle.papaya_owes.specs.Given.SeizeDeclared.rows.settle.Settled.TheVariants as settled
+use Rattle.papaya_owes.specs.Given.TablesNodes.{deferred_word, table_seen}
+use Rattle.papaya_owes.specs.Given.TablesDeclared.node.Node.{Node}
+use Rattle.papaya_owes.specs.Given.ResizeDispose as disposes
+use Rattle.papaya_owes.specs.Given.ResizeDeclared.dispose.Dispose.{Dispose}
+use Rattle.papaya_owes.specs.Given.ResizeDeclared.dispose.Disposing.{Disposing}
+use Rattle.papaya_owes.specs.Given.ResizeDeclared.dispose.Disposing.TheVariants as at
+use Rattle.papaya_owes.specs.Given.PointsTold.{IsRowOf}
+use Rattle.papaya_owes.proofs.Given.RuleKeys.Always.{Always, AlwaysOf, always_if, always_plan_as, always_steps}
+use Rattle.papaya_owes.specs.Given.TellerTells.{StepsTold, ToldAs}
+use Rattle.papaya_owes.specs.Given.TellerDeclared.changed.Changed.{Changed}
+use Rattle.papaya_owes.specs.Given.TellerDeclared.changed.Changed.TheVariants as changed
+use Rattle.papaya_owes.specs.Given.SettlesInHand.{pair_in_disposing}
 use Rattle.papaya_finds.specs.Waits.{waits_in_disposing, waits_of}
-use Rattle.papaya_owes.proofs.Given.Scenes.Told.{as_step}
+use Rattle.papaya_owes.proofs.Given.ScenesTold.{as_step}
 
 module _ {K V : Type 0} (d : Dispose) (m m2 : Mem (Node K V)) (told : Changed) where
   -- it has the pair in hand, unless in a row

@@ -1,35 +1,35 @@
 -- What a row within a call is to hand over, where that is a pair, is the pair that the call has in hand: it waits if it is to be put behind a table.
 use Rattle.std.specs.Prelude.{◌≡◌, ℕ, Option, Some, None}
 use Rattle.std.proofs.Common.{refl, ap, sym, subst, ◌∙◌}
-use Rattle.papaya_owes.specs.Given.SeizeWords.Word.{block_in}
-use Rattle.papaya_owes.specs.Given.SeizeWords.declared.at.At.{At}
-use Rattle.papaya_owes.specs.Given.Seize.declared.rows.defer.Defer.{Defer}
-use Rattle.papaya_owes.specs.Given.Seize.declared.rows.defer.Deferring.{Deferring}
-use Rattle.papaya_owes.specs.Given.Seize.declared.rows.defer.Deferring.TheVariants as deferring
-use Rattle.papaya_owes.specs.Given.Seize.declared.rows.settle.Settle.{Settle}
-use Rattle.papaya_owes.specs.Given.Seize.declared.rows.settle.Settling.{Settling}
-use Rattle.papaya_owes.specs.Given.Seize.declared.rows.settle.Settling.TheVariants as settling
-use Rattle.papaya_owes.specs.Given.Resize.declared.copier.Copier.{Copier}
-use Rattle.papaya_owes.specs.Given.Resize.declared.copier.Copying.{Copying}
-use Rattle.papaya_owes.specs.Given.Resize.declared.copier.Copying.TheVariants as copying
-use Rattle.papaya_owes.specs.Given.Resize.declared.dispose.Dispose.{Dispose}
-use Rattle.papaya_owes.specs.Given.Resize.declared.dispose.Disposing.{Disposing}
-use Rattle.papaya_owes.specs.Given.Resize.declared.dispose.Disposing.TheVariants as disposing
-use Rattle.papaya_owes.specs.Given.Reserves.declared.reserve.Reserving.{Reserving}
-use Rattle.papaya_owes.specs.Given.Reserves.declared.reserve.Reserving.TheVariants as reserving
-use Rattle.papaya_owes.specs.Given.Sweeps.declared.sweep.Sweep.{Sweep}
-use Rattle.papaya_owes.specs.Given.Sweeps.declared.sweep.Sweeping.{Sweeping}
-use Rattle.papaya_owes.specs.Given.Sweeps.declared.sweep.Sweeping.TheVariants as sweeping
-use Rattle.papaya_owes.specs.Given.Raw.declared.machines.call.Calling.{Calling}
-use Rattle.papaya_owes.specs.Given.Raw.declared.machines.call.Calling.TheVariants as calling
-use Rattle.papaya_owes.specs.Given.Raw.declared.machines.call.KeyCall.{KeyCall}
-use Rattle.papaya_owes.specs.Given.Raw.declared.machines.machine.Machine.{Machine}
-use Rattle.papaya_owes.specs.Given.Raw.declared.machines.machine.Machine.TheVariants as kinds
-use Rattle.papaya_owes.specs.Given.Effects.Known.{Known}
-use Rattle.papaya_owes.specs.Given.Effects.declared.role.Role.TheVariants as role
-use Rattle.papaya_owes.specs.Given.Settles.Due.{Due, ToRetire, ToPut, word_due, due_in_settle, due_in_defer, due_in_disposing, due_in_copying, due_in_calling, due_in_reserving, due_in_sweeping, due_in_row}
-use Rattle.papaya_owes.specs.Given.Settles.Hand.{things_at, in_hand_of_call, in_hand_of_sweep, in_hand, IsTableRole, HoldsAt, IsTableAt, NotesTables, NotesOfCall, NotesOfRoom, NotesOfSweep, NotesInHand}
-use Rattle.papaya_owes.specs.Given.Settles.InHand.{pair_in_disposing, pair_in_calling, pair_in_sweeping}
+use Rattle.papaya_owes.specs.Given.SeizeWordsWord.{block_in}
+use Rattle.papaya_owes.specs.Given.SeizeWordsDeclared.at.At.{At}
+use Rattle.papaya_owes.specs.Given.SeizeDeclared.rows.defer.Defer.{Defer}
+use Rattle.papaya_owes.specs.Given.SeizeDeclared.rows.defer.Deferring.{Deferring}
+use Rattle.papaya_owes.specs.Given.SeizeDeclared.rows.defer.Deferring.TheVariants as deferring
+use Rattle.papaya_owes.specs.Given.SeizeDeclared.rows.settle.Settle.{Settle}
+use Rattle.papaya_owes.specs.Given.SeizeDeclared.rows.settle.Settling.{Settling}
+use Rattle.papaya_owes.specs.Given.SeizeDeclared.rows.settle.Settling.TheVariants as settling
+use Rattle.papaya_owes.specs.Given.ResizeDeclared.copier.Copier.{Copier}
+use Rattle.papaya_owes.specs.Given.ResizeDeclared.copier.Copying.{Copying}
+use Rattle.papaya_owes.specs.Given.ResizeDeclared.copier.Copying.TheVariants as copying
+use Rattle.papaya_owes.specs.Given.ResizeDeclared.dispose.Dispose.{Dispose}
+use Rattle.papaya_owes.specs.Given.ResizeDeclared.dispose.Disposing.{Disposing}
+use Rattle.papaya_owes.specs.Given.ResizeDeclared.dispose.Disposing.TheVariants as disposing
+use Rattle.papaya_owes.specs.Given.ReservesDeclared.reserve.Reserving.{Reserving}
+use Rattle.papaya_owes.specs.Given.ReservesDeclared.reserve.Reserving.TheVariants as reserving
+use Rattle.papaya_owes.specs.Given.SweepsDeclared.sweep.Sweep.{Sweep}
+use Rattle.papaya_owes.specs.Given.SweepsDeclared.sweep.Sweeping.{Sweeping}
+use Rattle.papaya_owes.specs.Given.SweepsDeclared.sweep.Sweeping.TheVariants as sweeping
+use Rattle.papaya_owes.specs.Given.RawDeclared.machines.call.Calling.{Calling}
+use Rattle.papaya_owes.specs.Given.RawDeclared.machines.call.Calling.TheVariants as calling
+use Rattle.papaya_owes.specs.Given.RawDeclared.machines.call.KeyCall.{KeyCall}
+use Rattle.papaya_owes.specs.Given.RawDeclared.machines.machine.Machine.{Machine}
+use Rattle.papaya_owes.specs.Given.RawDeclared.machines.machine.Machine.TheVariants as kinds
+use Rattle.papaya_owes.specs.Given.EffectsKnown.{Known}
+use Rattle.papaya_owes.specs.Given.EffectsDeclared.role.Role.TheVariants as role
+use Rattle.papaya_owes.specs.Given.SettlesDue.{Due, ToRetire, ToPut, word_due, due_in_settle, due_in_defer, due_in_disposing, due_in_copying, due_in_calling, due_in_reserving, due_in_sweeping, due_in_row}
+use Rattle.papaya_owes.specs.Given.SettlesHand.{things_at, in_hand_of_call, in_hand_of_sweep, in_hand, IsTableRole, HoldsAt, IsTableAt, NotesTables, NotesOfCall, NotesOfRoom, NotesOfSweep, NotesInHand}
+use Rattle.papaya_owes.specs.Given.SettlesInHand.{pair_in_disposing, pair_in_calling, pair_in_sweeping}
 use Rattle.papaya_finds.specs.Waits.{waits_in_disposing, waits_in_calling, waits_in_sweeping, waits_in, pair_in}
 
 abbrev pub word_of : Due → ℕ

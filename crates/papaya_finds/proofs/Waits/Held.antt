@@ -2,20 +2,20 @@
 use Rattle.std.specs.Prelude.{◌≡◌, ℕ, ◌<◌, ◌≤◌, false, List, [], ◌∷◌, length, Option, Some, None}
 use Rattle.std.proofs.Common.{refl, ap, sym, subst, ◌∙◌, arith, inl, inr}
 use Rattle.std.proofs.lemmas.Bool.{cases_eq}
-use Rattle.papaya_owes.specs.Given.Schedules.declared.effect.Effect.{Effect}
-use Rattle.papaya_owes.specs.Given.Schedules.declared.effect.Effect.TheVariants.{Deferred, Stored, Replaced, Removed}
-use Rattle.papaya_owes.specs.Given.Schedules.declared.effect.Spot.{Spot}
-use Rattle.papaya_owes.specs.Given.Schedules.declared.effect.Table.{Table}
-use Rattle.papaya_owes.specs.Given.Schedules.Effects.{with_effect, with_effects, AtEachEffect}
-use Rattle.papaya_owes.specs.Given.Schedules.Lives.{IsPast}
-use Rattle.papaya_owes.specs.Given.Schedules.Moment.{Behind, Out, Moment}
-use Rattle.papaya_owes.specs.Given.Schedules.Views.{is_in_a_map, first_of, map_at, grows_in_chunks}
-use Rattle.papaya_owes.specs.Given.Follows.Finds.{FindsMap}
-use Rattle.papaya_owes.proofs.Given.Follows.Alike.{put_here, put_elsewhere}
-use Rattle.papaya_owes.specs.Given.Spots.Deferred.{FindsNumbers}
-use Rattle.papaya_owes.proofs.Given.Spots.Effects.{aside_all}
-use Rattle.papaya_owes.proofs.Given.Spots.Elsewhere.{stored_grows}
-use Rattle.papaya_owes.specs.Given.Settles.InHand.{TakesPair}
+use Rattle.papaya_owes.specs.Given.SchedulesDeclared.effect.Effect.{Effect}
+use Rattle.papaya_owes.specs.Given.SchedulesDeclared.effect.Effect.TheVariants.{Deferred, Stored, Replaced, Removed}
+use Rattle.papaya_owes.specs.Given.SchedulesDeclared.effect.Spot.{Spot}
+use Rattle.papaya_owes.specs.Given.SchedulesDeclared.effect.Table.{Table}
+use Rattle.papaya_owes.specs.Given.SchedulesEffects.{with_effect, with_effects, AtEachEffect}
+use Rattle.papaya_owes.specs.Given.SchedulesLives.{IsPast}
+use Rattle.papaya_owes.specs.Given.SchedulesMoment.{Behind, Out, Moment}
+use Rattle.papaya_owes.specs.Given.SchedulesViews.{is_in_a_map, first_of, map_at, grows_in_chunks}
+use Rattle.papaya_owes.specs.Given.FollowsFinds.{FindsMap}
+use Rattle.papaya_owes.proofs.Given.FollowsAlike.{put_here, put_elsewhere}
+use Rattle.papaya_owes.specs.Given.SpotsDeferred.{FindsNumbers}
+use Rattle.papaya_owes.proofs.Given.SpotsEffects.{aside_all}
+use Rattle.papaya_owes.proofs.Given.SpotsElsewhere.{stored_grows}
+use Rattle.papaya_owes.specs.Given.SettlesInHand.{TakesPair}
 use Rattle.papaya_finds.specs.Past.{HasLeftMaps, FindsOnward}
 use Rattle.papaya_finds.specs.Waits.{LiesFor, IsHeldPast, LeavesHeld}
 use Rattle.papaya_finds.proofs.Capacities.{effect_leaves}

@@ -2,41 +2,41 @@
 use Rattle.std.specs.Prelude.{◌≡◌, ℕ, ◌≤◌, nat_lt, Bool, true, false, MatchBool, List, Some, if◌then◌else◌}
 use Rattle.std.proofs.Common.{refl, ap, sym, subst, ◌∙◌, arith}
 use Rattle.std.proofs.lemmas.Bool.{ltb-true}
-use Rattle.papaya_owes.specs.Given.SeizeWords.Word.{block_in}
-use Rattle.papaya_owes.specs.Given.SeizeWords.declared.at.At.TheVariants.{Word}
-use Rattle.papaya_owes.specs.Given.Seize.World.{IsInside}
-use Rattle.papaya_owes.specs.Given.Tables.Chunks.{is_incremental}
-use Rattle.papaya_owes.specs.Given.Tables.Marks.{link_in, has_mark}
-use Rattle.papaya_owes.specs.Given.Tables.declared.marks.TheConstants.{BORROWED}
-use Rattle.papaya_owes.specs.Given.Tables.declared.resize_mode.ResizeMode.{ResizeMode}
-use Rattle.papaya_owes.specs.Given.Tables.declared.resize_mode.ResizeMode.TheVariants.{Incremental, Blocking}
-use Rattle.papaya_owes.specs.Given.Tables.declared.setting.Setting.{Setting}
-use Rattle.papaya_owes.specs.Given.Tables.declared.table.Table.{Table}
-use Rattle.papaya_owes.specs.Given.Resize.Dispose.{retires, start_of, disposing}
-use Rattle.papaya_owes.specs.Given.Resize.declared.dispose.Dispose.{Dispose}
-use Rattle.papaya_owes.specs.Given.Resize.declared.dispose.Disposing.TheVariants as at
-use Rattle.papaya_owes.specs.Given.Schedules.declared.effect.Spot.{Spot}
-use Rattle.papaya_owes.specs.Given.Schedules.Moment.{Moment}
-use Rattle.papaya_owes.specs.Given.Schedules.Views.{first_of, map_at, grows_in_chunks}
-use Rattle.papaya_owes.specs.Given.Teller.declared.changed.Changed.{Changed}
-use Rattle.papaya_owes.specs.Given.Teller.declared.changed.Changed.TheVariants as changed
-use Rattle.papaya_owes.specs.Given.Tells.Tells.{place_at}
-use Rattle.papaya_owes.specs.Given.Rule.Chart.{Still, Holds, Chart}
-use Rattle.papaya_owes.specs.Given.Rule.Maps.{IsTable}
-use Rattle.papaya_owes.specs.Given.Rule.Words.{Blocks, byte_of, place_word}
-use Rattle.papaya_owes.proofs.Given.Rule.Words.PlaceWordsMarks.{pair_borrowed}
-use Rattle.papaya_owes.proofs.Given.Rule.Words.TablesSeen.{block_of_link}
-use Rattle.papaya_owes.specs.Given.Callers.Sights.{seen_by}
-use Rattle.papaya_owes.specs.Given.Effects.Known.{Known}
-use Rattle.papaya_owes.specs.Given.Finishes.Maps.{Standing}
-use Rattle.papaya_owes.specs.Given.Follows.Shows.{Shows}
-use Rattle.papaya_owes.proofs.Given.Follows.Finds.{first_is, chunks_are}
-use Rattle.papaya_owes.proofs.Given.Follows.Operations.{Operated}
-use Rattle.papaya_owes.specs.Given.Spots.Spots.{ThePair, named_by, LiesAt, ShowsPlaces}
+use Rattle.papaya_owes.specs.Given.SeizeWordsWord.{block_in}
+use Rattle.papaya_owes.specs.Given.SeizeWordsDeclared.at.At.TheVariants.{Word}
+use Rattle.papaya_owes.specs.Given.SeizeWorld.{IsInside}
+use Rattle.papaya_owes.specs.Given.TablesChunks.{is_incremental}
+use Rattle.papaya_owes.specs.Given.TablesMarks.{link_in, has_mark}
+use Rattle.papaya_owes.specs.Given.TablesDeclared.marks.TheConstants.{BORROWED}
+use Rattle.papaya_owes.specs.Given.TablesDeclared.resize_mode.ResizeMode.{ResizeMode}
+use Rattle.papaya_owes.specs.Given.TablesDeclared.resize_mode.ResizeMode.TheVariants.{Incremental, Blocking}
+use Rattle.papaya_owes.specs.Given.TablesDeclared.setting.Setting.{Setting}
+use Rattle.papaya_owes.specs.Given.TablesDeclared.table.Table.{Table}
+use Rattle.papaya_owes.specs.Given.ResizeDispose.{retires, start_of, disposing}
+use Rattle.papaya_owes.specs.Given.ResizeDeclared.dispose.Dispose.{Dispose}
+use Rattle.papaya_owes.specs.Given.ResizeDeclared.dispose.Disposing.TheVariants as at
+use Rattle.papaya_owes.specs.Given.SchedulesDeclared.effect.Spot.{Spot}
+use Rattle.papaya_owes.specs.Given.SchedulesMoment.{Moment}
+use Rattle.papaya_owes.specs.Given.SchedulesViews.{first_of, map_at, grows_in_chunks}
+use Rattle.papaya_owes.specs.Given.TellerDeclared.changed.Changed.{Changed}
+use Rattle.papaya_owes.specs.Given.TellerDeclared.changed.Changed.TheVariants as changed
+use Rattle.papaya_owes.specs.Given.TellsTells.{place_at}
+use Rattle.papaya_owes.specs.Given.RuleChart.{Still, Holds, Chart}
+use Rattle.papaya_owes.specs.Given.RuleMaps.{IsTable}
+use Rattle.papaya_owes.specs.Given.RuleWords.{Blocks, byte_of, place_word}
+use Rattle.papaya_owes.proofs.Given.RuleWords.PlaceWordsMarks.{pair_borrowed}
+use Rattle.papaya_owes.proofs.Given.RuleWords.TablesSeen.{block_of_link}
+use Rattle.papaya_owes.specs.Given.CallersSights.{seen_by}
+use Rattle.papaya_owes.specs.Given.EffectsKnown.{Known}
+use Rattle.papaya_owes.specs.Given.FinishesMaps.{Standing}
+use Rattle.papaya_owes.specs.Given.FollowsShows.{Shows}
+use Rattle.papaya_owes.proofs.Given.FollowsFinds.{first_is, chunks_are}
+use Rattle.papaya_owes.proofs.Given.FollowsOperations.{Operated}
+use Rattle.papaya_owes.specs.Given.SpotsSpots.{ThePair, named_by, LiesAt, ShowsPlaces}
 use Rattle.papaya_finds.specs.Waits.{waits_in_disposing, waits_of, LiesFor}
 use Rattle.papaya_finds.proofs.Waits.Taken.{TookPair, is_map}
-use Rattle.papaya_owes.specs.Given.Scenes.Held.{Held, IsAt}
-use Rattle.papaya_owes.specs.Given.Scenes.Scene.{Scene, slot_of}
+use Rattle.papaya_owes.specs.Given.ScenesHeld.{Held, IsAt}
+use Rattle.papaya_owes.specs.Given.ScenesScene.{Scene, slot_of}
 
 module _ {K V : Type 0} (same : K → K → Bool) (hash : ℕ → K → ℕ) (m : Moment K V) (known : Known) (s : Scene K V) (old new : Held K V) (at_old : IsAt same hash old s)
     (name : ℕ → List ℕ) (shown : Shows same name m known s) (lying : ShowsPlaces m known s.maps) (map i : ℕ) (standing : Standing K) (there : s.maps map ≡ Some standing)

@@ -2,45 +2,45 @@
 use Rattle.std.specs.Prelude.{◌≡◌, ℕ, Bool, false, List, [], ◌∷◌, Some}
 use Rattle.std.specs.List.{list_any}
 use Rattle.std.proofs.Common.{refl, ap, sym, subst, ◌∙◌, inl, inr, arith}
-use Rattle.papaya_owes.specs.Given.SeizeWords.Word.{block_in}
-use Rattle.papaya_owes.specs.Given.SeizeWords.declared.at.At.{At}
-use Rattle.papaya_owes.specs.Given.SeizeWords.declared.at.At.TheVariants.{Word}
-use Rattle.papaya_owes.specs.Given.Seize.Further.{IsWordOf}
-use Rattle.papaya_owes.specs.Given.Tables.declared.node.Node.{Node}
-use Rattle.papaya_owes.specs.Given.Raw.declared.machines.progress.Progress.{Progress}
-use Rattle.papaya_owes.specs.Given.Schedules.declared.effect.Effect.{Effect}
-use Rattle.papaya_owes.specs.Given.Schedules.declared.effect.Effect.TheVariants as effect
-use Rattle.papaya_owes.specs.Given.Schedules.declared.effect.Table.{Table}
-use Rattle.papaya_owes.specs.Given.Schedules.declared.effect.Thing.TheVariants.{APair, ATable}
-use Rattle.papaya_owes.specs.Given.Schedules.Effects.{call_by, with_effect}
-use Rattle.papaya_owes.specs.Given.Schedules.Entry.{ByCall}
-use Rattle.papaya_owes.specs.Given.Schedules.Moment.{UnderWay as CallThere, Moment}
-use Rattle.papaya_owes.specs.Given.Schedules.Views.{call_of}
-use Rattle.papaya_owes.specs.Given.Callers.Together.{UnderWay}
-use Rattle.papaya_owes.specs.Given.Effects.Effects.{carried, effects_of}
-use Rattle.papaya_owes.specs.Given.Effects.Known.{Known}
-use Rattle.papaya_owes.specs.Given.Effects.declared.acting.Acting.TheVariants as acts
-use Rattle.papaya_owes.specs.Given.Effects.declared.role.Role.{Role}
-use Rattle.papaya_owes.specs.Given.Effects.declared.role.Role.TheVariants as role
-use Rattle.papaya_owes.specs.Given.Finishes.Machines.{machine_of}
-use Rattle.papaya_owes.specs.Given.Follows.Calls.{IsCalled}
-use Rattle.papaya_owes.proofs.Given.Follows.Steps.{WentTo, went_to}
-use Rattle.papaya_owes.specs.Given.Moments.Whole.{ShowsWhole}
+use Rattle.papaya_owes.specs.Given.SeizeWordsWord.{block_in}
+use Rattle.papaya_owes.specs.Given.SeizeWordsDeclared.at.At.{At}
+use Rattle.papaya_owes.specs.Given.SeizeWordsDeclared.at.At.TheVariants.{Word}
+use Rattle.papaya_owes.specs.Given.SeizeFurther.{IsWordOf}
+use Rattle.papaya_owes.specs.Given.TablesDeclared.node.Node.{Node}
+use Rattle.papaya_owes.specs.Given.RawDeclared.machines.progress.Progress.{Progress}
+use Rattle.papaya_owes.specs.Given.SchedulesDeclared.effect.Effect.{Effect}
+use Rattle.papaya_owes.specs.Given.SchedulesDeclared.effect.Effect.TheVariants as effect
+use Rattle.papaya_owes.specs.Given.SchedulesDeclared.effect.Table.{Table}
+use Rattle.papaya_owes.specs.Given.SchedulesDeclared.effect.Thing.TheVariants.{APair, ATable}
+use Rattle.papaya_owes.specs.Given.SchedulesEffects.{call_by, with_effect}
+use Rattle.papaya_owes.specs.Given.SchedulesEntry.{ByCall}
+use Rattle.papaya_owes.specs.Given.SchedulesMoment.{UnderWay as CallThere, Moment}
+use Rattle.papaya_owes.specs.Given.SchedulesViews.{call_of}
+use Rattle.papaya_owes.specs.Given.CallersTogether.{UnderWay}
+use Rattle.papaya_owes.specs.Given.EffectsEffects.{carried, effects_of}
+use Rattle.papaya_owes.specs.Given.EffectsKnown.{Known}
+use Rattle.papaya_owes.specs.Given.EffectsDeclared.acting.Acting.TheVariants as acts
+use Rattle.papaya_owes.specs.Given.EffectsDeclared.role.Role.{Role}
+use Rattle.papaya_owes.specs.Given.EffectsDeclared.role.Role.TheVariants as role
+use Rattle.papaya_owes.specs.Given.FinishesMachines.{machine_of}
+use Rattle.papaya_owes.specs.Given.FollowsCalls.{IsCalled}
+use Rattle.papaya_owes.proofs.Given.FollowsSteps.{WentTo, went_to}
+use Rattle.papaya_owes.specs.Given.MomentsWhole.{ShowsWhole}
 use Rattle.papaya_owes.proofs.Fields.{its_effect}
-use Rattle.papaya_owes.specs.Given.Settles.Due.{ToPut, RowTells, TellsNone, TellsRetired, TellsDeferred, told_retired, due_in_row, OwnAreMade}
-use Rattle.papaya_owes.specs.Given.Settles.Entries.{ShowsEntries}
-use Rattle.papaya_owes.specs.Given.Settles.Hand.{thing_as, ShowsOwed}
-use Rattle.papaya_owes.specs.Given.Settles.Owing.{hands_over}
-use Rattle.papaya_owes.proofs.Given.Settles.DueCalls.{rows_tell_due}
-use Rattle.papaya_owes.proofs.Given.Settles.Hand.All.{own_or_row}
-use Rattle.papaya_owes.proofs.Given.Settles.Takings.{steps_take_out}
+use Rattle.papaya_owes.specs.Given.SettlesDue.{ToPut, RowTells, TellsNone, TellsRetired, TellsDeferred, told_retired, due_in_row, OwnAreMade}
+use Rattle.papaya_owes.specs.Given.SettlesEntries.{ShowsEntries}
+use Rattle.papaya_owes.specs.Given.SettlesHand.{thing_as, ShowsOwed}
+use Rattle.papaya_owes.specs.Given.SettlesOwing.{hands_over}
+use Rattle.papaya_owes.proofs.Given.SettlesDueCalls.{rows_tell_due}
+use Rattle.papaya_owes.proofs.Given.SettlesHand.All.{own_or_row}
+use Rattle.papaya_owes.proofs.Given.SettlesTakings.{steps_take_out}
 use Rattle.papaya_finds.specs.Waits.{IsHeldPast, ShowsWaits, FindsBehind, FindBehind}
 use Rattle.papaya_finds.proofs.Quiet.{neither}
 use Rattle.papaya_finds.proofs.Waits.Due.{row_due}
 use Rattle.papaya_finds.specs.Puts.{ShowsPuts, CallsPutBehind}
-use Rattle.papaya_owes.specs.Given.Scenes.Held.{Held, IsAt}
-use Rattle.papaya_owes.specs.Given.Scenes.Scene.{Scene}
-use Rattle.papaya_owes.specs.Given.Scenes.Stepping.{StepLeads}
+use Rattle.papaya_owes.specs.Given.ScenesHeld.{Held, IsAt}
+use Rattle.papaya_owes.specs.Given.ScenesScene.{Scene}
+use Rattle.papaya_owes.specs.Given.ScenesStepping.{StepLeads}
 
 -- an effect that hands nothing over is put behind no table
 module _ {K V : Type 0} where

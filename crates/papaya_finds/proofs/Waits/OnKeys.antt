@@ -1,49 +1,49 @@
 -- After a step of a call on one key a pair that it has in hand lies so: where it lay; or past the root that it has read; or where it was just taken out.
 use Rattle.std.specs.Prelude.{◌≡◌, ℕ, Bool, List, [], ◌∷◌, Some, None}
 use Rattle.std.proofs.Common.{ap, sym, subst, ◌∙◌, inl, inr}
-use Rattle.papaya_owes.specs.Given.Tables.declared.node.Node.{Node}
-use Rattle.papaya_owes.specs.Given.Raw.Call.{call_plan}
-use Rattle.papaya_owes.specs.Given.Raw.Machine.{called as of_key}
-use Rattle.papaya_owes.specs.Given.Raw.declared.machines.answer.Called.{Called}
-use Rattle.papaya_owes.specs.Given.Raw.declared.machines.call.KeyCall.{KeyCall}
-use Rattle.papaya_owes.specs.Given.Raw.declared.machines.machine.Machine.{Machine}
-use Rattle.papaya_owes.specs.Given.Raw.declared.machines.machine.Machine.TheVariants as kinds
-use Rattle.papaya_owes.specs.Given.Raw.declared.machines.progress.Progress.{Progress}
-use Rattle.papaya_owes.specs.Given.Schedules.declared.effect.Effect.{Effect}
-use Rattle.papaya_owes.specs.Given.Schedules.declared.effect.Thing.{Thing}
-use Rattle.papaya_owes.specs.Given.Schedules.declared.effect.Thing.TheVariants.{APair}
-use Rattle.papaya_owes.specs.Given.Schedules.Effects.{with_effects}
-use Rattle.papaya_owes.specs.Given.Schedules.Moment.{Moment}
-use Rattle.papaya_owes.specs.Given.Teller.Tells.{StepsTold}
-use Rattle.papaya_owes.specs.Given.Teller.declared.changed.Changed.{Changed}
-use Rattle.papaya_owes.specs.Given.Teller.declared.changed.Changed.TheVariants as changed
-use Rattle.papaya_owes.specs.Given.Rule.Words.{Blocks}
-use Rattle.papaya_owes.specs.Given.Callers.Sights.{seen_by}
-use Rattle.papaya_owes.specs.Given.Callers.Together.{CallOnKey, OnKey, Stands, Together}
-use Rattle.papaya_owes.specs.Given.Effects.Effects.{effects_of}
-use Rattle.papaya_owes.specs.Given.Effects.Known.{Known}
-use Rattle.papaya_owes.specs.Given.Effects.declared.acting.Acting.TheVariants as acts
-use Rattle.papaya_owes.specs.Given.Finishes.Maps.{Standing}
-use Rattle.papaya_owes.proofs.Given.Follows.Steps.{WentTo, went_to, made_so, is_inside, DidSo, OfNoRow}
-use Rattle.papaya_owes.specs.Given.Moments.Whole.{ShowsWhole}
-use Rattle.papaya_owes.proofs.Given.Others.Outcomes.{told_in}
-use Rattle.papaya_owes.specs.Given.Settles.Due.{OwnAreMade}
-use Rattle.papaya_owes.specs.Given.Settles.Entries.{ShowsEntries}
-use Rattle.papaya_owes.specs.Given.Settles.Hand.{in_hand, in_hand_of_call, ShowsOwed}
-use Rattle.papaya_owes.specs.Given.Settles.InHand.{pair_in_calling, TakesPair}
-use Rattle.papaya_owes.proofs.Given.Settles.Hand.All.{own_or_row, key_rests}
-use Rattle.papaya_owes.proofs.Given.Settles.Taken.{calls_take_in_hand}
+use Rattle.papaya_owes.specs.Given.TablesDeclared.node.Node.{Node}
+use Rattle.papaya_owes.specs.Given.RawCall.{call_plan}
+use Rattle.papaya_owes.specs.Given.RawMachine.{called as of_key}
+use Rattle.papaya_owes.specs.Given.RawDeclared.machines.answer.Called.{Called}
+use Rattle.papaya_owes.specs.Given.RawDeclared.machines.call.KeyCall.{KeyCall}
+use Rattle.papaya_owes.specs.Given.RawDeclared.machines.machine.Machine.{Machine}
+use Rattle.papaya_owes.specs.Given.RawDeclared.machines.machine.Machine.TheVariants as kinds
+use Rattle.papaya_owes.specs.Given.RawDeclared.machines.progress.Progress.{Progress}
+use Rattle.papaya_owes.specs.Given.SchedulesDeclared.effect.Effect.{Effect}
+use Rattle.papaya_owes.specs.Given.SchedulesDeclared.effect.Thing.{Thing}
+use Rattle.papaya_owes.specs.Given.SchedulesDeclared.effect.Thing.TheVariants.{APair}
+use Rattle.papaya_owes.specs.Given.SchedulesEffects.{with_effects}
+use Rattle.papaya_owes.specs.Given.SchedulesMoment.{Moment}
+use Rattle.papaya_owes.specs.Given.TellerTells.{StepsTold}
+use Rattle.papaya_owes.specs.Given.TellerDeclared.changed.Changed.{Changed}
+use Rattle.papaya_owes.specs.Given.TellerDeclared.changed.Changed.TheVariants as changed
+use Rattle.papaya_owes.specs.Given.RuleWords.{Blocks}
+use Rattle.papaya_owes.specs.Given.CallersSights.{seen_by}
+use Rattle.papaya_owes.specs.Given.CallersTogether.{CallOnKey, OnKey, Stands, Together}
+use Rattle.papaya_owes.specs.Given.EffectsEffects.{effects_of}
+use Rattle.papaya_owes.specs.Given.EffectsKnown.{Known}
+use Rattle.papaya_owes.specs.Given.EffectsDeclared.acting.Acting.TheVariants as acts
+use Rattle.papaya_owes.specs.Given.FinishesMaps.{Standing}
+use Rattle.papaya_owes.proofs.Given.FollowsSteps.{WentTo, went_to, made_so, is_inside, DidSo, OfNoRow}
+use Rattle.papaya_owes.specs.Given.MomentsWhole.{ShowsWhole}
+use Rattle.papaya_owes.proofs.Given.OthersOutcomes.{told_in}
+use Rattle.papaya_owes.specs.Given.SettlesDue.{OwnAreMade}
+use Rattle.papaya_owes.specs.Given.SettlesEntries.{ShowsEntries}
+use Rattle.papaya_owes.specs.Given.SettlesHand.{in_hand, in_hand_of_call, ShowsOwed}
+use Rattle.papaya_owes.specs.Given.SettlesInHand.{pair_in_calling, TakesPair}
+use Rattle.papaya_owes.proofs.Given.SettlesHand.All.{own_or_row, key_rests}
+use Rattle.papaya_owes.proofs.Given.SettlesTaken.{calls_take_in_hand}
 use Rattle.papaya_finds.specs.Waits.{waits_in_calling, waits_in, pair_in, IsHeldPast, ShowsWaits}
 use Rattle.papaya_owes.proofs.Known.{key_tries, key_reads}
 use Rattle.papaya_finds.proofs.Waits.Keys.{KeyWaits, HandNone, HandAlike, HandPast, HandNew, step_hands}
 use Rattle.papaya_finds.proofs.Waits.Owes.{OwedBefore, OwedIt, OwedNone, OwedMore, call_one, call_some}
 use Rattle.papaya_finds.proofs.Waits.Taken.{TookPair, took_pair}
 use Rattle.papaya_finds.proofs.Waits.Calls.{before, lay, lies_then, past_then, took_then, row_takes_none}
-use Rattle.papaya_owes.specs.Given.Points.FactsCalls.{IsCopying}
-use Rattle.papaya_owes.specs.Given.Points.Told.{IsRowOfCall}
-use Rattle.papaya_owes.specs.Given.Scenes.Held.{Held, IsAt}
-use Rattle.papaya_owes.specs.Given.Scenes.Scene.{Scene, slot_of}
-use Rattle.papaya_owes.specs.Given.Scenes.Stepping.{StepLeads}
+use Rattle.papaya_owes.specs.Given.PointsFactsCalls.{IsCopying}
+use Rattle.papaya_owes.specs.Given.PointsTold.{IsRowOfCall}
+use Rattle.papaya_owes.specs.Given.ScenesHeld.{Held, IsAt}
+use Rattle.papaya_owes.specs.Given.ScenesScene.{Scene, slot_of}
+use Rattle.papaya_owes.specs.Given.ScenesStepping.{StepLeads}
 
 module _ {K V : Type 0} (same : K → K → Bool) (hash : ℕ → K → ℕ) (name : ℕ → List ℕ) (m : Moment K V) (known : Known) (s : Scene K V) (old new : Held K V) (at_old : IsAt same hash old s)
     (whole : ShowsWhole same name m known s) (entries : ShowsEntries s) (owning : OwnAreMade known s.world) (owes : ShowsOwed name m known s) (waits : ShowsWaits name m s)

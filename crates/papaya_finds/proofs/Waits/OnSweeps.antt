@@ -1,51 +1,51 @@
 -- After a step of a sweep a pair that it has in hand lies so: where it lay; or past the root that it has read; or where it was just taken out.
 use Rattle.std.specs.Prelude.{◌≡◌, ℕ, Bool, List, [], ◌∷◌, Some, None}
 use Rattle.std.proofs.Common.{ap, sym, subst, ◌∙◌, inl, inr}
-use Rattle.papaya_owes.specs.Given.Tables.declared.node.Node.{Node}
-use Rattle.papaya_owes.specs.Given.Sweeps.Sweep.{sweep_plan}
-use Rattle.papaya_owes.specs.Given.Sweeps.declared.sweep.Sweep.{Sweep}
-use Rattle.papaya_owes.specs.Given.Sweeps.declared.sweep.Swept.{Swept}
-use Rattle.papaya_owes.specs.Given.Raw.Machine.{swept as of_sweep}
-use Rattle.papaya_owes.specs.Given.Raw.declared.machines.machine.Machine.{Machine}
-use Rattle.papaya_owes.specs.Given.Raw.declared.machines.machine.Machine.TheVariants as kinds
-use Rattle.papaya_owes.specs.Given.Raw.declared.machines.progress.Progress.{Progress}
-use Rattle.papaya_owes.specs.Given.Schedules.declared.effect.Effect.{Effect}
-use Rattle.papaya_owes.specs.Given.Schedules.declared.effect.Thing.{Thing}
-use Rattle.papaya_owes.specs.Given.Schedules.declared.effect.Thing.TheVariants.{APair}
-use Rattle.papaya_owes.specs.Given.Schedules.Effects.{with_effects}
-use Rattle.papaya_owes.specs.Given.Schedules.Moment.{Moment}
-use Rattle.papaya_owes.specs.Given.Teller.Tells.{StepsTold}
-use Rattle.papaya_owes.specs.Given.Teller.declared.changed.Changed.{Changed}
-use Rattle.papaya_owes.specs.Given.Teller.declared.changed.Changed.TheVariants as changed
-use Rattle.papaya_owes.specs.Given.Rule.Words.{Blocks}
-use Rattle.papaya_owes.specs.Given.Callers.OverAll.{CallOverAll}
-use Rattle.papaya_owes.specs.Given.Callers.Sights.{seen_by}
-use Rattle.papaya_owes.specs.Given.Callers.Together.{OverAll, Stands, Together}
-use Rattle.papaya_owes.specs.Given.Effects.Effects.{effects_of}
-use Rattle.papaya_owes.specs.Given.Effects.Known.{Known}
-use Rattle.papaya_owes.specs.Given.Effects.declared.acting.Acting.TheVariants as acts
-use Rattle.papaya_owes.specs.Given.Finishes.Maps.{Standing}
-use Rattle.papaya_owes.proofs.Given.Follows.Steps.{WentTo, went_to, made_so, is_inside, DidSo, OfNoRow}
-use Rattle.papaya_owes.specs.Given.Moments.Whole.{ShowsWhole}
-use Rattle.papaya_owes.proofs.Given.Others.Outcomes.{told_in}
-use Rattle.papaya_owes.specs.Given.Settles.Due.{OwnAreMade}
-use Rattle.papaya_owes.specs.Given.Settles.Entries.{ShowsEntries}
-use Rattle.papaya_owes.specs.Given.Settles.Hand.{in_hand, in_hand_of_sweep, ShowsOwed}
-use Rattle.papaya_owes.specs.Given.Settles.InHand.{pair_in_sweeping, TakesPair}
-use Rattle.papaya_owes.proofs.Given.Settles.Hand.All.{own_or_row, sweep_rests}
+use Rattle.papaya_owes.specs.Given.TablesDeclared.node.Node.{Node}
+use Rattle.papaya_owes.specs.Given.SweepsSweep.{sweep_plan}
+use Rattle.papaya_owes.specs.Given.SweepsDeclared.sweep.Sweep.{Sweep}
+use Rattle.papaya_owes.specs.Given.SweepsDeclared.sweep.Swept.{Swept}
+use Rattle.papaya_owes.specs.Given.RawMachine.{swept as of_sweep}
+use Rattle.papaya_owes.specs.Given.RawDeclared.machines.machine.Machine.{Machine}
+use Rattle.papaya_owes.specs.Given.RawDeclared.machines.machine.Machine.TheVariants as kinds
+use Rattle.papaya_owes.specs.Given.RawDeclared.machines.progress.Progress.{Progress}
+use Rattle.papaya_owes.specs.Given.SchedulesDeclared.effect.Effect.{Effect}
+use Rattle.papaya_owes.specs.Given.SchedulesDeclared.effect.Thing.{Thing}
+use Rattle.papaya_owes.specs.Given.SchedulesDeclared.effect.Thing.TheVariants.{APair}
+use Rattle.papaya_owes.specs.Given.SchedulesEffects.{with_effects}
+use Rattle.papaya_owes.specs.Given.SchedulesMoment.{Moment}
+use Rattle.papaya_owes.specs.Given.TellerTells.{StepsTold}
+use Rattle.papaya_owes.specs.Given.TellerDeclared.changed.Changed.{Changed}
+use Rattle.papaya_owes.specs.Given.TellerDeclared.changed.Changed.TheVariants as changed
+use Rattle.papaya_owes.specs.Given.RuleWords.{Blocks}
+use Rattle.papaya_owes.specs.Given.CallersOverAll.{CallOverAll}
+use Rattle.papaya_owes.specs.Given.CallersSights.{seen_by}
+use Rattle.papaya_owes.specs.Given.CallersTogether.{OverAll, Stands, Together}
+use Rattle.papaya_owes.specs.Given.EffectsEffects.{effects_of}
+use Rattle.papaya_owes.specs.Given.EffectsKnown.{Known}
+use Rattle.papaya_owes.specs.Given.EffectsDeclared.acting.Acting.TheVariants as acts
+use Rattle.papaya_owes.specs.Given.FinishesMaps.{Standing}
+use Rattle.papaya_owes.proofs.Given.FollowsSteps.{WentTo, went_to, made_so, is_inside, DidSo, OfNoRow}
+use Rattle.papaya_owes.specs.Given.MomentsWhole.{ShowsWhole}
+use Rattle.papaya_owes.proofs.Given.OthersOutcomes.{told_in}
+use Rattle.papaya_owes.specs.Given.SettlesDue.{OwnAreMade}
+use Rattle.papaya_owes.specs.Given.SettlesEntries.{ShowsEntries}
+use Rattle.papaya_owes.specs.Given.SettlesHand.{in_hand, in_hand_of_sweep, ShowsOwed}
+use Rattle.papaya_owes.specs.Given.SettlesInHand.{pair_in_sweeping, TakesPair}
+use Rattle.papaya_owes.proofs.Given.SettlesHand.All.{own_or_row, sweep_rests}
 use Rattle.papaya_finds.specs.Waits.{waits_in_sweeping, waits_in, pair_in, IsHeldPast, ShowsWaits}
 use Rattle.papaya_owes.proofs.Known.{sweep_tries, sweep_reads}
 use Rattle.papaya_finds.proofs.Waits.Owes.{OwedBefore, OwedIt, OwedNone, OwedMore, sweep_one, sweep_some, sweep_noted}
 use Rattle.papaya_finds.proofs.Waits.Sweeps.{SweepWaits, SweptNone, SweptAlike, SweptPast, SweptNew, step_hands as sweep_step}
 use Rattle.papaya_finds.proofs.Waits.Taken.{TookPair, took_pair}
 use Rattle.papaya_finds.proofs.Waits.Calls.{before, lay, lies_then, past_then, took_then, row_takes_none}
-use Rattle.papaya_owes.specs.Given.Late.ToldSweeps.{IsRowOfSweep}
-use Rattle.papaya_owes.specs.Given.Sweeps.declared.sweep.Sweeping.TheVariants as sweeping
-use Rattle.papaya_owes.specs.Given.Resize.declared.copier.Copier.{Copier}
-use Rattle.papaya_owes.specs.Given.Tables.declared.marks.TheConstants.{TOMBSTONE}
-use Rattle.papaya_owes.specs.Given.Scenes.Held.{Held, IsAt}
-use Rattle.papaya_owes.specs.Given.Scenes.Scene.{Scene, slot_of}
-use Rattle.papaya_owes.specs.Given.Scenes.Stepping.{StepLeads}
+use Rattle.papaya_owes.specs.Given.LateToldSweeps.{IsRowOfSweep}
+use Rattle.papaya_owes.specs.Given.SweepsDeclared.sweep.Sweeping.TheVariants as sweeping
+use Rattle.papaya_owes.specs.Given.ResizeDeclared.copier.Copier.{Copier}
+use Rattle.papaya_owes.specs.Given.TablesDeclared.marks.TheConstants.{TOMBSTONE}
+use Rattle.papaya_owes.specs.Given.ScenesHeld.{Held, IsAt}
+use Rattle.papaya_owes.specs.Given.ScenesScene.{Scene, slot_of}
+use Rattle.papaya_owes.specs.Given.ScenesStepping.{StepLeads}
 
 module _ {K V : Type 0} (same : K → K → Bool) (hash : ℕ → K → ℕ) (name : ℕ → List ℕ) (m : Moment K V) (known : Known) (s : Scene K V) (old new : Held K V) (at_old : IsAt same hash old s)
     (whole : ShowsWhole same name m known s) (entries : ShowsEntries s) (owning : OwnAreMade known s.world) (owes : ShowsOwed name m known s) (waits : ShowsWaits name m s)

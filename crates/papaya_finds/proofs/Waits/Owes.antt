@@ -2,27 +2,27 @@
 use Rattle.std.specs.Prelude.{◌≡◌, ℕ, ◌==◌, List, [], ◌∷◌, ◌++◌, Option, Some, None}
 use Rattle.std.proofs.Common.{refl, ap, sym, subst, ◌∙◌, inl, inr, arith}
 use Rattle.std.proofs.lemmas.Bool.{eq-eqb}
-use Rattle.papaya_owes.specs.Given.SeizeWords.Word.{block_in}
-use Rattle.papaya_owes.specs.Given.Sweeps.declared.sweep.Sweeping.{Sweeping}
-use Rattle.papaya_owes.specs.Given.Sweeps.declared.sweep.Sweeping.TheVariants as sweeping
-use Rattle.papaya_owes.specs.Given.Resize.declared.copier.Copier.{Copier}
-use Rattle.papaya_owes.specs.Given.Raw.declared.machines.call.Calling.{Calling}
-use Rattle.papaya_owes.specs.Given.Raw.declared.machines.call.Calling.TheVariants as calling
-use Rattle.papaya_owes.specs.Given.Schedules.declared.effect.Effect.{Effect}
-use Rattle.papaya_owes.specs.Given.Schedules.declared.effect.Thing.{Thing}
-use Rattle.papaya_owes.specs.Given.Schedules.declared.effect.Thing.TheVariants.{APair}
-use Rattle.papaya_owes.specs.Given.Schedules.Effects.{passed}
-use Rattle.papaya_owes.specs.Given.Schedules.Moment.{Moment}
-use Rattle.papaya_owes.specs.Given.Schedules.Views.{first_of}
-use Rattle.papaya_owes.specs.Given.Points.FactsCalls.{IsCopying}
-use Rattle.papaya_owes.specs.Given.Effects.Effects.{carried}
-use Rattle.papaya_owes.specs.Given.Effects.Known.{Known}
-use Rattle.papaya_owes.specs.Given.Effects.declared.role.Role.{Role}
-use Rattle.papaya_owes.specs.Given.Effects.declared.role.Role.TheVariants as role
-use Rattle.papaya_owes.specs.Given.Settles.Due.{Due, RowTells, TellsNone, TellsRetired, TellsDeferred, told_retired}
-use Rattle.papaya_owes.specs.Given.Settles.Hand.{thing_as, things_at, in_hand_of_call, in_hand_of_sweep, IsPairRole, NotesPair, NotesOfSweep}
-use Rattle.papaya_owes.specs.Given.Settles.InHand.{pair_in_calling, pair_in_sweeping, TakesPair}
-use Rattle.papaya_owes.specs.Given.Settles.Owing.{OwesGo, KeepsOwed, TakesOut, PutsOver, Passes, HandsFirst}
+use Rattle.papaya_owes.specs.Given.SeizeWordsWord.{block_in}
+use Rattle.papaya_owes.specs.Given.SweepsDeclared.sweep.Sweeping.{Sweeping}
+use Rattle.papaya_owes.specs.Given.SweepsDeclared.sweep.Sweeping.TheVariants as sweeping
+use Rattle.papaya_owes.specs.Given.ResizeDeclared.copier.Copier.{Copier}
+use Rattle.papaya_owes.specs.Given.RawDeclared.machines.call.Calling.{Calling}
+use Rattle.papaya_owes.specs.Given.RawDeclared.machines.call.Calling.TheVariants as calling
+use Rattle.papaya_owes.specs.Given.SchedulesDeclared.effect.Effect.{Effect}
+use Rattle.papaya_owes.specs.Given.SchedulesDeclared.effect.Thing.{Thing}
+use Rattle.papaya_owes.specs.Given.SchedulesDeclared.effect.Thing.TheVariants.{APair}
+use Rattle.papaya_owes.specs.Given.SchedulesEffects.{passed}
+use Rattle.papaya_owes.specs.Given.SchedulesMoment.{Moment}
+use Rattle.papaya_owes.specs.Given.SchedulesViews.{first_of}
+use Rattle.papaya_owes.specs.Given.PointsFactsCalls.{IsCopying}
+use Rattle.papaya_owes.specs.Given.EffectsEffects.{carried}
+use Rattle.papaya_owes.specs.Given.EffectsKnown.{Known}
+use Rattle.papaya_owes.specs.Given.EffectsDeclared.role.Role.{Role}
+use Rattle.papaya_owes.specs.Given.EffectsDeclared.role.Role.TheVariants as role
+use Rattle.papaya_owes.specs.Given.SettlesDue.{Due, RowTells, TellsNone, TellsRetired, TellsDeferred, told_retired}
+use Rattle.papaya_owes.specs.Given.SettlesHand.{thing_as, things_at, in_hand_of_call, in_hand_of_sweep, IsPairRole, NotesPair, NotesOfSweep}
+use Rattle.papaya_owes.specs.Given.SettlesInHand.{pair_in_calling, pair_in_sweeping, TakesPair}
+use Rattle.papaya_owes.specs.Given.SettlesOwing.{OwesGo, KeepsOwed, TakesOut, PutsOver, Passes, HandsFirst}
 use Rattle.papaya_finds.specs.Waiting.{once_if, owed_in}
 use Rattle.papaya_finds.proofs.Owed.{passed_none}
 

@@ -1,54 +1,54 @@
 -- After a step of a call, each call whose row is to put a pair behind a table is to put it behind the one just before that in which the pair lies.
 use Rattle.std.specs.Prelude.{◌≡◌, ℕ, Bool, List, Option, Some}
 use Rattle.std.proofs.Common.{refl, ap, sym, subst, ◌∙◌, inl, inr}
-use Rattle.papaya_owes.specs.Given.Tables.declared.node.Node.{Node}
-use Rattle.papaya_owes.specs.Given.Sweeps.Sweep.{sweep_plan}
-use Rattle.papaya_owes.specs.Given.Sweeps.declared.sweep.Sweep.{Sweep}
-use Rattle.papaya_owes.specs.Given.Raw.Call.{call_plan}
-use Rattle.papaya_owes.specs.Given.Raw.Machine.{called as of_key, swept as of_sweep, reserved as of_room, counted as of_sum}
-use Rattle.papaya_owes.specs.Given.Raw.declared.machines.call.KeyCall.{KeyCall}
-use Rattle.papaya_owes.specs.Given.Raw.declared.machines.machine.Machine.{Machine}
-use Rattle.papaya_owes.specs.Given.Raw.declared.machines.machine.Machine.TheVariants as kinds
-use Rattle.papaya_owes.specs.Given.Raw.declared.machines.progress.Progress.{Progress}
-use Rattle.papaya_owes.specs.Given.Schedules.declared.effect.Effect.{Effect}
-use Rattle.papaya_owes.specs.Given.Schedules.Effects.{with_effects}
-use Rattle.papaya_owes.specs.Given.Schedules.Moment.{Moment}
-use Rattle.papaya_owes.specs.Given.Rule.Words.{Blocks}
-use Rattle.papaya_owes.specs.Given.Callers.OverAll.{CallOverAll}
-use Rattle.papaya_owes.specs.Given.Callers.Sights.{seen_by}
-use Rattle.papaya_owes.specs.Given.Callers.Together.{CallOnKey, UnderWay, OnKey, OverAll, Together, ForRoom, Counting}
-use Rattle.papaya_owes.specs.Given.Effects.Effects.{effects_of, known_after}
-use Rattle.papaya_owes.specs.Given.Effects.Known.{Known}
-use Rattle.papaya_owes.specs.Given.Effects.declared.acting.Acting.TheVariants as acts
-use Rattle.papaya_owes.specs.Given.Finishes.Machines.{machine_of}
-use Rattle.papaya_owes.specs.Given.Finishes.Maps.{Standing}
-use Rattle.papaya_owes.proofs.Given.Follows.Steps.{WentTo, went_to, DidSo, OfNoRow}
-use Rattle.papaya_owes.specs.Given.Moments.Whole.{ShowsWhole}
-use Rattle.papaya_owes.proofs.Given.Others.Outcomes.{told_in}
-use Rattle.papaya_owes.specs.Given.Settles.Due.{RowTells, TellsNone, TellsRetired, TellsDeferred, due_in_row, OwnAreMade, ToPut, due_in_calling, due_in_sweeping}
-use Rattle.papaya_owes.specs.Given.Settles.Entries.{ShowsEntries}
-use Rattle.papaya_owes.proofs.Given.Settles.DueCalls.{rows_tell_due}
-use Rattle.papaya_owes.proofs.Given.Settles.Hand.All.{own_or_row}
+use Rattle.papaya_owes.specs.Given.TablesDeclared.node.Node.{Node}
+use Rattle.papaya_owes.specs.Given.SweepsSweep.{sweep_plan}
+use Rattle.papaya_owes.specs.Given.SweepsDeclared.sweep.Sweep.{Sweep}
+use Rattle.papaya_owes.specs.Given.RawCall.{call_plan}
+use Rattle.papaya_owes.specs.Given.RawMachine.{called as of_key, swept as of_sweep, reserved as of_room, counted as of_sum}
+use Rattle.papaya_owes.specs.Given.RawDeclared.machines.call.KeyCall.{KeyCall}
+use Rattle.papaya_owes.specs.Given.RawDeclared.machines.machine.Machine.{Machine}
+use Rattle.papaya_owes.specs.Given.RawDeclared.machines.machine.Machine.TheVariants as kinds
+use Rattle.papaya_owes.specs.Given.RawDeclared.machines.progress.Progress.{Progress}
+use Rattle.papaya_owes.specs.Given.SchedulesDeclared.effect.Effect.{Effect}
+use Rattle.papaya_owes.specs.Given.SchedulesEffects.{with_effects}
+use Rattle.papaya_owes.specs.Given.SchedulesMoment.{Moment}
+use Rattle.papaya_owes.specs.Given.RuleWords.{Blocks}
+use Rattle.papaya_owes.specs.Given.CallersOverAll.{CallOverAll}
+use Rattle.papaya_owes.specs.Given.CallersSights.{seen_by}
+use Rattle.papaya_owes.specs.Given.CallersTogether.{CallOnKey, UnderWay, OnKey, OverAll, Together, ForRoom, Counting}
+use Rattle.papaya_owes.specs.Given.EffectsEffects.{effects_of, known_after}
+use Rattle.papaya_owes.specs.Given.EffectsKnown.{Known}
+use Rattle.papaya_owes.specs.Given.EffectsDeclared.acting.Acting.TheVariants as acts
+use Rattle.papaya_owes.specs.Given.FinishesMachines.{machine_of}
+use Rattle.papaya_owes.specs.Given.FinishesMaps.{Standing}
+use Rattle.papaya_owes.proofs.Given.FollowsSteps.{WentTo, went_to, DidSo, OfNoRow}
+use Rattle.papaya_owes.specs.Given.MomentsWhole.{ShowsWhole}
+use Rattle.papaya_owes.proofs.Given.OthersOutcomes.{told_in}
+use Rattle.papaya_owes.specs.Given.SettlesDue.{RowTells, TellsNone, TellsRetired, TellsDeferred, due_in_row, OwnAreMade, ToPut, due_in_calling, due_in_sweeping}
+use Rattle.papaya_owes.specs.Given.SettlesEntries.{ShowsEntries}
+use Rattle.papaya_owes.proofs.Given.SettlesDueCalls.{rows_tell_due}
+use Rattle.papaya_owes.proofs.Given.SettlesHand.All.{own_or_row}
 use Rattle.papaya_finds.specs.Waits.{waits_in_calling, waits_in_sweeping, waits_in}
 use Rattle.papaya_finds.proofs.Waits.Keys.{KeyWaits, HandNone, HandAlike, HandPast, HandNew, step_hands}
 use Rattle.papaya_finds.proofs.Waits.Sweeps.{SweepWaits, SweptNone, SweptAlike, SweptPast, SweptNew, step_hands as sweep_step}
-use Rattle.papaya_owes.specs.Given.Reserves.Reserve.{reserve_plan}
-use Rattle.papaya_owes.specs.Given.Resize.Sum.{sum_plan}
-use Rattle.papaya_owes.specs.Given.Resize.declared.sum.Sum.{Sum}
-use Rattle.papaya_owes.specs.Given.Callers.Rooms.{CallForRoom}
-use Rattle.papaya_owes.proofs.Given.Hands.Asking.{which}
-use Rattle.papaya_owes.proofs.Given.Settles.Calls.{goes_as_one}
-use Rattle.papaya_owes.specs.Given.SeizeWords.declared.at.At.{At}
-use Rattle.papaya_owes.specs.Given.Seize.World.{World, Row, Rests, IsInside}
-use Rattle.papaya_owes.proofs.Given.Callers.Together.Users.{events_rows}
-use Rattle.papaya_owes.proofs.Given.Follows.Onward.{IsLasting, KeepsRoles}
-use Rattle.papaya_owes.proofs.Given.Histories.Steps.{led_on}
-use Rattle.papaya_owes.proofs.Given.Moments.Calls.{calls_keep_whole}
+use Rattle.papaya_owes.specs.Given.ReservesReserve.{reserve_plan}
+use Rattle.papaya_owes.specs.Given.ResizeSum.{sum_plan}
+use Rattle.papaya_owes.specs.Given.ResizeDeclared.sum.Sum.{Sum}
+use Rattle.papaya_owes.specs.Given.CallersRooms.{CallForRoom}
+use Rattle.papaya_owes.proofs.Given.HandsAsking.{which}
+use Rattle.papaya_owes.proofs.Given.SettlesCalls.{goes_as_one}
+use Rattle.papaya_owes.specs.Given.SeizeWordsDeclared.at.At.{At}
+use Rattle.papaya_owes.specs.Given.SeizeWorld.{World, Row, Rests, IsInside}
+use Rattle.papaya_owes.proofs.Given.CallersTogether.Users.{events_rows}
+use Rattle.papaya_owes.proofs.Given.FollowsOnward.{IsLasting, KeepsRoles}
+use Rattle.papaya_owes.proofs.Given.HistoriesSteps.{led_on}
+use Rattle.papaya_owes.proofs.Given.MomentsCalls.{calls_keep_whole}
 use Rattle.papaya_finds.specs.Puts.{IsBehindNext, ShowsPuts, PutsStay, CallsKeepPuts}
 use Rattle.papaya_finds.proofs.Waits.Behind.{IsBehind, key_behind, sweep_behind, room_never, call_put, sweep_put}
-use Rattle.papaya_owes.specs.Given.Scenes.Held.{Held, IsAt}
-use Rattle.papaya_owes.specs.Given.Scenes.Scene.{Scene, slot_of}
-use Rattle.papaya_owes.specs.Given.Scenes.Stepping.{StepLeads, StepsFrom, scene_after}
+use Rattle.papaya_owes.specs.Given.ScenesHeld.{Held, IsAt}
+use Rattle.papaya_owes.specs.Given.ScenesScene.{Scene, slot_of}
+use Rattle.papaya_owes.specs.Given.ScenesStepping.{StepLeads, StepsFrom, scene_after}
 
 module _ {K V : Type 0} (same : K → K → Bool) (hash : ℕ → K → ℕ) (name : ℕ → List ℕ) (m : Moment K V) (known : Known) (s : Scene K V) (old new : Held K V) (at_old : IsAt same hash old s)
     (whole : ShowsWhole same name m known s) (entries : ShowsEntries s) (owning : OwnAreMade known s.world) (puts : ShowsPuts known s)

@@ -1,45 +1,45 @@
 -- A step of a sweep: which pair it has in hand then, by where it stood.
 use Rattle.std.specs.Prelude.{◌≡◌, ℕ, ◌==◌, nat_lt, ◌&&◌, ◌≤◌, Bool, true, false, Some, None, Ok, Err, if◌then◌else◌}
 use Rattle.std.proofs.Common.{refl, ap, sym, subst, ◌∙◌}
-use Rattle.papaya_owes.specs.Given.SeizeWords.Mem.{Mem, value_at, word_at}
-use Rattle.papaya_owes.specs.Given.SeizeWords.Op.{Out, Exchange, Found, Exchanged}
-use Rattle.papaya_owes.specs.Given.SeizeWords.Plan.{Ends}
-use Rattle.papaya_owes.specs.Given.SeizeWords.Word.{block_in}
-use Rattle.papaya_owes.specs.Given.SeizeWords.declared.at.At.TheVariants.{Root}
-use Rattle.papaya_owes.specs.Given.Seize.declared.rows.settle.Settled.{Settled}
-use Rattle.papaya_owes.specs.Given.Seize.declared.rows.settle.Settled.TheVariants as settling
-use Rattle.papaya_owes.specs.Given.Tables.Chunks.{is_incremental}
-use Rattle.papaya_owes.specs.Given.Tables.Marks.{has_mark}
-use Rattle.papaya_owes.specs.Given.Tables.Nodes.{table_seen}
-use Rattle.papaya_owes.specs.Given.Tables.TablePlaces.{at_place}
-use Rattle.papaya_owes.specs.Given.Tables.declared.marks.TheConstants.{COPYING, TOMBSTONE}
-use Rattle.papaya_owes.specs.Given.Tables.declared.node.Node.{Node}
-use Rattle.papaya_owes.specs.Given.Tables.declared.table.Table.{Table}
-use Rattle.papaya_owes.specs.Given.Resize.Copier.{copier_plan}
-use Rattle.papaya_owes.specs.Given.Resize.Dispose.{disposing, dispose_plan}
-use Rattle.papaya_owes.specs.Given.Resize.declared.copier.Copier.{Copier}
-use Rattle.papaya_owes.specs.Given.Resize.declared.dispose.Dispose.{Dispose}
-use Rattle.papaya_owes.specs.Given.Resize.declared.dispose.Disposing.TheVariants as disposal
-use Rattle.papaya_owes.specs.Given.Resize.declared.outcome.Outcome.{Outcome}
-use Rattle.papaya_owes.specs.Given.Resize.declared.outcome.Outcome.TheVariants as outcome
-use Rattle.papaya_owes.specs.Given.Sweeps.Sweep as sweeps
-use Rattle.papaya_owes.specs.Given.Sweeps.SweepPoints as points
-use Rattle.papaya_owes.specs.Given.Sweeps.declared.sweep.Purpose.{Purpose}
-use Rattle.papaya_owes.specs.Given.Sweeps.declared.sweep.Purpose.TheVariants.{Walks, Clears, Retains}
-use Rattle.papaya_owes.specs.Given.Sweeps.declared.sweep.Sweep.{Sweep}
-use Rattle.papaya_owes.specs.Given.Sweeps.declared.sweep.Sweeping.{Sweeping}
-use Rattle.papaya_owes.specs.Given.Sweeps.declared.sweep.Sweeping.TheVariants as at
-use Rattle.papaya_owes.specs.Given.Sweeps.declared.sweep.Swept.{Swept}
-use Rattle.papaya_owes.proofs.Given.Rule.Keys.Always.{Always, AlwaysOf, always_if, always_plan_as, always_steps}
-use Rattle.papaya_owes.specs.Given.Teller.Tells.{StepsTold, ToldAs}
-use Rattle.papaya_owes.specs.Given.Teller.declared.changed.Changed.{Changed}
-use Rattle.papaya_owes.specs.Given.Teller.declared.changed.Changed.TheVariants as changes
-use Rattle.papaya_owes.specs.Given.Late.ToldSweeps.{IsRowOfSweep}
-use Rattle.papaya_owes.proofs.Given.Others.Outcomes.{told_in}
-use Rattle.papaya_owes.specs.Given.Settles.InHand.{pair_in_disposing, pair_in_sweeping}
+use Rattle.papaya_owes.specs.Given.SeizeWordsMem.{Mem, value_at, word_at}
+use Rattle.papaya_owes.specs.Given.SeizeWordsOp.{Out, Exchange, Found, Exchanged}
+use Rattle.papaya_owes.specs.Given.SeizeWordsPlan.{Ends}
+use Rattle.papaya_owes.specs.Given.SeizeWordsWord.{block_in}
+use Rattle.papaya_owes.specs.Given.SeizeWordsDeclared.at.At.TheVariants.{Root}
+use Rattle.papaya_owes.specs.Given.SeizeDeclared.rows.settle.Settled.{Settled}
+use Rattle.papaya_owes.specs.Given.SeizeDeclared.rows.settle.Settled.TheVariants as settling
+use Rattle.papaya_owes.specs.Given.TablesChunks.{is_incremental}
+use Rattle.papaya_owes.specs.Given.TablesMarks.{has_mark}
+use Rattle.papaya_owes.specs.Given.TablesNodes.{table_seen}
+use Rattle.papaya_owes.specs.Given.TablesTablePlaces.{at_place}
+use Rattle.papaya_owes.specs.Given.TablesDeclared.marks.TheConstants.{COPYING, TOMBSTONE}
+use Rattle.papaya_owes.specs.Given.TablesDeclared.node.Node.{Node}
+use Rattle.papaya_owes.specs.Given.TablesDeclared.table.Table.{Table}
+use Rattle.papaya_owes.specs.Given.ResizeCopier.{copier_plan}
+use Rattle.papaya_owes.specs.Given.ResizeDispose.{disposing, dispose_plan}
+use Rattle.papaya_owes.specs.Given.ResizeDeclared.copier.Copier.{Copier}
+use Rattle.papaya_owes.specs.Given.ResizeDeclared.dispose.Dispose.{Dispose}
+use Rattle.papaya_owes.specs.Given.ResizeDeclared.dispose.Disposing.TheVariants as disposal
+use Rattle.papaya_owes.specs.Given.ResizeDeclared.outcome.Outcome.{Outcome}
+use Rattle.papaya_owes.specs.Given.ResizeDeclared.outcome.Outcome.TheVariants as outcome
+use Rattle.papaya_owes.specs.Given.SweepsSweep as sweeps
+use Rattle.papaya_owes.specs.Given.SweepsSweepPoints as points
+use Rattle.papaya_owes.specs.Given.SweepsDeclared.sweep.Purpose.{Purpose}
+use Rattle.papaya_owes.specs.Given.SweepsDeclared.sweep.Purpose.TheVariants.{Walks, Clears, Retains}
+use Rattle.papaya_owes.specs.Given.SweepsDeclared.sweep.Sweep.{Sweep}
+use Rattle.papaya_owes.specs.Given.SweepsDeclared.sweep.Sweeping.{Sweeping}
+use Rattle.papaya_owes.specs.Given.SweepsDeclared.sweep.Sweeping.TheVariants as at
+use Rattle.papaya_owes.specs.Given.SweepsDeclared.sweep.Swept.{Swept}
+use Rattle.papaya_owes.proofs.Given.RuleKeys.Always.{Always, AlwaysOf, always_if, always_plan_as, always_steps}
+use Rattle.papaya_owes.specs.Given.TellerTells.{StepsTold, ToldAs}
+use Rattle.papaya_owes.specs.Given.TellerDeclared.changed.Changed.{Changed}
+use Rattle.papaya_owes.specs.Given.TellerDeclared.changed.Changed.TheVariants as changes
+use Rattle.papaya_owes.specs.Given.LateToldSweeps.{IsRowOfSweep}
+use Rattle.papaya_owes.proofs.Given.OthersOutcomes.{told_in}
+use Rattle.papaya_owes.specs.Given.SettlesInHand.{pair_in_disposing, pair_in_sweeping}
 use Rattle.papaya_finds.specs.Waits.{waits_in_disposing, waits_of, waits_in_sweeping}
 use Rattle.papaya_finds.proofs.Waits.Dispose.{Holding, WaitsGo, WaitsAlike, WaitsOver, WaitsPast, dispose_goes}
-use Rattle.papaya_owes.proofs.Given.Scenes.Told.{as_step}
+use Rattle.papaya_owes.proofs.Given.ScenesTold.{as_step}
 
 -- it has no pair in hand where it has come
 abbrev pub NoneOf : Sweep → Type 0

@@ -2,50 +2,50 @@
 use Rattle.std.specs.Prelude.{◌≡◌, ℕ, ◌<◌, ◌≤◌, Bool, true, false, List, [], ◌∷◌, length, Some}
 use Rattle.std.proofs.Common.{refl, ap, sym, subst, ◌∙◌, inl, inr, arith}
 use Rattle.std.proofs.lemmas.Bool.{cases_lt}
-use Rattle.papaya_owes.specs.Given.SeizeWords.Mem.{Mem}
-use Rattle.papaya_owes.specs.Given.SeizeWords.declared.at.At.{At}
-use Rattle.papaya_owes.specs.Given.Seize.World.{World, IsInside}
-use Rattle.papaya_owes.specs.Given.Tables.Chunks.{is_incremental}
-use Rattle.papaya_owes.specs.Given.Tables.declared.node.Node.{Node}
-use Rattle.papaya_owes.specs.Given.Tables.declared.setting.Setting.{Setting}
-use Rattle.papaya_owes.specs.Given.Schedules.declared.effect.Effect.{Effect}
-use Rattle.papaya_owes.specs.Given.Schedules.declared.effect.Effect.TheVariants as effect
-use Rattle.papaya_owes.specs.Given.Schedules.declared.effect.Spot.{Spot}
-use Rattle.papaya_owes.specs.Given.Schedules.Moment.{Moment}
-use Rattle.papaya_owes.specs.Given.Teller.declared.changed.Changed.{Changed}
-use Rattle.papaya_owes.specs.Given.Teller.declared.changed.Changed.TheVariants as changed
-use Rattle.papaya_owes.specs.Given.Tells.Seen.{Seen, Unseen, Wrote, seen_of}
-use Rattle.papaya_owes.specs.Given.Tells.Tells.{place_at, IsSeenAs, IsTold}
-use Rattle.papaya_owes.proofs.Given.Tells.Promised.{operations_tell, still_steps_tell}
-use Rattle.papaya_owes.specs.Given.Rule.Chart.{Still, Holds, Chart}
-use Rattle.papaya_owes.specs.Given.Rule.InWorld.{IsMapIn, Moved, Went}
-use Rattle.papaya_owes.specs.Given.Rule.Maps.{spot_of}
-use Rattle.papaya_owes.specs.Given.Rule.Moves.{Move, Links, Stores, Replaces, Removes, Marks, MarksBlocking, Skips, Unmarks, Puts, Covers, PutsLate, Claims, Reclaims, Counts, GivesUp, Aborts, Promotes, Announces, MayChange, Allowed}
-use Rattle.papaya_owes.specs.Given.Rule.Rule.{Rule}
-use Rattle.papaya_owes.specs.Given.Rule.Words.{Blocks, place_word}
-use Rattle.papaya_owes.proofs.Given.Rule.Laws.{current_is_known}
-use Rattle.papaya_owes.proofs.Given.Rule.Moves.StoodAlone.{alone_there, never_later}
-use Rattle.papaya_owes.proofs.Given.Rule.World.WentTold.{went_as}
-use Rattle.papaya_owes.specs.Given.Points.Steps.{AreLawful}
-use Rattle.papaya_owes.specs.Given.Callers.Sights.{Sight, seen_by, IsGrown, IsSight}
-use Rattle.papaya_owes.specs.Given.Callers.Together.{in_slot, Together}
-use Rattle.papaya_owes.proofs.Given.Callers.Sights.Seen.{map_seen}
-use Rattle.papaya_owes.proofs.Given.Callers.Together.Fits.{map_in_slot}
-use Rattle.papaya_owes.specs.Given.Effects.Effects.{effects_of}
-use Rattle.papaya_owes.specs.Given.Effects.Known.{Known}
-use Rattle.papaya_owes.specs.Given.Effects.declared.acting.Acting.TheVariants.{Call}
-use Rattle.papaya_owes.specs.Given.Finishes.Maps.{Standing}
-use Rattle.papaya_owes.specs.Given.Follows.Maps.{ShowsMap}
-use Rattle.papaya_owes.specs.Given.Follows.Shows.{Shows}
-use Rattle.papaya_owes.proofs.Given.Follows.Alike.{AllCalm}
-use Rattle.papaya_owes.proofs.Given.Follows.Operations.{LeavesBy, Operated, operated_leaves, seen_write, told_write}
-use Rattle.papaya_owes.proofs.Given.Follows.Stored.{inside, still_current, still_home}
-use Rattle.papaya_owes.specs.Given.Spots.Spots.{named_by, spot_in, LiesAt, ShowsPlaces}
-use Rattle.papaya_owes.proofs.Given.Spots.Done.{DidBy, DidMoved, did_moved}
-use Rattle.papaya_owes.proofs.Given.Spots.Names.{holds_is}
-use Rattle.papaya_owes.specs.Given.Settles.InHand.{TakesPair}
-use Rattle.papaya_owes.specs.Given.Scenes.Held.{Held, IsAt}
-use Rattle.papaya_owes.specs.Given.Scenes.Scene.{Scene, slot_of}
+use Rattle.papaya_owes.specs.Given.SeizeWordsMem.{Mem}
+use Rattle.papaya_owes.specs.Given.SeizeWordsDeclared.at.At.{At}
+use Rattle.papaya_owes.specs.Given.SeizeWorld.{World, IsInside}
+use Rattle.papaya_owes.specs.Given.TablesChunks.{is_incremental}
+use Rattle.papaya_owes.specs.Given.TablesDeclared.node.Node.{Node}
+use Rattle.papaya_owes.specs.Given.TablesDeclared.setting.Setting.{Setting}
+use Rattle.papaya_owes.specs.Given.SchedulesDeclared.effect.Effect.{Effect}
+use Rattle.papaya_owes.specs.Given.SchedulesDeclared.effect.Effect.TheVariants as effect
+use Rattle.papaya_owes.specs.Given.SchedulesDeclared.effect.Spot.{Spot}
+use Rattle.papaya_owes.specs.Given.SchedulesMoment.{Moment}
+use Rattle.papaya_owes.specs.Given.TellerDeclared.changed.Changed.{Changed}
+use Rattle.papaya_owes.specs.Given.TellerDeclared.changed.Changed.TheVariants as changed
+use Rattle.papaya_owes.specs.Given.TellsSeen.{Seen, Unseen, Wrote, seen_of}
+use Rattle.papaya_owes.specs.Given.TellsTells.{place_at, IsSeenAs, IsTold}
+use Rattle.papaya_owes.proofs.Given.TellsPromised.{operations_tell, still_steps_tell}
+use Rattle.papaya_owes.specs.Given.RuleChart.{Still, Holds, Chart}
+use Rattle.papaya_owes.specs.Given.RuleInWorld.{IsMapIn, Moved, Went}
+use Rattle.papaya_owes.specs.Given.RuleMaps.{spot_of}
+use Rattle.papaya_owes.specs.Given.RuleMoves.{Move, Links, Stores, Replaces, Removes, Marks, MarksBlocking, Skips, Unmarks, Puts, Covers, PutsLate, Claims, Reclaims, Counts, GivesUp, Aborts, Promotes, Announces, MayChange, Allowed}
+use Rattle.papaya_owes.specs.Given.RuleRule.{Rule}
+use Rattle.papaya_owes.specs.Given.RuleWords.{Blocks, place_word}
+use Rattle.papaya_owes.proofs.Given.RuleLaws.{current_is_known}
+use Rattle.papaya_owes.proofs.Given.RuleMoves.StoodAlone.{alone_there, never_later}
+use Rattle.papaya_owes.proofs.Given.RuleWorld.WentTold.{went_as}
+use Rattle.papaya_owes.specs.Given.PointsSteps.{AreLawful}
+use Rattle.papaya_owes.specs.Given.CallersSights.{Sight, seen_by, IsGrown, IsSight}
+use Rattle.papaya_owes.specs.Given.CallersTogether.{in_slot, Together}
+use Rattle.papaya_owes.proofs.Given.CallersSights.Seen.{map_seen}
+use Rattle.papaya_owes.proofs.Given.CallersTogether.Fits.{map_in_slot}
+use Rattle.papaya_owes.specs.Given.EffectsEffects.{effects_of}
+use Rattle.papaya_owes.specs.Given.EffectsKnown.{Known}
+use Rattle.papaya_owes.specs.Given.EffectsDeclared.acting.Acting.TheVariants.{Call}
+use Rattle.papaya_owes.specs.Given.FinishesMaps.{Standing}
+use Rattle.papaya_owes.specs.Given.FollowsMaps.{ShowsMap}
+use Rattle.papaya_owes.specs.Given.FollowsShows.{Shows}
+use Rattle.papaya_owes.proofs.Given.FollowsAlike.{AllCalm}
+use Rattle.papaya_owes.proofs.Given.FollowsOperations.{LeavesBy, Operated, operated_leaves, seen_write, told_write}
+use Rattle.papaya_owes.proofs.Given.FollowsStored.{inside, still_current, still_home}
+use Rattle.papaya_owes.specs.Given.SpotsSpots.{named_by, spot_in, LiesAt, ShowsPlaces}
+use Rattle.papaya_owes.proofs.Given.SpotsDone.{DidBy, DidMoved, did_moved}
+use Rattle.papaya_owes.proofs.Given.SpotsNames.{holds_is}
+use Rattle.papaya_owes.specs.Given.SettlesInHand.{TakesPair}
+use Rattle.papaya_owes.specs.Given.ScenesHeld.{Held, IsAt}
+use Rattle.papaya_owes.specs.Given.ScenesScene.{Scene, slot_of}
 
 -- one that takes a pair out by itself
 abbrev is_removal : Effect → Bool

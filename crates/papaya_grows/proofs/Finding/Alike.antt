@@ -1,33 +1,33 @@
 -- What steps of calls find by is so at another moment with the same tables, maps and pairs, at which calls owe what they have in hand.
 use Rattle.std.specs.Prelude.{◌≡◌, ◌≤◌, ◌==◌, ℕ, Bool, List, length, filter, find, Option, Some}
 use Rattle.std.proofs.Common.{refl, ap, sym, subst, ◌∙◌, arith}
-use Rattle.papaya_purposes.specs.Given.Tables.Lengths.{entries_of}
-use Rattle.papaya_purposes.specs.Given.Tables.declared.setting.Setting.{Setting}
-use Rattle.papaya_purposes.specs.Given.Schedules.declared.effect.Spot.{Spot}
-use Rattle.papaya_purposes.specs.Given.Schedules.declared.effect.Table.{Table}
-use Rattle.papaya_purposes.specs.Given.Schedules.Growing.{Has}
-use Rattle.papaya_purposes.specs.Given.Schedules.Moment.{MapThere, Moment, Place, TableThere}
-use Rattle.papaya_purposes.specs.Given.Schedules.Views.{capacity_or, first_of, first_or, grows_in_chunks, is_in_a_map, map_at}
-use Rattle.papaya_purposes.specs.Given.Callers.Together.{OnKey, UnderWay}
-use Rattle.papaya_purposes.specs.Given.Effects.Known.{Known}
-use Rattle.papaya_purposes.specs.Given.Finishes.Machines.{machine_of}
-use Rattle.papaya_purposes.specs.Given.Finishes.Maps.{Standing}
-use Rattle.papaya_purposes.specs.Given.Follows.Calls.{ShowsCalls as IsThere}
-use Rattle.papaya_purposes.specs.Given.Settles.Hand.{ShowsOwed}
-use Rattle.papaya_purposes.proofs.Given.Settles.Hand.Roles.{hand_kept}
-use Rattle.papaya_purposes.specs.Given.Finds.Capacities.{StoodSo}
-use Rattle.papaya_purposes.specs.Given.Finds.Linking.{IsMadeFor}
-use Rattle.papaya_purposes.specs.Given.Finds.Waits.{IsHeldPast, LeavesHeldOf}
-use Rattle.papaya_purposes.specs.Given.Finds.Within.{many_of}
-use Rattle.papaya_purposes.proofs.Given.Finds.Capacities.{capacities_stay}
-use Rattle.papaya_purposes.proofs.Given.Finds.Grows.Between.{growing_stays}
-use Rattle.papaya_purposes.proofs.Given.Finds.Waits.Between.{waits_follow_owed}
-use Rattle.papaya_purposes.proofs.Given.Finds.Waits.Held.{lies_same}
-use Rattle.papaya_purposes.proofs.Given.Finds.Waits.Puts.{puts_stay}
+use Rattle.papaya_purposes.specs.Given.TablesLengths.{entries_of}
+use Rattle.papaya_purposes.specs.Given.TablesDeclared.setting.Setting.{Setting}
+use Rattle.papaya_purposes.specs.Given.SchedulesDeclared.effect.Spot.{Spot}
+use Rattle.papaya_purposes.specs.Given.SchedulesDeclared.effect.Table.{Table}
+use Rattle.papaya_purposes.specs.Given.SchedulesGrowing.{Has}
+use Rattle.papaya_purposes.specs.Given.SchedulesMoment.{MapThere, Moment, Place, TableThere}
+use Rattle.papaya_purposes.specs.Given.SchedulesViews.{capacity_or, first_of, first_or, grows_in_chunks, is_in_a_map, map_at}
+use Rattle.papaya_purposes.specs.Given.CallersTogether.{OnKey, UnderWay}
+use Rattle.papaya_purposes.specs.Given.EffectsKnown.{Known}
+use Rattle.papaya_purposes.specs.Given.FinishesMachines.{machine_of}
+use Rattle.papaya_purposes.specs.Given.FinishesMaps.{Standing}
+use Rattle.papaya_purposes.specs.Given.FollowsCalls.{ShowsCalls as IsThere}
+use Rattle.papaya_purposes.specs.Given.SettlesHand.{ShowsOwed}
+use Rattle.papaya_purposes.proofs.Given.SettlesHand.Roles.{hand_kept}
+use Rattle.papaya_purposes.specs.Given.FindsCapacities.{StoodSo}
+use Rattle.papaya_purposes.specs.Given.FindsLinking.{IsMadeFor}
+use Rattle.papaya_purposes.specs.Given.FindsWaits.{IsHeldPast, LeavesHeldOf}
+use Rattle.papaya_purposes.specs.Given.FindsWithin.{many_of}
+use Rattle.papaya_purposes.proofs.Given.FindsCapacities.{capacities_stay}
+use Rattle.papaya_purposes.proofs.Given.FindsGrows.Between.{growing_stays}
+use Rattle.papaya_purposes.proofs.Given.FindsWaits.Between.{waits_follow_owed}
+use Rattle.papaya_purposes.proofs.Given.FindsWaits.Held.{lies_same}
+use Rattle.papaya_purposes.proofs.Given.FindsWaits.Puts.{puts_stay}
 use Rattle.papaya_grows.specs.Finding.{ShowsFinding}
 use Rattle.papaya_grows.proofs.Finding.Making.Between.{further_stays}
 use Rattle.papaya_grows.proofs.Finding.Making.Lengths.{lengths_same}
-use Rattle.papaya_purposes.specs.Given.Scenes.Scene.{Scene}
+use Rattle.papaya_purposes.specs.Given.ScenesScene.{Scene}
 
 -- this many and no fewer
 pub itself : (n : ℕ) → n ≤ n

@@ -1,48 +1,48 @@
 -- Steps that are of no call leave each pair where it lies: those of rows on slots, of makings of maps, and of their ends.
 use Rattle.std.specs.Prelude.{◌≡◌, ℕ, Bool, true, false, List, [], ◌∷◌, Option, Some, None, if◌then◌else◌}
 use Rattle.std.proofs.Common.{refl, ap, sym, subst, ◌∙◌, inl, inr}
-use Rattle.papaya_purposes.specs.Given.SeizeWords.Mem.{word_at}
-use Rattle.papaya_purposes.specs.Given.SeizeWords.Word.{block_in}
-use Rattle.papaya_purposes.specs.Given.SeizeWords.declared.at.At.TheVariants.{Entry, Root, Slot, Used, Word}
-use Rattle.papaya_purposes.specs.Given.Seize.World.{World}
-use Rattle.papaya_purposes.specs.Given.Seize.declared.progress.Progress.{Progress as Making}
-use Rattle.papaya_purposes.specs.Given.Seize.declared.rows.settle.Settled.{Settled}
-use Rattle.papaya_purposes.specs.Given.Tables.declared.node.Node.{Node}
-use Rattle.papaya_purposes.specs.Given.Tables.declared.setting.Setting.{Setting}
-use Rattle.papaya_purposes.specs.Given.Schedules.declared.effect.Effect.TheVariants.{Asked}
-use Rattle.papaya_purposes.specs.Given.Schedules.declared.effect.Growth.TheVariants.{ABlock}
-use Rattle.papaya_purposes.specs.Given.Schedules.declared.effect.Table.{Table}
-use Rattle.papaya_purposes.specs.Given.Schedules.Effects.{with_effects}
-use Rattle.papaya_purposes.specs.Given.Schedules.Moment.{Moment}
-use Rattle.papaya_purposes.specs.Given.Teller.declared.changed.Changed.{Changed}
-use Rattle.papaya_purposes.specs.Given.Teller.declared.changed.Changed.TheVariants as changed
-use Rattle.papaya_purposes.specs.Given.Teller.declared.changed.Kind.{Kind}
-use Rattle.papaya_purposes.specs.Given.Teller.declared.changed.Kind.TheVariants as kind
-use Rattle.papaya_purposes.specs.Given.Effects.Effects.{effects_of, in_block, led_to, made_by, named, names_same, pair_taken, table_taken, taken_by}
-use Rattle.papaya_purposes.specs.Given.Effects.Known.{Known}
-use Rattle.papaya_purposes.specs.Given.Effects.declared.acting.Acting.{Acting}
-use Rattle.papaya_purposes.specs.Given.Effects.declared.acting.Acting.TheVariants as acts
-use Rattle.papaya_purposes.specs.Given.Effects.declared.role.Role.{Role}
-use Rattle.papaya_purposes.specs.Given.Effects.declared.role.Role.TheVariants as role
-use Rattle.papaya_purposes.specs.Given.Scenes.declared.row.RowTold.{RowTold}
-use Rattle.papaya_purposes.specs.Given.Scenes.declared.row.SlotRow.{SlotRow}
-use Rattle.papaya_purposes.specs.Given.Finishes.Endings.{Finishing}
-use Rattle.papaya_purposes.specs.Given.Finishes.Makings.{Beginning}
-use Rattle.papaya_purposes.specs.Given.Follows.Shows.{Shows}
-use Rattle.papaya_purposes.proofs.Given.Follows.Operations.{LeavesBy}
-use Rattle.papaya_purposes.proofs.Given.Follows.Writes.{nothing_free}
-use Rattle.papaya_purposes.specs.Given.Moments.Whole.{ShowsWhole}
-use Rattle.papaya_purposes.proofs.Given.Moments.Ends.{says}
-use Rattle.papaya_purposes.proofs.Given.Others.Makes.{left, no_table_word, tells}
-use Rattle.papaya_purposes.proofs.Given.Others.MakingPlans.{TellsMaking}
-use Rattle.papaya_purposes.proofs.Given.Others.RowPlans.{row_tells}
-use Rattle.papaya_purposes.proofs.Given.Spots.Effects.{AllAside, aside_all, calm_aside, is_aside}
-use Rattle.papaya_purposes.proofs.Given.Spots.OnSlots.{row_beside}
-use Rattle.papaya_purposes.specs.Given.Scenes.Ending.{EndingLeads}
-use Rattle.papaya_purposes.specs.Given.Scenes.Held.{Held, IsAt}
-use Rattle.papaya_purposes.specs.Given.Scenes.Making.{MakingLeads}
-use Rattle.papaya_purposes.specs.Given.Scenes.OnSlots.{RowLeads}
-use Rattle.papaya_purposes.specs.Given.Scenes.Scene.{IsOnSlot, Scene}
+use Rattle.papaya_purposes.specs.Given.SeizeWordsMem.{word_at}
+use Rattle.papaya_purposes.specs.Given.SeizeWordsWord.{block_in}
+use Rattle.papaya_purposes.specs.Given.SeizeWordsDeclared.at.At.TheVariants.{Entry, Root, Slot, Used, Word}
+use Rattle.papaya_purposes.specs.Given.SeizeWorld.{World}
+use Rattle.papaya_purposes.specs.Given.SeizeDeclared.progress.Progress.{Progress as Making}
+use Rattle.papaya_purposes.specs.Given.SeizeDeclared.rows.settle.Settled.{Settled}
+use Rattle.papaya_purposes.specs.Given.TablesDeclared.node.Node.{Node}
+use Rattle.papaya_purposes.specs.Given.TablesDeclared.setting.Setting.{Setting}
+use Rattle.papaya_purposes.specs.Given.SchedulesDeclared.effect.Effect.TheVariants.{Asked}
+use Rattle.papaya_purposes.specs.Given.SchedulesDeclared.effect.Growth.TheVariants.{ABlock}
+use Rattle.papaya_purposes.specs.Given.SchedulesDeclared.effect.Table.{Table}
+use Rattle.papaya_purposes.specs.Given.SchedulesEffects.{with_effects}
+use Rattle.papaya_purposes.specs.Given.SchedulesMoment.{Moment}
+use Rattle.papaya_purposes.specs.Given.TellerDeclared.changed.Changed.{Changed}
+use Rattle.papaya_purposes.specs.Given.TellerDeclared.changed.Changed.TheVariants as changed
+use Rattle.papaya_purposes.specs.Given.TellerDeclared.changed.Kind.{Kind}
+use Rattle.papaya_purposes.specs.Given.TellerDeclared.changed.Kind.TheVariants as kind
+use Rattle.papaya_purposes.specs.Given.EffectsEffects.{effects_of, in_block, led_to, made_by, named, names_same, pair_taken, table_taken, taken_by}
+use Rattle.papaya_purposes.specs.Given.EffectsKnown.{Known}
+use Rattle.papaya_purposes.specs.Given.EffectsDeclared.acting.Acting.{Acting}
+use Rattle.papaya_purposes.specs.Given.EffectsDeclared.acting.Acting.TheVariants as acts
+use Rattle.papaya_purposes.specs.Given.EffectsDeclared.role.Role.{Role}
+use Rattle.papaya_purposes.specs.Given.EffectsDeclared.role.Role.TheVariants as role
+use Rattle.papaya_purposes.specs.Given.ScenesDeclared.row.RowTold.{RowTold}
+use Rattle.papaya_purposes.specs.Given.ScenesDeclared.row.SlotRow.{SlotRow}
+use Rattle.papaya_purposes.specs.Given.FinishesEndings.{Finishing}
+use Rattle.papaya_purposes.specs.Given.FinishesMakings.{Beginning}
+use Rattle.papaya_purposes.specs.Given.FollowsShows.{Shows}
+use Rattle.papaya_purposes.proofs.Given.FollowsOperations.{LeavesBy}
+use Rattle.papaya_purposes.proofs.Given.FollowsWrites.{nothing_free}
+use Rattle.papaya_purposes.specs.Given.MomentsWhole.{ShowsWhole}
+use Rattle.papaya_purposes.proofs.Given.MomentsEnds.{says}
+use Rattle.papaya_purposes.proofs.Given.OthersMakes.{left, no_table_word, tells}
+use Rattle.papaya_purposes.proofs.Given.OthersMakingPlans.{TellsMaking}
+use Rattle.papaya_purposes.proofs.Given.OthersRowPlans.{row_tells}
+use Rattle.papaya_purposes.proofs.Given.SpotsEffects.{AllAside, aside_all, calm_aside, is_aside}
+use Rattle.papaya_purposes.proofs.Given.SpotsOnSlots.{row_beside}
+use Rattle.papaya_purposes.specs.Given.ScenesEnding.{EndingLeads}
+use Rattle.papaya_purposes.specs.Given.ScenesHeld.{Held, IsAt}
+use Rattle.papaya_purposes.specs.Given.ScenesMaking.{MakingLeads}
+use Rattle.papaya_purposes.specs.Given.ScenesOnSlots.{RowLeads}
+use Rattle.papaya_purposes.specs.Given.ScenesScene.{IsOnSlot, Scene}
 
 -- a pair, and a table, that is taken away
 pair_aside : (its : Acting) (n : ℕ) → is_aside (pair_taken its n) ≡ true

@@ -1,25 +1,25 @@
 -- What steps of calls find by is so after a step that is of no call, which leaves calls and pairs as they are.
 use Rattle.std.specs.Prelude.{◌≡◌, ◌≤◌, ℕ, Bool, true, false, List, find, length, Option, Some}
 use Rattle.std.proofs.Common.{refl, ap, sym, subst, ◌∙◌}
-use Rattle.papaya_purposes.specs.Given.Runs.Same.{is_same}
-use Rattle.papaya_purposes.specs.Given.Schedules.Moment.{Behind, GivenBack, Handed, InMap, Left, Moment, Out, Place, Unborn, UnderWay as CallThere}
-use Rattle.papaya_purposes.specs.Given.Schedules.Views.{is_in_a_map}
-use Rattle.papaya_purposes.specs.Given.Callers.Together.{OnKey, UnderWay}
-use Rattle.papaya_purposes.specs.Given.Effects.Known.{Known}
-use Rattle.papaya_purposes.specs.Given.Moments.Whole.{ShowsWhole}
-use Rattle.papaya_purposes.proofs.Given.Moments.Beside.{IsBeside}
-use Rattle.papaya_purposes.specs.Given.Finds.Capacities.{ShowsCapacities}
-use Rattle.papaya_purposes.specs.Given.Finds.Waits.{LeavesInHand}
-use Rattle.papaya_purposes.specs.Given.Finds.Within.{many_of}
-use Rattle.papaya_purposes.proofs.Given.Finds.Grows.Between.{growing_stays}
-use Rattle.papaya_purposes.proofs.Given.Finds.Waits.Between.{waits_stay}
+use Rattle.papaya_purposes.specs.Given.RunsSame.{is_same}
+use Rattle.papaya_purposes.specs.Given.SchedulesMoment.{Behind, GivenBack, Handed, InMap, Left, Moment, Out, Place, Unborn, UnderWay as CallThere}
+use Rattle.papaya_purposes.specs.Given.SchedulesViews.{is_in_a_map}
+use Rattle.papaya_purposes.specs.Given.CallersTogether.{OnKey, UnderWay}
+use Rattle.papaya_purposes.specs.Given.EffectsKnown.{Known}
+use Rattle.papaya_purposes.specs.Given.MomentsWhole.{ShowsWhole}
+use Rattle.papaya_purposes.proofs.Given.MomentsBeside.{IsBeside}
+use Rattle.papaya_purposes.specs.Given.FindsCapacities.{ShowsCapacities}
+use Rattle.papaya_purposes.specs.Given.FindsWaits.{LeavesInHand}
+use Rattle.papaya_purposes.specs.Given.FindsWithin.{many_of}
+use Rattle.papaya_purposes.proofs.Given.FindsGrows.Between.{growing_stays}
+use Rattle.papaya_purposes.proofs.Given.FindsWaits.Between.{waits_stay}
 use Rattle.papaya_grows.specs.Finding.{ShowsFinding}
 use Rattle.papaya_grows.proofs.Finding.Alike.{held_in, itself, map_same}
 use Rattle.papaya_grows.proofs.Finding.Making.Between.{further_stays}
 use Rattle.papaya_grows.proofs.Finding.Making.Lengths.{KeepsLengths}
 use Rattle.papaya_grows.proofs.Finding.Puts.{puts_beside}
-use Rattle.papaya_purposes.specs.Given.Scenes.Held.{Held, IsAt}
-use Rattle.papaya_purposes.specs.Given.Scenes.Scene.{Scene}
+use Rattle.papaya_purposes.specs.Given.ScenesHeld.{Held, IsAt}
+use Rattle.papaya_purposes.specs.Given.ScenesScene.{Scene}
 
 -- a place is in a map, or in none
 in_which : (p : Place) → is_in_a_map p ≡ true → (map : ℕ) × (p ≡ InMap map)

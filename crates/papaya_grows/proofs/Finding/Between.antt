@@ -2,57 +2,57 @@
 use Rattle.std.specs.Prelude.{◌≡◌, ◌≢◌, ◌≤◌, ◌==◌, ◌++◌, ℕ, Bool, true, false, List, [], ◌∷◌, cond, filter, find, length, Option, Some, None, if◌then◌else◌}
 use Rattle.std.proofs.Common.{refl, ap, sym, subst, ◌∙◌, inl, inr}
 use Rattle.std.proofs.lemmas.Bool.{ne_eqb}
-use Rattle.papaya_purposes.specs.Given.SeizeWords.Word.{block_in}
-use Rattle.papaya_purposes.specs.Given.SeizeWords.declared.at.At.{At}
-use Rattle.papaya_purposes.specs.Given.Sweeps.SweepPoints.{next_at}
-use Rattle.papaya_purposes.specs.Given.Sweeps.declared.sweep.Sweep.{Sweep}
-use Rattle.papaya_purposes.specs.Given.Sweeps.declared.sweep.Sweeping.{Sweeping}
-use Rattle.papaya_purposes.specs.Given.Sweeps.declared.sweep.Sweeping.TheVariants as sweeping
-use Rattle.papaya_purposes.specs.Given.Raw.CallAsks.{told_at}
-use Rattle.papaya_purposes.specs.Given.Raw.Machine.{machine_asked, machine_replied, sweep_told}
-use Rattle.papaya_purposes.specs.Given.Raw.declared.machines.asking.Asking.TheVariants as asking
-use Rattle.papaya_purposes.specs.Given.Raw.declared.machines.asking.Reply.{Reply as MachineReply}
-use Rattle.papaya_purposes.specs.Given.Raw.declared.machines.call.Calling.{Calling}
-use Rattle.papaya_purposes.specs.Given.Raw.declared.machines.call.Calling.TheVariants as calling
-use Rattle.papaya_purposes.specs.Given.Raw.declared.machines.call.KeyCall.{KeyCall}
-use Rattle.papaya_purposes.specs.Given.Raw.declared.machines.machine.Machine.{Machine}
-use Rattle.papaya_purposes.specs.Given.Raw.declared.machines.machine.Machine.TheVariants as kinds
-use Rattle.papaya_purposes.specs.Given.Runs.Same.{is_same}
-use Rattle.papaya_purposes.specs.Given.Schedules.declared.effect.Thing.TheVariants.{APair}
-use Rattle.papaya_purposes.specs.Given.Schedules.Moment.{MapThere, Moment, Place, UnderWay as CallThere}
-use Rattle.papaya_purposes.specs.Given.Schedules.Views.{capacity_or, is_in_a_map, map_at}
-use Rattle.papaya_purposes.specs.Given.Callers.OverAll.{CallOverAll}
-use Rattle.papaya_purposes.specs.Given.Callers.Pairs.{Given}
-use Rattle.papaya_purposes.specs.Given.Callers.Rooms.{CallForRoom}
-use Rattle.papaya_purposes.specs.Given.Callers.Together.{Computes, Counting, ForRoom, Gets, Inserts, IsBegun, OnKey, OverAll, Removes, RemovesIf, TriesToInsert, TriesToInsertWith, UnderWay, Updates, UpdatesOrInserts}
-use Rattle.papaya_purposes.specs.Given.Effects.Known.{Known}
-use Rattle.papaya_purposes.specs.Given.Effects.declared.role.Role.{Role}
-use Rattle.papaya_purposes.specs.Given.Effects.declared.role.Role.TheVariants as role
-use Rattle.papaya_purposes.specs.Given.Finishes.Machines.{machine_of}
-use Rattle.papaya_purposes.specs.Given.Finishes.Maps.{Standing, with_call as with_in}
-use Rattle.papaya_purposes.specs.Given.Follows.Calls.{ShowsCalls as IsThere}
-use Rattle.papaya_purposes.proofs.Given.Follows.Steps.{one_of}
-use Rattle.papaya_purposes.proofs.Given.Hands.Asking.{which}
-use Rattle.papaya_purposes.specs.Given.Settles.Due.{ToPut, due_in_row}
-use Rattle.papaya_purposes.specs.Given.Settles.Hand.{HoldsAt, IsPairAt, IsPairRole, NotesInHand, NotesOfCall, NotesOfSweep, ShowsOwed, in_hand, in_hand_of_call, in_hand_of_sweep, thing_as, things_at}
-use Rattle.papaya_purposes.specs.Given.Settles.InHand.{pair_in_calling, pair_in_sweeping}
-use Rattle.papaya_purposes.proofs.Given.Settles.Hand.Roles.{hand_kept}
-use Rattle.papaya_purposes.specs.Given.Finds.Puts.{IsBehindNext, ShowsPuts}
-use Rattle.papaya_purposes.specs.Given.Finds.Waits.{LeavesInHand, ShowsWaits, pair_in, waits_in}
-use Rattle.papaya_purposes.proofs.Given.Finds.Capacities.{capacities_stay}
-use Rattle.papaya_purposes.proofs.Given.Finds.Grows.Between.{growing_stays}
-use Rattle.papaya_purposes.proofs.Given.Finds.Waits.Behind.{call_put, room_never, sweep_put}
-use Rattle.papaya_purposes.proofs.Given.Finds.Waits.Between.{waits_follow_owed, waits_stay}
-use Rattle.papaya_purposes.proofs.Given.Finds.Waits.Puts.{puts_stay}
+use Rattle.papaya_purposes.specs.Given.SeizeWordsWord.{block_in}
+use Rattle.papaya_purposes.specs.Given.SeizeWordsDeclared.at.At.{At}
+use Rattle.papaya_purposes.specs.Given.SweepsSweepPoints.{next_at}
+use Rattle.papaya_purposes.specs.Given.SweepsDeclared.sweep.Sweep.{Sweep}
+use Rattle.papaya_purposes.specs.Given.SweepsDeclared.sweep.Sweeping.{Sweeping}
+use Rattle.papaya_purposes.specs.Given.SweepsDeclared.sweep.Sweeping.TheVariants as sweeping
+use Rattle.papaya_purposes.specs.Given.RawCallAsks.{told_at}
+use Rattle.papaya_purposes.specs.Given.RawMachine.{machine_asked, machine_replied, sweep_told}
+use Rattle.papaya_purposes.specs.Given.RawDeclared.machines.asking.Asking.TheVariants as asking
+use Rattle.papaya_purposes.specs.Given.RawDeclared.machines.asking.Reply.{Reply as MachineReply}
+use Rattle.papaya_purposes.specs.Given.RawDeclared.machines.call.Calling.{Calling}
+use Rattle.papaya_purposes.specs.Given.RawDeclared.machines.call.Calling.TheVariants as calling
+use Rattle.papaya_purposes.specs.Given.RawDeclared.machines.call.KeyCall.{KeyCall}
+use Rattle.papaya_purposes.specs.Given.RawDeclared.machines.machine.Machine.{Machine}
+use Rattle.papaya_purposes.specs.Given.RawDeclared.machines.machine.Machine.TheVariants as kinds
+use Rattle.papaya_purposes.specs.Given.RunsSame.{is_same}
+use Rattle.papaya_purposes.specs.Given.SchedulesDeclared.effect.Thing.TheVariants.{APair}
+use Rattle.papaya_purposes.specs.Given.SchedulesMoment.{MapThere, Moment, Place, UnderWay as CallThere}
+use Rattle.papaya_purposes.specs.Given.SchedulesViews.{capacity_or, is_in_a_map, map_at}
+use Rattle.papaya_purposes.specs.Given.CallersOverAll.{CallOverAll}
+use Rattle.papaya_purposes.specs.Given.CallersPairs.{Given}
+use Rattle.papaya_purposes.specs.Given.CallersRooms.{CallForRoom}
+use Rattle.papaya_purposes.specs.Given.CallersTogether.{Computes, Counting, ForRoom, Gets, Inserts, IsBegun, OnKey, OverAll, Removes, RemovesIf, TriesToInsert, TriesToInsertWith, UnderWay, Updates, UpdatesOrInserts}
+use Rattle.papaya_purposes.specs.Given.EffectsKnown.{Known}
+use Rattle.papaya_purposes.specs.Given.EffectsDeclared.role.Role.{Role}
+use Rattle.papaya_purposes.specs.Given.EffectsDeclared.role.Role.TheVariants as role
+use Rattle.papaya_purposes.specs.Given.FinishesMachines.{machine_of}
+use Rattle.papaya_purposes.specs.Given.FinishesMaps.{Standing, with_call as with_in}
+use Rattle.papaya_purposes.specs.Given.FollowsCalls.{ShowsCalls as IsThere}
+use Rattle.papaya_purposes.proofs.Given.FollowsSteps.{one_of}
+use Rattle.papaya_purposes.proofs.Given.HandsAsking.{which}
+use Rattle.papaya_purposes.specs.Given.SettlesDue.{ToPut, due_in_row}
+use Rattle.papaya_purposes.specs.Given.SettlesHand.{HoldsAt, IsPairAt, IsPairRole, NotesInHand, NotesOfCall, NotesOfSweep, ShowsOwed, in_hand, in_hand_of_call, in_hand_of_sweep, thing_as, things_at}
+use Rattle.papaya_purposes.specs.Given.SettlesInHand.{pair_in_calling, pair_in_sweeping}
+use Rattle.papaya_purposes.proofs.Given.SettlesHand.Roles.{hand_kept}
+use Rattle.papaya_purposes.specs.Given.FindsPuts.{IsBehindNext, ShowsPuts}
+use Rattle.papaya_purposes.specs.Given.FindsWaits.{LeavesInHand, ShowsWaits, pair_in, waits_in}
+use Rattle.papaya_purposes.proofs.Given.FindsCapacities.{capacities_stay}
+use Rattle.papaya_purposes.proofs.Given.FindsGrows.Between.{growing_stays}
+use Rattle.papaya_purposes.proofs.Given.FindsWaits.Behind.{call_put, room_never, sweep_put}
+use Rattle.papaya_purposes.proofs.Given.FindsWaits.Between.{waits_follow_owed, waits_stay}
+use Rattle.papaya_purposes.proofs.Given.FindsWaits.Puts.{puts_stay}
 use Rattle.papaya_grows.specs.Finding.{ShowsFinding}
 use Rattle.papaya_grows.proofs.Finding.Alike.{held_in, itself, many_same, stood_as}
 use Rattle.papaya_grows.proofs.Finding.Making.Between.{further_stays}
 use Rattle.papaya_grows.proofs.Finding.Making.Lengths.{lengths_same}
-use Rattle.papaya_purposes.proofs.Given.Scenes.May.{standing_is}
-use Rattle.papaya_purposes.specs.Given.Scenes.Beginning.{Begins}
-use Rattle.papaya_purposes.specs.Given.Scenes.Held.{Held, IsAt}
-use Rattle.papaya_purposes.specs.Given.Scenes.Replying.{scene_with, unless_stopped}
-use Rattle.papaya_purposes.specs.Given.Scenes.Scene.{Scene, slot_of}
+use Rattle.papaya_purposes.proofs.Given.ScenesMay.{standing_is}
+use Rattle.papaya_purposes.specs.Given.ScenesBeginning.{Begins}
+use Rattle.papaya_purposes.specs.Given.ScenesHeld.{Held, IsAt}
+use Rattle.papaya_purposes.specs.Given.ScenesReplying.{scene_with, unless_stopped}
+use Rattle.papaya_purposes.specs.Given.ScenesScene.{Scene, slot_of}
 
 -- A call that begins has no pair in hand, and is to put none behind a table.
 

@@ -1,26 +1,26 @@
 -- What steps of calls find by is so after each step of a call, whichever it is.
 use Rattle.std.specs.Prelude.{◌≡◌, ℕ, Bool, List, Some}
-use Rattle.papaya_purposes.specs.Given.Tables.declared.node.Node.{Node}
-use Rattle.papaya_purposes.specs.Given.Raw.declared.machines.progress.Progress.{Progress}
-use Rattle.papaya_purposes.specs.Given.Schedules.Effects.{with_effects}
-use Rattle.papaya_purposes.specs.Given.Schedules.Moment.{Moment}
-use Rattle.papaya_purposes.specs.Given.Callers.Together.{UnderWay}
-use Rattle.papaya_purposes.specs.Given.Effects.Effects.{effects_of, known_after}
-use Rattle.papaya_purposes.specs.Given.Effects.Known.{Known}
-use Rattle.papaya_purposes.specs.Given.Effects.declared.acting.Acting.TheVariants as acts
-use Rattle.papaya_purposes.specs.Given.Moments.Whole.{ShowsWhole}
-use Rattle.papaya_purposes.specs.Given.Settles.Due.{OwnAreMade}
-use Rattle.papaya_models.specs.Given.Kept.Kept.{ShowsKept}
-use Rattle.papaya_models.proofs.Given.Kept.Calls.{own_made}
-use Rattle.papaya_purposes.proofs.Given.Finds.Capacities.{calls_keep_capacities}
-use Rattle.papaya_purposes.proofs.Given.Finds.Grows.Steps.{calls_keep_growing}
-use Rattle.papaya_purposes.proofs.Given.Finds.Waits.Puts.{calls_keep_puts}
-use Rattle.papaya_purposes.proofs.Given.Finds.Waits.Steps.{calls_keep_waits}
+use Rattle.papaya_purposes.specs.Given.TablesDeclared.node.Node.{Node}
+use Rattle.papaya_purposes.specs.Given.RawDeclared.machines.progress.Progress.{Progress}
+use Rattle.papaya_purposes.specs.Given.SchedulesEffects.{with_effects}
+use Rattle.papaya_purposes.specs.Given.SchedulesMoment.{Moment}
+use Rattle.papaya_purposes.specs.Given.CallersTogether.{UnderWay}
+use Rattle.papaya_purposes.specs.Given.EffectsEffects.{effects_of, known_after}
+use Rattle.papaya_purposes.specs.Given.EffectsKnown.{Known}
+use Rattle.papaya_purposes.specs.Given.EffectsDeclared.acting.Acting.TheVariants as acts
+use Rattle.papaya_purposes.specs.Given.MomentsWhole.{ShowsWhole}
+use Rattle.papaya_purposes.specs.Given.SettlesDue.{OwnAreMade}
+use Rattle.papaya_models.specs.Given.KeptKept.{ShowsKept}
+use Rattle.papaya_models.proofs.Given.KeptCalls.{own_made}
+use Rattle.papaya_purposes.proofs.Given.FindsCapacities.{calls_keep_capacities}
+use Rattle.papaya_purposes.proofs.Given.FindsGrows.Steps.{calls_keep_growing}
+use Rattle.papaya_purposes.proofs.Given.FindsWaits.Puts.{calls_keep_puts}
+use Rattle.papaya_purposes.proofs.Given.FindsWaits.Steps.{calls_keep_waits}
 use Rattle.papaya_grows.specs.Finding.{ShowsFinding}
 use Rattle.papaya_grows.proofs.Finding.Making.Steps.{further_then}
-use Rattle.papaya_purposes.specs.Given.Scenes.Held.{Held, IsAt}
-use Rattle.papaya_purposes.specs.Given.Scenes.Scene.{Scene}
-use Rattle.papaya_purposes.specs.Given.Scenes.Stepping.{StepLeads, scene_after}
+use Rattle.papaya_purposes.specs.Given.ScenesHeld.{Held, IsAt}
+use Rattle.papaya_purposes.specs.Given.ScenesScene.{Scene}
+use Rattle.papaya_purposes.specs.Given.ScenesStepping.{StepLeads, scene_after}
 
 module _ (K V : Type 0) (same : K → K → Bool) (hash : ℕ → K → ℕ) (name : ℕ → List ℕ) (m : Moment K V) (known : Known) (s : Scene K V) (old new : Held K V) (at : IsAt same hash old s)
     (whole : ShowsWhole same name m known s) (kept : ShowsKept name m known s) (finding : ShowsFinding name m known s) (map i : ℕ) (u : UnderWay K V K) (here : s.calls map i ≡ Some u)

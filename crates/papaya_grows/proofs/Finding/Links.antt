@@ -1,57 +1,57 @@
 -- The table that a call links by its copier follows the last one of its map; and a counting links none.
 use Rattle.std.specs.Prelude.{◌≡◌, ℕ, Bool, List, [], ◌∷◌, length, Option, Some, None}
 use Rattle.std.proofs.Common.{sym, subst, ◌∙◌}
-use Rattle.papaya_purposes.specs.Given.Tables.Lengths.{entries_of, next_len}
-use Rattle.papaya_purposes.specs.Given.Tables.declared.lengths.Reason.TheVariants.{NoPlace}
-use Rattle.papaya_purposes.specs.Given.Tables.declared.node.Node.{Node}
-use Rattle.papaya_purposes.specs.Given.Tables.declared.table.Table.{Table as Planned}
-use Rattle.papaya_purposes.specs.Given.Resize.declared.copier.Copying.{Copying}
-use Rattle.papaya_purposes.specs.Given.Resize.declared.copier.Copying.TheVariants as copying
-use Rattle.papaya_purposes.specs.Given.Resize.declared.new_table.NewTable.{NewTable}
-use Rattle.papaya_purposes.specs.Given.Reserves.declared.reserve.Reserving.{Reserving}
-use Rattle.papaya_purposes.specs.Given.Reserves.declared.reserve.Reserving.TheVariants as reserving
-use Rattle.papaya_purposes.specs.Given.Sweeps.declared.sweep.Sweeping.{Sweeping}
-use Rattle.papaya_purposes.specs.Given.Sweeps.declared.sweep.Sweeping.TheVariants as sweeping
-use Rattle.papaya_purposes.specs.Given.Raw.declared.machines.call.Calling.{Calling}
-use Rattle.papaya_purposes.specs.Given.Raw.declared.machines.call.Calling.TheVariants as calling
-use Rattle.papaya_purposes.specs.Given.Raw.declared.machines.machine.Machine.{Machine}
-use Rattle.papaya_purposes.specs.Given.Raw.declared.machines.machine.Machine.TheVariants as kinds
-use Rattle.papaya_purposes.specs.Given.Raw.declared.machines.progress.Progress.{Progress}
-use Rattle.papaya_purposes.specs.Given.Schedules.declared.call.Call.{Call}
-use Rattle.papaya_purposes.specs.Given.Schedules.declared.call.Call.TheVariants as call
-use Rattle.papaya_purposes.specs.Given.Schedules.declared.effect.Effect.{Effect}
-use Rattle.papaya_purposes.specs.Given.Schedules.declared.effect.Effect.TheVariants as effect
-use Rattle.papaya_purposes.specs.Given.Schedules.declared.effect.Growth.TheVariants.{ABlock}
-use Rattle.papaya_purposes.specs.Given.Schedules.Effects.{AtEachEffect}
-use Rattle.papaya_purposes.specs.Given.Schedules.Growing.{Follows, Has, HasNext, MayMakeFor}
-use Rattle.papaya_purposes.specs.Given.Schedules.Lists.{OneOf}
-use Rattle.papaya_purposes.specs.Given.Schedules.Moment.{Moment, TableThere, UnderWay as CallThere}
-use Rattle.papaya_purposes.specs.Given.Schedules.Terms.{Terms}
-use Rattle.papaya_purposes.specs.Given.Schedules.Views.{call_of, capacity_or, last_of, map_at, tables_of}
-use Rattle.papaya_purposes.specs.Given.Points.FactsCalls.{IsCopying}
-use Rattle.papaya_purposes.specs.Given.Callers.Together.{Counting, ForRoom, OnKey, OverAll, UnderWay}
-use Rattle.papaya_purposes.specs.Given.Effects.Effects.{effects_of}
-use Rattle.papaya_purposes.specs.Given.Effects.Known.{Known}
-use Rattle.papaya_purposes.specs.Given.Effects.declared.acting.Acting.TheVariants as acts
-use Rattle.papaya_purposes.specs.Given.Finishes.Machines.{machine_of}
-use Rattle.papaya_purposes.specs.Given.Follows.Calls.{IsCalled}
-use Rattle.papaya_purposes.specs.Given.Follows.Finds.{FindsMap}
-use Rattle.papaya_purposes.specs.Given.Moments.Whole.{ShowsWhole}
-use Rattle.papaya_purposes.specs.Given.Owes.Making.{making_in_calling, making_in_copying, making_in_sweeping, making_of}
-use Rattle.papaya_purposes.specs.Given.Owes.Tables.{ShowsTables, of_map, table_made}
-use Rattle.papaya_purposes.proofs.Given.Owes.Tables.Held.{shape_of, some_making}
-use Rattle.papaya_purposes.proofs.Given.Owes.Tables.Leaves.{IsGivenUp, IsLinked, IsMade, Stays}
-use Rattle.papaya_purposes.proofs.Given.Owes.Tables.Step.{left_tables}
-use Rattle.papaya_purposes.specs.Given.Finds.Linking.{FindShapes, IsMadeFor}
+use Rattle.papaya_purposes.specs.Given.TablesLengths.{entries_of, next_len}
+use Rattle.papaya_purposes.specs.Given.TablesDeclared.lengths.Reason.TheVariants.{NoPlace}
+use Rattle.papaya_purposes.specs.Given.TablesDeclared.node.Node.{Node}
+use Rattle.papaya_purposes.specs.Given.TablesDeclared.table.Table.{Table as Planned}
+use Rattle.papaya_purposes.specs.Given.ResizeDeclared.copier.Copying.{Copying}
+use Rattle.papaya_purposes.specs.Given.ResizeDeclared.copier.Copying.TheVariants as copying
+use Rattle.papaya_purposes.specs.Given.ResizeDeclared.new_table.NewTable.{NewTable}
+use Rattle.papaya_purposes.specs.Given.ReservesDeclared.reserve.Reserving.{Reserving}
+use Rattle.papaya_purposes.specs.Given.ReservesDeclared.reserve.Reserving.TheVariants as reserving
+use Rattle.papaya_purposes.specs.Given.SweepsDeclared.sweep.Sweeping.{Sweeping}
+use Rattle.papaya_purposes.specs.Given.SweepsDeclared.sweep.Sweeping.TheVariants as sweeping
+use Rattle.papaya_purposes.specs.Given.RawDeclared.machines.call.Calling.{Calling}
+use Rattle.papaya_purposes.specs.Given.RawDeclared.machines.call.Calling.TheVariants as calling
+use Rattle.papaya_purposes.specs.Given.RawDeclared.machines.machine.Machine.{Machine}
+use Rattle.papaya_purposes.specs.Given.RawDeclared.machines.machine.Machine.TheVariants as kinds
+use Rattle.papaya_purposes.specs.Given.RawDeclared.machines.progress.Progress.{Progress}
+use Rattle.papaya_purposes.specs.Given.SchedulesDeclared.call.Call.{Call}
+use Rattle.papaya_purposes.specs.Given.SchedulesDeclared.call.Call.TheVariants as call
+use Rattle.papaya_purposes.specs.Given.SchedulesDeclared.effect.Effect.{Effect}
+use Rattle.papaya_purposes.specs.Given.SchedulesDeclared.effect.Effect.TheVariants as effect
+use Rattle.papaya_purposes.specs.Given.SchedulesDeclared.effect.Growth.TheVariants.{ABlock}
+use Rattle.papaya_purposes.specs.Given.SchedulesEffects.{AtEachEffect}
+use Rattle.papaya_purposes.specs.Given.SchedulesGrowing.{Follows, Has, HasNext, MayMakeFor}
+use Rattle.papaya_purposes.specs.Given.SchedulesLists.{OneOf}
+use Rattle.papaya_purposes.specs.Given.SchedulesMoment.{Moment, TableThere, UnderWay as CallThere}
+use Rattle.papaya_purposes.specs.Given.SchedulesTerms.{Terms}
+use Rattle.papaya_purposes.specs.Given.SchedulesViews.{call_of, capacity_or, last_of, map_at, tables_of}
+use Rattle.papaya_purposes.specs.Given.PointsFactsCalls.{IsCopying}
+use Rattle.papaya_purposes.specs.Given.CallersTogether.{Counting, ForRoom, OnKey, OverAll, UnderWay}
+use Rattle.papaya_purposes.specs.Given.EffectsEffects.{effects_of}
+use Rattle.papaya_purposes.specs.Given.EffectsKnown.{Known}
+use Rattle.papaya_purposes.specs.Given.EffectsDeclared.acting.Acting.TheVariants as acts
+use Rattle.papaya_purposes.specs.Given.FinishesMachines.{machine_of}
+use Rattle.papaya_purposes.specs.Given.FollowsCalls.{IsCalled}
+use Rattle.papaya_purposes.specs.Given.FollowsFinds.{FindsMap}
+use Rattle.papaya_purposes.specs.Given.MomentsWhole.{ShowsWhole}
+use Rattle.papaya_purposes.specs.Given.OwesMaking.{making_in_calling, making_in_copying, making_in_sweeping, making_of}
+use Rattle.papaya_purposes.specs.Given.OwesTables.{ShowsTables, of_map, table_made}
+use Rattle.papaya_purposes.proofs.Given.OwesTables.Held.{shape_of, some_making}
+use Rattle.papaya_purposes.proofs.Given.OwesTables.Leaves.{IsGivenUp, IsLinked, IsMade, Stays}
+use Rattle.papaya_purposes.proofs.Given.OwesTables.Step.{left_tables}
+use Rattle.papaya_purposes.specs.Given.FindsLinking.{FindShapes, IsMadeFor}
 use Rattle.papaya_grows.specs.Copiers.{MakesByCopier, copier_in_calling, copier_in_reserving, making_of_copier}
-use Rattle.papaya_purposes.specs.Given.Finds.Within.{many_of}
-use Rattle.papaya_purposes.proofs.Given.Finds.Linking.{made_so, none_shaped, one_shaped, two_shaped}
-use Rattle.papaya_purposes.proofs.Given.Finds.Steps.{steps_find_places}
+use Rattle.papaya_purposes.specs.Given.FindsWithin.{many_of}
+use Rattle.papaya_purposes.proofs.Given.FindsLinking.{made_so, none_shaped, one_shaped, two_shaped}
+use Rattle.papaya_purposes.proofs.Given.FindsSteps.{steps_find_places}
 use Rattle.papaya_grows.specs.Further.{CallMakes, CopierMakes, IsBehind, IsFurther, MachineMakes, RoomMakes, ShowsFurther, SweepMakes, lengths_in, lengths_of}
 use Rattle.papaya_grows.proofs.Finding.Making.Lengths.{last_at}
-use Rattle.papaya_purposes.specs.Given.Scenes.Held.{Held, IsAt}
-use Rattle.papaya_purposes.specs.Given.Scenes.Scene.{Scene}
-use Rattle.papaya_purposes.specs.Given.Scenes.Stepping.{StepLeads}
+use Rattle.papaya_purposes.specs.Given.ScenesHeld.{Held, IsAt}
+use Rattle.papaya_purposes.specs.Given.ScenesScene.{Scene}
+use Rattle.papaya_purposes.specs.Given.ScenesStepping.{StepLeads}
 
 -- what its call makes a copier makes, and so it is such a making
 module _ (Such : NewTable → Type 0) (n : NewTable) where

@@ -1,42 +1,42 @@
 -- Whatever happens, where a copier makes a table its map has a second table, or had one at a moment since the call began.
 use Rattle.std.specs.Prelude.{◌≡◌, ◌<◌, ◌≤◌, ◌==◌, ℕ, Bool, true, List, find, Option, Some}
 use Rattle.std.proofs.Common.{ap, sym, subst, inl, inr}
-use Rattle.papaya_purposes.specs.Given.SeizeWords.Mem.{Mem, word_at}
-use Rattle.papaya_purposes.specs.Given.SeizeWords.Plan.{Do, Now, Plan, Seeing, Sure, Then, Turn}
-use Rattle.papaya_purposes.specs.Given.Tables.TablePlaces.{at_word}
-use Rattle.papaya_purposes.specs.Given.Tables.declared.node.Node.{Node}
-use Rattle.papaya_purposes.specs.Given.Tables.declared.table_words.TheConstants.{NEXT}
-use Rattle.papaya_purposes.specs.Given.Resize.NewTable.{new_table_plan}
-use Rattle.papaya_purposes.specs.Given.Resize.declared.copier.Copier.{Copier}
-use Rattle.papaya_purposes.specs.Given.Resize.declared.new_table.NewTable.{NewTable}
-use Rattle.papaya_purposes.specs.Given.Raw.Machine.{machine_asked, machine_plan, machine_replied}
-use Rattle.papaya_purposes.specs.Given.Raw.declared.machines.asking.Reply.{Reply as MachineReply}
-use Rattle.papaya_purposes.specs.Given.Raw.declared.machines.machine.Machine.{Machine}
-use Rattle.papaya_purposes.specs.Given.Raw.declared.machines.progress.Progress.{Progress}
-use Rattle.papaya_purposes.specs.Given.Schedules.declared.call.Call.{Call}
-use Rattle.papaya_purposes.specs.Given.Schedules.declared.call.Reply.{Reply}
-use Rattle.papaya_purposes.specs.Given.Schedules.declared.effect.Effect.{Effect}
-use Rattle.papaya_purposes.specs.Given.Schedules.declared.outcome.Outcome.{Outcome}
-use Rattle.papaya_purposes.specs.Given.Schedules.Beginning.{with_call}
-use Rattle.papaya_purposes.specs.Given.Schedules.Effects.{with_effects}
-use Rattle.papaya_purposes.specs.Given.Schedules.Entry.{ends_call}
-use Rattle.papaya_purposes.specs.Given.Schedules.Growing.{HasNext}
-use Rattle.papaya_purposes.specs.Given.Schedules.Moment.{MapThere, Moment, TableThere, UnderWay as CallThere}
-use Rattle.papaya_purposes.specs.Given.Schedules.Views.{call_of, first_of, first_or, map_at}
-use Rattle.papaya_purposes.specs.Given.Teller.declared.changed.Changed.{Changed}
-use Rattle.papaya_purposes.specs.Given.Teller.declared.changed.Changed.TheVariants as changed
-use Rattle.papaya_purposes.proofs.Given.Rule.Keys.Always.{Always, AlwaysOf, always_steps}
-use Rattle.papaya_purposes.specs.Given.Callers.Together.{UnderWay}
-use Rattle.papaya_purposes.specs.Given.Effects.Effects.{effects_of}
-use Rattle.papaya_purposes.specs.Given.Effects.Known.{Known}
-use Rattle.papaya_purposes.specs.Given.Effects.declared.acting.Acting.TheVariants as acts
-use Rattle.papaya_purposes.specs.Given.Finishes.Machines.{machine_of}
-use Rattle.papaya_purposes.specs.Given.Finishes.Maps.{Standing, with_call as with_in}
-use Rattle.papaya_purposes.specs.Given.Follows.Calling.{NoneNamed, come_to, told}
-use Rattle.papaya_purposes.specs.Given.Follows.Calls.{ShowsCalls as IsThere}
-use Rattle.papaya_purposes.proofs.Given.Follows.Steps.{WentTo, went_to}
-use Rattle.papaya_purposes.specs.Given.Others.Walks.{given_up}
-use Rattle.papaya_purposes.specs.Given.Moments.Whole.{ShowsWhole}
+use Rattle.papaya_purposes.specs.Given.SeizeWordsMem.{Mem, word_at}
+use Rattle.papaya_purposes.specs.Given.SeizeWordsPlan.{Do, Now, Plan, Seeing, Sure, Then, Turn}
+use Rattle.papaya_purposes.specs.Given.TablesTablePlaces.{at_word}
+use Rattle.papaya_purposes.specs.Given.TablesDeclared.node.Node.{Node}
+use Rattle.papaya_purposes.specs.Given.TablesDeclared.table_words.TheConstants.{NEXT}
+use Rattle.papaya_purposes.specs.Given.ResizeNewTable.{new_table_plan}
+use Rattle.papaya_purposes.specs.Given.ResizeDeclared.copier.Copier.{Copier}
+use Rattle.papaya_purposes.specs.Given.ResizeDeclared.new_table.NewTable.{NewTable}
+use Rattle.papaya_purposes.specs.Given.RawMachine.{machine_asked, machine_plan, machine_replied}
+use Rattle.papaya_purposes.specs.Given.RawDeclared.machines.asking.Reply.{Reply as MachineReply}
+use Rattle.papaya_purposes.specs.Given.RawDeclared.machines.machine.Machine.{Machine}
+use Rattle.papaya_purposes.specs.Given.RawDeclared.machines.progress.Progress.{Progress}
+use Rattle.papaya_purposes.specs.Given.SchedulesDeclared.call.Call.{Call}
+use Rattle.papaya_purposes.specs.Given.SchedulesDeclared.call.Reply.{Reply}
+use Rattle.papaya_purposes.specs.Given.SchedulesDeclared.effect.Effect.{Effect}
+use Rattle.papaya_purposes.specs.Given.SchedulesDeclared.outcome.Outcome.{Outcome}
+use Rattle.papaya_purposes.specs.Given.SchedulesBeginning.{with_call}
+use Rattle.papaya_purposes.specs.Given.SchedulesEffects.{with_effects}
+use Rattle.papaya_purposes.specs.Given.SchedulesEntry.{ends_call}
+use Rattle.papaya_purposes.specs.Given.SchedulesGrowing.{HasNext}
+use Rattle.papaya_purposes.specs.Given.SchedulesMoment.{MapThere, Moment, TableThere, UnderWay as CallThere}
+use Rattle.papaya_purposes.specs.Given.SchedulesViews.{call_of, first_of, first_or, map_at}
+use Rattle.papaya_purposes.specs.Given.TellerDeclared.changed.Changed.{Changed}
+use Rattle.papaya_purposes.specs.Given.TellerDeclared.changed.Changed.TheVariants as changed
+use Rattle.papaya_purposes.proofs.Given.RuleKeys.Always.{Always, AlwaysOf, always_steps}
+use Rattle.papaya_purposes.specs.Given.CallersTogether.{UnderWay}
+use Rattle.papaya_purposes.specs.Given.EffectsEffects.{effects_of}
+use Rattle.papaya_purposes.specs.Given.EffectsKnown.{Known}
+use Rattle.papaya_purposes.specs.Given.EffectsDeclared.acting.Acting.TheVariants as acts
+use Rattle.papaya_purposes.specs.Given.FinishesMachines.{machine_of}
+use Rattle.papaya_purposes.specs.Given.FinishesMaps.{Standing, with_call as with_in}
+use Rattle.papaya_purposes.specs.Given.FollowsCalling.{NoneNamed, come_to, told}
+use Rattle.papaya_purposes.specs.Given.FollowsCalls.{ShowsCalls as IsThere}
+use Rattle.papaya_purposes.proofs.Given.FollowsSteps.{WentTo, went_to}
+use Rattle.papaya_purposes.specs.Given.OthersWalks.{given_up}
+use Rattle.papaya_purposes.specs.Given.MomentsWhole.{ShowsWhole}
 use Rattle.papaya_grows.proofs.CopiersNext.{second_there}
 use Rattle.papaya_grows.specs.Further.{MachineMakes}
 use Rattle.papaya_grows.specs.Nexts.{MayFollow, OthersHadNext, ShowsNexts}
@@ -47,14 +47,14 @@ use Rattle.papaya_grows.proofs.Finding.Making.OffRoot.{HasCopier, NoTable, machi
 use Rattle.papaya_grows.proofs.Finding.Making.Such.{machine_more}
 use Rattle.papaya_grows.proofs.Finding.Making.Unpromoted.{OffRoot, effects_keep_next, many_from, off_promotes_none}
 use Rattle.papaya_grows.proofs.Since as since
-use Rattle.papaya_purposes.proofs.Given.Scenes.Told.{as_step}
-use Rattle.papaya_purposes.specs.Given.Scenes.Beginning.{Begins}
-use Rattle.papaya_purposes.specs.Given.Scenes.Held.{Held, IsAt}
-use Rattle.papaya_purposes.specs.Given.Scenes.Replying.{scene_with, unless_stopped}
-use Rattle.papaya_purposes.specs.Given.Scenes.Scene.{Scene}
-use Rattle.papaya_purposes.specs.Given.Scenes.Stepping.{StepLeads, scene_after}
-use Rattle.papaya_purposes.specs.Given.Schedules.Transition.{Past, further}
-use Rattle.papaya_purposes.specs.Given.Histories.Histories.{IsPast}
+use Rattle.papaya_purposes.proofs.Given.ScenesTold.{as_step}
+use Rattle.papaya_purposes.specs.Given.ScenesBeginning.{Begins}
+use Rattle.papaya_purposes.specs.Given.ScenesHeld.{Held, IsAt}
+use Rattle.papaya_purposes.specs.Given.ScenesReplying.{scene_with, unless_stopped}
+use Rattle.papaya_purposes.specs.Given.ScenesScene.{Scene}
+use Rattle.papaya_purposes.specs.Given.ScenesStepping.{StepLeads, scene_after}
+use Rattle.papaya_purposes.specs.Given.SchedulesTransition.{Past, further}
+use Rattle.papaya_purposes.specs.Given.HistoriesHistories.{IsPast}
 
 -- A map has a second table where it is there with the same root, and the same tables.
 

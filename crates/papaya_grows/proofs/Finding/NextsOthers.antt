@@ -1,42 +1,42 @@
 -- Where a copier makes a table its map has a second table, or had one, after each step of what is no call, too.
 use Rattle.std.specs.Prelude.{◌≡◌, ℕ, Bool, List, Option, Some, None}
 use Rattle.std.proofs.Common.{ap, sym, ◌∙◌}
-use Rattle.papaya_purposes.specs.Given.Seize.World.{Begin, Step}
-use Rattle.papaya_purposes.specs.Given.Seize.declared.progress.Progress.{Progress as Making}
-use Rattle.papaya_purposes.specs.Given.Seize.declared.rows.settle.Settled.{Settled}
-use Rattle.papaya_purposes.specs.Given.Tables.declared.node.Node.{Node}
-use Rattle.papaya_purposes.specs.Given.Tables.declared.setting.Setting.{Setting}
-use Rattle.papaya_purposes.specs.Given.Schedules.Effects.{with_effects}
-use Rattle.papaya_purposes.specs.Given.Schedules.Moment.{Moment}
-use Rattle.papaya_purposes.specs.Given.Callers.Together.{UnderWay}
-use Rattle.papaya_purposes.specs.Given.Effects.Effects.{effects_of, known_after}
-use Rattle.papaya_purposes.specs.Given.Effects.Known.{Known}
-use Rattle.papaya_purposes.specs.Given.Effects.declared.acting.Acting.TheVariants as acts
-use Rattle.papaya_purposes.specs.Given.Scenes.declared.row.RowTold.{RowTold}
-use Rattle.papaya_purposes.specs.Given.Scenes.declared.row.SlotCall.{SlotCall}
-use Rattle.papaya_purposes.specs.Given.Scenes.declared.row.SlotRow.{SlotRow}
-use Rattle.papaya_purposes.specs.Given.Finishes.Endings.{Finishing}
-use Rattle.papaya_purposes.specs.Given.Finishes.Makings.{Beginning}
-use Rattle.papaya_purposes.specs.Given.Others.Endings.{ending_after}
-use Rattle.papaya_purposes.specs.Given.Others.Makings.{WasNew, making_after}
-use Rattle.papaya_purposes.specs.Given.Others.Rows.{scene_then}
-use Rattle.papaya_purposes.specs.Given.Moments.Whole.{ShowsWhole}
-use Rattle.papaya_purposes.proofs.Given.Moments.Ends.{end_beside}
-use Rattle.papaya_purposes.proofs.Given.Moments.MakingSteps.{makings_go_beside}
-use Rattle.papaya_purposes.proofs.Given.Moments.OnSlots.{row_beside, rows_begin_beside}
-use Rattle.papaya_purposes.specs.Given.Schedules.Growing.{HasNext}
-use Rattle.papaya_purposes.proofs.Given.Moments.Beside.{IsBeside}
+use Rattle.papaya_purposes.specs.Given.SeizeWorld.{Begin, Step}
+use Rattle.papaya_purposes.specs.Given.SeizeDeclared.progress.Progress.{Progress as Making}
+use Rattle.papaya_purposes.specs.Given.SeizeDeclared.rows.settle.Settled.{Settled}
+use Rattle.papaya_purposes.specs.Given.TablesDeclared.node.Node.{Node}
+use Rattle.papaya_purposes.specs.Given.TablesDeclared.setting.Setting.{Setting}
+use Rattle.papaya_purposes.specs.Given.SchedulesEffects.{with_effects}
+use Rattle.papaya_purposes.specs.Given.SchedulesMoment.{Moment}
+use Rattle.papaya_purposes.specs.Given.CallersTogether.{UnderWay}
+use Rattle.papaya_purposes.specs.Given.EffectsEffects.{effects_of, known_after}
+use Rattle.papaya_purposes.specs.Given.EffectsKnown.{Known}
+use Rattle.papaya_purposes.specs.Given.EffectsDeclared.acting.Acting.TheVariants as acts
+use Rattle.papaya_purposes.specs.Given.ScenesDeclared.row.RowTold.{RowTold}
+use Rattle.papaya_purposes.specs.Given.ScenesDeclared.row.SlotCall.{SlotCall}
+use Rattle.papaya_purposes.specs.Given.ScenesDeclared.row.SlotRow.{SlotRow}
+use Rattle.papaya_purposes.specs.Given.FinishesEndings.{Finishing}
+use Rattle.papaya_purposes.specs.Given.FinishesMakings.{Beginning}
+use Rattle.papaya_purposes.specs.Given.OthersEndings.{ending_after}
+use Rattle.papaya_purposes.specs.Given.OthersMakings.{WasNew, making_after}
+use Rattle.papaya_purposes.specs.Given.OthersRows.{scene_then}
+use Rattle.papaya_purposes.specs.Given.MomentsWhole.{ShowsWhole}
+use Rattle.papaya_purposes.proofs.Given.MomentsEnds.{end_beside}
+use Rattle.papaya_purposes.proofs.Given.MomentsMakingSteps.{makings_go_beside}
+use Rattle.papaya_purposes.proofs.Given.MomentsOnSlots.{row_beside, rows_begin_beside}
+use Rattle.papaya_purposes.specs.Given.SchedulesGrowing.{HasNext}
+use Rattle.papaya_purposes.proofs.Given.MomentsBeside.{IsBeside}
 use Rattle.papaya_grows.specs.Nexts.{ShowsNexts}
 use Rattle.papaya_grows.proofs.Finding.Making.Unpromoted.{same_maps_keep_next}
 use Rattle.papaya_grows.proofs.Finding.Nexts.{nexts_alike}
 use Rattle.papaya_grows.proofs.Finding.Others.{ended, ended_calls, ended_maps, ended_world}
-use Rattle.papaya_purposes.specs.Given.Scenes.Ending.{EndingLeads}
-use Rattle.papaya_purposes.specs.Given.Scenes.Held.{Held, IsAt}
-use Rattle.papaya_purposes.specs.Given.Scenes.Making.{MakingLeads}
-use Rattle.papaya_purposes.specs.Given.Scenes.OnSlots.{RowBegins, RowLeads}
-use Rattle.papaya_purposes.specs.Given.Scenes.Rows.{request_of}
-use Rattle.papaya_purposes.specs.Given.Scenes.Scene.{IsOnSlot, Scene, slot_of}
-use Rattle.papaya_purposes.specs.Given.Schedules.Transition.{Past}
+use Rattle.papaya_purposes.specs.Given.ScenesEnding.{EndingLeads}
+use Rattle.papaya_purposes.specs.Given.ScenesHeld.{Held, IsAt}
+use Rattle.papaya_purposes.specs.Given.ScenesMaking.{MakingLeads}
+use Rattle.papaya_purposes.specs.Given.ScenesOnSlots.{RowBegins, RowLeads}
+use Rattle.papaya_purposes.specs.Given.ScenesRows.{request_of}
+use Rattle.papaya_purposes.specs.Given.ScenesScene.{IsOnSlot, Scene, slot_of}
+use Rattle.papaya_purposes.specs.Given.SchedulesTransition.{Past}
 
 -- where calls and maps are as they were
 nexts_beside : {K V : Type 0} (name : ℕ → List ℕ) (log : Past K V) (m v : Moment K V) (known known2 : Known) (s t : Scene K V) → IsBeside m v known known2 s t → ((n : ℕ) → HasNext n m → HasNext n v) → ShowsNexts name log m s

@@ -1,47 +1,47 @@
 -- What steps of calls find by is so after each step of what is no call: of a row on a slot, of the making of a map, of the end of one, and of the reclaiming of all.
 use Rattle.std.specs.Prelude.{◌≡◌, ℕ, Bool, List, Some, None}
 use Rattle.std.proofs.Common.{refl}
-use Rattle.papaya_purposes.specs.Given.Seize.World.{Begin, Step}
-use Rattle.papaya_purposes.specs.Given.Seize.declared.progress.Progress.{Progress as Making}
-use Rattle.papaya_purposes.specs.Given.Seize.declared.rows.settle.Settled.{Settled}
-use Rattle.papaya_purposes.specs.Given.Seize.declared.rows.settle.Settled.TheVariants as settled
-use Rattle.papaya_purposes.specs.Given.Tables.declared.node.Node.{Node}
-use Rattle.papaya_purposes.specs.Given.Tables.declared.setting.Setting.{Setting}
-use Rattle.papaya_purposes.specs.Given.Schedules.declared.effect.Effect.{Effect}
-use Rattle.papaya_purposes.specs.Given.Schedules.Effects.{with_effects}
-use Rattle.papaya_purposes.specs.Given.Schedules.Moment.{Moment}
-use Rattle.papaya_purposes.specs.Given.Callers.Together.{OnKey, UnderWay}
-use Rattle.papaya_purposes.specs.Given.Effects.Effects.{effects_of, known_after}
-use Rattle.papaya_purposes.specs.Given.Effects.Known.{Known}
-use Rattle.papaya_purposes.specs.Given.Effects.declared.acting.Acting.TheVariants as acts
-use Rattle.papaya_purposes.specs.Given.Scenes.declared.row.RowTold.{RowTold}
-use Rattle.papaya_purposes.specs.Given.Scenes.declared.row.SlotCall.{SlotCall}
-use Rattle.papaya_purposes.specs.Given.Scenes.declared.row.SlotRow.{SlotRow}
-use Rattle.papaya_purposes.specs.Given.Finishes.Endings.{Finishing}
-use Rattle.papaya_purposes.specs.Given.Finishes.Makings.{Beginning}
-use Rattle.papaya_purposes.specs.Given.Finishes.Maps.{IsSameMap}
-use Rattle.papaya_purposes.specs.Given.Others.Endings.{ending_after}
-use Rattle.papaya_purposes.specs.Given.Others.Makings.{WasNew, making_after}
-use Rattle.papaya_purposes.specs.Given.Others.Rows.{scene_then}
-use Rattle.papaya_purposes.specs.Given.Moments.Whole.{ShowsWhole}
-use Rattle.papaya_purposes.proofs.Given.Moments.Ends.{end_beside}
-use Rattle.papaya_purposes.proofs.Given.Moments.MakingSteps.{makings_go_beside}
-use Rattle.papaya_purposes.proofs.Given.Moments.OnSlots.{row_beside, rows_begin_beside}
-use Rattle.papaya_purposes.specs.Given.Finds.Linking.{IsMadeFor}
-use Rattle.papaya_purposes.specs.Given.Finds.Within.{many_of}
-use Rattle.papaya_purposes.proofs.Given.Finds.Capacities.{capacities_stay, effects_keep_capacities, makings_keep_capacities, same_maps_stood}
-use Rattle.papaya_purposes.proofs.Given.Finds.Grows.Steps.{tables_have_been}
+use Rattle.papaya_purposes.specs.Given.SeizeWorld.{Begin, Step}
+use Rattle.papaya_purposes.specs.Given.SeizeDeclared.progress.Progress.{Progress as Making}
+use Rattle.papaya_purposes.specs.Given.SeizeDeclared.rows.settle.Settled.{Settled}
+use Rattle.papaya_purposes.specs.Given.SeizeDeclared.rows.settle.Settled.TheVariants as settled
+use Rattle.papaya_purposes.specs.Given.TablesDeclared.node.Node.{Node}
+use Rattle.papaya_purposes.specs.Given.TablesDeclared.setting.Setting.{Setting}
+use Rattle.papaya_purposes.specs.Given.SchedulesDeclared.effect.Effect.{Effect}
+use Rattle.papaya_purposes.specs.Given.SchedulesEffects.{with_effects}
+use Rattle.papaya_purposes.specs.Given.SchedulesMoment.{Moment}
+use Rattle.papaya_purposes.specs.Given.CallersTogether.{OnKey, UnderWay}
+use Rattle.papaya_purposes.specs.Given.EffectsEffects.{effects_of, known_after}
+use Rattle.papaya_purposes.specs.Given.EffectsKnown.{Known}
+use Rattle.papaya_purposes.specs.Given.EffectsDeclared.acting.Acting.TheVariants as acts
+use Rattle.papaya_purposes.specs.Given.ScenesDeclared.row.RowTold.{RowTold}
+use Rattle.papaya_purposes.specs.Given.ScenesDeclared.row.SlotCall.{SlotCall}
+use Rattle.papaya_purposes.specs.Given.ScenesDeclared.row.SlotRow.{SlotRow}
+use Rattle.papaya_purposes.specs.Given.FinishesEndings.{Finishing}
+use Rattle.papaya_purposes.specs.Given.FinishesMakings.{Beginning}
+use Rattle.papaya_purposes.specs.Given.FinishesMaps.{IsSameMap}
+use Rattle.papaya_purposes.specs.Given.OthersEndings.{ending_after}
+use Rattle.papaya_purposes.specs.Given.OthersMakings.{WasNew, making_after}
+use Rattle.papaya_purposes.specs.Given.OthersRows.{scene_then}
+use Rattle.papaya_purposes.specs.Given.MomentsWhole.{ShowsWhole}
+use Rattle.papaya_purposes.proofs.Given.MomentsEnds.{end_beside}
+use Rattle.papaya_purposes.proofs.Given.MomentsMakingSteps.{makings_go_beside}
+use Rattle.papaya_purposes.proofs.Given.MomentsOnSlots.{row_beside, rows_begin_beside}
+use Rattle.papaya_purposes.specs.Given.FindsLinking.{IsMadeFor}
+use Rattle.papaya_purposes.specs.Given.FindsWithin.{many_of}
+use Rattle.papaya_purposes.proofs.Given.FindsCapacities.{capacities_stay, effects_keep_capacities, makings_keep_capacities, same_maps_stood}
+use Rattle.papaya_purposes.proofs.Given.FindsGrows.Steps.{tables_have_been}
 use Rattle.papaya_grows.proofs.Finding.Making.Lengths.{effects_keep_lengths}
 use Rattle.papaya_grows.specs.Finding.{ShowsFinding}
 use Rattle.papaya_grows.proofs.Finding.Alike.{itself, stood_as}
 use Rattle.papaya_grows.proofs.Finding.Aside.{endings_leave_spots, makings_leave_spots, rows_leave_spots}
 use Rattle.papaya_grows.proofs.Finding.Beside.{finding_beside}
-use Rattle.papaya_purposes.specs.Given.Scenes.Ending.{EndingLeads}
-use Rattle.papaya_purposes.specs.Given.Scenes.Held.{Held, IsAt}
-use Rattle.papaya_purposes.specs.Given.Scenes.Making.{MakingLeads}
-use Rattle.papaya_purposes.specs.Given.Scenes.OnSlots.{RowBegins, RowLeads}
-use Rattle.papaya_purposes.specs.Given.Scenes.Rows.{request_of}
-use Rattle.papaya_purposes.specs.Given.Scenes.Scene.{IsOnSlot, Scene, slot_of}
+use Rattle.papaya_purposes.specs.Given.ScenesEnding.{EndingLeads}
+use Rattle.papaya_purposes.specs.Given.ScenesHeld.{Held, IsAt}
+use Rattle.papaya_purposes.specs.Given.ScenesMaking.{MakingLeads}
+use Rattle.papaya_purposes.specs.Given.ScenesOnSlots.{RowBegins, RowLeads}
+use Rattle.papaya_purposes.specs.Given.ScenesRows.{request_of}
+use Rattle.papaya_purposes.specs.Given.ScenesScene.{IsOnSlot, Scene, slot_of}
 
 -- the scene after a step of the end of a map
 module _ {K V : Type 0} (same : K → K → Bool) (hash : ℕ → K → ℕ) (s : Scene K V) (old new : Held K V) (i : ℕ) (f : Finishing K V) (here : s.enders i ≡ Some f) where

@@ -1,47 +1,47 @@
 -- The table behind which a call is to put its pair is noted as it was after a step that is of no call: while its row is under way that block is there, and before that the call knows it anew.
 use Rattle.std.specs.Prelude.{◌≡◌, ◌+◌, ℕ, Bool, List, Option, Some, None, IsSome}
 use Rattle.std.proofs.Common.{refl, ap, sym, subst, ◌∙◌, inl, inr}
-use Rattle.papaya_purposes.specs.Given.SeizeWords.Mem.{value_at}
-use Rattle.papaya_purposes.specs.Given.SeizeWords.declared.at.At.{At}
-use Rattle.papaya_purposes.specs.Given.Seize.Further.{IsWordOf}
-use Rattle.papaya_purposes.specs.Given.Seize.World.{Defers, World, IsInside}
-use Rattle.papaya_purposes.specs.Given.Seize.declared.rows.defer.Defer.{Defer}
-use Rattle.papaya_purposes.specs.Given.Seize.declared.rows.defer.Deferring.{Deferring}
-use Rattle.papaya_purposes.specs.Given.Seize.declared.rows.defer.Deferring.TheVariants as deferring
-use Rattle.papaya_purposes.specs.Given.Seize.declared.states.TheConstants.{LAST_SLOT}
-use Rattle.papaya_purposes.proofs.Given.SeizeAlone.Histories.Reached.{Reached}
-use Rattle.papaya_purposes.proofs.Given.SeizeRule.Rows.Known.{FitsDefer, FitsRow, OnWay}
-use Rattle.papaya_purposes.proofs.Given.SeizeRule.Words.View.{list_in, view}
-use Rattle.papaya_purposes.specs.Given.Tables.Nodes.{deferred_word}
-use Rattle.papaya_purposes.specs.Given.Tables.declared.node.Node.{Node}
-use Rattle.papaya_purposes.specs.Given.Resize.declared.dispose.Disposing.{Disposing}
-use Rattle.papaya_purposes.specs.Given.Resize.declared.dispose.Disposing.TheVariants as disposing
-use Rattle.papaya_purposes.specs.Given.Resize.declared.copier.Copying.{Copying}
-use Rattle.papaya_purposes.specs.Given.Resize.declared.copier.Copying.TheVariants as copying
-use Rattle.papaya_purposes.specs.Given.Sweeps.declared.sweep.Sweeping.{Sweeping}
-use Rattle.papaya_purposes.specs.Given.Sweeps.declared.sweep.Sweeping.TheVariants as sweeping
-use Rattle.papaya_purposes.specs.Given.Raw.declared.machines.call.Calling.{Calling}
-use Rattle.papaya_purposes.specs.Given.Raw.declared.machines.call.Calling.TheVariants as calling
-use Rattle.papaya_purposes.specs.Given.Schedules.Moment.{Moment}
-use Rattle.papaya_purposes.specs.Given.Rule.Words.{Blocks}
-use Rattle.papaya_purposes.specs.Given.Callers.OverAll.{row_of_sweep}
-use Rattle.papaya_purposes.specs.Given.Callers.Rows.{row_of, row_of_disposal}
-use Rattle.papaya_purposes.specs.Given.Callers.Sights.{seen_by}
-use Rattle.papaya_purposes.specs.Given.Callers.Together.{Counting, ForRoom, OnKey, OverAll, Together, UnderWay}
-use Rattle.papaya_purposes.proofs.Given.Callers.Together.Came.{came_reached}
-use Rattle.papaya_purposes.specs.Given.Effects.Known.{Known}
-use Rattle.papaya_purposes.specs.Given.Finishes.Machines.{machine_of}
-use Rattle.papaya_purposes.specs.Given.Finishes.Maps.{Standing}
-use Rattle.papaya_purposes.proofs.Given.Follows.Onward.{IsOfMap}
-use Rattle.papaya_purposes.specs.Given.Moments.Whole.{ShowsWhole}
-use Rattle.papaya_purposes.specs.Given.Settles.Due.{ToPut, due_in_calling, due_in_copying, due_in_defer, due_in_disposing, due_in_row, due_in_sweeping}
-use Rattle.papaya_purposes.specs.Given.Finds.Puts.{IsBehindNext, ShowsPuts}
-use Rattle.papaya_purposes.specs.Given.Finds.Waits.{waits_in, waits_in_calling, waits_in_sweeping}
-use Rattle.papaya_purposes.proofs.Given.Finds.Waits.Behind.{IsBehind, key_behind, room_never, sweep_behind}
-use Rattle.papaya_purposes.proofs.Given.Finds.Waits.Due.{never_put}
-use Rattle.papaya_purposes.proofs.Given.Scenes.May.{standing_is}
-use Rattle.papaya_purposes.specs.Given.Scenes.Held.{Held, IsAt}
-use Rattle.papaya_purposes.specs.Given.Scenes.Scene.{Scene, slot_of}
+use Rattle.papaya_purposes.specs.Given.SeizeWordsMem.{value_at}
+use Rattle.papaya_purposes.specs.Given.SeizeWordsDeclared.at.At.{At}
+use Rattle.papaya_purposes.specs.Given.SeizeFurther.{IsWordOf}
+use Rattle.papaya_purposes.specs.Given.SeizeWorld.{Defers, World, IsInside}
+use Rattle.papaya_purposes.specs.Given.SeizeDeclared.rows.defer.Defer.{Defer}
+use Rattle.papaya_purposes.specs.Given.SeizeDeclared.rows.defer.Deferring.{Deferring}
+use Rattle.papaya_purposes.specs.Given.SeizeDeclared.rows.defer.Deferring.TheVariants as deferring
+use Rattle.papaya_purposes.specs.Given.SeizeDeclared.states.TheConstants.{LAST_SLOT}
+use Rattle.papaya_purposes.proofs.Given.SeizeAloneHistories.Reached.{Reached}
+use Rattle.papaya_purposes.proofs.Given.SeizeRuleRows.Known.{FitsDefer, FitsRow, OnWay}
+use Rattle.papaya_purposes.proofs.Given.SeizeRuleWords.View.{list_in, view}
+use Rattle.papaya_purposes.specs.Given.TablesNodes.{deferred_word}
+use Rattle.papaya_purposes.specs.Given.TablesDeclared.node.Node.{Node}
+use Rattle.papaya_purposes.specs.Given.ResizeDeclared.dispose.Disposing.{Disposing}
+use Rattle.papaya_purposes.specs.Given.ResizeDeclared.dispose.Disposing.TheVariants as disposing
+use Rattle.papaya_purposes.specs.Given.ResizeDeclared.copier.Copying.{Copying}
+use Rattle.papaya_purposes.specs.Given.ResizeDeclared.copier.Copying.TheVariants as copying
+use Rattle.papaya_purposes.specs.Given.SweepsDeclared.sweep.Sweeping.{Sweeping}
+use Rattle.papaya_purposes.specs.Given.SweepsDeclared.sweep.Sweeping.TheVariants as sweeping
+use Rattle.papaya_purposes.specs.Given.RawDeclared.machines.call.Calling.{Calling}
+use Rattle.papaya_purposes.specs.Given.RawDeclared.machines.call.Calling.TheVariants as calling
+use Rattle.papaya_purposes.specs.Given.SchedulesMoment.{Moment}
+use Rattle.papaya_purposes.specs.Given.RuleWords.{Blocks}
+use Rattle.papaya_purposes.specs.Given.CallersOverAll.{row_of_sweep}
+use Rattle.papaya_purposes.specs.Given.CallersRows.{row_of, row_of_disposal}
+use Rattle.papaya_purposes.specs.Given.CallersSights.{seen_by}
+use Rattle.papaya_purposes.specs.Given.CallersTogether.{Counting, ForRoom, OnKey, OverAll, Together, UnderWay}
+use Rattle.papaya_purposes.proofs.Given.CallersTogether.Came.{came_reached}
+use Rattle.papaya_purposes.specs.Given.EffectsKnown.{Known}
+use Rattle.papaya_purposes.specs.Given.FinishesMachines.{machine_of}
+use Rattle.papaya_purposes.specs.Given.FinishesMaps.{Standing}
+use Rattle.papaya_purposes.proofs.Given.FollowsOnward.{IsOfMap}
+use Rattle.papaya_purposes.specs.Given.MomentsWhole.{ShowsWhole}
+use Rattle.papaya_purposes.specs.Given.SettlesDue.{ToPut, due_in_calling, due_in_copying, due_in_defer, due_in_disposing, due_in_row, due_in_sweeping}
+use Rattle.papaya_purposes.specs.Given.FindsPuts.{IsBehindNext, ShowsPuts}
+use Rattle.papaya_purposes.specs.Given.FindsWaits.{waits_in, waits_in_calling, waits_in_sweeping}
+use Rattle.papaya_purposes.proofs.Given.FindsWaits.Behind.{IsBehind, key_behind, room_never, sweep_behind}
+use Rattle.papaya_purposes.proofs.Given.FindsWaits.Due.{never_put}
+use Rattle.papaya_purposes.proofs.Given.ScenesMay.{standing_is}
+use Rattle.papaya_purposes.specs.Given.ScenesHeld.{Held, IsAt}
+use Rattle.papaya_purposes.specs.Given.ScenesScene.{Scene, slot_of}
 
 -- what has a list is there
 listed : {K V : Type 0} (o : Option (Node K V)) (d : ℕ) → list_in deferred_word o ≡ Some d → IsSome o

@@ -1,54 +1,54 @@
 -- The effects of a step of a call find what is left of what they must, by what the moment shows and what is still asked.
 use Rattle.std.specs.Prelude.{◌≡◌, ◌⊎◌, ℕ, ◌+◌, Bool, List, ◌∷◌, Some, None}
 use Rattle.std.proofs.Common.{refl, inl, inr}
-use Rattle.papaya_purposes.specs.Given.Tables.declared.node.Node.{Node}
-use Rattle.papaya_purposes.specs.Given.Resize.Sum.{sum_plan}
-use Rattle.papaya_purposes.specs.Given.Resize.declared.new_table.NewTable.{NewTable}
-use Rattle.papaya_purposes.specs.Given.Resize.declared.sum.Sum.{Sum}
-use Rattle.papaya_purposes.specs.Given.Raw.Machine.{counted as of_sum}
-use Rattle.papaya_purposes.specs.Given.Raw.declared.machines.call.Calling.{Calling}
-use Rattle.papaya_purposes.specs.Given.Raw.declared.machines.call.Calling.TheVariants as calling
-use Rattle.papaya_purposes.specs.Given.Raw.declared.machines.progress.Progress.{Progress}
-use Rattle.papaya_purposes.specs.Given.Schedules.declared.effect.Effect.{Effect}
-use Rattle.papaya_purposes.specs.Given.Schedules.Growing.{HasNext, MayGrow}
-use Rattle.papaya_purposes.specs.Given.Schedules.Lists.{OneOf}
-use Rattle.papaya_purposes.specs.Given.Schedules.Moment.{UnderWay as CallThere, Moment}
-use Rattle.papaya_purposes.specs.Given.Schedules.Terms.{Terms, shards_of}
-use Rattle.papaya_purposes.specs.Given.Schedules.Views.{call_of}
-use Rattle.papaya_purposes.specs.Given.Points.FactsCalls.{IsCopying}
-use Rattle.papaya_purposes.specs.Given.Callers.Together.{Counting, ForRoom, OnKey, OverAll, UnderWay}
-use Rattle.papaya_purposes.specs.Given.Effects.Effects.{effects_of}
-use Rattle.papaya_purposes.specs.Given.Effects.Known.{Known}
-use Rattle.papaya_purposes.specs.Given.Effects.declared.acting.Acting.TheVariants as acts
-use Rattle.papaya_purposes.specs.Given.Finishes.Machines.{machine_of}
-use Rattle.papaya_purposes.specs.Given.Moments.Whole.{ShowsWhole}
-use Rattle.papaya_purposes.proofs.Given.Others.Outcomes.{told_in}
-use Rattle.papaya_purposes.specs.Given.Owes.Tables.{ShowsTables}
-use Rattle.papaya_purposes.proofs.Given.Owes.Walks.{sum_at}
-use Rattle.papaya_purposes.specs.Given.Settles.Due.{OwnAreMade}
-use Rattle.papaya_models.proofs.Given.Kept.Calls.{own_made}
-use Rattle.papaya_purposes.specs.Given.Finds.Growing.{FindAsked}
-use Rattle.papaya_purposes.specs.Given.Finds.Linking.{FindShapes, FoundFull}
-use Rattle.papaya_purposes.specs.Given.Finds.Within.{many_of}
+use Rattle.papaya_purposes.specs.Given.TablesDeclared.node.Node.{Node}
+use Rattle.papaya_purposes.specs.Given.ResizeSum.{sum_plan}
+use Rattle.papaya_purposes.specs.Given.ResizeDeclared.new_table.NewTable.{NewTable}
+use Rattle.papaya_purposes.specs.Given.ResizeDeclared.sum.Sum.{Sum}
+use Rattle.papaya_purposes.specs.Given.RawMachine.{counted as of_sum}
+use Rattle.papaya_purposes.specs.Given.RawDeclared.machines.call.Calling.{Calling}
+use Rattle.papaya_purposes.specs.Given.RawDeclared.machines.call.Calling.TheVariants as calling
+use Rattle.papaya_purposes.specs.Given.RawDeclared.machines.progress.Progress.{Progress}
+use Rattle.papaya_purposes.specs.Given.SchedulesDeclared.effect.Effect.{Effect}
+use Rattle.papaya_purposes.specs.Given.SchedulesGrowing.{HasNext, MayGrow}
+use Rattle.papaya_purposes.specs.Given.SchedulesLists.{OneOf}
+use Rattle.papaya_purposes.specs.Given.SchedulesMoment.{UnderWay as CallThere, Moment}
+use Rattle.papaya_purposes.specs.Given.SchedulesTerms.{Terms, shards_of}
+use Rattle.papaya_purposes.specs.Given.SchedulesViews.{call_of}
+use Rattle.papaya_purposes.specs.Given.PointsFactsCalls.{IsCopying}
+use Rattle.papaya_purposes.specs.Given.CallersTogether.{Counting, ForRoom, OnKey, OverAll, UnderWay}
+use Rattle.papaya_purposes.specs.Given.EffectsEffects.{effects_of}
+use Rattle.papaya_purposes.specs.Given.EffectsKnown.{Known}
+use Rattle.papaya_purposes.specs.Given.EffectsDeclared.acting.Acting.TheVariants as acts
+use Rattle.papaya_purposes.specs.Given.FinishesMachines.{machine_of}
+use Rattle.papaya_purposes.specs.Given.MomentsWhole.{ShowsWhole}
+use Rattle.papaya_purposes.proofs.Given.OthersOutcomes.{told_in}
+use Rattle.papaya_purposes.specs.Given.OwesTables.{ShowsTables}
+use Rattle.papaya_purposes.proofs.Given.OwesWalks.{sum_at}
+use Rattle.papaya_purposes.specs.Given.SettlesDue.{OwnAreMade}
+use Rattle.papaya_models.proofs.Given.KeptCalls.{own_made}
+use Rattle.papaya_purposes.specs.Given.FindsGrowing.{FindAsked}
+use Rattle.papaya_purposes.specs.Given.FindsLinking.{FindShapes, FoundFull}
+use Rattle.papaya_purposes.specs.Given.FindsWithin.{many_of}
 use Rattle.papaya_grows.specs.Copiers.{MakesByCopier, making_of_copier}
 use Rattle.papaya_grows.proofs.CopiersAsk.{copiers_may_ask}
-use Rattle.papaya_purposes.proofs.Given.Finds.Grows.Asked.{Asks, made_of, may_ask}
-use Rattle.papaya_purposes.proofs.Given.Finds.Grows.Steps.{key_calls_may_ask}
-use Rattle.papaya_purposes.proofs.Given.Finds.Linking.{key_calls_link}
-use Rattle.papaya_purposes.proofs.Given.Finds.Rest.{rest_is_all}
-use Rattle.papaya_purposes.proofs.Given.Finds.Waits.Handed.{calls_hand_past, past_is_handed}
-use Rattle.papaya_purposes.proofs.Given.Finds.Waits.Next.{calls_put_behind}
-use Rattle.papaya_purposes.specs.Given.Finds.Waits.{FindPast, FindBehind}
-use Rattle.papaya_purposes.proofs.Given.Sources.Space.{calls_find_space}
+use Rattle.papaya_purposes.proofs.Given.FindsGrows.Asked.{Asks, made_of, may_ask}
+use Rattle.papaya_purposes.proofs.Given.FindsGrows.Steps.{key_calls_may_ask}
+use Rattle.papaya_purposes.proofs.Given.FindsLinking.{key_calls_link}
+use Rattle.papaya_purposes.proofs.Given.FindsRest.{rest_is_all}
+use Rattle.papaya_purposes.proofs.Given.FindsWaits.Handed.{calls_hand_past, past_is_handed}
+use Rattle.papaya_purposes.proofs.Given.FindsWaits.Next.{calls_put_behind}
+use Rattle.papaya_purposes.specs.Given.FindsWaits.{FindPast, FindBehind}
+use Rattle.papaya_purposes.proofs.Given.SourcesSpace.{calls_find_space}
 use Rattle.papaya_purposes.specs.Purposes.{ShowsPurposes}
 use Rattle.papaya_grows.specs.Finding.{ShowsFinding}
 use Rattle.papaya_grows.specs.Rests.{StepsFindRest}
 use Rattle.papaya_grows.proofs.Finding.Links.{copier_links, none_links}
 use Rattle.papaya_grows.proofs.Finding.Rooms.{room_asks, room_links}
-use Rattle.papaya_purposes.specs.Given.Scenes.Held.{Held, IsAt}
-use Rattle.papaya_purposes.specs.Given.Scenes.Scene.{Scene}
-use Rattle.papaya_purposes.specs.Given.Scenes.Stepping.{StepLeads}
-use Rattle.papaya_purposes.specs.Given.Schedules.Transition.{Past}
+use Rattle.papaya_purposes.specs.Given.ScenesHeld.{Held, IsAt}
+use Rattle.papaya_purposes.specs.Given.ScenesScene.{Scene}
+use Rattle.papaya_purposes.specs.Given.ScenesStepping.{StepLeads}
+use Rattle.papaya_purposes.specs.Given.SchedulesTransition.{Past}
 
 -- whether a call on one key copies pairs
 copies_or : (q : Calling) → IsCopying q ⊎ (IsCopying q → ⊥)

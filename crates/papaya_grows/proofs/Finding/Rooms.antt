@@ -3,69 +3,69 @@
 use Rattle.std.specs.Prelude.{◌≡◌, ℕ, suc, ◌+◌, ◌^◌, ◌≤◌, nat_le, nat_lt, max, Bool, true, false, List, [], ◌∷◌, length, Some, Ok, Err, if◌then◌else◌}
 use Rattle.std.proofs.Common.{refl, ap, sym, subst, ◌∙◌, arith, inl, inr}
 use Rattle.std.proofs.lemmas.Bool.{leb-true}
-use Rattle.papaya_purposes.specs.Given.SeizeWords.Mem.{Mem}
-use Rattle.papaya_purposes.specs.Given.SeizeWords.declared.fault.Fault.TheVariants.{Capacity}
-use Rattle.papaya_purposes.specs.Given.Seize.declared.progress.Progress.{Progress as MakingProgress}
-use Rattle.papaya_purposes.specs.Given.Tables.Lengths.{entries_of, len_of, places_for}
-use Rattle.papaya_purposes.specs.Given.Tables.Powers.{next_power}
-use Rattle.papaya_purposes.specs.Given.Tables.declared.lengths.Reason.TheVariants.{Reserved}
-use Rattle.papaya_purposes.specs.Given.Tables.declared.node.Node.{Node}
-use Rattle.papaya_purposes.specs.Given.Tables.declared.setting.Setting.{Setting}
-use Rattle.papaya_purposes.specs.Given.Tables.declared.table.Table.{Table as Planned}
-use Rattle.papaya_purposes.specs.Given.Resize.NewTable.{new_table_plan, plan_at as making_at}
-use Rattle.papaya_purposes.specs.Given.Resize.declared.copier.Copier.{Copier}
-use Rattle.papaya_purposes.specs.Given.Resize.declared.new_table.Making.{Making}
-use Rattle.papaya_purposes.specs.Given.Resize.declared.new_table.Making.TheVariants as makes
-use Rattle.papaya_purposes.specs.Given.Resize.declared.new_table.NewTable.{NewTable}
-use Rattle.papaya_purposes.specs.Given.Resize.declared.outcome.Outcome.{Outcome}
-use Rattle.papaya_purposes.specs.Given.Reserves.Reserve.{made, plan_at, reserve_plan}
-use Rattle.papaya_purposes.specs.Given.Reserves.declared.reserve.Reserve.{Reserve}
-use Rattle.papaya_purposes.specs.Given.Reserves.declared.reserve.Reserving.{Reserving}
-use Rattle.papaya_purposes.specs.Given.Reserves.declared.reserve.Reserving.TheVariants as reserving
-use Rattle.papaya_purposes.specs.Given.Raw.Machine.{reserved as of_room}
-use Rattle.papaya_purposes.specs.Given.Raw.declared.machines.progress.Progress.{Progress}
-use Rattle.papaya_purposes.specs.Given.Schedules.declared.call.Call.{Call}
-use Rattle.papaya_purposes.specs.Given.Schedules.declared.call.Call.TheVariants as call
-use Rattle.papaya_purposes.specs.Given.Schedules.declared.effect.Effect.{Effect}
-use Rattle.papaya_purposes.specs.Given.Schedules.declared.effect.Effect.TheVariants as effect
-use Rattle.papaya_purposes.specs.Given.Schedules.Counts.{Counts}
-use Rattle.papaya_purposes.specs.Given.Schedules.Effects.{AtEachEffect}
-use Rattle.papaya_purposes.specs.Given.Schedules.Growing.{Follows, Has, HasNext, IsFirstOf, MayGrow, MayMakeFor, is_too_many}
-use Rattle.papaya_purposes.specs.Given.Schedules.Lists.{OneOf}
-use Rattle.papaya_purposes.specs.Given.Schedules.Moment.{Moment, TableThere, UnderWay as CallThere}
-use Rattle.papaya_purposes.specs.Given.Schedules.Terms.{Terms, shards_of}
-use Rattle.papaya_purposes.specs.Given.Schedules.Views.{call_of, capacity_or, last_of, map_at, tables_of}
-use Rattle.papaya_purposes.specs.Given.Teller.Tells.{StepsTold}
-use Rattle.papaya_purposes.specs.Given.Teller.declared.changed.Changed.{Changed}
-use Rattle.papaya_purposes.specs.Given.Teller.declared.changed.Changed.TheVariants.{Nothing}
-use Rattle.papaya_purposes.proofs.Given.Others.Outcomes.{told_in}
-use Rattle.papaya_purposes.specs.Given.Rule.Maps.{IsTable}
-use Rattle.papaya_purposes.specs.Given.Rule.Words.{Blocks}
-use Rattle.papaya_purposes.specs.Given.Late.ToldReserves.{IsRowOfReserve}
-use Rattle.papaya_purposes.specs.Given.Callers.Rooms.{CallForRoom}
-use Rattle.papaya_purposes.specs.Given.Callers.Sights.{seen_by}
-use Rattle.papaya_purposes.specs.Given.Callers.Together.{ForRoom, Together}
-use Rattle.papaya_purposes.specs.Given.Effects.Effects.{effects_of}
-use Rattle.papaya_purposes.specs.Given.Effects.Known.{Known}
-use Rattle.papaya_purposes.specs.Given.Effects.declared.acting.Acting.TheVariants as acts
-use Rattle.papaya_purposes.specs.Given.Finishes.Machines.{machine_of}
-use Rattle.papaya_purposes.specs.Given.Finishes.Maps.{Standing}
-use Rattle.papaya_purposes.specs.Given.Follows.Finds.{FindsMap}
-use Rattle.papaya_purposes.proofs.Given.Follows.Steps.{one_of}
-use Rattle.papaya_purposes.specs.Given.Moments.Whole.{ShowsWhole}
-use Rattle.papaya_purposes.specs.Given.Owes.Making.{making_in_reserving, making_of}
-use Rattle.papaya_purposes.specs.Given.Owes.Tables.{ShowsTables, of_map, table_in, table_made}
-use Rattle.papaya_purposes.proofs.Given.Owes.Tables.Held.{shape_of, some_making}
-use Rattle.papaya_purposes.specs.Given.Finds.Growing.{FindAsked}
-use Rattle.papaya_purposes.specs.Given.Finds.Linking.{FindShapes, IsMadeFor}
+use Rattle.papaya_purposes.specs.Given.SeizeWordsMem.{Mem}
+use Rattle.papaya_purposes.specs.Given.SeizeWordsDeclared.fault.Fault.TheVariants.{Capacity}
+use Rattle.papaya_purposes.specs.Given.SeizeDeclared.progress.Progress.{Progress as MakingProgress}
+use Rattle.papaya_purposes.specs.Given.TablesLengths.{entries_of, len_of, places_for}
+use Rattle.papaya_purposes.specs.Given.TablesPowers.{next_power}
+use Rattle.papaya_purposes.specs.Given.TablesDeclared.lengths.Reason.TheVariants.{Reserved}
+use Rattle.papaya_purposes.specs.Given.TablesDeclared.node.Node.{Node}
+use Rattle.papaya_purposes.specs.Given.TablesDeclared.setting.Setting.{Setting}
+use Rattle.papaya_purposes.specs.Given.TablesDeclared.table.Table.{Table as Planned}
+use Rattle.papaya_purposes.specs.Given.ResizeNewTable.{new_table_plan, plan_at as making_at}
+use Rattle.papaya_purposes.specs.Given.ResizeDeclared.copier.Copier.{Copier}
+use Rattle.papaya_purposes.specs.Given.ResizeDeclared.new_table.Making.{Making}
+use Rattle.papaya_purposes.specs.Given.ResizeDeclared.new_table.Making.TheVariants as makes
+use Rattle.papaya_purposes.specs.Given.ResizeDeclared.new_table.NewTable.{NewTable}
+use Rattle.papaya_purposes.specs.Given.ResizeDeclared.outcome.Outcome.{Outcome}
+use Rattle.papaya_purposes.specs.Given.ReservesReserve.{made, plan_at, reserve_plan}
+use Rattle.papaya_purposes.specs.Given.ReservesDeclared.reserve.Reserve.{Reserve}
+use Rattle.papaya_purposes.specs.Given.ReservesDeclared.reserve.Reserving.{Reserving}
+use Rattle.papaya_purposes.specs.Given.ReservesDeclared.reserve.Reserving.TheVariants as reserving
+use Rattle.papaya_purposes.specs.Given.RawMachine.{reserved as of_room}
+use Rattle.papaya_purposes.specs.Given.RawDeclared.machines.progress.Progress.{Progress}
+use Rattle.papaya_purposes.specs.Given.SchedulesDeclared.call.Call.{Call}
+use Rattle.papaya_purposes.specs.Given.SchedulesDeclared.call.Call.TheVariants as call
+use Rattle.papaya_purposes.specs.Given.SchedulesDeclared.effect.Effect.{Effect}
+use Rattle.papaya_purposes.specs.Given.SchedulesDeclared.effect.Effect.TheVariants as effect
+use Rattle.papaya_purposes.specs.Given.SchedulesCounts.{Counts}
+use Rattle.papaya_purposes.specs.Given.SchedulesEffects.{AtEachEffect}
+use Rattle.papaya_purposes.specs.Given.SchedulesGrowing.{Follows, Has, HasNext, IsFirstOf, MayGrow, MayMakeFor, is_too_many}
+use Rattle.papaya_purposes.specs.Given.SchedulesLists.{OneOf}
+use Rattle.papaya_purposes.specs.Given.SchedulesMoment.{Moment, TableThere, UnderWay as CallThere}
+use Rattle.papaya_purposes.specs.Given.SchedulesTerms.{Terms, shards_of}
+use Rattle.papaya_purposes.specs.Given.SchedulesViews.{call_of, capacity_or, last_of, map_at, tables_of}
+use Rattle.papaya_purposes.specs.Given.TellerTells.{StepsTold}
+use Rattle.papaya_purposes.specs.Given.TellerDeclared.changed.Changed.{Changed}
+use Rattle.papaya_purposes.specs.Given.TellerDeclared.changed.Changed.TheVariants.{Nothing}
+use Rattle.papaya_purposes.proofs.Given.OthersOutcomes.{told_in}
+use Rattle.papaya_purposes.specs.Given.RuleMaps.{IsTable}
+use Rattle.papaya_purposes.specs.Given.RuleWords.{Blocks}
+use Rattle.papaya_purposes.specs.Given.LateToldReserves.{IsRowOfReserve}
+use Rattle.papaya_purposes.specs.Given.CallersRooms.{CallForRoom}
+use Rattle.papaya_purposes.specs.Given.CallersSights.{seen_by}
+use Rattle.papaya_purposes.specs.Given.CallersTogether.{ForRoom, Together}
+use Rattle.papaya_purposes.specs.Given.EffectsEffects.{effects_of}
+use Rattle.papaya_purposes.specs.Given.EffectsKnown.{Known}
+use Rattle.papaya_purposes.specs.Given.EffectsDeclared.acting.Acting.TheVariants as acts
+use Rattle.papaya_purposes.specs.Given.FinishesMachines.{machine_of}
+use Rattle.papaya_purposes.specs.Given.FinishesMaps.{Standing}
+use Rattle.papaya_purposes.specs.Given.FollowsFinds.{FindsMap}
+use Rattle.papaya_purposes.proofs.Given.FollowsSteps.{one_of}
+use Rattle.papaya_purposes.specs.Given.MomentsWhole.{ShowsWhole}
+use Rattle.papaya_purposes.specs.Given.OwesMaking.{making_in_reserving, making_of}
+use Rattle.papaya_purposes.specs.Given.OwesTables.{ShowsTables, of_map, table_in, table_made}
+use Rattle.papaya_purposes.proofs.Given.OwesTables.Held.{shape_of, some_making}
+use Rattle.papaya_purposes.specs.Given.FindsGrowing.{FindAsked}
+use Rattle.papaya_purposes.specs.Given.FindsLinking.{FindShapes, IsMadeFor}
 use Rattle.papaya_grows.specs.Copiers.{copier_in_reserving, making_of_copier}
-use Rattle.papaya_purposes.specs.Given.Finds.Reserving.{MakesFirst}
-use Rattle.papaya_purposes.specs.Given.Finds.Shaping.{ShapedAt}
-use Rattle.papaya_purposes.specs.Given.Finds.Within.{many_of}
-use Rattle.papaya_purposes.proofs.Given.Finds.Grows.Asked.{Asks, asks_some, may_ask}
-use Rattle.papaya_purposes.proofs.Given.Finds.Linking.{made_so, one_shaped}
-use Rattle.papaya_purposes.proofs.Given.Finds.Reserving.{rooms_may_ask}
-use Rattle.papaya_purposes.proofs.Given.Finds.Steps.{steps_find_places}
+use Rattle.papaya_purposes.specs.Given.FindsReserving.{MakesFirst}
+use Rattle.papaya_purposes.specs.Given.FindsShaping.{ShapedAt}
+use Rattle.papaya_purposes.specs.Given.FindsWithin.{many_of}
+use Rattle.papaya_purposes.proofs.Given.FindsGrows.Asked.{Asks, asks_some, may_ask}
+use Rattle.papaya_purposes.proofs.Given.FindsLinking.{made_so, one_shaped}
+use Rattle.papaya_purposes.proofs.Given.FindsReserving.{rooms_may_ask}
+use Rattle.papaya_purposes.proofs.Given.FindsSteps.{steps_find_places}
 use Rattle.papaya_purposes.specs.Needs.{IsFirstFor, IsLaterFor, NeedsAt}
 use Rattle.papaya_purposes.specs.Purposes.{HasMet, IsFor, RoomAt, ShowsPurposes}
 use Rattle.papaya_purposes.proofs.Needs.{needs_wider}
@@ -74,10 +74,10 @@ use Rattle.papaya_purposes.proofs.RoomFacts.{Point, StandsSo, room_point, room_s
 use Rattle.papaya_grows.specs.Further.{IsFurther, RoomMakes, ShowsFurther, at_turn, lengths_in, lengths_of}
 use Rattle.papaya_grows.proofs.Finding.Links.{linked, links_by, such_of_copier}
 use Rattle.papaya_grows.proofs.Finding.Making.Lengths.{table_length}
-use Rattle.papaya_purposes.specs.Given.Scenes.Held.{Held, IsAt}
-use Rattle.papaya_purposes.specs.Given.Scenes.Scene.{Scene, slot_of}
-use Rattle.papaya_purposes.specs.Given.Scenes.Stepping.{StepLeads}
-use Rattle.papaya_purposes.specs.Given.Schedules.Transition.{Past}
+use Rattle.papaya_purposes.specs.Given.ScenesHeld.{Held, IsAt}
+use Rattle.papaya_purposes.specs.Given.ScenesScene.{Scene, slot_of}
+use Rattle.papaya_purposes.specs.Given.ScenesStepping.{StepLeads}
+use Rattle.papaya_purposes.specs.Given.SchedulesTransition.{Past}
 
 -- what a reservation is called for
 pub its_more : {K V : Type 0} (r : CallForRoom) (its : Call K V) → IsFor (ForRoom r) its → its ≡ call.Reserve r.reserve.additional

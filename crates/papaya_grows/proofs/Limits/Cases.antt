@@ -2,43 +2,43 @@
 use Rattle.std.specs.Prelude.{◌≡◌, ◌⊎◌, ◌+◌, ◌^◌, ◌<◌, ◌%◌, nat_le, max, ℕ, zero, suc, Bool, true, false, List, ◌∷◌, Ok, Err, Some, if◌then◌else◌}
 use Rattle.std.proofs.Common.{refl, ap, sym, subst, ◌∙◌, inl, inr, arith}
 use Rattle.std.proofs.lemmas.Bool.{leb-true, lt-ltb}
-use Rattle.papaya_purposes.specs.Given.SeizeWords.Mem.{Mem, Took, value_at}
-use Rattle.papaya_purposes.specs.Given.SeizeWords.Plan.{Steps}
-use Rattle.papaya_purposes.specs.Given.SeizeWords.declared.fault.Fault.TheVariants.{Capacity}
-use Rattle.papaya_purposes.specs.Given.Seize.declared.progress.Progress.TheVariants as counting
-use Rattle.papaya_purposes.specs.Given.Tables.Counts.{count_in}
-use Rattle.papaya_purposes.specs.Given.Tables.Lengths.{places_for}
-use Rattle.papaya_purposes.specs.Given.Tables.Powers.{next_power}
-use Rattle.papaya_purposes.specs.Given.Tables.declared.node.Node.{Node}
-use Rattle.papaya_purposes.specs.Given.Tables.declared.setting.Setting.{Setting}
-use Rattle.papaya_purposes.specs.Given.Resize.Sum.{sum_plan}
-use Rattle.papaya_purposes.specs.Given.Reserves.Reserve.{needed, or_too_long}
-use Rattle.papaya_purposes.specs.Given.Reserves.declared.reserve.Reserving.{Reserving}
-use Rattle.papaya_purposes.specs.Given.Reserves.declared.reserve.Reserving.TheVariants as reserving
-use Rattle.papaya_purposes.specs.Given.Raw.declared.machines.progress.Progress.{Progress}
-use Rattle.papaya_purposes.specs.Given.Raw.declared.machines.progress.Progress.TheVariants as progress
-use Rattle.papaya_purposes.specs.Given.Schedules.declared.call.Call.{Call}
-use Rattle.papaya_purposes.specs.Given.Schedules.declared.call.Call.TheVariants as call
-use Rattle.papaya_purposes.specs.Given.Schedules.Coming.{CountsTooMany}
-use Rattle.papaya_purposes.specs.Given.Schedules.Counts.{AddsUp, Counts}
-use Rattle.papaya_purposes.specs.Given.Schedules.Effects.{with_effects}
-use Rattle.papaya_purposes.specs.Given.Schedules.Growing.{is_too_many}
-use Rattle.papaya_purposes.specs.Given.Schedules.Lists.{OneOf}
-use Rattle.papaya_purposes.specs.Given.Schedules.Moment.{Moment, UnderWay as CallThere}
-use Rattle.papaya_purposes.specs.Given.Schedules.Terms.{Terms, shards_of}
-use Rattle.papaya_purposes.specs.Given.Schedules.Views.{call_of}
-use Rattle.papaya_purposes.specs.Given.Callers.Rooms.{CallForRoom}
-use Rattle.papaya_purposes.specs.Given.Callers.Sights.{seen_by}
-use Rattle.papaya_purposes.specs.Given.Callers.Together.{Counting, ForRoom, OnKey, OverAll, UnderWay}
-use Rattle.papaya_purposes.specs.Given.Effects.Effects.{effects_of}
-use Rattle.papaya_purposes.specs.Given.Effects.Known.{Known}
-use Rattle.papaya_purposes.specs.Given.Effects.declared.acting.Acting.TheVariants as acts
-use Rattle.papaya_purposes.proofs.Given.Scenes.Given.Tables.TableLens.{next-power-most}
-use Rattle.papaya_purposes.proofs.Given.Late.KindsKept.Rooms.Making.{above}
-use Rattle.papaya_purposes.specs.Given.Finishes.Maps.{Standing}
-use Rattle.papaya_purposes.specs.Given.Moments.Whole.{ShowsWhole}
-use Rattle.papaya_purposes.specs.Given.Finds.Capacities.{ShowsCapacities}
-use Rattle.papaya_purposes.proofs.Given.Finds.Reserving.{adds_after}
+use Rattle.papaya_purposes.specs.Given.SeizeWordsMem.{Mem, Took, value_at}
+use Rattle.papaya_purposes.specs.Given.SeizeWordsPlan.{Steps}
+use Rattle.papaya_purposes.specs.Given.SeizeWordsDeclared.fault.Fault.TheVariants.{Capacity}
+use Rattle.papaya_purposes.specs.Given.SeizeDeclared.progress.Progress.TheVariants as counting
+use Rattle.papaya_purposes.specs.Given.TablesCounts.{count_in}
+use Rattle.papaya_purposes.specs.Given.TablesLengths.{places_for}
+use Rattle.papaya_purposes.specs.Given.TablesPowers.{next_power}
+use Rattle.papaya_purposes.specs.Given.TablesDeclared.node.Node.{Node}
+use Rattle.papaya_purposes.specs.Given.TablesDeclared.setting.Setting.{Setting}
+use Rattle.papaya_purposes.specs.Given.ResizeSum.{sum_plan}
+use Rattle.papaya_purposes.specs.Given.ReservesReserve.{needed, or_too_long}
+use Rattle.papaya_purposes.specs.Given.ReservesDeclared.reserve.Reserving.{Reserving}
+use Rattle.papaya_purposes.specs.Given.ReservesDeclared.reserve.Reserving.TheVariants as reserving
+use Rattle.papaya_purposes.specs.Given.RawDeclared.machines.progress.Progress.{Progress}
+use Rattle.papaya_purposes.specs.Given.RawDeclared.machines.progress.Progress.TheVariants as progress
+use Rattle.papaya_purposes.specs.Given.SchedulesDeclared.call.Call.{Call}
+use Rattle.papaya_purposes.specs.Given.SchedulesDeclared.call.Call.TheVariants as call
+use Rattle.papaya_purposes.specs.Given.SchedulesComing.{CountsTooMany}
+use Rattle.papaya_purposes.specs.Given.SchedulesCounts.{AddsUp, Counts}
+use Rattle.papaya_purposes.specs.Given.SchedulesEffects.{with_effects}
+use Rattle.papaya_purposes.specs.Given.SchedulesGrowing.{is_too_many}
+use Rattle.papaya_purposes.specs.Given.SchedulesLists.{OneOf}
+use Rattle.papaya_purposes.specs.Given.SchedulesMoment.{Moment, UnderWay as CallThere}
+use Rattle.papaya_purposes.specs.Given.SchedulesTerms.{Terms, shards_of}
+use Rattle.papaya_purposes.specs.Given.SchedulesViews.{call_of}
+use Rattle.papaya_purposes.specs.Given.CallersRooms.{CallForRoom}
+use Rattle.papaya_purposes.specs.Given.CallersSights.{seen_by}
+use Rattle.papaya_purposes.specs.Given.CallersTogether.{Counting, ForRoom, OnKey, OverAll, UnderWay}
+use Rattle.papaya_purposes.specs.Given.EffectsEffects.{effects_of}
+use Rattle.papaya_purposes.specs.Given.EffectsKnown.{Known}
+use Rattle.papaya_purposes.specs.Given.EffectsDeclared.acting.Acting.TheVariants as acts
+use Rattle.papaya_purposes.proofs.Given.TablesTableLens.{next-power-most}
+use Rattle.papaya_purposes.proofs.Given.LateKindsKept.Rooms.Making.{above}
+use Rattle.papaya_purposes.specs.Given.FinishesMaps.{Standing}
+use Rattle.papaya_purposes.specs.Given.MomentsWhole.{ShowsWhole}
+use Rattle.papaya_purposes.specs.Given.FindsCapacities.{ShowsCapacities}
+use Rattle.papaya_purposes.proofs.Given.FindsReserving.{adds_after}
 use Rattle.papaya_purposes.specs.Purposes.{ShowsPurposes}
 use Rattle.papaya_purposes.specs.Shards.{ReadsShards}
 use Rattle.papaya_purposes.proofs.RoomFacts.{room_setting}
@@ -47,10 +47,10 @@ use Rattle.papaya_grows.specs.Limits.{HasLimit, IsAtLimit, NeedsMore, ShowsLimit
 use Rattle.papaya_grows.proofs.Finding.Rooms.{its_more}
 use Rattle.papaya_grows.proofs.Limits.Steps.{refused_for}
 use Rattle.papaya_grows.proofs.Limits.Walk.{SummedAt}
-use Rattle.papaya_purposes.specs.Given.Scenes.Held.{Held, IsAt}
-use Rattle.papaya_purposes.specs.Given.Scenes.Scene.{Scene, slot_of}
-use Rattle.papaya_purposes.specs.Given.Scenes.Stepping.{StepLeads}
-use Rattle.papaya_purposes.specs.Given.Schedules.Transition.{Past}
+use Rattle.papaya_purposes.specs.Given.ScenesHeld.{Held, IsAt}
+use Rattle.papaya_purposes.specs.Given.ScenesScene.{Scene, slot_of}
+use Rattle.papaya_purposes.specs.Given.ScenesStepping.{StepLeads}
+use Rattle.papaya_purposes.specs.Given.SchedulesTransition.{Past}
 
 -- Where pairs need more places than a table can have, they are too many.
 module _ (count additional : ℕ) where

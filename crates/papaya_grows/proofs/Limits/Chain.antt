@@ -2,15 +2,15 @@
 use Rattle.std.specs.Prelude.{◌≡◌, ℕ, ◌==◌, ◌&&◌, ◌||◌, nat_le, Bool, true, false, List, [], ◌∷◌, filter, find, map as list_map, Option, if◌then◌else◌}
 use Rattle.std.specs.List.{list_any}
 use Rattle.std.proofs.Common.{refl, ap, sym, subst, ◌∙◌}
-use Rattle.papaya_purposes.specs.Given.Schedules.declared.effect.Effect.{Effect}
-use Rattle.papaya_purposes.specs.Given.Schedules.declared.effect.Effect.TheVariants as effect
-use Rattle.papaya_purposes.specs.Given.Schedules.declared.effect.Table.{Table}
-use Rattle.papaya_purposes.specs.Given.Schedules.declared.effect.Thing.TheVariants.{APair, ATable}
-use Rattle.papaya_purposes.specs.Given.Schedules.Effects.{at_stage, with_effect, with_effects}
-use Rattle.papaya_purposes.specs.Given.Schedules.Moment.{IsReclaimed, IsRetired, IsTaken, MapThere, Moment, Stage, TableThere}
-use Rattle.papaya_purposes.specs.Given.Schedules.Things.{same_table}
-use Rattle.papaya_purposes.specs.Given.Schedules.Views.{first_of, first_or, map_at}
-use Rattle.papaya_purposes.proofs.Given.Finds.Grown.{linked_as}
+use Rattle.papaya_purposes.specs.Given.SchedulesDeclared.effect.Effect.{Effect}
+use Rattle.papaya_purposes.specs.Given.SchedulesDeclared.effect.Effect.TheVariants as effect
+use Rattle.papaya_purposes.specs.Given.SchedulesDeclared.effect.Table.{Table}
+use Rattle.papaya_purposes.specs.Given.SchedulesDeclared.effect.Thing.TheVariants.{APair, ATable}
+use Rattle.papaya_purposes.specs.Given.SchedulesEffects.{at_stage, with_effect, with_effects}
+use Rattle.papaya_purposes.specs.Given.SchedulesMoment.{IsReclaimed, IsRetired, IsTaken, MapThere, Moment, Stage, TableThere}
+use Rattle.papaya_purposes.specs.Given.SchedulesThings.{same_table}
+use Rattle.papaya_purposes.specs.Given.SchedulesViews.{first_of, first_or, map_at}
+use Rattle.papaya_purposes.proofs.Given.FindsGrown.{linked_as}
 use Rattle.papaya_grows.specs.Limits.{IsAtLimit}
 use Rattle.papaya_grows.proofs.Finding.Making.Unpromoted.{IsNoPromotion, NonePromoted}
 use Rattle.papaya_grows.proofs.Limits.Last.{any_ahead, is_longest}

@@ -3,26 +3,26 @@ use Rattle.std.specs.Prelude.{◌≡◌, ◌⊎◌, ℕ, zero, suc, ◌^◌, ◌
 use Rattle.std.specs.List.{list_any}
 use Rattle.std.proofs.Common.{refl, ap, subst, ◌∙◌, inl, inr, arith}
 use Rattle.std.proofs.lemmas.Bool.{cases_lt, le-leb}
-use Rattle.papaya_purposes.specs.Given.SeizeWords.Mem.{word_at}
-use Rattle.papaya_purposes.specs.Given.Seize.World.{World}
-use Rattle.papaya_purposes.specs.Given.Tables.Lengths.{CannotBeFollowed, IsTableLen}
-use Rattle.papaya_purposes.specs.Given.Tables.TablePlaces.{at_word}
-use Rattle.papaya_purposes.specs.Given.Tables.declared.node.Node.{Node}
-use Rattle.papaya_purposes.specs.Given.Tables.declared.setting.Setting.{Setting}
-use Rattle.papaya_purposes.specs.Given.Tables.declared.table.Table.{Table}
-use Rattle.papaya_purposes.specs.Given.Tables.declared.table_words.TheConstants.{NEXT}
-use Rattle.papaya_purposes.specs.Given.Rule.Chart.{Chart}
-use Rattle.papaya_purposes.specs.Given.Rule.InWorld.{IsMapIn}
-use Rattle.papaya_purposes.specs.Given.Rule.Maps.{IsTable}
-use Rattle.papaya_purposes.specs.Given.Rule.Words.{Blocks}
-use Rattle.papaya_purposes.specs.Given.Schedules.Moment.{Moment, Stage, TableThere}
-use Rattle.papaya_purposes.specs.Given.Schedules.Views.{first_of, tables_of}
-use Rattle.papaya_purposes.specs.Given.Effects.Known.{Known}
-use Rattle.papaya_purposes.specs.Given.Finishes.Maps.{Standing}
-use Rattle.papaya_purposes.specs.Given.Follows.Maps.{ShowsMap, shape_at, table_of, tables_to}
-use Rattle.papaya_purposes.proofs.Given.Scenes.Given.Tables.Ends.{longest}
-use Rattle.papaya_purposes.proofs.Given.Follows.Finds.{first_is}
-use Rattle.papaya_purposes.proofs.Given.Finds.Grows.There.{last_has_none}
+use Rattle.papaya_purposes.specs.Given.SeizeWordsMem.{word_at}
+use Rattle.papaya_purposes.specs.Given.SeizeWorld.{World}
+use Rattle.papaya_purposes.specs.Given.TablesLengths.{CannotBeFollowed, IsTableLen}
+use Rattle.papaya_purposes.specs.Given.TablesTablePlaces.{at_word}
+use Rattle.papaya_purposes.specs.Given.TablesDeclared.node.Node.{Node}
+use Rattle.papaya_purposes.specs.Given.TablesDeclared.setting.Setting.{Setting}
+use Rattle.papaya_purposes.specs.Given.TablesDeclared.table.Table.{Table}
+use Rattle.papaya_purposes.specs.Given.TablesDeclared.table_words.TheConstants.{NEXT}
+use Rattle.papaya_purposes.specs.Given.RuleChart.{Chart}
+use Rattle.papaya_purposes.specs.Given.RuleInWorld.{IsMapIn}
+use Rattle.papaya_purposes.specs.Given.RuleMaps.{IsTable}
+use Rattle.papaya_purposes.specs.Given.RuleWords.{Blocks}
+use Rattle.papaya_purposes.specs.Given.SchedulesMoment.{Moment, Stage, TableThere}
+use Rattle.papaya_purposes.specs.Given.SchedulesViews.{first_of, tables_of}
+use Rattle.papaya_purposes.specs.Given.EffectsKnown.{Known}
+use Rattle.papaya_purposes.specs.Given.FinishesMaps.{Standing}
+use Rattle.papaya_purposes.specs.Given.FollowsMaps.{ShowsMap, shape_at, table_of, tables_to}
+use Rattle.papaya_purposes.proofs.Given.TablesEnds.{longest}
+use Rattle.papaya_purposes.proofs.Given.FollowsFinds.{first_is}
+use Rattle.papaya_purposes.proofs.Given.FindsGrows.There.{last_has_none}
 use Rattle.papaya_grows.specs.Limits.{IsAtLimit}
 
 -- as long as a table can be, or with the last turn

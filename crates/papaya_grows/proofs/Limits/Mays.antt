@@ -1,55 +1,55 @@
 -- What a call finds where it may be refused for the length of a table: none is linked behind the last one of its map, by the points of each kind of call.
 use Rattle.std.specs.Prelude.{◌≡◌, ◌⊎◌, ◌≤◌, ◌<◌, ◌^◌, ℕ, Bool, true, false, cond, Some}
 use Rattle.std.proofs.Common.{sym, subst, inl, inr}
-use Rattle.papaya_purposes.specs.Given.SeizeWords.Mem.{Mem, Took, value_at}
-use Rattle.papaya_purposes.specs.Given.SeizeWords.Plan.{Steps}
-use Rattle.papaya_purposes.specs.Given.Seize.World.{World}
-use Rattle.papaya_purposes.specs.Given.Seize.declared.progress.Progress.TheVariants as counting
-use Rattle.papaya_purposes.specs.Given.Tables.Chunks.{is_incremental}
-use Rattle.papaya_purposes.specs.Given.Tables.declared.node.Node.{Node}
-use Rattle.papaya_purposes.specs.Given.Tables.declared.setting.Setting.{Setting}
-use Rattle.papaya_purposes.specs.Given.Tables.declared.table.Table.{Table}
-use Rattle.papaya_purposes.specs.Given.Resize.Sum.{sum_plan}
-use Rattle.papaya_purposes.specs.Given.Resize.declared.copier.Copier.{Copier}
-use Rattle.papaya_purposes.specs.Given.Resize.declared.copier.Copying.{Copying}
-use Rattle.papaya_purposes.specs.Given.Resize.declared.copier.Copying.TheVariants as copying
-use Rattle.papaya_purposes.specs.Given.Resize.declared.sum.Sum.{Sum}
-use Rattle.papaya_purposes.specs.Given.Reserves.Reserve.{needed}
-use Rattle.papaya_purposes.specs.Given.Reserves.declared.reserve.Reserve.{Reserve}
-use Rattle.papaya_purposes.specs.Given.Reserves.declared.reserve.Reserving.{Reserving}
-use Rattle.papaya_purposes.specs.Given.Reserves.declared.reserve.Reserving.TheVariants as reserving
-use Rattle.papaya_purposes.specs.Given.Sweeps.declared.sweep.Sweep.{Sweep}
-use Rattle.papaya_purposes.specs.Given.Sweeps.declared.sweep.Sweeping.{Sweeping}
-use Rattle.papaya_purposes.specs.Given.Sweeps.declared.sweep.Sweeping.TheVariants as sweeping
-use Rattle.papaya_purposes.specs.Given.Raw.declared.machines.call.Calling.{Calling}
-use Rattle.papaya_purposes.specs.Given.Raw.declared.machines.call.Calling.TheVariants as calling
-use Rattle.papaya_purposes.specs.Given.Raw.declared.machines.call.KeyCall.{KeyCall}
-use Rattle.papaya_purposes.specs.Given.Rule.Chart.{Chart}
-use Rattle.papaya_purposes.specs.Given.Rule.InWorld.{IsMapIn}
-use Rattle.papaya_purposes.specs.Given.Rule.Maps.{IsTable}
-use Rattle.papaya_purposes.specs.Given.Rule.Words.{Blocks}
-use Rattle.papaya_purposes.specs.Given.Points.FactsCalls.{CallingFacts, Change}
-use Rattle.papaya_purposes.specs.Given.Points.FactsCopies.{CopierFacts, CopyingFacts}
-use Rattle.papaya_purposes.specs.Given.Points.FactsCopiesBlocking.{CopierFactsBlocking, CopyingFactsBlocking}
-use Rattle.papaya_purposes.specs.Given.Points.Told.{IsRowOfCall, IsRowOfCopier}
-use Rattle.papaya_purposes.specs.Given.Late.Ends.{EndsInCalling, EndsInCopying, EndsInReserving, EndsInSweeping, EndsSo, IsLastWhereNone}
-use Rattle.papaya_purposes.specs.Given.Late.FactsReserves.{CopiesWhole, IsEnding, ReservingFacts}
-use Rattle.papaya_purposes.specs.Given.Late.FactsSweeps.{SweepingFacts}
-use Rattle.papaya_purposes.specs.Given.Late.LateCalls.{LateCalling}
-use Rattle.papaya_purposes.specs.Given.Late.LateCopies.{LateCopying}
-use Rattle.papaya_purposes.specs.Given.Late.LateReserves.{LateReserving}
-use Rattle.papaya_purposes.specs.Given.Late.ToldReserves.{IsRowOfReserve}
-use Rattle.papaya_purposes.specs.Given.Late.ToldSweeps.{IsRowOfSweep}
-use Rattle.papaya_purposes.specs.Given.Callers.Sights.{IsSight, Sight, seen_by}
-use Rattle.papaya_purposes.specs.Given.Callers.Together.{Counting, ForRoom, OnKey, OverAll, Together, UnderWay, in_slot}
-use Rattle.papaya_purposes.specs.Given.Finishes.Machines.{machine_of}
-use Rattle.papaya_purposes.specs.Given.Finishes.Maps.{Standing}
-use Rattle.papaya_purposes.proofs.Given.Finds.Grows.There.{unseen}
+use Rattle.papaya_purposes.specs.Given.SeizeWordsMem.{Mem, Took, value_at}
+use Rattle.papaya_purposes.specs.Given.SeizeWordsPlan.{Steps}
+use Rattle.papaya_purposes.specs.Given.SeizeWorld.{World}
+use Rattle.papaya_purposes.specs.Given.SeizeDeclared.progress.Progress.TheVariants as counting
+use Rattle.papaya_purposes.specs.Given.TablesChunks.{is_incremental}
+use Rattle.papaya_purposes.specs.Given.TablesDeclared.node.Node.{Node}
+use Rattle.papaya_purposes.specs.Given.TablesDeclared.setting.Setting.{Setting}
+use Rattle.papaya_purposes.specs.Given.TablesDeclared.table.Table.{Table}
+use Rattle.papaya_purposes.specs.Given.ResizeSum.{sum_plan}
+use Rattle.papaya_purposes.specs.Given.ResizeDeclared.copier.Copier.{Copier}
+use Rattle.papaya_purposes.specs.Given.ResizeDeclared.copier.Copying.{Copying}
+use Rattle.papaya_purposes.specs.Given.ResizeDeclared.copier.Copying.TheVariants as copying
+use Rattle.papaya_purposes.specs.Given.ResizeDeclared.sum.Sum.{Sum}
+use Rattle.papaya_purposes.specs.Given.ReservesReserve.{needed}
+use Rattle.papaya_purposes.specs.Given.ReservesDeclared.reserve.Reserve.{Reserve}
+use Rattle.papaya_purposes.specs.Given.ReservesDeclared.reserve.Reserving.{Reserving}
+use Rattle.papaya_purposes.specs.Given.ReservesDeclared.reserve.Reserving.TheVariants as reserving
+use Rattle.papaya_purposes.specs.Given.SweepsDeclared.sweep.Sweep.{Sweep}
+use Rattle.papaya_purposes.specs.Given.SweepsDeclared.sweep.Sweeping.{Sweeping}
+use Rattle.papaya_purposes.specs.Given.SweepsDeclared.sweep.Sweeping.TheVariants as sweeping
+use Rattle.papaya_purposes.specs.Given.RawDeclared.machines.call.Calling.{Calling}
+use Rattle.papaya_purposes.specs.Given.RawDeclared.machines.call.Calling.TheVariants as calling
+use Rattle.papaya_purposes.specs.Given.RawDeclared.machines.call.KeyCall.{KeyCall}
+use Rattle.papaya_purposes.specs.Given.RuleChart.{Chart}
+use Rattle.papaya_purposes.specs.Given.RuleInWorld.{IsMapIn}
+use Rattle.papaya_purposes.specs.Given.RuleMaps.{IsTable}
+use Rattle.papaya_purposes.specs.Given.RuleWords.{Blocks}
+use Rattle.papaya_purposes.specs.Given.PointsFactsCalls.{CallingFacts, Change}
+use Rattle.papaya_purposes.specs.Given.PointsFactsCopies.{CopierFacts, CopyingFacts}
+use Rattle.papaya_purposes.specs.Given.PointsFactsCopiesBlocking.{CopierFactsBlocking, CopyingFactsBlocking}
+use Rattle.papaya_purposes.specs.Given.PointsTold.{IsRowOfCall, IsRowOfCopier}
+use Rattle.papaya_purposes.specs.Given.LateEnds.{EndsInCalling, EndsInCopying, EndsInReserving, EndsInSweeping, EndsSo, IsLastWhereNone}
+use Rattle.papaya_purposes.specs.Given.LateFactsReserves.{CopiesWhole, IsEnding, ReservingFacts}
+use Rattle.papaya_purposes.specs.Given.LateFactsSweeps.{SweepingFacts}
+use Rattle.papaya_purposes.specs.Given.LateLateCalls.{LateCalling}
+use Rattle.papaya_purposes.specs.Given.LateLateCopies.{LateCopying}
+use Rattle.papaya_purposes.specs.Given.LateLateReserves.{LateReserving}
+use Rattle.papaya_purposes.specs.Given.LateToldReserves.{IsRowOfReserve}
+use Rattle.papaya_purposes.specs.Given.LateToldSweeps.{IsRowOfSweep}
+use Rattle.papaya_purposes.specs.Given.CallersSights.{IsSight, Sight, seen_by}
+use Rattle.papaya_purposes.specs.Given.CallersTogether.{Counting, ForRoom, OnKey, OverAll, Together, UnderWay, in_slot}
+use Rattle.papaya_purposes.specs.Given.FinishesMachines.{machine_of}
+use Rattle.papaya_purposes.specs.Given.FinishesMaps.{Standing}
+use Rattle.papaya_purposes.proofs.Given.FindsGrows.There.{unseen}
 use Rattle.papaya_grows.specs.Limits.{IsFor, IsForBehind, NeedsMore}
 use Rattle.papaya_grows.proofs.Limits.Last.{LastIsFor, last_for}
 use Rattle.papaya_grows.proofs.Limits.Walk.{MachineMayEnd, SummedAt, SummedIn, ends_for}
-use Rattle.papaya_purposes.specs.Given.Scenes.Held.{Held, IsAt}
-use Rattle.papaya_purposes.specs.Given.Scenes.Scene.{Scene, slot_of}
+use Rattle.papaya_purposes.specs.Given.ScenesHeld.{Held, IsAt}
+use Rattle.papaya_purposes.specs.Given.ScenesScene.{Scene, slot_of}
 
 -- within a row nothing is found of this kind
 module _ (Why : Type 0) {T : Type 0} (m : Mem T) where

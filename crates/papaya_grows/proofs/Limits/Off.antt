@@ -1,67 +1,67 @@
 -- A step of a call writes no root, or leaves it where it is to be refused for nothing, and is to put no table behind another one.
 use Rattle.std.specs.Prelude.{◌≡◌, ◌⊎◌, ℕ, Bool, Ok, Err}
 use Rattle.std.proofs.Common.{refl, sym, subst, inl, inr}
-use Rattle.papaya_purposes.specs.Given.SeizeWords.Mem.{Mem}
-use Rattle.papaya_purposes.specs.Given.SeizeWords.Op.{Exchanged, Found, Made, Roomed, Stored, Taken}
-use Rattle.papaya_purposes.specs.Given.SeizeWords.Plan.{Plan}
-use Rattle.papaya_purposes.specs.Given.SeizeWords.declared.fault.Fault.{Fault}
-use Rattle.papaya_purposes.specs.Given.Seize.declared.progress.Progress.{Progress as Counting}
-use Rattle.papaya_purposes.specs.Given.Seize.declared.progress.Progress.TheVariants as progress
-use Rattle.papaya_purposes.specs.Given.Tables.declared.node.Node.{Node}
-use Rattle.papaya_purposes.specs.Given.Tables.declared.table.Table.{Table}
-use Rattle.papaya_purposes.specs.Given.Resize.Copier as copiers
-use Rattle.papaya_purposes.specs.Given.Resize.Copier.{copier_plan}
-use Rattle.papaya_purposes.specs.Given.Resize.CopierFurther.{grown, remade}
-use Rattle.papaya_purposes.specs.Given.Resize.NewTable.{new_table_plan, standing as making_at}
-use Rattle.papaya_purposes.specs.Given.Resize.Sum.{sum_plan}
-use Rattle.papaya_purposes.specs.Given.Resize.declared.copier.Copier.{Copier}
-use Rattle.papaya_purposes.specs.Given.Resize.declared.copier.Copying.{Copying}
-use Rattle.papaya_purposes.specs.Given.Resize.declared.copier.Copying.TheVariants as copying
-use Rattle.papaya_purposes.specs.Given.Resize.declared.new_table.Making.TheVariants as makes
-use Rattle.papaya_purposes.specs.Given.Resize.declared.new_table.NewTable.{NewTable}
-use Rattle.papaya_purposes.specs.Given.Resize.declared.outcome.Outcome.{Outcome}
-use Rattle.papaya_purposes.specs.Given.Reserves.Reserve as reserves
-use Rattle.papaya_purposes.specs.Given.Reserves.Reserve.{reserve_plan}
-use Rattle.papaya_purposes.specs.Given.Reserves.declared.reserve.Reserve.{Reserve}
-use Rattle.papaya_purposes.specs.Given.Reserves.declared.reserve.Reserving.{Reserving}
-use Rattle.papaya_purposes.specs.Given.Reserves.declared.reserve.Reserving.TheVariants as reserving
-use Rattle.papaya_purposes.specs.Given.Sweeps.Sweep as sweeps_of
-use Rattle.papaya_purposes.specs.Given.Sweeps.Sweep.{sweep_plan}
-use Rattle.papaya_purposes.specs.Given.Sweeps.declared.sweep.Sweep.{Sweep}
-use Rattle.papaya_purposes.specs.Given.Sweeps.declared.sweep.Sweeping.{Sweeping}
-use Rattle.papaya_purposes.specs.Given.Sweeps.declared.sweep.Sweeping.TheVariants as sweeping
-use Rattle.papaya_purposes.specs.Given.Sweeps.declared.sweep.Swept.{Swept}
-use Rattle.papaya_purposes.specs.Given.Raw.Call as calls_of
-use Rattle.papaya_purposes.specs.Given.Raw.Call.{call_plan, copied, first_made, helped, next_made}
-use Rattle.papaya_purposes.specs.Given.Raw.Machine.{called as of_key, counted as of_sum, machine_plan, reserved as of_room, swept as of_sweep}
-use Rattle.papaya_purposes.specs.Given.Raw.declared.machines.answer.Called.{Called}
-use Rattle.papaya_purposes.specs.Given.Raw.declared.machines.asking.Asking.TheVariants as asking
-use Rattle.papaya_purposes.specs.Given.Raw.declared.machines.call.Calling.{Calling}
-use Rattle.papaya_purposes.specs.Given.Raw.declared.machines.call.Calling.TheVariants as calling
-use Rattle.papaya_purposes.specs.Given.Raw.declared.machines.call.KeyCall.{KeyCall}
-use Rattle.papaya_purposes.specs.Given.Raw.declared.machines.machine.Machine.{Machine}
-use Rattle.papaya_purposes.specs.Given.Raw.declared.machines.machine.Machine.TheVariants as kinds
-use Rattle.papaya_purposes.specs.Given.Raw.declared.machines.progress.Progress.{Progress}
-use Rattle.papaya_purposes.specs.Given.Teller.Tells.{StepsTold}
-use Rattle.papaya_purposes.specs.Given.Teller.declared.changed.Changed.{Changed}
-use Rattle.papaya_purposes.specs.Given.Teller.declared.changed.Changed.TheVariants as changed
-use Rattle.papaya_purposes.specs.Given.Late.Ends.{EndsInCalling, EndsInCopying, EndsInSweeping}
-use Rattle.papaya_purposes.specs.Given.Late.Faults.{StandsInCalling, StandsInCopying, StandsInSweeping}
-use Rattle.papaya_purposes.proofs.Given.Late.KindsKept.Rooms.Asks.{reserve_asks}
-use Rattle.papaya_purposes.proofs.Given.Late.KindsKept.Rooms.Calling as calls_as
-use Rattle.papaya_purposes.proofs.Given.Late.KindsKept.Rooms.Calling.{CallsAs, key_as}
-use Rattle.papaya_purposes.proofs.Given.Late.KindsKept.Rooms.Copying as copies_as
-use Rattle.papaya_purposes.proofs.Given.Late.KindsKept.Rooms.Copying.{CopiesAs, copier_as}
-use Rattle.papaya_purposes.proofs.Given.Late.KindsKept.Rooms.Reserving as rooms_as
-use Rattle.papaya_purposes.proofs.Given.Late.KindsKept.Rooms.Reserving.{ReservesAs}
-use Rattle.papaya_purposes.proofs.Given.Late.KindsKept.Rooms.Sweeping as sweeps_as
-use Rattle.papaya_purposes.proofs.Given.Late.KindsKept.Rooms.Sweeping.{SweepsAs, sweep_as}
-use Rattle.papaya_purposes.proofs.Given.Others.Outcomes.{told_in}
+use Rattle.papaya_purposes.specs.Given.SeizeWordsMem.{Mem}
+use Rattle.papaya_purposes.specs.Given.SeizeWordsOp.{Exchanged, Found, Made, Roomed, Stored, Taken}
+use Rattle.papaya_purposes.specs.Given.SeizeWordsPlan.{Plan}
+use Rattle.papaya_purposes.specs.Given.SeizeWordsDeclared.fault.Fault.{Fault}
+use Rattle.papaya_purposes.specs.Given.SeizeDeclared.progress.Progress.{Progress as Counting}
+use Rattle.papaya_purposes.specs.Given.SeizeDeclared.progress.Progress.TheVariants as progress
+use Rattle.papaya_purposes.specs.Given.TablesDeclared.node.Node.{Node}
+use Rattle.papaya_purposes.specs.Given.TablesDeclared.table.Table.{Table}
+use Rattle.papaya_purposes.specs.Given.ResizeCopier as copiers
+use Rattle.papaya_purposes.specs.Given.ResizeCopier.{copier_plan}
+use Rattle.papaya_purposes.specs.Given.ResizeCopierFurther.{grown, remade}
+use Rattle.papaya_purposes.specs.Given.ResizeNewTable.{new_table_plan, standing as making_at}
+use Rattle.papaya_purposes.specs.Given.ResizeSum.{sum_plan}
+use Rattle.papaya_purposes.specs.Given.ResizeDeclared.copier.Copier.{Copier}
+use Rattle.papaya_purposes.specs.Given.ResizeDeclared.copier.Copying.{Copying}
+use Rattle.papaya_purposes.specs.Given.ResizeDeclared.copier.Copying.TheVariants as copying
+use Rattle.papaya_purposes.specs.Given.ResizeDeclared.new_table.Making.TheVariants as makes
+use Rattle.papaya_purposes.specs.Given.ResizeDeclared.new_table.NewTable.{NewTable}
+use Rattle.papaya_purposes.specs.Given.ResizeDeclared.outcome.Outcome.{Outcome}
+use Rattle.papaya_purposes.specs.Given.ReservesReserve as reserves
+use Rattle.papaya_purposes.specs.Given.ReservesReserve.{reserve_plan}
+use Rattle.papaya_purposes.specs.Given.ReservesDeclared.reserve.Reserve.{Reserve}
+use Rattle.papaya_purposes.specs.Given.ReservesDeclared.reserve.Reserving.{Reserving}
+use Rattle.papaya_purposes.specs.Given.ReservesDeclared.reserve.Reserving.TheVariants as reserving
+use Rattle.papaya_purposes.specs.Given.SweepsSweep as sweeps_of
+use Rattle.papaya_purposes.specs.Given.SweepsSweep.{sweep_plan}
+use Rattle.papaya_purposes.specs.Given.SweepsDeclared.sweep.Sweep.{Sweep}
+use Rattle.papaya_purposes.specs.Given.SweepsDeclared.sweep.Sweeping.{Sweeping}
+use Rattle.papaya_purposes.specs.Given.SweepsDeclared.sweep.Sweeping.TheVariants as sweeping
+use Rattle.papaya_purposes.specs.Given.SweepsDeclared.sweep.Swept.{Swept}
+use Rattle.papaya_purposes.specs.Given.RawCall as calls_of
+use Rattle.papaya_purposes.specs.Given.RawCall.{call_plan, copied, first_made, helped, next_made}
+use Rattle.papaya_purposes.specs.Given.RawMachine.{called as of_key, counted as of_sum, machine_plan, reserved as of_room, swept as of_sweep}
+use Rattle.papaya_purposes.specs.Given.RawDeclared.machines.answer.Called.{Called}
+use Rattle.papaya_purposes.specs.Given.RawDeclared.machines.asking.Asking.TheVariants as asking
+use Rattle.papaya_purposes.specs.Given.RawDeclared.machines.call.Calling.{Calling}
+use Rattle.papaya_purposes.specs.Given.RawDeclared.machines.call.Calling.TheVariants as calling
+use Rattle.papaya_purposes.specs.Given.RawDeclared.machines.call.KeyCall.{KeyCall}
+use Rattle.papaya_purposes.specs.Given.RawDeclared.machines.machine.Machine.{Machine}
+use Rattle.papaya_purposes.specs.Given.RawDeclared.machines.machine.Machine.TheVariants as kinds
+use Rattle.papaya_purposes.specs.Given.RawDeclared.machines.progress.Progress.{Progress}
+use Rattle.papaya_purposes.specs.Given.TellerTells.{StepsTold}
+use Rattle.papaya_purposes.specs.Given.TellerDeclared.changed.Changed.{Changed}
+use Rattle.papaya_purposes.specs.Given.TellerDeclared.changed.Changed.TheVariants as changed
+use Rattle.papaya_purposes.specs.Given.LateEnds.{EndsInCalling, EndsInCopying, EndsInSweeping}
+use Rattle.papaya_purposes.specs.Given.LateFaults.{StandsInCalling, StandsInCopying, StandsInSweeping}
+use Rattle.papaya_purposes.proofs.Given.LateKindsKept.Rooms.Asks.{reserve_asks}
+use Rattle.papaya_purposes.proofs.Given.LateKindsKept.Rooms.Calling as calls_as
+use Rattle.papaya_purposes.proofs.Given.LateKindsKept.Rooms.Calling.{CallsAs, key_as}
+use Rattle.papaya_purposes.proofs.Given.LateKindsKept.Rooms.Copying as copies_as
+use Rattle.papaya_purposes.proofs.Given.LateKindsKept.Rooms.Copying.{CopiesAs, copier_as}
+use Rattle.papaya_purposes.proofs.Given.LateKindsKept.Rooms.Reserving as rooms_as
+use Rattle.papaya_purposes.proofs.Given.LateKindsKept.Rooms.Reserving.{ReservesAs}
+use Rattle.papaya_purposes.proofs.Given.LateKindsKept.Rooms.Sweeping as sweeps_as
+use Rattle.papaya_purposes.proofs.Given.LateKindsKept.Rooms.Sweeping.{SweepsAs, sweep_as}
+use Rattle.papaya_purposes.proofs.Given.OthersOutcomes.{told_in}
 use Rattle.papaya_grows.specs.Limits.{IsFor, IsForBehind, NeedsMore}
 use Rattle.papaya_grows.proofs.Finding.Making.OffRoot.{IsDone, new_table_off, sum_off}
 use Rattle.papaya_grows.proofs.Finding.Making.Unpromoted.{OffRoot}
 use Rattle.papaya_grows.proofs.Limits.Walk.{EndsThen, key_end, memory_for, room_end, sweep_end}
-use Rattle.papaya_purposes.proofs.Given.Scenes.Told.{as_step}
+use Rattle.papaya_purposes.proofs.Given.ScenesTold.{as_step}
 
 module _ {K V : Type 0} (m m2 : Mem (Node K V)) (told : Changed) (hash : K → ℕ) where
   abbrev Step : {R : Type 0} → Plan (Node K V) R → R → Type 0

@@ -1,64 +1,64 @@
 -- Whatever happens between the steps of calls, where a call can have no further table, one of its map's is at the limit, or was at a moment since it began.
 use Rattle.std.specs.Prelude.{◌≡◌, ◌⊎◌, ◌≤◌, ℕ, Bool, true, List, Option, Some, None}
 use Rattle.std.proofs.Common.{ap, sym, subst, ◌∙◌}
-use Rattle.papaya_purposes.specs.Given.Seize.World.{Begin, Step}
-use Rattle.papaya_purposes.specs.Given.Seize.declared.progress.Progress.{Progress as Making}
-use Rattle.papaya_purposes.specs.Given.Seize.declared.rows.settle.Settled.{Settled}
-use Rattle.papaya_purposes.specs.Given.Tables.declared.node.Node.{Node}
-use Rattle.papaya_purposes.specs.Given.Tables.declared.setting.Setting.{Setting}
-use Rattle.papaya_purposes.specs.Given.Raw.Machine.{machine_asked, machine_replied}
-use Rattle.papaya_purposes.specs.Given.Raw.declared.machines.asking.Reply.{Reply as MachineReply}
-use Rattle.papaya_purposes.specs.Given.Raw.declared.machines.machine.Machine.{Machine}
-use Rattle.papaya_purposes.specs.Given.Schedules.declared.call.Call.{Call}
-use Rattle.papaya_purposes.specs.Given.Schedules.declared.call.Reply.{Reply}
-use Rattle.papaya_purposes.specs.Given.Schedules.declared.outcome.Outcome.{Outcome}
-use Rattle.papaya_purposes.specs.Given.Schedules.Beginning.{with_call}
-use Rattle.papaya_purposes.specs.Given.Schedules.Effects.{with_effects}
-use Rattle.papaya_purposes.specs.Given.Schedules.Entry.{ends_call}
-use Rattle.papaya_purposes.specs.Given.Schedules.Moment.{Moment, UnderWay as CallThere}
-use Rattle.papaya_purposes.specs.Given.Schedules.Views.{call_of, map_at}
-use Rattle.papaya_purposes.specs.Given.Callers.OverAll.{CallOverAll}
-use Rattle.papaya_purposes.specs.Given.Callers.Pairs.{Given}
-use Rattle.papaya_purposes.specs.Given.Callers.Rooms.{CallForRoom}
-use Rattle.papaya_purposes.specs.Given.Callers.Together.{Computes, Counting, ForRoom, Gets, Inserts, IsBegun, OnKey, OverAll, Removes, RemovesIf, TriesToInsert, TriesToInsertWith, UnderWay, Updates, UpdatesOrInserts}
-use Rattle.papaya_purposes.specs.Given.Effects.Effects.{effects_of, known_after}
-use Rattle.papaya_purposes.specs.Given.Effects.Known.{Known}
-use Rattle.papaya_purposes.specs.Given.Effects.declared.acting.Acting.TheVariants as acts
-use Rattle.papaya_purposes.specs.Given.Scenes.declared.row.RowTold.{RowTold}
-use Rattle.papaya_purposes.specs.Given.Scenes.declared.row.SlotCall.{SlotCall}
-use Rattle.papaya_purposes.specs.Given.Scenes.declared.row.SlotRow.{SlotRow}
-use Rattle.papaya_purposes.specs.Given.Raw.declared.machines.call.KeyCall.{KeyCall}
-use Rattle.papaya_purposes.specs.Given.Finishes.Endings.{Finishing}
-use Rattle.papaya_purposes.specs.Given.Finishes.Machines.{machine_of}
-use Rattle.papaya_purposes.specs.Given.Finishes.Makings.{Beginning}
-use Rattle.papaya_purposes.specs.Given.Finishes.Maps.{Standing, with_call as with_in}
-use Rattle.papaya_purposes.specs.Given.Follows.Calling.{NoneNamed, come_to, told}
-use Rattle.papaya_purposes.specs.Given.Follows.Calls.{ShowsCalls as IsThere}
-use Rattle.papaya_purposes.specs.Given.Others.Endings.{ending_after}
-use Rattle.papaya_purposes.specs.Given.Others.Makings.{WasNew, making_after}
-use Rattle.papaya_purposes.specs.Given.Others.Rows.{scene_then}
-use Rattle.papaya_purposes.specs.Given.Others.Walks.{given_up}
-use Rattle.papaya_purposes.specs.Given.Moments.Whole.{ShowsWhole}
-use Rattle.papaya_purposes.proofs.Given.Moments.Beside.{IsBeside}
-use Rattle.papaya_purposes.proofs.Given.Moments.Ends.{end_beside}
-use Rattle.papaya_purposes.proofs.Given.Moments.MakingSteps.{makings_go_beside}
-use Rattle.papaya_purposes.proofs.Given.Moments.OnSlots.{row_beside, rows_begin_beside}
-use Rattle.papaya_purposes.specs.Given.Late.Faults.{StandsInCalling, StandsInSweeping}
+use Rattle.papaya_purposes.specs.Given.SeizeWorld.{Begin, Step}
+use Rattle.papaya_purposes.specs.Given.SeizeDeclared.progress.Progress.{Progress as Making}
+use Rattle.papaya_purposes.specs.Given.SeizeDeclared.rows.settle.Settled.{Settled}
+use Rattle.papaya_purposes.specs.Given.TablesDeclared.node.Node.{Node}
+use Rattle.papaya_purposes.specs.Given.TablesDeclared.setting.Setting.{Setting}
+use Rattle.papaya_purposes.specs.Given.RawMachine.{machine_asked, machine_replied}
+use Rattle.papaya_purposes.specs.Given.RawDeclared.machines.asking.Reply.{Reply as MachineReply}
+use Rattle.papaya_purposes.specs.Given.RawDeclared.machines.machine.Machine.{Machine}
+use Rattle.papaya_purposes.specs.Given.SchedulesDeclared.call.Call.{Call}
+use Rattle.papaya_purposes.specs.Given.SchedulesDeclared.call.Reply.{Reply}
+use Rattle.papaya_purposes.specs.Given.SchedulesDeclared.outcome.Outcome.{Outcome}
+use Rattle.papaya_purposes.specs.Given.SchedulesBeginning.{with_call}
+use Rattle.papaya_purposes.specs.Given.SchedulesEffects.{with_effects}
+use Rattle.papaya_purposes.specs.Given.SchedulesEntry.{ends_call}
+use Rattle.papaya_purposes.specs.Given.SchedulesMoment.{Moment, UnderWay as CallThere}
+use Rattle.papaya_purposes.specs.Given.SchedulesViews.{call_of, map_at}
+use Rattle.papaya_purposes.specs.Given.CallersOverAll.{CallOverAll}
+use Rattle.papaya_purposes.specs.Given.CallersPairs.{Given}
+use Rattle.papaya_purposes.specs.Given.CallersRooms.{CallForRoom}
+use Rattle.papaya_purposes.specs.Given.CallersTogether.{Computes, Counting, ForRoom, Gets, Inserts, IsBegun, OnKey, OverAll, Removes, RemovesIf, TriesToInsert, TriesToInsertWith, UnderWay, Updates, UpdatesOrInserts}
+use Rattle.papaya_purposes.specs.Given.EffectsEffects.{effects_of, known_after}
+use Rattle.papaya_purposes.specs.Given.EffectsKnown.{Known}
+use Rattle.papaya_purposes.specs.Given.EffectsDeclared.acting.Acting.TheVariants as acts
+use Rattle.papaya_purposes.specs.Given.ScenesDeclared.row.RowTold.{RowTold}
+use Rattle.papaya_purposes.specs.Given.ScenesDeclared.row.SlotCall.{SlotCall}
+use Rattle.papaya_purposes.specs.Given.ScenesDeclared.row.SlotRow.{SlotRow}
+use Rattle.papaya_purposes.specs.Given.RawDeclared.machines.call.KeyCall.{KeyCall}
+use Rattle.papaya_purposes.specs.Given.FinishesEndings.{Finishing}
+use Rattle.papaya_purposes.specs.Given.FinishesMachines.{machine_of}
+use Rattle.papaya_purposes.specs.Given.FinishesMakings.{Beginning}
+use Rattle.papaya_purposes.specs.Given.FinishesMaps.{Standing, with_call as with_in}
+use Rattle.papaya_purposes.specs.Given.FollowsCalling.{NoneNamed, come_to, told}
+use Rattle.papaya_purposes.specs.Given.FollowsCalls.{ShowsCalls as IsThere}
+use Rattle.papaya_purposes.specs.Given.OthersEndings.{ending_after}
+use Rattle.papaya_purposes.specs.Given.OthersMakings.{WasNew, making_after}
+use Rattle.papaya_purposes.specs.Given.OthersRows.{scene_then}
+use Rattle.papaya_purposes.specs.Given.OthersWalks.{given_up}
+use Rattle.papaya_purposes.specs.Given.MomentsWhole.{ShowsWhole}
+use Rattle.papaya_purposes.proofs.Given.MomentsBeside.{IsBeside}
+use Rattle.papaya_purposes.proofs.Given.MomentsEnds.{end_beside}
+use Rattle.papaya_purposes.proofs.Given.MomentsMakingSteps.{makings_go_beside}
+use Rattle.papaya_purposes.proofs.Given.MomentsOnSlots.{row_beside, rows_begin_beside}
+use Rattle.papaya_purposes.specs.Given.LateFaults.{StandsInCalling, StandsInSweeping}
 use Rattle.papaya_grows.specs.Limits.{IsAtLimit, IsFor, IsForBehind, MachineEnds, NeedsMore, OthersHadLimit, RoomEnds, ShowsLimits}
 use Rattle.papaya_grows.proofs.Finding.Others.{ended, ended_calls, ended_maps, ended_world}
 use Rattle.papaya_grows.proofs.Limits.Chain.{limit_where, same_maps_keep_limit}
 use Rattle.papaya_grows.proofs.Limits.Walk.{asked_ends, machine_for, reply_ends}
 use Rattle.papaya_grows.proofs.Since as since
-use Rattle.papaya_purposes.specs.Given.Scenes.Beginning.{Begins}
-use Rattle.papaya_purposes.specs.Given.Scenes.Ending.{EndingLeads}
-use Rattle.papaya_purposes.specs.Given.Scenes.Held.{Held, IsAt}
-use Rattle.papaya_purposes.specs.Given.Scenes.Making.{MakingLeads}
-use Rattle.papaya_purposes.specs.Given.Scenes.OnSlots.{RowBegins, RowLeads}
-use Rattle.papaya_purposes.specs.Given.Scenes.Replying.{scene_with, unless_stopped}
-use Rattle.papaya_purposes.specs.Given.Scenes.Rows.{request_of}
-use Rattle.papaya_purposes.specs.Given.Scenes.Scene.{IsOnSlot, Scene, slot_of}
-use Rattle.papaya_purposes.specs.Given.Schedules.Transition.{Past, further}
-use Rattle.papaya_purposes.specs.Given.Histories.Histories.{IsPast}
+use Rattle.papaya_purposes.specs.Given.ScenesBeginning.{Begins}
+use Rattle.papaya_purposes.specs.Given.ScenesEnding.{EndingLeads}
+use Rattle.papaya_purposes.specs.Given.ScenesHeld.{Held, IsAt}
+use Rattle.papaya_purposes.specs.Given.ScenesMaking.{MakingLeads}
+use Rattle.papaya_purposes.specs.Given.ScenesOnSlots.{RowBegins, RowLeads}
+use Rattle.papaya_purposes.specs.Given.ScenesReplying.{scene_with, unless_stopped}
+use Rattle.papaya_purposes.specs.Given.ScenesRows.{request_of}
+use Rattle.papaya_purposes.specs.Given.ScenesScene.{IsOnSlot, Scene, slot_of}
+use Rattle.papaya_purposes.specs.Given.SchedulesTransition.{Past, further}
+use Rattle.papaya_purposes.specs.Given.HistoriesHistories.{IsPast}
 
 -- A call that begins has not come so far.
 module _ {K V : Type 0} (same : K → K → Bool) (Why : Type 0) where

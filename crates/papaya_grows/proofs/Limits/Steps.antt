@@ -1,34 +1,34 @@
 -- A step of a call: where it can have no further table after it, one of its map's is at the limit, or was; and what it is refused for.
 use Rattle.std.specs.Prelude.{◌≡◌, ◌⊎◌, ◌≤◌, ◌^◌, ℕ, Bool, false, List, Option, Some, Result, Ok, Err, IfOk}
 use Rattle.std.proofs.Common.{refl, sym, subst, ◌∙◌, inl, inr, arith}
-use Rattle.papaya_purposes.specs.Given.SeizeWords.Mem.{Mem, Took, value_at}
-use Rattle.papaya_purposes.specs.Given.SeizeWords.Plan.{Steps}
-use Rattle.papaya_purposes.specs.Given.SeizeWords.declared.fault.Fault.{Fault}
-use Rattle.papaya_purposes.specs.Given.SeizeWords.declared.fault.Fault.TheVariants.{Capacity}
-use Rattle.papaya_purposes.specs.Given.Tables.Lengths.{entries_of, places_for}
-use Rattle.papaya_purposes.specs.Given.Tables.Powers.{next_power}
-use Rattle.papaya_purposes.specs.Given.Tables.declared.node.Node.{Node}
-use Rattle.papaya_purposes.specs.Given.Raw.Machine.{machine_plan}
-use Rattle.papaya_purposes.specs.Given.Raw.declared.machines.machine.Machine.{Machine}
-use Rattle.papaya_purposes.specs.Given.Raw.declared.machines.machine.Machine.TheVariants as kinds
-use Rattle.papaya_purposes.specs.Given.Raw.declared.machines.progress.Progress.{Progress}
-use Rattle.papaya_purposes.specs.Given.Raw.declared.machines.progress.Progress.TheVariants as progress
-use Rattle.papaya_purposes.specs.Given.Schedules.Effects.{with_effects}
-use Rattle.papaya_purposes.specs.Given.Schedules.Growing.{Has}
-use Rattle.papaya_purposes.specs.Given.Schedules.Moment.{Moment, UnderWay as CallThere}
-use Rattle.papaya_purposes.specs.Given.Schedules.Views.{call_of, capacity_or, map_at}
-use Rattle.papaya_purposes.specs.Given.Teller.declared.changed.Changed.{Changed}
-use Rattle.papaya_purposes.specs.Given.Teller.declared.changed.Changed.TheVariants as changed
-use Rattle.papaya_purposes.specs.Given.Callers.Together.{Together, UnderWay}
-use Rattle.papaya_purposes.specs.Given.Effects.Effects.{effects_of}
-use Rattle.papaya_purposes.specs.Given.Effects.Known.{Known}
-use Rattle.papaya_purposes.specs.Given.Effects.declared.acting.Acting.TheVariants as acts
-use Rattle.papaya_purposes.proofs.Given.Scenes.Given.Tables.TableLens.{if_few-holds, next-power-most}
-use Rattle.papaya_purposes.specs.Given.Finishes.Machines.{GoesOnAs, machine_of}
-use Rattle.papaya_purposes.specs.Given.Finishes.Maps.{Standing}
-use Rattle.papaya_purposes.proofs.Given.Follows.Steps.{WentTo, went_to}
-use Rattle.papaya_purposes.specs.Given.Moments.Whole.{ShowsWhole}
-use Rattle.papaya_purposes.specs.Given.Finds.Capacities.{ShowsCapacities}
+use Rattle.papaya_purposes.specs.Given.SeizeWordsMem.{Mem, Took, value_at}
+use Rattle.papaya_purposes.specs.Given.SeizeWordsPlan.{Steps}
+use Rattle.papaya_purposes.specs.Given.SeizeWordsDeclared.fault.Fault.{Fault}
+use Rattle.papaya_purposes.specs.Given.SeizeWordsDeclared.fault.Fault.TheVariants.{Capacity}
+use Rattle.papaya_purposes.specs.Given.TablesLengths.{entries_of, places_for}
+use Rattle.papaya_purposes.specs.Given.TablesPowers.{next_power}
+use Rattle.papaya_purposes.specs.Given.TablesDeclared.node.Node.{Node}
+use Rattle.papaya_purposes.specs.Given.RawMachine.{machine_plan}
+use Rattle.papaya_purposes.specs.Given.RawDeclared.machines.machine.Machine.{Machine}
+use Rattle.papaya_purposes.specs.Given.RawDeclared.machines.machine.Machine.TheVariants as kinds
+use Rattle.papaya_purposes.specs.Given.RawDeclared.machines.progress.Progress.{Progress}
+use Rattle.papaya_purposes.specs.Given.RawDeclared.machines.progress.Progress.TheVariants as progress
+use Rattle.papaya_purposes.specs.Given.SchedulesEffects.{with_effects}
+use Rattle.papaya_purposes.specs.Given.SchedulesGrowing.{Has}
+use Rattle.papaya_purposes.specs.Given.SchedulesMoment.{Moment, UnderWay as CallThere}
+use Rattle.papaya_purposes.specs.Given.SchedulesViews.{call_of, capacity_or, map_at}
+use Rattle.papaya_purposes.specs.Given.TellerDeclared.changed.Changed.{Changed}
+use Rattle.papaya_purposes.specs.Given.TellerDeclared.changed.Changed.TheVariants as changed
+use Rattle.papaya_purposes.specs.Given.CallersTogether.{Together, UnderWay}
+use Rattle.papaya_purposes.specs.Given.EffectsEffects.{effects_of}
+use Rattle.papaya_purposes.specs.Given.EffectsKnown.{Known}
+use Rattle.papaya_purposes.specs.Given.EffectsDeclared.acting.Acting.TheVariants as acts
+use Rattle.papaya_purposes.proofs.Given.TablesTableLens.{if_few-holds, next-power-most}
+use Rattle.papaya_purposes.specs.Given.FinishesMachines.{GoesOnAs, machine_of}
+use Rattle.papaya_purposes.specs.Given.FinishesMaps.{Standing}
+use Rattle.papaya_purposes.proofs.Given.FollowsSteps.{WentTo, went_to}
+use Rattle.papaya_purposes.specs.Given.MomentsWhole.{ShowsWhole}
+use Rattle.papaya_purposes.specs.Given.FindsCapacities.{ShowsCapacities}
 use Rattle.papaya_grows.specs.Limits.{HasLimit, MachineEnds, OthersHadLimit, SaysFor, ShowsLimits}
 use Rattle.papaya_grows.proofs.Finding.Making.Unpromoted.{OffRoot, off_promotes_none}
 use Rattle.papaya_grows.proofs.Limits.Chain.{effects_keep_limit}
@@ -38,11 +38,11 @@ use Rattle.papaya_grows.proofs.Limits.Off.{machine_off}
 use Rattle.papaya_grows.proofs.Limits.Shows.{AnyPairs, Of, So, asked, more, replies, so_where}
 use Rattle.papaya_grows.proofs.Limits.Walk.{EndsThen, MachineMayEnd, SummedIn, WhyOf, machine_ends, machine_for, machine_on}
 use Rattle.papaya_grows.proofs.Since as since
-use Rattle.papaya_purposes.proofs.Given.Scenes.Told.{as_step}
-use Rattle.papaya_purposes.specs.Given.Scenes.Held.{Held, IsAt}
-use Rattle.papaya_purposes.specs.Given.Scenes.Scene.{Scene, slot_of}
-use Rattle.papaya_purposes.specs.Given.Scenes.Stepping.{StepLeads, has_ended, scene_after}
-use Rattle.papaya_purposes.specs.Given.Schedules.Transition.{Past}
+use Rattle.papaya_purposes.proofs.Given.ScenesTold.{as_step}
+use Rattle.papaya_purposes.specs.Given.ScenesHeld.{Held, IsAt}
+use Rattle.papaya_purposes.specs.Given.ScenesScene.{Scene, slot_of}
+use Rattle.papaya_purposes.specs.Given.ScenesStepping.{StepLeads, has_ended, scene_after}
+use Rattle.papaya_purposes.specs.Given.SchedulesTransition.{Past}
 
 -- a map is made with no more places than a table can have
 entries_few : (pairs initial : ℕ) → Has (entries_of pairs) initial → initial ≤ 2 ^ 48

@@ -1,51 +1,51 @@
 -- A step of a call is refused for the length of a table as that was to be, whichever kind of call it is; and so is one that goes on by a reply, or as it is asked for its next pair.
 use Rattle.std.specs.Prelude.{◌≡◌, ◌⊎◌, ◌≤◌, ◌<◌, ◌^◌, ℕ, Bool, true, false, nat_lt, if◌then◌else◌}
 use Rattle.std.proofs.Common.{refl, sym, subst, inl, inr}
-use Rattle.papaya_purposes.specs.Given.SeizeWords.Mem.{Mem, Took, value_at}
-use Rattle.papaya_purposes.specs.Given.SeizeWords.Plan.{Steps}
-use Rattle.papaya_purposes.specs.Given.SeizeWords.declared.fault.Fault.TheVariants.{Capacity, Memory}
-use Rattle.papaya_purposes.proofs.Given.SeizeRule.Rows.Leaving.{steps_back}
-use Rattle.papaya_purposes.specs.Given.Seize.declared.progress.Progress.{Progress as Counting}
-use Rattle.papaya_purposes.specs.Given.Seize.declared.progress.Progress.TheVariants as counting
-use Rattle.papaya_purposes.specs.Given.Tables.declared.node.Node.{Node}
-use Rattle.papaya_purposes.specs.Given.Tables.declared.setting.Setting.{Setting}
-use Rattle.papaya_purposes.specs.Given.Tables.declared.table.Table.{Table}
-use Rattle.papaya_purposes.specs.Given.Resize.Sum.{sum_plan}
-use Rattle.papaya_purposes.specs.Given.Resize.declared.outcome.Outcome.{Outcome}
-use Rattle.papaya_purposes.specs.Given.Resize.declared.outcome.Outcome.TheVariants as outcome
-use Rattle.papaya_purposes.specs.Given.Resize.declared.sum.Sum.{Sum}
-use Rattle.papaya_purposes.specs.Given.Reserves.Reserve.{enough, needed, plan_at as room_at, refusing, reserve_plan, standing, summed}
-use Rattle.papaya_purposes.specs.Given.Reserves.declared.reserve.Reserve.{Reserve}
-use Rattle.papaya_purposes.specs.Given.Reserves.declared.reserve.Reserving.{Reserving}
-use Rattle.papaya_purposes.specs.Given.Reserves.declared.reserve.Reserving.TheVariants as reserving
-use Rattle.papaya_purposes.specs.Given.Sweeps.Sweep.{sweep_plan}
-use Rattle.papaya_purposes.specs.Given.Sweeps.declared.sweep.Sweep.{Sweep}
-use Rattle.papaya_purposes.specs.Given.Sweeps.declared.sweep.Sweeping.{Sweeping}
-use Rattle.papaya_purposes.specs.Given.Sweeps.declared.sweep.Sweeping.TheVariants as sweeping
-use Rattle.papaya_purposes.specs.Given.Sweeps.declared.sweep.Swept.{Swept}
-use Rattle.papaya_purposes.specs.Given.Sweeps.declared.sweep.Swept.TheVariants as swept
-use Rattle.papaya_purposes.specs.Given.Raw.Call.{call_plan}
-use Rattle.papaya_purposes.specs.Given.Raw.Machine.{called as of_key, counted as of_sum, machine_asked, machine_plan, machine_replied, reserved as of_room, swept as of_sweep, sweep_told}
-use Rattle.papaya_purposes.specs.Given.Raw.declared.machines.answer.Called.{Called}
-use Rattle.papaya_purposes.specs.Given.Raw.declared.machines.answer.Called.TheVariants as called
-use Rattle.papaya_purposes.specs.Given.Raw.declared.machines.asking.Reply.{Reply}
-use Rattle.papaya_purposes.specs.Given.Raw.declared.machines.asking.Reply.TheVariants as reply
-use Rattle.papaya_purposes.specs.Given.Raw.declared.machines.call.KeyCall.{KeyCall}
-use Rattle.papaya_purposes.specs.Given.Raw.declared.machines.machine.Machine.{Machine}
-use Rattle.papaya_purposes.specs.Given.Raw.declared.machines.machine.Machine.TheVariants as kinds
-use Rattle.papaya_purposes.specs.Given.Raw.declared.machines.progress.Progress.{Progress}
-use Rattle.papaya_purposes.proofs.Given.Rule.Keys.Always.{always_steps}
-use Rattle.papaya_purposes.specs.Given.Late.Ends.{EndsInCalling, EndsInReserving, EndsInSweeping, EndsSo}
-use Rattle.papaya_purposes.specs.Given.Late.Faults.{RefusesSo, StandsInSweeping, SweepRefusesSo}
-use Rattle.papaya_purposes.proofs.Given.Scenes.Given.Tables.Ends.{only_the_last_ends}
-use Rattle.papaya_purposes.proofs.Given.Late.KindsKept.Rooms.Asks.{reserve_asks}
-use Rattle.papaya_purposes.proofs.Given.Late.KindsKept.Rooms.Bound.{Keeps, calling_on, reserving_on, sweeping_on}
-use Rattle.papaya_purposes.proofs.Given.Late.KindsKept.Rooms.Calling.{CallsAs, key_as, key_told_as}
-use Rattle.papaya_purposes.proofs.Given.Late.KindsKept.Rooms.Making.{CountsOn, at_least, sum_counts}
-use Rattle.papaya_purposes.proofs.Given.Late.KindsKept.Rooms.Reserving.{ReservesAs, reserve_as}
-use Rattle.papaya_purposes.proofs.Given.Late.KindsKept.Rooms.Sweeping.{SweepsAs, sweep_as, told_as_on}
+use Rattle.papaya_purposes.specs.Given.SeizeWordsMem.{Mem, Took, value_at}
+use Rattle.papaya_purposes.specs.Given.SeizeWordsPlan.{Steps}
+use Rattle.papaya_purposes.specs.Given.SeizeWordsDeclared.fault.Fault.TheVariants.{Capacity, Memory}
+use Rattle.papaya_purposes.proofs.Given.SeizeRuleRows.Leaving.{steps_back}
+use Rattle.papaya_purposes.specs.Given.SeizeDeclared.progress.Progress.{Progress as Counting}
+use Rattle.papaya_purposes.specs.Given.SeizeDeclared.progress.Progress.TheVariants as counting
+use Rattle.papaya_purposes.specs.Given.TablesDeclared.node.Node.{Node}
+use Rattle.papaya_purposes.specs.Given.TablesDeclared.setting.Setting.{Setting}
+use Rattle.papaya_purposes.specs.Given.TablesDeclared.table.Table.{Table}
+use Rattle.papaya_purposes.specs.Given.ResizeSum.{sum_plan}
+use Rattle.papaya_purposes.specs.Given.ResizeDeclared.outcome.Outcome.{Outcome}
+use Rattle.papaya_purposes.specs.Given.ResizeDeclared.outcome.Outcome.TheVariants as outcome
+use Rattle.papaya_purposes.specs.Given.ResizeDeclared.sum.Sum.{Sum}
+use Rattle.papaya_purposes.specs.Given.ReservesReserve.{enough, needed, plan_at as room_at, refusing, reserve_plan, standing, summed}
+use Rattle.papaya_purposes.specs.Given.ReservesDeclared.reserve.Reserve.{Reserve}
+use Rattle.papaya_purposes.specs.Given.ReservesDeclared.reserve.Reserving.{Reserving}
+use Rattle.papaya_purposes.specs.Given.ReservesDeclared.reserve.Reserving.TheVariants as reserving
+use Rattle.papaya_purposes.specs.Given.SweepsSweep.{sweep_plan}
+use Rattle.papaya_purposes.specs.Given.SweepsDeclared.sweep.Sweep.{Sweep}
+use Rattle.papaya_purposes.specs.Given.SweepsDeclared.sweep.Sweeping.{Sweeping}
+use Rattle.papaya_purposes.specs.Given.SweepsDeclared.sweep.Sweeping.TheVariants as sweeping
+use Rattle.papaya_purposes.specs.Given.SweepsDeclared.sweep.Swept.{Swept}
+use Rattle.papaya_purposes.specs.Given.SweepsDeclared.sweep.Swept.TheVariants as swept
+use Rattle.papaya_purposes.specs.Given.RawCall.{call_plan}
+use Rattle.papaya_purposes.specs.Given.RawMachine.{called as of_key, counted as of_sum, machine_asked, machine_plan, machine_replied, reserved as of_room, swept as of_sweep, sweep_told}
+use Rattle.papaya_purposes.specs.Given.RawDeclared.machines.answer.Called.{Called}
+use Rattle.papaya_purposes.specs.Given.RawDeclared.machines.answer.Called.TheVariants as called
+use Rattle.papaya_purposes.specs.Given.RawDeclared.machines.asking.Reply.{Reply}
+use Rattle.papaya_purposes.specs.Given.RawDeclared.machines.asking.Reply.TheVariants as reply
+use Rattle.papaya_purposes.specs.Given.RawDeclared.machines.call.KeyCall.{KeyCall}
+use Rattle.papaya_purposes.specs.Given.RawDeclared.machines.machine.Machine.{Machine}
+use Rattle.papaya_purposes.specs.Given.RawDeclared.machines.machine.Machine.TheVariants as kinds
+use Rattle.papaya_purposes.specs.Given.RawDeclared.machines.progress.Progress.{Progress}
+use Rattle.papaya_purposes.proofs.Given.RuleKeys.Always.{always_steps}
+use Rattle.papaya_purposes.specs.Given.LateEnds.{EndsInCalling, EndsInReserving, EndsInSweeping, EndsSo}
+use Rattle.papaya_purposes.specs.Given.LateFaults.{RefusesSo, StandsInSweeping, SweepRefusesSo}
+use Rattle.papaya_purposes.proofs.Given.TablesEnds.{only_the_last_ends}
+use Rattle.papaya_purposes.proofs.Given.LateKindsKept.Rooms.Asks.{reserve_asks}
+use Rattle.papaya_purposes.proofs.Given.LateKindsKept.Rooms.Bound.{Keeps, calling_on, reserving_on, sweeping_on}
+use Rattle.papaya_purposes.proofs.Given.LateKindsKept.Rooms.Calling.{CallsAs, key_as, key_told_as}
+use Rattle.papaya_purposes.proofs.Given.LateKindsKept.Rooms.Making.{CountsOn, at_least, sum_counts}
+use Rattle.papaya_purposes.proofs.Given.LateKindsKept.Rooms.Reserving.{ReservesAs, reserve_as}
+use Rattle.papaya_purposes.proofs.Given.LateKindsKept.Rooms.Sweeping.{SweepsAs, sweep_as, told_as_on}
 use Rattle.papaya_grows.specs.Limits.{IsFor, IsForBehind, MachineEnds, NeedsMore, RoomEnds, SaysFor}
-use Rattle.papaya_purposes.specs.Given.Scenes.Stepping.{has_ended}
+use Rattle.papaya_purposes.specs.Given.ScenesStepping.{has_ended}
 
 module _ (Why : Type 0) where
   -- the fault is another one

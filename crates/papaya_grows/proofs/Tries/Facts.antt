@@ -2,37 +2,37 @@
 use Rattle.std.specs.Prelude.{◌≡◌, ◌≢◌, ℕ, suc, ◌<◌, ◌≤◌, ◌==◌, ◌^◌, Bool, true, false, cond, Some, if◌then◌else◌}
 use Rattle.std.proofs.Common.{refl, ap, sym, subst, ◌∙◌, arith, inl, inr}
 use Rattle.std.proofs.lemmas.Bool.{cases_eq, ne_eqb}
-use Rattle.papaya_purposes.specs.Given.SeizeWords.Mem.{Mem, word_at}
-use Rattle.papaya_purposes.specs.Given.SeizeWords.Word.{block_in}
-use Rattle.papaya_purposes.specs.Given.Tables.Chunks.{is_incremental}
-use Rattle.papaya_purposes.specs.Given.Tables.Finding.{finding}
-use Rattle.papaya_purposes.specs.Given.Tables.TablePlaces.{at_place}
-use Rattle.papaya_purposes.specs.Given.Tables.Trials.{place_tried}
-use Rattle.papaya_purposes.specs.Given.Tables.declared.finding.Aim.{Aim}
-use Rattle.papaya_purposes.specs.Given.Tables.declared.finding.Finding.TheVariants as finds
-use Rattle.papaya_purposes.specs.Given.Tables.declared.node.Node.{Node}
-use Rattle.papaya_purposes.specs.Given.Tables.declared.resize_mode.ResizeMode.{ResizeMode}
-use Rattle.papaya_purposes.specs.Given.Tables.declared.table.Table.{Table}
-use Rattle.papaya_purposes.specs.Given.Tables.declared.trial.Trial.{Trial}
-use Rattle.papaya_purposes.specs.Given.Schedules.Moment.{Moment}
-use Rattle.papaya_purposes.specs.Given.Schedules.Tries.{FindsTaken, try_at}
-use Rattle.papaya_purposes.specs.Given.Schedules.Views.{is_in_map}
-use Rattle.papaya_purposes.specs.Given.Rule.Chart.{Chart, Copied, Copying, Empty, Holds, Phase, Place, Share, Still, Tombstone, is_marked}
-use Rattle.papaya_purposes.specs.Given.Rule.Maps.{IsMap, IsTrial, spot_at, spot_of}
-use Rattle.papaya_purposes.specs.Given.Rule.Rule.{Agrees, IsLawful, Rule}
-use Rattle.papaya_purposes.specs.Given.Rule.Words.{Blocks, byte_of, place_word}
-use Rattle.papaya_purposes.proofs.Given.Rule.Keys.TriesSeen.{spot_inside}
-use Rattle.papaya_purposes.proofs.Given.Rule.Words.PlaceWords.{pair_block}
-use Rattle.papaya_purposes.proofs.Given.Rule.Words.PlacesShown.{are_stored, byte_of-few, shown_block, shown_byte}
-use Rattle.papaya_purposes.proofs.Given.Rule.Words.TablesSeen.{place_there}
-use Rattle.papaya_purposes.proofs.Given.Rule.Words.WordsSeen.{Says, says}
-use Rattle.papaya_purposes.specs.Given.Effects.Known.{Known}
-use Rattle.papaya_purposes.specs.Given.Finishes.Maps.{Standing}
-use Rattle.papaya_purposes.specs.Given.Follows.Maps.{ShowsMap}
-use Rattle.papaya_purposes.specs.Given.Spots.Spots.{LiesAt, named_by, spot_in}
-use Rattle.papaya_purposes.proofs.Given.Spots.Stills.{still_spot}
-use Rattle.papaya_purposes.proofs.Given.Spots.Taken.{no_pair_there, pair_there, taken_there}
-use Rattle.papaya_purposes.specs.Given.Sources.Sources.{WereLeft}
+use Rattle.papaya_purposes.specs.Given.SeizeWordsMem.{Mem, word_at}
+use Rattle.papaya_purposes.specs.Given.SeizeWordsWord.{block_in}
+use Rattle.papaya_purposes.specs.Given.TablesChunks.{is_incremental}
+use Rattle.papaya_purposes.specs.Given.TablesFinding.{finding}
+use Rattle.papaya_purposes.specs.Given.TablesTablePlaces.{at_place}
+use Rattle.papaya_purposes.specs.Given.TablesTrials.{place_tried}
+use Rattle.papaya_purposes.specs.Given.TablesDeclared.finding.Aim.{Aim}
+use Rattle.papaya_purposes.specs.Given.TablesDeclared.finding.Finding.TheVariants as finds
+use Rattle.papaya_purposes.specs.Given.TablesDeclared.node.Node.{Node}
+use Rattle.papaya_purposes.specs.Given.TablesDeclared.resize_mode.ResizeMode.{ResizeMode}
+use Rattle.papaya_purposes.specs.Given.TablesDeclared.table.Table.{Table}
+use Rattle.papaya_purposes.specs.Given.TablesDeclared.trial.Trial.{Trial}
+use Rattle.papaya_purposes.specs.Given.SchedulesMoment.{Moment}
+use Rattle.papaya_purposes.specs.Given.SchedulesTries.{FindsTaken, try_at}
+use Rattle.papaya_purposes.specs.Given.SchedulesViews.{is_in_map}
+use Rattle.papaya_purposes.specs.Given.RuleChart.{Chart, Copied, Copying, Empty, Holds, Phase, Place, Share, Still, Tombstone, is_marked}
+use Rattle.papaya_purposes.specs.Given.RuleMaps.{IsMap, IsTrial, spot_at, spot_of}
+use Rattle.papaya_purposes.specs.Given.RuleRule.{Agrees, IsLawful, Rule}
+use Rattle.papaya_purposes.specs.Given.RuleWords.{Blocks, byte_of, place_word}
+use Rattle.papaya_purposes.proofs.Given.RuleKeys.TriesSeen.{spot_inside}
+use Rattle.papaya_purposes.proofs.Given.RuleWords.PlaceWords.{pair_block}
+use Rattle.papaya_purposes.proofs.Given.RuleWords.PlacesShown.{are_stored, byte_of-few, shown_block, shown_byte}
+use Rattle.papaya_purposes.proofs.Given.RuleWords.TablesSeen.{place_there}
+use Rattle.papaya_purposes.proofs.Given.RuleWords.WordsSeen.{Says, says}
+use Rattle.papaya_purposes.specs.Given.EffectsKnown.{Known}
+use Rattle.papaya_purposes.specs.Given.FinishesMaps.{Standing}
+use Rattle.papaya_purposes.specs.Given.FollowsMaps.{ShowsMap}
+use Rattle.papaya_purposes.specs.Given.SpotsSpots.{LiesAt, named_by, spot_in}
+use Rattle.papaya_purposes.proofs.Given.SpotsStills.{still_spot}
+use Rattle.papaya_purposes.proofs.Given.SpotsTaken.{no_pair_there, pair_there, taken_there}
+use Rattle.papaya_purposes.specs.Given.SourcesSources.{WereLeft}
 
 -- In the last table of a map, which is the root where all pairs are copied at once, nothing is marked.
 module _ {K : Type 0} (same : K → K → Bool) (hash : K → ℕ) (c : Chart K) (t : ℕ) (last : suc t ≡ c.past) where

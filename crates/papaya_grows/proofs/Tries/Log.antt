@@ -1,29 +1,29 @@
 -- Maps have no fewer tables at later moments of a run. So a call that makes a table behind the last one has found that full, at moments since it began.
 use Rattle.std.specs.Prelude.{◌≡◌, ◌+◌, ◌≤◌, ◌==◌, nat_lt, ℕ, zero, suc, Bool, true, false, List, [], ◌∷◌, Option, Some, None, length, if◌then◌else◌}
 use Rattle.std.proofs.Common.{refl, arith, inl, inr}
-use Rattle.papaya_purposes.specs.Given.Raw.declared.machines.call.Calling.{Calling}
-use Rattle.papaya_purposes.specs.Given.Raw.declared.machines.call.Calling.TheVariants as at
-use Rattle.papaya_purposes.specs.Given.Schedules.declared.call.Call.{Call}
-use Rattle.papaya_purposes.specs.Given.Schedules.declared.event.Event.{Event}
-use Rattle.papaya_purposes.specs.Given.Schedules.declared.event.Event.TheVariants.{Begin, MakeMap, OneCall}
-use Rattle.papaya_purposes.specs.Given.Schedules.declared.outcome.Outcome.{Outcome}
-use Rattle.papaya_purposes.specs.Given.Schedules.declared.outcome.Outcome.TheVariants.{Done, Goes}
-use Rattle.papaya_purposes.specs.Given.Schedules.After.{after, moment, moments_from}
-use Rattle.papaya_purposes.specs.Given.Schedules.Beginning.{at_work, begun, with_call}
-use Rattle.papaya_purposes.specs.Given.Schedules.Entry.{Entry, acted_on, caller_of, is_busy, nameless}
-use Rattle.papaya_purposes.specs.Given.Schedules.Lists.{OneOf}
-use Rattle.papaya_purposes.specs.Given.Schedules.Moment.{Moment, UnderWay as CallThere, start}
-use Rattle.papaya_purposes.specs.Given.Schedules.Tries.{FindsTaken, Meets, try_at}
-use Rattle.papaya_purposes.specs.Given.Schedules.Views.{call_of, number_of}
-use Rattle.papaya_purposes.specs.Given.Callers.Together.{Counting, ForRoom, OnKey, OverAll, UnderWay}
-use Rattle.papaya_purposes.proofs.Given.Histories.Logs.{each_of}
-use Rattle.papaya_purposes.specs.Given.Finds.Linking.{FoundFull, HasFoundFull}
-use Rattle.papaya_purposes.specs.Given.Finds.Within.{many_of}
-use Rattle.papaya_purposes.proofs.Given.Finds.Grows.Steps.{tables_have_been}
+use Rattle.papaya_purposes.specs.Given.RawDeclared.machines.call.Calling.{Calling}
+use Rattle.papaya_purposes.specs.Given.RawDeclared.machines.call.Calling.TheVariants as at
+use Rattle.papaya_purposes.specs.Given.SchedulesDeclared.call.Call.{Call}
+use Rattle.papaya_purposes.specs.Given.SchedulesDeclared.event.Event.{Event}
+use Rattle.papaya_purposes.specs.Given.SchedulesDeclared.event.Event.TheVariants.{Begin, MakeMap, OneCall}
+use Rattle.papaya_purposes.specs.Given.SchedulesDeclared.outcome.Outcome.{Outcome}
+use Rattle.papaya_purposes.specs.Given.SchedulesDeclared.outcome.Outcome.TheVariants.{Done, Goes}
+use Rattle.papaya_purposes.specs.Given.SchedulesAfter.{after, moment, moments_from}
+use Rattle.papaya_purposes.specs.Given.SchedulesBeginning.{at_work, begun, with_call}
+use Rattle.papaya_purposes.specs.Given.SchedulesEntry.{Entry, acted_on, caller_of, is_busy, nameless}
+use Rattle.papaya_purposes.specs.Given.SchedulesLists.{OneOf}
+use Rattle.papaya_purposes.specs.Given.SchedulesMoment.{Moment, UnderWay as CallThere, start}
+use Rattle.papaya_purposes.specs.Given.SchedulesTries.{FindsTaken, Meets, try_at}
+use Rattle.papaya_purposes.specs.Given.SchedulesViews.{call_of, number_of}
+use Rattle.papaya_purposes.specs.Given.CallersTogether.{Counting, ForRoom, OnKey, OverAll, UnderWay}
+use Rattle.papaya_purposes.proofs.Given.HistoriesLogs.{each_of}
+use Rattle.papaya_purposes.specs.Given.FindsLinking.{FoundFull, HasFoundFull}
+use Rattle.papaya_purposes.specs.Given.FindsWithin.{many_of}
+use Rattle.papaya_purposes.proofs.Given.FindsGrows.Steps.{tables_have_been}
 use Rattle.papaya_grows.specs.Tries.{HasTaken, MeetsBy, ShowsTries, TakenOrPassed, TriedAt, TablesLast}
 use Rattle.papaya_grows.proofs.Finding.Alike.{many_same}
-use Rattle.papaya_purposes.specs.Given.Scenes.Scene.{Scene}
-use Rattle.papaya_purposes.specs.Given.Schedules.Transition.{Past, past}
+use Rattle.papaya_purposes.specs.Given.ScenesScene.{Scene}
+use Rattle.papaya_purposes.specs.Given.SchedulesTransition.{Past, past}
 use Rattle.std.specs.List.{AllByRecursion}
 
 module _ {K V : Type 0} (map : ℕ) where

@@ -2,29 +2,29 @@
 use Rattle.std.specs.Prelude.{◌≡◌, ◌≤◌, ◌==◌, ℕ, zero, suc, Bool, true, false, if◌then◌else◌}
 use Rattle.std.proofs.Common.{refl, subst, arith, inl, inr}
 use Rattle.std.proofs.lemmas.Bool.{cases_eq}
-use Rattle.papaya_purposes.specs.Given.Tables.declared.marks.TheConstants.{TOMBSTONE}
-use Rattle.papaya_purposes.specs.Given.Tables.declared.node.Node.{Node}
-use Rattle.papaya_purposes.specs.Given.Raw.CallAsks.{absent_told, present_told, replied, told_at, with_absent, with_present}
-use Rattle.papaya_purposes.specs.Given.Raw.CallPoints.{at_gap, burying, ending, going, over, storing}
-use Rattle.papaya_purposes.specs.Given.Raw.Machine.{machine_asked, machine_replied}
-use Rattle.papaya_purposes.specs.Given.Raw.declared.machines.answer.Called.{Called}
-use Rattle.papaya_purposes.specs.Given.Raw.declared.machines.answer.End.{End}
-use Rattle.papaya_purposes.specs.Given.Raw.declared.machines.asking.Asking.{Asking}
-use Rattle.papaya_purposes.specs.Given.Raw.declared.machines.asking.Asking.TheVariants as asking
-use Rattle.papaya_purposes.specs.Given.Raw.declared.machines.asking.Gap.{Gap}
-use Rattle.papaya_purposes.specs.Given.Raw.declared.machines.asking.Gap.TheVariants as gaps
-use Rattle.papaya_purposes.specs.Given.Raw.declared.machines.asking.Reply.{Reply}
-use Rattle.papaya_purposes.specs.Given.Raw.declared.machines.asking.Reply.TheVariants as replies
-use Rattle.papaya_purposes.specs.Given.Raw.declared.machines.asking.Takes.{Takes}
-use Rattle.papaya_purposes.specs.Given.Raw.declared.machines.asking.Takes.TheVariants as takes
-use Rattle.papaya_purposes.specs.Given.Raw.declared.machines.asking.Told.{Told}
-use Rattle.papaya_purposes.specs.Given.Raw.declared.machines.asking.Told.TheVariants as tells
-use Rattle.papaya_purposes.specs.Given.Raw.declared.machines.call.Calling.{Calling}
-use Rattle.papaya_purposes.specs.Given.Raw.declared.machines.call.Calling.TheVariants as at
-use Rattle.papaya_purposes.specs.Given.Raw.declared.machines.call.KeyCall.{KeyCall}
-use Rattle.papaya_purposes.specs.Given.Raw.declared.machines.machine.Machine.{Machine}
-use Rattle.papaya_purposes.specs.Given.Raw.declared.machines.machine.Machine.TheVariants as kinds
-use Rattle.papaya_purposes.specs.Given.Schedules.declared.effect.Spot.{Spot}
+use Rattle.papaya_purposes.specs.Given.TablesDeclared.marks.TheConstants.{TOMBSTONE}
+use Rattle.papaya_purposes.specs.Given.TablesDeclared.node.Node.{Node}
+use Rattle.papaya_purposes.specs.Given.RawCallAsks.{absent_told, present_told, replied, told_at, with_absent, with_present}
+use Rattle.papaya_purposes.specs.Given.RawCallPoints.{at_gap, burying, ending, going, over, storing}
+use Rattle.papaya_purposes.specs.Given.RawMachine.{machine_asked, machine_replied}
+use Rattle.papaya_purposes.specs.Given.RawDeclared.machines.answer.Called.{Called}
+use Rattle.papaya_purposes.specs.Given.RawDeclared.machines.answer.End.{End}
+use Rattle.papaya_purposes.specs.Given.RawDeclared.machines.asking.Asking.{Asking}
+use Rattle.papaya_purposes.specs.Given.RawDeclared.machines.asking.Asking.TheVariants as asking
+use Rattle.papaya_purposes.specs.Given.RawDeclared.machines.asking.Gap.{Gap}
+use Rattle.papaya_purposes.specs.Given.RawDeclared.machines.asking.Gap.TheVariants as gaps
+use Rattle.papaya_purposes.specs.Given.RawDeclared.machines.asking.Reply.{Reply}
+use Rattle.papaya_purposes.specs.Given.RawDeclared.machines.asking.Reply.TheVariants as replies
+use Rattle.papaya_purposes.specs.Given.RawDeclared.machines.asking.Takes.{Takes}
+use Rattle.papaya_purposes.specs.Given.RawDeclared.machines.asking.Takes.TheVariants as takes
+use Rattle.papaya_purposes.specs.Given.RawDeclared.machines.asking.Told.{Told}
+use Rattle.papaya_purposes.specs.Given.RawDeclared.machines.asking.Told.TheVariants as tells
+use Rattle.papaya_purposes.specs.Given.RawDeclared.machines.call.Calling.{Calling}
+use Rattle.papaya_purposes.specs.Given.RawDeclared.machines.call.Calling.TheVariants as at
+use Rattle.papaya_purposes.specs.Given.RawDeclared.machines.call.KeyCall.{KeyCall}
+use Rattle.papaya_purposes.specs.Given.RawDeclared.machines.machine.Machine.{Machine}
+use Rattle.papaya_purposes.specs.Given.RawDeclared.machines.machine.Machine.TheVariants as kinds
+use Rattle.papaya_purposes.specs.Given.SchedulesDeclared.effect.Spot.{Spot}
 use Rattle.papaya_grows.specs.Tries.{HasTried, MachineTried, MeetsBy, TriedAsking, TriedAt, TriedAtGap}
 
 module _ (A B : Spot × ℕ → Type 0) (leads : (x : Spot × ℕ) → A x → B x) where

@@ -2,26 +2,26 @@
 use Rattle.std.specs.Prelude.{◌≡◌, ◌&&◌, nat_lt, ℕ, Bool, true, false, List, [], ◌∷◌, Some, if◌then◌else◌}
 use Rattle.std.specs.List.{list_all}
 use Rattle.std.proofs.Common.{refl, subst, sym}
-use Rattle.papaya_purposes.specs.Given.SeizeWords.declared.at.At.TheVariants.{Entry, Root, Slot, Used, Word}
-use Rattle.papaya_purposes.specs.Given.Tables.declared.table_words.TheConstants.{STATUS}
-use Rattle.papaya_purposes.specs.Given.Schedules.declared.effect.Effect.{Effect}
-use Rattle.papaya_purposes.specs.Given.Schedules.declared.effect.Effect.TheVariants as effect
-use Rattle.papaya_purposes.specs.Given.Schedules.declared.effect.Growth.TheVariants.{ABucket}
-use Rattle.papaya_purposes.specs.Given.Schedules.Effects.{with_effects}
-use Rattle.papaya_purposes.specs.Given.Schedules.Handing.{is_call_effect}
-use Rattle.papaya_purposes.specs.Given.Schedules.Moment.{Moment}
-use Rattle.papaya_purposes.specs.Given.Teller.declared.changed.Changed.{Changed}
-use Rattle.papaya_purposes.specs.Given.Teller.declared.changed.Changed.TheVariants as changes
-use Rattle.papaya_purposes.specs.Given.Teller.declared.changed.Kind.{Kind}
-use Rattle.papaya_purposes.specs.Given.Teller.declared.changed.Kind.TheVariants as kind
-use Rattle.papaya_purposes.specs.Given.Effects.Effects.{effects_of, in_block, made_by, named, names_same, taken_by}
-use Rattle.papaya_purposes.specs.Given.Effects.Known.{Known}
-use Rattle.papaya_purposes.specs.Given.Effects.declared.acting.Acting.{Acting}
-use Rattle.papaya_purposes.specs.Given.Effects.declared.acting.Acting.TheVariants as acts
-use Rattle.papaya_purposes.specs.Given.Effects.declared.role.Role.{Role}
-use Rattle.papaya_purposes.specs.Given.Effects.declared.role.Role.TheVariants as role
-use Rattle.papaya_purposes.proofs.Given.Follows.Alike.{AllCalm, calm_still, still_all}
-use Rattle.papaya_purposes.proofs.Given.Spots.Effects.{aside_all, calm_aside}
+use Rattle.papaya_purposes.specs.Given.SeizeWordsDeclared.at.At.TheVariants.{Entry, Root, Slot, Used, Word}
+use Rattle.papaya_purposes.specs.Given.TablesDeclared.table_words.TheConstants.{STATUS}
+use Rattle.papaya_purposes.specs.Given.SchedulesDeclared.effect.Effect.{Effect}
+use Rattle.papaya_purposes.specs.Given.SchedulesDeclared.effect.Effect.TheVariants as effect
+use Rattle.papaya_purposes.specs.Given.SchedulesDeclared.effect.Growth.TheVariants.{ABucket}
+use Rattle.papaya_purposes.specs.Given.SchedulesEffects.{with_effects}
+use Rattle.papaya_purposes.specs.Given.SchedulesHanding.{is_call_effect}
+use Rattle.papaya_purposes.specs.Given.SchedulesMoment.{Moment}
+use Rattle.papaya_purposes.specs.Given.TellerDeclared.changed.Changed.{Changed}
+use Rattle.papaya_purposes.specs.Given.TellerDeclared.changed.Changed.TheVariants as changes
+use Rattle.papaya_purposes.specs.Given.TellerDeclared.changed.Kind.{Kind}
+use Rattle.papaya_purposes.specs.Given.TellerDeclared.changed.Kind.TheVariants as kind
+use Rattle.papaya_purposes.specs.Given.EffectsEffects.{effects_of, in_block, made_by, named, names_same, taken_by}
+use Rattle.papaya_purposes.specs.Given.EffectsKnown.{Known}
+use Rattle.papaya_purposes.specs.Given.EffectsDeclared.acting.Acting.{Acting}
+use Rattle.papaya_purposes.specs.Given.EffectsDeclared.acting.Acting.TheVariants as acts
+use Rattle.papaya_purposes.specs.Given.EffectsDeclared.role.Role.{Role}
+use Rattle.papaya_purposes.specs.Given.EffectsDeclared.role.Role.TheVariants as role
+use Rattle.papaya_purposes.proofs.Given.FollowsAlike.{AllCalm, calm_still, still_all}
+use Rattle.papaya_purposes.proofs.Given.SpotsEffects.{aside_all, calm_aside}
 use Rattle.papaya_grows.proofs.Since.{HasSamePairs}
 use Rattle.papaya_grows.proofs.Tries.Walk.{OffWords}
 

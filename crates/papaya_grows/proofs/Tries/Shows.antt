@@ -1,42 +1,42 @@
 -- Whatever happens between the steps of calls, a call has met what its tries meet, at moments since it began.
 use Rattle.std.specs.Prelude.{◌≡◌, ◌≤◌, ◌==◌, ℕ, Bool, true, List, find, Option, Some}
 use Rattle.std.proofs.Common.{ap, sym, ◌∙◌, inl, inr}
-use Rattle.papaya_purposes.specs.Given.Raw.Machine.{machine_asked, machine_replied}
-use Rattle.papaya_purposes.specs.Given.Raw.declared.machines.asking.Reply.{Reply as MachineReply}
-use Rattle.papaya_purposes.specs.Given.Raw.declared.machines.call.KeyCall.{KeyCall}
-use Rattle.papaya_purposes.specs.Given.Raw.declared.machines.machine.Machine.{Machine}
-use Rattle.papaya_purposes.specs.Given.Schedules.declared.call.Call.{Call}
-use Rattle.papaya_purposes.specs.Given.Schedules.declared.call.Reply.{Reply}
-use Rattle.papaya_purposes.specs.Given.Schedules.declared.effect.Spot.{Spot}
-use Rattle.papaya_purposes.specs.Given.Schedules.declared.outcome.Outcome.{Outcome}
-use Rattle.papaya_purposes.specs.Given.Schedules.Beginning.{with_call}
-use Rattle.papaya_purposes.specs.Given.Schedules.Entry.{ends_call}
-use Rattle.papaya_purposes.specs.Given.Schedules.Moment.{MapThere, Moment, UnderWay as CallThere}
-use Rattle.papaya_purposes.specs.Given.Schedules.Views.{call_of, map_at}
-use Rattle.papaya_purposes.specs.Given.Callers.Pairs.{Given}
-use Rattle.papaya_purposes.specs.Given.Callers.Together.{Computes, Counting, ForRoom, Gets, Inserts, IsBegun, OnKey, OverAll, Removes, RemovesIf, TriesToInsert, TriesToInsertWith, UnderWay, Updates, UpdatesOrInserts}
-use Rattle.papaya_purposes.specs.Given.Effects.Known.{Known}
-use Rattle.papaya_purposes.specs.Given.Finishes.Machines.{machine_of}
-use Rattle.papaya_purposes.specs.Given.Finishes.Maps.{Standing, with_call as with_in}
-use Rattle.papaya_purposes.specs.Given.Follows.Calling.{NoneNamed, come_to, told}
-use Rattle.papaya_purposes.specs.Given.Follows.Calls.{ShowsCalls as IsThere}
-use Rattle.papaya_purposes.specs.Given.Follows.Shows.{Shows}
-use Rattle.papaya_purposes.specs.Given.Others.Walks.{given_up}
-use Rattle.papaya_purposes.proofs.Given.Moments.Beside.{IsBeside}
-use Rattle.papaya_purposes.specs.Given.Finds.Within.{many_of}
-use Rattle.papaya_purposes.specs.Given.Sources.Sources.{ShowsSources}
+use Rattle.papaya_purposes.specs.Given.RawMachine.{machine_asked, machine_replied}
+use Rattle.papaya_purposes.specs.Given.RawDeclared.machines.asking.Reply.{Reply as MachineReply}
+use Rattle.papaya_purposes.specs.Given.RawDeclared.machines.call.KeyCall.{KeyCall}
+use Rattle.papaya_purposes.specs.Given.RawDeclared.machines.machine.Machine.{Machine}
+use Rattle.papaya_purposes.specs.Given.SchedulesDeclared.call.Call.{Call}
+use Rattle.papaya_purposes.specs.Given.SchedulesDeclared.call.Reply.{Reply}
+use Rattle.papaya_purposes.specs.Given.SchedulesDeclared.effect.Spot.{Spot}
+use Rattle.papaya_purposes.specs.Given.SchedulesDeclared.outcome.Outcome.{Outcome}
+use Rattle.papaya_purposes.specs.Given.SchedulesBeginning.{with_call}
+use Rattle.papaya_purposes.specs.Given.SchedulesEntry.{ends_call}
+use Rattle.papaya_purposes.specs.Given.SchedulesMoment.{MapThere, Moment, UnderWay as CallThere}
+use Rattle.papaya_purposes.specs.Given.SchedulesViews.{call_of, map_at}
+use Rattle.papaya_purposes.specs.Given.CallersPairs.{Given}
+use Rattle.papaya_purposes.specs.Given.CallersTogether.{Computes, Counting, ForRoom, Gets, Inserts, IsBegun, OnKey, OverAll, Removes, RemovesIf, TriesToInsert, TriesToInsertWith, UnderWay, Updates, UpdatesOrInserts}
+use Rattle.papaya_purposes.specs.Given.EffectsKnown.{Known}
+use Rattle.papaya_purposes.specs.Given.FinishesMachines.{machine_of}
+use Rattle.papaya_purposes.specs.Given.FinishesMaps.{Standing, with_call as with_in}
+use Rattle.papaya_purposes.specs.Given.FollowsCalling.{NoneNamed, come_to, told}
+use Rattle.papaya_purposes.specs.Given.FollowsCalls.{ShowsCalls as IsThere}
+use Rattle.papaya_purposes.specs.Given.FollowsShows.{Shows}
+use Rattle.papaya_purposes.specs.Given.OthersWalks.{given_up}
+use Rattle.papaya_purposes.proofs.Given.MomentsBeside.{IsBeside}
+use Rattle.papaya_purposes.specs.Given.FindsWithin.{many_of}
+use Rattle.papaya_purposes.specs.Given.SourcesSources.{ShowsSources}
 use Rattle.papaya_grows.specs.Tries.{MachineTried, OthersHadTried, ShowsTries, TakenOrPassed, TriedAt}
 use Rattle.papaya_grows.proofs.Since as since
 use Rattle.papaya_grows.proofs.Since.{HasSamePairs}
 use Rattle.papaya_grows.proofs.Tries.More.{asked_tried, machine_more, reply_tried}
 use Rattle.papaya_grows.proofs.Tries.Stays.{chart_taken, taken_where}
-use Rattle.papaya_purposes.proofs.Given.Scenes.May.{standing_is}
-use Rattle.papaya_purposes.specs.Given.Scenes.Beginning.{Begins}
-use Rattle.papaya_purposes.specs.Given.Scenes.Held.{Held, IsAt}
-use Rattle.papaya_purposes.specs.Given.Scenes.Replying.{scene_with, unless_stopped}
-use Rattle.papaya_purposes.specs.Given.Scenes.Scene.{Scene, slot_of}
-use Rattle.papaya_purposes.specs.Given.Schedules.Transition.{Past, further}
-use Rattle.papaya_purposes.specs.Given.Histories.Histories.{IsPast}
+use Rattle.papaya_purposes.proofs.Given.ScenesMay.{standing_is}
+use Rattle.papaya_purposes.specs.Given.ScenesBeginning.{Begins}
+use Rattle.papaya_purposes.specs.Given.ScenesHeld.{Held, IsAt}
+use Rattle.papaya_purposes.specs.Given.ScenesReplying.{scene_with, unless_stopped}
+use Rattle.papaya_purposes.specs.Given.ScenesScene.{Scene, slot_of}
+use Rattle.papaya_purposes.specs.Given.SchedulesTransition.{Past, further}
+use Rattle.papaya_purposes.specs.Given.HistoriesHistories.{IsPast}
 
 -- A call that begins has made no try.
 module _ {K V : Type 0} (same : K → K → Bool) (Why : Spot × ℕ → Type 0) where

@@ -2,22 +2,22 @@
 use Rattle.std.specs.Prelude.{◌≡◌, ◌<◌, ◌≤◌, ◌==◌, ◌&&◌, ◌||◌, ℕ, Bool, true, false, List, [], ◌∷◌, length, if◌then◌else◌}
 use Rattle.std.specs.List.{list_any}
 use Rattle.std.proofs.Common.{refl, ap, sym, ◌∙◌, arith, inl, inr}
-use Rattle.papaya_purposes.specs.Given.Schedules.declared.effect.Spot.{Spot}
-use Rattle.papaya_purposes.specs.Given.Schedules.declared.effect.Table.{Table}
-use Rattle.papaya_purposes.specs.Given.Schedules.Lists.{numbers_from}
-use Rattle.papaya_purposes.specs.Given.Schedules.Moment.{Moment, Place}
-use Rattle.papaya_purposes.specs.Given.Schedules.Things.{same_spot}
-use Rattle.papaya_purposes.specs.Given.Schedules.Tries.{FindsTaken, has_pair_at, is_taken_at}
-use Rattle.papaya_purposes.specs.Given.Schedules.Views.{is_in_map, map_at}
-use Rattle.papaya_purposes.specs.Given.Rule.Chart.{Chart}
-use Rattle.papaya_purposes.specs.Given.Effects.Known.{Known}
-use Rattle.papaya_purposes.specs.Given.Finishes.Maps.{Standing}
-use Rattle.papaya_purposes.specs.Given.Follows.Maps.{ShowsMap}
-use Rattle.papaya_purposes.proofs.Given.Follows.Stored.{in_map_true}
-use Rattle.papaya_purposes.specs.Given.Finds.Within.{many_of}
-use Rattle.papaya_purposes.specs.Given.Sources.Sources.{AreNumbered}
-use Rattle.papaya_purposes.specs.Given.Sources.Stays.{PairsStay}
-use Rattle.papaya_purposes.proofs.Given.Sources.Stays.{numbers_stay}
+use Rattle.papaya_purposes.specs.Given.SchedulesDeclared.effect.Spot.{Spot}
+use Rattle.papaya_purposes.specs.Given.SchedulesDeclared.effect.Table.{Table}
+use Rattle.papaya_purposes.specs.Given.SchedulesLists.{numbers_from}
+use Rattle.papaya_purposes.specs.Given.SchedulesMoment.{Moment, Place}
+use Rattle.papaya_purposes.specs.Given.SchedulesThings.{same_spot}
+use Rattle.papaya_purposes.specs.Given.SchedulesTries.{FindsTaken, has_pair_at, is_taken_at}
+use Rattle.papaya_purposes.specs.Given.SchedulesViews.{is_in_map, map_at}
+use Rattle.papaya_purposes.specs.Given.RuleChart.{Chart}
+use Rattle.papaya_purposes.specs.Given.EffectsKnown.{Known}
+use Rattle.papaya_purposes.specs.Given.FinishesMaps.{Standing}
+use Rattle.papaya_purposes.specs.Given.FollowsMaps.{ShowsMap}
+use Rattle.papaya_purposes.proofs.Given.FollowsStored.{in_map_true}
+use Rattle.papaya_purposes.specs.Given.FindsWithin.{many_of}
+use Rattle.papaya_purposes.specs.Given.SourcesSources.{AreNumbered}
+use Rattle.papaya_purposes.specs.Given.SourcesStays.{PairsStay}
+use Rattle.papaya_purposes.proofs.Given.SourcesStays.{numbers_stay}
 use Rattle.papaya_grows.specs.Tries.{TakenOrPassed}
 use Rattle.papaya_grows.proofs.Finding.Alike.{many_same}
 use Rattle.papaya_grows.proofs.Since.{HasSamePairs}

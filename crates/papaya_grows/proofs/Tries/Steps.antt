@@ -2,69 +2,69 @@
 use Rattle.std.specs.Prelude.{◌≡◌, ◌≢◌, ◌⊎◌, ◌<◌, ◌≤◌, ◌==◌, ◌^◌, ℕ, suc, Bool, true, false, List, Some, if◌then◌else◌}
 use Rattle.std.proofs.Common.{refl, ap, sym, subst, ◌∙◌, arith, inl, inr}
 use Rattle.std.proofs.lemmas.Bool.{cases_eq}
-use Rattle.papaya_purposes.specs.Given.SeizeWords.Mem.{Mem, word_at}
-use Rattle.papaya_purposes.specs.Given.SeizeWords.Word.{block_in}
-use Rattle.papaya_purposes.specs.Given.Tables.Chunks.{is_incremental}
-use Rattle.papaya_purposes.specs.Given.Tables.Finding.{finding}
-use Rattle.papaya_purposes.specs.Given.Tables.Trials.{place_tried}
-use Rattle.papaya_purposes.specs.Given.Tables.declared.finding.Finding.TheVariants as finds
-use Rattle.papaya_purposes.specs.Given.Tables.declared.node.Node.{Node}
-use Rattle.papaya_purposes.specs.Given.Tables.declared.table.Table.{Table as Planned}
-use Rattle.papaya_purposes.specs.Given.Seize.World.{IsInside}
-use Rattle.papaya_purposes.specs.Given.Seize.declared.progress.Progress.{Progress as Counting_told}
-use Rattle.papaya_purposes.specs.Given.Resize.Sum.{sum_plan}
-use Rattle.papaya_purposes.specs.Given.Resize.declared.outcome.Outcome.{Outcome}
-use Rattle.papaya_purposes.specs.Given.Resize.declared.sum.Sum.{Sum}
-use Rattle.papaya_purposes.specs.Given.Reserves.Reserve.{reserve_plan}
-use Rattle.papaya_purposes.specs.Given.Reserves.declared.reserve.Reserve.{Reserve}
-use Rattle.papaya_purposes.specs.Given.Sweeps.Sweep.{sweep_plan}
-use Rattle.papaya_purposes.specs.Given.Sweeps.declared.sweep.Sweep.{Sweep}
-use Rattle.papaya_purposes.specs.Given.Sweeps.declared.sweep.Swept.{Swept}
-use Rattle.papaya_purposes.specs.Given.Raw.Call.{call_plan}
-use Rattle.papaya_purposes.specs.Given.Raw.CallPoints.{aim_of}
-use Rattle.papaya_purposes.specs.Given.Raw.Machine.{called as of_key, counted as of_sum, machine_plan, reserved as of_room, swept as of_sweep}
-use Rattle.papaya_purposes.specs.Given.Raw.declared.machines.answer.Called.{Called}
-use Rattle.papaya_purposes.specs.Given.Raw.declared.machines.call.Calling.{Calling}
-use Rattle.papaya_purposes.specs.Given.Raw.declared.machines.call.Calling.TheVariants as calling
-use Rattle.papaya_purposes.specs.Given.Raw.declared.machines.call.KeyCall.{KeyCall}
-use Rattle.papaya_purposes.specs.Given.Raw.declared.machines.machine.Machine.{Machine}
-use Rattle.papaya_purposes.specs.Given.Raw.declared.machines.progress.Progress.{Progress}
-use Rattle.papaya_purposes.specs.Given.Schedules.declared.effect.Effect.{Effect}
-use Rattle.papaya_purposes.specs.Given.Schedules.declared.effect.Spot.{Spot}
-use Rattle.papaya_purposes.specs.Given.Schedules.Effects.{with_effects}
-use Rattle.papaya_purposes.specs.Given.Schedules.Moment.{Moment, UnderWay as CallThere}
-use Rattle.papaya_purposes.specs.Given.Schedules.Tries.{FindsTaken, try_at}
-use Rattle.papaya_purposes.specs.Given.Schedules.Views.{call_of}
-use Rattle.papaya_purposes.specs.Given.Teller.Tells.{StepsTold}
-use Rattle.papaya_purposes.specs.Given.Teller.declared.changed.Changed.{Changed}
-use Rattle.papaya_purposes.specs.Given.Teller.declared.changed.Changed.TheVariants as changes
-use Rattle.papaya_purposes.specs.Given.Rule.InWorld.{IsMapIn}
-use Rattle.papaya_purposes.specs.Given.Rule.Maps.{IsTrial}
-use Rattle.papaya_purposes.specs.Given.Rule.Words.{Blocks}
-use Rattle.papaya_purposes.proofs.Given.Rule.Laws.{current_is_known}
-use Rattle.papaya_purposes.specs.Given.Points.FactsCalls.{CallingFacts}
-use Rattle.papaya_purposes.specs.Given.Points.Steps.{AreLawful}
-use Rattle.papaya_purposes.specs.Given.Points.Told.{IsRowOfCall}
-use Rattle.papaya_purposes.specs.Given.Late.LateCalls.{LateCalling}
-use Rattle.papaya_purposes.specs.Given.Late.Left.{Left}
-use Rattle.papaya_purposes.specs.Given.Callers.Sights.{seen_by}
-use Rattle.papaya_purposes.specs.Given.Callers.Together.{CallOnKey, Counting, ForRoom, OnKey, OverAll, Together, UnderWay, in_slot}
-use Rattle.papaya_purposes.proofs.Given.Callers.Sights.Seen.{map_seen}
-use Rattle.papaya_purposes.proofs.Given.Callers.Together.Fits.{map_in_slot}
-use Rattle.papaya_purposes.specs.Given.Effects.Effects.{effects_of}
-use Rattle.papaya_purposes.specs.Given.Effects.Known.{Known}
-use Rattle.papaya_purposes.specs.Given.Effects.declared.acting.Acting.TheVariants as acts
-use Rattle.papaya_purposes.specs.Given.Finishes.Machines.{machine_of}
-use Rattle.papaya_purposes.specs.Given.Finishes.Maps.{Standing}
-use Rattle.papaya_purposes.proofs.Given.Follows.Finds.{tables_many}
-use Rattle.papaya_purposes.proofs.Given.Follows.Steps.{WentTo, went_to}
-use Rattle.papaya_purposes.proofs.Given.Others.Outcomes.{told_in}
-use Rattle.papaya_purposes.specs.Given.Spots.Spots.{LiesAt}
-use Rattle.papaya_purposes.specs.Given.Moments.Whole.{ShowsWhole}
-use Rattle.papaya_purposes.specs.Given.Finds.Within.{many_of}
-use Rattle.papaya_purposes.proofs.Given.Finds.Grows.Steps.{tables_have_been}
-use Rattle.papaya_purposes.proofs.Given.Finds.Steps.{steps_do_theirs}
-use Rattle.papaya_purposes.specs.Given.Sources.Sources.{ShowsSources}
+use Rattle.papaya_purposes.specs.Given.SeizeWordsMem.{Mem, word_at}
+use Rattle.papaya_purposes.specs.Given.SeizeWordsWord.{block_in}
+use Rattle.papaya_purposes.specs.Given.TablesChunks.{is_incremental}
+use Rattle.papaya_purposes.specs.Given.TablesFinding.{finding}
+use Rattle.papaya_purposes.specs.Given.TablesTrials.{place_tried}
+use Rattle.papaya_purposes.specs.Given.TablesDeclared.finding.Finding.TheVariants as finds
+use Rattle.papaya_purposes.specs.Given.TablesDeclared.node.Node.{Node}
+use Rattle.papaya_purposes.specs.Given.TablesDeclared.table.Table.{Table as Planned}
+use Rattle.papaya_purposes.specs.Given.SeizeWorld.{IsInside}
+use Rattle.papaya_purposes.specs.Given.SeizeDeclared.progress.Progress.{Progress as Counting_told}
+use Rattle.papaya_purposes.specs.Given.ResizeSum.{sum_plan}
+use Rattle.papaya_purposes.specs.Given.ResizeDeclared.outcome.Outcome.{Outcome}
+use Rattle.papaya_purposes.specs.Given.ResizeDeclared.sum.Sum.{Sum}
+use Rattle.papaya_purposes.specs.Given.ReservesReserve.{reserve_plan}
+use Rattle.papaya_purposes.specs.Given.ReservesDeclared.reserve.Reserve.{Reserve}
+use Rattle.papaya_purposes.specs.Given.SweepsSweep.{sweep_plan}
+use Rattle.papaya_purposes.specs.Given.SweepsDeclared.sweep.Sweep.{Sweep}
+use Rattle.papaya_purposes.specs.Given.SweepsDeclared.sweep.Swept.{Swept}
+use Rattle.papaya_purposes.specs.Given.RawCall.{call_plan}
+use Rattle.papaya_purposes.specs.Given.RawCallPoints.{aim_of}
+use Rattle.papaya_purposes.specs.Given.RawMachine.{called as of_key, counted as of_sum, machine_plan, reserved as of_room, swept as of_sweep}
+use Rattle.papaya_purposes.specs.Given.RawDeclared.machines.answer.Called.{Called}
+use Rattle.papaya_purposes.specs.Given.RawDeclared.machines.call.Calling.{Calling}
+use Rattle.papaya_purposes.specs.Given.RawDeclared.machines.call.Calling.TheVariants as calling
+use Rattle.papaya_purposes.specs.Given.RawDeclared.machines.call.KeyCall.{KeyCall}
+use Rattle.papaya_purposes.specs.Given.RawDeclared.machines.machine.Machine.{Machine}
+use Rattle.papaya_purposes.specs.Given.RawDeclared.machines.progress.Progress.{Progress}
+use Rattle.papaya_purposes.specs.Given.SchedulesDeclared.effect.Effect.{Effect}
+use Rattle.papaya_purposes.specs.Given.SchedulesDeclared.effect.Spot.{Spot}
+use Rattle.papaya_purposes.specs.Given.SchedulesEffects.{with_effects}
+use Rattle.papaya_purposes.specs.Given.SchedulesMoment.{Moment, UnderWay as CallThere}
+use Rattle.papaya_purposes.specs.Given.SchedulesTries.{FindsTaken, try_at}
+use Rattle.papaya_purposes.specs.Given.SchedulesViews.{call_of}
+use Rattle.papaya_purposes.specs.Given.TellerTells.{StepsTold}
+use Rattle.papaya_purposes.specs.Given.TellerDeclared.changed.Changed.{Changed}
+use Rattle.papaya_purposes.specs.Given.TellerDeclared.changed.Changed.TheVariants as changes
+use Rattle.papaya_purposes.specs.Given.RuleInWorld.{IsMapIn}
+use Rattle.papaya_purposes.specs.Given.RuleMaps.{IsTrial}
+use Rattle.papaya_purposes.specs.Given.RuleWords.{Blocks}
+use Rattle.papaya_purposes.proofs.Given.RuleLaws.{current_is_known}
+use Rattle.papaya_purposes.specs.Given.PointsFactsCalls.{CallingFacts}
+use Rattle.papaya_purposes.specs.Given.PointsSteps.{AreLawful}
+use Rattle.papaya_purposes.specs.Given.PointsTold.{IsRowOfCall}
+use Rattle.papaya_purposes.specs.Given.LateLateCalls.{LateCalling}
+use Rattle.papaya_purposes.specs.Given.LateLeft.{Left}
+use Rattle.papaya_purposes.specs.Given.CallersSights.{seen_by}
+use Rattle.papaya_purposes.specs.Given.CallersTogether.{CallOnKey, Counting, ForRoom, OnKey, OverAll, Together, UnderWay, in_slot}
+use Rattle.papaya_purposes.proofs.Given.CallersSights.Seen.{map_seen}
+use Rattle.papaya_purposes.proofs.Given.CallersTogether.Fits.{map_in_slot}
+use Rattle.papaya_purposes.specs.Given.EffectsEffects.{effects_of}
+use Rattle.papaya_purposes.specs.Given.EffectsKnown.{Known}
+use Rattle.papaya_purposes.specs.Given.EffectsDeclared.acting.Acting.TheVariants as acts
+use Rattle.papaya_purposes.specs.Given.FinishesMachines.{machine_of}
+use Rattle.papaya_purposes.specs.Given.FinishesMaps.{Standing}
+use Rattle.papaya_purposes.proofs.Given.FollowsFinds.{tables_many}
+use Rattle.papaya_purposes.proofs.Given.FollowsSteps.{WentTo, went_to}
+use Rattle.papaya_purposes.proofs.Given.OthersOutcomes.{told_in}
+use Rattle.papaya_purposes.specs.Given.SpotsSpots.{LiesAt}
+use Rattle.papaya_purposes.specs.Given.MomentsWhole.{ShowsWhole}
+use Rattle.papaya_purposes.specs.Given.FindsWithin.{many_of}
+use Rattle.papaya_purposes.proofs.Given.FindsGrows.Steps.{tables_have_been}
+use Rattle.papaya_purposes.proofs.Given.FindsSteps.{steps_do_theirs}
+use Rattle.papaya_purposes.specs.Given.SourcesSources.{ShowsSources}
 use Rattle.papaya_grows.specs.Tries.{HasTaken, MachineTried, OthersHadTried, ShowsTries}
 use Rattle.papaya_grows.proofs.Since as since
 use Rattle.papaya_grows.proofs.Tries.Facts.{at_try, moves_none, takes_here}
@@ -73,10 +73,10 @@ use Rattle.papaya_grows.proofs.Tries.Off.{same_pairs}
 use Rattle.papaya_grows.proofs.Tries.Shows.{Alike, Of, So, asked, more, replies, so_where}
 use Rattle.papaya_grows.proofs.Tries.Stays.{same_taken}
 use Rattle.papaya_grows.proofs.Tries.Walk.{OfNone, OffWords, call_tried}
-use Rattle.papaya_purposes.specs.Given.Scenes.Held.{Held, IsAt}
-use Rattle.papaya_purposes.specs.Given.Scenes.Scene.{Scene, slot_of}
-use Rattle.papaya_purposes.specs.Given.Scenes.Stepping.{StepLeads, scene_after}
-use Rattle.papaya_purposes.specs.Given.Schedules.Transition.{Past}
+use Rattle.papaya_purposes.specs.Given.ScenesHeld.{Held, IsAt}
+use Rattle.papaya_purposes.specs.Given.ScenesScene.{Scene, slot_of}
+use Rattle.papaya_purposes.specs.Given.ScenesStepping.{StepLeads, scene_after}
+use Rattle.papaya_purposes.specs.Given.SchedulesTransition.{Past}
 
 -- a call is at a try
 abbrev Tries : Calling → Type 0

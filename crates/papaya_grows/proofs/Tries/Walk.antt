@@ -2,83 +2,83 @@
 use Rattle.std.specs.Prelude.{◌≡◌, ◌≢◌, ◌⊎◌, ◌+◌, ◌-◌, ◌<◌, ◌≤◌, ◌%◌, ◌^◌, ◌==◌, nat_lt, ℕ, suc, Bool, true, false, Option, Some, None, Ok, Err, if◌then◌else◌}
 use Rattle.std.proofs.Common.{refl, sym, subst, arith, inl, inr}
 use Rattle.std.proofs.lemmas.Bool.{ltb-true}
-use Rattle.papaya_purposes.specs.Given.SeizeWords.declared.at.At.TheVariants.{Entry, Root, Word}
-use Rattle.papaya_purposes.specs.Given.SeizeWords.Mem.{Mem, value_at, word_at}
-use Rattle.papaya_purposes.specs.Given.SeizeWords.Op.{Exchanged, Found, Made, Out, Roomed, Stored, Taken}
-use Rattle.papaya_purposes.specs.Given.SeizeWords.Plan.{Plan}
-use Rattle.papaya_purposes.specs.Given.SeizeWords.Word.{block_in}
-use Rattle.papaya_purposes.specs.Given.Seize.declared.progress.Progress.{Progress as Counting}
-use Rattle.papaya_purposes.specs.Given.Seize.declared.progress.Progress.TheVariants as progress
-use Rattle.papaya_purposes.specs.Given.Seize.declared.rows.settle.Settled.{Settled}
-use Rattle.papaya_purposes.specs.Given.Seize.declared.rows.settle.Settled.TheVariants as settled
-use Rattle.papaya_purposes.specs.Given.Tables.Chunks.{is_incremental}
-use Rattle.papaya_purposes.specs.Given.Tables.Finding.{finding, may_name}
-use Rattle.papaya_purposes.specs.Given.Tables.Lengths.{next_len}
-use Rattle.papaya_purposes.specs.Given.Tables.Nodes.{table_seen}
-use Rattle.papaya_purposes.specs.Given.Tables.Probes.{probe_after}
-use Rattle.papaya_purposes.specs.Given.Tables.Trials.{place_tried, with_met}
-use Rattle.papaya_purposes.specs.Given.Tables.declared.finding.Finding.{Finding}
-use Rattle.papaya_purposes.specs.Given.Tables.declared.finding.Finding.TheVariants as finds
-use Rattle.papaya_purposes.specs.Given.Tables.declared.lengths.Reason.{Reason}
-use Rattle.papaya_purposes.specs.Given.Tables.declared.marks.TheConstants.{TOMBSTONE}
-use Rattle.papaya_purposes.specs.Given.Tables.declared.node.Node.{Node}
-use Rattle.papaya_purposes.specs.Given.Tables.declared.node.Node.TheVariants as node
-use Rattle.papaya_purposes.specs.Given.Tables.declared.table.Table.{Table}
-use Rattle.papaya_purposes.specs.Given.Tables.declared.table_words.TheConstants.{STATUS}
-use Rattle.papaya_purposes.specs.Given.Resize.Copier.{copier_plan}
-use Rattle.papaya_purposes.specs.Given.Resize.CopierStates.{copying_all, helping}
-use Rattle.papaya_purposes.specs.Given.Resize.Dispose.{dispose_plan, disposing}
-use Rattle.papaya_purposes.specs.Given.Resize.Lookup.{lookup_plan}
-use Rattle.papaya_purposes.specs.Given.Resize.NewTable as making
-use Rattle.papaya_purposes.specs.Given.Resize.NewTable.{new_table_plan}
-use Rattle.papaya_purposes.specs.Given.Resize.Sum as summing
-use Rattle.papaya_purposes.specs.Given.Resize.Sum.{sum_plan}
-use Rattle.papaya_purposes.specs.Given.Resize.declared.copier.Copier.{Copier}
-use Rattle.papaya_purposes.specs.Given.Resize.declared.dispose.Dispose.{Dispose}
-use Rattle.papaya_purposes.specs.Given.Resize.declared.lookup.Lookup.{Lookup}
-use Rattle.papaya_purposes.specs.Given.Resize.declared.new_table.Making.{Making}
-use Rattle.papaya_purposes.specs.Given.Resize.declared.new_table.Making.TheVariants as makes
-use Rattle.papaya_purposes.specs.Given.Resize.declared.new_table.NewTable.{NewTable}
-use Rattle.papaya_purposes.specs.Given.Resize.declared.outcome.Outcome.{Outcome}
-use Rattle.papaya_purposes.specs.Given.Resize.declared.outcome.Outcome.TheVariants as outcome
-use Rattle.papaya_purposes.specs.Given.Resize.declared.sum.Sum.{Sum}
-use Rattle.papaya_purposes.specs.Given.Resize.declared.sum.Summing.{Summing}
-use Rattle.papaya_purposes.specs.Given.Resize.declared.sum.Summing.TheVariants as sums
-use Rattle.papaya_purposes.specs.Given.Raw.Call.{call_plan, copied, disposed, dropped, first_made, helped, key_read, looked, looks_for, made, makes_of, next_made, next_read, pair_read, plan_at, root_found, word_read}
-use Rattle.papaya_purposes.specs.Given.Raw.CallFills.{asks_at, fill_by, fills_with, gives_up, putting_by}
-use Rattle.papaya_purposes.specs.Given.Raw.CallPoints.{aim_of, at_free, at_last, at_pair, changed, counted, entering, following_made, gap_by, going, having_met, over, pair_by, passed, standing, tableless, told_of, went_on}
-use Rattle.papaya_purposes.specs.Given.Raw.CallPoints.{told as tells_of}
-use Rattle.papaya_purposes.specs.Given.Raw.Replies.{as_own, value_for}
-use Rattle.papaya_purposes.specs.Given.Raw.declared.machines.answer.Called.{Called}
-use Rattle.papaya_purposes.specs.Given.Raw.declared.machines.answer.Called.TheVariants as called
-use Rattle.papaya_purposes.specs.Given.Raw.declared.machines.answer.End.TheVariants as ends
-use Rattle.papaya_purposes.specs.Given.Raw.declared.machines.answer.End.{End}
-use Rattle.papaya_purposes.specs.Given.Raw.declared.machines.answer.KeyAnswer.{KeyAnswer}
-use Rattle.papaya_purposes.specs.Given.Raw.declared.machines.answer.KeyAnswer.TheVariants as answers
-use Rattle.papaya_purposes.specs.Given.Raw.declared.machines.answer.Missing.{Missing}
-use Rattle.papaya_purposes.specs.Given.Raw.declared.machines.answer.Missing.TheVariants as missing
-use Rattle.papaya_purposes.specs.Given.Raw.declared.machines.answer.There.{There}
-use Rattle.papaya_purposes.specs.Given.Raw.declared.machines.answer.There.TheVariants as there
-use Rattle.papaya_purposes.specs.Given.Raw.declared.machines.asking.Asking.{Asking}
-use Rattle.papaya_purposes.specs.Given.Raw.declared.machines.asking.Asking.TheVariants as asking
-use Rattle.papaya_purposes.specs.Given.Raw.declared.machines.asking.Gap.{Gap}
-use Rattle.papaya_purposes.specs.Given.Raw.declared.machines.asking.Gap.TheVariants as gaps
-use Rattle.papaya_purposes.specs.Given.Raw.declared.machines.asking.Told.{Told}
-use Rattle.papaya_purposes.specs.Given.Raw.declared.machines.asking.Told.TheVariants as tells
-use Rattle.papaya_purposes.specs.Given.Raw.declared.machines.call.Calling.{Calling}
-use Rattle.papaya_purposes.specs.Given.Raw.declared.machines.call.Calling.TheVariants as at
-use Rattle.papaya_purposes.specs.Given.Raw.declared.machines.call.KeyCall.{KeyCall}
-use Rattle.papaya_purposes.specs.Given.Schedules.declared.effect.Spot.{Spot}
-use Rattle.papaya_purposes.specs.Given.Schedules.Tries.{try_at}
-use Rattle.papaya_purposes.specs.Given.Teller.Tells.{StepsTold}
-use Rattle.papaya_purposes.specs.Given.Teller.declared.changed.Changed.{Changed}
-use Rattle.papaya_purposes.specs.Given.Teller.declared.changed.Changed.TheVariants as changes
-use Rattle.papaya_purposes.proofs.Given.Points.Calls.Asked.{beyond_so}
-use Rattle.papaya_purposes.proofs.Given.Rule.Keys.Always.{Always, AlwaysOf, always_ends, always_if, always_plan_as, always_steps}
-use Rattle.papaya_purposes.proofs.Given.Others.Outcomes.{told_in}
+use Rattle.papaya_purposes.specs.Given.SeizeWordsDeclared.at.At.TheVariants.{Entry, Root, Word}
+use Rattle.papaya_purposes.specs.Given.SeizeWordsMem.{Mem, value_at, word_at}
+use Rattle.papaya_purposes.specs.Given.SeizeWordsOp.{Exchanged, Found, Made, Out, Roomed, Stored, Taken}
+use Rattle.papaya_purposes.specs.Given.SeizeWordsPlan.{Plan}
+use Rattle.papaya_purposes.specs.Given.SeizeWordsWord.{block_in}
+use Rattle.papaya_purposes.specs.Given.SeizeDeclared.progress.Progress.{Progress as Counting}
+use Rattle.papaya_purposes.specs.Given.SeizeDeclared.progress.Progress.TheVariants as progress
+use Rattle.papaya_purposes.specs.Given.SeizeDeclared.rows.settle.Settled.{Settled}
+use Rattle.papaya_purposes.specs.Given.SeizeDeclared.rows.settle.Settled.TheVariants as settled
+use Rattle.papaya_purposes.specs.Given.TablesChunks.{is_incremental}
+use Rattle.papaya_purposes.specs.Given.TablesFinding.{finding, may_name}
+use Rattle.papaya_purposes.specs.Given.TablesLengths.{next_len}
+use Rattle.papaya_purposes.specs.Given.TablesNodes.{table_seen}
+use Rattle.papaya_purposes.specs.Given.TablesProbes.{probe_after}
+use Rattle.papaya_purposes.specs.Given.TablesTrials.{place_tried, with_met}
+use Rattle.papaya_purposes.specs.Given.TablesDeclared.finding.Finding.{Finding}
+use Rattle.papaya_purposes.specs.Given.TablesDeclared.finding.Finding.TheVariants as finds
+use Rattle.papaya_purposes.specs.Given.TablesDeclared.lengths.Reason.{Reason}
+use Rattle.papaya_purposes.specs.Given.TablesDeclared.marks.TheConstants.{TOMBSTONE}
+use Rattle.papaya_purposes.specs.Given.TablesDeclared.node.Node.{Node}
+use Rattle.papaya_purposes.specs.Given.TablesDeclared.node.Node.TheVariants as node
+use Rattle.papaya_purposes.specs.Given.TablesDeclared.table.Table.{Table}
+use Rattle.papaya_purposes.specs.Given.TablesDeclared.table_words.TheConstants.{STATUS}
+use Rattle.papaya_purposes.specs.Given.ResizeCopier.{copier_plan}
+use Rattle.papaya_purposes.specs.Given.ResizeCopierStates.{copying_all, helping}
+use Rattle.papaya_purposes.specs.Given.ResizeDispose.{dispose_plan, disposing}
+use Rattle.papaya_purposes.specs.Given.ResizeLookup.{lookup_plan}
+use Rattle.papaya_purposes.specs.Given.ResizeNewTable as making
+use Rattle.papaya_purposes.specs.Given.ResizeNewTable.{new_table_plan}
+use Rattle.papaya_purposes.specs.Given.ResizeSum as summing
+use Rattle.papaya_purposes.specs.Given.ResizeSum.{sum_plan}
+use Rattle.papaya_purposes.specs.Given.ResizeDeclared.copier.Copier.{Copier}
+use Rattle.papaya_purposes.specs.Given.ResizeDeclared.dispose.Dispose.{Dispose}
+use Rattle.papaya_purposes.specs.Given.ResizeDeclared.lookup.Lookup.{Lookup}
+use Rattle.papaya_purposes.specs.Given.ResizeDeclared.new_table.Making.{Making}
+use Rattle.papaya_purposes.specs.Given.ResizeDeclared.new_table.Making.TheVariants as makes
+use Rattle.papaya_purposes.specs.Given.ResizeDeclared.new_table.NewTable.{NewTable}
+use Rattle.papaya_purposes.specs.Given.ResizeDeclared.outcome.Outcome.{Outcome}
+use Rattle.papaya_purposes.specs.Given.ResizeDeclared.outcome.Outcome.TheVariants as outcome
+use Rattle.papaya_purposes.specs.Given.ResizeDeclared.sum.Sum.{Sum}
+use Rattle.papaya_purposes.specs.Given.ResizeDeclared.sum.Summing.{Summing}
+use Rattle.papaya_purposes.specs.Given.ResizeDeclared.sum.Summing.TheVariants as sums
+use Rattle.papaya_purposes.specs.Given.RawCall.{call_plan, copied, disposed, dropped, first_made, helped, key_read, looked, looks_for, made, makes_of, next_made, next_read, pair_read, plan_at, root_found, word_read}
+use Rattle.papaya_purposes.specs.Given.RawCallFills.{asks_at, fill_by, fills_with, gives_up, putting_by}
+use Rattle.papaya_purposes.specs.Given.RawCallPoints.{aim_of, at_free, at_last, at_pair, changed, counted, entering, following_made, gap_by, going, having_met, over, pair_by, passed, standing, tableless, told_of, went_on}
+use Rattle.papaya_purposes.specs.Given.RawCallPoints.{told as tells_of}
+use Rattle.papaya_purposes.specs.Given.RawReplies.{as_own, value_for}
+use Rattle.papaya_purposes.specs.Given.RawDeclared.machines.answer.Called.{Called}
+use Rattle.papaya_purposes.specs.Given.RawDeclared.machines.answer.Called.TheVariants as called
+use Rattle.papaya_purposes.specs.Given.RawDeclared.machines.answer.End.TheVariants as ends
+use Rattle.papaya_purposes.specs.Given.RawDeclared.machines.answer.End.{End}
+use Rattle.papaya_purposes.specs.Given.RawDeclared.machines.answer.KeyAnswer.{KeyAnswer}
+use Rattle.papaya_purposes.specs.Given.RawDeclared.machines.answer.KeyAnswer.TheVariants as answers
+use Rattle.papaya_purposes.specs.Given.RawDeclared.machines.answer.Missing.{Missing}
+use Rattle.papaya_purposes.specs.Given.RawDeclared.machines.answer.Missing.TheVariants as missing
+use Rattle.papaya_purposes.specs.Given.RawDeclared.machines.answer.There.{There}
+use Rattle.papaya_purposes.specs.Given.RawDeclared.machines.answer.There.TheVariants as there
+use Rattle.papaya_purposes.specs.Given.RawDeclared.machines.asking.Asking.{Asking}
+use Rattle.papaya_purposes.specs.Given.RawDeclared.machines.asking.Asking.TheVariants as asking
+use Rattle.papaya_purposes.specs.Given.RawDeclared.machines.asking.Gap.{Gap}
+use Rattle.papaya_purposes.specs.Given.RawDeclared.machines.asking.Gap.TheVariants as gaps
+use Rattle.papaya_purposes.specs.Given.RawDeclared.machines.asking.Told.{Told}
+use Rattle.papaya_purposes.specs.Given.RawDeclared.machines.asking.Told.TheVariants as tells
+use Rattle.papaya_purposes.specs.Given.RawDeclared.machines.call.Calling.{Calling}
+use Rattle.papaya_purposes.specs.Given.RawDeclared.machines.call.Calling.TheVariants as at
+use Rattle.papaya_purposes.specs.Given.RawDeclared.machines.call.KeyCall.{KeyCall}
+use Rattle.papaya_purposes.specs.Given.SchedulesDeclared.effect.Spot.{Spot}
+use Rattle.papaya_purposes.specs.Given.SchedulesTries.{try_at}
+use Rattle.papaya_purposes.specs.Given.TellerTells.{StepsTold}
+use Rattle.papaya_purposes.specs.Given.TellerDeclared.changed.Changed.{Changed}
+use Rattle.papaya_purposes.specs.Given.TellerDeclared.changed.Changed.TheVariants as changes
+use Rattle.papaya_purposes.proofs.Given.PointsCalls.Asked.{beyond_so}
+use Rattle.papaya_purposes.proofs.Given.RuleKeys.Always.{Always, AlwaysOf, always_ends, always_if, always_plan_as, always_steps}
+use Rattle.papaya_purposes.proofs.Given.OthersOutcomes.{told_in}
 use Rattle.papaya_grows.specs.Tries.{HasTried, TriedAt, TriedAtGap}
 use Rattle.papaya_grows.proofs.Tries.More.{Tried, burying_tried, either, ending_tried, fill, gap_tried, storing_tried}
-use Rattle.papaya_purposes.proofs.Given.Scenes.Told.{as_step}
+use Rattle.papaya_purposes.proofs.Given.ScenesTold.{as_step}
 
 -- no root was written, nor a word of a block that says what stands in a table
 abbrev pub OffWords : Changed → Type 0

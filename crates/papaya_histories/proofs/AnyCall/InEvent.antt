@@ -1,29 +1,29 @@
 -- An event of several steps of a call, whatever its kind, is linearizable: what was proved of calls on one key, and of all others, in one.
 use Rattle.std.specs.Prelude.{◌≡◌, ℕ, Bool, List, ◌++◌, Option, Some}
 use Rattle.std.proofs.Common.{refl, ap, sym, subst, ◌∙◌, inl, inr}
-use Rattle.papaya_moments.specs.Given.Tables.declared.node.Node.{Node}
-use Rattle.papaya_moments.specs.Given.Raw.declared.machines.progress.Progress.{Progress}
-use Rattle.papaya_moments.specs.Given.Raw.declared.machines.progress.Progress.TheVariants as progress
-use Rattle.papaya_moments.specs.Given.Schedules.declared.call.Call.{Call}
-use Rattle.papaya_moments.specs.Given.Schedules.declared.call.Call.TheVariants as call
-use Rattle.papaya_moments.specs.Given.Schedules.declared.call.OneKey.{OneKey}
-use Rattle.papaya_moments.specs.Given.Schedules.declared.call.Reply.{Reply}
-use Rattle.papaya_moments.specs.Given.Schedules.declared.effect.Effect.{Effect}
-use Rattle.papaya_moments.specs.Given.Schedules.declared.outcome.Outcome.{Outcome}
-use Rattle.papaya_moments.specs.Given.Schedules.declared.outcome.Outcome.TheVariants as outcome
-use Rattle.papaya_moments.specs.Given.Schedules.Effects.{with_effects}
-use Rattle.papaya_moments.specs.Given.Schedules.Linearizable.{Linearizes}
-use Rattle.papaya_moments.specs.Given.Schedules.Moment.{UnderWay as CallThere, Moment}
-use Rattle.papaya_moments.specs.Given.Schedules.Views.{call_of}
-use Rattle.papaya_moments.specs.Given.Callers.Together.{CallOnKey, UnderWay, OnKey, ForRoom, Counting, OverAll}
-use Rattle.papaya_moments.specs.Given.Effects.Effects.{effects_of, known_after}
-use Rattle.papaya_moments.specs.Given.Effects.Known.{Known}
-use Rattle.papaya_moments.specs.Given.Effects.declared.acting.Acting.TheVariants as acts
-use Rattle.papaya_moments.specs.Given.Follows.Calls.{IsCalled}
-use Rattle.papaya_moments.specs.Given.Follows.Shows.{Shows}
-use Rattle.papaya_moments.specs.Given.Follows.Steps.{Did}
-use Rattle.papaya_moments.proofs.Given.Follows.Called.{key_goes_on, room_goes_on, counting_goes_on, sweep_goes_on}
-use Rattle.papaya_moments.proofs.Given.Follows.Steps.{one_of}
+use Rattle.papaya_moments.specs.Given.TablesDeclared.node.Node.{Node}
+use Rattle.papaya_moments.specs.Given.RawDeclared.machines.progress.Progress.{Progress}
+use Rattle.papaya_moments.specs.Given.RawDeclared.machines.progress.Progress.TheVariants as progress
+use Rattle.papaya_moments.specs.Given.SchedulesDeclared.call.Call.{Call}
+use Rattle.papaya_moments.specs.Given.SchedulesDeclared.call.Call.TheVariants as call
+use Rattle.papaya_moments.specs.Given.SchedulesDeclared.call.OneKey.{OneKey}
+use Rattle.papaya_moments.specs.Given.SchedulesDeclared.call.Reply.{Reply}
+use Rattle.papaya_moments.specs.Given.SchedulesDeclared.effect.Effect.{Effect}
+use Rattle.papaya_moments.specs.Given.SchedulesDeclared.outcome.Outcome.{Outcome}
+use Rattle.papaya_moments.specs.Given.SchedulesDeclared.outcome.Outcome.TheVariants as outcome
+use Rattle.papaya_moments.specs.Given.SchedulesEffects.{with_effects}
+use Rattle.papaya_moments.specs.Given.SchedulesLinearizable.{Linearizes}
+use Rattle.papaya_moments.specs.Given.SchedulesMoment.{UnderWay as CallThere, Moment}
+use Rattle.papaya_moments.specs.Given.SchedulesViews.{call_of}
+use Rattle.papaya_moments.specs.Given.CallersTogether.{CallOnKey, UnderWay, OnKey, ForRoom, Counting, OverAll}
+use Rattle.papaya_moments.specs.Given.EffectsEffects.{effects_of, known_after}
+use Rattle.papaya_moments.specs.Given.EffectsKnown.{Known}
+use Rattle.papaya_moments.specs.Given.EffectsDeclared.acting.Acting.TheVariants as acts
+use Rattle.papaya_moments.specs.Given.FollowsCalls.{IsCalled}
+use Rattle.papaya_moments.specs.Given.FollowsShows.{Shows}
+use Rattle.papaya_moments.specs.Given.FollowsSteps.{Did}
+use Rattle.papaya_moments.proofs.Given.FollowsCalled.{key_goes_on, room_goes_on, counting_goes_on, sweep_goes_on}
+use Rattle.papaya_moments.proofs.Given.FollowsSteps.{one_of}
 use Rattle.papaya_moments.specs.Whole.{ShowsWhole}
 use Rattle.papaya_moments.proofs.Calls.{calls_keep_whole}
 use Rattle.papaya_histories.specs.AsCalled.{ShowsAsCalled}
@@ -41,10 +41,10 @@ use Rattle.papaya_histories.proofs.AnyCall.HasWords.{questions_have_words, steps
 use Rattle.papaya_histories.proofs.NoKey.OtherEvents.{other_midsts_end, other_midsts_ask_still}
 use Rattle.papaya_histories.proofs.OtherMidsts.{other_midsts_begin, other_midsts_go_on, other_midsts_keep_due}
 use Rattle.papaya_histories.proofs.Several.{first_change, midsts_begin, midsts_go_on}
-use Rattle.papaya_moments.specs.Given.Scenes.Held.{Held, IsAt}
-use Rattle.papaya_moments.specs.Given.Scenes.Scene.{Scene}
-use Rattle.papaya_moments.specs.Given.Scenes.Stepping.{StepLeads, scene_after}
-use Rattle.papaya_moments.specs.Given.Schedules.Transition.{Past, Transition}
+use Rattle.papaya_moments.specs.Given.ScenesHeld.{Held, IsAt}
+use Rattle.papaya_moments.specs.Given.ScenesScene.{Scene}
+use Rattle.papaya_moments.specs.Given.ScenesStepping.{StepLeads, scene_after}
+use Rattle.papaya_moments.specs.Given.SchedulesTransition.{Past, Transition}
 
 module _ {K V : Type 0} (same : K → K → Bool) where
   -- a call on one key was called on it, and any other one on none

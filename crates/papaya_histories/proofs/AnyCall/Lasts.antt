@@ -1,12 +1,12 @@
 -- What an event of a call comes to is what its call comes to; it leaves maps.
 use Rattle.std.specs.Prelude.{◌≡◌, ℕ, List, Option, Some}
 use Rattle.std.proofs.Common.{refl, ap}
-use Rattle.papaya_moments.specs.Given.Schedules.declared.event.Event.{Event}
-use Rattle.papaya_moments.specs.Given.Schedules.declared.event.Event.TheVariants as event
-use Rattle.papaya_moments.specs.Given.Schedules.declared.outcome.Outcome.{Outcome}
-use Rattle.papaya_moments.specs.Given.Schedules.After.{stepped, calls_on, maps_on}
-use Rattle.papaya_moments.specs.Given.Schedules.Entry.{caller_of}
-use Rattle.papaya_moments.specs.Given.Schedules.Moment.{MapThere, UnderWay as CallThere}
+use Rattle.papaya_moments.specs.Given.SchedulesDeclared.event.Event.{Event}
+use Rattle.papaya_moments.specs.Given.SchedulesDeclared.event.Event.TheVariants as event
+use Rattle.papaya_moments.specs.Given.SchedulesDeclared.outcome.Outcome.{Outcome}
+use Rattle.papaya_moments.specs.Given.SchedulesAfter.{stepped, calls_on, maps_on}
+use Rattle.papaya_moments.specs.Given.SchedulesEntry.{caller_of}
+use Rattle.papaya_moments.specs.Given.SchedulesMoment.{MapThere, UnderWay as CallThere}
 
 module _ {K V : Type 0} where
   pub calls_over : (ev : Event K V) (o : Outcome V) (steps : ℕ) (cs : List (CallThere K V)) (own : List ℕ) → caller_of ev ≡ Some own → calls_on ev o steps cs ≡ stepped (Some own) o steps cs

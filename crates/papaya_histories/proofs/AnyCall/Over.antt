@@ -1,26 +1,26 @@
 -- Once an event of steps of a call is over, the moment after it shows all of the scene, what calls owe, and what those on no key are called for, told and ask.
 use Rattle.std.specs.Prelude.{◌≡◌, ℕ, Bool, true, false, List, ◌∷◌, Option, Some, None, length, suc}
 use Rattle.std.proofs.Common.{refl, ap, sym, ◌∙◌, inl, inr, arith}
-use Rattle.papaya_moments.specs.Given.Tables.declared.node.Node.{Node}
-use Rattle.papaya_moments.specs.Given.Runs.Same.{is_same}
-use Rattle.papaya_moments.specs.Given.Raw.declared.machines.machine.Machine.{Machine}
-use Rattle.papaya_moments.specs.Given.Raw.declared.machines.progress.Progress.{Progress}
-use Rattle.papaya_moments.specs.Given.Raw.declared.machines.progress.Progress.TheVariants as progress
-use Rattle.papaya_moments.specs.Given.Schedules.declared.effect.Effect.{Effect}
-use Rattle.papaya_moments.specs.Given.Schedules.After.{stepped, moment}
-use Rattle.papaya_moments.specs.Given.Schedules.Effects.{with_effects, worked}
-use Rattle.papaya_moments.specs.Given.Schedules.Entry.{Entry, ends_call, caller_of, acted_on}
-use Rattle.papaya_moments.specs.Given.Schedules.Moment.{UnderWay as CallThere, Moment}
-use Rattle.papaya_moments.specs.Given.Callers.Together.{UnderWay, OnKey, ForRoom, Counting, OverAll}
-use Rattle.papaya_moments.specs.Given.Effects.Effects.{effects_of, known_after}
-use Rattle.papaya_moments.specs.Given.Effects.Known.{Known}
-use Rattle.papaya_moments.specs.Given.Effects.declared.acting.Acting.TheVariants as acts
-use Rattle.papaya_moments.specs.Given.Finishes.Machines.{GoesOnAs}
-use Rattle.papaya_moments.specs.Given.Follows.Calling.{NoneNamed, come_to}
-use Rattle.papaya_moments.proofs.Given.Follows.Calling.{apart_back}
-use Rattle.papaya_moments.specs.Given.Hands.Calling.{AsksJust}
-use Rattle.papaya_moments.proofs.Given.Hands.Asking.{which}
-use Rattle.papaya_moments.specs.Given.Others.Elsewhere.{HasSame}
+use Rattle.papaya_moments.specs.Given.TablesDeclared.node.Node.{Node}
+use Rattle.papaya_moments.specs.Given.RunsSame.{is_same}
+use Rattle.papaya_moments.specs.Given.RawDeclared.machines.machine.Machine.{Machine}
+use Rattle.papaya_moments.specs.Given.RawDeclared.machines.progress.Progress.{Progress}
+use Rattle.papaya_moments.specs.Given.RawDeclared.machines.progress.Progress.TheVariants as progress
+use Rattle.papaya_moments.specs.Given.SchedulesDeclared.effect.Effect.{Effect}
+use Rattle.papaya_moments.specs.Given.SchedulesAfter.{stepped, moment}
+use Rattle.papaya_moments.specs.Given.SchedulesEffects.{with_effects, worked}
+use Rattle.papaya_moments.specs.Given.SchedulesEntry.{Entry, ends_call, caller_of, acted_on}
+use Rattle.papaya_moments.specs.Given.SchedulesMoment.{UnderWay as CallThere, Moment}
+use Rattle.papaya_moments.specs.Given.CallersTogether.{UnderWay, OnKey, ForRoom, Counting, OverAll}
+use Rattle.papaya_moments.specs.Given.EffectsEffects.{effects_of, known_after}
+use Rattle.papaya_moments.specs.Given.EffectsKnown.{Known}
+use Rattle.papaya_moments.specs.Given.EffectsDeclared.acting.Acting.TheVariants as acts
+use Rattle.papaya_moments.specs.Given.FinishesMachines.{GoesOnAs}
+use Rattle.papaya_moments.specs.Given.FollowsCalling.{NoneNamed, come_to}
+use Rattle.papaya_moments.proofs.Given.FollowsCalling.{apart_back}
+use Rattle.papaya_moments.specs.Given.HandsCalling.{AsksJust}
+use Rattle.papaya_moments.proofs.Given.HandsAsking.{which}
+use Rattle.papaya_moments.specs.Given.OthersElsewhere.{HasSame}
 use Rattle.papaya_moments.specs.Whole.{ShowsWhole}
 use Rattle.papaya_moments.proofs.After.{effects_after}
 use Rattle.papaya_moments.proofs.Calls.{calls_come_to_whole}
@@ -34,10 +34,10 @@ use Rattle.papaya_histories.proofs.AnyCall.InEvent.{events_keep_all}
 use Rattle.papaya_histories.proofs.AnyCall.Lasts.{calls_over, maps_over}
 use Rattle.papaya_histories.proofs.AnyCall.Whole.{whole_over}
 use Rattle.papaya_histories.proofs.Aside.Stays.{dues_stay, as_called_stays}
-use Rattle.papaya_moments.specs.Given.Scenes.Held.{Held}
-use Rattle.papaya_moments.specs.Given.Scenes.Scene.{Scene}
-use Rattle.papaya_moments.specs.Given.Scenes.Stepping.{StepLeads, has_ended, scene_after}
-use Rattle.papaya_moments.specs.Given.Schedules.Transition.{past}
+use Rattle.papaya_moments.specs.Given.ScenesHeld.{Held}
+use Rattle.papaya_moments.specs.Given.ScenesScene.{Scene}
+use Rattle.papaya_moments.specs.Given.ScenesStepping.{StepLeads, has_ended, scene_after}
+use Rattle.papaya_moments.specs.Given.SchedulesTransition.{past}
 
 module _ {K V : Type 0} where
   pub like_over : (log : List (Entry K V)) (e : Entry K V) (own : List ℕ) (m2 : Moment K V) → caller_of e.event ≡ Some own → worked e (moment log) ≡ m2 → HasSame (come_to own e.outcome e.steps m2) (moment (e ∷ log))

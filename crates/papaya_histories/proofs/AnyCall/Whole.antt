@@ -1,21 +1,21 @@
 -- What a moment shows of all, it shows, too, once other things of it have changed: how many events came, who is there, what is sheltered and what remains.
 use Rattle.std.specs.Prelude.{◌≡◌, ℕ, ◌+◌, Bool, ◌&&◌, List, ◌∷◌, Some}
 use Rattle.std.proofs.Common.{refl, sym, subst}
-use Rattle.papaya_moments.specs.Given.Runs.Present.{Present}
-use Rattle.papaya_moments.specs.Given.Schedules.After.{there_on, slots_on, sheltered_on, stepped, calls_on, maps_on, remains_on, closed_on, mapped_on, is_alone_on, moment}
-use Rattle.papaya_moments.specs.Given.Schedules.Effects.{worked}
-use Rattle.papaya_moments.specs.Given.Schedules.Entry.{Entry, caller_of}
-use Rattle.papaya_moments.specs.Given.Schedules.Moment.{MapThere, Remains, Sheltered, UnderWay as CallThere, Moment}
-use Rattle.papaya_moments.specs.Given.Effects.Known.{Known}
-use Rattle.papaya_moments.specs.Given.Follows.Calling.{come_to}
-use Rattle.papaya_moments.specs.Given.Others.After.{ShowsAfter}
-use Rattle.papaya_moments.proofs.Given.Others.Elsewhere.{shown_elsewhere}
-use Rattle.papaya_moments.proofs.Given.Others.Stays.{same_maps}
+use Rattle.papaya_moments.specs.Given.RunsPresent.{Present}
+use Rattle.papaya_moments.specs.Given.SchedulesAfter.{there_on, slots_on, sheltered_on, stepped, calls_on, maps_on, remains_on, closed_on, mapped_on, is_alone_on, moment}
+use Rattle.papaya_moments.specs.Given.SchedulesEffects.{worked}
+use Rattle.papaya_moments.specs.Given.SchedulesEntry.{Entry, caller_of}
+use Rattle.papaya_moments.specs.Given.SchedulesMoment.{MapThere, Remains, Sheltered, UnderWay as CallThere, Moment}
+use Rattle.papaya_moments.specs.Given.EffectsKnown.{Known}
+use Rattle.papaya_moments.specs.Given.FollowsCalling.{come_to}
+use Rattle.papaya_moments.specs.Given.OthersAfter.{ShowsAfter}
+use Rattle.papaya_moments.proofs.Given.OthersElsewhere.{shown_elsewhere}
+use Rattle.papaya_moments.proofs.Given.OthersStays.{same_maps}
 use Rattle.papaya_moments.specs.Whole.{ShowsWhole}
 use Rattle.papaya_moments.proofs.MapsCome.{asked_still}
 use Rattle.papaya_histories.specs.InEvent.{AllStaysShown}
 use Rattle.papaya_histories.proofs.AnyCall.Lasts.{calls_over, maps_over}
-use Rattle.papaya_moments.specs.Given.Scenes.Scene.{Scene}
+use Rattle.papaya_moments.specs.Given.ScenesScene.{Scene}
 
 module _ {K V : Type 0} (m : Moment K V) (events : ℕ) (is_mapped is_closed is_alone : Bool) (there : Present) (slots : ℕ) (sheltered : List Sheltered) (remains : List Remains) where
   abbrev other : Moment K V

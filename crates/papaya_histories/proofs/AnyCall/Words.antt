@@ -2,22 +2,22 @@
 use Rattle.std.specs.Prelude.{◌≡◌, ℕ, ◌<◌, Bool, true, false, List, [], ◌∷◌, Option, Some, None, option_map, if◌then◌else◌}
 use Rattle.std.proofs.Common.{refl, ap, sym, subst, ◌∙◌, inl, inr}
 use Rattle.std.proofs.lemmas.Bool.{eqb-true}
-use Rattle.papaya_moments.specs.Given.Raw.declared.machines.asking.Reply.{Reply as MachineReply}
-use Rattle.papaya_moments.specs.Given.Raw.declared.machines.asking.Reply.TheVariants as reply
-use Rattle.papaya_moments.specs.Given.Schedules.declared.call.Answer.{Answer}
-use Rattle.papaya_moments.specs.Given.Schedules.declared.call.Answer.TheVariants as answer
-use Rattle.papaya_moments.specs.Given.Schedules.declared.call.OneKey.{OneKey}
-use Rattle.papaya_moments.specs.Given.Schedules.declared.call.OneKey.TheVariants.{Get, GetKeyValue, ContainsKey, Insert, TryInsert, TryInsertWith, GetOrInsert, GetOrInsertWith, Update, UpdateOrInsert, UpdateOrInsertWith, Compute, Remove, RemoveEntry, RemoveIf}
-use Rattle.papaya_moments.specs.Given.Schedules.declared.call.Reply.{Reply}
-use Rattle.papaya_moments.specs.Given.Schedules.declared.call.Reply.TheVariants.{Gives, Removes, Aborts, Decides}
-use Rattle.papaya_moments.specs.Given.Schedules.Sequential.{Answers, Leaves, Takes, puts_reply, means}
-use Rattle.papaya_moments.specs.Given.Schedules.Views.{reply_to}
-use Rattle.papaya_moments.specs.Given.Late.Kinds.{MayFind, MayMiss}
-use Rattle.papaya_moments.specs.Given.Callers.Asked.{Asked, is_about, last_told, LeavesPair, LeavesNone}
-use Rattle.papaya_moments.specs.Given.Callers.Pairs.{Given, Begun, IsTold, kind_of}
-use Rattle.papaya_moments.specs.Given.Hands.Asked.{as_told, given_by, IsSameQuestion, AreReplies}
-use Rattle.papaya_moments.proofs.Given.Hands.Replies.{told_as}
-use Rattle.papaya_moments.specs.Given.Schedules.Transition.{further}
+use Rattle.papaya_moments.specs.Given.RawDeclared.machines.asking.Reply.{Reply as MachineReply}
+use Rattle.papaya_moments.specs.Given.RawDeclared.machines.asking.Reply.TheVariants as reply
+use Rattle.papaya_moments.specs.Given.SchedulesDeclared.call.Answer.{Answer}
+use Rattle.papaya_moments.specs.Given.SchedulesDeclared.call.Answer.TheVariants as answer
+use Rattle.papaya_moments.specs.Given.SchedulesDeclared.call.OneKey.{OneKey}
+use Rattle.papaya_moments.specs.Given.SchedulesDeclared.call.OneKey.TheVariants.{Get, GetKeyValue, ContainsKey, Insert, TryInsert, TryInsertWith, GetOrInsert, GetOrInsertWith, Update, UpdateOrInsert, UpdateOrInsertWith, Compute, Remove, RemoveEntry, RemoveIf}
+use Rattle.papaya_moments.specs.Given.SchedulesDeclared.call.Reply.{Reply}
+use Rattle.papaya_moments.specs.Given.SchedulesDeclared.call.Reply.TheVariants.{Gives, Removes, Aborts, Decides}
+use Rattle.papaya_moments.specs.Given.SchedulesSequential.{Answers, Leaves, Takes, puts_reply, means}
+use Rattle.papaya_moments.specs.Given.SchedulesViews.{reply_to}
+use Rattle.papaya_moments.specs.Given.LateKinds.{MayFind, MayMiss}
+use Rattle.papaya_moments.specs.Given.CallersAsked.{Asked, is_about, last_told, LeavesPair, LeavesNone}
+use Rattle.papaya_moments.specs.Given.CallersPairs.{Given, Begun, IsTold, kind_of}
+use Rattle.papaya_moments.specs.Given.HandsAsked.{as_told, given_by, IsSameQuestion, AreReplies}
+use Rattle.papaya_moments.proofs.Given.HandsReplies.{told_as}
+use Rattle.papaya_moments.specs.Given.SchedulesTransition.{further}
 
 module _ {V : Type 0} where
   -- what was told to abort was that, and what was told not to remove a pair was a no

@@ -2,54 +2,54 @@
 use Rattle.std.specs.Prelude.{◌≡◌, ℕ, Bool, true, false, List, Option, Some, None, ◌⊎◌}
 use Rattle.std.proofs.Common.{refl, ap, sym, subst, ◌∙◌, inl, inr}
 use Rattle.std.proofs.lemmas.Bool.{cases_eq}
-use Rattle.papaya_moments.specs.Given.SeizeWords.declared.fault.Fault.TheVariants.{Memory}
-use Rattle.papaya_moments.specs.Given.Seize.World.{World, Hand, with_at}
-use Rattle.papaya_moments.specs.Given.Seize.declared.progress.Progress.{Progress}
-use Rattle.papaya_moments.specs.Given.Seize.declared.progress.Progress.TheVariants as progress
-use Rattle.papaya_moments.specs.Given.Seize.declared.rows.settle.Settled.{Settled}
-use Rattle.papaya_moments.specs.Given.Seize.declared.rows.settle.Settled.TheVariants as settled
-use Rattle.papaya_moments.specs.Given.Tables.declared.node.Node.{Node}
-use Rattle.papaya_moments.specs.Given.Tables.declared.setting.Setting.{Setting}
-use Rattle.papaya_moments.specs.Given.Resize.declared.new_map.NewMap.{NewMap}
-use Rattle.papaya_moments.specs.Given.Sweeps.SweepPoints.{after_next}
-use Rattle.papaya_moments.specs.Given.Sweeps.declared.sweep.Sweeping.{Sweeping}
-use Rattle.papaya_moments.specs.Given.Sweeps.declared.sweep.Sweeping.TheVariants as at
-use Rattle.papaya_moments.specs.Given.Raw.Machine.{is_ready}
-use Rattle.papaya_moments.specs.Given.Raw.declared.machines.end_map.EndMap.{EndMap}
-use Rattle.papaya_moments.specs.Given.Schedules.declared.outcome.Outcome.TheVariants.{Refused}
-use Rattle.papaya_moments.specs.Given.Schedules.Moment.{Moment}
-use Rattle.papaya_moments.specs.Given.Callers.OverAll.{CallOverAll, gone_on}
-use Rattle.papaya_moments.specs.Given.Callers.Together.{UnderWay, OverAll}
-use Rattle.papaya_moments.proofs.Given.Callers.Together.At.{at_other, at_same}
-use Rattle.papaya_moments.specs.Given.Effects.Effects.{effects_of}
-use Rattle.papaya_moments.specs.Given.Effects.Known.{Known}
-use Rattle.papaya_moments.specs.Given.Effects.declared.acting.Acting.TheVariants.{Row, Ending}
-use Rattle.papaya_moments.specs.Given.Finishes.Endings.{Finishing}
-use Rattle.papaya_moments.specs.Given.Finishes.FactsEnds.{Deed}
-use Rattle.papaya_moments.specs.Given.Finishes.Makings.{Beginning}
-use Rattle.papaya_moments.specs.Given.Finishes.Maps.{Standing, with_call}
-use Rattle.papaya_moments.specs.Given.Follows.Calling.{NoneNamed, come_to}
-use Rattle.papaya_moments.specs.Given.Follows.Calls.{IsCalled}
-use Rattle.papaya_moments.specs.Given.Follows.Shows.{Shows}
-use Rattle.papaya_moments.proofs.Given.Follows.Steps.{one_of}
-use Rattle.papaya_moments.specs.Given.Hands.Hands.{IsInUse}
-use Rattle.papaya_moments.proofs.Given.Hands.Asking.{which}
-use Rattle.papaya_moments.specs.Given.Others.After.{ShowsAfter}
-use Rattle.papaya_moments.specs.Given.Others.Endings.{ending_after, without_map}
-use Rattle.papaya_moments.specs.Given.Others.Gone.{WasRetired, EndsWith}
-use Rattle.papaya_moments.specs.Given.Others.Makings.{making_after}
-use Rattle.papaya_moments.specs.Given.Others.Walks.{given_up}
-use Rattle.papaya_moments.proofs.Given.Others.Elsewhere.{shown_elsewhere}
-use Rattle.papaya_moments.proofs.Given.Others.EndBegins.{endings_begin_shown, endings_are_over}
-use Rattle.papaya_moments.proofs.Given.Others.Ends.{endings_are_shown}
-use Rattle.papaya_moments.proofs.Given.Others.MakeBegins.{makings_begin_shown, maps_are_there}
-use Rattle.papaya_moments.proofs.Given.Others.Makes.{makings_are_shown}
-use Rattle.papaya_moments.proofs.Given.Others.RowBegins.{rows_begin_shown}
-use Rattle.papaya_moments.proofs.Given.Others.RowPlans.{row_tells}
-use Rattle.papaya_moments.proofs.Given.Others.Rows.{rows_on_slots_are_shown}
-use Rattle.papaya_moments.proofs.Given.Others.Stays.{same_maps}
-use Rattle.papaya_moments.proofs.Given.Others.Walks.{fewer_calls, with_calls}
-use Rattle.papaya_moments.proofs.Given.Spots.OnSlots.{row_beside as finds_numbers}
+use Rattle.papaya_moments.specs.Given.SeizeWordsDeclared.fault.Fault.TheVariants.{Memory}
+use Rattle.papaya_moments.specs.Given.SeizeWorld.{World, Hand, with_at}
+use Rattle.papaya_moments.specs.Given.SeizeDeclared.progress.Progress.{Progress}
+use Rattle.papaya_moments.specs.Given.SeizeDeclared.progress.Progress.TheVariants as progress
+use Rattle.papaya_moments.specs.Given.SeizeDeclared.rows.settle.Settled.{Settled}
+use Rattle.papaya_moments.specs.Given.SeizeDeclared.rows.settle.Settled.TheVariants as settled
+use Rattle.papaya_moments.specs.Given.TablesDeclared.node.Node.{Node}
+use Rattle.papaya_moments.specs.Given.TablesDeclared.setting.Setting.{Setting}
+use Rattle.papaya_moments.specs.Given.ResizeDeclared.new_map.NewMap.{NewMap}
+use Rattle.papaya_moments.specs.Given.SweepsSweepPoints.{after_next}
+use Rattle.papaya_moments.specs.Given.SweepsDeclared.sweep.Sweeping.{Sweeping}
+use Rattle.papaya_moments.specs.Given.SweepsDeclared.sweep.Sweeping.TheVariants as at
+use Rattle.papaya_moments.specs.Given.RawMachine.{is_ready}
+use Rattle.papaya_moments.specs.Given.RawDeclared.machines.end_map.EndMap.{EndMap}
+use Rattle.papaya_moments.specs.Given.SchedulesDeclared.outcome.Outcome.TheVariants.{Refused}
+use Rattle.papaya_moments.specs.Given.SchedulesMoment.{Moment}
+use Rattle.papaya_moments.specs.Given.CallersOverAll.{CallOverAll, gone_on}
+use Rattle.papaya_moments.specs.Given.CallersTogether.{UnderWay, OverAll}
+use Rattle.papaya_moments.proofs.Given.CallersTogether.At.{at_other, at_same}
+use Rattle.papaya_moments.specs.Given.EffectsEffects.{effects_of}
+use Rattle.papaya_moments.specs.Given.EffectsKnown.{Known}
+use Rattle.papaya_moments.specs.Given.EffectsDeclared.acting.Acting.TheVariants.{Row, Ending}
+use Rattle.papaya_moments.specs.Given.FinishesEndings.{Finishing}
+use Rattle.papaya_moments.specs.Given.FinishesFactsEnds.{Deed}
+use Rattle.papaya_moments.specs.Given.FinishesMakings.{Beginning}
+use Rattle.papaya_moments.specs.Given.FinishesMaps.{Standing, with_call}
+use Rattle.papaya_moments.specs.Given.FollowsCalling.{NoneNamed, come_to}
+use Rattle.papaya_moments.specs.Given.FollowsCalls.{IsCalled}
+use Rattle.papaya_moments.specs.Given.FollowsShows.{Shows}
+use Rattle.papaya_moments.proofs.Given.FollowsSteps.{one_of}
+use Rattle.papaya_moments.specs.Given.HandsHands.{IsInUse}
+use Rattle.papaya_moments.proofs.Given.HandsAsking.{which}
+use Rattle.papaya_moments.specs.Given.OthersAfter.{ShowsAfter}
+use Rattle.papaya_moments.specs.Given.OthersEndings.{ending_after, without_map}
+use Rattle.papaya_moments.specs.Given.OthersGone.{WasRetired, EndsWith}
+use Rattle.papaya_moments.specs.Given.OthersMakings.{making_after}
+use Rattle.papaya_moments.specs.Given.OthersWalks.{given_up}
+use Rattle.papaya_moments.proofs.Given.OthersElsewhere.{shown_elsewhere}
+use Rattle.papaya_moments.proofs.Given.OthersEndBegins.{endings_begin_shown, endings_are_over}
+use Rattle.papaya_moments.proofs.Given.OthersEnds.{endings_are_shown}
+use Rattle.papaya_moments.proofs.Given.OthersMakeBegins.{makings_begin_shown, maps_are_there}
+use Rattle.papaya_moments.proofs.Given.OthersMakes.{makings_are_shown}
+use Rattle.papaya_moments.proofs.Given.OthersRowBegins.{rows_begin_shown}
+use Rattle.papaya_moments.proofs.Given.OthersRowPlans.{row_tells}
+use Rattle.papaya_moments.proofs.Given.OthersRows.{rows_on_slots_are_shown}
+use Rattle.papaya_moments.proofs.Given.OthersStays.{same_maps}
+use Rattle.papaya_moments.proofs.Given.OthersWalks.{fewer_calls, with_calls}
+use Rattle.papaya_moments.proofs.Given.SpotsOnSlots.{row_beside as finds_numbers}
 use Rattle.papaya_moments.specs.Endings.{IsOfIts}
 use Rattle.papaya_moments.specs.OnSlots.{HadRetired}
 use Rattle.papaya_moments.proofs.Beside.{IsBeside}
@@ -57,11 +57,11 @@ use Rattle.papaya_moments.proofs.Ends.{end_beside, end_numbers, ends_with}
 use Rattle.papaya_moments.proofs.MakingSteps.{makings_go_beside}
 use Rattle.papaya_moments.proofs.OnSlots.{row_beside, rows_begin_beside, was_retired, with_outside}
 use Rattle.papaya_histories.specs.Elsewhere.{StaysElsewhere}
-use Rattle.papaya_moments.specs.Given.Scenes.Ending.{EndingComesTo, ending_begun}
-use Rattle.papaya_moments.specs.Given.Scenes.Held.{Held, IsAt}
-use Rattle.papaya_moments.specs.Given.Scenes.Making.{MakingComesTo}
-use Rattle.papaya_moments.specs.Given.Scenes.Replying.{scene_with, unless_stopped}
-use Rattle.papaya_moments.specs.Given.Scenes.Scene.{Scene}
+use Rattle.papaya_moments.specs.Given.ScenesEnding.{EndingComesTo, ending_begun}
+use Rattle.papaya_moments.specs.Given.ScenesHeld.{Held, IsAt}
+use Rattle.papaya_moments.specs.Given.ScenesMaking.{MakingComesTo}
+use Rattle.papaya_moments.specs.Given.ScenesReplying.{scene_with, unless_stopped}
+use Rattle.papaya_moments.specs.Given.ScenesScene.{Scene}
 
 -- where a making, and an end, has come, the scene is that of what is held
 module _ {K V : Type 0} (same : K → K → Bool) (hash : ℕ → K → ℕ) (s : Scene K V) (old new : Held K V) where

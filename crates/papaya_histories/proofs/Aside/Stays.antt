@@ -1,30 +1,30 @@
 -- Histories, what calls owe, and what those on no key are called for, told and ask, stay so where anything else happens than a step of a call.
 use Rattle.std.specs.Prelude.{◌≡◌, ℕ, ◌<◌, Bool, true, List, find, Option, Some, None, ◌⊎◌, IsSome}
 use Rattle.std.proofs.Common.{refl, ap, sym, subst, ◌∙◌, arith, inl, inr}
-use Rattle.papaya_moments.specs.Given.SeizeWords.Mem.{value_at}
-use Rattle.papaya_moments.specs.Given.SeizeWords.Word.{block_in}
-use Rattle.papaya_moments.specs.Given.SeizeWords.declared.fault.Fault.TheVariants.{Memory}
-use Rattle.papaya_moments.specs.Given.Tables.declared.node.Node.{Node}
-use Rattle.papaya_moments.specs.Given.Runs.Same.{is_same}
-use Rattle.papaya_moments.specs.Given.Sweeps.declared.sweep.Sweeping.{Sweeping}
-use Rattle.papaya_moments.specs.Given.Sweeps.declared.sweep.Sweeping.TheVariants as at
-use Rattle.papaya_moments.specs.Given.Schedules.declared.outcome.Outcome.TheVariants.{Refused}
-use Rattle.papaya_moments.specs.Given.Schedules.Moment.{UnderWay as CallThere, Moment}
-use Rattle.papaya_moments.specs.Given.Schedules.Views.{call_of}
-use Rattle.papaya_moments.specs.Given.Rule.Chart.{Chart, Holds, Still}
-use Rattle.papaya_moments.specs.Given.Rule.Words.{Blocks, place_word}
-use Rattle.papaya_moments.specs.Given.Points.Steps.{AreLawful}
-use Rattle.papaya_moments.specs.Given.Late.FactsSweeps.{SweepingFacts}
-use Rattle.papaya_moments.specs.Given.Late.ToldSweeps.{IsRowOfSweep}
-use Rattle.papaya_moments.specs.Given.Callers.OverAll.{CallOverAll}
-use Rattle.papaya_moments.specs.Given.Callers.Sights.{seen_by}
-use Rattle.papaya_moments.specs.Given.Callers.Together.{UnderWay, OnKey, ForRoom, Counting, OverAll, Together, in_slot}
-use Rattle.papaya_moments.specs.Given.Effects.Known.{Known}
-use Rattle.papaya_moments.specs.Given.Finishes.Maps.{Standing}
-use Rattle.papaya_moments.proofs.Given.Follows.Onward.{IsOfMap}
-use Rattle.papaya_moments.specs.Given.Hands.Asked.{IsAsked, ShowsAsked}
-use Rattle.papaya_moments.proofs.Given.Hands.Replacing.{same_on}
-use Rattle.papaya_moments.specs.Given.Others.After.{ShowsAfter}
+use Rattle.papaya_moments.specs.Given.SeizeWordsMem.{value_at}
+use Rattle.papaya_moments.specs.Given.SeizeWordsWord.{block_in}
+use Rattle.papaya_moments.specs.Given.SeizeWordsDeclared.fault.Fault.TheVariants.{Memory}
+use Rattle.papaya_moments.specs.Given.TablesDeclared.node.Node.{Node}
+use Rattle.papaya_moments.specs.Given.RunsSame.{is_same}
+use Rattle.papaya_moments.specs.Given.SweepsDeclared.sweep.Sweeping.{Sweeping}
+use Rattle.papaya_moments.specs.Given.SweepsDeclared.sweep.Sweeping.TheVariants as at
+use Rattle.papaya_moments.specs.Given.SchedulesDeclared.outcome.Outcome.TheVariants.{Refused}
+use Rattle.papaya_moments.specs.Given.SchedulesMoment.{UnderWay as CallThere, Moment}
+use Rattle.papaya_moments.specs.Given.SchedulesViews.{call_of}
+use Rattle.papaya_moments.specs.Given.RuleChart.{Chart, Holds, Still}
+use Rattle.papaya_moments.specs.Given.RuleWords.{Blocks, place_word}
+use Rattle.papaya_moments.specs.Given.PointsSteps.{AreLawful}
+use Rattle.papaya_moments.specs.Given.LateFactsSweeps.{SweepingFacts}
+use Rattle.papaya_moments.specs.Given.LateToldSweeps.{IsRowOfSweep}
+use Rattle.papaya_moments.specs.Given.CallersOverAll.{CallOverAll}
+use Rattle.papaya_moments.specs.Given.CallersSights.{seen_by}
+use Rattle.papaya_moments.specs.Given.CallersTogether.{UnderWay, OnKey, ForRoom, Counting, OverAll, Together, in_slot}
+use Rattle.papaya_moments.specs.Given.EffectsKnown.{Known}
+use Rattle.papaya_moments.specs.Given.FinishesMaps.{Standing}
+use Rattle.papaya_moments.proofs.Given.FollowsOnward.{IsOfMap}
+use Rattle.papaya_moments.specs.Given.HandsAsked.{IsAsked, ShowsAsked}
+use Rattle.papaya_moments.proofs.Given.HandsReplacing.{same_on}
+use Rattle.papaya_moments.specs.Given.OthersAfter.{ShowsAfter}
 use Rattle.papaya_moments.proofs.Walks.{asks_nothing}
 use Rattle.papaya_moments.proofs.Beside.{IsBeside, StoodSo, StandsNew}
 use Rattle.papaya_histories.specs.AsCalled.{SweepAsks, IsAsCalled, ShowsAsCalled, AsksAsCalled}
@@ -40,9 +40,9 @@ use Rattle.papaya_histories.proofs.Others.{beside_due}
 use Rattle.papaya_histories.proofs.Roles.{named_by}
 use Rattle.papaya_histories.proofs.Aside.WalksOn.{walk_due, walk_as_called}
 use Rattle.papaya_histories.proofs.Within.{within_alike}
-use Rattle.papaya_moments.specs.Given.Scenes.Held.{Held, IsAt}
-use Rattle.papaya_moments.specs.Given.Scenes.Scene.{Scene, slot_of}
-use Rattle.papaya_moments.specs.Given.Schedules.Transition.{Past}
+use Rattle.papaya_moments.specs.Given.ScenesHeld.{Held, IsAt}
+use Rattle.papaya_moments.specs.Given.ScenesScene.{Scene, slot_of}
+use Rattle.papaya_moments.specs.Given.SchedulesTransition.{Past}
 
 -- the same pairs were stored and lie where they lay, and no call comes
 module _ {K V : Type 0} (same : K → K → Bool) (name : ℕ → List ℕ) (m m2 : Moment K V) (known : Known) (s s2 : Scene K V) (calls : m2.calls ≡ m.calls)

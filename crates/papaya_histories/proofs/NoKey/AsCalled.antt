@@ -1,44 +1,44 @@
 -- Calls on no key stay as the moment says by steps of calls, whoever takes them.
 use Rattle.std.specs.Prelude.{◌≡◌, ℕ, ◌<◌, ◌≤◌, Bool, List, Option, Some, None}
 use Rattle.std.proofs.Common.{refl, ap, sym, subst, ◌∙◌, arith, inl, inr}
-use Rattle.papaya_moments.specs.Given.SeizeWords.Word.{block_in}
-use Rattle.papaya_moments.specs.Given.Seize.World.{World}
-use Rattle.papaya_moments.specs.Given.Tables.declared.node.Node.{Node}
-use Rattle.papaya_moments.specs.Given.Sweeps.declared.sweep.Sweep.{Sweep}
-use Rattle.papaya_moments.specs.Given.Sweeps.declared.sweep.Sweeping.{Sweeping}
-use Rattle.papaya_moments.specs.Given.Sweeps.declared.sweep.Sweeping.TheVariants as at
-use Rattle.papaya_moments.specs.Given.Raw.declared.machines.machine.Machine.{Machine}
-use Rattle.papaya_moments.specs.Given.Raw.declared.machines.machine.Machine.TheVariants as kinds
-use Rattle.papaya_moments.specs.Given.Raw.declared.machines.progress.Progress.{Progress}
-use Rattle.papaya_moments.specs.Given.Schedules.declared.call.Reply.{Reply}
-use Rattle.papaya_moments.specs.Given.Schedules.declared.call.Reply.TheVariants.{Decides}
-use Rattle.papaya_moments.specs.Given.Schedules.declared.effect.Effect.{Effect}
-use Rattle.papaya_moments.specs.Given.Schedules.Effects.{with_effects}
-use Rattle.papaya_moments.specs.Given.Schedules.Moment.{UnderWay as CallThere, Moment}
-use Rattle.papaya_moments.specs.Given.Schedules.Views.{call_of, reply_to}
-use Rattle.papaya_moments.specs.Given.Callers.OverAll.{Verdict, CallOverAll, come_to, gone_on}
-use Rattle.papaya_moments.specs.Given.Callers.Together.{UnderWay, OnKey, ForRoom, Counting, OverAll}
-use Rattle.papaya_moments.specs.Given.Effects.Effects.{effects_of, known_after}
-use Rattle.papaya_moments.specs.Given.Effects.Known.{Known}
-use Rattle.papaya_moments.specs.Given.Effects.declared.acting.Acting.TheVariants as acts
-use Rattle.papaya_moments.specs.Given.Finishes.Endings.{Finishing}
-use Rattle.papaya_moments.specs.Given.Finishes.Machines.{machine_of}
-use Rattle.papaya_moments.specs.Given.Finishes.Makings.{Beginning}
-use Rattle.papaya_moments.specs.Given.Finishes.Maps.{Standing}
-use Rattle.papaya_moments.specs.Given.Follows.Shows.{Shows}
-use Rattle.papaya_moments.specs.Given.Follows.Steps.{Did}
-use Rattle.papaya_moments.proofs.Given.Follows.Called.{key_goes_on, room_goes_on, counting_goes_on, sweep_goes_on}
-use Rattle.papaya_moments.proofs.Given.Follows.Onward.{IsLasting, KeepsRoles}
-use Rattle.papaya_moments.proofs.Given.Follows.Steps.{WentTo, LeadsThere, one_of}
-use Rattle.papaya_moments.proofs.Given.Hands.Asking.{which}
-use Rattle.papaya_moments.proofs.Given.Hands.Replacing.{IsOn, calls_after}
+use Rattle.papaya_moments.specs.Given.SeizeWordsWord.{block_in}
+use Rattle.papaya_moments.specs.Given.SeizeWorld.{World}
+use Rattle.papaya_moments.specs.Given.TablesDeclared.node.Node.{Node}
+use Rattle.papaya_moments.specs.Given.SweepsDeclared.sweep.Sweep.{Sweep}
+use Rattle.papaya_moments.specs.Given.SweepsDeclared.sweep.Sweeping.{Sweeping}
+use Rattle.papaya_moments.specs.Given.SweepsDeclared.sweep.Sweeping.TheVariants as at
+use Rattle.papaya_moments.specs.Given.RawDeclared.machines.machine.Machine.{Machine}
+use Rattle.papaya_moments.specs.Given.RawDeclared.machines.machine.Machine.TheVariants as kinds
+use Rattle.papaya_moments.specs.Given.RawDeclared.machines.progress.Progress.{Progress}
+use Rattle.papaya_moments.specs.Given.SchedulesDeclared.call.Reply.{Reply}
+use Rattle.papaya_moments.specs.Given.SchedulesDeclared.call.Reply.TheVariants.{Decides}
+use Rattle.papaya_moments.specs.Given.SchedulesDeclared.effect.Effect.{Effect}
+use Rattle.papaya_moments.specs.Given.SchedulesEffects.{with_effects}
+use Rattle.papaya_moments.specs.Given.SchedulesMoment.{UnderWay as CallThere, Moment}
+use Rattle.papaya_moments.specs.Given.SchedulesViews.{call_of, reply_to}
+use Rattle.papaya_moments.specs.Given.CallersOverAll.{Verdict, CallOverAll, come_to, gone_on}
+use Rattle.papaya_moments.specs.Given.CallersTogether.{UnderWay, OnKey, ForRoom, Counting, OverAll}
+use Rattle.papaya_moments.specs.Given.EffectsEffects.{effects_of, known_after}
+use Rattle.papaya_moments.specs.Given.EffectsKnown.{Known}
+use Rattle.papaya_moments.specs.Given.EffectsDeclared.acting.Acting.TheVariants as acts
+use Rattle.papaya_moments.specs.Given.FinishesEndings.{Finishing}
+use Rattle.papaya_moments.specs.Given.FinishesMachines.{machine_of}
+use Rattle.papaya_moments.specs.Given.FinishesMakings.{Beginning}
+use Rattle.papaya_moments.specs.Given.FinishesMaps.{Standing}
+use Rattle.papaya_moments.specs.Given.FollowsShows.{Shows}
+use Rattle.papaya_moments.specs.Given.FollowsSteps.{Did}
+use Rattle.papaya_moments.proofs.Given.FollowsCalled.{key_goes_on, room_goes_on, counting_goes_on, sweep_goes_on}
+use Rattle.papaya_moments.proofs.Given.FollowsOnward.{IsLasting, KeepsRoles}
+use Rattle.papaya_moments.proofs.Given.FollowsSteps.{WentTo, LeadsThere, one_of}
+use Rattle.papaya_moments.proofs.Given.HandsAsking.{which}
+use Rattle.papaya_moments.proofs.Given.HandsReplacing.{IsOn, calls_after}
 use Rattle.papaya_moments.specs.Whole.{ShowsWhole}
 use Rattle.papaya_histories.specs.AsCalled.{purpose_of, SweepAsks, IsLastTold, IsSweptAs, IsAsCalled, ShowsAsCalled, CallsKeepAsCalled}
 use Rattle.papaya_histories.proofs.Steps.{to, led_on}
 use Rattle.papaya_histories.proofs.NoKey.Sweeps.{SweepsOn, sweeps_on, asks_still}
-use Rattle.papaya_moments.specs.Given.Scenes.Held.{Held, IsAt}
-use Rattle.papaya_moments.specs.Given.Scenes.Scene.{Scene}
-use Rattle.papaya_moments.specs.Given.Scenes.Stepping.{StepLeads, StepsFrom, scene_after}
+use Rattle.papaya_moments.specs.Given.ScenesHeld.{Held, IsAt}
+use Rattle.papaya_moments.specs.Given.ScenesScene.{Scene}
+use Rattle.papaya_moments.specs.Given.ScenesStepping.{StepLeads, StepsFrom, scene_after}
 
 module _ (number number2 : ℕ → ℕ) (stored stored2 : ℕ) (more : stored ≤ stored2) (numbers : (n : ℕ) → n < stored → number2 n ≡ number n) where
   pub last_kept : {V : Type 0} (v : Option Verdict) (replies : List (Option ℕ × Reply V)) → IsLastTold number stored v replies → IsLastTold number2 stored2 v replies

@@ -2,48 +2,48 @@
 use Rattle.std.specs.Prelude.{◌≡◌, ℕ, ◌+◌, nat_lt, Bool, true, false, ◌&&◌, cond, List, [], ◌∷◌, find, Option, Some, None, Ok, if◌then◌else◌, ◌⊎◌}
 use Rattle.std.proofs.Common.{refl, ap, sym, subst, ◌∙◌, inl, inr}
 use Rattle.std.proofs.lemmas.Bool.{eq-eqb}
-use Rattle.papaya_moments.specs.Given.SeizeWords.Word.{block_in}
-use Rattle.papaya_moments.specs.Given.Runs.Same.{is_same}
-use Rattle.papaya_moments.specs.Given.Sweeps.SweepPoints.{removes, past, reply_at, after_reply}
-use Rattle.papaya_moments.specs.Given.Sweeps.declared.sweep.Sweep.{Sweep}
-use Rattle.papaya_moments.specs.Given.Sweeps.declared.sweep.Sweeping.{Sweeping}
-use Rattle.papaya_moments.specs.Given.Sweeps.declared.sweep.Sweeping.TheVariants as at
-use Rattle.papaya_moments.specs.Given.Raw.Machine.{machine_replied, sweep_told, sweep_replied}
-use Rattle.papaya_moments.specs.Given.Raw.declared.machines.asking.Reply.{Reply as MachineReply}
-use Rattle.papaya_moments.specs.Given.Raw.declared.machines.asking.Reply.TheVariants as reply
-use Rattle.papaya_moments.specs.Given.Schedules.declared.call.Call.{Call}
-use Rattle.papaya_moments.specs.Given.Schedules.declared.call.Reply.{Reply}
-use Rattle.papaya_moments.specs.Given.Schedules.declared.call.Reply.TheVariants.{Gives, Removes, Aborts, Decides}
-use Rattle.papaya_moments.specs.Given.Schedules.declared.outcome.Outcome.{Outcome}
-use Rattle.papaya_moments.specs.Given.Schedules.declared.outcome.Outcome.TheVariants as outcome
-use Rattle.papaya_moments.specs.Given.Schedules.After.{asks_on, comes_to, replied}
-use Rattle.papaya_moments.specs.Given.Schedules.Beginning.{fresh_call, with_call}
-use Rattle.papaya_moments.specs.Given.Schedules.Moment.{Stands, Going, Asking, Told, IsReady, UnderWay as CallThere, Moment}
-use Rattle.papaya_moments.specs.Given.Schedules.Views.{call_of, reply_to}
-use Rattle.papaya_moments.specs.Given.Points.Steps.{AreLawful}
-use Rattle.papaya_moments.specs.Given.Late.Covers.{NamesPair as NamesIn}
-use Rattle.papaya_moments.specs.Given.Callers.OverAll.{Verdict, CallOverAll, told_of}
-use Rattle.papaya_moments.specs.Given.Callers.Sights.{seen_by, IsSight}
-use Rattle.papaya_moments.specs.Given.Callers.Together.{UnderWay, OnKey, ForRoom, Counting, OverAll, Together}
-use Rattle.papaya_moments.specs.Given.Effects.Known.{Known}
-use Rattle.papaya_moments.specs.Given.Effects.declared.role.Role.TheVariants as role
-use Rattle.papaya_moments.specs.Given.Finishes.Machines.{machine_of, ToldOfKind}
-use Rattle.papaya_moments.specs.Given.Finishes.Maps.{Standing}
-use Rattle.papaya_moments.specs.Given.Follows.Calling.{told, come_to}
-use Rattle.papaya_moments.specs.Given.Follows.Shows.{Shows}
-use Rattle.papaya_moments.proofs.Given.Follows.Calling.{is_same_refl, replied_same, come, begins_with, told_with, come_with}
-use Rattle.papaya_moments.proofs.Given.Follows.Calls.{found}
-use Rattle.papaya_moments.proofs.Given.Follows.Steps.{one_of}
-use Rattle.papaya_moments.specs.Given.Hands.Asked.{as_told}
-use Rattle.papaya_moments.proofs.Given.Hands.Asking.{which}
-use Rattle.papaya_moments.proofs.Given.Hands.Calling.{caller_is}
+use Rattle.papaya_moments.specs.Given.SeizeWordsWord.{block_in}
+use Rattle.papaya_moments.specs.Given.RunsSame.{is_same}
+use Rattle.papaya_moments.specs.Given.SweepsSweepPoints.{removes, past, reply_at, after_reply}
+use Rattle.papaya_moments.specs.Given.SweepsDeclared.sweep.Sweep.{Sweep}
+use Rattle.papaya_moments.specs.Given.SweepsDeclared.sweep.Sweeping.{Sweeping}
+use Rattle.papaya_moments.specs.Given.SweepsDeclared.sweep.Sweeping.TheVariants as at
+use Rattle.papaya_moments.specs.Given.RawMachine.{machine_replied, sweep_told, sweep_replied}
+use Rattle.papaya_moments.specs.Given.RawDeclared.machines.asking.Reply.{Reply as MachineReply}
+use Rattle.papaya_moments.specs.Given.RawDeclared.machines.asking.Reply.TheVariants as reply
+use Rattle.papaya_moments.specs.Given.SchedulesDeclared.call.Call.{Call}
+use Rattle.papaya_moments.specs.Given.SchedulesDeclared.call.Reply.{Reply}
+use Rattle.papaya_moments.specs.Given.SchedulesDeclared.call.Reply.TheVariants.{Gives, Removes, Aborts, Decides}
+use Rattle.papaya_moments.specs.Given.SchedulesDeclared.outcome.Outcome.{Outcome}
+use Rattle.papaya_moments.specs.Given.SchedulesDeclared.outcome.Outcome.TheVariants as outcome
+use Rattle.papaya_moments.specs.Given.SchedulesAfter.{asks_on, comes_to, replied}
+use Rattle.papaya_moments.specs.Given.SchedulesBeginning.{fresh_call, with_call}
+use Rattle.papaya_moments.specs.Given.SchedulesMoment.{Stands, Going, Asking, Told, IsReady, UnderWay as CallThere, Moment}
+use Rattle.papaya_moments.specs.Given.SchedulesViews.{call_of, reply_to}
+use Rattle.papaya_moments.specs.Given.PointsSteps.{AreLawful}
+use Rattle.papaya_moments.specs.Given.LateCovers.{NamesPair as NamesIn}
+use Rattle.papaya_moments.specs.Given.CallersOverAll.{Verdict, CallOverAll, told_of}
+use Rattle.papaya_moments.specs.Given.CallersSights.{seen_by, IsSight}
+use Rattle.papaya_moments.specs.Given.CallersTogether.{UnderWay, OnKey, ForRoom, Counting, OverAll, Together}
+use Rattle.papaya_moments.specs.Given.EffectsKnown.{Known}
+use Rattle.papaya_moments.specs.Given.EffectsDeclared.role.Role.TheVariants as role
+use Rattle.papaya_moments.specs.Given.FinishesMachines.{machine_of, ToldOfKind}
+use Rattle.papaya_moments.specs.Given.FinishesMaps.{Standing}
+use Rattle.papaya_moments.specs.Given.FollowsCalling.{told, come_to}
+use Rattle.papaya_moments.specs.Given.FollowsShows.{Shows}
+use Rattle.papaya_moments.proofs.Given.FollowsCalling.{is_same_refl, replied_same, come, begins_with, told_with, come_with}
+use Rattle.papaya_moments.proofs.Given.FollowsCalls.{found}
+use Rattle.papaya_moments.proofs.Given.FollowsSteps.{one_of}
+use Rattle.papaya_moments.specs.Given.HandsAsked.{as_told}
+use Rattle.papaya_moments.proofs.Given.HandsAsking.{which}
+use Rattle.papaya_moments.proofs.Given.HandsCalling.{caller_is}
 use Rattle.papaya_histories.specs.AsCalled.{purpose_of, SweepAsks, IsLastTold, IsSweptAs, IsAsCalled, ShowsAsCalled, IsBegunAs, AsksAsCalled, CallsBeginAsCalled, CallsComeToAsCalled, CallsTakeAsCalled}
 use Rattle.papaya_histories.proofs.Calling.{came_so}
 use Rattle.papaya_histories.proofs.DueOn.{comes_owed}
 use Rattle.papaya_histories.proofs.Roles.{named_by}
-use Rattle.papaya_moments.specs.Given.Scenes.Held.{Held, IsAt}
-use Rattle.papaya_moments.specs.Given.Scenes.Replying.{scene_with}
-use Rattle.papaya_moments.specs.Given.Scenes.Scene.{Scene, slot_of}
+use Rattle.papaya_moments.specs.Given.ScenesHeld.{Held, IsAt}
+use Rattle.papaya_moments.specs.Given.ScenesReplying.{scene_with}
+use Rattle.papaya_moments.specs.Given.ScenesScene.{Scene, slot_of}
 
 -- where one begins
 

@@ -1,18 +1,18 @@
 -- An event that does nothing, and by which no call has come to an end or asks, is linearizable.
 use Rattle.std.specs.Prelude.{◌≡◌, Bool, List, [], flat_map, Option, Some, None}
 use Rattle.std.proofs.Common.{refl, sym, subst, inl}
-use Rattle.papaya_moments.specs.Given.SeizeWords.declared.fault.Fault.TheVariants.{Busy}
-use Rattle.papaya_moments.specs.Given.Schedules.declared.call.Call.{Call}
-use Rattle.papaya_moments.specs.Given.Schedules.declared.call.Call.TheVariants as call
-use Rattle.papaya_moments.specs.Given.Schedules.declared.effect.Effect.{Effect}
-use Rattle.papaya_moments.specs.Given.Schedules.declared.outcome.Outcome.{Outcome}
-use Rattle.papaya_moments.specs.Given.Schedules.declared.outcome.Outcome.TheVariants as outcome
-use Rattle.papaya_moments.specs.Given.Schedules.Linearizable.{shift_of, Changes, Ends, IsRight, IsRightOf}
-use Rattle.papaya_moments.specs.Given.Schedules.Moment.{UnderWay as CallThere, Moment}
-use Rattle.papaya_moments.specs.Given.Schedules.Sequential.{Shift}
+use Rattle.papaya_moments.specs.Given.SeizeWordsDeclared.fault.Fault.TheVariants.{Busy}
+use Rattle.papaya_moments.specs.Given.SchedulesDeclared.call.Call.{Call}
+use Rattle.papaya_moments.specs.Given.SchedulesDeclared.call.Call.TheVariants as call
+use Rattle.papaya_moments.specs.Given.SchedulesDeclared.effect.Effect.{Effect}
+use Rattle.papaya_moments.specs.Given.SchedulesDeclared.outcome.Outcome.{Outcome}
+use Rattle.papaya_moments.specs.Given.SchedulesDeclared.outcome.Outcome.TheVariants as outcome
+use Rattle.papaya_moments.specs.Given.SchedulesLinearizable.{shift_of, Changes, Ends, IsRight, IsRightOf}
+use Rattle.papaya_moments.specs.Given.SchedulesMoment.{UnderWay as CallThere, Moment}
+use Rattle.papaya_moments.specs.Given.SchedulesSequential.{Shift}
 use Rattle.papaya_histories.specs.OtherCalls.{IsIdle, IdleAreLinearizable}
 use Rattle.papaya_histories.proofs.OtherCalls.{IsNoQuestion, asks_none}
-use Rattle.papaya_moments.specs.Given.Schedules.Transition.{Past, Transition, call_found, call_left}
+use Rattle.papaya_moments.specs.Given.SchedulesTransition.{Past, Transition, call_found, call_left}
 
 no_question : {V : Type 0} (o : Outcome V) → IsIdle o → IsNoQuestion o
 no_question (outcome.Asks question) idle = idle

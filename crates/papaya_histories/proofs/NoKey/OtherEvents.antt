@@ -1,44 +1,44 @@
 -- An event of steps of a call on no key is linearizable: it removes what it may, and asks what it may.
 use Rattle.std.specs.Prelude.{◌≡◌, ℕ, Bool, List, ◌++◌, flat_map, Option, Some, None, ◌⊎◌}
 use Rattle.std.proofs.Common.{refl, ap, sym, subst, ◌∙◌, inl, inr}
-use Rattle.papaya_moments.specs.Given.Seize.World.{with_at}
-use Rattle.papaya_moments.specs.Given.Tables.declared.node.Node.{Node}
-use Rattle.papaya_moments.specs.Given.Sweeps.declared.sweep.Purpose.TheVariants.{Retains}
-use Rattle.papaya_moments.specs.Given.Sweeps.declared.sweep.Sweeping.{Sweeping}
-use Rattle.papaya_moments.specs.Given.Sweeps.declared.sweep.Sweeping.TheVariants as at
-use Rattle.papaya_moments.specs.Given.Raw.Progress.{of_outcome, of_counting}
-use Rattle.papaya_moments.specs.Given.Raw.declared.machines.machine.Machine.{Machine}
-use Rattle.papaya_moments.specs.Given.Raw.declared.machines.machine.Machine.TheVariants as kinds
-use Rattle.papaya_moments.specs.Given.Raw.declared.machines.progress.Progress.{Progress}
-use Rattle.papaya_moments.specs.Given.Raw.declared.machines.progress.Progress.TheVariants as progress
-use Rattle.papaya_moments.specs.Given.Resize.declared.outcome.Outcome.{Outcome as Ending}
-use Rattle.papaya_moments.specs.Given.Resize.declared.outcome.Outcome.TheVariants as rooms
-use Rattle.papaya_moments.specs.Given.Seize.declared.progress.Progress.{Progress as Counted}
-use Rattle.papaya_moments.specs.Given.Seize.declared.progress.Progress.TheVariants as counts
-use Rattle.papaya_moments.specs.Given.Schedules.declared.call.Call.{Call}
-use Rattle.papaya_moments.specs.Given.Schedules.declared.call.Call.TheVariants as call
-use Rattle.papaya_moments.specs.Given.Schedules.declared.effect.Effect.{Effect}
-use Rattle.papaya_moments.specs.Given.Schedules.declared.outcome.Outcome.{Outcome}
-use Rattle.papaya_moments.specs.Given.Schedules.declared.outcome.Outcome.TheVariants as outcome
-use Rattle.papaya_moments.specs.Given.Schedules.Effects.{with_effects}
-use Rattle.papaya_moments.specs.Given.Schedules.Entry.{acting, IfCall}
-use Rattle.papaya_moments.specs.Given.Schedules.Linearizable.{shift_of, RemovesOnly, MayAsk, AsksRight, Linearizes}
-use Rattle.papaya_moments.specs.Given.Schedules.Moment.{Stands, Going, Asking, Told, IsReady, UnderWay as CallThere, Moment}
-use Rattle.papaya_moments.specs.Given.Schedules.Views.{call_of, finite_map}
-use Rattle.papaya_moments.specs.Given.Rule.Words.{Blocks}
-use Rattle.papaya_moments.specs.Given.Late.ToldSweeps.{IsRowOfSweep}
-use Rattle.papaya_moments.specs.Given.Late.FactsSweeps.{SweepingFacts}
-use Rattle.papaya_moments.specs.Given.Callers.OverAll.{CallOverAll}
-use Rattle.papaya_moments.specs.Given.Callers.Sights.{seen_by}
-use Rattle.papaya_moments.specs.Given.Callers.Together.{CallOnKey, UnderWay, OnKey, ForRoom, Counting, OverAll, Together, in_slot}
-use Rattle.papaya_moments.proofs.Given.Callers.Together.At.{at_same}
-use Rattle.papaya_moments.specs.Given.Effects.Effects.{effects_of, known_after}
-use Rattle.papaya_moments.specs.Given.Effects.Known.{Known}
-use Rattle.papaya_moments.specs.Given.Effects.declared.acting.Acting.TheVariants as acts
-use Rattle.papaya_moments.specs.Given.Finishes.Machines.{machine_of}
-use Rattle.papaya_moments.specs.Given.Finishes.Maps.{Standing}
-use Rattle.papaya_moments.specs.Given.Follows.Steps.{Did}
-use Rattle.papaya_moments.proofs.Given.Follows.Steps.{one_of}
+use Rattle.papaya_moments.specs.Given.SeizeWorld.{with_at}
+use Rattle.papaya_moments.specs.Given.TablesDeclared.node.Node.{Node}
+use Rattle.papaya_moments.specs.Given.SweepsDeclared.sweep.Purpose.TheVariants.{Retains}
+use Rattle.papaya_moments.specs.Given.SweepsDeclared.sweep.Sweeping.{Sweeping}
+use Rattle.papaya_moments.specs.Given.SweepsDeclared.sweep.Sweeping.TheVariants as at
+use Rattle.papaya_moments.specs.Given.RawProgress.{of_outcome, of_counting}
+use Rattle.papaya_moments.specs.Given.RawDeclared.machines.machine.Machine.{Machine}
+use Rattle.papaya_moments.specs.Given.RawDeclared.machines.machine.Machine.TheVariants as kinds
+use Rattle.papaya_moments.specs.Given.RawDeclared.machines.progress.Progress.{Progress}
+use Rattle.papaya_moments.specs.Given.RawDeclared.machines.progress.Progress.TheVariants as progress
+use Rattle.papaya_moments.specs.Given.ResizeDeclared.outcome.Outcome.{Outcome as Ending}
+use Rattle.papaya_moments.specs.Given.ResizeDeclared.outcome.Outcome.TheVariants as rooms
+use Rattle.papaya_moments.specs.Given.SeizeDeclared.progress.Progress.{Progress as Counted}
+use Rattle.papaya_moments.specs.Given.SeizeDeclared.progress.Progress.TheVariants as counts
+use Rattle.papaya_moments.specs.Given.SchedulesDeclared.call.Call.{Call}
+use Rattle.papaya_moments.specs.Given.SchedulesDeclared.call.Call.TheVariants as call
+use Rattle.papaya_moments.specs.Given.SchedulesDeclared.effect.Effect.{Effect}
+use Rattle.papaya_moments.specs.Given.SchedulesDeclared.outcome.Outcome.{Outcome}
+use Rattle.papaya_moments.specs.Given.SchedulesDeclared.outcome.Outcome.TheVariants as outcome
+use Rattle.papaya_moments.specs.Given.SchedulesEffects.{with_effects}
+use Rattle.papaya_moments.specs.Given.SchedulesEntry.{acting, IfCall}
+use Rattle.papaya_moments.specs.Given.SchedulesLinearizable.{shift_of, RemovesOnly, MayAsk, AsksRight, Linearizes}
+use Rattle.papaya_moments.specs.Given.SchedulesMoment.{Stands, Going, Asking, Told, IsReady, UnderWay as CallThere, Moment}
+use Rattle.papaya_moments.specs.Given.SchedulesViews.{call_of, finite_map}
+use Rattle.papaya_moments.specs.Given.RuleWords.{Blocks}
+use Rattle.papaya_moments.specs.Given.LateToldSweeps.{IsRowOfSweep}
+use Rattle.papaya_moments.specs.Given.LateFactsSweeps.{SweepingFacts}
+use Rattle.papaya_moments.specs.Given.CallersOverAll.{CallOverAll}
+use Rattle.papaya_moments.specs.Given.CallersSights.{seen_by}
+use Rattle.papaya_moments.specs.Given.CallersTogether.{CallOnKey, UnderWay, OnKey, ForRoom, Counting, OverAll, Together, in_slot}
+use Rattle.papaya_moments.proofs.Given.CallersTogether.At.{at_same}
+use Rattle.papaya_moments.specs.Given.EffectsEffects.{effects_of, known_after}
+use Rattle.papaya_moments.specs.Given.EffectsKnown.{Known}
+use Rattle.papaya_moments.specs.Given.EffectsDeclared.acting.Acting.TheVariants as acts
+use Rattle.papaya_moments.specs.Given.FinishesMachines.{machine_of}
+use Rattle.papaya_moments.specs.Given.FinishesMaps.{Standing}
+use Rattle.papaya_moments.specs.Given.FollowsSteps.{Did}
+use Rattle.papaya_moments.proofs.Given.FollowsSteps.{one_of}
 use Rattle.papaya_histories.specs.AsCalled.{purpose_of, IsAsCalled, ShowsAsCalled}
 use Rattle.papaya_histories.specs.Asking.{IsToldQuestion}
 use Rattle.papaya_histories.specs.Due.{ShowsDue}
@@ -51,10 +51,10 @@ use Rattle.papaya_histories.proofs.OtherMidsts.{on_no_key, there_other, there_ca
 use Rattle.papaya_histories.proofs.Retaining.{retainings_may_ask}
 use Rattle.papaya_histories.proofs.Several.{stands}
 use Rattle.papaya_histories.proofs.NoKey.Sweeps.{SweepsOn, sweeps_on, asks_still}
-use Rattle.papaya_moments.specs.Given.Scenes.Held.{Held, IsAt}
-use Rattle.papaya_moments.specs.Given.Scenes.Scene.{Scene, slot_of}
-use Rattle.papaya_moments.specs.Given.Scenes.Stepping.{StepLeads, StepsFrom, scene_after}
-use Rattle.papaya_moments.specs.Given.Schedules.Transition.{Past, Transition, worked_by}
+use Rattle.papaya_moments.specs.Given.ScenesHeld.{Held, IsAt}
+use Rattle.papaya_moments.specs.Given.ScenesScene.{Scene, slot_of}
+use Rattle.papaya_moments.specs.Given.ScenesStepping.{StepLeads, StepsFrom, scene_after}
+use Rattle.papaya_moments.specs.Given.SchedulesTransition.{Past, Transition, worked_by}
 
 -- a reservation and a counting say of nothing that they ask it
 module _ {T : Type 0} where

@@ -1,43 +1,43 @@
 -- A sweep keeps its purpose; where it says that it asks about a pair it stands there; and one that asks stays, and says so.
 use Rattle.std.specs.Prelude.{◌≡◌, ℕ, ◌==◌, ◌&&◌, Bool, true, false, Some, Ok, Err, if◌then◌else◌}
 use Rattle.std.proofs.Common.{refl, ap, subst}
-use Rattle.papaya_moments.specs.Given.SeizeWords.Op.{Out, Found, Stored, Exchanged, Made, Taken, Roomed}
-use Rattle.papaya_moments.specs.Given.SeizeWords.Plan.{plan_as}
-use Rattle.papaya_moments.specs.Given.SeizeWords.Word.{block_in}
-use Rattle.papaya_moments.specs.Given.Seize.declared.rows.settle.Settled.{Settled}
-use Rattle.papaya_moments.specs.Given.Seize.declared.rows.settle.Settled.TheVariants as settled
-use Rattle.papaya_moments.specs.Given.Tables.Chunks.{is_incremental}
-use Rattle.papaya_moments.specs.Given.Tables.Marks.{has_mark}
-use Rattle.papaya_moments.specs.Given.Tables.Nodes.{table_seen}
-use Rattle.papaya_moments.specs.Given.Tables.declared.marks.TheConstants.{COPYING}
-use Rattle.papaya_moments.specs.Given.Tables.declared.node.Node.{Node}
-use Rattle.papaya_moments.specs.Given.Tables.declared.table.Table.{Table}
-use Rattle.papaya_moments.specs.Given.Resize.Copier.{copier_plan}
-use Rattle.papaya_moments.specs.Given.Resize.Dispose.{dispose_plan}
-use Rattle.papaya_moments.specs.Given.Resize.declared.copier.Copier.{Copier}
-use Rattle.papaya_moments.specs.Given.Resize.declared.dispose.Dispose.{Dispose}
-use Rattle.papaya_moments.specs.Given.Resize.declared.outcome.Outcome.{Outcome}
-use Rattle.papaya_moments.specs.Given.Resize.declared.outcome.Outcome.TheVariants as outcome
-use Rattle.papaya_moments.specs.Given.Sweeps.Sweep.{word_found, tried, disposed, root_read, next_read, copied, plan_at}
-use Rattle.papaya_moments.specs.Given.Sweeps.SweepPoints.{removes, beginning, tableless, entering, further, told, telling, at_pair, seen}
-use Rattle.papaya_moments.specs.Given.Sweeps.declared.sweep.Purpose.{Purpose}
-use Rattle.papaya_moments.specs.Given.Sweeps.declared.sweep.Purpose.TheVariants.{Walks, Clears, Retains}
-use Rattle.papaya_moments.specs.Given.Sweeps.declared.sweep.Sweep.{Sweep}
-use Rattle.papaya_moments.specs.Given.Sweeps.declared.sweep.Sweeping.{Sweeping}
-use Rattle.papaya_moments.specs.Given.Sweeps.declared.sweep.Sweeping.TheVariants as at
-use Rattle.papaya_moments.specs.Given.Sweeps.declared.sweep.Swept.{Swept}
-use Rattle.papaya_moments.specs.Given.Sweeps.declared.sweep.Swept.TheVariants as ends
-use Rattle.papaya_moments.specs.Given.Raw.Machine.{swept}
-use Rattle.papaya_moments.specs.Given.Raw.declared.machines.machine.Machine.{Machine}
-use Rattle.papaya_moments.specs.Given.Raw.declared.machines.machine.Machine.TheVariants as kinds
-use Rattle.papaya_moments.specs.Given.Raw.declared.machines.progress.Progress.{Progress}
-use Rattle.papaya_moments.specs.Given.Raw.declared.machines.progress.Progress.TheVariants as progress
-use Rattle.papaya_moments.proofs.Given.Rule.Keys.Always.{Always, AlwaysOf, always_if, always_plan_as}
-use Rattle.papaya_moments.specs.Given.Teller.Tells.{StepsTold}
-use Rattle.papaya_moments.specs.Given.Teller.declared.changed.Changed.TheVariants.{Nothing}
+use Rattle.papaya_moments.specs.Given.SeizeWordsOp.{Out, Found, Stored, Exchanged, Made, Taken, Roomed}
+use Rattle.papaya_moments.specs.Given.SeizeWordsPlan.{plan_as}
+use Rattle.papaya_moments.specs.Given.SeizeWordsWord.{block_in}
+use Rattle.papaya_moments.specs.Given.SeizeDeclared.rows.settle.Settled.{Settled}
+use Rattle.papaya_moments.specs.Given.SeizeDeclared.rows.settle.Settled.TheVariants as settled
+use Rattle.papaya_moments.specs.Given.TablesChunks.{is_incremental}
+use Rattle.papaya_moments.specs.Given.TablesMarks.{has_mark}
+use Rattle.papaya_moments.specs.Given.TablesNodes.{table_seen}
+use Rattle.papaya_moments.specs.Given.TablesDeclared.marks.TheConstants.{COPYING}
+use Rattle.papaya_moments.specs.Given.TablesDeclared.node.Node.{Node}
+use Rattle.papaya_moments.specs.Given.TablesDeclared.table.Table.{Table}
+use Rattle.papaya_moments.specs.Given.ResizeCopier.{copier_plan}
+use Rattle.papaya_moments.specs.Given.ResizeDispose.{dispose_plan}
+use Rattle.papaya_moments.specs.Given.ResizeDeclared.copier.Copier.{Copier}
+use Rattle.papaya_moments.specs.Given.ResizeDeclared.dispose.Dispose.{Dispose}
+use Rattle.papaya_moments.specs.Given.ResizeDeclared.outcome.Outcome.{Outcome}
+use Rattle.papaya_moments.specs.Given.ResizeDeclared.outcome.Outcome.TheVariants as outcome
+use Rattle.papaya_moments.specs.Given.SweepsSweep.{word_found, tried, disposed, root_read, next_read, copied, plan_at}
+use Rattle.papaya_moments.specs.Given.SweepsSweepPoints.{removes, beginning, tableless, entering, further, told, telling, at_pair, seen}
+use Rattle.papaya_moments.specs.Given.SweepsDeclared.sweep.Purpose.{Purpose}
+use Rattle.papaya_moments.specs.Given.SweepsDeclared.sweep.Purpose.TheVariants.{Walks, Clears, Retains}
+use Rattle.papaya_moments.specs.Given.SweepsDeclared.sweep.Sweep.{Sweep}
+use Rattle.papaya_moments.specs.Given.SweepsDeclared.sweep.Sweeping.{Sweeping}
+use Rattle.papaya_moments.specs.Given.SweepsDeclared.sweep.Sweeping.TheVariants as at
+use Rattle.papaya_moments.specs.Given.SweepsDeclared.sweep.Swept.{Swept}
+use Rattle.papaya_moments.specs.Given.SweepsDeclared.sweep.Swept.TheVariants as ends
+use Rattle.papaya_moments.specs.Given.RawMachine.{swept}
+use Rattle.papaya_moments.specs.Given.RawDeclared.machines.machine.Machine.{Machine}
+use Rattle.papaya_moments.specs.Given.RawDeclared.machines.machine.Machine.TheVariants as kinds
+use Rattle.papaya_moments.specs.Given.RawDeclared.machines.progress.Progress.{Progress}
+use Rattle.papaya_moments.specs.Given.RawDeclared.machines.progress.Progress.TheVariants as progress
+use Rattle.papaya_moments.proofs.Given.RuleKeys.Always.{Always, AlwaysOf, always_if, always_plan_as}
+use Rattle.papaya_moments.specs.Given.TellerTells.{StepsTold}
+use Rattle.papaya_moments.specs.Given.TellerDeclared.changed.Changed.TheVariants.{Nothing}
 use Rattle.papaya_histories.proofs.Asking.{always_turned, always_told}
-use Rattle.papaya_moments.specs.Given.Scenes.Held.{Held}
-use Rattle.papaya_moments.specs.Given.Scenes.Stepping.{StepsFrom}
+use Rattle.papaya_moments.specs.Given.ScenesHeld.{Held}
+use Rattle.papaya_moments.specs.Given.ScenesStepping.{StepsFrom}
 
 module _ (K V : Type 0) (p : Sweep) where
   abbrev AsksSo : Swept (Node K V) → Sweeping → Type 0

@@ -2,51 +2,51 @@
 use Rattle.std.specs.Prelude.{◌==◌, Option, Some, None, Ok, Err, if◌then◌else◌}
 use Rattle.std.proofs.Common.{◌≡◌, ◌≢◌, ℕ, Bool, true, false, ◌⊎◌, inl, inr, refl, sym, ◌∙◌, subst, eqb-true}
 use Rattle.std.proofs.lemmas.Bool.{eqb-false}
-use Rattle.papaya_sifts.specs.Given.SeizeWords.Op.{Out, Found, Stored, Exchanged, Made, Taken, Roomed}
-use Rattle.papaya_sifts.specs.Given.SeizeWords.Word.{block_in}
-use Rattle.papaya_sifts.specs.Given.Seize.declared.progress.Progress.{Progress}
-use Rattle.papaya_sifts.specs.Given.Seize.declared.progress.Progress.TheVariants as progress
-use Rattle.papaya_sifts.specs.Given.Seize.declared.rows.settle.Settled.{Settled}
-use Rattle.papaya_sifts.specs.Given.Seize.declared.rows.settle.Settled.TheVariants as settled
-use Rattle.papaya_sifts.specs.Given.Tables.Chunks.{is_incremental}
-use Rattle.papaya_sifts.specs.Given.Tables.Finding.{may_name}
-use Rattle.papaya_sifts.specs.Given.Tables.Trials.{next_trial, with_met}
-use Rattle.papaya_sifts.specs.Given.Tables.declared.finding.Finding.{Finding}
-use Rattle.papaya_sifts.specs.Given.Tables.declared.finding.Finding.TheVariants as finds
-use Rattle.papaya_sifts.specs.Given.Tables.declared.marks.TheConstants.{TOMBSTONE}
-use Rattle.papaya_sifts.specs.Given.Tables.declared.node.Node.{Node}
-use Rattle.papaya_sifts.specs.Given.Tables.declared.table.Table.{Table}
-use Rattle.papaya_sifts.specs.Given.Resize.CopierStates.{copying_all}
-use Rattle.papaya_sifts.specs.Given.Resize.Dispose.{disposing}
-use Rattle.papaya_sifts.specs.Given.Resize.declared.copier.Copier.{Copier}
-use Rattle.papaya_sifts.specs.Given.Resize.declared.dispose.Dispose.{Dispose}
-use Rattle.papaya_sifts.specs.Given.Resize.declared.lookup.Lookup.{Lookup}
-use Rattle.papaya_sifts.specs.Given.Resize.declared.new_table.NewTable.{NewTable}
-use Rattle.papaya_sifts.specs.Given.Resize.declared.outcome.Outcome.{Outcome}
-use Rattle.papaya_sifts.specs.Given.Resize.declared.outcome.Outcome.TheVariants as outcome
-use Rattle.papaya_sifts.specs.Given.Raw.Answers.{ended}
-use Rattle.papaya_sifts.specs.Given.Raw.Call.{root_found, next_found, key_read, pair_read, word_read, word_found, tried, looked, first_made, next_made, disposed, helped, copied}
-use Rattle.papaya_sifts.specs.Given.Raw.CallPoints.{going, standing, over, ending, following_made, storing, burying, at_gap, gap_by, asking_at, pair_by, tableless, at_free, at_last, at_pair, told_of, entering, went_on, changed, counted, having_met}
-use Rattle.papaya_sifts.specs.Given.Raw.declared.machines.answer.KeyAnswer.{KeyAnswer}
-use Rattle.papaya_sifts.specs.Given.Raw.declared.machines.answer.KeyAnswer.TheVariants as answers
-use Rattle.papaya_sifts.specs.Given.Raw.declared.machines.answer.Called.{Called}
-use Rattle.papaya_sifts.specs.Given.Raw.declared.machines.answer.Called.TheVariants as called
-use Rattle.papaya_sifts.specs.Given.Raw.declared.machines.answer.End.{End}
-use Rattle.papaya_sifts.specs.Given.Raw.declared.machines.answer.End.TheVariants as ends
-use Rattle.papaya_sifts.specs.Given.Raw.declared.machines.answer.Missing.{Missing}
-use Rattle.papaya_sifts.specs.Given.Raw.declared.machines.answer.Missing.TheVariants as missing
-use Rattle.papaya_sifts.specs.Given.Raw.declared.machines.answer.There.{There}
-use Rattle.papaya_sifts.specs.Given.Raw.declared.machines.answer.There.TheVariants as there
-use Rattle.papaya_sifts.specs.Given.Raw.declared.machines.asking.Asking.TheVariants as asking
-use Rattle.papaya_sifts.specs.Given.Raw.declared.machines.asking.Gap.{Gap}
-use Rattle.papaya_sifts.specs.Given.Raw.declared.machines.asking.Gap.TheVariants as gaps
-use Rattle.papaya_sifts.specs.Given.Raw.declared.machines.asking.Told.{Told}
-use Rattle.papaya_sifts.specs.Given.Raw.declared.machines.asking.Told.TheVariants as tells
-use Rattle.papaya_sifts.specs.Given.Raw.declared.machines.call.Calling.{Calling}
-use Rattle.papaya_sifts.specs.Given.Raw.declared.machines.call.Calling.TheVariants as at
-use Rattle.papaya_sifts.specs.Given.Raw.declared.machines.call.KeyCall.{KeyCall}
-use Rattle.papaya_sifts.proofs.Given.Points.Calls.Asked.{passed_so}
-use Rattle.papaya_sifts.proofs.Given.Rule.Keys.Always.{Always, always_if}
+use Rattle.papaya_sifts.specs.Given.SeizeWordsOp.{Out, Found, Stored, Exchanged, Made, Taken, Roomed}
+use Rattle.papaya_sifts.specs.Given.SeizeWordsWord.{block_in}
+use Rattle.papaya_sifts.specs.Given.SeizeDeclared.progress.Progress.{Progress}
+use Rattle.papaya_sifts.specs.Given.SeizeDeclared.progress.Progress.TheVariants as progress
+use Rattle.papaya_sifts.specs.Given.SeizeDeclared.rows.settle.Settled.{Settled}
+use Rattle.papaya_sifts.specs.Given.SeizeDeclared.rows.settle.Settled.TheVariants as settled
+use Rattle.papaya_sifts.specs.Given.TablesChunks.{is_incremental}
+use Rattle.papaya_sifts.specs.Given.TablesFinding.{may_name}
+use Rattle.papaya_sifts.specs.Given.TablesTrials.{next_trial, with_met}
+use Rattle.papaya_sifts.specs.Given.TablesDeclared.finding.Finding.{Finding}
+use Rattle.papaya_sifts.specs.Given.TablesDeclared.finding.Finding.TheVariants as finds
+use Rattle.papaya_sifts.specs.Given.TablesDeclared.marks.TheConstants.{TOMBSTONE}
+use Rattle.papaya_sifts.specs.Given.TablesDeclared.node.Node.{Node}
+use Rattle.papaya_sifts.specs.Given.TablesDeclared.table.Table.{Table}
+use Rattle.papaya_sifts.specs.Given.ResizeCopierStates.{copying_all}
+use Rattle.papaya_sifts.specs.Given.ResizeDispose.{disposing}
+use Rattle.papaya_sifts.specs.Given.ResizeDeclared.copier.Copier.{Copier}
+use Rattle.papaya_sifts.specs.Given.ResizeDeclared.dispose.Dispose.{Dispose}
+use Rattle.papaya_sifts.specs.Given.ResizeDeclared.lookup.Lookup.{Lookup}
+use Rattle.papaya_sifts.specs.Given.ResizeDeclared.new_table.NewTable.{NewTable}
+use Rattle.papaya_sifts.specs.Given.ResizeDeclared.outcome.Outcome.{Outcome}
+use Rattle.papaya_sifts.specs.Given.ResizeDeclared.outcome.Outcome.TheVariants as outcome
+use Rattle.papaya_sifts.specs.Given.RawAnswers.{ended}
+use Rattle.papaya_sifts.specs.Given.RawCall.{root_found, next_found, key_read, pair_read, word_read, word_found, tried, looked, first_made, next_made, disposed, helped, copied}
+use Rattle.papaya_sifts.specs.Given.RawCallPoints.{going, standing, over, ending, following_made, storing, burying, at_gap, gap_by, asking_at, pair_by, tableless, at_free, at_last, at_pair, told_of, entering, went_on, changed, counted, having_met}
+use Rattle.papaya_sifts.specs.Given.RawDeclared.machines.answer.KeyAnswer.{KeyAnswer}
+use Rattle.papaya_sifts.specs.Given.RawDeclared.machines.answer.KeyAnswer.TheVariants as answers
+use Rattle.papaya_sifts.specs.Given.RawDeclared.machines.answer.Called.{Called}
+use Rattle.papaya_sifts.specs.Given.RawDeclared.machines.answer.Called.TheVariants as called
+use Rattle.papaya_sifts.specs.Given.RawDeclared.machines.answer.End.{End}
+use Rattle.papaya_sifts.specs.Given.RawDeclared.machines.answer.End.TheVariants as ends
+use Rattle.papaya_sifts.specs.Given.RawDeclared.machines.answer.Missing.{Missing}
+use Rattle.papaya_sifts.specs.Given.RawDeclared.machines.answer.Missing.TheVariants as missing
+use Rattle.papaya_sifts.specs.Given.RawDeclared.machines.answer.There.{There}
+use Rattle.papaya_sifts.specs.Given.RawDeclared.machines.answer.There.TheVariants as there
+use Rattle.papaya_sifts.specs.Given.RawDeclared.machines.asking.Asking.TheVariants as asking
+use Rattle.papaya_sifts.specs.Given.RawDeclared.machines.asking.Gap.{Gap}
+use Rattle.papaya_sifts.specs.Given.RawDeclared.machines.asking.Gap.TheVariants as gaps
+use Rattle.papaya_sifts.specs.Given.RawDeclared.machines.asking.Told.{Told}
+use Rattle.papaya_sifts.specs.Given.RawDeclared.machines.asking.Told.TheVariants as tells
+use Rattle.papaya_sifts.specs.Given.RawDeclared.machines.call.Calling.{Calling}
+use Rattle.papaya_sifts.specs.Given.RawDeclared.machines.call.Calling.TheVariants as at
+use Rattle.papaya_sifts.specs.Given.RawDeclared.machines.call.KeyCall.{KeyCall}
+use Rattle.papaya_sifts.proofs.Given.PointsCalls.Asked.{passed_so}
+use Rattle.papaya_sifts.proofs.Given.RuleKeys.Always.{Always, always_if}
 use Rattle.papaya_holds.specs.Came.{TellsOwn, EndsOwn, OwnsAt, Owns}
 
 -- an end that tells nothing of its own block

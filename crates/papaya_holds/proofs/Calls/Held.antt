@@ -2,37 +2,37 @@
 use Rattle.std.specs.Prelude.{◌≡◌, ◌≢◌, ℕ, ◌<◌, Bool, true, List, Option, Some, None, Result, Ok, Err}
 use Rattle.std.proofs.Common.{refl, sym, ◌∙◌, ap, subst, arith, inl, inr}
 use denote.Ref.{Bor}
-use Rattle.papaya_sifts.specs.Given.SeizeWords.Mem.{Mem, Took, value_at}
-use Rattle.papaya_sifts.specs.Given.SeizeWords.Plan.{Steps}
-use Rattle.papaya_sifts.specs.Given.SeizeWords.Word.{block_in}
-use Rattle.papaya_sifts.specs.Given.SeizeWords.declared.fault.Fault.{Fault}
-use Rattle.papaya_sifts.specs.Given.Seize.World.{World}
-use Rattle.papaya_sifts.specs.Given.Tables.declared.node.Node.{Node}
-use Rattle.papaya_sifts.specs.Given.Tables.declared.node.Node.TheVariants as node
-use Rattle.papaya_sifts.specs.Given.Tables.declared.setting.Setting.{Setting}
-use Rattle.papaya_sifts.specs.Given.Raw.Call.{call_plan}
-use Rattle.papaya_sifts.specs.Given.Raw.declared.machines.answer.Called.{Called}
-use Rattle.papaya_sifts.specs.Given.Raw.declared.machines.answer.KeyAnswer.{KeyAnswer}
-use Rattle.papaya_sifts.specs.Given.Raw.declared.machines.answer.KeyAnswer.TheVariants as answers
-use Rattle.papaya_sifts.specs.Given.Raw.declared.machines.call.KeyCall.{KeyCall}
-use Rattle.papaya_sifts.specs.Given.Rule.Chart.{Chart}
-use Rattle.papaya_sifts.specs.Given.Rule.Words.{Blocks}
-use Rattle.papaya_sifts.specs.Given.Points.FactsCalls.{Unchanged}
-use Rattle.papaya_sifts.specs.Given.Callers.Pairs.{Given}
-use Rattle.papaya_sifts.specs.Given.Callers.Sights.{Sight}
-use Rattle.papaya_sifts.specs.Given.Callers.Together.{CallOnKey, OnKey as OnKeyOf, IsBegun, Gets, Removes, Inserts, TriesToInsert, Computes, Updates, UpdatesOrInserts, TriesToInsertWith, RemovesIf, begun_at}
-use Rattle.papaya_sifts.proofs.Given.Whole.Contents.Runs.{runs_begin}
-use Rattle.papaya_sifts.proofs.Given.Whole.Keys.Whole.{calls_go_on_alone}
-use Rattle.papaya_sifts.specs.Given.Whole.Contents.{HasRun}
-use Rattle.papaya_sifts.specs.Given.Whole.Owner.{IsAlone}
-use Rattle.papaya_sifts.specs.Given.Whole.Whole.{StepLeads, then_so}
-use Rattle.papaya_sifts.specs.Given.Owned.Calling.{IsCalling}
-use Rattle.papaya_sifts.specs.Given.Owned.Ending.{RunsTo}
-use Rattle.papaya_sifts.specs.Given.Owned.Machines.{on_key_plan}
-use Rattle.papaya_sifts.specs.Given.Owned.Owned.{Holds}
-use Rattle.papaya_sifts.specs.Given.Owned.declared.machines.OnKey.{OnKey}
-use Rattle.papaya_sifts.specs.Given.Owned.declared.machines.Stop.{Stop}
-use Rattle.papaya_sifts.specs.Given.Owned.declared.machines.Stop.TheVariants as stop
+use Rattle.papaya_sifts.specs.Given.SeizeWordsMem.{Mem, Took, value_at}
+use Rattle.papaya_sifts.specs.Given.SeizeWordsPlan.{Steps}
+use Rattle.papaya_sifts.specs.Given.SeizeWordsWord.{block_in}
+use Rattle.papaya_sifts.specs.Given.SeizeWordsDeclared.fault.Fault.{Fault}
+use Rattle.papaya_sifts.specs.Given.SeizeWorld.{World}
+use Rattle.papaya_sifts.specs.Given.TablesDeclared.node.Node.{Node}
+use Rattle.papaya_sifts.specs.Given.TablesDeclared.node.Node.TheVariants as node
+use Rattle.papaya_sifts.specs.Given.TablesDeclared.setting.Setting.{Setting}
+use Rattle.papaya_sifts.specs.Given.RawCall.{call_plan}
+use Rattle.papaya_sifts.specs.Given.RawDeclared.machines.answer.Called.{Called}
+use Rattle.papaya_sifts.specs.Given.RawDeclared.machines.answer.KeyAnswer.{KeyAnswer}
+use Rattle.papaya_sifts.specs.Given.RawDeclared.machines.answer.KeyAnswer.TheVariants as answers
+use Rattle.papaya_sifts.specs.Given.RawDeclared.machines.call.KeyCall.{KeyCall}
+use Rattle.papaya_sifts.specs.Given.RuleChart.{Chart}
+use Rattle.papaya_sifts.specs.Given.RuleWords.{Blocks}
+use Rattle.papaya_sifts.specs.Given.PointsFactsCalls.{Unchanged}
+use Rattle.papaya_sifts.specs.Given.CallersPairs.{Given}
+use Rattle.papaya_sifts.specs.Given.CallersSights.{Sight}
+use Rattle.papaya_sifts.specs.Given.CallersTogether.{CallOnKey, OnKey as OnKeyOf, IsBegun, Gets, Removes, Inserts, TriesToInsert, Computes, Updates, UpdatesOrInserts, TriesToInsertWith, RemovesIf, begun_at}
+use Rattle.papaya_sifts.proofs.Given.WholeContents.Runs.{runs_begin}
+use Rattle.papaya_sifts.proofs.Given.WholeKeys.Whole.{calls_go_on_alone}
+use Rattle.papaya_sifts.specs.Given.WholeContents.{HasRun}
+use Rattle.papaya_sifts.specs.Given.WholeOwner.{IsAlone}
+use Rattle.papaya_sifts.specs.Given.WholeWhole.{StepLeads, then_so}
+use Rattle.papaya_sifts.specs.Given.OwnedCalling.{IsCalling}
+use Rattle.papaya_sifts.specs.Given.OwnedEnding.{RunsTo}
+use Rattle.papaya_sifts.specs.Given.OwnedMachines.{on_key_plan}
+use Rattle.papaya_sifts.specs.Given.OwnedOwned.{Holds}
+use Rattle.papaya_sifts.specs.Given.OwnedDeclared.machines.OnKey.{OnKey}
+use Rattle.papaya_sifts.specs.Given.OwnedDeclared.machines.Stop.{Stop}
+use Rattle.papaya_sifts.specs.Given.OwnedDeclared.machines.Stop.TheVariants as stop
 use Rattle.papaya_sifts.proofs.Along.Calls.{GivesTold, StepsKeep, RepliesKeep, StopsAt, kept_along}
 use Rattle.papaya_holds.proofs.Calls.Runs.{calls_begin, replies_put_none, replies_keep_own, answered, none_so}
 use Rattle.papaya_holds.proofs.Calls.Steps.{OwnComes, step_comes}

@@ -1,43 +1,43 @@
 -- A call on one key that one owner runs, and tells what it asks, puts no pair into the memory but the one that it tells as stored.
 use Rattle.std.specs.Prelude.{◌^◌, ◌<◌, Result, Ok, Err}
 use Rattle.std.proofs.Common.{◌≡◌, ◌≢◌, ℕ, Bool, ◌⊎◌, inl, inr, refl, sym, ◌∙◌, ap, subst}
-use Rattle.papaya_sifts.specs.Given.SeizeWords.Mem.{Mem, Can, Took, value_at}
-use Rattle.papaya_sifts.specs.Given.SeizeWords.Plan.{Steps}
-use Rattle.papaya_sifts.specs.Given.SeizeWords.Word.{block_in}
-use Rattle.papaya_sifts.specs.Given.SeizeWords.declared.fault.Fault.{Fault}
-use Rattle.papaya_sifts.specs.Given.SeizeWords.declared.fault.Fault.TheVariants.{RemoveNothing}
-use Rattle.papaya_sifts.proofs.Given.SeizeWords.Plans.{may_as}
-use Rattle.papaya_sifts.specs.Given.Seize.declared.progress.Progress.{Progress}
-use Rattle.papaya_sifts.specs.Given.Seize.declared.progress.Progress.TheVariants as progress
-use Rattle.papaya_sifts.proofs.Given.SeizeRule.Rows.Leaving.{steps_back}
-use Rattle.papaya_sifts.specs.Given.Tables.declared.node.Node.{Node}
-use Rattle.papaya_sifts.specs.Given.Raw.Call.{call_plan}
-use Rattle.papaya_sifts.specs.Given.Raw.CallAsks.{with_absent, with_present, absent_told, present_told, replied, told_at}
-use Rattle.papaya_sifts.specs.Given.Raw.CallPoints.{standing}
-use Rattle.papaya_sifts.specs.Given.Raw.declared.machines.answer.Called.{Called}
-use Rattle.papaya_sifts.specs.Given.Raw.declared.machines.answer.Called.TheVariants as called
-use Rattle.papaya_sifts.specs.Given.Raw.declared.machines.answer.End.TheVariants as ends
-use Rattle.papaya_sifts.specs.Given.Raw.declared.machines.answer.KeyAnswer.{KeyAnswer}
-use Rattle.papaya_sifts.specs.Given.Raw.declared.machines.answer.KeyAnswer.TheVariants as answers
-use Rattle.papaya_sifts.specs.Given.Raw.declared.machines.answer.There.TheVariants as there
-use Rattle.papaya_sifts.specs.Given.Raw.declared.machines.asking.Asking.TheVariants as asking
-use Rattle.papaya_sifts.specs.Given.Raw.declared.machines.asking.Gap.{Gap}
-use Rattle.papaya_sifts.specs.Given.Raw.declared.machines.asking.Reply.{Reply}
-use Rattle.papaya_sifts.specs.Given.Raw.declared.machines.asking.Reply.TheVariants as reply
-use Rattle.papaya_sifts.specs.Given.Raw.declared.machines.asking.Takes.{Takes}
-use Rattle.papaya_sifts.specs.Given.Raw.declared.machines.asking.Takes.TheVariants as takes
-use Rattle.papaya_sifts.specs.Given.Raw.declared.machines.asking.Told.TheVariants as tells
-use Rattle.papaya_sifts.specs.Given.Raw.declared.machines.call.Calling.{Calling}
-use Rattle.papaya_sifts.specs.Given.Raw.declared.machines.call.Calling.TheVariants as at
-use Rattle.papaya_sifts.specs.Given.Raw.declared.machines.call.KeyCall.{KeyCall}
-use Rattle.papaya_sifts.specs.Given.Callers.Pairs.{Given}
-use Rattle.papaya_sifts.specs.Given.Callers.Together.{IsBegun, Gets, Removes, Inserts, TriesToInsert, Computes, Updates, UpdatesOrInserts, TriesToInsertWith, RemovesIf}
-use Rattle.papaya_sifts.specs.Given.Owned.Ending.{GoesOn, Tells, Ends, RunsTo, stops, goes}
-use Rattle.papaya_sifts.specs.Given.Owned.Machines.{on_key_after, on_key_plan, on_key_settled}
-use Rattle.papaya_sifts.specs.Given.Owned.declared.machines.OnKey.{OnKey}
-use Rattle.papaya_sifts.specs.Given.Owned.declared.machines.Stop.{Stop}
-use Rattle.papaya_sifts.specs.Given.Owned.declared.machines.Stop.TheVariants as stop
-use Rattle.papaya_sifts.proofs.Given.Owned.Runs.Steps.{may_step, ends_on}
+use Rattle.papaya_sifts.specs.Given.SeizeWordsMem.{Mem, Can, Took, value_at}
+use Rattle.papaya_sifts.specs.Given.SeizeWordsPlan.{Steps}
+use Rattle.papaya_sifts.specs.Given.SeizeWordsWord.{block_in}
+use Rattle.papaya_sifts.specs.Given.SeizeWordsDeclared.fault.Fault.{Fault}
+use Rattle.papaya_sifts.specs.Given.SeizeWordsDeclared.fault.Fault.TheVariants.{RemoveNothing}
+use Rattle.papaya_sifts.proofs.Given.SeizeWordsPlans.{may_as}
+use Rattle.papaya_sifts.specs.Given.SeizeDeclared.progress.Progress.{Progress}
+use Rattle.papaya_sifts.specs.Given.SeizeDeclared.progress.Progress.TheVariants as progress
+use Rattle.papaya_sifts.proofs.Given.SeizeRuleRows.Leaving.{steps_back}
+use Rattle.papaya_sifts.specs.Given.TablesDeclared.node.Node.{Node}
+use Rattle.papaya_sifts.specs.Given.RawCall.{call_plan}
+use Rattle.papaya_sifts.specs.Given.RawCallAsks.{with_absent, with_present, absent_told, present_told, replied, told_at}
+use Rattle.papaya_sifts.specs.Given.RawCallPoints.{standing}
+use Rattle.papaya_sifts.specs.Given.RawDeclared.machines.answer.Called.{Called}
+use Rattle.papaya_sifts.specs.Given.RawDeclared.machines.answer.Called.TheVariants as called
+use Rattle.papaya_sifts.specs.Given.RawDeclared.machines.answer.End.TheVariants as ends
+use Rattle.papaya_sifts.specs.Given.RawDeclared.machines.answer.KeyAnswer.{KeyAnswer}
+use Rattle.papaya_sifts.specs.Given.RawDeclared.machines.answer.KeyAnswer.TheVariants as answers
+use Rattle.papaya_sifts.specs.Given.RawDeclared.machines.answer.There.TheVariants as there
+use Rattle.papaya_sifts.specs.Given.RawDeclared.machines.asking.Asking.TheVariants as asking
+use Rattle.papaya_sifts.specs.Given.RawDeclared.machines.asking.Gap.{Gap}
+use Rattle.papaya_sifts.specs.Given.RawDeclared.machines.asking.Reply.{Reply}
+use Rattle.papaya_sifts.specs.Given.RawDeclared.machines.asking.Reply.TheVariants as reply
+use Rattle.papaya_sifts.specs.Given.RawDeclared.machines.asking.Takes.{Takes}
+use Rattle.papaya_sifts.specs.Given.RawDeclared.machines.asking.Takes.TheVariants as takes
+use Rattle.papaya_sifts.specs.Given.RawDeclared.machines.asking.Told.TheVariants as tells
+use Rattle.papaya_sifts.specs.Given.RawDeclared.machines.call.Calling.{Calling}
+use Rattle.papaya_sifts.specs.Given.RawDeclared.machines.call.Calling.TheVariants as at
+use Rattle.papaya_sifts.specs.Given.RawDeclared.machines.call.KeyCall.{KeyCall}
+use Rattle.papaya_sifts.specs.Given.CallersPairs.{Given}
+use Rattle.papaya_sifts.specs.Given.CallersTogether.{IsBegun, Gets, Removes, Inserts, TriesToInsert, Computes, Updates, UpdatesOrInserts, TriesToInsertWith, RemovesIf}
+use Rattle.papaya_sifts.specs.Given.OwnedEnding.{GoesOn, Tells, Ends, RunsTo, stops, goes}
+use Rattle.papaya_sifts.specs.Given.OwnedMachines.{on_key_after, on_key_plan, on_key_settled}
+use Rattle.papaya_sifts.specs.Given.OwnedDeclared.machines.OnKey.{OnKey}
+use Rattle.papaya_sifts.specs.Given.OwnedDeclared.machines.Stop.{Stop}
+use Rattle.papaya_sifts.specs.Given.OwnedDeclared.machines.Stop.TheVariants as stop
+use Rattle.papaya_sifts.proofs.Given.OwnedRuns.Steps.{may_step, ends_on}
 use Rattle.papaya_holds.specs.Came.{StandsAt, NoneCame, CameBy, TellsOwn, OwnsAt, Owns, HasOnly, HasCome, ComesWith}
 use Rattle.papaya_holds.specs.Promises.{CallsBegin, CallsStoreAlone, RepliesPutNone}
 use Rattle.papaya_holds.proofs.Calls.Goes.{TellsSo, ending_so, burying_so, gap_so}

@@ -2,33 +2,33 @@
 use Rattle.std.specs.Prelude.{◌==◌, ◌^◌, ◌<◌, Option, Some, None, Ok}
 use Rattle.std.proofs.Common.{◌≡◌, ◌≢◌, ℕ, Bool, true, false, ◌⊎◌, inl, inr, refl, sym, ◌∙◌, ap, subst, arith, eqb-true}
 use Rattle.std.proofs.lemmas.Bool.{eqb-false}
-use Rattle.papaya_sifts.specs.Given.SeizeWords.Mem.{Mem, Can, Took, IsFreeNumber, value_at, value_in, with_block, with_value, after as mem_after}
-use Rattle.papaya_sifts.specs.Given.SeizeWords.Op.{Out, Make, Found, Stored, Exchanged, Made, Taken, Roomed}
-use Rattle.papaya_sifts.specs.Given.SeizeWords.Plan.{May, Steps, Ends}
-use Rattle.papaya_sifts.specs.Given.SeizeWords.Word.{block_in}
-use Rattle.papaya_sifts.specs.Given.SeizeWords.declared.fault.Fault.TheVariants.{Memory}
-use Rattle.papaya_sifts.proofs.Given.SeizeWords.OneOwner.Operations.{made as made_by_step, taken, rewritten}
-use Rattle.papaya_sifts.specs.Given.Tables.declared.marks.TheConstants.{TOMBSTONE}
-use Rattle.papaya_sifts.specs.Given.Tables.declared.node.Node.{Node}
-use Rattle.papaya_sifts.specs.Given.Tables.declared.node.Node.TheVariants as node
-use Rattle.papaya_sifts.specs.Given.Resize.Copier.{copier_plan}
-use Rattle.papaya_sifts.specs.Given.Resize.Dispose.{dispose_plan}
-use Rattle.papaya_sifts.specs.Given.Resize.Lookup.{lookup_plan}
-use Rattle.papaya_sifts.specs.Given.Resize.NewTable.{new_table_plan}
-use Rattle.papaya_sifts.specs.Given.Resize.declared.lookup.Lookup.{Lookup}
-use Rattle.papaya_sifts.specs.Given.Raw.Call.{made, makes_of, dropped, looked, looks_for, first_made, next_made, disposed, helped, copied, plan_at}
-use Rattle.papaya_sifts.specs.Given.Raw.CallFills.{taken_back, filled, putting_by, fill_by, emptied, fills_with, given_up}
-use Rattle.papaya_sifts.specs.Given.Raw.CallPoints.{word_to, going, standing, over}
-use Rattle.papaya_sifts.specs.Given.Raw.Replies.{value_for, as_own}
-use Rattle.papaya_sifts.specs.Given.Raw.declared.machines.answer.Called.{Called}
-use Rattle.papaya_sifts.specs.Given.Raw.declared.machines.answer.End.TheVariants as ends
-use Rattle.papaya_sifts.specs.Given.Raw.declared.machines.answer.KeyAnswer.TheVariants as answers
-use Rattle.papaya_sifts.specs.Given.Raw.declared.machines.answer.There.TheVariants as there
-use Rattle.papaya_sifts.specs.Given.Raw.declared.machines.asking.Asking.TheVariants as asking
-use Rattle.papaya_sifts.specs.Given.Raw.declared.machines.call.Calling.{Calling}
-use Rattle.papaya_sifts.specs.Given.Raw.declared.machines.call.Calling.TheVariants as at
-use Rattle.papaya_sifts.specs.Given.Raw.declared.machines.call.KeyCall.{KeyCall}
-use Rattle.papaya_sifts.proofs.Given.Rule.Keys.Always.{Always, AlwaysOf, always_plan_as, always_steps}
+use Rattle.papaya_sifts.specs.Given.SeizeWordsMem.{Mem, Can, Took, IsFreeNumber, value_at, value_in, with_block, with_value, after as mem_after}
+use Rattle.papaya_sifts.specs.Given.SeizeWordsOp.{Out, Make, Found, Stored, Exchanged, Made, Taken, Roomed}
+use Rattle.papaya_sifts.specs.Given.SeizeWordsPlan.{May, Steps, Ends}
+use Rattle.papaya_sifts.specs.Given.SeizeWordsWord.{block_in}
+use Rattle.papaya_sifts.specs.Given.SeizeWordsDeclared.fault.Fault.TheVariants.{Memory}
+use Rattle.papaya_sifts.proofs.Given.SeizeWordsOneOwner.Operations.{made as made_by_step, taken, rewritten}
+use Rattle.papaya_sifts.specs.Given.TablesDeclared.marks.TheConstants.{TOMBSTONE}
+use Rattle.papaya_sifts.specs.Given.TablesDeclared.node.Node.{Node}
+use Rattle.papaya_sifts.specs.Given.TablesDeclared.node.Node.TheVariants as node
+use Rattle.papaya_sifts.specs.Given.ResizeCopier.{copier_plan}
+use Rattle.papaya_sifts.specs.Given.ResizeDispose.{dispose_plan}
+use Rattle.papaya_sifts.specs.Given.ResizeLookup.{lookup_plan}
+use Rattle.papaya_sifts.specs.Given.ResizeNewTable.{new_table_plan}
+use Rattle.papaya_sifts.specs.Given.ResizeDeclared.lookup.Lookup.{Lookup}
+use Rattle.papaya_sifts.specs.Given.RawCall.{made, makes_of, dropped, looked, looks_for, first_made, next_made, disposed, helped, copied, plan_at}
+use Rattle.papaya_sifts.specs.Given.RawCallFills.{taken_back, filled, putting_by, fill_by, emptied, fills_with, given_up}
+use Rattle.papaya_sifts.specs.Given.RawCallPoints.{word_to, going, standing, over}
+use Rattle.papaya_sifts.specs.Given.RawReplies.{value_for, as_own}
+use Rattle.papaya_sifts.specs.Given.RawDeclared.machines.answer.Called.{Called}
+use Rattle.papaya_sifts.specs.Given.RawDeclared.machines.answer.End.TheVariants as ends
+use Rattle.papaya_sifts.specs.Given.RawDeclared.machines.answer.KeyAnswer.TheVariants as answers
+use Rattle.papaya_sifts.specs.Given.RawDeclared.machines.answer.There.TheVariants as there
+use Rattle.papaya_sifts.specs.Given.RawDeclared.machines.asking.Asking.TheVariants as asking
+use Rattle.papaya_sifts.specs.Given.RawDeclared.machines.call.Calling.{Calling}
+use Rattle.papaya_sifts.specs.Given.RawDeclared.machines.call.Calling.TheVariants as at
+use Rattle.papaya_sifts.specs.Given.RawDeclared.machines.call.KeyCall.{KeyCall}
+use Rattle.papaya_sifts.proofs.Given.RuleKeys.Always.{Always, AlwaysOf, always_plan_as, always_steps}
 use Rattle.papaya_holds.specs.Came.{StandsAt, NoneCame, OwnsAt, Owns, HasOnly}
 use Rattle.papaya_holds.proofs.Calls.Goes.{TellsSo, GoesWith, on_to, over_so, counted_so, looked_so, first_so, next_so, helped_so, copied_so, disposed_so, root_so, nexts_so, found_so, tried_so, told_over}
 use Rattle.papaya_holds.proofs.Runs.Machines.{lookup_puts, table_puts, copier_puts, dispose_puts}

@@ -3,15 +3,15 @@ use Rattle.std.specs.Prelude.{◌≡◌, ℕ, ◌<◌, ◌==◌, Bool, true, fal
 use Rattle.std.proofs.Common.{refl, sym, ◌∙◌, ap, subst, arith, inl, inr}
 use Rattle.std.proofs.lemmas.Bool.{cases_eq, eq-eqb, ne_eqb}
 use Rattle.std.proofs.lemmas.List.Sorted.{IsPermutation-trans, IsPermutation-cons, IsPermutation-append_left}
-use Rattle.papaya_sifts.specs.Given.SeizeWords.Mem.{Mem, value_at}
-use Rattle.papaya_sifts.specs.Given.SeizeWords.Word.{block_in}
-use Rattle.papaya_sifts.specs.Given.Seize.World.{times}
-use Rattle.papaya_sifts.specs.Given.Tables.declared.node.Node.{Node}
-use Rattle.papaya_sifts.specs.Given.Raw.declared.machines.answer.KeyAnswer.{KeyAnswer}
-use Rattle.papaya_sifts.specs.Given.Raw.declared.machines.answer.KeyAnswer.TheVariants as answers
-use Rattle.papaya_sifts.proofs.Given.Finishes.Ends.CountedBlocks.{times_other, some_here}
-use Rattle.papaya_sifts.specs.Given.Owned.Standing.{Standing}
-use Rattle.papaya_sifts.proofs.Given.Owned.Owned.Standing.{pairs_stand}
+use Rattle.papaya_sifts.specs.Given.SeizeWordsMem.{Mem, value_at}
+use Rattle.papaya_sifts.specs.Given.SeizeWordsWord.{block_in}
+use Rattle.papaya_sifts.specs.Given.SeizeWorld.{times}
+use Rattle.papaya_sifts.specs.Given.TablesDeclared.node.Node.{Node}
+use Rattle.papaya_sifts.specs.Given.RawDeclared.machines.answer.KeyAnswer.{KeyAnswer}
+use Rattle.papaya_sifts.specs.Given.RawDeclared.machines.answer.KeyAnswer.TheVariants as answers
+use Rattle.papaya_sifts.proofs.Given.FinishesEnds.CountedBlocks.{times_other, some_here}
+use Rattle.papaya_sifts.specs.Given.OwnedStanding.{Standing}
+use Rattle.papaya_sifts.proofs.Given.OwnedOwned.Standing.{pairs_stand}
 use Rattle.papaya_holds.specs.Balances.{HasJust, Balances, HasStored}
 use Rattle.papaya_holds.specs.Came.{StandsAt, NoneCame, NoneCameBut, CameBy}
 use Rattle.papaya_holds.specs.Promises.{WhatLeavesBalances, AnswersBalance}

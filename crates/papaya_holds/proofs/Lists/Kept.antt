@@ -3,15 +3,15 @@ use Rattle.std.specs.Prelude.{◌≡◌, ℕ, ◌<◌, Bool, false, cond, List, 
 use Rattle.std.proofs.Common.{refl, sym, ◌∙◌, ap, subst, arith, inl, inr}
 use Rattle.std.proofs.lemmas.Bool.{cases_eq, eq-eqb, ne_eqb}
 use Rattle.std.proofs.lemmas.List.Sorted.{IsPermutation-trans, IsPermutation-append_right, length_permutation}
-use Rattle.papaya_sifts.specs.Given.SeizeWords.Mem.{Mem, value_at}
-use Rattle.papaya_sifts.specs.Given.SeizeWords.Word.{block_in}
-use Rattle.papaya_sifts.specs.Given.Seize.World.{times}
-use Rattle.papaya_sifts.specs.Given.Tables.declared.node.Node.{Node}
-use Rattle.papaya_sifts.specs.Given.Tables.declared.node.Node.TheVariants as node
-use Rattle.papaya_sifts.specs.Given.Raw.declared.machines.answer.KeyAnswer.{KeyAnswer}
-use Rattle.papaya_sifts.specs.Given.Raw.declared.machines.answer.KeyAnswer.TheVariants as answers
-use Rattle.papaya_sifts.proofs.Given.Finishes.Ends.CountedBlocks.{times-append, times_other, some_here}
-use Rattle.papaya_sifts.specs.Given.Owned.Standing.{Standing}
+use Rattle.papaya_sifts.specs.Given.SeizeWordsMem.{Mem, value_at}
+use Rattle.papaya_sifts.specs.Given.SeizeWordsWord.{block_in}
+use Rattle.papaya_sifts.specs.Given.SeizeWorld.{times}
+use Rattle.papaya_sifts.specs.Given.TablesDeclared.node.Node.{Node}
+use Rattle.papaya_sifts.specs.Given.TablesDeclared.node.Node.TheVariants as node
+use Rattle.papaya_sifts.specs.Given.RawDeclared.machines.answer.KeyAnswer.{KeyAnswer}
+use Rattle.papaya_sifts.specs.Given.RawDeclared.machines.answer.KeyAnswer.TheVariants as answers
+use Rattle.papaya_sifts.proofs.Given.FinishesEnds.CountedBlocks.{times-append, times_other, some_here}
+use Rattle.papaya_sifts.specs.Given.OwnedStanding.{Standing}
 use Rattle.papaya_holds.specs.Balances.{HasJust}
 use Rattle.papaya_holds.specs.Came.{StandsAt, NoneCame, NoneCameBut, CameBy, stored_by}
 use Rattle.papaya_holds.specs.Held.{HoldsOn, held_in, pair_at_word, with_pair}

@@ -3,8 +3,8 @@ use Rattle.std.specs.Prelude.{List, [], ◌++◌, IsPermutation}
 use Rattle.std.proofs.Common.{sym, subst}
 use Rattle.std.proofs.lemmas.List.{append_assoc}
 use Rattle.std.proofs.lemmas.List.Sorted.{IsPermutation-refl, IsPermutation-trans, IsPermutation-append_left, IsPermutation-append_right}
-use Rattle.papaya_sifts.specs.Given.SeizeWords.Mem.{Mem}
-use Rattle.papaya_sifts.specs.Given.Tables.declared.node.Node.{Node}
+use Rattle.papaya_sifts.specs.Given.SeizeWordsMem.{Mem}
+use Rattle.papaya_sifts.specs.Given.TablesDeclared.node.Node.{Node}
 use Rattle.papaya_holds.specs.Balances.{Balances}
 use Rattle.papaya_holds.specs.Lives.{Lives, made, changed, called, LivesBalance}
 use Rattle.papaya_holds.proofs.Lists.Balance.{what_leaves_balances, answers_balance}

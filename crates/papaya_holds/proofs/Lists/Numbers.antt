@@ -4,13 +4,13 @@ use Rattle.std.proofs.Common.{refl, sym, ◌∙◌, ap, subst, arith, inl, inr}
 use Rattle.std.proofs.lemmas.Bool.{cases_eq, ne_eqb}
 use Rattle.std.proofs.lemmas.List.{append-nil}
 use Rattle.std.proofs.lemmas.List.Sorted.{IsPermutation-sym}
-use Rattle.papaya_sifts.specs.Given.SeizeWords.Mem.{Mem, value_at, value_in}
-use Rattle.papaya_sifts.specs.Given.SeizeWords.declared.block.Block.{Block}
-use Rattle.papaya_sifts.specs.Given.Seize.World.{times}
-use Rattle.papaya_sifts.specs.Given.Tables.declared.node.Node.{Node}
-use Rattle.papaya_sifts.specs.Given.Tables.declared.node.Node.TheVariants as node
-use Rattle.papaya_sifts.proofs.Given.Finishes.Ends.CountedBlocks.{times-append, times_other, some_here}
-use Rattle.papaya_sifts.specs.Given.Owned.Standing.{Standing}
+use Rattle.papaya_sifts.specs.Given.SeizeWordsMem.{Mem, value_at, value_in}
+use Rattle.papaya_sifts.specs.Given.SeizeWordsDeclared.block.Block.{Block}
+use Rattle.papaya_sifts.specs.Given.SeizeWorld.{times}
+use Rattle.papaya_sifts.specs.Given.TablesDeclared.node.Node.{Node}
+use Rattle.papaya_sifts.specs.Given.TablesDeclared.node.Node.TheVariants as node
+use Rattle.papaya_sifts.proofs.Given.FinishesEnds.CountedBlocks.{times-append, times_other, some_here}
+use Rattle.papaya_sifts.specs.Given.OwnedStanding.{Standing}
 use Rattle.papaya_holds.specs.Balances.{HasJust}
 use Rattle.papaya_holds.specs.Came.{StandsAt}
 use Rattle.papaya_holds.specs.Held.{with_pair, pairs_among, held_in}

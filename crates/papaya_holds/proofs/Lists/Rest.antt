@@ -3,12 +3,12 @@ use Rattle.std.specs.Prelude.{◌≡◌, ◌≢◌, ℕ, ◌+◌, ◌<◌, ◌==
 use Rattle.std.proofs.Common.{refl, sym, ◌∙◌, ap, subst, arith, inl, inr}
 use Rattle.std.proofs.lemmas.Bool.{cases_eq}
 use Rattle.std.proofs.lemmas.List.Sorted.{IsPermutation-refl, IsPermutation-trans, IsPermutation-cons, IsPermutation-append_comm, IsPermutation-append_left}
-use Rattle.papaya_sifts.specs.Given.SeizeWords.Mem.{Mem}
-use Rattle.papaya_sifts.specs.Given.Seize.World.{times}
-use Rattle.papaya_sifts.specs.Given.Tables.declared.node.Node.{Node}
-use Rattle.papaya_sifts.specs.Given.Tables.declared.node.Node.TheVariants as node
-use Rattle.papaya_sifts.proofs.Given.Finishes.Ends.CountedBlocks.{times_other, some_here}
-use Rattle.papaya_sifts.specs.Given.Owned.Standing.{Standing}
+use Rattle.papaya_sifts.specs.Given.SeizeWordsMem.{Mem}
+use Rattle.papaya_sifts.specs.Given.SeizeWorld.{times}
+use Rattle.papaya_sifts.specs.Given.TablesDeclared.node.Node.{Node}
+use Rattle.papaya_sifts.specs.Given.TablesDeclared.node.Node.TheVariants as node
+use Rattle.papaya_sifts.proofs.Given.FinishesEnds.CountedBlocks.{times_other, some_here}
+use Rattle.papaya_sifts.specs.Given.OwnedStanding.{Standing}
 use Rattle.papaya_holds.specs.Came.{StandsAt}
 
 -- one value is one pair

@@ -1,29 +1,29 @@
 -- A step of a refresh, or of a retirement, that takes a block away hands its value out.
 use Rattle.std.specs.Prelude.{◌≡◌, ℕ, ◌⊎◌, Some, None}
 use Rattle.std.proofs.Common.{refl, sym, ◌∙◌, ap, inl, inr}
-use Rattle.papaya_sifts.specs.Given.SeizeWords.Mem.{Mem, Can, Took, value_at, with_block}
-use Rattle.papaya_sifts.specs.Given.SeizeWords.Plan.{May, Steps}
-use Rattle.papaya_sifts.specs.Given.SeizeWords.Word.{block_in}
-use Rattle.papaya_sifts.proofs.Given.SeizeWords.OneOwner.Operations.{taken}
-use Rattle.papaya_sifts.proofs.Given.SeizeWords.Plans.{may_as}
-use Rattle.papaya_sifts.specs.Given.Seize.Leave.{leave_plan}
-use Rattle.papaya_sifts.specs.Given.Seize.Leave as leaves
-use Rattle.papaya_sifts.specs.Given.Seize.Settle.{settle_plan, given_back}
-use Rattle.papaya_sifts.specs.Given.Seize.Settle as settles
-use Rattle.papaya_sifts.specs.Given.Seize.declared.rows.leave.Leave.{Leave}
-use Rattle.papaya_sifts.specs.Given.Seize.declared.rows.leave.Leaving.{Leaving}
-use Rattle.papaya_sifts.specs.Given.Seize.declared.rows.leave.Leaving.TheVariants as leaving
-use Rattle.papaya_sifts.specs.Given.Seize.declared.rows.settle.Settle.{Settle}
-use Rattle.papaya_sifts.specs.Given.Seize.declared.rows.settle.Settled.{Settled}
-use Rattle.papaya_sifts.specs.Given.Seize.declared.rows.settle.Settled.TheVariants as settled
-use Rattle.papaya_sifts.specs.Given.Seize.declared.rows.settle.Settling.{Settling}
-use Rattle.papaya_sifts.specs.Given.Seize.declared.rows.settle.Settling.TheVariants as settling
-use Rattle.papaya_sifts.proofs.Given.SeizeRule.Rows.Leaving.{steps_back}
-use Rattle.papaya_sifts.specs.Given.Tables.Nodes.{deferred_word}
-use Rattle.papaya_sifts.specs.Given.Tables.declared.node.Node.{Node}
-use Rattle.papaya_sifts.specs.Given.Tables.declared.node.Node.TheVariants as node
-use Rattle.papaya_sifts.proofs.Given.Points.Values.Kept.{SameValues, IsPlainStep, plain_keeps}
-use Rattle.papaya_sifts.proofs.Given.Points.Values.Left.{leaves_taken}
+use Rattle.papaya_sifts.specs.Given.SeizeWordsMem.{Mem, Can, Took, value_at, with_block}
+use Rattle.papaya_sifts.specs.Given.SeizeWordsPlan.{May, Steps}
+use Rattle.papaya_sifts.specs.Given.SeizeWordsWord.{block_in}
+use Rattle.papaya_sifts.proofs.Given.SeizeWordsOneOwner.Operations.{taken}
+use Rattle.papaya_sifts.proofs.Given.SeizeWordsPlans.{may_as}
+use Rattle.papaya_sifts.specs.Given.SeizeLeave.{leave_plan}
+use Rattle.papaya_sifts.specs.Given.SeizeLeave as leaves
+use Rattle.papaya_sifts.specs.Given.SeizeSettle.{settle_plan, given_back}
+use Rattle.papaya_sifts.specs.Given.SeizeSettle as settles
+use Rattle.papaya_sifts.specs.Given.SeizeDeclared.rows.leave.Leave.{Leave}
+use Rattle.papaya_sifts.specs.Given.SeizeDeclared.rows.leave.Leaving.{Leaving}
+use Rattle.papaya_sifts.specs.Given.SeizeDeclared.rows.leave.Leaving.TheVariants as leaving
+use Rattle.papaya_sifts.specs.Given.SeizeDeclared.rows.settle.Settle.{Settle}
+use Rattle.papaya_sifts.specs.Given.SeizeDeclared.rows.settle.Settled.{Settled}
+use Rattle.papaya_sifts.specs.Given.SeizeDeclared.rows.settle.Settled.TheVariants as settled
+use Rattle.papaya_sifts.specs.Given.SeizeDeclared.rows.settle.Settling.{Settling}
+use Rattle.papaya_sifts.specs.Given.SeizeDeclared.rows.settle.Settling.TheVariants as settling
+use Rattle.papaya_sifts.proofs.Given.SeizeRuleRows.Leaving.{steps_back}
+use Rattle.papaya_sifts.specs.Given.TablesNodes.{deferred_word}
+use Rattle.papaya_sifts.specs.Given.TablesDeclared.node.Node.{Node}
+use Rattle.papaya_sifts.specs.Given.TablesDeclared.node.Node.TheVariants as node
+use Rattle.papaya_sifts.proofs.Given.PointsValues.Kept.{SameValues, IsPlainStep, plain_keeps}
+use Rattle.papaya_sifts.proofs.Given.PointsValues.Left.{leaves_taken}
 use Rattle.papaya_holds.specs.Came.{StandsAt, HandsOut}
 use Rattle.papaya_holds.specs.Promises.{RowsHandOut}
 

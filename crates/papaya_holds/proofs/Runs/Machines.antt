@@ -1,64 +1,64 @@
 -- No machine but a call on one key puts a pair into a block, at whatever point it stands.
 use Rattle.std.specs.Prelude.{ℕ, Bool}
-use Rattle.papaya_sifts.specs.Given.Seize.Defer.{defer_plan}
-use Rattle.papaya_sifts.specs.Given.Seize.Defer as defers
-use Rattle.papaya_sifts.specs.Given.Seize.Leave.{leave_plan}
-use Rattle.papaya_sifts.specs.Given.Seize.Leave as leaves
-use Rattle.papaya_sifts.specs.Given.Seize.Settle.{settle_plan}
-use Rattle.papaya_sifts.specs.Given.Seize.Settle as settles
-use Rattle.papaya_sifts.specs.Given.Seize.declared.rows.defer.Defer.{Defer}
-use Rattle.papaya_sifts.specs.Given.Seize.declared.rows.defer.Deferring.{Deferring}
-use Rattle.papaya_sifts.specs.Given.Seize.declared.rows.defer.Deferring.TheVariants as deferring
-use Rattle.papaya_sifts.specs.Given.Seize.declared.rows.leave.Leave.{Leave}
-use Rattle.papaya_sifts.specs.Given.Seize.declared.rows.leave.Leaving.{Leaving}
-use Rattle.papaya_sifts.specs.Given.Seize.declared.rows.leave.Leaving.TheVariants as leaving
-use Rattle.papaya_sifts.specs.Given.Seize.declared.rows.settle.Settle.{Settle}
-use Rattle.papaya_sifts.specs.Given.Seize.declared.rows.settle.Settling.{Settling}
-use Rattle.papaya_sifts.specs.Given.Seize.declared.rows.settle.Settling.TheVariants as settling
-use Rattle.papaya_sifts.specs.Given.Tables.Nodes.{deferred_word}
-use Rattle.papaya_sifts.specs.Given.Tables.declared.node.Node.{Node}
-use Rattle.papaya_sifts.specs.Given.Resize.Copier.{copier_plan}
-use Rattle.papaya_sifts.specs.Given.Resize.Copier as copiers
-use Rattle.papaya_sifts.specs.Given.Resize.CopierFurther.{grown, remade}
-use Rattle.papaya_sifts.specs.Given.Resize.CopierPromotes.{retired}
-use Rattle.papaya_sifts.specs.Given.Resize.Dispose.{dispose_plan}
-use Rattle.papaya_sifts.specs.Given.Resize.Dispose as disposes
-use Rattle.papaya_sifts.specs.Given.Resize.Lookup.{lookup_plan}
-use Rattle.papaya_sifts.specs.Given.Resize.Lookup as lookups
-use Rattle.papaya_sifts.specs.Given.Resize.NewMap.{new_map_plan}
-use Rattle.papaya_sifts.specs.Given.Resize.NewMap as maps
-use Rattle.papaya_sifts.specs.Given.Resize.NewTable.{new_table_plan}
-use Rattle.papaya_sifts.specs.Given.Resize.NewTable as tables
-use Rattle.papaya_sifts.specs.Given.Resize.Sum.{sum_plan}
-use Rattle.papaya_sifts.specs.Given.Resize.Sum as sums
-use Rattle.papaya_sifts.specs.Given.Resize.declared.copier.Copier.{Copier}
-use Rattle.papaya_sifts.specs.Given.Resize.declared.copier.Copying.{Copying}
-use Rattle.papaya_sifts.specs.Given.Resize.declared.copier.Copying.TheVariants as copying
-use Rattle.papaya_sifts.specs.Given.Resize.declared.dispose.Dispose.{Dispose}
-use Rattle.papaya_sifts.specs.Given.Resize.declared.dispose.Disposing.{Disposing}
-use Rattle.papaya_sifts.specs.Given.Resize.declared.dispose.Disposing.TheVariants as disposing
-use Rattle.papaya_sifts.specs.Given.Resize.declared.lookup.Lookup.{Lookup}
-use Rattle.papaya_sifts.specs.Given.Resize.declared.lookup.Looking.{Looking}
-use Rattle.papaya_sifts.specs.Given.Resize.declared.lookup.Looking.TheVariants as looking
-use Rattle.papaya_sifts.specs.Given.Resize.declared.new_map.NewMap.{NewMap}
-use Rattle.papaya_sifts.specs.Given.Resize.declared.new_map.Opening.{Opening}
-use Rattle.papaya_sifts.specs.Given.Resize.declared.new_map.Opening.TheVariants as opening
-use Rattle.papaya_sifts.specs.Given.Resize.declared.new_table.NewTable.{NewTable}
-use Rattle.papaya_sifts.specs.Given.Resize.declared.new_table.Making.{Making}
-use Rattle.papaya_sifts.specs.Given.Resize.declared.new_table.Making.TheVariants as making
-use Rattle.papaya_sifts.specs.Given.Resize.declared.sum.Sum.{Sum}
-use Rattle.papaya_sifts.specs.Given.Resize.declared.sum.Summing.{Summing}
-use Rattle.papaya_sifts.specs.Given.Resize.declared.sum.Summing.TheVariants as summing
-use Rattle.papaya_sifts.specs.Given.Reserves.Reserve.{reserve_plan}
-use Rattle.papaya_sifts.specs.Given.Reserves.Reserve as reserves
-use Rattle.papaya_sifts.specs.Given.Reserves.declared.reserve.Reserve.{Reserve}
-use Rattle.papaya_sifts.specs.Given.Reserves.declared.reserve.Reserving.{Reserving}
-use Rattle.papaya_sifts.specs.Given.Reserves.declared.reserve.Reserving.TheVariants as reserving
-use Rattle.papaya_sifts.specs.Given.Sweeps.Sweep.{sweep_plan}
-use Rattle.papaya_sifts.specs.Given.Sweeps.Sweep as sweeps
-use Rattle.papaya_sifts.specs.Given.Sweeps.declared.sweep.Sweep.{Sweep}
-use Rattle.papaya_sifts.specs.Given.Sweeps.declared.sweep.Sweeping.{Sweeping}
-use Rattle.papaya_sifts.specs.Given.Sweeps.declared.sweep.Sweeping.TheVariants as sweeping
+use Rattle.papaya_sifts.specs.Given.SeizeDefer.{defer_plan}
+use Rattle.papaya_sifts.specs.Given.SeizeDefer as defers
+use Rattle.papaya_sifts.specs.Given.SeizeLeave.{leave_plan}
+use Rattle.papaya_sifts.specs.Given.SeizeLeave as leaves
+use Rattle.papaya_sifts.specs.Given.SeizeSettle.{settle_plan}
+use Rattle.papaya_sifts.specs.Given.SeizeSettle as settles
+use Rattle.papaya_sifts.specs.Given.SeizeDeclared.rows.defer.Defer.{Defer}
+use Rattle.papaya_sifts.specs.Given.SeizeDeclared.rows.defer.Deferring.{Deferring}
+use Rattle.papaya_sifts.specs.Given.SeizeDeclared.rows.defer.Deferring.TheVariants as deferring
+use Rattle.papaya_sifts.specs.Given.SeizeDeclared.rows.leave.Leave.{Leave}
+use Rattle.papaya_sifts.specs.Given.SeizeDeclared.rows.leave.Leaving.{Leaving}
+use Rattle.papaya_sifts.specs.Given.SeizeDeclared.rows.leave.Leaving.TheVariants as leaving
+use Rattle.papaya_sifts.specs.Given.SeizeDeclared.rows.settle.Settle.{Settle}
+use Rattle.papaya_sifts.specs.Given.SeizeDeclared.rows.settle.Settling.{Settling}
+use Rattle.papaya_sifts.specs.Given.SeizeDeclared.rows.settle.Settling.TheVariants as settling
+use Rattle.papaya_sifts.specs.Given.TablesNodes.{deferred_word}
+use Rattle.papaya_sifts.specs.Given.TablesDeclared.node.Node.{Node}
+use Rattle.papaya_sifts.specs.Given.ResizeCopier.{copier_plan}
+use Rattle.papaya_sifts.specs.Given.ResizeCopier as copiers
+use Rattle.papaya_sifts.specs.Given.ResizeCopierFurther.{grown, remade}
+use Rattle.papaya_sifts.specs.Given.ResizeCopierPromotes.{retired}
+use Rattle.papaya_sifts.specs.Given.ResizeDispose.{dispose_plan}
+use Rattle.papaya_sifts.specs.Given.ResizeDispose as disposes
+use Rattle.papaya_sifts.specs.Given.ResizeLookup.{lookup_plan}
+use Rattle.papaya_sifts.specs.Given.ResizeLookup as lookups
+use Rattle.papaya_sifts.specs.Given.ResizeNewMap.{new_map_plan}
+use Rattle.papaya_sifts.specs.Given.ResizeNewMap as maps
+use Rattle.papaya_sifts.specs.Given.ResizeNewTable.{new_table_plan}
+use Rattle.papaya_sifts.specs.Given.ResizeNewTable as tables
+use Rattle.papaya_sifts.specs.Given.ResizeSum.{sum_plan}
+use Rattle.papaya_sifts.specs.Given.ResizeSum as sums
+use Rattle.papaya_sifts.specs.Given.ResizeDeclared.copier.Copier.{Copier}
+use Rattle.papaya_sifts.specs.Given.ResizeDeclared.copier.Copying.{Copying}
+use Rattle.papaya_sifts.specs.Given.ResizeDeclared.copier.Copying.TheVariants as copying
+use Rattle.papaya_sifts.specs.Given.ResizeDeclared.dispose.Dispose.{Dispose}
+use Rattle.papaya_sifts.specs.Given.ResizeDeclared.dispose.Disposing.{Disposing}
+use Rattle.papaya_sifts.specs.Given.ResizeDeclared.dispose.Disposing.TheVariants as disposing
+use Rattle.papaya_sifts.specs.Given.ResizeDeclared.lookup.Lookup.{Lookup}
+use Rattle.papaya_sifts.specs.Given.ResizeDeclared.lookup.Looking.{Looking}
+use Rattle.papaya_sifts.specs.Given.ResizeDeclared.lookup.Looking.TheVariants as looking
+use Rattle.papaya_sifts.specs.Given.ResizeDeclared.new_map.NewMap.{NewMap}
+use Rattle.papaya_sifts.specs.Given.ResizeDeclared.new_map.Opening.{Opening}
+use Rattle.papaya_sifts.specs.Given.ResizeDeclared.new_map.Opening.TheVariants as opening
+use Rattle.papaya_sifts.specs.Given.ResizeDeclared.new_table.NewTable.{NewTable}
+use Rattle.papaya_sifts.specs.Given.ResizeDeclared.new_table.Making.{Making}
+use Rattle.papaya_sifts.specs.Given.ResizeDeclared.new_table.Making.TheVariants as making
+use Rattle.papaya_sifts.specs.Given.ResizeDeclared.sum.Sum.{Sum}
+use Rattle.papaya_sifts.specs.Given.ResizeDeclared.sum.Summing.{Summing}
+use Rattle.papaya_sifts.specs.Given.ResizeDeclared.sum.Summing.TheVariants as summing
+use Rattle.papaya_sifts.specs.Given.ReservesReserve.{reserve_plan}
+use Rattle.papaya_sifts.specs.Given.ReservesReserve as reserves
+use Rattle.papaya_sifts.specs.Given.ReservesDeclared.reserve.Reserve.{Reserve}
+use Rattle.papaya_sifts.specs.Given.ReservesDeclared.reserve.Reserving.{Reserving}
+use Rattle.papaya_sifts.specs.Given.ReservesDeclared.reserve.Reserving.TheVariants as reserving
+use Rattle.papaya_sifts.specs.Given.SweepsSweep.{sweep_plan}
+use Rattle.papaya_sifts.specs.Given.SweepsSweep as sweeps
+use Rattle.papaya_sifts.specs.Given.SweepsDeclared.sweep.Sweep.{Sweep}
+use Rattle.papaya_sifts.specs.Given.SweepsDeclared.sweep.Sweeping.{Sweeping}
+use Rattle.papaya_sifts.specs.Given.SweepsDeclared.sweep.Sweeping.TheVariants as sweeping
 use Rattle.papaya_holds.proofs.Runs.Puts.{PutsNoneBy, puts_as}
 
 module _ (K V : Type 0) where

@@ -1,18 +1,18 @@
 -- Runs of machines that put no pair into a block, and what they leave.
 use Rattle.std.specs.Prelude.{[], Result}
-use Rattle.papaya_sifts.specs.Given.SeizeWords.Mem.{Mem}
-use Rattle.papaya_sifts.specs.Given.SeizeWords.Plan.{Plan}
-use Rattle.papaya_sifts.specs.Given.SeizeWords.declared.fault.Fault.{Fault}
-use Rattle.papaya_sifts.specs.Given.Seize.Leave.{leave_plan}
-use Rattle.papaya_sifts.specs.Given.Seize.declared.progress.Progress.{Progress}
-use Rattle.papaya_sifts.specs.Given.Tables.Nodes.{deferred_word}
-use Rattle.papaya_sifts.specs.Given.Tables.declared.node.Node.{Node}
-use Rattle.papaya_sifts.specs.Given.Resize.NewMap.{new_map_plan}
-use Rattle.papaya_sifts.specs.Given.Reserves.Reserve.{reserve_plan}
-use Rattle.papaya_sifts.specs.Given.Sweeps.Sweep.{sweep_plan}
-use Rattle.papaya_sifts.specs.Given.Owned.Ending.{Ends, RunsTo, stops, goes}
-use Rattle.papaya_sifts.specs.Given.Owned.Machines.{for_room_after, for_room_plan, refreshes_after, refreshes_plan}
-use Rattle.papaya_sifts.proofs.Given.Owned.Runs.Steps.{may_step, ends_on}
+use Rattle.papaya_sifts.specs.Given.SeizeWordsMem.{Mem}
+use Rattle.papaya_sifts.specs.Given.SeizeWordsPlan.{Plan}
+use Rattle.papaya_sifts.specs.Given.SeizeWordsDeclared.fault.Fault.{Fault}
+use Rattle.papaya_sifts.specs.Given.SeizeLeave.{leave_plan}
+use Rattle.papaya_sifts.specs.Given.SeizeDeclared.progress.Progress.{Progress}
+use Rattle.papaya_sifts.specs.Given.TablesNodes.{deferred_word}
+use Rattle.papaya_sifts.specs.Given.TablesDeclared.node.Node.{Node}
+use Rattle.papaya_sifts.specs.Given.ResizeNewMap.{new_map_plan}
+use Rattle.papaya_sifts.specs.Given.ReservesReserve.{reserve_plan}
+use Rattle.papaya_sifts.specs.Given.SweepsSweep.{sweep_plan}
+use Rattle.papaya_sifts.specs.Given.OwnedEnding.{Ends, RunsTo, stops, goes}
+use Rattle.papaya_sifts.specs.Given.OwnedMachines.{for_room_after, for_room_plan, refreshes_after, refreshes_plan}
+use Rattle.papaya_sifts.proofs.Given.OwnedRuns.Steps.{may_step, ends_on}
 use Rattle.papaya_sifts.specs.Sweeping.{over_pairs_after, over_pairs_plan}
 use Rattle.papaya_holds.specs.Came.{NoneCame}
 use Rattle.papaya_holds.specs.Promises.{RoomsPutNone, SweepsPutNone, RefreshesPutNone, MakingsPutNone}

@@ -2,16 +2,16 @@
 use Rattle.std.specs.Prelude.{◌≡◌, ◌≢◌, ℕ, ◌==◌, ◌⊎◌, Bool, Some, None, Ok, if◌then◌else◌}
 use Rattle.std.proofs.Common.{refl, sym, ◌∙◌, ap, subst, inl, inr}
 use Rattle.std.proofs.lemmas.Bool.{cases_eq, eq-eqb, ne_eqb}
-use Rattle.papaya_sifts.specs.Given.SeizeWords.Mem.{Mem, Can, Took, IsFreeNumber, value_at, with_block, with_value, after as mem_after}
-use Rattle.papaya_sifts.specs.Given.SeizeWords.Op.{Op, Load, Store, Swap, Add, Or, Exchange, Make, Take, Rewrite, Room, Made}
-use Rattle.papaya_sifts.specs.Given.SeizeWords.Plan.{Plan, Turn, Do, May, Steps, plan_as}
-use Rattle.papaya_sifts.proofs.Given.SeizeWords.OneOwner.AfterWrites.{value_at-with_value}
-use Rattle.papaya_sifts.proofs.Given.SeizeWords.OneOwner.Operations.{made, taken, rewritten, roomed}
-use Rattle.papaya_sifts.specs.Given.Tables.declared.node.Node.{Node}
-use Rattle.papaya_sifts.specs.Given.Tables.declared.node.Node.TheVariants as node
-use Rattle.papaya_sifts.proofs.Given.Rule.Words.WritesWords.{is_some_of}
-use Rattle.papaya_sifts.proofs.Given.Points.Values.Kept.{SameValues, plain_keeps}
-use Rattle.papaya_sifts.proofs.Given.Points.Values.Left.{leaves_made, made_here, leaves_taken}
+use Rattle.papaya_sifts.specs.Given.SeizeWordsMem.{Mem, Can, Took, IsFreeNumber, value_at, with_block, with_value, after as mem_after}
+use Rattle.papaya_sifts.specs.Given.SeizeWordsOp.{Op, Load, Store, Swap, Add, Or, Exchange, Make, Take, Rewrite, Room, Made}
+use Rattle.papaya_sifts.specs.Given.SeizeWordsPlan.{Plan, Turn, Do, May, Steps, plan_as}
+use Rattle.papaya_sifts.proofs.Given.SeizeWordsOneOwner.AfterWrites.{value_at-with_value}
+use Rattle.papaya_sifts.proofs.Given.SeizeWordsOneOwner.Operations.{made, taken, rewritten, roomed}
+use Rattle.papaya_sifts.specs.Given.TablesDeclared.node.Node.{Node}
+use Rattle.papaya_sifts.specs.Given.TablesDeclared.node.Node.TheVariants as node
+use Rattle.papaya_sifts.proofs.Given.RuleWords.WritesWords.{is_some_of}
+use Rattle.papaya_sifts.proofs.Given.PointsValues.Kept.{SameValues, plain_keeps}
+use Rattle.papaya_sifts.proofs.Given.PointsValues.Left.{leaves_made, made_here, leaves_taken}
 use Rattle.papaya_holds.specs.Came.{StandsAt, NoneCame, NoneCameBut}
 
 module _ {K V : Type 0} where

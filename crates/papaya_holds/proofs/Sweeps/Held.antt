@@ -2,25 +2,25 @@
 use Rattle.std.specs.Prelude.{◌≡◌, ℕ, ◌<◌, ◌≤◌, Bool, true, List, Result}
 use Rattle.std.proofs.Common.{refl, sym, ◌∙◌, ap, arith}
 use denote.Ref.{Bor}
-use Rattle.papaya_sifts.specs.Given.SeizeWords.Mem.{Mem, Took, value_at}
-use Rattle.papaya_sifts.specs.Given.SeizeWords.Plan.{Steps}
-use Rattle.papaya_sifts.specs.Given.SeizeWords.declared.fault.Fault.{Fault}
-use Rattle.papaya_sifts.specs.Given.Seize.World.{World}
-use Rattle.papaya_sifts.specs.Given.Tables.declared.node.Node.{Node}
-use Rattle.papaya_sifts.specs.Given.Tables.declared.setting.Setting.{Setting}
-use Rattle.papaya_sifts.specs.Given.Sweeps.Sweep.{sweep_plan}
-use Rattle.papaya_sifts.specs.Given.Sweeps.declared.sweep.Purpose.{Purpose}
-use Rattle.papaya_sifts.specs.Given.Sweeps.declared.sweep.Sweep.{Sweep}
-use Rattle.papaya_sifts.specs.Given.Sweeps.declared.sweep.Swept.{Swept}
-use Rattle.papaya_sifts.specs.Given.Rule.Chart.{Chart}
-use Rattle.papaya_sifts.specs.Given.Rule.Words.{Blocks}
-use Rattle.papaya_sifts.specs.Given.Callers.OverAll.{CallOverAll, begun_over_all}
-use Rattle.papaya_sifts.specs.Given.Callers.Sights.{Sight}
-use Rattle.papaya_sifts.specs.Given.Callers.Together.{OverAll, in_slot}
-use Rattle.papaya_sifts.proofs.Given.Whole.Sweeps.Leads.{sweeps_go_on_alone}
-use Rattle.papaya_sifts.specs.Given.Whole.Owner.{IsAlone}
-use Rattle.papaya_sifts.specs.Given.Owned.Ending.{RunsTo}
-use Rattle.papaya_sifts.specs.Given.Owned.Owned.{Holds}
+use Rattle.papaya_sifts.specs.Given.SeizeWordsMem.{Mem, Took, value_at}
+use Rattle.papaya_sifts.specs.Given.SeizeWordsPlan.{Steps}
+use Rattle.papaya_sifts.specs.Given.SeizeWordsDeclared.fault.Fault.{Fault}
+use Rattle.papaya_sifts.specs.Given.SeizeWorld.{World}
+use Rattle.papaya_sifts.specs.Given.TablesDeclared.node.Node.{Node}
+use Rattle.papaya_sifts.specs.Given.TablesDeclared.setting.Setting.{Setting}
+use Rattle.papaya_sifts.specs.Given.SweepsSweep.{sweep_plan}
+use Rattle.papaya_sifts.specs.Given.SweepsDeclared.sweep.Purpose.{Purpose}
+use Rattle.papaya_sifts.specs.Given.SweepsDeclared.sweep.Sweep.{Sweep}
+use Rattle.papaya_sifts.specs.Given.SweepsDeclared.sweep.Swept.{Swept}
+use Rattle.papaya_sifts.specs.Given.RuleChart.{Chart}
+use Rattle.papaya_sifts.specs.Given.RuleWords.{Blocks}
+use Rattle.papaya_sifts.specs.Given.CallersOverAll.{CallOverAll, begun_over_all}
+use Rattle.papaya_sifts.specs.Given.CallersSights.{Sight}
+use Rattle.papaya_sifts.specs.Given.CallersTogether.{OverAll, in_slot}
+use Rattle.papaya_sifts.proofs.Given.WholeSweeps.Leads.{sweeps_go_on_alone}
+use Rattle.papaya_sifts.specs.Given.WholeOwner.{IsAlone}
+use Rattle.papaya_sifts.specs.Given.OwnedEnding.{RunsTo}
+use Rattle.papaya_sifts.specs.Given.OwnedOwned.{Holds}
 use Rattle.papaya_sifts.specs.Sweeping.{IsSweeping, over_pairs_plan}
 use Rattle.papaya_sifts.specs.declared.sweeping.OverPairs.{OverPairs}
 use Rattle.papaya_sifts.specs.declared.sweeping.Pause.{Pause}

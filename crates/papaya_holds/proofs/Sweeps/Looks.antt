@@ -2,33 +2,33 @@
 use Rattle.std.specs.Prelude.{◌≡◌, ℕ, ◌<◌, ◌≤◌, Bool, true}
 use Rattle.std.specs.Int.{IsPowerOfTwo}
 use Rattle.std.proofs.Common.{refl, ap, sym, subst, ◌∙◌, inl, inr, arith}
-use Rattle.papaya_sifts.specs.Given.SeizeWords.Mem.{Mem, Took, value_at}
-use Rattle.papaya_sifts.specs.Given.SeizeWords.Plan.{Steps}
-use Rattle.papaya_sifts.specs.Given.Seize.World.{World}
-use Rattle.papaya_sifts.proofs.Given.SeizeAlone.Histories.NotTaken.{IsKept, IsHeld, kept_value}
-use Rattle.papaya_sifts.specs.Given.Tables.Nodes.{deferred_word}
-use Rattle.papaya_sifts.specs.Given.Tables.declared.node.Node.{Node}
-use Rattle.papaya_sifts.specs.Given.Tables.declared.setting.Setting.{Setting}
-use Rattle.papaya_sifts.specs.Given.Sweeps.Sweep.{sweep_plan}
-use Rattle.papaya_sifts.specs.Given.Sweeps.declared.sweep.Sweep.{Sweep}
-use Rattle.papaya_sifts.specs.Given.Sweeps.declared.sweep.Swept.{Swept}
-use Rattle.papaya_sifts.specs.Given.Rule.Chart.{Chart}
-use Rattle.papaya_sifts.specs.Given.Rule.InWorld.{IsOut, IsMapIn}
-use Rattle.papaya_sifts.specs.Given.Rule.Words.{Blocks}
-use Rattle.papaya_sifts.proofs.Given.Points.MovedLasts.{moved_lasts}
-use Rattle.papaya_sifts.specs.Given.Points.Steps.{AreLawful}
-use Rattle.papaya_sifts.specs.Given.Late.ToldSweeps.{IsRowOfSweep}
-use Rattle.papaya_sifts.proofs.Given.Callers.Rows.Keep.{kept_block}
-use Rattle.papaya_sifts.proofs.Given.Callers.Together.Came.{came_reached}
-use Rattle.papaya_sifts.specs.Given.Callers.Kept.{IsKeptBy}
-use Rattle.papaya_sifts.specs.Given.Callers.OverAll.{CallOverAll, come_to, gone_on}
-use Rattle.papaya_sifts.specs.Given.Callers.Sights.{Sight}
-use Rattle.papaya_sifts.specs.Given.Callers.Together.{OverAll}
-use Rattle.papaya_sifts.proofs.Given.Whole.Sweeps.Leads.{sweep_decided}
-use Rattle.papaya_sifts.proofs.Given.Whole.Sweeps.Own as own
-use Rattle.papaya_sifts.proofs.Given.Whole.Sweeps.Rows as rows
-use Rattle.papaya_sifts.specs.Given.Whole.Owner.{IsAlone}
-use Rattle.papaya_sifts.specs.Given.Whole.WholeSweeps.{SweepLeads}
+use Rattle.papaya_sifts.specs.Given.SeizeWordsMem.{Mem, Took, value_at}
+use Rattle.papaya_sifts.specs.Given.SeizeWordsPlan.{Steps}
+use Rattle.papaya_sifts.specs.Given.SeizeWorld.{World}
+use Rattle.papaya_sifts.proofs.Given.SeizeAloneHistories.NotTaken.{IsKept, IsHeld, kept_value}
+use Rattle.papaya_sifts.specs.Given.TablesNodes.{deferred_word}
+use Rattle.papaya_sifts.specs.Given.TablesDeclared.node.Node.{Node}
+use Rattle.papaya_sifts.specs.Given.TablesDeclared.setting.Setting.{Setting}
+use Rattle.papaya_sifts.specs.Given.SweepsSweep.{sweep_plan}
+use Rattle.papaya_sifts.specs.Given.SweepsDeclared.sweep.Sweep.{Sweep}
+use Rattle.papaya_sifts.specs.Given.SweepsDeclared.sweep.Swept.{Swept}
+use Rattle.papaya_sifts.specs.Given.RuleChart.{Chart}
+use Rattle.papaya_sifts.specs.Given.RuleInWorld.{IsOut, IsMapIn}
+use Rattle.papaya_sifts.specs.Given.RuleWords.{Blocks}
+use Rattle.papaya_sifts.proofs.Given.PointsMovedLasts.{moved_lasts}
+use Rattle.papaya_sifts.specs.Given.PointsSteps.{AreLawful}
+use Rattle.papaya_sifts.specs.Given.LateToldSweeps.{IsRowOfSweep}
+use Rattle.papaya_sifts.proofs.Given.CallersRows.Keep.{kept_block}
+use Rattle.papaya_sifts.proofs.Given.CallersTogether.Came.{came_reached}
+use Rattle.papaya_sifts.specs.Given.CallersKept.{IsKeptBy}
+use Rattle.papaya_sifts.specs.Given.CallersOverAll.{CallOverAll, come_to, gone_on}
+use Rattle.papaya_sifts.specs.Given.CallersSights.{Sight}
+use Rattle.papaya_sifts.specs.Given.CallersTogether.{OverAll}
+use Rattle.papaya_sifts.proofs.Given.WholeSweeps.Leads.{sweep_decided}
+use Rattle.papaya_sifts.proofs.Given.WholeSweeps.Own as own
+use Rattle.papaya_sifts.proofs.Given.WholeSweeps.Rows as rows
+use Rattle.papaya_sifts.specs.Given.WholeOwner.{IsAlone}
+use Rattle.papaya_sifts.specs.Given.WholeWholeSweeps.{SweepLeads}
 
 module _ {K V Q : Type 0} (same : K → K → Bool) (hash : K → ℕ) (asks : Q → K → Bool) (setting : Setting) (slot : ℕ → ℕ) (lawful : AreLawful same hash)
     (w : World (Node K V)) (c : Chart K) (blocks : Blocks) (sights : ℕ → Sight) (o : CallOverAll) (a : IsAlone {Q = Q} same hash asks setting slot w c blocks sights (OverAll o))

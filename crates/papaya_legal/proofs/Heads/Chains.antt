@@ -1,22 +1,22 @@
 -- All steps of a making, of an end, and of reclaiming all leave the slots taken that were.
 use Rattle.std.specs.Prelude.{ℕ, zero, suc, Bool}
 use Rattle.std.proofs.Common.{refl, sym, subst}
-use Rattle.papaya_grows.specs.Given.SeizeWords.Mem.{Mem}
-use Rattle.papaya_grows.specs.Given.Seize.declared.progress.Progress.{Progress}
-use Rattle.papaya_grows.specs.Given.Seize.declared.progress.Progress.TheVariants as progress
-use Rattle.papaya_grows.specs.Given.Seize.declared.rows.settle.Settled.{Settled}
-use Rattle.papaya_grows.specs.Given.Seize.declared.rows.settle.Settled.TheVariants as settled
-use Rattle.papaya_grows.specs.Given.Tables.declared.node.Node.{Node}
-use Rattle.papaya_grows.specs.Given.Tables.declared.setting.Setting.{Setting}
-use Rattle.papaya_grows.specs.Given.Schedules.Terms.{Terms}
-use Rattle.papaya_grows.specs.Given.Others.Endings.{ending_after}
-use Rattle.papaya_grows.specs.Given.Others.Makings.{making_after}
+use Rattle.papaya_grows.specs.Given.SeizeWordsMem.{Mem}
+use Rattle.papaya_grows.specs.Given.SeizeDeclared.progress.Progress.{Progress}
+use Rattle.papaya_grows.specs.Given.SeizeDeclared.progress.Progress.TheVariants as progress
+use Rattle.papaya_grows.specs.Given.SeizeDeclared.rows.settle.Settled.{Settled}
+use Rattle.papaya_grows.specs.Given.SeizeDeclared.rows.settle.Settled.TheVariants as settled
+use Rattle.papaya_grows.specs.Given.TablesDeclared.node.Node.{Node}
+use Rattle.papaya_grows.specs.Given.TablesDeclared.setting.Setting.{Setting}
+use Rattle.papaya_grows.specs.Given.SchedulesTerms.{Terms}
+use Rattle.papaya_grows.specs.Given.OthersEndings.{ending_after}
+use Rattle.papaya_grows.specs.Given.OthersMakings.{making_after}
 use Rattle.papaya_legal.specs.AllEvents.{AllCome, AllSteps}
 use Rattle.papaya_legal.specs.Chains.{Chain, Come, EndSteps, MakingSteps}
 use Rattle.papaya_legal.proofs.Heads.Rows.{KeepsTaken, by_memory, taken_then}
 use Rattle.papaya_legal.proofs.Heads.Steps.{ending_taken, making_taken, reclaiming_taken}
-use Rattle.papaya_grows.specs.Given.Scenes.Ending.{EndingComesTo}
-use Rattle.papaya_grows.specs.Given.Scenes.Making.{MakingComesTo}
+use Rattle.papaya_grows.specs.Given.ScenesEnding.{EndingComesTo}
+use Rattle.papaya_grows.specs.Given.ScenesMaking.{MakingComesTo}
 
 -- what each step leaves, all of them do
 chain_taken : {X : Type 0} {K V : Type 0} (memory : X → Mem (Node K V)) (Steps : X → X → Type 0) → ((from to : X) → Steps from to → KeepsTaken (memory from) (memory to)) → (n : ℕ) (from to : X) → Chain Steps n from to

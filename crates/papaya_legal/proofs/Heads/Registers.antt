@@ -2,51 +2,51 @@
 use Rattle.std.specs.Prelude.{◌<◌, max, nat_lt, eqb, Bool, true, false, Option, Some, None, IsSome, Ok, Err, if◌then◌else◌, length}
 use Rattle.std.proofs.Common.{◌≡◌, ℕ, zero, suc, ◌+◌, ◌≤◌, eqb-true, refl, ap, sym, subst, ◌∙◌, arith, inl, inr}
 use Rattle.std.proofs.lemmas.Bool.{eqb-false}
-use Rattle.papaya_grows.specs.Given.SeizeWords.Mem.{Mem, Took, after, value_at, with_word, word_at}
-use Rattle.papaya_grows.specs.Given.SeizeWords.Op.{Out, Room, Roomed}
-use Rattle.papaya_grows.specs.Given.SeizeWords.Plan.{Ends, Now, Steps}
-use Rattle.papaya_grows.specs.Given.SeizeWords.declared.at.At.TheVariants.{Slot}
-use Rattle.papaya_grows.specs.Given.SeizeWords.declared.fault.Fault.TheVariants.{SlotsUsedUp}
-use Rattle.papaya_grows.proofs.Given.SeizeWords.OneOwner.Operations.{exchanged, loaded, stored}
-use Rattle.papaya_grows.specs.Given.Seize.Register.{begun, can_be_taken, further, going, looked, plan_at, refused, register_plan, registered, taken, taking, widened, bucket_needed}
-use Rattle.papaya_grows.specs.Given.Seize.World.{World, Registers, SlotsTaken}
-use Rattle.papaya_grows.specs.Given.Seize.declared.progress.Progress.{Progress}
-use Rattle.papaya_grows.specs.Given.Seize.declared.progress.Progress.TheVariants as progress
-use Rattle.papaya_grows.specs.Given.Seize.declared.rows.register.Register.{Register}
-use Rattle.papaya_grows.specs.Given.Seize.declared.rows.register.Registering.{Registering}
-use Rattle.papaya_grows.specs.Given.Seize.declared.rows.register.Registering.TheVariants as at
-use Rattle.papaya_grows.specs.Given.Seize.declared.states.TheConstants.{ACTIVE, HEAD, IDLE, LAST_SLOT}
-use Rattle.papaya_grows.proofs.Given.SeizeMoves.State.Ghost.{is_never}
-use Rattle.papaya_grows.proofs.Given.SeizeRule.Points.Known.{TakenBelow}
-use Rattle.papaya_grows.proofs.Given.SeizeRule.Points.Try.{never_word}
-use Rattle.papaya_grows.proofs.Given.SeizeRule.Rows.Known.{FitsRegister}
-use Rattle.papaya_grows.proofs.Given.SeizeRule.Rows.Register.{room_view}
-use Rattle.papaya_grows.proofs.Given.SeizeRule.Words.Named.{words_of}
-use Rattle.papaya_grows.proofs.Given.SeizeRule.Words.View.{View, view}
-use Rattle.papaya_grows.proofs.Given.SeizeRule.World.Good.{Good}
-use Rattle.papaya_grows.specs.Given.Tables.Nodes.{deferred_word}
-use Rattle.papaya_grows.specs.Given.Tables.declared.node.Node.{Node}
-use Rattle.papaya_grows.specs.Given.Teller.declared.changed.Changed.{Changed}
-use Rattle.papaya_grows.specs.Given.Teller.declared.changed.Changed.TheVariants.{Nothing}
-use Rattle.papaya_grows.proofs.Given.Callers.Together.Came.{came_reached}
-use Rattle.papaya_grows.specs.Given.Scenes.declared.row.RowTold.{RowTold}
-use Rattle.papaya_grows.specs.Given.Scenes.declared.row.RowTold.TheVariants as told
-use Rattle.papaya_grows.specs.Given.Scenes.declared.row.SlotCall.{SlotCall}
-use Rattle.papaya_grows.specs.Given.Scenes.declared.row.SlotCall.TheVariants as call
-use Rattle.papaya_grows.specs.Given.Scenes.declared.row.SlotRow.{SlotRow}
-use Rattle.papaya_grows.specs.Given.Scenes.declared.row.SlotRow.TheVariants as rows
-use Rattle.papaya_grows.specs.Given.Executor.declared.executor.Executor.{Executor}
-use Rattle.papaya_grows.specs.Given.Executor.declared.worker.Work.TheVariants.{OnSlot}
-use Rattle.papaya_grows.specs.Given.Executor.IsThere.{IsThere, held_by, work_of}
-use Rattle.papaya_grows.specs.Given.Executor.OnSlots.{RowComesThere, row_on}
-use Rattle.papaya_grows.proofs.Given.Executor.RowLeads.{has_row, held_row}
-use Rattle.papaya_grows.specs.Given.Logged.OnSlots.{GoesOnFor, OnSlotLast, StepsOn, has_come}
+use Rattle.papaya_grows.specs.Given.SeizeWordsMem.{Mem, Took, after, value_at, with_word, word_at}
+use Rattle.papaya_grows.specs.Given.SeizeWordsOp.{Out, Room, Roomed}
+use Rattle.papaya_grows.specs.Given.SeizeWordsPlan.{Ends, Now, Steps}
+use Rattle.papaya_grows.specs.Given.SeizeWordsDeclared.at.At.TheVariants.{Slot}
+use Rattle.papaya_grows.specs.Given.SeizeWordsDeclared.fault.Fault.TheVariants.{SlotsUsedUp}
+use Rattle.papaya_grows.proofs.Given.SeizeWordsOneOwner.Operations.{exchanged, loaded, stored}
+use Rattle.papaya_grows.specs.Given.SeizeRegister.{begun, can_be_taken, further, going, looked, plan_at, refused, register_plan, registered, taken, taking, widened, bucket_needed}
+use Rattle.papaya_grows.specs.Given.SeizeWorld.{World, Registers, SlotsTaken}
+use Rattle.papaya_grows.specs.Given.SeizeDeclared.progress.Progress.{Progress}
+use Rattle.papaya_grows.specs.Given.SeizeDeclared.progress.Progress.TheVariants as progress
+use Rattle.papaya_grows.specs.Given.SeizeDeclared.rows.register.Register.{Register}
+use Rattle.papaya_grows.specs.Given.SeizeDeclared.rows.register.Registering.{Registering}
+use Rattle.papaya_grows.specs.Given.SeizeDeclared.rows.register.Registering.TheVariants as at
+use Rattle.papaya_grows.specs.Given.SeizeDeclared.states.TheConstants.{ACTIVE, HEAD, IDLE, LAST_SLOT}
+use Rattle.papaya_grows.proofs.Given.SeizeMovesState.Ghost.{is_never}
+use Rattle.papaya_grows.proofs.Given.SeizeRulePoints.Known.{TakenBelow}
+use Rattle.papaya_grows.proofs.Given.SeizeRulePoints.Try.{never_word}
+use Rattle.papaya_grows.proofs.Given.SeizeRuleRows.Known.{FitsRegister}
+use Rattle.papaya_grows.proofs.Given.SeizeRuleRows.Register.{room_view}
+use Rattle.papaya_grows.proofs.Given.SeizeRuleWords.Named.{words_of}
+use Rattle.papaya_grows.proofs.Given.SeizeRuleWords.View.{View, view}
+use Rattle.papaya_grows.proofs.Given.SeizeRuleWorld.Good.{Good}
+use Rattle.papaya_grows.specs.Given.TablesNodes.{deferred_word}
+use Rattle.papaya_grows.specs.Given.TablesDeclared.node.Node.{Node}
+use Rattle.papaya_grows.specs.Given.TellerDeclared.changed.Changed.{Changed}
+use Rattle.papaya_grows.specs.Given.TellerDeclared.changed.Changed.TheVariants.{Nothing}
+use Rattle.papaya_grows.proofs.Given.CallersTogether.Came.{came_reached}
+use Rattle.papaya_grows.specs.Given.ScenesDeclared.row.RowTold.{RowTold}
+use Rattle.papaya_grows.specs.Given.ScenesDeclared.row.RowTold.TheVariants as told
+use Rattle.papaya_grows.specs.Given.ScenesDeclared.row.SlotCall.{SlotCall}
+use Rattle.papaya_grows.specs.Given.ScenesDeclared.row.SlotCall.TheVariants as call
+use Rattle.papaya_grows.specs.Given.ScenesDeclared.row.SlotRow.{SlotRow}
+use Rattle.papaya_grows.specs.Given.ScenesDeclared.row.SlotRow.TheVariants as rows
+use Rattle.papaya_grows.specs.Given.ExecutorDeclared.executor.Executor.{Executor}
+use Rattle.papaya_grows.specs.Given.ExecutorDeclared.worker.Work.TheVariants.{OnSlot}
+use Rattle.papaya_grows.specs.Given.ExecutorIsThere.{IsThere, held_by, work_of}
+use Rattle.papaya_grows.specs.Given.ExecutorOnSlots.{RowComesThere, row_on}
+use Rattle.papaya_grows.proofs.Given.ExecutorRowLeads.{has_row, held_row}
+use Rattle.papaya_grows.specs.Given.LoggedOnSlots.{GoesOnFor, OnSlotLast, StepsOn, has_come}
 use Rattle.papaya_legal.proofs.Heads.Rows.{KeepsTaken, Off, elsewhere, fits_at, from_up_to, idle_some, is_taken, no_change, now, positive, same_taken, slots_stay, step_taken, taken_word_of, up_to, written}
-use Rattle.papaya_grows.proofs.Given.Scenes.Told.{as_step}
-use Rattle.papaya_grows.specs.Given.Scenes.Held.{Held, IsAt}
-use Rattle.papaya_grows.specs.Given.Scenes.OnSlots.{RowLeads, RowSteps}
-use Rattle.papaya_grows.specs.Given.Scenes.Rows.{begun_row, of_registering}
-use Rattle.papaya_grows.specs.Given.Scenes.Scene.{IsOnSlot, Scene, row_of}
+use Rattle.papaya_grows.proofs.Given.ScenesTold.{as_step}
+use Rattle.papaya_grows.specs.Given.ScenesHeld.{Held, IsAt}
+use Rattle.papaya_grows.specs.Given.ScenesOnSlots.{RowLeads, RowSteps}
+use Rattle.papaya_grows.specs.Given.ScenesRows.{begun_row, of_registering}
+use Rattle.papaya_grows.specs.Given.ScenesScene.{IsOnSlot, Scene, row_of}
 
 some_lt : (n : ℕ) → 0 < n → nat_lt 0 n ≡ true
 some_lt n more = grind (arith, more)

@@ -1,50 +1,50 @@
 -- Each step of a row but of one that registers leaves the slots taken that were, and takes none.
 use Rattle.std.specs.Prelude.{Option, Some, None, IsSome, ◌&&◌, not, nat_lt, eqb}
 use Rattle.std.proofs.Common.{◌≡◌, ℕ, zero, suc, ◌+◌, ◌<◌, ◌≤◌, Bool, true, false, List, [], ◌∷◌, eqb-true, length, inl, inr, refl, arith, ap, sym, subst, ◌∙◌}
-use Rattle.papaya_grows.specs.Given.SeizeWords.declared.at.At.TheVariants.{Slot}
-use Rattle.papaya_grows.specs.Given.SeizeWords.Mem.{Mem, Can, Took, value_at, word_at, with_word}
-use Rattle.papaya_grows.specs.Given.SeizeWords.Plan.{Plan, Steps, May, Now}
-use Rattle.papaya_grows.proofs.Given.SeizeWords.OneOwner.Operations.{stored, swapped, exchanged}
-use Rattle.papaya_grows.specs.Given.Seize.declared.states.TheConstants.{HEAD, FREE, ACTIVE, LAST_SLOT}
-use Rattle.papaya_grows.specs.Given.Seize.declared.progress.Progress.{Progress}
-use Rattle.papaya_grows.specs.Given.Seize.declared.progress.Progress.TheVariants.{Done}
-use Rattle.papaya_grows.specs.Given.Seize.declared.rows.settle.Settle.{Settle}
-use Rattle.papaya_grows.specs.Given.Seize.declared.rows.settle.Settling.{Settling}
-use Rattle.papaya_grows.specs.Given.Seize.declared.rows.settle.Settling.TheVariants as settling
-use Rattle.papaya_grows.specs.Given.Seize.declared.rows.settle.Settled.{Settled}
-use Rattle.papaya_grows.specs.Given.Seize.declared.rows.settle.Settled.TheVariants as settled
-use Rattle.papaya_grows.specs.Given.Seize.declared.rows.leave.Leave.{Leave}
-use Rattle.papaya_grows.specs.Given.Seize.declared.rows.leave.Leaving.{Leaving}
-use Rattle.papaya_grows.specs.Given.Seize.declared.rows.leave.Leaving.TheVariants as leaving
-use Rattle.papaya_grows.specs.Given.Seize.declared.rows.enter.Enter.{Enter}
-use Rattle.papaya_grows.specs.Given.Seize.declared.rows.enter.Unregister.{Unregister}
-use Rattle.papaya_grows.specs.Given.Seize.declared.rows.defer.Defer.{Defer}
-use Rattle.papaya_grows.specs.Given.Seize.declared.rows.defer.Deferring.{Deferring}
-use Rattle.papaya_grows.specs.Given.Seize.declared.rows.defer.Deferring.TheVariants as deferring
-use Rattle.papaya_grows.specs.Given.Seize.Settle as settles
-use Rattle.papaya_grows.specs.Given.Seize.Settle.{settle_plan}
-use Rattle.papaya_grows.specs.Given.Seize.Leave as leaves
-use Rattle.papaya_grows.specs.Given.Seize.Leave.{list_taken, standing}
-use Rattle.papaya_grows.specs.Given.Seize.Defer as defer
-use Rattle.papaya_grows.specs.Given.Seize.World.{World, Row, Rests, Registers, Enters, Settles, Leaves, Defers, Frees, Steps', SlotsTaken}
-use Rattle.papaya_grows.proofs.Given.SeizeMoves.State.Ghost.{Head, Idle, Active, emptied, is_never}
-use Rattle.papaya_grows.proofs.Given.SeizeRule.Words.Chains.{Chain, chain_behind, first_or}
-use Rattle.papaya_grows.proofs.Given.SeizeRule.Words.Named.{words_of, wrote, word_found, write_here, write_apart}
-use Rattle.papaya_grows.proofs.Given.SeizeRule.Words.View.{view}
-use Rattle.papaya_grows.proofs.Given.SeizeRule.Words.Shows.{HeadIs}
-use Rattle.papaya_grows.proofs.Given.SeizeRule.Words.Kept.{IsQuietPlan, settle_quiet}
-use Rattle.papaya_grows.proofs.Given.SeizeRule.Points.Known.{FitsAt, Fits, Pushes, bare}
-use Rattle.papaya_grows.proofs.Given.SeizeRule.Points.May.{may_at}
-use Rattle.papaya_grows.proofs.Given.SeizeRule.Points.Try.{never_word}
-use Rattle.papaya_grows.proofs.Given.SeizeRule.Rows.Known.{OnSlot, FitsRow, FitsLeave, FitsDefer, word_of}
-use Rattle.papaya_grows.proofs.Given.SeizeRule.Rows.Leave.{leaves_may}
-use Rattle.papaya_grows.proofs.Given.SeizeRule.Rows.Leaving.{steps_back}
-use Rattle.papaya_grows.proofs.Given.SeizeRule.Rows.Slots.{idle_head, enters_may, frees_may}
-use Rattle.papaya_grows.proofs.Given.SeizeRule.Rows.Deferring.{defers_may}
-use Rattle.papaya_grows.proofs.Given.SeizeRule.World.Good.{Good}
-use Rattle.papaya_grows.proofs.Given.SeizeRule.World.Start.{words_good}
-use Rattle.papaya_grows.proofs.Given.SeizeEnds.Batches.Free.{is_field, spares_plan, plan_same}
-use Rattle.papaya_grows.proofs.Given.SeizeEnds.Batches.Rows.{settles_memory, defers_memory}
+use Rattle.papaya_grows.specs.Given.SeizeWordsDeclared.at.At.TheVariants.{Slot}
+use Rattle.papaya_grows.specs.Given.SeizeWordsMem.{Mem, Can, Took, value_at, word_at, with_word}
+use Rattle.papaya_grows.specs.Given.SeizeWordsPlan.{Plan, Steps, May, Now}
+use Rattle.papaya_grows.proofs.Given.SeizeWordsOneOwner.Operations.{stored, swapped, exchanged}
+use Rattle.papaya_grows.specs.Given.SeizeDeclared.states.TheConstants.{HEAD, FREE, ACTIVE, LAST_SLOT}
+use Rattle.papaya_grows.specs.Given.SeizeDeclared.progress.Progress.{Progress}
+use Rattle.papaya_grows.specs.Given.SeizeDeclared.progress.Progress.TheVariants.{Done}
+use Rattle.papaya_grows.specs.Given.SeizeDeclared.rows.settle.Settle.{Settle}
+use Rattle.papaya_grows.specs.Given.SeizeDeclared.rows.settle.Settling.{Settling}
+use Rattle.papaya_grows.specs.Given.SeizeDeclared.rows.settle.Settling.TheVariants as settling
+use Rattle.papaya_grows.specs.Given.SeizeDeclared.rows.settle.Settled.{Settled}
+use Rattle.papaya_grows.specs.Given.SeizeDeclared.rows.settle.Settled.TheVariants as settled
+use Rattle.papaya_grows.specs.Given.SeizeDeclared.rows.leave.Leave.{Leave}
+use Rattle.papaya_grows.specs.Given.SeizeDeclared.rows.leave.Leaving.{Leaving}
+use Rattle.papaya_grows.specs.Given.SeizeDeclared.rows.leave.Leaving.TheVariants as leaving
+use Rattle.papaya_grows.specs.Given.SeizeDeclared.rows.enter.Enter.{Enter}
+use Rattle.papaya_grows.specs.Given.SeizeDeclared.rows.enter.Unregister.{Unregister}
+use Rattle.papaya_grows.specs.Given.SeizeDeclared.rows.defer.Defer.{Defer}
+use Rattle.papaya_grows.specs.Given.SeizeDeclared.rows.defer.Deferring.{Deferring}
+use Rattle.papaya_grows.specs.Given.SeizeDeclared.rows.defer.Deferring.TheVariants as deferring
+use Rattle.papaya_grows.specs.Given.SeizeSettle as settles
+use Rattle.papaya_grows.specs.Given.SeizeSettle.{settle_plan}
+use Rattle.papaya_grows.specs.Given.SeizeLeave as leaves
+use Rattle.papaya_grows.specs.Given.SeizeLeave.{list_taken, standing}
+use Rattle.papaya_grows.specs.Given.SeizeDefer as defer
+use Rattle.papaya_grows.specs.Given.SeizeWorld.{World, Row, Rests, Registers, Enters, Settles, Leaves, Defers, Frees, Steps', SlotsTaken}
+use Rattle.papaya_grows.proofs.Given.SeizeMovesState.Ghost.{Head, Idle, Active, emptied, is_never}
+use Rattle.papaya_grows.proofs.Given.SeizeRuleWords.Chains.{Chain, chain_behind, first_or}
+use Rattle.papaya_grows.proofs.Given.SeizeRuleWords.Named.{words_of, wrote, word_found, write_here, write_apart}
+use Rattle.papaya_grows.proofs.Given.SeizeRuleWords.View.{view}
+use Rattle.papaya_grows.proofs.Given.SeizeRuleWords.Shows.{HeadIs}
+use Rattle.papaya_grows.proofs.Given.SeizeRuleWords.Kept.{IsQuietPlan, settle_quiet}
+use Rattle.papaya_grows.proofs.Given.SeizeRulePoints.Known.{FitsAt, Fits, Pushes, bare}
+use Rattle.papaya_grows.proofs.Given.SeizeRulePoints.May.{may_at}
+use Rattle.papaya_grows.proofs.Given.SeizeRulePoints.Try.{never_word}
+use Rattle.papaya_grows.proofs.Given.SeizeRuleRows.Known.{OnSlot, FitsRow, FitsLeave, FitsDefer, word_of}
+use Rattle.papaya_grows.proofs.Given.SeizeRuleRows.Leave.{leaves_may}
+use Rattle.papaya_grows.proofs.Given.SeizeRuleRows.Leaving.{steps_back}
+use Rattle.papaya_grows.proofs.Given.SeizeRuleRows.Slots.{idle_head, enters_may, frees_may}
+use Rattle.papaya_grows.proofs.Given.SeizeRuleRows.Deferring.{defers_may}
+use Rattle.papaya_grows.proofs.Given.SeizeRuleWorld.Good.{Good}
+use Rattle.papaya_grows.proofs.Given.SeizeRuleWorld.Start.{words_good}
+use Rattle.papaya_grows.proofs.Given.SeizeEndsBatches.Free.{is_field, spares_plan, plan_same}
+use Rattle.papaya_grows.proofs.Given.SeizeEndsBatches.Rows.{settles_memory, defers_memory}
 
 module _ {T : Type 0} where
   -- the slot was taken at some time

@@ -2,75 +2,75 @@
 use Rattle.std.specs.Prelude.{◌⊎◌, ◌<◌, ◌^◌, ◌%◌, ℕ, Bool, List, [], ◌∷◌, Option, Some, IsSome, Ok, bit_or}
 use Rattle.std.specs.List.{AllByRecursion}
 use Rattle.std.proofs.Common.{◌≡◌, ◌+◌, refl, ap, sym, subst, ◌∙◌, arith, inl, inr}
-use Rattle.papaya_grows.specs.Given.SeizeWords.SlotWords.{slot_word}
-use Rattle.papaya_grows.specs.Given.SeizeWords.Mem.{Mem, Took, after, value_at, with_word, word_at}
-use Rattle.papaya_grows.specs.Given.SeizeWords.Op.{Op, Out, Load, Store, Swap, Add, Or, Exchange, Make, Take, Rewrite, Room, Found, Exchanged, Made}
-use Rattle.papaya_grows.specs.Given.SeizeWords.Plan.{Now, Steps}
-use Rattle.papaya_grows.specs.Given.SeizeWords.declared.at.At.{At}
-use Rattle.papaya_grows.specs.Given.SeizeWords.declared.at.At.TheVariants as name
-use Rattle.papaya_grows.proofs.Given.SeizeWords.OneOwner.Operations.{stored}
-use Rattle.papaya_grows.specs.Given.Seize.Enter.{unregister_plan}
-use Rattle.papaya_grows.specs.Given.Seize.ReclaimAll.{next_free, next_head, plan_at, reclaim_all_plan, to}
-use Rattle.papaya_grows.specs.Given.Seize.Sequence.{IsBetween, IsUsers}
-use Rattle.papaya_grows.specs.Given.Seize.World.{World, Row, Rests, Request, Register', Enter', Leave', LeaveOwned, Refresh, Unregister', Retire, Flush, Defer', Event, Begin, Step, Makes, Drops, Links, Parts, Unlinks, Rewrites, Operates, Ends, LeavesOver, Relinks, Clears, Chooses, Begins, Happens, Runs, IsOwn, IsOwnOp, made_by}
-use Rattle.papaya_grows.specs.Given.Seize.declared.progress.Progress.{Progress}
-use Rattle.papaya_grows.specs.Given.Seize.declared.progress.Progress.TheVariants.{Done}
-use Rattle.papaya_grows.specs.Given.Seize.declared.rows.enter.Unregister.{Unregister}
-use Rattle.papaya_grows.specs.Given.Seize.declared.rows.reclaim_all.ReclaimAll.{ReclaimAll}
-use Rattle.papaya_grows.specs.Given.Seize.declared.rows.reclaim_all.Reclaiming.{Reclaiming}
-use Rattle.papaya_grows.specs.Given.Seize.declared.rows.reclaim_all.Reclaiming.TheVariants as at
-use Rattle.papaya_grows.specs.Given.Seize.declared.rows.settle.Settled.{Settled}
-use Rattle.papaya_grows.specs.Given.Seize.declared.rows.settle.Settled.TheVariants as settled
-use Rattle.papaya_grows.specs.Given.Seize.declared.states.TheConstants.{FREE, HEAD, IDLE, LAST_SLOT}
-use Rattle.papaya_grows.proofs.Given.SeizeRule.Rows.Leaving.{steps_back}
-use Rattle.papaya_grows.proofs.Given.SeizeRule.Rows.Others.{with_here}
-use Rattle.papaya_grows.proofs.Given.SeizeRule.Words.Named.{or_zero, word_found}
-use Rattle.papaya_grows.proofs.Given.SeizeRule.World.Good.{Good}
-use Rattle.papaya_grows.proofs.Given.SeizeSets.Turns.Heads.{idle_word}
-use Rattle.papaya_grows.proofs.Given.SeizeEnds.Batches.Rows.{begins_memory}
-use Rattle.papaya_grows.proofs.Given.SeizeAlone.Histories.Reached.{Reached, happens_reached}
-use Rattle.papaya_grows.specs.Given.Tables.Nodes.{deferred_word, was_left}
-use Rattle.papaya_grows.specs.Given.Tables.declared.node.Node.{Node}
-use Rattle.papaya_grows.specs.Given.Tables.declared.setting.Setting.{Setting}
-use Rattle.papaya_grows.specs.Given.Resize.declared.copier.Copying.{Copying}
-use Rattle.papaya_grows.specs.Given.Resize.declared.copier.Copying.TheVariants as copying
-use Rattle.papaya_grows.specs.Given.Resize.declared.dispose.Disposing.{Disposing}
-use Rattle.papaya_grows.specs.Given.Resize.declared.dispose.Disposing.TheVariants as disposing
-use Rattle.papaya_grows.specs.Given.Reserves.declared.reserve.Reserving.{Reserving}
-use Rattle.papaya_grows.specs.Given.Reserves.declared.reserve.Reserving.TheVariants as reserving
-use Rattle.papaya_grows.specs.Given.Sweeps.declared.sweep.Sweeping.{Sweeping}
-use Rattle.papaya_grows.specs.Given.Sweeps.declared.sweep.Sweeping.TheVariants as sweeping
-use Rattle.papaya_grows.specs.Given.Rule.InWorld.{AllUsers}
-use Rattle.papaya_grows.specs.Given.Schedules.Moment.{Moment}
-use Rattle.papaya_grows.specs.Given.Raw.declared.machines.call.Calling.{Calling}
-use Rattle.papaya_grows.specs.Given.Raw.declared.machines.call.Calling.TheVariants as calling
-use Rattle.papaya_grows.specs.Given.Raw.declared.machines.progress.Progress.{Progress as CallTold}
-use Rattle.papaya_grows.specs.Given.Teller.declared.changed.Changed.TheVariants.{Nothing}
-use Rattle.papaya_grows.specs.Given.Callers.Rows.{row_of, row_of_copier, row_of_disposal}
-use Rattle.papaya_grows.specs.Given.Callers.Rooms.{row_of_room}
-use Rattle.papaya_grows.specs.Given.Callers.OverAll.{row_of_sweep}
-use Rattle.papaya_grows.specs.Given.Callers.Sights.{seen_by}
-use Rattle.papaya_grows.specs.Given.Callers.Together.{CameAbout, UnderWay, OnKey, ForRoom, Counting, OverAll, HandsOver, Stands}
-use Rattle.papaya_grows.proofs.Given.Callers.Together.Came.{came_reached}
-use Rattle.papaya_grows.specs.Given.Effects.Known.{Known}
-use Rattle.papaya_grows.specs.Given.Finishes.Endings.{Finishing}
-use Rattle.papaya_grows.specs.Given.Finishes.FactsEnds.{TakesLeft, WritesRoot, events_of}
-use Rattle.papaya_grows.specs.Given.Finishes.Makings.{Beginning}
-use Rattle.papaya_grows.specs.Given.Moments.Whole.{ShowsWhole}
-use Rattle.papaya_grows.specs.Given.Reclaims.Reclaims.{ReclaimingAt}
-use Rattle.papaya_grows.specs.Given.Reclaims.Slots.{AreItsRows, DoesAt}
-use Rattle.papaya_grows.specs.Given.SeizeQuiet.Slots.{BeginsAt}
-use Rattle.papaya_grows.proofs.Given.SeizeQuiet.Slots.Facts.{rested_by}
-use Rattle.papaya_grows.specs.Given.Scenes.Reclaiming.{IsReclaiming, ReclaimingLeads}
-use Rattle.papaya_grows.proofs.Given.Models.Calls.{OneStep, by_users, no_or, one_step}
+use Rattle.papaya_grows.specs.Given.SeizeWordsSlotWords.{slot_word}
+use Rattle.papaya_grows.specs.Given.SeizeWordsMem.{Mem, Took, after, value_at, with_word, word_at}
+use Rattle.papaya_grows.specs.Given.SeizeWordsOp.{Op, Out, Load, Store, Swap, Add, Or, Exchange, Make, Take, Rewrite, Room, Found, Exchanged, Made}
+use Rattle.papaya_grows.specs.Given.SeizeWordsPlan.{Now, Steps}
+use Rattle.papaya_grows.specs.Given.SeizeWordsDeclared.at.At.{At}
+use Rattle.papaya_grows.specs.Given.SeizeWordsDeclared.at.At.TheVariants as name
+use Rattle.papaya_grows.proofs.Given.SeizeWordsOneOwner.Operations.{stored}
+use Rattle.papaya_grows.specs.Given.SeizeEnter.{unregister_plan}
+use Rattle.papaya_grows.specs.Given.SeizeReclaimAll.{next_free, next_head, plan_at, reclaim_all_plan, to}
+use Rattle.papaya_grows.specs.Given.SeizeSequence.{IsBetween, IsUsers}
+use Rattle.papaya_grows.specs.Given.SeizeWorld.{World, Row, Rests, Request, Register', Enter', Leave', LeaveOwned, Refresh, Unregister', Retire, Flush, Defer', Event, Begin, Step, Makes, Drops, Links, Parts, Unlinks, Rewrites, Operates, Ends, LeavesOver, Relinks, Clears, Chooses, Begins, Happens, Runs, IsOwn, IsOwnOp, made_by}
+use Rattle.papaya_grows.specs.Given.SeizeDeclared.progress.Progress.{Progress}
+use Rattle.papaya_grows.specs.Given.SeizeDeclared.progress.Progress.TheVariants.{Done}
+use Rattle.papaya_grows.specs.Given.SeizeDeclared.rows.enter.Unregister.{Unregister}
+use Rattle.papaya_grows.specs.Given.SeizeDeclared.rows.reclaim_all.ReclaimAll.{ReclaimAll}
+use Rattle.papaya_grows.specs.Given.SeizeDeclared.rows.reclaim_all.Reclaiming.{Reclaiming}
+use Rattle.papaya_grows.specs.Given.SeizeDeclared.rows.reclaim_all.Reclaiming.TheVariants as at
+use Rattle.papaya_grows.specs.Given.SeizeDeclared.rows.settle.Settled.{Settled}
+use Rattle.papaya_grows.specs.Given.SeizeDeclared.rows.settle.Settled.TheVariants as settled
+use Rattle.papaya_grows.specs.Given.SeizeDeclared.states.TheConstants.{FREE, HEAD, IDLE, LAST_SLOT}
+use Rattle.papaya_grows.proofs.Given.SeizeRuleRows.Leaving.{steps_back}
+use Rattle.papaya_grows.proofs.Given.SeizeRuleRows.Others.{with_here}
+use Rattle.papaya_grows.proofs.Given.SeizeRuleWords.Named.{or_zero, word_found}
+use Rattle.papaya_grows.proofs.Given.SeizeRuleWorld.Good.{Good}
+use Rattle.papaya_grows.proofs.Given.SeizeSetsTurns.Heads.{idle_word}
+use Rattle.papaya_grows.proofs.Given.SeizeEndsBatches.Rows.{begins_memory}
+use Rattle.papaya_grows.proofs.Given.SeizeAloneHistories.Reached.{Reached, happens_reached}
+use Rattle.papaya_grows.specs.Given.TablesNodes.{deferred_word, was_left}
+use Rattle.papaya_grows.specs.Given.TablesDeclared.node.Node.{Node}
+use Rattle.papaya_grows.specs.Given.TablesDeclared.setting.Setting.{Setting}
+use Rattle.papaya_grows.specs.Given.ResizeDeclared.copier.Copying.{Copying}
+use Rattle.papaya_grows.specs.Given.ResizeDeclared.copier.Copying.TheVariants as copying
+use Rattle.papaya_grows.specs.Given.ResizeDeclared.dispose.Disposing.{Disposing}
+use Rattle.papaya_grows.specs.Given.ResizeDeclared.dispose.Disposing.TheVariants as disposing
+use Rattle.papaya_grows.specs.Given.ReservesDeclared.reserve.Reserving.{Reserving}
+use Rattle.papaya_grows.specs.Given.ReservesDeclared.reserve.Reserving.TheVariants as reserving
+use Rattle.papaya_grows.specs.Given.SweepsDeclared.sweep.Sweeping.{Sweeping}
+use Rattle.papaya_grows.specs.Given.SweepsDeclared.sweep.Sweeping.TheVariants as sweeping
+use Rattle.papaya_grows.specs.Given.RuleInWorld.{AllUsers}
+use Rattle.papaya_grows.specs.Given.SchedulesMoment.{Moment}
+use Rattle.papaya_grows.specs.Given.RawDeclared.machines.call.Calling.{Calling}
+use Rattle.papaya_grows.specs.Given.RawDeclared.machines.call.Calling.TheVariants as calling
+use Rattle.papaya_grows.specs.Given.RawDeclared.machines.progress.Progress.{Progress as CallTold}
+use Rattle.papaya_grows.specs.Given.TellerDeclared.changed.Changed.TheVariants.{Nothing}
+use Rattle.papaya_grows.specs.Given.CallersRows.{row_of, row_of_copier, row_of_disposal}
+use Rattle.papaya_grows.specs.Given.CallersRooms.{row_of_room}
+use Rattle.papaya_grows.specs.Given.CallersOverAll.{row_of_sweep}
+use Rattle.papaya_grows.specs.Given.CallersSights.{seen_by}
+use Rattle.papaya_grows.specs.Given.CallersTogether.{CameAbout, UnderWay, OnKey, ForRoom, Counting, OverAll, HandsOver, Stands}
+use Rattle.papaya_grows.proofs.Given.CallersTogether.Came.{came_reached}
+use Rattle.papaya_grows.specs.Given.EffectsKnown.{Known}
+use Rattle.papaya_grows.specs.Given.FinishesEndings.{Finishing}
+use Rattle.papaya_grows.specs.Given.FinishesFactsEnds.{TakesLeft, WritesRoot, events_of}
+use Rattle.papaya_grows.specs.Given.FinishesMakings.{Beginning}
+use Rattle.papaya_grows.specs.Given.MomentsWhole.{ShowsWhole}
+use Rattle.papaya_grows.specs.Given.ReclaimsReclaims.{ReclaimingAt}
+use Rattle.papaya_grows.specs.Given.ReclaimsSlots.{AreItsRows, DoesAt}
+use Rattle.papaya_grows.specs.Given.SeizeQuietSlots.{BeginsAt}
+use Rattle.papaya_grows.proofs.Given.SeizeQuietSlots.Facts.{rested_by}
+use Rattle.papaya_grows.specs.Given.ScenesReclaiming.{IsReclaiming, ReclaimingLeads}
+use Rattle.papaya_grows.proofs.Given.ModelsCalls.{OneStep, by_users, no_or, one_step}
 use Rattle.papaya_legal.proofs.Heads.Rows.{KeepsTaken, Off, by_memory, no_change, same_taken, step_taken, written}
 use Rattle.papaya_legal.proofs.OfAll.Sets.{none_of_rows}
-use Rattle.papaya_grows.proofs.Given.Scenes.Told.{as_step}
-use Rattle.papaya_grows.specs.Given.Scenes.Ending.{EndingLeads}
-use Rattle.papaya_grows.specs.Given.Scenes.Held.{Held, IsAt}
-use Rattle.papaya_grows.specs.Given.Scenes.Making.{MakingLeads}
-use Rattle.papaya_grows.specs.Given.Scenes.Scene.{Scene, slot_of}
-use Rattle.papaya_grows.specs.Given.Scenes.Stepping.{StepLeads}
+use Rattle.papaya_grows.proofs.Given.ScenesTold.{as_step}
+use Rattle.papaya_grows.specs.Given.ScenesEnding.{EndingLeads}
+use Rattle.papaya_grows.specs.Given.ScenesHeld.{Held, IsAt}
+use Rattle.papaya_grows.specs.Given.ScenesMaking.{MakingLeads}
+use Rattle.papaya_grows.specs.Given.ScenesScene.{Scene, slot_of}
+use Rattle.papaya_grows.specs.Given.ScenesStepping.{StepLeads}
 
 -- What users do leaves the words of slots.
 

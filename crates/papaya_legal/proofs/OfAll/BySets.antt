@@ -1,30 +1,30 @@
 -- Wherever the steps of reclaiming all have come to their end, its work on slots has reclaimed what the waiting sets of blocks say, in the world of the scene.
 use Rattle.std.specs.Prelude.{◌≡◌, ◌<◌, ◌^◌, ◌==◌, ℕ, Bool, true, false, List, if◌then◌else◌}
 use Rattle.std.proofs.Common.{refl, sym, subst}
-use Rattle.papaya_grows.specs.Given.SeizeWords.Mem.{Mem, Took, value_at}
-use Rattle.papaya_grows.specs.Given.SeizeWords.Plan.{Steps}
-use Rattle.papaya_grows.specs.Given.Seize.ReclaimAll.{clearing, reclaim_all_plan, reclaiming_all, standing}
-use Rattle.papaya_grows.specs.Given.Seize.WaitingSets.{Change}
-use Rattle.papaya_grows.specs.Given.Seize.World.{World}
-use Rattle.papaya_grows.specs.Given.Seize.declared.rows.reclaim_all.ReclaimAll.{ReclaimAll}
-use Rattle.papaya_grows.specs.Given.Seize.declared.rows.reclaim_all.Reclaiming.TheVariants as at
-use Rattle.papaya_grows.specs.Given.Seize.declared.rows.settle.Settled.{Settled}
-use Rattle.papaya_grows.specs.Given.Seize.declared.rows.settle.Settled.TheVariants as settled
-use Rattle.papaya_grows.specs.Given.SeizeSets.Reclaims.{is_on_slots}
-use Rattle.papaya_grows.specs.Given.Tables.Nodes.{deferred_word, was_left}
-use Rattle.papaya_grows.specs.Given.Tables.declared.node.Node.{Node}
-use Rattle.papaya_grows.specs.Given.Teller.declared.changed.Changed.TheVariants.{Nothing}
-use Rattle.papaya_grows.specs.Given.Callers.Together.{CameAbout}
-use Rattle.papaya_grows.specs.Given.Scenes.Reclaiming.{IsReclaiming, ReclaimingLeads}
-use Rattle.papaya_grows.specs.Given.Models.Reclaims.{HasReclaimed}
-use Rattle.papaya_grows.specs.Given.Models.Turns.{CameByTurns}
+use Rattle.papaya_grows.specs.Given.SeizeWordsMem.{Mem, Took, value_at}
+use Rattle.papaya_grows.specs.Given.SeizeWordsPlan.{Steps}
+use Rattle.papaya_grows.specs.Given.SeizeReclaimAll.{clearing, reclaim_all_plan, reclaiming_all, standing}
+use Rattle.papaya_grows.specs.Given.SeizeWaitingSets.{Change}
+use Rattle.papaya_grows.specs.Given.SeizeWorld.{World}
+use Rattle.papaya_grows.specs.Given.SeizeDeclared.rows.reclaim_all.ReclaimAll.{ReclaimAll}
+use Rattle.papaya_grows.specs.Given.SeizeDeclared.rows.reclaim_all.Reclaiming.TheVariants as at
+use Rattle.papaya_grows.specs.Given.SeizeDeclared.rows.settle.Settled.{Settled}
+use Rattle.papaya_grows.specs.Given.SeizeDeclared.rows.settle.Settled.TheVariants as settled
+use Rattle.papaya_grows.specs.Given.SeizeSetsReclaims.{is_on_slots}
+use Rattle.papaya_grows.specs.Given.TablesNodes.{deferred_word, was_left}
+use Rattle.papaya_grows.specs.Given.TablesDeclared.node.Node.{Node}
+use Rattle.papaya_grows.specs.Given.TellerDeclared.changed.Changed.TheVariants.{Nothing}
+use Rattle.papaya_grows.specs.Given.CallersTogether.{CameAbout}
+use Rattle.papaya_grows.specs.Given.ScenesReclaiming.{IsReclaiming, ReclaimingLeads}
+use Rattle.papaya_grows.specs.Given.ModelsReclaims.{HasReclaimed}
+use Rattle.papaya_grows.specs.Given.ModelsTurns.{CameByTurns}
 use Rattle.papaya_legal.specs.AllEvents.{AllCome, AllReclaimBySets, AllSteps}
 use Rattle.papaya_legal.proofs.Chains.{chains_keep}
 use Rattle.papaya_legal.proofs.OfAll.Points.{quiet_there, stays_off}
 use Rattle.papaya_legal.proofs.OfAll.Sets.{SoFarAt, off_so, quiet_so, starts_so, step_at}
-use Rattle.papaya_grows.proofs.Given.Scenes.Told.{as_step}
-use Rattle.papaya_grows.specs.Given.Scenes.Held.{Held}
-use Rattle.papaya_grows.specs.Given.Scenes.Scene.{Scene, slot_of}
+use Rattle.papaya_grows.proofs.Given.ScenesTold.{as_step}
+use Rattle.papaya_grows.specs.Given.ScenesHeld.{Held}
+use Rattle.papaya_grows.specs.Given.ScenesScene.{Scene, slot_of}
 
 -- where only roots are cleared, it has done with slots
 clearing_off : (roots : ℕ) → is_on_slots (clearing roots).stands ≡ false

@@ -2,49 +2,49 @@
 use Rattle.std.specs.Prelude.{◌≡◌, ◌⊎◌, ◌<◌, ℕ, Bool, true, false, ◌&&◌, List, [], ◌∷◌, None, MatchBool, map, flat_map}
 use Rattle.std.specs.List.{list_all}
 use Rattle.std.proofs.Common.{refl, ap, sym, subst, ◌∙◌, arith, inl}
-use Rattle.papaya_grows.specs.Given.Seize.Law.{is_retired}
-use Rattle.papaya_grows.specs.Given.Seize.WaitingSets.{Change}
-use Rattle.papaya_grows.specs.Given.Seize.World.{World, Rests, times}
-use Rattle.papaya_grows.specs.Given.Seize.declared.rows.settle.Settled.{Settled}
-use Rattle.papaya_grows.specs.Given.Tables.Nodes.{deferred_word}
-use Rattle.papaya_grows.specs.Given.Tables.declared.node.Node.{Node}
-use Rattle.papaya_grows.specs.Given.Runs.Present.{all_forgotten}
-use Rattle.papaya_grows.specs.Given.Schedules.declared.effect.Effect.{Effect}
-use Rattle.papaya_grows.specs.Given.Schedules.declared.effect.Effect.TheVariants.{Reclaimed}
-use Rattle.papaya_grows.specs.Given.Schedules.declared.effect.Thing.TheVariants.{APair, ATable}
-use Rattle.papaya_grows.specs.Given.Schedules.declared.event.Event.{Event}
-use Rattle.papaya_grows.specs.Given.Schedules.declared.event.Event.TheVariants as event
-use Rattle.papaya_grows.specs.Given.Schedules.declared.outcome.Outcome.TheVariants.{Done}
-use Rattle.papaya_grows.specs.Given.Schedules.After.{after, moment}
-use Rattle.papaya_grows.specs.Given.Schedules.Beginning.{at_work}
-use Rattle.papaya_grows.specs.Given.Schedules.Effects.{with_effect, with_effects, AtEachEffect}
-use Rattle.papaya_grows.specs.Given.Schedules.Entry.{Entry, acted_on, caller_of}
-use Rattle.papaya_grows.specs.Given.Schedules.Handing.{gives_all, is_reclaiming, may_do}
-use Rattle.papaya_grows.specs.Given.Schedules.InTurn.{ComesRight, IsKeptOut}
-use Rattle.papaya_grows.specs.Given.Schedules.InUse.{is_left}
-use Rattle.papaya_grows.specs.Given.Schedules.Lists.{is_empty}
-use Rattle.papaya_grows.specs.Given.Schedules.Lives.{Finds}
-use Rattle.papaya_grows.specs.Given.Schedules.Model.{IsByModel, back_by_model, number_in, thing_back, things_in}
-use Rattle.papaya_grows.specs.Given.Schedules.Moment.{Moment}
-use Rattle.papaya_grows.specs.Given.Schedules.Reclaims.{IsProtected}
-use Rattle.papaya_grows.specs.Given.Schedules.Terms.{Terms}
-use Rattle.papaya_grows.specs.Given.Effects.Known.{Known}
-use Rattle.papaya_grows.specs.Given.Finishes.Makings.{IsFreeRoot}
-use Rattle.papaya_grows.specs.Given.Moments.OnSlots.{HadRetired}
-use Rattle.papaya_grows.proofs.Given.Spots.Unreclaimed.{and_both}
-use Rattle.papaya_grows.specs.Given.SeizeReclaims.Roots.{all_lists}
-use Rattle.papaya_grows.specs.Given.Reclaims.Reclaims.{AllIsReclaimed, IsRootOf, ReclaimingTold}
-use Rattle.papaya_grows.specs.Given.Scenes.Reclaiming.{ReclaimingComesTo}
-use Rattle.papaya_grows.specs.Given.Promises.Protected.{EndsInside, InMidst, is_of_slots}
-use Rattle.papaya_grows.specs.Given.Promises.Sheltered.{SectionsHold}
-use Rattle.papaya_grows.proofs.Given.Promises.Protected.{all_is_ended_protected, slot_events_end_protected}
-use Rattle.papaya_grows.specs.Given.Models.Follows.{IsFollowed}
-use Rattle.papaya_grows.specs.Given.Models.Reclaims.{HasReclaimed}
-use Rattle.papaya_grows.specs.Given.Models.Turns.{CameByTurns}
-use Rattle.papaya_grows.specs.Given.Finds.Little.{ReclaimsAll, WhereAll}
-use Rattle.papaya_grows.specs.Given.Finds.Orderly.{NothingIsRetired, is_left_over}
-use Rattle.papaya_grows.proofs.Given.Finds.Begun.{in_turn, not_kept_out, was_done}
-use Rattle.papaya_grows.proofs.Given.Finds.Closed.{none_there}
+use Rattle.papaya_grows.specs.Given.SeizeLaw.{is_retired}
+use Rattle.papaya_grows.specs.Given.SeizeWaitingSets.{Change}
+use Rattle.papaya_grows.specs.Given.SeizeWorld.{World, Rests, times}
+use Rattle.papaya_grows.specs.Given.SeizeDeclared.rows.settle.Settled.{Settled}
+use Rattle.papaya_grows.specs.Given.TablesNodes.{deferred_word}
+use Rattle.papaya_grows.specs.Given.TablesDeclared.node.Node.{Node}
+use Rattle.papaya_grows.specs.Given.RunsPresent.{all_forgotten}
+use Rattle.papaya_grows.specs.Given.SchedulesDeclared.effect.Effect.{Effect}
+use Rattle.papaya_grows.specs.Given.SchedulesDeclared.effect.Effect.TheVariants.{Reclaimed}
+use Rattle.papaya_grows.specs.Given.SchedulesDeclared.effect.Thing.TheVariants.{APair, ATable}
+use Rattle.papaya_grows.specs.Given.SchedulesDeclared.event.Event.{Event}
+use Rattle.papaya_grows.specs.Given.SchedulesDeclared.event.Event.TheVariants as event
+use Rattle.papaya_grows.specs.Given.SchedulesDeclared.outcome.Outcome.TheVariants.{Done}
+use Rattle.papaya_grows.specs.Given.SchedulesAfter.{after, moment}
+use Rattle.papaya_grows.specs.Given.SchedulesBeginning.{at_work}
+use Rattle.papaya_grows.specs.Given.SchedulesEffects.{with_effect, with_effects, AtEachEffect}
+use Rattle.papaya_grows.specs.Given.SchedulesEntry.{Entry, acted_on, caller_of}
+use Rattle.papaya_grows.specs.Given.SchedulesHanding.{gives_all, is_reclaiming, may_do}
+use Rattle.papaya_grows.specs.Given.SchedulesInTurn.{ComesRight, IsKeptOut}
+use Rattle.papaya_grows.specs.Given.SchedulesInUse.{is_left}
+use Rattle.papaya_grows.specs.Given.SchedulesLists.{is_empty}
+use Rattle.papaya_grows.specs.Given.SchedulesLives.{Finds}
+use Rattle.papaya_grows.specs.Given.SchedulesModel.{IsByModel, back_by_model, number_in, thing_back, things_in}
+use Rattle.papaya_grows.specs.Given.SchedulesMoment.{Moment}
+use Rattle.papaya_grows.specs.Given.SchedulesReclaims.{IsProtected}
+use Rattle.papaya_grows.specs.Given.SchedulesTerms.{Terms}
+use Rattle.papaya_grows.specs.Given.EffectsKnown.{Known}
+use Rattle.papaya_grows.specs.Given.FinishesMakings.{IsFreeRoot}
+use Rattle.papaya_grows.specs.Given.MomentsOnSlots.{HadRetired}
+use Rattle.papaya_grows.proofs.Given.SpotsUnreclaimed.{and_both}
+use Rattle.papaya_grows.specs.Given.SeizeReclaimsRoots.{all_lists}
+use Rattle.papaya_grows.specs.Given.ReclaimsReclaims.{AllIsReclaimed, IsRootOf, ReclaimingTold}
+use Rattle.papaya_grows.specs.Given.ScenesReclaiming.{ReclaimingComesTo}
+use Rattle.papaya_grows.specs.Given.PromisesProtected.{EndsInside, InMidst, is_of_slots}
+use Rattle.papaya_grows.specs.Given.PromisesSheltered.{SectionsHold}
+use Rattle.papaya_grows.proofs.Given.PromisesProtected.{all_is_ended_protected, slot_events_end_protected}
+use Rattle.papaya_grows.specs.Given.ModelsFollows.{IsFollowed}
+use Rattle.papaya_grows.specs.Given.ModelsReclaims.{HasReclaimed}
+use Rattle.papaya_grows.specs.Given.ModelsTurns.{CameByTurns}
+use Rattle.papaya_grows.specs.Given.FindsLittle.{ReclaimsAll, WhereAll}
+use Rattle.papaya_grows.specs.Given.FindsOrderly.{NothingIsRetired, is_left_over}
+use Rattle.papaya_grows.proofs.Given.FindsBegun.{in_turn, not_kept_out, was_done}
+use Rattle.papaya_grows.proofs.Given.FindsClosed.{none_there}
 use Rattle.papaya_legal.specs.AllEvents.{AllCome, AllRunsToItsEnd, FindsPair, InAllEvent, all_begun, scene_in}
 use Rattle.papaya_legal.specs.Between.{IsLike}
 use Rattle.papaya_legal.specs.CallEvents.{IsLegalBut}
@@ -58,8 +58,8 @@ use Rattle.papaya_legal.proofs.OfAll.Steps.{all_chain, all_events_begin, all_goe
 use Rattle.papaya_legal.proofs.Over.{reading_like, runs_go_on}
 use Rattle.papaya_legal.proofs.SlotsAfter.{each_stores, like}
 use Rattle.papaya_legal.proofs.SlotsEnd.{slots_are_legal_but}
-use Rattle.papaya_grows.specs.Given.Scenes.Held.{IsAt}
-use Rattle.papaya_grows.specs.Given.Schedules.Transition.{past}
+use Rattle.papaya_grows.specs.Given.ScenesHeld.{IsAt}
+use Rattle.papaya_grows.specs.Given.SchedulesTransition.{past}
 
 -- What such an event is.
 

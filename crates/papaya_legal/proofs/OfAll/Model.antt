@@ -5,45 +5,45 @@ use Rattle.std.proofs.Common.{refl, ap, sym, subst, ◌∙◌, inl, inr}
 use Rattle.std.proofs.lemmas.Grind.{flat_map-append}
 use Rattle.std.proofs.lemmas.List.{append-nil, append_cancel_left, map-append}
 use Rattle.std.proofs.lemmas.List.Concat.{flat_map-cons}
-use Rattle.papaya_grows.specs.Given.SeizeWords.Mem.{value_at}
-use Rattle.papaya_grows.specs.Given.Seize.Sequence.{taken_in}
-use Rattle.papaya_grows.specs.Given.Seize.WaitingSets.{Change, ReclaimsAll, Sets, all_changed, all_reclaimed}
-use Rattle.papaya_grows.specs.Given.Seize.World.{World}
-use Rattle.papaya_grows.specs.Given.Seize.declared.rows.reclaim_all.ReclaimAll.{ReclaimAll}
-use Rattle.papaya_grows.specs.Given.Tables.Nodes.{deferred_word}
-use Rattle.papaya_grows.specs.Given.Tables.declared.node.Node.{Node}
-use Rattle.papaya_grows.specs.Given.Schedules.declared.effect.Effect.{Effect}
-use Rattle.papaya_grows.specs.Given.Schedules.declared.effect.Effect.TheVariants.{Reclaimed}
-use Rattle.papaya_grows.specs.Given.Schedules.declared.effect.Thing.{Thing}
-use Rattle.papaya_grows.specs.Given.Schedules.declared.event.Event.{Event}
-use Rattle.papaya_grows.specs.Given.Schedules.declared.event.Event.TheVariants as event
-use Rattle.papaya_grows.specs.Given.Schedules.declared.outcome.Outcome.TheVariants.{Done}
-use Rattle.papaya_grows.specs.Given.Schedules.After.{after, moment}
-use Rattle.papaya_grows.specs.Given.Schedules.Beginning.{at_work}
-use Rattle.papaya_grows.specs.Given.Schedules.Entry.{Entry}
-use Rattle.papaya_grows.specs.Given.Schedules.Handing.{gives_all, is_reclaiming}
-use Rattle.papaya_grows.specs.Given.Schedules.Model.{all_left, back_by_model, came, changes_by, changes_of, left_last, number_in, sets_in, thing_back, things_in}
-use Rattle.papaya_grows.specs.Given.Schedules.Moment.{Moment}
-use Rattle.papaya_grows.specs.Given.Schedules.Reclaims.{ComesLast}
-use Rattle.papaya_grows.specs.Given.Schedules.Terms.{Terms}
-use Rattle.papaya_grows.specs.Given.Effects.Known.{Known}
-use Rattle.papaya_grows.specs.Given.Effects.declared.role.Role.{Role}
-use Rattle.papaya_grows.specs.Given.Effects.declared.role.Role.TheVariants as role
-use Rattle.papaya_grows.specs.Given.Follows.Blocks.{HasRole, ShowsBlocks}
-use Rattle.papaya_grows.proofs.Given.Moments.OnSlots.{none_some}
-use Rattle.papaya_grows.specs.Given.SeizeReclaims.Roots.{all_lists}
-use Rattle.papaya_grows.specs.Given.Promises.Sheltered.{IsOfThing}
-use Rattle.papaya_grows.specs.Given.Models.Alike.{AfterAlike, AreAlike, SetsAlike}
-use Rattle.papaya_grows.specs.Given.Models.Follows.{FollowsModel, IsFollowed}
-use Rattle.papaya_grows.specs.Given.Models.Numbers.{EachIsOnce, HasNumber, things_of}
-use Rattle.papaya_grows.specs.Given.Models.Reclaims.{HasReclaimed}
-use Rattle.papaya_grows.specs.Given.Models.Turns.{sets_of}
-use Rattle.papaya_grows.proofs.Given.Models.Alike.Again.{alike_again}
-use Rattle.papaya_grows.proofs.Given.Models.Alike.Changed.{changed_alike}
-use Rattle.papaya_grows.proofs.Given.Models.Follows.{if_alone, same_things, sets_then}
-use Rattle.papaya_grows.proofs.Given.Models.Numbers.{has_one}
-use Rattle.papaya_grows.proofs.Given.Models.OnSlots.{numbers_back}
-use Rattle.papaya_grows.proofs.Given.Models.Turns.{all_there}
+use Rattle.papaya_grows.specs.Given.SeizeWordsMem.{value_at}
+use Rattle.papaya_grows.specs.Given.SeizeSequence.{taken_in}
+use Rattle.papaya_grows.specs.Given.SeizeWaitingSets.{Change, ReclaimsAll, Sets, all_changed, all_reclaimed}
+use Rattle.papaya_grows.specs.Given.SeizeWorld.{World}
+use Rattle.papaya_grows.specs.Given.SeizeDeclared.rows.reclaim_all.ReclaimAll.{ReclaimAll}
+use Rattle.papaya_grows.specs.Given.TablesNodes.{deferred_word}
+use Rattle.papaya_grows.specs.Given.TablesDeclared.node.Node.{Node}
+use Rattle.papaya_grows.specs.Given.SchedulesDeclared.effect.Effect.{Effect}
+use Rattle.papaya_grows.specs.Given.SchedulesDeclared.effect.Effect.TheVariants.{Reclaimed}
+use Rattle.papaya_grows.specs.Given.SchedulesDeclared.effect.Thing.{Thing}
+use Rattle.papaya_grows.specs.Given.SchedulesDeclared.event.Event.{Event}
+use Rattle.papaya_grows.specs.Given.SchedulesDeclared.event.Event.TheVariants as event
+use Rattle.papaya_grows.specs.Given.SchedulesDeclared.outcome.Outcome.TheVariants.{Done}
+use Rattle.papaya_grows.specs.Given.SchedulesAfter.{after, moment}
+use Rattle.papaya_grows.specs.Given.SchedulesBeginning.{at_work}
+use Rattle.papaya_grows.specs.Given.SchedulesEntry.{Entry}
+use Rattle.papaya_grows.specs.Given.SchedulesHanding.{gives_all, is_reclaiming}
+use Rattle.papaya_grows.specs.Given.SchedulesModel.{all_left, back_by_model, came, changes_by, changes_of, left_last, number_in, sets_in, thing_back, things_in}
+use Rattle.papaya_grows.specs.Given.SchedulesMoment.{Moment}
+use Rattle.papaya_grows.specs.Given.SchedulesReclaims.{ComesLast}
+use Rattle.papaya_grows.specs.Given.SchedulesTerms.{Terms}
+use Rattle.papaya_grows.specs.Given.EffectsKnown.{Known}
+use Rattle.papaya_grows.specs.Given.EffectsDeclared.role.Role.{Role}
+use Rattle.papaya_grows.specs.Given.EffectsDeclared.role.Role.TheVariants as role
+use Rattle.papaya_grows.specs.Given.FollowsBlocks.{HasRole, ShowsBlocks}
+use Rattle.papaya_grows.proofs.Given.MomentsOnSlots.{none_some}
+use Rattle.papaya_grows.specs.Given.SeizeReclaimsRoots.{all_lists}
+use Rattle.papaya_grows.specs.Given.PromisesSheltered.{IsOfThing}
+use Rattle.papaya_grows.specs.Given.ModelsAlike.{AfterAlike, AreAlike, SetsAlike}
+use Rattle.papaya_grows.specs.Given.ModelsFollows.{FollowsModel, IsFollowed}
+use Rattle.papaya_grows.specs.Given.ModelsNumbers.{EachIsOnce, HasNumber, things_of}
+use Rattle.papaya_grows.specs.Given.ModelsReclaims.{HasReclaimed}
+use Rattle.papaya_grows.specs.Given.ModelsTurns.{sets_of}
+use Rattle.papaya_grows.proofs.Given.ModelsAlike.Again.{alike_again}
+use Rattle.papaya_grows.proofs.Given.ModelsAlike.Changed.{changed_alike}
+use Rattle.papaya_grows.proofs.Given.ModelsFollows.{if_alone, same_things, sets_then}
+use Rattle.papaya_grows.proofs.Given.ModelsNumbers.{has_one}
+use Rattle.papaya_grows.proofs.Given.ModelsOnSlots.{numbers_back}
+use Rattle.papaya_grows.proofs.Given.ModelsTurns.{all_there}
 use Rattle.papaya_legal.specs.AllEvents.{BehindIsLeft, TakesInTurn}
 
 -- What such an event is to the model.

@@ -1,49 +1,49 @@
 -- Each pair that reclaiming all reclaims was handed over, or left over: nothing else is in a block that was retired, or that is behind a root.
 use Rattle.std.specs.Prelude.{◌≡◌, ◌⊎◌, ◌<◌, ◌+◌, ◌==◌, ℕ, Bool, true, false, List, [], ◌∷◌, map, Some, None, if◌then◌else◌}
 use Rattle.std.proofs.Common.{refl, ap, sym, subst, ◌∙◌, arith, inl, inr, eqb-true}
-use Rattle.papaya_grows.specs.Given.Seize.Law.{is_retired}
-use Rattle.papaya_grows.specs.Given.Seize.World.{World, Handed as WithCollector, times}
-use Rattle.papaya_grows.specs.Given.Seize.declared.rows.reclaim_all.ReclaimAll.{ReclaimAll}
-use Rattle.papaya_grows.specs.Given.Seize.declared.rows.settle.Settled.{Settled}
-use Rattle.papaya_grows.specs.Given.SeizeSets.Reclaims.{is_on_slots}
-use Rattle.papaya_grows.specs.Given.Tables.Nodes.{deferred_word}
-use Rattle.papaya_grows.specs.Given.Tables.declared.node.Node.{Node}
-use Rattle.papaya_grows.specs.Given.Schedules.declared.effect.Effect.{Effect}
-use Rattle.papaya_grows.specs.Given.Schedules.declared.effect.Effect.TheVariants.{Reclaimed}
-use Rattle.papaya_grows.specs.Given.Schedules.declared.effect.Table.{Table}
-use Rattle.papaya_grows.specs.Given.Schedules.declared.effect.Thing.{Thing}
-use Rattle.papaya_grows.specs.Given.Schedules.After.{moment}
-use Rattle.papaya_grows.specs.Given.Schedules.Effects.{with_effects, AtEachEffect}
-use Rattle.papaya_grows.specs.Given.Schedules.Entry.{Entry}
-use Rattle.papaya_grows.specs.Given.Schedules.Lists.{is_among}
-use Rattle.papaya_grows.specs.Given.Schedules.Lives.{MayReclaim}
-use Rattle.papaya_grows.specs.Given.Schedules.Moment.{Behind, Deferral, GivenBack, Handed, InMap, Left, Moment, Out, Place, Unborn}
-use Rattle.papaya_grows.specs.Given.Schedules.Views.{behind as behind_table, is_in_a_map}
-use Rattle.papaya_grows.specs.Given.Teller.declared.changed.Changed.{Changed}
-use Rattle.papaya_grows.specs.Given.Teller.declared.changed.Changed.TheVariants as changed
-use Rattle.papaya_grows.specs.Given.Effects.Effects.{effects_of, known_after}
-use Rattle.papaya_grows.specs.Given.Effects.Known.{Known}
-use Rattle.papaya_grows.specs.Given.Effects.declared.acting.Acting.TheVariants.{Row}
-use Rattle.papaya_grows.specs.Given.Effects.declared.role.Role.{Role}
-use Rattle.papaya_grows.specs.Given.Effects.declared.role.Role.TheVariants as role
-use Rattle.papaya_grows.specs.Given.Follows.Blocks.{HasRole}
-use Rattle.papaya_grows.specs.Given.Hands.Hands.{IsInUse}
-use Rattle.papaya_grows.proofs.Given.Finishes.Ends.CountedBlocks.{times_here}
-use Rattle.papaya_grows.proofs.Given.Follows.Alike.{put_here}
-use Rattle.papaya_grows.proofs.Given.Follows.Operations.{LeavesBy}
-use Rattle.papaya_grows.specs.Given.Moments.Whole.{ShowsWhole}
-use Rattle.papaya_grows.specs.Given.Spots.Unreclaimed.{is_unreclaimed}
-use Rattle.papaya_grows.specs.Given.SeizeReclaims.Roots.{all_lists}
-use Rattle.papaya_grows.specs.Given.Scenes.Reclaiming.{IsReclaiming, ReclaimingLeads}
-use Rattle.papaya_grows.specs.Given.Lives.Behind.{EachWaits, IsLeft, LiesBehind}
-use Rattle.papaya_grows.specs.Given.Lives.Waiting.{waits_behind}
-use Rattle.papaya_grows.proofs.Given.Lives.Each.{found}
-use Rattle.papaya_grows.proofs.Given.Lives.Worlds.{Kept, runs_kept, start_kept, unretired}
-use Rattle.papaya_grows.proofs.Given.Logged.Reclaiming.Steps.{left as leaves_there}
-use Rattle.papaya_grows.specs.Given.Kept.Kept.{ShowsKept}
-use Rattle.papaya_grows.specs.Given.Models.Numbers.{things_of}
-use Rattle.papaya_grows.specs.Given.Finds.Waiting.{FindsPlaced, PairsArePlaced, is_behind_one, is_let_go, is_out, once_if, owed_by, put_in}
-use Rattle.papaya_grows.proofs.Given.Finds.Placed.{effects_keep_placed}
+use Rattle.papaya_grows.specs.Given.SeizeLaw.{is_retired}
+use Rattle.papaya_grows.specs.Given.SeizeWorld.{World, Handed as WithCollector, times}
+use Rattle.papaya_grows.specs.Given.SeizeDeclared.rows.reclaim_all.ReclaimAll.{ReclaimAll}
+use Rattle.papaya_grows.specs.Given.SeizeDeclared.rows.settle.Settled.{Settled}
+use Rattle.papaya_grows.specs.Given.SeizeSetsReclaims.{is_on_slots}
+use Rattle.papaya_grows.specs.Given.TablesNodes.{deferred_word}
+use Rattle.papaya_grows.specs.Given.TablesDeclared.node.Node.{Node}
+use Rattle.papaya_grows.specs.Given.SchedulesDeclared.effect.Effect.{Effect}
+use Rattle.papaya_grows.specs.Given.SchedulesDeclared.effect.Effect.TheVariants.{Reclaimed}
+use Rattle.papaya_grows.specs.Given.SchedulesDeclared.effect.Table.{Table}
+use Rattle.papaya_grows.specs.Given.SchedulesDeclared.effect.Thing.{Thing}
+use Rattle.papaya_grows.specs.Given.SchedulesAfter.{moment}
+use Rattle.papaya_grows.specs.Given.SchedulesEffects.{with_effects, AtEachEffect}
+use Rattle.papaya_grows.specs.Given.SchedulesEntry.{Entry}
+use Rattle.papaya_grows.specs.Given.SchedulesLists.{is_among}
+use Rattle.papaya_grows.specs.Given.SchedulesLives.{MayReclaim}
+use Rattle.papaya_grows.specs.Given.SchedulesMoment.{Behind, Deferral, GivenBack, Handed, InMap, Left, Moment, Out, Place, Unborn}
+use Rattle.papaya_grows.specs.Given.SchedulesViews.{behind as behind_table, is_in_a_map}
+use Rattle.papaya_grows.specs.Given.TellerDeclared.changed.Changed.{Changed}
+use Rattle.papaya_grows.specs.Given.TellerDeclared.changed.Changed.TheVariants as changed
+use Rattle.papaya_grows.specs.Given.EffectsEffects.{effects_of, known_after}
+use Rattle.papaya_grows.specs.Given.EffectsKnown.{Known}
+use Rattle.papaya_grows.specs.Given.EffectsDeclared.acting.Acting.TheVariants.{Row}
+use Rattle.papaya_grows.specs.Given.EffectsDeclared.role.Role.{Role}
+use Rattle.papaya_grows.specs.Given.EffectsDeclared.role.Role.TheVariants as role
+use Rattle.papaya_grows.specs.Given.FollowsBlocks.{HasRole}
+use Rattle.papaya_grows.specs.Given.HandsHands.{IsInUse}
+use Rattle.papaya_grows.proofs.Given.FinishesEnds.CountedBlocks.{times_here}
+use Rattle.papaya_grows.proofs.Given.FollowsAlike.{put_here}
+use Rattle.papaya_grows.proofs.Given.FollowsOperations.{LeavesBy}
+use Rattle.papaya_grows.specs.Given.MomentsWhole.{ShowsWhole}
+use Rattle.papaya_grows.specs.Given.SpotsUnreclaimed.{is_unreclaimed}
+use Rattle.papaya_grows.specs.Given.SeizeReclaimsRoots.{all_lists}
+use Rattle.papaya_grows.specs.Given.ScenesReclaiming.{IsReclaiming, ReclaimingLeads}
+use Rattle.papaya_grows.specs.Given.LivesBehind.{EachWaits, IsLeft, LiesBehind}
+use Rattle.papaya_grows.specs.Given.LivesWaiting.{waits_behind}
+use Rattle.papaya_grows.proofs.Given.LivesEach.{found}
+use Rattle.papaya_grows.proofs.Given.LivesWorlds.{Kept, runs_kept, start_kept, unretired}
+use Rattle.papaya_grows.proofs.Given.LoggedReclaiming.Steps.{left as leaves_there}
+use Rattle.papaya_grows.specs.Given.KeptKept.{ShowsKept}
+use Rattle.papaya_grows.specs.Given.ModelsNumbers.{things_of}
+use Rattle.papaya_grows.specs.Given.FindsWaiting.{FindsPlaced, PairsArePlaced, is_behind_one, is_let_go, is_out, once_if, owed_by, put_in}
+use Rattle.papaya_grows.proofs.Given.FindsPlaced.{effects_keep_placed}
 use Rattle.papaya_legal.specs.AllEvents.{AllCome, AllFindPairs, AllSteps, BehindAreLeft, FindsPair, InAllEvent, all_begun}
 use Rattle.papaya_legal.proofs.Chains.{chains_keep}
 use Rattle.papaya_legal.proofs.OfAll.Roots.{handed, slots_leave_roots}
@@ -51,8 +51,8 @@ use Rattle.papaya_legal.proofs.OfAll.Steps.{all_events_begin, all_goes_on}
 use Rattle.papaya_legal.proofs.OfAll.Tells.{gone_by, it_reclaims, none_gone, noted_or_free}
 use Rattle.papaya_legal.proofs.OfAll.Turns.{HasTurned, TakesFromRoots, TakesFromSlots, has_turned}
 use Rattle.papaya_legal.proofs.Slots.{each_join}
-use Rattle.papaya_grows.specs.Given.Scenes.Held.{Held}
-use Rattle.papaya_grows.specs.Given.Scenes.Scene.{Scene}
+use Rattle.papaya_grows.specs.Given.ScenesHeld.{Held}
+use Rattle.papaya_grows.specs.Given.ScenesScene.{Scene}
 
 -- a pair that is put behind tables waits behind one of them
 waits_of : (P : ℕ → Table → Type 0) (k : ℕ) (deferred : List Deferral) → 0 < put_in k deferred → EachWaits P deferred → (t : Table) × P k t

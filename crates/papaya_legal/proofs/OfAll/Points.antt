@@ -2,33 +2,33 @@
 use Rattle.std.specs.Prelude.{◌≡◌, ◌⊎◌, ◌<◌, ◌+◌, ◌-◌, ◌==◌, ℕ, zero, suc, nat_lt, Bool, true, false, List, [], ◌∷◌, ◌++◌, Option, Some, if◌then◌else◌}
 use Rattle.std.proofs.Common.{refl, ap, sym, subst, ◌∙◌, arith, inl, inr}
 use Rattle.std.proofs.lemmas.Bool.{cases_eq, cases_lt}
-use Rattle.papaya_grows.specs.Given.SeizeWords.Mem.{Mem, value_at, word_at}
-use Rattle.papaya_grows.specs.Given.SeizeWords.Op.{Out, Found, Taken}
-use Rattle.papaya_grows.specs.Given.SeizeWords.Plan.{Now, Seeing, Ends}
-use Rattle.papaya_grows.specs.Given.SeizeWords.Word.{block_in}
-use Rattle.papaya_grows.specs.Given.SeizeWords.declared.at.At.TheVariants.{Used}
-use Rattle.papaya_grows.specs.Given.Seize.ReclaimAll as all
-use Rattle.papaya_grows.specs.Given.Seize.World.{World, with_at}
-use Rattle.papaya_grows.specs.Given.Seize.declared.rows.reclaim_all.ReclaimAll.{ReclaimAll}
-use Rattle.papaya_grows.specs.Given.Seize.declared.rows.reclaim_all.Reclaiming.{Reclaiming}
-use Rattle.papaya_grows.specs.Given.Seize.declared.rows.reclaim_all.Reclaiming.TheVariants as at
-use Rattle.papaya_grows.specs.Given.Seize.declared.rows.settle.Settled.{Settled}
-use Rattle.papaya_grows.specs.Given.Seize.declared.rows.settle.Settled.TheVariants as settled
-use Rattle.papaya_grows.specs.Given.SeizeSets.Reclaims.{is_on_slots}
-use Rattle.papaya_grows.specs.Given.Tables.Nodes.{deferred_word, was_left}
-use Rattle.papaya_grows.specs.Given.Tables.declared.node.Node.{Node}
-use Rattle.papaya_grows.specs.Given.Tables.declared.setting.Setting.{Setting}
-use Rattle.papaya_grows.specs.Given.Teller.Tells.{StepsTold}
-use Rattle.papaya_grows.specs.Given.Teller.declared.changed.Changed.{Changed}
-use Rattle.papaya_grows.specs.Given.Teller.declared.changed.Changed.TheVariants as changed
-use Rattle.papaya_grows.proofs.Given.Callers.Together.At.{at_other, at_same}
-use Rattle.papaya_grows.specs.Given.Finishes.Makings.{IsFreeRoot}
-use Rattle.papaya_grows.specs.Given.Finishes.Maps.{IsSameMap, Standing}
-use Rattle.papaya_grows.specs.Given.Follows.Steps.{TakesNone}
-use Rattle.papaya_grows.specs.Given.SeizeReclaims.Roots.{all_lists}
-use Rattle.papaya_grows.specs.Given.Reclaims.Reclaims.{IsRootOf, LeftBehind, Opened, ReclaimingAt, RootLeads}
-use Rattle.papaya_grows.specs.Given.Reclaims.Slots.{IsQuiet}
-use Rattle.papaya_grows.proofs.Given.Shards.ShardKept.{same_setting}
+use Rattle.papaya_grows.specs.Given.SeizeWordsMem.{Mem, value_at, word_at}
+use Rattle.papaya_grows.specs.Given.SeizeWordsOp.{Out, Found, Taken}
+use Rattle.papaya_grows.specs.Given.SeizeWordsPlan.{Now, Seeing, Ends}
+use Rattle.papaya_grows.specs.Given.SeizeWordsWord.{block_in}
+use Rattle.papaya_grows.specs.Given.SeizeWordsDeclared.at.At.TheVariants.{Used}
+use Rattle.papaya_grows.specs.Given.SeizeReclaimAll as all
+use Rattle.papaya_grows.specs.Given.SeizeWorld.{World, with_at}
+use Rattle.papaya_grows.specs.Given.SeizeDeclared.rows.reclaim_all.ReclaimAll.{ReclaimAll}
+use Rattle.papaya_grows.specs.Given.SeizeDeclared.rows.reclaim_all.Reclaiming.{Reclaiming}
+use Rattle.papaya_grows.specs.Given.SeizeDeclared.rows.reclaim_all.Reclaiming.TheVariants as at
+use Rattle.papaya_grows.specs.Given.SeizeDeclared.rows.settle.Settled.{Settled}
+use Rattle.papaya_grows.specs.Given.SeizeDeclared.rows.settle.Settled.TheVariants as settled
+use Rattle.papaya_grows.specs.Given.SeizeSetsReclaims.{is_on_slots}
+use Rattle.papaya_grows.specs.Given.TablesNodes.{deferred_word, was_left}
+use Rattle.papaya_grows.specs.Given.TablesDeclared.node.Node.{Node}
+use Rattle.papaya_grows.specs.Given.TablesDeclared.setting.Setting.{Setting}
+use Rattle.papaya_grows.specs.Given.TellerTells.{StepsTold}
+use Rattle.papaya_grows.specs.Given.TellerDeclared.changed.Changed.{Changed}
+use Rattle.papaya_grows.specs.Given.TellerDeclared.changed.Changed.TheVariants as changed
+use Rattle.papaya_grows.proofs.Given.CallersTogether.At.{at_other, at_same}
+use Rattle.papaya_grows.specs.Given.FinishesMakings.{IsFreeRoot}
+use Rattle.papaya_grows.specs.Given.FinishesMaps.{IsSameMap, Standing}
+use Rattle.papaya_grows.specs.Given.FollowsSteps.{TakesNone}
+use Rattle.papaya_grows.specs.Given.SeizeReclaimsRoots.{all_lists}
+use Rattle.papaya_grows.specs.Given.ReclaimsReclaims.{IsRootOf, LeftBehind, Opened, ReclaimingAt, RootLeads}
+use Rattle.papaya_grows.specs.Given.ReclaimsSlots.{IsQuiet}
+use Rattle.papaya_grows.proofs.Given.ShardsShardKept.{same_setting}
 
 -- it stands where a block behind a root is taken away
 abbrev pub IsAtTakes : Reclaiming → Type 0

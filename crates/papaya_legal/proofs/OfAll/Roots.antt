@@ -2,50 +2,50 @@
 use Rattle.std.specs.Prelude.{◌≡◌, ◌⊎◌, ◌<◌, ℕ, zero, suc, Bool, true, List, [], ◌∷◌, ◌++◌, Option, Some, None, IsSome}
 use Rattle.std.proofs.Common.{refl, ap, sym, subst, append_assoc, ◌∙◌, arith, inl, inr}
 use Rattle.std.proofs.lemmas.List.{append-nil, append_cancel_left}
-use Rattle.papaya_grows.specs.Given.SeizeWords.Mem.{Mem, Took, value_at}
-use Rattle.papaya_grows.specs.Given.SeizeWords.Plan.{Steps}
-use Rattle.papaya_grows.specs.Given.SeizeWords.declared.at.At.TheVariants.{Root, Used}
-use Rattle.papaya_grows.specs.Given.Seize.Leave as leave
-use Rattle.papaya_grows.specs.Given.Seize.ReclaimAll as all
-use Rattle.papaya_grows.specs.Given.Seize.Settle as settle
-use Rattle.papaya_grows.specs.Given.Seize.Sequence.{taken_in}
-use Rattle.papaya_grows.specs.Given.Seize.World.{World, Handed, Row, Leaves, Settles, Request, Register', Leave', Flush, Unregister', Event, Begin, Step, Begins, Steps', Runs, leaves_on, settles_on, times}
-use Rattle.papaya_grows.specs.Given.Seize.declared.rows.leave.Leave.{Leave}
-use Rattle.papaya_grows.specs.Given.Seize.declared.rows.reclaim_all.ReclaimAll.{ReclaimAll}
-use Rattle.papaya_grows.specs.Given.Seize.declared.rows.reclaim_all.Reclaiming.{Reclaiming}
-use Rattle.papaya_grows.specs.Given.Seize.declared.rows.reclaim_all.Reclaiming.TheVariants as at
-use Rattle.papaya_grows.specs.Given.Seize.declared.rows.settle.Settle.{Settle}
-use Rattle.papaya_grows.specs.Given.Seize.declared.rows.settle.Settled.{Settled}
-use Rattle.papaya_grows.specs.Given.Seize.declared.rows.settle.Settled.TheVariants as settled
-use Rattle.papaya_grows.proofs.Given.SeizeAlone.Histories.NotTaken.{did}
-use Rattle.papaya_grows.proofs.Given.SeizeAlone.Histories.Reached.{Reached, happens_reached}
-use Rattle.papaya_grows.proofs.Given.SeizeAlone.Spared.Rows.{RowStepped}
-use Rattle.papaya_grows.proofs.Given.SeizeAlone.Whole.Midway.{taken_append}
-use Rattle.papaya_grows.specs.Given.SeizeSets.Reclaims.{is_on_slots}
-use Rattle.papaya_grows.specs.Given.Tables.Nodes.{deferred_word, was_left}
-use Rattle.papaya_grows.specs.Given.Tables.declared.node.Node.{Node}
-use Rattle.papaya_grows.specs.Given.Teller.Tells.{StepsTold}
-use Rattle.papaya_grows.specs.Given.Teller.declared.changed.Changed.{Changed}
-use Rattle.papaya_grows.specs.Given.Teller.declared.changed.Changed.TheVariants as changed
-use Rattle.papaya_grows.proofs.Given.Callers.Together.Came.{came_reached}
-use Rattle.papaya_grows.proofs.Given.Finishes.Ends.CountedBlocks.{times-append}
-use Rattle.papaya_grows.specs.Given.Finishes.FactsEnds.{TakesLeft, WritesRoot, events_of}
-use Rattle.papaya_grows.specs.Given.Follows.Steps.{TakesNone}
-use Rattle.papaya_grows.proofs.Given.Follows.Operations.{LeavesBy, operated, operated_leaves}
-use Rattle.papaya_grows.proofs.Given.Moments.OnSlots.{none_some}
-use Rattle.papaya_grows.proofs.Given.Others.Outcomes.{told_in}
-use Rattle.papaya_grows.specs.Given.Reclaims.Reclaims.{HasTaken, ReclaimingAt, ReclaimingTold}
-use Rattle.papaya_grows.specs.Given.Reclaims.Slots.{AreItsRows, IsForSlots}
-use Rattle.papaya_grows.specs.Given.Scenes.Reclaiming.{IsReclaiming, ReclaimingLeads}
-use Rattle.papaya_grows.proofs.Given.Scenes.May.{may_reclaim}
-use Rattle.papaya_grows.specs.Given.Lives.Behind.{IsLeft}
-use Rattle.papaya_grows.proofs.Given.Logged.Reclaiming.Finds.{left_before, root_value, step_handed}
-use Rattle.papaya_grows.proofs.Given.Logged.ReclaimGives.{taken_gone}
-use Rattle.papaya_grows.proofs.Given.Logged.Reclaiming.Rows.{begun_kept}
+use Rattle.papaya_grows.specs.Given.SeizeWordsMem.{Mem, Took, value_at}
+use Rattle.papaya_grows.specs.Given.SeizeWordsPlan.{Steps}
+use Rattle.papaya_grows.specs.Given.SeizeWordsDeclared.at.At.TheVariants.{Root, Used}
+use Rattle.papaya_grows.specs.Given.SeizeLeave as leave
+use Rattle.papaya_grows.specs.Given.SeizeReclaimAll as all
+use Rattle.papaya_grows.specs.Given.SeizeSettle as settle
+use Rattle.papaya_grows.specs.Given.SeizeSequence.{taken_in}
+use Rattle.papaya_grows.specs.Given.SeizeWorld.{World, Handed, Row, Leaves, Settles, Request, Register', Leave', Flush, Unregister', Event, Begin, Step, Begins, Steps', Runs, leaves_on, settles_on, times}
+use Rattle.papaya_grows.specs.Given.SeizeDeclared.rows.leave.Leave.{Leave}
+use Rattle.papaya_grows.specs.Given.SeizeDeclared.rows.reclaim_all.ReclaimAll.{ReclaimAll}
+use Rattle.papaya_grows.specs.Given.SeizeDeclared.rows.reclaim_all.Reclaiming.{Reclaiming}
+use Rattle.papaya_grows.specs.Given.SeizeDeclared.rows.reclaim_all.Reclaiming.TheVariants as at
+use Rattle.papaya_grows.specs.Given.SeizeDeclared.rows.settle.Settle.{Settle}
+use Rattle.papaya_grows.specs.Given.SeizeDeclared.rows.settle.Settled.{Settled}
+use Rattle.papaya_grows.specs.Given.SeizeDeclared.rows.settle.Settled.TheVariants as settled
+use Rattle.papaya_grows.proofs.Given.SeizeAloneHistories.NotTaken.{did}
+use Rattle.papaya_grows.proofs.Given.SeizeAloneHistories.Reached.{Reached, happens_reached}
+use Rattle.papaya_grows.proofs.Given.SeizeAloneSpared.Rows.{RowStepped}
+use Rattle.papaya_grows.proofs.Given.SeizeAloneWhole.Midway.{taken_append}
+use Rattle.papaya_grows.specs.Given.SeizeSetsReclaims.{is_on_slots}
+use Rattle.papaya_grows.specs.Given.TablesNodes.{deferred_word, was_left}
+use Rattle.papaya_grows.specs.Given.TablesDeclared.node.Node.{Node}
+use Rattle.papaya_grows.specs.Given.TellerTells.{StepsTold}
+use Rattle.papaya_grows.specs.Given.TellerDeclared.changed.Changed.{Changed}
+use Rattle.papaya_grows.specs.Given.TellerDeclared.changed.Changed.TheVariants as changed
+use Rattle.papaya_grows.proofs.Given.CallersTogether.Came.{came_reached}
+use Rattle.papaya_grows.proofs.Given.FinishesEnds.CountedBlocks.{times-append}
+use Rattle.papaya_grows.specs.Given.FinishesFactsEnds.{TakesLeft, WritesRoot, events_of}
+use Rattle.papaya_grows.specs.Given.FollowsSteps.{TakesNone}
+use Rattle.papaya_grows.proofs.Given.FollowsOperations.{LeavesBy, operated, operated_leaves}
+use Rattle.papaya_grows.proofs.Given.MomentsOnSlots.{none_some}
+use Rattle.papaya_grows.proofs.Given.OthersOutcomes.{told_in}
+use Rattle.papaya_grows.specs.Given.ReclaimsReclaims.{HasTaken, ReclaimingAt, ReclaimingTold}
+use Rattle.papaya_grows.specs.Given.ReclaimsSlots.{AreItsRows, IsForSlots}
+use Rattle.papaya_grows.specs.Given.ScenesReclaiming.{IsReclaiming, ReclaimingLeads}
+use Rattle.papaya_grows.proofs.Given.ScenesMay.{may_reclaim}
+use Rattle.papaya_grows.specs.Given.LivesBehind.{IsLeft}
+use Rattle.papaya_grows.proofs.Given.LoggedReclaiming.Finds.{left_before, root_value, step_handed}
+use Rattle.papaya_grows.proofs.Given.LoggedReclaimGives.{taken_gone}
+use Rattle.papaya_grows.proofs.Given.LoggedReclaiming.Rows.{begun_kept}
 use Rattle.papaya_legal.specs.AllEvents.{SlotsLeaveRoots}
-use Rattle.papaya_grows.proofs.Given.Scenes.Told.{as_step}
-use Rattle.papaya_grows.specs.Given.Scenes.Held.{Held}
-use Rattle.papaya_grows.specs.Given.Scenes.Scene.{Scene}
+use Rattle.papaya_grows.proofs.Given.ScenesTold.{as_step}
+use Rattle.papaya_grows.specs.Given.ScenesHeld.{Held}
+use Rattle.papaya_grows.specs.Given.ScenesScene.{Scene}
 
 -- What rows take away is written down.
 

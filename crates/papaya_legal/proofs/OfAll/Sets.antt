@@ -3,52 +3,52 @@ use Rattle.std.specs.Prelude.{◌≡◌, ◌⊎◌, ◌<◌, ◌^◌, ◌+◌, �
 use Rattle.std.specs.List.{AllByRecursion}
 use Rattle.std.proofs.Common.{refl, ap, sym, subst, ◌∙◌, arith, inl, inr}
 use Rattle.std.proofs.lemmas.List.{append-nil}
-use Rattle.papaya_grows.specs.Given.SeizeWords.Mem.{Mem, Took, value_at}
-use Rattle.papaya_grows.specs.Given.SeizeWords.Plan.{Steps}
-use Rattle.papaya_grows.specs.Given.SeizeWords.Op.{Store}
-use Rattle.papaya_grows.specs.Given.SeizeWords.declared.at.At.{At}
-use Rattle.papaya_grows.specs.Given.SeizeWords.declared.at.At.TheVariants as name
-use Rattle.papaya_grows.proofs.Given.SeizeWords.OneOwner.Operations.{stored}
-use Rattle.papaya_grows.specs.Given.Seize.Enter.{unregister_plan}
-use Rattle.papaya_grows.specs.Given.Seize.Leave.{leave_plan, leaving}
-use Rattle.papaya_grows.specs.Given.Seize.ReclaimAll.{next_batch, next_free, next_head, plan_at, reclaiming_all, standing, to, within}
-use Rattle.papaya_grows.specs.Given.Seize.Sequence.{Calls, IsBetween, ended_by, taken_in}
-use Rattle.papaya_grows.specs.Given.Seize.Settle.{flushing, settle_plan}
-use Rattle.papaya_grows.specs.Given.Seize.WaitingSets.{Change}
-use Rattle.papaya_grows.specs.Given.Seize.World.{World, Rests, Request, Register', Leave', Flush, Unregister', Event, Begin, Step, Clears, Operates, Begins, Steps', Happens, Runs}
-use Rattle.papaya_grows.specs.Given.Seize.declared.progress.Progress.{Progress}
-use Rattle.papaya_grows.specs.Given.Seize.declared.rows.enter.Unregister.{Unregister}
-use Rattle.papaya_grows.specs.Given.Seize.declared.rows.leave.Leave.{Leave}
-use Rattle.papaya_grows.specs.Given.Seize.declared.rows.reclaim_all.ReclaimAll.{ReclaimAll}
-use Rattle.papaya_grows.specs.Given.Seize.declared.rows.reclaim_all.Reclaiming.{Reclaiming}
-use Rattle.papaya_grows.specs.Given.Seize.declared.rows.reclaim_all.Reclaiming.TheVariants as at
-use Rattle.papaya_grows.specs.Given.Seize.declared.rows.settle.Settle.{Settle}
-use Rattle.papaya_grows.specs.Given.Seize.declared.rows.settle.Settled.{Settled}
-use Rattle.papaya_grows.specs.Given.Seize.declared.rows.settle.Settled.TheVariants as settled
-use Rattle.papaya_grows.specs.Given.Seize.declared.states.TheConstants.{HEAD, IDLE, LAST_SLOT}
-use Rattle.papaya_grows.proofs.Given.SeizeRule.Rows.Leaving.{steps_back}
-use Rattle.papaya_grows.proofs.Given.SeizeRule.World.Rested.{Rested, calls_rested}
-use Rattle.papaya_grows.specs.Given.SeizeSets.Reclaims.{is_on_slots}
-use Rattle.papaya_grows.proofs.Given.SeizeSets.Reclaims.Stages.{Stage, first_stage, head_on, retake_on, leave_on, batch_on, flush_on, give_up_on}
-use Rattle.papaya_grows.specs.Given.SeizeAlone.Alone.{TakesSteps}
-use Rattle.papaya_grows.proofs.Given.SeizeAlone.Whole.Register.{steps_more, steps_end}
-use Rattle.papaya_grows.specs.Given.Tables.Nodes.{deferred_word, was_left}
-use Rattle.papaya_grows.specs.Given.Tables.declared.node.Node.{Node}
-use Rattle.papaya_grows.specs.Given.Callers.Together.{CameAbout, UnderWay}
-use Rattle.papaya_grows.specs.Given.Finishes.Endings.{Finishing}
-use Rattle.papaya_grows.specs.Given.Finishes.FactsEnds.{TakesLeft, WritesRoot, events_of}
-use Rattle.papaya_grows.specs.Given.Finishes.Makings.{Beginning}
-use Rattle.papaya_grows.specs.Given.Finishes.Maps.{Standing}
-use Rattle.papaya_grows.specs.Given.SeizeReclaims.AllReclaimed.{is_within}
-use Rattle.papaya_grows.proofs.Given.SeizeReclaims.AllReclaimed.Weights.{at_next_batch, at_next_head}
-use Rattle.papaya_grows.specs.Given.Reclaims.Reclaims.{ReclaimingAt, StepsOfReclaiming}
-use Rattle.papaya_grows.specs.Given.Reclaims.Slots.{AllRest, AreItsRows, DoesAt, IsQuiet}
-use Rattle.papaya_grows.specs.Given.SeizeQuiet.Slots.{BeginsAt}
-use Rattle.papaya_grows.proofs.Given.SeizeQuiet.Slots.Facts.{no_word, outside_at, rested_by}
-use Rattle.papaya_grows.specs.Given.Models.Reclaims.{HasReclaimed}
-use Rattle.papaya_grows.specs.Given.Models.Turns.{CameByTurns}
-use Rattle.papaya_grows.proofs.Given.Models.Reclaims.{has_reclaimed, quiet_reclaimed}
-use Rattle.papaya_grows.proofs.Given.Models.Turns.{events_follow}
+use Rattle.papaya_grows.specs.Given.SeizeWordsMem.{Mem, Took, value_at}
+use Rattle.papaya_grows.specs.Given.SeizeWordsPlan.{Steps}
+use Rattle.papaya_grows.specs.Given.SeizeWordsOp.{Store}
+use Rattle.papaya_grows.specs.Given.SeizeWordsDeclared.at.At.{At}
+use Rattle.papaya_grows.specs.Given.SeizeWordsDeclared.at.At.TheVariants as name
+use Rattle.papaya_grows.proofs.Given.SeizeWordsOneOwner.Operations.{stored}
+use Rattle.papaya_grows.specs.Given.SeizeEnter.{unregister_plan}
+use Rattle.papaya_grows.specs.Given.SeizeLeave.{leave_plan, leaving}
+use Rattle.papaya_grows.specs.Given.SeizeReclaimAll.{next_batch, next_free, next_head, plan_at, reclaiming_all, standing, to, within}
+use Rattle.papaya_grows.specs.Given.SeizeSequence.{Calls, IsBetween, ended_by, taken_in}
+use Rattle.papaya_grows.specs.Given.SeizeSettle.{flushing, settle_plan}
+use Rattle.papaya_grows.specs.Given.SeizeWaitingSets.{Change}
+use Rattle.papaya_grows.specs.Given.SeizeWorld.{World, Rests, Request, Register', Leave', Flush, Unregister', Event, Begin, Step, Clears, Operates, Begins, Steps', Happens, Runs}
+use Rattle.papaya_grows.specs.Given.SeizeDeclared.progress.Progress.{Progress}
+use Rattle.papaya_grows.specs.Given.SeizeDeclared.rows.enter.Unregister.{Unregister}
+use Rattle.papaya_grows.specs.Given.SeizeDeclared.rows.leave.Leave.{Leave}
+use Rattle.papaya_grows.specs.Given.SeizeDeclared.rows.reclaim_all.ReclaimAll.{ReclaimAll}
+use Rattle.papaya_grows.specs.Given.SeizeDeclared.rows.reclaim_all.Reclaiming.{Reclaiming}
+use Rattle.papaya_grows.specs.Given.SeizeDeclared.rows.reclaim_all.Reclaiming.TheVariants as at
+use Rattle.papaya_grows.specs.Given.SeizeDeclared.rows.settle.Settle.{Settle}
+use Rattle.papaya_grows.specs.Given.SeizeDeclared.rows.settle.Settled.{Settled}
+use Rattle.papaya_grows.specs.Given.SeizeDeclared.rows.settle.Settled.TheVariants as settled
+use Rattle.papaya_grows.specs.Given.SeizeDeclared.states.TheConstants.{HEAD, IDLE, LAST_SLOT}
+use Rattle.papaya_grows.proofs.Given.SeizeRuleRows.Leaving.{steps_back}
+use Rattle.papaya_grows.proofs.Given.SeizeRuleWorld.Rested.{Rested, calls_rested}
+use Rattle.papaya_grows.specs.Given.SeizeSetsReclaims.{is_on_slots}
+use Rattle.papaya_grows.proofs.Given.SeizeSetsReclaims.Stages.{Stage, first_stage, head_on, retake_on, leave_on, batch_on, flush_on, give_up_on}
+use Rattle.papaya_grows.specs.Given.SeizeAloneAlone.{TakesSteps}
+use Rattle.papaya_grows.proofs.Given.SeizeAloneWhole.Register.{steps_more, steps_end}
+use Rattle.papaya_grows.specs.Given.TablesNodes.{deferred_word, was_left}
+use Rattle.papaya_grows.specs.Given.TablesDeclared.node.Node.{Node}
+use Rattle.papaya_grows.specs.Given.CallersTogether.{CameAbout, UnderWay}
+use Rattle.papaya_grows.specs.Given.FinishesEndings.{Finishing}
+use Rattle.papaya_grows.specs.Given.FinishesFactsEnds.{TakesLeft, WritesRoot, events_of}
+use Rattle.papaya_grows.specs.Given.FinishesMakings.{Beginning}
+use Rattle.papaya_grows.specs.Given.FinishesMaps.{Standing}
+use Rattle.papaya_grows.specs.Given.SeizeReclaimsAllReclaimed.{is_within}
+use Rattle.papaya_grows.proofs.Given.SeizeReclaimsAllReclaimed.Weights.{at_next_batch, at_next_head}
+use Rattle.papaya_grows.specs.Given.ReclaimsReclaims.{ReclaimingAt, StepsOfReclaiming}
+use Rattle.papaya_grows.specs.Given.ReclaimsSlots.{AllRest, AreItsRows, DoesAt, IsQuiet}
+use Rattle.papaya_grows.specs.Given.SeizeQuietSlots.{BeginsAt}
+use Rattle.papaya_grows.proofs.Given.SeizeQuietSlots.Facts.{no_word, outside_at, rested_by}
+use Rattle.papaya_grows.specs.Given.ModelsReclaims.{HasReclaimed}
+use Rattle.papaya_grows.specs.Given.ModelsTurns.{CameByTurns}
+use Rattle.papaya_grows.proofs.Given.ModelsReclaims.{has_reclaimed, quiet_reclaimed}
+use Rattle.papaya_grows.proofs.Given.ModelsTurns.{events_follow}
 
 -- where nothing but what lies between rows happened, and rows alone, nothing happened
 pub none_of_rows : {T : Type 0} (i : ℕ) (events : List (Event T)) → AreItsRows i events → AllByRecursion IsBetween events → events ≡ []

@@ -3,53 +3,53 @@ use Rattle.std.specs.Prelude.{◌≡◌, ◌⊎◌, ◌<◌, ◌≤◌, ℕ, Boo
 use Rattle.std.specs.List.{All}
 use Rattle.std.proofs.Common.{refl, ap, sym, subst, ◌∙◌, inl, inr}
 use Rattle.std.proofs.lemmas.List.Elements.{All-map}
-use Rattle.papaya_grows.specs.Given.SeizeWords.Mem.{Mem, word_at}
-use Rattle.papaya_grows.specs.Given.SeizeWords.declared.at.At.TheVariants.{Word}
-use Rattle.papaya_grows.specs.Given.Seize.ReclaimAll.{reclaim_all_plan}
-use Rattle.papaya_grows.specs.Given.Seize.declared.rows.reclaim_all.ReclaimAll.{ReclaimAll}
-use Rattle.papaya_grows.specs.Given.Seize.declared.rows.settle.Settled.{Settled}
-use Rattle.papaya_grows.specs.Given.Tables.Nodes.{deferred_word, was_left}
-use Rattle.papaya_grows.specs.Given.Tables.declared.node.Node.{Node}
-use Rattle.papaya_grows.specs.Given.Tables.declared.setting.Setting.{Setting}
-use Rattle.papaya_grows.specs.Given.Schedules.declared.effect.Effect.{Effect}
-use Rattle.papaya_grows.specs.Given.Schedules.declared.effect.Effect.TheVariants.{Reclaimed}
-use Rattle.papaya_grows.specs.Given.Schedules.declared.effect.Table.{Table}
-use Rattle.papaya_grows.specs.Given.Schedules.declared.effect.Thing.{Thing}
-use Rattle.papaya_grows.specs.Given.Schedules.declared.effect.Thing.TheVariants.{APair, ATable}
-use Rattle.papaya_grows.specs.Given.Schedules.Effects.{at_stage, with_effect, with_effects}
-use Rattle.papaya_grows.specs.Given.Schedules.Moment.{IsReclaimed, Moment, TableThere}
-use Rattle.papaya_grows.specs.Given.Schedules.Things.{same_table}
-use Rattle.papaya_grows.specs.Given.Teller.declared.changed.Changed.{Changed}
-use Rattle.papaya_grows.specs.Given.Callers.Together.{UnderWay, OnKey}
-use Rattle.papaya_grows.specs.Given.Effects.Effects.{effects_of, known_after}
-use Rattle.papaya_grows.specs.Given.Effects.Known.{Known}
-use Rattle.papaya_grows.specs.Given.Effects.declared.acting.Acting.TheVariants.{Row}
-use Rattle.papaya_grows.proofs.Given.Follows.Operations.{Operated, operated}
-use Rattle.papaya_grows.specs.Given.Moments.Numbers.{NumbersMaps}
-use Rattle.papaya_grows.specs.Given.Moments.Whole.{ShowsWhole}
-use Rattle.papaya_grows.proofs.Given.Moments.NewMaps.{effects_keep_pairs}
-use Rattle.papaya_grows.proofs.Given.Others.RowPlans.{TellsRow}
-use Rattle.papaya_grows.proofs.Given.Histories.Questions.{effects_keep_questions}
-use Rattle.papaya_grows.specs.Given.Scenes.Reclaiming.{IsReclaiming, ReclaimingLeads}
-use Rattle.papaya_grows.proofs.Given.Scenes.May.{may_reclaim}
-use Rattle.papaya_grows.proofs.Given.Logged.Reclaiming.Rest.{reclaiming_found, reclaiming_keeps}
-use Rattle.papaya_grows.proofs.Given.Logged.Reclaiming.Rows.{EmptiesRoot, reclaiming_tells}
-use Rattle.papaya_grows.proofs.Given.Logged.Reclaiming.Steps.{reclaiming_whole}
-use Rattle.papaya_grows.specs.Given.Promises.Reading.{ShowsReading}
-use Rattle.papaya_grows.proofs.Given.Settles.Uncounted.{CountsNowhere}
-use Rattle.papaya_grows.specs.Given.Shards.ShardWords.{ShowsCounters, ShowsShards}
-use Rattle.papaya_grows.proofs.Given.Shards.ShardKept.{none_shards, same_setting, word_kept}
+use Rattle.papaya_grows.specs.Given.SeizeWordsMem.{Mem, word_at}
+use Rattle.papaya_grows.specs.Given.SeizeWordsDeclared.at.At.TheVariants.{Word}
+use Rattle.papaya_grows.specs.Given.SeizeReclaimAll.{reclaim_all_plan}
+use Rattle.papaya_grows.specs.Given.SeizeDeclared.rows.reclaim_all.ReclaimAll.{ReclaimAll}
+use Rattle.papaya_grows.specs.Given.SeizeDeclared.rows.settle.Settled.{Settled}
+use Rattle.papaya_grows.specs.Given.TablesNodes.{deferred_word, was_left}
+use Rattle.papaya_grows.specs.Given.TablesDeclared.node.Node.{Node}
+use Rattle.papaya_grows.specs.Given.TablesDeclared.setting.Setting.{Setting}
+use Rattle.papaya_grows.specs.Given.SchedulesDeclared.effect.Effect.{Effect}
+use Rattle.papaya_grows.specs.Given.SchedulesDeclared.effect.Effect.TheVariants.{Reclaimed}
+use Rattle.papaya_grows.specs.Given.SchedulesDeclared.effect.Table.{Table}
+use Rattle.papaya_grows.specs.Given.SchedulesDeclared.effect.Thing.{Thing}
+use Rattle.papaya_grows.specs.Given.SchedulesDeclared.effect.Thing.TheVariants.{APair, ATable}
+use Rattle.papaya_grows.specs.Given.SchedulesEffects.{at_stage, with_effect, with_effects}
+use Rattle.papaya_grows.specs.Given.SchedulesMoment.{IsReclaimed, Moment, TableThere}
+use Rattle.papaya_grows.specs.Given.SchedulesThings.{same_table}
+use Rattle.papaya_grows.specs.Given.TellerDeclared.changed.Changed.{Changed}
+use Rattle.papaya_grows.specs.Given.CallersTogether.{UnderWay, OnKey}
+use Rattle.papaya_grows.specs.Given.EffectsEffects.{effects_of, known_after}
+use Rattle.papaya_grows.specs.Given.EffectsKnown.{Known}
+use Rattle.papaya_grows.specs.Given.EffectsDeclared.acting.Acting.TheVariants.{Row}
+use Rattle.papaya_grows.proofs.Given.FollowsOperations.{Operated, operated}
+use Rattle.papaya_grows.specs.Given.MomentsNumbers.{NumbersMaps}
+use Rattle.papaya_grows.specs.Given.MomentsWhole.{ShowsWhole}
+use Rattle.papaya_grows.proofs.Given.MomentsNewMaps.{effects_keep_pairs}
+use Rattle.papaya_grows.proofs.Given.OthersRowPlans.{TellsRow}
+use Rattle.papaya_grows.proofs.Given.HistoriesQuestions.{effects_keep_questions}
+use Rattle.papaya_grows.specs.Given.ScenesReclaiming.{IsReclaiming, ReclaimingLeads}
+use Rattle.papaya_grows.proofs.Given.ScenesMay.{may_reclaim}
+use Rattle.papaya_grows.proofs.Given.LoggedReclaiming.Rest.{reclaiming_found, reclaiming_keeps}
+use Rattle.papaya_grows.proofs.Given.LoggedReclaiming.Rows.{EmptiesRoot, reclaiming_tells}
+use Rattle.papaya_grows.proofs.Given.LoggedReclaiming.Steps.{reclaiming_whole}
+use Rattle.papaya_grows.specs.Given.PromisesReading.{ShowsReading}
+use Rattle.papaya_grows.proofs.Given.SettlesUncounted.{CountsNowhere}
+use Rattle.papaya_grows.specs.Given.ShardsShardWords.{ShowsCounters, ShowsShards}
+use Rattle.papaya_grows.proofs.Given.ShardsShardKept.{none_shards, same_setting, word_kept}
 use Rattle.papaya_legal.specs.AllEvents.{scene_in}
 use Rattle.papaya_legal.specs.Carried.{ShowsCalls}
-use Rattle.papaya_grows.proofs.Given.Spots.Effects.{AllAside}
+use Rattle.papaya_grows.proofs.Given.SpotsEffects.{AllAside}
 use Rattle.papaya_legal.proofs.Sourced.{reclaimed_aside, same_maps_aside}
 use Rattle.papaya_grows.proofs.Finding.Others.{finding_of_none}
 use Rattle.papaya_legal.proofs.OfAll.Tells.{gone_by, it_reclaims, none_under_way}
 use Rattle.papaya_legal.proofs.Uncounted.{none_counted}
-use Rattle.papaya_grows.specs.Given.Scenes.Held.{Held}
-use Rattle.papaya_grows.specs.Given.Scenes.Scene.{Scene}
-use Rattle.papaya_grows.specs.Given.Schedules.Transition.{Past}
-use Rattle.papaya_grows.proofs.Given.Purposes.Stored.{effects_stored, numbers_last}
+use Rattle.papaya_grows.specs.Given.ScenesHeld.{Held}
+use Rattle.papaya_grows.specs.Given.ScenesScene.{Scene}
+use Rattle.papaya_grows.specs.Given.SchedulesTransition.{Past}
+use Rattle.papaya_grows.proofs.Given.PurposesStored.{effects_stored, numbers_last}
 
 -- Maps have their numbers still once something is reclaimed.
 

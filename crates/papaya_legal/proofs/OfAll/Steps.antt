@@ -3,31 +3,31 @@ use Rattle.std.specs.Prelude.{◌≡◌, ℕ, Bool, true, ◌&&◌, List, [], �
 use Rattle.std.specs.List.{list_all}
 use Rattle.std.proofs.Common.{refl, ap, sym, subst, ◌∙◌, inl}
 use Rattle.std.proofs.lemmas.List.{append-nil}
-use Rattle.papaya_grows.specs.Given.Seize.Sequence.{taken_in}
-use Rattle.papaya_grows.specs.Given.Seize.World.{World}
-use Rattle.papaya_grows.specs.Given.Seize.declared.rows.reclaim_all.ReclaimAll.{ReclaimAll}
-use Rattle.papaya_grows.specs.Given.Seize.declared.rows.settle.Settled.{Settled}
-use Rattle.papaya_grows.specs.Given.SeizeSets.Reclaims.{is_on_slots}
-use Rattle.papaya_grows.specs.Given.Tables.declared.node.Node.{Node}
-use Rattle.papaya_grows.specs.Given.Schedules.declared.effect.Effect.{Effect}
-use Rattle.papaya_grows.specs.Given.Schedules.declared.effect.Effect.TheVariants.{Reclaimed}
-use Rattle.papaya_grows.specs.Given.Schedules.declared.effect.Thing.{Thing}
-use Rattle.papaya_grows.specs.Given.Schedules.After.{moment}
-use Rattle.papaya_grows.specs.Given.Schedules.Effects.{with_effects, AtEachEffect}
-use Rattle.papaya_grows.specs.Given.Schedules.Entry.{Entry}
-use Rattle.papaya_grows.specs.Given.Schedules.Handing.{is_reclaiming}
-use Rattle.papaya_grows.specs.Given.Schedules.Moment.{Moment}
-use Rattle.papaya_grows.specs.Given.Schedules.Terms.{Terms}
-use Rattle.papaya_grows.specs.Given.Effects.Effects.{effects_of, known_after}
-use Rattle.papaya_grows.specs.Given.Effects.Known.{Known}
-use Rattle.papaya_grows.specs.Given.Effects.declared.acting.Acting.TheVariants.{Row}
-use Rattle.papaya_grows.specs.Given.Moments.OnSlots.{HadRetired}
-use Rattle.papaya_grows.proofs.Given.Moments.After.{effects_after}
-use Rattle.papaya_grows.proofs.Given.Spots.Unreclaimed.{and_both}
-use Rattle.papaya_grows.specs.Given.Scenes.Reclaiming.{IsReclaiming, ReclaimingLeads}
-use Rattle.papaya_grows.proofs.Given.Logged.Reclaiming.Rest.{reclaiming_found}
-use Rattle.papaya_grows.proofs.Given.Promises.Weights.{grants_add_up, operations_are_single}
-use Rattle.papaya_grows.proofs.Given.Models.MapEvents.{moments_note_once}
+use Rattle.papaya_grows.specs.Given.SeizeSequence.{taken_in}
+use Rattle.papaya_grows.specs.Given.SeizeWorld.{World}
+use Rattle.papaya_grows.specs.Given.SeizeDeclared.rows.reclaim_all.ReclaimAll.{ReclaimAll}
+use Rattle.papaya_grows.specs.Given.SeizeDeclared.rows.settle.Settled.{Settled}
+use Rattle.papaya_grows.specs.Given.SeizeSetsReclaims.{is_on_slots}
+use Rattle.papaya_grows.specs.Given.TablesDeclared.node.Node.{Node}
+use Rattle.papaya_grows.specs.Given.SchedulesDeclared.effect.Effect.{Effect}
+use Rattle.papaya_grows.specs.Given.SchedulesDeclared.effect.Effect.TheVariants.{Reclaimed}
+use Rattle.papaya_grows.specs.Given.SchedulesDeclared.effect.Thing.{Thing}
+use Rattle.papaya_grows.specs.Given.SchedulesAfter.{moment}
+use Rattle.papaya_grows.specs.Given.SchedulesEffects.{with_effects, AtEachEffect}
+use Rattle.papaya_grows.specs.Given.SchedulesEntry.{Entry}
+use Rattle.papaya_grows.specs.Given.SchedulesHanding.{is_reclaiming}
+use Rattle.papaya_grows.specs.Given.SchedulesMoment.{Moment}
+use Rattle.papaya_grows.specs.Given.SchedulesTerms.{Terms}
+use Rattle.papaya_grows.specs.Given.EffectsEffects.{effects_of, known_after}
+use Rattle.papaya_grows.specs.Given.EffectsKnown.{Known}
+use Rattle.papaya_grows.specs.Given.EffectsDeclared.acting.Acting.TheVariants.{Row}
+use Rattle.papaya_grows.specs.Given.MomentsOnSlots.{HadRetired}
+use Rattle.papaya_grows.proofs.Given.MomentsAfter.{effects_after}
+use Rattle.papaya_grows.proofs.Given.SpotsUnreclaimed.{and_both}
+use Rattle.papaya_grows.specs.Given.ScenesReclaiming.{IsReclaiming, ReclaimingLeads}
+use Rattle.papaya_grows.proofs.Given.LoggedReclaiming.Rest.{reclaiming_found}
+use Rattle.papaya_grows.proofs.Given.PromisesWeights.{grants_add_up, operations_are_single}
+use Rattle.papaya_grows.proofs.Given.ModelsMapEvents.{moments_note_once}
 use Rattle.papaya_legal.specs.AllEvents.{AllChain, AllCome, AllEventsBegin, AllSteps, InAllEvent, scene_in}
 use Rattle.papaya_legal.proofs.Chains.{chains_keep}
 use Rattle.papaya_legal.proofs.OfAll.Roots.{slots_leave_roots}
@@ -35,9 +35,9 @@ use Rattle.papaya_legal.proofs.OfAll.Stays.{calls_then, reading_then}
 use Rattle.papaya_legal.proofs.OfAll.Tells.{gone_by, it_reclaims}
 use Rattle.papaya_legal.proofs.OfAll.Turns.{left_stays, takes_in_turn}
 use Rattle.papaya_legal.proofs.Slots.{each_join}
-use Rattle.papaya_grows.specs.Given.Scenes.Held.{Held}
-use Rattle.papaya_grows.specs.Given.Scenes.Scene.{Scene}
-use Rattle.papaya_grows.specs.Given.Schedules.Transition.{past}
+use Rattle.papaya_grows.specs.Given.ScenesHeld.{Held}
+use Rattle.papaya_grows.specs.Given.ScenesScene.{Scene}
+use Rattle.papaya_grows.specs.Given.SchedulesTransition.{past}
 
 both_reclaim : (done more : List Effect) → list_all is_reclaiming done ≡ true → list_all is_reclaiming more ≡ true → list_all is_reclaiming (done ++ more) ≡ true
 both_reclaim [] more first later = later

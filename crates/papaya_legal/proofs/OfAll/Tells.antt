@@ -1,57 +1,57 @@
 -- What a step does by which all is reclaimed: it reclaims what was noted in the block that it takes away, and does nothing else.
 use Rattle.std.specs.Prelude.{◌≡◌, ◌⊎◌, ℕ, Bool, true, false, List, [], map, Some, Ok, Err, if◌then◌else◌}
 use Rattle.std.proofs.Common.{refl, ap, sym, subst, inl, inr}
-use Rattle.papaya_grows.specs.Given.SeizeWords.Mem.{Mem}
-use Rattle.papaya_grows.specs.Given.SeizeWords.Op.{Op, Out, Load, Store, Swap, Add, Or, Exchange, Make, Take, Rewrite, Room, Found, Exchanged, Made}
-use Rattle.papaya_grows.specs.Given.SeizeWords.Plan.{Plan, Turn, Do, plan_as}
-use Rattle.papaya_grows.specs.Given.SeizeWords.Word.{block_in}
-use Rattle.papaya_grows.specs.Given.SeizeWords.declared.at.At.TheVariants.{Root, Used, Slot, Entry, Word}
-use Rattle.papaya_grows.specs.Given.Seize.Leave as leave
-use Rattle.papaya_grows.specs.Given.Seize.ReclaimAll as all
-use Rattle.papaya_grows.specs.Given.Seize.Settle as settle
-use Rattle.papaya_grows.specs.Given.Seize.Sequence.{taken_in}
-use Rattle.papaya_grows.specs.Given.Seize.World.{World}
-use Rattle.papaya_grows.specs.Given.Seize.declared.rows.leave.Leave.{Leave}
-use Rattle.papaya_grows.specs.Given.Seize.declared.rows.leave.Leaving.{Leaving}
-use Rattle.papaya_grows.specs.Given.Seize.declared.rows.leave.Leaving.TheVariants as leaving
-use Rattle.papaya_grows.specs.Given.Seize.declared.rows.reclaim_all.ReclaimAll.{ReclaimAll}
-use Rattle.papaya_grows.specs.Given.Seize.declared.rows.reclaim_all.Reclaiming.{Reclaiming}
-use Rattle.papaya_grows.specs.Given.Seize.declared.rows.reclaim_all.Reclaiming.TheVariants as at
-use Rattle.papaya_grows.specs.Given.Seize.declared.rows.settle.Settle.{Settle}
-use Rattle.papaya_grows.specs.Given.Seize.declared.rows.settle.Settled.{Settled}
-use Rattle.papaya_grows.specs.Given.Seize.declared.rows.settle.Settled.TheVariants as settled
-use Rattle.papaya_grows.specs.Given.Seize.declared.rows.settle.Settling.{Settling}
-use Rattle.papaya_grows.specs.Given.Seize.declared.rows.settle.Settling.TheVariants as settling
-use Rattle.papaya_grows.specs.Given.Tables.Nodes.{deferred_word, was_left}
-use Rattle.papaya_grows.specs.Given.Tables.declared.node.Node.{Node}
-use Rattle.papaya_grows.specs.Given.Schedules.declared.effect.Effect.TheVariants.{Reclaimed}
-use Rattle.papaya_grows.specs.Given.Schedules.declared.effect.Thing.{Thing}
-use Rattle.papaya_grows.specs.Given.Schedules.Moment.{Moment}
-use Rattle.papaya_grows.specs.Given.Tells.Seen.{seen_of}
-use Rattle.papaya_grows.specs.Given.Teller.Tells.{StepsTold, told_of}
-use Rattle.papaya_grows.specs.Given.Teller.declared.changed.Changed.{Changed}
-use Rattle.papaya_grows.specs.Given.Teller.declared.changed.Changed.TheVariants as changed
-use Rattle.papaya_grows.specs.Given.Callers.Together.{UnderWay}
-use Rattle.papaya_grows.specs.Given.Effects.Effects.{effects_of, known_after, named, names_same, taken_by}
-use Rattle.papaya_grows.specs.Given.Effects.Known.{Known}
-use Rattle.papaya_grows.specs.Given.Effects.declared.acting.Acting.TheVariants.{Row}
-use Rattle.papaya_grows.specs.Given.Effects.declared.role.Role.{Role}
-use Rattle.papaya_grows.specs.Given.Effects.declared.role.Role.TheVariants as role
-use Rattle.papaya_grows.specs.Given.Follows.Steps.{TakesNone}
-use Rattle.papaya_grows.proofs.Given.Follows.Told.{roomed_as_many}
-use Rattle.papaya_grows.proofs.Given.Others.RowPlans.{TellsRow}
-use Rattle.papaya_grows.specs.Given.Moments.Whole.{ShowsWhole}
-use Rattle.papaya_grows.specs.Given.Owes.Tables.{HoldsTable}
-use Rattle.papaya_grows.specs.Given.Reclaims.Reclaims.{HasTaken, ReclaimingTold}
-use Rattle.papaya_grows.specs.Given.Scenes.Reclaiming.{IsReclaiming, ReclaimingLeads}
-use Rattle.papaya_grows.proofs.Given.Logged.ReclaimGives.{GivesOr, reclaiming_gives, taken_gone}
-use Rattle.papaya_grows.proofs.Given.Logged.Reclaiming.Rows.{EmptiesRoot, reclaiming_tells}
-use Rattle.papaya_grows.proofs.Given.Logged.Reclaiming.Steps.{left, no_call, nothing_there, root_none}
-use Rattle.papaya_grows.specs.Given.Kept.Kept.{ShowsKept}
-use Rattle.papaya_grows.specs.Given.Models.Numbers.{things_of}
-use Rattle.papaya_grows.proofs.Given.Models.RowSteps.{roles_after}
-use Rattle.papaya_grows.specs.Given.Scenes.Held.{Held}
-use Rattle.papaya_grows.specs.Given.Scenes.Scene.{Scene}
+use Rattle.papaya_grows.specs.Given.SeizeWordsMem.{Mem}
+use Rattle.papaya_grows.specs.Given.SeizeWordsOp.{Op, Out, Load, Store, Swap, Add, Or, Exchange, Make, Take, Rewrite, Room, Found, Exchanged, Made}
+use Rattle.papaya_grows.specs.Given.SeizeWordsPlan.{Plan, Turn, Do, plan_as}
+use Rattle.papaya_grows.specs.Given.SeizeWordsWord.{block_in}
+use Rattle.papaya_grows.specs.Given.SeizeWordsDeclared.at.At.TheVariants.{Root, Used, Slot, Entry, Word}
+use Rattle.papaya_grows.specs.Given.SeizeLeave as leave
+use Rattle.papaya_grows.specs.Given.SeizeReclaimAll as all
+use Rattle.papaya_grows.specs.Given.SeizeSettle as settle
+use Rattle.papaya_grows.specs.Given.SeizeSequence.{taken_in}
+use Rattle.papaya_grows.specs.Given.SeizeWorld.{World}
+use Rattle.papaya_grows.specs.Given.SeizeDeclared.rows.leave.Leave.{Leave}
+use Rattle.papaya_grows.specs.Given.SeizeDeclared.rows.leave.Leaving.{Leaving}
+use Rattle.papaya_grows.specs.Given.SeizeDeclared.rows.leave.Leaving.TheVariants as leaving
+use Rattle.papaya_grows.specs.Given.SeizeDeclared.rows.reclaim_all.ReclaimAll.{ReclaimAll}
+use Rattle.papaya_grows.specs.Given.SeizeDeclared.rows.reclaim_all.Reclaiming.{Reclaiming}
+use Rattle.papaya_grows.specs.Given.SeizeDeclared.rows.reclaim_all.Reclaiming.TheVariants as at
+use Rattle.papaya_grows.specs.Given.SeizeDeclared.rows.settle.Settle.{Settle}
+use Rattle.papaya_grows.specs.Given.SeizeDeclared.rows.settle.Settled.{Settled}
+use Rattle.papaya_grows.specs.Given.SeizeDeclared.rows.settle.Settled.TheVariants as settled
+use Rattle.papaya_grows.specs.Given.SeizeDeclared.rows.settle.Settling.{Settling}
+use Rattle.papaya_grows.specs.Given.SeizeDeclared.rows.settle.Settling.TheVariants as settling
+use Rattle.papaya_grows.specs.Given.TablesNodes.{deferred_word, was_left}
+use Rattle.papaya_grows.specs.Given.TablesDeclared.node.Node.{Node}
+use Rattle.papaya_grows.specs.Given.SchedulesDeclared.effect.Effect.TheVariants.{Reclaimed}
+use Rattle.papaya_grows.specs.Given.SchedulesDeclared.effect.Thing.{Thing}
+use Rattle.papaya_grows.specs.Given.SchedulesMoment.{Moment}
+use Rattle.papaya_grows.specs.Given.TellsSeen.{seen_of}
+use Rattle.papaya_grows.specs.Given.TellerTells.{StepsTold, told_of}
+use Rattle.papaya_grows.specs.Given.TellerDeclared.changed.Changed.{Changed}
+use Rattle.papaya_grows.specs.Given.TellerDeclared.changed.Changed.TheVariants as changed
+use Rattle.papaya_grows.specs.Given.CallersTogether.{UnderWay}
+use Rattle.papaya_grows.specs.Given.EffectsEffects.{effects_of, known_after, named, names_same, taken_by}
+use Rattle.papaya_grows.specs.Given.EffectsKnown.{Known}
+use Rattle.papaya_grows.specs.Given.EffectsDeclared.acting.Acting.TheVariants.{Row}
+use Rattle.papaya_grows.specs.Given.EffectsDeclared.role.Role.{Role}
+use Rattle.papaya_grows.specs.Given.EffectsDeclared.role.Role.TheVariants as role
+use Rattle.papaya_grows.specs.Given.FollowsSteps.{TakesNone}
+use Rattle.papaya_grows.proofs.Given.FollowsTold.{roomed_as_many}
+use Rattle.papaya_grows.proofs.Given.OthersRowPlans.{TellsRow}
+use Rattle.papaya_grows.specs.Given.MomentsWhole.{ShowsWhole}
+use Rattle.papaya_grows.specs.Given.OwesTables.{HoldsTable}
+use Rattle.papaya_grows.specs.Given.ReclaimsReclaims.{HasTaken, ReclaimingTold}
+use Rattle.papaya_grows.specs.Given.ScenesReclaiming.{IsReclaiming, ReclaimingLeads}
+use Rattle.papaya_grows.proofs.Given.LoggedReclaimGives.{GivesOr, reclaiming_gives, taken_gone}
+use Rattle.papaya_grows.proofs.Given.LoggedReclaiming.Rows.{EmptiesRoot, reclaiming_tells}
+use Rattle.papaya_grows.proofs.Given.LoggedReclaiming.Steps.{left, no_call, nothing_there, root_none}
+use Rattle.papaya_grows.specs.Given.KeptKept.{ShowsKept}
+use Rattle.papaya_grows.specs.Given.ModelsNumbers.{things_of}
+use Rattle.papaya_grows.proofs.Given.ModelsRowSteps.{roles_after}
+use Rattle.papaya_grows.specs.Given.ScenesHeld.{Held}
+use Rattle.papaya_grows.specs.Given.ScenesScene.{Scene}
 
 -- It asks for no room.
 

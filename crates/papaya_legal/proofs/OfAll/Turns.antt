@@ -5,51 +5,51 @@ use Rattle.std.proofs.lemmas.Bool.{eq-eqb, ne_eqb}
 use Rattle.std.proofs.lemmas.Grind.{flat_map-append}
 use Rattle.std.proofs.lemmas.List.{append-nil}
 use Rattle.std.proofs.lemmas.List.Concat.{flat_map-cons}
-use Rattle.papaya_grows.specs.Given.SeizeWords.Mem.{value_at}
-use Rattle.papaya_grows.specs.Given.Seize.Law.{is_retired}
-use Rattle.papaya_grows.specs.Given.Seize.Sequence.{taken_in}
-use Rattle.papaya_grows.specs.Given.Seize.World.{World, times, with_at}
-use Rattle.papaya_grows.specs.Given.Seize.declared.rows.reclaim_all.ReclaimAll.{ReclaimAll}
-use Rattle.papaya_grows.specs.Given.Seize.declared.rows.settle.Settled.{Settled}
-use Rattle.papaya_grows.specs.Given.SeizeSets.Reclaims.{is_on_slots}
-use Rattle.papaya_grows.specs.Given.Tables.Nodes.{deferred_word}
-use Rattle.papaya_grows.specs.Given.Tables.declared.node.Node.{Node}
-use Rattle.papaya_grows.specs.Given.Schedules.declared.effect.Effect.{Effect}
-use Rattle.papaya_grows.specs.Given.Schedules.declared.effect.Effect.TheVariants.{Reclaimed}
-use Rattle.papaya_grows.specs.Given.Schedules.declared.effect.Thing.{Thing}
-use Rattle.papaya_grows.specs.Given.Schedules.Effects.{with_effects}
-use Rattle.papaya_grows.specs.Given.Schedules.Lists.{is_among}
-use Rattle.papaya_grows.specs.Given.Schedules.Model.{thing_back}
-use Rattle.papaya_grows.specs.Given.Schedules.Moment.{GivenBack, Handed, Moment}
-use Rattle.papaya_grows.specs.Given.Schedules.Views.{behind as behind_table}
-use Rattle.papaya_grows.specs.Given.Teller.declared.changed.Changed.{Changed}
-use Rattle.papaya_grows.specs.Given.Teller.declared.changed.Changed.TheVariants as changed
-use Rattle.papaya_grows.proofs.Given.Callers.Together.At.{at_same}
-use Rattle.papaya_grows.specs.Given.Effects.Effects.{effects_of, known_after}
-use Rattle.papaya_grows.specs.Given.Effects.Known.{Known}
-use Rattle.papaya_grows.specs.Given.Effects.declared.acting.Acting.TheVariants.{Row}
-use Rattle.papaya_grows.specs.Given.Effects.declared.role.Role.{Role}
-use Rattle.papaya_grows.specs.Given.Effects.declared.role.Role.TheVariants as role
-use Rattle.papaya_grows.specs.Given.Follows.Blocks.{HasRole}
-use Rattle.papaya_grows.specs.Given.Follows.Steps.{TakesNone}
-use Rattle.papaya_grows.proofs.Given.Follows.Alike.{put_elsewhere}
-use Rattle.papaya_grows.proofs.Given.Follows.Operations.{LeavesBy}
-use Rattle.papaya_grows.specs.Given.Moments.Whole.{ShowsWhole}
-use Rattle.papaya_grows.proofs.Given.Moments.OnSlots.{none_some}
-use Rattle.papaya_grows.specs.Given.SeizeReclaims.Roots.{all_lists}
-use Rattle.papaya_grows.specs.Given.Reclaims.Slots.{IsQuiet}
-use Rattle.papaya_grows.proofs.Given.SeizeQuiet.Slots.Facts.{nothing_left}
-use Rattle.papaya_grows.specs.Given.Scenes.Reclaiming.{IsReclaiming, ReclaimingLeads}
-use Rattle.papaya_grows.proofs.Given.Logged.Reclaiming.Steps.{left as leaves_there}
-use Rattle.papaya_grows.specs.Given.Kept.Kept.{ShowsKept}
-use Rattle.papaya_grows.specs.Given.Models.Numbers.{things_of}
-use Rattle.papaya_grows.proofs.Given.Models.OnSlots.{noted_still as still_noted}
-use Rattle.papaya_grows.specs.Given.Finds.Orderly.{is_left_over}
+use Rattle.papaya_grows.specs.Given.SeizeWordsMem.{value_at}
+use Rattle.papaya_grows.specs.Given.SeizeLaw.{is_retired}
+use Rattle.papaya_grows.specs.Given.SeizeSequence.{taken_in}
+use Rattle.papaya_grows.specs.Given.SeizeWorld.{World, times, with_at}
+use Rattle.papaya_grows.specs.Given.SeizeDeclared.rows.reclaim_all.ReclaimAll.{ReclaimAll}
+use Rattle.papaya_grows.specs.Given.SeizeDeclared.rows.settle.Settled.{Settled}
+use Rattle.papaya_grows.specs.Given.SeizeSetsReclaims.{is_on_slots}
+use Rattle.papaya_grows.specs.Given.TablesNodes.{deferred_word}
+use Rattle.papaya_grows.specs.Given.TablesDeclared.node.Node.{Node}
+use Rattle.papaya_grows.specs.Given.SchedulesDeclared.effect.Effect.{Effect}
+use Rattle.papaya_grows.specs.Given.SchedulesDeclared.effect.Effect.TheVariants.{Reclaimed}
+use Rattle.papaya_grows.specs.Given.SchedulesDeclared.effect.Thing.{Thing}
+use Rattle.papaya_grows.specs.Given.SchedulesEffects.{with_effects}
+use Rattle.papaya_grows.specs.Given.SchedulesLists.{is_among}
+use Rattle.papaya_grows.specs.Given.SchedulesModel.{thing_back}
+use Rattle.papaya_grows.specs.Given.SchedulesMoment.{GivenBack, Handed, Moment}
+use Rattle.papaya_grows.specs.Given.SchedulesViews.{behind as behind_table}
+use Rattle.papaya_grows.specs.Given.TellerDeclared.changed.Changed.{Changed}
+use Rattle.papaya_grows.specs.Given.TellerDeclared.changed.Changed.TheVariants as changed
+use Rattle.papaya_grows.proofs.Given.CallersTogether.At.{at_same}
+use Rattle.papaya_grows.specs.Given.EffectsEffects.{effects_of, known_after}
+use Rattle.papaya_grows.specs.Given.EffectsKnown.{Known}
+use Rattle.papaya_grows.specs.Given.EffectsDeclared.acting.Acting.TheVariants.{Row}
+use Rattle.papaya_grows.specs.Given.EffectsDeclared.role.Role.{Role}
+use Rattle.papaya_grows.specs.Given.EffectsDeclared.role.Role.TheVariants as role
+use Rattle.papaya_grows.specs.Given.FollowsBlocks.{HasRole}
+use Rattle.papaya_grows.specs.Given.FollowsSteps.{TakesNone}
+use Rattle.papaya_grows.proofs.Given.FollowsAlike.{put_elsewhere}
+use Rattle.papaya_grows.proofs.Given.FollowsOperations.{LeavesBy}
+use Rattle.papaya_grows.specs.Given.MomentsWhole.{ShowsWhole}
+use Rattle.papaya_grows.proofs.Given.MomentsOnSlots.{none_some}
+use Rattle.papaya_grows.specs.Given.SeizeReclaimsRoots.{all_lists}
+use Rattle.papaya_grows.specs.Given.ReclaimsSlots.{IsQuiet}
+use Rattle.papaya_grows.proofs.Given.SeizeQuietSlots.Facts.{nothing_left}
+use Rattle.papaya_grows.specs.Given.ScenesReclaiming.{IsReclaiming, ReclaimingLeads}
+use Rattle.papaya_grows.proofs.Given.LoggedReclaiming.Steps.{left as leaves_there}
+use Rattle.papaya_grows.specs.Given.KeptKept.{ShowsKept}
+use Rattle.papaya_grows.specs.Given.ModelsNumbers.{things_of}
+use Rattle.papaya_grows.proofs.Given.ModelsOnSlots.{noted_still as still_noted}
+use Rattle.papaya_grows.specs.Given.FindsOrderly.{is_left_over}
 use Rattle.papaya_legal.specs.AllEvents.{LeftIsBehind, TakesInTurn}
 use Rattle.papaya_legal.proofs.OfAll.Points.{first_taken, quiet_there, root_there, stays_off, takes_there}
 use Rattle.papaya_legal.proofs.OfAll.Tells.{HasDone, gone_by, has_done, it_reclaims, none_gone, noted_or_free, noted_still}
-use Rattle.papaya_grows.specs.Given.Scenes.Held.{Held}
-use Rattle.papaya_grows.specs.Given.Scenes.Scene.{Scene}
+use Rattle.papaya_grows.specs.Given.ScenesHeld.{Held}
+use Rattle.papaya_grows.specs.Given.ScenesScene.{Scene}
 
 no_longer : (b : ℕ) (xs : List ℕ) → xs ≡ b ∷ xs → ⊥
 no_longer b xs e = (let long : length xs ≡ length (b ∷ xs) = ap length e in absurd (omega (arith, long)))

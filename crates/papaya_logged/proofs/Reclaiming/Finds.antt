@@ -11,48 +11,48 @@ use Rattle.seize.specs.declared.rows.reclaim_all.ReclaimAll.{ReclaimAll}
 use Rattle.seize.specs.declared.rows.settle.Settled.{Settled}
 use Rattle.seize.specs.Law.{IsSound, is_retired as was_retired}
 use Rattle.seize.specs.World.{World, Hand, Handed, Event, Begin, Step, Steps', Runs}
-use Rattle.papaya_reclaiming.proofs.Given.SeizeMoves.State.Ghost.{is_given}
-use Rattle.papaya_reclaiming.proofs.Given.SeizeRule.World.Values.{own_op_value, taken_value}
-use Rattle.papaya_remains.proofs.Given.SeizeAlone.Histories.NotTaken.{did}
-use Rattle.papaya_remains.proofs.Given.SeizeAlone.Histories.Reached.{Reached, happens_reached, steps_reached}
-use Rattle.papaya_remains.proofs.Given.SeizeAlone.Spared.Rows.{RowStepped}
+use Rattle.papaya_reclaiming.proofs.Given.SeizeMovesState.Ghost.{is_given}
+use Rattle.papaya_reclaiming.proofs.Given.SeizeRuleWorld.Values.{own_op_value, taken_value}
+use Rattle.papaya_remains.proofs.Given.SeizeAloneHistories.NotTaken.{did}
+use Rattle.papaya_remains.proofs.Given.SeizeAloneHistories.Reached.{Reached, happens_reached, steps_reached}
+use Rattle.papaya_remains.proofs.Given.SeizeAloneSpared.Rows.{RowStepped}
 use Rattle.papaya_runs.specs.Given.Tables.Nodes.{deferred_word}
 use Rattle.papaya_runs.specs.Given.Tables.declared.node.Node.{Node}
-use Rattle.papaya_remains.specs.Given.Schedules.declared.effect.Effect.{Effect}
-use Rattle.papaya_remains.specs.Given.Schedules.declared.effect.Effect.TheVariants.{Asked}
-use Rattle.papaya_remains.specs.Given.Schedules.declared.effect.Growth.TheVariants.{ABucket}
-use Rattle.papaya_remains.specs.Given.Schedules.declared.effect.Table.{Table}
-use Rattle.papaya_remains.specs.Given.Schedules.Effects.{AtEachEffect}
-use Rattle.papaya_remains.specs.Given.Schedules.Moment.{Moment}
-use Rattle.papaya_remains.specs.Given.Schedules.Views.{is_retired, is_stage}
-use Rattle.papaya_reclaiming.specs.Given.Teller.declared.changed.Changed.{Changed}
-use Rattle.papaya_reclaiming.specs.Given.Teller.declared.changed.Changed.TheVariants as changed
-use Rattle.papaya_remains.specs.Given.Effects.Effects.{led_to, named, names_same, taken_by, effects_of}
-use Rattle.papaya_remains.specs.Given.Effects.Known.{Known}
-use Rattle.papaya_remains.specs.Given.Effects.declared.acting.Acting.TheVariants.{Row}
-use Rattle.papaya_remains.specs.Given.Effects.declared.role.Role.{Role}
-use Rattle.papaya_remains.specs.Given.Effects.declared.role.Role.TheVariants as role
-use Rattle.papaya_reclaiming.specs.Given.Finishes.FactsEnds.{TakesLeft, WritesRoot, events_of}
-use Rattle.papaya_reclaiming.specs.Given.Reclaims.Slots.{AreItsRows}
-use Rattle.papaya_reclaiming.specs.Given.Scenes.Reclaiming.{IsReclaiming, ReclaimingLeads}
-use Rattle.papaya_remains.specs.Given.Follows.Blocks.{HasRole}
-use Rattle.papaya_remains.proofs.Given.Follows.Operations.{LeavesBy}
-use Rattle.papaya_remains.proofs.Given.Follows.Writes.{nothing_free}
-use Rattle.papaya_remains.proofs.Given.Others.RowPlans.{TellsRow}
-use Rattle.papaya_remains.specs.Given.Spots.OnSlots.{WaitUnreclaimed}
-use Rattle.papaya_remains.specs.Given.Moments.OnSlots.{HadRetired}
-use Rattle.papaya_remains.specs.Given.Moments.Whole.{ShowsWhole}
-use Rattle.papaya_remains.proofs.Given.Moments.OnSlots.{none_some}
-use Rattle.papaya_remains.specs.Given.Lives.Behind.{IsLeft, NoTableLeft, ShowsWaiting}
-use Rattle.papaya_remains.specs.Given.Lives.Retired.{ShowsRetired}
-use Rattle.papaya_remains.proofs.Given.Lives.Retires.{given_hand}
-use Rattle.papaya_remains.proofs.Given.Lives.Taken.{taken_retired}
-use Rattle.papaya_remains.proofs.Given.Lives.Waiting.{row_finds}
+use Rattle.papaya_remains.specs.Given.SchedulesDeclared.effect.Effect.{Effect}
+use Rattle.papaya_remains.specs.Given.SchedulesDeclared.effect.Effect.TheVariants.{Asked}
+use Rattle.papaya_remains.specs.Given.SchedulesDeclared.effect.Growth.TheVariants.{ABucket}
+use Rattle.papaya_remains.specs.Given.SchedulesDeclared.effect.Table.{Table}
+use Rattle.papaya_remains.specs.Given.SchedulesEffects.{AtEachEffect}
+use Rattle.papaya_remains.specs.Given.SchedulesMoment.{Moment}
+use Rattle.papaya_remains.specs.Given.SchedulesViews.{is_retired, is_stage}
+use Rattle.papaya_reclaiming.specs.Given.TellerDeclared.changed.Changed.{Changed}
+use Rattle.papaya_reclaiming.specs.Given.TellerDeclared.changed.Changed.TheVariants as changed
+use Rattle.papaya_remains.specs.Given.EffectsEffects.{led_to, named, names_same, taken_by, effects_of}
+use Rattle.papaya_remains.specs.Given.EffectsKnown.{Known}
+use Rattle.papaya_remains.specs.Given.EffectsDeclared.acting.Acting.TheVariants.{Row}
+use Rattle.papaya_remains.specs.Given.EffectsDeclared.role.Role.{Role}
+use Rattle.papaya_remains.specs.Given.EffectsDeclared.role.Role.TheVariants as role
+use Rattle.papaya_reclaiming.specs.Given.FinishesFactsEnds.{TakesLeft, WritesRoot, events_of}
+use Rattle.papaya_reclaiming.specs.Given.ReclaimsSlots.{AreItsRows}
+use Rattle.papaya_reclaiming.specs.Given.ScenesReclaiming.{IsReclaiming, ReclaimingLeads}
+use Rattle.papaya_remains.specs.Given.FollowsBlocks.{HasRole}
+use Rattle.papaya_remains.proofs.Given.FollowsOperations.{LeavesBy}
+use Rattle.papaya_remains.proofs.Given.FollowsWrites.{nothing_free}
+use Rattle.papaya_remains.proofs.Given.OthersRowPlans.{TellsRow}
+use Rattle.papaya_remains.specs.Given.SpotsOnSlots.{WaitUnreclaimed}
+use Rattle.papaya_remains.specs.Given.MomentsOnSlots.{HadRetired}
+use Rattle.papaya_remains.specs.Given.MomentsWhole.{ShowsWhole}
+use Rattle.papaya_remains.proofs.Given.MomentsOnSlots.{none_some}
+use Rattle.papaya_remains.specs.Given.LivesBehind.{IsLeft, NoTableLeft, ShowsWaiting}
+use Rattle.papaya_remains.specs.Given.LivesRetired.{ShowsRetired}
+use Rattle.papaya_remains.proofs.Given.LivesRetires.{given_hand}
+use Rattle.papaya_remains.proofs.Given.LivesTaken.{taken_retired}
+use Rattle.papaya_remains.proofs.Given.LivesWaiting.{row_finds}
 use Rattle.papaya_logged.proofs.Reclaiming.Rows.{EmptiesRoot, begun_kept, step_kept, reclaiming_tells}
 use Rattle.papaya_logged.proofs.Reclaiming.Steps.{left, reached}
-use Rattle.papaya_reclaiming.specs.Given.Scenes.Held.{Held}
-use Rattle.papaya_reclaiming.specs.Given.Scenes.Scene.{HasCall, Scene}
-use Rattle.papaya_reclaiming.proofs.Given.Scenes.Leads.{happens}
+use Rattle.papaya_reclaiming.specs.Given.ScenesHeld.{Held}
+use Rattle.papaya_reclaiming.specs.Given.ScenesScene.{HasCall, Scene}
+use Rattle.papaya_reclaiming.proofs.Given.ScenesLeads.{happens}
 
 module _ {K V : Type 0} (size : ℕ) where
   -- what a step of a row takes away the collector had,

@@ -10,43 +10,43 @@ use Rattle.seize.specs.declared.rows.reclaim_all.ReclaimAll.{ReclaimAll}
 use Rattle.seize.specs.declared.rows.settle.Settled.{Settled}
 use Rattle.seize.specs.declared.states.TheConstants.{LAST_SLOT}
 use Rattle.seize.specs.World.{World, Hand, Handed, Event, Begin, Step, Operates, Clears, Runs, times}
-use Rattle.papaya_reclaiming.proofs.Given.SeizeRule.Points.Aside.{HandFits}
-use Rattle.papaya_reclaiming.proofs.Given.SeizeRule.Words.There.{value_there}
-use Rattle.papaya_remains.proofs.Given.SeizeAlone.Histories.NotTaken.{did}
-use Rattle.papaya_remains.proofs.Given.SeizeAlone.Histories.Reached.{Reached, happens_reached}
-use Rattle.papaya_remains.proofs.Given.SeizeAlone.Spared.Rows.{RowStepped}
+use Rattle.papaya_reclaiming.proofs.Given.SeizeRulePoints.Aside.{HandFits}
+use Rattle.papaya_reclaiming.proofs.Given.SeizeRuleWords.There.{value_there}
+use Rattle.papaya_remains.proofs.Given.SeizeAloneHistories.NotTaken.{did}
+use Rattle.papaya_remains.proofs.Given.SeizeAloneHistories.Reached.{Reached, happens_reached}
+use Rattle.papaya_remains.proofs.Given.SeizeAloneSpared.Rows.{RowStepped}
 use Rattle.papaya_runs.specs.Given.Tables.Nodes.{deferred_word}
 use Rattle.papaya_runs.specs.Given.Tables.declared.node.Node.{Node}
-use Rattle.papaya_remains.specs.Given.Schedules.declared.effect.Effect.{Effect}
-use Rattle.papaya_remains.specs.Given.Schedules.Effects.{with_effects}
-use Rattle.papaya_remains.specs.Given.Schedules.Moment.{Moment}
-use Rattle.papaya_reclaiming.specs.Given.Teller.declared.changed.Changed.{Changed}
-use Rattle.papaya_reclaiming.specs.Given.Teller.declared.changed.Changed.TheVariants as changed
-use Rattle.papaya_remains.specs.Given.Effects.Effects.{linked_on, named, names_same, effects_of, known_after}
-use Rattle.papaya_remains.specs.Given.Effects.Known.{Known}
-use Rattle.papaya_remains.specs.Given.Effects.declared.acting.Acting.TheVariants.{Row}
-use Rattle.papaya_reclaiming.specs.Given.Scenes.Reclaiming.{IsReclaiming, ReclaimingLeads}
-use Rattle.papaya_reclaiming.specs.Given.Reclaims.Slots.{AreItsRows}
-use Rattle.papaya_reclaiming.specs.Given.Finishes.FactsEnds.{TakesLeft, WritesRoot, events_of}
-use Rattle.papaya_remains.proofs.Given.Follows.Operations.{LeavesBy}
-use Rattle.papaya_remains.proofs.Given.Others.RowPlans.{TellsRow}
-use Rattle.papaya_remains.proofs.Given.Others.Stays.{same_there}
-use Rattle.papaya_remains.specs.Given.Moments.Whole.{ShowsWhole}
-use Rattle.papaya_remains.specs.Given.Lives.Behind.{NoTableLeft, ShowsWaiting}
-use Rattle.papaya_remains.specs.Given.Lives.Handed.{IsToHand, IsHandedOver, ShowsHanded}
-use Rattle.papaya_remains.specs.Given.Lives.Waiting.{waits_behind}
-use Rattle.papaya_remains.proofs.Given.Lives.HandedOver.{came_listed}
-use Rattle.papaya_remains.proofs.Given.Lives.HandedTaken.{taking_keeps}
-use Rattle.papaya_remains.proofs.Given.Lives.Listed.{Listing, carries_lives, carries_some, runs_listed}
-use Rattle.papaya_remains.proofs.Given.Lives.Logs.{waits_no_more, waits_not, waits_on}
-use Rattle.papaya_remains.proofs.Given.Lives.RetiredEnds.{handed_lives}
-use Rattle.papaya_remains.proofs.Given.Lives.Worlds.{has_it, log_back}
+use Rattle.papaya_remains.specs.Given.SchedulesDeclared.effect.Effect.{Effect}
+use Rattle.papaya_remains.specs.Given.SchedulesEffects.{with_effects}
+use Rattle.papaya_remains.specs.Given.SchedulesMoment.{Moment}
+use Rattle.papaya_reclaiming.specs.Given.TellerDeclared.changed.Changed.{Changed}
+use Rattle.papaya_reclaiming.specs.Given.TellerDeclared.changed.Changed.TheVariants as changed
+use Rattle.papaya_remains.specs.Given.EffectsEffects.{linked_on, named, names_same, effects_of, known_after}
+use Rattle.papaya_remains.specs.Given.EffectsKnown.{Known}
+use Rattle.papaya_remains.specs.Given.EffectsDeclared.acting.Acting.TheVariants.{Row}
+use Rattle.papaya_reclaiming.specs.Given.ScenesReclaiming.{IsReclaiming, ReclaimingLeads}
+use Rattle.papaya_reclaiming.specs.Given.ReclaimsSlots.{AreItsRows}
+use Rattle.papaya_reclaiming.specs.Given.FinishesFactsEnds.{TakesLeft, WritesRoot, events_of}
+use Rattle.papaya_remains.proofs.Given.FollowsOperations.{LeavesBy}
+use Rattle.papaya_remains.proofs.Given.OthersRowPlans.{TellsRow}
+use Rattle.papaya_remains.proofs.Given.OthersStays.{same_there}
+use Rattle.papaya_remains.specs.Given.MomentsWhole.{ShowsWhole}
+use Rattle.papaya_remains.specs.Given.LivesBehind.{NoTableLeft, ShowsWaiting}
+use Rattle.papaya_remains.specs.Given.LivesHanded.{IsToHand, IsHandedOver, ShowsHanded}
+use Rattle.papaya_remains.specs.Given.LivesWaiting.{waits_behind}
+use Rattle.papaya_remains.proofs.Given.LivesHandedOver.{came_listed}
+use Rattle.papaya_remains.proofs.Given.LivesHandedTaken.{taking_keeps}
+use Rattle.papaya_remains.proofs.Given.LivesListed.{Listing, carries_lives, carries_some, runs_listed}
+use Rattle.papaya_remains.proofs.Given.LivesLogs.{waits_no_more, waits_not, waits_on}
+use Rattle.papaya_remains.proofs.Given.LivesRetiredEnds.{handed_lives}
+use Rattle.papaya_remains.proofs.Given.LivesWorlds.{has_it, log_back}
 use Rattle.papaya_logged.proofs.Reclaiming.Rows.{EmptiesRoot, reclaiming_tells}
 use Rattle.papaya_logged.proofs.Reclaiming.Steps.{kept as kept_there, left, no_call, reached, root_none, nothing_there}
 use Rattle.papaya_logged.proofs.Reclaiming.Waits.{begun_log}
-use Rattle.papaya_reclaiming.specs.Given.Scenes.Held.{Held}
-use Rattle.papaya_reclaiming.specs.Given.Scenes.Scene.{HasCall, Scene}
-use Rattle.papaya_reclaiming.proofs.Given.Scenes.Leads.{happens}
+use Rattle.papaya_reclaiming.specs.Given.ScenesHeld.{Held}
+use Rattle.papaya_reclaiming.specs.Given.ScenesScene.{HasCall, Scene}
+use Rattle.papaya_reclaiming.proofs.Given.ScenesLeads.{happens}
 
 -- what rows on slots do to what waits
 module _ {K V : Type 0} (size i p : ℕ) where

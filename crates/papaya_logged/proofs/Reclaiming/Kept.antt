@@ -9,42 +9,42 @@ use Rattle.seize.specs.declared.rows.reclaim_all.ReclaimAll.{ReclaimAll}
 use Rattle.seize.specs.declared.rows.settle.Settled.{Settled}
 use Rattle.seize.specs.declared.states.TheConstants.{LAST_SLOT}
 use Rattle.seize.specs.World.{World, Hand}
-use Rattle.papaya_reclaiming.proofs.Given.SeizeRule.Points.Aside.{HandFits}
-use Rattle.papaya_reclaiming.proofs.Given.SeizeRule.Words.Shows.{lives}
-use Rattle.papaya_reclaiming.proofs.Given.SeizeRule.Words.There.{value_there}
+use Rattle.papaya_reclaiming.proofs.Given.SeizeRulePoints.Aside.{HandFits}
+use Rattle.papaya_reclaiming.proofs.Given.SeizeRuleWords.Shows.{lives}
+use Rattle.papaya_reclaiming.proofs.Given.SeizeRuleWords.There.{value_there}
 use Rattle.papaya_runs.specs.Given.Tables.Nodes.{deferred_word}
 use Rattle.papaya_runs.specs.Given.Tables.declared.node.Node.{Node}
-use Rattle.papaya_remains.specs.Given.Schedules.declared.effect.Effect.{Effect}
-use Rattle.papaya_remains.specs.Given.Schedules.Effects.{with_effects}
-use Rattle.papaya_remains.specs.Given.Schedules.Moment.{Moment}
-use Rattle.papaya_remains.specs.Given.Schedules.Views.{is_stage, is_retired}
-use Rattle.papaya_reclaiming.specs.Given.Teller.declared.changed.Changed.{Changed}
-use Rattle.papaya_reclaiming.specs.Given.Teller.declared.changed.Changed.TheVariants as changed
-use Rattle.papaya_remains.specs.Given.Effects.Effects.{linked_on, named, names_same, effects_of, known_after}
-use Rattle.papaya_remains.specs.Given.Effects.Known.{Known}
-use Rattle.papaya_remains.specs.Given.Effects.declared.acting.Acting.TheVariants.{Row}
-use Rattle.papaya_reclaiming.specs.Given.Scenes.Reclaiming.{IsReclaiming, ReclaimingLeads}
-use Rattle.papaya_remains.proofs.Given.Follows.Operations.{LeavesBy}
-use Rattle.papaya_remains.proofs.Given.Others.RowPlans.{TellsRow}
-use Rattle.papaya_remains.proofs.Given.Others.Stays.{same_there}
-use Rattle.papaya_remains.specs.Given.Moments.Whole.{ShowsWhole}
-use Rattle.papaya_remains.specs.Given.Lives.Behind.{IsLeft, NoTableLeft, ShowsWaiting, WaitsOnce}
-use Rattle.papaya_remains.specs.Given.Lives.Lying.{ShowsLying}
-use Rattle.papaya_remains.specs.Given.Lives.Order.{ShowsOrder}
-use Rattle.papaya_remains.specs.Given.Lives.Retired.{IsToRetire, ShowsRetired}
-use Rattle.papaya_remains.proofs.Given.Lives.Once.{once_fewer, row_fewer}
-use Rattle.papaya_remains.proofs.Given.Lives.Reclaimed.{stays_so}
-use Rattle.papaya_remains.proofs.Given.Lives.RetiredEnds.{handed_lives}
-use Rattle.papaya_remains.proofs.Given.Lives.Stages.{still_retired}
-use Rattle.papaya_remains.proofs.Given.Lives.Users.{left_lives}
-use Rattle.papaya_remains.proofs.Given.Lives.Worlds.{Kept}
+use Rattle.papaya_remains.specs.Given.SchedulesDeclared.effect.Effect.{Effect}
+use Rattle.papaya_remains.specs.Given.SchedulesEffects.{with_effects}
+use Rattle.papaya_remains.specs.Given.SchedulesMoment.{Moment}
+use Rattle.papaya_remains.specs.Given.SchedulesViews.{is_stage, is_retired}
+use Rattle.papaya_reclaiming.specs.Given.TellerDeclared.changed.Changed.{Changed}
+use Rattle.papaya_reclaiming.specs.Given.TellerDeclared.changed.Changed.TheVariants as changed
+use Rattle.papaya_remains.specs.Given.EffectsEffects.{linked_on, named, names_same, effects_of, known_after}
+use Rattle.papaya_remains.specs.Given.EffectsKnown.{Known}
+use Rattle.papaya_remains.specs.Given.EffectsDeclared.acting.Acting.TheVariants.{Row}
+use Rattle.papaya_reclaiming.specs.Given.ScenesReclaiming.{IsReclaiming, ReclaimingLeads}
+use Rattle.papaya_remains.proofs.Given.FollowsOperations.{LeavesBy}
+use Rattle.papaya_remains.proofs.Given.OthersRowPlans.{TellsRow}
+use Rattle.papaya_remains.proofs.Given.OthersStays.{same_there}
+use Rattle.papaya_remains.specs.Given.MomentsWhole.{ShowsWhole}
+use Rattle.papaya_remains.specs.Given.LivesBehind.{IsLeft, NoTableLeft, ShowsWaiting, WaitsOnce}
+use Rattle.papaya_remains.specs.Given.LivesLying.{ShowsLying}
+use Rattle.papaya_remains.specs.Given.LivesOrder.{ShowsOrder}
+use Rattle.papaya_remains.specs.Given.LivesRetired.{IsToRetire, ShowsRetired}
+use Rattle.papaya_remains.proofs.Given.LivesOnce.{once_fewer, row_fewer}
+use Rattle.papaya_remains.proofs.Given.LivesReclaimed.{stays_so}
+use Rattle.papaya_remains.proofs.Given.LivesRetiredEnds.{handed_lives}
+use Rattle.papaya_remains.proofs.Given.LivesStages.{still_retired}
+use Rattle.papaya_remains.proofs.Given.LivesUsers.{left_lives}
+use Rattle.papaya_remains.proofs.Given.LivesWorlds.{Kept}
 use Rattle.papaya_logged.proofs.Reclaiming.Lies.{reclaiming_lies}
 use Rattle.papaya_logged.proofs.Reclaiming.Order.{reclaiming_order}
 use Rattle.papaya_logged.proofs.Reclaiming.Rows.{EmptiesRoot, reclaiming_tells}
 use Rattle.papaya_logged.proofs.Reclaiming.Steps.{kept as kept_there, left, no_call, root_none, nothing_there}
 use Rattle.papaya_logged.proofs.Reclaiming.Waits.{kept_then, rows_leave_waiting}
-use Rattle.papaya_reclaiming.specs.Given.Scenes.Held.{Held}
-use Rattle.papaya_reclaiming.specs.Given.Scenes.Scene.{HasCall, Scene}
+use Rattle.papaya_reclaiming.specs.Given.ScenesHeld.{Held}
+use Rattle.papaya_reclaiming.specs.Given.ScenesScene.{HasCall, Scene}
 
 module _ {K V : Type 0} (same : K → K → Bool) (hash : ℕ → K → ℕ) (name : ℕ → List ℕ) (m : Moment K V) (known : Known) (s : Scene K V) (whole : ShowsWhole same name m known s)
     (waiting : ShowsWaiting m known s.world) (once : WaitsOnce m.deferred) (retired : ShowsRetired m known s) (lying : ShowsLying m known s.world) (order : ShowsOrder m known s.world) (no_table : NoTableLeft known s.world)

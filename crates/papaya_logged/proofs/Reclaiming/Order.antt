@@ -10,37 +10,37 @@ use Rattle.seize.specs.declared.rows.reclaim_all.ReclaimAll.{ReclaimAll}
 use Rattle.seize.specs.declared.rows.settle.Settled.{Settled}
 use Rattle.seize.specs.declared.states.TheConstants.{LAST_SLOT}
 use Rattle.seize.specs.World.{World, Row, Hand, NoBlock, InUse, Request, Register', Leave', Flush, Unregister', Event, Begin, Step, Begins, Runs, Steps', with_at, times}
-use Rattle.papaya_reclaiming.proofs.Given.SeizeRule.World.Kept.{steps_next}
-use Rattle.papaya_remains.proofs.Given.SeizeAlone.Histories.Reached.{Reached, happens_reached, runs_reached}
-use Rattle.papaya_reclaiming.proofs.Given.Rule.World.Hands.{at_cases}
+use Rattle.papaya_reclaiming.proofs.Given.SeizeRuleWorld.Kept.{steps_next}
+use Rattle.papaya_remains.proofs.Given.SeizeAloneHistories.Reached.{Reached, happens_reached, runs_reached}
+use Rattle.papaya_reclaiming.proofs.Given.RuleWorld.Hands.{at_cases}
 use Rattle.papaya_runs.specs.Given.Tables.Nodes.{deferred_word}
 use Rattle.papaya_runs.specs.Given.Tables.declared.node.Node.{Node}
-use Rattle.papaya_remains.specs.Given.Schedules.Effects.{with_effects}
-use Rattle.papaya_remains.specs.Given.Schedules.Moment.{Moment}
-use Rattle.papaya_reclaiming.specs.Given.Teller.declared.changed.Changed.{Changed}
-use Rattle.papaya_remains.specs.Given.Effects.Effects.{effects_of, known_after}
-use Rattle.papaya_remains.specs.Given.Effects.Known.{Known}
-use Rattle.papaya_remains.specs.Given.Effects.declared.acting.Acting.TheVariants.{Row as OfRow}
-use Rattle.papaya_remains.specs.Given.Effects.declared.role.Role.TheVariants as role
-use Rattle.papaya_reclaiming.specs.Given.Finishes.FactsEnds.{TakesLeft, WritesRoot, events_of}
-use Rattle.papaya_reclaiming.specs.Given.Reclaims.Slots.{IsForSlots, AreItsRows}
-use Rattle.papaya_reclaiming.specs.Given.Scenes.Reclaiming.{IsReclaiming, ReclaimingLeads}
-use Rattle.papaya_remains.proofs.Given.Follows.Operations.{LeavesBy}
-use Rattle.papaya_remains.proofs.Given.Others.RowPlans.{TellsRow}
-use Rattle.papaya_remains.specs.Given.Moments.Whole.{ShowsWhole}
-use Rattle.papaya_remains.specs.Given.Lives.Lying.{ShowsLying}
-use Rattle.papaya_remains.specs.Given.Lives.Order.{ShowsOrder}
-use Rattle.papaya_remains.specs.Given.Lives.Waiting.{IsPutting}
-use Rattle.papaya_remains.proofs.Given.Lives.InUse.{listed_there, step_goes, still_leave_list, used_then}
-use Rattle.papaya_remains.proofs.Given.Lives.Lying.{row_pair}
-use Rattle.papaya_remains.proofs.Given.Lives.Order.{order_as, row_behind}
-use Rattle.papaya_remains.proofs.Given.Lives.Putting.{put_before}
-use Rattle.papaya_remains.proofs.Given.Lives.Reclaimed.{stays_so}
+use Rattle.papaya_remains.specs.Given.SchedulesEffects.{with_effects}
+use Rattle.papaya_remains.specs.Given.SchedulesMoment.{Moment}
+use Rattle.papaya_reclaiming.specs.Given.TellerDeclared.changed.Changed.{Changed}
+use Rattle.papaya_remains.specs.Given.EffectsEffects.{effects_of, known_after}
+use Rattle.papaya_remains.specs.Given.EffectsKnown.{Known}
+use Rattle.papaya_remains.specs.Given.EffectsDeclared.acting.Acting.TheVariants.{Row as OfRow}
+use Rattle.papaya_remains.specs.Given.EffectsDeclared.role.Role.TheVariants as role
+use Rattle.papaya_reclaiming.specs.Given.FinishesFactsEnds.{TakesLeft, WritesRoot, events_of}
+use Rattle.papaya_reclaiming.specs.Given.ReclaimsSlots.{IsForSlots, AreItsRows}
+use Rattle.papaya_reclaiming.specs.Given.ScenesReclaiming.{IsReclaiming, ReclaimingLeads}
+use Rattle.papaya_remains.proofs.Given.FollowsOperations.{LeavesBy}
+use Rattle.papaya_remains.proofs.Given.OthersRowPlans.{TellsRow}
+use Rattle.papaya_remains.specs.Given.MomentsWhole.{ShowsWhole}
+use Rattle.papaya_remains.specs.Given.LivesLying.{ShowsLying}
+use Rattle.papaya_remains.specs.Given.LivesOrder.{ShowsOrder}
+use Rattle.papaya_remains.specs.Given.LivesWaiting.{IsPutting}
+use Rattle.papaya_remains.proofs.Given.LivesInUse.{listed_there, step_goes, still_leave_list, used_then}
+use Rattle.papaya_remains.proofs.Given.LivesLying.{row_pair}
+use Rattle.papaya_remains.proofs.Given.LivesOrder.{order_as, row_behind}
+use Rattle.papaya_remains.proofs.Given.LivesPutting.{put_before}
+use Rattle.papaya_remains.proofs.Given.LivesReclaimed.{stays_so}
 use Rattle.papaya_logged.proofs.Reclaiming.Lies.{own_none}
 use Rattle.papaya_logged.proofs.Reclaiming.Steps.{reached}
-use Rattle.papaya_reclaiming.specs.Given.Scenes.Held.{Held}
-use Rattle.papaya_reclaiming.specs.Given.Scenes.Scene.{Scene}
-use Rattle.papaya_reclaiming.proofs.Given.Scenes.Leads.{happens}
+use Rattle.papaya_reclaiming.specs.Given.ScenesHeld.{Held}
+use Rattle.papaya_reclaiming.specs.Given.ScenesScene.{Scene}
+use Rattle.papaya_reclaiming.proofs.Given.ScenesLeads.{happens}
 
 module _ {K V : Type 0} (size : ℕ) where
   -- the beginning of such a row leaves the memory, and who has what; and it puts nothing behind a block

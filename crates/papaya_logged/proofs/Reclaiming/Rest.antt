@@ -10,43 +10,43 @@ use Rattle.seize.specs.Given.SeizeWords.Word.{block_in}
 use Rattle.seize.specs.declared.rows.reclaim_all.ReclaimAll.{ReclaimAll}
 use Rattle.seize.specs.declared.rows.settle.Settled.{Settled}
 use Rattle.seize.specs.World.{World, Event, Begin, Step, Clears, Operates, Runs}
-use Rattle.papaya_remains.proofs.Given.SeizeAlone.Histories.Reached.{Reached, happens_reached}
+use Rattle.papaya_remains.proofs.Given.SeizeAloneHistories.Reached.{Reached, happens_reached}
 use Rattle.papaya_runs.specs.Given.Tables.Nodes.{deferred_word}
 use Rattle.papaya_runs.specs.Given.Tables.declared.node.Node.{Node}
-use Rattle.papaya_remains.specs.Given.Schedules.declared.effect.Effect.{Effect}
-use Rattle.papaya_remains.specs.Given.Schedules.Effects.{with_effects}
-use Rattle.papaya_remains.specs.Given.Schedules.Moment.{Moment}
-use Rattle.papaya_reclaiming.specs.Given.Teller.declared.changed.Changed.{Changed}
-use Rattle.papaya_reclaiming.specs.Given.Teller.declared.changed.Changed.TheVariants as changed
-use Rattle.papaya_remains.specs.Given.Effects.Effects.{named, names_same, effects_of, known_after}
-use Rattle.papaya_remains.specs.Given.Effects.Known.{Known}
-use Rattle.papaya_remains.specs.Given.Effects.declared.acting.Acting.TheVariants.{Row}
-use Rattle.papaya_remains.specs.Given.Effects.declared.role.Role.{Role}
-use Rattle.papaya_remains.specs.Given.Effects.declared.role.Role.TheVariants as role
-use Rattle.papaya_reclaiming.specs.Given.Callers.Together.{UnderWay}
-use Rattle.papaya_reclaiming.specs.Given.Finishes.FactsEnds.{TakesLeft, WritesRoot, events_of}
-use Rattle.papaya_reclaiming.specs.Given.Reclaims.Slots.{AreItsRows}
-use Rattle.papaya_reclaiming.specs.Given.Scenes.Reclaiming.{IsReclaiming, ReclaimingLeads}
-use Rattle.papaya_remains.proofs.Given.Follows.Alike.{put_here, put_elsewhere}
-use Rattle.papaya_remains.proofs.Given.Follows.Told.{roomed_as_many}
-use Rattle.papaya_remains.proofs.Given.Others.RowPlans.{TellsRow}
-use Rattle.papaya_remains.specs.Given.Moments.Whole.{ShowsWhole}
-use Rattle.papaya_remains.proofs.Given.Settles.EntryScenes.{as_zero, as_blank}
-use Rattle.papaya_remains.proofs.Given.Settles.EntryUsers.{AllZero, event_zeros}
-use Rattle.papaya_remains.proofs.Given.Settles.EntryWorlds.{step_zeros, begin_zeros}
-use Rattle.papaya_remains.specs.Given.Lives.Behind.{NoTableLeft}
-use Rattle.papaya_remains.proofs.Given.Lives.LeftTables.{none_is_left, where_none_is_left}
-use Rattle.papaya_remains.specs.Given.Kept.Kept.{ShowsKept}
-use Rattle.papaya_remains.proofs.Given.Kept.Ends.{maps_stay, stood_so}
+use Rattle.papaya_remains.specs.Given.SchedulesDeclared.effect.Effect.{Effect}
+use Rattle.papaya_remains.specs.Given.SchedulesEffects.{with_effects}
+use Rattle.papaya_remains.specs.Given.SchedulesMoment.{Moment}
+use Rattle.papaya_reclaiming.specs.Given.TellerDeclared.changed.Changed.{Changed}
+use Rattle.papaya_reclaiming.specs.Given.TellerDeclared.changed.Changed.TheVariants as changed
+use Rattle.papaya_remains.specs.Given.EffectsEffects.{named, names_same, effects_of, known_after}
+use Rattle.papaya_remains.specs.Given.EffectsKnown.{Known}
+use Rattle.papaya_remains.specs.Given.EffectsDeclared.acting.Acting.TheVariants.{Row}
+use Rattle.papaya_remains.specs.Given.EffectsDeclared.role.Role.{Role}
+use Rattle.papaya_remains.specs.Given.EffectsDeclared.role.Role.TheVariants as role
+use Rattle.papaya_reclaiming.specs.Given.CallersTogether.{UnderWay}
+use Rattle.papaya_reclaiming.specs.Given.FinishesFactsEnds.{TakesLeft, WritesRoot, events_of}
+use Rattle.papaya_reclaiming.specs.Given.ReclaimsSlots.{AreItsRows}
+use Rattle.papaya_reclaiming.specs.Given.ScenesReclaiming.{IsReclaiming, ReclaimingLeads}
+use Rattle.papaya_remains.proofs.Given.FollowsAlike.{put_here, put_elsewhere}
+use Rattle.papaya_remains.proofs.Given.FollowsTold.{roomed_as_many}
+use Rattle.papaya_remains.proofs.Given.OthersRowPlans.{TellsRow}
+use Rattle.papaya_remains.specs.Given.MomentsWhole.{ShowsWhole}
+use Rattle.papaya_remains.proofs.Given.SettlesEntryScenes.{as_zero, as_blank}
+use Rattle.papaya_remains.proofs.Given.SettlesEntryUsers.{AllZero, event_zeros}
+use Rattle.papaya_remains.proofs.Given.SettlesEntryWorlds.{step_zeros, begin_zeros}
+use Rattle.papaya_remains.specs.Given.LivesBehind.{NoTableLeft}
+use Rattle.papaya_remains.proofs.Given.LivesLeftTables.{none_is_left, where_none_is_left}
+use Rattle.papaya_remains.specs.Given.KeptKept.{ShowsKept}
+use Rattle.papaya_remains.proofs.Given.KeptEnds.{maps_stay, stood_so}
 use Rattle.papaya_logged.specs.Reclaims.{ReclaimRetired}
 use Rattle.papaya_logged.proofs.Reclaiming.Finds.{reclaiming_finds}
 use Rattle.papaya_logged.proofs.Reclaiming.Handed.{reclaiming_handed}
 use Rattle.papaya_logged.proofs.Reclaiming.Kept.{reclaiming_comes}
 use Rattle.papaya_logged.proofs.Reclaiming.Rows.{EmptiesRoot, reclaiming_tells}
 use Rattle.papaya_logged.proofs.Reclaiming.Steps.{reached, no_call, root_none, nothing_there}
-use Rattle.papaya_reclaiming.specs.Given.Scenes.Held.{Held}
-use Rattle.papaya_reclaiming.specs.Given.Scenes.Scene.{Scene}
-use Rattle.papaya_reclaiming.proofs.Given.Scenes.Leads.{happens}
+use Rattle.papaya_reclaiming.specs.Given.ScenesHeld.{Held}
+use Rattle.papaya_reclaiming.specs.Given.ScenesScene.{Scene}
+use Rattle.papaya_reclaiming.proofs.Given.ScenesLeads.{happens}
 
 module _ {K V : Type 0} (size : ℕ) where
   -- such rows leave entries blank,

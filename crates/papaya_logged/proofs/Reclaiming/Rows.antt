@@ -17,26 +17,26 @@ use Rattle.seize.specs.Sequence.{taken_in}
 use Rattle.seize.specs.Settle.{settle_plan}
 use Rattle.seize.specs.Law.{Dropped}
 use Rattle.seize.specs.World.{World, Hand, NoBlock, Request, Register', Leave', Flush, Unregister', Event, Begin, Step, Begins, Steps', Runs, times, with_effect, with_hand}
-use Rattle.papaya_reclaiming.proofs.Given.SeizeRule.Rows.Effects.{hand_kept}
-use Rattle.papaya_reclaiming.proofs.Given.SeizeRule.World.Values.{own_op_value, taken_value}
-use Rattle.papaya_remains.proofs.Given.SeizeAlone.Spared.Rows.{RowStepped}
-use Rattle.papaya_remains.proofs.Given.SeizeAlone.Histories.NotTaken.{did, nobodys, taken_gone}
-use Rattle.papaya_remains.proofs.Given.SeizeAlone.Histories.Reached.{Reached, happens_reached}
+use Rattle.papaya_reclaiming.proofs.Given.SeizeRuleRows.Effects.{hand_kept}
+use Rattle.papaya_reclaiming.proofs.Given.SeizeRuleWorld.Values.{own_op_value, taken_value}
+use Rattle.papaya_remains.proofs.Given.SeizeAloneSpared.Rows.{RowStepped}
+use Rattle.papaya_remains.proofs.Given.SeizeAloneHistories.NotTaken.{did, nobodys, taken_gone}
+use Rattle.papaya_remains.proofs.Given.SeizeAloneHistories.Reached.{Reached, happens_reached}
 use Rattle.papaya_runs.specs.Given.Tables.Nodes.{deferred_word, was_left}
 use Rattle.papaya_runs.specs.Given.Tables.declared.node.Node.{Node}
-use Rattle.papaya_reclaiming.specs.Given.Teller.Tells.{StepsTold}
-use Rattle.papaya_reclaiming.specs.Given.Teller.declared.changed.Changed.{Changed}
-use Rattle.papaya_reclaiming.specs.Given.Teller.declared.changed.Changed.TheVariants as changed
-use Rattle.papaya_reclaiming.proofs.Given.Callers.Together.At.{at_other, at_same}
-use Rattle.papaya_reclaiming.specs.Given.Finishes.FactsEnds.{TakesLeft, WritesRoot, events_of}
-use Rattle.papaya_reclaiming.specs.Given.Reclaims.Slots.{IsForSlots, AreItsRows}
-use Rattle.papaya_reclaiming.specs.Given.Scenes.declared.row.SlotRow.TheVariants as rows
-use Rattle.papaya_remains.proofs.Given.Others.Outcomes.{told_in}
-use Rattle.papaya_remains.proofs.Given.Others.RowPlans.{TellsRow, row_tells}
-use Rattle.papaya_remains.proofs.Given.Moments.OnSlots.{none_some}
+use Rattle.papaya_reclaiming.specs.Given.TellerTells.{StepsTold}
+use Rattle.papaya_reclaiming.specs.Given.TellerDeclared.changed.Changed.{Changed}
+use Rattle.papaya_reclaiming.specs.Given.TellerDeclared.changed.Changed.TheVariants as changed
+use Rattle.papaya_reclaiming.proofs.Given.CallersTogether.At.{at_other, at_same}
+use Rattle.papaya_reclaiming.specs.Given.FinishesFactsEnds.{TakesLeft, WritesRoot, events_of}
+use Rattle.papaya_reclaiming.specs.Given.ReclaimsSlots.{IsForSlots, AreItsRows}
+use Rattle.papaya_reclaiming.specs.Given.ScenesDeclared.row.SlotRow.TheVariants as rows
+use Rattle.papaya_remains.proofs.Given.OthersOutcomes.{told_in}
+use Rattle.papaya_remains.proofs.Given.OthersRowPlans.{TellsRow, row_tells}
+use Rattle.papaya_remains.proofs.Given.MomentsOnSlots.{none_some}
 use Rattle.std.proofs.lemmas.Bool.{cases_eq}
-use Rattle.papaya_reclaiming.specs.Given.Scenes.Rows.{of_settling}
-use Rattle.papaya_reclaiming.proofs.Given.Scenes.Leads.{happens}
+use Rattle.papaya_reclaiming.specs.Given.ScenesRows.{of_settling}
+use Rattle.papaya_reclaiming.proofs.Given.ScenesLeads.{happens}
 
 -- a block that is there then is as it was, in the same hands
 abbrev pub KeptThere : {K V : Type 0} → World (Node K V) → World (Node K V) → Type 0

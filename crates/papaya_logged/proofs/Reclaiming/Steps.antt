@@ -8,45 +8,45 @@ use Rattle.seize.specs.declared.rows.reclaim_all.ReclaimAll.{ReclaimAll}
 use Rattle.seize.specs.declared.rows.settle.Settled.{Settled}
 use Rattle.seize.specs.ReclaimAll.{reclaim_all_plan}
 use Rattle.seize.specs.World.{World, Hand, Event, Runs}
-use Rattle.papaya_remains.proofs.Given.SeizeAlone.Histories.Reached.{Reached, runs_reached}
+use Rattle.papaya_remains.proofs.Given.SeizeAloneHistories.Reached.{Reached, runs_reached}
 use Rattle.papaya_runs.specs.Given.Tables.Nodes.{deferred_word, was_left}
 use Rattle.papaya_runs.specs.Given.Tables.declared.node.Node.{Node}
-use Rattle.papaya_remains.specs.Given.Schedules.declared.effect.Effect.{Effect}
-use Rattle.papaya_remains.specs.Given.Schedules.Effects.{with_effects, AtEachEffect}
-use Rattle.papaya_remains.specs.Given.Schedules.Moment.{Moment}
-use Rattle.papaya_reclaiming.specs.Given.Teller.declared.changed.Changed.{Changed}
-use Rattle.papaya_reclaiming.specs.Given.Teller.declared.changed.Changed.TheVariants as changed
-use Rattle.papaya_reclaiming.proofs.Given.Callers.Together.Came.{came_reached}
-use Rattle.papaya_remains.specs.Given.Effects.Effects.{led_to, linked_on, named, names_same, effects_of, known_after}
-use Rattle.papaya_remains.specs.Given.Effects.Known.{Known}
-use Rattle.papaya_remains.specs.Given.Effects.declared.acting.Acting.TheVariants.{Row}
-use Rattle.papaya_remains.specs.Given.Effects.declared.role.Role.{Role}
-use Rattle.papaya_remains.specs.Given.Effects.declared.role.Role.TheVariants as role
-use Rattle.papaya_reclaiming.specs.Given.Callers.Together.{UnderWay}
-use Rattle.papaya_reclaiming.specs.Given.Finishes.FactsEnds.{TakesLeft, WritesRoot, events_of}
-use Rattle.papaya_reclaiming.specs.Given.Finishes.Maps.{Standing}
-use Rattle.papaya_reclaiming.specs.Given.Reclaims.Slots.{AreItsRows}
-use Rattle.papaya_reclaiming.specs.Given.Scenes.Reclaiming.{IsReclaiming, ReclaimingLeads}
-use Rattle.papaya_reclaiming.proofs.Given.Scenes.May.{may_reclaim}
-use Rattle.papaya_remains.proofs.Given.Follows.Operations.{StaysThere, LeavesBy, operated, operated_leaves}
-use Rattle.papaya_remains.proofs.Given.Follows.Writes.{nothing_free}
-use Rattle.papaya_remains.specs.Given.Follows.Blocks.{WasLinked}
-use Rattle.papaya_remains.specs.Given.Hands.Hands.{IsInUse}
-use Rattle.papaya_remains.specs.Given.Others.Gone.{WasRetired}
-use Rattle.papaya_remains.proofs.Given.Others.RowPlans.{TellsRow}
-use Rattle.papaya_remains.proofs.Given.Others.Rows.{row_leads}
-use Rattle.papaya_remains.proofs.Given.Others.Stays.{StaysBlock, same_there}
-use Rattle.papaya_remains.specs.Given.Spots.OnSlots.{WaitUnreclaimed}
-use Rattle.papaya_remains.proofs.Given.Spots.Deferred.{effects_leave_outside}
-use Rattle.papaya_remains.proofs.Given.Spots.OnSlots.{row_beside, blocks_done}
-use Rattle.papaya_remains.proofs.Given.Spots.Stays.{places_stay}
-use Rattle.papaya_remains.specs.Given.Moments.OnSlots.{HadRetired}
-use Rattle.papaya_remains.specs.Given.Moments.Whole.{ShowsWhole}
-use Rattle.papaya_remains.proofs.Given.Moments.Beside.{IsBeside, hands_beside}
-use Rattle.papaya_remains.proofs.Given.Moments.OnSlots.{stood_same, with_outside, was_retired, row_alone, row_keeps}
+use Rattle.papaya_remains.specs.Given.SchedulesDeclared.effect.Effect.{Effect}
+use Rattle.papaya_remains.specs.Given.SchedulesEffects.{with_effects, AtEachEffect}
+use Rattle.papaya_remains.specs.Given.SchedulesMoment.{Moment}
+use Rattle.papaya_reclaiming.specs.Given.TellerDeclared.changed.Changed.{Changed}
+use Rattle.papaya_reclaiming.specs.Given.TellerDeclared.changed.Changed.TheVariants as changed
+use Rattle.papaya_reclaiming.proofs.Given.CallersTogether.Came.{came_reached}
+use Rattle.papaya_remains.specs.Given.EffectsEffects.{led_to, linked_on, named, names_same, effects_of, known_after}
+use Rattle.papaya_remains.specs.Given.EffectsKnown.{Known}
+use Rattle.papaya_remains.specs.Given.EffectsDeclared.acting.Acting.TheVariants.{Row}
+use Rattle.papaya_remains.specs.Given.EffectsDeclared.role.Role.{Role}
+use Rattle.papaya_remains.specs.Given.EffectsDeclared.role.Role.TheVariants as role
+use Rattle.papaya_reclaiming.specs.Given.CallersTogether.{UnderWay}
+use Rattle.papaya_reclaiming.specs.Given.FinishesFactsEnds.{TakesLeft, WritesRoot, events_of}
+use Rattle.papaya_reclaiming.specs.Given.FinishesMaps.{Standing}
+use Rattle.papaya_reclaiming.specs.Given.ReclaimsSlots.{AreItsRows}
+use Rattle.papaya_reclaiming.specs.Given.ScenesReclaiming.{IsReclaiming, ReclaimingLeads}
+use Rattle.papaya_reclaiming.proofs.Given.ScenesMay.{may_reclaim}
+use Rattle.papaya_remains.proofs.Given.FollowsOperations.{StaysThere, LeavesBy, operated, operated_leaves}
+use Rattle.papaya_remains.proofs.Given.FollowsWrites.{nothing_free}
+use Rattle.papaya_remains.specs.Given.FollowsBlocks.{WasLinked}
+use Rattle.papaya_remains.specs.Given.HandsHands.{IsInUse}
+use Rattle.papaya_remains.specs.Given.OthersGone.{WasRetired}
+use Rattle.papaya_remains.proofs.Given.OthersRowPlans.{TellsRow}
+use Rattle.papaya_remains.proofs.Given.OthersRows.{row_leads}
+use Rattle.papaya_remains.proofs.Given.OthersStays.{StaysBlock, same_there}
+use Rattle.papaya_remains.specs.Given.SpotsOnSlots.{WaitUnreclaimed}
+use Rattle.papaya_remains.proofs.Given.SpotsDeferred.{effects_leave_outside}
+use Rattle.papaya_remains.proofs.Given.SpotsOnSlots.{row_beside, blocks_done}
+use Rattle.papaya_remains.proofs.Given.SpotsStays.{places_stay}
+use Rattle.papaya_remains.specs.Given.MomentsOnSlots.{HadRetired}
+use Rattle.papaya_remains.specs.Given.MomentsWhole.{ShowsWhole}
+use Rattle.papaya_remains.proofs.Given.MomentsBeside.{IsBeside, hands_beside}
+use Rattle.papaya_remains.proofs.Given.MomentsOnSlots.{stood_same, with_outside, was_retired, row_alone, row_keeps}
 use Rattle.papaya_logged.proofs.Reclaiming.Rows.{KeptThere, rows_kept, left_kept, root_kept, EmptiesRoot, reclaiming_tells}
-use Rattle.papaya_reclaiming.specs.Given.Scenes.Held.{Held}
-use Rattle.papaya_reclaiming.specs.Given.Scenes.Scene.{Scene}
+use Rattle.papaya_reclaiming.specs.Given.ScenesHeld.{Held}
+use Rattle.papaya_reclaiming.specs.Given.ScenesScene.{Scene}
 
 module _ {K V : Type 0} (same : K → K → Bool) (hash : ℕ → K → ℕ) (name : ℕ → List ℕ) (m : Moment K V) (known : Known) (s : Scene K V) (whole : ShowsWhole same name m known s)
     (old new : Held K V) (i : ℕ) (lists : ℕ → List ℕ) (before after : ReclaimAll) (told : Settled (Node K V)) (at : IsReclaiming same hash old s i lists before)

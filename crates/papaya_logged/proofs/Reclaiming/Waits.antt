@@ -10,53 +10,53 @@ use Rattle.seize.specs.declared.rows.settle.Settled.{Settled}
 use Rattle.seize.specs.declared.states.TheConstants.{LAST_SLOT}
 use Rattle.seize.specs.Sequence.{taken_in}
 use Rattle.seize.specs.World.{World, Hand, Request, Register', Leave', Flush, Unregister', Event, Begin, Step, Begins, Runs, Clears, Operates, times}
-use Rattle.papaya_reclaiming.proofs.Given.SeizeRule.Points.Aside.{HandFits}
-use Rattle.papaya_reclaiming.proofs.Given.SeizeRule.Words.There.{value_there}
-use Rattle.papaya_remains.proofs.Given.SeizeAlone.Histories.NotTaken.{did, taken_gone}
-use Rattle.papaya_remains.proofs.Given.SeizeAlone.Histories.Reached.{Reached, happens_reached}
-use Rattle.papaya_remains.proofs.Given.SeizeAlone.Spared.Rows.{RowStepped}
+use Rattle.papaya_reclaiming.proofs.Given.SeizeRulePoints.Aside.{HandFits}
+use Rattle.papaya_reclaiming.proofs.Given.SeizeRuleWords.There.{value_there}
+use Rattle.papaya_remains.proofs.Given.SeizeAloneHistories.NotTaken.{did, taken_gone}
+use Rattle.papaya_remains.proofs.Given.SeizeAloneHistories.Reached.{Reached, happens_reached}
+use Rattle.papaya_remains.proofs.Given.SeizeAloneSpared.Rows.{RowStepped}
 use Rattle.papaya_runs.specs.Given.Tables.Nodes.{deferred_word}
 use Rattle.papaya_runs.specs.Given.Tables.declared.node.Node.{Node}
-use Rattle.papaya_remains.specs.Given.Schedules.declared.effect.Effect.{Effect}
-use Rattle.papaya_remains.specs.Given.Schedules.declared.effect.Effect.TheVariants.{Asked}
-use Rattle.papaya_remains.specs.Given.Schedules.declared.effect.Growth.TheVariants.{ABucket}
-use Rattle.papaya_remains.specs.Given.Schedules.declared.effect.Table.{Table}
-use Rattle.papaya_remains.specs.Given.Schedules.Effects.{all_at, with_effects}
-use Rattle.papaya_remains.specs.Given.Schedules.Lists.{is_among}
-use Rattle.papaya_remains.specs.Given.Schedules.Moment.{Place, Behind, Handed as IsHanded, GivenBack, Moment}
-use Rattle.papaya_remains.specs.Given.Schedules.Things.{same_table}
-use Rattle.papaya_remains.specs.Given.Schedules.Views.{behind}
-use Rattle.papaya_reclaiming.specs.Given.Teller.declared.changed.Changed.{Changed}
-use Rattle.papaya_reclaiming.specs.Given.Teller.declared.changed.Changed.TheVariants as changed
-use Rattle.papaya_reclaiming.specs.Given.Callers.Together.{CameAbout}
-use Rattle.papaya_remains.specs.Given.Effects.Effects.{names_same, taken_by, effects_of, known_after}
-use Rattle.papaya_remains.specs.Given.Effects.Known.{Known}
-use Rattle.papaya_remains.specs.Given.Effects.declared.acting.Acting.TheVariants.{Row}
-use Rattle.papaya_remains.specs.Given.Effects.declared.role.Role.{Role}
-use Rattle.papaya_remains.specs.Given.Effects.declared.role.Role.TheVariants as role
-use Rattle.papaya_reclaiming.specs.Given.Finishes.FactsEnds.{TakesLeft, WritesRoot, events_of}
-use Rattle.papaya_reclaiming.specs.Given.Reclaims.Slots.{IsForSlots, AreItsRows}
-use Rattle.papaya_reclaiming.specs.Given.Scenes.Reclaiming.{IsReclaiming, ReclaimingLeads}
-use Rattle.papaya_remains.specs.Given.Follows.Blocks.{HasRole}
-use Rattle.papaya_remains.proofs.Given.Follows.Alike.{put_elsewhere}
-use Rattle.papaya_remains.proofs.Given.Follows.Onward.{IsOfMap}
-use Rattle.papaya_remains.proofs.Given.Follows.Operations.{LeavesBy}
-use Rattle.papaya_remains.proofs.Given.Others.RowPlans.{TellsRow}
-use Rattle.papaya_remains.proofs.Given.Spots.Unreclaimed.{same_itself}
-use Rattle.papaya_remains.specs.Given.Moments.Whole.{ShowsWhole}
-use Rattle.papaya_remains.proofs.Given.Moments.OnSlots.{none_some, row_keeps}
-use Rattle.papaya_remains.specs.Given.Lives.Behind.{IsLeft, NoTableLeft, LiesBehind, EachWaits, ShowsWaiting, WaitsOnce}
-use Rattle.papaya_remains.specs.Given.Lives.Waiting.{waits_behind}
-use Rattle.papaya_remains.proofs.Given.Lives.Each.{each_on, each_both, each_kept}
-use Rattle.papaya_remains.proofs.Given.Lives.Logs.{waits_on}
-use Rattle.papaya_remains.proofs.Given.Lives.RetiredEnds.{handed_lives}
-use Rattle.papaya_remains.proofs.Given.Lives.Taken.{there_still}
-use Rattle.papaya_remains.proofs.Given.Lives.Worlds.{Kept, log_back, runs_kept, start_kept, has_it}
+use Rattle.papaya_remains.specs.Given.SchedulesDeclared.effect.Effect.{Effect}
+use Rattle.papaya_remains.specs.Given.SchedulesDeclared.effect.Effect.TheVariants.{Asked}
+use Rattle.papaya_remains.specs.Given.SchedulesDeclared.effect.Growth.TheVariants.{ABucket}
+use Rattle.papaya_remains.specs.Given.SchedulesDeclared.effect.Table.{Table}
+use Rattle.papaya_remains.specs.Given.SchedulesEffects.{all_at, with_effects}
+use Rattle.papaya_remains.specs.Given.SchedulesLists.{is_among}
+use Rattle.papaya_remains.specs.Given.SchedulesMoment.{Place, Behind, Handed as IsHanded, GivenBack, Moment}
+use Rattle.papaya_remains.specs.Given.SchedulesThings.{same_table}
+use Rattle.papaya_remains.specs.Given.SchedulesViews.{behind}
+use Rattle.papaya_reclaiming.specs.Given.TellerDeclared.changed.Changed.{Changed}
+use Rattle.papaya_reclaiming.specs.Given.TellerDeclared.changed.Changed.TheVariants as changed
+use Rattle.papaya_reclaiming.specs.Given.CallersTogether.{CameAbout}
+use Rattle.papaya_remains.specs.Given.EffectsEffects.{names_same, taken_by, effects_of, known_after}
+use Rattle.papaya_remains.specs.Given.EffectsKnown.{Known}
+use Rattle.papaya_remains.specs.Given.EffectsDeclared.acting.Acting.TheVariants.{Row}
+use Rattle.papaya_remains.specs.Given.EffectsDeclared.role.Role.{Role}
+use Rattle.papaya_remains.specs.Given.EffectsDeclared.role.Role.TheVariants as role
+use Rattle.papaya_reclaiming.specs.Given.FinishesFactsEnds.{TakesLeft, WritesRoot, events_of}
+use Rattle.papaya_reclaiming.specs.Given.ReclaimsSlots.{IsForSlots, AreItsRows}
+use Rattle.papaya_reclaiming.specs.Given.ScenesReclaiming.{IsReclaiming, ReclaimingLeads}
+use Rattle.papaya_remains.specs.Given.FollowsBlocks.{HasRole}
+use Rattle.papaya_remains.proofs.Given.FollowsAlike.{put_elsewhere}
+use Rattle.papaya_remains.proofs.Given.FollowsOnward.{IsOfMap}
+use Rattle.papaya_remains.proofs.Given.FollowsOperations.{LeavesBy}
+use Rattle.papaya_remains.proofs.Given.OthersRowPlans.{TellsRow}
+use Rattle.papaya_remains.proofs.Given.SpotsUnreclaimed.{same_itself}
+use Rattle.papaya_remains.specs.Given.MomentsWhole.{ShowsWhole}
+use Rattle.papaya_remains.proofs.Given.MomentsOnSlots.{none_some, row_keeps}
+use Rattle.papaya_remains.specs.Given.LivesBehind.{IsLeft, NoTableLeft, LiesBehind, EachWaits, ShowsWaiting, WaitsOnce}
+use Rattle.papaya_remains.specs.Given.LivesWaiting.{waits_behind}
+use Rattle.papaya_remains.proofs.Given.LivesEach.{each_on, each_both, each_kept}
+use Rattle.papaya_remains.proofs.Given.LivesLogs.{waits_on}
+use Rattle.papaya_remains.proofs.Given.LivesRetiredEnds.{handed_lives}
+use Rattle.papaya_remains.proofs.Given.LivesTaken.{there_still}
+use Rattle.papaya_remains.proofs.Given.LivesWorlds.{Kept, log_back, runs_kept, start_kept, has_it}
 use Rattle.papaya_logged.proofs.Reclaiming.Rows.{rows_kept}
 use Rattle.papaya_logged.proofs.Reclaiming.Steps.{reached}
-use Rattle.papaya_reclaiming.specs.Given.Scenes.Held.{Held}
-use Rattle.papaya_reclaiming.specs.Given.Scenes.Scene.{Scene}
-use Rattle.papaya_reclaiming.proofs.Given.Scenes.Leads.{happens}
+use Rattle.papaya_reclaiming.specs.Given.ScenesHeld.{Held}
+use Rattle.papaya_reclaiming.specs.Given.ScenesScene.{Scene}
+use Rattle.papaya_reclaiming.proofs.Given.ScenesLeads.{happens}
 
 module _ {K V : Type 0} (size : ℕ) where
   -- such a row tells nothing as it begins

@@ -1,8 +1,8 @@
 -- Waiting sets that are alike are so, too, by other numbers, where each number that stands in them has the same one still.
 use Rattle.std.proofs.Common.{◌≡◌, ◌≤◌, ℕ, List, [], ◌∷◌, refl, arith}
-use Rattle.papaya_promises.specs.Given.Seize.WaitingSets.{Batch, Further, Sets}
-use Rattle.papaya_promises.specs.Given.SeizeWaiting.Held.{same, count, weight_put, held_closed, all_held, Every, Tidy}
-use Rattle.papaya_promises.proofs.Given.SeizeWaiting.Tidy.{open_counts, opened_alike}
+use Rattle.papaya_promises.specs.Given.SeizeWaitingSets.{Batch, Further, Sets}
+use Rattle.papaya_promises.specs.Given.SeizeWaitingHeld.{same, count, weight_put, held_closed, all_held, Every, Tidy}
+use Rattle.papaya_promises.proofs.Given.SeizeWaitingTidy.{open_counts, opened_alike}
 use Rattle.papaya_models.specs.Alike.{AreAlike, BatchesAlike, FurtherAlike, SetsAlike, EachIs, EachBatchIs, AllAre}
 
 module _ (R Q : ℕ → ℕ → Type 0) (P : ℕ → Type 0) (still : (x y : ℕ) → P x → R x y → Q x y) where

@@ -1,7 +1,7 @@
 -- Waiting sets that are alike, where a number stands for one alone: each change leaves them so, and reclaims the same in the same order.
 use Rattle.std.specs.Prelude.{if◌then◌else◌, ◌==◌, not, nat_lt, max}
 use Rattle.std.proofs.Common.{◌≡◌, ℕ, zero, suc, ◌+◌, Bool, true, false, cond, List, [], ◌∷◌, ◌++◌, length, refl, ap, sym, subst, arith}
-use Rattle.papaya_promises.specs.Given.Seize.WaitingSets.{Batch, Sets, Change, Enters, Leaves, Refreshes, Retires, Flushes, Defers, ReclaimsAll, After, quietly, then_also, with_open, with_active, with_closed, without, with_slot, further_of_all, in_closed, opened, size, giving, closing, is_enough, is_done, no_more, still_closed, is_full, retired_all, given, given_all, retired, flushed, counted, left, all_left, emptied, emptied_all, all_reclaimed, changed, all_changed, at_start, ended, Ends}
+use Rattle.papaya_promises.specs.Given.SeizeWaitingSets.{Batch, Sets, Change, Enters, Leaves, Refreshes, Retires, Flushes, Defers, ReclaimsAll, After, quietly, then_also, with_open, with_active, with_closed, without, with_slot, further_of_all, in_closed, opened, size, giving, closing, is_enough, is_done, no_more, still_closed, is_full, retired_all, given, given_all, retired, flushed, counted, left, all_left, emptied, emptied_all, all_reclaimed, changed, all_changed, at_start, ended, Ends}
 use Rattle.papaya_models.specs.Alike.{AreAlike, BatchesAlike, SetsAlike, AfterAlike, ChangeAlike, ChangesAlike, IsOneToOne}
 use Rattle.papaya_models.proofs.Alike.Lists.{append_alike, length_alike, further_length, further_of_all_alike, kept_alike, rest_alike}
 

@@ -2,8 +2,8 @@
 use Rattle.std.specs.Prelude.{◌==◌, ◌||◌, not, map, filter}
 use Rattle.std.proofs.Common.{◌≡◌, ℕ, Bool, true, false, cond, List, [], ◌∷◌, ◌++◌, length, refl, sym, subst, arith, eqb-true}
 use Rattle.std.proofs.lemmas.Bool.{eq-eqb, ne_eqb, eqb-false}
-use Rattle.papaya_promises.specs.Given.Seize.WaitingSets.{Further, further_of, further_of_all, is_one_of}
-use Rattle.papaya_promises.specs.Given.SeizeWaiting.Changes.{kept}
+use Rattle.papaya_promises.specs.Given.SeizeWaitingSets.{Further, further_of, further_of_all, is_one_of}
+use Rattle.papaya_promises.specs.Given.SeizeWaitingChanges.{kept}
 use Rattle.papaya_models.specs.Alike.{AreAlike, FurtherAlike, IsOneToOne}
 
 module _ (R : ℕ → ℕ → Type 0) where

@@ -14,14 +14,14 @@ use Rattle.papaya_deeds.specs.Given.Schedules.Beginning.{with_call}
 use Rattle.papaya_deeds.specs.Given.Schedules.Entry.{Entry, ends_call}
 use Rattle.papaya_deeds.specs.Given.Schedules.Moment.{MapThere, Moment, TableThere, UnderWay as CallThere}
 use Rattle.papaya_deeds.specs.Given.Schedules.Reclaims.{is_kept}
-use Rattle.papaya_swept.specs.Given.Finds.Events.{EndedOwesNone}
-use Rattle.papaya_swept.specs.Given.Finds.Tables.{TablesAreInOrder}
-use Rattle.papaya_swept.specs.Given.Finds.Waiting.{PairsArePlaced}
-use Rattle.papaya_swept.specs.Given.Finds.Within.{AllIsInOrder, HasItsMap}
-use Rattle.papaya_swept.proofs.Given.Finds.Events.{beginnings_keep_placed, beginnings_keep_tables, events_keep_placed, events_keep_tables}
-use Rattle.papaya_swept.proofs.Given.Finds.Lists.{all_so}
-use Rattle.papaya_swept.proofs.Given.Finds.Over.{over_have}
-use Rattle.papaya_swept.proofs.Given.Finds.Tables.{each_same}
+use Rattle.papaya_swept.specs.Given.FindsEvents.{EndedOwesNone}
+use Rattle.papaya_swept.specs.Given.FindsTables.{TablesAreInOrder}
+use Rattle.papaya_swept.specs.Given.FindsWaiting.{PairsArePlaced}
+use Rattle.papaya_swept.specs.Given.FindsWithin.{AllIsInOrder, HasItsMap}
+use Rattle.papaya_swept.proofs.Given.FindsEvents.{beginnings_keep_placed, beginnings_keep_tables, events_keep_placed, events_keep_tables}
+use Rattle.papaya_swept.proofs.Given.FindsLists.{all_so}
+use Rattle.papaya_swept.proofs.Given.FindsOver.{over_have}
+use Rattle.papaya_swept.proofs.Given.FindsTables.{each_same}
 
 module _ {K V : Type 0} (m : Moment K V) (order : AllIsInOrder m) where
   -- where a call begins by a name that none has, on a map that is there

@@ -14,18 +14,18 @@ use Rattle.papaya_deeds.specs.Given.Schedules.Moment.{Moment, TableThere}
 use Rattle.papaya_deeds.specs.Given.Schedules.Terms.{Terms}
 use Rattle.papaya_deeds.specs.Given.Schedules.Things.{same_table}
 use Rattle.papaya_deeds.specs.Given.Schedules.Views.{chain_of, first_of, is_linked, is_stage, tables_of}
-use Rattle.papaya_swept.specs.Given.Finds.Life.{StoresOne}
-use Rattle.papaya_swept.specs.Given.Finds.Within.{AllIsInOrder, HasItsMap}
-use Rattle.papaya_swept.proofs.Given.Legal.Growths.{growths_leave}
-use Rattle.papaya_swept.proofs.Given.Finds.Life.{each_so}
-use Rattle.papaya_swept.proofs.Given.Finds.Lists.{all_so, any_so, each_among, each_is}
-use Rattle.papaya_swept.proofs.Given.Finds.Grown.{number_is}
-use Rattle.papaya_swept.proofs.Given.Finds.Tables.{all_kept}
-use Rattle.papaya_grouped.proofs.Given.Others.Leads.{same_parts}
-use Rattle.papaya_grouped.proofs.Given.Spots.Unreclaimed.{same_itself}
-use Rattle.papaya_swept.proofs.Given.Finds.Runs.{life_keeps_order}
+use Rattle.papaya_swept.specs.Given.FindsLife.{StoresOne}
+use Rattle.papaya_swept.specs.Given.FindsWithin.{AllIsInOrder, HasItsMap}
+use Rattle.papaya_swept.proofs.Given.LegalGrowths.{growths_leave}
+use Rattle.papaya_swept.proofs.Given.FindsLife.{each_so}
+use Rattle.papaya_swept.proofs.Given.FindsLists.{all_so, any_so, each_among, each_is}
+use Rattle.papaya_swept.proofs.Given.FindsGrown.{number_is}
+use Rattle.papaya_swept.proofs.Given.FindsTables.{all_kept}
+use Rattle.papaya_grouped.proofs.Given.OthersLeads.{same_parts}
+use Rattle.papaya_grouped.proofs.Given.SpotsUnreclaimed.{same_itself}
+use Rattle.papaya_swept.proofs.Given.FindsRuns.{life_keeps_order}
 use Rattle.papaya_deeds.specs.History.{EndFinds, is_first_of, left_tables}
-use Rattle.papaya_swept.proofs.Given.Linear.Like.{IsLike}
+use Rattle.papaya_swept.proofs.Given.LinearLike.{IsLike}
 
 -- who asks for buckets alone asks for growths alone
 all_growths : (effects : List Effect) → list_all asks_for_bucket effects ≡ true → list_all is_growth effects ≡ true

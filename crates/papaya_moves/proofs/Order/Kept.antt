@@ -3,7 +3,7 @@ use Rattle.std.specs.Prelude.{◌≡◌, ◌≢◌, ◌==◌, ◌+◌, ℕ, Bool
 use Rattle.std.specs.List.{AllByRecursion}
 use Rattle.std.proofs.Common.{refl, ap, sym, subst, ◌∙◌}
 use Rattle.seize_acts.proofs.Answers.{same_some}
-use Rattle.papaya_swept.proofs.Given.Logged.Given.Late.KindsKept.Laws.{told_sweeps_refuse_room}
+use Rattle.papaya_swept.proofs.Given.LateKindsKept.Laws.{told_sweeps_refuse_room}
 use Rattle.seize_acts.specs.Given.Seize.World.{Step}
 use Rattle.seize_acts.specs.Given.Seize.declared.progress.Progress.{Progress as Making}
 use Rattle.seize_acts.specs.Given.Seize.declared.progress.Progress.TheVariants as making
@@ -19,39 +19,39 @@ use Rattle.papaya_deeds.specs.Given.Schedules.Entry.{IfCall, ends_call}
 use Rattle.papaya_deeds.specs.Given.Schedules.Moment.{MapThere, Moment, UnderWay as CallThere}
 use Rattle.papaya_deeds.specs.Given.Schedules.Terms.{Terms}
 use Rattle.papaya_deeds.specs.Given.Schedules.Views.{call_of}
-use Rattle.papaya_grouped.specs.Given.Callers.Together.{OverAll, UnderWay}
-use Rattle.papaya_grouped.specs.Given.Effects.Effects.{effects_of, known_after}
-use Rattle.papaya_grouped.specs.Given.Effects.Known.{Known}
-use Rattle.papaya_grouped.specs.Given.Effects.declared.acting.Acting.TheVariants as acts
-use Rattle.papaya_grouped.specs.Given.Finishes.Machines.{machine_of}
-use Rattle.papaya_grouped.specs.Given.Finishes.Makings.{Beginning}
-use Rattle.papaya_grouped.specs.Given.Finishes.Maps.{with_call}
-use Rattle.papaya_grouped.specs.Given.Hands.Asked.{as_told}
-use Rattle.papaya_swept.specs.Given.Settles.Hand.{ShowsOwed}
-use Rattle.papaya_grouped.specs.Given.Named.Machines.{RefusedForRoom}
-use Rattle.papaya_grouped.specs.Given.Named.Seen.{kind_of}
-use Rattle.papaya_grouped.specs.Given.Others.Endings.{ending_after}
-use Rattle.papaya_grouped.specs.Given.Others.Makings.{making_after}
-use Rattle.papaya_grouped.specs.Given.Others.Rows.{scene_then}
-use Rattle.papaya_grouped.specs.Given.Scenes.Held.{Held, IsAt}
-use Rattle.papaya_grouped.specs.Given.Scenes.Making.{MakingLeads}
-use Rattle.papaya_grouped.specs.Given.Scenes.Replying.{scene_with, unless_stopped}
-use Rattle.papaya_grouped.specs.Given.Scenes.Scene.{Scene, slot_of}
-use Rattle.papaya_grouped.specs.Given.Scenes.Stepping.{has_ended, scene_after}
-use Rattle.papaya_swept.proofs.Given.Finds.Events.{comes_same, told_same}
-use Rattle.papaya_swept.proofs.Given.Finds.Grown.{found_any}
-use Rattle.papaya_swept.proofs.Given.Finds.Lists.{all_so}
-use Rattle.papaya_swept.proofs.Given.Finds.Over.{calls_stay}
-use Rattle.papaya_swept.proofs.Given.Owes.Calls.{goes_as_one}
-use Rattle.papaya_swept.proofs.Given.Grows.Finding.Others.{ended_calls}
-use Rattle.papaya_grouped.proofs.Given.Named.Called.{begins_for_room}
-use Rattle.papaya_grouped.specs.Given.Acts.Acts.{begun}
+use Rattle.papaya_grouped.specs.Given.CallersTogether.{OverAll, UnderWay}
+use Rattle.papaya_grouped.specs.Given.EffectsEffects.{effects_of, known_after}
+use Rattle.papaya_grouped.specs.Given.EffectsKnown.{Known}
+use Rattle.papaya_grouped.specs.Given.EffectsDeclared.acting.Acting.TheVariants as acts
+use Rattle.papaya_grouped.specs.Given.FinishesMachines.{machine_of}
+use Rattle.papaya_grouped.specs.Given.FinishesMakings.{Beginning}
+use Rattle.papaya_grouped.specs.Given.FinishesMaps.{with_call}
+use Rattle.papaya_grouped.specs.Given.HandsAsked.{as_told}
+use Rattle.papaya_swept.specs.Given.SettlesHand.{ShowsOwed}
+use Rattle.papaya_grouped.specs.Given.NamedMachines.{RefusedForRoom}
+use Rattle.papaya_grouped.specs.Given.NamedSeen.{kind_of}
+use Rattle.papaya_grouped.specs.Given.OthersEndings.{ending_after}
+use Rattle.papaya_grouped.specs.Given.OthersMakings.{making_after}
+use Rattle.papaya_grouped.specs.Given.OthersRows.{scene_then}
+use Rattle.papaya_grouped.specs.Given.ScenesHeld.{Held, IsAt}
+use Rattle.papaya_grouped.specs.Given.ScenesMaking.{MakingLeads}
+use Rattle.papaya_grouped.specs.Given.ScenesReplying.{scene_with, unless_stopped}
+use Rattle.papaya_grouped.specs.Given.ScenesScene.{Scene, slot_of}
+use Rattle.papaya_grouped.specs.Given.ScenesStepping.{has_ended, scene_after}
+use Rattle.papaya_swept.proofs.Given.FindsEvents.{comes_same, told_same}
+use Rattle.papaya_swept.proofs.Given.FindsGrown.{found_any}
+use Rattle.papaya_swept.proofs.Given.FindsLists.{all_so}
+use Rattle.papaya_swept.proofs.Given.FindsOver.{calls_stay}
+use Rattle.papaya_swept.proofs.Given.OwesCalls.{goes_as_one}
+use Rattle.papaya_swept.proofs.Given.GrowsFinding.Others.{ended_calls}
+use Rattle.papaya_grouped.proofs.Given.NamedCalled.{begins_for_room}
+use Rattle.papaya_grouped.specs.Given.ActsActs.{begun}
 use Rattle.papaya_deeds.specs.Deeds.{Entry, ReclaimsAll, Steps, acted_on, after, come, moment, named}
-use Rattle.papaya_grouped.specs.Given.Played.Play.{call_for, is_over, is_refusal, making_outcome, outcome_of, pairs_for, row_deed, settled_outcome}
-use Rattle.papaya_swept.specs.Given.Linear.Coming.{ComesBy, IsUnknown}
-use Rattle.papaya_swept.proofs.Given.Linear.Begun.{begun_is}
-use Rattle.papaya_swept.proofs.Given.Linear.Like.{IsLike}
-use Rattle.papaya_swept.proofs.Given.Linear.RowsPlayed.{is_of_row, rows_like}
+use Rattle.papaya_grouped.specs.Given.PlayedPlay.{call_for, is_over, is_refusal, making_outcome, outcome_of, pairs_for, row_deed, settled_outcome}
+use Rattle.papaya_swept.specs.Given.LinearComing.{ComesBy, IsUnknown}
+use Rattle.papaya_swept.proofs.Given.LinearBegun.{begun_is}
+use Rattle.papaya_swept.proofs.Given.LinearLike.{IsLike}
+use Rattle.papaya_swept.proofs.Given.LinearRowsPlayed.{is_of_row, rows_like}
 use Rattle.papaya_swept.proofs.Kept.{IsKept, coming}
 use Rattle.papaya_moves.specs.Order.{AreUnderWay, IsUnderWay, KeepsOrder, MapsComeNew}
 use Rattle.papaya_moves.proofs.Order.Own.{its_call, rows_own}

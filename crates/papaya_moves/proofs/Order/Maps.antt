@@ -11,20 +11,20 @@ use Rattle.papaya_deeds.specs.Given.Schedules.Reclaims.{is_kept}
 use Rattle.papaya_deeds.specs.Given.Schedules.Things.{same_table}
 use Rattle.papaya_deeds.specs.Given.Schedules.Views.{first_of, first_or, is_linked, map_at, tables_of}
 use Rattle.papaya_deeds.specs.Given.Schedules.Beginning.{with_map}
-use Rattle.papaya_swept.specs.Given.Finds.Tables.{TablesAreInOrder}
-use Rattle.papaya_swept.specs.Given.Finds.Waiting.{PairsArePlaced}
-use Rattle.papaya_swept.specs.Given.Finds.Within.{AllIsInOrder, HasItsMap, many_of}
-use Rattle.papaya_grouped.proofs.Given.Follows.Calling.{is_same_is, is_same_refl}
-use Rattle.papaya_grouped.proofs.Given.Others.Leads.{same_parts}
-use Rattle.papaya_swept.proofs.Given.Finds.Endings.{fewer_found, more_found, name_of, number_at, same_number}
-use Rattle.papaya_swept.proofs.Given.Finds.Events.{beginnings_keep_placed, beginnings_keep_tables}
-use Rattle.papaya_swept.proofs.Given.Finds.Grown.{number_is}
-use Rattle.papaya_swept.proofs.Given.Finds.Lists.{all_both, all_so, any_kept, any_kept_among, any_so, each_among, each_is}
-use Rattle.papaya_swept.proofs.Given.Finds.Somewhere.{others_keep_somewhere}
-use Rattle.papaya_swept.proofs.Given.Finds.Tables.{all_append, all_kept, others_keep_tables}
+use Rattle.papaya_swept.specs.Given.FindsTables.{TablesAreInOrder}
+use Rattle.papaya_swept.specs.Given.FindsWaiting.{PairsArePlaced}
+use Rattle.papaya_swept.specs.Given.FindsWithin.{AllIsInOrder, HasItsMap, many_of}
+use Rattle.papaya_grouped.proofs.Given.FollowsCalling.{is_same_is, is_same_refl}
+use Rattle.papaya_grouped.proofs.Given.OthersLeads.{same_parts}
+use Rattle.papaya_swept.proofs.Given.FindsEndings.{fewer_found, more_found, name_of, number_at, same_number}
+use Rattle.papaya_swept.proofs.Given.FindsEvents.{beginnings_keep_placed, beginnings_keep_tables}
+use Rattle.papaya_swept.proofs.Given.FindsGrown.{number_is}
+use Rattle.papaya_swept.proofs.Given.FindsLists.{all_both, all_so, any_kept, any_kept_among, any_so, each_among, each_is}
+use Rattle.papaya_swept.proofs.Given.FindsSomewhere.{others_keep_somewhere}
+use Rattle.papaya_swept.proofs.Given.FindsTables.{all_append, all_kept, others_keep_tables}
 use Rattle.papaya_deeds.specs.Deeds.{come, named, without_map}
 use Rattle.papaya_deeds.specs.History.{left_tables}
-use Rattle.papaya_grouped.specs.Given.Agrees.Fresh.{AreNamed, IsNamed}
+use Rattle.papaya_grouped.specs.Given.AgreesFresh.{AreNamed, IsNamed}
 use Rattle.papaya_moves.proofs.Order.Effects.{itself, linked_one}
 
 -- of maps that have their numbers as names none has the name of a number that none has

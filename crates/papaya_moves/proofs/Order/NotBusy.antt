@@ -1,24 +1,24 @@
 -- A call is never refused as busy; so it is over for its history where it is over.
 use Rattle.std.specs.Prelude.{◌≡◌, ℕ, Bool, true, Option, Some}
 use Rattle.std.proofs.Common.{refl, sym, subst, inl, inr}
-use Rattle.papaya_swept.specs.Given.Logged.Given.Late.Kinds.{FaultFits}
+use Rattle.papaya_swept.specs.Given.LateKinds.{FaultFits}
 use Rattle.papaya_deeds.specs.Given.SeizeWords.declared.fault.Fault.TheVariants.{Busy}
 use Rattle.papaya_deeds.specs.Given.Tables.declared.node.Node.{Node}
 use Rattle.papaya_deeds.specs.Given.Raw.declared.machines.progress.Progress.{Progress}
 use Rattle.papaya_deeds.specs.Given.Raw.declared.machines.progress.Progress.TheVariants as progress
 use Rattle.papaya_deeds.specs.Given.Schedules.Entry.{ends_call}
-use Rattle.papaya_grouped.specs.Given.Callers.Pairs.{kind_of as kind_given}
-use Rattle.papaya_grouped.specs.Given.Callers.Together.{CallOnKey, Counting, ForRoom, OnKey, OverAll, UnderWay}
-use Rattle.papaya_grouped.specs.Given.Effects.Known.{Known}
-use Rattle.papaya_grouped.specs.Given.Finishes.Machines.{machine_of}
-use Rattle.papaya_grouped.specs.Given.Named.Machines.{RefusedForRoom}
-use Rattle.papaya_grouped.specs.Given.Named.declared.kind.Kind.{Kind}
-use Rattle.papaya_grouped.specs.Given.Scenes.Held.{Held}
-use Rattle.papaya_grouped.specs.Given.Scenes.Scene.{Scene}
-use Rattle.papaya_grouped.specs.Given.Scenes.Stepping.{StepLeads, has_ended}
-use Rattle.papaya_swept.proofs.Given.Histories.Refusals.{refused}
-use Rattle.papaya_grouped.specs.Given.Played.Play.{outcome_of}
-use Rattle.papaya_swept.proofs.Given.Stepping.RoomSays.{NeverRefused, SaysRoom, reserve_room, sum_room, sweep_room}
+use Rattle.papaya_grouped.specs.Given.CallersPairs.{kind_of as kind_given}
+use Rattle.papaya_grouped.specs.Given.CallersTogether.{CallOnKey, Counting, ForRoom, OnKey, OverAll, UnderWay}
+use Rattle.papaya_grouped.specs.Given.EffectsKnown.{Known}
+use Rattle.papaya_grouped.specs.Given.FinishesMachines.{machine_of}
+use Rattle.papaya_grouped.specs.Given.NamedMachines.{RefusedForRoom}
+use Rattle.papaya_grouped.specs.Given.NamedDeclared.kind.Kind.{Kind}
+use Rattle.papaya_grouped.specs.Given.ScenesHeld.{Held}
+use Rattle.papaya_grouped.specs.Given.ScenesScene.{Scene}
+use Rattle.papaya_grouped.specs.Given.ScenesStepping.{StepLeads, has_ended}
+use Rattle.papaya_swept.proofs.Given.HistoriesRefusals.{refused}
+use Rattle.papaya_grouped.specs.Given.PlayedPlay.{outcome_of}
+use Rattle.papaya_swept.proofs.Given.SteppingRoomSays.{NeverRefused, SaysRoom, reserve_room, sum_room, sweep_room}
 
 module _ {K V : Type 0} where
   abbrev pub NotBusy : Progress (Node K V) → Type 0

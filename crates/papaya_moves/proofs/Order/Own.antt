@@ -3,9 +3,9 @@ use Rattle.std.specs.Prelude.{◌≡◌, ℕ, true, List, Some}
 use Rattle.papaya_deeds.specs.Given.Runs.Same.{is_same}
 use Rattle.papaya_deeds.specs.Given.Schedules.Moment.{UnderWay as CallThere}
 use Rattle.papaya_deeds.specs.Given.Schedules.Views.{call_of}
-use Rattle.papaya_swept.proofs.Given.Finds.Grown.{found_any}
+use Rattle.papaya_swept.proofs.Given.FindsGrown.{found_any}
 use Rattle.papaya_deeds.specs.Deeds.{Deed, Entry, Leaves, Opens, ReclaimsAll, Registers, Shuts, Tends, moment, named}
-use Rattle.papaya_swept.proofs.Given.Linear.RowsPlayed.{IsOfRow}
+use Rattle.papaya_swept.proofs.Given.LinearRowsPlayed.{IsOfRow}
 use Rattle.papaya_moves.specs.Own.{FindsItsCall, has_call}
 
 module _ {K V : Type 0} (log : List (Entry K V)) where

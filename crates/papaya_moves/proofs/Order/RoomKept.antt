@@ -1,8 +1,8 @@
 -- What calls on no key are refused for is room, whatever they are told; and of a call that goes on, or is ready.
 use Rattle.std.specs.Prelude.{◌≡◌, ℕ, Bool, true, false, List, [], Option, Some}
 use Rattle.std.proofs.Common.{refl, ap, sym, ◌∙◌, inl, inr}
-use Rattle.papaya_swept.specs.Given.Logged.Given.Late.Faults.{RoomInSweeping}
-use Rattle.papaya_swept.proofs.Given.Logged.Given.Late.KindsKept.Laws.{told_sweeps_refuse_room}
+use Rattle.papaya_swept.specs.Given.LateFaults.{RoomInSweeping}
+use Rattle.papaya_swept.proofs.Given.LateKindsKept.Laws.{told_sweeps_refuse_room}
 use Rattle.papaya_deeds.specs.Given.Tables.declared.node.Node.{Node}
 use Rattle.papaya_deeds.specs.Given.Sweeps.declared.sweep.Sweeping.{Sweeping}
 use Rattle.papaya_deeds.specs.Given.Sweeps.declared.sweep.Sweeping.TheVariants as sweeping
@@ -13,19 +13,19 @@ use Rattle.papaya_deeds.specs.Given.Raw.declared.machines.machine.Machine.{Machi
 use Rattle.papaya_deeds.specs.Given.Raw.declared.machines.machine.Machine.TheVariants as kinds
 use Rattle.papaya_deeds.specs.Given.Raw.declared.machines.progress.Progress.{Progress}
 use Rattle.papaya_deeds.specs.Given.Raw.declared.machines.progress.Progress.TheVariants as progress
-use Rattle.papaya_grouped.specs.Given.Callers.Together.{UnderWay}
-use Rattle.papaya_grouped.specs.Given.Effects.Known.{Known}
-use Rattle.papaya_grouped.specs.Given.Finishes.Machines.{GoesOnAs, machine_of}
-use Rattle.papaya_grouped.specs.Given.Finishes.Maps.{with_call}
-use Rattle.papaya_grouped.specs.Given.Named.Machines.{RefusedForRoom}
-use Rattle.papaya_grouped.specs.Given.Scenes.Scene.{Scene}
-use Rattle.papaya_grouped.specs.Given.Scenes.Stepping.{has_ended}
-use Rattle.papaya_swept.specs.Given.Settles.Hand.{in_hand}
-use Rattle.papaya_grouped.proofs.Given.Follows.Calling.{is_same_refl}
-use Rattle.papaya_grouped.proofs.Given.Hands.Asking.{which}
+use Rattle.papaya_grouped.specs.Given.CallersTogether.{UnderWay}
+use Rattle.papaya_grouped.specs.Given.EffectsKnown.{Known}
+use Rattle.papaya_grouped.specs.Given.FinishesMachines.{GoesOnAs, machine_of}
+use Rattle.papaya_grouped.specs.Given.FinishesMaps.{with_call}
+use Rattle.papaya_grouped.specs.Given.NamedMachines.{RefusedForRoom}
+use Rattle.papaya_grouped.specs.Given.ScenesScene.{Scene}
+use Rattle.papaya_grouped.specs.Given.ScenesStepping.{has_ended}
+use Rattle.papaya_swept.specs.Given.SettlesHand.{in_hand}
+use Rattle.papaya_grouped.proofs.Given.FollowsCalling.{is_same_refl}
+use Rattle.papaya_grouped.proofs.Given.HandsAsking.{which}
 use Rattle.papaya_deeds.specs.Deeds.{Entry, moment, named}
 use Rattle.papaya_deeds.specs.History.{past}
-use Rattle.papaya_swept.specs.Given.Linear.Shown.{ShowsAnswers}
+use Rattle.papaya_swept.specs.Given.LinearShown.{ShowsAnswers}
 
 module _ {K V : Type 0} where
   abbrev pub HasRoom : Scene K V → Type 0

@@ -20,19 +20,19 @@ use Rattle.papaya_deeds.specs.Given.Schedules.Lives.{EventFinds, Finds}
 use Rattle.papaya_deeds.specs.Given.Schedules.Moment.{InMap, MapThere, Moment, Place, TableThere, UnderWay as CallThere}
 use Rattle.papaya_deeds.specs.Given.Schedules.Terms.{Terms}
 use Rattle.papaya_deeds.specs.Given.Schedules.Views.{call_of, first_of, is_in_map, is_linked, map_at}
-use Rattle.papaya_swept.specs.Given.Finds.Life.{StoresOne}
-use Rattle.papaya_swept.specs.Given.Finds.Waiting.{is_unborn}
-use Rattle.papaya_swept.specs.Given.Finds.Within.{ActsOn, AllIsInOrder, many_of}
-use Rattle.papaya_swept.proofs.Given.Finds.Life.{each_so}
-use Rattle.papaya_swept.proofs.Given.Finds.Over.{both_at, calls_stay, ended_owes_none, none_of_name}
-use Rattle.papaya_swept.proofs.Given.Finds.Runs.{life_keeps_order}
+use Rattle.papaya_swept.specs.Given.FindsLife.{StoresOne}
+use Rattle.papaya_swept.specs.Given.FindsWaiting.{is_unborn}
+use Rattle.papaya_swept.specs.Given.FindsWithin.{ActsOn, AllIsInOrder, many_of}
+use Rattle.papaya_swept.proofs.Given.FindsLife.{each_so}
+use Rattle.papaya_swept.proofs.Given.FindsOver.{both_at, calls_stay, ended_owes_none, none_of_name}
+use Rattle.papaya_swept.proofs.Given.FindsRuns.{life_keeps_order}
 use Rattle.papaya_deeds.specs.Deeds.{Begins, Deed, Ends, Entry, Leaves, Makes, MapComes, MapFails, MapGoes, Opens, ReclaimsAll, Registers, Replies, Shuts, Steps, Stops, Tends, acted_on, after, come, map_of_call, moment, named, without_map}
 use Rattle.papaya_deeds.specs.History.{EndFinds, past}
-use Rattle.papaya_grouped.specs.Given.Agrees.Fresh.{AreNamed}
-use Rattle.papaya_grouped.proofs.Given.Agrees.Names.{effects_named}
-use Rattle.papaya_swept.proofs.Given.Linear.RowsPlayed.{IsOfRow}
-use Rattle.papaya_swept.specs.Given.Endings.Ends.{AreStored}
-use Rattle.papaya_swept.proofs.Given.Endings.Places.{none_in}
+use Rattle.papaya_grouped.specs.Given.AgreesFresh.{AreNamed}
+use Rattle.papaya_grouped.proofs.Given.AgreesNames.{effects_named}
+use Rattle.papaya_swept.proofs.Given.LinearRowsPlayed.{IsOfRow}
+use Rattle.papaya_swept.specs.Given.EndingsEnds.{AreStored}
+use Rattle.papaya_swept.proofs.Given.EndingsPlaces.{none_in}
 use Rattle.papaya_moves.specs.Order.{OrderStays}
 use Rattle.papaya_moves.proofs.Order.Calls.{begins_in_order, stepped_in_order, stopped_in_order, told_in_order}
 use Rattle.papaya_moves.proofs.Order.Effects.{buckets_in_order, effects_in_order, ends_find, order_like}

@@ -10,15 +10,15 @@ use Rattle.papaya_deeds.specs.Given.Schedules.After.{comes_to, stepped, without_
 use Rattle.papaya_deeds.specs.Given.Schedules.Effects.{call_by, calls_by, with_effect, with_effects}
 use Rattle.papaya_deeds.specs.Given.Schedules.Entry.{ends_call}
 use Rattle.papaya_deeds.specs.Given.Schedules.Moment.{Moment, UnderWay as CallThere}
-use Rattle.papaya_grouped.specs.Given.Callers.Together.{UnderWay}
-use Rattle.papaya_grouped.specs.Given.Finishes.Maps.{with_call}
-use Rattle.papaya_grouped.specs.Given.Follows.Calling.{NoneNamed}
-use Rattle.papaya_grouped.specs.Given.Scenes.Scene.{Scene}
-use Rattle.papaya_grouped.proofs.Given.Callers.Together.At.{at_other, at_same}
-use Rattle.papaya_grouped.proofs.Given.Follows.Calling.{is_same_is, is_same_refl}
-use Rattle.papaya_grouped.proofs.Given.Follows.Calls.{IsOfSame, changed, changed_same}
-use Rattle.papaya_swept.proofs.Given.Finds.Lists.{all_so, one_of_them}
-use Rattle.papaya_swept.proofs.Given.Finds.Tables.{all_kept, all_under}
+use Rattle.papaya_grouped.specs.Given.CallersTogether.{UnderWay}
+use Rattle.papaya_grouped.specs.Given.FinishesMaps.{with_call}
+use Rattle.papaya_grouped.specs.Given.FollowsCalling.{NoneNamed}
+use Rattle.papaya_grouped.specs.Given.ScenesScene.{Scene}
+use Rattle.papaya_grouped.proofs.Given.CallersTogether.At.{at_other, at_same}
+use Rattle.papaya_grouped.proofs.Given.FollowsCalling.{is_same_is, is_same_refl}
+use Rattle.papaya_grouped.proofs.Given.FollowsCalls.{IsOfSame, changed, changed_same}
+use Rattle.papaya_swept.proofs.Given.FindsLists.{all_so, one_of_them}
+use Rattle.papaya_swept.proofs.Given.FindsTables.{all_kept, all_under}
 use Rattle.papaya_deeds.specs.Deeds.{named}
 use Rattle.papaya_moves.specs.Order.{AreUnderWay, IsUnderWay}
 

@@ -15,40 +15,40 @@ use Rattle.papaya_deeds.specs.Given.Schedules.Entry.{ends_call}
 use Rattle.papaya_deeds.specs.Given.Schedules.Moment.{Moment, UnderWay as CallThere}
 use Rattle.papaya_deeds.specs.Given.Schedules.Transition.{Past}
 use Rattle.papaya_deeds.specs.Given.Schedules.Views.{call_of}
-use Rattle.papaya_grouped.specs.Given.Callers.OverAll.{CallOverAll}
-use Rattle.papaya_grouped.specs.Given.Callers.Together.{OverAll, UnderWay}
-use Rattle.papaya_grouped.specs.Given.Effects.Effects.{effects_of, known_after}
-use Rattle.papaya_grouped.specs.Given.Effects.Known.{Known}
-use Rattle.papaya_grouped.specs.Given.Effects.declared.acting.Acting.TheVariants as acts
-use Rattle.papaya_grouped.specs.Given.Finishes.Machines.{machine_of}
-use Rattle.papaya_grouped.specs.Given.Finishes.Maps.{Standing, with_call as with_call_of}
-use Rattle.papaya_grouped.specs.Given.Follows.Calling.{NoneNamed, come_to, told}
-use Rattle.papaya_grouped.specs.Given.Follows.Calls.{IsCalled}
-use Rattle.papaya_grouped.specs.Given.Hands.Asked.{as_told}
-use Rattle.papaya_grouped.specs.Given.Others.Walks.{given_up}
-use Rattle.papaya_swept.specs.Given.Settles.Hand.{ShowsOwed, in_hand}
-use Rattle.papaya_swept.specs.Given.Purposes.Purposes.{ShowsPurposes}
-use Rattle.papaya_swept.specs.Given.Grows.Finding.{ShowsFinding}
-use Rattle.papaya_swept.specs.Given.Grows.Nexts.{ShowsNexts}
-use Rattle.papaya_swept.specs.Given.Grows.Tries.{ShowsTries}
-use Rattle.papaya_grouped.specs.Given.Scenes.Beginning.{Begins as BeginsSo}
-use Rattle.papaya_grouped.specs.Given.Scenes.Held.{Held, IsAt}
-use Rattle.papaya_grouped.specs.Given.Scenes.Replying.{AskLeads, scene_with, unless_stopped}
-use Rattle.papaya_grouped.specs.Given.Scenes.Scene.{Scene}
-use Rattle.papaya_grouped.specs.Given.Scenes.Stepping.{StepLeads, scene_after}
-use Rattle.papaya_swept.proofs.Given.Kept.Stays.{calls_come_to_kept}
-use Rattle.papaya_swept.proofs.Given.Settles.Hand.Asked.{asked_stays, told_stays}
-use Rattle.papaya_swept.proofs.Given.Finds.Grows.Between.{calls_begin_growing, calls_take_growing, walks_go_on_growing}
-use Rattle.papaya_swept.proofs.Given.Finds.Waits.Between.{calls_begin_waits}
-use Rattle.papaya_swept.proofs.Given.Grows.Finding.Alike.{finding_fewer, stood_as}
-use Rattle.papaya_swept.proofs.Given.Grows.Finding.Between.{asked_same, fewer_calls, none_at_first, puts_begun, puts_on, replied_same, waits_on}
-use Rattle.papaya_swept.proofs.Given.Grows.Finding.Calls.{calls_keep_finding}
-use Rattle.papaya_swept.proofs.Given.Grows.Finding.Making.Between.{calls_begin_further, calls_take_further, walks_go_on_further}
-use Rattle.papaya_swept.proofs.Given.Grows.Finding.Nexts.{calls_begin_nexts, calls_come_to_nexts, calls_take_nexts, nexts_go_on, others_at_first, walks_go_on_nexts, walks_stop_nexts}
-use Rattle.papaya_swept.proofs.Given.Grows.Tries.Shows.{calls_begin_tries, calls_come_to_tries, calls_take_tries, tries_at_first, walks_go_on_tries, walks_stop_tries}
-use Rattle.papaya_swept.proofs.Given.Grows.Tries.Steps.{tries_go_on}
+use Rattle.papaya_grouped.specs.Given.CallersOverAll.{CallOverAll}
+use Rattle.papaya_grouped.specs.Given.CallersTogether.{OverAll, UnderWay}
+use Rattle.papaya_grouped.specs.Given.EffectsEffects.{effects_of, known_after}
+use Rattle.papaya_grouped.specs.Given.EffectsKnown.{Known}
+use Rattle.papaya_grouped.specs.Given.EffectsDeclared.acting.Acting.TheVariants as acts
+use Rattle.papaya_grouped.specs.Given.FinishesMachines.{machine_of}
+use Rattle.papaya_grouped.specs.Given.FinishesMaps.{Standing, with_call as with_call_of}
+use Rattle.papaya_grouped.specs.Given.FollowsCalling.{NoneNamed, come_to, told}
+use Rattle.papaya_grouped.specs.Given.FollowsCalls.{IsCalled}
+use Rattle.papaya_grouped.specs.Given.HandsAsked.{as_told}
+use Rattle.papaya_grouped.specs.Given.OthersWalks.{given_up}
+use Rattle.papaya_swept.specs.Given.SettlesHand.{ShowsOwed, in_hand}
+use Rattle.papaya_swept.specs.Given.PurposesPurposes.{ShowsPurposes}
+use Rattle.papaya_swept.specs.Given.GrowsFinding.{ShowsFinding}
+use Rattle.papaya_swept.specs.Given.GrowsNexts.{ShowsNexts}
+use Rattle.papaya_swept.specs.Given.GrowsTries.{ShowsTries}
+use Rattle.papaya_grouped.specs.Given.ScenesBeginning.{Begins as BeginsSo}
+use Rattle.papaya_grouped.specs.Given.ScenesHeld.{Held, IsAt}
+use Rattle.papaya_grouped.specs.Given.ScenesReplying.{AskLeads, scene_with, unless_stopped}
+use Rattle.papaya_grouped.specs.Given.ScenesScene.{Scene}
+use Rattle.papaya_grouped.specs.Given.ScenesStepping.{StepLeads, scene_after}
+use Rattle.papaya_swept.proofs.Given.KeptStays.{calls_come_to_kept}
+use Rattle.papaya_swept.proofs.Given.SettlesHand.Asked.{asked_stays, told_stays}
+use Rattle.papaya_swept.proofs.Given.FindsGrows.Between.{calls_begin_growing, calls_take_growing, walks_go_on_growing}
+use Rattle.papaya_swept.proofs.Given.FindsWaits.Between.{calls_begin_waits}
+use Rattle.papaya_swept.proofs.Given.GrowsFinding.Alike.{finding_fewer, stood_as}
+use Rattle.papaya_swept.proofs.Given.GrowsFinding.Between.{asked_same, fewer_calls, none_at_first, puts_begun, puts_on, replied_same, waits_on}
+use Rattle.papaya_swept.proofs.Given.GrowsFinding.Calls.{calls_keep_finding}
+use Rattle.papaya_swept.proofs.Given.GrowsFinding.Making.Between.{calls_begin_further, calls_take_further, walks_go_on_further}
+use Rattle.papaya_swept.proofs.Given.GrowsFinding.Nexts.{calls_begin_nexts, calls_come_to_nexts, calls_take_nexts, nexts_go_on, others_at_first, walks_go_on_nexts, walks_stop_nexts}
+use Rattle.papaya_swept.proofs.Given.GrowsTries.Shows.{calls_begin_tries, calls_come_to_tries, calls_take_tries, tries_at_first, walks_go_on_tries, walks_stop_tries}
+use Rattle.papaya_swept.proofs.Given.GrowsTries.Steps.{tries_go_on}
 use Rattle.papaya_deeds.specs.Deeds.{named}
-use Rattle.papaya_swept.specs.Given.Linear.Shown.{ShowsAnswers}
+use Rattle.papaya_swept.specs.Given.LinearShown.{ShowsAnswers}
 use Rattle.papaya_moves.specs.Steps.{ShowsSteps}
 
 -- what stays so but for sources

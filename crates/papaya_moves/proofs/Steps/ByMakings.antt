@@ -8,37 +8,37 @@ use Rattle.papaya_deeds.specs.Given.Schedules.Effects.{with_effects}
 use Rattle.papaya_deeds.specs.Given.Schedules.Moment.{MapThere, Moment}
 use Rattle.papaya_deeds.specs.Given.Schedules.Transition.{Past}
 use Rattle.papaya_deeds.specs.Given.Schedules.Views.{map_at}
-use Rattle.papaya_grouped.specs.Given.Effects.Effects.{effects_of, known_after}
-use Rattle.papaya_grouped.specs.Given.Effects.Known.{Known}
-use Rattle.papaya_grouped.specs.Given.Effects.declared.acting.Acting.TheVariants as acts
-use Rattle.papaya_grouped.specs.Given.Finishes.Makings.{Beginning}
-use Rattle.papaya_grouped.specs.Given.Finishes.Maps.{Standing}
-use Rattle.papaya_swept.specs.Given.Finds.Linking.{IsMadeFor}
-use Rattle.papaya_swept.specs.Given.Grows.Finding.{ShowsFinding}
-use Rattle.papaya_grouped.specs.Given.Others.Makings.{WasNew, making_after}
-use Rattle.papaya_grouped.specs.Given.Scenes.Held.{Held, IsAt}
-use Rattle.papaya_grouped.specs.Given.Scenes.Making.{MakingLeads, scene_making}
-use Rattle.papaya_grouped.specs.Given.Scenes.Scene.{Scene}
-use Rattle.papaya_swept.specs.Given.Legal.MapEvents.{HasNotMade}
-use Rattle.papaya_swept.proofs.Given.Moments.MakingSteps.{makings_go_beside}
-use Rattle.papaya_swept.proofs.Given.Finds.Capacities.{capacities_stay, effects_keep_capacities}
-use Rattle.papaya_swept.proofs.Given.Finds.Grows.Steps.{tables_have_been}
-use Rattle.papaya_swept.proofs.Given.Grows.Finding.Alike.{stood_as}
-use Rattle.papaya_swept.proofs.Given.Grows.Finding.Aside.{makings_aside, makings_leave_spots}
-use Rattle.papaya_swept.proofs.Given.Grows.Finding.Beside.{finding_beside}
-use Rattle.papaya_swept.proofs.Given.Grows.Finding.Between.{finding_where, found_beside}
-use Rattle.papaya_swept.proofs.Given.Grows.Finding.Making.Lengths.{effects_keep_lengths}
-use Rattle.papaya_swept.proofs.Given.Grows.Finding.Nexts.{nexts_where}
-use Rattle.papaya_swept.proofs.Given.Grows.Finding.NextsOthers.{makings_keep_nexts}
-use Rattle.papaya_swept.proofs.Given.Grows.Finding.Others.{makings_keep_finding}
-use Rattle.papaya_swept.proofs.Given.Grows.Tries.Others.{makings_keep_tries}
-use Rattle.papaya_swept.proofs.Given.Grows.Tries.Shows.{tries_where}
-use Rattle.papaya_swept.proofs.Given.Legal.Maps.{unmade_maps}
-use Rattle.papaya_swept.proofs.Given.Legal.Sourced.{making_sources, so_aside, sources_so}
-use Rattle.papaya_swept.specs.Given.Grows.Given.Sources.Sources.{ShowsSources}
-use Rattle.papaya_swept.specs.Given.Grows.Given.Sources.Stays.{NoneBorn}
+use Rattle.papaya_grouped.specs.Given.EffectsEffects.{effects_of, known_after}
+use Rattle.papaya_grouped.specs.Given.EffectsKnown.{Known}
+use Rattle.papaya_grouped.specs.Given.EffectsDeclared.acting.Acting.TheVariants as acts
+use Rattle.papaya_grouped.specs.Given.FinishesMakings.{Beginning}
+use Rattle.papaya_grouped.specs.Given.FinishesMaps.{Standing}
+use Rattle.papaya_swept.specs.Given.FindsLinking.{IsMadeFor}
+use Rattle.papaya_swept.specs.Given.GrowsFinding.{ShowsFinding}
+use Rattle.papaya_grouped.specs.Given.OthersMakings.{WasNew, making_after}
+use Rattle.papaya_grouped.specs.Given.ScenesHeld.{Held, IsAt}
+use Rattle.papaya_grouped.specs.Given.ScenesMaking.{MakingLeads, scene_making}
+use Rattle.papaya_grouped.specs.Given.ScenesScene.{Scene}
+use Rattle.papaya_swept.specs.Given.LegalMapEvents.{HasNotMade}
+use Rattle.papaya_swept.proofs.Given.MomentsMakingSteps.{makings_go_beside}
+use Rattle.papaya_swept.proofs.Given.FindsCapacities.{capacities_stay, effects_keep_capacities}
+use Rattle.papaya_swept.proofs.Given.FindsGrows.Steps.{tables_have_been}
+use Rattle.papaya_swept.proofs.Given.GrowsFinding.Alike.{stood_as}
+use Rattle.papaya_swept.proofs.Given.GrowsFinding.Aside.{makings_aside, makings_leave_spots}
+use Rattle.papaya_swept.proofs.Given.GrowsFinding.Beside.{finding_beside}
+use Rattle.papaya_swept.proofs.Given.GrowsFinding.Between.{finding_where, found_beside}
+use Rattle.papaya_swept.proofs.Given.GrowsFinding.Making.Lengths.{effects_keep_lengths}
+use Rattle.papaya_swept.proofs.Given.GrowsFinding.Nexts.{nexts_where}
+use Rattle.papaya_swept.proofs.Given.GrowsFinding.NextsOthers.{makings_keep_nexts}
+use Rattle.papaya_swept.proofs.Given.GrowsFinding.Others.{makings_keep_finding}
+use Rattle.papaya_swept.proofs.Given.GrowsTries.Others.{makings_keep_tries}
+use Rattle.papaya_swept.proofs.Given.GrowsTries.Shows.{tries_where}
+use Rattle.papaya_swept.proofs.Given.LegalMaps.{unmade_maps}
+use Rattle.papaya_swept.proofs.Given.LegalSourced.{making_sources, so_aside, sources_so}
+use Rattle.papaya_swept.specs.Given.SourcesSources.{ShowsSources}
+use Rattle.papaya_swept.specs.Given.SourcesStays.{NoneBorn}
 use Rattle.papaya_deeds.specs.Deeds.{come, named}
-use Rattle.papaya_swept.specs.Given.Linear.Shown.{ShowsAnswers}
+use Rattle.papaya_swept.specs.Given.LinearShown.{ShowsAnswers}
 use Rattle.papaya_moves.specs.Steps.{ShowsSteps}
 
 module _ {K V : Type 0} (same : K → K → Bool) (hash : ℕ → K → ℕ) (log : Past K V) (m : Moment K V) (known : Known) (s : Scene K V) (all : ShowsAnswers same log m known s) (steps : ShowsSteps same log m known s)

@@ -11,39 +11,39 @@ use Rattle.papaya_deeds.specs.Given.Schedules.Effects.{with_effects}
 use Rattle.papaya_deeds.specs.Given.Schedules.Moment.{Moment, Remains}
 use Rattle.papaya_deeds.specs.Given.Schedules.Transition.{Past}
 use Rattle.papaya_deeds.specs.Given.Schedules.Views.{map_at}
-use Rattle.papaya_grouped.specs.Given.Callers.Together.{UnderWay}
-use Rattle.papaya_grouped.specs.Given.Effects.Effects.{effects_of, known_after}
-use Rattle.papaya_grouped.specs.Given.Effects.Known.{Known}
-use Rattle.papaya_grouped.specs.Given.Effects.declared.acting.Acting.TheVariants as acts
-use Rattle.papaya_grouped.specs.Given.Finishes.Endings.{Finishing}
-use Rattle.papaya_grouped.specs.Given.Finishes.Maps.{Standing}
-use Rattle.papaya_swept.specs.Given.Finds.Capacities.{StoodSo}
-use Rattle.papaya_grouped.specs.Given.Others.Endings.{ending_after, without_map}
-use Rattle.papaya_grouped.specs.Given.Others.Rows.{scene_then}
-use Rattle.papaya_grouped.specs.Given.Scenes.Ending.{EndingLeads, ending_begun}
-use Rattle.papaya_grouped.specs.Given.Scenes.Held.{Held, IsAt}
-use Rattle.papaya_grouped.specs.Given.Scenes.OnSlots.{RowBegins, RowLeads}
-use Rattle.papaya_grouped.specs.Given.Scenes.Reclaiming.{IsReclaiming, ReclaimingLeads}
-use Rattle.papaya_grouped.specs.Given.Scenes.Rows.{request_of}
-use Rattle.papaya_grouped.specs.Given.Scenes.Scene.{IsOnSlot, Scene, slot_of}
-use Rattle.papaya_grouped.specs.Given.Scenes.declared.row.RowTold.{RowTold}
-use Rattle.papaya_grouped.specs.Given.Scenes.declared.row.SlotCall.{SlotCall}
-use Rattle.papaya_grouped.specs.Given.Scenes.declared.row.SlotRow.{SlotRow}
-use Rattle.papaya_grouped.proofs.Given.Spots.Effects.{AllAside}
-use Rattle.papaya_swept.proofs.Given.Grows.Finding.Alike.{finding_fewer}
-use Rattle.papaya_swept.proofs.Given.Grows.Finding.Aside.{endings_aside, rows_aside}
-use Rattle.papaya_swept.proofs.Given.Grows.Finding.Between.{finding_where, found_kept}
-use Rattle.papaya_swept.proofs.Given.Grows.Finding.Nexts.{nexts_where}
-use Rattle.papaya_swept.proofs.Given.Grows.Finding.NextsOthers.{endings_keep_nexts, rows_begin_nexts, rows_keep_nexts}
-use Rattle.papaya_swept.proofs.Given.Grows.Finding.Others.{ended_maps, endings_keep_finding, finding_of_none, rows_begin_finding, rows_keep_finding}
-use Rattle.papaya_swept.proofs.Given.Grows.Tries.Others.{endings_keep_tries, rows_begin_tries, rows_keep_tries}
-use Rattle.papaya_swept.proofs.Given.Grows.Tries.Shows.{tries_where}
-use Rattle.papaya_swept.proofs.Given.Legal.OfAll.Tells.{gone_by, it_reclaims}
-use Rattle.papaya_swept.proofs.Given.Legal.Sourced.{ends_leave, reclaimed_aside, same_maps_aside, so_aside, sources_same, sources_so}
-use Rattle.papaya_grouped.specs.Given.Acts.Doings.{scene_chosen}
+use Rattle.papaya_grouped.specs.Given.CallersTogether.{UnderWay}
+use Rattle.papaya_grouped.specs.Given.EffectsEffects.{effects_of, known_after}
+use Rattle.papaya_grouped.specs.Given.EffectsKnown.{Known}
+use Rattle.papaya_grouped.specs.Given.EffectsDeclared.acting.Acting.TheVariants as acts
+use Rattle.papaya_grouped.specs.Given.FinishesEndings.{Finishing}
+use Rattle.papaya_grouped.specs.Given.FinishesMaps.{Standing}
+use Rattle.papaya_swept.specs.Given.FindsCapacities.{StoodSo}
+use Rattle.papaya_grouped.specs.Given.OthersEndings.{ending_after, without_map}
+use Rattle.papaya_grouped.specs.Given.OthersRows.{scene_then}
+use Rattle.papaya_grouped.specs.Given.ScenesEnding.{EndingLeads, ending_begun}
+use Rattle.papaya_grouped.specs.Given.ScenesHeld.{Held, IsAt}
+use Rattle.papaya_grouped.specs.Given.ScenesOnSlots.{RowBegins, RowLeads}
+use Rattle.papaya_grouped.specs.Given.ScenesReclaiming.{IsReclaiming, ReclaimingLeads}
+use Rattle.papaya_grouped.specs.Given.ScenesRows.{request_of}
+use Rattle.papaya_grouped.specs.Given.ScenesScene.{IsOnSlot, Scene, slot_of}
+use Rattle.papaya_grouped.specs.Given.ScenesDeclared.row.RowTold.{RowTold}
+use Rattle.papaya_grouped.specs.Given.ScenesDeclared.row.SlotCall.{SlotCall}
+use Rattle.papaya_grouped.specs.Given.ScenesDeclared.row.SlotRow.{SlotRow}
+use Rattle.papaya_grouped.proofs.Given.SpotsEffects.{AllAside}
+use Rattle.papaya_swept.proofs.Given.GrowsFinding.Alike.{finding_fewer}
+use Rattle.papaya_swept.proofs.Given.GrowsFinding.Aside.{endings_aside, rows_aside}
+use Rattle.papaya_swept.proofs.Given.GrowsFinding.Between.{finding_where, found_kept}
+use Rattle.papaya_swept.proofs.Given.GrowsFinding.Nexts.{nexts_where}
+use Rattle.papaya_swept.proofs.Given.GrowsFinding.NextsOthers.{endings_keep_nexts, rows_begin_nexts, rows_keep_nexts}
+use Rattle.papaya_swept.proofs.Given.GrowsFinding.Others.{ended_maps, endings_keep_finding, finding_of_none, rows_begin_finding, rows_keep_finding}
+use Rattle.papaya_swept.proofs.Given.GrowsTries.Others.{endings_keep_tries, rows_begin_tries, rows_keep_tries}
+use Rattle.papaya_swept.proofs.Given.GrowsTries.Shows.{tries_where}
+use Rattle.papaya_swept.proofs.Given.LegalOfAll.Tells.{gone_by, it_reclaims}
+use Rattle.papaya_swept.proofs.Given.LegalSourced.{ends_leave, reclaimed_aside, same_maps_aside, so_aside, sources_same, sources_so}
+use Rattle.papaya_grouped.specs.Given.ActsDoings.{scene_chosen}
 use Rattle.papaya_deeds.specs.Deeds.{named}
-use Rattle.papaya_swept.specs.Given.Linear.Shown.{ShowsAnswers}
-use Rattle.papaya_swept.proofs.Given.Linear.MapsPlayed.{IsApart}
+use Rattle.papaya_swept.specs.Given.LinearShown.{ShowsAnswers}
+use Rattle.papaya_swept.proofs.Given.LinearMapsPlayed.{IsApart}
 use Rattle.papaya_moves.specs.Steps.{ShowsSteps}
 
 -- where a choice comes

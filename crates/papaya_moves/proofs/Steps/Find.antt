@@ -21,35 +21,35 @@ use Rattle.papaya_deeds.specs.Given.Schedules.Lives.{Finds}
 use Rattle.papaya_deeds.specs.Given.Schedules.Moment.{Moment, UnderWay as CallThere}
 use Rattle.papaya_deeds.specs.Given.Schedules.Terms.{Terms, shards_of}
 use Rattle.papaya_deeds.specs.Given.Schedules.Views.{call_of}
-use Rattle.papaya_grouped.specs.Given.Callers.Together.{Counting, ForRoom, OnKey, OverAll, UnderWay, UnlessCounts}
-use Rattle.papaya_grouped.specs.Given.Effects.Effects.{effects_of}
-use Rattle.papaya_grouped.specs.Given.Effects.Known.{Known}
-use Rattle.papaya_grouped.specs.Given.Effects.declared.acting.Acting.TheVariants as acts
-use Rattle.papaya_grouped.specs.Given.Finishes.Machines.{machine_of}
-use Rattle.papaya_grouped.specs.Given.Follows.Calls.{IsCalled}
-use Rattle.papaya_swept.specs.Given.Owes.Looking.{FindAtWork}
-use Rattle.papaya_swept.specs.Given.Purposes.Purposes.{ShowsPurposes}
-use Rattle.papaya_swept.specs.Given.Finds.Linking.{FoundFull}
-use Rattle.papaya_swept.specs.Given.Finds.Life.{StoresOne}
-use Rattle.papaya_swept.specs.Given.Finds.Parts.{FindAll}
-use Rattle.papaya_swept.specs.Given.Finds.Within.{AllIsInOrder, many_of}
-use Rattle.papaya_swept.specs.Given.Grows.Copiers.{making_of_copier}
-use Rattle.papaya_swept.specs.Given.Grows.Nexts.{MayFollow}
-use Rattle.papaya_grouped.specs.Given.Scenes.Held.{Held, IsAt}
-use Rattle.papaya_grouped.specs.Given.Scenes.Scene.{Scene, slot_of}
-use Rattle.papaya_grouped.specs.Given.Scenes.Stepping.{StepLeads}
-use Rattle.papaya_swept.proofs.Given.Legal.CallFinds.{steps_find_all}
-use Rattle.papaya_grouped.proofs.Given.Follows.Calling.{is_same_is}
-use Rattle.papaya_swept.proofs.Given.Owes.Looking.Calls.{calls_keep_looking}
-use Rattle.papaya_swept.proofs.Given.Finds.Grown.{found_of}
-use Rattle.papaya_swept.proofs.Given.Finds.Steps.{steps_store_one}
-use Rattle.papaya_swept.proofs.Given.Grows.Finding.Links.{such_of_making}
-use Rattle.papaya_swept.proofs.Given.Grows.Finding.Rest.{steps_find_rest}
-use Rattle.papaya_swept.proofs.Given.Grows.Tries.Log.{found_full_so}
-use Rattle.papaya_grouped.specs.Given.Agrees.Guards.{HasItsGuard, guard_on}
+use Rattle.papaya_grouped.specs.Given.CallersTogether.{Counting, ForRoom, OnKey, OverAll, UnderWay, UnlessCounts}
+use Rattle.papaya_grouped.specs.Given.EffectsEffects.{effects_of}
+use Rattle.papaya_grouped.specs.Given.EffectsKnown.{Known}
+use Rattle.papaya_grouped.specs.Given.EffectsDeclared.acting.Acting.TheVariants as acts
+use Rattle.papaya_grouped.specs.Given.FinishesMachines.{machine_of}
+use Rattle.papaya_grouped.specs.Given.FollowsCalls.{IsCalled}
+use Rattle.papaya_swept.specs.Given.OwesLooking.{FindAtWork}
+use Rattle.papaya_swept.specs.Given.PurposesPurposes.{ShowsPurposes}
+use Rattle.papaya_swept.specs.Given.FindsLinking.{FoundFull}
+use Rattle.papaya_swept.specs.Given.FindsLife.{StoresOne}
+use Rattle.papaya_swept.specs.Given.FindsParts.{FindAll}
+use Rattle.papaya_swept.specs.Given.FindsWithin.{AllIsInOrder, many_of}
+use Rattle.papaya_swept.specs.Given.GrowsCopiers.{making_of_copier}
+use Rattle.papaya_swept.specs.Given.GrowsNexts.{MayFollow}
+use Rattle.papaya_grouped.specs.Given.ScenesHeld.{Held, IsAt}
+use Rattle.papaya_grouped.specs.Given.ScenesScene.{Scene, slot_of}
+use Rattle.papaya_grouped.specs.Given.ScenesStepping.{StepLeads}
+use Rattle.papaya_swept.proofs.Given.LegalCallFinds.{steps_find_all}
+use Rattle.papaya_grouped.proofs.Given.FollowsCalling.{is_same_is}
+use Rattle.papaya_swept.proofs.Given.OwesLooking.Calls.{calls_keep_looking}
+use Rattle.papaya_swept.proofs.Given.FindsGrown.{found_of}
+use Rattle.papaya_swept.proofs.Given.FindsSteps.{steps_store_one}
+use Rattle.papaya_swept.proofs.Given.GrowsFinding.Links.{such_of_making}
+use Rattle.papaya_swept.proofs.Given.GrowsFinding.Rest.{steps_find_rest}
+use Rattle.papaya_swept.proofs.Given.GrowsTries.Log.{found_full_so}
+use Rattle.papaya_grouped.specs.Given.AgreesGuards.{HasItsGuard, guard_on}
 use Rattle.papaya_deeds.specs.Deeds.{Entry, Steps, map_of_call, moment, named}
 use Rattle.papaya_deeds.specs.History.{past}
-use Rattle.papaya_swept.specs.Given.Linear.Shown.{ShowsAnswers}
+use Rattle.papaya_swept.specs.Given.LinearShown.{ShowsAnswers}
 use Rattle.papaya_moves.specs.Finds.{FindsIts}
 use Rattle.papaya_moves.specs.Steps.{EachStoresOne, ShowsSteps, StepsMay}
 use Rattle.papaya_moves.proofs.Steps.TablesLast.{tables_last}

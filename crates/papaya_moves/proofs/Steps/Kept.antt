@@ -16,35 +16,35 @@ use Rattle.papaya_deeds.specs.Given.Schedules.Growing.{Has}
 use Rattle.papaya_deeds.specs.Given.Schedules.Moment.{MapThere, Moment, UnderWay as CallThere}
 use Rattle.papaya_deeds.specs.Given.Schedules.Terms.{Terms}
 use Rattle.papaya_deeds.specs.Given.Schedules.Views.{capacity_or, map_at}
-use Rattle.papaya_grouped.specs.Given.Callers.Together.{OverAll}
-use Rattle.papaya_grouped.specs.Given.Effects.Effects.{effects_of, known_after}
-use Rattle.papaya_grouped.specs.Given.Effects.Known.{Known}
-use Rattle.papaya_grouped.specs.Given.Effects.declared.acting.Acting.TheVariants as acts
-use Rattle.papaya_grouped.specs.Given.Finishes.Makings.{Beginning}
-use Rattle.papaya_grouped.specs.Given.Finishes.Maps.{with_call as with_call_of}
-use Rattle.papaya_swept.specs.Given.Finds.Linking.{IsMadeFor}
-use Rattle.papaya_swept.specs.Given.Finds.Within.{AllIsInOrder, many_of}
-use Rattle.papaya_grouped.specs.Given.Follows.Calling.{come_to, told}
-use Rattle.papaya_grouped.specs.Given.Named.Seen.{kind_of}
-use Rattle.papaya_grouped.specs.Given.Others.Endings.{ending_after, without_map}
-use Rattle.papaya_grouped.specs.Given.Others.Makings.{WasNew, making_after}
-use Rattle.papaya_grouped.specs.Given.Others.Rows.{scene_then}
-use Rattle.papaya_grouped.specs.Given.Others.Walks.{given_up}
-use Rattle.papaya_grouped.specs.Given.Scenes.Replying.{scene_with, unless_stopped}
-use Rattle.papaya_grouped.specs.Given.Scenes.Scene.{Scene, slot_of}
-use Rattle.papaya_grouped.specs.Given.Scenes.Stepping.{scene_after}
-use Rattle.papaya_swept.specs.Given.Legal.MapEvents.{HasNotMade}
-use Rattle.papaya_swept.proofs.Given.Legal.Sourced.{sources_so}
-use Rattle.papaya_swept.specs.Given.Grows.Given.Sources.Stays.{NoneBorn}
-use Rattle.papaya_swept.proofs.Given.Grows.Given.Sources.Steps.{calls_keep_sources}
-use Rattle.papaya_grouped.specs.Given.Acts.Acts.{begun}
+use Rattle.papaya_grouped.specs.Given.CallersTogether.{OverAll}
+use Rattle.papaya_grouped.specs.Given.EffectsEffects.{effects_of, known_after}
+use Rattle.papaya_grouped.specs.Given.EffectsKnown.{Known}
+use Rattle.papaya_grouped.specs.Given.EffectsDeclared.acting.Acting.TheVariants as acts
+use Rattle.papaya_grouped.specs.Given.FinishesMakings.{Beginning}
+use Rattle.papaya_grouped.specs.Given.FinishesMaps.{with_call as with_call_of}
+use Rattle.papaya_swept.specs.Given.FindsLinking.{IsMadeFor}
+use Rattle.papaya_swept.specs.Given.FindsWithin.{AllIsInOrder, many_of}
+use Rattle.papaya_grouped.specs.Given.FollowsCalling.{come_to, told}
+use Rattle.papaya_grouped.specs.Given.NamedSeen.{kind_of}
+use Rattle.papaya_grouped.specs.Given.OthersEndings.{ending_after, without_map}
+use Rattle.papaya_grouped.specs.Given.OthersMakings.{WasNew, making_after}
+use Rattle.papaya_grouped.specs.Given.OthersRows.{scene_then}
+use Rattle.papaya_grouped.specs.Given.OthersWalks.{given_up}
+use Rattle.papaya_grouped.specs.Given.ScenesReplying.{scene_with, unless_stopped}
+use Rattle.papaya_grouped.specs.Given.ScenesScene.{Scene, slot_of}
+use Rattle.papaya_grouped.specs.Given.ScenesStepping.{scene_after}
+use Rattle.papaya_swept.specs.Given.LegalMapEvents.{HasNotMade}
+use Rattle.papaya_swept.proofs.Given.LegalSourced.{sources_so}
+use Rattle.papaya_swept.specs.Given.SourcesStays.{NoneBorn}
+use Rattle.papaya_swept.proofs.Given.SourcesSteps.{calls_keep_sources}
+use Rattle.papaya_grouped.specs.Given.ActsActs.{begun}
 use Rattle.papaya_deeds.specs.Deeds.{Begins, Deed, Ends, Entry, Leaves, Makes, MapFails, MapGoes, Opens, ReclaimsAll, Registers, Replies, Shuts, Steps, Stops, Tends, acted_on, after, come, map_of_call, moment, named, worked}
 use Rattle.papaya_deeds.specs.History.{past}
-use Rattle.papaya_grouped.specs.Given.Played.Play.{call_for, is_over, is_refusal, making_outcome, outcome_of, row_deed, settled_outcome}
-use Rattle.papaya_swept.proofs.Given.Linear.CallsGo.{calls_step}
-use Rattle.papaya_swept.proofs.Given.Linear.Like.{IsLike, likes_answer}
-use Rattle.papaya_swept.proofs.Given.Linear.OthersGo.{all_step, ends_step, makings_step, maps_come, maps_go, rows_step}
-use Rattle.papaya_swept.proofs.Given.Linear.RowsPlayed.{IsOfRow, is_of_row, rows_like}
+use Rattle.papaya_grouped.specs.Given.PlayedPlay.{call_for, is_over, is_refusal, making_outcome, outcome_of, row_deed, settled_outcome}
+use Rattle.papaya_swept.proofs.Given.LinearCallsGo.{calls_step}
+use Rattle.papaya_swept.proofs.Given.LinearLike.{IsLike, likes_answer}
+use Rattle.papaya_swept.proofs.Given.LinearOthersGo.{all_step, ends_step, makings_step, maps_come, maps_go, rows_step}
+use Rattle.papaya_swept.proofs.Given.LinearRowsPlayed.{IsOfRow, is_of_row, rows_like}
 use Rattle.papaya_swept.proofs.Calls.{sweeps_begin, sweeps_step, sweeps_stop, sweeps_take}
 use Rattle.papaya_swept.proofs.Instance.{sweeps_are_kept}
 use Rattle.papaya_swept.proofs.Kept.{IsKept, alone, coming, comes_by}

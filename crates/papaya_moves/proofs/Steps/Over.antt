@@ -4,19 +4,19 @@ use Rattle.std.proofs.Common.{ap, sym, subst}
 use Rattle.papaya_deeds.specs.Given.Schedules.Moment.{Moment, UnderWay as CallThere}
 use Rattle.papaya_deeds.specs.Given.Schedules.Transition.{Past, further}
 use Rattle.papaya_deeds.specs.Given.Schedules.Views.{call_of}
-use Rattle.papaya_grouped.specs.Given.Callers.Together.{UnderWay}
-use Rattle.papaya_grouped.specs.Given.Effects.Known.{Known}
-use Rattle.papaya_grouped.specs.Given.Follows.Shows.{Shows}
-use Rattle.papaya_swept.specs.Given.Grows.Finding.{ShowsFinding}
-use Rattle.papaya_swept.specs.Given.Grows.Nexts.{ShowsNexts}
-use Rattle.papaya_swept.specs.Given.Grows.Tries.{ShowsTries}
-use Rattle.papaya_grouped.specs.Given.Scenes.Scene.{Scene}
-use Rattle.papaya_swept.proofs.Given.Grows.Finding.Nexts.{nexts_grow}
-use Rattle.papaya_swept.proofs.Given.Grows.Tries.Shows.{tries_grow}
-use Rattle.papaya_swept.proofs.Given.Legal.Sourced.{sources_so}
-use Rattle.papaya_swept.specs.Given.Grows.Given.Sources.Sources.{ShowsSources}
+use Rattle.papaya_grouped.specs.Given.CallersTogether.{UnderWay}
+use Rattle.papaya_grouped.specs.Given.EffectsKnown.{Known}
+use Rattle.papaya_grouped.specs.Given.FollowsShows.{Shows}
+use Rattle.papaya_swept.specs.Given.GrowsFinding.{ShowsFinding}
+use Rattle.papaya_swept.specs.Given.GrowsNexts.{ShowsNexts}
+use Rattle.papaya_swept.specs.Given.GrowsTries.{ShowsTries}
+use Rattle.papaya_grouped.specs.Given.ScenesScene.{Scene}
+use Rattle.papaya_swept.proofs.Given.GrowsFinding.Nexts.{nexts_grow}
+use Rattle.papaya_swept.proofs.Given.GrowsTries.Shows.{tries_grow}
+use Rattle.papaya_swept.proofs.Given.LegalSourced.{sources_so}
+use Rattle.papaya_swept.specs.Given.SourcesSources.{ShowsSources}
 use Rattle.papaya_deeds.specs.Deeds.{named}
-use Rattle.papaya_swept.proofs.Given.Linear.Like.{IsLike}
+use Rattle.papaya_swept.proofs.Given.LinearLike.{IsLike}
 use Rattle.papaya_moves.specs.Steps.{ShowsSteps}
 
 module _ {K V : Type 0} (same : K → K → Bool) (log : Past K V) (known : Known) (s : Scene K V) (m v : Moment K V) where

@@ -3,10 +3,10 @@ use Rattle.std.specs.Prelude.{◌≤◌, ◌==◌, nat_lt, ℕ, Bool, true, fals
 use Rattle.std.specs.List.{AllByRecursion}
 use Rattle.std.proofs.Common.{◌≡◌, refl, arith}
 use Rattle.papaya_deeds.specs.Given.Schedules.Moment.{Moment, start}
-use Rattle.papaya_swept.specs.Given.Finds.Within.{many_of}
-use Rattle.papaya_swept.specs.Given.Grows.Tries.{TablesLast}
-use Rattle.papaya_swept.proofs.Given.Finds.Grows.Steps.{tables_have_been}
-use Rattle.papaya_swept.proofs.Given.Grows.Finding.Alike.{many_same}
+use Rattle.papaya_swept.specs.Given.FindsWithin.{many_of}
+use Rattle.papaya_swept.specs.Given.GrowsTries.{TablesLast}
+use Rattle.papaya_swept.proofs.Given.FindsGrows.Steps.{tables_have_been}
+use Rattle.papaya_swept.proofs.Given.GrowsFinding.Alike.{many_same}
 use Rattle.papaya_deeds.specs.Deeds.{Begins, Deed, Entry, MapComes, acted_on, after, at_work, begun, caller_of, moment}
 use Rattle.papaya_deeds.specs.History.{moments_from, past}
 

@@ -1,10 +1,10 @@
 -- Between the steps of calls: where a call begins, is told a reply, or has come to an outcome, those that are short of no growth have nothing to tell of memory.
 use Rattle.std.specs.Prelude.{◌≡◌, ℕ, Bool, not}
 use Rattle.std.proofs.Common.{ap, sym, subst}
-use Rattle.papaya_holds.specs.Given.SeizeWords.declared.fault.Fault.TheVariants.{Capacity, RemoveNothing}
-use Rattle.papaya_holds.specs.Given.Raw.declared.machines.machine.Machine.{Machine}
-use Rattle.papaya_lives.specs.Given.Schedules.Moment.{UnderWay as CallThere}
-use Rattle.papaya_holds.specs.Given.Finishes.Machines.{machine_of}
+use Rattle.papaya_holds.specs.Given.SeizeWordsDeclared.fault.Fault.TheVariants.{Capacity, RemoveNothing}
+use Rattle.papaya_holds.specs.Given.RawDeclared.machines.machine.Machine.{Machine}
+use Rattle.papaya_lives.specs.Given.SchedulesMoment.{UnderWay as CallThere}
+use Rattle.papaya_holds.specs.Given.FinishesMachines.{machine_of}
 use Rattle.papaya_owes.specs.Grown.{SoInMachine, IsOther, GrownBegins, StaysGrown, CallsBeginGrown, MachinesBeginGrown, CallsTakeGrown, CallsComeToGrown, WalksGoOnGrown, WalksStopGrown}
 use Rattle.papaya_owes.proofs.Grown.Machines.{asked_so, begins_so, replied_so}
 use Rattle.papaya_owes.proofs.Kept.{HasAsMuch}

@@ -1,28 +1,28 @@
 -- A step of a call, of whichever kind: who is short of no growth has nothing to tell of memory after it, and who is refused for want of memory is short of one.
 use Rattle.std.specs.Prelude.{◌≡◌, ℕ, Bool, true, false, not, List, Some}
 use Rattle.std.proofs.Common.{refl, ap, sym, subst, ◌∙◌, inl, inr}
-use Rattle.papaya_holds.specs.Given.SeizeWords.declared.fault.Fault.TheVariants.{Memory}
-use Rattle.papaya_holds.specs.Given.Tables.declared.node.Node.{Node}
-use Rattle.papaya_holds.specs.Given.Raw.declared.machines.machine.Machine.{Machine}
-use Rattle.papaya_holds.specs.Given.Raw.declared.machines.progress.Progress.{Progress}
-use Rattle.papaya_holds.specs.Given.Raw.declared.machines.progress.Progress.TheVariants as progress
-use Rattle.papaya_lives.specs.Given.Runs.Same.{is_same}
-use Rattle.papaya_lives.specs.Given.Schedules.declared.effect.Effect.{Effect}
-use Rattle.papaya_lives.specs.Given.Schedules.Effects.{with_effects}
-use Rattle.papaya_lives.specs.Given.Schedules.Moment.{UnderWay as CallThere, Moment}
-use Rattle.papaya_lives.specs.Given.Schedules.Views.{call_of}
-use Rattle.papaya_holds.specs.Given.Callers.Together.{UnderWay}
-use Rattle.papaya_lives.specs.Given.Effects.Effects.{effects_of}
-use Rattle.papaya_lives.specs.Given.Effects.Known.{Known}
-use Rattle.papaya_lives.specs.Given.Effects.declared.acting.Acting.{Acting}
-use Rattle.papaya_lives.specs.Given.Effects.declared.acting.Acting.TheVariants as acts
-use Rattle.papaya_lives.specs.Given.Teller.declared.changed.Changed.{Changed}
-use Rattle.papaya_lives.specs.Given.Teller.declared.changed.Changed.TheVariants as changed
-use Rattle.papaya_lives.specs.Given.Teller.declared.changed.Kind.{Kind}
-use Rattle.papaya_holds.specs.Given.Finishes.Machines.{machine_of}
-use Rattle.papaya_lives.proofs.Given.Follows.Steps.{WentTo, went_to}
-use Rattle.papaya_lives.proofs.Given.Hands.Asking.{which}
-use Rattle.papaya_lives.specs.Given.Moments.Whole.{ShowsWhole}
+use Rattle.papaya_holds.specs.Given.SeizeWordsDeclared.fault.Fault.TheVariants.{Memory}
+use Rattle.papaya_holds.specs.Given.TablesDeclared.node.Node.{Node}
+use Rattle.papaya_holds.specs.Given.RawDeclared.machines.machine.Machine.{Machine}
+use Rattle.papaya_holds.specs.Given.RawDeclared.machines.progress.Progress.{Progress}
+use Rattle.papaya_holds.specs.Given.RawDeclared.machines.progress.Progress.TheVariants as progress
+use Rattle.papaya_lives.specs.Given.RunsSame.{is_same}
+use Rattle.papaya_lives.specs.Given.SchedulesDeclared.effect.Effect.{Effect}
+use Rattle.papaya_lives.specs.Given.SchedulesEffects.{with_effects}
+use Rattle.papaya_lives.specs.Given.SchedulesMoment.{UnderWay as CallThere, Moment}
+use Rattle.papaya_lives.specs.Given.SchedulesViews.{call_of}
+use Rattle.papaya_holds.specs.Given.CallersTogether.{UnderWay}
+use Rattle.papaya_lives.specs.Given.EffectsEffects.{effects_of}
+use Rattle.papaya_lives.specs.Given.EffectsKnown.{Known}
+use Rattle.papaya_lives.specs.Given.EffectsDeclared.acting.Acting.{Acting}
+use Rattle.papaya_lives.specs.Given.EffectsDeclared.acting.Acting.TheVariants as acts
+use Rattle.papaya_lives.specs.Given.TellerDeclared.changed.Changed.{Changed}
+use Rattle.papaya_lives.specs.Given.TellerDeclared.changed.Changed.TheVariants as changed
+use Rattle.papaya_lives.specs.Given.TellerDeclared.changed.Kind.{Kind}
+use Rattle.papaya_holds.specs.Given.FinishesMachines.{machine_of}
+use Rattle.papaya_lives.proofs.Given.FollowsSteps.{WentTo, went_to}
+use Rattle.papaya_lives.proofs.Given.HandsAsking.{which}
+use Rattle.papaya_lives.specs.Given.MomentsWhole.{ShowsWhole}
 use Rattle.papaya_owes.specs.Grown.{SoInMachine, IsOther, ShowsGrown, CallsKeepGrown}
 use Rattle.papaya_owes.specs.Short.{ShowsShort}
 use Rattle.papaya_owes.proofs.Calls.{goes_as_one}
@@ -31,9 +31,9 @@ use Rattle.papaya_owes.proofs.Grown.Between.{long_other}
 use Rattle.papaya_owes.proofs.Grown.Machines.{SaysSo, machine_so}
 use Rattle.papaya_owes.proofs.Short.Calls.{no_bucket, grown as has_grown, its_there}
 use Rattle.papaya_owes.proofs.Short.Effects.{short_by, short_kept, effect_short, NoneAsked, none_asked}
-use Rattle.papaya_lives.specs.Given.Scenes.Held.{Held, IsAt}
-use Rattle.papaya_lives.specs.Given.Scenes.Scene.{Scene}
-use Rattle.papaya_lives.specs.Given.Scenes.Stepping.{StepLeads, scene_after}
+use Rattle.papaya_lives.specs.Given.ScenesHeld.{Held, IsAt}
+use Rattle.papaya_lives.specs.Given.ScenesScene.{Scene}
+use Rattle.papaya_lives.specs.Given.ScenesStepping.{StepLeads, scene_after}
 
 -- of what is told of a step
 was_false : (b : Bool) → not b ≡ true → b ≡ false

@@ -1,55 +1,55 @@
 -- What a machine is to be refused for, whichever it is: as it begins, by what it is told, and by a step by which no block is refused.
 use Rattle.std.specs.Prelude.{◌≡◌, ℕ, Bool, true, false}
 use Rattle.std.proofs.Common.{sym, subst}
-use Rattle.papaya_holds.specs.Given.SeizeWords.Mem.{Mem}
-use Rattle.papaya_holds.specs.Given.SeizeWords.declared.fault.Fault.{Fault}
-use Rattle.papaya_holds.specs.Given.SeizeWords.declared.fault.Fault.TheVariants.{Capacity, RemoveNothing}
-use Rattle.papaya_holds.specs.Given.Seize.declared.progress.Progress.{Progress as CountTold}
-use Rattle.papaya_holds.specs.Given.Seize.declared.progress.Progress.TheVariants as counting
-use Rattle.papaya_holds.specs.Given.Tables.declared.node.Node.{Node}
-use Rattle.papaya_holds.specs.Given.Tables.declared.setting.Setting.{Setting}
-use Rattle.papaya_holds.specs.Given.Resize.Sum.{sum_plan}
-use Rattle.papaya_holds.specs.Given.Resize.declared.outcome.Outcome.{Outcome}
-use Rattle.papaya_holds.specs.Given.Resize.declared.outcome.Outcome.TheVariants as outcome
-use Rattle.papaya_holds.specs.Given.Resize.declared.sum.Sum.{Sum}
-use Rattle.papaya_holds.specs.Given.Reserves.Reserve.{reserve_plan}
-use Rattle.papaya_holds.specs.Given.Reserves.declared.reserve.Reserve.{Reserve}
-use Rattle.papaya_holds.specs.Given.Sweeps.Sweep.{sweep_plan}
-use Rattle.papaya_holds.specs.Given.Sweeps.declared.sweep.Sweep.{Sweep}
-use Rattle.papaya_holds.specs.Given.Sweeps.declared.sweep.Sweeping.{Sweeping}
-use Rattle.papaya_holds.specs.Given.Sweeps.declared.sweep.Sweeping.TheVariants as sweeping
-use Rattle.papaya_holds.specs.Given.Sweeps.declared.sweep.Swept.{Swept}
-use Rattle.papaya_holds.specs.Given.Sweeps.declared.sweep.Swept.TheVariants as swept
-use Rattle.papaya_holds.specs.Given.Raw.Call.{call_plan}
-use Rattle.papaya_holds.specs.Given.Raw.Machine.{machine_asked, machine_plan, machine_replied, sweep_told, called as of_key, reserved as of_room, swept as of_sweep, counted as of_sum}
-use Rattle.papaya_holds.specs.Given.Raw.declared.machines.answer.Called.{Called}
-use Rattle.papaya_holds.specs.Given.Raw.declared.machines.answer.Called.TheVariants as called
-use Rattle.papaya_holds.specs.Given.Raw.declared.machines.asking.Reply.{Reply as MachineReply}
-use Rattle.papaya_holds.specs.Given.Raw.declared.machines.asking.Reply.TheVariants as reply
-use Rattle.papaya_holds.specs.Given.Raw.declared.machines.call.KeyCall.{KeyCall}
-use Rattle.papaya_holds.specs.Given.Raw.declared.machines.machine.Machine.{Machine}
-use Rattle.papaya_holds.specs.Given.Raw.declared.machines.machine.Machine.TheVariants as kinds
-use Rattle.papaya_holds.specs.Given.Raw.declared.machines.progress.Progress.{Progress}
-use Rattle.papaya_holds.specs.Given.Raw.declared.machines.progress.Progress.TheVariants as progress
-use Rattle.papaya_holds.specs.Given.Late.Faults.{SoInCalling, SoInReserving, SoInSweeping}
-use Rattle.papaya_holds.proofs.Given.Late.KindsKept.Rooms.Making.{CountsOn, sum_counts}
-use Rattle.papaya_holds.proofs.Given.Late.KindsKept.Rooms.Reserving.{ReservesFor}
-use Rattle.papaya_holds.proofs.Given.Late.KindsKept.Rooms.Sweeping.{SweepsFor, told_so_on}
-use Rattle.papaya_holds.specs.Given.Callers.Pairs.{Given}
-use Rattle.papaya_holds.specs.Given.Callers.OverAll.{CallOverAll}
-use Rattle.papaya_holds.specs.Given.Callers.Rooms.{CallForRoom}
-use Rattle.papaya_holds.specs.Given.Callers.Together.{UnderWay, OnKey, ForRoom, Counting, OverAll, IsBegun, Gets, Removes, Inserts, TriesToInsert, Computes, Updates, UpdatesOrInserts, TriesToInsertWith, RemovesIf}
-use Rattle.papaya_lives.specs.Given.Teller.declared.changed.Changed.{Changed}
-use Rattle.papaya_lives.specs.Given.Teller.declared.changed.Changed.TheVariants as changed
-use Rattle.papaya_lives.specs.Given.Teller.declared.changed.Kind.{Kind}
-use Rattle.papaya_holds.specs.Given.Finishes.Machines.{machine_of}
-use Rattle.papaya_holds.specs.Given.Finishes.Maps.{Standing}
-use Rattle.papaya_lives.proofs.Given.Others.Outcomes.{told_in}
+use Rattle.papaya_holds.specs.Given.SeizeWordsMem.{Mem}
+use Rattle.papaya_holds.specs.Given.SeizeWordsDeclared.fault.Fault.{Fault}
+use Rattle.papaya_holds.specs.Given.SeizeWordsDeclared.fault.Fault.TheVariants.{Capacity, RemoveNothing}
+use Rattle.papaya_holds.specs.Given.SeizeDeclared.progress.Progress.{Progress as CountTold}
+use Rattle.papaya_holds.specs.Given.SeizeDeclared.progress.Progress.TheVariants as counting
+use Rattle.papaya_holds.specs.Given.TablesDeclared.node.Node.{Node}
+use Rattle.papaya_holds.specs.Given.TablesDeclared.setting.Setting.{Setting}
+use Rattle.papaya_holds.specs.Given.ResizeSum.{sum_plan}
+use Rattle.papaya_holds.specs.Given.ResizeDeclared.outcome.Outcome.{Outcome}
+use Rattle.papaya_holds.specs.Given.ResizeDeclared.outcome.Outcome.TheVariants as outcome
+use Rattle.papaya_holds.specs.Given.ResizeDeclared.sum.Sum.{Sum}
+use Rattle.papaya_holds.specs.Given.ReservesReserve.{reserve_plan}
+use Rattle.papaya_holds.specs.Given.ReservesDeclared.reserve.Reserve.{Reserve}
+use Rattle.papaya_holds.specs.Given.SweepsSweep.{sweep_plan}
+use Rattle.papaya_holds.specs.Given.SweepsDeclared.sweep.Sweep.{Sweep}
+use Rattle.papaya_holds.specs.Given.SweepsDeclared.sweep.Sweeping.{Sweeping}
+use Rattle.papaya_holds.specs.Given.SweepsDeclared.sweep.Sweeping.TheVariants as sweeping
+use Rattle.papaya_holds.specs.Given.SweepsDeclared.sweep.Swept.{Swept}
+use Rattle.papaya_holds.specs.Given.SweepsDeclared.sweep.Swept.TheVariants as swept
+use Rattle.papaya_holds.specs.Given.RawCall.{call_plan}
+use Rattle.papaya_holds.specs.Given.RawMachine.{machine_asked, machine_plan, machine_replied, sweep_told, called as of_key, reserved as of_room, swept as of_sweep, counted as of_sum}
+use Rattle.papaya_holds.specs.Given.RawDeclared.machines.answer.Called.{Called}
+use Rattle.papaya_holds.specs.Given.RawDeclared.machines.answer.Called.TheVariants as called
+use Rattle.papaya_holds.specs.Given.RawDeclared.machines.asking.Reply.{Reply as MachineReply}
+use Rattle.papaya_holds.specs.Given.RawDeclared.machines.asking.Reply.TheVariants as reply
+use Rattle.papaya_holds.specs.Given.RawDeclared.machines.call.KeyCall.{KeyCall}
+use Rattle.papaya_holds.specs.Given.RawDeclared.machines.machine.Machine.{Machine}
+use Rattle.papaya_holds.specs.Given.RawDeclared.machines.machine.Machine.TheVariants as kinds
+use Rattle.papaya_holds.specs.Given.RawDeclared.machines.progress.Progress.{Progress}
+use Rattle.papaya_holds.specs.Given.RawDeclared.machines.progress.Progress.TheVariants as progress
+use Rattle.papaya_holds.specs.Given.LateFaults.{SoInCalling, SoInReserving, SoInSweeping}
+use Rattle.papaya_holds.proofs.Given.LateKindsKept.Rooms.Making.{CountsOn, sum_counts}
+use Rattle.papaya_holds.proofs.Given.LateKindsKept.Rooms.Reserving.{ReservesFor}
+use Rattle.papaya_holds.proofs.Given.LateKindsKept.Rooms.Sweeping.{SweepsFor, told_so_on}
+use Rattle.papaya_holds.specs.Given.CallersPairs.{Given}
+use Rattle.papaya_holds.specs.Given.CallersOverAll.{CallOverAll}
+use Rattle.papaya_holds.specs.Given.CallersRooms.{CallForRoom}
+use Rattle.papaya_holds.specs.Given.CallersTogether.{UnderWay, OnKey, ForRoom, Counting, OverAll, IsBegun, Gets, Removes, Inserts, TriesToInsert, Computes, Updates, UpdatesOrInserts, TriesToInsertWith, RemovesIf}
+use Rattle.papaya_lives.specs.Given.TellerDeclared.changed.Changed.{Changed}
+use Rattle.papaya_lives.specs.Given.TellerDeclared.changed.Changed.TheVariants as changed
+use Rattle.papaya_lives.specs.Given.TellerDeclared.changed.Kind.{Kind}
+use Rattle.papaya_holds.specs.Given.FinishesMachines.{machine_of}
+use Rattle.papaya_holds.specs.Given.FinishesMaps.{Standing}
+use Rattle.papaya_lives.proofs.Given.OthersOutcomes.{told_in}
 use Rattle.papaya_owes.specs.Grown.{SoInMachine}
 use Rattle.papaya_owes.proofs.Grown.OnKeys.{CallsFor, key_so, key_told_so}
 use Rattle.papaya_owes.proofs.Grown.Within.{reserve_so, so_always, sweep_so}
 use Rattle.papaya_owes.proofs.Tables.Hosts.{Step}
-use Rattle.papaya_lives.specs.Given.Scenes.Beginning.{Begins}
+use Rattle.papaya_lives.specs.Given.ScenesBeginning.{Begins}
 
 module _ (Is : Fault → Type 0) {K V : Type 0} where
   -- what it says that is refused is so

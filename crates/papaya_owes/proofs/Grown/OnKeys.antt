@@ -1,41 +1,41 @@
 -- What a call on one key is to be refused for, by its points: where it goes on from, by what it is told, and by its steps.
 use Rattle.std.specs.Prelude.{◌≡◌, ℕ, ◌==◌, Bool, true, false, Option, Some, None, Err}
 use Rattle.std.proofs.Common.{sym, subst}
-use Rattle.papaya_holds.specs.Given.SeizeWords.Mem.{Mem, Gives, value_at}
-use Rattle.papaya_holds.specs.Given.SeizeWords.Op.{Out, Rewrite, Made}
-use Rattle.papaya_holds.specs.Given.SeizeWords.Word.{block_in}
-use Rattle.papaya_holds.specs.Given.SeizeWords.declared.fault.Fault.{Fault}
-use Rattle.papaya_holds.specs.Given.SeizeWords.declared.fault.Fault.TheVariants.{Capacity, RemoveNothing}
-use Rattle.papaya_holds.specs.Given.Tables.declared.node.Node.{Node}
-use Rattle.papaya_holds.specs.Given.Tables.declared.node.Node.TheVariants as node
-use Rattle.papaya_holds.specs.Given.Resize.Copier.{copier_plan}
-use Rattle.papaya_holds.specs.Given.Resize.Dispose.{dispose_plan}
-use Rattle.papaya_holds.specs.Given.Resize.Lookup.{lookup_plan}
-use Rattle.papaya_holds.specs.Given.Resize.NewTable.{new_table_plan}
-use Rattle.papaya_holds.specs.Given.Resize.declared.lookup.Lookup.{Lookup}
-use Rattle.papaya_holds.specs.Given.Raw.Call.{call_plan, made, makes_of, looked, looks_for, first_made, next_made, disposed, helped, copied}
-use Rattle.papaya_holds.specs.Given.Raw.Call as calls
-use Rattle.papaya_holds.specs.Given.Raw.CallAsks.{told_at}
-use Rattle.papaya_holds.specs.Given.Raw.CallFills.{emptied, fill_by, filled, fills_with, putting_by}
-use Rattle.papaya_holds.specs.Given.Raw.Replies.{as_own, value_for}
-use Rattle.papaya_holds.specs.Given.Raw.declared.machines.answer.Called.{Called}
-use Rattle.papaya_holds.specs.Given.Raw.declared.machines.answer.End.TheVariants as ends
-use Rattle.papaya_holds.specs.Given.Raw.declared.machines.asking.Asking.TheVariants as asking
-use Rattle.papaya_holds.specs.Given.Raw.declared.machines.asking.Reply.{Reply}
-use Rattle.papaya_holds.specs.Given.Raw.declared.machines.call.Calling.{Calling}
-use Rattle.papaya_holds.specs.Given.Raw.declared.machines.call.Calling.TheVariants as at
-use Rattle.papaya_holds.specs.Given.Raw.declared.machines.call.KeyCall.{KeyCall}
-use Rattle.papaya_holds.proofs.Given.Rule.Keys.Always.{AlwaysOf, always_ends}
-use Rattle.papaya_holds.specs.Given.Late.Faults.{AnyTable, SoInCalling, CallRefusesSo}
-use Rattle.papaya_holds.proofs.Given.Late.KindsKept.Calls.Kept.{looks_on}
-use Rattle.papaya_holds.proofs.Given.Late.KindsKept.Rooms.Calling.{CallsAs, IsSoAt, copied_as, counted_as, disposed_as, first_as, helped_as, key_told_as, looked_as, next_as, on_dropped, on_emptied, on_filled, on_found, on_given_up, on_made, on_next, on_root, on_tried, so_of_stands, stands_of_so}
-use Rattle.papaya_lives.specs.Given.Teller.declared.changed.Changed.{Changed}
-use Rattle.papaya_lives.specs.Given.Teller.declared.changed.Changed.TheVariants as memory
-use Rattle.papaya_lives.specs.Given.Teller.declared.changed.Kind.{Kind}
-use Rattle.papaya_lives.proofs.Given.Others.Outcomes.{told_in}
+use Rattle.papaya_holds.specs.Given.SeizeWordsMem.{Mem, Gives, value_at}
+use Rattle.papaya_holds.specs.Given.SeizeWordsOp.{Out, Rewrite, Made}
+use Rattle.papaya_holds.specs.Given.SeizeWordsWord.{block_in}
+use Rattle.papaya_holds.specs.Given.SeizeWordsDeclared.fault.Fault.{Fault}
+use Rattle.papaya_holds.specs.Given.SeizeWordsDeclared.fault.Fault.TheVariants.{Capacity, RemoveNothing}
+use Rattle.papaya_holds.specs.Given.TablesDeclared.node.Node.{Node}
+use Rattle.papaya_holds.specs.Given.TablesDeclared.node.Node.TheVariants as node
+use Rattle.papaya_holds.specs.Given.ResizeCopier.{copier_plan}
+use Rattle.papaya_holds.specs.Given.ResizeDispose.{dispose_plan}
+use Rattle.papaya_holds.specs.Given.ResizeLookup.{lookup_plan}
+use Rattle.papaya_holds.specs.Given.ResizeNewTable.{new_table_plan}
+use Rattle.papaya_holds.specs.Given.ResizeDeclared.lookup.Lookup.{Lookup}
+use Rattle.papaya_holds.specs.Given.RawCall.{call_plan, made, makes_of, looked, looks_for, first_made, next_made, disposed, helped, copied}
+use Rattle.papaya_holds.specs.Given.RawCall as calls
+use Rattle.papaya_holds.specs.Given.RawCallAsks.{told_at}
+use Rattle.papaya_holds.specs.Given.RawCallFills.{emptied, fill_by, filled, fills_with, putting_by}
+use Rattle.papaya_holds.specs.Given.RawReplies.{as_own, value_for}
+use Rattle.papaya_holds.specs.Given.RawDeclared.machines.answer.Called.{Called}
+use Rattle.papaya_holds.specs.Given.RawDeclared.machines.answer.End.TheVariants as ends
+use Rattle.papaya_holds.specs.Given.RawDeclared.machines.asking.Asking.TheVariants as asking
+use Rattle.papaya_holds.specs.Given.RawDeclared.machines.asking.Reply.{Reply}
+use Rattle.papaya_holds.specs.Given.RawDeclared.machines.call.Calling.{Calling}
+use Rattle.papaya_holds.specs.Given.RawDeclared.machines.call.Calling.TheVariants as at
+use Rattle.papaya_holds.specs.Given.RawDeclared.machines.call.KeyCall.{KeyCall}
+use Rattle.papaya_holds.proofs.Given.RuleKeys.Always.{AlwaysOf, always_ends}
+use Rattle.papaya_holds.specs.Given.LateFaults.{AnyTable, SoInCalling, CallRefusesSo}
+use Rattle.papaya_holds.proofs.Given.LateKindsKept.Calls.Kept.{looks_on}
+use Rattle.papaya_holds.proofs.Given.LateKindsKept.Rooms.Calling.{CallsAs, IsSoAt, copied_as, counted_as, disposed_as, first_as, helped_as, key_told_as, looked_as, next_as, on_dropped, on_emptied, on_filled, on_found, on_given_up, on_made, on_next, on_root, on_tried, so_of_stands, stands_of_so}
+use Rattle.papaya_lives.specs.Given.TellerDeclared.changed.Changed.{Changed}
+use Rattle.papaya_lives.specs.Given.TellerDeclared.changed.Changed.TheVariants as memory
+use Rattle.papaya_lives.specs.Given.TellerDeclared.changed.Kind.{Kind}
+use Rattle.papaya_lives.proofs.Given.OthersOutcomes.{told_in}
 use Rattle.papaya_owes.proofs.Grown.Within.{copier_so, so_always, table_so, was_made}
 use Rattle.papaya_owes.proofs.Tables.Hosts.{Step}
-use Rattle.papaya_lives.proofs.Given.Scenes.Told.{as_step}
+use Rattle.papaya_lives.proofs.Given.ScenesTold.{as_step}
 
 module _ (Is : Fault → Type 0) where
   -- what it has to tell is so, and what it tells

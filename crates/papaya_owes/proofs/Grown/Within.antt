@@ -1,61 +1,61 @@
 -- A step by which no block is refused: what the making and the copying of a table, a reservation and a sweep are to be refused for stays of one kind, which need not be want of memory.
 use Rattle.std.specs.Prelude.{◌≡◌, ℕ, ◌+◌, ◌%◌, ◌^◌, Err}
 use Rattle.std.proofs.Common.{ap, sym, subst, ◌∙◌}
-use Rattle.papaya_holds.specs.Given.SeizeWords.Mem.{Mem, value_at}
-use Rattle.papaya_holds.specs.Given.SeizeWords.Op.{Out, Make, Made}
-use Rattle.papaya_holds.specs.Given.SeizeWords.Plan.{Plan}
-use Rattle.papaya_holds.specs.Given.SeizeWords.declared.fault.Fault.{Fault}
-use Rattle.papaya_holds.specs.Given.SeizeWords.declared.fault.Fault.TheVariants.{Capacity}
-use Rattle.papaya_holds.specs.Given.Seize.Settle.{settle_plan}
-use Rattle.papaya_holds.specs.Given.Seize.declared.progress.Progress.{Progress as Counting}
-use Rattle.papaya_holds.specs.Given.Tables.Nodes.{deferred_word}
-use Rattle.papaya_holds.specs.Given.Tables.declared.node.Node.{Node}
-use Rattle.papaya_holds.specs.Given.Tables.declared.node.Node.TheVariants as node
-use Rattle.papaya_holds.specs.Given.Tables.declared.table.Table.{Table}
-use Rattle.papaya_holds.specs.Given.Tables.declared.table_words.TheConstants.{PLACES}
-use Rattle.papaya_holds.specs.Given.Resize.Copier.{copier_plan}
-use Rattle.papaya_holds.specs.Given.Resize.Copier as copiers
-use Rattle.papaya_holds.specs.Given.Resize.CopierFurther.{grown, remade}
-use Rattle.papaya_holds.specs.Given.Resize.CopierPromotes.{retired}
-use Rattle.papaya_holds.specs.Given.Resize.Dispose.{dispose_plan}
-use Rattle.papaya_holds.specs.Given.Resize.NewTable.{new_table_plan}
-use Rattle.papaya_holds.specs.Given.Resize.NewTable as tables
-use Rattle.papaya_holds.specs.Given.Resize.Sum.{sum_plan}
-use Rattle.papaya_holds.specs.Given.Resize.declared.copier.Copier.{Copier}
-use Rattle.papaya_holds.specs.Given.Resize.declared.copier.Copying.{Copying}
-use Rattle.papaya_holds.specs.Given.Resize.declared.copier.Copying.TheVariants as copying
-use Rattle.papaya_holds.specs.Given.Resize.declared.new_table.NewTable.{NewTable}
-use Rattle.papaya_holds.specs.Given.Resize.declared.new_table.Making.{Making}
-use Rattle.papaya_holds.specs.Given.Resize.declared.new_table.Making.TheVariants as making
-use Rattle.papaya_holds.specs.Given.Resize.declared.outcome.Outcome.{Outcome}
-use Rattle.papaya_holds.specs.Given.Reserves.Reserve.{reserve_plan}
-use Rattle.papaya_holds.specs.Given.Reserves.Reserve as reserves
-use Rattle.papaya_holds.specs.Given.Reserves.declared.reserve.Reserve.{Reserve}
-use Rattle.papaya_holds.specs.Given.Reserves.declared.reserve.Reserving.{Reserving}
-use Rattle.papaya_holds.specs.Given.Reserves.declared.reserve.Reserving.TheVariants as reserving
-use Rattle.papaya_holds.specs.Given.Sweeps.Sweep.{sweep_plan}
-use Rattle.papaya_holds.specs.Given.Sweeps.Sweep as sweeps
-use Rattle.papaya_holds.specs.Given.Sweeps.declared.sweep.Sweep.{Sweep}
-use Rattle.papaya_holds.specs.Given.Sweeps.declared.sweep.Sweeping.{Sweeping}
-use Rattle.papaya_holds.specs.Given.Sweeps.declared.sweep.Sweeping.TheVariants as sweeping
-use Rattle.papaya_holds.specs.Given.Sweeps.declared.sweep.Swept.{Swept}
-use Rattle.papaya_holds.proofs.Given.Rule.Keys.Always.{AlwaysOf, always_ends, always_steps}
-use Rattle.papaya_holds.specs.Given.Late.Faults.{SoInMaking, SoInCopying, SoInReserving, SoInSweeping}
-use Rattle.papaya_holds.proofs.Given.Late.KindsKept.Rooms.Copying as copies_so
-use Rattle.papaya_holds.proofs.Given.Late.KindsKept.Rooms.Copying.{CopiesFor}
-use Rattle.papaya_holds.proofs.Given.Late.KindsKept.Rooms.Making.{CountsOn, MakesFor, counted_so, made_so, plain_so, sum_counts}
-use Rattle.papaya_holds.proofs.Given.Late.KindsKept.Rooms.Reserving as reserves_so
-use Rattle.papaya_holds.proofs.Given.Late.KindsKept.Rooms.Reserving.{ReservesFor}
-use Rattle.papaya_holds.proofs.Given.Late.KindsKept.Rooms.Sweeping as sweeps_so
-use Rattle.papaya_holds.proofs.Given.Late.KindsKept.Rooms.Sweeping.{SweepsFor}
-use Rattle.papaya_lives.specs.Given.Tells.Seen.{seen_of}
-use Rattle.papaya_lives.specs.Given.Teller.Tells.{told_of}
-use Rattle.papaya_lives.specs.Given.Teller.declared.changed.Changed.{Changed}
-use Rattle.papaya_lives.specs.Given.Teller.declared.changed.Changed.TheVariants as changed
-use Rattle.papaya_lives.specs.Given.Teller.declared.changed.Kind.{Kind}
-use Rattle.papaya_lives.proofs.Given.Others.Outcomes.{told_in}
+use Rattle.papaya_holds.specs.Given.SeizeWordsMem.{Mem, value_at}
+use Rattle.papaya_holds.specs.Given.SeizeWordsOp.{Out, Make, Made}
+use Rattle.papaya_holds.specs.Given.SeizeWordsPlan.{Plan}
+use Rattle.papaya_holds.specs.Given.SeizeWordsDeclared.fault.Fault.{Fault}
+use Rattle.papaya_holds.specs.Given.SeizeWordsDeclared.fault.Fault.TheVariants.{Capacity}
+use Rattle.papaya_holds.specs.Given.SeizeSettle.{settle_plan}
+use Rattle.papaya_holds.specs.Given.SeizeDeclared.progress.Progress.{Progress as Counting}
+use Rattle.papaya_holds.specs.Given.TablesNodes.{deferred_word}
+use Rattle.papaya_holds.specs.Given.TablesDeclared.node.Node.{Node}
+use Rattle.papaya_holds.specs.Given.TablesDeclared.node.Node.TheVariants as node
+use Rattle.papaya_holds.specs.Given.TablesDeclared.table.Table.{Table}
+use Rattle.papaya_holds.specs.Given.TablesDeclared.table_words.TheConstants.{PLACES}
+use Rattle.papaya_holds.specs.Given.ResizeCopier.{copier_plan}
+use Rattle.papaya_holds.specs.Given.ResizeCopier as copiers
+use Rattle.papaya_holds.specs.Given.ResizeCopierFurther.{grown, remade}
+use Rattle.papaya_holds.specs.Given.ResizeCopierPromotes.{retired}
+use Rattle.papaya_holds.specs.Given.ResizeDispose.{dispose_plan}
+use Rattle.papaya_holds.specs.Given.ResizeNewTable.{new_table_plan}
+use Rattle.papaya_holds.specs.Given.ResizeNewTable as tables
+use Rattle.papaya_holds.specs.Given.ResizeSum.{sum_plan}
+use Rattle.papaya_holds.specs.Given.ResizeDeclared.copier.Copier.{Copier}
+use Rattle.papaya_holds.specs.Given.ResizeDeclared.copier.Copying.{Copying}
+use Rattle.papaya_holds.specs.Given.ResizeDeclared.copier.Copying.TheVariants as copying
+use Rattle.papaya_holds.specs.Given.ResizeDeclared.new_table.NewTable.{NewTable}
+use Rattle.papaya_holds.specs.Given.ResizeDeclared.new_table.Making.{Making}
+use Rattle.papaya_holds.specs.Given.ResizeDeclared.new_table.Making.TheVariants as making
+use Rattle.papaya_holds.specs.Given.ResizeDeclared.outcome.Outcome.{Outcome}
+use Rattle.papaya_holds.specs.Given.ReservesReserve.{reserve_plan}
+use Rattle.papaya_holds.specs.Given.ReservesReserve as reserves
+use Rattle.papaya_holds.specs.Given.ReservesDeclared.reserve.Reserve.{Reserve}
+use Rattle.papaya_holds.specs.Given.ReservesDeclared.reserve.Reserving.{Reserving}
+use Rattle.papaya_holds.specs.Given.ReservesDeclared.reserve.Reserving.TheVariants as reserving
+use Rattle.papaya_holds.specs.Given.SweepsSweep.{sweep_plan}
+use Rattle.papaya_holds.specs.Given.SweepsSweep as sweeps
+use Rattle.papaya_holds.specs.Given.SweepsDeclared.sweep.Sweep.{Sweep}
+use Rattle.papaya_holds.specs.Given.SweepsDeclared.sweep.Sweeping.{Sweeping}
+use Rattle.papaya_holds.specs.Given.SweepsDeclared.sweep.Sweeping.TheVariants as sweeping
+use Rattle.papaya_holds.specs.Given.SweepsDeclared.sweep.Swept.{Swept}
+use Rattle.papaya_holds.proofs.Given.RuleKeys.Always.{AlwaysOf, always_ends, always_steps}
+use Rattle.papaya_holds.specs.Given.LateFaults.{SoInMaking, SoInCopying, SoInReserving, SoInSweeping}
+use Rattle.papaya_holds.proofs.Given.LateKindsKept.Rooms.Copying as copies_so
+use Rattle.papaya_holds.proofs.Given.LateKindsKept.Rooms.Copying.{CopiesFor}
+use Rattle.papaya_holds.proofs.Given.LateKindsKept.Rooms.Making.{CountsOn, MakesFor, counted_so, made_so, plain_so, sum_counts}
+use Rattle.papaya_holds.proofs.Given.LateKindsKept.Rooms.Reserving as reserves_so
+use Rattle.papaya_holds.proofs.Given.LateKindsKept.Rooms.Reserving.{ReservesFor}
+use Rattle.papaya_holds.proofs.Given.LateKindsKept.Rooms.Sweeping as sweeps_so
+use Rattle.papaya_holds.proofs.Given.LateKindsKept.Rooms.Sweeping.{SweepsFor}
+use Rattle.papaya_lives.specs.Given.TellsSeen.{seen_of}
+use Rattle.papaya_lives.specs.Given.TellerTells.{told_of}
+use Rattle.papaya_lives.specs.Given.TellerDeclared.changed.Changed.{Changed}
+use Rattle.papaya_lives.specs.Given.TellerDeclared.changed.Changed.TheVariants as changed
+use Rattle.papaya_lives.specs.Given.TellerDeclared.changed.Kind.{Kind}
+use Rattle.papaya_lives.proofs.Given.OthersOutcomes.{told_in}
 use Rattle.papaya_owes.proofs.Tables.Hosts.{Step}
-use Rattle.papaya_lives.proofs.Given.Scenes.Told.{as_step}
+use Rattle.papaya_lives.proofs.Given.ScenesTold.{as_step}
 
 module _ (Is : Fault → Type 0) (long : Is Capacity) {K V : Type 0} (m m2 : Mem (Node K V)) (told : Changed) (unrefused : (k : Kind) → told ≡ changed.Unmade k → ⊥) where
   -- a block that was to be made was

@@ -1,28 +1,28 @@
 -- Between the steps of calls: where a call begins, is told a reply, or has come to an outcome, those that only look are as they must be.
 use Rattle.std.specs.Prelude.{◌≡◌, ℕ, Bool, true, List, None}
 use Rattle.std.proofs.Common.{refl, ap, sym, subst, ◌∙◌}
-use Rattle.papaya_holds.specs.Given.Tables.declared.setting.Setting.{Setting}
-use Rattle.papaya_holds.specs.Given.Raw.CallAsks.{told_at}
-use Rattle.papaya_holds.specs.Given.Raw.Machine.{machine_replied, machine_asked}
-use Rattle.papaya_holds.specs.Given.Raw.declared.machines.asking.Reply.{Reply as MachineReply}
-use Rattle.papaya_holds.specs.Given.Raw.declared.machines.call.Calling.{Calling}
-use Rattle.papaya_holds.specs.Given.Raw.declared.machines.call.Calling.TheVariants as at
-use Rattle.papaya_holds.specs.Given.Raw.declared.machines.call.KeyCall.{KeyCall}
-use Rattle.papaya_holds.specs.Given.Raw.declared.machines.machine.Machine.{Machine}
-use Rattle.papaya_holds.specs.Given.Raw.declared.machines.machine.Machine.TheVariants as kinds
-use Rattle.papaya_holds.specs.Given.Raw.declared.machines.answer.There.TheVariants as there
-use Rattle.papaya_lives.specs.Given.Schedules.Growing.{only_looks}
-use Rattle.papaya_lives.specs.Given.Schedules.Moment.{UnderWay as CallThere}
-use Rattle.papaya_lives.specs.Given.Schedules.Sequential.{is_lookup}
-use Rattle.papaya_lives.specs.Given.Schedules.declared.call.OneKey.{OneKey}
-use Rattle.papaya_lives.specs.Given.Schedules.declared.call.OneKey.TheVariants as one_key
-use Rattle.papaya_holds.specs.Given.Callers.Asked.{Asked}
-use Rattle.papaya_holds.specs.Given.Callers.Kind.{gets}
-use Rattle.papaya_holds.specs.Given.Callers.Pairs.{Given, Begun, kind_of}
-use Rattle.papaya_holds.specs.Given.Callers.Together.{IsBegun, Gets, Removes, Inserts, TriesToInsert, Computes, Updates, UpdatesOrInserts, TriesToInsertWith, RemovesIf}
-use Rattle.papaya_holds.specs.Given.Finishes.Machines.{machine_of}
-use Rattle.papaya_lives.specs.Given.Hands.Asked.{given_by}
-use Rattle.papaya_holds.specs.Given.Late.Kinds.{IsLookup, LooksAt}
+use Rattle.papaya_holds.specs.Given.TablesDeclared.setting.Setting.{Setting}
+use Rattle.papaya_holds.specs.Given.RawCallAsks.{told_at}
+use Rattle.papaya_holds.specs.Given.RawMachine.{machine_replied, machine_asked}
+use Rattle.papaya_holds.specs.Given.RawDeclared.machines.asking.Reply.{Reply as MachineReply}
+use Rattle.papaya_holds.specs.Given.RawDeclared.machines.call.Calling.{Calling}
+use Rattle.papaya_holds.specs.Given.RawDeclared.machines.call.Calling.TheVariants as at
+use Rattle.papaya_holds.specs.Given.RawDeclared.machines.call.KeyCall.{KeyCall}
+use Rattle.papaya_holds.specs.Given.RawDeclared.machines.machine.Machine.{Machine}
+use Rattle.papaya_holds.specs.Given.RawDeclared.machines.machine.Machine.TheVariants as kinds
+use Rattle.papaya_holds.specs.Given.RawDeclared.machines.answer.There.TheVariants as there
+use Rattle.papaya_lives.specs.Given.SchedulesGrowing.{only_looks}
+use Rattle.papaya_lives.specs.Given.SchedulesMoment.{UnderWay as CallThere}
+use Rattle.papaya_lives.specs.Given.SchedulesSequential.{is_lookup}
+use Rattle.papaya_lives.specs.Given.SchedulesDeclared.call.OneKey.{OneKey}
+use Rattle.papaya_lives.specs.Given.SchedulesDeclared.call.OneKey.TheVariants as one_key
+use Rattle.papaya_holds.specs.Given.CallersAsked.{Asked}
+use Rattle.papaya_holds.specs.Given.CallersKind.{gets}
+use Rattle.papaya_holds.specs.Given.CallersPairs.{Given, Begun, kind_of}
+use Rattle.papaya_holds.specs.Given.CallersTogether.{IsBegun, Gets, Removes, Inserts, TriesToInsert, Computes, Updates, UpdatesOrInserts, TriesToInsertWith, RemovesIf}
+use Rattle.papaya_holds.specs.Given.FinishesMachines.{machine_of}
+use Rattle.papaya_lives.specs.Given.HandsAsked.{given_by}
+use Rattle.papaya_holds.specs.Given.LateKinds.{IsLookup, LooksAt}
 use Rattle.papaya_owes.specs.Looking.{IsLooking, LookingBegins, StaysLooking, CallsBeginLooking, LookupsBegin, CallsTakeLooking, CallsComeToLooking, WalksGoOnLooking, WalksStopLooking}
 use Rattle.papaya_owes.proofs.Kept.{HasAsMuch}
 use Rattle.papaya_owes.proofs.Marked.{stays_marked, begin_marked, go_on_marked, take_marked, come_marked, stop_marked}

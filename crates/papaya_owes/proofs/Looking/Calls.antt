@@ -1,34 +1,34 @@
 -- A step of a call, of whichever kind: it has effects only if the call does more than look, and calls that only look are as they must be after it.
 use Rattle.std.specs.Prelude.{◌≡◌, ℕ, Bool, true, false, List, [], ◌∷◌, Some}
 use Rattle.std.proofs.Common.{refl, ap, sym, subst, ◌∙◌, inl, inr}
-use Rattle.papaya_holds.specs.Given.Tables.declared.node.Node.{Node}
-use Rattle.papaya_holds.specs.Given.Raw.declared.machines.progress.Progress.{Progress}
-use Rattle.papaya_lives.specs.Given.Runs.Same.{is_same}
-use Rattle.papaya_lives.specs.Given.Schedules.declared.call.Call.{Call}
-use Rattle.papaya_lives.specs.Given.Schedules.declared.effect.Effect.{Effect}
-use Rattle.papaya_lives.specs.Given.Schedules.Effects.{call_by, with_effect, with_effects}
-use Rattle.papaya_lives.specs.Given.Schedules.Entry.{ByCall}
-use Rattle.papaya_lives.specs.Given.Schedules.Growing.{only_looks}
-use Rattle.papaya_lives.specs.Given.Schedules.Moment.{UnderWay as CallThere, Moment}
-use Rattle.papaya_lives.specs.Given.Schedules.Views.{call_of}
-use Rattle.papaya_lives.specs.Given.Teller.declared.changed.Changed.{Changed}
-use Rattle.papaya_lives.specs.Given.Teller.declared.changed.Changed.TheVariants as changed
-use Rattle.papaya_holds.specs.Given.Callers.Together.{UnderWay}
-use Rattle.papaya_lives.specs.Given.Effects.Effects.{effects_of}
-use Rattle.papaya_lives.specs.Given.Effects.Known.{Known}
-use Rattle.papaya_lives.specs.Given.Effects.declared.acting.Acting.TheVariants as acts
-use Rattle.papaya_holds.specs.Given.Finishes.Machines.{machine_of}
-use Rattle.papaya_lives.proofs.Given.Follows.Calls.{changed_same}
-use Rattle.papaya_lives.proofs.Given.Follows.Steps.{WentTo, went_to}
-use Rattle.papaya_lives.proofs.Given.Hands.Asking.{which}
-use Rattle.papaya_lives.specs.Given.Moments.Whole.{ShowsWhole}
+use Rattle.papaya_holds.specs.Given.TablesDeclared.node.Node.{Node}
+use Rattle.papaya_holds.specs.Given.RawDeclared.machines.progress.Progress.{Progress}
+use Rattle.papaya_lives.specs.Given.RunsSame.{is_same}
+use Rattle.papaya_lives.specs.Given.SchedulesDeclared.call.Call.{Call}
+use Rattle.papaya_lives.specs.Given.SchedulesDeclared.effect.Effect.{Effect}
+use Rattle.papaya_lives.specs.Given.SchedulesEffects.{call_by, with_effect, with_effects}
+use Rattle.papaya_lives.specs.Given.SchedulesEntry.{ByCall}
+use Rattle.papaya_lives.specs.Given.SchedulesGrowing.{only_looks}
+use Rattle.papaya_lives.specs.Given.SchedulesMoment.{UnderWay as CallThere, Moment}
+use Rattle.papaya_lives.specs.Given.SchedulesViews.{call_of}
+use Rattle.papaya_lives.specs.Given.TellerDeclared.changed.Changed.{Changed}
+use Rattle.papaya_lives.specs.Given.TellerDeclared.changed.Changed.TheVariants as changed
+use Rattle.papaya_holds.specs.Given.CallersTogether.{UnderWay}
+use Rattle.papaya_lives.specs.Given.EffectsEffects.{effects_of}
+use Rattle.papaya_lives.specs.Given.EffectsKnown.{Known}
+use Rattle.papaya_lives.specs.Given.EffectsDeclared.acting.Acting.TheVariants as acts
+use Rattle.papaya_holds.specs.Given.FinishesMachines.{machine_of}
+use Rattle.papaya_lives.proofs.Given.FollowsCalls.{changed_same}
+use Rattle.papaya_lives.proofs.Given.FollowsSteps.{WentTo, went_to}
+use Rattle.papaya_lives.proofs.Given.HandsAsking.{which}
+use Rattle.papaya_lives.specs.Given.MomentsWhole.{ShowsWhole}
 use Rattle.papaya_owes.specs.Looking.{IsLooking, ShowsLooking, FindAtWork, CallsKeepLooking}
 use Rattle.papaya_owes.proofs.Calls.{goes_as_one}
 use Rattle.papaya_owes.proofs.Fields.{all_by, field_own, field_other, its_effect}
 use Rattle.papaya_owes.proofs.Looking.Leaves.{looking_stays}
-use Rattle.papaya_lives.specs.Given.Scenes.Held.{Held, IsAt}
-use Rattle.papaya_lives.specs.Given.Scenes.Scene.{Scene}
-use Rattle.papaya_lives.specs.Given.Scenes.Stepping.{StepLeads, scene_after}
+use Rattle.papaya_lives.specs.Given.ScenesHeld.{Held, IsAt}
+use Rattle.papaya_lives.specs.Given.ScenesScene.{Scene}
+use Rattle.papaya_lives.specs.Given.ScenesStepping.{StepLeads, scene_after}
 
 module _ {K V : Type 0} where
   -- an effect leaves what was called

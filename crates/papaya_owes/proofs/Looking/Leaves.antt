@@ -1,34 +1,34 @@
 -- A step of a machine that looks changes nothing, and leads to one that looks.
 use Rattle.std.specs.Prelude.{◌≡◌, ℕ, Bool, Option, Some, None}
 use Rattle.std.proofs.Common.{refl, sym, subst}
-use Rattle.papaya_holds.specs.Given.SeizeWords.Mem.{Mem}
-use Rattle.papaya_holds.specs.Given.Seize.declared.progress.Progress.{Progress as Counting}
-use Rattle.papaya_holds.specs.Given.Seize.declared.progress.Progress.TheVariants as counting
-use Rattle.papaya_holds.specs.Given.Tables.declared.node.Node.{Node}
-use Rattle.papaya_holds.specs.Given.Resize.Lookup.{lookup_plan}
-use Rattle.papaya_holds.specs.Given.Resize.Lookup as lookups
-use Rattle.papaya_holds.specs.Given.Resize.Sum.{sum_plan}
-use Rattle.papaya_holds.specs.Given.Resize.Sum as sums
-use Rattle.papaya_holds.specs.Given.Resize.declared.lookup.Lookup.{Lookup}
-use Rattle.papaya_holds.specs.Given.Resize.declared.lookup.Looking.{Looking}
-use Rattle.papaya_holds.specs.Given.Resize.declared.lookup.Looking.TheVariants as looks
-use Rattle.papaya_holds.specs.Given.Resize.declared.sum.Sum.{Sum}
-use Rattle.papaya_holds.specs.Given.Resize.declared.sum.Summing.{Summing}
-use Rattle.papaya_holds.specs.Given.Resize.declared.sum.Summing.TheVariants as summing
-use Rattle.papaya_holds.specs.Given.Raw.Call.{call_plan, looked, looks_for}
-use Rattle.papaya_holds.specs.Given.Raw.Call as calls
-use Rattle.papaya_holds.specs.Given.Raw.Machine.{machine_plan, called as of_key, counted as of_sum}
-use Rattle.papaya_holds.specs.Given.Raw.declared.machines.answer.Called.{Called}
-use Rattle.papaya_holds.specs.Given.Raw.declared.machines.call.Calling.{Calling}
-use Rattle.papaya_holds.specs.Given.Raw.declared.machines.call.Calling.TheVariants as at
-use Rattle.papaya_holds.specs.Given.Raw.declared.machines.call.KeyCall.{KeyCall}
-use Rattle.papaya_holds.specs.Given.Raw.declared.machines.machine.Machine.{Machine}
-use Rattle.papaya_holds.specs.Given.Raw.declared.machines.machine.Machine.TheVariants as kinds
-use Rattle.papaya_holds.specs.Given.Raw.declared.machines.progress.Progress.{Progress}
-use Rattle.papaya_lives.specs.Given.Teller.declared.changed.Changed.{Changed}
-use Rattle.papaya_lives.specs.Given.Teller.declared.changed.Changed.TheVariants as changed
-use Rattle.papaya_holds.specs.Given.Late.Kinds.{IsLookup, LooksAt}
-use Rattle.papaya_lives.proofs.Given.Others.Outcomes.{told_in}
+use Rattle.papaya_holds.specs.Given.SeizeWordsMem.{Mem}
+use Rattle.papaya_holds.specs.Given.SeizeDeclared.progress.Progress.{Progress as Counting}
+use Rattle.papaya_holds.specs.Given.SeizeDeclared.progress.Progress.TheVariants as counting
+use Rattle.papaya_holds.specs.Given.TablesDeclared.node.Node.{Node}
+use Rattle.papaya_holds.specs.Given.ResizeLookup.{lookup_plan}
+use Rattle.papaya_holds.specs.Given.ResizeLookup as lookups
+use Rattle.papaya_holds.specs.Given.ResizeSum.{sum_plan}
+use Rattle.papaya_holds.specs.Given.ResizeSum as sums
+use Rattle.papaya_holds.specs.Given.ResizeDeclared.lookup.Lookup.{Lookup}
+use Rattle.papaya_holds.specs.Given.ResizeDeclared.lookup.Looking.{Looking}
+use Rattle.papaya_holds.specs.Given.ResizeDeclared.lookup.Looking.TheVariants as looks
+use Rattle.papaya_holds.specs.Given.ResizeDeclared.sum.Sum.{Sum}
+use Rattle.papaya_holds.specs.Given.ResizeDeclared.sum.Summing.{Summing}
+use Rattle.papaya_holds.specs.Given.ResizeDeclared.sum.Summing.TheVariants as summing
+use Rattle.papaya_holds.specs.Given.RawCall.{call_plan, looked, looks_for}
+use Rattle.papaya_holds.specs.Given.RawCall as calls
+use Rattle.papaya_holds.specs.Given.RawMachine.{machine_plan, called as of_key, counted as of_sum}
+use Rattle.papaya_holds.specs.Given.RawDeclared.machines.answer.Called.{Called}
+use Rattle.papaya_holds.specs.Given.RawDeclared.machines.call.Calling.{Calling}
+use Rattle.papaya_holds.specs.Given.RawDeclared.machines.call.Calling.TheVariants as at
+use Rattle.papaya_holds.specs.Given.RawDeclared.machines.call.KeyCall.{KeyCall}
+use Rattle.papaya_holds.specs.Given.RawDeclared.machines.machine.Machine.{Machine}
+use Rattle.papaya_holds.specs.Given.RawDeclared.machines.machine.Machine.TheVariants as kinds
+use Rattle.papaya_holds.specs.Given.RawDeclared.machines.progress.Progress.{Progress}
+use Rattle.papaya_lives.specs.Given.TellerDeclared.changed.Changed.{Changed}
+use Rattle.papaya_lives.specs.Given.TellerDeclared.changed.Changed.TheVariants as changed
+use Rattle.papaya_holds.specs.Given.LateKinds.{IsLookup, LooksAt}
+use Rattle.papaya_lives.proofs.Given.OthersOutcomes.{told_in}
 use Rattle.papaya_owes.specs.Looking.{IsLooking}
 use Rattle.papaya_owes.proofs.Tables.Hosts.{Step}
 

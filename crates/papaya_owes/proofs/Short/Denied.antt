@@ -1,56 +1,56 @@
 -- A machine that is to be refused asks for nothing any more: it stays so by each step, until it is.
 use Rattle.std.specs.Prelude.{◌≡◌, ℕ, ◌==◌, Bool, false, Some, ◌⊎◌}
 use Rattle.std.proofs.Common.{refl, ap, sym, subst, ◌∙◌, inl, inr}
-use Rattle.papaya_holds.specs.Given.SeizeWords.Mem.{Mem, value_at}
-use Rattle.papaya_holds.specs.Given.SeizeWords.Op.{Out, Add, Found, Stored, Exchanged, Made, Taken, Roomed}
-use Rattle.papaya_holds.specs.Given.SeizeWords.Plan.{Ends}
-use Rattle.papaya_holds.specs.Given.SeizeWords.declared.at.At.{At}
-use Rattle.papaya_holds.specs.Given.SeizeWords.declared.fault.Fault.{Fault}
-use Rattle.papaya_holds.specs.Given.Tables.declared.node.Node.{Node}
-use Rattle.papaya_holds.specs.Given.Tables.declared.table.Table.{Table as Planned}
-use Rattle.papaya_holds.specs.Given.Resize.Copier.{copier_plan}
-use Rattle.papaya_holds.specs.Given.Resize.Copier as copiers
-use Rattle.papaya_holds.specs.Given.Resize.declared.copier.Copier.{Copier}
-use Rattle.papaya_holds.specs.Given.Resize.declared.copier.Copying.{Copying}
-use Rattle.papaya_holds.specs.Given.Resize.declared.copier.Copying.TheVariants as copying
-use Rattle.papaya_holds.specs.Given.Resize.declared.outcome.Outcome.{Outcome}
-use Rattle.papaya_holds.specs.Given.Resize.declared.outcome.Outcome.TheVariants as outcome
-use Rattle.papaya_holds.specs.Given.Reserves.Reserve.{reserve_plan}
-use Rattle.papaya_holds.specs.Given.Reserves.Reserve as reserves
-use Rattle.papaya_holds.specs.Given.Reserves.declared.reserve.Reserve.{Reserve}
-use Rattle.papaya_holds.specs.Given.Reserves.declared.reserve.Reserving.{Reserving}
-use Rattle.papaya_holds.specs.Given.Reserves.declared.reserve.Reserving.TheVariants as reserving
-use Rattle.papaya_holds.specs.Given.Sweeps.Sweep.{sweep_plan}
-use Rattle.papaya_holds.specs.Given.Sweeps.Sweep as sweeps
-use Rattle.papaya_holds.specs.Given.Sweeps.declared.sweep.Sweep.{Sweep}
-use Rattle.papaya_holds.specs.Given.Sweeps.declared.sweep.Sweeping.{Sweeping}
-use Rattle.papaya_holds.specs.Given.Sweeps.declared.sweep.Sweeping.TheVariants as sweeping
-use Rattle.papaya_holds.specs.Given.Sweeps.declared.sweep.Swept.{Swept}
-use Rattle.papaya_holds.specs.Given.Sweeps.declared.sweep.Swept.TheVariants as swept
-use Rattle.papaya_holds.specs.Given.Raw.Call.{call_plan, helped, copied, dropped}
-use Rattle.papaya_holds.specs.Given.Raw.Call as calls
-use Rattle.papaya_holds.specs.Given.Raw.Machine.{machine_plan, called as of_key, reserved as of_room, swept as of_sweep}
-use Rattle.papaya_holds.specs.Given.Raw.Progress.{of_called, of_outcome, of_swept}
-use Rattle.papaya_holds.specs.Given.Raw.declared.machines.answer.Called.{Called}
-use Rattle.papaya_holds.specs.Given.Raw.declared.machines.answer.Called.TheVariants as called
-use Rattle.papaya_holds.specs.Given.Raw.declared.machines.answer.End.TheVariants as ends
-use Rattle.papaya_holds.specs.Given.Raw.declared.machines.call.Calling.{Calling}
-use Rattle.papaya_holds.specs.Given.Raw.declared.machines.call.Calling.TheVariants as calling
-use Rattle.papaya_holds.specs.Given.Raw.declared.machines.call.KeyCall.{KeyCall}
-use Rattle.papaya_holds.specs.Given.Raw.declared.machines.machine.Machine.{Machine}
-use Rattle.papaya_holds.specs.Given.Raw.declared.machines.machine.Machine.TheVariants as kinds
-use Rattle.papaya_holds.specs.Given.Raw.declared.machines.progress.Progress.{Progress}
-use Rattle.papaya_holds.specs.Given.Raw.declared.machines.progress.Progress.TheVariants as said_so
-use Rattle.papaya_holds.specs.Given.Raw.CallPoints.{going, ending}
-use Rattle.papaya_lives.specs.Given.Tells.Seen.{seen_of}
-use Rattle.papaya_lives.specs.Given.Teller.Tells.{told_of}
-use Rattle.papaya_lives.specs.Given.Teller.declared.changed.Changed.{Changed}
-use Rattle.papaya_lives.proofs.Given.Others.Outcomes.{told_in}
+use Rattle.papaya_holds.specs.Given.SeizeWordsMem.{Mem, value_at}
+use Rattle.papaya_holds.specs.Given.SeizeWordsOp.{Out, Add, Found, Stored, Exchanged, Made, Taken, Roomed}
+use Rattle.papaya_holds.specs.Given.SeizeWordsPlan.{Ends}
+use Rattle.papaya_holds.specs.Given.SeizeWordsDeclared.at.At.{At}
+use Rattle.papaya_holds.specs.Given.SeizeWordsDeclared.fault.Fault.{Fault}
+use Rattle.papaya_holds.specs.Given.TablesDeclared.node.Node.{Node}
+use Rattle.papaya_holds.specs.Given.TablesDeclared.table.Table.{Table as Planned}
+use Rattle.papaya_holds.specs.Given.ResizeCopier.{copier_plan}
+use Rattle.papaya_holds.specs.Given.ResizeCopier as copiers
+use Rattle.papaya_holds.specs.Given.ResizeDeclared.copier.Copier.{Copier}
+use Rattle.papaya_holds.specs.Given.ResizeDeclared.copier.Copying.{Copying}
+use Rattle.papaya_holds.specs.Given.ResizeDeclared.copier.Copying.TheVariants as copying
+use Rattle.papaya_holds.specs.Given.ResizeDeclared.outcome.Outcome.{Outcome}
+use Rattle.papaya_holds.specs.Given.ResizeDeclared.outcome.Outcome.TheVariants as outcome
+use Rattle.papaya_holds.specs.Given.ReservesReserve.{reserve_plan}
+use Rattle.papaya_holds.specs.Given.ReservesReserve as reserves
+use Rattle.papaya_holds.specs.Given.ReservesDeclared.reserve.Reserve.{Reserve}
+use Rattle.papaya_holds.specs.Given.ReservesDeclared.reserve.Reserving.{Reserving}
+use Rattle.papaya_holds.specs.Given.ReservesDeclared.reserve.Reserving.TheVariants as reserving
+use Rattle.papaya_holds.specs.Given.SweepsSweep.{sweep_plan}
+use Rattle.papaya_holds.specs.Given.SweepsSweep as sweeps
+use Rattle.papaya_holds.specs.Given.SweepsDeclared.sweep.Sweep.{Sweep}
+use Rattle.papaya_holds.specs.Given.SweepsDeclared.sweep.Sweeping.{Sweeping}
+use Rattle.papaya_holds.specs.Given.SweepsDeclared.sweep.Sweeping.TheVariants as sweeping
+use Rattle.papaya_holds.specs.Given.SweepsDeclared.sweep.Swept.{Swept}
+use Rattle.papaya_holds.specs.Given.SweepsDeclared.sweep.Swept.TheVariants as swept
+use Rattle.papaya_holds.specs.Given.RawCall.{call_plan, helped, copied, dropped}
+use Rattle.papaya_holds.specs.Given.RawCall as calls
+use Rattle.papaya_holds.specs.Given.RawMachine.{machine_plan, called as of_key, reserved as of_room, swept as of_sweep}
+use Rattle.papaya_holds.specs.Given.RawProgress.{of_called, of_outcome, of_swept}
+use Rattle.papaya_holds.specs.Given.RawDeclared.machines.answer.Called.{Called}
+use Rattle.papaya_holds.specs.Given.RawDeclared.machines.answer.Called.TheVariants as called
+use Rattle.papaya_holds.specs.Given.RawDeclared.machines.answer.End.TheVariants as ends
+use Rattle.papaya_holds.specs.Given.RawDeclared.machines.call.Calling.{Calling}
+use Rattle.papaya_holds.specs.Given.RawDeclared.machines.call.Calling.TheVariants as calling
+use Rattle.papaya_holds.specs.Given.RawDeclared.machines.call.KeyCall.{KeyCall}
+use Rattle.papaya_holds.specs.Given.RawDeclared.machines.machine.Machine.{Machine}
+use Rattle.papaya_holds.specs.Given.RawDeclared.machines.machine.Machine.TheVariants as kinds
+use Rattle.papaya_holds.specs.Given.RawDeclared.machines.progress.Progress.{Progress}
+use Rattle.papaya_holds.specs.Given.RawDeclared.machines.progress.Progress.TheVariants as said_so
+use Rattle.papaya_holds.specs.Given.RawCallPoints.{going, ending}
+use Rattle.papaya_lives.specs.Given.TellsSeen.{seen_of}
+use Rattle.papaya_lives.specs.Given.TellerTells.{told_of}
+use Rattle.papaya_lives.specs.Given.TellerDeclared.changed.Changed.{Changed}
+use Rattle.papaya_lives.proofs.Given.OthersOutcomes.{told_in}
 use Rattle.papaya_owes.specs.Short.{fault_in_copying, fault_in_calling, fault_in_reserving, fault_in_sweeping, fault_of}
 use Rattle.papaya_owes.proofs.Short.Effects.{NoneAsked}
 use Rattle.papaya_owes.proofs.Tables.Hosts.{Step, KeyRefuses, RoomRefuses, SweepRefuses, key_refuses, copier_refused, going_as, room_refuses, whole_on, table_on}
 use Rattle.papaya_owes.specs.Making.{making_in_copying, making_in_calling}
-use Rattle.papaya_lives.specs.Given.Scenes.Stepping.{has_ended}
+use Rattle.papaya_lives.specs.Given.ScenesStepping.{has_ended}
 
 -- it is refused, or has not ended
 abbrev pub EndsSo : {T : Type 0} → Fault → Progress T → Type 0

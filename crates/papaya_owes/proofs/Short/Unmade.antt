@@ -1,42 +1,42 @@
 -- A step of a call to which a block is refused: it is to be refused for want of memory.
 use Rattle.std.specs.Prelude.{◌≡◌, ℕ, ◌==◌, Bool, true, false, Option, Some, None, Ok, Err}
 use Rattle.std.proofs.Common.{refl, ap, sym, ◌∙◌, inl, inr}
-use Rattle.papaya_holds.specs.Given.SeizeWords.Mem.{Mem, value_at}
-use Rattle.papaya_holds.specs.Given.SeizeWords.Op.{Out, Make, Found, Stored, Exchanged, Made, Taken, Roomed}
-use Rattle.papaya_holds.specs.Given.SeizeWords.Plan.{Ends}
-use Rattle.papaya_holds.specs.Given.SeizeWords.declared.fault.Fault.TheVariants.{Memory}
-use Rattle.papaya_holds.specs.Given.Tables.declared.node.Node.{Node}
-use Rattle.papaya_holds.specs.Given.Tables.declared.node.Node.TheVariants as node
-use Rattle.papaya_holds.specs.Given.Resize.Sum.{sum_plan}
-use Rattle.papaya_holds.specs.Given.Reserves.Reserve.{reserve_plan}
-use Rattle.papaya_holds.specs.Given.Sweeps.Sweep.{sweep_plan}
-use Rattle.papaya_holds.specs.Given.Raw.Call.{call_plan, makes_of, made}
-use Rattle.papaya_holds.specs.Given.Raw.Call as calls
-use Rattle.papaya_holds.specs.Given.Raw.CallFills.{filled, putting_by, fill_by, fills_with}
-use Rattle.papaya_holds.specs.Given.Raw.Machine.{machine_plan, called as of_key, reserved as of_room, swept as of_sweep, counted as of_sum}
-use Rattle.papaya_holds.specs.Given.Raw.Progress.{of_called}
-use Rattle.papaya_holds.specs.Given.Raw.Replies.{value_for, as_own}
-use Rattle.papaya_holds.specs.Given.Raw.declared.machines.answer.Called.{Called}
-use Rattle.papaya_holds.specs.Given.Raw.declared.machines.asking.Asking.TheVariants as asking
-use Rattle.papaya_holds.specs.Given.Raw.declared.machines.call.Calling.{Calling}
-use Rattle.papaya_holds.specs.Given.Raw.declared.machines.call.Calling.TheVariants as calling
-use Rattle.papaya_holds.specs.Given.Raw.declared.machines.call.KeyCall.{KeyCall}
-use Rattle.papaya_holds.specs.Given.Raw.declared.machines.machine.Machine.{Machine}
-use Rattle.papaya_holds.specs.Given.Raw.declared.machines.machine.Machine.TheVariants as kinds
-use Rattle.papaya_holds.specs.Given.Raw.declared.machines.progress.Progress.{Progress}
-use Rattle.papaya_lives.specs.Given.Tells.Seen.{seen_of}
-use Rattle.papaya_lives.specs.Given.Teller.Tells.{told_of}
-use Rattle.papaya_lives.specs.Given.Teller.declared.changed.Changed.{Changed}
-use Rattle.papaya_lives.specs.Given.Teller.declared.changed.Changed.TheVariants as changed
-use Rattle.papaya_lives.specs.Given.Teller.declared.changed.Kind.{Kind}
-use Rattle.papaya_lives.proofs.Given.Others.Outcomes.{told_in}
+use Rattle.papaya_holds.specs.Given.SeizeWordsMem.{Mem, value_at}
+use Rattle.papaya_holds.specs.Given.SeizeWordsOp.{Out, Make, Found, Stored, Exchanged, Made, Taken, Roomed}
+use Rattle.papaya_holds.specs.Given.SeizeWordsPlan.{Ends}
+use Rattle.papaya_holds.specs.Given.SeizeWordsDeclared.fault.Fault.TheVariants.{Memory}
+use Rattle.papaya_holds.specs.Given.TablesDeclared.node.Node.{Node}
+use Rattle.papaya_holds.specs.Given.TablesDeclared.node.Node.TheVariants as node
+use Rattle.papaya_holds.specs.Given.ResizeSum.{sum_plan}
+use Rattle.papaya_holds.specs.Given.ReservesReserve.{reserve_plan}
+use Rattle.papaya_holds.specs.Given.SweepsSweep.{sweep_plan}
+use Rattle.papaya_holds.specs.Given.RawCall.{call_plan, makes_of, made}
+use Rattle.papaya_holds.specs.Given.RawCall as calls
+use Rattle.papaya_holds.specs.Given.RawCallFills.{filled, putting_by, fill_by, fills_with}
+use Rattle.papaya_holds.specs.Given.RawMachine.{machine_plan, called as of_key, reserved as of_room, swept as of_sweep, counted as of_sum}
+use Rattle.papaya_holds.specs.Given.RawProgress.{of_called}
+use Rattle.papaya_holds.specs.Given.RawReplies.{value_for, as_own}
+use Rattle.papaya_holds.specs.Given.RawDeclared.machines.answer.Called.{Called}
+use Rattle.papaya_holds.specs.Given.RawDeclared.machines.asking.Asking.TheVariants as asking
+use Rattle.papaya_holds.specs.Given.RawDeclared.machines.call.Calling.{Calling}
+use Rattle.papaya_holds.specs.Given.RawDeclared.machines.call.Calling.TheVariants as calling
+use Rattle.papaya_holds.specs.Given.RawDeclared.machines.call.KeyCall.{KeyCall}
+use Rattle.papaya_holds.specs.Given.RawDeclared.machines.machine.Machine.{Machine}
+use Rattle.papaya_holds.specs.Given.RawDeclared.machines.machine.Machine.TheVariants as kinds
+use Rattle.papaya_holds.specs.Given.RawDeclared.machines.progress.Progress.{Progress}
+use Rattle.papaya_lives.specs.Given.TellsSeen.{seen_of}
+use Rattle.papaya_lives.specs.Given.TellerTells.{told_of}
+use Rattle.papaya_lives.specs.Given.TellerDeclared.changed.Changed.{Changed}
+use Rattle.papaya_lives.specs.Given.TellerDeclared.changed.Changed.TheVariants as changed
+use Rattle.papaya_lives.specs.Given.TellerDeclared.changed.Kind.{Kind}
+use Rattle.papaya_lives.proofs.Given.OthersOutcomes.{told_in}
 use Rattle.papaya_owes.specs.Making.{making_of, making_in_calling, making_in_reserving, making_in_sweeping}
 use Rattle.papaya_owes.specs.Short.{fault_in_calling, fault_of}
 use Rattle.papaya_owes.proofs.Short.Denied.{EndsSo}
 use Rattle.papaya_owes.proofs.Tables.Hosts.{Step, step_within}
 use Rattle.papaya_owes.proofs.Tables.Makes.{refused_with}
 use Rattle.papaya_owes.proofs.Walks.{IsToMake, IsToOwn, so_as, plan_unmade_so, call_makes, reserve_makes, sweep_makes, sum_at}
-use Rattle.papaya_lives.specs.Given.Scenes.Stepping.{has_ended}
+use Rattle.papaya_lives.specs.Given.ScenesStepping.{has_ended}
 
 module _ {K V : Type 0} (m m2 : Mem (Node K V)) (told : Changed) (k : Kind) (unmade : told ≡ changed.Unmade k) where
   other : (x : Changed) → told ≡ x → x ≡ changed.Unmade k

@@ -2,20 +2,20 @@
 use Rattle.std.specs.Prelude.{◌≡◌, ℕ, List, find, Option, Some, option_map}
 use Rattle.std.proofs.Common.{refl, ap, sym, ◌∙◌, inl, inr}
 use Rattle.std.proofs.lemmas.Bool.{cases_eq}
-use Rattle.papaya_holds.specs.Given.Seize.World.{with_at}
-use Rattle.papaya_lives.specs.Given.Runs.Same.{is_same}
-use Rattle.papaya_lives.specs.Given.Schedules.Moment.{UnderWay as CallThere, Moment}
-use Rattle.papaya_lives.specs.Given.Schedules.Views.{call_of}
-use Rattle.papaya_holds.specs.Given.Callers.Together.{UnderWay}
-use Rattle.papaya_holds.proofs.Given.Callers.Together.At.{at_other}
-use Rattle.papaya_lives.specs.Given.Effects.Known.{Known}
-use Rattle.papaya_holds.specs.Given.Finishes.Makings.{Beginning}
-use Rattle.papaya_holds.specs.Given.Finishes.Machines.{machine_of}
+use Rattle.papaya_holds.specs.Given.SeizeWorld.{with_at}
+use Rattle.papaya_lives.specs.Given.RunsSame.{is_same}
+use Rattle.papaya_lives.specs.Given.SchedulesMoment.{UnderWay as CallThere, Moment}
+use Rattle.papaya_lives.specs.Given.SchedulesViews.{call_of}
+use Rattle.papaya_holds.specs.Given.CallersTogether.{UnderWay}
+use Rattle.papaya_holds.proofs.Given.CallersTogether.At.{at_other}
+use Rattle.papaya_lives.specs.Given.EffectsKnown.{Known}
+use Rattle.papaya_holds.specs.Given.FinishesMakings.{Beginning}
+use Rattle.papaya_holds.specs.Given.FinishesMachines.{machine_of}
 use Rattle.papaya_owes.specs.Tables.{HoldsTable, ShowsTables, table_made, of_map}
 use Rattle.papaya_owes.specs.TablesBeside.{TablesBegin, StaysTables, MakingsBeginTables}
 use Rattle.papaya_owes.proofs.Tables.Roles.{own_table_of, own_table_is}
 use Rattle.papaya_owes.specs.Making.{making_of}
-use Rattle.papaya_lives.specs.Given.Scenes.Scene.{Scene}
+use Rattle.papaya_lives.specs.Given.ScenesScene.{Scene}
 
 -- As a run begins there is no call, and no table.
 pub tables_begin : (K V : Type 0) → TablesBegin K V

@@ -2,48 +2,48 @@
 use Rattle.std.specs.Prelude.{◌≡◌, ◌≢◌, ℕ, Bool, true, false, List, Option, Some, None, option_map, if◌then◌else◌, nat_lt}
 use Rattle.std.proofs.Common.{refl, ap, sym, subst, ◌∙◌, inl, inr}
 use Rattle.std.proofs.lemmas.Bool.{cases_eq}
-use Rattle.papaya_holds.specs.Given.SeizeWords.Word.{block_in}
-use Rattle.papaya_holds.specs.Given.Seize.World.{Making as MadeBy}
-use Rattle.papaya_holds.specs.Given.Tables.declared.table.Table.{Table as Planned}
-use Rattle.papaya_holds.specs.Given.Resize.declared.new_table.NewTable.{NewTable}
-use Rattle.papaya_lives.specs.Given.Runs.declared.outcome.TableShape.{TableShape}
-use Rattle.papaya_holds.specs.Given.Raw.CallAsks.{told_at}
-use Rattle.papaya_holds.specs.Given.Raw.Machine.{machine_replied, sweep_told, machine_asked, is_ready}
-use Rattle.papaya_holds.specs.Given.Raw.declared.machines.asking.Reply.{Reply as MachineReply}
-use Rattle.papaya_holds.specs.Given.Raw.declared.machines.call.Calling.{Calling}
-use Rattle.papaya_holds.specs.Given.Raw.declared.machines.call.Calling.TheVariants as calling
-use Rattle.papaya_holds.specs.Given.Raw.declared.machines.call.KeyCall.{KeyCall}
-use Rattle.papaya_holds.specs.Given.Raw.declared.machines.machine.Machine.{Machine}
-use Rattle.papaya_holds.specs.Given.Raw.declared.machines.machine.Machine.TheVariants as kinds
-use Rattle.papaya_holds.specs.Given.Sweeps.declared.sweep.Sweep.{Sweep}
-use Rattle.papaya_holds.specs.Given.Sweeps.declared.sweep.Sweeping.{Sweeping}
-use Rattle.papaya_holds.specs.Given.Sweeps.declared.sweep.Sweeping.TheVariants as sweeping
-use Rattle.papaya_holds.specs.Given.Sweeps.SweepPoints.{next_at}
-use Rattle.papaya_lives.specs.Given.Schedules.declared.call.Call.{Call}
-use Rattle.papaya_lives.specs.Given.Schedules.declared.effect.Table.{Table}
-use Rattle.papaya_lives.specs.Given.Schedules.Beginning.{with_call}
-use Rattle.papaya_lives.specs.Given.Schedules.Moment.{UnderWay as CallThere, Moment}
-use Rattle.papaya_lives.specs.Given.Schedules.Views.{call_of}
-use Rattle.papaya_holds.specs.Given.Callers.Together.{UnderWay}
-use Rattle.papaya_lives.specs.Given.Effects.Known.{Known}
-use Rattle.papaya_lives.specs.Given.Effects.declared.role.Role.TheVariants as role
-use Rattle.papaya_holds.specs.Given.Finishes.Machines.{machine_of}
-use Rattle.papaya_holds.specs.Given.Finishes.Maps.{with_call as with_in}
-use Rattle.papaya_lives.specs.Given.Follows.Calling.{NoneNamed}
-use Rattle.papaya_lives.specs.Given.Follows.Shows.{Shows}
-use Rattle.papaya_lives.proofs.Given.Follows.Calling.{is_same_refl}
-use Rattle.papaya_lives.proofs.Given.Follows.Steps.{one_of}
-use Rattle.papaya_lives.proofs.Given.Hands.Asking.{which}
-use Rattle.papaya_lives.specs.Given.Moments.Whole.{ShowsWhole}
+use Rattle.papaya_holds.specs.Given.SeizeWordsWord.{block_in}
+use Rattle.papaya_holds.specs.Given.SeizeWorld.{Making as MadeBy}
+use Rattle.papaya_holds.specs.Given.TablesDeclared.table.Table.{Table as Planned}
+use Rattle.papaya_holds.specs.Given.ResizeDeclared.new_table.NewTable.{NewTable}
+use Rattle.papaya_lives.specs.Given.RunsDeclared.outcome.TableShape.{TableShape}
+use Rattle.papaya_holds.specs.Given.RawCallAsks.{told_at}
+use Rattle.papaya_holds.specs.Given.RawMachine.{machine_replied, sweep_told, machine_asked, is_ready}
+use Rattle.papaya_holds.specs.Given.RawDeclared.machines.asking.Reply.{Reply as MachineReply}
+use Rattle.papaya_holds.specs.Given.RawDeclared.machines.call.Calling.{Calling}
+use Rattle.papaya_holds.specs.Given.RawDeclared.machines.call.Calling.TheVariants as calling
+use Rattle.papaya_holds.specs.Given.RawDeclared.machines.call.KeyCall.{KeyCall}
+use Rattle.papaya_holds.specs.Given.RawDeclared.machines.machine.Machine.{Machine}
+use Rattle.papaya_holds.specs.Given.RawDeclared.machines.machine.Machine.TheVariants as kinds
+use Rattle.papaya_holds.specs.Given.SweepsDeclared.sweep.Sweep.{Sweep}
+use Rattle.papaya_holds.specs.Given.SweepsDeclared.sweep.Sweeping.{Sweeping}
+use Rattle.papaya_holds.specs.Given.SweepsDeclared.sweep.Sweeping.TheVariants as sweeping
+use Rattle.papaya_holds.specs.Given.SweepsSweepPoints.{next_at}
+use Rattle.papaya_lives.specs.Given.SchedulesDeclared.call.Call.{Call}
+use Rattle.papaya_lives.specs.Given.SchedulesDeclared.effect.Table.{Table}
+use Rattle.papaya_lives.specs.Given.SchedulesBeginning.{with_call}
+use Rattle.papaya_lives.specs.Given.SchedulesMoment.{UnderWay as CallThere, Moment}
+use Rattle.papaya_lives.specs.Given.SchedulesViews.{call_of}
+use Rattle.papaya_holds.specs.Given.CallersTogether.{UnderWay}
+use Rattle.papaya_lives.specs.Given.EffectsKnown.{Known}
+use Rattle.papaya_lives.specs.Given.EffectsDeclared.role.Role.TheVariants as role
+use Rattle.papaya_holds.specs.Given.FinishesMachines.{machine_of}
+use Rattle.papaya_holds.specs.Given.FinishesMaps.{with_call as with_in}
+use Rattle.papaya_lives.specs.Given.FollowsCalling.{NoneNamed}
+use Rattle.papaya_lives.specs.Given.FollowsShows.{Shows}
+use Rattle.papaya_lives.proofs.Given.FollowsCalling.{is_same_refl}
+use Rattle.papaya_lives.proofs.Given.FollowsSteps.{one_of}
+use Rattle.papaya_lives.proofs.Given.HandsAsking.{which}
+use Rattle.papaya_lives.specs.Given.MomentsWhole.{ShowsWhole}
 use Rattle.papaya_owes.specs.Making.{making_of, making_in_calling, making_in_sweeping}
 use Rattle.papaya_owes.specs.Tables.{table_made, of_map, IsOfCall, IsOfMaker, ShowsTables, CallsBeginTables, CallsTakeTables, CallsComeToTables, HoldsTable}
 use Rattle.papaya_owes.specs.TablesBeside.{WalksGoOnTables, WalksStopTables}
 use Rattle.papaya_owes.proofs.Kept.{calls_beside, calls_its, calls_without, HadAsMuch, fresh_has, others_there, told_had, left_had, come_had}
 use Rattle.papaya_owes.proofs.Tables.Held.{shape_of, some_making, its_block, role_there, call_hands, held_by}
-use Rattle.papaya_lives.specs.Given.Others.Walks.{given_up}
-use Rattle.papaya_lives.specs.Given.Scenes.Held.{Held, IsAt}
-use Rattle.papaya_lives.specs.Given.Scenes.Replying.{scene_with, unless_stopped}
-use Rattle.papaya_lives.specs.Given.Scenes.Scene.{Scene}
+use Rattle.papaya_lives.specs.Given.OthersWalks.{given_up}
+use Rattle.papaya_lives.specs.Given.ScenesHeld.{Held, IsAt}
+use Rattle.papaya_lives.specs.Given.ScenesReplying.{scene_with, unless_stopped}
+use Rattle.papaya_lives.specs.Given.ScenesScene.{Scene}
 
 -- a sweep that makes a table takes no reply; one that is asked for its next pair makes none; and one that is ready has none
 

@@ -1,17 +1,17 @@
 -- What the effects of an operation find of the table that a call has made, and which one it has after them.
 use Rattle.std.specs.Prelude.{◌≡◌, ◌<◌, ◌≤◌, ℕ, false, List, [], ◌∷◌, length, Option, Some, None}
 use Rattle.std.proofs.Common.{refl, ap, sym, subst, ◌∙◌}
-use Rattle.papaya_lives.specs.Given.Schedules.declared.call.Call.{Call}
-use Rattle.papaya_lives.specs.Given.Schedules.declared.call.Call.TheVariants as call
-use Rattle.papaya_lives.specs.Given.Schedules.declared.effect.Effect.{Effect}
-use Rattle.papaya_lives.specs.Given.Schedules.declared.effect.Effect.TheVariants as effect
-use Rattle.papaya_lives.specs.Given.Schedules.declared.effect.Growth.TheVariants.{ABlock}
-use Rattle.papaya_lives.specs.Given.Schedules.declared.effect.Table.{Table}
-use Rattle.papaya_lives.specs.Given.Runs.declared.outcome.TableShape.{TableShape}
-use Rattle.papaya_lives.specs.Given.Schedules.Effects.{due_for, call_by, with_effect}
-use Rattle.papaya_lives.specs.Given.Schedules.Entry.{ByCall}
-use Rattle.papaya_lives.specs.Given.Schedules.Moment.{UnderWay as CallThere, Moment}
-use Rattle.papaya_lives.specs.Given.Schedules.Views.{call_of, tables_of}
+use Rattle.papaya_lives.specs.Given.SchedulesDeclared.call.Call.{Call}
+use Rattle.papaya_lives.specs.Given.SchedulesDeclared.call.Call.TheVariants as call
+use Rattle.papaya_lives.specs.Given.SchedulesDeclared.effect.Effect.{Effect}
+use Rattle.papaya_lives.specs.Given.SchedulesDeclared.effect.Effect.TheVariants as effect
+use Rattle.papaya_lives.specs.Given.SchedulesDeclared.effect.Growth.TheVariants.{ABlock}
+use Rattle.papaya_lives.specs.Given.SchedulesDeclared.effect.Table.{Table}
+use Rattle.papaya_lives.specs.Given.RunsDeclared.outcome.TableShape.{TableShape}
+use Rattle.papaya_lives.specs.Given.SchedulesEffects.{due_for, call_by, with_effect}
+use Rattle.papaya_lives.specs.Given.SchedulesEntry.{ByCall}
+use Rattle.papaya_lives.specs.Given.SchedulesMoment.{UnderWay as CallThere, Moment}
+use Rattle.papaya_lives.specs.Given.SchedulesViews.{call_of, tables_of}
 use Rattle.papaya_owes.specs.Tables.{FindsTable, FindTables}
 use Rattle.papaya_owes.proofs.Fields.{all_by, its_effect}
 use Rattle.papaya_owes.proofs.Tables.Roles.{of_table, NoneOfTable}

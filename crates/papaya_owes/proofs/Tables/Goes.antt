@@ -2,31 +2,31 @@
 use Rattle.std.specs.Prelude.{◌≡◌, ◌≤◌, ℕ, Bool, false, List, [], Option, Some, None, if◌then◌else◌}
 use Rattle.std.proofs.Common.{refl, ap, sym, subst, ◌∙◌, arith, inl, inr}
 use Rattle.std.proofs.lemmas.Bool.{ne_eqb}
-use Rattle.papaya_holds.specs.Given.SeizeWords.Mem.{Mem}
-use Rattle.papaya_holds.specs.Given.SeizeWords.Word.{block_in}
-use Rattle.papaya_holds.specs.Given.SeizeWords.declared.at.At.{At}
-use Rattle.papaya_holds.specs.Given.SeizeWords.declared.at.At.TheVariants.{Root, Word}
-use Rattle.papaya_holds.specs.Given.Seize.declared.progress.Progress.{Progress as Counting}
-use Rattle.papaya_holds.specs.Given.Seize.declared.progress.Progress.TheVariants as progress
-use Rattle.papaya_holds.specs.Given.Tables.declared.node.Node.{Node}
-use Rattle.papaya_holds.specs.Given.Tables.declared.node.Node.TheVariants as node
-use Rattle.papaya_holds.specs.Given.Tables.declared.status.TheConstants.Status.{PROMOTED}
-use Rattle.papaya_holds.specs.Given.Tables.declared.table.Table.{Table as Planned}
-use Rattle.papaya_holds.specs.Given.Tables.declared.table_words.TheConstants.{NEXT, STATUS}
-use Rattle.papaya_holds.specs.Given.Resize.NewTable.{new_table_plan}
-use Rattle.papaya_holds.specs.Given.Resize.declared.new_table.Making.TheVariants as making
-use Rattle.papaya_holds.specs.Given.Resize.declared.new_table.NewTable.{NewTable}
-use Rattle.papaya_lives.specs.Given.Schedules.declared.effect.Effect.{Effect}
-use Rattle.papaya_lives.specs.Given.Teller.Changed.{kind_of}
-use Rattle.papaya_lives.specs.Given.Teller.declared.changed.Changed.{Changed}
-use Rattle.papaya_lives.specs.Given.Teller.declared.changed.Changed.TheVariants as changed
-use Rattle.papaya_lives.specs.Given.Teller.declared.changed.Kind.TheVariants as kind
-use Rattle.papaya_lives.specs.Given.Effects.Effects.{table_at, names_same, named, taken_by, in_block, effects_of, in_block_on, known_after}
-use Rattle.papaya_lives.specs.Given.Effects.Known.{Known}
-use Rattle.papaya_lives.specs.Given.Effects.declared.acting.Acting.{Acting}
-use Rattle.papaya_lives.specs.Given.Effects.declared.role.Role.{Role}
-use Rattle.papaya_lives.specs.Given.Effects.declared.role.Role.TheVariants as role
-use Rattle.papaya_lives.proofs.Given.Follows.Alike.{put_here, put_elsewhere}
+use Rattle.papaya_holds.specs.Given.SeizeWordsMem.{Mem}
+use Rattle.papaya_holds.specs.Given.SeizeWordsWord.{block_in}
+use Rattle.papaya_holds.specs.Given.SeizeWordsDeclared.at.At.{At}
+use Rattle.papaya_holds.specs.Given.SeizeWordsDeclared.at.At.TheVariants.{Root, Word}
+use Rattle.papaya_holds.specs.Given.SeizeDeclared.progress.Progress.{Progress as Counting}
+use Rattle.papaya_holds.specs.Given.SeizeDeclared.progress.Progress.TheVariants as progress
+use Rattle.papaya_holds.specs.Given.TablesDeclared.node.Node.{Node}
+use Rattle.papaya_holds.specs.Given.TablesDeclared.node.Node.TheVariants as node
+use Rattle.papaya_holds.specs.Given.TablesDeclared.status.TheConstants.Status.{PROMOTED}
+use Rattle.papaya_holds.specs.Given.TablesDeclared.table.Table.{Table as Planned}
+use Rattle.papaya_holds.specs.Given.TablesDeclared.table_words.TheConstants.{NEXT, STATUS}
+use Rattle.papaya_holds.specs.Given.ResizeNewTable.{new_table_plan}
+use Rattle.papaya_holds.specs.Given.ResizeDeclared.new_table.Making.TheVariants as making
+use Rattle.papaya_holds.specs.Given.ResizeDeclared.new_table.NewTable.{NewTable}
+use Rattle.papaya_lives.specs.Given.SchedulesDeclared.effect.Effect.{Effect}
+use Rattle.papaya_lives.specs.Given.TellerChanged.{kind_of}
+use Rattle.papaya_lives.specs.Given.TellerDeclared.changed.Changed.{Changed}
+use Rattle.papaya_lives.specs.Given.TellerDeclared.changed.Changed.TheVariants as changed
+use Rattle.papaya_lives.specs.Given.TellerDeclared.changed.Kind.TheVariants as kind
+use Rattle.papaya_lives.specs.Given.EffectsEffects.{table_at, names_same, named, taken_by, in_block, effects_of, in_block_on, known_after}
+use Rattle.papaya_lives.specs.Given.EffectsKnown.{Known}
+use Rattle.papaya_lives.specs.Given.EffectsDeclared.acting.Acting.{Acting}
+use Rattle.papaya_lives.specs.Given.EffectsDeclared.role.Role.{Role}
+use Rattle.papaya_lives.specs.Given.EffectsDeclared.role.Role.TheVariants as role
+use Rattle.papaya_lives.proofs.Given.FollowsAlike.{put_here, put_elsewhere}
 use Rattle.papaya_owes.specs.Tables.{table_in}
 use Rattle.papaya_owes.proofs.Planned.{IsInHands, IsInTurn}
 use Rattle.papaya_owes.proofs.Tables.Held.{shape_of, IsLinkThere, its_block}
@@ -35,7 +35,7 @@ use Rattle.papaya_owes.proofs.Tables.Leaves.{IsOneStep, LeavesTables, IsGivenUp,
 use Rattle.papaya_owes.proofs.Tables.Linking.{LinkedSo, root_links, table_links}
 use Rattle.papaya_owes.proofs.Tables.Makes.{GoesWithTable, Rests, Marks, Gives, Links, goes_with, made_with}
 use Rattle.papaya_owes.proofs.Tables.Roles.{own_table_of}
-use Rattle.papaya_lives.specs.Given.Scenes.Scene.{Scene}
+use Rattle.papaya_lives.specs.Given.ScenesScene.{Scene}
 
 -- A table that has places is told as a table, with its turn.
 pub turn_told : (K V : Type 0) (u : Planned) (len limit turn : ℕ) → 8 ≤ u.len → kind_of {K = K} {V = V} (node.Table u.len u.limit u.turn) ≡ kind.Table len limit turn → u.turn ≡ turn

@@ -1,47 +1,47 @@
 -- Wherever a moment shows it, a table that a call or a making has made is in its caller's hands, and noted as one that is not linked.
 use Rattle.std.specs.Prelude.{◌≡◌, ℕ, Bool, List, length, Option, Some, None, ◌⊎◌}
 use Rattle.std.proofs.Common.{refl, ap, subst, ◌∙◌, arith, inl, inr}
-use Rattle.papaya_holds.specs.Given.SeizeWords.Mem.{value_at}
-use Rattle.papaya_holds.specs.Given.SeizeWords.Word.{block_in}
-use Rattle.papaya_holds.specs.Given.SeizeWords.declared.at.At.{At}
-use Rattle.papaya_holds.specs.Given.SeizeWords.declared.at.At.TheVariants.{Root, Word}
-use Rattle.papaya_holds.specs.Given.Seize.World.{World, IsInside}
-use Rattle.papaya_holds.specs.Given.Tables.declared.node.Node.{Node}
-use Rattle.papaya_holds.specs.Given.Tables.declared.node.Node.TheVariants as node
-use Rattle.papaya_holds.specs.Given.Tables.declared.table.Table.{Table as Planned}
-use Rattle.papaya_holds.specs.Given.Tables.declared.table_words.TheConstants.{NEXT}
-use Rattle.papaya_holds.specs.Given.Resize.declared.new_map.NewMap.{NewMap}
-use Rattle.papaya_holds.specs.Given.Resize.declared.new_map.Opening.{Opening}
-use Rattle.papaya_holds.specs.Given.Resize.declared.new_map.Opening.TheVariants as opening
-use Rattle.papaya_holds.specs.Given.Resize.declared.new_table.Making.{Making}
-use Rattle.papaya_holds.specs.Given.Resize.declared.new_table.Making.TheVariants as making
-use Rattle.papaya_holds.specs.Given.Resize.declared.new_table.NewTable.{NewTable}
-use Rattle.papaya_lives.specs.Given.Runs.declared.outcome.TableShape.{TableShape}
-use Rattle.papaya_lives.specs.Given.Schedules.declared.effect.Table.{Table}
-use Rattle.papaya_lives.specs.Given.Schedules.Moment.{Moment}
-use Rattle.papaya_lives.specs.Given.Schedules.Views.{tables_of}
-use Rattle.papaya_holds.specs.Given.Rule.Rule.{no_table}
-use Rattle.papaya_holds.proofs.Given.Rule.Words.TablesSeen.{block_of_link}
-use Rattle.papaya_holds.specs.Given.Callers.Sights.{seen_by, IsSight}
-use Rattle.papaya_holds.specs.Given.Callers.Together.{UnderWay, OnKey, ForRoom, Counting, OverAll, Together, no_blocks}
-use Rattle.papaya_lives.specs.Given.Effects.Known.{Known}
-use Rattle.papaya_lives.specs.Given.Effects.declared.role.Role.TheVariants as role
-use Rattle.papaya_holds.specs.Given.Finishes.Machines.{machine_of}
-use Rattle.papaya_holds.specs.Given.Finishes.Makings.{Beginning, OpeningFacts}
-use Rattle.papaya_holds.specs.Given.Finishes.Maps.{Standing}
-use Rattle.papaya_lives.specs.Given.Follows.Maps.{table_of}
-use Rattle.papaya_lives.specs.Given.Follows.Shows.{Shows}
-use Rattle.papaya_lives.proofs.Given.Follows.Finds.{tables_many}
-use Rattle.papaya_lives.proofs.Given.Follows.Writes.{own_table}
+use Rattle.papaya_holds.specs.Given.SeizeWordsMem.{value_at}
+use Rattle.papaya_holds.specs.Given.SeizeWordsWord.{block_in}
+use Rattle.papaya_holds.specs.Given.SeizeWordsDeclared.at.At.{At}
+use Rattle.papaya_holds.specs.Given.SeizeWordsDeclared.at.At.TheVariants.{Root, Word}
+use Rattle.papaya_holds.specs.Given.SeizeWorld.{World, IsInside}
+use Rattle.papaya_holds.specs.Given.TablesDeclared.node.Node.{Node}
+use Rattle.papaya_holds.specs.Given.TablesDeclared.node.Node.TheVariants as node
+use Rattle.papaya_holds.specs.Given.TablesDeclared.table.Table.{Table as Planned}
+use Rattle.papaya_holds.specs.Given.TablesDeclared.table_words.TheConstants.{NEXT}
+use Rattle.papaya_holds.specs.Given.ResizeDeclared.new_map.NewMap.{NewMap}
+use Rattle.papaya_holds.specs.Given.ResizeDeclared.new_map.Opening.{Opening}
+use Rattle.papaya_holds.specs.Given.ResizeDeclared.new_map.Opening.TheVariants as opening
+use Rattle.papaya_holds.specs.Given.ResizeDeclared.new_table.Making.{Making}
+use Rattle.papaya_holds.specs.Given.ResizeDeclared.new_table.Making.TheVariants as making
+use Rattle.papaya_holds.specs.Given.ResizeDeclared.new_table.NewTable.{NewTable}
+use Rattle.papaya_lives.specs.Given.RunsDeclared.outcome.TableShape.{TableShape}
+use Rattle.papaya_lives.specs.Given.SchedulesDeclared.effect.Table.{Table}
+use Rattle.papaya_lives.specs.Given.SchedulesMoment.{Moment}
+use Rattle.papaya_lives.specs.Given.SchedulesViews.{tables_of}
+use Rattle.papaya_holds.specs.Given.RuleRule.{no_table}
+use Rattle.papaya_holds.proofs.Given.RuleWords.TablesSeen.{block_of_link}
+use Rattle.papaya_holds.specs.Given.CallersSights.{seen_by, IsSight}
+use Rattle.papaya_holds.specs.Given.CallersTogether.{UnderWay, OnKey, ForRoom, Counting, OverAll, Together, no_blocks}
+use Rattle.papaya_lives.specs.Given.EffectsKnown.{Known}
+use Rattle.papaya_lives.specs.Given.EffectsDeclared.role.Role.TheVariants as role
+use Rattle.papaya_holds.specs.Given.FinishesMachines.{machine_of}
+use Rattle.papaya_holds.specs.Given.FinishesMakings.{Beginning, OpeningFacts}
+use Rattle.papaya_holds.specs.Given.FinishesMaps.{Standing}
+use Rattle.papaya_lives.specs.Given.FollowsMaps.{table_of}
+use Rattle.papaya_lives.specs.Given.FollowsShows.{Shows}
+use Rattle.papaya_lives.proofs.Given.FollowsFinds.{tables_many}
+use Rattle.papaya_lives.proofs.Given.FollowsWrites.{own_table}
 use Rattle.papaya_owes.specs.Making.{making_of, making_in_opening}
 use Rattle.papaya_owes.specs.Tables.{table_in, table_made, HoldsTable, TablesAreMade}
 use Rattle.papaya_owes.proofs.Held.{IsInHand}
 use Rattle.papaya_owes.proofs.Machines.{call_none, room_none, sweep_none}
 use Rattle.papaya_owes.proofs.Planned.{IsInHands, IsMadeBy, HasLink, IsInTurn, IsItsMaking, key_made, reserve_made, over_all_made, new_made}
 use Rattle.papaya_owes.proofs.Tables.Kinds.{HasUnmade, HasUnmadeSo, has_unmade, row_unmade}
-use Rattle.papaya_lives.proofs.Given.Scenes.May.{standing_is}
-use Rattle.papaya_lives.specs.Given.Scenes.Held.{Held, IsAt}
-use Rattle.papaya_lives.specs.Given.Scenes.Scene.{Scene, slot_of}
+use Rattle.papaya_lives.proofs.Given.ScenesMay.{standing_is}
+use Rattle.papaya_lives.specs.Given.ScenesHeld.{Held, IsAt}
+use Rattle.papaya_lives.specs.Given.ScenesScene.{Scene, slot_of}
 
 -- a table that was made is one of a making
 pub some_making : (o : Option NewTable) (t : Planned) → table_made o ≡ Some t → (n : NewTable) × (o ≡ Some n) × (table_in n.stands ≡ Some t)

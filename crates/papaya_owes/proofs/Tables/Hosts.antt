@@ -1,61 +1,61 @@
 -- A step of a call, or of the making of a map, that is one of the making of a table within it: it goes on with that making.
 use Rattle.std.specs.Prelude.{◌≡◌, ℕ, Bool, Option, Some, ◌==◌, true, false, ◌⊎◌, if◌then◌else◌}
 use Rattle.std.proofs.Common.{refl, ap, subst, ◌∙◌, inl, inr}
-use Rattle.papaya_holds.specs.Given.SeizeWords.Mem.{Mem}
-use Rattle.papaya_holds.specs.Given.SeizeWords.Plan.{Plan}
-use Rattle.papaya_holds.specs.Given.SeizeWords.declared.fault.Fault.{Fault}
-use Rattle.papaya_holds.specs.Given.Seize.declared.progress.Progress.{Progress as Counting}
-use Rattle.papaya_holds.specs.Given.Seize.declared.progress.Progress.TheVariants as progress
-use Rattle.papaya_holds.specs.Given.Tables.declared.node.Node.{Node}
-use Rattle.papaya_holds.specs.Given.Tables.declared.table.Table.{Table as Planned}
-use Rattle.papaya_holds.specs.Given.Tables.declared.setting.Setting.{Setting}
-use Rattle.papaya_holds.specs.Given.Resize.Copier.{copier_plan}
-use Rattle.papaya_holds.specs.Given.Resize.Copier as copiers
-use Rattle.papaya_holds.specs.Given.Resize.CopierFurther.{grown, remade}
-use Rattle.papaya_holds.specs.Given.Resize.NewTable.{new_table_plan}
-use Rattle.papaya_holds.specs.Given.Resize.declared.copier.Copier.{Copier}
-use Rattle.papaya_holds.specs.Given.Resize.declared.copier.Copying.{Copying}
-use Rattle.papaya_holds.specs.Given.Resize.declared.copier.Copying.TheVariants as copying
-use Rattle.papaya_holds.specs.Given.Resize.declared.new_table.NewTable.{NewTable}
-use Rattle.papaya_holds.specs.Given.Resize.declared.outcome.Outcome.{Outcome}
-use Rattle.papaya_holds.specs.Given.Resize.declared.outcome.Outcome.TheVariants as outcome
-use Rattle.papaya_holds.specs.Given.Resize.NewMap as new_map
-use Rattle.papaya_holds.specs.Given.Resize.declared.new_map.NewMap.{NewMap}
-use Rattle.papaya_holds.specs.Given.Resize.declared.new_map.Opening.{Opening}
-use Rattle.papaya_holds.specs.Given.Resize.declared.new_map.Opening.TheVariants as opening
-use Rattle.papaya_holds.specs.Given.Resize.CopierStates as copiers_at
-use Rattle.papaya_holds.specs.Given.Reserves.Reserve.{reserve_plan}
-use Rattle.papaya_holds.specs.Given.Reserves.Reserve as reserves
-use Rattle.papaya_holds.specs.Given.Reserves.declared.reserve.Reserve.{Reserve}
-use Rattle.papaya_holds.specs.Given.Reserves.declared.reserve.Reserving.{Reserving}
-use Rattle.papaya_holds.specs.Given.Reserves.declared.reserve.Reserving.TheVariants as reserving
-use Rattle.papaya_holds.specs.Given.Sweeps.Sweep.{sweep_plan}
-use Rattle.papaya_holds.specs.Given.Sweeps.Sweep as sweeps
-use Rattle.papaya_holds.specs.Given.Sweeps.declared.sweep.Sweep.{Sweep}
-use Rattle.papaya_holds.specs.Given.Sweeps.declared.sweep.Sweeping.{Sweeping}
-use Rattle.papaya_holds.specs.Given.Sweeps.declared.sweep.Sweeping.TheVariants as sweeping
-use Rattle.papaya_holds.specs.Given.Sweeps.declared.sweep.Swept.{Swept}
-use Rattle.papaya_holds.specs.Given.Sweeps.declared.sweep.Swept.TheVariants as swept
-use Rattle.papaya_holds.specs.Given.Sweeps.SweepPoints as sweeps_at
-use Rattle.papaya_holds.specs.Given.Raw.Call.{call_plan, first_made, next_made, helped, copied}
-use Rattle.papaya_holds.specs.Given.Raw.Call as calls
-use Rattle.papaya_holds.specs.Given.Raw.Machine.{machine_plan, called as of_key, reserved as of_room, swept as of_sweep}
-use Rattle.papaya_holds.specs.Given.Raw.Progress.{of_called, of_outcome, of_swept}
-use Rattle.papaya_holds.specs.Given.Raw.declared.machines.answer.Called.{Called}
-use Rattle.papaya_holds.specs.Given.Raw.declared.machines.answer.Called.TheVariants as called
-use Rattle.papaya_holds.specs.Given.Raw.declared.machines.call.Calling.{Calling}
-use Rattle.papaya_holds.specs.Given.Raw.declared.machines.call.Calling.TheVariants as calling
-use Rattle.papaya_holds.specs.Given.Raw.declared.machines.call.KeyCall.{KeyCall}
-use Rattle.papaya_holds.specs.Given.Raw.declared.machines.machine.Machine.{Machine}
-use Rattle.papaya_holds.specs.Given.Raw.declared.machines.machine.Machine.TheVariants as kinds
-use Rattle.papaya_holds.specs.Given.Raw.declared.machines.progress.Progress.{Progress}
-use Rattle.papaya_holds.specs.Given.Raw.declared.machines.progress.Progress.TheVariants as said_so
-use Rattle.papaya_holds.specs.Given.Raw.CallPoints.{over, going}
-use Rattle.papaya_holds.specs.Given.Raw.declared.machines.answer.End.TheVariants as ends
-use Rattle.papaya_lives.specs.Given.Teller.Tells.{StepsTold}
-use Rattle.papaya_lives.specs.Given.Teller.declared.changed.Changed.{Changed}
-use Rattle.papaya_lives.specs.Given.Teller.declared.changed.Changed.TheVariants as changed
-use Rattle.papaya_lives.proofs.Given.Others.Outcomes.{told_in}
+use Rattle.papaya_holds.specs.Given.SeizeWordsMem.{Mem}
+use Rattle.papaya_holds.specs.Given.SeizeWordsPlan.{Plan}
+use Rattle.papaya_holds.specs.Given.SeizeWordsDeclared.fault.Fault.{Fault}
+use Rattle.papaya_holds.specs.Given.SeizeDeclared.progress.Progress.{Progress as Counting}
+use Rattle.papaya_holds.specs.Given.SeizeDeclared.progress.Progress.TheVariants as progress
+use Rattle.papaya_holds.specs.Given.TablesDeclared.node.Node.{Node}
+use Rattle.papaya_holds.specs.Given.TablesDeclared.table.Table.{Table as Planned}
+use Rattle.papaya_holds.specs.Given.TablesDeclared.setting.Setting.{Setting}
+use Rattle.papaya_holds.specs.Given.ResizeCopier.{copier_plan}
+use Rattle.papaya_holds.specs.Given.ResizeCopier as copiers
+use Rattle.papaya_holds.specs.Given.ResizeCopierFurther.{grown, remade}
+use Rattle.papaya_holds.specs.Given.ResizeNewTable.{new_table_plan}
+use Rattle.papaya_holds.specs.Given.ResizeDeclared.copier.Copier.{Copier}
+use Rattle.papaya_holds.specs.Given.ResizeDeclared.copier.Copying.{Copying}
+use Rattle.papaya_holds.specs.Given.ResizeDeclared.copier.Copying.TheVariants as copying
+use Rattle.papaya_holds.specs.Given.ResizeDeclared.new_table.NewTable.{NewTable}
+use Rattle.papaya_holds.specs.Given.ResizeDeclared.outcome.Outcome.{Outcome}
+use Rattle.papaya_holds.specs.Given.ResizeDeclared.outcome.Outcome.TheVariants as outcome
+use Rattle.papaya_holds.specs.Given.ResizeNewMap as new_map
+use Rattle.papaya_holds.specs.Given.ResizeDeclared.new_map.NewMap.{NewMap}
+use Rattle.papaya_holds.specs.Given.ResizeDeclared.new_map.Opening.{Opening}
+use Rattle.papaya_holds.specs.Given.ResizeDeclared.new_map.Opening.TheVariants as opening
+use Rattle.papaya_holds.specs.Given.ResizeCopierStates as copiers_at
+use Rattle.papaya_holds.specs.Given.ReservesReserve.{reserve_plan}
+use Rattle.papaya_holds.specs.Given.ReservesReserve as reserves
+use Rattle.papaya_holds.specs.Given.ReservesDeclared.reserve.Reserve.{Reserve}
+use Rattle.papaya_holds.specs.Given.ReservesDeclared.reserve.Reserving.{Reserving}
+use Rattle.papaya_holds.specs.Given.ReservesDeclared.reserve.Reserving.TheVariants as reserving
+use Rattle.papaya_holds.specs.Given.SweepsSweep.{sweep_plan}
+use Rattle.papaya_holds.specs.Given.SweepsSweep as sweeps
+use Rattle.papaya_holds.specs.Given.SweepsDeclared.sweep.Sweep.{Sweep}
+use Rattle.papaya_holds.specs.Given.SweepsDeclared.sweep.Sweeping.{Sweeping}
+use Rattle.papaya_holds.specs.Given.SweepsDeclared.sweep.Sweeping.TheVariants as sweeping
+use Rattle.papaya_holds.specs.Given.SweepsDeclared.sweep.Swept.{Swept}
+use Rattle.papaya_holds.specs.Given.SweepsDeclared.sweep.Swept.TheVariants as swept
+use Rattle.papaya_holds.specs.Given.SweepsSweepPoints as sweeps_at
+use Rattle.papaya_holds.specs.Given.RawCall.{call_plan, first_made, next_made, helped, copied}
+use Rattle.papaya_holds.specs.Given.RawCall as calls
+use Rattle.papaya_holds.specs.Given.RawMachine.{machine_plan, called as of_key, reserved as of_room, swept as of_sweep}
+use Rattle.papaya_holds.specs.Given.RawProgress.{of_called, of_outcome, of_swept}
+use Rattle.papaya_holds.specs.Given.RawDeclared.machines.answer.Called.{Called}
+use Rattle.papaya_holds.specs.Given.RawDeclared.machines.answer.Called.TheVariants as called
+use Rattle.papaya_holds.specs.Given.RawDeclared.machines.call.Calling.{Calling}
+use Rattle.papaya_holds.specs.Given.RawDeclared.machines.call.Calling.TheVariants as calling
+use Rattle.papaya_holds.specs.Given.RawDeclared.machines.call.KeyCall.{KeyCall}
+use Rattle.papaya_holds.specs.Given.RawDeclared.machines.machine.Machine.{Machine}
+use Rattle.papaya_holds.specs.Given.RawDeclared.machines.machine.Machine.TheVariants as kinds
+use Rattle.papaya_holds.specs.Given.RawDeclared.machines.progress.Progress.{Progress}
+use Rattle.papaya_holds.specs.Given.RawDeclared.machines.progress.Progress.TheVariants as said_so
+use Rattle.papaya_holds.specs.Given.RawCallPoints.{over, going}
+use Rattle.papaya_holds.specs.Given.RawDeclared.machines.answer.End.TheVariants as ends
+use Rattle.papaya_lives.specs.Given.TellerTells.{StepsTold}
+use Rattle.papaya_lives.specs.Given.TellerDeclared.changed.Changed.{Changed}
+use Rattle.papaya_lives.specs.Given.TellerDeclared.changed.Changed.TheVariants as changed
+use Rattle.papaya_lives.proofs.Given.OthersOutcomes.{told_in}
 use Rattle.papaya_owes.specs.Making.{making_of, making_in_copying, making_in_calling, making_in_reserving, making_in_sweeping, making_in_opening}
 use Rattle.papaya_owes.specs.Short.{fault_in_copying, fault_in_calling, fault_in_reserving, fault_in_sweeping, fault_of}
 

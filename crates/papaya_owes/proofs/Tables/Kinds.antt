@@ -1,38 +1,38 @@
 -- What a call makes: a block for its pair, or the table that is to be made by the making within it.
 use Rattle.std.specs.Prelude.{◌≡◌, ℕ, ◌==◌, Bool, true, false, Option, Some, None, ◌⊎◌}
 use Rattle.std.proofs.Common.{refl, sym, subst, ◌∙◌, inl, inr}
-use Rattle.papaya_holds.specs.Given.SeizeWords.Mem.{Mem}
-use Rattle.papaya_holds.specs.Given.Tables.declared.node.Node.{Node}
-use Rattle.papaya_holds.specs.Given.Tables.declared.node.Node.TheVariants as node
-use Rattle.papaya_holds.specs.Given.Tables.declared.setting.Setting.{Setting}
-use Rattle.papaya_holds.specs.Given.Resize.Sum.{sum_plan}
-use Rattle.papaya_holds.specs.Given.Reserves.Reserve.{reserve_plan}
-use Rattle.papaya_holds.specs.Given.Sweeps.Sweep.{sweep_plan}
-use Rattle.papaya_holds.specs.Given.Raw.Call.{call_plan, makes_of}
-use Rattle.papaya_holds.specs.Given.Raw.Call as calls
-use Rattle.papaya_holds.specs.Given.Raw.CallFills.{putting_by, fill_by, fills_with}
-use Rattle.papaya_holds.specs.Given.Raw.Machine.{machine_plan, called as of_key, reserved as of_room, swept as of_sweep, counted as of_sum}
-use Rattle.papaya_holds.specs.Given.Raw.declared.machines.asking.Asking.TheVariants as asking
-use Rattle.papaya_holds.specs.Given.Raw.declared.machines.call.Calling.{Calling}
-use Rattle.papaya_holds.specs.Given.Raw.declared.machines.call.Calling.TheVariants as calling
-use Rattle.papaya_holds.specs.Given.Raw.declared.machines.call.KeyCall.{KeyCall}
-use Rattle.papaya_holds.specs.Given.Raw.declared.machines.machine.Machine.{Machine}
-use Rattle.papaya_holds.specs.Given.Raw.declared.machines.machine.Machine.TheVariants as kinds
-use Rattle.papaya_holds.specs.Given.Raw.declared.machines.progress.Progress.{Progress}
-use Rattle.papaya_holds.specs.Given.Raw.Replies.{value_for, as_own}
-use Rattle.papaya_holds.specs.Given.Rule.Chart.{Chart}
-use Rattle.papaya_holds.specs.Given.Rule.Words.{Blocks}
-use Rattle.papaya_lives.specs.Given.Teller.Changed.{kind_of}
-use Rattle.papaya_lives.specs.Given.Teller.Tells.{StepsTold}
-use Rattle.papaya_lives.specs.Given.Teller.declared.changed.Changed.{Changed}
-use Rattle.papaya_lives.specs.Given.Teller.declared.changed.Changed.TheVariants as changed
-use Rattle.papaya_lives.specs.Given.Teller.declared.changed.Kind.{Kind}
-use Rattle.papaya_lives.specs.Given.Teller.declared.changed.Kind.TheVariants as kind
-use Rattle.papaya_holds.specs.Given.Callers.Together.{CallOnKey, in_slot, Knows}
-use Rattle.papaya_holds.specs.Given.Points.FactsCalls.{Change, CallingFacts}
-use Rattle.papaya_holds.specs.Given.Points.Told.{IsRowOfCall}
-use Rattle.papaya_holds.specs.Given.Late.LateCalls.{LateCalling}
-use Rattle.papaya_holds.specs.Given.Seize.World.{World}
+use Rattle.papaya_holds.specs.Given.SeizeWordsMem.{Mem}
+use Rattle.papaya_holds.specs.Given.TablesDeclared.node.Node.{Node}
+use Rattle.papaya_holds.specs.Given.TablesDeclared.node.Node.TheVariants as node
+use Rattle.papaya_holds.specs.Given.TablesDeclared.setting.Setting.{Setting}
+use Rattle.papaya_holds.specs.Given.ResizeSum.{sum_plan}
+use Rattle.papaya_holds.specs.Given.ReservesReserve.{reserve_plan}
+use Rattle.papaya_holds.specs.Given.SweepsSweep.{sweep_plan}
+use Rattle.papaya_holds.specs.Given.RawCall.{call_plan, makes_of}
+use Rattle.papaya_holds.specs.Given.RawCall as calls
+use Rattle.papaya_holds.specs.Given.RawCallFills.{putting_by, fill_by, fills_with}
+use Rattle.papaya_holds.specs.Given.RawMachine.{machine_plan, called as of_key, reserved as of_room, swept as of_sweep, counted as of_sum}
+use Rattle.papaya_holds.specs.Given.RawDeclared.machines.asking.Asking.TheVariants as asking
+use Rattle.papaya_holds.specs.Given.RawDeclared.machines.call.Calling.{Calling}
+use Rattle.papaya_holds.specs.Given.RawDeclared.machines.call.Calling.TheVariants as calling
+use Rattle.papaya_holds.specs.Given.RawDeclared.machines.call.KeyCall.{KeyCall}
+use Rattle.papaya_holds.specs.Given.RawDeclared.machines.machine.Machine.{Machine}
+use Rattle.papaya_holds.specs.Given.RawDeclared.machines.machine.Machine.TheVariants as kinds
+use Rattle.papaya_holds.specs.Given.RawDeclared.machines.progress.Progress.{Progress}
+use Rattle.papaya_holds.specs.Given.RawReplies.{value_for, as_own}
+use Rattle.papaya_holds.specs.Given.RuleChart.{Chart}
+use Rattle.papaya_holds.specs.Given.RuleWords.{Blocks}
+use Rattle.papaya_lives.specs.Given.TellerChanged.{kind_of}
+use Rattle.papaya_lives.specs.Given.TellerTells.{StepsTold}
+use Rattle.papaya_lives.specs.Given.TellerDeclared.changed.Changed.{Changed}
+use Rattle.papaya_lives.specs.Given.TellerDeclared.changed.Changed.TheVariants as changed
+use Rattle.papaya_lives.specs.Given.TellerDeclared.changed.Kind.{Kind}
+use Rattle.papaya_lives.specs.Given.TellerDeclared.changed.Kind.TheVariants as kind
+use Rattle.papaya_holds.specs.Given.CallersTogether.{CallOnKey, in_slot, Knows}
+use Rattle.papaya_holds.specs.Given.PointsFactsCalls.{Change, CallingFacts}
+use Rattle.papaya_holds.specs.Given.PointsTold.{IsRowOfCall}
+use Rattle.papaya_holds.specs.Given.LateLateCalls.{LateCalling}
+use Rattle.papaya_holds.specs.Given.SeizeWorld.{World}
 use Rattle.papaya_owes.specs.Making.{making_of, making_in_calling, making_in_reserving, making_in_sweeping}
 use Rattle.papaya_owes.proofs.Walks.{IsToMake, PlanMakesSo, IsToOwn, so_as, so_more, plan_made_so, plan_no_room, call_makes, reserve_makes, sweep_makes, sum_at}
 

@@ -1,30 +1,30 @@
 -- What a step within the making of a table does: it makes the table, goes on with it, gives it up, or links it; and the call goes on with the making.
 use Rattle.std.specs.Prelude.{◌≡◌, ℕ, Some, Ok, Err, ◌+◌, ◌%◌, ◌^◌}
 use Rattle.std.proofs.Common.{refl, ap, sym, subst, ◌∙◌}
-use Rattle.papaya_holds.specs.Given.SeizeWords.Mem.{Mem, Took, value_at}
-use Rattle.papaya_holds.specs.Given.SeizeWords.Op.{Out, Found, Stored, Exchanged, Made, Taken, Roomed, Make, Exchange}
-use Rattle.papaya_holds.specs.Given.SeizeWords.Plan.{Ends}
-use Rattle.papaya_holds.specs.Given.SeizeWords.Word.{block_in}
-use Rattle.papaya_holds.specs.Given.SeizeWords.declared.at.At.{At}
-use Rattle.papaya_holds.specs.Given.SeizeWords.declared.at.At.TheVariants.{Root, Used, Slot, Entry, Word}
-use Rattle.papaya_holds.specs.Given.SeizeWords.declared.fault.Fault.TheVariants.{Memory}
-use Rattle.papaya_holds.specs.Given.Seize.declared.progress.Progress.{Progress as Counting}
-use Rattle.papaya_holds.specs.Given.Seize.declared.progress.Progress.TheVariants as progress
-use Rattle.papaya_holds.specs.Given.Tables.declared.node.Node.{Node}
-use Rattle.papaya_holds.specs.Given.Tables.declared.node.Node.TheVariants as node
-use Rattle.papaya_holds.specs.Given.Tables.declared.status.TheConstants.Status.{PROMOTED}
-use Rattle.papaya_holds.specs.Given.Tables.declared.table.Table.{Table as Planned}
-use Rattle.papaya_holds.specs.Given.Tables.declared.table_words.TheConstants.{STATUS, PLACES}
-use Rattle.papaya_holds.specs.Given.Resize.NewTable.{new_table_plan, with_block, after_making}
-use Rattle.papaya_holds.specs.Given.Resize.NewTable as tables
-use Rattle.papaya_holds.specs.Given.Resize.declared.new_table.Making.{Making}
-use Rattle.papaya_holds.specs.Given.Resize.declared.new_table.Making.TheVariants as making
-use Rattle.papaya_holds.specs.Given.Resize.declared.new_table.NewTable.{NewTable}
-use Rattle.papaya_lives.specs.Given.Tells.Seen.{seen_of}
-use Rattle.papaya_lives.specs.Given.Teller.Tells.{told_of, StepsTold}
-use Rattle.papaya_lives.specs.Given.Teller.declared.changed.Changed.{Changed}
-use Rattle.papaya_lives.specs.Given.Teller.declared.changed.Changed.TheVariants as changed
-use Rattle.papaya_lives.specs.Given.Teller.declared.changed.Kind.{Kind}
+use Rattle.papaya_holds.specs.Given.SeizeWordsMem.{Mem, Took, value_at}
+use Rattle.papaya_holds.specs.Given.SeizeWordsOp.{Out, Found, Stored, Exchanged, Made, Taken, Roomed, Make, Exchange}
+use Rattle.papaya_holds.specs.Given.SeizeWordsPlan.{Ends}
+use Rattle.papaya_holds.specs.Given.SeizeWordsWord.{block_in}
+use Rattle.papaya_holds.specs.Given.SeizeWordsDeclared.at.At.{At}
+use Rattle.papaya_holds.specs.Given.SeizeWordsDeclared.at.At.TheVariants.{Root, Used, Slot, Entry, Word}
+use Rattle.papaya_holds.specs.Given.SeizeWordsDeclared.fault.Fault.TheVariants.{Memory}
+use Rattle.papaya_holds.specs.Given.SeizeDeclared.progress.Progress.{Progress as Counting}
+use Rattle.papaya_holds.specs.Given.SeizeDeclared.progress.Progress.TheVariants as progress
+use Rattle.papaya_holds.specs.Given.TablesDeclared.node.Node.{Node}
+use Rattle.papaya_holds.specs.Given.TablesDeclared.node.Node.TheVariants as node
+use Rattle.papaya_holds.specs.Given.TablesDeclared.status.TheConstants.Status.{PROMOTED}
+use Rattle.papaya_holds.specs.Given.TablesDeclared.table.Table.{Table as Planned}
+use Rattle.papaya_holds.specs.Given.TablesDeclared.table_words.TheConstants.{STATUS, PLACES}
+use Rattle.papaya_holds.specs.Given.ResizeNewTable.{new_table_plan, with_block, after_making}
+use Rattle.papaya_holds.specs.Given.ResizeNewTable as tables
+use Rattle.papaya_holds.specs.Given.ResizeDeclared.new_table.Making.{Making}
+use Rattle.papaya_holds.specs.Given.ResizeDeclared.new_table.Making.TheVariants as making
+use Rattle.papaya_holds.specs.Given.ResizeDeclared.new_table.NewTable.{NewTable}
+use Rattle.papaya_lives.specs.Given.TellsSeen.{seen_of}
+use Rattle.papaya_lives.specs.Given.TellerTells.{told_of, StepsTold}
+use Rattle.papaya_lives.specs.Given.TellerDeclared.changed.Changed.{Changed}
+use Rattle.papaya_lives.specs.Given.TellerDeclared.changed.Changed.TheVariants as changed
+use Rattle.papaya_lives.specs.Given.TellerDeclared.changed.Kind.{Kind}
 use Rattle.papaya_owes.specs.Tables.{table_in}
 
 module _ {K V : Type 0} (m m2 : Mem (Node K V)) (told : Changed) (n : NewTable) where

@@ -2,28 +2,28 @@
 use Rattle.std.specs.Prelude.{◌&&◌, ◌≡◌, ◌≢◌, ℕ, ◌+◌, ◌==◌, nat_lt, Bool, true, false, List, [], ◌∷◌, Option, Some, None, if◌then◌else◌}
 use Rattle.std.proofs.Common.{refl, ap, sym, subst, ◌∙◌, inl, inr}
 use Rattle.std.proofs.lemmas.Bool.{cases_eq}
-use Rattle.papaya_holds.specs.Given.SeizeWords.declared.at.At.{At}
-use Rattle.papaya_holds.specs.Given.SeizeWords.declared.at.At.TheVariants.{Root, Used, Slot, Entry, Word}
-use Rattle.papaya_holds.specs.Given.SeizeWords.Word.{block_in}
-use Rattle.papaya_holds.specs.Given.Tables.declared.table_words.TheConstants.{NEXT, DEFERRED}
-use Rattle.papaya_lives.specs.Given.Runs.declared.outcome.TableShape.{TableShape}
-use Rattle.papaya_lives.specs.Given.Schedules.declared.effect.Effect.{Effect}
-use Rattle.papaya_lives.specs.Given.Schedules.declared.effect.Effect.TheVariants as effect
-use Rattle.papaya_lives.specs.Given.Schedules.declared.effect.Growth.TheVariants.{ABucket}
-use Rattle.papaya_lives.specs.Given.Schedules.declared.effect.Spot.{Spot}
-use Rattle.papaya_lives.specs.Given.Schedules.declared.effect.Table.{Table}
-use Rattle.papaya_lives.specs.Given.Schedules.Lists.{put}
-use Rattle.papaya_lives.specs.Given.Teller.declared.changed.Changed.{Changed}
-use Rattle.papaya_lives.specs.Given.Teller.declared.changed.Changed.TheVariants as changed
-use Rattle.papaya_lives.specs.Given.Teller.declared.changed.Kind.{Kind}
-use Rattle.papaya_lives.specs.Given.Teller.declared.changed.Kind.TheVariants as kind
-use Rattle.papaya_lives.specs.Given.Effects.Effects.{caller_of, map_of, table_at, taken_by, names_same, followed_by, led_to, carried, placed, spot_at, is_place, in_table, in_block, named, written_by, effects_of, linked_on, stored_on, in_table_on, in_block_on, written_on, known_after}
-use Rattle.papaya_lives.specs.Given.Effects.Known.{Known}
-use Rattle.papaya_lives.specs.Given.Effects.declared.acting.Acting.{Acting}
-use Rattle.papaya_lives.specs.Given.Effects.declared.role.Role.{Role}
-use Rattle.papaya_lives.specs.Given.Effects.declared.role.Role.TheVariants as role
-use Rattle.papaya_lives.proofs.Given.Follows.Alike.{put_here, put_elsewhere}
-use Rattle.papaya_lives.proofs.Given.Follows.Told.{roomed_as_many}
+use Rattle.papaya_holds.specs.Given.SeizeWordsDeclared.at.At.{At}
+use Rattle.papaya_holds.specs.Given.SeizeWordsDeclared.at.At.TheVariants.{Root, Used, Slot, Entry, Word}
+use Rattle.papaya_holds.specs.Given.SeizeWordsWord.{block_in}
+use Rattle.papaya_holds.specs.Given.TablesDeclared.table_words.TheConstants.{NEXT, DEFERRED}
+use Rattle.papaya_lives.specs.Given.RunsDeclared.outcome.TableShape.{TableShape}
+use Rattle.papaya_lives.specs.Given.SchedulesDeclared.effect.Effect.{Effect}
+use Rattle.papaya_lives.specs.Given.SchedulesDeclared.effect.Effect.TheVariants as effect
+use Rattle.papaya_lives.specs.Given.SchedulesDeclared.effect.Growth.TheVariants.{ABucket}
+use Rattle.papaya_lives.specs.Given.SchedulesDeclared.effect.Spot.{Spot}
+use Rattle.papaya_lives.specs.Given.SchedulesDeclared.effect.Table.{Table}
+use Rattle.papaya_lives.specs.Given.SchedulesLists.{put}
+use Rattle.papaya_lives.specs.Given.TellerDeclared.changed.Changed.{Changed}
+use Rattle.papaya_lives.specs.Given.TellerDeclared.changed.Changed.TheVariants as changed
+use Rattle.papaya_lives.specs.Given.TellerDeclared.changed.Kind.{Kind}
+use Rattle.papaya_lives.specs.Given.TellerDeclared.changed.Kind.TheVariants as kind
+use Rattle.papaya_lives.specs.Given.EffectsEffects.{caller_of, map_of, table_at, taken_by, names_same, followed_by, led_to, carried, placed, spot_at, is_place, in_table, in_block, named, written_by, effects_of, linked_on, stored_on, in_table_on, in_block_on, written_on, known_after}
+use Rattle.papaya_lives.specs.Given.EffectsKnown.{Known}
+use Rattle.papaya_lives.specs.Given.EffectsDeclared.acting.Acting.{Acting}
+use Rattle.papaya_lives.specs.Given.EffectsDeclared.role.Role.{Role}
+use Rattle.papaya_lives.specs.Given.EffectsDeclared.role.Role.TheVariants as role
+use Rattle.papaya_lives.proofs.Given.FollowsAlike.{put_here, put_elsewhere}
+use Rattle.papaya_lives.proofs.Given.FollowsTold.{roomed_as_many}
 use Rattle.papaya_owes.specs.Beside.{NoneOf}
 use Rattle.papaya_owes.proofs.Quiet.{is_of_map, none_if, placed_none, carried_none, pair_back, table_back, retired_none}
 

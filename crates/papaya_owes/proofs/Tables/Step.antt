@@ -1,37 +1,37 @@
 -- What a step of a call leaves of the calls' tables, by what it did.
 use Rattle.std.specs.Prelude.{◌≡◌, ◌≢◌, ◌≤◌, ℕ, Bool, List, length, Option, Some, None}
 use Rattle.std.proofs.Common.{refl, ap, sym, subst, ◌∙◌, inl, inr}
-use Rattle.papaya_holds.specs.Given.SeizeWords.Word.{block_in}
-use Rattle.papaya_holds.specs.Given.Seize.World.{World}
-use Rattle.papaya_holds.specs.Given.Seize.declared.progress.Progress.TheVariants as progress
-use Rattle.papaya_holds.specs.Given.Tables.declared.node.Node.{Node}
-use Rattle.papaya_holds.specs.Given.Tables.declared.node.Node.TheVariants as node
-use Rattle.papaya_holds.specs.Given.Tables.declared.table.Table.{Table as Planned}
-use Rattle.papaya_holds.specs.Given.Resize.declared.new_table.Making.{Making}
-use Rattle.papaya_holds.specs.Given.Resize.declared.new_table.Making.TheVariants as making
-use Rattle.papaya_holds.specs.Given.Resize.declared.new_table.NewTable.{NewTable}
-use Rattle.papaya_holds.specs.Given.Raw.declared.machines.machine.Machine.{Machine}
-use Rattle.papaya_holds.specs.Given.Raw.declared.machines.progress.Progress.{Progress}
-use Rattle.papaya_holds.specs.Given.Raw.declared.machines.progress.Progress.TheVariants as said_so
-use Rattle.papaya_lives.specs.Given.Schedules.Effects.{with_effects}
-use Rattle.papaya_lives.specs.Given.Schedules.Moment.{Moment}
-use Rattle.papaya_lives.specs.Given.Schedules.Views.{tables_of}
-use Rattle.papaya_lives.specs.Given.Teller.Changed.{kind_of}
-use Rattle.papaya_lives.specs.Given.Teller.declared.changed.Changed.{Changed}
-use Rattle.papaya_lives.specs.Given.Teller.declared.changed.Changed.TheVariants as changed
-use Rattle.papaya_lives.specs.Given.Teller.declared.changed.Kind.TheVariants as kind
-use Rattle.papaya_holds.specs.Given.Callers.Together.{UnderWay}
-use Rattle.papaya_lives.specs.Given.Effects.Effects.{effects_of, known_after}
-use Rattle.papaya_lives.specs.Given.Effects.Known.{Known}
-use Rattle.papaya_lives.specs.Given.Effects.declared.acting.Acting.{Acting}
-use Rattle.papaya_lives.specs.Given.Effects.declared.acting.Acting.TheVariants as acts
-use Rattle.papaya_holds.specs.Given.Finishes.Machines.{machine_of, GoesOnAs}
-use Rattle.papaya_lives.specs.Given.Follows.Shows.{Shows}
-use Rattle.papaya_lives.proofs.Given.Follows.Calling.{is_same_refl}
-use Rattle.papaya_lives.proofs.Given.Follows.Operations.{LeavesBy, operated_leaves}
-use Rattle.papaya_lives.proofs.Given.Follows.Steps.{WentTo, went_to, made_so, one_of}
-use Rattle.papaya_lives.specs.Given.Moments.Whole.{ShowsWhole}
-use Rattle.papaya_lives.proofs.Given.Moments.Calls.{calls_keep_whole}
+use Rattle.papaya_holds.specs.Given.SeizeWordsWord.{block_in}
+use Rattle.papaya_holds.specs.Given.SeizeWorld.{World}
+use Rattle.papaya_holds.specs.Given.SeizeDeclared.progress.Progress.TheVariants as progress
+use Rattle.papaya_holds.specs.Given.TablesDeclared.node.Node.{Node}
+use Rattle.papaya_holds.specs.Given.TablesDeclared.node.Node.TheVariants as node
+use Rattle.papaya_holds.specs.Given.TablesDeclared.table.Table.{Table as Planned}
+use Rattle.papaya_holds.specs.Given.ResizeDeclared.new_table.Making.{Making}
+use Rattle.papaya_holds.specs.Given.ResizeDeclared.new_table.Making.TheVariants as making
+use Rattle.papaya_holds.specs.Given.ResizeDeclared.new_table.NewTable.{NewTable}
+use Rattle.papaya_holds.specs.Given.RawDeclared.machines.machine.Machine.{Machine}
+use Rattle.papaya_holds.specs.Given.RawDeclared.machines.progress.Progress.{Progress}
+use Rattle.papaya_holds.specs.Given.RawDeclared.machines.progress.Progress.TheVariants as said_so
+use Rattle.papaya_lives.specs.Given.SchedulesEffects.{with_effects}
+use Rattle.papaya_lives.specs.Given.SchedulesMoment.{Moment}
+use Rattle.papaya_lives.specs.Given.SchedulesViews.{tables_of}
+use Rattle.papaya_lives.specs.Given.TellerChanged.{kind_of}
+use Rattle.papaya_lives.specs.Given.TellerDeclared.changed.Changed.{Changed}
+use Rattle.papaya_lives.specs.Given.TellerDeclared.changed.Changed.TheVariants as changed
+use Rattle.papaya_lives.specs.Given.TellerDeclared.changed.Kind.TheVariants as kind
+use Rattle.papaya_holds.specs.Given.CallersTogether.{UnderWay}
+use Rattle.papaya_lives.specs.Given.EffectsEffects.{effects_of, known_after}
+use Rattle.papaya_lives.specs.Given.EffectsKnown.{Known}
+use Rattle.papaya_lives.specs.Given.EffectsDeclared.acting.Acting.{Acting}
+use Rattle.papaya_lives.specs.Given.EffectsDeclared.acting.Acting.TheVariants as acts
+use Rattle.papaya_holds.specs.Given.FinishesMachines.{machine_of, GoesOnAs}
+use Rattle.papaya_lives.specs.Given.FollowsShows.{Shows}
+use Rattle.papaya_lives.proofs.Given.FollowsCalling.{is_same_refl}
+use Rattle.papaya_lives.proofs.Given.FollowsOperations.{LeavesBy, operated_leaves}
+use Rattle.papaya_lives.proofs.Given.FollowsSteps.{WentTo, went_to, made_so, one_of}
+use Rattle.papaya_lives.specs.Given.MomentsWhole.{ShowsWhole}
+use Rattle.papaya_lives.proofs.Given.MomentsCalls.{calls_keep_whole}
 use Rattle.papaya_owes.specs.Making.{making_of}
 use Rattle.papaya_owes.specs.Tables.{table_in, table_made, HoldsTable, ShowsTables}
 use Rattle.papaya_owes.proofs.Kept.{calls_beside, calls_its}
@@ -43,9 +43,9 @@ use Rattle.papaya_owes.proofs.Tables.Hosts.{Within, CallGoes, CallRefuses, step_
 use Rattle.papaya_owes.proofs.Tables.Kinds.{which_made}
 use Rattle.papaya_owes.proofs.Tables.Leaves.{IsOneStep, LeavesTables, left_without}
 use Rattle.papaya_owes.proofs.Tables.Roles.{FreeBefore, does_to_tables}
-use Rattle.papaya_lives.specs.Given.Scenes.Held.{Held, IsAt}
-use Rattle.papaya_lives.specs.Given.Scenes.Scene.{Scene}
-use Rattle.papaya_lives.specs.Given.Scenes.Stepping.{StepLeads, scene_after}
+use Rattle.papaya_lives.specs.Given.ScenesHeld.{Held, IsAt}
+use Rattle.papaya_lives.specs.Given.ScenesScene.{Scene}
+use Rattle.papaya_lives.specs.Given.ScenesStepping.{StepLeads, scene_after}
 
 -- the table that a call has made, if it is under way
 abbrev pub next_table : {K V : Type 0} → Option (UnderWay K V K) → Option Planned

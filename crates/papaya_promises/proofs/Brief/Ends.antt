@@ -1,24 +1,24 @@
 -- An event of a lookup reads briefly.
 use Rattle.std.specs.Prelude.{◌≡◌, ℕ, suc, ◌+◌, ◌≤◌, Bool, true, false, List, ◌∷◌, Option, Some, None, MatchBool}
 use Rattle.std.proofs.Common.{refl, ap, sym, subst, ◌∙◌, arith}
-use Rattle.papaya_mapping.specs.Given.Tables.Chunks.{is_incremental}
-use Rattle.papaya_mapping.specs.Given.Schedules.declared.call.Call.{Call}
-use Rattle.papaya_mapping.specs.Given.Schedules.declared.call.Call.TheVariants as call
-use Rattle.papaya_mapping.specs.Given.Schedules.Entry.{IfCall, acting}
-use Rattle.papaya_mapping.specs.Given.Schedules.Lists.{OneOf}
-use Rattle.papaya_mapping.specs.Given.Schedules.Moment.{UnderWay as CallThere, Moment}
-use Rattle.papaya_mapping.specs.Given.Schedules.Sequential.{is_lookup}
-use Rattle.papaya_mapping.specs.Given.Schedules.Steps.{ReadsFew, IsBrief}
-use Rattle.papaya_mapping.specs.Given.Schedules.Views.{map_at, grows_in_chunks}
-use Rattle.papaya_mapping.specs.Given.Callers.Together.{UnderWay, OnKey, ForRoom, Counting, OverAll}
-use Rattle.papaya_mapping.specs.Given.Finishes.Maps.{Standing}
-use Rattle.papaya_mapping.specs.Given.Effects.Known.{Known}
-use Rattle.papaya_mapping.specs.Given.Follows.Maps.{ShowsThere, ShowsTables}
+use Rattle.papaya_mapping.specs.Given.TablesChunks.{is_incremental}
+use Rattle.papaya_mapping.specs.Given.SchedulesDeclared.call.Call.{Call}
+use Rattle.papaya_mapping.specs.Given.SchedulesDeclared.call.Call.TheVariants as call
+use Rattle.papaya_mapping.specs.Given.SchedulesEntry.{IfCall, acting}
+use Rattle.papaya_mapping.specs.Given.SchedulesLists.{OneOf}
+use Rattle.papaya_mapping.specs.Given.SchedulesMoment.{UnderWay as CallThere, Moment}
+use Rattle.papaya_mapping.specs.Given.SchedulesSequential.{is_lookup}
+use Rattle.papaya_mapping.specs.Given.SchedulesSteps.{ReadsFew, IsBrief}
+use Rattle.papaya_mapping.specs.Given.SchedulesViews.{map_at, grows_in_chunks}
+use Rattle.papaya_mapping.specs.Given.CallersTogether.{UnderWay, OnKey, ForRoom, Counting, OverAll}
+use Rattle.papaya_mapping.specs.Given.FinishesMaps.{Standing}
+use Rattle.papaya_mapping.specs.Given.EffectsKnown.{Known}
+use Rattle.papaya_mapping.specs.Given.FollowsMaps.{ShowsThere, ShowsTables}
 use Rattle.papaya_promises.specs.Brief.{ReadsSince}
 use Rattle.papaya_promises.specs.Reading.{looks, HasLooked, EventsReadBriefly, HasReadFew}
 use Rattle.papaya_promises.proofs.Brief.Shown.{one_as, readings_are_few}
-use Rattle.papaya_mapping.specs.Given.Schedules.Transition.{Past}
-use Rattle.papaya_mapping.specs.Given.Histories.Histories.{IsPast}
+use Rattle.papaya_mapping.specs.Given.SchedulesTransition.{Past}
+use Rattle.papaya_mapping.specs.Given.HistoriesHistories.{IsPast}
 
 module _ {K V : Type 0} (map : ℕ) (s : Standing K) (m : Moment K V) (known : Known) (there : ShowsThere map s m known) (tables : ShowsTables map s m known) (c : CallThere K V) (c_map : c.map ≡ map)
     (log : Past K V) (is_past : IsPast log) (begun : c.begun ≤ log.entries) (steps : ℕ) where

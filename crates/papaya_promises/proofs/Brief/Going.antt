@@ -2,41 +2,41 @@
 use Rattle.std.specs.Prelude.{◌==◌, if◌then◌else◌}
 use Rattle.std.proofs.Common.{◌≡◌, ℕ, suc, ◌+◌, ◌/◌, ◌^◌, ◌<◌, ◌≤◌, Bool, true, false, Option, Some, None, ◌⊎◌, inl, inr, refl, ap, sym, subst, ◌∙◌, arith}
 use Rattle.std.proofs.lemmas.Bool.{eqb-false}
-use Rattle.papaya_mapping.specs.Given.SeizeWords.declared.at.At.TheVariants.{Root}
-use Rattle.papaya_mapping.specs.Given.SeizeWords.Mem.{Mem, Took, value_at, word_at}
-use Rattle.papaya_mapping.specs.Given.SeizeWords.Plan.{Steps, Ends, Now, Seeing}
-use Rattle.papaya_mapping.proofs.Given.SeizeWords.OneOwner.Operations.{loaded}
-use Rattle.papaya_mapping.proofs.Given.SeizeWords.Plans.{ends_if}
-use Rattle.papaya_mapping.specs.Given.Seize.declared.progress.Progress.{Progress}
-use Rattle.papaya_mapping.specs.Given.Tables.Chunks.{is_incremental}
-use Rattle.papaya_mapping.specs.Given.Tables.Finding.{finding}
-use Rattle.papaya_mapping.specs.Given.Tables.Nodes.{table_seen}
-use Rattle.papaya_mapping.specs.Given.Tables.TablePlaces.{at_word}
-use Rattle.papaya_mapping.specs.Given.Tables.Trials.{first_trial, next_trial}
-use Rattle.papaya_mapping.specs.Given.Tables.declared.finding.Aim.TheVariants.{Looks}
-use Rattle.papaya_mapping.specs.Given.Tables.declared.finding.Finding.{Finding}
-use Rattle.papaya_mapping.specs.Given.Tables.declared.finding.Finding.TheVariants as is
-use Rattle.papaya_mapping.specs.Given.Tables.declared.node.Node.{Node}
-use Rattle.papaya_mapping.specs.Given.Tables.declared.resize_mode.ResizeMode.{ResizeMode}
-use Rattle.papaya_mapping.specs.Given.Tables.declared.table.Table.{Table}
-use Rattle.papaya_mapping.specs.Given.Tables.declared.table_words.TheConstants.{NEXT}
-use Rattle.papaya_mapping.specs.Given.Tables.declared.trial.Trial.{Trial}
-use Rattle.papaya_mapping.specs.Given.Resize.Lookup.{answered, going, passed, told_of, table_read, link_found, roots, nexts, probes, plan_at, lookup_plan}
-use Rattle.papaya_mapping.specs.Given.Resize.declared.lookup.Lookup.{Lookup}
-use Rattle.papaya_mapping.specs.Given.Resize.declared.lookup.Looking.{Looking}
-use Rattle.papaya_mapping.specs.Given.Resize.declared.lookup.Looking.TheVariants as at
-use Rattle.papaya_mapping.specs.Given.Rule.Chart.{Chart}
-use Rattle.papaya_mapping.specs.Given.Rule.Links.{LeadsTo}
-use Rattle.papaya_mapping.specs.Given.Rule.Words.{Blocks, place_word}
-use Rattle.papaya_mapping.specs.Given.Rule.Maps.{spot_at, IsMap, IsClass, IsTable, IsTrial}
-use Rattle.papaya_mapping.proofs.Given.Rule.Keys.TriesSeen.{IsNext, next_is}
-use Rattle.papaya_mapping.proofs.Given.Rule.Words.LinksSeen.{root_leads, next_leads}
-use Rattle.papaya_mapping.proofs.Given.Rule.Words.TablesSeen.{table_is}
-use Rattle.papaya_mapping.specs.Given.Points.FactsLooks.{LookingFacts}
-use Rattle.papaya_mapping.specs.Given.Points.Steps.{AreLawful}
-use Rattle.papaya_mapping.proofs.Given.Points.Lookups.Reads.{SeesPlace, sees_place, probes_tell}
-use Rattle.papaya_mapping.specs.Given.Late.LateLooks.{LateLooking, LateLookupFacts}
-use Rattle.papaya_mapping.specs.Given.Schedules.Lives.{IsFrom}
+use Rattle.papaya_mapping.specs.Given.SeizeWordsDeclared.at.At.TheVariants.{Root}
+use Rattle.papaya_mapping.specs.Given.SeizeWordsMem.{Mem, Took, value_at, word_at}
+use Rattle.papaya_mapping.specs.Given.SeizeWordsPlan.{Steps, Ends, Now, Seeing}
+use Rattle.papaya_mapping.proofs.Given.SeizeWordsOneOwner.Operations.{loaded}
+use Rattle.papaya_mapping.proofs.Given.SeizeWordsPlans.{ends_if}
+use Rattle.papaya_mapping.specs.Given.SeizeDeclared.progress.Progress.{Progress}
+use Rattle.papaya_mapping.specs.Given.TablesChunks.{is_incremental}
+use Rattle.papaya_mapping.specs.Given.TablesFinding.{finding}
+use Rattle.papaya_mapping.specs.Given.TablesNodes.{table_seen}
+use Rattle.papaya_mapping.specs.Given.TablesTablePlaces.{at_word}
+use Rattle.papaya_mapping.specs.Given.TablesTrials.{first_trial, next_trial}
+use Rattle.papaya_mapping.specs.Given.TablesDeclared.finding.Aim.TheVariants.{Looks}
+use Rattle.papaya_mapping.specs.Given.TablesDeclared.finding.Finding.{Finding}
+use Rattle.papaya_mapping.specs.Given.TablesDeclared.finding.Finding.TheVariants as is
+use Rattle.papaya_mapping.specs.Given.TablesDeclared.node.Node.{Node}
+use Rattle.papaya_mapping.specs.Given.TablesDeclared.resize_mode.ResizeMode.{ResizeMode}
+use Rattle.papaya_mapping.specs.Given.TablesDeclared.table.Table.{Table}
+use Rattle.papaya_mapping.specs.Given.TablesDeclared.table_words.TheConstants.{NEXT}
+use Rattle.papaya_mapping.specs.Given.TablesDeclared.trial.Trial.{Trial}
+use Rattle.papaya_mapping.specs.Given.ResizeLookup.{answered, going, passed, told_of, table_read, link_found, roots, nexts, probes, plan_at, lookup_plan}
+use Rattle.papaya_mapping.specs.Given.ResizeDeclared.lookup.Lookup.{Lookup}
+use Rattle.papaya_mapping.specs.Given.ResizeDeclared.lookup.Looking.{Looking}
+use Rattle.papaya_mapping.specs.Given.ResizeDeclared.lookup.Looking.TheVariants as at
+use Rattle.papaya_mapping.specs.Given.RuleChart.{Chart}
+use Rattle.papaya_mapping.specs.Given.RuleLinks.{LeadsTo}
+use Rattle.papaya_mapping.specs.Given.RuleWords.{Blocks, place_word}
+use Rattle.papaya_mapping.specs.Given.RuleMaps.{spot_at, IsMap, IsClass, IsTable, IsTrial}
+use Rattle.papaya_mapping.proofs.Given.RuleKeys.TriesSeen.{IsNext, next_is}
+use Rattle.papaya_mapping.proofs.Given.RuleWords.LinksSeen.{root_leads, next_leads}
+use Rattle.papaya_mapping.proofs.Given.RuleWords.TablesSeen.{table_is}
+use Rattle.papaya_mapping.specs.Given.PointsFactsLooks.{LookingFacts}
+use Rattle.papaya_mapping.specs.Given.PointsSteps.{AreLawful}
+use Rattle.papaya_mapping.proofs.Given.PointsLookups.Reads.{SeesPlace, sees_place, probes_tell}
+use Rattle.papaya_mapping.specs.Given.LateLateLooks.{LateLooking, LateLookupFacts}
+use Rattle.papaya_mapping.specs.Given.SchedulesLives.{IsFrom}
 use Rattle.papaya_promises.specs.Brief.{read_to, HasRead, ReadsAt, ReadsOn, IsRootOf, LookupsReadOn}
 use Rattle.papaya_promises.proofs.Brief.Sums.{one_more}
 

@@ -2,27 +2,27 @@
 use Rattle.std.specs.Prelude.{◌≡◌, ℕ, Bool, Option, Some, None}
 use Rattle.std.proofs.Common.{refl, ap, sym, subst, ◌∙◌, inl, inr}
 use Rattle.std.proofs.lemmas.Bool.{cases_eq}
-use Rattle.papaya_mapping.specs.Given.Seize.World.{World, with_at, IsInside}
-use Rattle.papaya_mapping.specs.Given.Tables.declared.node.Node.{Node}
-use Rattle.papaya_mapping.specs.Given.Raw.declared.machines.progress.Progress.{Progress}
-use Rattle.papaya_mapping.specs.Given.Rule.Chart.{Chart}
-use Rattle.papaya_mapping.specs.Given.Rule.InWorld.{IsMapIn, Went}
-use Rattle.papaya_mapping.specs.Given.Rule.Words.{Blocks}
-use Rattle.papaya_mapping.proofs.Given.Points.MovedLasts.{moved_lasts}
-use Rattle.papaya_mapping.specs.Given.Callers.Sights.{Sight, seen_by}
-use Rattle.papaya_mapping.specs.Given.Callers.Together.{UnderWay, OnKey, ForRoom, Counting, OverAll, Together, in_slot}
-use Rattle.papaya_mapping.proofs.Given.Callers.Sights.Seen.{map_seen}
-use Rattle.papaya_mapping.proofs.Given.Callers.Together.At.{at_same}
-use Rattle.papaya_mapping.proofs.Given.Callers.Together.Fits.{map_in_slot}
-use Rattle.papaya_mapping.specs.Given.Finishes.Machines.{DidOfKind}
-use Rattle.papaya_mapping.specs.Given.Finishes.Maps.{Standing, IsSameMap}
-use Rattle.papaya_mapping.proofs.Given.Follows.Steps.{one_of}
+use Rattle.papaya_mapping.specs.Given.SeizeWorld.{World, with_at, IsInside}
+use Rattle.papaya_mapping.specs.Given.TablesDeclared.node.Node.{Node}
+use Rattle.papaya_mapping.specs.Given.RawDeclared.machines.progress.Progress.{Progress}
+use Rattle.papaya_mapping.specs.Given.RuleChart.{Chart}
+use Rattle.papaya_mapping.specs.Given.RuleInWorld.{IsMapIn, Went}
+use Rattle.papaya_mapping.specs.Given.RuleWords.{Blocks}
+use Rattle.papaya_mapping.proofs.Given.PointsMovedLasts.{moved_lasts}
+use Rattle.papaya_mapping.specs.Given.CallersSights.{Sight, seen_by}
+use Rattle.papaya_mapping.specs.Given.CallersTogether.{UnderWay, OnKey, ForRoom, Counting, OverAll, Together, in_slot}
+use Rattle.papaya_mapping.proofs.Given.CallersSights.Seen.{map_seen}
+use Rattle.papaya_mapping.proofs.Given.CallersTogether.At.{at_same}
+use Rattle.papaya_mapping.proofs.Given.CallersTogether.Fits.{map_in_slot}
+use Rattle.papaya_mapping.specs.Given.FinishesMachines.{DidOfKind}
+use Rattle.papaya_mapping.specs.Given.FinishesMaps.{Standing, IsSameMap}
+use Rattle.papaya_mapping.proofs.Given.FollowsSteps.{one_of}
 use Rattle.papaya_promises.specs.Brief.{TablesLast}
 use Rattle.papaya_promises.specs.Reading.{HasStood}
 use Rattle.papaya_promises.proofs.Brief.Stays.{same_tables}
-use Rattle.papaya_mapping.specs.Given.Scenes.Held.{Held, IsAt}
-use Rattle.papaya_mapping.specs.Given.Scenes.Scene.{Scene, slot_of}
-use Rattle.papaya_mapping.specs.Given.Scenes.Stepping.{StepLeads}
+use Rattle.papaya_mapping.specs.Given.ScenesHeld.{Held, IsAt}
+use Rattle.papaya_mapping.specs.Given.ScenesScene.{Scene, slot_of}
+use Rattle.papaya_mapping.specs.Given.ScenesStepping.{StepLeads}
 
 -- a map that is as it was
 pub same_stood : {K : Type 0} (maps : ℕ → Option (Standing K)) (n : ℕ) (after : Option (Standing K)) → IsSameMap (maps n) after → (st : Standing K) → after ≡ Some st → HasStood maps n st

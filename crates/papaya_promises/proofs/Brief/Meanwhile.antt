@@ -1,42 +1,42 @@
 -- What lookups under way have read, where calls begin, step and come to an outcome meanwhile.
 use Rattle.std.specs.Prelude.{◌≡◌, ℕ, ◌+◌, ◌≤◌, Bool, true, false, cond, not, List, [], ◌∷◌, find, map, Option, Some, None, ◌⊎◌, if◌then◌else◌}
 use Rattle.std.proofs.Common.{refl, ap, sym, subst, ◌∙◌, arith, inl, inr}
-use Rattle.papaya_mapping.specs.Given.Runs.Same.{is_same}
-use Rattle.papaya_mapping.specs.Given.Schedules.declared.call.Call.{Call}
-use Rattle.papaya_mapping.specs.Given.Schedules.declared.call.Call.TheVariants as call
-use Rattle.papaya_mapping.specs.Given.Schedules.declared.effect.Effect.{Effect}
-use Rattle.papaya_mapping.specs.Given.Schedules.declared.effect.Effect.TheVariants as effect
-use Rattle.papaya_mapping.specs.Given.Schedules.declared.outcome.Outcome.{Outcome}
-use Rattle.papaya_mapping.specs.Given.Schedules.declared.outcome.Outcome.TheVariants as outcome
-use Rattle.papaya_mapping.specs.Given.Tables.Chunks.{is_incremental}
-use Rattle.papaya_mapping.specs.Given.Rule.Chart.{Chart}
-use Rattle.papaya_mapping.specs.Given.Schedules.After.{asks_on, comes_to, without_call, replied}
-use Rattle.papaya_mapping.specs.Given.Schedules.Beginning.{fresh_call, with_call}
-use Rattle.papaya_mapping.specs.Given.Schedules.Effects.{due_for, call_by, with_effect, with_effects}
-use Rattle.papaya_mapping.specs.Given.Schedules.Entry.{ends_call}
-use Rattle.papaya_mapping.specs.Given.Schedules.Moment.{Stands, Going, Asking, Told, IsReady, UnderWay as CallThere, Moment}
-use Rattle.papaya_mapping.specs.Given.Schedules.Views.{call_of}
-use Rattle.papaya_mapping.specs.Given.Callers.Together.{UnderWay}
-use Rattle.papaya_mapping.specs.Given.Effects.Effects.{effects_of}
-use Rattle.papaya_mapping.specs.Given.Effects.declared.acting.Acting.TheVariants as acts
-use Rattle.papaya_mapping.specs.Given.Schedules.declared.call.Reply.{Reply}
-use Rattle.papaya_mapping.specs.Given.Finishes.Maps.{Standing}
-use Rattle.papaya_mapping.specs.Given.Follows.Calling.{NoneNamed, come_to, told}
-use Rattle.papaya_mapping.proofs.Given.Follows.Calling.{is_same_refl, apart_back, come, come_of_same, found_kept, replied_same}
-use Rattle.papaya_mapping.proofs.Given.Follows.Calls.{changed_same, changed, of_same, found}
-use Rattle.papaya_mapping.proofs.Given.Follows.Steps.{one_of}
-use Rattle.papaya_mapping.proofs.Given.Hands.Asking.{which}
-use Rattle.papaya_mapping.proofs.Given.Hands.Calling.{caller_is}
-use Rattle.papaya_mapping.proofs.Given.Histories.Begun.{effects_begun, comes_begun, if_begun, replied_begun}
-use Rattle.papaya_mapping.specs.Given.Others.Rows.{scene_then}
+use Rattle.papaya_mapping.specs.Given.RunsSame.{is_same}
+use Rattle.papaya_mapping.specs.Given.SchedulesDeclared.call.Call.{Call}
+use Rattle.papaya_mapping.specs.Given.SchedulesDeclared.call.Call.TheVariants as call
+use Rattle.papaya_mapping.specs.Given.SchedulesDeclared.effect.Effect.{Effect}
+use Rattle.papaya_mapping.specs.Given.SchedulesDeclared.effect.Effect.TheVariants as effect
+use Rattle.papaya_mapping.specs.Given.SchedulesDeclared.outcome.Outcome.{Outcome}
+use Rattle.papaya_mapping.specs.Given.SchedulesDeclared.outcome.Outcome.TheVariants as outcome
+use Rattle.papaya_mapping.specs.Given.TablesChunks.{is_incremental}
+use Rattle.papaya_mapping.specs.Given.RuleChart.{Chart}
+use Rattle.papaya_mapping.specs.Given.SchedulesAfter.{asks_on, comes_to, without_call, replied}
+use Rattle.papaya_mapping.specs.Given.SchedulesBeginning.{fresh_call, with_call}
+use Rattle.papaya_mapping.specs.Given.SchedulesEffects.{due_for, call_by, with_effect, with_effects}
+use Rattle.papaya_mapping.specs.Given.SchedulesEntry.{ends_call}
+use Rattle.papaya_mapping.specs.Given.SchedulesMoment.{Stands, Going, Asking, Told, IsReady, UnderWay as CallThere, Moment}
+use Rattle.papaya_mapping.specs.Given.SchedulesViews.{call_of}
+use Rattle.papaya_mapping.specs.Given.CallersTogether.{UnderWay}
+use Rattle.papaya_mapping.specs.Given.EffectsEffects.{effects_of}
+use Rattle.papaya_mapping.specs.Given.EffectsDeclared.acting.Acting.TheVariants as acts
+use Rattle.papaya_mapping.specs.Given.SchedulesDeclared.call.Reply.{Reply}
+use Rattle.papaya_mapping.specs.Given.FinishesMaps.{Standing}
+use Rattle.papaya_mapping.specs.Given.FollowsCalling.{NoneNamed, come_to, told}
+use Rattle.papaya_mapping.proofs.Given.FollowsCalling.{is_same_refl, apart_back, come, come_of_same, found_kept, replied_same}
+use Rattle.papaya_mapping.proofs.Given.FollowsCalls.{changed_same, changed, of_same, found}
+use Rattle.papaya_mapping.proofs.Given.FollowsSteps.{one_of}
+use Rattle.papaya_mapping.proofs.Given.HandsAsking.{which}
+use Rattle.papaya_mapping.proofs.Given.HandsCalling.{caller_is}
+use Rattle.papaya_mapping.proofs.Given.HistoriesBegun.{effects_begun, comes_begun, if_begun, replied_begun}
+use Rattle.papaya_mapping.specs.Given.OthersRows.{scene_then}
 use Rattle.papaya_promises.specs.Brief.{ReadsSince}
 use Rattle.papaya_promises.specs.Meanwhile.{CallsComeToReadings, CallsBeginReadings, OthersKeepReadings, OtherWorkKeepsReadings, RowsKeepReadings, CallsTakeReadings}
 use Rattle.papaya_promises.specs.Reading.{looks, HasLooked, HasStood}
 use Rattle.papaya_promises.proofs.Brief.Maps.{same_stood, maps_stood}
 use Rattle.papaya_promises.proofs.Brief.Stays.{same_tables, readings_stay}
-use Rattle.papaya_mapping.specs.Given.Scenes.Replying.{scene_with}
-use Rattle.papaya_mapping.specs.Given.Scenes.Scene.{Scene}
-use Rattle.papaya_mapping.specs.Given.Scenes.Stepping.{scene_after}
+use Rattle.papaya_mapping.specs.Given.ScenesReplying.{scene_with}
+use Rattle.papaya_mapping.specs.Given.ScenesScene.{Scene}
+use Rattle.papaya_mapping.specs.Given.ScenesStepping.{scene_after}
 
 module _ {K V : Type 0} where
   asks_steps : (question : Option ℕ) (c : CallThere K V) (stands : Stands) → (asks_on question c stands).steps ≡ c.steps

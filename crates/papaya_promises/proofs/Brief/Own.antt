@@ -1,54 +1,54 @@
 -- A step of a lookup, as one of many calls: it does nothing, and has read one word more.
 use Rattle.std.specs.Prelude.{◌≡◌, ℕ, suc, Bool, Option, Some, None, ◌⊎◌}
 use Rattle.std.proofs.Common.{ap, sym, subst, ◌∙◌, inl, inr}
-use Rattle.papaya_mapping.specs.Given.SeizeWords.Mem.{Mem, Took, value_at}
-use Rattle.papaya_mapping.specs.Given.SeizeWords.Plan.{Steps}
-use Rattle.papaya_mapping.proofs.Given.SeizeRule.Rows.Leaving.{steps_back}
-use Rattle.papaya_mapping.specs.Given.Seize.World.{Rests}
-use Rattle.papaya_mapping.specs.Given.Seize.declared.progress.Progress.{Progress as Stepped}
-use Rattle.papaya_mapping.specs.Given.Tables.Chunks.{is_incremental}
-use Rattle.papaya_mapping.specs.Given.Tables.declared.node.Node.{Node}
-use Rattle.papaya_mapping.specs.Given.Resize.Lookup.{lookup_plan}
-use Rattle.papaya_mapping.specs.Given.Resize.Lookup as lookups
-use Rattle.papaya_mapping.specs.Given.Resize.declared.lookup.Lookup.{Lookup}
-use Rattle.papaya_mapping.specs.Given.Resize.declared.lookup.Looking.{Looking}
-use Rattle.papaya_mapping.specs.Given.Resize.declared.lookup.Looking.TheVariants as looking
-use Rattle.papaya_mapping.specs.Given.Raw.Call.{call_plan, looked, looks_for, plan_at}
-use Rattle.papaya_mapping.specs.Given.Raw.Machine.{called, machine_plan}
-use Rattle.papaya_mapping.specs.Given.Raw.Progress.{of_called}
-use Rattle.papaya_mapping.specs.Given.Raw.declared.machines.answer.Called.{Called}
-use Rattle.papaya_mapping.specs.Given.Raw.declared.machines.call.Calling.{Calling}
-use Rattle.papaya_mapping.specs.Given.Raw.declared.machines.call.Calling.TheVariants as at
-use Rattle.papaya_mapping.specs.Given.Raw.declared.machines.call.KeyCall.{KeyCall}
-use Rattle.papaya_mapping.specs.Given.Raw.declared.machines.machine.Machine.{Machine}
-use Rattle.papaya_mapping.specs.Given.Raw.declared.machines.machine.Machine.TheVariants as kinds
-use Rattle.papaya_mapping.specs.Given.Raw.declared.machines.progress.Progress.{Progress}
-use Rattle.papaya_mapping.specs.Given.Rule.Chart.{Chart}
-use Rattle.papaya_mapping.specs.Given.Rule.InWorld.{IsMapIn}
-use Rattle.papaya_mapping.specs.Given.Rule.Words.{Blocks}
-use Rattle.papaya_mapping.specs.Given.Points.FactsCalls.{Unchanged, CallingFacts, CallFacts}
-use Rattle.papaya_mapping.specs.Given.Points.Steps.{AreLawful}
-use Rattle.papaya_mapping.specs.Given.Points.Told.{IsRowOfCall}
-use Rattle.papaya_mapping.proofs.Given.Points.Lookups.LooksAsked.{class_asked, lookup_asked}
-use Rattle.papaya_mapping.specs.Given.Late.LateCalls.{LateCalling, LateCallFacts}
-use Rattle.papaya_mapping.specs.Given.Callers.Rows.{row_of, once_over}
-use Rattle.papaya_mapping.specs.Given.Callers.Sights.{seen_by}
-use Rattle.papaya_mapping.specs.Given.Callers.Together.{CallOnKey, OnKey, ForRoom, Counting, OverAll, Together, Knows, in_slot}
-use Rattle.papaya_mapping.proofs.Given.Callers.Sights.Seen.{map_seen}
-use Rattle.papaya_mapping.proofs.Given.Callers.Together.Fits.{map_in_slot}
-use Rattle.papaya_mapping.specs.Given.Teller.Tells.{StepsTold}
-use Rattle.papaya_mapping.specs.Given.Teller.declared.changed.Changed.{Changed}
-use Rattle.papaya_mapping.specs.Given.Teller.declared.changed.Changed.TheVariants as changed
-use Rattle.papaya_mapping.proofs.Given.Others.Outcomes.{told_in}
-use Rattle.papaya_mapping.specs.Given.Effects.Effects.{effects_of}
-use Rattle.papaya_mapping.specs.Given.Effects.declared.acting.Acting.TheVariants as acts
+use Rattle.papaya_mapping.specs.Given.SeizeWordsMem.{Mem, Took, value_at}
+use Rattle.papaya_mapping.specs.Given.SeizeWordsPlan.{Steps}
+use Rattle.papaya_mapping.proofs.Given.SeizeRuleRows.Leaving.{steps_back}
+use Rattle.papaya_mapping.specs.Given.SeizeWorld.{Rests}
+use Rattle.papaya_mapping.specs.Given.SeizeDeclared.progress.Progress.{Progress as Stepped}
+use Rattle.papaya_mapping.specs.Given.TablesChunks.{is_incremental}
+use Rattle.papaya_mapping.specs.Given.TablesDeclared.node.Node.{Node}
+use Rattle.papaya_mapping.specs.Given.ResizeLookup.{lookup_plan}
+use Rattle.papaya_mapping.specs.Given.ResizeLookup as lookups
+use Rattle.papaya_mapping.specs.Given.ResizeDeclared.lookup.Lookup.{Lookup}
+use Rattle.papaya_mapping.specs.Given.ResizeDeclared.lookup.Looking.{Looking}
+use Rattle.papaya_mapping.specs.Given.ResizeDeclared.lookup.Looking.TheVariants as looking
+use Rattle.papaya_mapping.specs.Given.RawCall.{call_plan, looked, looks_for, plan_at}
+use Rattle.papaya_mapping.specs.Given.RawMachine.{called, machine_plan}
+use Rattle.papaya_mapping.specs.Given.RawProgress.{of_called}
+use Rattle.papaya_mapping.specs.Given.RawDeclared.machines.answer.Called.{Called}
+use Rattle.papaya_mapping.specs.Given.RawDeclared.machines.call.Calling.{Calling}
+use Rattle.papaya_mapping.specs.Given.RawDeclared.machines.call.Calling.TheVariants as at
+use Rattle.papaya_mapping.specs.Given.RawDeclared.machines.call.KeyCall.{KeyCall}
+use Rattle.papaya_mapping.specs.Given.RawDeclared.machines.machine.Machine.{Machine}
+use Rattle.papaya_mapping.specs.Given.RawDeclared.machines.machine.Machine.TheVariants as kinds
+use Rattle.papaya_mapping.specs.Given.RawDeclared.machines.progress.Progress.{Progress}
+use Rattle.papaya_mapping.specs.Given.RuleChart.{Chart}
+use Rattle.papaya_mapping.specs.Given.RuleInWorld.{IsMapIn}
+use Rattle.papaya_mapping.specs.Given.RuleWords.{Blocks}
+use Rattle.papaya_mapping.specs.Given.PointsFactsCalls.{Unchanged, CallingFacts, CallFacts}
+use Rattle.papaya_mapping.specs.Given.PointsSteps.{AreLawful}
+use Rattle.papaya_mapping.specs.Given.PointsTold.{IsRowOfCall}
+use Rattle.papaya_mapping.proofs.Given.PointsLookups.LooksAsked.{class_asked, lookup_asked}
+use Rattle.papaya_mapping.specs.Given.LateLateCalls.{LateCalling, LateCallFacts}
+use Rattle.papaya_mapping.specs.Given.CallersRows.{row_of, once_over}
+use Rattle.papaya_mapping.specs.Given.CallersSights.{seen_by}
+use Rattle.papaya_mapping.specs.Given.CallersTogether.{CallOnKey, OnKey, ForRoom, Counting, OverAll, Together, Knows, in_slot}
+use Rattle.papaya_mapping.proofs.Given.CallersSights.Seen.{map_seen}
+use Rattle.papaya_mapping.proofs.Given.CallersTogether.Fits.{map_in_slot}
+use Rattle.papaya_mapping.specs.Given.TellerTells.{StepsTold}
+use Rattle.papaya_mapping.specs.Given.TellerDeclared.changed.Changed.{Changed}
+use Rattle.papaya_mapping.specs.Given.TellerDeclared.changed.Changed.TheVariants as changed
+use Rattle.papaya_mapping.proofs.Given.OthersOutcomes.{told_in}
+use Rattle.papaya_mapping.specs.Given.EffectsEffects.{effects_of}
+use Rattle.papaya_mapping.specs.Given.EffectsDeclared.acting.Acting.TheVariants as acts
 use Rattle.papaya_promises.specs.Brief.{ReadsAt, ReadsOn, IsRootOf}
 use Rattle.papaya_promises.specs.Reading.{LookupsDoNothing}
 use Rattle.papaya_promises.proofs.Brief.Going.{lookups_read_on, late_reads_on}
-use Rattle.papaya_mapping.proofs.Given.Scenes.Told.{as_step}
-use Rattle.papaya_mapping.specs.Given.Scenes.Held.{Held, IsAt}
-use Rattle.papaya_mapping.specs.Given.Scenes.Scene.{Scene, slot_of}
-use Rattle.papaya_mapping.specs.Given.Scenes.Stepping.{StepLeads}
+use Rattle.papaya_mapping.proofs.Given.ScenesTold.{as_step}
+use Rattle.papaya_mapping.specs.Given.ScenesHeld.{Held, IsAt}
+use Rattle.papaya_mapping.specs.Given.ScenesScene.{Scene, slot_of}
+use Rattle.papaya_mapping.specs.Given.ScenesStepping.{StepLeads}
 
 -- of a lookup's plan nothing is told
 

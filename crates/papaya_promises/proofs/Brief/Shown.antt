@@ -1,17 +1,17 @@
 -- What a lookup has read is few, by the tables that a moment shows.
 use Rattle.std.specs.Prelude.{ℕ, suc, ◌+◌, ◌≤◌, nat_le, Bool, true, false, List, [], ◌∷◌, filter, sum_by}
 use Rattle.std.proofs.Common.{◌≡◌, refl, ap, sym, subst, ◌∙◌, inl, inr, arith}
-use Rattle.papaya_mapping.specs.Given.Tables.Chunks.{is_incremental}
-use Rattle.papaya_mapping.specs.Given.Resize.declared.lookup.Looking.{Looking}
-use Rattle.papaya_mapping.specs.Given.Resize.declared.lookup.Looking.TheVariants as at
-use Rattle.papaya_mapping.specs.Given.Rule.Chart.{Chart}
-use Rattle.papaya_mapping.specs.Given.Finishes.Maps.{Standing}
-use Rattle.papaya_mapping.specs.Given.Schedules.Lists.{OneOf}
-use Rattle.papaya_mapping.specs.Given.Schedules.Moment.{UnderWay as CallThere, TableThere, Moment}
-use Rattle.papaya_mapping.specs.Given.Schedules.Steps.{met_from, root_table, ReadsFew}
-use Rattle.papaya_mapping.specs.Given.Schedules.Views.{first_or, first_of}
-use Rattle.papaya_mapping.specs.Given.Effects.Known.{Known}
-use Rattle.papaya_mapping.specs.Given.Follows.Maps.{ShowsTables}
+use Rattle.papaya_mapping.specs.Given.TablesChunks.{is_incremental}
+use Rattle.papaya_mapping.specs.Given.ResizeDeclared.lookup.Looking.{Looking}
+use Rattle.papaya_mapping.specs.Given.ResizeDeclared.lookup.Looking.TheVariants as at
+use Rattle.papaya_mapping.specs.Given.RuleChart.{Chart}
+use Rattle.papaya_mapping.specs.Given.FinishesMaps.{Standing}
+use Rattle.papaya_mapping.specs.Given.SchedulesLists.{OneOf}
+use Rattle.papaya_mapping.specs.Given.SchedulesMoment.{UnderWay as CallThere, TableThere, Moment}
+use Rattle.papaya_mapping.specs.Given.SchedulesSteps.{met_from, root_table, ReadsFew}
+use Rattle.papaya_mapping.specs.Given.SchedulesViews.{first_or, first_of}
+use Rattle.papaya_mapping.specs.Given.EffectsKnown.{Known}
+use Rattle.papaya_mapping.specs.Given.FollowsMaps.{ShowsTables}
 use Rattle.papaya_promises.specs.Brief.{words_of, read_to, HasRead, ReadsAt, TablesLast, ReadingsLast, WasRoot, ReadsSince, ReadingsAreFew, RootsAreShown}
 use Rattle.papaya_promises.proofs.Brief.Sums.{through, none_before, as_long, met_words, root_words}
 

@@ -1,20 +1,20 @@
 -- Lookups that are under way as they were have read what they had read.
 use Rattle.std.specs.Prelude.{◌≡◌, ℕ, ◌+◌, ◌<◌, ◌≤◌, Bool, true, false, List}
 use Rattle.std.proofs.Common.{refl, ap, sym, subst, arith, inr}
-use Rattle.papaya_mapping.specs.Given.Tables.Chunks.{is_incremental}
-use Rattle.papaya_mapping.specs.Given.Tables.declared.setting.Setting.{Setting}
-use Rattle.papaya_mapping.specs.Given.Resize.declared.lookup.Looking.{Looking}
-use Rattle.papaya_mapping.specs.Given.Resize.declared.lookup.Looking.TheVariants as looking
-use Rattle.papaya_mapping.specs.Given.Rule.Chart.{Chart}
-use Rattle.papaya_mapping.specs.Given.Schedules.Lists.{OneOf}
-use Rattle.papaya_mapping.specs.Given.Schedules.Lives.{IsFrom}
-use Rattle.papaya_mapping.specs.Given.Schedules.Moment.{Moment}
-use Rattle.papaya_mapping.specs.Given.Callers.Together.{UnderWay, OnKey, ForRoom, Counting, OverAll}
-use Rattle.papaya_mapping.proofs.Given.Histories.Logs.{grows, further_is_past}
+use Rattle.papaya_mapping.specs.Given.TablesChunks.{is_incremental}
+use Rattle.papaya_mapping.specs.Given.TablesDeclared.setting.Setting.{Setting}
+use Rattle.papaya_mapping.specs.Given.ResizeDeclared.lookup.Looking.{Looking}
+use Rattle.papaya_mapping.specs.Given.ResizeDeclared.lookup.Looking.TheVariants as looking
+use Rattle.papaya_mapping.specs.Given.RuleChart.{Chart}
+use Rattle.papaya_mapping.specs.Given.SchedulesLists.{OneOf}
+use Rattle.papaya_mapping.specs.Given.SchedulesLives.{IsFrom}
+use Rattle.papaya_mapping.specs.Given.SchedulesMoment.{Moment}
+use Rattle.papaya_mapping.specs.Given.CallersTogether.{UnderWay, OnKey, ForRoom, Counting, OverAll}
+use Rattle.papaya_mapping.proofs.Given.HistoriesLogs.{grows, further_is_past}
 use Rattle.papaya_promises.specs.Brief.{HasRead, TablesLast, WasRoot, ReadsSince}
 use Rattle.papaya_promises.specs.Reading.{HasLooked, ReadingsStay, EventsKeepReadings}
 use Rattle.papaya_promises.proofs.Brief.Shown.{one_as, readings_last}
-use Rattle.papaya_mapping.specs.Given.Schedules.Transition.{Past, further}
+use Rattle.papaya_mapping.specs.Given.SchedulesTransition.{Past, further}
 
 -- the first of the tables is one that the map has had
 pub first_made : {K : Type 0} (incremental : Bool) (c : Chart K) (first turn steps most : ℕ) → HasRead incremental c first turn steps most → first < c.past

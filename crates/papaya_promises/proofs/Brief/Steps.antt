@@ -2,39 +2,39 @@
 use Rattle.std.specs.Prelude.{◌≡◌, ℕ, suc, ◌+◌, ◌<◌, ◌≤◌, Bool, true, List, Option, Some, None, if◌then◌else◌}
 use Rattle.std.proofs.Common.{refl, ap, sym, subst, ◌∙◌, arith, inl, inr}
 use Rattle.std.proofs.lemmas.Bool.{eq-eqb, ne_eqb}
-use Rattle.papaya_mapping.specs.Given.Seize.declared.progress.Progress.{Progress as Stepped}
-use Rattle.papaya_mapping.specs.Given.Seize.declared.progress.Progress.TheVariants as stepped
-use Rattle.papaya_mapping.specs.Given.Tables.Chunks.{is_incremental}
-use Rattle.papaya_mapping.specs.Given.Tables.declared.node.Node.{Node}
-use Rattle.papaya_mapping.specs.Given.Tables.declared.setting.Setting.{Setting}
-use Rattle.papaya_mapping.specs.Given.Resize.declared.lookup.Lookup.{Lookup}
-use Rattle.papaya_mapping.specs.Given.Resize.declared.lookup.Looking.{Looking}
-use Rattle.papaya_mapping.specs.Given.Resize.declared.lookup.Looking.TheVariants as looking
-use Rattle.papaya_mapping.specs.Given.Raw.Call.{looked}
-use Rattle.papaya_mapping.specs.Given.Raw.Progress.{of_called}
-use Rattle.papaya_mapping.specs.Given.Raw.declared.machines.call.Calling.TheVariants as at
-use Rattle.papaya_mapping.specs.Given.Raw.declared.machines.call.KeyCall.{KeyCall}
-use Rattle.papaya_mapping.specs.Given.Raw.declared.machines.machine.Machine.{Machine}
-use Rattle.papaya_mapping.specs.Given.Raw.declared.machines.machine.Machine.TheVariants as kinds
-use Rattle.papaya_mapping.specs.Given.Raw.declared.machines.progress.Progress.{Progress}
-use Rattle.papaya_mapping.specs.Given.Rule.Chart.{Chart}
-use Rattle.papaya_mapping.specs.Given.Schedules.Lists.{OneOf}
-use Rattle.papaya_mapping.specs.Given.Schedules.Moment.{UnderWay as CallThere, MapThere, TableThere, Moment}
-use Rattle.papaya_mapping.specs.Given.Schedules.Views.{call_of}
-use Rattle.papaya_mapping.specs.Given.Callers.Together.{CallOnKey, UnderWay, OnKey, ForRoom, Counting, OverAll}
-use Rattle.papaya_mapping.specs.Given.Finishes.Machines.{GoesOnAs, machine_of}
-use Rattle.papaya_mapping.specs.Given.Finishes.Maps.{Standing}
-use Rattle.papaya_mapping.proofs.Given.Hands.Asking.{which}
-use Rattle.papaya_mapping.proofs.Given.Histories.Logs.{now_there}
+use Rattle.papaya_mapping.specs.Given.SeizeDeclared.progress.Progress.{Progress as Stepped}
+use Rattle.papaya_mapping.specs.Given.SeizeDeclared.progress.Progress.TheVariants as stepped
+use Rattle.papaya_mapping.specs.Given.TablesChunks.{is_incremental}
+use Rattle.papaya_mapping.specs.Given.TablesDeclared.node.Node.{Node}
+use Rattle.papaya_mapping.specs.Given.TablesDeclared.setting.Setting.{Setting}
+use Rattle.papaya_mapping.specs.Given.ResizeDeclared.lookup.Lookup.{Lookup}
+use Rattle.papaya_mapping.specs.Given.ResizeDeclared.lookup.Looking.{Looking}
+use Rattle.papaya_mapping.specs.Given.ResizeDeclared.lookup.Looking.TheVariants as looking
+use Rattle.papaya_mapping.specs.Given.RawCall.{looked}
+use Rattle.papaya_mapping.specs.Given.RawProgress.{of_called}
+use Rattle.papaya_mapping.specs.Given.RawDeclared.machines.call.Calling.TheVariants as at
+use Rattle.papaya_mapping.specs.Given.RawDeclared.machines.call.KeyCall.{KeyCall}
+use Rattle.papaya_mapping.specs.Given.RawDeclared.machines.machine.Machine.{Machine}
+use Rattle.papaya_mapping.specs.Given.RawDeclared.machines.machine.Machine.TheVariants as kinds
+use Rattle.papaya_mapping.specs.Given.RawDeclared.machines.progress.Progress.{Progress}
+use Rattle.papaya_mapping.specs.Given.RuleChart.{Chart}
+use Rattle.papaya_mapping.specs.Given.SchedulesLists.{OneOf}
+use Rattle.papaya_mapping.specs.Given.SchedulesMoment.{UnderWay as CallThere, MapThere, TableThere, Moment}
+use Rattle.papaya_mapping.specs.Given.SchedulesViews.{call_of}
+use Rattle.papaya_mapping.specs.Given.CallersTogether.{CallOnKey, UnderWay, OnKey, ForRoom, Counting, OverAll}
+use Rattle.papaya_mapping.specs.Given.FinishesMachines.{GoesOnAs, machine_of}
+use Rattle.papaya_mapping.specs.Given.FinishesMaps.{Standing}
+use Rattle.papaya_mapping.proofs.Given.HandsAsking.{which}
+use Rattle.papaya_mapping.proofs.Given.HistoriesLogs.{now_there}
 use Rattle.papaya_promises.specs.Brief.{ReadsAt, ReadsOn, IsRootOf, TablesLast, WasRoot, ReadsSince}
 use Rattle.papaya_promises.specs.Reading.{looks, HasLooked, one_more_of, LookupsKeepReadings}
 use Rattle.papaya_promises.proofs.Brief.Maps.{maps_stood}
 use Rattle.papaya_promises.proofs.Brief.Own.{HasReadOn, has_read_on}
 use Rattle.papaya_promises.proofs.Brief.Shown.{roots_are_shown}
 use Rattle.papaya_promises.proofs.Brief.Stays.{first_made, looked_on, looked_as}
-use Rattle.papaya_mapping.specs.Given.Scenes.Held.{Held, IsAt}
-use Rattle.papaya_mapping.specs.Given.Scenes.Scene.{Scene}
-use Rattle.papaya_mapping.specs.Given.Scenes.Stepping.{StepLeads, scene_after}
+use Rattle.papaya_mapping.specs.Given.ScenesHeld.{Held, IsAt}
+use Rattle.papaya_mapping.specs.Given.ScenesScene.{Scene}
+use Rattle.papaya_mapping.specs.Given.ScenesStepping.{StepLeads, scene_after}
 
 module _ {K V : Type 0} (incremental : Bool) (map : ℕ) (c : Chart K) (moments : List (Moment K V)) where
   -- the turn from which it reads on, and a moment at which that was the root's

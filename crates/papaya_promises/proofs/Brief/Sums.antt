@@ -4,9 +4,9 @@ use Rattle.std.proofs.Common.{◌≡◌, refl, ap, subst, ◌∙◌, arith}
 use Rattle.std.proofs.lemmas.Bool.{le-leb, leb-true, ltb-true, ltb-false}
 use Rattle.std.proofs.lemmas.List.Elements.{filter-append}
 use Rattle.std.proofs.lemmas.List.Sums.{sum_by-append}
-use Rattle.papaya_mapping.specs.Given.Rule.Chart.{Chart}
-use Rattle.papaya_mapping.specs.Given.Schedules.Moment.{Stage, TableThere}
-use Rattle.papaya_mapping.specs.Given.Follows.Maps.{table_of, shape_at, tables_to}
+use Rattle.papaya_mapping.specs.Given.RuleChart.{Chart}
+use Rattle.papaya_mapping.specs.Given.SchedulesMoment.{Stage, TableThere}
+use Rattle.papaya_mapping.specs.Given.FollowsMaps.{table_of, shape_at, tables_to}
 use Rattle.papaya_promises.specs.Brief.{words_of, read_to}
 
 -- one more table

@@ -1,26 +1,26 @@
 -- Where a row begins on a slot, and where nothing happens to slots and blocks, what is sheltered stays so.
 use Rattle.std.specs.Prelude.{◌≡◌, ℕ, Bool, true, false, List, Option, Some, None}
 use Rattle.std.proofs.Common.{ap, sym, subst}
-use Rattle.papaya_mapping.specs.Given.Seize.Law.{Effect as Happened, holds}
-use Rattle.papaya_mapping.specs.Given.Seize.World.{World, Use, Outside, Changing, IsInside, Begins, with_at}
-use Rattle.papaya_mapping.specs.Given.Tables.Nodes.{deferred_word}
-use Rattle.papaya_mapping.specs.Given.Tables.declared.node.Node.{Node}
-use Rattle.papaya_mapping.specs.Given.Runs.Present.{Present, guard_of}
-use Rattle.papaya_mapping.specs.Given.Runs.declared.holders.Guard.{Guard}
-use Rattle.papaya_mapping.specs.Given.Schedules.declared.call.Call.{Call}
-use Rattle.papaya_mapping.specs.Given.Schedules.Beginning.{with_call}
-use Rattle.papaya_mapping.specs.Given.Schedules.Moment.{Sheltered, Moment}
-use Rattle.papaya_mapping.proofs.Given.Callers.Together.At.{at_other}
-use Rattle.papaya_mapping.proofs.Given.Callers.Together.Handed.{inside_on}
-use Rattle.papaya_mapping.specs.Given.Effects.Known.{Known}
-use Rattle.papaya_mapping.specs.Given.Scenes.declared.row.SlotCall.{SlotCall}
-use Rattle.papaya_mapping.specs.Given.Scenes.declared.row.SlotCall.TheVariants as call
-use Rattle.papaya_mapping.specs.Given.Others.Walks.{given_up}
+use Rattle.papaya_mapping.specs.Given.SeizeLaw.{Effect as Happened, holds}
+use Rattle.papaya_mapping.specs.Given.SeizeWorld.{World, Use, Outside, Changing, IsInside, Begins, with_at}
+use Rattle.papaya_mapping.specs.Given.TablesNodes.{deferred_word}
+use Rattle.papaya_mapping.specs.Given.TablesDeclared.node.Node.{Node}
+use Rattle.papaya_mapping.specs.Given.RunsPresent.{Present, guard_of}
+use Rattle.papaya_mapping.specs.Given.RunsDeclared.holders.Guard.{Guard}
+use Rattle.papaya_mapping.specs.Given.SchedulesDeclared.call.Call.{Call}
+use Rattle.papaya_mapping.specs.Given.SchedulesBeginning.{with_call}
+use Rattle.papaya_mapping.specs.Given.SchedulesMoment.{Sheltered, Moment}
+use Rattle.papaya_mapping.proofs.Given.CallersTogether.At.{at_other}
+use Rattle.papaya_mapping.proofs.Given.CallersTogether.Handed.{inside_on}
+use Rattle.papaya_mapping.specs.Given.EffectsKnown.{Known}
+use Rattle.papaya_mapping.specs.Given.ScenesDeclared.row.SlotCall.{SlotCall}
+use Rattle.papaya_mapping.specs.Given.ScenesDeclared.row.SlotCall.TheVariants as call
+use Rattle.papaya_mapping.specs.Given.OthersWalks.{given_up}
 use Rattle.papaya_promises.specs.Others.{SparesGuards, NobodyOn, RowsBeginShelter, HoldByCalls, HoldByMaps, SectionsGoOn}
 use Rattle.papaya_promises.specs.Sheltered.{GuardsAreInside, IsSheltered, AreSheltered, SectionsHold}
 use Rattle.papaya_promises.proofs.Lists.{all_of}
-use Rattle.papaya_mapping.specs.Given.Scenes.Rows.{request_of}
-use Rattle.papaya_mapping.specs.Given.Scenes.Scene.{slot_of}
+use Rattle.papaya_mapping.specs.Given.ScenesRows.{request_of}
+use Rattle.papaya_mapping.specs.Given.ScenesScene.{slot_of}
 
 module _ {K V : Type 0} (size slot i : ℕ) (w w2 : World (Node K V)) where
   -- a guard on another slot is within its section still

@@ -3,61 +3,61 @@ use Rattle.std.specs.Prelude.{◌&&◌, ◌≡◌, ℕ, ◌≤◌, nat_lt, Bool,
 use Rattle.std.specs.List.{AllByRecursion}
 use Rattle.std.proofs.Common.{refl, sym, subst, ap, ◌∙◌, arith, inl, inr}
 use Rattle.std.proofs.lemmas.Bool.{eq-eqb}
-use Rattle.papaya_mapping.specs.Given.SeizeWords.Mem.{Mem}
-use Rattle.papaya_mapping.specs.Given.Seize.Law.{holds, is_somewhere}
-use Rattle.papaya_mapping.specs.Given.Seize.World.{World, InUse}
-use Rattle.papaya_mapping.proofs.Given.SeizeMoves.State.Logs.{reached_held}
-use Rattle.papaya_mapping.proofs.Given.SeizeAlone.Histories.Reached.{Reached}
-use Rattle.papaya_mapping.specs.Given.Tables.Nodes.{deferred_word}
-use Rattle.papaya_mapping.specs.Given.Tables.declared.node.Node.{Node}
-use Rattle.papaya_mapping.specs.Given.Raw.declared.machines.progress.Progress.{Progress}
-use Rattle.papaya_mapping.specs.Given.Rule.InWorld.{IsMapIn}
-use Rattle.papaya_mapping.proofs.Given.Rule.Laws.{current_is_known}
-use Rattle.papaya_mapping.specs.Given.Runs.declared.holders.Guard.{Guard}
-use Rattle.papaya_mapping.specs.Given.Schedules.declared.effect.Effect.{Effect}
-use Rattle.papaya_mapping.specs.Given.Schedules.declared.effect.Effect.TheVariants.{Promoted, Replaced, Removed}
-use Rattle.papaya_mapping.specs.Given.Schedules.declared.effect.Thing.{Thing}
-use Rattle.papaya_mapping.specs.Given.Schedules.declared.effect.Thing.TheVariants.{APair, ATable}
-use Rattle.papaya_mapping.specs.Given.Schedules.Effects.{out_by, shelter, with_effect, with_effects, AtEachEffect}
-use Rattle.papaya_mapping.specs.Given.Schedules.Model.{thing_back}
-use Rattle.papaya_mapping.specs.Given.Schedules.Moment.{InMap, Moment}
-use Rattle.papaya_mapping.specs.Given.Schedules.Views.{is_in_map, first_or, first_of}
-use Rattle.papaya_mapping.specs.Given.Teller.declared.changed.Changed.{Changed}
-use Rattle.papaya_mapping.specs.Given.Teller.declared.changed.Changed.TheVariants as changed
-use Rattle.papaya_mapping.specs.Given.Callers.Together.{UnderWay, OnKey, ForRoom, Counting, OverAll, CameAbout, IsOneStep}
-use Rattle.papaya_mapping.proofs.Given.Callers.Rows.Defers.{used_stands}
-use Rattle.papaya_mapping.proofs.Given.Callers.Together.Came.{came_reached}
-use Rattle.papaya_mapping.specs.Given.Effects.Effects.{taken_by, effects_of, known_after}
-use Rattle.papaya_mapping.specs.Given.Effects.Known.{Known}
-use Rattle.papaya_mapping.specs.Given.Effects.declared.acting.Acting.TheVariants as acts
-use Rattle.papaya_mapping.specs.Given.Effects.declared.role.Role.{Role}
-use Rattle.papaya_mapping.specs.Given.Effects.declared.role.Role.TheVariants as role
-use Rattle.papaya_mapping.specs.Given.Finishes.Maps.{Standing}
-use Rattle.papaya_mapping.specs.Given.Follows.Blocks.{HasRole}
-use Rattle.papaya_mapping.specs.Given.Follows.Finds.{FindsMap}
-use Rattle.papaya_mapping.specs.Given.Follows.Maps.{ShowsPairs}
-use Rattle.papaya_mapping.specs.Given.Follows.Steps.{TakesNone}
-use Rattle.papaya_mapping.proofs.Given.Follows.Alike.{put_here}
-use Rattle.papaya_mapping.proofs.Given.Follows.Going.{ComesToBe}
-use Rattle.papaya_mapping.proofs.Given.Follows.Onward.{IsLasting, KeepsRoles}
-use Rattle.papaya_mapping.proofs.Given.Follows.Operations.{LeavesBy, operated_leaves}
-use Rattle.papaya_mapping.proofs.Given.Follows.Rows.{HandsOn, IsStill, Puts, Retires, RowLeaves, one_step_leaves, row_written}
-use Rattle.papaya_mapping.proofs.Given.Follows.RowSteps.{row_step_shown}
-use Rattle.papaya_mapping.proofs.Given.Follows.Steps.{WentTo, went_to, made_so, DidSo, OfNoRow, LeadsThere, step_shown}
-use Rattle.papaya_mapping.proofs.Given.Hands.RowSteps.{rows_hand_theirs}
-use Rattle.papaya_mapping.proofs.Given.Hands.Steps.{calls_store_theirs}
-use Rattle.papaya_mapping.proofs.Given.Spots.Elsewhere.{stored_grows}
-use Rattle.papaya_mapping.specs.Given.Moments.Whole.{ShowsWhole}
-use Rattle.papaya_mapping.proofs.Given.Moments.Calls.{of_row}
+use Rattle.papaya_mapping.specs.Given.SeizeWordsMem.{Mem}
+use Rattle.papaya_mapping.specs.Given.SeizeLaw.{holds, is_somewhere}
+use Rattle.papaya_mapping.specs.Given.SeizeWorld.{World, InUse}
+use Rattle.papaya_mapping.proofs.Given.SeizeMovesState.Logs.{reached_held}
+use Rattle.papaya_mapping.proofs.Given.SeizeAloneHistories.Reached.{Reached}
+use Rattle.papaya_mapping.specs.Given.TablesNodes.{deferred_word}
+use Rattle.papaya_mapping.specs.Given.TablesDeclared.node.Node.{Node}
+use Rattle.papaya_mapping.specs.Given.RawDeclared.machines.progress.Progress.{Progress}
+use Rattle.papaya_mapping.specs.Given.RuleInWorld.{IsMapIn}
+use Rattle.papaya_mapping.proofs.Given.RuleLaws.{current_is_known}
+use Rattle.papaya_mapping.specs.Given.RunsDeclared.holders.Guard.{Guard}
+use Rattle.papaya_mapping.specs.Given.SchedulesDeclared.effect.Effect.{Effect}
+use Rattle.papaya_mapping.specs.Given.SchedulesDeclared.effect.Effect.TheVariants.{Promoted, Replaced, Removed}
+use Rattle.papaya_mapping.specs.Given.SchedulesDeclared.effect.Thing.{Thing}
+use Rattle.papaya_mapping.specs.Given.SchedulesDeclared.effect.Thing.TheVariants.{APair, ATable}
+use Rattle.papaya_mapping.specs.Given.SchedulesEffects.{out_by, shelter, with_effect, with_effects, AtEachEffect}
+use Rattle.papaya_mapping.specs.Given.SchedulesModel.{thing_back}
+use Rattle.papaya_mapping.specs.Given.SchedulesMoment.{InMap, Moment}
+use Rattle.papaya_mapping.specs.Given.SchedulesViews.{is_in_map, first_or, first_of}
+use Rattle.papaya_mapping.specs.Given.TellerDeclared.changed.Changed.{Changed}
+use Rattle.papaya_mapping.specs.Given.TellerDeclared.changed.Changed.TheVariants as changed
+use Rattle.papaya_mapping.specs.Given.CallersTogether.{UnderWay, OnKey, ForRoom, Counting, OverAll, CameAbout, IsOneStep}
+use Rattle.papaya_mapping.proofs.Given.CallersRows.Defers.{used_stands}
+use Rattle.papaya_mapping.proofs.Given.CallersTogether.Came.{came_reached}
+use Rattle.papaya_mapping.specs.Given.EffectsEffects.{taken_by, effects_of, known_after}
+use Rattle.papaya_mapping.specs.Given.EffectsKnown.{Known}
+use Rattle.papaya_mapping.specs.Given.EffectsDeclared.acting.Acting.TheVariants as acts
+use Rattle.papaya_mapping.specs.Given.EffectsDeclared.role.Role.{Role}
+use Rattle.papaya_mapping.specs.Given.EffectsDeclared.role.Role.TheVariants as role
+use Rattle.papaya_mapping.specs.Given.FinishesMaps.{Standing}
+use Rattle.papaya_mapping.specs.Given.FollowsBlocks.{HasRole}
+use Rattle.papaya_mapping.specs.Given.FollowsFinds.{FindsMap}
+use Rattle.papaya_mapping.specs.Given.FollowsMaps.{ShowsPairs}
+use Rattle.papaya_mapping.specs.Given.FollowsSteps.{TakesNone}
+use Rattle.papaya_mapping.proofs.Given.FollowsAlike.{put_here}
+use Rattle.papaya_mapping.proofs.Given.FollowsGoing.{ComesToBe}
+use Rattle.papaya_mapping.proofs.Given.FollowsOnward.{IsLasting, KeepsRoles}
+use Rattle.papaya_mapping.proofs.Given.FollowsOperations.{LeavesBy, operated_leaves}
+use Rattle.papaya_mapping.proofs.Given.FollowsRows.{HandsOn, IsStill, Puts, Retires, RowLeaves, one_step_leaves, row_written}
+use Rattle.papaya_mapping.proofs.Given.FollowsRowSteps.{row_step_shown}
+use Rattle.papaya_mapping.proofs.Given.FollowsSteps.{WentTo, went_to, made_so, DidSo, OfNoRow, LeadsThere, step_shown}
+use Rattle.papaya_mapping.proofs.Given.HandsRowSteps.{rows_hand_theirs}
+use Rattle.papaya_mapping.proofs.Given.HandsSteps.{calls_store_theirs}
+use Rattle.papaya_mapping.proofs.Given.SpotsElsewhere.{stored_grows}
+use Rattle.papaya_mapping.specs.Given.MomentsWhole.{ShowsWhole}
+use Rattle.papaya_mapping.proofs.Given.MomentsCalls.{of_row}
 use Rattle.papaya_promises.specs.Shelters.{CallsShelter}
 use Rattle.papaya_promises.specs.Sheltered.{AreShelteredOn, GuardsAreOn, HasCome, IsOfThing, IsShelteredOn}
 use Rattle.papaya_promises.proofs.Shelters.Lasting.{Lasts, of_map, all_last, guards_last}
 use Rattle.papaya_promises.proofs.Lists.{all_append, all_of, passed_all, IsFound, all_found, all_shelter}
 use Rattle.papaya_promises.proofs.Shelters.Outs.{KeepsIn, OutFirst, AreFew, TakesOwn, calm_keep, room_keeps, effects_few, keep_all}
 use Rattle.papaya_promises.proofs.Shelters.Within.{GoOn, GoOnByRows, Sections, Within, call_goes_on, over_row, within_sections}
-use Rattle.papaya_mapping.specs.Given.Scenes.Held.{Held, IsAt}
-use Rattle.papaya_mapping.specs.Given.Scenes.Scene.{Scene}
-use Rattle.papaya_mapping.specs.Given.Scenes.Stepping.{StepLeads, scene_after}
+use Rattle.papaya_mapping.specs.Given.ScenesHeld.{Held, IsAt}
+use Rattle.papaya_mapping.specs.Given.ScenesScene.{Scene}
+use Rattle.papaya_mapping.specs.Given.ScenesStepping.{StepLeads, scene_after}
 
 -- what a row within a call does takes nothing out of a map
 

@@ -1,39 +1,39 @@
 -- A step of the end of a map leaves sheltered what is so, and reclaims nothing that was retired.
 use Rattle.std.specs.Prelude.{◌≡◌, ℕ, zero, suc, Bool, true, List, [], flat_map, Some, None}
 use Rattle.std.proofs.Common.{refl, ap, sym, subst, ◌∙◌, arith, inl, inr}
-use Rattle.papaya_mapping.specs.Given.SeizeWords.Mem.{value_at}
-use Rattle.papaya_mapping.specs.Given.Seize.Law.{holds}
-use Rattle.papaya_mapping.specs.Given.Seize.World.{World, Use, IsInside, times}
-use Rattle.papaya_mapping.specs.Given.Seize.declared.rows.settle.Settled.{Settled}
-use Rattle.papaya_mapping.specs.Given.Tables.declared.node.Node.{Node}
-use Rattle.papaya_mapping.specs.Given.Raw.declared.machines.end_map.EndMap.{EndMap}
-use Rattle.papaya_mapping.specs.Given.Schedules.declared.effect.Effect.{Effect}
-use Rattle.papaya_mapping.specs.Given.Schedules.Effects.{with_effects}
-use Rattle.papaya_mapping.specs.Given.Schedules.Model.{thing_back}
-use Rattle.papaya_mapping.specs.Given.Schedules.Moment.{Moment}
-use Rattle.papaya_mapping.specs.Given.Teller.declared.changed.Changed.{Changed}
-use Rattle.papaya_mapping.specs.Given.Effects.Effects.{taken_by, effects_of, known_after}
-use Rattle.papaya_mapping.specs.Given.Effects.Known.{Known}
-use Rattle.papaya_mapping.specs.Given.Effects.declared.acting.Acting.{Acting}
-use Rattle.papaya_mapping.specs.Given.Effects.declared.acting.Acting.TheVariants as acts
-use Rattle.papaya_mapping.specs.Given.Effects.declared.role.Role.{Role}
-use Rattle.papaya_mapping.specs.Given.Effects.declared.role.Role.TheVariants as role
-use Rattle.papaya_mapping.specs.Given.Finishes.Endings.{Finishing, StepsOfEnding}
-use Rattle.papaya_mapping.specs.Given.Finishes.FactsEnds.{taken_by as taken_of}
-use Rattle.papaya_mapping.specs.Given.Follows.Blocks.{HasRole}
-use Rattle.papaya_mapping.proofs.Given.Follows.Alike.{put_here}
-use Rattle.papaya_mapping.proofs.Given.Follows.Onward.{IsOfMap}
-use Rattle.papaya_mapping.proofs.Given.Others.Ends.{left, one_taken}
-use Rattle.papaya_mapping.specs.Given.Moments.Whole.{ShowsWhole}
-use Rattle.papaya_mapping.proofs.Given.Moments.Ends.{says, end_keeps}
+use Rattle.papaya_mapping.specs.Given.SeizeWordsMem.{value_at}
+use Rattle.papaya_mapping.specs.Given.SeizeLaw.{holds}
+use Rattle.papaya_mapping.specs.Given.SeizeWorld.{World, Use, IsInside, times}
+use Rattle.papaya_mapping.specs.Given.SeizeDeclared.rows.settle.Settled.{Settled}
+use Rattle.papaya_mapping.specs.Given.TablesDeclared.node.Node.{Node}
+use Rattle.papaya_mapping.specs.Given.RawDeclared.machines.end_map.EndMap.{EndMap}
+use Rattle.papaya_mapping.specs.Given.SchedulesDeclared.effect.Effect.{Effect}
+use Rattle.papaya_mapping.specs.Given.SchedulesEffects.{with_effects}
+use Rattle.papaya_mapping.specs.Given.SchedulesModel.{thing_back}
+use Rattle.papaya_mapping.specs.Given.SchedulesMoment.{Moment}
+use Rattle.papaya_mapping.specs.Given.TellerDeclared.changed.Changed.{Changed}
+use Rattle.papaya_mapping.specs.Given.EffectsEffects.{taken_by, effects_of, known_after}
+use Rattle.papaya_mapping.specs.Given.EffectsKnown.{Known}
+use Rattle.papaya_mapping.specs.Given.EffectsDeclared.acting.Acting.{Acting}
+use Rattle.papaya_mapping.specs.Given.EffectsDeclared.acting.Acting.TheVariants as acts
+use Rattle.papaya_mapping.specs.Given.EffectsDeclared.role.Role.{Role}
+use Rattle.papaya_mapping.specs.Given.EffectsDeclared.role.Role.TheVariants as role
+use Rattle.papaya_mapping.specs.Given.FinishesEndings.{Finishing, StepsOfEnding}
+use Rattle.papaya_mapping.specs.Given.FinishesFactsEnds.{taken_by as taken_of}
+use Rattle.papaya_mapping.specs.Given.FollowsBlocks.{HasRole}
+use Rattle.papaya_mapping.proofs.Given.FollowsAlike.{put_here}
+use Rattle.papaya_mapping.proofs.Given.FollowsOnward.{IsOfMap}
+use Rattle.papaya_mapping.proofs.Given.OthersEnds.{left, one_taken}
+use Rattle.papaya_mapping.specs.Given.MomentsWhole.{ShowsWhole}
+use Rattle.papaya_mapping.proofs.Given.MomentsEnds.{says, end_keeps}
 use Rattle.papaya_promises.specs.Others.{EndingsShelter}
 use Rattle.papaya_promises.specs.Sheltered.{AreShelteredOn, GuardsAreOn}
 use Rattle.papaya_promises.proofs.Shelters.Lasting.{Lasts, of_map, all_last, guards_last}
 use Rattle.papaya_promises.proofs.Shelters.Noted.{more_noted}
 use Rattle.papaya_promises.proofs.Shelters.Outs.{TakeNothing, calm_nothing, keep_all}
-use Rattle.papaya_mapping.specs.Given.Scenes.Ending.{EndingLeads, EndingComesTo, EndingStepsFrom}
-use Rattle.papaya_mapping.specs.Given.Scenes.Held.{Held, IsAt}
-use Rattle.papaya_mapping.specs.Given.Scenes.Scene.{Scene, slot_of}
+use Rattle.papaya_mapping.specs.Given.ScenesEnding.{EndingLeads, EndingComesTo, EndingStepsFrom}
+use Rattle.papaya_mapping.specs.Given.ScenesHeld.{Held, IsAt}
+use Rattle.papaya_mapping.specs.Given.ScenesScene.{Scene, slot_of}
 
 module _ {K V : Type 0} (same : K → K → Bool) (hash : ℕ → K → ℕ) (name : ℕ → List ℕ) (m : Moment K V) (known : Known) (s : Scene K V) (old new : Held K V) (at : IsAt same hash old s)
     (whole : ShowsWhole same name m known s) (i : ℕ) (f : Finishing K V) (here : s.enders i ≡ Some f) (end : EndMap) (said : Settled (Node K V)) (steps : EndingStepsFrom f.machine old new end said)

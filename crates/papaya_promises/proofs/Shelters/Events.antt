@@ -3,12 +3,12 @@ use Rattle.std.specs.Prelude.{◌≡◌, Bool, true, false, ◌||◌, List, [], 
 use Rattle.std.specs.List.{list_any}
 use Rattle.std.proofs.Common.{refl, sym, subst, ap, ◌∙◌}
 use Rattle.std.proofs.lemmas.Grind.{flat_map-append}
-use Rattle.papaya_mapping.specs.Given.Schedules.declared.effect.Effect.{Effect}
-use Rattle.papaya_mapping.specs.Given.Schedules.declared.effect.Thing.{Thing}
-use Rattle.papaya_mapping.specs.Given.Schedules.Lists.{is_in}
-use Rattle.papaya_mapping.specs.Given.Schedules.Model.{thing_back}
-use Rattle.papaya_mapping.specs.Given.Schedules.Moment.{Sheltered}
-use Rattle.papaya_mapping.specs.Given.Schedules.Things.{same_thing}
+use Rattle.papaya_mapping.specs.Given.SchedulesDeclared.effect.Effect.{Effect}
+use Rattle.papaya_mapping.specs.Given.SchedulesDeclared.effect.Thing.{Thing}
+use Rattle.papaya_mapping.specs.Given.SchedulesLists.{is_in}
+use Rattle.papaya_mapping.specs.Given.SchedulesModel.{thing_back}
+use Rattle.papaya_mapping.specs.Given.SchedulesMoment.{Sheltered}
+use Rattle.papaya_mapping.specs.Given.SchedulesThings.{same_thing}
 use Rattle.papaya_promises.specs.Shelters.{NoneIsBack, StepsProtect, EventsAreProtected}
 
 -- it is in none of two lists

@@ -1,16 +1,16 @@
 -- What is sheltered stays so, where sections go on and hold what they held.
 use Rattle.std.specs.Prelude.{◌≡◌, ℕ, ◌≤◌, true, List, ◌⊎◌}
 use Rattle.std.proofs.Common.{subst, sym, arith, inl, inr}
-use Rattle.papaya_mapping.specs.Given.Seize.Law.{holds}
-use Rattle.papaya_mapping.specs.Given.Seize.World.{World}
-use Rattle.papaya_mapping.specs.Given.Tables.declared.node.Node.{Node}
-use Rattle.papaya_mapping.specs.Given.Runs.Present.{Present}
-use Rattle.papaya_mapping.specs.Given.Schedules.declared.effect.Thing.{Thing}
-use Rattle.papaya_mapping.specs.Given.Schedules.declared.effect.Thing.TheVariants.{APair, ATable}
-use Rattle.papaya_mapping.specs.Given.Schedules.Moment.{Sheltered}
-use Rattle.papaya_mapping.specs.Given.Effects.Known.{Known}
-use Rattle.papaya_mapping.specs.Given.Effects.declared.role.Role.{Role}
-use Rattle.papaya_mapping.proofs.Given.Follows.Onward.{IsOfMap}
+use Rattle.papaya_mapping.specs.Given.SeizeLaw.{holds}
+use Rattle.papaya_mapping.specs.Given.SeizeWorld.{World}
+use Rattle.papaya_mapping.specs.Given.TablesDeclared.node.Node.{Node}
+use Rattle.papaya_mapping.specs.Given.RunsPresent.{Present}
+use Rattle.papaya_mapping.specs.Given.SchedulesDeclared.effect.Thing.{Thing}
+use Rattle.papaya_mapping.specs.Given.SchedulesDeclared.effect.Thing.TheVariants.{APair, ATable}
+use Rattle.papaya_mapping.specs.Given.SchedulesMoment.{Sheltered}
+use Rattle.papaya_mapping.specs.Given.EffectsKnown.{Known}
+use Rattle.papaya_mapping.specs.Given.EffectsDeclared.role.Role.{Role}
+use Rattle.papaya_mapping.proofs.Given.FollowsOnward.{IsOfMap}
 use Rattle.papaya_promises.specs.Sheltered.{AreShelteredOn, GuardsAreOn, HasCome, IsOfThing, IsShelteredOn}
 use Rattle.papaya_promises.proofs.Lists.{all_of}
 

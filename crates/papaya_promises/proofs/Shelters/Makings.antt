@@ -1,58 +1,58 @@
 -- A step of the making of a map leaves sheltered what is so, and reclaims nothing.
 use Rattle.std.specs.Prelude.{◌≡◌, ℕ, Bool, true, false, List, [], ◌∷◌, flat_map, Option, Some, None, ◌⊎◌, if◌then◌else◌}
 use Rattle.std.proofs.Common.{refl, ap, sym, subst, inl, inr}
-use Rattle.papaya_mapping.specs.Given.SeizeWords.Mem.{value_at}
-use Rattle.papaya_mapping.specs.Given.SeizeWords.Word.{block_in}
-use Rattle.papaya_mapping.specs.Given.SeizeWords.declared.at.At.TheVariants.{Root, Used, Slot, Entry, Word}
-use Rattle.papaya_mapping.specs.Given.Seize.Law.{holds, is_somewhere}
-use Rattle.papaya_mapping.specs.Given.Seize.World.{World, IsInside, InUse}
-use Rattle.papaya_mapping.specs.Given.Seize.declared.progress.Progress.{Progress}
-use Rattle.papaya_mapping.specs.Given.Seize.declared.progress.Progress.TheVariants as progress
-use Rattle.papaya_mapping.proofs.Given.SeizeMoves.State.Logs.{reached_held}
-use Rattle.papaya_mapping.proofs.Given.SeizeAlone.Histories.Reached.{Reached, runs_reached}
-use Rattle.papaya_mapping.proofs.Given.SeizeAlone.Histories.Uses.{inside_open}
-use Rattle.papaya_mapping.specs.Given.Tables.Nodes.{deferred_word}
-use Rattle.papaya_mapping.specs.Given.Tables.declared.node.Node.{Node}
-use Rattle.papaya_mapping.specs.Given.Tables.declared.setting.Setting.{Setting}
-use Rattle.papaya_mapping.specs.Given.Resize.declared.new_map.NewMap.{NewMap}
-use Rattle.papaya_mapping.specs.Given.Schedules.declared.effect.Effect.{Effect}
-use Rattle.papaya_mapping.specs.Given.Schedules.declared.effect.Effect.TheVariants.{Asked}
-use Rattle.papaya_mapping.specs.Given.Schedules.declared.effect.Growth.TheVariants.{ABlock}
-use Rattle.papaya_mapping.specs.Given.Schedules.Effects.{with_effects}
-use Rattle.papaya_mapping.specs.Given.Schedules.Model.{thing_back}
-use Rattle.papaya_mapping.specs.Given.Schedules.Moment.{Moment}
-use Rattle.papaya_mapping.specs.Given.Teller.declared.changed.Changed.{Changed}
-use Rattle.papaya_mapping.specs.Given.Teller.declared.changed.Changed.TheVariants as changed
-use Rattle.papaya_mapping.specs.Given.Teller.declared.changed.Kind.{Kind}
-use Rattle.papaya_mapping.specs.Given.Teller.declared.changed.Kind.TheVariants as kind
-use Rattle.papaya_mapping.proofs.Given.Callers.Rows.Defers.{used_stands}
-use Rattle.papaya_mapping.proofs.Given.Callers.Together.Came.{came_reached}
-use Rattle.papaya_mapping.specs.Given.Effects.Effects.{names_same, named, made_by, taken_by, led_to, effects_of, known_after}
-use Rattle.papaya_mapping.specs.Given.Effects.Known.{Known}
-use Rattle.papaya_mapping.specs.Given.Effects.declared.acting.Acting.{Acting}
-use Rattle.papaya_mapping.specs.Given.Effects.declared.acting.Acting.TheVariants as acts
-use Rattle.papaya_mapping.specs.Given.Effects.declared.role.Role.{Role}
-use Rattle.papaya_mapping.specs.Given.Effects.declared.role.Role.TheVariants as role
-use Rattle.papaya_mapping.specs.Given.Finishes.Endings.{MakingStepsAmong}
-use Rattle.papaya_mapping.specs.Given.Finishes.Makings.{Beginning}
-use Rattle.papaya_mapping.proofs.Given.Follows.Operations.{LeavesBy}
-use Rattle.papaya_mapping.specs.Given.Others.Makings.{WasNew, making_after}
-use Rattle.papaya_mapping.proofs.Given.Others.Leads.{word_says}
-use Rattle.papaya_mapping.proofs.Given.Others.MakingPlans.{TellsMaking}
-use Rattle.papaya_mapping.proofs.Given.Others.Makes.{no_table_word, tells, left}
-use Rattle.papaya_mapping.specs.Given.Moments.Whole.{ShowsWhole}
-use Rattle.papaya_mapping.proofs.Given.Moments.Beside.{IsBeside}
-use Rattle.papaya_mapping.proofs.Given.Moments.Makings.{not_of_map, before_free}
-use Rattle.papaya_mapping.proofs.Given.Moments.MakingSteps.{makings_go_beside}
+use Rattle.papaya_mapping.specs.Given.SeizeWordsMem.{value_at}
+use Rattle.papaya_mapping.specs.Given.SeizeWordsWord.{block_in}
+use Rattle.papaya_mapping.specs.Given.SeizeWordsDeclared.at.At.TheVariants.{Root, Used, Slot, Entry, Word}
+use Rattle.papaya_mapping.specs.Given.SeizeLaw.{holds, is_somewhere}
+use Rattle.papaya_mapping.specs.Given.SeizeWorld.{World, IsInside, InUse}
+use Rattle.papaya_mapping.specs.Given.SeizeDeclared.progress.Progress.{Progress}
+use Rattle.papaya_mapping.specs.Given.SeizeDeclared.progress.Progress.TheVariants as progress
+use Rattle.papaya_mapping.proofs.Given.SeizeMovesState.Logs.{reached_held}
+use Rattle.papaya_mapping.proofs.Given.SeizeAloneHistories.Reached.{Reached, runs_reached}
+use Rattle.papaya_mapping.proofs.Given.SeizeAloneHistories.Uses.{inside_open}
+use Rattle.papaya_mapping.specs.Given.TablesNodes.{deferred_word}
+use Rattle.papaya_mapping.specs.Given.TablesDeclared.node.Node.{Node}
+use Rattle.papaya_mapping.specs.Given.TablesDeclared.setting.Setting.{Setting}
+use Rattle.papaya_mapping.specs.Given.ResizeDeclared.new_map.NewMap.{NewMap}
+use Rattle.papaya_mapping.specs.Given.SchedulesDeclared.effect.Effect.{Effect}
+use Rattle.papaya_mapping.specs.Given.SchedulesDeclared.effect.Effect.TheVariants.{Asked}
+use Rattle.papaya_mapping.specs.Given.SchedulesDeclared.effect.Growth.TheVariants.{ABlock}
+use Rattle.papaya_mapping.specs.Given.SchedulesEffects.{with_effects}
+use Rattle.papaya_mapping.specs.Given.SchedulesModel.{thing_back}
+use Rattle.papaya_mapping.specs.Given.SchedulesMoment.{Moment}
+use Rattle.papaya_mapping.specs.Given.TellerDeclared.changed.Changed.{Changed}
+use Rattle.papaya_mapping.specs.Given.TellerDeclared.changed.Changed.TheVariants as changed
+use Rattle.papaya_mapping.specs.Given.TellerDeclared.changed.Kind.{Kind}
+use Rattle.papaya_mapping.specs.Given.TellerDeclared.changed.Kind.TheVariants as kind
+use Rattle.papaya_mapping.proofs.Given.CallersRows.Defers.{used_stands}
+use Rattle.papaya_mapping.proofs.Given.CallersTogether.Came.{came_reached}
+use Rattle.papaya_mapping.specs.Given.EffectsEffects.{names_same, named, made_by, taken_by, led_to, effects_of, known_after}
+use Rattle.papaya_mapping.specs.Given.EffectsKnown.{Known}
+use Rattle.papaya_mapping.specs.Given.EffectsDeclared.acting.Acting.{Acting}
+use Rattle.papaya_mapping.specs.Given.EffectsDeclared.acting.Acting.TheVariants as acts
+use Rattle.papaya_mapping.specs.Given.EffectsDeclared.role.Role.{Role}
+use Rattle.papaya_mapping.specs.Given.EffectsDeclared.role.Role.TheVariants as role
+use Rattle.papaya_mapping.specs.Given.FinishesEndings.{MakingStepsAmong}
+use Rattle.papaya_mapping.specs.Given.FinishesMakings.{Beginning}
+use Rattle.papaya_mapping.proofs.Given.FollowsOperations.{LeavesBy}
+use Rattle.papaya_mapping.specs.Given.OthersMakings.{WasNew, making_after}
+use Rattle.papaya_mapping.proofs.Given.OthersLeads.{word_says}
+use Rattle.papaya_mapping.proofs.Given.OthersMakingPlans.{TellsMaking}
+use Rattle.papaya_mapping.proofs.Given.OthersMakes.{no_table_word, tells, left}
+use Rattle.papaya_mapping.specs.Given.MomentsWhole.{ShowsWhole}
+use Rattle.papaya_mapping.proofs.Given.MomentsBeside.{IsBeside}
+use Rattle.papaya_mapping.proofs.Given.MomentsMakings.{not_of_map, before_free}
+use Rattle.papaya_mapping.proofs.Given.MomentsMakingSteps.{makings_go_beside}
 use Rattle.papaya_promises.specs.Others.{MakingsShelter}
 use Rattle.papaya_promises.specs.Sheltered.{AreShelteredOn, GuardsAreOn}
 use Rattle.papaya_promises.proofs.Shelters.Lasting.{Lasts, of_map, all_last, guards_last}
 use Rattle.papaya_promises.proofs.Shelters.Noted.{more_noted}
 use Rattle.papaya_promises.proofs.Shelters.Outs.{TakeNothing, calm_nothing, keep_all}
 use Rattle.papaya_promises.proofs.Shelters.Within.{GoOn, Sections, Within, within_sections}
-use Rattle.papaya_mapping.specs.Given.Scenes.Held.{Held, IsAt}
-use Rattle.papaya_mapping.specs.Given.Scenes.Making.{MakingComesTo, MakingLeads, MakingStepsFrom}
-use Rattle.papaya_mapping.specs.Given.Scenes.Scene.{Scene, slot_of}
+use Rattle.papaya_mapping.specs.Given.ScenesHeld.{Held, IsAt}
+use Rattle.papaya_mapping.specs.Given.ScenesMaking.{MakingComesTo, MakingLeads, MakingStepsFrom}
+use Rattle.papaya_mapping.specs.Given.ScenesScene.{Scene, slot_of}
 
 module _ {K V : Type 0} (same : K → K → Bool) (hash : ℕ → K → ℕ) (name : ℕ → List ℕ) (m : Moment K V) (known : Known) (s : Scene K V) (old new : Held K V) (at : IsAt same hash old s)
     (whole : ShowsWhole same name m known s) (i : ℕ) (b : Beginning K) (here : s.makers i ≡ Some b) (end : NewMap) (said : Progress Setting) (steps : MakingStepsFrom b.machine old new end said)

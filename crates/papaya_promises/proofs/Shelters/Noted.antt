@@ -1,17 +1,17 @@
 -- Whoever makes an operation, as many pairs are noted as stored as were before, or more.
 use Rattle.std.specs.Prelude.{◌==◌, ℕ, ◌≤◌, Bool, true, false, if◌then◌else◌}
 use Rattle.std.proofs.Common.{arith}
-use Rattle.papaya_mapping.specs.Given.SeizeWords.Word.{block_in}
-use Rattle.papaya_mapping.specs.Given.SeizeWords.declared.at.At.TheVariants.{Root, Used, Slot, Entry, Word}
-use Rattle.papaya_mapping.specs.Given.Tables.declared.table_words.TheConstants.{NEXT}
-use Rattle.papaya_mapping.specs.Given.Teller.declared.changed.Changed.{Changed}
-use Rattle.papaya_mapping.specs.Given.Teller.declared.changed.Changed.TheVariants as changed
-use Rattle.papaya_mapping.specs.Given.Effects.Effects.{is_place, names_same, named, linked_on, stored_on, in_table_on, in_block_on, known_after}
-use Rattle.papaya_mapping.specs.Given.Effects.Known.{Known}
-use Rattle.papaya_mapping.specs.Given.Effects.declared.acting.Acting.{Acting}
-use Rattle.papaya_mapping.specs.Given.Effects.declared.role.Role.{Role}
-use Rattle.papaya_mapping.specs.Given.Effects.declared.role.Role.TheVariants as role
-use Rattle.papaya_mapping.proofs.Given.Follows.Told.{roomed_as_many}
+use Rattle.papaya_mapping.specs.Given.SeizeWordsWord.{block_in}
+use Rattle.papaya_mapping.specs.Given.SeizeWordsDeclared.at.At.TheVariants.{Root, Used, Slot, Entry, Word}
+use Rattle.papaya_mapping.specs.Given.TablesDeclared.table_words.TheConstants.{NEXT}
+use Rattle.papaya_mapping.specs.Given.TellerDeclared.changed.Changed.{Changed}
+use Rattle.papaya_mapping.specs.Given.TellerDeclared.changed.Changed.TheVariants as changed
+use Rattle.papaya_mapping.specs.Given.EffectsEffects.{is_place, names_same, named, linked_on, stored_on, in_table_on, in_block_on, known_after}
+use Rattle.papaya_mapping.specs.Given.EffectsKnown.{Known}
+use Rattle.papaya_mapping.specs.Given.EffectsDeclared.acting.Acting.{Acting}
+use Rattle.papaya_mapping.specs.Given.EffectsDeclared.role.Role.{Role}
+use Rattle.papaya_mapping.specs.Given.EffectsDeclared.role.Role.TheVariants as role
+use Rattle.papaya_mapping.proofs.Given.FollowsTold.{roomed_as_many}
 
 module _ (acting : Acting) (known : Known) where
   abbrev HasMore : Known → Type 0

@@ -3,20 +3,20 @@ use Rattle.std.specs.Prelude.{◌≡◌, ℕ, Bool, true, false, List, [], ◌�
 use Rattle.std.specs.List.{AllByRecursion}
 use Rattle.std.proofs.Common.{refl, ap, ◌∙◌, subst}
 use Rattle.std.proofs.lemmas.List.Concat.{flat_map-cons}
-use Rattle.papaya_mapping.specs.Given.Schedules.declared.effect.Effect.{Effect}
-use Rattle.papaya_mapping.specs.Given.Schedules.declared.effect.Effect.TheVariants.{Asked, Promoted, Replaced, Removed, Reclaimed}
-use Rattle.papaya_mapping.specs.Given.Schedules.declared.effect.Growth.TheVariants.{ABucket}
-use Rattle.papaya_mapping.specs.Given.Schedules.declared.effect.Thing.{Thing}
-use Rattle.papaya_mapping.specs.Given.Schedules.Effects.{out_by, shelter, with_effect, with_effects}
-use Rattle.papaya_mapping.specs.Given.Schedules.Model.{thing_back}
-use Rattle.papaya_mapping.specs.Given.Schedules.Moment.{Sheltered, Moment}
-use Rattle.papaya_mapping.specs.Given.Teller.declared.changed.Changed.{Changed}
-use Rattle.papaya_mapping.specs.Given.Teller.declared.changed.Changed.TheVariants as changed
-use Rattle.papaya_mapping.specs.Given.Effects.Effects.{taken_by, named, effects_of}
-use Rattle.papaya_mapping.specs.Given.Effects.Known.{Known}
-use Rattle.papaya_mapping.specs.Given.Effects.declared.acting.Acting.TheVariants.{Call}
-use Rattle.papaya_mapping.proofs.Given.Follows.Alike.{is_calm, AllCalm}
-use Rattle.papaya_mapping.proofs.Given.Follows.OfEach.{OfEach, led_so, operation_so}
+use Rattle.papaya_mapping.specs.Given.SchedulesDeclared.effect.Effect.{Effect}
+use Rattle.papaya_mapping.specs.Given.SchedulesDeclared.effect.Effect.TheVariants.{Asked, Promoted, Replaced, Removed, Reclaimed}
+use Rattle.papaya_mapping.specs.Given.SchedulesDeclared.effect.Growth.TheVariants.{ABucket}
+use Rattle.papaya_mapping.specs.Given.SchedulesDeclared.effect.Thing.{Thing}
+use Rattle.papaya_mapping.specs.Given.SchedulesEffects.{out_by, shelter, with_effect, with_effects}
+use Rattle.papaya_mapping.specs.Given.SchedulesModel.{thing_back}
+use Rattle.papaya_mapping.specs.Given.SchedulesMoment.{Sheltered, Moment}
+use Rattle.papaya_mapping.specs.Given.TellerDeclared.changed.Changed.{Changed}
+use Rattle.papaya_mapping.specs.Given.TellerDeclared.changed.Changed.TheVariants as changed
+use Rattle.papaya_mapping.specs.Given.EffectsEffects.{taken_by, named, effects_of}
+use Rattle.papaya_mapping.specs.Given.EffectsKnown.{Known}
+use Rattle.papaya_mapping.specs.Given.EffectsDeclared.acting.Acting.TheVariants.{Call}
+use Rattle.papaya_mapping.proofs.Given.FollowsAlike.{is_calm, AllCalm}
+use Rattle.papaya_mapping.proofs.Given.FollowsOfEach.{OfEach, led_so, operation_so}
 use Rattle.papaya_promises.proofs.Lists.{none_shelter}
 
 -- it takes nothing out of a map

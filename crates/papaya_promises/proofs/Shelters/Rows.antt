@@ -1,49 +1,49 @@
 -- A step of a row on a slot leaves sheltered what is so, and reclaims none of it.
 use Rattle.std.specs.Prelude.{◌≡◌, ◌==◌, ℕ, nat_lt, Bool, true, false, ◌||◌, ◌&&◌, List, [], ◌∷◌, if◌then◌else◌}
 use Rattle.std.proofs.Common.{refl, sym, subst, ap, ◌∙◌, arith, inl}
-use Rattle.papaya_mapping.specs.Given.SeizeWords.Mem.{Mem, value_at}
-use Rattle.papaya_mapping.specs.Given.SeizeWords.declared.at.At.TheVariants.{Root, Used, Slot, Entry, Word}
-use Rattle.papaya_mapping.specs.Given.Seize.Law.{holds}
-use Rattle.papaya_mapping.specs.Given.Seize.World.{World, Step}
-use Rattle.papaya_mapping.proofs.Given.SeizeAlone.Histories.NotTaken.{IsHeld, kept_value, still_held}
-use Rattle.papaya_mapping.proofs.Given.SeizeAlone.Histories.Reached.{Reached}
-use Rattle.papaya_mapping.proofs.Given.SeizeAlone.Histories.Uses.{inside_kept}
-use Rattle.papaya_mapping.specs.Given.Tables.Nodes.{deferred_word}
-use Rattle.papaya_mapping.specs.Given.Tables.declared.node.Node.{Node}
-use Rattle.papaya_mapping.specs.Given.Runs.Present.{Present}
-use Rattle.papaya_mapping.specs.Given.Schedules.declared.effect.Effect.TheVariants.{Asked}
-use Rattle.papaya_mapping.specs.Given.Schedules.declared.effect.Growth.TheVariants.{ABucket}
-use Rattle.papaya_mapping.specs.Given.Schedules.declared.effect.Table.{Table}
-use Rattle.papaya_mapping.specs.Given.Schedules.declared.effect.Thing.{Thing}
-use Rattle.papaya_mapping.specs.Given.Schedules.declared.effect.Thing.TheVariants.{APair, ATable}
-use Rattle.papaya_mapping.specs.Given.Schedules.Lists.{is_in}
-use Rattle.papaya_mapping.specs.Given.Schedules.Moment.{Sheltered, Moment}
-use Rattle.papaya_mapping.specs.Given.Schedules.Things.{same_table, same_thing}
-use Rattle.papaya_mapping.specs.Given.Teller.declared.changed.Changed.{Changed}
-use Rattle.papaya_mapping.specs.Given.Teller.declared.changed.Changed.TheVariants as changed
-use Rattle.papaya_mapping.proofs.Given.Callers.Together.Came.{came_reached}
-use Rattle.papaya_mapping.specs.Given.Effects.Effects.{names_same, taken_by, effects_of, known_after}
-use Rattle.papaya_mapping.specs.Given.Effects.Known.{Known}
-use Rattle.papaya_mapping.specs.Given.Effects.declared.acting.Acting.TheVariants.{Row}
-use Rattle.papaya_mapping.specs.Given.Effects.declared.role.Role.{Role}
-use Rattle.papaya_mapping.specs.Given.Effects.declared.role.Role.TheVariants as role
-use Rattle.papaya_mapping.specs.Given.Scenes.declared.row.RowTold.{RowTold}
-use Rattle.papaya_mapping.specs.Given.Scenes.declared.row.SlotRow.{SlotRow}
-use Rattle.papaya_mapping.proofs.Given.Follows.Onward.{IsOfMap}
-use Rattle.papaya_mapping.proofs.Given.Follows.Operations.{LeavesBy, operated_leaves}
-use Rattle.papaya_mapping.proofs.Given.Follows.Told.{roomed_as_many}
-use Rattle.papaya_mapping.proofs.Given.Others.RowPlans.{TellsRow, row_tells, row_operated}
-use Rattle.papaya_mapping.proofs.Given.Spots.Calm.{put_back}
-use Rattle.papaya_mapping.proofs.Given.Moments.OnSlots.{none_some}
+use Rattle.papaya_mapping.specs.Given.SeizeWordsMem.{Mem, value_at}
+use Rattle.papaya_mapping.specs.Given.SeizeWordsDeclared.at.At.TheVariants.{Root, Used, Slot, Entry, Word}
+use Rattle.papaya_mapping.specs.Given.SeizeLaw.{holds}
+use Rattle.papaya_mapping.specs.Given.SeizeWorld.{World, Step}
+use Rattle.papaya_mapping.proofs.Given.SeizeAloneHistories.NotTaken.{IsHeld, kept_value, still_held}
+use Rattle.papaya_mapping.proofs.Given.SeizeAloneHistories.Reached.{Reached}
+use Rattle.papaya_mapping.proofs.Given.SeizeAloneHistories.Uses.{inside_kept}
+use Rattle.papaya_mapping.specs.Given.TablesNodes.{deferred_word}
+use Rattle.papaya_mapping.specs.Given.TablesDeclared.node.Node.{Node}
+use Rattle.papaya_mapping.specs.Given.RunsPresent.{Present}
+use Rattle.papaya_mapping.specs.Given.SchedulesDeclared.effect.Effect.TheVariants.{Asked}
+use Rattle.papaya_mapping.specs.Given.SchedulesDeclared.effect.Growth.TheVariants.{ABucket}
+use Rattle.papaya_mapping.specs.Given.SchedulesDeclared.effect.Table.{Table}
+use Rattle.papaya_mapping.specs.Given.SchedulesDeclared.effect.Thing.{Thing}
+use Rattle.papaya_mapping.specs.Given.SchedulesDeclared.effect.Thing.TheVariants.{APair, ATable}
+use Rattle.papaya_mapping.specs.Given.SchedulesLists.{is_in}
+use Rattle.papaya_mapping.specs.Given.SchedulesMoment.{Sheltered, Moment}
+use Rattle.papaya_mapping.specs.Given.SchedulesThings.{same_table, same_thing}
+use Rattle.papaya_mapping.specs.Given.TellerDeclared.changed.Changed.{Changed}
+use Rattle.papaya_mapping.specs.Given.TellerDeclared.changed.Changed.TheVariants as changed
+use Rattle.papaya_mapping.proofs.Given.CallersTogether.Came.{came_reached}
+use Rattle.papaya_mapping.specs.Given.EffectsEffects.{names_same, taken_by, effects_of, known_after}
+use Rattle.papaya_mapping.specs.Given.EffectsKnown.{Known}
+use Rattle.papaya_mapping.specs.Given.EffectsDeclared.acting.Acting.TheVariants.{Row}
+use Rattle.papaya_mapping.specs.Given.EffectsDeclared.role.Role.{Role}
+use Rattle.papaya_mapping.specs.Given.EffectsDeclared.role.Role.TheVariants as role
+use Rattle.papaya_mapping.specs.Given.ScenesDeclared.row.RowTold.{RowTold}
+use Rattle.papaya_mapping.specs.Given.ScenesDeclared.row.SlotRow.{SlotRow}
+use Rattle.papaya_mapping.proofs.Given.FollowsOnward.{IsOfMap}
+use Rattle.papaya_mapping.proofs.Given.FollowsOperations.{LeavesBy, operated_leaves}
+use Rattle.papaya_mapping.proofs.Given.FollowsTold.{roomed_as_many}
+use Rattle.papaya_mapping.proofs.Given.OthersRowPlans.{TellsRow, row_tells, row_operated}
+use Rattle.papaya_mapping.proofs.Given.SpotsCalm.{put_back}
+use Rattle.papaya_mapping.proofs.Given.MomentsOnSlots.{none_some}
 use Rattle.papaya_promises.specs.Shelters.{RowsShelter, NoneIsBack}
 use Rattle.papaya_promises.specs.Sheltered.{AreSheltered, AreShelteredOn, GuardsAreInside, GuardsAreOn, IsOfThing, IsShelteredOn}
 use Rattle.papaya_promises.proofs.Shelters.Lasting.{Lasts, of_map, all_last, guards_last}
 use Rattle.papaya_promises.proofs.Shelters.Within.{GoOn, Within}
 use Rattle.papaya_promises.proofs.Lists.{all_of}
-use Rattle.papaya_mapping.proofs.Given.Scenes.May.{may_row}
-use Rattle.papaya_mapping.specs.Given.Scenes.Held.{Held, IsAt}
-use Rattle.papaya_mapping.specs.Given.Scenes.OnSlots.{HappensAt, RowSteps}
-use Rattle.papaya_mapping.specs.Given.Scenes.Scene.{IsOnSlot, Scene}
+use Rattle.papaya_mapping.proofs.Given.ScenesMay.{may_row}
+use Rattle.papaya_mapping.specs.Given.ScenesHeld.{Held, IsAt}
+use Rattle.papaya_mapping.specs.Given.ScenesOnSlots.{HappensAt, RowSteps}
+use Rattle.papaya_mapping.specs.Given.ScenesScene.{IsOnSlot, Scene}
 
 -- two things that are the same
 

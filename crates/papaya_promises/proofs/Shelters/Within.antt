@@ -1,29 +1,29 @@
 -- Over a step of a call, of a row or none, sections go on, and hold what they held.
 use Rattle.std.specs.Prelude.{◌≡◌, ℕ, Bool, true, List, [], Some}
 use Rattle.std.proofs.Common.{refl, sym, subst, inl, inr}
-use Rattle.papaya_mapping.specs.Given.Seize.Law.{Deferred, holds, is_open}
-use Rattle.papaya_mapping.specs.Given.Seize.World.{World, Use, Event, Begin, Happens, Runs, IsInside, Request, Register', Enter', Leave', LeaveOwned, Refresh, Unregister', Retire, Flush, Defer'}
-use Rattle.papaya_mapping.proofs.Given.SeizeMoves.State.Held.{held_on}
-use Rattle.papaya_mapping.proofs.Given.SeizeAlone.Histories.NotTaken.{still_held}
-use Rattle.papaya_mapping.proofs.Given.SeizeAlone.Histories.Reached.{Reached, happens_reached}
-use Rattle.papaya_mapping.proofs.Given.SeizeAlone.Histories.Uses.{inside_kept, inside_open}
-use Rattle.papaya_mapping.specs.Given.Tables.Nodes.{deferred_word}
-use Rattle.papaya_mapping.specs.Given.Tables.declared.node.Node.{Node}
-use Rattle.papaya_mapping.specs.Given.Tables.declared.setting.Setting.{Setting}
-use Rattle.papaya_mapping.specs.Given.Raw.declared.machines.progress.Progress.{Progress}
-use Rattle.papaya_mapping.specs.Given.Rule.InWorld.{AllUsers}
-use Rattle.papaya_mapping.specs.Given.Schedules.Moment.{Moment}
-use Rattle.papaya_mapping.specs.Given.Callers.Together.{UnderWay, OnKey, ForRoom, Counting, OverAll, CameAbout, HandsOver, IsOneStep}
-use Rattle.papaya_mapping.proofs.Given.Callers.Rows.Users.{events_hold}
-use Rattle.papaya_mapping.proofs.Given.Callers.Together.Came.{came_reached}
-use Rattle.papaya_mapping.proofs.Given.Callers.Together.Handed.{inside_on}
-use Rattle.papaya_mapping.proofs.Given.Callers.Together.Users.{events_uses}
-use Rattle.papaya_mapping.specs.Given.Effects.Known.{Known}
-use Rattle.papaya_mapping.specs.Given.Follows.Shows.{Shows}
-use Rattle.papaya_mapping.proofs.Given.Follows.Steps.{WentTo, went_to, DidSo}
-use Rattle.papaya_mapping.specs.Given.Scenes.Held.{Held, IsAt}
-use Rattle.papaya_mapping.specs.Given.Scenes.Scene.{Scene}
-use Rattle.papaya_mapping.specs.Given.Scenes.Stepping.{StepLeads}
+use Rattle.papaya_mapping.specs.Given.SeizeLaw.{Deferred, holds, is_open}
+use Rattle.papaya_mapping.specs.Given.SeizeWorld.{World, Use, Event, Begin, Happens, Runs, IsInside, Request, Register', Enter', Leave', LeaveOwned, Refresh, Unregister', Retire, Flush, Defer'}
+use Rattle.papaya_mapping.proofs.Given.SeizeMovesState.Held.{held_on}
+use Rattle.papaya_mapping.proofs.Given.SeizeAloneHistories.NotTaken.{still_held}
+use Rattle.papaya_mapping.proofs.Given.SeizeAloneHistories.Reached.{Reached, happens_reached}
+use Rattle.papaya_mapping.proofs.Given.SeizeAloneHistories.Uses.{inside_kept, inside_open}
+use Rattle.papaya_mapping.specs.Given.TablesNodes.{deferred_word}
+use Rattle.papaya_mapping.specs.Given.TablesDeclared.node.Node.{Node}
+use Rattle.papaya_mapping.specs.Given.TablesDeclared.setting.Setting.{Setting}
+use Rattle.papaya_mapping.specs.Given.RawDeclared.machines.progress.Progress.{Progress}
+use Rattle.papaya_mapping.specs.Given.RuleInWorld.{AllUsers}
+use Rattle.papaya_mapping.specs.Given.SchedulesMoment.{Moment}
+use Rattle.papaya_mapping.specs.Given.CallersTogether.{UnderWay, OnKey, ForRoom, Counting, OverAll, CameAbout, HandsOver, IsOneStep}
+use Rattle.papaya_mapping.proofs.Given.CallersRows.Users.{events_hold}
+use Rattle.papaya_mapping.proofs.Given.CallersTogether.Came.{came_reached}
+use Rattle.papaya_mapping.proofs.Given.CallersTogether.Handed.{inside_on}
+use Rattle.papaya_mapping.proofs.Given.CallersTogether.Users.{events_uses}
+use Rattle.papaya_mapping.specs.Given.EffectsKnown.{Known}
+use Rattle.papaya_mapping.specs.Given.FollowsShows.{Shows}
+use Rattle.papaya_mapping.proofs.Given.FollowsSteps.{WentTo, went_to, DidSo}
+use Rattle.papaya_mapping.specs.Given.ScenesHeld.{Held, IsAt}
+use Rattle.papaya_mapping.specs.Given.ScenesScene.{Scene}
+use Rattle.papaya_mapping.specs.Given.ScenesStepping.{StepLeads}
 
 -- sections of one kind are of another one then, and hold what they held
 pub record GoOn {K V : Type 0} (On On2 : ℕ → Type 0) (w w2 : World (Node K V)) : Type 0 where

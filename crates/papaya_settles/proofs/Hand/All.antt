@@ -1,22 +1,22 @@
 -- What a call has in hand goes with the effects of each of its steps, whichever call it is, and whether the step is one of a row or not.
 use Rattle.std.specs.Prelude.{◌≡◌, ℕ, Bool, List, [], Some, ◌⊎◌}
 use Rattle.std.proofs.Common.{ap, sym, subst, inl, inr}
-use Rattle.papaya_histories.specs.Given.Tables.declared.node.Node.{Node}
-use Rattle.papaya_histories.specs.Given.Raw.declared.machines.call.Calling.{Calling}
-use Rattle.papaya_histories.specs.Given.Raw.declared.machines.call.Calling.TheVariants as at
-use Rattle.papaya_histories.specs.Given.Raw.declared.machines.progress.Progress.{Progress}
-use Rattle.papaya_histories.specs.Given.Schedules.Moment.{Moment}
-use Rattle.papaya_histories.specs.Given.Points.FactsCalls.{IsCopying}
-use Rattle.papaya_histories.specs.Given.Points.Told.{IsRowOfCall}
-use Rattle.papaya_histories.specs.Given.Late.ToldReserves.{IsRowOfReserve}
-use Rattle.papaya_histories.specs.Given.Late.ToldSweeps.{IsRowOfSweep}
-use Rattle.papaya_histories.specs.Given.Callers.OverAll.{CallOverAll}
-use Rattle.papaya_histories.specs.Given.Callers.Rooms.{CallForRoom}
-use Rattle.papaya_histories.specs.Given.Callers.Together.{CallOnKey, UnderWay, OnKey, ForRoom, Counting, OverAll}
-use Rattle.papaya_histories.specs.Given.Effects.Known.{Known}
-use Rattle.papaya_histories.specs.Given.Follows.Shows.{Shows}
-use Rattle.papaya_histories.proofs.Given.Follows.Steps.{went_to, made_so, DidSo, OfNoRow}
-use Rattle.papaya_histories.proofs.Given.Spots.Steps.{stayed_calm}
+use Rattle.papaya_histories.specs.Given.TablesDeclared.node.Node.{Node}
+use Rattle.papaya_histories.specs.Given.RawDeclared.machines.call.Calling.{Calling}
+use Rattle.papaya_histories.specs.Given.RawDeclared.machines.call.Calling.TheVariants as at
+use Rattle.papaya_histories.specs.Given.RawDeclared.machines.progress.Progress.{Progress}
+use Rattle.papaya_histories.specs.Given.SchedulesMoment.{Moment}
+use Rattle.papaya_histories.specs.Given.PointsFactsCalls.{IsCopying}
+use Rattle.papaya_histories.specs.Given.PointsTold.{IsRowOfCall}
+use Rattle.papaya_histories.specs.Given.LateToldReserves.{IsRowOfReserve}
+use Rattle.papaya_histories.specs.Given.LateToldSweeps.{IsRowOfSweep}
+use Rattle.papaya_histories.specs.Given.CallersOverAll.{CallOverAll}
+use Rattle.papaya_histories.specs.Given.CallersRooms.{CallForRoom}
+use Rattle.papaya_histories.specs.Given.CallersTogether.{CallOnKey, UnderWay, OnKey, ForRoom, Counting, OverAll}
+use Rattle.papaya_histories.specs.Given.EffectsKnown.{Known}
+use Rattle.papaya_histories.specs.Given.FollowsShows.{Shows}
+use Rattle.papaya_histories.proofs.Given.FollowsSteps.{went_to, made_so, DidSo, OfNoRow}
+use Rattle.papaya_histories.proofs.Given.SpotsSteps.{stayed_calm}
 use Rattle.papaya_settles.specs.Hand.{in_hand, NotesInHand}
 use Rattle.papaya_settles.specs.Owed.{HandGoes, CallsGoInHand}
 use Rattle.papaya_settles.specs.Owing.{KeepsOwed}
@@ -26,9 +26,9 @@ use Rattle.papaya_settles.proofs.Hand.Rooms.{room_goes_on}
 use Rattle.papaya_settles.proofs.Hand.Steps.{rows_hand_over}
 use Rattle.papaya_settles.proofs.Hand.Sweeps.{sweep_goes_on}
 use Rattle.papaya_settles.proofs.Takings.{all_calm}
-use Rattle.papaya_histories.specs.Given.Scenes.Held.{Held, IsAt}
-use Rattle.papaya_histories.specs.Given.Scenes.Scene.{Scene}
-use Rattle.papaya_histories.specs.Given.Scenes.Stepping.{StepLeads}
+use Rattle.papaya_histories.specs.Given.ScenesHeld.{Held, IsAt}
+use Rattle.papaya_histories.specs.Given.ScenesScene.{Scene}
+use Rattle.papaya_histories.specs.Given.ScenesStepping.{StepLeads}
 
 -- it copies, or it does not
 copies_or_not : (p : Calling) → IsCopying p ⊎ (IsCopying p → ⊥)

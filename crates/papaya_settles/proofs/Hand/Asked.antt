@@ -1,35 +1,35 @@
 -- A machine that is told something, or asked for its next pair, has in hand what it had; and what begins, or is ready, has nothing.
 use Rattle.std.specs.Prelude.{◌≡◌, ℕ, ◌==◌, Bool, true, false, [], if◌then◌else◌}
 use Rattle.std.proofs.Common.{refl, sym, subst, ◌∙◌}
-use Rattle.papaya_histories.specs.Given.Sweeps.SweepPoints as points
-use Rattle.papaya_histories.specs.Given.Sweeps.SweepPoints.{next_at, reply_at, after_reply, further}
-use Rattle.papaya_histories.specs.Given.Sweeps.declared.sweep.Sweep.{Sweep}
-use Rattle.papaya_histories.specs.Given.Sweeps.declared.sweep.Sweeping.{Sweeping}
-use Rattle.papaya_histories.specs.Given.Sweeps.declared.sweep.Sweeping.TheVariants as sweeping
-use Rattle.papaya_histories.specs.Given.Raw.CallAsks.{with_absent, with_present, absent_told, present_told, told_at}
-use Rattle.papaya_histories.specs.Given.Raw.CallPoints.{going, over, ending, storing, burying, at_gap}
-use Rattle.papaya_histories.specs.Given.Raw.Machine.{is_ready, sweep_told, machine_replied, machine_asked}
-use Rattle.papaya_histories.specs.Given.Raw.declared.machines.answer.Called.{Called}
-use Rattle.papaya_histories.specs.Given.Raw.declared.machines.answer.End.{End}
-use Rattle.papaya_histories.specs.Given.Raw.declared.machines.answer.End.TheVariants as ends
-use Rattle.papaya_histories.specs.Given.Raw.declared.machines.answer.KeyAnswer.TheVariants as answers
-use Rattle.papaya_histories.specs.Given.Raw.declared.machines.asking.Asking.TheVariants as asking
-use Rattle.papaya_histories.specs.Given.Raw.declared.machines.asking.Gap.{Gap}
-use Rattle.papaya_histories.specs.Given.Raw.declared.machines.asking.Gap.TheVariants as gaps
-use Rattle.papaya_histories.specs.Given.Raw.declared.machines.asking.Reply.{Reply}
-use Rattle.papaya_histories.specs.Given.Raw.declared.machines.asking.Reply.TheVariants as reply
-use Rattle.papaya_histories.specs.Given.Raw.declared.machines.asking.Takes.{Takes}
-use Rattle.papaya_histories.specs.Given.Raw.declared.machines.asking.Takes.TheVariants as takes
-use Rattle.papaya_histories.specs.Given.Raw.declared.machines.asking.Told.{Told}
-use Rattle.papaya_histories.specs.Given.Raw.declared.machines.asking.Told.TheVariants as tells
-use Rattle.papaya_histories.specs.Given.Raw.declared.machines.call.Calling.{Calling}
-use Rattle.papaya_histories.specs.Given.Raw.declared.machines.call.Calling.TheVariants as at
-use Rattle.papaya_histories.specs.Given.Raw.declared.machines.call.KeyCall.{KeyCall}
-use Rattle.papaya_histories.specs.Given.Raw.declared.machines.machine.Machine.{Machine}
-use Rattle.papaya_histories.specs.Given.Raw.declared.machines.machine.Machine.TheVariants as kinds
-use Rattle.papaya_histories.specs.Given.Tables.declared.marks.TheConstants.{TOMBSTONE}
-use Rattle.papaya_histories.specs.Given.Tables.declared.node.Node.{Node}
-use Rattle.papaya_histories.specs.Given.Effects.Known.{Known}
+use Rattle.papaya_histories.specs.Given.SweepsSweepPoints as points
+use Rattle.papaya_histories.specs.Given.SweepsSweepPoints.{next_at, reply_at, after_reply, further}
+use Rattle.papaya_histories.specs.Given.SweepsDeclared.sweep.Sweep.{Sweep}
+use Rattle.papaya_histories.specs.Given.SweepsDeclared.sweep.Sweeping.{Sweeping}
+use Rattle.papaya_histories.specs.Given.SweepsDeclared.sweep.Sweeping.TheVariants as sweeping
+use Rattle.papaya_histories.specs.Given.RawCallAsks.{with_absent, with_present, absent_told, present_told, told_at}
+use Rattle.papaya_histories.specs.Given.RawCallPoints.{going, over, ending, storing, burying, at_gap}
+use Rattle.papaya_histories.specs.Given.RawMachine.{is_ready, sweep_told, machine_replied, machine_asked}
+use Rattle.papaya_histories.specs.Given.RawDeclared.machines.answer.Called.{Called}
+use Rattle.papaya_histories.specs.Given.RawDeclared.machines.answer.End.{End}
+use Rattle.papaya_histories.specs.Given.RawDeclared.machines.answer.End.TheVariants as ends
+use Rattle.papaya_histories.specs.Given.RawDeclared.machines.answer.KeyAnswer.TheVariants as answers
+use Rattle.papaya_histories.specs.Given.RawDeclared.machines.asking.Asking.TheVariants as asking
+use Rattle.papaya_histories.specs.Given.RawDeclared.machines.asking.Gap.{Gap}
+use Rattle.papaya_histories.specs.Given.RawDeclared.machines.asking.Gap.TheVariants as gaps
+use Rattle.papaya_histories.specs.Given.RawDeclared.machines.asking.Reply.{Reply}
+use Rattle.papaya_histories.specs.Given.RawDeclared.machines.asking.Reply.TheVariants as reply
+use Rattle.papaya_histories.specs.Given.RawDeclared.machines.asking.Takes.{Takes}
+use Rattle.papaya_histories.specs.Given.RawDeclared.machines.asking.Takes.TheVariants as takes
+use Rattle.papaya_histories.specs.Given.RawDeclared.machines.asking.Told.{Told}
+use Rattle.papaya_histories.specs.Given.RawDeclared.machines.asking.Told.TheVariants as tells
+use Rattle.papaya_histories.specs.Given.RawDeclared.machines.call.Calling.{Calling}
+use Rattle.papaya_histories.specs.Given.RawDeclared.machines.call.Calling.TheVariants as at
+use Rattle.papaya_histories.specs.Given.RawDeclared.machines.call.KeyCall.{KeyCall}
+use Rattle.papaya_histories.specs.Given.RawDeclared.machines.machine.Machine.{Machine}
+use Rattle.papaya_histories.specs.Given.RawDeclared.machines.machine.Machine.TheVariants as kinds
+use Rattle.papaya_histories.specs.Given.TablesDeclared.marks.TheConstants.{TOMBSTONE}
+use Rattle.papaya_histories.specs.Given.TablesDeclared.node.Node.{Node}
+use Rattle.papaya_histories.specs.Given.EffectsKnown.{Known}
 use Rattle.papaya_settles.specs.Hand.{in_hand_of_call, in_hand_of_sweep, in_hand, NotesOfCall, NotesOfSweep, NotesInHand}
 use Rattle.papaya_settles.specs.Owed.{WalksHaveNothing}
 

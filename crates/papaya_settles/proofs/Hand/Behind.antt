@@ -2,56 +2,56 @@
 use Rattle.std.specs.Prelude.{◌≡◌, ℕ, Bool, true, false, [], ◌++◌, Option, Some, None, ◌⊎◌, if◌then◌else◌}
 use Rattle.std.proofs.Common.{refl, ap, sym, subst, ◌∙◌, inl, inr}
 use Rattle.std.proofs.lemmas.List.{append-nil}
-use Rattle.papaya_histories.specs.Given.SeizeWords.declared.at.At.{At}
-use Rattle.papaya_histories.specs.Given.Seize.Defer.{defer_plan}
-use Rattle.papaya_histories.specs.Given.Seize.Settle.{settle_plan}
-use Rattle.papaya_histories.specs.Given.Seize.declared.progress.Progress.{Progress}
-use Rattle.papaya_histories.specs.Given.Seize.declared.progress.Progress.TheVariants as progress
-use Rattle.papaya_histories.specs.Given.Seize.declared.rows.defer.Defer.{Defer}
-use Rattle.papaya_histories.specs.Given.Seize.declared.rows.settle.Settle.{Settle}
-use Rattle.papaya_histories.specs.Given.Seize.declared.rows.settle.Settled.{Settled}
-use Rattle.papaya_histories.specs.Given.Seize.declared.rows.settle.Settled.TheVariants as settled
-use Rattle.papaya_histories.specs.Given.Seize.declared.rows.settle.Settling.{Settling}
-use Rattle.papaya_histories.specs.Given.Seize.declared.rows.settle.Settling.TheVariants as settling
-use Rattle.papaya_histories.specs.Given.Tables.Nodes.{deferred_word}
-use Rattle.papaya_histories.specs.Given.Tables.declared.node.Node.{Node}
-use Rattle.papaya_histories.specs.Given.Tables.declared.table.Table.{Table}
-use Rattle.papaya_histories.specs.Given.Resize.Copier.{copier_plan}
-use Rattle.papaya_histories.specs.Given.Resize.Copier as copiers
-use Rattle.papaya_histories.specs.Given.Resize.CopierPromotes.{retired}
-use Rattle.papaya_histories.specs.Given.Resize.Dispose.{dispose_plan}
-use Rattle.papaya_histories.specs.Given.Resize.Dispose as disposes
-use Rattle.papaya_histories.specs.Given.Resize.declared.copier.Copier.{Copier}
-use Rattle.papaya_histories.specs.Given.Resize.declared.copier.Copying.{Copying}
-use Rattle.papaya_histories.specs.Given.Resize.declared.copier.Copying.TheVariants as copying
-use Rattle.papaya_histories.specs.Given.Resize.declared.dispose.Dispose.{Dispose}
-use Rattle.papaya_histories.specs.Given.Resize.declared.dispose.Disposing.{Disposing}
-use Rattle.papaya_histories.specs.Given.Resize.declared.dispose.Disposing.TheVariants as disposing
-use Rattle.papaya_histories.specs.Given.Resize.declared.outcome.Outcome.{Outcome}
-use Rattle.papaya_histories.specs.Given.Resize.declared.outcome.Outcome.TheVariants as outcome
-use Rattle.papaya_histories.specs.Given.Reserves.Reserve as reserves
-use Rattle.papaya_histories.specs.Given.Reserves.declared.reserve.Reserve.{Reserve}
-use Rattle.papaya_histories.specs.Given.Reserves.declared.reserve.Reserving.{Reserving}
-use Rattle.papaya_histories.specs.Given.Reserves.declared.reserve.Reserving.TheVariants as reserving
-use Rattle.papaya_histories.specs.Given.Sweeps.Sweep as sweeps
-use Rattle.papaya_histories.specs.Given.Sweeps.SweepPoints as points
-use Rattle.papaya_histories.specs.Given.Sweeps.declared.sweep.Sweep.{Sweep}
-use Rattle.papaya_histories.specs.Given.Sweeps.declared.sweep.Sweeping.{Sweeping}
-use Rattle.papaya_histories.specs.Given.Sweeps.declared.sweep.Sweeping.TheVariants as sweeping
-use Rattle.papaya_histories.specs.Given.Sweeps.declared.sweep.Swept.{Swept}
-use Rattle.papaya_histories.specs.Given.Raw.Call.{disposed, helped, copied, plan_at}
-use Rattle.papaya_histories.specs.Given.Raw.Progress.{of_called, of_outcome, of_swept}
-use Rattle.papaya_histories.specs.Given.Raw.declared.machines.answer.Called.{Called}
-use Rattle.papaya_histories.specs.Given.Raw.declared.machines.answer.KeyAnswer.{KeyAnswer}
-use Rattle.papaya_histories.specs.Given.Raw.declared.machines.call.Calling.{Calling}
-use Rattle.papaya_histories.specs.Given.Raw.declared.machines.call.Calling.TheVariants as calling
-use Rattle.papaya_histories.specs.Given.Raw.declared.machines.call.KeyCall.{KeyCall}
-use Rattle.papaya_histories.specs.Given.Effects.Effects.{named}
-use Rattle.papaya_histories.specs.Given.Effects.Known.{Known}
-use Rattle.papaya_histories.proofs.Given.Rule.Keys.Always.{AlwaysOf, always_plan_as}
-use Rattle.papaya_histories.specs.Given.Points.Told.{IsRowOf, IsRowOfCopier, IsRowOfCall}
-use Rattle.papaya_histories.specs.Given.Late.ToldReserves.{IsRowOfReserve}
-use Rattle.papaya_histories.specs.Given.Late.ToldSweeps.{IsRowOfSweep}
+use Rattle.papaya_histories.specs.Given.SeizeWordsDeclared.at.At.{At}
+use Rattle.papaya_histories.specs.Given.SeizeDefer.{defer_plan}
+use Rattle.papaya_histories.specs.Given.SeizeSettle.{settle_plan}
+use Rattle.papaya_histories.specs.Given.SeizeDeclared.progress.Progress.{Progress}
+use Rattle.papaya_histories.specs.Given.SeizeDeclared.progress.Progress.TheVariants as progress
+use Rattle.papaya_histories.specs.Given.SeizeDeclared.rows.defer.Defer.{Defer}
+use Rattle.papaya_histories.specs.Given.SeizeDeclared.rows.settle.Settle.{Settle}
+use Rattle.papaya_histories.specs.Given.SeizeDeclared.rows.settle.Settled.{Settled}
+use Rattle.papaya_histories.specs.Given.SeizeDeclared.rows.settle.Settled.TheVariants as settled
+use Rattle.papaya_histories.specs.Given.SeizeDeclared.rows.settle.Settling.{Settling}
+use Rattle.papaya_histories.specs.Given.SeizeDeclared.rows.settle.Settling.TheVariants as settling
+use Rattle.papaya_histories.specs.Given.TablesNodes.{deferred_word}
+use Rattle.papaya_histories.specs.Given.TablesDeclared.node.Node.{Node}
+use Rattle.papaya_histories.specs.Given.TablesDeclared.table.Table.{Table}
+use Rattle.papaya_histories.specs.Given.ResizeCopier.{copier_plan}
+use Rattle.papaya_histories.specs.Given.ResizeCopier as copiers
+use Rattle.papaya_histories.specs.Given.ResizeCopierPromotes.{retired}
+use Rattle.papaya_histories.specs.Given.ResizeDispose.{dispose_plan}
+use Rattle.papaya_histories.specs.Given.ResizeDispose as disposes
+use Rattle.papaya_histories.specs.Given.ResizeDeclared.copier.Copier.{Copier}
+use Rattle.papaya_histories.specs.Given.ResizeDeclared.copier.Copying.{Copying}
+use Rattle.papaya_histories.specs.Given.ResizeDeclared.copier.Copying.TheVariants as copying
+use Rattle.papaya_histories.specs.Given.ResizeDeclared.dispose.Dispose.{Dispose}
+use Rattle.papaya_histories.specs.Given.ResizeDeclared.dispose.Disposing.{Disposing}
+use Rattle.papaya_histories.specs.Given.ResizeDeclared.dispose.Disposing.TheVariants as disposing
+use Rattle.papaya_histories.specs.Given.ResizeDeclared.outcome.Outcome.{Outcome}
+use Rattle.papaya_histories.specs.Given.ResizeDeclared.outcome.Outcome.TheVariants as outcome
+use Rattle.papaya_histories.specs.Given.ReservesReserve as reserves
+use Rattle.papaya_histories.specs.Given.ReservesDeclared.reserve.Reserve.{Reserve}
+use Rattle.papaya_histories.specs.Given.ReservesDeclared.reserve.Reserving.{Reserving}
+use Rattle.papaya_histories.specs.Given.ReservesDeclared.reserve.Reserving.TheVariants as reserving
+use Rattle.papaya_histories.specs.Given.SweepsSweep as sweeps
+use Rattle.papaya_histories.specs.Given.SweepsSweepPoints as points
+use Rattle.papaya_histories.specs.Given.SweepsDeclared.sweep.Sweep.{Sweep}
+use Rattle.papaya_histories.specs.Given.SweepsDeclared.sweep.Sweeping.{Sweeping}
+use Rattle.papaya_histories.specs.Given.SweepsDeclared.sweep.Sweeping.TheVariants as sweeping
+use Rattle.papaya_histories.specs.Given.SweepsDeclared.sweep.Swept.{Swept}
+use Rattle.papaya_histories.specs.Given.RawCall.{disposed, helped, copied, plan_at}
+use Rattle.papaya_histories.specs.Given.RawProgress.{of_called, of_outcome, of_swept}
+use Rattle.papaya_histories.specs.Given.RawDeclared.machines.answer.Called.{Called}
+use Rattle.papaya_histories.specs.Given.RawDeclared.machines.answer.KeyAnswer.{KeyAnswer}
+use Rattle.papaya_histories.specs.Given.RawDeclared.machines.call.Calling.{Calling}
+use Rattle.papaya_histories.specs.Given.RawDeclared.machines.call.Calling.TheVariants as calling
+use Rattle.papaya_histories.specs.Given.RawDeclared.machines.call.KeyCall.{KeyCall}
+use Rattle.papaya_histories.specs.Given.EffectsEffects.{named}
+use Rattle.papaya_histories.specs.Given.EffectsKnown.{Known}
+use Rattle.papaya_histories.proofs.Given.RuleKeys.Always.{AlwaysOf, always_plan_as}
+use Rattle.papaya_histories.specs.Given.PointsTold.{IsRowOf, IsRowOfCopier, IsRowOfCall}
+use Rattle.papaya_histories.specs.Given.LateToldReserves.{IsRowOfReserve}
+use Rattle.papaya_histories.specs.Given.LateToldSweeps.{IsRowOfSweep}
 use Rattle.papaya_settles.specs.Due.{Due, ToPut, word_due, due_in_settle, due_in_disposing, due_in_copying, due_in_calling, due_in_reserving, due_in_sweeping}
 use Rattle.papaya_settles.specs.Hand.{things_at, tables_from, tables_in_hand, in_hand_of_call, in_hand_of_room, in_hand_of_sweep, IsPairRole, NotesPair, NotesDue, NotesTable, NotesTables, NotesOfCall, NotesOfRoom, NotesOfSweep}
 use Rattle.papaya_settles.specs.InHand.{pair_in_disposing}
@@ -59,7 +59,7 @@ use Rattle.papaya_settles.proofs.DueRows.{GoesOn}
 use Rattle.papaya_settles.proofs.Hand.Rows.{KeepsBehind, Behind}
 use Rattle.papaya_settles.proofs.Held.{always_turned}
 use Rattle.papaya_settles.proofs.Passed.{GoesBehind, retired_behind}
-use Rattle.papaya_histories.specs.Given.Scenes.Stepping.{has_ended}
+use Rattle.papaya_histories.specs.Given.ScenesStepping.{has_ended}
 
 -- what a row is to hand over it has still, or has none of any more
 abbrev pub GoesDue : Option Due → Option Due → Type 0

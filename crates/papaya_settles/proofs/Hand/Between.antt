@@ -1,35 +1,35 @@
 -- Between the steps of calls, and as others take steps: each call owes just what it has in hand where one begins, is told a reply, or has come to an outcome.
 use Rattle.std.specs.Prelude.{◌≡◌, ◌+◌, ℕ, Bool, true, false, cond, not, List, find, map, Option, Some, None, if◌then◌else◌}
 use Rattle.std.proofs.Common.{refl, ap, sym, subst, ◌∙◌, inl, inr}
-use Rattle.papaya_histories.specs.Given.Runs.Same.{is_same}
-use Rattle.papaya_histories.specs.Given.Raw.Machine.{machine_replied, machine_asked}
-use Rattle.papaya_histories.specs.Given.Raw.declared.machines.machine.Machine.{Machine}
-use Rattle.papaya_histories.specs.Given.Schedules.declared.call.Reply.{Reply}
-use Rattle.papaya_histories.specs.Given.Schedules.declared.outcome.Outcome.{Outcome}
-use Rattle.papaya_histories.specs.Given.Schedules.declared.outcome.Outcome.TheVariants as outcome
-use Rattle.papaya_histories.specs.Given.Schedules.After.{asks_on, comes_to, replied, without_call}
-use Rattle.papaya_histories.specs.Given.Schedules.Beginning.{fresh_call, with_call}
-use Rattle.papaya_histories.specs.Given.Schedules.Entry.{ends_call}
-use Rattle.papaya_histories.specs.Given.Schedules.Moment.{Stands, Going, Asking, Told as WasTold, IsReady, UnderWay as CallThere, Moment}
-use Rattle.papaya_histories.specs.Given.Schedules.Views.{call_of}
-use Rattle.papaya_histories.specs.Given.Callers.Together.{UnderWay}
-use Rattle.papaya_histories.specs.Given.Effects.Known.{Known}
-use Rattle.papaya_histories.specs.Given.Finishes.Machines.{machine_of}
-use Rattle.papaya_histories.specs.Given.Finishes.Maps.{with_call as with_in}
-use Rattle.papaya_histories.specs.Given.Follows.Calling.{NoneNamed}
-use Rattle.papaya_histories.specs.Given.Follows.Calls.{ShowsCalls}
-use Rattle.papaya_histories.proofs.Given.Follows.Calling.{is_same_refl, apart_back, found_kept, come, come_of_same, replied_same}
-use Rattle.papaya_histories.proofs.Given.Follows.Calls.{IsOfSame, changed, found}
-use Rattle.papaya_histories.proofs.Given.Follows.Steps.{one_of}
-use Rattle.papaya_histories.proofs.Given.Hands.Asking.{which}
-use Rattle.papaya_histories.proofs.Given.Hands.Calling.{caller_is}
-use Rattle.papaya_histories.specs.Given.Others.Walks.{given_up}
+use Rattle.papaya_histories.specs.Given.RunsSame.{is_same}
+use Rattle.papaya_histories.specs.Given.RawMachine.{machine_replied, machine_asked}
+use Rattle.papaya_histories.specs.Given.RawDeclared.machines.machine.Machine.{Machine}
+use Rattle.papaya_histories.specs.Given.SchedulesDeclared.call.Reply.{Reply}
+use Rattle.papaya_histories.specs.Given.SchedulesDeclared.outcome.Outcome.{Outcome}
+use Rattle.papaya_histories.specs.Given.SchedulesDeclared.outcome.Outcome.TheVariants as outcome
+use Rattle.papaya_histories.specs.Given.SchedulesAfter.{asks_on, comes_to, replied, without_call}
+use Rattle.papaya_histories.specs.Given.SchedulesBeginning.{fresh_call, with_call}
+use Rattle.papaya_histories.specs.Given.SchedulesEntry.{ends_call}
+use Rattle.papaya_histories.specs.Given.SchedulesMoment.{Stands, Going, Asking, Told as WasTold, IsReady, UnderWay as CallThere, Moment}
+use Rattle.papaya_histories.specs.Given.SchedulesViews.{call_of}
+use Rattle.papaya_histories.specs.Given.CallersTogether.{UnderWay}
+use Rattle.papaya_histories.specs.Given.EffectsKnown.{Known}
+use Rattle.papaya_histories.specs.Given.FinishesMachines.{machine_of}
+use Rattle.papaya_histories.specs.Given.FinishesMaps.{with_call as with_in}
+use Rattle.papaya_histories.specs.Given.FollowsCalling.{NoneNamed}
+use Rattle.papaya_histories.specs.Given.FollowsCalls.{ShowsCalls}
+use Rattle.papaya_histories.proofs.Given.FollowsCalling.{is_same_refl, apart_back, found_kept, come, come_of_same, replied_same}
+use Rattle.papaya_histories.proofs.Given.FollowsCalls.{IsOfSame, changed, found}
+use Rattle.papaya_histories.proofs.Given.FollowsSteps.{one_of}
+use Rattle.papaya_histories.proofs.Given.HandsAsking.{which}
+use Rattle.papaya_histories.proofs.Given.HandsCalling.{caller_is}
+use Rattle.papaya_histories.specs.Given.OthersWalks.{given_up}
 use Rattle.papaya_settles.specs.Hand.{in_hand, NotesInHand, ShowsOwed}
 use Rattle.papaya_settles.specs.Owed.{OwedBegins, StaysOwed, EffectsLeaveOwed, CallsBeginOwed, CallsTakeOwed, CallsComeToOwed, WalksGoOnOwed, WalksStopOwed}
 use Rattle.papaya_settles.proofs.Gains.{none_changed}
 use Rattle.papaya_settles.proofs.Hand.Asked.{told_stays, asked_stays}
 use Rattle.papaya_settles.proofs.Hand.Roles.{hand_same, hand_noted}
-use Rattle.papaya_histories.specs.Given.Scenes.Scene.{Scene}
+use Rattle.papaya_histories.specs.Given.ScenesScene.{Scene}
 
 -- As a run begins there is no call.
 pub owed_begins : (K V : Type 0) → OwedBegins K V

@@ -2,69 +2,69 @@
 use Rattle.std.specs.Prelude.{◌≡◌, ◌≢◌, ℕ, suc, ◌<◌, ◌*◌, ◌/◌, Bool, true, false, List, [], ◌∷◌, ◌++◌, Some, Ok, Err, ◌⊎◌, if◌then◌else◌}
 use Rattle.std.proofs.Common.{refl, ap, sym, subst, ◌∙◌, arith, inl, inr}
 use Rattle.std.proofs.lemmas.Bool.{cases_lt}
-use Rattle.papaya_histories.specs.Given.SeizeWords.declared.at.At.TheVariants.{Root, Word}
-use Rattle.papaya_histories.specs.Given.SeizeWords.Mem.{Mem, word_at}
-use Rattle.papaya_histories.specs.Given.SeizeWords.Op.{Found, Stored, Exchanged, Made, Taken, Roomed}
-use Rattle.papaya_histories.specs.Given.SeizeWords.Word.{block_in}
-use Rattle.papaya_histories.proofs.Given.SeizeWords.OneOwner.Operations.{loaded}
-use Rattle.papaya_histories.specs.Given.Seize.World.{IsInside}
-use Rattle.papaya_histories.specs.Given.Tables.Chunks.{is_incremental}
-use Rattle.papaya_histories.specs.Given.Tables.declared.node.Node.{Node}
-use Rattle.papaya_histories.specs.Given.Tables.declared.setting.Setting.{Setting}
-use Rattle.papaya_histories.specs.Given.Tables.declared.table.Table.{Table}
-use Rattle.papaya_histories.specs.Given.Tables.declared.table_words.TheConstants.{NEXT}
-use Rattle.papaya_histories.specs.Given.Resize.Copier.{copier_plan}
-use Rattle.papaya_histories.specs.Given.Resize.Copier as copiers
-use Rattle.papaya_histories.specs.Given.Resize.CopierPromotes.{successor_read, also_retired, retiring_table}
-use Rattle.papaya_histories.specs.Given.Resize.CopierStates.{standing}
-use Rattle.papaya_histories.specs.Given.Resize.declared.copier.Copier.{Copier}
-use Rattle.papaya_histories.specs.Given.Resize.declared.copier.Copying.{Copying}
-use Rattle.papaya_histories.specs.Given.Resize.declared.copier.Copying.TheVariants as copying
-use Rattle.papaya_histories.specs.Given.Resize.declared.outcome.Outcome.{Outcome}
-use Rattle.papaya_histories.specs.Given.Resize.declared.outcome.Outcome.TheVariants as outcome
-use Rattle.papaya_histories.specs.Given.Raw.declared.machines.progress.Progress.{Progress}
-use Rattle.papaya_histories.specs.Given.Schedules.declared.effect.Effect.{Effect}
-use Rattle.papaya_histories.specs.Given.Schedules.declared.effect.Effect.TheVariants as effect
-use Rattle.papaya_histories.specs.Given.Schedules.declared.effect.Thing.{Thing}
-use Rattle.papaya_histories.specs.Given.Schedules.Effects.{passed}
-use Rattle.papaya_histories.specs.Given.Schedules.Moment.{Moment}
-use Rattle.papaya_histories.specs.Given.Schedules.Views.{first_or, first_of}
-use Rattle.papaya_histories.specs.Given.Teller.Tells.{StepsTold}
-use Rattle.papaya_histories.specs.Given.Teller.declared.changed.Changed.{Changed}
-use Rattle.papaya_histories.specs.Given.Teller.declared.changed.Changed.TheVariants as changed
-use Rattle.papaya_histories.specs.Given.Rule.Chart.{Chart}
-use Rattle.papaya_histories.specs.Given.Rule.InWorld.{IsMapIn}
-use Rattle.papaya_histories.specs.Given.Rule.Words.{Blocks}
-use Rattle.papaya_histories.proofs.Given.Rule.Words.LinksSeen.{link_made, root_leads}
-use Rattle.papaya_histories.proofs.Given.Rule.Words.TablesSeen.{block_of_link}
-use Rattle.papaya_histories.specs.Given.Points.Told.{IsRowOfCopier}
-use Rattle.papaya_histories.specs.Given.Points.Unlinked.{has_unlinked}
-use Rattle.papaya_histories.proofs.Given.Points.Blocking.Successors.{next_read, rest_between, rest_last}
-use Rattle.papaya_histories.proofs.Given.Points.Copiers.CopiersWhole.{unlinks_none}
-use Rattle.papaya_histories.proofs.Given.Points.Steps.RootSteps.{is_promoting}
-use Rattle.papaya_histories.specs.Given.Callers.Sights.{seen_by, IsSight}
-use Rattle.papaya_histories.specs.Given.Callers.Together.{UnderWay, Together, in_slot}
-use Rattle.papaya_histories.proofs.Given.Callers.Sights.Seen.{map_seen}
-use Rattle.papaya_histories.proofs.Given.Callers.Together.Fits.{map_in_slot}
-use Rattle.papaya_histories.specs.Given.Effects.Effects.{effects_of}
-use Rattle.papaya_histories.specs.Given.Effects.Known.{Known}
-use Rattle.papaya_histories.specs.Given.Effects.declared.acting.Acting.{Acting}
-use Rattle.papaya_histories.specs.Given.Effects.declared.acting.Acting.TheVariants as acts
-use Rattle.papaya_histories.specs.Given.Effects.declared.role.Role.TheVariants as role
-use Rattle.papaya_histories.specs.Given.Finishes.Maps.{Standing}
-use Rattle.papaya_histories.specs.Given.Follows.Maps.{table_of}
-use Rattle.papaya_histories.specs.Given.Follows.Shows.{Shows}
-use Rattle.papaya_histories.proofs.Given.Follows.Steps.{went_to}
-use Rattle.papaya_histories.proofs.Given.Follows.Writes.{root_says}
+use Rattle.papaya_histories.specs.Given.SeizeWordsDeclared.at.At.TheVariants.{Root, Word}
+use Rattle.papaya_histories.specs.Given.SeizeWordsMem.{Mem, word_at}
+use Rattle.papaya_histories.specs.Given.SeizeWordsOp.{Found, Stored, Exchanged, Made, Taken, Roomed}
+use Rattle.papaya_histories.specs.Given.SeizeWordsWord.{block_in}
+use Rattle.papaya_histories.proofs.Given.SeizeWordsOneOwner.Operations.{loaded}
+use Rattle.papaya_histories.specs.Given.SeizeWorld.{IsInside}
+use Rattle.papaya_histories.specs.Given.TablesChunks.{is_incremental}
+use Rattle.papaya_histories.specs.Given.TablesDeclared.node.Node.{Node}
+use Rattle.papaya_histories.specs.Given.TablesDeclared.setting.Setting.{Setting}
+use Rattle.papaya_histories.specs.Given.TablesDeclared.table.Table.{Table}
+use Rattle.papaya_histories.specs.Given.TablesDeclared.table_words.TheConstants.{NEXT}
+use Rattle.papaya_histories.specs.Given.ResizeCopier.{copier_plan}
+use Rattle.papaya_histories.specs.Given.ResizeCopier as copiers
+use Rattle.papaya_histories.specs.Given.ResizeCopierPromotes.{successor_read, also_retired, retiring_table}
+use Rattle.papaya_histories.specs.Given.ResizeCopierStates.{standing}
+use Rattle.papaya_histories.specs.Given.ResizeDeclared.copier.Copier.{Copier}
+use Rattle.papaya_histories.specs.Given.ResizeDeclared.copier.Copying.{Copying}
+use Rattle.papaya_histories.specs.Given.ResizeDeclared.copier.Copying.TheVariants as copying
+use Rattle.papaya_histories.specs.Given.ResizeDeclared.outcome.Outcome.{Outcome}
+use Rattle.papaya_histories.specs.Given.ResizeDeclared.outcome.Outcome.TheVariants as outcome
+use Rattle.papaya_histories.specs.Given.RawDeclared.machines.progress.Progress.{Progress}
+use Rattle.papaya_histories.specs.Given.SchedulesDeclared.effect.Effect.{Effect}
+use Rattle.papaya_histories.specs.Given.SchedulesDeclared.effect.Effect.TheVariants as effect
+use Rattle.papaya_histories.specs.Given.SchedulesDeclared.effect.Thing.{Thing}
+use Rattle.papaya_histories.specs.Given.SchedulesEffects.{passed}
+use Rattle.papaya_histories.specs.Given.SchedulesMoment.{Moment}
+use Rattle.papaya_histories.specs.Given.SchedulesViews.{first_or, first_of}
+use Rattle.papaya_histories.specs.Given.TellerTells.{StepsTold}
+use Rattle.papaya_histories.specs.Given.TellerDeclared.changed.Changed.{Changed}
+use Rattle.papaya_histories.specs.Given.TellerDeclared.changed.Changed.TheVariants as changed
+use Rattle.papaya_histories.specs.Given.RuleChart.{Chart}
+use Rattle.papaya_histories.specs.Given.RuleInWorld.{IsMapIn}
+use Rattle.papaya_histories.specs.Given.RuleWords.{Blocks}
+use Rattle.papaya_histories.proofs.Given.RuleWords.LinksSeen.{link_made, root_leads}
+use Rattle.papaya_histories.proofs.Given.RuleWords.TablesSeen.{block_of_link}
+use Rattle.papaya_histories.specs.Given.PointsTold.{IsRowOfCopier}
+use Rattle.papaya_histories.specs.Given.PointsUnlinked.{has_unlinked}
+use Rattle.papaya_histories.proofs.Given.PointsBlocking.Successors.{next_read, rest_between, rest_last}
+use Rattle.papaya_histories.proofs.Given.PointsCopiers.CopiersWhole.{unlinks_none}
+use Rattle.papaya_histories.proofs.Given.PointsSteps.RootSteps.{is_promoting}
+use Rattle.papaya_histories.specs.Given.CallersSights.{seen_by, IsSight}
+use Rattle.papaya_histories.specs.Given.CallersTogether.{UnderWay, Together, in_slot}
+use Rattle.papaya_histories.proofs.Given.CallersSights.Seen.{map_seen}
+use Rattle.papaya_histories.proofs.Given.CallersTogether.Fits.{map_in_slot}
+use Rattle.papaya_histories.specs.Given.EffectsEffects.{effects_of}
+use Rattle.papaya_histories.specs.Given.EffectsKnown.{Known}
+use Rattle.papaya_histories.specs.Given.EffectsDeclared.acting.Acting.{Acting}
+use Rattle.papaya_histories.specs.Given.EffectsDeclared.acting.Acting.TheVariants as acts
+use Rattle.papaya_histories.specs.Given.EffectsDeclared.role.Role.TheVariants as role
+use Rattle.papaya_histories.specs.Given.FinishesMaps.{Standing}
+use Rattle.papaya_histories.specs.Given.FollowsMaps.{table_of}
+use Rattle.papaya_histories.specs.Given.FollowsShows.{Shows}
+use Rattle.papaya_histories.proofs.Given.FollowsSteps.{went_to}
+use Rattle.papaya_histories.proofs.Given.FollowsWrites.{root_says}
 use Rattle.papaya_settles.specs.Hand.{thing_as, things_at, tables_from, tables_in_hand, IsTableRole, NotesTable, NotesTables}
 use Rattle.papaya_settles.specs.Owing.{AllLeave, OwesGo, KeepsOwed, Passes}
 use Rattle.papaya_settles.proofs.CopierTables.{HasEnds, HasCutFrom, SeesTables, KnowsTables}
 use Rattle.papaya_settles.proofs.Here.{each, is_sight}
 use Rattle.papaya_settles.proofs.Passed.{numbered, passed_none, passed_first, tables_named, tables_none, copier_none}
-use Rattle.papaya_histories.proofs.Given.Scenes.Told.{as_step}
-use Rattle.papaya_histories.specs.Given.Scenes.Held.{Held, IsAt}
-use Rattle.papaya_histories.specs.Given.Scenes.Scene.{Scene, slot_of}
-use Rattle.papaya_histories.specs.Given.Scenes.Stepping.{StepLeads}
+use Rattle.papaya_histories.proofs.Given.ScenesTold.{as_step}
+use Rattle.papaya_histories.specs.Given.ScenesHeld.{Held, IsAt}
+use Rattle.papaya_histories.specs.Given.ScenesScene.{Scene, slot_of}
+use Rattle.papaya_histories.specs.Given.ScenesStepping.{StepLeads}
 
 -- it has unlinked none, or goes on
 abbrev pub GoesOrHas : {K V : Type 0} → Copier × Outcome (Node K V) Table → Type 0

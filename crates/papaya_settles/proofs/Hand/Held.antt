@@ -2,55 +2,55 @@
 use Rattle.std.specs.Prelude.{◌≡◌, ℕ, suc, ◌<◌, ◌≤◌, ◌*◌, ◌==◌, Bool, true, false, cond, Option, Some, None, if◌then◌else◌}
 use Rattle.std.proofs.Common.{refl, ap, sym, subst, ◌∙◌, inl, inr, arith, eqb-true}
 use Rattle.std.proofs.lemmas.Bool.{cases_lt}
-use Rattle.papaya_histories.specs.Given.SeizeWords.Word.{block_in}
-use Rattle.papaya_histories.specs.Given.Seize.Settle.{retiring}
-use Rattle.papaya_histories.specs.Given.Seize.declared.rows.defer.Defer.{Defer}
-use Rattle.papaya_histories.specs.Given.Seize.declared.rows.settle.Settle.{Settle}
-use Rattle.papaya_histories.specs.Given.Seize.World.{World, Hand, Parting, Cutting, Row, Settles, Defers}
-use Rattle.papaya_histories.specs.Given.Tables.Chunks.{is_incremental}
-use Rattle.papaya_histories.specs.Given.Tables.declared.node.Node.{Node}
-use Rattle.papaya_histories.specs.Given.Tables.declared.setting.Setting.{Setting}
-use Rattle.papaya_histories.specs.Given.Tables.declared.table.Table.{Table}
-use Rattle.papaya_histories.specs.Given.Resize.CopierPromotes.{table_retired}
-use Rattle.papaya_histories.specs.Given.Resize.CopierStates.{standing}
-use Rattle.papaya_histories.specs.Given.Resize.declared.copier.Copier.{Copier}
-use Rattle.papaya_histories.specs.Given.Resize.declared.copier.Copying.{Copying}
-use Rattle.papaya_histories.specs.Given.Resize.declared.copier.Copying.TheVariants as copying
-use Rattle.papaya_histories.specs.Given.Resize.declared.dispose.Dispose.{Dispose}
-use Rattle.papaya_histories.specs.Given.Resize.declared.dispose.Disposing.{Disposing}
-use Rattle.papaya_histories.specs.Given.Resize.declared.dispose.Disposing.TheVariants as disposing
-use Rattle.papaya_histories.specs.Given.Reserves.declared.reserve.Reserving.{Reserving}
-use Rattle.papaya_histories.specs.Given.Reserves.declared.reserve.Reserving.TheVariants as reserving
-use Rattle.papaya_histories.specs.Given.Sweeps.declared.sweep.Sweep.{Sweep}
-use Rattle.papaya_histories.specs.Given.Sweeps.declared.sweep.Sweeping.{Sweeping}
-use Rattle.papaya_histories.specs.Given.Sweeps.declared.sweep.Sweeping.TheVariants as sweeping
-use Rattle.papaya_histories.specs.Given.Raw.declared.machines.call.Calling.{Calling}
-use Rattle.papaya_histories.specs.Given.Raw.declared.machines.call.Calling.TheVariants as calling
-use Rattle.papaya_histories.specs.Given.Raw.declared.machines.call.KeyCall.{KeyCall}
-use Rattle.papaya_histories.specs.Given.Rule.Chart.{Chart, Phase, Still, Holds}
-use Rattle.papaya_histories.specs.Given.Rule.Words.{Blocks, place_word}
-use Rattle.papaya_histories.proofs.Given.Rule.Words.TablesSeen.{block_of_link}
-use Rattle.papaya_histories.specs.Given.Points.FactsCalls.{Change, CallingFacts}
-use Rattle.papaya_histories.specs.Given.Points.FactsCopies.{CopierFacts, CopyingFacts}
-use Rattle.papaya_histories.specs.Given.Points.FactsCopiesBlocking.{CopierFactsBlocking, CopyingFactsBlocking}
-use Rattle.papaya_histories.specs.Given.Points.FactsDisposes.{DisposeFacts, DisposingFacts}
-use Rattle.papaya_histories.specs.Given.Points.Told.{IsRowOf, IsRowOfCopier, IsRowOfCall}
-use Rattle.papaya_histories.specs.Given.Late.LateCalls.{LateCalling}
-use Rattle.papaya_histories.specs.Given.Late.LateCopies.{LateCopierFacts, LateCopying}
-use Rattle.papaya_histories.specs.Given.Late.LateReserves.{LateReserving}
-use Rattle.papaya_histories.specs.Given.Late.FactsReserves.{CopiesWhole, IsEnding, ReservingFacts}
-use Rattle.papaya_histories.specs.Given.Late.FactsSweeps.{CopiesTable, SweepingFacts}
-use Rattle.papaya_histories.specs.Given.Late.ToldReserves.{IsRowOfReserve}
-use Rattle.papaya_histories.specs.Given.Late.ToldSweeps.{IsRowOfSweep}
-use Rattle.papaya_histories.specs.Given.Callers.OverAll.{row_of_sweep, past_sweeping, sweep_once_over}
-use Rattle.papaya_histories.specs.Given.Callers.Rooms.{row_of_room, past_room}
-use Rattle.papaya_histories.specs.Given.Callers.Rows.{row_of_disposal, row_of_copier, row_of, past_copying, past_row, once_over}
-use Rattle.papaya_histories.specs.Given.Callers.Together.{UnderWay, OnKey, ForRoom, Counting, OverAll, Stands, in_slot}
-use Rattle.papaya_histories.specs.Given.Finishes.Machines.{machine_of}
+use Rattle.papaya_histories.specs.Given.SeizeWordsWord.{block_in}
+use Rattle.papaya_histories.specs.Given.SeizeSettle.{retiring}
+use Rattle.papaya_histories.specs.Given.SeizeDeclared.rows.defer.Defer.{Defer}
+use Rattle.papaya_histories.specs.Given.SeizeDeclared.rows.settle.Settle.{Settle}
+use Rattle.papaya_histories.specs.Given.SeizeWorld.{World, Hand, Parting, Cutting, Row, Settles, Defers}
+use Rattle.papaya_histories.specs.Given.TablesChunks.{is_incremental}
+use Rattle.papaya_histories.specs.Given.TablesDeclared.node.Node.{Node}
+use Rattle.papaya_histories.specs.Given.TablesDeclared.setting.Setting.{Setting}
+use Rattle.papaya_histories.specs.Given.TablesDeclared.table.Table.{Table}
+use Rattle.papaya_histories.specs.Given.ResizeCopierPromotes.{table_retired}
+use Rattle.papaya_histories.specs.Given.ResizeCopierStates.{standing}
+use Rattle.papaya_histories.specs.Given.ResizeDeclared.copier.Copier.{Copier}
+use Rattle.papaya_histories.specs.Given.ResizeDeclared.copier.Copying.{Copying}
+use Rattle.papaya_histories.specs.Given.ResizeDeclared.copier.Copying.TheVariants as copying
+use Rattle.papaya_histories.specs.Given.ResizeDeclared.dispose.Dispose.{Dispose}
+use Rattle.papaya_histories.specs.Given.ResizeDeclared.dispose.Disposing.{Disposing}
+use Rattle.papaya_histories.specs.Given.ResizeDeclared.dispose.Disposing.TheVariants as disposing
+use Rattle.papaya_histories.specs.Given.ReservesDeclared.reserve.Reserving.{Reserving}
+use Rattle.papaya_histories.specs.Given.ReservesDeclared.reserve.Reserving.TheVariants as reserving
+use Rattle.papaya_histories.specs.Given.SweepsDeclared.sweep.Sweep.{Sweep}
+use Rattle.papaya_histories.specs.Given.SweepsDeclared.sweep.Sweeping.{Sweeping}
+use Rattle.papaya_histories.specs.Given.SweepsDeclared.sweep.Sweeping.TheVariants as sweeping
+use Rattle.papaya_histories.specs.Given.RawDeclared.machines.call.Calling.{Calling}
+use Rattle.papaya_histories.specs.Given.RawDeclared.machines.call.Calling.TheVariants as calling
+use Rattle.papaya_histories.specs.Given.RawDeclared.machines.call.KeyCall.{KeyCall}
+use Rattle.papaya_histories.specs.Given.RuleChart.{Chart, Phase, Still, Holds}
+use Rattle.papaya_histories.specs.Given.RuleWords.{Blocks, place_word}
+use Rattle.papaya_histories.proofs.Given.RuleWords.TablesSeen.{block_of_link}
+use Rattle.papaya_histories.specs.Given.PointsFactsCalls.{Change, CallingFacts}
+use Rattle.papaya_histories.specs.Given.PointsFactsCopies.{CopierFacts, CopyingFacts}
+use Rattle.papaya_histories.specs.Given.PointsFactsCopiesBlocking.{CopierFactsBlocking, CopyingFactsBlocking}
+use Rattle.papaya_histories.specs.Given.PointsFactsDisposes.{DisposeFacts, DisposingFacts}
+use Rattle.papaya_histories.specs.Given.PointsTold.{IsRowOf, IsRowOfCopier, IsRowOfCall}
+use Rattle.papaya_histories.specs.Given.LateLateCalls.{LateCalling}
+use Rattle.papaya_histories.specs.Given.LateLateCopies.{LateCopierFacts, LateCopying}
+use Rattle.papaya_histories.specs.Given.LateLateReserves.{LateReserving}
+use Rattle.papaya_histories.specs.Given.LateFactsReserves.{CopiesWhole, IsEnding, ReservingFacts}
+use Rattle.papaya_histories.specs.Given.LateFactsSweeps.{CopiesTable, SweepingFacts}
+use Rattle.papaya_histories.specs.Given.LateToldReserves.{IsRowOfReserve}
+use Rattle.papaya_histories.specs.Given.LateToldSweeps.{IsRowOfSweep}
+use Rattle.papaya_histories.specs.Given.CallersOverAll.{row_of_sweep, past_sweeping, sweep_once_over}
+use Rattle.papaya_histories.specs.Given.CallersRooms.{row_of_room, past_room}
+use Rattle.papaya_histories.specs.Given.CallersRows.{row_of_disposal, row_of_copier, row_of, past_copying, past_row, once_over}
+use Rattle.papaya_histories.specs.Given.CallersTogether.{UnderWay, OnKey, ForRoom, Counting, OverAll, Stands, in_slot}
+use Rattle.papaya_histories.specs.Given.FinishesMachines.{machine_of}
 use Rattle.papaya_settles.specs.Due.{Due, ToRetire, ToPut, word_due, due_in_settle, due_in_defer}
 use Rattle.papaya_settles.specs.Hand.{HoldsAt, HoldsOf, HoldsTables, HoldsOfCall, HoldsOfRoom, HoldsOfSweep, HoldsInHand}
 use Rattle.papaya_settles.specs.InHand.{pair_in_calling, pair_in_disposing}
-use Rattle.papaya_histories.specs.Given.Scenes.Scene.{slot_of}
+use Rattle.papaya_histories.specs.Given.ScenesScene.{slot_of}
 
 -- somebody has taken it out of what it was in
 abbrev pub IsTakenOut : Hand → Type 0

@@ -2,54 +2,54 @@
 use Rattle.std.specs.Prelude.{◌≡◌, ℕ, ◌==◌, Bool, true, false, List, [], ◌∷◌, ◌++◌, Option, Some, None, if◌then◌else◌}
 use Rattle.std.specs.List.{list_any}
 use Rattle.std.proofs.Common.{refl, ap, sym, subst, ◌∙◌, inl, inr}
-use Rattle.papaya_histories.specs.Given.SeizeWords.Word.{block_in}
-use Rattle.papaya_histories.specs.Given.Seize.declared.rows.settle.Settled.{Settled}
-use Rattle.papaya_histories.specs.Given.Seize.declared.rows.settle.Settled.TheVariants as settled
-use Rattle.papaya_histories.specs.Given.Tables.Chunks.{is_incremental}
-use Rattle.papaya_histories.specs.Given.Tables.declared.node.Node.{Node}
-use Rattle.papaya_histories.specs.Given.Resize.Dispose.{dispose_plan, disposing}
-use Rattle.papaya_histories.specs.Given.Resize.declared.dispose.Dispose.{Dispose}
-use Rattle.papaya_histories.specs.Given.Raw.Call.{call_plan, plan_at, disposed}
-use Rattle.papaya_histories.specs.Given.Raw.CallPoints.{counted, going, over}
-use Rattle.papaya_histories.specs.Given.Raw.Progress.{of_called}
-use Rattle.papaya_histories.specs.Given.Raw.declared.machines.answer.Called.{Called}
-use Rattle.papaya_histories.specs.Given.Raw.declared.machines.answer.Called.TheVariants as called
-use Rattle.papaya_histories.specs.Given.Raw.declared.machines.answer.End.TheVariants as ends
-use Rattle.papaya_histories.specs.Given.Raw.declared.machines.answer.KeyAnswer.{KeyAnswer}
-use Rattle.papaya_histories.specs.Given.Raw.declared.machines.answer.KeyAnswer.TheVariants as answers
-use Rattle.papaya_histories.specs.Given.Raw.declared.machines.call.Calling.{Calling}
-use Rattle.papaya_histories.specs.Given.Raw.declared.machines.call.Calling.TheVariants as at
-use Rattle.papaya_histories.specs.Given.Raw.declared.machines.call.KeyCall.{KeyCall}
-use Rattle.papaya_histories.specs.Given.Raw.declared.machines.machine.Machine.{Machine}
-use Rattle.papaya_histories.specs.Given.Raw.declared.machines.machine.Machine.TheVariants as kinds
-use Rattle.papaya_histories.specs.Given.Raw.declared.machines.progress.Progress.{Progress}
-use Rattle.papaya_histories.specs.Given.Schedules.declared.effect.Effect.{Effect}
-use Rattle.papaya_histories.specs.Given.Schedules.declared.effect.Effect.TheVariants as effect
-use Rattle.papaya_histories.specs.Given.Schedules.declared.effect.Table.{Table}
-use Rattle.papaya_histories.specs.Given.Schedules.declared.effect.Thing.{Thing}
-use Rattle.papaya_histories.specs.Given.Schedules.declared.effect.Thing.TheVariants.{APair}
-use Rattle.papaya_histories.specs.Given.Schedules.Moment.{Moment}
-use Rattle.papaya_histories.specs.Given.Teller.declared.changed.Changed.{Changed}
-use Rattle.papaya_histories.specs.Given.Teller.declared.changed.Changed.TheVariants as changed
-use Rattle.papaya_histories.proofs.Given.Rule.Keys.Always.{AlwaysOf, always_steps}
-use Rattle.papaya_histories.specs.Given.Points.FactsCalls.{Change, IsCopying}
-use Rattle.papaya_histories.specs.Given.Points.Told.{IsRowOfCall}
-use Rattle.papaya_histories.proofs.Given.Points.Steps.RootSteps.{call_is_promoting, spares_call}
-use Rattle.papaya_histories.specs.Given.Alone.Handed.{call_has_unlinked}
-use Rattle.papaya_histories.specs.Given.Callers.Sights.{seen_by}
-use Rattle.papaya_histories.specs.Given.Callers.Together.{CallOnKey, OnKey, Stands, change_told, next_of}
-use Rattle.papaya_histories.specs.Given.Effects.Effects.{effects_of}
-use Rattle.papaya_histories.specs.Given.Effects.Known.{Known}
-use Rattle.papaya_histories.specs.Given.Effects.declared.acting.Acting.TheVariants as acts
-use Rattle.papaya_histories.specs.Given.Effects.declared.role.Role.TheVariants as role
-use Rattle.papaya_histories.specs.Given.Finishes.Endings.{StepsAmong}
-use Rattle.papaya_histories.specs.Given.Finishes.Machines.{machine_of}
-use Rattle.papaya_histories.specs.Given.Finishes.Maps.{Standing}
-use Rattle.papaya_histories.specs.Given.Follows.Shows.{Shows}
-use Rattle.papaya_histories.specs.Given.Follows.Steps.{IsOfNoRow}
-use Rattle.papaya_histories.proofs.Given.Follows.Steps.{WentTo, went_to, DidSo, OfNoRow}
-use Rattle.papaya_histories.proofs.Given.Follows.Writes.{nothing_free}
-use Rattle.papaya_histories.proofs.Given.Hands.Done.{stepped, here}
+use Rattle.papaya_histories.specs.Given.SeizeWordsWord.{block_in}
+use Rattle.papaya_histories.specs.Given.SeizeDeclared.rows.settle.Settled.{Settled}
+use Rattle.papaya_histories.specs.Given.SeizeDeclared.rows.settle.Settled.TheVariants as settled
+use Rattle.papaya_histories.specs.Given.TablesChunks.{is_incremental}
+use Rattle.papaya_histories.specs.Given.TablesDeclared.node.Node.{Node}
+use Rattle.papaya_histories.specs.Given.ResizeDispose.{dispose_plan, disposing}
+use Rattle.papaya_histories.specs.Given.ResizeDeclared.dispose.Dispose.{Dispose}
+use Rattle.papaya_histories.specs.Given.RawCall.{call_plan, plan_at, disposed}
+use Rattle.papaya_histories.specs.Given.RawCallPoints.{counted, going, over}
+use Rattle.papaya_histories.specs.Given.RawProgress.{of_called}
+use Rattle.papaya_histories.specs.Given.RawDeclared.machines.answer.Called.{Called}
+use Rattle.papaya_histories.specs.Given.RawDeclared.machines.answer.Called.TheVariants as called
+use Rattle.papaya_histories.specs.Given.RawDeclared.machines.answer.End.TheVariants as ends
+use Rattle.papaya_histories.specs.Given.RawDeclared.machines.answer.KeyAnswer.{KeyAnswer}
+use Rattle.papaya_histories.specs.Given.RawDeclared.machines.answer.KeyAnswer.TheVariants as answers
+use Rattle.papaya_histories.specs.Given.RawDeclared.machines.call.Calling.{Calling}
+use Rattle.papaya_histories.specs.Given.RawDeclared.machines.call.Calling.TheVariants as at
+use Rattle.papaya_histories.specs.Given.RawDeclared.machines.call.KeyCall.{KeyCall}
+use Rattle.papaya_histories.specs.Given.RawDeclared.machines.machine.Machine.{Machine}
+use Rattle.papaya_histories.specs.Given.RawDeclared.machines.machine.Machine.TheVariants as kinds
+use Rattle.papaya_histories.specs.Given.RawDeclared.machines.progress.Progress.{Progress}
+use Rattle.papaya_histories.specs.Given.SchedulesDeclared.effect.Effect.{Effect}
+use Rattle.papaya_histories.specs.Given.SchedulesDeclared.effect.Effect.TheVariants as effect
+use Rattle.papaya_histories.specs.Given.SchedulesDeclared.effect.Table.{Table}
+use Rattle.papaya_histories.specs.Given.SchedulesDeclared.effect.Thing.{Thing}
+use Rattle.papaya_histories.specs.Given.SchedulesDeclared.effect.Thing.TheVariants.{APair}
+use Rattle.papaya_histories.specs.Given.SchedulesMoment.{Moment}
+use Rattle.papaya_histories.specs.Given.TellerDeclared.changed.Changed.{Changed}
+use Rattle.papaya_histories.specs.Given.TellerDeclared.changed.Changed.TheVariants as changed
+use Rattle.papaya_histories.proofs.Given.RuleKeys.Always.{AlwaysOf, always_steps}
+use Rattle.papaya_histories.specs.Given.PointsFactsCalls.{Change, IsCopying}
+use Rattle.papaya_histories.specs.Given.PointsTold.{IsRowOfCall}
+use Rattle.papaya_histories.proofs.Given.PointsSteps.RootSteps.{call_is_promoting, spares_call}
+use Rattle.papaya_histories.specs.Given.AloneHanded.{call_has_unlinked}
+use Rattle.papaya_histories.specs.Given.CallersSights.{seen_by}
+use Rattle.papaya_histories.specs.Given.CallersTogether.{CallOnKey, OnKey, Stands, change_told, next_of}
+use Rattle.papaya_histories.specs.Given.EffectsEffects.{effects_of}
+use Rattle.papaya_histories.specs.Given.EffectsKnown.{Known}
+use Rattle.papaya_histories.specs.Given.EffectsDeclared.acting.Acting.TheVariants as acts
+use Rattle.papaya_histories.specs.Given.EffectsDeclared.role.Role.TheVariants as role
+use Rattle.papaya_histories.specs.Given.FinishesEndings.{StepsAmong}
+use Rattle.papaya_histories.specs.Given.FinishesMachines.{machine_of}
+use Rattle.papaya_histories.specs.Given.FinishesMaps.{Standing}
+use Rattle.papaya_histories.specs.Given.FollowsShows.{Shows}
+use Rattle.papaya_histories.specs.Given.FollowsSteps.{IsOfNoRow}
+use Rattle.papaya_histories.proofs.Given.FollowsSteps.{WentTo, went_to, DidSo, OfNoRow}
+use Rattle.papaya_histories.proofs.Given.FollowsWrites.{nothing_free}
+use Rattle.papaya_histories.proofs.Given.HandsDone.{stepped, here}
 use Rattle.papaya_histories.proofs.Which.{DidOnce, DidNone, DidStore, DidReplace, DidRemove}
 use Rattle.papaya_settles.specs.Hand.{thing_as, things_at, in_hand_of_call, in_hand, IsPairRole, NotesPair, NotesOfCall, NotesInHand}
 use Rattle.papaya_settles.specs.InHand.{pair_in_calling}
@@ -67,10 +67,10 @@ use Rattle.papaya_settles.proofs.Status.{KindOf, ToCount, ToDispose, IsAtEnd, To
 use Rattle.papaya_settles.proofs.Taken.{calls_take_in_hand}
 use Rattle.papaya_settles.proofs.Takings.{steps_take_out}
 use Rattle.papaya_settles.proofs.Unpromoted.{NonePromotes, none_promotes, spared_tells}
-use Rattle.papaya_histories.proofs.Given.Scenes.Told.{as_step}
-use Rattle.papaya_histories.specs.Given.Scenes.Held.{Held, IsAt}
-use Rattle.papaya_histories.specs.Given.Scenes.Scene.{Scene, slot_of}
-use Rattle.papaya_histories.specs.Given.Scenes.Stepping.{StepLeads}
+use Rattle.papaya_histories.proofs.Given.ScenesTold.{as_step}
+use Rattle.papaya_histories.specs.Given.ScenesHeld.{Held, IsAt}
+use Rattle.papaya_histories.specs.Given.ScenesScene.{Scene, slot_of}
+use Rattle.papaya_histories.specs.Given.ScenesStepping.{StepLeads}
 
 no_copier : (p : Calling) → (IsCopying p → ⊥) → IsNoCopier p
 no_copier (at.Helps copier goal) none = absurd (none tt)

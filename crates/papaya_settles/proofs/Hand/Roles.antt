@@ -2,23 +2,23 @@
 use Rattle.std.specs.Prelude.{◌≡◌, ℕ, ◌==◌, Bool, true, false, List, [], ◌++◌, Option, Some, None, if◌then◌else◌}
 use Rattle.std.proofs.Common.{refl, ap, sym, subst, ◌∙◌}
 use Rattle.std.proofs.lemmas.Bool.{eq-eqb}
-use Rattle.papaya_histories.specs.Given.SeizeWords.Word.{block_in}
-use Rattle.papaya_histories.specs.Given.Resize.declared.copier.Copier.{Copier}
-use Rattle.papaya_histories.specs.Given.Resize.declared.copier.Copying.{Copying}
-use Rattle.papaya_histories.specs.Given.Resize.declared.copier.Copying.TheVariants as copying
-use Rattle.papaya_histories.specs.Given.Reserves.declared.reserve.Reserving.{Reserving}
-use Rattle.papaya_histories.specs.Given.Reserves.declared.reserve.Reserving.TheVariants as reserving
-use Rattle.papaya_histories.specs.Given.Sweeps.declared.sweep.Sweeping.{Sweeping}
-use Rattle.papaya_histories.specs.Given.Sweeps.declared.sweep.Sweeping.TheVariants as sweeping
-use Rattle.papaya_histories.specs.Given.Raw.declared.machines.call.Calling.{Calling}
-use Rattle.papaya_histories.specs.Given.Raw.declared.machines.call.Calling.TheVariants as calling
-use Rattle.papaya_histories.specs.Given.Raw.declared.machines.machine.Machine.{Machine}
-use Rattle.papaya_histories.specs.Given.Raw.declared.machines.machine.Machine.TheVariants as kinds
-use Rattle.papaya_histories.specs.Given.Schedules.declared.effect.Thing.{Thing}
-use Rattle.papaya_histories.specs.Given.Effects.Known.{Known}
-use Rattle.papaya_histories.specs.Given.Effects.declared.role.Role.{Role}
-use Rattle.papaya_histories.specs.Given.Effects.declared.role.Role.TheVariants as role
-use Rattle.papaya_histories.proofs.Given.Follows.Onward.{IsLasting, KeepsRoles}
+use Rattle.papaya_histories.specs.Given.SeizeWordsWord.{block_in}
+use Rattle.papaya_histories.specs.Given.ResizeDeclared.copier.Copier.{Copier}
+use Rattle.papaya_histories.specs.Given.ResizeDeclared.copier.Copying.{Copying}
+use Rattle.papaya_histories.specs.Given.ResizeDeclared.copier.Copying.TheVariants as copying
+use Rattle.papaya_histories.specs.Given.ReservesDeclared.reserve.Reserving.{Reserving}
+use Rattle.papaya_histories.specs.Given.ReservesDeclared.reserve.Reserving.TheVariants as reserving
+use Rattle.papaya_histories.specs.Given.SweepsDeclared.sweep.Sweeping.{Sweeping}
+use Rattle.papaya_histories.specs.Given.SweepsDeclared.sweep.Sweeping.TheVariants as sweeping
+use Rattle.papaya_histories.specs.Given.RawDeclared.machines.call.Calling.{Calling}
+use Rattle.papaya_histories.specs.Given.RawDeclared.machines.call.Calling.TheVariants as calling
+use Rattle.papaya_histories.specs.Given.RawDeclared.machines.machine.Machine.{Machine}
+use Rattle.papaya_histories.specs.Given.RawDeclared.machines.machine.Machine.TheVariants as kinds
+use Rattle.papaya_histories.specs.Given.SchedulesDeclared.effect.Thing.{Thing}
+use Rattle.papaya_histories.specs.Given.EffectsKnown.{Known}
+use Rattle.papaya_histories.specs.Given.EffectsDeclared.role.Role.{Role}
+use Rattle.papaya_histories.specs.Given.EffectsDeclared.role.Role.TheVariants as role
+use Rattle.papaya_histories.proofs.Given.FollowsOnward.{IsLasting, KeepsRoles}
 use Rattle.papaya_settles.specs.Due.{due_in_settle, word_due}
 use Rattle.papaya_settles.specs.Hand.{thing_as, things_at, tables_up_to, tables_from, tables_in_hand, in_hand_of_call, in_hand_of_room, in_hand_of_sweep, in_hand, IsPairRole, IsTableRole, HoldsAt, HoldsOf, HoldsTables, HoldsOfCall, HoldsOfRoom, HoldsOfSweep, HoldsInHand, IsPairAt, IsTableAt, NotesInHand, IsSameRole, SameInHand}
 use Rattle.papaya_settles.specs.InHand.{pair_in_calling, pair_in_sweeping}

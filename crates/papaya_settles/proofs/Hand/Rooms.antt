@@ -1,52 +1,52 @@
 -- A step of a reservation that is none of a row: what it has in hand goes with the effects of the step.
 use Rattle.std.specs.Prelude.{◌≡◌, ◌^◌, ℕ, ◌==◌, nat_lt, Bool, true, false, List, [], Some, if◌then◌else◌}
 use Rattle.std.proofs.Common.{refl, ap, sym, subst, ◌∙◌, inl, inr}
-use Rattle.papaya_histories.specs.Given.SeizeWords.Op.{Out, Found, Stored, Exchanged, Made, Taken, Roomed}
-use Rattle.papaya_histories.specs.Given.Seize.declared.progress.Progress.{Progress as Counting}
-use Rattle.papaya_histories.specs.Given.Seize.declared.progress.Progress.TheVariants as progress
-use Rattle.papaya_histories.specs.Given.Tables.declared.node.Node.{Node}
-use Rattle.papaya_histories.specs.Given.Tables.declared.table.Table.{Table}
-use Rattle.papaya_histories.specs.Given.Resize.Copier.{copier_plan}
-use Rattle.papaya_histories.specs.Given.Resize.CopierStates.{copying_all}
-use Rattle.papaya_histories.specs.Given.Resize.NewTable.{new_table_plan}
-use Rattle.papaya_histories.specs.Given.Resize.Sum.{sum_plan}
-use Rattle.papaya_histories.specs.Given.Tables.Chunks.{is_incremental}
-use Rattle.papaya_histories.specs.Given.Tables.declared.setting.Setting.{Setting}
-use Rattle.papaya_histories.specs.Given.Resize.declared.copier.Copier.{Copier}
-use Rattle.papaya_histories.specs.Given.Resize.declared.new_table.NewTable.{NewTable}
-use Rattle.papaya_histories.specs.Given.Resize.declared.outcome.Outcome.{Outcome}
-use Rattle.papaya_histories.specs.Given.Resize.declared.sum.Sum.{Sum}
-use Rattle.papaya_histories.specs.Given.Reserves.Reserve as reserves
-use Rattle.papaya_histories.specs.Given.Reserves.Reserve.{reserve_plan}
-use Rattle.papaya_histories.specs.Given.Reserves.declared.reserve.Reserve.{Reserve}
-use Rattle.papaya_histories.specs.Given.Reserves.declared.reserve.Reserving.{Reserving}
-use Rattle.papaya_histories.specs.Given.Reserves.declared.reserve.Reserving.TheVariants as reserving
-use Rattle.papaya_histories.specs.Given.Raw.Machine.{reserved as of_room}
-use Rattle.papaya_histories.specs.Given.Raw.Progress.{of_outcome}
-use Rattle.papaya_histories.specs.Given.Raw.declared.machines.machine.Machine.{Machine}
-use Rattle.papaya_histories.specs.Given.Raw.declared.machines.machine.Machine.TheVariants as kinds
-use Rattle.papaya_histories.specs.Given.Raw.declared.machines.progress.Progress.{Progress}
-use Rattle.papaya_histories.specs.Given.Schedules.declared.effect.Effect.{Effect}
-use Rattle.papaya_histories.specs.Given.Schedules.Moment.{Moment}
-use Rattle.papaya_histories.specs.Given.Teller.Tells.{StepsTold}
-use Rattle.papaya_histories.specs.Given.Teller.declared.changed.Changed.{Changed}
-use Rattle.papaya_histories.specs.Given.Teller.declared.changed.Changed.TheVariants as changed
-use Rattle.papaya_histories.specs.Given.Rule.Words.{Blocks}
-use Rattle.papaya_histories.proofs.Given.Rule.Keys.Always.{Always, AlwaysOf, always_if, always_plan_as, always_steps}
-use Rattle.papaya_histories.specs.Given.Points.Unlinked.{has_unlinked}
-use Rattle.papaya_histories.specs.Given.Late.FactsReserves.{CopiesPairs, ReservingFacts}
-use Rattle.papaya_histories.specs.Given.Late.LateReserves.{LateReserving}
-use Rattle.papaya_histories.specs.Given.Late.ToldReserves.{IsRowOfReserve}
-use Rattle.papaya_histories.specs.Given.Callers.Rooms.{CallForRoom}
-use Rattle.papaya_histories.specs.Given.Callers.Sights.{seen_by}
-use Rattle.papaya_histories.specs.Given.Callers.Together.{ForRoom, in_slot}
-use Rattle.papaya_histories.specs.Given.Effects.Effects.{effects_of}
-use Rattle.papaya_histories.specs.Given.Effects.Known.{Known}
-use Rattle.papaya_histories.specs.Given.Effects.declared.acting.Acting.TheVariants as acts
-use Rattle.papaya_histories.specs.Given.Finishes.Maps.{Standing}
-use Rattle.papaya_histories.specs.Given.Follows.Shows.{Shows}
-use Rattle.papaya_histories.proofs.Given.Follows.Steps.{WentTo, went_to, is_inside, OfNoRow}
-use Rattle.papaya_histories.proofs.Given.Others.Outcomes.{told_in}
+use Rattle.papaya_histories.specs.Given.SeizeWordsOp.{Out, Found, Stored, Exchanged, Made, Taken, Roomed}
+use Rattle.papaya_histories.specs.Given.SeizeDeclared.progress.Progress.{Progress as Counting}
+use Rattle.papaya_histories.specs.Given.SeizeDeclared.progress.Progress.TheVariants as progress
+use Rattle.papaya_histories.specs.Given.TablesDeclared.node.Node.{Node}
+use Rattle.papaya_histories.specs.Given.TablesDeclared.table.Table.{Table}
+use Rattle.papaya_histories.specs.Given.ResizeCopier.{copier_plan}
+use Rattle.papaya_histories.specs.Given.ResizeCopierStates.{copying_all}
+use Rattle.papaya_histories.specs.Given.ResizeNewTable.{new_table_plan}
+use Rattle.papaya_histories.specs.Given.ResizeSum.{sum_plan}
+use Rattle.papaya_histories.specs.Given.TablesChunks.{is_incremental}
+use Rattle.papaya_histories.specs.Given.TablesDeclared.setting.Setting.{Setting}
+use Rattle.papaya_histories.specs.Given.ResizeDeclared.copier.Copier.{Copier}
+use Rattle.papaya_histories.specs.Given.ResizeDeclared.new_table.NewTable.{NewTable}
+use Rattle.papaya_histories.specs.Given.ResizeDeclared.outcome.Outcome.{Outcome}
+use Rattle.papaya_histories.specs.Given.ResizeDeclared.sum.Sum.{Sum}
+use Rattle.papaya_histories.specs.Given.ReservesReserve as reserves
+use Rattle.papaya_histories.specs.Given.ReservesReserve.{reserve_plan}
+use Rattle.papaya_histories.specs.Given.ReservesDeclared.reserve.Reserve.{Reserve}
+use Rattle.papaya_histories.specs.Given.ReservesDeclared.reserve.Reserving.{Reserving}
+use Rattle.papaya_histories.specs.Given.ReservesDeclared.reserve.Reserving.TheVariants as reserving
+use Rattle.papaya_histories.specs.Given.RawMachine.{reserved as of_room}
+use Rattle.papaya_histories.specs.Given.RawProgress.{of_outcome}
+use Rattle.papaya_histories.specs.Given.RawDeclared.machines.machine.Machine.{Machine}
+use Rattle.papaya_histories.specs.Given.RawDeclared.machines.machine.Machine.TheVariants as kinds
+use Rattle.papaya_histories.specs.Given.RawDeclared.machines.progress.Progress.{Progress}
+use Rattle.papaya_histories.specs.Given.SchedulesDeclared.effect.Effect.{Effect}
+use Rattle.papaya_histories.specs.Given.SchedulesMoment.{Moment}
+use Rattle.papaya_histories.specs.Given.TellerTells.{StepsTold}
+use Rattle.papaya_histories.specs.Given.TellerDeclared.changed.Changed.{Changed}
+use Rattle.papaya_histories.specs.Given.TellerDeclared.changed.Changed.TheVariants as changed
+use Rattle.papaya_histories.specs.Given.RuleWords.{Blocks}
+use Rattle.papaya_histories.proofs.Given.RuleKeys.Always.{Always, AlwaysOf, always_if, always_plan_as, always_steps}
+use Rattle.papaya_histories.specs.Given.PointsUnlinked.{has_unlinked}
+use Rattle.papaya_histories.specs.Given.LateFactsReserves.{CopiesPairs, ReservingFacts}
+use Rattle.papaya_histories.specs.Given.LateLateReserves.{LateReserving}
+use Rattle.papaya_histories.specs.Given.LateToldReserves.{IsRowOfReserve}
+use Rattle.papaya_histories.specs.Given.CallersRooms.{CallForRoom}
+use Rattle.papaya_histories.specs.Given.CallersSights.{seen_by}
+use Rattle.papaya_histories.specs.Given.CallersTogether.{ForRoom, in_slot}
+use Rattle.papaya_histories.specs.Given.EffectsEffects.{effects_of}
+use Rattle.papaya_histories.specs.Given.EffectsKnown.{Known}
+use Rattle.papaya_histories.specs.Given.EffectsDeclared.acting.Acting.TheVariants as acts
+use Rattle.papaya_histories.specs.Given.FinishesMaps.{Standing}
+use Rattle.papaya_histories.specs.Given.FollowsShows.{Shows}
+use Rattle.papaya_histories.proofs.Given.FollowsSteps.{WentTo, went_to, is_inside, OfNoRow}
+use Rattle.papaya_histories.proofs.Given.OthersOutcomes.{told_in}
 use Rattle.papaya_settles.specs.Hand.{in_hand_of_room, in_hand, NotesOfRoom, NotesInHand}
 use Rattle.papaya_settles.specs.InHand.{TakesPair}
 use Rattle.papaya_settles.specs.Owed.{HandGoes}
@@ -58,10 +58,10 @@ use Rattle.papaya_settles.proofs.Leaving.{shifts_take, no_promotion, leaves}
 use Rattle.papaya_settles.proofs.Passed.{copier_none}
 use Rattle.papaya_settles.proofs.Rest.{room_shifts}
 use Rattle.papaya_settles.proofs.Spares.{room_is_promoting, spares_room}
-use Rattle.papaya_histories.proofs.Given.Scenes.Told.{as_step}
-use Rattle.papaya_histories.specs.Given.Scenes.Held.{Held, IsAt}
-use Rattle.papaya_histories.specs.Given.Scenes.Scene.{Scene, slot_of}
-use Rattle.papaya_histories.specs.Given.Scenes.Stepping.{StepLeads, has_ended}
+use Rattle.papaya_histories.proofs.Given.ScenesTold.{as_step}
+use Rattle.papaya_histories.specs.Given.ScenesHeld.{Held, IsAt}
+use Rattle.papaya_histories.specs.Given.ScenesScene.{Scene, slot_of}
+use Rattle.papaya_histories.specs.Given.ScenesStepping.{StepLeads, has_ended}
 
 -- one that is to copy a whole table has unlinked none
 pub begins_none : (setting : Setting) (table next : Table) → has_unlinked (copying_all setting table next).stands ≡ false

@@ -2,32 +2,32 @@
 use Rattle.std.specs.Prelude.{◌≡◌, ℕ, Bool, List, Option, Some, None, Result, Ok, Err}
 use Rattle.std.proofs.Common.{refl, sym, ap, subst}
 use denote.Ref.{Bor}
-use Rattle.papaya_owned.specs.Given.SeizeWords.Mem.{Mem, Took, value_at}
-use Rattle.papaya_owned.specs.Given.SeizeWords.Plan.{Steps}
-use Rattle.papaya_owned.specs.Given.SeizeWords.declared.fault.Fault.{Fault}
-use Rattle.papaya_owned.specs.Given.Seize.World.{World}
-use Rattle.papaya_owned.specs.Given.Seize.declared.progress.Progress.{Progress}
-use Rattle.papaya_owned.specs.Given.Tables.declared.node.Node.{Node}
-use Rattle.papaya_owned.specs.Given.Tables.declared.setting.Setting.{Setting}
-use Rattle.papaya_owned.specs.Given.Raw.Call.{call_plan}
-use Rattle.papaya_owned.specs.Given.Raw.CallAsks.{replied}
-use Rattle.papaya_owned.specs.Given.Raw.declared.machines.answer.Called.{Called}
-use Rattle.papaya_owned.specs.Given.Raw.declared.machines.answer.Called.TheVariants as called
-use Rattle.papaya_owned.specs.Given.Raw.declared.machines.answer.KeyAnswer.{KeyAnswer}
-use Rattle.papaya_owned.specs.Given.Raw.declared.machines.asking.Asking.{Asking}
-use Rattle.papaya_owned.specs.Given.Raw.declared.machines.asking.Reply.{Reply}
-use Rattle.papaya_owned.specs.Given.Raw.declared.machines.call.Calling.TheVariants as at
-use Rattle.papaya_owned.specs.Given.Raw.declared.machines.call.KeyCall.{KeyCall}
-use Rattle.papaya_owned.specs.Given.Rule.Chart.{Chart}
-use Rattle.papaya_owned.specs.Given.Rule.Words.{Blocks}
-use Rattle.papaya_owned.specs.Given.Callers.Pairs.{Given}
-use Rattle.papaya_owned.specs.Given.Callers.Sights.{Sight}
-use Rattle.papaya_owned.specs.Given.Callers.Together.{CallOnKey, OnKey as OnKeyOf, IsBegun, begun_at, told_about}
-use Rattle.papaya_owned.proofs.Given.Whole.Keys.Begins.{calls_begin_alone}
-use Rattle.papaya_owned.proofs.Given.Whole.Keys.Replies.{replies_lead_on}
-use Rattle.papaya_owned.proofs.Given.Whole.Keys.Whole.{calls_go_on_alone}
-use Rattle.papaya_owned.specs.Given.Whole.Owner.{IsAlone}
-use Rattle.papaya_owned.specs.Given.Whole.Whole.{StepLeads, then_so}
+use Rattle.papaya_owned.specs.Given.SeizeWordsMem.{Mem, Took, value_at}
+use Rattle.papaya_owned.specs.Given.SeizeWordsPlan.{Steps}
+use Rattle.papaya_owned.specs.Given.SeizeWordsDeclared.fault.Fault.{Fault}
+use Rattle.papaya_owned.specs.Given.SeizeWorld.{World}
+use Rattle.papaya_owned.specs.Given.SeizeDeclared.progress.Progress.{Progress}
+use Rattle.papaya_owned.specs.Given.TablesDeclared.node.Node.{Node}
+use Rattle.papaya_owned.specs.Given.TablesDeclared.setting.Setting.{Setting}
+use Rattle.papaya_owned.specs.Given.RawCall.{call_plan}
+use Rattle.papaya_owned.specs.Given.RawCallAsks.{replied}
+use Rattle.papaya_owned.specs.Given.RawDeclared.machines.answer.Called.{Called}
+use Rattle.papaya_owned.specs.Given.RawDeclared.machines.answer.Called.TheVariants as called
+use Rattle.papaya_owned.specs.Given.RawDeclared.machines.answer.KeyAnswer.{KeyAnswer}
+use Rattle.papaya_owned.specs.Given.RawDeclared.machines.asking.Asking.{Asking}
+use Rattle.papaya_owned.specs.Given.RawDeclared.machines.asking.Reply.{Reply}
+use Rattle.papaya_owned.specs.Given.RawDeclared.machines.call.Calling.TheVariants as at
+use Rattle.papaya_owned.specs.Given.RawDeclared.machines.call.KeyCall.{KeyCall}
+use Rattle.papaya_owned.specs.Given.RuleChart.{Chart}
+use Rattle.papaya_owned.specs.Given.RuleWords.{Blocks}
+use Rattle.papaya_owned.specs.Given.CallersPairs.{Given}
+use Rattle.papaya_owned.specs.Given.CallersSights.{Sight}
+use Rattle.papaya_owned.specs.Given.CallersTogether.{CallOnKey, OnKey as OnKeyOf, IsBegun, begun_at, told_about}
+use Rattle.papaya_owned.proofs.Given.WholeKeys.Begins.{calls_begin_alone}
+use Rattle.papaya_owned.proofs.Given.WholeKeys.Replies.{replies_lead_on}
+use Rattle.papaya_owned.proofs.Given.WholeKeys.Whole.{calls_go_on_alone}
+use Rattle.papaya_owned.specs.Given.WholeOwner.{IsAlone}
+use Rattle.papaya_owned.specs.Given.WholeWhole.{StepLeads, then_so}
 use Rattle.papaya_owned.specs.Calling.{IsCalling, begun, asked}
 use Rattle.papaya_owned.specs.Ending.{RunsTo}
 use Rattle.papaya_owned.specs.Machines.{on_key_after, on_key_plan, on_key_settled}

@@ -2,29 +2,29 @@
 use Rattle.std.specs.Prelude.{◌≡◌, ℕ, Bool, List, Result, Ok, Err, IfErr}
 use Rattle.std.proofs.Common.{refl, sym, ◌∙◌, ap, subst}
 use denote.Ref.{Bor}
-use Rattle.papaya_owned.specs.Given.SeizeWords.Mem.{Mem, Took, value_at}
-use Rattle.papaya_owned.specs.Given.SeizeWords.Plan.{Steps}
-use Rattle.papaya_owned.specs.Given.SeizeWords.declared.fault.Fault.{Fault}
-use Rattle.papaya_owned.specs.Given.Seize.World.{World}
-use Rattle.papaya_owned.specs.Given.Seize.declared.progress.Progress.{Progress}
-use Rattle.papaya_owned.specs.Given.Tables.declared.node.Node.{Node}
-use Rattle.papaya_owned.specs.Given.Tables.declared.setting.Setting.{Setting}
-use Rattle.papaya_owned.specs.Given.Sweeps.Sweep.{sweep_plan}
-use Rattle.papaya_owned.specs.Given.Sweeps.SweepPoints.{sweeping, after_reply}
-use Rattle.papaya_owned.specs.Given.Sweeps.declared.sweep.Purpose.{Purpose}
-use Rattle.papaya_owned.specs.Given.Sweeps.declared.sweep.Sweep.{Sweep}
-use Rattle.papaya_owned.specs.Given.Sweeps.declared.sweep.Sweeping.TheVariants as at
-use Rattle.papaya_owned.specs.Given.Sweeps.declared.sweep.Swept.{Swept}
-use Rattle.papaya_owned.specs.Given.Sweeps.declared.sweep.Swept.TheVariants as swept
-use Rattle.papaya_owned.specs.Given.Rule.Chart.{Chart}
-use Rattle.papaya_owned.specs.Given.Rule.Words.{Blocks}
-use Rattle.papaya_owned.specs.Given.Callers.OverAll.{CallOverAll, begun_over_all, told_of}
-use Rattle.papaya_owned.specs.Given.Callers.Sights.{Sight}
-use Rattle.papaya_owned.specs.Given.Callers.Together.{OverAll, in_slot}
-use Rattle.papaya_owned.proofs.Given.Whole.Sweeps.Begins.{sweeps_begin_alone}
-use Rattle.papaya_owned.proofs.Given.Whole.Sweeps.ToldOn.{sweeps_told_alone}
-use Rattle.papaya_owned.specs.Given.Whole.Owner.{IsAlone}
-use Rattle.papaya_owned.specs.Given.Whole.WholeSweeps.{SweepLeads}
+use Rattle.papaya_owned.specs.Given.SeizeWordsMem.{Mem, Took, value_at}
+use Rattle.papaya_owned.specs.Given.SeizeWordsPlan.{Steps}
+use Rattle.papaya_owned.specs.Given.SeizeWordsDeclared.fault.Fault.{Fault}
+use Rattle.papaya_owned.specs.Given.SeizeWorld.{World}
+use Rattle.papaya_owned.specs.Given.SeizeDeclared.progress.Progress.{Progress}
+use Rattle.papaya_owned.specs.Given.TablesDeclared.node.Node.{Node}
+use Rattle.papaya_owned.specs.Given.TablesDeclared.setting.Setting.{Setting}
+use Rattle.papaya_owned.specs.Given.SweepsSweep.{sweep_plan}
+use Rattle.papaya_owned.specs.Given.SweepsSweepPoints.{sweeping, after_reply}
+use Rattle.papaya_owned.specs.Given.SweepsDeclared.sweep.Purpose.{Purpose}
+use Rattle.papaya_owned.specs.Given.SweepsDeclared.sweep.Sweep.{Sweep}
+use Rattle.papaya_owned.specs.Given.SweepsDeclared.sweep.Sweeping.TheVariants as at
+use Rattle.papaya_owned.specs.Given.SweepsDeclared.sweep.Swept.{Swept}
+use Rattle.papaya_owned.specs.Given.SweepsDeclared.sweep.Swept.TheVariants as swept
+use Rattle.papaya_owned.specs.Given.RuleChart.{Chart}
+use Rattle.papaya_owned.specs.Given.RuleWords.{Blocks}
+use Rattle.papaya_owned.specs.Given.CallersOverAll.{CallOverAll, begun_over_all, told_of}
+use Rattle.papaya_owned.specs.Given.CallersSights.{Sight}
+use Rattle.papaya_owned.specs.Given.CallersTogether.{OverAll, in_slot}
+use Rattle.papaya_owned.proofs.Given.WholeSweeps.Begins.{sweeps_begin_alone}
+use Rattle.papaya_owned.proofs.Given.WholeSweeps.ToldOn.{sweeps_told_alone}
+use Rattle.papaya_owned.specs.Given.WholeOwner.{IsAlone}
+use Rattle.papaya_owned.specs.Given.WholeWholeSweeps.{SweepLeads}
 use Rattle.papaya_owned.specs.Ending.{RunsTo}
 use Rattle.papaya_owned.specs.Owned.{Holds}
 use Rattle.papaya_owned.proofs.Runs.Comes.{NextOf, next_turned, run_comes}

@@ -2,16 +2,16 @@
 use Rattle.std.specs.Prelude.{◌≡◌, ℕ, Bool, List, [], Result, Ok, Err}
 use Rattle.std.proofs.Common.{sym, subst, refl}
 use denote.Ref.{Bor}
-use Rattle.papaya_owned.specs.Given.SeizeWords.Mem.{Mem}
-use Rattle.papaya_owned.specs.Given.SeizeWords.declared.fault.Fault.{Fault}
-use Rattle.papaya_owned.specs.Given.SeizeWords.declared.fault.Fault.TheVariants.{Capacity}
-use Rattle.papaya_owned.specs.Given.Tables.declared.node.Node.{Node}
-use Rattle.papaya_owned.specs.Given.Tables.declared.setting.Setting.{Setting}
-use Rattle.papaya_owned.specs.Given.Sweeps.SweepPoints.{sweeping}
-use Rattle.papaya_owned.specs.Given.Sweeps.declared.sweep.Purpose.TheVariants.{Walks, Clears}
-use Rattle.papaya_owned.specs.Given.Sweeps.declared.sweep.Sweep.{Sweep}
-use Rattle.papaya_owned.specs.Given.Late.Faults.{IsRoom, RoomInSweeping}
-use Rattle.papaya_owned.specs.Given.Shown.Chain.{CannotGrowIn}
+use Rattle.papaya_owned.specs.Given.SeizeWordsMem.{Mem}
+use Rattle.papaya_owned.specs.Given.SeizeWordsDeclared.fault.Fault.{Fault}
+use Rattle.papaya_owned.specs.Given.SeizeWordsDeclared.fault.Fault.TheVariants.{Capacity}
+use Rattle.papaya_owned.specs.Given.TablesDeclared.node.Node.{Node}
+use Rattle.papaya_owned.specs.Given.TablesDeclared.setting.Setting.{Setting}
+use Rattle.papaya_owned.specs.Given.SweepsSweepPoints.{sweeping}
+use Rattle.papaya_owned.specs.Given.SweepsDeclared.sweep.Purpose.TheVariants.{Walks, Clears}
+use Rattle.papaya_owned.specs.Given.SweepsDeclared.sweep.Sweep.{Sweep}
+use Rattle.papaya_owned.specs.Given.LateFaults.{IsRoom, RoomInSweeping}
+use Rattle.papaya_owned.specs.Given.ShownChain.{CannotGrowIn}
 use Rattle.papaya_owned.specs.Ending.{Ends, RunsTo}
 use Rattle.papaya_owned.specs.Owned.{Holds}
 use Rattle.papaya_sifts.specs.Sweeping.{ClearedBy, HasSwept, IsSweeping, over_pairs_plan, swept_by}

@@ -5,7 +5,7 @@ use Rattle.std.proofs.lemmas.List.Elements.{All-nil, All-cons, All-head, All-tai
 use Rattle.std.proofs.lemmas.List.Sorted.{All-permutation}
 use denote.Ref.{Bor}
 use Rattle.std.specs.Fn.{Mut}
-use Rattle.papaya_owned.specs.Given.Whole.SweptPairs.{those, is_done}
+use Rattle.papaya_owned.specs.Given.WholeSweptPairs.{those, is_done}
 use Rattle.papaya_sifts.specs.Retaining.{AskedAbout, AskedAlong, KeepsOf, AnswersByTest}
 
 module _ {X : Type 0} where

@@ -1,15 +1,15 @@
 -- For what a sweep of one owner's map is refused: memory, or the length of a table.
 use Rattle.std.specs.Prelude.{ℕ, Result, IfErr}
-use Rattle.papaya_owned.specs.Given.SeizeWords.Mem.{Mem, Took, value_at}
-use Rattle.papaya_owned.specs.Given.SeizeWords.Plan.{Steps}
-use Rattle.papaya_owned.specs.Given.SeizeWords.declared.fault.Fault.{Fault}
-use Rattle.papaya_owned.specs.Given.Seize.declared.progress.Progress.{Progress}
-use Rattle.papaya_owned.specs.Given.Tables.declared.node.Node.{Node}
-use Rattle.papaya_owned.specs.Given.Sweeps.Sweep.{sweep_plan}
-use Rattle.papaya_owned.specs.Given.Sweeps.declared.sweep.Swept.{Swept}
-use Rattle.papaya_owned.specs.Given.Sweeps.declared.sweep.Swept.TheVariants as swept
-use Rattle.papaya_owned.specs.Given.Late.Faults.{IsRoom, RoomInSweeping, SweepRefusesRoom}
-use Rattle.papaya_owned.proofs.Given.Late.KindsKept.Laws.{sweeps_refuse_room}
+use Rattle.papaya_owned.specs.Given.SeizeWordsMem.{Mem, Took, value_at}
+use Rattle.papaya_owned.specs.Given.SeizeWordsPlan.{Steps}
+use Rattle.papaya_owned.specs.Given.SeizeWordsDeclared.fault.Fault.{Fault}
+use Rattle.papaya_owned.specs.Given.SeizeDeclared.progress.Progress.{Progress}
+use Rattle.papaya_owned.specs.Given.TablesDeclared.node.Node.{Node}
+use Rattle.papaya_owned.specs.Given.SweepsSweep.{sweep_plan}
+use Rattle.papaya_owned.specs.Given.SweepsDeclared.sweep.Swept.{Swept}
+use Rattle.papaya_owned.specs.Given.SweepsDeclared.sweep.Swept.TheVariants as swept
+use Rattle.papaya_owned.specs.Given.LateFaults.{IsRoom, RoomInSweeping, SweepRefusesRoom}
+use Rattle.papaya_owned.proofs.Given.LateKindsKept.Laws.{sweeps_refuse_room}
 use Rattle.papaya_owned.specs.Ending.{RunsTo}
 use Rattle.papaya_owned.proofs.Runs.Comes.{NextOf, next_turned, run_comes}
 use Rattle.papaya_sifts.specs.Sweeping.{over_pairs_plan, over_pairs_after, over_pairs_settled}

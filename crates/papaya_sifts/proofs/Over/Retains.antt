@@ -6,30 +6,30 @@ use Rattle.std.proofs.lemmas.List.{append-nil}
 use Rattle.std.proofs.lemmas.List.Elements.{filter-append}
 use Rattle.std.proofs.lemmas.List.Sorted.{IsPermutation-to_front, IsPermutation-append_left, length_permutation}
 use denote.Ref.{Bor}
-use Rattle.papaya_owned.specs.Given.SeizeWords.Mem.{Mem, value_at}
-use Rattle.papaya_owned.specs.Given.SeizeWords.Word.{block_in}
-use Rattle.papaya_owned.specs.Given.Tables.Chunks.{is_incremental}
-use Rattle.papaya_owned.specs.Given.Tables.declared.node.Node.{Node}
-use Rattle.papaya_owned.specs.Given.Tables.declared.node.Node.TheVariants as node
-use Rattle.papaya_owned.specs.Given.Tables.declared.setting.Setting.{Setting}
-use Rattle.papaya_owned.specs.Given.Sweeps.SweepPoints.{after_reply}
-use Rattle.papaya_owned.specs.Given.Sweeps.declared.sweep.Purpose.{Purpose}
-use Rattle.papaya_owned.specs.Given.Sweeps.declared.sweep.Purpose.TheVariants.{Walks, Retains}
-use Rattle.papaya_owned.specs.Given.Rule.Chart.{Chart}
-use Rattle.papaya_owned.specs.Given.Rule.Words.{Blocks}
-use Rattle.papaya_owned.specs.Given.Late.Covers.{times}
-use Rattle.papaya_owned.specs.Given.Alone.Counting.{pairs_in}
-use Rattle.papaya_owned.specs.Given.Callers.OverAll.{CallOverAll, told_of}
-use Rattle.papaya_owned.specs.Given.Whole.Limits.{IsForTheLast, IsTheLast}
-use Rattle.papaya_owned.specs.Given.Whole.SweptPairs.{AreNumbered, NumberedBelow, pairs_of, those, is_done, left_by}
-use Rattle.papaya_owned.specs.Given.Whole.WholeSweeps.{NamesNew, IsTold}
-use Rattle.papaya_owned.proofs.Given.Late.KindsKept.Rooms.Sweeping.{told_as_on}
-use Rattle.papaya_owned.proofs.Given.Whole.Contents.Below.{decided}
-use Rattle.papaya_owned.proofs.Given.Whole.Contents.KeptBy.{times_here, times_other}
-use Rattle.papaya_owned.proofs.Given.Whole.Contents.Numbered.{NumberedLast, numbered_last, numbered_before, numbers_are, numbers_go}
-use Rattle.papaya_owned.proofs.Given.Whole.Contents.Swept.{shown, asks_once, sweeps_leave}
-use Rattle.papaya_owned.proofs.Given.Whole.Sweeps.Counting.{telling_counts_nothing, telling_keeps_the_purpose}
-use Rattle.papaya_owned.proofs.Given.Whole.Sweeps.ToldOn.{sweeps_told_alone}
+use Rattle.papaya_owned.specs.Given.SeizeWordsMem.{Mem, value_at}
+use Rattle.papaya_owned.specs.Given.SeizeWordsWord.{block_in}
+use Rattle.papaya_owned.specs.Given.TablesChunks.{is_incremental}
+use Rattle.papaya_owned.specs.Given.TablesDeclared.node.Node.{Node}
+use Rattle.papaya_owned.specs.Given.TablesDeclared.node.Node.TheVariants as node
+use Rattle.papaya_owned.specs.Given.TablesDeclared.setting.Setting.{Setting}
+use Rattle.papaya_owned.specs.Given.SweepsSweepPoints.{after_reply}
+use Rattle.papaya_owned.specs.Given.SweepsDeclared.sweep.Purpose.{Purpose}
+use Rattle.papaya_owned.specs.Given.SweepsDeclared.sweep.Purpose.TheVariants.{Walks, Retains}
+use Rattle.papaya_owned.specs.Given.RuleChart.{Chart}
+use Rattle.papaya_owned.specs.Given.RuleWords.{Blocks}
+use Rattle.papaya_owned.specs.Given.LateCovers.{times}
+use Rattle.papaya_owned.specs.Given.AloneCounting.{pairs_in}
+use Rattle.papaya_owned.specs.Given.CallersOverAll.{CallOverAll, told_of}
+use Rattle.papaya_owned.specs.Given.WholeLimits.{IsForTheLast, IsTheLast}
+use Rattle.papaya_owned.specs.Given.WholeSweptPairs.{AreNumbered, NumberedBelow, pairs_of, those, is_done, left_by}
+use Rattle.papaya_owned.specs.Given.WholeWholeSweeps.{NamesNew, IsTold}
+use Rattle.papaya_owned.proofs.Given.LateKindsKept.Rooms.Sweeping.{told_as_on}
+use Rattle.papaya_owned.proofs.Given.WholeContents.Below.{decided}
+use Rattle.papaya_owned.proofs.Given.WholeContents.KeptBy.{times_here, times_other}
+use Rattle.papaya_owned.proofs.Given.WholeContents.Numbered.{NumberedLast, numbered_last, numbered_before, numbers_are, numbers_go}
+use Rattle.papaya_owned.proofs.Given.WholeContents.Swept.{shown, asks_once, sweeps_leave}
+use Rattle.papaya_owned.proofs.Given.WholeSweeps.Counting.{telling_counts_nothing, telling_keeps_the_purpose}
+use Rattle.papaya_owned.proofs.Given.WholeSweeps.ToldOn.{sweeps_told_alone}
 use Rattle.papaya_owned.specs.Owned.{Holds}
 use Rattle.papaya_sifts.specs.declared.sweeping.OverPairs.{OverPairs}
 use Rattle.papaya_sifts.proofs.Over.Sweeps.{Said, Under, UnderAsking, IsDone, goes_over_one, holds_at}

@@ -7,21 +7,21 @@ use Rattle.std.proofs.lemmas.List.Elements.{All-nil, All-push, All-weaker}
 use Rattle.std.proofs.lemmas.List.Sorted.{IsPermutation-refl, IsPermutation-sym, IsPermutation-map, IsPermutation-pop_more}
 use denote.Ref.{Bor}
 use Rattle.std.specs.Fn.{Mut}
-use Rattle.papaya_owned.specs.Given.SeizeWords.Mem.{Mem}
-use Rattle.papaya_owned.specs.Given.SeizeWords.declared.fault.Fault.{Fault}
-use Rattle.papaya_owned.specs.Given.SeizeWords.declared.fault.Fault.TheVariants.{Capacity}
-use Rattle.papaya_owned.specs.Given.Tables.declared.node.Node.{Node}
-use Rattle.papaya_owned.specs.Given.Tables.declared.setting.Setting.{Setting}
-use Rattle.papaya_owned.specs.Given.Sweeps.SweepPoints.{sweeping, after_reply}
-use Rattle.papaya_owned.specs.Given.Sweeps.declared.sweep.Purpose.TheVariants.{Retains}
-use Rattle.papaya_owned.specs.Given.Sweeps.declared.sweep.Sweep.{Sweep}
-use Rattle.papaya_owned.specs.Given.Late.Covers.{times}
-use Rattle.papaya_owned.specs.Given.Late.Faults.{IsRoom, RoomInSweeping}
-use Rattle.papaya_owned.proofs.Given.Late.KindsKept.Laws.{told_sweeps_refuse_room}
-use Rattle.papaya_owned.specs.Given.Shown.Chain.{CannotGrowIn}
-use Rattle.papaya_owned.specs.Given.Whole.SweptPairs.{pairs_of, those, is_done}
-use Rattle.papaya_owned.proofs.Given.Whole.Contents.KeptBy.{done_here, done_other, times_here}
-use Rattle.papaya_owned.proofs.Given.Whole.Contents.Numbered.{all_those}
+use Rattle.papaya_owned.specs.Given.SeizeWordsMem.{Mem}
+use Rattle.papaya_owned.specs.Given.SeizeWordsDeclared.fault.Fault.{Fault}
+use Rattle.papaya_owned.specs.Given.SeizeWordsDeclared.fault.Fault.TheVariants.{Capacity}
+use Rattle.papaya_owned.specs.Given.TablesDeclared.node.Node.{Node}
+use Rattle.papaya_owned.specs.Given.TablesDeclared.setting.Setting.{Setting}
+use Rattle.papaya_owned.specs.Given.SweepsSweepPoints.{sweeping, after_reply}
+use Rattle.papaya_owned.specs.Given.SweepsDeclared.sweep.Purpose.TheVariants.{Retains}
+use Rattle.papaya_owned.specs.Given.SweepsDeclared.sweep.Sweep.{Sweep}
+use Rattle.papaya_owned.specs.Given.LateCovers.{times}
+use Rattle.papaya_owned.specs.Given.LateFaults.{IsRoom, RoomInSweeping}
+use Rattle.papaya_owned.proofs.Given.LateKindsKept.Laws.{told_sweeps_refuse_room}
+use Rattle.papaya_owned.specs.Given.ShownChain.{CannotGrowIn}
+use Rattle.papaya_owned.specs.Given.WholeSweptPairs.{pairs_of, those, is_done}
+use Rattle.papaya_owned.proofs.Given.WholeContents.KeptBy.{done_here, done_other, times_here}
+use Rattle.papaya_owned.proofs.Given.WholeContents.Numbered.{all_those}
 use Rattle.papaya_owned.specs.Ending.{Ends, RunsTo}
 use Rattle.papaya_owned.specs.Owned.{Holds, NamesAPair}
 use Rattle.papaya_sifts.specs.Retaining.{AskedAbout, AskedAlong, KeepsOf}

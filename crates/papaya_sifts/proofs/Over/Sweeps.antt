@@ -2,51 +2,51 @@
 use Rattle.std.specs.Prelude.{◌≡◌, ℕ, Bool, true, List, [], Result, Ok, Err}
 use Rattle.std.proofs.Common.{refl, sym, ◌∙◌, ap, subst, inl}
 use denote.Ref.{Bor}
-use Rattle.papaya_owned.specs.Given.SeizeWords.Mem.{Mem, Can, Took, value_at}
-use Rattle.papaya_owned.specs.Given.SeizeWords.Plan.{Plan, May, Steps}
-use Rattle.papaya_owned.specs.Given.SeizeWords.declared.fault.Fault.{Fault}
-use Rattle.papaya_owned.specs.Given.SeizeWords.declared.fault.Fault.TheVariants.{Capacity}
-use Rattle.papaya_owned.specs.Given.Seize.World.{World}
-use Rattle.papaya_owned.specs.Given.Seize.declared.progress.Progress.{Progress}
-use Rattle.papaya_owned.proofs.Given.SeizeRule.Rows.Leaving.{steps_back}
-use Rattle.papaya_owned.specs.Given.Tables.Chunks.{is_incremental}
-use Rattle.papaya_owned.specs.Given.Tables.declared.node.Node.{Node}
-use Rattle.papaya_owned.specs.Given.Tables.declared.setting.Setting.{Setting}
-use Rattle.papaya_owned.specs.Given.Sweeps.Sweep.{sweep_plan}
-use Rattle.papaya_owned.specs.Given.Sweeps.SweepPoints.{sweeping}
-use Rattle.papaya_owned.specs.Given.Sweeps.declared.sweep.Purpose.{Purpose}
-use Rattle.papaya_owned.specs.Given.Sweeps.declared.sweep.Purpose.TheVariants.{Walks, Clears, Retains}
-use Rattle.papaya_owned.specs.Given.Sweeps.declared.sweep.Sweep.{Sweep}
-use Rattle.papaya_owned.specs.Given.Sweeps.declared.sweep.Sweeping.{Sweeping}
-use Rattle.papaya_owned.specs.Given.Sweeps.declared.sweep.Sweeping.TheVariants as at
-use Rattle.papaya_owned.specs.Given.Sweeps.declared.sweep.Swept.{Swept}
-use Rattle.papaya_owned.specs.Given.Sweeps.declared.sweep.Swept.TheVariants as swept
-use Rattle.papaya_owned.specs.Given.Rule.Chart.{Chart}
-use Rattle.papaya_owned.specs.Given.Rule.Words.{Blocks}
-use Rattle.papaya_owned.specs.Given.Points.Steps.{AreLawful}
-use Rattle.papaya_owned.specs.Given.Alone.Counting.{IsCounted}
-use Rattle.papaya_owned.specs.Given.Alone.Endings.{RunsEnd, runs_end}
-use Rattle.papaya_owned.specs.Given.Late.Covers.{Came}
-use Rattle.papaya_owned.specs.Given.Late.FactsSweeps.{SweepingFacts}
-use Rattle.papaya_owned.specs.Given.Late.Faults.{StandsInSweeping}
-use Rattle.papaya_owned.specs.Given.Late.ToldSweeps.{IsRowOfSweep}
-use Rattle.papaya_owned.specs.Given.Callers.OverAll.{CallOverAll, begun_over_all, come_to}
-use Rattle.papaya_owned.specs.Given.Callers.Sights.{Sight}
-use Rattle.papaya_owned.specs.Given.Callers.Together.{OverAll, in_slot}
-use Rattle.papaya_owned.specs.Given.Shown.Chain.{CannotGrowIn}
-use Rattle.papaya_owned.specs.Given.Whole.Contents.{AreContents}
-use Rattle.papaya_owned.specs.Given.Whole.Limits.{IsForTheLast, IsTheLast}
-use Rattle.papaya_owned.specs.Given.Whole.LoneSweeps.{goes_once}
-use Rattle.papaya_owned.specs.Given.Whole.Owner.{AtRest, IsAlone}
-use Rattle.papaya_owned.specs.Given.Whole.SweptPairs.{HasSwept, AreNumbered, pairs_of, left_by}
-use Rattle.papaya_owned.specs.Given.Whole.WholeSweeps.{SweepsOn, SweepStepLeads, IsCountedBut, ComesOn}
-use Rattle.papaya_owned.proofs.Given.Whole.Contents.Numbered.{numbers_are, numbers_go}
-use Rattle.papaya_owned.proofs.Given.Whole.Contents.Swept.{swept_begins, refused, sweeps_leave}
-use Rattle.papaya_owned.proofs.Given.Whole.Sweeps.Begins.{sweeps_begin_alone}
-use Rattle.papaya_owned.proofs.Given.Whole.Sweeps.Counting.{swept_pairs_counted}
-use Rattle.papaya_owned.proofs.Given.Whole.Sweeps.Ends.{sweeps_come_to_an_end}
-use Rattle.papaya_owned.proofs.Given.Whole.Sweeps.Leads.{sweeps_go_on_alone}
-use Rattle.papaya_owned.proofs.Given.Whole.Sweeps.Own as own
+use Rattle.papaya_owned.specs.Given.SeizeWordsMem.{Mem, Can, Took, value_at}
+use Rattle.papaya_owned.specs.Given.SeizeWordsPlan.{Plan, May, Steps}
+use Rattle.papaya_owned.specs.Given.SeizeWordsDeclared.fault.Fault.{Fault}
+use Rattle.papaya_owned.specs.Given.SeizeWordsDeclared.fault.Fault.TheVariants.{Capacity}
+use Rattle.papaya_owned.specs.Given.SeizeWorld.{World}
+use Rattle.papaya_owned.specs.Given.SeizeDeclared.progress.Progress.{Progress}
+use Rattle.papaya_owned.proofs.Given.SeizeRuleRows.Leaving.{steps_back}
+use Rattle.papaya_owned.specs.Given.TablesChunks.{is_incremental}
+use Rattle.papaya_owned.specs.Given.TablesDeclared.node.Node.{Node}
+use Rattle.papaya_owned.specs.Given.TablesDeclared.setting.Setting.{Setting}
+use Rattle.papaya_owned.specs.Given.SweepsSweep.{sweep_plan}
+use Rattle.papaya_owned.specs.Given.SweepsSweepPoints.{sweeping}
+use Rattle.papaya_owned.specs.Given.SweepsDeclared.sweep.Purpose.{Purpose}
+use Rattle.papaya_owned.specs.Given.SweepsDeclared.sweep.Purpose.TheVariants.{Walks, Clears, Retains}
+use Rattle.papaya_owned.specs.Given.SweepsDeclared.sweep.Sweep.{Sweep}
+use Rattle.papaya_owned.specs.Given.SweepsDeclared.sweep.Sweeping.{Sweeping}
+use Rattle.papaya_owned.specs.Given.SweepsDeclared.sweep.Sweeping.TheVariants as at
+use Rattle.papaya_owned.specs.Given.SweepsDeclared.sweep.Swept.{Swept}
+use Rattle.papaya_owned.specs.Given.SweepsDeclared.sweep.Swept.TheVariants as swept
+use Rattle.papaya_owned.specs.Given.RuleChart.{Chart}
+use Rattle.papaya_owned.specs.Given.RuleWords.{Blocks}
+use Rattle.papaya_owned.specs.Given.PointsSteps.{AreLawful}
+use Rattle.papaya_owned.specs.Given.AloneCounting.{IsCounted}
+use Rattle.papaya_owned.specs.Given.AloneEndings.{RunsEnd, runs_end}
+use Rattle.papaya_owned.specs.Given.LateCovers.{Came}
+use Rattle.papaya_owned.specs.Given.LateFactsSweeps.{SweepingFacts}
+use Rattle.papaya_owned.specs.Given.LateFaults.{StandsInSweeping}
+use Rattle.papaya_owned.specs.Given.LateToldSweeps.{IsRowOfSweep}
+use Rattle.papaya_owned.specs.Given.CallersOverAll.{CallOverAll, begun_over_all, come_to}
+use Rattle.papaya_owned.specs.Given.CallersSights.{Sight}
+use Rattle.papaya_owned.specs.Given.CallersTogether.{OverAll, in_slot}
+use Rattle.papaya_owned.specs.Given.ShownChain.{CannotGrowIn}
+use Rattle.papaya_owned.specs.Given.WholeContents.{AreContents}
+use Rattle.papaya_owned.specs.Given.WholeLimits.{IsForTheLast, IsTheLast}
+use Rattle.papaya_owned.specs.Given.WholeLoneSweeps.{goes_once}
+use Rattle.papaya_owned.specs.Given.WholeOwner.{AtRest, IsAlone}
+use Rattle.papaya_owned.specs.Given.WholeSweptPairs.{HasSwept, AreNumbered, pairs_of, left_by}
+use Rattle.papaya_owned.specs.Given.WholeWholeSweeps.{SweepsOn, SweepStepLeads, IsCountedBut, ComesOn}
+use Rattle.papaya_owned.proofs.Given.WholeContents.Numbered.{numbers_are, numbers_go}
+use Rattle.papaya_owned.proofs.Given.WholeContents.Swept.{swept_begins, refused, sweeps_leave}
+use Rattle.papaya_owned.proofs.Given.WholeSweeps.Begins.{sweeps_begin_alone}
+use Rattle.papaya_owned.proofs.Given.WholeSweeps.Counting.{swept_pairs_counted}
+use Rattle.papaya_owned.proofs.Given.WholeSweeps.Ends.{sweeps_come_to_an_end}
+use Rattle.papaya_owned.proofs.Given.WholeSweeps.Leads.{sweeps_go_on_alone}
+use Rattle.papaya_owned.proofs.Given.WholeSweeps.Own as own
 use Rattle.papaya_owned.specs.Ending.{GoesOn, Ends, all_end, RunsTo}
 use Rattle.papaya_owned.specs.Owned.{Holds}
 use Rattle.papaya_sifts.specs.Sweeping.{over_pairs_plan, over_pairs_after, over_pairs_settled}

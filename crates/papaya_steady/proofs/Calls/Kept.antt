@@ -2,38 +2,38 @@
 use Rattle.std.specs.Prelude.{◌≡◌, ◌≢◌, ℕ, ◌<◌, Bool, false, bit_and}
 use Rattle.std.specs.Int.{IsPowerOfTwo}
 use Rattle.std.proofs.Common.{refl, sym, subst, inl, inr, arith}
-use Rattle.papaya_sifts.specs.Given.SeizeWords.Mem.{Mem, Can, Took, value_at, same_at}
-use Rattle.papaya_sifts.specs.Given.SeizeWords.Plan.{May, Steps}
-use Rattle.papaya_sifts.specs.Given.SeizeWords.Word.{block_in}
-use Rattle.papaya_sifts.specs.Given.SeizeWords.declared.at.At.{At}
-use Rattle.papaya_sifts.specs.Given.SeizeWords.declared.at.At.TheVariants.{Root, Word}
-use Rattle.papaya_sifts.specs.Given.Seize.World.{World}
-use Rattle.papaya_sifts.specs.Given.Tables.Trials.{place_tried}
-use Rattle.papaya_sifts.specs.Given.Tables.declared.node.Node.{Node}
-use Rattle.papaya_sifts.specs.Given.Tables.declared.setting.Setting.{Setting}
-use Rattle.papaya_sifts.specs.Given.Tables.declared.table_words.TheConstants.{NEXT}
-use Rattle.papaya_sifts.specs.Given.Resize.Dispose.{dispose_plan}
-use Rattle.papaya_sifts.specs.Given.Raw.Call.{call_plan, disposed, plan_at}
-use Rattle.papaya_sifts.specs.Given.Raw.declared.machines.answer.Called.{Called}
-use Rattle.papaya_sifts.specs.Given.Raw.declared.machines.answer.End.TheVariants as ends
-use Rattle.papaya_sifts.specs.Given.Raw.declared.machines.asking.Asking.TheVariants as asking
-use Rattle.papaya_sifts.specs.Given.Raw.declared.machines.call.Calling.{Calling}
-use Rattle.papaya_sifts.specs.Given.Raw.declared.machines.call.Calling.TheVariants as at
-use Rattle.papaya_sifts.specs.Given.Raw.declared.machines.call.KeyCall.{KeyCall}
-use Rattle.papaya_sifts.specs.Given.Rule.Chart.{Chart}
-use Rattle.papaya_sifts.specs.Given.Rule.InWorld.{IsMapIn}
-use Rattle.papaya_sifts.specs.Given.Rule.Words.{Blocks}
-use Rattle.papaya_sifts.specs.Given.Points.FactsCalls.{Change, CallingFacts, CallFacts}
-use Rattle.papaya_sifts.specs.Given.Points.Steps.{AreLawful}
-use Rattle.papaya_sifts.specs.Given.Points.Told.{IsRowOfCall}
-use Rattle.papaya_sifts.specs.Given.Callers.Sights.{Sight}
-use Rattle.papaya_sifts.specs.Given.Callers.Together.{CallOnKey, OnKey}
-use Rattle.papaya_sifts.specs.Given.Whole.Owner.{IsAlone}
-use Rattle.papaya_sifts.proofs.Given.Rule.Keys.TriesSeen.{spot_inside}
-use Rattle.papaya_sifts.proofs.Given.Rule.Spared.{PlanSpares, spares_as}
-use Rattle.papaya_sifts.proofs.Given.Whole.Keys.Own as own
-use Rattle.papaya_sifts.proofs.Given.Whole.Rows.Kinds.{row_decided}
-use Rattle.papaya_sifts.proofs.Given.Whole.Rows.Steps as rows
+use Rattle.papaya_sifts.specs.Given.SeizeWordsMem.{Mem, Can, Took, value_at, same_at}
+use Rattle.papaya_sifts.specs.Given.SeizeWordsPlan.{May, Steps}
+use Rattle.papaya_sifts.specs.Given.SeizeWordsWord.{block_in}
+use Rattle.papaya_sifts.specs.Given.SeizeWordsDeclared.at.At.{At}
+use Rattle.papaya_sifts.specs.Given.SeizeWordsDeclared.at.At.TheVariants.{Root, Word}
+use Rattle.papaya_sifts.specs.Given.SeizeWorld.{World}
+use Rattle.papaya_sifts.specs.Given.TablesTrials.{place_tried}
+use Rattle.papaya_sifts.specs.Given.TablesDeclared.node.Node.{Node}
+use Rattle.papaya_sifts.specs.Given.TablesDeclared.setting.Setting.{Setting}
+use Rattle.papaya_sifts.specs.Given.TablesDeclared.table_words.TheConstants.{NEXT}
+use Rattle.papaya_sifts.specs.Given.ResizeDispose.{dispose_plan}
+use Rattle.papaya_sifts.specs.Given.RawCall.{call_plan, disposed, plan_at}
+use Rattle.papaya_sifts.specs.Given.RawDeclared.machines.answer.Called.{Called}
+use Rattle.papaya_sifts.specs.Given.RawDeclared.machines.answer.End.TheVariants as ends
+use Rattle.papaya_sifts.specs.Given.RawDeclared.machines.asking.Asking.TheVariants as asking
+use Rattle.papaya_sifts.specs.Given.RawDeclared.machines.call.Calling.{Calling}
+use Rattle.papaya_sifts.specs.Given.RawDeclared.machines.call.Calling.TheVariants as at
+use Rattle.papaya_sifts.specs.Given.RawDeclared.machines.call.KeyCall.{KeyCall}
+use Rattle.papaya_sifts.specs.Given.RuleChart.{Chart}
+use Rattle.papaya_sifts.specs.Given.RuleInWorld.{IsMapIn}
+use Rattle.papaya_sifts.specs.Given.RuleWords.{Blocks}
+use Rattle.papaya_sifts.specs.Given.PointsFactsCalls.{Change, CallingFacts, CallFacts}
+use Rattle.papaya_sifts.specs.Given.PointsSteps.{AreLawful}
+use Rattle.papaya_sifts.specs.Given.PointsTold.{IsRowOfCall}
+use Rattle.papaya_sifts.specs.Given.CallersSights.{Sight}
+use Rattle.papaya_sifts.specs.Given.CallersTogether.{CallOnKey, OnKey}
+use Rattle.papaya_sifts.specs.Given.WholeOwner.{IsAlone}
+use Rattle.papaya_sifts.proofs.Given.RuleKeys.TriesSeen.{spot_inside}
+use Rattle.papaya_sifts.proofs.Given.RuleSpared.{PlanSpares, spares_as}
+use Rattle.papaya_sifts.proofs.Given.WholeKeys.Own as own
+use Rattle.papaya_sifts.proofs.Given.WholeRows.Kinds.{row_decided}
+use Rattle.papaya_sifts.proofs.Given.WholeRows.Steps as rows
 use Rattle.papaya_steady.proofs.Ends.{EndsAt, disposal_spares, ends_on, ends_spared, no_place, no_shard}
 use Rattle.papaya_steady.proofs.Calls.Points.{StandsSo}
 

@@ -3,56 +3,56 @@
 use Rattle.std.specs.Prelude.{◌≡◌, ◌≢◌, ℕ, ◌-◌, ◌==◌, nat_lt, Bool, true, false, Option, Some, None, Ok, Err, if◌then◌else◌, ◌⊎◌}
 use Rattle.std.proofs.Common.{refl, sym, subst, ap, ◌∙◌, inl, inr}
 use Rattle.std.proofs.lemmas.Bool.{cases_eq, ne_eqb}
-use Rattle.papaya_sifts.specs.Given.SeizeWords.Mem.{Mem, value_at, word_at, Took}
-use Rattle.papaya_sifts.specs.Given.SeizeWords.Op.{Out, Found, Stored, Exchanged, Made, Taken, Roomed}
-use Rattle.papaya_sifts.specs.Given.SeizeWords.Plan.{Now, Seeing, Steps}
-use Rattle.papaya_sifts.specs.Given.SeizeWords.Word.{block_in}
-use Rattle.papaya_sifts.specs.Given.SeizeWords.declared.at.At.TheVariants.{Root, Word}
-use Rattle.papaya_sifts.specs.Given.Seize.declared.rows.settle.Settled.{Settled}
-use Rattle.papaya_sifts.specs.Given.Seize.declared.rows.settle.Settled.TheVariants as settled
-use Rattle.papaya_sifts.specs.Given.Tables.Chunks.{is_incremental}
-use Rattle.papaya_sifts.specs.Given.Tables.Finding.{finding, may_name}
-use Rattle.papaya_sifts.specs.Given.Tables.Nodes.{table_seen}
-use Rattle.papaya_sifts.specs.Given.Tables.Probes.{probe_after}
-use Rattle.papaya_sifts.specs.Given.Tables.TablePlaces.{at_word}
-use Rattle.papaya_sifts.specs.Given.Tables.Trials.{next_trial, with_met}
-use Rattle.papaya_sifts.specs.Given.Tables.declared.finding.Finding.{Finding}
-use Rattle.papaya_sifts.specs.Given.Tables.declared.finding.Finding.TheVariants as finds
-use Rattle.papaya_sifts.specs.Given.Tables.declared.marks.TheConstants.{TOMBSTONE}
-use Rattle.papaya_sifts.specs.Given.Tables.declared.node.Node.{Node}
-use Rattle.papaya_sifts.specs.Given.Tables.declared.setting.Setting.{Setting}
-use Rattle.papaya_sifts.specs.Given.Tables.declared.table.Table.{Table}
-use Rattle.papaya_sifts.specs.Given.Tables.declared.table_words.TheConstants.{NEXT}
-use Rattle.papaya_sifts.specs.Given.Tables.declared.trial.Trial.{Trial}
-use Rattle.papaya_sifts.specs.Given.Resize.Dispose.{disposing, dispose_plan}
-use Rattle.papaya_sifts.specs.Given.Resize.declared.dispose.Dispose.{Dispose}
-use Rattle.papaya_sifts.specs.Given.Raw.Call.{call_plan, disposed, disposes, key_read, next_found, next_read, pair_read, probes, root_found, root_read, tried, tries, word_found, word_read}
-use Rattle.papaya_sifts.specs.Given.Raw.Call as calls
-use Rattle.papaya_sifts.specs.Given.Raw.CallAsks.{present_told, replied, told_at}
-use Rattle.papaya_sifts.specs.Given.Raw.CallPoints.{aim_of, answering, asking_of, at_free, at_last, at_pair, beyond, burying, changed, counted, ending, entering, following_made, going, halted, having_met, over, pair_by, passed, standing, tableless, told, told_of}
-use Rattle.papaya_sifts.specs.Given.Raw.CallPoints as points
-use Rattle.papaya_sifts.specs.Given.Raw.declared.machines.answer.Called.{Called}
-use Rattle.papaya_sifts.specs.Given.Raw.declared.machines.answer.Called.TheVariants as called
-use Rattle.papaya_sifts.specs.Given.Raw.declared.machines.answer.End.TheVariants as ends
-use Rattle.papaya_sifts.specs.Given.Raw.declared.machines.answer.KeyAnswer.{KeyAnswer}
-use Rattle.papaya_sifts.specs.Given.Raw.declared.machines.answer.KeyAnswer.TheVariants as answers
-use Rattle.papaya_sifts.specs.Given.Raw.declared.machines.answer.Missing.{Missing}
-use Rattle.papaya_sifts.specs.Given.Raw.declared.machines.answer.Missing.TheVariants as missing
-use Rattle.papaya_sifts.specs.Given.Raw.declared.machines.answer.There.{There}
-use Rattle.papaya_sifts.specs.Given.Raw.declared.machines.answer.There.TheVariants as there
-use Rattle.papaya_sifts.specs.Given.Raw.declared.machines.asking.Asking.TheVariants as asking
-use Rattle.papaya_sifts.specs.Given.Raw.declared.machines.asking.Replies.{Replies}
-use Rattle.papaya_sifts.specs.Given.Raw.declared.machines.asking.Reply.{Reply}
-use Rattle.papaya_sifts.specs.Given.Raw.declared.machines.asking.Reply.TheVariants as reply
-use Rattle.papaya_sifts.specs.Given.Raw.declared.machines.asking.Takes.{Takes}
-use Rattle.papaya_sifts.specs.Given.Raw.declared.machines.asking.Takes.TheVariants as takes
-use Rattle.papaya_sifts.specs.Given.Raw.declared.machines.asking.Told.{Told}
-use Rattle.papaya_sifts.specs.Given.Raw.declared.machines.asking.Told.TheVariants as tells
-use Rattle.papaya_sifts.specs.Given.Raw.declared.machines.call.Calling.{Calling}
-use Rattle.papaya_sifts.specs.Given.Raw.declared.machines.call.Calling.TheVariants as at
-use Rattle.papaya_sifts.specs.Given.Raw.declared.machines.call.KeyCall.{KeyCall}
-use Rattle.papaya_sifts.proofs.Given.Rule.Keys.Always.{Always, always_ends, always_if, always_plan_as, always_steps}
-use Rattle.papaya_sifts.proofs.Given.SeizeWords.OneOwner.Operations.{loaded}
+use Rattle.papaya_sifts.specs.Given.SeizeWordsMem.{Mem, value_at, word_at, Took}
+use Rattle.papaya_sifts.specs.Given.SeizeWordsOp.{Out, Found, Stored, Exchanged, Made, Taken, Roomed}
+use Rattle.papaya_sifts.specs.Given.SeizeWordsPlan.{Now, Seeing, Steps}
+use Rattle.papaya_sifts.specs.Given.SeizeWordsWord.{block_in}
+use Rattle.papaya_sifts.specs.Given.SeizeWordsDeclared.at.At.TheVariants.{Root, Word}
+use Rattle.papaya_sifts.specs.Given.SeizeDeclared.rows.settle.Settled.{Settled}
+use Rattle.papaya_sifts.specs.Given.SeizeDeclared.rows.settle.Settled.TheVariants as settled
+use Rattle.papaya_sifts.specs.Given.TablesChunks.{is_incremental}
+use Rattle.papaya_sifts.specs.Given.TablesFinding.{finding, may_name}
+use Rattle.papaya_sifts.specs.Given.TablesNodes.{table_seen}
+use Rattle.papaya_sifts.specs.Given.TablesProbes.{probe_after}
+use Rattle.papaya_sifts.specs.Given.TablesTablePlaces.{at_word}
+use Rattle.papaya_sifts.specs.Given.TablesTrials.{next_trial, with_met}
+use Rattle.papaya_sifts.specs.Given.TablesDeclared.finding.Finding.{Finding}
+use Rattle.papaya_sifts.specs.Given.TablesDeclared.finding.Finding.TheVariants as finds
+use Rattle.papaya_sifts.specs.Given.TablesDeclared.marks.TheConstants.{TOMBSTONE}
+use Rattle.papaya_sifts.specs.Given.TablesDeclared.node.Node.{Node}
+use Rattle.papaya_sifts.specs.Given.TablesDeclared.setting.Setting.{Setting}
+use Rattle.papaya_sifts.specs.Given.TablesDeclared.table.Table.{Table}
+use Rattle.papaya_sifts.specs.Given.TablesDeclared.table_words.TheConstants.{NEXT}
+use Rattle.papaya_sifts.specs.Given.TablesDeclared.trial.Trial.{Trial}
+use Rattle.papaya_sifts.specs.Given.ResizeDispose.{disposing, dispose_plan}
+use Rattle.papaya_sifts.specs.Given.ResizeDeclared.dispose.Dispose.{Dispose}
+use Rattle.papaya_sifts.specs.Given.RawCall.{call_plan, disposed, disposes, key_read, next_found, next_read, pair_read, probes, root_found, root_read, tried, tries, word_found, word_read}
+use Rattle.papaya_sifts.specs.Given.RawCall as calls
+use Rattle.papaya_sifts.specs.Given.RawCallAsks.{present_told, replied, told_at}
+use Rattle.papaya_sifts.specs.Given.RawCallPoints.{aim_of, answering, asking_of, at_free, at_last, at_pair, beyond, burying, changed, counted, ending, entering, following_made, going, halted, having_met, over, pair_by, passed, standing, tableless, told, told_of}
+use Rattle.papaya_sifts.specs.Given.RawCallPoints as points
+use Rattle.papaya_sifts.specs.Given.RawDeclared.machines.answer.Called.{Called}
+use Rattle.papaya_sifts.specs.Given.RawDeclared.machines.answer.Called.TheVariants as called
+use Rattle.papaya_sifts.specs.Given.RawDeclared.machines.answer.End.TheVariants as ends
+use Rattle.papaya_sifts.specs.Given.RawDeclared.machines.answer.KeyAnswer.{KeyAnswer}
+use Rattle.papaya_sifts.specs.Given.RawDeclared.machines.answer.KeyAnswer.TheVariants as answers
+use Rattle.papaya_sifts.specs.Given.RawDeclared.machines.answer.Missing.{Missing}
+use Rattle.papaya_sifts.specs.Given.RawDeclared.machines.answer.Missing.TheVariants as missing
+use Rattle.papaya_sifts.specs.Given.RawDeclared.machines.answer.There.{There}
+use Rattle.papaya_sifts.specs.Given.RawDeclared.machines.answer.There.TheVariants as there
+use Rattle.papaya_sifts.specs.Given.RawDeclared.machines.asking.Asking.TheVariants as asking
+use Rattle.papaya_sifts.specs.Given.RawDeclared.machines.asking.Replies.{Replies}
+use Rattle.papaya_sifts.specs.Given.RawDeclared.machines.asking.Reply.{Reply}
+use Rattle.papaya_sifts.specs.Given.RawDeclared.machines.asking.Reply.TheVariants as reply
+use Rattle.papaya_sifts.specs.Given.RawDeclared.machines.asking.Takes.{Takes}
+use Rattle.papaya_sifts.specs.Given.RawDeclared.machines.asking.Takes.TheVariants as takes
+use Rattle.papaya_sifts.specs.Given.RawDeclared.machines.asking.Told.{Told}
+use Rattle.papaya_sifts.specs.Given.RawDeclared.machines.asking.Told.TheVariants as tells
+use Rattle.papaya_sifts.specs.Given.RawDeclared.machines.call.Calling.{Calling}
+use Rattle.papaya_sifts.specs.Given.RawDeclared.machines.call.Calling.TheVariants as at
+use Rattle.papaya_sifts.specs.Given.RawDeclared.machines.call.KeyCall.{KeyCall}
+use Rattle.papaya_sifts.proofs.Given.RuleKeys.Always.{Always, always_ends, always_if, always_plan_as, always_steps}
+use Rattle.papaya_sifts.proofs.Given.SeizeWordsOneOwner.Operations.{loaded}
 use Rattle.papaya_steady.proofs.Ends.{EndsAt, seen_link}
 
 -- It has no block of its own, and stores nothing where the key is missing. Where it is there, it removes the pair, or asks whether to.

@@ -2,26 +2,26 @@
 use Rattle.std.specs.Prelude.{◌≡◌, ℕ, Bool, List, Result, Ok, Err, IsOk, ◌⊎◌}
 use Rattle.std.proofs.Common.{refl, sym, ap, subst, inl, inr}
 use denote.Ref.{Bor}
-use Rattle.papaya_sifts.specs.Given.SeizeWords.Mem.{Mem}
-use Rattle.papaya_sifts.specs.Given.SeizeWords.declared.fault.Fault.{Fault}
-use Rattle.papaya_sifts.specs.Given.Tables.declared.node.Node.{Node}
-use Rattle.papaya_sifts.specs.Given.Tables.declared.setting.Setting.{Setting}
-use Rattle.papaya_sifts.specs.Given.Raw.declared.machines.answer.KeyAnswer.{KeyAnswer}
-use Rattle.papaya_sifts.specs.Given.Raw.declared.machines.answer.There.TheVariants as there
-use Rattle.papaya_sifts.specs.Given.Raw.declared.machines.asking.Takes.TheVariants as takes
-use Rattle.papaya_sifts.specs.Given.Raw.declared.machines.call.KeyCall.{KeyCall}
-use Rattle.papaya_sifts.specs.Given.Rule.Chart.{Chart}
-use Rattle.papaya_sifts.specs.Given.Rule.Words.{Blocks, root_word}
-use Rattle.papaya_sifts.specs.Given.Callers.Kind.{Kind, computes, gets, inserts, tries_to_insert, tries_to_insert_with, updates, updates_or_inserts}
-use Rattle.papaya_sifts.specs.Given.Callers.Pairs.{Given, kind_of}
-use Rattle.papaya_sifts.specs.Given.Callers.Together.{CallOnKey, IsBegun, Gets, Removes, Inserts, TriesToInsert, Computes, Updates, UpdatesOrInserts, TriesToInsertWith, RemovesIf, begun_at}
-use Rattle.papaya_sifts.specs.Given.Owned.Calling.{IsCalling}
-use Rattle.papaya_sifts.specs.Given.Owned.Ending.{RunsTo}
-use Rattle.papaya_sifts.specs.Given.Owned.Machines.{on_key_plan}
-use Rattle.papaya_sifts.specs.Given.Owned.Owned.{Holds}
-use Rattle.papaya_sifts.specs.Given.Owned.declared.machines.OnKey.{OnKey}
-use Rattle.papaya_sifts.specs.Given.Owned.declared.machines.Stop.{Stop}
-use Rattle.papaya_sifts.specs.Given.Owned.declared.machines.Stop.TheVariants as stop
+use Rattle.papaya_sifts.specs.Given.SeizeWordsMem.{Mem}
+use Rattle.papaya_sifts.specs.Given.SeizeWordsDeclared.fault.Fault.{Fault}
+use Rattle.papaya_sifts.specs.Given.TablesDeclared.node.Node.{Node}
+use Rattle.papaya_sifts.specs.Given.TablesDeclared.setting.Setting.{Setting}
+use Rattle.papaya_sifts.specs.Given.RawDeclared.machines.answer.KeyAnswer.{KeyAnswer}
+use Rattle.papaya_sifts.specs.Given.RawDeclared.machines.answer.There.TheVariants as there
+use Rattle.papaya_sifts.specs.Given.RawDeclared.machines.asking.Takes.TheVariants as takes
+use Rattle.papaya_sifts.specs.Given.RawDeclared.machines.call.KeyCall.{KeyCall}
+use Rattle.papaya_sifts.specs.Given.RuleChart.{Chart}
+use Rattle.papaya_sifts.specs.Given.RuleWords.{Blocks, root_word}
+use Rattle.papaya_sifts.specs.Given.CallersKind.{Kind, computes, gets, inserts, tries_to_insert, tries_to_insert_with, updates, updates_or_inserts}
+use Rattle.papaya_sifts.specs.Given.CallersPairs.{Given, kind_of}
+use Rattle.papaya_sifts.specs.Given.CallersTogether.{CallOnKey, IsBegun, Gets, Removes, Inserts, TriesToInsert, Computes, Updates, UpdatesOrInserts, TriesToInsertWith, RemovesIf, begun_at}
+use Rattle.papaya_sifts.specs.Given.OwnedCalling.{IsCalling}
+use Rattle.papaya_sifts.specs.Given.OwnedEnding.{RunsTo}
+use Rattle.papaya_sifts.specs.Given.OwnedMachines.{on_key_plan}
+use Rattle.papaya_sifts.specs.Given.OwnedOwned.{Holds}
+use Rattle.papaya_sifts.specs.Given.OwnedDeclared.machines.OnKey.{OnKey}
+use Rattle.papaya_sifts.specs.Given.OwnedDeclared.machines.Stop.{Stop}
+use Rattle.papaya_sifts.specs.Given.OwnedDeclared.machines.Stop.TheVariants as stop
 use Rattle.papaya_sifts.proofs.Along.Calls.{StepsKeep, RepliesKeep, StopsAt, kept_along}
 use Rattle.papaya_steady.proofs.Ends.{EndsAt, ends_at, shows_one}
 use Rattle.papaya_steady.proofs.Calls.Kept.{call_keeps}

@@ -2,37 +2,37 @@
 use Rattle.std.specs.Prelude.{◌≡◌, ◌≢◌, ℕ, Bool, false, bit_and}
 use Rattle.std.specs.Int.{IsPowerOfTwo}
 use Rattle.std.proofs.Common.{refl, sym, subst, inl, inr}
-use Rattle.papaya_sifts.specs.Given.SeizeWords.Mem.{Mem, Can, Took, value_at, same_at}
-use Rattle.papaya_sifts.specs.Given.SeizeWords.Plan.{May, Steps}
-use Rattle.papaya_sifts.specs.Given.SeizeWords.Word.{block_in}
-use Rattle.papaya_sifts.specs.Given.SeizeWords.declared.at.At.{At}
-use Rattle.papaya_sifts.specs.Given.SeizeWords.declared.at.At.TheVariants.{Root, Word}
-use Rattle.papaya_sifts.specs.Given.Seize.World.{World}
-use Rattle.papaya_sifts.specs.Given.Tables.Counts.{shard_of}
-use Rattle.papaya_sifts.specs.Given.Tables.TablePlaces.{at_place}
-use Rattle.papaya_sifts.specs.Given.Tables.declared.node.Node.{Node}
-use Rattle.papaya_sifts.specs.Given.Tables.declared.setting.Setting.{Setting}
-use Rattle.papaya_sifts.specs.Given.Tables.declared.table_words.TheConstants.{NEXT}
-use Rattle.papaya_sifts.specs.Given.Resize.Dispose.{dispose_plan}
-use Rattle.papaya_sifts.specs.Given.Sweeps.Sweep.{disposed, plan_at, sweep_plan}
-use Rattle.papaya_sifts.specs.Given.Sweeps.declared.sweep.Sweep.{Sweep}
-use Rattle.papaya_sifts.specs.Given.Sweeps.declared.sweep.Sweeping.{Sweeping}
-use Rattle.papaya_sifts.specs.Given.Sweeps.declared.sweep.Sweeping.TheVariants as at
-use Rattle.papaya_sifts.specs.Given.Sweeps.declared.sweep.Swept.{Swept}
-use Rattle.papaya_sifts.specs.Given.Rule.Chart.{Chart}
-use Rattle.papaya_sifts.specs.Given.Rule.InWorld.{IsMapIn}
-use Rattle.papaya_sifts.specs.Given.Rule.Words.{Blocks}
-use Rattle.papaya_sifts.specs.Given.Points.Steps.{AreLawful}
-use Rattle.papaya_sifts.specs.Given.Late.FactsSweeps.{SweepingFacts, SweepFacts}
-use Rattle.papaya_sifts.specs.Given.Late.ToldSweeps.{IsRowOfSweep}
-use Rattle.papaya_sifts.specs.Given.Callers.OverAll.{CallOverAll}
-use Rattle.papaya_sifts.specs.Given.Callers.Sights.{Sight}
-use Rattle.papaya_sifts.specs.Given.Callers.Together.{OverAll}
-use Rattle.papaya_sifts.specs.Given.Whole.Owner.{IsAlone}
-use Rattle.papaya_sifts.proofs.Given.Rule.Spared.{PlanSpares, spares_as}
-use Rattle.papaya_sifts.proofs.Given.Whole.Sweeps.Leads.{sweep_decided}
-use Rattle.papaya_sifts.proofs.Given.Whole.Sweeps.Own as own
-use Rattle.papaya_sifts.proofs.Given.Whole.Sweeps.Rows as rows
+use Rattle.papaya_sifts.specs.Given.SeizeWordsMem.{Mem, Can, Took, value_at, same_at}
+use Rattle.papaya_sifts.specs.Given.SeizeWordsPlan.{May, Steps}
+use Rattle.papaya_sifts.specs.Given.SeizeWordsWord.{block_in}
+use Rattle.papaya_sifts.specs.Given.SeizeWordsDeclared.at.At.{At}
+use Rattle.papaya_sifts.specs.Given.SeizeWordsDeclared.at.At.TheVariants.{Root, Word}
+use Rattle.papaya_sifts.specs.Given.SeizeWorld.{World}
+use Rattle.papaya_sifts.specs.Given.TablesCounts.{shard_of}
+use Rattle.papaya_sifts.specs.Given.TablesTablePlaces.{at_place}
+use Rattle.papaya_sifts.specs.Given.TablesDeclared.node.Node.{Node}
+use Rattle.papaya_sifts.specs.Given.TablesDeclared.setting.Setting.{Setting}
+use Rattle.papaya_sifts.specs.Given.TablesDeclared.table_words.TheConstants.{NEXT}
+use Rattle.papaya_sifts.specs.Given.ResizeDispose.{dispose_plan}
+use Rattle.papaya_sifts.specs.Given.SweepsSweep.{disposed, plan_at, sweep_plan}
+use Rattle.papaya_sifts.specs.Given.SweepsDeclared.sweep.Sweep.{Sweep}
+use Rattle.papaya_sifts.specs.Given.SweepsDeclared.sweep.Sweeping.{Sweeping}
+use Rattle.papaya_sifts.specs.Given.SweepsDeclared.sweep.Sweeping.TheVariants as at
+use Rattle.papaya_sifts.specs.Given.SweepsDeclared.sweep.Swept.{Swept}
+use Rattle.papaya_sifts.specs.Given.RuleChart.{Chart}
+use Rattle.papaya_sifts.specs.Given.RuleInWorld.{IsMapIn}
+use Rattle.papaya_sifts.specs.Given.RuleWords.{Blocks}
+use Rattle.papaya_sifts.specs.Given.PointsSteps.{AreLawful}
+use Rattle.papaya_sifts.specs.Given.LateFactsSweeps.{SweepingFacts, SweepFacts}
+use Rattle.papaya_sifts.specs.Given.LateToldSweeps.{IsRowOfSweep}
+use Rattle.papaya_sifts.specs.Given.CallersOverAll.{CallOverAll}
+use Rattle.papaya_sifts.specs.Given.CallersSights.{Sight}
+use Rattle.papaya_sifts.specs.Given.CallersTogether.{OverAll}
+use Rattle.papaya_sifts.specs.Given.WholeOwner.{IsAlone}
+use Rattle.papaya_sifts.proofs.Given.RuleSpared.{PlanSpares, spares_as}
+use Rattle.papaya_sifts.proofs.Given.WholeSweeps.Leads.{sweep_decided}
+use Rattle.papaya_sifts.proofs.Given.WholeSweeps.Own as own
+use Rattle.papaya_sifts.proofs.Given.WholeSweeps.Rows as rows
 use Rattle.papaya_steady.proofs.Ends.{EndsAt, disposal_spares, ends_on, ends_spared, no_place, no_shard}
 use Rattle.papaya_steady.proofs.Sweeps.Points.{StandsSo}
 

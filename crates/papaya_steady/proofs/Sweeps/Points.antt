@@ -3,37 +3,37 @@
 use Rattle.std.specs.Prelude.{◌≡◌, ◌≢◌, ℕ, ◌==◌, ◌&&◌, nat_lt, Bool, true, false, Some, Ok, Err, if◌then◌else◌}
 use Rattle.std.proofs.Common.{sym, subst, ap, ◌∙◌, inl, inr}
 use Rattle.std.proofs.lemmas.Bool.{cases_eq, ne_eqb}
-use Rattle.papaya_sifts.specs.Given.SeizeWords.Mem.{Mem, value_at, word_at, Took}
-use Rattle.papaya_sifts.specs.Given.SeizeWords.Op.{Out, Found, Stored, Exchanged, Made, Taken, Roomed}
-use Rattle.papaya_sifts.specs.Given.SeizeWords.Plan.{Now, Seeing, Steps}
-use Rattle.papaya_sifts.specs.Given.SeizeWords.Word.{block_in}
-use Rattle.papaya_sifts.specs.Given.SeizeWords.declared.at.At.TheVariants.{Root, Word}
-use Rattle.papaya_sifts.specs.Given.Seize.declared.rows.settle.Settled.{Settled}
-use Rattle.papaya_sifts.specs.Given.Seize.declared.rows.settle.Settled.TheVariants as settled
-use Rattle.papaya_sifts.specs.Given.Tables.Chunks.{is_incremental}
-use Rattle.papaya_sifts.specs.Given.Tables.Marks.{has_mark}
-use Rattle.papaya_sifts.specs.Given.Tables.Nodes.{table_seen}
-use Rattle.papaya_sifts.specs.Given.Tables.TablePlaces.{at_word}
-use Rattle.papaya_sifts.specs.Given.Tables.declared.marks.TheConstants.{COPYING}
-use Rattle.papaya_sifts.specs.Given.Tables.declared.node.Node.{Node}
-use Rattle.papaya_sifts.specs.Given.Tables.declared.setting.Setting.{Setting}
-use Rattle.papaya_sifts.specs.Given.Tables.declared.table.Table.{Table}
-use Rattle.papaya_sifts.specs.Given.Tables.declared.table_words.TheConstants.{NEXT}
-use Rattle.papaya_sifts.specs.Given.Resize.Dispose.{dispose_plan}
-use Rattle.papaya_sifts.specs.Given.Resize.declared.dispose.Dispose.{Dispose}
-use Rattle.papaya_sifts.specs.Given.Sweeps.Sweep.{counts, disposed, next_read, root_read, sweep_plan, tried, tries, word_found, words}
-use Rattle.papaya_sifts.specs.Given.Sweeps.Sweep as sweeps
-use Rattle.papaya_sifts.specs.Given.Sweeps.SweepPoints.{after_reply, at_end, at_pair, beginning, entering, further, going, past, removes, reply_at, seen, standing, tableless, telling}
-use Rattle.papaya_sifts.specs.Given.Sweeps.SweepPoints as points
-use Rattle.papaya_sifts.specs.Given.Sweeps.declared.sweep.Purpose.{Purpose}
-use Rattle.papaya_sifts.specs.Given.Sweeps.declared.sweep.Purpose.TheVariants.{Walks, Clears, Retains}
-use Rattle.papaya_sifts.specs.Given.Sweeps.declared.sweep.Sweep.{Sweep}
-use Rattle.papaya_sifts.specs.Given.Sweeps.declared.sweep.Sweeping.{Sweeping}
-use Rattle.papaya_sifts.specs.Given.Sweeps.declared.sweep.Sweeping.TheVariants as at
-use Rattle.papaya_sifts.specs.Given.Sweeps.declared.sweep.Swept.{Swept}
-use Rattle.papaya_sifts.specs.Given.Sweeps.declared.sweep.Swept.TheVariants as swept
-use Rattle.papaya_sifts.proofs.Given.Rule.Keys.Always.{Always, always_ends, always_plan_as, always_steps}
-use Rattle.papaya_sifts.proofs.Given.SeizeWords.OneOwner.Operations.{loaded}
+use Rattle.papaya_sifts.specs.Given.SeizeWordsMem.{Mem, value_at, word_at, Took}
+use Rattle.papaya_sifts.specs.Given.SeizeWordsOp.{Out, Found, Stored, Exchanged, Made, Taken, Roomed}
+use Rattle.papaya_sifts.specs.Given.SeizeWordsPlan.{Now, Seeing, Steps}
+use Rattle.papaya_sifts.specs.Given.SeizeWordsWord.{block_in}
+use Rattle.papaya_sifts.specs.Given.SeizeWordsDeclared.at.At.TheVariants.{Root, Word}
+use Rattle.papaya_sifts.specs.Given.SeizeDeclared.rows.settle.Settled.{Settled}
+use Rattle.papaya_sifts.specs.Given.SeizeDeclared.rows.settle.Settled.TheVariants as settled
+use Rattle.papaya_sifts.specs.Given.TablesChunks.{is_incremental}
+use Rattle.papaya_sifts.specs.Given.TablesMarks.{has_mark}
+use Rattle.papaya_sifts.specs.Given.TablesNodes.{table_seen}
+use Rattle.papaya_sifts.specs.Given.TablesTablePlaces.{at_word}
+use Rattle.papaya_sifts.specs.Given.TablesDeclared.marks.TheConstants.{COPYING}
+use Rattle.papaya_sifts.specs.Given.TablesDeclared.node.Node.{Node}
+use Rattle.papaya_sifts.specs.Given.TablesDeclared.setting.Setting.{Setting}
+use Rattle.papaya_sifts.specs.Given.TablesDeclared.table.Table.{Table}
+use Rattle.papaya_sifts.specs.Given.TablesDeclared.table_words.TheConstants.{NEXT}
+use Rattle.papaya_sifts.specs.Given.ResizeDispose.{dispose_plan}
+use Rattle.papaya_sifts.specs.Given.ResizeDeclared.dispose.Dispose.{Dispose}
+use Rattle.papaya_sifts.specs.Given.SweepsSweep.{counts, disposed, next_read, root_read, sweep_plan, tried, tries, word_found, words}
+use Rattle.papaya_sifts.specs.Given.SweepsSweep as sweeps
+use Rattle.papaya_sifts.specs.Given.SweepsSweepPoints.{after_reply, at_end, at_pair, beginning, entering, further, going, past, removes, reply_at, seen, standing, tableless, telling}
+use Rattle.papaya_sifts.specs.Given.SweepsSweepPoints as points
+use Rattle.papaya_sifts.specs.Given.SweepsDeclared.sweep.Purpose.{Purpose}
+use Rattle.papaya_sifts.specs.Given.SweepsDeclared.sweep.Purpose.TheVariants.{Walks, Clears, Retains}
+use Rattle.papaya_sifts.specs.Given.SweepsDeclared.sweep.Sweep.{Sweep}
+use Rattle.papaya_sifts.specs.Given.SweepsDeclared.sweep.Sweeping.{Sweeping}
+use Rattle.papaya_sifts.specs.Given.SweepsDeclared.sweep.Sweeping.TheVariants as at
+use Rattle.papaya_sifts.specs.Given.SweepsDeclared.sweep.Swept.{Swept}
+use Rattle.papaya_sifts.specs.Given.SweepsDeclared.sweep.Swept.TheVariants as swept
+use Rattle.papaya_sifts.proofs.Given.RuleKeys.Always.{Always, always_ends, always_plan_as, always_steps}
+use Rattle.papaya_sifts.proofs.Given.SeizeWordsOneOwner.Operations.{loaded}
 use Rattle.papaya_steady.proofs.Ends.{EndsAt, seen_link}
 
 -- it removes pairs

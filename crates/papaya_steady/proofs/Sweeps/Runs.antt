@@ -2,19 +2,19 @@
 use Rattle.std.specs.Prelude.{◌≡◌, ℕ, Bool, true, List, Result, Ok, Err, IfErr, IsOk}
 use Rattle.std.proofs.Common.{refl, sym, subst}
 use denote.Ref.{Bor}
-use Rattle.papaya_sifts.specs.Given.SeizeWords.Mem.{Mem}
-use Rattle.papaya_sifts.specs.Given.SeizeWords.declared.fault.Fault.{Fault}
-use Rattle.papaya_sifts.specs.Given.Tables.declared.node.Node.{Node}
-use Rattle.papaya_sifts.specs.Given.Tables.declared.setting.Setting.{Setting}
-use Rattle.papaya_sifts.specs.Given.Sweeps.SweepPoints.{removes}
-use Rattle.papaya_sifts.specs.Given.Sweeps.declared.sweep.Purpose.{Purpose}
-use Rattle.papaya_sifts.specs.Given.Rule.Chart.{Chart}
-use Rattle.papaya_sifts.specs.Given.Rule.Words.{Blocks, root_word}
-use Rattle.papaya_sifts.specs.Given.Callers.OverAll.{CallOverAll, begun_over_all, come_to}
-use Rattle.papaya_sifts.specs.Given.Callers.Together.{in_slot}
-use Rattle.papaya_sifts.proofs.Given.Whole.Sweeps.Leads.{sweeps_go_on_alone}
-use Rattle.papaya_sifts.specs.Given.Owned.Ending.{RunsTo}
-use Rattle.papaya_sifts.specs.Given.Owned.Owned.{Holds}
+use Rattle.papaya_sifts.specs.Given.SeizeWordsMem.{Mem}
+use Rattle.papaya_sifts.specs.Given.SeizeWordsDeclared.fault.Fault.{Fault}
+use Rattle.papaya_sifts.specs.Given.TablesDeclared.node.Node.{Node}
+use Rattle.papaya_sifts.specs.Given.TablesDeclared.setting.Setting.{Setting}
+use Rattle.papaya_sifts.specs.Given.SweepsSweepPoints.{removes}
+use Rattle.papaya_sifts.specs.Given.SweepsDeclared.sweep.Purpose.{Purpose}
+use Rattle.papaya_sifts.specs.Given.RuleChart.{Chart}
+use Rattle.papaya_sifts.specs.Given.RuleWords.{Blocks, root_word}
+use Rattle.papaya_sifts.specs.Given.CallersOverAll.{CallOverAll, begun_over_all, come_to}
+use Rattle.papaya_sifts.specs.Given.CallersTogether.{in_slot}
+use Rattle.papaya_sifts.proofs.Given.WholeSweeps.Leads.{sweeps_go_on_alone}
+use Rattle.papaya_sifts.specs.Given.OwnedEnding.{RunsTo}
+use Rattle.papaya_sifts.specs.Given.OwnedOwned.{Holds}
 use Rattle.papaya_sifts.specs.Sweeping.{IsSweeping, over_pairs_plan, swept_by}
 use Rattle.papaya_sifts.specs.declared.sweeping.OverPairs.{OverPairs}
 use Rattle.papaya_sifts.specs.declared.sweeping.Pause.{Pause}

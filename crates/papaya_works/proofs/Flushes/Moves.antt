@@ -1,15 +1,15 @@
 -- A flush of a slot that is active takes nothing away: the batch that it closes waits for that slot.
 use Rattle.std.proofs.Common.{◌≡◌, ℕ, ◌+◌, ◌%◌, ◌^◌, ◌<◌, ◌≤◌, Bool, true, false, cond, eqb, ltb, List, [], ◌∷◌, ◌++◌, refl, ap, sym, subst, ◌∙◌, arith, eqb-true, inl, inr}
-use Rattle.papaya_folded.specs.Given.Seize.declared.rows.settle.Settle.{Settle}
-use Rattle.papaya_folded.specs.Given.SeizeWaiting.Held.{count}
-use Rattle.papaya_folded.proofs.Given.SeizeMoves.State.Ghost.{put, Debt, Unscanned, Marked, Gone, Skipped, Owing, Loose, Counted, Entry, Active, Stage, Open, Closing, State, is_active, is_marked, owes, counts, was_put, total}
-use Rattle.papaya_folded.proofs.Given.SeizeMoves.State.Moves as moves
-use Rattle.papaya_folded.proofs.Given.SeizeMoves.State.Rule.{AtStage, HasLeft, Inv, SeenIs}
-use Rattle.papaya_folded.proofs.Given.SeizeMoves.State.Sums.{put_le, put_parts, total_le}
-use Rattle.papaya_folded.proofs.Given.SeizeRule.Points.Passed.{passed_rest}
-use Rattle.papaya_folded.proofs.Given.SeizeRule.Points.Told as told
-use Rattle.papaya_folded.proofs.Given.SeizeRule.Points.Told.{Part, Told, part}
-use Rattle.papaya_folded.proofs.Given.SeizeRule.Words.Apart.{put_here}
+use Rattle.papaya_folded.specs.Given.SeizeDeclared.rows.settle.Settle.{Settle}
+use Rattle.papaya_folded.specs.Given.SeizeWaitingHeld.{count}
+use Rattle.papaya_folded.proofs.Given.SeizeMovesState.Ghost.{put, Debt, Unscanned, Marked, Gone, Skipped, Owing, Loose, Counted, Entry, Active, Stage, Open, Closing, State, is_active, is_marked, owes, counts, was_put, total}
+use Rattle.papaya_folded.proofs.Given.SeizeMovesState.Moves as moves
+use Rattle.papaya_folded.proofs.Given.SeizeMovesState.Rule.{AtStage, HasLeft, Inv, SeenIs}
+use Rattle.papaya_folded.proofs.Given.SeizeMovesState.Sums.{put_le, put_parts, total_le}
+use Rattle.papaya_folded.proofs.Given.SeizeRulePoints.Passed.{passed_rest}
+use Rattle.papaya_folded.proofs.Given.SeizeRulePoints.Told as told
+use Rattle.papaya_folded.proofs.Given.SeizeRulePoints.Told.{Part, Told, part}
+use Rattle.papaya_folded.proofs.Given.SeizeRuleWords.Apart.{put_here}
 
 -- a batch that is tried waits for a slot still: it is not scanned, or marked, or has its entry
 abbrev pub awaits : Debt → Bool

@@ -2,24 +2,24 @@
 use Rattle.std.specs.Prelude.{Option, length, ◌⊎◌}
 use Rattle.std.proofs.Common.{◌≡◌, ℕ, ◌+◌, ◌<◌, Bool, true, [], inl, inr, refl, ap, sym, subst, ◌∙◌, arith}
 use Rattle.std.proofs.lemmas.Bool.{cases_lt}
-use Rattle.papaya_folded.specs.Given.Seize.declared.rows.settle.Settle.{Settle}
-use Rattle.papaya_folded.specs.Given.Seize.declared.states.TheConstants.{LAST_SLOT}
-use Rattle.papaya_folded.specs.Given.Seize.Law.{is_open}
-use Rattle.papaya_folded.specs.Given.Seize.Settle.{flushing}
-use Rattle.papaya_folded.specs.Given.Seize.World.{World, Row, Rests, Settles, Use, Vacant, Outside, Inside, Changing, Flush, Begin, Step, Begins, IsInside, Steps'}
-use Rattle.papaya_folded.proofs.Given.SeizeMoves.State.Ghost.{Head, Never, Free, Idle, Active, State, emptied, is_active}
-use Rattle.papaya_folded.proofs.Given.SeizeRule.Points.Told.{Told, part}
-use Rattle.papaya_folded.proofs.Given.SeizeRule.Rows.Known.{FitsRow}
-use Rattle.papaya_folded.proofs.Given.SeizeRule.Rows.Others.{with_here}
-use Rattle.papaya_folded.proofs.Given.SeizeRule.Rows.Sizes.{AllSized}
-use Rattle.papaya_folded.proofs.Given.SeizeRule.Rows.SizesKept.{happens_sized}
-use Rattle.papaya_folded.proofs.Given.SeizeRule.Rows.Teams.{UseFits}
-use Rattle.papaya_folded.proofs.Given.SeizeRule.Rows.Told as told
-use Rattle.papaya_folded.proofs.Given.SeizeRule.Rows.Told.{RowTold}
-use Rattle.papaya_folded.proofs.Given.SeizeRule.Words.View.{view}
-use Rattle.papaya_folded.proofs.Given.SeizeRule.World.Begins.{begins_next}
-use Rattle.papaya_folded.proofs.Given.SeizeRule.World.Good.{Good, Next}
-use Rattle.papaya_folded.proofs.Given.SeizeRule.World.Kept.{steps_next}
+use Rattle.papaya_folded.specs.Given.SeizeDeclared.rows.settle.Settle.{Settle}
+use Rattle.papaya_folded.specs.Given.SeizeDeclared.states.TheConstants.{LAST_SLOT}
+use Rattle.papaya_folded.specs.Given.SeizeLaw.{is_open}
+use Rattle.papaya_folded.specs.Given.SeizeSettle.{flushing}
+use Rattle.papaya_folded.specs.Given.SeizeWorld.{World, Row, Rests, Settles, Use, Vacant, Outside, Inside, Changing, Flush, Begin, Step, Begins, IsInside, Steps'}
+use Rattle.papaya_folded.proofs.Given.SeizeMovesState.Ghost.{Head, Never, Free, Idle, Active, State, emptied, is_active}
+use Rattle.papaya_folded.proofs.Given.SeizeRulePoints.Told.{Told, part}
+use Rattle.papaya_folded.proofs.Given.SeizeRuleRows.Known.{FitsRow}
+use Rattle.papaya_folded.proofs.Given.SeizeRuleRows.Others.{with_here}
+use Rattle.papaya_folded.proofs.Given.SeizeRuleRows.Sizes.{AllSized}
+use Rattle.papaya_folded.proofs.Given.SeizeRuleRows.SizesKept.{happens_sized}
+use Rattle.papaya_folded.proofs.Given.SeizeRuleRows.Teams.{UseFits}
+use Rattle.papaya_folded.proofs.Given.SeizeRuleRows.Told as told
+use Rattle.papaya_folded.proofs.Given.SeizeRuleRows.Told.{RowTold}
+use Rattle.papaya_folded.proofs.Given.SeizeRuleWords.View.{view}
+use Rattle.papaya_folded.proofs.Given.SeizeRuleWorld.Begins.{begins_next}
+use Rattle.papaya_folded.proofs.Given.SeizeRuleWorld.Good.{Good, Next}
+use Rattle.papaya_folded.proofs.Given.SeizeRuleWorld.Kept.{steps_next}
 use Rattle.papaya_works.proofs.Flushes.Moves.{FlushesOn, flush_moves}
 
 abbrev pub slots : ℕ

@@ -1,7 +1,7 @@
 use Rattle.std.proofs.Common.{◌≡◌, ap, ◌∙◌, subst, nat_eq}
 use Rattle.papaya_running.specs.Run.{bounded}
 use Rattle.papaya_schedules.specs.Runs.{IsRunOf}
-use Rattle.papaya_running.specs.Given.Scheduler.Played.{terms_given}
+use Rattle.papaya_running.specs.Given.SchedulerPlayed.{terms_given}
 use Rattle.reclaimed_engine.specs.Engine.{terms_of}
 use Rattle.reclaimed_engine.proofs.printed.Goals as goal
 

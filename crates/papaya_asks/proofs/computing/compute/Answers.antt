@@ -2,8 +2,8 @@
 use Rattle.std.specs.Prelude.{[], Some}
 use Rattle.std.proofs.Common.{refl, inl, subst}
 use Rattle.papaya_raw.specs.declared.machines.asking.Reply.TheVariants as reply
-use Rattle.papaya_owned.specs.Given.Callers.Kind.{computes}
-use Rattle.papaya_owned.specs.Given.Callers.Pairs.{IsTold}
+use Rattle.papaya_owned.specs.Given.CallersKind.{computes}
+use Rattle.papaya_owned.specs.Given.CallersPairs.{IsTold}
 use Rattle.papaya_asks.specs.Closures.{ComesTo, ComputesAs, Computing}
 use Rattle.seize_words.specs.declared.refused.RefusedKey.{RefusedKey}
 use Rattle.papaya_owned.specs.Calling.{HasStopped, stop_by}

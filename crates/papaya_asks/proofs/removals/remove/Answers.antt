@@ -1,6 +1,6 @@
 -- It comes to its end, and what it comes to.
 use Rattle.std.proofs.Common.{refl, sym, subst}
-use Rattle.papaya_owned.specs.Given.Rule.Maps.{IsClass}
+use Rattle.papaya_owned.specs.Given.RuleMaps.{IsClass}
 use Rattle.papaya_owned.specs.Owned.{hashed_by}
 use Rattle.papaya_asks.proofs.Asks.Removes.{remove_ends, remove_by, remove_stopped}
 use Rattle.papaya_owned.proofs.Owned.Lawful.{is_class}

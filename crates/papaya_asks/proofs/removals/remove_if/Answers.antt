@@ -1,8 +1,8 @@
 -- It begins, and comes to what it was told.
 use Rattle.std.specs.Prelude.{Some, None}
 use Rattle.std.proofs.Common.{◌∙◌, ap, refl, sym, inl, subst}
-use Rattle.papaya_owned.specs.Given.Rule.Maps.{IsClass}
-use Rattle.papaya_owned.specs.Given.Callers.Kind.{removes_if}
+use Rattle.papaya_owned.specs.Given.RuleMaps.{IsClass}
+use Rattle.papaya_owned.specs.Given.CallersKind.{removes_if}
 use Rattle.papaya_asks.specs.Closures.{Removing, TestsAs}
 use Rattle.papaya_owned.specs.Owned.{hashed_by}
 use Rattle.papaya_owned.specs.declared.machines.Stop.TheVariants as stop

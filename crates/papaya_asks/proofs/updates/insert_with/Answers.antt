@@ -3,7 +3,7 @@ use Rattle.std.specs.Fn.{FnOnceReturns}
 use Rattle.std.specs.Prelude.{Some, None}
 use Rattle.std.proofs.Common.{◌∙◌, ap, refl, inl}
 use Rattle.papaya_raw.specs.declared.machines.asking.Reply.TheVariants as reply
-use Rattle.papaya_owned.specs.Given.Callers.Kind.{tries_to_insert_with}
+use Rattle.papaya_owned.specs.Given.CallersKind.{tries_to_insert_with}
 use Rattle.papaya_asks.specs.Closures.{Storing}
 use Rattle.papaya_owned.specs.Owned.{hashed_by}
 use Rattle.papaya_owned.specs.declared.machines.Stop.TheVariants as stop

@@ -3,7 +3,7 @@ use Rattle.std.specs.Fn.{FnOnceReturnsAt}
 use Rattle.std.specs.Prelude.{Some}
 use Rattle.std.proofs.Common.{◌∙◌, ap, refl, inl}
 use Rattle.papaya_raw.specs.declared.machines.asking.Reply.TheVariants as reply
-use Rattle.papaya_owned.specs.Given.Callers.Kind.{updates}
+use Rattle.papaya_owned.specs.Given.CallersKind.{updates}
 use Rattle.papaya_asks.specs.Closures.{Updating}
 use Rattle.papaya_owned.specs.Owned.{hashed_by}
 use Rattle.papaya_owned.specs.declared.machines.Stop.TheVariants as stop

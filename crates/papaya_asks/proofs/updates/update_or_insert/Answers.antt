@@ -3,8 +3,8 @@ use Rattle.std.specs.Fn.{FnOnceReturnsAt}
 use Rattle.std.specs.Prelude.{[], Some, None}
 use Rattle.std.proofs.Common.{◌≡◌, ◌∙◌, ap, refl, inl, subst}
 use Rattle.papaya_raw.specs.declared.machines.asking.Reply.TheVariants as reply
-use Rattle.papaya_owned.specs.Given.Callers.Kind.{updates_or_inserts}
-use Rattle.papaya_owned.specs.Given.Callers.Pairs.{IsTold}
+use Rattle.papaya_owned.specs.Given.CallersKind.{updates_or_inserts}
+use Rattle.papaya_owned.specs.Given.CallersPairs.{IsTold}
 use Rattle.papaya_asks.specs.Closures.{ComesTo, UpdatingOrStoring}
 use Rattle.seize_words.specs.declared.refused.RefusedKey.{RefusedKey}
 use Rattle.papaya_owned.specs.Calling.{HasStopped, stop_by}

@@ -1,45 +1,45 @@
 -- What a copier may begin to make it begins where its map has a table behind the root's; or a table follows the one that was aborted, and it makes none.
 use Rattle.std.specs.Prelude.{◌≡◌, ◌⊎◌, ◌<◌, ℕ, suc, Bool, true, false, cond, Some}
 use Rattle.std.proofs.Common.{refl, arith, inl, inr}
-use Rattle.papaya_purposes.specs.Given.SeizeWords.Mem.{word_at}
-use Rattle.papaya_purposes.specs.Given.Seize.World.{World}
-use Rattle.papaya_purposes.specs.Given.Tables.Chunks.{is_incremental}
-use Rattle.papaya_purposes.specs.Given.Tables.TablePlaces.{at_word}
-use Rattle.papaya_purposes.specs.Given.Tables.declared.lengths.Reason.TheVariants.{NoPlace}
-use Rattle.papaya_purposes.specs.Given.Tables.declared.node.Node.{Node}
-use Rattle.papaya_purposes.specs.Given.Tables.declared.setting.Setting.{Setting}
-use Rattle.papaya_purposes.specs.Given.Tables.declared.table.Table.{Table}
-use Rattle.papaya_purposes.specs.Given.Tables.declared.table_words.TheConstants.{NEXT}
-use Rattle.papaya_purposes.specs.Given.Resize.NewTable.{table_after}
-use Rattle.papaya_purposes.specs.Given.Resize.declared.copier.Copier.{Copier}
-use Rattle.papaya_purposes.specs.Given.Resize.declared.copier.Copying.{Copying}
-use Rattle.papaya_purposes.specs.Given.Resize.declared.copier.Copying.TheVariants as copying
-use Rattle.papaya_purposes.specs.Given.Resize.declared.new_table.NewTable.{NewTable}
-use Rattle.papaya_purposes.specs.Given.Reserves.declared.reserve.Reserving.{Reserving}
-use Rattle.papaya_purposes.specs.Given.Reserves.declared.reserve.Reserving.TheVariants as reserving
-use Rattle.papaya_purposes.specs.Given.Sweeps.declared.sweep.Sweep.{Sweep}
-use Rattle.papaya_purposes.specs.Given.Sweeps.declared.sweep.Sweeping.{Sweeping}
-use Rattle.papaya_purposes.specs.Given.Sweeps.declared.sweep.Sweeping.TheVariants as sweeping
-use Rattle.papaya_purposes.specs.Given.Raw.declared.machines.call.Calling.{Calling}
-use Rattle.papaya_purposes.specs.Given.Raw.declared.machines.call.Calling.TheVariants as calling
-use Rattle.papaya_purposes.specs.Given.Raw.declared.machines.call.KeyCall.{KeyCall}
-use Rattle.papaya_purposes.specs.Given.Rule.Chart.{Chart}
-use Rattle.papaya_purposes.specs.Given.Rule.InWorld.{IsMapIn}
-use Rattle.papaya_purposes.specs.Given.Rule.Words.{Blocks}
-use Rattle.papaya_purposes.specs.Given.Points.FactsCalls.{CallingFacts, Change}
-use Rattle.papaya_purposes.specs.Given.Points.FactsCopies.{CopierFacts, CopyingFacts}
-use Rattle.papaya_purposes.specs.Given.Points.FactsCopiesBlocking.{CopierFactsBlocking, CopyingFactsBlocking}
-use Rattle.papaya_purposes.specs.Given.Late.FactsReserves.{CopiesWhole, IsEnding, ReservingFacts}
-use Rattle.papaya_purposes.specs.Given.Late.FactsSweeps.{CopiesTable, SweepingFacts}
-use Rattle.papaya_purposes.specs.Given.Late.LateCalls.{LateCalling}
-use Rattle.papaya_purposes.specs.Given.Late.LateCopies.{CopiesAborted, LateCopying}
-use Rattle.papaya_purposes.specs.Given.Late.LateReserves.{LateReserving}
-use Rattle.papaya_purposes.proofs.Given.Late.Copiers.LateWent.{aborted_behind}
-use Rattle.papaya_purposes.specs.Given.Callers.Sights.{IsSight, Sight, seen_by}
-use Rattle.papaya_purposes.specs.Given.Callers.Together.{Counting, ForRoom, OnKey, OverAll, Together, UnderWay, in_slot}
-use Rattle.papaya_purposes.specs.Given.Finishes.Machines.{machine_of}
-use Rattle.papaya_purposes.specs.Given.Finishes.Maps.{Standing}
-use Rattle.papaya_purposes.proofs.Given.Finds.Grows.There.{last_has_none, unseen}
+use Rattle.papaya_purposes.specs.Given.SeizeWordsMem.{word_at}
+use Rattle.papaya_purposes.specs.Given.SeizeWorld.{World}
+use Rattle.papaya_purposes.specs.Given.TablesChunks.{is_incremental}
+use Rattle.papaya_purposes.specs.Given.TablesTablePlaces.{at_word}
+use Rattle.papaya_purposes.specs.Given.TablesDeclared.lengths.Reason.TheVariants.{NoPlace}
+use Rattle.papaya_purposes.specs.Given.TablesDeclared.node.Node.{Node}
+use Rattle.papaya_purposes.specs.Given.TablesDeclared.setting.Setting.{Setting}
+use Rattle.papaya_purposes.specs.Given.TablesDeclared.table.Table.{Table}
+use Rattle.papaya_purposes.specs.Given.TablesDeclared.table_words.TheConstants.{NEXT}
+use Rattle.papaya_purposes.specs.Given.ResizeNewTable.{table_after}
+use Rattle.papaya_purposes.specs.Given.ResizeDeclared.copier.Copier.{Copier}
+use Rattle.papaya_purposes.specs.Given.ResizeDeclared.copier.Copying.{Copying}
+use Rattle.papaya_purposes.specs.Given.ResizeDeclared.copier.Copying.TheVariants as copying
+use Rattle.papaya_purposes.specs.Given.ResizeDeclared.new_table.NewTable.{NewTable}
+use Rattle.papaya_purposes.specs.Given.ReservesDeclared.reserve.Reserving.{Reserving}
+use Rattle.papaya_purposes.specs.Given.ReservesDeclared.reserve.Reserving.TheVariants as reserving
+use Rattle.papaya_purposes.specs.Given.SweepsDeclared.sweep.Sweep.{Sweep}
+use Rattle.papaya_purposes.specs.Given.SweepsDeclared.sweep.Sweeping.{Sweeping}
+use Rattle.papaya_purposes.specs.Given.SweepsDeclared.sweep.Sweeping.TheVariants as sweeping
+use Rattle.papaya_purposes.specs.Given.RawDeclared.machines.call.Calling.{Calling}
+use Rattle.papaya_purposes.specs.Given.RawDeclared.machines.call.Calling.TheVariants as calling
+use Rattle.papaya_purposes.specs.Given.RawDeclared.machines.call.KeyCall.{KeyCall}
+use Rattle.papaya_purposes.specs.Given.RuleChart.{Chart}
+use Rattle.papaya_purposes.specs.Given.RuleInWorld.{IsMapIn}
+use Rattle.papaya_purposes.specs.Given.RuleWords.{Blocks}
+use Rattle.papaya_purposes.specs.Given.PointsFactsCalls.{CallingFacts, Change}
+use Rattle.papaya_purposes.specs.Given.PointsFactsCopies.{CopierFacts, CopyingFacts}
+use Rattle.papaya_purposes.specs.Given.PointsFactsCopiesBlocking.{CopierFactsBlocking, CopyingFactsBlocking}
+use Rattle.papaya_purposes.specs.Given.LateFactsReserves.{CopiesWhole, IsEnding, ReservingFacts}
+use Rattle.papaya_purposes.specs.Given.LateFactsSweeps.{CopiesTable, SweepingFacts}
+use Rattle.papaya_purposes.specs.Given.LateLateCalls.{LateCalling}
+use Rattle.papaya_purposes.specs.Given.LateLateCopies.{CopiesAborted, LateCopying}
+use Rattle.papaya_purposes.specs.Given.LateLateReserves.{LateReserving}
+use Rattle.papaya_purposes.proofs.Given.LateCopiers.LateWent.{aborted_behind}
+use Rattle.papaya_purposes.specs.Given.CallersSights.{IsSight, Sight, seen_by}
+use Rattle.papaya_purposes.specs.Given.CallersTogether.{Counting, ForRoom, OnKey, OverAll, Together, UnderWay, in_slot}
+use Rattle.papaya_purposes.specs.Given.FinishesMachines.{machine_of}
+use Rattle.papaya_purposes.specs.Given.FinishesMaps.{Standing}
+use Rattle.papaya_purposes.proofs.Given.FindsGrows.There.{last_has_none, unseen}
 use Rattle.papaya_grows.proofs.Finding.Making.Behind.{call_row, room_row, sweep_row}
 use Rattle.papaya_grows.proofs.Finding.Making.Calls.{CallBegins}
 use Rattle.papaya_grows.proofs.Finding.Making.Copiers.{CopierBegins}
@@ -47,8 +47,8 @@ use Rattle.papaya_grows.proofs.Finding.Making.Machines.{MachineBegins}
 use Rattle.papaya_grows.proofs.Finding.Making.OffRoot.{CallCopier, HasCopier, RoomCopier, SweepCopier}
 use Rattle.papaya_grows.proofs.Finding.Making.Rooms.{RoomBegins}
 use Rattle.papaya_grows.proofs.Finding.Making.Sweeps.{SweepBegins}
-use Rattle.papaya_purposes.specs.Given.Scenes.Held.{Held, IsAt}
-use Rattle.papaya_purposes.specs.Given.Scenes.Scene.{Scene, slot_of}
+use Rattle.papaya_purposes.specs.Given.ScenesHeld.{Held, IsAt}
+use Rattle.papaya_purposes.specs.Given.ScenesScene.{Scene, slot_of}
 
 -- it is to read which table follows, and one does
 abbrev pub IsFollowed : {K V : Type 0} → World (Node K V) → Copier → Type 0

@@ -1,50 +1,50 @@
 -- What a copier may begin to make follows a table of its map: by what it knows where it stands.
 use Rattle.std.specs.Prelude.{◌≡◌, ℕ, Bool, true, false, cond, Some}
 use Rattle.std.proofs.Common.{inl, inr}
-use Rattle.papaya_purposes.specs.Given.Seize.World.{World}
-use Rattle.papaya_purposes.specs.Given.Tables.Chunks.{is_incremental}
-use Rattle.papaya_purposes.specs.Given.Tables.declared.lengths.Reason.TheVariants.{NoPlace}
-use Rattle.papaya_purposes.specs.Given.Tables.declared.node.Node.{Node}
-use Rattle.papaya_purposes.specs.Given.Tables.declared.setting.Setting.{Setting}
-use Rattle.papaya_purposes.specs.Given.Tables.declared.table.Table.{Table}
-use Rattle.papaya_purposes.specs.Given.Resize.NewTable.{table_after}
-use Rattle.papaya_purposes.specs.Given.Resize.declared.copier.Copier.{Copier}
-use Rattle.papaya_purposes.specs.Given.Resize.declared.copier.Copying.{Copying}
-use Rattle.papaya_purposes.specs.Given.Resize.declared.copier.Copying.TheVariants as copying
-use Rattle.papaya_purposes.specs.Given.Resize.declared.new_table.NewTable.{NewTable}
-use Rattle.papaya_purposes.specs.Given.Reserves.declared.reserve.Reserving.{Reserving}
-use Rattle.papaya_purposes.specs.Given.Reserves.declared.reserve.Reserving.TheVariants as reserving
-use Rattle.papaya_purposes.specs.Given.Sweeps.declared.sweep.Sweep.{Sweep}
-use Rattle.papaya_purposes.specs.Given.Sweeps.declared.sweep.Sweeping.{Sweeping}
-use Rattle.papaya_purposes.specs.Given.Sweeps.declared.sweep.Sweeping.TheVariants as sweeping
-use Rattle.papaya_purposes.specs.Given.Raw.declared.machines.call.Calling.{Calling}
-use Rattle.papaya_purposes.specs.Given.Raw.declared.machines.call.Calling.TheVariants as calling
-use Rattle.papaya_purposes.specs.Given.Raw.declared.machines.call.KeyCall.{KeyCall}
-use Rattle.papaya_purposes.specs.Given.Rule.Chart.{Chart}
-use Rattle.papaya_purposes.specs.Given.Rule.Maps.{IsTable}
-use Rattle.papaya_purposes.specs.Given.Rule.Words.{Blocks}
-use Rattle.papaya_purposes.specs.Given.Points.FactsCalls.{CallingFacts, Change}
-use Rattle.papaya_purposes.specs.Given.Points.FactsCopies.{CopierFacts, CopyingFacts}
-use Rattle.papaya_purposes.specs.Given.Points.FactsCopiesBlocking.{CopierFactsBlocking, CopyingFactsBlocking}
-use Rattle.papaya_purposes.specs.Given.Points.Told.{IsRowOfCall, IsRowOfCopier}
-use Rattle.papaya_purposes.specs.Given.Late.FactsReserves.{CopiesWhole, IsEnding, ReservingFacts}
-use Rattle.papaya_purposes.specs.Given.Late.FactsSweeps.{CopiesTable, SweepingFacts}
-use Rattle.papaya_purposes.specs.Given.Late.LateCalls.{LateCalling}
-use Rattle.papaya_purposes.specs.Given.Late.LateCopies.{LateCopying}
-use Rattle.papaya_purposes.specs.Given.Late.LateReserves.{LateReserving}
-use Rattle.papaya_purposes.specs.Given.Late.ToldReserves.{IsRowOfReserve}
-use Rattle.papaya_purposes.specs.Given.Late.ToldSweeps.{IsRowOfSweep}
-use Rattle.papaya_purposes.specs.Given.Callers.Sights.{seen_by}
-use Rattle.papaya_purposes.specs.Given.Callers.Together.{Counting, ForRoom, OnKey, OverAll, Together, UnderWay, in_slot}
-use Rattle.papaya_purposes.specs.Given.Finishes.Machines.{machine_of}
-use Rattle.papaya_purposes.specs.Given.Finishes.Maps.{Standing}
+use Rattle.papaya_purposes.specs.Given.SeizeWorld.{World}
+use Rattle.papaya_purposes.specs.Given.TablesChunks.{is_incremental}
+use Rattle.papaya_purposes.specs.Given.TablesDeclared.lengths.Reason.TheVariants.{NoPlace}
+use Rattle.papaya_purposes.specs.Given.TablesDeclared.node.Node.{Node}
+use Rattle.papaya_purposes.specs.Given.TablesDeclared.setting.Setting.{Setting}
+use Rattle.papaya_purposes.specs.Given.TablesDeclared.table.Table.{Table}
+use Rattle.papaya_purposes.specs.Given.ResizeNewTable.{table_after}
+use Rattle.papaya_purposes.specs.Given.ResizeDeclared.copier.Copier.{Copier}
+use Rattle.papaya_purposes.specs.Given.ResizeDeclared.copier.Copying.{Copying}
+use Rattle.papaya_purposes.specs.Given.ResizeDeclared.copier.Copying.TheVariants as copying
+use Rattle.papaya_purposes.specs.Given.ResizeDeclared.new_table.NewTable.{NewTable}
+use Rattle.papaya_purposes.specs.Given.ReservesDeclared.reserve.Reserving.{Reserving}
+use Rattle.papaya_purposes.specs.Given.ReservesDeclared.reserve.Reserving.TheVariants as reserving
+use Rattle.papaya_purposes.specs.Given.SweepsDeclared.sweep.Sweep.{Sweep}
+use Rattle.papaya_purposes.specs.Given.SweepsDeclared.sweep.Sweeping.{Sweeping}
+use Rattle.papaya_purposes.specs.Given.SweepsDeclared.sweep.Sweeping.TheVariants as sweeping
+use Rattle.papaya_purposes.specs.Given.RawDeclared.machines.call.Calling.{Calling}
+use Rattle.papaya_purposes.specs.Given.RawDeclared.machines.call.Calling.TheVariants as calling
+use Rattle.papaya_purposes.specs.Given.RawDeclared.machines.call.KeyCall.{KeyCall}
+use Rattle.papaya_purposes.specs.Given.RuleChart.{Chart}
+use Rattle.papaya_purposes.specs.Given.RuleMaps.{IsTable}
+use Rattle.papaya_purposes.specs.Given.RuleWords.{Blocks}
+use Rattle.papaya_purposes.specs.Given.PointsFactsCalls.{CallingFacts, Change}
+use Rattle.papaya_purposes.specs.Given.PointsFactsCopies.{CopierFacts, CopyingFacts}
+use Rattle.papaya_purposes.specs.Given.PointsFactsCopiesBlocking.{CopierFactsBlocking, CopyingFactsBlocking}
+use Rattle.papaya_purposes.specs.Given.PointsTold.{IsRowOfCall, IsRowOfCopier}
+use Rattle.papaya_purposes.specs.Given.LateFactsReserves.{CopiesWhole, IsEnding, ReservingFacts}
+use Rattle.papaya_purposes.specs.Given.LateFactsSweeps.{CopiesTable, SweepingFacts}
+use Rattle.papaya_purposes.specs.Given.LateLateCalls.{LateCalling}
+use Rattle.papaya_purposes.specs.Given.LateLateCopies.{LateCopying}
+use Rattle.papaya_purposes.specs.Given.LateLateReserves.{LateReserving}
+use Rattle.papaya_purposes.specs.Given.LateToldReserves.{IsRowOfReserve}
+use Rattle.papaya_purposes.specs.Given.LateToldSweeps.{IsRowOfSweep}
+use Rattle.papaya_purposes.specs.Given.CallersSights.{seen_by}
+use Rattle.papaya_purposes.specs.Given.CallersTogether.{Counting, ForRoom, OnKey, OverAll, Together, UnderWay, in_slot}
+use Rattle.papaya_purposes.specs.Given.FinishesMachines.{machine_of}
+use Rattle.papaya_purposes.specs.Given.FinishesMaps.{Standing}
 use Rattle.papaya_grows.proofs.Finding.Making.Calls.{CallBegins}
 use Rattle.papaya_grows.proofs.Finding.Making.Copiers.{CopierBegins}
 use Rattle.papaya_grows.proofs.Finding.Making.Machines.{MachineBegins}
 use Rattle.papaya_grows.proofs.Finding.Making.Rooms.{RoomBegins}
 use Rattle.papaya_grows.proofs.Finding.Making.Sweeps.{SweepBegins}
-use Rattle.papaya_purposes.specs.Given.Scenes.Held.{Held, IsAt}
-use Rattle.papaya_purposes.specs.Given.Scenes.Scene.{Scene, slot_of}
+use Rattle.papaya_purposes.specs.Given.ScenesHeld.{Held, IsAt}
+use Rattle.papaya_purposes.specs.Given.ScenesScene.{Scene, slot_of}
 
 -- within a row none begins
 module _ (Such : NewTable → Type 0) where

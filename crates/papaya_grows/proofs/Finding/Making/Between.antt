@@ -1,27 +1,27 @@
 -- Between the steps of calls: where a call begins, takes a reply, or goes on as a walk, and where none does, each copier makes a table as it is to make it.
 use Rattle.std.specs.Prelude.{◌≡◌, ℕ, Bool, Some}
 use Rattle.std.proofs.Common.{sym, subst, inl, inr}
-use Rattle.papaya_purposes.specs.Given.Raw.Machine.{machine_asked, machine_replied}
-use Rattle.papaya_purposes.specs.Given.Raw.declared.machines.asking.Reply.{Reply}
-use Rattle.papaya_purposes.specs.Given.Raw.declared.machines.call.KeyCall.{KeyCall}
-use Rattle.papaya_purposes.specs.Given.Raw.declared.machines.machine.Machine.{Machine}
-use Rattle.papaya_purposes.specs.Given.Resize.declared.new_table.NewTable.{NewTable}
-use Rattle.papaya_purposes.specs.Given.Schedules.Moment.{Moment}
-use Rattle.papaya_purposes.specs.Given.Callers.OverAll.{CallOverAll}
-use Rattle.papaya_purposes.specs.Given.Callers.Pairs.{Given}
-use Rattle.papaya_purposes.specs.Given.Callers.Rooms.{CallForRoom}
-use Rattle.papaya_purposes.specs.Given.Callers.Together.{Computes, Counting, ForRoom, Gets, Inserts, IsBegun, OnKey, OverAll, Removes, RemovesIf, TriesToInsert, TriesToInsertWith, UnderWay, Updates, UpdatesOrInserts}
-use Rattle.papaya_purposes.specs.Given.Finishes.Machines.{machine_of}
-use Rattle.papaya_purposes.specs.Given.Finishes.Maps.{Standing}
-use Rattle.papaya_purposes.proofs.Given.Follows.Steps.{one_of}
-use Rattle.papaya_purposes.proofs.Given.Hands.Asking.{which}
+use Rattle.papaya_purposes.specs.Given.RawMachine.{machine_asked, machine_replied}
+use Rattle.papaya_purposes.specs.Given.RawDeclared.machines.asking.Reply.{Reply}
+use Rattle.papaya_purposes.specs.Given.RawDeclared.machines.call.KeyCall.{KeyCall}
+use Rattle.papaya_purposes.specs.Given.RawDeclared.machines.machine.Machine.{Machine}
+use Rattle.papaya_purposes.specs.Given.ResizeDeclared.new_table.NewTable.{NewTable}
+use Rattle.papaya_purposes.specs.Given.SchedulesMoment.{Moment}
+use Rattle.papaya_purposes.specs.Given.CallersOverAll.{CallOverAll}
+use Rattle.papaya_purposes.specs.Given.CallersPairs.{Given}
+use Rattle.papaya_purposes.specs.Given.CallersRooms.{CallForRoom}
+use Rattle.papaya_purposes.specs.Given.CallersTogether.{Computes, Counting, ForRoom, Gets, Inserts, IsBegun, OnKey, OverAll, Removes, RemovesIf, TriesToInsert, TriesToInsertWith, UnderWay, Updates, UpdatesOrInserts}
+use Rattle.papaya_purposes.specs.Given.FinishesMachines.{machine_of}
+use Rattle.papaya_purposes.specs.Given.FinishesMaps.{Standing}
+use Rattle.papaya_purposes.proofs.Given.FollowsSteps.{one_of}
+use Rattle.papaya_purposes.proofs.Given.HandsAsking.{which}
 use Rattle.papaya_grows.specs.Further.{CallMakes, IsFurther, MachineMakes, RoomMakes, ShowsFurther, SweepMakes, lengths_of}
 use Rattle.papaya_grows.proofs.Finding.Making.Lengths.{KeepsLengths}
 use Rattle.papaya_grows.proofs.Finding.Making.Machines.{asked_makes, reply_makes}
 use Rattle.papaya_grows.proofs.Finding.Making.Steps.{later}
-use Rattle.papaya_purposes.specs.Given.Scenes.Beginning.{Begins}
-use Rattle.papaya_purposes.specs.Given.Scenes.Replying.{scene_with}
-use Rattle.papaya_purposes.specs.Given.Scenes.Scene.{Scene, slot_of}
+use Rattle.papaya_purposes.specs.Given.ScenesBeginning.{Begins}
+use Rattle.papaya_purposes.specs.Given.ScenesReplying.{scene_with}
+use Rattle.papaya_purposes.specs.Given.ScenesScene.{Scene, slot_of}
 
 -- where calls are as they were, or under way no more
 pub further_stays : {K V : Type 0} (m v : Moment K V) (s t : Scene K V) → ShowsFurther m s → KeepsLengths m v

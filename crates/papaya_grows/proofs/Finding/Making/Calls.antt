@@ -1,57 +1,57 @@
 -- A step of a call on one key makes a table by its copier as that was to make it.
 use Rattle.std.specs.Prelude.{ℕ, ◌==◌, if◌then◌else◌, Bool, true, false, Option, Some, None, Ok, Err}
-use Rattle.papaya_purposes.specs.Given.Resize.Copier.{copier_plan}
-use Rattle.papaya_purposes.specs.Given.SeizeWords.Op.{Out, Found, Exchanged, Made, Taken}
-use Rattle.papaya_purposes.specs.Given.Seize.declared.progress.Progress.{Progress}
-use Rattle.papaya_purposes.specs.Given.Seize.declared.progress.Progress.TheVariants as progress
-use Rattle.papaya_purposes.specs.Given.Seize.declared.rows.settle.Settled.{Settled}
-use Rattle.papaya_purposes.specs.Given.Seize.declared.rows.settle.Settled.TheVariants as settled
-use Rattle.papaya_purposes.specs.Given.Tables.Chunks.{is_incremental}
-use Rattle.papaya_purposes.specs.Given.Tables.Finding.{may_name}
-use Rattle.papaya_purposes.specs.Given.Tables.Trials.{next_trial, with_met}
-use Rattle.papaya_purposes.specs.Given.Resize.Dispose.{dispose_plan}
-use Rattle.papaya_purposes.specs.Given.Resize.Lookup.{lookup_plan}
-use Rattle.papaya_purposes.specs.Given.Resize.NewTable.{new_table_plan}
-use Rattle.papaya_purposes.specs.Given.Raw.Call.{call_plan, copied, disposed, dropped, first_made, helped, key_read, looked, looks_for, made, makes_of, next_found, next_made, pair_read, plan_at, root_found, tried, word_found, word_read}
-use Rattle.papaya_purposes.specs.Given.Raw.CallFills.{filled, putting_by, fill_by, emptied, fills_with, fills, given_up, asks_at}
-use Rattle.papaya_purposes.specs.Given.Raw.CallAsks.{absent_told, present_told, replied, told_at, with_absent, with_present}
-use Rattle.papaya_purposes.specs.Given.Raw.CallPoints.{asking_at, at_free, at_gap, at_last, at_pair, burying, changed, counted, ending, having_met, storing, tableless, told_of, went_on}
-use Rattle.papaya_purposes.specs.Given.Tables.declared.finding.Finding.{Finding}
-use Rattle.papaya_purposes.specs.Given.Tables.declared.finding.Finding.TheVariants as finds
-use Rattle.papaya_purposes.specs.Given.Tables.declared.marks.TheConstants.{TOMBSTONE}
-use Rattle.papaya_purposes.specs.Given.Tables.declared.node.Node.{Node}
-use Rattle.papaya_purposes.specs.Given.Tables.declared.node.Node.TheVariants as node
-use Rattle.papaya_purposes.specs.Given.Tables.declared.table.Table.{Table}
-use Rattle.papaya_purposes.specs.Given.Resize.declared.copier.Copier.{Copier}
-use Rattle.papaya_purposes.specs.Given.Resize.declared.dispose.Dispose.{Dispose}
-use Rattle.papaya_purposes.specs.Given.Resize.declared.lookup.Lookup.{Lookup}
-use Rattle.papaya_purposes.specs.Given.Resize.declared.new_table.NewTable.{NewTable}
-use Rattle.papaya_purposes.specs.Given.Resize.declared.outcome.Outcome.{Outcome}
-use Rattle.papaya_purposes.specs.Given.Resize.declared.outcome.Outcome.TheVariants as outcome
-use Rattle.papaya_purposes.specs.Given.Raw.declared.machines.answer.KeyAnswer.{KeyAnswer}
-use Rattle.papaya_purposes.specs.Given.Raw.declared.machines.answer.End.{End}
-use Rattle.papaya_purposes.specs.Given.Raw.declared.machines.answer.Called.{Called}
-use Rattle.papaya_purposes.specs.Given.Raw.declared.machines.answer.Missing.{Missing}
-use Rattle.papaya_purposes.specs.Given.Raw.declared.machines.answer.Missing.TheVariants as missing
-use Rattle.papaya_purposes.specs.Given.Raw.declared.machines.answer.There.{There}
-use Rattle.papaya_purposes.specs.Given.Raw.declared.machines.answer.There.TheVariants as there
-use Rattle.papaya_purposes.specs.Given.Raw.Replies.{value_for}
-use Rattle.papaya_purposes.specs.Given.Raw.declared.machines.asking.Asking.{Asking}
-use Rattle.papaya_purposes.specs.Given.Raw.declared.machines.asking.Asking.TheVariants as asking
-use Rattle.papaya_purposes.specs.Given.Raw.declared.machines.asking.Gap.{Gap}
-use Rattle.papaya_purposes.specs.Given.Raw.declared.machines.asking.Gap.TheVariants as gaps
-use Rattle.papaya_purposes.specs.Given.Raw.declared.machines.asking.Reply.{Reply}
-use Rattle.papaya_purposes.specs.Given.Raw.declared.machines.asking.Reply.TheVariants as replies
-use Rattle.papaya_purposes.specs.Given.Raw.declared.machines.asking.Takes.{Takes}
-use Rattle.papaya_purposes.specs.Given.Raw.declared.machines.asking.Takes.TheVariants as takes
-use Rattle.papaya_purposes.specs.Given.Raw.declared.machines.asking.Told.{Told}
-use Rattle.papaya_purposes.specs.Given.Raw.declared.machines.asking.Told.TheVariants as tells
-use Rattle.papaya_purposes.specs.Given.Raw.declared.machines.call.KeyCall.{KeyCall}
-use Rattle.papaya_purposes.specs.Given.Raw.declared.machines.call.Calling.{Calling}
-use Rattle.papaya_purposes.specs.Given.Raw.declared.machines.call.Calling.TheVariants as at
-use Rattle.papaya_purposes.proofs.Given.Rule.Keys.Always.{Always, AlwaysOf, always_if, always_plan_as}
-use Rattle.papaya_purposes.proofs.Given.Points.Calls.Asked.{asking_so, asking_of_so, passed_so}
-use Rattle.papaya_purposes.proofs.Given.Finds.Shaping.{always_plan_more}
+use Rattle.papaya_purposes.specs.Given.ResizeCopier.{copier_plan}
+use Rattle.papaya_purposes.specs.Given.SeizeWordsOp.{Out, Found, Exchanged, Made, Taken}
+use Rattle.papaya_purposes.specs.Given.SeizeDeclared.progress.Progress.{Progress}
+use Rattle.papaya_purposes.specs.Given.SeizeDeclared.progress.Progress.TheVariants as progress
+use Rattle.papaya_purposes.specs.Given.SeizeDeclared.rows.settle.Settled.{Settled}
+use Rattle.papaya_purposes.specs.Given.SeizeDeclared.rows.settle.Settled.TheVariants as settled
+use Rattle.papaya_purposes.specs.Given.TablesChunks.{is_incremental}
+use Rattle.papaya_purposes.specs.Given.TablesFinding.{may_name}
+use Rattle.papaya_purposes.specs.Given.TablesTrials.{next_trial, with_met}
+use Rattle.papaya_purposes.specs.Given.ResizeDispose.{dispose_plan}
+use Rattle.papaya_purposes.specs.Given.ResizeLookup.{lookup_plan}
+use Rattle.papaya_purposes.specs.Given.ResizeNewTable.{new_table_plan}
+use Rattle.papaya_purposes.specs.Given.RawCall.{call_plan, copied, disposed, dropped, first_made, helped, key_read, looked, looks_for, made, makes_of, next_found, next_made, pair_read, plan_at, root_found, tried, word_found, word_read}
+use Rattle.papaya_purposes.specs.Given.RawCallFills.{filled, putting_by, fill_by, emptied, fills_with, fills, given_up, asks_at}
+use Rattle.papaya_purposes.specs.Given.RawCallAsks.{absent_told, present_told, replied, told_at, with_absent, with_present}
+use Rattle.papaya_purposes.specs.Given.RawCallPoints.{asking_at, at_free, at_gap, at_last, at_pair, burying, changed, counted, ending, having_met, storing, tableless, told_of, went_on}
+use Rattle.papaya_purposes.specs.Given.TablesDeclared.finding.Finding.{Finding}
+use Rattle.papaya_purposes.specs.Given.TablesDeclared.finding.Finding.TheVariants as finds
+use Rattle.papaya_purposes.specs.Given.TablesDeclared.marks.TheConstants.{TOMBSTONE}
+use Rattle.papaya_purposes.specs.Given.TablesDeclared.node.Node.{Node}
+use Rattle.papaya_purposes.specs.Given.TablesDeclared.node.Node.TheVariants as node
+use Rattle.papaya_purposes.specs.Given.TablesDeclared.table.Table.{Table}
+use Rattle.papaya_purposes.specs.Given.ResizeDeclared.copier.Copier.{Copier}
+use Rattle.papaya_purposes.specs.Given.ResizeDeclared.dispose.Dispose.{Dispose}
+use Rattle.papaya_purposes.specs.Given.ResizeDeclared.lookup.Lookup.{Lookup}
+use Rattle.papaya_purposes.specs.Given.ResizeDeclared.new_table.NewTable.{NewTable}
+use Rattle.papaya_purposes.specs.Given.ResizeDeclared.outcome.Outcome.{Outcome}
+use Rattle.papaya_purposes.specs.Given.ResizeDeclared.outcome.Outcome.TheVariants as outcome
+use Rattle.papaya_purposes.specs.Given.RawDeclared.machines.answer.KeyAnswer.{KeyAnswer}
+use Rattle.papaya_purposes.specs.Given.RawDeclared.machines.answer.End.{End}
+use Rattle.papaya_purposes.specs.Given.RawDeclared.machines.answer.Called.{Called}
+use Rattle.papaya_purposes.specs.Given.RawDeclared.machines.answer.Missing.{Missing}
+use Rattle.papaya_purposes.specs.Given.RawDeclared.machines.answer.Missing.TheVariants as missing
+use Rattle.papaya_purposes.specs.Given.RawDeclared.machines.answer.There.{There}
+use Rattle.papaya_purposes.specs.Given.RawDeclared.machines.answer.There.TheVariants as there
+use Rattle.papaya_purposes.specs.Given.RawReplies.{value_for}
+use Rattle.papaya_purposes.specs.Given.RawDeclared.machines.asking.Asking.{Asking}
+use Rattle.papaya_purposes.specs.Given.RawDeclared.machines.asking.Asking.TheVariants as asking
+use Rattle.papaya_purposes.specs.Given.RawDeclared.machines.asking.Gap.{Gap}
+use Rattle.papaya_purposes.specs.Given.RawDeclared.machines.asking.Gap.TheVariants as gaps
+use Rattle.papaya_purposes.specs.Given.RawDeclared.machines.asking.Reply.{Reply}
+use Rattle.papaya_purposes.specs.Given.RawDeclared.machines.asking.Reply.TheVariants as replies
+use Rattle.papaya_purposes.specs.Given.RawDeclared.machines.asking.Takes.{Takes}
+use Rattle.papaya_purposes.specs.Given.RawDeclared.machines.asking.Takes.TheVariants as takes
+use Rattle.papaya_purposes.specs.Given.RawDeclared.machines.asking.Told.{Told}
+use Rattle.papaya_purposes.specs.Given.RawDeclared.machines.asking.Told.TheVariants as tells
+use Rattle.papaya_purposes.specs.Given.RawDeclared.machines.call.KeyCall.{KeyCall}
+use Rattle.papaya_purposes.specs.Given.RawDeclared.machines.call.Calling.{Calling}
+use Rattle.papaya_purposes.specs.Given.RawDeclared.machines.call.Calling.TheVariants as at
+use Rattle.papaya_purposes.proofs.Given.RuleKeys.Always.{Always, AlwaysOf, always_if, always_plan_as}
+use Rattle.papaya_purposes.proofs.Given.PointsCalls.Asked.{asking_so, asking_of_so, passed_so}
+use Rattle.papaya_purposes.proofs.Given.FindsShaping.{always_plan_more}
 use Rattle.papaya_grows.specs.Further.{CallMakes}
 use Rattle.papaya_grows.proofs.Finding.Making.Copiers.{CopierBegins, CopierEnds, begun_makes, copier_makes}
 

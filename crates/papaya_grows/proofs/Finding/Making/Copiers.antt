@@ -1,38 +1,38 @@
 -- A step of a copier makes a table as it was to make it, or begins to make one behind a table that has no place.
 use Rattle.std.specs.Prelude.{ℕ, ◌+◌, ◌-◌, ◌%◌, ◌^◌, ◌==◌, nat_lt, Bool, true, false, Ok, Err, if◌then◌else◌}
-use Rattle.papaya_purposes.specs.Given.SeizeWords.Op.{Out, Found, Exchanged}
-use Rattle.papaya_purposes.specs.Given.SeizeWords.Word.{block_in}
-use Rattle.papaya_purposes.specs.Given.SeizeWords.declared.fault.Fault.{Fault}
-use Rattle.papaya_purposes.specs.Given.Seize.declared.progress.Progress.{Progress}
-use Rattle.papaya_purposes.specs.Given.Seize.declared.progress.Progress.TheVariants as progress
-use Rattle.papaya_purposes.specs.Given.Seize.declared.rows.settle.Settle.{Settle}
-use Rattle.papaya_purposes.specs.Given.Seize.declared.rows.settle.Settled.{Settled}
-use Rattle.papaya_purposes.specs.Given.Seize.declared.rows.settle.Settled.TheVariants as settled
-use Rattle.papaya_purposes.specs.Given.Seize.Settle.{settle_plan}
-use Rattle.papaya_purposes.specs.Given.Tables.Chunks.{is_incremental}
-use Rattle.papaya_purposes.specs.Given.Tables.Nodes.{deferred_word}
-use Rattle.papaya_purposes.specs.Given.Tables.declared.lengths.Reason.TheVariants.{NoPlace}
-use Rattle.papaya_purposes.specs.Given.Tables.declared.node.Node.{Node}
-use Rattle.papaya_purposes.specs.Given.Tables.declared.probe.Probe.{Probe}
-use Rattle.papaya_purposes.specs.Given.Tables.declared.setting.Setting.{Setting}
-use Rattle.papaya_purposes.specs.Given.Tables.declared.status.TheConstants.Status.{ABORTED, PROMOTED}
-use Rattle.papaya_purposes.specs.Given.Tables.declared.table.Table.{Table}
-use Rattle.papaya_purposes.specs.Given.Resize.Copier.{copier_plan, plan_at}
-use Rattle.papaya_purposes.specs.Given.Resize.CopierClaims.{claim_read, claimed, next_read, root_read, status_read}
-use Rattle.papaya_purposes.specs.Given.Resize.CopierCounts.{counted, refusing}
-use Rattle.papaya_purposes.specs.Given.Resize.CopierFurther.{further_read, grown, remade, replacement_read}
-use Rattle.papaya_purposes.specs.Given.Resize.CopierMarks.{is_awaited, is_mine, marked}
-use Rattle.papaya_purposes.specs.Given.Resize.CopierPlaces.{next_try, pair_put, place_read, put_told}
-use Rattle.papaya_purposes.specs.Given.Resize.CopierPromotes.{promoted, retired, successor_read, table_retired}
-use Rattle.papaya_purposes.specs.Given.Resize.CopierStates.{behind, copying_all, next_place, none_left, place_done, resting}
-use Rattle.papaya_purposes.specs.Given.Resize.NewTable.{new_table_plan, table_after}
-use Rattle.papaya_purposes.specs.Given.Resize.declared.copier.Copier.{Copier}
-use Rattle.papaya_purposes.specs.Given.Resize.declared.copier.Copying.{Copying}
-use Rattle.papaya_purposes.specs.Given.Resize.declared.copier.Copying.TheVariants as at
-use Rattle.papaya_purposes.specs.Given.Resize.declared.new_table.NewTable.{NewTable}
-use Rattle.papaya_purposes.specs.Given.Resize.declared.outcome.Outcome.{Outcome}
-use Rattle.papaya_purposes.proofs.Given.Rule.Keys.Always.{Always, AlwaysOf, always_if, always_plan_as}
-use Rattle.papaya_purposes.proofs.Given.Finds.Shaping.{always_plan_more}
+use Rattle.papaya_purposes.specs.Given.SeizeWordsOp.{Out, Found, Exchanged}
+use Rattle.papaya_purposes.specs.Given.SeizeWordsWord.{block_in}
+use Rattle.papaya_purposes.specs.Given.SeizeWordsDeclared.fault.Fault.{Fault}
+use Rattle.papaya_purposes.specs.Given.SeizeDeclared.progress.Progress.{Progress}
+use Rattle.papaya_purposes.specs.Given.SeizeDeclared.progress.Progress.TheVariants as progress
+use Rattle.papaya_purposes.specs.Given.SeizeDeclared.rows.settle.Settle.{Settle}
+use Rattle.papaya_purposes.specs.Given.SeizeDeclared.rows.settle.Settled.{Settled}
+use Rattle.papaya_purposes.specs.Given.SeizeDeclared.rows.settle.Settled.TheVariants as settled
+use Rattle.papaya_purposes.specs.Given.SeizeSettle.{settle_plan}
+use Rattle.papaya_purposes.specs.Given.TablesChunks.{is_incremental}
+use Rattle.papaya_purposes.specs.Given.TablesNodes.{deferred_word}
+use Rattle.papaya_purposes.specs.Given.TablesDeclared.lengths.Reason.TheVariants.{NoPlace}
+use Rattle.papaya_purposes.specs.Given.TablesDeclared.node.Node.{Node}
+use Rattle.papaya_purposes.specs.Given.TablesDeclared.probe.Probe.{Probe}
+use Rattle.papaya_purposes.specs.Given.TablesDeclared.setting.Setting.{Setting}
+use Rattle.papaya_purposes.specs.Given.TablesDeclared.status.TheConstants.Status.{ABORTED, PROMOTED}
+use Rattle.papaya_purposes.specs.Given.TablesDeclared.table.Table.{Table}
+use Rattle.papaya_purposes.specs.Given.ResizeCopier.{copier_plan, plan_at}
+use Rattle.papaya_purposes.specs.Given.ResizeCopierClaims.{claim_read, claimed, next_read, root_read, status_read}
+use Rattle.papaya_purposes.specs.Given.ResizeCopierCounts.{counted, refusing}
+use Rattle.papaya_purposes.specs.Given.ResizeCopierFurther.{further_read, grown, remade, replacement_read}
+use Rattle.papaya_purposes.specs.Given.ResizeCopierMarks.{is_awaited, is_mine, marked}
+use Rattle.papaya_purposes.specs.Given.ResizeCopierPlaces.{next_try, pair_put, place_read, put_told}
+use Rattle.papaya_purposes.specs.Given.ResizeCopierPromotes.{promoted, retired, successor_read, table_retired}
+use Rattle.papaya_purposes.specs.Given.ResizeCopierStates.{behind, copying_all, next_place, none_left, place_done, resting}
+use Rattle.papaya_purposes.specs.Given.ResizeNewTable.{new_table_plan, table_after}
+use Rattle.papaya_purposes.specs.Given.ResizeDeclared.copier.Copier.{Copier}
+use Rattle.papaya_purposes.specs.Given.ResizeDeclared.copier.Copying.{Copying}
+use Rattle.papaya_purposes.specs.Given.ResizeDeclared.copier.Copying.TheVariants as at
+use Rattle.papaya_purposes.specs.Given.ResizeDeclared.new_table.NewTable.{NewTable}
+use Rattle.papaya_purposes.specs.Given.ResizeDeclared.outcome.Outcome.{Outcome}
+use Rattle.papaya_purposes.proofs.Given.RuleKeys.Always.{Always, AlwaysOf, always_if, always_plan_as}
+use Rattle.papaya_purposes.proofs.Given.FindsShaping.{always_plan_more}
 use Rattle.papaya_grows.specs.Further.{CopierMakes}
 
 -- what it may begin to make is such a making

@@ -4,19 +4,19 @@ use Rattle.std.proofs.Common.{refl, ap, sym, subst, ◌∙◌, arith, inl, inr, 
 use Rattle.std.proofs.lemmas.Bool.{cases_eq}
 use Rattle.std.proofs.lemmas.List.{map-append}
 use Rattle.std.proofs.lemmas.List.Elements.{filter-append}
-use Rattle.papaya_purposes.specs.Given.Schedules.declared.effect.Effect.{Effect}
-use Rattle.papaya_purposes.specs.Given.Schedules.declared.effect.Effect.TheVariants as effect
-use Rattle.papaya_purposes.specs.Given.Schedules.declared.effect.Table.{Table}
-use Rattle.papaya_purposes.specs.Given.Schedules.declared.effect.Thing.TheVariants.{APair, ATable}
-use Rattle.papaya_purposes.specs.Given.Schedules.Effects.{at_stage, with_effect, with_effects}
-use Rattle.papaya_purposes.specs.Given.Schedules.Moment.{IsReclaimed, IsRetired, IsTaken, Moment, Stage, TableThere}
-use Rattle.papaya_purposes.specs.Given.Schedules.Things.{same_table}
-use Rattle.papaya_purposes.specs.Given.Schedules.Views.{last_of, tables_of}
-use Rattle.papaya_purposes.specs.Given.Rule.Chart.{Chart}
-use Rattle.papaya_purposes.specs.Given.Effects.Known.{Known}
-use Rattle.papaya_purposes.specs.Given.Finishes.Maps.{Standing}
-use Rattle.papaya_purposes.specs.Given.Follows.Maps.{ShowsMap, shape_at, table_of, tables_to}
-use Rattle.papaya_purposes.proofs.Given.Finds.Grown.{linked_as}
+use Rattle.papaya_purposes.specs.Given.SchedulesDeclared.effect.Effect.{Effect}
+use Rattle.papaya_purposes.specs.Given.SchedulesDeclared.effect.Effect.TheVariants as effect
+use Rattle.papaya_purposes.specs.Given.SchedulesDeclared.effect.Table.{Table}
+use Rattle.papaya_purposes.specs.Given.SchedulesDeclared.effect.Thing.TheVariants.{APair, ATable}
+use Rattle.papaya_purposes.specs.Given.SchedulesEffects.{at_stage, with_effect, with_effects}
+use Rattle.papaya_purposes.specs.Given.SchedulesMoment.{IsReclaimed, IsRetired, IsTaken, Moment, Stage, TableThere}
+use Rattle.papaya_purposes.specs.Given.SchedulesThings.{same_table}
+use Rattle.papaya_purposes.specs.Given.SchedulesViews.{last_of, tables_of}
+use Rattle.papaya_purposes.specs.Given.RuleChart.{Chart}
+use Rattle.papaya_purposes.specs.Given.EffectsKnown.{Known}
+use Rattle.papaya_purposes.specs.Given.FinishesMaps.{Standing}
+use Rattle.papaya_purposes.specs.Given.FollowsMaps.{ShowsMap, shape_at, table_of, tables_to}
+use Rattle.papaya_purposes.proofs.Given.FindsGrown.{linked_as}
 use Rattle.papaya_grows.specs.Further.{at_turn, lengths_in, lengths_of}
 
 -- The one of a turn stays where further ones follow; and the last one has the last turn.

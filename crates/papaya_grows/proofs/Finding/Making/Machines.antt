@@ -1,28 +1,28 @@
 -- A step of a call makes a table by its copier as that was to make it, whichever kind of call it is; and so does one that goes on by a reply, or as it is asked for its next pair.
 use Rattle.std.specs.Prelude.{ℕ, Bool}
-use Rattle.papaya_purposes.specs.Given.Seize.declared.progress.Progress.{Progress as Counting}
-use Rattle.papaya_purposes.specs.Given.Tables.declared.node.Node.{Node}
-use Rattle.papaya_purposes.specs.Given.Tables.declared.table.Table.{Table}
-use Rattle.papaya_purposes.specs.Given.Resize.NewTable.{new_table_plan}
-use Rattle.papaya_purposes.specs.Given.Resize.Sum.{sum_plan}
-use Rattle.papaya_purposes.specs.Given.Resize.declared.new_table.NewTable.{NewTable}
-use Rattle.papaya_purposes.specs.Given.Resize.declared.outcome.Outcome.{Outcome}
-use Rattle.papaya_purposes.specs.Given.Resize.declared.sum.Sum.{Sum}
-use Rattle.papaya_purposes.specs.Given.Reserves.Reserve.{reserve_plan}
-use Rattle.papaya_purposes.specs.Given.Reserves.declared.reserve.Reserve.{Reserve}
-use Rattle.papaya_purposes.specs.Given.Sweeps.Sweep.{sweep_plan}
-use Rattle.papaya_purposes.specs.Given.Sweeps.declared.sweep.Sweep.{Sweep}
-use Rattle.papaya_purposes.specs.Given.Sweeps.declared.sweep.Swept.{Swept}
-use Rattle.papaya_purposes.specs.Given.Raw.Call.{call_plan}
-use Rattle.papaya_purposes.specs.Given.Raw.Machine.{called as of_key, counted as of_sum, machine_asked, machine_plan, machine_replied, reserved as of_room, swept as of_sweep}
-use Rattle.papaya_purposes.specs.Given.Raw.declared.machines.answer.Called.{Called}
-use Rattle.papaya_purposes.specs.Given.Raw.declared.machines.asking.Reply.{Reply}
-use Rattle.papaya_purposes.specs.Given.Raw.declared.machines.call.KeyCall.{KeyCall}
-use Rattle.papaya_purposes.specs.Given.Raw.declared.machines.machine.Machine.{Machine}
-use Rattle.papaya_purposes.specs.Given.Raw.declared.machines.machine.Machine.TheVariants as kinds
-use Rattle.papaya_purposes.specs.Given.Raw.declared.machines.progress.Progress.{Progress}
-use Rattle.papaya_purposes.proofs.Given.Rule.Keys.Always.{AlwaysOf, always_plan_as}
-use Rattle.papaya_purposes.proofs.Given.Finds.Shaping.{always_plan_more}
+use Rattle.papaya_purposes.specs.Given.SeizeDeclared.progress.Progress.{Progress as Counting}
+use Rattle.papaya_purposes.specs.Given.TablesDeclared.node.Node.{Node}
+use Rattle.papaya_purposes.specs.Given.TablesDeclared.table.Table.{Table}
+use Rattle.papaya_purposes.specs.Given.ResizeNewTable.{new_table_plan}
+use Rattle.papaya_purposes.specs.Given.ResizeSum.{sum_plan}
+use Rattle.papaya_purposes.specs.Given.ResizeDeclared.new_table.NewTable.{NewTable}
+use Rattle.papaya_purposes.specs.Given.ResizeDeclared.outcome.Outcome.{Outcome}
+use Rattle.papaya_purposes.specs.Given.ResizeDeclared.sum.Sum.{Sum}
+use Rattle.papaya_purposes.specs.Given.ReservesReserve.{reserve_plan}
+use Rattle.papaya_purposes.specs.Given.ReservesDeclared.reserve.Reserve.{Reserve}
+use Rattle.papaya_purposes.specs.Given.SweepsSweep.{sweep_plan}
+use Rattle.papaya_purposes.specs.Given.SweepsDeclared.sweep.Sweep.{Sweep}
+use Rattle.papaya_purposes.specs.Given.SweepsDeclared.sweep.Swept.{Swept}
+use Rattle.papaya_purposes.specs.Given.RawCall.{call_plan}
+use Rattle.papaya_purposes.specs.Given.RawMachine.{called as of_key, counted as of_sum, machine_asked, machine_plan, machine_replied, reserved as of_room, swept as of_sweep}
+use Rattle.papaya_purposes.specs.Given.RawDeclared.machines.answer.Called.{Called}
+use Rattle.papaya_purposes.specs.Given.RawDeclared.machines.asking.Reply.{Reply}
+use Rattle.papaya_purposes.specs.Given.RawDeclared.machines.call.KeyCall.{KeyCall}
+use Rattle.papaya_purposes.specs.Given.RawDeclared.machines.machine.Machine.{Machine}
+use Rattle.papaya_purposes.specs.Given.RawDeclared.machines.machine.Machine.TheVariants as kinds
+use Rattle.papaya_purposes.specs.Given.RawDeclared.machines.progress.Progress.{Progress}
+use Rattle.papaya_purposes.proofs.Given.RuleKeys.Always.{AlwaysOf, always_plan_as}
+use Rattle.papaya_purposes.proofs.Given.FindsShaping.{always_plan_more}
 use Rattle.papaya_grows.specs.Further.{MachineMakes}
 use Rattle.papaya_grows.proofs.Finding.Making.Calls as calls
 use Rattle.papaya_grows.proofs.Finding.Making.Calls.{CallBegins, CallEnds}

@@ -1,65 +1,65 @@
 -- A step after which a copier makes a table writes no root: what writes it makes none.
 use Rattle.std.specs.Prelude.{◌≡◌, ℕ, ◌+◌, ◌%◌, ◌^◌, ◌==◌, Bool, true, false, Some, Ok, Err, ◌⊎◌, if◌then◌else◌}
 use Rattle.std.proofs.Common.{refl, ap, sym, subst, ◌∙◌, inl, inr}
-use Rattle.papaya_purposes.specs.Given.SeizeWords.Mem.{Gives, Mem, value_at, word_at}
-use Rattle.papaya_purposes.specs.Given.SeizeWords.Op.{Exchanged, Found, Load, Made, Make, Out, Roomed, Stored, Taken}
-use Rattle.papaya_purposes.specs.Given.SeizeWords.Plan.{Ends, Now, Plan, Seeing}
-use Rattle.papaya_purposes.specs.Given.SeizeWords.Word.{block_in}
-use Rattle.papaya_purposes.specs.Given.Seize.declared.progress.Progress.{Progress as Counting}
-use Rattle.papaya_purposes.specs.Given.Seize.declared.progress.Progress.TheVariants as progress
-use Rattle.papaya_purposes.specs.Given.Tables.Nodes.{table_seen}
-use Rattle.papaya_purposes.specs.Given.Tables.TablePlaces.{at_word}
-use Rattle.papaya_purposes.specs.Given.Tables.declared.lengths.Reason.TheVariants.{NoPlace}
-use Rattle.papaya_purposes.specs.Given.Tables.declared.node.Node.{Node}
-use Rattle.papaya_purposes.specs.Given.Tables.declared.node.Node.TheVariants as node
-use Rattle.papaya_purposes.specs.Given.Tables.declared.table.Table.{Table}
-use Rattle.papaya_purposes.specs.Given.Tables.declared.table_words.TheConstants.{NEXT, PLACES}
-use Rattle.papaya_purposes.specs.Given.Resize.Copier as copiers
-use Rattle.papaya_purposes.specs.Given.Resize.Copier.{copier_plan}
-use Rattle.papaya_purposes.specs.Given.Resize.CopierFurther.{anew, grown, remade, replacement_read}
-use Rattle.papaya_purposes.specs.Given.Resize.NewTable as tables
-use Rattle.papaya_purposes.specs.Given.Resize.NewTable.{counted, new_table_plan, table_after}
-use Rattle.papaya_purposes.specs.Given.Resize.Sum as sums
-use Rattle.papaya_purposes.specs.Given.Resize.Sum.{sum_plan}
-use Rattle.papaya_purposes.specs.Given.Resize.declared.copier.Copier.{Copier}
-use Rattle.papaya_purposes.specs.Given.Resize.declared.copier.Copying.{Copying}
-use Rattle.papaya_purposes.specs.Given.Resize.declared.copier.Copying.TheVariants as copying
-use Rattle.papaya_purposes.specs.Given.Resize.declared.new_table.Making.{Making}
-use Rattle.papaya_purposes.specs.Given.Resize.declared.new_table.Making.TheVariants as makes
-use Rattle.papaya_purposes.specs.Given.Resize.declared.new_table.NewTable.{NewTable}
-use Rattle.papaya_purposes.specs.Given.Resize.declared.outcome.Outcome.{Outcome}
-use Rattle.papaya_purposes.specs.Given.Resize.declared.outcome.Outcome.TheVariants as outcome
-use Rattle.papaya_purposes.specs.Given.Resize.declared.sum.Sum.{Sum}
-use Rattle.papaya_purposes.specs.Given.Resize.declared.sum.Summing.{Summing}
-use Rattle.papaya_purposes.specs.Given.Resize.declared.sum.Summing.TheVariants as summing
-use Rattle.papaya_purposes.specs.Given.Reserves.Reserve as reserves
-use Rattle.papaya_purposes.specs.Given.Reserves.Reserve.{reserve_plan}
-use Rattle.papaya_purposes.specs.Given.Reserves.declared.reserve.Reserve.{Reserve}
-use Rattle.papaya_purposes.specs.Given.Reserves.declared.reserve.Reserving.{Reserving}
-use Rattle.papaya_purposes.specs.Given.Reserves.declared.reserve.Reserving.TheVariants as reserving
-use Rattle.papaya_purposes.specs.Given.Sweeps.Sweep as sweeps_of
-use Rattle.papaya_purposes.specs.Given.Sweeps.Sweep.{sweep_plan}
-use Rattle.papaya_purposes.specs.Given.Sweeps.declared.sweep.Sweep.{Sweep}
-use Rattle.papaya_purposes.specs.Given.Sweeps.declared.sweep.Sweeping.{Sweeping}
-use Rattle.papaya_purposes.specs.Given.Sweeps.declared.sweep.Sweeping.TheVariants as sweeping
-use Rattle.papaya_purposes.specs.Given.Sweeps.declared.sweep.Swept.{Swept}
-use Rattle.papaya_purposes.specs.Given.Raw.Call as calls_of
-use Rattle.papaya_purposes.specs.Given.Raw.Call.{call_plan, copied, helped}
-use Rattle.papaya_purposes.specs.Given.Raw.Machine.{called as of_key, counted as of_sum, machine_plan, reserved as of_room, swept as of_sweep}
-use Rattle.papaya_purposes.specs.Given.Raw.declared.machines.answer.Called.{Called}
-use Rattle.papaya_purposes.specs.Given.Raw.declared.machines.call.Calling.{Calling}
-use Rattle.papaya_purposes.specs.Given.Raw.declared.machines.call.Calling.TheVariants as calling
-use Rattle.papaya_purposes.specs.Given.Raw.declared.machines.call.KeyCall.{KeyCall}
-use Rattle.papaya_purposes.specs.Given.Raw.declared.machines.machine.Machine.{Machine}
-use Rattle.papaya_purposes.specs.Given.Raw.declared.machines.machine.Machine.TheVariants as kinds
-use Rattle.papaya_purposes.specs.Given.Raw.declared.machines.progress.Progress.{Progress}
-use Rattle.papaya_purposes.specs.Given.Teller.Tells.{StepsTold, told_of}
-use Rattle.papaya_purposes.specs.Given.Teller.declared.changed.Changed.{Changed}
-use Rattle.papaya_purposes.specs.Given.Teller.declared.changed.Changed.TheVariants as changed
-use Rattle.papaya_purposes.specs.Given.Tells.Seen.{seen_of}
-use Rattle.papaya_purposes.proofs.Given.Rule.Keys.Always.{Always, AlwaysOf, always_ends, always_steps}
-use Rattle.papaya_purposes.proofs.Given.Others.Outcomes.{told_in}
-use Rattle.papaya_purposes.proofs.Given.Finds.Grown.{number_is}
+use Rattle.papaya_purposes.specs.Given.SeizeWordsMem.{Gives, Mem, value_at, word_at}
+use Rattle.papaya_purposes.specs.Given.SeizeWordsOp.{Exchanged, Found, Load, Made, Make, Out, Roomed, Stored, Taken}
+use Rattle.papaya_purposes.specs.Given.SeizeWordsPlan.{Ends, Now, Plan, Seeing}
+use Rattle.papaya_purposes.specs.Given.SeizeWordsWord.{block_in}
+use Rattle.papaya_purposes.specs.Given.SeizeDeclared.progress.Progress.{Progress as Counting}
+use Rattle.papaya_purposes.specs.Given.SeizeDeclared.progress.Progress.TheVariants as progress
+use Rattle.papaya_purposes.specs.Given.TablesNodes.{table_seen}
+use Rattle.papaya_purposes.specs.Given.TablesTablePlaces.{at_word}
+use Rattle.papaya_purposes.specs.Given.TablesDeclared.lengths.Reason.TheVariants.{NoPlace}
+use Rattle.papaya_purposes.specs.Given.TablesDeclared.node.Node.{Node}
+use Rattle.papaya_purposes.specs.Given.TablesDeclared.node.Node.TheVariants as node
+use Rattle.papaya_purposes.specs.Given.TablesDeclared.table.Table.{Table}
+use Rattle.papaya_purposes.specs.Given.TablesDeclared.table_words.TheConstants.{NEXT, PLACES}
+use Rattle.papaya_purposes.specs.Given.ResizeCopier as copiers
+use Rattle.papaya_purposes.specs.Given.ResizeCopier.{copier_plan}
+use Rattle.papaya_purposes.specs.Given.ResizeCopierFurther.{anew, grown, remade, replacement_read}
+use Rattle.papaya_purposes.specs.Given.ResizeNewTable as tables
+use Rattle.papaya_purposes.specs.Given.ResizeNewTable.{counted, new_table_plan, table_after}
+use Rattle.papaya_purposes.specs.Given.ResizeSum as sums
+use Rattle.papaya_purposes.specs.Given.ResizeSum.{sum_plan}
+use Rattle.papaya_purposes.specs.Given.ResizeDeclared.copier.Copier.{Copier}
+use Rattle.papaya_purposes.specs.Given.ResizeDeclared.copier.Copying.{Copying}
+use Rattle.papaya_purposes.specs.Given.ResizeDeclared.copier.Copying.TheVariants as copying
+use Rattle.papaya_purposes.specs.Given.ResizeDeclared.new_table.Making.{Making}
+use Rattle.papaya_purposes.specs.Given.ResizeDeclared.new_table.Making.TheVariants as makes
+use Rattle.papaya_purposes.specs.Given.ResizeDeclared.new_table.NewTable.{NewTable}
+use Rattle.papaya_purposes.specs.Given.ResizeDeclared.outcome.Outcome.{Outcome}
+use Rattle.papaya_purposes.specs.Given.ResizeDeclared.outcome.Outcome.TheVariants as outcome
+use Rattle.papaya_purposes.specs.Given.ResizeDeclared.sum.Sum.{Sum}
+use Rattle.papaya_purposes.specs.Given.ResizeDeclared.sum.Summing.{Summing}
+use Rattle.papaya_purposes.specs.Given.ResizeDeclared.sum.Summing.TheVariants as summing
+use Rattle.papaya_purposes.specs.Given.ReservesReserve as reserves
+use Rattle.papaya_purposes.specs.Given.ReservesReserve.{reserve_plan}
+use Rattle.papaya_purposes.specs.Given.ReservesDeclared.reserve.Reserve.{Reserve}
+use Rattle.papaya_purposes.specs.Given.ReservesDeclared.reserve.Reserving.{Reserving}
+use Rattle.papaya_purposes.specs.Given.ReservesDeclared.reserve.Reserving.TheVariants as reserving
+use Rattle.papaya_purposes.specs.Given.SweepsSweep as sweeps_of
+use Rattle.papaya_purposes.specs.Given.SweepsSweep.{sweep_plan}
+use Rattle.papaya_purposes.specs.Given.SweepsDeclared.sweep.Sweep.{Sweep}
+use Rattle.papaya_purposes.specs.Given.SweepsDeclared.sweep.Sweeping.{Sweeping}
+use Rattle.papaya_purposes.specs.Given.SweepsDeclared.sweep.Sweeping.TheVariants as sweeping
+use Rattle.papaya_purposes.specs.Given.SweepsDeclared.sweep.Swept.{Swept}
+use Rattle.papaya_purposes.specs.Given.RawCall as calls_of
+use Rattle.papaya_purposes.specs.Given.RawCall.{call_plan, copied, helped}
+use Rattle.papaya_purposes.specs.Given.RawMachine.{called as of_key, counted as of_sum, machine_plan, reserved as of_room, swept as of_sweep}
+use Rattle.papaya_purposes.specs.Given.RawDeclared.machines.answer.Called.{Called}
+use Rattle.papaya_purposes.specs.Given.RawDeclared.machines.call.Calling.{Calling}
+use Rattle.papaya_purposes.specs.Given.RawDeclared.machines.call.Calling.TheVariants as calling
+use Rattle.papaya_purposes.specs.Given.RawDeclared.machines.call.KeyCall.{KeyCall}
+use Rattle.papaya_purposes.specs.Given.RawDeclared.machines.machine.Machine.{Machine}
+use Rattle.papaya_purposes.specs.Given.RawDeclared.machines.machine.Machine.TheVariants as kinds
+use Rattle.papaya_purposes.specs.Given.RawDeclared.machines.progress.Progress.{Progress}
+use Rattle.papaya_purposes.specs.Given.TellerTells.{StepsTold, told_of}
+use Rattle.papaya_purposes.specs.Given.TellerDeclared.changed.Changed.{Changed}
+use Rattle.papaya_purposes.specs.Given.TellerDeclared.changed.Changed.TheVariants as changed
+use Rattle.papaya_purposes.specs.Given.TellsSeen.{seen_of}
+use Rattle.papaya_purposes.proofs.Given.RuleKeys.Always.{Always, AlwaysOf, always_ends, always_steps}
+use Rattle.papaya_purposes.proofs.Given.OthersOutcomes.{told_in}
+use Rattle.papaya_purposes.proofs.Given.FindsGrown.{number_is}
 use Rattle.papaya_grows.specs.Further.{CallMakes, CopierMakes, MachineMakes, RoomMakes, SweepMakes}
 use Rattle.papaya_grows.proofs.Finding.Making.Calls as calls
 use Rattle.papaya_grows.proofs.Finding.Making.Calls.{CallEnds}
@@ -70,7 +70,7 @@ use Rattle.papaya_grows.proofs.Finding.Making.Rooms.{RoomEnds}
 use Rattle.papaya_grows.proofs.Finding.Making.Sweeps as sweeps
 use Rattle.papaya_grows.proofs.Finding.Making.Sweeps.{SweepEnds}
 use Rattle.papaya_grows.proofs.Finding.Making.Unpromoted.{OffRoot}
-use Rattle.papaya_purposes.proofs.Given.Scenes.Told.{as_step}
+use Rattle.papaya_purposes.proofs.Given.ScenesTold.{as_step}
 
 -- the copier of a machine
 abbrev pub CallCopier : Calling → Copier → Type 0

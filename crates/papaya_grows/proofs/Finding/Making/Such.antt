@@ -1,33 +1,33 @@
 -- Which table a copier makes: so it goes on, so it begins, and so it is where a map has had further tables.
 use Rattle.std.specs.Prelude.{◌≡◌, ℕ, suc, ◌+◌, ◌*◌, ◌^◌, nat_le, nat_lt, max, Bool, true, false, List, Some, Result, Ok, Err, if◌then◌else◌}
 use Rattle.std.proofs.Common.{refl, ap, sym, subst, ◌∙◌, arith}
-use Rattle.papaya_purposes.specs.Given.SeizeWords.Plan.{Do, Now, Plan, Seeing, Sure, Then, Turn}
-use Rattle.papaya_purposes.specs.Given.SeizeWords.declared.fault.Fault.{Fault}
-use Rattle.papaya_purposes.specs.Given.SeizeWords.declared.fault.Fault.TheVariants.{Capacity}
-use Rattle.papaya_purposes.specs.Given.Seize.declared.progress.Progress.{Progress}
-use Rattle.papaya_purposes.specs.Given.Tables.Lengths.{if_few, next_len, next_limit, next_turn}
-use Rattle.papaya_purposes.specs.Given.Tables.declared.lengths.Reason.{Reason}
-use Rattle.papaya_purposes.specs.Given.Tables.declared.lengths.Reason.TheVariants.{NoPlace}
-use Rattle.papaya_purposes.specs.Given.Tables.declared.setting.Setting.{Setting}
-use Rattle.papaya_purposes.specs.Given.Tables.declared.table.Table.{Table}
-use Rattle.papaya_purposes.specs.Given.Resize.NewTable.{following, making_of, new_table_plan, planned, table_after}
-use Rattle.papaya_purposes.specs.Given.Resize.declared.copier.Copying.{Copying}
-use Rattle.papaya_purposes.specs.Given.Resize.declared.copier.Copying.TheVariants as copying
-use Rattle.papaya_purposes.specs.Given.Resize.declared.new_table.Making.{Making}
-use Rattle.papaya_purposes.specs.Given.Resize.declared.new_table.Making.TheVariants as makes
-use Rattle.papaya_purposes.specs.Given.Resize.declared.new_table.NewTable.{NewTable}
-use Rattle.papaya_purposes.specs.Given.Reserves.declared.reserve.Reserving.{Reserving}
-use Rattle.papaya_purposes.specs.Given.Reserves.declared.reserve.Reserving.TheVariants as reserving
-use Rattle.papaya_purposes.specs.Given.Sweeps.declared.sweep.Sweeping.{Sweeping}
-use Rattle.papaya_purposes.specs.Given.Sweeps.declared.sweep.Sweeping.TheVariants as sweeping
-use Rattle.papaya_purposes.specs.Given.Raw.declared.machines.call.Calling.{Calling}
-use Rattle.papaya_purposes.specs.Given.Raw.declared.machines.call.Calling.TheVariants as calling
-use Rattle.papaya_purposes.specs.Given.Raw.declared.machines.machine.Machine.{Machine}
-use Rattle.papaya_purposes.specs.Given.Raw.declared.machines.machine.Machine.TheVariants as kinds
-use Rattle.papaya_purposes.specs.Given.Schedules.Growing.{Has}
-use Rattle.papaya_purposes.proofs.Given.Rule.Keys.Always.{Always, AlwaysOf}
-use Rattle.papaya_purposes.specs.Given.Finds.Shaping.{ShapedAt}
-use Rattle.papaya_purposes.proofs.Given.Finds.Shaping.{goes_shaped}
+use Rattle.papaya_purposes.specs.Given.SeizeWordsPlan.{Do, Now, Plan, Seeing, Sure, Then, Turn}
+use Rattle.papaya_purposes.specs.Given.SeizeWordsDeclared.fault.Fault.{Fault}
+use Rattle.papaya_purposes.specs.Given.SeizeWordsDeclared.fault.Fault.TheVariants.{Capacity}
+use Rattle.papaya_purposes.specs.Given.SeizeDeclared.progress.Progress.{Progress}
+use Rattle.papaya_purposes.specs.Given.TablesLengths.{if_few, next_len, next_limit, next_turn}
+use Rattle.papaya_purposes.specs.Given.TablesDeclared.lengths.Reason.{Reason}
+use Rattle.papaya_purposes.specs.Given.TablesDeclared.lengths.Reason.TheVariants.{NoPlace}
+use Rattle.papaya_purposes.specs.Given.TablesDeclared.setting.Setting.{Setting}
+use Rattle.papaya_purposes.specs.Given.TablesDeclared.table.Table.{Table}
+use Rattle.papaya_purposes.specs.Given.ResizeNewTable.{following, making_of, new_table_plan, planned, table_after}
+use Rattle.papaya_purposes.specs.Given.ResizeDeclared.copier.Copying.{Copying}
+use Rattle.papaya_purposes.specs.Given.ResizeDeclared.copier.Copying.TheVariants as copying
+use Rattle.papaya_purposes.specs.Given.ResizeDeclared.new_table.Making.{Making}
+use Rattle.papaya_purposes.specs.Given.ResizeDeclared.new_table.Making.TheVariants as makes
+use Rattle.papaya_purposes.specs.Given.ResizeDeclared.new_table.NewTable.{NewTable}
+use Rattle.papaya_purposes.specs.Given.ReservesDeclared.reserve.Reserving.{Reserving}
+use Rattle.papaya_purposes.specs.Given.ReservesDeclared.reserve.Reserving.TheVariants as reserving
+use Rattle.papaya_purposes.specs.Given.SweepsDeclared.sweep.Sweeping.{Sweeping}
+use Rattle.papaya_purposes.specs.Given.SweepsDeclared.sweep.Sweeping.TheVariants as sweeping
+use Rattle.papaya_purposes.specs.Given.RawDeclared.machines.call.Calling.{Calling}
+use Rattle.papaya_purposes.specs.Given.RawDeclared.machines.call.Calling.TheVariants as calling
+use Rattle.papaya_purposes.specs.Given.RawDeclared.machines.machine.Machine.{Machine}
+use Rattle.papaya_purposes.specs.Given.RawDeclared.machines.machine.Machine.TheVariants as kinds
+use Rattle.papaya_purposes.specs.Given.SchedulesGrowing.{Has}
+use Rattle.papaya_purposes.proofs.Given.RuleKeys.Always.{Always, AlwaysOf}
+use Rattle.papaya_purposes.specs.Given.FindsShaping.{ShapedAt}
+use Rattle.papaya_purposes.proofs.Given.FindsShaping.{goes_shaped}
 use Rattle.papaya_grows.specs.Further.{CallMakes, CopierMakes, IsBehind, IsFurther, MachineMakes, RoomMakes, SweepMakes, at_turn}
 
 -- what is so of each outcome of a plan is so as what follows from that

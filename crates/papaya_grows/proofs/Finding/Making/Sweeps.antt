@@ -1,36 +1,36 @@
 -- A step of a sweep makes a table by its copier as that was to make it; and so does one that is told, or asked for its next pair.
 use Rattle.std.specs.Prelude.{ℕ, ◌==◌, ◌&&◌, nat_lt, Bool, true, false, if◌then◌else◌, Ok, Err}
-use Rattle.papaya_purposes.specs.Given.SeizeWords.Op.{Out, Exchanged, Found}
-use Rattle.papaya_purposes.specs.Given.SeizeWords.Word.{block_in}
-use Rattle.papaya_purposes.specs.Given.Seize.declared.progress.Progress.{Progress}
-use Rattle.papaya_purposes.specs.Given.Seize.declared.rows.settle.Settled.{Settled}
-use Rattle.papaya_purposes.specs.Given.Seize.declared.rows.settle.Settled.TheVariants as settled
-use Rattle.papaya_purposes.specs.Given.Tables.Chunks.{is_incremental}
-use Rattle.papaya_purposes.specs.Given.Tables.Marks.{has_mark}
-use Rattle.papaya_purposes.specs.Given.Tables.declared.marks.TheConstants.{COPYING}
-use Rattle.papaya_purposes.specs.Given.Tables.declared.node.Node.{Node}
-use Rattle.papaya_purposes.specs.Given.Tables.declared.table.Table.{Table}
-use Rattle.papaya_purposes.specs.Given.Resize.Copier.{copier_plan}
-use Rattle.papaya_purposes.specs.Given.Resize.Dispose.{dispose_plan}
-use Rattle.papaya_purposes.specs.Given.Resize.NewTable.{new_table_plan}
-use Rattle.papaya_purposes.specs.Given.Resize.declared.copier.Copier.{Copier}
-use Rattle.papaya_purposes.specs.Given.Resize.declared.dispose.Dispose.{Dispose}
-use Rattle.papaya_purposes.specs.Given.Resize.declared.new_table.NewTable.{NewTable}
-use Rattle.papaya_purposes.specs.Given.Resize.declared.outcome.Outcome.{Outcome}
-use Rattle.papaya_purposes.specs.Given.Resize.declared.outcome.Outcome.TheVariants as outcome
-use Rattle.papaya_purposes.specs.Given.Sweeps.Sweep.{copied, disposed, next_read, plan_at, root_read, sweep_plan, tried, word_found}
-use Rattle.papaya_purposes.specs.Given.Sweeps.SweepPoints.{at_end, at_pair, beginning, entering, further, next_at, removes, reply_at, seen, tableless}
-use Rattle.papaya_purposes.specs.Given.Sweeps.declared.sweep.Purpose.{Purpose}
-use Rattle.papaya_purposes.specs.Given.Sweeps.declared.sweep.Purpose.TheVariants as purpose
-use Rattle.papaya_purposes.specs.Given.Sweeps.declared.sweep.Sweep.{Sweep}
-use Rattle.papaya_purposes.specs.Given.Sweeps.declared.sweep.Sweeping.{Sweeping}
-use Rattle.papaya_purposes.specs.Given.Sweeps.declared.sweep.Sweeping.TheVariants as at
-use Rattle.papaya_purposes.specs.Given.Sweeps.declared.sweep.Swept.{Swept}
-use Rattle.papaya_purposes.specs.Given.Raw.Machine.{sweep_asked, sweep_replied, sweep_told}
-use Rattle.papaya_purposes.specs.Given.Raw.declared.machines.asking.Reply.{Reply}
-use Rattle.papaya_purposes.specs.Given.Raw.declared.machines.asking.Reply.TheVariants as replies
-use Rattle.papaya_purposes.proofs.Given.Rule.Keys.Always.{Always, AlwaysOf, always_if, always_plan_as}
-use Rattle.papaya_purposes.proofs.Given.Finds.Shaping.{always_plan_more}
+use Rattle.papaya_purposes.specs.Given.SeizeWordsOp.{Out, Exchanged, Found}
+use Rattle.papaya_purposes.specs.Given.SeizeWordsWord.{block_in}
+use Rattle.papaya_purposes.specs.Given.SeizeDeclared.progress.Progress.{Progress}
+use Rattle.papaya_purposes.specs.Given.SeizeDeclared.rows.settle.Settled.{Settled}
+use Rattle.papaya_purposes.specs.Given.SeizeDeclared.rows.settle.Settled.TheVariants as settled
+use Rattle.papaya_purposes.specs.Given.TablesChunks.{is_incremental}
+use Rattle.papaya_purposes.specs.Given.TablesMarks.{has_mark}
+use Rattle.papaya_purposes.specs.Given.TablesDeclared.marks.TheConstants.{COPYING}
+use Rattle.papaya_purposes.specs.Given.TablesDeclared.node.Node.{Node}
+use Rattle.papaya_purposes.specs.Given.TablesDeclared.table.Table.{Table}
+use Rattle.papaya_purposes.specs.Given.ResizeCopier.{copier_plan}
+use Rattle.papaya_purposes.specs.Given.ResizeDispose.{dispose_plan}
+use Rattle.papaya_purposes.specs.Given.ResizeNewTable.{new_table_plan}
+use Rattle.papaya_purposes.specs.Given.ResizeDeclared.copier.Copier.{Copier}
+use Rattle.papaya_purposes.specs.Given.ResizeDeclared.dispose.Dispose.{Dispose}
+use Rattle.papaya_purposes.specs.Given.ResizeDeclared.new_table.NewTable.{NewTable}
+use Rattle.papaya_purposes.specs.Given.ResizeDeclared.outcome.Outcome.{Outcome}
+use Rattle.papaya_purposes.specs.Given.ResizeDeclared.outcome.Outcome.TheVariants as outcome
+use Rattle.papaya_purposes.specs.Given.SweepsSweep.{copied, disposed, next_read, plan_at, root_read, sweep_plan, tried, word_found}
+use Rattle.papaya_purposes.specs.Given.SweepsSweepPoints.{at_end, at_pair, beginning, entering, further, next_at, removes, reply_at, seen, tableless}
+use Rattle.papaya_purposes.specs.Given.SweepsDeclared.sweep.Purpose.{Purpose}
+use Rattle.papaya_purposes.specs.Given.SweepsDeclared.sweep.Purpose.TheVariants as purpose
+use Rattle.papaya_purposes.specs.Given.SweepsDeclared.sweep.Sweep.{Sweep}
+use Rattle.papaya_purposes.specs.Given.SweepsDeclared.sweep.Sweeping.{Sweeping}
+use Rattle.papaya_purposes.specs.Given.SweepsDeclared.sweep.Sweeping.TheVariants as at
+use Rattle.papaya_purposes.specs.Given.SweepsDeclared.sweep.Swept.{Swept}
+use Rattle.papaya_purposes.specs.Given.RawMachine.{sweep_asked, sweep_replied, sweep_told}
+use Rattle.papaya_purposes.specs.Given.RawDeclared.machines.asking.Reply.{Reply}
+use Rattle.papaya_purposes.specs.Given.RawDeclared.machines.asking.Reply.TheVariants as replies
+use Rattle.papaya_purposes.proofs.Given.RuleKeys.Always.{Always, AlwaysOf, always_if, always_plan_as}
+use Rattle.papaya_purposes.proofs.Given.FindsShaping.{always_plan_more}
 use Rattle.papaya_grows.specs.Further.{SweepMakes}
 use Rattle.papaya_grows.proofs.Finding.Making.Copiers.{CopierBegins, CopierEnds, begun_makes, copier_makes}
 

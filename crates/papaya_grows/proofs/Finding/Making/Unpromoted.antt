@@ -3,24 +3,24 @@ use Rattle.std.specs.Prelude.{◌≡◌, ℕ, ◌<◌, ◌≤◌, ◌==◌, nat_
 use Rattle.std.specs.List.{AllByRecursion}
 use Rattle.std.proofs.Common.{refl, ap, sym, subst, ◌∙◌, arith, length-append}
 use Rattle.std.proofs.lemmas.List.Elements.{filter-append}
-use Rattle.papaya_purposes.specs.Given.SeizeWords.declared.at.At.TheVariants.{Root}
-use Rattle.papaya_purposes.specs.Given.Schedules.declared.effect.Effect.{Effect}
-use Rattle.papaya_purposes.specs.Given.Schedules.declared.effect.Effect.TheVariants as effect
-use Rattle.papaya_purposes.specs.Given.Schedules.declared.effect.Table.{Table}
-use Rattle.papaya_purposes.specs.Given.Schedules.declared.effect.Thing.TheVariants.{APair, ATable}
-use Rattle.papaya_purposes.specs.Given.Schedules.Effects.{at_stage, with_effect, with_effects}
-use Rattle.papaya_purposes.specs.Given.Schedules.Growing.{HasNext}
-use Rattle.papaya_purposes.specs.Given.Schedules.Moment.{IsReclaimed, IsRetired, IsTaken, MapThere, Moment, Stage, TableThere}
-use Rattle.papaya_purposes.specs.Given.Schedules.Things.{same_table}
-use Rattle.papaya_purposes.specs.Given.Schedules.Views.{first_of, first_or}
-use Rattle.papaya_purposes.specs.Given.Teller.declared.changed.Changed.{Changed}
-use Rattle.papaya_purposes.specs.Given.Teller.declared.changed.Changed.TheVariants as changed
-use Rattle.papaya_purposes.specs.Given.Effects.Effects.{effects_of}
-use Rattle.papaya_purposes.specs.Given.Effects.Known.{Known}
-use Rattle.papaya_purposes.specs.Given.Effects.declared.acting.Acting.{Acting}
-use Rattle.papaya_purposes.specs.Given.Effects.declared.acting.Acting.TheVariants as acts
-use Rattle.papaya_purposes.proofs.Given.Follows.OfEach.{OfEach, taken_so, operation_so}
-use Rattle.papaya_purposes.proofs.Given.Finds.Grown.{linked_as}
+use Rattle.papaya_purposes.specs.Given.SeizeWordsDeclared.at.At.TheVariants.{Root}
+use Rattle.papaya_purposes.specs.Given.SchedulesDeclared.effect.Effect.{Effect}
+use Rattle.papaya_purposes.specs.Given.SchedulesDeclared.effect.Effect.TheVariants as effect
+use Rattle.papaya_purposes.specs.Given.SchedulesDeclared.effect.Table.{Table}
+use Rattle.papaya_purposes.specs.Given.SchedulesDeclared.effect.Thing.TheVariants.{APair, ATable}
+use Rattle.papaya_purposes.specs.Given.SchedulesEffects.{at_stage, with_effect, with_effects}
+use Rattle.papaya_purposes.specs.Given.SchedulesGrowing.{HasNext}
+use Rattle.papaya_purposes.specs.Given.SchedulesMoment.{IsReclaimed, IsRetired, IsTaken, MapThere, Moment, Stage, TableThere}
+use Rattle.papaya_purposes.specs.Given.SchedulesThings.{same_table}
+use Rattle.papaya_purposes.specs.Given.SchedulesViews.{first_of, first_or}
+use Rattle.papaya_purposes.specs.Given.TellerDeclared.changed.Changed.{Changed}
+use Rattle.papaya_purposes.specs.Given.TellerDeclared.changed.Changed.TheVariants as changed
+use Rattle.papaya_purposes.specs.Given.EffectsEffects.{effects_of}
+use Rattle.papaya_purposes.specs.Given.EffectsKnown.{Known}
+use Rattle.papaya_purposes.specs.Given.EffectsDeclared.acting.Acting.{Acting}
+use Rattle.papaya_purposes.specs.Given.EffectsDeclared.acting.Acting.TheVariants as acts
+use Rattle.papaya_purposes.proofs.Given.FollowsOfEach.{OfEach, taken_so, operation_so}
+use Rattle.papaya_purposes.proofs.Given.FindsGrown.{linked_as}
 
 -- what was told is no writing of a root
 abbrev pub OffRoot : Changed → Type 0

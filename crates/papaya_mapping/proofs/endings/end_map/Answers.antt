@@ -1,10 +1,10 @@
 -- A map ends.
 use Rattle.std.proofs.Common.{[], inl, inr, sym, refl, ◌∙◌, arith}
 use Rattle.seize_words.specs.declared.fault.Fault.TheVariants.{Busy}
-use Rattle.papaya_scheduler.specs.Given.Schedules.After.{moment}
-use Rattle.papaya_scheduler.specs.Given.Schedules.declared.event.Event.TheVariants.{EndMap}
-use Rattle.papaya_scheduler.specs.Given.Schedules.declared.outcome.Outcome.TheVariants.{Refused}
-use Rattle.papaya_scheduler.proofs.Given.Logged.KeptGiven.{given_on}
+use Rattle.papaya_scheduler.specs.Given.SchedulesAfter.{moment}
+use Rattle.papaya_scheduler.specs.Given.SchedulesDeclared.event.Event.TheVariants.{EndMap}
+use Rattle.papaya_scheduler.specs.Given.SchedulesDeclared.outcome.Outcome.TheVariants.{Refused}
+use Rattle.papaya_scheduler.proofs.Given.LoggedKeptGiven.{given_on}
 use Rattle.papaya_scheduler.proofs.Busy.{none_quiet}
 use Rattle.papaya_scheduler.proofs.Backs.{none_came}
 use Rattle.papaya_scheduler.proofs.Maps.{stands_by}

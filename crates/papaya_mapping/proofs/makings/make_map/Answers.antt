@@ -1,15 +1,15 @@
 -- A map is made.
 use Rattle.std.proofs.Common.{◌≡◌, [], length, ap, inl, inr, sym, refl, subst, ◌∙◌, arith, rules}
 use Rattle.seize.specs.declared.progress.Progress.{Progress}
-use Rattle.papaya_scheduler.specs.Given.Tables.declared.setting.Setting.{Setting}
-use Rattle.papaya_scheduler.specs.Given.Logged.Makings.{MakingRan, numbers_then}
-use Rattle.papaya_scheduler.specs.Given.Logged.Roots.{MakingFinds}
-use Rattle.papaya_scheduler.proofs.Given.Logged.KeptGiven.{stays_on}
+use Rattle.papaya_scheduler.specs.Given.TablesDeclared.setting.Setting.{Setting}
+use Rattle.papaya_scheduler.specs.Given.LoggedMakings.{MakingRan, numbers_then}
+use Rattle.papaya_scheduler.specs.Given.LoggedRoots.{MakingFinds}
+use Rattle.papaya_scheduler.proofs.Given.LoggedKeptGiven.{stays_on}
 use Rattle.seize_words.specs.declared.fault.Fault.TheVariants.{Busy, RootsUsedUp}
-use Rattle.papaya_scheduler.specs.Given.Schedules.After.{moment}
-use Rattle.papaya_scheduler.specs.Given.Schedules.declared.event.Event.TheVariants.{MakeMap}
-use Rattle.papaya_scheduler.specs.Given.Schedules.declared.outcome.Outcome.{Outcome}
-use Rattle.papaya_scheduler.specs.Given.Schedules.declared.outcome.Outcome.TheVariants.{Refused}
+use Rattle.papaya_scheduler.specs.Given.SchedulesAfter.{moment}
+use Rattle.papaya_scheduler.specs.Given.SchedulesDeclared.event.Event.TheVariants.{MakeMap}
+use Rattle.papaya_scheduler.specs.Given.SchedulesDeclared.outcome.Outcome.{Outcome}
+use Rattle.papaya_scheduler.specs.Given.SchedulesDeclared.outcome.Outcome.TheVariants.{Refused}
 use Rattle.papaya_scheduler.specs.Mapping.{numbers_made}
 use Rattle.papaya_mapping.proofs.MapNumbers.{given_up}
 use Rattle.papaya_scheduler.proofs.Busy.{none_quiet}

@@ -1,8 +1,8 @@
 -- All is given back, and nobody is there.
 use Rattle.std.proofs.Common.{ℕ, nat_lt, subst}
-use Rattle.papaya_scheduler.specs.Given.Logged.Back.{AllBringsBack}
-use Rattle.papaya_scheduler.specs.Given.Logged.Goes.{ReclaimingGone}
-use Rattle.papaya_scheduler.specs.Given.Logged.Reclaims.{ReclaimingRan}
+use Rattle.papaya_scheduler.specs.Given.LoggedBack.{AllBringsBack}
+use Rattle.papaya_scheduler.specs.Given.LoggedGoes.{ReclaimingGone}
+use Rattle.papaya_scheduler.specs.Given.LoggedReclaims.{ReclaimingRan}
 use Rattle.papaya_mapping.proofs.reclaims.give_all_back.Goals as goal
 
 pub returns-clause-ran : goal.returns-clause-ran

@@ -1,9 +1,9 @@
 -- Everything is reclaimed.
 use Rattle.std.proofs.Common.{[], refl, ap, sym, ◌∙◌}
 use Rattle.seize_words.specs.declared.fault.Fault.TheVariants.{Busy}
-use Rattle.papaya_scheduler.specs.Given.Schedules.After.{moment}
-use Rattle.papaya_scheduler.specs.Given.Schedules.declared.event.Event.TheVariants.{ReclaimAll}
-use Rattle.papaya_scheduler.specs.Given.Schedules.declared.outcome.Outcome.TheVariants.{Done, Refused}
+use Rattle.papaya_scheduler.specs.Given.SchedulesAfter.{moment}
+use Rattle.papaya_scheduler.specs.Given.SchedulesDeclared.event.Event.TheVariants.{ReclaimAll}
+use Rattle.papaya_scheduler.specs.Given.SchedulesDeclared.outcome.Outcome.TheVariants.{Done, Refused}
 use Rattle.papaya_scheduler.proofs.Busy.{none_quiet}
 use Rattle.papaya_mapping.proofs.AllWorks.{did_all, did_wait}
 use Rattle.papaya_scheduler.proofs.Backs.{all_came, none_came}

@@ -1,14 +1,14 @@
 -- By what the call comes to, after the refresh.
 use Rattle.std.specs.Fn.{FnOnceReturns, FnOnceReturnsAt}
 use Rattle.papaya_asks.specs.Closures.{UpdatingOrStoring}
-use Rattle.papaya_asks.specs.Given.Owned.Owned.{hashed_by}
+use Rattle.papaya_asks.specs.Given.OwnedOwned.{hashed_by}
 use Rattle.papaya_resting.proofs.Done.{comes_as, key_comes_back, key_capacity}
 use Rattle.seize_words.specs.declared.refused.RefusedKey.{RefusedKey}
 use Rattle.papaya_resting.proofs.Keeps.{change_holds_on}
 use Rattle.std.specs.Prelude.{[], Some}
-use Rattle.papaya_asks.specs.Given.Callers.Kind.{updates_or_inserts}
-use Rattle.papaya_asks.specs.Given.Callers.Pairs.{IsTold}
-use Rattle.papaya_asks.specs.Given.Owned.Calling.{HasStopped}
+use Rattle.papaya_asks.specs.Given.CallersKind.{updates_or_inserts}
+use Rattle.papaya_asks.specs.Given.CallersPairs.{IsTold}
+use Rattle.papaya_asks.specs.Given.OwnedCalling.{HasStopped}
 use Rattle.papaya_resting.specs.Refreshed.{OnceRefreshed}
 use Rattle.papaya_resting.proofs.Because.{refused_because}
 use Rattle.papaya_resting.proofs.asking.update_or_insert_with.Goals as goal

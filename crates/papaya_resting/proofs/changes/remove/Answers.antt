@@ -1,7 +1,7 @@
 -- By what the removal comes to, after the refresh.
 use Rattle.std.proofs.Common.{◌∙◌, refl, inl}
-use Rattle.papaya_asks.specs.Given.Callers.Kind.{removes}
-use Rattle.papaya_asks.specs.Given.Owned.Owned.{hashed_by}
+use Rattle.papaya_asks.specs.Given.CallersKind.{removes}
+use Rattle.papaya_asks.specs.Given.OwnedOwned.{hashed_by}
 use Rattle.papaya_resting.proofs.Removals.{removed_so, room_of}
 use Rattle.papaya_resting.proofs.Keeps.{refused, removal_holds_on}
 use Rattle.papaya_resting.proofs.Steady.{removal_steady}

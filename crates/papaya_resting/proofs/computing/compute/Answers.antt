@@ -1,12 +1,12 @@
 -- By what the call comes to, after the refresh.
 use Rattle.papaya_asks.specs.Closures.{ComputesAs}
-use Rattle.papaya_asks.specs.Given.Owned.Owned.{hashed_by}
+use Rattle.papaya_asks.specs.Given.OwnedOwned.{hashed_by}
 use Rattle.papaya_resting.proofs.Done.{computes_as, computing_capacity, key_of_computing}
 use Rattle.papaya_resting.proofs.Keeps.{computing_holds_on}
 use Rattle.std.specs.Prelude.{[], Some}
-use Rattle.papaya_asks.specs.Given.Callers.Kind.{computes}
-use Rattle.papaya_asks.specs.Given.Callers.Pairs.{IsTold}
-use Rattle.papaya_asks.specs.Given.Owned.Calling.{HasStopped}
+use Rattle.papaya_asks.specs.Given.CallersKind.{computes}
+use Rattle.papaya_asks.specs.Given.CallersPairs.{IsTold}
+use Rattle.papaya_asks.specs.Given.OwnedCalling.{HasStopped}
 use Rattle.papaya_resting.specs.Refreshed.{OnceRefreshed}
 use Rattle.papaya_resting.proofs.Because.{computing_because}
 use Rattle.papaya_resting.proofs.computing.compute.Goals as goal

@@ -2,14 +2,14 @@
 use Rattle.std.specs.Prelude.{Some}
 use Rattle.std.proofs.Common.{◌∙◌, refl, subst, sym}
 use Rattle.papaya_tables.specs.declared.node.Node.TheVariants as node
-use Rattle.papaya_asks.specs.Given.Callers.Kind.{inserts}
-use Rattle.papaya_asks.specs.Given.Late.Faults.{IsRoom}
-use Rattle.papaya_asks.specs.Given.Owned.Owned.{hashed_by}
+use Rattle.papaya_asks.specs.Given.CallersKind.{inserts}
+use Rattle.papaya_asks.specs.Given.LateFaults.{IsRoom}
+use Rattle.papaya_asks.specs.Given.OwnedOwned.{hashed_by}
 use Rattle.papaya_resting.proofs.Removals.{room_of}
 use Rattle.papaya_resting.proofs.Stores.{stored_so, refused_so, back_so, inserts_this, same_pair}
 use Rattle.papaya_resting.proofs.Keeps.{insertion_holds_on, refused}
-use Rattle.papaya_asks.specs.Given.Callers.Pairs.{Begun}
-use Rattle.papaya_asks.specs.Given.Owned.Calling.{HasStopped}
+use Rattle.papaya_asks.specs.Given.CallersPairs.{Begun}
+use Rattle.papaya_asks.specs.Given.OwnedCalling.{HasStopped}
 use Rattle.papaya_resting.specs.Refreshed.{OnceRefreshed}
 use Rattle.papaya_resting.proofs.Because.{storing_because}
 use Rattle.papaya_resting.proofs.insertions.insert.Goals as goal

@@ -1,9 +1,9 @@
 -- It comes to its end, what it comes to, and what comes back.
 use Rattle.std.proofs.Common.{subst}
-use Rattle.papaya_asks.specs.Given.Owned.Owned.{ComesBack, hashed_by}
+use Rattle.papaya_asks.specs.Given.OwnedOwned.{ComesBack, hashed_by}
 use Rattle.std.specs.Prelude.{Some}
 use Rattle.papaya_tables.specs.declared.node.Node.TheVariants as node
-use Rattle.papaya_asks.specs.Given.Owned.Owned.{hashed_by}
+use Rattle.papaya_asks.specs.Given.OwnedOwned.{hashed_by}
 use Rattle.papaya_resting.proofs.Stores.{insertion_ends, insertion_by, insertion_back, insertion_ran}
 use Rattle.papaya_resting.proofs.insertions.store.Goals as goal
 

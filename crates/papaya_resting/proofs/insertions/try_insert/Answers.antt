@@ -2,15 +2,15 @@
 use Rattle.std.specs.Prelude.{Some}
 use Rattle.std.proofs.Common.{◌∙◌, refl, subst, sym}
 use Rattle.papaya_tables.specs.declared.node.Node.TheVariants as node
-use Rattle.papaya_asks.specs.Given.Callers.Kind.{tries_to_insert}
-use Rattle.papaya_asks.specs.Given.Late.Faults.{IsRoom}
-use Rattle.papaya_asks.specs.Given.Owned.Owned.{hashed_by}
+use Rattle.papaya_asks.specs.Given.CallersKind.{tries_to_insert}
+use Rattle.papaya_asks.specs.Given.LateFaults.{IsRoom}
+use Rattle.papaya_asks.specs.Given.OwnedOwned.{hashed_by}
 use Rattle.papaya_resting.proofs.Removals.{room_of}
 use Rattle.std.proofs.lemmas.Result.{on_ok_weaker, on_err_weaker}
 use Rattle.papaya_resting.proofs.Stores.{tried_so, back_found, refused_so, back_so, tries_this, same_pair, value_back}
 use Rattle.papaya_resting.proofs.Keeps.{refused, try_holds_on}
-use Rattle.papaya_asks.specs.Given.Callers.Pairs.{Begun}
-use Rattle.papaya_asks.specs.Given.Owned.Calling.{HasStopped}
+use Rattle.papaya_asks.specs.Given.CallersPairs.{Begun}
+use Rattle.papaya_asks.specs.Given.OwnedCalling.{HasStopped}
 use Rattle.papaya_resting.specs.Refreshed.{OnceRefreshed}
 use Rattle.papaya_resting.proofs.Because.{storing_because}
 use Rattle.papaya_resting.proofs.insertions.try_insert.Goals as goal

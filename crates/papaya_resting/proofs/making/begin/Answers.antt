@@ -1,5 +1,5 @@
 -- It comes to its end, and rests then, with the tables that it was made with.
-use Rattle.papaya_asks.proofs.Given.Owned.Owned.Lawful.{are_lawful}
+use Rattle.papaya_asks.proofs.Given.OwnedOwned.Lawful.{are_lawful}
 use Rattle.papaya_resting.proofs.Makes.{begins_ends, begins_holds, begins_refused, begins_shown}
 use Rattle.papaya_holds.proofs.Changes.{making_holds_none}
 use Rattle.papaya_resting.proofs.making.begin.Goals as goal

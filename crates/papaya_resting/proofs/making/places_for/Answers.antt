@@ -1,7 +1,7 @@
 -- Both lengths fit a table.
 use Rattle.std.proofs.Common.{arith}
 use Rattle.std.proofs.lemmas.Result.{err_from_is_err_and}
-use Rattle.papaya_asks.proofs.Given.Owned.Owned.Places.{first_table, no_table_yet}
+use Rattle.papaya_asks.proofs.Given.OwnedOwned.Places.{first_table, no_table_yet}
 use Rattle.papaya_resting.proofs.Makes.{few_told, many_told, no_table_for, one_table_for}
 use Rattle.papaya_resting.proofs.making.places_for.Goals as goal
 

@@ -1,5 +1,5 @@
 -- By what the reservation comes to, after the refresh.
-use Rattle.papaya_asks.specs.Given.Owned.Owned.{hashed_by}
+use Rattle.papaya_asks.specs.Given.OwnedOwned.{hashed_by}
 use Rattle.papaya_resting.proofs.Reservations.{room_holds, room_there, room_fault, room_capacity}
 use Rattle.papaya_holds.proofs.Changes.{room_holds_on}
 use Rattle.papaya_resting.proofs.rooms.reserve.Goals as goal

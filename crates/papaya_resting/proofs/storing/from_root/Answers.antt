@@ -2,7 +2,7 @@
 use Rattle.papaya_raw.specs.CallPoints.{untried}
 use Rattle.papaya_raw.specs.declared.machines.call.Calling.TheVariants as at
 use Rattle.papaya_straight.specs.Storing.{call_at, storing}
-use Rattle.papaya_asks.proofs.Given.Owned.Straight.{ends_there, may_run}
+use Rattle.papaya_asks.proofs.Given.OwnedStraight.{ends_there, may_run}
 use Rattle.papaya_resting.proofs.Straight.{answered, led_on}
 use Rattle.papaya_resting.proofs.storing.from_root.Goals as goal
 

@@ -1,8 +1,8 @@
 -- It runs as it stands.
 use Rattle.std.proofs.Common.{refl, sym, subst}
 use Rattle.papaya_raw.specs.declared.machines.call.KeyCall.{KeyCall}
-use Rattle.papaya_asks.specs.Given.Owned.Ending.{Ends}
-use Rattle.papaya_asks.specs.Given.Owned.Machines.{on_call, on_key_plan}
+use Rattle.papaya_asks.specs.Given.OwnedEnding.{Ends}
+use Rattle.papaya_asks.specs.Given.OwnedMachines.{on_call, on_key_plan}
 use Rattle.papaya_resting.specs.Storing.{StoresTo}
 use Rattle.papaya_resting.proofs.storing.go_on.Goals as goal
 

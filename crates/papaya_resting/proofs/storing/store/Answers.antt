@@ -2,8 +2,8 @@
 use Rattle.std.proofs.Common.{sym, subst}
 use Rattle.papaya_raw.specs.CallPoints.{untried}
 use Rattle.papaya_raw.specs.declared.machines.call.Calling.TheVariants as at
-use Rattle.papaya_asks.specs.Given.Owned.Ending.{Ends}
-use Rattle.papaya_asks.specs.Given.Owned.Machines.{on_key_plan}
+use Rattle.papaya_asks.specs.Given.OwnedEnding.{Ends}
+use Rattle.papaya_asks.specs.Given.OwnedMachines.{on_key_plan}
 use Rattle.papaya_resting.specs.Storing.{StoresTo, with_own}
 use Rattle.papaya_resting.proofs.Straight.{made_ends, made_on, not_made}
 use Rattle.papaya_resting.proofs.storing.store.Goals as goal

@@ -2,7 +2,7 @@
 use Rattle.papaya_holds.proofs.Changes.{sweep_holds_on}
 use Rattle.std.proofs.Common.{refl}
 use Rattle.papaya_raw.specs.Given.Sweeps.declared.sweep.Purpose.TheVariants.{Clears}
-use Rattle.papaya_asks.specs.Given.Owned.Owned.{hashed_by}
+use Rattle.papaya_asks.specs.Given.OwnedOwned.{hashed_by}
 use Rattle.papaya_resting.proofs.Steady.{sweep_steady}
 use Rattle.papaya_resting.proofs.sweeps.clear.Goals as goal
 

@@ -2,12 +2,12 @@
 use Rattle.std.specs.Prelude.{[], None}
 use Rattle.std.proofs.Common.{refl, inr}
 use Rattle.papaya_asks.specs.Closures.{Removing, TestsAs}
-use Rattle.papaya_asks.specs.Given.Owned.Owned.{hashed_by}
+use Rattle.papaya_asks.specs.Given.OwnedOwned.{hashed_by}
 use Rattle.papaya_resting.proofs.Done.{ends_as, end_capacity}
 use Rattle.papaya_resting.proofs.Keeps.{chosen_holds_on}
-use Rattle.papaya_asks.specs.Given.Callers.Kind.{removes_if}
-use Rattle.papaya_asks.specs.Given.Callers.Pairs.{IsTold}
-use Rattle.papaya_asks.specs.Given.Owned.Calling.{HasStopped}
+use Rattle.papaya_asks.specs.Given.CallersKind.{removes_if}
+use Rattle.papaya_asks.specs.Given.CallersPairs.{IsTold}
+use Rattle.papaya_asks.specs.Given.OwnedCalling.{HasStopped}
 use Rattle.papaya_resting.specs.Refreshed.{OnceRefreshed}
 use Rattle.papaya_asks.specs.Asking.{by_lent}
 use Rattle.papaya_resting.proofs.Because.{refused_because}

@@ -3,7 +3,7 @@ use Rattle.std.specs.Prelude.{◌≡◌, ◌++◌, ◌∷◌, List, [], map}
 use Rattle.std.proofs.Common.{rules, arith, ℕ, sym, ap, ◌∙◌, append_assoc}
 use Rattle.std.proofs.lemmas.List.{append-nil, map-append, nil_from_length}
 use Rattle.papaya_runs.specs.declared.record.Living.{Living}
-use Rattle.papaya_pieced.specs.Given.Named.declared.named_map.NamedMap.{NamedMap}
+use Rattle.papaya_pieced.specs.Given.NamedDeclared.named_map.NamedMap.{NamedMap}
 use Rattle.papaya_running.specs.Ending.{shown_of, told_map}
 use Rattle.papaya_running.proofs.ending.living.Goals as goal
 

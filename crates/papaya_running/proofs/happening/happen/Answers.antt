@@ -1,11 +1,11 @@
 -- An event is kept out, or happens by its kind.
 use Rattle.std.specs.Prelude.{IfOk}
 use Rattle.std.proofs.Common.{length, refl, sym, ap, subst, ◌∙◌}
-use Rattle.papaya_pieced.specs.Given.Events.Asked.{HappensAt, HoldsThen}
-use Rattle.papaya_pieced.specs.Given.Events.OfAll.{KeepsAll}
-use Rattle.papaya_pieced.specs.Given.Events.OfCalls.{KeepsAt}
-use Rattle.papaya_pieced.specs.Given.Events.OfRows.{KeepsRunAt}
-use Rattle.papaya_pieced.specs.Given.Events.OfSetups.{KeepsSetup}
+use Rattle.papaya_pieced.specs.Given.EventsAsked.{HappensAt, HoldsThen}
+use Rattle.papaya_pieced.specs.Given.EventsOfAll.{KeepsAll}
+use Rattle.papaya_pieced.specs.Given.EventsOfCalls.{KeepsAt}
+use Rattle.papaya_pieced.specs.Given.EventsOfRows.{KeepsRunAt}
+use Rattle.papaya_pieced.specs.Given.EventsOfSetups.{KeepsSetup}
 use Rattle.papaya_running.specs.Back.{GivesAt}
 use Rattle.papaya_running.specs.GoingOn.{GoesOnAt}
 use Rattle.papaya_running.specs.Kinds.{event_of, event_of_call, event_of_maps, event_of_slots}
@@ -14,13 +14,13 @@ use Rattle.papaya_running.proofs.Counts.{calls_make_none, counts_still, out_coun
 use Rattle.papaya_running.proofs.Gives.{calls_reclaim_none, gave_in_turn, gave_none_if, gave_out}
 use Rattle.papaya_running.proofs.Happened.{in_turn_if, stays_out}
 use Rattle.papaya_running.proofs.Held.{holds_if, holds_so}
-use Rattle.papaya_pieced.proofs.Given.Events.OfAll.{all_out, calls_give_none, none_keep, slots_give_none}
-use Rattle.papaya_pieced.proofs.Given.Events.OfCalls.Happens.{other_keeps, out_keeps, turn_keeps}
-use Rattle.papaya_pieced.proofs.Given.Events.OfRows.Kept.{calls_keep, kept_in_turn, kept_out}
-use Rattle.papaya_pieced.proofs.Given.Events.OfSetups.{calls_set_none, none_set, setup_out}
+use Rattle.papaya_pieced.proofs.Given.EventsOfAll.{all_out, calls_give_none, none_keep, slots_give_none}
+use Rattle.papaya_pieced.proofs.Given.EventsOfCalls.Happens.{other_keeps, out_keeps, turn_keeps}
+use Rattle.papaya_pieced.proofs.Given.EventsOfRows.Kept.{calls_keep, kept_in_turn, kept_out}
+use Rattle.papaya_pieced.proofs.Given.EventsOfSetups.{calls_set_none, none_set, setup_out}
 use Rattle.papaya_running.proofs.OfKinds.{a_call, maps_no_call, no_maps, slots_no_call}
 use Rattle.papaya_running.proofs.happening.happen.Goals as goal
-use Rattle.papaya_pieced.specs.Given.Executor.IsThere.{StaysGiven}
+use Rattle.papaya_pieced.specs.Given.ExecutorIsThere.{StaysGiven}
 
 pub returns-then-scheduler : goal.returns-then-scheduler
 returns-then-scheduler g c =

@@ -2,7 +2,7 @@
 use Rattle.std.proofs.Common.{ap, refl}
 use Rattle.std.proofs.lemmas.Result.{IfOk-weaker}
 use Rattle.papaya_running.proofs.Happened.{due_so, goes_if, may_play, next_if, still, still_if}
-use Rattle.papaya_pieced.proofs.Given.Events.OfCalls.Happens.{ask_if, begin_if, go_if, step_if, stop_keeps, told_keeps, whole_if}
+use Rattle.papaya_pieced.proofs.Given.EventsOfCalls.Happens.{ask_if, begin_if, go_if, step_if, stop_keeps, told_keeps, whole_if}
 use Rattle.papaya_running.specs.Kinds.{event_of_call}
 use Rattle.papaya_running.proofs.GoingOn.{begin_acts, go_acts, next_acts, reply_acts, step_acts, stop_acts, whole_acts}
 use Rattle.papaya_running.proofs.happening.of_calls.Goals as goal

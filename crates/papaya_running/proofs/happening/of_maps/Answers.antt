@@ -4,11 +4,11 @@ use Rattle.std.proofs.lemmas.Result.{IfOk-weaker}
 use Rattle.papaya_running.proofs.Counts.{counts_as, counts_still}
 use Rattle.papaya_running.proofs.Gives.{gave, gave_all, gave_none_if}
 use Rattle.papaya_running.proofs.Happened.{due_so, may_give, may_map, may_play, still_if}
-use Rattle.papaya_pieced.proofs.Given.Events.OfAll.{all_keep, others_none}
-use Rattle.papaya_pieced.proofs.Given.Events.OfEnds.{ends_keep}
-use Rattle.papaya_pieced.proofs.Given.Events.OfMakings.{makings_keep}
-use Rattle.papaya_pieced.proofs.Given.Events.OfRows.{others_keep_if}
-use Rattle.papaya_pieced.proofs.Given.Events.OfSetups.{others_set, setup_keeps_if}
+use Rattle.papaya_pieced.proofs.Given.EventsOfAll.{all_keep, others_none}
+use Rattle.papaya_pieced.proofs.Given.EventsOfEnds.{ends_keep}
+use Rattle.papaya_pieced.proofs.Given.EventsOfMakings.{makings_keep}
+use Rattle.papaya_pieced.proofs.Given.EventsOfRows.{others_keep_if}
+use Rattle.papaya_pieced.proofs.Given.EventsOfSetups.{others_set, setup_keeps_if}
 use Rattle.papaya_running.specs.Kinds.{event_of_maps}
 use Rattle.papaya_running.proofs.GoingOn.{close_acts, end_acts, make_acts, nothing_acts_if, reclaim_acts}
 use Rattle.papaya_running.proofs.happening.of_maps.Goals as goal

@@ -3,8 +3,8 @@ use Rattle.std.proofs.Common.{ap, refl}
 use Rattle.std.proofs.lemmas.Result.{IfOk-weaker}
 use Rattle.papaya_running.proofs.Gives.{gave, gave_none, gave_none_if}
 use Rattle.papaya_running.proofs.Happened.{due_so, may_play, still, still_if}
-use Rattle.papaya_pieced.proofs.Given.Events.OfRows.{others_keep, others_keep_if, rows_keep}
-use Rattle.papaya_pieced.proofs.Given.Events.OfSetups.{others_set, setup_keeps, setup_keeps_if}
+use Rattle.papaya_pieced.proofs.Given.EventsOfRows.{others_keep, others_keep_if, rows_keep}
+use Rattle.papaya_pieced.proofs.Given.EventsOfSetups.{others_set, setup_keeps, setup_keeps_if}
 use Rattle.papaya_running.specs.Kinds.{event_of_slots}
 use Rattle.papaya_running.proofs.GoingOn.{choice_acts, nothing_acts, row_acts}
 use Rattle.papaya_running.proofs.happening.of_slots.Goals as goal

@@ -6,8 +6,8 @@ use Rattle.std.proofs.lemmas.Result.{err_from_is_err_and}
 use Rattle.papaya_schedules.specs.declared.event.Event.{Event}
 use Rattle.papaya_schedules.specs.After.{AtEachEvent}
 use Rattle.papaya_schedules.specs.Runs.{IsRunOf, log_of}
-use Rattle.papaya_pieced.specs.Given.Scheduler.Played.{terms_given}
-use Rattle.papaya_pieced.specs.Given.Grouped.ByActs.{IsByActs}
+use Rattle.papaya_pieced.specs.Given.SchedulerPlayed.{terms_given}
+use Rattle.papaya_pieced.specs.Given.GroupedByActs.{IsByActs}
 use Rattle.papaya_running.specs.Run.{HandsOn, HasCome, HoldsBlocks, IsRightRun, bounded}
 use Rattle.papaya_running.specs.declared.running.Running.{Running}
 use Rattle.papaya_running.proofs.running.run_refusing.Goals as goal

@@ -1,7 +1,7 @@
 -- The events so far have happened, and the hasher is the one that was given.
 use Rattle.std.specs.Prelude.{◌≡◌, ◌++◌, ◌%◌, ◌^◌, List, fold}
 use Rattle.papaya_schedules.specs.declared.event.Event.{Event}
-use Rattle.papaya_pieced.specs.Given.Scheduler.Played.{terms_given}
+use Rattle.papaya_pieced.specs.Given.SchedulerPlayed.{terms_given}
 use Rattle.papaya_running.specs.Run.{HasCome, bounded}
 use Rattle.papaya_running.proofs.running.run_refusing.Given as goal
 

@@ -3,7 +3,7 @@ use Rattle.std.specs.Prelude.{◌-◌, ◌^◌, map}
 use Rattle.std.proofs.lemmas.List.{map-append}
 use Rattle.std.proofs.Common.{arith, ap, length, length-append, ◌≡◌, ◌+◌, ◌∙◌, ◌<◌, ◌++◌, ◌∷◌, [], List, sym}
 use Rattle.papaya_runs.specs.declared.outcome.TableShape.{TableShape}
-use Rattle.papaya_rows.proofs.Given.Shown.Chain.{walk_begins, walk_linked, walk_goes, walk_ends}
+use Rattle.papaya_rows.proofs.Given.ShownChain.{walk_begins, walk_linked, walk_goes, walk_ends}
 use Rattle.papaya_scheduler.specs.Shapes.{shape_of}
 use Rattle.papaya_scheduler.proofs.shapes.shapes.Goals as goal
 

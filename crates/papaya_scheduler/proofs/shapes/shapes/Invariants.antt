@@ -2,10 +2,10 @@
 use Rattle.std.specs.Prelude.{◌-◌, ◌^◌, ℕ, Bool, List, length, map}
 use Rattle.std.proofs.Common.{◌≡◌}
 use Rattle.papaya_runs.specs.Given.Tables.declared.table.Table.{Table}
-use Rattle.papaya_rows.specs.Given.Rule.Chart.{Chart}
-use Rattle.papaya_rows.specs.Given.Rule.Words.{Blocks}
-use Rattle.papaya_rows.specs.Given.Shown.Shown.{Stands}
-use Rattle.papaya_rows.proofs.Given.Shown.Chain.{Walked}
+use Rattle.papaya_rows.specs.Given.RuleChart.{Chart}
+use Rattle.papaya_rows.specs.Given.RuleWords.{Blocks}
+use Rattle.papaya_rows.specs.Given.ShownShown.{Stands}
+use Rattle.papaya_rows.proofs.Given.ShownChain.{Walked}
 use Rattle.papaya_scheduler.specs.Shapes.{shape_of}
 use Rattle.papaya_scheduler.proofs.shapes.shapes.Given as goal
 

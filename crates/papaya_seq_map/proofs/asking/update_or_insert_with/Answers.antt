@@ -2,9 +2,9 @@
 use Rattle.std.specs.Prelude.{Some}
 use Rattle.std.specs.Fn.{FnOnceReturns, FnOnceReturnsAt}
 use Rattle.std.proofs.Common.{◌∙◌}
-use Rattle.papaya_seq_shows.specs.Given.Asks.Closures.{UpdatingOrStoring}
+use Rattle.papaya_seq_shows.specs.Given.AsksClosures.{UpdatingOrStoring}
 use Rattle.seize_words.specs.declared.refused.RefusedKey.{RefusedKey}
-use Rattle.papaya_seq_shows.specs.Given.Resting.Given.{hashed_by}
+use Rattle.papaya_seq_shows.specs.Given.RestingGiven.{hashed_by}
 use Rattle.papaya_seq_shows.proofs.Done.{comes_rests, room_alone, shows_changed, shows_unchanged}
 use Rattle.papaya_seq_shows.proofs.Shows.{capacity_shown, counts, seen_first, seen_held, seen_keeps}
 use Rattle.papaya_seq_map.proofs.asking.update_or_insert_with.Goals as goal

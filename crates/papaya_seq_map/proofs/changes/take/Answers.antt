@@ -1,6 +1,6 @@
 -- By what the removal comes to in the order in which its pairs were stored.
 use Rattle.std.specs.Prelude.{[]}
-use Rattle.papaya_seq_shows.proofs.Given.Pairs.Orders.{left_same}
+use Rattle.papaya_seq_shows.proofs.Given.PairsOrders.{left_same}
 use Rattle.papaya_seq_shows.proofs.Kept.{either_rested, either_shown, holds_err, holds_ok}
 use Rattle.papaya_seq_shows.proofs.Shows.{one_shown, capacity_shown, counts, few_shown, seen_first, seen_held, seen_keeps, shows_done, shows_refused, told_same}
 use Rattle.papaya_tables.proofs.Classes.{one_class}

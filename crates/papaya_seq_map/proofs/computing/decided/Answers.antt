@@ -1,9 +1,9 @@
 -- By what the call comes to in the order in which its pairs were stored.
 use Rattle.std.specs.Prelude.{Some}
 use Rattle.std.proofs.Common.{◌∙◌, sym}
-use Rattle.papaya_seq_shows.specs.Given.Asks.Closures.{ComputesAs}
+use Rattle.papaya_seq_shows.specs.Given.AsksClosures.{ComputesAs}
 use Rattle.seize_words.specs.declared.refused.RefusedKey.{RefusedKey}
-use Rattle.papaya_seq_shows.specs.Given.Resting.Given.{hashed_by}
+use Rattle.papaya_seq_shows.specs.Given.RestingGiven.{hashed_by}
 use Rattle.papaya_seq_shows.proofs.Done.{computes_rests, shows_computed, shows_uncomputed, shows_why}
 use Rattle.papaya_seq_shows.proofs.Shows.{capacity_shown, counts, seen_first, seen_held, seen_keeps}
 use Rattle.papaya_seq_map.proofs.computing.decided.Goals as goal

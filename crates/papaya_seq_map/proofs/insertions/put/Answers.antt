@@ -3,7 +3,7 @@ use Rattle.seize_words.specs.declared.refused.Refused.{Refused}
 use Rattle.papaya_seq_shows.proofs.Kept.{either_rested, either_shown, holds_err, holds_ok, ok_taken}
 use Rattle.papaya_seq_shows.proofs.Shows.{capacity_shown, counts, seen_first, seen_found, seen_held, seen_keeps, shows_done, shows_refused, told_same}
 use Rattle.papaya_seq_map.proofs.insertions.put.Goals as goal
-use Rattle.papaya_seq_shows.proofs.Given.Pairs.Orders.{left_and}
+use Rattle.papaya_seq_shows.proofs.Given.PairsOrders.{left_and}
 
 pub insert-requires : goal.insert-requires
 insert-requires g c = c.map.invariant

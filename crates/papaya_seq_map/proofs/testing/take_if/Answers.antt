@@ -1,9 +1,9 @@
 -- By what the call comes to in the order in which its pairs were stored.
 use Rattle.std.specs.Prelude.{[], None}
 use Rattle.std.proofs.Common.{◌∙◌}
-use Rattle.papaya_seq_shows.specs.Given.Asks.Closures.{Removing, TestsAs}
+use Rattle.papaya_seq_shows.specs.Given.AsksClosures.{Removing, TestsAs}
 use Rattle.seize_words.specs.declared.fault.Fault.{Fault}
-use Rattle.papaya_seq_shows.specs.Given.Resting.Given.{hashed_by}
+use Rattle.papaya_seq_shows.specs.Given.RestingGiven.{hashed_by}
 use Rattle.papaya_seq_shows.proofs.Done.{comes_rests, room_alone, shows_changed, shows_unchanged}
 use Rattle.papaya_seq_shows.proofs.Shows.{one_shown, capacity_shown, counts, few_shown, seen_first, seen_held, seen_keeps}
 use Rattle.papaya_tables.proofs.Classes.{one_class}

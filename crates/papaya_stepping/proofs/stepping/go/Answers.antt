@@ -4,15 +4,15 @@ use Rattle.std.specs.List.{list_any}
 use Rattle.std.proofs.Common.{refl, sym, ap, subst, ◌∙◌, arith}
 use Rattle.std.proofs.lemmas.Result.{IfOk-weaker}
 use Rattle.papaya_runs.specs.Given.SeizeWords.declared.fault.Fault.TheVariants.{Busy}
-use Rattle.papaya_works.specs.Given.Schedules.After.{moment}
-use Rattle.papaya_works.specs.Given.Schedules.Handing.{is_made}
-use Rattle.papaya_works.specs.Given.Schedules.declared.event.Event.TheVariants.{Go}
-use Rattle.papaya_works.specs.Given.Schedules.declared.outcome.Outcome.TheVariants.{Refused}
-use Rattle.papaya_works.specs.Given.Named.Seen.{is_named}
+use Rattle.papaya_works.specs.Given.SchedulesAfter.{moment}
+use Rattle.papaya_works.specs.Given.SchedulesHanding.{is_made}
+use Rattle.papaya_works.specs.Given.SchedulesDeclared.event.Event.TheVariants.{Go}
+use Rattle.papaya_works.specs.Given.SchedulesDeclared.outcome.Outcome.TheVariants.{Refused}
+use Rattle.papaya_works.specs.Given.NamedSeen.{is_named}
 use Rattle.papaya_stepping.specs.Stepping.{PlaysOn}
 use Rattle.papaya_stepping.proofs.ByName.{none_there, some_there}
 use Rattle.papaya_stepping.proofs.PlaysAgain.{go_busy}
-use Rattle.papaya_works.proofs.Given.Scheduler.Rights.{entry_is}
+use Rattle.papaya_works.proofs.Given.SchedulerRights.{entry_is}
 use Rattle.papaya_stepping.proofs.TakenBy.{plays_gone}
 use Rattle.papaya_stepping.proofs.stepping.go.Goals as goal
 

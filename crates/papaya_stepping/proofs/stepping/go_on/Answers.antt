@@ -1,7 +1,7 @@
 -- A call takes steps while it goes on.
 use Rattle.std.proofs.Common.{◌+◌, suc, refl, sym, ap, subst, ◌∙◌, arith}
 use Rattle.std.proofs.lemmas.List.{append-nil}
-use Rattle.papaya_works.proofs.Given.Logged.KeptGiven.{given_on}
+use Rattle.papaya_works.proofs.Given.LoggedKeptGiven.{given_on}
 use Rattle.papaya_stepping.specs.Stepping.{IsStepped, MayStep}
 use Rattle.papaya_stepping.proofs.ComesOn.{midst_first}
 use Rattle.papaya_stepping.proofs.StepsOn.{goes_further, may_step, placed_on, stops_at, takes_all}

@@ -1,10 +1,10 @@
 -- The call goes on, after the steps that it has taken, and has made nothing where growths are to be refused.
 use Rattle.std.specs.Prelude.{◌≡◌, ◌+◌, ℕ}
-use Rattle.papaya_works.specs.Given.Logged.Calling.{MakesNoMore}
+use Rattle.papaya_works.specs.Given.LoggedCalling.{MakesNoMore}
 use Rattle.papaya_stepping.specs.Stepping.{GoneFor, IsPlaced}
 use Rattle.papaya_stepping.proofs.StepsOn.{Goes}
 use Rattle.papaya_stepping.proofs.stepping.go_on.Given as goal
-use Rattle.papaya_works.specs.Given.Executor.IsThere.{KeepsGiven}
+use Rattle.papaya_works.specs.Given.ExecutorIsThere.{KeepsGiven}
 
 abbrev pub invariant-loop-steps : goal.invariant-loop-steps
 invariant-loop-steps g l =

@@ -3,16 +3,16 @@ use Rattle.std.proofs.Common.{rules, ◌≡◌, Bool, true, false, refl, sym, su
 use Rattle.std.proofs.lemmas.Result.{IfOk-weaker}
 use Rattle.papaya_runs.specs.Given.SeizeWords.declared.fault.Fault.TheVariants.{Busy}
 use Rattle.papaya_runs.specs.Stopped.{most_steps}
-use Rattle.papaya_works.specs.Given.Schedules.After.{moment}
-use Rattle.papaya_works.specs.Given.Schedules.Entry.{nameless}
-use Rattle.papaya_works.specs.Given.Schedules.Views.{number_of}
-use Rattle.papaya_works.specs.Given.Schedules.declared.event.Event.TheVariants.{OneCall}
-use Rattle.papaya_works.specs.Given.Schedules.declared.outcome.Outcome.TheVariants.{Refused}
-use Rattle.papaya_works.proofs.Given.Logged.KeptGiven.{given_on}
-use Rattle.papaya_works.specs.Given.Scheduler.Played.{BeginsSo}
+use Rattle.papaya_works.specs.Given.SchedulesAfter.{moment}
+use Rattle.papaya_works.specs.Given.SchedulesEntry.{nameless}
+use Rattle.papaya_works.specs.Given.SchedulesViews.{number_of}
+use Rattle.papaya_works.specs.Given.SchedulesDeclared.event.Event.TheVariants.{OneCall}
+use Rattle.papaya_works.specs.Given.SchedulesDeclared.outcome.Outcome.TheVariants.{Refused}
+use Rattle.papaya_works.proofs.Given.LoggedKeptGiven.{given_on}
+use Rattle.papaya_works.specs.Given.SchedulerPlayed.{BeginsSo}
 use Rattle.papaya_stepping.specs.Stepping.{IsPlaced, MayTake, PlaysOn, TakenAs}
 use Rattle.papaya_stepping.proofs.PlaysWhole.{goes_first, map_there, plays_begun, whole_busy}
-use Rattle.papaya_works.proofs.Given.Scheduler.Rights.{entry_is}
+use Rattle.papaya_works.proofs.Given.SchedulerRights.{entry_is}
 use Rattle.papaya_stepping.proofs.stepping.one_call.Goals as goal
 
 pub begins-requires : goal.begins-requires

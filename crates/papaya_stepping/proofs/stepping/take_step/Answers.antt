@@ -1,12 +1,12 @@
 -- A call takes one step.
 use Rattle.std.proofs.Common.{◌≡◌, sym, ap, subst}
-use Rattle.papaya_works.specs.Given.Effects.Known.{known}
-use Rattle.papaya_works.specs.Given.Logged.Calling.{CallGoesOn, CallSteps}
-use Rattle.papaya_works.proofs.Given.Scheduler.KeptGiven.{given_as}
+use Rattle.papaya_works.specs.Given.EffectsKnown.{known}
+use Rattle.papaya_works.specs.Given.LoggedCalling.{CallGoesOn, CallSteps}
+use Rattle.papaya_works.proofs.Given.SchedulerKeptGiven.{given_as}
 use Rattle.papaya_stepping.specs.Stepping.{callers_then, outcome_of}
 use Rattle.papaya_stepping.proofs.ByName.{caller_here}
 use Rattle.papaya_stepping.proofs.stepping.take_step.Goals as goal
-use Rattle.papaya_works.specs.Given.Scenes.Scene.{HasCall}
+use Rattle.papaya_works.specs.Given.ScenesScene.{HasCall}
 
 pub way_of-number-requires : goal.way_of-number-requires
 way_of-number-requires g c = (c.requires.0, c.requires.1, c.requires.2)

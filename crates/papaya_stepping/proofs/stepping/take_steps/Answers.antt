@@ -1,9 +1,9 @@
 -- A call takes steps, or says again that it asks, or is ready.
 use Rattle.std.specs.List.{list_any}
 use Rattle.std.proofs.Common.{refl, sym, ap, subst, ◌∙◌}
-use Rattle.papaya_works.specs.Given.Schedules.Handing.{is_made}
+use Rattle.papaya_works.specs.Given.SchedulesHanding.{is_made}
 use Rattle.papaya_stepping.specs.Stepping.{StepsCome, TakenBy}
-use Rattle.papaya_works.proofs.Given.Scheduler.Here.{here_at}
+use Rattle.papaya_works.proofs.Given.SchedulerHere.{here_at}
 use Rattle.papaya_stepping.proofs.stepping.take_steps.Goals as goal
 
 pub far_of-requires : goal.far_of-requires

@@ -2,20 +2,20 @@
 use Rattle.std.specs.Prelude.{is_some}
 use Rattle.std.proofs.Common.{[], refl, sym, ap, subst, ◌∙◌}
 use Rattle.papaya_runs.specs.Given.SeizeWords.declared.fault.Fault.TheVariants.{Busy}
-use Rattle.papaya_works.specs.Given.Schedules.After.{moment}
-use Rattle.papaya_works.specs.Given.Schedules.declared.event.Event.TheVariants.{Next}
-use Rattle.papaya_works.specs.Given.Schedules.declared.outcome.Outcome.TheVariants.{Refused}
-use Rattle.papaya_works.proofs.Given.Logged.KeptGiven.{given_on}
-use Rattle.papaya_works.proofs.Given.Scheduler.KeptGiven.{given_as}
-use Rattle.papaya_works.specs.Given.Logged.Calling.{WalkGoesOn}
+use Rattle.papaya_works.specs.Given.SchedulesAfter.{moment}
+use Rattle.papaya_works.specs.Given.SchedulesDeclared.event.Event.TheVariants.{Next}
+use Rattle.papaya_works.specs.Given.SchedulesDeclared.outcome.Outcome.TheVariants.{Refused}
+use Rattle.papaya_works.proofs.Given.LoggedKeptGiven.{given_on}
+use Rattle.papaya_works.proofs.Given.SchedulerKeptGiven.{given_as}
+use Rattle.papaya_works.specs.Given.LoggedCalling.{WalkGoesOn}
 use Rattle.papaya_stepping.specs.Stepping.{MayWalk, PlaysNext, WalkComes}
 use Rattle.papaya_stepping.proofs.ByName.{none_told}
 use Rattle.papaya_stepping.proofs.NextEnds.{asked_here, next_asked, next_busy, next_may, next_ready, placed_there, plays_next, there}
 use Rattle.papaya_stepping.proofs.NextTook.{took_next}
 use Rattle.papaya_stepping.proofs.StepSays.{the}
-use Rattle.papaya_works.proofs.Given.Scheduler.Rights.{entry, entry_is}
+use Rattle.papaya_works.proofs.Given.SchedulerRights.{entry, entry_is}
 use Rattle.papaya_stepping.proofs.walking.next.Goals as goal
-use Rattle.papaya_works.specs.Given.Scenes.Scene.{HasCall}
+use Rattle.papaya_works.specs.Given.ScenesScene.{HasCall}
 
 pub returns-in_default : goal.returns-in_default
 returns-in_default g c = record {

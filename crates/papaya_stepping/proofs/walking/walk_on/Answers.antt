@@ -2,15 +2,15 @@
 use Rattle.std.specs.Prelude.{suc, slice_get}
 use Rattle.std.proofs.Common.{◌+◌, refl, sym, ap, subst, ◌∙◌, arith}
 use Rattle.std.proofs.lemmas.List.{append-nil}
-use Rattle.papaya_works.proofs.Given.Logged.KeptGiven.{given_on}
-use Rattle.papaya_works.specs.Given.Logged.Calling.{CallGoesOn, CallSteps}
-use Rattle.papaya_works.specs.Given.Logged.Shown.{IsShown}
+use Rattle.papaya_works.proofs.Given.LoggedKeptGiven.{given_on}
+use Rattle.papaya_works.specs.Given.LoggedCalling.{CallGoesOn, CallSteps}
+use Rattle.papaya_works.specs.Given.LoggedShown.{IsShown}
 use Rattle.papaya_stepping.specs.Stepping.{ReadyAt}
 use Rattle.papaya_stepping.proofs.NextOn.{logged_on, may_walk, mid_few, mid_first, mid_next}
 use Rattle.papaya_stepping.proofs.StepSays.{the}
 use Rattle.papaya_stepping.proofs.walking.walk_on.Goals as goal
-use Rattle.papaya_works.specs.Given.Executor.IsThere.{IsThere}
-use Rattle.papaya_works.specs.Given.Scenes.Scene.{HasCall}
+use Rattle.papaya_works.specs.Given.ExecutorIsThere.{IsThere}
+use Rattle.papaya_works.specs.Given.ScenesScene.{HasCall}
 
 pub way_of-number-requires : goal.way_of-number-requires
 way_of-number-requires g c = let r = c.requires in (r.2, r.4.1, (r.4.0, r.4.2))

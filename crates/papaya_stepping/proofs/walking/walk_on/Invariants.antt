@@ -1,11 +1,11 @@
 -- The walk goes over places, as many at least as it has taken steps, each of which just went on.
 use Rattle.std.specs.Prelude.{◌≡◌, ◌+◌, ℕ, List}
-use Rattle.papaya_works.specs.Given.Schedules.Moment.{Moment}
-use Rattle.papaya_works.specs.Given.Schedules.Terms.{Terms}
-use Rattle.papaya_works.specs.Given.Scheduler.Played.{StandsAs}
+use Rattle.papaya_works.specs.Given.SchedulesMoment.{Moment}
+use Rattle.papaya_works.specs.Given.SchedulesTerms.{Terms}
+use Rattle.papaya_works.specs.Given.SchedulerPlayed.{StandsAs}
 use Rattle.papaya_stepping.specs.Stepping.{IsMidWalk, IsPlaced, ReadyAt, WalkedFor, WalksFar}
 use Rattle.papaya_stepping.proofs.walking.walk_on.Given as goal
-use Rattle.papaya_works.specs.Given.Executor.IsThere.{KeepsGiven}
+use Rattle.papaya_works.specs.Given.ExecutorIsThere.{KeepsGiven}
 
 abbrev pub invariant-loop-steps : goal.invariant-loop-steps
 invariant-loop-steps g l =

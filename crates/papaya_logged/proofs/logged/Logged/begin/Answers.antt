@@ -3,7 +3,7 @@ use Rattle.std.proofs.Common.{refl, sym, subst, ℕ}
 use Rattle.papaya_logged.specs.Calling.{CallBegins}
 use Rattle.papaya_logged.proofs.Begins.{call_begins}
 use Rattle.papaya_logged.proofs.logged.Logged.begin.Goals as goal
-use Rattle.papaya_reclaiming.specs.Given.Executor.Beginning.{BeginsThere}
+use Rattle.papaya_reclaiming.specs.Given.ExecutorBeginning.{BeginsThere}
 
 pub returns-clause-leads : goal.returns-clause-leads
 returns-clause-leads g c = λ same hash name m s shown.

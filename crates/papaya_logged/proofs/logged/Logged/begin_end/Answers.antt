@@ -3,7 +3,7 @@ use Rattle.std.specs.Prelude.{None}
 use Rattle.std.proofs.Common.{◌≡◌, ℕ, refl, subst, sym}
 use Rattle.papaya_logged.proofs.EndSteps.{end_is_begun}
 use Rattle.papaya_logged.proofs.logged.Logged.begin_end.Goals as goal
-use Rattle.papaya_reclaiming.proofs.Given.Executor.Fresh.{no_ending_yet}
+use Rattle.papaya_reclaiming.proofs.Given.ExecutorFresh.{no_ending_yet}
 
 pub returns-clause-leads : goal.returns-clause-leads
 returns-clause-leads g c = λ same hash name m s shown.

@@ -3,7 +3,7 @@ use Rattle.std.specs.Prelude.{◌≡◌, ℕ, None}
 use Rattle.std.proofs.Common.{refl, sym, subst}
 use Rattle.papaya_logged.proofs.MakingSteps.{making_is_begun, map_is_there}
 use Rattle.papaya_logged.proofs.logged.Logged.begin_making.Goals as goal
-use Rattle.papaya_reclaiming.proofs.Given.Executor.Fresh.{no_making_yet}
+use Rattle.papaya_reclaiming.proofs.Given.ExecutorFresh.{no_making_yet}
 
 pub returns-clause-leads : goal.returns-clause-leads
 returns-clause-leads g c = λ same hash name m s shown.

@@ -5,7 +5,7 @@ use Rattle.papaya_logged.specs.Ends.{EndRan}
 use Rattle.papaya_logged.specs.Goes.{EndOn, GoesTo, far}
 use Rattle.papaya_logged.proofs.EndsRun.{end_left_of}
 use Rattle.papaya_logged.proofs.logged.Logged.run_end.Given as goal
-use Rattle.papaya_reclaiming.specs.Given.Executor.IsThere.{KeepsGiven, work_of}
+use Rattle.papaya_reclaiming.specs.Given.ExecutorIsThere.{KeepsGiven, work_of}
 
 -- the end goes on by the steps that ran, what it did stands in the list, what that reclaims has come back, and what the executor was given stays
 abbrev pub invariant-loop-self : goal.invariant-loop-self

@@ -6,7 +6,7 @@ use Rattle.papaya_logged.specs.Makings.{MakingRan}
 use Rattle.papaya_logged.proofs.MakingsRun.{making_left_of}
 use Rattle.papaya_logged.proofs.RootsFound.{MakingFindsSoFar}
 use Rattle.papaya_logged.proofs.logged.Logged.run_making.Given as goal
-use Rattle.papaya_reclaiming.specs.Given.Executor.IsThere.{KeepsGiven, work_of}
+use Rattle.papaya_reclaiming.specs.Given.ExecutorIsThere.{KeepsGiven, work_of}
 
 -- the making goes on by the steps that ran, what it did stands in the list, there are as many numbers, and what the executor was given stays
 abbrev pub invariant-loop-told : goal.invariant-loop-told

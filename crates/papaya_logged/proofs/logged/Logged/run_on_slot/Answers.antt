@@ -1,6 +1,6 @@
 -- Each step may be taken, leads on, and leaves less to go, until the row has come so far.
 use Rattle.std.proofs.Common.{◌++◌, refl, suc, sym, ap, ◌∙◌}
-use Rattle.papaya_remains.specs.Given.Effects.Known.{known}
+use Rattle.papaya_remains.specs.Given.EffectsKnown.{known}
 use Rattle.papaya_logged.specs.Back.{row_back}
 use Rattle.papaya_logged.specs.Goes.{RowGoes, far}
 use Rattle.papaya_logged.proofs.BroughtBack.{brings_none, brings_row, row_comes}

@@ -1,14 +1,14 @@
 -- What a run keeps from step to step, and what each step lowers.
 use Rattle.std.specs.Prelude.{◌≡◌, ℕ, Some}
-use Rattle.papaya_reclaiming.specs.Given.Scenes.declared.row.SlotRow.{SlotRow}
-use Rattle.papaya_reclaiming.specs.Given.Executor.declared.worker.Work.TheVariants.{OnSlot}
+use Rattle.papaya_reclaiming.specs.Given.ScenesDeclared.row.SlotRow.{SlotRow}
+use Rattle.papaya_reclaiming.specs.Given.ExecutorDeclared.worker.Work.TheVariants.{OnSlot}
 use Rattle.papaya_logged.specs.Back.{BringsBack}
 use Rattle.papaya_logged.specs.Goes.{GoesTo, RowGoes, far}
 use Rattle.papaya_logged.specs.OnSlots.{GoesOnFor, OnSlotRan}
 use Rattle.papaya_logged.proofs.RowsFall.{steps_left_of}
 use Rattle.papaya_logged.proofs.Runs.{EndsAs}
 use Rattle.papaya_logged.proofs.logged.Logged.run_on_slot.Given as goal
-use Rattle.papaya_reclaiming.specs.Given.Executor.IsThere.{KeepsGiven, work_of}
+use Rattle.papaya_reclaiming.specs.Given.ExecutorIsThere.{KeepsGiven, work_of}
 
 -- the row is under way by the steps that ran, what it did stands in the list, what that reclaims has come back, and what the executor was given stays
 abbrev pub invariant-loop-self : goal.invariant-loop-self

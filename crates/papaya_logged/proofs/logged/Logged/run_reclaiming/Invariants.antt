@@ -3,7 +3,7 @@ use Rattle.papaya_logged.specs.Goes.{GoesTo, ReclaimingOn, far}
 use Rattle.papaya_logged.specs.Reclaims.{ReclaimingSoFar}
 use Rattle.papaya_logged.proofs.ReclaimBack.{BroughtSoFar}
 use Rattle.papaya_logged.proofs.logged.Logged.run_reclaiming.Given as goal
-use Rattle.papaya_reclaiming.specs.Given.Executor.IsThere.{KeepsGiven}
+use Rattle.papaya_reclaiming.specs.Given.ExecutorIsThere.{KeepsGiven}
 
 -- it goes on by the steps that ran, what it did stands in the list, what that reclaims has come back, and what the executor was given stays
 abbrev pub invariant-loop-left : goal.invariant-loop-left

@@ -1,13 +1,13 @@
 -- A step of a call.
 use Rattle.std.proofs.Common.{◌++◌, ap, subst, sym, ◌∙◌}
-use Rattle.papaya_remains.specs.Given.Effects.Effects.{effects_of, known_after}
-use Rattle.papaya_remains.specs.Given.Effects.Known.{known}
-use Rattle.papaya_remains.specs.Given.Effects.declared.acting.Acting.TheVariants as acts
+use Rattle.papaya_remains.specs.Given.EffectsEffects.{effects_of, known_after}
+use Rattle.papaya_remains.specs.Given.EffectsKnown.{known}
+use Rattle.papaya_remains.specs.Given.EffectsDeclared.acting.Acting.TheVariants as acts
 use Rattle.papaya_logged.proofs.KeptGiven.{given_noted}
 use Rattle.papaya_logged.proofs.Steps.{goes_on, makes_no_more}
 use Rattle.papaya_logged.proofs.logged.Logged.step.Goals as goal
-use Rattle.papaya_reclaiming.specs.Given.Executor.Stepping.{StepsThere}
-use Rattle.papaya_reclaiming.specs.Given.Executor.declared.executor.Executor.{Executor}
+use Rattle.papaya_reclaiming.specs.Given.ExecutorStepping.{StepsThere}
+use Rattle.papaya_reclaiming.specs.Given.ExecutorDeclared.executor.Executor.{Executor}
 
 pub returns-clause-leads : goal.returns-clause-leads
 returns-clause-leads g c = λ name m s shown. goes_on _ _ c.args.self.now c.note.new.self c.step-progress.new.self c.args.caller c.args.map c.step-progress.result c.args.effects.now.items c.note.new.effects.items c.step-progress.ensures.leads c.in_ok-note.ensures.did c.in_ok-note.ensures.known c.note.ensures.executor c.step-progress.ensures.given name m s shown

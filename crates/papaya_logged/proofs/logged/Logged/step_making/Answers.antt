@@ -1,13 +1,13 @@
 -- A step of the making of a map.
 use Rattle.std.proofs.Common.{◌++◌, length, ap, sym, subst, ◌∙◌}
-use Rattle.papaya_remains.specs.Given.Effects.Effects.{effects_of, known_after}
-use Rattle.papaya_remains.specs.Given.Effects.Known.{known}
-use Rattle.papaya_remains.specs.Given.Effects.declared.acting.Acting.TheVariants.{Making}
-use Rattle.papaya_reclaiming.specs.Given.Executor.declared.executor.Executor.{Executor}
+use Rattle.papaya_remains.specs.Given.EffectsEffects.{effects_of, known_after}
+use Rattle.papaya_remains.specs.Given.EffectsKnown.{known}
+use Rattle.papaya_remains.specs.Given.EffectsDeclared.acting.Acting.TheVariants.{Making}
+use Rattle.papaya_reclaiming.specs.Given.ExecutorDeclared.executor.Executor.{Executor}
 use Rattle.papaya_logged.proofs.KeptGiven.{given_noted}
 use Rattle.papaya_logged.proofs.MakingSteps.{making_steps}
 use Rattle.papaya_logged.proofs.logged.Logged.step_making.Goals as goal
-use Rattle.papaya_reclaiming.specs.Given.Executor.Making.{MakesThere}
+use Rattle.papaya_reclaiming.specs.Given.ExecutorMaking.{MakesThere}
 
 pub returns-clause-leads : goal.returns-clause-leads
 returns-clause-leads g c =

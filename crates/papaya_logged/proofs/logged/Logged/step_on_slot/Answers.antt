@@ -1,13 +1,13 @@
 -- A step of a row on a slot.
 use Rattle.std.proofs.Common.{◌++◌, sym, ap, subst, ◌∙◌}
-use Rattle.papaya_remains.specs.Given.Effects.Effects.{effects_of, known_after}
-use Rattle.papaya_remains.specs.Given.Effects.Known.{known}
-use Rattle.papaya_remains.specs.Given.Effects.declared.acting.Acting.TheVariants.{Row}
-use Rattle.papaya_reclaiming.specs.Given.Executor.declared.executor.Executor.{Executor}
+use Rattle.papaya_remains.specs.Given.EffectsEffects.{effects_of, known_after}
+use Rattle.papaya_remains.specs.Given.EffectsKnown.{known}
+use Rattle.papaya_remains.specs.Given.EffectsDeclared.acting.Acting.TheVariants.{Row}
+use Rattle.papaya_reclaiming.specs.Given.ExecutorDeclared.executor.Executor.{Executor}
 use Rattle.papaya_logged.proofs.KeptGiven.{given_noted}
 use Rattle.papaya_logged.proofs.OnSlots.{on_slot_steps}
 use Rattle.papaya_logged.proofs.logged.Logged.step_on_slot.Goals as goal
-use Rattle.papaya_reclaiming.specs.Given.Executor.OnSlots.{RowStepsThere}
+use Rattle.papaya_reclaiming.specs.Given.ExecutorOnSlots.{RowStepsThere}
 
 pub returns-clause-leads : goal.returns-clause-leads
 returns-clause-leads g c =

@@ -1,9 +1,9 @@
 -- A step by which all is reclaimed.
 use Rattle.std.proofs.Common.{◌++◌, ap, subst, sym, ◌∙◌}
-use Rattle.papaya_remains.specs.Given.Effects.Effects.{effects_of, known_after}
-use Rattle.papaya_remains.specs.Given.Effects.Known.{known}
-use Rattle.papaya_remains.specs.Given.Effects.declared.acting.Acting.TheVariants.{Row}
-use Rattle.papaya_reclaiming.specs.Given.Executor.declared.executor.Executor.{Executor}
+use Rattle.papaya_remains.specs.Given.EffectsEffects.{effects_of, known_after}
+use Rattle.papaya_remains.specs.Given.EffectsKnown.{known}
+use Rattle.papaya_remains.specs.Given.EffectsDeclared.acting.Acting.TheVariants.{Row}
+use Rattle.papaya_reclaiming.specs.Given.ExecutorDeclared.executor.Executor.{Executor}
 use Rattle.papaya_reclaiming.specs.Reclaiming.{ReclaimsThere}
 use Rattle.papaya_logged.proofs.KeptGiven.{given_noted}
 use Rattle.papaya_logged.proofs.ReclaimsOn.{reclaiming_steps}

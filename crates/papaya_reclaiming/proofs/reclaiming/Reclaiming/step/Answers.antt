@@ -1,5 +1,5 @@
 -- A step of it.
-use Rattle.papaya_executor.proofs.Given.Scenes.May.{may_reclaim}
+use Rattle.papaya_executor.proofs.Given.ScenesMay.{may_reclaim}
 use Rattle.papaya_reclaiming.proofs.Reclaims.{leads, given_then}
 use Rattle.papaya_reclaiming.proofs.reclaiming.Reclaiming.step.Goals as goal
 

@@ -2,9 +2,9 @@
 use Rattle.std.specs.Prelude.{true, false}
 use Rattle.std.proofs.Common.{[], Bool, subst}
 use Rattle.seize_words.specs.declared.fault.Fault.TheVariants.{Busy}
-use Rattle.papaya_rows.specs.Given.Schedules.After.{moment}
-use Rattle.papaya_rows.specs.Given.Schedules.declared.event.Event.TheVariants.{Begin}
-use Rattle.papaya_rows.specs.Given.Schedules.declared.outcome.Outcome.TheVariants.{Goes, Refused}
+use Rattle.papaya_rows.specs.Given.SchedulesAfter.{moment}
+use Rattle.papaya_rows.specs.Given.SchedulesDeclared.event.Event.TheVariants.{Begin}
+use Rattle.papaya_rows.specs.Given.SchedulesDeclared.outcome.Outcome.TheVariants.{Goes, Refused}
 use Rattle.papaya_scheduler.proofs.Busy.{none_quiet}
 use Rattle.papaya_scheduler.specs.Played.{BeginsSo}
 use Rattle.papaya_scheduler.proofs.Begun.{begins_call, begins_none}

@@ -1,7 +1,7 @@
 -- A choice of a block number comes.
 use Rattle.std.proofs.Common.{[]}
-use Rattle.papaya_rows.specs.Given.Schedules.declared.event.Event.TheVariants.{Choose}
-use Rattle.papaya_rows.specs.Given.Schedules.declared.outcome.Outcome.TheVariants.{Done}
+use Rattle.papaya_rows.specs.Given.SchedulesDeclared.event.Event.TheVariants.{Choose}
+use Rattle.papaya_rows.specs.Given.SchedulesDeclared.outcome.Outcome.TheVariants.{Done}
 use Rattle.papaya_scheduler.proofs.Busy.{none_quiet}
 use Rattle.papaya_scheduler.proofs.Chosen.{choice_plays, has_chosen}
 use Rattle.papaya_scheduler.proofs.Rights.{so_played}

@@ -1,6 +1,6 @@
 -- The collector's setup is the first event alone.
 use Rattle.std.proofs.Common.{[], refl}
-use Rattle.papaya_rows.specs.Given.Schedules.declared.event.Event.TheVariants.{Collector}
+use Rattle.papaya_rows.specs.Given.SchedulesDeclared.event.Event.TheVariants.{Collector}
 use Rattle.papaya_scheduler.proofs.Busy.{none_quiet}
 use Rattle.papaya_scheduler.proofs.Rights.{so_played}
 use Rattle.papaya_scheduler.proofs.Simple.{collector_plays}

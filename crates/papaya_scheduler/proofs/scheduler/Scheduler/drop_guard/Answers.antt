@@ -1,9 +1,9 @@
 -- A guard ends.
 use Rattle.std.proofs.Common.{[], refl, sym, ap, subst, ◌∙◌}
 use Rattle.seize_words.specs.declared.fault.Fault.TheVariants.{Busy}
-use Rattle.papaya_rows.specs.Given.Schedules.declared.event.Event.TheVariants.{DropGuard}
-use Rattle.papaya_rows.specs.Given.Schedules.declared.outcome.Outcome.TheVariants.{Done, Refused}
-use Rattle.papaya_rows.specs.Given.Scenes.declared.row.SlotCall.{SlotCall}
+use Rattle.papaya_rows.specs.Given.SchedulesDeclared.event.Event.TheVariants.{DropGuard}
+use Rattle.papaya_rows.specs.Given.SchedulesDeclared.outcome.Outcome.TheVariants.{Done, Refused}
+use Rattle.papaya_rows.specs.Given.ScenesDeclared.row.SlotCall.{SlotCall}
 use Rattle.papaya_scheduler.proofs.Busy.{none_quiet}
 use Rattle.papaya_scheduler.proofs.Backs.{came_as, none_came, stayed_as}
 use Rattle.papaya_scheduler.proofs.Drops.{not_free, may_leave, its_fits, joined, joined_alone}
@@ -12,7 +12,7 @@ use Rattle.papaya_scheduler.proofs.Rights.{so_played}
 use Rattle.papaya_scheduler.proofs.Works.{did_none, did_refuse, did_row}
 use Rattle.papaya_scheduler.proofs.scheduler.Scheduler.drop_guard.Goals as goal
 use Rattle.papaya_scheduler.proofs.scheduler.Scheduler.drop_guard.Goals.{then-guards_on-eq1+in_ok-do_row, else-guards_on-eq1}
-use Rattle.papaya_rows.specs.Given.Executor.OnSlots.{MayBegin}
+use Rattle.papaya_rows.specs.Given.ExecutorOnSlots.{MayBegin}
 
 pub returns-in_default-clause-plays : goal.returns-in_default-clause-plays
 returns-in_default-clause-plays g c =

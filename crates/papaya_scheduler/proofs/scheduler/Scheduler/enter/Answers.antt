@@ -2,14 +2,14 @@
 use Rattle.std.proofs.Common.{[], refl, sym, ap, ◌∙◌, arith}
 use Rattle.std.proofs.lemmas.Bool.{lt-ltb}
 use Rattle.seize_words.specs.declared.fault.Fault.TheVariants.{Busy, GuardsFull}
-use Rattle.papaya_rows.specs.Given.Schedules.declared.event.Event.TheVariants.{Enter}
-use Rattle.papaya_rows.specs.Given.Schedules.declared.outcome.Outcome.TheVariants.{Done, Refused}
+use Rattle.papaya_rows.specs.Given.SchedulesDeclared.event.Event.TheVariants.{Enter}
+use Rattle.papaya_rows.specs.Given.SchedulesDeclared.outcome.Outcome.TheVariants.{Done, Refused}
 use Rattle.papaya_scheduler.proofs.Busy.{none_quiet}
 use Rattle.papaya_scheduler.proofs.Backs.{came_as, none_came, stayed_as}
 use Rattle.papaya_scheduler.proofs.Enters.{guard_there, no_registration, full, may_enter, fits, joined, joined_first}
 use Rattle.papaya_scheduler.proofs.KeptGiven.{given_as, given_still}
 use Rattle.papaya_scheduler.proofs.Rights.{so_played}
-use Rattle.papaya_rows.specs.Given.Scenes.declared.row.SlotCall.TheVariants as call
+use Rattle.papaya_rows.specs.Given.ScenesDeclared.row.SlotCall.TheVariants as call
 use Rattle.papaya_scheduler.proofs.Works.{did_none, did_refuse, did_row}
 use Rattle.papaya_scheduler.proofs.scheduler.Scheduler.enter.Goals.{then-guards-eq0+in_ok-do_row, else-guards-eq0}
 use Rattle.papaya_scheduler.proofs.scheduler.Scheduler.enter.Goals as goal

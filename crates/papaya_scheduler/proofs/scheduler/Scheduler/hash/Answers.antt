@@ -1,6 +1,6 @@
 -- How keys get their hashes is said before a map is made.
 use Rattle.std.proofs.Common.{[], refl}
-use Rattle.papaya_rows.specs.Given.Schedules.declared.event.Event.TheVariants.{Hash}
+use Rattle.papaya_rows.specs.Given.SchedulesDeclared.event.Event.TheVariants.{Hash}
 use Rattle.papaya_scheduler.proofs.Busy.{none_quiet}
 use Rattle.papaya_scheduler.proofs.Rights.{so_played}
 use Rattle.papaya_scheduler.proofs.Simple.{hash_plays}

@@ -3,7 +3,7 @@ use Rattle.std.proofs.Common.{◌≡◌, ℕ, refl, sym, ap, ◌∙◌}
 use Rattle.std.specs.Prelude.{◌==◌}
 use Rattle.seize.specs.declared.states.TheConstants.{BATCH, HELD}
 use Rattle.seize_words.specs.declared.at.At.TheVariants.{Slot}
-use Rattle.papaya_rows.proofs.Given.Shown.Links.{read_as, seen_as}
+use Rattle.papaya_rows.proofs.Given.ShownLinks.{read_as, seen_as}
 use Rattle.papaya_scheduler.proofs.scheduler.Scheduler.is_held.Goals as goal
 
 pub load-requires : goal.load-requires

@@ -1,13 +1,13 @@
 -- A guard that owns its slot.
 use Rattle.std.proofs.Common.{true, [], refl, sym, ap, ◌∙◌}
 use Rattle.seize_words.specs.declared.fault.Fault.TheVariants.{Busy}
-use Rattle.papaya_rows.specs.Given.Schedules.declared.event.Event.TheVariants.{Own}
-use Rattle.papaya_rows.specs.Given.Schedules.declared.outcome.Outcome.TheVariants.{Refused, Slot}
+use Rattle.papaya_rows.specs.Given.SchedulesDeclared.event.Event.TheVariants.{Own}
+use Rattle.papaya_rows.specs.Given.SchedulesDeclared.outcome.Outcome.TheVariants.{Refused, Slot}
 use Rattle.papaya_scheduler.proofs.Busy.{none_quiet}
 use Rattle.papaya_scheduler.proofs.Backs.{came, none_came}
 use Rattle.papaya_scheduler.proofs.Owns.{joined_refused, joined_slot, name_taken, refused_quiet}
 use Rattle.papaya_scheduler.proofs.Rights.{so_played}
-use Rattle.papaya_rows.specs.Given.Scenes.declared.row.SlotCall.TheVariants as call
+use Rattle.papaya_rows.specs.Given.ScenesDeclared.row.SlotCall.TheVariants as call
 use Rattle.papaya_rows.specs.Taking.{told_as}
 use Rattle.papaya_scheduler.specs.Works.{told_so}
 use Rattle.papaya_scheduler.proofs.Works.{did_refuse, did_told}

@@ -1,14 +1,14 @@
 -- A guard's section begins anew.
 use Rattle.std.proofs.Common.{[], refl, sym, ap, ◌∙◌}
 use Rattle.seize_words.specs.declared.fault.Fault.TheVariants.{Busy}
-use Rattle.papaya_rows.specs.Given.Schedules.declared.event.Event.TheVariants.{Refresh}
-use Rattle.papaya_rows.specs.Given.Schedules.declared.outcome.Outcome.TheVariants.{Done, Refused}
+use Rattle.papaya_rows.specs.Given.SchedulesDeclared.event.Event.TheVariants.{Refresh}
+use Rattle.papaya_rows.specs.Given.SchedulesDeclared.outcome.Outcome.TheVariants.{Done, Refused}
 use Rattle.papaya_scheduler.proofs.Busy.{none_quiet}
 use Rattle.papaya_scheduler.proofs.Backs.{came_as, none_came, stayed_as}
 use Rattle.papaya_scheduler.proofs.Refreshes.{not_free, may_refresh, its_fits, joined, joined_alone}
 use Rattle.papaya_scheduler.proofs.KeptGiven.{given_as, given_still}
 use Rattle.papaya_scheduler.proofs.Rights.{so_played}
-use Rattle.papaya_rows.specs.Given.Scenes.declared.row.SlotCall.TheVariants as call
+use Rattle.papaya_rows.specs.Given.ScenesDeclared.row.SlotCall.TheVariants as call
 use Rattle.papaya_scheduler.proofs.Works.{did_none, did_refuse, did_row}
 use Rattle.papaya_scheduler.proofs.scheduler.Scheduler.refresh.Goals as goal
 use Rattle.papaya_scheduler.proofs.scheduler.Scheduler.refresh.Goals.{then-guards_on-eq1+in_ok-do_row, else-guards_on-eq1}

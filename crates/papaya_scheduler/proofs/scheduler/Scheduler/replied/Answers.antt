@@ -1,11 +1,11 @@
 -- A call gets its reply.
 use Rattle.std.specs.Prelude.{option_copied}
 use Rattle.std.proofs.Common.{[], Some, refl, sym, ap, ◌∙◌}
-use Rattle.papaya_rows.proofs.Given.Named.Roll.Seats.{called_at, called_out, reads_at}
+use Rattle.papaya_rows.proofs.Given.NamedRoll.Seats.{called_at, called_out, reads_at}
 use Rattle.seize_words.specs.declared.fault.Fault.TheVariants.{Busy}
-use Rattle.papaya_rows.specs.Given.Schedules.After.{moment}
-use Rattle.papaya_rows.specs.Given.Schedules.declared.event.Event.TheVariants.{Replied}
-use Rattle.papaya_rows.specs.Given.Schedules.declared.outcome.Outcome.TheVariants.{Goes, Refused}
+use Rattle.papaya_rows.specs.Given.SchedulesAfter.{moment}
+use Rattle.papaya_rows.specs.Given.SchedulesDeclared.event.Event.TheVariants.{Replied}
+use Rattle.papaya_rows.specs.Given.SchedulesDeclared.outcome.Outcome.TheVariants.{Goes, Refused}
 use Rattle.papaya_scheduler.proofs.Busy.{none_quiet}
 use Rattle.papaya_scheduler.proofs.Here.{here_at, read_here}
 use Rattle.papaya_scheduler.proofs.Replied.{nobody, takes_none}

@@ -1,5 +1,5 @@
 -- What a caller does with a slot runs.
-use Rattle.papaya_rows.proofs.Given.Logged.KeptGiven.{given_on}
+use Rattle.papaya_rows.proofs.Given.LoggedKeptGiven.{given_on}
 use Rattle.papaya_rows.proofs.RunRow.{begun_there, has_run, in_its_slot}
 use Rattle.papaya_scheduler.proofs.Backs.{brought}
 use Rattle.papaya_scheduler.proofs.scheduler.Scheduler.run_row.Goals as goal

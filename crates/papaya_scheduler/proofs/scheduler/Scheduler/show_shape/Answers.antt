@@ -1,8 +1,8 @@
 -- The tables of a map are shown.
 use Rattle.std.proofs.Common.{[], refl, sym, ◌∙◌}
 use Rattle.seize_words.specs.declared.fault.Fault.TheVariants.{Busy}
-use Rattle.papaya_rows.specs.Given.Schedules.declared.event.Event.TheVariants.{ShowShape}
-use Rattle.papaya_rows.specs.Given.Schedules.declared.outcome.Outcome.TheVariants.{Refused, Shape}
+use Rattle.papaya_rows.specs.Given.SchedulesDeclared.event.Event.TheVariants.{ShowShape}
+use Rattle.papaya_rows.specs.Given.SchedulesDeclared.outcome.Outcome.TheVariants.{Refused, Shape}
 use Rattle.papaya_scheduler.proofs.Busy.{none_quiet}
 use Rattle.papaya_scheduler.proofs.ShapesHere.{not_there, shapes_are, shown, stands_there}
 use Rattle.papaya_scheduler.proofs.Rights.{so_played}

@@ -1,20 +1,20 @@
 -- A walk is given up.
 use Rattle.std.specs.Prelude.{is_some}
 use Rattle.std.proofs.Common.{[], ℕ, refl, sym, ap, subst, ◌∙◌}
-use Rattle.papaya_rows.proofs.Given.Named.Roll.Seats.{reads_at, ready_placed}
+use Rattle.papaya_rows.proofs.Given.NamedRoll.Seats.{reads_at, ready_placed}
 use Rattle.papaya_present.proofs.Crowds.Homes.{none_told}
 use Rattle.seize_words.specs.declared.fault.Fault.TheVariants.{Busy}
-use Rattle.papaya_rows.specs.Given.Schedules.declared.event.Event.TheVariants.{Stop}
-use Rattle.papaya_rows.specs.Given.Schedules.declared.outcome.Outcome.TheVariants.{Done, Refused}
-use Rattle.papaya_rows.specs.Given.Logged.Calling.{WalkStops}
-use Rattle.papaya_rows.specs.Given.Schedules.After.{moment}
+use Rattle.papaya_rows.specs.Given.SchedulesDeclared.event.Event.TheVariants.{Stop}
+use Rattle.papaya_rows.specs.Given.SchedulesDeclared.outcome.Outcome.TheVariants.{Done, Refused}
+use Rattle.papaya_rows.specs.Given.LoggedCalling.{WalkStops}
+use Rattle.papaya_rows.specs.Given.SchedulesAfter.{moment}
 use Rattle.papaya_scheduler.proofs.Busy.{none_quiet}
 use Rattle.papaya_scheduler.proofs.Here.{here_at, read_here}
 use Rattle.papaya_scheduler.proofs.Stopped.{not_ready, ready_parts, has_call, done}
 use Rattle.papaya_scheduler.proofs.Rights.{so_played}
 use Rattle.papaya_scheduler.proofs.scheduler.Scheduler.stop.Goals as goal
-use Rattle.papaya_rows.specs.Given.Executor.Replying.{StopsThere}
-use Rattle.papaya_rows.specs.Given.Scenes.Scene.{HasCall}
+use Rattle.papaya_rows.specs.Given.ExecutorReplying.{StopsThere}
+use Rattle.papaya_rows.specs.Given.ScenesScene.{HasCall}
 
 pub returns-in_default-clause-plays : goal.returns-in_default-clause-plays
 returns-in_default-clause-plays g c =

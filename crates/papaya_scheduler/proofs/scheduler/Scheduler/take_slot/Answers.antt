@@ -1,7 +1,7 @@
 -- A slot is taken, or none.
 use Rattle.std.proofs.Common.{arith, subst}
-use Rattle.papaya_rows.specs.Given.Scenes.declared.row.RowTold.{RowTold}
-use Rattle.papaya_rows.specs.Given.Scenes.declared.row.SlotCall.TheVariants as call
+use Rattle.papaya_rows.specs.Given.ScenesDeclared.row.RowTold.{RowTold}
+use Rattle.papaya_rows.specs.Given.ScenesDeclared.row.SlotCall.TheVariants as call
 use Rattle.papaya_rows.specs.Rows.{RowRan}
 use Rattle.papaya_scheduler.proofs.SlotTaken.{told_one}
 use Rattle.papaya_scheduler.proofs.scheduler.Scheduler.take_slot.Goals as goal

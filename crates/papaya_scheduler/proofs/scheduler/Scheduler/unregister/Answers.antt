@@ -1,14 +1,14 @@
 -- A registration ends.
 use Rattle.std.proofs.Common.{[], refl, sym, ap, ◌∙◌}
 use Rattle.seize_words.specs.declared.fault.Fault.TheVariants.{Busy}
-use Rattle.papaya_rows.specs.Given.Schedules.declared.event.Event.TheVariants.{Unregister}
-use Rattle.papaya_rows.specs.Given.Schedules.declared.outcome.Outcome.TheVariants.{Done, Refused}
+use Rattle.papaya_rows.specs.Given.SchedulesDeclared.event.Event.TheVariants.{Unregister}
+use Rattle.papaya_rows.specs.Given.SchedulesDeclared.outcome.Outcome.TheVariants.{Done, Refused}
 use Rattle.papaya_scheduler.proofs.Busy.{none_quiet}
 use Rattle.papaya_scheduler.proofs.Backs.{came_as, none_came, stayed_as}
 use Rattle.papaya_scheduler.proofs.Unregisters.{not_registered, guards_live, may_free, fits, joined, joined_last}
 use Rattle.papaya_scheduler.proofs.KeptGiven.{given_as, given_still}
 use Rattle.papaya_scheduler.proofs.Rights.{so_played}
-use Rattle.papaya_rows.specs.Given.Scenes.declared.row.SlotCall.TheVariants as call
+use Rattle.papaya_rows.specs.Given.ScenesDeclared.row.SlotCall.TheVariants as call
 use Rattle.papaya_scheduler.proofs.Works.{did_none, did_refuse, did_row}
 use Rattle.papaya_scheduler.proofs.scheduler.Scheduler.unregister.Goals as goal
 use Rattle.papaya_scheduler.proofs.scheduler.Scheduler.unregister.Goals.{in_default-via-in-Some+else-living_on-eq0, in_default-via-in_default, then-guards_on-eq0+in_ok-do_row, else-guards_on-eq0}

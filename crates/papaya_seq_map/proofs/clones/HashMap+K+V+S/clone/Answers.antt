@@ -4,7 +4,7 @@ use Rattle.std.proofs.lemmas.List.{map-append}
 use Rattle.papaya_shown.specs.Coming.{pairs_to_come}
 use Rattle.papaya_shown.specs.Lent.{pair_shown}
 use Rattle.papaya_seq_shows.specs.Stored.{IsMadeOfClones}
-use Rattle.papaya_seq_shows.proofs.Given.Pairs.Puts.{clones_same_apart}
+use Rattle.papaya_seq_shows.proofs.Given.PairsPuts.{clones_same_apart}
 use Rattle.papaya_seq_shows.proofs.Cloned.{clones_equal}
 use Rattle.papaya_seq_shows.proofs.Stored.{clones_more, made_first}
 use Rattle.papaya_seq_shows.proofs.Walked.{shown_all}

@@ -2,8 +2,8 @@
 use Rattle.std.proofs.Common.{[], ◌∷◌, ◌++◌, rules, subst, sym}
 use Rattle.std.proofs.lemmas.List.{take_all}
 use Rattle.std.proofs.lemmas.List.Elements.{all_zip_more}
-use Rattle.papaya_seq_shows.specs.Given.Pairs.Puts.{IsCloneOf}
-use Rattle.papaya_seq_shows.proofs.Given.Pairs.Puts.{clones_same}
+use Rattle.papaya_seq_shows.specs.Given.PairsPuts.{IsCloneOf}
+use Rattle.papaya_seq_shows.proofs.Given.PairsPuts.{clones_same}
 use Rattle.papaya_seq_shows.specs.Stored.{IsMadeOfClones}
 use Rattle.papaya_seq_shows.proofs.Stored.{made_first, made_more}
 use Rattle.papaya_seq_map.proofs.clones.HashMap+K+V+S.from_array.Goals as goal

@@ -3,7 +3,7 @@ use Rattle.std.proofs.Common.{◌∷◌, [], map, ◌∙◌, ap, sym, subst}
 use Rattle.std.proofs.lemmas.List.{map-append}
 use Rattle.papaya_shown.specs.Coming.{pairs_to_come}
 use Rattle.papaya_shown.specs.Lent.{pair_shown}
-use Rattle.papaya_seq_shows.proofs.Given.Pairs.Equals.{AreFound, all_found, lengths_differ, one_more_found, one_not_found}
+use Rattle.papaya_seq_shows.proofs.Given.PairsEquals.{AreFound, all_found, lengths_differ, one_more_found, one_not_found}
 use Rattle.papaya_seq_shows.proofs.Walked.{shown_all, this_one}
 use Rattle.papaya_seq_map.proofs.equal.HashMapPartialEq.eq.Goals as goal
 

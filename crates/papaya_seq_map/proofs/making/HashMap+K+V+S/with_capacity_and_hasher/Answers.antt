@@ -2,9 +2,9 @@
 use Rattle.seize_alone.specs.Alone.{nothing_yet, registered}
 use Rattle.std.proofs.Common.{◌∙◌, refl, true, inr}
 use Rattle.std.proofs.lemmas.Result.{err_from_is_err_and}
-use Rattle.papaya_seq_shows.proofs.Given.Resting.Makes.{nothing_happened, nothing_there, slot_refused, taken_inside}
-use Rattle.papaya_seq_shows.proofs.Given.Resting.Lasts.{none_in, none_named}
-use Rattle.papaya_seq_shows.proofs.Given.Pairs.Orders.{none_left}
+use Rattle.papaya_seq_shows.proofs.Given.RestingMakes.{nothing_happened, nothing_there, slot_refused, taken_inside}
+use Rattle.papaya_seq_shows.proofs.Given.RestingLasts.{none_in, none_named}
+use Rattle.papaya_seq_shows.proofs.Given.PairsOrders.{none_left}
 use Rattle.papaya_seq_shows.proofs.Shows.{counts, made_shown, shown}
 use Rattle.papaya_seq_map.proofs.making.HashMap+K+V+S.with_capacity_and_hasher.Goals as goal
 

@@ -1,6 +1,6 @@
 -- By what the clearing comes to.
 use Rattle.std.specs.Prelude.{[]}
-use Rattle.papaya_seq_shows.proofs.Given.Resting.Lasts.{none_in, none_named}
+use Rattle.papaya_seq_shows.proofs.Given.RestingLasts.{none_in, none_named}
 use Rattle.papaya_seq_shows.proofs.Shows.{one_shown, capacity_shown, counts, few_shown, either_rests, seen_held, seen_keeps, shows_none, shows_refused}
 use Rattle.papaya_seq_map.proofs.map.HashMap.clear.Goals as goal
 

@@ -1,7 +1,7 @@
 -- By the operation that was done, whose answer has the map.
 use Rattle.std.proofs.Common.{◌∙◌, ap, refl}
-use Rattle.papaya_seq_shows.specs.Given.Asks.Closures.{ComputesAs}
-use Rattle.papaya_seq_shows.specs.Given.Resting.declared.change.Compute.TheVariants as compute
+use Rattle.papaya_seq_shows.specs.Given.AsksClosures.{ComputesAs}
+use Rattle.papaya_seq_shows.specs.Given.RestingDeclared.change.Compute.TheVariants as compute
 use Rattle.papaya_seq_map.proofs.Did.{exchanges, removes, takes}
 use Rattle.papaya_seq_map.proofs.map.HashMap.compute.Goals as goal
 

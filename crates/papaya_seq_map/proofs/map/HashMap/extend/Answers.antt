@@ -3,8 +3,8 @@ use Rattle.std.proofs.Common.{[], ◌∷◌, ◌++◌, ◌∙◌, refl, sym, sub
 use Rattle.std.proofs.iter.Next.{Yields-more}
 use Rattle.std.proofs.lemmas.List.Sorted.{IsPermutation-trans}
 use Rattle.std.specs.Iterator.{Yields}
-use Rattle.papaya_seq_shows.proofs.Given.Resting.Given.{balanced_still, kept_balances}
-use Rattle.papaya_seq_shows.specs.Given.Pairs.Puts.{put_all}
+use Rattle.papaya_seq_shows.proofs.Given.RestingGiven.{balanced_still, kept_balances}
+use Rattle.papaya_seq_shows.specs.Given.PairsPuts.{put_all}
 use Rattle.papaya_seq_shows.proofs.Stored.{stored_first, stored_more}
 use Rattle.papaya_seq_map.proofs.map.HashMap.extend.Goals as goal
 

@@ -1,6 +1,6 @@
 -- Its words show just these pairs.
 use Rattle.std.proofs.Common.{◌∙◌, ap}
-use Rattle.papaya_seq_shows.proofs.Given.Resting.Given.{holds_stands}
+use Rattle.papaya_seq_shows.proofs.Given.RestingGiven.{holds_stands}
 use Rattle.papaya_seq_shows.proofs.Shows.{all_shown_as, seen_apart}
 use Rattle.papaya_seq_shows.specs.Maps.{Map}
 use Rattle.papaya_seq_map.proofs.map.HashMap.iter.Goals as goal

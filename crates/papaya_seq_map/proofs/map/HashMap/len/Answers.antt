@@ -1,6 +1,6 @@
 -- The one shard says it, and its words show as many pairs.
 use Rattle.std.proofs.Common.{◌∙◌}
-use Rattle.papaya_seq_shows.proofs.Given.Resting.Given.{holds_its_own}
+use Rattle.papaya_seq_shows.proofs.Given.RestingGiven.{holds_its_own}
 use Rattle.papaya_seq_shows.proofs.Shows.{seen_among, seen_as_many, seen_apart}
 use Rattle.papaya_seq_map.proofs.map.HashMap.len.Goals as goal
 

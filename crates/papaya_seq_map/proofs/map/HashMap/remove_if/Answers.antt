@@ -1,6 +1,6 @@
 -- By what was done of the pair that was found.
 use Rattle.std.proofs.Common.{◌∙◌, refl, sym}
-use Rattle.papaya_seq_shows.specs.Given.Asks.Closures.{TestsAs}
+use Rattle.papaya_seq_shows.specs.Given.AsksClosures.{TestsAs}
 use Rattle.papaya_seq_map.proofs.Did.{stays}
 use Rattle.papaya_seq_map.proofs.map.HashMap.remove_if.Goals as goal
 

@@ -2,8 +2,8 @@
 use Rattle.std.specs.Prelude.{[]}
 use Rattle.std.proofs.Common.{subst, sym}
 use Rattle.std.proofs.lemmas.Result.{on_ok_weaker}
-use Rattle.papaya_seq_shows.specs.Given.Owned.Rooms.{NeedTooMany}
-use Rattle.papaya_seq_shows.proofs.Given.Resting.Lasts.{none_in, none_named}
+use Rattle.papaya_seq_shows.specs.Given.OwnedRooms.{NeedTooMany}
+use Rattle.papaya_seq_shows.proofs.Given.RestingLasts.{none_in, none_named}
 use Rattle.papaya_seq_shows.proofs.Shows.{counts, first_has, room_shown, seen_as_many, seen_held, seen_keeps, shown_as}
 use Rattle.papaya_seq_map.proofs.map.HashMap.reserve.Goals as goal
 

@@ -1,7 +1,7 @@
 -- By what the retaining comes to in the order in which its pairs were stored.
 use Rattle.std.specs.Prelude.{[]}
-use Rattle.papaya_seq_shows.specs.Given.Resting.Given.{KeepsOf}
-use Rattle.papaya_seq_shows.proofs.Given.Resting.Lasts.{none_in, none_named}
+use Rattle.papaya_seq_shows.specs.Given.RestingGiven.{KeepsOf}
+use Rattle.papaya_seq_shows.proofs.Given.RestingLasts.{none_in, none_named}
 use Rattle.papaya_seq_shows.proofs.Shows.{one_shown, capacity_shown, counts, few_shown, seen_held, seen_keeps, shows_kept, shows_passing, shows_refused, some_rest}
 use Rattle.papaya_seq_map.proofs.map.HashMap.retain.Goals as goal
 

@@ -1,7 +1,7 @@
 -- A step of the sweep is the machine's, with what it tells turned.
-use Rattle.papaya_owned.proofs.Given.SeizeWords.Plans.{may_as}
-use Rattle.papaya_owned.proofs.Given.Seize.StepsInto.{steps_into}
-use Rattle.papaya_owned.specs.Given.Sweeps.Sweep.{sweep_plan}
+use Rattle.papaya_owned.proofs.Given.SeizeWordsPlans.{may_as}
+use Rattle.papaya_owned.proofs.Given.SeizeStepsInto.{steps_into}
+use Rattle.papaya_owned.specs.Given.SweepsSweep.{sweep_plan}
 use Rattle.papaya_sifts.specs.Sweeping.{over_pairs_after}
 use Rattle.papaya_sifts.proofs.sweeping.OverPairsMachineNode.step.Goals as goal
 

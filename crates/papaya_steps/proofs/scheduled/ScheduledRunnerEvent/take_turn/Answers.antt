@@ -1,5 +1,5 @@
 -- One more event has happened.
-use Rattle.papaya_running.specs.Given.Scheduler.Played.{terms_given}
+use Rattle.papaya_running.specs.Given.SchedulerPlayed.{terms_given}
 use Rattle.papaya_running.specs.Run.{bounded}
 use Rattle.papaya_steps.proofs.scheduled.ScheduledRunnerEvent.take_turn.Goals as goal
 
