@@ -1,50 +1,50 @@
 -- A call on one key that asks nothing asks nothing after a step either, whatever was answered and seen.
 use Rattle.std.specs.Prelude.{ℕ, Bool, true, false, ◌==◌, if◌then◌else◌, Option, Some, None, Ok, Err}
 use Rattle.std.proofs.Common.{◌≡◌, refl, sym, subst}
-use Rattle.papaya_views.specs.Given.SeizeWords.Op.{Out, Found, Stored, Exchanged, Made, Taken, Roomed}
-use Rattle.papaya_views.specs.Given.SeizeWords.Plan.{Plan, Then, Turn, Do, Now, Seeing, Ends, plan_as}
-use Rattle.papaya_views.specs.Given.SeizeWords.Word.{block_in}
-use Rattle.papaya_views.specs.Given.Seize.declared.progress.Progress.{Progress}
-use Rattle.papaya_views.specs.Given.Seize.declared.progress.Progress.TheVariants as progress
-use Rattle.papaya_views.specs.Given.Seize.declared.rows.settle.Settled.{Settled}
-use Rattle.papaya_views.specs.Given.Seize.declared.rows.settle.Settled.TheVariants as settled
-use Rattle.papaya_views.specs.Given.Tables.Chunks.{is_incremental}
-use Rattle.papaya_views.specs.Given.Tables.Finding.{finding, may_name}
-use Rattle.papaya_views.specs.Given.Tables.Nodes.{table_seen}
-use Rattle.papaya_views.specs.Given.Tables.Trials.{next_trial, with_met}
-use Rattle.papaya_views.specs.Given.Tables.declared.finding.Finding.{Finding}
-use Rattle.papaya_views.specs.Given.Tables.declared.finding.Finding.TheVariants as found
-use Rattle.papaya_views.specs.Given.Tables.declared.marks.TheConstants.{TOMBSTONE}
-use Rattle.papaya_views.specs.Given.Tables.declared.node.Node.{Node}
-use Rattle.papaya_views.specs.Given.Tables.declared.table.Table.{Table}
-use Rattle.papaya_views.specs.Given.Tables.declared.trial.Trial.{Trial}
-use Rattle.papaya_views.specs.Given.Resize.Copier.{copier_plan}
-use Rattle.papaya_views.specs.Given.Resize.CopierStates.{helping, copying_all}
-use Rattle.papaya_views.specs.Given.Resize.Dispose.{dispose_plan, disposing}
-use Rattle.papaya_views.specs.Given.Resize.Lookup.{lookup_plan, names_pair}
-use Rattle.papaya_views.specs.Given.Resize.NewTable.{new_table_plan}
-use Rattle.papaya_views.specs.Given.Resize.declared.copier.Copier.{Copier}
-use Rattle.papaya_views.specs.Given.Resize.declared.dispose.Dispose.{Dispose}
-use Rattle.papaya_views.specs.Given.Resize.declared.lookup.Lookup.{Lookup}
-use Rattle.papaya_views.specs.Given.Resize.declared.new_table.NewTable.{NewTable}
-use Rattle.papaya_views.specs.Given.Resize.declared.outcome.Outcome.{Outcome}
-use Rattle.papaya_views.specs.Given.Resize.declared.outcome.Outcome.TheVariants as outcome
-use Rattle.papaya_views.specs.Given.Raw.Answers.{ended}
-use Rattle.papaya_views.specs.Given.Raw.Call.{makes_of, made, root_read, root_found, next_read, next_found, dropped, key_read, pair_read, word_read, word_found, tried, looked, looks_for, first_made, next_made, disposed, helped, copied, plan_at, call_plan, have_one_key}
-use Rattle.papaya_views.specs.Given.Raw.CallPoints.{aim_of, standing, going, over, ending, answering, tableless, at_free, at_end, beyond, at_last, at_pair, following_made, having_met, passed, halted, told_of, told, entering, went_on, changed, counted}
-use Rattle.papaya_views.specs.Given.Raw.declared.machines.answer.Called.{Called}
-use Rattle.papaya_views.specs.Given.Raw.declared.machines.answer.Called.TheVariants as called
-use Rattle.papaya_views.specs.Given.Raw.declared.machines.answer.End.{End}
-use Rattle.papaya_views.specs.Given.Raw.declared.machines.answer.End.TheVariants as ends
-use Rattle.papaya_views.specs.Given.Raw.declared.machines.answer.KeyAnswer.{KeyAnswer}
-use Rattle.papaya_views.specs.Given.Raw.declared.machines.answer.KeyAnswer.TheVariants as answers
-use Rattle.papaya_views.specs.Given.Raw.declared.machines.answer.There.{There}
-use Rattle.papaya_views.specs.Given.Raw.declared.machines.answer.There.TheVariants as there
-use Rattle.papaya_views.specs.Given.Raw.declared.machines.answer.Missing.{Missing}
-use Rattle.papaya_views.specs.Given.Raw.declared.machines.answer.Missing.TheVariants as missing
-use Rattle.papaya_views.specs.Given.Raw.declared.machines.call.Calling.{Calling}
-use Rattle.papaya_views.specs.Given.Raw.declared.machines.call.Calling.TheVariants as at
-use Rattle.papaya_views.specs.Given.Raw.declared.machines.call.KeyCall.{KeyCall}
+use Rattle.papaya_views.specs.Given.SeizeWordsOp.{Out, Found, Stored, Exchanged, Made, Taken, Roomed}
+use Rattle.papaya_views.specs.Given.SeizeWordsPlan.{Plan, Then, Turn, Do, Now, Seeing, Ends, plan_as}
+use Rattle.papaya_views.specs.Given.SeizeWordsWord.{block_in}
+use Rattle.papaya_views.specs.Given.SeizeDeclared.progress.Progress.{Progress}
+use Rattle.papaya_views.specs.Given.SeizeDeclared.progress.Progress.TheVariants as progress
+use Rattle.papaya_views.specs.Given.SeizeDeclared.rows.settle.Settled.{Settled}
+use Rattle.papaya_views.specs.Given.SeizeDeclared.rows.settle.Settled.TheVariants as settled
+use Rattle.papaya_views.specs.Given.TablesChunks.{is_incremental}
+use Rattle.papaya_views.specs.Given.TablesFinding.{finding, may_name}
+use Rattle.papaya_views.specs.Given.TablesNodes.{table_seen}
+use Rattle.papaya_views.specs.Given.TablesTrials.{next_trial, with_met}
+use Rattle.papaya_views.specs.Given.TablesDeclared.finding.Finding.{Finding}
+use Rattle.papaya_views.specs.Given.TablesDeclared.finding.Finding.TheVariants as found
+use Rattle.papaya_views.specs.Given.TablesDeclared.marks.TheConstants.{TOMBSTONE}
+use Rattle.papaya_views.specs.Given.TablesDeclared.node.Node.{Node}
+use Rattle.papaya_views.specs.Given.TablesDeclared.table.Table.{Table}
+use Rattle.papaya_views.specs.Given.TablesDeclared.trial.Trial.{Trial}
+use Rattle.papaya_views.specs.Given.ResizeCopier.{copier_plan}
+use Rattle.papaya_views.specs.Given.ResizeCopierStates.{helping, copying_all}
+use Rattle.papaya_views.specs.Given.ResizeDispose.{dispose_plan, disposing}
+use Rattle.papaya_views.specs.Given.ResizeLookup.{lookup_plan, names_pair}
+use Rattle.papaya_views.specs.Given.ResizeNewTable.{new_table_plan}
+use Rattle.papaya_views.specs.Given.ResizeDeclared.copier.Copier.{Copier}
+use Rattle.papaya_views.specs.Given.ResizeDeclared.dispose.Dispose.{Dispose}
+use Rattle.papaya_views.specs.Given.ResizeDeclared.lookup.Lookup.{Lookup}
+use Rattle.papaya_views.specs.Given.ResizeDeclared.new_table.NewTable.{NewTable}
+use Rattle.papaya_views.specs.Given.ResizeDeclared.outcome.Outcome.{Outcome}
+use Rattle.papaya_views.specs.Given.ResizeDeclared.outcome.Outcome.TheVariants as outcome
+use Rattle.papaya_views.specs.Given.RawAnswers.{ended}
+use Rattle.papaya_views.specs.Given.RawCall.{makes_of, made, root_read, root_found, next_read, next_found, dropped, key_read, pair_read, word_read, word_found, tried, looked, looks_for, first_made, next_made, disposed, helped, copied, plan_at, call_plan, have_one_key}
+use Rattle.papaya_views.specs.Given.RawCallPoints.{aim_of, standing, going, over, ending, answering, tableless, at_free, at_end, beyond, at_last, at_pair, following_made, having_met, passed, halted, told_of, told, entering, went_on, changed, counted}
+use Rattle.papaya_views.specs.Given.RawDeclared.machines.answer.Called.{Called}
+use Rattle.papaya_views.specs.Given.RawDeclared.machines.answer.Called.TheVariants as called
+use Rattle.papaya_views.specs.Given.RawDeclared.machines.answer.End.{End}
+use Rattle.papaya_views.specs.Given.RawDeclared.machines.answer.End.TheVariants as ends
+use Rattle.papaya_views.specs.Given.RawDeclared.machines.answer.KeyAnswer.{KeyAnswer}
+use Rattle.papaya_views.specs.Given.RawDeclared.machines.answer.KeyAnswer.TheVariants as answers
+use Rattle.papaya_views.specs.Given.RawDeclared.machines.answer.There.{There}
+use Rattle.papaya_views.specs.Given.RawDeclared.machines.answer.There.TheVariants as there
+use Rattle.papaya_views.specs.Given.RawDeclared.machines.answer.Missing.{Missing}
+use Rattle.papaya_views.specs.Given.RawDeclared.machines.answer.Missing.TheVariants as missing
+use Rattle.papaya_views.specs.Given.RawDeclared.machines.call.Calling.{Calling}
+use Rattle.papaya_views.specs.Given.RawDeclared.machines.call.Calling.TheVariants as at
+use Rattle.papaya_views.specs.Given.RawDeclared.machines.call.KeyCall.{KeyCall}
 use Rattle.papaya_shared.specs.Calling.{AsksNothing, IsKnownThere, IsKnownMissing, IsNotAsking}
 use Rattle.papaya_shared.proofs.Plans.{ends_as}
 use Rattle.papaya_shared.proofs.Quiet.{IsQuiet, quiet_as, table_is, dispose_is, copier_is, lookup_is}

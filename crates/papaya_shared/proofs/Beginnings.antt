@@ -1,23 +1,23 @@
 -- The turns of a seat of maps, and the lookup that has begun.
 use Rattle.std.specs.Prelude.{max}
 use Rattle.std.proofs.Common.{◌≡◌, ℕ, ◌≤◌, ◌^◌, Bool, true, Some, refl, sym, subst, ap, ◌∙◌, arith}
-use Rattle.papaya_views.proofs.Given.SeizeActs.Answers.{same_some}
-use Rattle.papaya_views.specs.Given.SeizeSeats.State.{Turns, Meets}
-use Rattle.papaya_views.specs.Given.Tables.Chunks.{is_incremental}
-use Rattle.papaya_views.specs.Given.Tables.Lengths.{IsTableLen}
-use Rattle.papaya_views.specs.Given.Tables.declared.node.Node.{Node}
-use Rattle.papaya_views.specs.Given.Tables.declared.setting.Setting.{Setting}
-use Rattle.papaya_views.specs.Given.Resize.Lookup.{looking}
-use Rattle.papaya_views.specs.Given.Resize.declared.lookup.Lookup.{Lookup}
-use Rattle.papaya_views.specs.Given.Resize.declared.new_map.NewMap.{NewMap}
-use Rattle.papaya_views.specs.Given.Raw.CallPoints.{getting, inserting, standing}
-use Rattle.papaya_views.specs.Given.Raw.declared.machines.call.Calling.TheVariants.{Looks}
-use Rattle.papaya_views.specs.Given.Raw.declared.machines.call.KeyCall.{KeyCall}
-use Rattle.papaya_views.specs.Given.Raw.declared.machines.machine.Machine.TheVariants.{Key}
-use Rattle.papaya_views.specs.Given.Acts.Acts.{Wanted, Get, Insert}
-use Rattle.papaya_views.specs.Given.SeizeViews.declared.view.Fixed.{Fixed}
-use Rattle.papaya_views.specs.Given.SeizeViews.declared.view.Has.TheVariants.{Nothing as NoBlock}
-use Rattle.papaya_views.specs.Given.SeizeViews.declared.view.View.TheVariants.{Rests, Inside}
+use Rattle.papaya_views.proofs.Given.SeizeActsAnswers.{same_some}
+use Rattle.papaya_views.specs.Given.SeizeSeatsState.{Turns, Meets}
+use Rattle.papaya_views.specs.Given.TablesChunks.{is_incremental}
+use Rattle.papaya_views.specs.Given.TablesLengths.{IsTableLen}
+use Rattle.papaya_views.specs.Given.TablesDeclared.node.Node.{Node}
+use Rattle.papaya_views.specs.Given.TablesDeclared.setting.Setting.{Setting}
+use Rattle.papaya_views.specs.Given.ResizeLookup.{looking}
+use Rattle.papaya_views.specs.Given.ResizeDeclared.lookup.Lookup.{Lookup}
+use Rattle.papaya_views.specs.Given.ResizeDeclared.new_map.NewMap.{NewMap}
+use Rattle.papaya_views.specs.Given.RawCallPoints.{getting, inserting, standing}
+use Rattle.papaya_views.specs.Given.RawDeclared.machines.call.Calling.TheVariants.{Looks}
+use Rattle.papaya_views.specs.Given.RawDeclared.machines.call.KeyCall.{KeyCall}
+use Rattle.papaya_views.specs.Given.RawDeclared.machines.machine.Machine.TheVariants.{Key}
+use Rattle.papaya_views.specs.Given.ActsActs.{Wanted, Get, Insert}
+use Rattle.papaya_views.specs.Given.SeizeViewsDeclared.view.Fixed.{Fixed}
+use Rattle.papaya_views.specs.Given.SeizeViewsDeclared.view.Has.TheVariants.{Nothing as NoBlock}
+use Rattle.papaya_views.specs.Given.SeizeViewsDeclared.view.View.TheVariants.{Rests, Inside}
 use Rattle.papaya_views.specs.Begun.{making}
 use Rattle.papaya_views.specs.Rule.{Holds, KeepsFor}
 use Rattle.papaya_views.specs.declared.view.Map.{Map}

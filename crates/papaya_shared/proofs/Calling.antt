@@ -1,23 +1,23 @@
 -- A step of a call on one key that asks nothing, of a seat: it may be taken, and the seat knows how far it has come.
 use Rattle.std.specs.Prelude.{Option, Some}
 use Rattle.std.proofs.Common.{◌≡◌, ℕ, Bool, true, false, ◌⊎◌, List, inl, inr, refl, sym, subst, ap, ◌∙◌}
-use Rattle.papaya_views.specs.Given.SeizeWords.Op.{Op, Out}
-use Rattle.papaya_views.specs.Given.SeizeWords.Plan.{Plan, Then, Turn, Do, Now, Seeing, Sure, Ends, MaySee, May, Steps}
-use Rattle.papaya_views.specs.Given.SeizeSeats.State.{Turns}
-use Rattle.papaya_views.specs.Given.SeizeViews.Promises.{op_in}
-use Rattle.papaya_views.specs.Given.SeizeViews.Told.{FollowsBy}
-use Rattle.papaya_views.specs.Given.Tables.Chunks.{is_incremental}
-use Rattle.papaya_views.specs.Given.Tables.declared.node.Node.{Node}
-use Rattle.papaya_views.specs.Given.Raw.Call.{call_plan}
-use Rattle.papaya_views.specs.Given.Raw.Machine.{machine_plan, called as as_machine}
-use Rattle.papaya_views.specs.Given.Raw.declared.machines.answer.Called.{Called}
-use Rattle.papaya_views.specs.Given.Raw.declared.machines.answer.Called.TheVariants as tells
-use Rattle.papaya_views.specs.Given.Raw.declared.machines.call.KeyCall.{KeyCall}
-use Rattle.papaya_views.specs.Given.Raw.declared.machines.machine.Machine.{Machine}
-use Rattle.papaya_views.specs.Given.Raw.declared.machines.machine.Machine.TheVariants as kinds
-use Rattle.papaya_views.specs.Given.Raw.declared.machines.progress.Progress.{Progress}
-use Rattle.papaya_views.proofs.Given.SeizeActs.Answers.{same_some}
-use Rattle.papaya_views.proofs.Given.SeizeViews.Looks.{IsNow, ends_same, now_ends}
+use Rattle.papaya_views.specs.Given.SeizeWordsOp.{Op, Out}
+use Rattle.papaya_views.specs.Given.SeizeWordsPlan.{Plan, Then, Turn, Do, Now, Seeing, Sure, Ends, MaySee, May, Steps}
+use Rattle.papaya_views.specs.Given.SeizeSeatsState.{Turns}
+use Rattle.papaya_views.specs.Given.SeizeViewsPromises.{op_in}
+use Rattle.papaya_views.specs.Given.SeizeViewsTold.{FollowsBy}
+use Rattle.papaya_views.specs.Given.TablesChunks.{is_incremental}
+use Rattle.papaya_views.specs.Given.TablesDeclared.node.Node.{Node}
+use Rattle.papaya_views.specs.Given.RawCall.{call_plan}
+use Rattle.papaya_views.specs.Given.RawMachine.{machine_plan, called as as_machine}
+use Rattle.papaya_views.specs.Given.RawDeclared.machines.answer.Called.{Called}
+use Rattle.papaya_views.specs.Given.RawDeclared.machines.answer.Called.TheVariants as tells
+use Rattle.papaya_views.specs.Given.RawDeclared.machines.call.KeyCall.{KeyCall}
+use Rattle.papaya_views.specs.Given.RawDeclared.machines.machine.Machine.{Machine}
+use Rattle.papaya_views.specs.Given.RawDeclared.machines.machine.Machine.TheVariants as kinds
+use Rattle.papaya_views.specs.Given.RawDeclared.machines.progress.Progress.{Progress}
+use Rattle.papaya_views.proofs.Given.SeizeActsAnswers.{same_some}
+use Rattle.papaya_views.proofs.Given.SeizeViewsLooks.{IsNow, ends_same, now_ends}
 use Rattle.papaya_views.specs.Looks.{shown_in, MayFollow, TurnsTo}
 use Rattle.papaya_views.specs.Rule.{Holds, KeepsFor}
 use Rattle.papaya_views.specs.Told.{called, turned, turned_by}

@@ -1,15 +1,15 @@
 -- A step of the call of a seat: its operation may be made, and what it has come to is known with what it looks at.
 use Rattle.std.specs.Prelude.{Option, Some, if◌then◌else◌}
 use Rattle.std.proofs.Common.{◌≡◌, ℕ, Bool, true, List, [], sym, subst, ap, ◌∙◌}
-use Rattle.papaya_views.specs.Given.SeizeWords.Op.{Op, Out, Load, Store, Swap, Add, Or, Exchange, Make, Take, Rewrite, Room}
-use Rattle.papaya_views.specs.Given.SeizeWords.Plan.{Plan}
-use Rattle.papaya_views.specs.Given.Tables.Chunks.{is_incremental}
-use Rattle.papaya_views.specs.Given.Tables.declared.node.Node.{Node}
-use Rattle.papaya_views.specs.Given.Raw.Machine.{machine_plan}
-use Rattle.papaya_views.specs.Given.Raw.declared.machines.machine.Machine.{Machine}
-use Rattle.papaya_views.specs.Given.Raw.declared.machines.progress.Progress.{Progress}
-use Rattle.papaya_views.specs.Given.SeizeViews.Promises.{op_in}
-use Rattle.papaya_views.specs.Given.SeizeViews.Told.{FollowsBy}
+use Rattle.papaya_views.specs.Given.SeizeWordsOp.{Op, Out, Load, Store, Swap, Add, Or, Exchange, Make, Take, Rewrite, Room}
+use Rattle.papaya_views.specs.Given.SeizeWordsPlan.{Plan}
+use Rattle.papaya_views.specs.Given.TablesChunks.{is_incremental}
+use Rattle.papaya_views.specs.Given.TablesDeclared.node.Node.{Node}
+use Rattle.papaya_views.specs.Given.RawMachine.{machine_plan}
+use Rattle.papaya_views.specs.Given.RawDeclared.machines.machine.Machine.{Machine}
+use Rattle.papaya_views.specs.Given.RawDeclared.machines.progress.Progress.{Progress}
+use Rattle.papaya_views.specs.Given.SeizeViewsPromises.{op_in}
+use Rattle.papaya_views.specs.Given.SeizeViewsTold.{FollowsBy}
 use Rattle.papaya_views.specs.Looks.{shown_in, MayFollow}
 use Rattle.papaya_views.specs.Told.{told_by, called}
 use Rattle.papaya_views.specs.declared.view.Map.{Map}

@@ -1,29 +1,29 @@
 -- A step of a lookup: it looks at what is told, goes on or ends, and ends with a pair only by having looked at it.
 use Rattle.std.specs.Prelude.{Option, Some, None, ◌==◌, if◌then◌else◌}
 use Rattle.std.proofs.Common.{◌≡◌, ℕ, Bool, true, false, refl, sym, subst}
-use Rattle.papaya_views.specs.Given.SeizeWords.Op.{Out, Found, Stored, Exchanged, Made, Taken, Roomed}
-use Rattle.papaya_views.specs.Given.SeizeWords.Plan.{Now, Seeing, Ends}
-use Rattle.papaya_views.specs.Given.SeizeWords.Word.{block_in}
-use Rattle.papaya_views.specs.Given.Seize.declared.progress.Progress.{Progress}
-use Rattle.papaya_views.specs.Given.Seize.declared.progress.Progress.TheVariants as progress
-use Rattle.papaya_views.specs.Given.Tables.Chunks.{is_incremental}
-use Rattle.papaya_views.specs.Given.Tables.Finding.{finding, vacant, may_name}
-use Rattle.papaya_views.specs.Given.Tables.Nodes.{table_seen}
-use Rattle.papaya_views.specs.Given.Tables.Trials.{next_trial, first_trial}
-use Rattle.papaya_views.specs.Given.Tables.declared.finding.Aim.TheVariants.{Looks as ToLook}
-use Rattle.papaya_views.specs.Given.Tables.declared.finding.Finding.{Finding}
-use Rattle.papaya_views.specs.Given.Tables.declared.finding.Finding.TheVariants as is
-use Rattle.papaya_views.specs.Given.Tables.declared.marks.TheConstants.{COPYING}
-use Rattle.papaya_views.specs.Given.Tables.declared.node.Node.{Node}
-use Rattle.papaya_views.specs.Given.Tables.declared.node.Node.TheVariants.{Pair, Table as OfTable, Shards}
-use Rattle.papaya_views.specs.Given.Tables.declared.resize_mode.ResizeMode.{ResizeMode}
-use Rattle.papaya_views.specs.Given.Tables.declared.table.Table.{Table}
-use Rattle.papaya_views.specs.Given.Tables.declared.trial.Trial.{Trial}
-use Rattle.papaya_views.specs.Given.Resize.Lookup.{going, answered, passed, told_of, told, names_pair, table_read, word_read, plan_at, lookup_plan}
-use Rattle.papaya_views.specs.Given.Resize.declared.lookup.Lookup.{Lookup}
-use Rattle.papaya_views.specs.Given.Resize.declared.lookup.Looking.{Looking}
-use Rattle.papaya_views.specs.Given.Resize.declared.lookup.Looking.TheVariants as at
-use Rattle.papaya_views.proofs.Given.SeizeViews.Looks.{rest_of}
+use Rattle.papaya_views.specs.Given.SeizeWordsOp.{Out, Found, Stored, Exchanged, Made, Taken, Roomed}
+use Rattle.papaya_views.specs.Given.SeizeWordsPlan.{Now, Seeing, Ends}
+use Rattle.papaya_views.specs.Given.SeizeWordsWord.{block_in}
+use Rattle.papaya_views.specs.Given.SeizeDeclared.progress.Progress.{Progress}
+use Rattle.papaya_views.specs.Given.SeizeDeclared.progress.Progress.TheVariants as progress
+use Rattle.papaya_views.specs.Given.TablesChunks.{is_incremental}
+use Rattle.papaya_views.specs.Given.TablesFinding.{finding, vacant, may_name}
+use Rattle.papaya_views.specs.Given.TablesNodes.{table_seen}
+use Rattle.papaya_views.specs.Given.TablesTrials.{next_trial, first_trial}
+use Rattle.papaya_views.specs.Given.TablesDeclared.finding.Aim.TheVariants.{Looks as ToLook}
+use Rattle.papaya_views.specs.Given.TablesDeclared.finding.Finding.{Finding}
+use Rattle.papaya_views.specs.Given.TablesDeclared.finding.Finding.TheVariants as is
+use Rattle.papaya_views.specs.Given.TablesDeclared.marks.TheConstants.{COPYING}
+use Rattle.papaya_views.specs.Given.TablesDeclared.node.Node.{Node}
+use Rattle.papaya_views.specs.Given.TablesDeclared.node.Node.TheVariants.{Pair, Table as OfTable, Shards}
+use Rattle.papaya_views.specs.Given.TablesDeclared.resize_mode.ResizeMode.{ResizeMode}
+use Rattle.papaya_views.specs.Given.TablesDeclared.table.Table.{Table}
+use Rattle.papaya_views.specs.Given.TablesDeclared.trial.Trial.{Trial}
+use Rattle.papaya_views.specs.Given.ResizeLookup.{going, answered, passed, told_of, told, names_pair, table_read, word_read, plan_at, lookup_plan}
+use Rattle.papaya_views.specs.Given.ResizeDeclared.lookup.Lookup.{Lookup}
+use Rattle.papaya_views.specs.Given.ResizeDeclared.lookup.Looking.{Looking}
+use Rattle.papaya_views.specs.Given.ResizeDeclared.lookup.Looking.TheVariants as at
+use Rattle.papaya_views.proofs.Given.SeizeViewsLooks.{rest_of}
 use Rattle.papaya_shared.specs.Looking.{IsOn}
 use Rattle.papaya_shared.proofs.Plans.{IsDo, IsPlain, LeavesValues, plain_either}
 

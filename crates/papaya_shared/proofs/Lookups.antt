@@ -1,24 +1,24 @@
 -- A step of the lookup of a seat's call: it may be taken, and the seat knows how far it has come.
 use Rattle.std.specs.Prelude.{Option, Some, None}
 use Rattle.std.proofs.Common.{◌≡◌, ℕ, Bool, refl, subst, ap, ◌∙◌}
-use Rattle.papaya_views.specs.Given.SeizeWords.Op.{Op, Out}
-use Rattle.papaya_views.specs.Given.SeizeWords.Plan.{Plan, May, Steps, plan_as}
-use Rattle.papaya_views.specs.Given.Seize.declared.progress.Progress.{Progress}
-use Rattle.papaya_views.specs.Given.Seize.declared.progress.Progress.TheVariants as progress
-use Rattle.papaya_views.specs.Given.Tables.declared.node.Node.{Node}
-use Rattle.papaya_views.specs.Given.Resize.Lookup.{lookup_plan}
-use Rattle.papaya_views.specs.Given.Resize.declared.lookup.Lookup.{Lookup}
-use Rattle.papaya_views.specs.Given.Raw.Call.{looked, looks_for}
-use Rattle.papaya_views.specs.Given.Raw.CallPoints.{standing}
-use Rattle.papaya_views.specs.Given.Raw.Machine.{machine_plan, called as as_machine}
-use Rattle.papaya_views.specs.Given.Raw.declared.machines.answer.Called.{Called}
-use Rattle.papaya_views.specs.Given.Raw.declared.machines.call.Calling.TheVariants.{Looks}
-use Rattle.papaya_views.specs.Given.Raw.declared.machines.call.KeyCall.{KeyCall}
-use Rattle.papaya_views.specs.Given.Raw.declared.machines.machine.Machine.{Machine}
-use Rattle.papaya_views.specs.Given.Raw.declared.machines.machine.Machine.TheVariants.{Key}
-use Rattle.papaya_views.specs.Given.Raw.declared.machines.progress.Progress.{Progress as Told}
-use Rattle.papaya_views.specs.Given.SeizeViews.Promises.{op_in}
-use Rattle.papaya_views.specs.Given.SeizeViews.Told.{FollowsBy}
+use Rattle.papaya_views.specs.Given.SeizeWordsOp.{Op, Out}
+use Rattle.papaya_views.specs.Given.SeizeWordsPlan.{Plan, May, Steps, plan_as}
+use Rattle.papaya_views.specs.Given.SeizeDeclared.progress.Progress.{Progress}
+use Rattle.papaya_views.specs.Given.SeizeDeclared.progress.Progress.TheVariants as progress
+use Rattle.papaya_views.specs.Given.TablesDeclared.node.Node.{Node}
+use Rattle.papaya_views.specs.Given.ResizeLookup.{lookup_plan}
+use Rattle.papaya_views.specs.Given.ResizeDeclared.lookup.Lookup.{Lookup}
+use Rattle.papaya_views.specs.Given.RawCall.{looked, looks_for}
+use Rattle.papaya_views.specs.Given.RawCallPoints.{standing}
+use Rattle.papaya_views.specs.Given.RawMachine.{machine_plan, called as as_machine}
+use Rattle.papaya_views.specs.Given.RawDeclared.machines.answer.Called.{Called}
+use Rattle.papaya_views.specs.Given.RawDeclared.machines.call.Calling.TheVariants.{Looks}
+use Rattle.papaya_views.specs.Given.RawDeclared.machines.call.KeyCall.{KeyCall}
+use Rattle.papaya_views.specs.Given.RawDeclared.machines.machine.Machine.{Machine}
+use Rattle.papaya_views.specs.Given.RawDeclared.machines.machine.Machine.TheVariants.{Key}
+use Rattle.papaya_views.specs.Given.RawDeclared.machines.progress.Progress.{Progress as Told}
+use Rattle.papaya_views.specs.Given.SeizeViewsPromises.{op_in}
+use Rattle.papaya_views.specs.Given.SeizeViewsTold.{FollowsBy}
 use Rattle.papaya_views.specs.Told.{called}
 use Rattle.papaya_views.specs.declared.view.View.{View}
 use Rattle.papaya_shared.specs.Made.{CanMake, HasMade, IsSameSeat, shown_of}

@@ -2,20 +2,20 @@
 use Rattle.std.specs.Prelude.{◌-◌, nat_lt, Option, Some, Ok, Err, if◌then◌else◌}
 use Rattle.std.proofs.Common.{◌≡◌, ℕ, ◌+◌, Bool, true, false, refl, sym, subst, ap, arith}
 use Rattle.std.proofs.lemmas.Bool.{eq-eqb, ltb-true}
-use Rattle.papaya_views.specs.Given.SeizeWords.Op.{Op, Out, Found, Stored, Exchanged, Made, Taken, Roomed}
-use Rattle.papaya_views.specs.Given.SeizeWords.declared.fault.Fault.TheVariants.{RootsUsedUp}
-use Rattle.papaya_views.specs.Given.Seize.declared.progress.Progress.{Progress}
-use Rattle.papaya_views.specs.Given.Seize.declared.progress.Progress.TheVariants as progress
-use Rattle.papaya_views.specs.Given.Tables.declared.node.Node.{Node}
-use Rattle.papaya_views.specs.Given.Tables.declared.setting.Setting.{Setting}
-use Rattle.papaya_views.specs.Given.Resize.NewMap.{with_shards, with_counter, at_root, goes, done, refused, plan_at, new_map_plan}
-use Rattle.papaya_views.specs.Given.Resize.NewTable.{first_table}
-use Rattle.papaya_views.specs.Given.Resize.declared.new_map.NewMap.{NewMap}
-use Rattle.papaya_views.specs.Given.Resize.declared.new_map.Opening.{Opening}
-use Rattle.papaya_views.specs.Given.Resize.declared.new_map.Opening.TheVariants as at
-use Rattle.papaya_views.specs.Given.SeizeViews.Told.{FollowsBy}
-use Rattle.papaya_views.proofs.Given.SeizeViews.Looks.{rest_of, IsNow}
-use Rattle.papaya_views.specs.Given.SeizeViews.Promises.{op_in}
+use Rattle.papaya_views.specs.Given.SeizeWordsOp.{Op, Out, Found, Stored, Exchanged, Made, Taken, Roomed}
+use Rattle.papaya_views.specs.Given.SeizeWordsDeclared.fault.Fault.TheVariants.{RootsUsedUp}
+use Rattle.papaya_views.specs.Given.SeizeDeclared.progress.Progress.{Progress}
+use Rattle.papaya_views.specs.Given.SeizeDeclared.progress.Progress.TheVariants as progress
+use Rattle.papaya_views.specs.Given.TablesDeclared.node.Node.{Node}
+use Rattle.papaya_views.specs.Given.TablesDeclared.setting.Setting.{Setting}
+use Rattle.papaya_views.specs.Given.ResizeNewMap.{with_shards, with_counter, at_root, goes, done, refused, plan_at, new_map_plan}
+use Rattle.papaya_views.specs.Given.ResizeNewTable.{first_table}
+use Rattle.papaya_views.specs.Given.ResizeDeclared.new_map.NewMap.{NewMap}
+use Rattle.papaya_views.specs.Given.ResizeDeclared.new_map.Opening.{Opening}
+use Rattle.papaya_views.specs.Given.ResizeDeclared.new_map.Opening.TheVariants as at
+use Rattle.papaya_views.specs.Given.SeizeViewsTold.{FollowsBy}
+use Rattle.papaya_views.proofs.Given.SeizeViewsLooks.{rest_of, IsNow}
+use Rattle.papaya_views.specs.Given.SeizeViewsPromises.{op_in}
 use Rattle.papaya_shared.specs.Answers.{IsAnswer}
 use Rattle.papaya_shared.specs.Making.{IsEarly, left_at, StaysChosen, GetsOn}
 use Rattle.papaya_shared.proofs.Plans.{IsDo, LeavesValues, IsAnsweredBy, answered_by}

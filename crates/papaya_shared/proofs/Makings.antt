@@ -1,17 +1,17 @@
 -- A step of the making of a map, of a seat: it may be taken, and the seat knows how far it has come.
 use Rattle.std.specs.Prelude.{Some}
 use Rattle.std.proofs.Common.{◌≡◌, ℕ, Bool, subst, ap, ◌∙◌}
-use Rattle.papaya_views.specs.Given.SeizeWords.Op.{Op, Out}
-use Rattle.papaya_views.specs.Given.SeizeWords.Plan.{Plan, May, Steps}
-use Rattle.papaya_views.specs.Given.Seize.declared.progress.Progress.{Progress}
-use Rattle.papaya_views.specs.Given.Seize.declared.progress.Progress.TheVariants as progress
-use Rattle.papaya_views.specs.Given.Tables.declared.node.Node.{Node}
-use Rattle.papaya_views.specs.Given.Tables.declared.setting.Setting.{Setting}
-use Rattle.papaya_views.specs.Given.Resize.NewMap.{new_map_plan}
-use Rattle.papaya_views.specs.Given.Resize.declared.new_map.NewMap.{NewMap}
-use Rattle.papaya_views.specs.Given.SeizeViews.Promises.{op_in}
-use Rattle.papaya_views.specs.Given.SeizeViews.Told.{FollowsBy}
-use Rattle.papaya_views.proofs.Given.SeizeViews.Looks.{rest_of}
+use Rattle.papaya_views.specs.Given.SeizeWordsOp.{Op, Out}
+use Rattle.papaya_views.specs.Given.SeizeWordsPlan.{Plan, May, Steps}
+use Rattle.papaya_views.specs.Given.SeizeDeclared.progress.Progress.{Progress}
+use Rattle.papaya_views.specs.Given.SeizeDeclared.progress.Progress.TheVariants as progress
+use Rattle.papaya_views.specs.Given.TablesDeclared.node.Node.{Node}
+use Rattle.papaya_views.specs.Given.TablesDeclared.setting.Setting.{Setting}
+use Rattle.papaya_views.specs.Given.ResizeNewMap.{new_map_plan}
+use Rattle.papaya_views.specs.Given.ResizeDeclared.new_map.NewMap.{NewMap}
+use Rattle.papaya_views.specs.Given.SeizeViewsPromises.{op_in}
+use Rattle.papaya_views.specs.Given.SeizeViewsTold.{FollowsBy}
+use Rattle.papaya_views.proofs.Given.SeizeViewsLooks.{rest_of}
 use Rattle.papaya_views.specs.Looks.{shown_in}
 use Rattle.papaya_views.specs.Told.{told_by, made_after}
 use Rattle.papaya_views.specs.declared.view.View.{View}

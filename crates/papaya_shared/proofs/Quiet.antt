@@ -1,46 +1,46 @@
 -- Steps of the machines that calls are made of: one that makes no operation looks at nothing, and no operation replaces a value.
 use Rattle.std.specs.Prelude.{ℕ, Bool, Option}
-use Rattle.papaya_views.specs.Given.SeizeWords.Plan.{Plan, Then, Turn, Do, Now, Seeing, Sure, then_as, plan_as}
-use Rattle.papaya_views.specs.Given.Seize.Defer.{defer_plan}
-use Rattle.papaya_views.specs.Given.Seize.Defer as defer
-use Rattle.papaya_views.specs.Given.Seize.Settle.{settle_plan}
-use Rattle.papaya_views.specs.Given.Seize.Settle as settle
-use Rattle.papaya_views.specs.Given.Seize.declared.rows.defer.Defer.{Defer}
-use Rattle.papaya_views.specs.Given.Seize.declared.rows.defer.Deferring.{Deferring}
-use Rattle.papaya_views.specs.Given.Seize.declared.rows.defer.Deferring.TheVariants as defers
-use Rattle.papaya_views.specs.Given.Seize.declared.rows.settle.Settle.{Settle}
-use Rattle.papaya_views.specs.Given.Seize.declared.rows.settle.Settling.{Settling}
-use Rattle.papaya_views.specs.Given.Seize.declared.rows.settle.Settling.TheVariants as settles
-use Rattle.papaya_views.specs.Given.Tables.Nodes.{deferred_word}
-use Rattle.papaya_views.specs.Given.Tables.declared.node.Node.{Node}
-use Rattle.papaya_views.specs.Given.Resize.Copier.{copier_plan}
-use Rattle.papaya_views.specs.Given.Resize.Copier as copier
-use Rattle.papaya_views.specs.Given.Resize.CopierFurther.{grown, remade}
-use Rattle.papaya_views.specs.Given.Resize.CopierPromotes.{retired}
-use Rattle.papaya_views.specs.Given.Resize.Dispose.{dispose_plan, settled, deferred}
-use Rattle.papaya_views.specs.Given.Resize.Dispose as dispose
-use Rattle.papaya_views.specs.Given.Resize.Lookup.{lookup_plan}
-use Rattle.papaya_views.specs.Given.Resize.Lookup as lookup
-use Rattle.papaya_views.specs.Given.Resize.NewTable.{new_table_plan, counted}
-use Rattle.papaya_views.specs.Given.Resize.NewTable as new_table
-use Rattle.papaya_views.specs.Given.Resize.Sum.{sum_plan}
-use Rattle.papaya_views.specs.Given.Resize.Sum as sum
-use Rattle.papaya_views.specs.Given.Resize.declared.copier.Copier.{Copier}
-use Rattle.papaya_views.specs.Given.Resize.declared.copier.Copying.{Copying}
-use Rattle.papaya_views.specs.Given.Resize.declared.copier.Copying.TheVariants as copies
-use Rattle.papaya_views.specs.Given.Resize.declared.dispose.Dispose.{Dispose}
-use Rattle.papaya_views.specs.Given.Resize.declared.dispose.Disposing.{Disposing}
-use Rattle.papaya_views.specs.Given.Resize.declared.dispose.Disposing.TheVariants as disposes
-use Rattle.papaya_views.specs.Given.Resize.declared.lookup.Lookup.{Lookup}
-use Rattle.papaya_views.specs.Given.Resize.declared.lookup.Looking.{Looking}
-use Rattle.papaya_views.specs.Given.Resize.declared.lookup.Looking.TheVariants as looks
-use Rattle.papaya_views.specs.Given.Resize.declared.new_table.NewTable.{NewTable}
-use Rattle.papaya_views.specs.Given.Resize.declared.new_table.Making.{Making}
-use Rattle.papaya_views.specs.Given.Resize.declared.new_table.Making.TheVariants as makes
-use Rattle.papaya_views.specs.Given.Resize.declared.sum.Sum.{Sum}
-use Rattle.papaya_views.specs.Given.Resize.declared.sum.Summing.{Summing}
-use Rattle.papaya_views.specs.Given.Resize.declared.sum.Summing.TheVariants as sums
-use Rattle.papaya_views.proofs.Given.SeizeViews.Looks.{IsNow}
+use Rattle.papaya_views.specs.Given.SeizeWordsPlan.{Plan, Then, Turn, Do, Now, Seeing, Sure, then_as, plan_as}
+use Rattle.papaya_views.specs.Given.SeizeDefer.{defer_plan}
+use Rattle.papaya_views.specs.Given.SeizeDefer as defer
+use Rattle.papaya_views.specs.Given.SeizeSettle.{settle_plan}
+use Rattle.papaya_views.specs.Given.SeizeSettle as settle
+use Rattle.papaya_views.specs.Given.SeizeDeclared.rows.defer.Defer.{Defer}
+use Rattle.papaya_views.specs.Given.SeizeDeclared.rows.defer.Deferring.{Deferring}
+use Rattle.papaya_views.specs.Given.SeizeDeclared.rows.defer.Deferring.TheVariants as defers
+use Rattle.papaya_views.specs.Given.SeizeDeclared.rows.settle.Settle.{Settle}
+use Rattle.papaya_views.specs.Given.SeizeDeclared.rows.settle.Settling.{Settling}
+use Rattle.papaya_views.specs.Given.SeizeDeclared.rows.settle.Settling.TheVariants as settles
+use Rattle.papaya_views.specs.Given.TablesNodes.{deferred_word}
+use Rattle.papaya_views.specs.Given.TablesDeclared.node.Node.{Node}
+use Rattle.papaya_views.specs.Given.ResizeCopier.{copier_plan}
+use Rattle.papaya_views.specs.Given.ResizeCopier as copier
+use Rattle.papaya_views.specs.Given.ResizeCopierFurther.{grown, remade}
+use Rattle.papaya_views.specs.Given.ResizeCopierPromotes.{retired}
+use Rattle.papaya_views.specs.Given.ResizeDispose.{dispose_plan, settled, deferred}
+use Rattle.papaya_views.specs.Given.ResizeDispose as dispose
+use Rattle.papaya_views.specs.Given.ResizeLookup.{lookup_plan}
+use Rattle.papaya_views.specs.Given.ResizeLookup as lookup
+use Rattle.papaya_views.specs.Given.ResizeNewTable.{new_table_plan, counted}
+use Rattle.papaya_views.specs.Given.ResizeNewTable as new_table
+use Rattle.papaya_views.specs.Given.ResizeSum.{sum_plan}
+use Rattle.papaya_views.specs.Given.ResizeSum as sum
+use Rattle.papaya_views.specs.Given.ResizeDeclared.copier.Copier.{Copier}
+use Rattle.papaya_views.specs.Given.ResizeDeclared.copier.Copying.{Copying}
+use Rattle.papaya_views.specs.Given.ResizeDeclared.copier.Copying.TheVariants as copies
+use Rattle.papaya_views.specs.Given.ResizeDeclared.dispose.Dispose.{Dispose}
+use Rattle.papaya_views.specs.Given.ResizeDeclared.dispose.Disposing.{Disposing}
+use Rattle.papaya_views.specs.Given.ResizeDeclared.dispose.Disposing.TheVariants as disposes
+use Rattle.papaya_views.specs.Given.ResizeDeclared.lookup.Lookup.{Lookup}
+use Rattle.papaya_views.specs.Given.ResizeDeclared.lookup.Looking.{Looking}
+use Rattle.papaya_views.specs.Given.ResizeDeclared.lookup.Looking.TheVariants as looks
+use Rattle.papaya_views.specs.Given.ResizeDeclared.new_table.NewTable.{NewTable}
+use Rattle.papaya_views.specs.Given.ResizeDeclared.new_table.Making.{Making}
+use Rattle.papaya_views.specs.Given.ResizeDeclared.new_table.Making.TheVariants as makes
+use Rattle.papaya_views.specs.Given.ResizeDeclared.sum.Sum.{Sum}
+use Rattle.papaya_views.specs.Given.ResizeDeclared.sum.Summing.{Summing}
+use Rattle.papaya_views.specs.Given.ResizeDeclared.sum.Summing.TheVariants as sums
+use Rattle.papaya_views.proofs.Given.SeizeViewsLooks.{IsNow}
 use Rattle.papaya_shared.proofs.Plans.{ReplacesNone}
 
 abbrev pub IsQuiet : {T R : Type 0} → Plan T R → Type 0

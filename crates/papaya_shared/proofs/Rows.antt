@@ -1,14 +1,14 @@
 -- A seat of maps that has nothing but a row under way, as its notes have it, and who has come to rest.
 use Rattle.std.specs.Prelude.{Option, Result, Ok, Err, IfOk, IfErr}
 use Rattle.std.proofs.Common.{◌≡◌, ℕ, Bool, sym, subst, ap, ◌∙◌}
-use Rattle.papaya_views.specs.Given.SeizeWords.declared.fault.Fault.{Fault}
-use Rattle.papaya_views.specs.Given.SeizeViews.Rows.{IsAtRest}
-use Rattle.papaya_views.specs.Given.SeizeViews.declared.view.Has.TheVariants.{Nothing as NoBlock}
-use Rattle.papaya_views.specs.Given.SeizeViews.declared.view.View.{View as SlotView}
-use Rattle.papaya_views.specs.Given.SeizeViews.declared.view.View.TheVariants.{Rests, Outside, Inside}
-use Rattle.papaya_views.specs.Given.Tables.declared.node.Node.{Node}
-use Rattle.papaya_views.specs.Given.Tables.declared.setting.Setting.{Setting}
-use Rattle.papaya_views.specs.Given.Resize.declared.new_map.NewMap.{NewMap}
+use Rattle.papaya_views.specs.Given.SeizeWordsDeclared.fault.Fault.{Fault}
+use Rattle.papaya_views.specs.Given.SeizeViewsRows.{IsAtRest}
+use Rattle.papaya_views.specs.Given.SeizeViewsDeclared.view.Has.TheVariants.{Nothing as NoBlock}
+use Rattle.papaya_views.specs.Given.SeizeViewsDeclared.view.View.{View as SlotView}
+use Rattle.papaya_views.specs.Given.SeizeViewsDeclared.view.View.TheVariants.{Rests, Outside, Inside}
+use Rattle.papaya_views.specs.Given.TablesDeclared.node.Node.{Node}
+use Rattle.papaya_views.specs.Given.TablesDeclared.setting.Setting.{Setting}
+use Rattle.papaya_views.specs.Given.ResizeDeclared.new_map.NewMap.{NewMap}
 use Rattle.papaya_views.specs.Notes.{row_known, notes_of, IsResting}
 use Rattle.papaya_views.specs.declared.view.View.{View}
 use Rattle.papaya_views.specs.declared.view.Work.{Work}

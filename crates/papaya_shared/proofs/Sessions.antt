@@ -1,16 +1,16 @@
 -- What a session knows of its map, and that it may look a key up there.
 use Rattle.std.specs.Prelude.{Option, Some, None}
 use Rattle.std.proofs.Common.{◌≡◌, ℕ, true, refl, sym, ap, ◌∙◌}
-use Rattle.papaya_views.proofs.Given.SeizeActs.Answers.{same_some}
-use Rattle.papaya_views.specs.Given.Tables.Chunks.{is_incremental}
-use Rattle.papaya_views.specs.Given.Tables.declared.setting.Setting.{Setting}
-use Rattle.papaya_views.specs.Given.Resize.Lookup.{looking}
-use Rattle.papaya_views.specs.Given.Resize.declared.lookup.Lookup.{Lookup}
+use Rattle.papaya_views.proofs.Given.SeizeActsAnswers.{same_some}
+use Rattle.papaya_views.specs.Given.TablesChunks.{is_incremental}
+use Rattle.papaya_views.specs.Given.TablesDeclared.setting.Setting.{Setting}
+use Rattle.papaya_views.specs.Given.ResizeLookup.{looking}
+use Rattle.papaya_views.specs.Given.ResizeDeclared.lookup.Lookup.{Lookup}
 use Rattle.papaya_views.specs.declared.view.Map.{Map}
 use Rattle.papaya_views.specs.declared.view.View.{View}
 use Rattle.papaya_views.specs.declared.view.Work.TheVariants.{Nothing}
-use Rattle.papaya_views.specs.Given.SeizeViews.declared.view.Has.TheVariants.{Nothing as NoBlock}
-use Rattle.papaya_views.specs.Given.SeizeViews.declared.view.View.TheVariants.{Inside}
+use Rattle.papaya_views.specs.Given.SeizeViewsDeclared.view.Has.TheVariants.{Nothing as NoBlock}
+use Rattle.papaya_views.specs.Given.SeizeViewsDeclared.view.View.TheVariants.{Inside}
 use Rattle.papaya_shared.specs.Looking.{MayLook}
 use Rattle.papaya_shared.specs.Standing.{known_as, known_by}
 

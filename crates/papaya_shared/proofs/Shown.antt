@@ -1,9 +1,9 @@
 -- What a caller shows is there, with its value.
 use Rattle.std.specs.Prelude.{Option, Some, None, IsSome}
 use Rattle.std.proofs.Common.{◌≡◌, ℕ, Bool, refl, sym, ap, ◌∙◌}
-use Rattle.papaya_views.specs.Given.SeizeSeats.Lendings.{Shown, IsValueOf}
-use Rattle.papaya_views.specs.Given.Tables.declared.node.Node.{Node}
-use Rattle.papaya_views.specs.Given.SeizeViews.declared.view.Fixed.{Fixed}
+use Rattle.papaya_views.specs.Given.SeizeSeatsLendings.{Shown, IsValueOf}
+use Rattle.papaya_views.specs.Given.TablesDeclared.node.Node.{Node}
+use Rattle.papaya_views.specs.Given.SeizeViewsDeclared.view.Fixed.{Fixed}
 use Rattle.papaya_views.specs.Looks.{shown_in}
 use Rattle.papaya_views.specs.Rule.{Holds}
 use Rattle.papaya_views.specs.declared.view.View.{View}

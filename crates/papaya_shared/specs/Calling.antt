@@ -1,25 +1,25 @@
 -- What a seat knows while a call on one key that asks nothing is under way, and once it has ended.
 use Rattle.std.specs.Prelude.{◌≡◌, ℕ, Bool, true, false, Some, Result, Ok, Err}
-use Rattle.papaya_views.specs.Given.SeizeWords.declared.fault.Fault.{Fault}
-use Rattle.papaya_views.specs.Given.Tables.Chunks.{is_incremental}
-use Rattle.papaya_views.specs.Given.Tables.declared.node.Node.{Node}
-use Rattle.papaya_views.specs.Given.Tables.declared.setting.Setting.{Setting}
-use Rattle.papaya_views.specs.Given.Raw.declared.machines.answer.There.{There}
-use Rattle.papaya_views.specs.Given.Raw.declared.machines.answer.There.TheVariants as there
-use Rattle.papaya_views.specs.Given.Raw.declared.machines.answer.Missing.{Missing}
-use Rattle.papaya_views.specs.Given.Raw.declared.machines.answer.Missing.TheVariants as missing
-use Rattle.papaya_views.specs.Given.Raw.declared.machines.answer.KeyAnswer.TheVariants as answers
-use Rattle.papaya_views.specs.Given.Raw.declared.machines.call.Calling.{Calling}
-use Rattle.papaya_views.specs.Given.Raw.declared.machines.call.Calling.TheVariants as at
-use Rattle.papaya_views.specs.Given.Raw.declared.machines.call.KeyCall.{KeyCall}
-use Rattle.papaya_views.specs.Given.Raw.declared.machines.machine.Machine.{Machine}
-use Rattle.papaya_views.specs.Given.Raw.declared.machines.machine.Machine.TheVariants.{Key}
-use Rattle.papaya_views.specs.Given.Raw.declared.machines.progress.Answer.{Answer}
-use Rattle.papaya_views.specs.Given.Raw.declared.machines.progress.Answer.TheVariants.{Key as OfKey}
-use Rattle.papaya_views.specs.Given.Raw.declared.machines.progress.Progress.{Progress}
-use Rattle.papaya_views.specs.Given.Raw.declared.machines.progress.Progress.TheVariants as progress
-use Rattle.papaya_views.specs.Given.SeizeViews.declared.view.Has.TheVariants.{Nothing as NoBlock}
-use Rattle.papaya_views.specs.Given.SeizeViews.declared.view.View.TheVariants.{Inside}
+use Rattle.papaya_views.specs.Given.SeizeWordsDeclared.fault.Fault.{Fault}
+use Rattle.papaya_views.specs.Given.TablesChunks.{is_incremental}
+use Rattle.papaya_views.specs.Given.TablesDeclared.node.Node.{Node}
+use Rattle.papaya_views.specs.Given.TablesDeclared.setting.Setting.{Setting}
+use Rattle.papaya_views.specs.Given.RawDeclared.machines.answer.There.{There}
+use Rattle.papaya_views.specs.Given.RawDeclared.machines.answer.There.TheVariants as there
+use Rattle.papaya_views.specs.Given.RawDeclared.machines.answer.Missing.{Missing}
+use Rattle.papaya_views.specs.Given.RawDeclared.machines.answer.Missing.TheVariants as missing
+use Rattle.papaya_views.specs.Given.RawDeclared.machines.answer.KeyAnswer.TheVariants as answers
+use Rattle.papaya_views.specs.Given.RawDeclared.machines.call.Calling.{Calling}
+use Rattle.papaya_views.specs.Given.RawDeclared.machines.call.Calling.TheVariants as at
+use Rattle.papaya_views.specs.Given.RawDeclared.machines.call.KeyCall.{KeyCall}
+use Rattle.papaya_views.specs.Given.RawDeclared.machines.machine.Machine.{Machine}
+use Rattle.papaya_views.specs.Given.RawDeclared.machines.machine.Machine.TheVariants.{Key}
+use Rattle.papaya_views.specs.Given.RawDeclared.machines.progress.Answer.{Answer}
+use Rattle.papaya_views.specs.Given.RawDeclared.machines.progress.Answer.TheVariants.{Key as OfKey}
+use Rattle.papaya_views.specs.Given.RawDeclared.machines.progress.Progress.{Progress}
+use Rattle.papaya_views.specs.Given.RawDeclared.machines.progress.Progress.TheVariants as progress
+use Rattle.papaya_views.specs.Given.SeizeViewsDeclared.view.Has.TheVariants.{Nothing as NoBlock}
+use Rattle.papaya_views.specs.Given.SeizeViewsDeclared.view.View.TheVariants.{Inside}
 use Rattle.papaya_views.specs.declared.view.Map.{Map}
 use Rattle.papaya_views.specs.declared.view.View.{View}
 use Rattle.papaya_views.specs.declared.view.Work.TheVariants.{Nothing, Calls}

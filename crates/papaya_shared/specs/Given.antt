@@ -1,3 +1,2 @@
 -- The words of the crates below, given on to the crates above: these list this crate in place of those.
-pub use Rattle.papaya_views.specs.Given.SeizeViews
-pub use Rattle.papaya_views.specs as Views
+pub use Rattle.papaya_views.specs.Given.SeizeViewsDeclared

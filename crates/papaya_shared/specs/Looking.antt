@@ -1,27 +1,27 @@
 -- What a seat knows while its call looks for a key, and once it has ended.
 use Rattle.std.specs.Prelude.{◌≡◌, ℕ, Bool, true, Some, None, IfSome, Option}
-use Rattle.papaya_views.specs.Given.SeizeWords.Word.{block_in}
-use Rattle.papaya_views.specs.Given.Seize.declared.progress.Progress.{Progress}
-use Rattle.papaya_views.specs.Given.Seize.declared.progress.Progress.TheVariants as progress
-use Rattle.papaya_views.specs.Given.Tables.Chunks.{is_incremental}
-use Rattle.papaya_views.specs.Given.Tables.declared.node.Node.TheVariants.{Pair}
-use Rattle.papaya_views.specs.Given.Resize.Lookup.{looking}
-use Rattle.papaya_views.specs.Given.Resize.declared.lookup.Lookup.{Lookup}
-use Rattle.papaya_views.specs.Given.Resize.declared.lookup.Looking.{Looking}
-use Rattle.papaya_views.specs.Given.Resize.declared.lookup.Looking.TheVariants as at
-use Rattle.papaya_views.specs.Given.Raw.CallPoints.{standing}
-use Rattle.papaya_views.specs.Given.Raw.declared.machines.call.Calling.TheVariants.{Looks}
-use Rattle.papaya_views.specs.Given.Raw.declared.machines.call.KeyCall.{KeyCall}
-use Rattle.papaya_views.specs.Given.Raw.declared.machines.machine.Machine.TheVariants.{Key}
-use Rattle.papaya_views.specs.Given.Raw.declared.machines.answer.KeyAnswer.{KeyAnswer}
-use Rattle.papaya_views.specs.Given.Raw.declared.machines.answer.KeyAnswer.TheVariants as answers
-use Rattle.papaya_views.specs.Given.Raw.declared.machines.progress.Answer.TheVariants.{Key as OfKey}
-use Rattle.papaya_views.specs.Given.Raw.declared.machines.progress.Progress.TheVariants as told_as
-use Rattle.papaya_views.specs.Given.Acts.Acts.{Wanted}
-use Rattle.papaya_views.specs.Given.SeizeViews.declared.view.Has.TheVariants.{Nothing as NoBlock}
-use Rattle.papaya_views.specs.Given.SeizeViews.declared.view.View.TheVariants.{Inside}
+use Rattle.papaya_views.specs.Given.SeizeWordsWord.{block_in}
+use Rattle.papaya_views.specs.Given.SeizeDeclared.progress.Progress.{Progress}
+use Rattle.papaya_views.specs.Given.SeizeDeclared.progress.Progress.TheVariants as progress
+use Rattle.papaya_views.specs.Given.TablesChunks.{is_incremental}
+use Rattle.papaya_views.specs.Given.TablesDeclared.node.Node.TheVariants.{Pair}
+use Rattle.papaya_views.specs.Given.ResizeLookup.{looking}
+use Rattle.papaya_views.specs.Given.ResizeDeclared.lookup.Lookup.{Lookup}
+use Rattle.papaya_views.specs.Given.ResizeDeclared.lookup.Looking.{Looking}
+use Rattle.papaya_views.specs.Given.ResizeDeclared.lookup.Looking.TheVariants as at
+use Rattle.papaya_views.specs.Given.RawCallPoints.{standing}
+use Rattle.papaya_views.specs.Given.RawDeclared.machines.call.Calling.TheVariants.{Looks}
+use Rattle.papaya_views.specs.Given.RawDeclared.machines.call.KeyCall.{KeyCall}
+use Rattle.papaya_views.specs.Given.RawDeclared.machines.machine.Machine.TheVariants.{Key}
+use Rattle.papaya_views.specs.Given.RawDeclared.machines.answer.KeyAnswer.{KeyAnswer}
+use Rattle.papaya_views.specs.Given.RawDeclared.machines.answer.KeyAnswer.TheVariants as answers
+use Rattle.papaya_views.specs.Given.RawDeclared.machines.progress.Answer.TheVariants.{Key as OfKey}
+use Rattle.papaya_views.specs.Given.RawDeclared.machines.progress.Progress.TheVariants as told_as
+use Rattle.papaya_views.specs.Given.ActsActs.{Wanted}
+use Rattle.papaya_views.specs.Given.SeizeViewsDeclared.view.Has.TheVariants.{Nothing as NoBlock}
+use Rattle.papaya_views.specs.Given.SeizeViewsDeclared.view.View.TheVariants.{Inside}
 use Rattle.papaya_views.specs.Begun.{machine_for, calling}
-use Rattle.papaya_views.specs.Given.SeizeSeats.Lendings.{IsValueOf}
+use Rattle.papaya_views.specs.Given.SeizeSeatsLendings.{IsValueOf}
 use Rattle.papaya_views.specs.Looks.{shown_in}
 use Rattle.papaya_views.specs.Rule.{Holds}
 use Rattle.papaya_views.specs.declared.view.Map.{Map}

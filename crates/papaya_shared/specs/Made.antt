@@ -1,8 +1,8 @@
 -- A seat on an errand as the memory of the machine that it has under way: what it may do next, what it has done, and what it shows.
 use Rattle.std.specs.Prelude.{◌≡◌, ℕ, Bool, true, Option}
-use Rattle.papaya_views.specs.Given.SeizeWords.Op.{Op, Out, Rewrite}
-use Rattle.papaya_views.specs.Given.SeizeSeats.State.{Allows, Owns}
-use Rattle.papaya_views.specs.Given.Tables.declared.node.Node.{Node}
+use Rattle.papaya_views.specs.Given.SeizeWordsOp.{Op, Out, Rewrite}
+use Rattle.papaya_views.specs.Given.SeizeSeatsState.{Allows, Owns}
+use Rattle.papaya_views.specs.Given.TablesDeclared.node.Node.{Node}
 use Rattle.papaya_views.specs.Looks.{shown_in}
 use Rattle.papaya_views.specs.Rule.{Holds, KeepsFor}
 use Rattle.papaya_views.specs.Told.{told}

@@ -1,15 +1,15 @@
 -- What a seat knows while it makes a map of no table, and once that is there.
 use Rattle.std.specs.Prelude.{◌≡◌, ℕ, ◌+◌, ◌-◌, ◌^◌, ◌<◌, Some, Result, IfOk, IfErr}
 use Rattle.std.specs.Int.{IsPowerOfTwo}
-use Rattle.papaya_views.specs.Given.SeizeWords.declared.fault.Fault.{Fault}
-use Rattle.papaya_views.specs.Given.Seize.declared.progress.Progress.{Progress}
-use Rattle.papaya_views.specs.Given.Seize.declared.progress.Progress.TheVariants as progress
-use Rattle.papaya_views.specs.Given.Tables.declared.setting.Setting.{Setting}
-use Rattle.papaya_views.specs.Given.Resize.NewMap.{opening}
-use Rattle.papaya_views.specs.Given.Resize.declared.new_map.NewMap.{NewMap}
-use Rattle.papaya_views.specs.Given.Resize.declared.new_map.Opening.{Opening}
-use Rattle.papaya_views.specs.Given.Resize.declared.new_map.Opening.TheVariants.{Takes, Shards, Frees}
-use Rattle.papaya_views.specs.Given.SeizeViews.declared.view.Fixed.{Fixed}
+use Rattle.papaya_views.specs.Given.SeizeWordsDeclared.fault.Fault.{Fault}
+use Rattle.papaya_views.specs.Given.SeizeDeclared.progress.Progress.{Progress}
+use Rattle.papaya_views.specs.Given.SeizeDeclared.progress.Progress.TheVariants as progress
+use Rattle.papaya_views.specs.Given.TablesDeclared.setting.Setting.{Setting}
+use Rattle.papaya_views.specs.Given.ResizeNewMap.{opening}
+use Rattle.papaya_views.specs.Given.ResizeDeclared.new_map.NewMap.{NewMap}
+use Rattle.papaya_views.specs.Given.ResizeDeclared.new_map.Opening.{Opening}
+use Rattle.papaya_views.specs.Given.ResizeDeclared.new_map.Opening.TheVariants.{Takes, Shards, Frees}
+use Rattle.papaya_views.specs.Given.SeizeViewsDeclared.view.Fixed.{Fixed}
 use Rattle.papaya_views.specs.Begun.{making, shown_map}
 use Rattle.papaya_views.specs.declared.view.Map.{Map}
 use Rattle.papaya_views.specs.declared.view.View.{View}

@@ -1,6 +1,6 @@
 -- How a seat stands between its calls.
 use Rattle.std.specs.Prelude.{Option, Some, None}
-use Rattle.papaya_views.specs.Given.Tables.declared.setting.Setting.{Setting}
+use Rattle.papaya_views.specs.Given.TablesDeclared.setting.Setting.{Setting}
 use Rattle.papaya_views.specs.declared.view.Map.{Map}
 use Rattle.papaya_views.specs.declared.view.View.{View}
 

@@ -4,7 +4,7 @@ ghost use Rattle.papaya_shared.specs.Making.{HandsOn};
 ghost use Rattle.papaya_views.specs.Rule.{at_rest};
 ghost use Rattle.papaya_views.specs.declared.view.Map.{Map};
 ghost use Rattle.papaya_views.specs.declared.view.Work.TheVariants.{Nothing};
-ghost use Rattle.papaya_views.specs.Given.SeizeViews.declared.view.View.TheVariants.{Rests};
+ghost use Rattle.papaya_views.specs.Given.SeizeViewsDeclared.view.View.TheVariants.{Rests};
 ghost use Rattle.seize_callers.specs.Kept.{is_home};
 
 mod calls;

@@ -4,7 +4,7 @@ ghost use Rattle.papaya_shared.specs.Calling.{HasCalled, MayCall};
 ghost use Rattle.papaya_shared.specs.Looking.{HasFound, MayLook};
 ghost use Rattle.papaya_shared.specs.Making.{CameTo, MayBegin};
 ghost use Rattle.papaya_views.specs.declared.view.Work.TheVariants.{Nothing as NoWork};
-ghost use Rattle.papaya_views.specs.Given.SeizeViews.declared.view.View.TheVariants.{Rests};
+ghost use Rattle.papaya_views.specs.Given.SeizeViewsDeclared.view.View.TheVariants.{Rests};
 
 use crate::within::{Ran, Within};
 use papaya_views::OfMaps;

@@ -3,11 +3,11 @@ ghost use Rattle.std.specs.Prelude.{◌≡◌, ◌≤◌, ◌<◌, ◌^◌, Some
 ghost use Rattle.papaya_shared.specs.Calling.{HasEnded, HasStored, is_replaced as replaces};
 ghost use Rattle.papaya_shared.specs.Looking.{Answered, IsLent, IsShown};
 ghost use Rattle.papaya_shared.specs.Standing.{known_by};
-ghost use Rattle.papaya_views.specs.Given.Tables.Chunks.{is_incremental};
-ghost use Rattle.papaya_views.specs.Given.Tables.declared.resize_mode.ResizeMode.TheVariants.{Incremental};
+ghost use Rattle.papaya_views.specs.Given.TablesChunks.{is_incremental};
+ghost use Rattle.papaya_views.specs.Given.TablesDeclared.resize_mode.ResizeMode.TheVariants.{Incremental};
 ghost use Rattle.papaya_views.specs.declared.view.Work.TheVariants.{Nothing as NoWork};
-ghost use Rattle.papaya_views.specs.Given.SeizeViews.declared.view.Has.TheVariants.{Nothing};
-ghost use Rattle.papaya_views.specs.Given.SeizeViews.declared.view.View.TheVariants.{Inside, Outside, Rests};
+ghost use Rattle.papaya_views.specs.Given.SeizeViewsDeclared.view.Has.TheVariants.{Nothing};
+ghost use Rattle.papaya_views.specs.Given.SeizeViewsDeclared.view.View.TheVariants.{Inside, Outside, Rests};
 
 use crate::caller::Caller;
 use crate::within::Ran;

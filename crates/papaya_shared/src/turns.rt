@@ -7,13 +7,13 @@ use std::marker::{Brand, PhantomData};
 
 /// What a call is to do that begins.
 pub trait Wants<K, V> {
-    ghost use Rattle.papaya_views.specs.Given.Acts.Acts.{Wanted};
+    ghost use Rattle.papaya_views.specs.Given.ActsActs.{Wanted};
 
     ghost wanted: { Wanted K V };
 }
 
 impl<K, V> Wants<K, V> for Brand {
-    ghost use Rattle.papaya_views.specs.Given.Acts.Acts.{Count};
+    ghost use Rattle.papaya_views.specs.Given.ActsActs.{Count};
 
     ghost wanted = { Count };
 }
@@ -29,7 +29,7 @@ impl<K: Eq, V, S: Hashes<K>, B: Wants<K, V>> Turn<Fixed, View<K, V, S>> for Begi
 
 /// By which machine a map may be made, with which hasher.
 pub trait Plans<S> {
-    ghost use Rattle.papaya_views.specs.Given.Resize.declared.new_map.NewMap.{NewMap};
+    ghost use Rattle.papaya_views.specs.Given.ResizeDeclared.new_map.NewMap.{NewMap};
 
     ghost plans: { S → NewMap → Type 0 };
 }

@@ -1,6 +1,6 @@
 //! A map that is made, handed on, and looked through by threads.
 ghost use Rattle.std.specs.Prelude.{◌≡◌};
-ghost use Rattle.papaya_shared.specs.Given.SeizeViews.declared.view.View.TheVariants.{Rests};
+ghost use Rattle.papaya_shared.specs.Given.SeizeViewsDeclared.view.View.TheVariants.{Rests};
 
 use papaya_shared::seize_words::Fault;
 use papaya_shared::{Fixed, Session, memory_for};

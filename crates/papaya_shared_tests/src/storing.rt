@@ -1,7 +1,7 @@
 //! Two threads store pairs in one map, half of their keys the same.
 ghost use Rattle.std.specs.Prelude.{◌≡◌};
-ghost use Rattle.papaya_shared.specs.Given.SeizeViews.declared.view.Has.TheVariants.{Nothing};
-ghost use Rattle.papaya_shared.specs.Given.SeizeViews.declared.view.View.TheVariants.{Inside, Rests};
+ghost use Rattle.papaya_shared.specs.Given.SeizeViewsDeclared.view.Has.TheVariants.{Nothing};
+ghost use Rattle.papaya_shared.specs.Given.SeizeViewsDeclared.view.View.TheVariants.{Inside, Rests};
 
 use papaya_shared::{Fixed, Session, memory_for};
 use std::hash::{BuildHasherDefault, DefaultHasher};

@@ -6,8 +6,8 @@ ghost use Rattle.papaya_shared.specs.Making.{CameTo, MayBegin};
 ghost use Rattle.papaya_views.specs.Looks.{shown_in};
 ghost use Rattle.papaya_views.specs.Rule.{Holds};
 ghost use Rattle.papaya_views.specs.declared.view.Work.TheVariants.{Nothing as NoWork};
-ghost use Rattle.papaya_views.specs.Given.SeizeSeats.Lendings.{IsValueOf};
-ghost use Rattle.papaya_views.specs.Given.SeizeViews.declared.view.View.TheVariants.{Rests};
+ghost use Rattle.papaya_views.specs.Given.SeizeSeatsLendings.{IsValueOf};
+ghost use Rattle.papaya_views.specs.Given.SeizeViewsDeclared.view.View.TheVariants.{Rests};
 
 use crate::caller::Caller;
 use crate::errands::{Finds, Inserts, Makes};

@@ -1,8 +1,8 @@
 //! A caller is sent to take a slot, to enter, to leave, and to give the slot up.
 ghost use Rattle.std.specs.Prelude.{◌≡◌, IfErr, IfOk};
 ghost use Rattle.papaya_views.specs.declared.view.Work.TheVariants.{Nothing as NoWork};
-ghost use Rattle.papaya_views.specs.Given.SeizeViews.declared.view.Has.TheVariants.{Nothing};
-ghost use Rattle.papaya_views.specs.Given.SeizeViews.declared.view.View.TheVariants.{Inside, Outside, Rests};
+ghost use Rattle.papaya_views.specs.Given.SeizeViewsDeclared.view.Has.TheVariants.{Nothing};
+ghost use Rattle.papaya_views.specs.Given.SeizeViewsDeclared.view.View.TheVariants.{Inside, Outside, Rests};
 
 use crate::caller::Caller;
 use papaya_views::papaya_tables::Hashes;

@@ -1,14 +1,14 @@
 //! A seat on an errand runs a call on one key that asks nothing.
 ghost use Rattle.std.specs.Prelude.{◌≡◌, ℕ, true, false, Some};
-ghost use Rattle.papaya_views.specs.Given.Acts.Acts.{Insert};
+ghost use Rattle.papaya_views.specs.Given.ActsActs.{Insert};
 ghost use Rattle.papaya_shared.specs.Calling.{CalledSo, HasEnded, IsCalling, MayCall};
 ghost use Rattle.papaya_shared.specs.Looking.{Begins, StaysThere};
 ghost use Rattle.papaya_shared.specs.Made.{IsSameSeat};
-ghost use Rattle.papaya_views.specs.Given.Tables.Chunks.{is_incremental};
+ghost use Rattle.papaya_views.specs.Given.TablesChunks.{is_incremental};
 ghost use Rattle.papaya_views.specs.declared.view.Map.{Map};
 ghost use Rattle.papaya_views.specs.declared.view.Work.TheVariants.{Nothing as NoWork};
-ghost use Rattle.papaya_views.specs.Given.SeizeViews.declared.view.Has.TheVariants.{Nothing};
-ghost use Rattle.papaya_views.specs.Given.SeizeViews.declared.view.View.TheVariants.{Inside};
+ghost use Rattle.papaya_views.specs.Given.SeizeViewsDeclared.view.Has.TheVariants.{Nothing};
+ghost use Rattle.papaya_views.specs.Given.SeizeViewsDeclared.view.View.TheVariants.{Inside};
 
 use crate::turns::{Beginning, Stepping, Wants};
 use crate::within::Within;

@@ -1,13 +1,13 @@
 //! A seat on an errand looks a key up.
 ghost use Rattle.std.specs.Prelude.{◌≡◌, ℕ, true, Some};
-ghost use Rattle.papaya_views.specs.Given.Acts.Acts.{Get};
+ghost use Rattle.papaya_views.specs.Given.ActsActs.{Get};
 ghost use Rattle.papaya_shared.specs.Looking.{Begins, HasLooked, LookedSo, LooksFor, MayLook, StaysThere};
 ghost use Rattle.papaya_shared.specs.Made.{IsSameSeat};
-ghost use Rattle.papaya_views.specs.Given.Tables.Chunks.{is_incremental};
+ghost use Rattle.papaya_views.specs.Given.TablesChunks.{is_incremental};
 ghost use Rattle.papaya_views.specs.declared.view.Map.{Map};
 ghost use Rattle.papaya_views.specs.declared.view.Work.TheVariants.{Nothing as NoWork};
-ghost use Rattle.papaya_views.specs.Given.SeizeViews.declared.view.Has.TheVariants.{Nothing};
-ghost use Rattle.papaya_views.specs.Given.SeizeViews.declared.view.View.TheVariants.{Inside};
+ghost use Rattle.papaya_views.specs.Given.SeizeViewsDeclared.view.Has.TheVariants.{Nothing};
+ghost use Rattle.papaya_views.specs.Given.SeizeViewsDeclared.view.View.TheVariants.{Inside};
 
 use crate::turns::{Beginning, Wants};
 use crate::within::Within;

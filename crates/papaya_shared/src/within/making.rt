@@ -3,7 +3,7 @@ ghost use Rattle.std.specs.Prelude.{◌≡◌};
 ghost use Rattle.papaya_shared.specs.Made.{IsSameSeat};
 ghost use Rattle.papaya_shared.specs.Making.{BeginsMaking, CameTo, GetsOn, IsThis, KnowsStill, MadeSo, MakesMap, MayBegin, PlansJust, StaysChosen};
 ghost use Rattle.papaya_views.specs.declared.view.Work.TheVariants.{Nothing as NoWork};
-ghost use Rattle.papaya_views.specs.Given.SeizeViews.declared.view.View.TheVariants.{Rests};
+ghost use Rattle.papaya_views.specs.Given.SeizeViewsDeclared.view.View.TheVariants.{Rests};
 
 use crate::turns::{Making, Plans};
 use crate::within::Within;

@@ -1,6 +1,6 @@
 use Rattle.std.proofs.Common.{◌≡◌}
-use Rattle.papaya_shared.specs.Given.SeizeViews.declared.view.Has.TheVariants.{Nothing}
-use Rattle.papaya_shared.specs.Given.SeizeViews.declared.view.View.TheVariants.{Inside}
+use Rattle.papaya_shared.specs.Given.SeizeViewsDeclared.view.Has.TheVariants.{Nothing}
+use Rattle.papaya_shared.specs.Given.SeizeViewsDeclared.view.View.TheVariants.{Inside}
 use Rattle.papaya_shared_tests.proofs.storing.stores.Given as goal
 
 -- the session stays in its section

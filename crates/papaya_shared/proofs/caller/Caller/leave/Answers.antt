@@ -1,6 +1,6 @@
 use Rattle.std.proofs.Common.{refl}
-use Rattle.papaya_views.specs.Given.SeizeViews.declared.view.Has.TheVariants.{Nothing}
-use Rattle.papaya_views.specs.Given.SeizeViews.declared.view.View.TheVariants.{Inside, Outside}
+use Rattle.papaya_views.specs.Given.SeizeViewsDeclared.view.Has.TheVariants.{Nothing}
+use Rattle.papaya_views.specs.Given.SeizeViewsDeclared.view.View.TheVariants.{Inside, Outside}
 use Rattle.papaya_views.specs.Notes.{notes_of}
 use Rattle.papaya_views.proofs.Contents.{knows_free}
 use Rattle.seize_callers.proofs.Keeping.{none_away}

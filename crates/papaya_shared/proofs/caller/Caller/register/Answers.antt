@@ -1,4 +1,4 @@
-use Rattle.papaya_views.specs.Given.SeizeViews.declared.view.View.TheVariants.{Rests}
+use Rattle.papaya_views.specs.Given.SeizeViewsDeclared.view.View.TheVariants.{Rests}
 use Rattle.seize_callers.proofs.Keeping.{none_away}
 use Rattle.seize_callers.proofs.Resting.{registered}
 use Rattle.papaya_views.specs.Notes.{notes_of}

@@ -1,4 +1,4 @@
-use Rattle.papaya_views.specs.Given.SeizeViews.declared.view.View.TheVariants.{Outside, Rests}
+use Rattle.papaya_views.specs.Given.SeizeViewsDeclared.view.View.TheVariants.{Outside, Rests}
 use Rattle.papaya_views.specs.Notes.{notes_of}
 use Rattle.papaya_views.proofs.Contents.{knows_free}
 use Rattle.seize_callers.proofs.Keeping.{none_away}

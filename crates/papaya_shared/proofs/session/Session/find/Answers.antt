@@ -1,5 +1,5 @@
 use Rattle.std.proofs.Common.{ap, ◌∙◌}
-use Rattle.papaya_views.specs.Given.Resize.Lookup.{looking}
+use Rattle.papaya_views.specs.Given.ResizeLookup.{looking}
 use Rattle.papaya_shared.proofs.Sessions.{may_look}
 use Rattle.papaya_shared.proofs.session.Session.find.Goals as goal
 

@@ -1,7 +1,7 @@
 use Rattle.std.proofs.Common.{subst}
-use Rattle.papaya_views.specs.Given.SeizeSeats.Lendings.{IsValueOf}
-use Rattle.papaya_views.specs.Given.SeizeWords.Word.{block_in}
-use Rattle.papaya_views.specs.Given.Tables.declared.node.Node.{Node}
+use Rattle.papaya_views.specs.Given.SeizeSeatsLendings.{IsValueOf}
+use Rattle.papaya_views.specs.Given.SeizeWordsWord.{block_in}
+use Rattle.papaya_views.specs.Given.TablesDeclared.node.Node.{Node}
 use Rattle.papaya_views.specs.Rule.{Holds}
 use Rattle.papaya_shared.proofs.session.Session.value.Goals as goal
 

@@ -1,4 +1,4 @@
-use Rattle.papaya_views.specs.Given.Acts.Acts.{Insert}
+use Rattle.papaya_views.specs.Given.ActsActs.{Insert}
 use Rattle.papaya_shared.proofs.within.Within.begins_to_insert.Given as goal
 
 -- what is wanted is that pair

@@ -1,4 +1,4 @@
-use Rattle.papaya_views.specs.Given.Acts.Acts.{Get}
+use Rattle.papaya_views.specs.Given.ActsActs.{Get}
 use Rattle.papaya_shared.proofs.within.Within.begins_to_look.Given as goal
 
 -- what is wanted is that key

@@ -1,5 +1,5 @@
 use Rattle.std.proofs.Common.{subst}
-use Rattle.papaya_views.specs.Given.Acts.Acts.{Wanted}
+use Rattle.papaya_views.specs.Given.ActsActs.{Wanted}
 use Rattle.seize_callers.proofs.Keeping.{still_kept}
 use Rattle.papaya_shared.specs.Looking.{Begins}
 use Rattle.papaya_shared.proofs.Beginnings.{may_begin}

@@ -1,4 +1,4 @@
-use Rattle.papaya_views.specs.Given.Acts.Acts.{Get}
+use Rattle.papaya_views.specs.Given.ActsActs.{Get}
 use Rattle.papaya_shared.proofs.Beginnings.{looks_for, stays_begun, stays_on}
 use Rattle.papaya_shared.proofs.within.Within.finds.Goals as goal
 

@@ -1,6 +1,6 @@
 use Rattle.std.proofs.Common.{subst, ◌∙◌}
-use Rattle.papaya_views.specs.Given.Seize.declared.progress.Progress.{Progress}
-use Rattle.papaya_views.specs.Given.Tables.declared.setting.Setting.{Setting}
+use Rattle.papaya_views.specs.Given.SeizeDeclared.progress.Progress.{Progress}
+use Rattle.papaya_views.specs.Given.TablesDeclared.setting.Setting.{Setting}
 use Rattle.papaya_shared.specs.Making.{MadeSo, KnowsStill, StaysChosen}
 use Rattle.papaya_shared.proofs.within.Within.goes_on.Goals as goal
 

@@ -1,4 +1,4 @@
-use Rattle.papaya_views.specs.Given.Acts.Acts.{Insert}
+use Rattle.papaya_views.specs.Given.ActsActs.{Insert}
 use Rattle.papaya_shared.proofs.Beginnings.{stores, stays_begun, stays_on}
 use Rattle.papaya_shared.proofs.within.Within.inserts.Goals as goal
 
