@@ -88,7 +88,7 @@ module _ {K V S : Type 0} (same : K → K → Bool) (hash : S → K → ℕ) (ke
       let its : setting ≡ record map.setting { slot = begins.1 } =
       may.is ∙ ap (λ (m : Map S). record m.setting { slot = setting.slot }) one ∙ ap (λ (t : ℕ). record map.setting { slot = t }) slot in
       let hashes : map.hasher ≡ hasher = ap (λ (m : Map S). m.hasher) (sym one) ∙ may.hashes in
-      let word : hashed ≡ hash map.hasher key = may.hashed ∙ ap (λ (h : S). hash h key) (sym hashes) in record {
+      let word : hashed ≡ hash map.hasher key = may.word ∙ ap (λ (h : S). hash h key) (sym hashes) in record {
         map = map;
         knows = ap (λ (u : View K V S). u.map) begins.4 ∙ begins.2;
         hashes = hashes;

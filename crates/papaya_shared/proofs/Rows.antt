@@ -25,12 +25,16 @@ module _ {K V S : Type 0} where
   rests_so : (v : View K V S) (x : SlotView (Node K V)) → v.slot ≡ x → v.work ≡ Nothing → IsAtRest x → IsResting v
   rests_so v x slot free rests = subst (λ (y : SlotView (Node K V)). IsAtRest y) (sym (known_free v x slot free)) rests
 
-  -- who has looked for a slot has one, or none
-  pub has_registered : (w : View K V S) (answer : Result ℕ Fault)
-      → IfOk answer (λ slot. (notes_of w).knows ≡ Outside slot) × IfErr answer (λ fault. (notes_of w).knows ≡ Rests)
-      → IfOk answer (λ slot. w.slot ≡ Outside slot) × IfErr answer (λ fault. w.slot ≡ Rests) × (w.work ≡ Nothing)
-  has_registered w (Ok slot) is = let k = knows_free w (Outside slot) tt is.0 in (k.1, tt, k.0)
-  has_registered w (Err fault) is = let k = knows_free w Rests tt is.1 in (tt, k.1, k.0)
+  -- what the notes say of who has looked for a slot
+  abbrev pub Noted : View K V S → Result ℕ Fault → Type 0
+  Noted w answer = IfOk answer (λ slot. (notes_of w).knows ≡ Outside slot) × IfErr answer (λ fault. (notes_of w).knows ≡ Rests)
+
+  -- who has found a slot has it, and who has found none has none
+  pub took : (w : View K V S) (answer : Result ℕ Fault) (slot : ℕ) → answer ≡ Ok slot → Noted w answer → (w.work ≡ Nothing) × (w.slot ≡ Outside slot)
+  took w answer slot e is = knows_free w (Outside slot) tt (subst (λ (r : Result ℕ Fault). Noted w r) e is).0
+
+  pub took_none : (w : View K V S) (answer : Result ℕ Fault) (fault : Fault) → answer ≡ Err fault → Noted w answer → (w.work ≡ Nothing) × (w.slot ≡ Rests)
+  took_none w answer fault e is = knows_free w Rests tt (subst (λ (r : Result ℕ Fault). Noted w r) e is).1
 
   -- who has made a map, or was refused, rests
   pub rests_after : (hasher : S) (opening : NewMap) (answer : Result Setting Fault) (v w : View K V S) → v.slot ≡ Rests → CameTo hasher opening answer v w → IsResting w

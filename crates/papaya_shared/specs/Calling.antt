@@ -97,7 +97,7 @@ module _ {K V S : Type 0} where
     pub incremental : is_incremental map.setting.mode ≡ true
     pub free : v.work ≡ Nothing
     pub is : setting ≡ record map.setting { slot = setting.slot }
-    pub hashed : hashed ≡ hash hasher key
+    pub word : hashed ≡ hash hasher key
 
   -- what a call has come to
   pub record HasCalled (answer : Result Answer Fault) (v w : View K V S) : Type 0 where

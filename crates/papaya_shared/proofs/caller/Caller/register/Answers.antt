@@ -2,7 +2,7 @@ use Rattle.papaya_views.specs.Given.SeizeViewsDeclared.view.View.TheVariants.{Re
 use Rattle.seize_callers.proofs.Keeping.{none_away}
 use Rattle.seize_callers.proofs.Resting.{registered}
 use Rattle.papaya_views.specs.Notes.{notes_of}
-use Rattle.papaya_shared.proofs.Rows.{known_free, has_registered}
+use Rattle.papaya_shared.proofs.Rows.{known_free, took}
 use Rattle.papaya_shared.proofs.caller.Caller.register.Goals as goal
 
 pub errand-requires-clause-home : goal.errand-requires-clause-home
@@ -15,10 +15,7 @@ pub errand-requires-clause-ends : goal.errand-requires-clause-ends
 errand-requires-clause-ends g c = λ answer w did. registered (notes_of w).knows answer did.0
 
 pub returns-clause-taken : goal.returns-clause-taken
-returns-clause-taken g c = (has_registered c.errand.new.seat.view c.errand.result c.errand.ensures.did.0).0
-
-pub returns-clause-refused : goal.returns-clause-refused
-returns-clause-refused g c = (has_registered c.errand.new.seat.view c.errand.result c.errand.ensures.did.0).1
+returns-clause-taken g c = (took c.errand.new.seat.view c.errand.result c.in_ok-slot.slot c.in_ok-slot.is c.errand.ensures.did.0).1
 
 pub returns-clause-free : goal.returns-clause-free
-returns-clause-free g c = (has_registered c.errand.new.seat.view c.errand.result c.errand.ensures.did.0).2
+returns-clause-free g c = (took c.errand.new.seat.view c.errand.result c.in_ok-slot.slot c.in_ok-slot.is c.errand.ensures.did.0).0
