@@ -30,4 +30,5 @@ pub mod Rows
 pub mod Contents
 pub mod Exact
 pub mod Laws
+pub mod Given
 mod Samples

@@ -7,7 +7,11 @@ use Rattle.papaya_tables.specs.declared.node.Node.{Node}
 use Rattle.papaya_tables.specs.declared.resize_mode.ResizeMode.TheVariants.{Incremental}
 use Rattle.papaya_tables.specs.declared.setting.Setting.{Setting}
 use Rattle.papaya_raw.specs.declared.machines.machine.Machine.{Machine}
+use Rattle.papaya_raw.specs.declared.machines.answer.KeyAnswer.{KeyAnswer}
+use Rattle.papaya_raw.specs.declared.machines.answer.KeyAnswer.TheVariants.{Absent, Found as FoundThere}
+use Rattle.papaya_raw.specs.declared.machines.progress.Answer.TheVariants.{Key}
 use Rattle.papaya_raw.specs.declared.machines.progress.Progress.{Progress}
+use Rattle.papaya_raw.specs.declared.machines.progress.Progress.TheVariants.{Done}
 use Rattle.papaya_tables.specs.Given.SeizeDeclared.states.TheConstants.{HEAD, ACTIVE}
 use Rattle.papaya_acts.specs.Acts.{Get}
 use Rattle.seize_views.specs.declared.view.Has.TheVariants.{Nothing as NoBlock}
@@ -19,7 +23,7 @@ use Rattle.seize_views.specs.declared.view.View.TheVariants.{Outside, Enters, In
 use Rattle.papaya_views.specs.Begun.{machine_for, with_slot}
 use Rattle.papaya_views.specs.Notes.{notes_of}
 use Rattle.seize_views.specs.declared.view.Began.TheVariants.{NotYet, Section}
-use Rattle.papaya_views.specs.Told.{told, call_after}
+use Rattle.papaya_views.specs.Told.{told, call_after, untold}
 use Rattle.papaya_views.specs.declared.view.Map.{Map}
 use Rattle.papaya_views.specs.declared.view.View.{View}
 use Rattle.papaya_views.specs.declared.view.Work.{Work}
@@ -45,11 +49,19 @@ abbrev machine : Machine ℕ ℕ ℕ
 machine = machine_for same hash map 0 (Get 5)
 
 abbrev with_work : Work ℕ ℕ ℕ → View ℕ ℕ ℕ
-with_work work = record { slot = Inside 0 NoBlock; map = Some map; work = work; looks = []; held = []; began = NotYet }
+with_work work = record { slot = Inside 0 NoBlock; map = Some map; work = work; looks = []; held = []; began = NotYet; last = untold }
 
--- the root leads nowhere: the call has ended
-ends : told same hash (with_work (Calls machine)) (Load (Root 3)) (Found 0) (with_work Nothing)
+abbrev answered : KeyAnswer → View ℕ ℕ ℕ
+answered answer = record (with_work Nothing) { last = Done (Key answer) }
+
+-- the root leads nowhere: the call has ended, and has answered that the key is not there
+ends : told same hash (with_work (Calls machine)) (Load (Root 3)) (Found 0) (answered Absent)
 ends = (_, refl, refl, tt)
+
+-- and not that it is
+not_found : told same hash (with_work (Calls machine)) (Load (Root 3)) (Found 0) (answered (FoundThere 8)) → ⊥
+not_found (end, follows, is, may) =
+    let last = ap (λ (v : View ℕ ℕ ℕ). v.last) is in let told = ap (λ (e : Machine ℕ ℕ ℕ × Progress (Node ℕ ℕ)). e.1) follows in cc (last, told)
 
 -- and does not go on
 not_on : (told same hash (with_work (Calls machine)) (Load (Root 3)) (Found 0) (with_work (Calls machine))) → ⊥

@@ -6,3 +6,4 @@ pub mod Begun
 pub mod Notes
 pub mod Resting
 pub mod Promises
+pub mod Given

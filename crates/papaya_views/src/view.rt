@@ -1,5 +1,5 @@
 //! What those know that share the memory of maps.
-use papaya_raw::machines::Machine;
+use papaya_raw::machines::{Machine, Progress};
 use papaya_resize::NewMap;
 use papaya_tables::{Node, Setting};
 use std::collections::LinkedList;
@@ -18,6 +18,8 @@ pub struct View<K, V, S> {
     pub held: LinkedList<(u64, Node<K, V>)>,
     /// What it has begun last on its slot.
     pub began: seize_views::Began,
+    /// What the last step of its call has told, where it has taken no other step since: how far the call is, or what it has answered.
+    pub last: Progress<Node<K, V>>,
 }
 
 /// A map that stands.

@@ -1,0 +1,13 @@
+mod Plans
+mod Looking
+mod Making
+mod Quiet
+mod Asking
+mod Calls
+mod Calling
+mod Lookups
+mod Makings
+mod Beginnings
+mod Shown
+mod Rows
+mod Sessions

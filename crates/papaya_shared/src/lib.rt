@@ -1,0 +1,16 @@
+//! Maps that threads share, under the rule of maps: a seat makes a map, hands it on to others, and looks there for keys, by the steps of the machines.
+#![tactic(auto)]
+
+mod caller;
+mod errands;
+mod memory;
+mod session;
+mod turns;
+mod within;
+
+pub use caller::Caller;
+pub use memory::memory_for;
+pub use papaya_views::OfMaps;
+pub use papaya_views::papaya_tables::seize_words;
+pub use papaya_views::seize_views::Fixed;
+pub use session::{Found, Session};
