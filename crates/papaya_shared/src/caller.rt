@@ -11,9 +11,9 @@ mod calls;
 mod rows;
 
 use crate::turns::Showing;
+use papaya_tables::{Hashes, Node};
 use papaya_views::OfMaps;
-use papaya_views::papaya_tables::{Hashes, Node};
-use papaya_views::seize_blocks::{Blocks, Seat};
+use seize_blocks::{Blocks, Seat};
 
 /// One of those who share the memory of maps: a seat of it, which is on no errand, with the memory.
 pub struct Caller<'a, K: Eq, V, S: Hashes<K>> {

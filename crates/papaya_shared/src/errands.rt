@@ -7,11 +7,11 @@ ghost use Rattle.papaya_views.specs.declared.view.Work.TheVariants.{Nothing as N
 ghost use Rattle.papaya_views.specs.Given.SeizeViewsDeclared.view.View.TheVariants.{Rests};
 
 use crate::within::{Ran, Within};
+use papaya_resize::{Lookup, NewMap};
+use papaya_tables::{Hashes, Node, Setting};
 use papaya_views::OfMaps;
-use papaya_views::papaya_resize::{Lookup, NewMap};
-use papaya_views::papaya_tables::seize_words::Fault;
-use papaya_views::papaya_tables::{Hashes, Node, Setting};
-use papaya_views::seize_blocks::{Blocks, Errand, Seat};
+use seize_blocks::{Blocks, Errand, Seat};
+use seize_words::Fault;
 use std::hash::Hash;
 use std::sync::Wait;
 

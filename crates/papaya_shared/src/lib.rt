@@ -11,6 +11,5 @@ mod within;
 pub use caller::Caller;
 pub use memory::memory_for;
 pub use papaya_views::OfMaps;
-pub use papaya_views::papaya_tables::seize_words;
-pub use papaya_views::seize_views::Fixed;
+pub use seize_views::Fixed;
 pub use session::{Found, Session};

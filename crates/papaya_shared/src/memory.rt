@@ -1,10 +1,10 @@
 //! The memory that maps share.
 ghost use Rattle.std.specs.Prelude.{◌≡◌, ◌≤◌, ◌^◌, IfOk};
 
+use papaya_tables::Node;
 use papaya_views::OfMaps;
-use papaya_views::papaya_tables::Node;
-use papaya_views::seize_blocks::Home;
-use papaya_views::seize_views::Fixed;
+use seize_blocks::Home;
+use seize_views::Fixed;
 use std::alloc::{AllocError, Global};
 use std::hash::{BuildHasher, Hash};
 

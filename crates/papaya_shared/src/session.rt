@@ -11,13 +11,13 @@ ghost use Rattle.papaya_views.specs.Given.SeizeViewsDeclared.view.View.TheVarian
 
 use crate::caller::Caller;
 use crate::within::Ran;
+use papaya_raw::machines::{Answer, KeyAnswer};
+use papaya_resize::{Lookup, NewMap};
+use papaya_tables::{Counter, Hashes, Node, ResizeMode, Setting};
 use papaya_views::OfMaps;
-use papaya_views::machines::{Answer, KeyAnswer};
-use papaya_views::papaya_resize::{Lookup, NewMap};
-use papaya_views::papaya_tables::seize_words::{Fault, Link};
-use papaya_views::papaya_tables::{Counter, Hashes, Node, ResizeMode, Setting};
-use papaya_views::seize_blocks::Blocks;
-use papaya_views::seize_views::Fixed;
+use seize_blocks::Blocks;
+use seize_views::Fixed;
+use seize_words::{Fault, Link};
 use std::hash::Hash;
 use std::sync::Wait;
 

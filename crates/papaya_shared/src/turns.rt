@@ -1,8 +1,8 @@
 //! The steps of a seat of maps, or of two, that make no operation. Which call begins, and which making, is picked by who takes the step.
+use papaya_tables::Hashes;
 use papaya_views::View;
-use papaya_views::papaya_tables::Hashes;
-use papaya_views::seize_blocks::{Meeting, Turn};
-use papaya_views::seize_views::Fixed;
+use seize_blocks::{Meeting, Turn};
+use seize_views::Fixed;
 use std::marker::{Brand, PhantomData};
 
 /// What a call is to do that begins.

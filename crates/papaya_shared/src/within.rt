@@ -7,9 +7,9 @@ mod making;
 mod memory;
 
 pub(crate) use calling::Ran;
+use papaya_tables::{Hashes, Node};
 use papaya_views::OfMaps;
-use papaya_views::papaya_tables::{Hashes, Node};
-use papaya_views::seize_blocks::{Blocks, Seat};
+use seize_blocks::{Blocks, Seat};
 
 /// A seat of maps on an errand, with the memory. It is a memory for the machine that it has under way, and knows whether an operation was made.
 #[derive(Drop)]

@@ -2,8 +2,8 @@
 ghost use Rattle.std.specs.Prelude.{◌≡◌};
 ghost use Rattle.papaya_shared.specs.Given.SeizeViewsDeclared.view.View.TheVariants.{Rests};
 
-use papaya_shared::seize_words::Fault;
 use papaya_shared::{Fixed, Session, memory_for};
+use seize_words::Fault;
 use std::hash::{BuildHasherDefault, DefaultHasher};
 use std::test::Fail;
 use std::thread;

@@ -3,9 +3,9 @@ pub use Rattle.seize_words.specs.Op as SeizeWordsOp
 pub use Rattle.seize_words.specs.Plan as SeizeWordsPlan
 pub use Rattle.seize_words.specs.Word as SeizeWordsWord
 pub use Rattle.seize_words.specs.declared as SeizeWordsDeclared
-pub use Rattle.papaya_tables.specs.Given.Seize.Defer as SeizeDefer
-pub use Rattle.papaya_tables.specs.Given.Seize.Settle as SeizeSettle
-pub use Rattle.papaya_tables.specs.Given.Seize.declared as SeizeDeclared
+pub use Rattle.papaya_tables.specs.Given.SeizeDefer
+pub use Rattle.papaya_tables.specs.Given.SeizeSettle
+pub use Rattle.papaya_tables.specs.Given.SeizeDeclared
 pub use Rattle.seize_seats.specs.Lendings as SeizeSeatsLendings
 pub use Rattle.seize_seats.specs.State as SeizeSeatsState
 pub use Rattle.seize_views.specs.Promises as SeizeViewsPromises

@@ -9,7 +9,4 @@ mod view;
 
 pub use law::{calls_begin, calls_go_on, makings_go_on, rows_go_on};
 pub use maps::OfMaps;
-pub use papaya_raw::{machines, papaya_resize, papaya_tables};
-pub use seize_blocks;
-pub use seize_views;
 pub use view::{Map, View, Work};

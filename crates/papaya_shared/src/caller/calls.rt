@@ -12,9 +12,9 @@ ghost use Rattle.papaya_views.specs.Given.SeizeViewsDeclared.view.View.TheVarian
 use crate::caller::Caller;
 use crate::errands::{Finds, Inserts, Makes};
 use crate::within::Ran;
-use papaya_views::papaya_resize::{Lookup, NewMap};
-use papaya_views::papaya_tables::seize_words::Fault;
-use papaya_views::papaya_tables::{Hashes, Node, Setting};
+use papaya_resize::{Lookup, NewMap};
+use papaya_tables::{Hashes, Node, Setting};
+use seize_words::Fault;
 use std::hash::Hash;
 use std::sync::Wait;
 

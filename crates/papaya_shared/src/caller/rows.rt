@@ -5,9 +5,9 @@ ghost use Rattle.papaya_views.specs.Given.SeizeViewsDeclared.view.Has.TheVariant
 ghost use Rattle.papaya_views.specs.Given.SeizeViewsDeclared.view.View.TheVariants.{Inside, Outside, Rests};
 
 use crate::caller::Caller;
-use papaya_views::papaya_tables::Hashes;
-use papaya_views::papaya_tables::seize_words::Fault;
+use papaya_tables::Hashes;
 use seize_callers::errands::{Enters, Frees, Leaves, Registers};
+use seize_words::Fault;
 
 impl<'a, K: Eq, V, S: Hashes<K>> Caller<'a, K, V, S> {
     /// Takes the first slot that can be taken.

@@ -12,9 +12,9 @@ ghost use Rattle.papaya_views.specs.Given.SeizeViewsDeclared.view.View.TheVarian
 
 use crate::turns::{Beginning, Stepping, Wants};
 use crate::within::Within;
-use papaya_views::machines::{Answer, KeyCall, Machine, Progress};
-use papaya_views::papaya_tables::seize_words::Fault;
-use papaya_views::papaya_tables::{Hashes, Node, Setting};
+use papaya_raw::machines::{Answer, KeyCall, Machine, Progress};
+use papaya_tables::{Hashes, Node, Setting};
+use seize_words::Fault;
 use std::hash::Hash;
 use std::marker::Brand;
 use std::sync::Wait;

@@ -11,9 +11,9 @@ ghost use Rattle.papaya_views.specs.Given.SeizeViewsDeclared.view.View.TheVarian
 
 use crate::turns::{Beginning, Wants};
 use crate::within::Within;
-use papaya_views::papaya_resize::Lookup;
-use papaya_views::papaya_tables::Hashes;
-use papaya_views::papaya_tables::seize::Progress;
+use papaya_resize::Lookup;
+use papaya_tables::Hashes;
+use seize::Progress;
 use std::hash::Hash;
 use std::marker::Brand;
 use std::sync::Wait;

@@ -7,10 +7,10 @@ ghost use Rattle.papaya_views.specs.Given.SeizeViewsDeclared.view.View.TheVarian
 
 use crate::turns::{Making, Plans};
 use crate::within::Within;
-use papaya_views::papaya_resize::NewMap;
-use papaya_views::papaya_tables::seize::{Machine, Progress};
-use papaya_views::papaya_tables::seize_words::Fault;
-use papaya_views::papaya_tables::{Hashes, Setting};
+use papaya_resize::NewMap;
+use papaya_tables::{Hashes, Setting};
+use seize::{Machine, Progress};
+use seize_words::Fault;
 use std::marker::Brand;
 
 impl<'a, K: Eq, V, S: Hashes<K>> Within<'a, K, V, S> {

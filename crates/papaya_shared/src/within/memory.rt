@@ -1,7 +1,7 @@
 //! A seat on an errand as the memory of the machine that it has under way.
 use crate::within::Within;
-use papaya_views::papaya_tables::seize_words::{At, Fault, Look, Memory};
-use papaya_views::papaya_tables::{Hashes, Node};
+use papaya_tables::{Hashes, Node};
+use seize_words::{At, Fault, Look, Memory};
 
 impl<'a, K: Eq, V, S: Hashes<K>> Look<Node<K, V>> for Within<'a, K, V, S> {
     ghost use Rattle.papaya_shared.specs.Made.{CanMake, HasMade, shown_of};
