@@ -1,5 +1,5 @@
 -- A call begins, or is told something; and a map is handed on.
-use Rattle.std.specs.Prelude.{Option, Some, None}
+use Rattle.std.specs.Prelude.{List, [], ◌∷◌, Option, Some, None}
 use Rattle.std.specs.Option.{is_none}
 use Rattle.std.proofs.Common.{◌≡◌, ℕ, Bool, true, refl, sym, subst, ap, ◌∙◌}
 use Rattle.papaya_tables.specs.Chunks.{is_incremental}
@@ -25,6 +25,7 @@ use Rattle.seize_views.specs.declared.view.Has.TheVariants.{Nothing as NoBlock}
 use Rattle.seize_views.specs.declared.view.View.{View as SlotView}
 use Rattle.seize_views.specs.declared.view.View.TheVariants.{Inside}
 use Rattle.papaya_views.specs.Begun.{machine_for, calling, replied}
+use Rattle.papaya_views.specs.Told.{Run, untold}
 use Rattle.papaya_views.specs.Promises.{CallsBegin, CallsAreTold}
 use Rattle.papaya_views.specs.Rule.{MapsWorld, HasRow, DoesSo, KnowsMap, Fits, Holds, KeepsFor, caller_at, place_of}
 use Rattle.papaya_views.specs.declared.view.Map.{Map}
@@ -75,14 +76,14 @@ module _ {K V S : Type 0} (same : K → K → Bool) (hash : S → K → ℕ) (fi
     its_does : DoesSo same hash n i (Inside t NoBlock) (Some map) (Calls machine)
     its_does = (t, refl, inside_of same hash scene id t v NoBlock fits slot_is, record { call = u; here = call_here scene.calls map.number i (Some u); is = is }, on_row)
 
-    abbrev w : View K V S
-    w = calling v machine
+    abbrev w : List Run → View K V S
+    w runs = record { slot = v.slot; map = v.map; work = Calls machine; looks = []; held = []; began = v.began; calls = runs }
 
     leaves : Leaves same hash fixed.batch_size scene n i None
     leaves = leaves_all same hash fixed.batch_size scene map.number i (Some u)
 
-    go : Moved same hash fixed s h id s.memory w n
-    go = record {
+    go : (runs : List Run) → Moved same hash fixed s h id s.memory (w runs) n
+    go runs = record {
       memory = (are_so same hash fixed s h).memory;
       own = record {
         slot = fits.slot;
@@ -98,7 +99,7 @@ module _ {K V S : Type 0} (same : K → K → Bool) (hash : S → K → ℕ) (fi
       mine = None;
       leaves = leaves;
       theirs = λ j t a b x ne at uses e. cc e;
-      alone = same_slot same hash fixed s h id v w at_id refl;
+      alone = same_slot same hash fixed s h id v (w runs) at_id refl;
       fresh = (are_so same hash fixed s h).fresh;
       row = knows_inside fixed n id t v.slot slot_is;
     }
@@ -152,7 +153,7 @@ module _ {K V S : Type 0} (same : K → K → Bool) (hash : S → K → ℕ) (fi
     begins : Goes (Holds same hash fixed) KeepsFor s s.memory id (λ x. x ≡ calling v (machine_for same hash map t wanted))
     begins =
         moved same hash fixed s h id v at_id (BeginsCall i map.number wanted) may (n t slot_is (begun same slot_of led.0 i wanted) (machine_for same hash map t wanted) machine_is on_row) led.3 s.memory
-        (calling v (machine_for same hash map t wanted)) (go t slot_is (begun same slot_of led.0 i wanted) (machine_for same hash map t wanted) machine_is on_row)
+        (calling v (machine_for same hash map t wanted)) (go t slot_is (begun same slot_of led.0 i wanted) (machine_for same hash map t wanted) machine_is on_row ((machine_for same hash map t wanted, untold) ∷ v.calls))
         (λ x. x ≡ calling v (machine_for same hash map t wanted)) refl
 
   -- its call is told this
@@ -176,7 +177,7 @@ module _ {K V S : Type 0} (same : K → K → Bool) (hash : S → K → ℕ) (fi
         let is = way_slot same hash fixed s h id v at_id map machine knows works in
         let on = way_on same hash fixed s h id v at_id map machine knows works in
         moved same hash fixed s h id v at_id (TellsCall i map.number reply) told_may (n place is told_led.3 (machine_replied machine reply).0 reply_is on) told_led.8 s.memory
-        (replied v machine reply) (go place is told_led.3 (machine_replied machine reply).0 reply_is on) (λ x. x ≡ replied v machine reply) refl
+        (replied v machine reply) (go place is told_led.3 (machine_replied machine reply).0 reply_is on v.calls) (λ x. x ≡ replied v machine reply) refl
 
 module _ {K S : Type 0} (V : Type 0) (same : K → K → Bool) (hash : S → K → ℕ) where
   pub calls_begin : CallsBegin V same hash

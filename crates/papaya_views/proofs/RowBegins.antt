@@ -25,7 +25,6 @@ use Rattle.seize_views.specs.declared.view.View.{View as SlotView}
 use Rattle.seize_views.specs.declared.view.View.TheVariants as slot_view
 use Rattle.seize_views.specs.declared.view.Why.TheVariants.{Retiring, Ending}
 use Rattle.seize_views.proofs.InWorld.{IsJustSo, IsUsedLike, HasRow as RowIn, Began, BeginsTo, slot_in, HasNoBlock}
-use Rattle.papaya_views.specs.Told.{untold}
 use Rattle.papaya_views.specs.Rule.{MapsWorld, IsSlot, IsUsedSo, DoesSo, Holds, KeepsFor, caller_at, place_of}
 use Rattle.papaya_views.specs.declared.view.Map.{Map}
 use Rattle.papaya_views.specs.declared.view.View.{View}
@@ -228,6 +227,6 @@ module _ {K V S : Type 0} (same : K → K → Bool) (hash : S → K → ℕ) (fi
         (λ j t a b x ne at uses its. let had = g.slot t b its in ne ((so same hash fixed s h id v at_id).apart j id t a had.0 x v at at_id uses had.1))) so_told is
 
   pub begins_to : (noted : Noted) (so_in : SlotView (Node K V) → Type 0) (so_told : View K V S → Type 0) → BeginsTo deferred_word fixed now me v.slot so_in
-      → ((u : SlotView (Node K V)) → so_in u → so_told record { slot = u; map = v.map; work = Nothing; looks = []; held = []; began = noted; last = untold })
+      → ((u : SlotView (Node K V)) → so_in u → so_told record { slot = u; map = v.map; work = Nothing; looks = []; held = []; began = noted; calls = v.calls })
       → Goes (Holds same hash fixed) KeepsFor s s.memory id so_told
   begins_to noted so_in so_told (u, n, request, g, is) tells = goes u noted n request g so_told (tells u is)

@@ -19,7 +19,6 @@ use Rattle.seize_views.specs.declared.view.View.TheVariants as slot_view
 use Rattle.seize_views.specs.declared.view.Why.TheVariants.{Retiring, Ending}
 use Rattle.seize_views.proofs.InWorld.{slot_held, slot_of as same_number}
 use Rattle.seize_views.proofs.Moved.{not_vacant}
-use Rattle.papaya_views.specs.Told.{untold}
 use Rattle.papaya_views.specs.Rule.{MapsWorld, IsSlot, IsIdle, IsUsedSo, HasRow, DoesSo, Fits, AreSo, KnowsRow, Holds, IsFresh, caller_at, place_of, held_slot}
 use Rattle.papaya_views.specs.declared.view.Map.{Map}
 use Rattle.papaya_views.specs.declared.view.View.{View}
@@ -101,7 +100,7 @@ module _ {K V S : Type 0} (same : K → K → Bool) (hash : S → K → ℕ) (fi
       next = record scene { world = n; maps = maps2 }
 
       abbrev pub w : View K V S
-      w = record { slot = u; map = v.map; work = Nothing; looks = []; held = []; began = began; last = untold }
+      w = record { slot = u; map = v.map; work = Nothing; looks = []; held = []; began = began; calls = v.calls }
 
       pub maps_on : (m : ℕ) (r : Standing K) → scene.maps m ≡ Some r → (r2 : Standing K) × (maps2 m ≡ Some r2) × (r2.setting ≡ r.setting) × (r2.hash ≡ r.hash)
       maps_on m r is =

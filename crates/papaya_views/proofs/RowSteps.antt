@@ -27,7 +27,6 @@ use Rattle.seize_views.specs.declared.view.Fixed.{Fixed}
 use Rattle.seize_views.specs.declared.view.View.{View as SlotView}
 use Rattle.seize_views.proofs.InWorld.{IsLikeness, IsUsedLike, HasRow as RowIn, Went, GoesTo}
 use Rattle.seize_views.proofs.Steps.{works_on_own}
-use Rattle.papaya_views.specs.Told.{untold}
 use Rattle.papaya_views.specs.Rule.{MapsWorld, IsSlot, IsUsedSo, Holds, KeepsFor, held_slot}
 use Rattle.papaya_views.specs.declared.view.View.{View}
 use Rattle.papaya_views.specs.declared.view.Work.TheVariants.{Nothing}
@@ -154,5 +153,5 @@ module _ {K V S : Type 0} (same : K → K → Bool) (hash : S → K → ℕ) (fi
 
   -- what leads on in the world leads on
   pub steps_to : (m : Mem (Node K V)) (began : Began) (so_in : SlotView (Node K V) → Type 0) (so_told : View K V S → Type 0) → GoesTo deferred_word fixed IsUsedAlike now me v.slot m so_in
-      → ((u : SlotView (Node K V)) → so_in u → so_told record { slot = u; map = v.map; work = Nothing; looks = []; held = []; began = began; last = untold }) → Goes (Holds same hash fixed) KeepsFor s m id so_told
+      → ((u : SlotView (Node K V)) → so_in u → so_told record { slot = u; map = v.map; work = Nothing; looks = []; held = []; began = began; calls = v.calls }) → Goes (Holds same hash fixed) KeepsFor s m id so_told
   steps_to m began so_in so_told (u, n, g, is) tells = goes m u began n g so_told (tells u is)

@@ -32,7 +32,7 @@ use Rattle.seize_views.proofs.Turning.{Turning, turning}
 use Rattle.papaya_views.specs.Begun.{with_slot}
 use Rattle.papaya_views.specs.Promises.{RowsGoOn, RowsTurn, SettlingsBegin, LookedAreShown}
 use Rattle.papaya_views.specs.Rule.{MapsWorld, Fits, Holds, KeepsFor}
-use Rattle.papaya_views.specs.Told.{told, told_by, untold}
+use Rattle.papaya_views.specs.Told.{told, told_by}
 use Rattle.papaya_views.specs.declared.view.View.{View}
 use Rattle.papaya_views.specs.declared.view.Work.{Work}
 use Rattle.papaya_views.specs.declared.view.Work.TheVariants.{Nothing}
@@ -96,10 +96,10 @@ module _ {K V S : Type 0} (same : K → K → Bool) (hash : S → K → ℕ) (fi
     now = scene same hash fixed s h id v at_id
 
     -- what is left is the view with this known of its slot
-    with_it : (u x : SlotView (Node K V)) (began : Began) → x ≡ u → record { slot = x; map = v.map; work = Nothing; looks = []; held = []; began = began; last = untold } ≡ with_slot v u began
+    with_it : (u x : SlotView (Node K V)) (began : Began) → x ≡ u → record { slot = x; map = v.map; work = Nothing; looks = []; held = []; began = began; calls = v.calls } ≡ with_slot v u began
     with_it u x began e =
-        ap (λ (y : SlotView (Node K V)). record { slot = y; map = v.map; work = Nothing; looks = []; held = []; began = began; last = untold }) e
-        ∙ ap (λ (k : Work K V S). record { slot = u; map = v.map; work = k; looks = []; held = []; began = began; last = untold }) (sym free)
+        ap (λ (y : SlotView (Node K V)). record { slot = y; map = v.map; work = Nothing; looks = []; held = []; began = began; calls = v.calls }) e
+        ∙ ap (λ (k : Work K V S). record { slot = u; map = v.map; work = k; looks = []; held = []; began = began; calls = v.calls }) (sym free)
 
     turns : (u : SlotView (Node K V)) (began : Began) → Turning deferred_word fixed IsUsedAlike alike me v.slot u
         → Goes (Holds same hash fixed) KeepsFor s s.memory id (λ x. x ≡ with_slot v u began)
@@ -146,7 +146,7 @@ module _ {K S : Type 0} (V : Type 0) (same : K → K → Bool) (hash : S → K �
             steps_to same hash fixed s h id v at_id free m v.began (row_told deferred_word v.slot op out) (told same hash v op out)
             (k.1 out m (subst (λ (x : Mem (Node K V)). Took x op out m) is took))
             (λ u tells.
-            subst (λ (x : Work K V S). told_by same hash v v.map x op out record { slot = u; map = v.map; work = Nothing; looks = []; held = []; began = v.began; last = untold }) (sym free)
+            subst (λ (x : Work K V S). told_by same hash v v.map x op out record { slot = u; map = v.map; work = Nothing; looks = []; held = []; began = v.began; calls = v.calls }) (sym free)
             (u, tells, refl)),
       )
 

@@ -26,7 +26,6 @@ use Rattle.seize_views.specs.declared.view.Fixed.{Fixed}
 use Rattle.seize_views.specs.declared.view.Has.TheVariants.{Nothing as NoBlock}
 use Rattle.seize_views.specs.declared.view.View.{View as SlotView}
 use Rattle.seize_views.specs.declared.view.View.TheVariants as slot_view
-use Rattle.papaya_views.specs.Told.{untold}
 use Rattle.papaya_views.specs.Reclaims.{IsNextOf}
 use Rattle.papaya_views.specs.declared.view.Map.{Map}
 use Rattle.papaya_views.specs.declared.view.View.{View}
@@ -50,7 +49,7 @@ place_of v = held_slot (use_of v)
 
 -- a seat that holds no slot and knows no map
 abbrev pub at_rest : {K V S : Type 0} → View K V S
-at_rest = record { slot = slot_view.Rests; map = None; work = Nothing; looks = []; held = []; began = NotYet; last = untold }
+at_rest = record { slot = slot_view.Rests; map = None; work = Nothing; looks = []; held = []; began = NotYet; calls = [] }
 
 -- what has been done, and the scene to which it has led
 pub record MapsWorld (K V S : Type 0) : Type 0 where

@@ -18,8 +18,8 @@ pub struct View<K, V, S> {
     pub held: LinkedList<(u64, Node<K, V>)>,
     /// What it has begun last on its slot.
     pub began: seize_views::Began,
-    /// What the last step of its call has told, where it has taken no other step since: how far the call is, or what it has answered.
-    pub last: Progress<Node<K, V>>,
+    /// The calls that it has begun, the newest first: each as it began, with what its last step has told, which is what it has answered once it has ended.
+    pub calls: LinkedList<(Machine<K, V>, Progress<Node<K, V>>)>,
 }
 
 /// A map that stands.
