@@ -25,10 +25,11 @@ use Rattle.seize_views.specs.declared.view.Has.TheVariants.{Nothing as NoBlock}
 use Rattle.seize_views.specs.declared.view.View.{View as SlotView}
 use Rattle.seize_views.specs.declared.view.View.TheVariants.{Inside}
 use Rattle.papaya_views.specs.Begun.{machine_for, calling, replied}
-use Rattle.papaya_views.specs.Told.{Run, untold}
+use Rattle.papaya_views.specs.Told.{untold}
 use Rattle.papaya_views.specs.Promises.{CallsBegin, CallsAreTold}
 use Rattle.papaya_views.specs.Rule.{MapsWorld, HasRow, DoesSo, KnowsMap, Fits, Holds, KeepsFor, caller_at, place_of}
 use Rattle.papaya_views.specs.declared.view.Map.{Map}
+use Rattle.papaya_views.specs.declared.view.Run.{Run}
 use Rattle.papaya_views.specs.declared.view.View.{View}
 use Rattle.papaya_views.specs.declared.view.Work.{Work}
 use Rattle.papaya_views.specs.declared.view.Work.TheVariants.{Nothing, Calls}
@@ -76,13 +77,13 @@ module _ {K V S : Type 0} (same : K → K → Bool) (hash : S → K → ℕ) (fi
     its_does : DoesSo same hash n i (Inside t NoBlock) (Some map) (Calls machine)
     its_does = (t, refl, inside_of same hash scene id t v NoBlock fits slot_is, record { call = u; here = call_here scene.calls map.number i (Some u); is = is }, on_row)
 
-    abbrev w : List Run → View K V S
+    abbrev w : List (Run K V) → View K V S
     w runs = record { slot = v.slot; map = v.map; work = Calls machine; looks = []; held = []; began = v.began; calls = runs }
 
     leaves : Leaves same hash fixed.batch_size scene n i None
     leaves = leaves_all same hash fixed.batch_size scene map.number i (Some u)
 
-    go : (runs : List Run) → Moved same hash fixed s h id s.memory (w runs) n
+    go : (runs : List (Run K V)) → Moved same hash fixed s h id s.memory (w runs) n
     go runs = record {
       memory = (are_so same hash fixed s h).memory;
       own = record {
@@ -153,7 +154,7 @@ module _ {K V S : Type 0} (same : K → K → Bool) (hash : S → K → ℕ) (fi
     begins : Goes (Holds same hash fixed) KeepsFor s s.memory id (λ x. x ≡ calling v (machine_for same hash map t wanted))
     begins =
         moved same hash fixed s h id v at_id (BeginsCall i map.number wanted) may (n t slot_is (begun same slot_of led.0 i wanted) (machine_for same hash map t wanted) machine_is on_row) led.3 s.memory
-        (calling v (machine_for same hash map t wanted)) (go t slot_is (begun same slot_of led.0 i wanted) (machine_for same hash map t wanted) machine_is on_row ((machine_for same hash map t wanted, untold) ∷ v.calls))
+        (calling v (machine_for same hash map t wanted)) (go t slot_is (begun same slot_of led.0 i wanted) (machine_for same hash map t wanted) machine_is on_row (record { began = machine_for same hash map t wanted; told = untold } ∷ v.calls))
         (λ x. x ≡ calling v (machine_for same hash map t wanted)) refl
 
   -- its call is told this

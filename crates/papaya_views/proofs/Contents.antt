@@ -21,8 +21,9 @@ use Rattle.seize_views.specs.declared.view.Why.TheVariants.{Retiring}
 use Rattle.papaya_views.specs.Begun.{with_slot}
 use Rattle.papaya_views.specs.Notes.{beside_of, busy, row_known, notes_of}
 use Rattle.papaya_views.specs.Rule.{Holds, KeepsFor, at_rest}
-use Rattle.papaya_views.specs.Told.{Run, told, told_by}
+use Rattle.papaya_views.specs.Told.{told, told_by}
 use Rattle.papaya_views.specs.declared.view.Map.{Map}
+use Rattle.papaya_views.specs.declared.view.Run.{Run}
 use Rattle.papaya_views.specs.declared.view.View.{View}
 use Rattle.papaya_views.specs.declared.view.Work.{Work}
 use Rattle.papaya_views.specs.declared.view.Work.TheVariants.{Nothing, Calls, Makes}
@@ -87,7 +88,7 @@ module _ {K V S : Type 0} where
       not_busy _ is = is
 
 module _ {K S : Type 0} (V : Type 0) (same : K → K → Bool) (hash : S → K → ℕ) where
-  abbrev its : (V : Type 0) → View K V S → Option (Map S) × List Run
+  abbrev its : (V : Type 0) → View K V S → Option (Map S) × List (Run K V)
   its V v = beside_of v
 
   pub seats_come_in : SeatsComeIn (Holds {V = V} same hash) KeepsFor notes_of (its V) (λ _. at_rest)

@@ -1,5 +1,5 @@
 -- What the first operation of a lookup tells its seat, on a map that has no table; and what the operation of a row does.
-use Rattle.std.specs.Prelude.{ℕ, ◌==◌, Bool, [], ◌∷◌, Some}
+use Rattle.std.specs.Prelude.{ℕ, ◌==◌, Bool, List, [], ◌∷◌, Some}
 use Rattle.std.proofs.Common.{inl, refl, ap}
 use Rattle.seize_words.specs.Op.{Load, Store, Found, Stored}
 use Rattle.seize_words.specs.declared.at.At.TheVariants.{Root, Slot}
@@ -25,6 +25,7 @@ use Rattle.papaya_views.specs.Notes.{notes_of}
 use Rattle.seize_views.specs.declared.view.Began.TheVariants.{NotYet, Section}
 use Rattle.papaya_views.specs.Told.{told, call_after, newest_told, untold}
 use Rattle.papaya_views.specs.declared.view.Map.{Map}
+use Rattle.papaya_views.specs.declared.view.Run.{Run}
 use Rattle.papaya_views.specs.declared.view.View.{View}
 use Rattle.papaya_views.specs.declared.view.Work.{Work}
 use Rattle.papaya_views.specs.declared.view.Work.TheVariants.{Nothing, Calls}
@@ -48,11 +49,15 @@ map = record { number = 0; setting = setting; hasher = 0 }
 abbrev machine : Machine ℕ ℕ ℕ
 machine = machine_for same hash map 0 (Get 5)
 
+-- it has begun just this call, which has told this
+abbrev ran : Progress (Node ℕ ℕ) → List (Run ℕ ℕ)
+ran told = record { began = machine; told = told } ∷ []
+
 abbrev with_work : Work ℕ ℕ ℕ → View ℕ ℕ ℕ
-with_work work = record { slot = Inside 0 NoBlock; map = Some map; work = work; looks = []; held = []; began = NotYet; calls = ((machine, untold) ∷ []) }
+with_work work = record { slot = Inside 0 NoBlock; map = Some map; work = work; looks = []; held = []; began = NotYet; calls = ran untold }
 
 abbrev answered : KeyAnswer → View ℕ ℕ ℕ
-answered answer = record (with_work Nothing) { calls = ((machine, Done (Key answer)) ∷ []) }
+answered answer = record (with_work Nothing) { calls = ran (Done (Key answer)) }
 
 -- the root leads nowhere: the call has ended, and has answered that the key is not there
 ends : told same hash (with_work (Calls machine)) (Load (Root 3)) (Found 0) (answered Absent)
@@ -61,7 +66,7 @@ ends = (_, refl, refl, tt)
 -- and not that it is
 not_found : told same hash (with_work (Calls machine)) (Load (Root 3)) (Found 0) (answered (FoundThere 8)) → ⊥
 not_found (end, follows, is, may) =
-    let calls = ap (λ (v : View ℕ ℕ ℕ). v.calls) is in let told = ap (λ (e : Machine ℕ ℕ ℕ × Progress (Node ℕ ℕ)). newest_told e.1 ((machine, untold) ∷ [])) follows in cc (calls, told)
+    let calls = ap (λ (v : View ℕ ℕ ℕ). v.calls) is in let told = ap (λ (e : Machine ℕ ℕ ℕ × Progress (Node ℕ ℕ)). newest_told e.1 (ran untold)) follows in cc (calls, told)
 
 -- and does not go on
 not_on : (told same hash (with_work (Calls machine)) (Load (Root 3)) (Found 0) (with_work (Calls machine))) → ⊥

@@ -23,7 +23,7 @@ module _ {K V S : Type 0} (same : K → K → Bool) (hash : S → K → ℕ) whe
 module _ {K V S : Type 0} where
   -- with this call begun
   abbrev pub calling : View K V S → Machine K V K → View K V S
-  calling v machine = record { slot = v.slot; map = v.map; work = Calls machine; looks = []; held = []; began = v.began; calls = (machine, untold) ∷ v.calls }
+  calling v machine = record { slot = v.slot; map = v.map; work = Calls machine; looks = []; held = []; began = v.began; calls = record { began = machine; told = untold } ∷ v.calls }
 
   -- its call was told this
   abbrev pub replied : View K V S → Machine K V K → Reply V → View K V S

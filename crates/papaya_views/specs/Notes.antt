@@ -7,8 +7,8 @@ use Rattle.seize_views.specs.declared.view.Deed.TheVariants.{NoneYet}
 use Rattle.seize_views.specs.declared.view.Noted.{Noted}
 use Rattle.seize_views.specs.declared.view.View.{View as SlotView}
 use Rattle.seize_views.specs.declared.view.View.TheVariants.{Inside, Busy}
-use Rattle.papaya_views.specs.Told.{Run}
 use Rattle.papaya_views.specs.declared.view.Map.{Map}
+use Rattle.papaya_views.specs.declared.view.Run.{Run}
 use Rattle.papaya_views.specs.declared.view.View.{View}
 use Rattle.papaya_views.specs.declared.view.Work.{Work}
 use Rattle.papaya_views.specs.declared.view.Work.TheVariants.{Nothing, Calls, Makes}
@@ -29,7 +29,7 @@ module _ {K V S : Type 0} where
   notes_of v = noted (row_known v.slot v.work) NoneYet v.began 0
 
   -- and beside that: the map that it knows, and the calls that it has begun
-  abbrev pub beside_of : View K V S → Option (Map S) × List Run
+  abbrev pub beside_of : View K V S → Option (Map S) × List (Run K V)
   beside_of v = (v.map, v.calls)
 
   -- it has nothing under way

@@ -17,6 +17,7 @@ use Rattle.seize_views.specs.Told.{FollowsBy, told as row_told}
 use Rattle.seize_views.specs.declared.view.View.{View as SlotView}
 use Rattle.papaya_views.specs.Looks.{shown_in, TurnsTo, MayFollow}
 use Rattle.papaya_views.specs.declared.view.Map.{Map}
+use Rattle.papaya_views.specs.declared.view.Run.{Run}
 use Rattle.papaya_views.specs.declared.view.View.{View}
 use Rattle.papaya_views.specs.declared.view.Work.{Work}
 use Rattle.papaya_views.specs.declared.view.Work.TheVariants.{Nothing, Calls, Makes}
@@ -26,14 +27,10 @@ abbrev pub untold : {T : Type 0} → Progress T
 untold = progress.Goes
 
 module _ {K V : Type 0} where
-  -- a call as it began, with what its last step has told
-  abbrev pub Run : Type 0
-  Run = Machine K V K × Progress (Node K V)
-
-  -- the calls of a seat, the newest first, where that one has told this last
-  abbrev pub newest_told : Progress (Node K V) → List Run → List Run
+  -- the calls of a seat, where the newest one has told this last
+  abbrev pub newest_told : Progress (Node K V) → List (Run K V) → List (Run K V)
   newest_told told [] = []
-  newest_told told (run ∷ before) = (run.0, told) ∷ before
+  newest_told told (run ∷ before) = record run { told = told } ∷ before
 
 module _ {K V S : Type 0} where
   -- a call that has come so far: it goes on, or has ended

@@ -6,10 +6,10 @@ use seize_views::Content;
 impl<K: Eq, V, S: Hashes<K>> Content<Node<K, V>> for OfMaps<S> {
     ghost use Rattle.std.specs.Prelude.{List, Option};
     ghost use Rattle.papaya_views.specs.Notes.{beside_of, notes_of};
-    ghost use Rattle.papaya_views.specs.Told.{Run};
     ghost use Rattle.papaya_views.specs.declared.view.Map.{Map};
+    ghost use Rattle.papaya_views.specs.declared.view.Run.{Run};
 
-    ghost Beside = { Option (Map S) × List (Run {K = K} {V = V}) };
+    ghost Beside = { Option (Map S) × List (Run K V) };
 
     ghost notes = { notes_of };
 

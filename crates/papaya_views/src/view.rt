@@ -18,8 +18,16 @@ pub struct View<K, V, S> {
     pub held: LinkedList<(u64, Node<K, V>)>,
     /// What it has begun last on its slot.
     pub began: seize_views::Began,
-    /// The calls that it has begun, the newest first: each as it began, with what its last step has told, which is what it has answered once it has ended.
-    pub calls: LinkedList<(Machine<K, V>, Progress<Node<K, V>>)>,
+    /// The calls that it has begun, the newest first.
+    pub calls: LinkedList<Run<K, V>>,
+}
+
+/// A call that a seat has begun.
+pub struct Run<K, V> {
+    /// As it began.
+    pub began: Machine<K, V>,
+    /// What its last step has told: what it has answered, once it has ended.
+    pub told: Progress<Node<K, V>>,
 }
 
 /// A map that stands.
