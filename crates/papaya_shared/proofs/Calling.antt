@@ -26,6 +26,7 @@ use Rattle.papaya_views.specs.declared.view.View.{View}
 use Rattle.papaya_views.specs.declared.view.Work.{Work}
 use Rattle.papaya_views.specs.declared.view.Work.TheVariants.{Calls}
 use Rattle.papaya_views.proofs.Laws.{calls_turn}
+use Rattle.seize_callers.specs.Kept.{kept}
 use Rattle.papaya_shared.specs.Made.{CanMake, HasMade, IsSameSeat, shown_of}
 use Rattle.papaya_shared.specs.Calling.{AsksNothing, CallAsksNothing, IsCalling, CalledSo}
 use Rattle.papaya_shared.specs.Looking.{HasTold, StaysThere}
@@ -159,6 +160,10 @@ module _ {K V S : Type 0} (same : K → K → Bool) (hash : S → K → ℕ) (ha
         | inl it ↦ let made : n.made ≡ true = it.2.made in absurd (cc (made, none))
         | inr turn ↦ turn
       ]
+
+      -- it is the same seat then
+      pub still : n.made ≡ false → IsSameSeat c n
+      still none = ap (λ (x : Within K V S). kept x.blocks x.seat.ghost_name x.seat.now.id x.seat.now.away) (is_turn none).0
 
       pub may_turn : n.made ≡ false → Turns (Holds same hash n.blocks.now.words.fixed) KeepsFor n.seat.now.id n.seat.now.view (turned same hash n.seat.now.view)
       may_turn none =

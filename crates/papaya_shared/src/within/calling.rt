@@ -49,9 +49,10 @@ impl<'a, K: Eq + Hash + Drop, V: Drop, S: Hashes<K>> Within<'a, K, V, S> {
     {
         self.begins_step();
         let told = machine.step(self, hasher);
-        if !self.made {
-            self.blocks.turn::<Stepping>(&mut *self.seat);
+        if self.made {
+            return told;
         }
+        self.blocks.turn::<Stepping>(&mut *self.seat);
         told
     }
 
