@@ -118,6 +118,11 @@ module _ {K V : Type 0} where
   still_has pair machine back (progress.Done answer) on has = absurd on
   still_has pair machine back (progress.Refused fault) on has = absurd on
 
+  -- as it ends it hands nothing back
+  pub handed_at_last : (answer : Result Answer Fault) (told : Progress (Node K V)) (back : Option (Node K V)) → told ≡ outcome_of answer → handed_by told back ≡ back
+  handed_at_last (Ok answer) told back is = ap (λ (t : Progress (Node K V)). handed_by t back) is
+  handed_at_last (Err fault) told back is = ap (λ (t : Progress (Node K V)). handed_by t back) is
+
   -- where the call was refused that was to store it, it has come back
   pub back_at_last : (pair : Node K V) (machine : Machine K V K) (unstored back : Option (Node K V)) (told : Progress (Node K V)) (answer so : Result Answer Fault) → told ≡ outcome_of answer
       → HasNext pair machine unstored told → so ≡ answer → back ≡ unstored → IfErr so (λ fault. back ≡ Some pair)

@@ -6,4 +6,5 @@ use Rattle.papaya_shared.proofs.errands.InsertsErrandNodeOfMaps.run.Goals as goa
 pub returns : goal.returns
 returns g c =
     let s = kept_same _ _ _ _ _ _ _ _ c.inserts.ensures.same in
-    let name = s.1 in let id = s.2 in let away = s.3 in search (rules, name, id, away)
+    let name = s.1 in let id = s.2 in let away = s.3 in let own = c.inserts.new.self.own in let was = c.new-within.ensures.seat in let did = c.inserts.ensures.called in
+    search (rules, name, id, away, own, was, did)

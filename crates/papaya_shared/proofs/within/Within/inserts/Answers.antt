@@ -23,7 +23,7 @@ returns-clause-called g c =
       back =
           comes_back g.K.PartialEq.eq g.S.Hashes.hash c.args.key c.args.value c.runs.result.told c.runs.result.unstored u v c.begins_to_insert.ensures.begins
           (c.runs.ensures.back (Pair c.args.key c.args.value) (subst (λ (k : KeyCall g.row.K.Denot g.row.V.Denot g.row.K.Denot). IsToStore (Pair c.args.key c.args.value) k) (sym c.insert.ensures)
-          (inserting_stores c.args.setting c.args.hash c.args.key c.args.value c.ranges.hash)));
+          (inserting_stores c.args.setting c.args.hash c.args.key c.args.value (omega (arith, c.ranges.hash.fits)))));
     }
 
 pub runs-requires : goal.runs-requires
