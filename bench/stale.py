@@ -297,7 +297,8 @@ def main():
     every = os.sched_getaffinity(0)
     for name, planted in PLANTED if given.planted else [("the right bodies", [])]:
         for processors, threads in (({min(every)}, 2), (every, given.threads)):
-            found = tells(name, ran(processors, threads, given.seconds // 2, planted), planted)
+            where = f"{name}, threads: {threads}, processors: {len(processors)}"
+            found = tells(where, ran(processors, threads, given.seconds // 2, planted), planted)
             if found:
                 break
         if planted and not found:

@@ -1,5 +1,5 @@
 -- The rule of maps is a content.
-use Rattle.std.specs.Prelude.{Option, Some, None}
+use Rattle.std.specs.Prelude.{List, Option, Some, None}
 use Rattle.std.proofs.Common.{◌≡◌, ℕ, Bool, refl, sym, subst, ap, ◌∙◌}
 use Rattle.seize_words.specs.Op.{Op, Out}
 use Rattle.papaya_tables.specs.Given.SeizeDeclared.rows.settle.Settle.{Settle}
@@ -19,10 +19,11 @@ use Rattle.seize_views.specs.declared.view.View.TheVariants as slot_view
 use Rattle.seize_views.specs.declared.view.Why.{Why}
 use Rattle.seize_views.specs.declared.view.Why.TheVariants.{Retiring}
 use Rattle.papaya_views.specs.Begun.{with_slot}
-use Rattle.papaya_views.specs.Notes.{busy, row_known, notes_of}
+use Rattle.papaya_views.specs.Notes.{beside_of, busy, row_known, notes_of}
 use Rattle.papaya_views.specs.Rule.{Holds, KeepsFor, at_rest}
 use Rattle.papaya_views.specs.Told.{told, told_by}
 use Rattle.papaya_views.specs.declared.view.Map.{Map}
+use Rattle.papaya_views.specs.declared.view.Run.{Run}
 use Rattle.papaya_views.specs.declared.view.View.{View}
 use Rattle.papaya_views.specs.declared.view.Work.{Work}
 use Rattle.papaya_views.specs.declared.view.Work.TheVariants.{Nothing, Calls, Makes}
@@ -87,8 +88,8 @@ module _ {K V S : Type 0} where
       not_busy _ is = is
 
 module _ {K S : Type 0} (V : Type 0) (same : K → K → Bool) (hash : S → K → ℕ) where
-  abbrev its : (V : Type 0) → View K V S → Option (Map S)
-  its V v = v.map
+  abbrev its : (V : Type 0) → View K V S → Option (Map S) × List (Run K V)
+  its V v = beside_of v
 
   pub seats_come_in : SeatsComeIn (Holds {V = V} same hash) KeepsFor notes_of (its V) (λ _. at_rest)
   seats_come_in fixed = (seats_come V same hash fixed, refl)
@@ -109,21 +110,21 @@ module _ {K S : Type 0} (V : Type 0) (same : K → K → Bool) (hash : S → K �
           ap (λ (x : View K V S). x.began) so.2,
           refl,
         ),
-        ap (λ (x : View K V S). x.map) so.2,
+        ap (λ (x : View K V S). beside_of x) so.2,
       )
 
   pub rows_turn_in : RowsTurnIn (Holds {V = V} same hash) KeepsFor notes_of (its V)
   rows_turn_in fixed id v u may s h at =
       let k = free_by (λ x. IsNext fixed x u.knows) (λ x is. busy_next fixed x u.knows is) (λ is. is) v may.0 in
       let g = rows_turn V same hash fixed id v u.knows u.began k.0 k.1 s h at in
-      (g.0, g.1, g.2, g.3, (ap (λ (x : View K V S). notes_of x) g.4 ∙ noted_so v u k.0 may.2 may.3, ap (λ (x : View K V S). x.map) g.4))
+      (g.0, g.1, g.2, g.3, (ap (λ (x : View K V S). notes_of x) g.4 ∙ noted_so v u k.0 may.2 may.3, ap (λ (x : View K V S). beside_of x) g.4))
 
   pub settlings_begin_in : SettlingsBeginIn (Holds {V = V} same hash) KeepsFor notes_of (its V)
   settlings_begin_in fixed id v way c began is s h at =
       let k = free_by (λ x. IsToSettle fixed x way c) (λ x e. busy_settles fixed x way c e) (λ e. e) v is in
       let g = settlings_begin V same hash fixed id v way c began k.0 k.1 s h at in
       let knows = ap (λ (x : View K V S). (notes_of x).knows) g.4.1 ∙ ap (λ (x : Work K V S). row_known (slot_view.Settles c (Retiring way) None g.4.0) x) k.0 in
-      (g.0, g.1, g.2, g.3, ((g.4.0, knows), refl, ap (λ (x : View K V S). x.began) g.4.1, refl, ap (λ (x : View K V S). x.map) g.4.1))
+      (g.0, g.1, g.2, g.3, ((g.4.0, knows), refl, ap (λ (x : View K V S). x.began) g.4.1, refl, ap (λ (x : View K V S). beside_of x) g.4.1))
 
   pub looked_are_shown_in : LookedAreShownIn (Holds {V = V} same hash) KeepsFor notes_of (its V)
   looked_are_shown_in fixed id v c why b left x is =

@@ -10,7 +10,7 @@ use Rattle.seize_views.specs.declared.view.Fixed.{Fixed}
 use Rattle.seize_views.proofs.Lists.{there, elsewhere}
 use Rattle.papaya_views.specs.Begun.{shown_map}
 use Rattle.papaya_views.specs.Promises.{MapsAreHandedOn}
-use Rattle.papaya_views.specs.Rule.{MapsWorld, DoesSo, KnowsMap, Fits, Holds, caller_at, place_of}
+use Rattle.papaya_views.specs.Rule.{MapsWorld, DoesSo, KnowsMap, KnowsPair, Fits, Holds, caller_at, place_of}
 use Rattle.papaya_views.specs.declared.view.Map.{Map}
 use Rattle.papaya_views.specs.declared.view.View.{View}
 use Rattle.papaya_views.specs.declared.view.Work.{Work}
@@ -39,6 +39,7 @@ module _ {K V S : Type 0} (same : K → K → Bool) (hash : S → K → ℕ) (fi
             (subst (λ (x : Work K V S). DoesSo same hash scene (caller_at j (place_of u.slot)) u.slot u.map x) free f.does);
         map = subst (λ (x : Option (Map S)). KnowsMap same hash scene x) knows (h.so.seats i v at_i).map;
         held = f.held;
+        pair = subst (λ (x : Work K V S). KnowsPair same hash scene (caller_at j (place_of u.slot)) (Some map) x u.calls) (sym free) tt;
         idle = f.idle;
       }
 
@@ -60,9 +61,11 @@ module _ {K V S : Type 0} (same : K → K → Bool) (hash : S → K → ℕ) (fi
         knew = u;
         at = ap (view_of s) e ∙ at_j;
         slot = ap (λ (y : View K V S). y.slot) (sym one);
+        calls = ap (λ (y : View K V S). y.calls) (sym one);
+        work = ap (λ (y : View K V S). y.work) (sym one);
         fits = subst (λ (y : View K V S). Fits same hash scene k y) one (subst (λ (a : ℕ). Fits same hash scene a q) (sym e) given);
       }
-  had k x at (inr ne) = let was = sym (before k ne) ∙ at in record { knew = x; at = was; slot = refl; fits = h.so.seats k x was }
+  had k x at (inr ne) = let was = sym (before k ne) ∙ at in record { knew = x; at = was; slot = refl; calls = refl; work = refl; fits = h.so.seats k x was }
 
   unborn : (k : ℕ) → slice_get views k ≡ None → (k ≡ j) ⊎ (k ≢ j) → view_of s k ≡ None
   unborn k at (inl e) = let f = ap (slice_get views) e in let g = here in absurd (cc (f, g, at))

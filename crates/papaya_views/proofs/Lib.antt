@@ -9,11 +9,13 @@ mod Whose
 mod Alone
 mod Sections
 mod Looked
+pub mod Pairs
 mod Settled
 mod RowLooks
 mod Starts
 mod Leaves
 mod Lasts
+pub mod Listed
 mod Moved
 mod Next
 mod UnderWay
@@ -30,4 +32,6 @@ pub mod Rows
 pub mod Contents
 pub mod Exact
 pub mod Laws
+pub mod Given
 mod Samples
+mod ListedSamples

@@ -66,14 +66,16 @@ module _ {K V S : Type 0} (same : K → K → Bool) (hash : S → K → ℕ) (fi
     had k x at (inl e) =
         let one = same_some w x (sym (here k e) ∙ at) in
         let f = h.so.seats id v at_id in
-        let g : Fits same hash s.world.scene id w = record { slot = f.slot; does = f.does; map = f.map; held = tt; idle = f.idle } in
+        let g : Fits same hash s.world.scene id w = record { slot = f.slot; does = f.does; map = f.map; held = tt; pair = f.pair; idle = f.idle } in
         record {
           knew = v;
           at = ap (view_of s) e ∙ at_id;
           slot = ap (λ (y : View K V S). y.slot) (sym one);
+          calls = ap (λ (y : View K V S). y.calls) (sym one);
+          work = ap (λ (y : View K V S). y.work) (sym one);
           fits = subst (λ (y : View K V S). Fits same hash s.world.scene k y) one (subst (λ (a : ℕ). Fits same hash s.world.scene a w) (sym e) g);
         }
-    had k x at (inr ne) = let was = sym (elsewhere s.views id k w ne) ∙ at in record { knew = x; at = was; slot = refl; fits = h.so.seats k x was }
+    had k x at (inr ne) = let was = sym (elsewhere s.views id k w ne) ∙ at in record { knew = x; at = was; slot = refl; calls = refl; work = refl; fits = h.so.seats k x was }
 
     unborn : (k : ℕ) → slice_get views k ≡ None → (k ≡ id) ⊎ (k ≢ id) → view_of s k ≡ None
     unborn k at (inl e) = let f = here k e in absurd (cc (f, at))
@@ -96,10 +98,10 @@ module _ {K V S : Type 0} (same : K → K → Bool) (hash : S → K → ℕ) (fi
     now = scene same hash fixed s h id v at_id
 
     -- what is left is the view with this known of its slot
-    with_it : (u x : SlotView (Node K V)) (began : Began) → x ≡ u → record { slot = x; map = v.map; work = Nothing; looks = []; held = []; began = began } ≡ with_slot v u began
+    with_it : (u x : SlotView (Node K V)) (began : Began) → x ≡ u → record { slot = x; map = v.map; work = Nothing; looks = []; held = []; began = began; calls = v.calls } ≡ with_slot v u began
     with_it u x began e =
-        ap (λ (y : SlotView (Node K V)). record { slot = y; map = v.map; work = Nothing; looks = []; held = []; began = began }) e
-        ∙ ap (λ (k : Work K V S). record { slot = u; map = v.map; work = k; looks = []; held = []; began = began }) (sym free)
+        ap (λ (y : SlotView (Node K V)). record { slot = y; map = v.map; work = Nothing; looks = []; held = []; began = began; calls = v.calls }) e
+        ∙ ap (λ (k : Work K V S). record { slot = u; map = v.map; work = k; looks = []; held = []; began = began; calls = v.calls }) (sym free)
 
     turns : (u : SlotView (Node K V)) (began : Began) → Turning deferred_word fixed IsUsedAlike alike me v.slot u
         → Goes (Holds same hash fixed) KeepsFor s s.memory id (λ x. x ≡ with_slot v u began)
@@ -146,7 +148,7 @@ module _ {K S : Type 0} (V : Type 0) (same : K → K → Bool) (hash : S → K �
             steps_to same hash fixed s h id v at_id free m v.began (row_told deferred_word v.slot op out) (told same hash v op out)
             (k.1 out m (subst (λ (x : Mem (Node K V)). Took x op out m) is took))
             (λ u tells.
-            subst (λ (x : Work K V S). told_by same hash v v.map x op out record { slot = u; map = v.map; work = Nothing; looks = []; held = []; began = v.began }) (sym free)
+            subst (λ (x : Work K V S). told_by same hash v v.map x op out record { slot = u; map = v.map; work = Nothing; looks = []; held = []; began = v.began; calls = v.calls }) (sym free)
             (u, tells, refl)),
       )
 

@@ -1,8 +1,10 @@
 pub mod Looks
 pub mod Reclaims
+pub mod Listed
 pub mod Rule
 pub mod Told
 pub mod Begun
 pub mod Notes
 pub mod Resting
 pub mod Promises
+pub mod Given

@@ -1,5 +1,5 @@
 -- What a seat knows of its slot and of its row, as it is noted for whoever has rows run.
-use Rattle.std.specs.Prelude.{Some, None}
+use Rattle.std.specs.Prelude.{List, Option, Some, None}
 use Rattle.papaya_tables.specs.declared.node.Node.{Node}
 use Rattle.seize_views.specs.Notes.{noted}
 use Rattle.seize_views.specs.Rows.{IsAtRest}
@@ -7,6 +7,8 @@ use Rattle.seize_views.specs.declared.view.Deed.TheVariants.{NoneYet}
 use Rattle.seize_views.specs.declared.view.Noted.{Noted}
 use Rattle.seize_views.specs.declared.view.View.{View as SlotView}
 use Rattle.seize_views.specs.declared.view.View.TheVariants.{Inside, Busy}
+use Rattle.papaya_views.specs.declared.view.Map.{Map}
+use Rattle.papaya_views.specs.declared.view.Run.{Run}
 use Rattle.papaya_views.specs.declared.view.View.{View}
 use Rattle.papaya_views.specs.declared.view.Work.{Work}
 use Rattle.papaya_views.specs.declared.view.Work.TheVariants.{Nothing, Calls, Makes}
@@ -25,6 +27,10 @@ module _ {K V S : Type 0} where
   -- nothing is done at a root, and nobody watches a section
   abbrev pub notes_of : View K V S → Noted (Node K V)
   notes_of v = noted (row_known v.slot v.work) NoneYet v.began 0
+
+  -- and beside that: the map that it knows, and the calls that it has begun
+  abbrev pub beside_of : View K V S → Option (Map S) × List (Run K V)
+  beside_of v = (v.map, v.calls)
 
   -- it has nothing under way
   abbrev pub IsResting : View K V S → Type 0

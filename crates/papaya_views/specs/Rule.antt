@@ -1,6 +1,7 @@
 -- The rule of maps: a list of acts has led to a scene, of which the memory is that of the state; and what each seat knows of its slot, of a map and of what it has
 -- under way is so there, and the blocks that it knows to be held for it are there, and last.
 use Rattle.std.specs.Prelude.{◌≡◌, ◌≢◌, ℕ, ◌+◌, ◌*◌, ◌<◌, Bool, List, [], Option, Some, None, true, false, ◌∷◌, ◌≤◌, ◌⊎◌}
+use Rattle.std.specs.List.{AllByRecursion}
 use Rattle.seize_words.specs.Mem.{value_at}
 use Rattle.papaya_tables.specs.Given.SeizeLaw.{holds, is_over}
 use Rattle.papaya_tables.specs.Given.SeizeWorld.{World, Use, Rests, IsInside}
@@ -9,7 +10,8 @@ use Rattle.papaya_tables.specs.declared.node.Node.{Node}
 use Rattle.papaya_resize.specs.declared.new_map.NewMap.{NewMap}
 use Rattle.papaya_raw.specs.declared.machines.machine.Machine.{Machine}
 use Rattle.papaya_looks.specs.Given.CallersRows.{IsUsedAlike, IsRowOn}
-use Rattle.papaya_looks.specs.Given.CallersTogether.{UnderWay}
+use Rattle.papaya_acts.specs.Given.CallersPairs.{Given, Begun, IsTold}
+use Rattle.papaya_looks.specs.Given.CallersTogether.{UnderWay, OnKey}
 use Rattle.papaya_looks.specs.Given.FinishesMachines.{machine_of}
 use Rattle.papaya_looks.specs.Given.FinishesMakings.{Beginning}
 use Rattle.papaya_looks.specs.Given.FinishesMaps.{Standing}
@@ -26,8 +28,12 @@ use Rattle.seize_views.specs.declared.view.Fixed.{Fixed}
 use Rattle.seize_views.specs.declared.view.Has.TheVariants.{Nothing as NoBlock}
 use Rattle.seize_views.specs.declared.view.View.{View as SlotView}
 use Rattle.seize_views.specs.declared.view.View.TheVariants as slot_view
+use Rattle.papaya_views.specs.Begun.{machine_for}
+use Rattle.papaya_views.specs.Listed.{Called, plain, calls_of, AreNumbered, IsItsOwn, IsNewest}
 use Rattle.papaya_views.specs.Reclaims.{IsNextOf}
+use Rattle.papaya_views.specs.Told.{pair_in}
 use Rattle.papaya_views.specs.declared.view.Map.{Map}
+use Rattle.papaya_views.specs.declared.view.Run.{Run}
 use Rattle.papaya_views.specs.declared.view.View.{View}
 use Rattle.papaya_views.specs.declared.view.Work.{Work}
 use Rattle.papaya_views.specs.declared.view.Work.TheVariants.{Nothing, Calls, Makes}
@@ -49,7 +55,12 @@ place_of v = held_slot (use_of v)
 
 -- a seat that holds no slot and knows no map
 abbrev pub at_rest : {K V S : Type 0} → View K V S
-at_rest = record { slot = slot_view.Rests; map = None; work = Nothing; looks = []; held = []; began = NotYet }
+at_rest = record { slot = slot_view.Rests; map = None; work = Nothing; looks = []; held = []; began = NotYet; calls = [] }
+
+-- the calls that a seat has begun; one that has not come has begun none
+abbrev pub runs_of : {K V S : Type 0} → Option (View K V S) → List (Run K V)
+runs_of None = []
+runs_of (Some v) = v.calls
 
 -- what has been done, and the scene to which it has led
 pub record MapsWorld (K V S : Type 0) : Type 0 where
@@ -92,6 +103,15 @@ module _ {K V : Type 0} where
     pub makers : s.makers i ≡ None
     pub enders : s.enders i ≡ None
 
+  -- the pair that a call under way was begun with, if with one
+  abbrev pub given_pair : Given K V → Option (Node K V)
+  given_pair (Begun kind pair) = pair
+  given_pair (IsTold kind its asked) = None
+
+  abbrev pub pair_of : UnderWay K V K → Option (Node K V)
+  pair_of (OnKey u) = given_pair u.pair
+  pair_of u = None
+
   -- no map has this number or a later one, nor one that is being made
   abbrev pub IsFresh : Scene K V → ℕ → Type 0
   IsFresh s k = ((m : ℕ) → k ≤ m → s.maps m ≡ None) × ((i : ℕ) (b : Beginning K) → s.makers i ≡ Some b → b.map < k)
@@ -117,6 +137,13 @@ module _ {K V S : Type 0} (same : K → K → Bool) (hash : S → K → ℕ) whe
   KnowsMap s None = Unit {0}
   KnowsMap s (Some map) = (it : Standing K) × (s.maps map.number ≡ Some it) × (it.setting ≡ map.setting) × (it.hash ≡ hash map.hasher)
 
+  -- the call that is under way was begun with the pair with which the newest of these began
+  abbrev pub KnowsPair : Scene K V → ℕ → Option (Map S) → Work K V S → List (Run K V) → Type 0
+  KnowsPair s i map Nothing runs = Unit {0}
+  KnowsPair s i map (Makes m hasher opening) runs = Unit {0}
+  KnowsPair s i None (Calls machine) runs = Unit {0}
+  KnowsPair s i (Some map) (Calls machine) runs = (u : UnderWay K V K) → s.calls map.number i ≡ Some u → pair_of u ≡ pair_in runs
+
   -- the section of the slot holds the block, which is not over
   abbrev pub IsInSection : Scene K V → SlotView (Node K V) → ℕ → Type 0
   IsInSection s slot b = (t : ℕ) × (slot ≡ slot_view.Inside t NoBlock) × (holds t b s.world.log ≡ true) × (is_over b s.world.log ≡ false)
@@ -134,12 +161,28 @@ module _ {K V S : Type 0} (same : K → K → Bool) (hash : S → K → ℕ) whe
   AllHeld s slot work [] = Unit {0}
   AllHeld s slot work (look ∷ looks) = IsHeld s slot work look × AllHeld s slot work looks
 
+  -- A call that a seat knows of is this one of the list: it began as that does on a map that stands, in the slot of its caller, and has told the same last.
+  pub record IsRun (s : Scene K V) (call : Called K V) (run : Run K V) : Type 0 where
+    pub map : Map S
+    pub stands : KnowsMap s (Some map)
+    pub number : map.number ≡ call.map
+    pub plainly : plain call.wanted ≡ call.wanted
+    pub began : run.began ≡ machine_for same hash map (slot_of call.caller) call.wanted
+    pub told : run.told ≡ call.told
+
+  -- each of them, and there are no others
+  abbrev pub AreRuns : Scene K V → List (Called K V) → List (Run K V) → Type 0
+  AreRuns s [] [] = Unit {0}
+  AreRuns s (call ∷ calls) (run ∷ runs) = IsRun s call run × AreRuns s calls runs
+  AreRuns s calls runs = ⊥
+
   -- what a seat knows is so; in other slots it has nothing under way
   pub record Fits (s : Scene K V) (j : ℕ) (v : View K V S) : Type 0 where
     pub slot : IsSlot (place_of v.slot)
     pub does : DoesSo s (caller_at j (place_of v.slot)) v.slot v.map v.work
     pub map : KnowsMap s v.map
     pub held : AllHeld s v.slot v.work v.held
+    pub pair : KnowsPair s (caller_at j (place_of v.slot)) v.map v.work v.calls
     pub idle : (t : ℕ) → IsSlot t → t ≢ place_of v.slot → IsIdle s (caller_at j t)
 
   -- the scene is as the seats know it, and its memory is this one
@@ -148,7 +191,7 @@ module _ {K V S : Type 0} (same : K → K → Bool) (hash : S → K → ℕ) whe
     pub seats : (j : ℕ) (v : View K V S) → view_of s j ≡ Some v → Fits scene j v
     pub unborn : (j t : ℕ) → IsSlot t → view_of s j ≡ None → IsIdle scene (caller_at j t)
     pub apart : (j k t : ℕ) (a b : Use) (v u : View K V S) → view_of s j ≡ Some v → view_of s k ≡ Some u → use_of v.slot ≡ Some (t, a) → use_of u.slot ≡ Some (t, b) → j ≡ k
-    pub fresh : (k : ℕ) × IsFresh scene k
+    pub fresh : (k : ℕ) × IsFresh scene k × AreNumbered 0 s.world.doings k
     pub unended : (o : ℕ) → how_many (is_end_of_owner o) scene.world.log ≡ 0
 
   pub record Holds (fixed : Fixed) (s : State (Node K V) (View K V S) (MapsWorld K V S)) : Type 0 where
@@ -159,6 +202,9 @@ module _ {K V S : Type 0} (same : K → K → Bool) (hash : S → K → ℕ) whe
     pub nobody : reclaiming V same hash fixed.batch_size fixed.roots slot_of reached.0 ≡ None
     pub so : AreSo s s.world.scene
     pub rows : (j : ℕ) (v : View K V S) → view_of s j ≡ Some v → KnowsRow fixed s.world.scene j v.slot
+    pub own : AllByRecursion (IsItsOwn hash) s.world.doings
+    pub calls : (j : ℕ) → AreRuns s.world.scene (calls_of j s.world.doings reached.1 []) (runs_of (view_of s j))
+    pub newest : (j : ℕ) (v : View K V S) (machine : Machine K V K) → view_of s j ≡ Some v → v.work ≡ Calls machine → IsNewest (caller_at j (place_of v.slot)) (calls_of j s.world.doings reached.1 [])
 
 -- the section of the one's slot holds the block, which is not over
 abbrev pub KeepsFor : {K V S : Type 0} → View K V S → View K V S → MapsWorld K V S → ℕ → Type 0

@@ -4,15 +4,16 @@ use papaya_tables::{Hashes, Node};
 use seize_views::Content;
 
 impl<K: Eq, V, S: Hashes<K>> Content<Node<K, V>> for OfMaps<S> {
-    ghost use Rattle.std.specs.Prelude.{Option};
-    ghost use Rattle.papaya_views.specs.Notes.{notes_of};
+    ghost use Rattle.std.specs.Prelude.{List, Option};
+    ghost use Rattle.papaya_views.specs.Notes.{beside_of, notes_of};
     ghost use Rattle.papaya_views.specs.declared.view.Map.{Map};
+    ghost use Rattle.papaya_views.specs.declared.view.Run.{Run};
 
-    ghost Beside = { Option (Map S) };
+    ghost Beside = { Option (Map S) × List (Run K V) };
 
     ghost notes = { notes_of };
 
-    ghost beside = { λ v. v.map };
+    ghost beside = { beside_of };
 
     fn goes_on() {}
 }

@@ -9,4 +9,4 @@ mod view;
 
 pub use law::{calls_begin, calls_go_on, makings_go_on, rows_go_on};
 pub use maps::OfMaps;
-pub use view::{Map, View, Work};
+pub use view::{Map, Run, View, Work};

@@ -1,5 +1,5 @@
 //! What those know that share the memory of maps.
-use papaya_raw::machines::Machine;
+use papaya_raw::machines::{Machine, Progress};
 use papaya_resize::NewMap;
 use papaya_tables::{Node, Setting};
 use std::collections::LinkedList;
@@ -18,6 +18,16 @@ pub struct View<K, V, S> {
     pub held: LinkedList<(u64, Node<K, V>)>,
     /// What it has begun last on its slot.
     pub began: seize_views::Began,
+    /// The calls that it has begun, the newest first.
+    pub calls: LinkedList<Run<K, V>>,
+}
+
+/// A call that a seat has begun.
+pub struct Run<K, V> {
+    /// As it began.
+    pub began: Machine<K, V>,
+    /// What its last step has told: what it has answered, once it has ended.
+    pub told: Progress<Node<K, V>>,
 }
 
 /// A map that stands.

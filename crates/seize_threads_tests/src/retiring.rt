@@ -15,7 +15,7 @@ use std::thread::Threads;
 
 /// Puts the value of a place at the root, and retires the one that was there; tells whether it is there, and the other one had not been dropped. Where no
 /// number is free it is dropped.
-fn puts(caller: &mut Caller<'_, Counted>, slot: u64, drops: &Table, place: usize) -> bool
+pub(crate) fn puts(caller: &mut Caller<'_, Counted>, slot: u64, drops: &Table, place: usize) -> bool
     requires inside { caller.old.seat.view.knows ≡ Inside slot Nothing }
     requires alone { caller.old.seat.view.guards ≡ 0 }
     requires root { 0 < caller.old.blocks.now.words.fixed.roots }
@@ -41,7 +41,7 @@ fn puts(caller: &mut Caller<'_, Counted>, slot: u64, drops: &Table, place: usize
 }
 
 /// Takes the value from the root, if there is one, and retires it.
-fn clears(caller: &mut Caller<'_, Counted>, slot: u64)
+pub(crate) fn clears(caller: &mut Caller<'_, Counted>, slot: u64)
     requires inside { caller.old.seat.view.knows ≡ Inside slot Nothing }
     requires alone { caller.old.seat.view.guards ≡ 0 }
     requires root { 0 < caller.old.blocks.now.words.fixed.roots }
@@ -76,7 +76,7 @@ fn writes(ground: &Ground<'_, Counted>, drops: &Table, times: usize) -> Option<u
 }
 
 /// Looks at the root within a section, and tells whether the value that it has seen there had been dropped, if there was one.
-fn looks(caller: &mut Caller<'_, Counted>, slot: u64) -> Option<bool>
+pub(crate) fn looks(caller: &mut Caller<'_, Counted>, slot: u64) -> Option<bool>
     requires outside { caller.old.seat.view.knows ≡ Outside slot }
     requires alone { caller.old.seat.view.guards ≡ 0 }
     requires root { 0 < caller.old.blocks.now.words.fixed.roots }

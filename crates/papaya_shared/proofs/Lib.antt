@@ -1,0 +1,15 @@
+mod Plans
+mod Looking
+mod Making
+mod Quiet
+mod Asking
+mod Calls
+mod Calling
+mod Handing
+mod Lookups
+mod Makings
+mod Beginnings
+mod Shown
+mod Rows
+mod Runs
+mod Sessions

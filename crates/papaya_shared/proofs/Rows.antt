@@ -1,0 +1,55 @@
+-- A seat of maps that has nothing but a row under way, as its notes have it, and who has come to rest.
+use Rattle.std.specs.Prelude.{List, Option, Result, Ok, Err, IfOk, IfErr}
+use Rattle.std.proofs.Common.{◌≡◌, ℕ, Bool, sym, subst, ap, ◌∙◌}
+use Rattle.papaya_views.specs.Given.SeizeWordsDeclared.fault.Fault.{Fault}
+use Rattle.papaya_views.specs.Given.SeizeViewsRows.{IsAtRest}
+use Rattle.papaya_views.specs.Given.SeizeViewsDeclared.view.Has.TheVariants.{Nothing as NoBlock}
+use Rattle.papaya_views.specs.Given.SeizeViewsDeclared.view.View.{View as SlotView}
+use Rattle.papaya_views.specs.Given.SeizeViewsDeclared.view.View.TheVariants.{Rests, Outside, Inside}
+use Rattle.papaya_views.specs.Given.TablesDeclared.node.Node.{Node}
+use Rattle.papaya_views.specs.Given.TablesDeclared.setting.Setting.{Setting}
+use Rattle.papaya_views.specs.Given.ResizeDeclared.new_map.NewMap.{NewMap}
+use Rattle.papaya_views.specs.Notes.{beside_of, row_known, notes_of, IsResting}
+use Rattle.papaya_views.specs.declared.view.Map.{Map}
+use Rattle.papaya_views.specs.declared.view.Run.{Run}
+use Rattle.papaya_views.specs.declared.view.View.{View}
+use Rattle.papaya_views.specs.declared.view.Work.{Work}
+use Rattle.papaya_views.specs.declared.view.Work.TheVariants.{Nothing}
+use Rattle.papaya_views.proofs.Contents.{knows_free}
+use Rattle.papaya_shared.specs.Looking.{HasFound}
+use Rattle.papaya_shared.specs.Making.{CameTo}
+
+module _ {K V S : Type 0} where
+  -- who has nothing else under way knows its row
+  pub known_free : (v : View K V S) (x : SlotView (Node K V)) → v.slot ≡ x → v.work ≡ Nothing → (notes_of v).knows ≡ x
+  known_free v x slot free = ap (λ (k : Work K V S). row_known v.slot k) free ∙ slot
+
+  rests_so : (v : View K V S) (x : SlotView (Node K V)) → v.slot ≡ x → v.work ≡ Nothing → IsAtRest x → IsResting v
+  rests_so v x slot free rests = subst (λ (y : SlotView (Node K V)). IsAtRest y) (sym (known_free v x slot free)) rests
+
+  -- what the notes say of who has looked for a slot
+  abbrev pub Noted : View K V S → Result ℕ Fault → Type 0
+  Noted w answer = IfOk answer (λ slot. (notes_of w).knows ≡ Outside slot) × IfErr answer (λ fault. (notes_of w).knows ≡ Rests)
+
+  -- who has found a slot has it, and who has found none has none
+  pub took : (w : View K V S) (answer : Result ℕ Fault) (slot : ℕ) → answer ≡ Ok slot → Noted w answer → (w.work ≡ Nothing) × (w.slot ≡ Outside slot)
+  took w answer slot e is = knows_free w (Outside slot) tt (subst (λ (r : Result ℕ Fault). Noted w r) e is).0
+
+  pub took_none : (w : View K V S) (answer : Result ℕ Fault) (fault : Fault) → answer ≡ Err fault → Noted w answer → (w.work ≡ Nothing) × (w.slot ≡ Rests)
+  took_none w answer fault e is = knows_free w Rests tt (subst (λ (r : Result ℕ Fault). Noted w r) e is).1
+
+  -- who has made a map, or was refused, rests
+  pub rests_after : (hasher : S) (opening : NewMap) (answer : Result Setting Fault) (v w : View K V S) → v.slot ≡ Rests → CameTo hasher opening answer v w → IsResting w
+  rests_after hasher opening (Ok setting) v w rests came = rests_so w Rests (came.slot ∙ rests) came.made.0.free tt
+  rests_after hasher opening (Err fault) v w rests came = rests_so w Rests (came.slot ∙ rests) came.refused.0 tt
+
+  -- what is beside a row stays: the map, and the calls
+  pub map_stays : (v w : View K V S) → beside_of w ≡ beside_of v → w.map ≡ v.map
+  map_stays v w e = ap (λ (b : Option (Map S) × List (Run K V)). b.0) e
+
+  pub calls_stay : (v w : View K V S) → beside_of w ≡ beside_of v → w.calls ≡ v.calls
+  calls_stay v w e = ap (λ (b : Option (Map S) × List (Run K V)). b.1) e
+
+  -- and so does who has looked a key up
+  pub rests_inside : (same : K → K → Bool) (hash : S → K → ℕ) (key : K) (answer : Option ℕ) (v w : View K V S) (t : ℕ) → v.slot ≡ Inside t NoBlock → HasFound same hash key answer v w → IsResting w
+  rests_inside same hash key answer v w t inside found = rests_so w (Inside t NoBlock) (found.stays.slot ∙ inside) found.looked.free tt

@@ -1,0 +1,7 @@
+pub mod Answers
+pub mod Standing
+pub mod Made
+pub mod Looking
+pub mod Making
+pub mod Calling
+pub mod Given

@@ -1,0 +1,13 @@
+-- How a seat stands between its calls.
+use Rattle.std.specs.Prelude.{Option, Some, None}
+use Rattle.papaya_views.specs.Given.TablesDeclared.setting.Setting.{Setting}
+use Rattle.papaya_views.specs.declared.view.Map.{Map}
+use Rattle.papaya_views.specs.declared.view.View.{View}
+
+-- the setting of the map that it knows, and its hasher
+abbrev pub known_as : {S : Type 0} → Option (Map S) → Option (Setting × S)
+known_as None = None
+known_as (Some map) = Some (map.setting, map.hasher)
+
+abbrev pub known_by : {K V S : Type 0} → View K V S → Option (Setting × S)
+known_by v = known_as v.map

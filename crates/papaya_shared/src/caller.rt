@@ -1,0 +1,65 @@
+//! One of those who share the memory of maps.
+ghost use Rattle.std.specs.Prelude.{◌≡◌, Some, true};
+ghost use Rattle.papaya_shared.specs.Making.{HandsOn};
+ghost use Rattle.papaya_views.specs.Rule.{at_rest};
+ghost use Rattle.papaya_views.specs.declared.view.Map.{Map};
+ghost use Rattle.papaya_views.specs.declared.view.Work.TheVariants.{Nothing};
+ghost use Rattle.papaya_views.specs.Given.SeizeViewsDeclared.view.View.TheVariants.{Rests};
+ghost use Rattle.seize_callers.specs.Kept.{is_home};
+
+mod calls;
+mod rows;
+
+use crate::turns::Showing;
+use papaya_tables::{Hashes, Node};
+use papaya_views::OfMaps;
+use seize_blocks::{Blocks, Seat};
+
+/// One of those who share the memory of maps: a seat of it, which is on no errand, with the memory.
+pub struct Caller<'a, K: Eq, V, S: Hashes<K>> {
+    blocks: &'a Blocks<Node<K, V>, OfMaps<S>>,
+    seat: Seat<Node<K, V>, OfMaps<S>>,
+    near: u64,
+    ghost own: { seat.base ≡ blocks.now.words.id.views_name },
+    ghost home: { is_home seat.away ≡ true },
+}
+
+impl<'a, K: Eq, V, S: Hashes<K>> Caller<'a, K, V, S> {
+    /// One more of them, who holds no slot and knows no map.
+    pub(crate) fn new(blocks: &'a Blocks<Node<K, V>, OfMaps<S>>) -> Self
+        ensures rests { result.seat.view ≡ at_rest }
+        ensures blocks { result.blocks.now ≡ blocks.now }
+    {
+        let seat = blocks.seat();
+        Caller {
+            blocks,
+            seat,
+            near: 0,
+        }
+    }
+
+    /// One more of them, who holds no slot, and to whom the map is handed on that this one knows.
+    pub(crate) fn shows(&mut self) -> Self
+        requires knows { (map : Map S) × (self.old.seat.view.map ≡ Some map) }
+        ensures same { self.new.seat.view ≡ self.old.seat.view }
+        ensures blocks { (self.new.blocks ≡ self.old.blocks) × (result.blocks.now ≡ self.old.blocks.now) }
+        ensures shown { HandsOn self.old.seat.view at_rest self.new.seat.view result.seat.view }
+    {
+        let mut other = Caller::new(self.blocks);
+        self.blocks.meet::<Showing>(&mut self.seat, &mut other.seat);
+        other
+    }
+}
+
+impl<'a, K: Eq, V, S: Hashes<K>> Drop for Caller<'a, K, V, S> {
+    fn drop(self)
+        requires rests { self.seat.view.slot ≡ Rests }
+        requires free { self.seat.view.work ≡ Nothing }
+    {
+        let Caller {
+            blocks: _,
+            seat: _,
+            near: _,
+        } = self;
+    }
+}

@@ -1,0 +1,90 @@
+//! A caller is sent to make a map, to look a key up, and to store a pair.
+ghost use Rattle.std.specs.Prelude.{◌≡◌, IsSome, Some};
+ghost use Rattle.papaya_shared.specs.Calling.{HasCalled, MayCall};
+ghost use Rattle.papaya_shared.specs.Looking.{HasFound, MayLook};
+ghost use Rattle.papaya_shared.specs.Making.{CameTo, MayBegin};
+ghost use Rattle.papaya_views.specs.Given.ActsActs.{Insert};
+ghost use Rattle.papaya_views.specs.Looks.{shown_in};
+ghost use Rattle.papaya_views.specs.Rule.{Holds};
+ghost use Rattle.papaya_views.specs.declared.view.Work.TheVariants.{Nothing as NoWork};
+ghost use Rattle.papaya_views.specs.Given.SeizeSeatsLendings.{IsValueOf};
+ghost use Rattle.papaya_views.specs.Given.SeizeViewsDeclared.view.View.TheVariants.{Rests};
+
+use crate::caller::Caller;
+use crate::errands::{Finds, Inserts, Makes};
+use crate::within::Ran;
+use papaya_resize::{Lookup, NewMap};
+use papaya_tables::{Hashes, Node, Setting};
+use seize_words::Fault;
+use std::hash::Hash;
+use std::sync::Wait;
+
+impl<'a, K: Eq + Drop, V: Drop, S: Hashes<K>> Caller<'a, K, V, S> {
+    /// Makes a map of no table by this machine, with this hasher, and knows it then. Where no root is free, or memory is refused, there is none, and it knows what it
+    /// has known before.
+    pub(crate) fn makes_map(&mut self, hasher: &S, opening: NewMap) -> Result<Setting, Fault>
+        requires may { MayBegin self.old.blocks.now.words.fixed opening }
+        requires rests { self.old.seat.view.slot ≡ Rests }
+        requires free { self.old.seat.view.work ≡ NoWork }
+        ensures made { CameTo hasher.now opening result self.old.seat.view self.new.seat.view }
+        ensures blocks { self.new.blocks ≡ self.old.blocks }
+    {
+        self.blocks
+            .errand(&mut self.seat, Makes { hasher, opening })
+    }
+}
+
+impl<'a, K: Eq + Hash, V, S: Hashes<K>> Caller<'a, K, V, S> {
+    /// Looks this key up within its section, by this lookup, and answers the word that names the pair found. How many steps it takes is up to the others.
+    pub(crate) fn finds<R: Wait>(&mut self, rt: &R, lookup: Lookup, key: &K) -> Option<u64>
+        requires may { MayLook S.hash key.now lookup self.old.seat.view }
+        ensures found { HasFound K.eq S.hash key.now result self.old.seat.view self.new.seat.view }
+        ensures blocks { self.new.blocks ≡ self.old.blocks }
+    {
+        self.blocks
+            .errand(&mut self.seat, Finds { rt, key, lookup })
+    }
+}
+
+impl<'a, K: Eq + Hash + Drop, V: Drop, S: Hashes<K>> Caller<'a, K, V, S> {
+    /// Stores this pair within its section, in the map that it knows, and answers what its call has told, and the pair where that was not stored.
+    pub(crate) fn inserts<R: Wait>(
+        &mut self,
+        rt: &R,
+        hasher: &S,
+        setting: Setting,
+        hash: u64,
+        key: K,
+        value: V,
+    ) -> Ran<K, V>
+        requires may { MayCall S.hash hasher.now key setting hash self.old.seat.view }
+        ensures called { HasCalled K.eq S.hash (Insert key value) result.told result.unstored self.old.seat.view self.new.seat.view }
+        ensures blocks { self.new.blocks ≡ self.old.blocks }
+    {
+        let ran = self.blocks.errand(
+            &mut self.seat,
+            Inserts {
+                rt,
+                hasher,
+                setting,
+                hash,
+                key,
+                value,
+                near: self.near,
+            },
+        );
+        self.near = ran.near;
+        ran
+    }
+}
+
+impl<'a, K: Eq, V, S: Hashes<K>> Caller<'a, K, V, S> {
+    /// The value of a block that it shows, for as long as it is borrowed.
+    pub(crate) fn pair(&self, block: u64) -> &Node<K, V>
+        requires shown { IsSome (shown_in self.now.seat.view.held block) }
+        ensures value { IsValueOf (Holds K.eq S.hash self.now.blocks.now.words.fixed) self.now.seat.id self.now.seat.view block result.now }
+        ensures shown { shown_in self.now.seat.view.held block ≡ Some result.now }
+    {
+        self.blocks.value(&self.seat, block)
+    }
+}

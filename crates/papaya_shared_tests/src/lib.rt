@@ -1,0 +1,7 @@
+//! Tests of maps that threads share: they are made, handed on, looked through, and pairs are stored there.
+#![tactic(auto)]
+
+#[cfg(test)]
+mod opening;
+#[cfg(test)]
+mod storing;
