@@ -25,3 +25,14 @@ retire-requires g c =
     let four : c.put.new.self.stay.caller.blocks.now.words.id.views_name ≡ c.in_ok-guard.guard.stay.caller.blocks.now.words.id.views_name =
     ap (λ (u : Home). u.memory) c.put.ensures.home in
     record { source = λ _. cc (one, two, three, four) }
+
+-- it is not refused: the guard and the block are of no collector, both
+pub unreachable-requires : goal.unreachable-requires
+unreachable-requires g c =
+    let one : c.in-Ok-Some.old.number ≡ c.in_ok-second.second.number =
+    some_of c.in-Ok-Some.field-0 (λ old. old.number ≡ c.in_ok-second.second.number) c.in-Ok-Some.old c.in-Ok-Some.field-0-is c.in-Ok-Some.ensures.number in
+    let two : c.in_ok-second.second.number ≡ 0 =
+    ok_of c.new-2.result (λ owned. owned.number ≡ 0) c.in_ok-second.second c.in_ok-second.ensures.value c.new-2.ensures.number in
+    let three : c.in_ok-guard.guard.number ≡ 0 = ok_of c.enter.result (λ guard. guard.number ≡ 0) c.in_ok-guard.guard c.in_ok-guard.ensures.value c.enter.ensures.number in
+    let four : c.put.new.self.number ≡ c.in_ok-guard.guard.number = ap (λ (u : Home). u.number) c.put.ensures.home in
+    c.in-Err-retire.ensures.foreign.1 (cc (one, two, three, four))
