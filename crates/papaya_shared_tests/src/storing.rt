@@ -64,16 +64,20 @@ fn counts<R: Wait>(rt: &R, session: &mut Session<'_, u64, u64, Hashing>, from: u
 }
 
 /// Stores so many keys from this one on, in a section of a slot that it takes, and answers how many have replaced a pair, and how many it finds then.
-fn works<R: Wait>(rt: &R, session: Session<'_, u64, u64, Hashing>, from: u64) -> Option<(u64, u64)>
-    requires { session.caller.seat.view.slot ≡ Rests }
+fn works<R: Wait>(
+    rt: &R,
+    session: &mut Session<'_, u64, u64, Hashing>,
+    from: u64,
+) -> Option<(u64, u64)>
+    requires { session.old.caller.seat.view.slot ≡ Rests }
+    ensures { session.new.caller.seat.view.slot ≡ Rests }
 {
-    let mut session = session;
     if session.register().is_err() {
         return None;
     }
     session.enter();
-    let replaced = stores(rt, &mut session, from);
-    let found = counts(rt, &mut session, from);
+    let replaced = stores(rt, session, from);
+    let found = counts(rt, session, from);
     session.leave();
     session.unregister();
     Some((replaced?, found))
@@ -88,12 +92,12 @@ fn a_key_that_two_threads_store_is_replaced_once(rt: HostRuntime) -> Result<(), 
     let Ok(mut first) = Session::open(&home.blocks, &hashing, &CHOSEN, 64, 4) else {
         return Err(Fail::new("no map was made"));
     };
-    let second = first.session();
-    let third = first.session();
+    let mut second = first.session();
+    let mut third = first.session();
     let (one, other) = thread::join(
         &rt,
-        || works(&rt, first, 0),
-        || works(&rt, second, EACH / 2),
+        || works(&rt, &mut first, 0),
+        || works(&rt, &mut second, EACH / 2),
     );
     let (Some((one, mine)), Some((other, theirs))) = (one, other) else {
         return Err(Fail::new("an insertion was refused"));
@@ -101,6 +105,6 @@ fn a_key_that_two_threads_store_is_replaced_once(rt: HostRuntime) -> Result<(), 
     assert_eq!(rt; mine, EACH);
     assert_eq!(rt; theirs, EACH);
     assert_eq!(rt; u64::wrapping_add(one, other), EACH / 2);
-    assert_eq!(rt; works(&rt, third, 0), Some((EACH, EACH)));
+    assert_eq!(rt; works(&rt, &mut third, 0), Some((EACH, EACH)));
     Ok(())
 }
