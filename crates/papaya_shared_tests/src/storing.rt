@@ -1,10 +1,10 @@
 //! Two threads store pairs in one map, half of their keys the same.
 ghost use Rattle.std.specs.Prelude.{◌≡◌};
 ghost use Rattle.papaya_shared.specs.Given.SeizeViewsDeclared.view.Has.TheVariants.{Nothing};
-ghost use Rattle.papaya_shared.specs.Given.SeizeViewsDeclared.view.View.TheVariants.{Inside, Rests};
+ghost use Rattle.papaya_shared.specs.Given.SeizeViewsDeclared.view.View.TheVariants.{Inside};
 
+use crate::resting::{Hashing, Resting};
 use papaya_shared::{Fixed, Session, memory_for};
-use std::hash::{BuildHasherDefault, DefaultHasher};
 use std::sync::Wait;
 use std::test::Fail;
 use std::thread;
@@ -17,8 +17,6 @@ const CHOSEN: Fixed = Fixed {
 
 /// How many keys each of them stores.
 const EACH: u64 = 400;
-
-type Hashing = BuildHasherDefault<DefaultHasher>;
 
 /// Stores so many keys from this one on, each with its double, and answers how many of them have replaced a pair, if none was refused.
 fn stores<R: Wait>(rt: &R, session: &mut Session<'_, u64, u64, Hashing>, from: u64) -> Option<u64>
@@ -64,20 +62,15 @@ fn counts<R: Wait>(rt: &R, session: &mut Session<'_, u64, u64, Hashing>, from: u
 }
 
 /// Stores so many keys from this one on, in a section of a slot that it takes, and answers how many have replaced a pair, and how many it finds then.
-fn works<R: Wait>(
-    rt: &R,
-    session: &mut Session<'_, u64, u64, Hashing>,
-    from: u64,
-) -> Option<(u64, u64)>
-    requires { session.old.caller.seat.view.slot ≡ Rests }
-    ensures { session.new.caller.seat.view.slot ≡ Rests }
-{
+fn works<R: Wait>(rt: &R, resting: Resting<'_>, from: u64) -> Option<(u64, u64)> {
+    let Resting { session } = resting;
+    let mut session = session;
     if session.register().is_err() {
         return None;
     }
     session.enter();
-    let replaced = stores(rt, session, from);
-    let found = counts(rt, session, from);
+    let replaced = stores(rt, &mut session, from);
+    let found = counts(rt, &mut session, from);
     session.leave();
     session.unregister();
     Some((replaced?, found))
@@ -92,12 +85,17 @@ fn a_key_that_two_threads_store_is_replaced_once(rt: HostRuntime) -> Result<(), 
     let Ok(mut first) = Session::open(&home.blocks, &hashing, &CHOSEN, 64, 4) else {
         return Err(Fail::new("no map was made"));
     };
-    let mut second = first.session();
-    let mut third = first.session();
+    let second = Resting {
+        session: first.session(),
+    };
+    let third = Resting {
+        session: first.session(),
+    };
+    let first = Resting { session: first };
     let (one, other) = thread::join(
         &rt,
-        || works(&rt, &mut first, 0),
-        || works(&rt, &mut second, EACH / 2),
+        || works(&rt, first, 0),
+        || works(&rt, second, EACH / 2),
     );
     let (Some((one, mine)), Some((other, theirs))) = (one, other) else {
         return Err(Fail::new("an insertion was refused"));
@@ -105,6 +103,6 @@ fn a_key_that_two_threads_store_is_replaced_once(rt: HostRuntime) -> Result<(), 
     assert_eq!(rt; mine, EACH);
     assert_eq!(rt; theirs, EACH);
     assert_eq!(rt; u64::wrapping_add(one, other), EACH / 2);
-    assert_eq!(rt; works(&rt, &mut third, 0), Some((EACH, EACH)));
+    assert_eq!(rt; works(&rt, third, 0), Some((EACH, EACH)));
     Ok(())
 }
