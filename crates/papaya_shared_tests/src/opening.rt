@@ -14,8 +14,7 @@ const CHOSEN: Fixed = Fixed {
 
 /// Whether a session finds a key, in a section of a slot that it takes, and gives up then.
 fn finds<R: Wait>(rt: &R, resting: Resting<'_>, key: u64) -> Option<bool> {
-    let Resting { session } = resting;
-    let mut session = session;
+    let mut session = resting.session();
     if session.register().is_err() {
         return None;
     }

@@ -14,6 +14,16 @@ pub(crate) struct Resting<'a> {
     ghost rests: { session.caller.seat.view.slot ≡ Rests },
 }
 
+impl<'a> Resting<'a> {
+    /// The session.
+    pub(crate) fn session(self) -> Session<'a, u64, u64, Hashing>
+        ensures { result.caller.seat.view.slot ≡ Rests }
+    {
+        let Resting { session } = self;
+        session
+    }
+}
+
 impl<'a> Drop for Resting<'a> {
     fn drop(self) {
         let Resting { session } = self;

@@ -63,8 +63,7 @@ fn counts<R: Wait>(rt: &R, session: &mut Session<'_, u64, u64, Hashing>, from: u
 
 /// Stores so many keys from this one on, in a section of a slot that it takes, and answers how many have replaced a pair, and how many it finds then.
 fn works<R: Wait>(rt: &R, resting: Resting<'_>, from: u64) -> Option<(u64, u64)> {
-    let Resting { session } = resting;
-    let mut session = session;
+    let mut session = resting.session();
     if session.register().is_err() {
         return None;
     }
