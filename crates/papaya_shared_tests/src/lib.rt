@@ -4,4 +4,6 @@
 #[cfg(test)]
 mod opening;
 #[cfg(test)]
+mod resting;
+#[cfg(test)]
 mod storing;

@@ -1,10 +1,7 @@
 //! A map that is made, handed on, and looked through by threads.
-ghost use Rattle.std.specs.Prelude.{◌≡◌};
-ghost use Rattle.papaya_shared.specs.Given.SeizeViewsDeclared.view.View.TheVariants.{Rests};
-
+use crate::resting::{Hashing, Resting};
 use papaya_shared::{Fixed, Session, memory_for};
 use seize_words::Fault;
-use std::hash::{BuildHasherDefault, DefaultHasher};
 use std::sync::Wait;
 use std::test::Fail;
 use std::thread;
@@ -15,13 +12,9 @@ const CHOSEN: Fixed = Fixed {
     roots: 2,
 };
 
-type Hashing = BuildHasherDefault<DefaultHasher>;
-
 /// Whether a session finds a key, in a section of a slot that it takes, and gives up then.
-fn finds<R: Wait>(rt: &R, session: Session<'_, u64, u64, Hashing>, key: u64) -> Option<bool>
-    requires { session.caller.seat.view.slot ≡ Rests }
-{
-    let mut session = session;
+fn finds<R: Wait>(rt: &R, resting: Resting<'_>, key: u64) -> Option<bool> {
+    let mut session = resting.session();
     if session.register().is_err() {
         return None;
     }
@@ -40,7 +33,10 @@ fn two_threads_find_no_pair_in_a_map_that_has_none(rt: HostRuntime) -> Result<()
     let Ok(mut first) = Session::open(&home.blocks, &hashing, &CHOSEN, 64, 4) else {
         return Err(Fail::new("no map was made"));
     };
-    let second = first.session();
+    let second = Resting {
+        session: first.session(),
+    };
+    let first = Resting { session: first };
     let (one, other) = thread::join(&rt, || finds(&rt, first, 1), || finds(&rt, second, 1));
     assert_eq!(rt; one, Some(false));
     assert_eq!(rt; other, Some(false));

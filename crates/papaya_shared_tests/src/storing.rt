@@ -1,10 +1,10 @@
 //! Two threads store pairs in one map, half of their keys the same.
 ghost use Rattle.std.specs.Prelude.{◌≡◌};
 ghost use Rattle.papaya_shared.specs.Given.SeizeViewsDeclared.view.Has.TheVariants.{Nothing};
-ghost use Rattle.papaya_shared.specs.Given.SeizeViewsDeclared.view.View.TheVariants.{Inside, Rests};
+ghost use Rattle.papaya_shared.specs.Given.SeizeViewsDeclared.view.View.TheVariants.{Inside};
 
+use crate::resting::{Hashing, Resting};
 use papaya_shared::{Fixed, Session, memory_for};
-use std::hash::{BuildHasherDefault, DefaultHasher};
 use std::sync::Wait;
 use std::test::Fail;
 use std::thread;
@@ -17,8 +17,6 @@ const CHOSEN: Fixed = Fixed {
 
 /// How many keys each of them stores.
 const EACH: u64 = 400;
-
-type Hashing = BuildHasherDefault<DefaultHasher>;
 
 /// Stores so many keys from this one on, each with its double, and answers how many of them have replaced a pair, if none was refused.
 fn stores<R: Wait>(rt: &R, session: &mut Session<'_, u64, u64, Hashing>, from: u64) -> Option<u64>
@@ -64,10 +62,8 @@ fn counts<R: Wait>(rt: &R, session: &mut Session<'_, u64, u64, Hashing>, from: u
 }
 
 /// Stores so many keys from this one on, in a section of a slot that it takes, and answers how many have replaced a pair, and how many it finds then.
-fn works<R: Wait>(rt: &R, session: Session<'_, u64, u64, Hashing>, from: u64) -> Option<(u64, u64)>
-    requires { session.caller.seat.view.slot ≡ Rests }
-{
-    let mut session = session;
+fn works<R: Wait>(rt: &R, resting: Resting<'_>, from: u64) -> Option<(u64, u64)> {
+    let mut session = resting.session();
     if session.register().is_err() {
         return None;
     }
@@ -88,8 +84,13 @@ fn a_key_that_two_threads_store_is_replaced_once(rt: HostRuntime) -> Result<(), 
     let Ok(mut first) = Session::open(&home.blocks, &hashing, &CHOSEN, 64, 4) else {
         return Err(Fail::new("no map was made"));
     };
-    let second = first.session();
-    let third = first.session();
+    let second = Resting {
+        session: first.session(),
+    };
+    let third = Resting {
+        session: first.session(),
+    };
+    let first = Resting { session: first };
     let (one, other) = thread::join(
         &rt,
         || works(&rt, first, 0),
