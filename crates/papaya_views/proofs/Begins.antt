@@ -27,7 +27,7 @@ use Rattle.seize_views.specs.declared.view.View.TheVariants.{Inside}
 use Rattle.papaya_views.specs.Begun.{machine_for, calling, replied}
 use Rattle.papaya_views.specs.Told.{untold}
 use Rattle.papaya_views.specs.Promises.{CallsBegin, CallsAreTold}
-use Rattle.papaya_views.specs.Listed.{Called, plain, AreNumbered}
+use Rattle.papaya_views.specs.Listed.{Called, calls_of, plain, AreNumbered, IsNewest}
 use Rattle.papaya_views.specs.Rule.{MapsWorld, HasRow, DoesSo, KnowsMap, IsRun, AreRuns, Fits, Holds, KeepsFor, caller_at, place_of}
 use Rattle.papaya_views.specs.declared.view.Map.{Map}
 use Rattle.papaya_views.specs.declared.view.Run.{Run}
@@ -180,11 +180,15 @@ module _ {K V S : Type 0} (same : K → K → Bool) (hash : S → K → ℕ) (fi
     is_run : IsRun same hash to call run
     is_run = record { map = map; stands = it; number = refl; plainly = plainly; began = ap (λ (a : ℕ). machine_for same hash map a wanted) (sym its_slot); told = refl }
 
-    adds : Adds same hash fixed s h id (BeginsCall i map.number wanted) (h.course.told h.reached.0 (Does (BeginsCall i map.number wanted)) may) v (calling v machine) to
+    abbrev before : List (Called K V)
+    before = calls_of id s.world.doings h.reached.1 []
+
+    adds : Adds same hash fixed s h id (BeginsCall i map.number wanted) (h.course.told h.reached.0 (Does (BeginsCall i map.number wanted)) may) v (calling v machine) to before
     adds = record {
       own = ((λ m k. 0), tt);
-      others = λ j ne calls. ap (λ (q : Bool). if q then call ∷ calls else calls) (is_other j id place fits.slot ne);
-      its = λ calls are. subst (λ (q : Bool). AreRuns same hash to (if q then call ∷ calls else calls) (run ∷ v.calls)) (sym (is_its id place fits.slot)) (is_run, are);
+      others = λ j ne theirs. ap (λ (q : Bool). if q then call ∷ theirs else theirs) (is_other j id place fits.slot ne);
+      its = λ are. subst (λ (q : Bool). AreRuns same hash to (if q then call ∷ before else before) (run ∷ v.calls)) (sym (is_its id place fits.slot)) (is_run, are);
+      newest = λ other works. subst (λ (q : Bool). IsNewest i (if q then call ∷ before else before)) (sym (is_its id place fits.slot)) refl;
     }
 
     begins : Goes (Holds same hash fixed) KeepsFor s s.memory id (λ x. x ≡ calling v machine)
@@ -219,7 +223,7 @@ module _ {K V S : Type 0} (same : K → K → Bool) (hash : S → K → ℕ) (fi
         (replied v machine reply)
         (go place is told_led.3 (machine_replied machine reply).0 reply_is on (TellsCall i map.number reply) v.calls
         (numbered_on s.world.doings (Does (TellsCall i map.number reply) ∷ []) 0 fresh.0 fresh.0 fresh.2 refl))
-        (record { own = ((λ m k. 0), tt); others = λ j ne calls. refl; its = λ calls are. are }) (λ x. x ≡ replied v machine reply) refl
+        (record { own = ((λ m k. 0), tt); others = λ j ne theirs. refl; its = λ are. are; newest = λ other on. h.newest id v machine at_id works }) (λ x. x ≡ replied v machine reply) refl
 
 module _ {K S : Type 0} (V : Type 0) (same : K → K → Bool) (hash : S → K → ℕ) where
   pub calls_begin : CallsBegin V same hash

@@ -11,7 +11,7 @@ use Rattle.papaya_acts.specs.Given.ScenesScene.{Scene}
 use Rattle.papaya_acts.specs.Acts.{Act, Answer, BeginsCall, StepsCall, TellsCall, AsksCall, StopsCall, BeginsMaking, StepsMaking, BeginsEnding, StepsEnding, BeginsRow, StepsRow}
 use Rattle.papaya_acts.specs.Doings.{Doing, Does, BeginsReclaiming, BeginsClearing, StepsReclaiming, Chooses}
 use Rattle.papaya_acts.specs.Lists.{Course, Reached, LedOn, on_by}
-use Rattle.papaya_views.specs.Listed.{Called, calls_then, calls_of, AreNumbered, newest_has_told, seat_of}
+use Rattle.papaya_views.specs.Listed.{Called, calls_then, calls_of, has_told, AreNumbered, IsNewest, seat_of}
 use Rattle.papaya_views.specs.Rule.{IsSlot, KnowsMap, IsRun, AreRuns, caller_at}
 use Rattle.papaya_views.specs.Told.{newest_told}
 use Rattle.papaya_views.specs.declared.view.Map.{Map}
@@ -94,11 +94,17 @@ module _ {K V S : Type 0} (same : K → K → Bool) (hash : S → K → ℕ) (s 
   runs_on [] (run ∷ runs) are = are
   runs_on (call ∷ calls) [] are = are
 
-module _ {K V S : Type 0} (same : K → K → Bool) (hash : S → K → ℕ) (s : Scene K V) where
-  -- where the newest one has told this
-  pub newest_runs : (told : Progress (Node K V)) (calls : List (Called K V)) (runs : List (Run K V)) → AreRuns same hash s calls runs → AreRuns same hash s (newest_has_told told calls) (newest_told told runs)
-  newest_runs told [] [] are = tt
-  newest_runs told (call ∷ calls) (run ∷ runs) are =
+module _ {K V S : Type 0} (same : K → K → Bool) (hash : S → K → ℕ) (s : Scene K V) (i : ℕ) (told : Progress (Node K V)) where
+  -- where the newest one, which is this caller's, has told this
+  pub newest_runs : (calls : List (Called K V)) (runs : List (Run K V)) → IsNewest i calls → AreRuns same hash s calls runs → AreRuns same hash s (has_told i told calls) (newest_told told runs)
+  newest_runs [] runs newest are = absurd newest
+  newest_runs (call ∷ calls) [] newest are = absurd are
+  newest_runs (call ∷ calls) (run ∷ runs) newest are =
+      subst (λ (q : Bool). AreRuns same hash s (if q then record call { told = told } ∷ calls else call ∷ has_told i told calls) (record run { told = told } ∷ runs)) (sym (eq-eqb call.caller i newest))
       (record { map = are.0.map; stands = are.0.stands; number = are.0.number; plainly = are.0.plainly; began = are.0.began; told = refl }, are.1)
-  newest_runs told [] (run ∷ runs) are = are
-  newest_runs told (call ∷ calls) [] are = are
+
+-- the newest one is on that caller's
+pub newest_on : {K V : Type 0} (i : ℕ) (told : Progress (Node K V)) (calls : List (Called K V)) → IsNewest i calls → IsNewest i (has_told i told calls)
+newest_on i told [] newest = newest
+newest_on i told (call ∷ calls) newest =
+    subst (λ (q : Bool). IsNewest i (if q then record call { told = told } ∷ calls else call ∷ has_told i told calls)) (sym (eq-eqb call.caller i newest)) newest

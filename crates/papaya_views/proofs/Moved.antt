@@ -6,6 +6,7 @@ use Rattle.std.proofs.lemmas.Bool.{cases_eq}
 use Rattle.seize_words.specs.Mem.{Mem}
 use Rattle.papaya_tables.specs.Given.SeizeWorld.{Use, Inside}
 use Rattle.papaya_tables.specs.declared.node.Node.{Node}
+use Rattle.papaya_raw.specs.declared.machines.machine.Machine.{Machine}
 use Rattle.papaya_looks.specs.Given.CallersTogether.{CameAbout}
 use Rattle.papaya_acts.specs.Given.ScenesScene.{Scene, slot_of}
 use Rattle.papaya_acts.specs.Acts.{Act, Answer}
@@ -19,10 +20,11 @@ use Rattle.seize_seats.specs.State.{State, view_of, Goes}
 use Rattle.seize_views.specs.Rows.{use_of}
 use Rattle.seize_views.specs.declared.view.Fixed.{Fixed}
 use Rattle.seize_views.proofs.Lists.{there, elsewhere}
-use Rattle.papaya_views.specs.Listed.{Called, calls_then, calls_of, AreNumbered, IsItsOwn}
+use Rattle.papaya_views.specs.Listed.{Called, calls_then, calls_of, AreNumbered, IsItsOwn, IsNewest}
 use Rattle.papaya_views.specs.Rule.{MapsWorld, IsSlot, IsIdle, Fits, AreSo, KnowsRow, AreRuns, Holds, KeepsFor, caller_at, place_of, runs_of, IsFresh}
 use Rattle.papaya_views.specs.declared.view.Run.{Run}
 use Rattle.papaya_views.specs.declared.view.View.{View}
+use Rattle.papaya_views.specs.declared.view.Work.TheVariants.{Calls}
 use Rattle.papaya_views.proofs.Alone.{alone_on_slot}
 use Rattle.papaya_views.proofs.Knows.{knows_on}
 use Rattle.papaya_views.proofs.Listed.{all_more, as_many, calls_more, runs_on}
@@ -54,10 +56,11 @@ module _ {K V S : Type 0} (same : K → K → Bool) (hash : S → K → ℕ) (fi
     pub row : KnowsRow fixed n id w.slot
 
   -- What the act, which has told this, adds to the list: it is one of its own, tells nothing of another seat's calls, and of those of its seat what is known of them then.
-  pub record Adds (id : ℕ) (act : Act K V S) (told : Answer K V) (v w : View K V S) (n : Scene K V) : Type 0 where
+  pub record Adds (id : ℕ) (act : Act K V S) (told : Answer K V) (v w : View K V S) (n : Scene K V) (calls : List (Called K V)) : Type 0 where
     pub own : IsItsOwn hash (Does act)
-    pub others : (j : ℕ) → j ≢ id → (calls : List (Called K V)) → calls_then j (Does act) told calls ≡ calls
-    pub its : (calls : List (Called K V)) → AreRuns same hash n calls v.calls → AreRuns same hash n (calls_then id (Does act) told calls) w.calls
+    pub others : (j : ℕ) → j ≢ id → (theirs : List (Called K V)) → calls_then j (Does act) told theirs ≡ theirs
+    pub its : AreRuns same hash n calls v.calls → AreRuns same hash n (calls_then id (Does act) told calls) w.calls
+    pub newest : (machine : Machine K V K) → w.work ≡ Calls machine → IsNewest (caller_at id (place_of w.slot)) (calls_then id (Does act) told calls)
 
   -- the slot that it had is no other seat's
   pub same_slot : (id : ℕ) (v w : View K V S) → view_of s id ≡ Some v → w.slot ≡ v.slot
@@ -66,7 +69,7 @@ module _ {K V S : Type 0} (same : K → K → Bool) (hash : S → K → ℕ) (fi
 
   module _ (id : ℕ) (v : View K V S) (at_id : view_of s id ≡ Some v) (act : Act K V S) (may : MayDo V same hash fixed.batch_size fixed.roots slot_of (Does act) h.reached.0) (n : Scene K V)
       (comes : (h.course.next h.reached.0 (Does act) may).0 ≡ n) (m : Mem (Node K V)) (w : View K V S) (go : Moved id act m w n)
-      (adds : Adds id act (h.course.told h.reached.0 (Does act) may) v w n) where
+      (adds : Adds id act (h.course.told h.reached.0 (Does act) may) v w n (calls_of id s.world.doings h.reached.1 [])) where
     abbrev led_to : Reached V same hash fixed.batch_size fixed.roots slot_of
     led_to = on_by V same hash fixed.batch_size fixed.roots slot_of h.course h.reached (Does act) may
 
@@ -169,10 +172,21 @@ module _ {K V S : Type 0} (same : K → K → Bool) (hash : S → K → ℕ) (fi
         subst (λ (runs : List (Run K V)). AreRuns same hash n (calls_of j (s.world.doings ++ Does act ∷ []) led_to.1 []) runs) (ap runs_of (sym (here j e)))
         (subst (λ (c : List (Called K V)). AreRuns same hash n c w.calls) (sym (more j))
         (subst (λ (a : ℕ). AreRuns same hash n (calls_then a (Does act) told (calls_before a)) w.calls) (sym e)
-        (adds.its (calls_before id) (subst (λ (o : Option (View K V S)). AreRuns same hash n (calls_before id) (runs_of o)) at_id (still id)))))
+        (adds.its (subst (λ (o : Option (View K V S)). AreRuns same hash n (calls_before id) (runs_of o)) at_id (still id)))))
     calls j (inr ne) =
         subst (λ (runs : List (Run K V)). AreRuns same hash n (calls_of j (s.world.doings ++ Does act ∷ []) led_to.1 []) runs) (ap runs_of (before j ne))
         (subst (λ (c : List (Called K V)). AreRuns same hash n c (runs_of (view_of s j))) (sym (more j ∙ adds.others j ne (calls_before j))) (still j))
+
+    newest : (j : ℕ) (x : View K V S) (machine : Machine K V K) → slice_get (slice_set s.views id w) j ≡ Some x → x.work ≡ Calls machine → (j ≡ id) ⊎ (j ≢ id)
+        → IsNewest (caller_at j (place_of x.slot)) (calls_of j (s.world.doings ++ Does act ∷ []) led_to.1 [])
+    newest j x machine at works (inl e) =
+        let is = same_some w x (sym (here j e) ∙ at) in
+        subst (λ (c : List (Called K V)). IsNewest (caller_at j (place_of x.slot)) c) (sym (more j))
+        (subst (λ (a : ℕ). IsNewest (caller_at a (place_of x.slot)) (calls_then a (Does act) told (calls_before a))) (sym e)
+        (subst (λ (y : View K V S). IsNewest (caller_at id (place_of y.slot)) (calls_then id (Does act) told (calls_before id))) is
+        (adds.newest machine (ap (λ (y : View K V S). y.work) is ∙ works))))
+    newest j x machine at works (inr ne) =
+        subst (λ (c : List (Called K V)). IsNewest (caller_at j (place_of x.slot)) c) (sym (more j ∙ adds.others j ne (calls_before j))) (h.newest j x machine (before j ne ∙ at) works)
 
     pub moved : (so : View K V S → Type 0) → so w → Goes (Holds same hash fixed) KeepsFor s m id so
     moved so is = (
@@ -195,6 +209,7 @@ module _ {K V S : Type 0} (same : K → K → Bool) (hash : S → K → ℕ) (fi
         rows = λ j x at. rows j x at (cases_eq j id);
         own = all_more (IsItsOwn hash) s.world.doings (Does act) h.own adds.own;
         calls = λ j. calls j (cases_eq j id);
+        newest = λ j x machine at works. newest j x machine at works (cases_eq j id);
       },
       λ j k b u o ne ne2 at at2 keeps. kept j b u o ne at keeps,
       is,

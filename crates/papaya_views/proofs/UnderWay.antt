@@ -46,7 +46,7 @@ use Rattle.seize_views.specs.declared.view.Fixed.{Fixed}
 use Rattle.seize_views.specs.declared.view.Has.TheVariants.{Nothing as NoBlock}
 use Rattle.seize_views.specs.declared.view.View.{View as SlotView}
 use Rattle.seize_views.specs.declared.view.View.TheVariants as slot_view
-use Rattle.papaya_views.specs.Listed.{calls_then, newest_has_told}
+use Rattle.papaya_views.specs.Listed.{Called, calls_of, calls_then, has_told, IsNewest}
 use Rattle.papaya_views.specs.Rule.{MapsWorld, DoesSo, KnowsMap, AreRuns, Fits, AreSo, Holds, KeepsFor, caller_at, place_of, IsInSection, IsOfCall, AllHeld}
 use Rattle.papaya_views.specs.Reclaims.{IsNextOf, copies_at_row, disposes_at_row, calls_at_row, reserves_at_row, sweeps_at_row, is_at_row}
 use Rattle.papaya_views.specs.Told.{call_after, called}
@@ -56,7 +56,7 @@ use Rattle.papaya_views.specs.declared.view.Work.{Work}
 use Rattle.papaya_views.specs.declared.view.Work.TheVariants.{Calls}
 use Rattle.papaya_views.proofs.Knows.{knows_inside}
 use Rattle.papaya_views.proofs.Leaves.{Leaves, inside_of, own_idle, map_on}
-use Rattle.papaya_views.proofs.Listed.{is_its, is_other, newest_runs, numbered_on}
+use Rattle.papaya_views.proofs.Listed.{is_its, is_other, newest_on, newest_runs, numbered_on}
 use Rattle.papaya_views.proofs.Moved.{scene_of, all_stand, are_so, Moved, Adds, same_slot, moved}
 use Rattle.papaya_views.proofs.Next.{after, step_leaves, step_fresh, own_does}
 use Rattle.papaya_views.proofs.Looked.{AllLooked}
@@ -288,16 +288,22 @@ module _ {K V S : Type 0} (same : K → K → Bool) (hash : S → K → ℕ) (fi
     }
 
     -- what the step has told is what the call has told last
-    adds : Adds same hash fixed s h id act (h.course.told h.reached.0 (Does act) may_do) v w n
+    abbrev calls : List (Called K V)
+    calls = calls_of id s.world.doings h.reached.1 []
+
+    adds : Adds same hash fixed s h id act (h.course.told h.reached.0 (Does act) may_do) v w n calls
     adds = record {
       own = ((λ a k. 0), tt);
-      others = λ j ne calls.
-          ap (λ (told : Answer K V). calls_then j (Does act) told calls) came.tells
-          ∙ ap (λ (q : Bool). if q then newest_has_told came.progress calls else calls) (is_other j id place fits.slot ne);
-      its = λ calls are.
+      others = λ j ne theirs.
+          ap (λ (told : Answer K V). calls_then j (Does act) told theirs) came.tells ∙ ap (λ (q : Bool). if q then has_told i came.progress theirs else theirs) (is_other j id place fits.slot ne);
+      its = λ are.
           subst (λ (told : Answer K V). AreRuns same hash n (calls_then id (Does act) told calls) w.calls) (sym came.tells)
-          (subst (λ (q : Bool). AreRuns same hash n (if q then newest_has_told came.progress calls else calls) w.calls) (sym (is_its id place fits.slot))
-          (newest_runs same hash n came.progress calls v.calls are));
+          (subst (λ (q : Bool). AreRuns same hash n (if q then has_told i came.progress calls else calls) w.calls) (sym (is_its id place fits.slot))
+          (newest_runs same hash n i came.progress calls v.calls (h.newest id v machine at_id works) are));
+      newest = λ other on.
+          subst (λ (told : Answer K V). IsNewest i (calls_then id (Does act) told calls)) (sym came.tells)
+          (subst (λ (q : Bool). IsNewest i (if q then has_told i came.progress calls else calls)) (sym (is_its id place fits.slot))
+          (newest_on i came.progress calls (h.newest id v machine at_id works)));
     }
 
     pub goes : (so : View K V S → Type 0) → so (called v map machine end looks) → Goes (Holds same hash fixed) KeepsFor s m2 id so

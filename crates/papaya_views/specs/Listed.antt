@@ -29,17 +29,22 @@ module _ {K V : Type 0} where
   plain (RemoveEntry key) = Remove key
   plain wanted = wanted
 
-  -- of these calls the newest one has told this last
-  abbrev pub newest_has_told : Progress (Node K V) → List (Called K V) → List (Called K V)
-  newest_has_told told [] = []
-  newest_has_told told (call ∷ before) = record call { told = told } ∷ before
+  -- of these calls the newest one of a caller has told this last
+  abbrev pub has_told : ℕ → Progress (Node K V) → List (Called K V) → List (Called K V)
+  has_told i told [] = []
+  has_told i told (call ∷ before) = if call.caller == i then record call { told = told } ∷ before else call ∷ has_told i told before
+
+  -- the newest one is this caller's
+  abbrev pub IsNewest : ℕ → List (Called K V) → Type 0
+  IsNewest i [] = ⊥
+  IsNewest i (call ∷ before) = call.caller ≡ i
 
 module _ {K V S : Type 0} where
   -- The calls of a seat, the newest first, once this was done and has told this.
   abbrev pub calls_then : ℕ → Doing K V S → Answer K V → List (Called K V) → List (Called K V)
   calls_then seat (Does (BeginsCall i m wanted)) told calls =
       if seat == seat_of i then record { caller = i; map = m; wanted = wanted; told = untold } ∷ calls else calls
-  calls_then seat (Does (StepsCall i m g)) (OfCall told) calls = if seat == seat_of i then newest_has_told told calls else calls
+  calls_then seat (Does (StepsCall i m g)) (OfCall told) calls = if seat == seat_of i then has_told i told calls else calls
   calls_then seat doing told calls = calls
 
   -- those that it has begun in a list of acts, each of which has told this, beside these

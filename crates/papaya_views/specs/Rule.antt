@@ -28,7 +28,7 @@ use Rattle.seize_views.specs.declared.view.Has.TheVariants.{Nothing as NoBlock}
 use Rattle.seize_views.specs.declared.view.View.{View as SlotView}
 use Rattle.seize_views.specs.declared.view.View.TheVariants as slot_view
 use Rattle.papaya_views.specs.Begun.{machine_for}
-use Rattle.papaya_views.specs.Listed.{Called, plain, calls_of, AreNumbered, IsItsOwn}
+use Rattle.papaya_views.specs.Listed.{Called, plain, calls_of, AreNumbered, IsItsOwn, IsNewest}
 use Rattle.papaya_views.specs.Reclaims.{IsNextOf}
 use Rattle.papaya_views.specs.declared.view.Map.{Map}
 use Rattle.papaya_views.specs.declared.view.Run.{Run}
@@ -185,6 +185,7 @@ module _ {K V S : Type 0} (same : K → K → Bool) (hash : S → K → ℕ) whe
     pub rows : (j : ℕ) (v : View K V S) → view_of s j ≡ Some v → KnowsRow fixed s.world.scene j v.slot
     pub own : AllByRecursion (IsItsOwn hash) s.world.doings
     pub calls : (j : ℕ) → AreRuns s.world.scene (calls_of j s.world.doings reached.1 []) (runs_of (view_of s j))
+    pub newest : (j : ℕ) (v : View K V S) (machine : Machine K V K) → view_of s j ≡ Some v → v.work ≡ Calls machine → IsNewest (caller_at j (place_of v.slot)) (calls_of j s.world.doings reached.1 [])
 
 -- the section of the one's slot holds the block, which is not over
 abbrev pub KeepsFor : {K V S : Type 0} → View K V S → View K V S → MapsWorld K V S → ℕ → Type 0
