@@ -14,7 +14,7 @@ mod RowLooks
 mod Starts
 mod Leaves
 mod Lasts
-mod Listed
+pub mod Listed
 mod Moved
 mod Next
 mod UnderWay

@@ -1,0 +1,2 @@
+pub mod Legal
+pub mod Answered
