@@ -25,10 +25,10 @@ use Rattle.seize_views.specs.declared.view.Has.TheVariants.{Nothing as NoBlock}
 use Rattle.seize_views.specs.declared.view.View.{View as SlotView}
 use Rattle.seize_views.specs.declared.view.View.TheVariants.{Inside}
 use Rattle.papaya_views.specs.Begun.{machine_for, calling, replied}
-use Rattle.papaya_views.specs.Told.{untold}
+use Rattle.papaya_views.specs.Told.{begun_with, pair_in, untold}
 use Rattle.papaya_views.specs.Promises.{CallsBegin, CallsAreTold}
 use Rattle.papaya_views.specs.Listed.{Called, calls_of, plain, AreNumbered, IsNewest}
-use Rattle.papaya_views.specs.Rule.{MapsWorld, HasRow, DoesSo, KnowsMap, IsRun, AreRuns, Fits, Holds, KeepsFor, caller_at, place_of}
+use Rattle.papaya_views.specs.Rule.{MapsWorld, HasRow, DoesSo, KnowsMap, KnowsPair, IsRun, AreRuns, Fits, Holds, KeepsFor, caller_at, pair_of, place_of}
 use Rattle.papaya_views.specs.declared.view.Map.{Map}
 use Rattle.papaya_views.specs.declared.view.Run.{Run}
 use Rattle.papaya_views.specs.declared.view.View.{View}
@@ -39,6 +39,7 @@ use Rattle.papaya_views.proofs.Leaves.{Leaves, leaves_all, inside_of, own_idle, 
 use Rattle.papaya_views.proofs.Listed.{is_its, is_other, numbered_on}
 use Rattle.papaya_views.proofs.Moved.{scene_of, are_so, Moved, Adds, same_slot, moved}
 use Rattle.papaya_views.proofs.Numbers.{slot_at}
+use Rattle.papaya_views.proofs.Pairs.{begun_pair, told_pair}
 use Rattle.papaya_views.proofs.UnderWay.{called_at, does as way_does, slot_is as way_slot, on_row as way_on}
 
 -- but for a counting
@@ -96,8 +97,9 @@ module _ {K V S : Type 0} (same : K → K → Bool) (hash : S → K → ℕ) (fi
     leaves : Leaves same hash fixed.batch_size scene n i None
     leaves = leaves_all same hash fixed.batch_size scene map.number i (Some u)
 
-    go : (act : Act K V S) (runs : List (Run K V)) → AreNumbered 0 (s.world.doings ++ Does act ∷ []) (are_so same hash fixed s h).fresh.0 → Moved same hash fixed s h id act s.memory (w runs) n
-    go act runs numbered = record {
+    go : (act : Act K V S) (runs : List (Run K V)) → AreNumbered 0 (s.world.doings ++ Does act ∷ []) (are_so same hash fixed s h).fresh.0 → pair_of u ≡ pair_in runs
+        → Moved same hash fixed s h id act s.memory (w runs) n
+    go act runs numbered pair = record {
       memory = (are_so same hash fixed s h).memory;
       own = record {
         slot = fits.slot;
@@ -106,6 +108,9 @@ module _ {K V S : Type 0} (same : K → K → Bool) (hash : S → K → ℕ) (fi
             (subst (λ (x : Option (Map S)). DoesSo same hash n i (Inside t NoBlock) x (Calls machine)) (sym knows) its_does);
         map = map_on same hash scene n id place fits.slot fixed.batch_size None leaves v.map fits.map;
         held = tt;
+        pair =
+            subst (λ (x : Option (Map S)). KnowsPair same hash n i x (Calls machine) runs) (sym knows)
+            (λ x here. ap pair_of (same_some x u (sym here ∙ call_here scene.calls map.number i (Some u))) ∙ pair);
         idle = own_idle same hash scene n id place fits.slot fixed.batch_size None leaves fits.idle;
       };
       place = place;
@@ -193,9 +198,10 @@ module _ {K V S : Type 0} (same : K → K → Bool) (hash : S → K → ℕ) (fi
 
     begins : Goes (Holds same hash fixed) KeepsFor s s.memory id (λ x. x ≡ calling v machine)
     begins =
+        let fresh = (are_so same hash fixed s h).fresh in
         moved same hash fixed s h id v at_id (BeginsCall i map.number wanted) may to led.3 s.memory (calling v machine)
         (go t slot_is (begun same slot_of led.0 i wanted) machine machine_is on_row (BeginsCall i map.number wanted) (run ∷ v.calls)
-        (numbered_on s.world.doings (Does (BeginsCall i map.number wanted) ∷ []) 0 (are_so same hash fixed s h).fresh.0 (are_so same hash fixed s h).fresh.0 (are_so same hash fixed s h).fresh.2 refl))
+        (numbered_on s.world.doings (Does (BeginsCall i map.number wanted) ∷ []) 0 fresh.0 fresh.0 fresh.2 refl) (begun_pair same slot_of led.0 i wanted ∙ ap begun_with machine_is))
         adds (λ x. x ≡ calling v machine) refl
 
   -- its call is told this
@@ -214,6 +220,13 @@ module _ {K V S : Type 0} (same : K → K → Bool) (hash : S → K → ℕ) (fi
         ∙ ap (λ (x : UnderWay K V K). (machine_replied (machine_of x) reply).0) (same_some told_led.2 call.call (sym told_led.4 ∙ call.here))
         ∙ ap (λ (x : Machine K V K). (machine_replied x reply).0) call.is
 
+    its_pair : pair_of told_led.3 ≡ pair_in v.calls
+    its_pair =
+        let knows_pair =
+        subst (λ (x : Work K V S). KnowsPair same hash scene i (Some map) x v.calls) works
+        (subst (λ (x : Option (Map S)). KnowsPair same hash scene i x v.work v.calls) knows fits.pair) in
+        told_pair same fixed.batch_size fixed.roots slot_of told_led.0 i told_led.2 reply told_led.3 told_led.7.0 ∙ knows_pair told_led.2 told_led.4
+
     tells : Goes (Holds same hash fixed) KeepsFor s s.memory id (λ x. x ≡ replied v machine reply)
     tells =
         let is = way_slot same hash fixed s h id v at_id map machine knows works in
@@ -222,7 +235,7 @@ module _ {K V S : Type 0} (same : K → K → Bool) (hash : S → K → ℕ) (fi
         moved same hash fixed s h id v at_id (TellsCall i map.number reply) told_may (n place is told_led.3 (machine_replied machine reply).0 reply_is on) told_led.8 s.memory
         (replied v machine reply)
         (go place is told_led.3 (machine_replied machine reply).0 reply_is on (TellsCall i map.number reply) v.calls
-        (numbered_on s.world.doings (Does (TellsCall i map.number reply) ∷ []) 0 fresh.0 fresh.0 fresh.2 refl))
+        (numbered_on s.world.doings (Does (TellsCall i map.number reply) ∷ []) 0 fresh.0 fresh.0 fresh.2 refl) its_pair)
         (record { own = ((λ m k. 0), tt); others = λ j ne theirs. refl; its = λ are. are; newest = λ other on. h.newest id v machine at_id works }) (λ x. x ≡ replied v machine reply) refl
 
 module _ {K S : Type 0} (V : Type 0) (same : K → K → Bool) (hash : S → K → ℕ) where
