@@ -144,5 +144,5 @@ module _ {K V S : Type 0} (same : K → K → Bool) (hash : S → K → ℕ) (fi
 
 module _ {K S : Type 0} (V : Type 0) (same : K → K → Bool) (hash : S → K → ℕ) where
   pub seats_are_answered : SeatsAreAnswered V same hash
-  seats_are_answered fixed small aborts id t v map wanted run later before knows calls_are slot simple began ended s h at_id =
+  seats_are_answered fixed small aborts id t v map wanted run later before knows calls_are simple began ended s h at_id =
       answered same hash fixed small aborts id t v map wanted run later before knows calls_are simple began ended s h at_id

@@ -34,3 +34,4 @@ pub mod Exact
 pub mod Laws
 pub mod Given
 mod Samples
+mod ListedSamples

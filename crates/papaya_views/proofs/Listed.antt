@@ -10,7 +10,7 @@ use Rattle.papaya_looks.specs.Given.FinishesMaps.{Standing}
 use Rattle.papaya_acts.specs.Given.ScenesScene.{Scene}
 use Rattle.papaya_acts.specs.Acts.{Act, Answer, BeginsCall, StepsCall, TellsCall, AsksCall, StopsCall, BeginsMaking, StepsMaking, BeginsEnding, StepsEnding, BeginsRow, StepsRow}
 use Rattle.papaya_acts.specs.Doings.{Doing, Does, BeginsReclaiming, BeginsClearing, StepsReclaiming, Chooses}
-use Rattle.papaya_acts.specs.Lists.{Course, Reached, LedOn, on_by}
+use Rattle.papaya_acts.specs.Lists.{Course, Reached, LedOn, LedTo, nothing_done, on_by}
 use Rattle.papaya_views.specs.Listed.{Called, calls_then, calls_of, has_told, AreNumbered, IsNewest, seat_of}
 use Rattle.papaya_views.specs.Rule.{IsSlot, KnowsMap, IsRun, AreRuns, caller_at}
 use Rattle.papaya_views.specs.Told.{newest_told}
@@ -60,18 +60,24 @@ module _ {K V S : Type 0} where
   calls_more seat [] (said ∷ answers) doing told calls long = absurd (cc long)
   calls_more seat (one ∷ doings) [] doing told calls long = absurd (cc long)
 
+none_before : (n : ℕ) → 0 + n ≡ n
+none_before n = omega arith
+
 module _ {K S : Type 0} (V : Type 0) (same : K → K → Bool) (hash : S → K → ℕ) (batch_size roots : ℕ) (slot : ℕ → ℕ) (course : Course V same hash batch_size roots slot) where
   one_longer : (answers : List (Answer K V)) (told : Answer K V) → length (answers ++ told ∷ []) ≡ suc (length answers)
   one_longer [] told = refl
   one_longer (one ∷ answers) told = ap suc (one_longer answers told)
 
   -- each act tells something
-  pub as_many : (doings : List (Doing K V S)) (x y : Reached V same hash batch_size roots slot) → LedOn V same hash batch_size roots slot course doings x y
+  as_many : (doings : List (Doing K V S)) (x y : Reached V same hash batch_size roots slot) → LedOn V same hash batch_size roots slot course doings x y
       → length y.1 ≡ length x.1 + length doings
   as_many [] x y led = ap (λ (z : Reached V same hash batch_size roots slot). length z.1) led ∙ (let n = length x.1 in omega arith)
   as_many (doing ∷ doings) x y (may, led) =
       let rest = as_many doings (on_by V same hash batch_size roots slot course x doing may) y led in
       let longer = one_longer x.1 (course.told x.0 doing may) in omega (arith, rest, longer)
+
+  pub as_long : (doings : List (Doing K V S)) (y : Reached V same hash batch_size roots slot) → LedTo V same hash batch_size roots slot course doings y → length y.1 ≡ length doings
+  as_long doings y led = as_many doings (nothing_done V same hash batch_size roots slot course) y led ∙ none_before (length doings)
 
 module _ {K V S : Type 0} (same : K → K → Bool) (hash : S → K → ℕ) (s n : Scene K V)
     (maps : (m : ℕ) (r : Standing K) → s.maps m ≡ Some r → (r2 : Standing K) × (n.maps m ≡ Some r2) × (r2.setting ≡ r.setting) × (r2.hash ≡ r.hash)) where

@@ -27,7 +27,7 @@ use Rattle.papaya_views.specs.declared.view.View.{View}
 use Rattle.papaya_views.specs.declared.view.Work.TheVariants.{Calls}
 use Rattle.papaya_views.proofs.Alone.{alone_on_slot}
 use Rattle.papaya_views.proofs.Knows.{knows_on}
-use Rattle.papaya_views.proofs.Listed.{all_more, as_many, calls_more, runs_on}
+use Rattle.papaya_views.proofs.Listed.{all_more, as_long, calls_more, runs_on}
 use Rattle.papaya_views.proofs.Leaves.{Leaves, inside_of, unborn_on, fits_on}
 use Rattle.papaya_views.proofs.Lasts.{of_call_lasts}
 use Rattle.papaya_views.proofs.Numbers.{seat_apart}
@@ -157,7 +157,7 @@ module _ {K V S : Type 0} (same : K → K → Bool) (hash : S → K → ℕ) (fi
     calls_before j = calls_of j s.world.doings h.reached.1 []
 
     long : length h.reached.1 ≡ length s.world.doings
-    long = as_many V same hash fixed.batch_size fixed.roots slot_of h.course s.world.doings (nothing_done V same hash fixed.batch_size fixed.roots slot_of h.course) h.reached h.led
+    long = as_long V same hash fixed.batch_size fixed.roots slot_of h.course s.world.doings h.reached h.led
 
     more : (j : ℕ) → calls_of j (s.world.doings ++ Does act ∷ []) led_to.1 [] ≡ calls_then j (Does act) told (calls_before j)
     more j = calls_more j s.world.doings h.reached.1 (Does act) told [] long

@@ -61,6 +61,10 @@ with_work work = record { slot = Inside 0 NoBlock; map = Some map; work = work; 
 abbrev answered : KeyAnswer → View ℕ ℕ ℕ
 answered answer = record (with_work Nothing) { calls = ran (Done (Key answer)) }
 
+abbrev first_told : List (Run ℕ ℕ) → Progress (Node ℕ ℕ)
+first_told [] = untold
+first_told (run ∷ before) = run.told
+
 -- no root leads anywhere
 abbrev no_tables : Mem (Node ℕ ℕ)
 no_tables = record { roots = 0 ∷ 0 ∷ 0 ∷ 0 ∷ []; used = []; slots = []; blocks = []; choices = [] }
@@ -71,12 +75,12 @@ ends = (_, refl, refl, tt, (no_tables, no_tables, (Found 0, (refl, refl), refl))
 
 -- and not that it is
 not_found : told same hash (with_work (Calls machine)) (Load (Root 3)) (Found 0) (answered (FoundThere 8)) → ⊥
-not_found (end, follows, is, may) =
-    let calls = ap (λ (v : View ℕ ℕ ℕ). v.calls) is in let told = ap (λ (e : Machine ℕ ℕ ℕ × Progress (Node ℕ ℕ)). newest_told e.1 (ran untold)) follows in cc (calls, told)
+not_found (end, follows, is, may, came, hands) =
+    let calls = ap (λ (v : View ℕ ℕ ℕ). first_told v.calls) is in let told = ap (λ (e : Machine ℕ ℕ ℕ × Progress (Node ℕ ℕ)). e.1) follows in cc (calls, told)
 
 -- and does not go on
 not_on : (told same hash (with_work (Calls machine)) (Load (Root 3)) (Found 0) (with_work (Calls machine))) → ⊥
-not_on (end, follows, is, may) =
+not_on (end, follows, is, may, came, hands) =
     let work = ap (λ (v : View ℕ ℕ ℕ). v.work) is in
     let then = ap (λ (e : Machine ℕ ℕ ℕ × Progress (Node ℕ ℕ)). call_after {S = ℕ} e.0 e.1) follows in cc (work, then)
 
