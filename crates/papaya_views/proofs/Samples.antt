@@ -25,7 +25,7 @@ use Rattle.seize_views.specs.declared.view.View.TheVariants.{Outside, Enters, In
 use Rattle.papaya_views.specs.Begun.{machine_for, with_slot}
 use Rattle.papaya_views.specs.Notes.{notes_of}
 use Rattle.seize_views.specs.declared.view.Began.TheVariants.{NotYet, Section}
-use Rattle.papaya_views.specs.Told.{HandsBack, told, call_after, newest_told, untold}
+use Rattle.papaya_views.specs.Told.{HandsBack, told, call_after, untold}
 use Rattle.papaya_views.specs.declared.view.Map.{Map}
 use Rattle.papaya_views.specs.declared.view.Run.{Run}
 use Rattle.papaya_views.specs.declared.view.View.{View}
@@ -61,10 +61,6 @@ with_work work = record { slot = Inside 0 NoBlock; map = Some map; work = work; 
 abbrev answered : KeyAnswer → View ℕ ℕ ℕ
 answered answer = record (with_work Nothing) { calls = ran (Done (Key answer)) }
 
-abbrev first_told : List (Run ℕ ℕ) → Progress (Node ℕ ℕ)
-first_told [] = untold
-first_told (run ∷ before) = run.told
-
 -- no root leads anywhere
 abbrev no_tables : Mem (Node ℕ ℕ)
 no_tables = record { roots = 0 ∷ 0 ∷ 0 ∷ 0 ∷ []; used = []; slots = []; blocks = []; choices = [] }
@@ -74,9 +70,13 @@ ends : told same hash (with_work (Calls machine)) (Load (Root 3)) (Found 0) (ans
 ends = (_, refl, refl, tt, (no_tables, no_tables, (Found 0, (refl, refl), refl)), tt)
 
 -- and not that it is
+abbrev last_told : List (Run ℕ ℕ) → Progress (Node ℕ ℕ)
+last_told [] = untold
+last_told (run ∷ before) = run.told
+
 not_found : told same hash (with_work (Calls machine)) (Load (Root 3)) (Found 0) (answered (FoundThere 8)) → ⊥
 not_found (end, follows, is, may, came, hands) =
-    let calls = ap (λ (v : View ℕ ℕ ℕ). first_told v.calls) is in let told = ap (λ (e : Machine ℕ ℕ ℕ × Progress (Node ℕ ℕ)). e.1) follows in cc (calls, told)
+    let last = ap (λ (v : View ℕ ℕ ℕ). last_told v.calls) is in let told = ap (λ (e : Machine ℕ ℕ ℕ × Progress (Node ℕ ℕ)). e.1) follows in cc (last, told)
 
 -- and does not go on
 not_on : (told same hash (with_work (Calls machine)) (Load (Root 3)) (Found 0) (with_work (Calls machine))) → ⊥
