@@ -13,16 +13,20 @@ use Rattle.papaya_views.specs.Given.RawDeclared.machines.progress.Progress.{Prog
 use Rattle.papaya_views.specs.Listed.{Called, calls_then, has_told, seat_of}
 use Rattle.papaya_views.specs.Told.{untold}
 use Rattle.papaya_moves.specs.Given.SchedulesAfter.{AtEachEvent}
+use Rattle.papaya_moves.specs.Given.SchedulesMoment.{UnderWay}
 use Rattle.papaya_moves.specs.Given.SchedulesViews.{call_of}
 use Rattle.papaya_moves.specs.Given.SchedulesDeclared.call.Call.{Call}
+use Rattle.papaya_moves.specs.Given.SchedulesDeclared.call.Call.TheVariants.{On}
+use Rattle.papaya_moves.specs.Given.SchedulesDeclared.call.OneKey.TheVariants.{Get}
+use Rattle.papaya_moves.specs.Given.SchedulesDeclared.outcome.Outcome.{Outcome}
 use Rattle.papaya_moves.specs.Given.ActsActs.{Act, Answer, OfCall, Wanted, BeginsCall, StepsCall, TellsCall, AsksCall, StopsCall, BeginsMaking, StepsMaking, BeginsEnding, StepsEnding, BeginsRow, StepsRow}
 use Rattle.papaya_moves.specs.Given.ActsDoings.{Does}
 use Rattle.papaya_moves.specs.Given.DeedsDeeds.{Entry, Steps, moment, named}
 use Rattle.papaya_moves.specs.Given.DeedsHistory.{IsLinearizable}
-use Rattle.papaya_moves.specs.Given.EffectsEffects.{known_after}
+use Rattle.papaya_moves.specs.Given.EffectsEffects.{effects_of, known_after}
 use Rattle.papaya_moves.specs.Given.EffectsDeclared.acting.Acting.TheVariants as acting
 use Rattle.papaya_moves.specs.Given.NamedSeen.{kind_of}
-use Rattle.papaya_moves.specs.Given.PlayedPlay.{Calling, State, begun_call, call_asked, call_begun, call_for, call_stepped, call_stopped, call_told, keeps, made_on, outcome_of, reply_for, told_call}
+use Rattle.papaya_moves.specs.Given.PlayedPlay.{Calling, State, begun_call, call_asked, call_begun, call_for, call_stepped, call_stopped, call_told, is_refusal, keeps, made_on, outcome_of, reply_for, told_call}
 use Rattle.papaya_moves.specs.Given.ScenesReplying.{unless_stopped}
 use Rattle.papaya_moves.specs.Given.ScenesStepping.{has_ended}
 use Rattle.papaya_moves.specs.Given.TellerDeclared.changed.Changed.{Changed}
@@ -31,6 +35,7 @@ use Rattle.papaya_moves.specs.Given.SeizeWorld.{with_at}
 use Rattle.papaya_moves.proofs.Given.CallersTogether.At.{at_same, at_other}
 use Rattle.papaya_moves.proofs.Given.PlayedNoted.{CallsAreNoted, at_it, at_other_map, made_calls, one_call}
 use Rattle.papaya_moves.proofs.Given.PlayedPlayedAs.{PlayedAs, ReclaimedAs}
+use Rattle.papaya_answers.proofs.Lookups.{was_so}
 use Rattle.papaya_answers.proofs.Tells.{GoesOn, HasAnswered, IsCalled, Tells, answered_on, answered_then, called_on, quiet}
 
 -- calls of other callers
@@ -80,12 +85,17 @@ module _ {K V S : Type 0} (same : K → K → Bool) (seat : ℕ) (x : State K V 
     abbrev stepped : State K V S
     stepped = call_stepped i m c changed x (memory, (machine, progress))
 
-    module _ (right : AtEachEvent (IsLinearizable same) stepped.history) where
+    -- a lookup that is under way there owes nothing
+    abbrev OwesNone : Type 0
+    OwesNone = (u : UnderWay K V) → call_of (named i) (moment x.history) ≡ Some u → (key : K) → u.call ≡ On (Get key) → u.due ≡ None
+
+    module _ (right : AtEachEvent (IsLinearizable same) stepped.history) (free : OwesNone) where
       -- by its entry the call was answered, if it has ended
       answers : (one : Called K V) → one.caller ≡ i → one.map ≡ m → call_for one.wanted ≡ c.call → HasAnswered same stepped.history (record one { told = progress })
       answers one caller_is map_is call_is ended =
           let its = noted m i c here in
-          let known = known_after (acting.Call i m) changed x.known in (
+          let known = known_after (acting.Call i m) changed x.known in
+          let effects = effects_of (acting.Call i m) x.known changed in (
             known,
             c.value,
             inl (record {
@@ -97,6 +107,19 @@ module _ {K V S : Type 0} (same : K → K → Bool) (seat : ℕ) (x : State K V 
               what = its.3 ∙ sym call_is;
               right = right.0;
             }),
+            (λ key answer call is.
+                let wanted = its.3 ∙ sym call_is ∙ call in
+                let so = was_so same i answer effects (is_refusal changed) x.history its.0 its.1 key wanted (free its.0 its.1 key wanted)
+                (subst (λ (o : Outcome V). IsLinearizable same x.history (record { deed = Steps i; outcome = o; effects = effects; refused = is_refusal changed }))
+                (ap (λ (k : Call K V). outcome_of known (kind_of k) c.value progress) (sym call_is) ∙ is) right.0) m its.2 in
+                inl (record {
+                  deed = ap (λ (k : ℕ). Steps k) (sym caller_is);
+                  comes = ap (λ (k : Call K V). outcome_of known (kind_of k) c.value progress) (sym call_is) ∙ is;
+                  there = its.0;
+                  here = subst (λ (k : ℕ). call_of (named k) (moment x.history) ≡ Some its.0) (sym caller_is) its.1;
+                  on = its.2 ∙ sym map_is;
+                  so = so.so;
+                })),
           )
 
       before : (on j : ℕ) (d : Calling K V) → stepped.now.calls on j ≡ Some d → (b : Calling K V) × (x.now.calls on j ≡ Some b) × (b.call ≡ d.call)

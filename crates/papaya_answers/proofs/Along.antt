@@ -8,7 +8,8 @@ use Rattle.papaya_views.proofs.Given.SeizeActsAnswers.{same_some}
 use Rattle.papaya_views.proofs.Listed.{all_more, numbered_on}
 use Rattle.papaya_views.specs.Listed.{Called, AreNumbered, calls_of, calls_then, has_told, seat_of}
 use Rattle.papaya_moves.specs.Given.SchedulesAfter.{AtEachEvent}
-use Rattle.papaya_moves.specs.Given.DeedsHistory.{IsLinearizable}
+use Rattle.papaya_moves.specs.Given.DeedsDeeds.{moment}
+use Rattle.papaya_moves.specs.Given.DeedsHistory.{IsLinearizable, past}
 use Rattle.papaya_moves.specs.Given.ScenesScene.{slot_of}
 use Rattle.papaya_moves.specs.Given.SeizeActsAnswers.{then_on}
 use Rattle.papaya_moves.specs.Given.ActsActs.{Act, Answer, BeginsCall, StepsCall, TellsCall, AsksCall, StopsCall, BeginsMaking, StepsMaking, BeginsEnding, StepsEnding, BeginsRow, StepsRow}
@@ -29,6 +30,7 @@ use Rattle.papaya_moves.proofs.Given.PlayedNoted.{CallsAreNoted}
 use Rattle.papaya_moves.proofs.Given.PlayedPlayedAs.{played_as, reclaimed_as}
 use Rattle.papaya_moves.proofs.Given.PlayedTied.{call_tied}
 use Rattle.papaya_answers.proofs.Acts.{IsOther, acts_tell, nothing_tells, reclaiming_tells, steps_tell}
+use Rattle.papaya_answers.proofs.Lookups.{lookup_owes}
 use Rattle.papaya_answers.proofs.Numbers.{once}
 use Rattle.papaya_answers.proofs.Tells.{Tells}
 
@@ -134,7 +136,8 @@ module _ {K S : Type 0} (V : Type 0) (same : K → K → Bool) (by_hasher : S �
           subst (λ (told : Answer K V). Tells same seat z (calls_then seat (Does (StepsCall i m g)) told calls)) (sym came.tells)
           (subst (λ (v : State K V S). Tells same seat v (if seat == seat_of i then has_told i came.progress calls else calls)) (sym tied.comes)
           (steps_tell same seat x calls tells here.0.holds.noted i m tied.it tied.here changed came.memory came.machine came.progress
-          (subst (λ (v : State K V S). AtEachEvent (IsLinearizable same) v.history) tied.comes right)))
+          (subst (λ (v : State K V S). AtEachEvent (IsLinearizable same) v.history) tied.comes right)
+          (λ u is. lookup_owes same (past x.history) (moment x.history) x.known a.0.0 here.0.holds.shows.dues m i came.call came.here came.standing came.stands u is)))
       acts (BeginsCall i m wanted) may played = other (BeginsCall i m wanted) may tt played
       acts (TellsCall i m reply) may played = other (TellsCall i m reply) may tt played
       acts (AsksCall i m) may played = other (AsksCall i m) may tt played

@@ -7,7 +7,11 @@ use Rattle.papaya_views.specs.Given.SeizeSeatsState.{State, view_of}
 use Rattle.papaya_views.specs.Given.SeizeViewsDeclared.view.Fixed.{Fixed}
 use Rattle.papaya_views.specs.Given.TablesDeclared.node.Node.{Node}
 use Rattle.papaya_views.specs.Given.TablesDeclared.setting.Setting.{Setting}
+use Rattle.papaya_views.specs.Given.RawDeclared.machines.answer.KeyAnswer.{KeyAnswer}
+use Rattle.papaya_views.specs.Given.RawDeclared.machines.answer.KeyAnswer.TheVariants as says
+use Rattle.papaya_views.specs.Given.RawDeclared.machines.progress.Answer.TheVariants.{Key}
 use Rattle.papaya_views.specs.Given.RawDeclared.machines.progress.Progress.{Progress}
+use Rattle.papaya_views.specs.Given.RawDeclared.machines.progress.Progress.TheVariants.{Done}
 use Rattle.papaya_views.specs.Begun.{machine_for}
 use Rattle.papaya_views.specs.Listed.{Called, calls_of, calls_then, has_told, plain, seat_of}
 use Rattle.papaya_views.specs.Told.{untold}
@@ -17,7 +21,12 @@ use Rattle.papaya_views.specs.declared.view.Run.{Run}
 use Rattle.papaya_views.specs.declared.view.View.{View}
 use Rattle.papaya_views.proofs.Numbers.{its_caller}
 use Rattle.papaya_moves.specs.Given.ScenesScene.{Scene, slot_of}
-use Rattle.papaya_moves.specs.Given.ActsActs.{Answer, Wanted, OfCall, BeginsCall, StepsCall}
+use Rattle.papaya_moves.specs.Given.SchedulesDeclared.call.Answer.{Answer}
+use Rattle.papaya_moves.specs.Given.SchedulesDeclared.call.Answer.TheVariants as answers
+use Rattle.papaya_moves.specs.Given.SchedulesDeclared.call.Call.TheVariants.{On}
+use Rattle.papaya_moves.specs.Given.SchedulesDeclared.outcome.Outcome.{Outcome}
+use Rattle.papaya_moves.specs.Given.SchedulesDeclared.outcome.Outcome.TheVariants.{Answered}
+use Rattle.papaya_moves.specs.Given.ActsActs.{Answer as Told, Get, Wanted, OfCall, BeginsCall, StepsCall}
 use Rattle.papaya_moves.specs.Given.ActsDoings.{Doing, Does}
 use Rattle.papaya_moves.specs.Given.DeedsDeeds.{Entry}
 use Rattle.papaya_moves.specs.Given.EffectsKnown.{Known}
@@ -25,7 +34,9 @@ use Rattle.papaya_moves.specs.Given.FinishesMaps.{Standing}
 use Rattle.papaya_moves.specs.Given.NamedSeen.{kind_of}
 use Rattle.papaya_moves.specs.Given.PlayedPlay.{State as Played, call_for, first_state, outcome_of, play_all}
 use Rattle.papaya_moves.specs.Given.ScenesStepping.{has_ended}
+use Rattle.papaya_moves.specs.Given.NamedTelling.{number_by}
 use Rattle.papaya_answers.specs.Answered.{IsAnswered, SeatsAreAnswered}
+use Rattle.papaya_answers.specs.Lookups.{IsLookedUp, IsSuch, LookupsWereSo}
 use Rattle.papaya_answers.proofs.Along.{all_tell}
 use Rattle.papaya_answers.proofs.Legal.{hashes, own}
 use Rattle.papaya_answers.proofs.Tells.{HasAnswered, Tells}
@@ -44,7 +55,7 @@ module _ {K V S : Type 0} (seat : ℕ) where
       by true = all
       by false = (all.0, told_its i told calls all.1)
 
-  then_its : (doing : Doing K V S) (told : Answer K V) (calls : List (Called K V)) → AllByRecursion IsIts calls → AllByRecursion IsIts (calls_then seat doing told calls)
+  then_its : (doing : Doing K V S) (told : Told K V) (calls : List (Called K V)) → AllByRecursion IsIts calls → AllByRecursion IsIts (calls_then seat doing told calls)
   then_its (Does (BeginsCall i m wanted)) told calls all = by (cases_eq seat (seat_of i))
     where
       new : Called K V
@@ -60,9 +71,9 @@ module _ {K V S : Type 0} (seat : ℕ) where
       by false = all
   then_its _ _ calls all = all
 
-  calls_its : (doings : List (Doing K V S)) (answers : List (Answer K V)) (calls : List (Called K V)) → AllByRecursion IsIts calls → AllByRecursion IsIts (calls_of seat doings answers calls)
-  calls_its (doing ∷ doings) (told ∷ answers) calls all = calls_its doings answers (calls_then seat doing told calls) (then_its doing told calls all)
-  calls_its [] answers calls all = all
+  calls_its : (doings : List (Doing K V S)) (said : List (Told K V)) (calls : List (Called K V)) → AllByRecursion IsIts calls → AllByRecursion IsIts (calls_of seat doings said calls)
+  calls_its (doing ∷ doings) (told ∷ said) calls all = calls_its doings said (calls_then seat doing told calls) (then_its doing told calls all)
+  calls_its [] said calls all = all
   calls_its (doing ∷ doings) [] calls all = all
 
 module _ {K V S : Type 0} (same : K → K → Bool) (hash : S → K → ℕ) (scene : Scene K V) (P Q : Called K V → Type 0) (run : Run K V) (before : List (Run K V)) where
@@ -78,6 +89,15 @@ module _ {K V S : Type 0} (same : K → K → Bool) (hash : S → K → ℕ) (sc
   found (other ∷ later) (call ∷ calls) are all more = found later calls are.1 all.1 more.1
   found [] [] are all more = absurd are
   found (other ∷ later) [] are all more = absurd are
+
+-- what is told of a lookup, in the words of the history
+such : {K V : Type 0} (known : Known) (value : Option V) (key : K) (told : KeyAnswer)
+    → (answer : Answer V) × IsSuch told answer × (outcome_of known (kind_of (call_for (Get {V = V} key))) value (Done (Key told)) ≡ Answered answer)
+such known value key says.Absent = (answers.Absent, refl, refl)
+such known value key (says.Found word) = (answers.Found (number_by known word), (number_by known word, refl), refl)
+such known value key (says.Stored new) = (answers.Stored (number_by known new), tt, refl)
+such known value key (says.Replaced old new) = (answers.Found (number_by known old), tt, refl)
+such known value key (says.Removed old) = (answers.Found (number_by known old), tt, refl)
 
 module _ {K V S : Type 0} (same : K → K → Bool) (hash : S → K → ℕ) (fixed : Fixed) (small : fixed.batch_size < 2 ^ 64) (aborts : ℕ → V) (id t : ℕ) (v : View K V S) (map : Map S) (wanted : Wanted K V)
     (run : Run K V) (later before : List (Run K V)) (knows : v.map ≡ Some map) (calls_are : v.calls ≡ later ++ run ∷ before) (simple : plain wanted ≡ wanted)
@@ -128,21 +148,43 @@ module _ {K V S : Type 0} (same : K → K → Bool) (hash : S → K → ℕ) (fi
   abbrev history : List (Entry K V)
   history = tell.0.history
 
-  pub answered : (after : Played K V S) × (play_all same hash fixed.batch_size fixed.roots aborts s.world.doings (first_state fixed.roots) ≡ Some after) × (known : Known) × (value : Option V)
-      × IsAnswered same after.history (caller_at id t) map.number (call_for wanted) (outcome_of known (kind_of (call_for wanted)) value run.told)
-  answered =
+  abbrev outcome : Known → Option V → Wanted K V → Progress (Node K V) → Outcome V
+  outcome known value w told = outcome_of known (kind_of (call_for w)) value told
+
+  -- what a call comes to that has ended, in the words of the history
+  abbrev Comes : Known → Option V → ℕ → ℕ → Wanted K V → Progress (Node K V) → Type 0
+  Comes known value c m w told =
+      IsAnswered same history c m (call_for w) (outcome known value w told)
+      × ((key : K) (answer : Answer V) → call_for w ≡ On (Get key) → outcome known value w told ≡ Answered answer → IsLookedUp same history c m key answer)
+
+  pub comes : (known : Known) × (value : Option V) × Comes known value (caller_at id t) map.number wanted run.told
+  comes =
       let has = it.its (ap has_ended (sym it.is.told) ∙ ended) in (
-        tell.0,
-        tell.1,
         has.0,
         has.1,
-        subst (λ (c : ℕ). IsAnswered same history c map.number (call_for wanted) (outcome_of has.0 (kind_of (call_for wanted)) has.1 run.told)) (sym same_caller)
-            (subst (λ (m : ℕ). IsAnswered same history it.one.caller m (call_for wanted) (outcome_of has.0 (kind_of (call_for wanted)) has.1 run.told)) (sym same_map)
-            (subst (λ (w : Wanted K V). IsAnswered same history it.one.caller it.one.map (call_for w) (outcome_of has.0 (kind_of (call_for w)) has.1 run.told)) (sym same_wanted)
-            (subst (λ (p : Progress (Node K V)). IsAnswered same history it.one.caller it.one.map (call_for it.one.wanted) (outcome_of has.0 (kind_of (call_for it.one.wanted)) has.1 p)) (sym it.is.told) has.2))),
+        subst (λ (c : ℕ). Comes has.0 has.1 c map.number wanted run.told) (sym same_caller)
+            (subst (λ (m : ℕ). Comes has.0 has.1 it.one.caller m wanted run.told) (sym same_map)
+            (subst (λ (w : Wanted K V). Comes has.0 has.1 it.one.caller it.one.map w run.told) (sym same_wanted)
+            (subst (λ (p : Progress (Node K V)). Comes has.0 has.1 it.one.caller it.one.map it.one.wanted p) (sym it.is.told) (has.2, has.3)))),
       )
+
+  pub answered : (after : Played K V S) × (play_all same hash fixed.batch_size fixed.roots aborts s.world.doings (first_state fixed.roots) ≡ Some after) × (known : Known) × (value : Option V)
+      × IsAnswered same after.history (caller_at id t) map.number (call_for wanted) (outcome_of known (kind_of (call_for wanted)) value run.told)
+  answered = (tell.0, tell.1, comes.0, comes.1, comes.2.0)
+
+  -- where it looked a key up, and was told this of it
+  pub was_so : (key : K) (told : KeyAnswer) → wanted ≡ Get key → run.told ≡ Done (Key told)
+      → (after : Played K V S) × (play_all same hash fixed.batch_size fixed.roots aborts s.world.doings (first_state fixed.roots) ≡ Some after) × (answer : Answer V) × IsSuch told answer
+      × IsLookedUp same after.history (caller_at id t) map.number key answer
+  was_so key told wants tells =
+      let is = ap (λ (w : Wanted K V). outcome comes.0 comes.1 w run.told) wants ∙ ap (λ (p : Progress (Node K V)). outcome comes.0 comes.1 (Get key) p) tells in
+      let by = such comes.0 comes.1 key told in (tell.0, tell.1, by.0, by.1, comes.2.1 key by.0 (ap call_for wants) (is ∙ by.2))
 
 module _ {K S : Type 0} (V : Type 0) (same : K → K → Bool) (hash : S → K → ℕ) where
   pub seats_are_answered : SeatsAreAnswered V same hash
   seats_are_answered fixed small aborts id t v map wanted run later before knows calls_are simple began ended s h at_id =
       answered same hash fixed small aborts id t v map wanted run later before knows calls_are simple began ended s h at_id
+
+  pub lookups_were_so : LookupsWereSo V same hash
+  lookups_were_so fixed small aborts id t v map key run later before told knows calls_are began tells s h at_id =
+      was_so same hash fixed small aborts id t v map (Get key) run later before knows calls_are refl began (ap has_ended tells) s h at_id key told refl tells

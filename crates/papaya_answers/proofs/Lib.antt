@@ -2,6 +2,7 @@ mod Numbers
 mod Own
 mod Legal
 mod Wanted
+mod Lookups
 mod Tells
 mod Acts
 mod Along

@@ -6,21 +6,31 @@ use Rattle.std.proofs.lemmas.Bool.{cases_eq, eq-eqb, ne_eqb}
 use Rattle.papaya_views.specs.Given.TablesDeclared.node.Node.{Node}
 use Rattle.papaya_views.specs.Given.RawDeclared.machines.progress.Progress.{Progress}
 use Rattle.papaya_views.specs.Listed.{Called, has_told, seat_of}
+use Rattle.papaya_moves.specs.Given.SchedulesDeclared.call.Answer.{Answer}
 use Rattle.papaya_moves.specs.Given.SchedulesDeclared.call.Call.{Call}
+use Rattle.papaya_moves.specs.Given.SchedulesDeclared.call.Call.TheVariants.{On}
+use Rattle.papaya_moves.specs.Given.SchedulesDeclared.call.OneKey.TheVariants.{Get}
 use Rattle.papaya_moves.specs.Given.SchedulesDeclared.outcome.Outcome.{Outcome}
+use Rattle.papaya_moves.specs.Given.SchedulesDeclared.outcome.Outcome.TheVariants.{Answered}
 use Rattle.papaya_moves.specs.Given.DeedsDeeds.{Entry}
 use Rattle.papaya_moves.specs.Given.EffectsKnown.{Known}
 use Rattle.papaya_moves.specs.Given.NamedSeen.{kind_of}
 use Rattle.papaya_moves.specs.Given.PlayedPlay.{Calling, State, call_for, outcome_of}
 use Rattle.papaya_moves.specs.Given.ScenesStepping.{has_ended}
 use Rattle.papaya_answers.specs.Answered.{IsAnswered}
+use Rattle.papaya_answers.specs.Lookups.{IsLookedUp}
 
 module _ {K V : Type 0} (same : K → K → Bool) where
+  -- what a lookup was answered was so
+  abbrev pub WasSoFor : List (Entry K V) → Called K V → Outcome V → Type 0
+  WasSoFor history one outcome = (key : K) (answer : Answer V) → call_for one.wanted ≡ On (Get key) → outcome ≡ Answered answer → IsLookedUp same history one.caller one.map key answer
+
   -- a call that has ended was answered in the history
   abbrev pub HasAnswered : List (Entry K V) → Called K V → Type 0
   HasAnswered history one =
       has_ended one.told ≡ true
       → (known : Known) × (value : Option V) × IsAnswered same history one.caller one.map (call_for one.wanted) (outcome_of known (kind_of (call_for one.wanted)) value one.told)
+      × WasSoFor history one (outcome_of known (kind_of (call_for one.wanted)) value one.told)
 
   -- the newest call of this caller is this one, on this map
   abbrev pub IsCalled : ℕ → ℕ → Call K V → List (Called K V) → Type 0
@@ -34,7 +44,7 @@ module _ {K V : Type 0} (same : K → K → Bool) where
   one_more : (history then_ : List (Entry K V)) (one : Called K V) → GoesOn history then_ → HasAnswered history one → HasAnswered then_ one
   one_more history then_ one (inl is) has = subst (λ (x : List (Entry K V)). HasAnswered x one) (sym is) has
   one_more history then_ one (inr (e, is)) has =
-      subst (λ (x : List (Entry K V)). HasAnswered x one) (sym is) (λ ended. let it = has ended in (it.0, it.1, inr it.2))
+      subst (λ (x : List (Entry K V)). HasAnswered x one) (sym is) (λ ended. let it = has ended in (it.0, it.1, inr it.2, (λ key answer call is. inr (it.3 key answer call is))))
 
   pub answered_on : (history then_ : List (Entry K V)) → GoesOn history then_ → (calls : List (Called K V)) → AllByRecursion (HasAnswered history) calls → AllByRecursion (HasAnswered then_) calls
   answered_on history then_ goes [] all = tt

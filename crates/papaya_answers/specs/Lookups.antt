@@ -43,7 +43,7 @@ module _ {K V : Type 0} (same : K → K → Bool) where
 abbrev pub IsSuch : {V : Type 0} → KeyAnswer → Answer V → Type 0
 IsSuch Absent answer = answer ≡ answers.Absent
 IsSuch (Found word) answer = (n : ℕ) × (answer ≡ answers.Found n)
-IsSuch told answer = ⊥
+IsSuch told answer = Unit {0}
 
 module _ {K S : Type 0} (V : Type 0) (same : K → K → Bool) (hash : S → K → ℕ) where
   -- The promise: what a seat was told of a key that it has looked up, in this slot, on the map that it knows, was so at a moment since it began to look, by the history of

@@ -2,6 +2,7 @@
 pub use Rattle.papaya_grouped.proofs.Given.AgreesComing
 pub use Rattle.papaya_grouped.proofs.Given.AgreesGivenBack
 pub use Rattle.papaya_grouped.proofs.Given.CallersTogether
+pub use Rattle.papaya_grouped.proofs.Given.FollowsCalls
 pub use Rattle.papaya_grouped.proofs.Given.PlayedAlong
 pub use Rattle.papaya_grouped.proofs.Given.PlayedNoted
 pub use Rattle.papaya_grouped.proofs.Given.PlayedPlayedAs
