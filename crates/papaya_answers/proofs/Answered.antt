@@ -34,7 +34,7 @@ use Rattle.papaya_moves.specs.Given.FinishesMaps.{Standing}
 use Rattle.papaya_moves.specs.Given.NamedSeen.{kind_of}
 use Rattle.papaya_moves.specs.Given.PlayedPlay.{State as Played, call_for, first_state, outcome_of, play_all}
 use Rattle.papaya_moves.specs.Given.ScenesStepping.{has_ended}
-use Rattle.papaya_moves.specs.Given.NamedTelling.{number_by}
+use Rattle.papaya_histories.specs.Given.NamedTelling.{number_by}
 use Rattle.papaya_answers.specs.Answered.{IsAnswered, SeatsAreAnswered}
 use Rattle.papaya_answers.specs.Lookups.{IsLookedUp, IsSuch, LookupsWereSo}
 use Rattle.papaya_answers.proofs.Along.{all_tell}
