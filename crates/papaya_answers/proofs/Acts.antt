@@ -35,7 +35,7 @@ use Rattle.papaya_moves.specs.Given.SeizeWorld.{with_at}
 use Rattle.papaya_moves.proofs.Given.CallersTogether.At.{at_same, at_other}
 use Rattle.papaya_moves.proofs.Given.PlayedNoted.{CallsAreNoted, at_it, at_other_map, made_calls, one_call}
 use Rattle.papaya_moves.proofs.Given.PlayedPlayedAs.{PlayedAs, ReclaimedAs}
-use Rattle.papaya_answers.proofs.Lookups.{was_so}
+use Rattle.papaya_answers.proofs.Lookups.{so_then}
 use Rattle.papaya_answers.proofs.Tells.{GoesOn, HasAnswered, IsCalled, Tells, answered_on, answered_then, called_on, quiet}
 
 -- calls of other callers
@@ -109,16 +109,16 @@ module _ {K V S : Type 0} (same : K → K → Bool) (seat : ℕ) (x : State K V 
             }),
             (λ key answer call is.
                 let wanted = its.3 ∙ sym call_is ∙ call in
-                let so = was_so same i answer effects (is_refusal changed) x.history its.0 its.1 key wanted (free its.0 its.1 key wanted)
+                let so = so_then same i answer effects (is_refusal changed) x.history its.0 its.1 key wanted (free its.0 its.1 key wanted)
                 (subst (λ (o : Outcome V). IsLinearizable same x.history (record { deed = Steps i; outcome = o; effects = effects; refused = is_refusal changed }))
-                (ap (λ (k : Call K V). outcome_of known (kind_of k) c.value progress) (sym call_is) ∙ is) right.0) m its.2 in
+                (ap (λ (k : Call K V). outcome_of known (kind_of k) c.value progress) (sym call_is) ∙ is) right.0) one.map (its.2 ∙ sym map_is) in
                 inl (record {
                   deed = ap (λ (k : ℕ). Steps k) (sym caller_is);
                   comes = ap (λ (k : Call K V). outcome_of known (kind_of k) c.value progress) (sym call_is) ∙ is;
                   there = its.0;
                   here = subst (λ (k : ℕ). call_of (named k) (moment x.history) ≡ Some its.0) (sym caller_is) its.1;
                   on = its.2 ∙ sym map_is;
-                  so = so.so;
+                  so = so;
                 })),
           )
 

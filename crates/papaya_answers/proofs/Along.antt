@@ -125,6 +125,11 @@ module _ {K S : Type 0} (V : Type 0) (same : K → K → Bool) (by_hasher : S �
     -- by whatever is done there
     module _ (a : Reached V same by_hasher batch_size roots slot_of) (x z : State K V S) (here : Here a.0 x) (calls : List (Called K V)) (tells : Tells same seat x calls) (noted : CallsAreNoted z)
         (right : AtEachEvent (IsLinearizable same) z.history) where
+      other : (act : Act K V S) (may : MayDo V same by_hasher batch_size roots slot_of (Does act) a.0) → IsOther act → play same by_hasher batch_size roots aborts (Does act) x ≡ Some z
+          → Tells same seat z (calls_then seat (Does act) (course.told a.0 (Does act) may) calls)
+      other act may is_other played =
+          acts_tell same by_hasher batch_size roots aborts seat x z calls tells noted act is_other (course.told a.0 (Does act) may) (played_as same by_hasher batch_size roots aborts x z act played)
+
       acts : (act : Act K V S) (may : MayDo V same by_hasher batch_size roots slot_of (Does act) a.0) → play same by_hasher batch_size roots aborts (Does act) x ≡ Some z
           → Tells same seat z (calls_then seat (Does act) (course.told a.0 (Does act) may) calls)
       acts (StepsCall i m g) may played =
@@ -148,11 +153,6 @@ module _ {K S : Type 0} (V : Type 0) (same : K → K → Bool) (by_hasher : S �
       acts (StepsEnding i g) may played = other (StepsEnding i g) may tt played
       acts (BeginsRow i request) may played = other (BeginsRow i request) may tt played
       acts (StepsRow i g) may played = other (StepsRow i g) may tt played
-
-      other : (act : Act K V S) (may : MayDo V same by_hasher batch_size roots slot_of (Does act) a.0) → IsOther act → play same by_hasher batch_size roots aborts (Does act) x ≡ Some z
-          → Tells same seat z (calls_then seat (Does act) (course.told a.0 (Does act) may) calls)
-      other act may is_other played =
-          acts_tell same by_hasher batch_size roots aborts seat x z calls tells noted act is_other (course.told a.0 (Does act) may) (played_as same by_hasher batch_size roots aborts x z act played)
 
       -- where nothing was done but that something has begun
       begun : (y : State K V S) → Some y ≡ Some z → y.history ≡ x.history → y.now.calls ≡ x.now.calls → Tells same seat z calls

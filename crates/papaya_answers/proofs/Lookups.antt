@@ -28,7 +28,6 @@ use Rattle.papaya_moves.specs.Given.SchedulesViews.{call_of, finite_map}
 use Rattle.papaya_moves.specs.Given.DeedsDeeds.{Entry, Steps, acted_on, moment, named}
 use Rattle.papaya_moves.specs.Given.DeedsHistory.{IsLinearizable, moments_from, past, transition}
 use Rattle.papaya_moves.proofs.Given.FollowsCalls.{changed, changed_same, found, of_same}
-use Rattle.papaya_answers.specs.Lookups.{WasSo}
 
 module _ {K V : Type 0} (same : K → K → Bool) (log : Past K V) (m : Moment K V) (known : Known) (s : Scene K V) (dues : ShowsDue same named log m known s) where
   -- a lookup has changed nothing
@@ -143,15 +142,9 @@ module _ {K V : Type 0} (same : K → K → Bool) (i : ℕ) (answer : Answer V) 
       subst (λ (due : Option (Answer V)). AnswersDue same (Get key) its.left (moments_from its.left.begun log) due answer) (its.owes none ∙ free)
       (subst (λ (call : Call K V). Ends same call its.left (moments_from its.left.begun log) (Answered answer)) (its.what ∙ call_is) is_right.ends)
 
-  pub was_so : (map : ℕ) → there.map ≡ map → WasSo same i map key answer log e
-  was_so map on = record {
-    deed = refl;
-    comes = refl;
-    there = there;
-    here = here;
-    on = on;
-    so = subst (λ (b : ℕ). OneOf (λ m. looked (finite_map same map m key) ≡ answer) (moments_from b log)) its.began
-        (one_so (λ m. meaning_at same (Get key) its.left m ≡ Answers answer Leaves) (λ m. looked (finite_map same map m key) ≡ answer)
-        (λ m means.
-        let is : looked (finite_map same its.left.map m key) ≡ answer = cc means in subst (λ (a : ℕ). looked (finite_map same a m key) ≡ answer) (its.on ∙ on) is) (moments_from its.left.begun log) answers);
-  }
+  pub so_then : (map : ℕ) → there.map ≡ map → OneOf (λ m. looked (finite_map same map m key) ≡ answer) (moments_from there.begun log)
+  so_then map on =
+      subst (λ (b : ℕ). OneOf (λ m. looked (finite_map same map m key) ≡ answer) (moments_from b log)) its.began
+      (one_so (λ m. meaning_at same (Get key) its.left m ≡ Answers answer Leaves) (λ m. looked (finite_map same map m key) ≡ answer)
+      (λ m means.
+      let is : looked (finite_map same its.left.map m key) ≡ answer = cc means in subst (λ (a : ℕ). looked (finite_map same a m key) ≡ answer) (its.on ∙ on) is) (moments_from its.left.begun log) answers)
