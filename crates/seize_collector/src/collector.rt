@@ -14,8 +14,7 @@ use seize::rows::{Defers, LeftOver};
 use seize::{At, Collector as Setting, Fault, IdSource};
 use seize_blocks::Home;
 use seize_empties::reclaim_all;
-use seize_receivers::{Drops, Receiver};
-use seize_shared::{Content, Fixed, OfRows, OwnedGuard, Registration};
+use seize_shared::{Content, Drops, Fixed, OfRows, OwnedGuard, Receiver, Registration};
 use std::alloc::Global;
 use std::fmt;
 use std::marker::PhantomData;
@@ -130,15 +129,17 @@ impl<T: Defers + Drop, C: Content<T>, R: Receiver<T>> Collector<T, C, R> {
     }
 
     /// Takes the first slot that can be taken. Where none can be nothing changes.
-    pub fn register(&self) -> Result<Registration<'_, T, C>, Fault>
+    pub fn register(&self) -> Result<Registration<'_, T, C, R>, Fault>
         ensures home { IfOk result (λ registration. registration.stay.caller.blocks.now ≡ self.now.home.blocks) }
+        ensures number { IfOk result (λ registration. registration.number ≡ self.now.setting.number) }
     {
         self.shared().register()
     }
 
     /// Takes the first slot that can be taken, and opens a section of it, by a guard that may be sent. Where none can be taken nothing changes.
-    pub fn enter_owned(&self) -> Result<OwnedGuard<'_, T, C>, Fault>
+    pub fn enter_owned(&self) -> Result<OwnedGuard<'_, T, C, R>, Fault>
         ensures home { IfOk result (λ guard. guard.stay.caller.blocks.now ≡ self.now.home.blocks) }
+        ensures number { IfOk result (λ guard. guard.number ≡ self.now.setting.number) }
         ensures fresh { IfOk result (λ guard. guard.stay.seen ≡ 0) }
     {
         self.shared().enter_owned()

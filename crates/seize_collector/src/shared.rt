@@ -5,8 +5,7 @@ ghost use Rattle.seize_views.specs.declared.view.View.TheVariants.{Brings};
 use seize::Fault;
 use seize::rows::Defers;
 use seize_blocks::Blocks;
-use seize_receivers::{Drops, Receiver};
-use seize_shared::{Content, Fixed, OfRows, Owned, OwnedGuard, Registration};
+use seize_shared::{Content, Drops, Fixed, OfRows, Owned, OwnedGuard, Receiver, Registration};
 use std::marker::PhantomData;
 
 /// A collector, lent: it may go to other threads, and each of them may take slots of it.
@@ -28,18 +27,20 @@ impl<'c, T: Defers + Drop, C: Content<T>, R: Receiver<T>> Shared<'c, T, C, R> {
     }
 
     /// Takes the first slot that can be taken. Where none can be nothing changes.
-    pub fn register(&self) -> Result<Registration<'c, T, C>, Fault>
+    pub fn register(&self) -> Result<Registration<'c, T, C, R>, Fault>
         ensures home { IfOk result (λ registration. registration.stay.caller.blocks.now ≡ self.now.blocks.now) }
+        ensures number { IfOk result (λ registration. registration.number ≡ self.now.number) }
     {
-        Registration::new(self.blocks, &self.chosen)
+        Registration::of(self.blocks, &self.chosen, self.number)
     }
 
     /// Takes the first slot that can be taken, and opens a section of it, by a guard that may be sent. Where none can be taken nothing changes.
-    pub fn enter_owned(&self) -> Result<OwnedGuard<'c, T, C>, Fault>
+    pub fn enter_owned(&self) -> Result<OwnedGuard<'c, T, C, R>, Fault>
         ensures home { IfOk result (λ guard. guard.stay.caller.blocks.now ≡ self.now.blocks.now) }
+        ensures number { IfOk result (λ guard. guard.number ≡ self.now.number) }
         ensures fresh { IfOk result (λ guard. guard.stay.seen ≡ 0) }
     {
-        OwnedGuard::enter(self.blocks, &self.chosen)
+        OwnedGuard::of(self.blocks, &self.chosen, self.number)
     }
 }
 
@@ -49,8 +50,9 @@ impl<'c, T: Defers + Drop, R: Receiver<T>> Shared<'c, T, OfRows, R> {
     pub fn make(&self, near: &mut u64, value: T) -> Result<Owned<'c, T>, T>
         ensures made { IfOk result (λ owned. owned.caller.seat.view.knows ≡ Brings owned.block value) }
         ensures home { IfOk result (λ owned. owned.caller.blocks.now ≡ self.now.blocks.now) }
+        ensures number { IfOk result (λ owned. owned.number ≡ self.now.number) }
         ensures back { IfErr result (λ back. back ≡ value) }
     {
-        Owned::new(self.blocks, &self.chosen, near, value)
+        Owned::of(self.blocks, &self.chosen, self.number, near, value)
     }
 }

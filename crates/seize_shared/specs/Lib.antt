@@ -1,3 +1,4 @@
 pub mod Standing
 pub mod Lent
 pub mod Deeds
+pub mod Homes

@@ -1,7 +1,9 @@
 //! Guards of sections: what they have in common, one of a slot that stays on its thread, and one with a slot of its own that may be sent.
 ghost use Rattle.std.specs.Prelude.{◌≡◌, ◌≢◌, ◌<◌, ◌^◌, ◌⊎◌, ℕ, Bool, None, Some, IfOk, IfErr, IfNone, IfSome, true, false};
+ghost use Rattle.seize.specs.Given.SeizeWordsDeclared.fault.Fault.TheVariants.{ForeignGuard};
 ghost use Rattle.seize_callers.specs.Owning.{borne_by};
 ghost use Rattle.seize_shared.specs.Deeds.{has_put, has_taken};
+ghost use Rattle.seize_shared.specs.Homes.{Home, OneSource};
 ghost use Rattle.seize_callers.specs.Given.SeizeViewsDeclared.view.Began.{Began};
 ghost use Rattle.seize_callers.specs.Given.SeizeViewsDeclared.view.Began.TheVariants.{Retirement, Section, Trial};
 ghost use Rattle.seize_callers.specs.Given.SeizeViewsDeclared.view.Deed.{Deed};
@@ -13,29 +15,52 @@ use crate::stay::Stay;
 use seize::rows::Defers;
 use seize_blocks::Blocks;
 use seize_callers::Caller;
+use seize_receivers::{Drops, Receiver};
 use seize_views::{Content, Fixed, OfRows};
 use seize_words::Fault;
 use std::marker::PhantomData;
 
 /// A slot of its owner's, on whose thread it stays. It is given up as this ends.
 #[derive(Drop)]
-pub struct Registration<'a, T: Defers + Drop, C: Content<T> = OfRows> {
+pub struct Registration<'a, T: Defers + Drop, C: Content<T> = OfRows, R: Receiver<T> = Drops> {
     stay: Stay<'a, T, C>,
-    thread: PhantomData<*const ()>,
+    /// The number of its collector, 0 where there is none.
+    number: u64,
+    thread: PhantomData<*const R>,
     ghost alone: { stay.guards ≡ 0 },
 }
 
 impl<'a, T: Defers + Drop, C: Content<T>> Registration<'a, T, C> {
-    /// Takes the first slot that can be taken. What was chosen as the memory was opened is handed in.
+    /// Takes the first slot that can be taken, of a memory that has no collector. What was chosen as the memory was opened is handed in.
     pub fn new(blocks: &'a Blocks<T, C>, fixed: &Fixed) -> Result<Self, Fault>
         requires fixed { blocks.now.words.fixed ≡ fixed.now }
         ensures home { IfOk result (λ registration. registration.stay.caller.blocks.now ≡ blocks.now) }
+        ensures number { IfOk result (λ registration. registration.number ≡ 0) }
+    {
+        Registration::of(blocks, fixed, 0)
+    }
+}
+
+impl<'a, T: Defers + Drop, C: Content<T>, R: Receiver<T>> Registration<'a, T, C, R> {
+    /// The same, of a collector of this number.
+    pub fn of(blocks: &'a Blocks<T, C>, fixed: &Fixed, number: u64) -> Result<Self, Fault>
+        requires fixed { blocks.now.words.fixed ≡ fixed.now }
+        ensures home { IfOk result (λ registration. registration.stay.caller.blocks.now ≡ blocks.now) }
+        ensures number { IfOk result (λ registration. registration.number ≡ number) }
     {
         let stay = Stay::new(blocks, fixed)?;
         Ok(Registration {
             stay,
+            number,
             thread: PhantomData,
         })
+    }
+
+    /// The number of its collector, 0 where there is none.
+    pub fn number(&self) -> u64
+        ensures { result ≡ self.now.number }
+    {
+        self.number
     }
 
     /// Tries the slot's batch without a section. A value that is reclaimed is dropped. Where a guard was forgotten its section ends first.
@@ -43,6 +68,7 @@ impl<'a, T: Defers + Drop, C: Content<T>> Registration<'a, T, C> {
         ensures home { self.new.stay.caller.blocks ≡ self.old.stay.caller.blocks }
         ensures beside { C.beside self.new.stay.caller.seat.view ≡ C.beside self.old.stay.caller.seat.view }
         ensures slot { self.new.stay.slot ≡ self.old.stay.slot }
+        ensures number { self.new.number ≡ self.old.number }
         ensures closed { self.new.stay.inside ≡ false }
         ensures began { (C.notes self.new.stay.caller.seat.view).began ≡ Trial }
     {
@@ -51,11 +77,12 @@ impl<'a, T: Defers + Drop, C: Content<T>> Registration<'a, T, C> {
     }
 
     /// Opens a section of the slot. Where a guard was forgotten its section ends first.
-    pub fn enter<'r>(&'r mut self) -> LocalGuard<'r, 'a, T, C>
+    pub fn enter<'r>(&'r mut self) -> LocalGuard<'r, 'a, T, C, R>
         ensures inside { result.registration.now.stay.inside ≡ true }
         ensures home { result.registration.now.stay.caller.blocks ≡ self.old.stay.caller.blocks }
         ensures beside { C.beside result.registration.now.stay.caller.seat.view ≡ C.beside self.old.stay.caller.seat.view }
         ensures slot { result.registration.now.stay.slot ≡ self.old.stay.slot }
+        ensures number { result.registration.now.number ≡ self.old.number }
         ensures fresh { result.registration.now.stay.seen ≡ 0 }
     {
         self.stay.refreshes();
@@ -63,11 +90,12 @@ impl<'a, T: Defers + Drop, C: Content<T>> Registration<'a, T, C> {
     }
 }
 
-impl<'a, T: Defers + Drop> Registration<'a, T> {
+impl<'a, T: Defers + Drop, R: Receiver<T>> Registration<'a, T, OfRows, R> {
     /// Takes the value from a root, and retires it, without a section; tells whether there was one. Where a guard was forgotten its section ends first.
     pub fn clear(&mut self, root: u64) -> bool
         ensures home { self.new.stay.caller.blocks ≡ self.old.stay.caller.blocks }
         ensures slot { self.new.stay.slot ≡ self.old.stay.slot }
+        ensures number { self.new.number ≡ self.old.number }
         ensures closed { self.new.stay.inside ≡ false }
         ensures taken { result ≡ true → has_taken self.new.stay.caller.seat.view.did ≡ Some root }
         ensures none { result ≡ false → root < self.old.stay.caller.blocks.now.words.fixed.roots
@@ -76,16 +104,30 @@ impl<'a, T: Defers + Drop> Registration<'a, T> {
         self.stay.withdraws(root)
     }
 
-    /// Retires a block that was taken from a root of the same memory, without a section. Where a guard was forgotten its section stays open.
-    pub fn retire<'u>(&mut self, old: Unlinked<'u, T>)
-        requires home { old.caller.blocks.now.words.id.views_name ≡ self.old.stay.caller.blocks.now.words.id.views_name }
+    /// Retires a block that was taken from a root of the same collector, without a section. Where a guard was forgotten its section stays open. A block of another
+    /// collector is `Fault::ForeignGuard`: nothing changes, and it comes back.
+    pub fn retire<'u>(&mut self, old: Unlinked<'u, T>) -> Result<(), (Fault, Unlinked<'u, T>)>
+        requires source { OneSource old.number old.caller.blocks.now.words.id.views_name
+            record { number = self.old.number; memory = self.old.stay.caller.blocks.now.words.id.views_name; roots = self.old.stay.caller.blocks.now.words.fixed.roots } }
         ensures home { self.new.stay.caller.blocks ≡ self.old.stay.caller.blocks }
         ensures slot { self.new.stay.slot ≡ self.old.stay.slot }
-        ensures began { self.new.stay.caller.seat.view.began ≡ Retirement }
+        ensures number { self.new.number ≡ self.old.number }
+        ensures foreign { IfErr result (λ refused. (refused.0 ≡ ForeignGuard) × (old.entry.number ≢ self.old.number)) }
+        ensures back { IfErr result (λ refused. (refused.1 ≡ old.entry) × (self.new ≡ self.old)) }
+        ensures own { IfOk result (λ _. old.entry.number ≡ self.old.number) }
+        ensures began { IfOk result (λ _. self.new.stay.caller.seat.view.began ≡ Retirement) }
     {
-        let Unlinked { caller, block } = old;
+        if old.number != self.number {
+            return Err((Fault::ForeignGuard, old));
+        }
+        let Unlinked {
+            caller,
+            number: _,
+            block,
+        } = old;
         let mut caller = caller;
         self.stay.takes_over(&mut caller, block);
+        Ok(())
     }
 }
 
@@ -94,8 +136,8 @@ pub trait Guard<T: Defers> {
     /// What its memory has beside slots, sections and batches.
     type Content: Content<T>;
 
-    /// The memory that it is of, and how many roots that has.
-    ghost home: { Self → ℕ × ℕ };
+    /// The collector that it is of, which memory that has, and how many roots.
+    ghost home: { Self → Home };
 
     /// The slot of its section.
     ghost slot: { Self → ℕ };
@@ -113,6 +155,10 @@ pub trait Guard<T: Defers> {
     ghost Beside: { Type 0 };
 
     ghost beside: { Self → Beside };
+
+    /// The number of its collector, 0 where there is none.
+    fn number(&self) -> u64
+        ensures { result ≡ (home self.now).number };
 
     /// The number of its slot.
     fn thread_id(&self) -> u64
@@ -153,7 +199,7 @@ pub trait RootGuard<T: Defers>: Guard<T> {
         ensures seen { result ≡ true → Self.seen self.new ≢ 0 }
         ensures looked { result ≡ true → did self.new ≡ Looked root (Self.seen self.new) }
         ensures none { result ≡ false → Self.seen self.new ≡ 0 }
-        ensures empty { result ≡ false → Self.inside self.old ≡ true → root < (Self.home self.old).1 → did self.new ≡ Looked root 0 };
+        ensures empty { result ≡ false → Self.inside self.old ≡ true → root < (Self.home self.old).roots → did self.new ≡ Looked root 0 };
 
     /// The value that it has seen, if it has seen one since it began, or was refreshed.
     fn value(&self) -> Option<&T>
@@ -188,11 +234,11 @@ pub trait RootGuard<T: Defers>: Guard<T> {
         ensures inside { Self.inside self.new ≡ true }
         ensures fresh { Self.seen self.new ≡ 0 }
         ensures taken { result ≡ true → has_taken (did self.new) ≡ Some root }
-        ensures none { result ≡ false → root < (Self.home self.old).1 → did self.new ≡ Wrote root None 0 };
+        ensures none { result ≡ false → root < (Self.home self.old).roots → did self.new ≡ Wrote root None 0 };
 
     /// Retires a block that a caller without a slot has unlinked, of the same memory (`Unlinked` does so by it). What it has seen it doesn't know any more.
     fn takes_over<'b>(&mut self, bearer: &mut Caller<'b, T>, block: u64)
-        requires home { bearer.old.blocks.now.words.id.views_name ≡ (Self.home self.old).0 }
+        requires home { bearer.old.blocks.now.words.id.views_name ≡ (Self.home self.old).memory }
         requires bears { borne_by bearer.old.seat.view.knows ≡ Some block }
         requires fits { block < 2 ^ 53 }
         ensures home { Self.home self.new ≡ Self.home self.old }
@@ -206,14 +252,15 @@ pub trait RootGuard<T: Defers>: Guard<T> {
 }
 
 /// A section that is open as long as this lives. What it has seen is there until its next step. It stays on its thread.
-pub struct LocalGuard<'r, 'a, T: Defers + Drop, C: Content<T> = OfRows> {
-    registration: &'r mut Registration<'a, T, C>,
+pub struct LocalGuard<'r, 'a, T: Defers + Drop, C: Content<T> = OfRows, R: Receiver<T> = Drops> {
+    registration: &'r mut Registration<'a, T, C, R>,
 }
 
-impl<'r, 'a, T: Defers + Drop, C: Content<T>> Guard<T> for LocalGuard<'r, 'a, T, C> {
+impl<'r, 'a, T: Defers + Drop, C: Content<T>, R: Receiver<T>> Guard<T>
+    for LocalGuard<'r, 'a, T, C, R> {
     type Content = C;
 
-    ghost home = { λ g. (g.registration.now.stay.caller.blocks.now.words.id.views_name, g.registration.now.stay.caller.blocks.now.words.fixed.roots) };
+    ghost home = { λ g. record { number = g.registration.now.number; memory = g.registration.now.stay.caller.blocks.now.words.id.views_name; roots = g.registration.now.stay.caller.blocks.now.words.fixed.roots } };
 
     ghost slot = { λ g. g.registration.now.stay.slot };
 
@@ -226,6 +273,10 @@ impl<'r, 'a, T: Defers + Drop, C: Content<T>> Guard<T> for LocalGuard<'r, 'a, T,
     ghost Beside = { C.Beside };
 
     ghost beside = { λ g. C.beside g.registration.now.stay.caller.seat.view };
+
+    fn number(&self) -> u64 {
+        self.registration.number
+    }
 
     fn thread_id(&self) -> u64 {
         self.registration.stay.slot
@@ -242,7 +293,7 @@ impl<'r, 'a, T: Defers + Drop, C: Content<T>> Guard<T> for LocalGuard<'r, 'a, T,
     }
 }
 
-impl<'r, 'a, T: Defers + Drop> RootGuard<T> for LocalGuard<'r, 'a, T> {
+impl<'r, 'a, T: Defers + Drop, R: Receiver<T>> RootGuard<T> for LocalGuard<'r, 'a, T, OfRows, R> {
     ghost use Rattle.seize_shared.specs.Lent.{IsLent};
 
     ghost lends = { λ g. IsLent T.defers g.registration.now.stay.caller.blocks.now.words.fixed g.registration.now.stay.caller.seat.id g.registration.now.stay.caller.seat.view };
@@ -279,9 +330,12 @@ impl<'r, 'a, T: Defers + Drop> RootGuard<T> for LocalGuard<'r, 'a, T> {
     }
 }
 
-impl<'r, 'a, T: Defers + Drop, C: Content<T>> Drop for LocalGuard<'r, 'a, T, C> {
+impl<'r, 'a, T: Defers + Drop, C: Content<T>, R: Receiver<T>> Drop for LocalGuard<'r, 'a, T, C, R> {
     fn drop(self)
-        ensures { self.exit.0.now.stay.inside ≡ false }
+        ensures closed { self.exit.0.now.stay.inside ≡ false }
+        ensures home { self.exit.0.now.stay.caller.blocks ≡ self.entry.registration.now.stay.caller.blocks }
+        ensures slot { self.exit.0.now.stay.slot ≡ self.entry.registration.now.stay.slot }
+        ensures number { self.exit.0.now.number ≡ self.entry.registration.now.number }
     {
         let LocalGuard { registration } = self;
         registration.stay.closes();
@@ -291,29 +345,49 @@ impl<'r, 'a, T: Defers + Drop, C: Content<T>> Drop for LocalGuard<'r, 'a, T, C> 
 /// A section of a slot of its own, open as long as this lives: the slot is given up as it ends. What it has seen is there until its next step. It may be
 /// sent to another thread, and end there.
 #[derive(Drop)]
-pub struct OwnedGuard<'a, T: Defers + Drop, C: Content<T> = OfRows> {
+pub struct OwnedGuard<'a, T: Defers + Drop, C: Content<T> = OfRows, R: Receiver<T> = Drops> {
     stay: Stay<'a, T, C>,
+    /// The number of its collector, 0 where there is none.
+    number: u64,
+    receiver: PhantomData<R>,
     ghost within: { stay.inside ≡ true },
     ghost alone: { stay.guards ≡ 0 },
 }
 
 impl<'a, T: Defers + Drop, C: Content<T>> OwnedGuard<'a, T, C> {
-    /// Takes the first slot that can be taken, and opens a section of it. What was chosen as the memory was opened is handed in.
+    /// Takes the first slot that can be taken, and opens a section of it, of a memory that has no collector. What was chosen as the memory was opened is handed in.
     pub fn enter(blocks: &'a Blocks<T, C>, fixed: &Fixed) -> Result<Self, Fault>
         requires fixed { blocks.now.words.fixed ≡ fixed.now }
         ensures home { IfOk result (λ guard. guard.stay.caller.blocks.now ≡ blocks.now) }
+        ensures number { IfOk result (λ guard. guard.number ≡ 0) }
+        ensures fresh { IfOk result (λ guard. guard.stay.seen ≡ 0) }
+    {
+        OwnedGuard::of(blocks, fixed, 0)
+    }
+}
+
+impl<'a, T: Defers + Drop, C: Content<T>, R: Receiver<T>> OwnedGuard<'a, T, C, R> {
+    /// The same, of a collector of this number.
+    pub fn of(blocks: &'a Blocks<T, C>, fixed: &Fixed, number: u64) -> Result<Self, Fault>
+        requires fixed { blocks.now.words.fixed ≡ fixed.now }
+        ensures home { IfOk result (λ guard. guard.stay.caller.blocks.now ≡ blocks.now) }
+        ensures number { IfOk result (λ guard. guard.number ≡ number) }
         ensures fresh { IfOk result (λ guard. guard.stay.seen ≡ 0) }
     {
         let mut stay = Stay::new(blocks, fixed)?;
         stay.refreshes();
-        Ok(OwnedGuard { stay })
+        Ok(OwnedGuard {
+            stay,
+            number,
+            receiver: PhantomData,
+        })
     }
 }
 
-impl<'a, T: Defers + Drop, C: Content<T>> Guard<T> for OwnedGuard<'a, T, C> {
+impl<'a, T: Defers + Drop, C: Content<T>, R: Receiver<T>> Guard<T> for OwnedGuard<'a, T, C, R> {
     type Content = C;
 
-    ghost home = { λ g. (g.stay.caller.blocks.now.words.id.views_name, g.stay.caller.blocks.now.words.fixed.roots) };
+    ghost home = { λ g. record { number = g.number; memory = g.stay.caller.blocks.now.words.id.views_name; roots = g.stay.caller.blocks.now.words.fixed.roots } };
 
     ghost slot = { λ g. g.stay.slot };
 
@@ -326,6 +400,10 @@ impl<'a, T: Defers + Drop, C: Content<T>> Guard<T> for OwnedGuard<'a, T, C> {
     ghost Beside = { C.Beside };
 
     ghost beside = { λ g. C.beside g.stay.caller.seat.view };
+
+    fn number(&self) -> u64 {
+        self.number
+    }
 
     fn thread_id(&self) -> u64 {
         self.stay.slot
@@ -340,7 +418,7 @@ impl<'a, T: Defers + Drop, C: Content<T>> Guard<T> for OwnedGuard<'a, T, C> {
     }
 }
 
-impl<'a, T: Defers + Drop> RootGuard<T> for OwnedGuard<'a, T> {
+impl<'a, T: Defers + Drop, R: Receiver<T>> RootGuard<T> for OwnedGuard<'a, T, OfRows, R> {
     ghost use Rattle.seize_shared.specs.Lent.{IsLent};
 
     ghost lends = { λ g. IsLent T.defers g.stay.caller.blocks.now.words.fixed g.stay.caller.seat.id g.stay.caller.seat.view };

@@ -7,8 +7,9 @@ mod guard;
 mod owned;
 mod stay;
 
-pub use desk::{Desk, DeskGuard, Place};
+pub use desk::{Desk, DeskGuard, MOST_GUARDS, Place};
 pub use guard::{Guard, LocalGuard, OwnedGuard, Registration, RootGuard};
 pub use owned::{Owned, Unlinked};
 pub use seize_callers::Caller;
+pub use seize_receivers::{Drops, Receiver};
 pub use seize_views::{Becomes, Began, Content, Deed, Fixed, Has, Noted, OfRows, View, Why};

@@ -1,6 +1,8 @@
 //! Blocks that have seats of their own, and so need no slot: one that was made, and one that was unlinked.
-ghost use Rattle.std.specs.Prelude.{◌≡◌, ◌<◌, ◌^◌, None, Some, IfOk, IfErr, IfSome};
+ghost use Rattle.std.specs.Prelude.{◌≡◌, ◌≢◌, ◌<◌, ◌^◌, None, Some, IfOk, IfErr, IfSome};
+ghost use Rattle.seize.specs.Given.SeizeWordsDeclared.fault.Fault.TheVariants.{ForeignGuard};
 ghost use Rattle.seize_callers.specs.Owning.{brought_by, borne_by};
+ghost use Rattle.seize_shared.specs.Homes.{OneSource};
 ghost use Rattle.seize_shared.specs.Lent.{IsLent};
 ghost use Rattle.seize_callers.specs.Given.SeizeViewsDeclared.view.Began.TheVariants.{Retirement};
 ghost use Rattle.seize_callers.specs.Given.SeizeViewsDeclared.view.Deed.TheVariants.{Wrote};
@@ -11,10 +13,13 @@ use seize::rows::Defers;
 use seize_blocks::Blocks;
 use seize_callers::Caller;
 use seize_views::{Content, Fixed, OfRows};
+use seize_words::Fault;
 
 /// A block that was made, of its holder's alone: nobody else can reach it. It is spent, by taking it away, or by putting it at a root.
 pub struct Owned<'a, T: Defers, C: Content<T> = OfRows> {
     caller: Caller<'a, T, C>,
+    /// The number of its collector, 0 where there is none.
+    number: u64,
     roots: u64,
     block: u64,
     ghost rooted: { caller.blocks.now.words.fixed.roots ≡ roots },
@@ -25,13 +30,16 @@ pub struct Owned<'a, T: Defers, C: Content<T> = OfRows> {
 /// A block that was taken from a root, and is to be retired. It is spent by that.
 pub struct Unlinked<'a, T: Defers, C: Content<T> = OfRows> {
     pub(crate) caller: Caller<'a, T, C>,
+    /// The number of its collector, 0 where there is none.
+    pub(crate) number: u64,
     pub(crate) block: u64,
     ghost bears: { borne_by (C.notes caller.seat.view).knows ≡ Some block },
     ghost fits: { block < 2 ^ 53 },
 }
 
 impl<'a, T: Defers> Owned<'a, T> {
-    /// Makes a block; a number is looked for from `near` on, which says then where to look next. Without words for it, or memory, the value comes back.
+    /// Makes a block of a memory that has no collector; a number is looked for from `near` on, which says then where to look next. Without words for it, or memory,
+    /// the value comes back.
     pub fn new(
         blocks: &'a Blocks<T, OfRows>,
         fixed: &Fixed,
@@ -41,12 +49,31 @@ impl<'a, T: Defers> Owned<'a, T> {
         requires fixed { blocks.now.words.fixed ≡ fixed.now }
         ensures made { IfOk result (λ owned. owned.caller.seat.view.knows ≡ Brings owned.block value) }
         ensures home { IfOk result (λ owned. owned.caller.blocks.now ≡ blocks.now) }
+        ensures number { IfOk result (λ owned. owned.number ≡ 0) }
+        ensures back { IfErr result (λ back. back ≡ value) }
+    {
+        Owned::of(blocks, fixed, 0, near, value)
+    }
+
+    /// The same, of a collector of this number.
+    pub fn of(
+        blocks: &'a Blocks<T, OfRows>,
+        fixed: &Fixed,
+        number: u64,
+        near: &mut u64,
+        value: T,
+    ) -> Result<Self, T>
+        requires fixed { blocks.now.words.fixed ≡ fixed.now }
+        ensures made { IfOk result (λ owned. owned.caller.seat.view.knows ≡ Brings owned.block value) }
+        ensures home { IfOk result (λ owned. owned.caller.blocks.now ≡ blocks.now) }
+        ensures number { IfOk result (λ owned. owned.number ≡ number) }
         ensures back { IfErr result (λ back. back ≡ value) }
     {
         let mut caller = Caller::new(blocks, fixed.batch_size);
         match caller.brings(near, value) {
             Ok(block) => Ok(Owned {
                 caller,
+                number,
                 roots: fixed.roots,
                 block,
             }),
@@ -67,6 +94,7 @@ impl<'a, T: Defers> Owned<'a, T> {
     {
         let Owned {
             caller,
+            number: _,
             roots: _,
             block,
         } = self;
@@ -77,6 +105,7 @@ impl<'a, T: Defers> Owned<'a, T> {
     /// Puts the block at a root, and answers which one was there, and is to be retired. It comes back where there is no such root.
     pub fn publish(self, root: u64) -> Result<Option<Unlinked<'a, T>>, Self>
         ensures home { IfOk result (λ was. IfSome was (λ old. old.caller.blocks.now ≡ self.entry.caller.blocks.now)) }
+        ensures number { IfOk result (λ was. IfSome was (λ old. old.number ≡ self.entry.number)) }
         ensures back { IfErr result (λ back. back ≡ self.entry) }
         ensures put { IfOk result (λ was. IfSome was (λ old. (value : T) → self.entry.caller.seat.view.knows ≡ Brings self.entry.block value
             → old.caller.seat.view.did ≡ Wrote root (Some value) old.block)) }
@@ -86,12 +115,17 @@ impl<'a, T: Defers> Owned<'a, T> {
         }
         let Owned {
             caller,
+            number,
             roots: _,
             block,
         } = self;
         let mut caller = caller;
         match caller.links(root, block) {
-            Some(old) => Ok(Some(Unlinked { caller, block: old })),
+            Some(old) => Ok(Some(Unlinked {
+                caller,
+                number,
+                block: old,
+            })),
             None => Ok(None),
         }
     }
@@ -99,6 +133,7 @@ impl<'a, T: Defers> Owned<'a, T> {
     /// Puts the block at a root where none is there. Else, or where there is no such root, it comes back.
     pub fn place(self, root: u64) -> Result<(), Self>
         ensures home { IfErr result (λ back. back.caller.blocks.now ≡ self.entry.caller.blocks.now) }
+        ensures number { IfErr result (λ back. back.number ≡ self.entry.number) }
         ensures block { IfErr result (λ back. back.block ≡ self.entry.block) }
         ensures back { IfErr result (λ back. (value : T) → self.entry.caller.seat.view.knows ≡ Brings self.entry.block value
             → back.caller.seat.view.knows ≡ Brings back.block value) }
@@ -108,6 +143,7 @@ impl<'a, T: Defers> Owned<'a, T> {
         }
         let Owned {
             caller,
+            number,
             roots,
             block,
         } = self;
@@ -117,6 +153,7 @@ impl<'a, T: Defers> Owned<'a, T> {
         }
         Err(Owned {
             caller,
+            number,
             roots,
             block,
         })
@@ -131,18 +168,30 @@ impl<'a, T: Defers> Unlinked<'a, T> {
         self.caller.borne(self.block)
     }
 
-    /// Retires it under a guard of the same memory. What the guard has seen it doesn't know any more.
-    pub fn retire<G: RootGuard<T>>(self, guard: &mut G)
-        requires home { self.caller.blocks.now.words.id.views_name ≡ (G.home guard.old).0 }
+    /// Retires it under a guard of the same collector. What the guard has seen it doesn't know any more. Under a guard of another collector it is
+    /// `Fault::ForeignGuard`: nothing changes, and it comes back.
+    pub fn retire<G: RootGuard<T>>(self, guard: &mut G) -> Result<(), (Fault, Self)>
+        requires source { OneSource self.number self.caller.blocks.now.words.id.views_name (G.home guard.old) }
         ensures home { G.home guard.new ≡ G.home guard.old }
         ensures slot { G.slot guard.new ≡ G.slot guard.old }
         ensures inside { G.inside guard.new ≡ G.inside guard.old }
-        ensures fresh { G.seen guard.new ≡ 0 }
-        ensures began { G.began guard.new ≡ Retirement }
         ensures did { G.did guard.new ≡ G.did guard.old }
+        ensures foreign { IfErr result (λ refused. (refused.0 ≡ ForeignGuard) × (self.entry.number ≢ (G.home guard.old).number)) }
+        ensures back { IfErr result (λ refused. (refused.1 ≡ self.entry) × (guard.new ≡ guard.old)) }
+        ensures own { IfOk result (λ _. self.entry.number ≡ (G.home guard.old).number) }
+        ensures fresh { IfOk result (λ _. G.seen guard.new ≡ 0) }
+        ensures began { IfOk result (λ _. G.began guard.new ≡ Retirement) }
     {
-        let Unlinked { caller, block } = self;
+        if guard.number() != self.number {
+            return Err((Fault::ForeignGuard, self));
+        }
+        let Unlinked {
+            caller,
+            number: _,
+            block,
+        } = self;
         let mut caller = caller;
         guard.takes_over(&mut caller, block);
+        Ok(())
     }
 }

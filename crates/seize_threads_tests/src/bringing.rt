@@ -2,8 +2,8 @@
 ghost use Rattle.std.specs.Prelude.{◌≡◌};
 
 use crate::guards::{CHOSEN, TIMES, goes, went};
-use crate::retiring::{Counted, Table, all_are, dropped, table};
 use seize_blocks::{Blocks, Home};
+use seize_counted::{Counted, Table, all_are, dropped, table};
 use seize_shared::{Guard, OfRows, Owned, OwnedGuard, Registration, RootGuard};
 use std::alloc::{AllocError, Global};
 use std::test::Fail;
@@ -20,7 +20,9 @@ fn brings(
 ) -> bool
     requires fixed { blocks.now.words.fixed ≡ record { batch_size = 5; roots = 1 } }
     requires home { registration.old.stay.caller.blocks.now ≡ blocks.now }
+    requires number { registration.old.number ≡ 0 }
     ensures home { registration.new.stay.caller.blocks ≡ registration.old.stay.caller.blocks }
+    ensures number { registration.new.number ≡ registration.old.number }
 {
     let owned = match Owned::new(blocks, &CHOSEN, near, value) {
         Ok(owned) => owned,
@@ -30,8 +32,10 @@ fn brings(
         Ok(Some(old)) => {
             let was = old.value();
             let fresh = dropped(&was.drops, was.place) == 0;
-            registration.retire(old);
-            fresh
+            match registration.retire(old) {
+                Ok(()) => fresh,
+                Err(_) => unreachable!(),
+            }
         }
         Ok(None) => true,
         Err(owned) => {
@@ -150,7 +154,10 @@ fn sends<R: Threads + Sync>(
     }
     let second = Owned::new(blocks, &CHOSEN, &mut near, Counted::of(drops, 2)?).ok()?;
     match second.publish(0) {
-        Ok(Some(old)) => old.retire(&mut guard),
+        Ok(Some(old)) => match old.retire(&mut guard) {
+            Ok(()) => (),
+            Err(_) => unreachable!(),
+        },
         Ok(None) => return None,
         Err(owned) => drop(owned.into_value()),
     }

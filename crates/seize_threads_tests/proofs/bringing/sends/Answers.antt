@@ -1,6 +1,7 @@
 use Rattle.std.specs.Prelude.{Result, Ok, Err, IfOk, Option, None, IfSome}
 use Rattle.std.specs.Result.{result_ok}
 use Rattle.std.proofs.Common.{◌≡◌, ℕ, Some, ap, sym, subst}
+use Rattle.seize_shared.specs.Homes.{Home}
 use Rattle.seize_threads_tests.proofs.bringing.sends.Goals as goal
 
 -- what is so of what an answer holds
@@ -22,5 +23,5 @@ retire-requires g c =
     let three : c.in_ok-guard.guard.stay.caller.blocks.now ≡ c.args.blocks.now =
     ok_of c.enter.result (λ guard. guard.stay.caller.blocks.now ≡ c.args.blocks.now) c.in_ok-guard.guard c.in_ok-guard.ensures.value c.enter.ensures.home in
     let four : c.put.new.self.stay.caller.blocks.now.words.id.views_name ≡ c.in_ok-guard.guard.stay.caller.blocks.now.words.id.views_name =
-    ap (λ (u : ℕ × ℕ). u.0) c.put.ensures.home in
-    record { home = cc (one, two, three, four) }
+    ap (λ (u : Home). u.memory) c.put.ensures.home in
+    record { source = λ _. cc (one, two, three, four) }
