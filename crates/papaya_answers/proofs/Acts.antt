@@ -36,7 +36,7 @@ use Rattle.papaya_moves.proofs.Given.CallersTogether.At.{at_same, at_other}
 use Rattle.papaya_moves.proofs.Given.PlayedNoted.{CallsAreNoted, at_it, at_other_map, made_calls, one_call}
 use Rattle.papaya_moves.proofs.Given.PlayedPlayedAs.{PlayedAs, ReclaimedAs}
 use Rattle.papaya_answers.proofs.Lookups.{so_then}
-use Rattle.papaya_answers.proofs.Tells.{GoesOn, HasAnswered, IsCalled, Tells, answered_on, answered_then, called_on, quiet}
+use Rattle.papaya_answers.proofs.Tells.{GoesOn, HasAnswered, IfElse, IsCalled, Tells, answered_on, answered_then, called_on, quiet}
 
 -- calls of other callers
 others : {X : Type 0} (calls : ℕ → ℕ → Option X) (m i : ℕ) (it : Option X) (on j : ℕ) → j ≢ i → with_call calls m i it on j ≡ calls on j
@@ -169,12 +169,12 @@ module _ {K V S : Type 0} (same : K → K → Bool) (seat : ℕ) (x : State K V 
       begins_tell = by (cases_eq seat (seat_of i))
         where
           called : (on j : ℕ) (d : Calling K V) → seat ≡ seat_of j → with_call x.now.calls m i (Some call) on j ≡ Some d → (j ≡ i) ⊎ (j ≢ i)
-              → if i == j then (m ≡ on) × (call_for wanted ≡ d.call) else IsCalled same j on d.call calls
+              → IfElse (i == j) ((m ≡ on) × (call_for wanted ≡ d.call)) (IsCalled same j on d.call calls)
           called on j d of has (inl e) =
-              subst (λ (q : Bool). if q then (m ≡ on) × (call_for wanted ≡ d.call) else IsCalled same j on d.call calls) (sym (eq-eqb i j (sym e)))
+              subst (λ (q : Bool). IfElse q ((m ≡ on) × (call_for wanted ≡ d.call)) (IsCalled same j on d.call calls)) (sym (eq-eqb i j (sym e)))
               (its on d (sym (ap (with_call x.now.calls m i (Some call) on) e) ∙ has))
           called on j d of has (inr ne) =
-              subst (λ (q : Bool). if q then (m ≡ on) × (call_for wanted ≡ d.call) else IsCalled same j on d.call calls) (sym (ne_eqb i j (λ e. ne (sym e))))
+              subst (λ (q : Bool). IfElse q ((m ≡ on) × (call_for wanted ≡ d.call)) (IsCalled same j on d.call calls)) (sym (ne_eqb i j (λ e. ne (sym e))))
               (tells.under_way on j d of (sym (others x.now.calls m i (Some call) on j ne) ∙ has))
 
           by : (seat ≡ seat_of i) ⊎ (seat ≢ seat_of i) → Tells same seat begins (if seat == seat_of i then one ∷ calls else calls)
@@ -207,7 +207,7 @@ module _ {K V S : Type 0} (same : K → K → Bool) (hash : S → K → ℕ) (ba
 
   pub acts_tell : CallsAreNoted y → (act : Act K V S) → IsOther act → (told : Answer K V) → PlayedAs same hash batch_size roots aborts x y act → Then act told
   acts_tell noted (BeginsCall i m wanted) other told (at, there, is) =
-      subst (λ (v : State K V S). Tells same seat v (calls_then seat (Does (BeginsCall i m wanted)) told calls)) (sym is)
+      subst (λ (v : State K V S). Tells same seat v (calls_then {S = S} seat (Does (BeginsCall i m wanted)) told calls)) (sym is)
       (begins_tell same seat x calls tells i m wanted hash at (subst CallsAreNoted is noted))
   acts_tell noted (StepsCall i m g) other told played = absurd other
   acts_tell noted (TellsCall i m reply) other told (c, here, is) =

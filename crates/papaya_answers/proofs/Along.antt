@@ -99,11 +99,12 @@ module _ {K S : Type 0} (V : Type 0) (same : K → K → Bool) (by_hasher : S �
 
   play_more : (done more : List (Doing K V S)) (x : State K V S) → play_each (done ++ more) x ≡ then_on (play_each done x) (play_each more)
   play_more [] more x = refl
-  play_more (doing ∷ done) more x = by (play same by_hasher batch_size roots aborts doing x)
+  play_more (doing ∷ done) more x = by (λ y. play_more done more y) (play same by_hasher batch_size roots aborts doing x)
     where
-      by : (o : Option (State K V S)) → then_on o (play_each (done ++ more)) ≡ then_on (then_on o (play_each done)) (play_each more)
-      by None = refl
-      by (Some y) = play_more done more y
+      by : ((y : State K V S) → play_each (done ++ more) y ≡ then_on (play_each done y) (play_each more)) → (o : Option (State K V S))
+          → then_on o (play_each (done ++ more)) ≡ then_on (then_on o (play_each done)) (play_each more)
+      by rest None = refl
+      by rest (Some y) = rest y
 
   -- one act more
   module _ (done : List (Doing K V S)) (k : ℕ) (a : Reached V same by_hasher batch_size roots slot_of) (x : State K V S) (there : LedThere done k a x) (doing : Doing K V S)
@@ -138,7 +139,7 @@ module _ {K S : Type 0} (V : Type 0) (same : K → K → Bool) (by_hasher : S �
           (rows_beside (far V same by_hasher hash batch_size roots a.0) a.0.0.world.row) x z here.1.scene i m g (course.told a.0 (Does (StepsCall i m g)) may) came
           (played_as same by_hasher batch_size roots aborts x z (StepsCall i m g) played) in
           let changed = changed_by {S = S} same (StepsCall i m g) a.0.0 in
-          subst (λ (told : Answer K V). Tells same seat z (calls_then seat (Does (StepsCall i m g)) told calls)) (sym came.tells)
+          subst (λ (told : Answer K V). Tells same seat z (calls_then {S = S} seat (Does (StepsCall i m g)) told calls)) (sym came.tells)
           (subst (λ (v : State K V S). Tells same seat v (if seat == seat_of i then has_told i came.progress calls else calls)) (sym tied.comes)
           (steps_tell same seat x calls tells here.0.holds.noted i m tied.it tied.here changed came.memory came.machine came.progress
           (subst (λ (v : State K V S). AtEachEvent (IsLinearizable same) v.history) tied.comes right)

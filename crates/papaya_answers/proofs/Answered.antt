@@ -24,6 +24,7 @@ use Rattle.papaya_moves.specs.Given.ScenesScene.{Scene, slot_of}
 use Rattle.papaya_moves.specs.Given.SchedulesDeclared.call.Answer.{Answer}
 use Rattle.papaya_moves.specs.Given.SchedulesDeclared.call.Answer.TheVariants as answers
 use Rattle.papaya_moves.specs.Given.SchedulesDeclared.call.Call.TheVariants.{On}
+use Rattle.papaya_moves.specs.Given.SchedulesDeclared.call.OneKey.TheVariants as one_key
 use Rattle.papaya_moves.specs.Given.SchedulesDeclared.outcome.Outcome.{Outcome}
 use Rattle.papaya_moves.specs.Given.SchedulesDeclared.outcome.Outcome.TheVariants.{Answered}
 use Rattle.papaya_moves.specs.Given.ActsActs.{Answer as Told, Get, Wanted, OfCall, BeginsCall, StepsCall}
@@ -42,36 +43,37 @@ use Rattle.papaya_answers.proofs.Legal.{hashes, own}
 use Rattle.papaya_answers.proofs.Tells.{HasAnswered, Tells}
 use Rattle.papaya_answers.proofs.Wanted.{one_root, one_slot, one_wanted}
 
-module _ {K V S : Type 0} (seat : ℕ) where
+module _ {K V : Type 0} (seat : ℕ) where
   abbrev IsIts : Called K V → Type 0
   IsIts call = seat_of call.caller ≡ seat
 
   -- the calls of a seat are its callers'
   told_its : (i : ℕ) (told : Progress (Node K V)) (calls : List (Called K V)) → AllByRecursion IsIts calls → AllByRecursion IsIts (has_told i told calls)
   told_its i told [] all = tt
-  told_its i told (call ∷ calls) all = by (call.caller == i)
+  told_its i told (call ∷ calls) all = by (told_its i told calls all.1) (call.caller == i)
     where
-      by : (q : Bool) → AllByRecursion IsIts (if q then record call { told = told } ∷ calls else call ∷ has_told i told calls)
-      by true = all
-      by false = (all.0, told_its i told calls all.1)
+      by : AllByRecursion IsIts (has_told i told calls) → (q : Bool) → AllByRecursion IsIts (if q then record call { told = told } ∷ calls else call ∷ has_told i told calls)
+      by rest true = all
+      by rest false = (all.0, rest)
 
-  then_its : (doing : Doing K V S) (told : Told K V) (calls : List (Called K V)) → AllByRecursion IsIts calls → AllByRecursion IsIts (calls_then seat doing told calls)
+module _ {K V S : Type 0} (seat : ℕ) where
+  then_its : (doing : Doing K V S) (told : Told K V) (calls : List (Called K V)) → AllByRecursion (IsIts seat) calls → AllByRecursion (IsIts seat) (calls_then seat doing told calls)
   then_its (Does (BeginsCall i m wanted)) told calls all = by (cases_eq seat (seat_of i))
     where
       new : Called K V
       new = record { caller = i; map = m; wanted = wanted; told = untold }
 
-      by : (seat ≡ seat_of i) ⊎ (seat ≢ seat_of i) → AllByRecursion IsIts (if seat == seat_of i then new ∷ calls else calls)
-      by (inl e) = subst (λ (q : Bool). AllByRecursion IsIts (if q then new ∷ calls else calls)) (sym (eq-eqb seat (seat_of i) e)) (sym e, all)
-      by (inr ne) = subst (λ (q : Bool). AllByRecursion IsIts (if q then new ∷ calls else calls)) (sym (ne_eqb seat (seat_of i) ne)) all
+      by : (seat ≡ seat_of i) ⊎ (seat ≢ seat_of i) → AllByRecursion (IsIts seat) (if seat == seat_of i then new ∷ calls else calls)
+      by (inl e) = subst (λ (q : Bool). AllByRecursion (IsIts seat) (if q then new ∷ calls else calls)) (sym (eq-eqb seat (seat_of i) e)) (sym e, all)
+      by (inr ne) = subst (λ (q : Bool). AllByRecursion (IsIts seat) (if q then new ∷ calls else calls)) (sym (ne_eqb seat (seat_of i) ne)) all
   then_its (Does (StepsCall i m g)) (OfCall told) calls all = by (seat == seat_of i)
     where
-      by : (q : Bool) → AllByRecursion IsIts (if q then has_told i told calls else calls)
-      by true = told_its i told calls all
+      by : (q : Bool) → AllByRecursion (IsIts seat) (if q then has_told i told calls else calls)
+      by true = told_its seat i told calls all
       by false = all
   then_its _ _ calls all = all
 
-  calls_its : (doings : List (Doing K V S)) (said : List (Told K V)) (calls : List (Called K V)) → AllByRecursion IsIts calls → AllByRecursion IsIts (calls_of seat doings said calls)
+  calls_its : (doings : List (Doing K V S)) (said : List (Told K V)) (calls : List (Called K V)) → AllByRecursion (IsIts seat) calls → AllByRecursion (IsIts seat) (calls_of seat doings said calls)
   calls_its (doing ∷ doings) (told ∷ said) calls all = calls_its doings said (calls_then seat doing told calls) (then_its doing told calls all)
   calls_its [] said calls all = all
   calls_its (doing ∷ doings) [] calls all = all
@@ -92,7 +94,7 @@ module _ {K V S : Type 0} (same : K → K → Bool) (hash : S → K → ℕ) (sc
 
 -- what is told of a lookup, in the words of the history
 such : {K V : Type 0} (known : Known) (value : Option V) (key : K) (told : KeyAnswer)
-    → (answer : Answer V) × IsSuch told answer × (outcome_of known (kind_of (call_for (Get {V = V} key))) value (Done (Key told)) ≡ Answered answer)
+    → (answer : Answer V) × IsSuch told answer × (outcome_of {K = K} known (kind_of (call_for {K = K} {V = V} (Get key))) value (Done (Key told)) ≡ Answered answer)
 such known value key says.Absent = (answers.Absent, refl, refl)
 such known value key (says.Found word) = (answers.Found (number_by known word), (number_by known word, refl), refl)
 such known value key (says.Stored new) = (answers.Stored (number_by known new), tt, refl)
@@ -106,7 +108,7 @@ module _ {K V S : Type 0} (same : K → K → Bool) (hash : S → K → ℕ) (fi
   abbrev calls : List (Called K V)
   calls = calls_of id s.world.doings h.reached.1 []
 
-  tell : (after : Played K V S) × (play_all same hash fixed.batch_size fixed.roots aborts s.world.doings (first_state fixed.roots) ≡ Some after) × Tells same id after calls
+  pub tell : (after : Played K V S) × (play_all same hash fixed.batch_size fixed.roots aborts s.world.doings (first_state fixed.roots) ≡ Some after) × Tells same id after calls
   tell =
       all_tell V same hash (hashes same hash fixed s h) fixed.batch_size fixed.roots small aborts h.course id s.world.doings h.reached h.led (own same hash fixed s h) h.so.fresh.0 h.so.fresh.2
 
@@ -115,8 +117,8 @@ module _ {K V S : Type 0} (same : K → K → Bool) (hash : S → K → ℕ) (fi
       subst (λ (l : List (Run K V)). AreRuns same hash s.world.scene calls l) calls_are
       (subst (λ (o : Option (View K V S)). AreRuns same hash s.world.scene calls (runs_of o)) at_id (h.calls id))
 
-  it : Found same hash s.world.scene (HasAnswered same tell.0.history) (IsIts {S = S} id) run before
-  it = found same hash s.world.scene (HasAnswered same tell.0.history) (IsIts {S = S} id) run before later calls runs tell.2.answered (calls_its id s.world.doings h.reached.1 [] tt)
+  it : Found same hash s.world.scene (HasAnswered same tell.0.history) (IsIts id) run before
+  it = found same hash s.world.scene (HasAnswered same tell.0.history) (IsIts id) run before later calls runs tell.2.answered (calls_its id s.world.doings h.reached.1 [] tt)
 
   one_machine : machine_for same hash map t wanted ≡ machine_for same hash it.is.map (slot_of it.one.caller) it.one.wanted
   one_machine = sym began ∙ it.is.began
@@ -155,7 +157,7 @@ module _ {K V S : Type 0} (same : K → K → Bool) (hash : S → K → ℕ) (fi
   abbrev Comes : Known → Option V → ℕ → ℕ → Wanted K V → Progress (Node K V) → Type 0
   Comes known value c m w told =
       IsAnswered same history c m (call_for w) (outcome known value w told)
-      × ((key : K) (answer : Answer V) → call_for w ≡ On (Get key) → outcome known value w told ≡ Answered answer → IsLookedUp same history c m key answer)
+      × ((key : K) (answer : Answer V) → call_for w ≡ On (one_key.Get key) → outcome known value w told ≡ Answered answer → IsLookedUp same history c m key answer)
 
   pub comes : (known : Known) × (value : Option V) × Comes known value (caller_at id t) map.number wanted run.told
   comes =

@@ -38,12 +38,12 @@ module _ {K V S : Type 0} (same : K → K → Bool) (hash : S → K → ℕ) (fi
 -- each act is of its own, and asked for so
 both_so : {K S : Type 0} (V : Type 0) (same : K → K → Bool) (hash : S → K → ℕ) (hashes : ℕ → K → ℕ) (batch_size roots shards : ℕ) (doings : List (Doing K V S))
     → AllByRecursion (IsOfOwn V same hash hashes batch_size roots) doings → AllByRecursion (AsksSo shards) doings → AllByRecursion (AsksMaps V hash hashes shards) doings
-both_so V same hash hashes batch_size roots shards [] own asks = tt
-both_so V same hash hashes batch_size roots shards (Does act ∷ doings) own asks = ((own.0, asks.0), both_so V same hash hashes batch_size roots shards doings own.1 asks.1)
-both_so V same hash hashes batch_size roots shards (BeginsReclaiming i ∷ doings) own asks = (tt, both_so V same hash hashes batch_size roots shards doings own.1 asks.1)
-both_so V same hash hashes batch_size roots shards (BeginsClearing i ∷ doings) own asks = (tt, both_so V same hash hashes batch_size roots shards doings own.1 asks.1)
-both_so V same hash hashes batch_size roots shards (StepsReclaiming g ∷ doings) own asks = (tt, both_so V same hash hashes batch_size roots shards doings own.1 asks.1)
-both_so V same hash hashes batch_size roots shards (Chooses choice ∷ doings) own asks = (tt, both_so V same hash hashes batch_size roots shards doings own.1 asks.1)
+both_so V same hash hashes batch_size roots shards [] its asks = tt
+both_so V same hash hashes batch_size roots shards (Does act ∷ doings) its asks = ((its.0, asks.0), both_so V same hash hashes batch_size roots shards doings its.1 asks.1)
+both_so V same hash hashes batch_size roots shards (BeginsReclaiming i ∷ doings) its asks = (tt, both_so V same hash hashes batch_size roots shards doings its.1 asks.1)
+both_so V same hash hashes batch_size roots shards (BeginsClearing i ∷ doings) its asks = (tt, both_so V same hash hashes batch_size roots shards doings its.1 asks.1)
+both_so V same hash hashes batch_size roots shards (StepsReclaiming g ∷ doings) its asks = (tt, both_so V same hash hashes batch_size roots shards doings its.1 asks.1)
+both_so V same hash hashes batch_size roots shards (Chooses choice ∷ doings) its asks = (tt, both_so V same hash hashes batch_size roots shards doings its.1 asks.1)
 
 module _ {K S : Type 0} (V : Type 0) (same : K → K → Bool) (hash : S → K → ℕ) where
   pub histories_are_legal : HistoriesAreLegal V same hash

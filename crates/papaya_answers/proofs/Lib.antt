@@ -7,3 +7,4 @@ mod Tells
 mod Acts
 mod Along
 mod Answered
+mod Samples

@@ -121,8 +121,8 @@ module _ {K V : Type 0} (same : K → K → Bool) (i : ℕ) (answer : Answer V) 
   abbrev t : Transition K V
   t = transition log e
 
-  its : IsLeft i effects there (with_effects (Some (named i)) (acted_on (Steps {V = V} i) (moment log)) effects (moment log))
-  its = is_left i (acted_on (Steps {V = V} i) (moment log)) effects (moment log) there here
+  its : IsLeft i effects there (with_effects (Some (named i)) (acted_on (Steps i) (moment log)) effects (moment log))
+  its = is_left i (acted_on (Steps i) (moment log)) effects (moment log) there here
 
   is_right : IsRight same (past log) t there its.left
   is_right =

@@ -20,6 +20,16 @@ use Rattle.papaya_moves.specs.Given.ScenesStepping.{has_ended}
 use Rattle.papaya_answers.specs.Answered.{IsAnswered}
 use Rattle.papaya_answers.specs.Lookups.{IsLookedUp}
 
+-- one of two, by a test
+abbrev pub IfElse : Bool → Type 0 → Type 0 → Type 0
+IfElse true A B = A
+IfElse false A B = B
+
+module _ {K V : Type 0} where
+  -- of the history nothing is lost
+  abbrev pub GoesOn : List (Entry K V) → List (Entry K V) → Type 0
+  GoesOn history then_ = (then_ ≡ history) ⊎ ((e : Entry K V) × (then_ ≡ e ∷ history))
+
 module _ {K V : Type 0} (same : K → K → Bool) where
   -- what a lookup was answered was so
   abbrev pub WasSoFor : List (Entry K V) → Called K V → Outcome V → Type 0
@@ -35,11 +45,7 @@ module _ {K V : Type 0} (same : K → K → Bool) where
   -- the newest call of this caller is this one, on this map
   abbrev pub IsCalled : ℕ → ℕ → Call K V → List (Called K V) → Type 0
   IsCalled i m call [] = ⊥
-  IsCalled i m call (one ∷ before) = if one.caller == i then (one.map ≡ m) × (call_for one.wanted ≡ call) else IsCalled i m call before
-
-  -- of the history nothing is lost
-  abbrev pub GoesOn : List (Entry K V) → List (Entry K V) → Type 0
-  GoesOn history then_ = (then_ ≡ history) ⊎ ((e : Entry K V) × (then_ ≡ e ∷ history))
+  IsCalled i m call (one ∷ before) = IfElse (one.caller == i) ((one.map ≡ m) × (call_for one.wanted ≡ call)) (IsCalled i m call before)
 
   one_more : (history then_ : List (Entry K V)) (one : Called K V) → GoesOn history then_ → HasAnswered history one → HasAnswered then_ one
   one_more history then_ one (inl is) has = subst (λ (x : List (Entry K V)). HasAnswered x one) (sym is) has
@@ -52,35 +58,39 @@ module _ {K V : Type 0} (same : K → K → Bool) where
 
   -- where the newest call of a caller has told this
   module _ (i : ℕ) (told : Progress (Node K V)) where
+    abbrev Its : ℕ → Call K V → Called K V → Type 0
+    Its m call one = (one.map ≡ m) × (call_for one.wanted ≡ call)
+
     pub called_on : (j m : ℕ) (call : Call K V) (calls : List (Called K V)) → IsCalled j m call calls → IsCalled j m call (has_told i told calls)
     called_on j m call [] is = is
-    called_on j m call (one ∷ calls) is = by (one.caller == i)
+    called_on j m call (one ∷ calls) is = by (λ rest. called_on j m call calls rest) (one.caller == i)
       where
-        then_on : (q : Bool) → (if q then (one.map ≡ m) × (call_for one.wanted ≡ call) else IsCalled j m call calls)
-            → (if q then (one.map ≡ m) × (call_for one.wanted ≡ call) else IsCalled j m call (has_told i told calls))
-        then_on true its = its
-        then_on false its = called_on j m call calls its
+        then_on : (IsCalled j m call calls → IsCalled j m call (has_told i told calls)) → (q : Bool) → IfElse q (Its m call one) (IsCalled j m call calls)
+            → IfElse q (Its m call one) (IsCalled j m call (has_told i told calls))
+        then_on rest true its = its
+        then_on rest false its = rest its
 
-        by : (q : Bool) → IsCalled j m call (if q then record one { told = told } ∷ calls else one ∷ has_told i told calls)
-        by true = is
-        by false = then_on (one.caller == j) is
+        by : (IsCalled j m call calls → IsCalled j m call (has_told i told calls)) → (q : Bool)
+            → IsCalled j m call (if q then record one { told = told } ∷ calls else one ∷ has_told i told calls)
+        by rest true = is
+        by rest false = then_on rest (one.caller == j) is
 
     pub answered_then : (history : List (Entry K V)) (m : ℕ) (call : Call K V)
         → ((one : Called K V) → one.caller ≡ i → one.map ≡ m → call_for one.wanted ≡ call → HasAnswered history (record one { told = told }))
         → (calls : List (Called K V)) → IsCalled i m call calls → AllByRecursion (HasAnswered history) calls → AllByRecursion (HasAnswered history) (has_told i told calls)
     answered_then history m call new [] is all = tt
-    answered_then history m call new (one ∷ calls) is all = by (cases_eq one.caller i)
+    answered_then history m call new (one ∷ calls) is all = by (λ its. answered_then history m call new calls its all.1) (cases_eq one.caller i)
       where
-        by : (one.caller ≡ i) ⊎ (one.caller ≢ i) → AllByRecursion (HasAnswered history) (if one.caller == i then record one { told = told } ∷ calls else one ∷ has_told i told calls)
-        by (inl e) =
+        by : (IsCalled i m call calls → AllByRecursion (HasAnswered history) (has_told i told calls)) → (one.caller ≡ i) ⊎ (one.caller ≢ i)
+            → AllByRecursion (HasAnswered history) (if one.caller == i then record one { told = told } ∷ calls else one ∷ has_told i told calls)
+        by rest (inl e) =
             let test = eq-eqb one.caller i e in
-            let its = subst (λ (q : Bool). if q then (one.map ≡ m) × (call_for one.wanted ≡ call) else IsCalled i m call calls) test is in
+            let its = subst (λ (q : Bool). IfElse q (Its m call one) (IsCalled i m call calls)) test is in
             subst (λ (q : Bool). AllByRecursion (HasAnswered history) (if q then record one { told = told } ∷ calls else one ∷ has_told i told calls)) (sym test) (new one e its.0 its.1, all.1)
-        by (inr ne) =
+        by rest (inr ne) =
             let test = ne_eqb one.caller i ne in
-            let its = subst (λ (q : Bool). if q then (one.map ≡ m) × (call_for one.wanted ≡ call) else IsCalled i m call calls) test is in
-            subst (λ (q : Bool). AllByRecursion (HasAnswered history) (if q then record one { told = told } ∷ calls else one ∷ has_told i told calls)) (sym test)
-            (all.0, answered_then history m call new calls its all.1)
+            let its = subst (λ (q : Bool). IfElse q (Its m call one) (IsCalled i m call calls)) test is in
+            subst (λ (q : Bool). AllByRecursion (HasAnswered history) (if q then record one { told = told } ∷ calls else one ∷ has_told i told calls)) (sym test) (all.0, rest its)
 
   -- So a state tells of the calls of a seat.
   pub record Tells {S : Type 0} (seat : ℕ) (x : State K V S) (calls : List (Called K V)) : Type 0 where
