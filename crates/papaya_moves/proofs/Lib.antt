@@ -32,5 +32,6 @@ pub mod StepsStay
 pub mod MoveOn
 mod Samples
 mod Moved
-mod Legal
+pub mod Legal
 mod Logs
+pub mod Given

@@ -1,0 +1,243 @@
+-- Each act leaves it so that what is told of the calls of a seat is so in the history.
+use Rattle.std.specs.Prelude.{◌≢◌, ◌==◌, ◌⊎◌, Option, Some, None, if◌then◌else◌, is_ok, length}
+use Rattle.std.proofs.Common.{◌≡◌, ℕ, Bool, true, false, List, [], ◌∷◌, inl, inr, refl, sym, subst, ap, ◌∙◌}
+use Rattle.std.proofs.lemmas.Bool.{cases_eq, eq-eqb, ne_eqb}
+use Rattle.papaya_views.proofs.Given.SeizeActsAnswers.{same_some}
+use Rattle.papaya_moves.specs.Given.SeizeWordsMem.{Mem}
+use Rattle.papaya_views.specs.Given.TablesDeclared.node.Node.{Node}
+use Rattle.papaya_views.specs.Given.TablesDeclared.setting.Setting.{Setting}
+use Rattle.papaya_views.specs.Given.RawMachine.{machine_asked, machine_replied}
+use Rattle.papaya_views.specs.Given.RawDeclared.machines.asking.Reply.{Reply}
+use Rattle.papaya_views.specs.Given.RawDeclared.machines.machine.Machine.{Machine}
+use Rattle.papaya_views.specs.Given.RawDeclared.machines.progress.Progress.{Progress}
+use Rattle.papaya_views.specs.Listed.{Called, calls_then, has_told, seat_of}
+use Rattle.papaya_views.specs.Told.{untold}
+use Rattle.papaya_moves.specs.Given.SchedulesAfter.{AtEachEvent}
+use Rattle.papaya_moves.specs.Given.SchedulesMoment.{UnderWay}
+use Rattle.papaya_moves.specs.Given.SchedulesViews.{call_of}
+use Rattle.papaya_moves.specs.Given.SchedulesDeclared.call.Call.{Call}
+use Rattle.papaya_moves.specs.Given.SchedulesDeclared.call.Call.TheVariants.{On}
+use Rattle.papaya_moves.specs.Given.SchedulesDeclared.call.OneKey.TheVariants.{Get}
+use Rattle.papaya_moves.specs.Given.SchedulesDeclared.outcome.Outcome.{Outcome}
+use Rattle.papaya_moves.specs.Given.ActsActs.{Act, Answer, OfCall, Wanted, BeginsCall, StepsCall, TellsCall, AsksCall, StopsCall, BeginsMaking, StepsMaking, BeginsEnding, StepsEnding, BeginsRow, StepsRow}
+use Rattle.papaya_moves.specs.Given.ActsDoings.{Does}
+use Rattle.papaya_moves.specs.Given.DeedsDeeds.{Entry, Steps, moment, named}
+use Rattle.papaya_moves.specs.Given.DeedsHistory.{IsLinearizable}
+use Rattle.papaya_moves.specs.Given.EffectsEffects.{effects_of, known_after}
+use Rattle.papaya_moves.specs.Given.EffectsDeclared.acting.Acting.TheVariants as acting
+use Rattle.papaya_moves.specs.Given.NamedSeen.{kind_of}
+use Rattle.papaya_moves.specs.Given.PlayedPlay.{Calling, State, begun_call, call_asked, call_begun, call_for, call_stepped, call_stopped, call_told, is_refusal, keeps, made_on, outcome_of, reply_for, told_call}
+use Rattle.papaya_moves.specs.Given.ScenesReplying.{unless_stopped}
+use Rattle.papaya_moves.specs.Given.ScenesStepping.{has_ended}
+use Rattle.papaya_moves.specs.Given.TellerDeclared.changed.Changed.{Changed}
+use Rattle.papaya_moves.specs.Given.FinishesMaps.{with_call}
+use Rattle.papaya_moves.specs.Given.SeizeWorld.{with_at}
+use Rattle.papaya_moves.proofs.Given.CallersTogether.At.{at_same, at_other}
+use Rattle.papaya_moves.proofs.Given.PlayedNoted.{CallsAreNoted, at_it, at_other_map, made_calls, one_call}
+use Rattle.papaya_moves.proofs.Given.PlayedPlayedAs.{PlayedAs, ReclaimedAs}
+use Rattle.papaya_answers.proofs.Lookups.{so_then}
+use Rattle.papaya_answers.proofs.Tells.{GoesOn, HasAnswered, IfElse, IsCalled, Tells, answered_on, answered_then, called_on, quiet}
+
+-- calls of other callers
+others : {X : Type 0} (calls : ℕ → ℕ → Option X) (m i : ℕ) (it : Option X) (on j : ℕ) → j ≢ i → with_call calls m i it on j ≡ calls on j
+others {X} calls m i it on j ne = by (cases_eq on m)
+  where
+    by : (on ≡ m) ⊎ (on ≢ m) → with_call calls m i it on j ≡ calls on j
+    by (inl e) = ap (λ (f : ℕ → Option X). f j) (at_same calls m (with_at (calls m) i it) on e) ∙ at_other (calls m) i it j ne ∙ ap (λ (k : ℕ). calls k j) (sym e)
+    by (inr other) = at_other_map calls m i it on j other
+
+-- maybe there is one entry more
+if_more : {K V : Type 0} (q : Bool) (e : Entry K V) (history : List (Entry K V)) → GoesOn history (if q then e ∷ history else history)
+if_more true e history = inr (e, refl)
+if_more false e history = inl refl
+
+-- of what goes on as long as it has not stopped, nothing else has come
+unless_is : {X : Type 0} (q : Bool) (c d : X) → unless_stopped q c ≡ Some d → d ≡ c
+unless_is true c d is = absurd (cc is)
+unless_is false c d is = sym (same_some c d is)
+
+if_is : {X : Type 0} (q : Bool) (c d : X) → (if q then None else Some c) ≡ Some d → d ≡ c
+if_is true c d is = absurd (cc is)
+if_is false c d is = sym (same_some c d is)
+
+module _ {K V S : Type 0} (same : K → K → Bool) (seat : ℕ) (x : State K V S) (calls : List (Called K V)) (tells : Tells same seat x calls) where
+  -- each call was there, and is what it was
+  abbrev AsBefore : State K V S → Type 0
+  AsBefore z = (m i : ℕ) (c : Calling K V) → seat ≡ seat_of i → z.now.calls m i ≡ Some c → (d : Calling K V) × (x.now.calls m i ≡ Some d) × (d.call ≡ c.call)
+
+  pub still : (z : State K V S) → GoesOn x.history z.history → AsBefore z → Tells same seat z calls
+  still z goes as_before = quiet same seat x z calls goes as_before tells
+
+  -- where one call goes on, or is there no more
+  module _ (i m : ℕ) (c : Calling K V) (here : x.now.calls m i ≡ Some c) (next : Option (Calling K V)) (is : (d : Calling K V) → next ≡ Some d → d.call ≡ c.call) where
+    pub one_goes : (on j : ℕ) (d : Calling K V) → with_call x.now.calls m i next on j ≡ Some d → (b : Calling K V) × (x.now.calls on j ≡ Some b) × (b.call ≡ d.call)
+    one_goes on j d has = by (cases_eq j i) (cases_eq on m)
+      where
+        by : (j ≡ i) ⊎ (j ≢ i) → (on ≡ m) ⊎ (on ≢ m) → (b : Calling K V) × (x.now.calls on j ≡ Some b) × (b.call ≡ d.call)
+        by (inr ne) at = (d, sym (others x.now.calls m i next on j ne) ∙ has, refl)
+        by (inl e) (inr ne) = (d, sym (at_other_map x.now.calls m i next on j ne) ∙ has, refl)
+        by (inl e) (inl f) =
+            (c, ap (λ (k : ℕ). x.now.calls k j) f ∙ ap (x.now.calls m) e ∙ here, sym (is d (sym (at_it x.now.calls m i next on j f e) ∙ has)))
+
+  -- the step of a call tells how far it has come
+  module _ (noted : CallsAreNoted x) (i m : ℕ) (c : Calling K V) (here : x.now.calls m i ≡ Some c) (changed : Changed) (memory : Mem (Node K V)) (machine : Machine K V K)
+      (progress : Progress (Node K V)) where
+    abbrev stepped : State K V S
+    stepped = call_stepped i m c changed x (memory, (machine, progress))
+
+    -- a lookup that is under way there owes nothing
+    abbrev OwesNone : Type 0
+    OwesNone = (u : UnderWay K V) → call_of (named i) (moment x.history) ≡ Some u → (key : K) → u.call ≡ On (Get key) → u.due ≡ None
+
+    module _ (right : AtEachEvent (IsLinearizable same) stepped.history) (free : OwesNone) where
+      -- by its entry the call was answered, if it has ended
+      answers : (one : Called K V) → one.caller ≡ i → one.map ≡ m → call_for one.wanted ≡ c.call → HasAnswered same stepped.history (record one { told = progress })
+      answers one caller_is map_is call_is ended =
+          let its = noted m i c here in
+          let known = known_after (acting.Call i m) changed x.known in
+          let effects = effects_of (acting.Call i m) x.known changed in (
+            known,
+            c.value,
+            inl (record {
+              deed = ap (λ (k : ℕ). Steps k) (sym caller_is);
+              comes = ap (λ (call : Call K V). outcome_of known (kind_of call) c.value progress) (sym call_is);
+              there = its.0;
+              here = subst (λ (k : ℕ). call_of (named k) (moment x.history) ≡ Some its.0) (sym caller_is) its.1;
+              on = its.2 ∙ sym map_is;
+              what = its.3 ∙ sym call_is;
+              right = right.0;
+            }),
+            (λ key answer call is.
+                let wanted = its.3 ∙ sym call_is ∙ call in
+                let so = so_then same i answer effects (is_refusal changed) x.history its.0 its.1 key wanted (free its.0 its.1 key wanted)
+                (subst (λ (o : Outcome V). IsLinearizable same x.history (record { deed = Steps i; outcome = o; effects = effects; refused = is_refusal changed }))
+                (ap (λ (k : Call K V). outcome_of known (kind_of k) c.value progress) (sym call_is) ∙ is) right.0) one.map (its.2 ∙ sym map_is) in
+                inl (record {
+                  deed = ap (λ (k : ℕ). Steps k) (sym caller_is);
+                  comes = ap (λ (k : Call K V). outcome_of known (kind_of k) c.value progress) (sym call_is) ∙ is;
+                  there = its.0;
+                  here = subst (λ (k : ℕ). call_of (named k) (moment x.history) ≡ Some its.0) (sym caller_is) its.1;
+                  on = its.2 ∙ sym map_is;
+                  so = so;
+                })),
+          )
+
+      before : (on j : ℕ) (d : Calling K V) → stepped.now.calls on j ≡ Some d → (b : Calling K V) × (x.now.calls on j ≡ Some b) × (b.call ≡ d.call)
+      before on j d has =
+          one_goes i m c here (if has_ended progress then None else Some (record c { machine = machine; value = keeps (kind_of c.call) progress c.value }))
+          (λ e is. ap (λ (v : Calling K V). v.call) (if_is (has_ended progress) (record c { machine = machine; value = keeps (kind_of c.call) progress c.value }) e is)) on j d has
+
+      pub steps_tell : Tells same seat stepped (if seat == seat_of i then has_told i progress calls else calls)
+      steps_tell = by (cases_eq seat (seat_of i))
+        where
+          goes : GoesOn x.history stepped.history
+          goes = inr (_, refl)
+
+          by : (seat ≡ seat_of i) ⊎ (seat ≢ seat_of i) → Tells same seat stepped (if seat == seat_of i then has_told i progress calls else calls)
+          by (inl e) =
+              subst (λ (q : Bool). Tells same seat stepped (if q then has_told i progress calls else calls)) (sym (eq-eqb seat (seat_of i) e)) (record {
+                answered = answered_then same i progress stepped.history m c.call answers calls (tells.under_way m i c e here) (answered_on same x.history stepped.history goes calls tells.answered);
+                under_way = λ on j d of has.
+                    let was = before on j d has in
+                    called_on same i progress j on d.call calls (subst (λ (call : Call K V). IsCalled same j on call calls) was.2 (tells.under_way on j was.0 of was.1));
+              })
+          by (inr ne) =
+              subst (λ (q : Bool). Tells same seat stepped (if q then has_told i progress calls else calls)) (sym (ne_eqb seat (seat_of i) ne)) (still stepped goes (λ on j d of has. before on j d has))
+
+  -- a call begins
+  module _ (i m : ℕ) (wanted : Wanted K V) (hash : S → K → ℕ) (at : Setting × S) where
+    abbrev begins : State K V S
+    begins = call_begun i m hash (call_for wanted) x at
+
+    abbrev call : Calling K V
+    call = begun_call i m hash (call_for wanted) at
+
+    abbrev one : Called K V
+    one = record { caller = i; map = m; wanted = wanted; told = untold }
+
+    module _ (noted : CallsAreNoted begins) where
+      -- the call of its caller is this one
+      its : (on : ℕ) (d : Calling K V) → with_call x.now.calls m i (Some call) on i ≡ Some d → (m ≡ on) × (call_for wanted ≡ d.call)
+      its on d has =
+          let same_map = one_call (moment begins.history) m on i call.call d.call (noted m i call (at_it x.now.calls m i (Some call) m i refl refl)) (noted on i d has) in
+          (same_map, ap (λ (v : Calling K V). v.call) (same_some call d (sym (at_it x.now.calls m i (Some call) on i (sym same_map) refl) ∙ has)))
+
+      goes_then : GoesOn x.history begins.history
+      goes_then = inr (_, refl)
+
+      pub begins_tell : Tells same seat begins (if seat == seat_of i then one ∷ calls else calls)
+      begins_tell = by (cases_eq seat (seat_of i))
+        where
+          called : (on j : ℕ) (d : Calling K V) → seat ≡ seat_of j → with_call x.now.calls m i (Some call) on j ≡ Some d → (j ≡ i) ⊎ (j ≢ i)
+              → IfElse (i == j) ((m ≡ on) × (call_for wanted ≡ d.call)) (IsCalled same j on d.call calls)
+          called on j d of has (inl e) =
+              subst (λ (q : Bool). IfElse q ((m ≡ on) × (call_for wanted ≡ d.call)) (IsCalled same j on d.call calls)) (sym (eq-eqb i j (sym e)))
+              (its on d (sym (ap (with_call x.now.calls m i (Some call) on) e) ∙ has))
+          called on j d of has (inr ne) =
+              subst (λ (q : Bool). IfElse q ((m ≡ on) × (call_for wanted ≡ d.call)) (IsCalled same j on d.call calls)) (sym (ne_eqb i j (λ e. ne (sym e))))
+              (tells.under_way on j d of (sym (others x.now.calls m i (Some call) on j ne) ∙ has))
+
+          by : (seat ≡ seat_of i) ⊎ (seat ≢ seat_of i) → Tells same seat begins (if seat == seat_of i then one ∷ calls else calls)
+          by (inl e) =
+              subst (λ (q : Bool). Tells same seat begins (if q then one ∷ calls else calls)) (sym (eq-eqb seat (seat_of i) e)) (record {
+                answered = ((λ ended. absurd (cc ended)), answered_on same x.history begins.history goes_then calls tells.answered);
+                under_way = λ on j d of has. called on j d of has (cases_eq j i);
+              })
+          by (inr ne) =
+              subst (λ (q : Bool). Tells same seat begins (if q then one ∷ calls else calls)) (sym (ne_eqb seat (seat_of i) ne))
+              (still begins goes_then (λ on j d of has. (d, sym (others x.now.calls m i (Some call) on j (λ e. ne (of ∙ ap seat_of e))) ∙ has, refl)))
+
+-- any act but the step of a call
+abbrev pub IsOther : {K V S : Type 0} → Act K V S → Type 0
+IsOther (StepsCall i m g) = ⊥
+IsOther act = Unit {0}
+
+module _ {K V S : Type 0} (same : K → K → Bool) (hash : S → K → ℕ) (batch_size roots : ℕ) (aborts : ℕ → V) (seat : ℕ) (x y : State K V S) (calls : List (Called K V))
+    (tells : Tells same seat x calls) where
+  abbrev Then : Act K V S → Answer K V → Type 0
+  Then act told = Tells same seat y (calls_then seat (Does act) told calls)
+
+  -- where nothing has changed of what is called
+  so_still : (z : State K V S) → y ≡ z → GoesOn x.history z.history → ((m i : ℕ) (c : Calling K V) → z.now.calls m i ≡ Some c → (d : Calling K V) × (x.now.calls m i ≡ Some d) × (d.call ≡ c.call))
+      → Tells same seat y calls
+  so_still z is goes as_before = subst (λ (v : State K V S). Tells same seat v calls) (sym is) (still same seat x calls tells z goes (λ m i c of has. as_before m i c has))
+
+  as_it_was : (m i : ℕ) (c : Calling K V) → x.now.calls m i ≡ Some c → (d : Calling K V) × (x.now.calls m i ≡ Some d) × (d.call ≡ c.call)
+  as_it_was m i c has = (c, has, refl)
+
+  pub acts_tell : CallsAreNoted y → (act : Act K V S) → IsOther act → (told : Answer K V) → PlayedAs same hash batch_size roots aborts x y act → Then act told
+  acts_tell noted (BeginsCall i m wanted) other told (at, there, is) =
+      subst (λ (v : State K V S). Tells same seat v (calls_then {S = S} seat (Does (BeginsCall i m wanted)) told calls)) (sym is)
+      (begins_tell same seat x calls tells i m wanted hash at (subst CallsAreNoted is noted))
+  acts_tell noted (StepsCall i m g) other told played = absurd other
+  acts_tell noted (TellsCall i m reply) other told (c, here, is) =
+      so_still (call_told i m aborts reply x c) is (if_more (is_ok (machine_replied c.machine reply).1) _ x.history)
+      (λ on j d has.
+      one_goes same seat x calls tells i m c here (Some (told_call (machine_replied c.machine reply) (reply_for (aborts (length x.told)) reply) c))
+      (λ e some. ap (λ (v : Calling K V). v.call) (sym (same_some (told_call (machine_replied c.machine reply) (reply_for (aborts (length x.told)) reply) c) e some))) on j d has)
+  acts_tell noted (AsksCall i m) other told (c, here, is) =
+      so_still (call_asked i m x c) is (inl refl)
+      (λ on j d has.
+      one_goes same seat x calls tells i m c here (Some (record c { machine = (machine_asked c.machine).0 }))
+      (λ e some. ap (λ (v : Calling K V). v.call) (sym (same_some (record c { machine = (machine_asked c.machine).0 }) e some))) on j d has)
+  acts_tell noted (StopsCall i m) other told (c, here, is) =
+      so_still (call_stopped i m x c) is (if_more (machine_asked c.machine).1 _ x.history)
+      (λ on j d has.
+      one_goes same seat x calls tells i m c here (unless_stopped (machine_asked c.machine).1 c)
+      (λ e some. ap (λ (v : Calling K V). v.call) (unless_is (machine_asked c.machine).1 c e some)) on j d has)
+  acts_tell noted (BeginsMaking i map hasher given places) other told is = so_still _ is (inl refl) as_it_was
+  acts_tell noted (StepsMaking i g) other told (b, here, end, came, is) =
+      so_still _ is (inr (_, refl))
+      (λ m j c has. (c, sym (made_calls i b end.1.0 end.1.1 (record x.now { memory = end.0 }) m j) ∙ has, refl))
+  acts_tell noted (BeginsEnding i m) other told (at, there, is) = so_still _ is (inl refl) as_it_was
+  acts_tell noted (StepsEnding i g) other told (f, here, end, came, is) = so_still _ is (inr (_, refl)) as_it_was
+  acts_tell noted (BeginsRow i request) other told (called, there, is) = so_still _ is (inl refl) as_it_was
+  acts_tell noted (StepsRow i g) other told (row, here, end, came, is) = so_still _ is (inr (_, refl)) as_it_was
+
+  -- and who reclaims all
+  pub reclaiming_tells : (g : _) → ReclaimedAs same hash batch_size roots aborts x y g → Tells same seat y calls
+  reclaiming_tells g (c, here, end, came, is) = so_still _ is (inr (_, refl)) as_it_was
+
+  pub nothing_tells : y.history ≡ x.history → y.now.calls ≡ x.now.calls → Tells same seat y calls
+  nothing_tells history_is calls_are =
+      still same seat x calls tells y (inl history_is) (λ m i c of has. (c, sym (ap (λ (f : ℕ → ℕ → Option (Calling K V)). f m i) calls_are) ∙ has, refl))

@@ -1,0 +1,10 @@
+mod Numbers
+mod Own
+mod Legal
+mod Wanted
+mod Lookups
+mod Tells
+mod Acts
+mod Along
+mod Answered
+mod Samples

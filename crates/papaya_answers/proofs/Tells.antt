@@ -1,0 +1,106 @@
+-- What a state that is played tells of the calls of a seat: those that have ended were answered in its history, and those that are under way are the newest of their callers.
+use Rattle.std.specs.Prelude.{◌≢◌, ◌==◌, ◌⊎◌, Option, Some, None, if◌then◌else◌}
+use Rattle.std.specs.List.{AllByRecursion}
+use Rattle.std.proofs.Common.{◌≡◌, ℕ, Bool, true, false, List, [], ◌∷◌, inl, inr, refl, sym, subst, ap, ◌∙◌}
+use Rattle.std.proofs.lemmas.Bool.{cases_eq, eq-eqb, ne_eqb}
+use Rattle.papaya_views.specs.Given.TablesDeclared.node.Node.{Node}
+use Rattle.papaya_views.specs.Given.RawDeclared.machines.progress.Progress.{Progress}
+use Rattle.papaya_views.specs.Listed.{Called, has_told, seat_of}
+use Rattle.papaya_moves.specs.Given.SchedulesDeclared.call.Answer.{Answer}
+use Rattle.papaya_moves.specs.Given.SchedulesDeclared.call.Call.{Call}
+use Rattle.papaya_moves.specs.Given.SchedulesDeclared.call.Call.TheVariants.{On}
+use Rattle.papaya_moves.specs.Given.SchedulesDeclared.call.OneKey.TheVariants.{Get}
+use Rattle.papaya_moves.specs.Given.SchedulesDeclared.outcome.Outcome.{Outcome}
+use Rattle.papaya_moves.specs.Given.SchedulesDeclared.outcome.Outcome.TheVariants.{Answered}
+use Rattle.papaya_moves.specs.Given.DeedsDeeds.{Entry}
+use Rattle.papaya_moves.specs.Given.EffectsKnown.{Known}
+use Rattle.papaya_moves.specs.Given.NamedSeen.{kind_of}
+use Rattle.papaya_moves.specs.Given.PlayedPlay.{Calling, State, call_for, outcome_of}
+use Rattle.papaya_moves.specs.Given.ScenesStepping.{has_ended}
+use Rattle.papaya_answers.specs.Answered.{IsAnswered}
+use Rattle.papaya_answers.specs.Lookups.{IsLookedUp}
+
+-- one of two, by a test
+abbrev pub IfElse : Bool → Type 0 → Type 0 → Type 0
+IfElse true A B = A
+IfElse false A B = B
+
+module _ {K V : Type 0} where
+  -- of the history nothing is lost
+  abbrev pub GoesOn : List (Entry K V) → List (Entry K V) → Type 0
+  GoesOn history then_ = (then_ ≡ history) ⊎ ((e : Entry K V) × (then_ ≡ e ∷ history))
+
+module _ {K V : Type 0} (same : K → K → Bool) where
+  -- what a lookup was answered was so
+  abbrev pub WasSoFor : List (Entry K V) → Called K V → Outcome V → Type 0
+  WasSoFor history one outcome = (key : K) (answer : Answer V) → call_for one.wanted ≡ On (Get key) → outcome ≡ Answered answer → IsLookedUp same history one.caller one.map key answer
+
+  -- a call that has ended was answered in the history
+  abbrev pub HasAnswered : List (Entry K V) → Called K V → Type 0
+  HasAnswered history one =
+      has_ended one.told ≡ true
+      → (known : Known) × (value : Option V) × IsAnswered same history one.caller one.map (call_for one.wanted) (outcome_of known (kind_of (call_for one.wanted)) value one.told)
+      × WasSoFor history one (outcome_of known (kind_of (call_for one.wanted)) value one.told)
+
+  -- the newest call of this caller is this one, on this map
+  abbrev pub IsCalled : ℕ → ℕ → Call K V → List (Called K V) → Type 0
+  IsCalled i m call [] = ⊥
+  IsCalled i m call (one ∷ before) = IfElse (one.caller == i) ((one.map ≡ m) × (call_for one.wanted ≡ call)) (IsCalled i m call before)
+
+  one_more : (history then_ : List (Entry K V)) (one : Called K V) → GoesOn history then_ → HasAnswered history one → HasAnswered then_ one
+  one_more history then_ one (inl is) has = subst (λ (x : List (Entry K V)). HasAnswered x one) (sym is) has
+  one_more history then_ one (inr (e, is)) has =
+      subst (λ (x : List (Entry K V)). HasAnswered x one) (sym is) (λ ended. let it = has ended in (it.0, it.1, inr it.2, (λ key answer call is. inr (it.3 key answer call is))))
+
+  pub answered_on : (history then_ : List (Entry K V)) → GoesOn history then_ → (calls : List (Called K V)) → AllByRecursion (HasAnswered history) calls → AllByRecursion (HasAnswered then_) calls
+  answered_on history then_ goes [] all = tt
+  answered_on history then_ goes (one ∷ calls) all = (one_more history then_ one goes all.0, answered_on history then_ goes calls all.1)
+
+  -- where the newest call of a caller has told this
+  module _ (i : ℕ) (told : Progress (Node K V)) where
+    abbrev Its : ℕ → Call K V → Called K V → Type 0
+    Its m call one = (one.map ≡ m) × (call_for one.wanted ≡ call)
+
+    pub called_on : (j m : ℕ) (call : Call K V) (calls : List (Called K V)) → IsCalled j m call calls → IsCalled j m call (has_told i told calls)
+    called_on j m call [] is = is
+    called_on j m call (one ∷ calls) is = by (λ rest. called_on j m call calls rest) (one.caller == i)
+      where
+        then_on : (IsCalled j m call calls → IsCalled j m call (has_told i told calls)) → (q : Bool) → IfElse q (Its m call one) (IsCalled j m call calls)
+            → IfElse q (Its m call one) (IsCalled j m call (has_told i told calls))
+        then_on rest true its = its
+        then_on rest false its = rest its
+
+        by : (IsCalled j m call calls → IsCalled j m call (has_told i told calls)) → (q : Bool)
+            → IsCalled j m call (if q then record one { told = told } ∷ calls else one ∷ has_told i told calls)
+        by rest true = is
+        by rest false = then_on rest (one.caller == j) is
+
+    pub answered_then : (history : List (Entry K V)) (m : ℕ) (call : Call K V)
+        → ((one : Called K V) → one.caller ≡ i → one.map ≡ m → call_for one.wanted ≡ call → HasAnswered history (record one { told = told }))
+        → (calls : List (Called K V)) → IsCalled i m call calls → AllByRecursion (HasAnswered history) calls → AllByRecursion (HasAnswered history) (has_told i told calls)
+    answered_then history m call new [] is all = tt
+    answered_then history m call new (one ∷ calls) is all = by (λ its. answered_then history m call new calls its all.1) (cases_eq one.caller i)
+      where
+        by : (IsCalled i m call calls → AllByRecursion (HasAnswered history) (has_told i told calls)) → (one.caller ≡ i) ⊎ (one.caller ≢ i)
+            → AllByRecursion (HasAnswered history) (if one.caller == i then record one { told = told } ∷ calls else one ∷ has_told i told calls)
+        by rest (inl e) =
+            let test = eq-eqb one.caller i e in
+            let its = subst (λ (q : Bool). IfElse q (Its m call one) (IsCalled i m call calls)) test is in
+            subst (λ (q : Bool). AllByRecursion (HasAnswered history) (if q then record one { told = told } ∷ calls else one ∷ has_told i told calls)) (sym test) (new one e its.0 its.1, all.1)
+        by rest (inr ne) =
+            let test = ne_eqb one.caller i ne in
+            let its = subst (λ (q : Bool). IfElse q (Its m call one) (IsCalled i m call calls)) test is in
+            subst (λ (q : Bool). AllByRecursion (HasAnswered history) (if q then record one { told = told } ∷ calls else one ∷ has_told i told calls)) (sym test) (all.0, rest its)
+
+  -- So a state tells of the calls of a seat.
+  pub record Tells {S : Type 0} (seat : ℕ) (x : State K V S) (calls : List (Called K V)) : Type 0 where
+    pub answered : AllByRecursion (HasAnswered x.history) calls
+    pub under_way : (m i : ℕ) (c : Calling K V) → seat ≡ seat_of i → x.now.calls m i ≡ Some c → IsCalled i m c.call calls
+
+  -- where nothing has changed of what is called
+  pub quiet : {S : Type 0} (seat : ℕ) (x z : State K V S) (calls : List (Called K V)) → GoesOn x.history z.history
+      → ((m i : ℕ) (c : Calling K V) → seat ≡ seat_of i → z.now.calls m i ≡ Some c → (d : Calling K V) × (x.now.calls m i ≡ Some d) × (d.call ≡ c.call)) → Tells seat x calls → Tells seat z calls
+  quiet seat x z calls goes as_before tells = record {
+    answered = answered_on x.history z.history goes calls tells.answered;
+    under_way = λ m i c of has. let it = as_before m i c of has in subst (λ (call : Call K V). IsCalled i m call calls) it.2 (tells.under_way m i it.0 of it.1);
+  }

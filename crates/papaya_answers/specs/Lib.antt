@@ -1,0 +1,3 @@
+pub mod Legal
+pub mod Answered
+pub mod Lookups

@@ -1,0 +1,4 @@
+//! What threads are answered is of one legal history.
+#![tactic(auto)]
+
+pub mod law;
