@@ -37,8 +37,8 @@ pub use Rattle.papaya_callers.proofs.Given.LateRooms
 pub use Rattle.papaya_callers.proofs.Given.LateSwept
 pub use Rattle.papaya_callers.proofs.Asked as CallersAsked
 pub use Rattle.papaya_callers.proofs.Claims as CallersClaims
-pub use Rattle.papaya_callers.proofs.Given as CallersGiven
 pub use Rattle.papaya_callers.proofs.MapBegins as CallersMapBegins
 pub use Rattle.papaya_callers.proofs.Rows as CallersRows
 pub use Rattle.papaya_callers.proofs.Sights as CallersSights
 pub use Rattle.papaya_callers.proofs.Together as CallersTogether
+pub use Rattle.papaya_callers.proofs.Given.PointsLawful

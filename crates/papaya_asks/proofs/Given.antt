@@ -6,3 +6,4 @@ pub use Rattle.papaya_owned.proofs.Straight as OwnedStraight
 pub use Rattle.papaya_owned.proofs.Given.SeizeAloneLaws
 pub use Rattle.papaya_owned.proofs.Given.SeizeRuleRows
 pub use Rattle.papaya_owned.proofs.Given.WholeContents
+pub use Rattle.papaya_owned.proofs.Given.PointsLawful

@@ -38,3 +38,4 @@ pub use Rattle.papaya_late.proofs.Lasts as LateLasts
 pub use Rattle.papaya_late.proofs.Plans as LatePlans
 pub use Rattle.papaya_late.proofs.Rooms as LateRooms
 pub use Rattle.papaya_late.proofs.Swept as LateSwept
+pub use Rattle.papaya_late.proofs.Given.PointsLawful

@@ -145,3 +145,4 @@ pub use Rattle.papaya_stepping.proofs.Given.GrowsFinding
 pub use Rattle.papaya_stepping.proofs.Given.GrowsTries
 pub use Rattle.papaya_stepping.proofs.Given.SourcesSteps
 pub use Rattle.papaya_stepping.proofs.Given.LateKindsKept
+pub use Rattle.papaya_stepping.proofs.Given.PointsLawful

@@ -32,7 +32,6 @@ pub use Rattle.papaya_alone.proofs.Given.LateRooms
 pub use Rattle.papaya_alone.proofs.Given.LateSwept
 pub use Rattle.papaya_alone.proofs.Given.CallersAsked
 pub use Rattle.papaya_alone.proofs.Given.CallersClaims
-pub use Rattle.papaya_alone.proofs.Given.CallersGiven
 pub use Rattle.papaya_alone.proofs.Given.CallersMapBegins
 pub use Rattle.papaya_alone.proofs.Given.CallersRows
 pub use Rattle.papaya_alone.proofs.Given.CallersSights
@@ -43,3 +42,4 @@ pub use Rattle.papaya_alone.proofs.Lone as AloneLone
 pub use Rattle.papaya_alone.proofs.Shards as AloneShards
 pub use Rattle.papaya_alone.proofs.Spared as AloneSpared
 pub use Rattle.papaya_alone.proofs.Values as AloneValues
+pub use Rattle.papaya_alone.proofs.Given.PointsLawful

@@ -30,3 +30,4 @@ pub use Rattle.papaya_points.proofs.Making as PointsMaking
 pub use Rattle.papaya_points.proofs.MovedLasts as PointsMovedLasts
 pub use Rattle.papaya_points.proofs.Steps as PointsSteps
 pub use Rattle.papaya_points.proofs.Values as PointsValues
+pub use Rattle.papaya_points.proofs.Lawful as PointsLawful

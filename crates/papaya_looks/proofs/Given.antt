@@ -2,3 +2,4 @@
 pub use Rattle.papaya_finishes.proofs.Given.CallersRows
 pub use Rattle.papaya_finishes.proofs.Given.CallersTogether
 pub use Rattle.papaya_finishes.proofs.Beside as FinishesBeside
+pub use Rattle.papaya_finishes.proofs.Given.PointsLawful

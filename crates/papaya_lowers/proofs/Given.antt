@@ -26,3 +26,4 @@ pub use Rattle.papaya_whole.proofs.Given.PointsMaking
 pub use Rattle.papaya_whole.proofs.Given.FinishesAmong
 pub use Rattle.papaya_whole.proofs.Given.SeizeWaitingFlushes
 pub use Rattle.papaya_whole.proofs.Given.SeizeAloneHistories
+pub use Rattle.papaya_whole.proofs.Given.PointsLawful

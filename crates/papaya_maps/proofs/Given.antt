@@ -16,7 +16,6 @@ pub use Rattle.papaya_finishes.proofs.Given.LateCopiers
 pub use Rattle.papaya_finishes.proofs.Given.LateSwept
 pub use Rattle.papaya_finishes.proofs.Given.CallersAsked
 pub use Rattle.papaya_finishes.proofs.Given.CallersClaims
-pub use Rattle.papaya_finishes.proofs.Given.CallersGiven
 pub use Rattle.papaya_finishes.proofs.Given.CallersRows
 pub use Rattle.papaya_finishes.proofs.Given.CallersSights
 pub use Rattle.papaya_finishes.proofs.Given.CallersTogether
@@ -27,3 +26,4 @@ pub use Rattle.papaya_finishes.proofs.Given.AloneCalls
 pub use Rattle.papaya_finishes.proofs.Given.AloneLone
 pub use Rattle.papaya_finishes.proofs.Given.AloneShards
 pub use Rattle.papaya_finishes.proofs.Given.AloneSpared
+pub use Rattle.papaya_finishes.proofs.Given.PointsLawful

@@ -44,3 +44,4 @@ pub use Rattle.papaya_whole.proofs.Given.SeizeSetsTurns as SeizeSetsTurns
 pub use Rattle.papaya_whole.proofs.Given.SeizeEndsBatches as SeizeEndsBatches
 pub use Rattle.papaya_straight.proofs.Given.TablesEnds as TablesEnds
 pub use Rattle.papaya_straight.proofs.Given.TablesTableLens as TablesTableLens
+pub use Rattle.papaya_whole.proofs.Given.PointsLawful

@@ -7,7 +7,7 @@ pub mod Firsts
 pub mod HandsBack
 pub mod Keys
 pub mod Lasts
-pub mod Lawful
+pub mod Classes
 pub mod Lookups
 pub mod Making
 pub mod Places

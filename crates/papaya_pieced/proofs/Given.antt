@@ -32,3 +32,4 @@ pub use Rattle.papaya_events.proofs.Given.FollowsCalls
 pub use Rattle.papaya_events.proofs.Given.FollowsContents
 pub use Rattle.papaya_events.proofs.Given.SpotsUnreclaimed
 pub use Rattle.papaya_events.proofs.Given.FindsOver
+pub use Rattle.papaya_events.proofs.Given.PointsLawful

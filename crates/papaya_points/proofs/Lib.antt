@@ -8,4 +8,5 @@ pub mod MovedLasts
 pub mod Steps
 pub mod Values
 pub mod Descents
+pub mod Lawful
 pub mod Given

@@ -4,7 +4,6 @@ mod Forms
 mod Happened
 mod Gives
 pub mod Mays
-mod LawfulKeys
 mod Left
 mod Logs
 mod AsRun

@@ -190,3 +190,4 @@ pub use Rattle.papaya_works.proofs.Given.OwesShort
 pub use Rattle.papaya_works.proofs.Given.OwesTables
 pub use Rattle.papaya_works.proofs.Given.SourcesSteps
 pub use Rattle.papaya_lowers.proofs.Given.LateKindsKept as LateKindsKept
+pub use Rattle.papaya_lowers.proofs.Given.PointsLawful

@@ -2,3 +2,4 @@
 pub use Rattle.seize_acts.proofs.Answers as SeizeActsAnswers
 pub use Rattle.seize_views.proofs.Looks as SeizeViewsLooks
 pub use Rattle.papaya_acts.proofs.Further as ActsFurther
+pub use Rattle.papaya_looks.proofs.Given.PointsLawful

@@ -1,7 +1,6 @@
 -- What is so by the crates below, given on to the crates above: these list this crate in place of those.
 pub use Rattle.papaya_maps.proofs.Given.CallersAsked
 pub use Rattle.papaya_maps.proofs.Given.CallersClaims
-pub use Rattle.papaya_maps.proofs.Given.CallersGiven
 pub use Rattle.papaya_maps.proofs.Given.CallersRows
 pub use Rattle.papaya_maps.proofs.Given.CallersSights
 pub use Rattle.papaya_maps.proofs.Given.CallersTogether
@@ -43,3 +42,4 @@ pub use Rattle.papaya_maps.proofs.Rests as MapsRests
 pub use Rattle.seize_acts.proofs.Given.SeizeSetsReclaims
 pub use Rattle.seize_acts.proofs.Given.SeizeSetsSlots
 pub use Rattle.seize_acts.proofs.Given.SeizeSetsTurns
+pub use Rattle.papaya_maps.proofs.Given.PointsLawful

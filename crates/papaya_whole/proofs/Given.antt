@@ -68,3 +68,4 @@ pub use Rattle.papaya_waits.proofs.Given.SeizeSetsReclaims
 pub use Rattle.papaya_waits.proofs.Given.SeizeSetsSlots
 pub use Rattle.papaya_waits.proofs.Given.SeizeSetsTurns
 pub use Rattle.papaya_passes.proofs.Given.SeizeWaitingFlushes
+pub use Rattle.papaya_waits.proofs.Given.PointsLawful

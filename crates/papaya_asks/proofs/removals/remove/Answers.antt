@@ -3,7 +3,7 @@ use Rattle.std.proofs.Common.{refl, sym, subst}
 use Rattle.papaya_owned.specs.Given.RuleMaps.{IsClass}
 use Rattle.papaya_owned.specs.Owned.{hashed_by}
 use Rattle.papaya_asks.proofs.Asks.Removes.{remove_ends, remove_by, remove_stopped}
-use Rattle.papaya_owned.proofs.Owned.Lawful.{is_class}
+use Rattle.papaya_owned.proofs.Owned.Classes.{is_class}
 use Rattle.papaya_asks.proofs.removals.remove.Goals as goal
 
 pub run_removal-requires : goal.run_removal-requires

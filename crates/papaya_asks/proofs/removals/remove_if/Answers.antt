@@ -9,7 +9,7 @@ use Rattle.papaya_owned.specs.declared.machines.Stop.TheVariants as stop
 use Rattle.papaya_asks.proofs.Asks.Begins.{removes_if_so}
 use Rattle.papaya_asks.proofs.Asks.Calls.{word_names, chosen_taken, chosen_means}
 use Rattle.papaya_asks.proofs.Asks.Comes.{comes_answered, comes_asking, comes_refused, ends_told}
-use Rattle.papaya_owned.proofs.Owned.Lawful.{is_class}
+use Rattle.papaya_owned.proofs.Owned.Classes.{is_class}
 use Rattle.papaya_asks.proofs.Asks.Ran.{stopped_answered, stopped_refused, stopped_told}
 use Rattle.papaya_asks.proofs.removals.remove_if.Goals as goal
 

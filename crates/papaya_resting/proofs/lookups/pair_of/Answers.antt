@@ -2,7 +2,7 @@
 use Rattle.std.proofs.Common.{◌∙◌, ap}
 use Rattle.papaya_resize.specs.Lookup.{looking}
 use Rattle.papaya_asks.specs.Given.OwnedOwned.{hashed_by}
-use Rattle.papaya_asks.proofs.Given.OwnedOwned.Lawful.{is_class}
+use Rattle.papaya_asks.proofs.Given.OwnedOwned.Classes.{is_class}
 use Rattle.papaya_asks.proofs.Given.OwnedLookups.Found.{shown_found}
 use Rattle.papaya_resting.proofs.Looks.{look_ready, look_found}
 use Rattle.papaya_resting.proofs.lookups.pair_of.Goals as goal

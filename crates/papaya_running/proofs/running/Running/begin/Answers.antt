@@ -3,13 +3,13 @@ use Rattle.std.specs.Prelude.{◌%◌, ◌^◌, ℕ, List, fold}
 use Rattle.std.proofs.Common.{ap, subst, sym, ◌∙◌}
 use Rattle.papaya_runs.specs.declared.event.Setup.{Setup}
 use Rattle.papaya_pieced.specs.Given.PointsSteps.{AreLawful}
+use Rattle.papaya_pieced.proofs.Given.PointsLawful.{are_lawful}
 use Rattle.papaya_pieced.specs.Given.LoggedDeclared.logged.Logged.{Logged}
 use Rattle.papaya_schedules.specs.Entry.{Entry}
 use Rattle.papaya_pieced.specs.Given.SchedulerPlayed.{terms_given}
 use Rattle.papaya_pieced.specs.SoFar.{ActsSoFar}
 use Rattle.papaya_running.specs.Run.{bounded}
 use Rattle.papaya_running.proofs.Beginning.{Begins, are_few, begins_first, first_holds, first_runs, still_begins}
-use Rattle.papaya_running.proofs.LawfulKeys.{are_lawful}
 use Rattle.papaya_running.proofs.Turns.{back_first, none_so, start_so}
 use Rattle.papaya_running.proofs.running.Running.begin.Goals as goal
 

@@ -3,9 +3,9 @@ use Rattle.std.specs.Cmp.{IsEquivalence}
 use Rattle.std.proofs.Common.{◌≡◌, ℕ, ◌+◌, ◌<◌, ◌^◌, Bool, true, List, ap, arith}
 use Rattle.std.specs.Prelude.{◌%◌}
 use Rattle.std.proofs.Math.Nat.{mod-lt}
-use Rattle.papaya_pieced.specs.Given.TablesProbes.{triangular}
-use Rattle.papaya_tally.specs.Given.RuleMaps.{spot_at}
-use Rattle.papaya_pieced.specs.Given.PointsSteps.{AreLawful}
+use Rattle.papaya_rule.specs.Given.TablesProbes.{triangular}
+use Rattle.papaya_rule.specs.Maps.{spot_at}
+use Rattle.papaya_points.specs.Steps.{AreLawful}
 
 module _ {K : Type 0} (eq : K → K → Bool) (input : K → List (List ℕ)) (classes : IsEquivalence eq) (respects : (x y : K) → eq x y ≡ true → input x ≡ input y) (number : List (List ℕ) → ℕ) where
   abbrev hashed : K → ℕ

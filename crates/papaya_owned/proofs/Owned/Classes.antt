@@ -1,29 +1,12 @@
--- Keys whose hashes come from what they write are lawful, and so is what stands for them.
+-- What stands for a key is of the class of the keys equal to it.
 use Rattle.std.specs.Cmp.{IsEquivalence}
 use Rattle.std.specs.Prelude.{◌%◌, fold}
-use Rattle.std.proofs.Common.{◌≡◌, ℕ, ◌+◌, ◌<◌, ◌^◌, Bool, true, List, ap, arith, sym, ◌∙◌}
-use Rattle.std.proofs.Math.Nat.{mod-lt}
+use Rattle.std.proofs.Common.{◌≡◌, ℕ, ◌^◌, Bool, true, List, ap, sym, ◌∙◌}
 use Rattle.papaya_straight.proofs.Given.TablesClasses.{asked_equal, one_class}
-use Rattle.papaya_straight.specs.Given.TablesProbes.{triangular}
-use Rattle.papaya_whole.specs.Given.RuleMaps.{IsClass, spot_at}
-use Rattle.papaya_whole.specs.Given.PointsSteps.{AreLawful}
+use Rattle.papaya_whole.specs.Given.RuleMaps.{IsClass}
 use Rattle.papaya_owned.specs.Owned.{hashed_by}
 
 module _ {K S H : Type 0} (eq : K → K → Bool) (finish : H → ℕ) (write : H → List ℕ → H) (build : S → H) (input : K → List (List ℕ)) (hasher : S) where
-  pub are_lawful : IsEquivalence eq → ((x y : K) → eq x y ≡ true → input x ≡ input y) → AreLawful eq (hashed_by finish write build input hasher)
-  are_lawful classes respects = record {
-    lawful = record {
-      classes = classes;
-      respects = λ len j k other alike. ap (λ (written : List (List ℕ)). spot_at len (finish (fold write (build hasher) written) % 2 ^ 64) j) (respects k other alike);
-      within = λ len j k some. mod-lt (hashed_by finish write build input hasher k + triangular j) some;
-    };
-    fits = λ k. word (finish (fold write (build hasher) (input k)));
-  }
-    where
-      word : (n : ℕ) → n % 2 ^ 64 < 2 ^ 64
-      word n = omega arith
-
-  -- what stands for a key is of one class with the keys equal to it
   pub is_class : {Q : Type 0} (asks : Q → K → Bool) (q_input : Q → List (List ℕ)) (stands_for : Q → K) → ((asked : Q) (key : K) → asks asked key ≡ eq (stands_for asked) key)
       → ((asked : Q) → q_input asked ≡ input (stands_for asked)) → IsEquivalence eq → ((x y : K) → eq x y ≡ true → input x ≡ input y)
       → (asked : Q) → IsClass eq (hashed_by finish write build input hasher) (asks asked) (hashed_by finish write build q_input hasher asked)
