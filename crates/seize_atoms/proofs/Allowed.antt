@@ -6,7 +6,7 @@ use Rattle.seize_words.specs.Mem.{Mem, value_at, word_at}
 use Rattle.seize_words.specs.declared.at.At.{At}
 use Rattle.seize_words.specs.declared.at.At.TheVariants.{Root, Used, Slot, Entry, Word}
 use Rattle.seize_words.specs.Op.{Op, Out, Make, Take, Rewrite}
-use Rattle.seize_seats.specs.State.{State, view_of, Goes, Allows, Owns, Turns, Starts, Comes, Meets}
+use Rattle.seize_seats.specs.State.{State, view_of, Goes, Allows, Owns, Turns, Learns, Starts, Comes, Meets}
 use Rattle.seize_seats.specs.State as State
 use Rattle.seize_seats.specs.Lendings.{Shown, ShownToBoth, IsValueOf, IsValueOfBoth}
 use Rattle.seize_seats.specs.Start.{bare, WasIdle, WasKnown}
@@ -119,6 +119,13 @@ module _ {T V W : Type 0} (rests : V → Type 0) (holds : State T V W → Type 0
       turns_since id ((v, y), e) (λ u. (so u.0.0 × (u.0.1 ≡ None)) × (u.1 ≡ e)) (
       Errands.turn_away rest Visited Keeps id (v, y) e (λ u. so u.0 × (u.1 ≡ None)) (λ home rested u told. may home rested u.0 told.0)
       (Visits.turn_kept value_of lies holds keeps id v y so law))
+
+  pub learn_allowed : (i : ℕ) (v : V) (y : Visit) (e : Away) (j : ℕ) (u : V) (x : Visit) (f : Away) (so : V → Type 0) → MayGo rests e v so
+      → Learns holds keeps i v j u so → Learns Hold Keep i ((v, y), e) j ((u, x), f) (λ w. (so w.0.0 × (w.0.1 ≡ None)) × (w.1 ≡ e))
+  learn_allowed i v y e j u x f so may law s h at_i at_j ne =
+      goes_since s s.memory i ((v, y), e) (λ w. (so w.0.0 × (w.0.1 ≡ None)) × (w.1 ≡ e)) at_i (
+      Errands.learn_away rest Visited Keeps i (v, y) e j (u, x) f (λ w. so w.0 × (w.1 ≡ None)) (λ home rested w told. may home rested w.0 told.0)
+      (Visits.learn_kept value_of lies holds keeps i v y j u x so law) s h.0 at_i at_j ne)
 
   pub visit_allowed : (id : ℕ) (v : V) (y : Visit) (e : Away) (b : ℕ) → Shown holds id v b
       → Turns Hold Keep id ((v, y), e) (λ u. ((u.0.0 ≡ v) × ((p : Spot) × (u.0.1 ≡ Some (b, p)))) × (u.1 ≡ e))

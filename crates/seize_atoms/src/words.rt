@@ -4,7 +4,7 @@ ghost use Rattle.std.specs.Prelude.{length, map, replicate, take, slice_index, s
 ghost use denote.RawPtr.{InBlock, Testable, null_ptr};
 ghost use Rattle.core.specs.Mem.Slots.Ownership.{Filled};
 ghost use Rattle.seize_words.specs.Op.{Load, Store, Swap, Add, Or, Exchange, Make, Take, Rewrite, Found, Stored, Exchanged, Made, Taken};
-ghost use Rattle.seize_seats.specs.State.{Allows, Owns, Turns, Comes, Meets, Starts};
+ghost use Rattle.seize_seats.specs.State.{Allows, Owns, Turns, Learns, Comes, Meets, Starts};
 ghost use Rattle.seize_seats.specs.Lines.{whole};
 ghost use Rattle.seize_seats.specs.Doors.{before, block_bytes, words_from, IsFurther, AreBehind};
 ghost use Rattle.seize_seats.specs.Lendings.{Shown, ShownToBoth, IsValueOf, IsValueOfBoth};
@@ -21,7 +21,7 @@ ghost use Rattle.seize_atoms.specs.Placed.{IsItsPlace, IsItsSign, IsItsIndex};
 ghost use Rattle.seize_seats.specs.Plots.{HasFirst};
 
 use crate::claim::Claim;
-use crate::rule::{Meeting, Rule, Turn};
+use crate::rule::{Lesson, Meeting, Rule, Turn};
 use crate::seat::Seat;
 use crate::strip::Strip;
 use seize_plots::{Alone, Deed, Doors, Kept, Piece, Pieces, Place, Row};
@@ -133,6 +133,16 @@ impl<T, R: Rule<T>> Words<T, R> {
             × Turns (R.holds self.now.fixed) R.keeps seat.old.id seat.old.view (M.to self.now.fixed seat.old.view)
             × MayGo R.rests seat.old.away seat.old.view (M.to self.now.fixed seat.old.view) }
         ensures { (seat.new.base ≡ seat.old.base) × (seat.new.id ≡ seat.old.id) × (seat.new.away ≡ seat.old.away) × M.to self.now.fixed seat.old.view seat.new.view }
+    {}
+
+    /// A seat comes to know something else, by what another one knows.
+    pub fn learn<M: Lesson<R::Fixed, R::View>>(&self, seat: &mut Seat<T, R>, other: &Seat<T, R>)
+        requires { (seat.old.base ≡ self.now.id.views_name) × (other.now.base ≡ self.now.id.views_name)
+            × Learns (R.holds self.now.fixed) R.keeps seat.old.id seat.old.view other.now.id other.now.view
+            (M.to self.now.fixed seat.old.view other.now.view)
+            × MayGo R.rests seat.old.away seat.old.view (M.to self.now.fixed seat.old.view other.now.view) }
+        ensures { (seat.new.base ≡ seat.old.base) × (seat.new.id ≡ seat.old.id) × (seat.new.away ≡ seat.old.away)
+            × M.to self.now.fixed seat.old.view other.now.view seat.new.view }
     {}
 
     /// Two seats come to know something else, by what both knew.

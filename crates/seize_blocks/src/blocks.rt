@@ -1,7 +1,7 @@
 //! The memory as a whole, as those use it who share it.
 ghost use Rattle.std.specs.Prelude.{◌≡◌, None, ◌≤◌, ◌<◌, ◌^◌};
 ghost use Rattle.seize_words.specs.Op.{Load, Store, Swap, Add, Or, Exchange, Make, Take, Rewrite, Found, Stored, Exchanged, Made, Taken};
-ghost use Rattle.seize_seats.specs.State.{Allows, Owns, Turns, Comes, Meets};
+ghost use Rattle.seize_seats.specs.State.{Allows, Owns, Turns, Learns, Comes, Meets};
 ghost use Rattle.seize_seats.specs.Errands.{MayGo, MayMeet, RenewsIdle};
 ghost use Rattle.seize_seats.specs.Start.{WasIdle};
 ghost use Rattle.seize_seats.specs.Owned.{IsFirst};
@@ -9,7 +9,7 @@ ghost use Rattle.seize_seats.specs.Lendings.{Shown, ShownToBoth, IsValueOf, IsVa
 
 use crate::access::{Adds, Exchanges, Loads, Sets, Stores, Swaps};
 use crate::errand::{Errand, Sent};
-use seize_atoms::{Meeting, Rule, Seat, Turn, Words};
+use seize_atoms::{Lesson, Meeting, Rule, Seat, Turn, Words};
 use seize_plots::{Doors, Kept, Laid, Place, give_words, lay_words};
 use seize_words::At;
 use std::alloc::Global;
@@ -51,6 +51,19 @@ impl<T, R: Rule<T>> Blocks<T, R> {
         ensures goes { M.to self.now.words.fixed seat.old.view seat.new.view }
     {
         self.words.turn::<M>(seat)
+    }
+
+    /// A seat comes to know something else, by what another one knows.
+    pub fn learn<M: Lesson<R::Fixed, R::View>>(&self, seat: &mut Seat<T, R>, other: &Seat<T, R>)
+        requires own { (seat.old.base ≡ self.now.words.id.views_name) × (other.now.base ≡ self.now.words.id.views_name) }
+        requires may { Learns (R.holds self.now.words.fixed) R.keeps seat.old.id seat.old.view other.now.id other.now.view
+            (M.to self.now.words.fixed seat.old.view other.now.view) }
+        requires errand { MayGo R.rests seat.old.away seat.old.view (M.to self.now.words.fixed seat.old.view other.now.view) }
+        ensures same { (seat.new.base ≡ seat.old.base) × (seat.new.id ≡ seat.old.id) }
+        ensures errand { seat.new.away ≡ seat.old.away }
+        ensures goes { M.to self.now.words.fixed seat.old.view other.now.view seat.new.view }
+    {
+        self.words.learn::<M>(seat, other)
     }
 
     /// A seat goes on an errand: a course of steps, in the midst of which nobody has the memory to himself. It ends where the seat rests.

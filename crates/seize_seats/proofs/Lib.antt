@@ -30,6 +30,7 @@ pub mod Looks
 pub mod Offers
 pub mod Finds
 pub mod Meetings
+pub mod Lessons
 pub mod Inside
 pub mod Outings
 pub mod Renewal

@@ -8,7 +8,7 @@ use Rattle.std.proofs.lemmas.Option.{slice_get-map}
 use denote.RawPtr.{null_ptr}
 use Rattle.seize_words.specs.Mem.{Mem, Can, Took, block_of, value_in, value_at, with_block, IsFreeNumber}
 use Rattle.seize_words.specs.Op.{Op, Out, Make, Take, Rewrite, Made}
-use Rattle.seize_seats.specs.State.{State, view_of, Goes, Allows, Owns, Turns, Starts, Comes, Meets, Renews}
+use Rattle.seize_seats.specs.State.{State, view_of, Goes, Allows, Owns, Turns, Learns, Starts, Comes, Meets, Renews}
 use Rattle.seize_seats.specs.State as State
 use Rattle.seize_seats.specs.Lendings.{Shown, ShownToBoth, Alone, IsValueOf, IsValueOfBoth}
 use Rattle.seize_seats.specs.Visits.{Spot, Visit, plain_memory, plain_op, plain_out, plain, AreFound, HoldsKept, keeps_kept, then_kept}
@@ -201,15 +201,22 @@ module _ {D T V W : Type 0} (value : D → T) (own : D → Spot) (holds : State 
   pub renews_kept : Renews holds → Renews Hold
   renews_kept r s h = let g = r (flat s) h.0 in (g.0, (g.1, λ id v b p e. absurd (cc e)))
 
+  -- without an operation a seat goes on that goes on by the rule, and its visit ends
+  goes_kept : (s : St) (id : ℕ) (so : V → Type 0) → Hold s → Goes holds keeps (flat s) (flat s).memory id so → Goes Hold Keep s s.memory id (λ u. so u.0 × (u.1 ≡ None))
+  goes_kept s id so h g = (
+    (g.0, None),
+    g.1,
+    (subst holds (sym (flat_after s s.memory id (g.0, None) g.1)) g.2, found_after s s.memory id g.0 g.1 h.1 (λ i u b ne here shown. refl)),
+    others_kept s id g.1 g.3,
+    (g.4, refl),
+  )
+
   pub turn_kept : (id : ℕ) (v : V) (y : Visit) (so : V → Type 0) → Turns holds keeps id v so → Turns Hold Keep id (v, y) (λ u. so u.0 × (u.1 ≡ None))
-  turn_kept id v y so turns s h at =
-      let g = turns (flat s) h.0 (view_plain s id (v, y) at) in (
-        (g.0, None),
-        g.1,
-        (subst holds (sym (flat_after s s.memory id (g.0, None) g.1)) g.2, found_after s s.memory id g.0 g.1 h.1 (λ i u b ne here shown. refl)),
-        others_kept s id g.1 g.3,
-        (g.4, refl),
-      )
+  turn_kept id v y so turns s h at = goes_kept s id so h (turns (flat s) h.0 (view_plain s id (v, y) at))
+
+  pub learn_kept : (i : ℕ) (v : V) (y : Visit) (j : ℕ) (u : V) (x : Visit) (so : V → Type 0) → Learns holds keeps i v j u so
+      → Learns Hold Keep i (v, y) j (u, x) (λ w. so w.0 × (w.1 ≡ None))
+  learn_kept i v y j u x so learns s h at_i at_j ne = goes_kept s i so h (learns (flat s) h.0 (view_plain s i (v, y) at_i) (view_plain s j (u, x) at_j) ne)
 
   pub comes_kept : (v : V) → Comes holds keeps v → Comes Hold Keep (v, None)
   comes_kept v comes s h =

@@ -66,6 +66,10 @@ module _ {T V W : Type 0} where
     abbrev pub Turns : ℕ → V → (V → Type 0) → Type 0
     Turns id v so = (s : State T V W) → holds s → view_of s id ≡ Some v → Goes s s.memory id so
 
+    -- A seat comes to know something else by what another one knows, and all else stays.
+    abbrev pub Learns : ℕ → V → ℕ → V → (V → Type 0) → Type 0
+    Learns i v j u so = (s : State T V W) → holds s → view_of s i ≡ Some v → view_of s j ≡ Some u → i ≢ j → Goes s s.memory i so
+
     -- a seat comes, whoever is there
     abbrev pub Comes : V → Type 0
     Comes v = (s : State T V W) → holds s → (w : W) × holds (joined s v w) × ((b : ℕ) (u o : V) → keeps u o s.world b → keeps u o w b)
