@@ -170,7 +170,7 @@ module _ {M : Type 1} {𝓤 : Ura M} (𝓛 : Logic 𝓤) (R : RattleType) (own :
     found : ⟦ E ⟧ ∗ ⟦ is_listed p z ⟧ ∗ ⟦ Sn ⟧ ⊢ ex 𝓤 F
     found = qed 𝓛 (‵ E ∷ ‵ (is_listed p z) ∷ ‵ Sn ∷ []) ∵ fpick ! (λ t. fsplit3 ! $ move ! (2 ∷ []) $ fpick ! (λ sound. drop ! $
         -- [the memory; the views; it is listed; the seats' views]
-        move ! (1 ∷ 3 ∷ []) $ use2 𝓛 (given (Hands.Sit 𝓛 R own cv holds p z i v k u t) (‵ (Views t) ⊛ ‵ Sn)) (Hands.two_show 𝓛 R own cv holds p z i v k u f f' t) $
+        move ! (1 ∷ 3 ∷ []) $ use2 𝓛 (given (Hands.AreBoth 𝓛 R own cv holds p z i v k u t) (‵ (Views t) ⊛ ‵ Sn)) (Hands.two_show 𝓛 R own cv holds p z i v k u f f' t) $
         learn ! (λ sit. split ! $ move ! (2 ∷ []) $ fsplit ! $ move ! (1 ∷ []) $ fpick ! (λ ss. fsplit3 ! $ move ! (1 ∷ []) $ fpick ! (λ are. drop ! $ fsplit ! $ fsplit ! $
         -- [the list; the hands; the doors; the strips; the words; the views; the seats' views; it is listed]
         move ! (7 ∷ []) $ fsplit ! $ move ! (1 ∷ []) $ drop ! $ fpick ! (λ r. move ! (1 ∷ 0 ∷ []) $
