@@ -21,6 +21,7 @@ pub mod SlotWords
 pub mod Regains
 pub mod Rewrites
 pub mod Lends
+pub mod Testifying
 pub mod Steps
 pub mod Opening
 pub mod Joining

@@ -37,6 +37,11 @@ module _ {T V W : Type 0} where
       (s : State T V W) → holds s → view_of s i ≡ Some v → view_of s j ≡ Some u → i ≢ j
       → (v' u' : V) × holds record { memory = s.memory; views = slice_set (slice_set s.views i v') j u'; world = s.world } × so v' u'
 
+  -- A seat comes that knows this, where three seats know what they know, and all else stays.
+  abbrev pub Testifies : (State T V W → Type 0) → ℕ → V → ℕ → V → ℕ → V → V → Type 0
+  Testifies holds i v j u k o x =
+      (s : State T V W) → holds s → view_of s i ≡ Some v → view_of s j ≡ Some u → view_of s k ≡ Some o → (w : W) × holds (joined s x w)
+
   -- The rule holds of the memory as it is with no seat.
   abbrev pub Renews : (State T V W → Type 0) → Type 0
   Renews holds = (s : State T V W) → holds s → (w : W) × holds record { memory = s.memory; views = []; world = w }
