@@ -144,11 +144,6 @@ module _ {D T V W : Type 0} (value : D → T) (own : D → Spot) (holds : State 
       → Allows holds keeps id v (Rewrite b (value x)) so → Allows Hold Keep id (v, y) (Rewrite b x) (then_kept value y so)
   rewrite_allowed id v y b x so owns = allowed id v y (Rewrite b x) so (rewrite_leaves id v b x so (owns_alone holds keeps id v b owns))
 
-  -- a seat may take a block away by what is kept, too, if it may by the rule
-  pub owned_kept : (id : ℕ) (v : V) (y : Visit) (b : ℕ) → Owns holds keeps id v b → Owns Hold Keep id (v, y) b
-  owned_kept id v y b owns s h at = let a = take_allowed id v y b (λ _ _. Unit {0}) owns s h at in
-      (a.0, λ out n took. (let g = a.1 out n took in (g.0, g.1, g.2, g.3, tt)))
-
   -- ---- visits
   -- what a seat's view shows it shows where the seat visits a block, too
   pub shown_kept : (id : ℕ) (v : V) (y : Visit) (b : ℕ) → Shown holds id v b → Shown Hold id (v, y) b
@@ -259,7 +254,7 @@ module _ {D T V W : Type 0} (value : D → T) (own : D → Spot) (holds : State 
   pub shown_to_both : (i : ℕ) (v : V) (y : Visit) (j : ℕ) (u : V) (x : Visit) (b : ℕ) → ShownToBoth holds i v j u b → ShownToBoth Hold i (v, y) j (u, x) b
   shown_to_both i v y j u x b shown s h at_i at_j = value_of_block value s.memory b (shown (flat s) h.0 (view_plain s i (v, y) at_i) (view_plain s j (u, x) at_j))
 
-  plain_value : (m : Mem D) (b : ℕ) (d : D) → value_at m b ≡ Some d → value_at (plain_memory value m) b ≡ Some (value d)
+  pub plain_value : (m : Mem D) (b : ℕ) (d : D) → value_at m b ≡ Some d → value_at (plain_memory value m) b ≡ Some (value d)
   plain_value m b d is = ap value_in (block_at value m b) ∙ value_plain value (block_of m b) d is
 
   pub value_of_both : (i : ℕ) (v : V) (y : Visit) (j : ℕ) (u : V) (x : Visit) (b : ℕ) (d : D) → IsValueOfBoth Hold i (v, y) j (u, x) b d

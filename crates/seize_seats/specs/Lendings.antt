@@ -117,6 +117,10 @@ abbrev pub IsValueSo : {T V W : Type 0} → (State T V W → Type 0) → ℕ →
 IsValueSo {T} {V} {W} holds i v j u also b x =
     (t : State T V W) × holds t × (view_of t i ≡ Some v) × (view_of t j ≡ Some u) × also t × (value_at t.memory b ≡ Some x)
 
+-- in which three seats have these views
+abbrev pub IsValueBy : {T V W : Type 0} → (State T V W → Type 0) → ℕ → V → ℕ → V → ℕ → V → ℕ → T → Type 0
+IsValueBy holds i v j u k o b x = IsValueSo holds j u k o (λ s. view_of s i ≡ Some v) b x
+
 module _ (R : RattleType) (α : Lft) {V W : Type 0} (c : V → Gv) (γ : ℕ) (holds : State R.Denot V W → Type 0) where
   -- both views show the block, by what the witness says, and the seats are two, or one with one view
   abbrev pub AreShown : ℕ → Holder V → Holder V → Witness V → Type 0

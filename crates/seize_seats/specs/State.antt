@@ -1,6 +1,6 @@
 -- The state of a memory that seats share, and what each step of a seat owes to the rule.
-use Rattle.std.specs.Prelude.{◌≡◌, ◌≢◌, ℕ, List, [], ◌∷◌, ◌++◌, Option, Some, slice_get, slice_set, replicate}
-use Rattle.seize_words.specs.Mem.{Mem, Can, Took}
+use Rattle.std.specs.Prelude.{◌≡◌, ◌≢◌, ℕ, List, [], ◌∷◌, ◌++◌, Option, Some, IsSome, slice_get, slice_set, replicate}
+use Rattle.seize_words.specs.Mem.{Mem, Can, Took, value_at}
 use Rattle.seize_words.specs.Op.{Op, Out, Take}
 
 -- A seat is known by its number; each has a view, which is plain data: what it knows. The world is what the rule keeps beside these.
@@ -74,6 +74,17 @@ module _ {T V W : Type 0} where
     -- A seat comes to know something else by what another one knows, and all else stays.
     abbrev pub Learns : ℕ → V → ℕ → V → (V → Type 0) → Type 0
     Learns i v j u so = (s : State T V W) → holds s → view_of s i ≡ Some v → view_of s j ≡ Some u → i ≢ j → Goes s s.memory i so
+
+    -- What three seats know shows that two of them keep the block.
+    abbrev pub ShowsKept : ℕ → V → ℕ → V → ℕ → V → ℕ → Type 0
+    ShowsKept i v j u k o b =
+        (s : State T V W) → holds s → view_of s i ≡ Some v → view_of s j ≡ Some u → view_of s k ≡ Some o → keeps u o s.world b
+
+    -- What seats keep is there.
+    abbrev pub AreThere : Type 0
+    AreThere =
+        (s : State T V W) (j : ℕ) (u : V) (k : ℕ) (o : V) (b : ℕ) → holds s → view_of s j ≡ Some u → view_of s k ≡ Some o → keeps u o s.world b
+        → IsSome (value_at s.memory b)
 
     -- a seat comes, whoever is there
     abbrev pub Comes : V → Type 0
