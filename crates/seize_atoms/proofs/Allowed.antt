@@ -123,7 +123,7 @@ module _ {T V W : Type 0} (rests : V → Type 0) (holds : State T V W → Type 0
   owned_here id v y e b owns s h at =
       let so : Out (Kept T) → V × Visit → Type 0 = then_kept value_of y (λ _ _. Unit {0}) in
       let a = allows_since id ((v, y), e) (Take b) (λ out u. so out u.0) (λ out w k. onwards y w k.1)
-          (Errands.owned_away rest Visited Keeps id (v, y) e b so (Visits.take_allowed value_of lies holds keeps id v y b (λ _ _. Unit {0}) owns)) s h at in
+      (Errands.owned_away rest Visited Keeps id (v, y) e b so (Visits.take_allowed value_of lies holds keeps id v y b (λ _ _. Unit {0}) owns)) s h at in
       (a.0, λ out n took. (let g = a.1 out n took in (g.0, g.1, g.2, g.3, tt)))
 
   pub starts_allowed : (roots : ℕ) → Starts holds roots → Starts (HoldsSince rests (bare roots) holds keeps) roots
@@ -327,12 +327,11 @@ module _ {T V W : Type 0} (rests : V → Type 0) (holds : State T V W → Type 0
   -- a seat goes on another errand, or on none if it rests
   pub errand_allowed : (id : ℕ) (v : V) (y : Visit) (e f : Away) → (f ≡ None → rests v) → (s : St) → Hold s → view_of s id ≡ Some ((v, y), e)
       → Hold (State.after s s.memory id ((v, y), f) s.world)
-  errand_allowed id v y e f rested s h at =
-      (
-        Errands.errs rest Visited Keeps id (v, y) e f rested s h.0 at,
-        (λ none. absurd (set_there s.views id ((v, y), e) ((v, y), f) at none)),
-        claims_then Hold keeps s id v y e f at h.2,
-      )
+  errand_allowed id v y e f rested s h at = (
+    Errands.errs rest Visited Keeps id (v, y) e f rested s h.0 at,
+    (λ none. absurd (set_there s.views id ((v, y), e) ((v, y), f) at none)),
+    claims_then Hold keeps s id v y e f at h.2,
+  )
 
 -- ---- what is shown and found
 module _ {T V W : Type 0} (rests : V → Type 0) (holds : State T V W → Type 0) (keeps : V → V → W → ℕ → Type 0) where

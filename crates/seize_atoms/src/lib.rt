@@ -3,6 +3,7 @@
 
 mod alone;
 mod claim;
+mod lends;
 mod rooms;
 mod rule;
 mod seat;

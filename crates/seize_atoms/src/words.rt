@@ -7,7 +7,7 @@ ghost use Rattle.seize_words.specs.Op.{Load, Store, Swap, Add, Or, Exchange, Mak
 ghost use Rattle.seize_seats.specs.State.{Allows, Owns, Turns, Learns, Comes, Meets, Starts};
 ghost use Rattle.seize_seats.specs.Lines.{whole};
 ghost use Rattle.seize_seats.specs.Doors.{before, block_bytes, words_from, IsFurther, AreBehind};
-ghost use Rattle.seize_seats.specs.Lendings.{Shown, ShownToBoth, IsValueOf, IsValueOfBoth};
+ghost use Rattle.seize_seats.specs.Lendings.{Shown, ShownToBoth, IsValueOf};
 ghost use Rattle.seize_words.specs.Mem.{Mem};
 ghost use Rattle.seize_seats.specs.Start.{memory_coded, bare};
 ghost use Rattle.seize_seats.specs.Owned.{BaseId, base_id_coded, core_of, stride, IsFirst, words_own, words_share};
@@ -42,9 +42,9 @@ pub struct Words<T, R: Rule<T>> {
 }
 
 impl<T, R: Rule<T>> Model for Words<T, R> {
-    ghost also_owns = { λ s. words_own (KeptOf T.row) kept_words (seat_coded R.View.row.coded) (HoldsSince R.rests s.start (R.holds s.fixed)) s.words s.id };
+    ghost also_owns = { λ s. words_own (KeptOf T.row) kept_words (seat_coded R.View.row.coded) (HoldsSince R.rests s.start (R.holds s.fixed) R.keeps) s.words s.id };
 
-    ghost also_shares = { λ s _ κ. words_share (KeptOf T.row) kept_words (seat_coded R.View.row.coded) (HoldsSince R.rests s.start (R.holds s.fixed)) s.words s.id κ };
+    ghost also_shares = { λ s _ κ. words_share (KeptOf T.row) kept_words (seat_coded R.View.row.coded) (HoldsSince R.rests s.start (R.holds s.fixed) R.keeps) s.words s.id κ };
 }
 
 impl<T, R: Rule<T>> Words<T, R> {
@@ -353,32 +353,11 @@ impl<T, R: Rule<T>> Words<T, R> {
         }
     }
 
-    /// Where what is kept of a block lies, for as long as the words and both seats are borrowed. The index is that of its number in the strip, if there is such a
-    /// block.
-    pub fn value<'g>(
-        &'g self,
-        strip: &Strip<T>,
-        guard: &'g Seat<T, R>,
-        owner: &'g Seat<T, R>,
-        _block: u64,
-        index: u64,
-        values: *mut Option<Kept<T>>,
-    ) -> &'g Option<Kept<T>>
-        requires { (core_of strip.now.id ≡ core_of self.now.id) × InBlock strip.now.words
-            × (guard.now.base ≡ self.now.id.views_name) × (owner.now.base ≡ self.now.id.views_name)
-            × IsItsIndex strip.now.id _block index × (values ≡ strip.now.id.values)
-            × ShownToBoth (R.holds self.now.fixed) guard.now.id guard.now.view owner.now.id owner.now.view _block }
-        ensures { (x : Kept T) × (result.now ≡ Some x) × IsValueOfBoth (HoldsHere R.rests (R.holds self.now.fixed)) guard.now.id
-            ((guard.now.view, guard.now.visit), guard.now.away) owner.now.id ((owner.now.view, owner.now.visit), owner.now.away) _block x }
-    {
-        unsafe { &*values.add(index as usize) }
-    }
-
     /// A seat whose view shows a block begins to visit it: it knows where its own words lie, and how many they are, until its next step.
     pub fn visit(&self, seat: &mut Seat<T, R>, _block: u64)
         requires { (seat.old.base ≡ self.now.id.views_name) × Shown (R.holds self.now.fixed) seat.old.id seat.old.view _block }
         ensures { (seat.new.base ≡ seat.old.base) × (seat.new.id ≡ seat.old.id) × (seat.new.away ≡ seat.old.away)
-            × (seat.new.view ≡ seat.old.view) × ((spot : Spot) × (seat.new.visit ≡ Some (_block, spot))) }
+            × (seat.new.view ≡ seat.old.view) × ((spot : Spot) × (seat.new.visit.spot ≡ Some (_block, spot))) }
     {}
 
     /// A block is refused, and its value stays with its maker.
