@@ -8,7 +8,7 @@ use Rattle.seize_words.specs.declared.at.At.TheVariants.{Root, Used, Slot, Entry
 use Rattle.seize_words.specs.Op.{Op, Out, Make, Take, Rewrite}
 use Rattle.seize_seats.specs.State.{State, view_of, Goes, Allows, Owns, Turns, Learns, ShowsKept, AreThere, Starts, Comes, Meets, Testifies}
 use Rattle.seize_seats.specs.State as State
-use Rattle.seize_seats.specs.Lendings.{Shown, ShownToBoth, ShownBy, IsValueOf, IsValueOfBoth, IsValueSo, IsValueBy}
+use Rattle.seize_seats.specs.Lendings.{Shown, ShownToBoth, ShownToAll, ShownBy, IsValueOf, IsValueOfBoth, IsValueSo, IsValueBy}
 use Rattle.seize_seats.specs.Start.{bare, WasIdle, WasKnown}
 use Rattle.seize_seats.specs.Visits.{Spot, Visit, Claim, fresh, onward, onward_at, witness, plain, plain_memory, plain_op, plain_out, HoldsKept, keeps_kept, then_kept}
 use Rattle.seize_seats.specs.Errands.{Away, inward, RenewsIdle, RenewsTo, RenewsFrom, AreAllBack, AreIdle, then_away, MayGo, MayGoAll, MayMeet}
@@ -298,6 +298,11 @@ module _ {T V W : Type 0} (rests : V → Type 0) (holds : State T V W → Type 0
       known is.0 i v y e is.4,
       Visits.plain_value value_of lies holds keeps is.0.memory b q is.5,
     )
+
+  pub shown_all_here : (i : ℕ) (v : V) (y : Visit) (e : Away) (j : ℕ) (u : V) (x : Visit) (f : Away) (k : ℕ) (o : V) (r : Visit) (d : Away) (b : ℕ)
+      → ShownToAll holds i v j u k o b → ShownToAll Hold i ((v, y), e) j ((u, x), f) k ((o, r), d) b
+  shown_all_here i v y e j u x f k o r d b shown t h at_i at_j at_k =
+      value_of_block value_of t.memory b (shown (plain value_of (inward t)) h.0.0.0 (known t i v y e at_i) (known t j u x f at_j) (known t k o r d at_k))
 
   -- a word of a slot is there
   pub slot_here : (id : ℕ) (v : V) (y : Visit) (e : Away) (n f : ℕ) → ((s : State T V W) → holds s → view_of s id ≡ Some v → IsSome (word_at s.memory (Slot n f)))

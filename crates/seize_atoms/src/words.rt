@@ -7,7 +7,7 @@ ghost use Rattle.seize_words.specs.Op.{Load, Store, Swap, Add, Or, Exchange, Mak
 ghost use Rattle.seize_seats.specs.State.{Allows, Owns, Turns, Learns, Comes, Meets, Starts};
 ghost use Rattle.seize_seats.specs.Lines.{whole};
 ghost use Rattle.seize_seats.specs.Doors.{before, block_bytes, words_from, IsFurther, AreBehind};
-ghost use Rattle.seize_seats.specs.Lendings.{Shown, ShownToBoth, IsValueOf};
+ghost use Rattle.seize_seats.specs.Lendings.{Shown, ShownToAll, IsValueOf};
 ghost use Rattle.seize_words.specs.Mem.{Mem};
 ghost use Rattle.seize_seats.specs.Start.{memory_coded, bare};
 ghost use Rattle.seize_seats.specs.Owned.{BaseId, base_id_coded, core_of, stride, IsFirst, words_own, words_share};
@@ -222,19 +222,20 @@ impl<T, R: Rule<T>> Words<T, R> {
         )
     }
 
-    /// The strip behind a door, that of a block which the views of two seats show together. These are the words of the first strip.
+    /// The strip behind a door, that of a block which the views of three seats show together. These are the words of the first strip.
     pub fn find(
         &self,
+        pass: &Seat<T, R>,
         guard: &Seat<T, R>,
         owner: &Seat<T, R>,
         _block: u64,
         doors: *mut *mut u64,
         index: u64,
     ) -> Strip<T>
-        requires { (guard.now.base ≡ self.now.id.views_name) × (owner.now.base ≡ self.now.id.views_name)
+        requires { (pass.now.base ≡ self.now.id.views_name) × (guard.now.base ≡ self.now.id.views_name) × (owner.now.base ≡ self.now.id.views_name)
             × (doors ≡ self.now.id.doors) × (index < 32) × (self.now.id.place ≡ 0) × (self.now.id.size ≡ self.now.id.least)
             × (self.now.id.least * 2 ^ index ≤ _block - 1)
-            × ShownToBoth (R.holds self.now.fixed) guard.now.id guard.now.view owner.now.id owner.now.view _block }
+            × ShownToAll (R.holds self.now.fixed) pass.now.id pass.now.view guard.now.id guard.now.view owner.now.id owner.now.view _block }
         ensures { (core_of result.id ≡ core_of self.now.id) × (result.id.skip ≡ before (KeptOf T.row) result.id.size)
             × (result.id.values ≡ result.words)
             × (result.id.first ≡ self.now.id.least * 2 ^ index) × (result.id.size ≡ result.id.first) × InBlock result.words

@@ -92,6 +92,21 @@ module _ {M : Type 1} {𝓤 : Ura M} (𝓛 : Logic 𝓤) (R : RattleType) (own :
     two_crowd q r t w Z (inr same) = qed 𝓛 (‵ (Led t) ∷ ‵ (Sn three_quarters w.0 w.1) ∷ ‵ (two q r) ∷ []) ∵ move ! (2 ∷ []) $ fsplit ! $
         rewrite ! 1 (λ (n : ℕ). ‵ (Sn r n u)) same refl $ keep ! (2 ∷ 3 ∷ 1 ∷ []) $ by ! (Sitters.crowded 𝓛 (age z) cv z.views_name t.blank t.views w.0 r w.1 u Z)
 
+    -- and a third one that
+    module _ (i : ℕ) (o : V) where
+      abbrev pub AreAll : In → Type 0
+      AreAll t = (slice_get t.views i ≡ Some o) × AreBoth t
+
+      abbrev pub three : Share → Share → Share → Fml
+      three r q q' = fsep (Sn r i o) (two q q')
+
+      pub three_show : (r q q' : Share) (t : In) → ⟦ Led t ⟧ ∗ ⟦ three r q q' ⟧ ⊢ guard 𝓤 (AreAll t) (⟦ Led t ⟧ ∗ ⟦ three r q q' ⟧)
+      three_show r q q' t = qed 𝓛 (‵ (Led t) ∷ ‵ (three r q q') ∷ []) ∵ move ! (1 ∷ []) $ fsplit ! $ move ! (2 ∷ 0 ∷ []) $
+          use2 𝓛 (given (slice_get t.views i ≡ Some o) (‵ (Led t) ⊛ ‵ (Sn r i o))) (Sitters.sits 𝓛 (age z) cv z.views_name t.blank t.views i r o) $
+          learn ! (λ at. split ! $ move ! (0 ∷ 2 ∷ []) $
+          use2 𝓛 (given (AreBoth t) (‵ (Led t) ⊛ ‵ (two q q'))) (two_show q q' t) $ learn ! (λ both. split ! $
+          check ! (at, both) $ move ! (2 ∷ 1 ∷ []) $ fjoin ! $ move ! (1 ∷ 0 ∷ []) $ done !))
+
     module _ (x : Witness V) where
       -- and the witness is there
       abbrev pub Sit : In → Type 0

@@ -82,6 +82,11 @@ abbrev pub ShownToBoth : {T V W : Type 0} → (State T V W → Type 0) → ℕ �
 ShownToBoth {T} {V} {W} holds i v j u b =
     (t : State T V W) → holds t → view_of t i ≡ Some v → view_of t j ≡ Some u → IsSome (value_at t.memory b)
 
+-- as long as three have these
+abbrev pub ShownToAll : {T V W : Type 0} → (State T V W → Type 0) → ℕ → V → ℕ → V → ℕ → V → ℕ → Type 0
+ShownToAll {T} {V} {W} holds i v j u k o b =
+    (t : State T V W) → holds t → view_of t i ≡ Some v → view_of t j ≡ Some u → view_of t k ≡ Some o → IsSome (value_at t.memory b)
+
 -- the witness, if there is one, is among these views
 abbrev pub Bears : {V : Type 0} → List V → Witness V → Type 0
 Bears vs None = Unit {0}
