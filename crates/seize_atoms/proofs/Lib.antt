@@ -1,4 +1,5 @@
 pub mod Fields
 pub mod Lives
+pub mod Claimed
 pub mod Allowed
 pub mod Asked

@@ -3,6 +3,7 @@
 
 mod alone;
 mod claim;
+mod lends;
 mod rooms;
 mod rule;
 mod seat;
@@ -11,7 +12,7 @@ mod task;
 mod words;
 
 pub use claim::Claim;
-pub use rule::{Meeting, Rule, Turn};
+pub use rule::{Lesson, Meeting, Rule, Turn};
 pub use seat::Seat;
 pub use strip::Strip;
 pub use task::Task;

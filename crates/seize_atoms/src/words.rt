@@ -4,10 +4,10 @@ ghost use Rattle.std.specs.Prelude.{length, map, replicate, take, slice_index, s
 ghost use denote.RawPtr.{InBlock, Testable, null_ptr};
 ghost use Rattle.core.specs.Mem.Slots.Ownership.{Filled};
 ghost use Rattle.seize_words.specs.Op.{Load, Store, Swap, Add, Or, Exchange, Make, Take, Rewrite, Found, Stored, Exchanged, Made, Taken};
-ghost use Rattle.seize_seats.specs.State.{Allows, Owns, Turns, Comes, Meets, Starts};
+ghost use Rattle.seize_seats.specs.State.{Allows, Owns, Turns, Learns, Comes, Meets, Starts};
 ghost use Rattle.seize_seats.specs.Lines.{whole};
 ghost use Rattle.seize_seats.specs.Doors.{before, block_bytes, words_from, IsFurther, AreBehind};
-ghost use Rattle.seize_seats.specs.Lendings.{Shown, ShownToBoth, IsValueOf, IsValueOfBoth};
+ghost use Rattle.seize_seats.specs.Lendings.{Shown, ShownToAll, IsValueOf};
 ghost use Rattle.seize_words.specs.Mem.{Mem};
 ghost use Rattle.seize_seats.specs.Start.{memory_coded, bare};
 ghost use Rattle.seize_seats.specs.Owned.{BaseId, base_id_coded, core_of, stride, IsFirst, words_own, words_share};
@@ -21,7 +21,7 @@ ghost use Rattle.seize_atoms.specs.Placed.{IsItsPlace, IsItsSign, IsItsIndex};
 ghost use Rattle.seize_seats.specs.Plots.{HasFirst};
 
 use crate::claim::Claim;
-use crate::rule::{Meeting, Rule, Turn};
+use crate::rule::{Lesson, Meeting, Rule, Turn};
 use crate::seat::Seat;
 use crate::strip::Strip;
 use seize_plots::{Alone, Deed, Doors, Kept, Piece, Pieces, Place, Row};
@@ -42,9 +42,9 @@ pub struct Words<T, R: Rule<T>> {
 }
 
 impl<T, R: Rule<T>> Model for Words<T, R> {
-    ghost also_owns = { λ s. words_own (KeptOf T.row) kept_words (seat_coded R.View.row.coded) (HoldsSince R.rests s.start (R.holds s.fixed)) s.words s.id };
+    ghost also_owns = { λ s. words_own (KeptOf T.row) kept_words (seat_coded R.View.row.coded) (HoldsSince R.rests s.start (R.holds s.fixed) R.keeps) s.words s.id };
 
-    ghost also_shares = { λ s _ κ. words_share (KeptOf T.row) kept_words (seat_coded R.View.row.coded) (HoldsSince R.rests s.start (R.holds s.fixed)) s.words s.id κ };
+    ghost also_shares = { λ s _ κ. words_share (KeptOf T.row) kept_words (seat_coded R.View.row.coded) (HoldsSince R.rests s.start (R.holds s.fixed) R.keeps) s.words s.id κ };
 }
 
 impl<T, R: Rule<T>> Words<T, R> {
@@ -135,6 +135,16 @@ impl<T, R: Rule<T>> Words<T, R> {
         ensures { (seat.new.base ≡ seat.old.base) × (seat.new.id ≡ seat.old.id) × (seat.new.away ≡ seat.old.away) × M.to self.now.fixed seat.old.view seat.new.view }
     {}
 
+    /// A seat comes to know something else, by what another one knows.
+    pub fn learn<M: Lesson<R::Fixed, R::View>>(&self, seat: &mut Seat<T, R>, other: &Seat<T, R>)
+        requires { (seat.old.base ≡ self.now.id.views_name) × (other.now.base ≡ self.now.id.views_name)
+            × Learns (R.holds self.now.fixed) R.keeps seat.old.id seat.old.view other.now.id other.now.view
+            (M.to self.now.fixed seat.old.view other.now.view)
+            × MayGo R.rests seat.old.away seat.old.view (M.to self.now.fixed seat.old.view other.now.view) }
+        ensures { (seat.new.base ≡ seat.old.base) × (seat.new.id ≡ seat.old.id) × (seat.new.away ≡ seat.old.away)
+            × M.to self.now.fixed seat.old.view other.now.view seat.new.view }
+    {}
+
     /// Two seats come to know something else, by what both knew.
     pub fn meet<M: Meeting<R::Fixed, R::View>>(&self, one: &mut Seat<T, R>, other: &mut Seat<T, R>)
         requires { (one.old.base ≡ self.now.id.views_name) × (other.old.base ≡ self.now.id.views_name)
@@ -212,19 +222,20 @@ impl<T, R: Rule<T>> Words<T, R> {
         )
     }
 
-    /// The strip behind a door, that of a block which the views of two seats show together. These are the words of the first strip.
+    /// The strip behind a door, that of a block which the views of three seats show together. These are the words of the first strip.
     pub fn find(
         &self,
+        pass: &Seat<T, R>,
         guard: &Seat<T, R>,
         owner: &Seat<T, R>,
         _block: u64,
         doors: *mut *mut u64,
         index: u64,
     ) -> Strip<T>
-        requires { (guard.now.base ≡ self.now.id.views_name) × (owner.now.base ≡ self.now.id.views_name)
+        requires { (pass.now.base ≡ self.now.id.views_name) × (guard.now.base ≡ self.now.id.views_name) × (owner.now.base ≡ self.now.id.views_name)
             × (doors ≡ self.now.id.doors) × (index < 32) × (self.now.id.place ≡ 0) × (self.now.id.size ≡ self.now.id.least)
             × (self.now.id.least * 2 ^ index ≤ _block - 1)
-            × ShownToBoth (R.holds self.now.fixed) guard.now.id guard.now.view owner.now.id owner.now.view _block }
+            × ShownToAll (R.holds self.now.fixed) pass.now.id pass.now.view guard.now.id guard.now.view owner.now.id owner.now.view _block }
         ensures { (core_of result.id ≡ core_of self.now.id) × (result.id.skip ≡ before (KeptOf T.row) result.id.size)
             × (result.id.values ≡ result.words)
             × (result.id.first ≡ self.now.id.least * 2 ^ index) × (result.id.size ≡ result.id.first) × InBlock result.words
@@ -343,32 +354,11 @@ impl<T, R: Rule<T>> Words<T, R> {
         }
     }
 
-    /// Where what is kept of a block lies, for as long as the words and both seats are borrowed. The index is that of its number in the strip, if there is such a
-    /// block.
-    pub fn value<'g>(
-        &'g self,
-        strip: &Strip<T>,
-        guard: &'g Seat<T, R>,
-        owner: &'g Seat<T, R>,
-        _block: u64,
-        index: u64,
-        values: *mut Option<Kept<T>>,
-    ) -> &'g Option<Kept<T>>
-        requires { (core_of strip.now.id ≡ core_of self.now.id) × InBlock strip.now.words
-            × (guard.now.base ≡ self.now.id.views_name) × (owner.now.base ≡ self.now.id.views_name)
-            × IsItsIndex strip.now.id _block index × (values ≡ strip.now.id.values)
-            × ShownToBoth (R.holds self.now.fixed) guard.now.id guard.now.view owner.now.id owner.now.view _block }
-        ensures { (x : Kept T) × (result.now ≡ Some x) × IsValueOfBoth (HoldsHere R.rests (R.holds self.now.fixed)) guard.now.id
-            ((guard.now.view, guard.now.visit), guard.now.away) owner.now.id ((owner.now.view, owner.now.visit), owner.now.away) _block x }
-    {
-        unsafe { &*values.add(index as usize) }
-    }
-
     /// A seat whose view shows a block begins to visit it: it knows where its own words lie, and how many they are, until its next step.
     pub fn visit(&self, seat: &mut Seat<T, R>, _block: u64)
         requires { (seat.old.base ≡ self.now.id.views_name) × Shown (R.holds self.now.fixed) seat.old.id seat.old.view _block }
         ensures { (seat.new.base ≡ seat.old.base) × (seat.new.id ≡ seat.old.id) × (seat.new.away ≡ seat.old.away)
-            × (seat.new.view ≡ seat.old.view) × ((spot : Spot) × (seat.new.visit ≡ Some (_block, spot))) }
+            × (seat.new.view ≡ seat.old.view) × ((spot : Spot) × (seat.new.visit.spot ≡ Some (_block, spot))) }
     {}
 
     /// A block is refused, and its value stays with its maker.

@@ -9,7 +9,7 @@ use Rattle.seize_words.specs.declared.block.Block.{Block}
 use Rattle.seize_seats.specs.State.{State, Allows, Owns}
 use Rattle.seize_seats.specs.Visits.{AreSeenAt}
 use Rattle.seize_seats.specs.Reached.{IsAt}
-use Rattle.seize_seats.specs.Lendings.{ShownToBoth, IsValueOf, IsValueOfBoth}
+use Rattle.seize_seats.specs.Lendings.{ShownToAll, IsValueOf, IsValueOfBoth}
 use Rattle.seize_seats.specs.Visits.{Spot, Visit}
 use Rattle.seize_seats.specs.Errands.{Away}
 use Rattle.seize_atoms.specs.Visiting.{Seen, HoldsHere}
@@ -54,7 +54,7 @@ module _ {T V W F : Type 0} (rests : V → Type 0) (holds : F → State T V W �
       (λ i. (sym e.1 i, sym e.2 i)) (own ∙ sym e.3, lies, values, is, refl, refl, refl, refl, few, may)
 
   pub on_rewrite : (base base' id id' block index : ℕ) (v v' : V) (visit : Visit) (away : Away) (kept : Kept T) (at p q : Ptr) (y z x : BaseId) (f h : F) (so : V → Out T → V → Type 0)
-      → Same p q y z x f h → AsItWas base' base id' id v' v → visit ≡ Some (block, lies kept)
+      → Same p q y z x f h → AsItWas base' base id' id v' v → visit.spot ≡ Some (block, lies kept)
       → base ≡ x.views_name → IsItsIndex z block index → at ≡ z.values → Owns (holds h) keeps id v block → Allows (holds h) keeps id v (Rewrite block kept.value) (so v)
       → (base' ≡ y.views_name) × IsItsIndex y block index × (at ≡ y.values) × ((k : Kept T) → IsValueOf (Kinds f) id' ((v', visit), away) block k → lies k ≡ lies kept)
       × Owns (holds f) keeps id' v' block × Allows (holds f) keeps id' v' (Rewrite block kept.value) (so v')
@@ -65,7 +65,7 @@ module _ {T V W F : Type 0} (rests : V → Type 0) (holds : F → State T V W �
         s.0 ∙ own ∙ sym e.3,
         is,
         values,
-        λ k of. value_found rests (holds h) keeps id' v' away block (lies kept) k (subst (λ (w : Visit). IsValueOf (Kinds h) id' ((v', w), away) block k) seen of),
+        λ k of. value_found rests (holds h) keeps id' v' visit away block (lies kept) k seen of,
         subst (λ (w : ℕ × V). Owns (holds h) keeps w.0 w.1 block) (λ i. (sym s.1 i, sym s.2 i)) alone,
         subst (λ (w : ℕ × V). Allows (holds h) keeps w.0 w.1 (Rewrite block kept.value) (so w.1)) (λ i. (sym s.1 i, sym s.2 i)) may,
       )
@@ -107,8 +107,8 @@ entry_some None i some = absurd (cc some)
 entry_some (Some x) i some = refl
 
 -- where there is such a word, the view shows its block
-pub shows_block : {T V W : Type 0} (holds : State T V W → Type 0) (id : ℕ) (v : V) (b i : ℕ) → HasWord holds id v (Entry b i) → ShownToBoth holds id v id v b
-shows_block holds id v b i has = λ t h at at'. entry_some (block_of t.memory b) i (has t h at)
+pub shows_block : {T V W : Type 0} (holds : State T V W → Type 0) (id : ℕ) (v : V) (b i : ℕ) → HasWord holds id v (Entry b i) → ShownToAll holds id v id v id v b
+shows_block holds id v b i has = λ t h at at' at''. entry_some (block_of t.memory b) i (has t h at)
 
 -- a word of its own is one of a block
 block_value : {T : Type 0} (x : Option (Block T)) (i : ℕ) → IsSome (word_in x i) → (y : T) × (value_in x ≡ Some y)
@@ -116,27 +116,25 @@ block_value None i some = absurd (cc some)
 block_value (Some x) i some = (x.value, refl)
 
 -- and so where there is a word of its own
-pub shows_own : {T V W : Type 0} (holds : State T V W → Type 0) (id : ℕ) (v : V) (b i : ℕ) → HasWord holds id v (Word b i) → ShownToBoth holds id v id v b
-shows_own {T} holds id v b i has t h at at' = let s = block_value (block_of t.memory b) i (has t h at) in subst (λ (y : Option T). IsSome y) (sym s.1) refl
+pub shows_own : {T V W : Type 0} (holds : State T V W → Type 0) (id : ℕ) (v : V) (b i : ℕ) → HasWord holds id v (Word b i) → ShownToAll holds id v id v id v b
+shows_own {T} holds id v b i has t h at at' at'' = let s = block_value (block_of t.memory b) i (has t h at) in subst (λ (y : Option T). IsSome y) (sym s.1) refl
 
 -- of a block that the seat visits, its own words lie where it has seen them
 pub own_lies : {T V W : Type 0} (rests : V → Type 0) (holds : State T V W → Type 0) (keeps : V → V → W → ℕ → Type 0) (id : ℕ) (v : V) (visit : Visit) (away : Away) (b i : ℕ) (s : Ptr × ℕ) (p address : Ptr) (place : ℕ)
-    (z : BaseId) (index : ℕ) → IsItsIndex z b index → visit ≡ Some (b, s) → (InBlock s.0 → i * 8 < 2 ^ 63 → (s.0 ≡ address) × (place ≡ i))
+    (z : BaseId) (index : ℕ) → IsItsIndex z b index → visit.spot ≡ Some (b, s) → (InBlock s.0 → i * 8 < 2 ^ 63 → (s.0 ≡ address) × (place ≡ i))
     → IsAt lies_at (HoldsHere rests holds) id ((v, visit), away) p z (Word b i) address place
-own_lies {T} {V} {W} rests holds keeps id v visit away b i s p address place z index is at lands =
-    subst (λ (y : Visit). IsAt lies_at (HoldsHere rests holds) id ((v, y), away) p z (Word b i) address place) (sym at) (is.0, (s.0, seen, lands))
+own_lies {T} {V} {W} rests holds keeps id v visit away b i s p address place z index is at lands = (is.0, (s.0, seen, lands))
   where
-    seen : AreSeenAt lies_at (HoldsHere rests holds) id ((v, Some (b, s)), away) b s.0
-    seen t ok here = let f = visits_found rests holds keeps t id v away b s ok here in (f.0, f.1, ap (λ (u : Ptr × ℕ). u.0) f.2)
+    seen : AreSeenAt lies_at (HoldsHere rests holds) id ((v, visit), away) b s.0
+    seen t ok here = let f = visits_found rests holds keeps t id v visit away b s ok here at in (f.0, f.1, ap (λ (u : Ptr × ℕ). u.0) f.2)
 
 -- what is found of a block that the seat visits lies where it has seen it
 pub lies_there : {T V W : Type 0} (rests : V → Type 0) (holds : State T V W → Type 0) (keeps : V → V → W → ℕ → Type 0) (id : ℕ) (v : V) (visit : Visit) (away : Away) (b : ℕ)
-    (x y : Kept T) (o : Option (Kept T)) → ((s : Spot) × (visit ≡ Some (b, s))) → o ≡ Some x → o ≡ Some y
-    → IsValueOfBoth (HoldsHere rests holds) id ((v, visit), away) id ((v, visit), away) b x → visit ≡ Some (b, lies y)
+    (x y : Kept T) (o : Option (Kept T)) → ((s : Spot) × (visit.spot ≡ Some (b, s))) → o ≡ Some x → o ≡ Some y
+    → IsValueOfBoth (HoldsHere rests holds) id ((v, visit), away) id ((v, visit), away) b x → visit.spot ≡ Some (b, lies y)
 lies_there rests holds keeps id v visit away b x y o s is_x is_y of =
     let one : x ≡ y = cc (is_x, is_y) in
-    let found : lies x ≡ s.0 = value_found rests holds keeps id v away b s.0 x
-    (subst (λ (w : Visit). IsValueOf (HoldsHere rests holds) id ((v, w), away) b x) s.1 (of.0, of.1, of.2, of.4)) in
+    let found : lies x ≡ s.0 = value_found rests holds keeps id v visit away b s.0 x s.1 (of.0, of.1, of.2, of.4) in
     s.1 ∙ ap (λ (p : Spot). Some (b, p)) (sym found ∙ ap lies one)
 
 -- a word that is looked for elsewhere is none

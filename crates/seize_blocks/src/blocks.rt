@@ -1,15 +1,15 @@
 //! The memory as a whole, as those use it who share it.
 ghost use Rattle.std.specs.Prelude.{◌≡◌, None, ◌≤◌, ◌<◌, ◌^◌};
 ghost use Rattle.seize_words.specs.Op.{Load, Store, Swap, Add, Or, Exchange, Make, Take, Rewrite, Found, Stored, Exchanged, Made, Taken};
-ghost use Rattle.seize_seats.specs.State.{Allows, Owns, Turns, Comes, Meets};
+ghost use Rattle.seize_seats.specs.State.{Allows, Owns, Turns, Learns, ShowsKept, AreThere, Comes, Meets};
 ghost use Rattle.seize_seats.specs.Errands.{MayGo, MayMeet, RenewsIdle};
 ghost use Rattle.seize_seats.specs.Start.{WasIdle};
 ghost use Rattle.seize_seats.specs.Owned.{IsFirst};
-ghost use Rattle.seize_seats.specs.Lendings.{Shown, ShownToBoth, IsValueOf, IsValueOfBoth};
+ghost use Rattle.seize_seats.specs.Lendings.{Shown, ShownToBoth, IsValueOf, IsValueOfBoth, IsValueBy};
 
 use crate::access::{Adds, Exchanges, Loads, Sets, Stores, Swaps};
 use crate::errand::{Errand, Sent};
-use seize_atoms::{Meeting, Rule, Seat, Turn, Words};
+use seize_atoms::{Lesson, Meeting, Rule, Seat, Turn, Words};
 use seize_plots::{Doors, Kept, Laid, Place, give_words, lay_words};
 use seize_words::At;
 use std::alloc::Global;
@@ -51,6 +51,19 @@ impl<T, R: Rule<T>> Blocks<T, R> {
         ensures goes { M.to self.now.words.fixed seat.old.view seat.new.view }
     {
         self.words.turn::<M>(seat)
+    }
+
+    /// A seat comes to know something else, by what another one knows.
+    pub fn learn<M: Lesson<R::Fixed, R::View>>(&self, seat: &mut Seat<T, R>, other: &Seat<T, R>)
+        requires own { (seat.old.base ≡ self.now.words.id.views_name) × (other.now.base ≡ self.now.words.id.views_name) }
+        requires may { Learns (R.holds self.now.words.fixed) R.keeps seat.old.id seat.old.view other.now.id other.now.view
+            (M.to self.now.words.fixed seat.old.view other.now.view) }
+        requires errand { MayGo R.rests seat.old.away seat.old.view (M.to self.now.words.fixed seat.old.view other.now.view) }
+        ensures same { (seat.new.base ≡ seat.old.base) × (seat.new.id ≡ seat.old.id) }
+        ensures errand { seat.new.away ≡ seat.old.away }
+        ensures goes { M.to self.now.words.fixed seat.old.view other.now.view seat.new.view }
+    {
+        self.words.learn::<M>(seat, other)
     }
 
     /// A seat goes on an errand: a course of steps, in the midst of which nobody has the memory to himself. It ends where the seat rests.
@@ -225,7 +238,7 @@ impl<T, R: Rule<T>> Blocks<T, R> {
         ensures errand { seat.new.away ≡ seat.old.away }
         ensures goes { R.then seat.old.view (Take block) (Taken result) seat.new.view }
     {
-        let spot = self.spot_of(seat, seat, block);
+        let spot = self.spot_of(seat, seat, seat, block);
         let first = spot.first;
         let (kept, piece) = self.words.by(&spot.strip).take(
             seat,
@@ -257,7 +270,7 @@ impl<T, R: Rule<T>> Blocks<T, R> {
         ensures goes { R.then seat.old.view (Rewrite block value) (Taken result) seat.new.view }
     {
         self.words.visit(seat, block);
-        let spot = self.spot_of(seat, seat, block);
+        let spot = self.spot_of(seat, seat, seat, block);
         let beside = self.beside(seat, &spot, block);
         let at = beside.at;
         let kept = Kept {
@@ -305,11 +318,45 @@ impl<T, R: Rule<T>> Blocks<T, R> {
         requires shown { ShownToBoth (R.holds self.now.words.fixed) guard.now.id guard.now.view owner.now.id owner.now.view block }
         ensures { IsValueOfBoth (R.holds self.now.words.fixed) guard.now.id guard.now.view owner.now.id owner.now.view block result.now }
     {
-        let spot = self.spot_of(guard, owner, block);
+        let spot = self.spot_of(guard, guard, owner, block);
         match self
             .words
             .value(&spot.strip, guard, owner, block, spot.index, spot.values)
         {
+            Some(kept) => &kept.value,
+            None => unreachable!(),
+        }
+    }
+
+    /// The value of a block that two seats keep, as what a third one knows now shows, for as long as the memory and these two are borrowed. The third one may
+    /// step meanwhile: what others keep stays kept.
+    #[inline(always)]
+    pub fn value_by<'g>(
+        &'g self,
+        pass: &Seat<T, R>,
+        guard: &'g Seat<T, R>,
+        owner: &'g Seat<T, R>,
+        block: u64,
+    ) -> &'g T
+        requires own { (pass.now.base ≡ self.now.words.id.views_name) × (guard.now.base ≡ self.now.words.id.views_name)
+            × (owner.now.base ≡ self.now.words.id.views_name) }
+        requires kept { ShowsKept (R.holds self.now.words.fixed) R.keeps pass.now.id pass.now.view guard.now.id guard.now.view
+            owner.now.id owner.now.view block }
+        requires there { AreThere (R.holds self.now.words.fixed) R.keeps }
+        requires comes { Comes (R.holds self.now.words.fixed) R.keeps (R.newcomer self.now.words.fixed) }
+        ensures { IsValueBy (R.holds self.now.words.fixed) pass.now.id pass.now.view guard.now.id guard.now.view
+            owner.now.id owner.now.view block result.now }
+    {
+        let spot = self.spot_of(pass, guard, owner, block);
+        match self.words.value_by(
+            &spot.strip,
+            pass,
+            guard,
+            owner,
+            block,
+            spot.index,
+            spot.values,
+        ) {
             Some(kept) => &kept.value,
             None => unreachable!(),
         }

@@ -4,7 +4,7 @@ ghost use denote.RawPtr.{Ptr, InBlock};
 ghost use Rattle.seize_seats.specs.Lines.{long};
 ghost use Rattle.seize_seats.specs.Owned.{core_of};
 ghost use Rattle.seize_seats.specs.State.{Allows};
-ghost use Rattle.seize_seats.specs.Lendings.{Shown, ShownToBoth};
+ghost use Rattle.seize_seats.specs.Lendings.{Shown, ShownToAll};
 ghost use Rattle.seize_atoms.specs.Visiting.{HoldsHere};
 ghost use Rattle.seize_words.specs.declared.at.At.TheVariants.{Slot, Word};
 ghost use Rattle.seize_plots.specs.Pieces.{lies};
@@ -100,7 +100,7 @@ impl<T, R: Rule<T>> Blocks<T, R> {
                 self.slot_place(seat, slot, field)
             }
             At::Entry(block, word) if word < 4 => {
-                let spot = self.spot_of(seat, seat, block);
+                let spot = self.spot_of(seat, seat, seat, block);
                 let words = words_in(&spot.strip);
                 let address = words.at;
                 Reached {
@@ -141,7 +141,7 @@ impl<T, R: Rule<T>> Blocks<T, R> {
             result.strip.words result.strip.id (Word block own) result.address result.place }
     {
         self.words.visit(seat, block);
-        let spot = self.spot_of(seat, seat, block);
+        let spot = self.spot_of(seat, seat, seat, block);
         let beside = self.beside(seat, &spot, block);
         if beside.count > 0 && own < 1152921504606846976 {
             let address = beside.at;
@@ -164,10 +164,10 @@ impl<T, R: Rule<T>> Blocks<T, R> {
     pub(crate) fn beside(&self, seat: &Seat<T, R>, spot: &Spot<T>, block: u64) -> Beside
         requires own { seat.now.base ≡ self.now.words.id.views_name }
         requires shown { Shown (R.holds self.now.words.fixed) seat.now.id seat.now.view block }
-        requires visits { (s : Ptr × ℕ) × (seat.now.visit ≡ Some (block, s)) }
+        requires visits { (s : Ptr × ℕ) × (seat.now.visit.spot ≡ Some (block, s)) }
         requires strip { (core_of spot.now.strip.id ≡ core_of self.now.words.id) × InBlock spot.now.strip.words
             × (spot.now.values ≡ spot.now.strip.id.values) × IsItsIndex spot.now.strip.id block spot.now.index }
-        ensures { seat.now.visit ≡ Some (block, (result.at, result.count)) }
+        ensures { seat.now.visit.spot ≡ Some (block, (result.at, result.count)) }
     {
         let values = spot.values;
         match self
@@ -209,11 +209,18 @@ impl<T, R: Rule<T>> Blocks<T, R> {
         unreachable!()
     }
 
-    /// Where a block is: in which strip, its index there, and where the first of its words lies. The views of two seats show the block.
+    /// Where a block is: in which strip, its index there, and where the first of its words lies. The views of three seats show the block.
     #[inline(always)]
-    pub(crate) fn spot_of(&self, guard: &Seat<T, R>, owner: &Seat<T, R>, block: u64) -> Spot<T>
-        requires own { (guard.now.base ≡ self.now.words.id.views_name) × (owner.now.base ≡ self.now.words.id.views_name) }
-        requires shown { ShownToBoth (R.holds self.now.words.fixed) guard.now.id guard.now.view owner.now.id owner.now.view block }
+    pub(crate) fn spot_of(
+        &self,
+        pass: &Seat<T, R>,
+        guard: &Seat<T, R>,
+        owner: &Seat<T, R>,
+        block: u64,
+    ) -> Spot<T>
+        requires own { (pass.now.base ≡ self.now.words.id.views_name) × (guard.now.base ≡ self.now.words.id.views_name)
+            × (owner.now.base ≡ self.now.words.id.views_name) }
+        requires shown { ShownToAll (R.holds self.now.words.fixed) pass.now.id pass.now.view guard.now.id guard.now.view owner.now.id owner.now.view block }
         ensures strip { (core_of result.strip.id ≡ core_of self.now.words.id) × InBlock result.strip.words × (result.values ≡ result.strip.id.values) }
         ensures index { IsItsIndex result.strip.id block result.index × (result.index < 2 ^ 32) }
         ensures words { (result.first ≡ result.index * 5 + result.strip.id.skip) × (result.first + 4 < 2 ^ 60) }
@@ -231,20 +238,29 @@ impl<T, R: Rule<T>> Blocks<T, R> {
                 first: self.first_of(index),
             };
         }
-        self.far_spot_of(guard, owner, block)
+        self.far_spot_of(pass, guard, owner, block)
     }
 
     /// The same, of a block whose number lies behind a door.
-    fn far_spot_of(&self, guard: &Seat<T, R>, owner: &Seat<T, R>, block: u64) -> Spot<T>
+    fn far_spot_of(
+        &self,
+        pass: &Seat<T, R>,
+        guard: &Seat<T, R>,
+        owner: &Seat<T, R>,
+        block: u64,
+    ) -> Spot<T>
         requires far { (self.now.words.id.least < block) × (block ≤ 2 ^ 32) }
-        requires own { (guard.now.base ≡ self.now.words.id.views_name) × (owner.now.base ≡ self.now.words.id.views_name) }
-        requires shown { ShownToBoth (R.holds self.now.words.fixed) guard.now.id guard.now.view owner.now.id owner.now.view block }
+        requires own { (pass.now.base ≡ self.now.words.id.views_name) × (guard.now.base ≡ self.now.words.id.views_name)
+            × (owner.now.base ≡ self.now.words.id.views_name) }
+        requires shown { ShownToAll (R.holds self.now.words.fixed) pass.now.id pass.now.view guard.now.id guard.now.view owner.now.id owner.now.view block }
         ensures strip { (core_of result.strip.id ≡ core_of self.now.words.id) × InBlock result.strip.words × (result.values ≡ result.strip.id.values) }
         ensures index { IsItsIndex result.strip.id block result.index × (result.index < 2 ^ 32) }
         ensures words { (result.first ≡ result.index * 5 + result.strip.id.skip) × (result.first + 4 < 2 ^ 60) }
     {
         let (door, first) = self.door_of(block - 1);
-        let strip = self.words.find(guard, owner, block, self.doors.at, door);
+        let strip = self
+            .words
+            .find(pass, guard, owner, block, self.doors.at, door);
         let place = places_in(&strip);
         let values = place.at;
         let skip = skip_of::<Kept<T>>(first as usize) as u64;

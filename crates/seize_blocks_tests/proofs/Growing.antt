@@ -5,9 +5,9 @@ use Rattle.std.proofs.lemmas.Bool.{cases_lt}
 use Rattle.seize_words.specs.Mem.{Mem, Took, word_at}
 use Rattle.seize_words.specs.Op.{Out, Load, Exchange, Found, Stored, Exchanged, Made, Taken, Roomed}
 use Rattle.seize_words.specs.declared.at.At.TheVariants.{Root}
-use Rattle.seize_seats.specs.State.{State, Goes, Allows, Comes, Starts, Meets}
+use Rattle.seize_seats.specs.State.{State, Goes, Allows, Learns, Comes, Starts, Meets}
 use Rattle.seize_seats.specs.State as State
-use Rattle.seize_blocks_tests.specs.Grown.{HasGrown, grows, greater}
+use Rattle.seize_blocks_tests.specs.Grown.{HasGrown, grows, no_less, greater}
 
 -- nothing is kept
 abbrev pub NoneKept : ℕ → ℕ → Unit {0} → ℕ → Type 0
@@ -96,6 +96,13 @@ meets i v j u s has at there ne = by (cases_lt v u)
         × greater v u v' u'
     by (inl lt) = (u, u, both u (has.reached j u there), (refl, omega (arith, lt), omega arith))
     by (inr le) = (v, v, both v (has.reached i v at), (refl, omega arith, le))
+
+pub learns : (i v j u : ℕ) → Learns HasGrown NoneKept i v j u (no_less v u)
+learns i v j u s has at there ne = by (cases_lt v u)
+  where
+    by : (v < u) ⊎ (u ≤ v) → Goes HasGrown NoneKept s s.memory i (no_less v u)
+    by (inl lt) = goes s has i s.memory (no_less v u) has.word u has.there (omega arith) (has.reached j u there) (omega (arith, lt), omega arith)
+    by (inr le) = goes s has i s.memory (no_less v u) has.word v has.there (omega arith) (has.reached i v at) (omega arith, le)
 
 pub comes : Comes HasGrown NoneKept 0
 comes s has = (

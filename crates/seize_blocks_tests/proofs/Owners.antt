@@ -6,14 +6,10 @@ use Rattle.seize_words.specs.Mem.{Mem, Took, block_of, value_in, value_at, with_
 use Rattle.seize_words.specs.Op.{Out, Make, Take, Rewrite, Found, Stored, Exchanged, Made, Taken, Roomed}
 use Rattle.seize_words.specs.declared.block.Block.{Block}
 use Rattle.seize_words.proofs.OneOwner.AfterWrites.{block_of-with_block, block_of-made}
-use Rattle.seize_seats.specs.State.{State, Goes, Allows, Owns, Comes, Renews, Starts, view_of}
+use Rattle.seize_seats.specs.State.{State, Goes, Allows, Owns, ShowsKept, AreThere, Comes, Renews, Starts, view_of}
 use Rattle.seize_seats.specs.State as State
 use Rattle.seize_seats.specs.Lendings.{Shown, ShownToBoth, IsValueOf}
-use Rattle.seize_blocks_tests.specs.Theirs.{Own, AreTheirs, tells}
-
--- nothing is kept for another
-abbrev pub NoneLent : Own → Own → Unit {0} → ℕ → Type 0
-NoneLent u o w b = ⊥
+use Rattle.seize_blocks_tests.specs.Theirs.{Own, has as has_block, keeps_own, AreTheirs, tells}
 
 module _ {A : Type 0} where
   set_here : (l : List A) (i : ℕ) (x y : A) → slice_get l i ≡ Some x → slice_get (slice_set l i y) i ≡ Some y
@@ -108,10 +104,10 @@ value_there m n x e = by (block_of m n) refl e
     by None is e = absurd (cc e)
     by (Some b) is e = (b, is)
 
-pub makes : (id x words : ℕ) (v : Own) → Allows AreTheirs NoneLent id v (Make x words) (tells v (Make x words))
+pub makes : (id x words : ℕ) (v : Own) → Allows AreTheirs keeps_own id v (Make x words) (tells v (Make x words))
 makes id x words v s has at = (tt, λ out m took. told out m took)
   where
-    told : (out : Out ℕ) (m : Mem ℕ) → Took s.memory (Make x words) out m → Goes AreTheirs NoneLent s m id (tells v (Make x words) out)
+    told : (out : Out ℕ) (m : Mem ℕ) → Took s.memory (Make x words) out m → Goes AreTheirs keeps_own s m id (tells v (Make x words) out)
     told (Made (Ok b)) m took = (Some (b, x), tt, gets s has id v at m b x here others, (λ j k c u o p q r w kept. kept), refl)
       where
         free : IsFreeNumber s.memory b
@@ -136,13 +132,13 @@ makes id x words v s has at = (tt, λ out m took. told out m took)
     told (Taken r) m took = absurd took.0
     told (Roomed r) m took = absurd took.0
 
-pub takes : (id n x : ℕ) (v : Own) → v ≡ Some (n, x) → Allows AreTheirs NoneLent id v (Take n) (tells v (Take n))
+pub takes : (id n x : ℕ) (v : Own) → v ≡ Some (n, x) → Allows AreTheirs keeps_own id v (Take n) (tells v (Take n))
 takes id n x v is s has at = (subst IsSome (sym there) refl, λ out m took. told out m took)
   where
     there : value_at s.memory n ≡ Some x
     there = has.there id n x (at ∙ ap Some is)
 
-    told : (out : Out ℕ) (m : Mem ℕ) → Took s.memory (Take n) out m → Goes AreTheirs NoneLent s m id (tells v (Take n) out)
+    told : (out : Out ℕ) (m : Mem ℕ) → Took s.memory (Take n) out m → Goes AreTheirs keeps_own s m id (tells v (Take n) out)
     told (Taken y) m took = (None, tt, gives_up s has id v at m others, (λ j k c u o p q r w kept. kept), (refl, value))
       where
         same : y ≡ x
@@ -163,16 +159,16 @@ takes id n x v is s has at = (subst IsSome (sym there) refl, λ out m took. told
     told (Roomed r) m took = absurd took.0
 
 -- who has a block has it to itself
-pub owns : (id n x : ℕ) (v : Own) → v ≡ Some (n, x) → Owns AreTheirs NoneLent id v n
+pub owns : (id n x : ℕ) (v : Own) → v ≡ Some (n, x) → Owns AreTheirs keeps_own id v n
 owns id n x v is s has at = let a = takes id n x v is s has at in (a.0, λ out m took. let g = a.1 out m took in (g.0, g.1, g.2, g.3, tt))
 
-pub rewrites : (id n x y : ℕ) (v : Own) → v ≡ Some (n, x) → Allows AreTheirs NoneLent id v (Rewrite n y) (tells v (Rewrite n y))
+pub rewrites : (id n x y : ℕ) (v : Own) → v ≡ Some (n, x) → Allows AreTheirs keeps_own id v (Rewrite n y) (tells v (Rewrite n y))
 rewrites id n x y v is s has at = (subst IsSome (sym there) refl, λ out m took. told out m took)
   where
     there : value_at s.memory n ≡ Some x
     there = has.there id n x (at ∙ ap Some is)
 
-    told : (out : Out ℕ) (m : Mem ℕ) → Took s.memory (Rewrite n y) out m → Goes AreTheirs NoneLent s m id (tells v (Rewrite n y) out)
+    told : (out : Out ℕ) (m : Mem ℕ) → Took s.memory (Rewrite n y) out m → Goes AreTheirs keeps_own s m id (tells v (Rewrite n y) out)
     told (Taken z) m took = (Some (n, y), tt, changes s has id v at m n x y is here others, (λ j k c u o p q r w kept. kept), (refl, value))
       where
         b : (b : Block ℕ) × (block_of s.memory n ≡ Some b)
@@ -208,6 +204,14 @@ shows id n x v is s has at = subst IsSome (sym (has.there id n x (at ∙ ap Some
 pub shows_to_both : (i : ℕ) (w : Own) (id n x : ℕ) (v : Own) → v ≡ Some (n, x) → ShownToBoth AreTheirs i w id v n
 shows_to_both i w id n x v is s has _ at = shows id n x v is s has at
 
+pub shows_kept : (i : ℕ) (w : Own) (j : ℕ) (u : Own) (id n x : ℕ) (v : Own) → v ≡ Some (n, x) → ShowsKept AreTheirs keeps_own i w j u id v n
+shows_kept i w j u id n x v e s so at_i at_j at = subst (λ (o : Own). has_block o n) (sym e) refl
+
+pub are_there : AreThere AreTheirs keeps_own
+are_there s j u k None b so at_j at kept = absurd kept
+are_there s j u k (Some x) b so at_j at kept =
+    let there = so.there k x.0 x.1 at in subst (λ (n : ℕ). IsSome (value_at s.memory n)) kept (subst (λ (y : Option ℕ). IsSome y) (sym there) refl)
+
 pub is_its : (id n x : ℕ) (v : Own) (y : ℕ) → v ≡ Some (n, x) → IsValueOf AreTheirs id v n y → y ≡ x
 is_its id n x v y is of = let there = of.1.there id n x (of.2 ∙ ap Some is) in let found = of.3 in cc (there, found)
 
@@ -219,7 +223,7 @@ taken_is n x y v w is told = (subst (λ (u : Own). tells u (Take n) (Taken y) w)
 abbrev one : ℕ → ℕ → Own
 one n x = Some (n, x)
 
-pub comes : Comes AreTheirs NoneLent None
+pub comes : Comes AreTheirs keeps_own None
 comes s has = (
   tt,
   record {

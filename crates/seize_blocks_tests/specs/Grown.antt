@@ -17,6 +17,10 @@ grows v (Exchange at old new) (Exchanged (Ok w)) u = u ≡ new
 grows v (Exchange at old new) (Exchanged (Err w)) u = u ≡ w
 grows v op out u = u ≡ v
 
+-- one that has learnt from another one knows no less than each of them knew
+abbrev pub no_less : ℕ → ℕ → ℕ → Type 0
+no_less v u w = (v ≤ w) × (u ≤ w)
+
 -- two that have met know the same, and no less than each of them knew
 abbrev pub greater : ℕ → ℕ → ℕ → ℕ → Type 0
 greater v u v' u' = (v' ≡ u') × (v ≤ v') × (u ≤ v')

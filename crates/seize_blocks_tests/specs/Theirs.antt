@@ -8,6 +8,14 @@ use Rattle.seize_seats.specs.State.{State, view_of}
 abbrev pub Own : Type 0
 Own = Option (ℕ × ℕ)
 
+abbrev pub has : Own → ℕ → Type 0
+has None b = ⊥
+has (Some x) b = x.0 ≡ b
+
+-- what a seat has is kept, for whomever
+abbrev pub keeps_own : Own → Own → Unit {0} → ℕ → Type 0
+keeps_own u o w b = has o b
+
 pub record AreTheirs (s : State ℕ Own (Unit {0})) : Type 0 where
   pub there : (j n x : ℕ) → view_of s j ≡ Some (Some (n, x)) → value_at s.memory n ≡ Some x
   pub apart : (j k n x y : ℕ) → view_of s j ≡ Some (Some (n, x)) → view_of s k ≡ Some (Some (n, y)) → j ≡ k

@@ -1,8 +1,8 @@
-//! Two seats meet while another thread raises a word: what the one has found the other knows to be reached.
+//! Two seats meet, and one learns from another, while another thread raises a word: what the one has found the other knows to be reached.
 ghost use Rattle.std.specs.Prelude.{◌≡◌, true};
-ghost use Rattle.seize_blocks_tests.specs.Grown.{HasGrown, grows, greater};
+ghost use Rattle.seize_blocks_tests.specs.Grown.{HasGrown, grows, no_less, greater};
 
-use seize_blocks::{Blocks, Home, Meeting, Rule};
+use seize_blocks::{Blocks, Home, Lesson, Meeting, Rule};
 use seize_words::At;
 use std::test::Fail;
 use std::thread;
@@ -39,6 +39,13 @@ impl Meeting<(), u64> for Greater {
     ghost to = { λ _. greater };
 }
 
+/// It knows no less than the other one, from then on.
+struct NoLess;
+
+impl Lesson<(), u64> for NoLess {
+    ghost to = { λ _. no_less };
+}
+
 /// Raises the word by 1 so often, and answers how often no other thread was faster.
 fn raises(blocks: &Blocks<u64, Growing>, times: u64) -> u64 {
     let mut seat = blocks.seat();
@@ -68,10 +75,24 @@ fn finds_no_less(blocks: &Blocks<u64, Growing>) -> bool
     found <= after
 }
 
+/// The one seat finds a word, lets the other one know it, and stays as it is; the other one finds no less.
+fn learns_no_less(blocks: &Blocks<u64, Growing>) -> bool
+    ensures { result ≡ true }
+{
+    let mut one = blocks.seat();
+    let mut other = blocks.seat();
+    let found = blocks.load(&mut one, At::Root(0));
+    blocks.learn::<NoLess>(&mut other, &one);
+    let after = blocks.load(&mut other, At::Root(0));
+    found <= after
+}
+
 /// So often.
 fn all_find_no_less(blocks: &Blocks<u64, Growing>, times: u64) -> bool {
     for _ in 0..times {
-        if !finds_no_less(blocks) {
+        let met = finds_no_less(blocks);
+        let learnt = learns_no_less(blocks);
+        if !met || !learnt {
             return false;
         }
     }

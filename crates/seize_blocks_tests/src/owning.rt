@@ -1,6 +1,6 @@
 //! Two threads make blocks, look at their values and take them away: each finds the values that it has put in.
 ghost use Rattle.std.specs.Prelude.{◌≡◌, Option, None};
-ghost use Rattle.seize_blocks_tests.specs.Theirs.{Own, AreTheirs, tells};
+ghost use Rattle.seize_blocks_tests.specs.Theirs.{Own, keeps_own, AreTheirs, tells};
 
 use seize_blocks::{Blocks, Home, Rule};
 use std::test::Fail;
@@ -18,7 +18,7 @@ impl Rule<u64> for OneEach {
 
     ghost holds = { λ _. AreTheirs };
 
-    ghost keeps = { λ _ _ _ _. ⊥ };
+    ghost keeps = { keeps_own };
 
     ghost then = { tells };
 

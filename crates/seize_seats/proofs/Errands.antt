@@ -7,8 +7,8 @@ use Rattle.std.proofs.lemmas.List.{map-set, map-append}
 use Rattle.std.proofs.lemmas.Option.{slice_get-map}
 use base.Fraction.{full_share}
 use Rattle.seize_words.specs.Mem.{Mem}
-use Rattle.seize_words.specs.Op.{Op, Out}
-use Rattle.seize_seats.specs.State.{State, view_of, Goes, Allows, Owns, Turns, Starts, Comes, Meets}
+use Rattle.seize_words.specs.Op.{Op, Out, Take}
+use Rattle.seize_seats.specs.State.{State, view_of, Goes, Allows, Turns, Learns, Starts, Comes, Meets}
 use Rattle.seize_seats.specs.State as State
 use Rattle.seize_seats.specs.Lendings.{Shown, ShownToBoth, IsValueOf, IsValueOfBoth}
 use Rattle.seize_seats.specs.Errands.{Away, inward, AreResting, HoldsAway, AreIdle, AreAllBack, RenewsBack, RenewsIdle, RenewsTo, RenewsFrom, keeps_away, then_away, MayGo, MayGoAll, MayMeet}
@@ -89,15 +89,16 @@ module _ {T V W : Type 0} (rests : V → Type 0) (holds : State T V W → Type 0
       (a.0, λ out n took. goes_away s n id v e (so out) h at (may out) (a.1 out n took))
 
   -- a seat may take a block away, whatever errand it is on
-  pub owned_away : (id : ℕ) (v : V) (e : Away) (b : ℕ) → Owns holds keeps id v b → Owns Hold Keep id (v, e) b
-  owned_away id v e b owns s h at = let a = owns (inward s) h.0 (inward_view s id (v, e) at) in (
+  pub owned_away : (id : ℕ) (v : V) (e : Away) (b : ℕ) (so : Out T → V → Type 0) → Allows holds keeps id v (Take b) so
+      → Allows Hold Keep id (v, e) (Take b) (λ out u. so out u.0)
+  owned_away id v e b so owns s h at = let a = owns (inward s) h.0 (inward_view s id (v, e) at) in (
     a.0,
     λ out n took. (let g = a.1 out n took in (
       (g.0, Some full_share),
       g.1,
       (subst holds (sym (inward_after s n id (g.0, Some full_share) g.1)) g.2, resting n g.0 g.1),
       others_kept s id g.1 g.3,
-      tt,
+      g.4,
     )),
   )
     where
@@ -114,6 +115,11 @@ module _ {T V W : Type 0} (rests : V → Type 0) (holds : State T V W → Type 0
   pub turn_away : (id : ℕ) (v : V) (e : Away) (so : V → Type 0) → MayGo rests e v so → Turns holds keeps id v so
       → Turns Hold Keep id (v, e) (λ u. so u.0 × (u.1 ≡ e))
   turn_away id v e so may turns s h at = goes_away s s.memory id v e so h at may (turns (inward s) h.0 (inward_view s id (v, e) at))
+
+  pub learn_away : (i : ℕ) (v : V) (e : Away) (j : ℕ) (u : V) (f : Away) (so : V → Type 0) → MayGo rests e v so → Learns holds keeps i v j u so
+      → Learns Hold Keep i (v, e) j (u, f) (λ w. so w.0 × (w.1 ≡ e))
+  learn_away i v e j u f so may learns s h at_i at_j ne =
+      goes_away s s.memory i v e so h at_i may (learns (inward s) h.0 (inward_view s i (v, e) at_i) (inward_view s j (u, f) at_j) ne)
 
   pub comes_away : (v : V) → rests v → Comes holds keeps v → Comes Hold Keep (v, None)
   comes_away v rest comes s h = let c = comes (inward s) h.0 in

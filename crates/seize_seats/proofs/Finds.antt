@@ -20,7 +20,7 @@ use Rattle.seize_seats.specs.Lines.{memory_of, AreLaid}
 use Rattle.seize_seats.specs.Strips.{Strip, strip_coded, no_strip, further, AreStrips}
 use Rattle.seize_seats.specs.Doors.{IsFurther, right_to, stays, behind, door}
 use Rattle.seize_seats.specs.Stretches.{IsEven}
-use Rattle.seize_seats.specs.Lendings.{ShownToBoth}
+use Rattle.seize_seats.specs.Lendings.{ShownToAll}
 use Rattle.seize_seats.specs.Owned.{Pieces, ground, ledger, sitting, unborn, hand_coded, resting, strips, doors_of, BaseId, Inside, age, core_of, book_of, strip_of, is_listed, state_of, lent_here, had_here, everything, told}
 use Rattle.seize_seats.proofs.Stretches as Stretches
 use Rattle.seize_seats.proofs.Ledgers as Ledgers
@@ -107,11 +107,11 @@ module _ {M : Type 1} {𝓤 : Ura M} (𝓛 : Logic 𝓤) (R : RattleType) (own :
   abbrev Sound : In → Type 0
   Sound t = holds record { memory = memory_of z.roots t.parts; views = t.views; world = t.world } × AreLaid z.roots z.count t.parts
 
-  -- These are the words of the first strip. The views of two seats show the block, whose index is none of those that come before the strip of the j-th door.
-  module _ (first : z.place ≡ 0) (whole : z.size ≡ z.least) (q : Share) (j e : ℕ) (few : j < 32) (at : e ≡ j * 8 + o) (i : ℕ) (v : V) (k : ℕ) (u : V) (n : ℕ)
-      (shown : ShownToBoth holds i v k u n) (low : z.least * 2 ^ j ≤ n - 1) (f f' : Share) where
+  -- These are the words of the first strip. The views of three seats show the block, whose index is none of those that come before the strip of the j-th door.
+  module _ (first : z.place ≡ 0) (whole : z.size ≡ z.least) (q : Share) (j e : ℕ) (few : j < 32) (at : e ≡ j * 8 + o) (h : ℕ) (d : V) (i : ℕ) (v : V) (k : ℕ) (u : V) (n : ℕ)
+      (shown : ShownToAll holds h d i v k u n) (low : z.least * 2 ^ j ≤ n - 1) (r f f' : Share) where
     abbrev pub Sn : Fml
-    Sn = Hands.two 𝓛 R own cv holds p z i v k u f f'
+    Sn = Hands.three 𝓛 R own cv holds p z i v k u h d r f f'
 
     abbrev glimpse : Ptr → Fml
     glimpse = Looks.glimpse 𝓛 R own cv holds p z q j e few at
@@ -170,13 +170,13 @@ module _ {M : Type 1} {𝓤 : Ura M} (𝓛 : Logic 𝓤) (R : RattleType) (own :
     found : ⟦ E ⟧ ∗ ⟦ is_listed p z ⟧ ∗ ⟦ Sn ⟧ ⊢ ex 𝓤 F
     found = qed 𝓛 (‵ E ∷ ‵ (is_listed p z) ∷ ‵ Sn ∷ []) ∵ fpick ! (λ t. fsplit3 ! $ move ! (2 ∷ []) $ fpick ! (λ sound. drop ! $
         -- [the memory; the views; it is listed; the seats' views]
-        move ! (1 ∷ 3 ∷ []) $ use2 𝓛 (given (Hands.Sit 𝓛 R own cv holds p z i v k u t) (‵ (Views t) ⊛ ‵ Sn)) (Hands.two_show 𝓛 R own cv holds p z i v k u f f' t) $
+        move ! (1 ∷ 3 ∷ []) $ use2 𝓛 (given (Hands.AreAll 𝓛 R own cv holds p z i v k u h d t) (‵ (Views t) ⊛ ‵ Sn)) (Hands.three_show 𝓛 R own cv holds p z i v k u h d r f f' t) $
         learn ! (λ sit. split ! $ move ! (2 ∷ []) $ fsplit ! $ move ! (1 ∷ []) $ fpick ! (λ ss. fsplit3 ! $ move ! (1 ∷ []) $ fpick ! (λ are. drop ! $ fsplit ! $ fsplit ! $
         -- [the list; the hands; the doors; the strips; the words; the views; the seats' views; it is listed]
         move ! (7 ∷ []) $ fsplit ! $ move ! (1 ∷ []) $ drop ! $ fpick ! (λ r. move ! (1 ∷ 0 ∷ []) $
         use2 𝓛 (given (slice_get ss z.place ≡ Some (strip_of p z)) (‵ (ledger strip_coded.code σ no_strip ss) ⊛ ‵ (Sh r)))
         (Ledgers.sits 𝓛 strip_coded σ no_strip ss z.place r (strip_of p z)) $ learn ! (λ has. split ! $ move ! (1 ∷ []) $ drop ! $ fjoin ! $
-        let some : Has-cell t = has_cell t (Makings.has_block 𝓛 R own cv holds keeps p z n t sound.1 (shown (state_of z t) sound.0 sit.0 sit.1)) in
+        let some : Has-cell t = has_cell t (Makings.has_block 𝓛 R own cv holds keeps p z n t sound.1 (shown (state_of z t) sound.0 sit.0 sit.1.0 sit.1.1)) in
         -- [the list and the hands; the doors; the strips; the words; the views; the seats' views]
         by ! (cases t ss sound are.0 (subst (λ (m : ℕ). slice_get ss m ≡ Some (strip_of p z)) first has) some (Looks.at_or_not (further ss) j)))))))))
       where

@@ -29,7 +29,7 @@ use Rattle.seize_seats.specs.State.{State}
 use Rattle.seize_seats.specs.Cells.{Body, Cell, Has, block_in}
 use Rattle.seize_seats.specs.Seen.{shared_view, number_share_coded}
 use Rattle.seize_seats.specs.Stretches.{stretch_told, seat_shares}
-use Rattle.seize_seats.specs.Lendings.{Phase, Begins, Lasts, Over as Ended, part, due, in_phase, account, Holder, Lending, Loan, Left, span, ShownToBoth, AreShown, IsValueOfBoth, loan}
+use Rattle.seize_seats.specs.Lendings.{Phase, Begins, Lasts, Over as Ended, part, due, in_phase, account, Holder, Lending, Loan, Left, span, Witness, Bears, ShownBy, AreShown, IsValueSo, witnessed, loan}
 use Rattle.seize_seats.specs.Owned.{Pieces, stride, BaseId, age, IsIts, Inside, state_of, inner, words_share}
 use Rattle.seize_seats.proofs.Cells.{block_is}
 use Rattle.seize_seats.proofs.Ledgers as Ledgers
@@ -82,8 +82,9 @@ module _ {M : Type 1} {𝓤 : Ura M} (𝓛 : Logic 𝓤) where
         (𝓛.invs.inv_acc Ac (A.lft μ s))
 
   module _ (R : RattleType) (L : RowLaws (OptionOf R)) (own : Pieces R.Denot) {V W : Type 0} (cv : Sight V) (holds : State R.Denot V W → Type 0) (keeps : V → V → W → ℕ
-      → Type 0) (p : Ptr) (z : BaseId) (g o : Holder V) (n : ℕ) (shown : ShownToBoth holds g.seat g.view o.seat o.view n)
-      (mine : Makings.Mine 𝓛 R own cv holds keeps p z n) where
+      → Type 0) (p : Ptr) (z : BaseId) (g o : Holder V) (says : Witness V) (n : ℕ) (shown : ShownBy holds g.seat g.view o.seat o.view says n)
+      (mine : Makings.Mine 𝓛 R own cv holds keeps p z n) (By : Fml) (also : State R.Denot V W → Type 0) (there : (t : Inside R.Denot V W)
+      → ⟦ Makings.Led 𝓛 R own cv holds keeps p z t ⟧ ∗ ⟦ By ⟧ ⊢ guard 𝓤 (also (state_of z t)) (⟦ Makings.Led 𝓛 R own cv holds keeps p z t ⟧ ∗ ⟦ By ⟧)) where
     abbrev α : Lft
     α = age z
 
@@ -111,31 +112,47 @@ module _ {M : Type 1} {𝓤 : Ura M} (𝓛 : Logic 𝓤) where
     abbrev Sh : R.Denot → Lft → Fml
     Sh x = shared_of O (Some x) b e₀
 
-    -- shares of both views, and both stretches
+    -- shares of both views, and what shows what else is so
+    abbrev Two : Share → Share → Fml
+    Two q q' = Hands.two 𝓛 R own cv holds p z g.seat g.view o.seat o.view q q'
+
     abbrev Sn : Share → Share → Fml
-    Sn q q' = Hands.two 𝓛 R own cv holds p z g.seat g.view o.seat o.view q q'
+    Sn q q' = fsep (Two q q') By
+
+    -- both stretches, and what the witness has of its view
+    abbrev Wd : Fml
+    Wd = witnessed R α cv.code z.views_name holds says
+
+    abbrev Told_two : Fml
+    Told_two = fsep (stretch_told cv.code z.views_name g.seat g.view g.stretch g.mark) (stretch_told cv.code z.views_name o.seat o.view o.stretch o.mark)
 
     abbrev Told : Fml
-    Told = fsep (stretch_told cv.code z.views_name g.seat g.view g.stretch g.mark) (stretch_told cv.code z.views_name o.seat o.view o.stretch o.mark)
+    Told = fsep Told_two Wd
 
     abbrev Over : Lft
     Over = span α g o
 
     -- it is the block's value, and the number is one of the strip
     abbrev pub So : R.Denot → Type 0
-    So x = IsValueOfBoth holds g.seat g.view o.seat o.view n x × (0 < n) × IsIts z i
+    So x = IsValueSo holds g.seat g.view o.seat o.view also n x × (0 < n) × IsIts z i
+
+    abbrev Led : In → Fml
+    Led = Makings.Led 𝓛 R own cv holds keeps p z
+
+    abbrev AreBoth : In → Type 0
+    AreBoth = Hands.AreBoth 𝓛 R own cv holds p z g.seat g.view o.seat o.view
 
     abbrev Sit : In → Type 0
-    Sit = Hands.Sit 𝓛 R own cv holds p z g.seat g.view o.seat o.view
+    Sit t = AreBoth t × Bears t.views says × also (state_of z t)
 
     abbrev Are : Type 0
-    Are = AreShown R α cv.code z.views_name holds i g o
+    Are = AreShown R α cv.code z.views_name holds i g o says
 
     -- they are two seats, or one with one view
     two_or_one : (st : In) → Sit st → (g.seat ≡ o.seat) ⊎ (g.seat ≢ o.seat) → (g.seat ≢ o.seat) ⊎ ((g.seat ≡ o.seat) × (g.view ≡ o.view))
     two_or_one st at (inr ne) = inl ne
     two_or_one st at (inl same) =
-        let e : Some g.view ≡ Some o.view = sym at.0 ∙ ap (slice_get st.views) same ∙ at.1 in let view : g.view ≡ o.view = cc e in inr (same, view)
+        let e : Some g.view ≡ Some o.view = sym at.0.0 ∙ ap (slice_get st.views) same ∙ at.0.1 in let view : g.view ≡ o.view = cc e in inr (same, view)
 
     -- ---- THE FIRST OPENING: the block gives a part of its token
     module _ (ν : ℕ) (s t t' : Share) where
@@ -156,19 +173,23 @@ module _ {M : Type 1} {𝓤 : Ura M} (𝓛 : Logic 𝓤) where
       Gives = ⟦ I ⟧ ∗ ex 𝓤 Given
 
       abbrev lending_of : Share → Lending V
-      lending_of e = record { guard = g; owner = o; name = ν; part = e; stake = s }
+      lending_of e = record { guard = g; owner = o; witness = says; name = ν; part = e; stake = s }
 
       abbrev new_loan : Loan V → Loan V
       new_loan l = record { atom = l.atom; rest = Share.right l.rest; lendings = lending_of (Share.left l.rest) ∷ l.lendings }
 
       gives : ⟦ I ⟧ ∗ Asks ⊢ upd 𝓤 Gives
       gives = qed 𝓛 (‵ I ∷ (‵ (Sn t t') ⊛ ‵ (part ν full_share (0, s)) ⊛ ‵ (finv Acc) ⊛ ‵ Told) ∷ []) ∵ fpick ! (λ st. fsplit3 ! $ move ! (2 ∷ []) $
-          fpick ! (λ sound. drop ! $ move ! (2 ∷ []) $ split ! $ move ! (3 ∷ 0 ∷ []) $
-          -- [the views; the seat's; the others; the memory]
-          use2 𝓛 (given (Sit st) (‵ (Makings.Led 𝓛 R own cv holds keeps p z st) ⊛ ‵ (Sn t t')))
-          (Hands.two_show 𝓛 R own cv holds p z g.seat g.view o.seat o.view t t' st) $ learn ! (λ at. split ! $ move ! (2 ∷ []) $ split3 ! $ move ! (5 ∷ []) $
+          fpick ! (λ sound. drop ! $ move ! (2 ∷ []) $ split ! $ fsplit ! $ move ! (4 ∷ 0 ∷ []) $
+          -- [the views; the seat's; what else shows; the others; the memory]
+          use2 𝓛 (given (AreBoth st) (‵ (Led st) ⊛ ‵ (Two t t'))) (Hands.two_show 𝓛 R own cv holds p z g.seat g.view o.seat o.view t t' st) $ learn ! (λ at. split ! $
+          move ! (0 ∷ 2 ∷ []) $ use2 𝓛 (given (also (state_of z st)) (‵ (Led st) ⊛ ‵ By)) (there st) $ learn ! (λ too. split ! $
+          move ! (2 ∷ 1 ∷ []) $ fjoin ! $ move ! (2 ∷ []) $ split3 ! $ move ! (2 ∷ []) $ fsplit ! $
+          -- [the stretches; the witness; the part; the account; the seat's; the views; the memory]
+          move ! (5 ∷ 1 ∷ []) $ use2 𝓛 (given (Bears st.views says) (‵ (Led st) ⊛ ‵ Wd)) (Hands.bears 𝓛 R own cv holds p z says st) $ learn ! (λ bears. split ! $
+          move ! (2 ∷ 1 ∷ []) $ fjoin ! $ move ! (5 ∷ 2 ∷ 3 ∷ 0 ∷ 1 ∷ []) $
           -- [the memory; the part; the account; the stretch; the views; the seat's]
-          by ! (of_any st sound at (Makings.has_block 𝓛 R own cv holds keeps p z n st sound.1 (shown (state_of z st) sound.0 at.0 at.1))))))
+          by ! (of_any st sound (at, bears, too) (Makings.has_block 𝓛 R own cv holds keeps p z n st sound.1 (shown (state_of z st) sound.0 at.0 at.1 bears))))))))
         where
           of_cell : (st : In) (sound : Makings.Sound 𝓛 R own cv holds keeps p z st) → Sit st → Makings.HasBlock 𝓛 R own cv holds keeps p z n st
               → ⟦ Moves.Ws 𝓛 R own cv holds keeps p z st.parts ⟧ ∗ ⟦ part ν full_share (0, s) ⟧ ∗ ⟦ finv Acc ⟧ ∗ ⟦ Told ⟧ ∗
@@ -177,10 +198,10 @@ module _ {M : Type 1} {𝓤 : Ura M} (𝓛 : Logic 𝓤) where
               let y : Body R.Denot = th.0 in let x : R.Denot = y.0 in let ws : List ℕ = th.1 in let c : Cell R.Denot = Has y ws in let cs : List (Cell R.Denot) = st.parts.cells in
               let low = th.3 in let of = Makings.is_mine 𝓛 R own cv holds keeps p z n st c mine sound.1 th.2 (λ e. absurd (cc e)) low in
               let is = ap value_in (block_is z.roots z.count st.parts sound.1 n low ∙ ap block_in th.2) in
-              let so : So x = ((state_of z st, sound.0, at.0, at.1, is), low, of) in
+              let so : So x = ((state_of z st, sound.0, at.0.0, at.0.1, at.2, is), low, of) in
               let one : suc i ≡ n = omega (arith, low) in
               let shows : Are = (
-                subst (λ (k : ℕ). ShownToBoth holds g.seat g.view o.seat o.view k)
+                subst (λ (k : ℕ). ShownBy holds g.seat g.view o.seat o.view says k)
                     (sym one) shown,
                 two_or_one st at (cases_eq g.seat o.seat),
               ) in
@@ -222,11 +243,14 @@ module _ {M : Type 1} {𝓤 : Ura M} (𝓛 : Logic 𝓤) where
               → ⟦ Moves.Ws 𝓛 R own cv holds keeps p z st.parts ⟧ ∗ ⟦ part ν full_share (0, s) ⟧ ∗ ⟦ finv Acc ⟧ ∗ ⟦ Told ⟧ ∗
               ⟦ Makings.Led 𝓛 R own cv holds keeps p z st ⟧ ∗ ⟦ Sn t t' ⟧ ⊢ upd 𝓤 Gives
           of_any st sound at (inl th) = of_cell st sound at th
-          of_any st sound at (inr h) = qed 𝓛 (‵ (Moves.Ws 𝓛 R own cv holds keeps p z st.parts) ∷ ‵ (part ν full_share (0, s)) ∷ ‵ (finv Acc) ∷ ‵ Told ∷
-              ‵ (Makings.Led 𝓛 R own cv holds keeps p z st) ∷ ‵ (Sn t t') ∷ []) ∵ keep ! (0 ∷ 4 ∷ 5 ∷ []) $
-              by ! (Makings.held_away 𝓛 R own cv holds keeps p z n st mine sound h g.seat g.view o.seat o.view (Sn t t')
-              (Hands.two_show 𝓛 R own cv holds p z g.seat g.view o.seat o.view t t')
-              (Hands.two_crowd 𝓛 R own cv holds p z g.seat g.view o.seat o.view t t') (upd 𝓤 Gives) shown)
+          of_any st sound at (inr h) = let S : Fml = fsep (Two t t') Wd in qed 𝓛 (‵ (Moves.Ws 𝓛 R own cv holds keeps p z st.parts) ∷ ‵ (part ν full_share (0, s)) ∷
+              ‵ (finv Acc) ∷ ‵ Told ∷ ‵ (Led st) ∷ ‵ (Sn t t') ∷ []) ∵ move ! (3 ∷ []) $ fsplit ! $ move ! (6 ∷ []) $ fsplit ! $
+              -- [the seat's; what else shows; the stretches; the witness; the memory; the part; the account; the views]
+              move ! (0 ∷ 3 ∷ []) $ fjoin ! $ keep ! (3 ∷ 6 ∷ 0 ∷ []) $
+              by ! (Makings.held_away 𝓛 R own cv holds keeps p z n st mine sound h g.seat g.view o.seat o.view says S
+              (Hands.shows_with 𝓛 R own cv holds p z g.seat g.view o.seat o.view says (Two t t') (Hands.two_show 𝓛 R own cv holds p z g.seat g.view o.seat o.view t t'))
+              (Hands.crowds_with 𝓛 R own cv holds p z g.seat g.view o.seat o.view says (Two t t') (Hands.two_crowd 𝓛 R own cv holds p z g.seat g.view o.seat o.view t t'))
+              (upd 𝓤 Gives) shown)
 
     -- ---- what is shared for the value's lifetime is shared for as long as both are borrowed
     module _ (κ : Lft) where
@@ -261,11 +285,12 @@ module _ {M : Type 1} {𝓤 : Ura M} (𝓛 : Logic 𝓤) where
       shares_of h = seat_shares cv.code z.views_name h.seat h.view h.stretch h.mark κ
 
       -- THE VALUE IS LENT
-      pub lent_to : (q : Share) → ⟦ words_share R own cv holds p z κ ⟧ ∗ ⟦ shares_of g ⟧ ∗ ⟦ shares_of o ⟧ ∗ A.lft κ q ⊢ H.⇛ (ex 𝓤 Lent ∗ A.lft κ q)
+      pub lent_to : (q : Share) → ⟦ words_share R own cv holds p z κ ⟧ ∗ ⟦ shares_of g ⟧ ∗ ⟦ shares_of o ⟧ ∗ A.lft κ q ∗ ⟦ fsep By Wd ⟧
+          ⊢ H.⇛ (ex 𝓤 Lent ∗ A.lft κ q ∗ ⟦ By ⟧)
       lent_to q = let q₁ : Share = Share.left q in let q₂ : Share = Share.right q in let q₃ : Share = Share.left q₂ in let q₄ : Share = Share.right q₂ in
           let q₅ : Share = Share.left q₄ in let q₆ : Share = Share.right q₄ in let q₇ : Share = Share.left q₆ in let q₈ : Share = Share.right q₆ in
           let σ : Lft = g.stretch ∷ [] in let ρ : Lft = o.stretch ∷ [] in
-          qed 𝓛 (‵ (words_share R own cv holds p z κ) ∷ ‵ (shares_of g) ∷ ‵ (shares_of o) ∷ ‵ (flft κ q) ∷ []) ∵ updating ! $ fsplit ! $
+          qed 𝓛 (‵ (words_share R own cv holds p z κ) ∷ ‵ (shares_of g) ∷ ‵ (shares_of o) ∷ ‵ (flft κ q) ∷ ‵ (fsep By Wd) ∷ []) ∵ updating ! $ fsplit ! $
           shr_bor_dup ! $ move ! (2 ∷ []) $ fsplit ! $ fpick ! (λ placed. drop ! $ move ! (3 ∷ []) $ fsplit3 ! $ shr_bor_dup ! $
           move ! (7 ∷ []) $ fsplit3 ! $ shr_bor_dup ! $
           -- [ρ, twice; its view; its stretch; σ, twice; its view; its stretch; the invariant; α, twice; the token]
@@ -295,7 +320,8 @@ module _ {M : Type 1} {𝓤 : Ura M} (𝓛 : Logic 𝓤) where
           use1 𝓛 (later (‵ (finv Ac))) (𝓛.invs.inv_new Ac) $ await ! tt $ use1 𝓛 (‵ (finv Ac) ⊛ ‵ (finv Ac)) (𝓛.invs.inv_dup Ac) $ split ! $
           -- [the account, twice; the part; the two ways back; α's token; ρ's view is open; the view; σ's view is open; the view; ρ is open; σ is open; α is
           -- open; ρ; its stretch; σ; its stretch; the invariant; α]
-          move ! (9 ∷ 7 ∷ []) $ fjoin ! $ move ! (15 ∷ 13 ∷ []) $ fjoin ! $ move ! (1 ∷ 4 ∷ 2 ∷ 0 ∷ []) $ group ! 4 $ move ! (12 ∷ 4 ∷ 0 ∷ []) $
+          move ! (9 ∷ 7 ∷ []) $ fjoin ! $ move ! (15 ∷ 13 ∷ []) $ fjoin ! $ move ! (17 ∷ []) $ fsplit ! $ move ! (2 ∷ 1 ∷ []) $ fjoin ! $
+          move ! (2 ∷ 1 ∷ []) $ fjoin ! $ move ! (1 ∷ 0 ∷ []) $ move ! (1 ∷ 4 ∷ 2 ∷ 0 ∷ []) $ group ! 4 $ move ! (12 ∷ 4 ∷ 0 ∷ []) $
           use3 𝓛 (later (items (given_item ν c t t') ⊛ ‵ (flft α r₁))) (Moves.reach 𝓛 R own cv holds keeps p z r₁ (Asks ν c t t') (ex 𝓤 (Given ν c t t'))
           (gives ν c t t')) $
           await ! tt $ split ! $ pick ! (λ u. learn ! (λ so. let x : R.Denot = u.0 in let a : ℕ = u.1 in let e : Share = u.2 in split3 ! $ move ! (2 ∷ []) $
@@ -309,7 +335,7 @@ module _ {M : Type 1} {𝓤 : Ura M} (𝓛 : Logic 𝓤) where
           -- [ρ's token; α's other part; σ's token; the borrow; the views; it is shared; α's token; ρ's view is open; σ's; ρ is open; σ; α; ρ; σ; α]
           move ! (9 ∷ 0 ∷ []) $ obor_close ! tt $ drop ! $ move ! (9 ∷ 2 ∷ []) $ obor_close ! tt $ drop ! $
           -- [q₈; q₅; α's other part; the borrow; the views; it is shared; α's token; ρ's view is open; σ's; α; ρ; σ; α]
-          move ! (4 ∷ []) $ fsplit ! $ move ! (9 ∷ 0 ∷ []) $ obor_close ! tt $ drop ! $ move ! (8 ∷ 1 ∷ []) $ obor_close ! tt $ drop ! $
+          move ! (4 ∷ []) $ fsplit ! $ move ! (0 ∷ 2 ∷ 3 ∷ 4 ∷ 5 ∷ 6 ∷ 7 ∷ 8 ∷ 9 ∷ 10 ∷ 11 ∷ 12 ∷ 13 ∷ []) $ fsplit ! $ move ! (9 ∷ 0 ∷ []) $ obor_close ! tt $ drop ! $ move ! (8 ∷ 1 ∷ []) $ obor_close ! tt $ drop ! $
           -- [q₁; q₃; q₈; q₅; α's other part; the borrow; it is shared; α's token; α is open; ρ; σ; α]
           move ! (7 ∷ 4 ∷ []) $ use2 𝓛 (‵ (flft α r)) (𝓛.lfts.lft_join α r) $ move ! (7 ∷ 0 ∷ []) $ obor_close ! tt $ drop ! $
           -- [q₇; q₁; q₃; q₈; q₅; the borrow; it is shared; ρ; σ; α]

@@ -21,6 +21,7 @@ pub mod SlotWords
 pub mod Regains
 pub mod Rewrites
 pub mod Lends
+pub mod Testifying
 pub mod Steps
 pub mod Opening
 pub mod Joining
@@ -30,6 +31,7 @@ pub mod Looks
 pub mod Offers
 pub mod Finds
 pub mod Meetings
+pub mod Lessons
 pub mod Inside
 pub mod Outings
 pub mod Renewal

@@ -19,7 +19,7 @@ use Rattle.seize_words.specs.Op.{Make, Take, Made, Taken}
 use Rattle.seize_words.specs.Op as Op
 use Rattle.seize_words.specs.declared.block.Block.{Block}
 use Rattle.seize_seats.specs.State.{State, Goes, Allows}
-use Rattle.seize_seats.specs.Lendings.{ShownToBoth}
+use Rattle.seize_seats.specs.Lendings.{Witness, ShownBy}
 use Rattle.seize_seats.specs.Cells.{Body, Cell, Free, Claimed, Out, Has, Held, block_in, blocks_in, cell_at, sign_of}
 use Rattle.seize_seats.specs.Lines.{Parts, memory_of, AreLaid}
 use Rattle.seize_seats.specs.Errands.{Sight, StaysSo, StayAllSo}
@@ -416,18 +416,18 @@ module _ {M : Type 1} {𝓤 : Ura M} (𝓛 : Logic 𝓤) (R : RattleType) (own :
   is_mine n t c mine laid is ne low = let lt = cell_beyond t.parts.cells (n - 1) c is ne in let few = laid.counted in mine low (omega (arith, lt, few, low))
 
   -- that is of no block which the views of other seats show
-  pub held_away : (n : ℕ) (t : In) → Mine n → Sound t → HeldBlock n t → (j : ℕ) (v : V) (k : ℕ) (u : V) (S : Fml) → Hands.Shows 𝓛 R own cv holds p z j v k u S
-      → Hands.Crowds 𝓛 R own cv holds p z j v k u S → (Z : Pr) → ShownToBoth holds j v k u n
+  pub held_away : (n : ℕ) (t : In) → Mine n → Sound t → HeldBlock n t → (j : ℕ) (v : V) (k : ℕ) (u : V) (y : Witness V) (S : Fml)
+      → Hands.Shows 𝓛 R own cv holds p z j v k u y S → Hands.Crowds 𝓛 R own cv holds p z j v k u y S → (Z : Pr) → ShownBy holds j v k u y n
       → ⟦ Ws t.parts.words t.parts.cells ⟧ ∗ ⟦ Led t ⟧ ∗ ⟦ S ⟧ ⊢ Z
-  held_away n t mine sound h j v k u S shows crowds Z shown =
+  held_away n t mine sound h j v k u y S shows crowds Z shown =
       let i : ℕ = n - 1 in let ρ : ℕ = h.0 in let x : Body R.Denot = h.2 in let ws : List ℕ = h.3 in let c : Cell R.Denot = Held ρ h.1 x ws in let low = h.5 in
       let cs : List (Cell R.Denot) = t.parts.cells in let of = is_mine n t c mine sound.1 h.4 (λ e. absurd (cc e)) low in
-      let one : n ≡ suc i = omega (arith, low) in let here : ShownToBoth holds j v k u (suc i) = subst (λ (m : ℕ). ShownToBoth holds j v k u m) one shown in
+      let one : n ≡ suc i = omega (arith, low) in let here : ShownBy holds j v k u y (suc i) = subst (λ (m : ℕ). ShownBy holds j v k u y m) one shown in
       qed 𝓛 (‵ (Ws t.parts.words cs) ∷ ‵ (Led t) ∷ ‵ S ∷ []) ∵
       use1 𝓛 (‵ (cell_of i c) ⊛ raw (all 𝓤 (Recells t i))) (Numbers.celled 𝓛 R p z lent had t.parts.words cs i c of h.4) $ split ! $
       fsplit ! $ move ! (1 ∷ []) $ fsplit3 ! $ move ! (2 ∷ []) $ fsplit ! $
       -- [the share; who has it; the hand; the entry; the sign; the others; the views; the seats']
-      keep ! (6 ∷ 1 ∷ 7 ∷ []) $ by ! (Hands.excludes 𝓛 R own cv holds p z j v k u S shows crowds t sound i ρ x Z here)
+      keep ! (6 ∷ 1 ∷ 7 ∷ []) $ by ! (Hands.excludes 𝓛 R own cv holds p z j v k u y S shows crowds t sound i ρ x Z here)
 
   -- ---- A BLOCK IS TAKEN AWAY, and its place is taken out for a share of the lifetime
   module _ (id : ℕ) (v : V) (n : ℕ) (e : Share) (so : Op.Out R.Denot → V → Type 0) (stays : StayAllSo cv.away v so) (law : Allows holds keeps id v (Take n) so) (mine : Mine n) where
@@ -489,5 +489,5 @@ module _ {M : Type 1} {𝓤 : Ura M} (𝓛 : Logic 𝓤) (R : RattleType) (own :
         by t g (inl th) = goes t g th
         by t g (inr h) = let Z : Pr = upd 𝓤 TakenOut in
             qed 𝓛 (‵ (Ws t.parts.words t.parts.cells) ∷ ‵ (Led t) ∷ ‵ (seat id v) ∷ ‵ (flft α e) ∷ []) ∵ keep ! (0 ∷ 1 ∷ 2 ∷ []) $
-            types.Kit.by ! (held_away n t mine (g.0, g.1) h id v id v (seat id v) (Hands.one_shows 𝓛 R own cv holds p z id v id v three_quarters refl refl)
-            (Hands.one_crowds 𝓛 R own cv holds p z id v id v three_quarters refl) Z (λ s so at _. (law s so at).0))
+            types.Kit.by ! (held_away n t mine (g.0, g.1) h id v id v None (seat id v) (Hands.one_shows 𝓛 R own cv holds p z id v id v three_quarters refl refl)
+            (Hands.one_crowds 𝓛 R own cv holds p z id v id v three_quarters refl) Z (λ s so at _ _. (law s so at).0))

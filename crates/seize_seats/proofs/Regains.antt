@@ -22,7 +22,7 @@ use Rattle.seize_seats.specs.State.{State}
 use Rattle.seize_seats.specs.Cells.{Cell, Free, Claimed, Out, Has, Held, block_in, cell_at}
 use Rattle.seize_seats.specs.Seen.{seen}
 use Rattle.seize_seats.specs.Stretches.{IsEven, IsOfSeat, stretch_part, lasting, stretch, stretch_told}
-use Rattle.seize_seats.specs.Lendings.{Holder, Lending, ShownToBoth, AreShown, span, lending}
+use Rattle.seize_seats.specs.Lendings.{Holder, Lending, Witness, ShownBy, AreShown, witnessed, span, lending}
 use Rattle.seize_seats.specs.Owned.{Pieces, Hand, busy, held, BaseId, age, core_of, IsIts, is_listed, Inside, state_of, inner, everything}
 use Rattle.seize_seats.proofs.Cells.{block_is}
 use Rattle.seize_seats.proofs.Stretches.{one_seat}
@@ -109,14 +109,17 @@ module _ {M : Type 1} {𝓤 : Ura M} (𝓛 : Logic 𝓤) (R : RattleType) (own :
   abbrev Sn : Holder V → Fml
   Sn h = seen cv.code z.views_name stretch_part h.seat h.view
 
-  abbrev Shows : Holder V → Holder V → Fml → Type 1
-  Shows g o S = Hands.Shows 𝓛 R own cv holds p z g.seat g.view o.seat o.view S
+  abbrev Shows : Holder V → Holder V → Witness V → Fml → Type 1
+  Shows g o says S = Hands.Shows 𝓛 R own cv holds p z g.seat g.view o.seat o.view says S
 
-  abbrev Crowds : Holder V → Holder V → Fml → Type 2
-  Crowds g o S = Hands.Crowds 𝓛 R own cv holds p z g.seat g.view o.seat o.view S
+  abbrev Crowds : Holder V → Holder V → Witness V → Fml → Type 2
+  Crowds g o says S = Hands.Crowds 𝓛 R own cv holds p z g.seat g.view o.seat o.view says S
 
-  abbrev Shown : Holder V → Holder V → Type 0
-  Shown g o = ShownToBoth holds g.seat g.view o.seat o.view (suc i)
+  abbrev Shown : Holder V → Holder V → Witness V → Type 0
+  Shown g o says = ShownBy holds g.seat g.view o.seat o.view says (suc i)
+
+  abbrev Wd : Witness V → Fml
+  Wd = witnessed R α cv.code z.views_name holds
 
   -- who has the number finds no cell of another hand
   another : (h : Hand) (c : Cell R.Denot) → IsAnothers h c → (S : Fml) (Z : Pr) (t : In)
@@ -125,8 +128,13 @@ module _ {M : Type 1} {𝓤 : Ura M} (𝓛 : Logic 𝓤) (R : RattleType) (own :
       move ! (2 ∷ 1 ∷ []) $ use2 𝓛 (raw Z) (Makings.not_theirs 𝓛 R own cv holds keeps p z i h c Z ne) $ keep ! (0 ∷ []) $ done !
 
   -- The place is in the hand of a call, and no seats whose views show the block have those views now.
-  module _ (Hd : Fml) (none : (g o : Holder V) (S : Fml) → Shows g o S → Crowds g o S → Shown g o → (Z : Pr) → ⟦ I ⟧ ∗ (⟦ S ⟧ ∗ ⟦ Hd ⟧) ⊢ Z) where
-    module _ (g o : Holder V) (shown : Shown g o) (q : Share) where
+  module _ (Hd : Fml) (none : (g o : Holder V) (says : Witness V) (S : Fml) → Shows g o says S → Crowds g o says S → Shown g o says → (Z : Pr)
+      → ⟦ I ⟧ ∗ (⟦ S ⟧ ∗ ⟦ Hd ⟧) ⊢ Z) where
+    module _ (g o : Holder V) (says : Witness V) (shown : Shown g o says) (q : Share) where
+      -- with what the witness has of its view
+      abbrev Hx : Fml
+      Hx = fsep Hd (Wd says)
+
       abbrev St : Holder V → Fml
       St h = stretch cv.code z.views_name h.seat h.view h.stretch h.mark
 
@@ -140,7 +148,7 @@ module _ {M : Type 1} {𝓤 : Ura M} (𝓛 : Logic 𝓤) (R : RattleType) (own :
       Over = span α g o
 
       abbrev Q : Pr
-      Q = A.dead Over ∗ ⟦ Hd ⟧
+      Q = A.dead Over ∗ ⟦ Hx ⟧
 
       -- with the one stretch both are over
       by_guard : A.dead (g.stretch ∷ []) ⊢ A.dead Over
@@ -153,21 +161,25 @@ module _ {M : Type 1} {𝓤 : Ura M} (𝓛 : Logic 𝓤) (R : RattleType) (own :
 
       -- it is one seat
       module _ (same : g.seat ≡ o.seat) (view : g.view ≡ o.view) where
-        finds : (m : ℕ) (y : Bool) → ⟦ Lasts g y ⟧ ∗ ⟦ I ⟧ ∗ ⟦ Hd ⟧ ⊢ upd 𝓤 (⟦ I ⟧ ∗ ⟦ bodies ((m, St g) ∷ []) ⟧ ∗ Q)
+        finds : (m : ℕ) (y : Bool) → ⟦ Lasts g y ⟧ ∗ ⟦ I ⟧ ∗ ⟦ Hx ⟧ ⊢ upd 𝓤 (⟦ I ⟧ ∗ ⟦ bodies ((m, St g) ∷ []) ⟧ ∗ Q)
         finds m true = let Z : Pr = ⟦ I ⟧ ∗ ⟦ bodies ((m, St g) ∷ []) ⟧ ∗ Q in
-            qed 𝓛 (‵ (Sn g) ∷ ‵ I ∷ ‵ Hd ∷ []) ∵ move ! (0 ∷ 2 ∷ []) $ join ! $ move ! (1 ∷ 0 ∷ []) $
-            by ! (none g o (Sn g) (Hands.one_shows 𝓛 R own cv holds p z g.seat g.view o.seat o.view stretch_part same view)
-            (Hands.one_crowds 𝓛 R own cv holds p z g.seat g.view o.seat o.view stretch_part same) shown (upd 𝓤 Z))
+            qed 𝓛 (‵ (Sn g) ∷ ‵ I ∷ ‵ Hx ∷ []) ∵ move ! (2 ∷ []) $ fsplit ! $
+            -- [the hand; the witness; the view; the invariant]
+            move ! (2 ∷ 1 ∷ []) $ fjoin ! $ move ! (0 ∷ 1 ∷ []) $ join ! $ move ! (1 ∷ 0 ∷ []) $
+            by ! (none g o says (fsep (Sn g) (Wd says))
+            (Hands.shows_with 𝓛 R own cv holds p z g.seat g.view o.seat o.view says (Sn g) (Hands.one_sits 𝓛 R own cv holds p z g.seat g.view o.seat o.view stretch_part same view))
+            (Hands.crowds_with 𝓛 R own cv holds p z g.seat g.view o.seat o.view says (Sn g) (Hands.one_apart 𝓛 R own cv holds p z g.seat g.view o.seat o.view stretch_part same))
+            shown (upd 𝓤 Z))
         finds m false = let Z : Pr = ⟦ I ⟧ ∗ ⟦ bodies ((m, St g) ∷ []) ⟧ ∗ Q in
-            qed 𝓛 (‵ (Lasts g false) ∷ ‵ I ∷ ‵ Hd ∷ []) ∵ suffices ! _ (upd_i 𝓤 Z) $ fsplit ! $
+            qed 𝓛 (‵ (Lasts g false) ∷ ‵ I ∷ ‵ Hx ∷ []) ∵ suffices ! _ (upd_i 𝓤 Z) $ fsplit ! $
             use1 𝓛 (‵ (fdead (g.stretch ∷ [])) ⊛ ‵ (fdead (g.stretch ∷ []))) (𝓛.lfts.dead_dup (g.stretch ∷ [])) $ split ! $ move ! (1 ∷ 2 ∷ []) $ fjoin ! $
             fpack ! Bool (Lasts g) false $ nothing ! $ move ! (1 ∷ 0 ∷ []) $ fjoin ! $
             -- [the stretch; dead; the invariant; the hand]
             move ! (1 ∷ []) $ use1 𝓛 (‵ (fdead Over)) by_guard $ move ! (2 ∷ 1 ∷ 0 ∷ 3 ∷ []) $ frame ! $ frame ! $ done !
 
-        both : (n m : ℕ) → IsEven n → IsOfSeat g.seat m → A.named m (St g) ∗ A.named n (fbor α E) ∗ A.lft α q ∗ ⟦ L ⟧ ∗ ⟦ Hd ⟧ ⊢ H.⇛ (Q ∗ A.lft α q)
+        both : (n m : ℕ) → IsEven n → IsOfSeat g.seat m → A.named m (St g) ∗ A.named n (fbor α E) ∗ A.lft α q ∗ ⟦ L ⟧ ∗ ⟦ Hx ⟧ ⊢ H.⇛ (Q ∗ A.lft α q)
         both n m e u = let Z : Pr = ⟦ E ⟧ ∗ ⟦ bodies ((m, St g) ∷ []) ⟧ ∗ Q in
-            via 𝓤 _ (qed 𝓛 (‵ (fnamed m (St g)) ∷ ‵ (fnamed n (fbor α E)) ∷ ‵ (flft α q) ∷ ‵ L ∷ ‵ Hd ∷ []) ∵ use0 𝓛 (‵ ftrue) (id⊢ 𝓤 (emp 𝓤)) $
+            via 𝓤 _ (qed 𝓛 (‵ (fnamed m (St g)) ∷ ‵ (fnamed n (fbor α E)) ∷ ‵ (flft α q) ∷ ‵ L ∷ ‵ Hx ∷ []) ∵ use0 𝓛 (‵ ftrue) (id⊢ 𝓤 (emp 𝓤)) $
             move ! (1 ∷ 0 ∷ []) $ fjoin ! $ move ! (1 ∷ 0 ∷ []) $ fjoin ! $ frame ! $ frame ! $ assume ! (‵ E ⊛ ‵ (bodies ((m, St g) ∷ []))) $ split ! $
             move ! (0 ∷ 2 ∷ []) $ use2 𝓛 (‵ I) (Known.comes_in 𝓛 R own cv holds p z) $
             move ! (1 ∷ []) $ fsplit ! $ move ! (1 ∷ []) $ drop ! $ fpick ! (λ y.
@@ -175,8 +187,8 @@ module _ {M : Type 1} {𝓤 : Ura M} (𝓛 : Logic 𝓤) (R : RattleType) (own :
             split3 ! $ suffices ! _ (upd_i 𝓤 Z) $ use1 𝓛 (‵ E) (Known.goes_out 𝓛 R own cv holds p z) $ done !))
             (𝓛.invs.invs_bor_acc n α q E ((m, St g) ∷ []) Q (two g.seat n m (fbor α E) (St g) e u))
 
-        ended : ⟦ Inv ⟧ ∗ A.lft α q ∗ ⟦ Told g ⟧ ∗ ⟦ Hd ⟧ ⊢ H.⇛ (Q ∗ A.lft α q)
-        ended = qed 𝓛 (‵ Inv ∷ ‵ (flft α q) ∷ ‵ (Told g) ∷ ‵ Hd ∷ []) ∵ fsplit ! $ move ! (1 ∷ []) $ fpick ! (λ n. fsplit ! $ fpick ! (λ e. drop ! $
+        ended : ⟦ Inv ⟧ ∗ A.lft α q ∗ ⟦ Told g ⟧ ∗ ⟦ Hx ⟧ ⊢ H.⇛ (Q ∗ A.lft α q)
+        ended = qed 𝓛 (‵ Inv ∷ ‵ (flft α q) ∷ ‵ (Told g) ∷ ‵ Hx ∷ []) ∵ fsplit ! $ move ! (1 ∷ []) $ fpick ! (λ n. fsplit ! $ fpick ! (λ e. drop ! $
             -- [the invariant; the strip; the lifetime; the stretch; the hand]
             move ! (3 ∷ []) $ fpick ! (λ m. fsplit ! $ fpick ! (λ u. drop ! $ move ! (0 ∷ 1 ∷ 3 ∷ 2 ∷ []) $ by ! (both n m e u)))))
 
@@ -185,20 +197,24 @@ module _ {M : Type 1} {𝓤 : Ura M} (𝓛 : Logic 𝓤) (R : RattleType) (own :
         abbrev All : ℕ → ℕ → Fml
         All m k = bodies ((m, St g) ∷ (k, St o) ∷ [])
 
-        finds_two : (m k : ℕ) (y y' : Bool) → ⟦ Lasts g y ⟧ ∗ ⟦ Lasts o y' ⟧ ∗ ⟦ I ⟧ ∗ ⟦ Hd ⟧ ⊢ upd 𝓤 (⟦ I ⟧ ∗ ⟦ All m k ⟧ ∗ Q)
+        finds_two : (m k : ℕ) (y y' : Bool) → ⟦ Lasts g y ⟧ ∗ ⟦ Lasts o y' ⟧ ∗ ⟦ I ⟧ ∗ ⟦ Hx ⟧ ⊢ upd 𝓤 (⟦ I ⟧ ∗ ⟦ All m k ⟧ ∗ Q)
         finds_two m k true true = let Z : Pr = ⟦ I ⟧ ∗ ⟦ All m k ⟧ ∗ Q in let S : Fml = fsep (Sn g) (Sn o) in
-            qed 𝓛 (‵ (Sn g) ∷ ‵ (Sn o) ∷ ‵ I ∷ ‵ Hd ∷ []) ∵ fjoin ! $ move ! (0 ∷ 2 ∷ []) $ join ! $ move ! (1 ∷ 0 ∷ []) $
-            by ! (none g o S (Hands.two_show 𝓛 R own cv holds p z g.seat g.view o.seat o.view stretch_part stretch_part)
-            (Hands.two_crowd 𝓛 R own cv holds p z g.seat g.view o.seat o.view stretch_part stretch_part) shown (upd 𝓤 Z))
+            qed 𝓛 (‵ (Sn g) ∷ ‵ (Sn o) ∷ ‵ I ∷ ‵ Hx ∷ []) ∵ fjoin ! $ move ! (2 ∷ []) $ fsplit ! $
+            -- [the hand; the witness; the views; the invariant]
+            move ! (2 ∷ 1 ∷ []) $ fjoin ! $ move ! (0 ∷ 1 ∷ []) $ join ! $ move ! (1 ∷ 0 ∷ []) $
+            by ! (none g o says (fsep S (Wd says))
+            (Hands.shows_with 𝓛 R own cv holds p z g.seat g.view o.seat o.view says S (Hands.two_show 𝓛 R own cv holds p z g.seat g.view o.seat o.view stretch_part stretch_part))
+            (Hands.crowds_with 𝓛 R own cv holds p z g.seat g.view o.seat o.view says S (Hands.two_crowd 𝓛 R own cv holds p z g.seat g.view o.seat o.view stretch_part stretch_part))
+            shown (upd 𝓤 Z))
         finds_two m k false y' = let Z : Pr = ⟦ I ⟧ ∗ ⟦ All m k ⟧ ∗ Q in
-            qed 𝓛 (‵ (Lasts g false) ∷ ‵ (Lasts o y') ∷ ‵ I ∷ ‵ Hd ∷ []) ∵ suffices ! _ (upd_i 𝓤 Z) $ fsplit ! $
+            qed 𝓛 (‵ (Lasts g false) ∷ ‵ (Lasts o y') ∷ ‵ I ∷ ‵ Hx ∷ []) ∵ suffices ! _ (upd_i 𝓤 Z) $ fsplit ! $
             use1 𝓛 (‵ (fdead (g.stretch ∷ [])) ⊛ ‵ (fdead (g.stretch ∷ []))) (𝓛.lfts.dead_dup (g.stretch ∷ [])) $ split ! $ move ! (1 ∷ 2 ∷ []) $ fjoin ! $
             fpack ! Bool (Lasts g) false $ move ! (2 ∷ []) $ fpack ! Bool (Lasts o) y' $
             -- [the owner's stretch; the guard's; dead; the invariant; the hand]
             nothing ! $ move ! (1 ∷ 0 ∷ []) $ fjoin ! $ move ! (1 ∷ 0 ∷ []) $ fjoin ! $
             move ! (1 ∷ []) $ use1 𝓛 (‵ (fdead Over)) by_guard $ move ! (2 ∷ 1 ∷ 0 ∷ 3 ∷ []) $ frame ! $ frame ! $ done !
         finds_two m k true false = let Z : Pr = ⟦ I ⟧ ∗ ⟦ All m k ⟧ ∗ Q in
-            qed 𝓛 (‵ (Sn g) ∷ ‵ (Lasts o false) ∷ ‵ I ∷ ‵ Hd ∷ []) ∵ suffices ! _ (upd_i 𝓤 Z) $ fpack ! Bool (Lasts g) true $ move ! (1 ∷ []) $ fsplit ! $
+            qed 𝓛 (‵ (Sn g) ∷ ‵ (Lasts o false) ∷ ‵ I ∷ ‵ Hx ∷ []) ∵ suffices ! _ (upd_i 𝓤 Z) $ fpack ! Bool (Lasts g) true $ move ! (1 ∷ []) $ fsplit ! $
             use1 𝓛 (‵ (fdead (o.stretch ∷ [])) ⊛ ‵ (fdead (o.stretch ∷ []))) (𝓛.lfts.dead_dup (o.stretch ∷ [])) $ split ! $ move ! (1 ∷ 2 ∷ []) $ fjoin ! $
             fpack ! Bool (Lasts o) false $
             -- [the owner's stretch; dead; the guard's; the invariant; the hand]
@@ -206,9 +222,9 @@ module _ {M : Type 1} {𝓤 : Ura M} (𝓛 : Logic 𝓤) (R : RattleType) (own :
             move ! (1 ∷ []) $ use1 𝓛 (‵ (fdead Over)) by_owner $ move ! (2 ∷ 1 ∷ 0 ∷ 3 ∷ []) $ frame ! $ frame ! $ done !
 
         all_three : (n m k : ℕ) → IsEven n → IsOfSeat g.seat m → IsOfSeat o.seat k
-            → A.named m (St g) ∗ A.named k (St o) ∗ A.named n (fbor α E) ∗ A.lft α q ∗ ⟦ L ⟧ ∗ ⟦ Hd ⟧ ⊢ H.⇛ (Q ∗ A.lft α q)
+            → A.named m (St g) ∗ A.named k (St o) ∗ A.named n (fbor α E) ∗ A.lft α q ∗ ⟦ L ⟧ ∗ ⟦ Hx ⟧ ⊢ H.⇛ (Q ∗ A.lft α q)
         all_three n m k e u w = let Z : Pr = ⟦ E ⟧ ∗ ⟦ All m k ⟧ ∗ Q in
-            via 𝓤 _ (qed 𝓛 (‵ (fnamed m (St g)) ∷ ‵ (fnamed k (St o)) ∷ ‵ (fnamed n (fbor α E)) ∷ ‵ (flft α q) ∷ ‵ L ∷ ‵ Hd ∷ []) ∵
+            via 𝓤 _ (qed 𝓛 (‵ (fnamed m (St g)) ∷ ‵ (fnamed k (St o)) ∷ ‵ (fnamed n (fbor α E)) ∷ ‵ (flft α q) ∷ ‵ L ∷ ‵ Hx ∷ []) ∵
             use0 𝓛 (‵ ftrue) (id⊢ 𝓤 (emp 𝓤)) $
             move ! (2 ∷ 0 ∷ []) $ fjoin ! $ move ! (1 ∷ 0 ∷ []) $ fjoin ! $ move ! (1 ∷ 0 ∷ []) $ fjoin ! $ frame ! $ frame ! $
             assume ! (‵ E ⊛ ‵ (All m k)) $ split ! $ move ! (0 ∷ 2 ∷ []) $ use2 𝓛 (‵ I) (Known.comes_in 𝓛 R own cv holds p z) $
@@ -217,15 +233,15 @@ module _ {M : Type 1} {𝓤 : Ura M} (𝓛 : Logic 𝓤) (R : RattleType) (own :
             split3 ! $ suffices ! _ (upd_i 𝓤 Z) $ use1 𝓛 (‵ E) (Known.goes_out 𝓛 R own cv holds p z) $ done !)))
             (𝓛.invs.invs_bor_acc n α q E ((m, St g) ∷ (k, St o) ∷ []) Q (three g.seat o.seat n m k (fbor α E) (St g) (St o) ne e u w))
 
-        ended_two : ⟦ Inv ⟧ ∗ A.lft α q ∗ ⟦ Told g ⟧ ∗ ⟦ Told o ⟧ ∗ ⟦ Hd ⟧ ⊢ H.⇛ (Q ∗ A.lft α q)
-        ended_two = qed 𝓛 (‵ Inv ∷ ‵ (flft α q) ∷ ‵ (Told g) ∷ ‵ (Told o) ∷ ‵ Hd ∷ []) ∵ fsplit ! $ move ! (1 ∷ []) $ fpick ! (λ n. fsplit ! $ fpick ! (λ e. drop ! $
+        ended_two : ⟦ Inv ⟧ ∗ A.lft α q ∗ ⟦ Told g ⟧ ∗ ⟦ Told o ⟧ ∗ ⟦ Hx ⟧ ⊢ H.⇛ (Q ∗ A.lft α q)
+        ended_two = qed 𝓛 (‵ Inv ∷ ‵ (flft α q) ∷ ‵ (Told g) ∷ ‵ (Told o) ∷ ‵ Hx ∷ []) ∵ fsplit ! $ move ! (1 ∷ []) $ fpick ! (λ n. fsplit ! $ fpick ! (λ e. drop ! $
             -- [the invariant; the strip; the lifetime; the guard's stretch; the owner's; the hand]
             move ! (4 ∷ []) $ fpick ! (λ k. fsplit ! $ fpick ! (λ w. drop ! $ move ! (4 ∷ []) $ fpick ! (λ m. fsplit ! $ fpick ! (λ u. drop ! $
             move ! (0 ∷ 1 ∷ 2 ∷ 4 ∷ 3 ∷ []) $ by ! (all_three n m k e u w)))))))
 
-      ends : (g.seat ≢ o.seat) ⊎ ((g.seat ≡ o.seat) × (g.view ≡ o.view)) → ⟦ Inv ⟧ ∗ A.lft α q ∗ ⟦ Told g ⟧ ∗ ⟦ Told o ⟧ ∗ ⟦ Hd ⟧ ⊢ H.⇛ (Q ∗ A.lft α q)
+      ends : (g.seat ≢ o.seat) ⊎ ((g.seat ≡ o.seat) × (g.view ≡ o.view)) → ⟦ Inv ⟧ ∗ A.lft α q ∗ ⟦ Told g ⟧ ∗ ⟦ Told o ⟧ ∗ ⟦ Hx ⟧ ⊢ H.⇛ (Q ∗ A.lft α q)
       ends (inl ne) = ended_two ne
-      ends (inr same) = qed 𝓛 (‵ Inv ∷ ‵ (flft α q) ∷ ‵ (Told g) ∷ ‵ (Told o) ∷ ‵ Hd ∷ []) ∵ keep ! (0 ∷ 1 ∷ 2 ∷ 4 ∷ []) $ by ! (ended same.0 same.1)
+      ends (inr same) = qed 𝓛 (‵ Inv ∷ ‵ (flft α q) ∷ ‵ (Told g) ∷ ‵ (Told o) ∷ ‵ Hx ∷ []) ∵ keep ! (0 ∷ 1 ∷ 2 ∷ 4 ∷ []) $ by ! (ended same.0 same.1)
 
     module _ (q : Share) where
       abbrev One : ℕ → Lending V → Fml
@@ -239,9 +255,12 @@ module _ {M : Type 1} {𝓤 : Ura M} (𝓛 : Logic 𝓤) (R : RattleType) (own :
       dies a l = let g : Holder V = l.guard in let o : Holder V = l.owner in
           let T : Holder V → Fml = λ h. stretch_told cv.code z.views_name h.seat h.view h.stretch h.mark in
           let St : Holder V → Fml = λ h. stretch cv.code z.views_name h.seat h.view h.stretch h.mark in
-          let Are : Type 0 = AreShown R α cv.code z.views_name holds i g o in let Over : Lft = span α g o in
+          let says : Witness V = l.witness in let Hx : Fml = fsep Hd (Wd says) in
+          let Are : Type 0 = AreShown R α cv.code z.views_name holds i g o says in let Over : Lft = span α g o in
           qed 𝓛 ((‵ Inv ⊛ ‵ (flft α q) ⊛ ‵ Hd) ∷ ‵ (One a l) ∷ []) ∵ updating ! $ split3 ! $ move ! (3 ∷ []) $ fsplit3 ! $ move ! (2 ∷ []) $ fsplit ! $
-          fsplit ! $
+          fsplit ! $ fsplit ! $
+          -- [the guard's stretch; the owner's; the witness; what is shown; the part; the account; the invariant; the lifetime; the hand]
+          move ! (8 ∷ 2 ∷ []) $ fjoin ! $ move ! (1 ∷ 2 ∷ 3 ∷ 4 ∷ 5 ∷ 6 ∷ 7 ∷ []) $
           -- [the guard's stretch; the owner's; what is shown; the part; the account; the invariant; the lifetime; the hand]
           use1 𝓛 (‵ (T g) ⊛ ‵ (T g)) (Stretches.twice 𝓛 (IsOfSeat g.seat) (St g)) $ split ! $ move ! (2 ∷ []) $
           use1 𝓛 (‵ (T o) ⊛ ‵ (T o)) (Stretches.twice 𝓛 (IsOfSeat o.seat) (St o)) $ split ! $
@@ -251,9 +270,10 @@ module _ {M : Type 1} {𝓤 : Ura M} (𝓛 : Logic 𝓤) (R : RattleType) (own :
           move ! (7 ∷ []) $ use1 𝓛 (‵ Inv ⊛ ‵ Inv) (Known.twice 𝓛 R own cv holds p z) $ split ! $
           -- [the invariant, twice; what is shown; the owner's, twice; the guard's, twice; the part; the account; the lifetime; the hand]
           move ! (0 ∷ 9 ∷ 5 ∷ 3 ∷ 10 ∷ []) $ group ! 5 $
-          use1 𝓛 (later ((‵ (fdead Over) ⊛ ‵ Hd) ⊛ ‵ (flft α q))) (ends g o are.0 q are.1) $ await ! tt $ split ! $ split ! $
+          use1 𝓛 (later ((‵ (fdead Over) ⊛ ‵ Hx) ⊛ ‵ (flft α q))) (ends g o says are.0 q are.1) $ await ! tt $ split ! $ split ! $
           -- [dead; the hand; the lifetime; the invariant; what is shown; the owner's; the guard's; the part; the account]
-          now ! $ move ! (6 ∷ 5 ∷ []) $ fjoin ! $ move ! (0 ∷ 5 ∷ []) $ fjoin ! $
+          now ! $ move ! (1 ∷ []) $ fsplit ! $ move ! (7 ∷ 6 ∷ []) $ fjoin ! $ move ! (0 ∷ 2 ∷ []) $ fjoin ! $ move ! (0 ∷ 5 ∷ []) $ fjoin ! $
+          move ! (0 ∷ 2 ∷ 1 ∷ []) $
           -- [the stretches and what is shown; dead; the hand; the lifetime; the invariant; the part; the account]
           move ! (6 ∷ 0 ∷ []) $ fjoin ! $ move ! (5 ∷ 0 ∷ []) $ fjoin ! $
           -- [the lending; dead; the hand; the lifetime; the invariant]
@@ -269,29 +289,29 @@ module _ {M : Type 1} {𝓤 : Ura M} (𝓛 : Logic 𝓤) (R : RattleType) (own :
     abbrev Hd : Fml
     Hd = hands three_quarters (busy e)
 
-    gone : (g o : Holder V) (shown : Shown g o) (t : In) (sound : Sound t) (s : Share) → cell_at t.parts.cells i ≡ Out s
-        → Hands.Sit 𝓛 R own cv holds p z g.seat g.view o.seat o.view t → ⊥
-    gone g o shown t sound s is at =
-        let some = shown (state_of z t) sound.0 at.0 at.1 in let one : suc i - 1 ≡ i = omega arith in
+    gone : (g o : Holder V) (says : Witness V) (shown : Shown g o says) (t : In) (sound : Sound t) (s : Share) → cell_at t.parts.cells i ≡ Out s
+        → Hands.Sit 𝓛 R own cv holds p z g.seat g.view o.seat o.view says t → ⊥
+    gone g o says shown t sound s is at =
+        let some = shown (state_of z t) sound.0 at.0.0 at.0.1 at.1 in let one : suc i - 1 ≡ i = omega arith in
         let b = block_is z.roots z.count t.parts sound.1 (suc i) (omega arith) ∙ ap (λ (k : ℕ). block_in (cell_at t.parts.cells k)) one ∙ ap block_in is in
         absurd (cc (subst IsSome (ap value_in b) some))
 
-    by_cell : (g o : Holder V) (S : Fml) → Shows g o S → Crowds g o S → Shown g o → (Z : Pr) (t : In) (sound : Sound t) (c : Cell R.Denot)
+    by_cell : (g o : Holder V) (says : Witness V) (S : Fml) → Shows g o says S → Crowds g o says S → Shown g o says → (Z : Pr) (t : In) (sound : Sound t) (c : Cell R.Denot)
         → cell_at t.parts.cells i ≡ c → ⟦ cell_of c ⟧ ∗ all 𝓤 (Recells t) ∗ ⟦ Led t ⟧ ∗ ⟦ S ⟧ ∗ ⟦ Hd ⟧ ⊢ Z
-    by_cell g o S shows crowds shown Z t sound Free is = another (busy e) Free tt S Z t
-    by_cell g o S shows crowds shown Z t sound (Has x ws) is = another (busy e) (Has x ws) tt S Z t
-    by_cell g o S shows crowds shown Z t sound Claimed is =
+    by_cell g o says S shows crowds shown Z t sound Free is = another (busy e) Free tt S Z t
+    by_cell g o says S shows crowds shown Z t sound (Has x ws) is = another (busy e) (Has x ws) tt S Z t
+    by_cell g o says S shows crowds shown Z t sound Claimed is =
         another (busy e) Claimed (λ same. Makings.busy_is_not 𝓛 R own cv holds keeps p z e (sym same)) S Z t
-    by_cell g o S shows crowds shown Z t sound (Out s) is = qed 𝓛 (‵ (cell_of (Out s)) ∷ raw (all 𝓤 (Recells t)) ∷ ‵ (Led t) ∷ (‵ S ⊛ ‵ Hd) ∷ []) ∵
+    by_cell g o says S shows crowds shown Z t sound (Out s) is = qed 𝓛 (‵ (cell_of (Out s)) ∷ raw (all 𝓤 (Recells t)) ∷ ‵ (Led t) ∷ (‵ S ⊛ ‵ Hd) ∷ []) ∵
         move ! (3 ∷ []) $ split ! $ move ! (4 ∷ 0 ∷ []) $
-        use2 𝓛 (given (Hands.Sit 𝓛 R own cv holds p z g.seat g.view o.seat o.view t) (‵ (Led t) ⊛ ‵ S)) (shows t) $
-        learn ! (λ at. absurd (gone g o shown t sound s is at))
-    by_cell g o S shows crowds shown Z t sound (Held ρ s x ws) is =
+        use2 𝓛 (given (Hands.Sit 𝓛 R own cv holds p z g.seat g.view o.seat o.view says t) (‵ (Led t) ⊛ ‵ S)) (shows t) $
+        learn ! (λ at. absurd (gone g o says shown t sound s is at))
+    by_cell g o says S shows crowds shown Z t sound (Held ρ s x ws) is =
         another (busy e) (Held ρ s x ws) (Makings.held_is_not_busy 𝓛 R own cv holds keeps p z ρ s e) S Z t
 
     -- no seat has that view
-    pub none_taken : (g o : Holder V) (S : Fml) → Shows g o S → Crowds g o S → Shown g o → (Z : Pr) → ⟦ I ⟧ ∗ (⟦ S ⟧ ∗ ⟦ Hd ⟧) ⊢ Z
-    none_taken g o S shows crowds shown Z = Makings.opens 𝓛 R own cv holds keeps p z (⟦ S ⟧ ∗ ⟦ Hd ⟧) Z i lt (by_cell g o S shows crowds shown Z)
+    pub none_taken : (g o : Holder V) (says : Witness V) (S : Fml) → Shows g o says S → Crowds g o says S → Shown g o says → (Z : Pr) → ⟦ I ⟧ ∗ (⟦ S ⟧ ∗ ⟦ Hd ⟧) ⊢ Z
+    none_taken g o says S shows crowds shown Z = Makings.opens 𝓛 R own cv holds keeps p z (⟦ S ⟧ ∗ ⟦ Hd ⟧) Z i lt (by_cell g o says S shows crowds shown Z)
 
     pub regains : (q : Share) (x : R.Denot) (b o : ℕ) → Having Hd none_taken q ∗ ⟦ Lendings.Lent 𝓛 R α (coded_of cv) z.views_name holds i x b o ⟧
         ⊢ H.⇛ (Having Hd none_taken q ∗ ⟦ Lendings.Own 𝓛 R α (coded_of cv) z.views_name holds x b o ⟧)
@@ -302,22 +322,22 @@ module _ {M : Type 1} {𝓤 : Ura M} (𝓛 : Logic 𝓤) (R : RattleType) (own :
     abbrev Hh : Fml
     Hh = hands three_quarters (held ρ e)
 
-    by_hand : (g o : Holder V) (S : Fml) → Shows g o S → Crowds g o S → Shown g o → (Z : Pr) (t : In) (sound : Sound t) (c : Cell R.Denot)
+    by_hand : (g o : Holder V) (says : Witness V) (S : Fml) → Shows g o says S → Crowds g o says S → Shown g o says → (Z : Pr) (t : In) (sound : Sound t) (c : Cell R.Denot)
         → cell_at t.parts.cells i ≡ c → ⟦ cell_of c ⟧ ∗ all 𝓤 (Recells t) ∗ ⟦ Led t ⟧ ∗ ⟦ S ⟧ ∗ ⟦ Hh ⟧ ⊢ Z
-    by_hand g o S shows crowds shown Z t sound Free is = another (held ρ e) Free tt S Z t
-    by_hand g o S shows crowds shown Z t sound (Has x ws) is = another (held ρ e) (Has x ws) tt S Z t
-    by_hand g o S shows crowds shown Z t sound Claimed is =
+    by_hand g o says S shows crowds shown Z t sound Free is = another (held ρ e) Free tt S Z t
+    by_hand g o says S shows crowds shown Z t sound (Has x ws) is = another (held ρ e) (Has x ws) tt S Z t
+    by_hand g o says S shows crowds shown Z t sound Claimed is =
         another (held ρ e) Claimed (λ same. Makings.held_is_not 𝓛 R own cv holds keeps p z ρ e (sym same)) S Z t
-    by_hand g o S shows crowds shown Z t sound (Out s) is =
+    by_hand g o says S shows crowds shown Z t sound (Out s) is =
         another (held ρ e) (Out s) (λ same. Makings.held_is_not_busy 𝓛 R own cv holds keeps p z ρ e s (sym same)) S Z t
-    by_hand g o S shows crowds shown Z t sound (Held ρ' s x ws) is =
+    by_hand g o says S shows crowds shown Z t sound (Held ρ' s x ws) is =
         qed 𝓛 (‵ (cell_of (Held ρ' s x ws)) ∷ raw (all 𝓤 (Recells t)) ∷ ‵ (Led t) ∷ (‵ S ⊛ ‵ Hh) ∷ []) ∵
         move ! (3 ∷ []) $ split ! $ move ! (2 ∷ []) $ fsplit ! $ move ! (1 ∷ []) $ fsplit3 ! $ move ! (2 ∷ []) $ fsplit ! $
         -- [the share; who has it; the hand; the entry; the sign; the seat's; three quarters; the others; the views]
-        keep ! (8 ∷ 1 ∷ 5 ∷ []) $ by ! (Hands.excludes 𝓛 R own cv holds p z g.seat g.view o.seat o.view S shows crowds t sound i ρ' x Z shown)
+        keep ! (8 ∷ 1 ∷ 5 ∷ []) $ by ! (Hands.excludes 𝓛 R own cv holds p z g.seat g.view o.seat o.view says S shows crowds t sound i ρ' x Z shown)
 
-    pub none_held : (g o : Holder V) (S : Fml) → Shows g o S → Crowds g o S → Shown g o → (Z : Pr) → ⟦ I ⟧ ∗ (⟦ S ⟧ ∗ ⟦ Hh ⟧) ⊢ Z
-    none_held g o S shows crowds shown Z = Makings.opens 𝓛 R own cv holds keeps p z (⟦ S ⟧ ∗ ⟦ Hh ⟧) Z i lt (by_hand g o S shows crowds shown Z)
+    pub none_held : (g o : Holder V) (says : Witness V) (S : Fml) → Shows g o says S → Crowds g o says S → Shown g o says → (Z : Pr) → ⟦ I ⟧ ∗ (⟦ S ⟧ ∗ ⟦ Hh ⟧) ⊢ Z
+    none_held g o says S shows crowds shown Z = Makings.opens 𝓛 R own cv holds keeps p z (⟦ S ⟧ ∗ ⟦ Hh ⟧) Z i lt (by_hand g o says S shows crowds shown Z)
 
     pub regains_held : (q : Share) (x : R.Denot) (b o : ℕ) → Having Hh none_held q ∗ ⟦ Lendings.Lent 𝓛 R α (coded_of cv) z.views_name holds i x b o ⟧
         ⊢ H.⇛ (Having Hh none_held q ∗ ⟦ Lendings.Own 𝓛 R α (coded_of cv) z.views_name holds x b o ⟧)

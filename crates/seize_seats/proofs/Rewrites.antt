@@ -25,7 +25,7 @@ use Rattle.seize_seats.specs.State.{State, Goes, Allows, Owns}
 use Rattle.seize_seats.specs.State as State
 use Rattle.seize_seats.specs.Cells.{Body, Cell, Free, Claimed, Out, Has, Held, block_in, blocks_in, cell_at}
 use Rattle.seize_seats.specs.Lines.{Parts, memory_of, AreLaid}
-use Rattle.seize_seats.specs.Lendings.{Alone, IsValueOf, note, lendable}
+use Rattle.seize_seats.specs.Lendings.{Witness, Bears, IsAside, Alone, IsValueOf, note, lendable}
 use Rattle.seize_seats.specs.Seen.{itself, shared_view, seen}
 use Rattle.seize_seats.specs.Owned.{piece, Pieces, fact, Hand, hand_coded, resting, held, row, stride, had_here, BaseId, age, IsIts, Inside, state_of, inner}
 use Rattle.seize_seats.proofs.Cells.{recelled, laid_with, block_is, blocks_set, was_given}
@@ -57,13 +57,19 @@ some_value : {A : Type 0} (x : Option A) → IsSome x → (y : A) × (x ≡ Some
 some_value None some = absurd (cc some)
 some_value (Some y) some = (y, refl)
 
+-- another seat leaves what a witness says
+bears_on : {V : Type 0} (vs : List V) (id : ℕ) (v : V) (x : Witness V) → IsAside id x → Bears vs x → Bears (slice_set vs id v) x
+bears_on vs id v None aside bears = tt
+bears_on vs id v (Some w) aside bears = Ledgers.other_view vs id w.0 v aside ∙ bears
+
 -- WHO MAY TAKE A BLOCK AWAY HAS IT TO ITSELF
 pub owns_alone : {T V W : Type 0} (holds : State T V W → Type 0) (keeps : V → V → W → ℕ → Type 0) (id : ℕ) (v : V) (n : ℕ) → Owns holds keeps id v n
     → Alone holds id v n
-owns_alone {T} {V} {W} holds keeps id v n own t i w j u so at ne nf here there shown =
+owns_alone {T} {V} {W} holds keeps id v n own t i w j u y so at ne nf aside here there bears shown =
     let a = own t so at in let x = some_value (value_at t.memory n) a.0 in let m : Mem T = with_block t.memory n None in
     let g = a.1 (Taken x.0) m (x.1, refl) in
-    let some = shown (State.after t m id g.0 g.1) g.2 (Ledgers.other_view t.views id i g.0 ne ∙ here) (Ledgers.other_view t.views id j g.0 nf ∙ there) in
+    let some = shown (State.after t m id g.0 g.1) g.2 (Ledgers.other_view t.views id i g.0 ne ∙ here) (Ledgers.other_view t.views id j g.0 nf ∙ there)
+    (bears_on t.views id g.0 y aside bears) in
     let none = emptied t.memory n in absurd (cc (subst IsSome none some))
 
 module _ {M : Type 1} {𝓤 : Ura M} (𝓛 : Logic 𝓤) (R : RattleType) (own : Pieces R.Denot) {V W : Type 0} (cv : Sight V) (holds : State R.Denot V W → Type 0) (keeps : V → V → W → ℕ
@@ -204,9 +210,9 @@ module _ {M : Type 1} {𝓤 : Ura M} (𝓛 : Logic 𝓤) (R : RattleType) (own :
       any t g (inl th) = has t g th
       any t g (inr h) = let Z : Pr = upd 𝓤 TakenUp in
           qed 𝓛 (‵ (Ws t.parts) ∷ ‵ (Led t) ∷ ‵ (seat id v) ∷ ‵ (flft α e) ∷ []) ∵ keep ! (0 ∷ 1 ∷ 2 ∷ []) $
-          types.Kit.by ! (Makings.held_away 𝓛 R own cv holds keeps p z n t mine (g.0, g.1) h id v id v (seat id v)
+          types.Kit.by ! (Makings.held_away 𝓛 R own cv holds keeps p z n t mine (g.0, g.1) h id v id v None (seat id v)
           (Hands.one_shows 𝓛 R own cv holds p z id v id v three_quarters refl refl)
-          (Hands.one_crowds 𝓛 R own cv holds p z id v id v three_quarters refl) Z (λ s so at _. (owns s so at).0))
+          (Hands.one_crowds 𝓛 R own cv holds p z id v id v three_quarters refl) Z (λ s so at _ _. (owns s so at).0))
 
       pub takes_up : ⟦ I ⟧ ∗ (⟦ seat id v ⟧ ∗ ⟦ flft α e ⟧) ⊢ upd 𝓤 TakenUp
       takes_up = Makings.opens_seated 𝓛 R own cv holds keeps p z id v ⟦ flft α e ⟧ (upd 𝓤 TakenUp)

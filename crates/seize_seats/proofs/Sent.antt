@@ -19,7 +19,7 @@ use Rattle.seize_seats.specs.Lines.{long}
 use Rattle.seize_seats.specs.Buckets.{IsBucket}
 use Rattle.seize_seats.specs.Errands.{Away, Sight, stake, stakes}
 use Rattle.seize_seats.specs.Owned.{words_right, lines, bucket_right, bucket_told, ground, Pieces, shared_view, row, piece, lent_in, had_in, quarters, ledger, zeros, stride, kept, numbers, strips, Core, BaseId, core_of, everything, common, words_own, words_share}
-use Rattle.seize_seats.specs.Lendings.{Phase, Begins, Lasts, Over, in_phase, Holder, Lending, span, told, lendings, lendable, in_hand}
+use Rattle.seize_seats.specs.Lendings.{Phase, Begins, Lasts, Over, in_phase, Holder, Lending, Witness, witnessed, span, told, lendings, lendable, in_hand}
 use Rattle.seize_seats.specs.Stretches.{lasting, seat_owns, seat_shares}
 
 row_keyless : (b o : ℕ) (ns : List ℕ) → Keyless (row b o ns)
@@ -60,12 +60,16 @@ module _ (R : RattleType) (sent : IsSend (OptionOf R)) (synced : IsSync (OptionO
   told_keyless : (h : Holder V) → Keyless (told R α c γ holds h)
   told_keyless h = λ n. ((λ _. tt), stretch_keyless c γ h.seat h.view h.stretch h.mark)
 
+  witnessed_keyless : (x : Witness V) → Keyless (witnessed R α c γ holds x)
+  witnessed_keyless None = tt
+  witnessed_keyless (Some w) = entry_keyless shared_view γ w.0 _
+
   lendings_keyless : (i a : ℕ) (ls : List (Lending V)) → Keyless (lendings R α c γ holds i a ls)
   lendings_keyless i a [] = tt
   lendings_keyless i a (l ∷ ls) = (
     (
       entry_keyless shared_view l.name 0 _,
-      (phase_keyless (span α l.guard l.owner) l.name l.stake, ((told_keyless l.guard, told_keyless l.owner), λ _. tt)),
+      (phase_keyless (span α l.guard l.owner) l.name l.stake, (((told_keyless l.guard, told_keyless l.owner), witnessed_keyless l.witness), λ _. tt)),
     ),
     lendings_keyless i a ls,
   )

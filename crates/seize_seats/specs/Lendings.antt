@@ -1,6 +1,6 @@
 -- How the value of a block is lent: it is shared for a lifetime of its own. Each lending puts a part of that lifetime's token under the stretch of a seat, so
 -- the value is shared as long as the stretch lasts, and the right to have the part back, once the stretch has ended, stands with the block.
-use Rattle.std.specs.Prelude.{◌≡◌, ◌≢◌, ◌⊎◌, ℕ, suc, List, [], ◌∷◌, Some, IsSome}
+use Rattle.std.specs.Prelude.{◌≡◌, ◌≢◌, ◌⊎◌, ℕ, suc, List, [], ◌∷◌, Option, Some, None, IsSome, slice_get}
 use mathlib.Mathlib.Data.Part.{◌∈◌}
 use base.Fraction.{full_share}
 use base.Share
@@ -45,10 +45,15 @@ pub record Holder (V : Type 0) : Type 0 where
   pub stretch : ℕ
   pub mark : ℕ
 
--- one lending: to which two seats, which may be one, and which part of the token
+-- a seat that nobody has, and what it bears witness of
+abbrev pub Witness : Type 0 → Type 0
+Witness V = Option (ℕ × V)
+
+-- one lending: to which two seats, which may be one, by which witness, and which part of the token
 pub record Lending (V : Type 0) : Type 0 where
   pub guard : Holder V
   pub owner : Holder V
+  pub witness : Witness V
   pub name : ℕ
   pub part : Share
   pub stake : Share
@@ -77,11 +82,31 @@ abbrev pub ShownToBoth : {T V W : Type 0} → (State T V W → Type 0) → ℕ �
 ShownToBoth {T} {V} {W} holds i v j u b =
     (t : State T V W) → holds t → view_of t i ≡ Some v → view_of t j ≡ Some u → IsSome (value_at t.memory b)
 
--- as long as the seat has this view no other ones have views that show the block
+-- as long as three have these
+abbrev pub ShownToAll : {T V W : Type 0} → (State T V W → Type 0) → ℕ → V → ℕ → V → ℕ → V → ℕ → Type 0
+ShownToAll {T} {V} {W} holds i v j u k o b =
+    (t : State T V W) → holds t → view_of t i ≡ Some v → view_of t j ≡ Some u → view_of t k ≡ Some o → IsSome (value_at t.memory b)
+
+-- the witness, if there is one, is among these views
+abbrev pub Bears : {V : Type 0} → List V → Witness V → Type 0
+Bears vs None = Unit {0}
+Bears vs (Some w) = slice_get vs w.0 ≡ Some w.1
+
+-- and is another seat
+abbrev pub IsAside : {V : Type 0} → ℕ → Witness V → Type 0
+IsAside id None = Unit {0}
+IsAside id (Some w) = w.0 ≢ id
+
+-- as long as the one seat has this view and the other one that, by what the witness says
+abbrev pub ShownBy : {T V W : Type 0} → (State T V W → Type 0) → ℕ → V → ℕ → V → Witness V → ℕ → Type 0
+ShownBy {T} {V} {W} holds i v j u x b =
+    (t : State T V W) → holds t → view_of t i ≡ Some v → view_of t j ≡ Some u → Bears t.views x → IsSome (value_at t.memory b)
+
+-- as long as the seat has this view no other ones have views that show the block, by whichever witness
 abbrev pub Alone : {T V W : Type 0} → (State T V W → Type 0) → ℕ → V → ℕ → Type 0
 Alone {T} {V} {W} holds id v b =
-    (t : State T V W) (i : ℕ) (w : V) (j : ℕ) (u : V) → holds t → view_of t id ≡ Some v → i ≢ id → j ≢ id → view_of t i ≡ Some w → view_of t j ≡ Some u
-    → ShownToBoth holds i w j u b → ⊥
+    (t : State T V W) (i : ℕ) (w : V) (j : ℕ) (u : V) (x : Witness V) → holds t → view_of t id ≡ Some v → i ≢ id → j ≢ id → IsAside id x
+    → view_of t i ≡ Some w → view_of t j ≡ Some u → Bears t.views x → ShownBy holds i w j u x b → ⊥
 
 -- it is the value of the block in a state in which the seat has this view
 abbrev pub IsValueOf : {T V W : Type 0} → (State T V W → Type 0) → ℕ → V → ℕ → T → Type 0
@@ -92,11 +117,25 @@ abbrev pub IsValueOfBoth : {T V W : Type 0} → (State T V W → Type 0) → ℕ
 IsValueOfBoth {T} {V} {W} holds i v j u b x =
     (t : State T V W) × holds t × (view_of t i ≡ Some v) × (view_of t j ≡ Some u) × (value_at t.memory b ≡ Some x)
 
+-- and in which this is so
+abbrev pub IsValueSo : {T V W : Type 0} → (State T V W → Type 0) → ℕ → V → ℕ → V → (State T V W → Type 0) → ℕ → T → Type 0
+IsValueSo {T} {V} {W} holds i v j u also b x =
+    (t : State T V W) × holds t × (view_of t i ≡ Some v) × (view_of t j ≡ Some u) × also t × (value_at t.memory b ≡ Some x)
+
+-- in which three seats have these views
+abbrev pub IsValueBy : {T V W : Type 0} → (State T V W → Type 0) → ℕ → V → ℕ → V → ℕ → V → ℕ → T → Type 0
+IsValueBy holds i v j u k o b x = IsValueSo holds j u k o (λ s. view_of s i ≡ Some v) b x
+
 module _ (R : RattleType) (α : Lft) {V W : Type 0} (c : V → Gv) (γ : ℕ) (holds : State R.Denot V W → Type 0) where
-  -- both views show the block, and the seats are two, or one with one view
-  abbrev pub AreShown : ℕ → Holder V → Holder V → Type 0
-  AreShown i g o =
-      ShownToBoth holds g.seat g.view o.seat o.view (suc i) × ((g.seat ≢ o.seat) ⊎ ((g.seat ≡ o.seat) × (g.view ≡ o.view)))
+  -- both views show the block, by what the witness says, and the seats are two, or one with one view
+  abbrev pub AreShown : ℕ → Holder V → Holder V → Witness V → Type 0
+  AreShown i g o x =
+      ShownBy holds g.seat g.view o.seat o.view x (suc i) × ((g.seat ≢ o.seat) ⊎ ((g.seat ≡ o.seat) × (g.view ≡ o.view)))
+
+  -- what the witness has of its view, which stays as it is
+  abbrev pub witnessed : Witness V → Fml
+  witnessed None = ftrue
+  witnessed (Some w) = seen c γ three_quarters w.0 w.1
 
   abbrev pub told : Holder V → Fml
   told h = stretch_told c γ h.seat h.view h.stretch h.mark
@@ -106,7 +145,7 @@ module _ (R : RattleType) (α : Lft) {V W : Type 0} (c : V → Gv) (γ : ℕ) (h
   lending i a l =
       fsep (part l.name quarter (a, l.part))
       (fsep (finv (account (span α l.guard l.owner) l.name l.stake))
-      (fsep (fsep (told l.guard) (told l.owner)) (fact (AreShown i l.guard l.owner))))
+      (fsep (fsep (fsep (told l.guard) (told l.owner)) (witnessed l.witness)) (fact (AreShown i l.guard l.owner l.witness))))
 
   abbrev pub lendings : ℕ → ℕ → List (Lending V) → Fml
   lendings i a [] = ftrue

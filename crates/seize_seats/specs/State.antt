@@ -1,6 +1,6 @@
 -- The state of a memory that seats share, and what each step of a seat owes to the rule.
-use Rattle.std.specs.Prelude.{◌≡◌, ◌≢◌, ℕ, List, [], ◌∷◌, ◌++◌, Option, Some, slice_get, slice_set, replicate}
-use Rattle.seize_words.specs.Mem.{Mem, Can, Took}
+use Rattle.std.specs.Prelude.{◌≡◌, ◌≢◌, ℕ, List, [], ◌∷◌, ◌++◌, Option, Some, IsSome, slice_get, slice_set, replicate}
+use Rattle.seize_words.specs.Mem.{Mem, Can, Took, value_at}
 use Rattle.seize_words.specs.Op.{Op, Out, Take}
 
 -- A seat is known by its number; each has a view, which is plain data: what it knows. The world is what the rule keeps beside these.
@@ -37,6 +37,11 @@ module _ {T V W : Type 0} where
       (s : State T V W) → holds s → view_of s i ≡ Some v → view_of s j ≡ Some u → i ≢ j
       → (v' u' : V) × holds record { memory = s.memory; views = slice_set (slice_set s.views i v') j u'; world = s.world } × so v' u'
 
+  -- A seat comes that knows this, where three seats know what they know, and all else stays.
+  abbrev pub Testifies : (State T V W → Type 0) → ℕ → V → ℕ → V → ℕ → V → V → Type 0
+  Testifies holds i v j u k o x =
+      (s : State T V W) → holds s → view_of s i ≡ Some v → view_of s j ≡ Some u → view_of s k ≡ Some o → (w : W) × holds (joined s x w)
+
   -- The rule holds of the memory as it is with no seat.
   abbrev pub Renews : (State T V W → Type 0) → Type 0
   Renews holds = (s : State T V W) → holds s → (w : W) × holds record { memory = s.memory; views = []; world = w }
@@ -65,6 +70,21 @@ module _ {T V W : Type 0} where
     -- a step without an operation
     abbrev pub Turns : ℕ → V → (V → Type 0) → Type 0
     Turns id v so = (s : State T V W) → holds s → view_of s id ≡ Some v → Goes s s.memory id so
+
+    -- A seat comes to know something else by what another one knows, and all else stays.
+    abbrev pub Learns : ℕ → V → ℕ → V → (V → Type 0) → Type 0
+    Learns i v j u so = (s : State T V W) → holds s → view_of s i ≡ Some v → view_of s j ≡ Some u → i ≢ j → Goes s s.memory i so
+
+    -- What three seats know shows that two of them keep the block.
+    abbrev pub ShowsKept : ℕ → V → ℕ → V → ℕ → V → ℕ → Type 0
+    ShowsKept i v j u k o b =
+        (s : State T V W) → holds s → view_of s i ≡ Some v → view_of s j ≡ Some u → view_of s k ≡ Some o → keeps u o s.world b
+
+    -- What seats keep is there.
+    abbrev pub AreThere : Type 0
+    AreThere =
+        (s : State T V W) (j : ℕ) (u : V) (k : ℕ) (o : V) (b : ℕ) → holds s → view_of s j ≡ Some u → view_of s k ≡ Some o → keeps u o s.world b
+        → IsSome (value_at s.memory b)
 
     -- a seat comes, whoever is there
     abbrev pub Comes : V → Type 0

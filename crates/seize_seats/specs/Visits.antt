@@ -1,6 +1,7 @@
--- Words of a block's own lie beside it, and where they lie is kept with its value. A seat that wants to reach one *visits* the block: it has seen where they lie, and
--- as long as it knows what it knows they lie there. Rules speak of values alone, and know of no visits.
-use Rattle.std.specs.Prelude.{◌≡◌, ℕ, Option, Some, None, Result, Ok, Err, map}
+-- Words of a block's own lie beside it, and where they lie is kept with its value. A seat that wants to reach one *visits* the block: it has seen where they
+-- lie, and as long as it knows what it knows they lie there. Rules speak of values alone, and know of no visits. With the visit there is noted how many steps
+-- the seat has taken: what a claim says of two seats is so for as long as both are at the steps that it names.
+use Rattle.std.specs.Prelude.{◌≡◌, ℕ, suc, Option, Some, None, Result, Ok, Err, map}
 use denote.RawPtr.{Ptr}
 use Rattle.seize_words.specs.Mem.{Mem, value_at}
 use Rattle.seize_words.specs.Op.{Op, Out, Load, Store, Swap, Add, Or, Exchange, Make, Take, Rewrite, Room, Found, Stored, Exchanged, Made, Taken, Roomed}
@@ -12,9 +13,36 @@ use Rattle.seize_seats.specs.Lendings.{Shown}
 abbrev pub Spot : Type 0
 Spot = Ptr × ℕ
 
--- which block a seat visits, and where its own words lie
-abbrev pub Visit : Type 0
-Visit = Option (ℕ × Spot)
+-- As long as the one seat is at this one of its steps, and the other one at that one of its own, the block is kept.
+pub record Claim : Type 0 where
+  pub guard : ℕ
+  pub guards : ℕ
+  pub owner : ℕ
+  pub owners : ℕ
+  pub block : ℕ
+
+-- What is noted of a seat of which rules know nothing: which block it visits, and where its own words lie; how many steps it has taken; and what it bears
+-- witness of, which is a seat that nobody has.
+pub record Visit : Type 0 where
+  pub spot : Option (ℕ × Spot)
+  pub steps : ℕ
+  pub claim : Option Claim
+
+-- of one that has just come
+abbrev pub fresh : Visit
+fresh = record { spot = None; steps = 0; claim = None }
+
+-- a step further
+abbrev pub onward : Visit → Visit
+onward y = record { spot = None; steps = suc y.steps; claim = None }
+
+-- it begins to visit a block
+abbrev pub onward_at : Visit → ℕ → Spot → Visit
+onward_at y b p = record { spot = Some (b, p); steps = suc y.steps; claim = None }
+
+-- of one that comes to bear witness
+abbrev pub witness : Claim → Visit
+witness c = record { spot = None; steps = 0; claim = Some c }
 
 -- D: what is kept of a block in its place; value: the value of it
 module _ {D T : Type 0} (value : D → T) where
@@ -58,8 +86,8 @@ module _ {D T : Type 0} (value : D → T) where
     -- has seen them, as many as it has seen.
     abbrev pub AreFound : (D → Spot) → (State T V W → Type 0) → State D (V × Visit) W → Type 0
     AreFound own holds s =
-        (id : ℕ) (v : V) (b : ℕ) (p : Spot) → view_of s id ≡ Some (v, Some (b, p))
-        → Shown holds id v b × ((x : D) → value_at s.memory b ≡ Some x → own x ≡ p)
+        (id : ℕ) (u : V × Visit) (b : ℕ) (p : Spot) → view_of s id ≡ Some u → u.1.spot ≡ Some (b, p)
+        → Shown holds id u.0 b × ((x : D) → value_at s.memory b ≡ Some x → own x ≡ p)
 
     -- what holds between any two steps, where a rule does
     abbrev pub HoldsKept : (D → Spot) → (State T V W → Type 0) → State D (V × Visit) W → Type 0
@@ -70,8 +98,8 @@ module _ {D T : Type 0} (value : D → T) where
   keeps_kept keeps u o w b = keeps u.0 o.0 w b
 
   -- what an operation tells, and no visit lasts after it
-  abbrev pub then_kept : {V : Type 0} → (Out T → V → Type 0) → Out D → V × Visit → Type 0
-  then_kept so out u = so (plain_out out) u.0 × (u.1 ≡ None)
+  abbrev pub then_kept : {V : Type 0} → Visit → (Out T → V → Type 0) → Out D → V × Visit → Type 0
+  then_kept y so out u = so (plain_out out) u.0 × (u.1 ≡ onward y)
 
 -- the own words of the block lie there, as long as the seat has this view
 abbrev pub AreSeenAt : {D V W : Type 0} → (D → Ptr) → (State D V W → Type 0) → ℕ → V → ℕ → Ptr → Type 0

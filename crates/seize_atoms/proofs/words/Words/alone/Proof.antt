@@ -3,7 +3,7 @@ use Rattle.seize_atoms.specs.Visiting.{Seen, HoldsSince, seat_coded}
 use Rattle.seize_seats.specs.Errands.{RenewsTo, Away, coded_of}
 use Rattle.seize_seats.specs.Start.{WasIdle}
 use Rattle.seize_seats.specs.State.{State}
-use Rattle.seize_seats.specs.Visits.{plain_memory}
+use Rattle.seize_seats.specs.Visits.{plain_memory, fresh}
 use Rattle.seize_words.specs.Mem.{Mem}
 use Rattle.seize_atoms.proofs.Allowed.{comes_alone, was_idle}
 use Rattle.std.specs.Prelude.{Some, None}
@@ -68,8 +68,8 @@ alone_spec 𝓤 𝓛 𝓜 𝓡 wired X P U F N V G LX LP LU LF LN LV LG g d g' d
     (#self inst) fn (code.unfolded 𝓤 H 𝓜 𝓡 wired (X, (P, (U, (F, (N, (V, (G, tt))))))) d d')
     (λ κs. ((λ x. hand_of x.words ∷ []), (shr_vals, tt))) (λ κs. ((λ x vs so. told R₀ R₁ R₂ R₃ g x.words vs so.0), (shr_Tells (named 0) κs.0 R₆, tt))) (λ κs qs bounds a gh are.
     let t : Row.Denot = a.0 in let p : Ptr = t.words in let z : BaseId = t.id in let b : ℕ = a.1.0.ref_ptr.0 in let o : ℕ = a.1.0.ref_ptr.1 in let f : G.Denot = a.1.0.now in
-    let cv = seat_coded R₂.coded in let cv' = seat_coded R₅.coded in let rule = g.holds t.fixed in let holds = HoldsSince g.rests t.start rule in
-    let after = λ (s : State K₀.Denot (Seen U.Denot) g.World). HoldsSince g'.rests (plain_memory value_of s.memory) (g'.holds f) in let v₀ : V.Denot = g'.newcomer f in let v : Seen V.Denot = ((v₀, None), None) in let h₀ : Away = None in
+    let cv = seat_coded R₂.coded in let cv' = seat_coded R₅.coded in let rule = g.holds t.fixed in let holds = HoldsSince g.rests t.start rule g.keeps in
+    let after = λ (s : State K₀.Denot (Seen U.Denot) g.World). HoldsSince g'.rests (plain_memory value_of s.memory) (g'.holds f) g'.keeps in let v₀ : V.Denot = g'.newcomer f in let v : Seen V.Denot = ((v₀, fresh), None) in let h₀ : Away = None in
     let Knows : List (Seen U.Denot) → Type 0 = λ _. Unit {0} in let St : Type 0 = State K₀.Denot (Seen U.Denot) g.World in
     let rest : Fml = fsep (flft κs.1.1.0 qs.1.1.0) (fsep (flft κs.1.1.1.0 qs.1.1.1.0) (fsep (flft κs.1.1.1.1.0 qs.1.1.1.1.0) (fsep (flft κs.1.1.1.1.1.0 qs.1.1.1.1.1.0) (fsep (flft κs.1.1.1.1.1.1.0 qs.1.1.1.1.1.1.0) (fsep (flft κs.1.1.1.1.1.1.1.0 qs.1.1.1.1.1.1.1.0) ftrue))))) in
     let others : Fml = fsep (flft κs.1.0 qs.1.0) rest in let Asked : Type 0 = RenewsTo g.rests rule (g'.holds f) (v₀ ∷ []) in
@@ -83,7 +83,7 @@ alone_spec 𝓤 𝓛 𝓜 𝓡 wired X P U F N V G LX LP LU LF LN LV LG g d g' d
     use3 𝓛 (later (items (λ (i : BaseId × St). given (IsLike i.0 z × WasFound cv.away holds Knows i.1)
     (‵ (words_own K₀ kept_words cv' (after i.1) p i.0) ⊛ ‵ (seat_of 𝓛 K₀ kept_words cv cv' holds after p z i.0.views_name (Some v))))
     ⊛ ‵ (flft κs.1.0 qs.1.0) ⊛ ‵ ftrue)) (goes_on 𝓛 K₀ kept_words cv cv' holds after p z ftrue Knows (shows_nothing 𝓛 K₀ kept_words cv cv' holds after p z) (Some v) refl (λ _. v)
-    (λ st so back _. comes_alone g.rests rule g.keeps t.start g'.rests (g'.holds f) v₀ (g'.newcomers_rest f) asked st so back) κs.1.0 qs.1.0 (LO.shares 𝓛)
+    (λ st so back _. comes_alone g.rests rule g.keeps t.start g'.rests (g'.holds f) g'.keeps v₀ (g'.newcomers_rest f) asked st so back) κs.1.0 qs.1.0 (LO.shares 𝓛)
     (Incl-trans inc (Incl-trans (kept_lives R₀) (option_lives K₀)))) $ await ! tt $ split3 ! $ pick ! (λ i. learn ! (λ like. split ! $ let u : BaseId = i.0 in
     let m : Mem X.Denot = plain_memory value_of i.1.memory in move ! (3 ∷ []) $ drop ! $
     -- [the memory; the seat; the type's token; the rest; the token]
@@ -95,7 +95,7 @@ alone_spec 𝓤 𝓛 𝓜 𝓡 wired X P U F N V G LX LP LU LF LN LV LG g d g' d
     sets ! (agg ! (no_more !)) refl (tt, tt) $ sets ! (agg ! (and_then ! (get ! refl) (no_more !))) refl (tt, (tt, tt)) $
     sets ! (agg ! (and_then ! (get ! refl) (and_then ! (get ! refl) (no_more !)))) refl (had_good p) $
     let t' : Other.Denot = record { words = p; marker = record {}; id = u; fixed = f; start = m } in
-    let r : Sr.Denot = record { marker = record {}; base = u.views_name; id = 0; view = v₀; visit = None; away = None; stretch = st.0; mark = st.1 } in
+    let r : Sr.Denot = record { marker = record {}; base = u.views_name; id = 0; view = v₀; visit = fresh; away = None; stretch = st.0; mark = st.1 } in
     let Told : Type 0 = (p ≡ p) × (f ≡ f) × IsLike u z × (u.views_name ≡ u.views_name) × (0 ≡ 0) × (v₀ ≡ v₀) × (h₀ ≡ None) × WasIdle g.rests rule m in
     let pair : Val = vstruct (vcons (hand_of p) (vcons token vnil)) in
     use0 𝓛 (‵ ((Token R₀ R₄ R₅ R₆ g').own_val (tt, tt) (token ∷ []))) (token_made R₀ R₄ R₅ R₆ g' 𝓛) $ fjoin ! $ move ! (2 ∷ []) $

@@ -83,7 +83,7 @@ errand_spec 𝓤 𝓛 𝓜 𝓡 wired X P U F N Y LX LP LU LF LN LY g d g' d' me
     let tl : Share = Share.left qs.1.0 in let tr : Share = Share.right qs.1.0 in
     let t : Row.Denot = a.0.now in let p : Ptr = t.words in let z : BaseId = t.id in let h : Sr.Denot = a.1.0.now in let e : N.Denot = a.1.1.0 in
     let id : ℕ = h.id in let v : Seen U.Denot = ((h.view, h.visit), h.away) in let cv = seat_coded R₂.coded in let rule = g.holds t.fixed in
-    let holds = HoldsSince g.rests t.start rule in let keeps = keeps_here g.keeps in
+    let holds = HoldsSince g.rests t.start rule g.keeps in let keeps = keeps_here g.keeps in
     let rest : Fml = fsep (flft κs.1.1.1.1.0 qs.1.1.1.1.0) (fsep (flft κs.1.1.1.1.1.0 qs.1.1.1.1.1.0)
     (fsep (flft κs.1.1.1.1.1.1.0 qs.1.1.1.1.1.1.0) (fsep (flft κs.1.1.1.1.1.1.1.0 qs.1.1.1.1.1.1.1.0) ftrue))) in
     let others : Fml = fsep (flft κs.1.1.0 qs.1.1.0) (fsep (flft κs.1.1.1.0 qs.1.1.1.0) rest) in

@@ -92,7 +92,7 @@ exchange_spec 𝓤 𝓛 𝓜 𝓡 wired X P U F LX LP LU LF g d _ =
     let t : Row.Denot = a.0.now in let p : Ptr = t.words in let z : BaseId = t.id in let h : Sr.Denot = a.1.0.now in let nm : At = a.1.1.0.now in
     let b₂ : ℕ = a.1.1.0.ref_ptr.0 in let o₂ : ℕ = a.1.1.0.ref_ptr.1 in let pv : Ptr = a.1.1.1.0 in let i : ℕ = a.1.1.1.1.0 in let old : ℕ = a.1.1.1.1.1.0 in let new : ℕ = a.1.1.1.1.1.1.0 in
     let pb : ℕ = block_of pv in let po : ℕ = count_of pv in let id : ℕ = h.id in let v : Seen U.Denot = ((h.view, h.visit), h.away) in let cv = seat_coded R₂.coded in let α : Lft = age z in
-    let rule = g.holds t.fixed in let ruled = HoldsHere g.rests rule in let holds = HoldsSince g.rests t.start rule in let keeps = keeps_here g.keeps in let so : Out K₀.Denot → Seen U.Denot → Type 0 = then_away h.away (then_kept value_of (g.then h.view (Exchange nm old new))) in let f : ℕ → ℕ = λ n. either (n == old) new n in let says : ℕ → Out K₀.Denot = λ n. Exchanged (exchanged old n) in
+    let rule = g.holds t.fixed in let ruled = HoldsHere g.rests rule in let holds = HoldsSince g.rests t.start rule g.keeps in let keeps = keeps_here g.keeps in let so : Out K₀.Denot → Seen U.Denot → Type 0 = then_away h.away (then_kept value_of h.visit (g.then h.view (Exchange nm old new))) in let f : ℕ → ℕ = λ n. either (n == old) new n in let says : ℕ → Out K₀.Denot = λ n. Exchanged (exchanged old n) in
     let others : Fml = fsep (flft κs.1.1.0 qs.1.1.0) (fsep (flft κs.1.1.1.0 qs.1.1.1.0) (fsep (flft κs.1.1.1.1.0 qs.1.1.1.1.0)
     (fsep (flft κs.1.1.1.1.1.0 qs.1.1.1.1.1.0) (fsep (flft κs.1.1.1.1.1.1.0 qs.1.1.1.1.1.1.0) ftrue)))) in
     let Asked : Type 0 = (h.base ≡ z.views_name) × IsItsPlace ruled id v p z nm pv i × Allows rule g.keeps id h.view (Exchange nm old new) (g.then h.view (Exchange nm old new)) in

@@ -1,7 +1,7 @@
--- `find` loads a door behind which there is a strip, since it has the number of a block that two views show.
-use Rattle.seize_atoms.specs.Visiting.{HoldsSince, keeps_here, seat_coded}
+-- `find` loads a door behind which there is a strip, since it has the number of a block that three views show.
+use Rattle.seize_atoms.specs.Visiting.{Seen, HoldsSince, keeps_here, seat_coded}
 use Rattle.seize_seats.specs.Errands.{coded_of}
-use Rattle.seize_atoms.proofs.Allowed.{shown_here}
+use Rattle.seize_atoms.proofs.Allowed.{shown_all_here}
 use Rattle.std.proofs.Common.{◌≡◌, ℕ, List, [], ◌∷◌, ◌+◌, ◌-◌, ◌*◌, ◌^◌, ◌<◌, ◌≤◌, sym, refl, ◌∙◌, subst, w64, arith}
 use mir.Syntax.{dcons, dnil, a_type, named}
 use mir.MapTy.{inst_fn}
@@ -39,7 +39,7 @@ use Rattle.std.proofs.raw_atomic.PtrCalls.{found, finds, loads, seq_cst_good}
 use Rattle.seize_seats.specs.Doors.{before}
 use Rattle.seize_seats.specs.Owned.{BaseId, IsPlaced, age, core_of, common, stride, strip_told, words_share}
 use Rattle.seize_seats.proofs.Shown.{placed, told_there}
-use Rattle.seize_seats.specs.Lendings.{ShownToBoth}
+use Rattle.seize_seats.specs.Lendings.{ShownToAll}
 use Rattle.seize_seats.specs.Stretches.{seat_shares}
 use Rattle.seize_seats.proofs.Ledgers.{view_halves}
 use Rattle.seize_seats.proofs.Looks.{at_door, tells_strip}
@@ -64,94 +64,95 @@ find_spec 𝓤 𝓛 𝓜 𝓡 wired X P U F LX LP LU LF g d _ =
     let Row : RattleType = words.the_row R₀ R₁ R₂ R₃ g in let St : RattleType = strip.the_row R₀ in let D : RattleType = Data R₀ R₁ R₂ R₃ g in
     let Sr : RattleType = seat.the_row R₀ R₁ R₂ R₃ g in let Ds : RattleType = Token R₀ R₁ R₂ R₃ g in
     let self = RefOf (0 ∷ []) tt (plain (λ _. Row)) (λ _. tt) in let one = RefOf (1 ∷ []) tt (plain (λ _. Sr)) (λ _. tt) in
-    let other = RefOf (2 ∷ []) tt (plain (λ _. Sr)) (λ _. tt) in let addr = plain (λ _. RawPtr) in let num = plain (λ _. u64) in
-    let hs : Stays En.signature.params En.kept = (stay_dropped self yes, (stay_dropped one yes, (stay_dropped other yes, (stay_dropped num yes, (stay_dropped addr yes, (stay_dropped num yes, tt)))))) in
-    proved 𝓛 En hs c 𝓜 𝓡 (
-      Goes-dropped 𝓛 7 self yes (λ κs x f. refl),
-      (
-        Goes-dropped 𝓛 7 one yes (λ κs x f. refl),
-        (
-          Goes-dropped 𝓛 7 other yes (λ κs x f. refl),
-          (Goes-dropped 𝓛 7 num yes (λ κs x f. refl), (Goes-dropped 𝓛 7 addr yes (λ κs x f. refl), (Goes-dropped 𝓛 7 num yes (λ κs x f. refl), tt))),
-        ),
-      ),
-    )
+    let other = RefOf (2 ∷ []) tt (plain (λ _. Sr)) (λ _. tt) in let last = RefOf (3 ∷ []) tt (plain (λ _. Sr)) (λ _. tt) in let addr = plain (λ _. RawPtr) in let num = plain (λ _. u64) in
+    let hs : Stays En.signature.params En.kept = (stay_dropped self yes, (stay_dropped one yes, (stay_dropped other yes, (stay_dropped last yes, (stay_dropped num yes, (stay_dropped addr yes, (stay_dropped num yes, tt))))))) in
+    proved 𝓛 En hs c 𝓜 𝓡 (Goes-dropped 𝓛 8 self yes (λ κs x f. refl), (Goes-dropped 𝓛 8 one yes (λ κs x f. refl), (Goes-dropped 𝓛 8 other yes (λ κs x f. refl), (Goes-dropped 𝓛 8 last yes (λ κs x f. refl), (Goes-dropped 𝓛 8 num yes (λ κs x f. refl), (Goes-dropped 𝓛 8 addr yes (λ κs x f. refl), (Goes-dropped 𝓛 8 num yes (λ κs x f. refl), tt)))))))
     (#self inst) fn (code.unfolded 𝓤 H 𝓜 𝓡 wired (X, (P, (U, (F, tt)))) d)
-    (λ κs. (shr_vals, (shr_vals, (shr_vals, (uint_vals w64, (rawptr_vals, (uint_vals w64, tt)))))))
-    (λ κs. (shr_Tells (named 0) κs.0 Row, (shr_Tells (named 1) κs.1.0 Sr, (shr_Tells (named 2) κs.1.1.0 Sr, (uint_Tells w64, (rawptr_Tells, (uint_Tells w64, tt))))))) (λ κs qs bounds a gh are.
+    (λ κs. (shr_vals, (shr_vals, (shr_vals, (shr_vals, (uint_vals w64, (rawptr_vals, (uint_vals w64, tt))))))))
+    (λ κs. (shr_Tells (named 0) κs.0 Row, (shr_Tells (named 1) κs.1.0 Sr, (shr_Tells (named 2) κs.1.1.0 Sr, (shr_Tells (named 3) κs.1.1.1.0 Sr, (uint_Tells w64, (rawptr_Tells, (uint_Tells w64, tt)))))))) (λ κs qs bounds a gh are.
     let b : ℕ = a.0.ref_ptr.0 in let o : ℕ = a.0.ref_ptr.1 in let b₁ : ℕ = a.1.0.ref_ptr.0 in let o₁ : ℕ = a.1.0.ref_ptr.1 in
-    let b₂ : ℕ = a.1.1.0.ref_ptr.0 in let o₂ : ℕ = a.1.1.0.ref_ptr.1 in let κ : Lft = κs.0 in let κ₁ : Lft = κs.1.0 in let κ₂ : Lft = κs.1.1.0 in
-    let t : Row.Denot = a.0.now in let p : Ptr = t.words in let z : BaseId = t.id in let h : Sr.Denot = a.1.0.now in let k : Sr.Denot = a.1.1.0.now in
-    let nr : ℕ = a.1.1.1.0 in let pd : Ptr = a.1.1.1.1.0 in let j : ℕ = a.1.1.1.1.1.0 in
-    let cv = seat_coded R₂.coded in let α : Lft = age z in let rule = g.holds t.fixed in let holds = HoldsSince g.rests t.start rule in let keeps = keeps_here g.keeps in
+    let b₂ : ℕ = a.1.1.0.ref_ptr.0 in let o₂ : ℕ = a.1.1.0.ref_ptr.1 in let b₃ : ℕ = a.1.1.1.0.ref_ptr.0 in let o₃ : ℕ = a.1.1.1.0.ref_ptr.1 in
+    let κ : Lft = κs.0 in let κ₁ : Lft = κs.1.0 in let κ₂ : Lft = κs.1.1.0 in let κ₃ : Lft = κs.1.1.1.0 in
+    let t : Row.Denot = a.0.now in let p : Ptr = t.words in let z : BaseId = t.id in let r₁ : Sr.Denot = a.1.0.now in let h : Sr.Denot = a.1.1.0.now in let k : Sr.Denot = a.1.1.1.0.now in
+    let nr : ℕ = a.1.1.1.1.0 in let pd : Ptr = a.1.1.1.1.1.0 in let j : ℕ = a.1.1.1.1.1.1.0 in let v₁ : Seen U.Denot = ((r₁.view, r₁.visit), r₁.away) in
+    let cv = seat_coded R₂.coded in let α : Lft = age z in let rule = g.holds t.fixed in let holds = HoldsSince g.rests t.start rule g.keeps in let keeps = keeps_here g.keeps in
     let db : ℕ = block_of z.doors in let d₀ : ℕ = count_of z.doors in let e : ℕ = j * 8 + d₀ in let p' : Ptr = block_ptr db d₀ in
-    let others : Fml = fsep (flft κs.1.1.1.0 qs.1.1.1.0) (fsep (flft κs.1.1.1.1.0 qs.1.1.1.1.0) (fsep (flft κs.1.1.1.1.1.0 qs.1.1.1.1.1.0)
-    (fsep (flft κs.1.1.1.1.1.1.0 qs.1.1.1.1.1.1.0) ftrue))) in
-    let Asked : Type 0 = (h.base ≡ z.views_name) × (k.base ≡ z.views_name) × (pd ≡ z.doors) × (j < 32) × (z.place ≡ 0) × (z.size ≡ z.least)
-    × (z.least * 2 ^ j ≤ nr - 1) × ShownToBoth rule h.id h.view k.id k.view nr in
-    let us : Ptr → List Val = λ r. vptr b o ∷ vptr b₁ o₁ ∷ vptr b₂ o₂ ∷ vint w64 nr ∷ ptr_val r ∷ vint w64 j ∷ [] in
-    let y : (walk_of 𝓛 En hs c).Ghost = ((κs, qs, bounds, a, (vptr b o ∷ [], (vptr b₁ o₁ ∷ [], (vptr b₂ o₂ ∷ [], (vint w64 nr ∷ [], (ptr_val pd ∷ [], (vint w64 j ∷ [], tt))))))), gh) in
+    let others : Fml = fsep (flft κs.1.1.1.1.0 qs.1.1.1.1.0) (fsep (flft κs.1.1.1.1.1.0 qs.1.1.1.1.1.0) (fsep (flft κs.1.1.1.1.1.1.0 qs.1.1.1.1.1.1.0)
+    (fsep (flft κs.1.1.1.1.1.1.1.0 qs.1.1.1.1.1.1.1.0) ftrue))) in
+    let Asked : Type 0 = (r₁.base ≡ z.views_name) × (h.base ≡ z.views_name) × (k.base ≡ z.views_name) × (pd ≡ z.doors) × (j < 32) × (z.place ≡ 0) × (z.size ≡ z.least)
+    × (z.least * 2 ^ j ≤ nr - 1) × ShownToAll rule r₁.id r₁.view h.id h.view k.id k.view nr in
+    let us : Ptr → List Val = λ r. vptr b o ∷ vptr b₁ o₁ ∷ vptr b₂ o₂ ∷ vptr b₃ o₃ ∷ vint w64 nr ∷ ptr_val r ∷ vint w64 j ∷ [] in
+    let y : (walk_of 𝓛 En hs c).Ghost = ((κs, qs, bounds, a, (vptr b o ∷ [], (vptr b₁ o₁ ∷ [], (vptr b₂ o₂ ∷ [], (vptr b₃ o₃ ∷ [], (vint w64 nr ∷ [], (ptr_val pd ∷ [], (vint w64 j ∷ [], tt)))))))), gh) in
     let Post : Val → SProp 𝓤 = (walk_of 𝓛 En hs c).post y in let Run : List Val → SProp 𝓤 = λ ws. WpFn 𝓤 H 𝓣.C 𝓣.Λ fn ws Post in
-    qed 𝓛 (((‵ (flft κs.0 qs.0) ⊛ ‵ (flft κs.1.0 qs.1.0) ⊛ ‵ (flft κs.1.1.0 qs.1.1.0) ⊛ ‵ others) ⊛ ‵ (owns (types_at En.signature.params κs) a y.0.4)) ∷ raw (fact 𝓤 _) ∷ raw (fact 𝓤 _) ∷ raw (fact 𝓤 _) ∷
+    qed 𝓛 (((‵ (flft κs.0 qs.0) ⊛ ‵ (flft κs.1.0 qs.1.0) ⊛ ‵ (flft κs.1.1.0 qs.1.1.0) ⊛ ‵ (flft κs.1.1.1.0 qs.1.1.1.0) ⊛ ‵ others) ⊛ ‵ (owns (types_at En.signature.params κs) a y.0.4)) ∷ raw (fact 𝓤 _) ∷ raw (fact 𝓤 _) ∷ raw (fact 𝓤 _) ∷
     raw (fact 𝓤 _) ∷ raw (fact 𝓤 Asked) ∷ []) ∵
-    keep ! (5 ∷ 0 ∷ []) $ heard ! Asked (λ asked. split ! $ split3 ! $ move ! (2 ∷ []) $ split ! $ move ! (4 ∷ 2 ∷ 3 ∷ 0 ∷ 1 ∷ []) $
-    fsplit3 ! $ fsplit ! $ move ! (2 ∷ []) $ fsplit ! $ move ! (4 ∷ []) $ fsplit ! $ fsplit ! $
-    -- [self; the guard; the owner; the three tokens; the others]
-    keep ! (6 ∷ 4 ∷ 1 ∷ 7 ∷ 8 ∷ 9 ∷ 10 ∷ []) $
+    keep ! (5 ∷ 0 ∷ []) $ heard ! Asked (λ asked. split ! $ split3 ! $ move ! (2 ∷ []) $ split3 ! $ move ! (5 ∷ 3 ∷ 4 ∷ 0 ∷ 1 ∷ 2 ∷ []) $
+    fsplit3 ! $ fsplit ! $ move ! (2 ∷ []) $ fsplit ! $ move ! (4 ∷ []) $ fsplit3 ! $ fsplit ! $ move ! (2 ∷ []) $ fsplit ! $
+    -- [self; the one; the guard; the owner; the four tokens; the others]
+    keep ! (8 ∷ 6 ∷ 3 ∷ 1 ∷ 9 ∷ 10 ∷ 11 ∷ 12 ∷ 13 ∷ []) $
     use1 𝓛 (‵ (hidden_shr D κ (p, (tt, tt)) b o) ⊛ ‵ (fhide (words_share K₀ kept_words cv holds p z κ)))
     (lent_out 𝓛 (words.struct R₀ R₁ R₂ R₃ g)
     (words.the_codes X.Denot P.Denot U.Denot F.Denot R₀.coded R₁.coded R₂.coded R₃.coded (marker.the_row (Tuple (R₀ ∷ R₁ ∷
     []))).coded) (words.the_heap R₀ R₁ R₂ R₃ g) (words.the_lent R₀ R₁ R₂ R₃ g) κ t b o) $
     split ! $ drop ! $ unhide ! $ fsplit ! $ move ! (1 ∷ []) $
     use1 𝓛 (given (IsPlaced K₀ p z) (‵ (common K₀ kept_words cv holds p z))) (placed K₀ kept_words cv holds p z 𝓛) $ learn ! (λ there. fsplit ! $ drop ! $
-    -- [the invariant; its lifetime lasts; the guard; the owner; the three tokens; the others]
-    move ! (2 ∷ []) $ use1 𝓛 (‵ (hidden_shr Ds κ₁ (tt, tt) b₁ o₁) ⊛ ‵ (fhide (seat_shares cv.code h.base h.id ((h.view, h.visit), h.away) h.stretch h.mark κ₁)))
+    -- [the invariant; its lifetime lasts; the one; the guard; the owner; the four tokens; the others]
+    move ! (2 ∷ []) $ use1 𝓛 (‵ (hidden_shr Ds κ₁ (tt, tt) b₁ o₁) ⊛ ‵ (fhide (seat_shares cv.code r₁.base r₁.id v₁ r₁.stretch r₁.mark κ₁)))
     (lent_out 𝓛 (seat.struct R₀ R₁ R₂ R₃ g)
     (seat.the_codes X.Denot P.Denot U.Denot F.Denot R₀.coded R₁.coded R₂.coded R₃.coded (marker.the_row (Tuple (R₀ ∷ R₁ ∷
-    []))).coded) (seat.the_heap R₀ R₁ R₂ R₃ g) (seat.the_lent R₀ R₁ R₂ R₃ g) κ₁ h b₁ o₁) $
-    split ! $ drop ! $ unhide ! $ rewrite ! 0 (λ (u : ℕ). ‵ (seat_shares cv.code u h.id ((h.view, h.visit), h.away) h.stretch h.mark κ₁)) asked.0 refl $
+    []))).coded) (seat.the_heap R₀ R₁ R₂ R₃ g) (seat.the_lent R₀ R₁ R₂ R₃ g) κ₁ r₁ b₁ o₁) $
+    split ! $ drop ! $ unhide ! $ rewrite ! 0 (λ (u : ℕ). ‵ (seat_shares cv.code u r₁.id v₁ r₁.stretch r₁.mark κ₁)) asked.0 refl $
     fsplit ! $ drop ! $ fsplit ! $ move ! (1 ∷ []) $ drop ! $
-    move ! (3 ∷ []) $ use1 𝓛 (‵ (hidden_shr Ds κ₂ (tt, tt) b₂ o₂) ⊛ ‵ (fhide (seat_shares cv.code k.base k.id ((k.view, k.visit), k.away) k.stretch k.mark κ₂)))
+    move ! (3 ∷ []) $ use1 𝓛 (‵ (hidden_shr Ds κ₂ (tt, tt) b₂ o₂) ⊛ ‵ (fhide (seat_shares cv.code h.base h.id ((h.view, h.visit), h.away) h.stretch h.mark κ₂)))
     (lent_out 𝓛 (seat.struct R₀ R₁ R₂ R₃ g)
     (seat.the_codes X.Denot P.Denot U.Denot F.Denot R₀.coded R₁.coded R₂.coded R₃.coded (marker.the_row (Tuple (R₀ ∷ R₁ ∷
-    []))).coded) (seat.the_heap R₀ R₁ R₂ R₃ g) (seat.the_lent R₀ R₁ R₂ R₃ g) κ₂ k b₂ o₂) $
-    split ! $ drop ! $ unhide ! $ rewrite ! 0 (λ (u : ℕ). ‵ (seat_shares cv.code u k.id ((k.view, k.visit), k.away) k.stretch k.mark κ₂)) asked.1 refl $
+    []))).coded) (seat.the_heap R₀ R₁ R₂ R₃ g) (seat.the_lent R₀ R₁ R₂ R₃ g) κ₂ h b₂ o₂) $
+    split ! $ drop ! $ unhide ! $ rewrite ! 0 (λ (u : ℕ). ‵ (seat_shares cv.code u h.id ((h.view, h.visit), h.away) h.stretch h.mark κ₂)) asked.1 refl $
     fsplit ! $ drop ! $ fsplit ! $ move ! (1 ∷ []) $ drop ! $
-    -- [the owner's view; the guard's view; the invariant; its lifetime lasts; the three tokens; the others]
-    let at_d : pd ≡ p' = asked.2 ∙ at_block z.doors there.4 in let few = asked.3 in let small : j * 8 < 2 ^ 64 = omega (arith, few) in
+    move ! (4 ∷ []) $ use1 𝓛 (‵ (hidden_shr Ds κ₃ (tt, tt) b₃ o₃) ⊛ ‵ (fhide (seat_shares cv.code k.base k.id ((k.view, k.visit), k.away) k.stretch k.mark κ₃)))
+    (lent_out 𝓛 (seat.struct R₀ R₁ R₂ R₃ g)
+    (seat.the_codes X.Denot P.Denot U.Denot F.Denot R₀.coded R₁.coded R₂.coded R₃.coded (marker.the_row (Tuple (R₀ ∷ R₁ ∷
+    []))).coded) (seat.the_heap R₀ R₁ R₂ R₃ g) (seat.the_lent R₀ R₁ R₂ R₃ g) κ₃ k b₃ o₃) $
+    split ! $ drop ! $ unhide ! $ rewrite ! 0 (λ (u : ℕ). ‵ (seat_shares cv.code u k.id ((k.view, k.visit), k.away) k.stretch k.mark κ₃)) asked.2 refl $
+    fsplit ! $ drop ! $ fsplit ! $ move ! (1 ∷ []) $ drop ! $
+    -- [the owner's view; the guard's; the one's; the invariant; its lifetime lasts; the four tokens; the others]
+    let at_d : pd ≡ p' = asked.3 ∙ at_block z.doors there.4 in let few = asked.4 in let small : j * 8 < 2 ^ 64 = omega (arith, few) in
     suffices ! (Run (us p')) (subst (λ (r : Ptr). ent 𝓤 (Run (us p')) (Run (us r))) (sym at_d) (id⊢ 𝓤 (Run (us p')))) $
-    enter ! 𝓣.C 𝓣.Λ fn (us p') Post $ alloc_all ! (λ l. pass_all ! refl ((tt, tt), ((tt, tt), ((tt, tt), ((tt, record { fits = are.1.1.1.0.1 }), (Ptr-Good p', ((tt, record { fits = are.1.1.1.1.1.0.1 }), tt)))))) $
+    enter ! 𝓣.C 𝓣.Λ fn (us p') Post $ alloc_all ! (λ l. pass_all ! refl ((tt, tt), ((tt, tt), ((tt, tt), ((tt, tt), ((tt, record { fits = are.1.1.1.1.0.1 }), (Ptr-Good p', ((tt, record { fits = are.1.1.1.1.1.1.0.1 }), tt))))))) $
     let Ev = env fn.locals l in
-    move ! (1 ∷ 5 ∷ []) $ shr_bor-open ! tt (view_halves 𝓛 (coded_of cv) z.views_name h.id ((h.view, h.visit), h.away)) (λ f. move ! (2 ∷ 6 ∷ []) $
-    shr_bor-open ! tt (view_halves 𝓛 (coded_of cv) z.views_name k.id ((k.view, k.visit), k.away)) (λ f'. move ! (5 ∷ 6 ∷ []) $ shr_bor-open ! tt (tokens_halve 𝓛 α) (λ s.
-    let out : Ptr → Fml = λ r. fsep (flft α s) (met 𝓛 K₀ kept_words cv holds keeps p z asked.4 asked.5 s j e asked.3 refl h.id ((h.view, h.visit), h.away) k.id ((k.view, k.visit), k.away) nr (shown_here g.rests rule g.keeps t.start h.id h.view h.visit h.away k.id k.view k.visit k.away nr asked.7) asked.6 f f' r) in
-    -- [open; the token; the owner's, open; its view; the guard's, open; its view; the invariant; the others]
-    move ! (5 ∷ 3 ∷ []) $ fjoin ! $ move ! (5 ∷ 2 ∷ 0 ∷ []) $
-    first ! $ blocks ! $ sets ! (of_opd ! (get ! refl)) refl (tt, record { fits = are.1.1.1.1.1.0.1 }) $
+    let all = shown_all_here g.rests rule g.keeps t.start r₁.id r₁.view r₁.visit r₁.away h.id h.view h.visit h.away k.id k.view k.visit k.away nr asked.8 in
+    move ! (2 ∷ 6 ∷ []) $ shr_bor-open ! tt (view_halves 𝓛 (coded_of cv) z.views_name r₁.id v₁) (λ f₀.
+    move ! (3 ∷ 7 ∷ []) $ shr_bor-open ! tt (view_halves 𝓛 (coded_of cv) z.views_name h.id ((h.view, h.visit), h.away)) (λ f.
+    move ! (4 ∷ 8 ∷ []) $ shr_bor-open ! tt (view_halves 𝓛 (coded_of cv) z.views_name k.id ((k.view, k.visit), k.away)) (λ f'.
+    move ! (7 ∷ 8 ∷ []) $ shr_bor-open ! tt (tokens_halve 𝓛 α) (λ s.
+    let out : Ptr → Fml = λ r. fsep (flft α s) (met 𝓛 K₀ kept_words cv holds keeps p z asked.5 asked.6 s j e asked.4 refl r₁.id v₁ h.id ((h.view, h.visit), h.away) k.id ((k.view, k.visit), k.away) nr all asked.7 f₀ f f' r) in
+    -- [open; the token; the owner's, open; its view; the guard's, open; its view; the one's, open; its view; the invariant; the others]
+    move ! (5 ∷ 3 ∷ []) $ fjoin ! $ move ! (6 ∷ 0 ∷ []) $ fjoin ! $ move ! (6 ∷ 2 ∷ 0 ∷ []) $
+    first ! $ blocks ! $ sets ! (of_opd ! (get ! refl)) refl (tt, record { fits = are.1.1.1.1.1.1.0.1 }) $
     sets ! (bin ! (get ! refl) (lit ! tt) (record { fits = small })) refl (tt, record { fits = small }) $
     sets ! (bin ! (get ! refl) (get ! refl) tt) refl (tt, tt) $
     use3 𝓛 (raw (𝓣.C _ (vptr db e ∷ seq_cst ∷ []) (λ u. mean 𝓛 (found 𝓛 out u))))
-    (via 𝓤 _ (finds_strip 𝓛 K₀ kept_words cv holds keeps p z asked.4 asked.5 s j e asked.3 refl h.id ((h.view, h.visit), h.away) k.id ((k.view, k.visit), k.away) nr (shown_here g.rests rule g.keeps t.start h.id h.view h.visit h.away k.id k.view k.visit k.away nr asked.7) asked.6 f f')
+    (via 𝓤 _ (finds_strip 𝓛 K₀ kept_words cv holds keeps p z asked.5 asked.6 s j e asked.4 refl r₁.id v₁ h.id ((h.view, h.visit), h.away) k.id ((k.view, k.visit), k.away) nr all asked.7 f₀ f f')
     (loads 𝓛 𝓜 𝓡 (code.calls-core::raw_atomic::ptr::load 𝓡.env wired) u64 word_laws (block_ptr db e) out)) $
     sets ! (agg ! (and_then ! (lit ! tt) (no_more !))) refl seq_cst_good $
     Calls-last ! (fm 𝓛 𝓜 𝓡) (found 𝓛 out) (and_then ! (get ! refl) (and_then ! (get ! refl) (no_more !))) (λ u. finds ! out (λ w.
     lands_last ! refl (Ptr-Good w) $ exec ! 𝓣.C 𝓣.Λ Ev (tail fn.body) (at_ret Ev Post) $
     sets ! (of_opd ! (get ! refl)) refl (Ptr-Good w) $ sets ! (agg ! (no_more !)) refl (tt, tt) $
     sets ! (agg ! (and_then ! (get ! refl) (and_then ! (get ! refl) (no_more !)))) refl (hand_good w) $
-    fsplit ! $ move ! (2 ∷ 0 ∷ []) $ obor_close ! tt $ drop ! $ move ! (1 ∷ []) $ fsplit ! $ fpick ! (λ found_one. drop ! $ fsplit ! $ move ! (1 ∷ []) $ fsplit ! $
-    -- [the guard's view; the owner's; what is told; the token; the owner's, open; the guard's, open; the others]
-    move ! (5 ∷ 0 ∷ []) $ obor_close ! tt $ drop ! $ move ! (4 ∷ 1 ∷ []) $ obor_close ! tt $ drop ! $ move ! (2 ∷ []) $
-    let y' : BaseId = at_door 𝓛 K₀ kept_words cv holds p z s j e asked.3 refl w in let r : St.Denot = record { words = w; marker = record {}; id = y' } in
+    fsplit ! $ move ! (2 ∷ 0 ∷ []) $ obor_close ! tt $ drop ! $ move ! (1 ∷ []) $ fsplit ! $ fpick ! (λ found_one. drop ! $ fsplit ! $ move ! (1 ∷ []) $ fsplit3 ! $
+    -- [the one's view; the guard's; the owner's; what is told; the token; the owner's, open; the guard's, open; the one's, open; the others]
+    move ! (7 ∷ 0 ∷ []) $ obor_close ! tt $ drop ! $ move ! (6 ∷ 1 ∷ []) $ obor_close ! tt $ drop ! $ move ! (5 ∷ 2 ∷ []) $ obor_close ! tt $ drop ! $ move ! (3 ∷ []) $
+    let y' : BaseId = at_door 𝓛 K₀ kept_words cv holds p z s j e asked.4 refl w in let r : St.Denot = record { words = w; marker = record {}; id = y' } in
     let n : ℕ = z.least * 2 ^ j in
     let Told : Type 0 = (core_of y' ≡ core_of z) × (before K₀ n ≡ before K₀ n) × (w ≡ w)
     × (n ≡ n) × (n ≡ n) × InBlock w × ((before K₀ n + n * 5) * 8 < 2 ^ 63) × (n * stride K₀ < 2 ^ 63) in
-    -- [what is told; the three tokens, last first; the others]
-    use1 𝓛 (‵ (strip_told K₀ w y')) (tells_strip 𝓛 K₀ kept_words cv holds p z s j e asked.3 refl there.4 w) $
+    -- [what is told; the four tokens, last first; the others]
+    use1 𝓛 (‵ (strip_told K₀ w y')) (tells_strip 𝓛 K₀ kept_words cv holds p z s j e asked.4 refl there.4 w) $
     rewrite ! 0 (λ (f₁ : Fml). ‵ f₁) (told_there K₀ w y' found_one) refl $ fsplit ! $ fpick ! (λ lies. drop ! $
     nothing ! $ fpack ! (IsPlaced K₀ w y') (λ _. ftrue) lies $ fjoin ! $ rewrite ! 0 (λ (f₁ : Fml). ‵ f₁) (sym (told_there K₀ w y' found_one)) refl $
     nothing ! $ move ! (1 ∷ 0 ∷ []) $ fjoin ! $ use0 𝓛 (‵ ((StripData R₀).own_val (w, (tt, tt)) (hand_of w ∷ []))) (strip_made 𝓛 R₀ w) $ fjoin ! $
-    nothing ! $ nothing ! $ fjoin ! $ nothing ! $ fjoin ! $ nothing ! $ fjoin ! $ nothing ! $ fjoin ! $ nothing ! $ fjoin ! $ nothing ! $ fjoin ! $
-    move ! (2 ∷ 5 ∷ []) $ join ! $ move ! (3 ∷ 0 ∷ []) $ join ! $ move ! (3 ∷ 0 ∷ []) $ join ! $
+    nothing ! $ nothing ! $ fjoin ! $ nothing ! $ fjoin ! $ nothing ! $ fjoin ! $ nothing ! $ fjoin ! $ nothing ! $ fjoin ! $ nothing ! $ fjoin ! $ nothing ! $ fjoin ! $
+    move ! (2 ∷ 6 ∷ []) $ join ! $ move ! (3 ∷ 0 ∷ []) $ join ! $ move ! (3 ∷ 0 ∷ []) $ join ! $ move ! (3 ∷ 0 ∷ []) $ join ! $
     use0 𝓛 (raw (fact 𝓤 Told)) (fact_i 𝓤 Told (emp 𝓤) (refl, refl, refl, refl, refl, found_one, lies.1, lies.3)) $
     returns ! (look_at ! 0 refl) $ free_all ! refl $ keep ! (1 ∷ 2 ∷ 3 ∷ 0 ∷ []) $
-    by ! (leaves 𝓛 En hs c y (hand_of w) r (tt, (tt, (tt, (tt, (tt, (tt, tt)))))) (tt, (tt, (tt, (tt, (tt, (tt, tt))))))))))))))))))
+    by ! (leaves 𝓛 En hs c y (hand_of w) r (tt, (tt, (tt, (tt, (tt, (tt, (tt, tt))))))) (tt, (tt, (tt, (tt, (tt, (tt, (tt, tt))))))))))))))))))))

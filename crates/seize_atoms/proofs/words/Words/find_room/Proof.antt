@@ -90,7 +90,7 @@ find_room_spec 𝓤 𝓛 𝓜 𝓡 wired X P U F LX LP LU LF g d _ =
     let κ : Lft = κs.0 in let κ₁ : Lft = κs.1.0 in
     let t : Row.Denot = a.0.now in let p : Ptr = t.words in let z : BaseId = t.id in let h : Sr.Denot = a.1.0.now in
     let n : ℕ = a.1.1.0 in let i : ℕ = a.1.1.1.0 in let pd : Ptr = a.1.1.1.1.0 in let k : ℕ = a.1.1.1.1.1.0 in let j : ℕ = k - 32 in
-    let cv = seat_coded R₂.coded in let α : Lft = age z in let rule = g.holds t.fixed in let holds = HoldsSince g.rests t.start rule in let keeps = keeps_here g.keeps in
+    let cv = seat_coded R₂.coded in let α : Lft = age z in let rule = g.holds t.fixed in let holds = HoldsSince g.rests t.start rule g.keeps in let keeps = keeps_here g.keeps in
     let db : ℕ = block_of z.doors in let d₀ : ℕ = count_of z.doors in let e : ℕ = k * 8 + d₀ in let p' : Ptr = block_ptr db d₀ in
     let others : Fml = fsep (flft κs.1.1.0 qs.1.1.0) (fsep (flft κs.1.1.1.0 qs.1.1.1.0) (fsep (flft κs.1.1.1.1.0 qs.1.1.1.1.0)
     (fsep (flft κs.1.1.1.1.1.0 qs.1.1.1.1.1.0) ftrue))) in

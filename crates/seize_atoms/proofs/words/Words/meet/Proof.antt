@@ -1,8 +1,8 @@
 -- `meet` opens the invariant once for both seats, and takes no step of the machine.
 use Rattle.seize_atoms.specs.Visiting.{Seen, HoldsSince, keeps_here, seat_coded}
+use Rattle.seize_seats.specs.Visits.{onward}
 use Rattle.seize_seats.specs.Errands.{coded_of, MayMeet}
 use Rattle.seize_atoms.proofs.Allowed.{meet_allowed}
-use Rattle.std.specs.Prelude.{None}
 use Rattle.std.proofs.Common.{◌≡◌, ℕ, List, [], ◌∷◌, sym, refl}
 use mir.Syntax.{dcons, dnil, a_type, named}
 use mir.MapTy.{inst_fn}
@@ -63,8 +63,8 @@ meet_spec 𝓤 𝓛 𝓜 𝓡 wired X P U F N LX LP LU LF LN g d g' d' _ _ =
     let b₂ : ℕ = a.1.1.0.ref_ptr.0 in let o₂ : ℕ = a.1.1.0.ref_ptr.1 in let κ : Lft = κs.0 in
     let t : Row.Denot = a.0.now in let p : Ptr = t.words in let z : BaseId = t.id in let h : Sr.Denot = a.1.0.now in let k : Sr.Denot = a.1.1.0.now in
     let i : ℕ = h.id in let v : Seen U.Denot = ((h.view, h.visit), h.away) in let j : ℕ = k.id in let u : Seen U.Denot = ((k.view, k.visit), k.away) in
-    let cv = seat_coded R₂.coded in let rule = g.holds t.fixed in let holds = HoldsSince g.rests t.start rule in let keeps = keeps_here g.keeps in let to : U.Denot → U.Denot → Type 0 = g'.to t.fixed h.view k.view in
-    let so : Seen U.Denot → Seen U.Denot → Type 0 = λ c d. (to c.0.0 d.0.0 × (c.0.1 ≡ None) × (d.0.1 ≡ None)) × (c.1 ≡ h.away) × (d.1 ≡ k.away) in
+    let cv = seat_coded R₂.coded in let rule = g.holds t.fixed in let holds = HoldsSince g.rests t.start rule g.keeps in let keeps = keeps_here g.keeps in let to : U.Denot → U.Denot → Type 0 = g'.to t.fixed h.view k.view in
+    let so : Seen U.Denot → Seen U.Denot → Type 0 = λ c d. (to c.0.0 d.0.0 × (c.0.1 ≡ onward h.visit) × (d.0.1 ≡ onward k.visit)) × (c.1 ≡ h.away) × (d.1 ≡ k.away) in
     let others : Fml = fsep (flft κs.1.1.1.0 qs.1.1.1.0) (fsep (flft κs.1.1.1.1.0 qs.1.1.1.1.0) (fsep (flft κs.1.1.1.1.1.0 qs.1.1.1.1.1.0)
     (fsep (flft κs.1.1.1.1.1.1.0 qs.1.1.1.1.1.1.0) (fsep (flft κs.1.1.1.1.1.1.1.0 qs.1.1.1.1.1.1.1.0) ftrue)))) in
     let Asked : Type 0 = (h.base ≡ z.views_name) × (k.base ≡ z.views_name) × Meets rule i h.view j k.view to × MayMeet g.rests h.away h.view k.away k.view to in

@@ -100,8 +100,8 @@ offer_room_spec 𝓤 𝓛 𝓜 𝓡 wired X P U F LX LP LU LF g d _ =
     let pd : Ptr = a.1.1.0 in let k : ℕ = a.1.1.1.0 in let pa : Ptr = a.1.1.1.1.0 in let dd : Pc.Denot = a.1.1.1.1.1.0 in let n : ℕ = dd.count in let ws : List ℕ = dd.words in
     let j : ℕ = k - 32 in
     let id : ℕ = h.id in let v : Seen U.Denot = ((h.view, h.visit), h.away) in let cv = seat_coded R₂.coded in let α : Lft = age z in
-    let rule = g.holds t.fixed in let holds = HoldsSince g.rests t.start rule in let keeps = keeps_here g.keeps in
-    let told : ℕ → Out K₀.Denot → Seen U.Denot → Type 0 = λ m. then_away h.away (then_kept value_of (g.then h.view (Room m))) in let so = told (suc j) in
+    let rule = g.holds t.fixed in let holds = HoldsSince g.rests t.start rule g.keeps in let keeps = keeps_here g.keeps in
+    let told : ℕ → Out K₀.Denot → Seen U.Denot → Type 0 = λ m. then_away h.away (then_kept value_of h.visit (g.then h.view (Room m))) in let so = told (suc j) in
     let db : ℕ = block_of z.doors in let d₀ : ℕ = count_of z.doors in let e : ℕ = k * 8 + d₀ in let pd' : Ptr = block_ptr db d₀ in
     let pb : ℕ = block_of pa in let po : ℕ = count_of pa in let pa' : Ptr = block_ptr pb po in
     let others : Fml = fsep (flft κs.1.1.0 qs.1.1.0) (fsep (flft κs.1.1.1.0 qs.1.1.1.0) (fsep (flft κs.1.1.1.1.0 qs.1.1.1.1.0)

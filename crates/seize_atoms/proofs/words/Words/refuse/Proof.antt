@@ -83,10 +83,10 @@ refuse_spec 𝓤 𝓛 𝓜 𝓡 wired X P U F LX LP LU LF g d _ =
     )) (λ κs qs bounds a gh are.
     let b : ℕ = a.0.ref_ptr.0 in let o : ℕ = a.0.ref_ptr.1 in let b' : ℕ = a.1.0.ref_ptr.0 in let o' : ℕ = a.1.0.ref_ptr.1 in let κ : Lft = κs.0 in
     let t : Row.Denot = a.0.now in let p : Ptr = t.words in let z : BaseId = t.id in let h : Sr.Denot = a.1.0.now in
-    let id : ℕ = h.id in let v : Seen U.Denot = ((h.view, h.visit), h.away) in let cv = seat_coded R₂.coded in let rule = g.holds t.fixed in let holds = HoldsSince g.rests t.start rule in let keeps = keeps_here g.keeps in let b₂ : ℕ = a.1.1.0.ref_ptr.0 in
+    let id : ℕ = h.id in let v : Seen U.Denot = ((h.view, h.visit), h.away) in let cv = seat_coded R₂.coded in let rule = g.holds t.fixed in let holds = HoldsSince g.rests t.start rule g.keeps in let keeps = keeps_here g.keeps in let b₂ : ℕ = a.1.1.0.ref_ptr.0 in
     let o₂ : ℕ = a.1.1.0.ref_ptr.1 in
     let x : X.Denot = a.1.1.0.now in let count : ℕ = a.1.1.1.0 in
-    let so : Out K₀.Denot → Seen U.Denot → Type 0 = then_away h.away (then_kept value_of (g.then h.view (Make x count))) in
+    let so : Out K₀.Denot → Seen U.Denot → Type 0 = then_away h.away (then_kept value_of h.visit (g.then h.view (Make x count))) in
     let kept : K₀.Denot = record { value = x; at = null_ptr; count = 0; beside = refl } in let out : Out K₀.Denot = Made (Err kept) in
     let others : Fml = fsep (flft κs.1.1.0 qs.1.1.0) (fsep (flft κs.1.1.1.0 qs.1.1.1.0) (fsep (flft κs.1.1.1.1.0 qs.1.1.1.1.0)
     (fsep (flft κs.1.1.1.1.1.0 qs.1.1.1.1.1.0) (fsep (flft κs.1.1.1.1.1.1.0 qs.1.1.1.1.1.1.0) ftrue)))) in

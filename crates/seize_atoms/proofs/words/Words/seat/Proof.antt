@@ -1,5 +1,6 @@
 -- `seat` opens the invariant once, and the list of views grows.
 use Rattle.seize_atoms.specs.Visiting.{Seen, HoldsSince, keeps_here, seat_coded}
+use Rattle.seize_seats.specs.Visits.{fresh}
 use Rattle.seize_seats.specs.Errands.{Away, coded_of}
 use Rattle.seize_atoms.proofs.Allowed.{comes_allowed}
 use Rattle.std.specs.Prelude.{None}
@@ -58,8 +59,8 @@ seat_spec 𝓤 𝓛 𝓜 𝓡 wired X P U F LX LP LU LF g d _ =
     (#self inst) fn (code.unfolded 𝓤 H 𝓜 𝓡 wired (X, (P, (U, (F, tt)))) d)
     (λ κs. (shr_vals, tt)) (λ κs. (shr_Tells (named 0) κs.0 Row, tt)) (λ κs qs bounds a gh are.
     let b : ℕ = a.0.ref_ptr.0 in let o : ℕ = a.0.ref_ptr.1 in let κ : Lft = κs.0 in
-    let t : Row.Denot = a.0.now in let p : Ptr = t.words in let z : BaseId = t.id in let cv = seat_coded R₂.coded in let rule = g.holds t.fixed in let holds = HoldsSince g.rests t.start rule in let keeps = keeps_here g.keeps in
-    let v₀ : U.Denot = g.newcomer t.fixed in let v : Seen U.Denot = ((v₀, None), None) in let h₀ : Away = None in
+    let t : Row.Denot = a.0.now in let p : Ptr = t.words in let z : BaseId = t.id in let cv = seat_coded R₂.coded in let rule = g.holds t.fixed in let holds = HoldsSince g.rests t.start rule g.keeps in let keeps = keeps_here g.keeps in
+    let v₀ : U.Denot = g.newcomer t.fixed in let v : Seen U.Denot = ((v₀, fresh), None) in let h₀ : Away = None in
     let others : Fml = fsep (flft κs.1.0 qs.1.0) (fsep (flft κs.1.1.0 qs.1.1.0) (fsep (flft κs.1.1.1.0 qs.1.1.1.0)
     (fsep (flft κs.1.1.1.1.0 qs.1.1.1.1.0) ftrue))) in
     let Asked : Type 0 = Comes rule g.keeps v₀ in
@@ -79,7 +80,7 @@ seat_spec 𝓤 𝓛 𝓜 𝓡 wired X P U F LX LP LU LF g d _ =
     await ! tt $ split ! $ fpick ! (λ id.
     use1 𝓛 (later (items (λ (st : ℕ × ℕ). ‵ (seat_owns cv.code z.views_name id v st.0 st.1)))) (begins 𝓛 (coded_of cv) z.views_name id v) $ await ! tt $ pick ! (λ st.
     sets ! (agg ! (no_more !)) refl (tt, tt) $ sets ! (agg ! (and_then ! (get ! refl) (no_more !))) refl (tt, (tt, tt)) $
-    let r : Sr.Denot = record { marker = record {}; base = z.views_name; id = id; view = v₀; visit = None; away = None; stretch = st.0; mark = st.1 } in let Told : Type 0 = (z.views_name ≡ z.views_name) × (v₀ ≡ v₀) × (h₀ ≡ None) in
+    let r : Sr.Denot = record { marker = record {}; base = z.views_name; id = id; view = v₀; visit = fresh; away = None; stretch = st.0; mark = st.1 } in let Told : Type 0 = (z.views_name ≡ z.views_name) × (v₀ ≡ v₀) × (h₀ ≡ None) in
     use0 𝓛 (‵ ((Token R₀ R₁ R₂ R₃ g).own_val (tt, tt) (token ∷ []))) (token_made R₀ R₁ R₂ R₃ g 𝓛) $ fjoin ! $
     nothing ! $ nothing ! $ fjoin ! $ move ! (2 ∷ 3 ∷ []) $ join ! $ use0 𝓛 (raw (fact 𝓤 Told)) (fact_i 𝓤 Told (emp 𝓤) (refl, refl, refl)) $
     returns ! (look_at ! 0 refl) $ free_all ! refl $ keep ! (1 ∷ 2 ∷ 3 ∷ 0 ∷ []) $ by ! (leaves 𝓛 En hs c y token r (tt, tt) (tt, tt)))))))

@@ -1,14 +1,15 @@
 -- `value` lends the value of a block: a part of its token goes under the seat's stretch, and the address of its place is told.
 use Rattle.seize_atoms.specs.Visiting.{Seen, HoldsHere, HoldsSince, keeps_here, seat_coded}
-use Rattle.seize_atoms.proofs.Allowed.{shown_here, value_both}
-use Rattle.std.proofs.Common.{◌≡◌, ℕ, List, [], ◌∷◌, ◌+◌, ◌-◌, ◌*◌, ◌^◌, ◌<◌, sym, refl, ap, ◌∙◌, subst, w64, arith, Some}
+use Rattle.seize_atoms.proofs.Allowed.{shown_here, shown_alone, value_both}
+use Rattle.seize_seats.proofs.Hands.{bears}
+use Rattle.std.proofs.Common.{◌≡◌, ℕ, List, [], ◌∷◌, ◌+◌, ◌-◌, ◌*◌, ◌^◌, ◌<◌, sym, refl, ap, ◌∙◌, subst, w64, arith, Some, None}
 use mir.Syntax.{dcons, dnil, a_type, named}
 use mir.MapTy.{inst_fn}
 use mir.Val.{Val, vint, vptr}
 use prog.Wp.{WpFn}
 use base.Logic.{SProp, ent, emp, id⊢}
 use base.Fml.{Lft, Fml, ftrue, fsep, flft, fhide, fbor, fshr_bor}
-use types.Kit.{‵, raw, ◌⊛◌, some as items, given, later, at_ret, ◌$◌, ◌∵◌, !, qed, by, move, keep, drop, split, join, fsplit, group, fsplit3, fjoin, pick, learn, use0, use1, await, suffices, rewrite, feq_i}
+use types.Kit.{‵, raw, ◌⊛◌, some as items, given, later, at_ret, ◌$◌, ◌∵◌, !, qed, by, move, keep, drop, split, split3, join, fsplit, group, fsplit3, fjoin, pick, learn, use0, use1, await, suffices, rewrite, feq_i}
 use types.Run.{stop, addr, of_opd, bin, size_word, first, blocks, exec, returns, enter}
 use types.ByLocal.{alloc_all, pass_all, free_all, look_at, get, through, sets, sets_last, is, env}
 use contract.Running.{tables}
@@ -76,7 +77,7 @@ value_spec 𝓤 𝓛 𝓜 𝓡 wired X P U F LX LP LU LF g d _ =
     let h : Sr.Denot = a.1.1.0.now in let k : Sr.Denot = a.1.1.1.0.now in
     let nr : ℕ = a.1.1.1.1.0 in let j : ℕ = a.1.1.1.1.1.0 in let pv : Ptr = a.1.1.1.1.1.1.0 in
     let hg : Holder (Seen U.Denot) = record { seat = h.id; view = ((h.view, h.visit), h.away); stretch = h.stretch; mark = h.mark } in
-    let ho : Holder (Seen U.Denot) = record { seat = k.id; view = ((k.view, k.visit), k.away); stretch = k.stretch; mark = k.mark } in let cv = seat_coded R₂.coded in let rule = g.holds t.fixed in let ruled = HoldsHere g.rests rule in let holds = HoldsSince g.rests t.start rule in let keeps = keeps_here g.keeps in
+    let ho : Holder (Seen U.Denot) = record { seat = k.id; view = ((k.view, k.visit), k.away); stretch = k.stretch; mark = k.mark } in let cv = seat_coded R₂.coded in let rule = g.holds t.fixed in let ruled = HoldsHere g.rests rule in let holds = HoldsSince g.rests t.start rule g.keeps in let keeps = keeps_here g.keeps in
     let bv : ℕ = block_of pv in let ov : ℕ = count_of pv in let sz : ℕ = stride K₀ in let e : ℕ = j * sz + ov in
     let others : Fml = fsep (flft κs.1.0 qs.1.0) (fsep (flft κs.1.1.0 qs.1.1.0) (fsep (flft κs.1.1.1.0 qs.1.1.1.0) (fsep (flft κs.1.1.1.1.0 qs.1.1.1.1.0) (fsep (flft κs.1.1.1.1.1.0 qs.1.1.1.1.1.0) ftrue)))) in
     let Asked : Type 0 = (core_of z ≡ core_of z₀) × InBlock p × (h.base ≡ z₀.views_name) × (k.base ≡ z₀.views_name) × IsItsIndex z nr j × (pv ≡ z.values) ×
@@ -125,11 +126,12 @@ value_spec 𝓤 𝓛 𝓜 𝓡 wired X P U F LX LP LU LF g d _ =
     alloc_all ! (λ l. pass_all ! refl ((tt, tt), ((tt, tt), ((tt, tt), ((tt, tt), ((tt, record { fits = are.1.1.1.1.0.1 }), ((tt, record { fits = are.1.1.1.1.1.0.1 }), (Ptr-Good p', tt))))))) $
     let Ev = env fn.locals l in
     -- [the owner; the guard; the words; the token; the others]
-    move ! (2 ∷ 1 ∷ 0 ∷ 3 ∷ []) $ group ! 4 $
-    let d : ℕ = nr - 1 - z.first in let here : ℕ = d * sz + count_of z.values in let mine = asked.4.0 in let shown = shown_here g.rests rule g.keeps t.start h.id h.view h.visit h.away k.id k.view k.visit k.away nr asked.6 in
-    use1 𝓛 (later (items (λ (x : K₀.Denot). given (So 𝓛 K₀ LO.shr_laws kept_words cv holds keeps p z hg ho nr shown mine x)
-    (‵ (shared_of O (Some x) (block_of z.values) here κ))) ⊛ ‵ (flft κ qs.0)))
-    (lent_to 𝓛 K₀ LO.shr_laws kept_words cv holds keeps p z hg ho nr shown mine κ qs.0) $ await ! tt $ split ! $ pick ! (λ x. learn ! (λ so.
+    nothing ! $ nothing ! $ fjoin ! $ move ! (3 ∷ 2 ∷ 1 ∷ 4 ∷ 0 ∷ []) $ group ! 5 $
+    let d : ℕ = nr - 1 - z.first in let here : ℕ = d * sz + count_of z.values in let mine = asked.4.0 in let shown = shown_alone g.rests rule g.keeps t.start h.id ((h.view, h.visit), h.away) k.id ((k.view, k.visit), k.away) nr
+    (shown_here g.rests rule g.keeps t.start h.id h.view h.visit h.away k.id k.view k.visit k.away nr asked.6) in let beside = bears 𝓛 K₀ kept_words cv holds p z None in
+    use1 𝓛 (later (items (λ (x : K₀.Denot). given (So 𝓛 K₀ LO.shr_laws kept_words cv holds keeps p z hg ho None nr shown mine ftrue (λ _. Unit {0}) beside x)
+    (‵ (shared_of O (Some x) (block_of z.values) here κ))) ⊛ ‵ (flft κ qs.0) ⊛ ‵ ftrue))
+    (lent_to 𝓛 K₀ LO.shr_laws kept_words cv holds keeps p z hg ho None nr shown mine ftrue (λ _. Unit {0}) beside κ qs.0) $ await ! tt $ split3 ! $ move ! (2 ∷ []) $ drop ! $ pick ! (λ x. learn ! (λ so.
     let few = so.2 in let low = so.1 in let high = few.1 in let low_is = few.0 in let j_is : j ≡ d = asked.4.1 low few in let room : z.size * sz < 2 ^ 63 = there.3 in
     let small : j * sz < 2 ^ 64 = indexed j z.size sz (omega (arith, high, low_is, j_is)) room in
     rewrite ! 0 (λ (r : Ptr × ℕ). ‵ (shared_of O (Some x) (block_of r.0) (r.1 * sz + count_of r.0) κ)) (λ i. (sym asked.5 i, sym j_is i)) refl $

@@ -3,7 +3,7 @@ use Rattle.seize_blocks.proofs.By.{on_take}
 use Rattle.seize_blocks.proofs.blocks.Blocks.take.Goals as goal
 
 pub spot_of-spot-requires-clause-shown : goal.spot_of-spot-requires-clause-shown
-spot_of-spot-requires-clause-shown g c = λ t so is _. (c.requires.may t so is).0
+spot_of-spot-requires-clause-shown g c = λ t so is _ _. (c.requires.may t so is).0
 
 pub take-kept-requires : goal.take-kept-requires
 take-kept-requires g c = let s = c.spot_of-spot in let low = s.ensures.words.1 in
