@@ -10,9 +10,9 @@ ghost use Rattle.seize_callers.specs.Given.SeizeViewsDeclared.view.Began.{Began}
 ghost use Rattle.seize_callers.specs.Given.SeizeViewsDeclared.view.Began.TheVariants.{Retirement, Section, Trial};
 ghost use Rattle.seize_callers.specs.Given.SeizeViewsDeclared.view.Deed.{Deed};
 ghost use Rattle.seize_callers.specs.Given.SeizeViewsDeclared.view.Deed.TheVariants.{Looked, Marked};
-ghost use Rattle.seize_callers.specs.Given.SeizeViewsDeclared.view.View.TheVariants.{Rests};
+ghost use Rattle.seize_callers.specs.Given.SeizeViewsDeclared.view.View.TheVariants.{Brings, Rests};
 
-use crate::owned::Unlinked;
+use crate::owned::{Owned, Unlinked};
 use crate::stay::Stay;
 use crate::tagged::Tagged;
 use seize::rows::Defers;
@@ -366,6 +366,20 @@ impl<'r, 'a, T: Defers + Drop, R: Receiver<T>> RootGuard<T> for LocalGuard<'r, '
     }
 }
 
+impl<'r, 'a, T: Defers + Drop, R: Receiver<T>> LocalGuard<'r, 'a, T, OfRows, R> {
+    /// Makes a block of a value, which is of its collector; a number is looked for from `near` on, which says then where to look next. Without words for it, or
+    /// memory, the value comes back. What it has seen it knows still.
+    pub fn make(&self, near: &mut u64, value: T) -> Result<Owned<'a, T>, T>
+        ensures made { IfOk result (λ owned. owned.caller.seat.view.knows ≡ Brings owned.block value) }
+        ensures home { IfOk result (λ owned. owned.caller.blocks.now ≡ self.now.registration.now.stay.caller.blocks.now) }
+        ensures number { IfOk result (λ owned. owned.number ≡ self.now.registration.now.number) }
+        ensures back { IfErr result (λ back. back ≡ value) }
+    {
+        let registration = &*self.registration;
+        registration.stay.makes(registration.number, near, value)
+    }
+}
+
 impl<'r, 'a, T: Defers + Drop, C: Content<T>, R: Receiver<T>> Drop for LocalGuard<'r, 'a, T, C, R> {
     fn drop(self)
         ensures closed { self.exit.0.now.stay.inside ≡ false }
@@ -417,6 +431,19 @@ impl<'a, T: Defers + Drop, C: Content<T>, R: Receiver<T>> OwnedGuard<'a, T, C, R
             number,
             receiver: PhantomData,
         })
+    }
+}
+
+impl<'a, T: Defers + Drop, R: Receiver<T>> OwnedGuard<'a, T, OfRows, R> {
+    /// Makes a block of a value, which is of its collector; a number is looked for from `near` on, which says then where to look next. Without words for it, or
+    /// memory, the value comes back. What it has seen it knows still.
+    pub fn make(&self, near: &mut u64, value: T) -> Result<Owned<'a, T>, T>
+        ensures made { IfOk result (λ owned. owned.caller.seat.view.knows ≡ Brings owned.block value) }
+        ensures home { IfOk result (λ owned. owned.caller.blocks.now ≡ self.now.stay.caller.blocks.now) }
+        ensures number { IfOk result (λ owned. owned.number ≡ self.now.number) }
+        ensures back { IfErr result (λ back. back ≡ value) }
+    {
+        self.stay.makes(self.number, near, value)
     }
 }
 

@@ -120,17 +120,6 @@ impl<'a, T: Defers> Owned<'a, T> {
         if root >= self.roots {
             return Err(self);
         }
-        Ok(self.replaces(root, 0))
-    }
-
-    /// Puts the block at a root, by a word with these marks, of which three bits count, and answers which one was there.
-    fn replaces(self, root: u64, marks: u64) -> Option<Unlinked<'a, T>>
-        requires root { root < self.caller.blocks.now.words.fixed.roots }
-        ensures home { IfSome result (λ old. old.caller.blocks.now ≡ self.entry.caller.blocks.now) }
-        ensures number { IfSome result (λ old. old.number ≡ self.entry.number) }
-        ensures put { IfSome result (λ old. (value : T) → self.entry.caller.seat.view.knows ≡ Brings self.entry.block value
-            → old.caller.seat.view.did ≡ Wrote root (with_marks (link_to self.entry.block) marks) (Some value) old.word) }
-    {
         let Owned {
             caller,
             number,
@@ -138,8 +127,8 @@ impl<'a, T: Defers> Owned<'a, T> {
             block,
         } = self;
         let mut caller = caller;
-        let word = caller.links(root, block, marks % 8);
-        Unlinked::of(caller, number, word)
+        let word = caller.links(root, block, 0);
+        Ok(Unlinked::of(caller, number, word))
     }
 
     /// Puts the block at a root, by a word with these marks, of which three bits count, while a guard of the same collector is there, and answers which one was there, and is to
@@ -158,10 +147,18 @@ impl<'a, T: Defers> Owned<'a, T> {
         ensures put { IfOk result (λ was. IfSome was (λ old. (value : T) → self.entry.caller.seat.view.knows ≡ Brings self.entry.block value
             → old.caller.seat.view.did ≡ Wrote root (with_marks (link_to self.entry.block) marks) (Some value) old.word)) }
     {
-        if guard.number() != self.number {
+        if self.number != guard.number() {
             return Err((Fault::ForeignGuard, self));
         }
-        Ok(self.replaces(root, marks))
+        let Owned {
+            caller,
+            number,
+            roots: _,
+            block,
+        } = self;
+        let mut caller = caller;
+        let word = caller.links(root, block, marks % 8);
+        Ok(Unlinked::of(caller, number, word))
     }
 
     /// Puts the block at a root, by a word with these marks, of which three bits count, where the whole word is `old`, block and tag, while a guard of the same collector is
@@ -189,10 +186,28 @@ impl<'a, T: Defers> Owned<'a, T> {
         ensures back { IfOk result (λ tried. IfErr tried (λ found. (value : T) → self.entry.caller.seat.view.knows ≡ Brings self.entry.block value
             → found.1.caller.seat.view.knows ≡ Brings found.1.block value)) }
     {
-        if guard.number() != self.number {
+        if self.number != guard.number() {
             return Err((Fault::ForeignGuard, self));
         }
-        Ok(self.exchanges(root, old, marks))
+        let Owned {
+            caller,
+            number,
+            roots,
+            block,
+        } = self;
+        let mut caller = caller;
+        match caller.exchanges(root, old.word(), block, marks % 8) {
+            Ok(()) => Ok(Ok(Unlinked::of(caller, number, old.word()))),
+            Err(now) => {
+                let owned = Owned {
+                    caller,
+                    number,
+                    roots,
+                    block,
+                };
+                Ok(Err((Tagged::of(now), owned)))
+            }
+        }
     }
 
     /// The same: it fails only where that does.
@@ -219,47 +234,6 @@ impl<'a, T: Defers> Owned<'a, T> {
             → found.1.caller.seat.view.knows ≡ Brings found.1.block value)) }
     {
         self.compare_exchange(guard, root, old, marks)
-    }
-
-    /// Puts the block at a root, by a word with these marks, of which three bits count, where the whole word is `old`. Else it answers which word is there.
-    fn exchanges(
-        self,
-        root: u64,
-        old: Tagged,
-        marks: u64,
-    ) -> Result<Option<Unlinked<'a, T>>, (Tagged, Self)>
-        requires root { root < self.caller.blocks.now.words.fixed.roots }
-        ensures home { IfOk result (λ was. IfSome was (λ cut. cut.caller.blocks.now ≡ self.entry.caller.blocks.now)) }
-        ensures number { IfOk result (λ was. IfSome was (λ cut. cut.number ≡ self.entry.number)) }
-        ensures put { IfOk result (λ was. IfSome was (λ cut. (value : T) → self.entry.caller.seat.view.knows ≡ Brings self.entry.block value
-            → cut.caller.seat.view.did ≡ Wrote root (with_marks (link_to self.entry.block) marks) (Some value) old.word)) }
-        ensures cut { IfOk result (λ was. IfSome was (λ cut. cut.word ≡ old.word)) }
-        ensures none { IfOk result (λ was. IfNone was (block_in old.word ≡ 0)) }
-        ensures other { IfErr result (λ found. (found.0.word ≢ old.word) × (found.1.caller.seat.view.did ≡ Looked root found.0.word)) }
-        ensures same { IfErr result (λ found. (found.1.caller.blocks.now ≡ self.entry.caller.blocks.now) × (found.1.number ≡ self.entry.number)
-            × (found.1.block ≡ self.entry.block)) }
-        ensures back { IfErr result (λ found. (value : T) → self.entry.caller.seat.view.knows ≡ Brings self.entry.block value
-            → found.1.caller.seat.view.knows ≡ Brings found.1.block value) }
-    {
-        let Owned {
-            caller,
-            number,
-            roots,
-            block,
-        } = self;
-        let mut caller = caller;
-        match caller.exchanges(root, old.word(), block, marks % 8) {
-            Ok(()) => Ok(Unlinked::of(caller, number, old.word())),
-            Err(now) => Err((
-                Tagged::of(now),
-                Owned {
-                    caller,
-                    number,
-                    roots,
-                    block,
-                },
-            )),
-        }
     }
 
     /// Puts the block at a root where none is there. Else, or where there is no such root, it comes back.

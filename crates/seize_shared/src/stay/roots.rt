@@ -7,16 +7,34 @@ ghost use Rattle.seize_shared.specs.Lent.{IsLent};
 ghost use Rattle.seize_callers.specs.Given.SeizeViewsDeclared.view.Began.TheVariants.{Retirement};
 ghost use Rattle.seize_callers.specs.Given.SeizeViewsNotes.{looked_at, written_at};
 ghost use Rattle.seize_callers.specs.Given.SeizeViewsDeclared.view.Deed.TheVariants.{Looked, Marked};
-ghost use Rattle.seize_callers.specs.Given.SeizeViewsDeclared.view.View.TheVariants.{Rests, Watches};
+ghost use Rattle.seize_callers.specs.Given.SeizeViewsDeclared.view.View.TheVariants.{Brings, Rests, Watches};
 
+use crate::owned::Owned;
 use crate::stay::Stay;
 use crate::tagged::Tagged;
 use seize::rows::Defers;
 use seize_blocks::Seat;
 use seize_callers::{Caller, named};
-use seize_views::OfRows;
+use seize_views::{Fixed, OfRows};
 
 impl<'a, T: Defers + Drop> Stay<'a, T> {
+    /// Tells whether its section is open and there is such a root; where not, what was seen is not known any more.
+    fn may_look(&mut self, root: u64) -> bool
+        ensures home { self.new.caller.blocks ≡ self.old.caller.blocks }
+        ensures slot { self.new.slot ≡ self.old.slot }
+        ensures guards { self.new.guards ≡ self.old.guards }
+        ensures inside { self.new.inside ≡ self.old.inside }
+        ensures may { result ≡ true → (self.old.inside ≡ true) × (root < self.old.caller.blocks.now.words.fixed.roots) × (self.new ≡ self.old) }
+        ensures fresh { result ≡ false → self.new.seen ≡ 0 }
+        ensures told { self.old.inside ≡ true → root < self.old.caller.blocks.now.words.fixed.roots → result ≡ true }
+    {
+        if !self.inside || root >= self.roots {
+            self.forgets();
+            return false;
+        }
+        true
+    }
+
     /// Looks which block is at a root, and tells whether one is, where its section is open. What was seen before is not known any more.
     pub(crate) fn sees(&mut self, root: u64) -> bool
         ensures home { self.new.caller.blocks ≡ self.old.caller.blocks }
@@ -29,8 +47,7 @@ impl<'a, T: Defers + Drop> Stay<'a, T> {
         ensures empty { result ≡ false → self.old.inside ≡ true → root < self.old.caller.blocks.now.words.fixed.roots
             → looked_at self.new.caller.seat.view.did ≡ Some (root, 0) }
     {
-        if !self.inside || root >= self.roots {
-            self.forgets();
+        if !self.may_look(root) {
             return false;
         }
         match self.caller.see(self.slot, root) {
@@ -56,8 +73,7 @@ impl<'a, T: Defers + Drop> Stay<'a, T> {
         ensures none { IfNone result (self.new.seen ≡ 0) }
         ensures there { self.old.inside ≡ true → root < self.old.caller.blocks.now.words.fixed.roots → IsSome result }
     {
-        if !self.inside || root >= self.roots {
-            self.forgets();
+        if !self.may_look(root) {
             return None;
         }
         let word = self.caller.protect(self.slot, root);
@@ -77,13 +93,26 @@ impl<'a, T: Defers + Drop> Stay<'a, T> {
         ensures none { IfNone result (self.new.seen ≡ 0) }
         ensures there { self.old.inside ≡ true → root < self.old.caller.blocks.now.words.fixed.roots → IsSome result }
     {
-        if !self.inside || root >= self.roots {
-            self.forgets();
+        if !self.may_look(root) {
             return None;
         }
         let word = self.caller.mark(self.slot, root, marks % 8);
         self.seen = named(word).unwrap_or(0);
         Some(Tagged::of(word))
+    }
+
+    /// Makes a block of a value, which is of a collector of this number, and has a seat of its own.
+    pub(crate) fn makes(&self, number: u64, near: &mut u64, value: T) -> Result<Owned<'a, T>, T>
+        ensures made { IfOk result (λ owned. owned.caller.seat.view.knows ≡ Brings owned.block value) }
+        ensures home { IfOk result (λ owned. owned.caller.blocks.now ≡ self.now.caller.blocks.now) }
+        ensures number { IfOk result (λ owned. owned.number ≡ number) }
+        ensures back { IfErr result (λ back. back ≡ value) }
+    {
+        let fixed = Fixed {
+            batch_size: self.caller.batch_size(),
+            roots: self.roots,
+        };
+        Owned::of(self.caller.blocks(), &fixed, number, near, value)
     }
 
     /// The value that was seen, if one was.
