@@ -131,25 +131,15 @@ fn goes_home(
     retired: Result<(), (Fault, Unlinked<'_, Counted>)>,
     own: &mut Registration<'_, Counted>,
 ) -> (bool, bool)
-    requires { IfErr retired (λ refused. refused.1.caller.blocks.now.words.id.views_name ≡ own.old.stay.caller.blocks.now.words.id.views_name) }
+    requires home { IfErr retired (λ refused. refused.1.caller.blocks.now.words.id.views_name ≡ own.old.stay.caller.blocks.now.words.id.views_name) }
+    requires number { IfErr retired (λ refused. refused.1.number ≡ own.old.number) }
 {
     match retired {
         Ok(()) => (true, false),
-        Err((fault, old)) => (
-            false,
-            fault == Fault::ForeignGuard && is_retired(own.retire(old)),
-        ),
-    }
-}
-
-/// Whether a block was retired. One that has come back is forgotten.
-fn is_retired(retired: Result<(), (Fault, Unlinked<'_, Counted>)>) -> bool {
-    match retired {
-        Ok(()) => true,
-        Err((_, old)) => {
-            mem::forget(old);
-            false
-        }
+        Err((fault, old)) => match own.retire(old) {
+            Ok(()) => (false, fault == Fault::ForeignGuard),
+            Err(_) => unreachable!(),
+        },
     }
 }
 

@@ -5,22 +5,10 @@ use crate::guards::{CHOSEN, TIMES, goes, went};
 use crate::retiring::{Counted, Table, all_are, dropped, table};
 use seize_blocks::{Blocks, Home};
 use seize_shared::{Guard, OfRows, Owned, OwnedGuard, Registration, RootGuard, Unlinked};
-use seize_words::Fault;
 use std::alloc::{AllocError, Global};
 use std::test::Fail;
 use std::thread::Threads;
-use std::{mem, thread};
-
-/// Whether a block was retired. One that has come back is forgotten.
-fn is_retired<'u>(retired: Result<(), (Fault, Unlinked<'u, Counted>)>) -> bool {
-    match retired {
-        Ok(()) => true,
-        Err((_, old)) => {
-            mem::forget(old);
-            false
-        }
-    }
-}
+use std::thread;
 
 /// Makes a block of a value, and puts it at the root; looks at the value that was there, and retires it, without a section. Answers whether it was put, and
 /// what was there had not been dropped.
@@ -32,7 +20,9 @@ fn brings(
 ) -> bool
     requires fixed { blocks.now.words.fixed ≡ record { batch_size = 5; roots = 1 } }
     requires home { registration.old.stay.caller.blocks.now ≡ blocks.now }
+    requires number { registration.old.number ≡ 0 }
     ensures home { registration.new.stay.caller.blocks ≡ registration.old.stay.caller.blocks }
+    ensures number { registration.new.number ≡ registration.old.number }
 {
     let owned = match Owned::new(blocks, &CHOSEN, near, value) {
         Ok(owned) => owned,
@@ -42,8 +32,10 @@ fn brings(
         Ok(Some(old)) => {
             let was = old.value();
             let fresh = dropped(&was.drops, was.place) == 0;
-            let put = is_retired(registration.retire(old));
-            put && fresh
+            match registration.retire(old) {
+                Ok(()) => fresh,
+                Err(_) => unreachable!(),
+            }
         }
         Ok(None) => true,
         Err(owned) => {
@@ -162,11 +154,10 @@ fn sends<R: Threads + Sync>(
     }
     let second = Owned::new(blocks, &CHOSEN, &mut near, Counted::of(drops, 2)?).ok()?;
     match second.publish(0) {
-        Ok(Some(old)) => {
-            if !is_retired(old.retire(&mut guard)) {
-                return None;
-            }
-        }
+        Ok(Some(old)) => match old.retire(&mut guard) {
+            Ok(()) => (),
+            Err(_) => unreachable!(),
+        },
         Ok(None) => return None,
         Err(owned) => drop(owned.into_value()),
     }
