@@ -3,8 +3,9 @@
 
     refusals/each_request.py [PROGRAM]    exits 1 if a run ends or prints otherwise, and then says which request was refused
 
-PROGRAM is built, with its wanted output in a file `stdout` beside its folder out/. Without it, it is the one that `rt ci` has built in
-crates/papaya_seq_refusals, and nothing is printed where all is well. Its requests are calls of malloc and realloc, so a library is put before the C library that refuses one of them.
+PROGRAM is built, with its wanted output in a file `stdout` beside its folder out/. Without it, it is each of those that `rt ci` has built in
+crates/papaya_seq_refusals and crates/shared_refusals, and nothing is printed where all is well. Its requests are calls of malloc and realloc, so a library is
+put before the C library that refuses one of them.
 """
 import os
 import shutil
@@ -13,7 +14,7 @@ import sys
 import tempfile
 
 TOP = os.path.dirname(os.path.dirname(os.path.abspath(__file__)))
-PROGRAM = f"{TOP}/crates/papaya_seq_refusals/out/papaya_seq_refusals"
+PROGRAMS = [f"{TOP}/crates/{name}/out/{name}" for name in ("papaya_seq_refusals", "shared_refusals")]
 # refuses the request with the number in REFUSED, and then writes a byte to the open file with the number in TOLD
 REFUSING = r"""
 extern void *__libc_malloc(unsigned long);
@@ -52,26 +53,32 @@ def run(program, library, number):
         return bool(it.read()), ran.returncode, ran.stdout
 
 
-def main():
-    program = os.path.abspath(sys.argv[1]) if len(sys.argv) > 1 else PROGRAM
+def tried(program, library):
+    """How many requests a program makes, each of which was refused in a run of its own that ended well."""
     with open(f"{os.path.dirname(os.path.dirname(program))}/stdout", "rb") as it:
         wanted = it.read()
+    for number in range(1, MOST):
+        was, status, said = run(program, library, number)
+        if status or said != wanted:
+            sys.stderr.buffer.write(said)
+            sys.exit(f"each request: with request {number} refused, {program} ends with status {status}")
+        if not was:
+            break
+    if number < 2 or was:
+        sys.exit(f"each request: {program}: " + ("none was refused" if number < 2 else f"more than {MOST} requests"))
+    return number - 1
+
+
+def main():
+    programs = [os.path.abspath(sys.argv[1])] if len(sys.argv) > 1 else PROGRAMS
     with tempfile.TemporaryDirectory(prefix="refusals-") as room:
         with open(f"{room}/refusing.c", "w", encoding="utf-8") as it:
             it.write(REFUSING)
         library = f"{room}/refusing.so"
         subprocess.run([compiler(), "-shared", "-fPIC", "-fno-builtin", "-O1", "-nostdlib", "-o", library, f"{room}/refusing.c"], check=True)
-        for number in range(1, MOST):
-            was, status, said = run(program, library, number)
-            if status or said != wanted:
-                sys.stderr.buffer.write(said)
-                sys.exit(f"each request: with request {number} refused, {program} ends with status {status}")
-            if not was:
-                break
-    if number < 2 or was:
-        sys.exit("each request: none was refused" if number < 2 else f"each request: more than {MOST} requests")
+        requests = [tried(program, library) for program in programs]
     if len(sys.argv) > 1:
-        print(f"each request: {number - 1} refused, one a run")
+        print(f"each request: {requests[0]} refused, one a run")
 
 
 if __name__ == "__main__":

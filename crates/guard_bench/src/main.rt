@@ -28,7 +28,7 @@ fn timed<R: Clock + Threads + Sync>(
         rt,
         alloc,
         threads,
-        &|thread: usize| { takes(blocks, kind, thread as u64, turns) },
+        &|thread: usize| { takes(alloc, blocks, kind, thread as u64, turns) },
     )?;
     let took = start.elapsed(rt)?;
     let mut sum = 0;

@@ -4,6 +4,7 @@ ghost use Rattle.std.specs.Prelude.{◌≡◌, None};
 use seize::rows::Defers;
 use seize_blocks::Blocks;
 use seize_shared::{Fixed, Guard, LocalGuard, OfRows, Registration, RootGuard};
+use std::alloc::Global;
 
 /// How many roots there are.
 pub(crate) const ROOTS: u64 = 4;
@@ -58,11 +59,38 @@ fn puts(guard: &mut LocalGuard<'_, '_, Number>, root: u64, turns: u64) -> u64 {
     put
 }
 
-/// Takes so many turns with a slot of its own, and answers how many came to what they should: a section is opened and ended; or, all within one section, a root
-/// is looked at, where a value is; or a value is put at a root, the same one for all threads, or one of the thread's own.
-pub(crate) fn takes(blocks: &Blocks<Number, OfRows>, kind: &str, thread: u64, turns: u64) -> u64
+/// Takes so many slots, all of which are taken at once, and answers how many there were.
+fn slots(alloc: Global, blocks: &Blocks<Number, OfRows>, turns: u64) -> u64
     requires { blocks.now.words.fixed ≡ record { batch_size = 32; roots = 4 } }
 {
+    let mut all = Vec::new(alloc);
+    for taken in 0..turns {
+        match Registration::new(blocks, &CHOSEN) {
+            Ok(registration) => {
+                if all.push(registration).is_err() {
+                    return taken;
+                }
+            }
+            Err(_) => return taken,
+        }
+    }
+    turns
+}
+
+/// Takes so many turns with a slot of its own, and answers how many came to what they should: a section is opened and ended; or, all within one section, a root
+/// is looked at, where a value is; or a value is put at a root, the same one for all threads, or one of the thread's own. Or it takes so many slots at once.
+pub(crate) fn takes(
+    alloc: Global,
+    blocks: &Blocks<Number, OfRows>,
+    kind: &str,
+    thread: u64,
+    turns: u64,
+) -> u64
+    requires { blocks.now.words.fixed ≡ record { batch_size = 32; roots = 4 } }
+{
+    if kind == "slots" {
+        return slots(alloc, blocks, turns);
+    }
     let Ok(mut registration) = Registration::new(blocks, &CHOSEN) else {
         return 0;
     };

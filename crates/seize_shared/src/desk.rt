@@ -13,6 +13,9 @@ use seize_words::{At, Fault};
 use std::cell::Cell;
 use std::marker::{Brand, PhantomData};
 
+/// The most guards that a desk has at a time, those that were forgotten among them.
+pub const MOST_GUARDS: u64 = 65_535;
+
 /// Which memory a desk is of. Each call of a program picks it.
 pub trait Place {
     ghost base: { ℕ };
@@ -42,7 +45,7 @@ impl<'a, T: Defers + Drop, B: Place> Drop for Drawer<'a, T, B> {
 }
 
 impl<'a, T: Defers + Drop, B: Place> Drawer<'a, T, B> {
-    /// One guard more, by this seat. It is refused where they can't be counted.
+    /// One guard more, by this seat. It is refused where there are as many as there may be.
     fn opens(&mut self, seat: &mut Seat<T, OfRows>) -> bool
         requires own { seat.old.base ≡ B.base }
         requires rests { seat.old.view.knows ≡ Rests }
@@ -51,7 +54,7 @@ impl<'a, T: Defers + Drop, B: Place> Drawer<'a, T, B> {
         ensures slot { self.new.stay.slot ≡ self.old.stay.slot }
         ensures base { seat.new.base ≡ seat.old.base }
     {
-        if self.stay.guards == u64::MAX {
+        if self.stay.guards >= MOST_GUARDS {
             return false;
         }
         let stay = &mut self.stay;
@@ -202,7 +205,7 @@ impl<'a, T: Defers + Drop, B: Place> Desk<'a, T, B> {
         })
     }
 
-    /// One guard more. There is none where they can't be counted.
+    /// One guard more. There is none where `MOST_GUARDS` are there, or were forgotten.
     pub fn enter<'d>(&'d self) -> Option<DeskGuard<'d, 'a, T, B>>
         ensures fresh { IfSome result (λ guard. guard.seen ≡ 0) }
         ensures desk { IfSome result (λ guard. guard.desk.now ≡ self.now) }

@@ -1,7 +1,7 @@
 //! Guards of sections: what they have in common, one of a slot that stays on its thread, and one with a slot of its own that may be sent.
 ghost use Rattle.std.specs.Prelude.{◌≡◌, ◌≢◌, ◌<◌, ◌^◌, ◌%◌, ◌⊎◌, ℕ, Bool, None, Some, IfOk, IfErr, IfNone, IfSome, IsSome, true, false};
 ghost use Rattle.seize_words.specs.Word.{block_in};
-ghost use Rattle.seize.specs.Given.SeizeWords.declared.fault.Fault.TheVariants.{ForeignGuard};
+ghost use Rattle.seize.specs.Given.SeizeWordsDeclared.fault.Fault.TheVariants.{ForeignGuard};
 ghost use Rattle.seize_callers.specs.Owning.{borne_by};
 ghost use Rattle.seize_shared.specs.Deeds.{has_put, has_taken};
 ghost use Rattle.seize_shared.specs.Homes.{Home, OneSource};

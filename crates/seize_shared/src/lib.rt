@@ -8,7 +8,7 @@ mod owned;
 mod stay;
 mod tagged;
 
-pub use desk::{Desk, DeskGuard, Place};
+pub use desk::{Desk, DeskGuard, MOST_GUARDS, Place};
 pub use guard::{Guard, LocalGuard, OwnedGuard, Registration, RootGuard};
 pub use owned::{Owned, Unlinked};
 pub use seize_callers::Caller;

@@ -1,7 +1,7 @@
 //! Blocks that have seats of their own, and so need no slot: one that was made, and one that was unlinked.
 ghost use Rattle.std.specs.Prelude.{◌≡◌, ◌≢◌, ◌<◌, ◌^◌, None, Some, IfOk, IfErr, IfSome, IfNone};
 ghost use Rattle.seize_words.specs.Word.{block_in, link_to};
-ghost use Rattle.seize.specs.Given.SeizeWords.declared.fault.Fault.TheVariants.{ForeignGuard};
+ghost use Rattle.seize.specs.Given.SeizeWordsDeclared.fault.Fault.TheVariants.{ForeignGuard};
 ghost use Rattle.seize_callers.specs.Owning.{brought_by, borne_by};
 ghost use Rattle.seize_shared.specs.Homes.{OneSource};
 ghost use Rattle.seize_shared.specs.Lent.{IsLent};

@@ -2,13 +2,13 @@
 ghost use Rattle.std.specs.Prelude.{◌≡◌};
 
 use crate::guards::{CHOSEN, TIMES, goes, went};
-use crate::retiring::{Counted, Table, all_are, dropped, table};
 use seize_blocks::{Blocks, Home};
-use seize_shared::{Guard, OfRows, Owned, OwnedGuard, Registration, RootGuard, Unlinked};
+use seize_counted::{Counted, Table, all_are, dropped, table};
+use seize_shared::{Guard, OfRows, Owned, OwnedGuard, Registration, RootGuard};
 use std::alloc::{AllocError, Global};
 use std::test::Fail;
-use std::thread::Threads;
 use std::thread;
+use std::thread::Threads;
 
 /// Makes a block of a value, and puts it at the root; looks at the value that was there, and retires it, without a section. Answers whether it was put, and
 /// what was there had not been dropped.

@@ -2,9 +2,9 @@
 ghost use Rattle.std.specs.Prelude.{◌≡◌, None};
 
 use crate::ground::SIZE;
-use crate::retiring::{Table, table};
 use seize::rows::Defers;
 use seize_blocks::{Blocks, Home};
+use seize_counted::{Table, table};
 use seize_shared::{Fixed, OfRows, Registration, RootGuard};
 use std::alloc::{AllocError, Global};
 use std::sync::Arc;

@@ -1,9 +1,9 @@
-//! Guards that end where their scope does: two threads have a slot each, and open a section of it again and again.
+//! Guards that end where their scope does, that are forgotten, and that are sent; and what their calls answer.
 ghost use Rattle.std.specs.Prelude.{◌≡◌};
 
 use crate::ground::SIZE;
-use crate::retiring::{Counted, Table, all_are, dropped, table};
 use seize_blocks::{Blocks, Home};
+use seize_counted::{Counted, Table, all_are, dropped, table};
 use seize_shared::{Fixed, Guard, LocalGuard, OfRows, OwnedGuard, Registration, RootGuard};
 use std::alloc::{AllocError, Global};
 use std::test::Fail;
@@ -60,30 +60,6 @@ pub(crate) fn went(met: Option<(u64, u64)>) -> bool {
         Some((seen, put)) => seen > 0 && put == TIMES as u64,
         None => false,
     }
-}
-
-/// Two of them over one memory, which ends then; tells whether both saw values and put theirs, and none of those that they saw had been dropped.
-fn both<R: Threads + Sync>(rt: &R, alloc: Global, drops: &Table) -> Result<bool, AllocError> {
-    let home = Home::<Counted, OfRows>::open(alloc, 1, 4096, &CHOSEN)?;
-    let blocks = &home.blocks;
-    let (first, second) = thread::join(
-        rt,
-        || goes(blocks, drops, 0),
-        || goes(blocks, drops, TIMES),
-    );
-    let one = went(first);
-    let other = went(second);
-    Ok(one && other)
-}
-
-#[test]
-fn guards_end_where_their_scope_does_and_each_value_is_dropped_once(
-    rt: HostRuntime,
-) -> Result<(), Fail> {
-    let drops = table(rt.alloc(), 2 * TIMES)?;
-    assert!(rt; both(&rt, rt.alloc(), &drops)?);
-    assert!(rt; all_are(&drops, 2 * TIMES, 1));
-    Ok(())
 }
 
 /// Puts six values at the root, each under a guard that is forgotten.

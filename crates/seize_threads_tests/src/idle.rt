@@ -2,8 +2,8 @@
 ghost use Rattle.std.specs.Prelude.{◌≡◌};
 
 use crate::guards::{CHOSEN, TIMES, goes, went};
-use crate::retiring::{Counted, Table, all_are, dropped, table};
 use seize_blocks::{Blocks, Home};
+use seize_counted::{Counted, Table, all_are, dropped, table};
 use seize_shared::{OfRows, OwnedGuard, Registration, RootGuard};
 use std::alloc::{AllocError, Global};
 use std::test::Fail;

@@ -8,8 +8,6 @@ mod counting;
 #[cfg(test)]
 mod crowd;
 #[cfg(test)]
-mod desks;
-#[cfg(test)]
 mod exchanging;
 #[cfg(test)]
 mod ground;

@@ -48,6 +48,7 @@ fn a_value_that_keeps_a_list_is_put_if_its_words_can_be_counted(
     let home = Home::<Listed, OfRows>::open(rt.alloc(), 1, 8, &CHOSEN)?;
     assert_eq!(rt; come_back(&home.blocks, 0), Some((0, 2)));
     assert_eq!(rt; come_back(&home.blocks, 2), Some((0, 2)));
+    assert_eq!(rt; come_back(&home.blocks, 1 << 62), Some((1, 2)));
     assert_eq!(rt; come_back(&home.blocks, u64::MAX), Some((1, 2)));
     Ok(())
 }

@@ -5,9 +5,9 @@ ghost use Rattle.seize_views.specs.declared.view.View.TheVariants.{Inside};
 
 use crate::ground::{Ground, SIZE};
 use crate::guards::CHOSEN;
-use crate::retiring::{Table, table};
 use seize::rows::Defers;
 use seize_blocks::{Blocks, Home};
+use seize_counted::{Table, table};
 use seize_shared::{Caller, Fixed, OfRows, OwnedGuard};
 use std::alloc::{AllocError, Global};
 use std::sync::Arc;

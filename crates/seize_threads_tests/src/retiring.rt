@@ -1,68 +1,21 @@
 //! One thread puts values at a root, one after another, and retires those that were there; another one looks at what is there, each time within a section.
-//! Each value names a place of a table that counts how often it was dropped, so a value that is looked at after its drop shows itself, and so does one that
-//! is dropped twice, or never.
-ghost use Rattle.std.specs.Prelude.{◌≡◌, ◌<◌, None};
+ghost use Rattle.std.specs.Prelude.{◌≡◌, ◌<◌};
 ghost use Rattle.seize_views.specs.declared.view.Has.TheVariants.{Nothing};
 ghost use Rattle.seize_views.specs.declared.view.View.TheVariants.{Outside, Inside};
 
 use crate::counting::{OneRoot, add, sees};
 use crate::ground::{Ground, SIZE};
-use seize::rows::Defers;
 use seize_blocks::{Blocks, Home};
+use seize_counted::{Counted, Table, all_are, dropped, table};
 use seize_shared::{Caller, Fixed, OfRows};
 use std::alloc::{AllocError, Global};
-use std::sync::Arc;
-use std::sync::atomic::AtomicU64;
-use std::sync::atomic::Ordering::SeqCst;
 use std::test::Fail;
 use std::thread;
 use std::thread::Threads;
 
-/// A count for each place.
-pub(crate) type Table = Arc<Vec<AtomicU64>>;
-
-/// A value that counts its drops at its place of a table.
-pub(crate) struct Counted {
-    pub(crate) place: usize,
-    pub(crate) drops: Table,
-}
-
-impl Counted {
-    /// The value of a place. There is none where the table has too many owners.
-    pub(crate) fn of(drops: &Table, place: usize) -> Option<Counted> {
-        let drops = Arc::try_clone(drops).ok()?;
-        Some(Counted { place, drops })
-    }
-}
-
-/// How often the value of a place was dropped.
-pub(crate) fn dropped(drops: &Table, place: usize) -> u64 {
-    match drops.get(place) {
-        Some(count) => count.load(SeqCst),
-        None => 0,
-    }
-}
-
-impl Drop for Counted {
-    fn drop(self) {
-        let Counted { place, drops } = self;
-        if let Some(count) = drops.get(place) {
-            count.fetch_add(1, SeqCst);
-        }
-    }
-}
-
-impl Defers for Counted {
-    ghost defers = { λ _. None };
-
-    fn deferred(&self) -> Option<u64> {
-        None
-    }
-}
-
 /// Puts the value of a place at the root, and retires the one that was there; tells whether it is there, and the other one had not been dropped. Where no
 /// number is free it is dropped.
-pub(crate) fn puts(caller: &mut Caller<'_, Counted>, slot: u64, drops: &Table, place: usize) -> bool
+fn puts(caller: &mut Caller<'_, Counted>, slot: u64, drops: &Table, place: usize) -> bool
     requires inside { caller.old.seat.view.knows ≡ Inside slot Nothing }
     requires alone { caller.old.seat.view.guards ≡ 0 }
     requires root { 0 < caller.old.blocks.now.words.fixed.roots }
@@ -88,7 +41,7 @@ pub(crate) fn puts(caller: &mut Caller<'_, Counted>, slot: u64, drops: &Table, p
 }
 
 /// Takes the value from the root, if there is one, and retires it.
-pub(crate) fn clears(caller: &mut Caller<'_, Counted>, slot: u64)
+fn clears(caller: &mut Caller<'_, Counted>, slot: u64)
     requires inside { caller.old.seat.view.knows ≡ Inside slot Nothing }
     requires alone { caller.old.seat.view.guards ≡ 0 }
     requires root { 0 < caller.old.blocks.now.words.fixed.roots }
@@ -123,7 +76,7 @@ fn writes(ground: &Ground<'_, Counted>, drops: &Table, times: usize) -> Option<u
 }
 
 /// Looks at the root within a section, and tells whether the value that it has seen there had been dropped, if there was one.
-pub(crate) fn looks(caller: &mut Caller<'_, Counted>, slot: u64) -> Option<bool>
+fn looks(caller: &mut Caller<'_, Counted>, slot: u64) -> Option<bool>
     requires outside { caller.old.seat.view.knows ≡ Outside slot }
     requires alone { caller.old.seat.view.guards ≡ 0 }
     requires root { 0 < caller.old.blocks.now.words.fixed.roots }
@@ -162,25 +115,6 @@ fn reads(ground: &Ground<'_, Counted>, times: usize) -> Option<u64> {
     }
     caller.unregister(slot);
     if stale { None } else { Some(seen) }
-}
-
-/// Each of the first places of the table was counted so often.
-pub(crate) fn all_are(drops: &Table, places: usize, times: u64) -> bool {
-    for place in 0..places {
-        if dropped(drops, place) != times {
-            return false;
-        }
-    }
-    true
-}
-
-/// A table of so many places.
-pub(crate) fn table(alloc: Global, places: usize) -> Result<Table, AllocError> {
-    let mut drops = Vec::new(alloc);
-    for _ in 0..places {
-        drops.push(AtomicU64::new(0))?;
-    }
-    Ok(Arc::new(alloc, drops)?)
 }
 
 /// A writer and a reader over one memory, which ends then.

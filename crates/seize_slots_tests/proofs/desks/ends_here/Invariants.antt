@@ -1,4 +1,4 @@
-use Rattle.seize_threads_tests.proofs.desks.ends_here.Given as goal
+use Rattle.seize_slots_tests.proofs.desks.ends_here.Given as goal
 
 -- the memory is this one
 abbrev pub ghosts-ends : goal.ghosts-ends

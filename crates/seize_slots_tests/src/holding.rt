@@ -1,0 +1,79 @@
+//! A struct of one's own that holds a registration, and a helper that takes a guard of any content.
+ghost use Rattle.std.specs.Prelude.{◌≡◌, true};
+
+use crate::ground::CHOSEN;
+use seize::rows::Defers;
+use seize_blocks::{Blocks, Home};
+use seize_counted::{Counted, Table, dropped, table};
+use seize_shared::{Content, Guard, OfRows, Registration, RootGuard};
+use std::alloc::{AllocError, Global};
+use std::sync::Arc;
+use std::test::Fail;
+
+/// Who puts values, by a registration of its own.
+#[derive(Drop)]
+struct Writer<'a>
+where
+    OfRows: Content<Counted>,
+{
+    registration: Registration<'a, Counted>,
+    drops: Table,
+}
+
+/// Begins the section of a guard anew, whatever else there is in its memory.
+fn refreshes<T: Defers, C: Content<T>, G: Guard<T, Content = C>>(guard: &mut G)
+    ensures inside { G.inside guard.new ≡ true }
+    ensures slot { G.slot guard.new ≡ G.slot guard.old }
+{
+    guard.refresh();
+}
+
+impl<'a> Writer<'a> {
+    /// Puts the value of a place, within a section that was begun anew, and tries the batch then.
+    fn puts(&mut self, place: usize) -> bool {
+        let Some(value) = Counted::of(&self.drops, place) else {
+            return false;
+        };
+        let registration = &mut self.registration;
+        let mut guard = registration.enter();
+        refreshes(&mut guard);
+        let is_there = guard.put(0, value).is_ok();
+        drop(guard);
+        registration.flush();
+        is_there
+    }
+}
+
+/// Puts two values, one in the place of the other, and answers how often each was dropped by then.
+fn two(blocks: &Blocks<Counted, OfRows>, drops: &Table, own: Table) -> Option<(u64, u64)>
+    requires { blocks.now.words.fixed ≡ record { batch_size = 5; roots = 1 } }
+{
+    let registration = Registration::new(blocks, &CHOSEN).ok()?;
+    let mut writer = Writer {
+        registration,
+        drops: own,
+    };
+    if !writer.puts(0) || !writer.puts(1) {
+        return None;
+    }
+    Some((dropped(drops, 0), dropped(drops, 1)))
+}
+
+/// The same over one memory, which ends then.
+fn both(alloc: Global, drops: &Table, own: Table) -> Result<Option<(u64, u64)>, AllocError> {
+    let home = Home::<Counted, OfRows>::open(alloc, 1, 64, &CHOSEN)?;
+    Ok(two(&home.blocks, drops, own))
+}
+
+#[test]
+fn a_struct_that_holds_a_registration_puts_values_and_drops_what_they_replace(
+    rt: HostRuntime,
+) -> Result<(), Fail> {
+    let drops = table(rt.alloc(), 2)?;
+    let Ok(own) = Arc::try_clone(&drops) else {
+        return Err(Fail::new("the table has too many owners"));
+    };
+    assert_eq!(rt; both(rt.alloc(), &drops, own)?, Some((1, 0)));
+    assert_eq!(rt; (dropped(&drops, 0), dropped(&drops, 1)), (1, 1));
+    Ok(())
+}

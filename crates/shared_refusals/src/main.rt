@@ -1,0 +1,143 @@
+//! Makes each call on a memory that threads share that asks for memory. Where it is refused, nothing has changed, and it is made again, and done then. The gate
+//! has this program run once for each request for memory, with that one refused: each time it prints the same.
+#![tactic(auto)]
+
+ghost use Rattle.std.specs.Prelude.{◌≡◌, Some, IfOk};
+
+use seize::Fault;
+use seize::rows::Defers;
+use seize_blocks::{Blocks, Home};
+use seize_shared::{Fixed, Guard, LocalGuard, OfRows, Registration, RootGuard};
+use std::alloc::{AllocError, Global};
+use std::io;
+
+/// What is chosen for the memory.
+const CHOSEN: Fixed = Fixed {
+    batch_size: 5,
+    roots: 1,
+};
+
+/// How many values are put, all of which are there at once: the memory begins with fewer numbers for blocks.
+const VALUES: u64 = 9;
+
+/// How many slots are taken at once: the first bucket has fewer.
+const SLOTS: u64 = 40;
+
+/// A number, which keeps a list at this word of its block.
+#[derive(Drop)]
+struct Listed {
+    number: u64,
+    field: u64,
+}
+
+impl Defers for Listed {
+    ghost defers = { λ x. Some x.field };
+
+    fn deferred(&self) -> Option<u64> {
+        Some(self.field)
+    }
+}
+
+/// A memory that begins with one number for a block.
+fn open(alloc: Global) -> Result<Home<Listed, OfRows>, AllocError>
+    ensures { IfOk result (λ home. home.blocks.words.fixed ≡ record { batch_size = 5; roots = 1 }) }
+{
+    Home::<Listed, OfRows>::open(alloc, 1, 1, &CHOSEN)
+}
+
+/// Such a memory, also where one request is refused.
+fn opens(alloc: Global) -> Result<Home<Listed, OfRows>, AllocError>
+    ensures { IfOk result (λ home. home.blocks.words.fixed ≡ record { batch_size = 5; roots = 1 }) }
+{
+    match open(alloc) {
+        Ok(home) => Ok(home),
+        Err(_) => open(alloc),
+    }
+}
+
+/// The next slot.
+fn registers(blocks: &Blocks<Listed, OfRows>) -> Result<Registration<'_, Listed>, Fault>
+    requires { blocks.now.words.fixed ≡ record { batch_size = 5; roots = 1 } }
+{
+    match Registration::new(blocks, &CHOSEN) {
+        Err(Fault::Memory) => Registration::new(blocks, &CHOSEN),
+        answer => answer,
+    }
+}
+
+/// The number that is seen at the root, 0 for none.
+fn sees(guard: &mut LocalGuard<'_, '_, Listed>) -> u64 {
+    guard.see(0);
+    match guard.value() {
+        Some(value) => value.number,
+        None => 0,
+    }
+}
+
+/// Puts a number in the place of the one before, whose value has words of its own; tells whether it is there. Where it came back, the one before was there still.
+fn puts(guard: &mut LocalGuard<'_, '_, Listed>, number: u64) -> bool {
+    match guard.put(0, Listed { number, field: 2 }) {
+        Ok(()) => sees(guard) == number,
+        Err(back) => {
+            let same = back.number == number && sees(guard) == u64::wrapping_sub(number, 1);
+            same && guard.put(0, back).is_ok() && sees(guard) == number
+        }
+    }
+}
+
+/// Puts numbers one after another within one section, so that none of their values is reclaimed.
+fn values(alloc: Global) -> Result<bool, AllocError> {
+    let home = opens(alloc)?;
+    let Ok(mut registration) = registers(&home.blocks) else {
+        return Ok(false);
+    };
+    let mut guard = registration.enter();
+    let mut are_there = true;
+    for number in 1..VALUES + 1 {
+        are_there = puts(&mut guard, number) && are_there;
+    }
+    Ok(are_there)
+}
+
+/// Room for so many slots.
+fn room<'a>(alloc: Global) -> Result<Vec<Registration<'a, Listed>>, AllocError> {
+    match Vec::with_capacity(alloc, SLOTS as usize) {
+        Ok(room) => Ok(room),
+        Err(_) => Vec::with_capacity(alloc, SLOTS as usize),
+    }
+}
+
+/// Takes slots, one after another, all of which are taken at once; tells whether each is the next one.
+fn slots(alloc: Global) -> Result<bool, AllocError> {
+    let home = opens(alloc)?;
+    let mut all = room(alloc)?;
+    let mut are_next = true;
+    for slot in 0..SLOTS {
+        let Ok(mut registration) = registers(&home.blocks) else {
+            return Ok(false);
+        };
+        are_next = registration.enter().thread_id() == slot && are_next;
+        all.push(registration)?;
+    }
+    Ok(are_next)
+}
+
+/// How it went, in a word.
+fn word(so: Result<bool, AllocError>) -> &'static str {
+    match so {
+        Ok(true) => "done",
+        _ => "wrong",
+    }
+}
+
+fn main(rt: HostRuntime) -> io::Result<()> {
+    println!(rt;
+        "values with words of their own, more than the memory has numbers for: {}",
+        word(values(rt.alloc()))
+    )?;
+    println!(rt;
+        "more slots than the first bucket has: {}",
+        word(slots(rt.alloc()))
+    )?;
+    Ok(())
+}
