@@ -296,6 +296,17 @@ impl<'a, T: Defers> Unlinked<'a, T> {
         self.caller.borne(self.block)
     }
 
+    /// Neither retires it nor takes it away: its value is there until the memory ends.
+    pub fn kept(self) {
+        let Unlinked {
+            caller,
+            number: _,
+            word: _,
+            block,
+        } = self;
+        caller.keeps(block);
+    }
+
     /// Retires it under a guard of the same collector. What the guard has seen it doesn't know any more. Under a guard of another collector it is
     /// `Fault::ForeignGuard`: nothing changes, and it comes back.
     pub fn retire<G: RootGuard<T>>(self, guard: &mut G) -> Result<(), (Fault, Self)>

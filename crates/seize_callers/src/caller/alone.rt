@@ -102,4 +102,16 @@ impl<'a, T: Defers> Caller<'a, T> {
     {
         self.blocks.value(&self.seat, block)
     }
+
+    /// Lets the block be that it has unlinked: nobody retires it, and it is there until the memory ends.
+    pub fn keeps(self, _block: u64)
+        requires bears { borne_by self.seat.view.knows ≡ Some _block }
+    {
+        let Caller {
+            blocks: _,
+            batch_size: _,
+            seat: _,
+            near: _,
+        } = self;
+    }
 }
