@@ -2,3 +2,4 @@ pub mod Standing
 pub mod Lent
 pub mod Deeds
 pub mod Homes
+pub mod Tags

@@ -1,17 +1,20 @@
 //! Guards of sections: what they have in common, one of a slot that stays on its thread, and one with a slot of its own that may be sent.
-ghost use Rattle.std.specs.Prelude.{◌≡◌, ◌≢◌, ◌<◌, ◌^◌, ◌⊎◌, ℕ, Bool, None, Some, IfOk, IfErr, IfNone, IfSome, true, false};
+ghost use Rattle.std.specs.Prelude.{◌≡◌, ◌≢◌, ◌<◌, ◌^◌, ◌%◌, ◌⊎◌, ℕ, Bool, None, Some, IfOk, IfErr, IfNone, IfSome, IsSome, true, false};
+ghost use Rattle.seize_words.specs.Word.{block_in};
 ghost use Rattle.seize.specs.Given.SeizeWordsDeclared.fault.Fault.TheVariants.{ForeignGuard};
 ghost use Rattle.seize_callers.specs.Owning.{borne_by};
 ghost use Rattle.seize_shared.specs.Deeds.{has_put, has_taken};
 ghost use Rattle.seize_shared.specs.Homes.{Home, OneSource};
+ghost use Rattle.seize_callers.specs.Given.SeizeViewsNotes.{looked_at, written_at};
 ghost use Rattle.seize_callers.specs.Given.SeizeViewsDeclared.view.Began.{Began};
 ghost use Rattle.seize_callers.specs.Given.SeizeViewsDeclared.view.Began.TheVariants.{Retirement, Section, Trial};
 ghost use Rattle.seize_callers.specs.Given.SeizeViewsDeclared.view.Deed.{Deed};
-ghost use Rattle.seize_callers.specs.Given.SeizeViewsDeclared.view.Deed.TheVariants.{Looked, Wrote};
-ghost use Rattle.seize_callers.specs.Given.SeizeViewsDeclared.view.View.TheVariants.{Rests};
+ghost use Rattle.seize_callers.specs.Given.SeizeViewsDeclared.view.Deed.TheVariants.{Looked, Marked};
+ghost use Rattle.seize_callers.specs.Given.SeizeViewsDeclared.view.View.TheVariants.{Brings, Rests};
 
-use crate::owned::Unlinked;
+use crate::owned::{Owned, Unlinked};
 use crate::stay::Stay;
+use crate::tagged::Tagged;
 use seize::rows::Defers;
 use seize_blocks::Blocks;
 use seize_callers::Caller;
@@ -99,7 +102,7 @@ impl<'a, T: Defers + Drop, R: Receiver<T>> Registration<'a, T, OfRows, R> {
         ensures closed { self.new.stay.inside ≡ false }
         ensures taken { result ≡ true → has_taken self.new.stay.caller.seat.view.did ≡ Some root }
         ensures none { result ≡ false → root < self.old.stay.caller.blocks.now.words.fixed.roots
-            → self.new.stay.caller.seat.view.did ≡ Wrote root None 0 }
+            → written_at self.new.stay.caller.seat.view.did ≡ Some (root, None, 0) }
     {
         self.stay.withdraws(root)
     }
@@ -123,6 +126,7 @@ impl<'a, T: Defers + Drop, R: Receiver<T>> Registration<'a, T, OfRows, R> {
         let Unlinked {
             caller,
             number: _,
+            word: _,
             block,
         } = old;
         let mut caller = caller;
@@ -197,9 +201,31 @@ pub trait RootGuard<T: Defers>: Guard<T> {
         ensures slot { Self.slot self.new ≡ Self.slot self.old }
         ensures inside { Self.inside self.new ≡ Self.inside self.old }
         ensures seen { result ≡ true → Self.seen self.new ≢ 0 }
-        ensures looked { result ≡ true → did self.new ≡ Looked root (Self.seen self.new) }
+        ensures looked { result ≡ true → looked_at (did self.new) ≡ Some (root, Self.seen self.new) }
         ensures none { result ≡ false → Self.seen self.new ≡ 0 }
-        ensures empty { result ≡ false → Self.inside self.old ≡ true → root < (Self.home self.old).roots → did self.new ≡ Looked root 0 };
+        ensures empty { result ≡ false → Self.inside self.old ≡ true → root < (Self.home self.old).roots → looked_at (did self.new) ≡ Some (root, 0) };
+
+    /// Looks which word is at a root: the section holds the block to which it links, whose value `value` lends. There is no answer where there is no such root, or the
+    /// section is not open. What it has seen before it doesn't know any more.
+    fn protect(&mut self, root: u64) -> Option<Tagged>
+        ensures home { Self.home self.new ≡ Self.home self.old }
+        ensures slot { Self.slot self.new ≡ Self.slot self.old }
+        ensures inside { Self.inside self.new ≡ Self.inside self.old }
+        ensures found { IfSome result (λ tagged. did self.new ≡ Looked root tagged.word) }
+        ensures seen { IfSome result (λ tagged. Self.seen self.new ≡ block_in tagged.word) }
+        ensures none { IfNone result (Self.seen self.new ≡ 0) }
+        ensures there { Self.inside self.old ≡ true → root < (Self.home self.old).roots → IsSome result };
+
+    /// Sets marks of the word at a root, of which three bits count, and answers which word was there: the section holds the block to which it links. There is no
+    /// answer where there is no such root, or the section is not open. What it has seen before it doesn't know any more.
+    fn mark(&mut self, root: u64, marks: u64) -> Option<Tagged>
+        ensures home { Self.home self.new ≡ Self.home self.old }
+        ensures slot { Self.slot self.new ≡ Self.slot self.old }
+        ensures inside { Self.inside self.new ≡ Self.inside self.old }
+        ensures marked { IfSome result (λ tagged. did self.new ≡ Marked root (marks % 8) tagged.word) }
+        ensures seen { IfSome result (λ tagged. Self.seen self.new ≡ block_in tagged.word) }
+        ensures none { IfNone result (Self.seen self.new ≡ 0) }
+        ensures there { Self.inside self.old ≡ true → root < (Self.home self.old).roots → IsSome result };
 
     /// The value that it has seen, if it has seen one since it began, or was refreshed.
     fn value(&self) -> Option<&T>
@@ -223,9 +249,9 @@ pub trait RootGuard<T: Defers>: Guard<T> {
         ensures slot { Self.slot self.new ≡ Self.slot self.old }
         ensures inside { Self.inside self.new ≡ Self.inside self.old }
         ensures back { IfErr result (λ back. back ≡ value) }
-        ensures put { IfOk result (λ _. did self.new ≡ Wrote root (Some value) (Self.seen self.old)) }
+        ensures put { IfOk result (λ _. written_at (did self.new) ≡ Some (root, Some value, Self.seen self.old)) }
         ensures spent { IfOk result (λ _. Self.seen self.new ≡ 0) }
-        ensures other { IfErr result (λ _. (did self.new ≡ Looked root (Self.seen self.new)) ⊎ (Self.seen self.new ≡ Self.seen self.old)) };
+        ensures other { IfErr result (λ _. (looked_at (did self.new) ≡ Some (root, Self.seen self.new)) ⊎ (Self.seen self.new ≡ Self.seen self.old)) };
 
     /// Takes the value from a root, and retires it; tells whether there was one. What it has seen it doesn't know any more.
     fn clear(&mut self, root: u64) -> bool
@@ -234,7 +260,7 @@ pub trait RootGuard<T: Defers>: Guard<T> {
         ensures inside { Self.inside self.new ≡ true }
         ensures fresh { Self.seen self.new ≡ 0 }
         ensures taken { result ≡ true → has_taken (did self.new) ≡ Some root }
-        ensures none { result ≡ false → root < (Self.home self.old).roots → did self.new ≡ Wrote root None 0 };
+        ensures none { result ≡ false → root < (Self.home self.old).roots → written_at (did self.new) ≡ Some (root, None, 0) };
 
     /// Retires a block that a caller without a slot has unlinked, of the same memory (`Unlinked` does so by it). What it has seen it doesn't know any more.
     fn takes_over<'b>(&mut self, bearer: &mut Caller<'b, T>, block: u64)
@@ -305,6 +331,16 @@ impl<'r, 'a, T: Defers + Drop, R: Receiver<T>> RootGuard<T> for LocalGuard<'r, '
         registration.stay.sees(root)
     }
 
+    fn protect(&mut self, root: u64) -> Option<Tagged> {
+        let registration = &mut *self.registration;
+        registration.stay.protects(root)
+    }
+
+    fn mark(&mut self, root: u64, marks: u64) -> Option<Tagged> {
+        let registration = &mut *self.registration;
+        registration.stay.marks(root, marks)
+    }
+
     fn value(&self) -> Option<&T> {
         self.registration.stay.value()
     }
@@ -327,6 +363,20 @@ impl<'r, 'a, T: Defers + Drop, R: Receiver<T>> RootGuard<T> for LocalGuard<'r, '
     fn takes_over<'b>(&mut self, bearer: &mut Caller<'b, T>, block: u64) {
         let registration = &mut *self.registration;
         registration.stay.takes_over(bearer, block);
+    }
+}
+
+impl<'r, 'a, T: Defers + Drop, R: Receiver<T>> LocalGuard<'r, 'a, T, OfRows, R> {
+    /// Makes a block of a value, which is of its collector; a number is looked for from `near` on, which says then where to look next. Without words for it, or
+    /// memory, the value comes back. What it has seen it knows still.
+    pub fn make(&self, near: &mut u64, value: T) -> Result<Owned<'a, T>, T>
+        ensures made { IfOk result (λ owned. owned.caller.seat.view.knows ≡ Brings owned.block value) }
+        ensures home { IfOk result (λ owned. owned.caller.blocks.now ≡ self.now.registration.now.stay.caller.blocks.now) }
+        ensures number { IfOk result (λ owned. owned.number ≡ self.now.registration.now.number) }
+        ensures back { IfErr result (λ back. back ≡ value) }
+    {
+        let registration = &*self.registration;
+        registration.stay.makes(registration.number, near, value)
     }
 }
 
@@ -384,6 +434,19 @@ impl<'a, T: Defers + Drop, C: Content<T>, R: Receiver<T>> OwnedGuard<'a, T, C, R
     }
 }
 
+impl<'a, T: Defers + Drop, R: Receiver<T>> OwnedGuard<'a, T, OfRows, R> {
+    /// Makes a block of a value, which is of its collector; a number is looked for from `near` on, which says then where to look next. Without words for it, or
+    /// memory, the value comes back. What it has seen it knows still.
+    pub fn make(&self, near: &mut u64, value: T) -> Result<Owned<'a, T>, T>
+        ensures made { IfOk result (λ owned. owned.caller.seat.view.knows ≡ Brings owned.block value) }
+        ensures home { IfOk result (λ owned. owned.caller.blocks.now ≡ self.now.stay.caller.blocks.now) }
+        ensures number { IfOk result (λ owned. owned.number ≡ self.now.number) }
+        ensures back { IfErr result (λ back. back ≡ value) }
+    {
+        self.stay.makes(self.number, near, value)
+    }
+}
+
 impl<'a, T: Defers + Drop, C: Content<T>, R: Receiver<T>> Guard<T> for OwnedGuard<'a, T, C, R> {
     type Content = C;
 
@@ -427,6 +490,14 @@ impl<'a, T: Defers + Drop, R: Receiver<T>> RootGuard<T> for OwnedGuard<'a, T, Of
 
     fn see(&mut self, root: u64) -> bool {
         self.stay.sees(root)
+    }
+
+    fn protect(&mut self, root: u64) -> Option<Tagged> {
+        self.stay.protects(root)
+    }
+
+    fn mark(&mut self, root: u64, marks: u64) -> Option<Tagged> {
+        self.stay.marks(root, marks)
     }
 
     fn value(&self) -> Option<&T> {

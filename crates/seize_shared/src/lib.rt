@@ -6,6 +6,7 @@ mod desk;
 mod guard;
 mod owned;
 mod stay;
+mod tagged;
 
 pub use desk::{Desk, DeskGuard, MOST_GUARDS, Place};
 pub use guard::{Guard, LocalGuard, OwnedGuard, Registration, RootGuard};
@@ -13,3 +14,4 @@ pub use owned::{Owned, Unlinked};
 pub use seize_callers::Caller;
 pub use seize_receivers::{Drops, Receiver};
 pub use seize_views::{Becomes, Began, Content, Deed, Fixed, Has, Noted, OfRows, View, Why};
+pub use tagged::Tagged;

@@ -1,17 +1,21 @@
 //! Blocks that have seats of their own, and so need no slot: one that was made, and one that was unlinked.
-ghost use Rattle.std.specs.Prelude.{◌≡◌, ◌≢◌, ◌<◌, ◌^◌, None, Some, IfOk, IfErr, IfSome};
+ghost use Rattle.std.specs.Prelude.{◌≡◌, ◌≢◌, ◌<◌, ◌^◌, None, Some, IfOk, IfErr, IfSome, IfNone};
+ghost use Rattle.seize_words.specs.Word.{block_in, link_to};
 ghost use Rattle.seize.specs.Given.SeizeWordsDeclared.fault.Fault.TheVariants.{ForeignGuard};
 ghost use Rattle.seize_callers.specs.Owning.{brought_by, borne_by};
 ghost use Rattle.seize_shared.specs.Homes.{OneSource};
 ghost use Rattle.seize_shared.specs.Lent.{IsLent};
+ghost use Rattle.seize_shared.specs.Tags.{with_marks};
+ghost use Rattle.seize_callers.specs.Given.SeizeViewsTold.{alone_with, cut_in};
 ghost use Rattle.seize_callers.specs.Given.SeizeViewsDeclared.view.Began.TheVariants.{Retirement};
-ghost use Rattle.seize_callers.specs.Given.SeizeViewsDeclared.view.Deed.TheVariants.{Wrote};
+ghost use Rattle.seize_callers.specs.Given.SeizeViewsDeclared.view.Deed.TheVariants.{Looked, Wrote};
 ghost use Rattle.seize_callers.specs.Given.SeizeViewsDeclared.view.View.TheVariants.{Brings};
 
 use crate::guard::RootGuard;
+use crate::tagged::Tagged;
 use seize::rows::Defers;
 use seize_blocks::Blocks;
-use seize_callers::Caller;
+use seize_callers::{Caller, named};
 use seize_views::{Content, Fixed, OfRows};
 use seize_words::Fault;
 
@@ -32,7 +36,10 @@ pub struct Unlinked<'a, T: Defers, C: Content<T> = OfRows> {
     pub(crate) caller: Caller<'a, T, C>,
     /// The number of its collector, 0 where there is none.
     pub(crate) number: u64,
+    /// The word that was there.
+    pub(crate) word: u64,
     pub(crate) block: u64,
+    ghost names: { block_in word ≡ block },
     ghost bears: { borne_by (C.notes caller.seat.view).knows ≡ Some block },
     ghost fits: { block < 2 ^ 53 },
 }
@@ -108,7 +115,7 @@ impl<'a, T: Defers> Owned<'a, T> {
         ensures number { IfOk result (λ was. IfSome was (λ old. old.number ≡ self.entry.number)) }
         ensures back { IfErr result (λ back. back ≡ self.entry) }
         ensures put { IfOk result (λ was. IfSome was (λ old. (value : T) → self.entry.caller.seat.view.knows ≡ Brings self.entry.block value
-            → old.caller.seat.view.did ≡ Wrote root (Some value) old.block)) }
+            → old.caller.seat.view.did ≡ Wrote root (with_marks (link_to self.entry.block) 0) (Some value) old.word)) }
     {
         if root >= self.roots {
             return Err(self);
@@ -120,14 +127,113 @@ impl<'a, T: Defers> Owned<'a, T> {
             block,
         } = self;
         let mut caller = caller;
-        match caller.links(root, block) {
-            Some(old) => Ok(Some(Unlinked {
-                caller,
-                number,
-                block: old,
-            })),
-            None => Ok(None),
+        let word = caller.links(root, block, 0);
+        Ok(Unlinked::of(caller, number, word))
+    }
+
+    /// Puts the block at a root, by a word with these marks, of which three bits count, while a guard of the same collector is there, and answers which one was there, and is to
+    /// be retired. With a guard of another collector it is `Fault::ForeignGuard`: nothing changes, and the block comes back.
+    pub fn swap<G: RootGuard<T>>(
+        self,
+        guard: &G,
+        root: u64,
+        marks: u64,
+    ) -> Result<Option<Unlinked<'a, T>>, (Fault, Self)>
+        requires root { root < self.caller.blocks.now.words.fixed.roots }
+        ensures foreign { IfErr result (λ refused. (refused.0 ≡ ForeignGuard) × (self.entry.number ≢ (G.home guard.now).number) × (refused.1 ≡ self.entry)) }
+        ensures own { IfOk result (λ _. self.entry.number ≡ (G.home guard.now).number) }
+        ensures home { IfOk result (λ was. IfSome was (λ old. old.caller.blocks.now ≡ self.entry.caller.blocks.now)) }
+        ensures number { IfOk result (λ was. IfSome was (λ old. old.number ≡ self.entry.number)) }
+        ensures put { IfOk result (λ was. IfSome was (λ old. (value : T) → self.entry.caller.seat.view.knows ≡ Brings self.entry.block value
+            → old.caller.seat.view.did ≡ Wrote root (with_marks (link_to self.entry.block) marks) (Some value) old.word)) }
+    {
+        if self.number != guard.number() {
+            return Err((Fault::ForeignGuard, self));
         }
+        let Owned {
+            caller,
+            number,
+            roots: _,
+            block,
+        } = self;
+        let mut caller = caller;
+        let word = caller.links(root, block, marks % 8);
+        Ok(Unlinked::of(caller, number, word))
+    }
+
+    /// Puts the block at a root, by a word with these marks, of which three bits count, where the whole word is `old`, block and tag, while a guard of the same collector is
+    /// there; and answers which block was there, if one was, and is to be retired. Where another word is there it answers that, and the block comes back.
+    /// With a guard of another collector it is `Fault::ForeignGuard`: nothing changes, and the block comes back.
+    pub fn compare_exchange<G: RootGuard<T>>(
+        self,
+        guard: &G,
+        root: u64,
+        old: Tagged,
+        marks: u64,
+    ) -> Result<Result<Option<Unlinked<'a, T>>, (Tagged, Self)>, (Fault, Self)>
+        requires root { root < self.caller.blocks.now.words.fixed.roots }
+        ensures foreign { IfErr result (λ refused. (refused.0 ≡ ForeignGuard) × (self.entry.number ≢ (G.home guard.now).number) × (refused.1 ≡ self.entry)) }
+        ensures own { IfOk result (λ _. self.entry.number ≡ (G.home guard.now).number) }
+        ensures home { IfOk result (λ tried. IfOk tried (λ was. IfSome was (λ cut. cut.caller.blocks.now ≡ self.entry.caller.blocks.now))) }
+        ensures number { IfOk result (λ tried. IfOk tried (λ was. IfSome was (λ cut. cut.number ≡ self.entry.number))) }
+        ensures put { IfOk result (λ tried. IfOk tried (λ was. IfSome was (λ cut. (value : T) → self.entry.caller.seat.view.knows ≡ Brings self.entry.block value
+            → cut.caller.seat.view.did ≡ Wrote root (with_marks (link_to self.entry.block) marks) (Some value) old.word))) }
+        ensures cut { IfOk result (λ tried. IfOk tried (λ was. IfSome was (λ cut. cut.word ≡ old.word))) }
+        ensures none { IfOk result (λ tried. IfOk tried (λ was. IfNone was (block_in old.word ≡ 0))) }
+        ensures other { IfOk result (λ tried. IfErr tried (λ found. (found.0.word ≢ old.word) × (found.1.caller.seat.view.did ≡ Looked root found.0.word))) }
+        ensures same { IfOk result (λ tried. IfErr tried (λ found. (found.1.caller.blocks.now ≡ self.entry.caller.blocks.now) × (found.1.number ≡ self.entry.number)
+            × (found.1.block ≡ self.entry.block))) }
+        ensures back { IfOk result (λ tried. IfErr tried (λ found. (value : T) → self.entry.caller.seat.view.knows ≡ Brings self.entry.block value
+            → found.1.caller.seat.view.knows ≡ Brings found.1.block value)) }
+    {
+        if self.number != guard.number() {
+            return Err((Fault::ForeignGuard, self));
+        }
+        let Owned {
+            caller,
+            number,
+            roots,
+            block,
+        } = self;
+        let mut caller = caller;
+        match caller.exchanges(root, old.word(), block, marks % 8) {
+            Ok(()) => Ok(Ok(Unlinked::of(caller, number, old.word()))),
+            Err(now) => {
+                let owned = Owned {
+                    caller,
+                    number,
+                    roots,
+                    block,
+                };
+                Ok(Err((Tagged::of(now), owned)))
+            }
+        }
+    }
+
+    /// The same: it fails only where that does.
+    pub fn compare_exchange_weak<G: RootGuard<T>>(
+        self,
+        guard: &G,
+        root: u64,
+        old: Tagged,
+        marks: u64,
+    ) -> Result<Result<Option<Unlinked<'a, T>>, (Tagged, Self)>, (Fault, Self)>
+        requires root { root < self.caller.blocks.now.words.fixed.roots }
+        ensures foreign { IfErr result (λ refused. (refused.0 ≡ ForeignGuard) × (self.entry.number ≢ (G.home guard.now).number) × (refused.1 ≡ self.entry)) }
+        ensures own { IfOk result (λ _. self.entry.number ≡ (G.home guard.now).number) }
+        ensures home { IfOk result (λ tried. IfOk tried (λ was. IfSome was (λ cut. cut.caller.blocks.now ≡ self.entry.caller.blocks.now))) }
+        ensures number { IfOk result (λ tried. IfOk tried (λ was. IfSome was (λ cut. cut.number ≡ self.entry.number))) }
+        ensures put { IfOk result (λ tried. IfOk tried (λ was. IfSome was (λ cut. (value : T) → self.entry.caller.seat.view.knows ≡ Brings self.entry.block value
+            → cut.caller.seat.view.did ≡ Wrote root (with_marks (link_to self.entry.block) marks) (Some value) old.word))) }
+        ensures cut { IfOk result (λ tried. IfOk tried (λ was. IfSome was (λ cut. cut.word ≡ old.word))) }
+        ensures none { IfOk result (λ tried. IfOk tried (λ was. IfNone was (block_in old.word ≡ 0))) }
+        ensures other { IfOk result (λ tried. IfErr tried (λ found. (found.0.word ≢ old.word) × (found.1.caller.seat.view.did ≡ Looked root found.0.word))) }
+        ensures same { IfOk result (λ tried. IfErr tried (λ found. (found.1.caller.blocks.now ≡ self.entry.caller.blocks.now) × (found.1.number ≡ self.entry.number)
+            × (found.1.block ≡ self.entry.block))) }
+        ensures back { IfOk result (λ tried. IfErr tried (λ found. (value : T) → self.entry.caller.seat.view.knows ≡ Brings self.entry.block value
+            → found.1.caller.seat.view.knows ≡ Brings found.1.block value)) }
+    {
+        self.compare_exchange(guard, root, old, marks)
     }
 
     /// Puts the block at a root where none is there. Else, or where there is no such root, it comes back.
@@ -148,7 +254,7 @@ impl<'a, T: Defers> Owned<'a, T> {
             block,
         } = self;
         let mut caller = caller;
-        if caller.places(root, block) {
+        if caller.exchanges(root, 0, block, 0).is_ok() {
             return Ok(());
         }
         Err(Owned {
@@ -161,11 +267,44 @@ impl<'a, T: Defers> Owned<'a, T> {
 }
 
 impl<'a, T: Defers> Unlinked<'a, T> {
+    /// That of a caller who has unlinked the block of this word, if it names one.
+    fn of(caller: Caller<'a, T>, number: u64, word: u64) -> Option<Self>
+        requires is { caller.seat.view.knows ≡ alone_with (cut_in word) }
+        ensures some { IfSome result (λ old. (old.caller ≡ caller) × (old.number ≡ number) × (old.word ≡ word)) }
+        ensures none { IfNone result (block_in word ≡ 0) }
+    {
+        let block = named(word)?;
+        Some(Unlinked {
+            caller,
+            number,
+            word,
+            block,
+        })
+    }
+
+    /// The word that was there: a link to it, with its tag.
+    pub fn tagged(&self) -> Tagged
+        ensures { result.word ≡ self.now.word }
+    {
+        Tagged::of(self.word)
+    }
+
     /// Its value, for as long as it is borrowed: others may look at it still, so it is only lent.
     pub fn value(&self) -> &T
         ensures { IsLent T.defers self.now.caller.blocks.now.words.fixed self.now.caller.seat.id self.now.caller.seat.view self.now.block result.now }
     {
         self.caller.borne(self.block)
+    }
+
+    /// Neither retires it nor takes it away: its value is there until the memory ends.
+    pub fn kept(self) {
+        let Unlinked {
+            caller,
+            number: _,
+            word: _,
+            block,
+        } = self;
+        caller.keeps(block);
     }
 
     /// Retires it under a guard of the same collector. What the guard has seen it doesn't know any more. Under a guard of another collector it is
@@ -188,6 +327,7 @@ impl<'a, T: Defers> Unlinked<'a, T> {
         let Unlinked {
             caller,
             number: _,
+            word: _,
             block,
         } = self;
         let mut caller = caller;
