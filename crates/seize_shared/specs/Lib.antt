@@ -1,5 +1,1 @@
 pub mod Standing
-pub mod Lent
-pub mod Deeds
-pub mod Homes
-pub mod Tags

@@ -1,6 +1,6 @@
 //! A slot of which several guards have the section open: it begins with the first of them, and ends with the last.
 ghost use Rattle.std.specs.Prelude.{◌≡◌, ◌≢◌, ◌<◌, ◌^◌, ℕ, Some, true, false, IfOk, IfSome, IfNone, unwrap_or};
-ghost use Rattle.seize_shared.specs.Lent.{IsLent};
+ghost use Rattle.seize_guards.specs.Lent.{IsLent};
 ghost use Rattle.seize_callers.specs.Given.SeizeViewsNotes.{looked_at};
 ghost use Rattle.seize_callers.specs.Given.SeizeViewsDeclared.view.View.TheVariants.{Rests, Watches};
 

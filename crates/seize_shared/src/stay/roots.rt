@@ -2,19 +2,18 @@
 ghost use Rattle.std.specs.Prelude.{◌≡◌, ◌≢◌, ◌<◌, ◌+◌, ◌-◌, ◌^◌, ◌%◌, ◌⊎◌, ℕ, None, Some, IfOk, IfErr, IfNone, IfSome, IsSome, true, false};
 ghost use Rattle.seize_words.specs.Word.{block_in};
 ghost use Rattle.seize_callers.specs.Owning.{borne_by};
-ghost use Rattle.seize_shared.specs.Deeds.{has_put, has_taken};
-ghost use Rattle.seize_shared.specs.Lent.{IsLent};
+ghost use Rattle.seize_guards.specs.Deeds.{has_put, has_taken};
+ghost use Rattle.seize_guards.specs.Lent.{IsLent};
 ghost use Rattle.seize_callers.specs.Given.SeizeViewsDeclared.view.Began.TheVariants.{Retirement};
 ghost use Rattle.seize_callers.specs.Given.SeizeViewsNotes.{looked_at, written_at};
 ghost use Rattle.seize_callers.specs.Given.SeizeViewsDeclared.view.Deed.TheVariants.{Looked, Marked};
 ghost use Rattle.seize_callers.specs.Given.SeizeViewsDeclared.view.View.TheVariants.{Brings, Rests, Watches};
 
-use crate::owned::Owned;
 use crate::stay::Stay;
-use crate::tagged::Tagged;
 use seize::rows::Defers;
 use seize_blocks::Seat;
 use seize_callers::{Caller, named};
+use seize_guards::{Owned, Tagged};
 use seize_views::{Fixed, OfRows};
 
 impl<'a, T: Defers + Drop> Stay<'a, T> {

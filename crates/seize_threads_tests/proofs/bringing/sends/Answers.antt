@@ -1,7 +1,7 @@
 use Rattle.std.specs.Prelude.{Result, Ok, Err, IfOk, Option, None, IfSome}
 use Rattle.std.specs.Result.{result_ok}
 use Rattle.std.proofs.Common.{◌≡◌, ℕ, Some, ap, sym, subst}
-use Rattle.seize_shared.specs.Homes.{Home}
+use Rattle.seize_guards.specs.Homes.{Home}
 use Rattle.seize_threads_tests.proofs.bringing.sends.Goals as goal
 
 -- what is so of what an answer holds

@@ -1,7 +1,7 @@
 //! A word of a root, as it was found there.
 ghost use Rattle.std.specs.Prelude.{◌≡◌};
 ghost use Rattle.seize_words.specs.Word.{link_word, block_in};
-ghost use Rattle.seize_shared.specs.Tags.{tag_in, with_marks};
+ghost use Rattle.seize_guards.specs.Tags.{tag_in, with_marks};
 
 use seize_words::Link;
 
@@ -12,8 +12,8 @@ pub struct Tagged {
 }
 
 impl Tagged {
-    /// That of a word.
-    pub(crate) fn of(word: u64) -> Self
+    /// That of a word, as it was found at a root.
+    pub fn of(word: u64) -> Self
         ensures { result.word ≡ word }
     {
         Tagged { word }
