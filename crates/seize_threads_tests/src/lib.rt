@@ -25,3 +25,5 @@ mod order;
 mod retiring;
 #[cfg(test)]
 mod sections;
+#[cfg(test)]
+mod tagging;
