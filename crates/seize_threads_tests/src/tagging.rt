@@ -70,6 +70,7 @@ fn replaces(guard: OwnedGuard<'_, Counted>, was: Tagged, value: Counted) -> Opti
 }
 
 /// What one of them has counted: words that it marked first, and words with the mark of the one and of the other that it has replaced.
+#[derive(Drop)]
 struct Tally {
     marked: u64,
     first: u64,
