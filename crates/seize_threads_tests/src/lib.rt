@@ -25,5 +25,3 @@ mod order;
 mod retiring;
 #[cfg(test)]
 mod sections;
-#[cfg(test)]
-mod tagging;
