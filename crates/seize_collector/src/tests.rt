@@ -143,6 +143,13 @@ fn goes_home(
     }
 }
 
+/// Puts a value at the root, within a section of a slot that is given up again.
+fn puts(one: &Shared<'_, Counted>, drops: &Arc<AtomicU64>) -> Option<()> {
+    let mut registration = one.register().ok()?;
+    drop(registration.enter().put(0, Counted::of(drops)?));
+    Some(())
+}
+
 /// Puts two values at the root of one collector, and hands what was there to a registration of another one, and then to one of its own. There is no answer where
 /// the collectors have one number.
 fn hands_abroad(
@@ -153,11 +160,11 @@ fn hands_abroad(
     if one.number() == other.number() {
         return None;
     }
-    let mut own = one.register().ok()?;
-    let mut foreign = other.register().ok()?;
+    puts(one, drops)?;
     let mut near = 0;
-    drop(own.enter().put(0, Counted::of(drops)?));
     let second = one.make(&mut near, Counted::of(drops)?).ok()?;
+    let mut foreign = other.register().ok()?;
+    let mut own = one.register().ok()?;
     match second.publish(0) {
         Ok(Some(old)) => Some(goes_home(foreign.retire(old), &mut own)),
         Ok(None) => None,
