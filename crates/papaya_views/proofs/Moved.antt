@@ -84,7 +84,7 @@ module _ {K V S : Type 0} (same : K → K → Bool) (hash : S → K → ℕ) (fi
     led_then =
         led_more V same hash fixed.batch_size fixed.roots slot_of h.course s.world.doings (Does act) (nothing_done V same hash fixed.batch_size fixed.roots slot_of h.course) h.reached h.led may
 
-    led : LedTo V same hash fixed.batch_size fixed.roots slot_of h.course (s.world.doings ++ Does act ∷ []) led_to
+    abbrev led : LedTo V same hash fixed.batch_size fixed.roots slot_of h.course (s.world.doings ++ Does act ∷ []) led_to
     led = led_then.0
 
     here : (j : ℕ) → j ≡ id → slice_get (slice_set s.views id w) j ≡ Some w

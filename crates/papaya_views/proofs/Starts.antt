@@ -111,7 +111,7 @@ module _ {K S : Type 0} (V : Type 0) (same : K → K → Bool) (hash : S → K �
           → HasSeen (caller_at j (place_of x.slot)) (calls_of j s.world.doings h.reached.1 [])
           (seen_of V same hash fixed.batch_size fixed.roots slot_of h.course j s.world.doings (nothing_done V same hash fixed.batch_size fixed.roots slot_of h.course) h.reached h.led None) x.held
       seen j x (inl e) = h.seen j x e
-      seen j x (inr e) = λ b y shown. (let none : shown_in at_rest.held b ≡ Some y = ap (λ (z : View K V S). shown_in z.held b) e.1 ∙ shown in absurd (cc none))
+      seen j x (inr e) = λ b y shown. (let none : shown_in (at_rest {K = K} {V = V} {S = S}).held b ≡ Some y = ap (λ (z : View K V S). shown_in z.held b) e.1 ∙ shown in absurd (cc none))
 
       as_before : (j : ℕ) (o : Option (View K V S)) → slice_get (s.views ++ at_rest ∷ []) j ≡ o → runs_of (view_of s j) ≡ runs_of o
       as_before j None e = ap runs_of (none_before s.views j at_rest e)
