@@ -60,7 +60,7 @@ stands =
     })
 
 was_so : IsLookedUp nat_eq (told answer.Absent first) 3 0 1 answer.Absent
-was_so = inl (record { deed = refl; comes = refl; there = (there (looking first) refl).0; here = (there (looking first) refl).1; on = refl; so = inl refl })
+was_so = inl (record { deed = refl; comes = refl; there = (there (looking first) refl).0; here = (there (looking first) refl).1; on = refl; what = refl; so = inl refl })
 
 -- neither of two is so
 either : {A B : Type 0} → (A → ⊥) → (B → ⊥) → A ⊎ B → ⊥
@@ -132,7 +132,7 @@ removed = entry (Steps 2) Goes (Removed 1 ∷ []) ∷ entry (Begins 2 3 0 (On (R
 
 -- a lookup finds it while it is there,
 found_there : IsLookedUp nat_eq (told (answer.Found 1) stored) 3 0 1 (answer.Found 1)
-found_there = inl (record { deed = refl; comes = refl; there = (there (looking stored) refl).0; here = (there (looking stored) refl).1; on = refl; so = inl refl })
+found_there = inl (record { deed = refl; comes = refl; there = (there (looking stored) refl).0; here = (there (looking stored) refl).1; on = refl; what = refl; so = inl refl })
 
 -- Wrong: one that begins later has found it; or has found none while it was there.
 abbrev WasSoThen : Answer ℕ → List (Entry ℕ ℕ) → Type 0
