@@ -1,10 +1,8 @@
 #!/usr/bin/env python3
-"""Shows that what a guard lends cannot be read once it has ended, or has taken a step, and that it stays on its thread; and that what is lent for seats cannot
-be read once one of them has taken a step, though one that has only shown it may: such programs do not compile.
+"""Shows that what a guard lends cannot be read once it has ended, or has taken a step, and that it stays on its thread: such programs do not compile.
 
-    compile-fail/late_guards.py   compiles a program of functions that read early or late, one of functions that send what may be sent and what
-                                  may not, and one of functions that read while a seat steps, and exits 1 if one that is right is refused, or one that is
-                                  wrong is not
+    compile-fail/late_guards.py   compiles a program of functions that read early or late, and one of functions that send what may be sent and what
+                                  may not, and exits 1 if one that is right is refused, or one that is wrong is not
 
 The programs are compiled in a folder of their own beside links to this workspace's crates, and are not proved or run.
 """
@@ -14,7 +12,7 @@ sys.dont_write_bytecode = True
 
 from programs import compiled
 
-NAME, BELOW = "late_guards", "seize_shared seize_blocks seize seize_words"
+NAME, BELOW = "late_guards", "seize_shared seize_blocks seize"
 HEAD = """//! Guards that are used as they may be used, and as they may not.
 #![tactic(auto)]
 ghost use Rattle.std.specs.Prelude.{None};
@@ -67,20 +65,6 @@ SENT = [
     ("desk_guard_sent", "guard: DeskGuard<'_, '_, Plain, B>", "move || drop(guard)", False),
 ]
 STAYS = {"unsatisfied-bound"}
-# a value of a block is lent: by which call, and for which of three seats
-LOOKS = [
-    ("value", "blocks.value(&*guard, 1)", {"guard"}),
-    ("value_for", "blocks.value_for(&*guard, &*owner, 1)", {"guard", "owner"}),
-    ("value_by", "blocks.value_by(&*pass, &*guard, &*owner, 1)", {"guard", "owner"}),
-]
-SEATS = ["pass", "guard", "owner"]
-ROOM = """//! Reads the value of a block while a seat takes a step.
-#![tactic(auto)]
-
-use seize_blocks::{Blocks, Rule, Seat};
-use seize_words::At;
-use std::io;
-"""
 MAIN = """
 fn main(rt: HostRuntime) -> io::Result<()> {
     if let Ok(home) = Home::<Plain, OfRows>::open(rt.alloc(), 1, 8, &CHOSEN) {
@@ -114,19 +98,6 @@ def sending():
     return text + MAIN % "            drop(registration);\n", right, wrong
 
 
-def looking():
-    """The program of seats, and the lines where one steps, by the names of their functions: those first where the value is not lent for that seat."""
-    text, right, wrong = ROOM, {}, {}
-    takes = ", ".join(f"{seat}: &mut Seat<u64, R>" for seat in SEATS)
-    for name, call, lent_for in LOOKS:
-        for seat in SEATS:
-            of = f"{name}_while_{seat}_steps"
-            body = [f"let lent = {call};", f"let _ = blocks.load({seat}, At::Root(0));", "*lent == 2"]
-            text += f"\nfn {of}<R: Rule<u64>>(blocks: &Blocks<u64, R>, {takes}) -> bool {{\n" + "".join(f"    {line}\n" for line in body) + "}\n"
-            (wrong if seat in lent_for else right)[of] = text[: text.rindex("let _ = blocks.load")].count("\n") + 1
-    return text + "\nfn main(_: HostRuntime) -> io::Result<()> {\n    Ok(())\n}\n", right, wrong
-
-
 def shown(program, right, wrong, codes):
     """Whether the compiler refuses just these functions, and how many."""
     said, errors = compiled(NAME, BELOW, program)
@@ -143,8 +114,7 @@ def shown(program, right, wrong, codes):
 def main():
     late = shown(*reading(), LATE)
     stay = shown(*sending(), STAYS)
-    looks = shown(*looking(), LATE)
-    print(f"late guards: {late} reads refused, and {stay} ways to another thread; {looks} reads of values that seats lend")
+    print(f"late guards: {late} reads refused, and {stay} ways to another thread")
 
 
 if __name__ == "__main__":
