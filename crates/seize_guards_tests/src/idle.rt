@@ -1,6 +1,4 @@
 //! What is retired while no section of the slot is open, or under another guard: what it waits for, and where a registration ends whose guards were forgotten.
-ghost use Rattle.std.specs.Prelude.{◌≡◌};
-
 use seize_collector::{Guard, Registration, RootGuard, Shared};
 use seize_counted::{Counted, Table, all_are, dropped, table, within};
 use std::mem;
@@ -61,7 +59,10 @@ fn retires(
     let mut near = 0;
     let owned = collector.make(&mut near, second).ok()?;
     match owned.publish(0) {
-        Ok(Some(old)) => mem::forget(old.retire(&mut guard)),
+        Ok(Some(old)) => match old.retire(&mut guard) {
+            Ok(()) => (),
+            Err(_) => unreachable!(),
+        },
         Ok(None) => (),
         Err(owned) => drop(owned.into_value()),
     }

@@ -6,19 +6,21 @@ use crate::crowd::{TIMES, goes};
 use seize_collector::{Owned, Registration, Shared};
 use seize_counted::{Counted, Table, all_are, dropped, table, within};
 use std::test::Fail;
+use std::thread;
 use std::thread::Threads;
-use std::{mem, thread};
 
-/// Makes a block of a value, and puts it at the root; looks at the value that was there, and retires it, without a section. Tells whether it was put, and what was
-/// there had not been dropped, and was retired.
+/// Makes a block of a value, and puts it at the root; looks at the value that was there, and retires it, without a section. Tells whether it was put, and what was there
+/// had not been dropped.
 fn brings(
     registration: &mut Registration<'_, Counted>,
     collector: &Shared<'_, Counted>,
     near: &mut u64,
     value: Counted,
 ) -> bool
-    requires { registration.old.stay.caller.blocks.now ≡ collector.now.blocks.now }
-    ensures { registration.new.stay.caller.blocks ≡ registration.old.stay.caller.blocks }
+    requires home { registration.old.stay.caller.blocks.now ≡ collector.now.blocks.now }
+    requires number { registration.old.number ≡ collector.now.number }
+    ensures home { registration.new.stay.caller.blocks ≡ registration.old.stay.caller.blocks }
+    ensures number { registration.new.number ≡ registration.old.number }
 {
     let Ok(owned) = collector.make(near, value) else {
         return false;
@@ -29,10 +31,7 @@ fn brings(
             let fresh = dropped(&was.drops, was.place) == 0;
             match registration.retire(old) {
                 Ok(()) => fresh,
-                Err(refused) => {
-                    mem::forget(refused);
-                    false
-                }
+                Err(_) => unreachable!(),
             }
         }
         Ok(None) => true,
