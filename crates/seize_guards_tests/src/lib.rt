@@ -9,3 +9,5 @@ mod idle;
 mod lists;
 #[cfg(test)]
 mod order;
+#[cfg(test)]
+mod tagging;
