@@ -61,7 +61,7 @@ fn retires(
     match owned.publish(0) {
         Ok(Some(old)) => match old.retire(&mut guard) {
             Ok(()) => (),
-            Err(_) => unreachable!(),
+            Err((_, old)) => old.kept(),
         },
         Ok(None) => (),
         Err(owned) => drop(owned.into_value()),

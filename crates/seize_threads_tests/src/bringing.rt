@@ -10,17 +10,15 @@ use std::thread;
 use std::thread::Threads;
 
 /// Makes a block of a value, and puts it at the root; looks at the value that was there, and retires it, without a section. Tells whether it was put, and what was there
-/// had not been dropped.
+/// had not been dropped, and was retired.
 fn brings(
     registration: &mut Registration<'_, Counted>,
     collector: &Shared<'_, Counted>,
     near: &mut u64,
     value: Counted,
 ) -> bool
-    requires home { registration.old.stay.caller.blocks.now ≡ collector.now.blocks.now }
-    requires number { registration.old.number ≡ collector.now.number }
-    ensures home { registration.new.stay.caller.blocks ≡ registration.old.stay.caller.blocks }
-    ensures number { registration.new.number ≡ registration.old.number }
+    requires { registration.old.stay.caller.blocks.now ≡ collector.now.blocks.now }
+    ensures { registration.new.stay.caller.blocks ≡ registration.old.stay.caller.blocks }
 {
     let Ok(owned) = collector.make(near, value) else {
         return false;
@@ -31,7 +29,10 @@ fn brings(
             let fresh = dropped(&was.drops, was.place) == 0;
             match registration.retire(old) {
                 Ok(()) => fresh,
-                Err(_) => unreachable!(),
+                Err((_, old)) => {
+                    old.kept();
+                    false
+                }
             }
         }
         Ok(None) => true,
