@@ -20,8 +20,8 @@ fn beside(collector: &Shared<'_, Counted>, drops: &Table) -> Option<(u64, u64, u
     Some((retired, tried, dropped(drops, 0)))
 }
 
-/// Puts a value under a guard and takes it away without one, twice; tells whether it did so, and answers how often it was dropped once it was retired, and once its
-/// batch was tried.
+/// Puts a value under a guard and takes it away without one, twice; tells whether it did so, and answers how often it was dropped once it was retired, and once
+/// its batch was tried.
 fn alone(collector: &Shared<'_, Counted>, drops: &Table) -> Option<(bool, bool, u64, u64)> {
     let value = Counted::of(drops, 1)?;
     let mut registration = collector.register().ok()?;
@@ -115,7 +115,8 @@ fn visits(collector: &Shared<'_, Counted>) -> Option<u64> {
     Some(slot)
 }
 
-/// Forgets guards; tells then whether the five values that were retired were dropped as the registration ended, and the last one is still there. Answers both slots.
+/// Forgets guards; tells then whether the five values that were retired were dropped as the registration ended, and the last one is still there. Answers both
+/// slots.
 fn forgets_and_visits(
     collector: &Shared<'_, Counted>,
     drops: &Table,

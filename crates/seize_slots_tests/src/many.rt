@@ -67,8 +67,9 @@ fn puts(
     there
 }
 
-/// Two threads enter guards, all of which see the first value; it is replaced then, and so are those after it. The guards end on two threads. It tells whether no value
-/// was dropped while all guards were there, and each of them lends one that was not; nor while half of them were; and whether all that were replaced were then.
+/// Two threads enter guards, all of which see the first value; it is replaced then, and so are those after it. The guards end on two threads. It tells whether
+/// no value was dropped while all guards were there, and each of them lends one that was not; nor while half of them were; and whether all that were replaced
+/// were then.
 fn holds<R: Threads + Sync>(
     rt: &R,
     alloc: Global,
