@@ -72,10 +72,13 @@ module _ {K V : Type 0} where
     -- a block of its own may go
     pub holds_none : (told : Bool) → HoldsBy told r own → HoldsBy told r 0
     holds_none false h = ((h.0.0, h.0.1, refl), h.1, h.2)
-    holds_none true h = (h.0, elim h.1 as (λ _. (IsFresh r.key 0 × IsOneValue r.absent r.present) ⊎ (IsNoValue r.absent × IsNoValue r.present)) [
-      | inl fresh ↦ inl ((fresh.0.0, fresh.0.1, refl), fresh.1)
-      | inr none ↦ inr none
-    ])
+    holds_none true h = (
+      h.0,
+      elim h.1 as (λ _. (IsFresh r.key 0 × IsOneValue r.absent r.present) ⊎ (IsNoValue r.absent × IsNoValue r.present)) [
+        | inl fresh ↦ inl ((fresh.0.0, fresh.0.1, refl), fresh.1)
+        | inr none ↦ inr none
+      ],
+    )
 
 module _ {K V Q : Type 0} (k : Kind) (s : Stage) (shown : ℕ → Option (Node K V)) (c : KeyCall K V Q) (is : IsSo k s c) where
   abbrev pub Says : KeyCall K V Q × Called (Node K V) → Type 0

@@ -93,17 +93,29 @@ module _ {K V : Type 0} (r : Replies K V) (own then : ℕ) (v : V) where
   -- the value that it was told is in its own block
   absent_owned : (told : Bool) → HoldsBy told r own → value_told r.absent ≡ Some v → HoldsBy told (record r { absent = owned r.absent; key = None }) then
   absent_owned false h some = absurd (untold_none r.absent v h.1 some)
-  absent_owned true h some = (owned_gap r.absent h.0, inr (owned_none r.absent, elim h.1 as (λ _. IsNoValue r.present) [
-    | inl fresh ↦ after_first r.absent r.present v fresh.1 some
-    | inr none ↦ none.1
-  ]))
+  absent_owned true h some = (
+    owned_gap r.absent h.0,
+    inr (
+      owned_none r.absent,
+      elim h.1 as (λ _. IsNoValue r.present) [
+        | inl fresh ↦ after_first r.absent r.present v fresh.1 some
+        | inr none ↦ none.1
+      ],
+    ),
+  )
 
   present_owned : (told : Bool) → HoldsBy told r own → value_told r.present ≡ Some v → HoldsBy told (record r { present = owned r.present; key = None }) then
   present_owned false h some = absurd (no_value r.present v h.2 some)
-  present_owned true h some = (h.0, inr (elim h.1 as (λ _. IsNoValue r.absent) [
-    | inl fresh ↦ after_second r.absent r.present v fresh.1 some
-    | inr none ↦ none.0
-  ], owned_none r.present))
+  present_owned true h some = (
+    h.0,
+    inr (
+      elim h.1 as (λ _. IsNoValue r.absent) [
+        | inl fresh ↦ after_second r.absent r.present v fresh.1 some
+        | inr none ↦ none.0
+      ],
+      owned_none r.present,
+    ),
+  )
 
 module _ {K V : Type 0} (r : Replies K V) where
   -- where there is no value for a word, nothing changes

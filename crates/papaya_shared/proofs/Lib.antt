@@ -2,6 +2,10 @@ mod Plans
 mod Looking
 mod Making
 mod Quiet
+mod Leads
+mod Found
+mod Asked
+mod Filled
 mod Asking
 mod Calls
 mod Calling
@@ -12,3 +16,4 @@ mod Shown
 mod Rows
 mod Runs
 mod Sessions
+mod Keys

@@ -111,8 +111,12 @@ module _ {K V Q : Type 0} where
     pub so : IsSo k s c
     pub here : StandsSo s.told c.replies c.own c.stands
 
-  -- what a step of it tells: it asks, or its next step goes on
+  -- or it asks
+  abbrev pub AsksSo : Kind → Stage → (ℕ → Option (Node K V)) → Option ℕ → KeyCall K V Q → Type 0
+  AsksSo k s shown None c = IsSo k s c × AsksAbsent k c
+  AsksSo k s shown (Some word) c = IsSo k s c × AsksPresent k shown word c
+
+  -- what a step of it tells
   abbrev pub SaysSo : Kind → Stage → (ℕ → Option (Node K V)) → KeyCall K V Q × Called (Node K V) → Type 0
-  SaysSo k s shown (c, Asks None) = IsSo k s c × AsksAbsent k c
-  SaysSo k s shown (c, Asks (Some word)) = IsSo k s c × AsksPresent k shown word c
+  SaysSo k s shown (c, Asks pair) = AsksSo k s shown pair c
   SaysSo k s shown (c, told) = GoesOn k s c

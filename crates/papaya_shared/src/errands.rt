@@ -1,13 +1,13 @@
-//! What a seat of maps is sent for: to make a map, to look a key up, and to store a pair.
+//! What a seat of maps is sent for: to make a map, to look a key up, and to run a call on one key.
 ghost use Rattle.std.specs.Prelude.{◌≡◌};
-ghost use Rattle.papaya_shared.specs.Calling.{HasCalled, MayCall};
+ghost use Rattle.papaya_shared.specs.Calling.{HasCalled, MayCall, wanted_of};
 ghost use Rattle.papaya_shared.specs.Looking.{HasFound, MayLook};
 ghost use Rattle.papaya_shared.specs.Making.{CameTo, MayBegin};
-ghost use Rattle.papaya_views.specs.Given.ActsActs.{Insert};
 ghost use Rattle.papaya_views.specs.declared.view.Work.TheVariants.{Nothing as NoWork};
 ghost use Rattle.papaya_views.specs.Given.SeizeViewsDeclared.view.View.TheVariants.{Rests};
 
 use crate::within::{Ran, Within};
+use papaya_raw::machines::Machine;
 use papaya_resize::{Lookup, NewMap};
 use papaya_tables::{Hashes, Node, Setting};
 use papaya_views::OfMaps;
@@ -67,41 +67,35 @@ impl<'f, R: Wait, K: Eq + Hash, V, S: Hashes<K>> Errand<Node<K, V>, OfMaps<S>> f
     }
 }
 
-/// Stores a pair.
+/// Runs a call on one key that asks nothing.
 #[derive(Drop)]
-pub(crate) struct Inserts<'i, R, K, V, S> {
-    pub(crate) rt: &'i R,
-    pub(crate) hasher: &'i S,
-    pub(crate) setting: Setting,
-    pub(crate) hash: u64,
-    pub(crate) key: K,
-    pub(crate) value: V,
+pub(crate) struct Does<'d, R, K, V, S> {
+    pub(crate) rt: &'d R,
+    pub(crate) hasher: &'d S,
+    pub(crate) machine: Machine<K, V>,
     pub(crate) near: u64,
 }
 
-impl<'i, R: Wait, K: Eq + Hash + Drop, V: Drop, S: Hashes<K>> Errand<Node<K, V>, OfMaps<S>>
-    for Inserts<'i, R, K, V, S> {
+impl<'d, R: Wait, K: Eq + Hash + Drop, V: Drop, S: Hashes<K>> Errand<Node<K, V>, OfMaps<S>>
+    for Does<'d, R, K, V, S> {
     type Answer = Ran<K, V>;
 
-    ghost asks = { λ i fixed v. MayCall S.hash i.hasher.now i.key i.setting i.hash v };
+    ghost asks = { λ d fixed v. MayCall K.eq S.hash d.hasher.now d.machine v };
 
-    ghost did = { λ i fixed v answer w. HasCalled K.eq S.hash (Insert i.key i.value) answer.told v w };
+    ghost did = { λ d fixed v answer w. HasCalled K.eq S.hash (wanted_of d.machine) answer.told v w };
 
     fn run(
         self,
         blocks: &Blocks<Node<K, V>, OfMaps<S>>,
         seat: &mut Seat<Node<K, V>, OfMaps<S>>,
     ) -> Ran<K, V> {
-        let Inserts {
+        let Does {
             rt,
             hasher,
-            setting,
-            hash,
-            key,
-            value,
+            machine,
             near,
         } = self;
         let mut within = Within::new(blocks, seat, near);
-        within.inserts(rt, hasher, setting, hash, key, value)
+        within.does(rt, hasher, machine)
     }
 }
