@@ -21,7 +21,7 @@ use Rattle.papaya_views.proofs.Given.SeizeActsAnswers.{same_some}
 use Rattle.papaya_views.proofs.Given.SeizeViewsLooks.{IsNow, ends_same, now_ends}
 use Rattle.papaya_views.specs.Looks.{shown_in, MayFollow, TurnsTo}
 use Rattle.papaya_views.specs.Rule.{Holds, KeepsFor}
-use Rattle.papaya_views.specs.Told.{called, turned, turned_by}
+use Rattle.papaya_views.specs.Told.{HandsBack, MayCome, called, turned, turned_by}
 use Rattle.papaya_views.specs.declared.view.Map.{Map}
 use Rattle.papaya_views.specs.declared.view.View.{View}
 use Rattle.papaya_views.specs.declared.view.Work.{Work}
@@ -124,6 +124,9 @@ module _ {K V S : Type 0} (same : K → K → Bool) (hash : S → K → ℕ) (k 
     pub may_call : May (CanMake same hash) (HasMade same hash) shown_of c its
     may_call = subst (λ (h : S). May (CanMake same hash) (HasMade same hash) shown_of c (machine_plan same same (hash h) machine)) is.at.hashes may
 
+    its_step : (end : Machine K V K × Progress (Node K V)) → MayCome plan end → MayCome its end
+    its_step end step = subst (λ (h : S). MayCome (machine_plan {K = K} {V = V} same same (hash h) machine) end) is.hashes step
+
     -- what is known once the call has come so far
     knows_so : (w : View K V S) (end : Machine K V K × Progress (Node K V)) (looks : List (ℕ × Node K V))
         → w ≡ called c.seat.now.view is.at.map machine end looks → Leads (shown_in w.held) plan end
@@ -146,6 +149,8 @@ module _ {K V S : Type 0} (same : K → K → Bool) (hash : S → K → ℕ) (k 
         pub told : TellsSo k s hasher end.0 end.1 n.seat.now.view
         pub stays : StaysThere c.seat.now.view n.seat.now.view
         pub calls : HasTold end.1 c.seat.now.view n.seat.now.view
+        pub step : MayCome its end
+        pub hands : HandsBack c.seat.now.view.calls end.1
         pub seat : IsSameSeat c n
 
       pub has_made : n.made ≡ true → Made
@@ -153,9 +158,22 @@ module _ {K V S : Type 0} (same : K → K → Bool) (hash : S → K → ℕ) (k 
         | inl it ↦
             let t = told_shown same hash c is.at.map machine is.at.knows is.at.works is.at.incremental it.0 it.1 n it.2 in
             let one : t.0 ≡ end = follows_one (shown_of n) plan it.1 t.0 end t.1 it.3 in
+<<<<<<< HEAD
             let view = t.2 ∙ ap (λ (e : Machine K V K × Progress (Node K V)). called c.seat.now.view is.at.map machine e n.seat.now.view.looks) one in
             let so = knows_so n.seat.now.view end n.seat.now.view.looks view (leads_by (shown_of n) plan it.1 end (answered_by plan it.0 it.1 it.4 it.2.fits) it.3) in
             record { told = so.0; stays = so.1; calls = so.2; seat = it.2.seat }
+=======
+            let view = t.2 ∙ ap (λ (e : Machine K V K × Progress (Node K V)). called c.seat.now.view is.map machine e n.seat.now.view.looks) one in
+            let k = knows_so n.seat.now.view (shown_of n) end n.seat.now.view.looks view (leads_by (shown_of n) plan it.1 end it.3) in
+            record {
+              told = k.0;
+              stays = k.1;
+              calls = k.2;
+              step = its_step end (subst (λ (e : Machine K V K × Progress (Node K V)). MayCome plan e) one t.4);
+              hands = subst (λ (e : Machine K V K × Progress (Node K V)). HandsBack c.seat.now.view.calls e.1) one t.5;
+              seat = it.2.seat;
+            }
+>>>>>>> b-session
         | inr none ↦ let made_false : n.made ≡ false = ap (λ (x : Within K V S). x.made) none.0 ∙ before in absurd (cc (made, made_false))
       ]
 
@@ -180,7 +198,11 @@ module _ {K V S : Type 0} (same : K → K → Bool) (hash : S → K → ℕ) (k 
           (calls_turn V same hash c.blocks.now.words.fixed c.seat.now.id c.seat.now.view is.at.map machine t.1.0 is.at.knows is.at.works t.1.1)
 
       pub has_turned : n.made ≡ false → (w : View K V S) → turned same hash n.seat.now.view w
+<<<<<<< HEAD
           → TellsSo k s hasher end.0 end.1 w × StaysThere c.seat.now.view w × HasTold end.1 c.seat.now.view w
+=======
+          → CalledSo hasher end.0 end.1 w × StaysThere c.seat.now.view w × HasTold end.1 c.seat.now.view w × MayCome its end × HandsBack c.seat.now.view.calls end.1
+>>>>>>> b-session
       has_turned none w goes =
           let t = is_turn none in
           let here : turned same hash c.seat.now.view w = subst (λ (x : Within K V S). turned same hash x.seat.now.view w) t.0 goes in
@@ -190,6 +212,7 @@ module _ {K V S : Type 0} (same : K → K → Bool) (hash : S → K → ℕ) (k 
           let ends = subst (λ (p : Plan (Node K V) (Machine K V K × Progress (Node K V))). TurnsTo (shown_in w.looks) p by_map.0) t.1.1 by_map.1 in
           let one : by_map.0 ≡ end =
           ends_same (shown_of c) t.1.0 by_map.0 end (now_ends (shown_in w.looks) (shown_of c) t.1.0 by_map.0 now ends) t.1.2 in
+<<<<<<< HEAD
           let view = by_map.2 ∙ ap (λ (e : Machine K V K × Progress (Node K V)). called c.seat.now.view is.at.map machine e w.looks) one in
           knows_so w end w.looks view
           (subst (λ (p : Plan (Node K V) (Machine K V K × Progress (Node K V))). Leads (shown_in w.held) p end) (sym t.1.1)
@@ -218,3 +241,13 @@ module _ {K V S : Type 0} (hasher : S) where
   quiet_told k s machine (progress.Pair pair) v none is = is
   quiet_told k s machine (progress.Done answer) v none is = is
   quiet_told k s machine (progress.Refused fault) v none is = is
+=======
+          let view = by_map.2 ∙ ap (λ (e : Machine K V K × Progress (Node K V)). called c.seat.now.view is.map machine e w.looks) one in
+          let k = knows_so w (shown_of c) end w.looks view (subst (λ (p : Plan (Node K V) (Machine K V K × Progress (Node K V))). Leads (shown_of c) p end) (sym t.1.1) t.1.2) in (
+            k.0,
+            k.1,
+            k.2,
+            its_step end (subst (λ (e : Machine K V K × Progress (Node K V)). MayCome plan e) one by_map.3),
+            subst (λ (e : Machine K V K × Progress (Node K V)). HandsBack c.seat.now.view.calls e.1) one by_map.4,
+          )
+>>>>>>> b-session

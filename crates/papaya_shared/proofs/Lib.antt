@@ -9,6 +9,7 @@ mod Filled
 mod Asking
 mod Calls
 mod Calling
+mod Handing
 mod Lookups
 mod Makings
 mod Beginnings

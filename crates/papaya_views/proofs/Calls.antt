@@ -29,7 +29,7 @@ module _ {K S : Type 0} (V : Type 0) (same : K → K → Bool) (hash : S → K �
               made.follows,
               refl,
               made.may,
-              (s.memory, took.0),
+              ((scene same hash fixed s h id v at_id map machine knows works).world.memory, m2, made.steps),
               hands same hash fixed s h id v at_id map machine knows works m2 made.end made.steps made.looks made.seen,
             ))),
       )
@@ -43,4 +43,4 @@ module _ {K S : Type 0} (V : Type 0) (same : K → K → Bool) (hash : S → K �
       subst (λ (x : Mem (Node K V)). Goes (Holds same hash fixed) KeepsFor s x id (turned same hash v)) (sym is)
       (goes same hash fixed s h id v at_id map machine knows works m step.0 step.1 step.2 step.3 (turned same hash v)
       (subst (λ (k : Work K V S). turned_by same hash v v.map k (called v map machine step.0 step.2)) (sym works)
-      (subst (λ (o : Option (Map S)). turned_by same hash v o (Calls machine) (called v map machine step.0 step.2)) (sym knows) (step.0, step.4, refl, hands same hash fixed s h id v at_id map machine knows works m step.0 step.1 step.2 step.3))))
+      (subst (λ (o : Option (Map S)). turned_by same hash v o (Calls machine) (called v map machine step.0 step.2)) (sym knows) (step.0, step.4, refl, (m, m, step.1), hands same hash fixed s h id v at_id map machine knows works m step.0 step.1 step.2 step.3))))

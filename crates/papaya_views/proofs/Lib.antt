@@ -9,7 +9,7 @@ mod Whose
 mod Alone
 mod Sections
 mod Looked
-mod Pairs
+pub mod Pairs
 mod Settled
 mod RowLooks
 mod Starts

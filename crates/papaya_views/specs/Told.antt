@@ -1,7 +1,8 @@
 -- What the answer of an operation tells its seat: how far what it has under way has come, and at which blocks the step looks.
 use Rattle.std.specs.Prelude.{◌≡◌, ℕ, Bool, List, [], ◌∷◌, Option, Some, None, if◌then◌else◌}
-use Rattle.seize_words.specs.Mem.{Mem, Gives}
+use Rattle.seize_words.specs.Mem.{Mem, Took, value_at}
 use Rattle.seize_words.specs.Op.{Op, Out}
+use Rattle.seize_words.specs.Plan.{Plan, Steps}
 use Rattle.papaya_tables.specs.Given.SeizeDeclared.progress.Progress.{Progress as Told}
 use Rattle.papaya_tables.specs.Given.SeizeDeclared.progress.Progress.TheVariants as told_as
 use Rattle.papaya_tables.specs.Chunks.{is_incremental}
@@ -24,9 +25,9 @@ use Rattle.papaya_views.specs.declared.view.View.{View}
 use Rattle.papaya_views.specs.declared.view.Work.{Work}
 use Rattle.papaya_views.specs.declared.view.Work.TheVariants.{Nothing, Calls, Makes}
 
--- the operation may be answered so, in some memory
-abbrev pub IsAnswerOf : {T : Type 0} → Op T → Out T → Type 0
-IsAnswerOf {T} op out = (m : Mem T) × Gives m op out
+-- the step comes to this outcome in some memory
+abbrev pub MayCome : {T R : Type 0} → Plan T R → R → Type 0
+MayCome {T} plan end = (m n : Mem T) × Steps Took value_at m plan n end
 
 -- a call that has taken no step has told nothing
 abbrev pub untold : {T : Type 0} → Progress T
@@ -82,7 +83,7 @@ module _ {K V S : Type 0} (same : K → K → Bool) (hash : S → K → ℕ) whe
   told_by v (Some map) (Calls machine) op out w =
       (end : Machine K V K × Progress (Node K V)) × FollowsBy (shown_in w.looks) (machine_plan same same (hash map.hasher) machine) out end
       × (w ≡ called v map machine end w.looks) × MayFollow (shown_in w.looks) (machine_plan same same (hash map.hasher) machine) out
-      × IsAnswerOf op out × HandsBack v.calls end.1
+      × MayCome (machine_plan same same (hash map.hasher) machine) end × HandsBack v.calls end.1
   told_by v None (Calls machine) op out w = ⊥
   told_by v map (Makes m hasher opening) op out w =
       (end : NewMap × Told Setting) × FollowsBy (shown_in w.looks) (new_map_plan opening) out end × (w ≡ made_after v m hasher w.looks end.0 end.1)
@@ -94,7 +95,7 @@ module _ {K V S : Type 0} (same : K → K → Bool) (hash : S → K → ℕ) whe
   abbrev pub turned_by : View K V S → Option (Map S) → Work K V S → View K V S → Type 0
   turned_by v (Some map) (Calls machine) w =
       (end : Machine K V K × Progress (Node K V)) × TurnsTo (shown_in w.looks) (machine_plan same same (hash map.hasher) machine) end × (w ≡ called v map machine end w.looks)
-      × HandsBack v.calls end.1
+      × MayCome (machine_plan same same (hash map.hasher) machine) end × HandsBack v.calls end.1
   turned_by v map work w = ⊥
 
   abbrev pub turned : View K V S → View K V S → Type 0
