@@ -1,7 +1,7 @@
 -- How a call on one key goes on where it asks, or goes by what it was told.
 use Rattle.std.specs.Prelude.{◌==◌, if◌then◌else◌, Option, Some, None}
 use Rattle.std.proofs.Common.{◌≡◌, ◌⊎◌, ℕ, Bool, true, false, inl, inr, refl, sym, subst, ap, ◌∙◌}
-use Rattle.std.proofs.lemmas.Bool.{eqb-eq, eq-eqb}
+use Rattle.std.proofs.lemmas.Bool.{eq-eqb}
 use Rattle.papaya_views.specs.Given.SeizeWordsWord.{block_in}
 use Rattle.papaya_views.specs.Given.TablesDeclared.marks.TheConstants.{TOMBSTONE}
 use Rattle.papaya_views.specs.Given.TablesDeclared.node.Node.{Node}

@@ -2,9 +2,10 @@
 use Rattle.std.specs.Prelude.{◌==◌, ◌&&◌, if◌then◌else◌, Option, Some, None, Ok, Err}
 use Rattle.std.proofs.Common.{◌≡◌, ℕ, Bool, true, false, inr, refl, sym, subst, ap, ◌∙◌}
 use Rattle.std.proofs.lemmas.Bool.{eq-eqb}
-use Rattle.papaya_views.specs.Given.SeizeWordsOp.{Out, Load, Exchange, Take, Found, Stored, Exchanged, Made, Taken, Roomed}
+use Rattle.papaya_views.specs.Given.SeizeWordsOp.{Op, Out, Load, Exchange, Take, Found, Stored, Exchanged, Made, Taken, Roomed}
 use Rattle.papaya_views.specs.Given.SeizeWordsPlan.{Plan, Then, Turn, Do, Now, Seeing, Ends}
 use Rattle.papaya_views.specs.Given.SeizeWordsWord.{block_in}
+use Rattle.papaya_views.specs.Given.SeizeWordsDeclared.at.At.{At}
 use Rattle.papaya_views.specs.Given.SeizeWordsDeclared.at.At.TheVariants.{Root}
 use Rattle.papaya_views.specs.Given.SeizeDeclared.progress.Progress.{Progress}
 use Rattle.papaya_views.specs.Given.SeizeDeclared.progress.Progress.TheVariants as progress
@@ -247,6 +248,16 @@ module _ {K V Q : Type 0} (k : Kind) (s : Stage) (asks : Q → K → Bool) (eq :
   pub call_is : IsQuiet (call_plan asks eq hashes c)
   call_is = quiet_at c.stands goes.here
 
+  -- the operations of its steps
+  abbrev load : At → Op (Node K V)
+  load place = Load place
+
+  abbrev exchange : ℕ → ℕ → Op (Node K V)
+  exchange word new = Exchange (place_tried c.trial) word new
+
+  abbrev take : Op (Node K V)
+  take = Take (block_in c.own)
+
   module _ (shown : ℕ → Option (Node K V)) (end : KeyCall K V Q × Called (Node K V)) where
     abbrev To : KeyCall K V Q × Called (Node K V) → Type 0
     To e = SaysSo k s shown e
@@ -275,7 +286,7 @@ module _ {K V Q : Type 0} (k : Kind) (s : Stage) (asks : Q → K → Bool) (eq :
         by true e = subst To (sym e) (tableless_says k s shown c its c.missing refl)
         by false e = subst To (sym e.2) record { so = record { kind = its.kind; holds = its.holds; gap = its.gap }; here = tt }
 
-    roots_say : (out : Out (Node K V)) → IsAnswer (Load {T = Node K V} (Root c.setting.root)) out → Ends shown (root_found c out) end → To end
+    roots_say : (out : Out (Node K V)) → IsAnswer (load (Root c.setting.root)) out → Ends shown (root_found c out) end → To end
     roots_say (Found link) fits e = root_say link e
     roots_say Stored fits e = absurd fits
     roots_say (Exchanged x) fits e = absurd fits
@@ -290,7 +301,7 @@ module _ {K V Q : Type 0} (k : Kind) (s : Stage) (asks : Q → K → Bool) (eq :
         by true e = subst To (sym e) (last_says k s shown c its c.missing refl)
         by false e = subst To (sym e.2) (went_says k s shown c its (table_seen link e.0))
 
-    nexts_say : (out : Out (Node K V)) → IsAnswer (Load {T = Node K V} (at_word c.trial.table NEXT)) out → Ends shown (next_found c out) end → To end
+    nexts_say : (out : Out (Node K V)) → IsAnswer (load (at_word c.trial.table NEXT)) out → Ends shown (next_found c out) end → To end
     nexts_say (Found link) fits e = next_say link e
     nexts_say Stored fits e = absurd fits
     nexts_say (Exchanged x) fits e = absurd fits
@@ -318,7 +329,7 @@ module _ {K V Q : Type 0} (k : Kind) (s : Stage) (asks : Q → K → Bool) (eq :
         by true e = read_say loaded word c.asked e
         by false e = said loaded word false (λ f. absurd (cc f)) e
 
-    probes_say : (out : Out (Node K V)) → IsAnswer (Load {T = Node K V} (place_tried c.trial)) out → Ends shown (word_found asks eq c out) end → To end
+    probes_say : (out : Out (Node K V)) → IsAnswer (load (place_tried c.trial)) out → Ends shown (word_found asks eq c out) end → To end
     probes_say (Found word) fits e = word_say true word e
     probes_say Stored fits e = absurd fits
     probes_say (Exchanged x) fits e = absurd fits
@@ -326,7 +337,7 @@ module _ {K V Q : Type 0} (k : Kind) (s : Stage) (asks : Q → K → Bool) (eq :
     probes_say (Taken x) fits e = absurd fits
     probes_say (Roomed x) fits e = absurd fits
 
-    tries_say : (word new : ℕ) (out : Out (Node K V)) → IsAnswer (Exchange {T = Node K V} (place_tried c.trial) word new) out → Ends shown (tried asks eq c word new out) end → To end
+    tries_say : (word new : ℕ) (out : Out (Node K V)) → IsAnswer (exchange word new) out → Ends shown (tried asks eq c word new out) end → To end
     tries_say word new (Exchanged (Ok was)) fits e = subst To (sym e) (changed_says k s shown c its word new)
     tries_say word new (Exchanged (Err was)) fits e = word_say false was e
     tries_say word new (Found x) fits e = absurd fits
@@ -335,14 +346,14 @@ module _ {K V Q : Type 0} (k : Kind) (s : Stage) (asks : Q → K → Bool) (eq :
     tries_say word new (Taken x) fits e = absurd fits
     tries_say word new (Roomed x) fits e = absurd fits
 
-    drops_say : (over : End) (out : Out (Node K V)) → IsAnswer (Take {T = Node K V} (block_in c.own)) out → Ends shown (dropped c over out) end → To end
-    drops_say over (Taken node) fits e =
+    drops_say : (last : End) (out : Out (Node K V)) → IsAnswer take out → Ends shown (dropped c last out) end → To end
+    drops_say last (Taken node) fits e =
         subst To (sym e) record { so = record { kind = its.kind; holds = holds_none c.replies c.own s.told its.holds; gap = its.gap }; here = tt }
-    drops_say over (Found x) fits e = absurd fits
-    drops_say over Stored fits e = absurd fits
-    drops_say over (Exchanged x) fits e = absurd fits
-    drops_say over (Made x) fits e = absurd fits
-    drops_say over (Roomed x) fits e = absurd fits
+    drops_say last (Found x) fits e = absurd fits
+    drops_say last Stored fits e = absurd fits
+    drops_say last (Exchanged x) fits e = absurd fits
+    drops_say last (Made x) fits e = absurd fits
+    drops_say last (Roomed x) fits e = absurd fits
 
     asks_say : (asking : Asking) → StandsSo s.told c.replies c.own (at.Asks asking) → Leads shown (asks_at c asking) end → To end
     asks_say (asking.Absent gap) here e = absurd here
@@ -350,7 +361,7 @@ module _ {K V Q : Type 0} (k : Kind) (s : Stage) (asks : Q → K → Bool) (eq :
     asks_say (asking.Fills word) here e = fills_say k s shown c its end word here e
     asks_say (asking.GivesUp word) here e = gives_say k s shown c its end word here e
 
-    over_stays : (over : End) → To (c, ended {T = Node K V} over)
+    over_stays : (last : End) → To (c, ended last)
     over_stays (ends.Answered answer) = goes
     over_stays (ends.Refused fault) = goes
 
@@ -368,8 +379,8 @@ module _ {K V Q : Type 0} (k : Kind) (s : Stage) (asks : Q → K → Bool) (eq :
     say_at (at.Copies copier) here e = let l = leads_as (copied c) shown (copier_plan hashes copier) end e in subst To (sym l.2) (copied_says k s shown c its l.0)
     say_at (at.Asks asking) here e = asks_say asking here e
     say_at (at.Disposes dispose answer) here e = let l = leads_as (disposed c answer) shown (dispose_plan dispose) end e in subst To (sym l.2) (disposed_says k s shown c its answer l.0)
-    say_at (at.Drops over) here e = drops_say over e.0 e.1 e.2
-    say_at (at.Over over) here e = subst To (sym e) (over_stays over)
+    say_at (at.Drops last) here e = drops_say last e.0 e.1 e.2
+    say_at (at.Over last) here e = subst To (sym e) (over_stays last)
 
     pub says : Leads shown (call_plan asks eq hashes c) end → To end
     says e = say_at c.stands goes.here e

@@ -125,7 +125,7 @@ module _ {K V S : Type 0} (same : K → K → Bool) (hash : S → K → ℕ) (k 
     may_call = subst (λ (h : S). May (CanMake same hash) (HasMade same hash) shown_of c (machine_plan same same (hash h) machine)) is.at.hashes may
 
     its_step : (end : Machine K V K × Progress (Node K V)) → MayCome plan end → MayCome its end
-    its_step end step = subst (λ (h : S). MayCome (machine_plan {K = K} {V = V} same same (hash h) machine) end) is.hashes step
+    its_step end step = subst (λ (h : S). MayCome (machine_plan {K = K} {V = V} same same (hash h) machine) end) is.at.hashes step
 
     -- what is known once the call has come so far
     knows_so : (w : View K V S) (end : Machine K V K × Progress (Node K V)) (looks : List (ℕ × Node K V))
@@ -158,22 +158,16 @@ module _ {K V S : Type 0} (same : K → K → Bool) (hash : S → K → ℕ) (k 
         | inl it ↦
             let t = told_shown same hash c is.at.map machine is.at.knows is.at.works is.at.incremental it.0 it.1 n it.2 in
             let one : t.0 ≡ end = follows_one (shown_of n) plan it.1 t.0 end t.1 it.3 in
-<<<<<<< HEAD
             let view = t.2 ∙ ap (λ (e : Machine K V K × Progress (Node K V)). called c.seat.now.view is.at.map machine e n.seat.now.view.looks) one in
             let so = knows_so n.seat.now.view end n.seat.now.view.looks view (leads_by (shown_of n) plan it.1 end (answered_by plan it.0 it.1 it.4 it.2.fits) it.3) in
-            record { told = so.0; stays = so.1; calls = so.2; seat = it.2.seat }
-=======
-            let view = t.2 ∙ ap (λ (e : Machine K V K × Progress (Node K V)). called c.seat.now.view is.map machine e n.seat.now.view.looks) one in
-            let k = knows_so n.seat.now.view (shown_of n) end n.seat.now.view.looks view (leads_by (shown_of n) plan it.1 end it.3) in
             record {
-              told = k.0;
-              stays = k.1;
-              calls = k.2;
+              told = so.0;
+              stays = so.1;
+              calls = so.2;
               step = its_step end (subst (λ (e : Machine K V K × Progress (Node K V)). MayCome plan e) one t.4);
               hands = subst (λ (e : Machine K V K × Progress (Node K V)). HandsBack c.seat.now.view.calls e.1) one t.5;
               seat = it.2.seat;
             }
->>>>>>> b-session
         | inr none ↦ let made_false : n.made ≡ false = ap (λ (x : Within K V S). x.made) none.0 ∙ before in absurd (cc (made, made_false))
       ]
 
@@ -198,11 +192,7 @@ module _ {K V S : Type 0} (same : K → K → Bool) (hash : S → K → ℕ) (k 
           (calls_turn V same hash c.blocks.now.words.fixed c.seat.now.id c.seat.now.view is.at.map machine t.1.0 is.at.knows is.at.works t.1.1)
 
       pub has_turned : n.made ≡ false → (w : View K V S) → turned same hash n.seat.now.view w
-<<<<<<< HEAD
-          → TellsSo k s hasher end.0 end.1 w × StaysThere c.seat.now.view w × HasTold end.1 c.seat.now.view w
-=======
-          → CalledSo hasher end.0 end.1 w × StaysThere c.seat.now.view w × HasTold end.1 c.seat.now.view w × MayCome its end × HandsBack c.seat.now.view.calls end.1
->>>>>>> b-session
+          → TellsSo k s hasher end.0 end.1 w × StaysThere c.seat.now.view w × HasTold end.1 c.seat.now.view w × MayCome its end × HandsBack c.seat.now.view.calls end.1
       has_turned none w goes =
           let t = is_turn none in
           let here : turned same hash c.seat.now.view w = subst (λ (x : Within K V S). turned same hash x.seat.now.view w) t.0 goes in
@@ -212,11 +202,17 @@ module _ {K V S : Type 0} (same : K → K → Bool) (hash : S → K → ℕ) (k 
           let ends = subst (λ (p : Plan (Node K V) (Machine K V K × Progress (Node K V))). TurnsTo (shown_in w.looks) p by_map.0) t.1.1 by_map.1 in
           let one : by_map.0 ≡ end =
           ends_same (shown_of c) t.1.0 by_map.0 end (now_ends (shown_in w.looks) (shown_of c) t.1.0 by_map.0 now ends) t.1.2 in
-<<<<<<< HEAD
           let view = by_map.2 ∙ ap (λ (e : Machine K V K × Progress (Node K V)). called c.seat.now.view is.at.map machine e w.looks) one in
+          let so =
           knows_so w end w.looks view
           (subst (λ (p : Plan (Node K V) (Machine K V K × Progress (Node K V))). Leads (shown_in w.held) p end) (sym t.1.1)
-          (now_ends (shown_of c) (shown_in w.held) t.1.0 end now t.1.2))
+          (now_ends (shown_of c) (shown_in w.held) t.1.0 end now t.1.2)) in (
+            so.0,
+            so.1,
+            so.2,
+            its_step end (subst (λ (e : Machine K V K × Progress (Node K V)). MayCome plan e) one by_map.3),
+            subst (λ (e : Machine K V K × Progress (Node K V)). HandsBack c.seat.now.view.calls e.1) one by_map.4,
+          )
 
 module _ {K V S : Type 0} (hasher : S) where
   -- a call that asks nothing has not asked
@@ -241,13 +237,3 @@ module _ {K V S : Type 0} (hasher : S) where
   quiet_told k s machine (progress.Pair pair) v none is = is
   quiet_told k s machine (progress.Done answer) v none is = is
   quiet_told k s machine (progress.Refused fault) v none is = is
-=======
-          let view = by_map.2 ∙ ap (λ (e : Machine K V K × Progress (Node K V)). called c.seat.now.view is.map machine e w.looks) one in
-          let k = knows_so w (shown_of c) end w.looks view (subst (λ (p : Plan (Node K V) (Machine K V K × Progress (Node K V))). Leads (shown_of c) p end) (sym t.1.1) t.1.2) in (
-            k.0,
-            k.1,
-            k.2,
-            its_step end (subst (λ (e : Machine K V K × Progress (Node K V)). MayCome plan e) one by_map.3),
-            subst (λ (e : Machine K V K × Progress (Node K V)). HandsBack c.seat.now.view.calls e.1) one by_map.4,
-          )
->>>>>>> b-session

@@ -89,9 +89,9 @@ module _ {V : Type 0} where
   one_of_second tells.Removes u is = tt
   one_of_second (tells.Value x) u is = absurd is
 
-module _ {K V : Type 0} (r : Replies K V) (own then : ℕ) (v : V) where
+module _ {K V : Type 0} (r : Replies K V) (own next : ℕ) (v : V) where
   -- the value that it was told is in its own block
-  absent_owned : (told : Bool) → HoldsBy told r own → value_told r.absent ≡ Some v → HoldsBy told (record r { absent = owned r.absent; key = None }) then
+  absent_owned : (told : Bool) → HoldsBy told r own → value_told r.absent ≡ Some v → HoldsBy told (record r { absent = owned r.absent; key = None }) next
   absent_owned false h some = absurd (untold_none r.absent v h.1 some)
   absent_owned true h some = (
     owned_gap r.absent h.0,
@@ -104,7 +104,7 @@ module _ {K V : Type 0} (r : Replies K V) (own then : ℕ) (v : V) where
     ),
   )
 
-  present_owned : (told : Bool) → HoldsBy told r own → value_told r.present ≡ Some v → HoldsBy told (record r { present = owned r.present; key = None }) then
+  present_owned : (told : Bool) → HoldsBy told r own → value_told r.present ≡ Some v → HoldsBy told (record r { present = owned r.present; key = None }) next
   present_owned false h some = absurd (no_value r.present v h.2 some)
   present_owned true h some = (
     h.0,
@@ -140,14 +140,14 @@ module _ {K V Q : Type 0} (k : Kind) (s : Stage) (shown : ℕ → Option (Node K
   abbrev owned_by : Bool → Replies K V
   owned_by b = if b then record c.replies { absent = owned c.replies.absent } else record c.replies { present = owned c.replies.present }
 
-  owned_so : (b : Bool) (v : V) → value_told (if b then c.replies.absent else c.replies.present) ≡ Some v → (then : ℕ) (stands : Calling)
-      → IsSo k s (record c { replies = record (owned_by b) { key = None }; own = then; stands = stands })
-  owned_so true v some then stands = record {
+  owned_so : (b : Bool) (v : V) → value_told (if b then c.replies.absent else c.replies.present) ≡ Some v → (next : ℕ) (stands : Calling)
+      → IsSo k s (record c { replies = record (owned_by b) { key = None }; own = next; stands = stands })
+  owned_so true v some next stands = record {
     kind = is.kind;
-    holds = absent_owned c.replies c.own then v s.told is.holds some;
+    holds = absent_owned c.replies c.own next v s.told is.holds some;
     gap = owned_told s.gap c.replies.absent is.gap;
   }
-  owned_so false v some then stands = record { kind = is.kind; holds = present_owned c.replies c.own then v s.told is.holds some; gap = is.gap }
+  owned_so false v some next stands = record { kind = is.kind; holds = present_owned c.replies c.own next v s.told is.holds some; gap = is.gap }
 
   -- a value is put into a block that is made
   fill : (word : ℕ) (key : K) → c.own ≡ 0 → (b : Bool) (o : Option V) → value_told (if b then c.replies.absent else c.replies.present) ≡ o

@@ -58,6 +58,6 @@ module _ {K V S : Type 0} where
   rests_inside same hash key answer v w t inside found = rests_so w (Inside t NoBlock) (found.stays.slot ∙ inside) found.looked.free tt
 
   -- and so does who has run a call
-  pub rests_called : (same : K → K → Bool) (hash : S → K → ℕ) (wanted : Wanted K V) (answer : Result Answer Fault) (v w : View K V S) (t : ℕ) → v.slot ≡ Inside t NoBlock
-      → HasCalled same hash wanted answer v w → IsResting w
-  rests_called same hash wanted answer v w t inside called = rests_so w (Inside t NoBlock) (called.stays.slot ∙ inside) called.free tt
+  pub rests_called : (same : K → K → Bool) (hash : S → K → ℕ) (wanted : Wanted K V) (answer : Result Answer Fault) (unstored : Option (Node K V)) (v w : View K V S) (t : ℕ)
+      → v.slot ≡ Inside t NoBlock → HasCalled same hash wanted answer unstored v w → IsResting w
+  rests_called same hash wanted answer unstored v w t inside called = rests_so w (Inside t NoBlock) (called.stays.slot ∙ inside) called.free tt

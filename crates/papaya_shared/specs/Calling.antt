@@ -1,23 +1,16 @@
-<<<<<<< HEAD
 -- What a seat knows while a call on one key is under way, and once it has ended.
-use Rattle.std.specs.Prelude.{◌≡◌, ℕ, Bool, true, false, Option, Some, None, Result, Ok, Err}
-=======
--- What a seat knows while a call on one key that asks nothing is under way, and once it has ended.
 use Rattle.std.specs.Prelude.{◌≡◌, ◌<◌, ◌^◌, ℕ, Bool, true, false, Option, Some, None, Result, Ok, Err, IfErr}
->>>>>>> b-session
 use Rattle.papaya_views.specs.Given.SeizeWordsDeclared.fault.Fault.{Fault}
 use Rattle.papaya_views.specs.Given.TablesChunks.{is_incremental}
 use Rattle.papaya_views.specs.Given.TablesDeclared.node.Node.{Node}
 use Rattle.papaya_views.specs.Given.TablesDeclared.node.Node.TheVariants.{Pair}
-<<<<<<< HEAD
-=======
-use Rattle.papaya_views.specs.Given.TablesDeclared.setting.Setting.{Setting}
->>>>>>> b-session
 use Rattle.papaya_views.specs.Given.RawDeclared.machines.answer.There.{There}
 use Rattle.papaya_views.specs.Given.RawDeclared.machines.answer.There.TheVariants as there
 use Rattle.papaya_views.specs.Given.RawDeclared.machines.answer.Missing.{Missing}
 use Rattle.papaya_views.specs.Given.RawDeclared.machines.answer.Missing.TheVariants as missing
 use Rattle.papaya_views.specs.Given.RawDeclared.machines.answer.KeyAnswer.TheVariants as answers
+use Rattle.papaya_views.specs.Given.RawDeclared.machines.call.Calling.TheVariants as at
+use Rattle.papaya_views.specs.Given.RawDeclared.machines.call.KeyCall.{KeyCall}
 use Rattle.papaya_views.specs.Given.RawDeclared.machines.asking.Takes.{Takes}
 use Rattle.papaya_views.specs.Given.RawDeclared.machines.asking.Takes.TheVariants as takes
 use Rattle.papaya_views.specs.Given.RawDeclared.machines.machine.Machine.{Machine}
@@ -26,11 +19,7 @@ use Rattle.papaya_views.specs.Given.RawDeclared.machines.progress.Answer.{Answer
 use Rattle.papaya_views.specs.Given.RawDeclared.machines.progress.Answer.TheVariants.{Key as OfKey}
 use Rattle.papaya_views.specs.Given.RawDeclared.machines.progress.Progress.{Progress}
 use Rattle.papaya_views.specs.Given.RawDeclared.machines.progress.Progress.TheVariants as progress
-<<<<<<< HEAD
 use Rattle.papaya_views.specs.Given.ActsActs.{Wanted, Get, Remove, Insert, TryToInsert, Compute, Update, TryToInsertWith, RemoveIf, Count}
-=======
-use Rattle.papaya_views.specs.Given.ActsActs.{Wanted, Insert, TryToInsert}
->>>>>>> b-session
 use Rattle.papaya_views.specs.Given.SeizeViewsDeclared.view.Has.TheVariants.{Nothing as NoBlock}
 use Rattle.papaya_views.specs.Given.SeizeViewsDeclared.view.View.TheVariants.{Inside}
 use Rattle.papaya_views.specs.Begun.{machine_for}
@@ -210,6 +199,7 @@ module _ {K V S : Type 0} where
     pub stage : Stage
     pub none : AsksNothing kind
     pub may : MayDo same hash kind stage hasher machine v
+    pub stores : (pair : Node K V) → pair_wanted (wanted_of machine) ≡ Some pair → MachineStores pair machine
 
   -- what a call has come to that wanted this
   pub record HasCalled (same : K → K → Bool) (hash : S → K → ℕ) (wanted : Wanted K V) (answer : Result Answer Fault) (unstored : Option (Node K V)) (v w : View K V S) : Type 0 where

@@ -82,11 +82,7 @@ impl<'d, R: Wait, K: Eq + Hash + Drop, V: Drop, S: Hashes<K>> Errand<Node<K, V>,
 
     ghost asks = { λ d fixed v. MayCall K.eq S.hash d.hasher.now d.machine v };
 
-<<<<<<< HEAD
-    ghost did = { λ d fixed v answer w. HasCalled K.eq S.hash (wanted_of d.machine) answer.told v w };
-=======
-    ghost did = { λ i fixed v answer w. HasCalled K.eq S.hash (Insert i.key i.value) answer.told answer.unstored v w };
->>>>>>> b-session
+    ghost did = { λ d fixed v answer w. HasCalled K.eq S.hash (wanted_of d.machine) answer.told answer.unstored v w };
 
     fn run(
         self,

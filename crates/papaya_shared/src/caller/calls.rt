@@ -47,25 +47,10 @@ impl<'a, K: Eq + Hash, V, S: Hashes<K>> Caller<'a, K, V, S> {
 }
 
 impl<'a, K: Eq + Hash + Drop, V: Drop, S: Hashes<K>> Caller<'a, K, V, S> {
-<<<<<<< HEAD
     /// Runs this call, which asks nothing, within its section, on the map that it knows, and answers what it has told, and its own pair where that was not stored.
     pub(crate) fn does<R: Wait>(&mut self, rt: &R, hasher: &S, machine: Machine<K, V>) -> Ran<K, V>
         requires may { MayCall K.eq S.hash hasher.now machine self.old.seat.view }
-        ensures called { HasCalled K.eq S.hash (wanted_of machine) result.told self.old.seat.view self.new.seat.view }
-=======
-    /// Stores this pair within its section, in the map that it knows, and answers what its call has told, and the pair where that was not stored.
-    pub(crate) fn inserts<R: Wait>(
-        &mut self,
-        rt: &R,
-        hasher: &S,
-        setting: Setting,
-        hash: u64,
-        key: K,
-        value: V,
-    ) -> Ran<K, V>
-        requires may { MayCall S.hash hasher.now key setting hash self.old.seat.view }
-        ensures called { HasCalled K.eq S.hash (Insert key value) result.told result.unstored self.old.seat.view self.new.seat.view }
->>>>>>> b-session
+        ensures called { HasCalled K.eq S.hash (wanted_of machine) result.told result.unstored self.old.seat.view self.new.seat.view }
         ensures blocks { self.new.blocks ≡ self.old.blocks }
     {
         let ran = self.blocks.errand(

@@ -7,12 +7,12 @@ ghost use Rattle.papaya_views.specs.Given.ActsActs.{ContainsKey, Remove, TryToIn
 ghost use Rattle.papaya_views.specs.Given.SeizeViewsDeclared.view.Has.TheVariants.{Nothing};
 ghost use Rattle.papaya_views.specs.Given.SeizeViewsDeclared.view.View.TheVariants.{Inside};
 
-use crate::session::{Session, pair_of, setting_in};
+use crate::session::{Session, refused, setting_in};
 use crate::within::Ran;
 use papaya_raw::machines::{Answer, KeyAnswer, KeyCall, Machine};
 use papaya_resize::Lookup;
 use papaya_tables::{Hashes, Node};
-use seize_words::Fault;
+use seize_words::{Fault, Refused};
 use std::hash::Hash;
 use std::sync::Wait;
 
@@ -36,6 +36,14 @@ fn is_removed(answer: &Answer) -> bool
     ensures { result ≡ removes answer.now }
 {
     matches!(answer, Answer::Key(KeyAnswer::Removed(_)))
+}
+
+/// The key and the value of a pair that was not stored.
+fn pair_of<K: Drop, V: Drop>(unstored: Option<Node<K, V>>) -> Option<(K, V)> {
+    match unstored {
+        Some(Node::Pair(key, value)) => Some((key, value)),
+        _ => None,
+    }
 }
 
 /// What came of it, by what its call has answered.
@@ -66,18 +74,19 @@ impl<'a, K: Eq + Hash, V, S: Hashes<K>> Session<'a, K, V, S> {
 }
 
 impl<'a, K: Eq + Hash + Drop, V: Drop, S: Hashes<K>> Session<'a, K, V, S> {
-    /// Stores a pair within the section of its slot, if its key is not there yet; it comes back where it is. The faults are `Memory` and `Capacity`; the pair that was
-    /// not stored comes back then, too.
+    /// Stores a pair within the section of its slot, if its key is not there yet; it comes back where it is. The faults are `Memory` and `Capacity`; the pair comes back
+    /// then, too.
     pub fn try_insert<R: Wait>(
         &mut self,
         rt: &R,
         key: K,
         value: V,
-    ) -> Result<Tried<K, V>, (Fault, Option<(K, V)>)>
+    ) -> Result<Tried<K, V>, Refused<K, V>>
         requires inside { self.old.caller.seat.view.slot ≡ Inside self.old.slot Nothing }
         ensures inside { self.new.caller.seat.view.slot ≡ Inside self.new.slot Nothing }
         ensures tried { IfOk result (λ tried. HasTried K.eq S.hash key value (has_stored tried) self.old.caller.seat.view self.new.caller.seat.view) }
-        ensures refused { IfErr result (λ refused. HasRun K.eq S.hash (TryToInsert key value) (outcome_of (Err refused.0)) self.old.caller.seat.view self.new.caller.seat.view) }
+        ensures refused { IfErr result (λ refused. HasRun K.eq S.hash (TryToInsert key value) (outcome_of (Err refused.fault)) self.old.caller.seat.view self.new.caller.seat.view) }
+        ensures back { IfErr result (λ refused. (refused.key ≡ key) × (refused.value ≡ value)) }
         ensures map { self.new.caller.seat.view.map ≡ self.old.caller.seat.view.map }
         ensures blocks { self.new.caller.blocks ≡ self.old.caller.blocks }
     {
@@ -92,7 +101,7 @@ impl<'a, K: Eq + Hash + Drop, V: Drop, S: Hashes<K>> Session<'a, K, V, S> {
         } = ran;
         match told {
             Ok(answer) => Ok(tried(&answer, unstored)),
-            Err(fault) => Err((fault, pair_of(unstored))),
+            Err(fault) => Err(refused(fault, unstored)),
         }
     }
 

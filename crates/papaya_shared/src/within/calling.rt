@@ -1,14 +1,7 @@
-<<<<<<< HEAD
 //! A seat on an errand runs a call on one key.
-ghost use Rattle.std.specs.Prelude.{◌≡◌, ℕ, true, false, Some};
-ghost use Rattle.papaya_shared.specs.Calling.{CalledSo, HasCalled, HasEnded, IsCalling, IsUnderWay, MayCall, TellsSo, wanted_of};
-ghost use Rattle.papaya_shared.specs.Kinds.{Kind, Stage};
-=======
-//! A seat on an errand runs a call on one key that asks nothing.
 ghost use Rattle.std.specs.Prelude.{◌≡◌, ℕ, true, false, Some, IfErr};
-ghost use Rattle.papaya_views.specs.Given.ActsActs.{Insert};
-ghost use Rattle.papaya_shared.specs.Calling.{CalledSo, HasCalled, HasEnded, IsCalling, MachineStores, MayCall};
->>>>>>> b-session
+ghost use Rattle.papaya_shared.specs.Calling.{CalledSo, HasCalled, HasEnded, IsCalling, IsUnderWay, MachineStores, MayCall, TellsSo, wanted_of};
+ghost use Rattle.papaya_shared.specs.Kinds.{Kind, Stage};
 ghost use Rattle.papaya_shared.specs.Looking.{Begins, HasTold, StaysThere};
 ghost use Rattle.papaya_shared.specs.Made.{IsSameSeat};
 ghost use Rattle.papaya_views.specs.Given.TablesChunks.{is_incremental};
@@ -73,6 +66,8 @@ impl<'a, K: Eq + Hash + Drop, V: Drop, S: Hashes<K>> Within<'a, K, V, S> {
         requires calls { IsCalling hasher.now machine.old self.old.seat.now.view }
         ensures told { CalledSo hasher.now machine.new result self.new.seat.now.view }
         ensures calls { HasTold result self.old.seat.now.view self.new.seat.now.view }
+        ensures step { MayCome (machine_plan K.eq K.eq (S.hash hasher.now) machine.old) (machine.new, result) }
+        ensures hands { HandsBack self.old.seat.now.view.calls result }
         ensures stays { StaysThere self.old.seat.now.view self.new.seat.now.view }
         ensures same { IsSameSeat self.old self.new }
     {
@@ -136,25 +131,10 @@ impl<'a, K: Eq + Hash + Drop, V: Drop, S: Hashes<K>> Within<'a, K, V, S> {
         self.begins_as::<Brand>(machine);
     }
 
-<<<<<<< HEAD
     /// Runs this call, which asks nothing, on the map that it knows.
     pub(crate) fn does<R: Wait>(&mut self, rt: &R, hasher: &S, machine: Machine<K, V>) -> Ran<K, V>
         requires may { MayCall K.eq S.hash hasher.now machine self.old.seat.now.view }
-        ensures called { HasCalled K.eq S.hash (wanted_of machine) result.told self.old.seat.now.view self.new.seat.now.view }
-=======
-    /// Stores this pair in the map that it knows, in the place of one of an equal key, if there is one. The setting is that of the map, in its slot.
-    pub(crate) fn inserts<R: Wait>(
-        &mut self,
-        rt: &R,
-        hasher: &S,
-        setting: Setting,
-        hash: u64,
-        key: K,
-        value: V,
-    ) -> Ran<K, V>
-        requires may { MayCall S.hash hasher.now key setting hash self.old.seat.now.view }
-        ensures called { HasCalled K.eq S.hash (Insert key value) result.told result.unstored self.old.seat.now.view self.new.seat.now.view }
->>>>>>> b-session
+        ensures called { HasCalled K.eq S.hash (wanted_of machine) result.told result.unstored self.old.seat.now.view self.new.seat.now.view }
         ensures same { IsSameSeat self.old self.new }
     {
         self.begins(&machine);

@@ -1,4 +1,6 @@
-use Rattle.papaya_shared.proofs.Keys.{may_insert, ran_by}
+use Rattle.std.proofs.Common.{refl}
+use Rattle.papaya_views.specs.Given.TablesDeclared.node.Node.TheVariants.{Pair}
+use Rattle.papaya_shared.proofs.Keys.{may_insert, back_by, ran_by}
 use Rattle.papaya_shared.proofs.session.Session.insert.Goals as goal
 
 pub does-ran-requires : goal.does-ran-requires
@@ -6,7 +8,7 @@ does-ran-requires g c =
     let x = c.args.self.now in record {
       may =
           may_insert g.K.PartialEq.eq g.S.Hashes.hash x.caller.seat.view x.setting c.setting_in-setting.result x.hasher.now c.args.key c.hash_of-hash.result x.slot c.insert-call.result
-          c.requires.inside x.free x.knows x.incremental c.setting_in-setting.ensures c.hash_of-hash.ensures c.args.value c.insert-call.ensures;
+          c.requires.inside x.free x.knows x.incremental c.setting_in-setting.ensures c.hash_of-hash.ensures c.type_inv.hash c.args.value c.insert-call.ensures;
     }
 
 pub returns-in-Ok-clause-stored : goal.returns-in-Ok-clause-stored
@@ -21,3 +23,13 @@ pub returns-in-Err-clause-refused : goal.returns-in-Err-clause-refused
 returns-in-Err-clause-refused g c =
     ran_by g.K.PartialEq.eq g.S.Hashes.hash c.args.self.now.caller.seat.view c.does-ran.new.self.seat.view
     c.insert-call.ensures c.in-Err.is c.does-ran.ensures.called
+
+pub refused-requires : goal.refused-requires
+refused-requires g c = record {
+  back = (
+    c.args.key,
+    c.args.value,
+    back_by g.K.PartialEq.eq g.S.Hashes.hash c.args.self.now.caller.seat.view c.does-ran.new.self.seat.view c.insert-call.ensures c.in-Err.is c.does-ran.ensures.called
+        (Pair c.args.key c.args.value) refl,
+  );
+}

@@ -1,6 +1,6 @@
 use Rattle.papaya_shared.specs.Calling.{outcome_of, wanted_of}
 use Rattle.papaya_shared.proofs.Beginnings.{is_begun, stays_begun, stays_on}
-use Rattle.papaya_shared.proofs.Runs.{has_run}
+use Rattle.papaya_shared.proofs.Runs.{comes_back, has_run}
 use Rattle.papaya_shared.proofs.within.Within.does.Goals as goal
 
 pub begins-requires : goal.begins-requires
@@ -27,4 +27,7 @@ returns-clause-called g c =
       free = c.runs.ensures.ended.free;
       stays = stays_on u v w (stays_begun g.K.PartialEq.eq g.S.Hashes.hash wanted u v c.begins.ensures.begins) c.runs.ensures.stays;
       ran = has_run g.K.PartialEq.eq g.S.Hashes.hash wanted (outcome_of c.runs.result.told) u v w c.begins.ensures.begins c.runs.ensures.ended.told;
+      back =
+          comes_back g.K.PartialEq.eq g.S.Hashes.hash wanted c.runs.result.told c.runs.result.unstored u v c.begins.ensures.begins
+          (λ pair its began. c.runs.ensures.back pair (c.requires.may.stores pair its) began);
     }

@@ -1,4 +1,5 @@
 use Rattle.std.proofs.Common.{◌≡◌, true, false, sym, subst, ◌∙◌}
+use Rattle.papaya_views.specs.Told.{HandsBack}
 use Rattle.papaya_views.specs.declared.view.View.{View}
 use Rattle.seize_callers.proofs.Keeping.{still_kept}
 use Rattle.papaya_shared.specs.Calling.{IsUnderWay}
@@ -67,3 +68,25 @@ returns-clause-same g c =
     let is = subst (IsUnderWay c.requires.calls.0 c.requires.calls.1 c.args.hasher.now c.args.machine.now) (sym c.begins_step.ensures.view) c.requires.calls.2 in
     still_kept _ _ c.turn.ensures.same.1 c.turn.ensures.errand
     ∙ still g.K.PartialEq.eq g.S.Hashes.hash c.requires.calls.0 c.requires.calls.1 c.args.hasher.now c.begins_step.new.self c.args.machine.now is c.step.new.memory (c.step.new.self, c.step.result) c.begins_step.ensures.none c.step.ensures c.if-self.false ∙ c.begins_step.ensures.same
+
+pub returns-then-self-clause-step : goal.returns-then-self-clause-step
+returns-then-self-clause-step g c =
+    let is = subst (IsUnderWay c.requires.calls.0 c.requires.calls.1 c.args.hasher.now c.args.machine.now) (sym c.begins_step.ensures.view) c.requires.calls.2 in
+    (has_made g.K.PartialEq.eq g.S.Hashes.hash c.requires.calls.0 c.requires.calls.1 c.args.hasher.now c.begins_step.new.self c.args.machine.now is c.step.new.memory (c.step.new.self, c.step.result) c.begins_step.ensures.none c.step.ensures c.if-self.true).step
+
+pub returns-then-self-clause-hands : goal.returns-then-self-clause-hands
+returns-then-self-clause-hands g c =
+    let is = subst (IsUnderWay c.requires.calls.0 c.requires.calls.1 c.args.hasher.now c.args.machine.now) (sym c.begins_step.ensures.view) c.requires.calls.2 in
+    subst (λ (v : View g.row.K.Denot g.row.V.Denot g.row.S.Denot). HandsBack v.calls c.step.result) c.begins_step.ensures.view
+    (has_made g.K.PartialEq.eq g.S.Hashes.hash c.requires.calls.0 c.requires.calls.1 c.args.hasher.now c.begins_step.new.self c.args.machine.now is c.step.new.memory (c.step.new.self, c.step.result) c.begins_step.ensures.none c.step.ensures c.if-self.true).hands
+
+pub returns-clause-step : goal.returns-clause-step
+returns-clause-step g c =
+    let is = subst (IsUnderWay c.requires.calls.0 c.requires.calls.1 c.args.hasher.now c.args.machine.now) (sym c.begins_step.ensures.view) c.requires.calls.2 in
+    (has_turned g.K.PartialEq.eq g.S.Hashes.hash c.requires.calls.0 c.requires.calls.1 c.args.hasher.now c.begins_step.new.self c.args.machine.now is c.step.new.memory (c.step.new.self, c.step.result) c.begins_step.ensures.none c.step.ensures c.if-self.false c.turn.new.seat.view c.turn.ensures.goes).3
+
+pub returns-clause-hands : goal.returns-clause-hands
+returns-clause-hands g c =
+    let is = subst (IsUnderWay c.requires.calls.0 c.requires.calls.1 c.args.hasher.now c.args.machine.now) (sym c.begins_step.ensures.view) c.requires.calls.2 in
+    subst (λ (v : View g.row.K.Denot g.row.V.Denot g.row.S.Denot). HandsBack v.calls c.step.result) c.begins_step.ensures.view
+    (has_turned g.K.PartialEq.eq g.S.Hashes.hash c.requires.calls.0 c.requires.calls.1 c.args.hasher.now c.begins_step.new.self c.args.machine.now is c.step.new.memory (c.step.new.self, c.step.result) c.begins_step.ensures.none c.step.ensures c.if-self.false c.turn.new.seat.view c.turn.ensures.goes).4
