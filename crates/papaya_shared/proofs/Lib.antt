@@ -7,6 +7,7 @@ mod Found
 mod Asked
 mod Filled
 mod Asking
+mod Telling
 mod Calls
 mod Calling
 mod Handing
