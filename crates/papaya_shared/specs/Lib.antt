@@ -5,4 +5,5 @@ pub mod Looking
 pub mod Making
 pub mod Kinds
 pub mod Calling
+pub mod Asking
 pub mod Given

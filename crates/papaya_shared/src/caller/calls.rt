@@ -10,7 +10,7 @@ ghost use Rattle.papaya_views.specs.Given.SeizeSeatsLendings.{IsValueOf};
 ghost use Rattle.papaya_views.specs.Given.SeizeViewsDeclared.view.View.TheVariants.{Rests};
 
 use crate::caller::Caller;
-use crate::errands::{Does, Finds, Makes};
+use crate::errands::{Does, Finds, Makes, MakesPair, RemovesIf};
 use crate::within::Ran;
 use papaya_raw::machines::Machine;
 use papaya_resize::{Lookup, NewMap};
@@ -60,6 +60,52 @@ impl<'a, K: Eq + Hash + Drop, V: Drop, S: Hashes<K>> Caller<'a, K, V, S> {
                 hasher,
                 machine,
                 near: self.near,
+            },
+        );
+        self.near = ran.near;
+        ran
+    }
+}
+
+impl<'a, K: Eq + Hash + Drop, V: Drop, S: Hashes<K>> Caller<'a, K, V, S> {
+    /// Stores a value that is made where the key is missing.
+    pub(crate) fn makes_pair<R: Wait, F: FnOnce() -> V>(
+        &mut self,
+        rt: &R,
+        hasher: &S,
+        machine: Machine<K, V>,
+        make: F,
+    ) -> Ran<K, V> {
+        let ran = self.blocks.errand(
+            &mut self.seat,
+            MakesPair {
+                rt,
+                hasher,
+                machine,
+                near: self.near,
+                make,
+            },
+        );
+        self.near = ran.near;
+        ran
+    }
+
+    /// Removes the pair of the key, if this test says yes of it.
+    pub(crate) fn removes_if<R: Wait, F: Fn(&K, &V) -> bool>(
+        &mut self,
+        rt: &R,
+        hasher: &S,
+        machine: Machine<K, V>,
+        test: &F,
+    ) -> Ran<K, V> {
+        let ran = self.blocks.errand(
+            &mut self.seat,
+            RemovesIf {
+                rt,
+                hasher,
+                machine,
+                near: self.near,
+                test,
             },
         );
         self.near = ran.near;

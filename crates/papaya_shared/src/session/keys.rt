@@ -32,7 +32,7 @@ fn is_stored(answer: &Answer) -> bool
 }
 
 /// Whether a pair was removed.
-fn is_removed(answer: &Answer) -> bool
+pub(super) fn is_removed(answer: &Answer) -> bool
     ensures { result ≡ removes answer.now }
 {
     matches!(answer, Answer::Key(KeyAnswer::Removed(_)))
@@ -47,7 +47,7 @@ fn pair_of<K: Drop, V: Drop>(unstored: Option<Node<K, V>>) -> Option<(K, V)> {
 }
 
 /// What came of it, by what its call has answered.
-fn tried<K: Drop, V: Drop>(answer: &Answer, unstored: Option<Node<K, V>>) -> Tried<K, V>
+pub(super) fn tried<K: Drop, V: Drop>(answer: &Answer, unstored: Option<Node<K, V>>) -> Tried<K, V>
     ensures { has_stored result ≡ stores answer.now }
 {
     if is_stored(answer) {
