@@ -1,0 +1,8 @@
+mod Plans
+mod Quiet
+mod Leads
+mod Found
+mod Asked
+mod Filled
+mod Asking
+mod Telling
