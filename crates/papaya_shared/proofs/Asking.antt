@@ -35,8 +35,8 @@ use Rattle.papaya_views.specs.Given.ResizeDeclared.new_table.NewTable.{NewTable}
 use Rattle.papaya_views.specs.Given.ResizeDeclared.outcome.Outcome.{Outcome}
 use Rattle.papaya_views.specs.Given.ResizeDeclared.outcome.Outcome.TheVariants as outcome
 use Rattle.papaya_views.specs.Given.RawAnswers.{ended}
-use Rattle.papaya_views.specs.Given.RawCallFills.{asks_at, putting_by, fill_by, fills_with}
-use Rattle.papaya_views.specs.Given.RawReplies.{value_for, as_own}
+use Rattle.papaya_raw.specs.CallFills.{asks_at, putting_by, fill_by, fills_with}
+use Rattle.papaya_raw.specs.Replies.{value_for, as_own}
 use Rattle.papaya_views.specs.Given.RawCall.{makes_of, made, root_read, root_found, next_read, next_found, dropped, key_read, pair_read, word_read, word_found, tried, looked, looks_for, first_made, next_made, disposed, helped, copied, plan_at, call_plan, have_one_key}
 use Rattle.papaya_views.specs.Given.RawCallPoints.{aim_of, standing, going, over, ending, answering, tableless, at_free, at_end, beyond, at_last, at_pair, following_made, asking_at, having_met, passed, halted, told_of, told, entering, went_on, changed, counted}
 use Rattle.papaya_views.specs.Given.RawDeclared.machines.answer.Called.{Called}

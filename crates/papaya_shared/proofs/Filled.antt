@@ -5,8 +5,8 @@ use Rattle.std.proofs.lemmas.Bool.{eq-eqb}
 use Rattle.papaya_views.specs.Given.SeizeWordsOp.{Out, Found, Stored, Exchanged, Made, Taken, Roomed}
 use Rattle.papaya_views.specs.Given.TablesDeclared.node.Node.{Node}
 use Rattle.papaya_views.specs.Given.TablesDeclared.node.Node.TheVariants as nodes
-use Rattle.papaya_views.specs.Given.RawCallFills.{putting_by, fill_by, fills_with, fills, filled, given_up, gives_up}
-use Rattle.papaya_views.specs.Given.RawReplies.{value_told, owned, value_for, back, back_present}
+use Rattle.papaya_raw.specs.CallFills.{putting_by, fill_by, fills_with, fills, filled, given_up, gives_up}
+use Rattle.papaya_raw.specs.Replies.{value_told, owned, value_for, back, back_present}
 use Rattle.papaya_views.specs.Given.RawDeclared.machines.answer.Called.{Called}
 use Rattle.papaya_views.specs.Given.RawDeclared.machines.asking.Asking.TheVariants as asking
 use Rattle.papaya_views.specs.Given.RawDeclared.machines.asking.Replies.{Replies}

@@ -5,7 +5,7 @@ use Rattle.papaya_views.specs.Given.SeizeWordsWord.{block_in}
 use Rattle.papaya_views.specs.Given.SeizeWordsDeclared.fault.Fault.TheVariants.{RemoveNothing}
 use Rattle.papaya_views.specs.Given.TablesDeclared.marks.TheConstants.{TOMBSTONE}
 use Rattle.papaya_views.specs.Given.TablesDeclared.node.Node.{Node}
-use Rattle.papaya_views.specs.Given.RawCallAsks.{with_absent, with_present, absent_told, present_told, told_at, replied}
+use Rattle.papaya_raw.specs.CallAsks.{with_absent, with_present, absent_told, present_told, told_at, replied}
 use Rattle.papaya_views.specs.Given.RawCallPoints.{standing, going, over, ending, burying, at_gap}
 use Rattle.papaya_views.specs.Given.RawDeclared.machines.answer.End.{End}
 use Rattle.papaya_views.specs.Given.RawDeclared.machines.answer.End.TheVariants as ends
