@@ -1,7 +1,6 @@
 -- The course of a call that asks: its own steps, and what it was told, of pairs that were shown to who has told it.
 use Rattle.std.specs.Prelude.{◌≡◌, ◌⊎◌, ℕ, zero, suc, Bool, true, false, Option, Some, None, Result}
 use Rattle.papaya_views.specs.Given.SeizeWordsDeclared.fault.Fault.{Fault}
-use Rattle.papaya_views.specs.Given.SeizeWordsOp.{Op, Out}
 use Rattle.papaya_views.specs.Given.SeizeWordsWord.{block_in}
 use Rattle.papaya_views.specs.Given.TablesDeclared.node.Node.{Node}
 use Rattle.papaya_views.specs.Given.TablesDeclared.node.Node.TheVariants.{Pair}
@@ -21,13 +20,13 @@ use Rattle.papaya_views.specs.Given.RawDeclared.machines.machine.Machine.TheVari
 use Rattle.papaya_views.specs.Given.RawDeclared.machines.progress.Answer.{Answer}
 use Rattle.papaya_views.specs.Begun.{replied}
 use Rattle.papaya_views.specs.Looks.{shown_in}
-use Rattle.papaya_views.specs.Told.{told, turned}
 use Rattle.papaya_views.specs.declared.view.Map.{Map}
 use Rattle.papaya_views.specs.declared.view.View.{View}
 use Rattle.papaya_views.specs.declared.view.Work.TheVariants.{Nothing, Calls}
 use Rattle.papaya_shared.specs.Calling.{HasEnded, IsAsking}
 use Rattle.papaya_shared.specs.Kinds.{Kind, Stage, IsFit}
-use Rattle.papaya_shared.specs.Looking.{Begins, StaysThere}
+use Rattle.papaya_shared.specs.Looking.{Begins}
+use Rattle.papaya_shared.specs.Steps.{HasStepped}
 use Rattle.papaya_shared.specs.declared.within.asking.Pause.{Pause}
 use Rattle.papaya_shared.specs.declared.within.asking.Pause.TheVariants as pause
 
@@ -62,10 +61,6 @@ module _ {K V S : Type 0} where
   PausedSo k s hasher machine (pause.Ended answer) v w = HasEnded answer v w
 
   module _ (same : K → K → Bool) (hash : S → K → ℕ) where
-    -- its call has taken a step
-    abbrev pub HasStepped : View K V S → View K V S → Type 0
-    HasStepped v w = ((op : Op (Node K V)) × (out : Out (Node K V)) × told same hash v op out w) ⊎ turned same hash v w
-
     -- so many steps of its call, or answers to what that has asked
     abbrev pub HasGone : (Option (K × V) → Reply V → Type 0) → ℕ → View K V S → View K V S → Type 0
     HasGone says zero v w = w ≡ v
@@ -74,6 +69,10 @@ module _ {K V S : Type 0} where
     -- It has begun to do this, and its call has ended, which was told what is said of the pairs with which it has asked.
     abbrev pub HasAsked : (Option (K × V) → Reply V → Type 0) → Wanted K V → View K V S → View K V S → Type 0
     HasAsked says wanted v w = (u : View K V S) × (n : ℕ) × Begins same hash wanted v u × HasGone says n u w
+
+-- nothing was told
+abbrev pub NoneSaid : {K V : Type 0} → Option (K × V) → Reply V → Type 0
+NoneSaid pair told = ⊥
 
 -- what a test says of a pair: yes removes it
 abbrev pub TestSays : {K V : Type 0} → (K → V → Bool → Type 0) → Option (K × V) → Reply V → Type 0

@@ -1,6 +1,9 @@
 //! A caller is sent to make a map, to look a key up, and to run a call on one key.
-ghost use Rattle.std.specs.Prelude.{◌≡◌, IsSome, Some};
-ghost use Rattle.papaya_shared.specs.Calling.{HasCalled, MayCall, wanted_of};
+ghost use Rattle.std.specs.Prelude.{◌≡◌, IsSome, Some, false};
+ghost use Rattle.std.specs.Fn.{FnOnceReturns, FnReturnsAtPair};
+ghost use Rattle.papaya_shared.specs.Asking.{HasAsked, MakingSays, TestSays, makes_pair as kind_that_makes, removes_if as kind_that_tests};
+ghost use Rattle.papaya_shared.specs.Calling.{HasCalled, MayCall, MayDo, wanted_of};
+ghost use Rattle.papaya_shared.specs.Kinds.{Stage};
 ghost use Rattle.papaya_shared.specs.Looking.{HasFound, MayLook};
 ghost use Rattle.papaya_shared.specs.Making.{CameTo, MayBegin};
 ghost use Rattle.papaya_views.specs.Looks.{shown_in};
@@ -75,7 +78,13 @@ impl<'a, K: Eq + Hash + Drop, V: Drop, S: Hashes<K>> Caller<'a, K, V, S> {
         hasher: &S,
         machine: Machine<K, V>,
         make: F,
-    ) -> Ran<K, V> {
+    ) -> Ran<K, V>
+        requires may { (s : Stage) × (s.told ≡ false) × MayDo K.eq S.hash kind_that_makes s hasher.now machine self.old.seat.view }
+        requires callable { F.pre make }
+        ensures called { HasCalled K.eq S.hash (wanted_of machine) result.told result.unstored self.old.seat.view self.new.seat.view }
+        ensures asked { HasAsked K.eq S.hash (MakingSays (FnOnceReturns F.FnOnce make tt)) (wanted_of machine) self.old.seat.view self.new.seat.view }
+        ensures blocks { self.new.blocks ≡ self.old.blocks }
+    {
         let ran = self.blocks.errand(
             &mut self.seat,
             MakesPair {
@@ -97,7 +106,13 @@ impl<'a, K: Eq + Hash + Drop, V: Drop, S: Hashes<K>> Caller<'a, K, V, S> {
         hasher: &S,
         machine: Machine<K, V>,
         test: &F,
-    ) -> Ran<K, V> {
+    ) -> Ran<K, V>
+        requires may { (s : Stage) × MayDo K.eq S.hash kind_that_tests s hasher.now machine self.old.seat.view }
+        requires callable { F.IsAlwaysCallable test.now }
+        ensures called { HasCalled K.eq S.hash (wanted_of machine) result.told result.unstored self.old.seat.view self.new.seat.view }
+        ensures asked { HasAsked K.eq S.hash (TestSays (FnReturnsAtPair F.Fn test.now)) (wanted_of machine) self.old.seat.view self.new.seat.view }
+        ensures blocks { self.new.blocks ≡ self.old.blocks }
+    {
         let ran = self.blocks.errand(
             &mut self.seat,
             RemovesIf {

@@ -1,5 +1,12 @@
 //! A session's calls on one key that ask their caller's closure.
-ghost use Rattle.std.specs.Prelude.{◌≡◌, ℕ, Err, IfErr, IfOk};
+ghost use Rattle.std.specs.Prelude.{◌≡◌, Ok, Err, IfErr, IfOk};
+ghost use Rattle.std.specs.Fn.{FnOnceReturns, FnReturnsAtPair};
+ghost use Rattle.papaya_shared.specs.Answers.{has_stored};
+ghost use Rattle.papaya_shared.specs.Asking.{HasAsked, MakingSays, TestSays};
+ghost use Rattle.papaya_shared.specs.Calling.{is_removed as removes, is_stored, outcome_of};
+ghost use Rattle.papaya_shared.specs.Looking.{HasRun};
+ghost use Rattle.papaya_views.specs.Given.ActsActs.{RemoveIf, TryToInsertWith};
+ghost use Rattle.papaya_views.specs.Given.RawDeclared.machines.progress.Answer.{Answer};
 ghost use Rattle.papaya_views.specs.Given.SeizeViewsDeclared.view.Has.TheVariants.{Nothing};
 ghost use Rattle.papaya_views.specs.Given.SeizeViewsDeclared.view.View.TheVariants.{Inside};
 
@@ -22,7 +29,13 @@ impl<'a, K: Eq + Hash + Drop, V: Drop, S: Hashes<K>> Session<'a, K, V, S> {
         make: F,
     ) -> Result<Tried<K, V>, Fault>
         requires inside { self.old.caller.seat.view.slot ≡ Inside self.old.slot Nothing }
+        requires callable { F.pre make }
         ensures inside { self.new.caller.seat.view.slot ≡ Inside self.new.slot Nothing }
+        ensures tried { IfOk result (λ tried. (answer : Answer) × HasRun K.eq S.hash (TryToInsertWith key) (outcome_of (Ok answer)) self.old.caller.seat.view self.new.caller.seat.view × (has_stored tried ≡ is_stored answer)) }
+        ensures refused { IfErr result (λ fault. HasRun K.eq S.hash (TryToInsertWith key) (outcome_of (Err fault)) self.old.caller.seat.view self.new.caller.seat.view) }
+        ensures asked { HasAsked K.eq S.hash (MakingSays (FnOnceReturns F.FnOnce make tt)) (TryToInsertWith key) self.old.caller.seat.view self.new.caller.seat.view }
+        ensures map { self.new.caller.seat.view.map ≡ self.old.caller.seat.view.map }
+        ensures blocks { self.new.caller.blocks ≡ self.old.caller.blocks }
     {
         let hash = self.hasher.hash_of(&key);
         let setting = setting_in(self.setting, self.slot);
@@ -48,7 +61,13 @@ impl<'a, K: Eq + Hash + Drop, V: Drop, S: Hashes<K>> Session<'a, K, V, S> {
         test: F,
     ) -> Result<bool, Fault>
         requires inside { self.old.caller.seat.view.slot ≡ Inside self.old.slot Nothing }
+        requires callable { F.IsAlwaysCallable test }
         ensures inside { self.new.caller.seat.view.slot ≡ Inside self.new.slot Nothing }
+        ensures removed { IfOk result (λ removed. (answer : Answer) × HasRun K.eq S.hash (RemoveIf key) (outcome_of (Ok answer)) self.old.caller.seat.view self.new.caller.seat.view × (removed ≡ removes answer)) }
+        ensures refused { IfErr result (λ fault. HasRun K.eq S.hash (RemoveIf key) (outcome_of (Err fault)) self.old.caller.seat.view self.new.caller.seat.view) }
+        ensures asked { HasAsked K.eq S.hash (TestSays (FnReturnsAtPair F.Fn test)) (RemoveIf key) self.old.caller.seat.view self.new.caller.seat.view }
+        ensures map { self.new.caller.seat.view.map ≡ self.old.caller.seat.view.map }
+        ensures blocks { self.new.caller.blocks ≡ self.old.caller.blocks }
     {
         let hash = self.hasher.hash_of(&key);
         let setting = setting_in(self.setting, self.slot);

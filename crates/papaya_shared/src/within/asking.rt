@@ -1,13 +1,15 @@
 //! A seat on an errand runs a call on one key that asks.
-ghost use Rattle.std.specs.Prelude.{◌≡◌, ◌×◌, ℕ, Option, Some, None};
+ghost use Rattle.std.specs.Prelude.{◌≡◌, ℕ, Some, false};
 ghost use Rattle.std.specs.Fn.{FnOnceReturns, FnReturnsAtPair};
-ghost use Rattle.papaya_shared.specs.Asking.{HasAsked, MakingSays, PausedSo, TestSays};
+ghost use Rattle.papaya_shared.specs.Asking.{HasAsked, HasGone, MakingSays, NoneSaid, PausedSo, TestSays, makes_pair as kind_that_makes, removes_if as kind_that_tests};
 ghost use Rattle.papaya_shared.specs.Calling.{HasCalled, IsAsking, IsUnderWay, MayDo, wanted_of};
-ghost use Rattle.papaya_shared.specs.Kinds.{Kind, Stage, IsFit, stage_after};
+ghost use Rattle.papaya_shared.specs.Kinds.{Kind, Stage, IsFit, ShowsPair, stage_after};
+ghost use Rattle.papaya_views.specs.Given.SeizeWordsWord.{block_in};
+ghost use Rattle.papaya_views.specs.Given.TablesDeclared.node.Node.TheVariants.{Pair};
+ghost use Rattle.papaya_views.specs.Looks.{shown_in};
 ghost use Rattle.papaya_shared.specs.Looking.{IsOfThem, StaysThere};
 ghost use Rattle.papaya_shared.specs.Made.{IsSameSeat};
 ghost use Rattle.papaya_views.specs.Begun.{replied};
-ghost use Rattle.papaya_views.specs.Given.TablesDeclared.node.Node.{Node};
 ghost use Rattle.papaya_views.specs.declared.view.Map.{Map};
 ghost use Rattle.papaya_views.specs.declared.view.Work.TheVariants.{Calls};
 
@@ -71,6 +73,7 @@ impl<'a, K: Eq + Hash + Drop, V: Drop, S: Hashes<K>> Within<'a, K, V, S> {
     ) -> Pause
         requires calls { (k : Kind) × (s : Stage) × IsUnderWay k s hasher.now machine.old self.old.seat.now.view }
         ensures paused { (k : Kind) (s : Stage) → IsUnderWay k s hasher.now machine.old self.old.seat.now.view → PausedSo k s hasher.now machine.new result self.old.seat.now.view self.new.seat.now.view }
+        ensures gone { (n : ℕ) × HasGone K.eq S.hash NoneSaid n self.old.seat.now.view self.new.seat.now.view }
         ensures them { IsOfThem self.old.seat.now.view self.new.seat.now.view }
         ensures stays { StaysThere self.old.seat.now.view self.new.seat.now.view }
         ensures same { IsSameSeat self.old self.new }
@@ -111,7 +114,11 @@ impl<'a, K: Eq + Hash + Drop, V: Drop, S: Hashes<K>> Within<'a, K, V, S> {
     }
 
     /// What a test says of the pair of a word that it shows.
-    fn tested<F: Fn(&K, &V) -> bool>(&self, pair: Option<u64>, test: &F) -> Reply<V> {
+    fn tested<F: Fn(&K, &V) -> bool>(&self, pair: Option<u64>, test: &F) -> Reply<V>
+        requires callable { F.IsAlwaysCallable test.now }
+        requires shown { (word : ℕ) × (pair ≡ Some word) × ShowsPair (shown_in self.now.seat.now.view.held) word }
+        ensures says { (word : ℕ) (key : K) (value : V) → pair ≡ Some word → shown_in self.now.seat.now.view.held (block_in word) ≡ Some (Pair key value) → TestSays (FnReturnsAtPair F.Fn test.now) (Some (key, value)) result }
+    {
         let Some(word) = pair else { unreachable!() };
         match self.blocks.value(&*self.seat, Link::block_of(word)) {
             Node::Pair(key, value) => {

@@ -2,6 +2,7 @@
 ghost use Rattle.std.specs.Prelude.{◌≡◌, ℕ, true, false, Some, IfErr};
 ghost use Rattle.papaya_shared.specs.Calling.{CalledSo, HasCalled, HasEnded, IsCalling, IsUnderWay, MachineStores, MayCall, TellsSo, wanted_of};
 ghost use Rattle.papaya_shared.specs.Kinds.{Kind, Stage};
+ghost use Rattle.papaya_shared.specs.Steps.{HasStepped};
 ghost use Rattle.papaya_shared.specs.Looking.{Begins, HasTold, StaysThere};
 ghost use Rattle.papaya_shared.specs.Made.{IsSameSeat};
 ghost use Rattle.papaya_views.specs.Given.TablesChunks.{is_incremental};
@@ -45,6 +46,7 @@ impl<'a, K: Eq + Hash + Drop, V: Drop, S: Hashes<K>> Within<'a, K, V, S> {
     /// Takes the next step of its call.
     pub(super) fn steps(&mut self, machine: &mut Machine<K, V>, hasher: &S) -> Progress<Node<K, V>>
         requires calls { (k : Kind) × (s : Stage) × IsUnderWay k s hasher.now machine.old self.old.seat.now.view }
+        ensures by { HasStepped K.eq S.hash self.old.seat.now.view self.new.seat.now.view }
         ensures told { (k : Kind) (s : Stage) → IsUnderWay k s hasher.now machine.old self.old.seat.now.view → TellsSo k s hasher.now machine.new result self.new.seat.now.view }
         ensures calls { HasTold result self.old.seat.now.view self.new.seat.now.view }
         ensures step { MayCome (machine_plan K.eq K.eq (S.hash hasher.now) machine.old) (machine.new, result) }
@@ -75,7 +77,7 @@ impl<'a, K: Eq + Hash + Drop, V: Drop, S: Hashes<K>> Within<'a, K, V, S> {
     }
 
     /// What its call has come to.
-    fn ran(&self, told: Result<Answer, Fault>, unstored: Option<Node<K, V>>) -> Ran<K, V>
+    pub(super) fn ran(&self, told: Result<Answer, Fault>, unstored: Option<Node<K, V>>) -> Ran<K, V>
         ensures told { result.told ≡ told }
         ensures unstored { result.unstored ≡ unstored }
     {
