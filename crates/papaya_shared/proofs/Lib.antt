@@ -3,7 +3,7 @@ mod Looking
 mod Making
 mod Quiet
 mod Leads
-mod Found
+mod Pairs
 mod Asked
 mod Filled
 mod Asking

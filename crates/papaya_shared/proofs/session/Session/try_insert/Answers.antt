@@ -1,7 +1,7 @@
 use Rattle.std.proofs.Common.{refl}
 use Rattle.papaya_views.specs.Given.TablesDeclared.node.Node.TheVariants.{Pair}
 use Rattle.papaya_shared.proofs.Keys.{may_try, back_by, ran_by}
-use Rattle.papaya_shared.proofs.session.keys.Session.try_insert.Goals as goal
+use Rattle.papaya_shared.proofs.session.Session.try_insert.Goals as goal
 
 pub does-ran-requires : goal.does-ran-requires
 does-ran-requires g c =
@@ -16,7 +16,7 @@ returns-in-Ok-clause-tried g c = (
   c.in-Ok.answer,
   ran_by g.K.PartialEq.eq g.S.Hashes.hash c.args.self.now.caller.seat.view c.does-ran.new.self.seat.view
       c.try_insert-call.ensures c.in-Ok.is c.does-ran.ensures.called,
-  c.tried.ensures,
+  c.came_of.ensures,
 )
 
 pub returns-in-Err-clause-refused : goal.returns-in-Err-clause-refused
