@@ -59,7 +59,7 @@ use Rattle.papaya_shared.specs.Answers.{IsAnswer}
 use Rattle.papaya_shared.specs.Kinds.{Kind, Stage, IsNoValue, IsFresh, HoldsBy, StandsSo, ShowsPair, IsSo, GoesOn, SaysSo}
 use Rattle.papaya_shared.proofs.Asked.{of_gap, holds_none, goes_at, over_says, ending_says, gap_says, pair_says}
 use Rattle.papaya_shared.proofs.Filled.{fills_say, gives_say}
-use Rattle.papaya_shared.proofs.Found.{there_same, pair_named, one_key_named}
+use Rattle.papaya_shared.proofs.Pairs.{there_same, pair_named, one_key_named}
 use Rattle.papaya_shared.proofs.Leads.{Leads, leads_as}
 use Rattle.papaya_shared.proofs.Quiet.{IsQuiet, quiet_as, table_is, dispose_is, copier_is, lookup_is}
 

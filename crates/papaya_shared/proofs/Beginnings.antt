@@ -108,7 +108,7 @@ module _ {K V S : Type 0} (same : K → K → Bool) (hash : S → K → ℕ) whe
   is_begun k s hasher machine v w may begins =
       let map : Map S = begins.0 in
       let one : may.map ≡ map = same_some may.map map (sym may.knows ∙ begins.2) in
-      let inside : Inside {T = Node K V} may.slot NoBlock ≡ Inside begins.1 NoBlock = sym may.inside ∙ begins.3 in
+      let inside = sym may.inside ∙ begins.3 in
       let slot : may.slot ≡ begins.1 = cc inside in
       let its : machine ≡ machine_for same hash map begins.1 (wanted_of machine) =
       may.begins ∙ ap (λ (m : Map S). machine_for same hash m may.slot (wanted_of machine)) one ∙ ap (λ (t : ℕ). machine_for same hash map t (wanted_of machine)) slot in record {

@@ -3,7 +3,7 @@ mod Looking
 mod Making
 mod Quiet
 mod Leads
-mod Found
+mod Pairs
 mod Asked
 mod Filled
 mod Asking
@@ -14,6 +14,7 @@ mod Handing
 mod Lookups
 mod Makings
 mod Beginnings
+mod Told
 mod Shown
 mod Rows
 mod Runs

@@ -105,6 +105,24 @@ abbrev pub wanted_of : {K V : Type 0} → Machine K V K → Wanted K V
 wanted_of (Key c) = wanted_by c.there c.missing c.replies.takes c.unmade c.asked c.replies.key
 wanted_of _ = Count
 
+-- a step tells that the call goes on,
+abbrev pub IsGoing : {T : Type 0} → Progress T → Type 0
+IsGoing (progress.Done answer) = ⊥
+IsGoing (progress.Refused fault) = ⊥
+IsGoing told = Unit {0}
+
+-- and asks nothing,
+abbrev pub IsNoQuestion : {T : Type 0} → Progress T → Type 0
+IsNoQuestion (progress.Asks pair) = ⊥
+IsNoQuestion progress.Ready = ⊥
+IsNoQuestion (progress.Pair pair) = ⊥
+IsNoQuestion told = Unit {0}
+
+-- and what was handed back by then
+abbrev pub handed_by : {T : Type 0} → Progress T → Option T → Option T
+handed_by (progress.Unstored value) before = Some value
+handed_by told before = before
+
 -- a pair was replaced by another one
 abbrev pub is_replaced : Answer → Bool
 is_replaced (OfKey (answers.Replaced old new)) = true

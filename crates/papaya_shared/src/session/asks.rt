@@ -10,7 +10,7 @@ ghost use Rattle.papaya_views.specs.Given.RawDeclared.machines.progress.Answer.{
 ghost use Rattle.papaya_views.specs.Given.SeizeViewsDeclared.view.Has.TheVariants.{Nothing};
 ghost use Rattle.papaya_views.specs.Given.SeizeViewsDeclared.view.View.TheVariants.{Inside};
 
-use crate::session::keys::{Tried, is_removed, tried};
+use crate::session::keys::{Tried, came_of, is_removed};
 use crate::session::{Session, setting_in};
 use crate::within::Ran;
 use papaya_raw::machines::{KeyCall, Machine};
@@ -49,7 +49,7 @@ impl<'a, K: Eq + Hash + Drop, V: Drop, S: Hashes<K>> Session<'a, K, V, S> {
             near: _,
         } = ran;
         let answer = told?;
-        Ok(tried(&answer, unstored))
+        Ok(came_of(&answer, unstored))
     }
 
     /// Removes the pair of a key within the section of its slot, if the test says yes of it, and answers whether it has. The test is called again where another pair of the key

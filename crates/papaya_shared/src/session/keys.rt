@@ -47,7 +47,10 @@ fn pair_of<K: Drop, V: Drop>(unstored: Option<Node<K, V>>) -> Option<(K, V)> {
 }
 
 /// What came of it, by what its call has answered.
-pub(super) fn tried<K: Drop, V: Drop>(answer: &Answer, unstored: Option<Node<K, V>>) -> Tried<K, V>
+pub(super) fn came_of<K: Drop, V: Drop>(
+    answer: &Answer,
+    unstored: Option<Node<K, V>>,
+) -> Tried<K, V>
     ensures { has_stored result ≡ stores answer.now }
 {
     if is_stored(answer) {
@@ -100,7 +103,7 @@ impl<'a, K: Eq + Hash + Drop, V: Drop, S: Hashes<K>> Session<'a, K, V, S> {
             near: _,
         } = ran;
         match told {
-            Ok(answer) => Ok(tried(&answer, unstored)),
+            Ok(answer) => Ok(came_of(&answer, unstored)),
             Err(fault) => Err(refused(fault, unstored)),
         }
     }

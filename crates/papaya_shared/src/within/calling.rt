@@ -1,6 +1,6 @@
 //! A seat on an errand runs a call on one key.
-ghost use Rattle.std.specs.Prelude.{◌≡◌, ℕ, true, false, Some, IfErr};
-ghost use Rattle.papaya_shared.specs.Calling.{CalledSo, HasCalled, HasEnded, IsCalling, IsUnderWay, MachineStores, MayCall, TellsSo, wanted_of};
+ghost use Rattle.std.specs.Prelude.{◌≡◌, ℕ, true, false, Some, IfErr, IfNone, IfSome};
+ghost use Rattle.papaya_shared.specs.Calling.{CalledSo, HasCalled, HasEnded, IsCalling, IsGoing, IsNoQuestion, IsUnderWay, MachineStores, MayCall, TellsSo, handed_by, outcome_of, wanted_of};
 ghost use Rattle.papaya_shared.specs.Kinds.{Kind, Stage};
 ghost use Rattle.papaya_shared.specs.Steps.{HasStepped};
 ghost use Rattle.papaya_shared.specs.Looking.{Begins, HasTold, StaysThere};
@@ -31,6 +31,25 @@ pub(crate) struct Ran<K, V> {
     pub(crate) unstored: Option<Node<K, V>>,
     /// Where to look for numbers next.
     pub(crate) near: u64,
+}
+
+/// How a call has ended, if it has, by what its step tells. What that hands back is kept.
+fn ended<T: Drop>(told: Progress<T>, unstored: &mut Option<T>) -> Option<Result<Answer, Fault>>
+    requires plain { IsNoQuestion told }
+    ensures ended { IfSome result (λ answer. told ≡ outcome_of answer) }
+    ensures goes { IfNone result (IsGoing told) }
+    ensures unstored { unstored.new ≡ handed_by told unstored.old }
+{
+    match told {
+        Progress::Goes | Progress::Waits | Progress::Gave(_) => None,
+        Progress::Unstored(pair) => {
+            *unstored = Some(pair);
+            None
+        }
+        Progress::Done(answer) => Some(Ok(answer)),
+        Progress::Refused(fault) => Some(Err(fault)),
+        Progress::Asks(_) | Progress::Ready | Progress::Pair(_) => unreachable!(),
+    }
 }
 
 impl<'a, K: Eq + Hash + Drop, V: Drop, S: Hashes<K>> Within<'a, K, V, S> {
@@ -99,12 +118,9 @@ impl<'a, K: Eq + Hash + Drop, V: Drop, S: Hashes<K>> Within<'a, K, V, S> {
         let mut machine = machine;
         let mut unstored = None;
         for _ in rt.forever() {
-            match self.calls(&mut machine, hasher) {
-                Progress::Goes | Progress::Waits | Progress::Gave(_) => {}
-                Progress::Unstored(node) => unstored = Some(node),
-                Progress::Done(answer) => return self.ran(Ok(answer), unstored),
-                Progress::Refused(fault) => return self.ran(Err(fault), unstored),
-                Progress::Asks(_) | Progress::Ready | Progress::Pair(_) => unreachable!(),
+            let told = self.calls(&mut machine, hasher);
+            if let Some(answer) = ended(told, &mut unstored) {
+                return self.ran(answer, unstored);
             }
         }
         unreachable!()

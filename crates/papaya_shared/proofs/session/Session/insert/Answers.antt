@@ -1,4 +1,9 @@
-use Rattle.std.proofs.Common.{refl}
+use Rattle.std.specs.Prelude.{Err}
+use Rattle.std.proofs.Common.{refl, sym, subst}
+use Rattle.papaya_views.specs.Given.ActsActs.{Insert}
+use Rattle.papaya_views.specs.Given.SeizeWordsDeclared.fault.Fault.{Fault}
+use Rattle.papaya_shared.specs.Calling.{outcome_of}
+use Rattle.papaya_shared.specs.Looking.{HasRun}
 use Rattle.papaya_views.specs.Given.TablesDeclared.node.Node.TheVariants.{Pair}
 use Rattle.papaya_shared.proofs.Keys.{may_insert, back_by, ran_by}
 use Rattle.papaya_shared.proofs.session.Session.insert.Goals as goal
@@ -21,8 +26,9 @@ returns-in-Ok-clause-stored g c = (
 
 pub returns-in-Err-clause-refused : goal.returns-in-Err-clause-refused
 returns-in-Err-clause-refused g c =
-    ran_by g.K.PartialEq.eq g.S.Hashes.hash c.args.self.now.caller.seat.view c.does-ran.new.self.seat.view
-    c.insert-call.ensures c.in-Err.is c.does-ran.ensures.called
+    let u = c.args.self.now.caller.seat.view in let w = c.does-ran.new.self.seat.view in
+    subst (λ (fault : Fault). HasRun g.K.PartialEq.eq g.S.Hashes.hash (Insert c.args.key c.args.value) (outcome_of (Err fault)) u w) (sym c.refused.ensures.fault)
+    (ran_by g.K.PartialEq.eq g.S.Hashes.hash u w c.insert-call.ensures c.in-Err.is c.does-ran.ensures.called)
 
 pub refused-requires : goal.refused-requires
 refused-requires g c = record {

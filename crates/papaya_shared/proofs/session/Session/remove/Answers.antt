@@ -1,5 +1,5 @@
 use Rattle.papaya_shared.proofs.Keys.{may_remove, ran_by}
-use Rattle.papaya_shared.proofs.session.keys.Session.remove.Goals as goal
+use Rattle.papaya_shared.proofs.session.Session.remove.Goals as goal
 
 pub does-ran-requires : goal.does-ran-requires
 does-ran-requires g c =

@@ -1,7 +1,7 @@
 use Rattle.std.proofs.Common.{ap, ◌∙◌}
 use Rattle.papaya_views.specs.Given.ResizeLookup.{looking}
 use Rattle.papaya_shared.proofs.Sessions.{may_look}
-use Rattle.papaya_shared.proofs.session.keys.Session.contains_key.Goals as goal
+use Rattle.papaya_shared.proofs.session.Session.contains_key.Goals as goal
 
 pub finds-found-requires : goal.finds-found-requires
 finds-found-requires g c =
