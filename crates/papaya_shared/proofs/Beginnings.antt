@@ -11,21 +11,24 @@ use Rattle.papaya_views.specs.Given.TablesDeclared.setting.Setting.{Setting}
 use Rattle.papaya_views.specs.Given.ResizeLookup.{looking}
 use Rattle.papaya_views.specs.Given.ResizeDeclared.lookup.Lookup.{Lookup}
 use Rattle.papaya_views.specs.Given.ResizeDeclared.new_map.NewMap.{NewMap}
-use Rattle.papaya_views.specs.Given.RawCallPoints.{getting, inserting, standing}
+use Rattle.papaya_views.specs.Given.RawCallPoints.{getting, standing}
 use Rattle.papaya_views.specs.Given.RawDeclared.machines.call.Calling.TheVariants.{Looks}
+use Rattle.papaya_views.specs.Given.RawDeclared.machines.asking.Reply.{Reply}
 use Rattle.papaya_views.specs.Given.RawDeclared.machines.call.KeyCall.{KeyCall}
+use Rattle.papaya_views.specs.Given.RawDeclared.machines.machine.Machine.{Machine}
 use Rattle.papaya_views.specs.Given.RawDeclared.machines.machine.Machine.TheVariants.{Key}
-use Rattle.papaya_views.specs.Given.ActsActs.{Wanted, Get, Insert}
+use Rattle.papaya_views.specs.Given.ActsActs.{Wanted, Get}
 use Rattle.papaya_views.specs.Given.SeizeViewsDeclared.view.Fixed.{Fixed}
 use Rattle.papaya_views.specs.Given.SeizeViewsDeclared.view.Has.TheVariants.{Nothing as NoBlock}
 use Rattle.papaya_views.specs.Given.SeizeViewsDeclared.view.View.TheVariants.{Rests, Inside}
-use Rattle.papaya_views.specs.Begun.{making}
+use Rattle.papaya_views.specs.Begun.{machine_for, making, replied}
 use Rattle.papaya_views.specs.Rule.{Holds, KeepsFor}
 use Rattle.papaya_views.specs.declared.view.Map.{Map}
 use Rattle.papaya_views.specs.declared.view.View.{View}
 use Rattle.papaya_views.specs.declared.view.Work.TheVariants.{Nothing, Calls}
-use Rattle.papaya_views.proofs.Laws.{calls_begin, makings_begin, maps_are_handed_on}
-use Rattle.papaya_shared.specs.Calling.{IsCalling, MayCall}
+use Rattle.papaya_views.proofs.Laws.{calls_are_told, calls_begin, makings_begin, maps_are_handed_on}
+use Rattle.papaya_shared.specs.Calling.{IsUnderWay, MayDo, wanted_of}
+use Rattle.papaya_shared.specs.Kinds.{Kind, Stage}
 use Rattle.papaya_shared.specs.Looking.{Begins, IsOn, LooksFor, MayLook, StaysThere}
 use Rattle.papaya_shared.specs.Making.{BeginsMaking, CameTo, HandsOn, MayBegin, PlansJust}
 
@@ -68,6 +71,13 @@ module _ {K V S : Type 0} (plans : S → NewMap → Type 0) (hasher : S) (openin
     calls = came.calls ∙ ap (λ (x : View K V S). x.calls) begins.4;
   }
 
+module _ {K V S : Type 0} (same : K → K → Bool) (hash : S → K → ℕ) (fixed : Fixed) (id : ℕ) (v : View K V S) where
+  -- its call may be told this
+  pub may_tell : (map : Map S) (machine : Machine K V K) (reply : Reply V) → v.map ≡ Some map → v.work ≡ Calls machine
+      → Turns (Holds same hash fixed) KeepsFor id v (λ w. (v.work ≡ Calls machine) × (w ≡ replied v machine reply))
+  may_tell map machine reply knows works =
+      turns_to same hash fixed id v _ (λ w. (v.work ≡ Calls machine) × (w ≡ replied v machine reply)) (λ w e. (works, e)) (calls_are_told V same hash fixed id v map machine reply knows works)
+
 module _ {K V S : Type 0} (same : K → K → Bool) (hash : S → K → ℕ) (key : K) where
   -- what has begun is a lookup of this key
   pub looks_for : (lookup : Lookup) (v w : View K V S) → MayLook hash key lookup v → Begins same hash (Get key) v w → LooksFor key lookup w
@@ -91,27 +101,26 @@ pub stays_begun : {K V S : Type 0} (same : K → K → Bool) (hash : S → K →
 stays_begun {K} {V} {S} same hash wanted v w begins =
     record { slot = ap (λ (u : View K V S). u.slot) begins.4; map = ap (λ (u : View K V S). u.map) begins.4 }
 
-module _ {K V S : Type 0} (same : K → K → Bool) (hash : S → K → ℕ) (key : K) (value : V) where
-  -- what has begun is the storing of this pair
-  pub stores : (hasher : S) (setting : Setting) (hashed : ℕ) (v w : View K V S) → MayCall hash hasher key setting hashed v → Begins same hash (Insert key value) v w
-      → IsCalling hasher (Key (inserting setting hashed key value)) w
-  stores hasher setting hashed v w may begins =
+module _ {K V S : Type 0} (same : K → K → Bool) (hash : S → K → ℕ) where
+  -- what has begun is this call
+  pub is_begun : (k : Kind) (s : Stage) (hasher : S) (machine : Machine K V K) (v w : View K V S) → MayDo same hash k s hasher machine v → Begins same hash (wanted_of machine) v w
+      → IsUnderWay k s hasher machine w
+  is_begun k s hasher machine v w may begins =
       let map : Map S = begins.0 in
       let one : may.map ≡ map = same_some may.map map (sym may.knows ∙ begins.2) in
       let inside = sym may.inside ∙ begins.3 in
-      let slot : setting.slot ≡ begins.1 = cc inside in
-      let its : setting ≡ record map.setting { slot = begins.1 } =
-      may.is ∙ ap (λ (m : Map S). record m.setting { slot = setting.slot }) one ∙ ap (λ (t : ℕ). record map.setting { slot = t }) slot in
-      let hashes : map.hasher ≡ hasher = ap (λ (m : Map S). m.hasher) (sym one) ∙ may.hashes in
-      let word : hashed ≡ hash map.hasher key = may.word ∙ ap (λ (h : S). hash h key) (sym hashes) in record {
-        map = map;
-        knows = ap (λ (u : View K V S). u.map) begins.4 ∙ begins.2;
-        hashes = hashes;
-        incremental = ap (λ (m : Map S). is_incremental m.setting.mode) (sym one) ∙ may.incremental;
-        works =
-            ap (λ (u : View K V S). u.work) begins.4 ∙ ap (λ (s : Setting). Calls (Key (inserting s (hash map.hasher key) key value))) (sym its)
-            ∙ ap (λ (h : ℕ). Calls (Key (inserting setting h key value))) (sym word);
-        asks = record { present = tt; absent = tt; here = tt };
+      let slot : may.slot ≡ begins.1 = cc inside in
+      let its : machine ≡ machine_for same hash map begins.1 (wanted_of machine) =
+      may.begins ∙ ap (λ (m : Map S). machine_for same hash m may.slot (wanted_of machine)) one ∙ ap (λ (t : ℕ). machine_for same hash map t (wanted_of machine)) slot in record {
+        at =
+            record {
+              map = map;
+              knows = ap (λ (u : View K V S). u.map) begins.4 ∙ begins.2;
+              hashes = ap (λ (m : Map S). m.hasher) (sym one) ∙ may.hashes;
+              incremental = ap (λ (m : Map S). is_incremental m.setting.mode) (sym one) ∙ may.incremental;
+              works = ap (λ (u : View K V S). u.work) begins.4 ∙ ap (λ (x : Machine K V K). Calls x) (sym its);
+            };
+        goes = may.goes;
       }
 
 -- what stays in one course stays in both

@@ -1,20 +1,19 @@
 -- What the calls of a seat have told, from step to step.
 use Rattle.std.specs.Prelude.{List, [], ◌∷◌, Option, Some, Result, Ok, Err, IfErr}
 use Rattle.std.proofs.Common.{◌≡◌, ℕ, Bool, refl, sym, subst, ap, ◌∙◌}
-use Rattle.papaya_views.specs.Given.ActsActs.{Wanted, Insert}
+use Rattle.papaya_views.specs.Given.ActsActs.{Wanted, Get, Remove, Insert, TryToInsert, Compute, Update, UpdateOrInsert, TryToInsertWith, RemoveIf, GetKeyValue, ContainsKey, GetOrInsert, GetOrInsertWith, RemoveEntry, MakeRoom, Count, GoOver}
 use Rattle.papaya_views.specs.Given.SeizeWordsDeclared.fault.Fault.{Fault}
 use Rattle.papaya_views.specs.Given.RawDeclared.machines.progress.Answer.{Answer}
 use Rattle.papaya_views.specs.Given.RawDeclared.machines.machine.Machine.{Machine}
 use Rattle.papaya_views.specs.Given.RawDeclared.machines.progress.Progress.{Progress}
 use Rattle.papaya_views.specs.Given.RawDeclared.machines.progress.Progress.TheVariants as progress
 use Rattle.papaya_views.specs.Given.TablesDeclared.node.Node.{Node}
-use Rattle.papaya_views.specs.Given.TablesDeclared.node.Node.TheVariants.{Pair}
 use Rattle.papaya_views.specs.Told.{newest_told, pair_in, untold}
 use Rattle.papaya_views.specs.declared.view.Run.{Run}
 use Rattle.papaya_views.specs.declared.view.View.{View}
 use Rattle.papaya_views.specs.declared.view.Work.TheVariants.{Nothing}
 use Rattle.papaya_views.proofs.Pairs.{newest_pair}
-use Rattle.papaya_shared.specs.Calling.{CalledSo, ComesBack, HasEnded, IsCalling, IsGoing, IsNoQuestion, outcome_of}
+use Rattle.papaya_shared.specs.Calling.{CalledSo, ComesBack, HasEnded, IsCalling, IsGoing, IsNoQuestion, outcome_of, pair_wanted}
 use Rattle.papaya_shared.specs.Looking.{Begins, HasRun, HasTold, IsOfThem}
 
 retold : {K V : Type 0} (told before : Progress (Node K V)) (runs : List (Run K V)) → newest_told told (newest_told before runs) ≡ newest_told told runs
@@ -37,15 +36,31 @@ module _ {K V S : Type 0} where
       (begins.0, begins.1, begins.2, begins.3, has ∙ ap (λ (x : View K V S). newest_told told x.calls) begins.4)
 
   -- a call that was to store a pair began with it
-  pub stores_it : (same : K → K → Bool) (hash : S → K → ℕ) (key : K) (value : V) (u v : View K V S) → Begins same hash (Insert key value) u v → pair_in v.calls ≡ Some (Pair key value)
-  stores_it same hash key value u v begins = ap (λ (x : View K V S). pair_in x.calls) begins.4
+  stores_it : (same : K → K → Bool) (hash : S → K → ℕ) (wanted : Wanted K V) (pair : Node K V) (u v : View K V S) → pair_wanted wanted ≡ Some pair → Begins same hash wanted u v
+      → pair_in v.calls ≡ Some pair
+  stores_it same hash (Insert key value) pair u v is begins = ap (λ (x : View K V S). pair_in x.calls) begins.4 ∙ is
+  stores_it same hash (TryToInsert key value) pair u v is begins = ap (λ (x : View K V S). pair_in x.calls) begins.4 ∙ is
+  stores_it same hash (Get key) pair u v is begins = absurd (cc is)
+  stores_it same hash (Remove key) pair u v is begins = absurd (cc is)
+  stores_it same hash (Compute key) pair u v is begins = absurd (cc is)
+  stores_it same hash (Update key) pair u v is begins = absurd (cc is)
+  stores_it same hash (UpdateOrInsert key value) pair u v is begins = absurd (cc is)
+  stores_it same hash (TryToInsertWith key) pair u v is begins = absurd (cc is)
+  stores_it same hash (RemoveIf key) pair u v is begins = absurd (cc is)
+  stores_it same hash (GetKeyValue key) pair u v is begins = absurd (cc is)
+  stores_it same hash (ContainsKey key) pair u v is begins = absurd (cc is)
+  stores_it same hash (GetOrInsert key value) pair u v is begins = absurd (cc is)
+  stores_it same hash (GetOrInsertWith key) pair u v is begins = absurd (cc is)
+  stores_it same hash (RemoveEntry key) pair u v is begins = absurd (cc is)
+  stores_it same hash (MakeRoom additional) pair u v is begins = absurd (cc is)
+  stores_it same hash Count pair u v is begins = absurd (cc is)
+  stores_it same hash (GoOver purpose) pair u v is begins = absurd (cc is)
 
   -- so that is what has come back
-  pub comes_back : (same : K → K → Bool) (hash : S → K → ℕ) (key : K) (value : V) (told : Result Answer Fault) (back : Option (Node K V)) (u v : View K V S)
-      → Begins same hash (Insert key value) u v → (pair_in v.calls ≡ Some (Pair key value) → IfErr told (λ fault. back ≡ Some (Pair key value)))
-      → ComesBack (Insert key value) told back
-  comes_back same hash key value (Ok answer) back u v begins is = tt
-  comes_back same hash key value (Err fault) back u v begins is = λ pair wanted. is (stores_it same hash key value u v begins) ∙ wanted
+  pub comes_back : (same : K → K → Bool) (hash : S → K → ℕ) (wanted : Wanted K V) (told : Result Answer Fault) (back : Option (Node K V)) (u v : View K V S) → Begins same hash wanted u v
+      → ((pair : Node K V) → pair_wanted wanted ≡ Some pair → pair_in v.calls ≡ Some pair → IfErr told (λ fault. back ≡ Some pair)) → ComesBack wanted told back
+  comes_back same hash wanted (Ok answer) back u v begins is = tt
+  comes_back same hash wanted (Err fault) back u v begins is = λ pair its. is pair its (stores_it same hash wanted pair u v its begins)
 
   -- the pair that the newest call began with is the same, whatever that has told
   pub same_pair : (u v : View K V S) → IsOfThem u v → pair_in v.calls ≡ pair_in u.calls

@@ -1,5 +1,8 @@
--- Which answers an operation may have.
+-- Which answers an operation may have, and what came of a call that has tried to store a pair.
+use Rattle.std.specs.Prelude.{Bool, true, false}
 use Rattle.papaya_views.specs.Given.SeizeWordsOp.{Op, Out, Load, Store, Swap, Add, Or, Exchange, Make, Take, Rewrite, Room, Found, Stored, Exchanged, Made, Taken, Roomed}
+use Rattle.papaya_shared.specs.declared.session.keys.Tried.{Tried}
+use Rattle.papaya_shared.specs.declared.session.keys.Tried.TheVariants.{Stored as Stores, Present}
 
 -- an answer of the kind that the operation has
 abbrev pub IsAnswer : {T : Type 0} → Op T → Out T → Type 0
@@ -14,3 +17,8 @@ IsAnswer (Take block) (Taken value) = Unit {0}
 IsAnswer (Rewrite block value) (Taken before) = Unit {0}
 IsAnswer (Room bucket) (Roomed done) = Unit {0}
 IsAnswer op out = ⊥
+
+-- the pair was stored
+abbrev pub has_stored : {K V : Type 0} → Tried K V → Bool
+has_stored Stores = true
+has_stored (Present pair) = false

@@ -3,5 +3,8 @@ pub mod Standing
 pub mod Made
 pub mod Looking
 pub mod Making
+pub mod Kinds
+pub mod Steps
 pub mod Calling
+pub mod Asking
 pub mod Given

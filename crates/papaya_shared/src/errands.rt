@@ -1,13 +1,16 @@
-//! What a seat of maps is sent for: to make a map, to look a key up, and to store a pair.
-ghost use Rattle.std.specs.Prelude.{◌≡◌};
-ghost use Rattle.papaya_shared.specs.Calling.{HasCalled, MayCall};
+//! What a seat of maps is sent for: to make a map, to look a key up, and to run a call on one key.
+ghost use Rattle.std.specs.Prelude.{◌≡◌, false};
+ghost use Rattle.std.specs.Fn.{FnOnceReturns, FnReturnsAtPair};
+ghost use Rattle.papaya_shared.specs.Asking.{HasAsked, MakingSays, TestSays, makes_pair, removes_if};
+ghost use Rattle.papaya_shared.specs.Calling.{HasCalled, MayCall, MayDo, wanted_of};
+ghost use Rattle.papaya_shared.specs.Kinds.{Stage};
 ghost use Rattle.papaya_shared.specs.Looking.{HasFound, MayLook};
 ghost use Rattle.papaya_shared.specs.Making.{CameTo, MayBegin};
-ghost use Rattle.papaya_views.specs.Given.ActsActs.{Insert};
 ghost use Rattle.papaya_views.specs.declared.view.Work.TheVariants.{Nothing as NoWork};
 ghost use Rattle.papaya_views.specs.Given.SeizeViewsDeclared.view.View.TheVariants.{Rests};
 
 use crate::within::{Ran, Within};
+use papaya_raw::machines::Machine;
 use papaya_resize::{Lookup, NewMap};
 use papaya_tables::{Hashes, Node, Setting};
 use papaya_views::OfMaps;
@@ -67,41 +70,107 @@ impl<'f, R: Wait, K: Eq + Hash, V, S: Hashes<K>> Errand<Node<K, V>, OfMaps<S>> f
     }
 }
 
-/// Stores a pair.
+/// Runs a call on one key that asks nothing.
 #[derive(Drop)]
-pub(crate) struct Inserts<'i, R, K, V, S> {
-    pub(crate) rt: &'i R,
-    pub(crate) hasher: &'i S,
-    pub(crate) setting: Setting,
-    pub(crate) hash: u64,
-    pub(crate) key: K,
-    pub(crate) value: V,
+pub(crate) struct Does<'d, R, K, V, S> {
+    pub(crate) rt: &'d R,
+    pub(crate) hasher: &'d S,
+    pub(crate) machine: Machine<K, V>,
     pub(crate) near: u64,
 }
 
-impl<'i, R: Wait, K: Eq + Hash + Drop, V: Drop, S: Hashes<K>> Errand<Node<K, V>, OfMaps<S>>
-    for Inserts<'i, R, K, V, S> {
+impl<'d, R: Wait, K: Eq + Hash + Drop, V: Drop, S: Hashes<K>> Errand<Node<K, V>, OfMaps<S>>
+    for Does<'d, R, K, V, S> {
     type Answer = Ran<K, V>;
 
-    ghost asks = { λ i fixed v. MayCall S.hash i.hasher.now i.key i.setting i.hash v };
+    ghost asks = { λ d fixed v. MayCall K.eq S.hash d.hasher.now d.machine v };
 
-    ghost did = { λ i fixed v answer w. HasCalled K.eq S.hash (Insert i.key i.value) answer.told answer.unstored v w };
+    ghost did = { λ d fixed v answer w. HasCalled K.eq S.hash (wanted_of d.machine) answer.told answer.unstored v w };
 
     fn run(
         self,
         blocks: &Blocks<Node<K, V>, OfMaps<S>>,
         seat: &mut Seat<Node<K, V>, OfMaps<S>>,
     ) -> Ran<K, V> {
-        let Inserts {
+        let Does {
             rt,
             hasher,
-            setting,
-            hash,
-            key,
-            value,
+            machine,
             near,
         } = self;
         let mut within = Within::new(blocks, seat, near);
-        within.inserts(rt, hasher, setting, hash, key, value)
+        within.does(rt, hasher, machine)
+    }
+}
+
+/// Stores a value that is made where the key is missing.
+pub(crate) struct MakesPair<'m, R, K, V, S, F> {
+    pub(crate) rt: &'m R,
+    pub(crate) hasher: &'m S,
+    pub(crate) machine: Machine<K, V>,
+    pub(crate) near: u64,
+    pub(crate) make: F,
+}
+
+impl<'m, R: Wait, K: Eq + Hash + Drop, V: Drop, S: Hashes<K>, F: FnOnce() -> V> Errand<
+    Node<K, V>,
+    OfMaps<S>,
+> for MakesPair<'m, R, K, V, S, F> {
+    type Answer = Ran<K, V>;
+
+    ghost asks = { λ m fixed v. (s : Stage) × (s.told ≡ false) × MayDo K.eq S.hash makes_pair s m.hasher.now m.machine v × F.pre m.make };
+
+    ghost did = { λ m fixed v answer w. HasCalled K.eq S.hash (wanted_of m.machine) answer.told answer.unstored v w × HasAsked K.eq S.hash (MakingSays (FnOnceReturns F.FnOnce m.make tt)) (wanted_of m.machine) v w };
+
+    fn run(
+        self,
+        blocks: &Blocks<Node<K, V>, OfMaps<S>>,
+        seat: &mut Seat<Node<K, V>, OfMaps<S>>,
+    ) -> Ran<K, V> {
+        let MakesPair {
+            rt,
+            hasher,
+            machine,
+            near,
+            make,
+        } = self;
+        let mut within = Within::new(blocks, seat, near);
+        within.makes_pair(rt, hasher, machine, make)
+    }
+}
+
+/// Removes a pair of which a test says yes.
+pub(crate) struct RemovesIf<'r, R, K, V, S, F> {
+    pub(crate) rt: &'r R,
+    pub(crate) hasher: &'r S,
+    pub(crate) machine: Machine<K, V>,
+    pub(crate) near: u64,
+    pub(crate) test: &'r F,
+}
+
+impl<'r, R: Wait, K: Eq + Hash + Drop, V: Drop, S: Hashes<K>, F: Fn(&K, &V) -> bool> Errand<
+    Node<K, V>,
+    OfMaps<S>,
+> for RemovesIf<'r, R, K, V, S, F> {
+    type Answer = Ran<K, V>;
+
+    ghost asks = { λ r fixed v. (s : Stage) × MayDo K.eq S.hash removes_if s r.hasher.now r.machine v × F.IsAlwaysCallable r.test.now };
+
+    ghost did = { λ r fixed v answer w. HasCalled K.eq S.hash (wanted_of r.machine) answer.told answer.unstored v w × HasAsked K.eq S.hash (TestSays (FnReturnsAtPair F.Fn r.test.now)) (wanted_of r.machine) v w };
+
+    fn run(
+        self,
+        blocks: &Blocks<Node<K, V>, OfMaps<S>>,
+        seat: &mut Seat<Node<K, V>, OfMaps<S>>,
+    ) -> Ran<K, V> {
+        let RemovesIf {
+            rt,
+            hasher,
+            machine,
+            near,
+            test,
+        } = self;
+        let mut within = Within::new(blocks, seat, near);
+        within.removes_if(rt, hasher, machine, test)
     }
 }

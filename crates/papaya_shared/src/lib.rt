@@ -12,4 +12,4 @@ pub use caller::Caller;
 pub use memory::memory_for;
 pub use papaya_views::OfMaps;
 pub use seize_views::Fixed;
-pub use session::{Found, Session};
+pub use session::{Found, Session, Tried};

@@ -11,9 +11,13 @@ ghost use Rattle.papaya_views.specs.declared.view.Work.TheVariants.{Nothing as N
 ghost use Rattle.papaya_views.specs.Given.SeizeViewsDeclared.view.Has.TheVariants.{Nothing};
 ghost use Rattle.papaya_views.specs.Given.SeizeViewsDeclared.view.View.TheVariants.{Inside, Outside, Rests};
 
+mod asks;
+mod keys;
+
 use crate::caller::Caller;
 use crate::within::Ran;
-use papaya_raw::machines::{Answer, KeyAnswer};
+pub use keys::Tried;
+use papaya_raw::machines::{Answer, KeyAnswer, KeyCall, Machine};
 use papaya_resize::{Lookup, NewMap};
 use papaya_tables::{Counter, Hashes, Node, ResizeMode, Setting};
 use papaya_views::OfMaps;
@@ -219,9 +223,8 @@ impl<'a, K: Eq + Hash + Drop, V: Drop, S: Hashes<K>> Session<'a, K, V, S> {
     {
         let hash = self.hasher.hash_of(&key);
         let setting = setting_in(self.setting, self.slot);
-        let ran = self
-            .caller
-            .inserts(rt, self.hasher, setting, hash, key, value);
+        let call = KeyCall::insert(setting, hash, key, value);
+        let ran = self.caller.does(rt, self.hasher, Machine::Key(call));
         let Ran {
             told,
             unstored,

@@ -1,9 +1,11 @@
-//! A caller is sent to make a map, to look a key up, and to store a pair.
-ghost use Rattle.std.specs.Prelude.{◌≡◌, IsSome, Some};
-ghost use Rattle.papaya_shared.specs.Calling.{HasCalled, MayCall};
+//! A caller is sent to make a map, to look a key up, and to run a call on one key.
+ghost use Rattle.std.specs.Prelude.{◌≡◌, IsSome, Some, false};
+ghost use Rattle.std.specs.Fn.{FnOnceReturns, FnReturnsAtPair};
+ghost use Rattle.papaya_shared.specs.Asking.{HasAsked, MakingSays, TestSays, makes_pair as kind_that_makes, removes_if as kind_that_tests};
+ghost use Rattle.papaya_shared.specs.Calling.{HasCalled, MayCall, MayDo, wanted_of};
+ghost use Rattle.papaya_shared.specs.Kinds.{Stage};
 ghost use Rattle.papaya_shared.specs.Looking.{HasFound, MayLook};
 ghost use Rattle.papaya_shared.specs.Making.{CameTo, MayBegin};
-ghost use Rattle.papaya_views.specs.Given.ActsActs.{Insert};
 ghost use Rattle.papaya_views.specs.Looks.{shown_in};
 ghost use Rattle.papaya_views.specs.Rule.{Holds};
 ghost use Rattle.papaya_views.specs.declared.view.Work.TheVariants.{Nothing as NoWork};
@@ -11,8 +13,9 @@ ghost use Rattle.papaya_views.specs.Given.SeizeSeatsLendings.{IsValueOf};
 ghost use Rattle.papaya_views.specs.Given.SeizeViewsDeclared.view.View.TheVariants.{Rests};
 
 use crate::caller::Caller;
-use crate::errands::{Finds, Inserts, Makes};
+use crate::errands::{Does, Finds, Makes, MakesPair, RemovesIf};
 use crate::within::Ran;
+use papaya_raw::machines::Machine;
 use papaya_resize::{Lookup, NewMap};
 use papaya_tables::{Hashes, Node, Setting};
 use seize_words::Fault;
@@ -47,30 +50,77 @@ impl<'a, K: Eq + Hash, V, S: Hashes<K>> Caller<'a, K, V, S> {
 }
 
 impl<'a, K: Eq + Hash + Drop, V: Drop, S: Hashes<K>> Caller<'a, K, V, S> {
-    /// Stores this pair within its section, in the map that it knows, and answers what its call has told, and the pair where that was not stored.
-    pub(crate) fn inserts<R: Wait>(
-        &mut self,
-        rt: &R,
-        hasher: &S,
-        setting: Setting,
-        hash: u64,
-        key: K,
-        value: V,
-    ) -> Ran<K, V>
-        requires may { MayCall S.hash hasher.now key setting hash self.old.seat.view }
-        ensures called { HasCalled K.eq S.hash (Insert key value) result.told result.unstored self.old.seat.view self.new.seat.view }
+    /// Runs this call, which asks nothing, within its section, on the map that it knows, and answers what it has told, and its own pair where that was not stored.
+    pub(crate) fn does<R: Wait>(&mut self, rt: &R, hasher: &S, machine: Machine<K, V>) -> Ran<K, V>
+        requires may { MayCall K.eq S.hash hasher.now machine self.old.seat.view }
+        ensures called { HasCalled K.eq S.hash (wanted_of machine) result.told result.unstored self.old.seat.view self.new.seat.view }
         ensures blocks { self.new.blocks ≡ self.old.blocks }
     {
         let ran = self.blocks.errand(
             &mut self.seat,
-            Inserts {
+            Does {
                 rt,
                 hasher,
-                setting,
-                hash,
-                key,
-                value,
+                machine,
                 near: self.near,
+            },
+        );
+        self.near = ran.near;
+        ran
+    }
+}
+
+impl<'a, K: Eq + Hash + Drop, V: Drop, S: Hashes<K>> Caller<'a, K, V, S> {
+    /// Stores a value that is made where the key is missing.
+    pub(crate) fn makes_pair<R: Wait, F: FnOnce() -> V>(
+        &mut self,
+        rt: &R,
+        hasher: &S,
+        machine: Machine<K, V>,
+        make: F,
+    ) -> Ran<K, V>
+        requires may { (s : Stage) × (s.told ≡ false) × MayDo K.eq S.hash kind_that_makes s hasher.now machine self.old.seat.view }
+        requires callable { F.pre make }
+        ensures called { HasCalled K.eq S.hash (wanted_of machine) result.told result.unstored self.old.seat.view self.new.seat.view }
+        ensures asked { HasAsked K.eq S.hash (MakingSays (FnOnceReturns F.FnOnce make tt)) (wanted_of machine) self.old.seat.view self.new.seat.view }
+        ensures blocks { self.new.blocks ≡ self.old.blocks }
+    {
+        let ran = self.blocks.errand(
+            &mut self.seat,
+            MakesPair {
+                rt,
+                hasher,
+                machine,
+                near: self.near,
+                make,
+            },
+        );
+        self.near = ran.near;
+        ran
+    }
+
+    /// Removes the pair of the key, if this test says yes of it.
+    pub(crate) fn removes_if<R: Wait, F: Fn(&K, &V) -> bool>(
+        &mut self,
+        rt: &R,
+        hasher: &S,
+        machine: Machine<K, V>,
+        test: &F,
+    ) -> Ran<K, V>
+        requires may { (s : Stage) × MayDo K.eq S.hash kind_that_tests s hasher.now machine self.old.seat.view }
+        requires callable { F.IsAlwaysCallable test.now }
+        ensures called { HasCalled K.eq S.hash (wanted_of machine) result.told result.unstored self.old.seat.view self.new.seat.view }
+        ensures asked { HasAsked K.eq S.hash (TestSays (FnReturnsAtPair F.Fn test.now)) (wanted_of machine) self.old.seat.view self.new.seat.view }
+        ensures blocks { self.new.blocks ≡ self.old.blocks }
+    {
+        let ran = self.blocks.errand(
+            &mut self.seat,
+            RemovesIf {
+                rt,
+                hasher,
+                machine,
+                near: self.near,
+                test,
             },
         );
         self.near = ran.near;

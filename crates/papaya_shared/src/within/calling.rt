@@ -1,7 +1,8 @@
-//! A seat on an errand runs a call on one key that asks nothing.
+//! A seat on an errand runs a call on one key.
 ghost use Rattle.std.specs.Prelude.{◌≡◌, ℕ, true, false, Some, IfErr, IfNone, IfSome};
-ghost use Rattle.papaya_views.specs.Given.ActsActs.{Insert};
-ghost use Rattle.papaya_shared.specs.Calling.{CalledSo, HasCalled, HasEnded, IsCalling, IsGoing, IsNoQuestion, MachineStores, MayCall, handed_by, outcome_of};
+ghost use Rattle.papaya_shared.specs.Calling.{CalledSo, HasCalled, HasEnded, IsCalling, IsGoing, IsNoQuestion, IsUnderWay, MachineStores, MayCall, TellsSo, handed_by, outcome_of, wanted_of};
+ghost use Rattle.papaya_shared.specs.Kinds.{Kind, Stage};
+ghost use Rattle.papaya_shared.specs.Steps.{HasStepped};
 ghost use Rattle.papaya_shared.specs.Looking.{Begins, HasTold, StaysThere};
 ghost use Rattle.papaya_shared.specs.Made.{IsSameSeat};
 ghost use Rattle.papaya_views.specs.Given.TablesChunks.{is_incremental};
@@ -15,8 +16,8 @@ ghost use Rattle.papaya_views.specs.Given.SeizeViewsDeclared.view.View.TheVarian
 
 use crate::turns::{Beginning, Stepping, Wants};
 use crate::within::Within;
-use papaya_raw::machines::{Answer, KeyCall, Machine, Progress};
-use papaya_tables::{Hashes, Node, Setting};
+use papaya_raw::machines::{Answer, Machine, Progress};
+use papaya_tables::{Hashes, Node};
 use seize_words::Fault;
 use std::hash::Hash;
 use std::marker::Brand;
@@ -62,9 +63,10 @@ impl<'a, K: Eq + Hash + Drop, V: Drop, S: Hashes<K>> Within<'a, K, V, S> {
     }
 
     /// Takes the next step of its call.
-    fn calls(&mut self, machine: &mut Machine<K, V>, hasher: &S) -> Progress<Node<K, V>>
-        requires calls { IsCalling hasher.now machine.old self.old.seat.now.view }
-        ensures told { CalledSo hasher.now machine.new result self.new.seat.now.view }
+    pub(super) fn steps(&mut self, machine: &mut Machine<K, V>, hasher: &S) -> Progress<Node<K, V>>
+        requires calls { (k : Kind) × (s : Stage) × IsUnderWay k s hasher.now machine.old self.old.seat.now.view }
+        ensures by { HasStepped K.eq S.hash self.old.seat.now.view self.new.seat.now.view }
+        ensures told { (k : Kind) (s : Stage) → IsUnderWay k s hasher.now machine.old self.old.seat.now.view → TellsSo k s hasher.now machine.new result self.new.seat.now.view }
         ensures calls { HasTold result self.old.seat.now.view self.new.seat.now.view }
         ensures step { MayCome (machine_plan K.eq K.eq (S.hash hasher.now) machine.old) (machine.new, result) }
         ensures hands { HandsBack self.old.seat.now.view.calls result }
@@ -80,8 +82,21 @@ impl<'a, K: Eq + Hash + Drop, V: Drop, S: Hashes<K>> Within<'a, K, V, S> {
         told
     }
 
+    /// Takes the next step of its call, which asks nothing.
+    fn calls(&mut self, machine: &mut Machine<K, V>, hasher: &S) -> Progress<Node<K, V>>
+        requires calls { IsCalling hasher.now machine.old self.old.seat.now.view }
+        ensures told { CalledSo hasher.now machine.new result self.new.seat.now.view }
+        ensures calls { HasTold result self.old.seat.now.view self.new.seat.now.view }
+        ensures step { MayCome (machine_plan K.eq K.eq (S.hash hasher.now) machine.old) (machine.new, result) }
+        ensures hands { HandsBack self.old.seat.now.view.calls result }
+        ensures stays { StaysThere self.old.seat.now.view self.new.seat.now.view }
+        ensures same { IsSameSeat self.old self.new }
+    {
+        self.steps(machine, hasher)
+    }
+
     /// What its call has come to.
-    fn ran(&self, told: Result<Answer, Fault>, unstored: Option<Node<K, V>>) -> Ran<K, V>
+    pub(super) fn ran(&self, told: Result<Answer, Fault>, unstored: Option<Node<K, V>>) -> Ran<K, V>
         ensures told { result.told ≡ told }
         ensures unstored { result.unstored ≡ unstored }
     {
@@ -111,45 +126,36 @@ impl<'a, K: Eq + Hash + Drop, V: Drop, S: Hashes<K>> Within<'a, K, V, S> {
         unreachable!()
     }
 
-    /// Begins to store this pair, as it is picked.
-    fn begins_to_insert_as<B: Wants<K, V>>(&mut self, _key: &K, _value: &V)
-        requires wanted { B.wanted ≡ Insert _key.now _value.now }
+    /// Begins this call, as it is picked.
+    fn begins_as<B: Wants<K, V>>(&mut self, _machine: &Machine<K, V>)
+        requires wanted { B.wanted ≡ wanted_of _machine.now }
         requires inside { (t : ℕ) × (self.old.seat.now.view.slot ≡ Inside t Nothing) }
         requires knows { (map : Map S) × (self.old.seat.now.view.map ≡ Some map) × (is_incremental map.setting.mode ≡ true) }
         requires free { self.old.seat.now.view.work ≡ NoWork }
-        ensures begins { Begins K.eq S.hash (Insert _key.now _value.now) self.old.seat.now.view self.new.seat.now.view }
+        ensures begins { Begins K.eq S.hash (wanted_of _machine.now) self.old.seat.now.view self.new.seat.now.view }
         ensures same { IsSameSeat self.old self.new }
     {
         self.blocks.turn::<Beginning<B>>(&mut *self.seat);
     }
 
-    /// Begins to store this pair in the map that it knows, which is in incremental mode, within its section.
-    fn begins_to_insert(&mut self, key: &K, value: &V)
+    /// Begins this call on the map that it knows, which is in incremental mode, within its section.
+    pub(super) fn begins(&mut self, machine: &Machine<K, V>)
         requires inside { (t : ℕ) × (self.old.seat.now.view.slot ≡ Inside t Nothing) }
         requires knows { (map : Map S) × (self.old.seat.now.view.map ≡ Some map) × (is_incremental map.setting.mode ≡ true) }
         requires free { self.old.seat.now.view.work ≡ NoWork }
-        ensures begins { Begins K.eq S.hash (Insert key.now value.now) self.old.seat.now.view self.new.seat.now.view }
+        ensures begins { Begins K.eq S.hash (wanted_of machine.now) self.old.seat.now.view self.new.seat.now.view }
         ensures same { IsSameSeat self.old self.new }
     {
-        self.begins_to_insert_as::<Brand>(key, value);
+        self.begins_as::<Brand>(machine);
     }
 
-    /// Stores this pair in the map that it knows, in the place of one of an equal key, if there is one. The setting is that of the map, in its slot.
-    pub(crate) fn inserts<R: Wait>(
-        &mut self,
-        rt: &R,
-        hasher: &S,
-        setting: Setting,
-        hash: u64,
-        key: K,
-        value: V,
-    ) -> Ran<K, V>
-        requires may { MayCall S.hash hasher.now key setting hash self.old.seat.now.view }
-        ensures called { HasCalled K.eq S.hash (Insert key value) result.told result.unstored self.old.seat.now.view self.new.seat.now.view }
+    /// Runs this call, which asks nothing, on the map that it knows.
+    pub(crate) fn does<R: Wait>(&mut self, rt: &R, hasher: &S, machine: Machine<K, V>) -> Ran<K, V>
+        requires may { MayCall K.eq S.hash hasher.now machine self.old.seat.now.view }
+        ensures called { HasCalled K.eq S.hash (wanted_of machine) result.told result.unstored self.old.seat.now.view self.new.seat.now.view }
         ensures same { IsSameSeat self.old self.new }
     {
-        self.begins_to_insert(&key, &value);
-        let machine = Machine::Key(KeyCall::insert(setting, hash, key, value));
+        self.begins(&machine);
         self.runs(rt, hasher, machine)
     }
 }

@@ -3,7 +3,7 @@ use Rattle.papaya_views.specs.Given.ActsActs.{Wanted}
 use Rattle.seize_callers.proofs.Keeping.{still_kept}
 use Rattle.papaya_shared.specs.Looking.{Begins}
 use Rattle.papaya_shared.proofs.Beginnings.{may_begin}
-use Rattle.papaya_shared.proofs.within.Within.begins_to_insert_as.Goals as goal
+use Rattle.papaya_shared.proofs.within.Within.begins_as.Goals as goal
 
 pub turn-requires-clause-may : goal.turn-requires-clause-may
 turn-requires-clause-may g c =

@@ -1,0 +1,134 @@
+//! A session's calls on one key that ask nothing, beside lookups and insertions.
+ghost use Rattle.std.specs.Prelude.{◌≡◌, ℕ, Option, Err, IfErr, IfOk, is_some};
+ghost use Rattle.papaya_shared.specs.Answers.{has_stored};
+ghost use Rattle.papaya_shared.specs.Calling.{HasRemoved, HasTried, is_removed as removes, is_stored as stores, outcome_of};
+ghost use Rattle.papaya_shared.specs.Looking.{HasRun, found_of};
+ghost use Rattle.papaya_views.specs.Given.ActsActs.{ContainsKey, Remove, TryToInsert};
+ghost use Rattle.papaya_views.specs.Given.SeizeViewsDeclared.view.Has.TheVariants.{Nothing};
+ghost use Rattle.papaya_views.specs.Given.SeizeViewsDeclared.view.View.TheVariants.{Inside};
+
+use crate::session::{Session, refused, setting_in};
+use crate::within::Ran;
+use papaya_raw::machines::{Answer, KeyAnswer, KeyCall, Machine};
+use papaya_resize::Lookup;
+use papaya_tables::{Hashes, Node};
+use seize_words::{Fault, Refused};
+use std::hash::Hash;
+use std::sync::Wait;
+
+/// What came of storing a pair only where its key is missing.
+pub enum Tried<K, V> {
+    /// It was stored.
+    Stored,
+    /// The key was there, and the pair comes back.
+    Present(Option<(K, V)>),
+}
+
+/// Whether a pair was stored where there was none.
+fn is_stored(answer: &Answer) -> bool
+    ensures { result ≡ stores answer.now }
+{
+    matches!(answer, Answer::Key(KeyAnswer::Stored(_)))
+}
+
+/// Whether a pair was removed.
+pub(super) fn is_removed(answer: &Answer) -> bool
+    ensures { result ≡ removes answer.now }
+{
+    matches!(answer, Answer::Key(KeyAnswer::Removed(_)))
+}
+
+/// The key and the value of a pair that was not stored.
+fn pair_of<K: Drop, V: Drop>(unstored: Option<Node<K, V>>) -> Option<(K, V)> {
+    match unstored {
+        Some(Node::Pair(key, value)) => Some((key, value)),
+        _ => None,
+    }
+}
+
+/// What came of it, by what its call has answered.
+pub(super) fn came_of<K: Drop, V: Drop>(
+    answer: &Answer,
+    unstored: Option<Node<K, V>>,
+) -> Tried<K, V>
+    ensures { has_stored result ≡ stores answer.now }
+{
+    if is_stored(answer) {
+        Tried::Stored
+    } else {
+        Tried::Present(pair_of(unstored))
+    }
+}
+
+impl<'a, K: Eq + Hash, V, S: Hashes<K>> Session<'a, K, V, S> {
+    /// Looks a key up within the section of its slot, and answers whether the map has a pair of it.
+    pub fn contains_key<R: Wait>(&mut self, rt: &R, key: &K) -> bool
+        requires inside { self.old.caller.seat.view.slot ≡ Inside self.old.slot Nothing }
+        ensures inside { self.new.caller.seat.view.slot ≡ Inside self.new.slot Nothing }
+        ensures ran { (found : Option ℕ) × HasRun K.eq S.hash (ContainsKey key.now) (found_of found) self.old.caller.seat.view self.new.caller.seat.view × (result ≡ is_some found) }
+        ensures map { self.new.caller.seat.view.map ≡ self.old.caller.seat.view.map }
+        ensures blocks { self.new.caller.blocks ≡ self.old.caller.blocks }
+    {
+        let hash = self.hasher.hash_of(key);
+        let lookup = Lookup::new(self.setting.root, self.setting.mode, hash);
+        let found = self.caller.finds(rt, lookup, key);
+        found.is_some()
+    }
+}
+
+impl<'a, K: Eq + Hash + Drop, V: Drop, S: Hashes<K>> Session<'a, K, V, S> {
+    /// Stores a pair within the section of its slot, if its key is not there yet; it comes back where it is. The faults are `Memory` and `Capacity`; the pair comes back
+    /// then, too.
+    pub fn try_insert<R: Wait>(
+        &mut self,
+        rt: &R,
+        key: K,
+        value: V,
+    ) -> Result<Tried<K, V>, Refused<K, V>>
+        requires inside { self.old.caller.seat.view.slot ≡ Inside self.old.slot Nothing }
+        ensures inside { self.new.caller.seat.view.slot ≡ Inside self.new.slot Nothing }
+        ensures tried { IfOk result (λ tried. HasTried K.eq S.hash key value (has_stored tried) self.old.caller.seat.view self.new.caller.seat.view) }
+        ensures refused { IfErr result (λ refused. HasRun K.eq S.hash (TryToInsert key value) (outcome_of (Err refused.fault)) self.old.caller.seat.view self.new.caller.seat.view) }
+        ensures back { IfErr result (λ refused. (refused.key ≡ key) × (refused.value ≡ value)) }
+        ensures map { self.new.caller.seat.view.map ≡ self.old.caller.seat.view.map }
+        ensures blocks { self.new.caller.blocks ≡ self.old.caller.blocks }
+    {
+        let hash = self.hasher.hash_of(&key);
+        let setting = setting_in(self.setting, self.slot);
+        let call = KeyCall::try_insert(setting, hash, key, value);
+        let ran = self.caller.does(rt, self.hasher, Machine::Key(call));
+        let Ran {
+            told,
+            unstored,
+            near: _,
+        } = ran;
+        match told {
+            Ok(answer) => Ok(came_of(&answer, unstored)),
+            Err(fault) => Err(refused(fault, unstored)),
+        }
+    }
+
+    /// Removes the pair of a key within the section of its slot, and answers whether there was one. The faults are `Memory` and `Capacity`: no pair was removed then. What
+    /// was removed is reclaimed once no section that had begun before holds it.
+    pub fn remove<R: Wait>(&mut self, rt: &R, key: K) -> Result<bool, Fault>
+        requires inside { self.old.caller.seat.view.slot ≡ Inside self.old.slot Nothing }
+        ensures inside { self.new.caller.seat.view.slot ≡ Inside self.new.slot Nothing }
+        ensures removed { IfOk result (λ removed. HasRemoved K.eq S.hash key removed self.old.caller.seat.view self.new.caller.seat.view) }
+        ensures refused { IfErr result (λ fault. HasRun K.eq S.hash (Remove key) (outcome_of (Err fault)) self.old.caller.seat.view self.new.caller.seat.view) }
+        ensures map { self.new.caller.seat.view.map ≡ self.old.caller.seat.view.map }
+        ensures blocks { self.new.caller.blocks ≡ self.old.caller.blocks }
+    {
+        let hash = self.hasher.hash_of(&key);
+        let setting = setting_in(self.setting, self.slot);
+        let call = KeyCall::remove(setting, hash, key);
+        let ran = self.caller.does(rt, self.hasher, Machine::Key(call));
+        let Ran {
+            told,
+            unstored,
+            near: _,
+        } = ran;
+        drop(unstored);
+        let answer = told?;
+        Ok(is_removed(&answer))
+    }
+}
