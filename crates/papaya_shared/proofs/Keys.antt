@@ -17,9 +17,9 @@ use Rattle.papaya_views.specs.Given.SeizeViewsDeclared.view.Has.TheVariants.{Not
 use Rattle.papaya_views.specs.Given.SeizeViewsDeclared.view.View.TheVariants.{Inside}
 use Rattle.papaya_views.specs.declared.view.View.{View}
 use Rattle.papaya_views.specs.declared.view.Work.TheVariants.{Nothing}
-use Rattle.papaya_shared.specs.Calling.{ComesBack, HasCalled, IsToStore, MachineStores, MayCall, outcome_of, pair_wanted, wanted_of}
-use Rattle.papaya_shared.specs.Looking.{HasRun}
-use Rattle.papaya_shared.specs.Kinds.{Kind, Stage}
+use Rattle.papaya_seats.specs.Calling.{ComesBack, HasCalled, IsToStore, MachineStores, MayCall, outcome_of, pair_wanted, wanted_of}
+use Rattle.papaya_seats.specs.Looking.{HasRun}
+use Rattle.papaya_seats.specs.Kinds.{Kind, Stage}
 use Rattle.papaya_shared.specs.Standing.{known_by}
 use Rattle.papaya_shared.proofs.Sessions.{may_do}
 

@@ -18,9 +18,9 @@ use Rattle.papaya_views.specs.declared.view.View.{View}
 use Rattle.papaya_views.specs.declared.view.Work.{Work}
 use Rattle.papaya_views.specs.declared.view.Work.TheVariants.{Nothing}
 use Rattle.papaya_views.proofs.Contents.{knows_free}
-use Rattle.papaya_shared.specs.Calling.{HasCalled}
-use Rattle.papaya_shared.specs.Looking.{HasFound}
-use Rattle.papaya_shared.specs.Making.{CameTo}
+use Rattle.papaya_seats.specs.Calling.{HasCalled}
+use Rattle.papaya_seats.specs.Looking.{HasFound}
+use Rattle.papaya_seats.specs.Making.{CameTo}
 
 module _ {K V S : Type 0} where
   -- who has nothing else under way knows its row

@@ -1,6 +1,6 @@
 //! One of those who share the memory of maps.
 ghost use Rattle.std.specs.Prelude.{◌≡◌, Some, true};
-ghost use Rattle.papaya_shared.specs.Making.{HandsOn};
+ghost use Rattle.papaya_shared.specs.Shown.{HandsOn};
 ghost use Rattle.papaya_views.specs.Rule.{at_rest};
 ghost use Rattle.papaya_views.specs.declared.view.Map.{Map};
 ghost use Rattle.papaya_views.specs.declared.view.Work.TheVariants.{Nothing};
@@ -10,7 +10,7 @@ ghost use Rattle.seize_callers.specs.Kept.{is_home};
 mod calls;
 mod rows;
 
-use crate::turns::Showing;
+use crate::showing::Showing;
 use papaya_tables::{Hashes, Node};
 use papaya_views::OfMaps;
 use seize_blocks::{Blocks, Seat};

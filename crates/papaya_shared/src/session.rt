@@ -1,7 +1,9 @@
 //! A map, as one of those knows it who share it.
 ghost use Rattle.std.specs.Prelude.{◌≡◌, ◌≤◌, ◌<◌, ◌^◌, [], Some, None, Err, true, IfErr, IfNone, IfOk, IfSome};
-ghost use Rattle.papaya_shared.specs.Calling.{HasStored, is_replaced as replaces, outcome_of};
-ghost use Rattle.papaya_shared.specs.Looking.{HasRun, IsLent, IsShown, found_of};
+ghost use Rattle.papaya_seats.specs.Calling.{outcome_of};
+ghost use Rattle.papaya_seats.specs.Looking.{HasRun, found_of};
+ghost use Rattle.papaya_shared.specs.Answers.{HasStored, is_replaced as replaces};
+ghost use Rattle.papaya_shared.specs.Shown.{IsLent, IsShown};
 ghost use Rattle.papaya_shared.specs.Standing.{known_by};
 ghost use Rattle.papaya_views.specs.Given.ActsActs.{Get, Insert};
 ghost use Rattle.papaya_views.specs.Given.TablesChunks.{is_incremental};
@@ -15,10 +17,10 @@ mod asks;
 mod keys;
 
 use crate::caller::Caller;
-use crate::within::Ran;
-pub use keys::Tried;
+pub use keys::Attempt;
 use papaya_raw::machines::{Answer, KeyAnswer, KeyCall, Machine};
 use papaya_resize::{Lookup, NewMap};
+use papaya_seats::Ran;
 use papaya_tables::{Counter, Hashes, Node, ResizeMode, Setting};
 use papaya_views::OfMaps;
 use seize_blocks::Blocks;

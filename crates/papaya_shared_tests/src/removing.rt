@@ -3,7 +3,7 @@ ghost use Rattle.std.specs.Prelude.{◌≡◌};
 ghost use Rattle.papaya_shared.specs.Given.SeizeViewsDeclared.view.Has.TheVariants.{Nothing};
 ghost use Rattle.papaya_shared.specs.Given.SeizeViewsDeclared.view.View.TheVariants.{Inside, Rests};
 
-use papaya_shared::{Fixed, Session, Tried, memory_for};
+use papaya_shared::{Fixed, Session, Attempt, memory_for};
 use std::hash::{BuildHasherDefault, DefaultHasher};
 use std::sync::Wait;
 use std::test::Fail;
@@ -29,8 +29,8 @@ fn stores<R: Wait>(rt: &R, session: &mut Session<'_, u64, u64, Hashing>, value: 
     let mut back = true;
     for key in 0..KEYS {
         match session.try_insert(rt, key, value) {
-            Ok(Tried::Stored) => stored = u64::wrapping_add(stored, 1),
-            Ok(Tried::Present(pair)) => back = back && pair == Some((key, value)),
+            Ok(Attempt::Stored) => stored = u64::wrapping_add(stored, 1),
+            Ok(Attempt::Present(pair)) => back = back && pair == Some((key, value)),
             Err(_) => back = false,
         }
     }

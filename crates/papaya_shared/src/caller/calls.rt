@@ -1,11 +1,11 @@
 //! A caller is sent to make a map, to look a key up, and to run a call on one key.
 ghost use Rattle.std.specs.Prelude.{◌≡◌, IsSome, Some, false};
 ghost use Rattle.std.specs.Fn.{FnOnceReturns, FnReturnsAtPair};
-ghost use Rattle.papaya_shared.specs.Asking.{HasAsked, MakingSays, TestSays, makes_pair as kind_that_makes, removes_if as kind_that_tests};
-ghost use Rattle.papaya_shared.specs.Calling.{HasCalled, MayCall, MayDo, wanted_of};
-ghost use Rattle.papaya_shared.specs.Kinds.{Stage};
-ghost use Rattle.papaya_shared.specs.Looking.{HasFound, MayLook};
-ghost use Rattle.papaya_shared.specs.Making.{CameTo, MayBegin};
+ghost use Rattle.papaya_seats.specs.Asking.{HasAsked, MakingSays, TestSays, makes_pair as kind_that_makes, removes_if as kind_that_tests};
+ghost use Rattle.papaya_seats.specs.Calling.{HasCalled, MayCall, MayDo, wanted_of};
+ghost use Rattle.papaya_seats.specs.Kinds.{Stage};
+ghost use Rattle.papaya_seats.specs.Looking.{HasFound, MayLook};
+ghost use Rattle.papaya_seats.specs.Making.{CameTo, MayBegin};
 ghost use Rattle.papaya_views.specs.Looks.{shown_in};
 ghost use Rattle.papaya_views.specs.Rule.{Holds};
 ghost use Rattle.papaya_views.specs.declared.view.Work.TheVariants.{Nothing as NoWork};
@@ -13,10 +13,9 @@ ghost use Rattle.papaya_views.specs.Given.SeizeSeatsLendings.{IsValueOf};
 ghost use Rattle.papaya_views.specs.Given.SeizeViewsDeclared.view.View.TheVariants.{Rests};
 
 use crate::caller::Caller;
-use crate::errands::{Does, Finds, Makes, MakesPair, RemovesIf};
-use crate::within::Ran;
 use papaya_raw::machines::Machine;
 use papaya_resize::{Lookup, NewMap};
+use papaya_seats::{Does, Finds, Makes, MakesPair, Ran, RemovesIf};
 use papaya_tables::{Hashes, Node, Setting};
 use seize_words::Fault;
 use std::hash::Hash;

@@ -1,19 +1,19 @@
 //! A session's calls on one key that ask their caller's closure.
 ghost use Rattle.std.specs.Prelude.{◌≡◌, Ok, Err, IfErr, IfOk};
 ghost use Rattle.std.specs.Fn.{FnOnceReturns, FnReturnsAtPair};
-ghost use Rattle.papaya_shared.specs.Answers.{has_stored};
-ghost use Rattle.papaya_shared.specs.Asking.{HasAsked, MakingSays, TestSays};
-ghost use Rattle.papaya_shared.specs.Calling.{is_removed as removes, is_stored, outcome_of};
-ghost use Rattle.papaya_shared.specs.Looking.{HasRun};
+ghost use Rattle.papaya_seats.specs.Asking.{HasAsked, MakingSays, TestSays};
+ghost use Rattle.papaya_seats.specs.Calling.{outcome_of};
+ghost use Rattle.papaya_seats.specs.Looking.{HasRun};
+ghost use Rattle.papaya_shared.specs.Answers.{has_stored, is_removed as removes, is_stored};
 ghost use Rattle.papaya_views.specs.Given.ActsActs.{RemoveIf, TryToInsertWith};
 ghost use Rattle.papaya_views.specs.Given.RawDeclared.machines.progress.Answer.{Answer};
 ghost use Rattle.papaya_views.specs.Given.SeizeViewsDeclared.view.Has.TheVariants.{Nothing};
 ghost use Rattle.papaya_views.specs.Given.SeizeViewsDeclared.view.View.TheVariants.{Inside};
 
-use crate::session::keys::{Tried, came_of, is_removed};
+use crate::session::keys::{Attempt, came_of, is_removed};
 use crate::session::{Session, setting_in};
-use crate::within::Ran;
 use papaya_raw::machines::{KeyCall, Machine};
+use papaya_seats::Ran;
 use papaya_tables::Hashes;
 use seize_words::Fault;
 use std::hash::Hash;
@@ -27,7 +27,7 @@ impl<'a, K: Eq + Hash + Drop, V: Drop, S: Hashes<K>> Session<'a, K, V, S> {
         rt: &R,
         key: K,
         make: F,
-    ) -> Result<Tried<K, V>, Fault>
+    ) -> Result<Attempt<K, V>, Fault>
         requires inside { self.old.caller.seat.view.slot ≡ Inside self.old.slot Nothing }
         requires callable { F.pre make }
         ensures inside { self.new.caller.seat.view.slot ≡ Inside self.new.slot Nothing }

@@ -1,23 +1,23 @@
 //! A session's calls on one key that ask nothing, beside lookups and insertions.
 ghost use Rattle.std.specs.Prelude.{◌≡◌, ℕ, Option, Err, IfErr, IfOk, is_some};
-ghost use Rattle.papaya_shared.specs.Answers.{has_stored};
-ghost use Rattle.papaya_shared.specs.Calling.{HasRemoved, HasTried, is_removed as removes, is_stored as stores, outcome_of};
-ghost use Rattle.papaya_shared.specs.Looking.{HasRun, found_of};
+ghost use Rattle.papaya_seats.specs.Calling.{outcome_of};
+ghost use Rattle.papaya_seats.specs.Looking.{HasRun, found_of};
+ghost use Rattle.papaya_shared.specs.Answers.{HasRemoved, HasTried, has_stored, is_removed as removes, is_stored as stores};
 ghost use Rattle.papaya_views.specs.Given.ActsActs.{ContainsKey, Remove, TryToInsert};
 ghost use Rattle.papaya_views.specs.Given.SeizeViewsDeclared.view.Has.TheVariants.{Nothing};
 ghost use Rattle.papaya_views.specs.Given.SeizeViewsDeclared.view.View.TheVariants.{Inside};
 
 use crate::session::{Session, refused, setting_in};
-use crate::within::Ran;
 use papaya_raw::machines::{Answer, KeyAnswer, KeyCall, Machine};
 use papaya_resize::Lookup;
+use papaya_seats::Ran;
 use papaya_tables::{Hashes, Node};
 use seize_words::{Fault, Refused};
 use std::hash::Hash;
 use std::sync::Wait;
 
 /// What came of storing a pair only where its key is missing.
-pub enum Tried<K, V> {
+pub enum Attempt<K, V> {
     /// It was stored.
     Stored,
     /// The key was there, and the pair comes back.
@@ -50,13 +50,13 @@ fn pair_of<K: Drop, V: Drop>(unstored: Option<Node<K, V>>) -> Option<(K, V)> {
 pub(super) fn came_of<K: Drop, V: Drop>(
     answer: &Answer,
     unstored: Option<Node<K, V>>,
-) -> Tried<K, V>
+) -> Attempt<K, V>
     ensures { has_stored result ≡ stores answer.now }
 {
     if is_stored(answer) {
-        Tried::Stored
+        Attempt::Stored
     } else {
-        Tried::Present(pair_of(unstored))
+        Attempt::Present(pair_of(unstored))
     }
 }
 
@@ -84,7 +84,7 @@ impl<'a, K: Eq + Hash + Drop, V: Drop, S: Hashes<K>> Session<'a, K, V, S> {
         rt: &R,
         key: K,
         value: V,
-    ) -> Result<Tried<K, V>, Refused<K, V>>
+    ) -> Result<Attempt<K, V>, Refused<K, V>>
         requires inside { self.old.caller.seat.view.slot ≡ Inside self.old.slot Nothing }
         ensures inside { self.new.caller.seat.view.slot ≡ Inside self.new.slot Nothing }
         ensures tried { IfOk result (λ tried. HasTried K.eq S.hash key value (has_stored tried) self.old.caller.seat.view self.new.caller.seat.view) }

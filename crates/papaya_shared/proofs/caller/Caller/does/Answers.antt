@@ -1,5 +1,5 @@
 use Rattle.seize_callers.proofs.Keeping.{none_away}
-use Rattle.papaya_shared.specs.Calling.{wanted_of}
+use Rattle.papaya_seats.specs.Calling.{wanted_of}
 use Rattle.papaya_shared.proofs.Rows.{rests_called}
 use Rattle.papaya_shared.proofs.caller.Caller.does.Goals as goal
 

@@ -2,7 +2,7 @@ use Rattle.std.proofs.Common.{refl, ap, subst, sym, ◌∙◌}
 use Rattle.papaya_views.specs.Begun.{shown_map}
 use Rattle.papaya_views.specs.Notes.{IsResting}
 use Rattle.papaya_views.specs.declared.view.View.{View}
-use Rattle.papaya_shared.proofs.Beginnings.{may_show}
+use Rattle.papaya_shared.proofs.Sessions.{may_show}
 use Rattle.papaya_shared.proofs.caller.Caller.shows.Goals as goal
 
 pub meet-requires-clause-may : goal.meet-requires-clause-may

@@ -2,8 +2,8 @@ use Rattle.std.specs.Prelude.{Err}
 use Rattle.std.proofs.Common.{refl, sym, subst}
 use Rattle.papaya_views.specs.Given.ActsActs.{TryToInsert}
 use Rattle.papaya_views.specs.Given.SeizeWordsDeclared.fault.Fault.{Fault}
-use Rattle.papaya_shared.specs.Calling.{outcome_of}
-use Rattle.papaya_shared.specs.Looking.{HasRun}
+use Rattle.papaya_seats.specs.Calling.{outcome_of}
+use Rattle.papaya_seats.specs.Looking.{HasRun}
 use Rattle.papaya_views.specs.Given.TablesDeclared.node.Node.TheVariants.{Pair}
 use Rattle.papaya_shared.proofs.Keys.{may_try, back_by, ran_by}
 use Rattle.papaya_shared.proofs.session.Session.try_insert.Goals as goal

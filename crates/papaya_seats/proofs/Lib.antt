@@ -1,0 +1,19 @@
+mod Plans
+mod Looking
+mod Making
+mod Quiet
+mod Leads
+mod Pairs
+mod Asked
+mod Filled
+mod Asking
+mod Telling
+mod Calls
+mod Calling
+mod Handing
+mod Lookups
+mod Makings
+mod Beginnings
+mod Told
+pub mod Shown
+mod Runs

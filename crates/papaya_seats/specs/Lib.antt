@@ -1,0 +1,8 @@
+pub mod Answers
+pub mod Made
+pub mod Looking
+pub mod Making
+pub mod Kinds
+pub mod Steps
+pub mod Calling
+pub mod Asking
