@@ -13,7 +13,6 @@ use Rattle.papaya_views.specs.Given.ResizeDeclared.lookup.Lookup.{Lookup}
 use Rattle.papaya_views.specs.Given.ResizeDeclared.new_map.NewMap.{NewMap}
 use Rattle.papaya_views.specs.Given.RawCallPoints.{getting, standing}
 use Rattle.papaya_views.specs.Given.RawDeclared.machines.call.Calling.TheVariants.{Looks}
-use Rattle.papaya_views.specs.Given.RawDeclared.machines.asking.Reply.{Reply}
 use Rattle.papaya_views.specs.Given.RawDeclared.machines.call.KeyCall.{KeyCall}
 use Rattle.papaya_views.specs.Given.RawDeclared.machines.machine.Machine.{Machine}
 use Rattle.papaya_views.specs.Given.RawDeclared.machines.machine.Machine.TheVariants.{Key}
@@ -21,12 +20,12 @@ use Rattle.papaya_views.specs.Given.ActsActs.{Wanted, Get}
 use Rattle.papaya_views.specs.Given.SeizeViewsDeclared.view.Fixed.{Fixed}
 use Rattle.papaya_views.specs.Given.SeizeViewsDeclared.view.Has.TheVariants.{Nothing as NoBlock}
 use Rattle.papaya_views.specs.Given.SeizeViewsDeclared.view.View.TheVariants.{Rests, Inside}
-use Rattle.papaya_views.specs.Begun.{machine_for, making, replied}
+use Rattle.papaya_views.specs.Begun.{machine_for, making}
 use Rattle.papaya_views.specs.Rule.{Holds, KeepsFor}
 use Rattle.papaya_views.specs.declared.view.Map.{Map}
 use Rattle.papaya_views.specs.declared.view.View.{View}
 use Rattle.papaya_views.specs.declared.view.Work.TheVariants.{Nothing, Calls}
-use Rattle.papaya_views.proofs.Laws.{calls_are_told, calls_begin, makings_begin}
+use Rattle.papaya_views.proofs.Laws.{calls_begin, makings_begin}
 use Rattle.papaya_seats.specs.Calling.{IsUnderWay, MayDo, wanted_of}
 use Rattle.papaya_seats.specs.Kinds.{Kind, Stage}
 use Rattle.papaya_seats.specs.Looking.{Begins, IsOn, LooksFor, MayLook, StaysThere}
@@ -65,13 +64,6 @@ module _ {K V S : Type 0} (plans : S → NewMap → Type 0) (hasher : S) (openin
     slot = came.slot ∙ ap (λ (x : View K V S). x.slot) begins.4;
     calls = came.calls ∙ ap (λ (x : View K V S). x.calls) begins.4;
   }
-
-module _ {K V S : Type 0} (same : K → K → Bool) (hash : S → K → ℕ) (fixed : Fixed) (id : ℕ) (v : View K V S) where
-  -- its call may be told this
-  pub may_tell : (map : Map S) (machine : Machine K V K) (reply : Reply V) → v.map ≡ Some map → v.work ≡ Calls machine
-      → Turns (Holds same hash fixed) KeepsFor id v (λ w. (v.work ≡ Calls machine) × (w ≡ replied v machine reply))
-  may_tell map machine reply knows works =
-      turns_to same hash fixed id v _ (λ w. (v.work ≡ Calls machine) × (w ≡ replied v machine reply)) (λ w e. (works, e)) (calls_are_told V same hash fixed id v map machine reply knows works)
 
 module _ {K V S : Type 0} (same : K → K → Bool) (hash : S → K → ℕ) (key : K) where
   -- what has begun is a lookup of this key

@@ -7,13 +7,11 @@ mod Pairs
 mod Asked
 mod Filled
 mod Asking
-mod Telling
 mod Calls
 mod Calling
 mod Handing
 mod Lookups
 mod Makings
 mod Beginnings
-mod Told
 pub mod Shown
 mod Runs

@@ -3,6 +3,4 @@ pub mod Made
 pub mod Looking
 pub mod Making
 pub mod Kinds
-pub mod Steps
 pub mod Calling
-pub mod Asking

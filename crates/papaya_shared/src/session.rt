@@ -13,7 +13,6 @@ ghost use Rattle.papaya_views.specs.declared.view.Work.TheVariants.{Nothing as N
 ghost use Rattle.papaya_views.specs.Given.SeizeViewsDeclared.view.Has.TheVariants.{Nothing};
 ghost use Rattle.papaya_views.specs.Given.SeizeViewsDeclared.view.View.TheVariants.{Inside, Outside, Rests};
 
-mod asks;
 mod keys;
 
 use crate::caller::Caller;

@@ -1,10 +1,10 @@
 //! Two threads store pairs of the same keys where these are missing, and remove them.
 ghost use Rattle.std.specs.Prelude.{◌≡◌};
 ghost use Rattle.papaya_shared.specs.Given.SeizeViewsDeclared.view.Has.TheVariants.{Nothing};
-ghost use Rattle.papaya_shared.specs.Given.SeizeViewsDeclared.view.View.TheVariants.{Inside, Rests};
+ghost use Rattle.papaya_shared.specs.Given.SeizeViewsDeclared.view.View.TheVariants.{Inside};
 
-use papaya_shared::{Fixed, Session, Attempt, memory_for};
-use std::hash::{BuildHasherDefault, DefaultHasher};
+use crate::resting::{Hashing, Resting};
+use papaya_shared::{Attempt, Fixed, Session, memory_for};
 use std::sync::Wait;
 use std::test::Fail;
 use std::thread;
@@ -17,8 +17,6 @@ const CHOSEN: Fixed = Fixed {
 
 /// How many keys there are.
 const KEYS: u64 = 400;
-
-type Hashing = BuildHasherDefault<DefaultHasher>;
 
 /// How many of the keys it has stored with this value because they were missing, if none was refused and each pair that was not stored came back.
 fn stores<R: Wait>(rt: &R, session: &mut Session<'_, u64, u64, Hashing>, value: u64) -> Option<u64>
@@ -77,15 +75,8 @@ struct Done {
 }
 
 /// Stores what is missing, in a section of a slot that it takes, counts what is there, and removes it, where it is to.
-fn works<R: Wait>(
-    rt: &R,
-    session: Session<'_, u64, u64, Hashing>,
-    value: u64,
-    remove: bool,
-) -> Option<Done>
-    requires { session.caller.seat.view.slot ≡ Rests }
-{
-    let mut session = session;
+fn works<R: Wait>(rt: &R, resting: Resting<'_>, value: u64, remove: bool) -> Option<Done> {
+    let mut session = resting.session();
     if session.register().is_err() {
         return None;
     }
@@ -124,8 +115,13 @@ fn of_two_that_try_to_store_a_key_one_does(rt: HostRuntime) -> Result<(), Fail> 
     let Ok(mut first) = Session::open(&home.blocks, &hashing, &CHOSEN, 64, 4) else {
         return Err(Fail::new("no map was made"));
     };
-    let second = first.session();
-    let third = first.session();
+    let second = Resting {
+        session: first.session(),
+    };
+    let third = Resting {
+        session: first.session(),
+    };
+    let first = Resting { session: first };
     let (one, other) = thread::join(
         &rt,
         || works(&rt, first, 1, false),
@@ -160,8 +156,13 @@ fn a_pair_that_two_threads_remove_is_removed_once(rt: HostRuntime) -> Result<(),
     let Ok(mut first) = Session::open(&home.blocks, &hashing, &CHOSEN, 64, 4) else {
         return Err(Fail::new("no map was made"));
     };
-    let second = first.session();
-    let third = first.session();
+    let second = Resting {
+        session: first.session(),
+    };
+    let third = Resting {
+        session: first.session(),
+    };
+    let first = Resting { session: first };
     let (one, other) = thread::join(
         &rt,
         || works(&rt, first, 1, true),

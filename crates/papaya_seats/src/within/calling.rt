@@ -2,7 +2,6 @@
 ghost use Rattle.std.specs.Prelude.{◌≡◌, ℕ, true, false, Some, IfErr, IfNone, IfSome};
 ghost use Rattle.papaya_seats.specs.Calling.{CalledSo, HasCalled, HasEnded, IsCalling, IsGoing, IsNoQuestion, IsUnderWay, MachineStores, MayCall, TellsSo, handed_by, outcome_of, wanted_of};
 ghost use Rattle.papaya_seats.specs.Kinds.{Kind, Stage};
-ghost use Rattle.papaya_seats.specs.Steps.{HasStepped};
 ghost use Rattle.papaya_seats.specs.Looking.{Begins, HasTold, StaysThere};
 ghost use Rattle.papaya_seats.specs.Made.{IsSameSeat};
 ghost use Rattle.papaya_views.specs.Given.TablesChunks.{is_incremental};
@@ -63,9 +62,8 @@ impl<'a, K: Eq + Hash + Drop, V: Drop, S: Hashes<K>> Within<'a, K, V, S> {
     }
 
     /// Takes the next step of its call.
-    pub(super) fn steps(&mut self, machine: &mut Machine<K, V>, hasher: &S) -> Progress<Node<K, V>>
+    fn steps(&mut self, machine: &mut Machine<K, V>, hasher: &S) -> Progress<Node<K, V>>
         requires calls { (k : Kind) × (s : Stage) × IsUnderWay k s hasher.now machine.old self.old.seat.now.view }
-        ensures by { HasStepped K.eq S.hash self.old.seat.now.view self.new.seat.now.view }
         ensures told { (k : Kind) (s : Stage) → IsUnderWay k s hasher.now machine.old self.old.seat.now.view → TellsSo k s hasher.now machine.new result self.new.seat.now.view }
         ensures calls { HasTold result self.old.seat.now.view self.new.seat.now.view }
         ensures step { MayCome (machine_plan K.eq K.eq (S.hash hasher.now) machine.old) (machine.new, result) }
@@ -96,7 +94,7 @@ impl<'a, K: Eq + Hash + Drop, V: Drop, S: Hashes<K>> Within<'a, K, V, S> {
     }
 
     /// What its call has come to.
-    pub(super) fn ran(&self, told: Result<Answer, Fault>, unstored: Option<Node<K, V>>) -> Ran<K, V>
+    fn ran(&self, told: Result<Answer, Fault>, unstored: Option<Node<K, V>>) -> Ran<K, V>
         ensures told { result.told ≡ told }
         ensures unstored { result.unstored ≡ unstored }
     {
@@ -139,7 +137,7 @@ impl<'a, K: Eq + Hash + Drop, V: Drop, S: Hashes<K>> Within<'a, K, V, S> {
     }
 
     /// Begins this call on the map that it knows, which is in incremental mode, within its section.
-    pub(super) fn begins(&mut self, machine: &Machine<K, V>)
+    fn begins(&mut self, machine: &Machine<K, V>)
         requires inside { (t : ℕ) × (self.old.seat.now.view.slot ≡ Inside t Nothing) }
         requires knows { (map : Map S) × (self.old.seat.now.view.map ≡ Some map) × (is_incremental map.setting.mode ≡ true) }
         requires free { self.old.seat.now.view.work ≡ NoWork }

@@ -1,9 +1,6 @@
 //! A caller is sent to make a map, to look a key up, and to run a call on one key.
-ghost use Rattle.std.specs.Prelude.{◌≡◌, IsSome, Some, false};
-ghost use Rattle.std.specs.Fn.{FnOnceReturns, FnReturnsAtPair};
-ghost use Rattle.papaya_seats.specs.Asking.{HasAsked, MakingSays, TestSays, makes_pair as kind_that_makes, removes_if as kind_that_tests};
-ghost use Rattle.papaya_seats.specs.Calling.{HasCalled, MayCall, MayDo, wanted_of};
-ghost use Rattle.papaya_seats.specs.Kinds.{Stage};
+ghost use Rattle.std.specs.Prelude.{◌≡◌, IsSome, Some};
+ghost use Rattle.papaya_seats.specs.Calling.{HasCalled, MayCall, wanted_of};
 ghost use Rattle.papaya_seats.specs.Looking.{HasFound, MayLook};
 ghost use Rattle.papaya_seats.specs.Making.{CameTo, MayBegin};
 ghost use Rattle.papaya_views.specs.Looks.{shown_in};
@@ -15,7 +12,7 @@ ghost use Rattle.papaya_views.specs.Given.SeizeViewsDeclared.view.View.TheVarian
 use crate::caller::Caller;
 use papaya_raw::machines::Machine;
 use papaya_resize::{Lookup, NewMap};
-use papaya_seats::{Does, Finds, Makes, MakesPair, Ran, RemovesIf};
+use papaya_seats::{Does, Finds, Makes, Ran};
 use papaya_tables::{Hashes, Node, Setting};
 use seize_words::Fault;
 use std::hash::Hash;
@@ -62,64 +59,6 @@ impl<'a, K: Eq + Hash + Drop, V: Drop, S: Hashes<K>> Caller<'a, K, V, S> {
                 hasher,
                 machine,
                 near: self.near,
-            },
-        );
-        self.near = ran.near;
-        ran
-    }
-}
-
-impl<'a, K: Eq + Hash + Drop, V: Drop, S: Hashes<K>> Caller<'a, K, V, S> {
-    /// Stores a value that is made where the key is missing.
-    pub(crate) fn makes_pair<R: Wait, F: FnOnce() -> V>(
-        &mut self,
-        rt: &R,
-        hasher: &S,
-        machine: Machine<K, V>,
-        make: F,
-    ) -> Ran<K, V>
-        requires may { (s : Stage) × (s.told ≡ false) × MayDo K.eq S.hash kind_that_makes s hasher.now machine self.old.seat.view }
-        requires callable { F.pre make }
-        ensures called { HasCalled K.eq S.hash (wanted_of machine) result.told result.unstored self.old.seat.view self.new.seat.view }
-        ensures asked { HasAsked K.eq S.hash (MakingSays (FnOnceReturns F.FnOnce make tt)) (wanted_of machine) self.old.seat.view self.new.seat.view }
-        ensures blocks { self.new.blocks ≡ self.old.blocks }
-    {
-        let ran = self.blocks.errand(
-            &mut self.seat,
-            MakesPair {
-                rt,
-                hasher,
-                machine,
-                near: self.near,
-                make,
-            },
-        );
-        self.near = ran.near;
-        ran
-    }
-
-    /// Removes the pair of the key, if this test says yes of it.
-    pub(crate) fn removes_if<R: Wait, F: Fn(&K, &V) -> bool>(
-        &mut self,
-        rt: &R,
-        hasher: &S,
-        machine: Machine<K, V>,
-        test: &F,
-    ) -> Ran<K, V>
-        requires may { (s : Stage) × MayDo K.eq S.hash kind_that_tests s hasher.now machine self.old.seat.view }
-        requires callable { F.IsAlwaysCallable test.now }
-        ensures called { HasCalled K.eq S.hash (wanted_of machine) result.told result.unstored self.old.seat.view self.new.seat.view }
-        ensures asked { HasAsked K.eq S.hash (TestSays (FnReturnsAtPair F.Fn test.now)) (wanted_of machine) self.old.seat.view self.new.seat.view }
-        ensures blocks { self.new.blocks ≡ self.old.blocks }
-    {
-        let ran = self.blocks.errand(
-            &mut self.seat,
-            RemovesIf {
-                rt,
-                hasher,
-                machine,
-                near: self.near,
-                test,
             },
         );
         self.near = ran.near;

@@ -32,7 +32,7 @@ fn is_stored(answer: &Answer) -> bool
 }
 
 /// Whether a pair was removed.
-pub(super) fn is_removed(answer: &Answer) -> bool
+fn is_removed(answer: &Answer) -> bool
     ensures { result ≡ removes answer.now }
 {
     matches!(answer, Answer::Key(KeyAnswer::Removed(_)))
@@ -47,10 +47,7 @@ fn pair_of<K: Drop, V: Drop>(unstored: Option<Node<K, V>>) -> Option<(K, V)> {
 }
 
 /// What came of it, by what its call has answered.
-pub(super) fn came_of<K: Drop, V: Drop>(
-    answer: &Answer,
-    unstored: Option<Node<K, V>>,
-) -> Attempt<K, V>
+fn came_of<K: Drop, V: Drop>(answer: &Answer, unstored: Option<Node<K, V>>) -> Attempt<K, V>
     ensures { has_stored result ≡ stores answer.now }
 {
     if is_stored(answer) {
