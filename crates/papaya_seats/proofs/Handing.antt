@@ -1,6 +1,6 @@
--- A call that is to store a pair has it, until it has put it into the map, or hands it back: where it is refused, the pair has come back.
-use Rattle.std.specs.Prelude.{Option, Some, None, Result, Ok, Err, IfErr}
-use Rattle.std.proofs.Common.{◌≡◌, ℕ, Bool, List, ◌⊎◌, inl, inr, refl, sym, subst, ap, ◌∙◌}
+-- A call that is to store a pair has it, until it has put it into the map, or hands it back: where its outcome is not that it is there, the pair has come back.
+use Rattle.std.specs.Prelude.{Option, Some, None, Result, Ok, Err}
+use Rattle.std.proofs.Common.{◌≡◌, ℕ, Bool, true, false, List, ◌⊎◌, inl, inr, refl, sym, subst, ap, ◌∙◌}
 use Rattle.seize_words.specs.Mem.{Mem, Took, value_at}
 use Rattle.papaya_views.specs.Given.SeizeWordsPlan.{Plan, Turn, Do, Steps, plan_as}
 use Rattle.papaya_views.specs.Given.SeizeWordsDeclared.fault.Fault.{Fault}
@@ -13,15 +13,19 @@ use Rattle.papaya_views.specs.Given.RawDeclared.machines.call.KeyCall.{KeyCall}
 use Rattle.papaya_views.specs.Given.RawDeclared.machines.call.Calling.{Calling}
 use Rattle.papaya_views.specs.Given.RawDeclared.machines.machine.Machine.{Machine}
 use Rattle.papaya_views.specs.Given.RawDeclared.machines.machine.Machine.TheVariants as kinds
+use Rattle.papaya_views.specs.Given.RawDeclared.machines.answer.KeyAnswer.{KeyAnswer}
+use Rattle.papaya_views.specs.Given.RawDeclared.machines.answer.KeyAnswer.TheVariants as answers
 use Rattle.papaya_views.specs.Given.RawDeclared.machines.progress.Answer.{Answer}
+use Rattle.papaya_views.specs.Given.RawDeclared.machines.progress.Answer.TheVariants.{Key as OfKey}
 use Rattle.papaya_views.specs.Given.RawDeclared.machines.progress.Progress.{Progress}
 use Rattle.papaya_views.specs.Given.RawDeclared.machines.progress.Progress.TheVariants as progress
 use Rattle.papaya_views.specs.Given.RawProgress.{of_called}
 use Rattle.papaya_views.specs.Told.{HandsBack, MayCome, pair_in}
 use Rattle.papaya_views.specs.declared.view.Run.{Run}
+use Rattle.papaya_owned.specs.Owned.{PutsIt}
 use Rattle.papaya_owned.proofs.Owned.ComesBack.{TellsEnd, over_tells}
 use Rattle.papaya_owned.proofs.Owned.HandsBack.{HasPair, HasPairAt, IsOver, KeepsPair, pair_kept}
-use Rattle.papaya_seats.specs.Calling.{IsGoing, IsToStore, MachineStores, handed_by, outcome_of}
+use Rattle.papaya_seats.specs.Calling.{IsBack, IsGoing, IsToStore, MachineStores, handed_by, is_put, outcome_of}
 use Rattle.papaya_seats.proofs.Plans.{ends_as}
 
 -- a step whose outcome is turned into another one comes to what that is of
@@ -29,6 +33,13 @@ steps_as : {T A B : Type 0} (f : A → B) (m n : Mem T) (plan : Plan T A) (end :
     → (e : A) × Steps Took value_at m plan n e × (end ≡ f e)
 steps_as f m n (Turn rest) end s = let k = ends_as f (value_at n) rest end s.1 in (k.0, (s.0, k.1), k.2)
 steps_as f m n (Do op rest) end s = let k = ends_as f (value_at n) (rest s.0) end s.2 in (k.0, (s.0, s.1, k.1), k.2)
+
+puts : (answer : KeyAnswer) → PutsIt answer → is_put (OfKey answer) ≡ true
+puts (answers.Stored word) is = refl
+puts (answers.Replaced old new) is = refl
+puts (answers.Found word) is = absurd is
+puts answers.Absent is = absurd is
+puts (answers.Removed word) is = absurd is
 
 module _ {K V : Type 0} where
   abbrev HasIt : Machine K V K → Type 0
@@ -46,8 +57,8 @@ module _ {K V : Type 0} where
   -- so it is after a step, by what that tells
   abbrev pub HasNext : Node K V → Machine K V K → Option (Node K V) → Progress (Node K V) → Type 0
   HasNext pair machine back (progress.Unstored value) = StillHas pair machine (Some value)
-  HasNext pair machine back (progress.Done answer) = Unit {0}
-  HasNext pair machine back (progress.Refused fault) = back ≡ Some pair
+  HasNext pair machine back (progress.Done answer) = IsBack pair (Ok answer) back
+  HasNext pair machine back (progress.Refused fault) = IsBack pair (Err fault) back
   HasNext pair machine back (progress.Asks asked) = ⊥
   HasNext pair machine back told = StillHas pair machine back
 
@@ -59,7 +70,7 @@ module _ {K V : Type 0} where
     has_by runs is c (tells.Gave value) keeps hands = inr keeps
     has_by runs is c (tells.Unstored value) keeps hands = inl (ap Some (hands pair is), keeps)
     has_by runs is c (tells.Asks asked) keeps hands = keeps
-    has_by runs is c (tells.Done answer) keeps hands = tt
+    has_by runs is c (tells.Done answer) keeps hands = λ e. let put = puts answer keeps in absurd (cc (put, e))
     has_by runs is c (tells.Refused fault) keeps hands = absurd keeps
 
     back_by : (c : KeyCall K V K) (told : Called (Node K V)) → TellsEnd told → back ≡ Some pair → HasNext pair (kinds.Key c) back (of_called told)
@@ -68,7 +79,7 @@ module _ {K V : Type 0} where
     back_by c (tells.Gave value) end is = absurd end
     back_by c (tells.Unstored value) end is = absurd end
     back_by c (tells.Asks asked) end is = absurd end
-    back_by c (tells.Done answer) end is = tt
+    back_by c (tells.Done answer) end is = λ e. is
     back_by c (tells.Refused fault) end is = is
 
     module _ (same : K → K → Bool) (hashes : K → ℕ) (runs : List (Run K V)) (its : pair_in runs ≡ Some pair) where
@@ -120,12 +131,13 @@ module _ {K V : Type 0} where
   handed_at_last (Ok answer) told back is = ap (λ (t : Progress (Node K V)). handed_by t back) is
   handed_at_last (Err fault) told back is = ap (λ (t : Progress (Node K V)). handed_by t back) is
 
-  -- where the call was refused that was to store it, it has come back
+  -- so it is with the outcome
   pub back_at_last : (pair : Node K V) (machine : Machine K V K) (unstored back : Option (Node K V)) (told : Progress (Node K V)) (answer so : Result Answer Fault) → told ≡ outcome_of answer
-      → HasNext pair machine unstored told → so ≡ answer → back ≡ unstored → IfErr so (λ fault. back ≡ Some pair)
-  back_at_last pair machine unstored back told (Ok answer) so is has same kept = subst (λ (r : Result Answer Fault). IfErr r (λ fault. back ≡ Some pair)) (sym same) tt
+      → HasNext pair machine unstored told → so ≡ answer → back ≡ unstored → IsBack pair so back
+  back_at_last pair machine unstored back told (Ok answer) so is has same kept =
+      subst (λ (r : Result Answer Fault). IsBack pair r back) (sym same) (λ e. kept ∙ subst (λ (t : Progress (Node K V)). HasNext pair machine unstored t) is has e)
   back_at_last pair machine unstored back told (Err fault) so is has same kept =
-      subst (λ (r : Result Answer Fault). IfErr r (λ fault. back ≡ Some pair)) (sym same) (kept ∙ subst (λ (t : Progress (Node K V)). HasNext pair machine unstored t) is has)
+      subst (λ (r : Result Answer Fault). IsBack pair r back) (sym same) (kept ∙ subst (λ (t : Progress (Node K V)). HasNext pair machine unstored t) is has)
 
   pub has_it : (pair : Node K V) (machine : Machine K V K) (back : Option (Node K V)) → MachineStores pair machine → StillHas pair machine back
   has_it pair (kinds.Key c) back is = inr (has_first pair c is)

@@ -1,5 +1,5 @@
 -- What the calls of a seat have told, from step to step.
-use Rattle.std.specs.Prelude.{List, [], ◌∷◌, Option, Some, Result, Ok, Err, IfErr}
+use Rattle.std.specs.Prelude.{List, [], ◌∷◌, Option, Some, Result, Ok, Err}
 use Rattle.std.proofs.Common.{◌≡◌, ℕ, Bool, refl, sym, subst, ap, ◌∙◌}
 use Rattle.papaya_views.specs.Given.ActsActs.{Wanted, Get, Remove, Insert, TryToInsert, Compute, Update, UpdateOrInsert, TryToInsertWith, RemoveIf, GetKeyValue, ContainsKey, GetOrInsert, GetOrInsertWith, RemoveEntry, MakeRoom, Count, GoOver}
 use Rattle.papaya_views.specs.Given.SeizeWordsDeclared.fault.Fault.{Fault}
@@ -13,7 +13,7 @@ use Rattle.papaya_views.specs.declared.view.Run.{Run}
 use Rattle.papaya_views.specs.declared.view.View.{View}
 use Rattle.papaya_views.specs.declared.view.Work.TheVariants.{Nothing}
 use Rattle.papaya_views.proofs.Pairs.{newest_pair}
-use Rattle.papaya_seats.specs.Calling.{CalledSo, ComesBack, HasEnded, IsCalling, IsGoing, IsNoQuestion, outcome_of, pair_wanted}
+use Rattle.papaya_seats.specs.Calling.{CalledSo, ComesBack, HasEnded, IsBack, IsCalling, IsGoing, IsNoQuestion, outcome_of, pair_wanted}
 use Rattle.papaya_seats.specs.Looking.{Begins, HasRun, HasTold, IsOfThem}
 
 retold : {K V : Type 0} (told before : Progress (Node K V)) (runs : List (Run K V)) → newest_told told (newest_told before runs) ≡ newest_told told runs
@@ -58,9 +58,8 @@ module _ {K V S : Type 0} where
 
   -- so that is what has come back
   pub comes_back : (same : K → K → Bool) (hash : S → K → ℕ) (wanted : Wanted K V) (told : Result Answer Fault) (back : Option (Node K V)) (u v : View K V S) → Begins same hash wanted u v
-      → ((pair : Node K V) → pair_wanted wanted ≡ Some pair → pair_in v.calls ≡ Some pair → IfErr told (λ fault. back ≡ Some pair)) → ComesBack wanted told back
-  comes_back same hash wanted (Ok answer) back u v begins is = tt
-  comes_back same hash wanted (Err fault) back u v begins is = λ pair its. is pair its (stores_it same hash wanted pair u v its begins)
+      → ((pair : Node K V) → pair_wanted wanted ≡ Some pair → pair_in v.calls ≡ Some pair → IsBack pair told back) → ComesBack wanted told back
+  comes_back same hash wanted told back u v begins is = λ pair its. is pair its (stores_it same hash wanted pair u v its begins)
 
   -- the pair that the newest call began with is the same, whatever that has told
   pub same_pair : (u v : View K V S) → IsOfThem u v → pair_in v.calls ≡ pair_in u.calls

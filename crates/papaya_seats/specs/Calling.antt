@@ -1,5 +1,5 @@
 -- What a seat knows while a call on one key is under way, and once it has ended.
-use Rattle.std.specs.Prelude.{◌≡◌, ◌<◌, ◌^◌, ℕ, Bool, true, false, Option, Some, None, Result, Ok, Err, IfErr}
+use Rattle.std.specs.Prelude.{◌≡◌, ◌<◌, ◌^◌, ℕ, Bool, true, false, Option, Some, None, Result, Ok, Err}
 use Rattle.papaya_views.specs.Given.SeizeWordsDeclared.fault.Fault.{Fault}
 use Rattle.papaya_views.specs.Given.TablesChunks.{is_incremental}
 use Rattle.papaya_views.specs.Given.TablesDeclared.node.Node.{Node}
@@ -80,9 +80,20 @@ pair_wanted (Insert key value) = Some (Pair key value)
 pair_wanted (TryToInsert key value) = Some (Pair key value)
 pair_wanted _ = None
 
--- where a call was refused that was to store a pair, the pair has come back
+-- an answer with which the call's own pair is in the map
+abbrev pub is_put : Answer → Bool
+is_put (OfKey (answers.Stored word)) = true
+is_put (OfKey (answers.Replaced old new)) = true
+is_put _ = false
+
+-- with any other outcome the pair has come back
+abbrev pub IsBack : {T : Type 0} → T → Result Answer Fault → Option T → Type 0
+IsBack pair (Ok answer) back = is_put answer ≡ false → back ≡ Some pair
+IsBack pair (Err fault) back = back ≡ Some pair
+
+-- that is so of a pair that a call was to store
 abbrev pub ComesBack : {K V : Type 0} → Wanted K V → Result Answer Fault → Option (Node K V) → Type 0
-ComesBack {K} {V} wanted answer back = IfErr answer (λ fault. (pair : Node K V) → pair_wanted wanted ≡ Some pair → back ≡ Some pair)
+ComesBack {K} {V} wanted answer back = (pair : Node K V) → pair_wanted wanted ≡ Some pair → IsBack pair answer back
 
 -- what a call that has ended has told
 abbrev pub outcome_of : {T : Type 0} → Result Answer Fault → Progress T

@@ -1,9 +1,11 @@
 -- A session may store a pair, store one where its key is missing, and remove one: calls on one key that ask nothing.
-use Rattle.std.specs.Prelude.{◌<◌, ◌^◌, Option, Some, Result, Err}
-use Rattle.std.proofs.Common.{◌≡◌, ℕ, Bool, true, false, inr, refl, sym, subst}
+use Rattle.std.specs.Prelude.{◌<◌, ◌^◌, Option, Result, Ok, Some}
+use Rattle.std.proofs.Common.{◌≡◌, ℕ, Bool, true, false, inr, refl, sym, subst, ◌∙◌}
+use Rattle.papaya_views.proofs.Given.SeizeActsAnswers.{same_some}
 use Rattle.papaya_views.specs.Given.SeizeWordsDeclared.fault.Fault.{Fault}
 use Rattle.papaya_views.specs.Given.TablesChunks.{is_incremental}
 use Rattle.papaya_views.specs.Given.TablesDeclared.node.Node.{Node}
+use Rattle.papaya_views.specs.Given.TablesDeclared.node.Node.TheVariants.{Pair}
 use Rattle.papaya_views.specs.Given.TablesDeclared.setting.Setting.{Setting}
 use Rattle.papaya_views.specs.Given.ActsActs.{Insert, Remove, TryToInsert}
 use Rattle.papaya_views.specs.Given.RawCallPoints.{inserting, removing, trying_to_insert}
@@ -17,9 +19,12 @@ use Rattle.papaya_views.specs.Given.SeizeViewsDeclared.view.Has.TheVariants.{Not
 use Rattle.papaya_views.specs.Given.SeizeViewsDeclared.view.View.TheVariants.{Inside}
 use Rattle.papaya_views.specs.declared.view.View.{View}
 use Rattle.papaya_views.specs.declared.view.Work.TheVariants.{Nothing}
-use Rattle.papaya_seats.specs.Calling.{ComesBack, HasCalled, IsToStore, MachineStores, MayCall, outcome_of, pair_wanted, wanted_of}
+use Rattle.papaya_seats.specs.Calling.{HasCalled, IsBack, IsToStore, MachineStores, MayCall, is_put, outcome_of, pair_wanted, wanted_of}
 use Rattle.papaya_seats.specs.Looking.{HasRun}
 use Rattle.papaya_seats.specs.Kinds.{Kind, Stage}
+use Rattle.papaya_shared.specs.Answers.{CameBack, IsOutOf, has_stored}
+use Rattle.papaya_shared.specs.declared.session.keys.Attempt.{Attempt}
+use Rattle.papaya_shared.specs.declared.session.keys.Attempt.TheVariants.{Stored, Present}
 use Rattle.papaya_shared.specs.Standing.{known_by}
 use Rattle.papaya_shared.proofs.Sessions.{may_do}
 
@@ -90,9 +95,16 @@ ran_by {K} {V} same hash {call} {made} {answer} {told} v w is says called =
     subst (λ (c : KeyCall K V K). HasRun same hash (wanted_of (Key c)) (outcome_of told) v w) is
     (subst (λ (r : Result Answer Fault). HasRun same hash (wanted_of (Key call)) (outcome_of r) v w) says called.ran)
 
--- and where it was refused, its pair has come back
-pub back_by : {K V S : Type 0} (same : K → K → Bool) (hash : S → K → ℕ) {call made : KeyCall K V K} {answer : Result Answer Fault} {fault : Fault} {unstored : Option (Node K V)} (v w : View K V S) → call ≡ made
-    → answer ≡ Err fault → HasCalled same hash (wanted_of (Key call)) answer unstored v w → (pair : Node K V) → pair_wanted (wanted_of (Key made)) ≡ Some pair → unstored ≡ Some pair
-back_by {K} {V} same hash {call} {made} {answer} {fault} {unstored} v w is says called pair wanted =
-    subst (λ (r : Result Answer Fault). ComesBack (wanted_of (Key call)) r unstored) says called.back pair
-    (subst (λ (c : KeyCall K V K). pair_wanted (wanted_of (Key c)) ≡ Some pair) (sym is) wanted)
+-- and its pair has come back, unless it is in the map
+pub back_by : {K V S : Type 0} (same : K → K → Bool) (hash : S → K → ℕ) {call made : KeyCall K V K} {answer told : Result Answer Fault} {unstored : Option (Node K V)} (v w : View K V S) → call ≡ made
+    → answer ≡ told → HasCalled same hash (wanted_of (Key call)) answer unstored v w → (pair : Node K V) → pair_wanted (wanted_of (Key made)) ≡ Some pair → IsBack pair told unstored
+back_by {K} {V} same hash {call} {made} {answer} {told} {unstored} v w is says called pair wanted =
+    subst (λ (r : Result Answer Fault). IsBack pair r unstored) says
+    (called.back pair (subst (λ (c : KeyCall K V K). pair_wanted (wanted_of (Key c)) ≡ Some pair) (sym is) wanted))
+
+-- so it is handed back where it was not stored
+pub came_back : {K V : Type 0} (key : K) (value : V) (attempt : Attempt K V) (answer : Answer) (unstored : Option (Node K V)) → has_stored attempt ≡ is_put answer → IsOutOf unstored attempt
+    → IsBack (Pair key value) (Ok answer) unstored → CameBack key value attempt
+came_back key value Stored answer unstored stored out back = tt
+came_back key value (Present k v) answer unstored stored out back =
+    let e = same_some (Pair k v) (Pair key value) (sym out ∙ back (sym stored)) in (cc e, cc e)

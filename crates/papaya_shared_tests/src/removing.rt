@@ -28,7 +28,7 @@ fn stores<R: Wait>(rt: &R, session: &mut Session<'_, u64, u64, Hashing>, value: 
     for key in 0..KEYS {
         match session.try_insert(rt, key, value) {
             Ok(Attempt::Stored) => stored = u64::wrapping_add(stored, 1),
-            Ok(Attempt::Present(pair)) => back = back && pair == Some((key, value)),
+            Ok(Attempt::Present(k, v)) => back = back && k == key && v == value,
             Err(_) => back = false,
         }
     }

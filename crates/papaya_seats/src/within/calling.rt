@@ -1,6 +1,6 @@
 //! A seat on an errand runs a call on one key.
-ghost use Rattle.std.specs.Prelude.{◌≡◌, ℕ, true, false, Some, IfErr, IfNone, IfSome};
-ghost use Rattle.papaya_seats.specs.Calling.{CalledSo, HasCalled, HasEnded, IsCalling, IsGoing, IsNoQuestion, IsUnderWay, MachineStores, MayCall, TellsSo, handed_by, outcome_of, wanted_of};
+ghost use Rattle.std.specs.Prelude.{◌≡◌, ℕ, true, false, Some, IfNone, IfSome};
+ghost use Rattle.papaya_seats.specs.Calling.{CalledSo, HasCalled, HasEnded, IsBack, IsCalling, IsGoing, IsNoQuestion, IsUnderWay, MachineStores, MayCall, TellsSo, handed_by, outcome_of, wanted_of};
 ghost use Rattle.papaya_seats.specs.Kinds.{Kind, Stage};
 ghost use Rattle.papaya_seats.specs.Looking.{Begins, HasTold, StaysThere};
 ghost use Rattle.papaya_seats.specs.Made.{IsSameSeat};
@@ -109,7 +109,7 @@ impl<'a, K: Eq + Hash + Drop, V: Drop, S: Hashes<K>> Within<'a, K, V, S> {
     fn runs<R: Wait>(&mut self, rt: &R, hasher: &S, machine: Machine<K, V>) -> Ran<K, V>
         requires calls { IsCalling hasher.now machine self.old.seat.now.view }
         ensures ended { HasEnded result.told self.old.seat.now.view self.new.seat.now.view }
-        ensures back { (pair : Node K V) → MachineStores pair machine → pair_in self.old.seat.now.view.calls ≡ Some pair → IfErr result.told (λ fault. result.unstored ≡ Some pair) }
+        ensures back { (pair : Node K V) → MachineStores pair machine → pair_in self.old.seat.now.view.calls ≡ Some pair → IsBack pair result.told result.unstored }
         ensures stays { StaysThere self.old.seat.now.view self.new.seat.now.view }
         ensures same { IsSameSeat self.old self.new }
     {

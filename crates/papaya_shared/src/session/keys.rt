@@ -1,9 +1,10 @@
 //! A session's calls on one key that ask nothing, beside lookups and insertions.
-ghost use Rattle.std.specs.Prelude.{◌≡◌, ℕ, Option, Err, IfErr, IfOk, is_some};
-ghost use Rattle.papaya_seats.specs.Calling.{outcome_of};
+ghost use Rattle.std.specs.Prelude.{◌≡◌, ℕ, Option, Some, Ok, Err, IfErr, IfOk, is_some};
+ghost use Rattle.papaya_seats.specs.Calling.{IsBack, is_put as puts, outcome_of};
 ghost use Rattle.papaya_seats.specs.Looking.{HasRun, found_of};
-ghost use Rattle.papaya_shared.specs.Answers.{HasRemoved, HasTried, has_stored, is_removed as removes, is_stored as stores};
+ghost use Rattle.papaya_shared.specs.Answers.{CameBack, HasRemoved, HasTried, IsOutOf, has_stored, is_removed as removes};
 ghost use Rattle.papaya_views.specs.Given.ActsActs.{ContainsKey, Remove, TryToInsert};
+ghost use Rattle.papaya_views.specs.Given.TablesDeclared.node.Node.TheVariants.{Pair};
 ghost use Rattle.papaya_views.specs.Given.SeizeViewsDeclared.view.Has.TheVariants.{Nothing};
 ghost use Rattle.papaya_views.specs.Given.SeizeViewsDeclared.view.View.TheVariants.{Inside};
 
@@ -21,14 +22,17 @@ pub enum Attempt<K, V> {
     /// It was stored.
     Stored,
     /// The key was there, and the pair comes back.
-    Present(Option<(K, V)>),
+    Present(K, V),
 }
 
-/// Whether a pair was stored where there was none.
-fn is_stored(answer: &Answer) -> bool
-    ensures { result ≡ stores answer.now }
+/// Whether the call's own pair is in the map by this answer.
+fn is_put(answer: &Answer) -> bool
+    ensures { result ≡ puts answer.now }
 {
-    matches!(answer, Answer::Key(KeyAnswer::Stored(_)))
+    matches!(
+        answer,
+        Answer::Key(KeyAnswer::Stored(_) | KeyAnswer::Replaced { .. })
+    )
 }
 
 /// Whether a pair was removed.
@@ -39,22 +43,27 @@ fn is_removed(answer: &Answer) -> bool
 }
 
 /// The key and the value of a pair that was not stored.
-fn pair_of<K: Drop, V: Drop>(unstored: Option<Node<K, V>>) -> Option<(K, V)> {
+fn pair_of<K: Drop, V: Drop>(unstored: Option<Node<K, V>>) -> (K, V)
+    requires back { (key : K) × (value : V) × (unstored ≡ Some (Pair key value)) }
+    ensures { unstored ≡ Some (Pair result.0 result.1) }
+{
     match unstored {
-        Some(Node::Pair(key, value)) => Some((key, value)),
-        _ => None,
+        Some(Node::Pair(key, value)) => (key, value),
+        _ => unreachable!(),
     }
 }
 
 /// What came of it, by what its call has answered.
 fn came_of<K: Drop, V: Drop>(answer: &Answer, unstored: Option<Node<K, V>>) -> Attempt<K, V>
-    ensures { has_stored result ≡ stores answer.now }
+    requires back { (key : K) × (value : V) × IsBack (Pair key value) (Ok answer.now) unstored }
+    ensures stored { has_stored result ≡ puts answer.now }
+    ensures back { IsOutOf unstored result }
 {
-    if is_stored(answer) {
-        Attempt::Stored
-    } else {
-        Attempt::Present(pair_of(unstored))
+    if is_put(answer) {
+        return Attempt::Stored;
     }
+    let (key, value) = pair_of(unstored);
+    Attempt::Present(key, value)
 }
 
 impl<'a, K: Eq + Hash, V, S: Hashes<K>> Session<'a, K, V, S> {
@@ -85,6 +94,7 @@ impl<'a, K: Eq + Hash + Drop, V: Drop, S: Hashes<K>> Session<'a, K, V, S> {
         requires inside { self.old.caller.seat.view.slot ≡ Inside self.old.slot Nothing }
         ensures inside { self.new.caller.seat.view.slot ≡ Inside self.new.slot Nothing }
         ensures tried { IfOk result (λ tried. HasTried K.eq S.hash key value (has_stored tried) self.old.caller.seat.view self.new.caller.seat.view) }
+        ensures present { IfOk result (CameBack key value) }
         ensures refused { IfErr result (λ refused. HasRun K.eq S.hash (TryToInsert key value) (outcome_of (Err refused.fault)) self.old.caller.seat.view self.new.caller.seat.view) }
         ensures back { IfErr result (λ refused. (refused.key ≡ key) × (refused.value ≡ value)) }
         ensures map { self.new.caller.seat.view.map ≡ self.old.caller.seat.view.map }

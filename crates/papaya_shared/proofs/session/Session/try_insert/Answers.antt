@@ -5,7 +5,7 @@ use Rattle.papaya_views.specs.Given.SeizeWordsDeclared.fault.Fault.{Fault}
 use Rattle.papaya_seats.specs.Calling.{outcome_of}
 use Rattle.papaya_seats.specs.Looking.{HasRun}
 use Rattle.papaya_views.specs.Given.TablesDeclared.node.Node.TheVariants.{Pair}
-use Rattle.papaya_shared.proofs.Keys.{may_try, back_by, ran_by}
+use Rattle.papaya_shared.proofs.Keys.{back_by, came_back, may_try, ran_by}
 use Rattle.papaya_shared.proofs.session.Session.try_insert.Goals as goal
 
 pub does-ran-requires : goal.does-ran-requires
@@ -21,8 +21,24 @@ returns-in-Ok-clause-tried g c = (
   c.in-Ok.answer,
   ran_by g.K.PartialEq.eq g.S.Hashes.hash c.args.self.now.caller.seat.view c.does-ran.new.self.seat.view
       c.try_insert-call.ensures c.in-Ok.is c.does-ran.ensures.called,
-  c.came_of.ensures,
+  c.came_of.ensures.stored,
 )
+
+pub came_of-requires : goal.came_of-requires
+came_of-requires g c = record {
+  back = (
+    c.args.key,
+    c.args.value,
+    back_by g.K.PartialEq.eq g.S.Hashes.hash c.args.self.now.caller.seat.view c.does-ran.new.self.seat.view c.try_insert-call.ensures c.in-Ok.is c.does-ran.ensures.called
+        (Pair c.args.key c.args.value) refl,
+  );
+}
+
+pub returns-in-Ok-clause-present : goal.returns-in-Ok-clause-present
+returns-in-Ok-clause-present g c =
+    came_back c.args.key c.args.value c.came_of.result c.in-Ok.answer c.does-ran.result.unstored c.came_of.ensures.stored c.came_of.ensures.back
+    (back_by g.K.PartialEq.eq g.S.Hashes.hash c.args.self.now.caller.seat.view c.does-ran.new.self.seat.view c.try_insert-call.ensures c.in-Ok.is c.does-ran.ensures.called
+    (Pair c.args.key c.args.value) refl)
 
 pub returns-in-Err-clause-refused : goal.returns-in-Err-clause-refused
 returns-in-Err-clause-refused g c =
