@@ -102,9 +102,12 @@ back_by {K} {V} same hash {call} {made} {answer} {told} {unstored} v w is says c
     subst (λ (r : Result Answer Fault). IsBack pair r unstored) says
     (called.back pair (subst (λ (c : KeyCall K V K). pair_wanted (wanted_of (Key c)) ≡ Some pair) (sym is) wanted))
 
+-- two pairs that both have come back are one
+pub one_back : {K V : Type 0} (unstored : Option (Node K V)) (k key : K) (v value : V) → unstored ≡ Some (Pair k v) → unstored ≡ Some (Pair key value) → (k ≡ key) × (v ≡ value)
+one_back unstored k key v value out back = let e = same_some (Pair k v) (Pair key value) (sym out ∙ back) in (cc e, cc e)
+
 -- so it is handed back where it was not stored
 pub came_back : {K V : Type 0} (key : K) (value : V) (attempt : Attempt K V) (answer : Answer) (unstored : Option (Node K V)) → has_stored attempt ≡ is_put answer → IsOutOf unstored attempt
     → IsBack (Pair key value) (Ok answer) unstored → CameBack key value attempt
 came_back key value Stored answer unstored stored out back = tt
-came_back key value (Present k v) answer unstored stored out back =
-    let e = same_some (Pair k v) (Pair key value) (sym out ∙ back (sym stored)) in (cc e, cc e)
+came_back key value (Present k v) answer unstored stored out back = one_back unstored k key v value out (back (sym stored))

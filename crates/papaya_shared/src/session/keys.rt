@@ -135,7 +135,9 @@ impl<'a, K: Eq + Hash + Drop, V: Drop, S: Hashes<K>> Session<'a, K, V, S> {
             near: _,
         } = ran;
         drop(unstored);
-        let answer = told?;
-        Ok(is_removed(&answer))
+        match told {
+            Ok(answer) => Ok(is_removed(&answer)),
+            Err(fault) => Err(fault),
+        }
     }
 }

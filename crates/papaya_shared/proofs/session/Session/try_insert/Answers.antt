@@ -5,7 +5,7 @@ use Rattle.papaya_views.specs.Given.SeizeWordsDeclared.fault.Fault.{Fault}
 use Rattle.papaya_seats.specs.Calling.{outcome_of}
 use Rattle.papaya_seats.specs.Looking.{HasRun}
 use Rattle.papaya_views.specs.Given.TablesDeclared.node.Node.TheVariants.{Pair}
-use Rattle.papaya_shared.proofs.Keys.{back_by, came_back, may_try, ran_by}
+use Rattle.papaya_shared.proofs.Keys.{back_by, came_back, may_try, one_back, ran_by}
 use Rattle.papaya_shared.proofs.session.Session.try_insert.Goals as goal
 
 pub does-ran-requires : goal.does-ran-requires
@@ -13,7 +13,7 @@ does-ran-requires g c =
     let x = c.args.self.now in record {
       may =
           may_try g.K.PartialEq.eq g.S.Hashes.hash x.caller.seat.view x.setting c.setting_in-setting.result x.hasher.now c.args.key c.hash_of-hash.result x.slot c.try_insert-call.result
-          c.requires.inside x.free x.knows x.incremental c.setting_in-setting.ensures c.hash_of-hash.ensures c.type_inv.hash c.args.value c.try_insert-call.ensures;
+          c.requires.inside x.free x.knows x.incremental c.setting_in-setting.ensures c.hash_of-hash.ensures c.hash_of-hash.type_inv c.args.value c.try_insert-call.ensures;
     }
 
 pub returns-in-Ok-clause-tried : goal.returns-in-Ok-clause-tried
@@ -55,3 +55,9 @@ refused-requires g c = record {
         (Pair c.args.key c.args.value) refl,
   );
 }
+
+pub returns-in-Err-clause-back : goal.returns-in-Err-clause-back
+returns-in-Err-clause-back g c =
+    one_back c.does-ran.result.unstored c.refused.result.key c.args.key c.refused.result.value c.args.value c.refused.ensures.back
+    (back_by g.K.PartialEq.eq g.S.Hashes.hash c.args.self.now.caller.seat.view c.does-ran.new.self.seat.view c.try_insert-call.ensures c.in-Err.is c.does-ran.ensures.called
+    (Pair c.args.key c.args.value) refl)
