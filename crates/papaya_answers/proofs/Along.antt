@@ -30,7 +30,6 @@ use Rattle.papaya_moves.proofs.Given.LinearHolding.{AllHolds}
 use Rattle.papaya_moves.proofs.Given.LinearLinear.{wherever_led}
 use Rattle.papaya_moves.proofs.Given.LinearStays.{all_stay, first_holds}
 use Rattle.papaya_moves.proofs.Given.PlayedAlong.{At, Is, StaysSo, far}
-use Rattle.papaya_moves.proofs.Given.PlayedNoted.{CallsAreNoted}
 use Rattle.papaya_moves.proofs.Given.PlayedPlayedAs.{played_as, reclaimed_as}
 use Rattle.papaya_moves.proofs.Given.PlayedTied.{call_tied}
 use Rattle.papaya_answers.proofs.Acts.{IsOther, PairsAreThere, acts_tell, nothing_tells, reclaiming_tells, steps_tell}
@@ -223,7 +222,7 @@ module _ {K S : Type 0} (V : Type 0) (same : K → K → Bool) (by_hasher : S �
         × Tells same seat after (calls_of seat doings y.1 []) (seen_of V same by_hasher batch_size roots slot_of course seat doings first y led None)
     all_tell doings y led own end numbered =
         let w = walk doings [] 0 first (first_state roots) nothing_led y led own end numbered [] None
-        (record { answered = tt; found = λ i memory is. absurd (cc is); under_way = λ m i c of has. absurd (cc has) }) in (
+        (record { answered = tt; found = λ i memory of is. absurd (cc is); under_way = λ m i c of has. absurd (cc has); unanswered = λ m i c of has. absurd (cc has); got = λ i of. refl; last = λ i of. tt }) in (
           w.2,
           w.3,
           subst (λ (l : List (Answer K V)). Tells same seat w.2 (calls_of seat doings l []) (seen_of V same by_hasher batch_size roots slot_of course seat doings first y led None)) (sym w.1) w.4,

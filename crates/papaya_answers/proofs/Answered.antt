@@ -19,11 +19,11 @@ use Rattle.papaya_views.specs.Rule.{MapsWorld, KnowsMap, IsRun, AreRuns, Holds, 
 use Rattle.papaya_views.specs.declared.view.Map.{Map}
 use Rattle.papaya_views.specs.declared.view.Run.{Run}
 use Rattle.papaya_views.specs.declared.view.View.{View}
+use Rattle.papaya_views.proofs.Listed.{its_seat}
 use Rattle.papaya_views.proofs.Numbers.{its_caller}
 use Rattle.papaya_moves.specs.Given.ScenesScene.{Scene, slot_of}
 use Rattle.papaya_moves.specs.Given.SchedulesDeclared.call.Answer.{Answer}
 use Rattle.papaya_moves.specs.Given.SchedulesDeclared.call.Answer.TheVariants as answers
-use Rattle.papaya_moves.specs.Given.SchedulesDeclared.call.Call.{Call}
 use Rattle.papaya_moves.specs.Given.SchedulesDeclared.call.Call.TheVariants.{On}
 use Rattle.papaya_moves.specs.Given.SchedulesDeclared.call.OneKey.{OneKey}
 use Rattle.papaya_moves.specs.Given.SchedulesDeclared.call.OneKey.TheVariants as one_key
@@ -43,13 +43,14 @@ use Rattle.papaya_moves.specs.Given.ScenesStepping.{has_ended}
 use Rattle.papaya_histories.specs.Events.{ComesToIt}
 use Rattle.papaya_answers.specs.Answered.{IsAnswered, SeatsAreAnswered}
 use Rattle.papaya_answers.specs.Lookups.{IsLookedUp, IsSuch, LookupsWereSo}
+use Rattle.papaya_answers.specs.Order.{CallsAreInOrder}
 use Rattle.papaya_answers.proofs.Along.{all_tell}
 use Rattle.papaya_answers.proofs.Legal.{hashes, own}
 use Rattle.papaya_answers.proofs.Tells.{HasAnswered, Tells}
 use Rattle.papaya_answers.proofs.Wanted.{one_root, one_slot, one_wanted}
 
 module _ {K V : Type 0} (seat : ℕ) where
-  abbrev IsIts : Called K V → Type 0
+  abbrev pub IsIts : Called K V → Type 0
   IsIts call = seat_of call.caller ≡ seat
 
   -- the calls of a seat are its callers'
@@ -78,7 +79,7 @@ module _ {K V S : Type 0} (seat : ℕ) where
       by false = all
   then_its _ _ calls all = all
 
-  calls_its : (doings : List (Doing K V S)) (said : List (Told K V)) (calls : List (Called K V)) → AllByRecursion (IsIts seat) calls → AllByRecursion (IsIts seat) (calls_of seat doings said calls)
+  pub calls_its : (doings : List (Doing K V S)) (said : List (Told K V)) (calls : List (Called K V)) → AllByRecursion (IsIts seat) calls → AllByRecursion (IsIts seat) (calls_of seat doings said calls)
   calls_its (doing ∷ doings) (told ∷ said) calls all = calls_its doings said (calls_then seat doing told calls) (then_its doing told calls all)
   calls_its [] said calls all = all
   calls_its (doing ∷ doings) [] calls all = all
@@ -139,7 +140,7 @@ module _ {K V S : Type 0} (same : K → K → Bool) (hash : S → K → ℕ) (fi
     pub same_wanted : wanted ≡ one.wanted
     same_wanted = sym simple ∙ one_wanted same hash map is.map t (slot_of one.caller) wanted one.wanted one_machine ∙ is.plainly
 
-    same_caller : seat_of one.caller ≡ id → caller_at id t ≡ one.caller
+    pub same_caller : seat_of one.caller ≡ id → caller_at id t ≡ one.caller
     same_caller its =
         ap (λ (a : ℕ). caller_at a t) (sym its) ∙ ap (λ (a : ℕ). caller_at (seat_of one.caller) a) (one_slot same hash map is.map t (slot_of one.caller) wanted one.wanted one_machine)
         ∙ its_caller one.caller
@@ -191,30 +192,22 @@ module _ {K V S : Type 0} (same : K → K → Bool) (hash : S → K → ℕ) (fi
       × IsAnswered same after.history (caller_at id t) map.number (call_for wanted) (outcome_of known (kind_of (call_for wanted)) value run.told)
   answered = (tell.0, tell.1, comes.0, comes.1, comes.2.0)
 
-  -- where it has told this of a call on this key, it has come to what that says
-  pub on_key : (key : OneKey K V) (told : Progress (Node K V)) → call_for wanted ≡ On key → run.told ≡ told
-      → (known : Known) × (replies : List (Option ℕ × Reply V)) × (o : Outcome V) × ComesToIt known key replies told o × IsAnswered same history (caller_at id t) map.number (On key) o
-      × ((k : K) (answer : Answer V) → On key ≡ On (one_key.Get k) → o ≡ Answered answer → IsLookedUp same history (caller_at id t) map.number k answer)
-  on_key key told wants tells =
-      let o = outcome comes.0 comes.1 wanted run.told in
-      let says = comes.2.2 key wants in (
-        comes.0,
-        says.0,
-        o,
-        subst (λ (p : Progress (Node K V)). ComesToIt comes.0 key says.0 p o) tells says.1,
-        subst (λ (c : Call K V). IsAnswered same history (caller_at id t) map.number c o) wants comes.2.0,
-        λ k answer is. comes.2.1 k answer (wants ∙ is),
-      )
-
   -- where it looked a key up, and was told this of it
   pub was_so : (key : K) (told : KeyAnswer) → wanted ≡ Get key → run.told ≡ Done (Key told)
       → (after : Played K V S) × (play_all same hash fixed.batch_size fixed.roots aborts s.world.doings (first_state fixed.roots) ≡ Some after) × (answer : Answer V) × IsSuch told answer
       × IsLookedUp same after.history (caller_at id t) map.number key answer
   was_so key told wants tells =
-      let on = on_key (one_key.Get key) (Done (Key told)) (ap call_for wants) tells in
-      let by = such on.0 key on.1 told on.2 on.3 in (tell.0, tell.1, by.0, by.1, on.5 key by.0 refl by.2)
+      let o = outcome comes.0 comes.1 wanted run.told in
+      let on = comes.2.2 (one_key.Get key) (ap call_for wants) in
+      let by = such comes.0 key on.0 told o (subst (λ (p : Progress (Node K V)). ComesToIt comes.0 (one_key.Get key) on.0 p o) tells on.1) in
+      (tell.0, tell.1, by.0, by.1, comes.2.1 key by.0 (ap call_for wants) by.2)
 
 module _ {K S : Type 0} (V : Type 0) (same : K → K → Bool) (hash : S → K → ℕ) where
+  pub calls_are_in_order : CallsAreInOrder V same hash
+  calls_are_in_order fixed small aborts s h id t is =
+      let told = all_tell V same hash (hashes same hash fixed s h) fixed.batch_size fixed.roots small aborts h.course id s.world.doings h.reached h.led (own same hash fixed s h) h.so.fresh.0 h.so.fresh.2 in
+      (told.0, told.1, told.2.got (caller_at id t) (sym (its_seat id t is)))
+
   pub seats_are_answered : SeatsAreAnswered V same hash
   seats_are_answered fixed small aborts id t v map wanted run later before knows calls_are simple began ended s h at_id =
       answered same hash fixed small aborts id t v map wanted run later before knows calls_are simple began ended s h at_id

@@ -4,6 +4,7 @@ mod Legal
 mod Wanted
 mod Lookups
 mod Words
+mod Order
 mod Tells
 mod Acts
 mod Along

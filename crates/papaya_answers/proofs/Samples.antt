@@ -1,12 +1,11 @@
--- Histories worked by hand: a lookup that was answered stands in its history, and was so. And wrong ones, in which it does not stand, or was not so, each refused for its reason.
+-- Histories worked by hand: a lookup that was answered stands in its history, and was so; and so do storings, and answers one for one. And wrong ones, each refused for its reason.
 use Rattle.std.specs.Prelude.{nat_eq}
 use Rattle.std.specs.Option.{is_none}
-use Rattle.std.proofs.Common.{◌≡◌, ℕ, Bool, true, false, List, [], ◌∷◌, ◌⊎◌, inl, inr, refl, sym, subst, ap, ◌∙◌, arith, Option, Some, None}
+use Rattle.std.proofs.Common.{◌≡◌, ℕ, true, false, List, [], ◌∷◌, ◌⊎◌, inl, inr, refl, sym, subst, ap, ◌∙◌, arith, Option, Some, None}
 use Rattle.papaya_views.proofs.Given.SeizeActsAnswers.{same_some}
 use Rattle.papaya_views.specs.Given.TablesDeclared.resize_mode.ResizeMode.TheVariants.{Incremental}
 use Rattle.papaya_moves.specs.Given.SchedulesDeclared.call.Answer.{Answer}
 use Rattle.papaya_moves.specs.Given.SchedulesDeclared.call.Answer.TheVariants as answer
-use Rattle.papaya_moves.specs.Given.SchedulesDeclared.call.Call.{Call}
 use Rattle.papaya_moves.specs.Given.SchedulesDeclared.call.Call.TheVariants.{On}
 use Rattle.papaya_moves.specs.Given.SchedulesDeclared.call.OneKey.TheVariants.{Get, Insert, Remove}
 use Rattle.papaya_moves.specs.Given.SchedulesDeclared.effect.Effect.{Effect}
@@ -19,9 +18,16 @@ use Rattle.papaya_moves.specs.Given.SchedulesSequential.{Meaning, Answers, Leave
 use Rattle.papaya_moves.specs.Given.SchedulesViews.{call_of, finite_map}
 use Rattle.papaya_moves.specs.Given.DeedsDeeds.{Deed, Begins, Steps, Opens, MapComes, Entry, moment, named}
 use Rattle.papaya_moves.specs.Given.DeedsHistory.{moments_from}
-use Rattle.papaya_answers.specs.Answered.{IsAnswered, IsItsEnd}
+use Rattle.papaya_answers.specs.Answered.{ByNewest, IsAnswered, IsItsEnd}
+use Rattle.papaya_moves.specs.Given.ActsActs.{Get as GetsKey}
+use Rattle.papaya_moves.specs.Given.EffectsKnown.{nothing_known}
 use Rattle.papaya_histories.specs.Given.RunsLog.{pair_at}
-use Rattle.papaya_answers.specs.Lookups.{HadValue, IsLookedUp, WasHad, WasSo}
+use Rattle.papaya_views.specs.Given.RawDeclared.machines.answer.KeyAnswer.TheVariants as says
+use Rattle.papaya_views.specs.Given.RawDeclared.machines.progress.Answer.TheVariants.{Key}
+use Rattle.papaya_views.specs.Given.RawDeclared.machines.progress.Progress.TheVariants as progress
+use Rattle.papaya_views.specs.Listed.{Called}
+use Rattle.papaya_answers.specs.Lookups.{IsLookedUp, WasHad, WasSo}
+use Rattle.papaya_answers.specs.Order.{HaveGot}
 
 abbrev entry : Deed ℕ ℕ → Outcome ℕ → List Effect → Entry ℕ ℕ
 entry deed outcome effects = record { deed = deed; outcome = outcome; effects = effects; refused = false }
@@ -162,8 +168,12 @@ missed was =
 found_stored : WasSo nat_eq 3 0 1 (answer.Found 1) (looking stored) (entry (Steps 3) (Answered (answer.Found 1)) [])
 found_stored = record { deed = refl; comes = refl; there = (there (looking stored) refl).0; here = (there (looking stored) refl).1; on = refl; what = refl; so = inl refl }
 
-had_stored : HadValue nat_eq (told (answer.Found 1) stored) 3 0 1 10
-had_stored = inl (record { number = 1; found = found_stored; stored = 1; pair = refl })
+had_stored : ByNewest 3 (WasHad nat_eq 3 0 1 10) (told (answer.Found 1) stored)
+had_stored = record { number = 1; found = found_stored; stored = 1; pair = refl }
+
+-- Wrong: an older lookup of the caller had it, and the newest one is still under way.
+not_the_newest : ByNewest 3 (WasHad nat_eq 3 0 1 10) (entry (Steps 3) Goes [] ∷ looking (told (answer.Found 1) stored)) → ⊥
+not_the_newest was = let goes = was.found.comes in absurd (cc goes)
 
 -- Wrong: another value.
 two_values : (key : ℕ) → ◌≡◌ {A = Option (ℕ × ℕ)} (Some (1, 10)) (Some (key, 11)) → ⊥
@@ -197,3 +207,18 @@ has_stored =
 -- wrong: it says that it has replaced a pair, which was not there.
 has_not_replaced : IsItsEnd nat_eq 1 0 (On (Insert 1 10)) (Answered (answer.Found 5)) storing (entry (Steps 1) (Answered (answer.Found 5)) []) → ⊥
 has_not_replaced is = found_absent 5 is.right.ends
+
+-- A caller whose lookup was told that there was none has got that answer;
+abbrev lookup : Called ℕ ℕ
+lookup = record { caller = 3; map = 0; wanted = GetsKey 1; told = progress.Done (Key says.Absent) }
+
+has_got : HaveGot 3 (lookup ∷ []) ((On (Get 1), answer.Absent) ∷ [])
+has_got = (refl, (nothing_known, None, refl), refl)
+
+-- wrong: two such lookups have got one answer between them;
+one_for_two : HaveGot 3 (lookup ∷ lookup ∷ []) ((On (Get 1), answer.Absent) ∷ []) → ⊥
+one_for_two got = got.2
+
+-- or one has got an answer more than it was told.
+one_too_many : HaveGot 3 (lookup ∷ []) ((On (Get 1), answer.Absent) ∷ (On (Get 1), answer.Absent) ∷ []) → ⊥
+one_too_many got = let rest = got.2 in absurd (cc rest)

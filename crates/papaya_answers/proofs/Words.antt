@@ -1,5 +1,5 @@
 -- What a step of a call has told has words: wherever a list of acts has led, the entry of the newest act comes to what that has told, if it was the step of a call.
-use Rattle.std.specs.Prelude.{◌++◌, Option, Some}
+use Rattle.std.specs.Prelude.{◌++◌, Some}
 use Rattle.std.proofs.Common.{◌≡◌, ℕ, Bool, List, [], ◌∷◌, refl, sym, subst, ap, ◌∙◌}
 use Rattle.papaya_views.proofs.Given.SeizeActsAnswers.{same_some}
 use Rattle.papaya_views.specs.Given.TablesDeclared.node.Node.{Node}

@@ -2,3 +2,4 @@ pub mod Legal
 pub mod Answered
 pub mod Lookups
 pub mod Calls
+pub mod Order

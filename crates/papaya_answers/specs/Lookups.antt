@@ -50,10 +50,6 @@ module _ {K V : Type 0} (same : K → K → Bool) where
     pub stored : K
     pub pair : pair_at (moment (e ∷ log)).stored number ≡ Some (stored, value)
 
-  abbrev pub HadValue : List (Entry K V) → ℕ → ℕ → K → V → Type 0
-  HadValue [] i map key value = ⊥
-  HadValue (e ∷ log) i map key value = WasHad i map key value log e ⊎ HadValue log i map key value
-
 -- a pair was found, or none
 abbrev pub IsSuch : {V : Type 0} → KeyAnswer → Answer V → Type 0
 IsSuch Absent answer = answer ≡ answers.Absent
