@@ -4,14 +4,14 @@
 
 ghost use Rattle.std.specs.Prelude.{None, false};
 
-mod within;
+mod collector;
 
+pub use collector::{SIZE, opened};
 use seize::rows::{Defers, LeftOver};
 use std::alloc::{AllocError, Global};
 use std::sync::Arc;
 use std::sync::atomic::AtomicU64;
 use std::sync::atomic::Ordering::SeqCst;
-pub use within::{SIZE, within};
 
 /// A count for each place.
 pub type Table = Arc<Vec<AtomicU64>>;

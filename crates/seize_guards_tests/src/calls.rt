@@ -1,6 +1,8 @@
 //! What guards answer, call by call: one that stays on its thread, and one that may be sent.
+use seize::Fault;
 use seize_collector::{Guard, RootGuard, Shared};
-use seize_counted::{Counted, Table, all_are, dropped, table, within};
+use seize_counted::{Counted, Table, all_are, dropped, opened, table};
+use std::alloc::Global;
 use std::test::Fail;
 
 /// A call of a guard: at a root, some with the value of a place.
@@ -97,13 +99,18 @@ fn goes(collector: &Shared<'_, Counted>, drops: &Table) -> Option<u64> {
     }
 }
 
+/// Both over one collector, which ends then.
+fn both(alloc: Global, drops: &Table, own: &Table) -> Result<(Option<u64>, Option<u64>), Fault> {
+    let collector = opened(alloc)?;
+    let shared = collector.shared();
+    Ok((stays(&shared, drops), goes(&shared, own)))
+}
+
 #[test]
 fn a_guard_sees_what_it_has_put_and_drops_what_it_has_taken(rt: HostRuntime) -> Result<(), Fail> {
     let drops = table(rt.alloc(), 2)?;
     let own = table(rt.alloc(), 2)?;
-    let (one, other) = within(rt.alloc(), |collector| {
-        (stays(collector, &drops), goes(collector, &own))
-    })?;
+    let (one, other) = both(rt.alloc(), &drops, &own)?;
     assert_eq!(rt; one, Some(10));
     assert_eq!(rt; other, Some(10));
     assert!(rt; all_are(&drops, 2, 1) && all_are(&own, 2, 1));

@@ -1,6 +1,8 @@
 //! What is retired while no section of the slot is open, or under another guard: what it waits for, and where a registration ends whose guards were forgotten.
+use seize::Fault;
 use seize_collector::{Guard, Registration, RootGuard, Shared};
-use seize_counted::{Counted, Table, all_are, dropped, table, within};
+use seize_counted::{Counted, Table, all_are, dropped, opened, table};
+use std::alloc::Global;
 use std::mem;
 use std::test::Fail;
 
@@ -33,14 +35,22 @@ fn alone(collector: &Shared<'_, Counted>, drops: &Table) -> Option<(bool, bool, 
     Some((first, second, retired, dropped(drops, 1)))
 }
 
+/// How often a value was dropped each time, beside another guard and alone.
+type Times = (Option<(u64, u64, u64)>, Option<(bool, bool, u64, u64)>);
+
+/// Both over one collector, which ends then.
+fn both(alloc: Global, drops: &Table) -> Result<Times, Fault> {
+    let collector = opened(alloc)?;
+    let shared = collector.shared();
+    Ok((beside(&shared, drops), alone(&shared, drops)))
+}
+
 #[test]
 fn a_batch_that_is_tried_without_a_section_waits_for_open_ones(
     rt: HostRuntime,
 ) -> Result<(), Fail> {
     let drops = table(rt.alloc(), 2)?;
-    let (other, none) = within(rt.alloc(), |collector| {
-        (beside(collector, &drops), alone(collector, &drops))
-    })?;
+    let (other, none) = both(rt.alloc(), &drops)?;
     assert_eq!(rt; other, Some((0, 0, 1)));
     assert_eq!(rt; none, Some((true, false, 0, 1)));
     Ok(())
@@ -72,15 +82,24 @@ fn retires(
     Some((before, dropped(drops, 0)))
 }
 
+/// The same over one collector, which ends then.
+fn retires_alone(
+    alloc: Global,
+    drops: &Table,
+    first: Counted,
+    second: Counted,
+) -> Result<Option<(u64, u64)>, Fault> {
+    let collector = opened(alloc)?;
+    Ok(retires(&collector.shared(), drops, first, second))
+}
+
 #[test]
 fn a_block_that_was_unlinked_is_retired_by_a_guard(rt: HostRuntime) -> Result<(), Fail> {
     let drops = table(rt.alloc(), 2)?;
     let (Some(first), Some(second)) = (Counted::of(&drops, 0), Counted::of(&drops, 1)) else {
         return Err(Fail::new("the table has too many owners"));
     };
-    let times = within(rt.alloc(), |collector| {
-        retires(collector, &drops, first, second)
-    })?;
+    let times = retires_alone(rt.alloc(), &drops, first, second)?;
     assert_eq!(rt; times, Some((0, 1)));
     assert!(rt; all_are(&drops, 2, 1));
     Ok(())
@@ -115,15 +134,17 @@ fn visits(collector: &Shared<'_, Counted>) -> Option<u64> {
     Some(slot)
 }
 
-/// Forgets guards; tells then whether the five values that were retired were dropped as the registration ended, and the last one is still there. Answers both
-/// slots.
-fn forgets_and_visits(
-    collector: &Shared<'_, Counted>,
-    drops: &Table,
-) -> (Option<(bool, u64)>, bool, Option<u64>) {
-    let went = forgets_all(collector, drops);
+/// Whether each value was put, and the first slot; whether the five that were retired were dropped then, and the last one is still there; and the slot that is
+/// taken then.
+type Forgotten = (Option<(bool, u64)>, bool, Option<u64>);
+
+/// Forgets guards over one collector, which ends then.
+fn forgets_alone(alloc: Global, drops: &Table) -> Result<Forgotten, Fault> {
+    let collector = opened(alloc)?;
+    let shared = collector.shared();
+    let went = forgets_all(&shared, drops);
     let gone = all_are(drops, 5, 1) && dropped(drops, 5) == 0;
-    (went, gone, visits(collector))
+    Ok((went, gone, visits(&shared)))
 }
 
 #[test]
@@ -131,9 +152,7 @@ fn what_was_retired_under_forgotten_guards_is_dropped_as_their_registration_ends
     rt: HostRuntime,
 ) -> Result<(), Fail> {
     let drops = table(rt.alloc(), 6)?;
-    let (went, gone, then) = within(rt.alloc(), |collector| {
-        forgets_and_visits(collector, &drops)
-    })?;
+    let (went, gone, then) = forgets_alone(rt.alloc(), &drops)?;
     assert_eq!(rt; went, Some((true, 0)));
     assert!(rt; gone);
     assert_eq!(rt; then, Some(0));

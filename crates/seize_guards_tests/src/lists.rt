@@ -1,9 +1,11 @@
 //! A value that keeps a list of further values is put with the words that it asks for, and comes back where these can't be counted.
 ghost use Rattle.std.specs.Prelude.{Some};
 
+use seize::Fault;
 use seize::rows::Defers;
 use seize_collector::{RootGuard, Shared};
 use seize_counted::within;
+use std::alloc::Global;
 use std::test::Fail;
 
 /// A number, which keeps a list at this word of its block.
@@ -37,13 +39,18 @@ fn come_back(collector: &Shared<'_, Listed>, field: u64) -> Option<(u64, u64)> {
     Some((first, second))
 }
 
+/// The same over one collector, which ends then.
+fn come_back_alone(alloc: Global, field: u64) -> Result<Option<(u64, u64)>, Fault> {
+    let collector = opened(alloc)?;
+    Ok(come_back(&collector.shared(), field))
+}
+
 #[test]
 fn a_value_that_keeps_a_list_is_put_if_its_words_can_be_counted(
     rt: HostRuntime,
 ) -> Result<(), Fail> {
     for (field, first) in [(0, 0), (2, 0), (1 << 62, 1), (u64::MAX, 1)] {
-        let came = within(rt.alloc(), |collector| come_back(collector, field))?;
-        assert_eq!(rt; came, Some((first, 2)));
+        assert_eq!(rt; come_back_alone(rt.alloc(), field)?, Some((first, 2)));
     }
     Ok(())
 }

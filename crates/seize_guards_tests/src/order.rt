@@ -1,9 +1,11 @@
 //! In which order values come back: the drop of each stores the next number of a count.
 ghost use Rattle.std.specs.Prelude.{None};
 
+use seize::Fault;
 use seize::rows::Defers;
 use seize_collector::{Guard, LocalGuard, RootGuard, Shared};
-use seize_counted::{SIZE, Table, dropped as at, table, within};
+use seize_counted::{SIZE, Table, dropped as at, opened, table};
+use std::alloc::Global;
 use std::sync::Arc;
 use std::sync::atomic::Ordering::SeqCst;
 use std::test::Fail;
@@ -111,14 +113,18 @@ fn is_last_first(numbers: &Table) -> bool {
     true
 }
 
+/// Thirty values over one collector, which ends then, with a try after each.
+fn retires_alone(alloc: Global, numbers: &Table) -> Result<Option<(u64, u64)>, Fault> {
+    let collector = opened(alloc)?;
+    Ok(retires(&collector.shared(), numbers, MANY + 1, true))
+}
+
 #[test]
 fn thirty_values_come_back_as_their_guard_ends_and_the_last_first(
     rt: HostRuntime,
 ) -> Result<(), Fail> {
     let numbers = table(rt.alloc(), MANY + 2)?;
-    let counts = within(rt.alloc(), |collector| {
-        retires(collector, &numbers, MANY + 1, true)
-    })?;
+    let counts = retires_alone(rt.alloc(), &numbers)?;
     assert_eq!(rt; counts, Some((0, MANY as u64)));
     assert!(rt; is_last_first(&numbers));
     Ok(())
@@ -134,21 +140,37 @@ fn is_in_order(numbers: &Table) -> bool {
     true
 }
 
+/// A batch over one collector, which ends then, with a guard that is sent.
+fn sends_alone<R: Threads + Sync>(
+    rt: &R,
+    alloc: Global,
+    numbers: &Table,
+) -> Result<Option<(u64, u64)>, Fault> {
+    let collector = opened(alloc)?;
+    Ok(sends(rt, &collector.shared(), numbers))
+}
+
 #[test]
 fn a_batch_comes_back_in_order_where_a_guard_ends_on_another_thread(
     rt: HostRuntime,
 ) -> Result<(), Fail> {
     let numbers = table(rt.alloc(), SIZE as usize + 2)?;
-    let counts = within(rt.alloc(), |collector| sends(&rt, collector, &numbers))?;
+    let counts = sends_alone(&rt, rt.alloc(), &numbers)?;
     assert_eq!(rt; counts, Some((0, SIZE)));
     assert!(rt; is_in_order(&numbers));
     Ok(())
 }
 
+/// A batch over one collector, which ends then, with a guard that is refreshed.
+fn refreshes_alone(alloc: Global, numbers: &Table) -> Result<Option<(u64, u64)>, Fault> {
+    let collector = opened(alloc)?;
+    Ok(refreshes(&collector.shared(), numbers))
+}
+
 #[test]
 fn a_batch_comes_back_in_order_where_a_guard_is_refreshed(rt: HostRuntime) -> Result<(), Fail> {
     let numbers = table(rt.alloc(), SIZE as usize + 2)?;
-    let counts = within(rt.alloc(), |collector| refreshes(collector, &numbers))?;
+    let counts = refreshes_alone(rt.alloc(), &numbers)?;
     assert_eq!(rt; counts, Some((0, SIZE)));
     assert!(rt; is_in_order(&numbers));
     Ok(())

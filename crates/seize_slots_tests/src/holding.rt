@@ -1,9 +1,11 @@
 //! A struct of one's own that holds a registration, and a helper that takes a guard of any content.
 ghost use Rattle.std.specs.Prelude.{◌≡◌, true};
 
+use seize::Fault;
 use seize::rows::Defers;
 use seize_collector::{Content, Guard, OfRows, Registration, RootGuard, Shared};
-use seize_counted::{Counted, Table, dropped, table, within};
+use seize_counted::{Counted, Table, dropped, opened, table};
+use std::alloc::Global;
 use std::sync::Arc;
 use std::test::Fail;
 
@@ -53,6 +55,12 @@ fn two(collector: &Shared<'_, Counted>, drops: &Table, own: Table) -> Option<(u6
     if put { Some(times) } else { None }
 }
 
+/// The same over one collector, which ends then.
+fn two_alone(alloc: Global, drops: &Table, own: Table) -> Result<Option<(u64, u64)>, Fault> {
+    let collector = opened(alloc)?;
+    Ok(two(&collector.shared(), drops, own))
+}
+
 #[test]
 fn a_struct_that_holds_a_registration_puts_values_and_drops_what_they_replace(
     rt: HostRuntime,
@@ -61,8 +69,7 @@ fn a_struct_that_holds_a_registration_puts_values_and_drops_what_they_replace(
     let Ok(own) = Arc::try_clone(&drops) else {
         return Err(Fail::new("the table has too many owners"));
     };
-    let times = within(rt.alloc(), |collector| two(collector, &drops, own))?;
-    assert_eq!(rt; times, Some((1, 0)));
+    assert_eq!(rt; two_alone(rt.alloc(), &drops, own)?, Some((1, 0)));
     assert_eq!(rt; (dropped(&drops, 0), dropped(&drops, 1)), (1, 1));
     Ok(())
 }

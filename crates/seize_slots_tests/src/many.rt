@@ -1,6 +1,7 @@
 //! More slots at once than the first bucket has.
+use seize::Fault;
 use seize_collector::{Guard, OwnedGuard, Registration, RootGuard, Shared};
-use seize_counted::{Counted, Table, all_are, dropped, table, within};
+use seize_counted::{Counted, Table, all_are, dropped, opened, table};
 use std::alloc::Global;
 use std::sync::atomic::Ordering::SeqCst;
 use std::test::Fail;
@@ -95,15 +96,24 @@ fn holds<R: Threads + Sync>(
     Some((all, half, all_are(drops, PUT, 1)))
 }
 
+/// The same over one collector, which ends then.
+fn holds_alone<R: Threads + Sync>(
+    rt: &R,
+    alloc: Global,
+    drops: &Table,
+    slots: &Table,
+) -> Result<Option<(bool, bool, bool)>, Fault> {
+    let collector = opened(alloc)?;
+    Ok(holds(rt, alloc, &collector.shared(), drops, slots))
+}
+
 #[test]
 fn forty_guards_at_once_have_slots_of_their_own_and_hold_what_they_see(
     rt: HostRuntime,
 ) -> Result<(), Fail> {
     let drops = table(rt.alloc(), PUT + 1)?;
     let slots = table(rt.alloc(), 2 * EACH + 1)?;
-    let held = within(rt.alloc(), |collector| {
-        holds(&rt, rt.alloc(), collector, &drops, &slots)
-    })?;
+    let held = holds_alone(&rt, rt.alloc(), &drops, &slots)?;
     assert_eq!(rt; held, Some((true, true, true)));
     assert_eq!(rt; dropped(&slots, 0), 0);
     for slot in 1..2 * EACH + 1 {

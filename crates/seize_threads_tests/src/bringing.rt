@@ -3,8 +3,10 @@
 ghost use Rattle.std.specs.Prelude.{◌≡◌};
 
 use crate::crowd::{TIMES, goes};
+use seize::Fault;
 use seize_collector::{Owned, Registration, Shared};
-use seize_counted::{Counted, Table, all_are, dropped, table, within};
+use seize_counted::{Counted, Table, all_are, dropped, opened, table};
+use std::alloc::Global;
 use std::test::Fail;
 use std::thread;
 use std::thread::Threads;
@@ -99,12 +101,18 @@ fn three<R: Threads + Sync>(rt: &R, collector: &Shared<'_, Counted>, drops: &Tab
     first && second
 }
 
+/// The same over one collector, which ends then.
+fn three_alone<R: Threads + Sync>(rt: &R, alloc: Global, drops: &Table) -> Result<bool, Fault> {
+    let collector = opened(alloc)?;
+    Ok(three(rt, &collector.shared(), drops))
+}
+
 #[test]
 fn what_is_put_and_taken_away_without_a_section_is_seen_and_dropped_once(
     rt: HostRuntime,
 ) -> Result<(), Fail> {
     let drops = table(rt.alloc(), 2 * TIMES)?;
-    assert!(rt; within(rt.alloc(), |collector| three(&rt, collector, &drops))?);
+    assert!(rt; three_alone(&rt, rt.alloc(), &drops)?);
     assert!(rt; all_are(&drops, 2 * TIMES, 1));
     Ok(())
 }
@@ -137,10 +145,20 @@ fn one_places<R: Threads + Sync>(rt: &R, collector: &Shared<'_, Counted>, drops:
     }
 }
 
+/// The same over one collector, which ends then.
+fn one_places_alone<R: Threads + Sync>(
+    rt: &R,
+    alloc: Global,
+    drops: &Table,
+) -> Result<bool, Fault> {
+    let collector = opened(alloc)?;
+    Ok(one_places(rt, &collector.shared(), drops))
+}
+
 #[test]
 fn one_of_two_puts_its_value_where_none_is(rt: HostRuntime) -> Result<(), Fail> {
     let drops = table(rt.alloc(), 2)?;
-    assert!(rt; within(rt.alloc(), |collector| one_places(&rt, collector, &drops))?);
+    assert!(rt; one_places_alone(&rt, rt.alloc(), &drops)?);
     assert!(rt; all_are(&drops, 2, 1));
     Ok(())
 }
@@ -166,14 +184,23 @@ fn sends<R: Threads + Sync>(
     place
 }
 
+/// The same over one collector, which ends then.
+fn sends_alone<R: Threads + Sync>(
+    rt: &R,
+    alloc: Global,
+    value: Counted,
+) -> Result<Option<usize>, Fault> {
+    let collector = opened(alloc)?;
+    Ok(sends(rt, &collector.shared(), value))
+}
+
 #[test]
 fn a_block_is_taken_away_by_another_thread(rt: HostRuntime) -> Result<(), Fail> {
     let drops = table(rt.alloc(), 2)?;
     let Some(value) = Counted::of(&drops, 1) else {
         return Err(Fail::new("the table has too many owners"));
     };
-    let place = within(rt.alloc(), |collector| sends(&rt, collector, value))?;
-    assert_eq!(rt; place, Some(1));
+    assert_eq!(rt; sends_alone(&rt, rt.alloc(), value)?, Some(1));
     assert_eq!(rt; dropped(&drops, 1), 1);
     Ok(())
 }

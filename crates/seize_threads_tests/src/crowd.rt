@@ -1,6 +1,8 @@
 //! Four threads over one collector: each looks at the values of the others, puts its own at the root, and so retires those that were there.
+use seize::Fault;
 use seize_collector::{Registration, RootGuard, Shared};
-use seize_counted::{Counted, Table, all_are, dropped, table, within};
+use seize_counted::{Counted, Table, all_are, dropped, opened, table};
+use std::alloc::Global;
 use std::test::Fail;
 use std::thread;
 use std::thread::Threads;
@@ -95,12 +97,18 @@ fn four<R: Threads + Sync>(rt: &R, collector: &Shared<'_, Counted>, drops: &Tabl
     first && second
 }
 
+/// The same over one collector, which ends then.
+fn four_alone<R: Threads + Sync>(rt: &R, alloc: Global, drops: &Table) -> Result<bool, Fault> {
+    let collector = opened(alloc)?;
+    Ok(four(rt, &collector.shared(), drops))
+}
+
 #[test]
 fn four_threads_see_nothing_that_was_dropped_and_each_value_is_dropped_once(
     rt: HostRuntime,
 ) -> Result<(), Fail> {
     let drops = table(rt.alloc(), 4 * TIMES)?;
-    assert!(rt; within(rt.alloc(), |collector| four(&rt, collector, &drops))?);
+    assert!(rt; four_alone(&rt, rt.alloc(), &drops)?);
     assert!(rt; all_are(&drops, 4 * TIMES, 1));
     Ok(())
 }

@@ -1,9 +1,11 @@
 //! Values that are put in place of what was seen: two threads count at a root, each turn by a value that is made of the one that was seen there.
 ghost use Rattle.std.specs.Prelude.{None};
 
+use seize::Fault;
 use seize::rows::Defers;
 use seize_collector::{Registration, RootGuard, Shared};
-use seize_counted::{Table, dropped, table, within};
+use seize_counted::{Table, dropped, opened, table};
+use std::alloc::Global;
 use std::sync::Arc;
 use std::sync::atomic::Ordering::SeqCst;
 use std::test::Fail;
@@ -109,10 +111,20 @@ fn both<R: Threads + Sync>(
     (sum, last(collector))
 }
 
+/// The same over one collector, which ends then.
+fn both_alone<R: Threads + Sync>(
+    rt: &R,
+    alloc: Global,
+    counts: &Table,
+) -> Result<(Option<u64>, Option<u64>), Fault> {
+    let collector = opened(alloc)?;
+    Ok(both(rt, &collector.shared(), counts))
+}
+
 #[test]
 fn no_count_is_lost_and_each_number_is_dropped_once(rt: HostRuntime) -> Result<(), Fail> {
     let counts = table(rt.alloc(), 2)?;
-    let (sum, number) = within(rt.alloc(), |collector| both(&rt, collector, &counts))?;
+    let (sum, number) = both_alone(&rt, rt.alloc(), &counts)?;
     assert!(rt; sum.is_some());
     assert_eq!(rt; sum, number);
     assert_eq!(rt; dropped(&counts, MADE), dropped(&counts, DROPPED));
@@ -128,12 +140,12 @@ fn puts<G: RootGuard<Tally>>(guard: &mut G, counts: &Table, next: u64) -> (bool,
     (put, number(guard.value()))
 }
 
+/// Whether each of three numbers was put, with what was seen then; and the number that is there at the end.
+type Turns = ((bool, u64), (bool, u64), (bool, u64), Option<u64>);
+
 /// What two guards come to, of which each puts a number where it has seen nothing, and the second one then where it has seen the first one's; and which number
 /// is there then.
-fn takes_turns(
-    collector: &Shared<'_, Tally>,
-    counts: &Table,
-) -> Option<((bool, u64), (bool, u64), (bool, u64), Option<u64>)> {
+fn takes_turns(collector: &Shared<'_, Tally>, counts: &Table) -> Option<Turns> {
     let mut first = collector.enter_owned().ok()?;
     let mut second = collector.enter_owned().ok()?;
     let one = puts(&mut first, counts, 1);
@@ -142,12 +154,18 @@ fn takes_turns(
     Some((one, two, three, last(collector)))
 }
 
+/// The same over one collector, which ends then.
+fn takes_turns_alone(alloc: Global, counts: &Table) -> Result<Option<Turns>, Fault> {
+    let collector = opened(alloc)?;
+    Ok(takes_turns(&collector.shared(), counts))
+}
+
 #[test]
 fn a_number_comes_back_where_another_one_is_there_which_was_seen_then(
     rt: HostRuntime,
 ) -> Result<(), Fail> {
     let counts = table(rt.alloc(), 2)?;
-    let turns = within(rt.alloc(), |collector| takes_turns(collector, &counts))?;
+    let turns = takes_turns_alone(rt.alloc(), &counts)?;
     assert_eq!(rt; turns, Some(((true, 0), (false, 1), (true, 0), Some(3))));
     Ok(())
 }

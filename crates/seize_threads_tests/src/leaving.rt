@@ -1,6 +1,8 @@
 //! One thread replaces a value while another one, which has seen it, stays within its section: who leaves last drops what was retired.
+use seize::Fault;
 use seize_collector::{Registration, RootGuard, Shared};
-use seize_counted::{Counted, Table, all_are, dropped, table, within};
+use seize_counted::{Counted, Table, all_are, dropped, opened, table};
+use std::alloc::Global;
 use std::sync::atomic::AtomicU64;
 use std::sync::atomic::Ordering::SeqCst;
 use std::test::Fail;
@@ -79,26 +81,27 @@ fn stays(collector: &Shared<'_, Counted>, bell: &AtomicU64, drops: &Table) -> Op
     Some(first && replaced && kept && gone)
 }
 
-/// One who replaces a value and one who stays with it.
+/// One who replaces a value and one who stays with it, over one collector, which ends then.
 fn both<R: Threads + Sync>(
     rt: &R,
-    collector: &Shared<'_, Counted>,
+    alloc: Global,
     drops: &Table,
-) -> (Option<u64>, Option<bool>) {
+) -> Result<(Option<u64>, Option<bool>), Fault> {
     let bell = AtomicU64::new(0);
-    thread::join(
+    let collector = opened(alloc)?;
+    let shared = collector.shared();
+    Ok(thread::join(
         rt,
-        || replaces(collector, &bell, drops),
-        || stays(collector, &bell, drops),
-    )
+        || replaces(&shared, &bell, drops),
+        || stays(&shared, &bell, drops),
+    ))
 }
 
 /// If one thread were served after the other, they would wait for each other in vain, and the test would fail.
 #[test]
 fn the_last_to_leave_drops_what_was_retired(rt: HostRuntime) -> Result<(), Fail> {
     let drops = table(rt.alloc(), 6)?;
-    let ends = within(rt.alloc(), |collector| both(&rt, collector, &drops))?;
-    assert_eq!(rt; ends, (Some(0), Some(true)));
+    assert_eq!(rt; both(&rt, rt.alloc(), &drops)?, (Some(0), Some(true)));
     assert!(rt; all_are(&drops, 6, 1));
     Ok(())
 }
