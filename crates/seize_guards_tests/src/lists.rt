@@ -4,7 +4,7 @@ ghost use Rattle.std.specs.Prelude.{Some};
 use seize::Fault;
 use seize::rows::Defers;
 use seize_collector::{RootGuard, Shared};
-use seize_counted::within;
+use seize_counted::opened;
 use std::alloc::Global;
 use std::test::Fail;
 

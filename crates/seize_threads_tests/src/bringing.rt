@@ -120,7 +120,9 @@ fn what_is_put_and_taken_away_without_a_section_is_seen_and_dropped_once(
 /// Puts a value of its own at the root if none is there, and tells whether it has; else its value has come back.
 fn places(collector: &Shared<'_, Counted>, drops: &Table, place: usize) -> Option<bool> {
     let mut near = 0;
-    let owned = collector.make(&mut near, Counted::of(drops, place)?).ok()?;
+    let Ok(owned) = collector.make(&mut near, Counted::of(drops, place)?) else {
+        return None;
+    };
     match owned.place(0) {
         Ok(()) => Some(true),
         Err(owned) => {

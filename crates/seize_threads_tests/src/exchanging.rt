@@ -140,24 +140,28 @@ fn puts<G: RootGuard<Tally>>(guard: &mut G, counts: &Table, next: u64) -> (bool,
     (put, number(guard.value()))
 }
 
-/// Whether each of three numbers was put, with what was seen then; and the number that is there at the end.
-type Turns = ((bool, u64), (bool, u64), (bool, u64), Option<u64>);
+/// Whether two guards come to what they should, of which each puts a number where it has seen nothing, and the second one then where it has seen the first
+/// one's.
+fn takes_turns<G: RootGuard<Tally>>(first: &mut G, second: &mut G, counts: &Table) -> bool {
+    let one = puts(first, counts, 1) == (true, 0);
+    let two = puts(second, counts, 2) == (false, 1);
+    let three = puts(second, counts, 3) == (true, 0);
+    one && two && three
+}
 
-/// What two guards come to, of which each puts a number where it has seen nothing, and the second one then where it has seen the first one's; and which number
-/// is there then.
-fn takes_turns(collector: &Shared<'_, Tally>, counts: &Table) -> Option<Turns> {
+/// They do so; answers the number that is there then.
+fn two_take_turns(collector: &Shared<'_, Tally>, counts: &Table) -> Option<u64> {
     let mut first = collector.enter_owned().ok()?;
     let mut second = collector.enter_owned().ok()?;
-    let one = puts(&mut first, counts, 1);
-    let two = puts(&mut second, counts, 2);
-    let three = puts(&mut second, counts, 3);
-    Some((one, two, three, last(collector)))
+    let right = takes_turns(&mut first, &mut second, counts);
+    let last = last(collector);
+    if right { last } else { None }
 }
 
 /// The same over one collector, which ends then.
-fn takes_turns_alone(alloc: Global, counts: &Table) -> Result<Option<Turns>, Fault> {
+fn take_turns_alone(alloc: Global, counts: &Table) -> Result<Option<u64>, Fault> {
     let collector = opened(alloc)?;
-    Ok(takes_turns(&collector.shared(), counts))
+    Ok(two_take_turns(&collector.shared(), counts))
 }
 
 #[test]
@@ -165,7 +169,6 @@ fn a_number_comes_back_where_another_one_is_there_which_was_seen_then(
     rt: HostRuntime,
 ) -> Result<(), Fail> {
     let counts = table(rt.alloc(), 2)?;
-    let turns = takes_turns_alone(rt.alloc(), &counts)?;
-    assert_eq!(rt; turns, Some(((true, 0), (false, 1), (true, 0), Some(3))));
+    assert_eq!(rt; take_turns_alone(rt.alloc(), &counts)?, Some(3));
     Ok(())
 }
