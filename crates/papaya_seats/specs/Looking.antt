@@ -30,6 +30,10 @@ use Rattle.papaya_views.specs.Rule.{Holds}
 use Rattle.papaya_views.specs.declared.view.Map.{Map}
 use Rattle.papaya_views.specs.declared.view.View.{View}
 use Rattle.papaya_views.specs.declared.view.Work.TheVariants.{Nothing, Calls}
+use Rattle.papaya_straight.specs.Looking.{looks}
+use Rattle.papaya_straight.specs.declared.looking.Sight.{Sight}
+use Rattle.papaya_straight.specs.declared.looking.Sight.TheVariants as sight
+use Rattle.papaya_views.specs.Given.TablesDeclared.resize_mode.ResizeMode.{ResizeMode}
 
 -- the lookup has not ended
 abbrev pub IsOn : Looking → Type 0
@@ -82,6 +86,11 @@ module _ {K V S : Type 0} where
   -- its calls are those of before, whatever the newest has told last
   abbrev pub IsOfThem : View K V S → View K V S → Type 0
   IsOfThem v w = (told : Progress (Node K V)) → newest_told told w.calls ≡ newest_told told v.calls
+
+  -- straight code for the lookup of its call has come to this: its call has ended, or its lookup stands there
+  abbrev pub HasSeen : (K → K → Bool) → K → ℕ → ResizeMode → ℕ → Sight → View K V S → View K V S → Type 0
+  HasSeen same key root mode hash (sight.Ends found) v w = HasLooked same key found w × HasTold (found_of found) v w
+  HasSeen same key root mode hash (sight.Stands stands) v w = LooksFor key (looks root mode hash stands) w × IsOfThem v w
 
   -- It has begun one call more, within its section: to do this with the map that it knows. That has told this last.
   abbrev pub HasRun : (K → K → Bool) → (S → K → ℕ) → Wanted K V → Progress (Node K V) → View K V S → View K V S → Type 0
