@@ -3,6 +3,7 @@ ghost use Rattle.std.specs.Prelude.{◌≡◌, ℕ, true, Some};
 ghost use Rattle.papaya_views.specs.Given.ActsActs.{Get};
 ghost use Rattle.papaya_seats.specs.Looking.{Begins, HasFound, HasLooked, HasSeen, HasTold, LookedSo, LooksFor, MayLook, StaysThere, found_of, looking_told};
 ghost use Rattle.papaya_seats.specs.Made.{IsSameSeat};
+ghost use Rattle.papaya_straight.specs.Looking.{looks};
 ghost use Rattle.papaya_views.specs.Given.ResizeLookup.{looking};
 ghost use Rattle.papaya_views.specs.Given.TablesChunks.{is_incremental};
 ghost use Rattle.papaya_views.specs.declared.view.Map.{Map};
@@ -12,7 +13,7 @@ ghost use Rattle.papaya_views.specs.Given.SeizeViewsDeclared.view.View.TheVarian
 
 use crate::turns::{Beginning, Wants};
 use crate::within::Within;
-use papaya_resize::Lookup;
+use papaya_resize::{Lookup, Looking};
 use papaya_straight::{Sight, look_up};
 use papaya_tables::{Hashes, ResizeMode};
 use seize::Progress;
@@ -78,6 +79,32 @@ impl<'a, K: Eq + Hash, V, S: Hashes<K>> Within<'a, K, V, S> {
         unreachable!()
     }
 
+    /// Takes the steps of its lookup from this point on. The lookup is made here, so that none is made where the point is not come to.
+    #[inline(always)]
+    fn goes_from<R: Wait>(
+        &mut self,
+        rt: &R,
+        root: u64,
+        mode: ResizeMode,
+        hash: u64,
+        stands: Looking,
+        key: &K,
+    ) -> Option<u64>
+        requires looks { LooksFor key.now (looks root mode hash stands) self.old.seat.now.view }
+        ensures looked { HasLooked K.eq key.now result self.new.seat.now.view }
+        ensures told { HasTold (found_of result) self.old.seat.now.view self.new.seat.now.view }
+        ensures stays { StaysThere self.old.seat.now.view self.new.seat.now.view }
+        ensures same { IsSameSeat self.old self.new }
+    {
+        let lookup = Lookup {
+            root,
+            mode,
+            hash,
+            stands,
+        };
+        self.goes_through(rt, lookup, key)
+    }
+
     /// Looks the key up by straight code, as far as that goes: over the tries at the root's table.
     #[inline(always)]
     fn sees(&mut self, root: u64, mode: ResizeMode, hash: u64, key: &K) -> Sight
@@ -107,15 +134,7 @@ impl<'a, K: Eq + Hash, V, S: Hashes<K>> Within<'a, K, V, S> {
     {
         match self.sees(root, mode, hash, key) {
             Sight::Ends(found) => found,
-            Sight::Stands(stands) => {
-                let lookup = Lookup {
-                    root,
-                    mode,
-                    hash,
-                    stands,
-                };
-                self.goes_through(rt, lookup, key)
-            }
+            Sight::Stands(stands) => self.goes_from(rt, root, mode, hash, stands, key),
         }
     }
 
