@@ -1,3 +1,4 @@
 mod Rows
+mod Newcomers
 mod Sessions
 mod Keys

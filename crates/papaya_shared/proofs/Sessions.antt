@@ -1,9 +1,7 @@
--- What a session knows of its map, and that it may hand it on, look a key up there, and begin a call on one key.
-use Rattle.std.specs.Prelude.{Option, Some, None}
+-- What a session knows of its map, and that it may look a key up there, and begin a call on one key.
+use Rattle.std.specs.Prelude.{Option, Some, None, IsSome}
 use Rattle.std.proofs.Common.{◌≡◌, ℕ, Bool, true, refl, sym, subst, ap, ◌∙◌}
 use Rattle.papaya_views.proofs.Given.SeizeActsAnswers.{same_some}
-use Rattle.papaya_views.specs.Given.SeizeSeatsState.{Meets}
-use Rattle.papaya_views.specs.Given.SeizeViewsDeclared.view.Fixed.{Fixed}
 use Rattle.papaya_views.specs.Given.TablesChunks.{is_incremental}
 use Rattle.papaya_views.specs.Given.TablesDeclared.setting.Setting.{Setting}
 use Rattle.papaya_views.specs.Given.ResizeLookup.{looking}
@@ -17,12 +15,9 @@ use Rattle.papaya_views.specs.Given.ActsActs.{Wanted}
 use Rattle.papaya_views.specs.Given.RawDeclared.machines.call.KeyCall.{KeyCall}
 use Rattle.papaya_views.specs.Given.RawDeclared.machines.machine.Machine.TheVariants.{Key}
 use Rattle.papaya_views.specs.Begun.{machine_for}
-use Rattle.papaya_views.specs.Rule.{Holds}
-use Rattle.papaya_views.proofs.Laws.{maps_are_handed_on}
 use Rattle.papaya_seats.specs.Calling.{MayDo, wanted_of}
 use Rattle.papaya_seats.specs.Kinds.{Kind, Stage, GoesOn}
 use Rattle.papaya_seats.specs.Looking.{MayLook}
-use Rattle.papaya_shared.specs.Shown.{HandsOn}
 use Rattle.papaya_shared.specs.Standing.{known_as, known_by}
 
 -- the map that it knows, with its setting and its hasher
@@ -30,11 +25,9 @@ pub known : {S : Type 0} (o : Option (Map S)) (x : Setting × S) → known_as o 
 known None x e = absurd (cc e)
 known (Some map) x e = (map, refl, same_some (map.setting, map.hasher) x e)
 
-module _ {K V S : Type 0} (same : K → K → Bool) (hash : S → K → ℕ) (fixed : Fixed) (id : ℕ) (v : View K V S) where
-  -- a map that is known may be handed on
-  pub may_show : (j : ℕ) (u : View K V S) (map : Map S) → v.map ≡ Some map → u.work ≡ Nothing → Meets (Holds same hash fixed) id v j u (HandsOn v u)
-  may_show j u map knows free s h here there ne =
-      let g = maps_are_handed_on V same hash fixed id j v u map knows free s h here there ne in (g.0, g.1, g.2, (map, knows, g.3.0, g.3.1))
+pub known_some : {S : Type 0} (o : Option (Map S)) → IsSome (known_as o) → (map : Map S) × (o ≡ Some map)
+known_some None e = absurd e
+known_some (Some map) e = (map, refl)
 
 module _ {K V S : Type 0} (hash : S → K → ℕ) where
   -- it may look a key up, within its section

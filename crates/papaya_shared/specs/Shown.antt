@@ -12,9 +12,9 @@ use Rattle.papaya_seats.specs.Looking.{Shows}
 use Rattle.papaya_shared.specs.declared.caller.Caller.{Caller}
 
 module _ {K V S : Type 0} where
-  -- the one knows a map, which is handed on to the other
-  abbrev pub HandsOn : View K V S → View K V S → View K V S → View K V S → Type 0
-  HandsOn v u p q = (map : Map S) × (v.map ≡ Some map) × (p ≡ v) × (q ≡ shown_map u map)
+  -- it comes to know the map that the other one knows
+  abbrev pub LearnsMap : View K V S → View K V S → View K V S → Type 0
+  LearnsMap v u w = (map : Map S) × (u.map ≡ Some map) × (w ≡ shown_map v map)
 
 module _ {K V S : Type 0} (same : K → K → Bool) where
   -- the caller shows the pair of this word, of an equal key

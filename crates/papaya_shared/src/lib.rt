@@ -10,3 +10,4 @@ pub use papaya_seats::memory_for;
 pub use papaya_views::OfMaps;
 pub use seize_views::Fixed;
 pub use session::{Attempt, Found, Session};
+pub use showing::newcomer;
