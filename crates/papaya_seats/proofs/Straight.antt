@@ -7,19 +7,21 @@ use Rattle.papaya_views.specs.Given.SeizeDeclared.progress.Progress.TheVariants 
 use Rattle.papaya_views.specs.Given.TablesDeclared.resize_mode.ResizeMode.{ResizeMode}
 use Rattle.papaya_views.specs.Given.ResizeLookup.{lookup_plan, looking}
 use Rattle.papaya_views.specs.Given.ResizeDeclared.lookup.Lookup.{Lookup}
+use Rattle.papaya_views.specs.Given.ResizeDeclared.lookup.Looking.{Looking}
+use Rattle.papaya_views.specs.Given.ActsActs.{Get}
 use Rattle.papaya_views.specs.declared.view.View.{View}
 use Rattle.papaya_straight.specs.Going.{LookGoes, LookLeads, LookReaches, MayLook}
-use Rattle.papaya_straight.specs.Looking.{sight_at}
+use Rattle.papaya_straight.specs.Looking.{looks, sight_at}
 use Rattle.papaya_straight.specs.declared.looking.Sight.{Sight}
 use Rattle.papaya_straight.specs.declared.looking.Sight.TheVariants as sight
 use Rattle.seize_straight.specs.Runs.{none_taken, one_more}
 use Rattle.seize_straight.proofs.Running.{by_law}
-use Rattle.papaya_seats.specs.Looking.{HasSeen, HasTold, IsOfThem, LookedSo, LooksFor, StaysThere, found_of, looking_told}
+use Rattle.papaya_seats.specs.Looking.{Begins, HasCome, HasFound, HasLooked, HasSeen, HasTold, IsOfThem, LookedSo, LooksFor, StaysThere, found_of, looking_told}
 use Rattle.papaya_seats.specs.Made.{CanMake, HasMade, IsSameSeat, shown_of}
 use Rattle.papaya_seats.specs.declared.within.Within.{Within}
-use Rattle.papaya_seats.proofs.Beginnings.{stays_on}
+use Rattle.papaya_seats.proofs.Beginnings.{stays_begun, stays_on}
 use Rattle.papaya_seats.proofs.Lookups.{may_look, has_looked}
-use Rattle.papaya_seats.proofs.Runs.{of_them, told_last}
+use Rattle.papaya_seats.proofs.Runs.{has_run, of_them, told_last}
 
 module _ {K V S : Type 0} (same : K → K → Bool) (hash : S → K → ℕ) (key : K) where
   -- its call is at this lookup
@@ -57,14 +59,34 @@ module _ {K V S : Type 0} (same : K → K → Bool) (hash : S → K → ℕ) (ke
       )
 
   -- what it has come to
-  pub has_seen : (root : ℕ) (mode : ResizeMode) (hashed : ℕ) (sight : Sight) (m n : Within K V S)
+  pub has_come : (root : ℕ) (mode : ResizeMode) (hashed : ℕ) (sight : Sight) (m n : Within K V S)
       → LookReaches (same key) (HasMade same hash) shown_of (looking root mode hashed) m n (sight_at root mode hashed sight) → IsAt (looking root mode hashed) m
-      → HasSeen same key root mode hashed sight m.seat.now.view n.seat.now.view × StaysThere m.seat.now.view n.seat.now.view × IsSameSeat m n
-  has_seen root mode hashed (sight.Ends found) m n (y, k, z, l, st, not) is =
+      → HasCome same key root mode hashed sight m.seat.now.view n.seat.now.view × StaysThere m.seat.now.view n.seat.now.view × IsSameSeat m n
+  has_come root mode hashed (sight.Ends found) m n (y, k, z, l, st, not) is =
       let a = led (looking root mode hashed) y m k l is in let b = has_looked same hash k key y a.0 n (z, progress.Done found) st in (
         (b.0, told_last m.seat.now.view k.seat.now.view n.seat.now.view (found_of found) a.1.calls b.3),
         stays_on m.seat.now.view k.seat.now.view n.seat.now.view a.1.stays b.1,
         b.2 ∙ a.1.seat,
       )
-  has_seen root mode hashed (sight.Stands stands) m n l is =
-      let a = led (looking root mode hashed) _ m n l is in ((a.0, a.1.calls), a.1.stays, a.1.seat)
+  has_come root mode hashed (sight.Stands stands) m n l is =
+      let a = led (looking root mode hashed) (looks root mode hashed stands) m n l is in ((a.0, a.1.calls), a.1.stays, a.1.seat)
+
+  -- and so since its call has begun
+  pub seen_since : (root : ℕ) (mode : ResizeMode) (hashed : ℕ) (sight : Sight) (u v w : View K V S) → Begins same hash (Get key) u v
+      → HasCome same key root mode hashed sight v w → StaysThere v w → HasSeen same hash key root mode hashed sight u w
+  seen_since root mode hashed (sight.Ends found) u v w begins come stays = record {
+    looked = come.0;
+    stays = stays_on u v w (stays_begun same hash (Get key) u v begins) stays;
+    ran = has_run same hash (Get key) (found_of found) u v w begins come.1;
+  }
+  seen_since root mode hashed (sight.Stands stands) u v w begins come stays =
+      (come.0, stays_on u v w (stays_begun same hash (Get key) u v begins) stays, v, begins, come.1)
+
+  -- or by the steps that are taken then
+  pub found_then : (root : ℕ) (mode : ResizeMode) (hashed : ℕ) (stands : Looking) (found : Option ℕ) (u v w : View K V S) → HasSeen same hash key root mode hashed (sight.Stands stands) u v
+      → HasLooked same key found w → HasTold (found_of found) v w → StaysThere v w → HasFound same hash key found u w
+  found_then root mode hashed stands found u v w seen looked told stays = record {
+    looked = looked;
+    stays = stays_on u v w seen.1 stays;
+    ran = has_run same hash (Get key) (found_of found) u seen.2 w seen.3 (told_last seen.2 v w (found_of found) seen.4 told);
+  }

@@ -86,9 +86,9 @@ module _ {K V S : Type 0} where
   IsOfThem v w = (told : Progress (Node K V)) → newest_told told w.calls ≡ newest_told told v.calls
 
   -- straight code for the lookup of its call has come to this: its call has ended, or its lookup stands there
-  abbrev pub HasSeen : (K → K → Bool) → K → ℕ → ResizeMode → ℕ → Sight → View K V S → View K V S → Type 0
-  HasSeen same key root mode hash (sight.Ends found) v w = HasLooked same key found w × HasTold (found_of found) v w
-  HasSeen same key root mode hash (sight.Stands stands) v w = LooksFor key (looks root mode hash stands) w × IsOfThem v w
+  abbrev pub HasCome : (K → K → Bool) → K → ℕ → ResizeMode → ℕ → Sight → View K V S → View K V S → Type 0
+  HasCome same key root mode hashed (sight.Ends found) v w = HasLooked same key found w × HasTold (found_of found) v w
+  HasCome same key root mode hashed (sight.Stands stands) v w = LooksFor key (looks root mode hashed stands) w × IsOfThem v w
 
   -- It has begun one call more, within its section: to do this with the map that it knows. That has told this last.
   abbrev pub HasRun : (K → K → Bool) → (S → K → ℕ) → Wanted K V → Progress (Node K V) → View K V S → View K V S → Type 0
@@ -122,3 +122,9 @@ module _ {K V S : Type 0} where
     pub looked : HasLooked same key found w
     pub stays : StaysThere v w
     pub ran : HasRun same hash (Get key) (found_of found) v w
+
+  -- it has begun to look this key up, and straight code has come to this since then
+  abbrev pub HasSeen : (K → K → Bool) → (S → K → ℕ) → K → ℕ → ResizeMode → ℕ → Sight → View K V S → View K V S → Type 0
+  HasSeen same hash key root mode hashed (sight.Ends found) v w = HasFound same hash key found v w
+  HasSeen same hash key root mode hashed (sight.Stands stands) v w =
+      LooksFor key (looks root mode hashed stands) w × StaysThere v w × (u : View K V S) × Begins same hash (Get key) v u × IsOfThem u w
