@@ -1,7 +1,6 @@
 -- Straight code for the lookup of a seat's call: it may be run, and comes to what the seat knows then.
 use Rattle.std.specs.Prelude.{Option}
-use Rattle.std.proofs.Common.{◌≡◌, ℕ, Bool, refl, sym, subst, ap, ◌∙◌}
-use Rattle.papaya_views.specs.Given.SeizeWordsPlan.{Steps}
+use Rattle.std.proofs.Common.{ℕ, Bool, refl, ◌∙◌}
 use Rattle.papaya_views.specs.Given.SeizeDeclared.progress.Progress.{Progress}
 use Rattle.papaya_views.specs.Given.SeizeDeclared.progress.Progress.TheVariants as progress
 use Rattle.papaya_views.specs.Given.TablesDeclared.resize_mode.ResizeMode.{ResizeMode}
