@@ -1,7 +1,7 @@
 -- The history of what threads have done is legal.
-use Rattle.std.specs.Prelude.{◌<◌, ◌^◌, Bool, List, [], ◌∷◌, Option, Some}
+use Rattle.std.specs.Prelude.{Bool, List, [], ◌∷◌}
 use Rattle.std.specs.List.{AllByRecursion}
-use Rattle.std.proofs.Common.{◌≡◌, ℕ, refl, sym, subst, ◌∙◌}
+use Rattle.std.proofs.Common.{ℕ, refl, sym, subst, ◌∙◌}
 use Rattle.papaya_views.proofs.Given.SeizeActsAnswers.{same_some}
 use Rattle.papaya_views.specs.Given.SeizeSeatsState.{State}
 use Rattle.papaya_views.specs.Given.SeizeViewsDeclared.view.Fixed.{Fixed}

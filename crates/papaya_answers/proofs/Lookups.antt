@@ -1,5 +1,5 @@
 -- A lookup owes nothing, and so it is answered what the finite map of its map has for the key at a moment since it began.
-use Rattle.std.specs.Prelude.{◌⊎◌, ◌+◌, ◌++◌, length, flat_map, Option, Some, None, if◌then◌else◌}
+use Rattle.std.specs.Prelude.{◌+◌, ◌++◌, length, flat_map, Option, Some, None, if◌then◌else◌}
 use Rattle.std.proofs.Common.{◌≡◌, ℕ, Bool, true, false, List, [], ◌∷◌, inl, inr, refl, sym, subst, ap, ◌∙◌}
 use Rattle.papaya_views.proofs.Given.SeizeActsAnswers.{same_some}
 use Rattle.papaya_histories.specs.Due.{Owes, ShowsDue}
@@ -13,7 +13,6 @@ use Rattle.papaya_moves.specs.Given.ScenesScene.{Scene}
 use Rattle.papaya_moves.specs.Given.SchedulesDeclared.call.Answer.{Answer}
 use Rattle.papaya_moves.specs.Given.SchedulesDeclared.call.Call.{Call}
 use Rattle.papaya_moves.specs.Given.SchedulesDeclared.call.Call.TheVariants as calls
-use Rattle.papaya_moves.specs.Given.SchedulesDeclared.call.OneKey.{OneKey}
 use Rattle.papaya_moves.specs.Given.SchedulesDeclared.call.OneKey.TheVariants.{Get}
 use Rattle.papaya_moves.specs.Given.SchedulesDeclared.effect.Effect.{Effect}
 use Rattle.papaya_moves.specs.Given.SchedulesDeclared.effect.Effect.TheVariants as effect
@@ -22,7 +21,7 @@ use Rattle.papaya_moves.specs.Given.SchedulesEffects.{call_by, due_for, with_eff
 use Rattle.papaya_moves.specs.Given.SchedulesLinearizable.{Changes, ChangesOnce, Ends, AnswersDue, IsRight, IsRightOf, meaning_at, shift_of, there_for}
 use Rattle.papaya_moves.specs.Given.SchedulesLists.{OneOf}
 use Rattle.papaya_moves.specs.Given.SchedulesMoment.{Moment, UnderWay}
-use Rattle.papaya_moves.specs.Given.SchedulesSequential.{Deed as DeedOf, Leaves, Answers, Meaning, looked, shifts}
+use Rattle.papaya_moves.specs.Given.SchedulesSequential.{Leaves, Answers, looked, shifts}
 use Rattle.papaya_moves.specs.Given.SchedulesTransition.{Past, Transition, call_left}
 use Rattle.papaya_moves.specs.Given.SchedulesViews.{call_of, finite_map}
 use Rattle.papaya_moves.specs.Given.DeedsDeeds.{Entry, Steps, acted_on, moment, named}

@@ -1,6 +1,6 @@
 -- Makings that are numbered in order give no number to two maps.
-use Rattle.std.specs.Prelude.{◌≢◌, ◌==◌, suc, if◌then◌else◌}
-use Rattle.std.proofs.Common.{◌≡◌, ℕ, ◌<◌, Bool, true, false, List, [], ◌∷◌, refl, sym, subst, ap, ◌∙◌, arith}
+use Rattle.std.specs.Prelude.{◌==◌, suc, if◌then◌else◌}
+use Rattle.std.proofs.Common.{◌≡◌, ℕ, ◌<◌, Bool, true, false, List, [], ◌∷◌, refl, ap, ◌∙◌, arith}
 use Rattle.std.proofs.lemmas.Bool.{ne_eqb}
 use Rattle.papaya_moves.specs.Given.ActsActs.{BeginsMaking}
 use Rattle.papaya_moves.specs.Given.ActsDoings.{Doing, Does}

@@ -1,12 +1,11 @@
--- Histories worked by hand: a lookup that was answered stands in its history, and was so. And wrong ones, in which it does not stand, or was not so, each refused for its reason.
+-- Histories worked by hand: a lookup that was answered stands in its history, and was so; and so do storings, and answers one for one. And wrong ones, each refused for its reason.
 use Rattle.std.specs.Prelude.{nat_eq}
 use Rattle.std.specs.Option.{is_none}
-use Rattle.std.proofs.Common.{◌≡◌, ℕ, Bool, true, false, List, [], ◌∷◌, ◌⊎◌, inl, inr, refl, sym, subst, ap, ◌∙◌, arith, Option, Some, None}
+use Rattle.std.proofs.Common.{◌≡◌, ℕ, true, false, List, [], ◌∷◌, ◌⊎◌, inl, inr, refl, sym, subst, ap, ◌∙◌, arith, Option, Some, None}
 use Rattle.papaya_views.proofs.Given.SeizeActsAnswers.{same_some}
 use Rattle.papaya_views.specs.Given.TablesDeclared.resize_mode.ResizeMode.TheVariants.{Incremental}
 use Rattle.papaya_moves.specs.Given.SchedulesDeclared.call.Answer.{Answer}
 use Rattle.papaya_moves.specs.Given.SchedulesDeclared.call.Answer.TheVariants as answer
-use Rattle.papaya_moves.specs.Given.SchedulesDeclared.call.Call.{Call}
 use Rattle.papaya_moves.specs.Given.SchedulesDeclared.call.Call.TheVariants.{On}
 use Rattle.papaya_moves.specs.Given.SchedulesDeclared.call.OneKey.TheVariants.{Get, Insert, Remove}
 use Rattle.papaya_moves.specs.Given.SchedulesDeclared.effect.Effect.{Effect}
@@ -19,8 +18,16 @@ use Rattle.papaya_moves.specs.Given.SchedulesSequential.{Meaning, Answers, Leave
 use Rattle.papaya_moves.specs.Given.SchedulesViews.{call_of, finite_map}
 use Rattle.papaya_moves.specs.Given.DeedsDeeds.{Deed, Begins, Steps, Opens, MapComes, Entry, moment, named}
 use Rattle.papaya_moves.specs.Given.DeedsHistory.{moments_from}
-use Rattle.papaya_answers.specs.Answered.{IsAnswered, IsItsEnd}
-use Rattle.papaya_answers.specs.Lookups.{IsLookedUp, WasSo}
+use Rattle.papaya_answers.specs.Answered.{ByNewest, IsAnswered, IsItsEnd}
+use Rattle.papaya_moves.specs.Given.ActsActs.{Get as GetsKey}
+use Rattle.papaya_moves.specs.Given.EffectsKnown.{nothing_known}
+use Rattle.papaya_histories.specs.Given.RunsLog.{pair_at}
+use Rattle.papaya_views.specs.Given.RawDeclared.machines.answer.KeyAnswer.TheVariants as says
+use Rattle.papaya_views.specs.Given.RawDeclared.machines.progress.Answer.TheVariants.{Key}
+use Rattle.papaya_views.specs.Given.RawDeclared.machines.progress.Progress.TheVariants as progress
+use Rattle.papaya_views.specs.Listed.{Called}
+use Rattle.papaya_answers.specs.Lookups.{IsLookedUp, WasHad, WasSo}
+use Rattle.papaya_answers.specs.Order.{HaveGot}
 
 abbrev entry : Deed ℕ ℕ → Outcome ℕ → List Effect → Entry ℕ ℕ
 entry deed outcome effects = record { deed = deed; outcome = outcome; effects = effects; refused = false }
@@ -60,7 +67,7 @@ stands =
     })
 
 was_so : IsLookedUp nat_eq (told answer.Absent first) 3 0 1 answer.Absent
-was_so = inl (record { deed = refl; comes = refl; there = (there (looking first) refl).0; here = (there (looking first) refl).1; on = refl; so = inl refl })
+was_so = inl (record { deed = refl; comes = refl; there = (there (looking first) refl).0; here = (there (looking first) refl).1; on = refl; what = refl; so = inl refl })
 
 -- neither of two is so
 either : {A B : Type 0} → (A → ⊥) → (B → ⊥) → A ⊎ B → ⊥
@@ -132,7 +139,7 @@ removed = entry (Steps 2) Goes (Removed 1 ∷ []) ∷ entry (Begins 2 3 0 (On (R
 
 -- a lookup finds it while it is there,
 found_there : IsLookedUp nat_eq (told (answer.Found 1) stored) 3 0 1 (answer.Found 1)
-found_there = inl (record { deed = refl; comes = refl; there = (there (looking stored) refl).0; here = (there (looking stored) refl).1; on = refl; so = inl refl })
+found_there = inl (record { deed = refl; comes = refl; there = (there (looking stored) refl).0; here = (there (looking stored) refl).1; on = refl; what = refl; so = inl refl })
 
 -- Wrong: one that begins later has found it; or has found none while it was there.
 abbrev WasSoThen : Answer ℕ → List (Entry ℕ ℕ) → Type 0
@@ -156,3 +163,62 @@ found_absent n h = cc
 missed : WasSoThen answer.Absent stored → ⊥
 missed was =
     either (found_absent 1) (either (found_absent 1) never) (subst (λ (b : ℕ). SoSince b answer.Absent stored) (begun_then stored 5 refl refl answer.Absent was) was.so)
+
+-- the value that the finite map had is the one that was stored,
+found_stored : WasSo nat_eq 3 0 1 (answer.Found 1) (looking stored) (entry (Steps 3) (Answered (answer.Found 1)) [])
+found_stored = record { deed = refl; comes = refl; there = (there (looking stored) refl).0; here = (there (looking stored) refl).1; on = refl; what = refl; so = inl refl }
+
+had_stored : ByNewest 3 (WasHad nat_eq 3 0 1 10) (told (answer.Found 1) stored)
+had_stored = record { number = 1; found = found_stored; stored = 1; pair = refl }
+
+-- Wrong: an older lookup of the caller had it, and the newest one is still under way.
+not_the_newest : ByNewest 3 (WasHad nat_eq 3 0 1 10) (entry (Steps 3) Goes [] ∷ looking (told (answer.Found 1) stored)) → ⊥
+not_the_newest was = let goes = was.found.comes in absurd (cc goes)
+
+-- Wrong: another value.
+two_values : (key : ℕ) → ◌≡◌ {A = Option (ℕ × ℕ)} (Some (1, 10)) (Some (key, 11)) → ⊥
+two_values key h = let both = same_some (1, 10) (key, 11) h in let values : 10 ≡ 11 = ap (λ (p : ℕ × ℕ). p.1) both in omega (arith, values)
+
+had_other : WasHad nat_eq 3 0 1 11 (looking stored) (entry (Steps 3) (Answered (answer.Found 1)) []) → ⊥
+had_other was =
+    let found = was.found.comes in
+    let one : was.number ≡ 1 = cc found in
+    two_values was.stored (subst (λ (n : ℕ). pair_at (moment (told (answer.Found 1) stored)).stored n ≡ Some (was.stored, 11)) one was.pair)
+
+-- A storing that has found none to replace;
+abbrev storing : List (Entry ℕ ℕ)
+storing = entry (Steps 1) Goes (Stored 1 (record { turn = 0; place = 1 }) ∷ []) ∷ entry (Begins 1 3 0 (On (Insert 1 10))) Goes [] ∷ first
+
+abbrev stores : (log : List (Entry ℕ ℕ)) → is_none (call_of (named 1) (moment log)) ≡ false → (c : UnderWay ℕ ℕ) × (call_of (named 1) (moment log) ≡ Some c)
+stores log is = the (call_of (named 1) (moment log)) is
+
+has_stored : IsAnswered nat_eq stored 1 0 (On (Insert 1 10)) (Answered answer.Absent)
+has_stored =
+    inl (record {
+      deed = refl;
+      comes = refl;
+      there = (stores storing refl).0;
+      here = (stores storing refl).1;
+      on = refl;
+      what = refl;
+      right = record { changes = inl refl; ends = refl; asks = tt };
+    })
+
+-- wrong: it says that it has replaced a pair, which was not there.
+has_not_replaced : IsItsEnd nat_eq 1 0 (On (Insert 1 10)) (Answered (answer.Found 5)) storing (entry (Steps 1) (Answered (answer.Found 5)) []) → ⊥
+has_not_replaced is = found_absent 5 is.right.ends
+
+-- A caller whose lookup was told that there was none has got that answer;
+abbrev lookup : Called ℕ ℕ
+lookup = record { caller = 3; map = 0; wanted = GetsKey 1; told = progress.Done (Key says.Absent) }
+
+has_got : HaveGot 3 (lookup ∷ []) ((On (Get 1), answer.Absent) ∷ [])
+has_got = (refl, (nothing_known, None, refl), refl)
+
+-- wrong: two such lookups have got one answer between them;
+one_for_two : HaveGot 3 (lookup ∷ lookup ∷ []) ((On (Get 1), answer.Absent) ∷ []) → ⊥
+one_for_two got = got.2
+
+-- or one has got an answer more than it was told.
+one_too_many : HaveGot 3 (lookup ∷ []) ((On (Get 1), answer.Absent) ∷ (On (Get 1), answer.Absent) ∷ []) → ⊥
+one_too_many got = let rest = got.2 in absurd (cc rest)

@@ -18,7 +18,7 @@ use Rattle.papaya_views.specs.Given.RawDeclared.machines.machine.Machine.TheVari
 use Rattle.papaya_views.specs.Begun.{machine_for}
 use Rattle.papaya_views.specs.Listed.{plain}
 use Rattle.papaya_views.specs.declared.view.Map.{Map}
-use Rattle.papaya_moves.specs.Given.ActsActs.{Wanted, Get, Remove, Insert, TryToInsert, Compute, Update, UpdateOrInsert, TryToInsertWith, RemoveIf, GetKeyValue, ContainsKey, GetOrInsert, GetOrInsertWith, RemoveEntry, MakeRoom, Count, GoOver}
+use Rattle.papaya_moves.specs.Given.ActsActs.{Wanted, Get, Remove, Insert, TryToInsert, Compute, Update, UpdateOrInsert, TryToInsertWith, RemoveIf, MakeRoom, Count, GoOver}
 
 module _ {K V : Type 0} where
   -- by what it does where the key is there and where it is missing, by what stands for the key, the pair that it has, and what it takes and was told

@@ -1,5 +1,5 @@
 -- That a call which a seat knows to have ended stands in the history, has come to what its seat was told, and that this is so.
-use Rattle.std.specs.Prelude.{◌≡◌, ◌⊎◌, ◌<◌, ◌^◌, ◌++◌, ℕ, Bool, true, List, [], ◌∷◌, Option, Some}
+use Rattle.std.specs.Prelude.{◌≡◌, ◌⊎◌, ◌<◌, ◌^◌, ◌++◌, ℕ, Bool, true, false, List, [], ◌∷◌, Option, Some}
 use Rattle.papaya_views.specs.Given.SeizeSeatsState.{State, view_of}
 use Rattle.papaya_views.specs.Given.SeizeViewsDeclared.view.Fixed.{Fixed}
 use Rattle.papaya_views.specs.Given.TablesDeclared.node.Node.{Node}
@@ -15,11 +15,22 @@ use Rattle.papaya_moves.specs.Given.SchedulesDeclared.call.Call.{Call}
 use Rattle.papaya_moves.specs.Given.SchedulesDeclared.outcome.Outcome.{Outcome}
 use Rattle.papaya_moves.specs.Given.ActsActs.{Wanted}
 use Rattle.papaya_moves.specs.Given.DeedsDeeds.{Entry, Steps, moment, named}
-use Rattle.papaya_moves.specs.Given.DeedsHistory.{IsLinearizable}
+use Rattle.papaya_moves.specs.Given.DeedsHistory.{IsLinearizable, is_of}
 use Rattle.papaya_moves.specs.Given.EffectsKnown.{Known}
 use Rattle.papaya_moves.specs.Given.NamedSeen.{kind_of}
 use Rattle.papaya_moves.specs.Given.PlayedPlay.{State as Played, call_for, first_state, outcome_of, play_all}
 use Rattle.papaya_moves.specs.Given.ScenesStepping.{has_ended}
+
+-- one of two, by a test
+abbrev pub IfElse : Bool → Type 0 → Type 0 → Type 0
+IfElse true A B = A
+IfElse false A B = B
+
+module _ {K V : Type 0} where
+  -- of the steps of this caller's calls the newest one is such an entry
+  abbrev pub ByNewest : ℕ → (List (Entry K V) → Entry K V → Type 0) → List (Entry K V) → Type 0
+  ByNewest i So [] = ⊥
+  ByNewest i So (e ∷ log) = IfElse (is_of i e.deed) (So log e) (ByNewest i So log)
 
 module _ {K V : Type 0} (same : K → K → Bool) where
   -- By this entry the caller's call comes to its end: it has this call under way on this map, which comes to this; and that is so: an answer is what the call means in the

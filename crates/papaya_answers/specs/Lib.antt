@@ -1,3 +1,5 @@
 pub mod Legal
 pub mod Answered
 pub mod Lookups
+pub mod Calls
+pub mod Order

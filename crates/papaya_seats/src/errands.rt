@@ -79,7 +79,7 @@ impl<'f, R: Wait, K: Eq + Hash, V, S: Hashes<K>> Errand<Node<K, V>, OfMaps<S>> f
 pub struct Does<'d, R, K, V, S> {
     pub rt: &'d R,
     pub hasher: &'d S,
-    pub machine: Machine<K, V>,
+    pub machine: &'d mut Machine<K, V>,
     pub near: u64,
 }
 
@@ -87,9 +87,9 @@ impl<'d, R: Wait, K: Eq + Hash + Drop, V: Drop, S: Hashes<K>> Errand<Node<K, V>,
     for Does<'d, R, K, V, S> {
     type Answer = Ran<K, V>;
 
-    ghost asks = { λ d fixed v. MayCall K.eq S.hash d.hasher.now d.machine v };
+    ghost asks = { λ d fixed v. MayCall K.eq S.hash d.hasher.now d.machine.now v };
 
-    ghost did = { λ d fixed v answer w. HasCalled K.eq S.hash (wanted_of d.machine) answer.told answer.unstored v w };
+    ghost did = { λ d fixed v answer w. HasCalled K.eq S.hash (wanted_of d.machine.now) answer.told answer.unstored v w };
 
     fn run(
         self,

@@ -161,10 +161,10 @@ fn hands_abroad(
         return None;
     }
     puts_one(one, drops)?;
-    let mut near = 0;
-    let second = one.make(&mut near, Counted::of(drops)?).ok()?;
     let mut foreign = other.register().ok()?;
     let mut own = one.register().ok()?;
+    let mut near = 0;
+    let second = one.make(&mut near, Counted::of(drops)?).ok()?;
     match second.publish(0) {
         Ok(Some(old)) => Some(goes_home(foreign.retire(old), &mut own)),
         Ok(None) => None,

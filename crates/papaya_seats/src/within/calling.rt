@@ -106,17 +106,16 @@ impl<'a, K: Eq + Hash + Drop, V: Drop, S: Hashes<K>> Within<'a, K, V, S> {
     }
 
     /// Takes the steps of its call until it has ended, and answers how, and the call's own pair where that was not stored. How many steps it takes is up to the others.
-    fn runs<R: Wait>(&mut self, rt: &R, hasher: &S, machine: Machine<K, V>) -> Ran<K, V>
-        requires calls { IsCalling hasher.now machine self.old.seat.now.view }
+    fn runs<R: Wait>(&mut self, rt: &R, hasher: &S, machine: &mut Machine<K, V>) -> Ran<K, V>
+        requires calls { IsCalling hasher.now machine.old self.old.seat.now.view }
         ensures ended { HasEnded result.told self.old.seat.now.view self.new.seat.now.view }
-        ensures back { (pair : Node K V) → MachineStores pair machine → pair_in self.old.seat.now.view.calls ≡ Some pair → IsBack pair result.told result.unstored }
+        ensures back { (pair : Node K V) → MachineStores pair machine.old → pair_in self.old.seat.now.view.calls ≡ Some pair → IsBack pair result.told result.unstored }
         ensures stays { StaysThere self.old.seat.now.view self.new.seat.now.view }
         ensures same { IsSameSeat self.old self.new }
     {
-        let mut machine = machine;
         let mut unstored = None;
         for _ in rt.forever() {
-            let told = self.calls(&mut machine, hasher);
+            let told = self.calls(machine, hasher);
             if let Some(answer) = ended(told, &mut unstored) {
                 return self.ran(answer, unstored);
             }
@@ -148,12 +147,17 @@ impl<'a, K: Eq + Hash + Drop, V: Drop, S: Hashes<K>> Within<'a, K, V, S> {
     }
 
     /// Runs this call, which asks nothing, on the map that it knows.
-    pub(crate) fn does<R: Wait>(&mut self, rt: &R, hasher: &S, machine: Machine<K, V>) -> Ran<K, V>
-        requires may { MayCall K.eq S.hash hasher.now machine self.old.seat.now.view }
-        ensures called { HasCalled K.eq S.hash (wanted_of machine) result.told result.unstored self.old.seat.now.view self.new.seat.now.view }
+    pub(crate) fn does<R: Wait>(
+        &mut self,
+        rt: &R,
+        hasher: &S,
+        machine: &mut Machine<K, V>,
+    ) -> Ran<K, V>
+        requires may { MayCall K.eq S.hash hasher.now machine.old self.old.seat.now.view }
+        ensures called { HasCalled K.eq S.hash (wanted_of machine.old) result.told result.unstored self.old.seat.now.view self.new.seat.now.view }
         ensures same { IsSameSeat self.old self.new }
     {
-        self.begins(&machine);
+        self.begins(machine);
         self.runs(rt, hasher, machine)
     }
 }

@@ -52,12 +52,13 @@ impl<'a, K: Eq + Hash + Drop, V: Drop, S: Hashes<K>> Caller<'a, K, V, S> {
         ensures called { HasCalled K.eq S.hash (wanted_of machine) result.told result.unstored self.old.seat.view self.new.seat.view }
         ensures blocks { self.new.blocks ≡ self.old.blocks }
     {
+        let mut machine = machine;
         let ran = self.blocks.errand(
             &mut self.seat,
             Does {
                 rt,
                 hasher,
-                machine,
+                machine: &mut machine,
                 near: self.near,
             },
         );

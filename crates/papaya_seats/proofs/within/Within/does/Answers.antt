@@ -15,7 +15,7 @@ runs-requires g c =
             stage = m.stage;
             none = m.none;
             goes =
-                is_begun g.K.PartialEq.eq g.S.Hashes.hash m.kind m.stage c.args.hasher.now c.args.machine c.args.self.now.seat.now.view c.begins.new.self.seat.now.view m.may
+                is_begun g.K.PartialEq.eq g.S.Hashes.hash m.kind m.stage c.args.hasher.now c.args.machine.now c.args.self.now.seat.now.view c.begins.new.self.seat.now.view m.may
                 c.begins.ensures.begins;
           };
     }
@@ -23,7 +23,7 @@ runs-requires g c =
 pub returns-clause-called : goal.returns-clause-called
 returns-clause-called g c =
     let u = c.args.self.now.seat.now.view in let v = c.begins.new.self.seat.now.view in let w = c.runs.new.self.seat.now.view in
-    let wanted = wanted_of c.args.machine in record {
+    let wanted = wanted_of c.args.machine.now in record {
       free = c.runs.ensures.ended.free;
       stays = stays_on u v w (stays_begun g.K.PartialEq.eq g.S.Hashes.hash wanted u v c.begins.ensures.begins) c.runs.ensures.stays;
       ran = has_run g.K.PartialEq.eq g.S.Hashes.hash wanted (outcome_of c.runs.result.told) u v w c.begins.ensures.begins c.runs.ensures.ended.told;

@@ -12,7 +12,7 @@ loop-init g c = (
   record { slot = refl; map = refl },
   refl,
   λ told. refl,
-  λ pair stores its. has_it pair c.args.machine _ stores,
+  λ pair stores its. has_it pair c.args.machine.now _ stores,
 )
 
 pub ended-requires : goal.ended-requires
