@@ -12,7 +12,7 @@ ghost use Rattle.papaya_views.specs.Given.SeizeViewsDeclared.view.View.TheVarian
 
 use crate::turns::{Beginning, Wants};
 use crate::within::Within;
-use papaya_resize::{Looking, Lookup};
+use papaya_resize::Lookup;
 use papaya_straight::{Sight, look_up};
 use papaya_tables::{Hashes, ResizeMode};
 use seize::Progress;
