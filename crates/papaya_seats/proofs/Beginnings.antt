@@ -82,6 +82,10 @@ module _ {K V S : Type 0} (same : K → K → Bool) (hash : S → K → ℕ) (ke
         on = subst (λ (l : Lookup). IsOn l.stands) (sym is) tt;
       }
 
+  -- it looks from the root on
+  pub from_root : (lookup : Lookup) (v : View K V S) → MayLook hash key lookup v → MayLook hash key (looking lookup.root lookup.mode lookup.hash) v
+  from_root lookup v may = subst (λ (l : Lookup). MayLook hash key l v) (subst (λ (l : Lookup). l ≡ looking l.root l.mode l.hash) (sym may.begins) refl) may
+
 -- slot and map stay as a call begins
 pub stays_begun : {K V S : Type 0} (same : K → K → Bool) (hash : S → K → ℕ) (wanted : Wanted K V) (v w : View K V S) → Begins same hash wanted v w → StaysThere v w
 stays_begun {K} {V} {S} same hash wanted v w begins =

@@ -15,3 +15,4 @@ mod Makings
 mod Beginnings
 pub mod Shown
 mod Runs
+mod Straight

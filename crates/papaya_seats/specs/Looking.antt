@@ -28,6 +28,10 @@ use Rattle.papaya_views.specs.Looks.{shown_in}
 use Rattle.papaya_views.specs.declared.view.Map.{Map}
 use Rattle.papaya_views.specs.declared.view.View.{View}
 use Rattle.papaya_views.specs.declared.view.Work.TheVariants.{Nothing, Calls}
+use Rattle.papaya_straight.specs.Looking.{looks}
+use Rattle.papaya_straight.specs.declared.looking.Sight.{Sight}
+use Rattle.papaya_straight.specs.declared.looking.Sight.TheVariants as sight
+use Rattle.papaya_views.specs.Given.TablesDeclared.resize_mode.ResizeMode.{ResizeMode}
 
 -- the lookup has not ended
 abbrev pub IsOn : Looking → Type 0
@@ -81,6 +85,11 @@ module _ {K V S : Type 0} where
   abbrev pub IsOfThem : View K V S → View K V S → Type 0
   IsOfThem v w = (told : Progress (Node K V)) → newest_told told w.calls ≡ newest_told told v.calls
 
+  -- straight code for the lookup of its call has come to this: its call has ended, or its lookup stands there
+  abbrev pub HasCome : (K → K → Bool) → K → ℕ → ResizeMode → ℕ → Sight → View K V S → View K V S → Type 0
+  HasCome same key root mode hashed (sight.Ends found) v w = HasLooked same key found w × HasTold (found_of found) v w
+  HasCome same key root mode hashed (sight.Stands stands) v w = LooksFor key (looks root mode hashed stands) w × IsOfThem v w
+
   -- It has begun one call more, within its section: to do this with the map that it knows. That has told this last.
   abbrev pub HasRun : (K → K → Bool) → (S → K → ℕ) → Wanted K V → Progress (Node K V) → View K V S → View K V S → Type 0
   HasRun same hash wanted told v w =
@@ -113,3 +122,9 @@ module _ {K V S : Type 0} where
     pub looked : HasLooked same key found w
     pub stays : StaysThere v w
     pub ran : HasRun same hash (Get key) (found_of found) v w
+
+  -- it has begun to look this key up, and straight code has come to this since then
+  abbrev pub HasSeen : (K → K → Bool) → (S → K → ℕ) → K → ℕ → ResizeMode → ℕ → Sight → View K V S → View K V S → Type 0
+  HasSeen same hash key root mode hashed (sight.Ends found) v w = HasFound same hash key found v w
+  HasSeen same hash key root mode hashed (sight.Stands stands) v w =
+      LooksFor key (looks root mode hashed stands) w × StaysThere v w × (u : View K V S) × Begins same hash (Get key) v u × IsOfThem u w

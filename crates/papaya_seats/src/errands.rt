@@ -6,9 +6,11 @@ ghost use Rattle.papaya_seats.specs.Making.{CameTo, MayBegin};
 ghost use Rattle.papaya_views.specs.declared.view.Work.TheVariants.{Nothing as NoWork};
 ghost use Rattle.papaya_views.specs.Given.SeizeViewsDeclared.view.View.TheVariants.{Rests};
 
+use crate::finding::{goes_on, sees};
 use crate::within::{Ran, Within};
 use papaya_raw::machines::Machine;
 use papaya_resize::{Lookup, NewMap};
+use papaya_straight::Sight;
 use papaya_tables::{Hashes, Node, Setting};
 use papaya_views::OfMaps;
 use seize_blocks::{Blocks, Errand, Seat};
@@ -62,8 +64,13 @@ impl<'f, R: Wait, K: Eq + Hash, V, S: Hashes<K>> Errand<Node<K, V>, OfMaps<S>> f
         seat: &mut Seat<Node<K, V>, OfMaps<S>>,
     ) -> Option<u64> {
         let Finds { rt, key, lookup } = self;
-        let mut within = Within::new(blocks, seat, 0);
-        within.finds(rt, lookup, key)
+        let root = lookup.root;
+        let mode = lookup.mode;
+        let hash = lookup.hash;
+        match sees(blocks, seat, root, mode, hash, key) {
+            Sight::Ends(found) => found,
+            Sight::Stands(stands) => goes_on(rt, blocks, seat, root, mode, hash, stands, key),
+        }
     }
 }
 

@@ -2,6 +2,7 @@
 #![tactic(auto)]
 
 mod errands;
+mod finding;
 mod memory;
 mod turns;
 mod within;

@@ -1,8 +1,9 @@
 //! A seat on an errand looks a key up.
 ghost use Rattle.std.specs.Prelude.{◌≡◌, ℕ, true, Some};
 ghost use Rattle.papaya_views.specs.Given.ActsActs.{Get};
-ghost use Rattle.papaya_seats.specs.Looking.{Begins, HasFound, HasLooked, HasTold, LookedSo, LooksFor, MayLook, StaysThere, found_of, looking_told};
+ghost use Rattle.papaya_seats.specs.Looking.{Begins, HasCome, HasLooked, HasSeen, HasTold, LookedSo, LooksFor, MayLook, StaysThere, found_of, looking_told};
 ghost use Rattle.papaya_seats.specs.Made.{IsSameSeat};
+ghost use Rattle.papaya_views.specs.Given.ResizeLookup.{looking};
 ghost use Rattle.papaya_views.specs.Given.TablesChunks.{is_incremental};
 ghost use Rattle.papaya_views.specs.declared.view.Map.{Map};
 ghost use Rattle.papaya_views.specs.declared.view.Work.TheVariants.{Nothing as NoWork};
@@ -12,7 +13,8 @@ ghost use Rattle.papaya_views.specs.Given.SeizeViewsDeclared.view.View.TheVarian
 use crate::turns::{Beginning, Wants};
 use crate::within::Within;
 use papaya_resize::Lookup;
-use papaya_tables::Hashes;
+use papaya_straight::{Sight, look_up};
+use papaya_tables::{Hashes, ResizeMode};
 use seize::Progress;
 use std::hash::Hash;
 use std::marker::Brand;
@@ -55,8 +57,8 @@ impl<'a, K: Eq + Hash, V, S: Hashes<K>> Within<'a, K, V, S> {
         lookup.step(self, key)
     }
 
-    /// Takes the steps of its lookup until it has ended.
-    fn goes_through<R: Wait>(&mut self, rt: &R, lookup: Lookup, key: &K) -> Option<u64>
+    /// Takes the steps of its lookup until it has ended. A lookup goes on to a later table where pairs are copied there, so how many steps it takes is up to the others.
+    pub(crate) fn goes_through<R: Wait>(&mut self, rt: &R, lookup: Lookup, key: &K) -> Option<u64>
         requires looks { LooksFor key.now lookup self.old.seat.now.view }
         ensures looked { HasLooked K.eq key.now result self.new.seat.now.view }
         ensures told { HasTold (found_of result) self.old.seat.now.view self.new.seat.now.view }
@@ -74,14 +76,25 @@ impl<'a, K: Eq + Hash, V, S: Hashes<K>> Within<'a, K, V, S> {
         unreachable!()
     }
 
-    /// Looks this key up within its section, by this lookup, and answers the word that names the pair found. A lookup goes on to a later table where pairs are copied
-    /// there, so how many steps it takes is up to the others.
-    pub(crate) fn finds<R: Wait>(&mut self, rt: &R, lookup: Lookup, key: &K) -> Option<u64>
-        requires may { MayLook S.hash key.now lookup self.old.seat.now.view }
-        ensures found { HasFound K.eq S.hash key.now result self.old.seat.now.view self.new.seat.now.view }
+    /// Looks the key up by straight code, as far as that goes: over the tries at the root's table.
+    #[inline(always)]
+    fn looks_up(&mut self, root: u64, mode: ResizeMode, hash: u64, key: &K) -> Sight
+        requires looks { LooksFor key.now (looking root mode hash) self.old.seat.now.view }
+        ensures come { HasCome K.eq key.now root mode hash result self.old.seat.now.view self.new.seat.now.view }
+        ensures stays { StaysThere self.old.seat.now.view self.new.seat.now.view }
+        ensures same { IsSameSeat self.old self.new }
+    {
+        look_up::<K, V, K, Self>(self, root, mode, hash, key)
+    }
+
+    /// Begins to look the key up within its section, and looks by straight code.
+    #[inline(always)]
+    pub(crate) fn sees(&mut self, root: u64, mode: ResizeMode, hash: u64, key: &K) -> Sight
+        requires may { MayLook S.hash key.now (looking root mode hash) self.old.seat.now.view }
+        ensures seen { HasSeen K.eq S.hash key.now root mode hash result self.old.seat.now.view self.new.seat.now.view }
         ensures same { IsSameSeat self.old self.new }
     {
         self.begins_to_look(key);
-        self.goes_through(rt, lookup, key)
+        self.looks_up(root, mode, hash, key)
     }
 }

@@ -1,21 +1,22 @@
-use Rattle.std.proofs.Common.{◌≡◌, sym, subst, ◌∙◌}
-use Rattle.papaya_seats.specs.Looking.{HasFound}
-use Rattle.papaya_views.specs.declared.view.View.{View}
-use Rattle.seize_callers.proofs.Keeping.{kept_same}
+use Rattle.std.proofs.Common.{◌∙◌}
+use Rattle.papaya_seats.proofs.Beginnings.{from_root}
+use Rattle.papaya_seats.proofs.Straight.{found_then}
 use Rattle.papaya_seats.proofs.errands.FindsErrandNodeOfMaps.run.Goals as goal
 
--- the seat is the one that was lent
-pub returns : goal.returns
-returns g c =
-    let s = kept_same _ _ _ _ _ _ _ _ c.finds.ensures.same in
-    let blocks = s.0 in let name = s.1 in let id = s.2 in let away = s.3 in
-    let is = c.seat-1.given.1 (sym (name ∙ c.new-within.ensures.name)) in
-    let was = c.new-within.ensures.seat in let own = c.finds.new.self.own in let first = c.new-within.result.own in
-    let before : c.new-within.result.seat.now.view ≡ c.args.seat.now.view = cc was in
-    let after : c.finds.new.self.seat.now.view ≡ c.seat-1.given.0.view = cc is in (
-      cc (is, own, blocks, first, was),
-      cc (is, id, was),
-      cc (is, away, was),
-      subst (λ (v : View g.row.K.Denot g.row.V.Denot g.row.S.Denot). HasFound g.K.PartialEq.eq g.S.Hashes.hash c.args.self.key.now c.finds.result v c.seat-1.given.0.view) before
-          (subst (λ (w : View g.row.K.Denot g.row.V.Denot g.row.S.Denot). HasFound g.K.PartialEq.eq g.S.Hashes.hash c.args.self.key.now c.finds.result c.new-within.result.seat.now.view w) after c.finds.ensures.found),
+pub sees-requires : goal.sees-requires
+sees-requires g c = record {
+  own = c.requires.0;
+  away = c.requires.1;
+  may = from_root g.K.PartialEq.eq g.S.Hashes.hash c.args.self.key.now c.args.self.lookup c.args.seat.now.view c.requires.2;
+}
+
+-- the steps that were left have ended it
+pub returns-in-Stands : goal.returns-in-Stands
+returns-in-Stands g c =
+    let s = c.in-Stands.ensures in let e = c.goes_on.ensures in let l = c.args.self.lookup in (
+      e.same.0 ∙ s.same.0,
+      e.same.1 ∙ s.same.1,
+      e.same.2 ∙ s.same.2,
+      found_then g.K.PartialEq.eq g.S.Hashes.hash c.args.self.key.now l.root l.mode l.hash c.in-Stands.stands c.goes_on.result c.args.seat.now.view c.sees.new.seat.view
+          c.goes_on.new.seat.view s.seen e.looked e.told e.stays,
     )
