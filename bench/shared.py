@@ -3,10 +3,10 @@
 
     python3 bench/shared.py [PROGRAM] [--beside NAME=PROGRAM ..] [--kinds NAME ..] [--threads N ..] [--keys N] [--rounds N] [--instructions]
 
-PROGRAM is the built program. Without it bench/shared.rt is proved and built by `rt run`, in a folder of its own beside links to this workspace's crates.
+PROGRAM is the built program. Without it bench/shared.program is proved and built by `rt run`, in a folder of its own beside links to this workspace's crates.
 
 A program beside it answers a line `run KIND KEYS THREADS MILLISECONDS` by `R CALLS SECONDS`: it does such calls for so long on a map of so many
-pairs, or stores so many new keys in an empty map again and again (insert), with the keys and the order of keys of bench/shared.rt. One that holds
+pairs, or stores so many new keys in an empty map again and again (insert), with the keys and the order of keys of bench/shared.program. One that holds
 a guard over many calls has a name that ends in `-held`, and is compared with sections of 250 calls; each other one with a section for each call.
 
 A row has a kind of call and a number of threads; the median of the rounds in nanoseconds a call of a thread, with a section for each call and with
@@ -96,8 +96,8 @@ def instructions(program, given):
 
 
 def built(room):
-    """Proves and builds bench/shared.rt there."""
-    with open(os.path.join(TOP, "bench", "shared.rt"), encoding="utf-8") as it:
+    """Proves and builds bench/shared.program there."""
+    with open(os.path.join(TOP, "bench", "shared.program"), encoding="utf-8") as it:
         laid(room, NAME, BELOW, it.read())
     crate = f"{room}/crates/{NAME}"
     subprocess.run(["rt", "run"], cwd=crate, input="insert 1 256 250 250\n", text=True, check=True)
