@@ -36,6 +36,7 @@ use Rattle.core.specs.contracts.option.Option.{the_row as OptionOf}
 use Rattle.std.specs.contracts.marker.PhantomData as marker
 use Rattle.std.proofs.raw_atomic.Walks.{proved, leaves}
 use Rattle.seize_seats.specs.State.{ShowsKept, AreThere, Comes}
+use Rattle.seize_seats.specs.Errands.{coded_of}
 use Rattle.seize_seats.specs.Lendings.{Holder, IsValueBy}
 use types.Tokens.{shr_bor-open, obor_close}
 use Rattle.seize_seats.specs.Owned.{Core, BaseId, core_of, IsPlaced, common, everything, strip_told, stride, words_share}
