@@ -22,8 +22,8 @@ fn steps(
     }
 }
 
-/// Makes a block by one seat, looks at it by both together, and by what a third one knows, which steps meanwhile, and takes it away, so many times. It answers how
-/// many blocks were made, or none where another value was seen or came back than was put in.
+/// Makes a block by one seat, looks at it by both together, and by what a third one knows, which steps meanwhile, and takes it away, so many times. It answers
+/// how many blocks were made, or none where another value was seen or came back than was put in.
 fn make_and_lend(blocks: &Blocks<u64, OneEach>, from: u64, times: u64) -> Option<u64> {
     let mut owner = blocks.seat();
     let guard = blocks.seat();

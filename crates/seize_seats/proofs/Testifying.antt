@@ -1,4 +1,5 @@
--- The value of a block is lent by what a third seat knows now: a seat comes to bear witness of it, which nobody has, and stays with the lending. Assumes `Logic`.
+-- The value of a block is lent by what a third seat knows now: a seat comes to bear witness of it, which nobody has, and stays with the lending. Assumes
+-- `Logic`.
 use Rattle.std.specs.Prelude.{slice_get}
 use Rattle.std.proofs.Common.{◌≡◌, ℕ, ◌+◌, ◌-◌, ◌*◌, ◌<◌, List, [], ◌∷◌, ◌++◌, length, Some, None}
 use seplogic.Ra.Ura.{Ura}
@@ -18,7 +19,7 @@ use Rattle.seize_seats.specs.Lines.{AreLaid}
 use Rattle.seize_seats.specs.Errands.{Sight, coded_of}
 use Rattle.seize_seats.specs.Stretches.{seat_shares}
 use Rattle.seize_seats.specs.Lendings.{Holder, ShownBy, IsValueSo}
-use Rattle.seize_seats.specs.Owned.{Pieces, fact, sitting, age, stride, BaseId, IsIts, IsPlaced, Inside, state_of, standing, inner, words_share, seen}
+use Rattle.seize_seats.specs.Owned.{Pieces, sitting, age, stride, BaseId, IsIts, IsPlaced, Inside, state_of, standing, inner, words_share, seen}
 use Rattle.seize_seats.proofs.Ledgers as Ledgers
 use Rattle.seize_seats.proofs.Sitters as Sitters
 use Rattle.seize_seats.proofs.Hands as Hands

@@ -1,6 +1,6 @@
--- Words of a block's own lie beside it, and where they lie is kept with its value. A seat that wants to reach one *visits* the block: it has seen where they lie, and
--- as long as it knows what it knows they lie there. Rules speak of values alone, and know of no visits. With the visit there is noted how many steps the seat has
--- taken: what a claim says of two seats is so for as long as both are at the steps that it names.
+-- Words of a block's own lie beside it, and where they lie is kept with its value. A seat that wants to reach one *visits* the block: it has seen where they
+-- lie, and as long as it knows what it knows they lie there. Rules speak of values alone, and know of no visits. With the visit there is noted how many steps
+-- the seat has taken: what a claim says of two seats is so for as long as both are at the steps that it names.
 use Rattle.std.specs.Prelude.{◌≡◌, ℕ, suc, Option, Some, None, Result, Ok, Err, map}
 use denote.RawPtr.{Ptr}
 use Rattle.seize_words.specs.Mem.{Mem, value_at}
