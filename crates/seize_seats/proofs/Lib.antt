@@ -32,6 +32,7 @@ pub mod Offers
 pub mod Finds
 pub mod Meetings
 pub mod Lessons
+pub mod Parting
 pub mod Inside
 pub mod Outings
 pub mod Renewal

@@ -31,4 +31,10 @@ impl<T: Defers> Rule<T> for OfRows {
     ghost newcomers_rest = { λ _. tt };
 
     ghost resting_stay = { resting_stay T.defers };
+
+    ghost leans = { λ _ _. ⊥ };
+
+    ghost upright = { λ _ _ _ none. none };
+
+    ghost leaning_stay = { λ _ _ _ _ _ _ none. none };
 }
