@@ -30,8 +30,8 @@ use denote.Triple.Walked.{Stays, stay_dropped, stay_ref, walk_of, Goes-dropped, 
 use Rattle.std.specs.contracts.marker.PhantomData as marker
 use Rattle.std.proofs.raw_atomic.Walks.{proved, leaves}
 use Rattle.seize_seats.specs.Owned.{BaseId, words_share}
-use Rattle.seize_seats.proofs.Parting.{parts}
-use Rattle.seize_seats.proofs.Moves.{gone_on, seat as seat_of}
+use Rattle.seize_seats.proofs.Stepping.Parting.{parts}
+use Rattle.seize_seats.proofs.Stepping.Moves.{gone_on, seat as seat_of}
 use Rattle.seize_atoms.specs.contracts.words.Words as words
 use Rattle.seize_atoms.specs.contracts.seat.Seat as seat
 use Rattle.seize_plots.specs.contracts.kept.Kept as kept_of
@@ -42,7 +42,7 @@ use Rattle.seize_atoms.specs.contracts.words.Words.part.Key.{name as #self}
 use Rattle.seize_atoms.proofs.words.Words.part.Statement.{statement}
 use Rattle.seize_atoms.proofs.words.Words.part.Code as code
 use Rattle.seize_seats.specs.Stretches.{seat_owns}
-use Rattle.seize_seats.proofs.Stretches.{ends, begins}
+use Rattle.seize_seats.proofs.Views.Stretches.{ends, begins}
 
 pub part_spec : {M : Type 1} → statement M
 part_spec 𝓤 𝓛 𝓜 𝓡 wired X P U F N LX LP LU LF LN g d g' d' _ _ =
