@@ -15,7 +15,8 @@ use Rattle.seize_seats.specs.Visits.{Spot, Visit, fresh, onward, onward_at, plai
 use Rattle.seize_seats.proofs.Views.Ledgers.{other_view}
 use Rattle.seize_seats.proofs.Blocks.Rewrites.{emptied, owns_alone}
 use Rattle.seize_seats.proofs.Stepping.Steps.{set_same}
-use Rattle.seize_seats.proofs.Places.Plain.{block_at, value_plain, set_plain, value_of_block, after_plain, gives_plain, can_plain, IsOnWord, value_after, made_apart, taken_apart, rewritten_apart}
+use Rattle.seize_seats.proofs.Places.Plain.{block_at, value_plain, set_plain, value_of_block, after_plain, gives_plain, can_plain}
+use Rattle.seize_seats.proofs.Places.Plain.{IsOnWord, value_after, made_apart, taken_apart, rewritten_apart}
 
 pub own_view : {A : Type 0} (xs : List A) (i : ℕ) (x y : A) → slice_get (slice_set xs i x) i ≡ Some y → x ≡ y
 own_view [] i x y e = absurd (cc e)
