@@ -7,7 +7,8 @@ use Rattle.seize_words.specs.declared.at.At.TheVariants.{Slot}
 use Rattle.seize.specs.declared.states.TheConstants.{HEAD, ACTIVE}
 use Rattle.seize.specs.declared.rows.settle.Settle.{Settle}
 use Rattle.seize.specs.Settle.{retiring, flushing, counting_down}
-use Rattle.seize_seats.specs.State.{State, Turns}
+use Rattle.seize_seats.specs.State.{State}
+use Rattle.seize_seats.specs.Errands.{TurnsUnlent}
 use Rattle.seize_views.specs.Begun.{leaving, refreshes, forgetting, IsBegun, Retires, Flushes, Makes}
 use Rattle.seize_views.specs.Content.{RowsTurnIn, SettlingsBeginIn, Turned}
 use Rattle.seize_views.specs.Notes.{noted}
@@ -60,19 +61,20 @@ module _ {T : Type 0} (fixed : Fixed) (guards : ℕ) where
   next_stays (Watches t b) u e may = absurd e
   next_stays (Busy t) u e may = absurd e
 
-module _ {T V W B : Type 0} (holds : Fixed → State T V W → Type 0) (keeps : V → V → W → ℕ → Type 0) (notes : V → Noted T) (beside : V → B) where
+module _ {T V W B : Type 0} (holds : Fixed → State T V W → Type 0) (keeps : V → V → W → ℕ → Type 0) (notes : V → Noted T) (beside : V → B)
+    (leans : V → ℕ → Type 0) where
   abbrev MayTake : Fixed → ℕ → V → (V → Type 0) → Type 0
-  MayTake fixed id v so = Turns (holds fixed) keeps id v so
+  MayTake fixed id v so = TurnsUnlent (holds fixed) keeps leans id v so
 
   -- what a content promises a caller of it may do
-  pub may_turn : RowsTurnIn holds keeps notes beside → (fixed : Fixed) (id : ℕ) (v : V) (w : View T) → (notes v).knows ≡ w
+  pub may_turn : RowsTurnIn holds keeps notes beside leans → (fixed : Fixed) (id : ℕ) (v : V) (w : View T) → (notes v).knows ≡ w
       → (f : Fixed → View T → View T) (began : Began → Began) → IsNext fixed w (f fixed w) → MayEnd (notes v).guards w (f fixed w)
       → MayTake fixed id v (Turned notes beside (Makes f) began fixed v)
-  may_turn law fixed id v w is f began next ends s h at =
+  may_turn law fixed id v w is f began next ends s h at unlent =
       let n = notes v in let u : Noted T = noted (f fixed n.knows) n.did (began n.began) n.guards in
       let so : (x : View T) → Type 0 = λ x. IsNext fixed x (f fixed x) × Stays n.guards x (f fixed x) in
       let k = subst so (sym is) (next, next_stays fixed n.guards w (f fixed w) next ends) in
-      let g = law fixed id v u (k.0, k.1, refl, refl) s h at in (
+      let g = law fixed id v u (k.0, k.1, refl, refl) s h at unlent in (
         g.0,
         g.1,
         g.2,
@@ -86,12 +88,12 @@ module _ {T V W B : Type 0} (holds : Fixed → State T V W → Type 0) (keeps : 
         ),
       )
 
-  module _ (law : SettlingsBeginIn holds keeps notes beside) (fixed : Fixed) (id : ℕ) (v : V) (began : Began) where
+  module _ (law : SettlingsBeginIn holds keeps notes beside leans) (fixed : Fixed) (id : ℕ) (v : V) (began : Began) where
     may_settle : (w : View T) → (notes v).knows ≡ w → (so : Fixed → View T → View T → Type 0) (way : Becomes) (c : Settle) → IsToSettle fixed w way c
         → ((u : View T) → IsBegun way c u → so fixed w u)
         → MayTake fixed id v (Turned notes beside so (λ _. began) fixed v)
-    may_settle w is so way c to tells s h at =
-        let g = law fixed id v way c began (subst (λ (x : View T). IsToSettle fixed x way c) (sym is) to) s h at in
+    may_settle w is so way c to tells s h at unlent =
+        let g = law fixed id v way c began (subst (λ (x : View T). IsToSettle fixed x way c) (sym is) to) s h at unlent in
         (g.0, g.1, g.2, g.3, (subst (λ (x : View T). so fixed x (notes g.0).knows) (sym is) (tells (notes g.0).knows g.4.0), g.4.1, g.4.2, g.4.3, g.4.4))
 
     module _ (slot : ℕ) where

@@ -119,7 +119,7 @@ impl<'a, T: Defers, C: Content<T>> Caller<'a, T, C> {
         ensures guards { (C.notes self.new.seat.view).guards ≡ (C.notes self.old.seat.view).guards }
     {
         C::goes_on();
-        self.blocks.turn::<Forgetting<T, C>>(&mut self.seat);
+        self.blocks.part::<Forgetting<T, C>>(&mut self.seat);
     }
 }
 

@@ -74,6 +74,10 @@ module _ (T : Type 0) (defers : T → Option ℕ) where
   abbrev none : Noted T → Unit {0}
   none v = tt
 
+  -- nobody leans on anybody
+  abbrev nobody : Noted T → ℕ → Type 0
+  nobody v n = ⊥
+
   pub seats_come_in : SeatsComeIn (NotedHolds defers) NotedKeeps whole none (λ _. newcomer)
   seats_come_in fixed = (comings_are_noted T defers fixed, refl)
 
@@ -83,14 +87,14 @@ module _ (T : Type 0) (defers : T → Option ℕ) where
   pub rows_are_told : RowsAreTold whole none defers (noted_told defers)
   rows_are_told v w op out is told = (told, refl)
 
-  pub rows_turn_in : RowsTurnIn (NotedHolds defers) NotedKeeps whole none
-  rows_turn_in fixed id v u may s h at =
+  pub rows_turn_in : RowsTurnIn (NotedHolds defers) NotedKeeps whole none nobody
+  rows_turn_in fixed id v u may s h at unlent =
       let own = next_own fixed v.knows u.knows may.0 in
       let g = turns_are_noted T defers fixed id v u.knows u.did u.began own.0 own.1 may.1 (rows_turn T defers fixed id v.knows u.knows may.0) s h at in
       (g.0, g.1, g.2, g.3, (same_notes g.0 u (g.4.0, g.4.1, g.4.2, g.4.3 ∙ sym may.3), refl))
 
-  pub settlings_begin_in : SettlingsBeginIn (NotedHolds defers) NotedKeeps whole none
-  settlings_begin_in fixed id v way c began is s h at =
+  pub settlings_begin_in : SettlingsBeginIn (NotedHolds defers) NotedKeeps whole none nobody
+  settlings_begin_in fixed id v way c began is s h at unlent =
       let g = settlings_are_noted T defers fixed id v way c v.did began is (settlings_begin T defers fixed id v.knows way c is) s h at in
       (g.0, g.1, g.2, g.3, (g.4.0, g.4.1, g.4.2, g.4.3, refl))
 

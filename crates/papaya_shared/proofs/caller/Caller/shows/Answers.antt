@@ -18,6 +18,9 @@ meet-requires-clause-errand g c = λ p q so. (
   λ home rests. subst (λ (v : View g.row.K.Denot g.row.V.Denot g.row.S.Denot). IsResting v) (sym so.3) rests,
 )
 
+pub meet-requires-clause-leans : goal.meet-requires-clause-leans
+meet-requires-clause-leans g c = λ v u told. (λ n none. absurd none, λ n none. absurd none)
+
 pub returns-clause-blocks : goal.returns-clause-blocks
 returns-clause-blocks g c = (refl, c.new-other.ensures.blocks)
 

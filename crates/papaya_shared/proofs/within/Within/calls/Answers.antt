@@ -62,6 +62,9 @@ turn-requires-clause-may g c =
 pub turn-requires-clause-errand : goal.turn-requires-clause-errand
 turn-requires-clause-errand g c = λ home rests w so. absurd (c.step-told.new.memory.away home)
 
+pub turn-requires-clause-leans : goal.turn-requires-clause-leans
+turn-requires-clause-leans g c = λ v told n none. absurd none
+
 pub returns-clause-told : goal.returns-clause-told
 returns-clause-told g c =
     let calls = subst (IsCalling c.args.hasher.now c.args.machine.now) (sym c.begins_step.ensures.view) c.requires.calls in
