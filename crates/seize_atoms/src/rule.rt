@@ -50,9 +50,9 @@ pub trait Turn<F, V> {
     ghost to: { F → V → V → Type 0 };
 }
 
-/// What a seat comes to know by another one: what was chosen, its view, the other's, and its view then.
+/// What a seat comes to know by another one: what was chosen, its view, the number and the view of the other one, and its view then.
 pub trait Lesson<F, V> {
-    ghost to: { F → V → V → V → Type 0 };
+    ghost to: { F → V → ℕ → V → V → Type 0 };
 }
 
 /// What a meeting of two seats makes of both views: what was chosen, the one view and the other before it, and after it.

@@ -149,11 +149,11 @@ impl<T, R: Rule<T>> Words<T, R> {
     pub fn learn<M: Lesson<R::Fixed, R::View>>(&self, seat: &mut Seat<T, R>, other: &Seat<T, R>)
         requires { (seat.old.base ≡ self.now.id.views_name) × (other.now.base ≡ self.now.id.views_name)
             × Learns (R.holds self.now.fixed) R.keeps seat.old.id seat.old.view other.now.id other.now.view
-            (M.to self.now.fixed seat.old.view other.now.view)
-            × MayGo R.rests seat.old.away seat.old.view (M.to self.now.fixed seat.old.view other.now.view)
-            × MayLean R.leans seat.old.away seat.old.view (M.to self.now.fixed seat.old.view other.now.view) }
+            (M.to self.now.fixed seat.old.view other.now.id other.now.view)
+            × MayGo R.rests seat.old.away seat.old.view (M.to self.now.fixed seat.old.view other.now.id other.now.view)
+            × MayLean R.leans seat.old.away seat.old.view (M.to self.now.fixed seat.old.view other.now.id other.now.view) }
         ensures { (seat.new.base ≡ seat.old.base) × (seat.new.id ≡ seat.old.id) × (seat.new.away ≡ seat.old.away)
-            × M.to self.now.fixed seat.old.view other.now.view seat.new.view }
+            × M.to self.now.fixed seat.old.view other.now.id other.now.view seat.new.view }
     {}
 
     /// Two seats come to know something else, by what both knew.

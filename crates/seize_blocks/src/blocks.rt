@@ -71,12 +71,12 @@ impl<T, R: Rule<T>> Blocks<T, R> {
     pub fn learn<M: Lesson<R::Fixed, R::View>>(&self, seat: &mut Seat<T, R>, other: &Seat<T, R>)
         requires own { (seat.old.base ≡ self.now.words.id.views_name) × (other.now.base ≡ self.now.words.id.views_name) }
         requires may { Learns (R.holds self.now.words.fixed) R.keeps seat.old.id seat.old.view other.now.id other.now.view
-            (M.to self.now.words.fixed seat.old.view other.now.view) }
-        requires errand { MayGo R.rests seat.old.away seat.old.view (M.to self.now.words.fixed seat.old.view other.now.view) }
-        requires leans { MayLean R.leans seat.old.away seat.old.view (M.to self.now.words.fixed seat.old.view other.now.view) }
+            (M.to self.now.words.fixed seat.old.view other.now.id other.now.view) }
+        requires errand { MayGo R.rests seat.old.away seat.old.view (M.to self.now.words.fixed seat.old.view other.now.id other.now.view) }
+        requires leans { MayLean R.leans seat.old.away seat.old.view (M.to self.now.words.fixed seat.old.view other.now.id other.now.view) }
         ensures same { (seat.new.base ≡ seat.old.base) × (seat.new.id ≡ seat.old.id) }
         ensures errand { seat.new.away ≡ seat.old.away }
-        ensures goes { M.to self.now.words.fixed seat.old.view other.now.view seat.new.view }
+        ensures goes { M.to self.now.words.fixed seat.old.view other.now.id other.now.view seat.new.view }
     {
         self.words.learn::<M>(seat, other)
     }
@@ -110,7 +110,7 @@ impl<T, R: Rule<T>> Blocks<T, R> {
     ) -> E::Answer
         requires own { (seat.old.base ≡ self.now.words.id.views_name) × (lent.now.base ≡ self.now.words.id.views_name) }
         requires home { seat.old.away ≡ None }
-        requires asks { E.asks errand self.now.words.fixed lent.now.id lent.now.view seat.old.view }
+        requires asks { E.asks errand seat.old.base self.now.words.fixed lent.now.id lent.now.view seat.old.view }
         requires ends { (answer : E.Answer) (w : R.View) → E.did errand self.now.words.fixed seat.old.view answer w → R.rests w }
         ensures same { (seat.new.base ≡ seat.old.base) × (seat.new.id ≡ seat.old.id) }
         ensures home { seat.new.away ≡ None }

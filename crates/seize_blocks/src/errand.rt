@@ -47,8 +47,9 @@ pub trait ErrandWith<T, R: Rule<T>>: Sized {
     /// What it answers.
     type Answer;
 
-    /// What has to be so as it begins: what was chosen as the memory was opened, the number and the view of the seat that is lent, and the view of the one that goes.
-    ghost asks: { Self → R.Fixed → ℕ → R.View → R.View → Type 0 };
+    /// What has to be so as it begins: the name of the memory, what was chosen as it was opened, the number and the view of the seat that is lent, and the view
+    /// of the one that goes.
+    ghost asks: { Self → ℕ → R.Fixed → ℕ → R.View → R.View → Type 0 };
 
     /// What it has come to: what was chosen, the view before it, the answer, and the view after it.
     ghost did: { Self → R.Fixed → R.View → Self.Answer → R.View → Type 0 };
@@ -56,7 +57,7 @@ pub trait ErrandWith<T, R: Rule<T>>: Sized {
     /// Takes the steps.
     fn run(self, blocks: &Blocks<T, R>, seat: &mut Seat<T, R>) -> Self::Answer
         requires { (seat.old.base ≡ blocks.now.words.id.views_name)
-            × ((lent : ℕ) × (u : R.View) × Lends seat.old.away lent × asks self blocks.now.words.fixed lent u seat.old.view) }
+            × ((lent : ℕ) × (u : R.View) × Lends seat.old.away lent × asks self seat.old.base blocks.now.words.fixed lent u seat.old.view) }
         ensures { (seat.new.base ≡ seat.old.base) × (seat.new.id ≡ seat.old.id) × (seat.new.away ≡ seat.old.away)
             × did self blocks.now.words.fixed seat.old.view result seat.new.view };
 }
@@ -70,7 +71,7 @@ pub(crate) struct Charged<'a, T, R: Rule<T>, E> {
 impl<'a, T, R: Rule<T>, E: ErrandWith<T, R>> Charge<T, R> for Charged<'a, T, R, E> {
     type Answer = E::Answer;
 
-    ghost asks = { λ s base lent u v. (s.blocks.now.words.id.views_name ≡ base) × E.asks s.errand s.blocks.now.words.fixed lent u v };
+    ghost asks = { λ s base lent u v. (s.blocks.now.words.id.views_name ≡ base) × E.asks s.errand base s.blocks.now.words.fixed lent u v };
 
     ghost did = { λ s v answer w. E.did s.errand s.blocks.now.words.fixed v answer w };
 

@@ -2,3 +2,5 @@ pub mod Grown
 pub mod Theirs
 pub mod Three
 pub mod Roomy
+pub mod Leaned
+pub mod Leaning

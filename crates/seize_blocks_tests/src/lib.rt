@@ -4,6 +4,8 @@
 #[cfg(test)]
 mod adding;
 #[cfg(test)]
+mod leaning;
+#[cfg(test)]
 mod lending;
 #[cfg(test)]
 mod looking;
@@ -11,6 +13,7 @@ mod looking;
 mod meeting;
 #[cfg(test)]
 mod owning;
+pub mod part;
 #[cfg(test)]
 mod renewing;
 #[cfg(test)]

@@ -49,7 +49,7 @@ impl Meeting<(), u64> for Greater {
 struct NoLess;
 
 impl Lesson<(), u64> for NoLess {
-    ghost to = { λ _. no_less };
+    ghost to = { λ _ v _. no_less v };
 }
 
 /// Raises the word by 1 so often, and answers how often no other thread was faster.

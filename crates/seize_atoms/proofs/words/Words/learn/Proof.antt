@@ -66,7 +66,7 @@ learn_spec 𝓤 𝓛 𝓜 𝓡 wired X P U F N LX LP LU LF LN g d g' d' _ _ =
     let b₂ : ℕ = a.1.1.0.ref_ptr.0 in let o₂ : ℕ = a.1.1.0.ref_ptr.1 in let κ : Lft = κs.0 in let κ₂ : Lft = κs.1.1.0 in
     let t : Row.Denot = a.0.now in let p : Ptr = t.words in let z : BaseId = t.id in let h : Sr.Denot = a.1.0.now in let k : Sr.Denot = a.1.1.0.now in
     let i : ℕ = h.id in let v : Seen U.Denot = ((h.view, h.visit), h.away) in let j : ℕ = k.id in let u : Seen U.Denot = ((k.view, k.visit), k.away) in
-    let cv = seat_coded R₂.coded in let rule = g.holds t.fixed in let holds = HoldsSince g.rests g.leans t.start rule g.keeps in let keeps = keeps_here g.keeps in let to : U.Denot → Type 0 = g'.to t.fixed h.view k.view in
+    let cv = seat_coded R₂.coded in let rule = g.holds t.fixed in let holds = HoldsSince g.rests g.leans t.start rule g.keeps in let keeps = keeps_here g.keeps in let to : U.Denot → Type 0 = g'.to t.fixed h.view j k.view in
     let so : Seen U.Denot → Type 0 = λ w. (to w.0.0 × (w.0.1 ≡ onward h.visit)) × (w.1 ≡ h.away) in
     let others : Fml = fsep (flft κs.1.1.1.0 qs.1.1.1.0) (fsep (flft κs.1.1.1.1.0 qs.1.1.1.1.0) (fsep (flft κs.1.1.1.1.1.0 qs.1.1.1.1.1.0)
     (fsep (flft κs.1.1.1.1.1.1.0 qs.1.1.1.1.1.1.0) (fsep (flft κs.1.1.1.1.1.1.1.0 qs.1.1.1.1.1.1.1.0) ftrue)))) in
