@@ -3,3 +3,4 @@ pub mod Owners
 pub mod Threes
 pub mod Roomy
 pub mod Leaning
+pub mod Roots

@@ -4,3 +4,4 @@ pub mod Three
 pub mod Roomy
 pub mod Leaned
 pub mod Leaning
+pub mod Root
