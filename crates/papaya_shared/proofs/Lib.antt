@@ -1,15 +1,4 @@
-mod Plans
-mod Looking
-mod Making
-mod Quiet
-mod Asking
-mod Calls
-mod Calling
-mod Handing
-mod Lookups
-mod Makings
-mod Beginnings
-mod Shown
 mod Rows
-mod Runs
+mod Newcomers
 mod Sessions
+mod Keys
