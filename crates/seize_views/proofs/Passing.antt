@@ -151,7 +151,9 @@ module _ {T : Type 0} (defers : T → Option ℕ) (fixed : Fixed) where
 
 module _ (T : Type 0) (defers : T → Option ℕ) where
   pub leanings_begin : LeaningsBegin T defers
-  leanings_begin fixed i j t v u rests is_open s h at_i at_j ne = begins defers fixed i j t v u rests is_open s h at_i at_j ne
+  leanings_begin fixed i j t v u rests is_open s h at_i at_j ne =
+      let g = begins defers fixed i j t v u rests is_open s h at_i at_j ne in
+      (g.0, g.1, g.2, g.3, λ x found. (g.4.0 ∙ ap (λ (k : ℕ). Under j k 0) (same_some t x (sym is_open ∙ found)), g.4.1))
 
   pub leanings_see : LeaningsSee T defers
   leanings_see fixed id n t b r v is lt =

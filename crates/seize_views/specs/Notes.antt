@@ -102,6 +102,14 @@ module _ {T : Type 0} where
   abbrev pub NotedKeeps : Noted T → Noted T → World T → ℕ → Type 0
   NotedKeeps u o w b = (t : ℕ) × (open_at u.knows ≡ Some t) × (holds t b w.log ≡ true)
 
+  -- a seat leans on the one of this number, which has a section open
+  abbrev pub BeginsUnder : Noted T → ℕ → Noted T → Noted T → Type 0
+  BeginsUnder v n u w = (t : ℕ) → open_at u.knows ≡ Some t → (w.knows ≡ Under n t 0) × SameNotes v w
+
+  -- or knows nothing any more
+  abbrev pub ComesBack : Noted T → Noted T → Type 0
+  ComesBack v w = (w.knows ≡ Rests) × SameNotes v w
+
 module _ {T : Type 0} (defers : T → Option ℕ) where
   abbrev pub NotedHolds : Fixed → State T (Noted T) (World T) → Type 0
   NotedHolds fixed s = Holds defers fixed (as_known s) × AreGuarded s
@@ -171,7 +179,7 @@ module _ (T : Type 0) (defers : T → Option ℕ) where
   abbrev pub LeaningsBegin : Type 0
   LeaningsBegin =
       (fixed : Fixed) (i j t : ℕ) (v u : Noted T) → v.knows ≡ Rests → open_at u.knows ≡ Some t
-      → Learns (NotedHolds defers fixed) NotedKeeps i v j u (λ w. (w.knows ≡ Under j t 0) × SameNotes v w)
+      → Learns (NotedHolds defers fixed) NotedKeeps i v j u (BeginsUnder v j u)
 
   -- look at a root then,
   abbrev pub LeaningsSee : Type 0
@@ -183,7 +191,7 @@ module _ (T : Type 0) (defers : T → Option ℕ) where
   abbrev pub LeaningsEnd : Type 0
   LeaningsEnd =
       (fixed : Fixed) (id n t b : ℕ) (v : Noted T) → v.knows ≡ Under n t b
-      → Turns (NotedHolds defers fixed) NotedKeeps id v (λ w. (w.knows ≡ Rests) × SameNotes v w)
+      → Turns (NotedHolds defers fixed) NotedKeeps id v (ComesBack v)
 
   abbrev pub LeaningsKeep : Type 0
   LeaningsKeep =
