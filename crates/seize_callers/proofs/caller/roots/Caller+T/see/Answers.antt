@@ -5,4 +5,4 @@ use Rattle.seize_callers.proofs.caller.roots.Caller+T.see.Goals as goal
 
 pub returns-clause-looked : goal.returns-clause-looked
 returns-clause-looked g c =
-    ap looked_at c.protect.ensures.looked ∙ ap (λ (k : ℕ). Some (c.args.root, k)) (sym c.named.ensures.either)
+    ap looked_at c.protect-word.ensures.looked ∙ ap (λ (k : ℕ). Some (c.args.root, k)) (sym c.named.ensures.either)
