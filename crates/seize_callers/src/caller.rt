@@ -10,11 +10,13 @@ ghost use Rattle.seize_views.specs.declared.view.Has.{Has};
 ghost use Rattle.seize_views.specs.declared.view.Has.TheVariants.{Nothing};
 
 mod alone;
+mod pass;
 mod roots;
 mod settling;
 mod watch;
 
 use crate::errands::{Enters, Frees, Registers};
+pub use pass::Pass;
 use seize::rows::Defers;
 use seize_blocks::{Blocks, Errand, Seat};
 use seize_views::turns::Forgetting;

@@ -9,7 +9,7 @@ use Rattle.seize_views.specs.Begun.{IsBegun}
 use Rattle.seize_views.specs.Notes.{newcomer, noted_told}
 use Rattle.seize_views.specs.Promises.{op_of, IsNext, IsToSettle}
 use Rattle.seize_views.specs.Rows.{IsAtRest}
-use Rattle.seize_views.specs.Watched.{Stays}
+use Rattle.seize_views.specs.Watched.{IsOfRows, Stays}
 use Rattle.seize_views.specs.declared.view.Began.{Began}
 use Rattle.seize_views.specs.declared.view.Becomes.{Becomes}
 use Rattle.seize_views.specs.declared.view.Fixed.{Fixed}
@@ -64,9 +64,9 @@ module _ {T V B : Type 0} (notes : V → Noted T) (beside : V → B) where
       (v w : V) (op : Op T) (out : Out T) → op_of defers (notes v).knows ≡ Some op → then v op out w
       → noted_told defers (notes v) op out (notes w) × (beside w ≡ beside v)
 
--- on whom a seat leans is a matter of what it knows beside its notes
-abbrev pub LeansBeside : {V B : Type 0} → (V → ℕ → Type 0) → (V → B) → Type 0
-LeansBeside {V} leans beside = (v w : V) (n : ℕ) → beside w ≡ beside v → leans w n → leans v n
+-- who has nothing but a row under way leans on whom it does by what it knows beside its notes
+abbrev pub LeansBeside : {T V B : Type 0} → (V → ℕ → Type 0) → (V → Noted T) → (V → B) → Type 0
+LeansBeside {T} {V} leans notes beside = (v w : V) (n : ℕ) → IsOfRows (notes w).knows → beside w ≡ beside v → leans w n → leans v n
 
 -- who has nothing under way by its notes is in the midst of nothing
 abbrev pub RestWithNothing : {T V : Type 0} → (V → Type 0) → (V → Noted T) → Type 0

@@ -27,7 +27,7 @@ pub trait Content<T: Defers>: Rule<T, Fixed = Fixed> {
         ensures turn { RowsTurnIn Self.holds Self.keeps notes beside Self.leans }
         ensures settle { SettlingsBeginIn Self.holds Self.keeps notes beside Self.leans }
         ensures looked { LookedAreShownIn Self.holds Self.keeps notes beside }
-        ensures leans { LeansBeside Self.leans beside }
+        ensures leans { LeansBeside Self.leans notes beside }
         ensures rest { RestWithNothing Self.rests notes };
 }
 

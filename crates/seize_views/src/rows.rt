@@ -10,7 +10,8 @@ impl<T: Defers> Rule<T> for OfRows {
     ghost use Rattle.seize.specs.World.{World};
     ghost use Rattle.seize_views.specs.Notes.{NotedHolds, NotedKeeps, noted_told, newcomer};
     ghost use Rattle.seize_views.specs.Rows.{IsAtRest};
-    ghost use Rattle.seize_views.specs.Resting.{resting_stay};
+    ghost use Rattle.seize_views.specs.Resting.{resting_stay, upright, leaning_stay};
+    ghost use Rattle.seize_views.specs.Watched.{Leans};
 
     type View = Noted<T>;
 
@@ -32,9 +33,9 @@ impl<T: Defers> Rule<T> for OfRows {
 
     ghost resting_stay = { resting_stay T.defers };
 
-    ghost leans = { λ _ _. ⊥ };
+    ghost leans = { Leans };
 
-    ghost upright = { λ _ _ _ none. none };
+    ghost upright = { upright };
 
-    ghost leaning_stay = { λ _ _ _ _ _ _ none. none };
+    ghost leaning_stay = { leaning_stay T.defers };
 }

@@ -23,4 +23,4 @@ pub returns-clause-rest : goal.returns-clause-rest
 returns-clause-rest g c = λ v rests. rests
 
 pub returns-clause-leans : goal.returns-clause-leans
-returns-clause-leans g c = λ v w n same leans. leans
+returns-clause-leans g c = λ v w n rows same leans. leans

@@ -1,11 +1,11 @@
 use Rattle.seize_callers.proofs.Resting.{at_rest}
 use Rattle.seize_views.specs.declared.view.Has.TheVariants.{Nothing}
-use Rattle.std.proofs.Common.{inr, ap, ◌∙◌, inl}
+use Rattle.std.proofs.Common.{inr, ap, ◌∙◌}
 use Rattle.seize_views.specs.Begun.{forgetting}
 use Rattle.seize_views.specs.Notes.{still}
 use Rattle.seize_views.specs.Watched.{open_at}
 use Rattle.seize_views.specs.declared.view.View.TheVariants.{Inside}
-use Rattle.seize_callers.proofs.Turns.{may_turn, forgets_next, forgets_so}
+use Rattle.seize_callers.proofs.Turns.{may_turn, leans_turn, forgets_next, forgets_so}
 use Rattle.seize_callers.proofs.caller.Caller.forgets.Goals as goal
 
 pub part-requires-clause-may : goal.part-requires-clause-may
@@ -21,7 +21,11 @@ part-requires-clause-errand g c = λ home rests w so.
     c.goes_on.ensures.rest w (at_rest (g.C.Content.notes w).knows (Inside c.args._slot Nothing) (so.0 ∙ ap (forgetting fixed) i.2 ∙ forgets_so g.row.T.Denot fixed c.args._slot i.0 i.1) tt)
 
 pub part-requires-clause-leans : goal.part-requires-clause-leans
-part-requires-clause-leans g c = λ w so n leaning. inl (c.goes_on.ensures.leans _ w n so.4 leaning)
+part-requires-clause-leans g c =
+    let x = c.args.self.now in let i = c.requires.inside in let fixed = x.blocks.now.words.fixed in
+    leans_turn g.C.Rule.holds g.C.Rule.keeps g.C.Content.notes g.C.Content.beside g.C.Rule.leans c.goes_on.ensures.leans x.blocks.now.words.fixed x.seat.id x.seat.view
+    (Inside c.args._slot i.0) i.2 forgetting still (forgets_next g.row.T.Denot fixed c.args._slot i.0 i.1)
+    (inr (ap open_at (forgets_so g.row.T.Denot fixed c.args._slot i.0 i.1)))
 
 pub returns-clause-inside : goal.returns-clause-inside
 returns-clause-inside g c =

@@ -1,5 +1,5 @@
 use Rattle.std.specs.Prelude.{None}
-use Rattle.std.proofs.Common.{◌≡◌, ℕ, refl, ap, sym, ◌∙◌, inl}
+use Rattle.std.proofs.Common.{◌≡◌, ℕ, refl, ap, sym, ◌∙◌}
 use Rattle.seize.specs.declared.rows.settle.Settle.{Settle}
 use Rattle.seize.specs.Settle.{counting_down}
 use Rattle.seize_views.specs.Begun.{ended}
@@ -10,7 +10,7 @@ use Rattle.seize_views.specs.declared.view.Becomes.{Becomes}
 use Rattle.seize_views.specs.declared.view.View.TheVariants.{Settles, Left}
 use Rattle.seize_views.specs.declared.view.Why.TheVariants.{Ending}
 use Rattle.seize_callers.specs.Made.{IsSettling, task_of}
-use Rattle.seize_callers.proofs.Turns.{may_turn, row_told}
+use Rattle.seize_callers.proofs.Turns.{may_turn, leans_turn, row_told}
 use Rattle.seize_callers.proofs.within.Within.counts_entries.Given as given
 use Rattle.seize_callers.proofs.within.Within.counts_entries.Goals as goal
 use Rattle.seize_callers.proofs.within.Within.counts_entries.Goals.{After-count_down-row}
@@ -53,7 +53,13 @@ pub part-requires-clause-errand : goal.part-requires-clause-errand
 part-requires-clause-errand g c = λ home rests w so. absurd (c.settles.new.self.away home)
 
 pub part-requires-clause-leans : goal.part-requires-clause-leans
-part-requires-clause-leans g c = λ w so n leaning. inl (c.goes_on.ensures.leans _ w n so.4 leaning)
+part-requires-clause-leans g c =
+    let x = c.args.self.now in let size = x.blocks.now.words.fixed.batch_size in let t = c.requires.taken in let n = c.settles.new.self in
+    let k =
+    c.settles.ensures.settling (task_of (Ending size t.0) (g.C.Content.notes x.seat.now.view))
+    (begins g (goal.at.part-requires-clause-leans g c).After-count_down-row t.0 t.1 t.2) in
+    leans_turn g.C.Rule.holds g.C.Rule.keeps g.C.Content.notes g.C.Content.beside g.C.Rule.leans c.goes_on.ensures.leans n.blocks.now.words.fixed n.seat.now.id n.seat.now.view
+    (Settles c.settles.new.row (Ending size t.0) k.0 k.1) (ap known_by k.2) ended still (c.settles.ensures.over, refl) tt
 
 pub returns-clause-left : goal.returns-clause-left
 returns-clause-left g c = λ way left is.

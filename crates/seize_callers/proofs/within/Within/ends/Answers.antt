@@ -1,11 +1,11 @@
-use Rattle.std.proofs.Common.{refl, ap, ◌∙◌, inl}
+use Rattle.std.proofs.Common.{refl, ap, ◌∙◌}
 use Rattle.seize_views.specs.Begun.{ended, left_with}
 use Rattle.seize_views.specs.Notes.{still}
 use Rattle.seize_views.specs.Watched.{known_by}
 use Rattle.seize_views.specs.declared.view.View.TheVariants.{Settles}
 use Rattle.seize_views.specs.declared.view.Why.TheVariants.{Retiring}
 use Rattle.seize_callers.specs.Made.{task_of}
-use Rattle.seize_callers.proofs.Turns.{may_turn}
+use Rattle.seize_callers.proofs.Turns.{may_turn, leans_turn}
 use Rattle.seize_callers.proofs.within.Within.ends.Goals as goal
 
 pub settles-requires : goal.settles-requires
@@ -22,7 +22,11 @@ pub part-requires-clause-errand : goal.part-requires-clause-errand
 part-requires-clause-errand g c = λ home rests w so. absurd (c.settles.new.self.away home)
 
 pub part-requires-clause-leans : goal.part-requires-clause-leans
-part-requires-clause-leans g c = λ w so n leaning. inl (c.goes_on.ensures.leans _ w n so.4 leaning)
+part-requires-clause-leans g c =
+    let b = c.requires.settling in let n = c.settles.new.self in
+    let k = c.settles.ensures.settling (task_of (Retiring b.0) (g.C.Content.notes c.args.self.now.seat.now.view)) b.1 in
+    leans_turn g.C.Rule.holds g.C.Rule.keeps g.C.Content.notes g.C.Content.beside g.C.Rule.leans c.goes_on.ensures.leans n.blocks.now.words.fixed n.seat.now.id n.seat.now.view
+    (Settles c.settles.new.row (Retiring b.0) k.0 k.1) (ap known_by k.2) ended still (c.settles.ensures.over, refl) tt
 
 pub returns-clause-rests : goal.returns-clause-rests
 returns-clause-rests g c = λ way is.

@@ -1,10 +1,10 @@
 use Rattle.seize_views.specs.declared.view.Began.TheVariants.{Trial}
-use Rattle.std.proofs.Common.{◌≡◌, ap, sym, ◌∙◌, inl}
+use Rattle.std.proofs.Common.{◌≡◌, ap, sym, ◌∙◌}
 use Rattle.seize.specs.declared.rows.settle.Settle.{Settle}
 use Rattle.seize.specs.Settle.{flushing}
 use Rattle.seize_views.specs.Begun.{left_with}
 use Rattle.seize_views.specs.declared.view.Becomes.TheVariants.{Idle}
-use Rattle.seize_callers.proofs.Turns.{may_flush_idle, flushes_idle_told, settling_row}
+use Rattle.seize_callers.proofs.Turns.{may_flush_idle, leans_flush_idle, flushes_idle_told, settling_row}
 use Rattle.seize_callers.proofs.within.Within.flush_idle.Goals as goal
 
 pub part-requires-clause-may : goal.part-requires-clause-may
@@ -16,7 +16,9 @@ pub part-requires-clause-errand : goal.part-requires-clause-errand
 part-requires-clause-errand g c = λ home rests w so. absurd (c.args.self.now.away home)
 
 pub part-requires-clause-leans : goal.part-requires-clause-leans
-part-requires-clause-leans g c = λ w so n leaning. inl (c.goes_on.ensures.leans _ w n so.4 leaning)
+part-requires-clause-leans g c =
+    let x = c.args.self.now in let i = c.requires.outside in
+    leans_flush_idle g.C.Rule.holds g.C.Rule.keeps g.C.Content.notes g.C.Content.beside g.C.Rule.leans c.goes_on.ensures.leans x.blocks.now.words.fixed x.seat.now.id x.seat.now.view Trial c.args.slot i
 
 pub ends-requires : goal.ends-requires
 ends-requires g c =

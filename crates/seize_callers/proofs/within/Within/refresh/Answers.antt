@@ -9,7 +9,7 @@ use Rattle.seize_views.specs.Told.{list_taken}
 use Rattle.seize_views.specs.declared.view.Began.TheVariants.{Section}
 use Rattle.seize_views.specs.declared.view.Becomes.TheVariants.{Active}
 use Rattle.seize_views.specs.declared.view.View.TheVariants.{Inside, Left}
-use Rattle.seize_callers.proofs.Turns.{may_turn, refreshes_next, refreshes_so, list_told}
+use Rattle.seize_callers.proofs.Turns.{may_turn, leans_turn, refreshes_next, refreshes_so, list_told}
 use Rattle.seize_callers.proofs.within.Within.refresh.Given as given
 use Rattle.seize_callers.proofs.within.Within.refresh.Goals as goal
 use Rattle.seize_callers.proofs.within.Within.refresh.Goals.{After-swap-head}
@@ -24,7 +24,10 @@ pub part-requires-clause-errand : goal.part-requires-clause-errand
 part-requires-clause-errand g c = λ home rests w so. absurd (c.args.self.now.away home)
 
 pub part-requires-clause-leans : goal.part-requires-clause-leans
-part-requires-clause-leans g c = λ w so n leaning. inl (c.goes_on.ensures.leans _ w n so.4 leaning)
+part-requires-clause-leans g c =
+    let x = c.args.self.now in let i = c.requires.inside in
+    leans_turn g.C.Rule.holds g.C.Rule.keeps g.C.Content.notes g.C.Content.beside g.C.Rule.leans c.goes_on.ensures.leans x.blocks.now.words.fixed x.seat.now.id x.seat.now.view
+    (Inside c.args.slot i.0) i.2 refreshes (λ _. Section) (refreshes_next g.row.T.Denot x.blocks.now.words.fixed c.args.slot i.0 i.1) (inl c.requires.none)
 
 pub swap-head-requires : goal.swap-head-requires
 swap-head-requires g c =
@@ -58,7 +61,10 @@ pub part-requires-2-clause-errand : goal.part-requires-2-clause-errand
 part-requires-2-clause-errand g c = λ home rests w so. absurd (c.counts_down.new.self.away home)
 
 pub part-requires-2-clause-leans : goal.part-requires-2-clause-leans
-part-requires-2-clause-leans g c = λ w so n leaning. inl (c.goes_on.ensures.leans _ w n so.4 leaning)
+part-requires-2-clause-leans g c =
+    let x = c.counts_down.new.self in let t = taken g (goal.at.part-requires-2-clause-leans g c).After-swap-head in
+    leans_turn g.C.Rule.holds g.C.Rule.keeps g.C.Content.notes g.C.Content.beside g.C.Rule.leans c.goes_on.ensures.leans x.blocks.now.words.fixed x.seat.now.id x.seat.now.view
+    (Left c.args.slot c.swap-head.new.self.blocks.now.words.fixed.batch_size Active) (c.counts_down.ensures.left Active t.0 t.1) ended still refl tt
 
 pub returns-clause-inside : goal.returns-clause-inside
 returns-clause-inside g c =

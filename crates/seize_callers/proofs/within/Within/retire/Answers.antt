@@ -1,11 +1,11 @@
 use Rattle.seize_views.specs.declared.view.Began.TheVariants.{Retirement}
-use Rattle.std.proofs.Common.{◌≡◌, ap, ◌∙◌, inl}
+use Rattle.std.proofs.Common.{◌≡◌, ap, ◌∙◌}
 use Rattle.seize.specs.Settle.{retiring}
 use Rattle.seize_words.specs.Word.{link_to}
 use Rattle.seize_views.specs.Begun.{IsBegun}
 use Rattle.seize_views.specs.declared.view.Becomes.TheVariants.{Active}
 use Rattle.seize_callers.proofs.Calls.{whole_link}
-use Rattle.seize_callers.proofs.Turns.{may_retire, retires_told}
+use Rattle.seize_callers.proofs.Turns.{may_retire, leans_retire, retires_told}
 use Rattle.seize_callers.proofs.within.Within.retire.Given as given
 use Rattle.seize_callers.proofs.within.Within.retire.Goals as goal
 use Rattle.seize_callers.proofs.within.Within.retire.Goals.{After-to}
@@ -18,7 +18,8 @@ pub part-requires-clause-errand : goal.part-requires-clause-errand
 part-requires-clause-errand g c = λ home rests w so. absurd (c.args.self.now.away home)
 
 pub part-requires-clause-leans : goal.part-requires-clause-leans
-part-requires-clause-leans g c = λ w so n leaning. inl (c.goes_on.ensures.leans _ w n so.4 leaning)
+part-requires-clause-leans g c =
+    let x = c.args.self.now in leans_retire g.C.Rule.holds g.C.Rule.keeps g.C.Content.notes g.C.Content.beside g.C.Rule.leans c.goes_on.ensures.leans x.blocks.now.words.fixed x.seat.now.id x.seat.now.view Retirement c.args.slot c.args.block c.requires.cut
 
 begun : (g : given.Over) (c : After-to g) → IsBegun Active (retiring c.args.slot c.args.self.now.blocks.now.words.fixed.batch_size c.to.result) (g.C.Content.notes c.part.new.seat.view).knows
 begun g c =

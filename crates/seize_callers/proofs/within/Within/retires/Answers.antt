@@ -2,7 +2,7 @@
 use Rattle.seize_callers.specs.Made.{IsAllowed}
 use Rattle.seize_callers.proofs.Keeping.{still_kept}
 use Rattle.seize_callers.specs.Kept.{kept}
-use Rattle.std.proofs.Common.{◌≡◌, refl, sym, subst, ap, ◌∙◌, inl}
+use Rattle.std.proofs.Common.{◌≡◌, refl, sym, subst, ap, ◌∙◌}
 use Rattle.seize.specs.declared.rows.settle.Settle.{Settle}
 use Rattle.seize.specs.declared.rows.settle.Settling.TheVariants.{Over}
 use Rattle.seize.specs.Settle.{retiring}
@@ -13,7 +13,7 @@ use Rattle.seize_views.specs.declared.view.Why.TheVariants.{Retiring}
 use Rattle.seize_views.specs.Notes.{still}
 use Rattle.seize_views.specs.Watched.{known_by}
 use Rattle.seize_callers.specs.Made.{task_of}
-use Rattle.seize_callers.proofs.Turns.{may_turn, own_task}
+use Rattle.seize_callers.proofs.Turns.{may_turn, leans_turn, own_task}
 use Rattle.seize_callers.proofs.Straight.{Comes, has_ended, has_stopped, may_run, retirement_row}
 use Rattle.seize_callers.proofs.within.Within.retires.Given as given
 use Rattle.seize_callers.proofs.within.Within.retires.Goals as goal
@@ -45,7 +45,10 @@ pub part-requires-clause-errand : goal.part-requires-clause-errand
 part-requires-clause-errand g c = λ home rests w so. absurd (c.retire-retired.new.memory.away home)
 
 pub part-requires-clause-leans : goal.part-requires-clause-leans
-part-requires-clause-leans g c = λ w so n leaning. inl (c.goes_on.ensures.leans _ w n so.4 leaning)
+part-requires-clause-leans g c =
+    let b = c.requires.begun in let n = c.retire-retired.new.memory in let d = over g (goal.at.part-requires-clause-leans g c).In-Ended b.0 b.1 in
+    leans_turn g.C.Rule.holds g.C.Rule.keeps g.C.Content.notes g.C.Content.beside g.C.Rule.leans c.goes_on.ensures.leans n.blocks.now.words.fixed n.seat.now.id n.seat.now.view (Settles d.0 (Retiring b.0) d.2.0.0 d.2.0.1) (ap known_by d.2.0.2) ended still
+    (d.1, refl) tt
 
 pub returns-in-Ended-clause-rests : goal.returns-in-Ended-clause-rests
 returns-in-Ended-clause-rests g c = λ way is.
