@@ -14,7 +14,7 @@ pub struct Showing;
 impl<K, V, S> Lesson<Fixed, View<K, V, S>> for Showing {
     ghost use Rattle.papaya_shared.specs.Shown.{LearnsMap};
 
-    ghost to = { λ _. LearnsMap };
+    ghost to = { λ _ v _. LearnsMap v };
 }
 
 /// One seat more of this memory, which holds no slot, and to which the map is handed on that the other one knows.

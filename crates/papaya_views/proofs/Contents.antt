@@ -91,6 +91,10 @@ module _ {K S : Type 0} (V : Type 0) (same : K → K → Bool) (hash : S → K �
   abbrev its : (V : Type 0) → View K V S → Option (Map S) × List (Run K V)
   its V v = beside_of v
 
+  -- nobody leans on anybody
+  abbrev nobody : View K V S → ℕ → Type 0
+  nobody v n = ⊥
+
   pub seats_come_in : SeatsComeIn (Holds {V = V} same hash) KeepsFor notes_of (its V) (λ _. at_rest)
   seats_come_in fixed = (seats_come V same hash fixed, refl)
 
@@ -113,14 +117,14 @@ module _ {K S : Type 0} (V : Type 0) (same : K → K → Bool) (hash : S → K �
         ap (λ (x : View K V S). beside_of x) so.2,
       )
 
-  pub rows_turn_in : RowsTurnIn (Holds {V = V} same hash) KeepsFor notes_of (its V)
-  rows_turn_in fixed id v u may s h at =
+  pub rows_turn_in : RowsTurnIn (Holds {V = V} same hash) KeepsFor notes_of (its V) nobody
+  rows_turn_in fixed id v u may s h at unlent =
       let k = free_by (λ x. IsNext fixed x u.knows) (λ x is. busy_next fixed x u.knows is) (λ is. is) v may.0 in
       let g = rows_turn V same hash fixed id v u.knows u.began k.0 k.1 s h at in
       (g.0, g.1, g.2, g.3, (ap (λ (x : View K V S). notes_of x) g.4 ∙ noted_so v u k.0 may.2 may.3, ap (λ (x : View K V S). beside_of x) g.4))
 
-  pub settlings_begin_in : SettlingsBeginIn (Holds {V = V} same hash) KeepsFor notes_of (its V)
-  settlings_begin_in fixed id v way c began is s h at =
+  pub settlings_begin_in : SettlingsBeginIn (Holds {V = V} same hash) KeepsFor notes_of (its V) nobody
+  settlings_begin_in fixed id v way c began is s h at unlent =
       let k = free_by (λ x. IsToSettle fixed x way c) (λ x e. busy_settles fixed x way c e) (λ e. e) v is in
       let g = settlings_begin V same hash fixed id v way c began k.0 k.1 s h at in
       let knows = ap (λ (x : View K V S). (notes_of x).knows) g.4.1 ∙ ap (λ (x : Work K V S). row_known (slot_view.Settles c (Retiring way) None g.4.0) x) k.0 in

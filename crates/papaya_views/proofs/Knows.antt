@@ -89,6 +89,7 @@ module _ {K V S : Type 0} (same : K → K → Bool) (hash : S → K → ℕ) (fi
     bound_on (slot_view.Brings d y) b = tt
     bound_on (slot_view.Bears d) b = tt
     bound_on (slot_view.Watches t d) b = tt
+    bound_on (slot_view.Under n t d) b = tt
     bound_on (slot_view.Busy t) b = tt
 
     pub knows_on : KnowsRow fixed scene j x.slot → KnowsRow fixed n j x.slot

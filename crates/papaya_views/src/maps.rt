@@ -34,4 +34,10 @@ impl<K: Eq, V, S: Hashes<K>> Rule<Node<K, V>> for OfMaps<S> {
     ghost newcomers_rest = { λ _. tt };
 
     ghost resting_stay = { resting_stay K.eq S.hash };
+
+    ghost leans = { λ _ _. ⊥ };
+
+    ghost upright = { λ _ _ _ none. none };
+
+    ghost leaning_stay = { λ _ _ _ _ _ _ none. none };
 }

@@ -1,6 +1,6 @@
 -- What a rule allows a seat it may do where seats visit blocks and go on errands.
 use Rattle.std.specs.Prelude.{◌≡◌, ℕ, zero, suc, List, [], ◌∷◌, Some, None, IsSome, slice_get, slice_set, ◌++◌}
-use Rattle.std.proofs.Common.{refl, sym, ap, ◌∙◌, subst, arith}
+use Rattle.std.proofs.Common.{refl, sym, ap, ◌∙◌, subst, arith, ◌⊎◌, inl, inr}
 use denote.RawPtr.{Ptr}
 use Rattle.seize_words.specs.Mem.{Mem, value_at, word_at}
 use Rattle.seize_words.specs.declared.at.At.{At}
@@ -11,7 +11,7 @@ use Rattle.seize_seats.specs.State as State
 use Rattle.seize_seats.specs.Lendings.{Shown, ShownToBoth, ShownToAll, ShownBy, IsValueOf, IsValueOfBoth, IsValueSo, IsValueBy}
 use Rattle.seize_seats.specs.Start.{bare, WasIdle, WasKnown}
 use Rattle.seize_seats.specs.Visits.{Spot, Visit, Claim, fresh, onward, onward_at, witness, plain, plain_memory, plain_op, plain_out, HoldsKept, keeps_kept, then_kept}
-use Rattle.seize_seats.specs.Errands.{Away, inward, RenewsIdle, RenewsTo, RenewsFrom, AreAllBack, AreIdle, then_away, MayGo, MayGoAll, MayMeet}
+use Rattle.seize_seats.specs.Errands.{Away, inward, RenewsIdle, RenewsTo, RenewsFrom, AreAllBack, AreIdle, then_away, Lends, AreUnlent, TurnsUnlent, MayGo, MayGoAll, MayLean, MayLeanAll, MayMeet, MayLeanBoth}
 use Rattle.seize_seats.proofs.Places.Plain.{IsOnWord, value_of_block}
 use Rattle.seize_seats.proofs.Stepping.Visits as Visits
 use Rattle.seize_seats.proofs.Stepping.Errands as Errands
@@ -41,21 +41,28 @@ come_there [] v e = cc e
 come_there (x ∷ vs) v e = cc e
 
 -- m: what the memory was as its present lifetime began
-module _ {T V W : Type 0} (rests : V → Type 0) (holds : State T V W → Type 0) (keeps : V → V → W → ℕ → Type 0) (m : Mem T) where
+module _ {T V W : Type 0} (rests : V → Type 0) (leans : V → ℕ → Type 0) (upright : (v : V) (n : ℕ) → rests v → leans v n → ⊥) (holds : State T V W → Type 0)
+    (keeps : V → V → W → ℕ → Type 0) (m : Mem T) where
   abbrev St : Type 0
   St = State (Kept T) (Seen V) W
 
   abbrev Here : St → Type 0
-  Here = HoldsHere rests holds
+  Here = HoldsHere rests leans holds
 
   abbrev Hold : St → Type 0
-  Hold = HoldsSince rests m holds keeps
+  Hold = HoldsSince rests leans m holds keeps
 
   abbrev Keep : Seen V → Seen V → W → ℕ → Type 0
   Keep = keeps_here keeps
 
   abbrev rest : V × Visit → Type 0
   rest u = rests u.0
+
+  abbrev lean : V × Visit → ℕ → Type 0
+  lean u n = leans u.0 n
+
+  up : (u : V × Visit) (n : ℕ) → rest u → lean u n → ⊥
+  up u n = upright u.0 n
 
   -- what holds where seats visit blocks, and go on no errands
   abbrev Visited : State (Kept T) (V × Visit) W → Type 0
@@ -85,30 +92,34 @@ module _ {T V W : Type 0} (rests : V → Type 0) (holds : State T V W → Type 0
   turns_since : (id : ℕ) (u : Seen V) (so : Seen V → Type 0) → ((w : Seen V) → so w → IsOn u.0.1 w) → Turns Here Keep id u so → Turns Hold Keep id u so
   turns_since id u so on law s h at = goes_since s s.memory id u so h at on (law s h.0 at)
 
-  module _ (tells : V → Op T → Out T → V → Type 0) (stay : (v : V) (op : Op T) (out : Out T) (w : V) → tells v op out w → rests v → rests w) where
+  module _ (tells : V → Op T → Out T → V → Type 0) (stay : (v : V) (op : Op T) (out : Out T) (w : V) → tells v op out w → rests v → rests w)
+      (stays_up : (v : V) (op : Op T) (out : Out T) (w : V) → tells v op out w → (n : ℕ) → leans w n → leans v n) where
     may : (v : V) (y : Visit) (e : Away) (op : Op T) → MayGoAll {T = Kept T} rest e (v, y) (then_kept value_of y (tells v op))
     may v y e op out home rested u told = stay v op (plain_out value_of out) u.0 told.0 rested
+
+    may_lean : (v : V) (y : Visit) (e : Away) (op : Op T) → MayLeanAll {T = Kept T} lean e (v, y) (then_kept value_of y (tells v op))
+    may_lean v y e op out u told n leaning = inl (stays_up v op (plain_out value_of out) u.0 told.0 n leaning)
 
     pub word_allowed : (id : ℕ) (v : V) (y : Visit) (e : Away) (op : Op (Kept T)) → IsOnWord op
         → Allows holds keeps id v (plain_op value_of op) (tells v (plain_op value_of op))
         → Allows Hold Keep id ((v, y), e) op (then_away e (then_kept value_of y (tells v (plain_op value_of op))))
     word_allowed id v y e op on law = let told : Op T = plain_op value_of op in
         allows_since id ((v, y), e) op (then_away e (then_kept value_of y (tells v told))) (λ out w k. onwards y w k.0.1) (
-        Errands.allowed_away rest Visited Keeps id (v, y) e op (then_kept value_of y (tells v told)) (may v y e told)
+        Errands.allowed_away rest lean up Visited Keeps id (v, y) e op (then_kept value_of y (tells v told)) (may v y e told) (may_lean v y e told)
         (Visits.word_allowed value_of lies holds keeps id v y op (tells v told) on law))
 
     pub make_allowed : (id : ℕ) (v : V) (y : Visit) (e : Away) (x : Kept T) (words : ℕ) → Allows holds keeps id v (Make (value_of x) words) (tells v (Make (value_of x) words))
         → Allows Hold Keep id ((v, y), e) (Make x words) (then_away e (then_kept value_of y (tells v (Make (value_of x) words))))
     make_allowed id v y e x words law = let told : Op T = Make (value_of x) words in
         allows_since id ((v, y), e) (Make x words) (then_away e (then_kept value_of y (tells v told))) (λ out w k. onwards y w k.0.1) (
-        Errands.allowed_away rest Visited Keeps id (v, y) e (Make x words) (then_kept value_of y (tells v told)) (may v y e told)
+        Errands.allowed_away rest lean up Visited Keeps id (v, y) e (Make x words) (then_kept value_of y (tells v told)) (may v y e told) (may_lean v y e told)
         (Visits.make_allowed value_of lies holds keeps id v y x words (tells v told) law))
 
     pub take_allowed : (id : ℕ) (v : V) (y : Visit) (e : Away) (b : ℕ) → Allows holds keeps id v (Take b) (tells v (Take b))
         → Allows Hold Keep id ((v, y), e) (Take b) (then_away e (then_kept value_of y (tells v (Take b))))
     take_allowed id v y e b law = let told : Op T = Take b in
         allows_since id ((v, y), e) (Take b) (then_away e (then_kept value_of y (tells v told))) (λ out w k. onwards y w k.0.1) (
-        Errands.allowed_away rest Visited Keeps id (v, y) e (Take b) (then_kept value_of y (tells v told)) (may v y e told)
+        Errands.allowed_away rest lean up Visited Keeps id (v, y) e (Take b) (then_kept value_of y (tells v told)) (may v y e told) (may_lean v y e told)
         (Visits.take_allowed value_of lies holds keeps id v y b (tells v told) law))
 
     pub rewrite_allowed : (id : ℕ) (v : V) (y : Visit) (e : Away) (b : ℕ) (x : Kept T) → Owns holds keeps id v b
@@ -116,32 +127,48 @@ module _ {T V W : Type 0} (rests : V → Type 0) (holds : State T V W → Type 0
         → Allows Hold Keep id ((v, y), e) (Rewrite b x) (then_away e (then_kept value_of y (tells v (Rewrite b (value_of x)))))
     rewrite_allowed id v y e b x owns law = let told : Op T = Rewrite b (value_of x) in
         allows_since id ((v, y), e) (Rewrite b x) (then_away e (then_kept value_of y (tells v told))) (λ out w k. onwards y w k.0.1) (
-        Errands.allowed_away rest Visited Keeps id (v, y) e (Rewrite b x) (then_kept value_of y (tells v told)) (may v y e told)
+        Errands.allowed_away rest lean up Visited Keeps id (v, y) e (Rewrite b x) (then_kept value_of y (tells v told)) (may v y e told) (may_lean v y e told)
         (Visits.rewrite_allowed value_of lies holds keeps id v y b x (tells v told) owns law))
 
   pub owned_here : (id : ℕ) (v : V) (y : Visit) (e : Away) (b : ℕ) → Owns holds keeps id v b → Owns Hold Keep id ((v, y), e) b
   owned_here id v y e b owns s h at =
       let so : Out (Kept T) → V × Visit → Type 0 = then_kept value_of y (λ _ _. Unit {0}) in
       let a = allows_since id ((v, y), e) (Take b) (λ out u. so out u.0) (λ out w k. onwards y w k.1)
-      (Errands.owned_away rest Visited Keeps id (v, y) e b so (Visits.take_allowed value_of lies holds keeps id v y b (λ _ _. Unit {0}) owns)) s h at in
+      (Errands.owned_away rest lean up Visited Keeps id (v, y) e b so (Visits.take_allowed value_of lies holds keeps id v y b (λ _ _. Unit {0}) owns)) s h at in
       (a.0, λ out n took. (let g = a.1 out n took in (g.0, g.1, g.2, g.3, tt)))
 
-  pub starts_allowed : (roots : ℕ) → Starts holds roots → Starts (HoldsSince rests (bare roots) holds keeps) roots
+  pub starts_allowed : (roots : ℕ) → Starts holds roots → Starts (HoldsSince rests leans (bare roots) holds keeps) roots
   starts_allowed roots law =
-      let r = Errands.starts_away rest Visited Keeps roots (Visits.starts_kept value_of lies holds keeps roots law) in (r.0, (r.1, (λ e. refl), λ id u c at claims. absurd (cc at)))
+      let r = Errands.starts_away rest lean up Visited Keeps roots (Visits.starts_kept value_of lies holds keeps roots law) in (r.0, (r.1, (λ e. refl), λ id u c at claims. absurd (cc at)))
 
-  pub turn_allowed : (id : ℕ) (v : V) (y : Visit) (e : Away) (so : V → Type 0) → MayGo rests e v so → Turns holds keeps id v so
-      → Turns Hold Keep id ((v, y), e) (λ u. (so u.0.0 × (u.0.1 ≡ onward y)) × (u.1 ≡ e))
-  turn_allowed id v y e so may law =
+  pub turn_allowed : (id : ℕ) (v : V) (y : Visit) (e : Away) (so : V → Type 0) → MayGo rests e v so → MayLean leans e v so
+      → Turns holds keeps id v so → Turns Hold Keep id ((v, y), e) (λ u. (so u.0.0 × (u.0.1 ≡ onward y)) × (u.1 ≡ e))
+  turn_allowed id v y e so may leaning law =
       turns_since id ((v, y), e) (λ u. (so u.0.0 × (u.0.1 ≡ onward y)) × (u.1 ≡ e)) (λ w k. onwards y w k.0.1) (
-      Errands.turn_away rest Visited Keeps id (v, y) e (λ u. so u.0 × (u.1 ≡ onward y)) (λ home rested u told. may home rested u.0 told.0)
+      Errands.turn_away rest lean up Visited Keeps id (v, y) e (λ u. so u.0 × (u.1 ≡ onward y)) (λ home rested u told. may home rested u.0 told.0)
+      (λ u told n leans_on. leaning u.0 told.0 n leans_on)
       (Visits.turn_kept value_of lies holds keeps id v y so law))
 
-  pub learn_allowed : (i : ℕ) (v : V) (y : Visit) (e : Away) (j : ℕ) (u : V) (x : Visit) (f : Away) (so : V → Type 0) → MayGo rests e v so
+  -- a seat that is lent to nobody turns where the rule lets it turn if nobody leans on it
+  pub part_allowed : (id : ℕ) (v : V) (y : Visit) (e : Away) (so : V → Type 0) → MayGo rests e v so → MayLean leans e v so
+      → TurnsUnlent holds keeps leans id v so → (s : St) → Hold s → view_of s id ≡ Some ((v, y), e) → AreUnlent (λ (u : Seen V). u.1) id s.views
+      → Goes Hold Keep s s.memory id (λ u. (so u.0.0 × (u.0.1 ≡ onward y)) × (u.1 ≡ e))
+  part_allowed id v y e so may leaning law s h at none =
+      goes_since s s.memory id ((v, y), e) (λ w. (so w.0.0 × (w.0.1 ≡ onward y)) × (w.1 ≡ e)) h at (λ w k. onwards y w k.0.1) (
+      Errands.unlent_away rest lean up Visited Keeps id (v, y) e (λ w. so w.0 × (w.1 ≡ onward y)) (λ home rested w told. may home rested w.0 told.0)
+      (λ w told n leans_on. leaning w.0 told.0 n leans_on) plain_turn s h.0 at none)
+    where
+      plain_turn : TurnsUnlent Visited Keeps lean id (v, y) (λ w. so w.0 × (w.1 ≡ onward y))
+      plain_turn t held here unlent = Visits.goes_kept value_of lies holds keeps t id y so held
+          (law (plain value_of t) held.0 (Visits.view_plain value_of lies holds keeps t id (v, y) here) (λ i w at_i leans_on.
+          (let u = Errands.mapped_at (λ (u : V × Visit). u.0) t.views i w at_i in unlent i u.0 u.1 (subst (λ (x : V). leans x id) (sym u.2) leans_on))))
+
+  pub learn_allowed : (i : ℕ) (v : V) (y : Visit) (e : Away) (j : ℕ) (u : V) (x : Visit) (f : Away) (so : V → Type 0) → MayGo rests e v so → MayLean leans e v so
       → Learns holds keeps i v j u so → Learns Hold Keep i ((v, y), e) j ((u, x), f) (λ w. (so w.0.0 × (w.0.1 ≡ onward y)) × (w.1 ≡ e))
-  learn_allowed i v y e j u x f so may law s h at_i at_j ne =
+  learn_allowed i v y e j u x f so may leaning law s h at_i at_j ne =
       goes_since s s.memory i ((v, y), e) (λ w. (so w.0.0 × (w.0.1 ≡ onward y)) × (w.1 ≡ e)) h at_i (λ w k. onwards y w k.0.1) (
-      Errands.learn_away rest Visited Keeps i (v, y) e j (u, x) f (λ w. so w.0 × (w.1 ≡ onward y)) (λ home rested w told. may home rested w.0 told.0)
+      Errands.learn_away rest lean up Visited Keeps i (v, y) e j (u, x) f (λ w. so w.0 × (w.1 ≡ onward y)) (λ home rested w told. may home rested w.0 told.0)
+      (λ w told n leans_on. leaning w.0 told.0 n leans_on)
       (Visits.learn_kept value_of lies holds keeps i v y j u x so law) s h.0 at_i at_j ne)
 
   pub visit_allowed : (id : ℕ) (v : V) (y : Visit) (e : Away) (b : ℕ) → Shown holds id v b
@@ -149,12 +176,13 @@ module _ {T V W : Type 0} (rests : V → Type 0) (holds : State T V W → Type 0
   visit_allowed id v y e b shown =
       turns_since id ((v, y), e) (λ u. ((u.0.0 ≡ v) × ((p : Spot) × (u.0.1 ≡ onward_at y b p))) × (u.1 ≡ e))
       (λ w k. (ap (λ (x : Visit). x.steps) k.0.1.1, ap (λ (x : Visit). x.claim) k.0.1.1)) (
-      Errands.turn_away rest Visited Keeps id (v, y) e (λ u. (u.0 ≡ v) × ((p : Spot) × (u.1 ≡ onward_at y b p))) (λ home rested u told. subst rests (sym told.0) rested)
+      Errands.turn_away rest lean up Visited Keeps id (v, y) e (λ u. (u.0 ≡ v) × ((p : Spot) × (u.1 ≡ onward_at y b p))) (λ home rested u told. subst rests (sym told.0) rested)
+      (λ u told n leans_on. inl (subst (λ (w : V). leans w n) told.0 leans_on))
       (Visits.visits value_of lies holds keeps id v y b shown))
 
   pub comes_allowed : (v : V) → rests v → Comes holds keeps v → Comes Hold Keep ((v, fresh), None)
   comes_allowed v rested law s h =
-      let r = Errands.comes_away rest Visited Keeps (v, fresh) rested (Visits.comes_kept value_of lies holds keeps v fresh refl law) s h.0 in (
+      let r = Errands.comes_away rest lean up Visited Keeps (v, fresh) rested (Visits.comes_kept value_of lies holds keeps v fresh refl law) s h.0 in (
         r.0,
         (
           r.1,
@@ -164,10 +192,12 @@ module _ {T V W : Type 0} (rests : V → Type 0) (holds : State T V W → Type 0
         r.2,
       )
 
-  pub meet_allowed : (i : ℕ) (v : V) (y : Visit) (e : Away) (j : ℕ) (u : V) (x : Visit) (f : Away) (so : V → V → Type 0) → MayMeet rests e v f u so → Meets holds i v j u so
+  pub meet_allowed : (i : ℕ) (v : V) (y : Visit) (e : Away) (j : ℕ) (u : V) (x : Visit) (f : Away) (so : V → V → Type 0) → MayMeet rests e v f u so
+      → MayLeanBoth leans e v f u so → Meets holds i v j u so
       → Meets Hold i ((v, y), e) j ((u, x), f) (λ c d. (so c.0.0 d.0.0 × (c.0.1 ≡ onward y) × (d.0.1 ≡ onward x)) × (c.1 ≡ e) × (d.1 ≡ f))
-  meet_allowed i v y e j u x f so may law s h at_i at_j ne =
-      let g = Errands.meets_away rest Visited Keeps i (v, y) e j (u, x) f (λ c d. so c.0 d.0 × (c.1 ≡ onward y) × (d.1 ≡ onward x)) (λ c d told. may c.0 d.0 told.0)
+  meet_allowed i v y e j u x f so may leaning law s h at_i at_j ne =
+      let g = Errands.meets_away rest lean up Visited Keeps i (v, y) e j (u, x) f (λ c d. so c.0 d.0 × (c.1 ≡ onward y) × (d.1 ≡ onward x)) (λ c d told. may c.0 d.0 told.0)
+      (λ c d told. leaning c.0 d.0 told.0)
       (Visits.meets_kept value_of lies holds keeps i v y j u x so law) s h.0 at_i at_j ne in (
         g.0,
         g.1,
@@ -187,19 +217,26 @@ module _ {T V W : Type 0} (rests : V → Type 0) (holds : State T V W → Type 0
   renews_visited law s h idle = let r = law (plain value_of s) h.0 (plain_idle s idle) in (r.0, (r.1, λ id u b p e visits. absurd (cc e)))
 
   pub renew_allowed : RenewsIdle rests holds → (s : St) → Hold s → AreAllBack (λ (u : Seen V). u.1) s.views
-      → (w : W) × HoldsSince rests (plain_memory value_of s.memory) holds keeps record { memory = s.memory; views = []; world = w }
-  renew_allowed law s h home = let r = Errands.renews_away rest Visited Keeps (renews_visited law) s h.0 home in (r.0, (r.1, (λ e. refl), λ id u c at claims. absurd (cc at)))
+      → (w : W) × HoldsSince rests leans (plain_memory value_of s.memory) holds keeps record { memory = s.memory; views = []; world = w }
+  renew_allowed law s h home = let r = Errands.renews_away rest lean up Visited Keeps (renews_visited law) s h.0 home in (r.0, (r.1, (λ e. refl), λ id u c at claims. absurd (cc at)))
 
   -- with one seat that comes and rests, and with one whose view is known, under another rule
-  module _ {V' W' : Type 0} (rests' : V' → Type 0) (after : State T V' W' → Type 0) (keeps' : V' → V' → W' → ℕ → Type 0) where
+  module _ {V' W' : Type 0} (rests' : V' → Type 0) (leans' : V' → ℕ → Type 0) (upright' : (v : V') (n : ℕ) → rests' v → leans' v n → ⊥)
+      (after : State T V' W' → Type 0) (keeps' : V' → V' → W' → ℕ → Type 0) where
     abbrev rest' : V' × Visit → Type 0
     rest' u = rests' u.0
+
+    abbrev lean' : V' × Visit → ℕ → Type 0
+    lean' u n = leans' u.0 n
+
+    up' : (u : V' × Visit) (n : ℕ) → rest' u → lean' u n → ⊥
+    up' u n = upright' u.0 n
 
     abbrev Later : State (Kept T) (V' × Visit) W' → Type 0
     Later = HoldsKept value_of lies after
 
     abbrev Then : St → State (Kept T) (Seen V') W' → Type 0
-    Then s = HoldsSince rests' (plain_memory value_of s.memory) after keeps'
+    Then s = HoldsSince rests' leans' (plain_memory value_of s.memory) after keeps'
 
     abbrev back : Seen V → Away
     back u = u.1
@@ -213,7 +250,7 @@ module _ {T V W : Type 0} (rests : V → Type 0) (holds : State T V W → Type 0
     pub comes_alone : (v : V') → rests' v → RenewsTo rests holds after (v ∷ []) → (s : St) → Hold s → AreAllBack back s.views
         → (w : W') × Then s record { memory = s.memory; views = ((v, fresh), None) ∷ []; world = w }
     comes_alone v rested law s h home =
-        let k = Errands.comes_alone rest Visited Keeps rest' Later (v, fresh) rested
+        let k = Errands.comes_alone rest lean up Visited Keeps rest' lean' up' Later (v, fresh) rested
         (λ t i idle. (let r = law (plain value_of t) i.0 (plain_idle t idle) in (r.0, (r.1, λ i u b p e visits. by i u b p e visits)))) s h.0 home in
         (k.0, (k.1, (λ e. absurd (cc e)), λ id u c at claims. claims_none id u c at claims))
       where
@@ -229,28 +266,28 @@ module _ {T V W : Type 0} (rests : V → Type 0) (holds : State T V W → Type 0
     pub ends_alone : (id : ℕ) (v : V) (y : Visit) (e : Away) → RenewsFrom rests holds after id v → (s : St) → Hold s → AreAllBack back s.views
         → slice_get s.views id ≡ Some ((v, y), e) → (w : W') × Then s record { memory = s.memory; views = []; world = w }
     ends_alone id v y e law s h home at =
-        let k = Errands.ends_alone rest Visited Keeps rest' Later id (v, y) e
+        let k = Errands.ends_alone rest lean up Visited Keeps rest' lean' up' Later id (v, y) e
         (λ t i at_id idle. (let r = law (plain value_of t) i.0 (Visits.view_plain value_of lies holds keeps t id (v, y) at_id) (plain_idle t idle) in (r.0, (r.1, λ i u b p is visits. absurd (cc is))))) s h.0 home at in
         (k.0, (k.1, (λ none. refl), λ i u c is claims. absurd (cc is)))
 
   -- what was so of the memory as a renewal found it
   pub was_idle : (s : St) → Hold s → AreAllBack (λ (u : Seen V). u.1) s.views → WasIdle rests holds (plain_memory value_of s.memory)
-  was_idle s h home = (plain value_of (inward s), h.0.0.0, plain_idle (inward s) (Errands.idle rest Visited Keeps s h.0 home), refl)
+  was_idle s h home = (plain value_of (inward s), h.0.0.0, plain_idle (inward s) (Errands.idle rest lean up Visited Keeps s h.0 home), refl)
 
   pub was_known : (id : ℕ) (v : V) (y : Visit) (e : Away) (s : St) → Hold s → AreAllBack (λ (u : Seen V). u.1) s.views
       → slice_get s.views id ≡ Some ((v, y), e) → WasKnown rests holds id v (plain_memory value_of s.memory)
   was_known id v y e s h home at =
-      let known = Visits.view_plain value_of lies holds keeps (inward s) id (v, y) (Errands.inward_view rest Visited Keeps s id ((v, y), e) at) in
-      (plain value_of (inward s), h.0.0.0, known, plain_idle (inward s) (Errands.idle rest Visited Keeps s h.0 home), refl)
+      let known = Visits.view_plain value_of lies holds keeps (inward s) id (v, y) (Errands.inward_view rest lean up Visited Keeps s id ((v, y), e) at) in
+      (plain value_of (inward s), h.0.0.0, known, plain_idle (inward s) (Errands.idle rest lean up Visited Keeps s h.0 home), refl)
 
   pub shown_here : (i : ℕ) (v : V) (y : Visit) (e : Away) (j : ℕ) (u : V) (x : Visit) (f : Away) (b : ℕ) → ShownToBoth holds i v j u b
       → ShownToBoth Hold i ((v, y), e) j ((u, x), f) b
   shown_here i v y e j u x f b shown s h at_i at_j =
-      Errands.shown_both_away rest Visited Keeps i (v, y) e j (u, x) f b (Visits.shown_to_both value_of lies holds keeps i v y j u x b shown) s h.0 at_i at_j
+      Errands.shown_both_away rest lean up Visited Keeps i (v, y) e j (u, x) f b (Visits.shown_to_both value_of lies holds keeps i v y j u x b shown) s h.0 at_i at_j
 
   -- ---- a seat comes that bears witness of what three seats show to be kept
   known : (s : St) (id : ℕ) (v : V) (y : Visit) (e : Away) → view_of s id ≡ Some ((v, y), e) → view_of (plain value_of (inward s)) id ≡ Some v
-  known s id v y e at = Visits.view_plain value_of lies holds keeps (inward s) id (v, y) (Errands.inward_view rest Visited Keeps s id ((v, y), e) at)
+  known s id v y e at = Visits.view_plain value_of lies holds keeps (inward s) id (v, y) (Errands.inward_view rest lean up Visited Keeps s id ((v, y), e) at)
 
   module _ (i : ℕ) (v : V) (y : Visit) (e : Away) (j : ℕ) (u : V) (x : Visit) (f : Away) (k : ℕ) (o : V) (r : Visit) (d : Away) (b : ℕ) (new : V) where
     abbrev claim : Claim
@@ -262,7 +299,7 @@ module _ {T V W : Type 0} (rests : V → Type 0) (holds : State T V W → Type 0
     pub testifies_here : rests new → Comes holds keeps new → ShowsKept holds keeps i v j u k o b
         → Testifies Hold i ((v, y), e) j ((u, x), f) k ((o, r), d) bears_witness
     testifies_here rested law shows s h at_i at_j at_k =
-        let c = Errands.comes_away rest Visited Keeps (new, witness claim) rested (Visits.comes_kept value_of lies holds keeps new (witness claim) refl law) s h.0 in
+        let c = Errands.comes_away rest lean up Visited Keeps (new, witness claim) rested (Visits.comes_kept value_of lies holds keeps new (witness claim) refl law) s h.0 in
         let here : IsKept keeps claim s = (
           ((u, x), f),
           ((o, r), d),
@@ -330,18 +367,30 @@ module _ {T V W : Type 0} (rests : V → Type 0) (holds : State T V W → Type 0
   place_here id c p z (Entry b i) address place is = is
 
   -- a seat goes on another errand, or on none if it rests
-  pub errand_allowed : (id : ℕ) (v : V) (y : Visit) (e f : Away) → (f ≡ None → rests v) → (s : St) → Hold s → view_of s id ≡ Some ((v, y), e)
-      → Hold (State.after s s.memory id ((v, y), f) s.world)
-  errand_allowed id v y e f rested s h at = (
-    Errands.errs rest Visited Keeps id (v, y) e f rested s h.0 at,
+  pub errand_allowed : (id : ℕ) (v : V) (y : Visit) (e f : Away) → (f ≡ None → rests v) → (e ≡ None) ⊎ (f ≡ None) → (s : St) → Hold s
+      → view_of s id ≡ Some ((v, y), e) → Hold (State.after s s.memory id ((v, y), f) s.world)
+  errand_allowed id v y e f rested either s h at = (
+    Errands.errs rest lean up Visited Keeps id (v, y) e f rested (λ n leaning. lent either n leaning) s h.0 at,
     (λ none. absurd (set_there s.views id ((v, y), e) ((v, y), f) at none)),
     claims_then Hold keeps s id v y e f at h.2,
   )
+    where
+      -- as it goes, and as it comes back, it leans on nobody
+      lent : (e ≡ None) ⊎ (f ≡ None) → (n : ℕ) → leans v n → Lends f n
+      lent (inl none) n leaning = absurd (subst (λ (x : Away). Lends x n) none (h.0.2 id ((v, y), e) n at leaning))
+      lent (inr home) n leaning = absurd (upright v n (rested home) leaning)
 
 -- ---- what is shown and found
-module _ {T V W : Type 0} (rests : V → Type 0) (holds : State T V W → Type 0) (keeps : V → V → W → ℕ → Type 0) where
+module _ {T V W : Type 0} (rests : V → Type 0) (leans : V → ℕ → Type 0) (upright : (v : V) (n : ℕ) → rests v → leans v n → ⊥) (holds : State T V W → Type 0)
+    (keeps : V → V → W → ℕ → Type 0) where
   abbrev resting : V × Visit → Type 0
   resting u = rests u.0
+
+  abbrev leaning : V × Visit → ℕ → Type 0
+  leaning u n = leans u.0 n
+
+  stands_up : (u : V × Visit) (n : ℕ) → resting u → leaning u n → ⊥
+  stands_up u n = upright u.0 n
 
   abbrev Visiting : State (Kept T) (V × Visit) W → Type 0
   Visiting = HoldsKept value_of lies holds
@@ -350,17 +399,17 @@ module _ {T V W : Type 0} (rests : V → Type 0) (holds : State T V W → Type 0
   Keeping = keeps_kept {T = T} value_of keeps
 
   abbrev As : State (Kept T) (Seen V) W → Type 0
-  As = HoldsHere rests holds
+  As = HoldsHere rests leans holds
 
   pub value_here : (i : ℕ) (v : V) (y : Visit) (e : Away) (j : ℕ) (u : V) (x : Visit) (f : Away) (b : ℕ) (d : Kept T) → IsValueOfBoth As i ((v, y), e) j ((u, x), f) b d
       → IsValueOfBoth holds i v j u b (value_of d)
   value_here i v y e j u x f b d is =
-      Visits.value_of_both value_of lies holds keeps i v y j u x b d (Errands.value_both_away resting Visiting Keeping i (v, y) e j (u, x) f b d is)
+      Visits.value_of_both value_of lies holds keeps i v y j u x b d (Errands.value_both_away resting leaning stands_up Visiting Keeping i (v, y) e j (u, x) f b d is)
 
   pub value_found : (id : ℕ) (v : V) (y : Visit) (e : Away) (b : ℕ) (p : Spot) (x : Kept T) → y.spot ≡ Some (b, p) → IsValueOf As id ((v, y), e) b x → lies x ≡ p
-  value_found id v y e b p x visits is = Visits.value_found value_of lies holds keeps id v y b p x visits (Errands.value_away resting Visiting Keeping id (v, y) e b x is)
+  value_found id v y e b p x visits is = Visits.value_found value_of lies holds keeps id v y b p x visits (Errands.value_away resting leaning stands_up Visiting Keeping id (v, y) e b x is)
 
   pub visits_found : (s : State (Kept T) (Seen V) W) (id : ℕ) (v : V) (y : Visit) (e : Away) (b : ℕ) (p : Spot) → As s → view_of s id ≡ Some ((v, y), e)
       → y.spot ≡ Some (b, p) → (x : Kept T) × (value_at s.memory b ≡ Some x) × (lies x ≡ p)
   visits_found s id v y e b p h at visits =
-      Visits.visits_found value_of lies holds keeps (inward s) id v y b p h.0 (Errands.inward_view resting Visiting Keeping s id ((v, y), e) at) visits
+      Visits.visits_found value_of lies holds keeps (inward s) id v y b p h.0 (Errands.inward_view resting leaning stands_up Visiting Keeping s id ((v, y), e) at) visits

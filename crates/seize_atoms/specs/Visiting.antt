@@ -44,8 +44,9 @@ abbrev pub seat_coded : {V : Type 0} → Coded V → Sight (Seen V)
 seat_coded c = with_away (coded× c visit_coded)
 
 -- what holds between any two steps of a memory whose seats visit blocks and go on errands
-abbrev pub HoldsHere : {T V W : Type 0} → (V → Type 0) → (State T V W → Type 0) → State (Kept T) (Seen V) W → Type 0
-HoldsHere {T} {V} {W} rests holds = HoldsAway (λ (u : V × Visit). rests u.0) (HoldsKept value_of lies holds)
+abbrev pub HoldsHere : {T V W : Type 0} → (V → Type 0) → (V → ℕ → Type 0) → (State T V W → Type 0) → State (Kept T) (Seen V) W → Type 0
+HoldsHere {T} {V} {W} rests leans holds =
+    HoldsAway (λ (u : V × Visit). rests u.0) (λ (u : V × Visit) (n : ℕ). leans u.0 n) (HoldsKept value_of lies holds)
 
 -- as long as no seat has come the memory is what it was as its lifetime began
 abbrev pub IsStill : {T V W : Type 0} → Mem T → State (Kept T) (Seen V) W → Type 0
@@ -62,8 +63,9 @@ abbrev pub AreClaimed : {T V W : Type 0} → (V → V → W → ℕ → Type 0) 
 AreClaimed {T} {V} keeps s = (id : ℕ) (u : Seen V) (c : Claim) → view_of s id ≡ Some u → u.0.1.claim ≡ Some c → IsKept keeps c s
 
 -- what holds between any two steps, in a lifetime that began so
-abbrev pub HoldsSince : {T V W : Type 0} → (V → Type 0) → Mem T → (State T V W → Type 0) → (V → V → W → ℕ → Type 0) → State (Kept T) (Seen V) W → Type 0
-HoldsSince rests m holds keeps s = HoldsHere rests holds s × IsStill m s × AreClaimed keeps s
+abbrev pub HoldsSince : {T V W : Type 0} → (V → Type 0) → (V → ℕ → Type 0) → Mem T → (State T V W → Type 0) → (V → V → W → ℕ → Type 0)
+    → State (Kept T) (Seen V) W → Type 0
+HoldsSince rests leans m holds keeps s = HoldsHere rests leans holds s × IsStill m s × AreClaimed keeps s
 
 -- what seats keep is a matter of their views
 abbrev pub keeps_here : {V W : Type 0} → (V → V → W → ℕ → Type 0) → Seen V → Seen V → W → ℕ → Type 0

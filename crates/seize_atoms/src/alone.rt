@@ -1,12 +1,12 @@
 //! Who has the memory to himself, and errands, in the midst of which nobody has.
-ghost use Rattle.std.specs.Prelude.{◌≡◌, ◌≢◌, List, [], ◌∷◌, None};
-ghost use Rattle.seize_seats.specs.Errands.{RenewsIdle, RenewsTo, RenewsFrom};
+ghost use Rattle.std.specs.Prelude.{◌≡◌, ◌≢◌, ℕ, List, [], ◌∷◌, None};
+ghost use Rattle.seize_seats.specs.Errands.{Lends, RenewsIdle, RenewsTo, RenewsFrom};
 ghost use Rattle.seize_seats.specs.Start.{WasIdle, WasKnown};
 ghost use Rattle.seize_seats.specs.Owned.{IsLike};
 
 use crate::rule::Rule;
 use crate::seat::Seat;
-use crate::task::Task;
+use crate::task::{Charge, Task};
 use crate::words::Words;
 use std::marker::PhantomData;
 
@@ -24,6 +24,31 @@ impl<T, R: Rule<T>> Words<T, R> {
     // The steps of an errand that a seat is on.
     fn sent<E: Task<T, R>>(&self, seat: &mut Seat<T, R>, errand: E) -> E::Answer
         requires { (seat.old.away ≢ None) × E.asks errand seat.old.base seat.old.view }
+        ensures { (seat.new.base ≡ seat.old.base) × (seat.new.id ≡ seat.old.id) × (seat.new.away ≡ seat.old.away)
+            × E.did errand seat.old.view result seat.new.view }
+    {
+        errand.run(seat)
+    }
+
+    /// A seat goes on an errand for which another one is lent: as long as that runs the other one takes no step.
+    pub fn errand_with<E: Charge<T, R>>(
+        &self,
+        seat: &mut Seat<T, R>,
+        lent: &Seat<T, R>,
+        errand: E,
+    ) -> E::Answer
+        requires { (seat.old.base ≡ self.now.id.views_name) × (lent.now.base ≡ self.now.id.views_name) × (seat.old.away ≡ None)
+            × E.asks errand seat.old.base lent.now.id lent.now.view seat.old.view
+            × ((answer : E.Answer) (w : R.View) → E.did errand seat.old.view answer w → R.rests w) }
+        ensures { (seat.new.base ≡ seat.old.base) × (seat.new.id ≡ seat.old.id) × (seat.new.away ≡ None)
+            × E.did errand seat.old.view result seat.new.view }
+    {
+        self.charged(seat, errand)
+    }
+
+    // The steps of an errand that is lent another seat.
+    fn charged<E: Charge<T, R>>(&self, seat: &mut Seat<T, R>, errand: E) -> E::Answer
+        requires { (lent : ℕ) × (u : R.View) × Lends seat.old.away lent × E.asks errand seat.old.base lent u seat.old.view }
         ensures { (seat.new.base ≡ seat.old.base) × (seat.new.id ≡ seat.old.id) × (seat.new.away ≡ seat.old.away)
             × E.did errand seat.old.view result seat.new.view }
     {

@@ -30,7 +30,7 @@ impl<T, R: Rule<T>> Words<T, R> {
             × (guard.now.base ≡ self.now.id.views_name) × (owner.now.base ≡ self.now.id.views_name)
             × IsItsIndex strip.now.id _block index × (values ≡ strip.now.id.values)
             × ShownToBoth (R.holds self.now.fixed) guard.now.id guard.now.view owner.now.id owner.now.view _block }
-        ensures { (x : Kept T) × (result.now ≡ Some x) × IsValueOfBoth (HoldsHere R.rests (R.holds self.now.fixed)) guard.now.id
+        ensures { (x : Kept T) × (result.now ≡ Some x) × IsValueOfBoth (HoldsHere R.rests R.leans (R.holds self.now.fixed)) guard.now.id
             ((guard.now.view, guard.now.visit), guard.now.away) owner.now.id ((owner.now.view, owner.now.visit), owner.now.away) _block x }
     {
         unsafe { &*values.add(index as usize) }

@@ -15,5 +15,5 @@ pub use claim::Claim;
 pub use rule::{Lesson, Meeting, Rule, Turn};
 pub use seat::Seat;
 pub use strip::Strip;
-pub use task::Task;
+pub use task::{Charge, Task};
 pub use words::Words;

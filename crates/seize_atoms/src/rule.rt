@@ -34,6 +34,15 @@ pub trait Rule<T> {
 
     /// An operation leaves one at rest that rests.
     ghost resting_stay: { (v : Self.View) (op : Op T) (out : Out T) (w : Self.View) → then v op out w → rests v → rests w };
+
+    /// A seat that knows this relies on the seat of a number to stay as it is, which its errand is lent.
+    ghost leans: { Self.View → ℕ → Type 0 };
+
+    /// One at rest leans on nobody.
+    ghost upright: { (v : Self.View) (n : ℕ) → rests v → leans v n → ⊥ };
+
+    /// By an operation a seat comes to lean on nobody more.
+    ghost leaning_stay: { (v : Self.View) (op : Op T) (out : Out T) (w : Self.View) → then v op out w → (n : ℕ) → leans w n → leans v n };
 }
 
 /// What a step without an operation makes of a view, by what was chosen as the memory was opened.
@@ -41,9 +50,9 @@ pub trait Turn<F, V> {
     ghost to: { F → V → V → Type 0 };
 }
 
-/// What a seat comes to know by another one: what was chosen, its view, the other's, and its view then.
+/// What a seat comes to know by another one: what was chosen, its view, the number and the view of the other one, and its view then.
 pub trait Lesson<F, V> {
-    ghost to: { F → V → V → V → Type 0 };
+    ghost to: { F → V → ℕ → V → V → Type 0 };
 }
 
 /// What a meeting of two seats makes of both views: what was chosen, the one view and the other before it, and after it.

@@ -1,5 +1,6 @@
 //! A course of steps that a seat is sent for.
 ghost use Rattle.std.specs.Prelude.{◌≡◌, ◌≢◌, ℕ, None};
+ghost use Rattle.seize_seats.specs.Errands.{Lends};
 
 use crate::rule::Rule;
 use crate::seat::Seat;
@@ -18,6 +19,24 @@ pub trait Task<T, R: Rule<T>>: Sized {
     /// Takes the steps.
     fn run(self, seat: &mut Seat<T, R>) -> Self::Answer
         requires { (seat.old.away ≢ None) × asks self seat.old.base seat.old.view }
+        ensures { (seat.new.base ≡ seat.old.base) × (seat.new.id ≡ seat.old.id) × (seat.new.away ≡ seat.old.away)
+            × did self seat.old.view result seat.new.view };
+}
+
+/// A course of steps that a seat takes while another one is lent for it, which stays as it is meanwhile.
+pub trait Charge<T, R: Rule<T>>: Sized {
+    /// What it answers.
+    type Answer;
+
+    /// What has to be so as it begins: the name of the memory, the number and the view of the seat that is lent, and the view of the one that takes the steps.
+    ghost asks: { Self → ℕ → ℕ → R.View → R.View → Type 0 };
+
+    /// The view before it, the answer, and the view after it.
+    ghost did: { Self → R.View → Self.Answer → R.View → Type 0 };
+
+    /// Takes the steps.
+    fn run(self, seat: &mut Seat<T, R>) -> Self::Answer
+        requires { (lent : ℕ) × (u : R.View) × Lends seat.old.away lent × asks self seat.old.base lent u seat.old.view }
         ensures { (seat.new.base ≡ seat.old.base) × (seat.new.id ≡ seat.old.id) × (seat.new.away ≡ seat.old.away)
             × did self seat.old.view result seat.new.view };
 }

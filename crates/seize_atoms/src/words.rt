@@ -12,7 +12,7 @@ ghost use Rattle.seize_words.specs.Mem.{Mem};
 ghost use Rattle.seize_seats.specs.Start.{memory_coded, bare};
 ghost use Rattle.seize_seats.specs.Owned.{BaseId, base_id_coded, core_of, stride, IsFirst, words_own, words_share};
 ghost use Rattle.seize_seats.specs.Visits.{Spot};
-ghost use Rattle.seize_seats.specs.Errands.{MayGo, MayMeet};
+ghost use Rattle.seize_seats.specs.Errands.{MayGo, MayLean, MayMeet, MayLeanBoth, TurnsUnlent};
 ghost use Rattle.seize_plots.specs.Pieces.{kept_words, lies, spot_of, AreBucketsBehind};
 ghost use Rattle.seize_plots.specs.declared.kept.Kept.{Kept};
 ghost use Rattle.seize_plots.specs.contracts.kept.Kept.{the_row as KeptOf};
@@ -42,9 +42,9 @@ pub struct Words<T, R: Rule<T>> {
 }
 
 impl<T, R: Rule<T>> Model for Words<T, R> {
-    ghost also_owns = { λ s. words_own (KeptOf T.row) kept_words (seat_coded R.View.row.coded) (HoldsSince R.rests s.start (R.holds s.fixed) R.keeps) s.words s.id };
+    ghost also_owns = { λ s. words_own (KeptOf T.row) kept_words (seat_coded R.View.row.coded) (HoldsSince R.rests R.leans s.start (R.holds s.fixed) R.keeps) s.words s.id };
 
-    ghost also_shares = { λ s _ κ. words_share (KeptOf T.row) kept_words (seat_coded R.View.row.coded) (HoldsSince R.rests s.start (R.holds s.fixed) R.keeps) s.words s.id κ };
+    ghost also_shares = { λ s _ κ. words_share (KeptOf T.row) kept_words (seat_coded R.View.row.coded) (HoldsSince R.rests R.leans s.start (R.holds s.fixed) R.keeps) s.words s.id κ };
 }
 
 impl<T, R: Rule<T>> Words<T, R> {
@@ -131,7 +131,17 @@ impl<T, R: Rule<T>> Words<T, R> {
     pub fn turn<M: Turn<R::Fixed, R::View>>(&self, seat: &mut Seat<T, R>)
         requires { (seat.old.base ≡ self.now.id.views_name)
             × Turns (R.holds self.now.fixed) R.keeps seat.old.id seat.old.view (M.to self.now.fixed seat.old.view)
-            × MayGo R.rests seat.old.away seat.old.view (M.to self.now.fixed seat.old.view) }
+            × MayGo R.rests seat.old.away seat.old.view (M.to self.now.fixed seat.old.view)
+            × MayLean R.leans seat.old.away seat.old.view (M.to self.now.fixed seat.old.view) }
+        ensures { (seat.new.base ≡ seat.old.base) × (seat.new.id ≡ seat.old.id) × (seat.new.away ≡ seat.old.away) × M.to self.now.fixed seat.old.view seat.new.view }
+    {}
+
+    /// A step without an operation, of a seat on which nobody leans.
+    pub fn part<M: Turn<R::Fixed, R::View>>(&self, seat: &mut Seat<T, R>)
+        requires { (seat.old.base ≡ self.now.id.views_name)
+            × TurnsUnlent (R.holds self.now.fixed) R.keeps R.leans seat.old.id seat.old.view (M.to self.now.fixed seat.old.view)
+            × MayGo R.rests seat.old.away seat.old.view (M.to self.now.fixed seat.old.view)
+            × MayLean R.leans seat.old.away seat.old.view (M.to self.now.fixed seat.old.view) }
         ensures { (seat.new.base ≡ seat.old.base) × (seat.new.id ≡ seat.old.id) × (seat.new.away ≡ seat.old.away) × M.to self.now.fixed seat.old.view seat.new.view }
     {}
 
@@ -139,17 +149,19 @@ impl<T, R: Rule<T>> Words<T, R> {
     pub fn learn<M: Lesson<R::Fixed, R::View>>(&self, seat: &mut Seat<T, R>, other: &Seat<T, R>)
         requires { (seat.old.base ≡ self.now.id.views_name) × (other.now.base ≡ self.now.id.views_name)
             × Learns (R.holds self.now.fixed) R.keeps seat.old.id seat.old.view other.now.id other.now.view
-            (M.to self.now.fixed seat.old.view other.now.view)
-            × MayGo R.rests seat.old.away seat.old.view (M.to self.now.fixed seat.old.view other.now.view) }
+            (M.to self.now.fixed seat.old.view other.now.id other.now.view)
+            × MayGo R.rests seat.old.away seat.old.view (M.to self.now.fixed seat.old.view other.now.id other.now.view)
+            × MayLean R.leans seat.old.away seat.old.view (M.to self.now.fixed seat.old.view other.now.id other.now.view) }
         ensures { (seat.new.base ≡ seat.old.base) × (seat.new.id ≡ seat.old.id) × (seat.new.away ≡ seat.old.away)
-            × M.to self.now.fixed seat.old.view other.now.view seat.new.view }
+            × M.to self.now.fixed seat.old.view other.now.id other.now.view seat.new.view }
     {}
 
     /// Two seats come to know something else, by what both knew.
     pub fn meet<M: Meeting<R::Fixed, R::View>>(&self, one: &mut Seat<T, R>, other: &mut Seat<T, R>)
         requires { (one.old.base ≡ self.now.id.views_name) × (other.old.base ≡ self.now.id.views_name)
             × Meets (R.holds self.now.fixed) one.old.id one.old.view other.old.id other.old.view (M.to self.now.fixed one.old.view other.old.view)
-            × MayMeet R.rests one.old.away one.old.view other.old.away other.old.view (M.to self.now.fixed one.old.view other.old.view) }
+            × MayMeet R.rests one.old.away one.old.view other.old.away other.old.view (M.to self.now.fixed one.old.view other.old.view)
+            × MayLeanBoth R.leans one.old.away one.old.view other.old.away other.old.view (M.to self.now.fixed one.old.view other.old.view) }
         ensures { (one.new.base ≡ one.old.base) × (one.new.id ≡ one.old.id) × (other.new.base ≡ other.old.base) × (other.new.id ≡ other.old.id)
             × (one.new.away ≡ one.old.away) × (other.new.away ≡ other.old.away)
             × M.to self.now.fixed one.old.view other.old.view one.new.view other.new.view }
@@ -341,7 +353,7 @@ impl<T, R: Rule<T>> Words<T, R> {
     ) -> Option<Kept<T>>
         requires { (seat.old.base ≡ self.now.id.views_name) × IsItsIndex self.now.id block index
             × (values ≡ self.now.id.values)
-            × ((x : Kept T) → IsValueOf (HoldsHere R.rests (R.holds self.now.fixed)) seat.old.id ((seat.old.view, seat.old.visit), seat.old.away) block x → lies x ≡ lies kept)
+            × ((x : Kept T) → IsValueOf (HoldsHere R.rests R.leans (R.holds self.now.fixed)) seat.old.id ((seat.old.view, seat.old.visit), seat.old.away) block x → lies x ≡ lies kept)
             × Owns (R.holds self.now.fixed) R.keeps seat.old.id seat.old.view block
             × Allows (R.holds self.now.fixed) R.keeps seat.old.id seat.old.view (Rewrite block kept.value) (R.then seat.old.view (Rewrite block kept.value)) }
         ensures { (seat.new.base ≡ seat.old.base) × (seat.new.id ≡ seat.old.id) × (seat.new.away ≡ seat.old.away)
@@ -372,7 +384,7 @@ impl<T, R: Rule<T>> Words<T, R> {
     /// Reads the word of a name, which lies so many words on from this address.
     pub fn load(&self, seat: &mut Seat<T, R>, at: &At, address: *mut u64, place: u64) -> u64
         requires { (seat.old.base ≡ self.now.id.views_name)
-            × IsItsPlace (HoldsHere R.rests (R.holds self.now.fixed)) seat.old.id ((seat.old.view, seat.old.visit), seat.old.away)
+            × IsItsPlace (HoldsHere R.rests R.leans (R.holds self.now.fixed)) seat.old.id ((seat.old.view, seat.old.visit), seat.old.away)
             self.now.words self.now.id at.now address place
             × Allows (R.holds self.now.fixed) R.keeps seat.old.id seat.old.view (Load at.now) (R.then seat.old.view (Load at.now)) }
         ensures { (seat.new.base ≡ seat.old.base) × (seat.new.id ≡ seat.old.id) × (seat.new.away ≡ seat.old.away)
@@ -384,7 +396,7 @@ impl<T, R: Rule<T>> Words<T, R> {
     /// Writes the word of a name.
     pub fn store(&self, seat: &mut Seat<T, R>, at: &At, address: *mut u64, place: u64, word: u64)
         requires { (seat.old.base ≡ self.now.id.views_name)
-            × IsItsPlace (HoldsHere R.rests (R.holds self.now.fixed)) seat.old.id ((seat.old.view, seat.old.visit), seat.old.away)
+            × IsItsPlace (HoldsHere R.rests R.leans (R.holds self.now.fixed)) seat.old.id ((seat.old.view, seat.old.visit), seat.old.away)
             self.now.words self.now.id at.now address place
             × Allows (R.holds self.now.fixed) R.keeps seat.old.id seat.old.view (Store at.now word) (R.then seat.old.view (Store at.now word)) }
         ensures { (seat.new.base ≡ seat.old.base) × (seat.new.id ≡ seat.old.id) × (seat.new.away ≡ seat.old.away)
@@ -403,7 +415,7 @@ impl<T, R: Rule<T>> Words<T, R> {
         word: u64,
     ) -> u64
         requires { (seat.old.base ≡ self.now.id.views_name)
-            × IsItsPlace (HoldsHere R.rests (R.holds self.now.fixed)) seat.old.id ((seat.old.view, seat.old.visit), seat.old.away)
+            × IsItsPlace (HoldsHere R.rests R.leans (R.holds self.now.fixed)) seat.old.id ((seat.old.view, seat.old.visit), seat.old.away)
             self.now.words self.now.id at.now address place
             × Allows (R.holds self.now.fixed) R.keeps seat.old.id seat.old.view (Swap at.now word) (R.then seat.old.view (Swap at.now word)) }
         ensures { (seat.new.base ≡ seat.old.base) × (seat.new.id ≡ seat.old.id) × (seat.new.away ≡ seat.old.away)
@@ -415,7 +427,7 @@ impl<T, R: Rule<T>> Words<T, R> {
     /// Adds to the word of a name, round at 2^64, and answers the one before.
     pub fn add(&self, seat: &mut Seat<T, R>, at: &At, address: *mut u64, place: u64, by: u64) -> u64
         requires { (seat.old.base ≡ self.now.id.views_name)
-            × IsItsPlace (HoldsHere R.rests (R.holds self.now.fixed)) seat.old.id ((seat.old.view, seat.old.visit), seat.old.away)
+            × IsItsPlace (HoldsHere R.rests R.leans (R.holds self.now.fixed)) seat.old.id ((seat.old.view, seat.old.visit), seat.old.away)
             self.now.words self.now.id at.now address place
             × Allows (R.holds self.now.fixed) R.keeps seat.old.id seat.old.view (Add at.now by) (R.then seat.old.view (Add at.now by)) }
         ensures { (seat.new.base ≡ seat.old.base) × (seat.new.id ≡ seat.old.id) × (seat.new.away ≡ seat.old.away)
@@ -434,7 +446,7 @@ impl<T, R: Rule<T>> Words<T, R> {
         bits: u64,
     ) -> u64
         requires { (seat.old.base ≡ self.now.id.views_name)
-            × IsItsPlace (HoldsHere R.rests (R.holds self.now.fixed)) seat.old.id ((seat.old.view, seat.old.visit), seat.old.away)
+            × IsItsPlace (HoldsHere R.rests R.leans (R.holds self.now.fixed)) seat.old.id ((seat.old.view, seat.old.visit), seat.old.away)
             self.now.words self.now.id at.now address place
             × Allows (R.holds self.now.fixed) R.keeps seat.old.id seat.old.view (Or at.now bits) (R.then seat.old.view (Or at.now bits)) }
         ensures { (seat.new.base ≡ seat.old.base) × (seat.new.id ≡ seat.old.id) × (seat.new.away ≡ seat.old.away)
@@ -454,7 +466,7 @@ impl<T, R: Rule<T>> Words<T, R> {
         new: u64,
     ) -> Result<u64, u64>
         requires { (seat.old.base ≡ self.now.id.views_name)
-            × IsItsPlace (HoldsHere R.rests (R.holds self.now.fixed)) seat.old.id ((seat.old.view, seat.old.visit), seat.old.away)
+            × IsItsPlace (HoldsHere R.rests R.leans (R.holds self.now.fixed)) seat.old.id ((seat.old.view, seat.old.visit), seat.old.away)
             self.now.words self.now.id at.now address place
             × Allows (R.holds self.now.fixed) R.keeps seat.old.id seat.old.view (Exchange at.now old new) (R.then seat.old.view (Exchange at.now old new)) }
         ensures { (seat.new.base ≡ seat.old.base) × (seat.new.id ≡ seat.old.id) × (seat.new.away ≡ seat.old.away)

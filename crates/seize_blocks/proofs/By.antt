@@ -23,7 +23,7 @@ use Rattle.seize_seats.specs.Owned.{BaseId}
 use Rattle.seize_atoms.specs.Placed.{IsItsPlace, IsItsSign, IsItsIndex, HasWord}
 use Rattle.seize_atoms.specs.declared.claim.Claim.{Claim}
 
-module _ {T V W F : Type 0} (rests : V → Type 0) (holds : F → State T V W → Type 0) (keeps : V → V → W → ℕ → Type 0) where
+module _ {T V W F : Type 0} (rests : V → Type 0) (leans : V → ℕ → Type 0) (upright : (v : V) (n : ℕ) → rests v → leans v n → ⊥) (holds : F → State T V W → Type 0) (keeps : V → V → W → ℕ → Type 0) where
   -- what `by` ensures
   abbrev Same : Ptr → Ptr → BaseId → BaseId → BaseId → F → F → Type 0
   Same p q y z x f h = (p ≡ q) × (y ≡ z) × (f ≡ h) × (z.views_name ≡ x.views_name) × (z.hands_name ≡ x.hands_name)
@@ -33,7 +33,7 @@ module _ {T V W F : Type 0} (rests : V → Type 0) (holds : F → State T V W �
   AsItWas base' base id' id v' v = (base' ≡ base) × (id' ≡ id) × (v' ≡ v)
 
   abbrev Kinds : F → State (Kept T) (Seen V) W → Type 0
-  Kinds h = HoldsHere rests (holds h)
+  Kinds h = HoldsHere rests leans (holds h)
 
   pub on_word : (base base' id id' : ℕ) (address : Ptr) (place : ℕ) (v v' : V) (visit : Visit) (away : Away) (at : At) (op : Op T) (so : V → Out T → V → Type 0) (p q : Ptr) (y z x : BaseId)
       (f h : F) → Same p q y z x f h → AsItWas base' base id' id v' v
@@ -65,7 +65,7 @@ module _ {T V W F : Type 0} (rests : V → Type 0) (holds : F → State T V W �
         s.0 ∙ own ∙ sym e.3,
         is,
         values,
-        λ k of. value_found rests (holds h) keeps id' v' visit away block (lies kept) k seen of,
+        λ k of. value_found rests leans upright (holds h) keeps id' v' visit away block (lies kept) k seen of,
         subst (λ (w : ℕ × V). Owns (holds h) keeps w.0 w.1 block) (λ i. (sym s.1 i, sym s.2 i)) alone,
         subst (λ (w : ℕ × V). Allows (holds h) keeps w.0 w.1 (Rewrite block kept.value) (so w.1)) (λ i. (sym s.1 i, sym s.2 i)) may,
       )
@@ -120,21 +120,21 @@ pub shows_own : {T V W : Type 0} (holds : State T V W → Type 0) (id : ℕ) (v 
 shows_own {T} holds id v b i has t h at at' at'' = let s = block_value (block_of t.memory b) i (has t h at) in subst (λ (y : Option T). IsSome y) (sym s.1) refl
 
 -- of a block that the seat visits, its own words lie where it has seen them
-pub own_lies : {T V W : Type 0} (rests : V → Type 0) (holds : State T V W → Type 0) (keeps : V → V → W → ℕ → Type 0) (id : ℕ) (v : V) (visit : Visit) (away : Away) (b i : ℕ) (s : Ptr × ℕ) (p address : Ptr) (place : ℕ)
+pub own_lies : {T V W : Type 0} (rests : V → Type 0) (leans : V → ℕ → Type 0) (upright : (v : V) (n : ℕ) → rests v → leans v n → ⊥) (holds : State T V W → Type 0) (keeps : V → V → W → ℕ → Type 0) (id : ℕ) (v : V) (visit : Visit) (away : Away) (b i : ℕ) (s : Ptr × ℕ) (p address : Ptr) (place : ℕ)
     (z : BaseId) (index : ℕ) → IsItsIndex z b index → visit.spot ≡ Some (b, s) → (InBlock s.0 → i * 8 < 2 ^ 63 → (s.0 ≡ address) × (place ≡ i))
-    → IsAt lies_at (HoldsHere rests holds) id ((v, visit), away) p z (Word b i) address place
-own_lies {T} {V} {W} rests holds keeps id v visit away b i s p address place z index is at lands = (is.0, (s.0, seen, lands))
+    → IsAt lies_at (HoldsHere rests leans holds) id ((v, visit), away) p z (Word b i) address place
+own_lies {T} {V} {W} rests leans upright holds keeps id v visit away b i s p address place z index is at lands = (is.0, (s.0, seen, lands))
   where
-    seen : AreSeenAt lies_at (HoldsHere rests holds) id ((v, visit), away) b s.0
-    seen t ok here = let f = visits_found rests holds keeps t id v visit away b s ok here at in (f.0, f.1, ap (λ (u : Ptr × ℕ). u.0) f.2)
+    seen : AreSeenAt lies_at (HoldsHere rests leans holds) id ((v, visit), away) b s.0
+    seen t ok here = let f = visits_found rests leans upright holds keeps t id v visit away b s ok here at in (f.0, f.1, ap (λ (u : Ptr × ℕ). u.0) f.2)
 
 -- what is found of a block that the seat visits lies where it has seen it
-pub lies_there : {T V W : Type 0} (rests : V → Type 0) (holds : State T V W → Type 0) (keeps : V → V → W → ℕ → Type 0) (id : ℕ) (v : V) (visit : Visit) (away : Away) (b : ℕ)
+pub lies_there : {T V W : Type 0} (rests : V → Type 0) (leans : V → ℕ → Type 0) (upright : (v : V) (n : ℕ) → rests v → leans v n → ⊥) (holds : State T V W → Type 0) (keeps : V → V → W → ℕ → Type 0) (id : ℕ) (v : V) (visit : Visit) (away : Away) (b : ℕ)
     (x y : Kept T) (o : Option (Kept T)) → ((s : Spot) × (visit.spot ≡ Some (b, s))) → o ≡ Some x → o ≡ Some y
-    → IsValueOfBoth (HoldsHere rests holds) id ((v, visit), away) id ((v, visit), away) b x → visit.spot ≡ Some (b, lies y)
-lies_there rests holds keeps id v visit away b x y o s is_x is_y of =
+    → IsValueOfBoth (HoldsHere rests leans holds) id ((v, visit), away) id ((v, visit), away) b x → visit.spot ≡ Some (b, lies y)
+lies_there rests leans upright holds keeps id v visit away b x y o s is_x is_y of =
     let one : x ≡ y = cc (is_x, is_y) in
-    let found : lies x ≡ s.0 = value_found rests holds keeps id v visit away b s.0 x s.1 (of.0, of.1, of.2, of.4) in
+    let found : lies x ≡ s.0 = value_found rests leans upright holds keeps id v visit away b s.0 x s.1 (of.0, of.1, of.2, of.4) in
     s.1 ∙ ap (λ (p : Spot). Some (b, p)) (sym found ∙ ap lies one)
 
 -- a word that is looked for elsewhere is none

@@ -34,7 +34,7 @@ pub(crate) trait Access<T, R: Rule<T>>: Sized {
         place: u64,
     ) -> Self::Answer
         requires { (seat.old.base ≡ words.now.id.views_name)
-            × IsItsPlace (HoldsHere R.rests (R.holds words.now.fixed)) seat.old.id ((seat.old.view, seat.old.visit), seat.old.away)
+            × IsItsPlace (HoldsHere R.rests R.leans (R.holds words.now.fixed)) seat.old.id ((seat.old.view, seat.old.visit), seat.old.away)
             words.now.words words.now.id at.now address place
             × Allows (R.holds words.now.fixed) R.keeps seat.old.id seat.old.view (op self at.now) (R.then seat.old.view (op self at.now)) }
         ensures { (seat.new.base ≡ seat.old.base) × (seat.new.id ≡ seat.old.id) × (seat.new.away ≡ seat.old.away)

@@ -2,13 +2,13 @@
 ghost use Rattle.std.specs.Prelude.{◌≡◌, None, ◌≤◌, ◌<◌, ◌^◌};
 ghost use Rattle.seize_words.specs.Op.{Load, Store, Swap, Add, Or, Exchange, Make, Take, Rewrite, Found, Stored, Exchanged, Made, Taken};
 ghost use Rattle.seize_seats.specs.State.{Allows, Owns, Turns, Learns, ShowsKept, AreThere, Comes, Meets};
-ghost use Rattle.seize_seats.specs.Errands.{MayGo, MayMeet, RenewsIdle};
+ghost use Rattle.seize_seats.specs.Errands.{MayGo, MayLean, MayMeet, MayLeanBoth, TurnsUnlent, RenewsIdle};
 ghost use Rattle.seize_seats.specs.Start.{WasIdle};
 ghost use Rattle.seize_seats.specs.Owned.{IsFirst};
 ghost use Rattle.seize_seats.specs.Lendings.{Shown, ShownToBoth, IsValueOf, IsValueOfBoth, IsValueBy};
 
 use crate::access::{Adds, Exchanges, Loads, Sets, Stores, Swaps};
-use crate::errand::{Errand, Sent};
+use crate::errand::{Charged, Errand, ErrandWith, Sent};
 use seize_atoms::{Lesson, Meeting, Rule, Seat, Turn, Words};
 use seize_plots::{Doors, Kept, Laid, Place, give_words, lay_words};
 use seize_words::At;
@@ -46,6 +46,7 @@ impl<T, R: Rule<T>> Blocks<T, R> {
         requires own { seat.old.base ≡ self.now.words.id.views_name }
         requires may { Turns (R.holds self.now.words.fixed) R.keeps seat.old.id seat.old.view (M.to self.now.words.fixed seat.old.view) }
         requires errand { MayGo R.rests seat.old.away seat.old.view (M.to self.now.words.fixed seat.old.view) }
+        requires leans { MayLean R.leans seat.old.away seat.old.view (M.to self.now.words.fixed seat.old.view) }
         ensures same { (seat.new.base ≡ seat.old.base) × (seat.new.id ≡ seat.old.id) }
         ensures errand { seat.new.away ≡ seat.old.away }
         ensures goes { M.to self.now.words.fixed seat.old.view seat.new.view }
@@ -53,15 +54,29 @@ impl<T, R: Rule<T>> Blocks<T, R> {
         self.words.turn::<M>(seat)
     }
 
+    /// A step without an operation, of a seat on which nobody leans.
+    pub fn part<M: Turn<R::Fixed, R::View>>(&self, seat: &mut Seat<T, R>)
+        requires own { seat.old.base ≡ self.now.words.id.views_name }
+        requires may { TurnsUnlent (R.holds self.now.words.fixed) R.keeps R.leans seat.old.id seat.old.view (M.to self.now.words.fixed seat.old.view) }
+        requires errand { MayGo R.rests seat.old.away seat.old.view (M.to self.now.words.fixed seat.old.view) }
+        requires leans { MayLean R.leans seat.old.away seat.old.view (M.to self.now.words.fixed seat.old.view) }
+        ensures same { (seat.new.base ≡ seat.old.base) × (seat.new.id ≡ seat.old.id) }
+        ensures errand { seat.new.away ≡ seat.old.away }
+        ensures goes { M.to self.now.words.fixed seat.old.view seat.new.view }
+    {
+        self.words.part::<M>(seat)
+    }
+
     /// A seat comes to know something else, by what another one knows.
     pub fn learn<M: Lesson<R::Fixed, R::View>>(&self, seat: &mut Seat<T, R>, other: &Seat<T, R>)
         requires own { (seat.old.base ≡ self.now.words.id.views_name) × (other.now.base ≡ self.now.words.id.views_name) }
         requires may { Learns (R.holds self.now.words.fixed) R.keeps seat.old.id seat.old.view other.now.id other.now.view
-            (M.to self.now.words.fixed seat.old.view other.now.view) }
-        requires errand { MayGo R.rests seat.old.away seat.old.view (M.to self.now.words.fixed seat.old.view other.now.view) }
+            (M.to self.now.words.fixed seat.old.view other.now.id other.now.view) }
+        requires errand { MayGo R.rests seat.old.away seat.old.view (M.to self.now.words.fixed seat.old.view other.now.id other.now.view) }
+        requires leans { MayLean R.leans seat.old.away seat.old.view (M.to self.now.words.fixed seat.old.view other.now.id other.now.view) }
         ensures same { (seat.new.base ≡ seat.old.base) × (seat.new.id ≡ seat.old.id) }
         ensures errand { seat.new.away ≡ seat.old.away }
-        ensures goes { M.to self.now.words.fixed seat.old.view other.now.view seat.new.view }
+        ensures goes { M.to self.now.words.fixed seat.old.view other.now.id other.now.view seat.new.view }
     {
         self.words.learn::<M>(seat, other)
     }
@@ -85,12 +100,39 @@ impl<T, R: Rule<T>> Blocks<T, R> {
         )
     }
 
+    /// A seat goes on an errand for which another one is lent: as long as that runs the other one takes no step, and what is lent by it stays. It ends where the
+    /// seat rests.
+    pub fn errand_with<E: ErrandWith<T, R>>(
+        &self,
+        seat: &mut Seat<T, R>,
+        lent: &Seat<T, R>,
+        errand: E,
+    ) -> E::Answer
+        requires own { (seat.old.base ≡ self.now.words.id.views_name) × (lent.now.base ≡ self.now.words.id.views_name) }
+        requires home { seat.old.away ≡ None }
+        requires asks { E.asks errand seat.old.base self.now.words.fixed lent.now.id lent.now.view seat.old.view }
+        requires ends { (answer : E.Answer) (w : R.View) → E.did errand self.now.words.fixed seat.old.view answer w → R.rests w }
+        ensures same { (seat.new.base ≡ seat.old.base) × (seat.new.id ≡ seat.old.id) }
+        ensures home { seat.new.away ≡ None }
+        ensures did { E.did errand self.now.words.fixed seat.old.view result seat.new.view }
+    {
+        self.words.errand_with(
+            seat,
+            lent,
+            Charged {
+                blocks: self,
+                errand,
+            },
+        )
+    }
+
     /// Two seats come to know something else, by what both knew.
     pub fn meet<M: Meeting<R::Fixed, R::View>>(&self, one: &mut Seat<T, R>, other: &mut Seat<T, R>)
         requires own { (one.old.base ≡ self.now.words.id.views_name) × (other.old.base ≡ self.now.words.id.views_name) }
         requires may { Meets (R.holds self.now.words.fixed) one.old.id one.old.view other.old.id other.old.view
             (M.to self.now.words.fixed one.old.view other.old.view) }
         requires errand { MayMeet R.rests one.old.away one.old.view other.old.away other.old.view (M.to self.now.words.fixed one.old.view other.old.view) }
+        requires leans { MayLeanBoth R.leans one.old.away one.old.view other.old.away other.old.view (M.to self.now.words.fixed one.old.view other.old.view) }
         ensures same { (one.new.base ≡ one.old.base) × (one.new.id ≡ one.old.id) × (other.new.base ≡ other.old.base) × (other.new.id ≡ other.old.id) }
         ensures errand { (one.new.away ≡ one.old.away) × (other.new.away ≡ other.old.away) }
         ensures goes { M.to self.now.words.fixed one.old.view other.old.view one.new.view other.new.view }

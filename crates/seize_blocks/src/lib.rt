@@ -12,6 +12,6 @@ mod places;
 mod rooms;
 
 pub use blocks::Blocks;
-pub use errand::Errand;
+pub use errand::{Errand, ErrandWith};
 pub use home::Home;
 pub use seize_atoms::{Lesson, Meeting, Rule, Seat, Turn, Words};

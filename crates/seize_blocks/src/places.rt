@@ -87,7 +87,7 @@ impl<T, R: Rule<T>> Blocks<T, R> {
         ensures same { (seat.new.base ≡ seat.old.base) × (seat.new.id ≡ seat.old.id) × (seat.new.view ≡ seat.old.view) }
         ensures errand { seat.new.away ≡ seat.old.away }
         ensures lies { (core_of result.strip.id ≡ core_of self.now.words.id) × InBlock result.strip.words
-            × IsItsPlace (HoldsHere R.rests (R.holds self.now.words.fixed)) seat.new.id ((seat.new.view, seat.new.visit), seat.new.away)
+            × IsItsPlace (HoldsHere R.rests R.leans (R.holds self.now.words.fixed)) seat.new.id ((seat.new.view, seat.new.visit), seat.new.away)
             result.strip.words result.strip.id at result.address result.place }
     {
         match at {
@@ -137,7 +137,7 @@ impl<T, R: Rule<T>> Blocks<T, R> {
         ensures same { (seat.new.base ≡ seat.old.base) × (seat.new.id ≡ seat.old.id) × (seat.new.view ≡ seat.old.view) }
         ensures errand { seat.new.away ≡ seat.old.away }
         ensures lies { (core_of result.strip.id ≡ core_of self.now.words.id) × InBlock result.strip.words
-            × IsItsPlace (HoldsHere R.rests (R.holds self.now.words.fixed)) seat.new.id ((seat.new.view, seat.new.visit), seat.new.away)
+            × IsItsPlace (HoldsHere R.rests R.leans (R.holds self.now.words.fixed)) seat.new.id ((seat.new.view, seat.new.visit), seat.new.away)
             result.strip.words result.strip.id (Word block own) result.address result.place }
     {
         self.words.visit(seat, block);

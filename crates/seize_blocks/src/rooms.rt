@@ -83,7 +83,7 @@ impl<T, R: Rule<T>> Blocks<T, R> {
         requires there { HasWord (R.holds self.now.words.fixed) seat.now.id seat.now.view (Slot slot field) }
         requires far { (32 ≤ slot) × (slot + 32 < 2 ^ 38) × (field < 2) }
         ensures lies { (core_of result.strip.id ≡ core_of self.now.words.id) × InBlock result.strip.words
-            × IsItsPlace (HoldsHere R.rests (R.holds self.now.words.fixed)) seat.now.id ((seat.now.view, seat.now.visit), seat.now.away)
+            × IsItsPlace (HoldsHere R.rests R.leans (R.holds self.now.words.fixed)) seat.now.id ((seat.now.view, seat.now.visit), seat.now.away)
             result.strip.words result.strip.id (Slot slot field) result.address result.place }
     {
         let (bucket, index) = place_of(slot);

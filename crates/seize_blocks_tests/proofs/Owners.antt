@@ -12,19 +12,19 @@ use Rattle.seize_seats.specs.Lendings.{Shown, ShownToBoth, IsValueOf}
 use Rattle.seize_blocks_tests.specs.Theirs.{Own, has as has_block, keeps_own, AreTheirs, tells}
 
 module _ {A : Type 0} where
-  set_here : (l : List A) (i : ℕ) (x y : A) → slice_get l i ≡ Some x → slice_get (slice_set l i y) i ≡ Some y
+  pub set_here : (l : List A) (i : ℕ) (x y : A) → slice_get l i ≡ Some x → slice_get (slice_set l i y) i ≡ Some y
   set_here [] i x y e = absurd (cc e)
   set_here (z ∷ l) zero x y e = refl
   set_here (z ∷ l) (suc i) x y e = set_here l i x y e
 
-  set_else : (l : List A) (i j : ℕ) (y : A) → j ≢ i → slice_get (slice_set l i y) j ≡ slice_get l j
+  pub set_else : (l : List A) (i j : ℕ) (y : A) → j ≢ i → slice_get (slice_set l i y) j ≡ slice_get l j
   set_else [] i j y ne = refl
   set_else (z ∷ l) zero zero y ne = absurd (ne refl)
   set_else (z ∷ l) zero (suc j) y ne = refl
   set_else (z ∷ l) (suc i) zero y ne = refl
   set_else (z ∷ l) (suc i) (suc j) y ne = set_else l i j y (λ e. ne (ap suc e))
 
-  push_get : (l : List A) (i : ℕ) (x y : A) → slice_get (l ++ x ∷ []) i ≡ Some y → (slice_get l i ≡ Some y) ⊎ (y ≡ x)
+  pub push_get : (l : List A) (i : ℕ) (x y : A) → slice_get (l ++ x ∷ []) i ≡ Some y → (slice_get l i ≡ Some y) ⊎ (y ≡ x)
   push_get [] zero x y e = inr (let same : x ≡ y = cc e in sym same)
   push_get [] (suc i) x y e = absurd (cc e)
   push_get (z ∷ l) zero x y e = inl e

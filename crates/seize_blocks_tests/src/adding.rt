@@ -31,6 +31,12 @@ impl Rule<u64> for Threes {
     ghost newcomers_rest = { λ _. tt };
 
     ghost resting_stay = { λ _ _ _ _ _ _. tt };
+
+    ghost leans = { λ _ _. ⊥ };
+
+    ghost upright = { λ _ _ _ none. none };
+
+    ghost leaning_stay = { λ _ _ _ _ _ _ none. none };
 }
 
 /// The other seat comes to know of the block of the one.

@@ -6,6 +6,8 @@ mod adding;
 #[cfg(test)]
 mod counting;
 #[cfg(test)]
+mod leaning;
+#[cfg(test)]
 mod lending;
 #[cfg(test)]
 mod looking;
@@ -13,6 +15,7 @@ mod looking;
 mod meeting;
 #[cfg(test)]
 mod owning;
+pub mod part;
 #[cfg(test)]
 mod renewing;
 #[cfg(test)]

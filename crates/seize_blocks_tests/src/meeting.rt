@@ -30,6 +30,12 @@ impl Rule<u64> for Growing {
     ghost newcomers_rest = { λ _. tt };
 
     ghost resting_stay = { λ _ _ _ _ _ _. tt };
+
+    ghost leans = { λ _ _. ⊥ };
+
+    ghost upright = { λ _ _ _ none. none };
+
+    ghost leaning_stay = { λ _ _ _ _ _ _ none. none };
 }
 
 /// Both know the greater number from then on.
@@ -43,7 +49,7 @@ impl Meeting<(), u64> for Greater {
 struct NoLess;
 
 impl Lesson<(), u64> for NoLess {
-    ghost to = { λ _. no_less };
+    ghost to = { λ _ v _. no_less v };
 }
 
 /// Raises the word by 1 so often, and answers how often no other thread was faster.

@@ -29,6 +29,12 @@ impl Rule<u64> for OneEach {
     ghost newcomers_rest = { λ _. tt };
 
     ghost resting_stay = { λ _ _ _ _ _ _. tt };
+
+    ghost leans = { λ _ _. ⊥ };
+
+    ghost upright = { λ _ _ _ none. none };
+
+    ghost leaning_stay = { λ _ _ _ _ _ _ none. none };
 }
 
 /// Makes a block with up to three words of its own, looks at its value twice at once, and takes it away, so many times, each time with another value. It answers how many blocks were made, or

@@ -53,6 +53,12 @@ impl Rule<u64> for Anything {
     ghost newcomers_rest = { λ _. tt };
 
     ghost resting_stay = { λ _ _ _ _ _ _. tt };
+
+    ghost leans = { λ _ _. ⊥ };
+
+    ghost upright = { λ _ _ _ none. none };
+
+    ghost leaning_stay = { λ _ _ _ _ _ _ none. none };
 }
 
 /// Makes a block under another rule, which one seat alone is under then. It answers its number, and the memory.

@@ -30,6 +30,12 @@ impl Rule<u64> for Roomy {
     ghost newcomers_rest = { λ _. tt };
 
     ghost resting_stay = { λ _ _ _ _ _ _. tt };
+
+    ghost leans = { λ _ _. ⊥ };
+
+    ghost upright = { λ _ _ _ none. none };
+
+    ghost leaning_stay = { λ _ _ _ _ _ _ none. none };
 }
 
 /// Makes room for the first three buckets, which have 224 slots. It fails where there is no memory.

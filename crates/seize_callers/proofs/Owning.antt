@@ -16,7 +16,7 @@ use Rattle.seize_callers.specs.Owning.{brought_by, borne_by}
 use Rattle.seize_views.specs.Told.{alone_with, cut_in, told}
 use Rattle.seize_views.specs.declared.view.Noted.{Noted}
 use Rattle.seize_views.specs.declared.view.View.{View}
-use Rattle.seize_views.specs.declared.view.View.TheVariants.{Rests, Registers, Outside, Owes, Enters, Inside, Settles, Leaves, Left, Frees, Brings, Bears, Watches, Busy}
+use Rattle.seize_views.specs.declared.view.View.TheVariants.{Rests, Registers, Outside, Owes, Enters, Inside, Settles, Leaves, Left, Frees, Brings, Bears, Watches, Under, Busy}
 use Rattle.seize_views.specs.declared.view.Has.{Has}
 use Rattle.seize_views.specs.declared.view.Has.TheVariants.{Nothing, Made, Seen, Both, Cut}
 use Rattle.seize_views.specs.declared.view.Fixed.{Fixed}
@@ -50,6 +50,7 @@ module _ {T : Type 0} where
   brings b (Frees t) e = absurd (cc e)
   brings b (Bears c) e = absurd (cc e)
   brings b (Watches t c) e = absurd (cc e)
+  brings b (Under n t c) e = absurd (cc e)
   brings b (Busy t) e = absurd (cc e)
 
   pub bears : (b : ℕ) (v : View T) → borne_by v ≡ Some b → v ≡ Bears b
@@ -66,6 +67,7 @@ module _ {T : Type 0} where
   bears b (Frees t) e = absurd (cc e)
   bears b (Brings c x) e = absurd (cc e)
   bears b (Watches t c) e = absurd (cc e)
+  bears b (Under n t c) e = absurd (cc e)
   bears b (Busy t) e = absurd (cc e)
 
 module _ {T : Type 0} (defers : T → Option ℕ) (fixed : Fixed) (id : ℕ) (v : Noted T) where
@@ -189,6 +191,7 @@ module _ {T : Type 0} (fixed : Fixed) (v u v2 u2 : View T) (slot b : ℕ) where
   rests_so (Brings c x) takes so = absurd takes
   rests_so (Bears c) takes so = absurd takes
   rests_so (Watches t c) takes so = absurd takes
+  rests_so (Under n t c) takes so = absurd takes
   rests_so (Busy t) takes so = absurd takes
 
   pub rests_told : IsTaker u → v ≡ Bears b → Hands fixed v u v2 u2 → v2 ≡ Rests

@@ -6,7 +6,7 @@ use Rattle.seize_views.specs.Promises.{IsTaker}
 use Rattle.seize_views.specs.Rows.{IsAtRest}
 use Rattle.seize_views.specs.declared.view.Fixed.{Fixed}
 use Rattle.seize_views.specs.declared.view.View.{View}
-use Rattle.seize_views.specs.declared.view.View.TheVariants.{Rests, Registers, Outside, Owes, Enters, Inside, Settles, Leaves, Left, Frees, Brings, Bears, Watches, Busy}
+use Rattle.seize_views.specs.declared.view.View.TheVariants.{Rests, Registers, Outside, Owes, Enters, Inside, Settles, Leaves, Left, Frees, Brings, Bears, Watches, Under, Busy}
 use Rattle.seize_views.specs.declared.view.Has.TheVariants.{Nothing, Made, Seen, Both, Cut}
 
 module _ {T : Type 0} where
@@ -37,4 +37,5 @@ module _ {T : Type 0} where
   handed fixed b (Brings c x) p q takes so = absurd takes
   handed fixed b (Bears c) p q takes so = absurd takes
   handed fixed b (Watches t c) p q takes so = absurd takes
+  handed fixed b (Under n t c) p q takes so = absurd takes
   handed fixed b (Busy t) p q takes so = absurd takes

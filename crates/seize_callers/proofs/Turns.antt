@@ -7,19 +7,20 @@ use Rattle.seize_words.specs.declared.at.At.TheVariants.{Slot}
 use Rattle.seize.specs.declared.states.TheConstants.{HEAD, ACTIVE}
 use Rattle.seize.specs.declared.rows.settle.Settle.{Settle}
 use Rattle.seize.specs.Settle.{retiring, flushing, counting_down}
-use Rattle.seize_seats.specs.State.{State, Turns}
-use Rattle.seize_views.specs.Begun.{leaving, refreshes, forgetting, IsBegun, Retires, Flushes, Makes}
-use Rattle.seize_views.specs.Content.{RowsTurnIn, SettlingsBeginIn, Turned}
+use Rattle.seize_seats.specs.State.{State}
+use Rattle.seize_seats.specs.Errands.{Away, MayLean, TurnsUnlent}
+use Rattle.seize_views.specs.Begun.{leaving, refreshes, forgetting, left_with, IsBegun, Retires, Flushes, Makes}
+use Rattle.seize_views.specs.Content.{RowsTurnIn, SettlingsBeginIn, LeansBeside, Turned}
 use Rattle.seize_views.specs.Notes.{noted}
 use Rattle.seize_views.specs.Promises.{IsLooking, IsNext, IsFree, IsToSettle}
 use Rattle.seize_views.specs.Told.{list_taken, told}
-use Rattle.seize_views.specs.Watched.{open_at, Stays}
+use Rattle.seize_views.specs.Watched.{open_at, IsOfRows, Stays}
 use Rattle.seize_views.specs.declared.view.Noted.{Noted}
 use Rattle.seize_views.specs.declared.view.Began.{Began}
 use Rattle.seize_views.specs.declared.view.View.{View}
 use Rattle.seize_views.specs.declared.view.Becomes.{Becomes}
 use Rattle.seize_views.specs.declared.view.Becomes.TheVariants.{Idle, Active}
-use Rattle.seize_views.specs.declared.view.View.TheVariants.{Rests, Registers, Outside, Owes, Enters, Inside, Settles, Leaves, Left, Frees, Brings, Bears, Watches, Busy}
+use Rattle.seize_views.specs.declared.view.View.TheVariants.{Rests, Registers, Outside, Owes, Enters, Inside, Settles, Leaves, Left, Frees, Brings, Bears, Watches, Under, Busy}
 use Rattle.seize_views.specs.declared.view.Has.{Has}
 use Rattle.seize_views.specs.declared.view.Has.TheVariants.{Nothing, Made, Seen, Both, Cut}
 use Rattle.seize_views.specs.declared.view.Why.TheVariants.{Retiring, Ending}
@@ -58,21 +59,58 @@ module _ {T : Type 0} (fixed : Fixed) (guards : ℕ) where
   next_stays (Brings b x) u e may = absurd e
   next_stays (Bears b) u e may = absurd e
   next_stays (Watches t b) u e may = absurd e
+  next_stays (Under n t b) u e may = absurd e
   next_stays (Busy t) u e may = absurd e
 
-module _ {T V W B : Type 0} (holds : Fixed → State T V W → Type 0) (keeps : V → V → W → ℕ → Type 0) (notes : V → Noted T) (beside : V → B) where
+  -- then it has a row under way, or nothing
+  rows_as : (u x : View T) → u ≡ x → IsOfRows x → IsOfRows u
+  rows_as u x e rows = subst IsOfRows (sym e) rows
+
+  left_rows : (way : Becomes) (t : ℕ) → IsOfRows {T = T} (left_with way t)
+  left_rows Idle t = tt
+  left_rows Active t = tt
+
+  free_rows : (t : ℕ) (u : View T) → IsFree fixed t u → IsOfRows u
+  free_rows t u (inl (way, e)) = rows_as u (Leaves t fixed.batch_size way) e tt
+  free_rows t u (inr e) = rows_as u (Inside t Nothing) e tt
+
+  next_rows : (w u : View T) → IsNext fixed w u → IsOfRows u
+  next_rows Rests u e = rows_as u (Registers _) e tt
+  next_rows (Outside t) u (inl e) = rows_as u (Enters t) e tt
+  next_rows (Outside t) u (inr e) = rows_as u (Frees t) e tt
+  next_rows (Inside t Nothing) u e = free_rows t u e
+  next_rows (Inside t (Seen b)) u e = free_rows t u e
+  next_rows (Inside t (Made b x)) u e = absurd e
+  next_rows (Inside t (Both b x a)) u e = absurd e
+  next_rows (Inside t (Cut b)) u e = absurd e
+  next_rows (Settles c (Retiring way) seen left) u e = rows_as u (left_with way c.slot) e.1 (left_rows way c.slot)
+  next_rows (Settles c (Ending size way) seen left) u e = rows_as u (Left c.slot size way) e.1 tt
+  next_rows (Left t size way) u e = rows_as u (left_with way t) e (left_rows way t)
+  next_rows (Registers c) u e = absurd e
+  next_rows (Owes t b) u e = absurd e
+  next_rows (Enters t) u e = absurd e
+  next_rows (Leaves t size way) u e = absurd e
+  next_rows (Frees t) u e = absurd e
+  next_rows (Brings b x) u e = absurd e
+  next_rows (Bears b) u e = absurd e
+  next_rows (Watches t b) u e = absurd e
+  next_rows (Under n t b) u e = absurd e
+  next_rows (Busy t) u e = absurd e
+
+module _ {T V W B : Type 0} (holds : Fixed → State T V W → Type 0) (keeps : V → V → W → ℕ → Type 0) (notes : V → Noted T) (beside : V → B)
+    (leans : V → ℕ → Type 0) where
   abbrev MayTake : Fixed → ℕ → V → (V → Type 0) → Type 0
-  MayTake fixed id v so = Turns (holds fixed) keeps id v so
+  MayTake fixed id v so = TurnsUnlent (holds fixed) keeps leans id v so
 
   -- what a content promises a caller of it may do
-  pub may_turn : RowsTurnIn holds keeps notes beside → (fixed : Fixed) (id : ℕ) (v : V) (w : View T) → (notes v).knows ≡ w
+  pub may_turn : RowsTurnIn holds keeps notes beside leans → (fixed : Fixed) (id : ℕ) (v : V) (w : View T) → (notes v).knows ≡ w
       → (f : Fixed → View T → View T) (began : Began → Began) → IsNext fixed w (f fixed w) → MayEnd (notes v).guards w (f fixed w)
       → MayTake fixed id v (Turned notes beside (Makes f) began fixed v)
-  may_turn law fixed id v w is f began next ends s h at =
+  may_turn law fixed id v w is f began next ends s h at unlent =
       let n = notes v in let u : Noted T = noted (f fixed n.knows) n.did (began n.began) n.guards in
       let so : (x : View T) → Type 0 = λ x. IsNext fixed x (f fixed x) × Stays n.guards x (f fixed x) in
       let k = subst so (sym is) (next, next_stays fixed n.guards w (f fixed w) next ends) in
-      let g = law fixed id v u (k.0, k.1, refl, refl) s h at in (
+      let g = law fixed id v u (k.0, k.1, refl, refl) s h at unlent in (
         g.0,
         g.1,
         g.2,
@@ -86,12 +124,19 @@ module _ {T V W B : Type 0} (holds : Fixed → State T V W → Type 0) (keeps : 
         ),
       )
 
-  module _ (law : SettlingsBeginIn holds keeps notes beside) (fixed : Fixed) (id : ℕ) (v : V) (began : Began) where
+  -- and whom it leans on then it did before
+  pub leans_turn : LeansBeside leans notes beside → (fixed : Fixed) (id : ℕ) (v : V) (w : View T) → (notes v).knows ≡ w
+      → (f : Fixed → View T → View T) (began : Began → Began) → IsNext fixed w (f fixed w) → MayEnd (notes v).guards w (f fixed w) → {e : Away}
+      → MayLean leans e v (Turned notes beside (Makes f) began fixed v)
+  leans_turn law fixed id v w is f began next ends x so n leaning =
+      inl (law v x n (rows_as fixed (notes v).guards (notes x).knows (f fixed w) (so.0 ∙ ap (f fixed) is) (next_rows fixed (notes v).guards w (f fixed w) next)) so.4 leaning)
+
+  module _ (law : SettlingsBeginIn holds keeps notes beside leans) (fixed : Fixed) (id : ℕ) (v : V) (began : Began) where
     may_settle : (w : View T) → (notes v).knows ≡ w → (so : Fixed → View T → View T → Type 0) (way : Becomes) (c : Settle) → IsToSettle fixed w way c
         → ((u : View T) → IsBegun way c u → so fixed w u)
         → MayTake fixed id v (Turned notes beside so (λ _. began) fixed v)
-    may_settle w is so way c to tells s h at =
-        let g = law fixed id v way c began (subst (λ (x : View T). IsToSettle fixed x way c) (sym is) to) s h at in
+    may_settle w is so way c to tells s h at unlent =
+        let g = law fixed id v way c began (subst (λ (x : View T). IsToSettle fixed x way c) (sym is) to) s h at unlent in
         (g.0, g.1, g.2, g.3, (subst (λ (x : View T). so fixed x (notes g.0).knows) (sym is) (tells (notes g.0).knows g.4.0), g.4.1, g.4.2, g.4.3, g.4.4))
 
     module _ (slot : ℕ) where
@@ -113,6 +158,31 @@ module _ {T V W B : Type 0} (holds : Fixed → State T V W → Type 0) (keeps : 
 
       pub may_flush_idle : (notes v).knows ≡ Outside slot → MayTake fixed id v (Turned notes beside Flushes (λ _. began) fixed v)
       may_flush_idle is = may_settle (Outside slot) is Flushes Idle (flushing slot batch) refl (λ u e. e)
+
+  -- as a settling begins, too
+  module _ (law : LeansBeside leans notes beside) (fixed : Fixed) (id : ℕ) (v : V) (began : Began) {e : Away} where
+    leans_settle : (w : View T) → (notes v).knows ≡ w → (so : Fixed → View T → View T → Type 0) (way : Becomes) (c : Settle)
+        → ((u : View T) → so fixed w u → IsBegun way c u) → MayLean leans e v (Turned notes beside so (λ _. began) fixed v)
+    leans_settle w is so way c tells x told n leaning =
+        let k = tells (notes x).knows (subst (λ (y : View T). so fixed y (notes x).knows) is told.0) in
+        inl (law v x n (subst IsOfRows (sym k.1) tt) told.4 leaning)
+
+    module _ (slot : ℕ) where
+      pub leans_retire : (b : ℕ) → (notes v).knows ≡ Inside slot (Cut b) → MayLean leans e v (Turned notes beside Retires (λ _. began) fixed v)
+      leans_retire b is = leans_settle (Inside slot (Cut b)) is Retires Active (retiring slot fixed.batch_size (link_to b)) (λ u k. k)
+
+      pub leans_retire_idle : (b : ℕ) → (notes v).knows ≡ Owes slot b → MayLean leans e v (Turned notes beside Retires (λ _. began) fixed v)
+      leans_retire_idle b is = leans_settle (Owes slot b) is Retires Idle (retiring slot fixed.batch_size (link_to b)) (λ u k. k)
+
+      pub leans_flush : (has : Has T) → IsLooking has → (notes v).knows ≡ Inside slot has → MayLean leans e v (Turned notes beside Flushes (λ _. began) fixed v)
+      leans_flush Nothing looks is = leans_settle (Inside slot Nothing) is Flushes Active (flushing slot fixed.batch_size) (λ u k. k)
+      leans_flush (Seen b) looks is = leans_settle (Inside slot (Seen b)) is Flushes Active (flushing slot fixed.batch_size) (λ u k. k)
+      leans_flush (Made b x) looks is = absurd looks
+      leans_flush (Both b x a) looks is = absurd looks
+      leans_flush (Cut b) looks is = absurd looks
+
+      pub leans_flush_idle : (notes v).knows ≡ Outside slot → MayLean leans e v (Turned notes beside Flushes (λ _. began) fixed v)
+      leans_flush_idle is = leans_settle (Outside slot) is Flushes Idle (flushing slot fixed.batch_size) (λ u k. k)
 
 module _ {T : Type 0} (fixed : Fixed) (v u : View T) (slot : ℕ) where
   -- and the row that was made for it has begun then

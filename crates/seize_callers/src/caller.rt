@@ -10,11 +10,13 @@ ghost use Rattle.seize_views.specs.declared.view.Has.{Has};
 ghost use Rattle.seize_views.specs.declared.view.Has.TheVariants.{Nothing};
 
 mod alone;
+mod pass;
 mod roots;
 mod settling;
 mod watch;
 
 use crate::errands::{Enters, Frees, Registers};
+pub use pass::Pass;
 use seize::rows::Defers;
 use seize_blocks::{Blocks, Errand, Seat};
 use seize_views::turns::Forgetting;
@@ -133,7 +135,7 @@ impl<'a, T: Defers, C: Content<T>> Caller<'a, T, C> {
         ensures guards { (C.notes self.new.seat.view).guards ≡ (C.notes self.old.seat.view).guards }
     {
         C::goes_on();
-        self.blocks.turn::<Forgetting<T, C>>(&mut self.seat);
+        self.blocks.part::<Forgetting<T, C>>(&mut self.seat);
     }
 }
 

@@ -57,7 +57,7 @@ impl<'a, T: Defers, C: Content<T>> Within<'a, T, C> {
         ensures guards { (C.notes self.new.seat.now.view).guards ≡ (C.notes self.old.seat.now.view).guards }
     {
         C::goes_on();
-        self.blocks.turn::<Registering<T, C>>(&mut *self.seat);
+        self.blocks.part::<Registering<T, C>>(&mut *self.seat);
         self.room(0)
     }
 
@@ -126,7 +126,7 @@ impl<'a, T: Defers, C: Content<T>> Within<'a, T, C> {
         ensures guards { (C.notes self.new.seat.now.view).guards ≡ (C.notes self.old.seat.now.view).guards }
     {
         C::goes_on();
-        self.blocks.turn::<Entering<T, C>>(&mut *self.seat);
+        self.blocks.part::<Entering<T, C>>(&mut *self.seat);
         self.store(At::Slot(slot, HEAD), ACTIVE);
     }
 
@@ -140,7 +140,7 @@ impl<'a, T: Defers, C: Content<T>> Within<'a, T, C> {
         ensures guards { (C.notes self.new.seat.now.view).guards ≡ (C.notes self.old.seat.now.view).guards }
     {
         C::goes_on();
-        self.blocks.turn::<Freeing<T, C>>(&mut *self.seat);
+        self.blocks.part::<Freeing<T, C>>(&mut *self.seat);
         self.store(At::Slot(slot, HEAD), FREE);
     }
 }

@@ -7,7 +7,7 @@ mod shared;
 pub use collector::Collector;
 pub use seize::IdSource;
 pub use seize_shared::{
-    Content, Guard, LocalGuard, OfRows, Owned, OwnedGuard, Registration, RootGuard, Tagged,
+    Content, Guard, LocalGuard, OfRows, Owned, OwnedGuard, Pass, Registration, RootGuard, Tagged,
     Unlinked,
 };
 pub use shared::Shared;

@@ -5,7 +5,9 @@ ghost use Rattle.seize_views.specs.declared.view.View.TheVariants.{Brings};
 use seize::Fault;
 use seize::rows::Defers;
 use seize_blocks::Blocks;
-use seize_shared::{Content, Drops, Fixed, OfRows, Owned, OwnedGuard, Receiver, Registration};
+use seize_shared::{
+    Content, Drops, Fixed, OfRows, Owned, OwnedGuard, Pass, Receiver, Registration,
+};
 use std::marker::PhantomData;
 
 /// A collector, lent: it may go to other threads, and each of them may take slots of it.
@@ -54,5 +56,13 @@ impl<'c, T: Defers + Drop, R: Receiver<T>> Shared<'c, T, OfRows, R> {
         ensures back { IfErr result (λ back. back ≡ value) }
     {
         Owned::of(self.blocks, &self.chosen, self.number, near, value)
+    }
+
+    /// A pass, by which a thread takes steps under a guard that others may have, too.
+    pub fn pass(&self) -> Pass<T>
+        ensures memory { result.pass.seat.base ≡ self.now.blocks.now.words.id.views_name }
+        ensures number { result.number ≡ self.now.number }
+    {
+        Pass::of(self.blocks, self.number)
     }
 }

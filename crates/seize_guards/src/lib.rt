@@ -3,10 +3,12 @@
 
 mod guard;
 mod owned;
+mod pass;
 mod tagged;
 mod unlinked;
 
 pub use guard::{Guard, RootGuard};
 pub use owned::Owned;
+pub use pass::Pass;
 pub use tagged::Tagged;
 pub use unlinked::Unlinked;

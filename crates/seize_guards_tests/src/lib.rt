@@ -10,4 +10,6 @@ mod lists;
 #[cfg(test)]
 mod order;
 #[cfg(test)]
+mod passing;
+#[cfg(test)]
 mod tagging;

@@ -32,6 +32,12 @@ impl<T: Defers + LeftOver> Rule<T> for OfOne {
     ghost newcomers_rest = { λ _. tt };
 
     ghost resting_stay = { λ _ _ _ _ _ _. tt };
+
+    ghost leans = { λ _ _. ⊥ };
+
+    ghost upright = { λ _ _ _ none. none };
+
+    ghost leaning_stay = { λ _ _ _ _ _ _ none. none };
 }
 
 /// The turn of a step of its machine that makes no operation.

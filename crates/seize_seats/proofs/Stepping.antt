@@ -6,6 +6,7 @@ pub mod Meetings
 pub mod Moves
 pub mod Outings
 pub mod OwnWords
+pub mod Parting
 pub mod SlotWords
 pub mod Steps
 pub mod Visits

@@ -83,7 +83,7 @@ bucket_pieces = pieces_at (λ s. s.words) (λ s. s.size * 16)
 
 -- of seats that may be on errands: α: the lifetime of the memory
 abbrev pub sitting : {V : Type 0} → Lft → Sight V → ℕ → V → List V → Fml
-sitting α c γ blank vs = fsep (ledger c.code γ blank vs) (stakes α c.away vs)
+sitting α c γ blank vs = fsep (ledger c.code γ blank vs) (stakes α γ c.away vs)
 
 -- Who has a number: 0, or 1 where a call has its place in its hand, or two more than the name under which it is noted whose call has its value in the hand. The
 -- call has left this share.

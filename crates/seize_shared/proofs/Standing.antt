@@ -7,7 +7,7 @@ use Rattle.seize_shared.specs.Standing.{standing}
 use Rattle.seize_callers.specs.Given.SeizeViewsTold.{seen_as}
 use Rattle.seize_callers.specs.Given.SeizeViewsPromises.{IsLooking, IsTaker}
 use Rattle.seize_callers.specs.Given.SeizeViewsDeclared.view.View.{View}
-use Rattle.seize_callers.specs.Given.SeizeViewsDeclared.view.View.TheVariants.{Rests, Registers, Outside, Owes, Enters, Inside, Settles, Leaves, Left, Frees, Brings, Bears, Watches, Busy}
+use Rattle.seize_callers.specs.Given.SeizeViewsDeclared.view.View.TheVariants.{Rests, Registers, Outside, Owes, Enters, Inside, Settles, Leaves, Left, Frees, Brings, Bears, Watches, Under, Busy}
 use Rattle.seize_callers.specs.Given.SeizeViewsDeclared.view.Has.{Has}
 use Rattle.seize_callers.specs.Given.SeizeViewsDeclared.view.Has.TheVariants.{Nothing, Made, Seen, Both, Cut}
 
@@ -76,6 +76,7 @@ module _ {T : Type 0} (t : ℕ) where
   is_outside k (Brings b x) e = absurd (cc e)
   is_outside k (Bears b) e = absurd (cc e)
   is_outside k (Watches s b) e = absurd (cc e)
+  is_outside k (Under n s b) e = absurd (cc e)
   is_outside k (Busy s) e = absurd (cc e)
 
   inside : (k : ℕ) (v : View T) → standing v ≡ Some (stands t true k) → (has : Has T) × Knows has k × (v ≡ Inside t has)
@@ -101,6 +102,7 @@ module _ {T : Type 0} (t : ℕ) where
   inside k (Brings b x) e = absurd (cc e)
   inside k (Bears b) e = absurd (cc e)
   inside k (Watches s b) e = absurd (cc e)
+  inside k (Under n s b) e = absurd (cc e)
   inside k (Busy s) e = absurd (cc e)
 
   pub is_inside : (k : ℕ) (v : View T) → standing v ≡ Some (stands t true k) → (has : Has T) × IsLooking has × (v ≡ Inside t has)

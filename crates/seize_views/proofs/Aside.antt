@@ -7,7 +7,7 @@ use Rattle.seize_bounds.specs.Given.SeizeActsWaits.{SettlesOn}
 use Rattle.seize_bounds.specs.Bounds.{IsAloneOnSlot}
 use Rattle.seize_views.specs.Rows.{row_of, use_of, used_for}
 use Rattle.seize_views.specs.declared.view.View.{View}
-use Rattle.seize_views.specs.declared.view.View.TheVariants.{Rests, Registers, Outside, Owes, Enters, Inside, Settles, Leaves, Left, Frees, Brings, Bears, Watches, Busy}
+use Rattle.seize_views.specs.declared.view.View.TheVariants.{Rests, Registers, Outside, Owes, Enters, Inside, Settles, Leaves, Left, Frees, Brings, Bears, Watches, Under, Busy}
 use Rattle.seize_views.specs.declared.view.Why.TheVariants.{Retiring, Ending}
 
 -- the slot that the row of a seat settles on is the seat's
@@ -26,6 +26,7 @@ settles_used (Frees t) s on = absurd on
 settles_used (Brings b x) s on = absurd on
 settles_used (Bears b) s on = absurd on
 settles_used (Watches t b) s on = absurd on
+settles_used (Under n t b) s on = absurd on
 settles_used (Busy t) s on = absurd on
 
 module _ {T : Type 0} (w : World T) (view : ℕ → Option (View T)) (rows : (j : ℕ) (v : View T) → view j ≡ Some v → w.row j ≡ row_of v)

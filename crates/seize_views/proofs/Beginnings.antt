@@ -15,7 +15,7 @@ use Rattle.seize_views.specs.Promises.{IsNext, RulesStart, SeatsCome, RowsTurn, 
 use Rattle.seize_views.specs.declared.view.View.{View}
 use Rattle.seize_views.specs.declared.view.Becomes.{Becomes}
 use Rattle.seize_views.specs.declared.view.Becomes.TheVariants.{Idle, Active}
-use Rattle.seize_views.specs.declared.view.View.TheVariants.{Rests, Registers, Outside, Owes, Enters, Inside, Settles, Leaves, Left, Frees, Brings, Bears, Watches, Busy}
+use Rattle.seize_views.specs.declared.view.View.TheVariants.{Rests, Registers, Outside, Owes, Enters, Inside, Settles, Leaves, Left, Frees, Brings, Bears, Watches, Under, Busy}
 use Rattle.seize_views.specs.declared.view.Has.TheVariants.{Nothing, Made, Seen, Both, Cut}
 use Rattle.seize_views.specs.declared.view.Fixed.{Fixed}
 use Rattle.seize_views.proofs.Lists.{with_last, none_before}
@@ -173,4 +173,5 @@ module _ (T : Type 0) (defers : T → Option ℕ) where
   settlings_begin fixed id (Brings b x) way c is = absurd is
   settlings_begin fixed id (Bears b) way c is = absurd is
   settlings_begin fixed id (Watches t b) way c is = absurd is
+  settlings_begin fixed id (Under n t b) way c is = absurd is
   settlings_begin fixed id (Busy t) way c is = absurd is

@@ -8,7 +8,7 @@ use Rattle.seize_views.specs.Content.{SeatsComeIn, RowsGoOnIn, RowsTurnIn, Settl
 use Rattle.seize_views.specs.Notes.{noted, newcomer, NotedHolds, NotedKeeps, noted_told}
 use Rattle.seize_views.specs.Promises.{op_of, IsNext, IsFree}
 use Rattle.seize_views.specs.Rows.{Holds}
-use Rattle.seize_views.specs.Watched.{IsOwn}
+use Rattle.seize_views.specs.Watched.{Leans, IsOwn}
 use Rattle.seize_views.specs.declared.view.Becomes.{Becomes}
 use Rattle.seize_views.specs.declared.view.Becomes.TheVariants.{Idle, Active}
 use Rattle.seize_views.specs.declared.view.Began.{Began}
@@ -17,7 +17,7 @@ use Rattle.seize_views.specs.declared.view.Fixed.{Fixed}
 use Rattle.seize_views.specs.declared.view.Has.TheVariants.{Nothing, Made, Seen, Both, Cut}
 use Rattle.seize_views.specs.declared.view.Noted.{Noted}
 use Rattle.seize_views.specs.declared.view.View.{View}
-use Rattle.seize_views.specs.declared.view.View.TheVariants.{Rests, Registers, Outside, Owes, Enters, Inside, Settles, Leaves, Left, Frees, Brings, Bears, Watches, Busy}
+use Rattle.seize_views.specs.declared.view.View.TheVariants.{Rests, Registers, Outside, Owes, Enters, Inside, Settles, Leaves, Left, Frees, Brings, Bears, Watches, Under, Busy}
 use Rattle.seize_views.specs.declared.view.Why.TheVariants.{Retiring, Ending}
 use Rattle.seize_views.proofs.Beginnings.{rows_turn, settlings_begin}
 use Rattle.seize_views.proofs.GoesOn.{rows_go_on}
@@ -27,6 +27,7 @@ use Rattle.seize_views.proofs.Notes.{comings_are_noted, steps_are_noted, turns_a
 -- who watches has no row
 own_by_op : {T : Type 0} (defers : T → Option ℕ) (w : View T) (op : Op T) → op_of defers w ≡ Some op → IsOwn w
 own_by_op defers (Watches t b) op e = absurd (cc e)
+own_by_op defers (Under n t b) op e = absurd (cc e)
 own_by_op defers _ op e = tt
 
 left_own : (T : Type 0) (way : Becomes) (t : ℕ) → IsOwn {T = T} (left_with way t)
@@ -59,6 +60,7 @@ module _ {T : Type 0} (fixed : Fixed) where
   next_own (Brings b x) u is = absurd is
   next_own (Bears b) u is = absurd is
   next_own (Watches t b) u is = absurd is
+  next_own (Under n t b) u is = absurd is
   next_own (Busy t) u is = absurd is
 
 -- notes are the same where each of them is
@@ -83,15 +85,15 @@ module _ (T : Type 0) (defers : T → Option ℕ) where
   pub rows_are_told : RowsAreTold whole none defers (noted_told defers)
   rows_are_told v w op out is told = (told, refl)
 
-  pub rows_turn_in : RowsTurnIn (NotedHolds defers) NotedKeeps whole none
-  rows_turn_in fixed id v u may s h at =
+  pub rows_turn_in : RowsTurnIn (NotedHolds defers) NotedKeeps whole none Leans
+  rows_turn_in fixed id v u may s h at unlent =
       let own = next_own fixed v.knows u.knows may.0 in
-      let g = turns_are_noted T defers fixed id v u.knows u.did u.began own.0 own.1 may.1 (rows_turn T defers fixed id v.knows u.knows may.0) s h at in
+      let g = turns_are_noted T defers fixed id v u.knows u.did u.began own.0 own.1 may.1 (rows_turn T defers fixed id v.knows u.knows may.0) s h at unlent in
       (g.0, g.1, g.2, g.3, (same_notes g.0 u (g.4.0, g.4.1, g.4.2, g.4.3 ∙ sym may.3), refl))
 
-  pub settlings_begin_in : SettlingsBeginIn (NotedHolds defers) NotedKeeps whole none
-  settlings_begin_in fixed id v way c began is s h at =
-      let g = settlings_are_noted T defers fixed id v way c v.did began is (settlings_begin T defers fixed id v.knows way c is) s h at in
+  pub settlings_begin_in : SettlingsBeginIn (NotedHolds defers) NotedKeeps whole none Leans
+  settlings_begin_in fixed id v way c began is s h at unlent =
+      let g = settlings_are_noted T defers fixed id v way c v.did began is (settlings_begin T defers fixed id v.knows way c is) s h at unlent in
       (g.0, g.1, g.2, g.3, (g.4.0, g.4.1, g.4.2, g.4.3, refl))
 
   pub looked_are_shown_in : LookedAreShownIn (NotedHolds defers) NotedKeeps whole none

@@ -10,7 +10,7 @@ use Rattle.seize_views.specs.Rows.{head_of}
 use Rattle.seize_views.specs.Told.{told}
 use Rattle.seize_views.specs.Promises.{op_of, RowsGoOn}
 use Rattle.seize_views.specs.declared.view.View.{View}
-use Rattle.seize_views.specs.declared.view.View.TheVariants.{Rests, Registers, Outside, Owes, Enters, Inside, Settles, Leaves, Left, Frees, Brings, Bears, Watches, Busy}
+use Rattle.seize_views.specs.declared.view.View.TheVariants.{Rests, Registers, Outside, Owes, Enters, Inside, Settles, Leaves, Left, Frees, Brings, Bears, Watches, Under, Busy}
 use Rattle.seize_views.specs.declared.view.Fixed.{Fixed}
 use Rattle.seize_views.proofs.InWorld.{IsJustSo, just_so, IsLikeness, HasRow, MayMake}
 use Rattle.seize_views.proofs.Lifted.{has_row, makes}
@@ -30,6 +30,7 @@ module _ {T : Type 0} (defers : T → Option ℕ) (fixed : Fixed) (Is : Use → 
   goes_on (Brings b x) op h e = absurd (cc e)
   goes_on (Bears b) op h e = absurd (cc e)
   goes_on (Watches t b) op h e = absurd (cc e)
+  goes_on (Under n t b) op h e = absurd (cc e)
   goes_on (Busy t) op h e = absurd (cc e)
   goes_on (Owes t b) op h e = absurd (cc e)
   goes_on (Enters t) op h e = subst (May (Enters t)) (same_some (Store (Slot t HEAD) ACTIVE) op e) (enters defers fixed Is like w i t h)

@@ -1,5 +1,5 @@
 -- A seat watches the open section of another one's slot: it begins, looks at roots, is shown what it has seen, and ends.
-use Rattle.std.specs.Prelude.{◌≢◌, ◌<◌, Option, Some, IsSome, length, map, slice_set, ◌==◌}
+use Rattle.std.specs.Prelude.{◌≢◌, ◌<◌, Option, Some, None, IsSome, length, map, slice_set, ◌==◌}
 use Rattle.std.proofs.Common.{◌≡◌, ℕ, ◌+◌, ◌-◌, true, [], inl, inr, refl, sym, subst, ap, ◌∙◌, arith}
 use Rattle.std.proofs.lemmas.Bool.{eq-eqb, ne_eqb}
 use Rattle.seize_words.specs.Mem.{Mem, Took, value_at}
@@ -8,13 +8,14 @@ use Rattle.seize_words.specs.Op.{Op, Out, Load, Found, Stored, Exchanged, Made a
 use Rattle.seize_words.specs.declared.at.At.TheVariants.{Root}
 use Rattle.seize.specs.Law.{holds}
 use Rattle.seize.specs.World.{World}
+use Rattle.seize.specs.World as world
 use Rattle.seize_bounds.proofs.Given.SeizeAloneHistories.NotTaken.{IsHeld, kept_there}
 use Rattle.seize_bounds.proofs.Given.SeizeActsAnswers.{same_some}
 use Rattle.seize_seats.specs.State.{State, view_of, Allows}
 use Rattle.seize_seats.specs.Lendings.{Shown}
-use Rattle.seize_views.specs.Rows.{Leads, RootsNameLinked, Holds}
+use Rattle.seize_views.specs.Rows.{Leads, RootsNameLinked, Holds, row_of, use_of, hand_of, IsShort, IsKnown, IsBounded}
 use Rattle.seize_views.specs.Told.{told}
-use Rattle.seize_views.specs.Watched.{one, open_at, is_watching, watchers, watching, known_by}
+use Rattle.seize_views.specs.Watched.{one, open_at, is_watching, LeansOn, watchers, watching, known_by}
 use Rattle.seize_views.specs.Notes.{noted, as_known, deed, NotedHolds, NotedKeeps, noted_told, Begins, Ends}
 use Rattle.seize_views.specs.Notes.{WatchesBegin, WatchesEnd, WatchersSee, WatchedAreShown}
 use Rattle.seize_views.specs.declared.view.Noted.{Noted}
@@ -24,6 +25,7 @@ use Rattle.seize_views.specs.declared.view.View.{View}
 use Rattle.seize_views.specs.declared.view.View.TheVariants.{Rests, Watches}
 use Rattle.seize_views.specs.declared.view.Has.TheVariants.{Nothing}
 use Rattle.seize_views.specs.declared.view.Fixed.{Fixed}
+use Rattle.seize_views.specs.Resting.{open_leans}
 use Rattle.seize_views.proofs.Came.{reached}
 use Rattle.seize_views.proofs.Handing.{Meeting, met}
 use Rattle.seize_views.proofs.Notes.{seen_at, goes, meets}
@@ -58,11 +60,12 @@ module _ {T : Type 0} (defers : T → Option ℕ) (fixed : Fixed) where
       other_hand = λ c e. inr e;
     }
 
-  -- who watches sees what a root names
-  looks : (s : State T (View T) (World T)) (id t b c : ℕ) (h : Holds defers fixed s) (at : view_of s id ≡ Some (Watches t b)) (m : Mem T) → m ≡ s.memory
-      → (so : View T → Type 0) → so (Watches t c) → Leads defers fixed s m id so
-  looks s id t b c h at m same so is =
-      users_on defers fixed s id t (Watches t b) (Watches t c) h at refl refl refl tt m s.world Nothing (record {
+  -- a seat that has no row under way and no block in its hand goes on, and the memory stays as it is
+  pub aside_on : (s : State T (View T) (World T)) (id : ℕ) (v x : View T) (h : Holds defers fixed s) (at : view_of s id ≡ Some v) → row_of v ≡ world.Rests
+      → row_of x ≡ world.Rests → use_of x ≡ use_of v → IsShort x → hand_of x ≡ None → IsKnown s.world x → IsBounded defers fixed s.world id x
+      → (m : Mem T) → m ≡ s.memory → (so : View T → Type 0) → so x → Leads defers fixed s m id so
+  aside_on s id v x h at rests still same_use short hand known bounded m same so is =
+      users_on defers fixed s id 0 v x h at rests still same_use short m s.world Nothing (record {
         came = h.came;
         memory = same ∙ h.memory;
         row = refl;
@@ -76,7 +79,12 @@ module _ {T : Type 0} (defers : T → Option ℕ) (fixed : Fixed) where
         roots = subst (λ (x : Mem T). RootsNameLinked x s.world.hand) (sym same) h.roots;
         rooted = ap (λ (x : Mem T). length x.roots) same ∙ h.rooted;
         passes = λ j ne was now. ([], refl);
-      }) refl tt tt so is
+      }) hand known bounded so is
+
+  -- who watches sees what a root names
+  looks : (s : State T (View T) (World T)) (id t b c : ℕ) (h : Holds defers fixed s) (at : view_of s id ≡ Some (Watches t b)) (m : Mem T) → m ≡ s.memory
+      → (so : View T → Type 0) → so (Watches t c) → Leads defers fixed s m id so
+  looks s id t b c h at m same so is = aside_on s id (Watches t b) (Watches t c) h at refl refl refl tt refl tt tt m same so is
 
   sees : (s : State T (View T) (World T)) (id t b r : ℕ) (h : Holds defers fixed s) (at : view_of s id ≡ Some (Watches t b)) (out : Out T) (m : Mem T)
       → Took s.memory (Load (Root r)) out m → Leads defers fixed s m id (told defers (Watches t b) (Load (Root r)) out)
@@ -114,6 +122,14 @@ module _ {T : Type 0} (defers : T → Option ℕ) (fixed : Fixed) where
     still_watches (Taken y) u is x = absurd is
     still_watches (Roomed y) u is x = absurd is
 
+    no_leaning : (out : Out T) (u : View T) → told defers (Watches t b) load out u → (n : ℕ) → LeansOn u n → ⊥
+    no_leaning (Found word) u is n leans = subst (λ (y : View T). LeansOn y n) is leans
+    no_leaning Stored u is n leans = is
+    no_leaning (Exchanged y) u is n leans = is
+    no_leaning (OutMade y) u is n leans = is
+    no_leaning (Taken y) u is n leans = is
+    no_leaning (Roomed y) u is n leans = is
+
     -- what it has seen the section holds
     seen_held : (s : State T (Noted T) (World T)) (h : N s) (at : view_of (as_known s) id ≡ Some (Watches t b)) (out : Out T) (m : Mem T)
         → Took s.memory load out m → (u : View T) → told defers (Watches t b) load out u → (x c : ℕ) → u ≡ Watches x c → c ≢ 0
@@ -143,7 +159,8 @@ module _ {T : Type 0} (defers : T → Option ℕ) (fixed : Fixed) where
               (λ x c e some.
               let k = seen_held s h here out m took g.0 g.5 x c e some in
               let inside = watches_open defers fixed s.views (as_known s) h.0 h.1 id t b here in
-              subst (λ (y : ℕ). holds y c g.1.log ≡ true) (sym k.0) (g.4 t c inside k.1)),
+              subst (λ (y : ℕ). holds y c g.1.log ≡ true) (sym k.0) (g.4 t c inside k.1))
+              (λ n x c e. absurd (no_leaning out g.0 g.5 n (subst (λ (y : View T). LeansOn y n) (sym e) refl))) (inr (inl refl)),
         )
 
   watched_shown : (id t b : ℕ) (v : Noted T) → v.knows ≡ Watches t b → b ≢ 0 → Shown N id v b
@@ -183,6 +200,8 @@ module _ {T : Type 0} (defers : T → Option ℕ) (fixed : Fixed) where
                 none = λ none. absurd (cc (none, is_open));
                 one_seen = λ x b f some. absurd (some (sym (ap block_seen f)));
                 other_seen = λ x b f some. f;
+                one_upright = λ m leans. leans;
+                other_upright = λ m leans. open_leans u.knows t m is_open leans;
               }),
           λ x is. (ap (λ (k : ℕ). Watches k 0) (his x is), refl, refl, refl, refl, refl),
         )
@@ -210,6 +229,8 @@ module _ {T : Type 0} (defers : T → Option ℕ) (fixed : Fixed) where
                 none = λ none. absurd (cc (none, is_open));
                 one_seen = λ x c f some. absurd (cc f);
                 other_seen = λ x c f some. f;
+                one_upright = λ m leans. leans;
+                other_upright = λ m leans. open_leans u.knows t m is_open leans;
               }),
           (refl, refl, refl, refl, refl, one_less),
         )

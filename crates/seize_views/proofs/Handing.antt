@@ -9,7 +9,7 @@ use Rattle.seize_views.specs.Begun.{Hands}
 use Rattle.seize_views.specs.Promises.{BorneAreHandedOn}
 use Rattle.seize_views.specs.Rows.{use_of, hand_of, Fits, IsBounded, Holds}
 use Rattle.seize_views.specs.declared.view.View.{View}
-use Rattle.seize_views.specs.declared.view.View.TheVariants.{Rests, Registers, Outside, Owes, Enters, Inside, Settles, Leaves, Left, Frees, Brings, Bears, Watches, Busy}
+use Rattle.seize_views.specs.declared.view.View.TheVariants.{Rests, Registers, Outside, Owes, Enters, Inside, Settles, Leaves, Left, Frees, Brings, Bears, Watches, Under, Busy}
 use Rattle.seize_views.specs.declared.view.Has.{Has}
 use Rattle.seize_views.specs.declared.view.Has.TheVariants.{Nothing, Made, Seen, Both, Cut}
 use Rattle.seize_views.specs.declared.view.Fixed.{Fixed}
@@ -176,4 +176,5 @@ module _ (T : Type 0) (defers : T → Option ℕ) where
   borne_are_handed_on fixed i j b (Brings c x) takes = absurd takes
   borne_are_handed_on fixed i j b (Bears c) takes = absurd takes
   borne_are_handed_on fixed i j b (Watches t c) takes = absurd takes
+  borne_are_handed_on fixed i j b (Under n t c) takes = absurd takes
   borne_are_handed_on fixed i j b (Busy t) takes = absurd takes

@@ -21,9 +21,10 @@ pub mod Blocks
 pub mod Written
 pub mod Roots
 pub mod Handing
+mod Leaned
 mod Watched
-mod Stays
 pub mod Notes
 pub mod Guarding
+pub mod Passing
 mod Contents
 pub mod Given

@@ -15,7 +15,7 @@ use Rattle.seize_bounds.specs.Bounds.{HasCounted, HasTried, IsAloneOnSlot, Meanw
 use Rattle.seize_views.specs.Rows.{Leads}
 use Rattle.seize_views.specs.Rows.{use_of, row_of, hand_of, had_in, settles_for, IsUsed, IsMade, IsInHand, IsKnown, RootsNameLinked, Fits, Came, IsBounded, Holds, Keeps}
 use Rattle.seize_views.specs.declared.view.View.{View}
-use Rattle.seize_views.specs.declared.view.View.TheVariants.{Rests, Registers, Outside, Owes, Enters, Inside, Settles, Leaves, Left, Frees, Brings, Bears, Watches, Busy}
+use Rattle.seize_views.specs.declared.view.View.TheVariants.{Rests, Registers, Outside, Owes, Enters, Inside, Settles, Leaves, Left, Frees, Brings, Bears, Watches, Under, Busy}
 use Rattle.seize_views.specs.declared.view.Has.{Has}
 use Rattle.seize_views.specs.declared.view.Has.TheVariants.{Nothing, Made, Seen, Both, Cut}
 use Rattle.seize_views.specs.declared.view.Why.TheVariants.{Retiring, Ending}
@@ -50,6 +50,7 @@ not_vacant {T} x t a e v = by x e
     by (Brings b y) f = cc f
     by (Bears b) f = cc f
     by (Watches s b) f = cc f
+    by (Under n s b) f = cc f
     by (Busy None) f = cc f
     by (Busy (Some s)) f = let k = so (s, world.Inside 0) (t, a) f in cc (k, v)
 
@@ -88,6 +89,7 @@ module _ {T : Type 0} where
   hand_users w (Left t size way) b is e = absurd (cc e)
   hand_users w (Frees t) b is e = absurd (cc e)
   hand_users w (Watches t c) b is e = absurd (cc e)
+  hand_users w (Under n t c) b is e = absurd (cc e)
   hand_users w (Busy t) b is e = absurd is
 
   -- a seat is within the section of its slot
@@ -160,6 +162,7 @@ module _ {T : Type 0} (defers : T → Option ℕ) (fixed : Fixed) (s : State T (
     known j (Brings b x) ne e row f = made b x (mo.hands j b (Brings b x) ne e refl) f.known
     known j (Bears b) ne e row f = (f.known.0, mo.hands j b (Bears b) ne e refl ∙ f.known.1)
     known j (Watches t b) ne e row f = tt
+    known j (Under n t b) ne e row f = tt
     known j (Busy t) ne e row f = f.known
 
     bound : (j : ℕ) (x : View T) → j ≢ id → IsAloneOnSlot j n → IsBounded defers fixed s.world j x → IsBounded defers fixed n j x
@@ -181,6 +184,7 @@ module _ {T : Type 0} (defers : T → Option ℕ) (fixed : Fixed) (s : State T (
     bound j (Brings d x) ne after b = tt
     bound j (Bears d) ne after b = tt
     bound j (Watches t d) ne after b = tt
+    bound j (Under n t d) ne after b = tt
     bound j (Busy t) ne after b = tt
 
     pub moved : so u → Leads defers fixed s m id so

@@ -6,17 +6,20 @@ use Rattle.std.proofs.lemmas.Option.{slice_get-map}
 use Rattle.seize_words.specs.Mem.{Mem}
 use Rattle.seize_words.specs.Op.{Op}
 use Rattle.seize.specs.World.{World}
-use Rattle.seize_seats.specs.State.{State, view_of, Starts, Comes, Allows, Turns, Goes}
+use Rattle.seize_seats.specs.Errands.{TurnsUnlent}
+use Rattle.seize_seats.specs.State.{State, view_of, Starts, Comes, Allows, Goes}
 use Rattle.seize_seats.specs.Lendings.{Shown, IsValueOf}
 use Rattle.seize_views.specs.Rows.{Leads, TurnsTo, Permits}
 use Rattle.seize_views.specs.Notes.{noted, newcomer, as_known, deed, NotedHolds, NotedKeeps, noted_told}
 use Rattle.seize_views.specs.Notes.{StartsAreNoted, ComingsAreNoted, StepsAreNoted, TurnsAreNoted, SettlingsAreNoted, MeetingsAreNoted, LooksAreNoted}
 use Rattle.seize_views.specs.Promises.{IsToSettle, IsTaker}
-use Rattle.seize_views.specs.Watched.{one, open_at, is_watching, IsOwn, Stays, known_by, AreWatched}
+use Rattle.seize_views.specs.Watched.{one, open_at, is_watching, Leans, IsOwn, Stays, known_by, IsBase, Upholds, AreWatched}
 use Rattle.seize_views.proofs.Beginnings as beginnings
 use Rattle.seize_views.proofs.Beginnings.{seats_join}
-use Rattle.seize_views.proofs.Stays.{Still, told_still}
-use Rattle.seize_views.proofs.Watched.{own_watches, own_not, steps_watched, joins_watched, Counted, meets_watched}
+use Rattle.seize_views.specs.Stays.{Still, told_still}
+use Rattle.seize_views.specs.Resting.{own_leans}
+use Rattle.seize_views.proofs.Leaned.{own_under}
+use Rattle.seize_views.proofs.Watched.{open_inside, own_watches, own_not, steps_watched, joins_watched, Counted, meets_watched}
 use Rattle.seize.specs.Law.{holds}
 use Rattle.seize.specs.declared.rows.settle.Settle.{Settle}
 use Rattle.seize_views.specs.Begun.{IsBegun, Hands}
@@ -26,7 +29,7 @@ use Rattle.seize_views.specs.declared.view.Noted.{Noted}
 use Rattle.seize_views.specs.declared.view.Deed.{Deed}
 use Rattle.seize_views.specs.declared.view.Began.{Began}
 use Rattle.seize_views.specs.declared.view.View.{View}
-use Rattle.seize_views.specs.declared.view.View.TheVariants.{Rests, Registers, Outside, Owes, Enters, Inside, Settles, Leaves, Left, Frees, Brings, Bears, Watches, Busy}
+use Rattle.seize_views.specs.declared.view.View.TheVariants.{Rests, Registers, Outside, Owes, Enters, Inside, Settles, Leaves, Left, Frees, Brings, Bears, Watches, Under, Busy}
 use Rattle.seize_views.specs.declared.view.Has.TheVariants.{Nothing, Made, Seen, Both, Cut}
 use Rattle.seize_views.specs.declared.view.Becomes.{Becomes}
 use Rattle.seize_views.specs.declared.view.Becomes.TheVariants.{Idle, Active}
@@ -63,14 +66,15 @@ module _ {T : Type 0} (defers : T → Option ℕ) (fixed : Fixed) where
   pub goes : (s : State T (Noted T) (World T)) (h : N s) (m : Mem T) (id : ℕ) (v : Noted T) (at : view_of s id ≡ Some v) (so : View T → Type 0) (did : Deed T)
       (began : Began) → ((u : View T) → so u → (t : ℕ) → is_watching t u ≡ is_watching t v.knows) → ((u : View T) → so u → Stays v.guards v.knows u)
       → (g : Leads defers fixed (as_known s) m id so) → ((t b : ℕ) → g.0 ≡ Watches t b → b ≢ 0 → holds t b g.1.log ≡ true)
+      → ((n t b : ℕ) → g.0 ≡ Under n t b → (n ≢ id) × IsBase s.views n t × (b ≢ 0 → holds t b g.1.log ≡ true)) → Upholds s.views id v.knows g.0
       → Goes N NotedKeeps s m id (λ u. so u.knows × (u.did ≡ did) × (u.began ≡ began) × (u.guards ≡ v.guards))
-  goes s h m id v at so did began same stays g mine =
+  goes s h m id v at so did began same stays g mine under upholds =
       let u : Noted T = noted g.0 did began v.guards in (
         u,
         g.1,
         subst (both m g.1 (slice_set s.views id u)) (sym (set_known known_by s.views id u))
-            (g.2, steps_watched defers fixed s.views (as_known s) h.0 h.1 id v u g.1 at (seen_at s id v at) g.4 g.2.apart (seen_at s) refl (same g.0 g.5) mine (stays g.0 g.5)),
-        (λ j k b a o ne ne2 e f keeps. g.3 j k b a.knows o.knows ne ne2 (seen_at s j a e) (seen_at s k o f) keeps),
+            (g.2, steps_watched defers fixed s.views (as_known s) h.0 h.1 id v u g.1 at (seen_at s id v at) g.4 g.2.apart (seen_at s) refl (same g.0 g.5) mine (stays g.0 g.5) under upholds),
+        (λ j k b a o ne ne2 e f keeps. (keeps.0, keeps.1, g.4 keeps.0 b (open_inside s.world a.knows keeps.0 keeps.1 (h.0.seats j a.knows (seen_at s j a e)).slot) keeps.2)),
         (g.5, refl, refl, refl),
       )
 
@@ -87,19 +91,30 @@ module _ {T : Type 0} (defers : T → Option ℕ) (fixed : Fixed) where
             let g = k.1 out m took in
             let still : (u : View T) → told defers v.knows op out u → Still v.knows u = λ u is. told_still defers v.knows op out u own is in
             goes s h m id v at (told defers v.knows op out) (deed v.knows v.did op out) v.began (λ u is. own_same v.knows u own (still u is).own)
-            (λ u is. as_stays v.guards v.knows u (still u is).section) g (λ t b e some. absurd (own_not g.0 t b (still g.0 g.5).own e)),
+            (λ u is. as_stays v.guards v.knows u (still u is).section) g (λ t b e some. absurd (own_not g.0 t b (still g.0 g.5).own e))
+            (λ n t b e. absurd (own_under g.0 n t b (still g.0 g.5).own e)) (as_upheld s.views v.knows g.0 (still g.0 g.5).section),
       )
     where
       as_stays : (n : ℕ) (v u : View T) → (open_at u ≡ open_at v) ⊎ (open_at v ≡ None) → Stays n v u
       as_stays n v u (inl e) = inl e
       as_stays n v u (inr e) = inr (inl e)
 
+      as_upheld : (seats : List (Noted T)) (v u : View T) → (open_at u ≡ open_at v) ⊎ (open_at v ≡ None) → Upholds seats id v u
+      as_upheld seats v u (inl e) = inl e
+      as_upheld seats v u (inr e) = inr (inl e)
+
   pub turns : (id : ℕ) (v : Noted T) (so : View T → Type 0) (did : Deed T) (began : Began) → IsOwn v.knows → ((u : View T) → so u → IsOwn u)
       → ((u : View T) → so u → Stays v.guards v.knows u) → TurnsTo defers fixed id v.knows so
-      → Turns N NotedKeeps id v (λ u. so u.knows × (u.did ≡ did) × (u.began ≡ began) × (u.guards ≡ v.guards))
-  turns id v so did began own owns stays may s h at =
+      → TurnsUnlent N NotedKeeps Leans id v (λ u. so u.knows × (u.did ≡ did) × (u.began ≡ began) × (u.guards ≡ v.guards))
+  turns id v so did began own owns stays may s h at unlent =
       let g = may (as_known s) h.0 (seen_at s id v at) in
       goes s h s.memory id v at so did began (λ u is. own_same v.knows u own (owns u is)) stays g (λ t b e some. absurd (own_not g.0 t b (owns g.0 g.5) e))
+      (λ n t b e. absurd (own_under g.0 n t b (owns g.0 g.5) e)) (by g.0 (stays g.0 g.5))
+    where
+      by : (u : View T) → Stays v.guards v.knows u → Upholds s.views id v.knows u
+      by u (inl e) = inl e
+      by u (inr (inl none)) = inr (inl none)
+      by u (inr (inr ends)) = inr (inr unlent)
 
   comes : Comes N NotedKeeps newcomer
   comes s h = (
@@ -146,6 +161,7 @@ handed fixed b (Frees t) p q takes is = absurd takes
 handed fixed b (Brings c x) p q takes is = absurd takes
 handed fixed b (Bears c) p q takes is = absurd takes
 handed fixed b (Watches t c) p q takes is = absurd takes
+handed fixed b (Under n t c) p q takes is = absurd takes
 handed fixed b (Busy t) p q takes is = absurd takes
 
 -- a settling begins where no section ends
@@ -173,11 +189,23 @@ settles_open fixed (Frees t) u way c to is = absurd to
 settles_open fixed (Brings b x) u way c to is = absurd to
 settles_open fixed (Bears b) u way c to is = absurd to
 settles_open fixed (Watches t b) u way c to is = absurd to
+settles_open fixed (Under n t b) u way c to is = absurd to
 settles_open fixed (Busy t) u way c to is = absurd to
 
 module _ (T : Type 0) (defers : T → Option ℕ) where
   pub starts_are_noted : StartsAreNoted T defers
-  starts_are_noted fixed is = (is.0, (is.1, record { held = λ j t b e. absurd (cc e); counted = λ k v e. absurd (cc e); opened = λ t some. absurd (some refl) }))
+  starts_are_noted fixed is = (
+    is.0,
+    (
+      is.1,
+      record {
+        held = λ j t b e. absurd (cc e);
+        counted = λ k v e. absurd (cc e);
+        opened = λ t some. absurd (some refl);
+        leaned = record { based = λ j n t b v e. absurd (cc e); seen = λ j n t b v e. absurd (cc e) };
+      },
+    ),
+  )
 
   pub rules_start : (fixed : Fixed) → Starts (NotedHolds defers fixed) fixed.roots
   rules_start fixed = starts_are_noted fixed (beginnings.rules_start T defers fixed)
@@ -193,10 +221,10 @@ module _ (T : Type 0) (defers : T → Option ℕ) where
       turns defers fixed id v (λ x. x ≡ u) did began own (λ x is. subst IsOwn (sym is) own2) (λ x is. subst (Stays v.guards v.knows) (sym is) stays) may
 
   pub settlings_are_noted : SettlingsAreNoted T defers
-  settlings_are_noted fixed id v way c did began to may s h at =
+  settlings_are_noted fixed id v way c did began to may s h at unlent =
       let g = may (as_known s) h.0 (seen_at defers fixed s id v at) in
       turns defers fixed id v (IsBegun way c) did began (settles_open fixed v.knows g.0 way c to g.5).0 (λ x is. (settles_open fixed v.knows x way c to is).1)
-      (λ x is. inl (settles_open fixed v.knows x way c to is).2) may s h at
+      (λ x is. inl (settles_open fixed v.knows x way c to is).2) may s h at unlent
 
   pub meetings_are_noted : MeetingsAreNoted T defers
   meetings_are_noted fixed i j b v u bears takes may s h at_i at_j ne =
@@ -217,6 +245,8 @@ module _ (T : Type 0) (defers : T → Option ℕ) where
           none = λ is. refl;
           one_seen = λ x c e some. absurd (own_not k.0 x c own2 e);
           other_seen = λ x c e some. absurd (own_not k.1 x c to.2 e);
+          one_upright = λ m leans. own_leans k.0 m own2 leans;
+          other_upright = λ m leans. own_leans k.1 m to.2 leans;
         }),
         (k.3, (refl, refl, refl), (refl, refl, refl)),
       )

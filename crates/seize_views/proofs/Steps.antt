@@ -20,7 +20,7 @@ use Rattle.seize_bounds.proofs.Given.SeizeAloneHistories.Uses.{uses_kept}
 use Rattle.seize_seats.specs.State.{State, view_of}
 use Rattle.seize_views.specs.Rows.{row_of, use_of, hand_of, used_for, IsSeeking, IsShort, IsUsed, RootsNameLinked, Fits, IsBounded, Holds}
 use Rattle.seize_views.specs.declared.view.View.{View}
-use Rattle.seize_views.specs.declared.view.View.TheVariants.{Rests, Registers, Outside, Owes, Enters, Inside, Settles, Leaves, Left, Frees, Brings, Bears, Watches, Busy}
+use Rattle.seize_views.specs.declared.view.View.TheVariants.{Rests, Registers, Outside, Owes, Enters, Inside, Settles, Leaves, Left, Frees, Brings, Bears, Watches, Under, Busy}
 use Rattle.seize_views.specs.declared.view.Why.TheVariants.{Retiring, Ending}
 use Rattle.seize_views.specs.declared.view.Fixed.{Fixed}
 use Rattle.seize_views.proofs.Came.{of_users, reached, came_then}
@@ -67,6 +67,7 @@ works_on_own (Frees s) short t e = (world.Changing, ap (λ (k : ℕ). Some (k, w
 works_on_own (Brings b x) short t e = absurd (omega (arith, e))
 works_on_own (Bears b) short t e = absurd (omega (arith, e))
 works_on_own (Watches s b) short t e = absurd (omega (arith, e))
+works_on_own (Under n s b) short t e = absurd (omega (arith, e))
 works_on_own (Busy s) short t e = absurd (omega (arith, e))
 
 module _ {T : Type 0} where

@@ -6,7 +6,7 @@ use Rattle.seize.specs.World.{World, Use}
 use Rattle.seize_views.specs.Rows.{row_of, had_in}
 use Rattle.seize_views.specs.Promises.{IsNext, IsFree}
 use Rattle.seize_views.specs.declared.view.View.{View}
-use Rattle.seize_views.specs.declared.view.View.TheVariants.{Rests, Registers, Outside, Owes, Enters, Inside, Settles, Leaves, Left, Frees, Brings, Bears, Watches, Busy}
+use Rattle.seize_views.specs.declared.view.View.TheVariants.{Rests, Registers, Outside, Owes, Enters, Inside, Settles, Leaves, Left, Frees, Brings, Bears, Watches, Under, Busy}
 use Rattle.seize_views.specs.declared.view.Has.{Has}
 use Rattle.seize_views.specs.declared.view.Has.TheVariants.{Nothing, Made, Seen, Both, Cut}
 use Rattle.seize_views.specs.declared.view.Why.TheVariants.{Retiring, Ending}
@@ -64,4 +64,5 @@ module _ {T : Type 0} (defers : T → Option ℕ) (fixed : Fixed) (Is : Use → 
   turning (Brings b x) u is = absurd is
   turning (Bears b) u is = absurd is
   turning (Watches t b) u is = absurd is
+  turning (Under n t b) u is = absurd is
   turning (Busy t) u is = absurd is

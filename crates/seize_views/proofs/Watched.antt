@@ -8,14 +8,15 @@ use Rattle.seize.specs.World as world
 use Rattle.seize_bounds.proofs.Given.SeizeActsAnswers.{same_some}
 use Rattle.seize_seats.specs.State.{State, view_of}
 use Rattle.seize_views.specs.Rows.{Holds, HeldStay, IsUsed, use_of}
-use Rattle.seize_views.specs.Watched.{one, open_at, is_watching, IsOwn, watchers, watching, Stays, AreWatched}
+use Rattle.seize_views.specs.Watched.{one, open_at, is_watching, LeansOn, IsOwn, watchers, watching, Stays, IsBase, Upholds, AreLeaned, AreWatched}
 use Rattle.seize_views.specs.declared.view.Noted.{Noted}
 use Rattle.seize_views.specs.declared.view.View.{View}
-use Rattle.seize_views.specs.declared.view.View.TheVariants.{Rests, Registers, Outside, Owes, Enters, Inside, Settles, Leaves, Left, Frees, Brings, Bears, Watches, Busy}
+use Rattle.seize_views.specs.declared.view.View.TheVariants.{Rests, Registers, Outside, Owes, Enters, Inside, Settles, Leaves, Left, Frees, Brings, Bears, Watches, Under, Busy}
 use Rattle.seize_views.specs.declared.view.Why.TheVariants.{Retiring, Ending}
 use Rattle.seize_views.specs.declared.view.Becomes.TheVariants.{Idle, Active}
 use Rattle.seize_views.specs.declared.view.Fixed.{Fixed}
 use Rattle.seize_views.proofs.Lists.{there, elsewhere, with_last, with_more}
+use Rattle.seize_views.proofs.Leaned.{steps_leaned, joins_leaned}
 
 -- ---- how many there are
 module _ {T : Type 0} (t : ℕ) where
@@ -54,6 +55,7 @@ module _ {T : Type 0} where
   open_used (Brings b x) t e = absurd (cc e)
   open_used (Bears b) t e = absurd (cc e)
   open_used (Watches u b) t e = absurd (cc e)
+  open_used (Under n u b) t e = absurd (cc e)
   open_used (Busy None) t e = absurd (cc e)
   open_used (Busy (Some u)) t e = (world.Inside 0, ap (λ (k : ℕ). Some (k, world.Inside 0)) (same_some u t e))
 
@@ -75,6 +77,7 @@ module _ {T : Type 0} where
   open_inside w (Brings b x) t e is = absurd (cc e)
   open_inside w (Bears b) t e is = absurd (cc e)
   open_inside w (Watches u b) t e is = absurd (cc e)
+  open_inside w (Under n u b) t e is = absurd (cc e)
   open_inside w (Busy None) t e is = absurd (cc e)
   open_inside w (Busy (Some u)) t e is = subst (λ (k : ℕ). IsInside (w.uses k)) (same_some u t e) (subst (λ (a : Use). IsInside a) (sym is) tt)
 
@@ -93,6 +96,7 @@ own_watches (Frees u) t own = refl
 own_watches (Brings b x) t own = refl
 own_watches (Bears b) t own = refl
 own_watches (Watches u b) t own = absurd own
+own_watches (Under n u b) t own = absurd own
 own_watches (Busy u) t own = refl
 
 pub own_not : {T : Type 0} (x : View T) (t b : ℕ) → IsOwn x → x ≡ Watches t b → ⊥
@@ -113,7 +117,9 @@ module _ {T : Type 0} (defers : T → Option ℕ) (fixed : Fixed) (seats : List 
       → use_of x ≡ Some (t, a) → use_of y ≡ Some (t, b) → j ≡ k)
       (known : (k : ℕ) (x : Noted T) → slice_get seats k ≡ Some x → view_of s k ≡ Some x.knows)
       (guards : u.guards ≡ v.guards) (same : (t : ℕ) → is_watching t u.knows ≡ is_watching t v.knows)
-      (mine : (t b : ℕ) → u.knows ≡ Watches t b → b ≢ 0 → holds t b n.log ≡ true) (stays : Stays v.guards v.knows u.knows) where
+      (mine : (t b : ℕ) → u.knows ≡ Watches t b → b ≢ 0 → holds t b n.log ≡ true) (stays : Stays v.guards v.knows u.knows)
+      (under : (m t b : ℕ) → u.knows ≡ Under m t b → (m ≢ id) × IsBase seats m t × (b ≢ 0 → holds t b n.log ≡ true))
+      (upholds : Upholds seats id v.knows u.knows) where
     abbrev seats2 : List (Noted T)
     seats2 = slice_set seats id u
 
@@ -160,6 +166,8 @@ module _ {T : Type 0} (defers : T → Option ℕ) (fixed : Fixed) (seats : List 
       held = λ j t b e some. held j t b e some (cases_eq j id);
       counted = λ k x e. counted k x e (cases_eq k id);
       opened = λ t some. opened t (aw.opened t (λ z. some (many (Some t) ∙ z))) some;
+      leaned = steps_leaned seats s.world.log n.log aw.leaned (λ m t b base held. stay t b (open_inside s.world base.0.knows t base.2 (h.seats m base.0.knows (known m base.0 base.1)).slot) held)
+          id v u at under upholds;
     }
       where
         held : (j t b : ℕ) → slice_get views2 j ≡ Some (Watches t b) → b ≢ 0 → (j ≡ id) ⊎ (j ≢ id) → holds t b n.log ≡ true
@@ -200,6 +208,7 @@ module _ {T : Type 0} (defers : T → Option ℕ) (fixed : Fixed) (seats : List 
     held = λ j t b e some. held j t b some (with_last s.views j x.knows (Watches t b) e);
     counted = λ k y e. counted k y (with_last seats k x y e);
     opened = λ t some. let k = aw.opened t (λ z. some (more (Some t) ∙ z)) in (k.0, k.1, with_more s.views k.0 x.knows k.1 k.2, k.3);
+    leaned = joins_leaned seats s.world.log log aw.leaned (λ m t b base held. stay t b held) x own;
   }
     where
       more : (o : Option ℕ) → watching (s.views ++ x.knows ∷ []) o ≡ watching s.views o
@@ -232,6 +241,8 @@ module _ {T : Type 0} (defers : T → Option ℕ) (fixed : Fixed) (seats : List 
       pub none : open_at u.knows ≡ None → q.guards ≡ u.guards
       pub one_seen : (x b : ℕ) → p.knows ≡ Watches x b → b ≢ 0 → v.knows ≡ Watches x b
       pub other_seen : (x b : ℕ) → q.knows ≡ Watches x b → b ≢ 0 → u.knows ≡ Watches x b
+      pub one_upright : (m : ℕ) → LeansOn p.knows m → ⊥
+      pub other_upright : (m : ℕ) → LeansOn q.knows m → ⊥
 
     module _ (c : Counted) where
       abbrev mid : List (View T)
@@ -300,8 +311,18 @@ module _ {T : Type 0} (defers : T → Option ℕ) (fixed : Fixed) (seats : List 
           by (inr ne) (inr ne2) = AtThird ne2 ne (sym (elsewhere s.views i k p.knows ne2) ∙ sym (elsewhere mid j k q.knows ne) ∙ e)
 
       pub meets_watched : AreWatched seats3 views3 s.world.log
-      meets_watched = record { held = λ k t b e some. held k t b some (then_at k (Watches t b) e); counted = counted; opened = opened }
+      meets_watched = record { held = λ k t b e some. held k t b some (then_at k (Watches t b) e); counted = counted; opened = opened; leaned = leaned }
         where
+          upright : (x : View T) → ((m : ℕ) → LeansOn x m → ⊥) → (m t b : ℕ) → x ≡ Under m t b → ⊥
+          upright x none m t b e = none m (subst (λ (y : View T). LeansOn y m) (sym e) (λ k. m))
+
+          leaned : AreLeaned seats3 s.world.log
+          leaned =
+              let first = steps_leaned seats s.world.log s.world.log aw.leaned (λ m t b base held. held) i v p at_i
+              (λ m t b e. absurd (upright p.knows c.one_upright m t b e)) (inl c.one_open) in
+              steps_leaned (slice_set seats i p) s.world.log s.world.log first (λ m t b base held. held) j u q (elsewhere seats i j p (λ z. apart (sym z)) ∙ at_j)
+              (λ m t b e. absurd (upright q.knows c.other_upright m t b e)) (inl c.other_open)
+
           held : (k t b : ℕ) → b ≢ 0 → Then k (Watches t b) → holds t b s.world.log ≡ true
           held k t b some (AtOne is e) = aw.held i t b (view_i ∙ ap Some (c.one_seen t b e some)) some
           held k t b some (AtOther is e) = aw.held j t b (view_j ∙ ap Some (c.other_seen t b e some)) some

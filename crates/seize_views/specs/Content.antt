@@ -3,12 +3,13 @@ use Rattle.std.specs.Prelude.{◌≡◌, ℕ, Option, Some}
 use Rattle.seize_words.specs.Op.{Op, Out}
 use Rattle.seize.specs.declared.rows.settle.Settle.{Settle}
 use Rattle.seize_seats.specs.Lendings.{Shown, IsValueOf}
-use Rattle.seize_seats.specs.State.{State, Comes, Allows, Turns}
+use Rattle.seize_seats.specs.State.{State, Comes, Allows}
+use Rattle.seize_seats.specs.Errands.{TurnsUnlent}
 use Rattle.seize_views.specs.Begun.{IsBegun}
 use Rattle.seize_views.specs.Notes.{newcomer, noted_told}
 use Rattle.seize_views.specs.Promises.{op_of, IsNext, IsToSettle}
 use Rattle.seize_views.specs.Rows.{IsAtRest}
-use Rattle.seize_views.specs.Watched.{Stays}
+use Rattle.seize_views.specs.Watched.{IsOfRows, Stays}
 use Rattle.seize_views.specs.declared.view.Began.{Began}
 use Rattle.seize_views.specs.declared.view.Becomes.{Becomes}
 use Rattle.seize_views.specs.declared.view.Fixed.{Fixed}
@@ -38,16 +39,17 @@ module _ {T V W B : Type 0} (holds : Fixed → State T V W → Type 0) (keeps : 
   abbrev pub RowsGoOnIn : (T → Option ℕ) → (V → Op T → Out T → V → Type 0) → Type 0
   RowsGoOnIn defers then = (fixed : Fixed) (id : ℕ) (v : V) (op : Op T) → op_of defers (notes v).knows ≡ Some op → Allows (holds fixed) keeps id v op (then v op)
 
-  -- and rows begin and end
-  abbrev pub RowsTurnIn : Type 0
-  RowsTurnIn =
-      (fixed : Fixed) (id : ℕ) (v : V) (u : Noted T) → MayTurn fixed (notes v) u → Turns (holds fixed) keeps id v (λ w. (notes w ≡ u) × (beside w ≡ beside v))
+  -- and rows begin and end, where nobody leans on the seat
+  abbrev pub RowsTurnIn : (V → ℕ → Type 0) → Type 0
+  RowsTurnIn leans =
+      (fixed : Fixed) (id : ℕ) (v : V) (u : Noted T) → MayTurn fixed (notes v) u
+      → TurnsUnlent (holds fixed) keeps leans id v (λ w. (notes w ≡ u) × (beside w ≡ beside v))
 
   -- a settling begins, with as many steps left as it takes at most
-  abbrev pub SettlingsBeginIn : Type 0
-  SettlingsBeginIn =
+  abbrev pub SettlingsBeginIn : (V → ℕ → Type 0) → Type 0
+  SettlingsBeginIn leans =
       (fixed : Fixed) (id : ℕ) (v : V) (way : Becomes) (c : Settle) (began : Began) → IsToSettle fixed (notes v).knows way c
-      → Turns (holds fixed) keeps id v (Turned notes beside (λ _ _ u. IsBegun way c u) (λ _. began) fixed v)
+      → TurnsUnlent (holds fixed) keeps leans id v (Turned notes beside (λ _ _ u. IsBegun way c u) (λ _. began) fixed v)
 
   -- and the block that it is to look at is there, with the value that was told
   abbrev pub LookedAreShownIn : Type 0
@@ -61,6 +63,10 @@ module _ {T V B : Type 0} (notes : V → Noted T) (beside : V → B) where
   RowsAreTold defers then =
       (v w : V) (op : Op T) (out : Out T) → op_of defers (notes v).knows ≡ Some op → then v op out w
       → noted_told defers (notes v) op out (notes w) × (beside w ≡ beside v)
+
+-- who has nothing but a row under way leans on whom it does by what it knows beside its notes
+abbrev pub LeansBeside : {T V B : Type 0} → (V → ℕ → Type 0) → (V → Noted T) → (V → B) → Type 0
+LeansBeside {T} {V} leans notes beside = (v w : V) (n : ℕ) → IsOfRows (notes w).knows → beside w ≡ beside v → leans w n → leans v n
 
 -- who has nothing under way by its notes is in the midst of nothing
 abbrev pub RestWithNothing : {T V : Type 0} → (V → Type 0) → (V → Noted T) → Type 0

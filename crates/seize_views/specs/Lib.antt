@@ -6,3 +6,4 @@ pub mod Watched
 pub mod Notes
 pub mod Content
 pub mod Resting
+pub mod Stays

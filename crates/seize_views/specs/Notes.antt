@@ -4,22 +4,24 @@ use Rattle.seize_words.specs.Word.{block_in}
 use Rattle.seize_words.specs.Op.{Op, Out, Load, Swap, Or, Exchange, Found, Exchanged}
 use Rattle.seize_words.specs.declared.at.At.TheVariants.{Root}
 use Rattle.seize.specs.declared.rows.settle.Settle.{Settle}
+use Rattle.seize.specs.Law.{holds}
 use Rattle.seize.specs.World.{World}
-use Rattle.seize_seats.specs.State.{State, Starts, Comes, Allows, Turns, Meets}
+use Rattle.seize_seats.specs.Errands.{TurnsUnlent}
+use Rattle.seize_seats.specs.State.{State, Starts, Comes, Allows, Turns, Learns, Meets, ShowsKept, AreThere}
 use Rattle.seize_seats.specs.Lendings.{Shown, IsValueOf}
 use Rattle.seize_views.specs.Rows.{TurnsTo, Permits}
 use Rattle.seize_views.specs.Begun.{IsBegun, Hands}
-use Rattle.seize_views.specs.Rows.{Holds, Keeps}
+use Rattle.seize_views.specs.Rows.{Holds}
 use Rattle.seize_views.specs.Told.{told}
 use Rattle.seize_views.specs.Promises.{IsToSettle, IsTaker}
-use Rattle.seize_views.specs.Watched.{open_at, IsOwn, Stays, known_by, AreGuarded}
+use Rattle.seize_views.specs.Watched.{open_at, Leans, IsOwn, Stays, known_by, AreGuarded}
 use Rattle.seize_views.specs.declared.view.Noted.{Noted}
 use Rattle.seize_views.specs.declared.view.Deed.{Deed}
 use Rattle.seize_views.specs.declared.view.Deed.TheVariants.{NoneYet, Looked, Wrote, Marked}
 use Rattle.seize_views.specs.declared.view.Began.{Began}
 use Rattle.seize_views.specs.declared.view.Began.TheVariants.{NotYet}
 use Rattle.seize_views.specs.declared.view.View.{View}
-use Rattle.seize_views.specs.declared.view.View.TheVariants.{Rests, Outside, Inside, Brings, Bears, Watches}
+use Rattle.seize_views.specs.declared.view.View.TheVariants.{Rests, Outside, Inside, Brings, Bears, Watches, Under}
 use Rattle.seize_views.specs.declared.view.Has.{Has}
 use Rattle.seize_views.specs.declared.view.Has.TheVariants.{Made, Both}
 use Rattle.seize_views.specs.declared.view.Becomes.{Becomes}
@@ -61,6 +63,7 @@ module _ {T : Type 0} where
   deed (Inside t has) did op out = deed_at (made_in has) did op out
   deed (Brings b x) did op out = deed_at (Some x) did op out
   deed (Watches t b) did op out = deed_at None did op out
+  deed (Under n t b) did op out = deed_at None did op out
   deed v did op out = did
 
   -- it has looked at a root, or had a word there compared: where, and which block that named, 0 for none
@@ -95,8 +98,17 @@ module _ {T : Type 0} where
   abbrev pub Ends : Noted T → Noted T → Noted T → Noted T → Type 0
   Ends v u p q = (p.knows ≡ Rests) × (p.guards ≡ v.guards) × (q.knows ≡ u.knows) × (q.did ≡ u.did) × (q.began ≡ u.began) × (q.guards + 1 ≡ u.guards)
 
+  -- the section that a seat has open holds the block
   abbrev pub NotedKeeps : Noted T → Noted T → World T → ℕ → Type 0
-  NotedKeeps u o w b = Keeps u.knows o.knows w b
+  NotedKeeps u o w b = (t : ℕ) × (open_at u.knows ≡ Some t) × (holds t b w.log ≡ true)
+
+  -- a seat leans on the one of this number, which has a section open
+  abbrev pub BeginsUnder : Noted T → ℕ → Noted T → Noted T → Type 0
+  BeginsUnder v n u w = (t : ℕ) → open_at u.knows ≡ Some t → (w.knows ≡ Under n t 0) × SameNotes v w
+
+  -- or knows nothing any more
+  abbrev pub ComesBack : Noted T → Noted T → Type 0
+  ComesBack v w = (w.knows ≡ Rests) × SameNotes v w
 
 module _ {T : Type 0} (defers : T → Option ℕ) where
   abbrev pub NotedHolds : Fixed → State T (Noted T) (World T) → Type 0
@@ -118,18 +130,18 @@ module _ (T : Type 0) (defers : T → Option ℕ) where
       (fixed : Fixed) (id : ℕ) (v : Noted T) (op : Op T) → IsOwn v.knows → Permits defers fixed id v.knows op (told defers v.knows op)
       → Allows (NotedHolds defers fixed) NotedKeeps id v op (noted_told defers v op)
 
-  -- a turn that ends no section which is watched may note anything
+  -- a turn that ends no section which is watched may note anything, where nobody leans on the seat
   abbrev pub TurnsAreNoted : Type 0
   TurnsAreNoted =
       (fixed : Fixed) (id : ℕ) (v : Noted T) (u : View T) (did : Deed T) (began : Began) → IsOwn v.knows → IsOwn u → Stays v.guards v.knows u
       → TurnsTo defers fixed id v.knows (λ x. x ≡ u)
-      → Turns (NotedHolds defers fixed) NotedKeeps id v (λ x. (x.knows ≡ u) × (x.did ≡ did) × (x.began ≡ began) × (x.guards ≡ v.guards))
+      → TurnsUnlent (NotedHolds defers fixed) NotedKeeps Leans id v (λ x. (x.knows ≡ u) × (x.did ≡ did) × (x.began ≡ began) × (x.guards ≡ v.guards))
 
   abbrev pub SettlingsAreNoted : Type 0
   SettlingsAreNoted =
       (fixed : Fixed) (id : ℕ) (v : Noted T) (way : Becomes) (c : Settle) (did : Deed T) (began : Began) → IsToSettle fixed v.knows way c
       → TurnsTo defers fixed id v.knows (IsBegun way c)
-      → Turns (NotedHolds defers fixed) NotedKeeps id v (λ x. IsBegun way c x.knows × (x.did ≡ did) × (x.began ≡ began) × (x.guards ≡ v.guards))
+      → TurnsUnlent (NotedHolds defers fixed) NotedKeeps Leans id v (λ x. IsBegun way c x.knows × (x.did ≡ did) × (x.began ≡ began) × (x.guards ≡ v.guards))
 
   -- and so may a meeting
   abbrev pub MeetingsAreNoted : Type 0
@@ -162,3 +174,28 @@ module _ (T : Type 0) (defers : T → Option ℕ) where
 
   abbrev pub WatchedAreShown : Type 0
   WatchedAreShown = (fixed : Fixed) (id t b : ℕ) (v : Noted T) → v.knows ≡ Watches t b → b ≢ 0 → Shown (NotedHolds defers fixed) id v b
+
+  -- A seat may come to lean on one that has a section open,
+  abbrev pub LeaningsBegin : Type 0
+  LeaningsBegin =
+      (fixed : Fixed) (i j t : ℕ) (v u : Noted T) → v.knows ≡ Rests → open_at u.knows ≡ Some t
+      → Learns (NotedHolds defers fixed) NotedKeeps i v j u (BeginsUnder v j u)
+
+  -- look at a root then,
+  abbrev pub LeaningsSee : Type 0
+  LeaningsSee =
+      (fixed : Fixed) (id n t b r : ℕ) (v : Noted T) → v.knows ≡ Under n t b → r < fixed.roots
+      → Allows (NotedHolds defers fixed) NotedKeeps id v (Load (Root r)) (noted_told defers v (Load (Root r)))
+
+  -- and rest again; what it has seen that one keeps
+  abbrev pub LeaningsEnd : Type 0
+  LeaningsEnd =
+      (fixed : Fixed) (id n t b : ℕ) (v : Noted T) → v.knows ≡ Under n t b
+      → Turns (NotedHolds defers fixed) NotedKeeps id v (ComesBack v)
+
+  abbrev pub LeaningsKeep : Type 0
+  LeaningsKeep =
+      (fixed : Fixed) (i n t b : ℕ) (v u : Noted T) → v.knows ≡ Under n t b → b ≢ 0 → ShowsKept (NotedHolds defers fixed) NotedKeeps i v n u n u b
+
+  abbrev pub KeptAreThere : Type 0
+  KeptAreThere = (fixed : Fixed) → AreThere (NotedHolds defers fixed) NotedKeeps

@@ -22,7 +22,7 @@ use Rattle.seize_bounds.specs.Bounds.{SettlesWithin, TriesWithin}
 use Rattle.seize_views.specs.declared.view.View.{View}
 use Rattle.seize_views.specs.declared.view.Becomes.{Becomes}
 use Rattle.seize_views.specs.declared.view.Becomes.TheVariants.{Idle, Active}
-use Rattle.seize_views.specs.declared.view.View.TheVariants.{Rests, Registers, Outside, Owes, Enters, Inside, Settles, Leaves, Left, Frees, Brings, Bears, Watches, Busy}
+use Rattle.seize_views.specs.declared.view.View.TheVariants.{Rests, Registers, Outside, Owes, Enters, Inside, Settles, Leaves, Left, Frees, Brings, Bears, Watches, Under, Busy}
 use Rattle.seize_views.specs.declared.view.Has.{Has}
 use Rattle.seize_views.specs.declared.view.Has.TheVariants.{Nothing, Made, Seen, Both, Cut}
 use Rattle.seize_views.specs.declared.view.Why.{Why}
@@ -67,6 +67,7 @@ row_of (Frees t) = world.Frees record { slot = t }
 row_of (Brings b x) = world.Rests
 row_of (Bears b) = world.Rests
 row_of (Watches t b) = world.Rests
+row_of (Under n t b) = world.Rests
 row_of (Busy t) = world.Rests
 
 -- it has nothing under way: no row, and nothing beside rows
@@ -77,6 +78,7 @@ IsAtRest (Settles c why seen left) = ⊥
 IsAtRest (Leaves t size way) = ⊥
 IsAtRest (Left t size way) = ⊥
 IsAtRest (Frees t) = ⊥
+IsAtRest (Under n t b) = ⊥
 IsAtRest (Busy t) = ⊥
 IsAtRest _ = Unit {0}
 
@@ -95,6 +97,7 @@ use_of (Frees t) = Some (t, world.Changing)
 use_of (Brings b x) = None
 use_of (Bears b) = None
 use_of (Watches t b) = None
+use_of (Under n t b) = None
 use_of (Busy None) = None
 use_of (Busy (Some t)) = Some (t, world.Inside 0)
 
@@ -134,6 +137,7 @@ IsPlain (Owes t b) = ⊥
 IsPlain (Brings b x) = ⊥
 IsPlain (Bears b) = ⊥
 IsPlain (Watches t b) = ⊥
+IsPlain (Under n t b) = ⊥
 IsPlain (Busy t) = ⊥
 IsPlain _ = Unit {0}
 

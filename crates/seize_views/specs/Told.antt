@@ -17,7 +17,7 @@ use Rattle.seize_straight.specs.Going.{DropGoes}
 use Rattle.seize_views.specs.Rows.{IsShort}
 use Rattle.seize_views.specs.declared.view.View.{View}
 use Rattle.seize_views.specs.declared.view.Becomes.{Becomes}
-use Rattle.seize_views.specs.declared.view.View.TheVariants.{Rests, Registers, Outside, Owes, Enters, Inside, Settles, Leaves, Left, Frees, Brings, Bears, Watches}
+use Rattle.seize_views.specs.declared.view.View.TheVariants.{Rests, Registers, Outside, Owes, Enters, Inside, Settles, Leaves, Left, Frees, Brings, Bears, Watches, Under}
 use Rattle.seize_views.specs.declared.view.Has.{Has}
 use Rattle.seize_views.specs.declared.view.Has.TheVariants.{Nothing, Made, Seen, Both, Cut}
 use Rattle.seize_views.specs.declared.view.Why.{Why}
@@ -122,4 +122,5 @@ module _ {T : Type 0} (defers : T → Option ℕ) where
   told (Leaves t size way) op (Found head) w = (left : ℕ) × (w ≡ list_taken t size way head left)
   told (Frees t) op out w = w ≡ Rests
   told (Watches t b) (Load (Root r)) (Found word) w = w ≡ Watches t (block_in word)
+  told (Under n t b) (Load (Root r)) (Found word) w = w ≡ Under n t (block_in word)
   told _ op out w = ⊥

@@ -4,6 +4,7 @@ ghost use Rattle.seize_views.specs.Promises.{BlocksAreMade, MadeAreTaken, MadeAr
 ghost use Rattle.seize_views.specs.Promises.{RootsAreSeen, RootsAreMarked, RootsAreCleared, RootsAreWithdrawn};
 ghost use Rattle.seize_views.specs.Notes.{StartsAreNoted, ComingsAreNoted, StepsAreNoted, TurnsAreNoted, SettlingsAreNoted, MeetingsAreNoted, LooksAreNoted};
 ghost use Rattle.seize_views.specs.Notes.{WatchesBegin, WatchesEnd, WatchersSee, WatchedAreShown};
+ghost use Rattle.seize_views.specs.Notes.{LeaningsBegin, LeaningsSee, LeaningsEnd, LeaningsKeep, KeptAreThere};
 ghost use Rattle.seize_views.specs.Promises.{OwnAreMade, OwnAreTaken, OwnAreLinked, OwnAreExchanged, OwnAreShown, BorneAreShown, BorneAreHandedOn};
 
 use seize::rows::Defers;
@@ -62,4 +63,14 @@ pub fn sections_are_watched<T: Defers>()
     ensures end { WatchesEnd T T.defers }
     ensures see { WatchersSee T T.defers }
     ensures shown { WatchedAreShown T T.defers }
+{}
+
+/// A seat may begin to lean on one that has a section open, and is lent for that, look at roots, and end; what it has seen that one keeps, and what is kept is
+/// there.
+pub fn sections_are_leaned_on<T: Defers>()
+    ensures begin { LeaningsBegin T T.defers }
+    ensures see { LeaningsSee T T.defers }
+    ensures end { LeaningsEnd T T.defers }
+    ensures keep { LeaningsKeep T T.defers }
+    ensures there { KeptAreThere T T.defers }
 {}

@@ -10,7 +10,8 @@ impl<T: Defers> Rule<T> for OfRows {
     ghost use Rattle.seize.specs.World.{World};
     ghost use Rattle.seize_views.specs.Notes.{NotedHolds, NotedKeeps, noted_told, newcomer};
     ghost use Rattle.seize_views.specs.Rows.{IsAtRest};
-    ghost use Rattle.seize_views.specs.Resting.{resting_stay};
+    ghost use Rattle.seize_views.specs.Resting.{resting_stay, upright, leaning_stay};
+    ghost use Rattle.seize_views.specs.Watched.{Leans};
 
     type View = Noted<T>;
 
@@ -31,4 +32,10 @@ impl<T: Defers> Rule<T> for OfRows {
     ghost newcomers_rest = { λ _. tt };
 
     ghost resting_stay = { resting_stay T.defers };
+
+    ghost leans = { Leans };
+
+    ghost upright = { upright };
+
+    ghost leaning_stay = { leaning_stay T.defers };
 }

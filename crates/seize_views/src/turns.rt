@@ -2,7 +2,7 @@
 use crate::content::Content;
 use crate::view::{Fixed, Noted};
 use seize::rows::Defers;
-use seize_blocks::{Meeting, Turn};
+use seize_blocks::{Lesson, Meeting, Turn};
 use std::marker::PhantomData;
 
 /// Registering begins.
@@ -40,6 +40,12 @@ pub struct Watching;
 
 /// It watches it no longer.
 pub struct Ceasing;
+
+/// A seat begins to lean on one that has a section open, and is lent for that.
+pub struct Leaning;
+
+/// It leans on it no longer.
+pub struct Returning;
 
 impl<T: Defers, C: Content<T>> Turn<Fixed, C::View> for Registering<T, C> {
     ghost use Rattle.seize_views.specs.Begun.{registering, Makes};
@@ -129,4 +135,16 @@ impl<T> Meeting<Fixed, Noted<T>> for Ceasing {
     ghost use Rattle.seize_views.specs.Notes.{Ends};
 
     ghost to = { λ _. Ends };
+}
+
+impl<T> Lesson<Fixed, Noted<T>> for Leaning {
+    ghost use Rattle.seize_views.specs.Notes.{BeginsUnder};
+
+    ghost to = { λ _. BeginsUnder };
+}
+
+impl<T> Turn<Fixed, Noted<T>> for Returning {
+    ghost use Rattle.seize_views.specs.Notes.{ComesBack};
+
+    ghost to = { λ _. ComesBack };
 }

@@ -66,6 +66,8 @@ pub enum View<T> {
     Bears(u64),
     /// It holds no slot, and watches the open section of this one, where it has seen this block, 0 for none.
     Watches(u64, u64),
+    /// It holds no slot, and is on an errand that the seat of this number is lent to, whose section of this slot is open, where it has seen this block, 0 for none.
+    Under(u64, u64, u64),
     /// It has something under way that is no row: within the open section of this slot, or without a slot.
     Busy(Option<u64>),
 }

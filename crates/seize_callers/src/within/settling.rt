@@ -84,7 +84,7 @@ impl<'a, T: Defers + Drop, C: Content<T>> Within<'a, T, C> {
         C::goes_on();
         let mut row = row;
         self.settles(&mut row);
-        self.blocks.turn::<Ending<T, C>>(&mut *self.seat);
+        self.blocks.part::<Ending<T, C>>(&mut *self.seat);
     }
 
     /// Retires the block of this link, whose retirement has begun.
@@ -103,7 +103,7 @@ impl<'a, T: Defers + Drop, C: Content<T>> Within<'a, T, C> {
         let size = self.batch_size;
         let retired = retire(self, slot, size, link);
         match retired {
-            Retired::Ended => self.blocks.turn::<Ending<T, C>>(&mut *self.seat),
+            Retired::Ended => self.blocks.part::<Ending<T, C>>(&mut *self.seat),
             _ => self.ends(settle_of(slot, size, link, retired)),
         }
     }
@@ -144,7 +144,7 @@ impl<'a, T: Defers + Drop, C: Content<T>> Within<'a, T, C> {
         C::goes_on();
         let mut row = Settle::count_down(slot, self.batch_size, head);
         self.settles(&mut row);
-        self.blocks.turn::<Ending<T, C>>(&mut *self.seat);
+        self.blocks.part::<Ending<T, C>>(&mut *self.seat);
     }
 
     /// Ends the section: what its slot's list owes is settled. A value that is reclaimed is dropped.
@@ -158,10 +158,10 @@ impl<'a, T: Defers + Drop, C: Content<T>> Within<'a, T, C> {
         ensures guards { (C.notes self.new.seat.now.view).guards ≡ (C.notes self.old.seat.now.view).guards }
     {
         C::goes_on();
-        self.blocks.turn::<Leaving<T, C>>(&mut *self.seat);
+        self.blocks.part::<Leaving<T, C>>(&mut *self.seat);
         let head = self.swap(At::Slot(slot, HEAD), IDLE);
         self.counts_down(slot, head);
-        self.blocks.turn::<Ending<T, C>>(&mut *self.seat);
+        self.blocks.part::<Ending<T, C>>(&mut *self.seat);
     }
 
     /// Ends the section and begins the next one, by one step. What it has seen it doesn't know any more. A value that is reclaimed is dropped.
@@ -176,10 +176,10 @@ impl<'a, T: Defers + Drop, C: Content<T>> Within<'a, T, C> {
         ensures guards { (C.notes self.new.seat.now.view).guards ≡ (C.notes self.old.seat.now.view).guards }
     {
         C::goes_on();
-        self.blocks.turn::<Refreshing<T, C>>(&mut *self.seat);
+        self.blocks.part::<Refreshing<T, C>>(&mut *self.seat);
         let head = self.swap(At::Slot(slot, HEAD), ACTIVE);
         self.counts_down(slot, head);
-        self.blocks.turn::<Ending<T, C>>(&mut *self.seat);
+        self.blocks.part::<Ending<T, C>>(&mut *self.seat);
     }
 
     /// Tries its batch, whatever its length. A value that is reclaimed is dropped. What it has seen it doesn't know any more.
@@ -193,7 +193,7 @@ impl<'a, T: Defers + Drop, C: Content<T>> Within<'a, T, C> {
         ensures guards { (C.notes self.new.seat.now.view).guards ≡ (C.notes self.old.seat.now.view).guards }
     {
         C::goes_on();
-        self.blocks.turn::<Flushing<T, C>>(&mut *self.seat);
+        self.blocks.part::<Flushing<T, C>>(&mut *self.seat);
         self.ends(Settle::flush(slot, self.batch_size));
     }
 
@@ -208,7 +208,7 @@ impl<'a, T: Defers + Drop, C: Content<T>> Within<'a, T, C> {
         ensures guards { (C.notes self.new.seat.now.view).guards ≡ (C.notes self.old.seat.now.view).guards }
     {
         C::goes_on();
-        self.blocks.turn::<Flushing<T, C>>(&mut *self.seat);
+        self.blocks.part::<Flushing<T, C>>(&mut *self.seat);
         self.ends(Settle::flush(slot, self.batch_size));
     }
 
@@ -225,7 +225,7 @@ impl<'a, T: Defers + Drop, C: Content<T>> Within<'a, T, C> {
         ensures guards { (C.notes self.new.seat.now.view).guards ≡ (C.notes self.old.seat.now.view).guards }
     {
         C::goes_on();
-        self.blocks.turn::<Retiring<T, C>>(&mut *self.seat);
+        self.blocks.part::<Retiring<T, C>>(&mut *self.seat);
         self.retires(slot, Link::to(block));
     }
 
@@ -242,7 +242,7 @@ impl<'a, T: Defers + Drop, C: Content<T>> Within<'a, T, C> {
         ensures guards { (C.notes self.new.seat.now.view).guards ≡ (C.notes self.old.seat.now.view).guards }
     {
         C::goes_on();
-        self.blocks.turn::<Retiring<T, C>>(&mut *self.seat);
+        self.blocks.part::<Retiring<T, C>>(&mut *self.seat);
         self.retires(slot, Link::to(block));
     }
 }

@@ -15,7 +15,7 @@ use base.Share.{three_quarters}
 use Rattle.seize_seats.specs.State.{State, view_of}
 use Rattle.seize_seats.specs.State as State
 use Rattle.seize_seats.specs.Lines.{AreLaid}
-use Rattle.seize_seats.specs.Errands.{Away, Sight, stake}
+use Rattle.seize_seats.specs.Errands.{Away, Aided, Sight, aide_stake, stake}
 use Rattle.seize_seats.specs.Owned.{Pieces, BaseId, age, sitting, Inside, state_of, standing, inner, words_share}
 use Rattle.seize_seats.proofs.Views.Sitters as Sitters
 use Rattle.seize_seats.proofs.Stepping.Moves as Moves
@@ -48,7 +48,7 @@ module _ {M : Type 1} {𝓤 : Ura M} (𝓛 : Logic 𝓤) (R : RattleType) (own :
   seat = Moves.seat 𝓛 R own cv holds keeps p z id
 
   abbrev Of : V → Fml
-  Of v = stake α (cv.away v)
+  Of v = stake α z.views_name (cv.away v)
 
   abbrev Shared : Lft → Fml
   Shared = words_share R own cv holds p z
@@ -85,30 +85,35 @@ module _ {M : Type 1} {𝓤 : Ura M} (𝓛 : Logic 𝓤) (R : RattleType) (own :
   pledge κ q s = fsep (fobor κ q (flft α s)) (flft α (Share.left s))
 
   module _ (κ : Lft) (q : Share) where
-    module _ (v : V) (out : Share → V) (is : (r : Share) → cv.away (out r) ≡ Some r) (law : (r : Share) → MayBe v (out r)) where
+    -- it is on no errand, and goes on one for which this seat is lent, or none
+    module _ (v : V) (home : cv.away v ≡ None) (a : Aided) (out : Share → V) (is : (r : Share) → cv.away (out r) ≡ Some record { part = r; aided = a })
+        (law : (r : Share) → MayBe v (out r)) where
       abbrev pub Sent : Share → Pr
       Sent s = ⟦ seat (out (Share.right s)) ⟧ ∗ ⟦ pledge κ q s ⟧
 
       -- A SEAT GOES ON AN ERRAND
-      pub goes : ⟦ Shared κ ⟧ ∗ A.lft κ q ∗ ⟦ seat v ⟧ ⊢ H.⇛ (ex 𝓤 Sent)
-      goes = qed 𝓛 (‵ (Shared κ) ∷ ‵ (flft κ q) ∷ ‵ (seat v) ∷ []) ∵ updating ! $ fsplit ! $ move ! (1 ∷ []) $ fsplit ! $ drop ! $
+      pub goes : ⟦ Shared κ ⟧ ∗ A.lft κ q ∗ ⟦ seat v ⟧ ∗ ⟦ aide_stake z.views_name a ⟧ ⊢ H.⇛ (ex 𝓤 Sent)
+      goes = qed 𝓛 (‵ (Shared κ) ∷ ‵ (flft κ q) ∷ ‵ (seat v) ∷ ‵ (aide_stake z.views_name a) ∷ []) ∵ updating ! $ fsplit ! $ move ! (1 ∷ []) $ fsplit ! $ drop ! $
           -- [the invariant; its lifetime lasts; the token; the seat]
           move ! (1 ∷ 2 ∷ []) $ shr_bor-open ! tt (tokens_halve 𝓛 α) (λ s. let l : Share = Share.left s in let r : Share = Share.right s in let u : V = out r in
           move ! (1 ∷ []) $ use1 𝓛 (‵ (flft α l) ⊛ ‵ (flft α r)) (𝓛.lfts.lft_split α s) $ split ! $
-          -- [the one half; the other; what is open; the invariant; the seat]
-          rewrite ! 1 (λ (e : Away). ‵ (stake α e)) (sym (is r)) refl $ move ! (4 ∷ 1 ∷ []) $ join ! $ move ! (3 ∷ 1 ∷ 0 ∷ []) $
+          -- [the one half; the other; what is open; the invariant; the seat; the aide's]
+          move ! (1 ∷ 5 ∷ []) $ fjoin ! $ move ! (1 ∷ 0 ∷ []) $
+          rewrite ! 1 (λ (e : Away). ‵ (stake α z.views_name e)) (sym (is r)) refl $ move ! (4 ∷ 1 ∷ []) $ join ! $ move ! (3 ∷ 1 ∷ 0 ∷ []) $
           use3 𝓛 (later ((‵ (seat u) ⊛ ‵ (Of v)) ⊛ ‵ (flft α l))) (changed v u (law r) l) $ await ! tt $ split ! $ split ! $
           -- [the seat; nothing; the one half; what is open]
           move ! (1 ∷ []) $ drop ! $ move ! (2 ∷ 1 ∷ []) $ fjoin ! $ now ! $ show ! Sent s $ move ! (1 ∷ 0 ∷ []) $ done !)
 
-    module _ (s : Share) (w u : V) (is : cv.away w ≡ Some (Share.right s)) (home : cv.away u ≡ None) (law : MayBe w u) where
+    module _ (s : Share) (a : Aided) (w u : V) (is : cv.away w ≡ Some record { part = Share.right s; aided = a }) (home : cv.away u ≡ None) (law : MayBe w u) where
       -- AND COMES BACK
-      pub returns : ⟦ Shared κ ⟧ ∗ ⟦ pledge κ q s ⟧ ∗ ⟦ seat w ⟧ ⊢ H.⇛ (⟦ seat u ⟧ ∗ A.lft κ q)
+      pub returns : ⟦ Shared κ ⟧ ∗ ⟦ pledge κ q s ⟧ ∗ ⟦ seat w ⟧ ⊢ H.⇛ (⟦ seat u ⟧ ∗ A.lft κ q ∗ ⟦ aide_stake z.views_name a ⟧)
       returns = let l : Share = Share.left s in let r : Share = Share.right s in
           qed 𝓛 (‵ (Shared κ) ∷ ‵ (pledge κ q s) ∷ ‵ (seat w) ∷ []) ∵ updating ! $ fsplit ! $ drop ! $ fsplit ! $ drop ! $ move ! (1 ∷ []) $ fsplit ! $
           -- [what is open; the one half; the invariant; the seat]
-          nothing ! $ rewrite ! 0 (λ (e : Away). ‵ (stake α e)) (sym home) refl $ move ! (4 ∷ 0 ∷ []) $ join ! $ move ! (3 ∷ 2 ∷ 0 ∷ []) $
+          nothing ! $ rewrite ! 0 (λ (e : Away). ‵ (stake α z.views_name e)) (sym home) refl $ move ! (4 ∷ 0 ∷ []) $ join ! $ move ! (3 ∷ 2 ∷ 0 ∷ []) $
           use3 𝓛 (later ((‵ (seat u) ⊛ ‵ (Of w)) ⊛ ‵ (flft α l))) (changed w u law l) $ await ! tt $ split ! $ split ! $
           -- [the seat; what it had left; the one half; what is open]
-          rewrite ! 1 (λ (e : Away). ‵ (stake α e)) is refl $ move ! (2 ∷ 1 ∷ []) $ use2 𝓛 (‵ (flft α s)) (𝓛.lfts.lft_join α s) $
-          move ! (2 ∷ 0 ∷ []) $ obor_close ! tt $ drop ! $ now ! $ move ! (1 ∷ 0 ∷ []) $ done !
+          rewrite ! 1 (λ (e : Away). ‵ (stake α z.views_name e)) is refl $ move ! (1 ∷ []) $ fsplit ! $
+          -- [the other half; the aide's; the seat; the one half; what is open]
+          move ! (3 ∷ 0 ∷ []) $ use2 𝓛 (‵ (flft α s)) (𝓛.lfts.lft_join α s) $
+          move ! (3 ∷ 0 ∷ []) $ obor_close ! tt $ drop ! $ now ! $ move ! (2 ∷ 0 ∷ []) $ done !

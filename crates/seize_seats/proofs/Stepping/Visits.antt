@@ -200,7 +200,7 @@ module _ {D T V W : Type 0} (value : D → T) (own : D → Spot) (holds : State 
   renews_kept r s h = let g = r (flat s) h.0 in (g.0, (g.1, λ id u b p e visits. absurd (cc e)))
 
   -- without an operation a seat goes on that goes on by the rule, and its visit ends
-  goes_kept : (s : St) (id : ℕ) (y : Visit) (so : V → Type 0) → Hold s → Goes holds keeps (flat s) (flat s).memory id so
+  pub goes_kept : (s : St) (id : ℕ) (y : Visit) (so : V → Type 0) → Hold s → Goes holds keeps (flat s) (flat s).memory id so
       → Goes Hold Keep s s.memory id (λ u. so u.0 × (u.1 ≡ onward y))
   goes_kept s id y so h g = (
     (g.0, onward y),

@@ -30,6 +30,11 @@ other_view (v ∷ vs) zero (suc j) w ne = refl
 other_view (v ∷ vs) (suc i) zero w ne = refl
 other_view (v ∷ vs) (suc i) (suc j) w ne = other_view vs i j w (λ e. ne (ap suc e))
 
+set_same_here : {V : Type 0} (vs : List V) (i : ℕ) (v : V) → slice_get vs i ≡ Some v → set vs i v ≡ vs
+set_same_here [] i v at = refl
+set_same_here {V} (x ∷ vs) zero v at = let same : x ≡ v = cc at in ap (λ (y : V). y ∷ vs) (sym same)
+set_same_here {V} (x ∷ vs) (suc i) v at = ap (λ (us : List V). x ∷ us) (set_same_here vs i v at)
+
 module _ {M : Type 1} {𝓤 : Ura M} (𝓛 : Logic 𝓤) {V : Type 0} (cv : Coded V) (γ : ℕ) where
   abbrev Pr : Type 2
   Pr = SProp 𝓤
@@ -195,6 +200,18 @@ module _ {M : Type 1} {𝓤 : Ura M} (𝓛 : Logic 𝓤) {V : Type 0} (cv : Code
       -- [a quarter; the others; those to come; three quarters; the share]
       move ! (0 ∷ 3 ∷ []) $ use2 𝓛 (given (v ≡ v) (‵ (Sn full_share j v))) (glues j v v) $ learn ! (λ _. move ! (0 ∷ 3 ∷ []) $
       use2 𝓛 (given ⊥ (‵ (Sn full_share j v) ⊛ ‵ (Sn q j u))) (alone j q v u) $ learn ! (λ no. absurd no)))
+
+  -- the quarter of the list's and three are the whole of one view, for a while
+  pub wholly : (d : V) (vs : List V) (j : ℕ) (v : V) → slice_get vs j ≡ Some v
+      → ⟦ Led d vs ⟧ ∗ ⟦ Sn three_quarters j v ⟧ ⊢ ⟦ Sn full_share j v ⟧ ∗ (⟦ Sn full_share j v ⟧ -∗ ⟦ Led d vs ⟧ ∗ ⟦ Sn three_quarters j v ⟧)
+  wholly d vs j v at = qed 𝓛 (‵ (Led d vs) ∷ ‵ (Sn three_quarters j v) ∷ []) ∵ fsplit ! $
+      use1 𝓛 (‵ (Sn quarter j v) ⊛ raw (all 𝓤 (Puts 0 vs j j))) (all_at vs 0 j j v (omega arith) at) $ split ! $
+      -- [a quarter; the others; those to come; three quarters]
+      move ! (0 ∷ 3 ∷ []) $ use2 𝓛 (given (v ≡ v) (‵ (Sn full_share j v))) (glues j v v) $ learn ! (λ _. frame ! $ assume ! (‵ (Sn full_share j v)) $
+      use1 𝓛 (‵ (Sn quarter j v) ⊛ ‵ (Sn three_quarters j v)) (cuts j v) $ split ! $ move ! (2 ∷ []) $
+      use1 𝓛 (raw (Puts 0 vs j j v)) (all_e 𝓤 (Puts 0 vs j j) v) $ move ! (1 ∷ 0 ∷ []) $
+      use2 𝓛 (‵ (All 0 (set vs j v))) (apply∗ 𝓤 ⟦ Sn quarter j v ⟧ ⟦ All 0 (set vs j v) ⟧) $
+      rewrite ! 0 (λ (us : List V). ‵ (All 0 us)) (set_same_here vs j v at) refl $ move ! (0 ∷ 2 ∷ []) $ fjoin ! $ done !)
 
   all_snoc : (vs : List V) (k j : ℕ) (v : V) → j ≡ k + length vs → ⟦ All k vs ⟧ ∗ ⟦ Sn quarter j v ⟧ ⊢ ⟦ All k (vs ++ v ∷ []) ⟧
   all_snoc [] k j v e = let is : j ≡ k = omega arith in qed 𝓛 (‵ ftrue ∷ ‵ (Sn quarter j v) ∷ []) ∵ rewrite ! 1 (λ (n : ℕ). ‵ (Sn quarter n v)) is refl $

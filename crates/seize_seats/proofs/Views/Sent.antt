@@ -17,7 +17,7 @@ use Rattle.seize_seats.specs.Strips.{Strip, strip_coded, no_strip, further}
 use Rattle.seize_seats.specs.Doors.{block_type, IsFurther, heap, right_to, doors}
 use Rattle.seize_seats.specs.Lines.{long}
 use Rattle.seize_seats.specs.Buckets.{IsBucket}
-use Rattle.seize_seats.specs.Errands.{Away, Sight, stake, stakes}
+use Rattle.seize_seats.specs.Errands.{Away, Aided, Nobody, By, Anyone, Sight, aide_stake, stake, stakes}
 use Rattle.seize_seats.specs.Owned.{words_right, lines, bucket_right, bucket_told, ground, Pieces, shared_view, row, piece, lent_in, had_in, quarters, ledger, zeros, stride, kept, numbers, strips, Core, BaseId, core_of, everything, common, words_own, words_share}
 use Rattle.seize_seats.specs.Lendings.{Phase, Begins, Lasts, Over, in_phase, Holder, Lending, Witness, witnessed, span, told, lendings, lendable, in_hand}
 use Rattle.seize_seats.specs.Stretches.{lasting, seat_owns, seat_shares}
@@ -113,13 +113,18 @@ module _ (σ : ℕ) (Is : ℕ → Strip → Type 0) (right : Strip → Fml) (rig
 ledger_keyless : {V : Type 0} (c : V → Gv) (γ : ℕ) (d : V) (vs : List V) → Keyless (ledger c γ d vs)
 ledger_keyless c γ d vs = (quarters_keyless c γ 0 vs, entries_keyless shared_view γ (length vs) _)
 
-stake_keyless : (α : Lft) (e : Away) → Keyless (stake α e)
-stake_keyless α None = tt
-stake_keyless α (Some q) = tt
+aide_keyless : (γ : ℕ) (a : Aided) → Keyless (aide_stake γ a)
+aide_keyless γ Nobody = tt
+aide_keyless γ (By a) = entry_keyless shared_view γ a.seat _
+aide_keyless γ Anyone = λ _. tt
 
-stakes_keyless : {V : Type 0} (α : Lft) (away : V → Away) (vs : List V) → Keyless (stakes α away vs)
-stakes_keyless α away [] = tt
-stakes_keyless α away (v ∷ vs) = (stake_keyless α (away v), stakes_keyless α away vs)
+stake_keyless : (α : Lft) (γ : ℕ) (e : Away) → Keyless (stake α γ e)
+stake_keyless α γ None = tt
+stake_keyless α γ (Some o) = (tt, aide_keyless γ o.aided)
+
+stakes_keyless : {V : Type 0} (α : Lft) (γ : ℕ) (away : V → Away) (vs : List V) → Keyless (stakes α γ away vs)
+stakes_keyless α γ away [] = tt
+stakes_keyless α γ away (v ∷ vs) = (stake_keyless α γ (away v), stakes_keyless α γ away vs)
 
 module _ (R : RattleType) (own : Pieces R.Denot) (sent : IsSend (OptionOf R)) (synced : IsSync (OptionOf R)) {V W : Type 0} (c : Sight V)
     (holds : State R.Denot V W → Type 0) where
@@ -159,7 +164,7 @@ module _ (R : RattleType) (own : Pieces R.Denot) (sent : IsSend (OptionOf R)) (s
         ),
       ),
     ),
-    ((ledger_keyless c.code k.views_name t.blank t.views, stakes_keyless (k.atom ∷ []) c.away t.views), λ _. tt),
+    ((ledger_keyless c.code k.views_name t.blank t.views, stakes_keyless (k.atom ∷ []) k.views_name c.away t.views), λ _. tt),
   )
 
   module _ (p : Ptr) (z : BaseId) where

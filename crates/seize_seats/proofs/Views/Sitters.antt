@@ -1,17 +1,19 @@
 -- The list of views, with what those seats have left that are on errands. Assumes `Logic`.
-use Rattle.std.proofs.Common.{◌≡◌, ℕ, zero, suc, List, [], ◌∷◌, ◌++◌, length, set, sym, refl, ap, ◌∙◌, Some, None}
+use Rattle.std.proofs.lemmas.Bool.{cases_eq}
+use Rattle.std.proofs.Common.{◌≡◌, ◌≢◌, ◌⊎◌, inl, inr, subst, ℕ, zero, suc, List, [], ◌∷◌, ◌++◌, length, set, sym, refl, ap, ◌∙◌, Some, None}
 use Rattle.std.specs.Prelude.{slice_get}
 use seplogic.Ra.Ura.{Ura}
 use base.Share.{three_quarters}
-use base.Stored.{Coded}
+use base.Stored.{Gv, Coded}
+use base.Fraction.{full_share}
 use base.Logic.{SProp, ent, sep, wand, ex, all, guard, upd, via, never, never_e, apply∗, all_e, ex_e, upd_i, upd_mono}
 use base.Fml.{Lft, Share, Fml, ftrue, flft, fdead}
 use types.Logic.{Logic, sem}
-use types.Kit.{‵, raw, ◌⊛◌, given, ◌$◌, ◌∵◌, !, qed, by, move, keep, drop, split, fsplit, fjoin, learn, check, show, frame, each, assume, suffices, settle, use1, use2, rewrite, done}
+use types.Kit.{‵, raw, ◌⊛◌, given, ◌$◌, ◌∵◌, !, qed, by, move, keep, drop, split, fsplit, fjoin, fpick, learn, check, show, frame, each, assume, suffices, settle, use1, use2, rewrite, done}
 use denote.Steps.{nothing}
-use Rattle.seize_seats.specs.Seen.{seen}
+use Rattle.seize_seats.specs.Seen.{fact, itself, seen}
 use Rattle.seize_seats.specs.Owned.{ledger, sitting}
-use Rattle.seize_seats.specs.Errands.{Away, Sight, coded_of, stake, stakes, AreAllBack}
+use Rattle.seize_seats.specs.Errands.{Away, Sight, Aided, Nobody, By, Anyone, IsAide, Lends, AreUnlent, coded_of, aide_stake, stake, stakes, AreAllBack}
 use Rattle.seize_seats.proofs.Views.Ledgers as Ledgers
 
 module _ {M : Type 1} {𝓤 : Ura M} (𝓛 : Logic 𝓤) (α : Lft) {V : Type 0} (c : Sight V) (γ : ℕ) where
@@ -45,10 +47,10 @@ module _ {M : Type 1} {𝓤 : Ura M} (𝓛 : Logic 𝓤) (α : Lft) {V : Type 0}
   Led = ledger c.code γ
 
   abbrev Left : List V → Fml
-  Left = stakes α c.away
+  Left = stakes α γ c.away
 
   abbrev Of : V → Fml
-  Of v = stake α (c.away v)
+  Of v = stake α γ (c.away v)
 
   abbrev Sit : V → List V → Fml
   Sit = sitting α c γ
@@ -88,7 +90,7 @@ module _ {M : Type 1} {𝓤 : Ura M} (𝓛 : Logic 𝓤) (α : Lft) {V : Type 0}
         settle 𝓛 Z (‵ (Led d us) ⊛ ‵ (Sn three_quarters j u)) $ split ! $ suffices ! _ (upd_i 𝓤 Z) $
         -- [the views; the seat; what is left]
         move ! (2 ∷ []) $ use1 𝓛 (‵ (Of v) ⊛ raw (all 𝓤 (Puts vs j))) (left_at vs j v at) $ split ! $
-        rewrite ! 0 (λ (e : Away). ‵ (stake α e)) (sym same) refl $ move ! (1 ∷ []) $
+        rewrite ! 0 (λ (e : Away). ‵ (stake α γ e)) (sym same) refl $ move ! (1 ∷ []) $
         use1 𝓛 (raw (Puts vs j u)) (all_e 𝓤 (Puts vs j) u) $ move ! (1 ∷ 0 ∷ []) $
         use2 𝓛 (‵ (Left us)) (apply∗ 𝓤 ⟦ Of u ⟧ ⟦ Left us ⟧) $ move ! (1 ∷ 0 ∷ []) $ fjoin ! $ done !
 
@@ -106,7 +108,7 @@ module _ {M : Type 1} {𝓤 : Ura M} (𝓛 : Logic 𝓤) (α : Lft) {V : Type 0}
         move ! (2 ∷ 0 ∷ []) $ fjoin ! $ move ! (0 ∷ 2 ∷ []) $ done !
 
   left_too : (vs : List V) (u : V) → c.away u ≡ None → ⟦ Left vs ⟧ ⊢ ⟦ Left (vs ++ u ∷ []) ⟧
-  left_too [] u home = qed 𝓛 (‵ ftrue ∷ []) ∵ nothing ! $ rewrite ! 0 (λ (e : Away). ‵ (stake α e)) (sym home) refl $ done !
+  left_too [] u home = qed 𝓛 (‵ ftrue ∷ []) ∵ nothing ! $ rewrite ! 0 (λ (e : Away). ‵ (stake α γ e)) (sym home) refl $ done !
   left_too (y ∷ ys) u home = qed 𝓛 (‵ (Of y) ∷ ‵ (Left ys) ∷ []) ∵ frame ! $ by ! (left_too ys u home)
 
   -- a new view joins at the end, of a seat that is on no errand
@@ -126,10 +128,10 @@ module _ {M : Type 1} {𝓤 : Ura M} (𝓛 : Logic 𝓤) (α : Lft) {V : Type 0}
       done !)))
 
   -- WHERE THE LIFETIME IS OVER NOBODY IS ON AN ERRAND
-  one_back : (e : Away) → ⟦ stake α e ⟧ ∗ A.dead α ⊢ guard 𝓤 (e ≡ None) (A.dead α)
+  one_back : (e : Away) → ⟦ stake α γ e ⟧ ∗ A.dead α ⊢ guard 𝓤 (e ≡ None) (A.dead α)
   one_back None = qed 𝓛 (‵ ftrue ∷ ‵ (fdead α) ∷ []) ∵ drop ! $ check ! refl $ done !
-  one_back (Some q) = qed 𝓛 (‵ (flft α q) ∷ ‵ (fdead α) ∷ []) ∵ use2 𝓛 (raw (never 𝓤)) (𝓛.lfts.lft-dead α q) $
-      by ! (never_e 𝓤 (guard 𝓤 (Some q ≡ None) (A.dead α)))
+  one_back (Some o) = qed 𝓛 ((‵ (flft α o.part) ⊛ ‵ (aide_stake γ o.aided)) ∷ ‵ (fdead α) ∷ []) ∵ split ! $ move ! (0 ∷ 2 ∷ []) $
+      use2 𝓛 (raw (never 𝓤)) (𝓛.lfts.lft-dead α o.part) $ keep ! (0 ∷ []) $ by ! (never_e 𝓤 (guard 𝓤 (Some o ≡ None) (A.dead α)))
 
   both_back : (y : V) (ys : List V) → c.away y ≡ None → AreAllBack c.away ys → AreAllBack c.away (y ∷ ys)
   both_back y ys home rest zero v at = let same : y ≡ v = cc at in ap c.away (sym same) ∙ home
@@ -140,3 +142,49 @@ module _ {M : Type 1} {𝓤 : Ura M} (𝓛 : Logic 𝓤) (α : Lft) {V : Type 0}
   all_back (y ∷ ys) = qed 𝓛 ((‵ (Of y) ⊛ ‵ (Left ys)) ∷ ‵ (fdead α) ∷ []) ∵ split ! $ move ! (0 ∷ 2 ∷ []) $
       use2 𝓛 (given (c.away y ≡ None) (‵ (fdead α))) (one_back (c.away y)) $ learn ! (λ home. move ! (1 ∷ 0 ∷ []) $
       use2 𝓛 (given (AreAllBack c.away ys) (‵ (fdead α))) (all_back ys) $ learn ! (λ rest. check ! (both_back y ys home rest) $ done !))
+
+  -- WHO MAY CHANGE ITS VIEW IS LENT TO NOBODY: a part of that view would be left with an errand
+  module _ (id : ℕ) (v : V) where
+    abbrev Whole : Fml
+    Whole = Sn full_share id v
+
+    aside : (a : Aided) → ⟦ Whole ⟧ ∗ ⟦ aide_stake γ a ⟧ ⊢ guard 𝓤 (IsAide a id → ⊥) (⟦ Whole ⟧ ∗ ⟦ aide_stake γ a ⟧)
+    aside Nobody = qed 𝓛 (‵ Whole ∷ ‵ ftrue ∷ []) ∵ check ! (λ none. none) $ done !
+    aside (By a) = by_seat (cases_eq a.seat id)
+      where
+        Of_a : Fml
+        Of_a = aide_stake γ (By a)
+
+        by_seat : (a.seat ≡ id) ⊎ (a.seat ≢ id) → ⟦ Whole ⟧ ∗ ⟦ Of_a ⟧ ⊢ guard 𝓤 (a.seat ≡ id → ⊥) (⟦ Whole ⟧ ∗ ⟦ Of_a ⟧)
+        by_seat (inl same) = qed 𝓛 (‵ Whole ∷ ‵ Of_a ∷ []) ∵ rewrite ! 1 (λ (n : ℕ). ‵ (seen (λ (g : Gv). g) γ a.part n a.view)) same refl $
+            use2 𝓛 (given ⊥ (‵ Whole ⊛ ‵ (seen (λ (g : Gv). g) γ a.part id a.view))) (Ledgers.alone 𝓛 itself γ id a.part (c.code v) a.view) $ learn ! (λ no. absurd no)
+        by_seat (inr ne) = qed 𝓛 (‵ Whole ∷ ‵ Of_a ∷ []) ∵ check ! ne $ done !
+    aside Anyone = qed 𝓛 (‵ Whole ∷ ‵ (fact ⊥) ∷ []) ∵ move ! (1 ∷ []) $ fpick ! (λ none. absurd none)
+
+    one_unlent : (e : Away) → ⟦ Whole ⟧ ∗ ⟦ stake α γ e ⟧ ⊢ guard 𝓤 (Lends e id → ⊥) (⟦ Whole ⟧ ∗ ⟦ stake α γ e ⟧)
+    one_unlent None = qed 𝓛 (‵ Whole ∷ ‵ ftrue ∷ []) ∵ check ! (λ none. none) $ done !
+    one_unlent (Some o) = qed 𝓛 (‵ Whole ∷ ‵ (stake α γ (Some o)) ∷ []) ∵ move ! (1 ∷ []) $ fsplit ! $ move ! (2 ∷ 1 ∷ []) $
+        use2 𝓛 (given (IsAide o.aided id → ⊥) (‵ Whole ⊛ ‵ (aide_stake γ o.aided))) (aside o.aided) $ learn ! (λ none. check ! none $ split ! $
+        -- [the whole; the aide; the token]
+        move ! (2 ∷ 1 ∷ []) $ fjoin ! $ move ! (1 ∷ 0 ∷ []) $ done !)
+
+    more_unlent : (y : V) (ys : List V) → (Lends (c.away y) id → ⊥) → AreUnlent c.away id ys → AreUnlent c.away id (y ∷ ys)
+    more_unlent y ys one rest zero u at lent = let same : y ≡ u = cc at in one (subst (λ (w : V). Lends (c.away w) id) (sym same) lent)
+    more_unlent y ys one rest (suc j) u at lent = rest j u at lent
+
+    all_unlent : (vs : List V) → ⟦ Whole ⟧ ∗ ⟦ Left vs ⟧ ⊢ guard 𝓤 (AreUnlent c.away id vs) (⟦ Whole ⟧ ∗ ⟦ Left vs ⟧)
+    all_unlent [] = qed 𝓛 (‵ Whole ∷ ‵ ftrue ∷ []) ∵ check ! (λ j u at lent. absurd (cc at)) $ done !
+    all_unlent (y ∷ ys) = qed 𝓛 (‵ Whole ∷ (‵ (Of y) ⊛ ‵ (Left ys)) ∷ []) ∵ move ! (1 ∷ []) $ split ! $ move ! (2 ∷ 0 ∷ []) $
+        use2 𝓛 (given (Lends (c.away y) id → ⊥) (‵ Whole ⊛ ‵ (Of y))) (one_unlent (c.away y)) $ learn ! (λ one. split ! $ move ! (0 ∷ 2 ∷ []) $
+        use2 𝓛 (given (AreUnlent c.away id ys) (‵ Whole ⊛ ‵ (Left ys))) (all_unlent ys) $ learn ! (λ rest. check ! (more_unlent y ys one rest) $ split ! $
+        frame ! $ move ! (1 ∷ 0 ∷ []) $ done !))
+
+    pub unlent : (d : V) (vs : List V) → slice_get vs id ≡ Some v → ⟦ Sit d vs ⟧ ∗ ⟦ Sn three_quarters id v ⟧
+        ⊢ guard 𝓤 (AreUnlent c.away id vs) (⟦ Sit d vs ⟧ ∗ ⟦ Sn three_quarters id v ⟧)
+    unlent d vs at = qed 𝓛 (‵ (Sit d vs) ∷ ‵ (Sn three_quarters id v) ∷ []) ∵ fsplit ! $ move ! (0 ∷ 2 ∷ []) $
+        use2 𝓛 (‵ Whole ⊛ raw (wand 𝓤 ⟦ Whole ⟧ (⟦ Led d vs ⟧ ∗ ⟦ Sn three_quarters id v ⟧))) (Ledgers.wholly 𝓛 cv γ d vs id v at) $ split ! $
+        -- [the whole; the way back; what is left]
+        move ! (0 ∷ 2 ∷ []) $ use2 𝓛 (given (AreUnlent c.away id vs) (‵ Whole ⊛ ‵ (Left vs))) (all_unlent vs) $ learn ! (λ none. check ! none $ split ! $
+        move ! (0 ∷ 2 ∷ []) $ use2 𝓛 (‵ (Led d vs) ⊛ ‵ (Sn three_quarters id v)) (apply∗ 𝓤 ⟦ Whole ⟧ (⟦ Led d vs ⟧ ∗ ⟦ Sn three_quarters id v ⟧)) $ split ! $
+        -- [the views; the seat; what is left]
+        move ! (0 ∷ 2 ∷ []) $ fjoin ! $ done !)

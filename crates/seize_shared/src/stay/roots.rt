@@ -13,7 +13,7 @@ use crate::stay::Stay;
 use seize::rows::Defers;
 use seize_blocks::Seat;
 use seize_callers::{Caller, named};
-use seize_guards::{Owned, Tagged};
+use seize_guards::{Owned, Pass, Tagged};
 use seize_views::{Fixed, OfRows};
 
 impl<'a, T: Defers + Drop> Stay<'a, T> {
@@ -78,6 +78,28 @@ impl<'a, T: Defers + Drop> Stay<'a, T> {
         let word = self.caller.protect(self.slot, root);
         self.seen = named(word).unwrap_or(0);
         Some(Tagged::of(word))
+    }
+
+    /// A pass looks which word is at a root, where its section is open and there is such a root: the value of the block to which that links is lent for as long as
+    /// this is borrowed.
+    pub(crate) fn protects_by<'g>(
+        &'g self,
+        root: u64,
+        pass: &mut Pass<T>,
+    ) -> Option<(Tagged, Option<&'g T>)>
+        requires own { pass.old.pass.seat.base ≡ self.now.caller.blocks.now.words.id.views_name }
+        ensures memory { pass.new.pass.seat.base ≡ pass.old.pass.seat.base }
+        ensures number { pass.new.number ≡ pass.old.number }
+        ensures looked { IfSome result (λ found. pass.new.pass.seat.view.did ≡ Looked root found.0.word) }
+        ensures lent { IfSome result (λ found. IfSome found.1 (λ value. IsLent T.defers self.now.caller.blocks.now.words.fixed self.now.caller.seat.id
+            self.now.caller.seat.view (block_in found.0.word) value.now)) }
+        ensures none { IfSome result (λ found. IfNone found.1 (block_in found.0.word ≡ 0)) }
+        ensures there { self.now.inside ≡ true → root < self.now.caller.blocks.now.words.fixed.roots → IsSome result }
+    {
+        if !self.inside || root >= self.roots {
+            return None;
+        }
+        Some(pass.protect(&self.caller, self.slot, root))
     }
 
     /// Sets marks of the word at a root, of which three bits count, and answers which word was there, where its section is open and there is such a root: the

@@ -23,6 +23,9 @@ learn-requires-clause-may g c =
 pub learn-requires-clause-errand : goal.learn-requires-clause-errand
 learn-requires-clause-errand g c = λ home rests w so. subst (λ (v : View g.row.K.Denot g.row.V.Denot g.row.S.Denot). IsResting v) (sym so.2) rests
 
+pub learn-requires-clause-leans : goal.learn-requires-clause-leans
+learn-requires-clause-leans g c = λ v told n none. absurd none
+
 pub returns-clause-shown : goal.returns-clause-shown
 returns-clause-shown g c =
     let s = c.learn.ensures.goes in s.2 ∙ ap (λ (v : View g.row.K.Denot g.row.V.Denot g.row.S.Denot). shown_map v s.0) c.seat-other.ensures.1 ∙ ap come_to (sym s.1)

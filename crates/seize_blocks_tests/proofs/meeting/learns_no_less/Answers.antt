@@ -7,5 +7,8 @@ load-found-requires-clause-may c = loads c.seat-one.result.id c.seat-one.result.
 pub learn-requires-clause-may : goal.learn-requires-clause-may
 learn-requires-clause-may c = learns c.seat-other.result.id c.seat-other.result.view c.load-found.new.seat.id c.load-found.new.seat.view
 
+pub learn-requires-clause-leans : goal.learn-requires-clause-leans
+learn-requires-clause-leans c = λ v told n none. absurd none
+
 pub load-after-requires-clause-may : goal.load-after-requires-clause-may
 load-after-requires-clause-may c = loads c.learn.new.seat.id c.learn.new.seat.view

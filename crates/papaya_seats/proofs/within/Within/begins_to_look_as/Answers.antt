@@ -14,6 +14,9 @@ turn-requires-clause-may g c =
 pub turn-requires-clause-errand : goal.turn-requires-clause-errand
 turn-requires-clause-errand g c = λ home rests w so. absurd (c.args.self.now.away home)
 
+pub turn-requires-clause-leans : goal.turn-requires-clause-leans
+turn-requires-clause-leans g c = λ v told n none. absurd none
+
 pub returns-clause-begins : goal.returns-clause-begins
 returns-clause-begins g c =
     subst (λ (w : Wanted g.row.K.Denot g.row.V.Denot). Begins g.K.PartialEq.eq g.S.Hashes.hash w c.args.self.now.seat.now.view c.turn.new.seat.view) c.requires.wanted

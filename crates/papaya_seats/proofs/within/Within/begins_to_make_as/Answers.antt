@@ -11,5 +11,8 @@ turn-requires-clause-may g c =
 pub turn-requires-clause-errand : goal.turn-requires-clause-errand
 turn-requires-clause-errand g c = λ home rests w so. absurd (c.args.self.now.away home)
 
+pub turn-requires-clause-leans : goal.turn-requires-clause-leans
+turn-requires-clause-leans g c = λ v told n none. absurd none
+
 pub returns-clause-same : goal.returns-clause-same
 returns-clause-same g c = still_kept _ _ c.turn.ensures.same.1 c.turn.ensures.errand

@@ -45,6 +45,9 @@ turn-requires-clause-may g c =
 pub turn-requires-clause-errand : goal.turn-requires-clause-errand
 turn-requires-clause-errand g c = λ home rests w so. absurd (c.step-told.new.memory.away home)
 
+pub turn-requires-clause-leans : goal.turn-requires-clause-leans
+turn-requires-clause-leans g c = λ v told n none. absurd none
+
 pub returns-clause-told : goal.returns-clause-told
 returns-clause-told g c =
     λ k s under.

@@ -21,3 +21,6 @@ returns-clause-looked g c = looked_are_shown_in _ _ _
 
 pub returns-clause-rest : goal.returns-clause-rest
 returns-clause-rest g c = λ v rests. rests
+
+pub returns-clause-leans : goal.returns-clause-leans
+returns-clause-leans g c = λ v w n rows same leans. leans

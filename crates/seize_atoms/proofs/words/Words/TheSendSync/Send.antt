@@ -12,6 +12,6 @@ use Rattle.seize_plots.specs.Pieces.{kept_words}
 pub send : (T R V F : RattleType) (g : Ghosts R.Denot T.Denot V.Denot F.Denot) → IsSend T → IsSync T → IsSend (the_row T R V F g)
 send T R V F g s y = let sent : IsSend (OptionOf (kept_of.the_row T)) = search sendable depth 20 in let synced : IsSync (OptionOf (kept_of.the_row T)) = search sendable depth 20 in record {
   owned =
-      λ d vs. ((λ vss. (tt, (tt, ((λ uss. (tt, tt)), tt)))), owns_keyless (kept_of.the_row T) kept_words sent synced (seat_coded V.coded) (HoldsSince g.rests d.start (g.holds d.fixed) g.keeps) d.words d.id);
+      λ d vs. ((λ vss. (tt, (tt, ((λ uss. (tt, tt)), tt)))), owns_keyless (kept_of.the_row T) kept_words sent synced (seat_coded V.coded) (HoldsSince g.rests g.leans d.start (g.holds d.fixed) g.keeps) d.words d.id);
   leaving = λ k d w. tt;
 }

@@ -1,6 +1,6 @@
 -- `errand` lends half of what it has of the borrow of the words on, leaves the other half in the invariant, and takes it back.
 use Rattle.std.specs.Prelude.{◌≢◌, Some, None}
-use Rattle.std.proofs.Common.{◌≡◌, ℕ, List, [], ◌∷◌, ◌++◌, sym, refl, ap, subst}
+use Rattle.std.proofs.Common.{◌≡◌, ℕ, List, [], ◌∷◌, ◌++◌, sym, refl, ap, subst, inl, inr}
 use mir.Syntax.{dcons, dnil, a_type, named}
 use mir.MapTy.{inst_fn}
 use mir.Val.{Val, vptr}
@@ -8,7 +8,7 @@ use prog.Wp.{WpFn}
 use base.Share
 use base.Logic.{SProp, ent, emp, id⊢, apply∗}
 use base.Fml.{Lft, Share, Fml, ftrue, fsep, flft, fdead, fhide}
-use types.Kit.{‵, raw, ◌⊛◌, later, ◌$◌, ◌∵◌, !, qed, by, move, keep, drop, split, split3, join, fsplit, fsplit3, fjoin, fjoin3, suffices, use0, use1, use2, use3, await, rewrite, feq_i, some as items, pick}
+use types.Kit.{‵, raw, ◌⊛◌, later, ◌$◌, ◌∵◌, !, qed, by, move, keep, drop, split, split3, join, fsplit, fsplit3, fjoin, fjoin3, group, suffices, use0, use1, use2, use3, await, rewrite, feq_i, some as items, pick}
 use types.Run.{of_opd, addr, stop, no_more, and_then, returns, enter}
 use types.ByLocal.{alloc_all, pass_all, free_all, look_at, get, through, sets, lands_as, env}
 use contract.BorrowLft.{◌⊑◌, ⊑_trans, meet_⊑_right}
@@ -42,7 +42,7 @@ use Rattle.std.proofs.raw_atomic.Walks.{proved_at, leaves}
 use Rattle.std.proofs.raw_atomic.Calls.{fm}
 use Rattle.seize_plots.specs.contracts.kept.Kept as kept_of
 use Rattle.seize_plots.specs.Pieces.{kept_words}
-use Rattle.seize_seats.specs.Errands.{Away, coded_of}
+use Rattle.seize_seats.specs.Errands.{Away, Nobody, alone_on, coded_of}
 use Rattle.seize_seats.specs.Owned.{BaseId, words_share}
 use Rattle.seize_seats.specs.Stretches.{seat_owns}
 use Rattle.seize_seats.proofs.Views.Stretches.{ends, begins}
@@ -83,7 +83,7 @@ errand_spec 𝓤 𝓛 𝓜 𝓡 wired X P U F N Y LX LP LU LF LN LY g d g' d' me
     let tl : Share = Share.left qs.1.0 in let tr : Share = Share.right qs.1.0 in
     let t : Row.Denot = a.0.now in let p : Ptr = t.words in let z : BaseId = t.id in let h : Sr.Denot = a.1.0.now in let e : N.Denot = a.1.1.0 in
     let id : ℕ = h.id in let v : Seen U.Denot = ((h.view, h.visit), h.away) in let cv = seat_coded R₂.coded in let rule = g.holds t.fixed in
-    let holds = HoldsSince g.rests t.start rule g.keeps in let keeps = keeps_here g.keeps in
+    let holds = HoldsSince g.rests g.leans t.start rule g.keeps in let keeps = keeps_here g.keeps in
     let rest : Fml = fsep (flft κs.1.1.1.1.0 qs.1.1.1.1.0) (fsep (flft κs.1.1.1.1.1.0 qs.1.1.1.1.1.0)
     (fsep (flft κs.1.1.1.1.1.1.0 qs.1.1.1.1.1.1.0) (fsep (flft κs.1.1.1.1.1.1.1.0 qs.1.1.1.1.1.1.1.0) ftrue))) in
     let others : Fml = fsep (flft κs.1.1.0 qs.1.1.0) (fsep (flft κs.1.1.1.0 qs.1.1.1.0) rest) in
@@ -114,13 +114,13 @@ errand_spec 𝓤 𝓛 𝓜 𝓡 wired X P U F N Y LX LP LU LF LN LY g d g' d' me
     rewrite ! 1 (λ (u : ℕ). ‵ (seat_owns cv.code u id v h.stretch h.mark)) asked.0 refl $ move ! (1 ∷ []) $
     use1 𝓛 (later (‵ (Seat v))) (ends 𝓛 (coded_of cv) z.views_name id v h.stretch h.mark) $ await ! tt $
     -- [the seat; its fields; four of it; self's token, by two; what the words share, twice; self; the errand; the others]
-    let out : Share → Seen U.Denot = λ r. ((h.view, h.visit), Some r) in
-    move ! (8 ∷ 6 ∷ 0 ∷ []) $ use3 𝓛 (later (items (λ (s : Share). ‵ (Seat (out (Share.right s))) ⊛ ‵ (pledge 𝓛 K₀ kept_words cv holds keeps p z id κ ql s))))
-    (goes 𝓛 K₀ kept_words cv holds keeps p z id κ ql v out (λ r. refl) (λ r. errand_allowed g.rests rule g.keeps t.start id h.view h.visit h.away (Some r) (λ none. absurd (cc none)))) $
+    let out : Share → Seen U.Denot = λ r. ((h.view, h.visit), Some (alone_on r)) in
+    nothing ! $ move ! (9 ∷ 7 ∷ 1 ∷ 0 ∷ []) $ group ! 4 $ use1 𝓛 (later (items (λ (s : Share). ‵ (Seat (out (Share.right s))) ⊛ ‵ (pledge 𝓛 K₀ kept_words cv holds keeps p z id κ ql s))))
+    (goes 𝓛 K₀ kept_words cv holds keeps p z id κ ql v asked.1 Nobody out (λ r. refl) (λ r. errand_allowed g.rests g.leans g.upright rule g.keeps t.start id h.view h.visit h.away (Some (alone_on r)) (λ none. absurd (cc none)) (inl asked.1))) $
     await ! tt $ pick ! (λ s. split ! $ let r₀ : Share = Share.right s in let v₁ : Seen U.Denot = out r₀ in
     let Pl : Fml = pledge 𝓛 K₀ kept_words cv holds keeps p z id κ ql s in
     use1 𝓛 (later (items (λ (st : ℕ × ℕ). ‵ (Owns v₁ st)))) (begins 𝓛 (coded_of cv) z.views_name id v₁) $ await ! tt $ pick ! (λ st.
-    let h₁ : Sr.Denot = record { marker = h.marker; base = z.views_name; id = id; view = h.view; visit = h.visit; away = Some r₀; stretch = st.0; mark = st.1 } in
+    let h₁ : Sr.Denot = record { marker = h.marker; base = z.views_name; id = id; view = h.view; visit = h.visit; away = Some (alone_on r₀); stretch = st.0; mark = st.1 } in
     -- [the seat; the pledge; the fields; four; self's token; what the words share; self; the errand; the others]
     move ! (2 ∷ 0 ∷ []) $ fjoin ! $ move ! (2 ∷ 0 ∷ 3 ∷ 4 ∷ 5 ∷ []) $ closes ! tt Sr h₁ ts b' o' $
     feq_i ! (List Val) (vptr b' o' ∷ []) (vptr b' o' ∷ []) refl $ fjoin3 ! $
@@ -164,12 +164,12 @@ errand_spec 𝓤 𝓛 𝓜 𝓡 wired X P U F N Y LX LP LU LF LN LY g d g' d' me
     rewrite ! 0 (λ (ws : List Val). ‵ (R₅.own_val r ws)) ret.1 refl $ lands_as ! (ap only ret.1) refl ret.2 $
     move ! (2 ∷ []) $ fsplit3 ! $ move ! (1 ∷ 2 ∷ 4 ∷ []) $ opens ! tt Sr b' o' (λ ts'. move ! (1 ∷ []) $ fsplit ! $
     rewrite ! 1 (λ (k : ℕ × ℕ × Away). ‵ (seat_owns cv.code k.0 k.1 ((h₂.view, h₂.visit), k.2) h₂.stretch h₂.mark)) (λ i. (did.0 i, did.1 i, did.2 i)) refl $
-    let v₂ : Seen U.Denot = ((h₂.view, h₂.visit), Some r₀) in let v₃ : Seen U.Denot = ((h₂.view, h₂.visit), None) in
+    let v₂ : Seen U.Denot = ((h₂.view, h₂.visit), Some (alone_on r₀)) in let v₃ : Seen U.Denot = ((h₂.view, h₂.visit), None) in
     move ! (1 ∷ []) $ use1 𝓛 (later (‵ (Seat v₂))) (ends 𝓛 (coded_of cv) z.views_name id v₂ h₂.stretch h₂.mark) $ await ! tt $
     -- [the seat; its fields; four; its address; the answer; self's token; the others; the borrow; nothing; the pledge; what the words share]
-    move ! (13 ∷ 12 ∷ 0 ∷ []) $ use3 𝓛 (later (‵ (Seat v₃) ⊛ ‵ (flft κ ql)))
-    (comes_home 𝓛 K₀ kept_words cv holds keeps p z id κ ql s v₂ v₃ refl refl
-    (errand_allowed g.rests rule g.keeps t.start id h₂.view h₂.visit (Some r₀) None (λ _. asked.3 r h₂.view did.3))) $ await ! tt $ split ! $
+    move ! (13 ∷ 12 ∷ 0 ∷ []) $ use3 𝓛 (later (‵ (Seat v₃) ⊛ ‵ (flft κ ql) ⊛ ‵ ftrue))
+    (comes_home 𝓛 K₀ kept_words cv holds keeps p z id κ ql s Nobody v₂ v₃ refl refl
+    (errand_allowed g.rests g.leans g.upright rule g.keeps t.start id h₂.view h₂.visit (Some (alone_on r₀)) None (λ _. asked.3 r h₂.view did.3) (inr refl))) $ await ! tt $ split3 ! $ move ! (2 ∷ []) $ drop ! $
     -- [the seat; half of self's token; the fields; four; the address; the answer; the other half; the others; ..]
     move ! (1 ∷ 9 ∷ []) $ use2 𝓛 (‵ (flft κ qs.0)) (𝓛.lfts.lft_join κ qs.0) $ move ! (1 ∷ []) $
     use1 𝓛 (later (items (λ (st : ℕ × ℕ). ‵ (Owns v₃ st)))) (begins 𝓛 (coded_of cv) z.views_name id v₃) $ await ! tt $ pick ! (λ su.

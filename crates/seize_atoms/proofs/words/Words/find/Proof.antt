@@ -75,7 +75,7 @@ find_spec 𝓤 𝓛 𝓜 𝓡 wired X P U F LX LP LU LF g d _ =
     let κ : Lft = κs.0 in let κ₁ : Lft = κs.1.0 in let κ₂ : Lft = κs.1.1.0 in let κ₃ : Lft = κs.1.1.1.0 in
     let t : Row.Denot = a.0.now in let p : Ptr = t.words in let z : BaseId = t.id in let r₁ : Sr.Denot = a.1.0.now in let h : Sr.Denot = a.1.1.0.now in let k : Sr.Denot = a.1.1.1.0.now in
     let nr : ℕ = a.1.1.1.1.0 in let pd : Ptr = a.1.1.1.1.1.0 in let j : ℕ = a.1.1.1.1.1.1.0 in let v₁ : Seen U.Denot = ((r₁.view, r₁.visit), r₁.away) in
-    let cv = seat_coded R₂.coded in let α : Lft = age z in let rule = g.holds t.fixed in let holds = HoldsSince g.rests t.start rule g.keeps in let keeps = keeps_here g.keeps in
+    let cv = seat_coded R₂.coded in let α : Lft = age z in let rule = g.holds t.fixed in let holds = HoldsSince g.rests g.leans t.start rule g.keeps in let keeps = keeps_here g.keeps in
     let db : ℕ = block_of z.doors in let d₀ : ℕ = count_of z.doors in let e : ℕ = j * 8 + d₀ in let p' : Ptr = block_ptr db d₀ in
     let others : Fml = fsep (flft κs.1.1.1.1.0 qs.1.1.1.1.0) (fsep (flft κs.1.1.1.1.1.0 qs.1.1.1.1.1.0) (fsep (flft κs.1.1.1.1.1.1.0 qs.1.1.1.1.1.1.0)
     (fsep (flft κs.1.1.1.1.1.1.1.0 qs.1.1.1.1.1.1.1.0) ftrue))) in
@@ -120,7 +120,7 @@ find_spec 𝓤 𝓛 𝓜 𝓡 wired X P U F LX LP LU LF g d _ =
     suffices ! (Run (us p')) (subst (λ (r : Ptr). ent 𝓤 (Run (us p')) (Run (us r))) (sym at_d) (id⊢ 𝓤 (Run (us p')))) $
     enter ! 𝓣.C 𝓣.Λ fn (us p') Post $ alloc_all ! (λ l. pass_all ! refl ((tt, tt), ((tt, tt), ((tt, tt), ((tt, tt), ((tt, record { fits = are.1.1.1.1.0.1 }), (Ptr-Good p', ((tt, record { fits = are.1.1.1.1.1.1.0.1 }), tt))))))) $
     let Ev = env fn.locals l in
-    let all = shown_all_here g.rests rule g.keeps t.start r₁.id r₁.view r₁.visit r₁.away h.id h.view h.visit h.away k.id k.view k.visit k.away nr asked.8 in
+    let all = shown_all_here g.rests g.leans g.upright rule g.keeps t.start r₁.id r₁.view r₁.visit r₁.away h.id h.view h.visit h.away k.id k.view k.visit k.away nr asked.8 in
     move ! (2 ∷ 6 ∷ []) $ shr_bor-open ! tt (view_halves 𝓛 (coded_of cv) z.views_name r₁.id v₁) (λ f₀.
     move ! (3 ∷ 7 ∷ []) $ shr_bor-open ! tt (view_halves 𝓛 (coded_of cv) z.views_name h.id ((h.view, h.visit), h.away)) (λ f.
     move ! (4 ∷ 8 ∷ []) $ shr_bor-open ! tt (view_halves 𝓛 (coded_of cv) z.views_name k.id ((k.view, k.visit), k.away)) (λ f'.

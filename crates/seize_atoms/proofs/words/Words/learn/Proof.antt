@@ -1,7 +1,7 @@
 -- `learn` opens the invariant once, with a share of what the other seat knows, and takes no step of the machine.
 use Rattle.seize_atoms.specs.Visiting.{Seen, HoldsSince, keeps_here, seat_coded}
 use Rattle.seize_seats.specs.Visits.{onward}
-use Rattle.seize_seats.specs.Errands.{coded_of, MayGo}
+use Rattle.seize_seats.specs.Errands.{coded_of, MayGo, MayLean}
 use Rattle.seize_atoms.proofs.Allowed.{learn_allowed}
 use Rattle.std.proofs.Common.{◌≡◌, ℕ, List, [], ◌∷◌, sym, refl}
 use mir.Syntax.{dcons, dnil, a_type, named}
@@ -66,16 +66,16 @@ learn_spec 𝓤 𝓛 𝓜 𝓡 wired X P U F N LX LP LU LF LN g d g' d' _ _ =
     let b₂ : ℕ = a.1.1.0.ref_ptr.0 in let o₂ : ℕ = a.1.1.0.ref_ptr.1 in let κ : Lft = κs.0 in let κ₂ : Lft = κs.1.1.0 in
     let t : Row.Denot = a.0.now in let p : Ptr = t.words in let z : BaseId = t.id in let h : Sr.Denot = a.1.0.now in let k : Sr.Denot = a.1.1.0.now in
     let i : ℕ = h.id in let v : Seen U.Denot = ((h.view, h.visit), h.away) in let j : ℕ = k.id in let u : Seen U.Denot = ((k.view, k.visit), k.away) in
-    let cv = seat_coded R₂.coded in let rule = g.holds t.fixed in let holds = HoldsSince g.rests t.start rule g.keeps in let keeps = keeps_here g.keeps in let to : U.Denot → Type 0 = g'.to t.fixed h.view k.view in
+    let cv = seat_coded R₂.coded in let rule = g.holds t.fixed in let holds = HoldsSince g.rests g.leans t.start rule g.keeps in let keeps = keeps_here g.keeps in let to : U.Denot → Type 0 = g'.to t.fixed h.view j k.view in
     let so : Seen U.Denot → Type 0 = λ w. (to w.0.0 × (w.0.1 ≡ onward h.visit)) × (w.1 ≡ h.away) in
     let others : Fml = fsep (flft κs.1.1.1.0 qs.1.1.1.0) (fsep (flft κs.1.1.1.1.0 qs.1.1.1.1.0) (fsep (flft κs.1.1.1.1.1.0 qs.1.1.1.1.1.0)
     (fsep (flft κs.1.1.1.1.1.1.0 qs.1.1.1.1.1.1.0) (fsep (flft κs.1.1.1.1.1.1.1.0 qs.1.1.1.1.1.1.1.0) ftrue)))) in
-    let Asked : Type 0 = (h.base ≡ z.views_name) × (k.base ≡ z.views_name) × Learns rule g.keeps i h.view j k.view to × MayGo g.rests h.away h.view to in
+    let Asked : Type 0 = (h.base ≡ z.views_name) × (k.base ≡ z.views_name) × Learns rule g.keeps i h.view j k.view to × MayGo g.rests h.away h.view to × MayLean g.leans h.away h.view to in
     let y : (walk_of 𝓛 En hs c).Ghost = ((κs, qs, bounds, a, (vptr b o ∷ [], (vptr b' o' ∷ [], (vptr b₂ o₂ ∷ [], tt)))), gh) in
     let Post : Val → SProp 𝓤 = (walk_of 𝓛 En hs c).post y in
     qed 𝓛 (((‵ (flft κs.0 qs.0) ⊛ ‵ (flft κs.1.0 qs.1.0) ⊛ ‵ (flft κs.1.1.0 qs.1.1.0) ⊛ ‵ others) ⊛ ‵ (owns (types_at En.signature.params κs) a y.0.4)) ∷
     raw (fact 𝓤 _) ∷ raw (fact 𝓤 _) ∷ raw (fact 𝓤 _) ∷ raw (fact 𝓤 _) ∷ raw (fact 𝓤 _) ∷ raw (fact 𝓤 Asked) ∷ []) ∵
-    keep ! (6 ∷ 0 ∷ []) $ heard ! Asked (λ asked. let law = learn_allowed g.rests rule g.keeps t.start i h.view h.visit h.away j k.view k.visit k.away to asked.3 asked.2 in
+    keep ! (6 ∷ 0 ∷ []) $ heard ! Asked (λ asked. let law = learn_allowed g.rests g.leans g.upright rule g.keeps t.start i h.view h.visit h.away j k.view k.visit k.away to asked.3 asked.4 asked.2 in
     let same = λ (w : Seen U.Denot) (told : so w). told.1 in split ! $ split3 ! $ move ! (2 ∷ []) $ split ! $ move ! (4 ∷ []) $ fsplit3 ! $ move ! (2 ∷ []) $ fsplit ! $
     fsplit ! $ move ! (4 ∷ []) $ fsplit3 ! $ move ! (6 ∷ []) $ fsplit ! $
     -- [self; its token; the seat, by two; its token; the other; its token; the others]

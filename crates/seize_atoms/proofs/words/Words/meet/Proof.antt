@@ -1,7 +1,7 @@
 -- `meet` opens the invariant once for both seats, and takes no step of the machine.
 use Rattle.seize_atoms.specs.Visiting.{Seen, HoldsSince, keeps_here, seat_coded}
 use Rattle.seize_seats.specs.Visits.{onward}
-use Rattle.seize_seats.specs.Errands.{coded_of, MayMeet}
+use Rattle.seize_seats.specs.Errands.{coded_of, MayMeet, MayLeanBoth}
 use Rattle.seize_atoms.proofs.Allowed.{meet_allowed}
 use Rattle.std.proofs.Common.{◌≡◌, ℕ, List, [], ◌∷◌, sym, refl}
 use mir.Syntax.{dcons, dnil, a_type, named}
@@ -63,16 +63,17 @@ meet_spec 𝓤 𝓛 𝓜 𝓡 wired X P U F N LX LP LU LF LN g d g' d' _ _ =
     let b₂ : ℕ = a.1.1.0.ref_ptr.0 in let o₂ : ℕ = a.1.1.0.ref_ptr.1 in let κ : Lft = κs.0 in
     let t : Row.Denot = a.0.now in let p : Ptr = t.words in let z : BaseId = t.id in let h : Sr.Denot = a.1.0.now in let k : Sr.Denot = a.1.1.0.now in
     let i : ℕ = h.id in let v : Seen U.Denot = ((h.view, h.visit), h.away) in let j : ℕ = k.id in let u : Seen U.Denot = ((k.view, k.visit), k.away) in
-    let cv = seat_coded R₂.coded in let rule = g.holds t.fixed in let holds = HoldsSince g.rests t.start rule g.keeps in let keeps = keeps_here g.keeps in let to : U.Denot → U.Denot → Type 0 = g'.to t.fixed h.view k.view in
+    let cv = seat_coded R₂.coded in let rule = g.holds t.fixed in let holds = HoldsSince g.rests g.leans t.start rule g.keeps in let keeps = keeps_here g.keeps in let to : U.Denot → U.Denot → Type 0 = g'.to t.fixed h.view k.view in
     let so : Seen U.Denot → Seen U.Denot → Type 0 = λ c d. (to c.0.0 d.0.0 × (c.0.1 ≡ onward h.visit) × (d.0.1 ≡ onward k.visit)) × (c.1 ≡ h.away) × (d.1 ≡ k.away) in
     let others : Fml = fsep (flft κs.1.1.1.0 qs.1.1.1.0) (fsep (flft κs.1.1.1.1.0 qs.1.1.1.1.0) (fsep (flft κs.1.1.1.1.1.0 qs.1.1.1.1.1.0)
     (fsep (flft κs.1.1.1.1.1.1.0 qs.1.1.1.1.1.1.0) (fsep (flft κs.1.1.1.1.1.1.1.0 qs.1.1.1.1.1.1.1.0) ftrue)))) in
-    let Asked : Type 0 = (h.base ≡ z.views_name) × (k.base ≡ z.views_name) × Meets rule i h.view j k.view to × MayMeet g.rests h.away h.view k.away k.view to in
+    let Asked : Type 0 = (h.base ≡ z.views_name) × (k.base ≡ z.views_name) × Meets rule i h.view j k.view to × MayMeet g.rests h.away h.view k.away k.view to
+    × MayLeanBoth g.leans h.away h.view k.away k.view to in
     let y : (walk_of 𝓛 En hs c).Ghost = ((κs, qs, bounds, a, (vptr b o ∷ [], (vptr b' o' ∷ [], (vptr b₂ o₂ ∷ [], tt)))), gh) in
     let Post : Val → SProp 𝓤 = (walk_of 𝓛 En hs c).post y in
     qed 𝓛 (((‵ (flft κs.0 qs.0) ⊛ ‵ (flft κs.1.0 qs.1.0) ⊛ ‵ (flft κs.1.1.0 qs.1.1.0) ⊛ ‵ others) ⊛ ‵ (owns (types_at En.signature.params κs) a y.0.4)) ∷
     raw (fact 𝓤 _) ∷ raw (fact 𝓤 _) ∷ raw (fact 𝓤 _) ∷ raw (fact 𝓤 _) ∷ raw (fact 𝓤 _) ∷ raw (fact 𝓤 Asked) ∷ []) ∵
-    keep ! (6 ∷ 0 ∷ []) $ heard ! Asked (λ asked. let law = meet_allowed g.rests rule g.keeps t.start i h.view h.visit h.away j k.view k.visit k.away to asked.3 asked.2 in split ! $ split3 ! $ move ! (2 ∷ []) $ split ! $ move ! (4 ∷ []) $ fsplit3 ! $ move ! (2 ∷ []) $ fsplit ! $
+    keep ! (6 ∷ 0 ∷ []) $ heard ! Asked (λ asked. let law = meet_allowed g.rests g.leans g.upright rule g.keeps t.start i h.view h.visit h.away j k.view k.visit k.away to asked.3 asked.4 asked.2 in split ! $ split3 ! $ move ! (2 ∷ []) $ split ! $ move ! (4 ∷ []) $ fsplit3 ! $ move ! (2 ∷ []) $ fsplit ! $
     fsplit3 ! $ move ! (5 ∷ []) $ fsplit3 ! $ move ! (7 ∷ []) $ fsplit ! $
     -- [self; its token; the one seat, by two; its token; the other, by two; its token; the others]
     keep ! (1 ∷ 11 ∷ 3 ∷ 4 ∷ 12 ∷ 6 ∷ 7 ∷ 9 ∷ 10 ∷ []) $

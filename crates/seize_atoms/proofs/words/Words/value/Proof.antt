@@ -77,7 +77,7 @@ value_spec 𝓤 𝓛 𝓜 𝓡 wired X P U F LX LP LU LF g d _ =
     let h : Sr.Denot = a.1.1.0.now in let k : Sr.Denot = a.1.1.1.0.now in
     let nr : ℕ = a.1.1.1.1.0 in let j : ℕ = a.1.1.1.1.1.0 in let pv : Ptr = a.1.1.1.1.1.1.0 in
     let hg : Holder (Seen U.Denot) = record { seat = h.id; view = ((h.view, h.visit), h.away); stretch = h.stretch; mark = h.mark } in
-    let ho : Holder (Seen U.Denot) = record { seat = k.id; view = ((k.view, k.visit), k.away); stretch = k.stretch; mark = k.mark } in let cv = seat_coded R₂.coded in let rule = g.holds t.fixed in let ruled = HoldsHere g.rests rule in let holds = HoldsSince g.rests t.start rule g.keeps in let keeps = keeps_here g.keeps in
+    let ho : Holder (Seen U.Denot) = record { seat = k.id; view = ((k.view, k.visit), k.away); stretch = k.stretch; mark = k.mark } in let cv = seat_coded R₂.coded in let rule = g.holds t.fixed in let ruled = HoldsHere g.rests g.leans rule in let holds = HoldsSince g.rests g.leans t.start rule g.keeps in let keeps = keeps_here g.keeps in
     let bv : ℕ = block_of pv in let ov : ℕ = count_of pv in let sz : ℕ = stride K₀ in let e : ℕ = j * sz + ov in
     let others : Fml = fsep (flft κs.1.0 qs.1.0) (fsep (flft κs.1.1.0 qs.1.1.0) (fsep (flft κs.1.1.1.0 qs.1.1.1.0) (fsep (flft κs.1.1.1.1.0 qs.1.1.1.1.0) (fsep (flft κs.1.1.1.1.1.0 qs.1.1.1.1.1.0) ftrue)))) in
     let Asked : Type 0 = (core_of z ≡ core_of z₀) × InBlock p × (h.base ≡ z₀.views_name) × (k.base ≡ z₀.views_name) × IsItsIndex z nr j × (pv ≡ z.values) ×
@@ -127,8 +127,8 @@ value_spec 𝓤 𝓛 𝓜 𝓡 wired X P U F LX LP LU LF g d _ =
     let Ev = env fn.locals l in
     -- [the owner; the guard; the words; the token; the others]
     nothing ! $ nothing ! $ fjoin ! $ move ! (3 ∷ 2 ∷ 1 ∷ 4 ∷ 0 ∷ []) $ group ! 5 $
-    let d : ℕ = nr - 1 - z.first in let here : ℕ = d * sz + count_of z.values in let mine = asked.4.0 in let shown = shown_alone g.rests rule g.keeps t.start h.id ((h.view, h.visit), h.away) k.id ((k.view, k.visit), k.away) nr
-    (shown_here g.rests rule g.keeps t.start h.id h.view h.visit h.away k.id k.view k.visit k.away nr asked.6) in let beside = bears 𝓛 K₀ kept_words cv holds p z None in
+    let d : ℕ = nr - 1 - z.first in let here : ℕ = d * sz + count_of z.values in let mine = asked.4.0 in let shown = shown_alone g.rests g.leans g.upright rule g.keeps t.start h.id ((h.view, h.visit), h.away) k.id ((k.view, k.visit), k.away) nr
+    (shown_here g.rests g.leans g.upright rule g.keeps t.start h.id h.view h.visit h.away k.id k.view k.visit k.away nr asked.6) in let beside = bears 𝓛 K₀ kept_words cv holds p z None in
     use1 𝓛 (later (items (λ (x : K₀.Denot). given (So 𝓛 K₀ LO.shr_laws kept_words cv holds keeps p z hg ho None nr shown mine ftrue (λ _. Unit {0}) beside x)
     (‵ (shared_of O (Some x) (block_of z.values) here κ))) ⊛ ‵ (flft κ qs.0) ⊛ ‵ ftrue))
     (lent_to 𝓛 K₀ LO.shr_laws kept_words cv holds keeps p z hg ho None nr shown mine ftrue (λ _. Unit {0}) beside κ qs.0) $ await ! tt $ split3 ! $ move ! (2 ∷ []) $ drop ! $ pick ! (λ x. learn ! (λ so.
@@ -147,7 +147,7 @@ value_spec 𝓤 𝓛 𝓜 𝓡 wired X P U F LX LP LU LF g d _ =
     move ! (1 ∷ 2 ∷ []) $ join ! $ move ! (1 ∷ []) $ feq_i ! (List Val) (vptr bv e ∷ []) (vptr bv e ∷ []) refl $ fjoin ! $
     let Told : Type 0 = (y : K₀.Denot) × (Some x ≡ Some y) × IsValueOfBoth ruled h.id ((h.view, h.visit), h.away) k.id ((k.view, k.visit), k.away) nr y in
     use0 𝓛 (raw (fact 𝓤 Told)) (fact_i 𝓤 Told (emp 𝓤)
-    (x, refl, value_both g.rests rule g.keeps t.start h.id ((h.view, h.visit), h.away) k.id ((k.view, k.visit), k.away) nr x so.0)) $
+    (x, refl, value_both g.rests g.leans g.upright rule g.keeps t.start h.id ((h.view, h.visit), h.away) k.id ((k.view, k.visit), k.away) nr x so.0)) $
     nothing ! $ nothing ! $ fjoin ! $ nothing ! $ fjoin ! $ nothing ! $ fjoin ! $ nothing ! $ fjoin ! $ nothing ! $ fjoin ! $ nothing ! $ fjoin ! $ nothing ! $ fjoin ! $
     returns ! (look_at ! 0 refl) $ free_all ! refl $ keep ! (3 ∷ 0 ∷ 2 ∷ 1 ∷ []) $
     by ! (leaves 𝓛 En hs c y (vptr bv e) (record { ref_ptr = (bv, e); now = Some x }) (tt, (tt, (tt, (tt, (tt, (tt, (tt, tt))))))) (tt, (tt, (tt, (tt, (tt, (tt, (tt, tt))))))))))))))

@@ -81,7 +81,7 @@ value_by_spec 𝓤 𝓛 𝓜 𝓡 wired X P U F LX LP LU LF g d _ =
     let q : Sr.Denot = a.1.1.0.now in let h : Sr.Denot = a.1.1.1.0.now in let k : Sr.Denot = a.1.1.1.1.0.now in
     let nr : ℕ = a.1.1.1.1.1.0 in let j : ℕ = a.1.1.1.1.1.1.0 in let pv : Ptr = a.1.1.1.1.1.1.1.0 in let vq : Seen U.Denot = ((q.view, q.visit), q.away) in
     let hg : Holder (Seen U.Denot) = record { seat = h.id; view = ((h.view, h.visit), h.away); stretch = h.stretch; mark = h.mark } in
-    let ho : Holder (Seen U.Denot) = record { seat = k.id; view = ((k.view, k.visit), k.away); stretch = k.stretch; mark = k.mark } in let cv = seat_coded R₂.coded in let rule = g.holds t.fixed in let holds = HoldsSince g.rests t.start rule g.keeps in let keeps = keeps_here g.keeps in
+    let ho : Holder (Seen U.Denot) = record { seat = k.id; view = ((k.view, k.visit), k.away); stretch = k.stretch; mark = k.mark } in let cv = seat_coded R₂.coded in let rule = g.holds t.fixed in let holds = HoldsSince g.rests g.leans t.start rule g.keeps in let keeps = keeps_here g.keeps in
     let bv : ℕ = block_of pv in let ov : ℕ = count_of pv in let sz : ℕ = stride K₀ in let e : ℕ = j * sz + ov in
     let others : Fml = fsep (flft κs.1.1.1.0 qs.1.1.1.0) (fsep (flft κs.1.1.1.1.0 qs.1.1.1.1.0) (fsep (flft κs.1.1.1.1.1.0 qs.1.1.1.1.1.0) (fsep (flft κs.1.1.1.1.1.1.0 qs.1.1.1.1.1.1.0) ftrue))) in
     let Asked : Type 0 = (core_of z ≡ core_of z₀) × InBlock p × (q.base ≡ z₀.views_name) × (h.base ≡ z₀.views_name) × (k.base ≡ z₀.views_name) × IsItsIndex z nr j
@@ -141,9 +141,9 @@ value_by_spec 𝓤 𝓛 𝓜 𝓡 wired X P U F LX LP LU LF g d _ =
     -- [open; a share of what it knows; the owner; the guard; the words; the token; the strip's; the others]
     move ! (4 ∷ 3 ∷ 2 ∷ 5 ∷ 1 ∷ []) $ group ! 5 $
     let d : ℕ = nr - 1 - z.first in let here : ℕ = d * sz + count_of z.values in let mine = asked.5.0 in let new : U.Denot = g.newcomer t.fixed in
-    let x₀ : Seen U.Denot = bears_witness g.rests rule g.keeps t.start q.id q.view q.visit q.away h.id h.view h.visit h.away k.id k.view k.visit k.away nr new in
-    let law = testifies_here g.rests rule g.keeps t.start q.id q.view q.visit q.away h.id h.view h.visit h.away k.id k.view k.visit k.away nr new (g.newcomers_rest t.fixed) asked.9 asked.7 in
-    let shown = shown_by_here g.rests rule g.keeps t.start q.id q.view q.visit q.away h.id h.view h.visit h.away k.id k.view k.visit k.away nr new asked.8 in
+    let x₀ : Seen U.Denot = bears_witness g.rests g.leans g.upright rule g.keeps t.start q.id q.view q.visit q.away h.id h.view h.visit h.away k.id k.view k.visit k.away nr new in
+    let law = testifies_here g.rests g.leans g.upright rule g.keeps t.start q.id q.view q.visit q.away h.id h.view h.visit h.away k.id k.view k.visit k.away nr new (g.newcomers_rest t.fixed) asked.9 asked.7 in
+    let shown = shown_by_here g.rests g.leans g.upright rule g.keeps t.start q.id q.view q.visit q.away h.id h.view h.visit h.away k.id k.view k.visit k.away nr new asked.8 in
     use1 𝓛 (later (items (λ (x : K₀.Denot). given (So 𝓛 K₀ LO.shr_laws kept_words cv holds keeps p z q.id vq hg ho x₀ refl law nr shown mine κ x)
     (‵ (shared_of O (Some x) (block_of z.values) here κ))) ⊛ ‵ (flft κ qs.0) ⊛ ‵ (By 𝓛 K₀ LO.shr_laws kept_words cv holds keeps p z q.id vq hg ho x₀ refl law r)))
     (lent_by 𝓛 K₀ LO.shr_laws kept_words cv holds keeps p z q.id vq hg ho x₀ refl law nr shown mine κ qs.0 r) $ await ! tt $ split3 ! $
@@ -166,7 +166,7 @@ value_by_spec 𝓤 𝓛 𝓜 𝓡 wired X P U F LX LP LU LF g d _ =
     use0 𝓛 (raw (fact 𝓤 Told)) (fact_i 𝓤 Told (emp 𝓤) (
       x,
       refl,
-      value_by_here g.rests rule g.keeps t.start q.id q.view q.visit q.away h.id h.view h.visit h.away k.id k.view k.visit k.away nr new x so.0,
+      value_by_here g.rests g.leans g.upright rule g.keeps t.start q.id q.view q.visit q.away h.id h.view h.visit h.away k.id k.view k.visit k.away nr new x so.0,
     )) $
     nothing ! $ nothing ! $ fjoin ! $ nothing ! $ fjoin ! $ nothing ! $ fjoin ! $ nothing ! $ fjoin ! $ nothing ! $ fjoin ! $ nothing ! $ fjoin ! $ nothing ! $ fjoin ! $ nothing ! $ fjoin ! $
     returns ! (look_at ! 0 refl) $ free_all ! refl $ keep ! (3 ∷ 0 ∷ 2 ∷ 1 ∷ []) $

@@ -12,7 +12,7 @@ returns-then-own-lt1152921504606846976-clause-lies g c =
       (
         beside_some b.at b.count b.beside c.if-beside-gt0.true,
         low,
-        own_lies g.R.Rule.rests (g.R.Rule.holds c.args.self.now.words.fixed) g.R.Rule.keeps t.id t.view t.visit t.away c.args.block c.args.own (b.at, b.count) s.result.strip.words b.at
+        own_lies g.R.Rule.rests g.R.Rule.leans g.R.Rule.upright (g.R.Rule.holds c.args.self.now.words.fixed) g.R.Rule.keeps t.id t.view t.visit t.away c.args.block c.args.own (b.at, b.count) s.result.strip.words b.at
             c.args.own s.result.strip.id s.result.index e.index.0 c.beside-beside.ensures (λ there few. (refl, refl)),
       ),
     )
@@ -25,7 +25,7 @@ returns-clause-lies g c =
       (
         subst InBlock (sym w.ensures) e.strip.1,
         lit< tt,
-        own_lies g.R.Rule.rests (g.R.Rule.holds c.args.self.now.words.fixed) g.R.Rule.keeps t.id t.view t.visit t.away c.args.block c.args.own (b.at, b.count) s.result.strip.words
+        own_lies g.R.Rule.rests g.R.Rule.leans g.R.Rule.upright (g.R.Rule.holds c.args.self.now.words.fixed) g.R.Rule.keeps t.id t.view t.visit t.away c.args.block c.args.own (b.at, b.count) s.result.strip.words
             w.result.at 0 s.result.strip.id s.result.index e.index.0 c.beside-beside.ensures
             (λ there few. absurd (own_away b.at b.count c.args.own b.beside c.else-beside-gt0.either there few)),
       ),

@@ -5,22 +5,29 @@ use Rattle.seize_views.specs.Begun.{forgetting}
 use Rattle.seize_views.specs.Notes.{still}
 use Rattle.seize_views.specs.Watched.{open_at}
 use Rattle.seize_views.specs.declared.view.View.TheVariants.{Inside}
-use Rattle.seize_callers.proofs.Turns.{may_turn, forgets_next, forgets_so}
+use Rattle.seize_callers.proofs.Turns.{may_turn, leans_turn, forgets_next, forgets_so}
 use Rattle.seize_callers.proofs.caller.Caller.forgets.Goals as goal
 
-pub turn-requires-clause-may : goal.turn-requires-clause-may
-turn-requires-clause-may g c =
+pub part-requires-clause-may : goal.part-requires-clause-may
+part-requires-clause-may g c =
     let x = c.args.self.now in let i = c.requires.inside in let fixed = x.blocks.now.words.fixed in
-    may_turn g.C.Rule.holds g.C.Rule.keeps g.C.Content.notes g.C.Content.beside c.goes_on.ensures.turn x.blocks.now.words.fixed x.seat.id x.seat.view
+    may_turn g.C.Rule.holds g.C.Rule.keeps g.C.Content.notes g.C.Content.beside g.C.Rule.leans c.goes_on.ensures.turn x.blocks.now.words.fixed x.seat.id x.seat.view
     (Inside c.args._slot i.0) i.2 forgetting still (forgets_next g.row.T.Denot fixed c.args._slot i.0 i.1)
     (inr (ap open_at (forgets_so g.row.T.Denot fixed c.args._slot i.0 i.1)))
 
-pub turn-requires-clause-errand : goal.turn-requires-clause-errand
-turn-requires-clause-errand g c = λ home rests w so.
+pub part-requires-clause-errand : goal.part-requires-clause-errand
+part-requires-clause-errand g c = λ home rests w so.
     let i = c.requires.inside in let fixed = c.args.self.now.blocks.now.words.fixed in
     c.goes_on.ensures.rest w (at_rest (g.C.Content.notes w).knows (Inside c.args._slot Nothing) (so.0 ∙ ap (forgetting fixed) i.2 ∙ forgets_so g.row.T.Denot fixed c.args._slot i.0 i.1) tt)
+
+pub part-requires-clause-leans : goal.part-requires-clause-leans
+part-requires-clause-leans g c =
+    let x = c.args.self.now in let i = c.requires.inside in let fixed = x.blocks.now.words.fixed in
+    leans_turn g.C.Rule.holds g.C.Rule.keeps g.C.Content.notes g.C.Content.beside g.C.Rule.leans c.goes_on.ensures.leans x.blocks.now.words.fixed x.seat.id x.seat.view
+    (Inside c.args._slot i.0) i.2 forgetting still (forgets_next g.row.T.Denot fixed c.args._slot i.0 i.1)
+    (inr (ap open_at (forgets_so g.row.T.Denot fixed c.args._slot i.0 i.1)))
 
 pub returns-clause-inside : goal.returns-clause-inside
 returns-clause-inside g c =
     let x = c.args.self.now in let i = c.requires.inside in let fixed = x.blocks.now.words.fixed in
-    c.turn.ensures.goes.0 ∙ ap (forgetting fixed) i.2 ∙ forgets_so g.row.T.Denot fixed c.args._slot i.0 i.1
+    c.part.ensures.goes.0 ∙ ap (forgetting fixed) i.2 ∙ forgets_so g.row.T.Denot fixed c.args._slot i.0 i.1

@@ -13,7 +13,7 @@ use Rattle.seize_views.specs.declared.view.Why.TheVariants.{Retiring}
 use Rattle.seize_views.specs.Notes.{still}
 use Rattle.seize_views.specs.Watched.{known_by}
 use Rattle.seize_callers.specs.Made.{task_of}
-use Rattle.seize_callers.proofs.Turns.{may_turn, own_task}
+use Rattle.seize_callers.proofs.Turns.{may_turn, leans_turn, own_task}
 use Rattle.seize_callers.proofs.Straight.{Comes, has_ended, has_stopped, may_run, retirement_row}
 use Rattle.seize_callers.proofs.within.Within.retires.Given as given
 use Rattle.seize_callers.proofs.within.Within.retires.Goals as goal
@@ -35,33 +35,39 @@ over g c way is =
     has_ended g.T.Defers.defers (λ m. g.C.Content.notes m.seat.now.view) (λ m. g.C.Content.beside m.seat.now.view) (λ m. kept m.blocks m.seat.ghost_name m.seat.now.id m.seat.now.away) (λ m. IsAllowed g.C.Rule.holds g.C.Rule.keeps g.C.Content.notes g.C.Content.beside g.T.Defers.defers g.C.Rule.then m.blocks.now.words.fixed m.seat.now.id m.seat.now.view) (task_of (Retiring way) (g.C.Content.notes x.seat.now.view)) (retiring c.args.slot x.batch_size c.args.link) x c.retire-retired.new.memory c.in-Ended.ensures
     (retirement_row (g.C.Content.notes x.seat.now.view) c.args.slot c.args.link x.blocks.now.words.fixed.batch_size x.batch_size way x.sized is)
 
-pub turn-requires-clause-may : goal.turn-requires-clause-may
-turn-requires-clause-may g c =
-    let b = c.requires.begun in let n = c.retire-retired.new.memory in let d = over g (goal.at.turn-requires-clause-may g c).In-Ended b.0 b.1 in
-    may_turn g.C.Rule.holds g.C.Rule.keeps g.C.Content.notes g.C.Content.beside c.goes_on.ensures.turn n.blocks.now.words.fixed n.seat.now.id n.seat.now.view (Settles d.0 (Retiring b.0) d.2.0.0 d.2.0.1) (ap known_by d.2.0.2) ended still
+pub part-requires-clause-may : goal.part-requires-clause-may
+part-requires-clause-may g c =
+    let b = c.requires.begun in let n = c.retire-retired.new.memory in let d = over g (goal.at.part-requires-clause-may g c).In-Ended b.0 b.1 in
+    may_turn g.C.Rule.holds g.C.Rule.keeps g.C.Content.notes g.C.Content.beside g.C.Rule.leans c.goes_on.ensures.turn n.blocks.now.words.fixed n.seat.now.id n.seat.now.view (Settles d.0 (Retiring b.0) d.2.0.0 d.2.0.1) (ap known_by d.2.0.2) ended still
     (d.1, refl) tt
 
-pub turn-requires-clause-errand : goal.turn-requires-clause-errand
-turn-requires-clause-errand g c = λ home rests w so. absurd (c.retire-retired.new.memory.away home)
+pub part-requires-clause-errand : goal.part-requires-clause-errand
+part-requires-clause-errand g c = λ home rests w so. absurd (c.retire-retired.new.memory.away home)
+
+pub part-requires-clause-leans : goal.part-requires-clause-leans
+part-requires-clause-leans g c =
+    let b = c.requires.begun in let n = c.retire-retired.new.memory in let d = over g (goal.at.part-requires-clause-leans g c).In-Ended b.0 b.1 in
+    leans_turn g.C.Rule.holds g.C.Rule.keeps g.C.Content.notes g.C.Content.beside g.C.Rule.leans c.goes_on.ensures.leans n.blocks.now.words.fixed n.seat.now.id n.seat.now.view (Settles d.0 (Retiring b.0) d.2.0.0 d.2.0.1) (ap known_by d.2.0.2) ended still
+    (d.1, refl) tt
 
 pub returns-in-Ended-clause-rests : goal.returns-in-Ended-clause-rests
 returns-in-Ended-clause-rests g c = λ way is.
     let d = over g (goal.at.returns-in-Ended-clause-rests g c).In-Ended way is in
-    c.turn.ensures.goes.0 ∙ ap (ended c.retire-retired.new.memory.blocks.now.words.fixed) (ap known_by d.2.0.2) ∙ ap (left_with way) d.2.1
+    c.part.ensures.goes.0 ∙ ap (ended c.retire-retired.new.memory.blocks.now.words.fixed) (ap known_by d.2.0.2) ∙ ap (left_with way) d.2.1
 
 pub returns-in-Ended-clause-same : goal.returns-in-Ended-clause-same
 returns-in-Ended-clause-same g c =
     let b = c.requires.begun in
-    still_kept _ _ c.turn.ensures.same.1 c.turn.ensures.errand ∙ (over g (goal.at.returns-in-Ended-clause-same g c).In-Ended b.0 b.1).2.2
+    still_kept _ _ c.part.ensures.same.1 c.part.ensures.errand ∙ (over g (goal.at.returns-in-Ended-clause-same g c).In-Ended b.0 b.1).2.2
 
 pub returns-in-Ended-clause-beside : goal.returns-in-Ended-clause-beside
 returns-in-Ended-clause-beside g c =
-    let b = c.requires.begun in c.turn.ensures.goes.4 ∙ (over g (goal.at.returns-in-Ended-clause-beside g c).In-Ended b.0 b.1).2.4
+    let b = c.requires.begun in c.part.ensures.goes.4 ∙ (over g (goal.at.returns-in-Ended-clause-beside g c).In-Ended b.0 b.1).2.4
 
 pub returns-in-Ended-clause-notes : goal.returns-in-Ended-clause-notes
 returns-in-Ended-clause-notes g c =
     let b = c.requires.begun in let d = over g (goal.at.returns-in-Ended-clause-notes g c).In-Ended b.0 b.1 in
-    (c.turn.ensures.goes.1 ∙ ap (λ v. v.did) d.2.0.2, c.turn.ensures.goes.2 ∙ ap (λ v. v.began) d.2.0.2, c.turn.ensures.goes.3 ∙ ap (λ v. v.guards) d.2.0.2)
+    (c.part.ensures.goes.1 ∙ ap (λ v. v.did) d.2.0.2, c.part.ensures.goes.2 ∙ ap (λ v. v.began) d.2.0.2, c.part.ensures.goes.3 ∙ ap (λ v. v.guards) d.2.0.2)
 
 -- it is the settling of the point where it has stopped
 stopped : (g : given.Over) (c : After-settle_of g) (way : Becomes)

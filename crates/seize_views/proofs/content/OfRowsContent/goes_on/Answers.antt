@@ -1,4 +1,5 @@
 use Rattle.seize_views.proofs.Contents.{seats_come_in, rows_go_on_in, rows_are_told, rows_turn_in, settlings_begin_in, looked_are_shown_in}
+use Rattle.seize_views.specs.Resting.{rows_lean}
 use Rattle.seize_views.proofs.content.OfRowsContent.goes_on.Goals as goal
 
 pub returns-clause-come : goal.returns-clause-come
@@ -21,3 +22,6 @@ returns-clause-looked g c = looked_are_shown_in g.row.T.Denot g.T.Defers.defers
 
 pub returns-clause-rest : goal.returns-clause-rest
 returns-clause-rest g c = λ v at_rest. at_rest
+
+pub returns-clause-leans : goal.returns-clause-leans
+returns-clause-leans g c = λ v w n rows same leans. absurd (rows_lean w.knows n rows leans)

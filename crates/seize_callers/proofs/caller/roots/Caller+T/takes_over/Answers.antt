@@ -37,3 +37,6 @@ meet-requires-clause-errand g c = λ p q so.
     handed fixed c.args._block x.seat.view.knows p.knows q.knows c.requires.takes
     (subst (λ v. Hands fixed v x.seat.view.knows p.knows q.knows) (bears c.args._block seat.view.knows c.requires.bears) so.0) in
     (λ home rests. k.0, λ home rests. k.1)
+
+pub meet-requires-clause-leans : goal.meet-requires-clause-leans
+meet-requires-clause-leans g c = λ v u told. (λ n none. absurd none, λ n none. absurd none)

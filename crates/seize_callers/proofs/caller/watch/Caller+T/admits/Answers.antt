@@ -13,3 +13,6 @@ pub meet-requires-clause-errand : goal.meet-requires-clause-errand
 meet-requires-clause-errand g c = λ p q so.
     let k = so c.args._slot c.requires.inside in
     (λ home rests. at_rest p.knows (Watches c.args._slot 0) k.0 tt, λ home rests. at_rest q.knows c.args.self.now.seat.view.knows k.2 rests)
+
+pub meet-requires-clause-leans : goal.meet-requires-clause-leans
+meet-requires-clause-leans g c = λ v u told. (λ n none. absurd none, λ n none. absurd none)

@@ -12,3 +12,6 @@ meet-requires-clause-may g c =
 pub meet-requires-clause-errand : goal.meet-requires-clause-errand
 meet-requires-clause-errand g c = λ p q so.
     (λ home rests. at_rest p.knows Rests so.0 tt, λ home rests. at_rest q.knows c.args.self.now.seat.view.knows so.2 rests)
+
+pub meet-requires-clause-leans : goal.meet-requires-clause-leans
+meet-requires-clause-leans g c = λ v u told. (λ n none. absurd none, λ n none. absurd none)

@@ -11,7 +11,7 @@ use Rattle.seize.specs.declared.rows.register.Register.{Register}
 use Rattle.seize_views.specs.Told.{told, left_by, alone_with, owes_in, list_taken}
 use Rattle.seize_views.specs.Watched.{open_at, IsOwn}
 use Rattle.seize_views.specs.declared.view.View.{View}
-use Rattle.seize_views.specs.declared.view.View.TheVariants.{Rests, Registers, Outside, Owes, Enters, Inside, Settles, Leaves, Left, Frees, Brings, Bears, Watches, Busy}
+use Rattle.seize_views.specs.declared.view.View.TheVariants.{Rests, Registers, Outside, Owes, Enters, Inside, Settles, Leaves, Left, Frees, Brings, Bears, Watches, Under, Busy}
 use Rattle.seize_views.specs.declared.view.Has.{Has}
 use Rattle.seize_views.specs.declared.view.Has.TheVariants.{Nothing, Made, Seen, Both, Cut}
 use Rattle.seize_views.specs.declared.view.Why.TheVariants.{Retiring, Ending}
@@ -101,4 +101,5 @@ module _ {T : Type 0} where
     told_still (Brings b x) op out w own is = at_own (Brings b x) w (alone_with is.0) is.2 (alone_own is.0) (inr refl)
     told_still (Bears b) op out w own is = absurd is
     told_still (Watches t b) op out w own is = absurd own
+    told_still (Under n t b) op out w own is = absurd own
     told_still (Busy t) op out w own is = absurd is

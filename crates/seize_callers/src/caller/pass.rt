@@ -1,0 +1,104 @@
+//! A seat that takes steps under another one, which is lent for them, and takes none meanwhile.
+ghost use Rattle.std.specs.Prelude.{◌≡◌, ◌<◌, ℕ, Some, IfSome, IfNone};
+ghost use Rattle.seize_words.specs.Word.{block_in};
+ghost use Rattle.seize_seats.specs.Lendings.{IsValueOf};
+ghost use Rattle.seize_callers.specs.Kept.{is_home};
+ghost use Rattle.seize_views.specs.Notes.{NotedHolds};
+ghost use Rattle.seize_views.specs.Watched.{open_at};
+ghost use Rattle.seize_views.specs.declared.view.Deed.TheVariants.{Looked};
+ghost use Rattle.seize_views.specs.declared.view.View.TheVariants.{Rests};
+
+use crate::caller::{Caller, named};
+use seize::rows::Defers;
+use seize_blocks::{Blocks, ErrandWith, Seat};
+use seize_views::OfRows;
+use seize_views::turns::{Leaning, Returning};
+use seize_words::At;
+
+/// A seat that takes steps under a caller whose section is open, and who is lent for that: any number of passes may do so at a time. Between two calls it rests.
+pub struct Pass<T: Defers> {
+    seat: Seat<T, OfRows>,
+    ghost rests: { seat.view.knows ≡ Rests },
+    ghost home: { is_home seat.away ≡ true },
+}
+
+impl<T: Defers> Pass<T> {
+    /// One more of this memory.
+    pub fn new(blocks: &Blocks<T, OfRows>) -> Self
+        ensures { result.seat.base ≡ blocks.now.words.id.views_name }
+    {
+        let seat = blocks.seat();
+        Pass { seat }
+    }
+}
+
+impl<T: Defers> Drop for Pass<T> {
+    fn drop(self) {
+        let Pass { seat: _ } = self;
+    }
+}
+
+/// Looks which word is at a root, within the section that the guard's seat has open.
+struct Protects<'g, T: Defers> {
+    blocks: &'g Blocks<T, OfRows>,
+    guard: &'g Seat<T, OfRows>,
+    root: u64,
+}
+
+impl<'g, T: Defers> ErrandWith<T, OfRows> for Protects<'g, T> {
+    type Answer = (u64, Option<&'g T>);
+
+    ghost asks = { λ s name fixed lent u v. (s.blocks.now.words.id.views_name ≡ name) × (s.blocks.now.words.fixed ≡ fixed) × (s.guard.now.base ≡ name)
+        × (s.guard.now.id ≡ lent) × ((t : ℕ) × (open_at s.guard.now.view.knows ≡ Some t)) × (s.root < fixed.roots) × (v.knows ≡ Rests) };
+
+    ghost did = { λ s fixed _ answer w. (w.knows ≡ Rests) × (w.did ≡ Looked s.root answer.0)
+        × IfSome answer.1 (λ value. IsValueOf (NotedHolds T.defers fixed) s.guard.now.id s.guard.now.view (block_in answer.0) value.now)
+        × IfNone answer.1 (block_in answer.0 ≡ 0) };
+
+    fn run(self, blocks: &Blocks<T, OfRows>, seat: &mut Seat<T, OfRows>) -> (u64, Option<&'g T>) {
+        let Self {
+            blocks: lends,
+            guard,
+            root,
+        } = self;
+        blocks.learn::<Leaning>(seat, guard);
+        let word = blocks.load(seat, At::Root(root));
+        let value = match named(word) {
+            Some(block) => Some(lends.value_by(seat, guard, guard, block)),
+            None => None,
+        };
+        blocks.turn::<Returning>(seat);
+        (word, value)
+    }
+}
+
+impl<'a, T: Defers> Caller<'a, T> {
+    /// A pass looks which word is at a root, within its section, which is open: the value of the block to which that links is lent for as long as the caller is
+    /// borrowed, whatever the pass does then.
+    pub fn protect_by<'g>(
+        &'g self,
+        _slot: u64,
+        root: u64,
+        pass: &mut Pass<T>,
+    ) -> (u64, Option<&'g T>)
+        requires own { pass.old.seat.base ≡ self.now.blocks.now.words.id.views_name }
+        requires inside { open_at self.now.seat.view.knows ≡ Some _slot }
+        requires there { root < self.now.blocks.now.words.fixed.roots }
+        ensures same { pass.new.seat.base ≡ pass.old.seat.base }
+        ensures looked { pass.new.seat.view.did ≡ Looked root result.0 }
+        ensures lent { IfSome result.1 (λ value. IsValueOf (NotedHolds T.defers self.now.blocks.now.words.fixed) self.now.seat.id self.now.seat.view
+            (block_in result.0) value.now) }
+        ensures none { IfNone result.1 (block_in result.0 ≡ 0) }
+    {
+        let guard = &self.seat;
+        self.blocks.errand_with(
+            &mut pass.seat,
+            guard,
+            Protects {
+                blocks: self.blocks,
+                guard,
+                root,
+            },
+        )
+    }
+}
