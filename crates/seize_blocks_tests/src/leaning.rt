@@ -7,6 +7,7 @@ use seize_blocks::{Blocks, ErrandWith, Home, Lesson, Rule, Seat, Turn};
 use seize_words::At;
 use std::test::Fail;
 use std::thread;
+use std::thread::Threads;
 
 /// The first root is set by one seat at a time, and stays as long as another one looks at it.
 struct Lent;
