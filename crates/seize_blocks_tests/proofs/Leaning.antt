@@ -14,7 +14,7 @@ use Rattle.seize_blocks_tests.specs.Leaned.{HasSet, Leans, IsLeaned, leaned}
 use Rattle.seize_blocks_tests.proofs.Owners.{set_here, set_else, push_get}
 
 -- nothing is kept
-abbrev NoneKept : Part → Part → Unit {0} → ℕ → Type 0
+abbrev pub NoneKept : Part → Part → Unit {0} → ℕ → Type 0
 NoneKept u o w b = ⊥
 
 abbrev S : Type 0

@@ -1,5 +1,5 @@
 //! A seat looks at a word while it leans on the one that has set it, which is lent for that: the word stays, and is cleared once nobody leans on its seat.
-ghost use Rattle.std.specs.Prelude.{◌≡◌};
+ghost use Rattle.std.specs.Prelude.{◌≡◌, true};
 ghost use Rattle.seize_blocks_tests.specs.declared.part.Part.TheVariants.{Nothing, Keeps};
 
 use crate::part::Part;
@@ -7,6 +7,7 @@ use seize_blocks::{Blocks, ErrandWith, Home, Lesson, Rule, Seat, Turn};
 use seize_words::At;
 use std::test::Fail;
 use std::thread;
+use std::thread::Threads;
 
 /// The first root is set by one seat at a time, and stays as long as another one looks at it.
 struct Lent;
@@ -97,15 +98,34 @@ fn looks(blocks: &Blocks<u64, Lent>, keeper: &Seat<u64, Lent>) -> u64
     blocks.errand_with(&mut seat, keeper, Look { keeper })
 }
 
-/// Sets the word, has it looked at, by two threads at a time, and clears it. Where another one has set it this does nothing.
+/// Sets the word by a seat that knows nothing, unless another one has set it.
+fn takes(blocks: &Blocks<u64, Lent>, keeper: &mut Seat<u64, Lent>) -> bool
+    requires { (keeper.old.base ≡ blocks.now.words.id.views_name) × (keeper.old.view ≡ Nothing) }
+    ensures base { keeper.new.base ≡ keeper.old.base }
+    ensures set { result ≡ true → keeper.new.view ≡ Keeps }
+{
+    match blocks.exchange(keeper, At::Root(0), 0, 1) {
+        Ok(_) => true,
+        Err(_) => false,
+    }
+}
+
+/// Clears it, by the seat that has set it, once nobody leans on that.
+fn clears(blocks: &Blocks<u64, Lent>, keeper: &mut Seat<u64, Lent>)
+    requires { (keeper.old.base ≡ blocks.now.words.id.views_name) × (keeper.old.view ≡ Keeps) }
+{
+    blocks.part::<Clearing>(keeper);
+    blocks.store(keeper, At::Root(0), 0);
+}
+
+/// Sets the word, has it looked at by two threads at a time, and clears it. Where another one has set it this does nothing.
 fn sets<R: Threads + Sync>(rt: &R, blocks: &Blocks<u64, Lent>) -> bool {
     let mut keeper = blocks.seat();
-    if blocks.exchange(&mut keeper, At::Root(0), 0, 1).is_err() {
+    if !takes(blocks, &mut keeper) {
         return false;
     }
     thread::join(rt, || looks(blocks, &keeper), || looks(blocks, &keeper));
-    blocks.part::<Clearing>(&mut keeper);
-    blocks.store(&mut keeper, At::Root(0), 0);
+    clears(blocks, &mut keeper);
     true
 }
 

@@ -112,5 +112,15 @@ module _ {T : Type 0} (defers : T → Option ℕ) (left_over : T → Bool) where
 
   pub one_ends : OneEnds defers left_over
   one_ends fixed id c seen left over s h at_id idle =
-      let r = over_renews defers left_over fixed id c seen left over s h at_id in
-      (r.0, (r.1, record { held = λ j t b e. absurd (cc e); counted = λ k v e. absurd (cc e); opened = λ t some. absurd (some refl) }))
+      let r = over_renews defers left_over fixed id c seen left over s h at_id in (
+        r.0,
+        (
+          r.1,
+          record {
+            held = λ j t b e. absurd (cc e);
+            counted = λ k v e. absurd (cc e);
+            opened = λ t some. absurd (some refl);
+            leaned = record { based = λ j n t b v e. absurd (cc e); seen = λ j n t b v e. absurd (cc e) };
+          },
+        ),
+      )

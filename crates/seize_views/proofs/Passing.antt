@@ -53,9 +53,6 @@ module _ {T : Type 0} (defers : T → Option ℕ) (fixed : Fixed) where
   N = NotedHolds defers fixed
 
   module _ (s : State T (Noted T) (World T)) (h : N s) where
-    abbrev known : State T (View T) (World T)
-    known = as_known s
-
     -- the section of who is leant on is open
     base_inside : (n t : ℕ) → IsBase s.views n t → IsInside (s.world.uses t)
     base_inside n t base = open_inside s.world base.0.knows t base.2 (h.0.seats n base.0.knows (seen_at defers fixed s n base.0 base.1)).slot

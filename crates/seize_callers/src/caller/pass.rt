@@ -6,7 +6,7 @@ ghost use Rattle.seize_callers.specs.Kept.{is_home};
 ghost use Rattle.seize_views.specs.Notes.{NotedHolds};
 ghost use Rattle.seize_views.specs.Watched.{open_at};
 ghost use Rattle.seize_views.specs.declared.view.Deed.TheVariants.{Looked};
-ghost use Rattle.seize_views.specs.declared.view.View.TheVariants.{Rests};
+ghost use Rattle.seize_views.specs.declared.view.View.TheVariants.{Rests, Under};
 
 use crate::caller::{Caller, named};
 use seize::rows::Defers;
@@ -38,6 +38,22 @@ impl<T: Defers> Drop for Pass<T> {
     }
 }
 
+/// The value of the block to which a word links that a seat has found while it leans on the guard's, if it links to one.
+fn lent<'g, T: Defers>(
+    blocks: &'g Blocks<T, OfRows>,
+    seat: &Seat<T, OfRows>,
+    guard: &'g Seat<T, OfRows>,
+    word: u64,
+) -> Option<&'g T>
+    requires own { (seat.now.base ≡ blocks.now.words.id.views_name) × (guard.now.base ≡ blocks.now.words.id.views_name) }
+    requires under { (t : ℕ) × (seat.now.view.knows ≡ Under guard.now.id t (block_in word)) }
+    ensures lent { IfSome result (λ value. IsValueOf (NotedHolds T.defers blocks.now.words.fixed) guard.now.id guard.now.view (block_in word) value.now) }
+    ensures none { IfNone result (block_in word ≡ 0) }
+{
+    let block = named(word)?;
+    Some(blocks.value_by(seat, guard, guard, block))
+}
+
 /// Looks which word is at a root, within the section that the guard's seat has open.
 struct Protects<'g, T: Defers> {
     blocks: &'g Blocks<T, OfRows>,
@@ -63,10 +79,7 @@ impl<'g, T: Defers> ErrandWith<T, OfRows> for Protects<'g, T> {
         } = self;
         blocks.learn::<Leaning>(seat, guard);
         let word = blocks.load(seat, At::Root(root));
-        let value = match named(word) {
-            Some(block) => Some(lends.value_by(seat, guard, guard, block)),
-            None => None,
-        };
+        let value = lent(lends, seat, guard, word);
         blocks.turn::<Returning>(seat);
         (word, value)
     }
