@@ -209,6 +209,23 @@ impl<T, R: Rule<T>> Blocks<T, R> {
         unreachable!()
     }
 
+    /// Where a block of the first strip is.
+    #[inline(always)]
+    fn near_spot(&self, index: u64) -> Spot<T>
+        requires { index ≤ 2 ^ 32 }
+        ensures strip { (result.strip.id ≡ self.now.words.id) × (core_of result.strip.id ≡ core_of self.now.words.id) × InBlock result.strip.words
+            × (result.values ≡ result.strip.id.values) }
+        ensures index { result.index ≡ index }
+        ensures words { result.first ≡ result.index * 5 + long result.strip.id.roots }
+    {
+        Spot {
+            strip: self.words.strip(),
+            values: self.values.at,
+            index,
+            first: self.first_of(index),
+        }
+    }
+
     /// Where a block is: in which strip, its index there, and where the first of its words lies. The views of three seats show the block.
     #[inline(always)]
     pub(crate) fn spot_of(
@@ -225,18 +242,12 @@ impl<T, R: Rule<T>> Blocks<T, R> {
         ensures index { IsItsIndex result.strip.id block result.index × (result.index < 2 ^ 32) }
         ensures words { (result.first ≡ result.index * 5 + result.strip.id.skip) × (result.first + 4 < 2 ^ 60) }
     {
-        if block <= self.count || block > MOST {
-            let index = if block > 0 && block <= self.count {
-                block - 1
-            } else {
-                0
-            };
-            return Spot {
-                strip: self.words.strip(),
-                values: self.values.at,
-                index,
-                first: self.first_of(index),
-            };
+        let index = block.wrapping_sub(1);
+        if index < self.count {
+            return self.near_spot(index);
+        }
+        if block == 0 || block > MOST {
+            return self.near_spot(0);
         }
         self.far_spot_of(pass, guard, owner, block)
     }
