@@ -51,7 +51,7 @@ LATE = {"borrow-e0502", "borrow-e0505"}
 # of whom a guard is entered: the name, the function's parameter, and how
 ENTERS = [
     ("", "(registration: &mut Registration<'_, Plain>)", "let mut guard = registration.enter();"),
-    ("desk_", "<B: Place>(desk: &Desk<'_, Plain, B>)", "let Some(mut guard) = desk.enter() else { return false; };"),
+    ("desk_", "<B: Place>(desk: &Desk<'_, Plain, B>)", "let Ok(mut guard) = desk.enter() else { return false; };"),
 ]
 # who is sent to another thread, or shared with it, by its type and what is done there; and whether that may be
 SENT = [
@@ -61,7 +61,7 @@ SENT = [
     ("guard_shared", "guard: &LocalGuard<'_, '_, Plain>", "|| guard.thread_id()", False),
     ("registration_sent", "registration: Registration<'_, Plain>", "move || drop(registration)", False),
     ("desk_sent", "desk: Desk<'_, Plain, B>", "move || drop(desk)", True),
-    ("desk_shared", "desk: &Desk<'_, Plain, B>", "|| desk.enter().is_some()", False),
+    ("desk_shared", "desk: &Desk<'_, Plain, B>", "|| desk.enter().is_ok()", False),
     ("desk_guard_sent", "guard: DeskGuard<'_, '_, Plain, B>", "move || drop(guard)", False),
 ]
 STAYS = {"unsatisfied-bound"}

@@ -21,6 +21,9 @@ pub trait Guard<T: Defers> {
     /// What its memory has beside slots, sections and batches.
     type Content: Content<T>;
 
+    /// What gets the values that are reclaimed.
+    type Receiver;
+
     /// The collector that it is of, which memory that has, and how many roots.
     ghost home: { Self → Home };
 

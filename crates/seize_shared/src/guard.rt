@@ -5,16 +5,18 @@ ghost use Rattle.seize.specs.Given.SeizeWordsDeclared.fault.Fault.TheVariants.{F
 ghost use Rattle.seize_guards.specs.Deeds.{has_taken};
 ghost use Rattle.seize_guards.specs.Homes.{OneSource};
 ghost use Rattle.seize_guards.specs.Lent.{IsLent};
+ghost use Rattle.seize_shared.specs.Refused.{HasNoSlot};
 ghost use Rattle.seize_callers.specs.Given.SeizeViewsDeclared.view.Deed.TheVariants.{Looked};
 ghost use Rattle.seize_callers.specs.Given.SeizeViewsNotes.{written_at};
 ghost use Rattle.seize_callers.specs.Given.SeizeViewsDeclared.view.Began.TheVariants.{Retirement, Trial};
 ghost use Rattle.seize_callers.specs.Given.SeizeViewsDeclared.view.View.TheVariants.{Brings};
 
+use crate::shared::Shared;
 use crate::stay::Stay;
 use seize::rows::Defers;
 use seize_blocks::Blocks;
 use seize_callers::Caller;
-use seize_guards::{Guard, Owned, Pass, RootGuard, Tagged, Unlinked};
+use seize_guards::{Guard, Owned, Pass, Protected, RootGuard, Tagged, Unlinked};
 use seize_receivers::{Drops, Receiver};
 use seize_views::{Content, Fixed, OfRows};
 use seize_words::Fault;
@@ -36,6 +38,7 @@ impl<'a, T: Defers + Drop, C: Content<T>> Registration<'a, T, C> {
         requires fixed { blocks.now.words.fixed ≡ fixed.now }
         ensures home { IfOk result (λ registration. registration.stay.caller.blocks.now ≡ blocks.now) }
         ensures number { IfOk result (λ registration. registration.number ≡ 0) }
+        ensures refused { IfErr result (λ fault. HasNoSlot fault) }
     {
         Registration::of(blocks, fixed, 0)
     }
@@ -47,6 +50,7 @@ impl<'a, T: Defers + Drop, C: Content<T>, R: Receiver<T>> Registration<'a, T, C,
         requires fixed { blocks.now.words.fixed ≡ fixed.now }
         ensures home { IfOk result (λ registration. registration.stay.caller.blocks.now ≡ blocks.now) }
         ensures number { IfOk result (λ registration. registration.number ≡ number) }
+        ensures refused { IfErr result (λ fault. HasNoSlot fault) }
     {
         let stay = Stay::new(blocks, fixed)?;
         Ok(Registration {
@@ -61,6 +65,14 @@ impl<'a, T: Defers + Drop, C: Content<T>, R: Receiver<T>> Registration<'a, T, C,
         ensures { result ≡ self.now.number }
     {
         self.number
+    }
+
+    /// Its collector, for those who share it.
+    pub fn collector(&self) -> Shared<'a, T, C, R>
+        ensures home { result.blocks.now ≡ self.now.stay.caller.blocks.now }
+        ensures number { result.number ≡ self.now.number }
+    {
+        self.stay.shared(self.number)
     }
 
     /// Tries the slot's batch without a section. A value that is reclaimed is dropped. Where a guard was forgotten its section ends first.
@@ -135,6 +147,8 @@ pub struct LocalGuard<'r, 'a, T: Defers + Drop, C: Content<T> = OfRows, R: Recei
 impl<'r, 'a, T: Defers + Drop, C: Content<T>, R: Receiver<T>> Guard<T>
     for LocalGuard<'r, 'a, T, C, R> {
     type Content = C;
+
+    type Receiver = R;
 
     ghost home = { λ g. record { number = g.registration.now.number; memory = g.registration.now.stay.caller.blocks.now.words.id.views_name; roots = g.registration.now.stay.caller.blocks.now.words.fixed.roots } };
 
@@ -216,6 +230,17 @@ impl<'r, 'a, T: Defers + Drop, R: Receiver<T>> RootGuard<T> for LocalGuard<'r, '
     }
 }
 
+impl<'r, 'a, T: Defers + Drop, C: Content<T>, R: Receiver<T>> LocalGuard<'r, 'a, T, C, R> {
+    /// Its collector, for those who share it: it may be asked for further slots while the guard is there.
+    pub fn collector(&self) -> Shared<'a, T, C, R>
+        ensures home { result.blocks.now ≡ self.now.registration.now.stay.caller.blocks.now }
+        ensures number { result.number ≡ self.now.registration.now.number }
+    {
+        let registration = &*self.registration;
+        registration.collector()
+    }
+}
+
 impl<'r, 'a, T: Defers + Drop, R: Receiver<T>> LocalGuard<'r, 'a, T, OfRows, R> {
     /// Makes a block of a value, which is of its collector; a number is looked for from `near` on, which says then where to look next. Without words for it, or
     /// memory, the value comes back. What it has seen it knows still.
@@ -235,17 +260,17 @@ impl<'r, 'a, T: Defers + Drop, R: Receiver<T>> LocalGuard<'r, 'a, T, OfRows, R> 
         &'g self,
         root: u64,
         pass: &mut Pass<T>,
-    ) -> Result<Option<(Tagged, Option<&'g T>)>, Fault>
+    ) -> Result<Option<Protected<'g, T>>, Fault>
         requires source { OneSource pass.old.number pass.old.pass.seat.base
             record { number = self.now.registration.now.number; memory = self.now.registration.now.stay.caller.blocks.now.words.id.views_name; roots = self.now.registration.now.stay.caller.blocks.now.words.fixed.roots } }
         ensures memory { pass.new.pass.seat.base ≡ pass.old.pass.seat.base }
         ensures number { pass.new.number ≡ pass.old.number }
         ensures foreign { IfErr result (λ fault. (fault ≡ ForeignGuard) × (pass.old.number ≢ self.now.registration.now.number) × (pass.new ≡ pass.old)) }
         ensures own { IfOk result (λ _. pass.old.number ≡ self.now.registration.now.number) }
-        ensures looked { IfOk result (λ found. IfSome found (λ found. pass.new.pass.seat.view.did ≡ Looked root found.0.word)) }
-        ensures lent { IfOk result (λ found. IfSome found (λ found. IfSome found.1 (λ value. IsLent T.defers self.now.registration.now.stay.caller.blocks.now.words.fixed
-            self.now.registration.now.stay.caller.seat.id self.now.registration.now.stay.caller.seat.view (block_in found.0.word) value.now))) }
-        ensures none { IfOk result (λ found. IfSome found (λ found. IfNone found.1 (block_in found.0.word ≡ 0))) }
+        ensures looked { IfOk result (λ found. IfSome found (λ found. pass.new.pass.seat.view.did ≡ Looked root found.tagged.word)) }
+        ensures lent { IfOk result (λ found. IfSome found (λ found. IfSome found.value (λ value. IsLent T.defers self.now.registration.now.stay.caller.blocks.now.words.fixed
+            self.now.registration.now.stay.caller.seat.id self.now.registration.now.stay.caller.seat.view (block_in found.tagged.word) value.now))) }
+        ensures none { IfOk result (λ found. IfSome found (λ found. IfNone found.value (block_in found.tagged.word ≡ 0))) }
         ensures there { IfOk result (λ found. root < self.now.registration.now.stay.caller.blocks.now.words.fixed.roots → IsSome found) }
     {
         let registration = &*self.registration;
@@ -287,6 +312,7 @@ impl<'a, T: Defers + Drop, C: Content<T>> OwnedGuard<'a, T, C> {
         ensures home { IfOk result (λ guard. guard.stay.caller.blocks.now ≡ blocks.now) }
         ensures number { IfOk result (λ guard. guard.number ≡ 0) }
         ensures fresh { IfOk result (λ guard. guard.stay.seen ≡ 0) }
+        ensures refused { IfErr result (λ fault. HasNoSlot fault) }
     {
         OwnedGuard::of(blocks, fixed, 0)
     }
@@ -299,6 +325,7 @@ impl<'a, T: Defers + Drop, C: Content<T>, R: Receiver<T>> OwnedGuard<'a, T, C, R
         ensures home { IfOk result (λ guard. guard.stay.caller.blocks.now ≡ blocks.now) }
         ensures number { IfOk result (λ guard. guard.number ≡ number) }
         ensures fresh { IfOk result (λ guard. guard.stay.seen ≡ 0) }
+        ensures refused { IfErr result (λ fault. HasNoSlot fault) }
     {
         let mut stay = Stay::new(blocks, fixed)?;
         stay.refreshes();
@@ -307,6 +334,14 @@ impl<'a, T: Defers + Drop, C: Content<T>, R: Receiver<T>> OwnedGuard<'a, T, C, R
             number,
             receiver: PhantomData,
         })
+    }
+
+    /// Its collector, for those who share it: it may be asked for further slots while the guard is there.
+    pub fn collector(&self) -> Shared<'a, T, C, R>
+        ensures home { result.blocks.now ≡ self.now.stay.caller.blocks.now }
+        ensures number { result.number ≡ self.now.number }
+    {
+        self.stay.shared(self.number)
     }
 }
 
@@ -328,17 +363,17 @@ impl<'a, T: Defers + Drop, R: Receiver<T>> OwnedGuard<'a, T, OfRows, R> {
         &'g self,
         root: u64,
         pass: &mut Pass<T>,
-    ) -> Result<Option<(Tagged, Option<&'g T>)>, Fault>
+    ) -> Result<Option<Protected<'g, T>>, Fault>
         requires source { OneSource pass.old.number pass.old.pass.seat.base
             record { number = self.now.number; memory = self.now.stay.caller.blocks.now.words.id.views_name; roots = self.now.stay.caller.blocks.now.words.fixed.roots } }
         ensures memory { pass.new.pass.seat.base ≡ pass.old.pass.seat.base }
         ensures number { pass.new.number ≡ pass.old.number }
         ensures foreign { IfErr result (λ fault. (fault ≡ ForeignGuard) × (pass.old.number ≢ self.now.number) × (pass.new ≡ pass.old)) }
         ensures own { IfOk result (λ _. pass.old.number ≡ self.now.number) }
-        ensures looked { IfOk result (λ found. IfSome found (λ found. pass.new.pass.seat.view.did ≡ Looked root found.0.word)) }
-        ensures lent { IfOk result (λ found. IfSome found (λ found. IfSome found.1 (λ value. IsLent T.defers self.now.stay.caller.blocks.now.words.fixed
-            self.now.stay.caller.seat.id self.now.stay.caller.seat.view (block_in found.0.word) value.now))) }
-        ensures none { IfOk result (λ found. IfSome found (λ found. IfNone found.1 (block_in found.0.word ≡ 0))) }
+        ensures looked { IfOk result (λ found. IfSome found (λ found. pass.new.pass.seat.view.did ≡ Looked root found.tagged.word)) }
+        ensures lent { IfOk result (λ found. IfSome found (λ found. IfSome found.value (λ value. IsLent T.defers self.now.stay.caller.blocks.now.words.fixed
+            self.now.stay.caller.seat.id self.now.stay.caller.seat.view (block_in found.tagged.word) value.now))) }
+        ensures none { IfOk result (λ found. IfSome found (λ found. IfNone found.value (block_in found.tagged.word ≡ 0))) }
         ensures there { IfOk result (λ found. root < self.now.stay.caller.blocks.now.words.fixed.roots → IsSome found) }
     {
         if pass.number() != self.number {
@@ -350,6 +385,8 @@ impl<'a, T: Defers + Drop, R: Receiver<T>> OwnedGuard<'a, T, OfRows, R> {
 
 impl<'a, T: Defers + Drop, C: Content<T>, R: Receiver<T>> Guard<T> for OwnedGuard<'a, T, C, R> {
     type Content = C;
+
+    type Receiver = R;
 
     ghost home = { λ g. record { number = g.number; memory = g.stay.caller.blocks.now.words.id.views_name; roots = g.stay.caller.blocks.now.words.fixed.roots } };
 
