@@ -1,12 +1,9 @@
 //! Guards of sections: one of a slot that stays on its thread, and one with a slot of its own that may be sent.
-ghost use Rattle.std.specs.Prelude.{◌≡◌, ◌≢◌, ◌<◌, None, Some, IfOk, IfErr, IfSome, IfNone, IsSome, true, false};
-ghost use Rattle.seize_words.specs.Word.{block_in};
+ghost use Rattle.std.specs.Prelude.{◌≡◌, ◌≢◌, ◌<◌, None, Some, IfOk, IfErr, true, false};
 ghost use Rattle.seize.specs.Given.SeizeWordsDeclared.fault.Fault.TheVariants.{ForeignGuard};
 ghost use Rattle.seize_guards.specs.Deeds.{has_taken};
 ghost use Rattle.seize_guards.specs.Homes.{OneSource};
-ghost use Rattle.seize_guards.specs.Lent.{IsLent};
 ghost use Rattle.seize_shared.specs.Refused.{HasNoSlot};
-ghost use Rattle.seize_callers.specs.Given.SeizeViewsDeclared.view.Deed.TheVariants.{Looked};
 ghost use Rattle.seize_callers.specs.Given.SeizeViewsNotes.{written_at};
 ghost use Rattle.seize_callers.specs.Given.SeizeViewsDeclared.view.Began.TheVariants.{Retirement, Trial};
 ghost use Rattle.seize_callers.specs.Given.SeizeViewsDeclared.view.View.TheVariants.{Brings};
@@ -200,6 +197,18 @@ impl<'r, 'a, T: Defers + Drop, R: Receiver<T>> RootGuard<T> for LocalGuard<'r, '
         registration.stay.protects(root)
     }
 
+    fn protect_by<'g>(
+        &'g self,
+        root: u64,
+        pass: &mut Pass<T>,
+    ) -> Result<Option<Protected<'g, T>>, Fault> {
+        let registration = &*self.registration;
+        if pass.number() != registration.number {
+            return Err(Fault::ForeignGuard);
+        }
+        Ok(registration.stay.protects_by(root, pass))
+    }
+
     fn mark(&mut self, root: u64, marks: u64) -> Option<Tagged> {
         let registration = &mut *self.registration;
         registration.stay.marks(root, marks)
@@ -252,32 +261,6 @@ impl<'r, 'a, T: Defers + Drop, R: Receiver<T>> LocalGuard<'r, 'a, T, OfRows, R> 
     {
         let registration = &*self.registration;
         registration.stay.makes(registration.number, near, value)
-    }
-
-    /// A pass looks which word is at a root: the section holds the block to which it links, whose value is lent for as long as the guard is borrowed. There is none
-    /// where there is no such root. A pass of another collector is `Fault::ForeignGuard`, and it is as it was.
-    pub fn protect_by<'g>(
-        &'g self,
-        root: u64,
-        pass: &mut Pass<T>,
-    ) -> Result<Option<Protected<'g, T>>, Fault>
-        requires source { OneSource pass.old.number pass.old.pass.seat.base
-            record { number = self.now.registration.now.number; memory = self.now.registration.now.stay.caller.blocks.now.words.id.views_name; roots = self.now.registration.now.stay.caller.blocks.now.words.fixed.roots } }
-        ensures memory { pass.new.pass.seat.base ≡ pass.old.pass.seat.base }
-        ensures number { pass.new.number ≡ pass.old.number }
-        ensures foreign { IfErr result (λ fault. (fault ≡ ForeignGuard) × (pass.old.number ≢ self.now.registration.now.number) × (pass.new ≡ pass.old)) }
-        ensures own { IfOk result (λ _. pass.old.number ≡ self.now.registration.now.number) }
-        ensures looked { IfOk result (λ found. IfSome found (λ found. pass.new.pass.seat.view.did ≡ Looked root found.tagged.word)) }
-        ensures lent { IfOk result (λ found. IfSome found (λ found. IfSome found.value (λ value. IsLent T.defers self.now.registration.now.stay.caller.blocks.now.words.fixed
-            self.now.registration.now.stay.caller.seat.id self.now.registration.now.stay.caller.seat.view (block_in found.tagged.word) value.now))) }
-        ensures none { IfOk result (λ found. IfSome found (λ found. IfNone found.value (block_in found.tagged.word ≡ 0))) }
-        ensures there { IfOk result (λ found. root < self.now.registration.now.stay.caller.blocks.now.words.fixed.roots → IsSome found) }
-    {
-        let registration = &*self.registration;
-        if pass.number() != registration.number {
-            return Err(Fault::ForeignGuard);
-        }
-        Ok(registration.stay.protects_by(root, pass))
     }
 }
 
@@ -356,31 +339,6 @@ impl<'a, T: Defers + Drop, R: Receiver<T>> OwnedGuard<'a, T, OfRows, R> {
     {
         self.stay.makes(self.number, near, value)
     }
-
-    /// A pass looks which word is at a root: the section holds the block to which it links, whose value is lent for as long as the guard is borrowed. There is none
-    /// where there is no such root. A pass of another collector is `Fault::ForeignGuard`, and it is as it was.
-    pub fn protect_by<'g>(
-        &'g self,
-        root: u64,
-        pass: &mut Pass<T>,
-    ) -> Result<Option<Protected<'g, T>>, Fault>
-        requires source { OneSource pass.old.number pass.old.pass.seat.base
-            record { number = self.now.number; memory = self.now.stay.caller.blocks.now.words.id.views_name; roots = self.now.stay.caller.blocks.now.words.fixed.roots } }
-        ensures memory { pass.new.pass.seat.base ≡ pass.old.pass.seat.base }
-        ensures number { pass.new.number ≡ pass.old.number }
-        ensures foreign { IfErr result (λ fault. (fault ≡ ForeignGuard) × (pass.old.number ≢ self.now.number) × (pass.new ≡ pass.old)) }
-        ensures own { IfOk result (λ _. pass.old.number ≡ self.now.number) }
-        ensures looked { IfOk result (λ found. IfSome found (λ found. pass.new.pass.seat.view.did ≡ Looked root found.tagged.word)) }
-        ensures lent { IfOk result (λ found. IfSome found (λ found. IfSome found.value (λ value. IsLent T.defers self.now.stay.caller.blocks.now.words.fixed
-            self.now.stay.caller.seat.id self.now.stay.caller.seat.view (block_in found.tagged.word) value.now))) }
-        ensures none { IfOk result (λ found. IfSome found (λ found. IfNone found.value (block_in found.tagged.word ≡ 0))) }
-        ensures there { IfOk result (λ found. root < self.now.stay.caller.blocks.now.words.fixed.roots → IsSome found) }
-    {
-        if pass.number() != self.number {
-            return Err(Fault::ForeignGuard);
-        }
-        Ok(self.stay.protects_by(root, pass))
-    }
 }
 
 impl<'a, T: Defers + Drop, C: Content<T>, R: Receiver<T>> Guard<T> for OwnedGuard<'a, T, C, R> {
@@ -432,6 +390,17 @@ impl<'a, T: Defers + Drop, R: Receiver<T>> RootGuard<T> for OwnedGuard<'a, T, Of
 
     fn protect(&mut self, root: u64) -> Option<Tagged> {
         self.stay.protects(root)
+    }
+
+    fn protect_by<'g>(
+        &'g self,
+        root: u64,
+        pass: &mut Pass<T>,
+    ) -> Result<Option<Protected<'g, T>>, Fault> {
+        if pass.number() != self.number {
+            return Err(Fault::ForeignGuard);
+        }
+        Ok(self.stay.protects_by(root, pass))
     }
 
     fn mark(&mut self, root: u64, marks: u64) -> Option<Tagged> {
