@@ -56,7 +56,7 @@ fn two_look<R: Threads + Sync>(
     drops: &Table,
 ) -> Result<bool, Fault> {
     let guard = collector.enter_owned()?;
-    let mut one = collector.pass();
+    let mut one = guard.collector().pass();
     let mut other = collector.pass();
     let (first, second) = thread::join(
         rt,
