@@ -23,6 +23,7 @@ mod Calls
 mod Held
 mod Begins
 mod Handing
+mod Leanings
 mod Makings
 pub mod RowFits
 pub mod RowSteps

@@ -56,7 +56,7 @@ abbrev ran : Progress (Node ℕ ℕ) → List (Run ℕ ℕ)
 ran told = record { began = machine; told = told } ∷ []
 
 abbrev with_work : Work ℕ ℕ ℕ → View ℕ ℕ ℕ
-with_work work = record { slot = Inside 0 NoBlock; map = Some map; work = work; looks = []; held = []; began = NotYet; calls = ran untold }
+with_work work = record { slot = Inside 0 NoBlock; under = None; map = Some map; work = work; looks = []; held = []; began = NotYet; calls = ran untold }
 
 abbrev answered : KeyAnswer → View ℕ ℕ ℕ
 answered answer = record (with_work Nothing) { calls = ran (Done (Key answer)) }
