@@ -9,7 +9,7 @@ use Rattle.seize_seats.specs.State.{State, view_of}
 use Rattle.seize_views.specs.declared.view.View.{View as SlotView}
 use Rattle.papaya_views.specs.Looks.{shown_in}
 use Rattle.papaya_views.specs.Promises.{HeldAreShown}
-use Rattle.papaya_views.specs.Rule.{MapsWorld, AllHeld, Holds}
+use Rattle.papaya_views.specs.Rule.{MapsWorld, IsHeld, AllHeld, Holds}
 use Rattle.papaya_views.specs.declared.view.View.{View}
 use Rattle.papaya_views.specs.declared.view.Work.{Work}
 
@@ -24,6 +24,18 @@ module _ {K V S : Type 0} (same : K → K → Bool) (hash : S → K → ℕ) whe
           → value_at scene.world.memory b ≡ Some x
       by true e f rest = ap (value_at scene.world.memory) (eqb-true b look.0 e) ∙ held.0.0 ∙ f
       by false e f rest = rest f
+
+  -- and why it lasts
+  pub held_of : (scene : Scene K V) (under : Option (ℕ × ℕ)) (slot : SlotView (Node K V)) (work : Work K V S) (b : ℕ) (x : Node K V) (looks : List (ℕ × Node K V))
+      → AllHeld same hash scene under slot work looks → shown_in looks b ≡ Some x → IsHeld same hash scene under slot work (b, x)
+  held_of scene under slot work b x [] held is = absurd (cc is)
+  held_of scene under slot work b x (look ∷ looks) held is = by (b == look.0) refl is
+    where
+      by : (k : Bool) → (b == look.0) ≡ k → (if k then Some look.1 else shown_in looks b) ≡ Some x → IsHeld same hash scene under slot work (b, x)
+      by true e f =
+          subst (λ (y : Node K V). IsHeld same hash scene under slot work (b, y)) (same_some look.1 x f)
+          (subst (λ (a : ℕ). IsHeld same hash scene under slot work (a, look.1)) (sym (eqb-true b look.0 e)) held.0)
+      by false e f = held_of scene under slot work b x looks held.1 f
 
 module _ {K S : Type 0} (V : Type 0) (same : K → K → Bool) (hash : S → K → ℕ) where
   pub held_are_shown : HeldAreShown V same hash

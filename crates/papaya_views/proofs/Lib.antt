@@ -24,6 +24,7 @@ mod Held
 mod Begins
 mod Handing
 mod Leanings
+mod Keeping
 mod Makings
 pub mod RowFits
 pub mod RowSteps

@@ -17,7 +17,7 @@ use Rattle.papaya_looks.specs.Given.PointsSteps.{AreLawful}
 use Rattle.papaya_acts.specs.Acts.{Wanted}
 use Rattle.seize_seats.specs.Lendings.{Shown, IsValueOf}
 use Rattle.seize_seats.specs.Errands.{TurnsUnlent}
-use Rattle.seize_seats.specs.State.{Starts, Comes, Allows, Turns, Learns, Meets}
+use Rattle.seize_seats.specs.State.{Starts, Comes, Allows, Turns, Learns, Meets, ShowsKept, AreThere}
 use Rattle.papaya_tables.specs.Given.SeizeDeclared.rows.settle.Settle.{Settle}
 use Rattle.papaya_tables.specs.Nodes.{deferred_word}
 use Rattle.seize_views.specs.Promises.{op_in, op_of, IsNext, IsToSettle}
@@ -83,6 +83,16 @@ module _ {K S : Type 0} (V : Type 0) (same : K → K → Bool) (hash : S → K �
   MapsAreHandedOn =
       (fixed : Fixed) (i j : ℕ) (v u : View K V S) (map : Map S) → v.map ≡ Some map → u.work ≡ Nothing
       → Meets (Holds same hash fixed) i v j u (λ p q. (p ≡ v) × (q ≡ shown_map u map))
+
+  -- A block that is known to be held for a seat that leans on another one, and has nothing under way, that one keeps;
+  abbrev pub HeldAreKept : Type 0
+  HeldAreKept =
+      (fixed : Fixed) (i n t k b : ℕ) (v u o : View K V S) (x : Node K V) → v.under ≡ Some (n, t) → v.work ≡ Nothing → shown_in v.held b ≡ Some x
+      → ShowsKept (Holds same hash fixed) KeepsFor i v n u k o b
+
+  -- and what seats keep is there.
+  abbrev pub KeptAreThere : Type 0
+  KeptAreThere = (fixed : Fixed) → AreThere (Holds {V = V} same hash fixed) KeepsFor
 
   -- A seat that has nothing under way, and holds no slot, may come to lean on one within its section,
   abbrev pub LeaningsBegin : Type 0
