@@ -17,43 +17,43 @@ use Rattle.papaya_tables.specs.Nodes.{table_seen}
 use Rattle.papaya_tables.specs.Trials.{next_trial, with_met, place_tried}
 use Rattle.papaya_tables.specs.TablePlaces.{at_word}
 use Rattle.papaya_tables.specs.declared.table_words.TheConstants.{NEXT}
-use Rattle.papaya_tables.specs.Declared.finding.Finding.{Finding}
-use Rattle.papaya_tables.specs.Declared.finding.Finding.TheVariants as found
-use Rattle.papaya_tables.specs.Declared.marks.TheConstants.{TOMBSTONE}
-use Rattle.papaya_tables.specs.Declared.node.Node.{Node}
-use Rattle.papaya_tables.specs.Declared.table.Table.{Table}
-use Rattle.papaya_tables.specs.Declared.trial.Trial.{Trial}
+use Rattle.papaya_tables.specs.declared.finding.Finding.{Finding}
+use Rattle.papaya_tables.specs.declared.finding.Finding.TheVariants as found
+use Rattle.papaya_tables.specs.declared.marks.TheConstants.{TOMBSTONE}
+use Rattle.papaya_tables.specs.declared.node.Node.{Node}
+use Rattle.papaya_tables.specs.declared.table.Table.{Table}
+use Rattle.papaya_tables.specs.declared.trial.Trial.{Trial}
 use Rattle.papaya_resize.specs.Copier.{copier_plan}
 use Rattle.papaya_resize.specs.CopierStates.{helping, copying_all}
 use Rattle.papaya_resize.specs.Dispose.{dispose_plan, disposing}
 use Rattle.papaya_resize.specs.Lookup.{lookup_plan, names_pair}
 use Rattle.papaya_resize.specs.NewTable.{new_table_plan}
-use Rattle.papaya_resize.specs.Declared.copier.Copier.{Copier}
-use Rattle.papaya_resize.specs.Declared.dispose.Dispose.{Dispose}
-use Rattle.papaya_resize.specs.Declared.lookup.Lookup.{Lookup}
-use Rattle.papaya_resize.specs.Declared.new_table.NewTable.{NewTable}
-use Rattle.papaya_resize.specs.Declared.outcome.Outcome.{Outcome}
-use Rattle.papaya_resize.specs.Declared.outcome.Outcome.TheVariants as outcome
+use Rattle.papaya_resize.specs.declared.copier.Copier.{Copier}
+use Rattle.papaya_resize.specs.declared.dispose.Dispose.{Dispose}
+use Rattle.papaya_resize.specs.declared.lookup.Lookup.{Lookup}
+use Rattle.papaya_resize.specs.declared.new_table.NewTable.{NewTable}
+use Rattle.papaya_resize.specs.declared.outcome.Outcome.{Outcome}
+use Rattle.papaya_resize.specs.declared.outcome.Outcome.TheVariants as outcome
 use Rattle.papaya_raw.specs.Answers.{ended}
 use Rattle.papaya_raw.specs.CallFills.{asks_at, putting_by, fill_by, fills_with}
 use Rattle.papaya_raw.specs.Replies.{value_for, as_own}
 use Rattle.papaya_raw.specs.Call.{makes_of, root_read, root_found, next_read, next_found, dropped, key_read, pair_read, word_read, word_found, tried, looked, looks_for, first_made, next_made, disposed, helped, copied, plan_at, call_plan, have_one_key}
 use Rattle.papaya_raw.specs.CallPoints.{aim_of, going, over, ending, answering, tableless, at_free, at_end, beyond, at_last, at_pair, following_made, asking_at, having_met, passed, halted, told_of, told, entering, went_on, changed, counted}
-use Rattle.papaya_raw.specs.Declared.machines.answer.Called.{Called}
-use Rattle.papaya_raw.specs.Declared.machines.answer.End.{End}
-use Rattle.papaya_raw.specs.Declared.machines.answer.End.TheVariants as ends
-use Rattle.papaya_raw.specs.Declared.machines.answer.KeyAnswer.{KeyAnswer}
-use Rattle.papaya_raw.specs.Declared.machines.answer.KeyAnswer.TheVariants as answers
-use Rattle.papaya_raw.specs.Declared.machines.answer.There.{There}
-use Rattle.papaya_raw.specs.Declared.machines.answer.There.TheVariants as there
-use Rattle.papaya_raw.specs.Declared.machines.answer.Missing.{Missing}
-use Rattle.papaya_raw.specs.Declared.machines.answer.Missing.TheVariants as missing
-use Rattle.papaya_raw.specs.Declared.machines.asking.Asking.{Asking}
-use Rattle.papaya_raw.specs.Declared.machines.asking.Asking.TheVariants as asking
-use Rattle.papaya_raw.specs.Declared.machines.asking.Gap.TheVariants as gaps
-use Rattle.papaya_raw.specs.Declared.machines.call.Calling.{Calling}
-use Rattle.papaya_raw.specs.Declared.machines.call.Calling.TheVariants as at
-use Rattle.papaya_raw.specs.Declared.machines.call.KeyCall.{KeyCall}
+use Rattle.papaya_raw.specs.declared.machines.answer.Called.{Called}
+use Rattle.papaya_raw.specs.declared.machines.answer.End.{End}
+use Rattle.papaya_raw.specs.declared.machines.answer.End.TheVariants as ends
+use Rattle.papaya_raw.specs.declared.machines.answer.KeyAnswer.{KeyAnswer}
+use Rattle.papaya_raw.specs.declared.machines.answer.KeyAnswer.TheVariants as answers
+use Rattle.papaya_raw.specs.declared.machines.answer.There.{There}
+use Rattle.papaya_raw.specs.declared.machines.answer.There.TheVariants as there
+use Rattle.papaya_raw.specs.declared.machines.answer.Missing.{Missing}
+use Rattle.papaya_raw.specs.declared.machines.answer.Missing.TheVariants as missing
+use Rattle.papaya_raw.specs.declared.machines.asking.Asking.{Asking}
+use Rattle.papaya_raw.specs.declared.machines.asking.Asking.TheVariants as asking
+use Rattle.papaya_raw.specs.declared.machines.asking.Gap.TheVariants as gaps
+use Rattle.papaya_raw.specs.declared.machines.call.Calling.{Calling}
+use Rattle.papaya_raw.specs.declared.machines.call.Calling.TheVariants as at
+use Rattle.papaya_raw.specs.declared.machines.call.KeyCall.{KeyCall}
 use Rattle.papaya_kinds.specs.Answers.{IsAnswer}
 use Rattle.papaya_kinds.specs.Kinds.{Kind, Stage, IsFresh, HoldsBy, StandsSo, ShowsPair, IsSo, GoesOn, SaysSo}
 use Rattle.papaya_kinds.proofs.Asked.{of_gap, holds_none, over_says, ending_says, gap_says, pair_says}

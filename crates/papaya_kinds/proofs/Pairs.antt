@@ -4,13 +4,13 @@ use Rattle.std.proofs.Common.{◌≡◌, ℕ, Bool, true, false, refl}
 use Rattle.papaya_tables.specs.Given.SeizeWordsWord.{block_in}
 use Rattle.papaya_tables.specs.Chunks.{is_incremental}
 use Rattle.papaya_tables.specs.Finding.{finding, shut, vacant}
-use Rattle.papaya_tables.specs.Declared.finding.Aim.{Aim}
-use Rattle.papaya_tables.specs.Declared.finding.Aim.TheVariants as aims
-use Rattle.papaya_tables.specs.Declared.finding.Finding.TheVariants as found
-use Rattle.papaya_tables.specs.Declared.marks.TheConstants.{COPYING}
-use Rattle.papaya_tables.specs.Declared.node.Node.{Node}
-use Rattle.papaya_tables.specs.Declared.node.Node.TheVariants as nodes
-use Rattle.papaya_tables.specs.Declared.resize_mode.ResizeMode.{ResizeMode}
+use Rattle.papaya_tables.specs.declared.finding.Aim.{Aim}
+use Rattle.papaya_tables.specs.declared.finding.Aim.TheVariants as aims
+use Rattle.papaya_tables.specs.declared.finding.Finding.TheVariants as found
+use Rattle.papaya_tables.specs.declared.marks.TheConstants.{COPYING}
+use Rattle.papaya_tables.specs.declared.node.Node.{Node}
+use Rattle.papaya_tables.specs.declared.node.Node.TheVariants as nodes
+use Rattle.papaya_tables.specs.declared.resize_mode.ResizeMode.{ResizeMode}
 use Rattle.papaya_raw.specs.Call.{have_one_key}
 use Rattle.papaya_resize.specs.Lookup.{names_pair}
 use Rattle.papaya_kinds.specs.Kinds.{ShowsPair}

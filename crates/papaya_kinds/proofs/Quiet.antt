@@ -12,7 +12,7 @@ use Rattle.papaya_tables.specs.Given.SeizeDeclared.rows.settle.Settle.{Settle}
 use Rattle.papaya_tables.specs.Given.SeizeDeclared.rows.settle.Settling.{Settling}
 use Rattle.papaya_tables.specs.Given.SeizeDeclared.rows.settle.Settling.TheVariants as settles
 use Rattle.papaya_tables.specs.Nodes.{deferred_word}
-use Rattle.papaya_tables.specs.Declared.node.Node.{Node}
+use Rattle.papaya_tables.specs.declared.node.Node.{Node}
 use Rattle.papaya_resize.specs.Copier.{copier_plan}
 use Rattle.papaya_resize.specs.Copier as copier
 use Rattle.papaya_resize.specs.CopierFurther.{grown, remade}
@@ -25,21 +25,21 @@ use Rattle.papaya_resize.specs.NewTable.{new_table_plan, counted}
 use Rattle.papaya_resize.specs.NewTable as new_table
 use Rattle.papaya_resize.specs.Sum.{sum_plan}
 use Rattle.papaya_resize.specs.Sum as sum
-use Rattle.papaya_resize.specs.Declared.copier.Copier.{Copier}
-use Rattle.papaya_resize.specs.Declared.copier.Copying.{Copying}
-use Rattle.papaya_resize.specs.Declared.copier.Copying.TheVariants as copies
-use Rattle.papaya_resize.specs.Declared.dispose.Dispose.{Dispose}
-use Rattle.papaya_resize.specs.Declared.dispose.Disposing.{Disposing}
-use Rattle.papaya_resize.specs.Declared.dispose.Disposing.TheVariants as disposes
-use Rattle.papaya_resize.specs.Declared.lookup.Lookup.{Lookup}
-use Rattle.papaya_resize.specs.Declared.lookup.Looking.{Looking}
-use Rattle.papaya_resize.specs.Declared.lookup.Looking.TheVariants as looks
-use Rattle.papaya_resize.specs.Declared.new_table.NewTable.{NewTable}
-use Rattle.papaya_resize.specs.Declared.new_table.Making.{Making}
-use Rattle.papaya_resize.specs.Declared.new_table.Making.TheVariants as makes
-use Rattle.papaya_resize.specs.Declared.sum.Sum.{Sum}
-use Rattle.papaya_resize.specs.Declared.sum.Summing.{Summing}
-use Rattle.papaya_resize.specs.Declared.sum.Summing.TheVariants as sums
+use Rattle.papaya_resize.specs.declared.copier.Copier.{Copier}
+use Rattle.papaya_resize.specs.declared.copier.Copying.{Copying}
+use Rattle.papaya_resize.specs.declared.copier.Copying.TheVariants as copies
+use Rattle.papaya_resize.specs.declared.dispose.Dispose.{Dispose}
+use Rattle.papaya_resize.specs.declared.dispose.Disposing.{Disposing}
+use Rattle.papaya_resize.specs.declared.dispose.Disposing.TheVariants as disposes
+use Rattle.papaya_resize.specs.declared.lookup.Lookup.{Lookup}
+use Rattle.papaya_resize.specs.declared.lookup.Looking.{Looking}
+use Rattle.papaya_resize.specs.declared.lookup.Looking.TheVariants as looks
+use Rattle.papaya_resize.specs.declared.new_table.NewTable.{NewTable}
+use Rattle.papaya_resize.specs.declared.new_table.Making.{Making}
+use Rattle.papaya_resize.specs.declared.new_table.Making.TheVariants as makes
+use Rattle.papaya_resize.specs.declared.sum.Sum.{Sum}
+use Rattle.papaya_resize.specs.declared.sum.Summing.{Summing}
+use Rattle.papaya_resize.specs.declared.sum.Summing.TheVariants as sums
 use Rattle.seize_views.proofs.Looks.{IsNow}
 use Rattle.papaya_kinds.proofs.Plans.{ReplacesNone}
 
