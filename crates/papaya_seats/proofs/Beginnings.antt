@@ -26,7 +26,7 @@ use Rattle.papaya_views.specs.declared.view.View.{View}
 use Rattle.papaya_views.specs.declared.view.Work.TheVariants.{Nothing, Calls}
 use Rattle.papaya_views.proofs.Laws.{calls_begin, makings_begin}
 use Rattle.papaya_seats.specs.Calling.{IsUnderWay, MayDo, wanted_of}
-use Rattle.papaya_seats.specs.Kinds.{Kind, Stage}
+use Rattle.papaya_kinds.specs.Kinds.{Kind, Stage}
 use Rattle.papaya_seats.specs.Looking.{Begins, IsOn, LooksFor, MayLook, StaysThere}
 use Rattle.papaya_seats.specs.Making.{BeginsMaking, CameTo, MayBegin, PlansJust}
 

@@ -29,14 +29,14 @@ use Rattle.papaya_views.proofs.Laws.{calls_turn}
 use Rattle.seize_callers.specs.Kept.{kept}
 use Rattle.papaya_seats.specs.Made.{CanMake, HasMade, IsSameSeat, shown_of}
 use Rattle.papaya_seats.specs.Calling.{AsksNothing, CalledSo, IsAsking, IsKnownMissing, IsKnownThere, IsUnderWay, MachineGoesOn, TellsSo, Works}
-use Rattle.papaya_seats.specs.Kinds.{Kind, Stage, SaysSo}
+use Rattle.papaya_kinds.specs.Kinds.{Kind, Stage, SaysSo}
 use Rattle.papaya_seats.specs.Looking.{HasTold, StaysThere}
 use Rattle.papaya_seats.specs.declared.within.Within.{Within}
-use Rattle.papaya_seats.proofs.Asking.{call_is, says}
+use Rattle.papaya_kinds.proofs.Asking.{call_is, says}
 use Rattle.papaya_seats.proofs.Calls.{can_make, told_shown}
-use Rattle.papaya_seats.proofs.Leads.{Leads, leads_as}
-use Rattle.papaya_seats.proofs.Plans.{IsAnsweredBy, LeavesValues, answered_by, follows_one}
-use Rattle.papaya_seats.proofs.Quiet.{IsQuiet, quiet_as}
+use Rattle.papaya_kinds.proofs.Leads.{Leads, leads_as}
+use Rattle.papaya_kinds.proofs.Plans.{IsAnsweredBy, LeavesValues, answered_by, follows_one}
+use Rattle.papaya_kinds.proofs.Quiet.{IsQuiet, quiet_as}
 
 module _ {T R : Type 0} where
   quiet_leaves : (plan : Plan T R) → IsQuiet plan → LeavesValues plan

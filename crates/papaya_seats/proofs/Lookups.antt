@@ -26,7 +26,7 @@ use Rattle.papaya_seats.specs.Looking.{HasTold, LooksFor, LookedSo, StaysThere, 
 use Rattle.papaya_seats.specs.declared.within.Within.{Within}
 use Rattle.papaya_seats.proofs.Calls.{can_make, told_shown}
 use Rattle.papaya_seats.proofs.Looking.{TellsSo, tells, is_do, only_reads, is_plain}
-use Rattle.papaya_seats.proofs.Plans.{may_by, was_made, op_as, follows_as, follows_one, follows_rest, leaves_as}
+use Rattle.papaya_kinds.proofs.Plans.{may_by, was_made, op_as, follows_as, follows_one, follows_rest, leaves_as}
 
 module _ {K V S : Type 0} (same : K → K → Bool) (hash : S → K → ℕ) (c : Within K V S) (key : K) (lookup : Lookup) (is : LooksFor key lookup c.seat.now.view) where
   abbrev standing_here : KeyCall K V K

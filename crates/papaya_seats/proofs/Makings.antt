@@ -22,7 +22,7 @@ use Rattle.papaya_seats.specs.Making.{MakesMap, MadeSo, KnowsStill, StaysChosen,
 use Rattle.papaya_seats.specs.declared.within.Within.{Within}
 use Rattle.papaya_seats.proofs.Calls.{has_alone}
 use Rattle.papaya_seats.proofs.Making.{GoesEarly, tells, is_do, leaves, is_now}
-use Rattle.papaya_seats.proofs.Plans.{may_by, was_made, follows_one, now_plain, now_follows, leaves_values}
+use Rattle.papaya_kinds.proofs.Plans.{may_by, was_made, follows_one, now_plain, now_follows, leaves_values}
 
 module _ {K V S : Type 0} (same : K → K → Bool) (hash : S → K → ℕ) (c : Within K V S) (hasher : S) (opening : NewMap) (is : MakesMap hasher opening c.seat.now.view) where
   abbrev plan : Plan (Node K V) (NewMap × Progress Setting)

@@ -27,7 +27,7 @@ use Rattle.papaya_views.specs.Looks.{shown_in}
 use Rattle.papaya_views.specs.declared.view.Map.{Map}
 use Rattle.papaya_views.specs.declared.view.View.{View}
 use Rattle.papaya_views.specs.declared.view.Work.TheVariants.{Nothing, Calls}
-use Rattle.papaya_seats.specs.Kinds.{Kind, Stage, AsksSo, GoesOn}
+use Rattle.papaya_kinds.specs.Kinds.{Kind, Stage, AsksSo, GoesOn}
 use Rattle.papaya_seats.specs.Looking.{HasRun, HasTold, StaysThere}
 
 -- a call of this kind asks nothing where the key is there,

@@ -21,7 +21,7 @@ use Rattle.papaya_views.specs.declared.view.View.{View}
 use Rattle.papaya_views.specs.declared.view.Work.TheVariants.{Nothing}
 use Rattle.papaya_seats.specs.Calling.{HasCalled, IsBack, IsToStore, MachineStores, MayCall, is_put, outcome_of, pair_wanted, wanted_of}
 use Rattle.papaya_seats.specs.Looking.{HasRun}
-use Rattle.papaya_seats.specs.Kinds.{Kind, Stage}
+use Rattle.papaya_seats.specs.Given.KindsKinds.{Kind, Stage}
 use Rattle.papaya_shared.specs.Answers.{CameBack, IsOutOf, has_stored}
 use Rattle.papaya_shared.specs.declared.session.keys.Attempt.{Attempt}
 use Rattle.papaya_shared.specs.declared.session.keys.Attempt.TheVariants.{Stored, Present}

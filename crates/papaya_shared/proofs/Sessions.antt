@@ -16,7 +16,7 @@ use Rattle.papaya_views.specs.Given.RawDeclared.machines.call.KeyCall.{KeyCall}
 use Rattle.papaya_views.specs.Given.RawDeclared.machines.machine.Machine.TheVariants.{Key}
 use Rattle.papaya_views.specs.Begun.{machine_for}
 use Rattle.papaya_seats.specs.Calling.{MayDo, wanted_of}
-use Rattle.papaya_seats.specs.Kinds.{Kind, Stage, GoesOn}
+use Rattle.papaya_seats.specs.Given.KindsKinds.{Kind, Stage, GoesOn}
 use Rattle.papaya_seats.specs.Looking.{MayLook}
 use Rattle.papaya_shared.specs.Standing.{known_as, known_by}
 

@@ -1,5 +1,5 @@
 -- The making of a map begins, and its next operation may be made at any moment.
-use Rattle.std.specs.Prelude.{◌≢◌, ◌++◌, ◌∷◌, max, Option, Some, None}
+use Rattle.std.specs.Prelude.{◌≢◌, ◌∷◌, max, Option, Some, None}
 use Rattle.std.specs.Int.{IsPowerOfTwo}
 use Rattle.std.specs.Option.{is_none}
 use Rattle.std.proofs.Common.{◌≡◌, ℕ, ◌+◌, ◌<◌, ◌≤◌, ◌^◌, Bool, List, [], ◌⊎◌, inl, inr, refl, sym, subst, ap, ◌∙◌, arith}

@@ -16,7 +16,7 @@ use Rattle.papaya_views.specs.Looks.{shown_in}
 use Rattle.papaya_views.specs.Rule.{MapsWorld, Fits, KnowsRow, AreRuns, HasSeen, IsIdle, IsSlot, caller_at, IsLeant, acts_in, at_rest, runs_of}
 use Rattle.papaya_views.specs.declared.view.Run.{Run}
 use Rattle.papaya_views.specs.declared.view.View.{View}
-use Rattle.papaya_views.specs.declared.view.Work.TheVariants.{Nothing, Calls}
+use Rattle.papaya_views.specs.declared.view.Work.TheVariants.{Calls}
 use Rattle.papaya_views.proofs.Knows.{knows_rests}
 use Rattle.papaya_views.proofs.Numbers.{first_slot}
 

@@ -1,7 +1,7 @@
 //! A seat on an errand runs a call on one key.
 ghost use Rattle.std.specs.Prelude.{◌≡◌, ℕ, true, false, Some, IfNone, IfSome};
 ghost use Rattle.papaya_seats.specs.Calling.{CalledSo, HasCalled, HasEnded, IsBack, IsCalling, IsGoing, IsNoQuestion, IsUnderWay, MachineStores, MayCall, TellsSo, handed_by, outcome_of, wanted_of};
-ghost use Rattle.papaya_seats.specs.Kinds.{Kind, Stage};
+ghost use Rattle.papaya_kinds.specs.Kinds.{Kind, Stage};
 ghost use Rattle.papaya_seats.specs.Looking.{Begins, HasTold, StaysThere};
 ghost use Rattle.papaya_seats.specs.Made.{IsSameSeat};
 ghost use Rattle.papaya_views.specs.Given.TablesChunks.{is_incremental};
