@@ -13,7 +13,7 @@ pub mod Pairs
 mod Settled
 mod RowLooks
 mod Starts
-mod Leaves
+pub mod Leaves
 mod Lasts
 pub mod Listed
 mod Moved

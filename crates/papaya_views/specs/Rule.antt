@@ -65,6 +65,10 @@ section_of (Some leant) v = Some leant.1
 section_of None (slot_view.Inside t NoBlock) = Some t
 section_of None v = None
 
+-- where a seat stands: what it knows of its slot, and on whom it leans
+abbrev pub stand_of : {K V S : Type 0} → View K V S → SlotView (Node K V) × Option (ℕ × ℕ)
+stand_of v = (v.slot, v.under)
+
 -- who leans on a seat holds no slot
 abbrev pub IsAside : {T : Type 0} → Option (ℕ × ℕ) → SlotView T → Type 0
 IsAside None v = Unit {0}
