@@ -1,7 +1,7 @@
 -- A call begins, or is told something; and a map is handed on.
 use Rattle.std.specs.Prelude.{◌++◌, List, [], ◌∷◌, Option, Some, None, if◌then◌else◌}
 use Rattle.std.specs.Option.{is_none}
-use Rattle.std.proofs.Common.{◌≡◌, ℕ, Bool, true, refl, sym, subst, ap, ◌∙◌}
+use Rattle.std.proofs.Common.{◌≡◌, ℕ, Bool, true, inl, refl, sym, subst, ap, ◌∙◌}
 use Rattle.papaya_tables.specs.Chunks.{is_incremental}
 use Rattle.papaya_tables.specs.declared.node.Node.{Node}
 use Rattle.papaya_tables.specs.declared.setting.Setting.{Setting}

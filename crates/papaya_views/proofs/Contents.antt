@@ -89,6 +89,14 @@ module _ {K V S : Type 0} where
       not_busy (slot_view.Inside t has) is = is
       not_busy _ is = is
 
+  -- who has a row leans on nobody
+  pub leans_beside : LeansBeside {V = View K V S} Leans notes_of beside_of
+  leans_beside v w n rows same_beside leans = by w.under rows leans
+    where
+      by : (under : Option (ℕ × ℕ)) → IsOfRows (row_known under w.slot w.work) → LeansOn under n → Leans v n
+      by None rows none = absurd none
+      by (Some leant) rows one = absurd rows
+
 module _ {K S : Type 0} (V : Type 0) (same : K → K → Bool) (hash : S → K → ℕ) where
   abbrev its : (V : Type 0) → View K V S → Option (Map S) × List (Run K V)
   its V v = beside_of v
@@ -135,11 +143,3 @@ module _ {K S : Type 0} (V : Type 0) (same : K → K → Bool) (hash : S → K �
   looked_are_shown_in fixed id v c why b left x is =
       let k = free_by (λ y. y ≡ slot_view.Settles c why (Some (b, x)) left) (λ y e. busy_not y c why (Some (b, x)) left e) (λ e. cc e) v is in
       looked_are_shown V same hash fixed id v c why b left x k.2
-
-  -- who has a row leans on nobody
-  pub leans_beside : LeansBeside {V = View K V S} Leans notes_of (its V)
-  leans_beside v w n rows same_beside leans = by w.under rows leans
-    where
-      by : (under : Option (ℕ × ℕ)) → IsOfRows (row_known under w.slot w.work) → LeansOn under n → Leans v n
-      by None rows none = absurd none
-      by (Some leant) rows one = absurd rows

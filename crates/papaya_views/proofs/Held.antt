@@ -29,13 +29,14 @@ module _ {K V S : Type 0} (same : K → K → Bool) (hash : S → K → ℕ) whe
   pub held_of : (scene : Scene K V) (under : Option (ℕ × ℕ)) (slot : SlotView (Node K V)) (work : Work K V S) (b : ℕ) (x : Node K V) (looks : List (ℕ × Node K V))
       → AllHeld same hash scene under slot work looks → shown_in looks b ≡ Some x → IsHeld same hash scene under slot work (b, x)
   held_of scene under slot work b x [] held is = absurd (cc is)
-  held_of scene under slot work b x (look ∷ looks) held is = by (b == look.0) refl is
+  held_of scene under slot work b x (look ∷ looks) held is = by (b == look.0) refl is (held_of scene under slot work b x looks held.1)
     where
-      by : (k : Bool) → (b == look.0) ≡ k → (if k then Some look.1 else shown_in looks b) ≡ Some x → IsHeld same hash scene under slot work (b, x)
-      by true e f =
+      by : (k : Bool) → (b == look.0) ≡ k → (if k then Some look.1 else shown_in looks b) ≡ Some x → (shown_in looks b ≡ Some x → IsHeld same hash scene under slot work (b, x))
+          → IsHeld same hash scene under slot work (b, x)
+      by true e f rest =
           subst (λ (y : Node K V). IsHeld same hash scene under slot work (b, y)) (same_some look.1 x f)
           (subst (λ (a : ℕ). IsHeld same hash scene under slot work (a, look.1)) (sym (eqb-true b look.0 e)) held.0)
-      by false e f = held_of scene under slot work b x looks held.1 f
+      by false e f rest = rest f
 
 module _ {K S : Type 0} (V : Type 0) (same : K → K → Bool) (hash : S → K → ℕ) where
   pub held_are_shown : HeldAreShown V same hash

@@ -114,6 +114,10 @@ module _ {K V S : Type 0} (same : K → K → Bool) (hash : S → K → ℕ) (fi
       refl,
     )
 
+-- two seats, each with its slot, are one
+same_two : (j t n a : ℕ) → ◌≡◌ {A = Option (ℕ × ℕ)} (Some (j, t)) (Some (n, a)) → (j ≡ n) × (t ≡ a)
+same_two j t n a is = let e : ◌≡◌ {A = ℕ × ℕ} (j, t) (n, a) = same_some (j, t) (n, a) is in (ap (λ (p : ℕ × ℕ). p.0) e, ap (λ (p : ℕ × ℕ). p.1) e)
+
 module _ {K S : Type 0} (V : Type 0) (same : K → K → Bool) (hash : S → K → ℕ) where
   pub leanings_begin : LeaningsBegin V same hash
   leanings_begin fixed i j t v u rests own free inside s h at_i at_j apart =
@@ -124,14 +128,11 @@ module _ {K S : Type 0} (V : Type 0) (same : K → K → Bool) (hash : S → K �
       its lone =
           subst (λ (x : SlotView (Node K V)). IsSlot (acts_in None x)) inside (subst (λ (o : Option (ℕ × ℕ)). IsSlot (acts_in o u.slot)) lone (h.so.seats j u at_j).slot)
 
-      pair : (n a : ℕ) → Some (j, t) ≡ Some (n, a) → (j ≡ n) × (t ≡ a)
-      pair n a is = let e = same_some (j, t) (n, a) is in (ap (λ (p : ℕ × ℕ). p.0) e, ap (λ (p : ℕ × ℕ). p.1) e)
+      at : (n a : ℕ) → ◌≡◌ {A = Option (ℕ × ℕ)} (Some (j, t)) (Some (n, a)) → view_of s n ≡ Some u
+      at n a is = ap (view_of s) (sym (same_two j t n a is).0) ∙ at_j
 
-      at : (n a : ℕ) → Some (j, t) ≡ Some (n, a) → view_of s n ≡ Some u
-      at n a is = ap (view_of s) (sym (pair n a is).0) ∙ at_j
-
-      place : (n a : ℕ) → Some (j, t) ≡ Some (n, a) → t ≡ a
-      place n a is = (pair n a is).1
+      place : (n a : ℕ) → ◌≡◌ {A = Option (ℕ × ℕ)} (Some (j, t)) (Some (n, a)) → t ≡ a
+      place n a is = (same_two j t n a is).1
 
   pub leanings_end : LeaningsEnd V same hash
   leanings_end fixed id v rests free s h at_id =

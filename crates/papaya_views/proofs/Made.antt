@@ -1,5 +1,5 @@
 -- What a caller has made, and not linked, has its value through what others do; and the own pair of a call under way is such a block.
-use Rattle.std.specs.Prelude.{◌≢◌, Some}
+use Rattle.std.specs.Prelude.{◌≢◌, Some, Option}
 use Rattle.std.proofs.Common.{◌≡◌, ℕ, Bool, inl, inr, refl, sym, subst, ap, ◌∙◌}
 use Rattle.seize_words.specs.Mem.{Mem, Took, value_at}
 use Rattle.seize_words.specs.Plan.{Steps}

@@ -1,6 +1,6 @@
 -- An act of a seat makes the rule hold again, where it has left what the other seats know.
 use Rattle.std.specs.Prelude.{◌≢◌, ◌++◌, length, Option, Some, None, slice_get, slice_set}
-use Rattle.std.proofs.Common.{◌≡◌, ℕ, Bool, List, [], ◌∷◌, ◌⊎◌, inl, inr, sym, subst, ap, ◌∙◌}
+use Rattle.std.proofs.Common.{◌≡◌, ℕ, Bool, List, [], ◌∷◌, ◌⊎◌, inl, inr, refl, sym, subst, ap, ◌∙◌}
 use Rattle.std.proofs.lemmas.Bool.{cases_eq}
 use Rattle.seize_words.specs.Mem.{Mem}
 use Rattle.papaya_tables.specs.Given.SeizeWorld.{Use, Inside, IsInside}

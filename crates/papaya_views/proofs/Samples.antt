@@ -1,5 +1,5 @@
 -- What the first operation of a lookup tells its seat, on a map that has no table; and what the operation of a row does.
-use Rattle.std.specs.Prelude.{ℕ, ◌==◌, Bool, List, [], ◌∷◌, Some}
+use Rattle.std.specs.Prelude.{ℕ, ◌==◌, Bool, List, [], ◌∷◌, Some, None}
 use Rattle.std.proofs.Common.{inl, refl, ap}
 use Rattle.seize_words.specs.Mem.{Mem}
 use Rattle.seize_words.specs.Op.{Load, Store, Found, Stored}

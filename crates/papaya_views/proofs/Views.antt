@@ -60,6 +60,10 @@ module _ {K V S : Type 0} (same : K → K → Bool) (hash : S → K → ℕ) (fi
     seen = λ k x at. let o = had k x at in sees k x o o.under;
   }
     where
+      seen : ℕ → Option (ℕ × Mem (Node K V))
+      seen k =
+          seen_of V same hash fixed.batch_size fixed.roots slot_of h.course k s.world.doings (nothing_done V same hash fixed.batch_size fixed.roots slot_of h.course) h.reached h.led None
+
       -- who acts where it acted
       same_place : (x u : View K V S) → x.slot ≡ u.slot → x.under ≡ u.under → acts_in u.under u.slot ≡ acts_in x.under x.slot
       same_place x u slot under = ap (acts_in u.under) (sym slot) ∙ ap (λ (o : Option (ℕ × ℕ)). acts_in o x.slot) (sym under)
@@ -91,10 +95,6 @@ module _ {K V S : Type 0} (same : K → K → Bool) (hash : S → K → ℕ) (fi
           by : (o : Option (View K V S)) → slice_get views n ≡ o → IsLeant (slice_get views) n t
           by None e = let gone = none n e in let here = base.1 in absurd (cc (gone, here))
           by (Some x) e = let o = had n x e in (x, e, o.slot ∙ ap (λ (y : View K V S). y.slot) (same_some o.knew base.0 (sym o.at ∙ base.1)) ∙ base.2)
-
-      seen : ℕ → Option (ℕ × Mem (Node K V))
-      seen k =
-          seen_of V same hash fixed.batch_size fixed.roots slot_of h.course k s.world.doings (nothing_done V same hash fixed.batch_size fixed.roots slot_of h.course) h.reached h.led None
 
       as_before : (k : ℕ) (o : Option (View K V S)) → slice_get views k ≡ o → runs_of (view_of s k) ≡ runs_of o
       as_before k None e = ap runs_of (none k e)

@@ -32,7 +32,7 @@ module _ {K V S : Type 0} (same : K → K → Bool) (hash : S → K → ℕ) whe
   by_work v op out w (Some leant) own map work is rests = absurd rests
   by_work v op out w None own map Nothing (slot, tells, is) rests =
       subst IsResting (sym is)
-      (subst (λ (u : Option (ℕ × ℕ)). IsAtRest (row_known u slot Nothing)) (sym own)
+      (subst (λ (u : Option (ℕ × ℕ)). IsAtRest (row_known {S = S} u slot Nothing)) (sym own)
       (row_stays deferred_word (noted v.slot NoneYet v.began 0) op out (noted slot (deed v.slot NoneYet op out) v.began 0) (tells, refl, refl, refl) rests))
   by_work v op out w None own map (Calls machine) is rests = absurd (busy_not v.slot rests)
   by_work v op out w None own map (Makes m hasher opening) is rests = absurd rests

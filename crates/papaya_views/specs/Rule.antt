@@ -82,6 +82,10 @@ LeansOn (Some leant) n = leant.0 ≡ n
 abbrev pub Leans : {K V S : Type 0} → View K V S → ℕ → Type 0
 Leans v n = LeansOn v.under n
 
+-- the seat of this number is within a section of the slot
+abbrev pub IsLeant : {K V S : Type 0} → (ℕ → Option (View K V S)) → ℕ → ℕ → Type 0
+IsLeant {K} {V} {S} view n t = (u : View K V S) × (view n ≡ Some u) × (u.slot ≡ slot_view.Inside t NoBlock)
+
 -- a seat that holds no slot and knows no map
 abbrev pub at_rest : {K V S : Type 0} → View K V S
 at_rest = record { slot = slot_view.Rests; under = None; map = None; work = Nothing; looks = []; held = []; began = NotYet; calls = [] }
@@ -220,10 +224,6 @@ module _ {K V S : Type 0} (same : K → K → Bool) (hash : S → K → ℕ) whe
     pub held : AllHeld s v.under v.slot v.work v.held
     pub pair : KnowsPair s (caller_at j (acts_in v.under v.slot)) v.map v.work v.calls
     pub idle : (t : ℕ) → IsSlot t → t ≢ acts_in v.under v.slot → IsIdle s (caller_at j t)
-
-  -- the seat of this number is within a section of the slot
-  abbrev pub IsLeant : (ℕ → Option (View K V S)) → ℕ → ℕ → Type 0
-  IsLeant view n t = (u : View K V S) × (view n ≡ Some u) × (u.slot ≡ slot_view.Inside t NoBlock)
 
   -- the scene is as the seats know it, and its memory is this one
   pub record AreSo (s : State (Node K V) (View K V S) (MapsWorld K V S)) (scene : Scene K V) : Type 0 where

@@ -23,4 +23,4 @@ pub returns-clause-rest : goal.returns-clause-rest
 returns-clause-rest g c = λ v rests. rests
 
 pub returns-clause-leans : goal.returns-clause-leans
-returns-clause-leans g c = leans_beside _ _ _
+returns-clause-leans g c = leans_beside
