@@ -62,7 +62,7 @@ pub struct Protected<'g, T> {
 impl<'g, T> Protected<'g, T> {
     pub(crate) fn of(tagged: Tagged, value: Option<&'g T>) -> Self
         ensures tagged { result.tagged ≡ tagged }
-        ensures value { result.value ≡ value }
+        ensures value { result.value ≡ value.entry }
     {
         Protected { tagged, value }
     }
