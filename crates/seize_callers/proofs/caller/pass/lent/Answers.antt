@@ -1,6 +1,4 @@
-use Rattle.std.proofs.Common.{◌≡◌, ℕ, ap, sym, subst, ◌∙◌}
-use Rattle.seize_seats.specs.Lendings.{IsValueOf}
-use Rattle.seize_views.specs.Notes.{NotedHolds}
+use Rattle.std.proofs.Common.{ap, sym, ◌∙◌}
 use Rattle.seize_views.specs.declared.view.View.TheVariants.{Under}
 use Rattle.seize_views.proofs.Notes.{comings_are_noted}
 use Rattle.seize_views.proofs.Passing.{leanings_keep, kept_are_there}

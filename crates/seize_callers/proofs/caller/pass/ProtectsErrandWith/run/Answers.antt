@@ -1,4 +1,4 @@
-use Rattle.std.proofs.Common.{◌≡◌, ℕ, ap, sym, subst, ◌∙◌, inr}
+use Rattle.std.proofs.Common.{◌≡◌, ℕ, sym, subst, ◌∙◌, inr}
 use Rattle.seize_seats.specs.Errands.{Away, Lends}
 use Rattle.seize_words.specs.Word.{block_in}
 use Rattle.std.specs.Prelude.{IfSome}
@@ -12,7 +12,7 @@ use Rattle.seize_views.specs.declared.view.Deed.TheVariants.{Looked}
 use Rattle.seize_views.specs.declared.view.Fixed.{Fixed}
 use Rattle.seize_views.specs.Watched.{LeansOn}
 use Rattle.seize_views.specs.declared.view.View.{View}
-use Rattle.seize_views.specs.declared.view.View.TheVariants.{Rests, Under}
+use Rattle.seize_views.specs.declared.view.View.TheVariants.{Under}
 use Rattle.seize_views.proofs.Passing.{leanings_begin, leanings_see, leanings_end}
 use Rattle.seize_callers.proofs.caller.pass.ProtectsErrandWith.run.Given as given
 use Rattle.seize_callers.proofs.caller.pass.ProtectsErrandWith.run.Goals as goal
