@@ -17,8 +17,9 @@ NAME = re.compile(r"[^\s(){}\[\],;.:@\"]+")
 QUALIFIED = re.compile(r"(Rattle(?:\.[\w+]+)+|\b[^\W\d]\w*)\.([^\s(){}\[\],;.:@\"]+)")
 USE = re.compile(r"^\s*(?:pub |ghost )?use ([\w.+\-]+)(?:\.\{([^}]*)\}| as (\w+))?;?\s*$", re.M)
 GHOST = re.compile(r"ghost use ([\w.+\-]+)(?:\.\{([^}]*)\}| as (\w+))?;", re.S)
+USING = re.compile(r"\b(\w+)::(proofs|specs)::([\w:]+)::([^\W\d][\w'\-]*)")
 ITEM = re.compile(r"(?:(?:pub|abbrev|record|data|opaque) )*([^\s:({]+)")
-NONE = ("use ", "pub use ", "mod ", "pub mod ", "unfolding", "open ", "infix")
+NONE = ("use ", "pub use ", "mod ", "pub mod ", "unfold", "open ", "infix")
 
 
 class Item:
@@ -163,6 +164,9 @@ class Search:
             answers = path[2] == "proofs" and not path[3][:1].isupper()
             if path[2] == "src":
                 self.reach(self.cited(file, file.text))
+                for crate, part, module, name in USING.findall(file.text):
+                    home = file.crate if crate == "crate" else crate
+                    self.reach(self.items_of(f"Rattle.{home}.{part}." + module.replace("::", "."), name))
             elif answers or any(part.partition(".")[0] == "Samples" for part in path):
                 self.reach(file.items.values())
                 for head in file.others:
