@@ -18,15 +18,15 @@ QUALIFIED = re.compile(r"(Rattle(?:\.[\w+]+)+|\b[^\W\d]\w*)\.([^\s(){}\[\],;.:@\
 USE = re.compile(r"^\s*(?:pub |ghost )?use ([\w.+\-]+)(?:\.\{([^}]*)\}| as (\w+))?;?\s*$", re.M)
 GHOST = re.compile(r"ghost use ([\w.+\-]+)(?:\.\{([^}]*)\}| as (\w+))?;", re.S)
 USING = re.compile(r"\b(\w+)::(proofs|specs)::([\w:]+)::([^\W\d][\w'\-]*)")
-ITEM = re.compile(r"(?:(?:pub|abbrev|record|data|opaque) )*([^\s:({]+)")
-NONE = ("use ", "pub use ", "mod ", "pub mod ", "unfold", "open ", "infix")
+ITEM = re.compile(r"(?:(?:pub|abbrev|record|data|opaque|unfoldable) )*([^\s:({]+)")
+NONE = ("use ", "pub use ", "mod ", "pub mod ", "open ", "infix")
 
 
 class Item:
     """A definition or lemma: where it stands, and all that is written of it, with the heads of the modules around it."""
 
     def __init__(self, file, name, line):
-        self.file, self.name, self.line, self.text, self.lines, self.reached = file, name, line, [], 0, False
+        self.file, self.name, self.line, self.text, self.places, self.reached = file, name, line, [], [], False
 
 
 class File:
@@ -62,12 +62,12 @@ class File:
                     continue
                 heads[-1][1] = indent
             at = heads[-1][1] if heads else 0
-            if indent == at and said.startswith("module "):
-                heads.append([indent, None, [said], said.endswith("where")])
+            if indent == at and (said.startswith("module ") or re.fullmatch(r"(?:abbrev |pub )*mutual", said)):
+                heads.append([indent, None, [said], said.endswith(("where", "mutual"))])
                 self.others.append(heads[-1][2])
                 item = None
                 continue
-            begins = ITEM.match(said) if indent == at and said[0] not in "})]" else None
+            begins = ITEM.match(said) if indent == at and said[0] not in "})]" and not said.startswith("unfolding ") else None
             if begins:
                 if said.startswith(NONE):
                     item = None
@@ -79,7 +79,7 @@ class File:
                     item.text += [text for head in heads for text in head[2]]
             if item is not None:
                 item.text.append(re.sub(r"\s-- .*", "", said))
-                item.lines += 1
+                item.places.append(number - 1)
                 maker = re.match(r"([^\s:({]+) :", said)
                 if indent > at and maker and maker[1][:1].isupper():
                     self.items.setdefault(maker[1], item)
@@ -187,8 +187,8 @@ def main():
                 found[id(item)] = item
     left = sorted(found.values(), key=lambda item: (wanted.index(item.file.crate), item.file.path, item.line))
     for item in left:
-        print(f"{item.file.path}:{item.line}: {item.name}, {item.lines} lines")
-    print(f"{len(left)} definitions and lemmas that no contract reaches, {sum(item.lines for item in left)} lines")
+        print(f"{item.file.path}:{item.line}: {item.name}, {len(item.places)} lines")
+    print(f"{len(left)} definitions and lemmas that no contract reaches, {sum(len(item.places) for item in left)} lines")
     return 1 if left else 0
 
 
