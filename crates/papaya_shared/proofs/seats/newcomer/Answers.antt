@@ -1,15 +1,19 @@
 use Rattle.std.proofs.Common.{refl, ap, subst, sym, ◌∙◌}
+use Rattle.papaya_views.proofs.Laws.{seats_come}
 use Rattle.papaya_views.specs.Begun.{shown_map}
 use Rattle.papaya_views.specs.Notes.{IsResting}
 use Rattle.papaya_views.specs.declared.view.View.{View}
 use Rattle.papaya_shared.proofs.Beginnings.{may_show}
-use Rattle.papaya_shared.proofs.caller.Caller.shows.Goals as goal
+use Rattle.papaya_shared.proofs.seats.newcomer.Goals as goal
+
+pub seat-other-requires : goal.seat-other-requires
+seat-other-requires g c = seats_come g.row.V.Denot g.K.PartialEq.eq g.S.Hashes.hash c.args.blocks.now.words.fixed
 
 pub meet-requires-clause-may : goal.meet-requires-clause-may
 meet-requires-clause-may g c =
-    let x = c.args.self.now in
-    may_show g.K.PartialEq.eq g.S.Hashes.hash x.blocks.now.words.fixed x.seat.id x.seat.view c.new-other.result.seat.id c.new-other.result.seat.view c.requires.knows.0
-    c.requires.knows.1 (ap (λ (v : View g.row.K.Denot g.row.V.Denot g.row.S.Denot). v.work) c.new-other.ensures.rests)
+    let x = c.args.seat.now in
+    may_show g.K.PartialEq.eq g.S.Hashes.hash c.args.blocks.now.words.fixed x.id x.view c.seat-other.result.id c.seat-other.result.view c.requires.knows.0
+    c.requires.knows.1 (ap (λ (v : View g.row.K.Denot g.row.V.Denot g.row.S.Denot). v.work) c.seat-other.ensures.1)
 
 -- who knows a map more has no more under way
 pub meet-requires-clause-errand : goal.meet-requires-clause-errand
@@ -18,9 +22,6 @@ meet-requires-clause-errand g c = λ p q so. (
   λ home rests. subst (λ (v : View g.row.K.Denot g.row.V.Denot g.row.S.Denot). IsResting v) (sym so.3) rests,
 )
 
-pub returns-clause-blocks : goal.returns-clause-blocks
-returns-clause-blocks g c = (refl, c.new-other.ensures.blocks)
-
 pub returns-clause-shown : goal.returns-clause-shown
 returns-clause-shown g c =
-    let s = c.meet.ensures.goes in (s.0, s.1, s.2, s.3 ∙ ap (λ (v : View g.row.K.Denot g.row.V.Denot g.row.S.Denot). shown_map v s.0) c.new-other.ensures.rests)
+    let s = c.meet.ensures.goes in (s.0, s.1, s.2, s.3 ∙ ap (λ (v : View g.row.K.Denot g.row.V.Denot g.row.S.Denot). shown_map v s.0) c.seat-other.ensures.1)

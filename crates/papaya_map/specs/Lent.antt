@@ -1,0 +1,16 @@
+-- What a session ends as, once what a call has lent out of it has ended.
+use Rattle.std.specs.Prelude.{⊤, []}
+use Rattle.std.specs.Borrow.{Fml, RattleType, MutBor, follows_so}
+use mathlib.Core.Option.{none}
+use mir.Syntax.{named}
+use Rattle.papaya_map.specs.declared.session.Session.{Session}
+use Rattle.papaya_map.specs.contracts.session.Session.{the_row}
+
+module _ (K V S : RattleType) where
+  -- the session's type, as the logic holds it
+  abbrev pub session_row : RattleType
+  session_row = the_row (record { mir = named 1; lft = [] }) K V S
+
+  -- it ends as one of which this holds
+  abbrev pub EndsSo : MutBor (Session K.Denot V.Denot S.Denot) → (Session K.Denot V.Denot S.Denot → Type 0) → Fml
+  EndsSo session Holds = follows_so session_row session_row session.ghost_name none (λ _ _. ⊤) Holds
