@@ -1,8 +1,9 @@
 -- The turns of a seat of maps, and the lookup that has begun.
-use Rattle.std.specs.Prelude.{max}
+use Rattle.std.specs.Prelude.{max, Result, Ok, Err, IfErr}
 use Rattle.std.proofs.Common.{◌≡◌, ℕ, ◌≤◌, ◌^◌, Bool, true, Some, refl, sym, subst, ap, ◌∙◌, arith}
 use Rattle.papaya_views.proofs.Given.SeizeActsAnswers.{same_some}
 use Rattle.papaya_views.specs.Given.SeizeSeatsState.{Turns, Meets}
+use Rattle.papaya_views.specs.Given.SeizeWordsDeclared.fault.Fault.{Fault}
 use Rattle.papaya_views.specs.Given.TablesChunks.{is_incremental}
 use Rattle.papaya_views.specs.Given.TablesLengths.{IsTableLen}
 use Rattle.papaya_views.specs.Given.TablesDeclared.node.Node.{Node}
@@ -26,7 +27,7 @@ use Rattle.papaya_views.specs.declared.view.Work.TheVariants.{Nothing, Calls}
 use Rattle.papaya_views.proofs.Laws.{calls_begin, makings_begin, maps_are_handed_on}
 use Rattle.papaya_shared.specs.Calling.{IsCalling, MayCall}
 use Rattle.papaya_shared.specs.Looking.{Begins, IsOn, LooksFor, MayLook, StaysThere}
-use Rattle.papaya_shared.specs.Making.{BeginsMaking, HandsOn, MayBegin, PlansJust}
+use Rattle.papaya_shared.specs.Making.{BeginsMaking, CameTo, HandsOn, MayBegin, PlansJust}
 
 module _ {K V S : Type 0} (same : K → K → Bool) (hash : S → K → ℕ) (fixed : Fixed) (id : ℕ) (v : View K V S) where
   -- who may come to know one thing may come to know what that is of
@@ -52,6 +53,20 @@ module _ {K V S : Type 0} (same : K → K → Bool) (hash : S → K → ℕ) (fi
   pub may_show : (j : ℕ) (u : View K V S) (map : Map S) → v.map ≡ Some map → u.work ≡ Nothing → Meets (Holds same hash fixed) id v j u (HandsOn v u)
   may_show j u map knows free s h here there ne =
       let g = maps_are_handed_on V same hash fixed id j v u map knows free s h here there ne in (g.0, g.1, g.2, (map, knows, g.3.0, g.3.1))
+
+-- what a making has come to, from where it began
+module _ {K V S : Type 0} (plans : S → NewMap → Type 0) (hasher : S) (opening : NewMap) (u v w : View K V S) (begins : BeginsMaking plans u v) where
+  refused_there : (answer : Result Setting Fault) → IfErr answer (λ fault. (w.work ≡ Nothing) × (w.map ≡ v.map)) → IfErr answer (λ fault. (w.work ≡ Nothing) × (w.map ≡ u.map))
+  refused_there (Ok setting) is = tt
+  refused_there (Err fault) is = (is.0, is.1 ∙ ap (λ (x : View K V S). x.map) begins.4)
+
+  pub came_from : (answer : Result Setting Fault) → CameTo hasher opening answer v w → CameTo hasher opening answer u w
+  came_from answer came = record {
+    made = came.made;
+    refused = refused_there answer came.refused;
+    slot = came.slot ∙ ap (λ (x : View K V S). x.slot) begins.4;
+    calls = came.calls ∙ ap (λ (x : View K V S). x.calls) begins.4;
+  }
 
 module _ {K V S : Type 0} (same : K → K → Bool) (hash : S → K → ℕ) (key : K) where
   -- what has begun is a lookup of this key

@@ -26,9 +26,10 @@ use Rattle.papaya_views.specs.declared.view.View.{View}
 use Rattle.papaya_views.specs.declared.view.Work.{Work}
 use Rattle.papaya_views.specs.declared.view.Work.TheVariants.{Calls}
 use Rattle.papaya_views.proofs.Laws.{calls_turn}
+use Rattle.seize_callers.specs.Kept.{kept}
 use Rattle.papaya_shared.specs.Made.{CanMake, HasMade, IsSameSeat, shown_of}
 use Rattle.papaya_shared.specs.Calling.{AsksNothing, CallAsksNothing, IsCalling, CalledSo}
-use Rattle.papaya_shared.specs.Looking.{StaysThere}
+use Rattle.papaya_shared.specs.Looking.{HasTold, StaysThere}
 use Rattle.papaya_shared.specs.declared.within.Within.{Within}
 use Rattle.papaya_shared.proofs.Asking.{Leads, leads_as, Keeps, call_is, keeps}
 use Rattle.papaya_shared.proofs.Calls.{can_make, told_shown}
@@ -77,8 +78,8 @@ module _ {K V S : Type 0} (same : K → K → Bool) (hash : S → K → ℕ) (ha
     so_far machine c (tells.Gave value) view keeps = record { map = map; knows = ap (λ (u : View K V S). u.map) view ∙ knows; hashes = hashes; incremental = incremental; works = ap (λ (u : View K V S). u.work) view; asks = keeps.0 }
     so_far machine c (tells.Unstored value) view keeps = record { map = map; knows = ap (λ (u : View K V S). u.map) view ∙ knows; hashes = hashes; incremental = incremental; works = ap (λ (u : View K V S). u.work) view; asks = keeps.0 }
     so_far machine c (tells.Asks pair) view keeps = absurd keeps.1
-    so_far machine c (tells.Done answer) view keeps = record { free = ap (λ (u : View K V S). u.work) view; told = ap (λ (u : View K V S). u.last) view }
-    so_far machine c (tells.Refused fault) view keeps = record { free = ap (λ (u : View K V S). u.work) view; told = ap (λ (u : View K V S). u.last) view }
+    so_far machine c (tells.Done answer) view keeps = ap (λ (u : View K V S). u.work) view
+    so_far machine c (tells.Refused fault) view keeps = ap (λ (u : View K V S). u.work) view
 
     stays_so : (machine : Machine K V K) (end : Machine K V K × Progress (Node K V)) → w ≡ called v map machine end looks → StaysThere v w
     stays_so machine end view = record { slot = ap (λ (u : View K V S). u.slot) view; map = ap (λ (u : View K V S). u.map) view }
@@ -117,13 +118,15 @@ module _ {K V S : Type 0} (same : K → K → Bool) (hash : S → K → ℕ) (ha
 
     -- what is known once the call has come so far
     knows_so : (w : View K V S) (shown : ℕ → Option (Node K V)) (end : Machine K V K × Progress (Node K V)) (looks : List (ℕ × Node K V))
-        → w ≡ called c.seat.now.view is.map machine end looks → Leads shown plan end → CalledSo hasher end.0 end.1 w × StaysThere c.seat.now.view w
+        → w ≡ called c.seat.now.view is.map machine end looks → Leads shown plan end
+        → CalledSo hasher end.0 end.1 w × StaysThere c.seat.now.view w × HasTold end.1 c.seat.now.view w
     knows_so w shown end looks view leads =
         let k = keeps_machine (hash is.map.hasher) machine is.asks shown end leads in
         let so = so_far is.map c.seat.now.view w looks is.knows is.hashes is.incremental machine k.0.0 k.0.1
         (view ∙ ap (λ (e : Machine K V K × Progress (Node K V)). called c.seat.now.view is.map machine e looks) k.1) k.2 in (
           subst (λ (e : Machine K V K × Progress (Node K V)). CalledSo hasher e.0 e.1 w) (sym k.1) so,
           stays_so is.map c.seat.now.view w looks is.knows is.hashes is.incremental machine end view,
+          ap (λ (u : View K V S). u.calls) view,
         )
 
     module _ (n : Within K V S) (end : Machine K V K × Progress (Node K V)) (before : c.made ≡ false) (st : Steps (HasMade same hash) shown_of c its n end) where
@@ -134,6 +137,7 @@ module _ {K V S : Type 0} (same : K → K → Bool) (hash : S → K → ℕ) (ha
       pub record Made : Type 0 where
         pub told : CalledSo hasher end.0 end.1 n.seat.now.view
         pub stays : StaysThere c.seat.now.view n.seat.now.view
+        pub calls : HasTold end.1 c.seat.now.view n.seat.now.view
         pub seat : IsSameSeat c n
 
       pub has_made : n.made ≡ true → Made
@@ -143,7 +147,7 @@ module _ {K V S : Type 0} (same : K → K → Bool) (hash : S → K → ℕ) (ha
             let one : t.0 ≡ end = follows_one (shown_of n) plan it.1 t.0 end t.1 it.3 in
             let view = t.2 ∙ ap (λ (e : Machine K V K × Progress (Node K V)). called c.seat.now.view is.map machine e n.seat.now.view.looks) one in
             let k = knows_so n.seat.now.view (shown_of n) end n.seat.now.view.looks view (leads_by (shown_of n) plan it.1 end it.3) in
-            record { told = k.0; stays = k.1; seat = it.2.seat }
+            record { told = k.0; stays = k.1; calls = k.2; seat = it.2.seat }
         | inr none ↦ let made_false : n.made ≡ false = ap (λ (x : Within K V S). x.made) none.0 ∙ before in absurd (cc (made, made_false))
       ]
 
@@ -157,13 +161,18 @@ module _ {K V S : Type 0} (same : K → K → Bool) (hash : S → K → ℕ) (ha
         | inr turn ↦ turn
       ]
 
+      -- it is the same seat then
+      pub still : n.made ≡ false → IsSameSeat c n
+      still none = ap (λ (x : Within K V S). kept x.blocks x.seat.ghost_name x.seat.now.id x.seat.now.away) (is_turn none).0
+
       pub may_turn : n.made ≡ false → Turns (Holds same hash n.blocks.now.words.fixed) KeepsFor n.seat.now.id n.seat.now.view (turned same hash n.seat.now.view)
       may_turn none =
           let t = is_turn none in
           subst (λ (x : Within K V S). Turns (Holds same hash x.blocks.now.words.fixed) KeepsFor x.seat.now.id x.seat.now.view (turned same hash x.seat.now.view)) (sym t.0)
           (calls_turn V same hash c.blocks.now.words.fixed c.seat.now.id c.seat.now.view is.map machine t.1.0 is.knows is.works t.1.1)
 
-      pub has_turned : n.made ≡ false → (w : View K V S) → turned same hash n.seat.now.view w → CalledSo hasher end.0 end.1 w × StaysThere c.seat.now.view w
+      pub has_turned : n.made ≡ false → (w : View K V S) → turned same hash n.seat.now.view w
+          → CalledSo hasher end.0 end.1 w × StaysThere c.seat.now.view w × HasTold end.1 c.seat.now.view w
       has_turned none w goes =
           let t = is_turn none in
           let here : turned same hash c.seat.now.view w = subst (λ (x : Within K V S). turned same hash x.seat.now.view w) t.0 goes in

@@ -10,4 +10,5 @@ mod Makings
 mod Beginnings
 mod Shown
 mod Rows
+mod Runs
 mod Sessions

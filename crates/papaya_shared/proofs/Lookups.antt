@@ -22,7 +22,7 @@ use Rattle.papaya_views.specs.Given.SeizeViewsTold.{FollowsBy}
 use Rattle.papaya_views.specs.Told.{called}
 use Rattle.papaya_views.specs.declared.view.View.{View}
 use Rattle.papaya_shared.specs.Made.{CanMake, HasMade, IsSameSeat, shown_of}
-use Rattle.papaya_shared.specs.Looking.{LooksFor, LookedSo, StaysThere}
+use Rattle.papaya_shared.specs.Looking.{HasTold, LooksFor, LookedSo, StaysThere, looking_told}
 use Rattle.papaya_shared.specs.declared.within.Within.{Within}
 use Rattle.papaya_shared.proofs.Calls.{can_make, told_shown}
 use Rattle.papaya_shared.proofs.Looking.{TellsSo, tells, is_do, only_reads, is_plain}
@@ -90,12 +90,21 @@ module _ {K V S : Type 0} (same : K → K → Bool) (hash : S → K → ℕ) (c 
     on = on;
   }
   so_far n (d, progress.Waits) view none = none
-  so_far n (d, progress.Done None) view none = record { free = ap (λ (v : View K V S). v.work) view; told = ap (λ (v : View K V S). v.last) view; shows = tt }
-  so_far n (d, progress.Done (Some word)) view shows = record { free = ap (λ (v : View K V S). v.work) view; told = ap (λ (v : View K V S). v.last) view; shows = shows }
+  so_far n (d, progress.Done None) view none = record { free = ap (λ (v : View K V S). v.work) view; shows = tt }
+  so_far n (d, progress.Done (Some word)) view shows = record { free = ap (λ (v : View K V S). v.work) view; shows = shows }
   so_far n (d, progress.Refused fault) view none = none
 
+  -- and what its call has told
+  told_so : (n : Within K V S) (end : Lookup × Progress (Option ℕ)) → n.seat.now.view ≡ called c.seat.now.view is.map machine (as_machine (looked standing_here end)) n.seat.now.view.looks
+      → HasTold (looking_told end.1) c.seat.now.view n.seat.now.view
+  told_so n (d, progress.Goes) view = ap (λ (v : View K V S). v.calls) view
+  told_so n (d, progress.Waits) view = ap (λ (v : View K V S). v.calls) view
+  told_so n (d, progress.Done None) view = ap (λ (v : View K V S). v.calls) view
+  told_so n (d, progress.Done (Some word)) view = ap (λ (v : View K V S). v.calls) view
+  told_so n (d, progress.Refused fault) view = ap (λ (v : View K V S). v.calls) view
+
   pub has_looked : (n : Within K V S) (end : Lookup × Progress (Option ℕ)) → Steps (HasMade same hash) shown_of c own n end
-      → LookedSo same key end.0 end.1 n.seat.now.view × StaysThere c.seat.now.view n.seat.now.view × IsSameSeat c n
+      → LookedSo same key end.0 end.1 n.seat.now.view × StaysThere c.seat.now.view n.seat.now.view × IsSameSeat c n × HasTold (looking_told end.1) c.seat.now.view n.seat.now.view
   has_looked n end st =
       let k = was_made (CanMake same hash) (HasMade same hash) shown_of c own n end (is_do V (same key) lookup lookup.stands is.on) st in
       let t = came k.0 k.1 n k.3 in
@@ -104,4 +113,5 @@ module _ {K V S : Type 0} (same : K → K → Bool) (hash : S → K → ℕ) (c 
         so_far n end view (tells (same key) (shown_of n) lookup k.1 end is.on (follows_rest (shown_of n) own k.1 end k.4)),
         record { slot = ap (λ (v : View K V S). v.slot) view; map = ap (λ (v : View K V S). v.map) view },
         k.3.seat,
+        told_so n end view,
       )

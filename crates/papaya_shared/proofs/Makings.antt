@@ -54,26 +54,29 @@ module _ {K V S : Type 0} (same : K → K → Bool) (hash : S → K → ℕ) (c 
       (λ op out n e made. let k = came op out n made in (k.end, k.follows)) (λ out. now_plain (rest_of plan out) (is_now K V opening opening.stands is.early out))
 
   so_far : (n : Within K V S) (end : NewMap × Progress Setting) → n.seat.now.view ≡ made_after c.seat.now.view is.number hasher n.seat.now.view.looks end.0 end.1 → GoesEarly end
-      → MadeSo hasher end.0 end.1 n.seat.now.view × KnowsStill end.1 c.seat.now.view n.seat.now.view × (n.seat.now.view.slot ≡ c.seat.now.view.slot)
+      → MadeSo hasher end.0 end.1 n.seat.now.view × KnowsStill end.1 c.seat.now.view n.seat.now.view × (n.seat.now.view.slot ≡ c.seat.now.view.slot) × (n.seat.now.view.calls ≡ c.seat.now.view.calls)
   so_far n (d, progress.Goes) view early = (
     record { number = is.number; works = ap (λ (v : View K V S). v.work) view; early = early.0; none = early.1 },
     ap (λ (v : View K V S). v.map) view,
     ap (λ (v : View K V S). v.slot) view,
+    ap (λ (v : View K V S). v.calls) view,
   )
   so_far n (d, progress.Waits) view none = absurd none
   so_far n (d, progress.Done setting) view early = (
     record { number = is.number; free = ap (λ (v : View K V S). v.work) view; knows = ap (λ (v : View K V S). v.map) view },
     tt,
     ap (λ (v : View K V S). v.slot) view,
+    ap (λ (v : View K V S). v.calls) view,
   )
   so_far n (d, progress.Refused fault) view early =
-      (ap (λ (v : View K V S). v.work) view, ap (λ (v : View K V S). v.map) view, ap (λ (v : View K V S). v.slot) view)
+      (ap (λ (v : View K V S). v.work) view, ap (λ (v : View K V S). v.map) view, ap (λ (v : View K V S). v.slot) view, ap (λ (v : View K V S). v.calls) view)
 
   -- what a step has come to
   pub record Got (n : Within K V S) (end : NewMap × Progress Setting) : Type 0 where
     pub made : MadeSo hasher end.0 end.1 n.seat.now.view
     pub map : KnowsStill end.1 c.seat.now.view n.seat.now.view
     pub slot : n.seat.now.view.slot ≡ c.seat.now.view.slot
+    pub calls : n.seat.now.view.calls ≡ c.seat.now.view.calls
     pub chosen : StaysChosen opening end.0 end.1
     pub left : GetsOn opening end.0 end.1
     pub seat : IsSameSeat c n
@@ -85,4 +88,4 @@ module _ {K V S : Type 0} (same : K → K → Bool) (hash : S → K → ℕ) (c 
       let one : t.end ≡ end = follows_one (shown_of n) plan k.1 t.end end t.follows k.4 in
       let view = t.view ∙ ap (λ (e : NewMap × Progress Setting). made_after c.seat.now.view is.number hasher n.seat.now.view.looks e.0 e.1) one in
       let so = tells opening is.none (shown_of n) is.early k.0 k.1 end k.2 k.3.fits k.4 in
-      let s = so_far n end view so.0 in record { made = s.0; map = s.1; slot = s.2; chosen = so.1; left = so.2; seat = k.3.seat }
+      let s = so_far n end view so.0 in record { made = s.0; map = s.1; slot = s.2; calls = s.3; chosen = so.1; left = so.2; seat = k.3.seat }

@@ -1,5 +1,5 @@
 -- A seat of maps that has nothing but a row under way, as its notes have it, and who has come to rest.
-use Rattle.std.specs.Prelude.{Option, Result, Ok, Err, IfOk, IfErr}
+use Rattle.std.specs.Prelude.{List, Option, Result, Ok, Err, IfOk, IfErr}
 use Rattle.std.proofs.Common.{◌≡◌, ℕ, Bool, sym, subst, ap, ◌∙◌}
 use Rattle.papaya_views.specs.Given.SeizeWordsDeclared.fault.Fault.{Fault}
 use Rattle.papaya_views.specs.Given.SeizeViewsRows.{IsAtRest}
@@ -9,7 +9,9 @@ use Rattle.papaya_views.specs.Given.SeizeViewsDeclared.view.View.TheVariants.{Re
 use Rattle.papaya_views.specs.Given.TablesDeclared.node.Node.{Node}
 use Rattle.papaya_views.specs.Given.TablesDeclared.setting.Setting.{Setting}
 use Rattle.papaya_views.specs.Given.ResizeDeclared.new_map.NewMap.{NewMap}
-use Rattle.papaya_views.specs.Notes.{row_known, notes_of, IsResting}
+use Rattle.papaya_views.specs.Notes.{beside_of, row_known, notes_of, IsResting}
+use Rattle.papaya_views.specs.declared.view.Map.{Map}
+use Rattle.papaya_views.specs.declared.view.Run.{Run}
 use Rattle.papaya_views.specs.declared.view.View.{View}
 use Rattle.papaya_views.specs.declared.view.Work.{Work}
 use Rattle.papaya_views.specs.declared.view.Work.TheVariants.{Nothing}
@@ -41,6 +43,13 @@ module _ {K V S : Type 0} where
   rests_after hasher opening (Ok setting) v w rests came = rests_so w Rests (came.slot ∙ rests) came.made.0.free tt
   rests_after hasher opening (Err fault) v w rests came = rests_so w Rests (came.slot ∙ rests) came.refused.0 tt
 
+  -- what is beside a row stays: the map, and the calls
+  pub map_stays : (v w : View K V S) → beside_of w ≡ beside_of v → w.map ≡ v.map
+  map_stays v w e = ap (λ (b : Option (Map S) × List (Run K V)). b.0) e
+
+  pub calls_stay : (v w : View K V S) → beside_of w ≡ beside_of v → w.calls ≡ v.calls
+  calls_stay v w e = ap (λ (b : Option (Map S) × List (Run K V)). b.1) e
+
   -- and so does who has looked a key up
-  pub rests_inside : (same : K → K → Bool) (key : K) (answer : Option ℕ) (v w : View K V S) (t : ℕ) → v.slot ≡ Inside t NoBlock → HasFound same key answer v w → IsResting w
-  rests_inside same key answer v w t inside found = rests_so w (Inside t NoBlock) (found.stays.slot ∙ inside) found.looked.free tt
+  pub rests_inside : (same : K → K → Bool) (hash : S → K → ℕ) (key : K) (answer : Option ℕ) (v w : View K V S) (t : ℕ) → v.slot ≡ Inside t NoBlock → HasFound same hash key answer v w → IsResting w
+  rests_inside same hash key answer v w t inside found = rests_so w (Inside t NoBlock) (found.stays.slot ∙ inside) found.looked.free tt

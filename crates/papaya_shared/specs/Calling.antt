@@ -18,12 +18,13 @@ use Rattle.papaya_views.specs.Given.RawDeclared.machines.progress.Answer.{Answer
 use Rattle.papaya_views.specs.Given.RawDeclared.machines.progress.Answer.TheVariants.{Key as OfKey}
 use Rattle.papaya_views.specs.Given.RawDeclared.machines.progress.Progress.{Progress}
 use Rattle.papaya_views.specs.Given.RawDeclared.machines.progress.Progress.TheVariants as progress
+use Rattle.papaya_views.specs.Given.ActsActs.{Wanted, Insert}
 use Rattle.papaya_views.specs.Given.SeizeViewsDeclared.view.Has.TheVariants.{Nothing as NoBlock}
 use Rattle.papaya_views.specs.Given.SeizeViewsDeclared.view.View.TheVariants.{Inside}
 use Rattle.papaya_views.specs.declared.view.Map.{Map}
 use Rattle.papaya_views.specs.declared.view.View.{View}
 use Rattle.papaya_views.specs.declared.view.Work.TheVariants.{Nothing, Calls}
-use Rattle.papaya_shared.specs.Looking.{StaysThere}
+use Rattle.papaya_shared.specs.Looking.{HasRun, HasTold, StaysThere}
 
 -- it is known what is done where the key is there,
 abbrev pub IsKnownThere : There → Type 0
@@ -71,21 +72,21 @@ module _ {K V S : Type 0} where
     pub asks : CallAsksNothing machine
 
   -- it has nothing under way, and its call has told this last
-  pub record HasEnded (answer : Result Answer Fault) (v : View K V S) : Type 0 where
-    pub free : v.work ≡ Nothing
-    pub told : v.last ≡ outcome_of answer
+  pub record HasEnded (answer : Result Answer Fault) (v w : View K V S) : Type 0 where
+    pub free : w.work ≡ Nothing
+    pub told : HasTold (outcome_of answer) v w
 
-  -- it has ended with an answer, which says whether a pair was replaced
-  abbrev pub HasStored : Bool → View K V S → Type 0
-  HasStored replaced v = (answer : Answer) × HasEnded (Ok answer) v × (replaced ≡ is_replaced answer)
+  -- it has run a call that stores this pair, and whose answer says whether a pair was replaced
+  abbrev pub HasStored : (K → K → Bool) → (S → K → ℕ) → K → V → Bool → View K V S → View K V S → Type 0
+  HasStored same hash key value replaced v w = (answer : Answer) × HasRun same hash (Insert key value) (outcome_of (Ok answer)) v w × (replaced ≡ is_replaced answer)
 
   -- what a step of the call tells: it goes on, or has ended
   abbrev pub CalledSo : S → Machine K V K → Progress (Node K V) → View K V S → Type 0
   CalledSo hasher machine (progress.Asks pair) v = ⊥
   CalledSo hasher machine progress.Ready v = ⊥
   CalledSo hasher machine (progress.Pair pair) v = ⊥
-  CalledSo hasher machine (progress.Done answer) v = HasEnded (Ok answer) v
-  CalledSo hasher machine (progress.Refused fault) v = HasEnded (Err fault) v
+  CalledSo hasher machine (progress.Done answer) v = v.work ≡ Nothing
+  CalledSo hasher machine (progress.Refused fault) v = v.work ≡ Nothing
   CalledSo hasher machine _ v = IsCalling hasher machine v
 
   -- within the section of its slot, with nothing else under way, it may begin a call on this key by this setting, in the map that it knows, which is in incremental mode
@@ -99,7 +100,8 @@ module _ {K V S : Type 0} where
     pub is : setting ≡ record map.setting { slot = setting.slot }
     pub word : hashed ≡ hash hasher key
 
-  -- what a call has come to
-  pub record HasCalled (answer : Result Answer Fault) (v w : View K V S) : Type 0 where
-    pub ended : HasEnded answer w
+  -- what a call has come to that wanted this
+  pub record HasCalled (same : K → K → Bool) (hash : S → K → ℕ) (wanted : Wanted K V) (answer : Result Answer Fault) (v w : View K V S) : Type 0 where
+    pub free : w.work ≡ Nothing
     pub stays : StaysThere v w
+    pub ran : HasRun same hash wanted (outcome_of answer) v w

@@ -1,9 +1,10 @@
 -- What a seat knows while its call looks for a key, and once it has ended.
-use Rattle.std.specs.Prelude.{◌≡◌, ℕ, Bool, true, Some, None, IfSome, Option}
+use Rattle.std.specs.Prelude.{◌≡◌, ℕ, Bool, true, ◌∷◌, Some, None, IfSome, Option}
 use Rattle.papaya_views.specs.Given.SeizeWordsWord.{block_in}
-use Rattle.papaya_views.specs.Given.SeizeDeclared.progress.Progress.{Progress}
-use Rattle.papaya_views.specs.Given.SeizeDeclared.progress.Progress.TheVariants as progress
+use Rattle.papaya_views.specs.Given.SeizeDeclared.progress.Progress.{Progress as Told}
+use Rattle.papaya_views.specs.Given.SeizeDeclared.progress.Progress.TheVariants as told_as
 use Rattle.papaya_views.specs.Given.TablesChunks.{is_incremental}
+use Rattle.papaya_views.specs.Given.TablesDeclared.node.Node.{Node}
 use Rattle.papaya_views.specs.Given.TablesDeclared.node.Node.TheVariants.{Pair}
 use Rattle.papaya_views.specs.Given.ResizeLookup.{looking}
 use Rattle.papaya_views.specs.Given.ResizeDeclared.lookup.Lookup.{Lookup}
@@ -16,11 +17,13 @@ use Rattle.papaya_views.specs.Given.RawDeclared.machines.machine.Machine.TheVari
 use Rattle.papaya_views.specs.Given.RawDeclared.machines.answer.KeyAnswer.{KeyAnswer}
 use Rattle.papaya_views.specs.Given.RawDeclared.machines.answer.KeyAnswer.TheVariants as answers
 use Rattle.papaya_views.specs.Given.RawDeclared.machines.progress.Answer.TheVariants.{Key as OfKey}
-use Rattle.papaya_views.specs.Given.RawDeclared.machines.progress.Progress.TheVariants as told_as
-use Rattle.papaya_views.specs.Given.ActsActs.{Wanted}
+use Rattle.papaya_views.specs.Given.RawDeclared.machines.progress.Progress.{Progress}
+use Rattle.papaya_views.specs.Given.RawDeclared.machines.progress.Progress.TheVariants as progress
+use Rattle.papaya_views.specs.Given.ActsActs.{Wanted, Get}
 use Rattle.papaya_views.specs.Given.SeizeViewsDeclared.view.Has.TheVariants.{Nothing as NoBlock}
 use Rattle.papaya_views.specs.Given.SeizeViewsDeclared.view.View.TheVariants.{Inside}
 use Rattle.papaya_views.specs.Begun.{machine_for, calling}
+use Rattle.papaya_views.specs.Told.{newest_told}
 use Rattle.papaya_views.specs.Given.SeizeSeatsLendings.{IsValueOf}
 use Rattle.papaya_views.specs.Looks.{shown_in}
 use Rattle.papaya_views.specs.Rule.{Holds}
@@ -38,6 +41,17 @@ IsOn _ = Unit {0}
 abbrev pub answer_of : Option ℕ → KeyAnswer
 answer_of None = answers.Absent
 answer_of (Some word) = answers.Found word
+
+-- what a call has answered then
+abbrev pub found_of : {T : Type 0} → Option ℕ → Progress T
+found_of found = progress.Done (OfKey (answer_of found))
+
+-- what a call tells whose lookup tells this
+abbrev pub looking_told : {T : Type 0} → Told (Option ℕ) → Progress T
+looking_told told_as.Goes = progress.Goes
+looking_told told_as.Waits = progress.Waits
+looking_told (told_as.Done found) = found_of found
+looking_told (told_as.Refused fault) = progress.Refused fault
 
 module _ {K V S : Type 0} where
   -- within its section it begins to do this with the map that it knows
@@ -58,14 +72,22 @@ module _ {K V S : Type 0} where
   abbrev pub Shows : (K → K → Bool) → K → View K V S → ℕ → Type 0
   Shows same key v word = (found : K) × (value : V) × (same key found ≡ true) × (shown_in v.held (block_in word) ≡ Some (Pair found value))
 
-  -- its call has answered last that this was found
-  abbrev pub Answered : Option ℕ → View K V S → Type 0
-  Answered found v = v.last ≡ told_as.Done (OfKey (answer_of found))
-
   pub record HasLooked (same : K → K → Bool) (key : K) (found : Option ℕ) (v : View K V S) : Type 0 where
     pub free : v.work ≡ Nothing
-    pub told : Answered found v
     pub shows : IfSome found (Shows same key v)
+
+  -- its calls are those of before, of which the newest has told this last
+  abbrev pub HasTold : Progress (Node K V) → View K V S → View K V S → Type 0
+  HasTold told v w = w.calls ≡ newest_told told v.calls
+
+  -- its calls are those of before, whatever the newest has told last
+  abbrev pub IsOfThem : View K V S → View K V S → Type 0
+  IsOfThem v w = (told : Progress (Node K V)) → newest_told told w.calls ≡ newest_told told v.calls
+
+  -- It has begun one call more, within its section: to do this with the map that it knows. That has told this last.
+  abbrev pub HasRun : (K → K → Bool) → (S → K → ℕ) → Wanted K V → Progress (Node K V) → View K V S → View K V S → Type 0
+  HasRun same hash wanted told v w =
+      (map : Map S) × (t : ℕ) × (v.map ≡ Some map) × (v.slot ≡ Inside t NoBlock) × (w.calls ≡ record { began = machine_for same hash map t wanted; told = told } ∷ v.calls)
 
   -- within its section, with nothing else under way, it may look for the key by this lookup, in the map that it knows, which is in incremental mode
   pub record MayLook (hash : S → K → ℕ) (key : K) (lookup : Lookup) (v : View K V S) : Type 0 where
@@ -78,21 +100,22 @@ module _ {K V S : Type 0} where
     pub begins : lookup ≡ looking map.setting.root map.setting.mode (hash map.hasher key)
 
   -- what a step of the lookup tells: it goes on, or has ended
-  abbrev pub LookedSo : (K → K → Bool) → K → Lookup → Progress (Option ℕ) → View K V S → Type 0
-  LookedSo same key lookup progress.Goes v = LooksFor key lookup v
-  LookedSo same key lookup progress.Waits v = ⊥
-  LookedSo same key lookup (progress.Done found) v = HasLooked same key found v
-  LookedSo same key lookup (progress.Refused fault) v = ⊥
+  abbrev pub LookedSo : (K → K → Bool) → K → Lookup → Told (Option ℕ) → View K V S → Type 0
+  LookedSo same key lookup told_as.Goes v = LooksFor key lookup v
+  LookedSo same key lookup told_as.Waits v = ⊥
+  LookedSo same key lookup (told_as.Done found) v = HasLooked same key found v
+  LookedSo same key lookup (told_as.Refused fault) v = ⊥
 
   -- slot and map are as they were
   pub record StaysThere (v w : View K V S) : Type 0 where
     pub slot : w.slot ≡ v.slot
     pub map : w.map ≡ v.map
 
-  -- what a lookup has come to
-  pub record HasFound (same : K → K → Bool) (key : K) (found : Option ℕ) (v w : View K V S) : Type 0 where
+  -- what a call has come to that has looked this key up
+  pub record HasFound (same : K → K → Bool) (hash : S → K → ℕ) (key : K) (found : Option ℕ) (v w : View K V S) : Type 0 where
     pub looked : HasLooked same key found w
     pub stays : StaysThere v w
+    pub ran : HasRun same hash (Get key) (found_of found) v w
 
 module _ {K V S : Type 0} (same : K → K → Bool) where
   -- the caller shows the pair of this word, of an equal key
@@ -100,6 +123,8 @@ module _ {K V S : Type 0} (same : K → K → Bool) where
   IsShown key c word = Shows same key c.seat.view word
 
 module _ {K V S : Type 0} (same : K → K → Bool) (hash : S → K → ℕ) where
-  -- it is the value of the pair of this word, as it is while the seat knows what it knows
+  -- it is the value that was looked at of the pair of this word, as it is in the memory while the seat knows what it knows
   abbrev pub IsLent : Caller K V S → ℕ → V → Type 0
-  IsLent c word value = (key : K) × IsValueOf (Holds same hash c.blocks.now.words.fixed) c.seat.id c.seat.view (block_in word) (Pair key value)
+  IsLent c word value =
+      (key : K) × (shown_in c.seat.view.held (block_in word) ≡ Some (Pair key value))
+      × IsValueOf (Holds same hash c.blocks.now.words.fixed) c.seat.id c.seat.view (block_in word) (Pair key value)

@@ -81,11 +81,12 @@ module _ {K V S : Type 0} where
   MadeSo hasher c (progress.Done setting) v = HasMap hasher setting v
   MadeSo hasher c (progress.Refused fault) v = v.work ≡ Nothing
 
-  -- what a making has come to: the map is there, with what was chosen, or nothing was made, and the seat knows what it has known
+  -- What a making has come to: the map is there, with what was chosen, or nothing was made, and the seat knows what it has known. No call has begun.
   pub record CameTo (hasher : S) (opening : NewMap) (answer : Result Setting Fault) (v w : View K V S) : Type 0 where
     pub made : IfOk answer (λ setting. HasMap hasher setting w × (chosen_of setting ≡ chosen_of opening.setting))
     pub refused : IfErr answer (λ fault. (w.work ≡ Nothing) × (w.map ≡ v.map))
     pub slot : w.slot ≡ v.slot
+    pub calls : w.calls ≡ v.calls
 
   -- the map that it knows is the same, but where it has made one
   abbrev pub KnowsStill : Progress Setting → View K V S → View K V S → Type 0

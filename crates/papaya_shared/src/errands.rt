@@ -3,6 +3,7 @@ ghost use Rattle.std.specs.Prelude.{◌≡◌};
 ghost use Rattle.papaya_shared.specs.Calling.{HasCalled, MayCall};
 ghost use Rattle.papaya_shared.specs.Looking.{HasFound, MayLook};
 ghost use Rattle.papaya_shared.specs.Making.{CameTo, MayBegin};
+ghost use Rattle.papaya_views.specs.Given.ActsActs.{Insert};
 ghost use Rattle.papaya_views.specs.declared.view.Work.TheVariants.{Nothing as NoWork};
 ghost use Rattle.papaya_views.specs.Given.SeizeViewsDeclared.view.View.TheVariants.{Rests};
 
@@ -53,7 +54,7 @@ impl<'f, R: Wait, K: Eq + Hash, V, S: Hashes<K>> Errand<Node<K, V>, OfMaps<S>> f
 
     ghost asks = { λ f fixed v. MayLook S.hash f.key.now f.lookup v };
 
-    ghost did = { λ f fixed v answer w. HasFound K.eq f.key.now answer v w };
+    ghost did = { λ f fixed v answer w. HasFound K.eq S.hash f.key.now answer v w };
 
     fn run(
         self,
@@ -84,7 +85,7 @@ impl<'i, R: Wait, K: Eq + Hash + Drop, V: Drop, S: Hashes<K>> Errand<Node<K, V>,
 
     ghost asks = { λ i fixed v. MayCall S.hash i.hasher.now i.key i.setting i.hash v };
 
-    ghost did = { λ i fixed v answer w. HasCalled answer.told v w };
+    ghost did = { λ i fixed v answer w. HasCalled K.eq S.hash (Insert i.key i.value) answer.told v w };
 
     fn run(
         self,

@@ -1,8 +1,9 @@
 //! A map, as one of those knows it who share it.
-ghost use Rattle.std.specs.Prelude.{◌≡◌, ◌≤◌, ◌<◌, ◌^◌, Some, None, Err, true, IfErr, IfNone, IfOk, IfSome};
-ghost use Rattle.papaya_shared.specs.Calling.{HasEnded, HasStored, is_replaced as replaces};
-ghost use Rattle.papaya_shared.specs.Looking.{Answered, IsLent, IsShown};
+ghost use Rattle.std.specs.Prelude.{◌≡◌, ◌≤◌, ◌<◌, ◌^◌, [], Some, None, Err, true, IfErr, IfNone, IfOk, IfSome};
+ghost use Rattle.papaya_shared.specs.Calling.{HasStored, is_replaced as replaces, outcome_of};
+ghost use Rattle.papaya_shared.specs.Looking.{HasRun, IsLent, IsShown, found_of};
 ghost use Rattle.papaya_shared.specs.Standing.{known_by};
+ghost use Rattle.papaya_views.specs.Given.ActsActs.{Get, Insert};
 ghost use Rattle.papaya_views.specs.Given.TablesChunks.{is_incremental};
 ghost use Rattle.papaya_views.specs.Given.TablesDeclared.resize_mode.ResizeMode.TheVariants.{Incremental};
 ghost use Rattle.papaya_views.specs.declared.view.Work.TheVariants.{Nothing as NoWork};
@@ -79,6 +80,8 @@ impl<'a, K: Eq + Drop, V: Drop, S: Hashes<K>> Session<'a, K, V, S> {
         requires processors { processors ≤ 2 ^ 63 }
         ensures blocks { IfOk result (λ session. session.caller.blocks.now ≡ blocks.now) }
         ensures rests { IfOk result (λ session. session.caller.seat.view.slot ≡ Rests) }
+        ensures none { IfOk result (λ session. session.caller.seat.view.calls ≡ []) }
+        ensures hashes { IfOk result (λ session. session.hasher.now ≡ hasher.now) }
         ensures mode { IfOk result (λ session. session.setting.mode ≡ Incremental chunk) }
     {
         let setting = Setting {
@@ -109,6 +112,7 @@ impl<'a, K: Eq, V, S: Hashes<K>> Session<'a, K, V, S> {
         ensures blocks { (self.new.caller.blocks ≡ self.old.caller.blocks) × (result.caller.blocks.now ≡ self.old.caller.blocks.now) }
         ensures map { result.caller.seat.view.map ≡ self.old.caller.seat.view.map }
         ensures rests { result.caller.seat.view.slot ≡ Rests }
+        ensures none { result.caller.seat.view.calls ≡ [] }
     {
         let caller = self.caller.shows();
         Session {
@@ -124,6 +128,7 @@ impl<'a, K: Eq, V, S: Hashes<K>> Session<'a, K, V, S> {
         requires rests { self.old.caller.seat.view.slot ≡ Rests }
         ensures taken { IfOk result (λ _. self.new.caller.seat.view.slot ≡ Outside self.new.slot) }
         ensures refused { IfErr result (λ fault. self.new.caller.seat.view.slot ≡ Rests) }
+        ensures calls { self.new.caller.seat.view.calls ≡ self.old.caller.seat.view.calls }
         ensures map { self.new.caller.seat.view.map ≡ self.old.caller.seat.view.map }
         ensures blocks { self.new.caller.blocks ≡ self.old.caller.blocks }
     {
@@ -135,6 +140,7 @@ impl<'a, K: Eq, V, S: Hashes<K>> Session<'a, K, V, S> {
     pub fn enter(&mut self)
         requires outside { self.old.caller.seat.view.slot ≡ Outside self.old.slot }
         ensures inside { self.new.caller.seat.view.slot ≡ Inside self.new.slot Nothing }
+        ensures calls { self.new.caller.seat.view.calls ≡ self.old.caller.seat.view.calls }
         ensures map { self.new.caller.seat.view.map ≡ self.old.caller.seat.view.map }
         ensures blocks { self.new.caller.blocks ≡ self.old.caller.blocks }
     {
@@ -145,6 +151,7 @@ impl<'a, K: Eq, V, S: Hashes<K>> Session<'a, K, V, S> {
     pub fn unregister(&mut self)
         requires outside { self.old.caller.seat.view.slot ≡ Outside self.old.slot }
         ensures rests { self.new.caller.seat.view.slot ≡ Rests }
+        ensures calls { self.new.caller.seat.view.calls ≡ self.old.caller.seat.view.calls }
         ensures map { self.new.caller.seat.view.map ≡ self.old.caller.seat.view.map }
         ensures blocks { self.new.caller.blocks ≡ self.old.caller.blocks }
     {
@@ -157,6 +164,7 @@ impl<'a, K: Eq + Drop, V: Drop, S: Hashes<K>> Session<'a, K, V, S> {
     pub fn leave(&mut self)
         requires inside { self.old.caller.seat.view.slot ≡ Inside self.old.slot Nothing }
         ensures outside { self.new.caller.seat.view.slot ≡ Outside self.new.slot }
+        ensures calls { self.new.caller.seat.view.calls ≡ self.old.caller.seat.view.calls }
         ensures map { self.new.caller.seat.view.map ≡ self.old.caller.seat.view.map }
         ensures blocks { self.new.caller.blocks ≡ self.old.caller.blocks }
     {
@@ -171,8 +179,8 @@ impl<'a, K: Eq + Hash, V, S: Hashes<K>> Session<'a, K, V, S> {
         requires inside { self.old.caller.seat.view.slot ≡ Inside self.old.slot Nothing }
         ensures inside { self.new.caller.seat.view.slot ≡ Inside self.new.slot Nothing }
         ensures shown { IfSome result (λ found. IsShown K.eq key.now self.new.caller found.word) }
-        ensures found { IfSome result (λ found. Answered (Some found.word) self.new.caller.seat.view) }
-        ensures absent { IfNone result (Answered None self.new.caller.seat.view) }
+        ensures found { IfSome result (λ found. HasRun K.eq S.hash (Get key.now) (found_of (Some found.word)) self.old.caller.seat.view self.new.caller.seat.view) }
+        ensures absent { IfNone result (HasRun K.eq S.hash (Get key.now) (found_of None) self.old.caller.seat.view self.new.caller.seat.view) }
         ensures map { self.new.caller.seat.view.map ≡ self.old.caller.seat.view.map }
         ensures blocks { self.new.caller.blocks ≡ self.old.caller.blocks }
     {
@@ -205,8 +213,8 @@ impl<'a, K: Eq + Hash + Drop, V: Drop, S: Hashes<K>> Session<'a, K, V, S> {
     ) -> Result<bool, (Fault, Option<(K, V)>)>
         requires inside { self.old.caller.seat.view.slot ≡ Inside self.old.slot Nothing }
         ensures inside { self.new.caller.seat.view.slot ≡ Inside self.new.slot Nothing }
-        ensures stored { IfOk result (λ replaced. HasStored replaced self.new.caller.seat.view) }
-        ensures refused { IfErr result (λ refused. HasEnded (Err refused.0) self.new.caller.seat.view) }
+        ensures stored { IfOk result (λ replaced. HasStored K.eq S.hash key value replaced self.old.caller.seat.view self.new.caller.seat.view) }
+        ensures refused { IfErr result (λ refused. HasRun K.eq S.hash (Insert key value) (outcome_of (Err refused.0)) self.old.caller.seat.view self.new.caller.seat.view) }
         ensures map { self.new.caller.seat.view.map ≡ self.old.caller.seat.view.map }
         ensures blocks { self.new.caller.blocks ≡ self.old.caller.blocks }
     {

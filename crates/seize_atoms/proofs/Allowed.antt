@@ -1,28 +1,53 @@
 -- What a rule allows a seat it may do where seats visit blocks and go on errands.
-use Rattle.std.specs.Prelude.{◌≡◌, ℕ, zero, suc, List, [], ◌∷◌, Some, None, IsSome, slice_get}
+use Rattle.std.specs.Prelude.{◌≡◌, ℕ, zero, suc, List, [], ◌∷◌, Some, None, IsSome, slice_get, slice_set, ◌++◌}
 use Rattle.std.proofs.Common.{refl, sym, ap, subst}
-use Rattle.seize_words.specs.Mem.{value_at, word_at}
-use Rattle.seize_words.specs.declared.at.At.TheVariants.{Slot}
+use denote.RawPtr.{Ptr}
+use Rattle.seize_words.specs.Mem.{Mem, value_at, word_at}
+use Rattle.seize_words.specs.declared.at.At.{At}
+use Rattle.seize_words.specs.declared.at.At.TheVariants.{Root, Used, Slot, Entry, Word}
 use Rattle.seize_words.specs.Op.{Op, Out, Make, Take, Rewrite}
-use Rattle.seize_seats.specs.State.{State, view_of, Allows, Owns, Turns, Starts, Comes, Meets}
+use Rattle.seize_seats.specs.State.{State, view_of, Goes, Allows, Owns, Turns, Starts, Comes, Meets}
 use Rattle.seize_seats.specs.State as State
 use Rattle.seize_seats.specs.Lendings.{Shown, ShownToBoth, IsValueOf, IsValueOfBoth}
-use Rattle.seize_seats.specs.Start.{WasIdle, WasKnown}
+use Rattle.seize_seats.specs.Start.{bare, WasIdle, WasKnown}
 use Rattle.seize_seats.specs.Visits.{Spot, Visit, plain, plain_memory, plain_op, plain_out, HoldsKept, keeps_kept, then_kept}
-use Rattle.seize_seats.specs.Errands.{Away, inward, RenewsBack, RenewsIdle, RenewsTo, RenewsFrom, AreAllBack, AreIdle, then_away, MayGo, MayGoAll, MayMeet}
+use Rattle.seize_seats.specs.Errands.{Away, inward, RenewsIdle, RenewsTo, RenewsFrom, AreAllBack, AreIdle, then_away, MayGo, MayGoAll, MayMeet}
 use Rattle.seize_seats.proofs.Plain.{IsOnWord}
 use Rattle.seize_seats.proofs.Visits as Visits
 use Rattle.seize_seats.proofs.Errands as Errands
 use Rattle.seize_plots.specs.Pieces.{value_of, lies}
 use Rattle.seize_plots.specs.declared.kept.Kept.{Kept}
-use Rattle.seize_atoms.specs.Visiting.{Seen, HoldsHere, keeps_here}
+use Rattle.seize_seats.specs.Owned.{BaseId}
+use Rattle.seize_atoms.specs.Placed.{IsItsPlace}
+use Rattle.seize_atoms.specs.Visiting.{Seen, HoldsHere, HoldsSince, keeps_here}
 
-module _ {T V W : Type 0} (rests : V → Type 0) (holds : State T V W → Type 0) (keeps : V → V → W → ℕ → Type 0) where
+-- ---- who is there is there still
+set_there : {A : Type 0} (vs : List A) (i : ℕ) (v w : A) → slice_get vs i ≡ Some v → slice_set vs i w ≡ [] → ⊥
+set_there [] i v w at e = absurd (cc at)
+set_there (x ∷ vs) zero v w at e = cc e
+set_there (x ∷ vs) (suc i) v w at e = cc e
+
+two_there : {A : Type 0} (vs : List A) (i j : ℕ) (v w u : A) → slice_get vs i ≡ Some v → slice_set (slice_set vs i w) j u ≡ [] → ⊥
+two_there [] i j v w u at e = absurd (cc at)
+two_there (x ∷ vs) zero zero v w u at e = cc e
+two_there (x ∷ vs) zero (suc j) v w u at e = cc e
+two_there (x ∷ vs) (suc i) zero v w u at e = cc e
+two_there (x ∷ vs) (suc i) (suc j) v w u at e = cc e
+
+come_there : {A : Type 0} (vs : List A) (v : A) → vs ++ v ∷ [] ≡ [] → ⊥
+come_there [] v e = cc e
+come_there (x ∷ vs) v e = cc e
+
+-- m: what the memory was as its present lifetime began
+module _ {T V W : Type 0} (rests : V → Type 0) (holds : State T V W → Type 0) (keeps : V → V → W → ℕ → Type 0) (m : Mem T) where
   abbrev St : Type 0
   St = State (Kept T) (Seen V) W
 
+  abbrev Here : St → Type 0
+  Here = HoldsHere rests holds
+
   abbrev Hold : St → Type 0
-  Hold = HoldsHere rests holds
+  Hold = HoldsSince rests m holds
 
   abbrev Keep : Seen V → Seen V → W → ℕ → Type 0
   Keep = keeps_here keeps
@@ -37,6 +62,16 @@ module _ {T V W : Type 0} (rests : V → Type 0) (holds : State T V W → Type 0
   abbrev Keeps : V × Visit → V × Visit → W → ℕ → Type 0
   Keeps = keeps_kept {T = T} value_of keeps
 
+  -- what a step leaves holds in a lifetime that began so
+  goes_since : (s : St) (n : Mem (Kept T)) (id : ℕ) (u : Seen V) (so : Seen V → Type 0) → view_of s id ≡ Some u → Goes Here Keep s n id so → Goes Hold Keep s n id so
+  goes_since s n id u so at g = (g.0, g.1, (g.2, λ e. absurd (set_there s.views id u g.0 at e)), g.3, g.4)
+
+  allows_since : (id : ℕ) (u : Seen V) (op : Op (Kept T)) (so : Out (Kept T) → Seen V → Type 0) → Allows Here Keep id u op so → Allows Hold Keep id u op so
+  allows_since id u op so law s h at = let k = law s h.0 at in (k.0, λ out n took. goes_since s n id u (so out) at (k.1 out n took))
+
+  turns_since : (id : ℕ) (u : Seen V) (so : Seen V → Type 0) → Turns Here Keep id u so → Turns Hold Keep id u so
+  turns_since id u so law s h at = goes_since s s.memory id u so at (law s h.0 at)
+
   module _ (tells : V → Op T → Out T → V → Type 0) (stay : (v : V) (op : Op T) (out : Out T) (w : V) → tells v op out w → rests v → rests w) where
     may : (v : V) (y : Visit) (e : Away) (op : Op T) → MayGoAll {T = Kept T} rest e (v, y) (then_kept value_of (tells v op))
     may v y e op out home rested u told = stay v op (plain_out value_of out) u.0 told.0 rested
@@ -45,54 +80,64 @@ module _ {T V W : Type 0} (rests : V → Type 0) (holds : State T V W → Type 0
         → Allows holds keeps id v (plain_op value_of op) (tells v (plain_op value_of op))
         → Allows Hold Keep id ((v, y), e) op (then_away e (then_kept value_of (tells v (plain_op value_of op))))
     word_allowed id v y e op on law = let told : Op T = plain_op value_of op in
+        allows_since id ((v, y), e) op (then_away e (then_kept value_of (tells v told))) (
         Errands.allowed_away rest Visited Keeps id (v, y) e op (then_kept value_of (tells v told)) (may v y e told)
-        (Visits.word_allowed value_of lies holds keeps id v y op (tells v told) on law)
+        (Visits.word_allowed value_of lies holds keeps id v y op (tells v told) on law))
 
     pub make_allowed : (id : ℕ) (v : V) (y : Visit) (e : Away) (x : Kept T) (words : ℕ) → Allows holds keeps id v (Make (value_of x) words) (tells v (Make (value_of x) words))
         → Allows Hold Keep id ((v, y), e) (Make x words) (then_away e (then_kept value_of (tells v (Make (value_of x) words))))
     make_allowed id v y e x words law = let told : Op T = Make (value_of x) words in
+        allows_since id ((v, y), e) (Make x words) (then_away e (then_kept value_of (tells v told))) (
         Errands.allowed_away rest Visited Keeps id (v, y) e (Make x words) (then_kept value_of (tells v told)) (may v y e told)
-        (Visits.make_allowed value_of lies holds keeps id v y x words (tells v told) law)
+        (Visits.make_allowed value_of lies holds keeps id v y x words (tells v told) law))
 
     pub take_allowed : (id : ℕ) (v : V) (y : Visit) (e : Away) (b : ℕ) → Allows holds keeps id v (Take b) (tells v (Take b))
         → Allows Hold Keep id ((v, y), e) (Take b) (then_away e (then_kept value_of (tells v (Take b))))
     take_allowed id v y e b law = let told : Op T = Take b in
+        allows_since id ((v, y), e) (Take b) (then_away e (then_kept value_of (tells v told))) (
         Errands.allowed_away rest Visited Keeps id (v, y) e (Take b) (then_kept value_of (tells v told)) (may v y e told)
-        (Visits.take_allowed value_of lies holds keeps id v y b (tells v told) law)
+        (Visits.take_allowed value_of lies holds keeps id v y b (tells v told) law))
 
     pub rewrite_allowed : (id : ℕ) (v : V) (y : Visit) (e : Away) (b : ℕ) (x : Kept T) → Owns holds keeps id v b
         → Allows holds keeps id v (Rewrite b (value_of x)) (tells v (Rewrite b (value_of x)))
         → Allows Hold Keep id ((v, y), e) (Rewrite b x) (then_away e (then_kept value_of (tells v (Rewrite b (value_of x)))))
     rewrite_allowed id v y e b x owns law = let told : Op T = Rewrite b (value_of x) in
+        allows_since id ((v, y), e) (Rewrite b x) (then_away e (then_kept value_of (tells v told))) (
         Errands.allowed_away rest Visited Keeps id (v, y) e (Rewrite b x) (then_kept value_of (tells v told)) (may v y e told)
-        (Visits.rewrite_allowed value_of lies holds keeps id v y b x (tells v told) owns law)
+        (Visits.rewrite_allowed value_of lies holds keeps id v y b x (tells v told) owns law))
 
   pub owned_here : (id : ℕ) (v : V) (y : Visit) (e : Away) (b : ℕ) → Owns holds keeps id v b → Owns Hold Keep id ((v, y), e) b
-  owned_here id v y e b owns = Errands.owned_away rest Visited Keeps id (v, y) e b (Visits.owned_kept value_of lies holds keeps id v y b owns)
+  owned_here id v y e b owns =
+      allows_since id ((v, y), e) (Take b) (λ _ _. Unit {0}) (Errands.owned_away rest Visited Keeps id (v, y) e b (Visits.owned_kept value_of lies holds keeps id v y b owns))
 
-  pub starts_allowed : (roots : ℕ) → Starts holds roots → Starts Hold roots
-  starts_allowed roots law = Errands.starts_away rest Visited Keeps roots (Visits.starts_kept value_of lies holds keeps roots law)
+  pub starts_allowed : (roots : ℕ) → Starts holds roots → Starts (HoldsSince rests (bare roots) holds) roots
+  starts_allowed roots law = let r = Errands.starts_away rest Visited Keeps roots (Visits.starts_kept value_of lies holds keeps roots law) in (r.0, (r.1, λ e. refl))
 
   pub turn_allowed : (id : ℕ) (v : V) (y : Visit) (e : Away) (so : V → Type 0) → MayGo rests e v so → Turns holds keeps id v so
       → Turns Hold Keep id ((v, y), e) (λ u. (so u.0.0 × (u.0.1 ≡ None)) × (u.1 ≡ e))
   turn_allowed id v y e so may law =
+      turns_since id ((v, y), e) (λ u. (so u.0.0 × (u.0.1 ≡ None)) × (u.1 ≡ e)) (
       Errands.turn_away rest Visited Keeps id (v, y) e (λ u. so u.0 × (u.1 ≡ None)) (λ home rested u told. may home rested u.0 told.0)
-      (Visits.turn_kept value_of lies holds keeps id v y so law)
+      (Visits.turn_kept value_of lies holds keeps id v y so law))
 
   pub visit_allowed : (id : ℕ) (v : V) (y : Visit) (e : Away) (b : ℕ) → Shown holds id v b
       → Turns Hold Keep id ((v, y), e) (λ u. ((u.0.0 ≡ v) × ((p : Spot) × (u.0.1 ≡ Some (b, p)))) × (u.1 ≡ e))
   visit_allowed id v y e b shown =
+      turns_since id ((v, y), e) (λ u. ((u.0.0 ≡ v) × ((p : Spot) × (u.0.1 ≡ Some (b, p)))) × (u.1 ≡ e)) (
       Errands.turn_away rest Visited Keeps id (v, y) e (λ u. (u.0 ≡ v) × ((p : Spot) × (u.1 ≡ Some (b, p)))) (λ home rested u told. subst rests (sym told.0) rested)
-      (Visits.visits value_of lies holds keeps id v y b shown)
+      (Visits.visits value_of lies holds keeps id v y b shown))
 
   pub comes_allowed : (v : V) → rests v → Comes holds keeps v → Comes Hold Keep ((v, None), None)
-  comes_allowed v rested law = Errands.comes_away rest Visited Keeps (v, None) rested (Visits.comes_kept value_of lies holds keeps v law)
+  comes_allowed v rested law s h =
+      let r = Errands.comes_away rest Visited Keeps (v, None) rested (Visits.comes_kept value_of lies holds keeps v law) s h.0 in
+      (r.0, (r.1, λ e. absurd (come_there s.views ((v, None), None) e)), r.2)
 
   pub meet_allowed : (i : ℕ) (v : V) (y : Visit) (e : Away) (j : ℕ) (u : V) (x : Visit) (f : Away) (so : V → V → Type 0) → MayMeet rests e v f u so → Meets holds i v j u so
       → Meets Hold i ((v, y), e) j ((u, x), f) (λ c d. (so c.0.0 d.0.0 × (c.0.1 ≡ None) × (d.0.1 ≡ None)) × (c.1 ≡ e) × (d.1 ≡ f))
-  meet_allowed i v y e j u x f so may law =
-      Errands.meets_away rest Visited Keeps i (v, y) e j (u, x) f (λ c d. so c.0 d.0 × (c.1 ≡ None) × (d.1 ≡ None)) (λ c d told. may c.0 d.0 told.0)
-      (Visits.meets_kept value_of lies holds keeps i v y j u x so law)
+  meet_allowed i v y e j u x f so may law s h at_i at_j ne =
+      let g = Errands.meets_away rest Visited Keeps i (v, y) e j (u, x) f (λ c d. so c.0 d.0 × (c.1 ≡ None) × (d.1 ≡ None)) (λ c d told. may c.0 d.0 told.0)
+      (Visits.meets_kept value_of lies holds keeps i v y j u x so law) s h.0 at_i at_j ne in
+      (g.0, g.1, (g.2, λ none. absurd (two_there s.views i j ((v, y), e) g.0 g.1 at_i none)), g.3)
 
   -- where all rest
   plain_idle : (s : State (Kept T) (V × Visit) W) → AreIdle rest s → AreIdle rests (plain value_of s)
@@ -101,8 +146,9 @@ module _ {T V W : Type 0} (rests : V → Type 0) (holds : State T V W → Type 0
   renews_visited : RenewsIdle rests holds → RenewsIdle rest Visited
   renews_visited law s h idle = let r = law (plain value_of s) h.0 (plain_idle s idle) in (r.0, (r.1, λ id v b p e. absurd (cc e)))
 
-  pub renew_allowed : RenewsIdle rests holds → RenewsBack (λ (u : Seen V). u.1) Hold
-  renew_allowed law = Errands.renews_away rest Visited Keeps (renews_visited law)
+  pub renew_allowed : RenewsIdle rests holds → (s : St) → Hold s → AreAllBack (λ (u : Seen V). u.1) s.views
+      → (w : W) × HoldsSince rests (plain_memory value_of s.memory) holds record { memory = s.memory; views = []; world = w }
+  renew_allowed law s h home = let r = Errands.renews_away rest Visited Keeps (renews_visited law) s h.0 home in (r.0, (r.1, λ e. refl))
 
   -- with one seat that comes and rests, and with one whose view is known, under another rule
   module _ {V' W' : Type 0} (rests' : V' → Type 0) (after : State T V' W' → Type 0) where
@@ -112,8 +158,8 @@ module _ {T V W : Type 0} (rests : V → Type 0) (holds : State T V W → Type 0
     abbrev Later : State (Kept T) (V' × Visit) W' → Type 0
     Later = HoldsKept value_of lies after
 
-    abbrev Then : State (Kept T) (Seen V') W' → Type 0
-    Then = HoldsHere rests' after
+    abbrev Then : St → State (Kept T) (Seen V') W' → Type 0
+    Then s = HoldsSince rests' (plain_memory value_of s.memory) after
 
     abbrev back : Seen V → Away
     back u = u.1
@@ -125,55 +171,89 @@ module _ {T V W : Type 0} (rests : V → Type 0) (holds : State T V W → Type 0
     one v = (v, None) ∷ []
 
     pub comes_alone : (v : V') → rests' v → RenewsTo rests holds after (v ∷ []) → (s : St) → Hold s → AreAllBack back s.views
-        → (w : W') × Then record { memory = s.memory; views = ((v, None), None) ∷ []; world = w }
-    comes_alone v rested law = Errands.comes_alone rest Visited Keeps rest' Later (v, None) rested
-        (λ s h idle. (let r = law (plain value_of s) h.0 (plain_idle s idle) in (r.0, (r.1, λ i u b p e. by i u b p e))))
+        → (w : W') × Then s record { memory = s.memory; views = ((v, None), None) ∷ []; world = w }
+    comes_alone v rested law s h home =
+        let k = Errands.comes_alone rest Visited Keeps rest' Later (v, None) rested
+        (λ t i idle. (let r = law (plain value_of t) i.0 (plain_idle t idle) in (r.0, (r.1, λ i u b p e. by i u b p e)))) s h.0 home in
+        (k.0, (k.1, λ e. absurd (cc e)))
       where
         by : {A : Type 0} (i : ℕ) (u : V') (b : ℕ) (p : Spot) → slice_get (one v) i ≡ Some (u, Some (b, p)) → A
         by zero u b p e = let same : visiting u (Some (b, p)) ≡ visiting v None = cc e in absurd (cc (ap (λ (x : V' × Visit). x.1) same))
         by (suc i) u b p e = absurd (cc e)
 
     pub ends_alone : (id : ℕ) (v : V) (y : Visit) (e : Away) → RenewsFrom rests holds after id v → (s : St) → Hold s → AreAllBack back s.views
-        → slice_get s.views id ≡ Some ((v, y), e) → (w : W') × Then record { memory = s.memory; views = []; world = w }
-    ends_alone id v y e law = Errands.ends_alone rest Visited Keeps rest' Later id (v, y) e
-        (λ s h at idle. (let r = law (plain value_of s) h.0 (Visits.view_plain value_of lies holds keeps s id (v, y) at) (plain_idle s idle) in (r.0, (r.1, λ i u b p is. absurd (cc is)))))
+        → slice_get s.views id ≡ Some ((v, y), e) → (w : W') × Then s record { memory = s.memory; views = []; world = w }
+    ends_alone id v y e law s h home at =
+        let k = Errands.ends_alone rest Visited Keeps rest' Later id (v, y) e
+        (λ t i at_id idle. (let r = law (plain value_of t) i.0 (Visits.view_plain value_of lies holds keeps t id (v, y) at_id) (plain_idle t idle) in (r.0, (r.1, λ i u b p is. absurd (cc is))))) s h.0 home at in
+        (k.0, (k.1, λ none. refl))
 
   -- what was so of the memory as a renewal found it
   pub was_idle : (s : St) → Hold s → AreAllBack (λ (u : Seen V). u.1) s.views → WasIdle rests holds (plain_memory value_of s.memory)
-  was_idle s h home = (plain value_of (inward s), h.0.0, plain_idle (inward s) (Errands.idle rest Visited Keeps s h home), refl)
+  was_idle s h home = (plain value_of (inward s), h.0.0.0, plain_idle (inward s) (Errands.idle rest Visited Keeps s h.0 home), refl)
 
   pub was_known : (id : ℕ) (v : V) (y : Visit) (e : Away) (s : St) → Hold s → AreAllBack (λ (u : Seen V). u.1) s.views
       → slice_get s.views id ≡ Some ((v, y), e) → WasKnown rests holds id v (plain_memory value_of s.memory)
   was_known id v y e s h home at =
       let known = Visits.view_plain value_of lies holds keeps (inward s) id (v, y) (Errands.inward_view rest Visited Keeps s id ((v, y), e) at) in
-      (plain value_of (inward s), h.0.0, known, plain_idle (inward s) (Errands.idle rest Visited Keeps s h home), refl)
+      (plain value_of (inward s), h.0.0.0, known, plain_idle (inward s) (Errands.idle rest Visited Keeps s h.0 home), refl)
 
   pub shown_here : (i : ℕ) (v : V) (y : Visit) (e : Away) (j : ℕ) (u : V) (x : Visit) (f : Away) (b : ℕ) → ShownToBoth holds i v j u b
       → ShownToBoth Hold i ((v, y), e) j ((u, x), f) b
-  shown_here i v y e j u x f b shown =
-      Errands.shown_both_away rest Visited Keeps i (v, y) e j (u, x) f b (Visits.shown_to_both value_of lies holds keeps i v y j u x b shown)
+  shown_here i v y e j u x f b shown s h at_i at_j =
+      Errands.shown_both_away rest Visited Keeps i (v, y) e j (u, x) f b (Visits.shown_to_both value_of lies holds keeps i v y j u x b shown) s h.0 at_i at_j
 
   -- a word of a slot is there
   pub slot_here : (id : ℕ) (v : V) (y : Visit) (e : Away) (n f : ℕ) → ((s : State T V W) → holds s → view_of s id ≡ Some v → IsSome (word_at s.memory (Slot n f)))
       → (t : St) → Hold t → view_of t id ≡ Some ((v, y), e) → IsSome (word_at t.memory (Slot n f))
   slot_here id v y e n f has t h at =
-      has (plain value_of (inward t)) h.0.0 (Visits.view_plain value_of lies holds keeps (inward t) id (v, y) (Errands.inward_view rest Visited Keeps t id ((v, y), e) at))
+      has (plain value_of (inward t)) h.0.0.0 (Visits.view_plain value_of lies holds keeps (inward t) id (v, y) (Errands.inward_view rest Visited Keeps t id ((v, y), e) at))
 
-  -- ---- what is shown and found
-  pub value_here : (i : ℕ) (v : V) (y : Visit) (e : Away) (j : ℕ) (u : V) (x : Visit) (f : Away) (b : ℕ) (d : Kept T) → IsValueOfBoth Hold i ((v, y), e) j ((u, x), f) b d
-      → IsValueOfBoth holds i v j u b (value_of d)
-  value_here i v y e j u x f b d is =
-      Visits.value_of_both value_of lies holds keeps i v y j u x b d (Errands.value_both_away rest Visited Keeps i (v, y) e j (u, x) f b d is)
+  pub value_both : (i : ℕ) (c : Seen V) (j : ℕ) (d : Seen V) (b : ℕ) (x : Kept T) → IsValueOfBoth Hold i c j d b x → IsValueOfBoth Here i c j d b x
+  value_both i c j d b x is = (is.0, is.1.0, is.2, is.3, is.4)
 
-  pub value_found : (id : ℕ) (v : V) (e : Away) (b : ℕ) (p : Spot) (x : Kept T) → IsValueOf Hold id ((v, Some (b, p)), e) b x → lies x ≡ p
-  value_found id v e b p x is = Visits.value_found value_of lies holds keeps id v b p x (Errands.value_away rest Visited Keeps id (v, Some (b, p)) e b x is)
+  pub value_one : (id : ℕ) (c : Seen V) (b : ℕ) (x : Kept T) → IsValueOf Hold id c b x → IsValueOf Here id c b x
+  value_one id c b x is = (is.0, is.1.0, is.2, is.3)
 
-  pub visits_found : (s : St) (id : ℕ) (v : V) (e : Away) (b : ℕ) (p : Spot) → Hold s → view_of s id ≡ Some ((v, Some (b, p)), e)
-      → (x : Kept T) × (value_at s.memory b ≡ Some x) × (lies x ≡ p)
-  visits_found s id v e b p h at =
-      Visits.visits_found value_of lies holds keeps (inward s) id v b p h.0 (Errands.inward_view rest Visited Keeps s id ((v, Some (b, p)), e) at)
+  -- an operation is made from where the rule says, also in a lifetime that began so
+  pub place_here : (id : ℕ) (c : Seen V) (p : Ptr) (z : BaseId) (at : At) (address : Ptr) (place : ℕ) → IsItsPlace Here id c p z at address place
+      → IsItsPlace Hold id c p z at address place
+  place_here id c p z (Word b i) address place is =
+      (is.0, is.1, (is.2.0, (is.2.1.0, (λ t h at_id. is.2.1.1 t h.0 at_id), is.2.1.2)))
+  place_here id c p z (Root r) address place is = is
+  place_here id c p z (Used r) address place is = is
+  place_here id c p z (Slot s i) address place is = is
+  place_here id c p z (Entry b i) address place is = is
 
   -- a seat goes on another errand, or on none if it rests
   pub errand_allowed : (id : ℕ) (v : V) (y : Visit) (e f : Away) → (f ≡ None → rests v) → (s : St) → Hold s → view_of s id ≡ Some ((v, y), e)
       → Hold (State.after s s.memory id ((v, y), f) s.world)
-  errand_allowed id v y e f rested s h at = Errands.errs rest Visited Keeps id (v, y) e f rested s h at
+  errand_allowed id v y e f rested s h at =
+      (Errands.errs rest Visited Keeps id (v, y) e f rested s h.0 at, λ none. absurd (set_there s.views id ((v, y), e) ((v, y), f) at none))
+
+-- ---- what is shown and found
+module _ {T V W : Type 0} (rests : V → Type 0) (holds : State T V W → Type 0) (keeps : V → V → W → ℕ → Type 0) where
+  abbrev resting : V × Visit → Type 0
+  resting u = rests u.0
+
+  abbrev Visiting : State (Kept T) (V × Visit) W → Type 0
+  Visiting = HoldsKept value_of lies holds
+
+  abbrev Keeping : V × Visit → V × Visit → W → ℕ → Type 0
+  Keeping = keeps_kept {T = T} value_of keeps
+
+  abbrev As : State (Kept T) (Seen V) W → Type 0
+  As = HoldsHere rests holds
+
+  pub value_here : (i : ℕ) (v : V) (y : Visit) (e : Away) (j : ℕ) (u : V) (x : Visit) (f : Away) (b : ℕ) (d : Kept T) → IsValueOfBoth As i ((v, y), e) j ((u, x), f) b d
+      → IsValueOfBoth holds i v j u b (value_of d)
+  value_here i v y e j u x f b d is =
+      Visits.value_of_both value_of lies holds keeps i v y j u x b d (Errands.value_both_away resting Visiting Keeping i (v, y) e j (u, x) f b d is)
+
+  pub value_found : (id : ℕ) (v : V) (e : Away) (b : ℕ) (p : Spot) (x : Kept T) → IsValueOf As id ((v, Some (b, p)), e) b x → lies x ≡ p
+  value_found id v e b p x is = Visits.value_found value_of lies holds keeps id v b p x (Errands.value_away resting Visiting Keeping id (v, Some (b, p)) e b x is)
+
+  pub visits_found : (s : State (Kept T) (Seen V) W) (id : ℕ) (v : V) (e : Away) (b : ℕ) (p : Spot) → As s → view_of s id ≡ Some ((v, Some (b, p)), e)
+      → (x : Kept T) × (value_at s.memory b ≡ Some x) × (lies x ≡ p)
+  visits_found s id v e b p h at =
+      Visits.visits_found value_of lies holds keeps (inward s) id v b p h.0 (Errands.inward_view resting Visiting Keeping s id ((v, Some (b, p)), e) at)

@@ -2,8 +2,9 @@
 use Rattle.std.specs.Prelude.{◌≡◌, ℕ, List, [], ◌∷◌, Some, None}
 use base.Stored.{Coded, coded×, coded_ℕ, coded_list, coded_via}
 use denote.RawPtr.{coded_ptr}
+use Rattle.seize_words.specs.Mem.{Mem}
 use Rattle.seize_seats.specs.State.{State}
-use Rattle.seize_seats.specs.Visits.{Spot, Visit, HoldsKept}
+use Rattle.seize_seats.specs.Visits.{Spot, Visit, HoldsKept, plain_memory}
 use Rattle.seize_seats.specs.Errands.{Away, Sight, with_away, HoldsAway}
 use Rattle.seize_plots.specs.Pieces.{value_of, lies}
 use Rattle.seize_plots.specs.declared.kept.Kept.{Kept}
@@ -31,6 +32,14 @@ seat_coded c = with_away (coded× c visit_coded)
 -- what holds between any two steps of a memory whose seats visit blocks and go on errands
 abbrev pub HoldsHere : {T V W : Type 0} → (V → Type 0) → (State T V W → Type 0) → State (Kept T) (Seen V) W → Type 0
 HoldsHere {T} {V} {W} rests holds = HoldsAway (λ (u : V × Visit). rests u.0) (HoldsKept value_of lies holds)
+
+-- as long as no seat has come the memory is what it was as its lifetime began
+abbrev pub IsStill : {T V W : Type 0} → Mem T → State (Kept T) (Seen V) W → Type 0
+IsStill m s = s.views ≡ [] → plain_memory value_of s.memory ≡ m
+
+-- what holds between any two steps, in a lifetime that began so
+abbrev pub HoldsSince : {T V W : Type 0} → (V → Type 0) → Mem T → (State T V W → Type 0) → State (Kept T) (Seen V) W → Type 0
+HoldsSince rests m holds s = HoldsHere rests holds s × IsStill m s
 
 -- what seats keep is a matter of their views
 abbrev pub keeps_here : {V W : Type 0} → (V → V → W → ℕ → Type 0) → Seen V → Seen V → W → ℕ → Type 0

@@ -16,7 +16,7 @@ ghost use Rattle.seize_seats.specs.Errands.{MayGo, MayMeet};
 ghost use Rattle.seize_plots.specs.Pieces.{kept_words, lies, spot_of, AreBucketsBehind};
 ghost use Rattle.seize_plots.specs.declared.kept.Kept.{Kept};
 ghost use Rattle.seize_plots.specs.contracts.kept.Kept.{the_row as KeptOf};
-ghost use Rattle.seize_atoms.specs.Visiting.{seat_coded, HoldsHere};
+ghost use Rattle.seize_atoms.specs.Visiting.{seat_coded, HoldsHere, HoldsSince};
 ghost use Rattle.seize_atoms.specs.Placed.{IsItsPlace, IsItsSign, IsItsIndex};
 ghost use Rattle.seize_seats.specs.Plots.{HasFirst};
 
@@ -42,9 +42,9 @@ pub struct Words<T, R: Rule<T>> {
 }
 
 impl<T, R: Rule<T>> Model for Words<T, R> {
-    ghost also_owns = { λ s. words_own (KeptOf T.row) kept_words (seat_coded R.View.row.coded) (HoldsHere R.rests (R.holds s.fixed)) s.words s.id };
+    ghost also_owns = { λ s. words_own (KeptOf T.row) kept_words (seat_coded R.View.row.coded) (HoldsSince R.rests s.start (R.holds s.fixed)) s.words s.id };
 
-    ghost also_shares = { λ s _ κ. words_share (KeptOf T.row) kept_words (seat_coded R.View.row.coded) (HoldsHere R.rests (R.holds s.fixed)) s.words s.id κ };
+    ghost also_shares = { λ s _ κ. words_share (KeptOf T.row) kept_words (seat_coded R.View.row.coded) (HoldsSince R.rests s.start (R.holds s.fixed)) s.words s.id κ };
 }
 
 impl<T, R: Rule<T>> Words<T, R> {

@@ -3,6 +3,7 @@ ghost use Rattle.std.specs.Prelude.{◌≡◌, IsSome, Some};
 ghost use Rattle.papaya_shared.specs.Calling.{HasCalled, MayCall};
 ghost use Rattle.papaya_shared.specs.Looking.{HasFound, MayLook};
 ghost use Rattle.papaya_shared.specs.Making.{CameTo, MayBegin};
+ghost use Rattle.papaya_views.specs.Given.ActsActs.{Insert};
 ghost use Rattle.papaya_views.specs.Looks.{shown_in};
 ghost use Rattle.papaya_views.specs.Rule.{Holds};
 ghost use Rattle.papaya_views.specs.declared.view.Work.TheVariants.{Nothing as NoWork};
@@ -37,7 +38,7 @@ impl<'a, K: Eq + Hash, V, S: Hashes<K>> Caller<'a, K, V, S> {
     /// Looks this key up within its section, by this lookup, and answers the word that names the pair found. How many steps it takes is up to the others.
     pub(crate) fn finds<R: Wait>(&mut self, rt: &R, lookup: Lookup, key: &K) -> Option<u64>
         requires may { MayLook S.hash key.now lookup self.old.seat.view }
-        ensures found { HasFound K.eq key.now result self.old.seat.view self.new.seat.view }
+        ensures found { HasFound K.eq S.hash key.now result self.old.seat.view self.new.seat.view }
         ensures blocks { self.new.blocks ≡ self.old.blocks }
     {
         self.blocks
@@ -57,7 +58,7 @@ impl<'a, K: Eq + Hash + Drop, V: Drop, S: Hashes<K>> Caller<'a, K, V, S> {
         value: V,
     ) -> Ran<K, V>
         requires may { MayCall S.hash hasher.now key setting hash self.old.seat.view }
-        ensures called { HasCalled result.told self.old.seat.view self.new.seat.view }
+        ensures called { HasCalled K.eq S.hash (Insert key value) result.told self.old.seat.view self.new.seat.view }
         ensures blocks { self.new.blocks ≡ self.old.blocks }
     {
         let ran = self.blocks.errand(

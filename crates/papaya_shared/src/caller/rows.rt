@@ -19,6 +19,7 @@ impl<'a, K: Eq, V, S: Hashes<K>> Caller<'a, K, V, S> {
         ensures refused { IfErr result (λ fault. self.new.seat.view.slot ≡ Rests) }
         ensures free { self.new.seat.view.work ≡ NoWork }
         ensures map { self.new.seat.view.map ≡ self.old.seat.view.map }
+        ensures calls { self.new.seat.view.calls ≡ self.old.seat.view.calls }
         ensures blocks { self.new.blocks ≡ self.old.blocks }
     {
         let slot = self
@@ -36,6 +37,7 @@ impl<'a, K: Eq, V, S: Hashes<K>> Caller<'a, K, V, S> {
         ensures inside { self.new.seat.view.slot ≡ Inside slot Nothing }
         ensures free { self.new.seat.view.work ≡ NoWork }
         ensures map { self.new.seat.view.map ≡ self.old.seat.view.map }
+        ensures calls { self.new.seat.view.calls ≡ self.old.seat.view.calls }
         ensures blocks { self.new.blocks ≡ self.old.blocks }
     {
         self.blocks
@@ -50,6 +52,7 @@ impl<'a, K: Eq, V, S: Hashes<K>> Caller<'a, K, V, S> {
         ensures rests { self.new.seat.view.slot ≡ Rests }
         ensures free { self.new.seat.view.work ≡ NoWork }
         ensures map { self.new.seat.view.map ≡ self.old.seat.view.map }
+        ensures calls { self.new.seat.view.calls ≡ self.old.seat.view.calls }
         ensures blocks { self.new.blocks ≡ self.old.blocks }
     {
         self.blocks
@@ -66,6 +69,7 @@ impl<'a, K: Eq + Drop, V: Drop, S: Hashes<K>> Caller<'a, K, V, S> {
         ensures outside { self.new.seat.view.slot ≡ Outside slot }
         ensures free { self.new.seat.view.work ≡ NoWork }
         ensures map { self.new.seat.view.map ≡ self.old.seat.view.map }
+        ensures calls { self.new.seat.view.calls ≡ self.old.seat.view.calls }
         ensures blocks { self.new.blocks ≡ self.old.blocks }
     {
         self.blocks

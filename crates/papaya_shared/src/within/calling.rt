@@ -1,8 +1,8 @@
 //! A seat on an errand runs a call on one key that asks nothing.
 ghost use Rattle.std.specs.Prelude.{◌≡◌, ℕ, true, false, Some};
 ghost use Rattle.papaya_views.specs.Given.ActsActs.{Insert};
-ghost use Rattle.papaya_shared.specs.Calling.{CalledSo, HasEnded, IsCalling, MayCall};
-ghost use Rattle.papaya_shared.specs.Looking.{Begins, StaysThere};
+ghost use Rattle.papaya_shared.specs.Calling.{CalledSo, HasCalled, HasEnded, IsCalling, MayCall};
+ghost use Rattle.papaya_shared.specs.Looking.{Begins, HasTold, StaysThere};
 ghost use Rattle.papaya_shared.specs.Made.{IsSameSeat};
 ghost use Rattle.papaya_views.specs.Given.TablesChunks.{is_incremental};
 ghost use Rattle.papaya_views.specs.declared.view.Map.{Map};
@@ -43,14 +43,16 @@ impl<'a, K: Eq + Hash + Drop, V: Drop, S: Hashes<K>> Within<'a, K, V, S> {
     fn calls(&mut self, machine: &mut Machine<K, V>, hasher: &S) -> Progress<Node<K, V>>
         requires calls { IsCalling hasher.now machine.old self.old.seat.now.view }
         ensures told { CalledSo hasher.now machine.new result self.new.seat.now.view }
+        ensures calls { HasTold result self.old.seat.now.view self.new.seat.now.view }
         ensures stays { StaysThere self.old.seat.now.view self.new.seat.now.view }
         ensures same { IsSameSeat self.old self.new }
     {
         self.begins_step();
         let told = machine.step(self, hasher);
-        if !self.made {
-            self.blocks.turn::<Stepping>(&mut *self.seat);
+        if self.made {
+            return told;
         }
+        self.blocks.turn::<Stepping>(&mut *self.seat);
         told
     }
 
@@ -68,7 +70,7 @@ impl<'a, K: Eq + Hash + Drop, V: Drop, S: Hashes<K>> Within<'a, K, V, S> {
     /// Takes the steps of its call until it has ended, and answers how, and the call's own pair where that was not stored. How many steps it takes is up to the others.
     fn runs<R: Wait>(&mut self, rt: &R, hasher: &S, machine: Machine<K, V>) -> Ran<K, V>
         requires calls { IsCalling hasher.now machine self.old.seat.now.view }
-        ensures ended { HasEnded result.told self.new.seat.now.view }
+        ensures ended { HasEnded result.told self.old.seat.now.view self.new.seat.now.view }
         ensures stays { StaysThere self.old.seat.now.view self.new.seat.now.view }
         ensures same { IsSameSeat self.old self.new }
     {
@@ -120,8 +122,7 @@ impl<'a, K: Eq + Hash + Drop, V: Drop, S: Hashes<K>> Within<'a, K, V, S> {
         value: V,
     ) -> Ran<K, V>
         requires may { MayCall S.hash hasher.now key setting hash self.old.seat.now.view }
-        ensures ended { HasEnded result.told self.new.seat.now.view }
-        ensures stays { StaysThere self.old.seat.now.view self.new.seat.now.view }
+        ensures called { HasCalled K.eq S.hash (Insert key value) result.told self.old.seat.now.view self.new.seat.now.view }
         ensures same { IsSameSeat self.old self.new }
     {
         self.begins_to_insert(&key, &value);

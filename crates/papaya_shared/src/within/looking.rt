@@ -1,7 +1,7 @@
 //! A seat on an errand looks a key up.
 ghost use Rattle.std.specs.Prelude.{◌≡◌, ℕ, true, Some};
 ghost use Rattle.papaya_views.specs.Given.ActsActs.{Get};
-ghost use Rattle.papaya_shared.specs.Looking.{Begins, HasLooked, LookedSo, LooksFor, MayLook, StaysThere};
+ghost use Rattle.papaya_shared.specs.Looking.{Begins, HasFound, HasLooked, HasTold, LookedSo, LooksFor, MayLook, StaysThere, found_of, looking_told};
 ghost use Rattle.papaya_shared.specs.Made.{IsSameSeat};
 ghost use Rattle.papaya_views.specs.Given.TablesChunks.{is_incremental};
 ghost use Rattle.papaya_views.specs.declared.view.Map.{Map};
@@ -48,6 +48,7 @@ impl<'a, K: Eq + Hash, V, S: Hashes<K>> Within<'a, K, V, S> {
     fn looks(&mut self, lookup: &mut Lookup, key: &K) -> Progress<Option<u64>>
         requires looks { LooksFor key.now lookup.old self.old.seat.now.view }
         ensures told { LookedSo K.eq key.now lookup.new result self.new.seat.now.view }
+        ensures calls { HasTold (looking_told result) self.old.seat.now.view self.new.seat.now.view }
         ensures stays { StaysThere self.old.seat.now.view self.new.seat.now.view }
         ensures same { IsSameSeat self.old self.new }
     {
@@ -58,6 +59,7 @@ impl<'a, K: Eq + Hash, V, S: Hashes<K>> Within<'a, K, V, S> {
     fn goes_through<R: Wait>(&mut self, rt: &R, lookup: Lookup, key: &K) -> Option<u64>
         requires looks { LooksFor key.now lookup self.old.seat.now.view }
         ensures looked { HasLooked K.eq key.now result self.new.seat.now.view }
+        ensures told { HasTold (found_of result) self.old.seat.now.view self.new.seat.now.view }
         ensures stays { StaysThere self.old.seat.now.view self.new.seat.now.view }
         ensures same { IsSameSeat self.old self.new }
     {
@@ -76,8 +78,7 @@ impl<'a, K: Eq + Hash, V, S: Hashes<K>> Within<'a, K, V, S> {
     /// there, so how many steps it takes is up to the others.
     pub(crate) fn finds<R: Wait>(&mut self, rt: &R, lookup: Lookup, key: &K) -> Option<u64>
         requires may { MayLook S.hash key.now lookup self.old.seat.now.view }
-        ensures looked { HasLooked K.eq key.now result self.new.seat.now.view }
-        ensures stays { StaysThere self.old.seat.now.view self.new.seat.now.view }
+        ensures found { HasFound K.eq S.hash key.now result self.old.seat.now.view self.new.seat.now.view }
         ensures same { IsSameSeat self.old self.new }
     {
         self.begins_to_look(key);

@@ -47,6 +47,7 @@ impl<'a, K: Eq + Drop, V: Drop, S: Hashes<K>> Within<'a, K, V, S> {
         ensures chosen { StaysChosen opening.old opening.new result }
         ensures left { GetsOn opening.old opening.new result }
         ensures slot { self.new.seat.now.view.slot ≡ self.old.seat.now.view.slot }
+        ensures calls { self.new.seat.now.view.calls ≡ self.old.seat.now.view.calls }
         ensures same { IsSameSeat self.old self.new }
     {
         opening.step(self)

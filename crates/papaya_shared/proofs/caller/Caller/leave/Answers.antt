@@ -5,7 +5,7 @@ use Rattle.papaya_views.specs.Notes.{notes_of}
 use Rattle.papaya_views.proofs.Contents.{knows_free}
 use Rattle.seize_callers.proofs.Keeping.{none_away}
 use Rattle.seize_callers.proofs.Resting.{at_rest}
-use Rattle.papaya_shared.proofs.Rows.{known_free}
+use Rattle.papaya_shared.proofs.Rows.{calls_stay, known_free, map_stays}
 use Rattle.papaya_shared.proofs.caller.Caller.leave.Goals as goal
 
 pub errand-requires-clause-home : goal.errand-requires-clause-home
@@ -23,3 +23,9 @@ returns-clause-outside g c = (knows_free c.errand.new.seat.view (Outside c.args.
 
 pub returns-clause-free : goal.returns-clause-free
 returns-clause-free g c = (knows_free c.errand.new.seat.view (Outside c.args.slot) tt c.errand.ensures.did.0).0
+
+pub returns-clause-map : goal.returns-clause-map
+returns-clause-map g c = map_stays c.args.self.now.seat.view c.errand.new.seat.view c.errand.ensures.did.2
+
+pub returns-clause-calls : goal.returns-clause-calls
+returns-clause-calls g c = calls_stay c.args.self.now.seat.view c.errand.new.seat.view c.errand.ensures.did.2

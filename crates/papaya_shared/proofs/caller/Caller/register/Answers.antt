@@ -2,7 +2,7 @@ use Rattle.papaya_views.specs.Given.SeizeViewsDeclared.view.View.TheVariants.{Re
 use Rattle.seize_callers.proofs.Keeping.{none_away}
 use Rattle.seize_callers.proofs.Resting.{registered}
 use Rattle.papaya_views.specs.Notes.{notes_of}
-use Rattle.papaya_shared.proofs.Rows.{known_free, took}
+use Rattle.papaya_shared.proofs.Rows.{calls_stay, known_free, map_stays, took}
 use Rattle.papaya_shared.proofs.caller.Caller.register.Goals as goal
 
 pub errand-requires-clause-home : goal.errand-requires-clause-home
@@ -19,3 +19,9 @@ returns-clause-taken g c = (took c.errand.new.seat.view c.errand.result c.in_ok-
 
 pub returns-clause-free : goal.returns-clause-free
 returns-clause-free g c = (took c.errand.new.seat.view c.errand.result c.in_ok-slot.slot c.in_ok-slot.is c.errand.ensures.did.0).0
+
+pub returns-clause-map : goal.returns-clause-map
+returns-clause-map g c = map_stays c.args.self.now.seat.view c.errand.new.seat.view c.errand.ensures.did.2
+
+pub returns-clause-calls : goal.returns-clause-calls
+returns-clause-calls g c = calls_stay c.args.self.now.seat.view c.errand.new.seat.view c.errand.ensures.did.2

@@ -1,9 +1,76 @@
-use Rattle.std.proofs.Common.{sym, subst}
+use Rattle.std.proofs.Common.{◌≡◌, true, false, sym, subst, ◌∙◌}
+use Rattle.papaya_views.specs.declared.view.View.{View}
+use Rattle.seize_callers.proofs.Keeping.{still_kept}
 use Rattle.papaya_shared.specs.Calling.{IsCalling}
-use Rattle.papaya_shared.proofs.Calling.{may_call}
+use Rattle.papaya_shared.specs.Looking.{HasTold, StaysThere}
+use Rattle.papaya_shared.proofs.Calling.{may_call, has_made, has_turned, may_turn, still}
 use Rattle.papaya_shared.proofs.within.Within.calls.Goals as goal
 
 pub step-requires : goal.step-requires
 step-requires g c =
     may_call g.K.PartialEq.eq g.S.Hashes.hash c.args.hasher.now c.begins_step.new.self c.args.machine.now
     (subst (IsCalling c.args.hasher.now c.args.machine.now) (sym c.begins_step.ensures.view) c.requires.calls)
+
+-- an operation was made
+pub returns-then-self-clause-told : goal.returns-then-self-clause-told
+returns-then-self-clause-told g c =
+    let calls = subst (IsCalling c.args.hasher.now c.args.machine.now) (sym c.begins_step.ensures.view) c.requires.calls in
+    (has_made g.K.PartialEq.eq g.S.Hashes.hash c.args.hasher.now c.begins_step.new.self c.args.machine.now calls c.step.new.memory (c.step.new.self, c.step.result)
+    c.begins_step.ensures.none c.step.ensures c.if-self.true).told
+
+pub returns-then-self-clause-calls : goal.returns-then-self-clause-calls
+returns-then-self-clause-calls g c =
+    let calls = subst (IsCalling c.args.hasher.now c.args.machine.now) (sym c.begins_step.ensures.view) c.requires.calls in
+    subst (λ (v : View g.row.K.Denot g.row.V.Denot g.row.S.Denot). HasTold c.step.result v c.step.new.memory.seat.now.view) c.begins_step.ensures.view
+    (has_made g.K.PartialEq.eq g.S.Hashes.hash c.args.hasher.now c.begins_step.new.self c.args.machine.now calls c.step.new.memory (c.step.new.self, c.step.result)
+    c.begins_step.ensures.none c.step.ensures c.if-self.true).calls
+
+pub returns-then-self-clause-stays : goal.returns-then-self-clause-stays
+returns-then-self-clause-stays g c =
+    let calls = subst (IsCalling c.args.hasher.now c.args.machine.now) (sym c.begins_step.ensures.view) c.requires.calls in
+    subst (λ (v : View g.row.K.Denot g.row.V.Denot g.row.S.Denot). StaysThere v c.step.new.memory.seat.now.view) c.begins_step.ensures.view
+    (has_made g.K.PartialEq.eq g.S.Hashes.hash c.args.hasher.now c.begins_step.new.self c.args.machine.now calls c.step.new.memory (c.step.new.self, c.step.result)
+    c.begins_step.ensures.none c.step.ensures c.if-self.true).stays
+
+pub returns-then-self-clause-same : goal.returns-then-self-clause-same
+returns-then-self-clause-same g c =
+    let calls = subst (IsCalling c.args.hasher.now c.args.machine.now) (sym c.begins_step.ensures.view) c.requires.calls in
+    (has_made g.K.PartialEq.eq g.S.Hashes.hash c.args.hasher.now c.begins_step.new.self c.args.machine.now calls c.step.new.memory (c.step.new.self, c.step.result)
+    c.begins_step.ensures.none c.step.ensures c.if-self.true).seat ∙ c.begins_step.ensures.same
+
+-- none was made
+pub turn-requires-clause-may : goal.turn-requires-clause-may
+turn-requires-clause-may g c =
+    let calls = subst (IsCalling c.args.hasher.now c.args.machine.now) (sym c.begins_step.ensures.view) c.requires.calls in
+    may_turn g.K.PartialEq.eq g.S.Hashes.hash c.args.hasher.now c.begins_step.new.self c.args.machine.now calls c.step.new.memory (c.step.new.self, c.step.result)
+    c.begins_step.ensures.none c.step.ensures c.if-self.false
+
+pub turn-requires-clause-errand : goal.turn-requires-clause-errand
+turn-requires-clause-errand g c = λ home rests w so. absurd (c.step.new.memory.away home)
+
+pub returns-clause-told : goal.returns-clause-told
+returns-clause-told g c =
+    let calls = subst (IsCalling c.args.hasher.now c.args.machine.now) (sym c.begins_step.ensures.view) c.requires.calls in
+    (has_turned g.K.PartialEq.eq g.S.Hashes.hash c.args.hasher.now c.begins_step.new.self c.args.machine.now calls c.step.new.memory (c.step.new.self, c.step.result)
+    c.begins_step.ensures.none c.step.ensures c.if-self.false c.turn.new.seat.view c.turn.ensures.goes).0
+
+pub returns-clause-calls : goal.returns-clause-calls
+returns-clause-calls g c =
+    let calls = subst (IsCalling c.args.hasher.now c.args.machine.now) (sym c.begins_step.ensures.view) c.requires.calls in
+    subst (λ (v : View g.row.K.Denot g.row.V.Denot g.row.S.Denot). HasTold c.step.result v c.turn.new.seat.view) c.begins_step.ensures.view
+    (has_turned g.K.PartialEq.eq g.S.Hashes.hash c.args.hasher.now c.begins_step.new.self c.args.machine.now calls c.step.new.memory (c.step.new.self, c.step.result)
+    c.begins_step.ensures.none c.step.ensures c.if-self.false c.turn.new.seat.view c.turn.ensures.goes).2
+
+pub returns-clause-stays : goal.returns-clause-stays
+returns-clause-stays g c =
+    let calls = subst (IsCalling c.args.hasher.now c.args.machine.now) (sym c.begins_step.ensures.view) c.requires.calls in
+    subst (λ (v : View g.row.K.Denot g.row.V.Denot g.row.S.Denot). StaysThere v c.turn.new.seat.view) c.begins_step.ensures.view
+    (has_turned g.K.PartialEq.eq g.S.Hashes.hash c.args.hasher.now c.begins_step.new.self c.args.machine.now calls c.step.new.memory (c.step.new.self, c.step.result)
+    c.begins_step.ensures.none c.step.ensures c.if-self.false c.turn.new.seat.view c.turn.ensures.goes).1
+
+pub returns-clause-same : goal.returns-clause-same
+returns-clause-same g c =
+    let calls = subst (IsCalling c.args.hasher.now c.args.machine.now) (sym c.begins_step.ensures.view) c.requires.calls in
+    still_kept _ _ c.turn.ensures.same.1 c.turn.ensures.errand
+    ∙ still g.K.PartialEq.eq g.S.Hashes.hash c.args.hasher.now c.begins_step.new.self c.args.machine.now calls c.step.new.memory (c.step.new.self, c.step.result)
+    c.begins_step.ensures.none c.step.ensures c.if-self.false ∙ c.begins_step.ensures.same

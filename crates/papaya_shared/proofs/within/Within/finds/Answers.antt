@@ -1,5 +1,7 @@
 use Rattle.papaya_views.specs.Given.ActsActs.{Get}
+use Rattle.papaya_shared.specs.Looking.{found_of}
 use Rattle.papaya_shared.proofs.Beginnings.{looks_for, stays_begun, stays_on}
+use Rattle.papaya_shared.proofs.Runs.{has_run}
 use Rattle.papaya_shared.proofs.within.Within.finds.Goals as goal
 
 pub begins_to_look-requires : goal.begins_to_look-requires
@@ -12,7 +14,10 @@ goes_through-requires g c = record {
       c.begins_to_look.ensures.begins;
 }
 
-pub returns-clause-stays : goal.returns-clause-stays
-returns-clause-stays g c =
-    let u = c.args.self.now.seat.now.view in let v = c.begins_to_look.new.self.seat.now.view in
-    stays_on u v c.goes_through.new.self.seat.now.view (stays_begun g.K.PartialEq.eq g.S.Hashes.hash (Get c.args.key.now) u v c.begins_to_look.ensures.begins) c.goes_through.ensures.stays
+pub returns-clause-found : goal.returns-clause-found
+returns-clause-found g c =
+    let u = c.args.self.now.seat.now.view in let v = c.begins_to_look.new.self.seat.now.view in let w = c.goes_through.new.self.seat.now.view in record {
+      looked = c.goes_through.ensures.looked;
+      stays = stays_on u v w (stays_begun g.K.PartialEq.eq g.S.Hashes.hash (Get c.args.key.now) u v c.begins_to_look.ensures.begins) c.goes_through.ensures.stays;
+      ran = has_run g.K.PartialEq.eq g.S.Hashes.hash (Get c.args.key.now) (found_of c.goes_through.result) u v w c.begins_to_look.ensures.begins c.goes_through.ensures.told;
+    }

@@ -13,6 +13,7 @@ returns-in-Done-clause-made g c =
       );
       refused = tt;
       slot = c.makes.ensures.slot ∙ c.loop-setting.invariant.3;
+      calls = c.makes.ensures.calls ∙ c.loop-setting.invariant.5;
     }
 
 pub returns-in-Refused-clause-made : goal.returns-in-Refused-clause-made
@@ -24,6 +25,7 @@ returns-in-Refused-clause-made g c =
         subst (λ (r : Progress Setting). KnowsStill r old new) c.in-Refused.is c.makes.ensures.map ∙ c.loop-setting.invariant.2,
       );
       slot = c.makes.ensures.slot ∙ c.loop-setting.invariant.3;
+      calls = c.makes.ensures.calls ∙ c.loop-setting.invariant.5;
     }
 
 pub unreachable-requires : goal.unreachable-requires

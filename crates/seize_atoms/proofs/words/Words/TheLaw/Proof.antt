@@ -1,5 +1,5 @@
 -- What a `&` to the words holds is made of a borrow of them, and lasts. Assumes `Logic`.
-use Rattle.seize_atoms.specs.Visiting.{HoldsHere, seat_coded}
+use Rattle.seize_atoms.specs.Visiting.{HoldsSince, seat_coded}
 use Rattle.std.proofs.Common.{[], ◌∷◌}
 use denote.Struct.Tuple.{Tuple}
 use denote.RattleType.{RattleType}
@@ -21,6 +21,6 @@ pub shares : (T R V F : RattleType) (g : Ghosts R.Denot T.Denot V.Denot F.Denot)
 shares T R V F g LT LR LV LF = let All = Tuple (T ∷ R ∷ []) in
     of_Lends (words.struct T R V F g) (words.the_codes T.Denot R.Denot V.Denot F.Denot T.coded R.coded V.coded F.coded (marker.the_row All).coded)
     (words.the_heap T R V F g) (words.the_lent T R V F g)
-    (λ d p. words_laws (kept_of.the_row T) kept_words (seat_coded V.coded) (HoldsHere g.rests (g.holds d.fixed)) d.words d.id)
+    (λ d p. words_laws (kept_of.the_row T) kept_words (seat_coded V.coded) (HoldsSince g.rests d.start (g.holds d.fixed)) d.words d.id)
     (copy_shared RawPtr-field RawPtr-copy, (copy_shared (marker.the_field All) (field_copy (marker.the_type All) tt), tt))
-    (λ M 𝓤 𝓛 d p. lends_words (kept_of.the_row T) kept_words (seat_coded V.coded) (HoldsHere g.rests (g.holds d.fixed)) d.words d.id 𝓛 (words.the_row T R V F g).lives)
+    (λ M 𝓤 𝓛 d p. lends_words (kept_of.the_row T) kept_words (seat_coded V.coded) (HoldsSince g.rests d.start (g.holds d.fixed)) d.words d.id 𝓛 (words.the_row T R V F g).lives)

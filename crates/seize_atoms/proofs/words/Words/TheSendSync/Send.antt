@@ -1,5 +1,5 @@
 -- The words may go to another thread.
-use Rattle.seize_atoms.specs.Visiting.{HoldsHere, seat_coded}
+use Rattle.seize_atoms.specs.Visiting.{HoldsSince, seat_coded}
 use denote.RattleType.{RattleType}
 use denote.Param.Send.{IsSend, IsSync, sendable}
 use Rattle.core.specs.contracts.option.Option.{the_row as OptionOf}
@@ -12,6 +12,6 @@ use Rattle.seize_plots.specs.Pieces.{kept_words}
 pub send : (T R V F : RattleType) (g : Ghosts R.Denot T.Denot V.Denot F.Denot) → IsSend T → IsSync T → IsSend (the_row T R V F g)
 send T R V F g s y = let sent : IsSend (OptionOf (kept_of.the_row T)) = search sendable depth 20 in let synced : IsSync (OptionOf (kept_of.the_row T)) = search sendable depth 20 in record {
   owned =
-      λ d vs. ((λ vss. (tt, (tt, ((λ uss. (tt, tt)), tt)))), owns_keyless (kept_of.the_row T) kept_words sent synced (seat_coded V.coded) (HoldsHere g.rests (g.holds d.fixed)) d.words d.id);
+      λ d vs. ((λ vss. (tt, (tt, ((λ uss. (tt, tt)), tt)))), owns_keyless (kept_of.the_row T) kept_words sent synced (seat_coded V.coded) (HoldsSince g.rests d.start (g.holds d.fixed)) d.words d.id);
   leaving = λ k d w. tt;
 }

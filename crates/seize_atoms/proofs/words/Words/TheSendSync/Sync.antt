@@ -1,5 +1,5 @@
 -- The words may go to another thread.
-use Rattle.seize_atoms.specs.Visiting.{HoldsHere, seat_coded}
+use Rattle.seize_atoms.specs.Visiting.{HoldsSince, seat_coded}
 use denote.RattleType.{RattleType}
 use denote.Param.Send.{IsSend, IsSync, sendable}
 use denote.Struct.Struct.{Struct}
@@ -14,4 +14,4 @@ use Rattle.seize_plots.specs.Pieces.{kept_words}
 pub sync : (T R V F : RattleType) (g : Ghosts R.Denot T.Denot V.Denot F.Denot) → IsSend T → IsSync T → IsSync (the_row T R V F g)
 sync T R V F g s y = let fields : IsSync (Struct (shape (the_type T R V F g))) = search sendable depth 20 in
     let sent : IsSend (OptionOf (kept_of.the_row T)) = search sendable depth 20 in let synced : IsSync (OptionOf (kept_of.the_row T)) = search sendable depth 20 in
-    record { shared = λ d b o ν. (fields.shared (d.words, (tt, tt)) b o ν, shares_keyless (kept_of.the_row T) kept_words sent synced (seat_coded V.coded) (HoldsHere g.rests (g.holds d.fixed)) d.words d.id ν) }
+    record { shared = λ d b o ν. (fields.shared (d.words, (tt, tt)) b o ν, shares_keyless (kept_of.the_row T) kept_words sent synced (seat_coded V.coded) (HoldsSince g.rests d.start (g.holds d.fixed)) d.words d.id ν) }

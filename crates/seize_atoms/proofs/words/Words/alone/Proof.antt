@@ -1,5 +1,5 @@
 -- `alone` ends the lifetime of the memory and begins another one, under another rule, in which there is one seat, and takes no step of the machine.
-use Rattle.seize_atoms.specs.Visiting.{Seen, HoldsHere, seat_coded}
+use Rattle.seize_atoms.specs.Visiting.{Seen, HoldsSince, seat_coded}
 use Rattle.seize_seats.specs.Errands.{RenewsTo, Away, coded_of}
 use Rattle.seize_seats.specs.Start.{WasIdle}
 use Rattle.seize_seats.specs.State.{State}
@@ -68,8 +68,8 @@ alone_spec 𝓤 𝓛 𝓜 𝓡 wired X P U F N V G LX LP LU LF LN LV LG g d g' d
     (#self inst) fn (code.unfolded 𝓤 H 𝓜 𝓡 wired (X, (P, (U, (F, (N, (V, (G, tt))))))) d d')
     (λ κs. ((λ x. hand_of x.words ∷ []), (shr_vals, tt))) (λ κs. ((λ x vs so. told R₀ R₁ R₂ R₃ g x.words vs so.0), (shr_Tells (named 0) κs.0 R₆, tt))) (λ κs qs bounds a gh are.
     let t : Row.Denot = a.0 in let p : Ptr = t.words in let z : BaseId = t.id in let b : ℕ = a.1.0.ref_ptr.0 in let o : ℕ = a.1.0.ref_ptr.1 in let f : G.Denot = a.1.0.now in
-    let cv = seat_coded R₂.coded in let cv' = seat_coded R₅.coded in let rule = g.holds t.fixed in let holds = HoldsHere g.rests rule in
-    let after = HoldsHere g'.rests (g'.holds f) in let v₀ : V.Denot = g'.newcomer f in let v : Seen V.Denot = ((v₀, None), None) in let h₀ : Away = None in
+    let cv = seat_coded R₂.coded in let cv' = seat_coded R₅.coded in let rule = g.holds t.fixed in let holds = HoldsSince g.rests t.start rule in
+    let after = λ (s : State K₀.Denot (Seen U.Denot) g.World). HoldsSince g'.rests (plain_memory value_of s.memory) (g'.holds f) in let v₀ : V.Denot = g'.newcomer f in let v : Seen V.Denot = ((v₀, None), None) in let h₀ : Away = None in
     let Knows : List (Seen U.Denot) → Type 0 = λ _. Unit {0} in let St : Type 0 = State K₀.Denot (Seen U.Denot) g.World in
     let rest : Fml = fsep (flft κs.1.1.0 qs.1.1.0) (fsep (flft κs.1.1.1.0 qs.1.1.1.0) (fsep (flft κs.1.1.1.1.0 qs.1.1.1.1.0) (fsep (flft κs.1.1.1.1.1.0 qs.1.1.1.1.1.0) (fsep (flft κs.1.1.1.1.1.1.0 qs.1.1.1.1.1.1.0) (fsep (flft κs.1.1.1.1.1.1.1.0 qs.1.1.1.1.1.1.1.0) ftrue))))) in
     let others : Fml = fsep (flft κs.1.0 qs.1.0) rest in let Asked : Type 0 = RenewsTo g.rests rule (g'.holds f) (v₀ ∷ []) in
@@ -81,9 +81,9 @@ alone_spec 𝓤 𝓛 𝓜 𝓡 wired X P U F N V G LX LP LU LF LN LV LG g d g' d
     enter ! 𝓣.C 𝓣.Λ fn (hand_of p ∷ vptr b o ∷ []) Post $ alloc_all ! (λ l. pass_all ! refl (hand_good p, ((tt, tt), tt)) $
     move ! (2 ∷ []) $ fsplit ! $ move ! (2 ∷ 0 ∷ []) $ nothing ! $ move ! (1 ∷ 0 ∷ 2 ∷ []) $
     use3 𝓛 (later (items (λ (i : BaseId × St). given (IsLike i.0 z × WasFound cv.away holds Knows i.1)
-    (‵ (words_own K₀ kept_words cv' after p i.0) ⊛ ‵ (seat_of 𝓛 K₀ kept_words cv cv' holds after p z i.0.views_name (Some v))))
+    (‵ (words_own K₀ kept_words cv' (after i.1) p i.0) ⊛ ‵ (seat_of 𝓛 K₀ kept_words cv cv' holds after p z i.0.views_name (Some v))))
     ⊛ ‵ (flft κs.1.0 qs.1.0) ⊛ ‵ ftrue)) (goes_on 𝓛 K₀ kept_words cv cv' holds after p z ftrue Knows (shows_nothing 𝓛 K₀ kept_words cv cv' holds after p z) (Some v) refl (λ _. v)
-    (λ st so back _. comes_alone g.rests rule g.keeps g'.rests (g'.holds f) v₀ (g'.newcomers_rest f) asked st so back) κs.1.0 qs.1.0 (LO.shares 𝓛)
+    (λ st so back _. comes_alone g.rests rule g.keeps t.start g'.rests (g'.holds f) v₀ (g'.newcomers_rest f) asked st so back) κs.1.0 qs.1.0 (LO.shares 𝓛)
     (Incl-trans inc (Incl-trans (kept_lives R₀) (option_lives K₀)))) $ await ! tt $ split3 ! $ pick ! (λ i. learn ! (λ like. split ! $ let u : BaseId = i.0 in
     let m : Mem X.Denot = plain_memory value_of i.1.memory in move ! (3 ∷ []) $ drop ! $
     -- [the memory; the seat; the type's token; the rest; the token]
@@ -104,5 +104,5 @@ alone_spec 𝓤 𝓛 𝓜 𝓡 wired X P U F N V G LX LP LU LF LN LV LG g d g' d
     move ! (1 ∷ []) $ nothing ! $ move ! (1 ∷ 0 ∷ []) $ fjoin ! $ move ! (1 ∷ 0 ∷ []) $ fjoin ! $ feq_i ! (List Val) (pair ∷ []) (pair ∷ []) refl $ fjoin ! $
     fpack ! (Valss (Other ∷ Sr ∷ [])) (within (declared.shape (tuple_type (Other ∷ Sr ∷ []))) (t', (r, tt)) (pair ∷ [])) (hand_of p ∷ [], (token ∷ [], tt)) $
     nothing ! $ nothing ! $ fjoin ! $ nothing ! $ fjoin ! $ move ! (3 ∷ 2 ∷ []) $ join ! $
-    use0 𝓛 (raw (fact 𝓤 Told)) (fact_i 𝓤 Told (emp 𝓤) (refl, refl, like.0, refl, refl, refl, refl, was_idle g.rests rule g.keeps i.1 like.1.0 like.1.1)) $
+    use0 𝓛 (raw (fact 𝓤 Told)) (fact_i 𝓤 Told (emp 𝓤) (refl, refl, like.0, refl, refl, refl, refl, was_idle g.rests rule g.keeps t.start i.1 like.1.0 like.1.1)) $
     returns ! (look_at ! 0 refl) $ free_all ! refl $ keep ! (1 ∷ 2 ∷ 3 ∷ 0 ∷ []) $ by ! (leaves 𝓛 En hs c y pair (t', r) (tt, (tt, tt)) (tt, (tt, tt))))))))))

@@ -1,5 +1,5 @@
 -- `ask_room` loads the door of a bucket of slots, and the seat goes with it where that is a step.
-use Rattle.seize_atoms.specs.Visiting.{Seen, HoldsHere, keeps_here, seat_coded}
+use Rattle.seize_atoms.specs.Visiting.{Seen, HoldsSince, keeps_here, seat_coded}
 use Rattle.seize_seats.specs.Errands.{coded_of, then_away}
 use Rattle.seize_atoms.proofs.Allowed.{word_allowed}
 use Rattle.seize_seats.specs.Visits.{then_kept}
@@ -79,7 +79,7 @@ ask_room_spec 𝓤 𝓛 𝓜 𝓡 wired X P U F LX LP LU LF g d _ =
     let t : Row.Denot = a.0.now in let p : Ptr = t.words in let z : BaseId = t.id in let h : Sr.Denot = a.1.0.now in
     let pd : Ptr = a.1.1.0 in let k : ℕ = a.1.1.1.0 in let last : Bool = a.1.1.1.1.0 in let j : ℕ = k - 32 in
     let id : ℕ = h.id in let v : Seen U.Denot = ((h.view, h.visit), h.away) in let cv = seat_coded R₂.coded in let α : Lft = age z in
-    let rule = g.holds t.fixed in let holds = HoldsHere g.rests rule in let keeps = keeps_here g.keeps in
+    let rule = g.holds t.fixed in let holds = HoldsSince g.rests t.start rule in let keeps = keeps_here g.keeps in
     let told : ℕ → Out K₀.Denot → Seen U.Denot → Type 0 = λ m. then_away h.away (then_kept value_of (g.then h.view (Room m))) in let so = told (suc j) in
     let db : ℕ = block_of z.doors in let d₀ : ℕ = count_of z.doors in let e : ℕ = k * 8 + d₀ in let p' : Ptr = block_ptr db d₀ in
     let others : Fml = fsep (flft κs.1.1.0 qs.1.1.0) (fsep (flft κs.1.1.1.0 qs.1.1.1.0) (fsep (flft κs.1.1.1.1.0 qs.1.1.1.1.0)
@@ -102,7 +102,7 @@ ask_room_spec 𝓤 𝓛 𝓜 𝓡 wired X P U F LX LP LU LF g d _ =
     use1 𝓛 (given (IsPlaced K₀ p z) (‵ (common K₀ kept_words cv holds p z))) (placed K₀ kept_words cv holds p z 𝓛) $ learn ! (λ there. fsplit ! $ drop ! $
     let at_d : pd ≡ p' = asked.1 ∙ at_block z.doors there.4 in let low = asked.2 in let high = asked.3 in let few : j < 32 = omega (arith, low, high) in
     let small : k * 8 < 2 ^ 64 = omega (arith, high) in let lies : e ≡ j * 8 + (256 + d₀) = omega (arith, low) in let which : k - 31 ≡ suc j = omega (arith, low) in
-    let law = word_allowed g.rests rule g.keeps g.then g.resting_stay id h.view h.visit h.away (Room (suc j)) tt (subst Law which asked.4) in
+    let law = word_allowed g.rests rule g.keeps t.start g.then g.resting_stay id h.view h.visit h.away (Room (suc j)) tt (subst Law which asked.4) in
     suffices ! (Run (us p')) (subst (λ (r : Ptr). ent 𝓤 (Run (us p')) (Run (us r))) (sym at_d) (id⊢ 𝓤 (Run (us p')))) $
     enter ! 𝓣.C 𝓣.Λ fn (us p') Post $ alloc_all ! (λ l. pass_all ! refl ((tt, tt), ((tt, tt), (Ptr-Good p', ((tt, record { fits = are.1.1.1.0.1 }), ((tt, tt), tt))))) $
     let Ev = env fn.locals l in

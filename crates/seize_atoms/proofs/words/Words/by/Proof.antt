@@ -1,5 +1,5 @@
 -- `by` takes the address of a strip for that of words: what lasts is told by the words, and where they lie by the strip.
-use Rattle.seize_atoms.specs.Visiting.{HoldsHere, keeps_here, seat_coded}
+use Rattle.seize_atoms.specs.Visiting.{HoldsSince, keeps_here, seat_coded}
 use Rattle.std.proofs.Common.{◌≡◌, ℕ, List, [], ◌∷◌, sym, refl, ap}
 use mir.Syntax.{dcons, dnil, a_type, named}
 use mir.MapTy.{inst_fn}
@@ -57,7 +57,7 @@ by_spec 𝓤 𝓛 𝓜 𝓡 wired X P U F LX LP LU LF g d _ =
     (λ κs. (shr_vals, (shr_vals, tt))) (λ κs. (shr_Tells (named 0) κs.0 Row, (shr_Tells (named 0) κs.0 St, tt))) (λ κs qs bounds a gh are.
     let b : ℕ = a.0.ref_ptr.0 in let o : ℕ = a.0.ref_ptr.1 in let b' : ℕ = a.1.0.ref_ptr.0 in let o' : ℕ = a.1.0.ref_ptr.1 in let κ : Lft = κs.0 in
     let t : Row.Denot = a.0.now in let p : Ptr = t.words in let z : BaseId = t.id in let s : St.Denot = a.1.0.now in let q : Ptr = s.words in let y : BaseId = s.id in
-    let cv = seat_coded R₂.coded in let rule = g.holds t.fixed in let holds = HoldsHere g.rests rule in let keeps = keeps_here g.keeps in
+    let cv = seat_coded R₂.coded in let rule = g.holds t.fixed in let holds = HoldsSince g.rests t.start rule in let keeps = keeps_here g.keeps in
     let t' : Row.Denot = record { words = q; marker = t.marker; id = y; fixed = t.fixed; start = t.start } in
     let others : Fml = fsep (flft κs.1.0 qs.1.0) (fsep (flft κs.1.1.0 qs.1.1.0) (fsep (flft κs.1.1.1.0 qs.1.1.1.0) (fsep (flft κs.1.1.1.1.0 qs.1.1.1.1.0) ftrue))) in
     let Asked : Type 0 = (core_of y ≡ core_of z) × InBlock q in let Inv : Core → Fml = λ k. invariant IsEven (fbor (k.atom ∷ []) (everything K₀ kept_words cv holds k)) in

@@ -1,5 +1,5 @@
 -- `claim` sets a bit of a number's sign, and where it was free the number is claimed.
-use Rattle.seize_atoms.specs.Visiting.{HoldsHere, keeps_here, seat_coded}
+use Rattle.seize_atoms.specs.Visiting.{HoldsSince, keeps_here, seat_coded}
 use Rattle.std.proofs.Common.{◌≡◌, ℕ, List, [], ◌∷◌, ◌+◌, ◌-◌, ◌*◌, ◌^◌, ◌<◌, sym, refl, ap, ◌∙◌, lit<, w64, arith}
 use mir.Syntax.{dcons, dnil, a_type, named}
 use mir.MapTy.{inst_fn}
@@ -70,7 +70,7 @@ claim_spec 𝓤 𝓛 𝓜 𝓡 wired X P U F LX LP LU LF g d _ =
     (λ κs. (shr_vals, (uint_vals w64, (uint_vals w64, tt)))) (λ κs. (shr_Tells (named 0) κs.0 Row, (uint_Tells w64, (uint_Tells w64, tt)))) (λ κs qs bounds a gh are.
     let b : ℕ = a.0.ref_ptr.0 in let o : ℕ = a.0.ref_ptr.1 in let κ : Lft = κs.0 in
     let t : Row.Denot = a.0.now in let p : Ptr = t.words in let z : BaseId = t.id in let j : ℕ = a.1.0 in let i : ℕ = a.1.1.0 in
-    let pb : ℕ = block_of p in let po : ℕ = count_of p in let cv = seat_coded R₂.coded in let α : Lft = age z in let rule = g.holds t.fixed in let holds = HoldsHere g.rests rule in let keeps = keeps_here g.keeps in
+    let pb : ℕ = block_of p in let po : ℕ = count_of p in let cv = seat_coded R₂.coded in let α : Lft = age z in let rule = g.holds t.fixed in let holds = HoldsSince g.rests t.start rule in let keeps = keeps_here g.keeps in
     let others : Fml = fsep (flft κs.1.0 qs.1.0) (fsep (flft κs.1.1.0 qs.1.1.0) (fsep (flft κs.1.1.1.0 qs.1.1.1.0)
     (fsep (flft κs.1.1.1.1.0 qs.1.1.1.1.0) ftrue))) in
     let Asked : Type 0 = IsItsSign z j i in

@@ -1,5 +1,5 @@
 -- `close` ends the lifetime of the words, and they come back.
-use Rattle.seize_atoms.specs.Visiting.{HoldsHere, seat_coded}
+use Rattle.seize_atoms.specs.Visiting.{HoldsSince, seat_coded}
 use Rattle.std.proofs.Common.{◌≡◌, ℕ, true, false, List, [], ◌∷◌, length, ◌+◌, ◌*◌, ◌^◌, ◌<◌, sym, refl, ap, ◌∙◌, subst, lit<, Option}
 use mir.Syntax.{dcons, dnil, a_type}
 use mir.MapTy.{inst_fn}
@@ -70,7 +70,7 @@ close_spec 𝓤 𝓛 𝓜 𝓡 wired X P U F LX LP LU LF g d _ =
     (#self inst) fn (code.unfolded 𝓤 H 𝓜 𝓡 wired (X, (P, (U, (F, tt)))) d)
     (λ κs. ((λ x. hand_of x.words ∷ []), (rawptr_vals, (rawptr_vals, tt))))
     (λ κs. ((λ x vs so. told R₀ R₁ R₂ R₃ g x.words vs so.0), (rawptr_Tells, (rawptr_Tells, tt)))) (λ κs qs bounds a gh are.
-    let p : Ptr = a.0.words in let z : BaseId = a.0.id in let pv : Ptr = a.1.0 in let dp : Ptr = a.1.1.0 in let cv = seat_coded R₂.coded in let rule = g.holds a.0.fixed in let holds = HoldsHere g.rests rule in
+    let p : Ptr = a.0.words in let z : BaseId = a.0.id in let pv : Ptr = a.1.0 in let dp : Ptr = a.1.1.0 in let cv = seat_coded R₂.coded in let rule = g.holds a.0.fixed in let holds = HoldsSince g.rests a.0.start rule in
     let Asked : Type 0 = (pv ≡ z.values) × (dp ≡ z.doors) × IsFirst p z in
     let y : (walk_of 𝓛 En hs c).Ghost = ((κs, qs, bounds, a, (hand_of p ∷ [], (ptr_val pv ∷ [], (ptr_val dp ∷ [], tt)))), gh) in
     let Post : Val → SProp 𝓤 = (walk_of 𝓛 En hs c).post y in

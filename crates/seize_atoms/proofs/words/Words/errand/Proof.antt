@@ -50,7 +50,7 @@ use Rattle.seize_seats.proofs.Moves.{seat as seat_of}
 use Rattle.seize_seats.proofs.Outings.{goes, returns as comes_home, pledge}
 use Rattle.seize_seats.proofs.Inside.{Ends, begins_within}
 use Rattle.seize_seats.proofs.Shown.{words_laws}
-use Rattle.seize_atoms.specs.Visiting.{Seen, HoldsHere, keeps_here, seat_coded}
+use Rattle.seize_atoms.specs.Visiting.{Seen, HoldsSince, keeps_here, seat_coded}
 use Rattle.seize_atoms.specs.contracts.words.Words as words
 use Rattle.seize_atoms.specs.contracts.seat.Seat as seat
 use Rattle.seize_atoms.proofs.Allowed.{errand_allowed}
@@ -83,7 +83,7 @@ errand_spec 𝓤 𝓛 𝓜 𝓡 wired X P U F N Y LX LP LU LF LN LY g d g' d' me
     let tl : Share = Share.left qs.1.0 in let tr : Share = Share.right qs.1.0 in
     let t : Row.Denot = a.0.now in let p : Ptr = t.words in let z : BaseId = t.id in let h : Sr.Denot = a.1.0.now in let e : N.Denot = a.1.1.0 in
     let id : ℕ = h.id in let v : Seen U.Denot = ((h.view, h.visit), h.away) in let cv = seat_coded R₂.coded in let rule = g.holds t.fixed in
-    let holds = HoldsHere g.rests rule in let keeps = keeps_here g.keeps in
+    let holds = HoldsSince g.rests t.start rule in let keeps = keeps_here g.keeps in
     let rest : Fml = fsep (flft κs.1.1.1.1.0 qs.1.1.1.1.0) (fsep (flft κs.1.1.1.1.1.0 qs.1.1.1.1.1.0)
     (fsep (flft κs.1.1.1.1.1.1.0 qs.1.1.1.1.1.1.0) (fsep (flft κs.1.1.1.1.1.1.1.0 qs.1.1.1.1.1.1.1.0) ftrue))) in
     let others : Fml = fsep (flft κs.1.1.0 qs.1.1.0) (fsep (flft κs.1.1.1.0 qs.1.1.1.0) rest) in
@@ -116,7 +116,7 @@ errand_spec 𝓤 𝓛 𝓜 𝓡 wired X P U F N Y LX LP LU LF LN LY g d g' d' me
     -- [the seat; its fields; four of it; self's token, by two; what the words share, twice; self; the errand; the others]
     let out : Share → Seen U.Denot = λ r. ((h.view, h.visit), Some r) in
     move ! (8 ∷ 6 ∷ 0 ∷ []) $ use3 𝓛 (later (items (λ (s : Share). ‵ (Seat (out (Share.right s))) ⊛ ‵ (pledge 𝓛 K₀ kept_words cv holds keeps p z id κ ql s))))
-    (goes 𝓛 K₀ kept_words cv holds keeps p z id κ ql v out (λ r. refl) (λ r. errand_allowed g.rests rule g.keeps id h.view h.visit h.away (Some r) (λ none. absurd (cc none)))) $
+    (goes 𝓛 K₀ kept_words cv holds keeps p z id κ ql v out (λ r. refl) (λ r. errand_allowed g.rests rule g.keeps t.start id h.view h.visit h.away (Some r) (λ none. absurd (cc none)))) $
     await ! tt $ pick ! (λ s. split ! $ let r₀ : Share = Share.right s in let v₁ : Seen U.Denot = out r₀ in
     let Pl : Fml = pledge 𝓛 K₀ kept_words cv holds keeps p z id κ ql s in
     use1 𝓛 (later (items (λ (st : ℕ × ℕ). ‵ (Owns v₁ st)))) (begins 𝓛 (coded_of cv) z.views_name id v₁) $ await ! tt $ pick ! (λ st.
@@ -169,7 +169,7 @@ errand_spec 𝓤 𝓛 𝓜 𝓡 wired X P U F N Y LX LP LU LF LN LY g d g' d' me
     -- [the seat; its fields; four; its address; the answer; self's token; the others; the borrow; nothing; the pledge; what the words share]
     move ! (13 ∷ 12 ∷ 0 ∷ []) $ use3 𝓛 (later (‵ (Seat v₃) ⊛ ‵ (flft κ ql)))
     (comes_home 𝓛 K₀ kept_words cv holds keeps p z id κ ql s v₂ v₃ refl refl
-    (errand_allowed g.rests rule g.keeps id h₂.view h₂.visit (Some r₀) None (λ _. asked.3 r h₂.view did.3))) $ await ! tt $ split ! $
+    (errand_allowed g.rests rule g.keeps t.start id h₂.view h₂.visit (Some r₀) None (λ _. asked.3 r h₂.view did.3))) $ await ! tt $ split ! $
     -- [the seat; half of self's token; the fields; four; the address; the answer; the other half; the others; ..]
     move ! (1 ∷ 9 ∷ []) $ use2 𝓛 (‵ (flft κ qs.0)) (𝓛.lfts.lft_join κ qs.0) $ move ! (1 ∷ []) $
     use1 𝓛 (later (items (λ (st : ℕ × ℕ). ‵ (Owns v₃ st)))) (begins 𝓛 (coded_of cv) z.views_name id v₃) $ await ! tt $ pick ! (λ su.

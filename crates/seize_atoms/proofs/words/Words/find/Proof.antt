@@ -1,5 +1,5 @@
 -- `find` loads a door behind which there is a strip, since it has the number of a block that two views show.
-use Rattle.seize_atoms.specs.Visiting.{HoldsHere, keeps_here, seat_coded}
+use Rattle.seize_atoms.specs.Visiting.{HoldsSince, keeps_here, seat_coded}
 use Rattle.seize_seats.specs.Errands.{coded_of}
 use Rattle.seize_atoms.proofs.Allowed.{shown_here}
 use Rattle.std.proofs.Common.{◌≡◌, ℕ, List, [], ◌∷◌, ◌+◌, ◌-◌, ◌*◌, ◌^◌, ◌<◌, ◌≤◌, sym, refl, ◌∙◌, subst, w64, arith}
@@ -83,7 +83,7 @@ find_spec 𝓤 𝓛 𝓜 𝓡 wired X P U F LX LP LU LF g d _ =
     let b₂ : ℕ = a.1.1.0.ref_ptr.0 in let o₂ : ℕ = a.1.1.0.ref_ptr.1 in let κ : Lft = κs.0 in let κ₁ : Lft = κs.1.0 in let κ₂ : Lft = κs.1.1.0 in
     let t : Row.Denot = a.0.now in let p : Ptr = t.words in let z : BaseId = t.id in let h : Sr.Denot = a.1.0.now in let k : Sr.Denot = a.1.1.0.now in
     let nr : ℕ = a.1.1.1.0 in let pd : Ptr = a.1.1.1.1.0 in let j : ℕ = a.1.1.1.1.1.0 in
-    let cv = seat_coded R₂.coded in let α : Lft = age z in let rule = g.holds t.fixed in let holds = HoldsHere g.rests rule in let keeps = keeps_here g.keeps in
+    let cv = seat_coded R₂.coded in let α : Lft = age z in let rule = g.holds t.fixed in let holds = HoldsSince g.rests t.start rule in let keeps = keeps_here g.keeps in
     let db : ℕ = block_of z.doors in let d₀ : ℕ = count_of z.doors in let e : ℕ = j * 8 + d₀ in let p' : Ptr = block_ptr db d₀ in
     let others : Fml = fsep (flft κs.1.1.1.0 qs.1.1.1.0) (fsep (flft κs.1.1.1.1.0 qs.1.1.1.1.0) (fsep (flft κs.1.1.1.1.1.0 qs.1.1.1.1.1.0)
     (fsep (flft κs.1.1.1.1.1.1.0 qs.1.1.1.1.1.1.0) ftrue))) in
@@ -124,14 +124,14 @@ find_spec 𝓤 𝓛 𝓜 𝓡 wired X P U F LX LP LU LF g d _ =
     let Ev = env fn.locals l in
     move ! (1 ∷ 5 ∷ []) $ shr_bor-open ! tt (view_halves 𝓛 (coded_of cv) z.views_name h.id ((h.view, h.visit), h.away)) (λ f. move ! (2 ∷ 6 ∷ []) $
     shr_bor-open ! tt (view_halves 𝓛 (coded_of cv) z.views_name k.id ((k.view, k.visit), k.away)) (λ f'. move ! (5 ∷ 6 ∷ []) $ shr_bor-open ! tt (tokens_halve 𝓛 α) (λ s.
-    let out : Ptr → Fml = λ r. fsep (flft α s) (met 𝓛 K₀ kept_words cv holds keeps p z asked.4 asked.5 s j e asked.3 refl h.id ((h.view, h.visit), h.away) k.id ((k.view, k.visit), k.away) nr (shown_here g.rests rule g.keeps h.id h.view h.visit h.away k.id k.view k.visit k.away nr asked.7) asked.6 f f' r) in
+    let out : Ptr → Fml = λ r. fsep (flft α s) (met 𝓛 K₀ kept_words cv holds keeps p z asked.4 asked.5 s j e asked.3 refl h.id ((h.view, h.visit), h.away) k.id ((k.view, k.visit), k.away) nr (shown_here g.rests rule g.keeps t.start h.id h.view h.visit h.away k.id k.view k.visit k.away nr asked.7) asked.6 f f' r) in
     -- [open; the token; the owner's, open; its view; the guard's, open; its view; the invariant; the others]
     move ! (5 ∷ 3 ∷ []) $ fjoin ! $ move ! (5 ∷ 2 ∷ 0 ∷ []) $
     first ! $ blocks ! $ sets ! (of_opd ! (get ! refl)) refl (tt, record { fits = are.1.1.1.1.1.0.1 }) $
     sets ! (bin ! (get ! refl) (lit ! tt) (record { fits = small })) refl (tt, record { fits = small }) $
     sets ! (bin ! (get ! refl) (get ! refl) tt) refl (tt, tt) $
     use3 𝓛 (raw (𝓣.C _ (vptr db e ∷ seq_cst ∷ []) (λ u. mean 𝓛 (found 𝓛 out u))))
-    (via 𝓤 _ (finds_strip 𝓛 K₀ kept_words cv holds keeps p z asked.4 asked.5 s j e asked.3 refl h.id ((h.view, h.visit), h.away) k.id ((k.view, k.visit), k.away) nr (shown_here g.rests rule g.keeps h.id h.view h.visit h.away k.id k.view k.visit k.away nr asked.7) asked.6 f f')
+    (via 𝓤 _ (finds_strip 𝓛 K₀ kept_words cv holds keeps p z asked.4 asked.5 s j e asked.3 refl h.id ((h.view, h.visit), h.away) k.id ((k.view, k.visit), k.away) nr (shown_here g.rests rule g.keeps t.start h.id h.view h.visit h.away k.id k.view k.visit k.away nr asked.7) asked.6 f f')
     (loads 𝓛 𝓜 𝓡 (code.calls-core::raw_atomic::ptr::load 𝓡.env wired) u64 word_laws (block_ptr db e) out)) $
     sets ! (agg ! (and_then ! (lit ! tt) (no_more !))) refl seq_cst_good $
     Calls-last ! (fm 𝓛 𝓜 𝓡) (found 𝓛 out) (and_then ! (get ! refl) (and_then ! (get ! refl) (no_more !))) (λ u. finds ! out (λ w.

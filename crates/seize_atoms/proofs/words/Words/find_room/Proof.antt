@@ -1,5 +1,5 @@
 -- `find_room` loads a door behind which there is a bucket, since it has a slot of which a view shows a word; and it copies the address of the words.
-use Rattle.seize_atoms.specs.Visiting.{Seen, HoldsHere, keeps_here, seat_coded}
+use Rattle.seize_atoms.specs.Visiting.{Seen, HoldsSince, keeps_here, seat_coded}
 use Rattle.seize_seats.specs.Errands.{coded_of}
 use Rattle.seize_atoms.proofs.Allowed.{slot_here}
 use Rattle.std.proofs.Common.{◌≡◌, ℕ, suc, List, [], ◌∷◌, ◌+◌, ◌-◌, ◌*◌, ◌^◌, ◌<◌, ◌≤◌, sym, refl, ap, ◌∙◌, subst, w64, arith}
@@ -90,7 +90,7 @@ find_room_spec 𝓤 𝓛 𝓜 𝓡 wired X P U F LX LP LU LF g d _ =
     let κ : Lft = κs.0 in let κ₁ : Lft = κs.1.0 in
     let t : Row.Denot = a.0.now in let p : Ptr = t.words in let z : BaseId = t.id in let h : Sr.Denot = a.1.0.now in
     let n : ℕ = a.1.1.0 in let i : ℕ = a.1.1.1.0 in let pd : Ptr = a.1.1.1.1.0 in let k : ℕ = a.1.1.1.1.1.0 in let j : ℕ = k - 32 in
-    let cv = seat_coded R₂.coded in let α : Lft = age z in let rule = g.holds t.fixed in let holds = HoldsHere g.rests rule in let keeps = keeps_here g.keeps in
+    let cv = seat_coded R₂.coded in let α : Lft = age z in let rule = g.holds t.fixed in let holds = HoldsSince g.rests t.start rule in let keeps = keeps_here g.keeps in
     let db : ℕ = block_of z.doors in let d₀ : ℕ = count_of z.doors in let e : ℕ = k * 8 + d₀ in let p' : Ptr = block_ptr db d₀ in
     let others : Fml = fsep (flft κs.1.1.0 qs.1.1.0) (fsep (flft κs.1.1.1.0 qs.1.1.1.0) (fsep (flft κs.1.1.1.1.0 qs.1.1.1.1.0)
     (fsep (flft κs.1.1.1.1.1.0 qs.1.1.1.1.1.0) ftrue))) in
@@ -123,7 +123,7 @@ find_room_spec 𝓤 𝓛 𝓜 𝓡 wired X P U F LX LP LU LF g d _ =
     let at_d : pd ≡ p' = asked.1 ∙ at_block z.doors there.4 in let low = asked.2 in let high = asked.3 in let few : j < 32 = omega (arith, low, high) in
     let small : k * 8 < 2 ^ 64 = omega (arith, high) in let lies : e ≡ j * 8 + (256 + d₀) = omega (arith, low) in let which : k - 31 ≡ suc j = omega (arith, low) in
     let most : capacity (suc j) ≤ n + 32 = subst (λ (m : ℕ). capacity m ≤ n + 32) which asked.4 in let v : Seen U.Denot = ((h.view, h.visit), h.away) in
-    let shown = slot_here g.rests rule g.keeps h.id h.view h.visit h.away n i asked.5 in
+    let shown = slot_here g.rests rule g.keeps t.start h.id h.view h.visit h.away n i asked.5 in
     suffices ! (Run (us p')) (subst (λ (r : Ptr). ent 𝓤 (Run (us p')) (Run (us r))) (sym at_d) (id⊢ 𝓤 (Run (us p')))) $
     enter ! 𝓣.C 𝓣.Λ fn (us p') Post $
     alloc_all ! (λ l. pass_all ! refl ((tt, tt), ((tt, tt), ((tt, record { fits = are.1.1.0.1 }), ((tt, record { fits = are.1.1.1.0.1 }), (Ptr-Good p', ((tt, record { fits = are.1.1.1.1.1.0.1 }), tt)))))) $

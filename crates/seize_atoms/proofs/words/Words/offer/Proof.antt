@@ -1,5 +1,5 @@
 -- `offer` exchanges null at a door for the address of a strip: the strip joins, or it comes back.
-use Rattle.seize_atoms.specs.Visiting.{HoldsHere, seat_coded}
+use Rattle.seize_atoms.specs.Visiting.{HoldsSince, seat_coded}
 use Rattle.std.specs.Prelude.{slice_index, slice_index_or}
 use Rattle.std.proofs.Common.{◌≡◌, ℕ, ◌+◌, ◌*◌, ◌^◌, ◌<◌, ◌≤◌, Bool, true, List, [], ◌∷◌, length, replicate, sym, refl, ap, ◌∙◌, subst, w64, arith, Option, None}
 use Rattle.std.proofs.lemmas.List.{length-replicate}
@@ -126,7 +126,7 @@ offer_spec 𝓤 𝓛 𝓜 𝓡 wired X P U F LX LP LU LF g d _ =
     let pd : Ptr = a.1.1.0 in let j : ℕ = a.1.1.1.0 in let p : Ptr = a.1.1.1.1.0.at in let xs : List (Option K₀.Denot) = a.1.1.1.1.0.items in
     let w : Ptr = a.1.1.1.1.1.0.at in let ws : List ℕ = a.1.1.1.1.1.0.items in let dd : Dd.Denot = a.1.1.1.1.1.1.0 in let n : ℕ = dd.count in
     let fs : List Bool = a.1.1.1.1.0.filled in let gs : List Bool = a.1.1.1.1.1.0.filled in
-    let cv = seat_coded R₂.coded in let α : Lft = age z in let rule = g.holds t.fixed in let holds = HoldsHere g.rests rule in
+    let cv = seat_coded R₂.coded in let α : Lft = age z in let rule = g.holds t.fixed in let holds = HoldsSince g.rests t.start rule in
     let db : ℕ = block_of z.doors in let d₀ : ℕ = count_of z.doors in let e : ℕ = j * 8 + d₀ in let pd' : Ptr = block_ptr db d₀ in
     let pb : ℕ = block_of p in let po : ℕ = count_of p in let p' : Ptr = block_ptr pb po in
     let others : Fml = fsep (flft κs.1.1.0 qs.1.1.0) (fsep (flft κs.1.1.1.0 qs.1.1.1.0) (fsep (flft κs.1.1.1.1.0 qs.1.1.1.1.0)

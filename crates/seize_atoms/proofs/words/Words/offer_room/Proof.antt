@@ -1,5 +1,5 @@
 -- `offer_room` exchanges null at a door for the address of a bucket's words: the bucket joins, or they come back; in both cases the seat goes with it.
-use Rattle.seize_atoms.specs.Visiting.{Seen, HoldsHere, keeps_here, seat_coded}
+use Rattle.seize_atoms.specs.Visiting.{Seen, HoldsSince, keeps_here, seat_coded}
 use Rattle.seize_seats.specs.Errands.{coded_of, then_away}
 use Rattle.seize_atoms.proofs.Allowed.{word_allowed}
 use Rattle.seize_seats.specs.Visits.{then_kept}
@@ -100,7 +100,7 @@ offer_room_spec 𝓤 𝓛 𝓜 𝓡 wired X P U F LX LP LU LF g d _ =
     let pd : Ptr = a.1.1.0 in let k : ℕ = a.1.1.1.0 in let pa : Ptr = a.1.1.1.1.0 in let dd : Pc.Denot = a.1.1.1.1.1.0 in let n : ℕ = dd.count in let ws : List ℕ = dd.words in
     let j : ℕ = k - 32 in
     let id : ℕ = h.id in let v : Seen U.Denot = ((h.view, h.visit), h.away) in let cv = seat_coded R₂.coded in let α : Lft = age z in
-    let rule = g.holds t.fixed in let holds = HoldsHere g.rests rule in let keeps = keeps_here g.keeps in
+    let rule = g.holds t.fixed in let holds = HoldsSince g.rests t.start rule in let keeps = keeps_here g.keeps in
     let told : ℕ → Out K₀.Denot → Seen U.Denot → Type 0 = λ m. then_away h.away (then_kept value_of (g.then h.view (Room m))) in let so = told (suc j) in
     let db : ℕ = block_of z.doors in let d₀ : ℕ = count_of z.doors in let e : ℕ = k * 8 + d₀ in let pd' : Ptr = block_ptr db d₀ in
     let pb : ℕ = block_of pa in let po : ℕ = count_of pa in let pa' : Ptr = block_ptr pb po in
@@ -128,7 +128,7 @@ offer_room_spec 𝓤 𝓛 𝓜 𝓡 wired X P U F LX LP LU LF g d _ =
     let at_d : pd ≡ pd' = asked.1 ∙ at_block z.doors there.4 in let at_a : pa ≡ pa' = at_block pa asked.4 in let low = asked.2 in let high = asked.3 in
     let few : j < 32 = omega (arith, low, high) in
     let small : k * 8 < 2 ^ 64 = omega (arith, high) in let lies : e ≡ j * 8 + (256 + d₀) = omega (arith, low) in let which : k - 31 ≡ suc j = omega (arith, low) in
-    let law = word_allowed g.rests rule g.keeps g.then g.resting_stay id h.view h.visit h.away (Room (suc j)) tt (subst Law which asked.8) in
+    let law = word_allowed g.rests rule g.keeps t.start g.then g.resting_stay id h.view h.visit h.away (Room (suc j)) tt (subst Law which asked.8) in
     let many : n ≡ capacity (suc j) * 16 = asked.6 ∙ ap (λ (m : ℕ). capacity m * 16) which in let c₁ : ℕ = capacity (suc j) * 16 in let zs : List ℕ = replicate c₁ 0 in
     let least = capacity_least (suc j) in let some : 0 < c₁ = omega (arith, least) in
     -- [the invariant; its lifetime lasts; the token; the seat, by two; its token; the others; the words]

@@ -1,5 +1,5 @@
 -- `open` puts the words under a new invariant.
-use Rattle.seize_atoms.specs.Visiting.{HoldsHere, seat_coded}
+use Rattle.seize_atoms.specs.Visiting.{HoldsSince, seat_coded}
 use Rattle.seize_atoms.proofs.Allowed.{starts_allowed}
 use Rattle.std.proofs.Common.{◌≡◌, ℕ, Bool, List, [], ◌∷◌, length, ◌*◌, ◌^◌, ◌<◌, ◌≤◌, refl, sym, ◌∙◌, subst, w64}
 use Rattle.std.proofs.lemmas.List.{replicate-append-replicate}
@@ -94,7 +94,7 @@ open_spec 𝓤 𝓛 𝓜 𝓡 wired X P U F LX LP LU LF g d _ =
     let roots : ℕ = a.1.1.1.0 in
     let count : ℕ = a.1.1.1.1.0 in let most : ℕ = a.1.1.1.1.1.0 in let b : ℕ = a.1.1.1.1.1.1.0.ref_ptr.0 in let o : ℕ = a.1.1.1.1.1.1.0.ref_ptr.1 in
     let about_is : F.Denot = a.1.1.1.1.1.1.0.now in
-    let cv = seat_coded R₂.coded in let rule = g.holds about_is in let holds = HoldsHere g.rests rule in
+    let cv = seat_coded R₂.coded in let rule = g.holds about_is in let holds = HoldsSince g.rests (bare roots) rule in
     let others : Fml = fsep (flft κs.1.0 qs.1.0) (fsep (flft κs.1.1.0 qs.1.1.0) (fsep (flft κs.1.1.1.0 qs.1.1.1.0)
     (fsep (flft κs.1.1.1.1.0 qs.1.1.1.1.0) ftrue))) in
     let Asked : Type 0 = ((k : ℕ) → slice_index ws k ≡ 0) × (length ws ≡ all_words roots count) × Starts rule roots ×
@@ -147,7 +147,7 @@ open_spec 𝓤 𝓛 𝓜 𝓡 wired X P U F LX LP LU LF g d _ =
     let room : count * stride K₀ < 2 ^ 63 = subst (λ (n : ℕ). n * stride K₀ < 2 ^ 63) asked.4 roomy.1 in
     use3 𝓛 (later (items (λ (z : BaseId). given ((z.roots ≡ roots) × (z.count ≡ most) × (z.values ≡ pv) × (z.size ≡ count) × (z.least ≡ count) × (z.doors ≡ dp)
     × IsFirst p z) (‵ (words_own K₀ kept_words cv holds p z)))))
-    (opens 𝓛 K₀ kept_words cv holds p pv dp roots count most asked.7 ((g.newcomer about_is, None), None) ws asked.0 asked.1 (fits.0, small, roomy.0, room, shut) (starts_allowed g.rests rule g.keeps roots asked.2)) $
+    (opens 𝓛 K₀ kept_words cv holds p pv dp roots count most asked.7 ((g.newcomer about_is, None), None) ws asked.0 asked.1 (fits.0, small, roomy.0, room, shut) (starts_allowed g.rests rule g.keeps (bare roots) roots asked.2)) $
     await ! tt $ pick ! (λ z. learn ! (λ is.
     sets ! (of_opd ! (get_in ! (fld ! refl (stop !)) (sub ! 0 refl (whole !)))) refl (Ptr-Good p) $
     sets ! (of_opd ! (get_in ! (fld ! refl (stop !)) (sub ! 0 refl (whole !)))) refl (Ptr-Good pv) $

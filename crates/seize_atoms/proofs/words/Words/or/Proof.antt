@@ -1,7 +1,7 @@
 -- `or` is one step on the word, and the seat goes with it.
-use Rattle.seize_atoms.specs.Visiting.{Seen, HoldsHere, keeps_here, seat_coded}
+use Rattle.seize_atoms.specs.Visiting.{Seen, HoldsHere, HoldsSince, keeps_here, seat_coded}
 use Rattle.seize_seats.specs.Errands.{coded_of, then_away}
-use Rattle.seize_atoms.proofs.Allowed.{word_allowed}
+use Rattle.seize_atoms.proofs.Allowed.{word_allowed, place_here}
 use Rattle.seize_seats.specs.Visits.{then_kept}
 use Rattle.std.proofs.Common.{◌≡◌, ℕ, List, [], ◌∷◌, ◌+◌, ◌*◌, ◌^◌, ◌<◌, sym, refl, lit<, w64, arith, subst}
 use Rattle.std.specs.Prelude.{bit_or}
@@ -79,10 +79,10 @@ or_spec 𝓤 𝓛 𝓜 𝓡 wired X P U F LX LP LU LF g d _ =
     let t : Row.Denot = a.0.now in let p : Ptr = t.words in let z : BaseId = t.id in let h : Sr.Denot = a.1.0.now in let nm : At = a.1.1.0.now in
     let b₂ : ℕ = a.1.1.0.ref_ptr.0 in let o₂ : ℕ = a.1.1.0.ref_ptr.1 in let pv : Ptr = a.1.1.1.0 in let i : ℕ = a.1.1.1.1.0 in let k : ℕ = a.1.1.1.1.1.0 in
     let pb : ℕ = block_of pv in let po : ℕ = count_of pv in let id : ℕ = h.id in let v : Seen U.Denot = ((h.view, h.visit), h.away) in let cv = seat_coded R₂.coded in let α : Lft = age z in
-    let rule = g.holds t.fixed in let holds = HoldsHere g.rests rule in let keeps = keeps_here g.keeps in let so : Out K₀.Denot → Seen U.Denot → Type 0 = then_away h.away (then_kept value_of (g.then h.view (Or nm k))) in let f : ℕ → ℕ = λ n. bit_or n k in
+    let rule = g.holds t.fixed in let ruled = HoldsHere g.rests rule in let holds = HoldsSince g.rests t.start rule in let keeps = keeps_here g.keeps in let so : Out K₀.Denot → Seen U.Denot → Type 0 = then_away h.away (then_kept value_of (g.then h.view (Or nm k))) in let f : ℕ → ℕ = λ n. bit_or n k in
     let others : Fml = fsep (flft κs.1.1.0 qs.1.1.0) (fsep (flft κs.1.1.1.0 qs.1.1.1.0) (fsep (flft κs.1.1.1.1.0 qs.1.1.1.1.0)
     (fsep (flft κs.1.1.1.1.1.0 qs.1.1.1.1.1.0) (fsep (flft κs.1.1.1.1.1.1.0 qs.1.1.1.1.1.1.0) ftrue)))) in
-    let Asked : Type 0 = (h.base ≡ z.views_name) × IsItsPlace holds id v p z nm pv i × Allows rule g.keeps id h.view (Or nm k) (g.then h.view (Or nm k)) in
+    let Asked : Type 0 = (h.base ≡ z.views_name) × IsItsPlace ruled id v p z nm pv i × Allows rule g.keeps id h.view (Or nm k) (g.then h.view (Or nm k)) in
     let p' : Ptr = block_ptr pb po in let us : Ptr → List Val = λ r. vptr b o ∷ vptr b' o' ∷ vptr b₂ o₂ ∷ ptr_val r ∷ vint w64 i ∷ vint w64 k ∷ [] in
     let y : (walk_of 𝓛 En hs c).Ghost =
     ((κs, qs, bounds, a, (vptr b o ∷ [], (vptr b' o' ∷ [], (vptr b₂ o₂ ∷ [], (ptr_val pv ∷ [], (vint w64 i ∷ [], (vint w64 k ∷ [], tt))))))), gh) in
@@ -112,7 +112,7 @@ or_spec 𝓤 𝓛 𝓜 𝓡 wired X P U F LX LP LU LF g d _ =
     rewrite ! 1 (λ (u : ℕ). ‵ (seat_owns cv.code u id v h.stretch h.mark)) asked.0 refl $ move ! (1 ∷ []) $
     use1 𝓛 (later (‵ (seat_of 𝓛 K₀ kept_words cv holds keeps p z id v))) (ends 𝓛 (coded_of cv) z.views_name id v h.stretch h.mark) $ await ! tt $ move ! (1 ∷ 0 ∷ []) $ move ! (8 ∷ 7 ∷ 1 ∷ []) $
     use3 𝓛 (raw (𝓣.C _ (vptr pb e ∷ vint w64 k ∷ seq_cst ∷ []) (λ u. mean 𝓛 (found out u))))
-    (via 𝓤 _ (reached 𝓛 K₀ kept_words cv holds keeps p z id v (Or nm k) f Found so (λ out w told. told.1) (word_allowed g.rests rule g.keeps g.then g.resting_stay id h.view h.visit h.away (Or nm k) tt asked.2) nm pv i (Steps.sets K₀.Denot nm k) asked.1.2 s)
+    (via 𝓤 _ (reached 𝓛 K₀ kept_words cv holds keeps p z id v (Or nm k) f Found so (λ out w told. told.1) (word_allowed g.rests rule g.keeps t.start g.then g.resting_stay id h.view h.visit h.away (Or nm k) tt asked.2) nm pv i (Steps.sets K₀.Denot nm k) (place_here g.rests rule g.keeps t.start id v p z nm pv i asked.1).2 s)
     (ors 𝓛 𝓜 𝓡 (code.calls-core::raw_atomic::fetch_or 𝓡.env wired) (block_ptr pb e) k are.1.1.1.1.1.0.1 out)) $
     sets ! (agg ! (and_then ! (lit ! tt) (no_more !))) refl (tt, (record { fits = lit< tt }, tt)) $
     Calls-last ! (fm 𝓛 𝓜 𝓡) (found out) (and_then ! (get ! refl) (and_then ! (get ! refl) (and_then ! (get ! refl) (no_more !)))) (λ u. finds ! out (λ n fits.

@@ -1,5 +1,5 @@
 -- `put` takes the place of a claimed number out, writes the value there, and gives it back as a block.
-use Rattle.seize_atoms.specs.Visiting.{Seen, HoldsHere, keeps_here, seat_coded}
+use Rattle.seize_atoms.specs.Visiting.{Seen, HoldsSince, keeps_here, seat_coded}
 use Rattle.seize_seats.specs.Errands.{coded_of, then_away}
 use Rattle.seize_atoms.proofs.Allowed.{make_allowed}
 use Rattle.seize_seats.specs.Visits.{then_kept}
@@ -116,7 +116,7 @@ put_spec 𝓤 𝓛 𝓜 𝓡 wired X P U F LX LP LU LF g d _ =
     let b : ℕ = a.0.ref_ptr.0 in let o : ℕ = a.0.ref_ptr.1 in let b' : ℕ = a.1.0.ref_ptr.0 in let o' : ℕ = a.1.0.ref_ptr.1 in let κ : Lft = κs.0 in
     let t : Row.Denot = a.0.now in let p : Ptr = t.words in let z : BaseId = t.id in let h : Sr.Denot = a.1.0.now in let cl : Cl.Denot = a.1.1.0 in
     let j : ℕ = a.1.1.1.0 in let pv : Ptr = a.1.1.1.1.0 in let new : K₀.Denot = a.1.1.1.1.1.0 in let pc : Pc.Denot = a.1.1.1.1.1.1.0 in let many : ℕ = new.count in
-    let id : ℕ = h.id in let v : Seen U.Denot = ((h.view, h.visit), h.away) in let cv = seat_coded R₂.coded in let α : Lft = age z in let rule = g.holds t.fixed in let holds = HoldsHere g.rests rule in let keeps = keeps_here g.keeps in
+    let id : ℕ = h.id in let v : Seen U.Denot = ((h.view, h.visit), h.away) in let cv = seat_coded R₂.coded in let α : Lft = age z in let rule = g.holds t.fixed in let holds = HoldsSince g.rests t.start rule in let keeps = keeps_here g.keeps in
     let bv : ℕ = block_of pv in let ov : ℕ = count_of pv in let sz : ℕ = stride K₀ in let e : ℕ = j * sz + ov in
     let others : Fml = fsep (flft κs.1.1.0 qs.1.1.0) (fsep (flft κs.1.1.1.0 qs.1.1.1.0) (fsep (flft κs.1.1.1.1.0 qs.1.1.1.1.0)
     (fsep (flft κs.1.1.1.1.1.0 qs.1.1.1.1.1.0) ftrue))) in
@@ -137,7 +137,7 @@ put_spec 𝓤 𝓛 𝓜 𝓡 wired X P U F LX LP LU LF g d _ =
     fsplit ! $ drop ! $ rewrite ! 0 (λ (u : ℕ × ℕ × ℕ). ‵ (claim_owns u.0 u.1 u.2)) (λ i. (asked.1 i, asked.3 i, asked.2 i)) refl $
     rewrite ! 1 (λ (ws : List Val). ‵ (K₀.own_val new ws)) got.1 refl $
     let so : Out K₀.Denot → Seen U.Denot → Type 0 = then_away h.away (then_kept value_of (g.then h.view (Make new.value many))) in
-    let allowed = make_allowed g.rests rule g.keeps g.then g.resting_stay id h.view h.visit h.away new many asked.10 in
+    let allowed = make_allowed g.rests rule g.keeps t.start g.then g.resting_stay id h.view h.visit h.away new many asked.10 in
     let p' : Ptr = block_ptr bv ov in let us : List Val = vptr b o ∷ vptr b' o' ∷ claim_of cl.found ∷ vint w64 j ∷ ptr_val p' ∷ vy ∷ token ∷ [] in
     let Run : List Val → SProp 𝓤 = λ ws. WpFn 𝓤 H 𝓣.C 𝓣.Λ fn ws Post in
     move ! (2 ∷ []) $

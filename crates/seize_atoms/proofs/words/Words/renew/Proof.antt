@@ -1,5 +1,5 @@
 -- `renew` ends the lifetime of the memory and begins another one, and takes no step of the machine.
-use Rattle.seize_atoms.specs.Visiting.{Seen, HoldsHere, keeps_here, seat_coded}
+use Rattle.seize_atoms.specs.Visiting.{Seen, HoldsSince, keeps_here, seat_coded}
 use Rattle.seize_seats.specs.Errands.{RenewsIdle}
 use Rattle.seize_seats.specs.Start.{WasIdle}
 use Rattle.seize_words.specs.Mem.{Mem}
@@ -54,9 +54,9 @@ renew_spec 𝓤 𝓛 𝓜 𝓡 wired X P U F LX LP LU LF g d _ =
     (#self inst) fn (code.unfolded 𝓤 H 𝓜 𝓡 wired (X, (P, (U, (F, tt)))) d)
     (λ κs. (mut_vals, tt)) (λ κs. (mut_Tells (named 0) κs.0 Row, tt)) (λ κs qs bounds a gh are.
     let b : ℕ = a.0.ref_ptr.0 in let o : ℕ = a.0.ref_ptr.1 in let t : Row.Denot = a.0.now in let p : Ptr = t.words in let z : BaseId = t.id in
-    let cv = seat_coded R₂.coded in let rule = g.holds t.fixed in let holds = HoldsHere g.rests rule in let keeps = keeps_here g.keeps in
+    let cv = seat_coded R₂.coded in let rule = g.holds t.fixed in let holds = HoldsSince g.rests t.start rule in let keeps = keeps_here g.keeps in
     let rest : Fml = fsep (flft κs.1.1.0 qs.1.1.0) (fsep (flft κs.1.1.1.0 qs.1.1.1.0) (fsep (flft κs.1.1.1.1.0 qs.1.1.1.1.0) ftrue)) in
-    let St : Type 0 = State K₀.Denot (Seen U.Denot) g.World in let Knows : List (Seen U.Denot) → Type 0 = λ _. Unit {0} in
+    let St : Type 0 = State K₀.Denot (Seen U.Denot) g.World in let after = λ (s : St). HoldsSince g.rests (plain_memory value_of s.memory) rule in let Knows : List (Seen U.Denot) → Type 0 = λ _. Unit {0} in
     let others : Fml = fsep (flft κs.1.0 qs.1.0) rest in let Asked : Type 0 = RenewsIdle g.rests rule in
     let y : (walk_of 𝓛 En hs c).Ghost = ((κs, qs, bounds, a, (vptr b o ∷ [], tt)), gh) in
     let Post : Val → SProp 𝓤 = (walk_of 𝓛 En hs c).post y in
@@ -69,13 +69,13 @@ renew_spec 𝓤 𝓛 𝓜 𝓡 wired X P U F LX LP LU LF g d _ =
     opens ! tt Row b o (λ ts. move ! (1 ∷ []) $ fsplit ! $
     -- [the fields; the memory; four of self; the others]
     move ! (6 ∷ []) $ fsplit ! $ move ! (3 ∷ 0 ∷ []) $
-    use2 𝓛 (later (items (λ (u : BaseId × St). given (IsLike u.0 z × WasFound cv.away holds Knows u.1) (‵ (words_own K₀ kept_words cv holds p u.0))) ⊛ ‵ (flft κs.1.0 qs.1.0)))
-    (renews 𝓛 K₀ kept_words cv holds p z (renew_allowed g.rests rule g.keeps asked) κs.1.0 qs.1.0 (LO.shares 𝓛) (Incl-trans inc (Incl-trans (kept_lives R₀) (option_lives K₀)))) $ await ! tt $ split ! $ pick ! (λ u. learn ! (λ like.
+    use2 𝓛 (later (items (λ (u : BaseId × St). given (IsLike u.0 z × WasFound cv.away holds Knows u.1) (‵ (words_own K₀ kept_words cv (after u.1) p u.0))) ⊛ ‵ (flft κs.1.0 qs.1.0)))
+    (renews 𝓛 K₀ kept_words cv holds after p z (renew_allowed g.rests rule g.keeps t.start asked) κs.1.0 qs.1.0 (LO.shares 𝓛) (Incl-trans inc (Incl-trans (kept_lives R₀) (option_lives K₀)))) $ await ! tt $ split ! $ pick ! (λ u. learn ! (λ like.
     -- [the memory; the type's token; the rest; the fields; four of self]
     let m : Mem X.Denot = plain_memory value_of u.1.memory in let t' : Row.Denot = record { words = p; marker = t.marker; id = u.0; fixed = t.fixed; start = m } in
     let Told : Type 0 = (p ≡ p) × (t.fixed ≡ t.fixed) × IsLike u.0 z × WasIdle g.rests rule m in
     move ! (1 ∷ 2 ∷ []) $ fjoin ! $ move ! (2 ∷ 1 ∷ []) $ fjoin ! $ move ! (2 ∷ 0 ∷ 3 ∷ 4 ∷ 5 ∷ []) $ closes ! tt Row t' ts b o $
     feq_i ! (List Val) (vptr b o ∷ []) (vptr b o ∷ []) refl $ fjoin3 ! $ nothing ! $ move ! (1 ∷ 0 ∷ []) $ fjoin ! $ move ! (1 ∷ 2 ∷ []) $ join ! $
     sets ! (of_opd ! (unit_lit !)) refl (tt, tt) $ feq_i ! (List Val) (vunit ∷ []) (vunit ∷ []) refl $
-    use0 𝓛 (raw (fact 𝓤 Told)) (fact_i 𝓤 Told (emp 𝓤) (refl, refl, like.0, was_idle g.rests rule g.keeps u.1 like.1.0 like.1.1)) $
+    use0 𝓛 (raw (fact 𝓤 Told)) (fact_i 𝓤 Told (emp 𝓤) (refl, refl, like.0, was_idle g.rests rule g.keeps t.start u.1 like.1.0 like.1.1)) $
     returns ! (look_at ! 0 refl) $ free_all ! refl $ keep ! (2 ∷ 3 ∷ 1 ∷ 0 ∷ []) $ by ! (leaves 𝓛 En hs c y vunit tt (t', tt) (tt, tt)))))))))

@@ -1,7 +1,7 @@
 -- `rewrite` takes the value of a block in the hand, moves it out, puts another one in its place, and gives it back as the block's.
-use Rattle.seize_atoms.specs.Visiting.{Seen, HoldsHere, keeps_here, seat_coded}
+use Rattle.seize_atoms.specs.Visiting.{Seen, HoldsHere, HoldsSince, keeps_here, seat_coded}
 use Rattle.seize_seats.specs.Errands.{coded_of, then_away}
-use Rattle.seize_atoms.proofs.Allowed.{rewrite_allowed, owned_here}
+use Rattle.seize_atoms.proofs.Allowed.{rewrite_allowed, owned_here, value_one}
 use Rattle.seize_seats.specs.Visits.{then_kept}
 use Rattle.std.proofs.Common.{◌≡◌, ℕ, List, [], ◌∷◌, ◌++◌, ◌+◌, ◌-◌, ◌*◌, ◌^◌, ◌<◌, sym, refl, ap, ◌∙◌, subst, w64, arith, Some}
 use mir.Syntax.{dcons, dnil, a_type}
@@ -113,12 +113,12 @@ rewrite_spec 𝓤 𝓛 𝓜 𝓡 wired X P U F LX LP LU LF g d _ =
     let b : ℕ = a.0.ref_ptr.0 in let o : ℕ = a.0.ref_ptr.1 in let b' : ℕ = a.1.0.ref_ptr.0 in let o' : ℕ = a.1.0.ref_ptr.1 in let κ : Lft = κs.0 in
     let t : Row.Denot = a.0.now in let p : Ptr = t.words in let z : BaseId = t.id in let h : Sr.Denot = a.1.0.now in let nr : ℕ = a.1.1.0 in
     let j : ℕ = a.1.1.1.0 in let pv : Ptr = a.1.1.1.1.0 in let new : K₀.Denot = a.1.1.1.1.1.0 in
-    let id : ℕ = h.id in let v : Seen U.Denot = ((h.view, h.visit), h.away) in let cv = seat_coded R₂.coded in let α : Lft = age z in let rule = g.holds t.fixed in let holds = HoldsHere g.rests rule in let keeps = keeps_here g.keeps in
+    let id : ℕ = h.id in let v : Seen U.Denot = ((h.view, h.visit), h.away) in let cv = seat_coded R₂.coded in let α : Lft = age z in let rule = g.holds t.fixed in let ruled = HoldsHere g.rests rule in let holds = HoldsSince g.rests t.start rule in let keeps = keeps_here g.keeps in
     let bv : ℕ = block_of pv in let ov : ℕ = count_of pv in let sz : ℕ = stride K₀ in let e : ℕ = j * sz + ov in
     let others : Fml = fsep (flft κs.1.1.0 qs.1.1.0) (fsep (flft κs.1.1.1.0 qs.1.1.1.0) (fsep (flft κs.1.1.1.1.0 qs.1.1.1.1.0)
     (fsep (flft κs.1.1.1.1.1.0 qs.1.1.1.1.1.0) ftrue))) in
     let Asked : Type 0 = (h.base ≡ z.views_name) × IsItsIndex z nr j × (pv ≡ z.values)
-    × ((x : K₀.Denot) → IsValueOf holds id v nr x → lies x ≡ lies new) × Owns rule g.keeps id h.view nr
+    × ((x : K₀.Denot) → IsValueOf ruled id v nr x → lies x ≡ lies new) × Owns rule g.keeps id h.view nr
     × Allows rule g.keeps id h.view (Rewrite nr new.value) (g.then h.view (Rewrite nr new.value)) in
     let got = one (lone K₀.mir) vss.1.1.1.1.1.0 (LK₀.typed new vss.1.1.1.1.1.0 are.1.1.1.1.1.0) in let vy : Val = got.0 in
     let sv : Val = live 1 (of_list (vy ∷ [])) in
@@ -130,8 +130,8 @@ rewrite_spec 𝓤 𝓛 𝓜 𝓡 wired X P U F LX LP LU LF g d _ =
     -- [the value; self; its token; the seat, by two; its token; the others]
     rewrite ! 0 (λ (ws : List Val). ‵ (K₀.own_val new ws)) got.1 refl $
     let so : Out K₀.Denot → Seen U.Denot → Type 0 = then_away h.away (then_kept value_of (g.then h.view (Rewrite nr new.value))) in
-    let own = owned_here g.rests rule g.keeps id h.view h.visit h.away nr asked.4 in
-    let allowed = rewrite_allowed g.rests rule g.keeps g.then g.resting_stay id h.view h.visit h.away nr new asked.4 asked.5 in let mine = asked.1.0 in let d : ℕ = nr - 1 - z.first in
+    let own = owned_here g.rests rule g.keeps t.start id h.view h.visit h.away nr asked.4 in
+    let allowed = rewrite_allowed g.rests rule g.keeps t.start g.then g.resting_stay id h.view h.visit h.away nr new asked.4 asked.5 in let mine = asked.1.0 in let d : ℕ = nr - 1 - z.first in
     let p' : Ptr = block_ptr bv ov in let us : List Val = vptr b o ∷ vptr b' o' ∷ vint w64 nr ∷ vint w64 j ∷ ptr_val p' ∷ vy ∷ [] in
     let Run : List Val → SProp 𝓤 = λ ws. WpFn 𝓤 H 𝓣.C 𝓣.Λ fn ws Post in
     move ! (1 ∷ []) $
@@ -165,7 +165,7 @@ rewrite_spec 𝓤 𝓛 𝓜 𝓡 wired X P U F LX LP LU LF g d _ =
     (sem 𝓛 (fex (ℕ × K₀.Denot) Held)) (takes_up 𝓛 K₀ kept_words cv holds keeps p z id v nr q₂ mine own)) $ await ! tt $ split ! $
     fpick ! (λ u. fsplit ! $ fpick ! (λ facts. drop ! $ fsplit3 ! $
     let few = facts.1 in let high = few.1 in let low_is = few.0 in let j_is : j ≡ d = asked.1.1 facts.0 few in let room : z.size * sz < 2 ^ 63 = there.3 in
-    let small : j * sz < 2 ^ 64 = indexed j z.size sz (omega (arith, high, low_is, j_is)) room in let ρ : ℕ = u.0 in let x : K₀.Denot = u.1 in let same : lies x ≡ lies new = asked.3 x facts.2 in
+    let small : j * sz < 2 ^ 64 = indexed j z.size sz (omega (arith, high, low_is, j_is)) room in let ρ : ℕ = u.0 in let x : K₀.Denot = u.1 in let same : lies x ≡ lies new = asked.3 x (value_one g.rests rule g.keeps t.start id v nr x facts.2) in
     -- [the note; the hand; the value that is there; the token; the fields; four; open; the invariant; the new value; the others]
     let Here : Fml = place K₀ α z.hands_name (block_of z.values) (d * sz + count_of z.values) (Some x) in
     let Hd : Fml = hands 𝓛 K₀ kept_words cv holds keeps p z three_quarters (nr - 1) (held ρ q₂) in

@@ -1,5 +1,5 @@
 -- `seat` opens the invariant once, and the list of views grows.
-use Rattle.seize_atoms.specs.Visiting.{Seen, HoldsHere, keeps_here, seat_coded}
+use Rattle.seize_atoms.specs.Visiting.{Seen, HoldsSince, keeps_here, seat_coded}
 use Rattle.seize_seats.specs.Errands.{Away, coded_of}
 use Rattle.seize_atoms.proofs.Allowed.{comes_allowed}
 use Rattle.std.specs.Prelude.{None}
@@ -58,7 +58,7 @@ seat_spec 𝓤 𝓛 𝓜 𝓡 wired X P U F LX LP LU LF g d _ =
     (#self inst) fn (code.unfolded 𝓤 H 𝓜 𝓡 wired (X, (P, (U, (F, tt)))) d)
     (λ κs. (shr_vals, tt)) (λ κs. (shr_Tells (named 0) κs.0 Row, tt)) (λ κs qs bounds a gh are.
     let b : ℕ = a.0.ref_ptr.0 in let o : ℕ = a.0.ref_ptr.1 in let κ : Lft = κs.0 in
-    let t : Row.Denot = a.0.now in let p : Ptr = t.words in let z : BaseId = t.id in let cv = seat_coded R₂.coded in let rule = g.holds t.fixed in let holds = HoldsHere g.rests rule in let keeps = keeps_here g.keeps in
+    let t : Row.Denot = a.0.now in let p : Ptr = t.words in let z : BaseId = t.id in let cv = seat_coded R₂.coded in let rule = g.holds t.fixed in let holds = HoldsSince g.rests t.start rule in let keeps = keeps_here g.keeps in
     let v₀ : U.Denot = g.newcomer t.fixed in let v : Seen U.Denot = ((v₀, None), None) in let h₀ : Away = None in
     let others : Fml = fsep (flft κs.1.0 qs.1.0) (fsep (flft κs.1.1.0 qs.1.1.0) (fsep (flft κs.1.1.1.0 qs.1.1.1.0)
     (fsep (flft κs.1.1.1.1.0 qs.1.1.1.1.0) ftrue))) in
@@ -75,7 +75,7 @@ seat_spec 𝓤 𝓛 𝓜 𝓡 wired X P U F LX LP LU LF g d _ =
     split ! $ drop ! $ unhide ! $
     -- [what the words share; the token; the others]
     nothing ! $ move ! (1 ∷ 2 ∷ 0 ∷ []) $
-    use3 𝓛 (later (‵ (newcomer 𝓛 K₀ kept_words cv holds keeps p z v) ⊛ ‵ (flft κ qs.0))) (comes 𝓛 K₀ kept_words cv holds keeps p z κ qs.0 v refl (comes_allowed g.rests rule g.keeps v₀ (g.newcomers_rest t.fixed) asked)) $
+    use3 𝓛 (later (‵ (newcomer 𝓛 K₀ kept_words cv holds keeps p z v) ⊛ ‵ (flft κ qs.0))) (comes 𝓛 K₀ kept_words cv holds keeps p z κ qs.0 v refl (comes_allowed g.rests rule g.keeps t.start v₀ (g.newcomers_rest t.fixed) asked)) $
     await ! tt $ split ! $ fpick ! (λ id.
     use1 𝓛 (later (items (λ (st : ℕ × ℕ). ‵ (seat_owns cv.code z.views_name id v st.0 st.1)))) (begins 𝓛 (coded_of cv) z.views_name id v) $ await ! tt $ pick ! (λ st.
     sets ! (agg ! (no_more !)) refl (tt, tt) $ sets ! (agg ! (and_then ! (get ! refl) (no_more !))) refl (tt, (tt, tt)) $

@@ -1,5 +1,5 @@
 -- `strip` copies the address of the words, and tells once more that they are those of a strip.
-use Rattle.seize_atoms.specs.Visiting.{HoldsHere, keeps_here, seat_coded}
+use Rattle.seize_atoms.specs.Visiting.{HoldsSince, keeps_here, seat_coded}
 use Rattle.std.proofs.Common.{◌≡◌, ℕ, List, [], ◌∷◌, sym, refl}
 use mir.Syntax.{dcons, dnil, a_type, named}
 use mir.MapTy.{inst_fn}
@@ -54,7 +54,7 @@ strip_spec 𝓤 𝓛 𝓜 𝓡 wired X P U F LX LP LU LF g d _ =
     (#self inst) fn (code.unfolded 𝓤 H 𝓜 𝓡 wired (X, (P, (U, (F, tt)))) d)
     (λ κs. (shr_vals, tt)) (λ κs. (shr_Tells (named 0) κs.0 Row, tt)) (λ κs qs bounds a gh are.
     let b : ℕ = a.0.ref_ptr.0 in let o : ℕ = a.0.ref_ptr.1 in let κ : Lft = κs.0 in
-    let t : Row.Denot = a.0.now in let p : Ptr = t.words in let z : BaseId = t.id in let cv = seat_coded R₂.coded in let rule = g.holds t.fixed in let holds = HoldsHere g.rests rule in let keeps = keeps_here g.keeps in
+    let t : Row.Denot = a.0.now in let p : Ptr = t.words in let z : BaseId = t.id in let cv = seat_coded R₂.coded in let rule = g.holds t.fixed in let holds = HoldsSince g.rests t.start rule in let keeps = keeps_here g.keeps in
     let others : Fml = fsep (flft κs.1.0 qs.1.0) (fsep (flft κs.1.1.0 qs.1.1.0) (fsep (flft κs.1.1.1.0 qs.1.1.1.0)
     (fsep (flft κs.1.1.1.1.0 qs.1.1.1.1.0) ftrue))) in
     let y : (walk_of 𝓛 En hs c).Ghost = ((κs, qs, bounds, a, (vptr b o ∷ [], tt)), gh) in let Post : Val → SProp 𝓤 = (walk_of 𝓛 En hs c).post y in

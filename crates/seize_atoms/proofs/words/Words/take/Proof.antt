@@ -1,5 +1,5 @@
 -- `take` takes a block away with its place, moves the value out, and frees the number.
-use Rattle.seize_atoms.specs.Visiting.{Seen, HoldsHere, keeps_here, seat_coded}
+use Rattle.seize_atoms.specs.Visiting.{Seen, HoldsSince, keeps_here, seat_coded}
 use Rattle.seize_seats.specs.Errands.{coded_of, then_away}
 use Rattle.seize_atoms.proofs.Allowed.{take_allowed}
 use Rattle.seize_seats.specs.Visits.{then_kept}
@@ -98,7 +98,7 @@ take_spec 𝓤 𝓛 𝓜 𝓡 wired X P U F LX LP LU LF g d _ =
     let j : ℕ = a.1.1.1.0 in let pv : Ptr = a.1.1.1.1.0 in let i₀ : ℕ = a.1.1.1.1.1.0 in let i₁ : ℕ = a.1.1.1.1.1.1.0 in let i₂ : ℕ = a.1.1.1.1.1.1.1.0 in
     let i₃ : ℕ = a.1.1.1.1.1.1.1.1.0 in
     let i₄ : ℕ = a.1.1.1.1.1.1.1.1.1.0 in
-    let id : ℕ = h.id in let v : Seen U.Denot = ((h.view, h.visit), h.away) in let cv = seat_coded R₂.coded in let α : Lft = age z in let rule = g.holds t.fixed in let holds = HoldsHere g.rests rule in let keeps = keeps_here g.keeps in
+    let id : ℕ = h.id in let v : Seen U.Denot = ((h.view, h.visit), h.away) in let cv = seat_coded R₂.coded in let α : Lft = age z in let rule = g.holds t.fixed in let holds = HoldsSince g.rests t.start rule in let keeps = keeps_here g.keeps in
     let pb : ℕ = block_of p in let po : ℕ = count_of p in
     let bv : ℕ = block_of pv in let ov : ℕ = count_of pv in let sz : ℕ = stride K₀ in let e : ℕ = j * sz + ov in
     let d : ℕ = nr - 1 - z.first in let f : ℕ = d * 40 + (z.skip * 8 + po) in
@@ -113,7 +113,7 @@ take_spec 𝓤 𝓛 𝓜 𝓡 wired X P U F LX LP LU LF g d _ =
     keep ! (5 ∷ 0 ∷ []) $ heard ! Asked (λ asked. split ! $ split3 ! $ move ! (3 ∷ []) $ fsplit3 ! $ fsplit ! $ move ! (2 ∷ []) $ fsplit3 ! $
     -- [the seat's address; the seat, by two; the address of self; self; the rest; the tokens; the others]
     keep ! (4 ∷ 6 ∷ 1 ∷ 2 ∷ 7 ∷ 8 ∷ []) $
-    let Pc : RattleType = piece_of.the_row in let so : Out K₀.Denot → Seen U.Denot → Type 0 = then_away h.away (then_kept value_of (g.then h.view (Take nr))) in let allowed = take_allowed g.rests rule g.keeps g.then g.resting_stay id h.view h.visit h.away nr asked.9 in let mine = asked.1.0 in
+    let Pc : RattleType = piece_of.the_row in let so : Out K₀.Denot → Seen U.Denot → Type 0 = then_away h.away (then_kept value_of (g.then h.view (Take nr))) in let allowed = take_allowed g.rests rule g.keeps t.start g.then g.resting_stay id h.view h.visit h.away nr asked.9 in let mine = asked.1.0 in
     let p' : Ptr = block_ptr bv ov in let us : Ptr
     → List Val = λ r. vptr b o ∷ vptr b' o' ∷ vint w64 nr ∷ vint w64 j ∷ ptr_val r ∷ vint w64 i₀ ∷ vint w64 i₁ ∷ vint w64 i₂ ∷ vint w64 i₃ ∷ vint w64 i₄ ∷ [] in
     let Run : List Val → SProp 𝓤 = λ ws. WpFn 𝓤 H 𝓣.C 𝓣.Λ fn ws Post in

@@ -1,5 +1,5 @@
 -- `turn` opens the invariant once, and takes no step of the machine.
-use Rattle.seize_atoms.specs.Visiting.{Seen, HoldsHere, keeps_here, seat_coded}
+use Rattle.seize_atoms.specs.Visiting.{Seen, HoldsSince, keeps_here, seat_coded}
 use Rattle.seize_seats.specs.Errands.{coded_of, MayGo}
 use Rattle.seize_atoms.proofs.Allowed.{turn_allowed}
 use Rattle.std.specs.Prelude.{None}
@@ -59,7 +59,7 @@ turn_spec 𝓤 𝓛 𝓜 𝓡 wired X P U F N LX LP LU LF LN g d g' d' _ _ =
     (λ κs. (shr_vals, (mut_vals, tt))) (λ κs. (shr_Tells (named 0) κs.0 Row, (mut_Tells (named 1) κs.1.0 Sr, tt))) (λ κs qs bounds a gh are.
     let b : ℕ = a.0.ref_ptr.0 in let o : ℕ = a.0.ref_ptr.1 in let b' : ℕ = a.1.0.ref_ptr.0 in let o' : ℕ = a.1.0.ref_ptr.1 in let κ : Lft = κs.0 in
     let t : Row.Denot = a.0.now in let p : Ptr = t.words in let z : BaseId = t.id in let h : Sr.Denot = a.1.0.now in
-    let id : ℕ = h.id in let v : Seen U.Denot = ((h.view, h.visit), h.away) in let cv = seat_coded R₂.coded in let rule = g.holds t.fixed in let holds = HoldsHere g.rests rule in let keeps = keeps_here g.keeps in let to : U.Denot → Type 0 = g'.to t.fixed h.view in let so : Seen U.Denot → Type 0 = λ u. (to u.0.0 × (u.0.1 ≡ None)) × (u.1 ≡ h.away) in
+    let id : ℕ = h.id in let v : Seen U.Denot = ((h.view, h.visit), h.away) in let cv = seat_coded R₂.coded in let rule = g.holds t.fixed in let holds = HoldsSince g.rests t.start rule in let keeps = keeps_here g.keeps in let to : U.Denot → Type 0 = g'.to t.fixed h.view in let so : Seen U.Denot → Type 0 = λ u. (to u.0.0 × (u.0.1 ≡ None)) × (u.1 ≡ h.away) in
     let others : Fml = fsep (flft κs.1.1.0 qs.1.1.0) (fsep (flft κs.1.1.1.0 qs.1.1.1.0) (fsep (flft κs.1.1.1.1.0 qs.1.1.1.1.0)
     (fsep (flft κs.1.1.1.1.1.0 qs.1.1.1.1.1.0) (fsep (flft κs.1.1.1.1.1.1.0 qs.1.1.1.1.1.1.0) ftrue)))) in
     let Asked : Type 0 = (h.base ≡ z.views_name) × Turns rule g.keeps id h.view to × MayGo g.rests h.away h.view to in
@@ -79,7 +79,7 @@ turn_spec 𝓤 𝓛 𝓜 𝓡 wired X P U F N LX LP LU LF LN g d g' d' _ _ =
     use1 𝓛 (later (‵ (seat_of 𝓛 K₀ kept_words cv holds keeps p z id v))) (ends 𝓛 (coded_of cv) z.views_name id v h.stretch h.mark) $ await ! tt $ move ! (1 ∷ 0 ∷ []) $
     -- [the seat's fields; the seat; four of it; what the words share; the token; the others]
     move ! (6 ∷ 7 ∷ 1 ∷ []) $ use3 𝓛 (later (‵ (gone_on 𝓛 K₀ kept_words cv holds keeps p z id so) ⊛
-    ‵ (flft κ qs.0))) (turns 𝓛 K₀ kept_words cv holds keeps p z κ qs.0 id v so (λ w told. told.1) (turn_allowed g.rests rule g.keeps id h.view h.visit h.away to asked.2 asked.1)) $
+    ‵ (flft κ qs.0))) (turns 𝓛 K₀ kept_words cv holds keeps p z κ qs.0 id v so (λ w told. told.1) (turn_allowed g.rests rule g.keeps t.start id h.view h.visit h.away to asked.2 asked.1)) $
     await ! tt $ split ! $ fpick ! (λ v'. fsplit ! $ fpick ! (λ such. drop ! $
     use1 𝓛 (later (items (λ (st : ℕ × ℕ). ‵ (seat_owns cv.code z.views_name id v' st.0 st.1)))) (begins 𝓛 (coded_of cv) z.views_name id v') $ await ! tt $
     pick ! (λ st.

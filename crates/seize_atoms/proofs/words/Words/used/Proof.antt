@@ -1,5 +1,5 @@
 -- `used` ends the lifetime of the memory, in which it is known what one seat knows, and begins another one, under another rule, and takes no step of the machine.
-use Rattle.seize_atoms.specs.Visiting.{Seen, HoldsHere, seat_coded}
+use Rattle.seize_atoms.specs.Visiting.{Seen, HoldsSince, seat_coded}
 use Rattle.seize_seats.specs.Errands.{RenewsFrom, coded_of}
 use Rattle.seize_seats.specs.Start.{WasKnown}
 use Rattle.seize_seats.specs.State.{State}
@@ -69,8 +69,8 @@ used_spec 𝓤 𝓛 𝓜 𝓡 wired X P U F N V G LX LP LU LF LN LV LG g d g' d'
     (λ κs. ((λ x vs so. told R₀ R₁ R₂ R₃ g x.words vs so.0), (mut_Tells (named 0) κs.0 Sr, (shr_Tells (named 1) κs.1.0 R₆, tt)))) (λ κs qs bounds a gh are.
     let t : Row.Denot = a.0 in let p : Ptr = t.words in let z : BaseId = t.id in let b' : ℕ = a.1.0.ref_ptr.0 in let o' : ℕ = a.1.0.ref_ptr.1 in let h : Sr.Denot = a.1.0.now in
     let b : ℕ = a.1.1.0.ref_ptr.0 in let o : ℕ = a.1.1.0.ref_ptr.1 in let f : G.Denot = a.1.1.0.now in let id : ℕ = h.id in let v : Seen U.Denot = ((h.view, h.visit), h.away) in
-    let cv = seat_coded R₂.coded in let cv' = seat_coded R₅.coded in let rule = g.holds t.fixed in let holds = HoldsHere g.rests rule in
-    let after = HoldsHere g'.rests (g'.holds f) in let blank : Seen U.Denot → Seen V.Denot = λ _. ((g'.newcomer f, None), None) in
+    let cv = seat_coded R₂.coded in let cv' = seat_coded R₅.coded in let rule = g.holds t.fixed in let holds = HoldsSince g.rests t.start rule in
+    let after = λ (s : State K₀.Denot (Seen U.Denot) g.World). HoldsSince g'.rests (plain_memory value_of s.memory) (g'.holds f) in let blank : Seen U.Denot → Seen V.Denot = λ _. ((g'.newcomer f, None), None) in
     let Known : Fml = seen cv.code z.views_name three_quarters id v in let Knows : List (Seen U.Denot) → Type 0 = λ vs. slice_get vs id ≡ Some v in
     let St : Type 0 = State K₀.Denot (Seen U.Denot) g.World in
     let rest : Fml = fsep (flft κs.1.1.1.0 qs.1.1.1.0) (fsep (flft κs.1.1.1.1.0 qs.1.1.1.1.0) (fsep (flft κs.1.1.1.1.1.0 qs.1.1.1.1.1.0) (fsep (flft κs.1.1.1.1.1.1.0 qs.1.1.1.1.1.1.0) (fsep (flft κs.1.1.1.1.1.1.1.0 qs.1.1.1.1.1.1.1.0) (fsep (flft κs.1.1.1.1.1.1.1.1.0 qs.1.1.1.1.1.1.1.1.0) ftrue))))) in
@@ -87,9 +87,9 @@ used_spec 𝓤 𝓛 𝓜 𝓡 wired X P U F N V G LX LP LU LF LN LV LG g d g' d'
     -- [the seat's fields; the seat; four of it; the memory; the token; the others]
     rewrite ! 1 (λ (u : ℕ). ‵ (seat_owns cv.code u id v h.stretch h.mark)) asked.0 refl $ move ! (1 ∷ []) $
     use1 𝓛 (later (‵ Known)) (ends 𝓛 (coded_of cv) z.views_name id v h.stretch h.mark) $ await ! tt $ move ! (8 ∷ []) $ fsplit ! $ move ! (8 ∷ 2 ∷ 0 ∷ []) $
-    use3 𝓛 (later (items (λ (i : BaseId × St). given (IsLike i.0 z × WasFound cv.away holds Knows i.1) (‵ (words_own K₀ kept_words cv' after p i.0) ⊛ ‵ ftrue)) ⊛ ‵ (flft κs.1.1.0 qs.1.1.0) ⊛ ‵ Known))
+    use3 𝓛 (later (items (λ (i : BaseId × St). given (IsLike i.0 z × WasFound cv.away holds Knows i.1) (‵ (words_own K₀ kept_words cv' (after i.1) p i.0) ⊛ ‵ ftrue)) ⊛ ‵ (flft κs.1.1.0 qs.1.1.0) ⊛ ‵ Known))
     (goes_on 𝓛 K₀ kept_words cv cv' holds after p z Known Knows (shows_itself 𝓛 K₀ kept_words cv cv' holds after p z id v) None tt blank
-    (λ st so back at. ends_alone g.rests rule g.keeps g'.rests (g'.holds f) id h.view h.visit h.away asked.1 st so back at) κs.1.1.0 qs.1.1.0 (LO.shares 𝓛)
+    (λ st so back at. ends_alone g.rests rule g.keeps t.start g'.rests (g'.holds f) id h.view h.visit h.away asked.1 st so back at) κs.1.1.0 qs.1.1.0 (LO.shares 𝓛)
     (Incl-trans inc (Incl-trans (kept_lives R₀) (option_lives K₀)))) $ await ! tt $ split3 ! $ pick ! (λ i. learn ! (λ like. split ! $ let u : BaseId = i.0 in
     let m : Mem X.Denot = plain_memory value_of i.1.memory in move ! (1 ∷ []) $ drop ! $
     -- [the memory; the type's token; the view; the rest; the seat's fields; four of it; the token]
@@ -107,5 +107,5 @@ used_spec 𝓤 𝓛 𝓜 𝓡 wired X P U F N V G LX LP LU LF LN LV LG g d g' d'
     move ! (3 ∷ []) $ use0 𝓛 (‵ ((Data R₀ R₄ R₅ R₆ g').own_val (p, (tt, tt)) (hand_of p ∷ []))) (hand_made R₀ R₄ R₅ R₆ g' 𝓛 p) $ fjoin ! $ move ! (1 ∷ []) $
     nothing ! $ nothing ! $ fjoin ! $ move ! (1 ∷ 0 ∷ []) $ fjoin ! $ nothing ! $ fjoin ! $
     -- [what is left; the memory; the seat's token; the others; the token]
-    move ! (4 ∷ 3 ∷ []) $ join ! $ move ! (3 ∷ 0 ∷ []) $ join ! $ use0 𝓛 (raw (fact 𝓤 Told)) (fact_i 𝓤 Told (emp 𝓤) (refl, refl, like.0, was_known g.rests rule g.keeps id h.view h.visit h.away i.1 like.1.0 like.1.1 like.1.2)) $
+    move ! (4 ∷ 3 ∷ []) $ join ! $ move ! (3 ∷ 0 ∷ []) $ join ! $ use0 𝓛 (raw (fact 𝓤 Told)) (fact_i 𝓤 Told (emp 𝓤) (refl, refl, like.0, was_known g.rests rule g.keeps t.start id h.view h.visit h.away i.1 like.1.0 like.1.1 like.1.2)) $
     returns ! (look_at ! 0 refl) $ free_all ! refl $ keep ! (1 ∷ 2 ∷ 3 ∷ 0 ∷ []) $ by ! (leaves 𝓛 En hs c y (hand_of p) t' (tt, (h', (tt, tt))) (tt, (tt, (tt, tt))))))))))))

@@ -1,6 +1,6 @@
 -- `value` lends the value of a block: a part of its token goes under the seat's stretch, and the address of its place is told.
-use Rattle.seize_atoms.specs.Visiting.{Seen, HoldsHere, keeps_here, seat_coded}
-use Rattle.seize_atoms.proofs.Allowed.{shown_here}
+use Rattle.seize_atoms.specs.Visiting.{Seen, HoldsHere, HoldsSince, keeps_here, seat_coded}
+use Rattle.seize_atoms.proofs.Allowed.{shown_here, value_both}
 use Rattle.std.proofs.Common.{◌≡◌, ℕ, List, [], ◌∷◌, ◌+◌, ◌-◌, ◌*◌, ◌^◌, ◌<◌, sym, refl, ap, ◌∙◌, subst, w64, arith, Some}
 use mir.Syntax.{dcons, dnil, a_type, named}
 use mir.MapTy.{inst_fn}
@@ -76,7 +76,7 @@ value_spec 𝓤 𝓛 𝓜 𝓡 wired X P U F LX LP LU LF g d _ =
     let h : Sr.Denot = a.1.1.0.now in let k : Sr.Denot = a.1.1.1.0.now in
     let nr : ℕ = a.1.1.1.1.0 in let j : ℕ = a.1.1.1.1.1.0 in let pv : Ptr = a.1.1.1.1.1.1.0 in
     let hg : Holder (Seen U.Denot) = record { seat = h.id; view = ((h.view, h.visit), h.away); stretch = h.stretch; mark = h.mark } in
-    let ho : Holder (Seen U.Denot) = record { seat = k.id; view = ((k.view, k.visit), k.away); stretch = k.stretch; mark = k.mark } in let cv = seat_coded R₂.coded in let rule = g.holds t.fixed in let holds = HoldsHere g.rests rule in let keeps = keeps_here g.keeps in
+    let ho : Holder (Seen U.Denot) = record { seat = k.id; view = ((k.view, k.visit), k.away); stretch = k.stretch; mark = k.mark } in let cv = seat_coded R₂.coded in let rule = g.holds t.fixed in let ruled = HoldsHere g.rests rule in let holds = HoldsSince g.rests t.start rule in let keeps = keeps_here g.keeps in
     let bv : ℕ = block_of pv in let ov : ℕ = count_of pv in let sz : ℕ = stride K₀ in let e : ℕ = j * sz + ov in
     let others : Fml = fsep (flft κs.1.0 qs.1.0) (fsep (flft κs.1.1.0 qs.1.1.0) (fsep (flft κs.1.1.1.0 qs.1.1.1.0) (fsep (flft κs.1.1.1.1.0 qs.1.1.1.1.0) (fsep (flft κs.1.1.1.1.1.0 qs.1.1.1.1.1.0) ftrue)))) in
     let Asked : Type 0 = (core_of z ≡ core_of z₀) × InBlock p × (h.base ≡ z₀.views_name) × (k.base ≡ z₀.views_name) × IsItsIndex z nr j × (pv ≡ z.values) ×
@@ -126,7 +126,7 @@ value_spec 𝓤 𝓛 𝓜 𝓡 wired X P U F LX LP LU LF g d _ =
     let Ev = env fn.locals l in
     -- [the owner; the guard; the words; the token; the others]
     move ! (2 ∷ 1 ∷ 0 ∷ 3 ∷ []) $ group ! 4 $
-    let d : ℕ = nr - 1 - z.first in let here : ℕ = d * sz + count_of z.values in let mine = asked.4.0 in let shown = shown_here g.rests rule g.keeps h.id h.view h.visit h.away k.id k.view k.visit k.away nr asked.6 in
+    let d : ℕ = nr - 1 - z.first in let here : ℕ = d * sz + count_of z.values in let mine = asked.4.0 in let shown = shown_here g.rests rule g.keeps t.start h.id h.view h.visit h.away k.id k.view k.visit k.away nr asked.6 in
     use1 𝓛 (later (items (λ (x : K₀.Denot). given (So 𝓛 K₀ LO.shr_laws kept_words cv holds keeps p z hg ho nr shown mine x)
     (‵ (shared_of O (Some x) (block_of z.values) here κ))) ⊛ ‵ (flft κ qs.0)))
     (lent_to 𝓛 K₀ LO.shr_laws kept_words cv holds keeps p z hg ho nr shown mine κ qs.0) $ await ! tt $ split ! $ pick ! (λ x. learn ! (λ so.
@@ -143,8 +143,9 @@ value_spec 𝓤 𝓛 𝓜 𝓡 wired X P U F LX LP LU LF g d _ =
     sets_last ! (addr ! (through ! refl (stop !))) refl (tt, tt) $ exec ! 𝓣.C 𝓣.Λ Ev (tail fn.body) (at_ret Ev Post) $
     sets ! (of_opd ! (get ! refl)) refl (tt, tt) $
     move ! (1 ∷ 2 ∷ []) $ join ! $ move ! (1 ∷ []) $ feq_i ! (List Val) (vptr bv e ∷ []) (vptr bv e ∷ []) refl $ fjoin ! $
-    let Told : Type 0 = (y : K₀.Denot) × (Some x ≡ Some y) × IsValueOfBoth holds h.id ((h.view, h.visit), h.away) k.id ((k.view, k.visit), k.away) nr y in
-    use0 𝓛 (raw (fact 𝓤 Told)) (fact_i 𝓤 Told (emp 𝓤) (x, refl, so.0)) $
+    let Told : Type 0 = (y : K₀.Denot) × (Some x ≡ Some y) × IsValueOfBoth ruled h.id ((h.view, h.visit), h.away) k.id ((k.view, k.visit), k.away) nr y in
+    use0 𝓛 (raw (fact 𝓤 Told)) (fact_i 𝓤 Told (emp 𝓤)
+    (x, refl, value_both g.rests rule g.keeps t.start h.id ((h.view, h.visit), h.away) k.id ((k.view, k.visit), k.away) nr x so.0)) $
     nothing ! $ nothing ! $ fjoin ! $ nothing ! $ fjoin ! $ nothing ! $ fjoin ! $ nothing ! $ fjoin ! $ nothing ! $ fjoin ! $ nothing ! $ fjoin ! $ nothing ! $ fjoin ! $
     returns ! (look_at ! 0 refl) $ free_all ! refl $ keep ! (3 ∷ 0 ∷ 2 ∷ 1 ∷ []) $
     by ! (leaves 𝓛 En hs c y (vptr bv e) (record { ref_ptr = (bv, e); now = Some x }) (tt, (tt, (tt, (tt, (tt, (tt, (tt, tt))))))) (tt, (tt, (tt, (tt, (tt, (tt, (tt, tt))))))))))))))

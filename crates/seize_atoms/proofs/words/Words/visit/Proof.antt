@@ -1,5 +1,5 @@
 -- `visit` opens the invariant once, and takes no step of the machine.
-use Rattle.seize_atoms.specs.Visiting.{Seen, HoldsHere, keeps_here, seat_coded}
+use Rattle.seize_atoms.specs.Visiting.{Seen, HoldsSince, keeps_here, seat_coded}
 use Rattle.seize_seats.specs.Errands.{coded_of}
 use Rattle.seize_atoms.proofs.Allowed.{visit_allowed}
 use Rattle.seize_seats.specs.Visits.{Spot}
@@ -78,7 +78,7 @@ visit_spec 𝓤 𝓛 𝓜 𝓡 wired X P U F LX LP LU LF g d _ =
     )) (λ κs qs bounds a gh are.
     let b : ℕ = a.0.ref_ptr.0 in let o : ℕ = a.0.ref_ptr.1 in let b' : ℕ = a.1.0.ref_ptr.0 in let o' : ℕ = a.1.0.ref_ptr.1 in let κ : Lft = κs.0 in
     let t : Row.Denot = a.0.now in let p : Ptr = t.words in let z : BaseId = t.id in let h : Sr.Denot = a.1.0.now in
-    let id : ℕ = h.id in let v : Seen U.Denot = ((h.view, h.visit), h.away) in let cv = seat_coded R₂.coded in let rule = g.holds t.fixed in let holds = HoldsHere g.rests rule in let keeps = keeps_here g.keeps in let block : ℕ = a.1.1.0 in
+    let id : ℕ = h.id in let v : Seen U.Denot = ((h.view, h.visit), h.away) in let cv = seat_coded R₂.coded in let rule = g.holds t.fixed in let holds = HoldsSince g.rests t.start rule in let keeps = keeps_here g.keeps in let block : ℕ = a.1.1.0 in
     let so : Seen U.Denot → Type 0 = λ u. ((u.0.0 ≡ h.view) × ((q : Spot) × (u.0.1 ≡ Some (block, q)))) × (u.1 ≡ h.away) in
     let others : Fml = fsep (flft κs.1.1.0 qs.1.1.0) (fsep (flft κs.1.1.1.0 qs.1.1.1.0) (fsep (flft κs.1.1.1.1.0 qs.1.1.1.1.0)
     (fsep (flft κs.1.1.1.1.1.0 qs.1.1.1.1.1.0) ftrue))) in
@@ -100,7 +100,7 @@ visit_spec 𝓤 𝓛 𝓜 𝓡 wired X P U F LX LP LU LF g d _ =
     use1 𝓛 (later (‵ (seat_of 𝓛 K₀ kept_words cv holds keeps p z id v))) (ends 𝓛 (coded_of cv) z.views_name id v h.stretch h.mark) $ await ! tt $ move ! (1 ∷ 0 ∷ []) $
     -- [the seat's fields; the seat; four of it; what the words share; the token; the others]
     move ! (6 ∷ 7 ∷ 1 ∷ []) $ use3 𝓛 (later (‵ (gone_on 𝓛 K₀ kept_words cv holds keeps p z id so) ⊛
-    ‵ (flft κ qs.0))) (turns 𝓛 K₀ kept_words cv holds keeps p z κ qs.0 id v so (λ w told. told.1) (visit_allowed g.rests rule g.keeps id h.view h.visit h.away block asked.1)) $
+    ‵ (flft κ qs.0))) (turns 𝓛 K₀ kept_words cv holds keeps p z κ qs.0 id v so (λ w told. told.1) (visit_allowed g.rests rule g.keeps t.start id h.view h.visit h.away block asked.1)) $
     await ! tt $ split ! $ fpick ! (λ v'. fsplit ! $ fpick ! (λ such. drop ! $
     use1 𝓛 (later (items (λ (st : ℕ × ℕ). ‵ (seat_owns cv.code z.views_name id v' st.0 st.1)))) (begins 𝓛 (coded_of cv) z.views_name id v') $ await ! tt $
     pick ! (λ st.
