@@ -20,7 +20,7 @@ use Rattle.papaya_views.proofs.Given.SeizeActsAnswers.{same_some}
 use Rattle.papaya_views.proofs.Given.SeizeViewsLooks.{IsNow, ends_same, now_ends}
 use Rattle.papaya_views.specs.Looks.{shown_in, MayFollow, TurnsTo}
 use Rattle.papaya_views.specs.Rule.{Holds, KeepsFor}
-use Rattle.papaya_views.specs.Told.{called, turned, turned_by}
+use Rattle.papaya_views.specs.Told.{HandsBack, MayCome, called, turned, turned_by}
 use Rattle.papaya_views.specs.declared.view.Map.{Map}
 use Rattle.papaya_views.specs.declared.view.View.{View}
 use Rattle.papaya_views.specs.declared.view.Work.{Work}
@@ -116,6 +116,9 @@ module _ {K V S : Type 0} (same : K → K → Bool) (hash : S → K → ℕ) (ha
     pub may_call : May (CanMake same hash) (HasMade same hash) shown_of c its
     may_call = subst (λ (h : S). May (CanMake same hash) (HasMade same hash) shown_of c (machine_plan same same (hash h) machine)) is.hashes may
 
+    its_step : (end : Machine K V K × Progress (Node K V)) → MayCome plan end → MayCome its end
+    its_step end step = subst (λ (h : S). MayCome (machine_plan {K = K} {V = V} same same (hash h) machine) end) is.hashes step
+
     -- what is known once the call has come so far
     knows_so : (w : View K V S) (shown : ℕ → Option (Node K V)) (end : Machine K V K × Progress (Node K V)) (looks : List (ℕ × Node K V))
         → w ≡ called c.seat.now.view is.map machine end looks → Leads shown plan end
@@ -138,6 +141,8 @@ module _ {K V S : Type 0} (same : K → K → Bool) (hash : S → K → ℕ) (ha
         pub told : CalledSo hasher end.0 end.1 n.seat.now.view
         pub stays : StaysThere c.seat.now.view n.seat.now.view
         pub calls : HasTold end.1 c.seat.now.view n.seat.now.view
+        pub step : MayCome its end
+        pub hands : HandsBack c.seat.now.view.calls end.1
         pub seat : IsSameSeat c n
 
       pub has_made : n.made ≡ true → Made
@@ -147,7 +152,14 @@ module _ {K V S : Type 0} (same : K → K → Bool) (hash : S → K → ℕ) (ha
             let one : t.0 ≡ end = follows_one (shown_of n) plan it.1 t.0 end t.1 it.3 in
             let view = t.2 ∙ ap (λ (e : Machine K V K × Progress (Node K V)). called c.seat.now.view is.map machine e n.seat.now.view.looks) one in
             let k = knows_so n.seat.now.view (shown_of n) end n.seat.now.view.looks view (leads_by (shown_of n) plan it.1 end it.3) in
-            record { told = k.0; stays = k.1; calls = k.2; seat = it.2.seat }
+            record {
+              told = k.0;
+              stays = k.1;
+              calls = k.2;
+              step = its_step end (subst (λ (e : Machine K V K × Progress (Node K V)). MayCome plan e) one t.4);
+              hands = subst (λ (e : Machine K V K × Progress (Node K V)). HandsBack c.seat.now.view.calls e.1) one t.5;
+              seat = it.2.seat;
+            }
         | inr none ↦ let made_false : n.made ≡ false = ap (λ (x : Within K V S). x.made) none.0 ∙ before in absurd (cc (made, made_false))
       ]
 
@@ -172,7 +184,7 @@ module _ {K V S : Type 0} (same : K → K → Bool) (hash : S → K → ℕ) (ha
           (calls_turn V same hash c.blocks.now.words.fixed c.seat.now.id c.seat.now.view is.map machine t.1.0 is.knows is.works t.1.1)
 
       pub has_turned : n.made ≡ false → (w : View K V S) → turned same hash n.seat.now.view w
-          → CalledSo hasher end.0 end.1 w × StaysThere c.seat.now.view w × HasTold end.1 c.seat.now.view w
+          → CalledSo hasher end.0 end.1 w × StaysThere c.seat.now.view w × HasTold end.1 c.seat.now.view w × MayCome its end × HandsBack c.seat.now.view.calls end.1
       has_turned none w goes =
           let t = is_turn none in
           let here : turned same hash c.seat.now.view w = subst (λ (x : Within K V S). turned same hash x.seat.now.view w) t.0 goes in
@@ -183,4 +195,10 @@ module _ {K V S : Type 0} (same : K → K → Bool) (hash : S → K → ℕ) (ha
           let one : by_map.0 ≡ end =
           ends_same (shown_of c) t.1.0 by_map.0 end (now_ends (shown_in w.looks) (shown_of c) t.1.0 by_map.0 now ends) t.1.2 in
           let view = by_map.2 ∙ ap (λ (e : Machine K V K × Progress (Node K V)). called c.seat.now.view is.map machine e w.looks) one in
-          knows_so w (shown_of c) end w.looks view (subst (λ (p : Plan (Node K V) (Machine K V K × Progress (Node K V))). Leads (shown_of c) p end) (sym t.1.1) t.1.2)
+          let k = knows_so w (shown_of c) end w.looks view (subst (λ (p : Plan (Node K V) (Machine K V K × Progress (Node K V))). Leads (shown_of c) p end) (sym t.1.1) t.1.2) in (
+            k.0,
+            k.1,
+            k.2,
+            its_step end (subst (λ (e : Machine K V K × Progress (Node K V)). MayCome plan e) one by_map.3),
+            subst (λ (e : Machine K V K × Progress (Node K V)). HandsBack c.seat.now.view.calls e.1) one by_map.4,
+          )

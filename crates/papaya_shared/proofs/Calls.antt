@@ -11,7 +11,7 @@ use Rattle.papaya_views.specs.Given.RawDeclared.machines.progress.Progress.{Prog
 use Rattle.papaya_views.specs.Given.SeizeViewsPromises.{op_in}
 use Rattle.papaya_views.specs.Given.SeizeViewsTold.{FollowsBy}
 use Rattle.papaya_views.specs.Looks.{shown_in, MayFollow}
-use Rattle.papaya_views.specs.Told.{told_by, called}
+use Rattle.papaya_views.specs.Told.{HandsBack, MayCome, told_by, called}
 use Rattle.papaya_views.specs.declared.view.Map.{Map}
 use Rattle.papaya_views.specs.declared.view.View.{View}
 use Rattle.papaya_views.specs.declared.view.Work.{Work}
@@ -49,6 +49,7 @@ module _ {K V S : Type 0} (same : K → K → Bool) (hash : S → K → ℕ) (c 
     told_so : (op : Op (Node K V)) (out : Out (Node K V)) (n : Within K V S) → HasMade same hash c op out n
         → (end : Machine K V K × Progress (Node K V)) × FollowsBy (shown_in n.seat.now.view.looks) plan out end
         × (n.seat.now.view ≡ called c.seat.now.view map machine end n.seat.now.view.looks) × MayFollow (shown_in n.seat.now.view.looks) plan out
+        × MayCome plan end × HandsBack c.seat.now.view.calls end.1
     told_so op out n made =
         subst (λ (o : Option (Map S)). told_by same hash c.seat.now.view o (Calls machine) op out n.seat.now.view) knows
         (subst (λ (k : Work K V S). told_by same hash c.seat.now.view c.seat.now.view.map k op out n.seat.now.view) works made.told)
@@ -56,7 +57,7 @@ module _ {K V S : Type 0} (same : K → K → Bool) (hash : S → K → ℕ) (c 
     -- in incremental mode it shows what the step looks at
     pub told_shown : is_incremental map.setting.mode ≡ true → (op : Op (Node K V)) (out : Out (Node K V)) (n : Within K V S) → HasMade same hash c op out n
         → (end : Machine K V K × Progress (Node K V)) × FollowsBy (shown_of n) plan out end × (n.seat.now.view ≡ called c.seat.now.view map machine end n.seat.now.view.looks)
-        × MayFollow (shown_of n) plan out
+        × MayFollow (shown_of n) plan out × MayCome plan end × HandsBack c.seat.now.view.calls end.1
     told_shown incremental op out n made =
         let t = told_so op out n made in
         let shows : n.seat.now.view.held ≡ n.seat.now.view.looks = ap (λ (v : View K V S). v.held) t.2 ∙ ap (λ (k : Bool). if k then n.seat.now.view.looks else []) incremental in (
@@ -64,4 +65,6 @@ module _ {K V S : Type 0} (same : K → K → Bool) (hash : S → K → ℕ) (c 
           subst (λ (l : List (ℕ × Node K V)). FollowsBy (shown_in l) plan out t.0) (sym shows) t.1,
           t.2,
           subst (λ (l : List (ℕ × Node K V)). MayFollow (shown_in l) plan out) (sym shows) t.3,
+          t.4,
+          t.5,
         )

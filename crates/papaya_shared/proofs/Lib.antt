@@ -5,6 +5,7 @@ mod Quiet
 mod Asking
 mod Calls
 mod Calling
+mod Handing
 mod Lookups
 mod Makings
 mod Beginnings

@@ -1,12 +1,16 @@
 -- What the calls of a seat have told, from step to step.
-use Rattle.std.specs.Prelude.{List, [], ◌∷◌}
+use Rattle.std.specs.Prelude.{List, [], ◌∷◌, Option, Some, Result, Ok, Err, IfErr}
 use Rattle.std.proofs.Common.{◌≡◌, ℕ, Bool, refl, ap, ◌∙◌}
-use Rattle.papaya_views.specs.Given.ActsActs.{Wanted}
+use Rattle.papaya_views.specs.Given.ActsActs.{Wanted, Insert}
+use Rattle.papaya_views.specs.Given.SeizeWordsDeclared.fault.Fault.{Fault}
+use Rattle.papaya_views.specs.Given.RawDeclared.machines.progress.Answer.{Answer}
 use Rattle.papaya_views.specs.Given.RawDeclared.machines.progress.Progress.{Progress}
 use Rattle.papaya_views.specs.Given.TablesDeclared.node.Node.{Node}
-use Rattle.papaya_views.specs.Told.{newest_told}
+use Rattle.papaya_views.specs.Given.TablesDeclared.node.Node.TheVariants.{Pair}
+use Rattle.papaya_views.specs.Told.{newest_told, pair_in}
 use Rattle.papaya_views.specs.declared.view.Run.{Run}
 use Rattle.papaya_views.specs.declared.view.View.{View}
+use Rattle.papaya_shared.specs.Calling.{ComesBack}
 use Rattle.papaya_shared.specs.Looking.{Begins, HasRun, HasTold, IsOfThem}
 
 retold : {K V : Type 0} (told before : Progress (Node K V)) (runs : List (Run K V)) → newest_told told (newest_told before runs) ≡ newest_told told runs
@@ -27,3 +31,14 @@ module _ {K V S : Type 0} where
       → HasRun same hash wanted told u w
   has_run same hash wanted told u v w begins has =
       (begins.0, begins.1, begins.2, begins.3, has ∙ ap (λ (x : View K V S). newest_told told x.calls) begins.4)
+
+  -- a call that was to store a pair began with it
+  pub stores_it : (same : K → K → Bool) (hash : S → K → ℕ) (key : K) (value : V) (u v : View K V S) → Begins same hash (Insert key value) u v → pair_in v.calls ≡ Some (Pair key value)
+  stores_it same hash key value u v begins = ap (λ (x : View K V S). pair_in x.calls) begins.4
+
+  -- so that is what has come back
+  pub comes_back : (same : K → K → Bool) (hash : S → K → ℕ) (key : K) (value : V) (told : Result Answer Fault) (back : Option (Node K V)) (u v : View K V S)
+      → Begins same hash (Insert key value) u v → (pair_in v.calls ≡ Some (Pair key value) → IfErr told (λ fault. back ≡ Some (Pair key value)))
+      → ComesBack (Insert key value) told back
+  comes_back same hash key value (Ok answer) back u v begins is = tt
+  comes_back same hash key value (Err fault) back u v begins is = λ pair wanted. is (stores_it same hash key value u v begins) ∙ wanted

@@ -1,8 +1,9 @@
 -- What a seat knows while a call on one key that asks nothing is under way, and once it has ended.
-use Rattle.std.specs.Prelude.{◌≡◌, ℕ, Bool, true, false, Some, Result, Ok, Err}
+use Rattle.std.specs.Prelude.{◌≡◌, ◌<◌, ◌^◌, ℕ, Bool, true, false, Option, Some, None, Result, Ok, Err, IfErr}
 use Rattle.papaya_views.specs.Given.SeizeWordsDeclared.fault.Fault.{Fault}
 use Rattle.papaya_views.specs.Given.TablesChunks.{is_incremental}
 use Rattle.papaya_views.specs.Given.TablesDeclared.node.Node.{Node}
+use Rattle.papaya_views.specs.Given.TablesDeclared.node.Node.TheVariants.{Pair}
 use Rattle.papaya_views.specs.Given.TablesDeclared.setting.Setting.{Setting}
 use Rattle.papaya_views.specs.Given.RawDeclared.machines.answer.There.{There}
 use Rattle.papaya_views.specs.Given.RawDeclared.machines.answer.There.TheVariants as there
@@ -18,7 +19,7 @@ use Rattle.papaya_views.specs.Given.RawDeclared.machines.progress.Answer.{Answer
 use Rattle.papaya_views.specs.Given.RawDeclared.machines.progress.Answer.TheVariants.{Key as OfKey}
 use Rattle.papaya_views.specs.Given.RawDeclared.machines.progress.Progress.{Progress}
 use Rattle.papaya_views.specs.Given.RawDeclared.machines.progress.Progress.TheVariants as progress
-use Rattle.papaya_views.specs.Given.ActsActs.{Wanted, Insert}
+use Rattle.papaya_views.specs.Given.ActsActs.{Wanted, Insert, TryToInsert}
 use Rattle.papaya_views.specs.Given.SeizeViewsDeclared.view.Has.TheVariants.{Nothing as NoBlock}
 use Rattle.papaya_views.specs.Given.SeizeViewsDeclared.view.View.TheVariants.{Inside}
 use Rattle.papaya_views.specs.declared.view.Map.{Map}
@@ -50,6 +51,35 @@ pub record AsksNothing {K V Q : Type 0} (c : KeyCall K V Q) : Type 0 where
 abbrev pub CallAsksNothing : {K V Q : Type 0} → Machine K V Q → Type 0
 CallAsksNothing (Key c) = AsksNothing c
 CallAsksNothing _ = ⊥
+
+-- it puts its pair where the key is, or leaves the one that is there
+abbrev pub PutsOrLeaves : There → Type 0
+PutsOrLeaves there.Puts = Unit {0}
+PutsOrLeaves there.Answers = Unit {0}
+PutsOrLeaves _ = ⊥
+
+-- a call that is to store this pair, and has taken no step yet
+pub record IsToStore {K V Q : Type 0} (pair : Node K V) (c : KeyCall K V Q) : Type 0 where
+  pub here : c.stands ≡ at.Makes
+  pub unmade : c.unmade ≡ Some pair
+  pub absent : c.missing ≡ missing.Puts
+  pub present : PutsOrLeaves c.there
+  pub none : c.own ≡ 0
+  pub word : c.hash < 2 ^ 64
+
+abbrev pub MachineStores : {K V Q : Type 0} → Node K V → Machine K V Q → Type 0
+MachineStores pair (Key c) = IsToStore pair c
+MachineStores pair _ = ⊥
+
+-- the pair that is to be stored, if one is
+abbrev pub pair_wanted : {K V : Type 0} → Wanted K V → Option (Node K V)
+pair_wanted (Insert key value) = Some (Pair key value)
+pair_wanted (TryToInsert key value) = Some (Pair key value)
+pair_wanted _ = None
+
+-- where a call was refused that was to store a pair, the pair has come back
+abbrev pub ComesBack : {K V : Type 0} → Wanted K V → Result Answer Fault → Option (Node K V) → Type 0
+ComesBack {K} {V} wanted answer back = IfErr answer (λ fault. (pair : Node K V) → pair_wanted wanted ≡ Some pair → back ≡ Some pair)
 
 -- what a call that has ended has told
 abbrev pub outcome_of : {T : Type 0} → Result Answer Fault → Progress T
@@ -101,7 +131,8 @@ module _ {K V S : Type 0} where
     pub word : hashed ≡ hash hasher key
 
   -- what a call has come to that wanted this
-  pub record HasCalled (same : K → K → Bool) (hash : S → K → ℕ) (wanted : Wanted K V) (answer : Result Answer Fault) (v w : View K V S) : Type 0 where
+  pub record HasCalled (same : K → K → Bool) (hash : S → K → ℕ) (wanted : Wanted K V) (answer : Result Answer Fault) (unstored : Option (Node K V)) (v w : View K V S) : Type 0 where
     pub free : w.work ≡ Nothing
     pub stays : StaysThere v w
     pub ran : HasRun same hash wanted (outcome_of answer) v w
+    pub back : ComesBack wanted answer unstored

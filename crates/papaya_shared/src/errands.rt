@@ -85,7 +85,7 @@ impl<'i, R: Wait, K: Eq + Hash + Drop, V: Drop, S: Hashes<K>> Errand<Node<K, V>,
 
     ghost asks = { λ i fixed v. MayCall S.hash i.hasher.now i.key i.setting i.hash v };
 
-    ghost did = { λ i fixed v answer w. HasCalled K.eq S.hash (Insert i.key i.value) answer.told v w };
+    ghost did = { λ i fixed v answer w. HasCalled K.eq S.hash (Insert i.key i.value) answer.told answer.unstored v w };
 
     fn run(
         self,

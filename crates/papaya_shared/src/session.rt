@@ -5,6 +5,7 @@ ghost use Rattle.papaya_shared.specs.Looking.{HasRun, IsLent, IsShown, found_of}
 ghost use Rattle.papaya_shared.specs.Standing.{known_by};
 ghost use Rattle.papaya_views.specs.Given.ActsActs.{Get, Insert};
 ghost use Rattle.papaya_views.specs.Given.TablesChunks.{is_incremental};
+ghost use Rattle.papaya_views.specs.Given.TablesDeclared.node.Node.TheVariants.{Pair};
 ghost use Rattle.papaya_views.specs.Given.TablesDeclared.resize_mode.ResizeMode.TheVariants.{Incremental};
 ghost use Rattle.papaya_views.specs.declared.view.Work.TheVariants.{Nothing as NoWork};
 ghost use Rattle.papaya_views.specs.Given.SeizeViewsDeclared.view.Has.TheVariants.{Nothing};
@@ -20,7 +21,7 @@ use papaya_tables::{Counter, Hashes, Node, ResizeMode, Setting};
 use papaya_views::OfMaps;
 use seize_blocks::Blocks;
 use seize_views::Fixed;
-use seize_words::{Fault, Link};
+use seize_words::{Fault, Link, Refused};
 use std::hash::Hash;
 use std::sync::Wait;
 
@@ -56,11 +57,15 @@ fn is_replaced(answer: &Answer) -> bool
     matches!(answer, Answer::Key(KeyAnswer::Replaced { .. }))
 }
 
-/// The key and the value of a pair that was not stored.
-fn pair_of<K: Drop, V: Drop>(unstored: Option<Node<K, V>>) -> Option<(K, V)> {
+/// A call was refused so, and its pair has come back.
+fn refused<K: Drop, V: Drop>(fault: Fault, unstored: Option<Node<K, V>>) -> Refused<K, V>
+    requires back { (key : K) × (value : V) × (unstored ≡ Some (Pair key value)) }
+    ensures fault { result.fault ≡ fault }
+    ensures back { unstored ≡ Some (Pair result.key result.value) }
+{
     match unstored {
-        Some(Node::Pair(key, value)) => Some((key, value)),
-        _ => None,
+        Some(Node::Pair(key, value)) => Refused { fault, key, value },
+        _ => unreachable!(),
     }
 }
 
@@ -204,17 +209,13 @@ impl<'a, K: Eq + Hash, V, S: Hashes<K>> Session<'a, K, V, S> {
 
 impl<'a, K: Eq + Hash + Drop, V: Drop, S: Hashes<K>> Session<'a, K, V, S> {
     /// Stores a pair within the section of its slot, in the place of one of an equal key, if there is one, and answers whether one was replaced. The faults are `Memory`
-    /// and `Capacity`; the pair that was not stored comes back then.
-    pub fn insert<R: Wait>(
-        &mut self,
-        rt: &R,
-        key: K,
-        value: V,
-    ) -> Result<bool, (Fault, Option<(K, V)>)>
+    /// and `Capacity`; the pair comes back then.
+    pub fn insert<R: Wait>(&mut self, rt: &R, key: K, value: V) -> Result<bool, Refused<K, V>>
         requires inside { self.old.caller.seat.view.slot ≡ Inside self.old.slot Nothing }
         ensures inside { self.new.caller.seat.view.slot ≡ Inside self.new.slot Nothing }
         ensures stored { IfOk result (λ replaced. HasStored K.eq S.hash key value replaced self.old.caller.seat.view self.new.caller.seat.view) }
-        ensures refused { IfErr result (λ refused. HasRun K.eq S.hash (Insert key value) (outcome_of (Err refused.0)) self.old.caller.seat.view self.new.caller.seat.view) }
+        ensures refused { IfErr result (λ refused. HasRun K.eq S.hash (Insert key value) (outcome_of (Err refused.fault)) self.old.caller.seat.view self.new.caller.seat.view) }
+        ensures back { IfErr result (λ refused. (refused.key ≡ key) × (refused.value ≡ value)) }
         ensures map { self.new.caller.seat.view.map ≡ self.old.caller.seat.view.map }
         ensures blocks { self.new.caller.blocks ≡ self.old.caller.blocks }
     {
@@ -230,7 +231,7 @@ impl<'a, K: Eq + Hash + Drop, V: Drop, S: Hashes<K>> Session<'a, K, V, S> {
         } = ran;
         match told {
             Ok(answer) => Ok(is_replaced(&answer)),
-            Err(fault) => Err((fault, pair_of(unstored))),
+            Err(fault) => Err(refused(fault, unstored)),
         }
     }
 }

@@ -5,6 +5,7 @@ ghost use Rattle.papaya_shared.specs.Given.SeizeViewsDeclared.view.View.TheVaria
 use papaya_shared::{Fixed, Session, memory_for};
 use seize_words::Fault;
 use std::hash::{BuildHasherDefault, DefaultHasher};
+use std::sync::Wait;
 use std::test::Fail;
 use std::thread;
 
@@ -17,7 +18,7 @@ const CHOSEN: Fixed = Fixed {
 type Hashing = BuildHasherDefault<DefaultHasher>;
 
 /// Whether a session finds a key, in a section of a slot that it takes, and gives up then.
-fn finds(rt: &HostRuntime, session: Session<'_, u64, u64, Hashing>, key: u64) -> Option<bool>
+fn finds<R: Wait>(rt: &R, session: Session<'_, u64, u64, Hashing>, key: u64) -> Option<bool>
     requires { session.caller.seat.view.slot ≡ Rests }
 {
     let mut session = session;

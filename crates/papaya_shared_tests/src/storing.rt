@@ -5,6 +5,7 @@ ghost use Rattle.papaya_shared.specs.Given.SeizeViewsDeclared.view.View.TheVaria
 
 use papaya_shared::{Fixed, Session, memory_for};
 use std::hash::{BuildHasherDefault, DefaultHasher};
+use std::sync::Wait;
 use std::test::Fail;
 use std::thread;
 
@@ -20,7 +21,7 @@ const EACH: u64 = 400;
 type Hashing = BuildHasherDefault<DefaultHasher>;
 
 /// Stores so many keys from this one on, each with its double, and answers how many of them have replaced a pair, if none was refused.
-fn stores(rt: &HostRuntime, session: &mut Session<'_, u64, u64, Hashing>, from: u64) -> Option<u64>
+fn stores<R: Wait>(rt: &R, session: &mut Session<'_, u64, u64, Hashing>, from: u64) -> Option<u64>
     requires { session.old.caller.seat.view.slot ≡ Inside session.old.slot Nothing }
     ensures { session.new.caller.seat.view.slot ≡ Inside session.new.slot Nothing }
 {
@@ -38,7 +39,7 @@ fn stores(rt: &HostRuntime, session: &mut Session<'_, u64, u64, Hashing>, from: 
 }
 
 /// Whether it finds this key with its double.
-fn has(rt: &HostRuntime, session: &mut Session<'_, u64, u64, Hashing>, key: u64) -> bool
+fn has<R: Wait>(rt: &R, session: &mut Session<'_, u64, u64, Hashing>, key: u64) -> bool
     requires { session.old.caller.seat.view.slot ≡ Inside session.old.slot Nothing }
     ensures { session.new.caller.seat.view.slot ≡ Inside session.new.slot Nothing }
 {
@@ -49,7 +50,7 @@ fn has(rt: &HostRuntime, session: &mut Session<'_, u64, u64, Hashing>, key: u64)
 }
 
 /// How many of so many keys from this one on it finds with their doubles.
-fn counts(rt: &HostRuntime, session: &mut Session<'_, u64, u64, Hashing>, from: u64) -> u64
+fn counts<R: Wait>(rt: &R, session: &mut Session<'_, u64, u64, Hashing>, from: u64) -> u64
     requires { session.old.caller.seat.view.slot ≡ Inside session.old.slot Nothing }
     ensures { session.new.caller.seat.view.slot ≡ Inside session.new.slot Nothing }
 {
@@ -63,7 +64,7 @@ fn counts(rt: &HostRuntime, session: &mut Session<'_, u64, u64, Hashing>, from: 
 }
 
 /// Stores so many keys from this one on, in a section of a slot that it takes, and answers how many have replaced a pair, and how many it finds then.
-fn works(rt: &HostRuntime, session: Session<'_, u64, u64, Hashing>, from: u64) -> Option<(u64, u64)>
+fn works<R: Wait>(rt: &R, session: Session<'_, u64, u64, Hashing>, from: u64) -> Option<(u64, u64)>
     requires { session.caller.seat.view.slot ≡ Rests }
 {
     let mut session = session;

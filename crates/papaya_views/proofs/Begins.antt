@@ -25,9 +25,9 @@ use Rattle.seize_views.specs.declared.view.Has.TheVariants.{Nothing as NoBlock}
 use Rattle.seize_views.specs.declared.view.View.{View as SlotView}
 use Rattle.seize_views.specs.declared.view.View.TheVariants.{Inside}
 use Rattle.papaya_views.specs.Begun.{machine_for, calling, replied}
-use Rattle.papaya_views.specs.Told.{untold}
+use Rattle.papaya_views.specs.Told.{begun_with, pair_in, untold}
 use Rattle.papaya_views.specs.Promises.{CallsBegin, CallsAreTold}
-use Rattle.papaya_views.specs.Rule.{MapsWorld, HasRow, DoesSo, KnowsMap, Fits, Holds, KeepsFor, caller_at, place_of}
+use Rattle.papaya_views.specs.Rule.{MapsWorld, HasRow, DoesSo, KnowsMap, KnowsPair, Fits, Holds, KeepsFor, caller_at, pair_of, place_of}
 use Rattle.papaya_views.specs.declared.view.Map.{Map}
 use Rattle.papaya_views.specs.declared.view.Run.{Run}
 use Rattle.papaya_views.specs.declared.view.View.{View}
@@ -37,6 +37,7 @@ use Rattle.papaya_views.proofs.Knows.{knows_inside}
 use Rattle.papaya_views.proofs.Leaves.{Leaves, leaves_all, inside_of, own_idle, map_on, call_here}
 use Rattle.papaya_views.proofs.Moved.{scene_of, are_so, Moved, same_slot, moved}
 use Rattle.papaya_views.proofs.Numbers.{slot_at}
+use Rattle.papaya_views.proofs.Pairs.{begun_pair, told_pair}
 use Rattle.papaya_views.proofs.UnderWay.{called_at, does as way_does, slot_is as way_slot, on_row as way_on}
 
 -- but for a counting
@@ -83,8 +84,8 @@ module _ {K V S : Type 0} (same : K → K → Bool) (hash : S → K → ℕ) (fi
     leaves : Leaves same hash fixed.batch_size scene n i None
     leaves = leaves_all same hash fixed.batch_size scene map.number i (Some u)
 
-    go : (runs : List (Run K V)) → Moved same hash fixed s h id s.memory (w runs) n
-    go runs = record {
+    go : (runs : List (Run K V)) → pair_of u ≡ pair_in runs → Moved same hash fixed s h id s.memory (w runs) n
+    go runs pair = record {
       memory = (are_so same hash fixed s h).memory;
       own = record {
         slot = fits.slot;
@@ -93,6 +94,9 @@ module _ {K V S : Type 0} (same : K → K → Bool) (hash : S → K → ℕ) (fi
             (subst (λ (x : Option (Map S)). DoesSo same hash n i (Inside t NoBlock) x (Calls machine)) (sym knows) its_does);
         map = map_on same hash scene n id place fits.slot fixed.batch_size None leaves v.map fits.map;
         held = tt;
+        pair =
+            subst (λ (x : Option (Map S)). KnowsPair same hash n i x (Calls machine) runs) (sym knows)
+            (λ x here. ap pair_of (same_some x u (sym here ∙ call_here scene.calls map.number i (Some u))) ∙ pair);
         idle = own_idle same hash scene n id place fits.slot fixed.batch_size None leaves fits.idle;
       };
       place = place;
@@ -154,7 +158,8 @@ module _ {K V S : Type 0} (same : K → K → Bool) (hash : S → K → ℕ) (fi
     begins : Goes (Holds same hash fixed) KeepsFor s s.memory id (λ x. x ≡ calling v (machine_for same hash map t wanted))
     begins =
         moved same hash fixed s h id v at_id (BeginsCall i map.number wanted) may (n t slot_is (begun same slot_of led.0 i wanted) (machine_for same hash map t wanted) machine_is on_row) led.3 s.memory
-        (calling v (machine_for same hash map t wanted)) (go t slot_is (begun same slot_of led.0 i wanted) (machine_for same hash map t wanted) machine_is on_row (record { began = machine_for same hash map t wanted; told = untold } ∷ v.calls))
+        (calling v (machine_for same hash map t wanted)) (go t slot_is (begun same slot_of led.0 i wanted) (machine_for same hash map t wanted) machine_is on_row (record { began = machine_for same hash map t wanted; told = untold } ∷ v.calls)
+        (begun_pair same slot_of led.0 i wanted ∙ ap begun_with machine_is))
         (λ x. x ≡ calling v (machine_for same hash map t wanted)) refl
 
   -- its call is told this
@@ -173,12 +178,19 @@ module _ {K V S : Type 0} (same : K → K → Bool) (hash : S → K → ℕ) (fi
         ∙ ap (λ (x : UnderWay K V K). (machine_replied (machine_of x) reply).0) (same_some told_led.2 call.call (sym told_led.4 ∙ call.here))
         ∙ ap (λ (x : Machine K V K). (machine_replied x reply).0) call.is
 
+    its_pair : pair_of told_led.3 ≡ pair_in v.calls
+    its_pair =
+        let knows_pair =
+        subst (λ (x : Work K V S). KnowsPair same hash scene i (Some map) x v.calls) works
+        (subst (λ (x : Option (Map S)). KnowsPair same hash scene i x v.work v.calls) knows fits.pair) in
+        told_pair same fixed.batch_size fixed.roots slot_of told_led.0 i told_led.2 reply told_led.3 told_led.7.0 ∙ knows_pair told_led.2 told_led.4
+
     tells : Goes (Holds same hash fixed) KeepsFor s s.memory id (λ x. x ≡ replied v machine reply)
     tells =
         let is = way_slot same hash fixed s h id v at_id map machine knows works in
         let on = way_on same hash fixed s h id v at_id map machine knows works in
         moved same hash fixed s h id v at_id (TellsCall i map.number reply) told_may (n place is told_led.3 (machine_replied machine reply).0 reply_is on) told_led.8 s.memory
-        (replied v machine reply) (go place is told_led.3 (machine_replied machine reply).0 reply_is on v.calls) (λ x. x ≡ replied v machine reply) refl
+        (replied v machine reply) (go place is told_led.3 (machine_replied machine reply).0 reply_is on v.calls its_pair) (λ x. x ≡ replied v machine reply) refl
 
 module _ {K S : Type 0} (V : Type 0) (same : K → K → Bool) (hash : S → K → ℕ) where
   pub calls_begin : CallsBegin V same hash

@@ -11,7 +11,7 @@ use Rattle.papaya_views.specs.declared.view.Map.{Map}
 use Rattle.papaya_views.specs.declared.view.Work.{Work}
 use Rattle.papaya_views.specs.declared.view.Work.TheVariants.{Calls}
 use Rattle.papaya_views.proofs.Looked.{may_op, may_turn}
-use Rattle.papaya_views.proofs.UnderWay.{scene, so, step_plan, may, goes}
+use Rattle.papaya_views.proofs.UnderWay.{scene, so, step_plan, may, goes, hands}
 
 module _ {K S : Type 0} (V : Type 0) (same : K → K → Bool) (hash : S → K → ℕ) where
   pub calls_go_on : CallsGoOn V same hash
@@ -24,7 +24,14 @@ module _ {K S : Type 0} (V : Type 0) (same : K → K → Bool) (hash : S → K �
             let made = step.1 out m2 (subst (λ (m : Mem (Node K V)). Took m op out m2) is took) in
             goes same hash fixed s h id v at_id map machine knows works m2 made.end made.steps made.looks made.seen (told same hash v op out)
             (subst (λ (k : Work K V S). told_by same hash v v.map k op out (called v map machine made.end made.looks)) (sym works)
-            (subst (λ (o : Option (Map S)). told_by same hash v o (Calls machine) op out (called v map machine made.end made.looks)) (sym knows) (made.end, made.follows, refl, made.may))),
+            (subst (λ (o : Option (Map S)). told_by same hash v o (Calls machine) op out (called v map machine made.end made.looks)) (sym knows) (
+              made.end,
+              made.follows,
+              refl,
+              made.may,
+              ((scene same hash fixed s h id v at_id map machine knows works).world.memory, m2, made.steps),
+              hands same hash fixed s h id v at_id map machine knows works m2 made.end made.steps made.looks made.seen,
+            ))),
       )
 
   pub calls_turn : CallsTurn V same hash
@@ -36,4 +43,4 @@ module _ {K S : Type 0} (V : Type 0) (same : K → K → Bool) (hash : S → K �
       subst (λ (x : Mem (Node K V)). Goes (Holds same hash fixed) KeepsFor s x id (turned same hash v)) (sym is)
       (goes same hash fixed s h id v at_id map machine knows works m step.0 step.1 step.2 step.3 (turned same hash v)
       (subst (λ (k : Work K V S). turned_by same hash v v.map k (called v map machine step.0 step.2)) (sym works)
-      (subst (λ (o : Option (Map S)). turned_by same hash v o (Calls machine) (called v map machine step.0 step.2)) (sym knows) (step.0, step.4, refl))))
+      (subst (λ (o : Option (Map S)). turned_by same hash v o (Calls machine) (called v map machine step.0 step.2)) (sym knows) (step.0, step.4, refl, (m, m, step.1), hands same hash fixed s h id v at_id map machine knows works m step.0 step.1 step.2 step.3))))

@@ -10,7 +10,7 @@ use Rattle.seize_views.specs.declared.view.Fixed.{Fixed}
 use Rattle.seize_views.proofs.Lists.{there, elsewhere}
 use Rattle.papaya_views.specs.Begun.{shown_map}
 use Rattle.papaya_views.specs.Promises.{MapsAreHandedOn}
-use Rattle.papaya_views.specs.Rule.{MapsWorld, DoesSo, KnowsMap, Fits, Holds, caller_at, place_of}
+use Rattle.papaya_views.specs.Rule.{MapsWorld, DoesSo, KnowsMap, KnowsPair, Fits, Holds, caller_at, place_of}
 use Rattle.papaya_views.specs.declared.view.Map.{Map}
 use Rattle.papaya_views.specs.declared.view.View.{View}
 use Rattle.papaya_views.specs.declared.view.Work.{Work}
@@ -39,6 +39,7 @@ module _ {K V S : Type 0} (same : K → K → Bool) (hash : S → K → ℕ) (fi
             (subst (λ (x : Work K V S). DoesSo same hash scene (caller_at j (place_of u.slot)) u.slot u.map x) free f.does);
         map = subst (λ (x : Option (Map S)). KnowsMap same hash scene x) knows (h.so.seats i v at_i).map;
         held = f.held;
+        pair = subst (λ (x : Work K V S). KnowsPair same hash scene (caller_at j (place_of u.slot)) (Some map) x u.calls) (sym free) tt;
         idle = f.idle;
       }
 

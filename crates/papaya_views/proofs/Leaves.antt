@@ -17,8 +17,9 @@ use Rattle.seize_views.specs.declared.view.Has.{Has}
 use Rattle.seize_views.specs.declared.view.Has.TheVariants.{Nothing as NoBlock}
 use Rattle.seize_views.specs.declared.view.View.{View as SlotView}
 use Rattle.seize_views.specs.declared.view.View.TheVariants as slot_view
-use Rattle.papaya_views.specs.Rule.{IsIdle, IsUsedSo, IsSlot, DoesSo, KnowsMap, Fits, caller_at, place_of, IsInSection, IsOfCall, IsHeld, AllHeld}
+use Rattle.papaya_views.specs.Rule.{IsIdle, IsUsedSo, IsSlot, DoesSo, KnowsMap, KnowsPair, Fits, caller_at, place_of, IsInSection, IsOfCall, IsHeld, AllHeld}
 use Rattle.papaya_views.specs.declared.view.Map.{Map}
+use Rattle.papaya_views.specs.declared.view.Run.{Run}
 use Rattle.papaya_views.specs.declared.view.View.{View}
 use Rattle.papaya_views.specs.declared.view.Work.{Work}
 use Rattle.papaya_views.specs.declared.view.Work.TheVariants.{Nothing, Calls, Makes}
@@ -167,6 +168,12 @@ module _ {K V S : Type 0} (same : K → K → Bool) (hash : S → K → ℕ) whe
     map_on None f = tt
     map_on (Some map) f = let g = leaves.maps map.number f.0 f.1 in (g.0, g.1, g.2 ∙ f.2, g.3 ∙ f.3)
 
+    pair_on : (k : ℕ) → k ≢ i → (map : Option (Map S)) (work : Work K V S) (runs : List (Run K V)) → KnowsPair same hash s k map work runs → KnowsPair same hash next k map work runs
+    pair_on k ne map Nothing runs f = tt
+    pair_on k ne map (Makes m hasher opening) runs f = tt
+    pair_on k ne None (Calls p) runs f = tt
+    pair_on k ne (Some map) (Calls p) runs f = λ u is. f u (sym (leaves.calls map.number k ne) ∙ is)
+
     -- what is held for a caller
     module _ (k : ℕ) (ne : k ≢ i) (slot : SlotView (Node K V)) (apart : AreTheirs (use_of slot)) (inside : (a : ℕ) → slot ≡ slot_view.Inside a NoBlock → IsInside (s.world.uses a)) (work : Work K V S)
         (lasts : (b : ℕ) (x : Node K V) → value_at s.world.memory b ≡ Some x → IsOfCall same hash work b → value_at next.world.memory b ≡ Some x) where
@@ -190,6 +197,7 @@ module _ {K V S : Type 0} (same : K → K → Bool) (hash : S → K → ℕ) whe
       held =
           held_on (caller_at j (place_of v.slot)) (λ e. ne (seat_apart j id (place_of v.slot) t f.slot its_slot e)) v.slot apart (λ a is. inside_of s j a v NoBlock f is) v.work lasts v.held
           f.held;
+      pair = pair_on (caller_at j (place_of v.slot)) (λ e. ne (seat_apart j id (place_of v.slot) t f.slot its_slot e)) v.map v.work v.calls f.pair;
       idle = λ a is other. unborn_on j a ne is (f.idle a is other);
     }
 

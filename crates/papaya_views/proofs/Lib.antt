@@ -9,6 +9,7 @@ mod Whose
 mod Alone
 mod Sections
 mod Looked
+pub mod Pairs
 mod Settled
 mod RowLooks
 mod Starts

@@ -137,6 +137,7 @@ module _ {K V S : Type 0} (same : K → K → Bool) (hash : S → K → ℕ) (fi
         does = (rests, record { making = b; here = at_same scene.makers i (Some b) i refl; map = refl; hashes = refl; is = refl; calls = has_row.calls }, has_row.row);
         map = map_on same hash scene n id place fits.slot fixed.batch_size None leaves v.map fits.map;
         held = tt;
+        pair = tt;
         idle = own_idle same hash scene n id place fits.slot fixed.batch_size None leaves fits.idle;
       };
       place = place;
@@ -321,6 +322,7 @@ module _ {K V S : Type 0} (same : K → K → Bool) (hash : S → K → ℕ) (fi
             does = (does.0, record { making = next; here = at_same scene.makers i (Some next) i refl; map = its_map; hashes = its_hash; is = refl; calls = does.1.calls }, rows i ∙ does.2);
             map = map_still scene.maps (Some next) stand_on so.fresh.1.0 (λ e one. ap (λ (x : Beginning K). x.map) (sym (same_some next e one)));
             held = tt;
+            pair = tt;
             idle = its_idle scene.maps (Some next) stand_on so.fresh.1.0 (λ e one. ap (λ (x : Beginning K). x.map) (sym (same_some next e one)));
           })
           is
@@ -332,6 +334,7 @@ module _ {K V S : Type 0} (same : K → K → Bool) (hash : S → K → ℕ) (fi
             does = over scene.maps None stand_on so.fresh.1.0 (λ e one. absurd (cc one)) refl;
             map = map_still scene.maps None stand_on so.fresh.1.0 (λ e one. absurd (cc one));
             held = tt;
+            pair = tt;
             idle = its_idle scene.maps None stand_on so.fresh.1.0 (λ e one. absurd (cc one));
           })
           is
@@ -343,6 +346,7 @@ module _ {K V S : Type 0} (same : K → K → Bool) (hash : S → K → ℕ) (fi
             does = over (with_at scene.maps d.map (Some it)) None (λ a r here. stand_more it a r here (cases_eq a d.map)) (none_more it) (λ e one. absurd (cc one)) refl;
             map = (it, ap (with_at scene.maps d.map (Some it)) (sym its_map) ∙ at_same scene.maps d.map (Some it) d.map refl, is_made.setting_is, is_made.hash_is ∙ its_hash);
             held = tt;
+            pair = tt;
             idle = its_idle (with_at scene.maps d.map (Some it)) None (λ a r here. stand_more it a r here (cases_eq a d.map)) (none_more it) (λ e one. absurd (cc one));
           })
           is

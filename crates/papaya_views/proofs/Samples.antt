@@ -1,9 +1,11 @@
 -- What the first operation of a lookup tells its seat, on a map that has no table; and what the operation of a row does.
 use Rattle.std.specs.Prelude.{ℕ, ◌==◌, Bool, List, [], ◌∷◌, Some}
 use Rattle.std.proofs.Common.{inl, refl, ap}
+use Rattle.seize_words.specs.Mem.{Mem}
 use Rattle.seize_words.specs.Op.{Load, Store, Found, Stored}
 use Rattle.seize_words.specs.declared.at.At.TheVariants.{Root, Slot}
 use Rattle.papaya_tables.specs.declared.node.Node.{Node}
+use Rattle.papaya_tables.specs.declared.node.Node.TheVariants.{Pair}
 use Rattle.papaya_tables.specs.declared.resize_mode.ResizeMode.TheVariants.{Incremental}
 use Rattle.papaya_tables.specs.declared.setting.Setting.{Setting}
 use Rattle.papaya_raw.specs.declared.machines.machine.Machine.{Machine}
@@ -11,9 +13,9 @@ use Rattle.papaya_raw.specs.declared.machines.answer.KeyAnswer.{KeyAnswer}
 use Rattle.papaya_raw.specs.declared.machines.answer.KeyAnswer.TheVariants.{Absent, Found as FoundThere}
 use Rattle.papaya_raw.specs.declared.machines.progress.Answer.TheVariants.{Key}
 use Rattle.papaya_raw.specs.declared.machines.progress.Progress.{Progress}
-use Rattle.papaya_raw.specs.declared.machines.progress.Progress.TheVariants.{Done}
+use Rattle.papaya_raw.specs.declared.machines.progress.Progress.TheVariants.{Done, Unstored}
 use Rattle.papaya_tables.specs.Given.SeizeDeclared.states.TheConstants.{HEAD, ACTIVE}
-use Rattle.papaya_acts.specs.Acts.{Get}
+use Rattle.papaya_acts.specs.Acts.{Get, Insert}
 use Rattle.seize_views.specs.declared.view.Has.TheVariants.{Nothing as NoBlock}
 use Rattle.seize_views.specs.Promises.{IsNext}
 use Rattle.seize_views.specs.declared.view.Becomes.TheVariants.{Idle}
@@ -23,7 +25,7 @@ use Rattle.seize_views.specs.declared.view.View.TheVariants.{Outside, Enters, In
 use Rattle.papaya_views.specs.Begun.{machine_for, with_slot}
 use Rattle.papaya_views.specs.Notes.{notes_of}
 use Rattle.seize_views.specs.declared.view.Began.TheVariants.{NotYet, Section}
-use Rattle.papaya_views.specs.Told.{told, call_after, newest_told, untold}
+use Rattle.papaya_views.specs.Told.{HandsBack, told, call_after, newest_told, untold}
 use Rattle.papaya_views.specs.declared.view.Map.{Map}
 use Rattle.papaya_views.specs.declared.view.Run.{Run}
 use Rattle.papaya_views.specs.declared.view.View.{View}
@@ -59,9 +61,13 @@ with_work work = record { slot = Inside 0 NoBlock; map = Some map; work = work; 
 abbrev answered : KeyAnswer → View ℕ ℕ ℕ
 answered answer = record (with_work Nothing) { calls = ran (Done (Key answer)) }
 
+-- no root leads anywhere
+abbrev no_tables : Mem (Node ℕ ℕ)
+no_tables = record { roots = 0 ∷ 0 ∷ 0 ∷ 0 ∷ []; used = []; slots = []; blocks = []; choices = [] }
+
 -- the root leads nowhere: the call has ended, and has answered that the key is not there
 ends : told same hash (with_work (Calls machine)) (Load (Root 3)) (Found 0) (answered Absent)
-ends = (_, refl, refl, tt)
+ends = (_, refl, refl, tt, (no_tables, no_tables, (Found 0, (refl, refl), refl)), tt)
 
 -- and not that it is
 not_found : told same hash (with_work (Calls machine)) (Load (Root 3)) (Found 0) (answered (FoundThere 8)) → ⊥
@@ -73,6 +79,13 @@ not_on : (told same hash (with_work (Calls machine)) (Load (Root 3)) (Found 0) (
 not_on (end, follows, is, may) =
     let work = ap (λ (v : View ℕ ℕ ℕ). v.work) is in
     let then = ap (λ (e : Machine ℕ ℕ ℕ × Progress (Node ℕ ℕ)). call_after {S = ℕ} e.0 e.1) follows in cc (work, then)
+
+-- a call that has begun to store a pair hands that one back, and no other one
+abbrev stores : List (Run ℕ ℕ)
+stores = record { began = machine_for same hash map 0 (Insert 5 7); told = untold } ∷ []
+
+hands_no_other : HandsBack stores (Unstored (Pair 5 8)) → ⊥
+hands_no_other hands = let is = hands (Pair 5 7) refl in cc is
 
 -- while it is under way no row begins, and once it has ended the section may end
 none_begins : (u : SlotView (Node ℕ ℕ)) → IsNext chosen (notes_of (with_work (Calls machine))).knows u → ⊥

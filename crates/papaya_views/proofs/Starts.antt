@@ -51,6 +51,7 @@ module _ {K S : Type 0} (V : Type 0) (same : K → K → Bool) (hash : S → K �
         does = record { row = first.row; slot = tt; calls = first.calls; makers = first.makers; enders = first.enders };
         map = tt;
         held = tt;
+        pair = tt;
         idle = λ t is ne. idle t is;
       }
 

@@ -46,20 +46,21 @@ use Rattle.seize_views.specs.declared.view.Fixed.{Fixed}
 use Rattle.seize_views.specs.declared.view.Has.TheVariants.{Nothing as NoBlock}
 use Rattle.seize_views.specs.declared.view.View.{View as SlotView}
 use Rattle.seize_views.specs.declared.view.View.TheVariants as slot_view
-use Rattle.papaya_views.specs.Rule.{MapsWorld, DoesSo, KnowsMap, Fits, AreSo, Holds, KeepsFor, caller_at, place_of, IsInSection, IsOfCall, AllHeld}
+use Rattle.papaya_views.specs.Rule.{MapsWorld, DoesSo, KnowsMap, KnowsPair, Fits, AreSo, Holds, KeepsFor, caller_at, place_of, IsInSection, IsOfCall, AllHeld}
 use Rattle.papaya_views.specs.Reclaims.{IsNextOf, copies_at_row, disposes_at_row, calls_at_row, reserves_at_row, sweeps_at_row, is_at_row}
-use Rattle.papaya_views.specs.Told.{call_after, called}
+use Rattle.papaya_views.specs.Told.{HandsBack, call_after, called, newest_told}
 use Rattle.papaya_views.specs.declared.view.Map.{Map}
 use Rattle.papaya_views.specs.declared.view.View.{View}
 use Rattle.papaya_views.specs.declared.view.Work.{Work}
 use Rattle.papaya_views.specs.declared.view.Work.TheVariants.{Calls}
 use Rattle.papaya_views.proofs.Knows.{knows_inside}
-use Rattle.papaya_views.proofs.Leaves.{Leaves, inside_of, own_idle, map_on}
+use Rattle.papaya_views.proofs.Leaves.{Leaves, call_here, inside_of, own_idle, map_on}
 use Rattle.papaya_views.proofs.Moved.{scene_of, all_stand, are_so, Moved, same_slot, moved}
 use Rattle.papaya_views.proofs.Next.{after, step_leaves, step_fresh, own_does}
 use Rattle.papaya_views.proofs.Looked.{AllLooked}
 use Rattle.papaya_views.proofs.RowLooks.{row_sees}
 use Rattle.papaya_views.proofs.Numbers.{slot_at}
+use Rattle.papaya_views.proofs.Pairs.{newest_pair, step_hands, step_pair}
 use Rattle.papaya_views.proofs.Quiet.{none_over}
 
 -- a pair is known by what it is
@@ -250,6 +251,25 @@ module _ {K V S : Type 0} (same : K → K → Bool) (hash : S → K → ℕ) (fi
         looked_held incremental looks (subst (λ (e : Machine K V K × Progress (Node K V)). AllLooked scene.world.memory step_plan m2 e looks) end_is seen)
     held_then false incremental = tt
 
+    knows_pair : KnowsPair same hash scene i (Some map) (Calls machine) v.calls
+    knows_pair =
+        subst (λ (x : Work K V S). KnowsPair same hash scene i (Some map) x v.calls) works
+        (subst (λ (x : Option (Map S)). KnowsPair same hash scene i x v.work v.calls) knows fits.pair)
+
+    -- the call that goes on was begun with the pair that it was begun with
+    pair_then : (told : Progress (Node K V)) → KnowsPair same hash n i (Some map) (call_after came.machine told) (newest_told came.progress v.calls)
+    pair_then (progress.Done answer) = tt
+    pair_then (progress.Refused fault) = tt
+    pair_then _ = λ x here.
+        step_pair same fixed.batch_size fixed.roots scene map.number came.standing i came.call came.memory came.machine came.progress came.did x
+        (sym (call_here scene.calls map.number i came.did.next) ∙ here) ∙ knows_pair came.call came.here ∙ sym (newest_pair came.progress v.calls)
+
+    -- and it is what is handed back
+    pub hands : HandsBack v.calls end.1
+    hands =
+        subst (λ (e : Machine K V K × Progress (Node K V)). HandsBack v.calls e.1) (sym end_is)
+        (step_hands same fixed.batch_size fixed.roots scene map.number came.standing i came.call came.memory came.machine came.progress came.did v.calls (knows_pair came.call came.here))
+
     own : Fits same hash n id w
     own = record {
       slot = fits.slot;
@@ -260,6 +280,7 @@ module _ {K V S : Type 0} (same : K → K → Bool) (hash : S → K → ℕ) (fi
           came.did map refl came.progress came.did.goes_on));
       map = map_on same hash scene n id place fits.slot fixed.batch_size None leaves v.map fits.map;
       held = held_then (is_incremental map.setting.mode) refl;
+      pair = subst (λ (x : Option (Map S)). KnowsPair same hash n i x (call_after came.machine came.progress) (newest_told came.progress v.calls)) (sym knows) (pair_then came.progress);
       idle = own_idle same hash scene n id place fits.slot fixed.batch_size None leaves fits.idle;
     }
 

@@ -32,5 +32,6 @@ pub use Rattle.papaya_raw.specs.Answers as RawAnswers
 pub use Rattle.papaya_raw.specs.Call as RawCall
 pub use Rattle.papaya_raw.specs.CallPoints as RawCallPoints
 pub use Rattle.papaya_raw.specs.Machine as RawMachine
+pub use Rattle.papaya_raw.specs.Progress as RawProgress
 pub use Rattle.papaya_raw.specs.declared as RawDeclared
 pub use Rattle.papaya_acts.specs.Acts as ActsActs

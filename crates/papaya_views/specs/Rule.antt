@@ -9,7 +9,8 @@ use Rattle.papaya_tables.specs.declared.node.Node.{Node}
 use Rattle.papaya_resize.specs.declared.new_map.NewMap.{NewMap}
 use Rattle.papaya_raw.specs.declared.machines.machine.Machine.{Machine}
 use Rattle.papaya_looks.specs.Given.CallersRows.{IsUsedAlike, IsRowOn}
-use Rattle.papaya_looks.specs.Given.CallersTogether.{UnderWay}
+use Rattle.papaya_acts.specs.Given.CallersPairs.{Given, Begun, IsTold}
+use Rattle.papaya_looks.specs.Given.CallersTogether.{UnderWay, OnKey}
 use Rattle.papaya_looks.specs.Given.FinishesMachines.{machine_of}
 use Rattle.papaya_looks.specs.Given.FinishesMakings.{Beginning}
 use Rattle.papaya_looks.specs.Given.FinishesMaps.{Standing}
@@ -27,7 +28,9 @@ use Rattle.seize_views.specs.declared.view.Has.TheVariants.{Nothing as NoBlock}
 use Rattle.seize_views.specs.declared.view.View.{View as SlotView}
 use Rattle.seize_views.specs.declared.view.View.TheVariants as slot_view
 use Rattle.papaya_views.specs.Reclaims.{IsNextOf}
+use Rattle.papaya_views.specs.Told.{pair_in}
 use Rattle.papaya_views.specs.declared.view.Map.{Map}
+use Rattle.papaya_views.specs.declared.view.Run.{Run}
 use Rattle.papaya_views.specs.declared.view.View.{View}
 use Rattle.papaya_views.specs.declared.view.Work.{Work}
 use Rattle.papaya_views.specs.declared.view.Work.TheVariants.{Nothing, Calls, Makes}
@@ -92,6 +95,15 @@ module _ {K V : Type 0} where
     pub makers : s.makers i ≡ None
     pub enders : s.enders i ≡ None
 
+  -- the pair that a call under way was begun with, if with one
+  abbrev pub given_pair : Given K V → Option (Node K V)
+  given_pair (Begun kind pair) = pair
+  given_pair (IsTold kind its asked) = None
+
+  abbrev pub pair_of : UnderWay K V K → Option (Node K V)
+  pair_of (OnKey u) = given_pair u.pair
+  pair_of u = None
+
   -- no map has this number or a later one, nor one that is being made
   abbrev pub IsFresh : Scene K V → ℕ → Type 0
   IsFresh s k = ((m : ℕ) → k ≤ m → s.maps m ≡ None) × ((i : ℕ) (b : Beginning K) → s.makers i ≡ Some b → b.map < k)
@@ -117,6 +129,13 @@ module _ {K V S : Type 0} (same : K → K → Bool) (hash : S → K → ℕ) whe
   KnowsMap s None = Unit {0}
   KnowsMap s (Some map) = (it : Standing K) × (s.maps map.number ≡ Some it) × (it.setting ≡ map.setting) × (it.hash ≡ hash map.hasher)
 
+  -- the call that is under way was begun with the pair with which the newest of these began
+  abbrev pub KnowsPair : Scene K V → ℕ → Option (Map S) → Work K V S → List (Run K V) → Type 0
+  KnowsPair s i map Nothing runs = Unit {0}
+  KnowsPair s i map (Makes m hasher opening) runs = Unit {0}
+  KnowsPair s i None (Calls machine) runs = Unit {0}
+  KnowsPair s i (Some map) (Calls machine) runs = (u : UnderWay K V K) → s.calls map.number i ≡ Some u → pair_of u ≡ pair_in runs
+
   -- the section of the slot holds the block, which is not over
   abbrev pub IsInSection : Scene K V → SlotView (Node K V) → ℕ → Type 0
   IsInSection s slot b = (t : ℕ) × (slot ≡ slot_view.Inside t NoBlock) × (holds t b s.world.log ≡ true) × (is_over b s.world.log ≡ false)
@@ -140,6 +159,7 @@ module _ {K V S : Type 0} (same : K → K → Bool) (hash : S → K → ℕ) whe
     pub does : DoesSo s (caller_at j (place_of v.slot)) v.slot v.map v.work
     pub map : KnowsMap s v.map
     pub held : AllHeld s v.slot v.work v.held
+    pub pair : KnowsPair s (caller_at j (place_of v.slot)) v.map v.work v.calls
     pub idle : (t : ℕ) → IsSlot t → t ≢ place_of v.slot → IsIdle s (caller_at j t)
 
   -- the scene is as the seats know it, and its memory is this one

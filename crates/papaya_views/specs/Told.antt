@@ -1,6 +1,8 @@
 -- What the answer of an operation tells its seat: how far what it has under way has come, and at which blocks the step looks.
 use Rattle.std.specs.Prelude.{◌≡◌, ℕ, Bool, List, [], ◌∷◌, Option, Some, None, if◌then◌else◌}
+use Rattle.seize_words.specs.Mem.{Mem, Took, value_at}
 use Rattle.seize_words.specs.Op.{Op, Out}
+use Rattle.seize_words.specs.Plan.{Plan, Steps}
 use Rattle.papaya_tables.specs.Given.SeizeDeclared.progress.Progress.{Progress as Told}
 use Rattle.papaya_tables.specs.Given.SeizeDeclared.progress.Progress.TheVariants as told_as
 use Rattle.papaya_tables.specs.Chunks.{is_incremental}
@@ -11,6 +13,7 @@ use Rattle.papaya_resize.specs.NewMap.{new_map_plan}
 use Rattle.papaya_resize.specs.declared.new_map.NewMap.{NewMap}
 use Rattle.papaya_raw.specs.Machine.{machine_plan}
 use Rattle.papaya_raw.specs.declared.machines.machine.Machine.{Machine}
+use Rattle.papaya_raw.specs.declared.machines.machine.Machine.TheVariants as kinds
 use Rattle.papaya_raw.specs.declared.machines.progress.Progress.{Progress}
 use Rattle.papaya_raw.specs.declared.machines.progress.Progress.TheVariants as progress
 use Rattle.seize_views.specs.Told.{FollowsBy, told as row_told}
@@ -22,11 +25,30 @@ use Rattle.papaya_views.specs.declared.view.View.{View}
 use Rattle.papaya_views.specs.declared.view.Work.{Work}
 use Rattle.papaya_views.specs.declared.view.Work.TheVariants.{Nothing, Calls, Makes}
 
+-- the step comes to this outcome in some memory
+abbrev pub MayCome : {T R : Type 0} → Plan T R → R → Type 0
+MayCome {T} plan end = (m n : Mem T) × Steps Took value_at m plan n end
+
 -- a call that has taken no step has told nothing
 abbrev pub untold : {T : Type 0} → Progress T
 untold = progress.Goes
 
 module _ {K V : Type 0} where
+  -- the pair that a call began with, if it began with one
+  abbrev pub begun_with : Machine K V K → Option (Node K V)
+  begun_with (kinds.Key call) = call.unmade
+  begun_with _ = None
+
+  -- that of the newest call of a seat
+  abbrev pub pair_in : List (Run K V) → Option (Node K V)
+  pair_in [] = None
+  pair_in (run ∷ before) = begun_with run.began
+
+  -- what a call hands back that it has not stored is the pair that it began with, if it began with one
+  abbrev pub HandsBack : List (Run K V) → Progress (Node K V) → Type 0
+  HandsBack runs (progress.Unstored value) = (pair : Node K V) → pair_in runs ≡ Some pair → value ≡ pair
+  HandsBack runs told = Unit {0}
+
   -- the calls of a seat, where the newest one has told this last
   abbrev pub newest_told : Progress (Node K V) → List (Run K V) → List (Run K V)
   newest_told told [] = []
@@ -61,6 +83,7 @@ module _ {K V S : Type 0} (same : K → K → Bool) (hash : S → K → ℕ) whe
   told_by v (Some map) (Calls machine) op out w =
       (end : Machine K V K × Progress (Node K V)) × FollowsBy (shown_in w.looks) (machine_plan same same (hash map.hasher) machine) out end
       × (w ≡ called v map machine end w.looks) × MayFollow (shown_in w.looks) (machine_plan same same (hash map.hasher) machine) out
+      × MayCome (machine_plan same same (hash map.hasher) machine) end × HandsBack v.calls end.1
   told_by v None (Calls machine) op out w = ⊥
   told_by v map (Makes m hasher opening) op out w =
       (end : NewMap × Told Setting) × FollowsBy (shown_in w.looks) (new_map_plan opening) out end × (w ≡ made_after v m hasher w.looks end.0 end.1)
@@ -72,6 +95,7 @@ module _ {K V S : Type 0} (same : K → K → Bool) (hash : S → K → ℕ) whe
   abbrev pub turned_by : View K V S → Option (Map S) → Work K V S → View K V S → Type 0
   turned_by v (Some map) (Calls machine) w =
       (end : Machine K V K × Progress (Node K V)) × TurnsTo (shown_in w.looks) (machine_plan same same (hash map.hasher) machine) end × (w ≡ called v map machine end w.looks)
+      × MayCome (machine_plan same same (hash map.hasher) machine) end × HandsBack v.calls end.1
   turned_by v map work w = ⊥
 
   abbrev pub turned : View K V S → View K V S → Type 0

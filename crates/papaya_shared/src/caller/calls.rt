@@ -58,7 +58,7 @@ impl<'a, K: Eq + Hash + Drop, V: Drop, S: Hashes<K>> Caller<'a, K, V, S> {
         value: V,
     ) -> Ran<K, V>
         requires may { MayCall S.hash hasher.now key setting hash self.old.seat.view }
-        ensures called { HasCalled K.eq S.hash (Insert key value) result.told self.old.seat.view self.new.seat.view }
+        ensures called { HasCalled K.eq S.hash (Insert key value) result.told result.unstored self.old.seat.view self.new.seat.view }
         ensures blocks { self.new.blocks ≡ self.old.blocks }
     {
         let ran = self.blocks.errand(

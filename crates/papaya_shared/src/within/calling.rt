@@ -1,10 +1,13 @@
 //! A seat on an errand runs a call on one key that asks nothing.
-ghost use Rattle.std.specs.Prelude.{◌≡◌, ℕ, true, false, Some};
+ghost use Rattle.std.specs.Prelude.{◌≡◌, ℕ, true, false, Some, IfErr};
 ghost use Rattle.papaya_views.specs.Given.ActsActs.{Insert};
-ghost use Rattle.papaya_shared.specs.Calling.{CalledSo, HasCalled, HasEnded, IsCalling, MayCall};
+ghost use Rattle.papaya_shared.specs.Calling.{CalledSo, HasCalled, HasEnded, IsCalling, MachineStores, MayCall};
 ghost use Rattle.papaya_shared.specs.Looking.{Begins, HasTold, StaysThere};
 ghost use Rattle.papaya_shared.specs.Made.{IsSameSeat};
 ghost use Rattle.papaya_views.specs.Given.TablesChunks.{is_incremental};
+ghost use Rattle.papaya_views.specs.Given.RawMachine.{machine_plan};
+ghost use Rattle.papaya_views.specs.Given.TablesDeclared.node.Node.{Node};
+ghost use Rattle.papaya_views.specs.Told.{HandsBack, MayCome, pair_in};
 ghost use Rattle.papaya_views.specs.declared.view.Map.{Map};
 ghost use Rattle.papaya_views.specs.declared.view.Work.TheVariants.{Nothing as NoWork};
 ghost use Rattle.papaya_views.specs.Given.SeizeViewsDeclared.view.Has.TheVariants.{Nothing};
@@ -44,6 +47,8 @@ impl<'a, K: Eq + Hash + Drop, V: Drop, S: Hashes<K>> Within<'a, K, V, S> {
         requires calls { IsCalling hasher.now machine.old self.old.seat.now.view }
         ensures told { CalledSo hasher.now machine.new result self.new.seat.now.view }
         ensures calls { HasTold result self.old.seat.now.view self.new.seat.now.view }
+        ensures step { MayCome (machine_plan K.eq K.eq (S.hash hasher.now) machine.old) (machine.new, result) }
+        ensures hands { HandsBack self.old.seat.now.view.calls result }
         ensures stays { StaysThere self.old.seat.now.view self.new.seat.now.view }
         ensures same { IsSameSeat self.old self.new }
     {
@@ -58,7 +63,8 @@ impl<'a, K: Eq + Hash + Drop, V: Drop, S: Hashes<K>> Within<'a, K, V, S> {
 
     /// What its call has come to.
     fn ran(&self, told: Result<Answer, Fault>, unstored: Option<Node<K, V>>) -> Ran<K, V>
-        ensures { result.told ≡ told }
+        ensures told { result.told ≡ told }
+        ensures unstored { result.unstored ≡ unstored }
     {
         Ran {
             told,
@@ -71,6 +77,7 @@ impl<'a, K: Eq + Hash + Drop, V: Drop, S: Hashes<K>> Within<'a, K, V, S> {
     fn runs<R: Wait>(&mut self, rt: &R, hasher: &S, machine: Machine<K, V>) -> Ran<K, V>
         requires calls { IsCalling hasher.now machine self.old.seat.now.view }
         ensures ended { HasEnded result.told self.old.seat.now.view self.new.seat.now.view }
+        ensures back { (pair : Node K V) → MachineStores pair machine → pair_in self.old.seat.now.view.calls ≡ Some pair → IfErr result.told (λ fault. result.unstored ≡ Some pair) }
         ensures stays { StaysThere self.old.seat.now.view self.new.seat.now.view }
         ensures same { IsSameSeat self.old self.new }
     {
@@ -122,7 +129,7 @@ impl<'a, K: Eq + Hash + Drop, V: Drop, S: Hashes<K>> Within<'a, K, V, S> {
         value: V,
     ) -> Ran<K, V>
         requires may { MayCall S.hash hasher.now key setting hash self.old.seat.now.view }
-        ensures called { HasCalled K.eq S.hash (Insert key value) result.told self.old.seat.now.view self.new.seat.now.view }
+        ensures called { HasCalled K.eq S.hash (Insert key value) result.told result.unstored self.old.seat.now.view self.new.seat.now.view }
         ensures same { IsSameSeat self.old self.new }
     {
         self.begins_to_insert(&key, &value);

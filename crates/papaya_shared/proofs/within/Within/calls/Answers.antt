@@ -1,4 +1,5 @@
 use Rattle.std.proofs.Common.{◌≡◌, true, false, sym, subst, ◌∙◌}
+use Rattle.papaya_views.specs.Told.{HandsBack}
 use Rattle.papaya_views.specs.declared.view.View.{View}
 use Rattle.seize_callers.proofs.Keeping.{still_kept}
 use Rattle.papaya_shared.specs.Calling.{IsCalling}
@@ -24,6 +25,19 @@ returns-then-self-clause-calls g c =
     subst (λ (v : View g.row.K.Denot g.row.V.Denot g.row.S.Denot). HasTold c.step.result v c.step.new.memory.seat.now.view) c.begins_step.ensures.view
     (has_made g.K.PartialEq.eq g.S.Hashes.hash c.args.hasher.now c.begins_step.new.self c.args.machine.now calls c.step.new.memory (c.step.new.self, c.step.result)
     c.begins_step.ensures.none c.step.ensures c.if-self.true).calls
+
+pub returns-then-self-clause-step : goal.returns-then-self-clause-step
+returns-then-self-clause-step g c =
+    let calls = subst (IsCalling c.args.hasher.now c.args.machine.now) (sym c.begins_step.ensures.view) c.requires.calls in
+    (has_made g.K.PartialEq.eq g.S.Hashes.hash c.args.hasher.now c.begins_step.new.self c.args.machine.now calls c.step.new.memory (c.step.new.self, c.step.result)
+    c.begins_step.ensures.none c.step.ensures c.if-self.true).step
+
+pub returns-then-self-clause-hands : goal.returns-then-self-clause-hands
+returns-then-self-clause-hands g c =
+    let calls = subst (IsCalling c.args.hasher.now c.args.machine.now) (sym c.begins_step.ensures.view) c.requires.calls in
+    subst (λ (v : View g.row.K.Denot g.row.V.Denot g.row.S.Denot). HandsBack v.calls c.step.result) c.begins_step.ensures.view
+    (has_made g.K.PartialEq.eq g.S.Hashes.hash c.args.hasher.now c.begins_step.new.self c.args.machine.now calls c.step.new.memory (c.step.new.self, c.step.result)
+    c.begins_step.ensures.none c.step.ensures c.if-self.true).hands
 
 pub returns-then-self-clause-stays : goal.returns-then-self-clause-stays
 returns-then-self-clause-stays g c =
@@ -60,6 +74,19 @@ returns-clause-calls g c =
     subst (λ (v : View g.row.K.Denot g.row.V.Denot g.row.S.Denot). HasTold c.step.result v c.turn.new.seat.view) c.begins_step.ensures.view
     (has_turned g.K.PartialEq.eq g.S.Hashes.hash c.args.hasher.now c.begins_step.new.self c.args.machine.now calls c.step.new.memory (c.step.new.self, c.step.result)
     c.begins_step.ensures.none c.step.ensures c.if-self.false c.turn.new.seat.view c.turn.ensures.goes).2
+
+pub returns-clause-step : goal.returns-clause-step
+returns-clause-step g c =
+    let calls = subst (IsCalling c.args.hasher.now c.args.machine.now) (sym c.begins_step.ensures.view) c.requires.calls in
+    (has_turned g.K.PartialEq.eq g.S.Hashes.hash c.args.hasher.now c.begins_step.new.self c.args.machine.now calls c.step.new.memory (c.step.new.self, c.step.result)
+    c.begins_step.ensures.none c.step.ensures c.if-self.false c.turn.new.seat.view c.turn.ensures.goes).3
+
+pub returns-clause-hands : goal.returns-clause-hands
+returns-clause-hands g c =
+    let calls = subst (IsCalling c.args.hasher.now c.args.machine.now) (sym c.begins_step.ensures.view) c.requires.calls in
+    subst (λ (v : View g.row.K.Denot g.row.V.Denot g.row.S.Denot). HandsBack v.calls c.step.result) c.begins_step.ensures.view
+    (has_turned g.K.PartialEq.eq g.S.Hashes.hash c.args.hasher.now c.begins_step.new.self c.args.machine.now calls c.step.new.memory (c.step.new.self, c.step.result)
+    c.begins_step.ensures.none c.step.ensures c.if-self.false c.turn.new.seat.view c.turn.ensures.goes).4
 
 pub returns-clause-stays : goal.returns-clause-stays
 returns-clause-stays g c =
