@@ -84,11 +84,7 @@ impl<'m, K: Eq + Hash + Drop, V: Drop, S: Hashes<K>> Session<'m, K, V, S> {
         ensures refused { IfErr result (λ r. HasRun K.eq S.hash (Insert key value) (outcome_of (Err r.fault)) (known self.old) (known self.new)) }
         ensures back { IfErr result (λ r. (r.key ≡ key) × (r.value ≡ value)) }
     {
-        match self.base.insert(rt, key, value) {
-            Ok(replaced) => Ok(replaced),
-            Err((fault, Some((key, value)))) => Err(Refused { fault, key, value }),
-            Err((_, None)) => unreachable!(),
-        }
+        self.base.insert(rt, key, value)
     }
 }
 
