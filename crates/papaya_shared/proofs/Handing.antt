@@ -1,8 +1,9 @@
 -- A call that is to store a pair has it, until it has put it into the map, or hands it back: where it is refused, the pair has come back.
-use Rattle.std.specs.Prelude.{◌^◌, ◌<◌, Option, Some, None}
-use Rattle.std.proofs.Common.{◌≡◌, ℕ, Bool, List, ◌⊎◌, inl, inr, sym, subst, ap}
+use Rattle.std.specs.Prelude.{◌^◌, ◌<◌, Option, Some, None, Result, Ok, Err, IfErr}
+use Rattle.std.proofs.Common.{◌≡◌, ℕ, Bool, List, ◌⊎◌, inl, inr, sym, subst, ap, ◌∙◌}
 use Rattle.seize_words.specs.Mem.{Mem, Took, value_at}
 use Rattle.papaya_views.specs.Given.SeizeWordsPlan.{Plan, Turn, Do, Steps, plan_as}
+use Rattle.papaya_views.specs.Given.SeizeWordsDeclared.fault.Fault.{Fault}
 use Rattle.papaya_views.specs.Given.TablesDeclared.node.Node.{Node}
 use Rattle.papaya_views.specs.Given.RawCall.{call_plan}
 use Rattle.papaya_views.specs.Given.RawMachine.{machine_plan, called as as_machine}
@@ -12,6 +13,7 @@ use Rattle.papaya_views.specs.Given.RawDeclared.machines.call.KeyCall.{KeyCall}
 use Rattle.papaya_views.specs.Given.RawDeclared.machines.call.Calling.{Calling}
 use Rattle.papaya_views.specs.Given.RawDeclared.machines.machine.Machine.{Machine}
 use Rattle.papaya_views.specs.Given.RawDeclared.machines.machine.Machine.TheVariants as kinds
+use Rattle.papaya_views.specs.Given.RawDeclared.machines.progress.Answer.{Answer}
 use Rattle.papaya_views.specs.Given.RawDeclared.machines.progress.Progress.{Progress}
 use Rattle.papaya_views.specs.Given.RawDeclared.machines.progress.Progress.TheVariants as progress
 use Rattle.papaya_views.specs.Given.RawProgress.{of_called}
@@ -19,7 +21,7 @@ use Rattle.papaya_views.specs.Told.{HandsBack, MayCome, pair_in}
 use Rattle.papaya_views.specs.declared.view.Run.{Run}
 use Rattle.papaya_owned.proofs.Owned.ComesBack.{TellsEnd, over_tells}
 use Rattle.papaya_owned.proofs.Owned.HandsBack.{HasPair, HasPairAt, IsOver, KeepsPair, pair_kept}
-use Rattle.papaya_shared.specs.Calling.{IsToStore, MachineStores}
+use Rattle.papaya_shared.specs.Calling.{IsToStore, MachineStores, outcome_of}
 use Rattle.papaya_shared.proofs.Plans.{ends_as}
 
 -- a step whose outcome is turned into another one comes to what that is of
@@ -99,6 +101,13 @@ module _ {K V : Type 0} where
     own = λ e. let none = is.none in absurd (cc (e, none));
     pair = subst (λ (s : Calling). HasPairAt c s) (sym is.here) (λ e. let some = is.unmade in absurd (cc (e, some)), is.word);
   }
+
+  -- where the call was refused that was to store it, it has come back
+  pub back_at_last : (pair : Node K V) (machine : Machine K V K) (unstored back : Option (Node K V)) (told : Progress (Node K V)) (answer so : Result Answer Fault) → told ≡ outcome_of answer
+      → HasNext pair machine unstored told → so ≡ answer → back ≡ unstored → IfErr so (λ fault. back ≡ Some pair)
+  back_at_last pair machine unstored back told (Ok answer) so is has same kept = subst (λ (r : Result Answer Fault). IfErr r (λ fault. back ≡ Some pair)) (sym same) tt
+  back_at_last pair machine unstored back told (Err fault) so is has same kept =
+      subst (λ (r : Result Answer Fault). IfErr r (λ fault. back ≡ Some pair)) (sym same) (kept ∙ subst (λ (t : Progress (Node K V)). HasNext pair machine unstored t) is has)
 
   pub has_it : (pair : Node K V) (machine : Machine K V K) (back : Option (Node K V)) → MachineStores pair machine → StillHas pair machine back
   has_it pair (kinds.Key c) back is = inr (has_first pair c is)

@@ -1,16 +1,19 @@
 -- What the calls of a seat have told, from step to step.
 use Rattle.std.specs.Prelude.{List, [], ◌∷◌, Option, Some, Result, Ok, Err, IfErr}
-use Rattle.std.proofs.Common.{◌≡◌, ℕ, Bool, refl, ap, ◌∙◌}
+use Rattle.std.proofs.Common.{◌≡◌, ℕ, Bool, refl, sym, subst, ap, ◌∙◌}
 use Rattle.papaya_views.specs.Given.ActsActs.{Wanted, Insert}
 use Rattle.papaya_views.specs.Given.SeizeWordsDeclared.fault.Fault.{Fault}
 use Rattle.papaya_views.specs.Given.RawDeclared.machines.progress.Answer.{Answer}
+use Rattle.papaya_views.specs.Given.RawDeclared.machines.machine.Machine.{Machine}
 use Rattle.papaya_views.specs.Given.RawDeclared.machines.progress.Progress.{Progress}
 use Rattle.papaya_views.specs.Given.TablesDeclared.node.Node.{Node}
 use Rattle.papaya_views.specs.Given.TablesDeclared.node.Node.TheVariants.{Pair}
-use Rattle.papaya_views.specs.Told.{newest_told, pair_in}
+use Rattle.papaya_views.specs.Told.{newest_told, pair_in, untold}
 use Rattle.papaya_views.specs.declared.view.Run.{Run}
 use Rattle.papaya_views.specs.declared.view.View.{View}
-use Rattle.papaya_shared.specs.Calling.{ComesBack}
+use Rattle.papaya_views.specs.declared.view.Work.TheVariants.{Nothing}
+use Rattle.papaya_views.proofs.Pairs.{newest_pair}
+use Rattle.papaya_shared.specs.Calling.{CalledSo, ComesBack, HasEnded, outcome_of}
 use Rattle.papaya_shared.specs.Looking.{Begins, HasRun, HasTold, IsOfThem}
 
 retold : {K V : Type 0} (told before : Progress (Node K V)) (runs : List (Run K V)) → newest_told told (newest_told before runs) ≡ newest_told told runs
@@ -42,3 +45,21 @@ module _ {K V S : Type 0} where
       → ComesBack (Insert key value) told back
   comes_back same hash key value (Ok answer) back u v begins is = tt
   comes_back same hash key value (Err fault) back u v begins is = λ pair wanted. is (stores_it same hash key value u v begins) ∙ wanted
+
+  -- the pair that the newest call began with is the same, whatever that has told
+  pub same_pair : (u v : View K V S) → IsOfThem u v → pair_in v.calls ≡ pair_in u.calls
+  same_pair u v is = sym (newest_pair untold v.calls) ∙ ap pair_in (is untold) ∙ newest_pair untold u.calls
+
+  -- a call that has told its outcome has ended
+  free_then : (hasher : S) (machine : Machine K V K) (answer : Result Answer Fault) (w : View K V S) → CalledSo hasher machine (outcome_of answer) w → w.work ≡ Nothing
+  free_then hasher machine (Ok answer) w is = is
+  free_then hasher machine (Err fault) w is = is
+
+  pub ended_so : (hasher : S) (machine : Machine K V K) (told : Progress (Node K V)) (answer so : Result Answer Fault) (u v w : View K V S) → told ≡ outcome_of answer → so ≡ answer
+      → CalledSo hasher machine told w → IsOfThem u v → HasTold told v w → HasEnded so u w
+  ended_so hasher machine told answer so u v w is same called them has =
+      subst (λ (r : Result Answer Fault). HasEnded r u w) (sym same)
+      (record {
+        free = free_then hasher machine answer w (subst (λ (t : Progress (Node K V)). CalledSo hasher machine t w) is called);
+        told = told_last u v w (outcome_of answer) them (subst (λ (t : Progress (Node K V)). HasTold t v w) is has);
+      })

@@ -52,7 +52,7 @@ module _ {K V : Type 0} where
   told_pair same batch_size roots slot s i (OnKey u) told next (inl (asks_at, about, at, asks, is)) = ap pair_of is ∙ told_given u.pair about told (replied u.call told).1
   told_pair same batch_size roots slot s i (OnKey u) told next (inr is) = ap pair_of is
   told_pair same batch_size roots slot s i (ForRoom r) told next is = ap pair_of is
-  told_pair same batch_size roots slot s i (Counting sum) told next is = ap pair_of is
+  told_pair same batch_size roots slot s i (Counts sum) told next is = ap pair_of is
   told_pair same batch_size roots slot s i (OverAll o) told next (inl (word, n, at, names, inl is)) = ap pair_of is.1
   told_pair same batch_size roots slot s i (OverAll o) told next (inl (word, n, at, names, inr is)) = ap pair_of is.1
   told_pair same batch_size roots slot s i (OverAll o) told next (inr is) = ap pair_of is
@@ -155,5 +155,5 @@ module _ {K V : Type 0} (same : K → K → Bool) (batch_size roots : ℕ) (s : 
       by (OnKey c) (p2, end, e, f, inl (to, moved)) is = told_so (of_called end) f (key_hands c.pair runs is end to.step.hands)
       by (OnKey c) (p2, end, e, f, inr (to, stayed)) is = told_so (of_called end) f (key_hands c.pair runs is end to.step.hands)
       by (ForRoom c) (p2, end, e, f, did) is = told_so (of_outcome end) f (room_hands runs end)
-      by (Counts c) (sum2, end, e, f, did) is = told_so (of_counting end) f (counting_hands runs end)
+      by (Counts c) (sum2, end, e, f, g, did) is = told_so (of_counting end) f (counting_hands runs end)
       by (OverAll c) (p2, end, e, f, did) is = told_so (of_swept end) f (over_hands runs end)

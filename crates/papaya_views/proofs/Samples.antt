@@ -25,7 +25,7 @@ use Rattle.seize_views.specs.declared.view.View.TheVariants.{Outside, Enters, In
 use Rattle.papaya_views.specs.Begun.{machine_for, with_slot}
 use Rattle.papaya_views.specs.Notes.{notes_of}
 use Rattle.seize_views.specs.declared.view.Began.TheVariants.{NotYet, Section}
-use Rattle.papaya_views.specs.Told.{HandsBack, told, call_after, newest_told, untold}
+use Rattle.papaya_views.specs.Told.{HandsBack, told, call_after, untold}
 use Rattle.papaya_views.specs.declared.view.Map.{Map}
 use Rattle.papaya_views.specs.declared.view.Run.{Run}
 use Rattle.papaya_views.specs.declared.view.View.{View}
@@ -70,13 +70,17 @@ ends : told same hash (with_work (Calls machine)) (Load (Root 3)) (Found 0) (ans
 ends = (_, refl, refl, tt, (no_tables, no_tables, (Found 0, (refl, refl), refl)), tt)
 
 -- and not that it is
+abbrev last_told : List (Run ℕ ℕ) → Progress (Node ℕ ℕ)
+last_told [] = untold
+last_told (run ∷ before) = run.told
+
 not_found : told same hash (with_work (Calls machine)) (Load (Root 3)) (Found 0) (answered (FoundThere 8)) → ⊥
-not_found (end, follows, is, may) =
-    let calls = ap (λ (v : View ℕ ℕ ℕ). v.calls) is in let told = ap (λ (e : Machine ℕ ℕ ℕ × Progress (Node ℕ ℕ)). newest_told e.1 (ran untold)) follows in cc (calls, told)
+not_found (end, follows, is, may, came, hands) =
+    let last = ap (λ (v : View ℕ ℕ ℕ). last_told v.calls) is in let told = ap (λ (e : Machine ℕ ℕ ℕ × Progress (Node ℕ ℕ)). e.1) follows in cc (last, told)
 
 -- and does not go on
 not_on : (told same hash (with_work (Calls machine)) (Load (Root 3)) (Found 0) (with_work (Calls machine))) → ⊥
-not_on (end, follows, is, may) =
+not_on (end, follows, is, may, came, hands) =
     let work = ap (λ (v : View ℕ ℕ ℕ). v.work) is in
     let then = ap (λ (e : Machine ℕ ℕ ℕ × Progress (Node ℕ ℕ)). call_after {S = ℕ} e.0 e.1) follows in cc (work, then)
 

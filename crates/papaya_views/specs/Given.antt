@@ -30,8 +30,11 @@ pub use Rattle.papaya_resize.specs.Sum as ResizeSum
 pub use Rattle.papaya_resize.specs.declared as ResizeDeclared
 pub use Rattle.papaya_raw.specs.Answers as RawAnswers
 pub use Rattle.papaya_raw.specs.Call as RawCall
+pub use Rattle.papaya_raw.specs.CallAsks as RawCallAsks
+pub use Rattle.papaya_raw.specs.CallFills as RawCallFills
 pub use Rattle.papaya_raw.specs.CallPoints as RawCallPoints
 pub use Rattle.papaya_raw.specs.Machine as RawMachine
 pub use Rattle.papaya_raw.specs.Progress as RawProgress
+pub use Rattle.papaya_raw.specs.Replies as RawReplies
 pub use Rattle.papaya_raw.specs.declared as RawDeclared
 pub use Rattle.papaya_acts.specs.Acts as ActsActs

@@ -2,7 +2,7 @@
 use Rattle.std.specs.Prelude.{◌==◌, Option, Some, None, IsSome, if◌then◌else◌}
 use Rattle.std.proofs.Common.{◌≡◌, ℕ, ◌<◌, Bool, true, false, refl, sym, subst, ap, ◌∙◌, eqb-true, inl, arith}
 use Rattle.seize_words.specs.Op.{Op, Out, Rewrite}
-use Rattle.seize_words.specs.Plan.{Plan, Turn, Do, May, Steps}
+use Rattle.seize_words.specs.Plan.{May, Steps}
 use Rattle.seize.specs.declared.rows.register.Registering.{Registering}
 use Rattle.seize.specs.declared.rows.register.Registering.TheVariants as registering_at
 use Rattle.seize.specs.declared.rows.register.Register.{Register}

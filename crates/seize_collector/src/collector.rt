@@ -5,6 +5,8 @@ ghost use Rattle.std.specs.Cmp.Rules.{comparing};
 ghost use Rattle.seize.specs.Collector.{made_by, root_of};
 ghost use Rattle.seize.specs.Given.SeizeWordsDeclared.fault.Fault.TheVariants.{Memory};
 ghost use Rattle.seize.specs.Ids.{given, following};
+ghost use Rattle.seize_seats.specs.Owned.{IsLike};
+ghost use Rattle.seize_renews.specs.Emptied.{IsEmptied};
 ghost use Rattle.seize_collector.specs.Made.{IsMade};
 
 use crate::shared::Shared;
@@ -145,9 +147,13 @@ impl<T: Defers + Drop, C: Content<T>, R: Receiver<T>> Collector<T, C, R> {
 
 impl<T: Defers + LeftOver + Drop, R: Receiver<T>> Collector<T, OfRows, R> {
     /// Reclaims everything that waits: nobody else has the collector meanwhile. A slot that somebody has forgotten leaves, each batch is flushed, and then every slot
-    /// is free. Values that are reclaimed are dropped. What stands at roots stays there.
+    /// is free. Values that are reclaimed are dropped. What stands at roots stays there. The same memory begins another lifetime: until it is lent again nothing
+    /// waits in it.
     pub fn reclaim_all(&mut self)
-        ensures { self.new.setting ≡ self.old.setting }
+        ensures setting { self.new.setting ≡ self.old.setting }
+        ensures fixed { self.new.home.blocks.words.fixed ≡ self.old.home.blocks.words.fixed }
+        ensures same { (self.new.home.blocks.words.words ≡ self.old.home.blocks.words.words) × IsLike self.new.home.blocks.words.id self.old.home.blocks.words.id }
+        ensures empty { IsEmptied T.defers self.new.home.blocks.words.fixed self.new.home.blocks.words.start }
     {
         let chosen = self.chosen();
         reclaim_all(&mut self.home, &chosen);

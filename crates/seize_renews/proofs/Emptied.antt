@@ -5,12 +5,12 @@ use Rattle.seize_words.specs.Mem.{Mem, word_at}
 use Rattle.seize_words.specs.declared.at.At.TheVariants.{Slot}
 use Rattle.seize.specs.declared.states.TheConstants.{HEAD, NEVER, FREE, LAST_SLOT}
 use Rattle.seize.specs.World.{World, Use}
-use Rattle.seize_alone.proofs.Given.SeizeSets.Turns.Heads.{WordOf, word_says}
+use Rattle.seize_alone.proofs.Given.SeizeSetsTurns.Heads.{WordOf, word_says}
 use Rattle.seize_quiet.specs.Slots.{IsQuiet}
 use Rattle.seize_quiet.proofs.Slots.Facts.{rested_by}
 use Rattle.seize_views.specs.Rows.{RootsNameLinked, Came}
 use Rattle.seize_views.specs.declared.view.Fixed.{Fixed}
-use Rattle.seize_renews.specs.Emptied.{AreFree, IsEmptied}
+use Rattle.seize_renews.specs.Emptied.{AreFree}
 use Rattle.seize_renews.specs.One.{OneEmpties}
 use Rattle.seize_renews.proofs.Ends.{over_is_quiet}
 use Rattle.seize_renews.proofs.Roots.{came_quiet}

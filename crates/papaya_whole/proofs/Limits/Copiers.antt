@@ -24,7 +24,7 @@ use Rattle.papaya_passes.specs.Given.RuleInWorld.{IsMapIn}
 use Rattle.papaya_passes.specs.Given.PointsFactsCopies.{CopyingFacts, CopierFacts}
 use Rattle.papaya_passes.specs.Given.PointsTold.{IsRowOfCopier}
 use Rattle.papaya_passes.specs.Given.LateEnds.{EndsSo, EndsInCopying}
-use Rattle.papaya_waits.proofs.Given.CallersGiven.Tables.Ends.{only_the_last_ends}
+use Rattle.papaya_tables.proofs.Ends.{only_the_last_ends}
 use Rattle.papaya_passes.proofs.Given.RuleSpared.{PlanSpares}
 use Rattle.papaya_passes.proofs.Given.RuleWords.TablesSeen.{len_is, turn_is}
 use Rattle.papaya_passes.proofs.Given.LateKindsKept.Rooms.Bound.{BoundCopying, Keeps}

@@ -20,9 +20,9 @@ used-requires-clause-ends g c =
 pub returns-clause-empty : goal.returns-clause-empty
 returns-clause-empty g c =
     let k = c.acts-seat.ensures.over in let f = c.args.fixed.now in let defers = g.T.Defers.defers in let left_over = g.T.LeftOver.left_over in
-    let id = c.acts-seat.result.id in let m = c.used-home.result.blocks.words.start in
+    let id = c.acts-seat.result.id in let m = c.used.result.blocks.words.start in
     let rests : Alone g.row.T.Denot → Type 0 = λ v. Unit {0} in
-    let there = subst (λ (x : Fixed). WasKnown rests (HoldsOne defers left_over x) id c.acts-seat.result.view m) c.alone-home.ensures.fixed c.used-home.ensures.start in
+    let there = subst (λ (x : Fixed). WasKnown rests (HoldsOne defers left_over x) id c.acts-seat.result.view m) c.alone-home.ensures.fixed c.used.ensures.start in
     let known = subst (λ (v : Alone g.row.T.Denot). WasKnown rests (HoldsOne defers left_over f) id v m) k.2.2 there in
     c.one_acts_alone.ensures.empties defers left_over f id k.0 k.2.0 k.2.1 m c.acts-seat.ensures.sized k.1 known
 
@@ -32,5 +32,5 @@ like_on x y z a b =
 
 pub returns-clause-same : goal.returns-clause-same
 returns-clause-same g c =
-    let a = c.used-home.ensures.same in let b = c.alone-home.ensures.same in
-    (a.0 ∙ b.0, like_on c.used-home.result.blocks.words.id c.alone-home.result.0.blocks.words.id c.args.home.blocks.words.id a.1 b.1)
+    let a = c.used.ensures.same in let b = c.alone-home.ensures.same in
+    (a.0 ∙ b.0, like_on c.used.result.blocks.words.id c.alone-home.result.0.blocks.words.id c.args.home.blocks.words.id a.1 b.1)
