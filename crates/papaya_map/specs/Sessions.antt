@@ -1,35 +1,31 @@
--- What a session knows of its map, and of the calls that it has made there.
+-- What a session has done on its map, by the caller that it has: this knows the map, and the calls that it has begun, the newest first, each with what it has told last.
 use Rattle.std.specs.Prelude.{◌≡◌, ℕ, Bool, true, false, Option, Some, None}
 use Rattle.papaya_shared.specs.Looking.{HasRun, IsLent, IsShown, found_of}
 use Rattle.papaya_shared.specs.Given.ActsActs.{Get}
-use Rattle.papaya_shared.specs.Given.ViewsDeclared.view.View.{View}
-use Rattle.papaya_shared.specs.declared.session.Session.{Session as Base}
-use Rattle.papaya_map.specs.declared.session.Session.{Session}
+use Rattle.papaya_shared.specs.declared.caller.Caller.{Caller}
 
 module _ {K V S : Type 0} where
-  -- what the seat knows by which it steps: the map, and the calls that it has begun, the newest first, each as it began, with what it has told last
-  abbrev pub knows : Base K V S → View K V S
-  knows b = b.caller.seat.view
+  -- it is on the same map, in the same memory
+  pub record IsOnSameMap (c n : Caller K V S) : Type 0 where
+    pub memory : n.blocks ≡ c.blocks
+    pub map : n.seat.view.map ≡ c.seat.view.map
 
-  abbrev pub known : Session K V S → View K V S
-  known s = knows s.base
-
-  -- it is a session on the same map, in the same memory
-  pub record IsOnSameMap (s n : Session K V S) : Type 0 where
-    pub memory : n.base.caller.blocks ≡ s.base.caller.blocks
-    pub map : (known n).map ≡ (known s).map
+  -- and has made no call more
+  pub record HasMadeNone (c n : Caller K V S) : Type 0 where
+    pub same : IsOnSameMap c n
+    pub calls : n.seat.view.calls ≡ c.seat.view.calls
 
 module _ {K V S : Type 0} (same : K → K → Bool) (hash : S → K → ℕ) (key : K) where
-  -- it has made one call more, which looks this key up, and was answered that it is not there, or which pair is
-  abbrev pub HasLookedUp : Option ℕ → Session K V S → Session K V S → Type 0
-  HasLookedUp found s n = HasRun same hash (Get key) (found_of found) (known s) (known n)
+  -- it has made one call more, which looks this key up, and was answered that it is not there, or which word links to its pair
+  abbrev pub HasLookedUp : Option ℕ → Caller K V S → Caller K V S → Type 0
+  HasLookedUp found c n = HasRun same hash (Get key) (found_of found) c.seat.view n.seat.view
 
   -- and lends the value of that pair, whose key is equal
-  abbrev pub HasGot : Option V → Session K V S → Session K V S → Type 0
-  HasGot None s n = HasLookedUp None s n
-  HasGot (Some value) s n = (word : ℕ) × HasLookedUp (Some word) s n × IsShown same key n.base.caller word × IsLent same hash n.base.caller word value
+  abbrev pub HasGot : Option V → Caller K V S → Caller K V S → Type 0
+  HasGot None c n = HasLookedUp None c n
+  HasGot (Some value) c n = (word : ℕ) × HasLookedUp (Some word) c n × IsShown same key n word × IsLent same hash n word value
 
   -- or says whether there is one
-  abbrev pub HasSought : Bool → Session K V S → Session K V S → Type 0
-  HasSought false s n = HasLookedUp None s n
-  HasSought true s n = (word : ℕ) × HasLookedUp (Some word) s n × IsShown same key n.base.caller word
+  abbrev pub HasSought : Bool → Caller K V S → Caller K V S → Type 0
+  HasSought false c n = HasLookedUp None c n
+  HasSought true c n = (word : ℕ) × HasLookedUp (Some word) c n × IsShown same key n word

@@ -1,6 +1,5 @@
 //! A hash map that threads share, as one has it who owns it.
 ghost use Rattle.std.specs.Prelude.{◌≡◌, ◌<◌, [], Some, Ok, true, IfOk, IfErr, MatchResult};
-ghost use Rattle.papaya_map.specs.Sessions.{known};
 ghost use Rattle.papaya_shared.specs.Given.CallersKept.{is_home};
 ghost use Rattle.papaya_shared.specs.Given.SeizeViewsDeclared.view.View.TheVariants.{Rests};
 ghost use Rattle.papaya_shared.specs.Given.TablesChunks.{is_incremental};
@@ -120,8 +119,8 @@ impl<K: Eq + Hash + Drop, V: Drop, S: Hashes<K>> HashMap<K, V, S> {
     /// Begins a session on the map, which may be sent to a thread, and from which others are made. The faults are `Fault::SlotsUsedUp` and `Fault::Memory`.
     pub fn session(&mut self) -> Result<Session<'_, K, V, S>, Fault>
         ensures memory { IfOk result (λ session. session.base.caller.blocks.now ≡ self.old.home.blocks) }
-        ensures map { IfOk result (λ session. (known session).map ≡ self.old.seat.view.map) }
-        ensures calls { IfOk result (λ session. (known session).calls ≡ []) }
+        ensures map { IfOk result (λ session. session.base.caller.seat.view.map ≡ self.old.seat.view.map) }
+        ensures none { IfOk result (λ session. session.base.caller.seat.view.calls ≡ []) }
     {
         let seat = newcomer(&self.home.blocks, &mut self.seat);
         let base = Base::of(&self.home.blocks, &self.hasher, self.setting, seat);

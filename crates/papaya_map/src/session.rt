@@ -1,7 +1,7 @@
 //! A map, as one of those has it who share it: with a slot of its own, within a section.
 ghost use Rattle.std.specs.Prelude.{◌≡◌, [], IfOk, IfErr, option_map};
 ghost use Rattle.std.specs.Borrow.{sem};
-ghost use Rattle.papaya_map.specs.Sessions.{HasGot, HasSought, IsOnSameMap, known, knows};
+ghost use Rattle.papaya_map.specs.Sessions.{HasGot, HasMadeNone, HasSought, IsOnSameMap};
 ghost use Rattle.papaya_shared.specs.Calling.{HasStored, outcome_of};
 ghost use Rattle.papaya_shared.specs.Given.ActsActs.{Insert};
 ghost use Rattle.papaya_shared.specs.Given.SeizeViewsDeclared.view.Has.TheVariants.{Nothing};
@@ -28,9 +28,7 @@ impl<'m, K: Eq + Hash + Drop, V: Drop, S: Hashes<K>> Session<'m, K, V, S> {
     /// Takes a slot, and opens a section of it. Without one there is no session.
     pub(crate) fn begin(base: Base<'m, K, V, S>) -> Result<Self, Fault>
         requires rests { base.caller.seat.view.slot ≡ Rests }
-        ensures memory { IfOk result (λ session. session.base.caller.blocks ≡ base.entry.caller.blocks) }
-        ensures map { IfOk result (λ session. (known session).map ≡ (knows base.entry).map) }
-        ensures calls { IfOk result (λ session. (known session).calls ≡ (knows base.entry).calls) }
+        ensures same { IfOk result (λ session. HasMadeNone base.entry.caller session.base.caller) }
     {
         let mut base = base;
         base.register()?;
@@ -40,10 +38,10 @@ impl<'m, K: Eq + Hash + Drop, V: Drop, S: Hashes<K>> Session<'m, K, V, S> {
 
     /// Begins one more session on the same map. The faults are `Fault::SlotsUsedUp` and `Fault::Memory`.
     pub fn another(&mut self) -> Result<Session<'m, K, V, S>, Fault>
-        ensures same { IsOnSameMap self.old self.new × ((known self.new).calls ≡ (known self.old).calls) }
+        ensures same { HasMadeNone self.old.base.caller self.new.base.caller }
         ensures memory { IfOk result (λ session. session.base.caller.blocks.now ≡ self.old.base.caller.blocks.now) }
-        ensures map { IfOk result (λ session. (known session).map ≡ (known self.old).map) }
-        ensures calls { IfOk result (λ session. (known session).calls ≡ []) }
+        ensures map { IfOk result (λ session. session.base.caller.seat.view.map ≡ self.old.base.caller.seat.view.map) }
+        ensures none { IfOk result (λ session. session.base.caller.seat.view.calls ≡ []) }
     {
         let base = self.base.session();
         Session::begin(base)
@@ -51,7 +49,7 @@ impl<'m, K: Eq + Hash + Drop, V: Drop, S: Hashes<K>> Session<'m, K, V, S> {
 
     /// Ends its section, and opens another one.
     pub fn refresh(&mut self)
-        ensures same { IsOnSameMap self.old self.new × ((known self.new).calls ≡ (known self.old).calls) }
+        ensures same { HasMadeNone self.old.base.caller self.new.base.caller }
     {
         self.base.leave();
         self.base.enter();
@@ -60,7 +58,7 @@ impl<'m, K: Eq + Hash + Drop, V: Drop, S: Hashes<K>> Session<'m, K, V, S> {
     /// Looks a key up, and lends the value of its pair, if the map has one, for as long as the session is borrowed, whoever replaces or removes it meanwhile. How many
     /// steps that takes is up to the others.
     pub fn get<R: Wait>(&mut self, rt: &R, key: &K) -> Option<&V>
-        ensures* got { sem 𝓛 (EndsSo self.entry (λ now. IsOnSameMap self.old now × HasGot K.eq S.hash key.now (option_map (λ value. value.now) result) self.old now)) }
+        ensures* got { sem 𝓛 (EndsSo K.row V.row S.row self.entry (λ now. IsOnSameMap self.old.base.caller now.base.caller × HasGot K.eq S.hash key.now (option_map (λ value. value.now) result) self.old.base.caller now.base.caller)) }
     {
         match self.base.find(rt, key) {
             Some(found) => Some(self.base.value(found)),
@@ -70,8 +68,8 @@ impl<'m, K: Eq + Hash + Drop, V: Drop, S: Hashes<K>> Session<'m, K, V, S> {
 
     /// Whether the map has a pair of this key.
     pub fn contains_key<R: Wait>(&mut self, rt: &R, key: &K) -> bool
-        ensures same { IsOnSameMap self.old self.new }
-        ensures sought { HasSought K.eq S.hash key.now result self.old self.new }
+        ensures same { IsOnSameMap self.old.base.caller self.new.base.caller }
+        ensures sought { HasSought K.eq S.hash key.now result self.old.base.caller self.new.base.caller }
     {
         self.base.find(rt, key).is_some()
     }
@@ -79,9 +77,9 @@ impl<'m, K: Eq + Hash + Drop, V: Drop, S: Hashes<K>> Session<'m, K, V, S> {
     /// Stores a pair, also in the place of one of an equal key, and answers whether one was replaced. The faults are `Fault::Capacity` and `Fault::Memory`; then the pair
     /// was not stored, and key and value come back.
     pub fn insert<R: Wait>(&mut self, rt: &R, key: K, value: V) -> Result<bool, Refused<K, V>>
-        ensures same { IsOnSameMap self.old self.new }
-        ensures stored { IfOk result (λ replaced. HasStored K.eq S.hash key value replaced (known self.old) (known self.new)) }
-        ensures refused { IfErr result (λ r. HasRun K.eq S.hash (Insert key value) (outcome_of (Err r.fault)) (known self.old) (known self.new)) }
+        ensures same { IsOnSameMap self.old.base.caller self.new.base.caller }
+        ensures stored { IfOk result (λ replaced. HasStored K.eq S.hash key value replaced self.old.base.caller.seat.view self.new.base.caller.seat.view) }
+        ensures refused { IfErr result (λ r. HasRun K.eq S.hash (Insert key value) (outcome_of (Err r.fault)) self.old.base.caller.seat.view self.new.base.caller.seat.view) }
         ensures back { IfErr result (λ r. (r.key ≡ key) × (r.value ≡ value)) }
     {
         self.base.insert(rt, key, value)
