@@ -1,8 +1,6 @@
 //! A seat that knows a map, apart from its memory, hands the map on to one more.
-ghost use Rattle.std.specs.Prelude.{◌≡◌, Some, true};
-ghost use Rattle.papaya_shared.specs.Making.{HandsOn};
-ghost use Rattle.papaya_views.specs.Rule.{at_rest};
-ghost use Rattle.papaya_views.specs.declared.view.Map.{Map};
+ghost use Rattle.std.specs.Prelude.{◌≡◌, IsSome, true};
+ghost use Rattle.papaya_shared.specs.Standing.{come_to, known_by};
 ghost use Rattle.seize_callers.specs.Kept.{is_home};
 
 use crate::turns::Showing;
@@ -17,11 +15,11 @@ pub fn newcomer<K: Eq, V, S: Hashes<K>>(
 ) -> Seat<Node<K, V>, OfMaps<S>>
     requires own { seat.old.base ≡ blocks.now.words.id.views_name }
     requires home { is_home seat.old.away ≡ true }
-    requires knows { (map : Map S) × (seat.old.view.map ≡ Some map) }
+    requires knows { IsSome (known_by seat.old.view) }
     ensures same { (seat.new.base ≡ seat.old.base) × (seat.new.view ≡ seat.old.view) × (seat.new.away ≡ seat.old.away) }
     ensures own { result.base ≡ blocks.now.words.id.views_name }
     ensures home { is_home result.away ≡ true }
-    ensures shown { HandsOn seat.old.view at_rest seat.new.view result.view }
+    ensures shown { result.view ≡ come_to seat.old.view.map }
 {
     let mut other = blocks.seat();
     blocks.meet::<Showing>(seat, &mut other);

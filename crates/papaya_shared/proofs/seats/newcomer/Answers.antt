@@ -1,9 +1,11 @@
-use Rattle.std.proofs.Common.{refl, ap, subst, sym, ◌∙◌}
+use Rattle.std.proofs.Common.{ap, subst, sym, ◌∙◌}
 use Rattle.papaya_views.proofs.Laws.{seats_come}
 use Rattle.papaya_views.specs.Begun.{shown_map}
 use Rattle.papaya_views.specs.Notes.{IsResting}
 use Rattle.papaya_views.specs.declared.view.View.{View}
 use Rattle.papaya_shared.proofs.Beginnings.{may_show}
+use Rattle.papaya_shared.proofs.Sessions.{known_some}
+use Rattle.papaya_shared.specs.Standing.{come_to}
 use Rattle.papaya_shared.proofs.seats.newcomer.Goals as goal
 
 pub seat-other-requires : goal.seat-other-requires
@@ -12,8 +14,9 @@ seat-other-requires g c = seats_come g.row.V.Denot g.K.PartialEq.eq g.S.Hashes.h
 pub meet-requires-clause-may : goal.meet-requires-clause-may
 meet-requires-clause-may g c =
     let x = c.args.seat.now in
-    may_show g.K.PartialEq.eq g.S.Hashes.hash c.args.blocks.now.words.fixed x.id x.view c.seat-other.result.id c.seat-other.result.view c.requires.knows.0
-    c.requires.knows.1 (ap (λ (v : View g.row.K.Denot g.row.V.Denot g.row.S.Denot). v.work) c.seat-other.ensures.1)
+    let k = known_some x.view.map c.requires.knows in
+    may_show g.K.PartialEq.eq g.S.Hashes.hash c.args.blocks.now.words.fixed x.id x.view c.seat-other.result.id c.seat-other.result.view k.0 k.1
+    (ap (λ (v : View g.row.K.Denot g.row.V.Denot g.row.S.Denot). v.work) c.seat-other.ensures.1)
 
 -- who knows a map more has no more under way
 pub meet-requires-clause-errand : goal.meet-requires-clause-errand
@@ -24,4 +27,4 @@ meet-requires-clause-errand g c = λ p q so. (
 
 pub returns-clause-shown : goal.returns-clause-shown
 returns-clause-shown g c =
-    let s = c.meet.ensures.goes in (s.0, s.1, s.2, s.3 ∙ ap (λ (v : View g.row.K.Denot g.row.V.Denot g.row.S.Denot). shown_map v s.0) c.seat-other.ensures.1)
+    let s = c.meet.ensures.goes in s.3 ∙ ap (λ (v : View g.row.K.Denot g.row.V.Denot g.row.S.Denot). shown_map v s.0) c.seat-other.ensures.1 ∙ ap come_to (sym s.1)
