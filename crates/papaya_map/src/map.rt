@@ -3,6 +3,7 @@ ghost use Rattle.std.specs.Prelude.{◌≡◌, ◌<◌, [], Some, Ok, true, IfOk
 ghost use Rattle.papaya_shared.specs.Given.CallersKept.{is_home};
 ghost use Rattle.papaya_shared.specs.Given.SeizeViewsDeclared.view.View.TheVariants.{Rests};
 ghost use Rattle.papaya_shared.specs.Given.TablesChunks.{is_incremental};
+ghost use Rattle.papaya_tables.specs.declared.resize_mode.ResizeMode.TheVariants.{Incremental};
 ghost use Rattle.papaya_shared.specs.Given.ViewsDeclared.view.Work.TheVariants.{Nothing as NoWork};
 ghost use Rattle.papaya_shared.specs.Standing.{known_by};
 ghost use Rattle.seize.specs.Ids.{given, following};
@@ -59,6 +60,7 @@ fn begun<K: Eq + Hash + Drop, V: Drop, S: Hashes<K>>(
     ensures knows { IfOk result (λ r. known_by r.0.view ≡ Some (r.1, hasher.now)) }
     ensures sized { IfOk result (λ r. blocks.now.words.fixed.batch_size ≡ r.1.batch_size) }
     ensures incremental { IfOk result (λ r. is_incremental r.1.mode ≡ true) }
+    ensures mode { IfOk result (λ r. r.1.mode ≡ Incremental 64) }
 {
     let session = Base::open(blocks, hasher, chosen, CHUNK, 1)?;
     Ok(session.into_seat())
@@ -70,6 +72,7 @@ impl<K: Eq + Hash + Drop, V: Drop> HashMap<K, V> {
     pub fn new(alloc: Global, ids: &mut IdSource, hasher: RandomState) -> Result<Self, Fault>
         ensures number { IfOk result (λ map. given ids.old ≡ Ok map.collector.number) }
         ensures hasher { IfOk result (λ map. map.hasher ≡ hasher) }
+        ensures mode { IfOk result (λ map. map.setting.mode ≡ Incremental 64) }
         ensures fault { IfErr result (λ fault. MatchResult (given ids.old) (λ _. fault ≡ Memory) (λ none. fault ≡ none)) }
         ensures ids { ids.new ≡ following ids.old }
     {
@@ -82,6 +85,7 @@ impl<K: Eq + Hash + Drop, V: Drop, S: BuildHasher + Drop> HashMap<K, V, S> {
     pub fn with_hasher(alloc: Global, ids: &mut IdSource, hasher: S) -> Result<Self, Fault>
         ensures number { IfOk result (λ map. given ids.old ≡ Ok map.collector.number) }
         ensures hasher { IfOk result (λ map. map.hasher ≡ hasher) }
+        ensures mode { IfOk result (λ map. map.setting.mode ≡ Incremental 64) }
         ensures fault { IfErr result (λ fault. MatchResult (given ids.old) (λ _. fault ≡ Memory) (λ none. fault ≡ none)) }
         ensures ids { ids.new ≡ following ids.old }
     {
@@ -94,6 +98,7 @@ impl<K: Eq + Hash + Drop, V: Drop, S: BuildHasher + Drop> HashMap<K, V, S> {
         requires root { collector.roots ≡ 1 }
         ensures collector { IfOk result (λ map. map.collector ≡ collector) }
         ensures hasher { IfOk result (λ map. map.hasher ≡ hasher) }
+        ensures mode { IfOk result (λ map. map.setting.mode ≡ Incremental 64) }
         ensures fault { IfErr result (λ fault. fault ≡ Memory) }
     {
         let chosen = Fixed {

@@ -41,6 +41,7 @@ impl<'a, K: Eq, V, S: Hashes<K>> Session<'a, K, V, S> {
         ensures own { result.0.base ≡ self.entry.caller.blocks.now.words.id.views_name }
         ensures home { is_home result.0.away ≡ true }
         ensures view { result.0.view ≡ self.entry.caller.seat.view }
+        ensures setting { result.1 ≡ self.entry.setting }
         ensures sized { self.entry.caller.blocks.now.words.fixed.batch_size ≡ result.1.batch_size }
         ensures knows { known_by result.0.view ≡ Some (result.1, self.entry.hasher.now) }
         ensures free { result.0.view.work ≡ NoWork }
