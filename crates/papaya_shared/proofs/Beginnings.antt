@@ -98,7 +98,7 @@ module _ {K V S : Type 0} (same : K → K → Bool) (hash : S → K → ℕ) (ke
   stores hasher setting hashed v w may begins =
       let map : Map S = begins.0 in
       let one : may.map ≡ map = same_some may.map map (sym may.knows ∙ begins.2) in
-      let inside : Inside {T = Node K V} setting.slot NoBlock ≡ Inside begins.1 NoBlock = sym may.inside ∙ begins.3 in
+      let inside = sym may.inside ∙ begins.3 in
       let slot : setting.slot ≡ begins.1 = cc inside in
       let its : setting ≡ record map.setting { slot = begins.1 } =
       may.is ∙ ap (λ (m : Map S). record m.setting { slot = setting.slot }) one ∙ ap (λ (t : ℕ). record map.setting { slot = t }) slot in

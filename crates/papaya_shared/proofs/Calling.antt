@@ -65,7 +65,7 @@ module _ {T R : Type 0} where
     MadeNone plan n end = (n ≡ m) × ((rest : Then T R) × (plan ≡ Turn rest) × Ends (shown m) rest end)
 
     came_to : (plan : Plan T R) (n : M) (end : R) → Steps took shown m plan n end → MadeOne plan n end ⊎ MadeNone plan n end
-    came_to (Turn rest) n end st = inr (st.0, (rest, refl, st.1))
+    came_to (Turn rest) n end st = inr (st.0, (rest, refl, subst (λ (x : M). Ends (shown x) rest end) st.0 st.1))
     came_to (Do op rest) n end st = inl (op, st.0, st.1, st.2)
 
 module _ {K V S : Type 0} (same : K → K → Bool) (hash : S → K → ℕ) (hasher : S) where

@@ -1,11 +1,14 @@
 -- A call that is to store a pair has it, until it has put it into the map, or hands it back: where it is refused, the pair has come back.
 use Rattle.std.specs.Prelude.{◌^◌, ◌<◌, Option, Some, None, Result, Ok, Err, IfErr}
-use Rattle.std.proofs.Common.{◌≡◌, ℕ, Bool, List, ◌⊎◌, inl, inr, sym, subst, ap, ◌∙◌}
+use Rattle.std.proofs.Common.{◌≡◌, ℕ, Bool, List, ◌⊎◌, inl, inr, refl, sym, subst, ap, ◌∙◌}
 use Rattle.seize_words.specs.Mem.{Mem, Took, value_at}
 use Rattle.papaya_views.specs.Given.SeizeWordsPlan.{Plan, Turn, Do, Steps, plan_as}
 use Rattle.papaya_views.specs.Given.SeizeWordsDeclared.fault.Fault.{Fault}
 use Rattle.papaya_views.specs.Given.TablesDeclared.node.Node.{Node}
+use Rattle.papaya_views.specs.Given.TablesDeclared.node.Node.TheVariants.{Pair}
+use Rattle.papaya_views.specs.Given.TablesDeclared.setting.Setting.{Setting}
 use Rattle.papaya_views.specs.Given.RawCall.{call_plan}
+use Rattle.papaya_views.specs.Given.RawCallPoints.{inserting}
 use Rattle.papaya_views.specs.Given.RawMachine.{machine_plan, called as as_machine}
 use Rattle.papaya_views.specs.Given.RawDeclared.machines.answer.Called.{Called}
 use Rattle.papaya_views.specs.Given.RawDeclared.machines.answer.Called.TheVariants as tells
@@ -21,13 +24,13 @@ use Rattle.papaya_views.specs.Told.{HandsBack, MayCome, pair_in}
 use Rattle.papaya_views.specs.declared.view.Run.{Run}
 use Rattle.papaya_owned.proofs.Owned.ComesBack.{TellsEnd, over_tells}
 use Rattle.papaya_owned.proofs.Owned.HandsBack.{HasPair, HasPairAt, IsOver, KeepsPair, pair_kept}
-use Rattle.papaya_shared.specs.Calling.{IsToStore, MachineStores, outcome_of}
+use Rattle.papaya_shared.specs.Calling.{IsGoing, IsToStore, MachineStores, handed_by, outcome_of}
 use Rattle.papaya_shared.proofs.Plans.{ends_as}
 
 -- a step whose outcome is turned into another one comes to what that is of
 steps_as : {T A B : Type 0} (f : A → B) (m n : Mem T) (plan : Plan T A) (end : B) → Steps Took value_at m (plan_as f plan) n end
     → (e : A) × Steps Took value_at m plan n e × (end ≡ f e)
-steps_as f m n (Turn rest) end s = let k = ends_as f (value_at m) rest end s.1 in (k.0, (s.0, k.1), k.2)
+steps_as f m n (Turn rest) end s = let k = ends_as f (value_at n) rest end s.1 in (k.0, (s.0, k.1), k.2)
 steps_as f m n (Do op rest) end s = let k = ends_as f (value_at n) (rest s.0) end s.2 in (k.0, (s.0, s.1, k.1), k.2)
 
 module _ {K V : Type 0} where
@@ -102,12 +105,29 @@ module _ {K V : Type 0} where
     pair = subst (λ (s : Calling). HasPairAt c s) (sym is.here) (λ e. let some = is.unmade in absurd (cc (e, some)), is.word);
   }
 
+  -- so it is where the call goes on, with what was handed back by then
+  pub still_has : (pair : Node K V) (machine : Machine K V K) (back : Option (Node K V)) (told : Progress (Node K V)) → IsGoing told → HasNext pair machine back told
+      → StillHas pair machine (handed_by told back)
+  still_has pair machine back progress.Goes on has = has
+  still_has pair machine back progress.Waits on has = has
+  still_has pair machine back (progress.Gave value) on has = has
+  still_has pair machine back (progress.Unstored value) on has = has
+  still_has pair machine back (progress.Asks asked) on has = absurd has
+  still_has pair machine back progress.Ready on has = has
+  still_has pair machine back (progress.Pair asked) on has = has
+  still_has pair machine back (progress.Done answer) on has = absurd on
+  still_has pair machine back (progress.Refused fault) on has = absurd on
+
   -- where the call was refused that was to store it, it has come back
   pub back_at_last : (pair : Node K V) (machine : Machine K V K) (unstored back : Option (Node K V)) (told : Progress (Node K V)) (answer so : Result Answer Fault) → told ≡ outcome_of answer
       → HasNext pair machine unstored told → so ≡ answer → back ≡ unstored → IfErr so (λ fault. back ≡ Some pair)
   back_at_last pair machine unstored back told (Ok answer) so is has same kept = subst (λ (r : Result Answer Fault). IfErr r (λ fault. back ≡ Some pair)) (sym same) tt
   back_at_last pair machine unstored back told (Err fault) so is has same kept =
       subst (λ (r : Result Answer Fault). IfErr r (λ fault. back ≡ Some pair)) (sym same) (kept ∙ subst (λ (t : Progress (Node K V)). HasNext pair machine unstored t) is has)
+
+  -- a call that begins to store a pair is to store it
+  pub inserting_stores : (setting : Setting) (hashed : ℕ) (key : K) (value : V) → hashed < 2 ^ 64 → IsToStore {Q = K} (Pair key value) (inserting setting hashed key value)
+  inserting_stores setting hashed key value few = record { here = refl; unmade = refl; absent = refl; present = tt; none = refl; word = few }
 
   pub has_it : (pair : Node K V) (machine : Machine K V K) (back : Option (Node K V)) → MachineStores pair machine → StillHas pair machine back
   has_it pair (kinds.Key c) back is = inr (has_first pair c is)

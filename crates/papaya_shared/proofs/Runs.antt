@@ -6,6 +6,7 @@ use Rattle.papaya_views.specs.Given.SeizeWordsDeclared.fault.Fault.{Fault}
 use Rattle.papaya_views.specs.Given.RawDeclared.machines.progress.Answer.{Answer}
 use Rattle.papaya_views.specs.Given.RawDeclared.machines.machine.Machine.{Machine}
 use Rattle.papaya_views.specs.Given.RawDeclared.machines.progress.Progress.{Progress}
+use Rattle.papaya_views.specs.Given.RawDeclared.machines.progress.Progress.TheVariants as progress
 use Rattle.papaya_views.specs.Given.TablesDeclared.node.Node.{Node}
 use Rattle.papaya_views.specs.Given.TablesDeclared.node.Node.TheVariants.{Pair}
 use Rattle.papaya_views.specs.Told.{newest_told, pair_in, untold}
@@ -13,7 +14,7 @@ use Rattle.papaya_views.specs.declared.view.Run.{Run}
 use Rattle.papaya_views.specs.declared.view.View.{View}
 use Rattle.papaya_views.specs.declared.view.Work.TheVariants.{Nothing}
 use Rattle.papaya_views.proofs.Pairs.{newest_pair}
-use Rattle.papaya_shared.specs.Calling.{CalledSo, ComesBack, HasEnded, outcome_of}
+use Rattle.papaya_shared.specs.Calling.{CalledSo, ComesBack, HasEnded, IsCalling, IsGoing, IsNoQuestion, outcome_of}
 use Rattle.papaya_shared.specs.Looking.{Begins, HasRun, HasTold, IsOfThem}
 
 retold : {K V : Type 0} (told before : Progress (Node K V)) (runs : List (Run K V)) → newest_told told (newest_told before runs) ≡ newest_told told runs
@@ -63,3 +64,27 @@ module _ {K V S : Type 0} where
         free = free_then hasher machine answer w (subst (λ (t : Progress (Node K V)). CalledSo hasher machine t w) is called);
         told = told_last u v w (outcome_of answer) them (subst (λ (t : Progress (Node K V)). HasTold t v w) is has);
       })
+
+  -- a call that asks nothing tells no question,
+  pub asks_none : (hasher : S) (machine : Machine K V K) (told : Progress (Node K V)) (w : View K V S) → CalledSo hasher machine told w → IsNoQuestion told
+  asks_none hasher machine progress.Goes w called = tt
+  asks_none hasher machine progress.Waits w called = tt
+  asks_none hasher machine (progress.Gave value) w called = tt
+  asks_none hasher machine (progress.Unstored value) w called = tt
+  asks_none hasher machine (progress.Asks pair) w called = called
+  asks_none hasher machine progress.Ready w called = called
+  asks_none hasher machine (progress.Pair pair) w called = called
+  asks_none hasher machine (progress.Done answer) w called = tt
+  asks_none hasher machine (progress.Refused fault) w called = tt
+
+  -- and goes on where it has not ended
+  pub goes_on : (hasher : S) (machine : Machine K V K) (told : Progress (Node K V)) (w : View K V S) → CalledSo hasher machine told w → IsGoing told → IsCalling hasher machine w
+  goes_on hasher machine progress.Goes w called on = called
+  goes_on hasher machine progress.Waits w called on = called
+  goes_on hasher machine (progress.Gave value) w called on = called
+  goes_on hasher machine (progress.Unstored value) w called on = called
+  goes_on hasher machine (progress.Asks pair) w called on = absurd called
+  goes_on hasher machine progress.Ready w called on = absurd called
+  goes_on hasher machine (progress.Pair pair) w called on = absurd called
+  goes_on hasher machine (progress.Done answer) w called on = absurd on
+  goes_on hasher machine (progress.Refused fault) w called on = absurd on

@@ -86,6 +86,24 @@ abbrev pub outcome_of : {T : Type 0} → Result Answer Fault → Progress T
 outcome_of (Ok answer) = progress.Done answer
 outcome_of (Err fault) = progress.Refused fault
 
+-- a step tells that the call goes on,
+abbrev pub IsGoing : {T : Type 0} → Progress T → Type 0
+IsGoing (progress.Done answer) = ⊥
+IsGoing (progress.Refused fault) = ⊥
+IsGoing told = Unit {0}
+
+-- and asks nothing,
+abbrev pub IsNoQuestion : {T : Type 0} → Progress T → Type 0
+IsNoQuestion (progress.Asks pair) = ⊥
+IsNoQuestion progress.Ready = ⊥
+IsNoQuestion (progress.Pair pair) = ⊥
+IsNoQuestion told = Unit {0}
+
+-- and what was handed back by then
+abbrev pub handed_by : {T : Type 0} → Progress T → Option T → Option T
+handed_by (progress.Unstored value) before = Some value
+handed_by told before = before
+
 -- a pair was replaced by another one
 abbrev pub is_replaced : Answer → Bool
 is_replaced (OfKey (answers.Replaced old new)) = true

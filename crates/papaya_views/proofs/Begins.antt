@@ -1,5 +1,5 @@
 -- A call begins, or is told something; and a map is handed on.
-use Rattle.std.specs.Prelude.{List, [], ◌∷◌, Option, Some, None}
+use Rattle.std.specs.Prelude.{◌++◌, List, [], ◌∷◌, Option, Some, None, if◌then◌else◌}
 use Rattle.std.specs.Option.{is_none}
 use Rattle.std.proofs.Common.{◌≡◌, ℕ, Bool, true, refl, sym, subst, ap, ◌∙◌}
 use Rattle.papaya_tables.specs.Chunks.{is_incremental}
@@ -14,7 +14,7 @@ use Rattle.papaya_tables.specs.Given.SeizeWorld.{Row}
 use Rattle.papaya_looks.specs.Given.FinishesMachines.{machine_of}
 use Rattle.papaya_looks.specs.Given.FinishesMaps.{Standing, new_map, with_call}
 use Rattle.papaya_acts.specs.Given.ScenesScene.{Scene, slot_of}
-use Rattle.papaya_acts.specs.Acts.{Wanted, Get, Count, UnlessToCount, BeginsCall, TellsCall, begun}
+use Rattle.papaya_acts.specs.Acts.{Act, Wanted, Get, Count, UnlessToCount, BeginsCall, TellsCall, begun}
 use Rattle.papaya_acts.specs.Doings.{Does, MayDo}
 use Rattle.papaya_acts.specs.Leads.{AreFewWith, Led}
 use Rattle.seize_acts.specs.Acts.{rests, is_within}
@@ -27,7 +27,8 @@ use Rattle.seize_views.specs.declared.view.View.TheVariants.{Inside}
 use Rattle.papaya_views.specs.Begun.{machine_for, calling, replied}
 use Rattle.papaya_views.specs.Told.{begun_with, pair_in, untold}
 use Rattle.papaya_views.specs.Promises.{CallsBegin, CallsAreTold}
-use Rattle.papaya_views.specs.Rule.{MapsWorld, HasRow, DoesSo, KnowsMap, KnowsPair, Fits, Holds, KeepsFor, caller_at, pair_of, place_of}
+use Rattle.papaya_views.specs.Listed.{Called, calls_of, plain, AreNumbered, IsNewest}
+use Rattle.papaya_views.specs.Rule.{MapsWorld, HasRow, DoesSo, KnowsMap, KnowsPair, IsRun, AreRuns, Fits, Holds, KeepsFor, caller_at, pair_of, place_of}
 use Rattle.papaya_views.specs.declared.view.Map.{Map}
 use Rattle.papaya_views.specs.declared.view.Run.{Run}
 use Rattle.papaya_views.specs.declared.view.View.{View}
@@ -35,7 +36,8 @@ use Rattle.papaya_views.specs.declared.view.Work.{Work}
 use Rattle.papaya_views.specs.declared.view.Work.TheVariants.{Nothing, Calls}
 use Rattle.papaya_views.proofs.Knows.{knows_inside}
 use Rattle.papaya_views.proofs.Leaves.{Leaves, leaves_all, inside_of, own_idle, map_on, call_here}
-use Rattle.papaya_views.proofs.Moved.{scene_of, are_so, Moved, same_slot, moved}
+use Rattle.papaya_views.proofs.Listed.{is_its, is_other, numbered_on}
+use Rattle.papaya_views.proofs.Moved.{scene_of, are_so, Moved, Adds, same_slot, moved}
 use Rattle.papaya_views.proofs.Numbers.{slot_at}
 use Rattle.papaya_views.proofs.Pairs.{begun_pair, told_pair}
 use Rattle.papaya_views.proofs.UnderWay.{called_at, does as way_does, slot_is as way_slot, on_row as way_on}
@@ -44,6 +46,17 @@ use Rattle.papaya_views.proofs.UnderWay.{called_at, does as way_does, slot_is as
 unless : {K V : Type 0} (wanted : Wanted K V) (A : Type 0) → A → UnlessToCount wanted A
 unless Count A a = tt
 unless _ A a = a
+
+-- what is begun for it is begun for itself
+pub plain_already : {K V : Type 0} (wanted : Wanted K V) → plain (plain wanted) ≡ plain wanted
+plain_already (Get key) = refl
+plain_already _ = refl
+
+-- and has its machine
+pub begins_plainly : {K V S : Type 0} (same : K → K → Bool) (hash : S → K → ℕ) (map : Map S) (t : ℕ) (wanted : Wanted K V)
+    → machine_for same hash map t (plain wanted) ≡ machine_for same hash map t wanted
+begins_plainly same hash map t (Get key) = refl
+begins_plainly same hash map t _ = refl
 
 module _ {K V : Type 0} (same : K → K → Bool) where
   -- the machine that begins is told by setting, hash and slot
@@ -84,8 +97,9 @@ module _ {K V S : Type 0} (same : K → K → Bool) (hash : S → K → ℕ) (fi
     leaves : Leaves same hash fixed.batch_size scene n i None
     leaves = leaves_all same hash fixed.batch_size scene map.number i (Some u)
 
-    go : (runs : List (Run K V)) → pair_of u ≡ pair_in runs → Moved same hash fixed s h id s.memory (w runs) n
-    go runs pair = record {
+    go : (act : Act K V S) (runs : List (Run K V)) → AreNumbered 0 (s.world.doings ++ Does act ∷ []) (are_so same hash fixed s h).fresh.0 → pair_of u ≡ pair_in runs
+        → Moved same hash fixed s h id act s.memory (w runs) n
+    go act runs numbered pair = record {
       memory = (are_so same hash fixed s h).memory;
       own = record {
         slot = fits.slot;
@@ -105,12 +119,12 @@ module _ {K V S : Type 0} (same : K → K → Bool) (hash : S → K → ℕ) (fi
       leaves = leaves;
       theirs = λ j t a b x ne at uses e. cc e;
       alone = same_slot same hash fixed s h id v (w runs) at_id refl;
-      fresh = (are_so same hash fixed s h).fresh;
+      fresh = ((are_so same hash fixed s h).fresh.0, (are_so same hash fixed s h).fresh.1, numbered);
       row = knows_inside fixed n id t v.slot slot_is;
     }
 
   -- it has nothing under way, and begins to do this
-  module _ (t : ℕ) (slot_is : v.slot ≡ Inside t NoBlock) (free : v.work ≡ Nothing) (incremental : is_incremental map.setting.mode ≡ true) (wanted : Wanted K V) where
+  module _ (t : ℕ) (slot_is : v.slot ≡ Inside t NoBlock) (free : v.work ≡ Nothing) (incremental : is_incremental map.setting.mode ≡ true) (wanted : Wanted K V) (plainly : plain wanted ≡ wanted) where
     does : HasRow scene i (Inside t NoBlock)
     does =
         subst (λ (x : SlotView (Node K V)). HasRow scene i x) slot_is
@@ -155,12 +169,40 @@ module _ {K V S : Type 0} (same : K → K → Bool) (hash : S → K → ℕ) (fi
         ∙ ap (λ (x : Setting). machine_of (begun same (λ b. b) (new_map x led.0.hash) t wanted)) (ap (λ (x : Standing K). x.setting) (sym same_it) ∙ it.2)
         ∙ ap (λ (f : K → ℕ). machine_of (begun same (λ b. b) (new_map map.setting f) t wanted)) (ap (λ (x : Standing K). x.hash) (sym same_it) ∙ it.3)
 
-    begins : Goes (Holds same hash fixed) KeepsFor s s.memory id (λ x. x ≡ calling v (machine_for same hash map t wanted))
+    abbrev machine : Machine K V K
+    machine = machine_for same hash map t wanted
+
+    abbrev to : Scene K V
+    to = n t slot_is (begun same slot_of led.0 i wanted) machine machine_is on_row
+
+    -- the call in the list, and as its seat knows it
+    abbrev call : Called K V
+    call = record { caller = i; map = map.number; wanted = wanted; told = untold }
+
+    abbrev run : Run K V
+    run = record { began = machine; told = untold }
+
+    is_run : IsRun same hash to call run
+    is_run = record { map = map; stands = it; number = refl; plainly = plainly; began = ap (λ (a : ℕ). machine_for same hash map a wanted) (sym its_slot); told = refl }
+
+    abbrev before : List (Called K V)
+    before = calls_of id s.world.doings h.reached.1 []
+
+    adds : Adds same hash fixed s h id (BeginsCall i map.number wanted) (h.course.told h.reached.0 (Does (BeginsCall i map.number wanted)) may) v (calling v machine) to before
+    adds = record {
+      own = ((λ m k. 0), tt);
+      others = λ j ne theirs. ap (λ (q : Bool). if q then call ∷ theirs else theirs) (is_other j id place fits.slot ne);
+      its = λ are. subst (λ (q : Bool). AreRuns same hash to (if q then call ∷ before else before) (run ∷ v.calls)) (sym (is_its id place fits.slot)) (is_run, are);
+      newest = λ other works. subst (λ (q : Bool). IsNewest i (if q then call ∷ before else before)) (sym (is_its id place fits.slot)) refl;
+    }
+
+    begins : Goes (Holds same hash fixed) KeepsFor s s.memory id (λ x. x ≡ calling v machine)
     begins =
-        moved same hash fixed s h id v at_id (BeginsCall i map.number wanted) may (n t slot_is (begun same slot_of led.0 i wanted) (machine_for same hash map t wanted) machine_is on_row) led.3 s.memory
-        (calling v (machine_for same hash map t wanted)) (go t slot_is (begun same slot_of led.0 i wanted) (machine_for same hash map t wanted) machine_is on_row (record { began = machine_for same hash map t wanted; told = untold } ∷ v.calls)
-        (begun_pair same slot_of led.0 i wanted ∙ ap begun_with machine_is))
-        (λ x. x ≡ calling v (machine_for same hash map t wanted)) refl
+        let fresh = (are_so same hash fixed s h).fresh in
+        moved same hash fixed s h id v at_id (BeginsCall i map.number wanted) may to led.3 s.memory (calling v machine)
+        (go t slot_is (begun same slot_of led.0 i wanted) machine machine_is on_row (BeginsCall i map.number wanted) (run ∷ v.calls)
+        (numbered_on s.world.doings (Does (BeginsCall i map.number wanted) ∷ []) 0 fresh.0 fresh.0 fresh.2 refl) (begun_pair same slot_of led.0 i wanted ∙ ap begun_with machine_is))
+        adds (λ x. x ≡ calling v machine) refl
 
   -- its call is told this
   module _ (machine : Machine K V K) (works : v.work ≡ Calls machine) (reply : Reply V) where
@@ -189,12 +231,18 @@ module _ {K V S : Type 0} (same : K → K → Bool) (hash : S → K → ℕ) (fi
     tells =
         let is = way_slot same hash fixed s h id v at_id map machine knows works in
         let on = way_on same hash fixed s h id v at_id map machine knows works in
+        let fresh = (are_so same hash fixed s h).fresh in
         moved same hash fixed s h id v at_id (TellsCall i map.number reply) told_may (n place is told_led.3 (machine_replied machine reply).0 reply_is on) told_led.8 s.memory
-        (replied v machine reply) (go place is told_led.3 (machine_replied machine reply).0 reply_is on v.calls its_pair) (λ x. x ≡ replied v machine reply) refl
+        (replied v machine reply)
+        (go place is told_led.3 (machine_replied machine reply).0 reply_is on (TellsCall i map.number reply) v.calls
+        (numbered_on s.world.doings (Does (TellsCall i map.number reply) ∷ []) 0 fresh.0 fresh.0 fresh.2 refl) its_pair)
+        (record { own = ((λ m k. 0), tt); others = λ j ne theirs. refl; its = λ are. are; newest = λ other on. h.newest id v machine at_id works }) (λ x. x ≡ replied v machine reply) refl
 
 module _ {K S : Type 0} (V : Type 0) (same : K → K → Bool) (hash : S → K → ℕ) where
   pub calls_begin : CallsBegin V same hash
-  calls_begin fixed id t v map wanted slot_is knows free incremental s h at_id = begins same hash fixed s h id v at_id map knows t slot_is free incremental wanted
+  calls_begin fixed id t v map wanted slot_is knows free incremental s h at_id =
+      subst (λ (machine : Machine K V K). Goes (Holds same hash fixed) KeepsFor s s.memory id (λ x. x ≡ calling v machine)) (begins_plainly same hash map t wanted)
+      (begins same hash fixed s h id v at_id map knows t slot_is free incremental (plain wanted) (plain_already wanted))
 
   pub calls_are_told : CallsAreTold V same hash
   calls_are_told fixed id v map machine reply knows works s h at_id = tells same hash fixed s h id v at_id map knows machine works reply

@@ -61,9 +61,11 @@ module _ {K V S : Type 0} (same : K → K → Bool) (hash : S → K → ℕ) (fi
         knew = u;
         at = ap (view_of s) e ∙ at_j;
         slot = ap (λ (y : View K V S). y.slot) (sym one);
+        calls = ap (λ (y : View K V S). y.calls) (sym one);
+        work = ap (λ (y : View K V S). y.work) (sym one);
         fits = subst (λ (y : View K V S). Fits same hash scene k y) one (subst (λ (a : ℕ). Fits same hash scene a q) (sym e) given);
       }
-  had k x at (inr ne) = let was = sym (before k ne) ∙ at in record { knew = x; at = was; slot = refl; fits = h.so.seats k x was }
+  had k x at (inr ne) = let was = sym (before k ne) ∙ at in record { knew = x; at = was; slot = refl; calls = refl; work = refl; fits = h.so.seats k x was }
 
   unborn : (k : ℕ) → slice_get views k ≡ None → (k ≡ j) ⊎ (k ≢ j) → view_of s k ≡ None
   unborn k at (inl e) = let f = ap (slice_get views) e in let g = here in absurd (cc (f, g, at))

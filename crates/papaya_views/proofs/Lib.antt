@@ -15,6 +15,7 @@ mod RowLooks
 mod Starts
 mod Leaves
 mod Lasts
+pub mod Listed
 mod Moved
 mod Next
 mod UnderWay
@@ -33,3 +34,4 @@ pub mod Exact
 pub mod Laws
 pub mod Given
 mod Samples
+mod ListedSamples

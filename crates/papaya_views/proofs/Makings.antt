@@ -1,5 +1,5 @@
 -- The making of a map begins, and its next operation may be made at any moment.
-use Rattle.std.specs.Prelude.{◌≢◌, max, Option, Some, None}
+use Rattle.std.specs.Prelude.{◌≢◌, ◌++◌, ◌∷◌, max, Option, Some, None}
 use Rattle.std.specs.Int.{IsPowerOfTwo}
 use Rattle.std.specs.Option.{is_none}
 use Rattle.std.proofs.Common.{◌≡◌, ℕ, ◌+◌, ◌<◌, ◌≤◌, ◌^◌, Bool, List, [], ◌⊎◌, inl, inr, refl, sym, subst, ap, ◌∙◌, arith}
@@ -14,6 +14,7 @@ use Rattle.papaya_tables.specs.Lengths.{IsTableLen}
 use Rattle.papaya_tables.specs.Nodes.{deferred_word}
 use Rattle.papaya_tables.specs.declared.node.Node.{Node}
 use Rattle.papaya_tables.specs.declared.setting.Setting.{Setting}
+use Rattle.papaya_raw.specs.declared.machines.machine.Machine.{Machine}
 use Rattle.papaya_resize.specs.NewMap.{new_map_plan, opening}
 use Rattle.papaya_resize.specs.declared.new_map.NewMap.{NewMap}
 use Rattle.papaya_looks.specs.Given.CallersRows.{IsUsedAlike}
@@ -25,7 +26,7 @@ use Rattle.papaya_looks.proofs.Given.CallersTogether.Came.{came_reached}
 use Rattle.papaya_looks.proofs.Given.CallersTogether.Users.{events_rows, events_uses}
 use Rattle.papaya_acts.specs.Given.ScenesMaking.{making_begun}
 use Rattle.papaya_acts.specs.Given.ScenesScene.{Scene, slot_of}
-use Rattle.papaya_acts.specs.Acts.{BeginsMaking, StepsMaking}
+use Rattle.papaya_acts.specs.Acts.{Act, BeginsMaking, StepsMaking}
 use Rattle.papaya_acts.specs.Doings.{Does, MayDo}
 use Rattle.papaya_acts.specs.Leads.{AllStand, Led, MakingCame, making_steps}
 use Rattle.papaya_acts.specs.Lists.{AllMayStep, AllAreActs}
@@ -41,15 +42,18 @@ use Rattle.seize_views.specs.declared.view.View.TheVariants as slot_view
 use Rattle.papaya_views.specs.Begun.{making}
 use Rattle.papaya_views.specs.Looks.{shown_in}
 use Rattle.papaya_views.specs.Promises.{MakingsBegin, MakingsGoOn}
-use Rattle.papaya_views.specs.Rule.{MapsWorld, IsSlot, IsIdle, HasRow, HasMaking, DoesSo, KnowsMap, Fits, AreSo, Holds, KeepsFor, caller_at, place_of}
+use Rattle.papaya_views.specs.Listed.{calls_of}
+use Rattle.papaya_views.specs.Rule.{MapsWorld, IsSlot, IsIdle, HasRow, HasMaking, DoesSo, KnowsMap, AreRuns, Fits, AreSo, Holds, KeepsFor, caller_at, place_of}
 use Rattle.papaya_views.specs.Told.{told, told_by, made_after}
+use Rattle.papaya_views.specs.declared.view.Run.{Run}
 use Rattle.papaya_views.specs.declared.view.View.{View}
 use Rattle.papaya_views.specs.declared.view.Work.{Work}
-use Rattle.papaya_views.specs.declared.view.Work.TheVariants.{Nothing, Makes}
+use Rattle.papaya_views.specs.declared.view.Work.TheVariants.{Nothing, Calls, Makes}
 use Rattle.papaya_views.proofs.Knows.{knows_rests}
 use Rattle.papaya_views.proofs.Leaves.{Leaves, alike_same, own_idle, map_on}
 use Rattle.papaya_views.proofs.Looked.{Made, may_op}
 use Rattle.papaya_views.proofs.Made.{making_keeps}
+use Rattle.papaya_views.proofs.Listed.{numbered_on}
 use Rattle.papaya_views.proofs.Moved.{scene_of, all_stand, are_so, Moved, same_slot, moved}
 use Rattle.papaya_views.proofs.Ran.{Ran, ran_stays, ran_ends_none, ran_keeps, ran_passes}
 use Rattle.papaya_views.proofs.Sections.{as_users}
@@ -129,7 +133,10 @@ module _ {K V S : Type 0} (same : K → K → Bool) (hash : S → K → ℕ) (fi
         let one = ap (λ (x : Beginning K). x.map) (same_some b d (sym (at_same scene.makers i (Some b) j e) ∙ is)) in omega (arith, one)
     fresh_then j d is (inr ne) = let less = so.fresh.1.1 j d (sym (at_other scene.makers i (Some b) j ne) ∙ is) in omega (arith, less)
 
-    go : Moved same hash fixed s h id s.memory w n
+    abbrev act : Act K V S
+    act = BeginsMaking i m hasher given places
+
+    go : Moved same hash fixed s h id act s.memory w n
     go = record {
       memory = so.memory;
       own = record {
@@ -146,14 +153,18 @@ module _ {K V S : Type 0} (same : K → K → Bool) (hash : S → K → ℕ) (fi
       leaves = leaves;
       theirs = λ j t a b x ne at uses e. cc e;
       alone = same_slot same hash fixed s h id v w at_id refl;
-      fresh = (m + 1, ((λ a above. so.fresh.1.0 a (omega (arith, above))), (λ j d is. fresh_then j d is (cases_eq j i))));
+      fresh = (
+        m + 1,
+        ((λ a above. so.fresh.1.0 a (omega (arith, above))), (λ j d is. fresh_then j d is (cases_eq j i))),
+        numbered_on s.world.doings (Does act ∷ []) 0 m (m + 1) so.fresh.2 (refl, omega arith),
+      );
       row = knows_rests fixed n id v.slot rests;
     }
 
     begins : Goes (Holds same hash fixed) KeepsFor s s.memory id (λ x. (a : ℕ) × (x ≡ making v a hasher (opening given fixed.roots places)))
     begins =
-        moved same hash fixed s h id v at_id (BeginsMaking i m hasher given places) may n (h.course.leads h.reached.0 (Does (BeginsMaking i m hasher given places)) may).0.1 s.memory w go
-        (λ x. (a : ℕ) × (x ≡ making v a hasher (opening given fixed.roots places))) (m, refl)
+        moved same hash fixed s h id v at_id act may n (h.course.leads h.reached.0 (Does act) may).0.1 s.memory w go
+        (record { own = ((λ a. hash hasher), refl); others = λ j ne theirs. refl; its = λ are. are; newest = λ other on. absurd (cc on) }) (λ x. (a : ℕ) × (x ≡ making v a hasher (opening given fixed.roots places))) (m, refl)
 
   -- it makes a map, and takes a step
   module _ (m : ℕ) (hasher : S) (machine : NewMap) (works : v.work ≡ Makes m hasher machine) where
@@ -264,7 +275,7 @@ module _ {K V S : Type 0} (same : K → K → Bool) (hash : S → K → ℕ) (fi
             let its = same_map e (sym (at_same scene.makers i it j one) ∙ is) in let less = so.fresh.1.1 i d led.1 in omega (arith, its, less)
         fresh_on j e is (inr ne) = so.fresh.1.1 j e (sym (at_other scene.makers i it j ne) ∙ is)
 
-        come : (x : View K V S) → x.slot ≡ v.slot → Fits same hash n2 id x → Moved same hash fixed s h id m2 x n2
+        come : (x : View K V S) → x.slot ≡ v.slot → Fits same hash n2 id x → Moved same hash fixed s h id (StepsMaking i granted.0) m2 x n2
         come x slot_is own = record {
           memory = memory_is ∙ sym did.step.memory;
           own = own;
@@ -274,7 +285,7 @@ module _ {K V S : Type 0} (same : K → K → Bool) (hash : S → K → ℕ) (fi
           leaves = step_leaves;
           theirs = λ j t a b y ne at uses e. cc e;
           alone = same_slot same hash fixed s h id v x at_id slot_is;
-          fresh = (so.fresh.0, (none, (λ j e is. fresh_on j e is (cases_eq j i))));
+          fresh = (so.fresh.0, (none, (λ j e is. fresh_on j e is (cases_eq j i))), numbered_on s.world.doings (Does (StepsMaking i granted.0) ∷ []) 0 so.fresh.0 so.fresh.0 so.fresh.2 refl);
           row = knows_rests fixed n2 id x.slot (slot_is ∙ does.0);
         }
 
@@ -294,9 +305,16 @@ module _ {K V S : Type 0} (same : K → K → Bool) (hash : S → K → ℕ) (fi
           enders = none_ended (scene.enders i) refl;
         })
 
-        goes_by : (x : View K V S) (so_told : View K V S → Type 0) → stage ≡ n2 → x.slot ≡ v.slot → Fits same hash n2 id x → so_told x
-            → Goes (Holds same hash fixed) KeepsFor s m2 id so_told
-        goes_by x so_told comes slot_is own is = moved same hash fixed s h id v at_id (StepsMaking i granted.0) step_may n2 comes m2 x (come x slot_is own) so_told is
+        goes_by : (x : View K V S) (so_told : View K V S → Type 0) → stage ≡ n2 → x.slot ≡ v.slot → x.calls ≡ v.calls → ((other : Machine K V K) → x.work ≡ Calls other → ⊥) → Fits same hash n2 id x
+            → so_told x → Goes (Holds same hash fixed) KeepsFor s m2 id so_told
+        goes_by x so_told comes slot_is calls_are no_call own is =
+            moved same hash fixed s h id v at_id (StepsMaking i granted.0) step_may n2 comes m2 x (come x slot_is own)
+            (record {
+              own = ((λ a k. 0), tt);
+              others = λ j ne theirs. refl;
+              its = λ are. subst (λ (runs : List (Run K V)). AreRuns same hash n2 (calls_of id s.world.doings h.reached.1 []) runs) (sym calls_are) are;
+              newest = λ other on. absurd (no_call other on);
+            }) so_told is
 
       -- maps stand as before
       stand_on : (a : ℕ) (r : Standing K) → scene.maps a ≡ Some r → (r2 : Standing K) × (scene.maps a ≡ Some r2) × (r2.setting ≡ r.setting) × (r2.hash ≡ r.hash)
@@ -316,7 +334,7 @@ module _ {K V S : Type 0} (same : K → K → Bool) (hash : S → K → ℕ) (fi
           → Goes (Holds same hash fixed) KeepsFor s m2 id so_told
       by so_told progress.Goes is came =
           let next = record d { machine = led.3 } in
-          goes_by scene.maps (Some next) stand_on so.fresh.1.0 (λ e one. ap (λ (x : Beginning K). x.map) (sym (same_some next e one))) (made_after v m hasher made.looks led.3 progress.Goes) so_told came refl
+          goes_by scene.maps (Some next) stand_on so.fresh.1.0 (λ e one. ap (λ (x : Beginning K). x.map) (sym (same_some next e one))) (made_after v m hasher made.looks led.3 progress.Goes) so_told came refl refl (λ other on. cc on)
           (record {
             slot = fits.slot;
             does = (does.0, record { making = next; here = at_same scene.makers i (Some next) i refl; map = its_map; hashes = its_hash; is = refl; calls = does.1.calls }, rows i ∙ does.2);
@@ -328,7 +346,7 @@ module _ {K V S : Type 0} (same : K → K → Bool) (hash : S → K → ℕ) (fi
           is
       by so_told progress.Waits is came = absurd came
       by so_told (progress.Refused fault) is came =
-          goes_by scene.maps None stand_on so.fresh.1.0 (λ e one. absurd (cc one)) (made_after v m hasher made.looks led.3 (progress.Refused fault)) so_told came refl
+          goes_by scene.maps None stand_on so.fresh.1.0 (λ e one. absurd (cc one)) (made_after v m hasher made.looks led.3 (progress.Refused fault)) so_told came refl refl (λ other on. cc on)
           (record {
             slot = fits.slot;
             does = over scene.maps None stand_on so.fresh.1.0 (λ e one. absurd (cc one)) refl;
@@ -340,7 +358,7 @@ module _ {K V S : Type 0} (same : K → K → Bool) (hash : S → K → ℕ) (fi
           is
       by so_told (progress.Done setting) is (it, is_made, came) =
           goes_by (with_at scene.maps d.map (Some it)) None (λ a r here. stand_more it a r here (cases_eq a d.map)) (none_more it) (λ e one. absurd (cc one))
-          (made_after v m hasher made.looks led.3 (progress.Done setting)) so_told came refl
+          (made_after v m hasher made.looks led.3 (progress.Done setting)) so_told came refl refl (λ other on. cc on)
           (record {
             slot = fits.slot;
             does = over (with_at scene.maps d.map (Some it)) None (λ a r here. stand_more it a r here (cases_eq a d.map)) (none_more it) (λ e one. absurd (cc one)) refl;

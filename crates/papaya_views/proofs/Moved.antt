@@ -1,13 +1,15 @@
 -- An act of a seat makes the rule hold again, where it has left what the other seats know.
-use Rattle.std.specs.Prelude.{◌≢◌, ◌++◌, Option, Some, None, slice_get, slice_set}
-use Rattle.std.proofs.Common.{◌≡◌, ℕ, Bool, [], ◌∷◌, ◌⊎◌, inl, inr, refl, sym, subst, ap, ◌∙◌}
+use Rattle.std.specs.Prelude.{◌≢◌, ◌++◌, length, Option, Some, None, slice_get, slice_set}
+use Rattle.std.specs.List.{AllByRecursion}
+use Rattle.std.proofs.Common.{◌≡◌, ℕ, Bool, List, [], ◌∷◌, ◌⊎◌, inl, inr, refl, sym, subst, ap, ◌∙◌}
 use Rattle.std.proofs.lemmas.Bool.{cases_eq}
 use Rattle.seize_words.specs.Mem.{Mem}
 use Rattle.papaya_tables.specs.Given.SeizeWorld.{Use, Inside}
 use Rattle.papaya_tables.specs.declared.node.Node.{Node}
+use Rattle.papaya_raw.specs.declared.machines.machine.Machine.{Machine}
 use Rattle.papaya_looks.specs.Given.CallersTogether.{CameAbout}
 use Rattle.papaya_acts.specs.Given.ScenesScene.{Scene, slot_of}
-use Rattle.papaya_acts.specs.Acts.{Act}
+use Rattle.papaya_acts.specs.Acts.{Act, Answer}
 use Rattle.papaya_acts.specs.Doings.{Does, MayDo}
 use Rattle.papaya_acts.specs.Leads.{AllStand}
 use Rattle.papaya_acts.specs.Lists.{Reached, LedTo, nothing_done, on_by}
@@ -18,10 +20,14 @@ use Rattle.seize_seats.specs.State.{State, view_of, Goes}
 use Rattle.seize_views.specs.Rows.{use_of}
 use Rattle.seize_views.specs.declared.view.Fixed.{Fixed}
 use Rattle.seize_views.proofs.Lists.{there, elsewhere}
-use Rattle.papaya_views.specs.Rule.{MapsWorld, IsSlot, IsIdle, Fits, AreSo, KnowsRow, Holds, KeepsFor, caller_at, place_of, IsFresh}
+use Rattle.papaya_views.specs.Listed.{Called, calls_then, calls_of, AreNumbered, IsItsOwn, IsNewest}
+use Rattle.papaya_views.specs.Rule.{MapsWorld, IsSlot, IsIdle, Fits, AreSo, KnowsRow, AreRuns, Holds, KeepsFor, caller_at, place_of, runs_of, IsFresh}
+use Rattle.papaya_views.specs.declared.view.Run.{Run}
 use Rattle.papaya_views.specs.declared.view.View.{View}
+use Rattle.papaya_views.specs.declared.view.Work.TheVariants.{Calls}
 use Rattle.papaya_views.proofs.Alone.{alone_on_slot}
 use Rattle.papaya_views.proofs.Knows.{knows_on}
+use Rattle.papaya_views.proofs.Listed.{all_more, as_long, calls_more, runs_on}
 use Rattle.papaya_views.proofs.Leaves.{Leaves, inside_of, unborn_on, fits_on}
 use Rattle.papaya_views.proofs.Lasts.{of_call_lasts}
 use Rattle.papaya_views.proofs.Numbers.{seat_apart}
@@ -36,8 +42,8 @@ module _ {K V S : Type 0} (same : K → K → Bool) (hash : S → K → ℕ) (fi
   pub are_so : AreSo same hash s scene_of
   are_so = subst (λ (x : Scene K V). AreSo same hash s x) h.scene h.so
 
-  -- The seat has come to this view and this scene, as the caller that it is in this place, and the others know what they knew: what changes of slots is its own.
-  pub record Moved (id : ℕ) (m : Mem (Node K V)) (w : View K V S) (n : Scene K V) : Type 0 where
+  -- The seat has come to this view and this scene by this act, as the caller that it is in this place, and the others know what they knew: what changes of slots is its own.
+  pub record Moved (id : ℕ) (act : Act K V S) (m : Mem (Node K V)) (w : View K V S) (n : Scene K V) : Type 0 where
     pub memory : m ≡ n.world.memory
     pub own : Fits same hash n id w
     pub place : ℕ
@@ -46,8 +52,15 @@ module _ {K V S : Type 0} (same : K → K → Bool) (hash : S → K → ℕ) (fi
     pub leaves : Leaves same hash fixed.batch_size scene_of n (caller_at id place) mine
     pub theirs : (j t : ℕ) (a b : Use) (x : View K V S) → j ≢ id → view_of s j ≡ Some x → use_of x.slot ≡ Some (t, a) → mine ≡ Some (t, b) → ⊥
     pub alone : (j t : ℕ) (a b : Use) (x : View K V S) → j ≢ id → view_of s j ≡ Some x → use_of x.slot ≡ Some (t, a) → use_of w.slot ≡ Some (t, b) → ⊥
-    pub fresh : (k : ℕ) × IsFresh n k
+    pub fresh : (k : ℕ) × IsFresh n k × AreNumbered 0 (s.world.doings ++ Does act ∷ []) k
     pub row : KnowsRow fixed n id w.slot
+
+  -- What the act, which has told this, adds to the list: it is one of its own, tells nothing of another seat's calls, and of those of its seat what is known of them then.
+  pub record Adds (id : ℕ) (act : Act K V S) (told : Answer K V) (v w : View K V S) (n : Scene K V) (calls : List (Called K V)) : Type 0 where
+    pub own : IsItsOwn hash (Does act)
+    pub others : (j : ℕ) → j ≢ id → (theirs : List (Called K V)) → calls_then j (Does act) told theirs ≡ theirs
+    pub its : AreRuns same hash n calls v.calls → AreRuns same hash n (calls_then id (Does act) told calls) w.calls
+    pub newest : (machine : Machine K V K) → w.work ≡ Calls machine → IsNewest (caller_at id (place_of w.slot)) (calls_then id (Does act) told calls)
 
   -- the slot that it had is no other seat's
   pub same_slot : (id : ℕ) (v w : View K V S) → view_of s id ≡ Some v → w.slot ≡ v.slot
@@ -55,7 +68,8 @@ module _ {K V S : Type 0} (same : K → K → Bool) (hash : S → K → ℕ) (fi
   same_slot id v w at_id is j t a b x ne at uses its = ne (are_so.apart j id t a b x v at at_id uses (ap use_of (sym is) ∙ its))
 
   module _ (id : ℕ) (v : View K V S) (at_id : view_of s id ≡ Some v) (act : Act K V S) (may : MayDo V same hash fixed.batch_size fixed.roots slot_of (Does act) h.reached.0) (n : Scene K V)
-      (comes : (h.course.next h.reached.0 (Does act) may).0 ≡ n) (m : Mem (Node K V)) (w : View K V S) (go : Moved id m w n) where
+      (comes : (h.course.next h.reached.0 (Does act) may).0 ≡ n) (m : Mem (Node K V)) (w : View K V S) (go : Moved id act m w n)
+      (adds : Adds id act (h.course.told h.reached.0 (Does act) may) v w n (calls_of id s.world.doings h.reached.1 [])) where
     abbrev led_to : Reached V same hash fixed.batch_size fixed.roots slot_of
     led_to = on_by V same hash fixed.batch_size fixed.roots slot_of h.course h.reached (Does act) may
 
@@ -134,6 +148,46 @@ module _ {K V S : Type 0} (same : K → K → Bool) (hash : S → K → ℕ) (fi
         knows_on same hash fixed j x scene_of n all_stand.makings.standing.came came fits (seats j x at (inr ne)) go.leaves.keeps pass.0 pass.1
         (subst (λ (y : Scene K V). KnowsRow fixed y j x.slot) h.scene (h.rows j x at_j))
 
+    -- the calls of each seat are those of the list
+
+    abbrev told : Answer K V
+    told = h.course.told h.reached.0 (Does act) may
+
+    abbrev calls_before : ℕ → List (Called K V)
+    calls_before j = calls_of j s.world.doings h.reached.1 []
+
+    long : length h.reached.1 ≡ length s.world.doings
+    long = as_long V same hash fixed.batch_size fixed.roots slot_of h.course s.world.doings h.reached h.led
+
+    more : (j : ℕ) → calls_of j (s.world.doings ++ Does act ∷ []) led_to.1 [] ≡ calls_then j (Does act) told (calls_before j)
+    more j = calls_more j s.world.doings h.reached.1 (Does act) told [] long
+
+    still : (j : ℕ) → AreRuns same hash n (calls_before j) (runs_of (view_of s j))
+    still j =
+        runs_on same hash scene_of n go.leaves.maps (calls_before j) (runs_of (view_of s j))
+        (subst (λ (x : Scene K V). AreRuns same hash x (calls_before j) (runs_of (view_of s j))) h.scene (h.calls j))
+
+    calls : (j : ℕ) → (j ≡ id) ⊎ (j ≢ id) → AreRuns same hash n (calls_of j (s.world.doings ++ Does act ∷ []) led_to.1 []) (runs_of (slice_get (slice_set s.views id w) j))
+    calls j (inl e) =
+        subst (λ (runs : List (Run K V)). AreRuns same hash n (calls_of j (s.world.doings ++ Does act ∷ []) led_to.1 []) runs) (ap runs_of (sym (here j e)))
+        (subst (λ (c : List (Called K V)). AreRuns same hash n c w.calls) (sym (more j))
+        (subst (λ (a : ℕ). AreRuns same hash n (calls_then a (Does act) told (calls_before a)) w.calls) (sym e)
+        (adds.its (subst (λ (o : Option (View K V S)). AreRuns same hash n (calls_before id) (runs_of o)) at_id (still id)))))
+    calls j (inr ne) =
+        subst (λ (runs : List (Run K V)). AreRuns same hash n (calls_of j (s.world.doings ++ Does act ∷ []) led_to.1 []) runs) (ap runs_of (before j ne))
+        (subst (λ (c : List (Called K V)). AreRuns same hash n c (runs_of (view_of s j))) (sym (more j ∙ adds.others j ne (calls_before j))) (still j))
+
+    newest : (j : ℕ) (x : View K V S) (machine : Machine K V K) → slice_get (slice_set s.views id w) j ≡ Some x → x.work ≡ Calls machine → (j ≡ id) ⊎ (j ≢ id)
+        → IsNewest (caller_at j (place_of x.slot)) (calls_of j (s.world.doings ++ Does act ∷ []) led_to.1 [])
+    newest j x machine at works (inl e) =
+        let is = same_some w x (sym (here j e) ∙ at) in
+        subst (λ (c : List (Called K V)). IsNewest (caller_at j (place_of x.slot)) c) (sym (more j))
+        (subst (λ (a : ℕ). IsNewest (caller_at a (place_of x.slot)) (calls_then a (Does act) told (calls_before a))) (sym e)
+        (subst (λ (y : View K V S). IsNewest (caller_at id (place_of y.slot)) (calls_then id (Does act) told (calls_before id))) is
+        (adds.newest machine (ap (λ (y : View K V S). y.work) is ∙ works))))
+    newest j x machine at works (inr ne) =
+        subst (λ (c : List (Called K V)). IsNewest (caller_at j (place_of x.slot)) c) (sym (more j ∙ adds.others j ne (calls_before j))) (h.newest j x machine (before j ne ∙ at) works)
+
     pub moved : (so : View K V S → Type 0) → so w → Goes (Holds same hash fixed) KeepsFor s m id so
     moved so is = (
       w,
@@ -153,6 +207,9 @@ module _ {K V S : Type 0} (same : K → K → Bool) (hash : S → K → ℕ) (fi
           unended = λ o. go.leaves.ended o ∙ are_so.unended o;
         };
         rows = λ j x at. rows j x at (cases_eq j id);
+        own = all_more (IsItsOwn hash) s.world.doings (Does act) h.own adds.own;
+        calls = λ j. calls j (cases_eq j id);
+        newest = λ j x machine at works. newest j x machine at works (cases_eq j id);
       },
       λ j k b u o ne ne2 at at2 keeps. kept j b u o ne at keeps,
       is,

@@ -1,5 +1,5 @@
 -- A row of a seat that has nothing else under way begins.
-use Rattle.std.specs.Prelude.{Option, Some, None}
+use Rattle.std.specs.Prelude.{◌++◌, Option, Some, None}
 use Rattle.std.specs.Option.{is_none}
 use Rattle.std.proofs.Common.{◌≡◌, ℕ, Bool, List, [], ◌∷◌, inl, inr, refl, sym, subst, ap, ◌∙◌}
 use Rattle.seize_words.specs.Mem.{Mem, value_at}
@@ -9,7 +9,10 @@ use Rattle.papaya_tables.specs.Nodes.{deferred_word}
 use Rattle.papaya_tables.specs.declared.node.Node.{Node}
 use Rattle.papaya_looks.specs.Given.CallersRows.{IsUsedAlike}
 use Rattle.papaya_looks.specs.Given.CallersTogether.{UnderWay, OnKey, ForRoom, Counting, OverAll, UnlessCounts, IsOfSlots, Closes}
+use Rattle.papaya_acts.specs.Given.ScenesRows.{request_of}
 use Rattle.papaya_acts.specs.Given.ScenesScene.{Scene, slot_of}
+use Rattle.papaya_acts.specs.Given.ScenesDeclared.row.SlotCall.{SlotCall}
+use Rattle.papaya_acts.specs.Given.ScenesDeclared.row.SlotCall.TheVariants as slot_calls
 use Rattle.papaya_acts.specs.Acts.{BeginsRow}
 use Rattle.papaya_acts.specs.Doings.{Does, MayDo}
 use Rattle.papaya_acts.specs.Leads.{Led}
@@ -25,7 +28,8 @@ use Rattle.seize_views.specs.declared.view.View.{View as SlotView}
 use Rattle.seize_views.specs.declared.view.View.TheVariants as slot_view
 use Rattle.seize_views.specs.declared.view.Why.TheVariants.{Retiring, Ending}
 use Rattle.seize_views.proofs.InWorld.{IsJustSo, IsUsedLike, HasRow as RowIn, Began, BeginsTo, slot_in, HasNoBlock}
-use Rattle.papaya_views.specs.Rule.{MapsWorld, IsSlot, IsUsedSo, DoesSo, Holds, KeepsFor, caller_at, place_of}
+use Rattle.papaya_views.specs.Listed.{AreNumbered}
+use Rattle.papaya_views.specs.Rule.{MapsWorld, IsSlot, IsUsedSo, DoesSo, Holds, KeepsFor, caller_at, held_slot, place_of}
 use Rattle.papaya_views.specs.declared.view.Map.{Map}
 use Rattle.papaya_views.specs.declared.view.View.{View}
 use Rattle.papaya_views.specs.declared.view.Work.{Work}
@@ -33,6 +37,7 @@ use Rattle.papaya_views.specs.declared.view.Work.TheVariants.{Nothing, Calls, Ma
 use Rattle.papaya_views.proofs.Alone.{alone_on_slot, lone_on}
 use Rattle.papaya_views.proofs.Exact.{none_inside, none_outside}
 use Rattle.papaya_views.proofs.Leaves.{Leaves, alike_same}
+use Rattle.papaya_views.proofs.Listed.{numbered_on}
 use Rattle.papaya_views.proofs.Moved.{moved}
 use Rattle.papaya_views.proofs.Numbers.{slot_at}
 use Rattle.papaya_views.proofs.Whose.{whose}
@@ -178,6 +183,21 @@ module _ {K V S : Type 0} (same : K → K → Bool) (hash : S → K → ℕ) (fi
     no_block : HasNoBlock request
     no_block = g.no_block (plain_hand v.slot (knows same hash fixed s h id v at_id).plain)
 
+    -- it is on the slot of its caller
+    its_own : (t : ℕ) → (a : Use) × (use_of v.slot ≡ Some (t, a)) → t ≡ slot_of me
+    its_own t (a, mine) = sym (slot_at id (place_of v.slot) (fits same hash fixed s h id v at_id).slot ∙ ap held_slot mine)
+
+    on_own : (r : Request) → HasNoBlock r → ((t : ℕ) → slot_in r ≡ Some t → (a : Use) × (use_of v.slot ≡ Some (t, a))) → (called : SlotCall) × (r ≡ request_of (slot_of me) called)
+    on_own (Register' enters) none about = (slot_calls.Register enters, refl)
+    on_own (Enter' t) none about = (slot_calls.Enter, ap Enter' (its_own t (about t refl)))
+    on_own (Leave' t) none about = (slot_calls.Leave, ap Leave' (its_own t (about t refl)))
+    on_own (LeaveOwned t) none about = (slot_calls.LeaveOwned, ap LeaveOwned (its_own t (about t refl)))
+    on_own (Refresh t) none about = (slot_calls.Refresh, ap Refresh (its_own t (about t refl)))
+    on_own (Unregister' t) none about = (slot_calls.Unregister, ap Unregister' (its_own t (about t refl)))
+    on_own (Flush t) none about = (slot_calls.Flush, ap Flush (its_own t (about t refl)))
+    on_own (Retire t b) none about = absurd none
+    on_own (Defer' t b u) none about = absurd none
+
     may : MayDo V same hash fixed.batch_size fixed.roots slot_of (Does (BeginsRow me request)) h.reached.0
     may = (
       ap is_none h.nobody,
@@ -222,9 +242,13 @@ module _ {K V S : Type 0} (same : K → K → Bool) (hash : S → K → ℕ) (fi
         (led.5 ∙ ap (λ (x : World (Node K V)). record here { world = x; maps = led.2 }) (sym same_world)) s.memory
         (w same hash fixed s h id v at_id free u noted n led.2 led.3)
         (go same hash fixed s h id v at_id free u noted n led.2 led.3 leaves g.row (just_alike n (use_of u) g.used) (inr g.place)
-        (subst IsSlot (sym (held_place (use_of u) (use_of v.slot) g.place)) (fits same hash fixed s h id v at_id).slot) s.memory
+        (subst IsSlot (sym (held_place (use_of u) (use_of v.slot) g.place)) (fits same hash fixed s h id v at_id).slot) (BeginsRow me request) numbered s.memory
         ((so same hash fixed s h id v at_id).memory ∙ sym g.memory) g.plain g.short g.known g.bounded
-        (λ j t a b x ne at uses its. let had = g.slot t b its in ne ((so same hash fixed s h id v at_id).apart j id t a had.0 x v at at_id uses had.1))) so_told is
+        (λ j t a b x ne at uses its. let had = g.slot t b its in ne ((so same hash fixed s h id v at_id).apart j id t a had.0 x v at at_id uses had.1)))
+        (record { own = ((λ a k. 0), on_own request no_block g.about); others = λ j ne theirs. refl; its = λ are. are; newest = λ other on. absurd (cc on) }) so_told is
+      where
+        numbered : AreNumbered 0 (s.world.doings ++ Does (BeginsRow me request) ∷ []) (so same hash fixed s h id v at_id).fresh.0
+        numbered = let f = (so same hash fixed s h id v at_id).fresh in numbered_on s.world.doings (Does (BeginsRow me request) ∷ []) 0 f.0 f.0 f.2 refl
 
   pub begins_to : (noted : Noted) (so_in : SlotView (Node K V) → Type 0) (so_told : View K V S → Type 0) → BeginsTo deferred_word fixed now me v.slot so_in
       → ((u : SlotView (Node K V)) → so_in u → so_told record { slot = u; map = v.map; work = Nothing; looks = []; held = []; began = noted; calls = v.calls })

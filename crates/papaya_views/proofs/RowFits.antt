@@ -1,5 +1,5 @@
 -- Where a row of a seat has begun, or has taken a step, what the seat knows of it is so.
-use Rattle.std.specs.Prelude.{◌≢◌, Option, Some, None}
+use Rattle.std.specs.Prelude.{◌≢◌, ◌++◌, ◌∷◌, Option, Some, None}
 use Rattle.std.proofs.Common.{◌≡◌, ℕ, Bool, [], ◌⊎◌, inl, inr, refl, sym, subst, ap, ◌∙◌}
 use Rattle.std.proofs.lemmas.Bool.{cases_eq}
 use Rattle.seize_words.specs.Mem.{Mem}
@@ -9,6 +9,8 @@ use Rattle.papaya_tables.specs.declared.node.Node.{Node}
 use Rattle.papaya_looks.specs.Given.CallersRows.{IsUsedAlike}
 use Rattle.papaya_looks.specs.Given.FinishesMaps.{Standing, IsSameMap}
 use Rattle.papaya_acts.specs.Given.ScenesScene.{Scene, slot_of}
+use Rattle.papaya_acts.specs.Acts.{Act}
+use Rattle.papaya_acts.specs.Doings.{Does}
 use Rattle.papaya_acts.specs.Leads.{AllStand}
 use Rattle.seize_seats.specs.State.{State, view_of}
 use Rattle.seize_views.specs.Rows.{row_of, use_of, IsPlain, IsShort, IsKnown, IsBounded}
@@ -19,6 +21,7 @@ use Rattle.seize_views.specs.declared.view.View.TheVariants as slot_view
 use Rattle.seize_views.specs.declared.view.Why.TheVariants.{Retiring, Ending}
 use Rattle.seize_views.proofs.InWorld.{slot_held, slot_of as same_number}
 use Rattle.seize_views.proofs.Moved.{not_vacant}
+use Rattle.papaya_views.specs.Listed.{AreNumbered}
 use Rattle.papaya_views.specs.Rule.{MapsWorld, IsSlot, IsIdle, IsUsedSo, HasRow, DoesSo, Fits, AreSo, KnowsRow, Holds, IsFresh, caller_at, place_of, held_slot}
 use Rattle.papaya_views.specs.declared.view.Map.{Map}
 use Rattle.papaya_views.specs.declared.view.View.{View}
@@ -106,9 +109,8 @@ module _ {K V S : Type 0} (same : K → K → Bool) (hash : S → K → ℕ) (fi
       maps_on m r is =
           let g = subst (λ (o : Option (Standing K)). IsSameMap o (maps2 m)) is (same_maps m) in (record r { blocks = g.0; sights = g.1 }, g.2, refl, refl)
 
-      fresh_on : (k : ℕ) × IsFresh next k
-      fresh_on =
-          (so.fresh.0, (λ m above. subst (λ (o : Option (Standing K)). IsSameMap o (maps2 m)) (so.fresh.1.0 m above) (same_maps m), so.fresh.1.1))
+      fresh_on : IsFresh next so.fresh.0
+      fresh_on = (λ m above. subst (λ (o : Option (Standing K)). IsSameMap o (maps2 m)) (so.fresh.1.0 m above) (same_maps m), so.fresh.1.1)
 
       module _ (leaves : Leaves same hash fixed.batch_size scene next i (use_of v.slot)) (row : n.row i ≡ row_of u) (used : IsUsedSo n (use_of u))
           (stays : (row_of u ≡ Rests) ⊎ (slot_held (use_of u) ≡ slot_held (use_of v.slot))) (its_slot : IsSlot (place_of u)) where
@@ -143,10 +145,10 @@ module _ {K V S : Type 0} (same : K → K → Bool) (hash : S → K → ℕ) (fi
         bounds b (inl e) = subst (λ (a : ℕ). IsBounded deferred_word fixed n (caller_at id a) u) (sym e) b
         bounds b (inr (ne, rests)) = rest_bounded fixed n (caller_at id there) u rests
 
-        pub go : (m : Mem (Node K V)) → m ≡ n.memory → IsPlain u → IsShort u → IsKnown n u → IsBounded deferred_word fixed n i u
+        pub go : (act : Act K V S) → AreNumbered 0 (s.world.doings ++ Does act ∷ []) so.fresh.0 → (m : Mem (Node K V)) → m ≡ n.memory → IsPlain u → IsShort u → IsKnown n u → IsBounded deferred_word fixed n i u
             → ((j t : ℕ) (a b : Use) (x : View K V S) → j ≢ id → view_of s j ≡ Some x → use_of x.slot ≡ Some (t, a) → use_of u ≡ Some (t, b) → ⊥)
-            → Moved same hash fixed s h id m w next
-        go m memory plain short known bounded alone = record {
+            → Moved same hash fixed s h id act m w next
+        go act numbered m memory plain short known bounded alone = record {
           memory = memory;
           own = record {
             slot = its_slot;
@@ -162,6 +164,6 @@ module _ {K V S : Type 0} (same : K → K → Bool) (hash : S → K → ℕ) (fi
           leaves = leaves;
           theirs = λ j t a b x ne at uses mine. ne (so.apart j id t a b x v at at_id uses mine);
           alone = alone;
-          fresh = fresh_on;
+          fresh = (so.fresh.0, fresh_on, numbered);
           row = record { plain = plain; short = short; known = known; bounded = bounds bounded (goes_on (cases_eq there place)) };
         }

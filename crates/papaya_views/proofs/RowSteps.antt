@@ -1,5 +1,5 @@
 -- The row of a seat takes a step: its next operation may be made at any moment; or it ends.
-use Rattle.std.specs.Prelude.{◌≢◌, Option, Some, None}
+use Rattle.std.specs.Prelude.{◌≢◌, ◌++◌, ◌∷◌, Option, Some, None}
 use Rattle.std.specs.Option.{is_none}
 use Rattle.std.proofs.Common.{◌≡◌, ℕ, ◌+◌, Bool, [], inl, inr, refl, sym, subst, ap, ◌∙◌}
 use Rattle.seize_words.specs.Mem.{Mem}
@@ -27,12 +27,14 @@ use Rattle.seize_views.specs.declared.view.Fixed.{Fixed}
 use Rattle.seize_views.specs.declared.view.View.{View as SlotView}
 use Rattle.seize_views.proofs.InWorld.{IsLikeness, IsUsedLike, HasRow as RowIn, Went, GoesTo}
 use Rattle.seize_views.proofs.Steps.{works_on_own}
+use Rattle.papaya_views.specs.Listed.{AreNumbered}
 use Rattle.papaya_views.specs.Rule.{MapsWorld, IsSlot, IsUsedSo, Holds, KeepsFor, held_slot}
 use Rattle.papaya_views.specs.declared.view.View.{View}
 use Rattle.papaya_views.specs.declared.view.Work.TheVariants.{Nothing}
 use Rattle.papaya_views.proofs.Alone.{alone_on_slot}
 use Rattle.papaya_views.proofs.Made.{row_keeps}
 use Rattle.papaya_views.proofs.Leaves.{Leaves, alike_same}
+use Rattle.papaya_views.proofs.Listed.{numbered_on}
 use Rattle.papaya_views.proofs.Moved.{moved}
 use Rattle.papaya_views.proofs.Numbers.{first_slot}
 use Rattle.papaya_views.proofs.Ran.{Ran, ran_stays, ran_ends_none, ran_keeps, ran_passes}
@@ -148,8 +150,12 @@ module _ {K V S : Type 0} (same : K → K → Bool) (hash : S → K → ℕ) (fi
         moved same hash fixed s h id v at_id (StepsRow me granted.0) may after
         (led.6 ∙ ap (λ (x : World (Node K V)). record (scene same hash fixed s h id v at_id) { world = x; maps = led.3 }) (sym same_world)) m
         (w same hash fixed s h id v at_id free u began n led.3 led.4)
-        (go same hash fixed s h id v at_id free u began n led.3 led.4 leaves g.row (used_like n (use_of u) g.used) g.place (its_slot (use_of u) refl) m g.memory g.plain g.short g.known g.bounded
-        alone) so_told is
+        (go same hash fixed s h id v at_id free u began n led.3 led.4 leaves g.row (used_like n (use_of u) g.used) g.place (its_slot (use_of u) refl) (StepsRow me granted.0) numbered m g.memory
+        g.plain g.short g.known g.bounded alone)
+        (record { own = ((λ a k. 0), tt); others = λ j ne theirs. refl; its = λ are. are; newest = λ other on. absurd (cc on) }) so_told is
+      where
+        numbered : AreNumbered 0 (s.world.doings ++ Does (StepsRow me granted.0) ∷ []) (so same hash fixed s h id v at_id).fresh.0
+        numbered = let f = (so same hash fixed s h id v at_id).fresh in numbered_on s.world.doings (Does (StepsRow me granted.0) ∷ []) 0 f.0 f.0 f.2 refl
 
   -- what leads on in the world leads on
   pub steps_to : (m : Mem (Node K V)) (began : Began) (so_in : SlotView (Node K V) → Type 0) (so_told : View K V S → Type 0) → GoesTo deferred_word fixed IsUsedAlike now me v.slot m so_in

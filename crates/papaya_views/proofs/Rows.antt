@@ -71,9 +71,11 @@ module _ {K V S : Type 0} (same : K → K → Bool) (hash : S → K → ℕ) (fi
           knew = v;
           at = ap (view_of s) e ∙ at_id;
           slot = ap (λ (y : View K V S). y.slot) (sym one);
+          calls = ap (λ (y : View K V S). y.calls) (sym one);
+          work = ap (λ (y : View K V S). y.work) (sym one);
           fits = subst (λ (y : View K V S). Fits same hash s.world.scene k y) one (subst (λ (a : ℕ). Fits same hash s.world.scene a w) (sym e) g);
         }
-    had k x at (inr ne) = let was = sym (elsewhere s.views id k w ne) ∙ at in record { knew = x; at = was; slot = refl; fits = h.so.seats k x was }
+    had k x at (inr ne) = let was = sym (elsewhere s.views id k w ne) ∙ at in record { knew = x; at = was; slot = refl; calls = refl; work = refl; fits = h.so.seats k x was }
 
     unborn : (k : ℕ) → slice_get views k ≡ None → (k ≡ id) ⊎ (k ≢ id) → view_of s k ≡ None
     unborn k at (inl e) = let f = here k e in absurd (cc (f, at))

@@ -1,8 +1,9 @@
 -- The rule starts, and seats come.
-use Rattle.std.specs.Prelude.{Some, None}
-use Rattle.std.proofs.Common.{◌≡◌, ℕ, Bool, [], ◌⊎◌, inl, inr, refl, sym, subst, ap}
+use Rattle.std.specs.Prelude.{◌++◌, Option, Some, None, slice_get}
+use Rattle.std.proofs.Common.{◌≡◌, ℕ, Bool, List, [], ◌∷◌, ◌⊎◌, inl, inr, refl, sym, subst, ap, ◌∙◌}
 use Rattle.papaya_tables.specs.Given.SeizeWorld.{Use}
 use Rattle.papaya_tables.specs.declared.node.Node.{Node}
+use Rattle.papaya_raw.specs.declared.machines.machine.Machine.{Machine}
 use Rattle.papaya_acts.specs.Given.ScenesScene.{Scene, slot_of, at_first}
 use Rattle.papaya_acts.specs.Lists.{nothing_done}
 use Rattle.papaya_acts.proofs.Lists.{lists_determine}
@@ -10,8 +11,11 @@ use Rattle.seize_seats.specs.State.{State, view_of}
 use Rattle.seize_views.specs.Rows.{use_of}
 use Rattle.seize_views.proofs.Lists.{with_last, none_before}
 use Rattle.papaya_views.specs.Promises.{RulesStart, SeatsCome}
-use Rattle.papaya_views.specs.Rule.{MapsWorld, Fits, KnowsRow, IsIdle, IsSlot, caller_at, at_rest}
+use Rattle.papaya_views.specs.Listed.{calls_of, IsNewest}
+use Rattle.papaya_views.specs.Rule.{MapsWorld, Fits, KnowsRow, AreRuns, IsIdle, IsSlot, caller_at, place_of, at_rest, runs_of}
+use Rattle.papaya_views.specs.declared.view.Run.{Run}
 use Rattle.papaya_views.specs.declared.view.View.{View}
+use Rattle.papaya_views.specs.declared.view.Work.TheVariants.{Nothing, Calls}
 use Rattle.papaya_views.proofs.Knows.{knows_rests}
 use Rattle.papaya_views.proofs.Numbers.{first_slot}
 
@@ -31,10 +35,13 @@ module _ {K S : Type 0} (V : Type 0) (same : K → K → Bool) (hash : S → K �
             seats = λ j v e. absurd (cc e);
             unborn = λ j t is e. record { calls = λ m. refl; makers = refl; enders = refl; row = refl };
             apart = λ j k t a b v u e f p q. absurd (cc e);
-            fresh = (0, ((λ m above. refl), (λ i b is. absurd (cc is))));
+            fresh = (0, ((λ m above. refl), (λ i b is. absurd (cc is))), refl);
             unended = λ o. refl;
           };
           rows = λ j v e. absurd (cc e);
+          own = tt;
+          calls = λ j. tt;
+          newest = λ j v machine e works. absurd (cc e);
         },
       )
 
@@ -73,6 +80,10 @@ module _ {K S : Type 0} (V : Type 0) (same : K → K → Bool) (hash : S → K �
         unended = h.so.unended;
       };
       rows = λ j x e. row j x (with_last s.views j at_rest x e);
+      own = h.own;
+      calls = λ j.
+          subst (λ (runs : List (Run K V)). AreRuns same hash s.world.scene (calls_of j s.world.doings h.reached.1 []) runs) (as_before j (slice_get (s.views ++ at_rest ∷ []) j) refl) (h.calls j);
+      newest = λ j x machine e works. newest j x machine works (with_last s.views j at_rest x e);
     },
     λ b u o keeps. keeps,
   )
@@ -84,6 +95,18 @@ module _ {K S : Type 0} (V : Type 0) (same : K → K → Bool) (hash : S → K �
       row : (j : ℕ) (x : View K V S) → Came s j x → KnowsRow fixed s.world.scene j x.slot
       row j x (inl e) = h.rows j x e
       row j x (inr e) = knows_rests fixed s.world.scene j x.slot (ap (λ (y : View K V S). y.slot) (sym e.1))
+
+      as_came : (j : ℕ) (x : View K V S) → Came s j x → runs_of (view_of s j) ≡ x.calls
+      as_came j x (inl e) = ap runs_of e
+      as_came j x (inr e) = ap runs_of e.0 ∙ ap (λ (y : View K V S). y.calls) e.1
+
+      newest : (j : ℕ) (x : View K V S) (machine : Machine K V K) → x.work ≡ Calls machine → Came s j x → IsNewest (caller_at j (place_of x.slot)) (calls_of j s.world.doings h.reached.1 [])
+      newest j x machine works (inl e) = h.newest j x machine e works
+      newest j x machine works (inr e) = let none = ap (λ (y : View K V S). y.work) e.1 in absurd (cc (none, works))
+
+      as_before : (j : ℕ) (o : Option (View K V S)) → slice_get (s.views ++ at_rest ∷ []) j ≡ o → runs_of (view_of s j) ≡ runs_of o
+      as_before j None e = ap runs_of (none_before s.views j at_rest e)
+      as_before j (Some x) e = as_came j x (with_last s.views j at_rest x e)
 
       no_slot : (x : View K V S) (t : ℕ) (a : Use) → at_rest ≡ x → use_of x.slot ≡ Some (t, a) → ⊥
       no_slot x t a e p = let f = ap (λ (y : View K V S). use_of y.slot) e in cc (f, p)

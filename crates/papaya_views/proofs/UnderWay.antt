@@ -1,5 +1,5 @@
 -- What is so of a seat that has a call under way: the next step of it may be taken, and is that of an act.
-use Rattle.std.specs.Prelude.{Option, Some, None, if◌then◌else◌}
+use Rattle.std.specs.Prelude.{◌++◌, Option, Some, None, if◌then◌else◌}
 use Rattle.std.specs.Option.{is_none}
 use Rattle.std.proofs.Common.{◌≡◌, ℕ, Bool, List, ◌⊎◌, inl, inr, sym, subst, ap, ◌∙◌, refl, true, false, [], ◌∷◌}
 use Rattle.seize_words.specs.Mem.{Mem, Can, Took, value_at}
@@ -34,7 +34,7 @@ use Rattle.papaya_acts.specs.Given.ScenesScene.{Scene, slot_of}
 use Rattle.papaya_looks.specs.Looks.{IsAtRow}
 use Rattle.papaya_looks.specs.Sees.{HasSeen, GoesOn, IsOwnOf}
 use Rattle.papaya_looks.proofs.Sees.Promised.{steps_see}
-use Rattle.papaya_acts.specs.Acts.{StepsCall}
+use Rattle.papaya_acts.specs.Acts.{Act, Answer, StepsCall}
 use Rattle.papaya_acts.specs.Doings.{Does, MayDo}
 use Rattle.papaya_acts.specs.Leads.{AllStand, CallCame, call_at, call_steps}
 use Rattle.papaya_acts.specs.Lists.{AllMayStep, AllAreActs}
@@ -46,7 +46,8 @@ use Rattle.seize_views.specs.declared.view.Fixed.{Fixed}
 use Rattle.seize_views.specs.declared.view.Has.TheVariants.{Nothing as NoBlock}
 use Rattle.seize_views.specs.declared.view.View.{View as SlotView}
 use Rattle.seize_views.specs.declared.view.View.TheVariants as slot_view
-use Rattle.papaya_views.specs.Rule.{MapsWorld, DoesSo, KnowsMap, KnowsPair, Fits, AreSo, Holds, KeepsFor, caller_at, place_of, IsInSection, IsOfCall, AllHeld}
+use Rattle.papaya_views.specs.Listed.{Called, calls_of, calls_then, has_told, IsNewest}
+use Rattle.papaya_views.specs.Rule.{MapsWorld, DoesSo, KnowsMap, KnowsPair, AreRuns, Fits, AreSo, Holds, KeepsFor, caller_at, place_of, IsInSection, IsOfCall, AllHeld}
 use Rattle.papaya_views.specs.Reclaims.{IsNextOf, copies_at_row, disposes_at_row, calls_at_row, reserves_at_row, sweeps_at_row, is_at_row}
 use Rattle.papaya_views.specs.Told.{HandsBack, call_after, called, newest_told}
 use Rattle.papaya_views.specs.declared.view.Map.{Map}
@@ -55,7 +56,8 @@ use Rattle.papaya_views.specs.declared.view.Work.{Work}
 use Rattle.papaya_views.specs.declared.view.Work.TheVariants.{Calls}
 use Rattle.papaya_views.proofs.Knows.{knows_inside}
 use Rattle.papaya_views.proofs.Leaves.{Leaves, call_here, inside_of, own_idle, map_on}
-use Rattle.papaya_views.proofs.Moved.{scene_of, all_stand, are_so, Moved, same_slot, moved}
+use Rattle.papaya_views.proofs.Listed.{is_its, is_other, newest_on, newest_runs, numbered_on}
+use Rattle.papaya_views.proofs.Moved.{scene_of, all_stand, are_so, Moved, Adds, same_slot, moved}
 use Rattle.papaya_views.proofs.Next.{after, step_leaves, step_fresh, own_does}
 use Rattle.papaya_views.proofs.Looked.{AllLooked}
 use Rattle.papaya_views.proofs.RowLooks.{row_sees}
@@ -284,7 +286,10 @@ module _ {K V S : Type 0} (same : K → K → Bool) (hash : S → K → ℕ) (fi
       idle = own_idle same hash scene n id place fits.slot fixed.batch_size None leaves fits.idle;
     }
 
-    go : Moved same hash fixed s h id m2 w n
+    abbrev act : Act K V S
+    act = StepsCall i map.number granted.0
+
+    go : Moved same hash fixed s h id act m2 w n
     go = record {
       memory = memory_is ∙ sym came.did.memory;
       own = own;
@@ -298,11 +303,31 @@ module _ {K V S : Type 0} (same : K → K → Bool) (hash : S → K → ℕ) (fi
         so.fresh.0,
         step_fresh same hash fixed.batch_size fixed.roots scene all id place map.number fits.slot came.standing came.stands came.call came.here inside on_row came.memory came.machine came.progress
             came.did so.fresh.0 so.fresh.1,
+        numbered_on s.world.doings (Does act ∷ []) 0 so.fresh.0 so.fresh.0 so.fresh.2 refl,
       );
       row = knows_inside fixed n id place v.slot slot_is;
     }
 
+    -- what the step has told is what the call has told last
+    abbrev calls : List (Called K V)
+    calls = calls_of id s.world.doings h.reached.1 []
+
+    adds : Adds same hash fixed s h id act (h.course.told h.reached.0 (Does act) may_do) v w n calls
+    adds = record {
+      own = ((λ a k. 0), tt);
+      others = λ j ne theirs.
+          ap (λ (told : Answer K V). calls_then j (Does act) told theirs) came.tells ∙ ap (λ (q : Bool). if q then has_told i came.progress theirs else theirs) (is_other j id place fits.slot ne);
+      its = λ are.
+          subst (λ (told : Answer K V). AreRuns same hash n (calls_then id (Does act) told calls) w.calls) (sym came.tells)
+          (subst (λ (q : Bool). AreRuns same hash n (if q then has_told i came.progress calls else calls) w.calls) (sym (is_its id place fits.slot))
+          (newest_runs same hash n i came.progress calls v.calls (h.newest id v machine at_id works) are));
+      newest = λ other on.
+          subst (λ (told : Answer K V). IsNewest i (calls_then id (Does act) told calls)) (sym came.tells)
+          (subst (λ (q : Bool). IsNewest i (if q then has_told i came.progress calls else calls)) (sym (is_its id place fits.slot))
+          (newest_on i came.progress calls (h.newest id v machine at_id works)));
+    }
+
     pub goes : (so : View K V S → Type 0) → so (called v map machine end looks) → Goes (Holds same hash fixed) KeepsFor s m2 id so
     goes so is =
-        moved same hash fixed s h id v at_id (StepsCall i map.number granted.0) may_do n came.comes m2 w go so
+        moved same hash fixed s h id v at_id act may_do n came.comes m2 w go adds so
         (subst (λ (e : Machine K V K × Progress (Node K V)). so (called v map machine e looks)) end_is is)

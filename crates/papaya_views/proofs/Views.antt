@@ -1,12 +1,14 @@
 -- The rule holds of other views of the seats, where each has the slot that it had, and knows what is so.
-use Rattle.std.specs.Prelude.{Some, None, slice_get}
-use Rattle.std.proofs.Common.{◌≡◌, ℕ, Bool, List, sym, subst, ap, ◌∙◌}
+use Rattle.std.specs.Prelude.{Option, Some, None, slice_get}
+use Rattle.std.proofs.Common.{◌≡◌, ℕ, Bool, List, [], refl, sym, subst, ap, ◌∙◌}
 use Rattle.papaya_tables.specs.declared.node.Node.{Node}
 use Rattle.seize_seats.specs.State.{State, view_of}
 use Rattle.seize_views.specs.Rows.{use_of}
 use Rattle.seize_views.specs.declared.view.Fixed.{Fixed}
 use Rattle.seize_views.specs.declared.view.View.{View as SlotView}
-use Rattle.papaya_views.specs.Rule.{MapsWorld, Fits, KnowsRow, Holds}
+use Rattle.papaya_views.specs.Listed.{calls_of, IsNewest}
+use Rattle.papaya_views.specs.Rule.{MapsWorld, Fits, KnowsRow, AreRuns, Holds, caller_at, place_of, runs_of}
+use Rattle.papaya_views.specs.declared.view.Run.{Run}
 use Rattle.papaya_views.specs.declared.view.View.{View}
 
 module _ {K V S : Type 0} (same : K → K → Bool) (hash : S → K → ℕ) (fixed : Fixed) (s : State (Node K V) (View K V S) (MapsWorld K V S)) (h : Holds same hash fixed s)
@@ -16,6 +18,8 @@ module _ {K V S : Type 0} (same : K → K → Bool) (hash : S → K → ℕ) (fi
     pub knew : View K V S
     pub at : view_of s k ≡ Some knew
     pub slot : x.slot ≡ knew.slot
+    pub calls : x.calls ≡ knew.calls
+    pub work : x.work ≡ knew.work
     pub fits : Fits same hash s.world.scene k x
 
   pub views_hold : ((k : ℕ) (x : View K V S) → slice_get views k ≡ Some x → Had k x) → ((k : ℕ) → slice_get views k ≡ None → view_of s k ≡ None)
@@ -38,4 +42,14 @@ module _ {K V S : Type 0} (same : K → K → Bool) (hash : S → K → ℕ) (fi
       unended = h.so.unended;
     };
     rows = λ k x at. let o = had k x at in subst (λ (z : SlotView (Node K V)). KnowsRow fixed s.world.scene k z) (sym o.slot) (h.rows k o.knew o.at);
+    own = h.own;
+    calls = λ k.
+        subst (λ (runs : List (Run K V)). AreRuns same hash s.world.scene (calls_of k s.world.doings h.reached.1 []) runs) (as_before k (slice_get views k) refl) (h.calls k);
+    newest = λ k x machine at works.
+        let o = had k x at in
+        subst (λ (z : SlotView (Node K V)). IsNewest (caller_at k (place_of z)) (calls_of k s.world.doings h.reached.1 [])) (sym o.slot) (h.newest k o.knew machine o.at (sym o.work ∙ works));
   }
+    where
+      as_before : (k : ℕ) (o : Option (View K V S)) → slice_get views k ≡ o → runs_of (view_of s k) ≡ runs_of o
+      as_before k None e = ap runs_of (none k e)
+      as_before k (Some x) e = let one = had k x e in ap runs_of one.at ∙ sym one.calls

@@ -1,5 +1,6 @@
 pub mod Looks
 pub mod Reclaims
+pub mod Listed
 pub mod Rule
 pub mod Told
 pub mod Begun

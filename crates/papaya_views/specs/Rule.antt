@@ -1,6 +1,7 @@
 -- The rule of maps: a list of acts has led to a scene, of which the memory is that of the state; and what each seat knows of its slot, of a map and of what it has
 -- under way is so there, and the blocks that it knows to be held for it are there, and last.
 use Rattle.std.specs.Prelude.{◌≡◌, ◌≢◌, ℕ, ◌+◌, ◌*◌, ◌<◌, Bool, List, [], Option, Some, None, true, false, ◌∷◌, ◌≤◌, ◌⊎◌}
+use Rattle.std.specs.List.{AllByRecursion}
 use Rattle.seize_words.specs.Mem.{value_at}
 use Rattle.papaya_tables.specs.Given.SeizeLaw.{holds, is_over}
 use Rattle.papaya_tables.specs.Given.SeizeWorld.{World, Use, Rests, IsInside}
@@ -27,6 +28,8 @@ use Rattle.seize_views.specs.declared.view.Fixed.{Fixed}
 use Rattle.seize_views.specs.declared.view.Has.TheVariants.{Nothing as NoBlock}
 use Rattle.seize_views.specs.declared.view.View.{View as SlotView}
 use Rattle.seize_views.specs.declared.view.View.TheVariants as slot_view
+use Rattle.papaya_views.specs.Begun.{machine_for}
+use Rattle.papaya_views.specs.Listed.{Called, plain, calls_of, AreNumbered, IsItsOwn, IsNewest}
 use Rattle.papaya_views.specs.Reclaims.{IsNextOf}
 use Rattle.papaya_views.specs.Told.{pair_in}
 use Rattle.papaya_views.specs.declared.view.Map.{Map}
@@ -53,6 +56,11 @@ place_of v = held_slot (use_of v)
 -- a seat that holds no slot and knows no map
 abbrev pub at_rest : {K V S : Type 0} → View K V S
 at_rest = record { slot = slot_view.Rests; map = None; work = Nothing; looks = []; held = []; began = NotYet; calls = [] }
+
+-- the calls that a seat has begun; one that has not come has begun none
+abbrev pub runs_of : {K V S : Type 0} → Option (View K V S) → List (Run K V)
+runs_of None = []
+runs_of (Some v) = v.calls
 
 -- what has been done, and the scene to which it has led
 pub record MapsWorld (K V S : Type 0) : Type 0 where
@@ -153,6 +161,21 @@ module _ {K V S : Type 0} (same : K → K → Bool) (hash : S → K → ℕ) whe
   AllHeld s slot work [] = Unit {0}
   AllHeld s slot work (look ∷ looks) = IsHeld s slot work look × AllHeld s slot work looks
 
+  -- A call that a seat knows of is this one of the list: it began as that does on a map that stands, in the slot of its caller, and has told the same last.
+  pub record IsRun (s : Scene K V) (call : Called K V) (run : Run K V) : Type 0 where
+    pub map : Map S
+    pub stands : KnowsMap s (Some map)
+    pub number : map.number ≡ call.map
+    pub plainly : plain call.wanted ≡ call.wanted
+    pub began : run.began ≡ machine_for same hash map (slot_of call.caller) call.wanted
+    pub told : run.told ≡ call.told
+
+  -- each of them, and there are no others
+  abbrev pub AreRuns : Scene K V → List (Called K V) → List (Run K V) → Type 0
+  AreRuns s [] [] = Unit {0}
+  AreRuns s (call ∷ calls) (run ∷ runs) = IsRun s call run × AreRuns s calls runs
+  AreRuns s calls runs = ⊥
+
   -- what a seat knows is so; in other slots it has nothing under way
   pub record Fits (s : Scene K V) (j : ℕ) (v : View K V S) : Type 0 where
     pub slot : IsSlot (place_of v.slot)
@@ -168,7 +191,7 @@ module _ {K V S : Type 0} (same : K → K → Bool) (hash : S → K → ℕ) whe
     pub seats : (j : ℕ) (v : View K V S) → view_of s j ≡ Some v → Fits scene j v
     pub unborn : (j t : ℕ) → IsSlot t → view_of s j ≡ None → IsIdle scene (caller_at j t)
     pub apart : (j k t : ℕ) (a b : Use) (v u : View K V S) → view_of s j ≡ Some v → view_of s k ≡ Some u → use_of v.slot ≡ Some (t, a) → use_of u.slot ≡ Some (t, b) → j ≡ k
-    pub fresh : (k : ℕ) × IsFresh scene k
+    pub fresh : (k : ℕ) × IsFresh scene k × AreNumbered 0 s.world.doings k
     pub unended : (o : ℕ) → how_many (is_end_of_owner o) scene.world.log ≡ 0
 
   pub record Holds (fixed : Fixed) (s : State (Node K V) (View K V S) (MapsWorld K V S)) : Type 0 where
@@ -179,6 +202,9 @@ module _ {K V S : Type 0} (same : K → K → Bool) (hash : S → K → ℕ) whe
     pub nobody : reclaiming V same hash fixed.batch_size fixed.roots slot_of reached.0 ≡ None
     pub so : AreSo s s.world.scene
     pub rows : (j : ℕ) (v : View K V S) → view_of s j ≡ Some v → KnowsRow fixed s.world.scene j v.slot
+    pub own : AllByRecursion (IsItsOwn hash) s.world.doings
+    pub calls : (j : ℕ) → AreRuns s.world.scene (calls_of j s.world.doings reached.1 []) (runs_of (view_of s j))
+    pub newest : (j : ℕ) (v : View K V S) (machine : Machine K V K) → view_of s j ≡ Some v → v.work ≡ Calls machine → IsNewest (caller_at j (place_of v.slot)) (calls_of j s.world.doings reached.1 [])
 
 -- the section of the one's slot holds the block, which is not over
 abbrev pub KeepsFor : {K V S : Type 0} → View K V S → View K V S → MapsWorld K V S → ℕ → Type 0

@@ -1,7 +1,7 @@
 //! A seat on an errand runs a call on one key that asks nothing.
-ghost use Rattle.std.specs.Prelude.{◌≡◌, ℕ, true, false, Some, IfErr};
+ghost use Rattle.std.specs.Prelude.{◌≡◌, ℕ, true, false, Some, IfErr, IfNone, IfSome};
 ghost use Rattle.papaya_views.specs.Given.ActsActs.{Insert};
-ghost use Rattle.papaya_shared.specs.Calling.{CalledSo, HasCalled, HasEnded, IsCalling, MachineStores, MayCall};
+ghost use Rattle.papaya_shared.specs.Calling.{CalledSo, HasCalled, HasEnded, IsCalling, IsGoing, IsNoQuestion, MachineStores, MayCall, handed_by, outcome_of};
 ghost use Rattle.papaya_shared.specs.Looking.{Begins, HasTold, StaysThere};
 ghost use Rattle.papaya_shared.specs.Made.{IsSameSeat};
 ghost use Rattle.papaya_views.specs.Given.TablesChunks.{is_incremental};
@@ -30,6 +30,25 @@ pub(crate) struct Ran<K, V> {
     pub(crate) unstored: Option<Node<K, V>>,
     /// Where to look for numbers next.
     pub(crate) near: u64,
+}
+
+/// How a call has ended, if it has, by what its step tells. What that hands back is kept.
+fn ended<T: Drop>(told: Progress<T>, unstored: &mut Option<T>) -> Option<Result<Answer, Fault>>
+    requires plain { IsNoQuestion told }
+    ensures ended { IfSome result (λ answer. told ≡ outcome_of answer) }
+    ensures goes { IfNone result (IsGoing told) }
+    ensures unstored { unstored.new ≡ handed_by told unstored.old }
+{
+    match told {
+        Progress::Goes | Progress::Waits | Progress::Gave(_) => None,
+        Progress::Unstored(pair) => {
+            *unstored = Some(pair);
+            None
+        }
+        Progress::Done(answer) => Some(Ok(answer)),
+        Progress::Refused(fault) => Some(Err(fault)),
+        Progress::Asks(_) | Progress::Ready | Progress::Pair(_) => unreachable!(),
+    }
 }
 
 impl<'a, K: Eq + Hash + Drop, V: Drop, S: Hashes<K>> Within<'a, K, V, S> {
@@ -84,12 +103,9 @@ impl<'a, K: Eq + Hash + Drop, V: Drop, S: Hashes<K>> Within<'a, K, V, S> {
         let mut machine = machine;
         let mut unstored = None;
         for _ in rt.forever() {
-            match self.calls(&mut machine, hasher) {
-                Progress::Goes | Progress::Waits | Progress::Gave(_) => {}
-                Progress::Unstored(node) => unstored = Some(node),
-                Progress::Done(answer) => return self.ran(Ok(answer), unstored),
-                Progress::Refused(fault) => return self.ran(Err(fault), unstored),
-                Progress::Asks(_) | Progress::Ready | Progress::Pair(_) => unreachable!(),
+            let told = self.calls(&mut machine, hasher);
+            if let Some(answer) = ended(told, &mut unstored) {
+                return self.ran(answer, unstored);
             }
         }
         unreachable!()

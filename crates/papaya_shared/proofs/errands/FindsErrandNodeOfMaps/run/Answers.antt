@@ -1,6 +1,6 @@
 use Rattle.std.proofs.Common.{rules}
 use Rattle.seize_callers.proofs.Keeping.{kept_same}
-use Rattle.papaya_shared.proofs.errands.FindsErrandNode.run.Goals as goal
+use Rattle.papaya_shared.proofs.errands.FindsErrandNodeOfMaps.run.Goals as goal
 
 -- the seat is the one that was lent
 pub returns : goal.returns
