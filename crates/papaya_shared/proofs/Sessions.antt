@@ -1,5 +1,5 @@
 -- What a session knows of its map, and that it may look a key up, and store a pair, there.
-use Rattle.std.specs.Prelude.{Option, Some, None}
+use Rattle.std.specs.Prelude.{Option, Some, None, IsSome}
 use Rattle.std.proofs.Common.{◌≡◌, ℕ, true, refl, sym, ap, ◌∙◌}
 use Rattle.papaya_views.proofs.Given.SeizeActsAnswers.{same_some}
 use Rattle.papaya_views.specs.Given.TablesChunks.{is_incremental}
@@ -19,6 +19,10 @@ use Rattle.papaya_shared.specs.Standing.{known_as, known_by}
 pub known : {S : Type 0} (o : Option (Map S)) (x : Setting × S) → known_as o ≡ Some x → (map : Map S) × (o ≡ Some map) × ((map.setting, map.hasher) ≡ x)
 known None x e = absurd (cc e)
 known (Some map) x e = (map, refl, same_some (map.setting, map.hasher) x e)
+
+pub known_some : {S : Type 0} (o : Option (Map S)) → IsSome (known_as o) → (map : Map S) × (o ≡ Some map)
+known_some None e = absurd e
+known_some (Some map) e = (map, refl)
 
 module _ {K V S : Type 0} (hash : S → K → ℕ) where
   -- it may look a key up, within its section

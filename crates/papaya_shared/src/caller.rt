@@ -9,8 +9,9 @@ ghost use Rattle.seize_callers.specs.Kept.{is_home};
 
 mod calls;
 mod rows;
+mod seats;
 
-use crate::turns::Showing;
+use crate::seats::newcomer;
 use papaya_tables::{Hashes, Node};
 use papaya_views::OfMaps;
 use seize_blocks::{Blocks, Seat};
@@ -45,9 +46,8 @@ impl<'a, K: Eq, V, S: Hashes<K>> Caller<'a, K, V, S> {
         ensures blocks { (self.new.blocks ≡ self.old.blocks) × (result.blocks.now ≡ self.old.blocks.now) }
         ensures shown { HandsOn self.old.seat.view at_rest self.new.seat.view result.seat.view }
     {
-        let mut other = Caller::new(self.blocks);
-        self.blocks.meet::<Showing>(&mut self.seat, &mut other.seat);
-        other
+        let seat = newcomer(self.blocks, &mut self.seat);
+        Caller::of(self.blocks, seat)
     }
 }
 

@@ -4,6 +4,7 @@
 mod caller;
 mod errands;
 mod memory;
+mod seats;
 mod session;
 mod turns;
 mod within;
@@ -11,5 +12,6 @@ mod within;
 pub use caller::Caller;
 pub use memory::memory_for;
 pub use papaya_views::OfMaps;
+pub use seats::newcomer;
 pub use seize_views::Fixed;
 pub use session::{Found, Session};

@@ -11,6 +11,8 @@ ghost use Rattle.papaya_views.specs.declared.view.Work.TheVariants.{Nothing as N
 ghost use Rattle.papaya_views.specs.Given.SeizeViewsDeclared.view.Has.TheVariants.{Nothing};
 ghost use Rattle.papaya_views.specs.Given.SeizeViewsDeclared.view.View.TheVariants.{Inside, Outside, Rests};
 
+mod seats;
+
 use crate::caller::Caller;
 use crate::within::Ran;
 use papaya_raw::machines::{Answer, KeyAnswer};

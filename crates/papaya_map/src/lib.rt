@@ -1,0 +1,10 @@
+//! A hash map that threads share. It owns its memory and its hasher; each of those who share it has a session.
+#![tactic(auto)]
+
+mod map;
+mod session;
+
+pub use map::HashMap;
+pub use seize::IdSource;
+pub use seize_words::{Fault, Refused};
+pub use session::Session;

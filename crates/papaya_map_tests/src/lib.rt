@@ -1,0 +1,11 @@
+//! Tests of a hash map that threads share.
+#![tactic(auto)]
+
+#[cfg(test)]
+mod counting;
+#[cfg(test)]
+mod making;
+#[cfg(test)]
+mod meeting;
+#[cfg(test)]
+mod storing;

@@ -1,0 +1,27 @@
+//! A seat that knows a map, apart from its memory, hands the map on to one more.
+ghost use Rattle.std.specs.Prelude.{◌≡◌, IsSome, true};
+ghost use Rattle.papaya_shared.specs.Standing.{come_to, known_by};
+ghost use Rattle.seize_callers.specs.Kept.{is_home};
+
+use crate::turns::Showing;
+use papaya_tables::{Hashes, Node};
+use papaya_views::OfMaps;
+use seize_blocks::{Blocks, Seat};
+
+/// One seat more of this memory, which holds no slot, and to which the map is handed on that the other one knows.
+pub fn newcomer<K: Eq, V, S: Hashes<K>>(
+    blocks: &Blocks<Node<K, V>, OfMaps<S>>,
+    seat: &mut Seat<Node<K, V>, OfMaps<S>>,
+) -> Seat<Node<K, V>, OfMaps<S>>
+    requires own { seat.old.base ≡ blocks.now.words.id.views_name }
+    requires home { is_home seat.old.away ≡ true }
+    requires knows { IsSome (known_by seat.old.view) }
+    ensures same { (seat.new.base ≡ seat.old.base) × (seat.new.view ≡ seat.old.view) × (seat.new.away ≡ seat.old.away) }
+    ensures own { result.base ≡ blocks.now.words.id.views_name }
+    ensures home { is_home result.away ≡ true }
+    ensures shown { result.view ≡ come_to seat.old.view.map }
+{
+    let mut other = blocks.seat();
+    blocks.meet::<Showing>(seat, &mut other);
+    other
+}
