@@ -122,12 +122,12 @@ impl<K: Eq + Hash + Drop, V: Drop, S: BuildHasher + Drop> HashMap<K, V, S> {
 
 impl<K: Eq + Hash + Drop, V: Drop, S: Hashes<K>> HashMap<K, V, S> {
     /// Begins a session on the map, which may be sent to a thread, and from which others are made. The faults are `Fault::SlotsUsedUp` and `Fault::Memory`.
-    pub fn session(&mut self) -> Result<Session<'_, K, V, S>, Fault>
-        ensures memory { IfOk result (λ session. session.base.caller.blocks.now ≡ self.old.home.blocks) }
-        ensures map { IfOk result (λ session. session.base.caller.seat.view.map ≡ self.old.seat.view.map) }
+    pub fn session(&self) -> Result<Session<'_, K, V, S>, Fault>
+        ensures memory { IfOk result (λ session. session.base.caller.blocks.now ≡ self.now.home.blocks) }
+        ensures map { IfOk result (λ session. session.base.caller.seat.view.map ≡ self.now.seat.view.map) }
         ensures none { IfOk result (λ session. session.base.caller.seat.view.calls ≡ []) }
     {
-        let seat = newcomer(&self.home.blocks, &mut self.seat);
+        let seat = newcomer(&self.home.blocks, &self.seat);
         let base = Base::of(&self.home.blocks, &self.hasher, self.setting, seat);
         Session::begin(base)
     }

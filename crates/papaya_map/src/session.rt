@@ -37,10 +37,9 @@ impl<'m, K: Eq + Hash + Drop, V: Drop, S: Hashes<K>> Session<'m, K, V, S> {
     }
 
     /// Begins one more session on the same map. The faults are `Fault::SlotsUsedUp` and `Fault::Memory`.
-    pub fn another(&mut self) -> Result<Session<'m, K, V, S>, Fault>
-        ensures same { HasMadeNone self.old.base.caller self.new.base.caller }
-        ensures memory { IfOk result (λ session. session.base.caller.blocks.now ≡ self.old.base.caller.blocks.now) }
-        ensures map { IfOk result (λ session. session.base.caller.seat.view.map ≡ self.old.base.caller.seat.view.map) }
+    pub fn another(&self) -> Result<Session<'m, K, V, S>, Fault>
+        ensures memory { IfOk result (λ session. session.base.caller.blocks.now ≡ self.now.base.caller.blocks.now) }
+        ensures map { IfOk result (λ session. session.base.caller.seat.view.map ≡ self.now.base.caller.seat.view.map) }
         ensures none { IfOk result (λ session. session.base.caller.seat.view.calls ≡ []) }
     {
         let base = self.base.session();

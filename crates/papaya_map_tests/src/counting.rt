@@ -62,8 +62,8 @@ fn stores_twice<R: Threads + Wait + Sync>(
     drops: &Arc<AtomicU64>,
 ) -> Result<(Option<u64>, Option<u64>, u64), Fault> {
     let mut ids = IdSource::new();
-    let mut map = HashMap::with_hasher(alloc, &mut ids, Hashing::default())?;
-    let mut first = map.session()?;
+    let map = HashMap::with_hasher(alloc, &mut ids, Hashing::default())?;
+    let first = map.session()?;
     let second = first.another()?;
     let (one, other) = thread::join(
         rt,

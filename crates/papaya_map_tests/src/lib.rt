@@ -8,4 +8,6 @@ mod making;
 #[cfg(test)]
 mod meeting;
 #[cfg(test)]
+mod opening;
+#[cfg(test)]
 mod storing;

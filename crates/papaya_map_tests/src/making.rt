@@ -17,7 +17,7 @@ fn a_source_that_is_used_up_gives_no_map(rt: HostRuntime) -> Result<(), Fail> {
 fn left<R: Wait>(rt: &R, alloc: Global) -> Result<(Option<u64>, bool), Fault> {
     let mut ids = IdSource::new();
     let hasher = BuildHasherDefault::<DefaultHasher>::default();
-    let mut map = HashMap::with_hasher(alloc, &mut ids, hasher)?;
+    let map = HashMap::with_hasher(alloc, &mut ids, hasher)?;
     let mut first = map.session()?;
     let _ = first.insert(rt, 1u64, 2u64)?;
     first.refresh();

@@ -48,8 +48,8 @@ fn finds_all<R: Wait + Clock>(
 /// Four threads do so. Answers how many keys each has found.
 fn meet<R: Threads + Wait + Clock + Sync>(rt: &R, alloc: Global) -> Result<[u64; 4], Fault> {
     let mut ids = IdSource::new();
-    let mut map = HashMap::with_hasher(alloc, &mut ids, Hashing::default())?;
-    let mut first = map.session()?;
+    let map = HashMap::with_hasher(alloc, &mut ids, Hashing::default())?;
+    let first = map.session()?;
     let second = first.another()?;
     let third = first.another()?;
     let fourth = first.another()?;

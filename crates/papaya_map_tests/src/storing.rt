@@ -58,8 +58,8 @@ fn works_twice<R: Threads + Wait + Sync>(
     alloc: Global,
 ) -> Result<((u64, u64), (u64, u64), (u64, u64)), Fault> {
     let mut ids = IdSource::new();
-    let mut map = HashMap::with_hasher(alloc, &mut ids, Hashing::default())?;
-    let mut first = map.session()?;
+    let map = HashMap::with_hasher(alloc, &mut ids, Hashing::default())?;
+    let first = map.session()?;
     let second = first.another()?;
     let third = first.another()?;
     let (one, other) = thread::join(rt, || works(rt, first, 0), || works(rt, second, EACH / 2));

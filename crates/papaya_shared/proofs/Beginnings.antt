@@ -2,7 +2,7 @@
 use Rattle.std.specs.Prelude.{max, Result, Ok, Err, IfErr}
 use Rattle.std.proofs.Common.{◌≡◌, ℕ, ◌≤◌, ◌^◌, Bool, true, Some, refl, sym, subst, ap, ◌∙◌, arith}
 use Rattle.papaya_views.proofs.Given.SeizeActsAnswers.{same_some}
-use Rattle.papaya_views.specs.Given.SeizeSeatsState.{Turns, Meets}
+use Rattle.papaya_views.specs.Given.SeizeSeatsState.{Turns}
 use Rattle.papaya_views.specs.Given.SeizeWordsDeclared.fault.Fault.{Fault}
 use Rattle.papaya_views.specs.Given.TablesChunks.{is_incremental}
 use Rattle.papaya_views.specs.Given.TablesLengths.{IsTableLen}
@@ -24,10 +24,10 @@ use Rattle.papaya_views.specs.Rule.{Holds, KeepsFor}
 use Rattle.papaya_views.specs.declared.view.Map.{Map}
 use Rattle.papaya_views.specs.declared.view.View.{View}
 use Rattle.papaya_views.specs.declared.view.Work.TheVariants.{Nothing, Calls}
-use Rattle.papaya_views.proofs.Laws.{calls_begin, makings_begin, maps_are_handed_on}
+use Rattle.papaya_views.proofs.Laws.{calls_begin, makings_begin}
 use Rattle.papaya_shared.specs.Calling.{IsCalling, MayCall}
 use Rattle.papaya_shared.specs.Looking.{Begins, IsOn, LooksFor, MayLook, StaysThere}
-use Rattle.papaya_shared.specs.Making.{BeginsMaking, CameTo, HandsOn, MayBegin, PlansJust}
+use Rattle.papaya_shared.specs.Making.{BeginsMaking, CameTo, MayBegin, PlansJust}
 
 module _ {K V S : Type 0} (same : K → K → Bool) (hash : S → K → ℕ) (fixed : Fixed) (id : ℕ) (v : View K V S) where
   -- who may come to know one thing may come to know what that is of
@@ -48,11 +48,6 @@ module _ {K V S : Type 0} (same : K → K → Bool) (hash : S → K → ℕ) (fi
   may_make plans hasher c just may rests free =
       turns_to _ (BeginsMaking plans v) (λ w e. (e.0, hasher, c, just.0, e.1 ∙ ap (making v e.0 hasher) (sym may.is)))
       (makings_begin V same hash fixed id v hasher may.given 0 rests free may.sized may.masked may.rooted may.initial eight)
-
-  -- a map that is known may be handed on
-  pub may_show : (j : ℕ) (u : View K V S) (map : Map S) → v.map ≡ Some map → u.work ≡ Nothing → Meets (Holds same hash fixed) id v j u (HandsOn v u)
-  may_show j u map knows free s h here there ne =
-      let g = maps_are_handed_on V same hash fixed id j v u map knows free s h here there ne in (g.0, g.1, g.2, (map, knows, g.3.0, g.3.1))
 
 -- what a making has come to, from where it began
 module _ {K V S : Type 0} (plans : S → NewMap → Type 0) (hasher : S) (opening : NewMap) (u v w : View K V S) (begins : BeginsMaking plans u v) where

@@ -9,6 +9,7 @@ mod Handing
 mod Lookups
 mod Makings
 mod Beginnings
+mod Newcomers
 mod Shown
 mod Rows
 mod Runs

@@ -57,9 +57,9 @@ module _ {K V S : Type 0} where
   abbrev pub BeginsMaking : (S → NewMap → Type 0) → View K V S → View K V S → Type 0
   BeginsMaking plans v w = (m : ℕ) × (hasher : S) × (c : NewMap) × plans hasher c × (w ≡ making v m hasher c)
 
-  -- the one knows a map, which is handed on to the other
-  abbrev pub HandsOn : View K V S → View K V S → View K V S → View K V S → Type 0
-  HandsOn v u p q = (map : Map S) × (v.map ≡ Some map) × (p ≡ v) × (q ≡ shown_map u map)
+  -- it comes to know the map that the other one knows
+  abbrev pub LearnsMap : View K V S → View K V S → View K V S → Type 0
+  LearnsMap v u w = (map : Map S) × (u.map ≡ Some map) × (w ≡ shown_map v map)
 
   -- it makes a map of no table by this machine, which has not ended, with this hasher
   pub record MakesMap (hasher : S) (opening : NewMap) (v : View K V S) : Type 0 where

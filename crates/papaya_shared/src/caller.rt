@@ -1,8 +1,7 @@
 //! One of those who share the memory of maps.
-ghost use Rattle.std.specs.Prelude.{◌≡◌, Some, true};
-ghost use Rattle.papaya_shared.specs.Making.{HandsOn};
+ghost use Rattle.std.specs.Prelude.{◌≡◌, IsSome, true};
+ghost use Rattle.papaya_shared.specs.Standing.{come_to, known_by};
 ghost use Rattle.papaya_views.specs.Rule.{at_rest};
-ghost use Rattle.papaya_views.specs.declared.view.Map.{Map};
 ghost use Rattle.papaya_views.specs.declared.view.Work.TheVariants.{Nothing};
 ghost use Rattle.papaya_views.specs.Given.SeizeViewsDeclared.view.View.TheVariants.{Rests};
 ghost use Rattle.seize_callers.specs.Kept.{is_home};
@@ -40,13 +39,12 @@ impl<'a, K: Eq, V, S: Hashes<K>> Caller<'a, K, V, S> {
     }
 
     /// One more of them, who holds no slot, and to whom the map is handed on that this one knows.
-    pub(crate) fn shows(&mut self) -> Self
-        requires knows { (map : Map S) × (self.old.seat.view.map ≡ Some map) }
-        ensures same { self.new.seat.view ≡ self.old.seat.view }
-        ensures blocks { (self.new.blocks ≡ self.old.blocks) × (result.blocks.now ≡ self.old.blocks.now) }
-        ensures shown { HandsOn self.old.seat.view at_rest self.new.seat.view result.seat.view }
+    pub(crate) fn shows(&self) -> Self
+        requires knows { IsSome (known_by self.now.seat.view) }
+        ensures blocks { result.blocks.now ≡ self.now.blocks.now }
+        ensures shown { result.seat.view ≡ come_to self.now.seat.view.map }
     {
-        let seat = newcomer(self.blocks, &mut self.seat);
+        let seat = newcomer(self.blocks, &self.seat);
         Caller::of(self.blocks, seat)
     }
 }

@@ -11,17 +11,15 @@ use seize_blocks::{Blocks, Seat};
 /// One seat more of this memory, which holds no slot, and to which the map is handed on that the other one knows.
 pub fn newcomer<K: Eq, V, S: Hashes<K>>(
     blocks: &Blocks<Node<K, V>, OfMaps<S>>,
-    seat: &mut Seat<Node<K, V>, OfMaps<S>>,
+    seat: &Seat<Node<K, V>, OfMaps<S>>,
 ) -> Seat<Node<K, V>, OfMaps<S>>
-    requires own { seat.old.base ≡ blocks.now.words.id.views_name }
-    requires home { is_home seat.old.away ≡ true }
-    requires knows { IsSome (known_by seat.old.view) }
-    ensures same { (seat.new.base ≡ seat.old.base) × (seat.new.view ≡ seat.old.view) × (seat.new.away ≡ seat.old.away) }
+    requires own { seat.now.base ≡ blocks.now.words.id.views_name }
+    requires knows { IsSome (known_by seat.now.view) }
     ensures own { result.base ≡ blocks.now.words.id.views_name }
     ensures home { is_home result.away ≡ true }
-    ensures shown { result.view ≡ come_to seat.old.view.map }
+    ensures shown { result.view ≡ come_to seat.now.view.map }
 {
     let mut other = blocks.seat();
-    blocks.meet::<Showing>(seat, &mut other);
+    blocks.learn::<Showing>(&mut other, seat);
     other
 }

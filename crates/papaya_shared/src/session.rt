@@ -112,10 +112,9 @@ impl<'a, K: Eq + Drop, V: Drop, S: Hashes<K>> Session<'a, K, V, S> {
 
 impl<'a, K: Eq, V, S: Hashes<K>> Session<'a, K, V, S> {
     /// The same map for one more of those who share it.
-    pub fn session(&mut self) -> Self
-        ensures same { self.new.caller.seat.view ≡ self.old.caller.seat.view }
-        ensures blocks { (self.new.caller.blocks ≡ self.old.caller.blocks) × (result.caller.blocks.now ≡ self.old.caller.blocks.now) }
-        ensures map { result.caller.seat.view.map ≡ self.old.caller.seat.view.map }
+    pub fn session(&self) -> Self
+        ensures blocks { result.caller.blocks.now ≡ self.now.caller.blocks.now }
+        ensures map { result.caller.seat.view.map ≡ self.now.caller.seat.view.map }
         ensures rests { result.caller.seat.view.slot ≡ Rests }
         ensures none { result.caller.seat.view.calls ≡ [] }
     {

@@ -1,7 +1,7 @@
-//! The steps of a seat of maps, or of two, that make no operation. Which call begins, and which making, is picked by who takes the step.
+//! The steps of a seat of maps that make no operation. Which call begins, and which making, is picked by who takes the step.
 use papaya_tables::Hashes;
 use papaya_views::View;
-use seize_blocks::{Meeting, Turn};
+use seize_blocks::{Lesson, Turn};
 use seize_views::Fixed;
 use std::marker::{Brand, PhantomData};
 
@@ -50,10 +50,10 @@ impl<K, V, S, B: Plans<S>> Turn<Fixed, View<K, V, S>> for Making<B> {
 /// A map is handed on.
 pub struct Showing;
 
-impl<K, V, S> Meeting<Fixed, View<K, V, S>> for Showing {
-    ghost use Rattle.papaya_shared.specs.Making.{HandsOn};
+impl<K, V, S> Lesson<Fixed, View<K, V, S>> for Showing {
+    ghost use Rattle.papaya_shared.specs.Making.{LearnsMap};
 
-    ghost to = { λ _. HandsOn };
+    ghost to = { λ _. LearnsMap };
 }
 
 /// A call takes a step that makes no operation.

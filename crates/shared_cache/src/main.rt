@@ -66,8 +66,8 @@ fn works<R: Wait + Clock>(rt: &R, own: u64, cache: Cache<'_>) -> Result<(u64, u6
 
 fn main(rt: HostRuntime) -> io::Result<()> {
     let mut ids = IdSource::new();
-    let mut map = HashMap::new(rt.alloc(), &mut ids, RandomState::new(&rt)?)?;
-    let mut first = map.session()?;
+    let map = HashMap::new(rt.alloc(), &mut ids, RandomState::new(&rt)?)?;
+    let first = map.session()?;
     let mut jobs = Vec::new(rt.alloc());
     for own in 1..THREADS {
         jobs.push((own, first.another()?))?;

@@ -29,7 +29,7 @@ fn made(alloc: Global) -> Result<Map, Fault> {
 
 /// One session more.
 fn another<'m>(
-    session: &mut Session<'m, u64, u64, Hashing>,
+    session: &Session<'m, u64, u64, Hashing>,
 ) -> Result<Session<'m, u64, u64, Hashing>, Fault> {
     match session.another() {
         Err(Fault::Memory) => session.another(),
@@ -60,7 +60,7 @@ fn stores<R: Wait>(
 
 /// Stores all keys, each with its double, and then each with itself, and tells whether all of it is there.
 fn all<R: Wait>(rt: &R, alloc: Global) -> Result<bool, Fault> {
-    let mut map = made(alloc)?;
+    let map = made(alloc)?;
     let mut session = match map.session() {
         Ok(session) => session,
         Err(_) => map.session()?,
@@ -86,7 +86,7 @@ fn room<'m>(alloc: Global) -> Result<Vec<Session<'m, u64, u64, Hashing>>, AllocE
 
 /// Begins sessions, all of which are there at once, and tells whether the last one finds what the first one has stored.
 fn sessions<R: Wait>(rt: &R, alloc: Global) -> Result<bool, Fault> {
-    let mut map = made(alloc)?;
+    let map = made(alloc)?;
     let mut first = match map.session() {
         Ok(session) => session,
         Err(_) => map.session()?,
@@ -94,7 +94,7 @@ fn sessions<R: Wait>(rt: &R, alloc: Global) -> Result<bool, Fault> {
     let mut are_there = stores(rt, &mut first, 1, None, 2);
     let mut all = room(alloc)?;
     for _ in 1..SESSIONS {
-        let mut next = another(&mut first)?;
+        let mut next = another(&first)?;
         are_there = next.get(rt, &1).copied() == Some(2) && are_there;
         all.push(next)?;
     }

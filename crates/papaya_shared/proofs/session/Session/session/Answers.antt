@@ -1,5 +1,6 @@
-use Rattle.papaya_shared.proofs.Sessions.{known}
+use Rattle.std.specs.Prelude.{IsSome}
+use Rattle.std.proofs.Common.{subst, sym}
 use Rattle.papaya_shared.proofs.session.Session.session.Goals as goal
 
 pub shows-caller-requires : goal.shows-caller-requires
-shows-caller-requires g c = let x = c.args.self.now in let k = known x.caller.seat.view.map (x.setting, x.hasher.now) x.knows in record { knows = (k.0, k.1) }
+shows-caller-requires g c = record { knows = subst IsSome (sym c.args.self.now.knows) tt }
