@@ -1,30 +1,22 @@
 #!/usr/bin/env python3
-"""Makes docs/FILES.md, the index of the workspace's files, from the first comment of each file.
+"""Prints the index of the workspace's files: each with the first sentence of its first comment.
 
-    docs/index.py            writes docs/FILES.md
-    docs/index.py --check    exits 1 if docs/FILES.md is not what would be written
+    docs/index.py [CRATE..]  prints the sections of these crates, of all in the order of crates.txt where none is named
     docs/index.py --lacking  prints the files whose first line is no comment, and exits 1 if there are any
+
+`Answers.antt` and `Invariants.antt` below `proofs/` hold goals that are answered by hand, and the invariants of loops, of the one function that their
+folder is named for. They are counted and not listed.
 """
 import os
 import re
 import sys
 
 TOP = os.path.dirname(os.path.dirname(os.path.abspath(__file__)))
-INDEX = os.path.join(TOP, "docs", "FILES.md")
 PARTS = [("src", ".rt"), ("specs", ".antt"), ("proofs", ".antt"), ("data", ".script")]
 MARKS = {".rt": "//!", ".antt": "--", ".script": "#"}
 # what a name says without a comment: the first belong to the function that their folder is named for, and `Lib` lists the modules
 BY_NAME = ("Answers.antt", "Invariants.antt")
 ROOTS = ("lib.rt", "main.rt")
-HEAD = """# The files
-
-An index of all crates: each file with the first sentence of its first comment. It is made by `docs/index.py`, so change the comment
-and run that, and not this page. What the crates are for, and how they stand on one another, is told in
-[CRATES.md](CRATES.md).
-
-`Answers.antt` and `Invariants.antt` below `proofs/` hold goals that are answered by hand, and the invariants of loops, of the one
-function that their folder is named for. They are counted here and not listed.
-"""
 
 
 def crates():
@@ -96,22 +88,17 @@ def crate_lines(name, lacking):
 
 
 def main():
-    lacking = []
-    lines = [HEAD.rstrip("\n")]
-    for name in crates():
+    asked = [name for name in sys.argv[1:] if not name.startswith("--")]
+    unknown = [name for name in asked if name not in crates()]
+    if unknown:
+        sys.exit(f"docs/index.py: no such crate: {', '.join(unknown)}")
+    lacking, lines = [], []
+    for name in asked or crates():
         lines += crate_lines(name, lacking)
-    text = "\n".join(lines) + "\n"
     if "--lacking" in sys.argv[1:]:
         print("\n".join(lacking))
         return 1 if lacking else 0
-    if "--check" in sys.argv[1:]:
-        with open(INDEX, encoding="utf-8") as index:
-            if index.read() == text:
-                return 0
-        print("docs/FILES.md is out of date: run docs/index.py", file=sys.stderr)
-        return 1
-    with open(INDEX, "w", encoding="utf-8") as index:
-        index.write(text)
+    print("\n".join(lines[1:]))
     return 0
 
 

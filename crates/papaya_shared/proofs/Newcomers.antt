@@ -10,7 +10,7 @@ use Rattle.papaya_views.specs.Rule.{Holds, KeepsFor, MapsWorld}
 use Rattle.papaya_views.specs.declared.view.Map.{Map}
 use Rattle.papaya_views.specs.declared.view.View.{View}
 use Rattle.papaya_views.specs.declared.view.Work.TheVariants.{Nothing}
-use Rattle.papaya_shared.specs.Making.{LearnsMap}
+use Rattle.papaya_shared.specs.Shown.{LearnsMap}
 
 -- what is at a place, put there once more, changes nothing
 as_before : {A : Type 0} (xs : List A) (i : ℕ) (x : A) → slice_get xs i ≡ Some x → slice_set xs i x ≡ xs

@@ -9,6 +9,8 @@ use Rattle.papaya_views.specs.Given.SeizeViewsDeclared.view.View.TheVariants.{Re
 use Rattle.papaya_views.specs.Given.TablesDeclared.node.Node.{Node}
 use Rattle.papaya_views.specs.Given.TablesDeclared.setting.Setting.{Setting}
 use Rattle.papaya_views.specs.Given.ResizeDeclared.new_map.NewMap.{NewMap}
+use Rattle.papaya_views.specs.Given.RawDeclared.machines.progress.Answer.{Answer}
+use Rattle.papaya_views.specs.Given.ActsActs.{Wanted}
 use Rattle.papaya_views.specs.Notes.{beside_of, row_known, notes_of, IsResting}
 use Rattle.papaya_views.specs.declared.view.Map.{Map}
 use Rattle.papaya_views.specs.declared.view.Run.{Run}
@@ -16,8 +18,9 @@ use Rattle.papaya_views.specs.declared.view.View.{View}
 use Rattle.papaya_views.specs.declared.view.Work.{Work}
 use Rattle.papaya_views.specs.declared.view.Work.TheVariants.{Nothing}
 use Rattle.papaya_views.proofs.Contents.{knows_free}
-use Rattle.papaya_shared.specs.Looking.{HasFound}
-use Rattle.papaya_shared.specs.Making.{CameTo}
+use Rattle.papaya_seats.specs.Calling.{HasCalled}
+use Rattle.papaya_seats.specs.Looking.{HasFound}
+use Rattle.papaya_seats.specs.Making.{CameTo}
 
 module _ {K V S : Type 0} where
   -- who has nothing else under way knows its row
@@ -53,3 +56,8 @@ module _ {K V S : Type 0} where
   -- and so does who has looked a key up
   pub rests_inside : (same : K → K → Bool) (hash : S → K → ℕ) (key : K) (answer : Option ℕ) (v w : View K V S) (t : ℕ) → v.slot ≡ Inside t NoBlock → HasFound same hash key answer v w → IsResting w
   rests_inside same hash key answer v w t inside found = rests_so w (Inside t NoBlock) (found.stays.slot ∙ inside) found.looked.free tt
+
+  -- and so does who has run a call
+  pub rests_called : (same : K → K → Bool) (hash : S → K → ℕ) (wanted : Wanted K V) (answer : Result Answer Fault) (unstored : Option (Node K V)) (v w : View K V S) (t : ℕ)
+      → v.slot ≡ Inside t NoBlock → HasCalled same hash wanted answer unstored v w → IsResting w
+  rests_called same hash wanted answer unstored v w t inside called = rests_so w (Inside t NoBlock) (called.stays.slot ∙ inside) called.free tt

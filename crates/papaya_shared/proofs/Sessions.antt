@@ -1,6 +1,6 @@
--- What a session knows of its map, and that it may look a key up, and store a pair, there.
+-- What a session knows of its map, and that it may look a key up there, and begin a call on one key.
 use Rattle.std.specs.Prelude.{Option, Some, None, IsSome}
-use Rattle.std.proofs.Common.{◌≡◌, ℕ, true, refl, sym, ap, ◌∙◌}
+use Rattle.std.proofs.Common.{◌≡◌, ℕ, Bool, true, refl, sym, subst, ap, ◌∙◌}
 use Rattle.papaya_views.proofs.Given.SeizeActsAnswers.{same_some}
 use Rattle.papaya_views.specs.Given.TablesChunks.{is_incremental}
 use Rattle.papaya_views.specs.Given.TablesDeclared.setting.Setting.{Setting}
@@ -11,8 +11,13 @@ use Rattle.papaya_views.specs.declared.view.View.{View}
 use Rattle.papaya_views.specs.declared.view.Work.TheVariants.{Nothing}
 use Rattle.papaya_views.specs.Given.SeizeViewsDeclared.view.Has.TheVariants.{Nothing as NoBlock}
 use Rattle.papaya_views.specs.Given.SeizeViewsDeclared.view.View.TheVariants.{Inside}
-use Rattle.papaya_shared.specs.Calling.{MayCall}
-use Rattle.papaya_shared.specs.Looking.{MayLook}
+use Rattle.papaya_views.specs.Given.ActsActs.{Wanted}
+use Rattle.papaya_views.specs.Given.RawDeclared.machines.call.KeyCall.{KeyCall}
+use Rattle.papaya_views.specs.Given.RawDeclared.machines.machine.Machine.TheVariants.{Key}
+use Rattle.papaya_views.specs.Begun.{machine_for}
+use Rattle.papaya_seats.specs.Calling.{MayDo, wanted_of}
+use Rattle.papaya_seats.specs.Kinds.{Kind, Stage, GoesOn}
+use Rattle.papaya_seats.specs.Looking.{MayLook}
 use Rattle.papaya_shared.specs.Standing.{known_as, known_by}
 
 -- the map that it knows, with its setting and its hasher
@@ -38,19 +43,27 @@ module _ {K V S : Type 0} (hash : S → K → ℕ) where
     begins = is ∙ ap (λ (p : Setting × S). looking p.0.root p.0.mode (hash p.1 key)) (sym k.2);
   }
 
-  -- and it may store a pair there, by what it works with in this slot
-  pub may_store : (v : View K V S) (setting its : Setting) (hasher : S) (key : K) (hashed t : ℕ) → v.slot ≡ Inside t NoBlock → v.work ≡ Nothing
-      → known_by v ≡ Some (setting, hasher) → is_incremental setting.mode ≡ true → its ≡ record setting { slot = t } → hashed ≡ hash hasher key
-      → MayCall hash hasher key its hashed v
-  may_store v setting its hasher key hashed t inside free knows incremental is word =
-      let k = known v.map (setting, hasher) knows in
-      let slot : its.slot ≡ t = ap (λ (s : Setting). s.slot) is in record {
-        map = k.0;
-        inside = inside ∙ ap (λ (s : ℕ). Inside s NoBlock) (sym slot);
-        knows = k.1;
-        hashes = ap (λ (p : Setting × S). p.1) k.2;
-        incremental = ap (λ (p : Setting × S). is_incremental p.0.mode) k.2 ∙ incremental;
+module _ {K V S : Type 0} (same : K → K → Bool) (hash : S → K → ℕ) (k : Kind) (s : Stage) (wanted : Wanted K V) (key : K) (made : Setting → ℕ → KeyCall K V K) where
+  -- it may begin a call on this key, by what it works with in this slot
+  pub may_do : ((map : Map S) (t : ℕ) → machine_for same hash map t wanted ≡ Key (made (record map.setting { slot = t }) (hash map.hasher key)))
+      → ((x : Setting) (h : ℕ) → wanted_of (Key (made x h)) ≡ wanted) → ((x : Setting) (h : ℕ) → GoesOn k s (made x h))
+      → (v : View K V S) (setting its : Setting) (hasher : S) (hashed t : ℕ) (call : KeyCall K V K) → v.slot ≡ Inside t NoBlock → v.work ≡ Nothing
+      → known_by v ≡ Some (setting, hasher) → is_incremental setting.mode ≡ true → its ≡ record setting { slot = t } → hashed ≡ hash hasher key → call ≡ made its hashed
+      → MayDo same hash k s hasher (Key call) v
+  may_do machine wants goes v setting its hasher hashed t call inside free knows incremental is word made_so =
+      let m = known v.map (setting, hasher) knows in
+      let setting_is : its ≡ record m.0.setting { slot = t } = is ∙ ap (λ (p : Setting × S). record p.0 { slot = t }) (sym m.2) in
+      let word_is : hashed ≡ hash m.0.hasher key = word ∙ ap (λ (p : Setting × S). hash p.1 key) (sym m.2) in
+      let call_is : call ≡ made (record m.0.setting { slot = t }) (hash m.0.hasher key) =
+      made_so ∙ ap (λ (x : Setting). made x hashed) setting_is ∙ ap (made (record m.0.setting { slot = t })) word_is in
+      let wanted_is : wanted_of (Key call) ≡ wanted = ap (λ (c : KeyCall K V K). wanted_of (Key c)) made_so ∙ wants its hashed in record {
+        slot = t;
+        map = m.0;
+        inside = inside;
+        knows = m.1;
+        hashes = ap (λ (p : Setting × S). p.1) m.2;
+        incremental = ap (λ (p : Setting × S). is_incremental p.0.mode) m.2 ∙ incremental;
         free = free;
-        is = is ∙ ap (λ (p : Setting × S). record p.0 { slot = t }) (sym k.2) ∙ ap (λ (s : ℕ). record k.0.setting { slot = s }) (sym slot);
-        word = word;
+        begins = ap (λ (c : KeyCall K V K). Key c) call_is ∙ sym (machine m.0 t) ∙ ap (machine_for same hash m.0 t) (sym wanted_is);
+        goes = subst (GoesOn k s) (sym made_so) (goes its hashed);
       }

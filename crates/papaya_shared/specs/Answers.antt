@@ -1,16 +1,50 @@
--- Which answers an operation may have.
-use Rattle.papaya_views.specs.Given.SeizeWordsOp.{Op, Out, Load, Store, Swap, Add, Or, Exchange, Make, Take, Rewrite, Room, Found, Stored, Exchanged, Made, Taken, Roomed}
+-- What the answers of a session's calls say.
+use Rattle.std.specs.Prelude.{◌≡◌, ℕ, Bool, true, false, Option, Some, Ok}
+use Rattle.papaya_views.specs.Given.ActsActs.{Insert, Remove, TryToInsert}
+use Rattle.papaya_views.specs.Given.TablesDeclared.node.Node.{Node}
+use Rattle.papaya_views.specs.Given.TablesDeclared.node.Node.TheVariants.{Pair}
+use Rattle.papaya_views.specs.Given.RawDeclared.machines.answer.KeyAnswer.TheVariants as answers
+use Rattle.papaya_views.specs.Given.RawDeclared.machines.progress.Answer.{Answer}
+use Rattle.papaya_views.specs.Given.RawDeclared.machines.progress.Answer.TheVariants.{Key as OfKey}
+use Rattle.papaya_views.specs.declared.view.View.{View}
+use Rattle.papaya_seats.specs.Calling.{is_put, outcome_of}
+use Rattle.papaya_seats.specs.Looking.{HasRun}
+use Rattle.papaya_shared.specs.declared.session.keys.Attempt.{Attempt}
+use Rattle.papaya_shared.specs.declared.session.keys.Attempt.TheVariants.{Stored, Present}
 
--- an answer of the kind that the operation has
-abbrev pub IsAnswer : {T : Type 0} → Op T → Out T → Type 0
-IsAnswer (Load at) (Found word) = Unit {0}
-IsAnswer (Store at word) Stored = Unit {0}
-IsAnswer (Swap at word) (Found old) = Unit {0}
-IsAnswer (Add at by) (Found old) = Unit {0}
-IsAnswer (Or at bits) (Found old) = Unit {0}
-IsAnswer (Exchange at old new) (Exchanged found) = Unit {0}
-IsAnswer (Make value words) (Made block) = Unit {0}
-IsAnswer (Take block) (Taken value) = Unit {0}
-IsAnswer (Rewrite block value) (Taken before) = Unit {0}
-IsAnswer (Room bucket) (Roomed done) = Unit {0}
-IsAnswer op out = ⊥
+-- a pair was replaced by another one
+abbrev pub is_replaced : Answer → Bool
+is_replaced (OfKey (answers.Replaced old new)) = true
+is_replaced _ = false
+
+-- a pair was removed
+abbrev pub is_removed : Answer → Bool
+is_removed (OfKey (answers.Removed word)) = true
+is_removed _ = false
+
+-- the pair was stored
+abbrev pub has_stored : {K V : Type 0} → Attempt K V → Bool
+has_stored Stored = true
+has_stored (Present key value) = false
+
+-- or it has come back
+abbrev pub CameBack : {K V : Type 0} → K → V → Attempt K V → Type 0
+CameBack key value Stored = Unit {0}
+CameBack key value (Present k v) = (k ≡ key) × (v ≡ value)
+
+abbrev pub IsOutOf : {K V : Type 0} → Option (Node K V) → Attempt K V → Type 0
+IsOutOf unstored Stored = Unit {0}
+IsOutOf unstored (Present key value) = unstored ≡ Some (Pair key value)
+
+module _ {K V S : Type 0} where
+  -- it has run a call that stores this pair, and whose answer says whether a pair was replaced
+  abbrev pub HasStored : (K → K → Bool) → (S → K → ℕ) → K → V → Bool → View K V S → View K V S → Type 0
+  HasStored same hash key value replaced v w = (answer : Answer) × HasRun same hash (Insert key value) (outcome_of (Ok answer)) v w × (replaced ≡ is_replaced answer)
+
+  -- one that stores this pair where its key is missing, and whose answer says whether it is there then
+  abbrev pub HasTried : (K → K → Bool) → (S → K → ℕ) → K → V → Bool → View K V S → View K V S → Type 0
+  HasTried same hash key value stored v w = (answer : Answer) × HasRun same hash (TryToInsert key value) (outcome_of (Ok answer)) v w × (stored ≡ is_put answer)
+
+  -- one that removes the pair of this key, and whose answer says whether there was one
+  abbrev pub HasRemoved : (K → K → Bool) → (S → K → ℕ) → K → Bool → View K V S → View K V S → Type 0
+  HasRemoved same hash key removed v w = (answer : Answer) × HasRun same hash (Remove key) (outcome_of (Ok answer)) v w × (removed ≡ is_removed answer)

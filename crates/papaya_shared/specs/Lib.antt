@@ -1,7 +1,4 @@
 pub mod Answers
+pub mod Shown
 pub mod Standing
-pub mod Made
-pub mod Looking
-pub mod Making
-pub mod Calling
 pub mod Given

@@ -10,7 +10,7 @@ mod calls;
 mod rows;
 mod seats;
 
-use crate::seats::newcomer;
+use crate::showing::newcomer;
 use papaya_tables::{Hashes, Node};
 use papaya_views::OfMaps;
 use seize_blocks::{Blocks, Seat};

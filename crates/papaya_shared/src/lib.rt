@@ -1,17 +1,13 @@
-//! Maps that threads share, under the rule of maps: a seat makes a map, hands it on to others, and looks there for keys, by the steps of the machines.
+//! Maps that threads share: a session makes a map, hands it on to others, and calls it, each call an errand of its seat.
 #![tactic(auto)]
 
 mod caller;
-mod errands;
-mod memory;
-mod seats;
 mod session;
-mod turns;
-mod within;
+mod showing;
 
 pub use caller::Caller;
-pub use memory::memory_for;
+pub use papaya_seats::memory_for;
 pub use papaya_views::OfMaps;
-pub use seats::newcomer;
 pub use seize_views::Fixed;
-pub use session::{Found, Session};
+pub use session::{Attempt, Found, Session};
+pub use showing::newcomer;

@@ -1,7 +1,9 @@
 //! A map, as one of those knows it who share it.
 ghost use Rattle.std.specs.Prelude.{◌≡◌, ◌≤◌, ◌<◌, ◌^◌, [], Some, None, Err, true, IfErr, IfNone, IfOk, IfSome};
-ghost use Rattle.papaya_shared.specs.Calling.{HasStored, is_replaced as replaces, outcome_of};
-ghost use Rattle.papaya_shared.specs.Looking.{HasRun, IsLent, IsShown, found_of};
+ghost use Rattle.papaya_seats.specs.Calling.{outcome_of};
+ghost use Rattle.papaya_seats.specs.Looking.{HasRun, found_of};
+ghost use Rattle.papaya_shared.specs.Answers.{HasStored, is_replaced as replaces};
+ghost use Rattle.papaya_shared.specs.Shown.{IsLent, IsShown};
 ghost use Rattle.papaya_shared.specs.Standing.{known_by};
 ghost use Rattle.papaya_views.specs.Given.ActsActs.{Get, Insert};
 ghost use Rattle.papaya_views.specs.Given.TablesChunks.{is_incremental};
@@ -11,12 +13,14 @@ ghost use Rattle.papaya_views.specs.declared.view.Work.TheVariants.{Nothing as N
 ghost use Rattle.papaya_views.specs.Given.SeizeViewsDeclared.view.Has.TheVariants.{Nothing};
 ghost use Rattle.papaya_views.specs.Given.SeizeViewsDeclared.view.View.TheVariants.{Inside, Outside, Rests};
 
+mod keys;
 mod seats;
 
 use crate::caller::Caller;
-use crate::within::Ran;
-use papaya_raw::machines::{Answer, KeyAnswer};
+pub use keys::Attempt;
+use papaya_raw::machines::{Answer, KeyAnswer, KeyCall, Machine};
 use papaya_resize::{Lookup, NewMap};
+use papaya_seats::Ran;
 use papaya_tables::{Counter, Hashes, Node, ResizeMode, Setting};
 use papaya_views::OfMaps;
 use seize_blocks::Blocks;
@@ -220,9 +224,8 @@ impl<'a, K: Eq + Hash + Drop, V: Drop, S: Hashes<K>> Session<'a, K, V, S> {
     {
         let hash = self.hasher.hash_of(&key);
         let setting = setting_in(self.setting, self.slot);
-        let ran = self
-            .caller
-            .inserts(rt, self.hasher, setting, hash, key, value);
+        let call = KeyCall::insert(setting, hash, key, value);
+        let ran = self.caller.does(rt, self.hasher, Machine::Key(call));
         let Ran {
             told,
             unstored,

@@ -1,8 +1,10 @@
-//! Tests of maps that threads share: they are made, handed on, looked through, and pairs are stored there.
+//! Tests of maps that threads share: they are made, handed on, looked through, and pairs are stored and removed there.
 #![tactic(auto)]
 
 #[cfg(test)]
 mod opening;
+#[cfg(test)]
+mod removing;
 #[cfg(test)]
 mod resting;
 #[cfg(test)]

@@ -12,14 +12,14 @@ use Rattle.seize_seats.specs.Lendings.{Shown, ShownToBoth, ShownToAll, ShownBy, 
 use Rattle.seize_seats.specs.Start.{bare, WasIdle, WasKnown}
 use Rattle.seize_seats.specs.Visits.{Spot, Visit, Claim, fresh, onward, onward_at, witness, plain, plain_memory, plain_op, plain_out, HoldsKept, keeps_kept, then_kept}
 use Rattle.seize_seats.specs.Errands.{Away, inward, RenewsIdle, RenewsTo, RenewsFrom, AreAllBack, AreIdle, then_away, MayGo, MayGoAll, MayMeet}
-use Rattle.seize_seats.proofs.Plain.{IsOnWord, value_of_block}
-use Rattle.seize_seats.proofs.Visits as Visits
-use Rattle.seize_seats.proofs.Errands as Errands
+use Rattle.seize_seats.proofs.Places.Plain.{IsOnWord, value_of_block}
+use Rattle.seize_seats.proofs.Stepping.Visits as Visits
+use Rattle.seize_seats.proofs.Stepping.Errands as Errands
 use Rattle.seize_plots.specs.Pieces.{value_of, lies}
 use Rattle.seize_plots.specs.declared.kept.Kept.{Kept}
 use Rattle.seize_seats.specs.Owned.{BaseId}
 use Rattle.seize_atoms.specs.Placed.{IsItsPlace}
-use Rattle.seize_seats.proofs.Visits.{own_view}
+use Rattle.seize_seats.proofs.Stepping.Visits.{own_view}
 use Rattle.seize_atoms.specs.Visiting.{Seen, IsKept, HoldsHere, HoldsSince, keeps_here}
 use Rattle.seize_atoms.proofs.Claimed.{IsOn, claims_after, claims_joined, claims_met, claims_then}
 

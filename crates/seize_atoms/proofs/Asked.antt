@@ -14,8 +14,8 @@ use Rattle.seize_words.specs.declared.fault.Fault.TheVariants.{Memory}
 use Rattle.seize_seats.specs.Errands.{Sight, StayAllSo}
 use Rattle.seize_seats.specs.State.{State, Allows}
 use Rattle.seize_seats.specs.Owned.{Pieces, BaseId}
-use Rattle.seize_seats.proofs.Moves.{gone_on, next}
-use Rattle.seize_seats.proofs.RoomSteps.{answered}
+use Rattle.seize_seats.proofs.Stepping.Moves.{gone_on, next}
+use Rattle.seize_seats.proofs.Growing.RoomSteps.{answered}
 use Rattle.std.proofs.Common.{lit<}
 
 module _ {M : Type 1} {𝓤 : Ura M} (𝓛 : Logic 𝓤) (R : RattleType) (own : Pieces R.Denot) {V W : Type 0} (cv : Sight V) (holds : State R.Denot V W → Type 0) (keeps : V → V → W → ℕ

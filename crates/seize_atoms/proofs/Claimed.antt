@@ -7,8 +7,8 @@ use Rattle.seize_seats.specs.State.{State, view_of, joined}
 use Rattle.seize_seats.specs.State as State
 use Rattle.seize_seats.specs.Visits.{Visit, Claim}
 use Rattle.seize_seats.specs.Errands.{Away}
-use Rattle.seize_seats.proofs.Ledgers.{other_view}
-use Rattle.seize_seats.proofs.Visits.{own_view, among}
+use Rattle.seize_seats.proofs.Views.Ledgers.{other_view}
+use Rattle.seize_seats.proofs.Stepping.Visits.{own_view, among}
 use Rattle.seize_plots.specs.declared.kept.Kept.{Kept}
 use Rattle.seize_atoms.specs.Visiting.{Seen, IsKept, AreClaimed, keeps_here}
 

@@ -10,7 +10,7 @@ use Rattle.seize_seats.specs.State.{State}
 use Rattle.seize_seats.specs.Strips.{Strip}
 use Rattle.seize_seats.specs.Buckets.{bucket_at}
 use Rattle.seize_seats.specs.Owned.{BaseId}
-use Rattle.seize_seats.proofs.Grounds.{capacity_least}
+use Rattle.seize_seats.proofs.Places.Grounds.{capacity_least}
 use Rattle.seize_plots.specs.declared.kept.Kept.{Kept}
 use Rattle.seize_atoms.specs.Placed.{IsItsPlace}
 

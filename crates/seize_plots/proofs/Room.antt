@@ -14,8 +14,8 @@ use denote.RawPtr.{block_ptr}
 use Rattle.core.specs.Allocator.{HasLayout}
 use Rattle.core.specs.Mem.Slots.Ownership.{owned, slots}
 use Rattle.seize_seats.specs.Owned.{row}
-use Rattle.seize_seats.proofs.Holes.{holes_out, words_room}
-use Rattle.seize_seats.proofs.Slotted.{Whole, Fits, whole_out}
+use Rattle.seize_seats.proofs.Places.Holes.{holes_out, words_room}
+use Rattle.seize_seats.proofs.Places.Slotted.{Whole, Fits, whole_out}
 
 -- how memory for so many words is asked for, and given back
 pub laid_out : (n : ℕ) → n * 8 < 2 ^ 63 → HasLayout (ty_array (ty_int w64) n) (n * 8) 8

@@ -10,7 +10,7 @@ use Rattle.seize.specs.World.{World}
 use Rattle.seize.specs.World as world
 use Rattle.seize_seats.specs.Lendings.{Shown, IsValueOf}
 use Rattle.seize_seats.specs.State.{State, view_of}
-use Rattle.seize_seats.proofs.Errands.{mapped_at}
+use Rattle.seize_seats.proofs.Stepping.Errands.{mapped_at}
 use Rattle.seize_quiet.specs.Slots.{StageAt}
 use Rattle.seize_quiet.specs.Promises.{IsOnSlots}
 use Rattle.seize_views.specs.Notes.{as_known}

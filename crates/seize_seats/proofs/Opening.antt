@@ -27,17 +27,17 @@ use Rattle.seize_seats.specs.Doors.{pointers, IsFurther, right_to, AreBehind}
 use Rattle.seize_seats.specs.Seen.{seen, fact}
 use Rattle.seize_seats.specs.Owned.{bucket_pieces, piece_in, pieces, piece, Pieces, row, ground, unborn, ledger, sitting, shared_view, hand_coded, resting, zeros, stride, place, places, AreOf, stripped, all_alone, hand, kept, under, numbers, strips, doors_of, listed, BaseId, age, core_of, book_of, strip_of, IsFirst, Inside, state_of, IsPlaced, standing_in, inner, everything, lent_here, had_here, words_own}
 use Rattle.seize_seats.specs.Stretches.{IsEven, invariant}
-use Rattle.seize_seats.proofs.Ledgers as Ledgers
-use Rattle.seize_seats.proofs.Sitters as Sitters
-use Rattle.seize_seats.proofs.Stretches as Stretches
-use Rattle.seize_seats.proofs.Pieces as Pieces
-use Rattle.seize_seats.proofs.Strips.{strips_up, strip_within}
-use Rattle.seize_seats.proofs.Doors as Doors
-use Rattle.seize_seats.proofs.Doors.{pointers_split, pointers_join}
-use Rattle.seize_seats.proofs.Rows.{row_splits, row_joins}
-use Rattle.seize_seats.proofs.Grounds.{drop_none}
-use Rattle.seize_seats.proofs.Known as Known
-use Rattle.seize_seats.proofs.Grounds as Grounds
+use Rattle.seize_seats.proofs.Views.Ledgers as Ledgers
+use Rattle.seize_seats.proofs.Views.Sitters as Sitters
+use Rattle.seize_seats.proofs.Views.Stretches as Stretches
+use Rattle.seize_seats.proofs.Places.Pieces as Pieces
+use Rattle.seize_seats.proofs.Places.Strips.{strips_up, strip_within}
+use Rattle.seize_seats.proofs.Growing.Doors as Doors
+use Rattle.seize_seats.proofs.Growing.Doors.{pointers_split, pointers_join}
+use Rattle.seize_seats.proofs.Places.Rows.{row_splits, row_joins}
+use Rattle.seize_seats.proofs.Places.Grounds.{drop_none}
+use Rattle.seize_seats.proofs.Views.Known as Known
+use Rattle.seize_seats.proofs.Places.Grounds as Grounds
 
 -- each word is 0
 abbrev pub AreZeros : List ℕ → Type 0

@@ -23,9 +23,9 @@ use Rattle.seize_seats.specs.Lines.{AreLaid}
 use Rattle.seize_seats.specs.Strips.{Strip}
 use Rattle.seize_seats.specs.Owned.{Pieces, sitting, stride, under, numbers, strips, listed, BaseId, IsLike, age, core_of, book_of, Inside, state_of, IsPlaced, standing_in, everything, lent_here, had_here, words_own}
 use Rattle.seize_seats.specs.Stretches.{IsEven, invariant}
-use Rattle.seize_seats.proofs.Sitters as Sitters
-use Rattle.seize_seats.proofs.Stretches as Stretches
-use Rattle.seize_seats.proofs.Pieces as Pieces
+use Rattle.seize_seats.proofs.Views.Sitters as Sitters
+use Rattle.seize_seats.proofs.Views.Stretches as Stretches
+use Rattle.seize_seats.proofs.Places.Pieces as Pieces
 use Rattle.seize_seats.proofs.Opening as Opening
 
 -- the state in which the memory was as it went: the rule held, nobody was on an errand, and this was known of the views

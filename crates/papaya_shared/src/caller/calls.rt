@@ -1,9 +1,8 @@
-//! A caller is sent to make a map, to look a key up, and to store a pair.
+//! A caller is sent to make a map, to look a key up, and to run a call on one key.
 ghost use Rattle.std.specs.Prelude.{◌≡◌, IsSome, Some};
-ghost use Rattle.papaya_shared.specs.Calling.{HasCalled, MayCall};
-ghost use Rattle.papaya_shared.specs.Looking.{HasFound, MayLook};
-ghost use Rattle.papaya_shared.specs.Making.{CameTo, MayBegin};
-ghost use Rattle.papaya_views.specs.Given.ActsActs.{Insert};
+ghost use Rattle.papaya_seats.specs.Calling.{HasCalled, MayCall, wanted_of};
+ghost use Rattle.papaya_seats.specs.Looking.{HasFound, MayLook};
+ghost use Rattle.papaya_seats.specs.Making.{CameTo, MayBegin};
 ghost use Rattle.papaya_views.specs.Looks.{shown_in};
 ghost use Rattle.papaya_views.specs.Rule.{Holds};
 ghost use Rattle.papaya_views.specs.declared.view.Work.TheVariants.{Nothing as NoWork};
@@ -11,9 +10,9 @@ ghost use Rattle.papaya_views.specs.Given.SeizeSeatsLendings.{IsValueOf};
 ghost use Rattle.papaya_views.specs.Given.SeizeViewsDeclared.view.View.TheVariants.{Rests};
 
 use crate::caller::Caller;
-use crate::errands::{Finds, Inserts, Makes};
-use crate::within::Ran;
+use papaya_raw::machines::Machine;
 use papaya_resize::{Lookup, NewMap};
+use papaya_seats::{Does, Finds, Makes, Ran};
 use papaya_tables::{Hashes, Node, Setting};
 use seize_words::Fault;
 use std::hash::Hash;
@@ -47,29 +46,18 @@ impl<'a, K: Eq + Hash, V, S: Hashes<K>> Caller<'a, K, V, S> {
 }
 
 impl<'a, K: Eq + Hash + Drop, V: Drop, S: Hashes<K>> Caller<'a, K, V, S> {
-    /// Stores this pair within its section, in the map that it knows, and answers what its call has told, and the pair where that was not stored.
-    pub(crate) fn inserts<R: Wait>(
-        &mut self,
-        rt: &R,
-        hasher: &S,
-        setting: Setting,
-        hash: u64,
-        key: K,
-        value: V,
-    ) -> Ran<K, V>
-        requires may { MayCall S.hash hasher.now key setting hash self.old.seat.view }
-        ensures called { HasCalled K.eq S.hash (Insert key value) result.told result.unstored self.old.seat.view self.new.seat.view }
+    /// Runs this call, which asks nothing, within its section, on the map that it knows, and answers what it has told, and its own pair where that was not stored.
+    pub(crate) fn does<R: Wait>(&mut self, rt: &R, hasher: &S, machine: Machine<K, V>) -> Ran<K, V>
+        requires may { MayCall K.eq S.hash hasher.now machine self.old.seat.view }
+        ensures called { HasCalled K.eq S.hash (wanted_of machine) result.told result.unstored self.old.seat.view self.new.seat.view }
         ensures blocks { self.new.blocks ≡ self.old.blocks }
     {
         let ran = self.blocks.errand(
             &mut self.seat,
-            Inserts {
+            Does {
                 rt,
                 hasher,
-                setting,
-                hash,
-                key,
-                value,
+                machine,
                 near: self.near,
             },
         );

@@ -6,7 +6,7 @@ use denote.RawPtr.{Ptr, InBlock}
 use Rattle.core.specs.Mem.Slots.{slots_items, slots_filled, slots_len, slots_counts}
 use Rattle.seize_seats.specs.Strips.{Strip}
 use Rattle.seize_seats.specs.Plots.{HasFirst}
-use Rattle.seize_seats.proofs.Behind.{Behind, behind, doubles, doubled, full_behind}
+use Rattle.seize_seats.proofs.Growing.Behind.{Behind, behind, doubles, doubled, full_behind}
 use Rattle.seize_plots.specs.contracts.kept.Kept.{the_row as KeptOf}
 use Rattle.seize_plots.proofs.emptying.clear.Goals as goal
 

@@ -1,7 +1,7 @@
 use Rattle.std.proofs.Common.{◌<◌, length, ap, ◌∙◌, arith}
 use Rattle.std.specs.Prelude.{map, slice_index_or}
 use Rattle.core.specs.Mem.Slots.{slots_items, slots_filled, slots_len, slots_counts}
-use Rattle.seize_seats.proofs.Behind.{full_behind}
+use Rattle.seize_seats.proofs.Growing.Behind.{full_behind}
 use Rattle.seize_plots.specs.Pieces.{spot_of, first_spot, other_spots}
 use Rattle.seize_plots.proofs.Spots.{spot_here, spots_after}
 use Rattle.seize_plots.proofs.Emptied.{empty_before}

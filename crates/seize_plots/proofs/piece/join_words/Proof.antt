@@ -28,7 +28,7 @@ use Rattle.std.specs.contracts.impls.GlobalAllocator.TheImpl.{ghosts}
 use Rattle.std.proofs.raw_atomic.Walks.{proved, leaves}
 use Rattle.seize_seats.specs.Owned.{row as word_row, words_right}
 use Rattle.seize_seats.specs.Doors.{frees}
-use Rattle.seize_seats.proofs.Slotted.{Fits, whole_out, full_is}
+use Rattle.seize_seats.proofs.Places.Slotted.{Fits, whole_out, full_is}
 use Rattle.seize_plots.specs.Pieces.{AreAt, words_held}
 use Rattle.seize_plots.specs.contracts.row.Row as row
 use Rattle.seize_plots.specs.contracts.piece.Right as right_of

@@ -35,7 +35,7 @@ use Rattle.seize_plots.proofs.Room.{laid_out, given_up}
 use Rattle.seize_plots.specs.contracts.row.Row as row
 use Rattle.seize_plots.specs.contracts.piece.Right as right_of
 use Rattle.seize_plots.proofs.Fields.{token, mark_told, one_of, places_told}
-use Rattle.seize_seats.proofs.Slotted.{full_is}
+use Rattle.seize_seats.proofs.Places.Slotted.{full_is}
 use Rattle.seize_seats.specs.Plots.{all_full}
 use Rattle.seize_plots.specs.contracts.piece.release_words.{ended, clauses}
 use Rattle.seize_plots.specs.contracts.piece.release_words.Key.{name as #self}

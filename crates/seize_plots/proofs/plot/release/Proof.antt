@@ -33,14 +33,14 @@ use Rattle.core.proofs.alloc.Calls.{Al as Handle, Gives, at_gives, Gives-goes, G
 use Rattle.std.proofs.raw_atomic.Walks.{proved, leaves}
 use Rattle.std.proofs.raw_atomic.Calls.{fm}
 use Rattle.seize_seats.specs.Doors.{block_type, block_bytes, words_from, deed}
-use Rattle.seize_seats.proofs.Plots.{laid_out}
+use Rattle.seize_seats.proofs.Places.Plots.{laid_out}
 use Rattle.seize_seats.specs.Plots.{AreEmpty}
 use Rattle.seize_plots.specs.contracts.row.Row as row
 use Rattle.seize_plots.specs.contracts.plot.Deed as deed_of
 use Rattle.seize_plots.proofs.Fields.{token, mark_told, one_of, one_good, places_told}
 use Rattle.seize_seats.specs.Owned.{stride}
-use Rattle.seize_seats.proofs.Slotted.{full_is, Whole}
-use Rattle.seize_seats.proofs.Plotted.{whole as whole_again}
+use Rattle.seize_seats.proofs.Places.Slotted.{full_is, Whole}
+use Rattle.seize_seats.proofs.Places.Plotted.{whole as whole_again}
 use Rattle.seize_plots.specs.contracts.plot.release.{ended, clauses}
 use Rattle.seize_plots.specs.contracts.plot.release.Key.{name as #self}
 use Rattle.seize_plots.proofs.plot.release.Statement.{statement}

@@ -41,11 +41,11 @@ use Rattle.core.specs.Allocator.{HasLayout}
 use Rattle.std.proofs.raw_atomic.Walks.{proved, leaves}
 use Rattle.std.proofs.raw_atomic.Calls.{fm}
 use Rattle.seize_seats.specs.Doors.{block_type, before, block_bytes, words_from, deed}
-use Rattle.seize_seats.proofs.Plots.{fits, laid_out}
+use Rattle.seize_seats.proofs.Places.Plots.{fits, laid_out}
 use Rattle.seize_plots.specs.contracts.row.Row as row
 use Rattle.seize_plots.specs.contracts.plot.Deed as deed_of
 use Rattle.seize_plots.proofs.Fields.{token, Mark, mark_made, one_of, Places, places_made}
-use Rattle.seize_seats.proofs.Plotted as plotted
+use Rattle.seize_seats.proofs.Places.Plotted as plotted
 use Rattle.seize_plots.specs.contracts.plot.reserve.{ended, clauses}
 use Rattle.seize_plots.specs.contracts.plot.reserve.Key.{name as #self}
 use Rattle.seize_plots.proofs.plot.reserve.Statement.{statement}

@@ -2,8 +2,8 @@ use Rattle.std.proofs.Common.{◌≡◌, ◌+◌, ◌-◌, ◌<◌, List, length
 use denote.RawPtr.{Ptr, InBlock}
 use Rattle.core.specs.Mem.Slots.{slots_items, slots_filled, slots_len, slots_counts}
 use Rattle.seize_words.specs.Place.{capacity}
-use Rattle.seize_seats.proofs.Behind.{full_behind}
-use Rattle.seize_seats.proofs.Grounds.{capacity_twice}
+use Rattle.seize_seats.proofs.Growing.Behind.{full_behind}
+use Rattle.seize_seats.proofs.Places.Grounds.{capacity_twice}
 use Rattle.seize_plots.specs.Pieces.{AreBucketsBehind}
 use Rattle.seize_plots.proofs.Buckets.{bucket_behind, none_behind}
 use Rattle.seize_plots.proofs.rooms.clear_rooms.Goals as goal

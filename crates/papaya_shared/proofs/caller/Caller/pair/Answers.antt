@@ -1,4 +1,4 @@
-use Rattle.papaya_shared.proofs.Shown.{is_shown}
+use Rattle.papaya_seats.proofs.Shown.{is_shown}
 use Rattle.papaya_shared.proofs.caller.Caller.pair.Goals as goal
 
 pub value-requires-clause-shown : goal.value-requires-clause-shown

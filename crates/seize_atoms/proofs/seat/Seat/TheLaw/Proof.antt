@@ -9,7 +9,7 @@ use denote.Param.Shared.{copy_shared}
 use denote.Struct.Laws.{field_copy}
 use denote.Struct.Lending.{of_Lends}
 use Rattle.std.specs.contracts.marker.PhantomData as marker
-use Rattle.seize_seats.proofs.Shown.{seat_laws, lends_seat}
+use Rattle.seize_seats.proofs.Views.Shown.{seat_laws, lends_seat}
 use Rattle.seize_atoms.specs.declared.rule.Rule.{Ghosts}
 use Rattle.seize_atoms.specs.contracts.seat.Seat as seat
 use Rattle.seize_atoms.proofs.seat.Seat.TheLaw.Statement.{statement}

@@ -6,7 +6,7 @@ use denote.Struct.Field.{RawPtr-field}
 use denote.Struct.Laws.{RawPtr-copy, field_copy}
 use denote.Struct.Lending.{of_Lends}
 use Rattle.std.specs.contracts.marker.PhantomData as marker
-use Rattle.seize_seats.proofs.Shown.{strip_laws, lends_strip}
+use Rattle.seize_seats.proofs.Views.Shown.{strip_laws, lends_strip}
 use Rattle.seize_atoms.specs.contracts.strip.Strip as strip
 use Rattle.seize_atoms.proofs.strip.Strip.TheLaw.Statement.{statement}
 use Rattle.seize_plots.specs.contracts.kept.Kept as kept_of

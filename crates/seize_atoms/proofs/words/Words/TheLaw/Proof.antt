@@ -9,7 +9,7 @@ use denote.Struct.Field.{RawPtr-field}
 use denote.Struct.Laws.{RawPtr-copy, field_copy}
 use denote.Struct.Lending.{of_Lends}
 use Rattle.std.specs.contracts.marker.PhantomData as marker
-use Rattle.seize_seats.proofs.Shown.{words_laws, lends_words}
+use Rattle.seize_seats.proofs.Views.Shown.{words_laws, lends_words}
 use Rattle.seize_atoms.specs.declared.rule.Rule.{Ghosts}
 use Rattle.seize_atoms.specs.contracts.words.Words as words
 use Rattle.seize_atoms.proofs.words.Words.TheLaw.Statement.{statement}

@@ -3,7 +3,7 @@ use Rattle.seize_atoms.specs.Visiting.{HoldsSince, seat_coded}
 use denote.RattleType.{RattleType}
 use denote.Param.Send.{IsSend, IsSync, sendable}
 use Rattle.core.specs.contracts.option.Option.{the_row as OptionOf}
-use Rattle.seize_seats.proofs.Sent.{owns_keyless}
+use Rattle.seize_seats.proofs.Views.Sent.{owns_keyless}
 use Rattle.seize_atoms.specs.declared.rule.Rule.{Ghosts}
 use Rattle.seize_atoms.specs.contracts.words.Words.{the_row}
 use Rattle.seize_plots.specs.contracts.kept.Kept as kept_of

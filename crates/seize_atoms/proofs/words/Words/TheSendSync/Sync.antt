@@ -5,7 +5,7 @@ use denote.Param.Send.{IsSend, IsSync, sendable}
 use denote.Struct.Struct.{Struct}
 use Rattle.core.specs.contracts.option.Option.{the_row as OptionOf}
 use denote.Struct.Owning.{shape}
-use Rattle.seize_seats.proofs.Sent.{shares_keyless}
+use Rattle.seize_seats.proofs.Views.Sent.{shares_keyless}
 use Rattle.seize_atoms.specs.declared.rule.Rule.{Ghosts}
 use Rattle.seize_atoms.specs.contracts.words.Words.{the_row, the_type}
 use Rattle.seize_plots.specs.contracts.kept.Kept as kept_of

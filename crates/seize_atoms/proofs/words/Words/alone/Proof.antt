@@ -36,7 +36,7 @@ use denote.Triple.Walked.{Stays, stay_dropped, walk_of, Goes-dropped}
 use Rattle.core.proofs.atomic.Steps.{Ptr-Good}
 use Rattle.std.proofs.raw_atomic.Walks.{proved, leaves}
 use Rattle.seize_seats.specs.Stretches.{seat_owns}
-use Rattle.seize_seats.proofs.Stretches.{begins}
+use Rattle.seize_seats.proofs.Views.Stretches.{begins}
 use Rattle.seize_seats.specs.Owned.{BaseId, IsLike, words_own}
 use Rattle.seize_seats.proofs.Renewal.{goes_on, shows_nothing, seat_of, WasFound}
 use Rattle.seize_atoms.specs.contracts.words.Words as words

@@ -42,9 +42,9 @@ use Rattle.seize_words.specs.Op.{Out, Room, Roomed}
 use Rattle.seize_words.specs.declared.fault.Fault.TheVariants.{Memory}
 use Rattle.seize_seats.specs.State.{Allows}
 use Rattle.seize_seats.specs.Owned.{BaseId, IsPlaced, age, common, words_share}
-use Rattle.seize_seats.proofs.Shown.{placed}
-use Rattle.seize_seats.proofs.Moves.{seat as seat_of, gone_on}
-use Rattle.seize_seats.proofs.RoomSteps.{answered, asks}
+use Rattle.seize_seats.proofs.Views.Shown.{placed}
+use Rattle.seize_seats.proofs.Stepping.Moves.{seat as seat_of, gone_on}
+use Rattle.seize_seats.proofs.Growing.RoomSteps.{answered, asks}
 use Rattle.seize_atoms.proofs.Asked.{Answered, answers}
 use Rattle.seize_atoms.specs.contracts.words.Words as words
 use Rattle.seize_atoms.specs.contracts.seat.Seat as seat
@@ -57,7 +57,7 @@ use Rattle.seize_atoms.specs.contracts.words.Words.ask_room.Key.{name as #self}
 use Rattle.seize_atoms.proofs.words.Words.ask_room.Statement.{statement}
 use Rattle.seize_atoms.proofs.words.Words.ask_room.Code as code
 use Rattle.seize_seats.specs.Stretches.{seat_owns}
-use Rattle.seize_seats.proofs.Stretches.{ends, begins}
+use Rattle.seize_seats.proofs.Views.Stretches.{ends, begins}
 
 pub ask_room_spec : {M : Type 1} → statement M
 ask_room_spec 𝓤 𝓛 𝓜 𝓡 wired X P U F LX LP LU LF g d _ =

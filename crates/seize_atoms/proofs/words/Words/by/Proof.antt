@@ -31,7 +31,7 @@ use Rattle.std.specs.contracts.marker.PhantomData as marker
 use Rattle.std.proofs.raw_atomic.Walks.{proved, leaves}
 use Rattle.seize_seats.specs.Stretches.{IsEven, invariant}
 use Rattle.seize_seats.specs.Owned.{Core, BaseId, core_of, everything, strip_told, words_share}
-use Rattle.seize_seats.proofs.Shown.{told_there}
+use Rattle.seize_seats.proofs.Views.Shown.{told_there}
 use Rattle.seize_atoms.specs.contracts.words.Words as words
 use Rattle.seize_atoms.specs.contracts.strip.Strip as strip
 use Rattle.seize_atoms.proofs.Fields.{Data}

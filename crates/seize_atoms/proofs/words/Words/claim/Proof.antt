@@ -37,8 +37,8 @@ use Rattle.std.specs.contracts.marker.PhantomData as marker
 use Rattle.std.proofs.raw_atomic.Walks.{proved, leaves}
 use Rattle.std.proofs.raw_atomic.Calls.{fm, seq_cst, found, finds, ors}
 use Rattle.seize_seats.specs.Owned.{BaseId, IsPlaced, age, common, claim_owns, words_share}
-use Rattle.seize_seats.proofs.Shown.{placed}
-use Rattle.seize_seats.proofs.Makings.{claims}
+use Rattle.seize_seats.proofs.Views.Shown.{placed}
+use Rattle.seize_seats.proofs.Blocks.Makings.{claims}
 use Rattle.seize_atoms.specs.Placed.{IsItsSign}
 use Rattle.seize_atoms.specs.contracts.words.Words as words
 use Rattle.seize_atoms.specs.contracts.claim.Claim as claim

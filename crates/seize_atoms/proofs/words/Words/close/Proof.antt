@@ -39,8 +39,8 @@ use Rattle.seize_plots.specs.contracts.row.Row as row
 use Rattle.seize_plots.specs.contracts.plot.Alone as alone
 use Rattle.seize_plots.specs.contracts.pieces.Pieces as pieces_of
 use Rattle.seize_atoms.proofs.Fields.{token, hand_of, told, hand_good, one_of, one_good, closed_good, Mark, mark_made, Places, places_made}
-use Rattle.seize_seats.proofs.Slotted.{are_full, whole_in, Values, values_in, doorway_in}
-use Rattle.seize_seats.proofs.Slotted as Placing
+use Rattle.seize_seats.proofs.Places.Slotted.{are_full, whole_in, Values, values_in, doorway_in}
+use Rattle.seize_seats.proofs.Places.Slotted as Placing
 use Rattle.seize_seats.proofs.Opening.{AreClosed, closes}
 use Rattle.seize_atoms.specs.contracts.words.Words.close.{ended, clauses}
 use Rattle.seize_atoms.specs.contracts.words.Words.close.Key.{name as #self}

@@ -45,11 +45,11 @@ use Rattle.seize_plots.specs.Pieces.{kept_words}
 use Rattle.seize_seats.specs.Errands.{Away, coded_of}
 use Rattle.seize_seats.specs.Owned.{BaseId, words_share}
 use Rattle.seize_seats.specs.Stretches.{seat_owns}
-use Rattle.seize_seats.proofs.Stretches.{ends, begins}
-use Rattle.seize_seats.proofs.Moves.{seat as seat_of}
-use Rattle.seize_seats.proofs.Outings.{goes, returns as comes_home, pledge}
-use Rattle.seize_seats.proofs.Inside.{Ends, begins_within}
-use Rattle.seize_seats.proofs.Shown.{words_laws}
+use Rattle.seize_seats.proofs.Views.Stretches.{ends, begins}
+use Rattle.seize_seats.proofs.Stepping.Moves.{seat as seat_of}
+use Rattle.seize_seats.proofs.Stepping.Outings.{goes, returns as comes_home, pledge}
+use Rattle.seize_seats.proofs.Views.Inside.{Ends, begins_within}
+use Rattle.seize_seats.proofs.Views.Shown.{words_laws}
 use Rattle.seize_atoms.specs.Visiting.{Seen, HoldsSince, keeps_here, seat_coded}
 use Rattle.seize_atoms.specs.contracts.words.Words as words
 use Rattle.seize_atoms.specs.contracts.seat.Seat as seat

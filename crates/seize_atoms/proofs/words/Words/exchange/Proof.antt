@@ -45,17 +45,17 @@ use denote.Param.Shared.{copy_shared}
 use Rattle.std.specs.contracts.marker.PhantomData as marker
 use Rattle.std.proofs.raw_atomic.Walks.{proved, leaves}
 use Rattle.std.proofs.raw_atomic.Calls.{fm, seq_cst}
-use Rattle.seize_seats.proofs.Exchanged.{Res, answered, exchanges}
+use Rattle.seize_seats.proofs.Stepping.Exchanged.{Res, answered, exchanges}
 use Rattle.seize_seats.specs.Steps.{exchanged}
 use Rattle.seize_words.specs.Op.{Out, Exchange, Exchanged}
 use Rattle.seize_words.specs.declared.at.At.{At}
 use Rattle.seize_words.specs.contracts.at.At as at
 use Rattle.seize_seats.specs.State.{Allows}
 use Rattle.seize_seats.specs.Owned.{BaseId, IsPlaced, age, common, words_share}
-use Rattle.seize_seats.proofs.Shown.{placed}
-use Rattle.seize_seats.proofs.Steps as Steps
-use Rattle.seize_seats.proofs.Moves.{seat as seat_of, gone_on}
-use Rattle.seize_seats.proofs.OwnWords.{reached}
+use Rattle.seize_seats.proofs.Views.Shown.{placed}
+use Rattle.seize_seats.proofs.Stepping.Steps as Steps
+use Rattle.seize_seats.proofs.Stepping.Moves.{seat as seat_of, gone_on}
+use Rattle.seize_seats.proofs.Stepping.OwnWords.{reached}
 use Rattle.seize_atoms.specs.Placed.{IsItsPlace}
 use Rattle.seize_atoms.specs.contracts.words.Words as words
 use Rattle.seize_atoms.specs.contracts.seat.Seat as seat
@@ -67,7 +67,7 @@ use Rattle.seize_atoms.specs.contracts.words.Words.exchange.Key.{name as #self}
 use Rattle.seize_atoms.proofs.words.Words.exchange.Statement.{statement}
 use Rattle.seize_atoms.proofs.words.Words.exchange.Code as code
 use Rattle.seize_seats.specs.Stretches.{seat_owns}
-use Rattle.seize_seats.proofs.Stretches.{ends, begins}
+use Rattle.seize_seats.proofs.Views.Stretches.{ends, begins}
 
 word_laws : Laws u64
 word_laws = of_field u64-field u64-laws refl (copy_shared u64-field u64-copy)

@@ -38,12 +38,12 @@ use Rattle.std.proofs.raw_atomic.Calls.{fm, seq_cst}
 use Rattle.std.proofs.raw_atomic.PtrCalls.{found, finds, loads, seq_cst_good}
 use Rattle.seize_seats.specs.Doors.{before}
 use Rattle.seize_seats.specs.Owned.{BaseId, IsPlaced, age, core_of, common, stride, strip_told, words_share}
-use Rattle.seize_seats.proofs.Shown.{placed, told_there}
+use Rattle.seize_seats.proofs.Views.Shown.{placed, told_there}
 use Rattle.seize_seats.specs.Lendings.{ShownToAll}
 use Rattle.seize_seats.specs.Stretches.{seat_shares}
-use Rattle.seize_seats.proofs.Ledgers.{view_halves}
-use Rattle.seize_seats.proofs.Looks.{at_door, tells_strip}
-use Rattle.seize_seats.proofs.Finds.{met, finds as finds_strip}
+use Rattle.seize_seats.proofs.Views.Ledgers.{view_halves}
+use Rattle.seize_seats.proofs.Growing.Looks.{at_door, tells_strip}
+use Rattle.seize_seats.proofs.Growing.Finds.{met, finds as finds_strip}
 use Rattle.seize_atoms.specs.contracts.words.Words as words
 use Rattle.seize_atoms.specs.contracts.seat.Seat as seat
 use Rattle.seize_atoms.specs.contracts.strip.Strip as strip

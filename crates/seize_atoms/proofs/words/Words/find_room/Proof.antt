@@ -44,12 +44,12 @@ use Rattle.seize_words.specs.declared.at.At.TheVariants.{Slot}
 use Rattle.seize_seats.specs.Strips.{Strip}
 use Rattle.seize_seats.specs.Buckets.{bucket_at, IsBucket}
 use Rattle.seize_seats.specs.Owned.{BaseId, IsPlaced, age, core_of, common, told as told_to_all, words_share}
-use Rattle.seize_seats.proofs.Known as Known
-use Rattle.seize_seats.proofs.Shown.{placed, told_there}
+use Rattle.seize_seats.proofs.Views.Known as Known
+use Rattle.seize_seats.proofs.Views.Shown.{placed, told_there}
 use Rattle.seize_atoms.specs.Placed.{HasWord}
 use Rattle.seize_seats.specs.Stretches.{seat_shares}
-use Rattle.seize_seats.proofs.Ledgers.{view_halves}
-use Rattle.seize_seats.proofs.Gates.{met, finds as finds_bucket}
+use Rattle.seize_seats.proofs.Views.Ledgers.{view_halves}
+use Rattle.seize_seats.proofs.Growing.Gates.{met, finds as finds_bucket}
 use Rattle.seize_atoms.specs.contracts.words.Words as words
 use Rattle.seize_atoms.specs.contracts.seat.Seat as seat
 use Rattle.seize_atoms.specs.contracts.strip.Strip as strip

@@ -32,9 +32,9 @@ use Rattle.std.specs.contracts.marker.PhantomData as marker
 use Rattle.std.proofs.raw_atomic.Walks.{proved, leaves}
 use Rattle.seize_seats.specs.State.{Learns}
 use Rattle.seize_seats.specs.Owned.{BaseId, words_share}
-use Rattle.seize_seats.proofs.Moves.{gone_on, seat as seat_of}
-use Rattle.seize_seats.proofs.Lessons.{learns, other as share_of}
-use Rattle.seize_seats.proofs.Ledgers.{view_halves}
+use Rattle.seize_seats.proofs.Stepping.Moves.{gone_on, seat as seat_of}
+use Rattle.seize_seats.proofs.Stepping.Lessons.{learns, other as share_of}
+use Rattle.seize_seats.proofs.Views.Ledgers.{view_halves}
 use Rattle.seize_atoms.specs.contracts.words.Words as words
 use Rattle.seize_atoms.specs.contracts.seat.Seat as seat
 use Rattle.seize_atoms.proofs.Fields.{Data, Token}
@@ -43,7 +43,7 @@ use Rattle.seize_atoms.specs.contracts.words.Words.learn.Key.{name as #self}
 use Rattle.seize_atoms.proofs.words.Words.learn.Statement.{statement}
 use Rattle.seize_atoms.proofs.words.Words.learn.Code as code
 use Rattle.seize_seats.specs.Stretches.{seat_owns, seat_shares}
-use Rattle.seize_seats.proofs.Stretches.{ends, begins}
+use Rattle.seize_seats.proofs.Views.Stretches.{ends, begins}
 use Rattle.seize_plots.specs.contracts.kept.Kept as kept_of
 use Rattle.seize_plots.specs.Pieces.{kept_words}
 

@@ -41,10 +41,10 @@ use Rattle.seize_words.specs.declared.at.At.{At}
 use Rattle.seize_words.specs.contracts.at.At as at
 use Rattle.seize_seats.specs.State.{Allows}
 use Rattle.seize_seats.specs.Owned.{BaseId, IsPlaced, age, common, words_share}
-use Rattle.seize_seats.proofs.Shown.{placed}
-use Rattle.seize_seats.proofs.Steps as Steps
-use Rattle.seize_seats.proofs.Moves.{seat as seat_of, gone_on}
-use Rattle.seize_seats.proofs.OwnWords.{reached}
+use Rattle.seize_seats.proofs.Views.Shown.{placed}
+use Rattle.seize_seats.proofs.Stepping.Steps as Steps
+use Rattle.seize_seats.proofs.Stepping.Moves.{seat as seat_of, gone_on}
+use Rattle.seize_seats.proofs.Stepping.OwnWords.{reached}
 use Rattle.seize_atoms.specs.Placed.{IsItsPlace}
 use Rattle.seize_atoms.specs.contracts.words.Words as words
 use Rattle.seize_atoms.specs.contracts.seat.Seat as seat
@@ -56,7 +56,7 @@ use Rattle.seize_atoms.specs.contracts.words.Words.load.Key.{name as #self}
 use Rattle.seize_atoms.proofs.words.Words.load.Statement.{statement}
 use Rattle.seize_atoms.proofs.words.Words.load.Code as code
 use Rattle.seize_seats.specs.Stretches.{seat_owns}
-use Rattle.seize_seats.proofs.Stretches.{ends, begins}
+use Rattle.seize_seats.proofs.Views.Stretches.{ends, begins}
 
 pub load_spec : {M : Type 1} → statement M
 load_spec 𝓤 𝓛 𝓜 𝓡 wired X P U F LX LP LU LF g d _ =

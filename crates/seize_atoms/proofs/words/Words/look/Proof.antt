@@ -36,8 +36,8 @@ use Rattle.std.proofs.raw_atomic.Calls.{fm, seq_cst}
 use Rattle.std.proofs.raw_atomic.PtrCalls.{found, finds, loads, seq_cst_good}
 use Rattle.seize_seats.specs.Doors.{before}
 use Rattle.seize_seats.specs.Owned.{BaseId, IsPlaced, age, core_of, common, stride, strip_told, words_share}
-use Rattle.seize_seats.proofs.Shown.{placed}
-use Rattle.seize_seats.proofs.Looks.{glimpse, Fits, looks, at_door, tells_more}
+use Rattle.seize_seats.proofs.Views.Shown.{placed}
+use Rattle.seize_seats.proofs.Growing.Looks.{glimpse, Fits, looks, at_door, tells_more}
 use Rattle.seize_atoms.specs.contracts.words.Words as words
 use Rattle.seize_atoms.specs.contracts.strip.Strip as strip
 use Rattle.seize_atoms.proofs.Fields.{word_laws, hand_of, hand_good, Data, StripData, strip_made}

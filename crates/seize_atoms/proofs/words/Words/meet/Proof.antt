@@ -31,8 +31,8 @@ use Rattle.std.specs.contracts.marker.PhantomData as marker
 use Rattle.std.proofs.raw_atomic.Walks.{proved, leaves}
 use Rattle.seize_seats.specs.State.{Meets}
 use Rattle.seize_seats.specs.Owned.{BaseId, words_share}
-use Rattle.seize_seats.proofs.Moves.{seat as seat_of}
-use Rattle.seize_seats.proofs.Meetings.{meets, met}
+use Rattle.seize_seats.proofs.Stepping.Moves.{seat as seat_of}
+use Rattle.seize_seats.proofs.Stepping.Meetings.{meets, met}
 use Rattle.seize_atoms.specs.contracts.words.Words as words
 use Rattle.seize_atoms.specs.contracts.seat.Seat as seat
 use Rattle.seize_atoms.proofs.Fields.{Data}
@@ -41,7 +41,7 @@ use Rattle.seize_atoms.specs.contracts.words.Words.meet.Key.{name as #self}
 use Rattle.seize_atoms.proofs.words.Words.meet.Statement.{statement}
 use Rattle.seize_atoms.proofs.words.Words.meet.Code as code
 use Rattle.seize_seats.specs.Stretches.{seat_owns}
-use Rattle.seize_seats.proofs.Stretches.{ends, begins}
+use Rattle.seize_seats.proofs.Views.Stretches.{ends, begins}
 use Rattle.seize_plots.specs.contracts.kept.Kept as kept_of
 use Rattle.seize_plots.specs.Pieces.{kept_words}
 

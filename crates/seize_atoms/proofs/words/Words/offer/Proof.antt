@@ -49,10 +49,10 @@ use Rattle.seize_seats.specs.Strips.{Strip, strip_coded}
 use Rattle.seize_seats.specs.Doors.{before, block_bytes, words_from, IsFurther, right_to}
 use Rattle.seize_seats.specs.Owned.{pieces, BaseId, IsPlaced, AreOf, age, core_of, common, strip_of, strip_told, words_share}
 use Rattle.seize_seats.specs.Owned as Owned
-use Rattle.seize_seats.proofs.Shown.{placed, told_there}
+use Rattle.seize_seats.proofs.Views.Shown.{placed, told_there}
 use Rattle.seize_seats.proofs.Opening.{fives, fives_are, fives_long}
-use Rattle.seize_seats.proofs.Plots.{tested}
-use Rattle.seize_seats.proofs.Offers as Offers
+use Rattle.seize_seats.proofs.Places.Plots.{tested}
+use Rattle.seize_seats.proofs.Growing.Offers as Offers
 use Rattle.seize_seats.specs.Plots.{HasFirst}
 use Rattle.seize_atoms.specs.contracts.words.Words as words
 use Rattle.seize_atoms.specs.contracts.strip.Strip as strip
@@ -61,12 +61,12 @@ use Rattle.seize_plots.specs.contracts.plot.Deed as deed_of
 use Rattle.seize_plots.specs.contracts.plot.Alone as alone_of
 use Rattle.seize_plots.specs.contracts.place.Place as place
 use Rattle.seize_atoms.proofs.Fields.{token, word_laws, Data, Mark, mark_told, mark_made, one_of, one_good, places_told, place_made, found_good, answer_made}
-use Rattle.seize_seats.proofs.Slotted.{full_is, Fits, whole_out, Roomy, values_out, nones_are}
-use Rattle.seize_seats.proofs.Plotted.{plot}
+use Rattle.seize_seats.proofs.Places.Slotted.{full_is, Fits, whole_out, Roomy, values_out, nones_are}
+use Rattle.seize_seats.proofs.Places.Plotted.{plot}
 use Rattle.seize_atoms.specs.contracts.words.Words.offer.{ended, clauses}
 use Rattle.seize_atoms.specs.contracts.words.Words.offer.Key.{name as #self}
 use Rattle.seize_atoms.proofs.words.Words.offer.Statement.{statement}
-use Rattle.seize_seats.proofs.Pieces.{no_pieces}
+use Rattle.seize_seats.proofs.Places.Pieces.{no_pieces}
 use Rattle.seize_atoms.proofs.words.Words.offer.Code as code
 use Rattle.seize_plots.specs.contracts.kept.Kept as kept_of
 use Rattle.seize_plots.specs.Pieces.{kept_words}

@@ -10,7 +10,7 @@ use mir.Val.{Val, vint, vnull, vptr, vstruct, vcons, vnil}
 use prog.Wp.{WpFn}
 use base.Logic.{SProp, ent, emp, id⊢, via}
 use base.Fml.{Lft, Fml, ftrue, fsep, flft, fhide}
-use Rattle.seize_seats.proofs.Grounds.{capacity_least}
+use Rattle.seize_seats.proofs.Places.Grounds.{capacity_least}
 use types.Kit.{group, fpack, ‵, raw, ◌⊛◌, given, mean, at_ret, ◌$◌, ◌∵◌, !, qed, by, move, keep, drop, split, split3, join, fsplit, fsplit3, fjoin, fjoin3, fpick, learn, use0, use1, rewrite, feq_i, some as items, later, pick, await, suffices}
 use types.Run.{lit, of_opd, bin, no_more, and_then, first, blocks, exec, Calls-last, returns, enter}
 use types.ByLocal.{alloc_all, pass_all, free_all, look_at, get, sets, env, lands_last}
@@ -49,10 +49,10 @@ use Rattle.seize_seats.specs.Owned.{words_right}
 use Rattle.seize_plots.specs.Pieces.{AreAt, piece_at}
 use Rattle.seize_seats.specs.State.{Allows}
 use Rattle.seize_seats.specs.Owned.{BaseId, IsPlaced, age, common, words_share}
-use Rattle.seize_seats.proofs.Shown.{placed}
-use Rattle.seize_seats.proofs.Moves.{seat as seat_of}
-use Rattle.seize_seats.proofs.RoomSteps.{won, lost, offers}
-use Rattle.seize_seats.proofs.Plots.{words_tested}
+use Rattle.seize_seats.proofs.Views.Shown.{placed}
+use Rattle.seize_seats.proofs.Stepping.Moves.{seat as seat_of}
+use Rattle.seize_seats.proofs.Growing.RoomSteps.{won, lost, offers}
+use Rattle.seize_seats.proofs.Places.Plots.{words_tested}
 use Rattle.seize_atoms.specs.contracts.words.Words as words
 use Rattle.seize_atoms.specs.contracts.seat.Seat as seat
 use Rattle.seize_plots.specs.contracts.kept.Kept as kept_of
@@ -65,7 +65,7 @@ use Rattle.seize_atoms.specs.contracts.words.Words.offer_room.Key.{name as #self
 use Rattle.seize_atoms.proofs.words.Words.offer_room.Statement.{statement}
 use Rattle.seize_atoms.proofs.words.Words.offer_room.Code as code
 use Rattle.seize_seats.specs.Stretches.{seat_owns}
-use Rattle.seize_seats.proofs.Stretches.{ends, begins}
+use Rattle.seize_seats.proofs.Views.Stretches.{ends, begins}
 
 pub offer_room_spec : {M : Type 1} → statement M
 offer_room_spec 𝓤 𝓛 𝓜 𝓡 wired X P U F LX LP LU LF g d _ =

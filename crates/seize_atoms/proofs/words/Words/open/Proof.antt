@@ -42,7 +42,7 @@ use Rattle.seize_plots.specs.contracts.place.Place as place
 use Rattle.seize_plots.specs.contracts.place.Doors as doors
 use Rattle.seize_atoms.proofs.Fields.{hand_of, hand_good, hand_made, one_of, one_good, places_told, place_made, doors_made, opened_good, Data}
 use Rattle.core.specs.Mem.Slots.Ownership.{owned, Filled}
-use Rattle.seize_seats.proofs.Slotted.{full_is, Fits, whole_out, Roomy, values_out, nones_are, doorway_out, nulls_are}
+use Rattle.seize_seats.proofs.Places.Slotted.{full_is, Fits, whole_out, Roomy, values_out, nones_are, doorway_out, nulls_are}
 use Rattle.seize_seats.specs.State.{Starts}
 use Rattle.seize_seats.specs.Start.{bare}
 use Rattle.seize_seats.proofs.Opening.{opens}

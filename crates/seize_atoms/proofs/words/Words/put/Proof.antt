@@ -49,23 +49,23 @@ use Rattle.std.proofs.raw_atomic.Walks.{proved_at, leaves}
 use Rattle.seize_words.specs.Op.{Out, Make, Made}
 use Rattle.seize_seats.specs.State.{Allows}
 use Rattle.seize_seats.specs.Owned.{piece, BaseId, IsPlaced, Hand, age, common, told as told_to_all, IsIts, claim_owns, resting, busy, zeros, place, stride, words_share}
-use Rattle.seize_seats.proofs.Shown.{placed}
-use Rattle.seize_seats.proofs.Moves.{reach, seat as seat_of, gone_on}
-use Rattle.seize_seats.proofs.Makings.{hands, contents, withdraws, publishes, offers as offered_at}
+use Rattle.seize_seats.proofs.Views.Shown.{placed}
+use Rattle.seize_seats.proofs.Stepping.Moves.{reach, seat as seat_of, gone_on}
+use Rattle.seize_seats.proofs.Blocks.Makings.{hands, contents, withdraws, publishes, offers as offered_at}
 use Rattle.seize_atoms.specs.contracts.words.Words as words
 use Rattle.seize_atoms.specs.contracts.seat.Seat as seat
 use Rattle.seize_atoms.specs.contracts.claim.Claim as claim
 use Rattle.seize_atoms.proofs.Fields.{Data, token, mark_told, claim_of, claim_told}
-use Rattle.seize_seats.proofs.Values.{uncapped, indexed}
+use Rattle.seize_seats.proofs.Places.Values.{uncapped, indexed}
 use Rattle.seize_atoms.specs.contracts.words.Words.put.{ended, clauses}
 use Rattle.seize_atoms.specs.contracts.words.Words.put.Key.{name as #self}
 use Rattle.seize_atoms.proofs.words.Words.put.Statement.{statement}
 use Rattle.seize_atoms.proofs.words.Words.put.Code as code
 use Rattle.seize_seats.specs.Stretches.{seat_owns}
-use Rattle.seize_seats.proofs.Stretches.{ends, begins}
-use Rattle.seize_seats.proofs.Known.{twice}
+use Rattle.seize_seats.proofs.Views.Stretches.{ends, begins}
+use Rattle.seize_seats.proofs.Views.Known.{twice}
 use Rattle.seize_seats.specs.Lendings.{lendable}
-use Rattle.seize_seats.proofs.Lendings.{offers}
+use Rattle.seize_seats.proofs.Blocks.Lendings.{offers}
 use contract.BorrowLft.{◌⊑◌}
 use Rattle.core.proofs.once.Steps.{option_lives}
 use Rattle.seize_plots.specs.contracts.kept.Kept as kept_of

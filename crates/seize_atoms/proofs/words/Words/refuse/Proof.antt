@@ -34,7 +34,7 @@ use Rattle.std.specs.Prelude.{Err}
 use Rattle.seize_words.specs.Op.{Out, Make, Made}
 use Rattle.seize_seats.specs.State.{Allows}
 use Rattle.seize_seats.specs.Owned.{BaseId, words_share}
-use Rattle.seize_seats.proofs.Moves.{refuses, gone_on, seat as seat_of}
+use Rattle.seize_seats.proofs.Stepping.Moves.{refuses, gone_on, seat as seat_of}
 use Rattle.seize_atoms.specs.contracts.words.Words as words
 use Rattle.seize_atoms.specs.contracts.seat.Seat as seat
 use Rattle.seize_plots.specs.contracts.kept.Kept as kept_of
@@ -45,7 +45,7 @@ use Rattle.seize_atoms.specs.contracts.words.Words.refuse.Key.{name as #self}
 use Rattle.seize_atoms.proofs.words.Words.refuse.Statement.{statement}
 use Rattle.seize_atoms.proofs.words.Words.refuse.Code as code
 use Rattle.seize_seats.specs.Stretches.{seat_owns}
-use Rattle.seize_seats.proofs.Stretches.{ends, begins}
+use Rattle.seize_seats.proofs.Views.Stretches.{ends, begins}
 
 pub refuse_spec : {M : Type 1} → statement M
 refuse_spec 𝓤 𝓛 𝓜 𝓡 wired X P U F LX LP LU LF g d _ =

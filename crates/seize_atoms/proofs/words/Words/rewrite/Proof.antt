@@ -49,24 +49,24 @@ use Rattle.std.proofs.raw_atomic.Walks.{proved_at, leaves}
 use Rattle.seize_words.specs.Op.{Out, Rewrite, Taken}
 use Rattle.seize_seats.specs.State.{Allows, Owns}
 use Rattle.seize_seats.specs.Owned.{BaseId, IsPlaced, age, common, held, told as told_to_all, place, stride, words_share}
-use Rattle.seize_seats.proofs.Shown.{placed}
-use Rattle.seize_seats.proofs.Moves.{reach, seat as seat_of, gone_on}
-use Rattle.seize_seats.proofs.Makings.{hands}
-use Rattle.seize_seats.proofs.Regains.{regains_held}
-use Rattle.seize_seats.proofs.Rewrites.{Note, Holding, takes_up, puts_back, value as value_at}
+use Rattle.seize_seats.proofs.Views.Shown.{placed}
+use Rattle.seize_seats.proofs.Stepping.Moves.{reach, seat as seat_of, gone_on}
+use Rattle.seize_seats.proofs.Blocks.Makings.{hands}
+use Rattle.seize_seats.proofs.Blocks.Regains.{regains_held}
+use Rattle.seize_seats.proofs.Blocks.Rewrites.{Note, Holding, takes_up, puts_back, value as value_at}
 use Rattle.seize_atoms.specs.Placed.{IsItsIndex}
 use Rattle.seize_atoms.specs.contracts.words.Words as words
 use Rattle.seize_atoms.specs.contracts.seat.Seat as seat
 use Rattle.seize_atoms.proofs.Fields.{Data}
-use Rattle.seize_seats.proofs.Values.{uncapped, indexed}
+use Rattle.seize_seats.proofs.Places.Values.{uncapped, indexed}
 use Rattle.seize_atoms.specs.contracts.words.Words.rewrite.{ended, clauses}
 use Rattle.seize_atoms.specs.contracts.words.Words.rewrite.Key.{name as #self}
 use Rattle.seize_atoms.proofs.words.Words.rewrite.Statement.{statement}
 use Rattle.seize_atoms.proofs.words.Words.rewrite.Code as code
 use Rattle.seize_seats.specs.Stretches.{seat_owns}
-use Rattle.seize_seats.proofs.Stretches.{ends, begins}
-use Rattle.seize_seats.proofs.Known.{twice}
-use Rattle.seize_seats.proofs.Lendings.{offers}
+use Rattle.seize_seats.proofs.Views.Stretches.{ends, begins}
+use Rattle.seize_seats.proofs.Views.Known.{twice}
+use Rattle.seize_seats.proofs.Blocks.Lendings.{offers}
 use contract.BorrowLft.{◌⊑◌}
 use Rattle.core.proofs.once.Steps.{option_lives}
 use Rattle.seize_plots.specs.contracts.kept.Kept as kept_of

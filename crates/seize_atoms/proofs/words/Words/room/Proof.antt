@@ -34,7 +34,7 @@ use Rattle.seize_words.specs.Op.{Out, Room, Roomed}
 use Rattle.seize_seats.specs.Steps.{roomed}
 use Rattle.seize_seats.specs.State.{Allows}
 use Rattle.seize_seats.specs.Owned.{BaseId, words_share}
-use Rattle.seize_seats.proofs.Moves.{rooms, gone_on, seat as seat_of}
+use Rattle.seize_seats.proofs.Stepping.Moves.{rooms, gone_on, seat as seat_of}
 use Rattle.seize_atoms.specs.contracts.words.Words as words
 use Rattle.seize_atoms.specs.contracts.seat.Seat as seat
 use Rattle.seize_plots.specs.contracts.kept.Kept as kept_of
@@ -45,7 +45,7 @@ use Rattle.seize_atoms.specs.contracts.words.Words.room.Key.{name as #self}
 use Rattle.seize_atoms.proofs.words.Words.room.Statement.{statement}
 use Rattle.seize_atoms.proofs.words.Words.room.Code as code
 use Rattle.seize_seats.specs.Stretches.{seat_owns}
-use Rattle.seize_seats.proofs.Stretches.{ends, begins}
+use Rattle.seize_seats.proofs.Views.Stretches.{ends, begins}
 
 pub room_spec : {M : Type 1} → statement M
 room_spec 𝓤 𝓛 𝓜 𝓡 wired X P U F LX LP LU LF g d _ =

@@ -33,7 +33,7 @@ use Rattle.std.specs.contracts.marker.PhantomData as marker
 use Rattle.std.proofs.raw_atomic.Walks.{proved, leaves}
 use Rattle.seize_seats.specs.State.{Comes}
 use Rattle.seize_seats.specs.Owned.{BaseId, words_share}
-use Rattle.seize_seats.proofs.Moves.{comes, newcomer}
+use Rattle.seize_seats.proofs.Stepping.Moves.{comes, newcomer}
 use Rattle.seize_atoms.specs.contracts.words.Words as words
 use Rattle.seize_atoms.specs.contracts.seat.Seat as seat
 use Rattle.seize_plots.specs.contracts.kept.Kept as kept_of
@@ -44,7 +44,7 @@ use Rattle.seize_atoms.specs.contracts.words.Words.seat.Key.{name as #self}
 use Rattle.seize_atoms.proofs.words.Words.seat.Statement.{statement}
 use Rattle.seize_atoms.proofs.words.Words.seat.Code as code
 use Rattle.seize_seats.specs.Stretches.{seat_owns}
-use Rattle.seize_seats.proofs.Stretches.{begins}
+use Rattle.seize_seats.proofs.Views.Stretches.{begins}
 
 pub seat_spec : {M : Type 1} → statement M
 seat_spec 𝓤 𝓛 𝓜 𝓡 wired X P U F LX LP LU LF g d _ =

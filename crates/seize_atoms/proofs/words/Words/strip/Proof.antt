@@ -30,7 +30,7 @@ use Rattle.core.proofs.atomic.Steps.{Ptr-Good}
 use Rattle.std.specs.contracts.marker.PhantomData as marker
 use Rattle.std.proofs.raw_atomic.Walks.{proved, leaves}
 use Rattle.seize_seats.specs.Owned.{BaseId, IsPlaced, common, words_share}
-use Rattle.seize_seats.proofs.Shown.{placed, told_there}
+use Rattle.seize_seats.proofs.Views.Shown.{placed, told_there}
 use Rattle.seize_atoms.specs.contracts.words.Words as words
 use Rattle.seize_atoms.specs.contracts.strip.Strip as strip
 use Rattle.seize_atoms.proofs.Fields.{hand_of, hand_good, Data, told, opened, StripData, strip_made}

@@ -55,23 +55,23 @@ use Rattle.core.specs.Sync.RawAtomic.{word}
 use Rattle.seize_words.specs.Op.{Out, Take, Taken}
 use Rattle.seize_seats.specs.State.{Allows}
 use Rattle.seize_seats.specs.Owned.{BaseId, IsPlaced, age, common, told as told_to_all, place, row, stride, words_share, busy}
-use Rattle.seize_seats.proofs.Shown.{placed}
-use Rattle.seize_seats.proofs.Moves.{reach, seat as seat_of}
-use Rattle.seize_seats.proofs.Makings.{leaves as goes_out, Taking, frees, hands}
+use Rattle.seize_seats.proofs.Views.Shown.{placed}
+use Rattle.seize_seats.proofs.Stepping.Moves.{reach, seat as seat_of}
+use Rattle.seize_seats.proofs.Blocks.Makings.{leaves as goes_out, Taking, frees, hands}
 use Rattle.seize_atoms.specs.Placed.{IsItsIndex}
 use Rattle.seize_atoms.specs.contracts.words.Words as words
 use Rattle.seize_atoms.specs.contracts.seat.Seat as seat
 use Rattle.seize_atoms.proofs.Fields.{hand_of, Data, told, opened, token, Mark, mark_made}
-use Rattle.seize_seats.proofs.Values.{uncapped, indexed, four_of}
+use Rattle.seize_seats.proofs.Places.Values.{uncapped, indexed, four_of}
 use Rattle.seize_atoms.specs.contracts.words.Words.take.{ended, clauses}
 use Rattle.seize_atoms.specs.contracts.words.Words.take.Key.{name as #self}
 use Rattle.seize_atoms.proofs.words.Words.take.Statement.{statement}
 use Rattle.seize_atoms.proofs.words.Words.take.Code as code
 use Rattle.seize_seats.specs.Stretches.{seat_owns}
-use Rattle.seize_seats.proofs.Stretches.{ends, begins}
-use Rattle.seize_seats.proofs.Known.{twice}
+use Rattle.seize_seats.proofs.Views.Stretches.{ends, begins}
+use Rattle.seize_seats.proofs.Views.Known.{twice}
 use Rattle.seize_seats.specs.Cells.{Body}
-use Rattle.seize_seats.proofs.Regains.{regains}
+use Rattle.seize_seats.proofs.Blocks.Regains.{regains}
 use Rattle.seize_plots.specs.contracts.kept.Kept as kept_of
 use Rattle.seize_plots.proofs.kept.Kept.TheLaws.{the_row_laws as kept_laws}
 use Rattle.seize_plots.specs.Pieces.{kept_words, value_of}

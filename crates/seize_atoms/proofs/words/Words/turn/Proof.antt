@@ -31,7 +31,7 @@ use Rattle.std.specs.contracts.marker.PhantomData as marker
 use Rattle.std.proofs.raw_atomic.Walks.{proved, leaves}
 use Rattle.seize_seats.specs.State.{Turns}
 use Rattle.seize_seats.specs.Owned.{BaseId, words_share}
-use Rattle.seize_seats.proofs.Moves.{turns, gone_on, seat as seat_of}
+use Rattle.seize_seats.proofs.Stepping.Moves.{turns, gone_on, seat as seat_of}
 use Rattle.seize_atoms.specs.contracts.words.Words as words
 use Rattle.seize_atoms.specs.contracts.seat.Seat as seat
 use Rattle.seize_plots.specs.contracts.kept.Kept as kept_of
@@ -42,7 +42,7 @@ use Rattle.seize_atoms.specs.contracts.words.Words.turn.Key.{name as #self}
 use Rattle.seize_atoms.proofs.words.Words.turn.Statement.{statement}
 use Rattle.seize_atoms.proofs.words.Words.turn.Code as code
 use Rattle.seize_seats.specs.Stretches.{seat_owns}
-use Rattle.seize_seats.proofs.Stretches.{ends, begins}
+use Rattle.seize_seats.proofs.Views.Stretches.{ends, begins}
 
 pub turn_spec : {M : Type 1} → statement M
 turn_spec 𝓤 𝓛 𝓜 𝓡 wired X P U F N LX LP LU LF LN g d g' d' _ _ =

@@ -35,7 +35,7 @@ use Rattle.std.proofs.raw_atomic.Walks.{proved, leaves}
 use base.Share.{three_quarters}
 use Rattle.seize_seats.specs.Seen.{seen}
 use Rattle.seize_seats.specs.Stretches.{seat_owns}
-use Rattle.seize_seats.proofs.Stretches.{ends, begins}
+use Rattle.seize_seats.proofs.Views.Stretches.{ends, begins}
 use Rattle.seize_seats.specs.Owned.{BaseId, IsLike, words_own}
 use Rattle.seize_seats.proofs.Renewal.{goes_on, shows_itself, WasFound}
 use Rattle.seize_atoms.specs.contracts.words.Words as words

@@ -41,15 +41,15 @@ use Rattle.seize_seats.specs.Lendings.{Holder, IsValueBy}
 use types.Tokens.{shr_bor-open, obor_close}
 use Rattle.seize_seats.specs.Owned.{Core, BaseId, core_of, IsPlaced, common, everything, strip_told, stride, words_share}
 use Rattle.seize_seats.specs.Stretches.{IsEven, invariant, seat_shares}
-use Rattle.seize_seats.proofs.Shown.{placed, told_there}
-use Rattle.seize_seats.proofs.Testifying.{By, So, lent_by}
-use Rattle.seize_seats.proofs.Ledgers.{view_halves}
+use Rattle.seize_seats.proofs.Views.Shown.{placed, told_there}
+use Rattle.seize_seats.proofs.Blocks.Testifying.{By, So, lent_by}
+use Rattle.seize_seats.proofs.Views.Ledgers.{view_halves}
 use Rattle.seize_atoms.specs.Placed.{IsItsIndex}
 use Rattle.seize_atoms.specs.contracts.words.Words as words
 use Rattle.seize_atoms.specs.contracts.seat.Seat as seat
 use Rattle.seize_atoms.specs.contracts.strip.Strip as strip
 use Rattle.seize_atoms.proofs.Fields.{Data, Token}
-use Rattle.seize_seats.proofs.Values.{uncapped, indexed}
+use Rattle.seize_seats.proofs.Places.Values.{uncapped, indexed}
 use Rattle.seize_atoms.specs.contracts.words.Words.value_by.{ended, clauses}
 use Rattle.seize_atoms.specs.contracts.words.Words.value_by.Key.{name as #self}
 use Rattle.seize_atoms.proofs.words.Words.value_by.Statement.{statement}

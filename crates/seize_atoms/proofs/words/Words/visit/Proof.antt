@@ -33,7 +33,7 @@ use Rattle.std.proofs.raw_atomic.Walks.{proved, leaves}
 use Rattle.std.specs.Prelude.{Some}
 use Rattle.seize_seats.specs.Lendings.{Shown}
 use Rattle.seize_seats.specs.Owned.{BaseId, words_share}
-use Rattle.seize_seats.proofs.Moves.{turns, gone_on, seat as seat_of}
+use Rattle.seize_seats.proofs.Stepping.Moves.{turns, gone_on, seat as seat_of}
 use Rattle.seize_atoms.specs.contracts.words.Words as words
 use Rattle.seize_atoms.specs.contracts.seat.Seat as seat
 use Rattle.seize_plots.specs.contracts.kept.Kept as kept_of
@@ -44,7 +44,7 @@ use Rattle.seize_atoms.specs.contracts.words.Words.visit.Key.{name as #self}
 use Rattle.seize_atoms.proofs.words.Words.visit.Statement.{statement}
 use Rattle.seize_atoms.proofs.words.Words.visit.Code as code
 use Rattle.seize_seats.specs.Stretches.{seat_owns}
-use Rattle.seize_seats.proofs.Stretches.{ends, begins}
+use Rattle.seize_seats.proofs.Views.Stretches.{ends, begins}
 
 pub visit_spec : {M : Type 1} → statement M
 visit_spec 𝓤 𝓛 𝓜 𝓡 wired X P U F LX LP LU LF g d _ =

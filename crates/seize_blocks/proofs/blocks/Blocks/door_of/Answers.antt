@@ -1,5 +1,5 @@
 use Rattle.std.proofs.Common.{arith}
-use Rattle.seize_seats.proofs.Behind.{doubled}
+use Rattle.seize_seats.proofs.Growing.Behind.{doubled}
 use Rattle.seize_blocks.proofs.blocks.Blocks.door_of.Goals as goal
 
 pub loop-door-preserved : goal.loop-door-preserved

@@ -2,7 +2,7 @@ use Rattle.std.proofs.Common.{◌≡◌, ℕ, ◌+◌, ◌-◌, ◌*◌, ◌<◌
 use Rattle.seize_words.specs.Op.{Room}
 use Rattle.seize_words.specs.Place.{capacity}
 use Rattle.seize_seats.specs.State.{Allows}
-use Rattle.seize_seats.proofs.Grounds.{capacity_least}
+use Rattle.seize_seats.proofs.Places.Grounds.{capacity_least}
 use Rattle.seize_plots.proofs.Somewhere.{beside_some}
 use Rattle.seize_blocks.proofs.blocks.Blocks.lay_room.Goals as goal
 

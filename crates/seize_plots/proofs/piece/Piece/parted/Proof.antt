@@ -33,7 +33,7 @@ use Rattle.std.proofs.raw_atomic.Walks.{proved, leaves}
 use Rattle.seize_seats.specs.Owned.{words_right}
 use Rattle.seize_seats.specs.Doors.{frees}
 use Rattle.seize_seats.specs.Plots.{all_full}
-use Rattle.seize_seats.proofs.Slotted.{Whole, whole_in, are_full}
+use Rattle.seize_seats.proofs.Places.Slotted.{Whole, whole_in, are_full}
 use Rattle.seize_plots.specs.Pieces.{piece_at, words_held}
 use Rattle.seize_plots.specs.contracts.row.Row as row
 use Rattle.seize_plots.specs.contracts.piece.Right as right_of

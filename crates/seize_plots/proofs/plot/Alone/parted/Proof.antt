@@ -41,14 +41,14 @@ use Rattle.seize_plots.proofs.Spots.{spots}
 use Rattle.seize_plots.specs.contracts.kept.Kept as kept_of
 use Rattle.seize_plots.specs.contracts.pieces.Pieces as pieces_of
 use Rattle.seize_seats.specs.Owned.{stride, all_alone}
-use Rattle.seize_seats.proofs.Plots.{fits}
+use Rattle.seize_seats.proofs.Places.Plots.{fits}
 use Rattle.seize_seats.specs.Plots.{HasFirst, all_full}
 use Rattle.seize_plots.specs.contracts.row.Row as row_of
 use Rattle.seize_plots.specs.contracts.plot.Deed as deed_of
 use Rattle.seize_plots.specs.contracts.plot.Alone as alone_of
 use Rattle.seize_plots.proofs.Fields.{token, Mark, mark_told, mark_made, one_of, Places, places_made}
-use Rattle.seize_seats.proofs.Slotted.{nones_of, Whole, whole_in, Values, values_in, are_full}
-use Rattle.seize_seats.proofs.Plotted.{plot, first_is}
+use Rattle.seize_seats.proofs.Places.Slotted.{nones_of, Whole, whole_in, Values, values_in, are_full}
+use Rattle.seize_seats.proofs.Places.Plotted.{plot, first_is}
 use Rattle.seize_plots.specs.contracts.plot.Alone.parted.{ended, clauses}
 use Rattle.seize_plots.specs.contracts.plot.Alone.parted.Key.{name as #self}
 use Rattle.seize_plots.proofs.plot.Alone.parted.Statement.{statement}

@@ -1,0 +1,115 @@
+-- The turns of a seat of maps, and the lookup that has begun.
+use Rattle.std.specs.Prelude.{max, Result, Ok, Err, IfErr}
+use Rattle.std.proofs.Common.{◌≡◌, ℕ, ◌≤◌, ◌^◌, Bool, true, Some, refl, sym, subst, ap, ◌∙◌, arith}
+use Rattle.papaya_views.proofs.Given.SeizeActsAnswers.{same_some}
+use Rattle.papaya_views.specs.Given.SeizeSeatsState.{Turns}
+use Rattle.papaya_views.specs.Given.SeizeWordsDeclared.fault.Fault.{Fault}
+use Rattle.papaya_views.specs.Given.TablesChunks.{is_incremental}
+use Rattle.papaya_views.specs.Given.TablesLengths.{IsTableLen}
+use Rattle.papaya_views.specs.Given.TablesDeclared.node.Node.{Node}
+use Rattle.papaya_views.specs.Given.TablesDeclared.setting.Setting.{Setting}
+use Rattle.papaya_views.specs.Given.ResizeLookup.{looking}
+use Rattle.papaya_views.specs.Given.ResizeDeclared.lookup.Lookup.{Lookup}
+use Rattle.papaya_views.specs.Given.ResizeDeclared.new_map.NewMap.{NewMap}
+use Rattle.papaya_views.specs.Given.RawCallPoints.{getting, standing}
+use Rattle.papaya_views.specs.Given.RawDeclared.machines.call.Calling.TheVariants.{Looks}
+use Rattle.papaya_views.specs.Given.RawDeclared.machines.call.KeyCall.{KeyCall}
+use Rattle.papaya_views.specs.Given.RawDeclared.machines.machine.Machine.{Machine}
+use Rattle.papaya_views.specs.Given.RawDeclared.machines.machine.Machine.TheVariants.{Key}
+use Rattle.papaya_views.specs.Given.ActsActs.{Wanted, Get}
+use Rattle.papaya_views.specs.Given.SeizeViewsDeclared.view.Fixed.{Fixed}
+use Rattle.papaya_views.specs.Given.SeizeViewsDeclared.view.Has.TheVariants.{Nothing as NoBlock}
+use Rattle.papaya_views.specs.Given.SeizeViewsDeclared.view.View.TheVariants.{Rests, Inside}
+use Rattle.papaya_views.specs.Begun.{machine_for, making}
+use Rattle.papaya_views.specs.Rule.{Holds, KeepsFor}
+use Rattle.papaya_views.specs.declared.view.Map.{Map}
+use Rattle.papaya_views.specs.declared.view.View.{View}
+use Rattle.papaya_views.specs.declared.view.Work.TheVariants.{Nothing, Calls}
+use Rattle.papaya_views.proofs.Laws.{calls_begin, makings_begin}
+use Rattle.papaya_seats.specs.Calling.{IsUnderWay, MayDo, wanted_of}
+use Rattle.papaya_seats.specs.Kinds.{Kind, Stage}
+use Rattle.papaya_seats.specs.Looking.{Begins, IsOn, LooksFor, MayLook, StaysThere}
+use Rattle.papaya_seats.specs.Making.{BeginsMaking, CameTo, MayBegin, PlansJust}
+
+module _ {K V S : Type 0} (same : K → K → Bool) (hash : S → K → ℕ) (fixed : Fixed) (id : ℕ) (v : View K V S) where
+  -- who may come to know one thing may come to know what that is of
+  turns_to : (so other : View K V S → Type 0) → ((w : View K V S) → so w → other w) → Turns (Holds same hash fixed) KeepsFor id v so → Turns (Holds same hash fixed) KeepsFor id v other
+  turns_to so other is may s h at = let g = may s h at in (g.0, g.1, g.2, g.3, is g.0 g.4)
+
+  pub may_begin : (t : ℕ) (map : Map S) (wanted : Wanted K V) → v.slot ≡ Inside t NoBlock → v.map ≡ Some map → is_incremental map.setting.mode ≡ true → v.work ≡ Nothing
+      → Turns (Holds same hash fixed) KeepsFor id v (Begins same hash wanted v)
+  may_begin t map wanted inside knows incremental free =
+      turns_to _ (Begins same hash wanted v) (λ w e. (map, t, knows, inside, e)) (calls_begin V same hash fixed id t v map wanted inside knows free incremental)
+
+  -- a table of eight places is one
+  eight : max 0 8 ≤ 2 ^ 48 → IsTableLen (max 0 8)
+  eight few = record { power = (3, refl); least = omega arith; most = omega arith }
+
+  pub may_make : (plans : S → NewMap → Type 0) (hasher : S) (c : NewMap) → PlansJust plans hasher c → MayBegin fixed c → v.slot ≡ Rests → v.work ≡ Nothing
+      → Turns (Holds same hash fixed) KeepsFor id v (BeginsMaking plans v)
+  may_make plans hasher c just may rests free =
+      turns_to _ (BeginsMaking plans v) (λ w e. (e.0, hasher, c, just.0, e.1 ∙ ap (making v e.0 hasher) (sym may.is)))
+      (makings_begin V same hash fixed id v hasher may.given 0 rests free may.sized may.masked may.rooted may.initial eight)
+
+-- what a making has come to, from where it began
+module _ {K V S : Type 0} (plans : S → NewMap → Type 0) (hasher : S) (opening : NewMap) (u v w : View K V S) (begins : BeginsMaking plans u v) where
+  refused_there : (answer : Result Setting Fault) → IfErr answer (λ fault. (w.work ≡ Nothing) × (w.map ≡ v.map)) → IfErr answer (λ fault. (w.work ≡ Nothing) × (w.map ≡ u.map))
+  refused_there (Ok setting) is = tt
+  refused_there (Err fault) is = (is.0, is.1 ∙ ap (λ (x : View K V S). x.map) begins.4)
+
+  pub came_from : (answer : Result Setting Fault) → CameTo hasher opening answer v w → CameTo hasher opening answer u w
+  came_from answer came = record {
+    made = came.made;
+    refused = refused_there answer came.refused;
+    slot = came.slot ∙ ap (λ (x : View K V S). x.slot) begins.4;
+    calls = came.calls ∙ ap (λ (x : View K V S). x.calls) begins.4;
+  }
+
+module _ {K V S : Type 0} (same : K → K → Bool) (hash : S → K → ℕ) (key : K) where
+  -- what has begun is a lookup of this key
+  pub looks_for : (lookup : Lookup) (v w : View K V S) → MayLook hash key lookup v → Begins same hash (Get key) v w → LooksFor key lookup w
+  looks_for lookup v w may begins =
+      let map : Map S = begins.0 in
+      let one : may.map ≡ map = same_some may.map map (sym may.knows ∙ begins.2) in
+      let call : KeyCall K V K = getting (record map.setting { slot = begins.1 }) (hash map.hasher key) key in
+      let is : lookup ≡ looking map.setting.root map.setting.mode (hash map.hasher key) =
+      may.begins ∙ ap (λ (m : Map S). looking m.setting.root m.setting.mode (hash m.hasher key)) one in record {
+        map = map;
+        call = call;
+        knows = ap (λ (u : View K V S). u.map) begins.4 ∙ begins.2;
+        incremental = ap (λ (m : Map S). is_incremental m.setting.mode) (sym one) ∙ may.incremental;
+        asked = refl;
+        works = ap (λ (u : View K V S). u.work) begins.4 ∙ ap (λ (l : Lookup). Calls (Key (standing call (Looks l)))) (sym is);
+        on = subst (λ (l : Lookup). IsOn l.stands) (sym is) tt;
+      }
+
+-- slot and map stay as a call begins
+pub stays_begun : {K V S : Type 0} (same : K → K → Bool) (hash : S → K → ℕ) (wanted : Wanted K V) (v w : View K V S) → Begins same hash wanted v w → StaysThere v w
+stays_begun {K} {V} {S} same hash wanted v w begins =
+    record { slot = ap (λ (u : View K V S). u.slot) begins.4; map = ap (λ (u : View K V S). u.map) begins.4 }
+
+module _ {K V S : Type 0} (same : K → K → Bool) (hash : S → K → ℕ) where
+  -- what has begun is this call
+  pub is_begun : (k : Kind) (s : Stage) (hasher : S) (machine : Machine K V K) (v w : View K V S) → MayDo same hash k s hasher machine v → Begins same hash (wanted_of machine) v w
+      → IsUnderWay k s hasher machine w
+  is_begun k s hasher machine v w may begins =
+      let map : Map S = begins.0 in
+      let one : may.map ≡ map = same_some may.map map (sym may.knows ∙ begins.2) in
+      let inside = sym may.inside ∙ begins.3 in
+      let slot : may.slot ≡ begins.1 = cc inside in
+      let its : machine ≡ machine_for same hash map begins.1 (wanted_of machine) =
+      may.begins ∙ ap (λ (m : Map S). machine_for same hash m may.slot (wanted_of machine)) one ∙ ap (λ (t : ℕ). machine_for same hash map t (wanted_of machine)) slot in record {
+        at =
+            record {
+              map = map;
+              knows = ap (λ (u : View K V S). u.map) begins.4 ∙ begins.2;
+              hashes = ap (λ (m : Map S). m.hasher) (sym one) ∙ may.hashes;
+              incremental = ap (λ (m : Map S). is_incremental m.setting.mode) (sym one) ∙ may.incremental;
+              works = ap (λ (u : View K V S). u.work) begins.4 ∙ ap (λ (x : Machine K V K). Calls x) (sym its);
+            };
+        goes = may.goes;
+      }
+
+-- what stays in one course stays in both
+pub stays_on : {K V S : Type 0} (u v w : View K V S) → StaysThere u v → StaysThere v w → StaysThere u w
+stays_on u v w one other = record { slot = other.slot ∙ one.slot; map = other.map ∙ one.map }

@@ -1,0 +1,6 @@
+pub mod Answers
+pub mod Made
+pub mod Looking
+pub mod Making
+pub mod Kinds
+pub mod Calling

@@ -1,0 +1,11 @@
+//! Seats of a memory of maps, under the rule of maps: one is sent to make a map, to look a key up there, and to run a call on one key, by the steps of the machines.
+#![tactic(auto)]
+
+mod errands;
+mod memory;
+mod turns;
+mod within;
+
+pub use errands::{Does, Finds, Makes};
+pub use memory::memory_for;
+pub use within::Ran;
