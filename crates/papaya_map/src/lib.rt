@@ -5,6 +5,7 @@ mod map;
 mod session;
 
 pub use map::HashMap;
+pub use papaya_shared::Attempt;
 pub use seize::IdSource;
 pub use seize_words::{Fault, Refused};
 pub use session::Session;

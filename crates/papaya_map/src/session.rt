@@ -1,14 +1,13 @@
 //! A map, as one of those has it who share it: with a slot of its own, within a section.
 ghost use Rattle.std.specs.Prelude.{◌≡◌, [], IfOk, IfErr, option_map};
 ghost use Rattle.std.specs.Borrow.{sem};
-ghost use Rattle.papaya_map.specs.Sessions.{HasGot, HasMadeNone, HasSought, IsOnSameMap};
-ghost use Rattle.papaya_shared.specs.Calling.{HasStored, outcome_of};
-ghost use Rattle.papaya_shared.specs.Given.ActsActs.{Insert};
+ghost use Rattle.papaya_map.specs.Sessions.{HasGot, HasMadeNone, HasSought, IsOnSameMap, WasRefused};
+ghost use Rattle.papaya_shared.specs.Answers.{CameBack, HasRemoved, HasStored, HasTried, has_stored};
+ghost use Rattle.papaya_shared.specs.Given.ActsActs.{Insert, Remove, TryToInsert};
 ghost use Rattle.papaya_shared.specs.Given.SeizeViewsDeclared.view.Has.TheVariants.{Nothing};
 ghost use Rattle.papaya_shared.specs.Given.SeizeViewsDeclared.view.View.TheVariants.{Inside, Rests};
-ghost use Rattle.papaya_shared.specs.Looking.{HasRun};
 
-use papaya_shared::Session as Base;
+use papaya_shared::{Attempt, Session as Base};
 use papaya_tables::Hashes;
 use seize_words::{Fault, Refused};
 use std::hash::{Hash, RandomState};
@@ -70,7 +69,7 @@ impl<'m, K: Eq + Hash + Drop, V: Drop, S: Hashes<K>> Session<'m, K, V, S> {
         ensures same { IsOnSameMap self.old.base.caller self.new.base.caller }
         ensures sought { HasSought K.eq S.hash key.now result self.old.base.caller self.new.base.caller }
     {
-        self.base.find(rt, key).is_some()
+        self.base.contains_key(rt, key)
     }
 
     /// Stores a pair, also in the place of one of an equal key, and answers whether one was replaced. The faults are `Fault::Capacity` and `Fault::Memory`; then the pair
@@ -78,10 +77,36 @@ impl<'m, K: Eq + Hash + Drop, V: Drop, S: Hashes<K>> Session<'m, K, V, S> {
     pub fn insert<R: Wait>(&mut self, rt: &R, key: K, value: V) -> Result<bool, Refused<K, V>>
         ensures same { IsOnSameMap self.old.base.caller self.new.base.caller }
         ensures stored { IfOk result (λ replaced. HasStored K.eq S.hash key value replaced self.old.base.caller.seat.view self.new.base.caller.seat.view) }
-        ensures refused { IfErr result (λ r. HasRun K.eq S.hash (Insert key value) (outcome_of (Err r.fault)) self.old.base.caller.seat.view self.new.base.caller.seat.view) }
+        ensures refused { IfErr result (λ r. WasRefused K.eq S.hash (Insert key value) r.fault self.old.base.caller self.new.base.caller) }
         ensures back { IfErr result (λ r. (r.key ≡ key) × (r.value ≡ value)) }
     {
         self.base.insert(rt, key, value)
+    }
+
+    /// Stores a pair, if the map has none of an equal key: else it comes back. The faults are `Fault::Capacity` and `Fault::Memory`; then the pair comes back, too.
+    pub fn try_insert<R: Wait>(
+        &mut self,
+        rt: &R,
+        key: K,
+        value: V,
+    ) -> Result<Attempt<K, V>, Refused<K, V>>
+        ensures same { IsOnSameMap self.old.base.caller self.new.base.caller }
+        ensures tried { IfOk result (λ tried. HasTried K.eq S.hash key value (has_stored tried) self.old.base.caller.seat.view self.new.base.caller.seat.view) }
+        ensures present { IfOk result (CameBack key value) }
+        ensures refused { IfErr result (λ r. WasRefused K.eq S.hash (TryToInsert key value) r.fault self.old.base.caller self.new.base.caller) }
+        ensures back { IfErr result (λ r. (r.key ≡ key) × (r.value ≡ value)) }
+    {
+        self.base.try_insert(rt, key, value)
+    }
+
+    /// Removes the pair of a key, and answers whether there was one. It is dropped once no section that was open before holds it. The faults are `Fault::Capacity` and
+    /// `Fault::Memory`; then no pair was removed.
+    pub fn remove<R: Wait>(&mut self, rt: &R, key: K) -> Result<bool, Fault>
+        ensures same { IsOnSameMap self.old.base.caller self.new.base.caller }
+        ensures removed { IfOk result (λ removed. HasRemoved K.eq S.hash key removed self.old.base.caller.seat.view self.new.base.caller.seat.view) }
+        ensures refused { IfErr result (λ fault. WasRefused K.eq S.hash (Remove key) fault self.old.base.caller self.new.base.caller) }
+    {
+        self.base.remove(rt, key)
     }
 }
 

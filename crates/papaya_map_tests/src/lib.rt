@@ -10,4 +10,6 @@ mod meeting;
 #[cfg(test)]
 mod opening;
 #[cfg(test)]
+mod removing;
+#[cfg(test)]
 mod storing;

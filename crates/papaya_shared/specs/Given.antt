@@ -4,3 +4,5 @@ pub use Rattle.papaya_views.specs.Given.ActsActs
 pub use Rattle.papaya_views.specs.Given.TablesChunks
 pub use Rattle.papaya_views.specs.declared as ViewsDeclared
 pub use Rattle.seize_callers.specs.Kept as CallersKept
+pub use Rattle.papaya_seats.specs.Calling as SeatsCalling
+pub use Rattle.papaya_seats.specs.Looking as SeatsLooking

@@ -1,4 +1,4 @@
-//! Four threads ask one cache for the squares of the same numbers: who finds one there takes it, and who does not works it out, and keeps it for the others.
+//! Four threads ask one cache for the squares of the same numbers. Who finds one there takes it, and who does not keeps it there for the others; what is long past is let go.
 #![tactic(auto)]
 
 use papaya_map::{Fault, HashMap, IdSource, Session};
@@ -10,8 +10,11 @@ use std::{io, thread};
 /// How many threads there are.
 const THREADS: u64 = 4;
 
-/// For how many numbers each of them asks, twice.
+/// For how many numbers each of them asks.
 const NUMBERS: u64 = 1_000;
+
+/// How many numbers later a square is let go.
+const ROOM: u64 = 100;
 
 /// How often a thread looks for what another one leaves there, a millisecond apart.
 const LOOKS: u64 = 10_000;
@@ -19,26 +22,28 @@ const LOOKS: u64 = 10_000;
 /// The cache, as one thread has it.
 type Cache<'m> = Session<'m, u64, u64>;
 
-/// The square of a number: as it is in the cache, or else worked out, and kept there; and whether it was there.
-fn square<R: Wait>(rt: &R, cache: &mut Cache<'_>, number: u64) -> Result<(u64, bool), Fault> {
+/// The square of a number: as it is in the cache, or else worked out, and kept there.
+fn square<R: Wait>(rt: &R, cache: &mut Cache<'_>, number: u64) -> Result<u64, Fault> {
     if let Some(square) = cache.get(rt, &number) {
-        return Ok((*square, true));
+        return Ok(*square);
     }
     let square = number.wrapping_mul(number);
     cache.insert(rt, number, square)?;
-    Ok((square, false))
+    Ok(square)
 }
 
-/// How many squares are right, and how many were there. What others have replaced may go after each.
-fn asks<R: Wait>(rt: &R, cache: &mut Cache<'_>) -> Result<(u64, u64), Fault> {
-    let (mut right, mut hits) = (0u64, 0u64);
+/// Asks for each number, and lets go what is long past; answers how many squares were right. What was let go is given back after each.
+fn asks<R: Wait>(rt: &R, cache: &mut Cache<'_>) -> Result<u64, Fault> {
+    let mut right = 0u64;
     for number in 0..NUMBERS {
-        let (square, there) = square(rt, cache, number)?;
+        let square = square(rt, cache, number)?;
         right = right.wrapping_add(u64::from(square == number.wrapping_mul(number)));
-        hits = hits.wrapping_add(u64::from(there));
+        if number >= ROOM {
+            cache.remove(rt, number - ROOM)?;
+        }
         cache.refresh();
     }
-    Ok((right, hits))
+    Ok(right)
 }
 
 /// Leaves a key of its own there, and looks whether that of the next thread comes to be there.
@@ -55,32 +60,31 @@ fn meets<R: Wait + Clock>(rt: &R, cache: &mut Cache<'_>, own: u64) -> Result<boo
     Ok(false)
 }
 
-/// What one thread has seen: how many squares were right, how many were there when it asked for them again, and whether it has met what another thread had left.
-fn works<R: Wait + Clock>(rt: &R, own: u64, cache: Cache<'_>) -> Result<(u64, u64, bool), Fault> {
+/// What one thread has seen: how many squares were right, and whether it has met what another thread had left.
+fn works<R: Wait + Clock>(rt: &R, own: u64, cache: Cache<'_>) -> Result<(u64, bool), Fault> {
     let mut cache = cache;
     let met = meets(rt, &mut cache, own)?;
-    let (first, _) = asks(rt, &mut cache)?;
-    let (second, hits) = asks(rt, &mut cache)?;
-    Ok((first.wrapping_add(second), hits, met))
+    Ok((asks(rt, &mut cache)?, met))
 }
 
 fn main(rt: HostRuntime) -> io::Result<()> {
     let mut ids = IdSource::new();
     let map = HashMap::new(rt.alloc(), &mut ids, RandomState::new(&rt)?)?;
-    let first = map.session()?;
     let mut jobs = Vec::new(rt.alloc());
-    for own in 1..THREADS {
-        jobs.push((own, first.another()?))?;
+    for own in 0..THREADS {
+        jobs.push((own, map.session()?))?;
     }
-    jobs.push((0, first))?;
     let seen = thread::map_vec(&rt, jobs, &|(own, cache)| works(&rt, own, cache))?;
-    let (mut right, mut hits, mut met) = (0u64, 0u64, "yes");
+    let (mut right, mut met, mut kept) = (0u64, "yes", 0u64);
     for one in seen {
         let one = one?;
         right = right.wrapping_add(one.0);
-        hits = hits.wrapping_add(one.1);
-        met = if one.2 { met } else { "no" };
+        met = if one.1 { met } else { "no" };
     }
-    println!(rt; "{right} squares were right, {hits} of them were there when asked for again")?;
+    let mut cache = map.session()?;
+    for number in 0..NUMBERS {
+        kept = kept.wrapping_add(u64::from(cache.contains_key(&rt, &number)));
+    }
+    println!(rt; "{right} squares were right, {kept} are kept")?;
     println!(rt; "each thread has met what another one had left: {met}")
 }

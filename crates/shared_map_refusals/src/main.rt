@@ -2,7 +2,7 @@
 //! once for each request for memory, with that one refused: each time it prints the same.
 #![tactic(auto)]
 
-use papaya_map::{Fault, HashMap, IdSource, Session};
+use papaya_map::{Attempt, Fault, HashMap, IdSource, Session};
 use std::alloc::{AllocError, Global};
 use std::hash::{BuildHasherDefault, DefaultHasher};
 use std::io;
@@ -58,7 +58,37 @@ fn stores<R: Wait>(
     same && session.get(rt, &key).copied() == Some(value)
 }
 
-/// Stores all keys, each with its double, and then each with itself, and tells whether all of it is there.
+/// Stores a key, which is there already, where it is missing; tells whether it comes back, and what was there is there still.
+fn tries<R: Wait>(
+    rt: &R,
+    session: &mut Session<'_, u64, u64, Hashing>,
+    key: u64,
+    there: u64,
+) -> bool {
+    let came = match session.try_insert(rt, key, 0) {
+        Ok(Attempt::Stored) => false,
+        Ok(Attempt::Present(back, value)) => back == key && value == 0,
+        Err(back) => {
+            let came = matches!(back.fault, Fault::Memory) && back.key == key && back.value == 0;
+            came && matches!(session.try_insert(rt, key, 0), Ok(Attempt::Present(_, _)))
+        }
+    };
+    came && session.get(rt, &key).copied() == Some(there)
+}
+
+/// Removes a key, which is there, and tells whether it is gone then. Where that was refused, it was there still.
+fn removes<R: Wait>(rt: &R, session: &mut Session<'_, u64, u64, Hashing>, key: u64) -> bool {
+    let removed = match session.remove(rt, key) {
+        Ok(removed) => removed,
+        Err(fault) => {
+            let still = matches!(fault, Fault::Memory) && session.contains_key(rt, &key);
+            still && matches!(session.remove(rt, key), Ok(true))
+        }
+    };
+    removed && !session.contains_key(rt, &key)
+}
+
+/// Stores all keys, each with its double, and then each with itself, tries to store each once more, and removes each; tells whether each time all was as it should be.
 fn all<R: Wait>(rt: &R, alloc: Global) -> Result<bool, Fault> {
     let map = made(alloc)?;
     let mut session = match map.session() {
@@ -71,6 +101,11 @@ fn all<R: Wait>(rt: &R, alloc: Global) -> Result<bool, Fault> {
     }
     for key in 0..KEYS {
         are_there = stores(rt, &mut session, key, Some(key.wrapping_mul(2)), key) && are_there;
+        session.refresh();
+    }
+    for key in 0..KEYS {
+        let tried = tries(rt, &mut session, key, key);
+        are_there = removes(rt, &mut session, key) && tried && are_there;
         session.refresh();
     }
     Ok(are_there)
