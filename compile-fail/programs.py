@@ -3,6 +3,7 @@ import os
 import re
 import shutil
 import subprocess
+import sys
 import tempfile
 
 TOP = os.path.dirname(os.path.dirname(os.path.abspath(__file__)))
@@ -38,3 +39,16 @@ def compiled(name, below, text):
         laid(room, name, below, text)
         ran = subprocess.run(["rt", "try"], cwd=f"{room}/crates/{name}", stdout=subprocess.PIPE, stderr=subprocess.STDOUT, text=True, check=False)
         return ran.stdout, re.findall(r"^src/main\.rt:(\d+):\d+: error\[([\w-]+)\]", ran.stdout, re.M)
+
+
+def shown(name, below, program, right, wrong, codes):
+    """Whether the compiler refuses just these functions, by their names and lines, with these codes; and how many."""
+    said, errors = compiled(name, below, program)
+    refused = {int(line) for line, code in errors if code in codes}
+    bad = [f"{of} compiles" for of, line in wrong.items() if line not in refused]
+    bad += [f"{of} is refused" for of, line in right.items() if line in refused]
+    bad += [f"line {line}: {code}" for line, code in errors if int(line) not in {*right.values(), *wrong.values()} or code not in codes]
+    if bad or not errors:
+        print(said)
+        sys.exit(f"{name}: {'; '.join(bad) or 'nothing was refused'}")
+    return len(wrong)

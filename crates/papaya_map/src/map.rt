@@ -10,7 +10,8 @@ ghost use Rattle.seize.specs.Ids.{given, following};
 ghost use Rattle.seize_words.specs.declared.fault.Fault.TheVariants.{Memory};
 
 use crate::session::Session;
-use papaya_shared::{Fixed, OfMaps, Session as Base, memory_for, newcomer};
+use crate::shared::SharedMap;
+use papaya_shared::{Fixed, OfMaps, Session as Base, memory_for};
 use papaya_tables::{Hashes, Node, Setting};
 use seize::{Collector, IdSource};
 use seize_blocks::{Blocks, Home, Seat};
@@ -121,14 +122,25 @@ impl<K: Eq + Hash + Drop, V: Drop, S: BuildHasher + Drop> HashMap<K, V, S> {
 }
 
 impl<K: Eq + Hash + Drop, V: Drop, S: Hashes<K>> HashMap<K, V, S> {
+    /// The same map, for threads: they may begin sessions of their own.
+    pub fn shared(&self) -> SharedMap<'_, K, V, S>
+        ensures memory { result.blocks.now ≡ self.now.home.blocks }
+        ensures map { result.seat.now.view.map ≡ self.now.seat.view.map }
+    {
+        SharedMap {
+            blocks: &self.home.blocks,
+            hasher: &self.hasher,
+            setting: self.setting,
+            seat: &self.seat,
+        }
+    }
+
     /// Begins a session on the map, which may be sent to a thread, and from which others are made. The faults are `Fault::SlotsUsedUp` and `Fault::Memory`.
     pub fn session(&self) -> Result<Session<'_, K, V, S>, Fault>
         ensures memory { IfOk result (λ session. session.base.caller.blocks.now ≡ self.now.home.blocks) }
         ensures map { IfOk result (λ session. session.base.caller.seat.view.map ≡ self.now.seat.view.map) }
         ensures none { IfOk result (λ session. session.base.caller.seat.view.calls ≡ []) }
     {
-        let seat = newcomer(&self.home.blocks, &self.seat);
-        let base = Base::of(&self.home.blocks, &self.hasher, self.setting, seat);
-        Session::begin(base)
+        self.shared().session()
     }
 }

@@ -1,5 +1,5 @@
 //! Each of two threads begins a session of its own, on the one map that both have.
-use papaya_map::{Fault, HashMap, IdSource};
+use papaya_map::{Fault, HashMap, IdSource, SharedMap};
 use std::alloc::Global;
 use std::hash::{BuildHasherDefault, DefaultHasher};
 use std::sync::Wait;
@@ -12,10 +12,10 @@ const EACH: u64 = 100;
 
 type Hashing = BuildHasherDefault<DefaultHasher>;
 
-type Map = HashMap<u64, u64, Hashing>;
+type Map<'m> = SharedMap<'m, u64, u64, Hashing>;
 
 /// Stores so many keys from this one on in the map, each with itself.
-fn stores<R: Wait>(rt: &R, map: &Map, from: u64) -> Result<(), Fault> {
+fn stores<R: Wait>(rt: &R, map: &Map<'_>, from: u64) -> Result<(), Fault> {
     let mut session = map.session()?;
     for n in 0..EACH {
         let key = u64::wrapping_add(from, n);
@@ -28,7 +28,8 @@ fn stores<R: Wait>(rt: &R, map: &Map, from: u64) -> Result<(), Fault> {
 fn stored<R: Threads + Wait + Sync>(rt: &R, alloc: Global) -> Result<u64, Fault> {
     let mut ids = IdSource::new();
     let map = HashMap::with_hasher(alloc, &mut ids, Hashing::default())?;
-    let (one, other) = thread::join(rt, || stores(rt, &map, 0), || stores(rt, &map, EACH));
+    let shared = map.shared();
+    let (one, other) = thread::join(rt, || stores(rt, &shared, 0), || stores(rt, &shared, EACH));
     one?;
     other?;
     let mut session = map.session()?;

@@ -1,5 +1,5 @@
 //! Two threads remove the same keys, and store pairs where their keys are missing.
-use papaya_map::{Attempt, Fault, HashMap, IdSource, Session};
+use papaya_map::{Attempt, Fault, HashMap, IdSource, Session, SharedMap};
 use std::alloc::Global;
 use std::hash::{BuildHasherDefault, DefaultHasher};
 use std::sync::Wait;
@@ -12,7 +12,7 @@ const KEYS: u64 = 300;
 
 type Hashing = BuildHasherDefault<DefaultHasher>;
 
-type Map = HashMap<u64, u64, Hashing>;
+type Map<'m> = SharedMap<'m, u64, u64, Hashing>;
 
 /// Stores each key with this value where it is missing; answers how many it has stored.
 fn tries<R: Wait>(
@@ -43,7 +43,7 @@ fn removes<R: Wait>(rt: &R, session: &mut Session<'_, u64, u64, Hashing>) -> Res
 }
 
 /// How many keys it has stored, and how many it has removed then.
-fn works<R: Wait>(rt: &R, map: &Map, value: u64) -> Result<(u64, u64), Fault> {
+fn works<R: Wait>(rt: &R, map: &Map<'_>, value: u64) -> Result<(u64, u64), Fault> {
     let mut session = map.session()?;
     let stored = tries(rt, &mut session, value)?;
     Ok((stored, removes(rt, &mut session)?))
@@ -53,7 +53,8 @@ fn works<R: Wait>(rt: &R, map: &Map, value: u64) -> Result<(u64, u64), Fault> {
 fn works_twice<R: Threads + Wait + Sync>(rt: &R, alloc: Global) -> Result<(u64, u64, u64), Fault> {
     let mut ids = IdSource::new();
     let map = HashMap::with_hasher(alloc, &mut ids, Hashing::default())?;
-    let (one, other) = thread::join(rt, || works(rt, &map, 1), || works(rt, &map, 2));
+    let shared = map.shared();
+    let (one, other) = thread::join(rt, || works(rt, &shared, 1), || works(rt, &shared, 2));
     let (one, other) = (one?, other?);
     let mut session = map.session()?;
     let mut left = 0u64;

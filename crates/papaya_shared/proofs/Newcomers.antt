@@ -3,10 +3,9 @@ use Rattle.std.specs.Prelude.{Some, slice_get, slice_set}
 use Rattle.std.proofs.Common.{◌≡◌, ℕ, zero, suc, List, [], ◌∷◌, Bool, refl, sym, subst, ap}
 use Rattle.papaya_views.proofs.Laws.{maps_are_handed_on}
 use Rattle.papaya_views.specs.Begun.{shown_map}
-use Rattle.papaya_views.specs.Given.SeizeSeatsState.{Learns, State}
+use Rattle.papaya_views.specs.Given.SeizeSeatsState.{Learns}
 use Rattle.papaya_views.specs.Given.SeizeViewsDeclared.view.Fixed.{Fixed}
-use Rattle.papaya_views.specs.Given.TablesDeclared.node.Node.{Node}
-use Rattle.papaya_views.specs.Rule.{Holds, KeepsFor, MapsWorld}
+use Rattle.papaya_views.specs.Rule.{Holds, KeepsFor}
 use Rattle.papaya_views.specs.declared.view.Map.{Map}
 use Rattle.papaya_views.specs.declared.view.View.{View}
 use Rattle.papaya_views.specs.declared.view.Work.TheVariants.{Nothing}
@@ -26,10 +25,10 @@ module _ {K V S : Type 0} (same : K → K → Bool) (hash : S → K → ℕ) (fi
       let is : views ≡ slice_set s.views i (shown_map v map) =
       subst (λ (p : View K V S). slice_set (slice_set s.views j p) i g.1 ≡ slice_set s.views i (shown_map v map)) (sym g.3.0)
       (subst (λ (q : View K V S). slice_set (slice_set s.views j u) i q ≡ slice_set s.views i (shown_map v map)) (sym g.3.1)
-      (ap (λ l. slice_set l i (shown_map v map)) (as_before s.views j u there))) in (
+      (ap (λ (l : List (View K V S)). slice_set l i (shown_map v map)) (as_before s.views j u there))) in (
         shown_map v map,
         s.world,
-        subst (λ l. Holds same hash fixed record { memory = s.memory; views = l; world = s.world }) is g.2,
+        subst (λ (l : List (View K V S)). Holds same hash fixed record { memory = s.memory; views = l; world = s.world }) is g.2,
         λ k o b x y far away x_is y_is kept. kept,
         (map, knows, refl),
       )
