@@ -1,9 +1,9 @@
-"""Counts the ways that lead down through crates.txt, and fails where they are too many for the gate: it goes over each of them, twice a library."""
+"""Counts the ways that lead down through crates.txt, and fails where they are too many for the gate: it goes over each of them some ten times; a million of them take four seconds a time."""
 import functools
 import os
 import sys
 
-MOST = 140_000
+MOST = 400_000
 
 with open(os.path.join(os.path.dirname(os.path.abspath(__file__)), "..", "crates.txt"), encoding="utf-8") as file:
     lines = [line.split("#")[0].partition(":") for line in file]
