@@ -1,14 +1,12 @@
 -- How a call on one key goes on where it asks, or goes by what it was told.
-use Rattle.std.specs.Prelude.{◌==◌, if◌then◌else◌, Option, Some, None}
+use Rattle.std.specs.Prelude.{◌==◌, if◌then◌else◌, Option}
 use Rattle.std.proofs.Common.{◌≡◌, ◌⊎◌, ℕ, Bool, true, false, inl, inr, refl, sym, subst, ap, ◌∙◌}
 use Rattle.std.proofs.lemmas.Bool.{eq-eqb}
 use Rattle.papaya_views.specs.Given.SeizeWordsWord.{block_in}
 use Rattle.papaya_views.specs.Given.TablesDeclared.marks.TheConstants.{TOMBSTONE}
 use Rattle.papaya_views.specs.Given.TablesDeclared.node.Node.{Node}
-use Rattle.papaya_views.specs.Given.RawAnswers.{ended}
-use Rattle.papaya_views.specs.Given.RawCallPoints.{standing, going, over, ending, following_made, storing, burying, at_gap, gap_by, asking_at, pair_by, asking_of}
+use Rattle.papaya_views.specs.Given.RawCallPoints.{standing, going, over, ending, storing, burying, at_gap, gap_by, asking_at, pair_by, asking_of}
 use Rattle.papaya_views.specs.Given.RawDeclared.machines.answer.Called.{Called}
-use Rattle.papaya_views.specs.Given.RawDeclared.machines.answer.Called.TheVariants as called
 use Rattle.papaya_views.specs.Given.RawDeclared.machines.answer.End.{End}
 use Rattle.papaya_views.specs.Given.RawDeclared.machines.answer.End.TheVariants as ends
 use Rattle.papaya_views.specs.Given.RawDeclared.machines.answer.There.TheVariants as there
@@ -22,7 +20,7 @@ use Rattle.papaya_views.specs.Given.RawDeclared.machines.asking.Told.TheVariants
 use Rattle.papaya_views.specs.Given.RawDeclared.machines.call.Calling.{Calling}
 use Rattle.papaya_views.specs.Given.RawDeclared.machines.call.Calling.TheVariants as at
 use Rattle.papaya_views.specs.Given.RawDeclared.machines.call.KeyCall.{KeyCall}
-use Rattle.papaya_seats.specs.Kinds.{Kind, kind_of, Stage, IsUntold, IsTold, IsNoValue, IsOneValue, IsOfGap, IsGapTold, IsFresh, HoldsBy, StandsSo, ShowsPair, AsksAbsent, AsksPresent, IsSo, GoesOn, SaysSo}
+use Rattle.papaya_seats.specs.Kinds.{Kind, Stage, IsUntold, IsTold, IsNoValue, IsOneValue, IsOfGap, IsFresh, HoldsBy, StandsSo, ShowsPair, IsSo, GoesOn, SaysSo}
 
 module _ {K V : Type 0} where
   -- a value that has still to be put into a block is that of a call that has none

@@ -1,9 +1,9 @@
 -- A step of a call on one key makes an operation that replaces no value, or looks at nothing; and the call asks then, or goes on, and is of the same kind.
-use Rattle.std.specs.Prelude.{◌==◌, ◌&&◌, if◌then◌else◌, Option, Some, None, Ok, Err}
-use Rattle.std.proofs.Common.{◌≡◌, ℕ, Bool, true, false, inr, refl, sym, subst, ap, ◌∙◌}
+use Rattle.std.specs.Prelude.{◌==◌, if◌then◌else◌, Option, Some, None, Ok, Err}
+use Rattle.std.proofs.Common.{◌≡◌, ℕ, Bool, true, false, inr, refl, sym, subst}
 use Rattle.std.proofs.lemmas.Bool.{eq-eqb}
 use Rattle.papaya_views.specs.Given.SeizeWordsOp.{Op, Out, Load, Exchange, Take, Found, Stored, Exchanged, Made, Taken, Roomed}
-use Rattle.papaya_views.specs.Given.SeizeWordsPlan.{Plan, Then, Turn, Do, Now, Seeing, Ends}
+use Rattle.papaya_views.specs.Given.SeizeWordsPlan.{Now, Seeing, Ends}
 use Rattle.papaya_views.specs.Given.SeizeWordsWord.{block_in}
 use Rattle.papaya_views.specs.Given.SeizeWordsDeclared.at.At.{At}
 use Rattle.papaya_views.specs.Given.SeizeWordsDeclared.at.At.TheVariants.{Root}
@@ -37,10 +37,9 @@ use Rattle.papaya_views.specs.Given.ResizeDeclared.outcome.Outcome.TheVariants a
 use Rattle.papaya_views.specs.Given.RawAnswers.{ended}
 use Rattle.papaya_raw.specs.CallFills.{asks_at, putting_by, fill_by, fills_with}
 use Rattle.papaya_raw.specs.Replies.{value_for, as_own}
-use Rattle.papaya_views.specs.Given.RawCall.{makes_of, made, root_read, root_found, next_read, next_found, dropped, key_read, pair_read, word_read, word_found, tried, looked, looks_for, first_made, next_made, disposed, helped, copied, plan_at, call_plan, have_one_key}
-use Rattle.papaya_views.specs.Given.RawCallPoints.{aim_of, standing, going, over, ending, answering, tableless, at_free, at_end, beyond, at_last, at_pair, following_made, asking_at, having_met, passed, halted, told_of, told, entering, went_on, changed, counted}
+use Rattle.papaya_views.specs.Given.RawCall.{makes_of, root_read, root_found, next_read, next_found, dropped, key_read, pair_read, word_read, word_found, tried, looked, looks_for, first_made, next_made, disposed, helped, copied, plan_at, call_plan, have_one_key}
+use Rattle.papaya_views.specs.Given.RawCallPoints.{aim_of, going, over, ending, answering, tableless, at_free, at_end, beyond, at_last, at_pair, following_made, asking_at, having_met, passed, halted, told_of, told, entering, went_on, changed, counted}
 use Rattle.papaya_views.specs.Given.RawDeclared.machines.answer.Called.{Called}
-use Rattle.papaya_views.specs.Given.RawDeclared.machines.answer.Called.TheVariants as called
 use Rattle.papaya_views.specs.Given.RawDeclared.machines.answer.End.{End}
 use Rattle.papaya_views.specs.Given.RawDeclared.machines.answer.End.TheVariants as ends
 use Rattle.papaya_views.specs.Given.RawDeclared.machines.answer.KeyAnswer.{KeyAnswer}
@@ -56,8 +55,8 @@ use Rattle.papaya_views.specs.Given.RawDeclared.machines.call.Calling.{Calling}
 use Rattle.papaya_views.specs.Given.RawDeclared.machines.call.Calling.TheVariants as at
 use Rattle.papaya_views.specs.Given.RawDeclared.machines.call.KeyCall.{KeyCall}
 use Rattle.papaya_seats.specs.Answers.{IsAnswer}
-use Rattle.papaya_seats.specs.Kinds.{Kind, Stage, IsNoValue, IsFresh, HoldsBy, StandsSo, ShowsPair, IsSo, GoesOn, SaysSo}
-use Rattle.papaya_seats.proofs.Asked.{of_gap, holds_none, goes_at, over_says, ending_says, gap_says, pair_says}
+use Rattle.papaya_seats.specs.Kinds.{Kind, Stage, IsFresh, HoldsBy, StandsSo, ShowsPair, IsSo, GoesOn, SaysSo}
+use Rattle.papaya_seats.proofs.Asked.{of_gap, holds_none, over_says, ending_says, gap_says, pair_says}
 use Rattle.papaya_seats.proofs.Filled.{fills_say, gives_say}
 use Rattle.papaya_seats.proofs.Pairs.{there_same, pair_named, one_key_named}
 use Rattle.papaya_seats.proofs.Leads.{Leads, leads_as}

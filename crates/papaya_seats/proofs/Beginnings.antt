@@ -6,7 +6,6 @@ use Rattle.papaya_views.specs.Given.SeizeSeatsState.{Turns}
 use Rattle.papaya_views.specs.Given.SeizeWordsDeclared.fault.Fault.{Fault}
 use Rattle.papaya_views.specs.Given.TablesChunks.{is_incremental}
 use Rattle.papaya_views.specs.Given.TablesLengths.{IsTableLen}
-use Rattle.papaya_views.specs.Given.TablesDeclared.node.Node.{Node}
 use Rattle.papaya_views.specs.Given.TablesDeclared.setting.Setting.{Setting}
 use Rattle.papaya_views.specs.Given.ResizeLookup.{looking}
 use Rattle.papaya_views.specs.Given.ResizeDeclared.lookup.Lookup.{Lookup}

@@ -17,7 +17,6 @@ use Rattle.papaya_views.specs.Given.RawDeclared.machines.machine.Machine.{Machin
 use Rattle.papaya_views.specs.Given.RawDeclared.machines.machine.Machine.TheVariants as kinds
 use Rattle.papaya_views.specs.Given.RawDeclared.machines.progress.Progress.{Progress}
 use Rattle.papaya_views.specs.Given.RawDeclared.machines.progress.Progress.TheVariants as progress
-use Rattle.papaya_views.proofs.Given.SeizeActsAnswers.{same_some}
 use Rattle.papaya_views.proofs.Given.SeizeViewsLooks.{IsNow, ends_same, now_ends}
 use Rattle.papaya_views.specs.Looks.{shown_in, MayFollow, TurnsTo}
 use Rattle.papaya_views.specs.Rule.{Holds, KeepsFor}
@@ -29,8 +28,7 @@ use Rattle.papaya_views.specs.declared.view.Work.TheVariants.{Calls}
 use Rattle.papaya_views.proofs.Laws.{calls_turn}
 use Rattle.seize_callers.specs.Kept.{kept}
 use Rattle.papaya_seats.specs.Made.{CanMake, HasMade, IsSameSeat, shown_of}
-use Rattle.papaya_seats.specs.Answers.{IsAnswer}
-use Rattle.papaya_seats.specs.Calling.{AsksNothing, CalledSo, IsAsking, IsCalling, IsKnownMissing, IsKnownThere, IsUnderWay, MachineGoesOn, TellsSo, Works}
+use Rattle.papaya_seats.specs.Calling.{AsksNothing, CalledSo, IsAsking, IsKnownMissing, IsKnownThere, IsUnderWay, MachineGoesOn, TellsSo, Works}
 use Rattle.papaya_seats.specs.Kinds.{Kind, Stage, SaysSo}
 use Rattle.papaya_seats.specs.Looking.{HasTold, StaysThere}
 use Rattle.papaya_seats.specs.declared.within.Within.{Within}

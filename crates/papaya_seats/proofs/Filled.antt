@@ -1,11 +1,11 @@
 -- A call on one key puts a value into a block of its own, or gives that block up: it is a call of the same kind then, and has come as far.
 use Rattle.std.specs.Prelude.{◌==◌, if◌then◌else◌, Option, Some, None, Ok, Err}
-use Rattle.std.proofs.Common.{◌≡◌, ◌⊎◌, ℕ, Bool, true, false, inl, inr, refl, sym, subst, ap, ◌∙◌}
+use Rattle.std.proofs.Common.{◌≡◌, ℕ, Bool, true, false, inl, inr, refl, sym, subst, ap}
 use Rattle.std.proofs.lemmas.Bool.{eq-eqb}
-use Rattle.papaya_views.specs.Given.SeizeWordsOp.{Out, Found, Stored, Exchanged, Made, Taken, Roomed}
+use Rattle.papaya_views.specs.Given.SeizeWordsOp.{Found, Stored, Exchanged, Made, Taken, Roomed}
 use Rattle.papaya_views.specs.Given.TablesDeclared.node.Node.{Node}
 use Rattle.papaya_views.specs.Given.TablesDeclared.node.Node.TheVariants as nodes
-use Rattle.papaya_raw.specs.CallFills.{putting_by, fill_by, fills_with, fills, filled, given_up, gives_up}
+use Rattle.papaya_raw.specs.CallFills.{putting_by, fill_by, fills_with, fills, gives_up}
 use Rattle.papaya_raw.specs.Replies.{value_told, owned, value_for, back, back_present}
 use Rattle.papaya_views.specs.Given.RawDeclared.machines.answer.Called.{Called}
 use Rattle.papaya_views.specs.Given.RawDeclared.machines.asking.Asking.TheVariants as asking
@@ -15,7 +15,7 @@ use Rattle.papaya_views.specs.Given.RawDeclared.machines.asking.Told.TheVariants
 use Rattle.papaya_views.specs.Given.RawDeclared.machines.call.Calling.{Calling}
 use Rattle.papaya_views.specs.Given.RawDeclared.machines.call.Calling.TheVariants as at
 use Rattle.papaya_views.specs.Given.RawDeclared.machines.call.KeyCall.{KeyCall}
-use Rattle.papaya_seats.specs.Kinds.{Kind, Stage, IsUntold, IsTold, IsNoValue, IsOneValue, IsOfGap, IsGapTold, IsFresh, HoldsBy, StandsSo, IsSo, GoesOn, SaysSo}
+use Rattle.papaya_seats.specs.Kinds.{Kind, Stage, IsUntold, IsNoValue, IsOneValue, IsOfGap, IsGapTold, IsFresh, HoldsBy, StandsSo, IsSo, SaysSo}
 use Rattle.papaya_seats.proofs.Asked.{of_gap}
 use Rattle.papaya_seats.proofs.Leads.{Leads}
 

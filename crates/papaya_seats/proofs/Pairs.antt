@@ -1,6 +1,6 @@
 -- Where a try says that its key is there, the pair of the word that it has read was looked at.
-use Rattle.std.specs.Prelude.{◌==◌, ◌&&◌, if◌then◌else◌, Option, Some}
-use Rattle.std.proofs.Common.{◌≡◌, ℕ, Bool, true, false, refl, subst}
+use Rattle.std.specs.Prelude.{◌==◌, if◌then◌else◌, Option, Some}
+use Rattle.std.proofs.Common.{◌≡◌, ℕ, Bool, true, false, refl}
 use Rattle.papaya_views.specs.Given.SeizeWordsWord.{block_in}
 use Rattle.papaya_views.specs.Given.TablesChunks.{is_incremental}
 use Rattle.papaya_views.specs.Given.TablesFinding.{finding, shut, vacant}

@@ -12,10 +12,7 @@ use Rattle.papaya_views.specs.Given.RawDeclared.machines.answer.Missing.TheVaria
 use Rattle.papaya_views.specs.Given.RawDeclared.machines.asking.Asking.TheVariants as asking
 use Rattle.papaya_views.specs.Given.RawDeclared.machines.asking.Gap.{Gap}
 use Rattle.papaya_views.specs.Given.RawDeclared.machines.asking.Replies.{Replies}
-use Rattle.papaya_views.specs.Given.RawDeclared.machines.asking.Reply.{Reply}
-use Rattle.papaya_views.specs.Given.RawDeclared.machines.asking.Reply.TheVariants as reply
 use Rattle.papaya_views.specs.Given.RawDeclared.machines.asking.Takes.{Takes}
-use Rattle.papaya_views.specs.Given.RawDeclared.machines.asking.Takes.TheVariants as takes
 use Rattle.papaya_views.specs.Given.RawDeclared.machines.asking.Told.{Told}
 use Rattle.papaya_views.specs.Given.RawDeclared.machines.asking.Told.TheVariants as tells
 use Rattle.papaya_views.specs.Given.RawDeclared.machines.call.Calling.{Calling}

@@ -24,9 +24,7 @@ use Rattle.papaya_views.specs.Given.SeizeViewsDeclared.view.Has.TheVariants.{Not
 use Rattle.papaya_views.specs.Given.SeizeViewsDeclared.view.View.TheVariants.{Inside}
 use Rattle.papaya_views.specs.Begun.{machine_for, calling}
 use Rattle.papaya_views.specs.Told.{newest_told}
-use Rattle.papaya_views.specs.Given.SeizeSeatsLendings.{IsValueOf}
 use Rattle.papaya_views.specs.Looks.{shown_in}
-use Rattle.papaya_views.specs.Rule.{Holds}
 use Rattle.papaya_views.specs.declared.view.Map.{Map}
 use Rattle.papaya_views.specs.declared.view.View.{View}
 use Rattle.papaya_views.specs.declared.view.Work.TheVariants.{Nothing, Calls}

@@ -11,7 +11,6 @@ use Rattle.papaya_views.specs.Given.ResizeDeclared.new_map.Opening.{Opening}
 use Rattle.papaya_views.specs.Given.ResizeDeclared.new_map.Opening.TheVariants.{Takes, Shards, Frees}
 use Rattle.papaya_views.specs.Given.SeizeViewsDeclared.view.Fixed.{Fixed}
 use Rattle.papaya_views.specs.Begun.{making}
-use Rattle.papaya_views.specs.declared.view.Map.{Map}
 use Rattle.papaya_views.specs.declared.view.View.{View}
 use Rattle.papaya_views.specs.declared.view.Work.TheVariants.{Nothing, Makes}
 

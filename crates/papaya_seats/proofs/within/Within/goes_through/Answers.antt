@@ -1,4 +1,4 @@
-use Rattle.std.proofs.Common.{refl, ap, ◌∙◌}
+use Rattle.std.proofs.Common.{ap, ◌∙◌}
 use Rattle.std.specs.Prelude.{ℕ, Option}
 use Rattle.papaya_views.specs.Given.SeizeDeclared.progress.Progress.{Progress}
 use Rattle.papaya_views.specs.Told.{newest_told}

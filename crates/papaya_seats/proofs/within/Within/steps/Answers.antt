@@ -1,4 +1,4 @@
-use Rattle.std.proofs.Common.{◌≡◌, true, false, sym, subst, ◌∙◌}
+use Rattle.std.proofs.Common.{true, false, sym, subst, ◌∙◌}
 use Rattle.papaya_views.specs.Told.{HandsBack}
 use Rattle.papaya_views.specs.declared.view.View.{View}
 use Rattle.seize_callers.proofs.Keeping.{still_kept}
