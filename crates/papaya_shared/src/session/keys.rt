@@ -18,6 +18,7 @@ use std::hash::Hash;
 use std::sync::Wait;
 
 /// What came of storing a pair only where its key is missing.
+#[derive(Drop)]
 pub enum Attempt<K, V> {
     /// It was stored.
     Stored,
