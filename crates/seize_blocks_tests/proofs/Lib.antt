@@ -2,3 +2,4 @@ pub mod Growing
 pub mod Owners
 pub mod Threes
 pub mod Roomy
+pub mod Roots

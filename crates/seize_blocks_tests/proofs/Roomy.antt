@@ -1,12 +1,12 @@
 -- Buckets of slots: room is made, and words of slots are read and added to, and what is said of them holds again.
-use Rattle.std.specs.Prelude.{◌≡◌, ◌≢◌, ◌≤◌, ◌<◌, ◌⊎◌, ◌+◌, ◌-◌, ◌*◌, ◌^◌, ◌%◌, ℕ, zero, suc, List, [], ◌∷◌, ◌++◌, Option, Some, None, IsSome, Ok, Err, length, replicate, slice_get, slice_set, slice_index_or}
+use Rattle.std.specs.Prelude.{◌≡◌, ◌≢◌, ◌≤◌, ◌<◌, ◌⊎◌, ◌+◌, ◌-◌, ◌^◌, ◌%◌, ℕ, zero, suc, List, [], ◌∷◌, ◌++◌, Some, IsSome, Ok, Err, length, replicate, slice_get, slice_set, slice_index_or}
 use Rattle.std.proofs.Common.{ap, refl, sym, ◌∙◌, subst, inl, inr, arith, length-append, length-set}
 use Rattle.std.proofs.lemmas.Bool.{cases_eq, cases_lt}
 use Rattle.std.proofs.lemmas.List.{length-replicate, get_or_append_left, get_or-append_right, get_or-set_same, get_or-set_other}
-use Rattle.seize_words.specs.Mem.{Mem, Can, Took, word_at, with_word, after}
+use Rattle.seize_words.specs.Mem.{Mem, Took, word_at, with_word, after}
 use Rattle.seize_words.specs.Op.{Op, Out, Load, Add, Room, Found, Stored, Exchanged, Made, Taken, Roomed}
 use Rattle.seize_words.specs.Place.{capacity}
-use Rattle.seize_words.specs.SlotWords.{with_slot_word, with_bucket}
+use Rattle.seize_words.specs.SlotWords.{with_slot_word}
 use Rattle.seize_words.specs.declared.at.At.TheVariants.{Slot}
 use Rattle.seize_words.proofs.Places.Words.{capacity-more, capacity_le_capacity, with_bucket_next, with_bucket_there}
 use Rattle.seize_seats.specs.State.{State, Goes, Allows, Comes, Starts}

@@ -2,3 +2,4 @@ pub mod Grown
 pub mod Theirs
 pub mod Three
 pub mod Roomy
+pub mod Root

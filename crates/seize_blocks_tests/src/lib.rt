@@ -4,6 +4,8 @@
 #[cfg(test)]
 mod adding;
 #[cfg(test)]
+mod counting;
+#[cfg(test)]
 mod lending;
 #[cfg(test)]
 mod looking;

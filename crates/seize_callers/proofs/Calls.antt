@@ -2,7 +2,7 @@
 use Rattle.std.specs.Prelude.{◌<◌, ◌==◌, Option, Ok, Err, if◌then◌else◌}
 use Rattle.std.proofs.Common.{◌≡◌, ℕ, ◌^◌, ◌%◌, Bool, true, false, refl, sym, subst, ap, ◌∙◌, arith}
 use Rattle.std.proofs.lemmas.Bool.{eq-eqb, ne_eqb}
-use Rattle.seize_words.specs.Op.{Op, Load, Swap, Exchange, Make, Take, Found, Exchanged, Made as OutMade, Taken}
+use Rattle.seize_words.specs.Op.{Op, Load, Swap, Or, Exchange, Make, Take, Found, Exchanged, Made as OutMade, Taken}
 use Rattle.seize_words.specs.Word.{block_in, link_to}
 use Rattle.seize_words.specs.declared.at.At.TheVariants.{Root}
 use Rattle.seize.specs.World.{HasListWord}
@@ -21,13 +21,17 @@ use Rattle.seize_views.specs.declared.view.Has.{Has}
 use Rattle.seize_views.specs.declared.view.Has.TheVariants.{Nothing, Made, Seen, Both, Cut}
 use Rattle.seize_views.specs.declared.view.Fixed.{Fixed}
 use Rattle.seize_views.proofs.Blocks.{blocks_are_made, made_are_taken, known_are_shown}
-use Rattle.seize_views.proofs.Roots.{made_are_linked, made_are_exchanged, roots_are_cleared, roots_are_seen, roots_are_withdrawn}
+use Rattle.seize_views.proofs.Roots.{made_are_linked, made_are_exchanged, roots_are_cleared, roots_are_seen, roots_are_marked, roots_are_withdrawn}
 use Rattle.seize_views.proofs.Written.{block_of_link}
 use Rattle.seize_views.proofs.Notes.{allows, looks_are_noted}
 
 -- the word that links to a block whose number is small enough
 pub whole_link : (b : ℕ) → b < 2 ^ 53 → link_to b % 2 ^ 64 ≡ link_to b
 whole_link b lt = omega (arith, lt)
+
+-- which it names
+link_names : (b word : ℕ) → b < 2 ^ 53 → word ≡ link_to b % 2 ^ 64 → block_in word ≡ b
+link_names b word lt link = ap block_in (link ∙ whole_link b lt) ∙ block_of_link b
 
 module _ {T : Type 0} (defers : T → Option ℕ) (fixed : Fixed) (id : ℕ) (v : Noted T) where
   -- what may be done by what the seat knows, it may do, and notes it
@@ -67,15 +71,14 @@ module _ {T : Type 0} (defers : T → Option ℕ) (fixed : Fixed) (id : ℕ) (v 
   pub may_exchange : (b : ℕ) (x : T) (a r old word : ℕ) → v.knows ≡ Inside slot (made_beside b x a) → r < fixed.roots → b < 2 ^ 53 → word ≡ link_to b % 2 ^ 64
       → MayMake (Exchange (Root r) old word)
   may_exchange b x a r old word is lt fits link =
-      subst (λ (w : ℕ). MayMake (Exchange (Root r) old w)) (sym (link ∙ whole_link b fits))
-      (by_view defers fixed id v (Inside slot (made_beside b x a)) (Exchange (Root r) old (link_to b)) is tt
-      (made_are_exchanged T defers (made_beside b x a) b r old fixed id slot (has_made b x a (a == 0)) lt))
+      by_view defers fixed id v (Inside slot (made_beside b x a)) (Exchange (Root r) old word) is tt
+      (made_are_exchanged T defers (made_beside b x a) b r old word fixed id slot (has_made b x a (a == 0)) (link_names b word fits link) lt)
 
   pub may_link : (b : ℕ) (x : T) (r word : ℕ) → v.knows ≡ Inside slot (Made b x) → r < fixed.roots → b < 2 ^ 53 → word ≡ link_to b % 2 ^ 64
       → MayMake (Swap (Root r) word)
   may_link b x r word is lt fits link =
-      subst (λ (w : ℕ). MayMake (Swap (Root r) w)) (sym (link ∙ whole_link b fits))
-      (by_view defers fixed id v (Inside slot (Made b x)) (Swap (Root r) (link_to b)) is tt (made_are_linked T defers b x r fixed id slot lt))
+      by_view defers fixed id v (Inside slot (Made b x)) (Swap (Root r) word) is tt
+      (made_are_linked T defers b x r word fixed id slot (link_names b word fits link) lt)
 
   pub may_clear : (r : ℕ) → v.knows ≡ Inside slot Nothing → r < fixed.roots → MayMake (Swap (Root r) 0)
   may_clear r is lt = by_view defers fixed id v (Inside slot Nothing) (Swap (Root r) 0) is tt (roots_are_cleared T defers r fixed id slot lt)
@@ -85,6 +88,10 @@ module _ {T : Type 0} (defers : T → Option ℕ) (fixed : Fixed) (id : ℕ) (v 
 
   pub may_see : (has : Has T) (r : ℕ) → IsLooking has → v.knows ≡ Inside slot has → r < fixed.roots → MayMake (Load (Root r))
   may_see has r looks is lt = by_view defers fixed id v (Inside slot has) (Load (Root r)) is tt (roots_are_seen T defers has r fixed id slot looks lt)
+
+  pub may_mark : (has : Has T) (r bits : ℕ) → IsLooking has → v.knows ≡ Inside slot has → bits < 2 ^ 11 → r < fixed.roots → MayMake (Or (Root r) bits)
+  may_mark has r bits looks is small lt =
+      by_view defers fixed id v (Inside slot has) (Or (Root r) bits) is tt (roots_are_marked T defers has r bits fixed id slot looks small lt)
 
   pub is_shown : (has : Has T) (b : ℕ) → v.knows ≡ Inside slot has → Names has b → Shown (NotedHolds defers fixed) id v b
   is_shown has b is names =
@@ -130,6 +137,14 @@ module _ {T : Type 0} (defers : T → Option ℕ) (v w : View T) (slot : ℕ) wh
   seen_told (Made b x) r word looks is so = absurd looks
   seen_told (Both b x a) r word looks is so = absurd looks
   seen_told (Cut b) r word looks is so = absurd looks
+
+  pub marked_told : (has : Has T) (r bits word : ℕ) → IsLooking has → v ≡ Inside slot has → told defers v (Or (Root r) bits) (Found word) w
+      → w ≡ Inside slot (seen_in word)
+  marked_told Nothing r bits word looks is so = let k = subst (λ (x : View T). told defers x (Or (Root r) bits) (Found word) w) is so in k.2 ∙ ap (Inside slot) k.1
+  marked_told (Seen b) r bits word looks is so = let k = subst (λ (x : View T). told defers x (Or (Root r) bits) (Found word) w) is so in k.2 ∙ ap (Inside slot) k.1
+  marked_told (Made b x) r bits word looks is so = absurd looks
+  marked_told (Both b x a) r bits word looks is so = absurd looks
+  marked_told (Cut b) r bits word looks is so = absurd looks
 
   -- what a making tells beside a block that was seen, a taking away, and an exchange
 
@@ -186,9 +201,9 @@ module _ {T : Type 0} (defers : T → Option ℕ) (v w : View T) (slot : ℕ) wh
     lost : (a b now : ℕ) (x : T) (y : Bool) → v ≡ Inside slot (if y then Made b x else Both b x a)
         → told defers v (Exchange (Root r) old word) (Exchanged (Err now)) w → w ≡ Inside slot (made_beside b x (block_in now))
     lost a b now x true is so =
-        let k = subst (λ (y : View T). told defers y (Exchange (Root r) old word) (Exchanged (Err now)) w) is so in k.2 ∙ ap (Inside slot) k.1
+        let k = subst (λ (y : View T). told defers y (Exchange (Root r) old word) (Exchanged (Err now)) w) is so in k.2 ∙ ap (Inside slot) k.1.1
     lost a b now x false is so =
-        let k = subst (λ (y : View T). told defers y (Exchange (Root r) old word) (Exchanged (Err now)) w) is so in k.2 ∙ ap (Inside slot) k.1
+        let k = subst (λ (y : View T). told defers y (Exchange (Root r) old word) (Exchanged (Err now)) w) is so in k.2 ∙ ap (Inside slot) k.1.1
 
     pub other_told : (a b now : ℕ) (x : T) → v ≡ Inside slot (made_beside b x a) → told defers v (Exchange (Root r) old word) (Exchanged (Err now)) w
         → w ≡ Inside slot (made_beside b x (block_in now))

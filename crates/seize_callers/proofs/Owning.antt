@@ -1,7 +1,6 @@
 -- What a seat without a slot may do with the block that it has, and what it knows then.
-use Rattle.std.specs.Prelude.{◌<◌, ◌==◌, Option, Some, Ok, Err, if◌then◌else◌}
-use Rattle.std.proofs.Common.{◌≡◌, ℕ, ◌^◌, ◌%◌, Bool, sym, subst, ap, ◌∙◌}
-use Rattle.std.proofs.lemmas.Bool.{ne_eqb, eq-eqb}
+use Rattle.std.specs.Prelude.{◌≢◌, ◌<◌, ◌+◌, ◌==◌, Option, Some, Ok, Err}
+use Rattle.std.proofs.Common.{◌≡◌, ℕ, ◌^◌, ◌%◌, sym, subst, ap, ◌∙◌, arith}
 use Rattle.seize_words.specs.Op.{Op, Swap, Exchange, Make, Take, Found, Exchanged, Made as OutMade, Taken}
 use Rattle.seize_words.specs.Word.{block_in, link_to}
 use Rattle.seize_words.specs.declared.at.At.TheVariants.{Root}
@@ -22,10 +21,18 @@ use Rattle.seize_views.specs.declared.view.Has.{Has}
 use Rattle.seize_views.specs.declared.view.Has.TheVariants.{Nothing, Made, Seen, Both, Cut}
 use Rattle.seize_views.specs.declared.view.Fixed.{Fixed}
 use Rattle.seize_views.proofs.Blocks.{own_are_made, own_are_taken, own_are_shown, borne_are_shown}
-use Rattle.seize_callers.proofs.Calls.{by_view, whole_link}
+use Rattle.seize_callers.proofs.Calls.{by_view}
 use Rattle.seize_views.proofs.Notes.{looks_are_noted, meetings_are_noted}
 use Rattle.seize_views.proofs.Handing.{borne_are_handed_on}
 use Rattle.seize_views.proofs.Roots.{beside_alone, own_are_linked, own_are_exchanged}
+
+-- the word that links to a block with these marks, and the block that it names
+module _ (b marks word : ℕ) (fits : b < 2 ^ 53) (small : marks < 8) (is : word ≡ (link_to b % 2 ^ 64 + marks) % 2 ^ 64) where
+  pub marked_link : word ≡ link_to b + marks
+  marked_link = omega (arith, fits, small, is)
+
+  pub marked_names : block_in word ≡ b
+  marked_names = omega (arith, fits, small, is)
 
 module _ {T : Type 0} where
   -- which view it has
@@ -71,17 +78,14 @@ module _ {T : Type 0} (defers : T → Option ℕ) (fixed : Fixed) (id : ℕ) (v 
   pub may_take_own : (b : ℕ) → brought_by v.knows ≡ Some b → MayMake (Take b)
   may_take_own b e = let k = brings b v.knows e in by_view defers fixed id v (Brings b k.0) (Take b) k.1 tt (own_are_taken T defers b k.0 fixed id)
 
-  pub may_link_own : (b r word : ℕ) → brought_by v.knows ≡ Some b → r < fixed.roots → b < 2 ^ 53 → word ≡ link_to b % 2 ^ 64 → MayMake (Swap (Root r) word)
-  may_link_own b r word e lt fits link =
-      let k = brings b v.knows e in
-      subst (λ (w : ℕ). MayMake (Swap (Root r) w)) (sym (link ∙ whole_link b fits))
-      (by_view defers fixed id v (Brings b k.0) (Swap (Root r) (link_to b)) k.1 tt (own_are_linked T defers b k.0 r fixed id lt))
+  pub may_link_own : (b r word : ℕ) → brought_by v.knows ≡ Some b → r < fixed.roots → block_in word ≡ b → MayMake (Swap (Root r) word)
+  may_link_own b r word e lt names =
+      let k = brings b v.knows e in by_view defers fixed id v (Brings b k.0) (Swap (Root r) word) k.1 tt (own_are_linked T defers b k.0 r word fixed id names lt)
 
-  pub may_place : (b r word : ℕ) → brought_by v.knows ≡ Some b → r < fixed.roots → b < 2 ^ 53 → word ≡ link_to b % 2 ^ 64 → MayMake (Exchange (Root r) 0 word)
-  may_place b r word e lt fits link =
+  pub may_exchange_own : (b r old word : ℕ) → brought_by v.knows ≡ Some b → r < fixed.roots → block_in word ≡ b → MayMake (Exchange (Root r) old word)
+  may_exchange_own b r old word e lt names =
       let k = brings b v.knows e in
-      subst (λ (w : ℕ). MayMake (Exchange (Root r) 0 w)) (sym (link ∙ whole_link b fits))
-      (by_view defers fixed id v (Brings b k.0) (Exchange (Root r) 0 (link_to b)) k.1 tt (own_are_exchanged T defers b k.0 r 0 fixed id lt))
+      by_view defers fixed id v (Brings b k.0) (Exchange (Root r) old word) k.1 tt (own_are_exchanged T defers b k.0 r old word fixed id names lt)
 
   pub is_brought : (b : ℕ) → brought_by v.knows ≡ Some b → Shown (NotedHolds defers fixed) id v b
   is_brought b e =
@@ -116,18 +120,19 @@ module _ {T : Type 0} (defers : T → Option ℕ) (v w : View T) where
   pub own_taken_told : (b : ℕ) (x value : T) → v ≡ Brings b x → told defers v (Take b) (Taken value) w → value ≡ x
   own_taken_told b x value is so = (subst (λ (y : View T). told defers y (Take b) (Taken value) w) is so).1.0
 
-  -- what was put where nothing was, taken back, or put, leaves a seat that rests
+  -- what was taken back leaves a seat that rests; and what was put one that is to hand on what was there
 
   pub own_rests_told : (b : ℕ) (value : T) → brought_by v ≡ Some b → told defers v (Take b) (Taken value) w → w ≡ Rests
   own_rests_told b value e so =
       let k = brings b v e in let t = subst (λ (x : View T). told defers x (Take b) (Taken value) w) k.1 so in t.2 ∙ ap alone_with t.1.1
 
-  pub own_placed_told : (b r word was : ℕ) → brought_by v ≡ Some b → told defers v (Exchange (Root r) 0 word) (Exchanged (Ok was)) w → w ≡ Rests
-  own_placed_told b r word was e so =
+  pub own_exchanged_told : (b r old word was : ℕ) → brought_by v ≡ Some b → told defers v (Exchange (Root r) old word) (Exchanged (Ok was)) w
+      → w ≡ alone_with (cut_in old)
+  own_exchanged_told b r old word was e so =
       let k = brings b v e in
-      let t = subst (λ (x : View T). told defers x (Exchange (Root r) 0 word) (Exchanged (Ok was)) w) k.1 so in t.2 ∙ ap alone_with t.1
+      let t = subst (λ (x : View T). told defers x (Exchange (Root r) old word) (Exchanged (Ok was)) w) k.1 so in t.2 ∙ ap alone_with t.1
 
-  own_linked_told : (b r word old : ℕ) → brought_by v ≡ Some b → told defers v (Swap (Root r) word) (Found old) w → w ≡ alone_with (cut_in old)
+  pub own_linked_told : (b r word old : ℕ) → brought_by v ≡ Some b → told defers v (Swap (Root r) word) (Found old) w → w ≡ alone_with (cut_in old)
   own_linked_told b r word old e so =
       let k = brings b v e in
       let t = subst (λ (x : View T). told defers x (Swap (Root r) word) (Found old) w) k.1 so in t.2 ∙ ap alone_with t.1
@@ -136,33 +141,15 @@ module _ {T : Type 0} (defers : T → Option ℕ) (v w : View T) where
       → w ≡ Brings b x
   own_lost_told b x r old word now is so =
       let t = subst (λ (y : View T). told defers y (Exchange (Root r) old word) (Exchanged (Err now)) w) is so in
-      t.2 ∙ ap alone_with t.1 ∙ sym (beside_alone b x (block_in now) (block_in now == 0))
+      t.2 ∙ ap alone_with t.1.1 ∙ sym (beside_alone b x (block_in now) (block_in now == 0))
+
+  pub own_other_told : (b r old word now : ℕ) → brought_by v ≡ Some b → told defers v (Exchange (Root r) old word) (Exchanged (Err now)) w → now ≢ old
+  own_other_told b r old word now e so =
+      let k = brings b v e in (subst (λ (y : View T). told defers y (Exchange (Root r) old word) (Exchanged (Err now)) w) k.1 so).1.0
 
   pub still_brings : (b r old word now : ℕ) → brought_by v ≡ Some b → told defers v (Exchange (Root r) old word) (Exchanged (Err now)) w
       → brought_by w ≡ Some b
   still_brings b r old word now e so = let k = brings b v e in ap brought_by (own_lost_told b k.0 r old word now k.1 so)
-
--- a block that was taken from a root is borne
-borne_block : (T : Type 0) (word b : ℕ) → b ≡ block_in word → (b ≡ 0 → ⊥) → borne_by {T = T} (alone_with (cut_in word)) ≡ Some b
-borne_block T word b is ne =
-    ap (λ (y : Bool). borne_by {T = T} (alone_with (if y then Nothing else Cut (block_in word)))) (ne_eqb (block_in word) 0 (λ e. ne (is ∙ e))) ∙ ap Some (sym is)
-
-module _ {T : Type 0} (defers : T → Option ℕ) (v w : View T) where
-  -- and its seat bears it
-  pub linked_is : (b r word old c : ℕ) → brought_by v ≡ Some b → told defers v (Swap (Root r) word) (Found old) w → c ≡ block_in old → (c ≡ 0 → ⊥)
-      → w ≡ Bears c
-  linked_is b r word old c e so is ne =
-      own_linked_told defers v w b r word old e so
-      ∙ ap (λ (y : Bool). alone_with (if y then Nothing else Cut (block_in old))) (ne_eqb (block_in old) 0 (λ z. ne (is ∙ z))) ∙ ap Bears (sym is)
-
-  pub linked_rests : (b r word old : ℕ) → brought_by v ≡ Some b → told defers v (Swap (Root r) word) (Found old) w → block_in old ≡ 0 → w ≡ Rests
-  linked_rests b r word old e so is =
-      own_linked_told defers v w b r word old e so
-      ∙ ap (λ (y : Bool). alone_with (if y then Nothing else Cut (block_in old))) (eq-eqb (block_in old) 0 is)
-
-  pub linked_bears : (b r word old c : ℕ) → brought_by v ≡ Some b → told defers v (Swap (Root r) word) (Found old) w → c ≡ block_in old → (c ≡ 0 → ⊥)
-      → borne_by w ≡ Some c
-  linked_bears b r word old c e so is ne = ap borne_by (own_linked_told defers v w b r word old e so) ∙ borne_block T old c is ne
 
 module _ {T : Type 0} (fixed : Fixed) (v u v2 u2 : View T) (slot b : ℕ) where
   -- who took it over owes it, or has it in its hand

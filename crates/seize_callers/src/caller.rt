@@ -52,6 +52,20 @@ impl<'a, T: Defers, C: Content<T>> Caller<'a, T, C> {
         }
     }
 
+    /// The memory.
+    pub fn blocks(&self) -> &'a Blocks<T, C>
+        ensures { result.now ≡ self.now.blocks.now }
+    {
+        self.blocks
+    }
+
+    /// The size of batches.
+    pub fn batch_size(&self) -> u64
+        ensures { result ≡ self.now.blocks.now.words.fixed.batch_size }
+    {
+        self.batch_size
+    }
+
     /// Sends its seat on an errand.
     fn sends<E: Errand<T, C>>(&mut self, errand: E) -> E::Answer
         requires asks { E.asks errand self.old.blocks.now.words.fixed self.old.seat.view }

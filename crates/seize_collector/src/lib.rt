@@ -7,7 +7,8 @@ mod shared;
 pub use collector::Collector;
 pub use seize::IdSource;
 pub use seize_shared::{
-    Content, Guard, LocalGuard, OfRows, Owned, OwnedGuard, Registration, RootGuard, Unlinked,
+    Content, Guard, LocalGuard, OfRows, Owned, OwnedGuard, Registration, RootGuard, Tagged,
+    Unlinked,
 };
 pub use shared::Shared;
 

@@ -1,10 +1,10 @@
 //! Collectors that threads share: numbers, values that are put and dropped once, and what is reclaimed at the end.
-ghost use Rattle.std.specs.Prelude.{◌≡◌, None, false};
+ghost use Rattle.std.specs.Prelude.{◌≡◌, None, IfErr, false};
 
 use crate::{Collector, IdSource, Shared};
 use seize::Fault;
 use seize::rows::{Defers, LeftOver};
-use seize_shared::RootGuard;
+use seize_shared::{Registration, RootGuard, Unlinked};
 use std::alloc::Global;
 use std::sync::Arc;
 use std::sync::atomic::AtomicU64;
@@ -123,5 +123,70 @@ fn a_source_that_is_used_up_gives_no_collector(rt: HostRuntime) -> Result<(), Fa
     assert_eq!(rt; last.number(), 18_446_744_073_709_551_614);
     let none = Collector::<Counted>::new(rt.alloc(), &mut ids, 1, 1);
     assert!(rt; matches!(none, Err(Fault::CollectorsUsedUp)));
+    Ok(())
+}
+
+/// Whether a block was retired; else whether it came back as one of another collector, to be retired by a registration of its own.
+fn goes_home(
+    retired: Result<(), (Fault, Unlinked<'_, Counted>)>,
+    own: &mut Registration<'_, Counted>,
+) -> (bool, bool)
+    requires home { IfErr retired (λ refused. refused.1.caller.blocks.now.words.id.views_name ≡ own.old.stay.caller.blocks.now.words.id.views_name) }
+    requires number { IfErr retired (λ refused. refused.1.number ≡ own.old.number) }
+{
+    match retired {
+        Ok(()) => (true, false),
+        Err((fault, old)) => match own.retire(old) {
+            Ok(()) => (false, fault == Fault::ForeignGuard),
+            Err(_) => unreachable!(),
+        },
+    }
+}
+
+/// Puts a value at the root, within a section of a slot that is given up again.
+fn puts_one(one: &Shared<'_, Counted>, drops: &Arc<AtomicU64>) -> Option<()> {
+    let mut registration = one.register().ok()?;
+    drop(registration.enter().put(0, Counted::of(drops)?));
+    Some(())
+}
+
+/// Puts two values at the root of one collector, and hands what was there to a registration of another one, and then to one of its own. There is no answer where
+/// the collectors have one number.
+fn hands_abroad(
+    one: &Shared<'_, Counted>,
+    other: &Shared<'_, Counted>,
+    drops: &Arc<AtomicU64>,
+) -> Option<(bool, bool)> {
+    if one.number() == other.number() {
+        return None;
+    }
+    puts_one(one, drops)?;
+    let mut near = 0;
+    let second = one.make(&mut near, Counted::of(drops)?).ok()?;
+    let mut foreign = other.register().ok()?;
+    let mut own = one.register().ok()?;
+    match second.publish(0) {
+        Ok(Some(old)) => Some(goes_home(foreign.retire(old), &mut own)),
+        Ok(None) => None,
+        Err(owned) => {
+            drop(owned.into_value());
+            None
+        }
+    }
+}
+
+/// The same with two collectors of a source.
+fn goes_abroad(alloc: Global, drops: &Arc<AtomicU64>) -> Result<Option<(bool, bool)>, Fault> {
+    let mut ids = IdSource::new();
+    let one = Collector::new(alloc, &mut ids, 1, 1)?;
+    let other = Collector::new(alloc, &mut ids, 1, 1)?;
+    Ok(hands_abroad(&one.shared(), &other.shared(), drops))
+}
+
+#[test]
+fn a_block_of_another_collector_comes_back(rt: HostRuntime) -> Result<(), Fail> {
+    let drops = Arc::new(rt.alloc(), AtomicU64::new(0))?;
+    assert_eq!(rt; goes_abroad(rt.alloc(), &drops)?, Some((false, true)));
+    assert_eq!(rt; drops.load(SeqCst), 2);
     Ok(())
 }

@@ -1,13 +1,17 @@
 //! Values that count their drops, each at its place of a table: one that is looked at after its drop shows itself so, and so does one that is dropped twice, or never.
+//! And a collector for as long as a test has it.
 #![tactic(auto)]
 
 ghost use Rattle.std.specs.Prelude.{None, false};
+
+mod within;
 
 use seize::rows::{Defers, LeftOver};
 use std::alloc::{AllocError, Global};
 use std::sync::Arc;
 use std::sync::atomic::AtomicU64;
 use std::sync::atomic::Ordering::SeqCst;
+pub use within::{SIZE, within};
 
 /// A count for each place.
 pub type Table = Arc<Vec<AtomicU64>>;

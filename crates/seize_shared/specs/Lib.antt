@@ -1,4 +1,1 @@
 pub mod Standing
-pub mod Lent
-pub mod Deeds
-pub mod Homes

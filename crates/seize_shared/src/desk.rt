@@ -1,7 +1,7 @@
 //! A slot of which several guards have the section open: it begins with the first of them, and ends with the last.
-ghost use Rattle.std.specs.Prelude.{◌≡◌, ◌≢◌, ◌<◌, ◌^◌, ℕ, true, false, IfOk, IfSome, IfNone, unwrap_or};
-ghost use Rattle.seize_shared.specs.Lent.{IsLent};
-ghost use Rattle.seize_callers.specs.Given.SeizeViewsDeclared.view.Deed.TheVariants.{Looked};
+ghost use Rattle.std.specs.Prelude.{◌≡◌, ◌≢◌, ◌<◌, ◌^◌, ℕ, Some, true, false, IfOk, IfSome, IfNone, unwrap_or};
+ghost use Rattle.seize_guards.specs.Lent.{IsLent};
+ghost use Rattle.seize_callers.specs.Given.SeizeViewsNotes.{looked_at};
 ghost use Rattle.seize_callers.specs.Given.SeizeViewsDeclared.view.View.TheVariants.{Rests, Watches};
 
 use crate::stay::Stay;
@@ -131,7 +131,7 @@ impl<T: Defers + Drop, B: Place> Watcher<T, B> {
     fn looks(&mut self, blocks: &Blocks<T, OfRows>, root: u64) -> Option<u64>
         requires home { blocks.now.words.id.views_name ≡ B.base }
         requires root { root < blocks.now.words.fixed.roots }
-        ensures looked { self.new.seat.view.did ≡ Looked root (unwrap_or result 0) }
+        ensures looked { looked_at self.new.seat.view.did ≡ Some (root, unwrap_or result 0) }
         ensures seen { IfSome result (λ block. (block ≢ 0) × (block ≡ self.new.last)) }
         ensures slot { self.new.slot ≡ self.old.slot }
     {
@@ -238,9 +238,9 @@ impl<'d, 'a, T: Defers + Drop, B: Place> DeskGuard<'d, 'a, T, B> {
         ensures desk { self.new.desk ≡ self.old.desk }
         ensures slot { self.new.watcher.slot ≡ self.old.watcher.slot }
         ensures seen { result ≡ true → self.new.seen ≢ 0 }
-        ensures looked { result ≡ true → self.new.watcher.seat.view.did ≡ Looked root self.new.seen }
+        ensures looked { result ≡ true → looked_at self.new.watcher.seat.view.did ≡ Some (root, self.new.seen) }
         ensures none { result ≡ false → self.new.seen ≡ 0 }
-        ensures empty { result ≡ false → root < self.old.desk.now.blocks.now.words.fixed.roots → self.new.watcher.seat.view.did ≡ Looked root 0 }
+        ensures empty { result ≡ false → root < self.old.desk.now.blocks.now.words.fixed.roots → looked_at self.new.watcher.seat.view.did ≡ Some (root, 0) }
     {
         self.seen = 0;
         if root >= self.desk.roots {

@@ -1,20 +1,17 @@
-//! Guards of sections: what they have in common, one of a slot that stays on its thread, and one with a slot of its own that may be sent.
-ghost use Rattle.std.specs.Prelude.{◌≡◌, ◌≢◌, ◌<◌, ◌^◌, ◌⊎◌, ℕ, Bool, None, Some, IfOk, IfErr, IfNone, IfSome, true, false};
+//! Guards of sections: one of a slot that stays on its thread, and one with a slot of its own that may be sent.
+ghost use Rattle.std.specs.Prelude.{◌≡◌, ◌<◌, None, Some, IfOk, IfErr, true, false};
 ghost use Rattle.seize.specs.Given.SeizeWordsDeclared.fault.Fault.TheVariants.{ForeignGuard};
-ghost use Rattle.seize_callers.specs.Owning.{borne_by};
-ghost use Rattle.seize_shared.specs.Deeds.{has_put, has_taken};
-ghost use Rattle.seize_shared.specs.Homes.{Home, OneSource};
-ghost use Rattle.seize_callers.specs.Given.SeizeViewsDeclared.view.Began.{Began};
-ghost use Rattle.seize_callers.specs.Given.SeizeViewsDeclared.view.Began.TheVariants.{Retirement, Section, Trial};
-ghost use Rattle.seize_callers.specs.Given.SeizeViewsDeclared.view.Deed.{Deed};
-ghost use Rattle.seize_callers.specs.Given.SeizeViewsDeclared.view.Deed.TheVariants.{Looked, Wrote};
-ghost use Rattle.seize_callers.specs.Given.SeizeViewsDeclared.view.View.TheVariants.{Rests};
+ghost use Rattle.seize_guards.specs.Deeds.{has_taken};
+ghost use Rattle.seize_guards.specs.Homes.{OneSource};
+ghost use Rattle.seize_callers.specs.Given.SeizeViewsNotes.{written_at};
+ghost use Rattle.seize_callers.specs.Given.SeizeViewsDeclared.view.Began.TheVariants.{Retirement, Trial};
+ghost use Rattle.seize_callers.specs.Given.SeizeViewsDeclared.view.View.TheVariants.{Brings};
 
-use crate::owned::Unlinked;
 use crate::stay::Stay;
 use seize::rows::Defers;
 use seize_blocks::Blocks;
 use seize_callers::Caller;
+use seize_guards::{Guard, Owned, RootGuard, Tagged, Unlinked};
 use seize_receivers::{Drops, Receiver};
 use seize_views::{Content, Fixed, OfRows};
 use seize_words::Fault;
@@ -99,7 +96,7 @@ impl<'a, T: Defers + Drop, R: Receiver<T>> Registration<'a, T, OfRows, R> {
         ensures closed { self.new.stay.inside ≡ false }
         ensures taken { result ≡ true → has_taken self.new.stay.caller.seat.view.did ≡ Some root }
         ensures none { result ≡ false → root < self.old.stay.caller.blocks.now.words.fixed.roots
-            → self.new.stay.caller.seat.view.did ≡ Wrote root None 0 }
+            → written_at self.new.stay.caller.seat.view.did ≡ Some (root, None, 0) }
     {
         self.stay.withdraws(root)
     }
@@ -117,138 +114,14 @@ impl<'a, T: Defers + Drop, R: Receiver<T>> Registration<'a, T, OfRows, R> {
         ensures own { IfOk result (λ _. old.entry.number ≡ self.old.number) }
         ensures began { IfOk result (λ _. self.new.stay.caller.seat.view.began ≡ Retirement) }
     {
-        if old.number != self.number {
+        if old.number() != self.number {
             return Err((Fault::ForeignGuard, old));
         }
-        let Unlinked {
-            caller,
-            number: _,
-            block,
-        } = old;
-        let mut caller = caller;
-        self.stay.takes_over(&mut caller, block);
+        let (bearer, block) = old.parted();
+        let mut bearer = bearer;
+        self.stay.takes_over(&mut bearer, block);
         Ok(())
     }
-}
-
-/// What guards of sections have in common, so that a call can take any of them.
-pub trait Guard<T: Defers> {
-    /// What its memory has beside slots, sections and batches.
-    type Content: Content<T>;
-
-    /// The collector that it is of, which memory that has, and how many roots.
-    ghost home: { Self → Home };
-
-    /// The slot of its section.
-    ghost slot: { Self → ℕ };
-
-    /// Whether that section is open, which it is from its beginning on.
-    ghost inside: { Self → Bool };
-
-    /// The block that it has seen last, 0 for none.
-    ghost seen: { Self → ℕ };
-
-    /// What it has begun last on its slot.
-    ghost began: { Self → Began };
-
-    /// What its seat knows beside that: of this kind.
-    ghost Beside: { Type 0 };
-
-    ghost beside: { Self → Beside };
-
-    /// The number of its collector, 0 where there is none.
-    fn number(&self) -> u64
-        ensures { result ≡ (home self.now).number };
-
-    /// The number of its slot.
-    fn thread_id(&self) -> u64
-        ensures { result ≡ slot self.now };
-
-    /// Ends the section and begins the next one. A value that is reclaimed is dropped.
-    fn refresh(&mut self)
-        ensures home { home self.new ≡ home self.old }
-        ensures beside { beside self.new ≡ beside self.old }
-        ensures slot { slot self.new ≡ slot self.old }
-        ensures inside { inside self.new ≡ true }
-        ensures fresh { seen self.new ≡ 0 }
-        ensures began { began self.new ≡ Section };
-
-    /// Tries the slot's batch, whatever its length. A value that is reclaimed is dropped. What it has seen it doesn't know any more.
-    fn flush(&mut self)
-        ensures home { home self.new ≡ home self.old }
-        ensures beside { beside self.new ≡ beside self.old }
-        ensures slot { slot self.new ≡ slot self.old }
-        ensures inside { inside self.new ≡ inside self.old }
-        ensures fresh { seen self.new ≡ 0 }
-        ensures began { began self.new ≡ Trial };
-}
-
-/// A guard that looks at roots, puts values there and takes them from there: so it is where rows are all there is.
-pub trait RootGuard<T: Defers>: Guard<T> {
-    /// This is the value of that block, as it is while nothing else was seen.
-    ghost lends: { Self → ℕ → T → Type 0 };
-
-    /// What it has done last at a root.
-    ghost did: { Self → Deed T };
-
-    /// Looks which value is at a root, and tells whether one is. What it has seen before it doesn't know any more.
-    fn see(&mut self, root: u64) -> bool
-        ensures home { Self.home self.new ≡ Self.home self.old }
-        ensures slot { Self.slot self.new ≡ Self.slot self.old }
-        ensures inside { Self.inside self.new ≡ Self.inside self.old }
-        ensures seen { result ≡ true → Self.seen self.new ≢ 0 }
-        ensures looked { result ≡ true → did self.new ≡ Looked root (Self.seen self.new) }
-        ensures none { result ≡ false → Self.seen self.new ≡ 0 }
-        ensures empty { result ≡ false → Self.inside self.old ≡ true → root < (Self.home self.old).roots → did self.new ≡ Looked root 0 };
-
-    /// The value that it has seen, if it has seen one since it began, or was refreshed.
-    fn value(&self) -> Option<&T>
-        ensures lent { IfSome result (λ value. lends self.now (Self.seen self.now) value.now) }
-        ensures some { IfSome result (λ value. Self.seen self.now ≢ 0) }
-        ensures none { IfNone result (Self.seen self.now ≡ 0) };
-
-    /// Puts a value at a root, and retires the one that was there. Without such a root, or a block for it, it comes back. What it has seen it doesn't know any more.
-    fn put(&mut self, root: u64, value: T) -> Result<(), T>
-        ensures home { Self.home self.new ≡ Self.home self.old }
-        ensures slot { Self.slot self.new ≡ Self.slot self.old }
-        ensures inside { Self.inside self.new ≡ true }
-        ensures fresh { Self.seen self.new ≡ 0 }
-        ensures back { IfErr result (λ back. back ≡ value) }
-        ensures put { IfOk result (λ _. has_put (did self.new) ≡ Some (root, value)) };
-
-    /// Puts a value at a root if what it has seen last is there, or nothing where it has seen nothing, and retires that. Else the value comes back, and it has
-    /// seen what is there. It comes back, too, where there is no such root, or no block can be made of it.
-    fn exchange(&mut self, root: u64, value: T) -> Result<(), T>
-        ensures home { Self.home self.new ≡ Self.home self.old }
-        ensures slot { Self.slot self.new ≡ Self.slot self.old }
-        ensures inside { Self.inside self.new ≡ Self.inside self.old }
-        ensures back { IfErr result (λ back. back ≡ value) }
-        ensures put { IfOk result (λ _. did self.new ≡ Wrote root (Some value) (Self.seen self.old)) }
-        ensures spent { IfOk result (λ _. Self.seen self.new ≡ 0) }
-        ensures other { IfErr result (λ _. (did self.new ≡ Looked root (Self.seen self.new)) ⊎ (Self.seen self.new ≡ Self.seen self.old)) };
-
-    /// Takes the value from a root, and retires it; tells whether there was one. What it has seen it doesn't know any more.
-    fn clear(&mut self, root: u64) -> bool
-        ensures home { Self.home self.new ≡ Self.home self.old }
-        ensures slot { Self.slot self.new ≡ Self.slot self.old }
-        ensures inside { Self.inside self.new ≡ true }
-        ensures fresh { Self.seen self.new ≡ 0 }
-        ensures taken { result ≡ true → has_taken (did self.new) ≡ Some root }
-        ensures none { result ≡ false → root < (Self.home self.old).roots → did self.new ≡ Wrote root None 0 };
-
-    /// Retires a block that a caller without a slot has unlinked, of the same memory (`Unlinked` does so by it). What it has seen it doesn't know any more.
-    fn takes_over<'b>(&mut self, bearer: &mut Caller<'b, T>, block: u64)
-        requires home { bearer.old.blocks.now.words.id.views_name ≡ (Self.home self.old).memory }
-        requires bears { borne_by bearer.old.seat.view.knows ≡ Some block }
-        requires fits { block < 2 ^ 53 }
-        ensures home { Self.home self.new ≡ Self.home self.old }
-        ensures slot { Self.slot self.new ≡ Self.slot self.old }
-        ensures inside { Self.inside self.new ≡ Self.inside self.old }
-        ensures fresh { Self.seen self.new ≡ 0 }
-        ensures began { Self.began self.new ≡ Retirement }
-        ensures did { did self.new ≡ did self.old }
-        ensures rests { bearer.new.seat.view.knows ≡ Rests }
-        ensures memory { bearer.new.blocks ≡ bearer.old.blocks };
 }
 
 /// A section that is open as long as this lives. What it has seen is there until its next step. It stays on its thread.
@@ -294,7 +167,7 @@ impl<'r, 'a, T: Defers + Drop, C: Content<T>, R: Receiver<T>> Guard<T>
 }
 
 impl<'r, 'a, T: Defers + Drop, R: Receiver<T>> RootGuard<T> for LocalGuard<'r, 'a, T, OfRows, R> {
-    ghost use Rattle.seize_shared.specs.Lent.{IsLent};
+    ghost use Rattle.seize_guards.specs.Lent.{IsLent};
 
     ghost lends = { λ g. IsLent T.defers g.registration.now.stay.caller.blocks.now.words.fixed g.registration.now.stay.caller.seat.id g.registration.now.stay.caller.seat.view };
 
@@ -303,6 +176,16 @@ impl<'r, 'a, T: Defers + Drop, R: Receiver<T>> RootGuard<T> for LocalGuard<'r, '
     fn see(&mut self, root: u64) -> bool {
         let registration = &mut *self.registration;
         registration.stay.sees(root)
+    }
+
+    fn protect(&mut self, root: u64) -> Option<Tagged> {
+        let registration = &mut *self.registration;
+        registration.stay.protects(root)
+    }
+
+    fn mark(&mut self, root: u64, marks: u64) -> Option<Tagged> {
+        let registration = &mut *self.registration;
+        registration.stay.marks(root, marks)
     }
 
     fn value(&self) -> Option<&T> {
@@ -327,6 +210,20 @@ impl<'r, 'a, T: Defers + Drop, R: Receiver<T>> RootGuard<T> for LocalGuard<'r, '
     fn takes_over<'b>(&mut self, bearer: &mut Caller<'b, T>, block: u64) {
         let registration = &mut *self.registration;
         registration.stay.takes_over(bearer, block);
+    }
+}
+
+impl<'r, 'a, T: Defers + Drop, R: Receiver<T>> LocalGuard<'r, 'a, T, OfRows, R> {
+    /// Makes a block of a value, which is of its collector; a number is looked for from `near` on, which says then where to look next. Without words for it, or
+    /// memory, the value comes back. What it has seen it knows still.
+    pub fn make(&self, near: &mut u64, value: T) -> Result<Owned<'a, T>, T>
+        ensures made { IfOk result (λ owned. owned.caller.seat.view.knows ≡ Brings owned.block value) }
+        ensures home { IfOk result (λ owned. owned.caller.blocks.now ≡ self.now.registration.now.stay.caller.blocks.now) }
+        ensures number { IfOk result (λ owned. owned.number ≡ self.now.registration.now.number) }
+        ensures back { IfErr result (λ back. back ≡ value) }
+    {
+        let registration = &*self.registration;
+        registration.stay.makes(registration.number, near, value)
     }
 }
 
@@ -384,6 +281,19 @@ impl<'a, T: Defers + Drop, C: Content<T>, R: Receiver<T>> OwnedGuard<'a, T, C, R
     }
 }
 
+impl<'a, T: Defers + Drop, R: Receiver<T>> OwnedGuard<'a, T, OfRows, R> {
+    /// Makes a block of a value, which is of its collector; a number is looked for from `near` on, which says then where to look next. Without words for it, or
+    /// memory, the value comes back. What it has seen it knows still.
+    pub fn make(&self, near: &mut u64, value: T) -> Result<Owned<'a, T>, T>
+        ensures made { IfOk result (λ owned. owned.caller.seat.view.knows ≡ Brings owned.block value) }
+        ensures home { IfOk result (λ owned. owned.caller.blocks.now ≡ self.now.stay.caller.blocks.now) }
+        ensures number { IfOk result (λ owned. owned.number ≡ self.now.number) }
+        ensures back { IfErr result (λ back. back ≡ value) }
+    {
+        self.stay.makes(self.number, near, value)
+    }
+}
+
 impl<'a, T: Defers + Drop, C: Content<T>, R: Receiver<T>> Guard<T> for OwnedGuard<'a, T, C, R> {
     type Content = C;
 
@@ -419,7 +329,7 @@ impl<'a, T: Defers + Drop, C: Content<T>, R: Receiver<T>> Guard<T> for OwnedGuar
 }
 
 impl<'a, T: Defers + Drop, R: Receiver<T>> RootGuard<T> for OwnedGuard<'a, T, OfRows, R> {
-    ghost use Rattle.seize_shared.specs.Lent.{IsLent};
+    ghost use Rattle.seize_guards.specs.Lent.{IsLent};
 
     ghost lends = { λ g. IsLent T.defers g.stay.caller.blocks.now.words.fixed g.stay.caller.seat.id g.stay.caller.seat.view };
 
@@ -427,6 +337,14 @@ impl<'a, T: Defers + Drop, R: Receiver<T>> RootGuard<T> for OwnedGuard<'a, T, Of
 
     fn see(&mut self, root: u64) -> bool {
         self.stay.sees(root)
+    }
+
+    fn protect(&mut self, root: u64) -> Option<Tagged> {
+        self.stay.protects(root)
+    }
+
+    fn mark(&mut self, root: u64, marks: u64) -> Option<Tagged> {
+        self.stay.marks(root, marks)
     }
 
     fn value(&self) -> Option<&T> {

@@ -4,12 +4,11 @@
 
 mod desk;
 mod guard;
-mod owned;
 mod stay;
 
 pub use desk::{Desk, DeskGuard, MOST_GUARDS, Place};
-pub use guard::{Guard, LocalGuard, OwnedGuard, Registration, RootGuard};
-pub use owned::{Owned, Unlinked};
+pub use guard::{LocalGuard, OwnedGuard, Registration};
 pub use seize_callers::Caller;
+pub use seize_guards::{Guard, Owned, RootGuard, Tagged, Unlinked};
 pub use seize_receivers::{Drops, Receiver};
 pub use seize_views::{Becomes, Began, Content, Deed, Fixed, Has, Noted, OfRows, View, Why};

@@ -1,32 +1,27 @@
-//! Blocks that are made and put at a root without a slot, on two threads: what was there is retired under a slot, and a block that was made may be sent.
+//! Blocks that are made and put at a root without a section, and values that are taken from there without one, on threads of their own beside one who sees and puts
+//! values under guards.
 ghost use Rattle.std.specs.Prelude.{◌≡◌};
 
-use crate::guards::{CHOSEN, TIMES, goes, went};
-use seize_blocks::{Blocks, Home};
-use seize_counted::{Counted, Table, all_are, dropped, table};
-use seize_shared::{Guard, OfRows, Owned, OwnedGuard, Registration, RootGuard};
-use std::alloc::{AllocError, Global};
+use crate::crowd::{TIMES, goes};
+use seize_collector::{Owned, Registration, Shared};
+use seize_counted::{Counted, Table, all_are, dropped, table, within};
 use std::test::Fail;
-use std::thread;
 use std::thread::Threads;
+use std::{mem, thread};
 
-/// Makes a block of a value, and puts it at the root; looks at the value that was there, and retires it, without a section. Answers whether it was put, and
-/// what was there had not been dropped.
+/// Makes a block of a value, and puts it at the root; looks at the value that was there, and retires it, without a section. Tells whether it was put, and what was
+/// there had not been dropped, and was retired.
 fn brings(
     registration: &mut Registration<'_, Counted>,
-    blocks: &Blocks<Counted, OfRows>,
+    collector: &Shared<'_, Counted>,
     near: &mut u64,
     value: Counted,
 ) -> bool
-    requires fixed { blocks.now.words.fixed ≡ record { batch_size = 5; roots = 1 } }
-    requires home { registration.old.stay.caller.blocks.now ≡ blocks.now }
-    requires number { registration.old.number ≡ 0 }
-    ensures home { registration.new.stay.caller.blocks ≡ registration.old.stay.caller.blocks }
-    ensures number { registration.new.number ≡ registration.old.number }
+    requires { registration.old.stay.caller.blocks.now ≡ collector.now.blocks.now }
+    ensures { registration.new.stay.caller.blocks ≡ registration.old.stay.caller.blocks }
 {
-    let owned = match Owned::new(blocks, &CHOSEN, near, value) {
-        Ok(owned) => owned,
-        Err(_) => return false,
+    let Ok(owned) = collector.make(near, value) else {
+        return false;
     };
     match owned.publish(0) {
         Ok(Some(old)) => {
@@ -34,7 +29,10 @@ fn brings(
             let fresh = dropped(&was.drops, was.place) == 0;
             match registration.retire(old) {
                 Ok(()) => fresh,
-                Err(_) => unreachable!(),
+                Err(refused) => {
+                    mem::forget(refused);
+                    false
+                }
             }
         }
         Ok(None) => true,
@@ -45,50 +43,75 @@ fn brings(
     }
 }
 
-/// Does so for each of so many places from one on. Answers how many it has put.
-fn brings_all(blocks: &Blocks<Counted, OfRows>, drops: &Table, from: usize) -> Option<u64>
-    requires { blocks.now.words.fixed ≡ record { batch_size = 5; roots = 1 } }
-{
-    let mut registration = Registration::new(blocks, &CHOSEN).ok()?;
+/// Does so for each of so many places from one on. Tells whether each was put.
+fn brings_all(collector: &Shared<'_, Counted>, drops: &Table, from: usize) -> bool {
+    let Ok(mut registration) = collector.register() else {
+        return false;
+    };
     let mut near = 0;
-    let mut put = 0;
+    let mut put = true;
     for turn in 0..TIMES {
-        let value = Counted::of(drops, usize::wrapping_add(from, turn))?;
-        if brings(&mut registration, blocks, &mut near, value) {
-            put = u64::wrapping_add(put, 1);
-        }
+        put = match Counted::of(drops, usize::wrapping_add(from, turn)) {
+            Some(value) => brings(&mut registration, collector, &mut near, value) && put,
+            None => false,
+        };
     }
-    Some(put)
+    put
 }
 
-/// One who brings values, and one who sees and puts some under guards, over one memory, which ends then; tells whether both put theirs, and none of those that were seen had
-/// been dropped.
-fn both<R: Threads + Sync>(rt: &R, alloc: Global, drops: &Table) -> Result<bool, AllocError> {
-    let home = Home::<Counted, OfRows>::open(alloc, 1, 4096, &CHOSEN)?;
-    let blocks = &home.blocks;
-    let (put, met) = thread::join(
+/// Takes the value from the root again and again, and retires it, without a section; tries the batch at each eighth turn. Tells whether there was a slot for it.
+fn sweeps(collector: &Shared<'_, Counted>) -> bool {
+    let Ok(mut registration) = collector.register() else {
+        return false;
+    };
+    for turn in 0..TIMES {
+        registration.clear(0);
+        if turn % 8 == 0 {
+            registration.flush();
+        }
+    }
+    true
+}
+
+/// One who brings values, and one who takes away what is there.
+fn pair<R: Threads + Sync>(
+    rt: &R,
+    collector: &Shared<'_, Counted>,
+    drops: &Table,
+    from: usize,
+) -> bool {
+    let (first, second) = thread::join(
         rt,
-        || brings_all(blocks, drops, TIMES),
-        || goes(blocks, drops, 0),
+        || brings_all(collector, drops, from),
+        || sweeps(collector),
     );
-    let met = went(met);
-    Ok(put == Some(TIMES as u64) && met)
+    first && second
+}
+
+/// And one who sees and puts values under guards.
+fn three<R: Threads + Sync>(rt: &R, collector: &Shared<'_, Counted>, drops: &Table) -> bool {
+    let (first, second) = thread::join(
+        rt,
+        || goes(collector, drops, 0),
+        || pair(rt, collector, drops, TIMES),
+    );
+    first && second
 }
 
 #[test]
-fn what_is_put_without_a_slot_is_seen_and_dropped_once(rt: HostRuntime) -> Result<(), Fail> {
+fn what_is_put_and_taken_away_without_a_section_is_seen_and_dropped_once(
+    rt: HostRuntime,
+) -> Result<(), Fail> {
     let drops = table(rt.alloc(), 2 * TIMES)?;
-    assert!(rt; both(&rt, rt.alloc(), &drops)?);
+    assert!(rt; within(rt.alloc(), |collector| three(&rt, collector, &drops))?);
     assert!(rt; all_are(&drops, 2 * TIMES, 1));
     Ok(())
 }
 
 /// Puts a value of its own at the root if none is there, and tells whether it has; else its value has come back.
-fn places(blocks: &Blocks<Counted, OfRows>, drops: &Table, place: usize) -> Option<bool>
-    requires { blocks.now.words.fixed ≡ record { batch_size = 5; roots = 1 } }
-{
+fn places(collector: &Shared<'_, Counted>, drops: &Table, place: usize) -> Option<bool> {
     let mut near = 0;
-    let owned = Owned::new(blocks, &CHOSEN, &mut near, Counted::of(drops, place)?).ok()?;
+    let owned = collector.make(&mut near, Counted::of(drops, place)?).ok()?;
     match owned.place(0) {
         Ok(()) => Some(true),
         Err(owned) => {
@@ -101,30 +124,22 @@ fn places(blocks: &Blocks<Counted, OfRows>, drops: &Table, place: usize) -> Opti
     }
 }
 
-/// Whether one of them has put its value, and the other one has not.
-fn differ(first: Option<bool>, second: Option<bool>) -> bool {
-    match (first, second) {
+/// Two of them; tells whether one of them alone has put its value, and the other one's came back.
+fn one_places<R: Threads + Sync>(rt: &R, collector: &Shared<'_, Counted>, drops: &Table) -> bool {
+    match thread::join(
+        rt,
+        || places(collector, drops, 0),
+        || places(collector, drops, 1),
+    ) {
         (Some(first), Some(second)) => first != second,
         _ => false,
     }
 }
 
-/// Two of them over one memory; tells whether one of them alone has put its value, and the other one's came back.
-fn one_places<R: Threads + Sync>(rt: &R, alloc: Global, drops: &Table) -> Result<bool, AllocError> {
-    let home = Home::<Counted, OfRows>::open(alloc, 1, 8, &CHOSEN)?;
-    let blocks = &home.blocks;
-    let (first, second) = thread::join(
-        rt,
-        || places(blocks, drops, 0),
-        || places(blocks, drops, 1),
-    );
-    Ok(differ(first, second))
-}
-
 #[test]
 fn one_of_two_puts_its_value_where_none_is(rt: HostRuntime) -> Result<(), Fail> {
     let drops = table(rt.alloc(), 2)?;
-    assert!(rt; one_places(&rt, rt.alloc(), &drops)?);
+    assert!(rt; within(rt.alloc(), |collector| one_places(&rt, collector, &drops))?);
     assert!(rt; all_are(&drops, 2, 1));
     Ok(())
 }
@@ -135,45 +150,29 @@ fn takes(given: &mut Option<Owned<'_, Counted>>) -> Option<usize> {
     Some(owned.into_value().place)
 }
 
-/// Makes a block of a value, which another thread takes; and under a guard retires the value that was at the root before. Answers the place of the one, and how often the other one was dropped before
-/// the guard ended, and then.
+/// Makes a block of a value, which another thread takes away; answers the place of the value.
 fn sends<R: Threads + Sync>(
     rt: &R,
-    blocks: &Blocks<Counted, OfRows>,
-    drops: &Table,
-) -> Option<(usize, u64, u64)>
-    requires { blocks.now.words.fixed ≡ record { batch_size = 5; roots = 1 } }
-{
-    let mut guard = OwnedGuard::enter(blocks, &CHOSEN).ok()?;
-    drop(guard.put(0, Counted::of(drops, 0)?));
+    collector: &Shared<'_, Counted>,
+    value: Counted,
+) -> Option<usize> {
     let mut near = 0;
-    let mut given = Owned::new(blocks, &CHOSEN, &mut near, Counted::of(drops, 1)?).ok();
+    let mut given = collector.make(&mut near, value).ok();
     let (place, ()) = thread::join(rt, || takes(&mut given), || ());
     if let Some(owned) = given {
         drop(owned.into_value());
     }
-    let second = Owned::new(blocks, &CHOSEN, &mut near, Counted::of(drops, 2)?).ok()?;
-    match second.publish(0) {
-        Ok(Some(old)) => match old.retire(&mut guard) {
-            Ok(()) => (),
-            Err(_) => unreachable!(),
-        },
-        Ok(None) => return None,
-        Err(owned) => drop(owned.into_value()),
-    }
-    guard.flush();
-    let before = dropped(drops, 0);
-    drop(guard);
-    Some((place?, before, dropped(drops, 0)))
+    place
 }
 
 #[test]
-fn a_block_is_taken_by_another_thread_and_one_retired_by_a_guard(
-    rt: HostRuntime,
-) -> Result<(), Fail> {
-    let drops = table(rt.alloc(), 3)?;
-    let home = Home::<Counted, OfRows>::open(rt.alloc(), 1, 8, &CHOSEN)?;
-    assert_eq!(rt; sends(&rt, &home.blocks, &drops), Some((1, 0, 1)));
+fn a_block_is_taken_away_by_another_thread(rt: HostRuntime) -> Result<(), Fail> {
+    let drops = table(rt.alloc(), 2)?;
+    let Some(value) = Counted::of(&drops, 1) else {
+        return Err(Fail::new("the table has too many owners"));
+    };
+    let place = within(rt.alloc(), |collector| sends(&rt, collector, value))?;
+    assert_eq!(rt; place, Some(1));
     assert_eq!(rt; dropped(&drops, 1), 1);
     Ok(())
 }

@@ -1,78 +1,97 @@
-//! Four threads over one memory: each puts values at the root, retires those that were there, and looks at those of the others.
-use crate::ground::{Ground, SIZE};
-use crate::retiring::{clears, looks, puts};
-use seize_blocks::Home;
-use seize_counted::{Counted, Table, all_are, table};
-use seize_shared::{Caller, Fixed, OfRows};
-use std::alloc::{AllocError, Global};
+//! Four threads over one collector: each looks at the values of the others, puts its own at the root, and so retires those that were there.
+use seize_collector::{Registration, RootGuard, Shared};
+use seize_counted::{Counted, Table, all_are, dropped, table, within};
 use std::test::Fail;
 use std::thread;
 use std::thread::Threads;
 
-/// How often each of the four goes about.
-const TIMES: usize = 20_000;
+/// How often each of them goes about.
+pub(crate) const TIMES: usize = 20_000;
 
-/// Looks at the root and puts a value there, so many times, and takes then away what is there. It answers how many values it has put, or none where one that it
-/// saw had been dropped.
-fn goes(ground: &Ground<'_, Counted>, drops: &Table, from: usize) -> Option<u64> {
-    let mut caller = Caller::new(ground.blocks, SIZE);
-    let Ok(slot) = caller.register() else {
-        return None;
+/// What one of them has met: how many values it has seen, how many of those had been dropped, and how many it has put.
+#[derive(Drop)]
+struct Met {
+    seen: u64,
+    stale: u64,
+    put: u64,
+}
+
+/// Whether a value was seen, and whether that had been dropped, at once or after others had their turn.
+fn looks(seen: Option<&Counted>) -> (bool, bool) {
+    let Some(value) = seen else {
+        return (false, false);
     };
-    let mut put = 0;
-    let mut stale = false;
-    for turn in 0..TIMES {
-        if let Some(old) = looks(&mut caller, slot) {
-            stale = stale || old;
-        }
-        caller.enter(slot);
-        if puts(&mut caller, slot, drops, usize::wrapping_add(from, turn)) {
-            put = u64::wrapping_add(put, 1);
-        }
-        caller.leave(slot);
+    let before = dropped(&value.drops, value.place);
+    if value.place % 16 == 0 {
+        thread::yield_now();
     }
-    caller.enter(slot);
-    clears(&mut caller, slot);
-    caller.leave(slot);
-    caller.unregister(slot);
-    if stale { None } else { Some(put) }
+    (true, before != 0 || dropped(&value.drops, value.place) != 0)
+}
+
+/// Looks at the root and puts the value of a place there, within one section.
+fn goes_once(
+    registration: &mut Registration<'_, Counted>,
+    drops: &Table,
+    place: usize,
+    met: &mut Met,
+) {
+    let mut guard = registration.enter();
+    guard.see(0);
+    let (seen, stale) = looks(guard.value());
+    let put = match Counted::of(drops, place) {
+        Some(value) => guard.put(0, value).is_ok(),
+        None => false,
+    };
+    met.seen = u64::wrapping_add(met.seen, seen as u64);
+    met.stale = u64::wrapping_add(met.stale, stale as u64);
+    met.put = u64::wrapping_add(met.put, put as u64);
+}
+
+/// Does so for so many places from one on, and takes then away what is there. It tells whether it has seen values, none of which had been dropped, and has put each of its own.
+pub(crate) fn goes(collector: &Shared<'_, Counted>, drops: &Table, from: usize) -> bool {
+    let Ok(mut registration) = collector.register() else {
+        return false;
+    };
+    let mut met = Met {
+        seen: 0,
+        stale: 0,
+        put: 0,
+    };
+    for turn in 0..TIMES {
+        goes_once(
+            &mut registration,
+            drops,
+            usize::wrapping_add(from, turn),
+            &mut met,
+        );
+    }
+    registration.enter().clear(0);
+    met.seen > 0 && met.stale == 0 && met.put == TIMES as u64
 }
 
 /// Two of them, of these places and those behind.
 fn pair<R: Threads + Sync>(
     rt: &R,
-    ground: &Ground<'_, Counted>,
+    collector: &Shared<'_, Counted>,
     drops: &Table,
     from: usize,
 ) -> bool {
     let (first, second) = thread::join(
         rt,
-        || goes(ground, drops, from),
-        || goes(ground, drops, usize::wrapping_add(from, TIMES)),
+        || goes(collector, drops, from),
+        || goes(collector, drops, usize::wrapping_add(from, TIMES)),
     );
-    first.is_some() && second.is_some()
+    first && second
 }
 
-/// Four of them over one memory, which ends then; tells whether none of them saw a value that had been dropped.
-fn four<R: Threads + Sync>(rt: &R, alloc: Global, drops: &Table) -> Result<bool, AllocError> {
-    let home = Home::<Counted, OfRows>::open(
-        alloc,
-        1,
-        4096,
-        &Fixed {
-            batch_size: SIZE,
-            roots: 1,
-        },
-    )?;
-    let ground = Ground {
-        blocks: &home.blocks,
-    };
+/// Four of them.
+fn four<R: Threads + Sync>(rt: &R, collector: &Shared<'_, Counted>, drops: &Table) -> bool {
     let (first, second) = thread::join(
         rt,
-        || pair(rt, &ground, drops, 0),
-        || pair(rt, &ground, drops, 2 * TIMES),
+        || pair(rt, collector, drops, 0),
+        || pair(rt, collector, drops, 2 * TIMES),
     );
-    Ok(first && second)
+    first && second
 }
 
 #[test]
@@ -80,7 +99,7 @@ fn four_threads_see_nothing_that_was_dropped_and_each_value_is_dropped_once(
     rt: HostRuntime,
 ) -> Result<(), Fail> {
     let drops = table(rt.alloc(), 4 * TIMES)?;
-    assert!(rt; four(&rt, rt.alloc(), &drops)?);
+    assert!(rt; within(rt.alloc(), |collector| four(&rt, collector, &drops))?);
     assert!(rt; all_are(&drops, 4 * TIMES, 1));
     Ok(())
 }

@@ -1,12 +1,9 @@
 //! Values that are put in place of what was seen: two threads count at a root, each turn by a value that is made of the one that was seen there.
-ghost use Rattle.std.specs.Prelude.{◌≡◌, None};
+ghost use Rattle.std.specs.Prelude.{None};
 
-use crate::ground::SIZE;
 use seize::rows::Defers;
-use seize_blocks::{Blocks, Home};
-use seize_counted::{Table, table};
-use seize_shared::{Fixed, OfRows, Registration, RootGuard};
-use std::alloc::{AllocError, Global};
+use seize_collector::{Registration, RootGuard, Shared};
+use seize_counted::{Table, dropped, table, within};
 use std::sync::Arc;
 use std::sync::atomic::Ordering::SeqCst;
 use std::test::Fail;
@@ -21,12 +18,6 @@ const MADE: usize = 0;
 
 const DROPPED: usize = 1;
 
-/// What is chosen for the memory.
-const CHOSEN: Fixed = Fixed {
-    batch_size: SIZE,
-    roots: 1,
-};
-
 /// A number, which is counted as it is made, and as it is dropped.
 struct Tally {
     number: u64,
@@ -37,14 +28,6 @@ struct Tally {
 fn count(counts: &Table, place: usize) {
     if let Some(word) = counts.get(place) {
         word.fetch_add(1, SeqCst);
-    }
-}
-
-/// What was counted at a place.
-fn counted(counts: &Table, place: usize) -> u64 {
-    match counts.get(place) {
-        Some(word) => word.load(SeqCst),
-        None => 0,
     }
 }
 
@@ -80,82 +63,83 @@ fn number(seen: Option<&Tally>) -> u64 {
     }
 }
 
-/// Sees the number at the root again and again, and puts the next one in its place if it is there still; answers how often it was.
-fn goes(blocks: &Blocks<Tally, OfRows>, counts: &Table) -> Option<u64>
-    requires { blocks.now.words.fixed ≡ record { batch_size = 5; roots = 1 } }
-{
-    let mut registration = Registration::new(blocks, &CHOSEN).ok()?;
+/// Sees the number at the root, and puts the next one in its place if it is there still, after others had their turn or at once; tells whether it was.
+fn counts_on(registration: &mut Registration<'_, Tally>, counts: &Table, waits: bool) -> bool {
+    let mut guard = registration.enter();
+    guard.see(0);
+    let next = u64::wrapping_add(number(guard.value()), 1);
+    if waits {
+        thread::yield_now();
+    }
+    match Tally::of(counts, next) {
+        Some(tally) => guard.exchange(0, tally).is_ok(),
+        None => false,
+    }
+}
+
+/// Does so again and again; answers how often the number was there still.
+fn goes(collector: &Shared<'_, Tally>, counts: &Table) -> Option<u64> {
+    let mut registration = collector.register().ok()?;
     let mut done = 0;
     for turn in 0..TIMES {
-        let mut guard = registration.enter();
-        guard.see(0);
-        let seen = number(guard.value());
-        if turn % 16 == 0 {
-            thread::yield_now();
-        }
-        if guard
-            .exchange(0, Tally::of(counts, u64::wrapping_add(seen, 1))?)
-            .is_ok()
-        {
-            done = u64::wrapping_add(done, 1);
-        }
+        let counted = counts_on(&mut registration, counts, turn % 16 == 0);
+        done = u64::wrapping_add(done, counted as u64);
     }
     Some(done)
 }
 
 /// The number at the root.
-fn last(blocks: &Blocks<Tally, OfRows>) -> Option<u64>
-    requires { blocks.now.words.fixed ≡ record { batch_size = 5; roots = 1 } }
-{
-    let mut registration = Registration::new(blocks, &CHOSEN).ok()?;
-    let mut guard = registration.enter();
+fn last(collector: &Shared<'_, Tally>) -> Option<u64> {
+    let mut guard = collector.enter_owned().ok()?;
     guard.see(0);
     Some(number(guard.value()))
 }
 
-/// Two of them over one memory, which ends then; answers how often both of them counted on, and the last number.
+/// Two of them; answers how often both counted on, and the last number.
 fn both<R: Threads + Sync>(
     rt: &R,
-    alloc: Global,
+    collector: &Shared<'_, Tally>,
     counts: &Table,
-) -> Result<(Option<u64>, Option<u64>, Option<u64>), AllocError> {
-    let home = Home::<Tally, OfRows>::open(alloc, 1, 4096, &CHOSEN)?;
-    let blocks = &home.blocks;
-    let (first, second) = thread::join(rt, || goes(blocks, counts), || goes(blocks, counts));
-    Ok((first, second, last(blocks)))
+) -> (Option<u64>, Option<u64>) {
+    let (first, second) = thread::join(rt, || goes(collector, counts), || goes(collector, counts));
+    let sum = match (first, second) {
+        (Some(first), Some(second)) => Some(u64::wrapping_add(first, second)),
+        _ => None,
+    };
+    (sum, last(collector))
 }
 
 #[test]
 fn no_count_is_lost_and_each_number_is_dropped_once(rt: HostRuntime) -> Result<(), Fail> {
     let counts = table(rt.alloc(), 2)?;
-    let (first, second, number) = both(&rt, rt.alloc(), &counts)?;
-    assert!(rt; first.is_some() && second.is_some());
-    assert_eq!(rt;
-        Some(u64::wrapping_add(first.unwrap_or(0), second.unwrap_or(0))),
-        number
-    );
-    assert_eq!(rt; counted(&counts, MADE), counted(&counts, DROPPED));
+    let (sum, number) = within(rt.alloc(), |collector| both(&rt, collector, &counts))?;
+    assert!(rt; sum.is_some());
+    assert_eq!(rt; sum, number);
+    assert_eq!(rt; dropped(&counts, MADE), dropped(&counts, DROPPED));
     Ok(())
 }
 
-/// What two guards come to, of which each puts a number where it has seen nothing, and the second one then where it has seen the first one's; 0 for a
-/// number that came back.
+/// Puts a number in place of what a guard has seen; tells whether it is there, and answers which number it has seen then.
+fn puts<G: RootGuard<Tally>>(guard: &mut G, counts: &Table, next: u64) -> (bool, u64) {
+    let put = match Tally::of(counts, next) {
+        Some(tally) => guard.exchange(0, tally).is_ok(),
+        None => false,
+    };
+    (put, number(guard.value()))
+}
+
+/// What two guards come to, of which each puts a number where it has seen nothing, and the second one then where it has seen the first one's; and which number is
+/// there then.
 fn takes_turns(
-    blocks: &Blocks<Tally, OfRows>,
+    collector: &Shared<'_, Tally>,
     counts: &Table,
-) -> Option<(bool, bool, u64, bool, u64)>
-    requires { blocks.now.words.fixed ≡ record { batch_size = 5; roots = 1 } }
-{
-    let mut one = Registration::new(blocks, &CHOSEN).ok()?;
-    let mut two = Registration::new(blocks, &CHOSEN).ok()?;
-    let mut first = one.enter();
-    let mut second = two.enter();
-    let put = first.exchange(0, Tally::of(counts, 1)?).is_ok();
-    let refused = second.exchange(0, Tally::of(counts, 2)?).is_err();
-    let seen = number(second.value());
-    let replaced = second.exchange(0, Tally::of(counts, 3)?).is_ok();
-    first.see(0);
-    Some((put, refused, seen, replaced, number(first.value())))
+) -> Option<((bool, u64), (bool, u64), (bool, u64), Option<u64>)> {
+    let mut first = collector.enter_owned().ok()?;
+    let mut second = collector.enter_owned().ok()?;
+    let one = puts(&mut first, counts, 1);
+    let two = puts(&mut second, counts, 2);
+    let three = puts(&mut second, counts, 3);
+    Some((one, two, three, last(collector)))
 }
 
 #[test]
@@ -163,10 +147,7 @@ fn a_number_comes_back_where_another_one_is_there_which_was_seen_then(
     rt: HostRuntime,
 ) -> Result<(), Fail> {
     let counts = table(rt.alloc(), 2)?;
-    let home = Home::<Tally, OfRows>::open(rt.alloc(), 1, 8, &CHOSEN)?;
-    assert_eq!(rt;
-        takes_turns(&home.blocks, &counts),
-        Some((true, true, 1, true, 3))
-    );
+    let turns = within(rt.alloc(), |collector| takes_turns(collector, &counts))?;
+    assert_eq!(rt; turns, Some(((true, 0), (false, 1), (true, 0), Some(3))));
     Ok(())
 }

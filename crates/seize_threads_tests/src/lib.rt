@@ -1,27 +1,11 @@
-//! Tests of the collector's rows over a memory that threads share: two threads at a time, or four, each with a seat of its own.
+//! Tests of a collector that threads share: two, three or four of them put values at a root, see them and take them away at the same time.
 #![tactic(auto)]
 
 #[cfg(test)]
 mod bringing;
 #[cfg(test)]
-mod counting;
-#[cfg(test)]
 mod crowd;
 #[cfg(test)]
 mod exchanging;
 #[cfg(test)]
-mod ground;
-#[cfg(test)]
-mod guards;
-#[cfg(test)]
-mod idle;
-#[cfg(test)]
-mod lists;
-#[cfg(test)]
-mod making;
-#[cfg(test)]
-mod order;
-#[cfg(test)]
-mod retiring;
-#[cfg(test)]
-mod sections;
+mod leaving;

@@ -1,10 +1,12 @@
--- A block is put at a root, whatever is there or in place of a word, seen there, and taken from there.
-use Rattle.std.specs.Prelude.{◌≢◌, ◌==◌, Option, Some, None, Ok, Err, length, if◌then◌else◌}
-use Rattle.std.proofs.Common.{◌≡◌, ℕ, List, [], Bool, true, false, cond, ◌⊎◌, inl, inr, refl, sym, subst, ap, ◌∙◌}
+-- A block is put at a root, whatever is there or in place of a word, seen there, marked there, and taken from there.
+use Rattle.std.specs.Prelude.{◌≢◌, ◌<◌, ◌^◌, ◌/◌, ◌==◌, Option, Some, None, Ok, Err, length, bit_or, if◌then◌else◌}
+use Rattle.std.proofs.Common.{◌≡◌, ℕ, List, [], Bool, true, false, cond, ◌⊎◌, inl, inr, refl, sym, subst, ap, ◌∙◌, arith}
 use Rattle.std.proofs.lemmas.Bool.{cases_eq, eq-eqb, ne_eqb}
+use Rattle.std.proofs.lemmas.Nat.{or_shr}
+use Rattle.std.specs.Int.Bits.{or_zero_r}
 use Rattle.seize_words.specs.Mem.{Mem, Took, word_at}
-use Rattle.seize_words.specs.Word.{block_in, link_to}
-use Rattle.seize_words.specs.Op.{Out, Load, Swap, Exchange, Found, Stored, Exchanged, Made as OutMade, Taken, Roomed}
+use Rattle.seize_words.specs.Word.{block_in}
+use Rattle.seize_words.specs.Op.{Out, Load, Swap, Or, Exchange, Found, Stored, Exchanged, Made as OutMade, Taken, Roomed}
 use Rattle.seize_words.specs.declared.at.At.TheVariants.{Root}
 use Rattle.seize.specs.Law.{Effect, Linked, holds, is_over, is_open, reachable, is_somewhere}
 use Rattle.seize.specs.World.{World, Use, Hand, Links, IsInside, with_hand, with_effect}
@@ -20,7 +22,7 @@ use Rattle.seize_seats.specs.State.{State, view_of}
 use Rattle.seize_views.specs.Rows.{Leads, TurnsTo}
 use Rattle.seize_views.specs.Rows.{had_in, IsMade, IsInHand, RootsNameLinked, Holds}
 use Rattle.seize_views.specs.Told.{seen_in, cut_in, made_beside, alone_with, told}
-use Rattle.seize_views.specs.Promises.{MadeAreLinked, MadeAreExchanged, OwnAreLinked, OwnAreExchanged, RootsAreSeen, RootsAreCleared, RootsAreWithdrawn}
+use Rattle.seize_views.specs.Promises.{MadeAreLinked, MadeAreExchanged, OwnAreLinked, OwnAreExchanged, RootsAreSeen, RootsAreMarked, RootsAreCleared, RootsAreWithdrawn}
 use Rattle.seize_views.specs.declared.view.View.{View}
 use Rattle.seize_views.specs.declared.view.View.TheVariants.{Outside, Owes, Inside, Brings}
 use Rattle.seize_views.specs.declared.view.Has.{Has}
@@ -30,7 +32,12 @@ use Rattle.seize_views.proofs.Came.{reached, came_then}
 use Rattle.seize_views.proofs.Moved.{inside_of}
 use Rattle.seize_views.proofs.Users.{use_making, making_use}
 use Rattle.seize_views.proofs.Users.{beside, making_not_held, passes_then, Carries, within, alone_carries, users, users_outside, users_owe}
-use Rattle.seize_views.proofs.Written.{Wrote, Cuts, block_of_link, wrote, rooted_still, roots_now, fresh, root_can, unlinked, clears}
+use Rattle.seize_views.proofs.Written.{Wrote, Cuts, wrote, rooted_still, roots_now, fresh, root_can, unlinked, clears}
+
+-- bits of the tag leave the block of a word as it is
+marked_block : (word bits : ℕ) → bits < 2 ^ 11 → block_in (bit_or word bits) ≡ block_in word
+marked_block word bits lt =
+    let none : bits / 2 ^ 11 ≡ 0 = omega (arith, lt) in or_shr word bits 11 ∙ ap (bit_or (word / 2 ^ 11)) none ∙ or_zero_r (word / 2 ^ 11)
 
 module _ {T : Type 0} (defers : T → Option ℕ) (fixed : Fixed) (s : State T (View T) (World T)) (t : ℕ) (h : Holds defers fixed s)
     (open_here : IsInside (s.world.uses t)) where
@@ -72,11 +79,23 @@ module _ {T : Type 0} (defers : T → Option ℕ) (fixed : Fixed) (s : State T (
   seen_known a word e true is = tt
   seen_known a word e false is = root_held a word e is
 
+  -- where its word was written over, too
+  marked_known : (a word : ℕ) (m : Mem T) → word_at s.memory (Root a) ≡ Some word → (y : Bool) → (block_in word == 0) ≡ y
+      → IsInHand (record here { memory = m }) t (if y then Nothing else Seen (block_in word))
+  marked_known a word m e true is = tt
+  marked_known a word m e false is = root_held a word e is
+
   -- and is known beside a block that was made
   beside_known : (b : ℕ) (x : T) (a word : ℕ) → IsMade here b x → word_at s.memory (Root a) ≡ Some word → (y : Bool) → (block_in word == 0) ≡ y
       → IsInHand here t (if y then Made b x else Both b x (block_in word))
   beside_known b x a word made e true is = made
   beside_known b x a word made e false is = (made, root_held a word e is)
+
+-- what is in the hand of who has seen what is there, or has made a block beside it
+
+seen_hand : (T : Type 0) (b : ℕ) (y : Bool) → had_in {T = T} (if y then Nothing else Seen b) ≡ None
+seen_hand T b true = refl
+seen_hand T b false = refl
 
 module _ {T : Type 0} (defers : T → Option ℕ) (fixed : Fixed) (s : State T (View T) (World T)) (id t : ℕ) (place : Has T → View T) (carries : Carries t place)
     (had : Has T) (h : Holds defers fixed s) (at : view_of s id ≡ Some (place had)) where
@@ -119,19 +138,18 @@ module _ {T : Type 0} (defers : T → Option ℕ) (fixed : Fixed) (s : State T (
       at_view : (y : Bool) → (block_in old == 0) ≡ y → so (place (if y then Nothing else Cut (block_in old)))
       at_view y e = subst (λ (z : Bool). so (place (if z then Nothing else Cut (block_in old)))) e is
 
-  -- the block that was made is put at a root
-  links : (b a i : ℕ) → w.hand b ≡ world.Making i → had_in had ≡ Some b → (old : ℕ) (m : Mem T) → Wrote defers fixed s id a (link_to b) old m
-      → (so : View T → Type 0) → so (place (cut_in old)) → Leads defers fixed s m id so
-  links b a i mine had_it old m wrote so tells =
-      let word : ℕ = link_to b in
+  -- the block that was made is put at a root, by a word that links to it
+  links : (b a i word : ℕ) → block_in word ≡ b → w.hand b ≡ world.Making i → had_in had ≡ Some b → (old : ℕ) (m : Mem T)
+      → Wrote defers fixed s id a word old m → (so : View T → Type 0) → so (place (cut_in old)) → Leads defers fixed s m id so
+  links b a i word names mine had_it old m wrote so tells =
       let n : World T = with_effect (with_hand (record w { memory = m }) b (world.InUse a)) (Linked b a) in
       let other : (c : ℕ) (k : Hand) → (k ≡ world.Making i → ⊥) → w.hand c ≡ k → n.hand c ≡ k =
       (λ c k ne f. beside w b c (world.InUse a) k (λ e. ne (e ∙ mine)) f) in
       let was = h.roots a old wrote.there in
       let named : RootsNameLinked m n.hand =
-      roots_now defers fixed s id (place had) h at a word old m n.hand wrote (inr (ap n.hand (block_of_link b) ∙ with_here w.hand b (world.InUse a)))
+      roots_now defers fixed s id (place had) h at a word old m n.hand wrote (inr (ap n.hand names ∙ with_here w.hand b (world.InUse a)))
       (λ c e ne f. other c (world.InUse e) (use_making e i) f) in
-      let is_new : (block_in word ≡ 0) ⊎ (block_in word ≢ block_in old) = new_block b a old mine was (cases_eq b 0) in
+      let is_new : (block_in word ≡ 0) ⊎ (block_in word ≢ block_in old) = new_block old mine was (cases_eq b 0) in
       unlinked defers fixed s id (place had) h at t a old m n so (cuts a old m so tells) (record {
         came = came_then defers fixed (record w { memory = m }) n (Links id b a) wrote.came ((i, mine), refl);
         memory = refl;
@@ -149,50 +167,74 @@ module _ {T : Type 0} (defers : T → Option ℕ) (fixed : Fixed) (s : State T (
         passes = passes_then defers fixed s id t (record w { memory = m }) n (Links id b a) tt (λ j. tt) wrote.passes ((i, mine), refl);
       }) named (λ c f. other c (world.InUse a) (use_making a i) f) was (fresh defers fixed s id (place had) h at a word old m wrote was is_new)
     where
-      new_block : (b a old : ℕ) → w.hand b ≡ world.Making i → (block_in old ≡ 0) ⊎ (w.hand (block_in old) ≡ world.InUse a) → (b ≡ 0) ⊎ (b ≢ 0)
-          → (block_in (link_to b) ≡ 0) ⊎ (block_in (link_to b) ≢ block_in old)
-      new_block b a old mine was (inl z) = inl (block_of_link b ∙ z)
-      new_block b a old mine (inl none) (inr nz) = inr (λ e. nz (sym (block_of_link b) ∙ e ∙ none))
-      new_block b a old mine (inr linked) (inr nz) =
-          inr (λ e. making_use i a (sym mine ∙ ap w.hand (sym (block_of_link b) ∙ e) ∙ linked))
+      new_block : (old : ℕ) → w.hand b ≡ world.Making i → (block_in old ≡ 0) ⊎ (w.hand (block_in old) ≡ world.InUse a) → (b ≡ 0) ⊎ (b ≢ 0)
+          → (block_in word ≡ 0) ⊎ (block_in word ≢ block_in old)
+      new_block old mine was (inl z) = inl (names ∙ z)
+      new_block old mine (inl none) (inr nz) = inr (λ e. nz (sym names ∙ e ∙ none))
+      new_block old mine (inr linked) (inr nz) = inr (λ e. making_use i a (sym mine ∙ ap w.hand (sym names ∙ e) ∙ linked))
 
   -- the block that was made is put at a root in place of this word, or what is there is seen
-  exchanges : (b : ℕ) (x : T) (a old : ℕ) → IsMade w b x → had_in had ≡ Some b → (so : Out T → View T → Type 0)
+  exchanges : (b : ℕ) (x : T) (a old link : ℕ) → block_in link ≡ b → IsMade w b x → had_in had ≡ Some b → (so : Out T → View T → Type 0)
       → so (Exchanged (Ok old)) (place (cut_in old))
-      → ((word : ℕ) → word_at s.memory (Root a) ≡ Some word → (has : Has T) × IsInHand w t has × (had_in has ≡ had_in had) × so (Exchanged (Err word)) (place has))
-      → (out : Out T) (m : Mem T)
-      → Took s.memory (Exchange (Root a) old (link_to b)) out m → Leads defers fixed s m id (so out)
-  exchanges b x a old made had_it so cut other (Exchanged (Ok word)) m took =
+      → ((word : ℕ) → word_at s.memory (Root a) ≡ Some word → word ≢ old
+      → (has : Has T) × IsInHand w t has × (had_in has ≡ had_in had) × so (Exchanged (Err word)) (place has))
+      → (out : Out T) (m : Mem T) → Took s.memory (Exchange (Root a) old link) out m → Leads defers fixed s m id (so out)
+  exchanges b x a old link names made had_it so cut other (Exchanged (Ok word)) m took =
       subst (λ (k : ℕ). Leads defers fixed s m id (so (Exchanged (Ok k)))) (sym took.0.1)
-      (links b a made.0.0 made.0.1 had_it old m
-      (wrote defers fixed s id (place had) h at a (link_to b) old m (Exchange (Root a) old (link_to b)) (Exchanged (Ok word)) tt took
-      (took.0.0 ∙ ap Some took.0.1) took.1)
+      (links b a made.0.0 link names made.0.1 had_it old m
+      (wrote defers fixed s id (place had) h at a link old m (Exchange (Root a) old link) (Exchanged (Ok word)) tt took (took.0.0 ∙ ap Some took.0.1) took.1)
       (so (Exchanged (Ok old))) cut)
-  exchanges b x a old made had_it so cut other (Exchanged (Err word)) m took =
-      let k = other word took.0.0 in looks m k.0 took.1 k.1 k.2 (so (Exchanged (Err word))) k.3
-  exchanges b x a old made had_it so cut other (Found y) m took = absurd took.0
-  exchanges b x a old made had_it so cut other Stored m took = absurd took.0
-  exchanges b x a old made had_it so cut other (OutMade y) m took = absurd took.0
-  exchanges b x a old made had_it so cut other (Taken y) m took = absurd took.0
-  exchanges b x a old made had_it so cut other (Roomed y) m took = absurd took.0
+  exchanges b x a old link names made had_it so cut other (Exchanged (Err word)) m took =
+      let k = other word took.0.0 took.0.1 in looks m k.0 took.1 k.1 k.2 (so (Exchanged (Err word))) k.3
+  exchanges b x a old link names made had_it so cut other (Found y) m took = absurd took.0
+  exchanges b x a old link names made had_it so cut other Stored m took = absurd took.0
+  exchanges b x a old link names made had_it so cut other (OutMade y) m took = absurd took.0
+  exchanges b x a old link names made had_it so cut other (Taken y) m took = absurd took.0
+  exchanges b x a old link names made had_it so cut other (Roomed y) m took = absurd took.0
 
   -- or whatever is there
-  swaps : (b : ℕ) (x : T) (a : ℕ) → IsMade w b x → had_in had ≡ Some b → (so : Out T → View T → Type 0) → ((old : ℕ) → so (Found old) (place (cut_in old)))
-      → (out : Out T) (m : Mem T) → Took s.memory (Swap (Root a) (link_to b)) out m → Leads defers fixed s m id (so out)
-  swaps b x a made had_it so tells (Found old) m took =
-      links b a made.0.0 made.0.1 had_it old m
-      (wrote defers fixed s id (place had) h at a (link_to b) old m (Swap (Root a) (link_to b)) (Found old) tt took took.0 took.1) (so (Found old)) (tells old)
-  swaps b x a made had_it so tells Stored m took = absurd took.0
-  swaps b x a made had_it so tells (Exchanged y) m took = absurd took.0
-  swaps b x a made had_it so tells (OutMade y) m took = absurd took.0
-  swaps b x a made had_it so tells (Taken y) m took = absurd took.0
-  swaps b x a made had_it so tells (Roomed y) m took = absurd took.0
+  swaps : (b : ℕ) (x : T) (a link : ℕ) → block_in link ≡ b → IsMade w b x → had_in had ≡ Some b → (so : Out T → View T → Type 0)
+      → ((old : ℕ) → so (Found old) (place (cut_in old))) → (out : Out T) (m : Mem T) → Took s.memory (Swap (Root a) link) out m
+      → Leads defers fixed s m id (so out)
+  swaps b x a link names made had_it so tells (Found old) m took =
+      links b a made.0.0 link names made.0.1 had_it old m
+      (wrote defers fixed s id (place had) h at a link old m (Swap (Root a) link) (Found old) tt took took.0 took.1) (so (Found old)) (tells old)
+  swaps b x a link names made had_it so tells Stored m took = absurd took.0
+  swaps b x a link names made had_it so tells (Exchanged y) m took = absurd took.0
+  swaps b x a link names made had_it so tells (OutMade y) m took = absurd took.0
+  swaps b x a link names made had_it so tells (Taken y) m took = absurd took.0
+  swaps b x a link names made had_it so tells (Roomed y) m took = absurd took.0
 
--- what is in the hand of who has seen what is there, or has made a block beside it
-
-seen_hand : (T : Type 0) (b : ℕ) (y : Bool) → had_in {T = T} (if y then Nothing else Seen b) ≡ None
-seen_hand T b true = refl
-seen_hand T b false = refl
+  -- bits of the tag of the word at a root are set: it names the block that it has named, which is seen
+  marks : (a bits word : ℕ) (m : Mem T) → bits < 2 ^ 11 → had_in had ≡ None → IsInside (w.uses t) → Took s.memory (Or (Root a) bits) (Found word) m
+      → (so : View T → Type 0) → so (place (seen_in word)) → Leads defers fixed s m id so
+  marks a bits word m small none inside took so is =
+      let n : World T = record w { memory = m } in
+      let new : ℕ = bit_or word bits in
+      let over : Wrote defers fixed s id a new word m = wrote defers fixed s id (place had) h at a new word m (Or (Root a) bits) (Found word) tt took took.0 took.1 in
+      let named : RootsNameLinked m n.hand =
+      roots_now defers fixed s id (place had) h at a new word m n.hand over (same_named word new (marked_block word bits small) (h.roots a word took.0)) (λ c e ne f. f) in
+      let still : had_in (seen_in word) ≡ had_in had = seen_hand T (block_in word) (block_in word == 0) ∙ sym none in
+      users defers fixed s id t h place carries had at m n (seen_in word) (record {
+        came = over.came;
+        memory = refl;
+        row = refl;
+        uses = refl;
+        in_hand = marked_known defers fixed s t h inside a word m took.0 (block_in word == 0) refl;
+        hands = λ j c x ne e q. refl;
+        sole = λ j c x ne e q p. ne (h.sole j id c x (place had) e at q (carries.hand had ∙ sym still ∙ p));
+        values = λ c some some2. over.values c;
+        held = λ b c held. held;
+        over = λ e c held. refl;
+        roots = named;
+        rooted = rooted_still defers fixed s id (place had) h at a new word m over;
+        passes = over.passes;
+      }) so is
+    where
+      same_named : (word new : ℕ) → block_in new ≡ block_in word → (block_in word ≡ 0) ⊎ (w.hand (block_in word) ≡ world.InUse a)
+          → (block_in new ≡ 0) ⊎ (w.hand (block_in new) ≡ world.InUse a)
+      same_named word new same (inl none) = inl (same ∙ none)
+      same_named word new same (inr linked) = inr (ap w.hand same ∙ linked)
 
 beside_hand : {T : Type 0} (b : ℕ) (x : T) (a : ℕ) (y : Bool) → had_in (if y then Made b x else Both b x a) ≡ Some b
 beside_hand b x a true = refl
@@ -216,6 +258,16 @@ module _ {T : Type 0} (defers : T → Option ℕ) (fixed : Fixed) (s : State T (
   sees a (Taken x) m took so is = absurd took.0
   sees a (Roomed x) m took so is = absurd took.0
 
+  marks_there : (a bits : ℕ) → bits < 2 ^ 11 → (out : Out T) (m : Mem T) → Took s.memory (Or (Root a) bits) out m → (so : View T → Type 0)
+      → ((word : ℕ) → out ≡ Found word → so (Inside t (seen_in word))) → Leads defers fixed s m id so
+  marks_there a bits small (Found word) m took so is =
+      marks defers fixed s id t (Inside t) (within t) had h at a bits word m small none (inside_of s.world t had (h.seats id (Inside t had) at).slot) took so (is word refl)
+  marks_there a bits small Stored m took so is = absurd took.0
+  marks_there a bits small (Exchanged x) m took so is = absurd took.0
+  marks_there a bits small (OutMade x) m took so is = absurd took.0
+  marks_there a bits small (Taken x) m took so is = absurd took.0
+  marks_there a bits small (Roomed x) m took so is = absurd took.0
+
 -- within a section what was seen is let go, without an operation
 pub forgets : {T : Type 0} (defers : T → Option ℕ) (fixed : Fixed) (id t : ℕ) (had : Has T) → had_in had ≡ None
     → TurnsTo defers fixed id (Inside t had) (λ x. x ≡ Inside t Nothing)
@@ -238,63 +290,78 @@ module _ (T : Type 0) (defers : T → Option ℕ) where
   roots_are_seen (Both b x c) a fixed id t free lt s h at = absurd free
   roots_are_seen (Cut b) a fixed id t free lt s h at = absurd free
 
+  pub roots_are_marked : RootsAreMarked T defers
+  roots_are_marked Nothing a bits fixed id t free small lt s h at = (
+    root_can defers fixed s id (Inside t Nothing) h at a lt,
+    λ out m took. marks_there defers fixed s id t Nothing refl h at a bits small out m took (told defers (Inside t Nothing) (Or (Root a) bits) out)
+        (λ word e. subst (λ (o : Out T). told defers (Inside t Nothing) (Or (Root a) bits) o (Inside t (seen_in word))) (sym e) (seen_in word, refl, refl)),
+  )
+  roots_are_marked (Seen b) a bits fixed id t free small lt s h at = (
+    root_can defers fixed s id (Inside t (Seen b)) h at a lt,
+    λ out m took. marks_there defers fixed s id t (Seen b) refl h at a bits small out m took (told defers (Inside t (Seen b)) (Or (Root a) bits) out)
+        (λ word e. subst (λ (o : Out T). told defers (Inside t (Seen b)) (Or (Root a) bits) o (Inside t (seen_in word))) (sym e) (seen_in word, refl, refl)),
+  )
+  roots_are_marked (Made b x) a bits fixed id t free small lt s h at = absurd free
+  roots_are_marked (Both b x c) a bits fixed id t free small lt s h at = absurd free
+  roots_are_marked (Cut b) a bits fixed id t free small lt s h at = absurd free
+
   pub made_are_linked : MadeAreLinked T defers
-  made_are_linked b x a fixed id t lt s h at = (
+  made_are_linked b x a word fixed id t names lt s h at = (
     root_can defers fixed s id (Inside t (Made b x)) h at a lt,
-    swaps defers fixed s id t (Inside t) (within t) (Made b x) h at b x a (h.seats id (Inside t (Made b x)) at).known refl
-        (told defers (Inside t (Made b x)) (Swap (Root a) (link_to b))) (λ old. (cut_in old, refl, refl)),
+    swaps defers fixed s id t (Inside t) (within t) (Made b x) h at b x a word names (h.seats id (Inside t (Made b x)) at).known refl
+        (told defers (Inside t (Made b x)) (Swap (Root a) word)) (λ old. (cut_in old, refl, refl)),
   )
 
   pub own_are_linked : OwnAreLinked T defers
-  own_are_linked b x a fixed id lt s h at = (
+  own_are_linked b x a word fixed id names lt s h at = (
     root_can defers fixed s id (Brings b x) h at a lt,
-    swaps defers fixed s id 0 alone_with alone_carries (Made b x) h at b x a (h.seats id (Brings b x) at).known refl
-        (told defers (Brings b x) (Swap (Root a) (link_to b))) (λ old. (cut_in old, refl, refl)),
+    swaps defers fixed s id 0 alone_with alone_carries (Made b x) h at b x a word names (h.seats id (Brings b x) at).known refl
+        (told defers (Brings b x) (Swap (Root a) word)) (λ old. (cut_in old, refl, refl)),
   )
 
   -- within a section what is there instead is seen
 
-  exchanged_there : (b c : ℕ) (x : T) (a old : ℕ) (fixed : Fixed) (id t : ℕ) (had : Has T) → had_in had ≡ Some c → c ≡ b → (s : State T (View T) (World T))
+  exchanged_there : (b c : ℕ) (x : T) (a old link : ℕ) → block_in link ≡ b → (fixed : Fixed) (id t : ℕ) (had : Has T) → had_in had ≡ Some c → c ≡ b → (s : State T (View T) (World T))
       → (h : Holds defers fixed s) → view_of s id ≡ Some (Inside t had) → IsMade s.world c x → (so : Out T → View T → Type 0)
-      → so (Exchanged (Ok old)) (Inside t (cut_in old)) → ((word : ℕ) → so (Exchanged (Err word)) (Inside t (made_beside b x (block_in word)))) → (out : Out T)
-      → (m : Mem T) → Took s.memory (Exchange (Root a) old (link_to b)) out m → Leads defers fixed s m id (so out)
-  exchanged_there b c x a old fixed id t had has is s h at made so cut other =
+      → so (Exchanged (Ok old)) (Inside t (cut_in old)) → ((word : ℕ) → word ≢ old → so (Exchanged (Err word)) (Inside t (made_beside b x (block_in word))))
+      → (out : Out T) (m : Mem T) → Took s.memory (Exchange (Root a) old link) out m → Leads defers fixed s m id (so out)
+  exchanged_there b c x a old link names fixed id t had has is s h at made so cut other =
       let made_so = subst (λ (k : ℕ). IsMade s.world k x) is made in
-      exchanges defers fixed s id t (Inside t) (within t) had h at b x a old made_so (has ∙ ap Some is) so cut
-      (λ word e. (
+      exchanges defers fixed s id t (Inside t) (within t) had h at b x a old link names made_so (has ∙ ap Some is) so cut
+      (λ word e ne. (
         made_beside b x (block_in word),
         beside_known defers fixed s t h (inside_of s.world t had (h.seats id (Inside t had) at).slot) b x a word made_so e (block_in word == 0) refl,
         beside_hand b x (block_in word) (block_in word == 0) ∙ ap Some (sym is) ∙ sym has,
-        other word,
+        other word ne,
       ))
 
   pub made_are_exchanged : MadeAreExchanged T defers
-  made_are_exchanged (Made c x) b a old fixed id t is lt s h at = (
+  made_are_exchanged (Made c x) b a old link fixed id t is names lt s h at = (
     root_can defers fixed s id (Inside t (Made c x)) h at a lt,
-    exchanged_there b c x a old fixed id t (Made c x) refl is s h at (h.seats id (Inside t (Made c x)) at).known
-        (told defers (Inside t (Made c x)) (Exchange (Root a) old (link_to b))) (cut_in old, refl, refl)
-        (λ word. (made_beside b x (block_in word), ap (λ (k : ℕ). made_beside k x (block_in word)) (sym is), refl)),
+    exchanged_there b c x a old link names fixed id t (Made c x) refl is s h at (h.seats id (Inside t (Made c x)) at).known
+        (told defers (Inside t (Made c x)) (Exchange (Root a) old link)) (cut_in old, refl, refl)
+        (λ word ne. (made_beside b x (block_in word), (ne, ap (λ (k : ℕ). made_beside k x (block_in word)) (sym is)), refl)),
   )
-  made_are_exchanged (Both c x d) b a old fixed id t is lt s h at = (
+  made_are_exchanged (Both c x d) b a old link fixed id t is names lt s h at = (
     root_can defers fixed s id (Inside t (Both c x d)) h at a lt,
-    exchanged_there b c x a old fixed id t (Both c x d) refl is s h at (h.seats id (Inside t (Both c x d)) at).known.0
-        (told defers (Inside t (Both c x d)) (Exchange (Root a) old (link_to b))) (cut_in old, refl, refl)
-        (λ word. (made_beside b x (block_in word), ap (λ (k : ℕ). made_beside k x (block_in word)) (sym is), refl)),
+    exchanged_there b c x a old link names fixed id t (Both c x d) refl is s h at (h.seats id (Inside t (Both c x d)) at).known.0
+        (told defers (Inside t (Both c x d)) (Exchange (Root a) old link)) (cut_in old, refl, refl)
+        (λ word ne. (made_beside b x (block_in word), (ne, ap (λ (k : ℕ). made_beside k x (block_in word)) (sym is)), refl)),
   )
-  made_are_exchanged Nothing b a old fixed id t is lt s h at = absurd is
-  made_are_exchanged (Seen c) b a old fixed id t is lt s h at = absurd is
-  made_are_exchanged (Cut c) b a old fixed id t is lt s h at = absurd is
+  made_are_exchanged Nothing b a old link fixed id t is names lt s h at = absurd is
+  made_are_exchanged (Seen c) b a old link fixed id t is names lt s h at = absurd is
+  made_are_exchanged (Cut c) b a old link fixed id t is names lt s h at = absurd is
 
   pub own_are_exchanged : OwnAreExchanged T defers
-  own_are_exchanged b x a old fixed id lt s h at = (
+  own_are_exchanged b x a old link fixed id names lt s h at = (
     root_can defers fixed s id (Brings b x) h at a lt,
-    exchanges defers fixed s id 0 alone_with alone_carries (Made b x) h at b x a old (h.seats id (Brings b x) at).known refl
-        (told defers (Brings b x) (Exchange (Root a) old (link_to b))) (cut_in old, refl, refl)
-        (λ word e. (
+    exchanges defers fixed s id 0 alone_with alone_carries (Made b x) h at b x a old link names (h.seats id (Brings b x) at).known refl
+        (told defers (Brings b x) (Exchange (Root a) old link)) (cut_in old, refl, refl)
+        (λ word e ne. (
           Made b x,
           (h.seats id (Brings b x) at).known,
           refl,
-          (made_beside b x (block_in word), refl, beside_alone b x (block_in word) (block_in word == 0)),
+          (made_beside b x (block_in word), (ne, refl), beside_alone b x (block_in word) (block_in word == 0)),
         )),
   )
 

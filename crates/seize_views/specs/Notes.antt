@@ -1,7 +1,7 @@
 -- The rule with what each seat has done last: it is noted as it is done, and whatever a seat may do by what it knows it may do.
 use Rattle.std.specs.Prelude.{◌≡◌, ◌≢◌, ◌+◌, ◌<◌, ℕ, Option, Some, None, Ok, Err, map}
 use Rattle.seize_words.specs.Word.{block_in}
-use Rattle.seize_words.specs.Op.{Op, Out, Load, Swap, Exchange, Found, Exchanged}
+use Rattle.seize_words.specs.Op.{Op, Out, Load, Swap, Or, Exchange, Found, Exchanged}
 use Rattle.seize_words.specs.declared.at.At.TheVariants.{Root}
 use Rattle.seize.specs.declared.rows.settle.Settle.{Settle}
 use Rattle.seize.specs.World.{World}
@@ -15,7 +15,7 @@ use Rattle.seize_views.specs.Promises.{IsToSettle, IsTaker}
 use Rattle.seize_views.specs.Watched.{open_at, IsOwn, Stays, known_by, AreGuarded}
 use Rattle.seize_views.specs.declared.view.Noted.{Noted}
 use Rattle.seize_views.specs.declared.view.Deed.{Deed}
-use Rattle.seize_views.specs.declared.view.Deed.TheVariants.{NoneYet, Looked, Wrote}
+use Rattle.seize_views.specs.declared.view.Deed.TheVariants.{NoneYet, Looked, Wrote, Marked}
 use Rattle.seize_views.specs.declared.view.Began.{Began}
 use Rattle.seize_views.specs.declared.view.Began.TheVariants.{NotYet}
 use Rattle.seize_views.specs.declared.view.View.{View}
@@ -49,10 +49,11 @@ module _ {T : Type 0} where
 
   -- what was done at a root, by who has made a block of this value, or none
   abbrev pub deed_at : Option T → Deed T → Op T → Out T → Deed T
-  deed_at made did (Load (Root r)) (Found word) = Looked r (block_in word)
-  deed_at made did (Swap (Root r) word) (Found old) = Wrote r made (block_in old)
-  deed_at made did (Exchange (Root r) old new) (Exchanged (Ok was)) = Wrote r made (block_in old)
-  deed_at made did (Exchange (Root r) old new) (Exchanged (Err now)) = Looked r (block_in now)
+  deed_at made did (Load (Root r)) (Found word) = Looked r word
+  deed_at made did (Swap (Root r) word) (Found old) = Wrote r word made old
+  deed_at made did (Or (Root r) bits) (Found word) = Marked r bits word
+  deed_at made did (Exchange (Root r) old new) (Exchanged (Ok was)) = Wrote r new made old
+  deed_at made did (Exchange (Root r) old new) (Exchanged (Err now)) = Looked r now
   deed_at made did op out = did
 
   abbrev pub deed : View T → Deed T → Op T → Out T → Deed T
@@ -61,6 +62,16 @@ module _ {T : Type 0} where
   deed (Brings b x) did op out = deed_at (Some x) did op out
   deed (Watches t b) did op out = deed_at None did op out
   deed v did op out = did
+
+  -- it has looked at a root, or had a word there compared: where, and which block that named, 0 for none
+  abbrev pub looked_at : Deed T → Option (ℕ × ℕ)
+  looked_at (Looked r word) = Some (r, block_in word)
+  looked_at _ = None
+
+  -- it has written at a root: where, a link to a block of which value, or to none, and in place of which block, 0 for none
+  abbrev pub written_at : Deed T → Option (ℕ × Option T × ℕ)
+  written_at (Wrote r word made old) = Some (r, made, block_in old)
+  written_at _ = None
 
   -- two views have the same notes
   abbrev pub SameNotes : Noted T → Noted T → Type 0

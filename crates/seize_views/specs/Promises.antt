@@ -1,8 +1,8 @@
 -- What is promised of the rule: it may start, seats may come, and each row may begin, go on and end, whatever the other seats do; and what a seat may do with
 -- blocks within its section.
-use Rattle.std.specs.Prelude.{◌≡◌, ◌<◌, ◌⊎◌, ℕ, Option, Some, None}
-use Rattle.seize_words.specs.Word.{link_to}
-use Rattle.seize_words.specs.Op.{Op, Load, Store, Swap, Exchange, Make, Take}
+use Rattle.std.specs.Prelude.{◌≡◌, ◌<◌, ◌^◌, ◌⊎◌, ℕ, Option, Some, None}
+use Rattle.seize_words.specs.Word.{block_in, link_to}
+use Rattle.seize_words.specs.Op.{Op, Load, Store, Swap, Or, Exchange, Make, Take}
 use Rattle.seize_words.specs.Plan.{Plan, Turn, Do}
 use Rattle.seize_words.specs.declared.at.At.TheVariants.{Root, Slot}
 use Rattle.seize.specs.declared.states.TheConstants.{HEAD, FREE, ACTIVE}
@@ -126,24 +126,30 @@ module _ (T : Type 0) (defers : T → Option ℕ) where
   abbrev pub MadeAreTaken : Type 0
   MadeAreTaken = (has : Has T) (b : ℕ) → HasMade has b → MayInside has (Take b)
 
-  -- it may be put at a root in place of what is there, or only in place of this word
+  -- it may be put at a root, by a word that links to it, in place of what is there, or only in place of this word
   abbrev pub MadeAreLinked : Type 0
   MadeAreLinked =
-      (b : ℕ) (x : T) (r : ℕ) (fixed : Fixed) (id t : ℕ) → r < fixed.roots
-      → Permits defers fixed id (Inside t (Made b x)) (Swap (Root r) (link_to b)) (told defers (Inside t (Made b x)) (Swap (Root r) (link_to b)))
+      (b : ℕ) (x : T) (r word : ℕ) (fixed : Fixed) (id t : ℕ) → block_in word ≡ b → r < fixed.roots
+      → Permits defers fixed id (Inside t (Made b x)) (Swap (Root r) word) (told defers (Inside t (Made b x)) (Swap (Root r) word))
 
   abbrev pub MadeAreExchanged : Type 0
   MadeAreExchanged =
-      (has : Has T) (b r old : ℕ) (fixed : Fixed) (id t : ℕ) → HasMade has b → r < fixed.roots
-      → Permits defers fixed id (Inside t has) (Exchange (Root r) old (link_to b))
-      (told defers (Inside t has) (Exchange (Root r) old (link_to b)))
+      (has : Has T) (b r old word : ℕ) (fixed : Fixed) (id t : ℕ) → HasMade has b → block_in word ≡ b → r < fixed.roots
+      → Permits defers fixed id (Inside t has) (Exchange (Root r) old word) (told defers (Inside t has) (Exchange (Root r) old word))
 
-  -- what a root names may be seen, and taken from there
+  -- what a root names may be seen
   abbrev pub RootsAreSeen : Type 0
   RootsAreSeen =
       (has : Has T) (r : ℕ) (fixed : Fixed) (id t : ℕ) → IsLooking has → r < fixed.roots
       → Permits defers fixed id (Inside t has) (Load (Root r)) (told defers (Inside t has) (Load (Root r)))
 
+  -- or the word that names it marked: bits of its tag are set
+  abbrev pub RootsAreMarked : Type 0
+  RootsAreMarked =
+      (has : Has T) (r bits : ℕ) (fixed : Fixed) (id t : ℕ) → IsLooking has → bits < 2 ^ 11 → r < fixed.roots
+      → Permits defers fixed id (Inside t has) (Or (Root r) bits) (told defers (Inside t has) (Or (Root r) bits))
+
+  -- or it may be taken from there
   abbrev pub RootsAreCleared : Type 0
   RootsAreCleared =
       (r : ℕ) (fixed : Fixed) (id t : ℕ) → r < fixed.roots
@@ -155,8 +161,8 @@ module _ (T : Type 0) (defers : T → Option ℕ) where
       (r : ℕ) (fixed : Fixed) (id t : ℕ) → r < fixed.roots
       → Permits defers fixed id (Outside t) (Swap (Root r) 0) (told defers (Outside t) (Swap (Root r) 0))
 
-  -- Without a slot a seat may make a block with the words that its value asks for, take it away, or put it at a root, in place of what is there, or only in
-  -- place of this word.
+  -- Without a slot a seat may make a block with the words that its value asks for, take it away, or put it at a root, by a word that links to it, in place of
+  -- what is there, or only in place of this word.
   abbrev pub MayAlone : Has T → Op T → Type 0
   MayAlone has op = (fixed : Fixed) (id : ℕ) → Permits defers fixed id (alone_with has) op (told defers (alone_with has) op)
 
@@ -168,13 +174,13 @@ module _ (T : Type 0) (defers : T → Option ℕ) where
 
   abbrev pub OwnAreLinked : Type 0
   OwnAreLinked =
-      (b : ℕ) (x : T) (r : ℕ) (fixed : Fixed) (id : ℕ) → r < fixed.roots
-      → Permits defers fixed id (Brings b x) (Swap (Root r) (link_to b)) (told defers (Brings b x) (Swap (Root r) (link_to b)))
+      (b : ℕ) (x : T) (r word : ℕ) (fixed : Fixed) (id : ℕ) → block_in word ≡ b → r < fixed.roots
+      → Permits defers fixed id (Brings b x) (Swap (Root r) word) (told defers (Brings b x) (Swap (Root r) word))
 
   abbrev pub OwnAreExchanged : Type 0
   OwnAreExchanged =
-      (b : ℕ) (x : T) (r old : ℕ) (fixed : Fixed) (id : ℕ) → r < fixed.roots
-      → Permits defers fixed id (Brings b x) (Exchange (Root r) old (link_to b)) (told defers (Brings b x) (Exchange (Root r) old (link_to b)))
+      (b : ℕ) (x : T) (r old word : ℕ) (fixed : Fixed) (id : ℕ) → block_in word ≡ b → r < fixed.roots
+      → Permits defers fixed id (Brings b x) (Exchange (Root r) old word) (told defers (Brings b x) (Exchange (Root r) old word))
 
   -- the block that it has is there, with the value that it was made of; or it was unlinked, and is there, too
   abbrev pub OwnAreShown : Type 0

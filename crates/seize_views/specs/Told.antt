@@ -1,8 +1,8 @@
 -- What an operation tells its seat.
-use Rattle.std.specs.Prelude.{◌≡◌, ◌<◌, ◌^◌, ℕ, ◌==◌, Option, Some, None, Ok, Err, nat_lt, if◌then◌else◌}
+use Rattle.std.specs.Prelude.{◌≡◌, ◌≢◌, ◌<◌, ◌^◌, ℕ, ◌==◌, Option, Some, None, Ok, Err, nat_lt, if◌then◌else◌}
 use Rattle.seize_words.specs.Mem.{Mem, Took, value_at}
 use Rattle.seize_words.specs.Word.{block_in}
-use Rattle.seize_words.specs.Op.{Op, Out, Load, Swap, Exchange, Make, Take, Found, Made as OutMade, Taken, Exchanged}
+use Rattle.seize_words.specs.Op.{Op, Out, Load, Swap, Or, Exchange, Make, Take, Found, Made as OutMade, Taken, Exchanged}
 use Rattle.seize_words.specs.Plan.{Plan, Turn, Do, Ends}
 use Rattle.seize_words.specs.declared.at.At.TheVariants.{Root}
 use Rattle.seize.specs.declared.states.TheConstants.{ACTIVE}
@@ -41,7 +41,7 @@ abbrev pub cut_in : {T : Type 0} → ℕ → Has T
 cut_in word = cut_as (block_in word)
 
 -- what a seat within a section comes to know: it makes a block, takes it away again, or puts it at a root, whatever is there or only in place of this word;
--- sees what a root names, or takes it from there
+-- sees what a root names, marks that or not, or takes it from there
 abbrev pub has_told : {T : Type 0} → Has T → Op T → Out T → Has T → Type 0
 has_told Nothing (Make value words) (OutMade (Ok b)) after = (b < 2 ^ 53) × (after ≡ Made b value)
 has_told Nothing (Make value words) (OutMade (Err back)) after = (back ≡ value) × (after ≡ Nothing)
@@ -52,11 +52,13 @@ has_told (Both b x a) (Take c) (Taken value) after = (value ≡ x) × (after ≡
 has_told (Made b x) (Swap (Root r) word) (Found old) after = after ≡ cut_in old
 has_told Nothing (Swap (Root r) word) (Found old) after = after ≡ cut_in old
 has_told (Made b x) (Exchange (Root r) old new) (Exchanged (Ok was)) after = after ≡ cut_in old
-has_told (Made b x) (Exchange (Root r) old new) (Exchanged (Err word)) after = after ≡ made_beside b x (block_in word)
+has_told (Made b x) (Exchange (Root r) old new) (Exchanged (Err word)) after = (word ≢ old) × (after ≡ made_beside b x (block_in word))
 has_told (Both b x a) (Exchange (Root r) old new) (Exchanged (Ok was)) after = after ≡ cut_in old
-has_told (Both b x a) (Exchange (Root r) old new) (Exchanged (Err word)) after = after ≡ made_beside b x (block_in word)
+has_told (Both b x a) (Exchange (Root r) old new) (Exchanged (Err word)) after = (word ≢ old) × (after ≡ made_beside b x (block_in word))
 has_told Nothing (Load (Root r)) (Found word) after = after ≡ seen_in word
 has_told (Seen b) (Load (Root r)) (Found word) after = after ≡ seen_in word
+has_told Nothing (Or (Root r) bits) (Found word) after = after ≡ seen_in word
+has_told (Seen b) (Or (Root r) bits) (Found word) after = after ≡ seen_in word
 has_told _ op out after = ⊥
 
 -- how a seat stands that has no slot, and knows so of a block

@@ -1,7 +1,7 @@
 //! What is promised of the rule of the collector's rows.
 ghost use Rattle.seize_views.specs.Promises.{RulesStart, SeatsCome, RowsGoOn, RowsTurn, SettlingsBegin, LookedAreShown};
 ghost use Rattle.seize_views.specs.Promises.{BlocksAreMade, MadeAreTaken, MadeAreLinked, MadeAreExchanged, KnownAreShown};
-ghost use Rattle.seize_views.specs.Promises.{RootsAreSeen, RootsAreCleared, RootsAreWithdrawn};
+ghost use Rattle.seize_views.specs.Promises.{RootsAreSeen, RootsAreMarked, RootsAreCleared, RootsAreWithdrawn};
 ghost use Rattle.seize_views.specs.Notes.{StartsAreNoted, ComingsAreNoted, StepsAreNoted, TurnsAreNoted, SettlingsAreNoted, MeetingsAreNoted, LooksAreNoted};
 ghost use Rattle.seize_views.specs.Notes.{WatchesBegin, WatchesEnd, WatchersSee, WatchedAreShown};
 ghost use Rattle.seize_views.specs.Promises.{OwnAreMade, OwnAreTaken, OwnAreLinked, OwnAreExchanged, OwnAreShown, BorneAreShown, BorneAreHandedOn};
@@ -18,7 +18,7 @@ pub fn rows_go_on<T: Defers>()
     ensures looked { LookedAreShown T T.defers }
 {}
 
-/// Within a section a block may be made, taken away by its maker, put at a root, whatever is there or only in place of what was seen, seen there, and taken
+/// Within a section a block may be made, taken away by its maker, put at a root, whatever is there or only in place of a word, seen there, marked there, and taken
 /// from there, which may be done outside of a section, too; and a block that is known may be looked at.
 pub fn sections_go_on<T: Defers>()
     ensures made { BlocksAreMade T T.defers }
@@ -26,6 +26,7 @@ pub fn sections_go_on<T: Defers>()
     ensures linked { MadeAreLinked T T.defers }
     ensures exchanged { MadeAreExchanged T T.defers }
     ensures seen { RootsAreSeen T T.defers }
+    ensures marked { RootsAreMarked T T.defers }
     ensures cleared { RootsAreCleared T T.defers }
     ensures withdrawn { RootsAreWithdrawn T T.defers }
     ensures known { KnownAreShown T T.defers }

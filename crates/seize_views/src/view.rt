@@ -13,14 +13,16 @@ pub struct Noted<T> {
     pub guards: u64,
 }
 
-/// What a seat has done last at a root.
+/// What a seat has done last at a root. Words are whole ones, with their tags.
 pub enum Deed<T> {
     /// Nothing yet.
     NoneYet,
-    /// It has looked at this root, which named this block, 0 for none.
+    /// It has looked at this root, where this word was.
     Looked(u64, u64),
-    /// It has put a block of this value at this root, or none, in place of this block, 0 for none.
-    Wrote(u64, Option<T>, u64),
+    /// It has written at this root this word, which links to a block of this value, or to none, in place of this word.
+    Wrote(u64, u64, Option<T>, u64),
+    /// It has set these bits of the word at this root, which was this one before.
+    Marked(u64, u64, u64),
 }
 
 /// What a seat has begun last on a slot.

@@ -1,7 +1,7 @@
 -- What was put in the place of what was found.
 use Rattle.std.proofs.Common.{ℕ, [], ◌∷◌, ◌≡◌, ◌≢◌, Bool, true, false, Option, Some, None, IfSome, IfNone, Result, Ok, Err, IfOk, is_ok, Bor, refl, sym, inl, inr, true≢false}
 use Rattle.seize_views.specs.declared.view.Deed.{Deed}
-use Rattle.seize_views.specs.declared.view.Deed.TheVariants.{Looked, Wrote}
+use Rattle.seize_views.specs.Notes.{looked_at, written_at}
 use Rattle.shared_stack.specs.declared.pile.Pile.{Pile}
 use Rattle.shared_stack.specs.Piles.{values}
 use Rattle.shared_stack.specs.Stacks.{Replaces}
@@ -17,7 +17,7 @@ looks true so none some = so refl
 looks false so none some = absurd (some (none refl))
 
 module _ {V G : Type 0} (seen : G → ℕ) (did : G → Deed (Pile V)) (lends : G → ℕ → Pile V → Type 0) (then now : G) (root : ℕ) (pile : Pile V)
-    (looked : seen then ≢ 0 → did then ≡ Looked root (seen then)) (put : did now ≡ Wrote root (Some pile) (seen then)) where
+    (looked : seen then ≢ 0 → looked_at (did then) ≡ Some (root, seen then)) (put : written_at (did now) ≡ Some (root, Some pile, seen then)) where
   -- a value was put on top of what was lent, or of nothing
   pub pushes : (r : Option (Bor (Pile V))) (x : V) → IfSome r (λ p. lends then (seen then) p.now) → IfNone r (seen then ≡ 0)
       → IfSome r (λ p. values pile ≡ x ∷ values p.now) → IfNone r (values pile ≡ x ∷ []) → Replaces seen did lends now root (λ old new. new ≡ x ∷ old)

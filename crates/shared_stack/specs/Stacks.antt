@@ -1,7 +1,7 @@
 -- What becomes of the stack at a root.
 use Rattle.std.specs.Prelude.{ℕ, List, [], ◌≡◌, ◌≢◌, ◌⊎◌, Some}
+use Rattle.seize_views.specs.Notes.{looked_at, written_at}
 use Rattle.seize_views.specs.declared.view.Deed.{Deed}
-use Rattle.seize_views.specs.declared.view.Deed.TheVariants.{Looked, Wrote}
 use Rattle.shared_stack.specs.declared.pile.Pile.{Pile}
 use Rattle.shared_stack.specs.declared.stack.Popped.{Popped}
 use Rattle.shared_stack.specs.declared.stack.Popped.TheVariants.{Value, Empty, Missed}
@@ -13,7 +13,7 @@ use Rattle.std.specs.declared.sync.Arc.{Arc}
 module _ {V G : Type 0} (seen : G → ℕ) (did : G → Deed (Pile V)) (lends : G → ℕ → Pile V → Type 0) where
   -- a guard that had looked at this root, and found these values there: those of the block that it saw, or none where it saw none
   pub record Found (then : G) (root : ℕ) (there : List V) : Type 0 where
-    pub looked : seen then ≢ 0 → did then ≡ Looked root (seen then)
+    pub looked : seen then ≢ 0 → looked_at (did then) ≡ Some (root, seen then)
     pub lent : ((seen then ≡ 0) × (there ≡ [])) ⊎ ((pile : Pile V) × lends then (seen then) pile × (there ≡ values pile))
 
   -- a guard has put a pile at this root in the place of the block that it had found there, and its values come of those that it had found so
@@ -22,7 +22,7 @@ module _ {V G : Type 0} (seen : G → ℕ) (did : G → Deed (Pile V)) (lends : 
     pub old : List V
     pub found : Found then root old
     pub pile : Pile V
-    pub put : did now ≡ Wrote root (Some pile) (seen then)
+    pub put : written_at (did now) ≡ Some (root, Some pile, seen then)
     pub new : so old (values pile)
 
 module _ {V : Type 0} where

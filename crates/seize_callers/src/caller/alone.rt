@@ -1,14 +1,26 @@
 //! A caller without a slot, and a block of its own.
-ghost use Rattle.std.specs.Prelude.{◌≡◌, ◌<◌, ◌^◌, Some, true, false, IfOk, IfErr, IfSome, IfNone, unwrap_or};
+ghost use Rattle.std.specs.Prelude.{◌≡◌, ◌≢◌, ◌<◌, ◌+◌, ◌^◌, Some, IfOk, IfErr};
+ghost use Rattle.seize_words.specs.Word.{link_to, block_in};
 ghost use Rattle.seize_seats.specs.Lendings.{IsValueOf};
 ghost use Rattle.seize_views.specs.Notes.{NotedHolds};
 ghost use Rattle.seize_callers.specs.Owning.{borne_by, brought_by};
-ghost use Rattle.seize_views.specs.declared.view.Deed.TheVariants.{Wrote};
-ghost use Rattle.seize_views.specs.declared.view.View.TheVariants.{Bears, Brings, Rests};
+ghost use Rattle.seize_views.specs.Told.{alone_with, cut_in};
+ghost use Rattle.seize_views.specs.declared.view.Deed.TheVariants.{Looked, Wrote};
+ghost use Rattle.seize_views.specs.declared.view.View.TheVariants.{Brings, Rests};
 
-use crate::caller::{Caller, named, words_for};
+use crate::caller::{Caller, words_for};
 use seize::rows::Defers;
 use seize_words::{At, Link};
+
+/// The word that links to a block, with these marks.
+fn marked(block: u64, marks: u64) -> u64
+    requires fits { block < 2 ^ 53 }
+    requires marks { marks < 8 }
+    ensures word { result ≡ link_to block + marks }
+    ensures names { block_in result ≡ block }
+{
+    Link::to(block).wrapping_add(marks)
+}
 
 impl<'a, T: Defers> Caller<'a, T> {
     /// Makes its own block; a number is looked for from `near` on, which says then where to look next. Without words for it, or memory, the value comes back.
@@ -43,36 +55,44 @@ impl<'a, T: Defers> Caller<'a, T> {
         self.blocks.take(&mut self.seat, block)
     }
 
-    /// Puts its own block at a root, and answers which one was there, and is to be handed on.
-    pub fn links(&mut self, root: u64, block: u64) -> Option<u64>
+    /// Puts its own block at a root, by a word with these marks, and answers which word was there: the block that it names is to be handed on.
+    pub fn links(&mut self, root: u64, block: u64, marks: u64) -> u64
         requires brings { brought_by self.old.seat.view.knows ≡ Some block }
         requires root { root < self.old.blocks.now.words.fixed.roots }
         requires fits { block < 2 ^ 53 }
-        ensures bears { IfSome result (λ old. (self.new.seat.view.knows ≡ Bears old) × (old < 2 ^ 53)) }
-        ensures none { IfNone result (self.new.seat.view.knows ≡ Rests) }
+        requires marks { marks < 8 }
+        ensures is { self.new.seat.view.knows ≡ alone_with (cut_in result) }
         ensures put { (value : T) → self.old.seat.view.knows ≡ Brings block value
-            → self.new.seat.view.did ≡ Wrote root (Some value) (unwrap_or result 0) }
+            → self.new.seat.view.did ≡ Wrote root (link_to block + marks) (Some value) result }
         ensures blocks { self.new.blocks ≡ self.old.blocks }
     {
-        let old = self
-            .blocks
-            .swap(&mut self.seat, At::Root(root), Link::to(block));
-        named(old)
+        let word = marked(block, marks);
+        self.blocks.swap(&mut self.seat, At::Root(root), word)
     }
 
-    /// Puts its own block at a root where none is, and tells whether it has.
-    pub fn places(&mut self, root: u64, block: u64) -> bool
+    /// Puts its own block at a root, by a word with these marks, where this word is, whose block is to be handed on then. Else it answers which word is there.
+    pub fn exchanges(&mut self, root: u64, old: u64, block: u64, marks: u64) -> Result<(), u64>
         requires brings { brought_by self.old.seat.view.knows ≡ Some block }
         requires root { root < self.old.blocks.now.words.fixed.roots }
         requires fits { block < 2 ^ 53 }
-        ensures put { result ≡ true → self.new.seat.view.knows ≡ Rests }
-        ensures still { result ≡ false → brought_by self.new.seat.view.knows ≡ Some block }
-        ensures same { (value : T) → result ≡ false → self.old.seat.view.knows ≡ Brings block value → self.new.seat.view.knows ≡ Brings block value }
+        requires marks { marks < 8 }
+        ensures is { IfOk result (λ _. self.new.seat.view.knows ≡ alone_with (cut_in old)) }
+        ensures put { IfOk result (λ _. (value : T) → self.old.seat.view.knows ≡ Brings block value
+            → self.new.seat.view.did ≡ Wrote root (link_to block + marks) (Some value) old) }
+        ensures other { IfErr result (λ now. now ≢ old) }
+        ensures looked { IfErr result (λ now. self.new.seat.view.did ≡ Looked root now) }
+        ensures still { IfErr result (λ now. brought_by self.new.seat.view.knows ≡ Some block) }
+        ensures same { IfErr result (λ now. (value : T) → self.old.seat.view.knows ≡ Brings block value → self.new.seat.view.knows ≡ Brings block value) }
         ensures blocks { self.new.blocks ≡ self.old.blocks }
     {
-        self.blocks
-            .exchange(&mut self.seat, At::Root(root), 0, Link::to(block))
-            .is_ok()
+        let word = marked(block, marks);
+        match self
+            .blocks
+            .exchange(&mut self.seat, At::Root(root), old, word)
+        {
+            Ok(_) => Ok(()),
+            Err(now) => Err(now),
+        }
     }
 
     /// The value of the block that it has unlinked, for as long as it is borrowed.
@@ -81,5 +101,17 @@ impl<'a, T: Defers> Caller<'a, T> {
         ensures { IsValueOf (NotedHolds T.defers self.now.blocks.now.words.fixed) self.now.seat.id self.now.seat.view block result.now }
     {
         self.blocks.value(&self.seat, block)
+    }
+
+    /// Lets the block be that it has unlinked: nobody retires it, and it is there until the memory ends.
+    pub fn keeps(self, _block: u64)
+        requires bears { borne_by self.seat.view.knows ≡ Some _block }
+    {
+        let Caller {
+            blocks: _,
+            batch_size: _,
+            seat: _,
+            near: _,
+        } = self;
     }
 }

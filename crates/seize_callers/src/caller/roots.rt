@@ -2,10 +2,10 @@
 ghost use Rattle.std.specs.Prelude.{◌≡◌, ◌≢◌, ◌<◌, ◌^◌, Some, None, IfOk, IfErr, IfSome, IfNone, unwrap_or};
 ghost use Rattle.seize_seats.specs.Lendings.{IsValueOf};
 ghost use Rattle.seize_views.specs.Promises.{IsLooking, IsTaker};
-ghost use Rattle.seize_views.specs.Notes.{NotedHolds};
-ghost use Rattle.seize_views.specs.Told.{seen_as, cut_as, made_beside};
+ghost use Rattle.seize_views.specs.Notes.{NotedHolds, looked_at, written_at};
+ghost use Rattle.seize_views.specs.Told.{seen_as, seen_in, cut_as, made_beside};
 ghost use Rattle.seize_callers.specs.Owning.{borne_by};
-ghost use Rattle.seize_views.specs.declared.view.Deed.TheVariants.{Looked, Wrote};
+ghost use Rattle.seize_views.specs.declared.view.Deed.TheVariants.{Looked, Marked};
 ghost use Rattle.seize_views.specs.declared.view.View.TheVariants.{Rests, Outside, Owes, Inside};
 ghost use Rattle.seize_views.specs.declared.view.Has.{Has};
 ghost use Rattle.seize_views.specs.declared.view.Has.TheVariants.{Nothing, Made, Seen, Cut};
@@ -76,7 +76,7 @@ impl<'a, T: Defers> Caller<'a, T> {
         ensures cut { IfSome result (λ old. (self.new.seat.view.knows ≡ Inside _slot (Cut old)) × (old < 2 ^ 53)) }
         ensures none { IfNone result (self.new.seat.view.knows ≡ Inside _slot Nothing) }
         ensures put { (value : T) → self.old.seat.view.knows ≡ Inside _slot (Made block value)
-            → self.new.seat.view.did ≡ Wrote root (Some value) (unwrap_or result 0) }
+            → written_at self.new.seat.view.did ≡ Some (root, Some value, unwrap_or result 0) }
         ensures blocks { self.new.blocks ≡ self.old.blocks }
         ensures guards { self.new.seat.view.guards ≡ self.old.seat.view.guards }
     {
@@ -97,8 +97,8 @@ impl<'a, T: Defers> Caller<'a, T> {
             → self.new.seat.view.knows ≡ Inside _slot (made_beside block value now)) }
         ensures small { IfErr result (λ now. now < 2 ^ 53) }
         ensures put { IfOk result (λ _. (value : T) → self.old.seat.view.knows ≡ Inside _slot (made_beside block value seen)
-            → self.new.seat.view.did ≡ Wrote root (Some value) seen) }
-        ensures looked { IfErr result (λ now. self.new.seat.view.did ≡ Looked root now) }
+            → written_at self.new.seat.view.did ≡ Some (root, Some value, seen)) }
+        ensures looked { IfErr result (λ now. looked_at self.new.seat.view.did ≡ Some (root, now)) }
         ensures blocks { self.new.blocks ≡ self.old.blocks }
         ensures guards { self.new.seat.view.guards ≡ self.old.seat.view.guards }
     {
@@ -119,7 +119,7 @@ impl<'a, T: Defers> Caller<'a, T> {
         requires root { root < self.old.blocks.now.words.fixed.roots }
         ensures cut { IfSome result (λ old. (self.new.seat.view.knows ≡ Inside _slot (Cut old)) × (old < 2 ^ 53) × (old ≢ 0)) }
         ensures none { IfNone result (self.new.seat.view.knows ≡ Inside _slot Nothing) }
-        ensures took { self.new.seat.view.did ≡ Wrote root None (unwrap_or result 0) }
+        ensures took { written_at self.new.seat.view.did ≡ Some (root, None, unwrap_or result 0) }
         ensures blocks { self.new.blocks ≡ self.old.blocks }
         ensures guards { self.new.seat.view.guards ≡ self.old.seat.view.guards }
     {
@@ -133,7 +133,7 @@ impl<'a, T: Defers> Caller<'a, T> {
         requires root { root < self.old.blocks.now.words.fixed.roots }
         ensures owes { IfSome result (λ old. (self.new.seat.view.knows ≡ Owes _slot old) × (old < 2 ^ 53) × (old ≢ 0)) }
         ensures none { IfNone result (self.new.seat.view.knows ≡ Outside _slot) }
-        ensures took { self.new.seat.view.did ≡ Wrote root None (unwrap_or result 0) }
+        ensures took { written_at self.new.seat.view.did ≡ Some (root, None, unwrap_or result 0) }
         ensures blocks { self.new.blocks ≡ self.old.blocks }
         ensures guards { self.new.seat.view.guards ≡ self.old.seat.view.guards }
     {
@@ -166,12 +166,37 @@ impl<'a, T: Defers> Caller<'a, T> {
         ensures seen { IfSome result (λ block. self.new.seat.view.knows ≡ Inside _slot (Seen block)) }
         ensures some { IfSome result (λ block. (block ≢ 0) × (block < 2 ^ 53)) }
         ensures none { IfNone result (self.new.seat.view.knows ≡ Inside _slot Nothing) }
-        ensures looked { self.new.seat.view.did ≡ Looked root (unwrap_or result 0) }
+        ensures looked { looked_at self.new.seat.view.did ≡ Some (root, unwrap_or result 0) }
         ensures blocks { self.new.blocks ≡ self.old.blocks }
         ensures guards { self.new.seat.view.guards ≡ self.old.seat.view.guards }
     {
-        let word = self.blocks.load(&mut self.seat, At::Root(root));
+        let word = self.protect(_slot, root);
         named(word)
+    }
+
+    /// Sees which word is at a root. Its section holds the block that it names from now on. What it has seen before it doesn't know any more.
+    pub fn protect(&mut self, _slot: u64, root: u64) -> u64
+        requires inside { (has : Has T) × IsLooking has × (self.old.seat.view.knows ≡ Inside _slot has) }
+        requires root { root < self.old.blocks.now.words.fixed.roots }
+        ensures seen { self.new.seat.view.knows ≡ Inside _slot (seen_in result) }
+        ensures looked { self.new.seat.view.did ≡ Looked root result }
+        ensures blocks { self.new.blocks ≡ self.old.blocks }
+        ensures guards { self.new.seat.view.guards ≡ self.old.seat.view.guards }
+    {
+        self.blocks.load(&mut self.seat, At::Root(root))
+    }
+
+    /// Sets bits of the tag of the word at a root, and answers which word was there: it has seen the block that this names.
+    pub fn mark(&mut self, _slot: u64, root: u64, bits: u64) -> u64
+        requires inside { (has : Has T) × IsLooking has × (self.old.seat.view.knows ≡ Inside _slot has) }
+        requires root { root < self.old.blocks.now.words.fixed.roots }
+        requires bits { bits < 2 ^ 11 }
+        ensures seen { self.new.seat.view.knows ≡ Inside _slot (seen_in result) }
+        ensures marked { self.new.seat.view.did ≡ Marked root bits result }
+        ensures blocks { self.new.blocks ≡ self.old.blocks }
+        ensures guards { self.new.seat.view.guards ≡ self.old.seat.view.guards }
+    {
+        self.blocks.or(&mut self.seat, At::Root(root), bits)
     }
 
     /// The value of a block that it has seen, for as long as it is borrowed: whoever retires the block meanwhile, its section holds it.

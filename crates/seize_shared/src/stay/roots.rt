@@ -1,19 +1,39 @@
 //! What who holds a slot does at roots, and with those who watch its section, where rows are all there is.
-ghost use Rattle.std.specs.Prelude.{◌≡◌, ◌≢◌, ◌<◌, ◌+◌, ◌-◌, ◌^◌, ◌⊎◌, ℕ, None, Some, IfOk, IfErr, IfNone, IfSome, true, false};
+ghost use Rattle.std.specs.Prelude.{◌≡◌, ◌≢◌, ◌<◌, ◌+◌, ◌-◌, ◌^◌, ◌%◌, ◌⊎◌, ℕ, None, Some, IfOk, IfErr, IfNone, IfSome, IsSome, true, false};
+ghost use Rattle.seize_words.specs.Word.{block_in};
 ghost use Rattle.seize_callers.specs.Owning.{borne_by};
-ghost use Rattle.seize_shared.specs.Deeds.{has_put, has_taken};
-ghost use Rattle.seize_shared.specs.Lent.{IsLent};
+ghost use Rattle.seize_guards.specs.Deeds.{has_put, has_taken};
+ghost use Rattle.seize_guards.specs.Lent.{IsLent};
 ghost use Rattle.seize_callers.specs.Given.SeizeViewsDeclared.view.Began.TheVariants.{Retirement};
-ghost use Rattle.seize_callers.specs.Given.SeizeViewsDeclared.view.Deed.TheVariants.{Looked, Wrote};
-ghost use Rattle.seize_callers.specs.Given.SeizeViewsDeclared.view.View.TheVariants.{Rests, Watches};
+ghost use Rattle.seize_callers.specs.Given.SeizeViewsNotes.{looked_at, written_at};
+ghost use Rattle.seize_callers.specs.Given.SeizeViewsDeclared.view.Deed.TheVariants.{Looked, Marked};
+ghost use Rattle.seize_callers.specs.Given.SeizeViewsDeclared.view.View.TheVariants.{Brings, Rests, Watches};
 
 use crate::stay::Stay;
 use seize::rows::Defers;
 use seize_blocks::Seat;
-use seize_callers::Caller;
-use seize_views::OfRows;
+use seize_callers::{Caller, named};
+use seize_guards::{Owned, Tagged};
+use seize_views::{Fixed, OfRows};
 
 impl<'a, T: Defers + Drop> Stay<'a, T> {
+    /// Tells whether its section is open and there is such a root; where not, what was seen is not known any more.
+    fn may_look(&mut self, root: u64) -> bool
+        ensures home { self.new.caller.blocks ≡ self.old.caller.blocks }
+        ensures slot { self.new.slot ≡ self.old.slot }
+        ensures guards { self.new.guards ≡ self.old.guards }
+        ensures inside { self.new.inside ≡ self.old.inside }
+        ensures may { result ≡ true → (self.old.inside ≡ true) × (root < self.old.caller.blocks.now.words.fixed.roots) × (self.new ≡ self.old) }
+        ensures fresh { result ≡ false → self.new.seen ≡ 0 }
+        ensures told { self.old.inside ≡ true → root < self.old.caller.blocks.now.words.fixed.roots → result ≡ true }
+    {
+        if !self.inside || root >= self.roots {
+            self.forgets();
+            return false;
+        }
+        true
+    }
+
     /// Looks which block is at a root, and tells whether one is, where its section is open. What was seen before is not known any more.
     pub(crate) fn sees(&mut self, root: u64) -> bool
         ensures home { self.new.caller.blocks ≡ self.old.caller.blocks }
@@ -21,13 +41,12 @@ impl<'a, T: Defers + Drop> Stay<'a, T> {
         ensures guards { self.new.guards ≡ self.old.guards }
         ensures inside { self.new.inside ≡ self.old.inside }
         ensures seen { result ≡ true → self.new.seen ≢ 0 }
-        ensures looked { result ≡ true → self.new.caller.seat.view.did ≡ Looked root self.new.seen }
+        ensures looked { result ≡ true → looked_at self.new.caller.seat.view.did ≡ Some (root, self.new.seen) }
         ensures none { result ≡ false → self.new.seen ≡ 0 }
         ensures empty { result ≡ false → self.old.inside ≡ true → root < self.old.caller.blocks.now.words.fixed.roots
-            → self.new.caller.seat.view.did ≡ Looked root 0 }
+            → looked_at self.new.caller.seat.view.did ≡ Some (root, 0) }
     {
-        if !self.inside || root >= self.roots {
-            self.forgets();
+        if !self.may_look(root) {
             return false;
         }
         match self.caller.see(self.slot, root) {
@@ -40,6 +59,59 @@ impl<'a, T: Defers + Drop> Stay<'a, T> {
                 false
             }
         }
+    }
+
+    /// Looks which word is at a root, where its section is open and there is such a root: that holds the block to which it links. What was seen before is not known any more.
+    pub(crate) fn protects(&mut self, root: u64) -> Option<Tagged>
+        ensures home { self.new.caller.blocks ≡ self.old.caller.blocks }
+        ensures slot { self.new.slot ≡ self.old.slot }
+        ensures guards { self.new.guards ≡ self.old.guards }
+        ensures inside { self.new.inside ≡ self.old.inside }
+        ensures found { IfSome result (λ tagged. self.new.caller.seat.view.did ≡ Looked root tagged.word) }
+        ensures seen { IfSome result (λ tagged. self.new.seen ≡ block_in tagged.word) }
+        ensures none { IfNone result (self.new.seen ≡ 0) }
+        ensures there { self.old.inside ≡ true → root < self.old.caller.blocks.now.words.fixed.roots → IsSome result }
+    {
+        if !self.may_look(root) {
+            return None;
+        }
+        let word = self.caller.protect(self.slot, root);
+        self.seen = named(word).unwrap_or(0);
+        Some(Tagged::of(word))
+    }
+
+    /// Sets marks of the word at a root, of which three bits count, and answers which word was there, where its section is open and there is such a root: the
+    /// block to which that links was seen. What was seen before is not known any more.
+    pub(crate) fn marks(&mut self, root: u64, marks: u64) -> Option<Tagged>
+        ensures home { self.new.caller.blocks ≡ self.old.caller.blocks }
+        ensures slot { self.new.slot ≡ self.old.slot }
+        ensures guards { self.new.guards ≡ self.old.guards }
+        ensures inside { self.new.inside ≡ self.old.inside }
+        ensures marked { IfSome result (λ tagged. self.new.caller.seat.view.did ≡ Marked root (marks % 8) tagged.word) }
+        ensures seen { IfSome result (λ tagged. self.new.seen ≡ block_in tagged.word) }
+        ensures none { IfNone result (self.new.seen ≡ 0) }
+        ensures there { self.old.inside ≡ true → root < self.old.caller.blocks.now.words.fixed.roots → IsSome result }
+    {
+        if !self.may_look(root) {
+            return None;
+        }
+        let word = self.caller.mark(self.slot, root, marks % 8);
+        self.seen = named(word).unwrap_or(0);
+        Some(Tagged::of(word))
+    }
+
+    /// Makes a block of a value, which is of a collector of this number, and has a seat of its own.
+    pub(crate) fn makes(&self, number: u64, near: &mut u64, value: T) -> Result<Owned<'a, T>, T>
+        ensures made { IfOk result (λ owned. owned.caller.seat.view.knows ≡ Brings owned.block value) }
+        ensures home { IfOk result (λ owned. owned.caller.blocks.now ≡ self.now.caller.blocks.now) }
+        ensures number { IfOk result (λ owned. owned.number ≡ number) }
+        ensures back { IfErr result (λ back. back ≡ value) }
+    {
+        let fixed = Fixed {
+            batch_size: self.caller.batch_size(),
+            roots: self.roots,
+        };
+        Owned::of(self.caller.blocks(), &fixed, number, near, value)
     }
 
     /// The value that was seen, if one was.
@@ -87,9 +159,9 @@ impl<'a, T: Defers + Drop> Stay<'a, T> {
         ensures guards { self.new.guards ≡ self.old.guards }
         ensures inside { self.new.inside ≡ self.old.inside }
         ensures back { IfErr result (λ back. back ≡ value) }
-        ensures put { IfOk result (λ _. self.new.caller.seat.view.did ≡ Wrote root (Some value) self.old.seen) }
+        ensures put { IfOk result (λ _. written_at self.new.caller.seat.view.did ≡ Some (root, Some value, self.old.seen)) }
         ensures spent { IfOk result (λ _. self.new.seen ≡ 0) }
-        ensures other { IfErr result (λ _. (self.new.caller.seat.view.did ≡ Looked root self.new.seen) ⊎ (self.new.seen ≡ self.old.seen)) }
+        ensures other { IfErr result (λ _. (looked_at self.new.caller.seat.view.did ≡ Some (root, self.new.seen)) ⊎ (self.new.seen ≡ self.old.seen)) }
     {
         if !self.inside || root >= self.roots {
             return Err(value);
@@ -123,7 +195,7 @@ impl<'a, T: Defers + Drop> Stay<'a, T> {
         ensures closed { self.new.inside ≡ false }
         ensures taken { result ≡ true → has_taken self.new.caller.seat.view.did ≡ Some root }
         ensures none { result ≡ false → root < self.old.caller.blocks.now.words.fixed.roots
-            → self.new.caller.seat.view.did ≡ Wrote root None 0 }
+            → written_at self.new.caller.seat.view.did ≡ Some (root, None, 0) }
     {
         self.closes();
         if root >= self.roots {
@@ -147,7 +219,7 @@ impl<'a, T: Defers + Drop> Stay<'a, T> {
         ensures fresh { self.new.seen ≡ 0 }
         ensures taken { result ≡ true → has_taken self.new.caller.seat.view.did ≡ Some root }
         ensures none { result ≡ false → root < self.old.caller.blocks.now.words.fixed.roots
-            → self.new.caller.seat.view.did ≡ Wrote root None 0 }
+            → written_at self.new.caller.seat.view.did ≡ Some (root, None, 0) }
     {
         self.opens();
         if root >= self.roots {

@@ -1,6 +1,6 @@
 use Rattle.seize_views.specs.contracts.law.sections_go_on.{T-type}
 use Rattle.seize_views.proofs.Blocks.{blocks_are_made, made_are_taken, known_are_shown}
-use Rattle.seize_views.proofs.Roots.{made_are_linked, made_are_exchanged, roots_are_seen, roots_are_cleared, roots_are_withdrawn}
+use Rattle.seize_views.proofs.Roots.{made_are_linked, made_are_exchanged, roots_are_seen, roots_are_marked, roots_are_cleared, roots_are_withdrawn}
 use Rattle.seize_views.proofs.law.sections_go_on.Goals as goal
 
 pub returns-clause-made : goal.returns-clause-made
@@ -17,6 +17,9 @@ returns-clause-exchanged g c = made_are_exchanged (T-type g.row.T) g.T.Defers.de
 
 pub returns-clause-seen : goal.returns-clause-seen
 returns-clause-seen g c = roots_are_seen (T-type g.row.T) g.T.Defers.defers
+
+pub returns-clause-marked : goal.returns-clause-marked
+returns-clause-marked g c = roots_are_marked (T-type g.row.T) g.T.Defers.defers
 
 pub returns-clause-cleared : goal.returns-clause-cleared
 returns-clause-cleared g c = roots_are_cleared (T-type g.row.T) g.T.Defers.defers

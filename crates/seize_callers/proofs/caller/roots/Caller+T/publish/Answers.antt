@@ -1,6 +1,6 @@
-use Rattle.std.specs.Prelude.{Some}
+use Rattle.std.specs.Prelude.{ℕ, Some}
 use Rattle.std.proofs.Common.{sym, ap, ◌∙◌}
-use Rattle.seize_views.specs.declared.view.Deed.TheVariants.{Wrote}
+use Rattle.seize_views.specs.Notes.{written_at}
 use Rattle.seize_callers.proofs.Deeds.{put_noted}
 use Rattle.seize_callers.proofs.Calls.{may_link}
 use Rattle.seize_callers.proofs.caller.roots.Caller+T.publish.Goals as goal
@@ -14,5 +14,5 @@ swap-old-requires-clause-may g c =
 pub returns-clause-put : goal.returns-clause-put
 returns-clause-put g c = λ value is.
     let x = c.args.self.now in
-    put_noted x.seat.view.knows x.seat.view.did c.swap-old.new.seat.view.did c.args._slot c.args.root c.to.result c.swap-old.result c.args.block value is
-    c.swap-old.ensures.goes.1 ∙ ap (Wrote c.args.root (Some value)) (sym c.named.ensures.either)
+    ap written_at (put_noted x.seat.view.knows x.seat.view.did c.swap-old.new.seat.view.did c.args._slot c.args.root c.to.result c.swap-old.result c.args.block value is
+    c.swap-old.ensures.goes.1) ∙ ap (λ (k : ℕ). Some (c.args.root, Some value, k)) (sym c.named.ensures.either)

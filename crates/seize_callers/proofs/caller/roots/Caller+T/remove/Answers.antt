@@ -1,6 +1,6 @@
-use Rattle.std.specs.Prelude.{None}
+use Rattle.std.specs.Prelude.{ℕ, Some, None}
 use Rattle.std.proofs.Common.{sym, ap, ◌∙◌}
-use Rattle.seize_views.specs.declared.view.Deed.TheVariants.{Wrote}
+use Rattle.seize_views.specs.Notes.{written_at}
 use Rattle.seize_callers.proofs.Deeds.{removed_noted}
 use Rattle.seize_callers.proofs.Calls.{may_clear}
 use Rattle.seize_callers.proofs.caller.roots.Caller+T.remove.Goals as goal
@@ -13,5 +13,5 @@ swap-old-requires-clause-may g c =
 pub returns-clause-took : goal.returns-clause-took
 returns-clause-took g c =
     let x = c.args.self.now in
-    removed_noted x.seat.view.knows x.seat.view.did c.swap-old.new.seat.view.did c.args._slot c.args.root 0 c.swap-old.result c.requires.inside
-    c.swap-old.ensures.goes.1 ∙ ap (Wrote c.args.root None) (sym c.named.ensures.either)
+    ap written_at (removed_noted x.seat.view.knows x.seat.view.did c.swap-old.new.seat.view.did c.args._slot c.args.root 0 c.swap-old.result c.requires.inside
+    c.swap-old.ensures.goes.1) ∙ ap (λ (k : ℕ). Some (c.args.root, None, k)) (sym c.named.ensures.either)

@@ -1,0 +1,4 @@
+pub mod Lent
+pub mod Deeds
+pub mod Homes
+pub mod Tags

@@ -1,7 +1,0 @@
-use Rattle.std.specs.Prelude.{None}
-use Rattle.seize_views.proofs.Notes.{rules_start}
-use Rattle.seize_threads_tests.specs.declared.making.Number.{Number}
-use Rattle.seize_threads_tests.proofs.making.two_threads_find_what_they_have_made.Goals as goal
-
-pub open-requires-clause-starts : goal.open-requires-clause-starts
-open-requires-clause-starts g c = rules_start Number (λ _. None) (record { batch_size = 5; roots = 1 })
