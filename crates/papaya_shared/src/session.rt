@@ -186,6 +186,7 @@ impl<'a, K: Eq + Hash, V, S: Hashes<K>> Session<'a, K, V, S> {
     pub fn find<R: Wait>(&mut self, rt: &R, key: &K) -> Option<Found>
         requires inside { self.old.caller.seat.view.slot ≡ Inside self.old.slot Nothing }
         ensures inside { self.new.caller.seat.view.slot ≡ Inside self.new.slot Nothing }
+        ensures slot { self.new.slot ≡ self.old.slot }
         ensures shown { IfSome result (λ found. IsShown K.eq key.now self.new.caller found.word) }
         ensures found { IfSome result (λ found. HasRun K.eq S.hash (Get key.now) (found_of (Some found.word)) self.old.caller.seat.view self.new.caller.seat.view) }
         ensures absent { IfNone result (HasRun K.eq S.hash (Get key.now) (found_of None) self.old.caller.seat.view self.new.caller.seat.view) }
@@ -216,6 +217,7 @@ impl<'a, K: Eq + Hash + Drop, V: Drop, S: Hashes<K>> Session<'a, K, V, S> {
     pub fn insert<R: Wait>(&mut self, rt: &R, key: K, value: V) -> Result<bool, Refused<K, V>>
         requires inside { self.old.caller.seat.view.slot ≡ Inside self.old.slot Nothing }
         ensures inside { self.new.caller.seat.view.slot ≡ Inside self.new.slot Nothing }
+        ensures slot { self.new.slot ≡ self.old.slot }
         ensures stored { IfOk result (λ replaced. HasStored K.eq S.hash key value replaced self.old.caller.seat.view self.new.caller.seat.view) }
         ensures refused { IfErr result (λ refused. HasRun K.eq S.hash (Insert key value) (outcome_of (Err refused.fault)) self.old.caller.seat.view self.new.caller.seat.view) }
         ensures back { IfErr result (λ refused. (refused.key ≡ key) × (refused.value ≡ value)) }

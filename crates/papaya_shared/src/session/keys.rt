@@ -72,6 +72,7 @@ impl<'a, K: Eq + Hash, V, S: Hashes<K>> Session<'a, K, V, S> {
     pub fn contains_key<R: Wait>(&mut self, rt: &R, key: &K) -> bool
         requires inside { self.old.caller.seat.view.slot ≡ Inside self.old.slot Nothing }
         ensures inside { self.new.caller.seat.view.slot ≡ Inside self.new.slot Nothing }
+        ensures slot { self.new.slot ≡ self.old.slot }
         ensures ran { (found : Option ℕ) × HasRun K.eq S.hash (ContainsKey key.now) (found_of found) self.old.caller.seat.view self.new.caller.seat.view × (result ≡ is_some found) }
         ensures map { self.new.caller.seat.view.map ≡ self.old.caller.seat.view.map }
         ensures blocks { self.new.caller.blocks ≡ self.old.caller.blocks }
@@ -94,6 +95,7 @@ impl<'a, K: Eq + Hash + Drop, V: Drop, S: Hashes<K>> Session<'a, K, V, S> {
     ) -> Result<Attempt<K, V>, Refused<K, V>>
         requires inside { self.old.caller.seat.view.slot ≡ Inside self.old.slot Nothing }
         ensures inside { self.new.caller.seat.view.slot ≡ Inside self.new.slot Nothing }
+        ensures slot { self.new.slot ≡ self.old.slot }
         ensures tried { IfOk result (λ tried. HasTried K.eq S.hash key value (has_stored tried) self.old.caller.seat.view self.new.caller.seat.view) }
         ensures present { IfOk result (CameBack key value) }
         ensures refused { IfErr result (λ refused. HasRun K.eq S.hash (TryToInsert key value) (outcome_of (Err refused.fault)) self.old.caller.seat.view self.new.caller.seat.view) }
@@ -121,6 +123,7 @@ impl<'a, K: Eq + Hash + Drop, V: Drop, S: Hashes<K>> Session<'a, K, V, S> {
     pub fn remove<R: Wait>(&mut self, rt: &R, key: K) -> Result<bool, Fault>
         requires inside { self.old.caller.seat.view.slot ≡ Inside self.old.slot Nothing }
         ensures inside { self.new.caller.seat.view.slot ≡ Inside self.new.slot Nothing }
+        ensures slot { self.new.slot ≡ self.old.slot }
         ensures removed { IfOk result (λ removed. HasRemoved K.eq S.hash key removed self.old.caller.seat.view self.new.caller.seat.view) }
         ensures refused { IfErr result (λ fault. HasRun K.eq S.hash (Remove key) (outcome_of (Err fault)) self.old.caller.seat.view self.new.caller.seat.view) }
         ensures map { self.new.caller.seat.view.map ≡ self.old.caller.seat.view.map }
