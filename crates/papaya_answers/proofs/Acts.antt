@@ -3,13 +3,18 @@ use Rattle.std.specs.Prelude.{◌≢◌, ◌==◌, ◌⊎◌, Option, Some, None
 use Rattle.std.proofs.Common.{◌≡◌, ℕ, Bool, true, false, List, [], ◌∷◌, inl, inr, refl, sym, subst, ap, ◌∙◌}
 use Rattle.std.proofs.lemmas.Bool.{cases_eq, eq-eqb, ne_eqb}
 use Rattle.papaya_views.proofs.Given.SeizeActsAnswers.{same_some}
-use Rattle.papaya_moves.specs.Given.SeizeWordsMem.{Mem}
+use Rattle.papaya_moves.specs.Given.SeizeWordsMem.{Mem, value_at}
+use Rattle.papaya_views.specs.Given.SeizeWordsWord.{block_in}
 use Rattle.papaya_views.specs.Given.TablesDeclared.node.Node.{Node}
+use Rattle.papaya_views.specs.Given.TablesDeclared.node.Node.TheVariants as node
 use Rattle.papaya_views.specs.Given.TablesDeclared.setting.Setting.{Setting}
 use Rattle.papaya_views.specs.Given.RawMachine.{machine_asked, machine_replied}
 use Rattle.papaya_views.specs.Given.RawDeclared.machines.asking.Reply.{Reply}
 use Rattle.papaya_views.specs.Given.RawDeclared.machines.machine.Machine.{Machine}
+use Rattle.papaya_views.specs.Given.RawDeclared.machines.answer.KeyAnswer.TheVariants.{Found}
+use Rattle.papaya_views.specs.Given.RawDeclared.machines.progress.Answer.TheVariants.{Key}
 use Rattle.papaya_views.specs.Given.RawDeclared.machines.progress.Progress.{Progress}
+use Rattle.papaya_views.specs.Given.RawDeclared.machines.progress.Progress.TheVariants.{Done}
 use Rattle.papaya_views.specs.Listed.{Called, calls_then, has_told, seat_of}
 use Rattle.papaya_views.specs.Told.{untold}
 use Rattle.papaya_moves.specs.Given.SchedulesAfter.{AtEachEvent}
@@ -18,13 +23,23 @@ use Rattle.papaya_moves.specs.Given.SchedulesViews.{call_of}
 use Rattle.papaya_moves.specs.Given.SchedulesDeclared.call.Call.{Call}
 use Rattle.papaya_moves.specs.Given.SchedulesDeclared.call.Call.TheVariants.{On}
 use Rattle.papaya_moves.specs.Given.SchedulesDeclared.call.OneKey.TheVariants.{Get}
+use Rattle.papaya_moves.specs.Given.SchedulesDeclared.call.OneKey.TheVariants as one_key
+use Rattle.papaya_moves.specs.Given.SchedulesDeclared.call.Answer.{Answer as Answer'}
+use Rattle.papaya_moves.specs.Given.SchedulesDeclared.call.Answer.TheVariants as answer
+use Rattle.papaya_moves.specs.Given.SchedulesDeclared.call.Reply.{Reply as Told}
 use Rattle.papaya_moves.specs.Given.SchedulesDeclared.outcome.Outcome.{Outcome}
+use Rattle.papaya_moves.specs.Given.SchedulesDeclared.outcome.Outcome.TheVariants.{Answered}
 use Rattle.papaya_moves.specs.Given.ActsActs.{Act, Answer, OfCall, Wanted, BeginsCall, StepsCall, TellsCall, AsksCall, StopsCall, BeginsMaking, StepsMaking, BeginsEnding, StepsEnding, BeginsRow, StepsRow}
 use Rattle.papaya_moves.specs.Given.ActsDoings.{Does}
 use Rattle.papaya_moves.specs.Given.DeedsDeeds.{Entry, Steps, moment, named}
 use Rattle.papaya_moves.specs.Given.DeedsHistory.{IsLinearizable}
 use Rattle.papaya_moves.specs.Given.EffectsEffects.{effects_of, known_after}
+use Rattle.papaya_moves.specs.Given.EffectsKnown.{Known}
 use Rattle.papaya_moves.specs.Given.EffectsDeclared.acting.Acting.TheVariants as acting
+use Rattle.papaya_moves.specs.Given.EffectsDeclared.role.Role.TheVariants as role
+use Rattle.papaya_histories.specs.Events.{ComesToIt}
+use Rattle.papaya_histories.specs.InEvent.{ComesSo}
+use Rattle.papaya_histories.specs.Given.RunsLog.{pair_at}
 use Rattle.papaya_moves.specs.Given.NamedSeen.{kind_of}
 use Rattle.papaya_moves.specs.Given.PlayedPlay.{Calling, State, begun_call, call_asked, call_begun, call_for, call_stepped, call_stopped, call_told, is_refusal, keeps, made_on, outcome_of, reply_for, told_call}
 use Rattle.papaya_moves.specs.Given.ScenesReplying.{unless_stopped}
@@ -35,8 +50,10 @@ use Rattle.papaya_moves.specs.Given.SeizeWorld.{with_at}
 use Rattle.papaya_moves.proofs.Given.CallersTogether.At.{at_same, at_other}
 use Rattle.papaya_moves.proofs.Given.PlayedNoted.{CallsAreNoted, at_it, at_other_map, made_calls, one_call}
 use Rattle.papaya_moves.proofs.Given.PlayedPlayedAs.{PlayedAs, ReclaimedAs}
+use Rattle.papaya_answers.specs.Lookups.{WasSo}
 use Rattle.papaya_answers.proofs.Lookups.{so_then}
-use Rattle.papaya_answers.proofs.Tells.{GoesOn, HasAnswered, IfElse, IsCalled, Tells, answered_on, answered_then, called_on, quiet}
+use Rattle.papaya_answers.proofs.Tells.{GoesOn, HasAnswered, HasSeenPair, IfElse, IfNewest, IsCalled, SaysSo, Tells, answered_on, answered_then, called_on, quiet}
+use Rattle.papaya_answers.proofs.Words.{HasWords}
 
 -- calls of other callers
 others : {X : Type 0} (calls : ℕ → ℕ → Option X) (m i : ℕ) (it : Option X) (on j : ℕ) → j ≢ i → with_call calls m i it on j ≡ calls on j
@@ -60,13 +77,25 @@ if_is : {X : Type 0} (q : Bool) (c d : X) → (if q then None else Some c) ≡ S
 if_is true c d is = absurd (cc is)
 if_is false c d is = sym (same_some c d is)
 
-module _ {K V S : Type 0} (same : K → K → Bool) (seat : ℕ) (x : State K V S) (calls : List (Called K V)) (tells : Tells same seat x calls) where
+-- what is noted as a pair is that pair, in this memory
+abbrev pub PairsAreThere : {K V S : Type 0} → State K V S → Mem (Node K V) → Type 0
+PairsAreThere {K} {V} x memory =
+    (b k : ℕ) → x.known.roles b ≡ role.Pair k → (key : K) × (value : V) × (pair_at (moment x.history).stored k ≡ Some (key, value)) × (value_at memory b ≡ Some (node.Pair key value))
+
+-- where a lookup has found a pair, its word names that pair
+found_pair : {K V : Type 0} (known : Known) (key : K) (word : ℕ) (replies : List (Option ℕ × Told V)) (o : Outcome V) → ComesToIt known (Get key) replies (Done (Key (Found word))) o
+    → (n : ℕ) × (known.roles (block_in word) ≡ role.Pair n) × (o ≡ Answered (answer.Found n))
+found_pair known key word replies (Answered a) (inl (n, names, means)) = (n, names, ap Answered (let is = means 0 in let one : answer.Found n ≡ a = cc is in sym one))
+found_pair known key word replies (Answered a) (inr done) = absurd done
+found_pair known key word replies _ comes = absurd comes
+
+module _ {K V S : Type 0} (same : K → K → Bool) (seat : ℕ) (x : State K V S) (calls : List (Called K V)) (seen : Option (ℕ × Mem (Node K V))) (tells : Tells same seat x calls seen) where
   -- each call was there, and is what it was
   abbrev AsBefore : State K V S → Type 0
   AsBefore z = (m i : ℕ) (c : Calling K V) → seat ≡ seat_of i → z.now.calls m i ≡ Some c → (d : Calling K V) × (x.now.calls m i ≡ Some d) × (d.call ≡ c.call)
 
-  pub still : (z : State K V S) → GoesOn x.history z.history → AsBefore z → Tells same seat z calls
-  still z goes as_before = quiet same seat x z calls goes as_before tells
+  pub still : (z : State K V S) → GoesOn x.history z.history → AsBefore z → Tells same seat z calls seen
+  still z goes as_before = quiet same seat x z calls seen goes as_before tells
 
   -- where one call goes on, or is there no more
   module _ (i m : ℕ) (c : Calling K V) (here : x.now.calls m i ≡ Some c) (next : Option (Calling K V)) (is : (d : Calling K V) → next ≡ Some d → d.call ≡ c.call) where
@@ -89,60 +118,127 @@ module _ {K V S : Type 0} (same : K → K → Bool) (seat : ℕ) (x : State K V 
     abbrev OwesNone : Type 0
     OwesNone = (u : UnderWay K V) → call_of (named i) (moment x.history) ≡ Some u → (key : K) → u.call ≡ On (Get key) → u.due ≡ None
 
-    module _ (right : AtEachEvent (IsLinearizable same) stepped.history) (free : OwesNone) where
-      -- by its entry the call was answered, if it has ended
-      answers : (one : Called K V) → one.caller ≡ i → one.map ≡ m → call_for one.wanted ≡ c.call → HasAnswered same stepped.history (record one { told = progress })
-      answers one caller_is map_is call_is ended =
-          let its = noted m i c here in
-          let known = known_after (acting.Call i m) changed x.known in
-          let effects = effects_of (acting.Call i m) x.known changed in (
-            known,
-            c.value,
-            inl (record {
+    abbrev known : Known
+    known = known_after (acting.Call i m) changed x.known
+
+    abbrev entry : Entry K V
+    entry = record { deed = Steps i; outcome = outcome_of known (kind_of c.call) c.value progress; effects = effects_of (acting.Call i m) x.known changed; refused = is_refusal changed }
+
+    its_own : (there : UnderWay K V) × (call_of (named i) (moment x.history) ≡ Some there) × (there.map ≡ m) × (there.call ≡ c.call)
+    its_own = noted m i c here
+
+    module _ (right : AtEachEvent (IsLinearizable same) stepped.history) (free : OwesNone) (words : HasWords stepped) where
+      -- of the call that this is, by its caller, on its map,
+      module _ (one : Called K V) (caller_is : one.caller ≡ i) (map_is : one.map ≡ m) (call_is : call_for one.wanted ≡ c.call) where
+        outcome_is : outcome_of known (kind_of c.call) c.value progress ≡ outcome_of known (kind_of (call_for one.wanted)) c.value progress
+        outcome_is = ap (λ (call : Call K V). outcome_of known (kind_of call) c.value progress) (sym call_is)
+
+        -- it says what it was told,
+        says : SaysSo same known (record one { told = progress }) (outcome_of known (kind_of (call_for one.wanted)) c.value progress)
+        says key is = (
+          its_own.0.replies,
+          subst (λ (o : Outcome V). ComesToIt known key its_own.0.replies progress o) outcome_is
+              (subst (λ (call : Call K V). ComesSo known call its_own.0.replies progress (outcome_of known (kind_of c.call) c.value progress)) (its_own.3 ∙ sym call_is ∙ is)
+              (words i progress x.told entry x.history its_own.0 refl refl refl its_own.1)),
+        )
+
+        -- what it has looked up was so,
+        was_so : (key : K) (answer : Answer' V) → call_for one.wanted ≡ On (Get key) → outcome_of known (kind_of (call_for one.wanted)) c.value progress ≡ Answered answer
+            → WasSo same one.caller one.map key answer x.history entry
+        was_so key answer call is =
+            let wanted = its_own.3 ∙ sym call_is ∙ call in record {
               deed = ap (λ (k : ℕ). Steps k) (sym caller_is);
-              comes = ap (λ (call : Call K V). outcome_of known (kind_of call) c.value progress) (sym call_is);
-              there = its.0;
-              here = subst (λ (k : ℕ). call_of (named k) (moment x.history) ≡ Some its.0) (sym caller_is) its.1;
-              on = its.2 ∙ sym map_is;
-              what = its.3 ∙ sym call_is;
-              right = right.0;
-            }),
-            (λ key answer call is.
-                let wanted = its.3 ∙ sym call_is ∙ call in
-                let so = so_then same i answer effects (is_refusal changed) x.history its.0 its.1 key wanted (free its.0 its.1 key wanted)
-                (subst (λ (o : Outcome V). IsLinearizable same x.history (record { deed = Steps i; outcome = o; effects = effects; refused = is_refusal changed }))
-                (ap (λ (k : Call K V). outcome_of known (kind_of k) c.value progress) (sym call_is) ∙ is) right.0) one.map (its.2 ∙ sym map_is) in
-                inl (record {
-                  deed = ap (λ (k : ℕ). Steps k) (sym caller_is);
-                  comes = ap (λ (k : Call K V). outcome_of known (kind_of k) c.value progress) (sym call_is) ∙ is;
-                  there = its.0;
-                  here = subst (λ (k : ℕ). call_of (named k) (moment x.history) ≡ Some its.0) (sym caller_is) its.1;
-                  on = its.2 ∙ sym map_is;
-                  so = so;
-                })),
-          )
+              comes = outcome_is ∙ is;
+              there = its_own.0;
+              here = subst (λ (k : ℕ). call_of (named k) (moment x.history) ≡ Some its_own.0) (sym caller_is) its_own.1;
+              on = its_own.2 ∙ sym map_is;
+              what = wanted;
+              so = so_then same i answer entry.effects entry.refused x.history its_own.0 its_own.1 key wanted (free its_own.0 its_own.1 key wanted)
+                  (subst (λ (o : Outcome V). IsLinearizable same x.history (record { deed = Steps i; outcome = o; effects = entry.effects; refused = entry.refused })) (outcome_is ∙ is) right.0) one.map
+                  (its_own.2 ∙ sym map_is);
+            }
+
+        -- and a pair that it has found has the value that is there.
+        has_pair : (memory : Mem (Node K V)) → PairsAreThere stepped memory → HasSeenPair same stepped.history memory (record one { told = progress })
+        has_pair memory pairs key word wanted told_is =
+            let word_says = says (one_key.Get key) wanted in
+            let found =
+            found_pair known key word word_says.0 (outcome_of known (kind_of (call_for one.wanted)) c.value progress)
+            (subst (λ (p : Progress (Node K V)). ComesToIt known (one_key.Get key) word_says.0 p (outcome_of known (kind_of (call_for one.wanted)) c.value progress)) told_is word_says.1) in
+            let pair = pairs (block_in word) found.0 found.1 in (
+              pair.0,
+              pair.1,
+              pair.3,
+              inl (record { number = found.0; found = was_so key (answer.Found found.0) wanted found.2; stored = pair.0; pair = pair.2 }),
+            )
+
+        -- By its entry it was answered, if it has ended.
+        answers : HasAnswered same stepped.history (record one { told = progress })
+        answers ended = (
+          known,
+          c.value,
+          inl (record {
+            deed = ap (λ (k : ℕ). Steps k) (sym caller_is);
+            comes = outcome_is;
+            there = its_own.0;
+            here = subst (λ (k : ℕ). call_of (named k) (moment x.history) ≡ Some its_own.0) (sym caller_is) its_own.1;
+            on = its_own.2 ∙ sym map_is;
+            what = its_own.3 ∙ sym call_is;
+            right = right.0;
+          }),
+          (λ key answer call is. inl (was_so key answer call is)),
+          says,
+        )
 
       before : (on j : ℕ) (d : Calling K V) → stepped.now.calls on j ≡ Some d → (b : Calling K V) × (x.now.calls on j ≡ Some b) × (b.call ≡ d.call)
       before on j d has =
           one_goes i m c here (if has_ended progress then None else Some (record c { machine = machine; value = keeps (kind_of c.call) progress c.value }))
           (λ e is. ap (λ (v : Calling K V). v.call) (if_is (has_ended progress) (record c { machine = machine; value = keeps (kind_of c.call) progress c.value }) e is)) on j d has
 
-      pub steps_tell : Tells same seat stepped (if seat == seat_of i then has_told i progress calls else calls)
-      steps_tell = by (cases_eq seat (seat_of i))
+      -- the pair that the newest call has found
+      abbrev NewestAs : Mem (Node K V) → Called K V → List (Called K V) → Bool → Type 0
+      NewestAs memory one earlier q =
+          IfNewest same i (HasSeenPair same stepped.history memory) (if q then record one { told = progress } ∷ earlier else one ∷ has_told i progress earlier)
+
+      newest_found : (memory : Mem (Node K V)) → PairsAreThere stepped memory → (calls : List (Called K V)) → IsCalled same i m c.call calls
+          → IfNewest same i (HasSeenPair same stepped.history memory) (has_told i progress calls)
+      newest_found memory pairs [] is = tt
+      newest_found memory pairs (one ∷ earlier) is = by (cases_eq one.caller i)
+        where
+          by : (one.caller ≡ i) ⊎ (one.caller ≢ i) → NewestAs memory one earlier (one.caller == i)
+          by (inl e) =
+              let test = eq-eqb one.caller i e in
+              let its_own = subst (λ (q : Bool). IfElse q ((one.map ≡ m) × (call_for one.wanted ≡ c.call)) (IsCalled same i m c.call earlier)) test is in
+              subst (NewestAs memory one earlier) (sym test) (λ of. has_pair one e its_own.0 its_own.1 memory pairs)
+          by (inr ne) = subst (NewestAs memory one earlier) (sym (ne_eqb one.caller i ne)) (λ of. absurd (ne of))
+
+      -- whether it is the seat's or another one's
+      abbrev SteppedBy : Mem (Node K V) → Bool → Type 0
+      SteppedBy memory q = Tells same seat stepped (if q then has_told i progress calls else calls) (if q then Some (i, memory) else seen)
+
+      pub steps_tell : (memory : Mem (Node K V)) → PairsAreThere stepped memory
+          → Tells same seat stepped (if seat == seat_of i then has_told i progress calls else calls) (if seat == seat_of i then Some (i, memory) else seen)
+      steps_tell memory pairs = by (cases_eq seat (seat_of i))
         where
           goes : GoesOn x.history stepped.history
           goes = inr (_, refl)
 
-          by : (seat ≡ seat_of i) ⊎ (seat ≢ seat_of i) → Tells same seat stepped (if seat == seat_of i then has_told i progress calls else calls)
+          by : (seat ≡ seat_of i) ⊎ (seat ≢ seat_of i) → SteppedBy memory (seat == seat_of i)
           by (inl e) =
-              subst (λ (q : Bool). Tells same seat stepped (if q then has_told i progress calls else calls)) (sym (eq-eqb seat (seat_of i) e)) (record {
-                answered = answered_then same i progress stepped.history m c.call answers calls (tells.under_way m i c e here) (answered_on same x.history stepped.history goes calls tells.answered);
+              subst (SteppedBy memory) (sym (eq-eqb seat (seat_of i) e)) (record {
+                answered = answered_then same i progress stepped.history m c.call (λ one caller_is map_is call_is. answers one caller_is map_is call_is) calls (tells.under_way m i c e here) (answered_on same x.history stepped.history goes calls tells.answered);
+                found = λ j then_there is.
+                    let both = same_some (i, memory) (j, then_there) is in
+                    let one : i ≡ j = ap (λ (p : ℕ × Mem (Node K V)). p.0) both in
+                    let there : memory ≡ then_there = ap (λ (p : ℕ × Mem (Node K V)). p.1) both in
+                    subst (λ (k : ℕ). IfNewest same k (HasSeenPair same stepped.history then_there) (has_told i progress calls)) one
+                    (subst (λ (n : Mem (Node K V)). IfNewest same i (HasSeenPair same stepped.history n) (has_told i progress calls)) there (newest_found memory pairs calls (tells.under_way m i c e here)));
                 under_way = λ on j d of has.
                     let was = before on j d has in
                     called_on same i progress j on d.call calls (subst (λ (call : Call K V). IsCalled same j on call calls) was.2 (tells.under_way on j was.0 of was.1));
               })
           by (inr ne) =
-              subst (λ (q : Bool). Tells same seat stepped (if q then has_told i progress calls else calls)) (sym (ne_eqb seat (seat_of i) ne)) (still stepped goes (λ on j d of has. before on j d has))
+              subst (SteppedBy memory) (sym (ne_eqb seat (seat_of i) ne)) (still stepped goes (λ on j d of has. before on j d has))
 
   -- a call begins
   module _ (i m : ℕ) (wanted : Wanted K V) (hash : S → K → ℕ) (at : Setting × S) where
@@ -165,7 +261,10 @@ module _ {K V S : Type 0} (same : K → K → Bool) (seat : ℕ) (x : State K V 
       goes_then : GoesOn x.history begins.history
       goes_then = inr (_, refl)
 
-      pub begins_tell : Tells same seat begins (if seat == seat_of i then one ∷ calls else calls)
+      abbrev BegunBy : Bool → Type 0
+      BegunBy q = Tells same seat begins (if q then one ∷ calls else calls) seen
+
+      pub begins_tell : Tells same seat begins (if seat == seat_of i then one ∷ calls else calls) seen
       begins_tell = by (cases_eq seat (seat_of i))
         where
           called : (on j : ℕ) (d : Calling K V) → seat ≡ seat_of j → with_call x.now.calls m i (Some call) on j ≡ Some d → (j ≡ i) ⊎ (j ≢ i)
@@ -177,14 +276,15 @@ module _ {K V S : Type 0} (same : K → K → Bool) (seat : ℕ) (x : State K V 
               subst (λ (q : Bool). IfElse q ((m ≡ on) × (call_for wanted ≡ d.call)) (IsCalled same j on d.call calls)) (sym (ne_eqb i j (λ e. ne (sym e))))
               (tells.under_way on j d of (sym (others x.now.calls m i (Some call) on j ne) ∙ has))
 
-          by : (seat ≡ seat_of i) ⊎ (seat ≢ seat_of i) → Tells same seat begins (if seat == seat_of i then one ∷ calls else calls)
+          by : (seat ≡ seat_of i) ⊎ (seat ≢ seat_of i) → BegunBy (seat == seat_of i)
           by (inl e) =
-              subst (λ (q : Bool). Tells same seat begins (if q then one ∷ calls else calls)) (sym (eq-eqb seat (seat_of i) e)) (record {
+              subst BegunBy (sym (eq-eqb seat (seat_of i) e)) (record {
                 answered = ((λ ended. absurd (cc ended)), answered_on same x.history begins.history goes_then calls tells.answered);
+                found = λ j memory is. (λ of key word wants told. absurd (cc told));
                 under_way = λ on j d of has. called on j d of has (cases_eq j i);
               })
           by (inr ne) =
-              subst (λ (q : Bool). Tells same seat begins (if q then one ∷ calls else calls)) (sym (ne_eqb seat (seat_of i) ne))
+              subst BegunBy (sym (ne_eqb seat (seat_of i) ne))
               (still begins goes_then (λ on j d of has. (d, sym (others x.now.calls m i (Some call) on j (λ e. ne (of ∙ ap seat_of e))) ∙ has, refl)))
 
 -- any act but the step of a call
@@ -193,37 +293,37 @@ IsOther (StepsCall i m g) = ⊥
 IsOther act = Unit {0}
 
 module _ {K V S : Type 0} (same : K → K → Bool) (hash : S → K → ℕ) (batch_size roots : ℕ) (aborts : ℕ → V) (seat : ℕ) (x y : State K V S) (calls : List (Called K V))
-    (tells : Tells same seat x calls) where
+    (seen : Option (ℕ × Mem (Node K V))) (tells : Tells same seat x calls seen) where
   abbrev Then : Act K V S → Answer K V → Type 0
-  Then act told = Tells same seat y (calls_then seat (Does act) told calls)
+  Then act told = Tells same seat y (calls_then seat (Does act) told calls) seen
 
   -- where nothing has changed of what is called
   so_still : (z : State K V S) → y ≡ z → GoesOn x.history z.history → ((m i : ℕ) (c : Calling K V) → z.now.calls m i ≡ Some c → (d : Calling K V) × (x.now.calls m i ≡ Some d) × (d.call ≡ c.call))
-      → Tells same seat y calls
-  so_still z is goes as_before = subst (λ (v : State K V S). Tells same seat v calls) (sym is) (still same seat x calls tells z goes (λ m i c of has. as_before m i c has))
+      → Tells same seat y calls seen
+  so_still z is goes as_before = subst (λ (v : State K V S). Tells same seat v calls seen) (sym is) (still same seat x calls seen tells z goes (λ m i c of has. as_before m i c has))
 
   as_it_was : (m i : ℕ) (c : Calling K V) → x.now.calls m i ≡ Some c → (d : Calling K V) × (x.now.calls m i ≡ Some d) × (d.call ≡ c.call)
   as_it_was m i c has = (c, has, refl)
 
   pub acts_tell : CallsAreNoted y → (act : Act K V S) → IsOther act → (told : Answer K V) → PlayedAs same hash batch_size roots aborts x y act → Then act told
   acts_tell noted (BeginsCall i m wanted) other told (at, there, is) =
-      subst (λ (v : State K V S). Tells same seat v (calls_then {S = S} seat (Does (BeginsCall i m wanted)) told calls)) (sym is)
-      (begins_tell same seat x calls tells i m wanted hash at (subst CallsAreNoted is noted))
+      subst (λ (v : State K V S). Tells same seat v (calls_then {S = S} seat (Does (BeginsCall i m wanted)) told calls) seen) (sym is)
+      (begins_tell same seat x calls seen tells i m wanted hash at (subst CallsAreNoted is noted))
   acts_tell noted (StepsCall i m g) other told played = absurd other
   acts_tell noted (TellsCall i m reply) other told (c, here, is) =
       so_still (call_told i m aborts reply x c) is (if_more (is_ok (machine_replied c.machine reply).1) _ x.history)
       (λ on j d has.
-      one_goes same seat x calls tells i m c here (Some (told_call (machine_replied c.machine reply) (reply_for (aborts (length x.told)) reply) c))
+      one_goes same seat x calls seen tells i m c here (Some (told_call (machine_replied c.machine reply) (reply_for (aborts (length x.told)) reply) c))
       (λ e some. ap (λ (v : Calling K V). v.call) (sym (same_some (told_call (machine_replied c.machine reply) (reply_for (aborts (length x.told)) reply) c) e some))) on j d has)
   acts_tell noted (AsksCall i m) other told (c, here, is) =
       so_still (call_asked i m x c) is (inl refl)
       (λ on j d has.
-      one_goes same seat x calls tells i m c here (Some (record c { machine = (machine_asked c.machine).0 }))
+      one_goes same seat x calls seen tells i m c here (Some (record c { machine = (machine_asked c.machine).0 }))
       (λ e some. ap (λ (v : Calling K V). v.call) (sym (same_some (record c { machine = (machine_asked c.machine).0 }) e some))) on j d has)
   acts_tell noted (StopsCall i m) other told (c, here, is) =
       so_still (call_stopped i m x c) is (if_more (machine_asked c.machine).1 _ x.history)
       (λ on j d has.
-      one_goes same seat x calls tells i m c here (unless_stopped (machine_asked c.machine).1 c)
+      one_goes same seat x calls seen tells i m c here (unless_stopped (machine_asked c.machine).1 c)
       (λ e some. ap (λ (v : Calling K V). v.call) (unless_is (machine_asked c.machine).1 c e some)) on j d has)
   acts_tell noted (BeginsMaking i map hasher given places) other told is = so_still _ is (inl refl) as_it_was
   acts_tell noted (StepsMaking i g) other told (b, here, end, came, is) =
@@ -235,9 +335,9 @@ module _ {K V S : Type 0} (same : K → K → Bool) (hash : S → K → ℕ) (ba
   acts_tell noted (StepsRow i g) other told (row, here, end, came, is) = so_still _ is (inr (_, refl)) as_it_was
 
   -- and who reclaims all
-  pub reclaiming_tells : (g : _) → ReclaimedAs same hash batch_size roots aborts x y g → Tells same seat y calls
+  pub reclaiming_tells : (g : _) → ReclaimedAs same hash batch_size roots aborts x y g → Tells same seat y calls seen
   reclaiming_tells g (c, here, end, came, is) = so_still _ is (inr (_, refl)) as_it_was
 
-  pub nothing_tells : y.history ≡ x.history → y.now.calls ≡ x.now.calls → Tells same seat y calls
+  pub nothing_tells : y.history ≡ x.history → y.now.calls ≡ x.now.calls → Tells same seat y calls seen
   nothing_tells history_is calls_are =
-      still same seat x calls tells y (inl history_is) (λ m i c of has. (c, sym (ap (λ (f : ℕ → ℕ → Option (Calling K V)). f m i) calls_are) ∙ has, refl))
+      still same seat x calls seen tells y (inl history_is) (λ m i c of has. (c, sym (ap (λ (f : ℕ → ℕ → Option (Calling K V)). f m i) calls_are) ∙ has, refl))

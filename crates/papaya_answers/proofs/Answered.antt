@@ -13,7 +13,7 @@ use Rattle.papaya_views.specs.Given.RawDeclared.machines.progress.Answer.TheVari
 use Rattle.papaya_views.specs.Given.RawDeclared.machines.progress.Progress.{Progress}
 use Rattle.papaya_views.specs.Given.RawDeclared.machines.progress.Progress.TheVariants.{Done}
 use Rattle.papaya_views.specs.Begun.{machine_for}
-use Rattle.papaya_views.specs.Listed.{Called, calls_of, calls_then, has_told, plain, seat_of}
+use Rattle.papaya_views.specs.Listed.{Called, calls_of, calls_then, has_told, plain, seat_of, seen_of}
 use Rattle.papaya_views.specs.Told.{untold}
 use Rattle.papaya_views.specs.Rule.{MapsWorld, KnowsMap, IsRun, AreRuns, Holds, caller_at, runs_of}
 use Rattle.papaya_views.specs.declared.view.Map.{Map}
@@ -23,19 +23,24 @@ use Rattle.papaya_views.proofs.Numbers.{its_caller}
 use Rattle.papaya_moves.specs.Given.ScenesScene.{Scene, slot_of}
 use Rattle.papaya_moves.specs.Given.SchedulesDeclared.call.Answer.{Answer}
 use Rattle.papaya_moves.specs.Given.SchedulesDeclared.call.Answer.TheVariants as answers
+use Rattle.papaya_moves.specs.Given.SchedulesDeclared.call.Call.{Call}
 use Rattle.papaya_moves.specs.Given.SchedulesDeclared.call.Call.TheVariants.{On}
+use Rattle.papaya_moves.specs.Given.SchedulesDeclared.call.OneKey.{OneKey}
 use Rattle.papaya_moves.specs.Given.SchedulesDeclared.call.OneKey.TheVariants as one_key
+use Rattle.papaya_moves.specs.Given.SchedulesDeclared.call.Reply.{Reply}
 use Rattle.papaya_moves.specs.Given.SchedulesDeclared.outcome.Outcome.{Outcome}
 use Rattle.papaya_moves.specs.Given.SchedulesDeclared.outcome.Outcome.TheVariants.{Answered}
 use Rattle.papaya_moves.specs.Given.ActsActs.{Answer as Told, Get, Wanted, OfCall, BeginsCall, StepsCall}
 use Rattle.papaya_moves.specs.Given.ActsDoings.{Doing, Does}
+use Rattle.papaya_moves.specs.Given.ActsLists.{nothing_done}
+use Rattle.papaya_moves.specs.Given.SeizeWordsMem.{Mem}
 use Rattle.papaya_moves.specs.Given.DeedsDeeds.{Entry}
 use Rattle.papaya_moves.specs.Given.EffectsKnown.{Known}
 use Rattle.papaya_moves.specs.Given.FinishesMaps.{Standing}
 use Rattle.papaya_moves.specs.Given.NamedSeen.{kind_of}
 use Rattle.papaya_moves.specs.Given.PlayedPlay.{State as Played, call_for, first_state, outcome_of, play_all}
 use Rattle.papaya_moves.specs.Given.ScenesStepping.{has_ended}
-use Rattle.papaya_histories.specs.Given.NamedTelling.{number_by}
+use Rattle.papaya_histories.specs.Events.{ComesToIt}
 use Rattle.papaya_answers.specs.Answered.{IsAnswered, SeatsAreAnswered}
 use Rattle.papaya_answers.specs.Lookups.{IsLookedUp, IsSuch, LookupsWereSo}
 use Rattle.papaya_answers.proofs.Along.{all_tell}
@@ -93,13 +98,19 @@ module _ {K V S : Type 0} (same : K → K → Bool) (hash : S → K → ℕ) (sc
   found (other ∷ later) [] are all more = absurd are
 
 -- what is told of a lookup, in the words of the history
-such : {K V : Type 0} (known : Known) (value : Option V) (key : K) (told : KeyAnswer)
-    → (answer : Answer V) × IsSuch told answer × (outcome_of {K = K} known (kind_of (call_for {K = K} {V = V} (Get key))) value (Done (Key told)) ≡ Answered answer)
-such known value key says.Absent = (answers.Absent, refl, refl)
-such known value key (says.Found word) = (answers.Found (number_by known word), (number_by known word, refl), refl)
-such known value key (says.Stored new) = (answers.Stored (number_by known new), tt, refl)
-such known value key (says.Replaced old new) = (answers.Found (number_by known old), tt, refl)
-such known value key (says.Removed old) = (answers.Found (number_by known old), tt, refl)
+pub such : {K V : Type 0} (known : Known) (key : K) (replies : List (Option ℕ × Reply V)) (told : KeyAnswer) (o : Outcome V) → ComesToIt known (one_key.Get key) replies (Done (Key told)) o
+    → (answer : Answer V) × IsSuch told answer × (o ≡ Answered answer)
+such known key replies says.Absent (Answered a) (inl so) = (a, (let is = so 0 in let one : answers.Absent ≡ a = cc is in sym one), refl)
+such known key replies (says.Found word) (Answered a) (inl (n, names, so)) = (a, (n, (let is = so 0 in let one : answers.Found n ≡ a = cc is in sym one)), refl)
+such known key replies (says.Stored new) (Answered a) (inr (n, names, value, means)) = absurd (cc means)
+such known key replies (says.Replaced old new) (Answered a) (inr (o, n, was, comes, value, means)) = absurd (cc means)
+such known key replies (says.Removed old) (Answered a) (inr (o, names, means)) = absurd (let is = means 0 in cc is)
+such known key replies says.Absent (Answered a) (inr done) = absurd done
+such known key replies (says.Found word) (Answered a) (inr done) = absurd done
+such known key replies (says.Stored new) (Answered a) (inl so) = absurd so
+such known key replies (says.Replaced old new) (Answered a) (inl so) = absurd so
+such known key replies (says.Removed old) (Answered a) (inl so) = absurd so
+such known key replies told _ comes = absurd comes
 
 module _ {K V S : Type 0} (same : K → K → Bool) (hash : S → K → ℕ) (fixed : Fixed) (small : fixed.batch_size < 2 ^ 64) (aborts : ℕ → V) (id t : ℕ) (v : View K V S) (map : Map S) (wanted : Wanted K V)
     (run : Run K V) (later before : List (Run K V)) (knows : v.map ≡ Some map) (calls_are : v.calls ≡ later ++ run ∷ before) (simple : plain wanted ≡ wanted)
@@ -108,44 +119,49 @@ module _ {K V S : Type 0} (same : K → K → Bool) (hash : S → K → ℕ) (fi
   abbrev calls : List (Called K V)
   calls = calls_of id s.world.doings h.reached.1 []
 
-  pub tell : (after : Played K V S) × (play_all same hash fixed.batch_size fixed.roots aborts s.world.doings (first_state fixed.roots) ≡ Some after) × Tells same id after calls
+  abbrev seen : Option (ℕ × Mem (Node K V))
+  seen = seen_of V same hash fixed.batch_size fixed.roots slot_of h.course id s.world.doings (nothing_done V same hash fixed.batch_size fixed.roots slot_of h.course) h.reached h.led None
+
+  pub tell : (after : Played K V S) × (play_all same hash fixed.batch_size fixed.roots aborts s.world.doings (first_state fixed.roots) ≡ Some after) × Tells same id after calls seen
   tell =
       all_tell V same hash (hashes same hash fixed s h) fixed.batch_size fixed.roots small aborts h.course id s.world.doings h.reached h.led (own same hash fixed s h) h.so.fresh.0 h.so.fresh.2
 
-  runs : AreRuns same hash s.world.scene calls (later ++ run ∷ before)
+  pub runs : AreRuns same hash s.world.scene calls (later ++ run ∷ before)
   runs =
       subst (λ (l : List (Run K V)). AreRuns same hash s.world.scene calls l) calls_are
       (subst (λ (o : Option (View K V S)). AreRuns same hash s.world.scene calls (runs_of o)) at_id (h.calls id))
 
+  -- the call of the list that this is
+  module _ (one : Called K V) (is : IsRun same hash s.world.scene one run) where
+    one_machine : machine_for same hash map t wanted ≡ machine_for same hash is.map (slot_of one.caller) one.wanted
+    one_machine = sym began ∙ is.began
+
+    pub same_wanted : wanted ≡ one.wanted
+    same_wanted = sym simple ∙ one_wanted same hash map is.map t (slot_of one.caller) wanted one.wanted one_machine ∙ is.plainly
+
+    same_caller : seat_of one.caller ≡ id → caller_at id t ≡ one.caller
+    same_caller its =
+        ap (λ (a : ℕ). caller_at a t) (sym its) ∙ ap (λ (a : ℕ). caller_at (seat_of one.caller) a) (one_slot same hash map is.map t (slot_of one.caller) wanted one.wanted one_machine)
+        ∙ its_caller one.caller
+
+    -- maps that stand have roots of their own
+    pub same_map : map.number ≡ one.map
+    same_map = by (cases_eq map.number is.map.number) ∙ is.number
+      where
+        stands : KnowsMap same hash s.world.scene (Some map)
+        stands = subst (λ (o : Option (Map S)). KnowsMap same hash s.world.scene o) knows (h.so.seats id v at_id).map
+
+        there : (m : ℕ) (r : Standing K) → s.world.scene.maps m ≡ Some r → h.reached.0.0.maps m ≡ Some r
+        there m r here = subst (λ (x : Scene K V). x.maps m ≡ Some r) h.scene here
+
+        by : (map.number ≡ is.map.number) ⊎ (map.number ≢ is.map.number) → map.number ≡ is.map.number
+        by (inl e) = e
+        by (inr ne) =
+            absurd (h.reached.0.1.makings.standing.roots map.number is.map.number stands.0 is.stands.0 ne (there map.number stands.0 stands.1) (there is.map.number is.stands.0 is.stands.1)
+            (ap (λ (x : Setting). x.root) stands.2 ∙ one_root same hash map is.map t (slot_of one.caller) wanted one.wanted one_machine ∙ ap (λ (x : Setting). x.root) (sym is.stands.2)))
+
   it : Found same hash s.world.scene (HasAnswered same tell.0.history) (IsIts id) run before
   it = found same hash s.world.scene (HasAnswered same tell.0.history) (IsIts id) run before later calls runs tell.2.answered (calls_its id s.world.doings h.reached.1 [] tt)
-
-  one_machine : machine_for same hash map t wanted ≡ machine_for same hash it.is.map (slot_of it.one.caller) it.one.wanted
-  one_machine = sym began ∙ it.is.began
-
-  same_wanted : wanted ≡ it.one.wanted
-  same_wanted = sym simple ∙ one_wanted same hash map it.is.map t (slot_of it.one.caller) wanted it.one.wanted one_machine ∙ it.is.plainly
-
-  same_caller : caller_at id t ≡ it.one.caller
-  same_caller =
-      ap (λ (a : ℕ). caller_at a t) (sym it.too) ∙ ap (λ (a : ℕ). caller_at (seat_of it.one.caller) a) (one_slot same hash map it.is.map t (slot_of it.one.caller) wanted it.one.wanted one_machine)
-      ∙ its_caller it.one.caller
-
-  -- maps that stand have roots of their own
-  same_map : map.number ≡ it.one.map
-  same_map = by (cases_eq map.number it.is.map.number) ∙ it.is.number
-    where
-      stands : KnowsMap same hash s.world.scene (Some map)
-      stands = subst (λ (o : Option (Map S)). KnowsMap same hash s.world.scene o) knows (h.so.seats id v at_id).map
-
-      there : (m : ℕ) (r : Standing K) → s.world.scene.maps m ≡ Some r → h.reached.0.0.maps m ≡ Some r
-      there m r is = subst (λ (x : Scene K V). x.maps m ≡ Some r) h.scene is
-
-      by : (map.number ≡ it.is.map.number) ⊎ (map.number ≢ it.is.map.number) → map.number ≡ it.is.map.number
-      by (inl e) = e
-      by (inr ne) =
-          absurd (h.reached.0.1.makings.standing.roots map.number it.is.map.number stands.0 it.is.stands.0 ne (there map.number stands.0 stands.1) (there it.is.map.number it.is.stands.0 it.is.stands.1)
-          (ap (λ (x : Setting). x.root) stands.2 ∙ one_root same hash map it.is.map t (slot_of it.one.caller) wanted it.one.wanted one_machine ∙ ap (λ (x : Setting). x.root) (sym it.is.stands.2)))
 
   abbrev history : List (Entry K V)
   history = tell.0.history
@@ -158,29 +174,45 @@ module _ {K V S : Type 0} (same : K → K → Bool) (hash : S → K → ℕ) (fi
   Comes known value c m w told =
       IsAnswered same history c m (call_for w) (outcome known value w told)
       × ((key : K) (answer : Answer V) → call_for w ≡ On (one_key.Get key) → outcome known value w told ≡ Answered answer → IsLookedUp same history c m key answer)
+      × ((key : OneKey K V) → call_for w ≡ On key → (replies : List (Option ℕ × Reply V)) × ComesToIt known key replies told (outcome known value w told))
 
   pub comes : (known : Known) × (value : Option V) × Comes known value (caller_at id t) map.number wanted run.told
   comes =
       let has = it.its (ap has_ended (sym it.is.told) ∙ ended) in (
         has.0,
         has.1,
-        subst (λ (c : ℕ). Comes has.0 has.1 c map.number wanted run.told) (sym same_caller)
-            (subst (λ (m : ℕ). Comes has.0 has.1 it.one.caller m wanted run.told) (sym same_map)
-            (subst (λ (w : Wanted K V). Comes has.0 has.1 it.one.caller it.one.map w run.told) (sym same_wanted)
-            (subst (λ (p : Progress (Node K V)). Comes has.0 has.1 it.one.caller it.one.map it.one.wanted p) (sym it.is.told) (has.2, has.3)))),
+        subst (λ (c : ℕ). Comes has.0 has.1 c map.number wanted run.told) (sym (same_caller it.one it.is it.too))
+            (subst (λ (m : ℕ). Comes has.0 has.1 it.one.caller m wanted run.told) (sym (same_map it.one it.is))
+            (subst (λ (w : Wanted K V). Comes has.0 has.1 it.one.caller it.one.map w run.told) (sym (same_wanted it.one it.is))
+            (subst (λ (p : Progress (Node K V)). Comes has.0 has.1 it.one.caller it.one.map it.one.wanted p) (sym it.is.told) (has.2, has.3, has.4)))),
       )
 
   pub answered : (after : Played K V S) × (play_all same hash fixed.batch_size fixed.roots aborts s.world.doings (first_state fixed.roots) ≡ Some after) × (known : Known) × (value : Option V)
       × IsAnswered same after.history (caller_at id t) map.number (call_for wanted) (outcome_of known (kind_of (call_for wanted)) value run.told)
   answered = (tell.0, tell.1, comes.0, comes.1, comes.2.0)
 
+  -- where it has told this of a call on this key, it has come to what that says
+  pub on_key : (key : OneKey K V) (told : Progress (Node K V)) → call_for wanted ≡ On key → run.told ≡ told
+      → (known : Known) × (replies : List (Option ℕ × Reply V)) × (o : Outcome V) × ComesToIt known key replies told o × IsAnswered same history (caller_at id t) map.number (On key) o
+      × ((k : K) (answer : Answer V) → On key ≡ On (one_key.Get k) → o ≡ Answered answer → IsLookedUp same history (caller_at id t) map.number k answer)
+  on_key key told wants tells =
+      let o = outcome comes.0 comes.1 wanted run.told in
+      let says = comes.2.2 key wants in (
+        comes.0,
+        says.0,
+        o,
+        subst (λ (p : Progress (Node K V)). ComesToIt comes.0 key says.0 p o) tells says.1,
+        subst (λ (c : Call K V). IsAnswered same history (caller_at id t) map.number c o) wants comes.2.0,
+        λ k answer is. comes.2.1 k answer (wants ∙ is),
+      )
+
   -- where it looked a key up, and was told this of it
   pub was_so : (key : K) (told : KeyAnswer) → wanted ≡ Get key → run.told ≡ Done (Key told)
       → (after : Played K V S) × (play_all same hash fixed.batch_size fixed.roots aborts s.world.doings (first_state fixed.roots) ≡ Some after) × (answer : Answer V) × IsSuch told answer
       × IsLookedUp same after.history (caller_at id t) map.number key answer
   was_so key told wants tells =
-      let is = ap (λ (w : Wanted K V). outcome comes.0 comes.1 w run.told) wants ∙ ap (λ (p : Progress (Node K V)). outcome comes.0 comes.1 (Get key) p) tells in
-      let by = such comes.0 comes.1 key told in (tell.0, tell.1, by.0, by.1, comes.2.1 key by.0 (ap call_for wants) (is ∙ by.2))
+      let on = on_key (one_key.Get key) (Done (Key told)) (ap call_for wants) tells in
+      let by = such on.0 key on.1 told on.2 on.3 in (tell.0, tell.1, by.0, by.1, on.5 key by.0 refl by.2)
 
 module _ {K S : Type 0} (V : Type 0) (same : K → K → Bool) (hash : S → K → ℕ) where
   pub seats_are_answered : SeatsAreAnswered V same hash

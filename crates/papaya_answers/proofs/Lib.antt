@@ -3,8 +3,10 @@ mod Own
 mod Legal
 mod Wanted
 mod Lookups
+mod Words
 mod Tells
 mod Acts
 mod Along
 mod Answered
+pub mod Calls
 mod Samples

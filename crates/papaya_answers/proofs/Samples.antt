@@ -20,7 +20,8 @@ use Rattle.papaya_moves.specs.Given.SchedulesViews.{call_of, finite_map}
 use Rattle.papaya_moves.specs.Given.DeedsDeeds.{Deed, Begins, Steps, Opens, MapComes, Entry, moment, named}
 use Rattle.papaya_moves.specs.Given.DeedsHistory.{moments_from}
 use Rattle.papaya_answers.specs.Answered.{IsAnswered, IsItsEnd}
-use Rattle.papaya_answers.specs.Lookups.{IsLookedUp, WasSo}
+use Rattle.papaya_histories.specs.Given.RunsLog.{pair_at}
+use Rattle.papaya_answers.specs.Lookups.{HadValue, IsLookedUp, WasHad, WasSo}
 
 abbrev entry : Deed ℕ ℕ → Outcome ℕ → List Effect → Entry ℕ ℕ
 entry deed outcome effects = record { deed = deed; outcome = outcome; effects = effects; refused = false }
@@ -60,7 +61,7 @@ stands =
     })
 
 was_so : IsLookedUp nat_eq (told answer.Absent first) 3 0 1 answer.Absent
-was_so = inl (record { deed = refl; comes = refl; there = (there (looking first) refl).0; here = (there (looking first) refl).1; on = refl; so = inl refl })
+was_so = inl (record { deed = refl; comes = refl; there = (there (looking first) refl).0; here = (there (looking first) refl).1; on = refl; what = refl; so = inl refl })
 
 -- neither of two is so
 either : {A B : Type 0} → (A → ⊥) → (B → ⊥) → A ⊎ B → ⊥
@@ -132,7 +133,7 @@ removed = entry (Steps 2) Goes (Removed 1 ∷ []) ∷ entry (Begins 2 3 0 (On (R
 
 -- a lookup finds it while it is there,
 found_there : IsLookedUp nat_eq (told (answer.Found 1) stored) 3 0 1 (answer.Found 1)
-found_there = inl (record { deed = refl; comes = refl; there = (there (looking stored) refl).0; here = (there (looking stored) refl).1; on = refl; so = inl refl })
+found_there = inl (record { deed = refl; comes = refl; there = (there (looking stored) refl).0; here = (there (looking stored) refl).1; on = refl; what = refl; so = inl refl })
 
 -- Wrong: one that begins later has found it; or has found none while it was there.
 abbrev WasSoThen : Answer ℕ → List (Entry ℕ ℕ) → Type 0
@@ -156,3 +157,43 @@ found_absent n h = cc
 missed : WasSoThen answer.Absent stored → ⊥
 missed was =
     either (found_absent 1) (either (found_absent 1) never) (subst (λ (b : ℕ). SoSince b answer.Absent stored) (begun_then stored 5 refl refl answer.Absent was) was.so)
+
+-- the value that the finite map had is the one that was stored,
+found_stored : WasSo nat_eq 3 0 1 (answer.Found 1) (looking stored) (entry (Steps 3) (Answered (answer.Found 1)) [])
+found_stored = record { deed = refl; comes = refl; there = (there (looking stored) refl).0; here = (there (looking stored) refl).1; on = refl; what = refl; so = inl refl }
+
+had_stored : HadValue nat_eq (told (answer.Found 1) stored) 3 0 1 10
+had_stored = inl (record { number = 1; found = found_stored; stored = 1; pair = refl })
+
+-- Wrong: another value.
+two_values : (key : ℕ) → ◌≡◌ {A = Option (ℕ × ℕ)} (Some (1, 10)) (Some (key, 11)) → ⊥
+two_values key h = let both = same_some (1, 10) (key, 11) h in let values : 10 ≡ 11 = ap (λ (p : ℕ × ℕ). p.1) both in omega (arith, values)
+
+had_other : WasHad nat_eq 3 0 1 11 (looking stored) (entry (Steps 3) (Answered (answer.Found 1)) []) → ⊥
+had_other was =
+    let found = was.found.comes in
+    let one : was.number ≡ 1 = cc found in
+    two_values was.stored (subst (λ (n : ℕ). pair_at (moment (told (answer.Found 1) stored)).stored n ≡ Some (was.stored, 11)) one was.pair)
+
+-- A storing that has found none to replace;
+abbrev storing : List (Entry ℕ ℕ)
+storing = entry (Steps 1) Goes (Stored 1 (record { turn = 0; place = 1 }) ∷ []) ∷ entry (Begins 1 3 0 (On (Insert 1 10))) Goes [] ∷ first
+
+abbrev stores : (log : List (Entry ℕ ℕ)) → is_none (call_of (named 1) (moment log)) ≡ false → (c : UnderWay ℕ ℕ) × (call_of (named 1) (moment log) ≡ Some c)
+stores log is = the (call_of (named 1) (moment log)) is
+
+has_stored : IsAnswered nat_eq stored 1 0 (On (Insert 1 10)) (Answered answer.Absent)
+has_stored =
+    inl (record {
+      deed = refl;
+      comes = refl;
+      there = (stores storing refl).0;
+      here = (stores storing refl).1;
+      on = refl;
+      what = refl;
+      right = record { changes = inl refl; ends = refl; asks = tt };
+    })
+
+-- wrong: it says that it has replaced a pair, which was not there.
+has_not_replaced : IsItsEnd nat_eq 1 0 (On (Insert 1 10)) (Answered (answer.Found 5)) storing (entry (Steps 1) (Answered (answer.Found 5)) []) → ⊥
+has_not_replaced is = found_absent 5 is.right.ends

@@ -1,15 +1,25 @@
--- What a state that is played tells of the calls of a seat: those that have ended were answered in its history, and those that are under way are the newest of their callers.
+-- What a state that is played tells of the calls of a seat: those that have ended were answered in its history, and those that are under way are the newest of their callers; and
+-- the pair that the newest one has found is the one that was seen.
 use Rattle.std.specs.Prelude.{◌≢◌, ◌==◌, ◌⊎◌, Option, Some, None, if◌then◌else◌}
 use Rattle.std.specs.List.{AllByRecursion}
 use Rattle.std.proofs.Common.{◌≡◌, ℕ, Bool, true, false, List, [], ◌∷◌, inl, inr, refl, sym, subst, ap, ◌∙◌}
 use Rattle.std.proofs.lemmas.Bool.{cases_eq, eq-eqb, ne_eqb}
+use Rattle.papaya_views.specs.Given.SeizeWordsWord.{block_in}
 use Rattle.papaya_views.specs.Given.TablesDeclared.node.Node.{Node}
+use Rattle.papaya_views.specs.Given.TablesDeclared.node.Node.TheVariants.{Pair}
+use Rattle.papaya_views.specs.Given.RawDeclared.machines.answer.KeyAnswer.TheVariants.{Found}
+use Rattle.papaya_views.specs.Given.RawDeclared.machines.progress.Answer.TheVariants.{Key}
 use Rattle.papaya_views.specs.Given.RawDeclared.machines.progress.Progress.{Progress}
+use Rattle.papaya_views.specs.Given.RawDeclared.machines.progress.Progress.TheVariants.{Done}
 use Rattle.papaya_views.specs.Listed.{Called, has_told, seat_of}
 use Rattle.papaya_moves.specs.Given.SchedulesDeclared.call.Answer.{Answer}
 use Rattle.papaya_moves.specs.Given.SchedulesDeclared.call.Call.{Call}
 use Rattle.papaya_moves.specs.Given.SchedulesDeclared.call.Call.TheVariants.{On}
+use Rattle.papaya_moves.specs.Given.SchedulesDeclared.call.OneKey.{OneKey}
 use Rattle.papaya_moves.specs.Given.SchedulesDeclared.call.OneKey.TheVariants.{Get}
+use Rattle.papaya_moves.specs.Given.SchedulesDeclared.call.Reply.{Reply}
+use Rattle.papaya_moves.specs.Given.SeizeWordsMem.{Mem, value_at}
+use Rattle.papaya_histories.specs.Events.{ComesToIt}
 use Rattle.papaya_moves.specs.Given.SchedulesDeclared.outcome.Outcome.{Outcome}
 use Rattle.papaya_moves.specs.Given.SchedulesDeclared.outcome.Outcome.TheVariants.{Answered}
 use Rattle.papaya_moves.specs.Given.DeedsDeeds.{Entry}
@@ -18,7 +28,7 @@ use Rattle.papaya_moves.specs.Given.NamedSeen.{kind_of}
 use Rattle.papaya_moves.specs.Given.PlayedPlay.{Calling, State, call_for, outcome_of}
 use Rattle.papaya_moves.specs.Given.ScenesStepping.{has_ended}
 use Rattle.papaya_answers.specs.Answered.{IsAnswered}
-use Rattle.papaya_answers.specs.Lookups.{IsLookedUp}
+use Rattle.papaya_answers.specs.Lookups.{HadValue, IsLookedUp}
 
 -- one of two, by a test
 abbrev pub IfElse : Bool → Type 0 → Type 0 → Type 0
@@ -35,22 +45,47 @@ module _ {K V : Type 0} (same : K → K → Bool) where
   abbrev pub WasSoFor : List (Entry K V) → Called K V → Outcome V → Type 0
   WasSoFor history one outcome = (key : K) (answer : Answer V) → call_for one.wanted ≡ On (Get key) → outcome ≡ Answered answer → IsLookedUp same history one.caller one.map key answer
 
+  -- what one on a key has told is what it was answered
+  abbrev pub SaysSo : Known → Called K V → Outcome V → Type 0
+  SaysSo known one outcome = (key : OneKey K V) → call_for one.wanted ≡ On key → (replies : List (Option ℕ × Reply V)) × ComesToIt known key replies one.told outcome
+
   -- a call that has ended was answered in the history
   abbrev pub HasAnswered : List (Entry K V) → Called K V → Type 0
   HasAnswered history one =
       has_ended one.told ≡ true
       → (known : Known) × (value : Option V) × IsAnswered same history one.caller one.map (call_for one.wanted) (outcome_of known (kind_of (call_for one.wanted)) value one.told)
-      × WasSoFor history one (outcome_of known (kind_of (call_for one.wanted)) value one.told)
+      × WasSoFor history one (outcome_of known (kind_of (call_for one.wanted)) value one.told) × SaysSo known one (outcome_of known (kind_of (call_for one.wanted)) value one.told)
 
   -- the newest call of this caller is this one, on this map
   abbrev pub IsCalled : ℕ → ℕ → Call K V → List (Called K V) → Type 0
   IsCalled i m call [] = ⊥
   IsCalled i m call (one ∷ before) = IfElse (one.caller == i) ((one.map ≡ m) × (call_for one.wanted ≡ call)) (IsCalled i m call before)
 
+  -- the pair that a lookup has found is the one that was seen in this memory
+  abbrev pub HasSeenPair : List (Entry K V) → Mem (Node K V) → Called K V → Type 0
+  HasSeenPair history memory one =
+      (key : K) (word : ℕ) → call_for one.wanted ≡ On (Get key) → one.told ≡ Done (Key (Found word))
+      → (stored : K) × (value : V) × (value_at memory (block_in word) ≡ Some (Pair stored value)) × HadValue same history one.caller one.map key value
+
+  -- of the newest call, if it is this caller's
+  abbrev pub IfNewest : ℕ → (Called K V → Type 0) → List (Called K V) → Type 0
+  IfNewest i P [] = Unit {0}
+  IfNewest i P (one ∷ before) = one.caller ≡ i → P one
+
+  had_more : (history then_ : List (Entry K V)) (i m : ℕ) (key : K) (value : V) → GoesOn history then_ → HadValue same history i m key value → HadValue same then_ i m key value
+  had_more history then_ i m key value (inl is) had = subst (λ (x : List (Entry K V)). HadValue same x i m key value) (sym is) had
+  had_more history then_ i m key value (inr (e, is)) had = subst (λ (x : List (Entry K V)). HadValue same x i m key value) (sym is) (inr had)
+
+  pub newest_on : (history then_ : List (Entry K V)) (i : ℕ) (memory : Mem (Node K V)) → GoesOn history then_ → (calls : List (Called K V)) → IfNewest i (HasSeenPair history memory) calls
+      → IfNewest i (HasSeenPair then_ memory) calls
+  newest_on history then_ i memory goes [] has = tt
+  newest_on history then_ i memory goes (one ∷ before) has =
+      λ of key word wanted told. (let it = has of key word wanted told in (it.0, it.1, it.2, had_more history then_ one.caller one.map key it.1 goes it.3))
+
   one_more : (history then_ : List (Entry K V)) (one : Called K V) → GoesOn history then_ → HasAnswered history one → HasAnswered then_ one
   one_more history then_ one (inl is) has = subst (λ (x : List (Entry K V)). HasAnswered x one) (sym is) has
   one_more history then_ one (inr (e, is)) has =
-      subst (λ (x : List (Entry K V)). HasAnswered x one) (sym is) (λ ended. let it = has ended in (it.0, it.1, inr it.2, (λ key answer call is. inr (it.3 key answer call is))))
+      subst (λ (x : List (Entry K V)). HasAnswered x one) (sym is) (λ ended. let it = has ended in (it.0, it.1, inr it.2, (λ key answer call is. inr (it.3 key answer call is)), it.4))
 
   pub answered_on : (history then_ : List (Entry K V)) → GoesOn history then_ → (calls : List (Called K V)) → AllByRecursion (HasAnswered history) calls → AllByRecursion (HasAnswered then_) calls
   answered_on history then_ goes [] all = tt
@@ -93,14 +128,16 @@ module _ {K V : Type 0} (same : K → K → Bool) where
             subst (λ (q : Bool). AllByRecursion (HasAnswered history) (if q then record one { told = told } ∷ calls else one ∷ has_told i told calls)) (sym test) (all.0, rest its)
 
   -- So a state tells of the calls of a seat.
-  pub record Tells {S : Type 0} (seat : ℕ) (x : State K V S) (calls : List (Called K V)) : Type 0 where
+  pub record Tells {S : Type 0} (seat : ℕ) (x : State K V S) (calls : List (Called K V)) (seen : Option (ℕ × Mem (Node K V))) : Type 0 where
     pub answered : AllByRecursion (HasAnswered x.history) calls
+    pub found : (i : ℕ) (memory : Mem (Node K V)) → seen ≡ Some (i, memory) → IfNewest i (HasSeenPair x.history memory) calls
     pub under_way : (m i : ℕ) (c : Calling K V) → seat ≡ seat_of i → x.now.calls m i ≡ Some c → IsCalled i m c.call calls
 
   -- where nothing has changed of what is called
-  pub quiet : {S : Type 0} (seat : ℕ) (x z : State K V S) (calls : List (Called K V)) → GoesOn x.history z.history
-      → ((m i : ℕ) (c : Calling K V) → seat ≡ seat_of i → z.now.calls m i ≡ Some c → (d : Calling K V) × (x.now.calls m i ≡ Some d) × (d.call ≡ c.call)) → Tells seat x calls → Tells seat z calls
-  quiet seat x z calls goes as_before tells = record {
+  pub quiet : {S : Type 0} (seat : ℕ) (x z : State K V S) (calls : List (Called K V)) (seen : Option (ℕ × Mem (Node K V))) → GoesOn x.history z.history
+      → ((m i : ℕ) (c : Calling K V) → seat ≡ seat_of i → z.now.calls m i ≡ Some c → (d : Calling K V) × (x.now.calls m i ≡ Some d) × (d.call ≡ c.call)) → Tells seat x calls seen → Tells seat z calls seen
+  quiet seat x z calls seen goes as_before tells = record {
     answered = answered_on x.history z.history goes calls tells.answered;
+    found = λ i memory is. newest_on x.history z.history i memory goes calls (tells.found i memory is);
     under_way = λ m i c of has. let it = as_before m i c of has in subst (λ (call : Call K V). IsCalled i m call calls) it.2 (tells.under_way m i it.0 of it.1);
   }

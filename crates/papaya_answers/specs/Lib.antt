@@ -1,3 +1,4 @@
 pub mod Legal
 pub mod Answered
 pub mod Lookups
+pub mod Calls

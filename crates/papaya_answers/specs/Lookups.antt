@@ -18,20 +18,24 @@ use Rattle.papaya_moves.specs.Given.SchedulesSequential.{looked}
 use Rattle.papaya_moves.specs.Given.SchedulesViews.{call_of, finite_map}
 use Rattle.papaya_moves.specs.Given.SchedulesDeclared.call.Answer.{Answer}
 use Rattle.papaya_moves.specs.Given.SchedulesDeclared.call.Answer.TheVariants as answers
+use Rattle.papaya_moves.specs.Given.SchedulesDeclared.call.Call.TheVariants.{On}
+use Rattle.papaya_moves.specs.Given.SchedulesDeclared.call.OneKey.TheVariants.{Get}
 use Rattle.papaya_moves.specs.Given.SchedulesDeclared.outcome.Outcome.TheVariants.{Answered}
 use Rattle.papaya_moves.specs.Given.DeedsDeeds.{Entry, Steps, moment, named}
 use Rattle.papaya_moves.specs.Given.DeedsHistory.{moments_from}
 use Rattle.papaya_moves.specs.Given.PlayedPlay.{State as Played, first_state, play_all}
-use Rattle.papaya_moves.specs.Given.ActsActs.{Get}
+use Rattle.papaya_moves.specs.Given.ActsActs.{Get as GetsKey}
+use Rattle.papaya_histories.specs.Given.RunsLog.{pair_at}
 
 module _ {K V : Type 0} (same : K → K → Bool) where
-  -- By this entry the caller's call on this map is answered this, and at a moment since it began the finite map of that map had just that for the key: a pair, or none.
+  -- By this entry the caller's call on this map, to get this key, is answered this, and at a moment since it began the finite map of that map had just that for the key: a pair, or none.
   pub record WasSo (i map : ℕ) (key : K) (answer : Answer V) (log : List (Entry K V)) (e : Entry K V) : Type 0 where
     pub deed : e.deed ≡ Steps i
     pub comes : e.outcome ≡ Answered answer
     pub there : UnderWay K V
     pub here : call_of (named i) (moment log) ≡ Some there
     pub on : there.map ≡ map
+    pub what : there.call ≡ On (Get key)
     pub so : OneOf (λ m. looked (finite_map same map m key) ≡ answer) (moments_from there.begun log)
 
   -- somewhere in the history
@@ -39,11 +43,22 @@ module _ {K V : Type 0} (same : K → K → Bool) where
   IsLookedUp [] i map key answer = ⊥
   IsLookedUp (e ∷ log) i map key answer = WasSo i map key answer log e ⊎ IsLookedUp log i map key answer
 
+  -- By this entry it is answered with a pair, which the finite map had for the key at that moment; and the pair that is stored under this number has this value.
+  pub record WasHad (i map : ℕ) (key : K) (value : V) (log : List (Entry K V)) (e : Entry K V) : Type 0 where
+    pub number : ℕ
+    pub found : WasSo i map key (answers.Found number) log e
+    pub stored : K
+    pub pair : pair_at (moment (e ∷ log)).stored number ≡ Some (stored, value)
+
+  abbrev pub HadValue : List (Entry K V) → ℕ → ℕ → K → V → Type 0
+  HadValue [] i map key value = ⊥
+  HadValue (e ∷ log) i map key value = WasHad i map key value log e ⊎ HadValue log i map key value
+
 -- a pair was found, or none
 abbrev pub IsSuch : {V : Type 0} → KeyAnswer → Answer V → Type 0
 IsSuch Absent answer = answer ≡ answers.Absent
 IsSuch (Found word) answer = (n : ℕ) × (answer ≡ answers.Found n)
-IsSuch told answer = Unit {0}
+IsSuch told answer = ⊥
 
 module _ {K S : Type 0} (V : Type 0) (same : K → K → Bool) (hash : S → K → ℕ) where
   -- The promise: what a seat was told of a key that it has looked up, in this slot, on the map that it knows, was so at a moment since it began to look, by the history of
@@ -51,7 +66,7 @@ module _ {K S : Type 0} (V : Type 0) (same : K → K → Bool) (hash : S → K �
   abbrev pub LookupsWereSo : Type 0
   LookupsWereSo =
       (fixed : Fixed) → fixed.batch_size < 2 ^ 64 → (aborts : ℕ → V) (id t : ℕ) (v : View K V S) (map : Map S) (key : K) (run : Run K V) (later before : List (Run K V)) (told : KeyAnswer)
-      → v.map ≡ Some map → v.calls ≡ later ++ run ∷ before → run.began ≡ machine_for same hash map t (Get key) → run.told ≡ Done (Key told)
+      → v.map ≡ Some map → v.calls ≡ later ++ run ∷ before → run.began ≡ machine_for same hash map t (GetsKey key) → run.told ≡ Done (Key told)
       → (s : State (Node K V) (View K V S) (MapsWorld K V S)) → Holds same hash fixed s → view_of s id ≡ Some v
       → (after : Played K V S) × (play_all same hash fixed.batch_size fixed.roots aborts s.world.doings (first_state fixed.roots) ≡ Some after)
       × (answer : Answer V) × IsSuch told answer × IsLookedUp same after.history (caller_at id t) map.number key answer

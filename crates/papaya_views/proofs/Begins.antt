@@ -194,6 +194,8 @@ module _ {K V S : Type 0} (same : K → K → Bool) (hash : S → K → ℕ) (fi
       others = λ j ne theirs. ap (λ (q : Bool). if q then call ∷ theirs else theirs) (is_other j id place fits.slot ne);
       its = λ are. subst (λ (q : Bool). AreRuns same hash to (if q then call ∷ before else before) (run ∷ v.calls)) (sym (is_its id place fits.slot)) (is_run, are);
       newest = λ other works. subst (λ (q : Bool). IsNewest i (if q then call ∷ before else before)) (sym (is_its id place fits.slot)) refl;
+      aside = λ j ne theirs. refl;
+      seen = λ before b x none. absurd (cc none);
     }
 
     begins : Goes (Holds same hash fixed) KeepsFor s s.memory id (λ x. x ≡ calling v machine)
@@ -236,7 +238,7 @@ module _ {K V S : Type 0} (same : K → K → Bool) (hash : S → K → ℕ) (fi
         (replied v machine reply)
         (go place is told_led.3 (machine_replied machine reply).0 reply_is on (TellsCall i map.number reply) v.calls
         (numbered_on s.world.doings (Does (TellsCall i map.number reply) ∷ []) 0 fresh.0 fresh.0 fresh.2 refl) its_pair)
-        (record { own = ((λ m k. 0), tt); others = λ j ne theirs. refl; its = λ are. are; newest = λ other on. h.newest id v machine at_id works }) (λ x. x ≡ replied v machine reply) refl
+        (record { own = ((λ m k. 0), tt); others = λ j ne theirs. refl; its = λ are. are; newest = λ other on. h.newest id v machine at_id works; aside = λ j ne theirs. refl; seen = λ before b x none. absurd (cc none) }) (λ x. x ≡ replied v machine reply) refl
 
 module _ {K S : Type 0} (V : Type 0) (same : K → K → Bool) (hash : S → K → ℕ) where
   pub calls_begin : CallsBegin V same hash

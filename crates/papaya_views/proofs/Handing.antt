@@ -9,6 +9,7 @@ use Rattle.seize_seats.specs.State.{State, view_of}
 use Rattle.seize_views.specs.declared.view.Fixed.{Fixed}
 use Rattle.seize_views.proofs.Lists.{there, elsewhere}
 use Rattle.papaya_views.specs.Begun.{shown_map}
+use Rattle.papaya_views.specs.Looks.{shown_in}
 use Rattle.papaya_views.specs.Promises.{MapsAreHandedOn}
 use Rattle.papaya_views.specs.Rule.{MapsWorld, DoesSo, KnowsMap, KnowsPair, Fits, Holds, caller_at, place_of}
 use Rattle.papaya_views.specs.declared.view.Map.{Map}
@@ -63,9 +64,10 @@ module _ {K V S : Type 0} (same : K → K → Bool) (hash : S → K → ℕ) (fi
         slot = ap (λ (y : View K V S). y.slot) (sym one);
         calls = ap (λ (y : View K V S). y.calls) (sym one);
         work = ap (λ (y : View K V S). y.work) (sym one);
+        held = λ b y shown. ap (λ (z : View K V S). shown_in z.held b) one ∙ shown;
         fits = subst (λ (y : View K V S). Fits same hash scene k y) one (subst (λ (a : ℕ). Fits same hash scene a q) (sym e) given);
       }
-  had k x at (inr ne) = let was = sym (before k ne) ∙ at in record { knew = x; at = was; slot = refl; calls = refl; work = refl; fits = h.so.seats k x was }
+  had k x at (inr ne) = let was = sym (before k ne) ∙ at in record { knew = x; at = was; slot = refl; calls = refl; work = refl; held = λ b y shown. shown; fits = h.so.seats k x was }
 
   unborn : (k : ℕ) → slice_get views k ≡ None → (k ≡ j) ⊎ (k ≢ j) → view_of s k ≡ None
   unborn k at (inl e) = let f = ap (slice_get views) e in let g = here in absurd (cc (f, g, at))

@@ -14,7 +14,7 @@ use Rattle.papaya_views.specs.declared.view.View.{View}
 use Rattle.papaya_views.specs.declared.view.Work.{Work}
 
 module _ {K V S : Type 0} (same : K → K → Bool) (hash : S → K → ℕ) where
-  value_of : (scene : Scene K V) (slot : SlotView (Node K V)) (work : Work K V S) (b : ℕ) (x : Node K V) (looks : List (ℕ × Node K V)) → AllHeld same hash scene slot work looks → shown_in looks b ≡ Some x
+  pub value_of : (scene : Scene K V) (slot : SlotView (Node K V)) (work : Work K V S) (b : ℕ) (x : Node K V) (looks : List (ℕ × Node K V)) → AllHeld same hash scene slot work looks → shown_in looks b ≡ Some x
       → value_at scene.world.memory b ≡ Some x
   value_of scene slot work b x [] held is = absurd (cc is)
   value_of scene slot work b x (look ∷ looks) held is = by (b == look.0) refl is (value_of scene slot work b x looks held.1)

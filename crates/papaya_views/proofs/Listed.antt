@@ -3,15 +3,16 @@ use Rattle.std.specs.Prelude.{◌≢◌, ◌==◌, ◌++◌, length, suc, Option
 use Rattle.std.specs.List.{AllByRecursion}
 use Rattle.std.proofs.Common.{◌≡◌, ℕ, ◌+◌, Bool, List, [], ◌∷◌, refl, sym, subst, ap, ◌∙◌, arith}
 use Rattle.std.proofs.lemmas.Bool.{eq-eqb, ne_eqb}
+use Rattle.seize_words.specs.Mem.{Mem}
 use Rattle.papaya_tables.specs.declared.node.Node.{Node}
 use Rattle.papaya_tables.specs.declared.setting.Setting.{Setting}
 use Rattle.papaya_raw.specs.declared.machines.progress.Progress.{Progress}
 use Rattle.papaya_looks.specs.Given.FinishesMaps.{Standing}
 use Rattle.papaya_acts.specs.Given.ScenesScene.{Scene}
 use Rattle.papaya_acts.specs.Acts.{Act, Answer, BeginsCall, StepsCall, TellsCall, AsksCall, StopsCall, BeginsMaking, StepsMaking, BeginsEnding, StepsEnding, BeginsRow, StepsRow}
-use Rattle.papaya_acts.specs.Doings.{Doing, Does, BeginsReclaiming, BeginsClearing, StepsReclaiming, Chooses}
+use Rattle.papaya_acts.specs.Doings.{Doing, Does, BeginsReclaiming, BeginsClearing, StepsReclaiming, Chooses, MayDo}
 use Rattle.papaya_acts.specs.Lists.{Course, Reached, LedOn, LedTo, nothing_done, on_by}
-use Rattle.papaya_views.specs.Listed.{Called, calls_then, calls_of, has_told, AreNumbered, IsNewest, seat_of}
+use Rattle.papaya_views.specs.Listed.{Called, calls_then, calls_of, has_told, seen_then, seen_of, AreNumbered, IsNewest, seat_of}
 use Rattle.papaya_views.specs.Rule.{IsSlot, KnowsMap, IsRun, AreRuns, caller_at}
 use Rattle.papaya_views.specs.Told.{newest_told}
 use Rattle.papaya_views.specs.declared.view.Map.{Map}
@@ -75,6 +76,30 @@ module _ {K S : Type 0} (V : Type 0) (same : K → K → Bool) (hash : S → K �
   as_many (doing ∷ doings) x y (may, led) =
       let rest = as_many doings (on_by V same hash batch_size roots slot course x doing may) y led in
       let longer = one_longer x.1 (course.told x.0 doing may) in omega (arith, rest, longer)
+
+  -- what has led on from elsewhere has led on from where that is
+  from_there : (seat : ℕ) (doings : List (Doing K V S)) (x y z : Reached V same hash batch_size roots slot) (is : y ≡ x) (led : LedOn V same hash batch_size roots slot course doings y z)
+      (seen : Option (ℕ × Mem (Node K V)))
+      → seen_of V same hash batch_size roots slot course seat doings y z led seen
+      ≡ seen_of V same hash batch_size roots slot course seat doings x z (subst (λ (w : Reached V same hash batch_size roots slot). LedOn V same hash batch_size roots slot course doings w z) is led) seen
+  from_there seat doings x y z is led seen =
+      λ j. seen_of V same hash batch_size roots slot course seat doings (is j) z (coe 0 j (i. LedOn V same hash batch_size roots slot course doings (is i) z) led) seen
+
+  -- An act more leads on, and what was seen is then what that leaves.
+  pub led_more : (doings : List (Doing K V S)) (doing : Doing K V S) (x y : Reached V same hash batch_size roots slot) (led : LedOn V same hash batch_size roots slot course doings x y)
+      (may : MayDo V same hash batch_size roots slot doing y.0)
+      → (let next = on_by V same hash batch_size roots slot course y doing may in
+      (more : LedOn V same hash batch_size roots slot course (doings ++ doing ∷ []) x next)
+      × ((seat : ℕ) (seen : Option (ℕ × Mem (Node K V))) → seen_of V same hash batch_size roots slot course seat (doings ++ doing ∷ []) x next more seen
+      ≡ seen_then seat doing next.0.0.world.memory (seen_of V same hash batch_size roots slot course seat doings x y led seen)))
+  led_more [] doing x y led may =
+      let next = on_by V same hash batch_size roots slot course y doing may in (
+        subst (λ (w : Reached V same hash batch_size roots slot). LedOn V same hash batch_size roots slot course (doing ∷ []) w next) led (may, refl),
+        λ seat seen. sym (from_there seat (doing ∷ []) x y next led (may, refl) seen),
+      )
+  led_more (one ∷ doings) doing x y (first, led) may =
+      let next = on_by V same hash batch_size roots slot course x one first in
+      let rest = led_more doings doing next y led may in ((first, rest.0), λ seat seen. rest.1 seat (seen_then seat one next.0.0.world.memory seen))
 
   pub as_long : (doings : List (Doing K V S)) (y : Reached V same hash batch_size roots slot) → LedTo V same hash batch_size roots slot course doings y → length y.1 ≡ length doings
   as_long doings y led = as_many doings (nothing_done V same hash batch_size roots slot course) y led ∙ none_before (length doings)

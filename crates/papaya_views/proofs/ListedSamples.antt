@@ -1,5 +1,8 @@
--- Short lists of acts: the calls of a seat are told, each by its own steps, and makings that are out of order are refused.
+-- Short lists of acts: the calls of a seat are told, each by its own steps, and seen; and makings that are out of order are refused.
+use Rattle.std.specs.Prelude.{Option, Some}
 use Rattle.std.proofs.Common.{◌≡◌, ℕ, List, [], ◌∷◌, refl, ap}
+use Rattle.seize_words.specs.Mem.{Mem}
+use Rattle.papaya_tables.specs.declared.node.Node.{Node}
 use Rattle.papaya_tables.specs.declared.setting.Setting.{Setting}
 use Rattle.papaya_raw.specs.declared.machines.answer.KeyAnswer.TheVariants.{Absent, Stored}
 use Rattle.papaya_raw.specs.declared.machines.progress.Answer.TheVariants.{Key}
@@ -7,7 +10,7 @@ use Rattle.papaya_raw.specs.declared.machines.progress.Progress.TheVariants.{Don
 use Rattle.papaya_acts.specs.Acts.{Answer, Nothing, OfCall, Get, Insert, BeginsCall, StepsCall, BeginsMaking}
 use Rattle.papaya_acts.specs.Doings.{Doing, Does}
 use Rattle.seize_acts.specs.Answers.{Grant}
-use Rattle.papaya_views.specs.Listed.{Called, AreNumbered, calls_of, plain}
+use Rattle.papaya_views.specs.Listed.{Called, AreNumbered, calls_of, plain, seen_then}
 use Rattle.papaya_views.specs.Told.{untold}
 
 -- seat 0 looks a key up in slot 2, and then stores a pair in slot 3; seat 1, in slot 2, looks another key up
@@ -31,6 +34,17 @@ module _ (g : Grant) where
   -- a seat that has begun none has none
   no_calls : calls_of 2 acts answers [] ≡ []
   no_calls = refl
+
+  -- A step of a call of the seat is seen, by whose call it was and with the memory after it;
+  own_step_seen : (memory : Mem (Node ℕ ℕ)) (before : Option (ℕ × Mem (Node ℕ ℕ))) → seen_then {S = ℕ} 0 (Does (StepsCall 3 7 g)) memory before ≡ Some (3, memory)
+  own_step_seen memory before = refl
+
+  -- a step of another seat's, and a call that begins, leave what was seen.
+  others_step_aside : (memory : Mem (Node ℕ ℕ)) (before : Option (ℕ × Mem (Node ℕ ℕ))) → seen_then {S = ℕ} 0 (Does (StepsCall 65538 7 g)) memory before ≡ before
+  others_step_aside memory before = refl
+
+  beginning_aside : (memory : Mem (Node ℕ ℕ)) (before : Option (ℕ × Mem (Node ℕ ℕ))) → seen_then {S = ℕ} 0 (Does (BeginsCall 3 7 (Get 5))) memory before ≡ before
+  beginning_aside memory before = refl
 
 -- makings have the numbers from 0 on, in order
 module _ (given : Setting) where

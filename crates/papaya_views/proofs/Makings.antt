@@ -164,7 +164,7 @@ module _ {K V S : Type 0} (same : K → K → Bool) (hash : S → K → ℕ) (fi
     begins : Goes (Holds same hash fixed) KeepsFor s s.memory id (λ x. (a : ℕ) × (x ≡ making v a hasher (opening given fixed.roots places)))
     begins =
         moved same hash fixed s h id v at_id act may n (h.course.leads h.reached.0 (Does act) may).0.1 s.memory w go
-        (record { own = ((λ a. hash hasher), refl); others = λ j ne theirs. refl; its = λ are. are; newest = λ other on. absurd (cc on) }) (λ x. (a : ℕ) × (x ≡ making v a hasher (opening given fixed.roots places))) (m, refl)
+        (record { own = ((λ a. hash hasher), refl); others = λ j ne theirs. refl; its = λ are. are; newest = λ other on. absurd (cc on); aside = λ j ne theirs. refl; seen = λ before b x none. absurd (cc none) }) (λ x. (a : ℕ) × (x ≡ making v a hasher (opening given fixed.roots places))) (m, refl)
 
   -- it makes a map, and takes a step
   module _ (m : ℕ) (hasher : S) (machine : NewMap) (works : v.work ≡ Makes m hasher machine) where
@@ -305,15 +305,17 @@ module _ {K V S : Type 0} (same : K → K → Bool) (hash : S → K → ℕ) (fi
           enders = none_ended (scene.enders i) refl;
         })
 
-        goes_by : (x : View K V S) (so_told : View K V S → Type 0) → stage ≡ n2 → x.slot ≡ v.slot → x.calls ≡ v.calls → ((other : Machine K V K) → x.work ≡ Calls other → ⊥) → Fits same hash n2 id x
+        goes_by : (x : View K V S) (so_told : View K V S → Type 0) → stage ≡ n2 → x.slot ≡ v.slot → x.calls ≡ v.calls → ((other : Machine K V K) → x.work ≡ Calls other → ⊥) → x.held ≡ [] → Fits same hash n2 id x
             → so_told x → Goes (Holds same hash fixed) KeepsFor s m2 id so_told
-        goes_by x so_told comes slot_is calls_are no_call own is =
+        goes_by x so_told comes slot_is calls_are no_call none own is =
             moved same hash fixed s h id v at_id (StepsMaking i granted.0) step_may n2 comes m2 x (come x slot_is own)
             (record {
               own = ((λ a k. 0), tt);
               others = λ j ne theirs. refl;
               its = λ are. subst (λ (runs : List (Run K V)). AreRuns same hash n2 (calls_of id s.world.doings h.reached.1 []) runs) (sym calls_are) are;
               newest = λ other on. absurd (no_call other on);
+              aside = λ j ne theirs. refl;
+              seen = λ before b y shown. (let some = sym (ap (λ (l : List (ℕ × Node K V)). shown_in l b) none) ∙ shown in absurd (cc some));
             }) so_told is
 
       -- maps stand as before
@@ -334,7 +336,7 @@ module _ {K V S : Type 0} (same : K → K → Bool) (hash : S → K → ℕ) (fi
           → Goes (Holds same hash fixed) KeepsFor s m2 id so_told
       by so_told progress.Goes is came =
           let next = record d { machine = led.3 } in
-          goes_by scene.maps (Some next) stand_on so.fresh.1.0 (λ e one. ap (λ (x : Beginning K). x.map) (sym (same_some next e one))) (made_after v m hasher made.looks led.3 progress.Goes) so_told came refl refl (λ other on. cc on)
+          goes_by scene.maps (Some next) stand_on so.fresh.1.0 (λ e one. ap (λ (x : Beginning K). x.map) (sym (same_some next e one))) (made_after v m hasher made.looks led.3 progress.Goes) so_told came refl refl (λ other on. cc on) refl
           (record {
             slot = fits.slot;
             does = (does.0, record { making = next; here = at_same scene.makers i (Some next) i refl; map = its_map; hashes = its_hash; is = refl; calls = does.1.calls }, rows i ∙ does.2);
@@ -346,7 +348,7 @@ module _ {K V S : Type 0} (same : K → K → Bool) (hash : S → K → ℕ) (fi
           is
       by so_told progress.Waits is came = absurd came
       by so_told (progress.Refused fault) is came =
-          goes_by scene.maps None stand_on so.fresh.1.0 (λ e one. absurd (cc one)) (made_after v m hasher made.looks led.3 (progress.Refused fault)) so_told came refl refl (λ other on. cc on)
+          goes_by scene.maps None stand_on so.fresh.1.0 (λ e one. absurd (cc one)) (made_after v m hasher made.looks led.3 (progress.Refused fault)) so_told came refl refl (λ other on. cc on) refl
           (record {
             slot = fits.slot;
             does = over scene.maps None stand_on so.fresh.1.0 (λ e one. absurd (cc one)) refl;
@@ -358,7 +360,7 @@ module _ {K V S : Type 0} (same : K → K → Bool) (hash : S → K → ℕ) (fi
           is
       by so_told (progress.Done setting) is (it, is_made, came) =
           goes_by (with_at scene.maps d.map (Some it)) None (λ a r here. stand_more it a r here (cases_eq a d.map)) (none_more it) (λ e one. absurd (cc one))
-          (made_after v m hasher made.looks led.3 (progress.Done setting)) so_told came refl refl (λ other on. cc on)
+          (made_after v m hasher made.looks led.3 (progress.Done setting)) so_told came refl refl (λ other on. cc on) refl
           (record {
             slot = fits.slot;
             does = over (with_at scene.maps d.map (Some it)) None (λ a r here. stand_more it a r here (cases_eq a d.map)) (none_more it) (λ e one. absurd (cc one)) refl;

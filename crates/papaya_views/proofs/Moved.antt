@@ -13,21 +13,20 @@ use Rattle.papaya_acts.specs.Acts.{Act, Answer}
 use Rattle.papaya_acts.specs.Doings.{Does, MayDo}
 use Rattle.papaya_acts.specs.Leads.{AllStand}
 use Rattle.papaya_acts.specs.Lists.{Reached, LedTo, nothing_done, on_by}
-use Rattle.papaya_acts.proofs.Further.{led_further}
 use Rattle.seize_bounds.specs.Bounds.{IsAloneOnSlot}
 use Rattle.seize_acts.proofs.Answers.{same_some}
 use Rattle.seize_seats.specs.State.{State, view_of, Goes}
 use Rattle.seize_views.specs.Rows.{use_of}
 use Rattle.seize_views.specs.declared.view.Fixed.{Fixed}
 use Rattle.seize_views.proofs.Lists.{there, elsewhere}
-use Rattle.papaya_views.specs.Listed.{Called, calls_then, calls_of, AreNumbered, IsItsOwn, IsNewest}
-use Rattle.papaya_views.specs.Rule.{MapsWorld, IsSlot, IsIdle, Fits, AreSo, KnowsRow, AreRuns, Holds, KeepsFor, caller_at, place_of, runs_of, IsFresh}
+use Rattle.papaya_views.specs.Listed.{Called, calls_then, calls_of, seen_then, seen_of, AreNumbered, IsItsOwn, IsNewest}
+use Rattle.papaya_views.specs.Rule.{MapsWorld, IsSlot, IsIdle, Fits, AreSo, KnowsRow, AreRuns, HasSeen, Holds, KeepsFor, caller_at, place_of, runs_of, IsFresh}
 use Rattle.papaya_views.specs.declared.view.Run.{Run}
 use Rattle.papaya_views.specs.declared.view.View.{View}
 use Rattle.papaya_views.specs.declared.view.Work.TheVariants.{Calls}
 use Rattle.papaya_views.proofs.Alone.{alone_on_slot}
 use Rattle.papaya_views.proofs.Knows.{knows_on}
-use Rattle.papaya_views.proofs.Listed.{all_more, as_long, calls_more, runs_on}
+use Rattle.papaya_views.proofs.Listed.{all_more, as_long, calls_more, led_more, runs_on}
 use Rattle.papaya_views.proofs.Leaves.{Leaves, inside_of, unborn_on, fits_on}
 use Rattle.papaya_views.proofs.Lasts.{of_call_lasts}
 use Rattle.papaya_views.proofs.Numbers.{seat_apart}
@@ -55,12 +54,16 @@ module _ {K V S : Type 0} (same : K → K → Bool) (hash : S → K → ℕ) (fi
     pub fresh : (k : ℕ) × IsFresh n k × AreNumbered 0 (s.world.doings ++ Does act ∷ []) k
     pub row : KnowsRow fixed n id w.slot
 
-  -- What the act, which has told this, adds to the list: it is one of its own, tells nothing of another seat's calls, and of those of its seat what is known of them then.
+  -- What the act, which has told this, adds to the list: it is one of its own, tells nothing of another seat's calls, and of those of its seat what is known of them then, and of
+  -- what they have seen.
   pub record Adds (id : ℕ) (act : Act K V S) (told : Answer K V) (v w : View K V S) (n : Scene K V) (calls : List (Called K V)) : Type 0 where
     pub own : IsItsOwn hash (Does act)
     pub others : (j : ℕ) → j ≢ id → (theirs : List (Called K V)) → calls_then j (Does act) told theirs ≡ theirs
     pub its : AreRuns same hash n calls v.calls → AreRuns same hash n (calls_then id (Does act) told calls) w.calls
     pub newest : (machine : Machine K V K) → w.work ≡ Calls machine → IsNewest (caller_at id (place_of w.slot)) (calls_then id (Does act) told calls)
+    pub aside : (j : ℕ) → j ≢ id → (theirs : Option (ℕ × Mem (Node K V))) → seen_then j (Does act) n.world.memory theirs ≡ theirs
+    pub seen : (before : Option (ℕ × Mem (Node K V)))
+        → HasSeen (caller_at id (place_of w.slot)) (calls_then id (Does act) told calls) (seen_then id (Does act) n.world.memory before) w.held
 
   -- the slot that it had is no other seat's
   pub same_slot : (id : ℕ) (v w : View K V S) → view_of s id ≡ Some v → w.slot ≡ v.slot
@@ -73,10 +76,16 @@ module _ {K V S : Type 0} (same : K → K → Bool) (hash : S → K → ℕ) (fi
     abbrev led_to : Reached V same hash fixed.batch_size fixed.roots slot_of
     led_to = on_by V same hash fixed.batch_size fixed.roots slot_of h.course h.reached (Does act) may
 
-    led : LedTo V same hash fixed.batch_size fixed.roots slot_of h.course (s.world.doings ++ Does act ∷ []) led_to
-    led =
-        led_further V same hash fixed.batch_size fixed.roots slot_of h.course s.world.doings (Does act ∷ [])
-        (nothing_done V same hash fixed.batch_size fixed.roots slot_of h.course) h.reached led_to h.led (may, refl)
+    led_then : (led : LedTo V same hash fixed.batch_size fixed.roots slot_of h.course (s.world.doings ++ Does act ∷ []) led_to)
+        × ((j : ℕ) (seen : Option (ℕ × Mem (Node K V)))
+        → seen_of V same hash fixed.batch_size fixed.roots slot_of h.course j (s.world.doings ++ Does act ∷ []) (nothing_done V same hash fixed.batch_size fixed.roots slot_of h.course) led_to led seen
+        ≡ seen_then j (Does act) led_to.0.0.world.memory
+        (seen_of V same hash fixed.batch_size fixed.roots slot_of h.course j s.world.doings (nothing_done V same hash fixed.batch_size fixed.roots slot_of h.course) h.reached h.led seen))
+    led_then =
+        led_more V same hash fixed.batch_size fixed.roots slot_of h.course s.world.doings (Does act) (nothing_done V same hash fixed.batch_size fixed.roots slot_of h.course) h.reached h.led may
+
+    abbrev led : LedTo V same hash fixed.batch_size fixed.roots slot_of h.course (s.world.doings ++ Does act ∷ []) led_to
+    led = led_then.0
 
     here : (j : ℕ) → j ≡ id → slice_get (slice_set s.views id w) j ≡ Some w
     here j e = subst (λ (a : ℕ). slice_get (slice_set s.views id w) a ≡ Some w) (sym e) (there s.views id w v at_id)
@@ -188,6 +197,33 @@ module _ {K V S : Type 0} (same : K → K → Bool) (hash : S → K → ℕ) (fi
     newest j x machine at works (inr ne) =
         subst (λ (c : List (Called K V)). IsNewest (caller_at j (place_of x.slot)) c) (sym (more j ∙ adds.others j ne (calls_before j))) (h.newest j x machine (before j ne ∙ at) works)
 
+    -- and what each holds of them was seen
+
+    abbrev seen_before : ℕ → Option (ℕ × Mem (Node K V))
+    seen_before j =
+        seen_of V same hash fixed.batch_size fixed.roots slot_of h.course j s.world.doings (nothing_done V same hash fixed.batch_size fixed.roots slot_of h.course) h.reached h.led None
+
+    abbrev seen_now : ℕ → Option (ℕ × Mem (Node K V))
+    seen_now j =
+        seen_of V same hash fixed.batch_size fixed.roots slot_of h.course j (s.world.doings ++ Does act ∷ []) (nothing_done V same hash fixed.batch_size fixed.roots slot_of h.course) led_to led None
+
+    sees : (j : ℕ) → seen_now j ≡ seen_then j (Does act) n.world.memory (seen_before j)
+    sees j = led_then.1 j None ∙ ap (λ (x : Scene K V). seen_then {S = S} j (Does act) x.world.memory (seen_before j)) comes
+
+    seen : (j : ℕ) (x : View K V S) → slice_get (slice_set s.views id w) j ≡ Some x → (j ≡ id) ⊎ (j ≢ id)
+        → HasSeen (caller_at j (place_of x.slot)) (calls_of j (s.world.doings ++ Does act ∷ []) led_to.1 []) (seen_now j) x.held
+    seen j x at (inl e) =
+        let is = same_some w x (sym (here j e) ∙ at) in
+        subst (λ (o : Option (ℕ × Mem (Node K V))). HasSeen (caller_at j (place_of x.slot)) (calls_of j (s.world.doings ++ Does act ∷ []) led_to.1 []) o x.held) (sym (sees j))
+        (subst (λ (c : List (Called K V)). HasSeen (caller_at j (place_of x.slot)) c (seen_then j (Does act) n.world.memory (seen_before j)) x.held) (sym (more j))
+        (subst (λ (a : ℕ). HasSeen (caller_at a (place_of x.slot)) (calls_then a (Does act) told (calls_before a)) (seen_then a (Does act) n.world.memory (seen_before a)) x.held) (sym e)
+        (subst (λ (y : View K V S). HasSeen (caller_at id (place_of y.slot)) (calls_then id (Does act) told (calls_before id)) (seen_then id (Does act) n.world.memory (seen_before id)) y.held) is
+        (adds.seen (seen_before id)))))
+    seen j x at (inr ne) =
+        subst (λ (o : Option (ℕ × Mem (Node K V))). HasSeen (caller_at j (place_of x.slot)) (calls_of j (s.world.doings ++ Does act ∷ []) led_to.1 []) o x.held)
+        (sym (sees j ∙ adds.aside j ne (seen_before j)))
+        (subst (λ (c : List (Called K V)). HasSeen (caller_at j (place_of x.slot)) c (seen_before j) x.held) (sym (more j ∙ adds.others j ne (calls_before j))) (h.seen j x (before j ne ∙ at)))
+
     pub moved : (so : View K V S → Type 0) → so w → Goes (Holds same hash fixed) KeepsFor s m id so
     moved so is = (
       w,
@@ -210,6 +246,7 @@ module _ {K V S : Type 0} (same : K → K → Bool) (hash : S → K → ℕ) (fi
         own = all_more (IsItsOwn hash) s.world.doings (Does act) h.own adds.own;
         calls = λ j. calls j (cases_eq j id);
         newest = λ j x machine at works. newest j x machine at works (cases_eq j id);
+        seen = λ j x at. seen j x at (cases_eq j id);
       },
       λ j k b u o ne ne2 at at2 keeps. kept j b u o ne at keeps,
       is,

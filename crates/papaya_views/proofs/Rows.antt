@@ -31,6 +31,7 @@ use Rattle.seize_views.proofs.Lists.{there, elsewhere}
 use Rattle.seize_views.proofs.Turning.{Turning, turning}
 use Rattle.papaya_views.specs.Begun.{with_slot}
 use Rattle.papaya_views.specs.Promises.{RowsGoOn, RowsTurn, SettlingsBegin, LookedAreShown}
+use Rattle.papaya_views.specs.Looks.{shown_in}
 use Rattle.papaya_views.specs.Rule.{MapsWorld, Fits, Holds, KeepsFor}
 use Rattle.papaya_views.specs.Told.{told, told_by}
 use Rattle.papaya_views.specs.declared.view.View.{View}
@@ -73,9 +74,10 @@ module _ {K V S : Type 0} (same : K → K → Bool) (hash : S → K → ℕ) (fi
           slot = ap (λ (y : View K V S). y.slot) (sym one);
           calls = ap (λ (y : View K V S). y.calls) (sym one);
           work = ap (λ (y : View K V S). y.work) (sym one);
+          held = λ b y shown. (let none : shown_in w.held b ≡ Some y = ap (λ (z : View K V S). shown_in z.held b) one ∙ shown in absurd (cc none));
           fits = subst (λ (y : View K V S). Fits same hash s.world.scene k y) one (subst (λ (a : ℕ). Fits same hash s.world.scene a w) (sym e) g);
         }
-    had k x at (inr ne) = let was = sym (elsewhere s.views id k w ne) ∙ at in record { knew = x; at = was; slot = refl; calls = refl; work = refl; fits = h.so.seats k x was }
+    had k x at (inr ne) = let was = sym (elsewhere s.views id k w ne) ∙ at in record { knew = x; at = was; slot = refl; calls = refl; work = refl; held = λ b y shown. shown; fits = h.so.seats k x was }
 
     unborn : (k : ℕ) → slice_get views k ≡ None → (k ≡ id) ⊎ (k ≢ id) → view_of s k ≡ None
     unborn k at (inl e) = let f = here k e in absurd (cc (f, at))

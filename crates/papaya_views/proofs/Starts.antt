@@ -11,8 +11,9 @@ use Rattle.seize_seats.specs.State.{State, view_of}
 use Rattle.seize_views.specs.Rows.{use_of}
 use Rattle.seize_views.proofs.Lists.{with_last, none_before}
 use Rattle.papaya_views.specs.Promises.{RulesStart, SeatsCome}
-use Rattle.papaya_views.specs.Listed.{calls_of, IsNewest}
-use Rattle.papaya_views.specs.Rule.{MapsWorld, Fits, KnowsRow, AreRuns, IsIdle, IsSlot, caller_at, place_of, at_rest, runs_of}
+use Rattle.papaya_views.specs.Listed.{calls_of, seen_of, IsNewest}
+use Rattle.papaya_views.specs.Looks.{shown_in}
+use Rattle.papaya_views.specs.Rule.{MapsWorld, Fits, KnowsRow, AreRuns, HasSeen, IsIdle, IsSlot, caller_at, place_of, at_rest, runs_of}
 use Rattle.papaya_views.specs.declared.view.Run.{Run}
 use Rattle.papaya_views.specs.declared.view.View.{View}
 use Rattle.papaya_views.specs.declared.view.Work.TheVariants.{Nothing, Calls}
@@ -42,6 +43,7 @@ module _ {K S : Type 0} (V : Type 0) (same : K → K → Bool) (hash : S → K �
           own = tt;
           calls = λ j. tt;
           newest = λ j v machine e works. absurd (cc e);
+          seen = λ j v e. absurd (cc e);
         },
       )
 
@@ -84,6 +86,7 @@ module _ {K S : Type 0} (V : Type 0) (same : K → K → Bool) (hash : S → K �
       calls = λ j.
           subst (λ (runs : List (Run K V)). AreRuns same hash s.world.scene (calls_of j s.world.doings h.reached.1 []) runs) (as_before j (slice_get (s.views ++ at_rest ∷ []) j) refl) (h.calls j);
       newest = λ j x machine e works. newest j x machine works (with_last s.views j at_rest x e);
+      seen = λ j x e. seen j x (with_last s.views j at_rest x e);
     },
     λ b u o keeps. keeps,
   )
@@ -103,6 +106,12 @@ module _ {K S : Type 0} (V : Type 0) (same : K → K → Bool) (hash : S → K �
       newest : (j : ℕ) (x : View K V S) (machine : Machine K V K) → x.work ≡ Calls machine → Came s j x → IsNewest (caller_at j (place_of x.slot)) (calls_of j s.world.doings h.reached.1 [])
       newest j x machine works (inl e) = h.newest j x machine e works
       newest j x machine works (inr e) = let none = ap (λ (y : View K V S). y.work) e.1 in absurd (cc (none, works))
+
+      seen : (j : ℕ) (x : View K V S) → Came s j x
+          → HasSeen (caller_at j (place_of x.slot)) (calls_of j s.world.doings h.reached.1 [])
+          (seen_of V same hash fixed.batch_size fixed.roots slot_of h.course j s.world.doings (nothing_done V same hash fixed.batch_size fixed.roots slot_of h.course) h.reached h.led None) x.held
+      seen j x (inl e) = h.seen j x e
+      seen j x (inr e) = λ b y shown. (let none : shown_in (at_rest {K = K} {V = V} {S = S}).held b ≡ Some y = ap (λ (z : View K V S). shown_in z.held b) e.1 ∙ shown in absurd (cc none))
 
       as_before : (j : ℕ) (o : Option (View K V S)) → slice_get (s.views ++ at_rest ∷ []) j ≡ o → runs_of (view_of s j) ≡ runs_of o
       as_before j None e = ap runs_of (none_before s.views j at_rest e)

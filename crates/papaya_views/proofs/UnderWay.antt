@@ -56,6 +56,7 @@ use Rattle.papaya_views.specs.declared.view.Work.{Work}
 use Rattle.papaya_views.specs.declared.view.Work.TheVariants.{Calls}
 use Rattle.papaya_views.proofs.Knows.{knows_inside}
 use Rattle.papaya_views.proofs.Leaves.{Leaves, call_here, inside_of, own_idle, map_on}
+use Rattle.papaya_views.proofs.Held.{value_of}
 use Rattle.papaya_views.proofs.Listed.{is_its, is_other, newest_on, newest_runs, numbered_on}
 use Rattle.papaya_views.proofs.Moved.{scene_of, all_stand, are_so, Moved, Adds, same_slot, moved}
 use Rattle.papaya_views.proofs.Next.{after, step_leaves, step_fresh, own_does}
@@ -312,6 +313,12 @@ module _ {K V S : Type 0} (same : K → K → Bool) (hash : S → K → ℕ) (fi
     abbrev calls : List (Called K V)
     calls = calls_of id s.world.doings h.reached.1 []
 
+    its_newest : IsNewest i (calls_then id (Does act) (h.course.told h.reached.0 (Does act) may_do) calls)
+    its_newest =
+        subst (λ (told : Answer K V). IsNewest i (calls_then id (Does act) told calls)) (sym came.tells)
+        (subst (λ (q : Bool). IsNewest i (if q then has_told i came.progress calls else calls)) (sym (is_its id place fits.slot))
+        (newest_on i came.progress calls (h.newest id v machine at_id works)))
+
     adds : Adds same hash fixed s h id act (h.course.told h.reached.0 (Does act) may_do) v w n calls
     adds = record {
       own = ((λ a k. 0), tt);
@@ -321,10 +328,14 @@ module _ {K V S : Type 0} (same : K → K → Bool) (hash : S → K → ℕ) (fi
           subst (λ (told : Answer K V). AreRuns same hash n (calls_then id (Does act) told calls) w.calls) (sym came.tells)
           (subst (λ (q : Bool). AreRuns same hash n (if q then has_told i came.progress calls else calls) w.calls) (sym (is_its id place fits.slot))
           (newest_runs same hash n i came.progress calls v.calls (h.newest id v machine at_id works) are));
-      newest = λ other on.
-          subst (λ (told : Answer K V). IsNewest i (calls_then id (Does act) told calls)) (sym came.tells)
-          (subst (λ (q : Bool). IsNewest i (if q then has_told i came.progress calls else calls)) (sym (is_its id place fits.slot))
-          (newest_on i came.progress calls (h.newest id v machine at_id works)));
+      newest = λ other on. its_newest;
+      aside = λ j ne theirs. ap (λ (q : Bool). if q then Some (i, n.world.memory) else theirs) (is_other j id place fits.slot ne);
+      seen = λ before b x shown. (
+        n.world.memory,
+        ap (λ (q : Bool). if q then Some (i, n.world.memory) else before) (is_its id place fits.slot),
+        its_newest,
+        value_of same hash n w.slot w.work b x w.held own.held shown,
+      );
     }
 
     pub goes : (so : View K V S → Type 0) → so (called v map machine end looks) → Goes (Holds same hash fixed) KeepsFor s m2 id so

@@ -1,13 +1,17 @@
 -- The rule holds of other views of the seats, where each has the slot that it had, and knows what is so.
 use Rattle.std.specs.Prelude.{Option, Some, None, slice_get}
 use Rattle.std.proofs.Common.{◌≡◌, ℕ, Bool, List, [], refl, sym, subst, ap, ◌∙◌}
+use Rattle.seize_words.specs.Mem.{Mem}
 use Rattle.papaya_tables.specs.declared.node.Node.{Node}
+use Rattle.papaya_acts.specs.Given.ScenesScene.{slot_of}
+use Rattle.papaya_acts.specs.Lists.{nothing_done}
 use Rattle.seize_seats.specs.State.{State, view_of}
 use Rattle.seize_views.specs.Rows.{use_of}
 use Rattle.seize_views.specs.declared.view.Fixed.{Fixed}
 use Rattle.seize_views.specs.declared.view.View.{View as SlotView}
-use Rattle.papaya_views.specs.Listed.{calls_of, IsNewest}
-use Rattle.papaya_views.specs.Rule.{MapsWorld, Fits, KnowsRow, AreRuns, Holds, caller_at, place_of, runs_of}
+use Rattle.papaya_views.specs.Listed.{calls_of, seen_of, IsNewest}
+use Rattle.papaya_views.specs.Looks.{shown_in}
+use Rattle.papaya_views.specs.Rule.{MapsWorld, Fits, KnowsRow, AreRuns, HasSeen, Holds, caller_at, place_of, runs_of}
 use Rattle.papaya_views.specs.declared.view.Run.{Run}
 use Rattle.papaya_views.specs.declared.view.View.{View}
 
@@ -20,6 +24,7 @@ module _ {K V S : Type 0} (same : K → K → Bool) (hash : S → K → ℕ) (fi
     pub slot : x.slot ≡ knew.slot
     pub calls : x.calls ≡ knew.calls
     pub work : x.work ≡ knew.work
+    pub held : (b : ℕ) (y : Node K V) → shown_in x.held b ≡ Some y → shown_in knew.held b ≡ Some y
     pub fits : Fits same hash s.world.scene k x
 
   pub views_hold : ((k : ℕ) (x : View K V S) → slice_get views k ≡ Some x → Had k x) → ((k : ℕ) → slice_get views k ≡ None → view_of s k ≡ None)
@@ -48,8 +53,15 @@ module _ {K V S : Type 0} (same : K → K → Bool) (hash : S → K → ℕ) (fi
     newest = λ k x machine at works.
         let o = had k x at in
         subst (λ (z : SlotView (Node K V)). IsNewest (caller_at k (place_of z)) (calls_of k s.world.doings h.reached.1 [])) (sym o.slot) (h.newest k o.knew machine o.at (sym o.work ∙ works));
+    seen = λ k x at b y shown.
+        let o = had k x at in
+        subst (λ (z : SlotView (Node K V)). HasSeen (caller_at k (place_of z)) (calls_of k s.world.doings h.reached.1 []) (seen k) o.knew.held) (sym o.slot) (h.seen k o.knew o.at) b y (o.held b y shown);
   }
     where
+      seen : ℕ → Option (ℕ × Mem (Node K V))
+      seen k =
+          seen_of V same hash fixed.batch_size fixed.roots slot_of h.course k s.world.doings (nothing_done V same hash fixed.batch_size fixed.roots slot_of h.course) h.reached h.led None
+
       as_before : (k : ℕ) (o : Option (View K V S)) → slice_get views k ≡ o → runs_of (view_of s k) ≡ runs_of o
       as_before k None e = ap runs_of (none k e)
       as_before k (Some x) e = let one = had k x e in ap runs_of one.at ∙ sym one.calls

@@ -1,11 +1,14 @@
--- What a list of acts tells of whoever did them: the calls of a seat, each with what its last step told; which numbers maps got; and that rows are on their callers' slots.
-use Rattle.std.specs.Prelude.{◌≡◌, ℕ, suc, ◌/◌, ◌==◌, List, [], ◌∷◌, if◌then◌else◌}
+-- What a list of acts tells of whoever did them: the calls of a seat, each with what its last step told, and what the newest of these steps has seen; which numbers maps got;
+-- and that rows are on their callers' slots.
+use Rattle.std.specs.Prelude.{◌≡◌, ℕ, suc, ◌/◌, ◌==◌, Bool, List, [], ◌∷◌, Option, Some, if◌then◌else◌}
+use Rattle.seize_words.specs.Mem.{Mem}
 use Rattle.papaya_tables.specs.declared.node.Node.{Node}
 use Rattle.papaya_raw.specs.declared.machines.progress.Progress.{Progress}
 use Rattle.papaya_acts.specs.Given.ScenesDeclared.callers.TheConstants.{SLOTS}
 use Rattle.papaya_acts.specs.Acts.{Wanted, Get, Remove, TryToInsert, TryToInsertWith, GetKeyValue, ContainsKey, GetOrInsert, GetOrInsertWith, RemoveEntry, BeginsCall, StepsCall, BeginsMaking, Answer, OfCall}
 use Rattle.papaya_acts.specs.AsSteps.{IsOwn}
 use Rattle.papaya_acts.specs.Doings.{Doing, Does}
+use Rattle.papaya_acts.specs.Lists.{Course, Reached, LedOn, on_by}
 use Rattle.papaya_views.specs.Told.{untold}
 
 -- the seat of a caller
@@ -62,3 +65,16 @@ module _ {K V S : Type 0} where
   abbrev pub IsItsOwn : (S → K → ℕ) → Doing K V S → Type 0
   IsItsOwn hash (Does act) = (hashes : ℕ → K → ℕ) × IsOwn hash hashes act
   IsItsOwn hash doing = Unit {0}
+
+  -- Whose call has taken the newest step of a seat's calls, and the memory after it: once this was done, and has led to this memory.
+  abbrev pub seen_then : ℕ → Doing K V S → Mem (Node K V) → Option (ℕ × Mem (Node K V)) → Option (ℕ × Mem (Node K V))
+  seen_then seat (Does (StepsCall i m g)) memory seen = if seat == seat_of i then Some (i, memory) else seen
+  seen_then seat doing memory seen = seen
+
+module _ {K S : Type 0} (V : Type 0) (same : K → K → Bool) (hash : S → K → ℕ) (batch_size roots : ℕ) (slot : ℕ → ℕ) (course : Course V same hash batch_size roots slot) where
+  -- and along a list of acts, from where these lead
+  abbrev pub seen_of : ℕ → (doings : List (Doing K V S)) (x y : Reached V same hash batch_size roots slot) → LedOn V same hash batch_size roots slot course doings x y
+      → Option (ℕ × Mem (Node K V)) → Option (ℕ × Mem (Node K V))
+  seen_of seat [] x y led seen = seen
+  seen_of seat (doing ∷ doings) x y (may, led) seen =
+      let next = on_by V same hash batch_size roots slot course x doing may in seen_of seat doings next y led (seen_then seat doing next.0.0.world.memory seen)

@@ -2,7 +2,7 @@
 -- under way is so there, and the blocks that it knows to be held for it are there, and last.
 use Rattle.std.specs.Prelude.{◌≡◌, ◌≢◌, ℕ, ◌+◌, ◌*◌, ◌<◌, Bool, List, [], Option, Some, None, true, false, ◌∷◌, ◌≤◌, ◌⊎◌}
 use Rattle.std.specs.List.{AllByRecursion}
-use Rattle.seize_words.specs.Mem.{value_at}
+use Rattle.seize_words.specs.Mem.{Mem, value_at}
 use Rattle.papaya_tables.specs.Given.SeizeLaw.{holds, is_over}
 use Rattle.papaya_tables.specs.Given.SeizeWorld.{World, Use, Rests, IsInside}
 use Rattle.papaya_tables.specs.Nodes.{deferred_word}
@@ -19,7 +19,7 @@ use Rattle.papaya_acts.specs.Given.ScenesScene.{Scene, slot_of}
 use Rattle.papaya_acts.specs.Given.ScenesDeclared.callers.TheConstants.{SLOTS}
 use Rattle.papaya_looks.specs.Sees.{IsOwnOf}
 use Rattle.papaya_acts.specs.Doings.{Doing, reclaiming}
-use Rattle.papaya_acts.specs.Lists.{Course, Reached, LedTo}
+use Rattle.papaya_acts.specs.Lists.{Course, Reached, LedTo, nothing_done}
 use Rattle.seize_acts.specs.Stays.{how_many, is_end_of_owner}
 use Rattle.seize_seats.specs.State.{State, view_of}
 use Rattle.seize_views.specs.Rows.{row_of, use_of, IsPlain, IsShort, IsKnown, IsBounded, Keeps}
@@ -29,7 +29,8 @@ use Rattle.seize_views.specs.declared.view.Has.TheVariants.{Nothing as NoBlock}
 use Rattle.seize_views.specs.declared.view.View.{View as SlotView}
 use Rattle.seize_views.specs.declared.view.View.TheVariants as slot_view
 use Rattle.papaya_views.specs.Begun.{machine_for}
-use Rattle.papaya_views.specs.Listed.{Called, plain, calls_of, AreNumbered, IsItsOwn, IsNewest}
+use Rattle.papaya_views.specs.Listed.{Called, plain, calls_of, seen_of, AreNumbered, IsItsOwn, IsNewest}
+use Rattle.papaya_views.specs.Looks.{shown_in}
 use Rattle.papaya_views.specs.Reclaims.{IsNextOf}
 use Rattle.papaya_views.specs.Told.{pair_in}
 use Rattle.papaya_views.specs.declared.view.Map.{Map}
@@ -111,6 +112,11 @@ module _ {K V : Type 0} where
   abbrev pub pair_of : UnderWay K V K → Option (Node K V)
   pair_of (OnKey u) = given_pair u.pair
   pair_of u = None
+
+  -- these blocks with their values the newest step has seen of all these calls, which is one of the newest call, of this caller
+  abbrev pub HasSeen : ℕ → List (Called K V) → Option (ℕ × Mem (Node K V)) → List (ℕ × Node K V) → Type 0
+  HasSeen i calls seen looks =
+      (b : ℕ) (x : Node K V) → shown_in looks b ≡ Some x → (memory : Mem (Node K V)) × (seen ≡ Some (i, memory)) × IsNewest i calls × (value_at memory b ≡ Some x)
 
   -- no map has this number or a later one, nor one that is being made
   abbrev pub IsFresh : Scene K V → ℕ → Type 0
@@ -205,6 +211,9 @@ module _ {K V S : Type 0} (same : K → K → Bool) (hash : S → K → ℕ) whe
     pub own : AllByRecursion (IsItsOwn hash) s.world.doings
     pub calls : (j : ℕ) → AreRuns s.world.scene (calls_of j s.world.doings reached.1 []) (runs_of (view_of s j))
     pub newest : (j : ℕ) (v : View K V S) (machine : Machine K V K) → view_of s j ≡ Some v → v.work ≡ Calls machine → IsNewest (caller_at j (place_of v.slot)) (calls_of j s.world.doings reached.1 [])
+    pub seen : (j : ℕ) (v : View K V S) → view_of s j ≡ Some v
+        → HasSeen (caller_at j (place_of v.slot)) (calls_of j s.world.doings reached.1 [])
+        (seen_of V same hash fixed.batch_size fixed.roots slot_of course j s.world.doings (nothing_done V same hash fixed.batch_size fixed.roots slot_of course) reached led None) v.held
 
 -- the section of the one's slot holds the block, which is not over
 abbrev pub KeepsFor : {K V S : Type 0} → View K V S → View K V S → MapsWorld K V S → ℕ → Type 0

@@ -1,5 +1,5 @@
-//! Values that count their drops, each at its place of a table: one that is looked at after its drop shows itself so, and so does one that is dropped twice, or never.
-//! And a collector for as long as a test has it.
+//! Values that count their drops, each at its place of a table: one that is looked at after its drop shows itself so, and so does one that is dropped twice, or
+//! never. And a collector for as long as a test has it.
 #![tactic(auto)]
 
 ghost use Rattle.std.specs.Prelude.{None, false};

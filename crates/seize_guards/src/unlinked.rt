@@ -32,7 +32,7 @@ impl<'a, T: Defers> Unlinked<'a, T> {
     /// That of a caller who has unlinked the block of this word, if it names one.
     pub(crate) fn of(caller: Caller<'a, T>, number: u64, word: u64) -> Option<Self>
         requires is { caller.seat.view.knows ≡ alone_with (cut_in word) }
-        ensures some { IfSome result (λ old. (old.caller ≡ caller) × (old.number ≡ number) × (old.word ≡ word)) }
+        ensures some { IfSome result (λ old. (old.caller ≡ caller.entry) × (old.number ≡ number) × (old.word ≡ word)) }
         ensures none { IfNone result (block_in word ≡ 0) }
     {
         let block = named(word)?;

@@ -1,6 +1,4 @@
 //! What is retired while no section of the slot is open, or under another guard: what it waits for, and where a registration ends whose guards were forgotten.
-ghost use Rattle.std.specs.Prelude.{◌≡◌};
-
 use seize_collector::{Guard, Registration, RootGuard, Shared};
 use seize_counted::{Counted, Table, all_are, dropped, table, within};
 use std::mem;
@@ -22,8 +20,8 @@ fn beside(collector: &Shared<'_, Counted>, drops: &Table) -> Option<(u64, u64, u
     Some((retired, tried, dropped(drops, 0)))
 }
 
-/// Puts a value under a guard and takes it away without one, twice; tells whether it did so, and answers how often it was dropped once it was retired, and once its
-/// batch was tried.
+/// Puts a value under a guard and takes it away without one, twice; tells whether it did so, and answers how often it was dropped once it was retired, and once
+/// its batch was tried.
 fn alone(collector: &Shared<'_, Counted>, drops: &Table) -> Option<(bool, bool, u64, u64)> {
     let value = Counted::of(drops, 1)?;
     let mut registration = collector.register().ok()?;
@@ -61,7 +59,10 @@ fn retires(
     let mut near = 0;
     let owned = collector.make(&mut near, second).ok()?;
     match owned.publish(0) {
-        Ok(Some(old)) => mem::forget(old.retire(&mut guard)),
+        Ok(Some(old)) => match old.retire(&mut guard) {
+            Ok(()) => (),
+            Err((_, old)) => old.kept(),
+        },
         Ok(None) => (),
         Err(owned) => drop(owned.into_value()),
     }
@@ -114,7 +115,8 @@ fn visits(collector: &Shared<'_, Counted>) -> Option<u64> {
     Some(slot)
 }
 
-/// Forgets guards; tells then whether the five values that were retired were dropped as the registration ended, and the last one is still there. Answers both slots.
+/// Forgets guards; tells then whether the five values that were retired were dropped as the registration ended, and the last one is still there. Answers both
+/// slots.
 fn forgets_and_visits(
     collector: &Shared<'_, Counted>,
     drops: &Table,

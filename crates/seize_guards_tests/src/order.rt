@@ -53,8 +53,8 @@ fn puts(
     there
 }
 
-/// Within one section puts so many values at the root, each of which retires the one before it, with a try after each or none; answers how many came back before
-/// the section ended, and by then.
+/// Within one section puts so many values at the root, each of which retires the one before it, with a try after each or none; answers how many came back
+/// before the section ended, and by then.
 fn retires(
     collector: &Shared<'_, Numbered>,
     numbers: &Table,

@@ -1,4 +1,5 @@
-//! Words of a root with their tags, on two threads: what one has marked is found by whoever replaces it, and an exchange that knows the word before a mark is refused.
+//! Words of a root with their tags, on two threads: what one has marked is found by whoever replaces it, and an exchange that knows the word before a mark is
+//! refused.
 ghost use Rattle.std.specs.Prelude.{◌<◌};
 
 use seize::Fault;
@@ -76,8 +77,8 @@ struct Tally {
     second: u64,
 }
 
-/// Marks the word at the root, 1 for the first of them and 2 for the second one, and replaces what it finds then. There is no answer where an exchange was not refused
-/// that knew the word before the mark.
+/// Marks the word at the root, 1 for the first of them and 2 for the second one, and replaces what it finds then. There is no answer where an exchange was not
+/// refused that knew the word before the mark.
 fn turns(
     collector: &Shared<'_, Counted>,
     mark: u64,

@@ -19,7 +19,8 @@ struct Drops {
     none: u64,
 }
 
-/// Two guards see a value, which is taken away and retired by another slot then; one of them ends, and then the other one: the inner one first, or the outer one.
+/// Two guards see a value, which is taken away and retired by another slot then; one of them ends, and then the other one: the inner one first, or the outer
+/// one.
 fn ends<B: Place>(
     blocks: &Blocks<Counted, OfRows>,
     drops: &Table,

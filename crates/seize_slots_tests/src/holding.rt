@@ -1,12 +1,9 @@
 //! A struct of one's own that holds a registration, and a helper that takes a guard of any content.
 ghost use Rattle.std.specs.Prelude.{◌≡◌, true};
 
-use crate::ground::CHOSEN;
 use seize::rows::Defers;
-use seize_blocks::{Blocks, Home};
-use seize_counted::{Counted, Table, dropped, table};
-use seize_shared::{Content, Guard, OfRows, Registration, RootGuard};
-use std::alloc::{AllocError, Global};
+use seize_collector::{Content, Guard, OfRows, Registration, RootGuard, Shared};
+use seize_counted::{Counted, Table, dropped, table, within};
 use std::sync::Arc;
 use std::test::Fail;
 
@@ -45,24 +42,15 @@ impl<'a> Writer<'a> {
 }
 
 /// Puts two values, one in the place of the other, and answers how often each was dropped by then.
-fn two(blocks: &Blocks<Counted, OfRows>, drops: &Table, own: Table) -> Option<(u64, u64)>
-    requires { blocks.now.words.fixed ≡ record { batch_size = 5; roots = 1 } }
-{
-    let registration = Registration::new(blocks, &CHOSEN).ok()?;
+fn two(collector: &Shared<'_, Counted>, drops: &Table, own: Table) -> Option<(u64, u64)> {
+    let registration = collector.register().ok()?;
     let mut writer = Writer {
         registration,
         drops: own,
     };
-    if !writer.puts(0) || !writer.puts(1) {
-        return None;
-    }
-    Some((dropped(drops, 0), dropped(drops, 1)))
-}
-
-/// The same over one memory, which ends then.
-fn both(alloc: Global, drops: &Table, own: Table) -> Result<Option<(u64, u64)>, AllocError> {
-    let home = Home::<Counted, OfRows>::open(alloc, 1, 64, &CHOSEN)?;
-    Ok(two(&home.blocks, drops, own))
+    let put = writer.puts(0) && writer.puts(1);
+    let times = (dropped(drops, 0), dropped(drops, 1));
+    if put { Some(times) } else { None }
 }
 
 #[test]
@@ -73,7 +61,8 @@ fn a_struct_that_holds_a_registration_puts_values_and_drops_what_they_replace(
     let Ok(own) = Arc::try_clone(&drops) else {
         return Err(Fail::new("the table has too many owners"));
     };
-    assert_eq!(rt; both(rt.alloc(), &drops, own)?, Some((1, 0)));
+    let times = within(rt.alloc(), |collector| two(collector, &drops, own))?;
+    assert_eq!(rt; times, Some((1, 0)));
     assert_eq!(rt; (dropped(&drops, 0), dropped(&drops, 1)), (1, 1));
     Ok(())
 }

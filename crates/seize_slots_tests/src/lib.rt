@@ -1,4 +1,5 @@
-//! Tests of guards and slots in number: more slots than the first bucket has, several guards of one slot and as many as it may have, and a struct that holds a slot.
+//! Tests of guards and slots in number: more slots than the first bucket has, several guards of one slot and as many as it may have, and a struct that holds a
+//! slot.
 #![tactic(auto)]
 
 #[cfg(test)]

@@ -1,11 +1,7 @@
 //! More slots at once than the first bucket has.
-ghost use Rattle.std.specs.Prelude.{◌≡◌};
-
-use crate::ground::CHOSEN;
-use seize_blocks::{Blocks, Home};
-use seize_counted::{Counted, Table, all_are, dropped, table};
-use seize_shared::{Guard, OfRows, OwnedGuard, Registration, RootGuard};
-use std::alloc::{AllocError, Global};
+use seize_collector::{Guard, OwnedGuard, Registration, RootGuard, Shared};
+use seize_counted::{Counted, Table, all_are, dropped, table, within};
+use std::alloc::Global;
 use std::sync::atomic::Ordering::SeqCst;
 use std::test::Fail;
 use std::thread;
@@ -20,17 +16,22 @@ const PUT: usize = 100;
 /// Guards with slots of their own.
 type Guards<'a> = Vec<OwnedGuard<'a, Counted>>;
 
-/// So many guards, each of which has seen the value at the root.
-fn enters<'a>(alloc: Global, blocks: &'a Blocks<Counted, OfRows>) -> Option<Guards<'a>>
-    requires { blocks.now.words.fixed ≡ record { batch_size = 5; roots = 1 } }
-{
+/// Enters a guard, which looks at the root, beside those that are there.
+fn enters<'a>(collector: &Shared<'a, Counted>, guards: &mut Guards<'a>) {
+    let Ok(mut guard) = collector.enter_owned() else {
+        return;
+    };
+    guard.see(0);
+    drop(guards.push(guard));
+}
+
+/// So many guards, each of which has seen the value at the root, if there was a slot for each.
+fn enters_all<'a>(alloc: Global, collector: &Shared<'a, Counted>) -> Guards<'a> {
     let mut guards = Vec::new(alloc);
     for _ in 0..EACH {
-        let mut guard = OwnedGuard::enter(blocks, &CHOSEN).ok()?;
-        guard.see(0);
-        guards.push(guard).ok()?;
+        enters(collector, &mut guards);
     }
-    Some(guards)
+    guards
 }
 
 /// Counts the slots of guards at their places of a table, and tells whether each of them lends a value that was not dropped.
@@ -49,51 +50,49 @@ fn all_lend(guards: &Guards<'_>, slots: &Table) -> bool {
     all
 }
 
-/// Puts further values at the root, each in the place of the one before; tells whether each is there.
-fn replaces(registration: &mut Registration<'_, Counted>, drops: &Table) -> Option<bool> {
+/// Puts values at the root, each in the place of the one before; tells whether each is there.
+fn puts(
+    registration: &mut Registration<'_, Counted>,
+    drops: &Table,
+    from: usize,
+    end: usize,
+) -> bool {
     let mut there = true;
-    for place in 1..PUT + 1 {
-        let value = Counted::of(drops, place)?;
-        there = registration.enter().put(0, value).is_ok() && there;
+    for place in from..end {
+        there = match Counted::of(drops, place) {
+            Some(value) => registration.enter().put(0, value).is_ok() && there,
+            None => false,
+        };
     }
-    Some(there)
+    there
 }
 
-/// Two threads enter guards, all of which see the first value; it is replaced then, and so are those after it. The guards end on two threads. It tells how many values
-/// were dropped while all guards were there; while half of them were; and then; or none where a guard lends a value that was dropped.
+/// Two threads enter guards, all of which see the first value; it is replaced then, and so are those after it. The guards end on two threads. It tells whether
+/// no value was dropped while all guards were there, and each of them lends one that was not; nor while half of them were; and whether all that were replaced
+/// were then.
 fn holds<R: Threads + Sync>(
     rt: &R,
     alloc: Global,
-    blocks: &Blocks<Counted, OfRows>,
+    collector: &Shared<'_, Counted>,
     drops: &Table,
     slots: &Table,
-) -> Option<(bool, bool, bool)>
-    requires { blocks.now.words.fixed ≡ record { batch_size = 5; roots = 1 } }
-{
-    let mut registration = Registration::new(blocks, &CHOSEN).ok()?;
-    registration.enter().put(0, Counted::of(drops, 0)?).ok()?;
-    let (first, second) = thread::join(rt, || enters(alloc, blocks), || enters(alloc, blocks));
-    let (first, second) = (first?, second?);
-    let put = replaces(&mut registration, drops)?;
+) -> Option<(bool, bool, bool)> {
+    let mut registration = collector.register().ok()?;
+    let put = puts(&mut registration, drops, 0, 1);
+    let (first, second) = thread::join(
+        rt,
+        || enters_all(alloc, collector),
+        || enters_all(alloc, collector),
+    );
+    let replaced = puts(&mut registration, drops, 1, PUT + 1);
     registration.flush();
     let lend = all_lend(&first, slots) && all_lend(&second, slots);
-    let all = put && lend && all_are(drops, PUT + 1, 0);
+    let all = put && replaced && lend && all_are(drops, PUT + 1, 0);
     thread::join(rt, move || drop(first), || ());
     let half = all_are(drops, PUT + 1, 0);
     thread::join(rt, move || drop(second), || ());
     registration.flush();
     Some((all, half, all_are(drops, PUT, 1)))
-}
-
-/// The same over one memory, which ends then.
-fn holds_all<R: Threads + Sync>(
-    rt: &R,
-    alloc: Global,
-    drops: &Table,
-    slots: &Table,
-) -> Result<Option<(bool, bool, bool)>, AllocError> {
-    let home = Home::<Counted, OfRows>::open(alloc, 1, 64, &CHOSEN)?;
-    Ok(holds(rt, alloc, &home.blocks, drops, slots))
 }
 
 #[test]
@@ -102,7 +101,9 @@ fn forty_guards_at_once_have_slots_of_their_own_and_hold_what_they_see(
 ) -> Result<(), Fail> {
     let drops = table(rt.alloc(), PUT + 1)?;
     let slots = table(rt.alloc(), 2 * EACH + 1)?;
-    let held = holds_all(&rt, rt.alloc(), &drops, &slots)?;
+    let held = within(rt.alloc(), |collector| {
+        holds(&rt, rt.alloc(), collector, &drops, &slots)
+    })?;
     assert_eq!(rt; held, Some((true, true, true)));
     assert_eq!(rt; dropped(&slots, 0), 0);
     for slot in 1..2 * EACH + 1 {

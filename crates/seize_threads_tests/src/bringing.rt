@@ -1,16 +1,16 @@
-//! Blocks that are made and put at a root without a section, and values that are taken from there without one, on threads of their own beside one who sees and puts
-//! values under guards.
+//! Blocks that are made and put at a root without a section, and values that are taken from there without one, on threads of their own beside one who sees and
+//! puts values under guards.
 ghost use Rattle.std.specs.Prelude.{◌≡◌};
 
 use crate::crowd::{TIMES, goes};
 use seize_collector::{Owned, Registration, Shared};
 use seize_counted::{Counted, Table, all_are, dropped, table, within};
 use std::test::Fail;
+use std::thread;
 use std::thread::Threads;
-use std::{mem, thread};
 
-/// Makes a block of a value, and puts it at the root; looks at the value that was there, and retires it, without a section. Tells whether it was put, and what was
-/// there had not been dropped, and was retired.
+/// Makes a block of a value, and puts it at the root; looks at the value that was there, and retires it, without a section. Tells whether it was put, and what
+/// was there had not been dropped, and was retired.
 fn brings(
     registration: &mut Registration<'_, Counted>,
     collector: &Shared<'_, Counted>,
@@ -29,8 +29,8 @@ fn brings(
             let fresh = dropped(&was.drops, was.place) == 0;
             match registration.retire(old) {
                 Ok(()) => fresh,
-                Err(refused) => {
-                    mem::forget(refused);
+                Err((_, old)) => {
+                    old.kept();
                     false
                 }
             }
@@ -59,7 +59,8 @@ fn brings_all(collector: &Shared<'_, Counted>, drops: &Table, from: usize) -> bo
     put
 }
 
-/// Takes the value from the root again and again, and retires it, without a section; tries the batch at each eighth turn. Tells whether there was a slot for it.
+/// Takes the value from the root again and again, and retires it, without a section; tries the batch at each eighth turn. Tells whether there was a slot for
+/// it.
 fn sweeps(collector: &Shared<'_, Counted>) -> bool {
     let Ok(mut registration) = collector.register() else {
         return false;

@@ -47,7 +47,8 @@ fn goes_once(
     met.put = u64::wrapping_add(met.put, put as u64);
 }
 
-/// Does so for so many places from one on, and takes then away what is there. It tells whether it has seen values, none of which had been dropped, and has put each of its own.
+/// Does so for so many places from one on, and takes then away what is there. It tells whether it has seen values, none of which had been dropped, and has put
+/// each of its own.
 pub(crate) fn goes(collector: &Shared<'_, Counted>, drops: &Table, from: usize) -> bool {
     let Ok(mut registration) = collector.register() else {
         return false;

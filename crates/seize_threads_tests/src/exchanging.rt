@@ -128,8 +128,8 @@ fn puts<G: RootGuard<Tally>>(guard: &mut G, counts: &Table, next: u64) -> (bool,
     (put, number(guard.value()))
 }
 
-/// What two guards come to, of which each puts a number where it has seen nothing, and the second one then where it has seen the first one's; and which number is
-/// there then.
+/// What two guards come to, of which each puts a number where it has seen nothing, and the second one then where it has seen the first one's; and which number
+/// is there then.
 fn takes_turns(
     collector: &Shared<'_, Tally>,
     counts: &Table,

@@ -41,7 +41,8 @@ fn puts(
     there
 }
 
-/// Puts a value at the root, and five more once the other one has seen it; answers how often the first one was dropped while the other one is within its section.
+/// Puts a value at the root, and five more once the other one has seen it; answers how often the first one was dropped while the other one is within its
+/// section.
 fn replaces(collector: &Shared<'_, Counted>, bell: &AtomicU64, drops: &Table) -> Option<u64> {
     let mut registration = collector.register().ok()?;
     let first = puts(&mut registration, drops, 0, 1);

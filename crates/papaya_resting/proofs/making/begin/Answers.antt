@@ -46,7 +46,7 @@ returns-clause-bare g c = λ bare.
       _,
       begins_ends {V = g.row.V.Denot} g.K.PartialEq.eq _
           (are_lawful g.K.PartialEq.eq g.K.Hash.hash_input g.met.K.Eq.laws g.met.K.Hash.respects_eq
-    (λ writes. g.S.Hasher.Hasher.finish (fold g.S.Hasher.Hasher.write (g.S.BuildHasher.build_hasher c.args._hasher.now) writes)))
+          (λ writes. g.S.Hasher.Hasher.finish (fold g.S.Hasher.Hasher.write (g.S.BuildHasher.build_hasher c.args._hasher.now) writes)))
           c.args.slot c.args.places c.max.result c.max.ensures r.initial r.table _ r.history.0 r.history.1 r.history.2 r.root r.used _ c.new-opening.ensures,
       c.run.ensures,
     )

@@ -1,0 +1,230 @@
+-- What a seat may say of its newest call.
+use Rattle.std.specs.Prelude.{◌≡◌, ◌<◌, ◌^◌, Option, Some, None, is_some, if◌then◌else◌}
+use Rattle.std.proofs.Common.{ℕ, Bool, true, false, List, [], ◌∷◌, inl, inr, refl, sym, subst, ap, ◌∙◌}
+use Rattle.papaya_views.proofs.Given.SeizeActsAnswers.{same_some}
+use Rattle.papaya_views.specs.Given.SeizeSeatsState.{State, view_of}
+use Rattle.papaya_views.specs.Given.SeizeViewsDeclared.view.Fixed.{Fixed}
+use Rattle.papaya_views.specs.Given.SeizeViewsDeclared.view.Has.TheVariants.{Nothing as NoBlock}
+use Rattle.papaya_views.specs.Given.SeizeViewsDeclared.view.View.TheVariants.{Inside}
+use Rattle.papaya_views.specs.Given.SeizeWordsDeclared.fault.Fault.{Fault}
+use Rattle.papaya_views.specs.Given.SeizeWordsWord.{block_in}
+use Rattle.papaya_views.specs.Given.TablesDeclared.node.Node.{Node}
+use Rattle.papaya_views.specs.Given.TablesDeclared.node.Node.TheVariants.{Pair}
+use Rattle.papaya_views.specs.Given.RawDeclared.machines.answer.KeyAnswer.TheVariants as says
+use Rattle.papaya_views.specs.Given.RawDeclared.machines.progress.Answer.{Answer as Said}
+use Rattle.papaya_views.specs.Given.RawDeclared.machines.progress.Answer.TheVariants as said
+use Rattle.papaya_views.specs.Given.RawDeclared.machines.progress.Progress.{Progress}
+use Rattle.papaya_views.specs.Given.RawDeclared.machines.progress.Progress.TheVariants as progress
+use Rattle.papaya_views.specs.Begun.{machine_for}
+use Rattle.papaya_views.specs.Listed.{Called, IsNewest, calls_of, plain, seen_of}
+use Rattle.papaya_views.specs.Looks.{shown_in}
+use Rattle.papaya_views.specs.Rule.{MapsWorld, AreRuns, Holds, IsRun, caller_at, place_of}
+use Rattle.papaya_views.specs.declared.view.Map.{Map}
+use Rattle.papaya_views.specs.declared.view.Run.{Run}
+use Rattle.papaya_views.specs.declared.view.View.{View}
+use Rattle.papaya_moves.specs.Given.SchedulesSequential.{looked}
+use Rattle.papaya_moves.specs.Given.SchedulesDeclared.call.Answer.TheVariants as answers
+use Rattle.papaya_moves.specs.Given.SchedulesDeclared.call.Call.{Call}
+use Rattle.papaya_moves.specs.Given.SchedulesDeclared.call.Call.TheVariants.{On}
+use Rattle.papaya_moves.specs.Given.SchedulesDeclared.call.OneKey.{OneKey}
+use Rattle.papaya_moves.specs.Given.SchedulesDeclared.call.OneKey.TheVariants as one_key
+use Rattle.papaya_moves.specs.Given.SchedulesDeclared.call.Reply.{Reply}
+use Rattle.papaya_moves.specs.Given.SchedulesDeclared.outcome.Outcome.{Outcome}
+use Rattle.papaya_moves.specs.Given.SchedulesDeclared.outcome.Outcome.TheVariants.{Answered, Refused}
+use Rattle.papaya_moves.specs.Given.ScenesScene.{slot_of}
+use Rattle.papaya_moves.specs.Given.ActsLists.{nothing_done}
+use Rattle.papaya_moves.specs.Given.NamedSeen.{kind_of}
+use Rattle.papaya_moves.specs.Given.ScenesStepping.{has_ended}
+use Rattle.papaya_moves.specs.Given.SeizeWordsMem.{Mem, value_at}
+use Rattle.papaya_moves.specs.Given.ActsActs.{Wanted, Get, Insert, TryToInsert, Remove}
+use Rattle.papaya_moves.specs.Given.DeedsDeeds.{Entry}
+use Rattle.papaya_moves.specs.Given.EffectsKnown.{Known}
+use Rattle.papaya_moves.specs.Given.PlayedPlay.{State as Played, call_for, outcome_of}
+use Rattle.papaya_histories.specs.Events.{ComesToIt}
+use Rattle.papaya_answers.specs.Answered.{IsAnswered}
+use Rattle.papaya_answers.specs.Calls.{FoundNone, FoundValue, HasInserted, HasLooked, HasRefused, HasRemoved, HasTried, OnItsMap}
+use Rattle.papaya_answers.specs.Lookups.{HadValue, IsLookedUp}
+use Rattle.papaya_answers.proofs.Answered.{comes, on_key, runs, same_map, same_wanted, such, tell}
+use Rattle.papaya_answers.proofs.Legal.{histories_are_legal}
+use Rattle.papaya_answers.proofs.Tells.{HasSeenPair, IfNewest}
+
+-- What a call on one key has come to, by what it was told of it.
+module _ {K V : Type 0} (known : Known) (replies : List (Option ℕ × Reply V)) where
+  -- a storing: it tells whether a pair was replaced
+  inserted : (key : K) (value : V) (is_replaced : Said → Bool) → ((old new : ℕ) → is_replaced (said.Key (says.Replaced old new)) ≡ true) → ((new : ℕ) → is_replaced (said.Key (says.Stored new)) ≡ false)
+      → (it : Said) (o : Outcome V) → ComesToIt known (one_key.Insert key value) replies (progress.Done it) o → (before : Option ℕ) × (is_some before ≡ is_replaced it) × (o ≡ Answered (looked before))
+  inserted key value is_replaced if_so if_not (said.Key (says.Stored new)) (Answered a) (inr (n, names, v, means)) = (None, sym (if_not new), ap Answered (let one : answers.Absent ≡ a = cc means in sym one))
+  inserted key value is_replaced if_so if_not (said.Key (says.Replaced old new)) (Answered a) (inr (o, n, was, names, v, means)) =
+      (Some o, sym (if_so old new), ap Answered (let one : answers.Found o ≡ a = cc means in sym one))
+  inserted key value is_replaced if_so if_not (said.Key (says.Removed word)) (Answered a) (inr (o, names, means)) = absurd (let is = means 0 in cc is)
+  inserted key value is_replaced if_so if_not (said.Key says.Absent) (Answered a) (inl means) = absurd (let is = means 0 in cc is)
+  inserted key value is_replaced if_so if_not (said.Key (says.Found word)) (Answered a) (inl (n, names, means)) = absurd (let is = means 0 in cc is)
+  inserted key value is_replaced if_so if_not (said.Key says.Absent) (Answered a) (inr done) = absurd done
+  inserted key value is_replaced if_so if_not (said.Key (says.Found word)) (Answered a) (inr done) = absurd done
+  inserted key value is_replaced if_so if_not (said.Key (says.Stored new)) (Answered a) (inl so) = absurd so
+  inserted key value is_replaced if_so if_not (said.Key (says.Replaced old new)) (Answered a) (inl so) = absurd so
+  inserted key value is_replaced if_so if_not (said.Key (says.Removed word)) (Answered a) (inl so) = absurd so
+  inserted key value is_replaced if_so if_not _ _ come = absurd come
+
+  -- one that leaves a pair that is there: it tells whether its own was stored
+  tried : (key : K) (value : V) (is_stored : Said → Bool) → ((new : ℕ) → is_stored (said.Key (says.Stored new)) ≡ true) → ((word : ℕ) → is_stored (said.Key (says.Found word)) ≡ false)
+      → (it : Said) (o : Outcome V) → ComesToIt known (one_key.TryInsert key value) replies (progress.Done it) o
+      → (pair : ℕ) × (o ≡ Answered (if is_stored it then answers.Stored pair else answers.Occupied pair value))
+  tried key value is_stored if_so if_not (said.Key (says.Stored new)) (Answered a) (inr (n, names, v, means)) =
+      (n, ap Answered (subst (λ (q : Bool). a ≡ (if q then answers.Stored n else answers.Occupied n value)) (sym (if_so new)) (let one : answers.Stored n ≡ a = cc means in sym one)))
+  tried key value is_stored if_so if_not (said.Key (says.Found word)) (Answered a) (inl (n, names, means)) =
+      (n, ap Answered (subst (λ (q : Bool). a ≡ (if q then answers.Stored n else answers.Occupied n value)) (sym (if_not word)) (let is = means 0 in let one : answers.Occupied n value ≡ a = cc is in sym one)))
+  tried key value is_stored if_so if_not (said.Key (says.Replaced old new)) (Answered a) (inr (o, n, was, names, v, means)) = absurd (cc means)
+  tried key value is_stored if_so if_not (said.Key (says.Removed word)) (Answered a) (inr (o, names, means)) = absurd (let is = means 0 in cc is)
+  tried key value is_stored if_so if_not (said.Key says.Absent) (Answered a) (inl means) = absurd (let is = means 0 in cc is)
+  tried key value is_stored if_so if_not (said.Key says.Absent) (Answered a) (inr done) = absurd done
+  tried key value is_stored if_so if_not (said.Key (says.Found word)) (Answered a) (inr done) = absurd done
+  tried key value is_stored if_so if_not (said.Key (says.Stored new)) (Answered a) (inl so) = absurd so
+  tried key value is_stored if_so if_not (said.Key (says.Replaced old new)) (Answered a) (inl so) = absurd so
+  tried key value is_stored if_so if_not (said.Key (says.Removed word)) (Answered a) (inl so) = absurd so
+  tried key value is_stored if_so if_not _ _ come = absurd come
+
+  -- a removing: it tells whether there was a pair
+  removed : (key : K) (is_removed : Said → Bool) → ((word : ℕ) → is_removed (said.Key (says.Removed word)) ≡ true) → is_removed (said.Key says.Absent) ≡ false
+      → (it : Said) (o : Outcome V) → ComesToIt known (one_key.Remove key) replies (progress.Done it) o → (pair : Option ℕ) × (is_some pair ≡ is_removed it) × (o ≡ Answered (looked pair))
+  removed key is_removed if_so if_not (said.Key (says.Removed word)) (Answered a) (inr (o, names, means)) =
+      (Some o, sym (if_so word), ap Answered (let is = means 0 in let one : answers.Found o ≡ a = cc is in sym one))
+  removed key is_removed if_so if_not (said.Key says.Absent) (Answered a) (inl means) = (None, sym if_not, ap Answered (let is = means 0 in let one : answers.Absent ≡ a = cc is in sym one))
+  removed key is_removed if_so if_not (said.Key (says.Stored new)) (Answered a) (inr (n, names, v, means)) = absurd (cc means)
+  removed key is_removed if_so if_not (said.Key (says.Replaced old new)) (Answered a) (inr (o, n, was, names, v, means)) = absurd (cc means)
+  removed key is_removed if_so if_not (said.Key (says.Found word)) (Answered a) (inl (n, names, means)) = absurd (let is = means 0 in cc is)
+  removed key is_removed if_so if_not (said.Key says.Absent) (Answered a) (inr done) = absurd done
+  removed key is_removed if_so if_not (said.Key (says.Found word)) (Answered a) (inr done) = absurd done
+  removed key is_removed if_so if_not (said.Key (says.Stored new)) (Answered a) (inl so) = absurd so
+  removed key is_removed if_so if_not (said.Key (says.Replaced old new)) (Answered a) (inl so) = absurd so
+  removed key is_removed if_so if_not (said.Key (says.Removed word)) (Answered a) (inl so) = absurd so
+  removed key is_removed if_so if_not _ _ come = absurd come
+
+module _ {K V S : Type 0} (same : K → K → Bool) (hash : S → K → ℕ) (fixed : Fixed) (small : fixed.batch_size < 2 ^ 64) (id t : ℕ) (v : View K V S) (map : Map S) (run : Run K V)
+    (before : List (Run K V)) (knows : v.map ≡ Some map) (slot_is : v.slot ≡ Inside t NoBlock) (calls_are : v.calls ≡ run ∷ before) where
+  -- what was wanted, and has come to its end
+  module _ (wanted : Wanted K V) (simple : plain wanted ≡ wanted) (began : run.began ≡ machine_for same hash map t wanted) (ended : has_ended run.told ≡ true) where
+    -- the history of a state
+    abbrev history_in : (aborts : ℕ → V) (s : State (Node K V) (View K V S) (MapsWorld K V S)) (h : Holds same hash fixed s) → view_of s id ≡ Some v → List (Entry K V)
+    history_in aborts s h at_id = (tell same hash fixed small aborts id t v map wanted run [] before knows calls_are simple began ended s h at_id).0.history
+
+    -- so it is in that of each
+    in_its : (So : List (Entry K V) → ℕ → ℕ → Type 0)
+        → ((aborts : ℕ → V) (s : State (Node K V) (View K V S) (MapsWorld K V S)) (h : Holds same hash fixed s) (at_id : view_of s id ≡ Some v)
+        → So (history_in aborts s h at_id) (caller_at id t) map.number) → OnItsMap same hash fixed id v So
+    in_its So so = (
+      map,
+      knows,
+      λ aborts s h at_id.
+          let legal = histories_are_legal V same hash fixed small aborts s h in
+          let told = tell same hash fixed small aborts id t v map wanted run [] before knows calls_are simple began ended s h at_id in (
+            legal.0,
+            legal.1,
+            legal.2,
+            legal.3,
+            subst (λ (a : ℕ). So legal.0.history (caller_at id a) map.number) (sym (ap place_of slot_is))
+                (subst (λ (x : Played K V S). So x.history (caller_at id t) map.number) (same_some told.0 legal.0 (sym told.1 ∙ legal.1)) (so aborts s h at_id)),
+          ),
+    )
+
+  -- It has looked a key up: there was no pair for it,
+  pub found_none : (key : K) → run.began ≡ machine_for same hash map t (Get key) → run.told ≡ progress.Done (said.Key says.Absent) → FoundNone same hash fixed id v key
+  found_none key began told =
+      in_its (Get key) refl began (ap has_ended told) (λ history i m. IsLookedUp same history i m key answers.Absent)
+      (λ aborts s h at_id.
+      let on = on_key same hash fixed small aborts id t v map (Get key) run [] before knows calls_are refl began (ap has_ended told) s h at_id (one_key.Get key) (progress.Done (said.Key says.Absent)) refl told in
+      let by = such on.0 key on.1 says.Absent on.2 on.3 in on.5 key answers.Absent refl (by.2 ∙ ap Answered by.1))
+
+  -- or there was one,
+  pub has_looked : (key : K) (word : ℕ) → run.began ≡ machine_for same hash map t (Get key) → run.told ≡ progress.Done (said.Key (says.Found word)) → HasLooked same hash fixed id v key true
+  has_looked key word began told =
+      in_its (Get key) refl began (ap has_ended told) (λ history i m. (pair : Option ℕ) × (is_some pair ≡ true) × IsLookedUp same history i m key (looked pair))
+      (λ aborts s h at_id.
+      let on = on_key same hash fixed small aborts id t v map (Get key) run [] before knows calls_are refl began (ap has_ended told) s h at_id (one_key.Get key) (progress.Done (said.Key (says.Found word))) refl told in
+      let by = such on.0 key on.1 (says.Found word) on.2 on.3 in (Some by.1.0, refl, on.5 key (answers.Found by.1.0) refl (by.2 ∙ ap Answered by.1.1)))
+
+  pub has_missed : (key : K) → run.began ≡ machine_for same hash map t (Get key) → run.told ≡ progress.Done (said.Key says.Absent) → HasLooked same hash fixed id v key false
+  has_missed key began told =
+      in_its (Get key) refl began (ap has_ended told) (λ history i m. (pair : Option ℕ) × (is_some pair ≡ false) × IsLookedUp same history i m key (looked pair))
+      (λ aborts s h at_id.
+      let on = on_key same hash fixed small aborts id t v map (Get key) run [] before knows calls_are refl began (ap has_ended told) s h at_id (one_key.Get key) (progress.Done (said.Key says.Absent)) refl told in
+      let by = such on.0 key on.1 says.Absent on.2 on.3 in (None, refl, on.5 key answers.Absent refl (by.2 ∙ ap Answered by.1)))
+
+  -- of which this is the value that it holds.
+  module _ (key : K) (word : ℕ) (stored : K) (value : V) (began : run.began ≡ machine_for same hash map t (Get key)) (told : run.told ≡ progress.Done (said.Key (says.Found word)))
+      (shown : shown_in v.held (block_in word) ≡ Some (Pair stored value)) where
+    ended : has_ended run.told ≡ true
+    ended = ap has_ended told
+
+    module _ (aborts : ℕ → V) (s : State (Node K V) (View K V S) (MapsWorld K V S)) (h : Holds same hash fixed s) (at_id : view_of s id ≡ Some v) where
+      abbrev i : ℕ
+      i = caller_at id (place_of v.slot)
+
+      abbrev history : List (Entry K V)
+      history = (tell same hash fixed small aborts id t v map (Get key) run [] before knows calls_are refl began ended s h at_id).0.history
+
+      seen : (memory : Mem (Node K V))
+          × (seen_of V same hash fixed.batch_size fixed.roots slot_of h.course id s.world.doings (nothing_done V same hash fixed.batch_size fixed.roots slot_of h.course) h.reached h.led None ≡ Some (i, memory))
+          × IsNewest i (calls_of id s.world.doings h.reached.1 []) × (value_at memory (block_in word) ≡ Some (Pair stored value))
+      seen = h.seen id v at_id (block_in word) (Pair stored value) shown
+
+      -- what the newest call of the list has found
+      by : (calls : List (Called K V)) → AreRuns same hash s.world.scene calls (run ∷ before) → IsNewest i calls → IfNewest same i (HasSeenPair same history seen.0) calls
+          → HadValue same history (caller_at id t) map.number key value
+      by [] are newest found = absurd are
+      by (one ∷ earlier) are newest found =
+          let wants = same_wanted same hash fixed small aborts id t v map (Get key) run [] before knows calls_are refl began ended s h at_id one are.0 in
+          let on = same_map same hash fixed small aborts id t v map (Get key) run [] before knows calls_are refl began ended s h at_id one are.0 in
+          let it = found newest key word (ap call_for (sym wants)) (sym are.0.told ∙ told) in
+          let same_pair : Pair it.0 it.1 ≡ Pair stored value = same_some (Pair it.0 it.1) (Pair stored value) (sym it.2 ∙ seen.3) in
+          let one_value : it.1 ≡ value = cc same_pair in
+          subst (λ (x : V). HadValue same history (caller_at id t) map.number key x) one_value
+          (subst (λ (c : ℕ). HadValue same history c map.number key it.1) (newest ∙ ap (caller_at id) (ap place_of slot_is)) (subst (λ (m : ℕ). HadValue same history one.caller m key it.1) (sym on) it.3))
+
+      had : HadValue same history (caller_at id t) map.number key value
+      had =
+          by (calls_of id s.world.doings h.reached.1 []) (runs same hash fixed small aborts id t v map (Get key) run [] before knows calls_are refl began ended s h at_id) seen.2
+          ((tell same hash fixed small aborts id t v map (Get key) run [] before knows calls_are refl began ended s h at_id).2.found i seen.0 seen.1)
+
+    pub found_value : FoundValue same hash fixed id v key value
+    found_value = in_its (Get key) refl began ended (λ history i m. HadValue same history i m key value) (λ aborts s h at_id. had aborts s h at_id)
+
+  -- It has stored a pair, in the place of another one or of none,
+  pub has_inserted : (key : K) (value : V) (it : Said) → run.began ≡ machine_for same hash map t (Insert key value) → run.told ≡ progress.Done it → (is_replaced : Said → Bool)
+      → ((old new : ℕ) → is_replaced (said.Key (says.Replaced old new)) ≡ true) → ((new : ℕ) → is_replaced (said.Key (says.Stored new)) ≡ false) → HasInserted same hash fixed id v key value (is_replaced it)
+  has_inserted key value it began told is_replaced if_so if_not =
+      in_its (Insert key value) refl began (ap has_ended told)
+      (λ history i m. (old : Option ℕ) × (is_some old ≡ is_replaced it) × IsAnswered same history i m (On (one_key.Insert key value)) (Answered (looked old)))
+      (λ aborts s h at_id.
+      let on = on_key same hash fixed small aborts id t v map (Insert key value) run [] before knows calls_are refl began (ap has_ended told) s h at_id (one_key.Insert key value) (progress.Done it) refl told in
+      let by = inserted on.0 on.1 key value is_replaced if_so if_not it on.2 on.3 in
+      (by.0, by.1, subst (λ (o : Outcome V). IsAnswered same (history_in (Insert key value) refl began (ap has_ended told) aborts s h at_id) (caller_at id t) map.number (On (one_key.Insert key value)) o) by.2 on.4))
+
+  -- or where there was none,
+  pub has_tried : (key : K) (value : V) (it : Said) → run.began ≡ machine_for same hash map t (TryToInsert key value) → run.told ≡ progress.Done it → (is_stored : Said → Bool)
+      → ((new : ℕ) → is_stored (said.Key (says.Stored new)) ≡ true) → ((word : ℕ) → is_stored (said.Key (says.Found word)) ≡ false) → HasTried same hash fixed id v key value (is_stored it)
+  has_tried key value it began told is_stored if_so if_not =
+      in_its (TryToInsert key value) refl began (ap has_ended told)
+      (λ history i m. (pair : ℕ) × IsAnswered same history i m (On (one_key.TryInsert key value)) (Answered (if is_stored it then answers.Stored pair else answers.Occupied pair value)))
+      (λ aborts s h at_id.
+      let on = on_key same hash fixed small aborts id t v map (TryToInsert key value) run [] before knows calls_are refl began (ap has_ended told) s h at_id (one_key.TryInsert key value) (progress.Done it) refl told in
+      let by = tried on.0 on.1 key value is_stored if_so if_not it on.2 on.3 in
+      (by.0, subst (λ (o : Outcome V). IsAnswered same (history_in (TryToInsert key value) refl began (ap has_ended told) aborts s h at_id) (caller_at id t) map.number (On (one_key.TryInsert key value)) o) by.1 on.4))
+
+  -- or has removed one,
+  pub has_removed : (key : K) (it : Said) → run.began ≡ machine_for same hash map t (Remove key) → run.told ≡ progress.Done it → (is_removed : Said → Bool)
+      → ((word : ℕ) → is_removed (said.Key (says.Removed word)) ≡ true) → is_removed (said.Key says.Absent) ≡ false → HasRemoved same hash fixed id v key (is_removed it)
+  has_removed key it began told is_removed if_so if_not =
+      in_its (Remove key) refl began (ap has_ended told) (λ history i m. (pair : Option ℕ) × (is_some pair ≡ is_removed it) × IsAnswered same history i m (On (one_key.Remove key)) (Answered (looked pair)))
+      (λ aborts s h at_id.
+      let on = on_key same hash fixed small aborts id t v map (Remove key) run [] before knows calls_are refl began (ap has_ended told) s h at_id (one_key.Remove key) (progress.Done it) refl told in
+      let by = removed on.0 on.1 key is_removed if_so if_not it on.2 on.3 in
+      (by.0, by.1, subst (λ (o : Outcome V). IsAnswered same (history_in (Remove key) refl began (ap has_ended told) aborts s h at_id) (caller_at id t) map.number (On (one_key.Remove key)) o) by.2 on.4))
+
+  -- or was refused.
+  pub has_refused : (wanted : Wanted K V) → plain wanted ≡ wanted → (fault : Fault) → run.began ≡ machine_for same hash map t wanted → run.told ≡ progress.Refused fault → HasRefused same hash fixed id v wanted fault
+  has_refused wanted simple fault began told =
+      in_its wanted simple began (ap has_ended told) (λ history i m. IsAnswered same history i m (call_for wanted) (Refused fault))
+      (λ aborts s h at_id.
+      let come = comes same hash fixed small aborts id t v map wanted run [] before knows calls_are simple began (ap has_ended told) s h at_id in
+      subst (λ (p : Progress (Node K V)). IsAnswered same (history_in wanted simple began (ap has_ended told) aborts s h at_id) (caller_at id t) map.number (call_for wanted) (outcome_of come.0 (kind_of (call_for wanted)) come.1 p)) told come.2.0)

@@ -1,0 +1,64 @@
+-- What a seat may say of its newest call: what that was told is what one finite map means. So a public call says it in its own clause.
+use Rattle.std.specs.Prelude.{◌≡◌, ℕ, Bool, true, false, List, Option, Some, None, is_some, if◌then◌else◌}
+use Rattle.papaya_views.specs.Given.SeizeSeatsState.{State, view_of}
+use Rattle.papaya_views.specs.Given.SeizeViewsDeclared.view.Fixed.{Fixed}
+use Rattle.papaya_views.specs.Given.SeizeWordsDeclared.fault.Fault.{Fault}
+use Rattle.papaya_views.specs.Given.TablesDeclared.node.Node.{Node}
+use Rattle.papaya_views.specs.Rule.{MapsWorld, Holds, caller_at, place_of}
+use Rattle.papaya_views.specs.declared.view.Map.{Map}
+use Rattle.papaya_views.specs.declared.view.View.{View}
+use Rattle.papaya_moves.specs.Given.SchedulesAfter.{AtEachEvent}
+use Rattle.papaya_moves.specs.Given.SchedulesSequential.{looked}
+use Rattle.papaya_moves.specs.Given.SchedulesDeclared.call.Answer.TheVariants as answers
+use Rattle.papaya_moves.specs.Given.SchedulesDeclared.call.Call.TheVariants.{On}
+use Rattle.papaya_moves.specs.Given.SchedulesDeclared.call.OneKey.TheVariants.{Insert, TryInsert, Remove}
+use Rattle.papaya_moves.specs.Given.SchedulesDeclared.outcome.Outcome.TheVariants.{Answered, Refused}
+use Rattle.papaya_moves.specs.Given.ActsActs.{Wanted}
+use Rattle.papaya_moves.specs.Given.DeedsDeeds.{Entry}
+use Rattle.papaya_moves.specs.Given.DeedsHistory.{IsLinearizable, IsProtected}
+use Rattle.papaya_moves.specs.Given.PlayedPlay.{State as Played, call_for, first_state, play_all}
+use Rattle.papaya_answers.specs.Answered.{IsAnswered}
+use Rattle.papaya_answers.specs.Lookups.{HadValue, IsLookedUp}
+
+module _ {K V S : Type 0} (same : K → K → Bool) (hash : S → K → ℕ) (fixed : Fixed) (id : ℕ) (v : View K V S) where
+  -- Wherever the memory stands while the rule holds and the seat knows this: what was done is played to a history of which each entry is linearizable, and reclaims nothing
+  -- that an open section may look at; and this is so of it, of the caller that the seat is in its slot.
+  abbrev pub InItsHistory : (List (Entry K V) → ℕ → Type 0) → Type 0
+  InItsHistory So =
+      (aborts : ℕ → V) (s : State (Node K V) (View K V S) (MapsWorld K V S)) → Holds same hash fixed s → view_of s id ≡ Some v
+      → (after : Played K V S) × (play_all same hash fixed.batch_size fixed.roots aborts s.world.doings (first_state fixed.roots) ≡ Some after)
+      × AtEachEvent (IsLinearizable same) after.history × AtEachEvent IsProtected after.history × So after.history (caller_at id (place_of v.slot))
+
+  -- and of the map that it knows
+  abbrev pub OnItsMap : (List (Entry K V) → ℕ → ℕ → Type 0) → Type 0
+  OnItsMap So = (map : Map S) × (v.map ≡ Some map) × InItsHistory (λ history i. So history i map.number)
+
+  -- It has looked this key up on its map: the finite map of that had no pair for it at a moment of the call,
+  abbrev pub FoundNone : K → Type 0
+  FoundNone key = OnItsMap (λ history i m. IsLookedUp same history i m key answers.Absent)
+
+  -- or had one with this value,
+  abbrev pub FoundValue : K → V → Type 0
+  FoundValue key value = OnItsMap (λ history i m. HadValue same history i m key value)
+
+  -- or had one or none.
+  abbrev pub HasLooked : K → Bool → Type 0
+  HasLooked key there = OnItsMap (λ history i m. (pair : Option ℕ) × (is_some pair ≡ there) × IsLookedUp same history i m key (looked pair))
+
+  -- It has stored this pair on its map, in the place of another one or of none: its answer is the number of the pair that was there, or that none was.
+  abbrev pub HasInserted : K → V → Bool → Type 0
+  HasInserted key value replaced =
+      OnItsMap (λ history i m. (before : Option ℕ) × (is_some before ≡ replaced) × IsAnswered same history i m (On (Insert key value)) (Answered (looked before)))
+
+  -- It has tried to store it: its answer is the number under which it is stored, or the pair that is there, and the value back.
+  abbrev pub HasTried : K → V → Bool → Type 0
+  HasTried key value stored =
+      OnItsMap (λ history i m. (pair : ℕ) × IsAnswered same history i m (On (TryInsert key value)) (Answered (if stored then answers.Stored pair else answers.Occupied pair value)))
+
+  -- It has removed the pair of this key, if there was one: its answer is the number of that pair, or that none was there.
+  abbrev pub HasRemoved : K → Bool → Type 0
+  HasRemoved key removed = OnItsMap (λ history i m. (pair : Option ℕ) × (is_some pair ≡ removed) × IsAnswered same history i m (On (Remove key)) (Answered (looked pair)))
+
+  -- It was refused so, whatever it wanted.
+  abbrev pub HasRefused : Wanted K V → Fault → Type 0
+  HasRefused wanted fault = OnItsMap (λ history i m. IsAnswered same history i m (call_for wanted) (Refused fault))
