@@ -1,0 +1,2 @@
+mod Made
+mod OneMap
