@@ -26,7 +26,7 @@ known None x e = absurd (cc e)
 known (Some map) x e = (map, refl, same_some (map.setting, map.hasher) x e)
 
 pub known_some : {S : Type 0} (o : Option (Map S)) → IsSome (known_as o) → (map : Map S) × (o ≡ Some map)
-known_some None e = absurd e
+known_some None e = absurd (cc e)
 known_some (Some map) e = (map, refl)
 
 module _ {K V S : Type 0} (hash : S → K → ℕ) where
