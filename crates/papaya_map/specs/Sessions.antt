@@ -1,5 +1,6 @@
 -- What a session has done on its map, by the caller that it has: this knows the map, and the calls that it has begun, the newest first, each with what it has told last.
 use Rattle.std.specs.Prelude.{◌≡◌, ℕ, Bool, Option, Some, None, Err, is_some}
+use Rattle.papaya_map.specs.OneMap.{MapRefused}
 use Rattle.papaya_shared.specs.Given.ActsActs.{Wanted, ContainsKey, Get}
 use Rattle.papaya_shared.specs.Given.SeatsCalling.{outcome_of}
 use Rattle.papaya_shared.specs.Given.SeatsLooking.{HasRun, found_of}
@@ -19,9 +20,9 @@ module _ {K V S : Type 0} where
     pub calls : n.seat.view.calls ≡ c.seat.view.calls
 
 module _ {K V S : Type 0} (same : K → K → Bool) (hash : S → K → ℕ) where
-  -- it has made one call more, which was to do this, and was refused so
+  -- it has made one call more, which was to do this, and was refused so, in one finite map, too
   abbrev pub WasRefused : Wanted K V → Fault → Caller K V S → Caller K V S → Type 0
-  WasRefused wanted fault c n = HasRun same hash wanted (outcome_of (Err fault)) c.seat.view n.seat.view
+  WasRefused wanted fault c n = HasRun same hash wanted (outcome_of (Err fault)) c.seat.view n.seat.view × MapRefused same hash wanted fault n
 
 module _ {K V S : Type 0} (same : K → K → Bool) (hash : S → K → ℕ) (key : K) where
   -- it has made one call more, which looks this key up, and was answered that it is not there, or which word links to its pair

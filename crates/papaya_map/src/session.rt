@@ -1,6 +1,7 @@
 //! A map, as one of those has it who share it: with a slot of its own, within a section.
 ghost use Rattle.std.specs.Prelude.{◌≡◌, [], IfOk, IfErr, option_map};
 ghost use Rattle.std.specs.Borrow.{sem};
+ghost use Rattle.papaya_map.specs.OneMap.{MapCameToHave, MapGaveUp, MapHad, MapHadOne, MapLacked};
 ghost use Rattle.papaya_map.specs.Sessions.{HasGot, HasMadeNone, HasSought, IsOnSameMap, WasRefused};
 ghost use Rattle.papaya_shared.specs.Answers.{CameBack, HasRemoved, HasStored, HasTried, has_stored};
 ghost use Rattle.papaya_shared.specs.Given.ActsActs.{Insert, Remove, TryToInsert};
@@ -56,7 +57,9 @@ impl<'m, K: Eq + Hash + Drop, V: Drop, S: Hashes<K>> Session<'m, K, V, S> {
     /// Looks a key up, and lends the value of its pair, if the map has one, for as long as the session is borrowed, whoever replaces or removes it meanwhile. How many
     /// steps that takes is up to the others.
     pub fn get<R: Wait>(&mut self, rt: &R, key: &K) -> Option<&V>
-        ensures* got { sem 𝓛 (EndsSo K.row V.row S.row K.Eq K.PartialEq S.Hashes self.entry (λ now. IsOnSameMap self.old.base.caller now.base.caller × HasGot K.eq S.hash key.now (option_map (λ value. value.now) result) self.old.base.caller now.base.caller)) }
+        ensures* got { sem 𝓛 (EndsSo K.row V.row S.row K.Eq K.PartialEq S.Hashes self.entry (λ now. IsOnSameMap self.old.base.caller now.base.caller
+            × HasGot K.eq S.hash key.now (option_map (λ value. value.now) result) self.old.base.caller now.base.caller
+            × MapHad K.eq S.hash key.now (option_map (λ value. value.now) result) now.base.caller)) }
     {
         match self.base.find(rt, key) {
             Some(found) => Some(self.base.value(found)),
@@ -68,6 +71,7 @@ impl<'m, K: Eq + Hash + Drop, V: Drop, S: Hashes<K>> Session<'m, K, V, S> {
     pub fn contains_key<R: Wait>(&mut self, rt: &R, key: &K) -> bool
         ensures same { IsOnSameMap self.old.base.caller self.new.base.caller }
         ensures sought { HasSought K.eq S.hash key.now result self.old.base.caller self.new.base.caller }
+        ensures one_map { MapHadOne K.eq S.hash key.now result self.new.base.caller }
     {
         self.base.contains_key(rt, key)
     }
@@ -77,6 +81,7 @@ impl<'m, K: Eq + Hash + Drop, V: Drop, S: Hashes<K>> Session<'m, K, V, S> {
     pub fn insert<R: Wait>(&mut self, rt: &R, key: K, value: V) -> Result<bool, Refused<K, V>>
         ensures same { IsOnSameMap self.old.base.caller self.new.base.caller }
         ensures stored { IfOk result (λ replaced. HasStored K.eq S.hash key value replaced self.old.base.caller.seat.view self.new.base.caller.seat.view) }
+        ensures one_map { IfOk result (λ replaced. MapCameToHave K.eq S.hash key value replaced self.new.base.caller) }
         ensures refused { IfErr result (λ r. WasRefused K.eq S.hash (Insert key value) r.fault self.old.base.caller self.new.base.caller) }
         ensures back { IfErr result (λ r. (r.key ≡ key) × (r.value ≡ value)) }
     {
@@ -93,6 +98,7 @@ impl<'m, K: Eq + Hash + Drop, V: Drop, S: Hashes<K>> Session<'m, K, V, S> {
         ensures same { IsOnSameMap self.old.base.caller self.new.base.caller }
         ensures tried { IfOk result (λ tried. HasTried K.eq S.hash key value (has_stored tried) self.old.base.caller.seat.view self.new.base.caller.seat.view) }
         ensures present { IfOk result (CameBack key value) }
+        ensures one_map { IfOk result (λ tried. MapLacked K.eq S.hash key value (has_stored tried) self.new.base.caller) }
         ensures refused { IfErr result (λ r. WasRefused K.eq S.hash (TryToInsert key value) r.fault self.old.base.caller self.new.base.caller) }
         ensures back { IfErr result (λ r. (r.key ≡ key) × (r.value ≡ value)) }
     {
@@ -104,6 +110,7 @@ impl<'m, K: Eq + Hash + Drop, V: Drop, S: Hashes<K>> Session<'m, K, V, S> {
     pub fn remove<R: Wait>(&mut self, rt: &R, key: K) -> Result<bool, Fault>
         ensures same { IsOnSameMap self.old.base.caller self.new.base.caller }
         ensures removed { IfOk result (λ removed. HasRemoved K.eq S.hash key removed self.old.base.caller.seat.view self.new.base.caller.seat.view) }
+        ensures one_map { IfOk result (λ removed. MapGaveUp K.eq S.hash key removed self.new.base.caller) }
         ensures refused { IfErr result (λ fault. WasRefused K.eq S.hash (Remove key) fault self.old.base.caller self.new.base.caller) }
     {
         self.base.remove(rt, key)
