@@ -10,7 +10,7 @@ import sys
 
 sys.dont_write_bytecode = True
 
-from programs import compiled
+from programs import shown
 
 NAME, BELOW = "late_guards", "seize_shared seize_blocks seize"
 HEAD = """//! Guards that are used as they may be used, and as they may not.
@@ -98,22 +98,9 @@ def sending():
     return text + MAIN % "            drop(registration);\n", right, wrong
 
 
-def shown(program, right, wrong, codes):
-    """Whether the compiler refuses just these functions, and how many."""
-    said, errors = compiled(NAME, BELOW, program)
-    refused = {int(line) for line, code in errors if code in codes}
-    bad = [f"{name} compiles" for name, line in wrong.items() if line not in refused]
-    bad += [f"{name} is refused" for name, line in right.items() if line in refused]
-    bad += [f"line {line}: {code}" for line, code in errors if int(line) not in {*right.values(), *wrong.values()} or code not in codes]
-    if bad or not errors:
-        print(said)
-        sys.exit(f"late guards: {'; '.join(bad) or 'nothing was refused'}")
-    return len(wrong)
-
-
 def main():
-    late = shown(*reading(), LATE)
-    stay = shown(*sending(), STAYS)
+    late = shown(NAME, BELOW, *reading(), LATE)
+    stay = shown(NAME, BELOW, *sending(), STAYS)
     print(f"late guards: {late} reads refused, and {stay} ways to another thread")
 
 
