@@ -1,5 +1,5 @@
 //! A hash map that threads share, as one has it who owns it.
-ghost use Rattle.std.specs.Prelude.{◌≡◌, ◌<◌, [], Some, Ok, true, IfOk, IfErr, MatchResult};
+ghost use Rattle.std.specs.Prelude.{◌≡◌, ◌<◌, ◌^◌, [], Some, Ok, true, IfOk, IfErr, MatchResult, nat_lt};
 ghost use Rattle.papaya_shared.specs.Given.CallersKept.{is_home};
 ghost use Rattle.papaya_shared.specs.Given.SeizeViewsDeclared.view.View.TheVariants.{Rests};
 ghost use Rattle.papaya_shared.specs.Given.TablesChunks.{is_incremental};
@@ -43,6 +43,7 @@ pub struct HashMap<K: Eq + Hash + Drop, V: Drop, S: Hashes<K> = RandomState> {
     ghost free: { seat.view.work ≡ NoWork },
     ghost knows: { known_by seat.view ≡ Some (setting, hasher) },
     ghost sized: { home.blocks.words.fixed.batch_size ≡ setting.batch_size },
+    ghost small: { nat_lt home.blocks.words.fixed.batch_size (2 ^ 64) ≡ true },
     ghost incremental: { is_incremental setting.mode ≡ true },
 }
 

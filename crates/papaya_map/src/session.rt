@@ -1,5 +1,5 @@
 //! A map, as one of those has it who share it: with a slot of its own, within a section.
-ghost use Rattle.std.specs.Prelude.{◌≡◌, [], IfOk, IfErr, option_map};
+ghost use Rattle.std.specs.Prelude.{◌≡◌, ◌^◌, [], true, IfOk, IfErr, nat_lt, option_map};
 ghost use Rattle.std.specs.Borrow.{sem};
 ghost use Rattle.papaya_map.specs.OneMap.{MapCameToHave, MapGaveUp, MapHad, MapHadOne, MapLacked};
 ghost use Rattle.papaya_map.specs.Sessions.{HasGot, HasMadeNone, HasSought, IsOnSameMap, WasRefused};
@@ -20,6 +20,7 @@ use std::sync::Wait;
 pub struct Session<'m, K: Eq + Hash + Drop, V: Drop, S: Hashes<K> = RandomState> {
     base: Base<'m, K, V, S>,
     ghost inside: { base.caller.seat.view.slot ≡ Inside base.slot Nothing },
+    ghost small: { nat_lt base.caller.blocks.now.words.fixed.batch_size (2 ^ 64) ≡ true },
 }
 
 impl<'m, K: Eq + Hash + Drop, V: Drop, S: Hashes<K>> Session<'m, K, V, S> {
@@ -28,6 +29,7 @@ impl<'m, K: Eq + Hash + Drop, V: Drop, S: Hashes<K>> Session<'m, K, V, S> {
     /// Takes a slot, and opens a section of it. Without one there is no session.
     pub(crate) fn begin(base: Base<'m, K, V, S>) -> Result<Self, Fault>
         requires rests { base.caller.seat.view.slot ≡ Rests }
+        requires small { nat_lt base.caller.blocks.now.words.fixed.batch_size (2 ^ 64) ≡ true }
         ensures same { IfOk result (λ session. HasMadeNone base.entry.caller session.base.caller) }
     {
         let mut base = base;
@@ -57,7 +59,7 @@ impl<'m, K: Eq + Hash + Drop, V: Drop, S: Hashes<K>> Session<'m, K, V, S> {
     /// Looks a key up, and lends the value of its pair, if the map has one, for as long as the session is borrowed, whoever replaces or removes it meanwhile. How many
     /// steps that takes is up to the others.
     pub fn get<R: Wait>(&mut self, rt: &R, key: &K) -> Option<&V>
-        ensures* got { sem 𝓛 (EndsSo K.row V.row S.row K.Eq K.PartialEq S.Hashes self.entry (λ now. IsOnSameMap self.old.base.caller now.base.caller
+        ensures* got { sem 𝓛 (EndsSo K.row V.row S.row K.PartialEq S.Hashes self.entry (λ now. IsOnSameMap self.old.base.caller now.base.caller
             × HasGot K.eq S.hash key.now (option_map (λ value. value.now) result) self.old.base.caller now.base.caller
             × MapHad K.eq S.hash key.now (option_map (λ value. value.now) result) now.base.caller)) }
     {
