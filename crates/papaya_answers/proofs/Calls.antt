@@ -3,11 +3,10 @@ use Rattle.std.specs.Prelude.{◌≡◌, ◌<◌, ◌^◌, Option, Some, None, i
 use Rattle.std.specs.List.{AllByRecursion}
 use Rattle.std.proofs.lemmas.Bool.{eq-eqb}
 use Rattle.std.proofs.Common.{ℕ, Bool, true, false, List, [], ◌∷◌, inl, inr, refl, sym, subst, ap, ◌∙◌}
+use Rattle.papaya_views.proofs.Leaves.{section_place}
 use Rattle.papaya_views.proofs.Given.SeizeActsAnswers.{same_some}
 use Rattle.papaya_views.specs.Given.SeizeSeatsState.{State, view_of}
 use Rattle.papaya_views.specs.Given.SeizeViewsDeclared.view.Fixed.{Fixed}
-use Rattle.papaya_views.specs.Given.SeizeViewsDeclared.view.Has.TheVariants.{Nothing as NoBlock}
-use Rattle.papaya_views.specs.Given.SeizeViewsDeclared.view.View.TheVariants.{Inside}
 use Rattle.papaya_views.specs.Given.SeizeWordsDeclared.fault.Fault.{Fault}
 use Rattle.papaya_views.specs.Given.SeizeWordsWord.{block_in}
 use Rattle.papaya_views.specs.Given.TablesDeclared.node.Node.{Node}
@@ -20,7 +19,7 @@ use Rattle.papaya_views.specs.Given.RawDeclared.machines.progress.Progress.TheVa
 use Rattle.papaya_views.specs.Begun.{machine_for}
 use Rattle.papaya_views.specs.Listed.{Called, IsNewest, calls_of, plain, seat_of, seen_of}
 use Rattle.papaya_views.specs.Looks.{shown_in}
-use Rattle.papaya_views.specs.Rule.{MapsWorld, AreRuns, Holds, IsRun, IsSlot, caller_at, place_of}
+use Rattle.papaya_views.specs.Rule.{MapsWorld, AreRuns, Holds, IsRun, IsSlot, caller_at, acts_in, section_of}
 use Rattle.papaya_views.specs.declared.view.Map.{Map}
 use Rattle.papaya_views.specs.declared.view.Run.{Run}
 use Rattle.papaya_views.specs.declared.view.View.{View}
@@ -103,7 +102,7 @@ module _ {K V : Type 0} (known : Known) (replies : List (Option ℕ × Reply V))
   removed key is_removed if_so if_not _ _ come = absurd come
 
 module _ {K V S : Type 0} (same : K → K → Bool) (hash : S → K → ℕ) (fixed : Fixed) (small : fixed.batch_size < 2 ^ 64) (id t : ℕ) (v : View K V S) (map : Map S) (run : Run K V)
-    (before : List (Run K V)) (knows : v.map ≡ Some map) (slot_is : v.slot ≡ Inside t NoBlock) (calls_are : v.calls ≡ run ∷ before) where
+    (before : List (Run K V)) (knows : v.map ≡ Some map) (section : section_of v.under v.slot ≡ Some t) (calls_are : v.calls ≡ run ∷ before) where
   -- what was wanted, and has come to its end
   module _ (wanted : Wanted K V) (simple : plain wanted ≡ wanted) (began : run.began ≡ machine_for same hash map t wanted) (ended : has_ended run.told ≡ true) where
     -- in each state
@@ -112,7 +111,7 @@ module _ {K V S : Type 0} (same : K → K → Bool) (hash : S → K → ℕ) (fi
       history = (tell same hash fixed small aborts id t v map wanted run [] before knows calls_are simple began ended s h at_id).0.history
 
       its_slot : IsSlot t
-      its_slot = subst IsSlot (ap place_of slot_is) (h.so.seats id v at_id).slot
+      its_slot = subst IsSlot (section_place v.under v.slot t section) (h.so.seats id v at_id).slot
 
       its_runs : AreRuns same hash s.world.scene (calls_of id s.world.doings h.reached.1 []) (run ∷ before)
       its_runs = runs same hash fixed small aborts id t v map wanted run [] before knows calls_are simple began ended s h at_id
@@ -160,7 +159,7 @@ module _ {K V S : Type 0} (same : K → K → Bool) (hash : S → K → ℕ) (fi
             legal.1,
             legal.2,
             legal.3,
-            subst (λ (a : ℕ). ByNewest (caller_at id a) (So (caller_at id a) map.number) legal.0.history) (sym (ap place_of slot_is))
+            subst (λ (a : ℕ). ByNewest (caller_at id a) (So (caller_at id a) map.number) legal.0.history) (sym (section_place v.under v.slot t section))
                 (subst (λ (x : Played K V S). ByNewest (caller_at id t) (So (caller_at id t) map.number) x.history) (same_some told.0 legal.0 (sym told.1 ∙ legal.1)) (so aborts s h at_id)),
           ),
     )
@@ -210,7 +209,7 @@ module _ {K V S : Type 0} (same : K → K → Bool) (hash : S → K → ℕ) (fi
       then_ = history (Get key) refl began ended aborts s h at_id
 
       abbrev i : ℕ
-      i = caller_at id (place_of v.slot)
+      i = caller_at id (acts_in v.under v.slot)
 
       seen : (memory : Mem (Node K V))
           × (seen_of V same hash fixed.batch_size fixed.roots slot_of h.course id s.world.doings (nothing_done V same hash fixed.batch_size fixed.roots slot_of h.course) h.reached h.led None ≡ Some (i, memory))
@@ -228,14 +227,14 @@ module _ {K V S : Type 0} (same : K → K → Bool) (hash : S → K → ℕ) (fi
           let same_pair : Pair it.0 it.1 ≡ Pair stored value = same_some (Pair it.0 it.1) (Pair stored value) (sym it.2 ∙ seen.3) in
           let one_value : it.1 ≡ value = cc same_pair in
           subst (λ (x : V). ByNewest (caller_at id t) (WasHad same (caller_at id t) map.number key x) then_) one_value
-          (subst (λ (c : ℕ). ByNewest c (WasHad same c map.number key it.1) then_) (newest ∙ ap (caller_at id) (ap place_of slot_is))
+          (subst (λ (c : ℕ). ByNewest c (WasHad same c map.number key it.1) then_) (newest ∙ ap (caller_at id) (section_place v.under v.slot t section))
           (subst (λ (m : ℕ). ByNewest one.caller (WasHad same one.caller m key it.1) then_) (sym map_is) it.3))
 
       had : ByNewest (caller_at id t) (WasHad same (caller_at id t) map.number key value) then_
       had =
           by (calls_of id s.world.doings h.reached.1 []) (its_runs (Get key) refl began ended aborts s h at_id) seen.2
           ((tell same hash fixed small aborts id t v map (Get key) run [] before knows calls_are refl began ended s h at_id).2.found i seen.0
-          (sym (its_seat id (place_of v.slot) (h.so.seats id v at_id).slot)) seen.1)
+          (sym (its_seat id (acts_in v.under v.slot) (h.so.seats id v at_id).slot)) seen.1)
 
     pub found_value : FoundValue same hash fixed id v key value
     found_value = in_its (Get key) refl began ended (λ i m. WasHad same i m key value) (λ aborts s h at_id. had aborts s h at_id)

@@ -4,7 +4,7 @@ use Rattle.papaya_views.specs.Given.SeizeSeatsState.{State, view_of}
 use Rattle.papaya_views.specs.Given.SeizeViewsDeclared.view.Fixed.{Fixed}
 use Rattle.papaya_views.specs.Given.SeizeWordsDeclared.fault.Fault.{Fault}
 use Rattle.papaya_views.specs.Given.TablesDeclared.node.Node.{Node}
-use Rattle.papaya_views.specs.Rule.{MapsWorld, Holds, caller_at, place_of}
+use Rattle.papaya_views.specs.Rule.{MapsWorld, Holds, caller_at, acts_in}
 use Rattle.papaya_views.specs.declared.view.Map.{Map}
 use Rattle.papaya_views.specs.declared.view.View.{View}
 use Rattle.papaya_moves.specs.Given.SchedulesAfter.{AtEachEvent}
@@ -27,7 +27,7 @@ module _ {K V S : Type 0} (same : K → K → Bool) (hash : S → K → ℕ) (fi
   InItsHistory So =
       (aborts : ℕ → V) (s : State (Node K V) (View K V S) (MapsWorld K V S)) → Holds same hash fixed s → view_of s id ≡ Some v
       → (after : Played K V S) × (play_all same hash fixed.batch_size fixed.roots aborts s.world.doings (first_state fixed.roots) ≡ Some after)
-      × AtEachEvent (IsLinearizable same) after.history × AtEachEvent IsProtected after.history × So after.history (caller_at id (place_of v.slot))
+      × AtEachEvent (IsLinearizable same) after.history × AtEachEvent IsProtected after.history × So after.history (caller_at id (acts_in v.under v.slot))
 
   -- The newest step that its calls have taken ends a call on the map that it knows, and so it is of that.
   abbrev pub ItsCall : (ℕ → ℕ → List (Entry K V) → Entry K V → Type 0) → Type 0

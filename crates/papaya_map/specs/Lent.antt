@@ -10,10 +10,8 @@ use Rattle.papaya_map.specs.declared.session.Session.{Session}
 use Rattle.papaya_map.specs.contracts.session.Session.{the_row}
 
 module _ (K V S : RattleType) {h : hash.Ghosts K.Denot} (same : eq.Ghosts K.Denot) (by : hashes.Ghosts S.Denot K.Denot) where
-  -- the session's type, as the logic holds it. Its lifetime is the second of the signature
-  abbrev pub session_row : RattleType
-  session_row = the_row (record { mir = named 1; lft = [] }) K V S h (record {}) same by
-
-  -- it ends as one of which this holds
+  -- it ends as one of which this holds. Its lifetime is the second of the signature
   abbrev pub EndsSo : MutBor (Session K.Denot V.Denot S.Denot h) → (Session K.Denot V.Denot S.Denot h → Type 0) → Fml
-  EndsSo session Holds = follows_so session_row session_row session.ghost_name none (λ _ _. ⊤) Holds
+  EndsSo session Holds =
+      follows_so (the_row (record { mir = named 1; lft = [] }) K V S h (record {}) same by) (the_row (record { mir = named 1; lft = [] }) K V S h (record {}) same by) session.ghost_name none
+      (λ _ _. ⊤) Holds

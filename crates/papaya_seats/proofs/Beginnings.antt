@@ -17,16 +17,15 @@ use Rattle.papaya_views.specs.Given.RawDeclared.machines.machine.Machine.{Machin
 use Rattle.papaya_views.specs.Given.RawDeclared.machines.machine.Machine.TheVariants.{Key}
 use Rattle.papaya_views.specs.Given.ActsActs.{Wanted, Get}
 use Rattle.papaya_views.specs.Given.SeizeViewsDeclared.view.Fixed.{Fixed}
-use Rattle.papaya_views.specs.Given.SeizeViewsDeclared.view.Has.TheVariants.{Nothing as NoBlock}
-use Rattle.papaya_views.specs.Given.SeizeViewsDeclared.view.View.TheVariants.{Rests, Inside}
+use Rattle.papaya_views.specs.Given.SeizeViewsDeclared.view.View.TheVariants.{Rests}
 use Rattle.papaya_views.specs.Begun.{machine_for, making}
-use Rattle.papaya_views.specs.Rule.{Holds, KeepsFor}
+use Rattle.papaya_views.specs.Rule.{Holds, KeepsFor, section_of, stand_of}
 use Rattle.papaya_views.specs.declared.view.Map.{Map}
 use Rattle.papaya_views.specs.declared.view.View.{View}
 use Rattle.papaya_views.specs.declared.view.Work.TheVariants.{Nothing, Calls}
 use Rattle.papaya_views.proofs.Laws.{calls_begin, makings_begin}
 use Rattle.papaya_seats.specs.Calling.{IsUnderWay, MayDo, wanted_of}
-use Rattle.papaya_seats.specs.Kinds.{Kind, Stage}
+use Rattle.papaya_kinds.specs.Kinds.{Kind, Stage}
 use Rattle.papaya_seats.specs.Looking.{Begins, IsOn, LooksFor, MayLook, StaysThere}
 use Rattle.papaya_seats.specs.Making.{BeginsMaking, CameTo, MayBegin, PlansJust}
 
@@ -35,7 +34,7 @@ module _ {K V S : Type 0} (same : K → K → Bool) (hash : S → K → ℕ) (fi
   turns_to : (so other : View K V S → Type 0) → ((w : View K V S) → so w → other w) → Turns (Holds same hash fixed) KeepsFor id v so → Turns (Holds same hash fixed) KeepsFor id v other
   turns_to so other is may s h at = let g = may s h at in (g.0, g.1, g.2, g.3, is g.0 g.4)
 
-  pub may_begin : (t : ℕ) (map : Map S) (wanted : Wanted K V) → v.slot ≡ Inside t NoBlock → v.map ≡ Some map → is_incremental map.setting.mode ≡ true → v.work ≡ Nothing
+  pub may_begin : (t : ℕ) (map : Map S) (wanted : Wanted K V) → section_of v.under v.slot ≡ Some t → v.map ≡ Some map → is_incremental map.setting.mode ≡ true → v.work ≡ Nothing
       → Turns (Holds same hash fixed) KeepsFor id v (Begins same hash wanted v)
   may_begin t map wanted inside knows incremental free =
       turns_to _ (Begins same hash wanted v) (λ w e. (map, t, knows, inside, e)) (calls_begin V same hash fixed id t v map wanted inside knows free incremental)
@@ -60,7 +59,7 @@ module _ {K V S : Type 0} (plans : S → NewMap → Type 0) (hasher : S) (openin
   came_from answer came = record {
     made = came.made;
     refused = refused_there answer came.refused;
-    slot = came.slot ∙ ap (λ (x : View K V S). x.slot) begins.4;
+    slot = came.slot ∙ ap (λ (x : View K V S). stand_of x) begins.4;
     calls = came.calls ∙ ap (λ (x : View K V S). x.calls) begins.4;
   }
 
@@ -86,10 +85,10 @@ module _ {K V S : Type 0} (same : K → K → Bool) (hash : S → K → ℕ) (ke
   pub from_root : (lookup : Lookup) (v : View K V S) → MayLook hash key lookup v → MayLook hash key (looking lookup.root lookup.mode lookup.hash) v
   from_root lookup v may = subst (λ (l : Lookup). MayLook hash key l v) (subst (λ (l : Lookup). l ≡ looking l.root l.mode l.hash) (sym may.begins) refl) may
 
--- slot and map stay as a call begins
+-- where a seat stands, and its map, stay as a call begins
 pub stays_begun : {K V S : Type 0} (same : K → K → Bool) (hash : S → K → ℕ) (wanted : Wanted K V) (v w : View K V S) → Begins same hash wanted v w → StaysThere v w
 stays_begun {K} {V} {S} same hash wanted v w begins =
-    record { slot = ap (λ (u : View K V S). u.slot) begins.4; map = ap (λ (u : View K V S). u.map) begins.4 }
+    record { slot = ap (λ (u : View K V S). stand_of u) begins.4; map = ap (λ (u : View K V S). u.map) begins.4 }
 
 module _ {K V S : Type 0} (same : K → K → Bool) (hash : S → K → ℕ) where
   -- what has begun is this call
@@ -98,8 +97,7 @@ module _ {K V S : Type 0} (same : K → K → Bool) (hash : S → K → ℕ) whe
   is_begun k s hasher machine v w may begins =
       let map : Map S = begins.0 in
       let one : may.map ≡ map = same_some may.map map (sym may.knows ∙ begins.2) in
-      let inside = sym may.inside ∙ begins.3 in
-      let slot : may.slot ≡ begins.1 = cc inside in
+      let slot : may.slot ≡ begins.1 = same_some may.slot begins.1 (sym may.inside ∙ begins.3) in
       let its : machine ≡ machine_for same hash map begins.1 (wanted_of machine) =
       may.begins ∙ ap (λ (m : Map S). machine_for same hash m may.slot (wanted_of machine)) one ∙ ap (λ (t : ℕ). machine_for same hash map t (wanted_of machine)) slot in record {
         at =

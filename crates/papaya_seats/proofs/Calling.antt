@@ -19,7 +19,7 @@ use Rattle.papaya_views.specs.Given.RawDeclared.machines.progress.Progress.{Prog
 use Rattle.papaya_views.specs.Given.RawDeclared.machines.progress.Progress.TheVariants as progress
 use Rattle.papaya_views.proofs.Given.SeizeViewsLooks.{IsNow, ends_same, now_ends}
 use Rattle.papaya_views.specs.Looks.{shown_in, MayFollow, TurnsTo}
-use Rattle.papaya_views.specs.Rule.{Holds, KeepsFor}
+use Rattle.papaya_views.specs.Rule.{stand_of, Holds, KeepsFor}
 use Rattle.papaya_views.specs.Told.{HandsBack, MayCome, called, turned, turned_by}
 use Rattle.papaya_views.specs.declared.view.Map.{Map}
 use Rattle.papaya_views.specs.declared.view.View.{View}
@@ -29,14 +29,14 @@ use Rattle.papaya_views.proofs.Laws.{calls_turn}
 use Rattle.seize_callers.specs.Kept.{kept}
 use Rattle.papaya_seats.specs.Made.{CanMake, HasMade, IsSameSeat, shown_of}
 use Rattle.papaya_seats.specs.Calling.{AsksNothing, CalledSo, IsAsking, IsKnownMissing, IsKnownThere, IsUnderWay, MachineGoesOn, TellsSo, Works}
-use Rattle.papaya_seats.specs.Kinds.{Kind, Stage, SaysSo}
+use Rattle.papaya_kinds.specs.Kinds.{Kind, Stage, SaysSo}
 use Rattle.papaya_seats.specs.Looking.{HasTold, StaysThere}
 use Rattle.papaya_seats.specs.declared.within.Within.{Within}
-use Rattle.papaya_seats.proofs.Asking.{call_is, says}
+use Rattle.papaya_kinds.proofs.Asking.{call_is, says}
 use Rattle.papaya_seats.proofs.Calls.{can_make, told_shown}
-use Rattle.papaya_seats.proofs.Leads.{Leads, leads_as}
-use Rattle.papaya_seats.proofs.Plans.{IsAnsweredBy, LeavesValues, answered_by, follows_one}
-use Rattle.papaya_seats.proofs.Quiet.{IsQuiet, quiet_as}
+use Rattle.papaya_kinds.proofs.Leads.{Leads, leads_as}
+use Rattle.papaya_kinds.proofs.Plans.{IsAnsweredBy, LeavesValues, answered_by, follows_one}
+use Rattle.papaya_kinds.proofs.Quiet.{IsQuiet, quiet_as}
 
 module _ {T R : Type 0} where
   quiet_leaves : (plan : Plan T R) → IsQuiet plan → LeavesValues plan
@@ -88,7 +88,7 @@ module _ {K V S : Type 0} (same : K → K → Bool) (hash : S → K → ℕ) (k 
     so_far machine c (tells.Refused fault) view goes = ap (λ (u : View K V S). u.work) view
 
     stays_so : (machine : Machine K V K) (end : Machine K V K × Progress (Node K V)) → w ≡ called v map machine end looks → StaysThere v w
-    stays_so machine end view = record { slot = ap (λ (u : View K V S). u.slot) view; map = ap (λ (u : View K V S). u.map) view }
+    stays_so machine end view = record { slot = ap (λ (u : View K V S). stand_of u) view; map = ap (λ (u : View K V S). u.map) view }
 
   quiet_machine : (hashes : K → ℕ) (machine : Machine K V K) → MachineGoesOn k s machine → IsQuiet (machine_plan same same hashes machine)
   quiet_machine hashes (kinds.Key c) goes = quiet_as as_machine (call_plan same same hashes c) (call_is k s same same hashes c goes)

@@ -19,7 +19,7 @@ use Rattle.papaya_views.specs.declared.view.Work.TheVariants.{Calls}
 use Rattle.papaya_views.proofs.Laws.{calls_go_on}
 use Rattle.papaya_seats.specs.Made.{HasAlone, CanMake, HasMade, shown_of}
 use Rattle.papaya_seats.specs.declared.within.Within.{Within}
-use Rattle.papaya_seats.proofs.Plans.{LeavesValues, ReplacesNone, leaves_values}
+use Rattle.papaya_kinds.proofs.Plans.{LeavesValues, ReplacesNone, leaves_values}
 
 module _ {K V S : Type 0} (same : K → K → Bool) (hash : S → K → ℕ) (c : Within K V S) where
   -- an operation that replaces no value needs no block to itself

@@ -26,7 +26,7 @@ use Rattle.papaya_owned.specs.Owned.{PutsIt}
 use Rattle.papaya_owned.proofs.Owned.ComesBack.{TellsEnd, over_tells}
 use Rattle.papaya_owned.proofs.Owned.HandsBack.{HasPair, HasPairAt, IsOver, KeepsPair, pair_kept}
 use Rattle.papaya_seats.specs.Calling.{IsBack, IsGoing, IsToStore, MachineStores, handed_by, is_put, outcome_of}
-use Rattle.papaya_seats.proofs.Plans.{ends_as}
+use Rattle.papaya_kinds.proofs.Plans.{ends_as}
 
 -- a step whose outcome is turned into another one comes to what that is of
 steps_as : {T A B : Type 0} (f : A → B) (m n : Mem T) (plan : Plan T A) (end : B) → Steps Took value_at m (plan_as f plan) n end

@@ -1,12 +1,5 @@
-mod Plans
 mod Looking
 mod Making
-mod Quiet
-mod Leads
-mod Pairs
-mod Asked
-mod Filled
-mod Asking
 mod Calls
 mod Calling
 mod Handing

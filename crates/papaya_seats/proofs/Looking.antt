@@ -25,7 +25,7 @@ use Rattle.papaya_views.specs.Given.ResizeDeclared.lookup.Looking.{Looking}
 use Rattle.papaya_views.specs.Given.ResizeDeclared.lookup.Looking.TheVariants as at
 use Rattle.papaya_views.proofs.Given.SeizeViewsLooks.{rest_of}
 use Rattle.papaya_seats.specs.Looking.{IsOn}
-use Rattle.papaya_seats.proofs.Plans.{IsDo, IsPlain, LeavesValues, plain_either}
+use Rattle.papaya_kinds.proofs.Plans.{IsDo, IsPlain, LeavesValues, plain_either}
 
 -- the word names a pair of the key
 abbrev IsThere : Finding → Type 0

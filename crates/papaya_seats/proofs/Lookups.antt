@@ -20,13 +20,14 @@ use Rattle.papaya_views.specs.Given.RawDeclared.machines.progress.Progress.{Prog
 use Rattle.papaya_views.specs.Given.SeizeViewsPromises.{op_in}
 use Rattle.papaya_views.specs.Given.SeizeViewsTold.{FollowsBy}
 use Rattle.papaya_views.specs.Told.{called}
+use Rattle.papaya_views.specs.Rule.{stand_of}
 use Rattle.papaya_views.specs.declared.view.View.{View}
 use Rattle.papaya_seats.specs.Made.{CanMake, HasMade, IsSameSeat, shown_of}
 use Rattle.papaya_seats.specs.Looking.{HasTold, LooksFor, LookedSo, StaysThere, looking_told}
 use Rattle.papaya_seats.specs.declared.within.Within.{Within}
 use Rattle.papaya_seats.proofs.Calls.{can_make, told_shown}
 use Rattle.papaya_seats.proofs.Looking.{TellsSo, tells, is_do, only_reads, is_plain}
-use Rattle.papaya_seats.proofs.Plans.{may_by, was_made, op_as, follows_as, follows_one, follows_rest, leaves_as}
+use Rattle.papaya_kinds.proofs.Plans.{may_by, was_made, op_as, follows_as, follows_one, follows_rest, leaves_as}
 
 module _ {K V S : Type 0} (same : K → K → Bool) (hash : S → K → ℕ) (c : Within K V S) (key : K) (lookup : Lookup) (is : LooksFor key lookup c.seat.now.view) where
   abbrev standing_here : KeyCall K V K
@@ -111,7 +112,7 @@ module _ {K V S : Type 0} (same : K → K → Bool) (hash : S → K → ℕ) (c 
       let one : t.end ≡ end = follows_one (shown_of n) own k.1 t.end end t.follows k.4 in
       let view = t.view ∙ ap (λ (e : Lookup × Progress (Option ℕ)). called c.seat.now.view is.map machine (as_machine (looked standing_here e)) n.seat.now.view.looks) one in (
         so_far n end view (tells (same key) (shown_of n) lookup k.1 end is.on (follows_rest (shown_of n) own k.1 end k.4)),
-        record { slot = ap (λ (v : View K V S). v.slot) view; map = ap (λ (v : View K V S). v.map) view },
+        record { slot = ap (λ (v : View K V S). stand_of v) view; map = ap (λ (v : View K V S). v.map) view },
         k.3.seat,
         told_so n end view,
       )

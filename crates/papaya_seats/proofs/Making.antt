@@ -16,9 +16,9 @@ use Rattle.papaya_views.specs.Given.ResizeDeclared.new_map.Opening.TheVariants a
 use Rattle.papaya_views.specs.Given.SeizeViewsTold.{FollowsBy}
 use Rattle.papaya_views.proofs.Given.SeizeViewsLooks.{rest_of, IsNow}
 use Rattle.papaya_views.specs.Given.SeizeViewsPromises.{op_in}
-use Rattle.papaya_seats.specs.Answers.{IsAnswer}
+use Rattle.papaya_kinds.specs.Answers.{IsAnswer}
 use Rattle.papaya_seats.specs.Making.{IsEarly, left_at, StaysChosen, GetsOn}
-use Rattle.papaya_seats.proofs.Plans.{IsDo, LeavesValues, IsAnsweredBy, answered_by}
+use Rattle.papaya_kinds.proofs.Plans.{IsDo, LeavesValues, IsAnsweredBy, answered_by}
 
 -- what a step tells: it goes on early, with no table to make
 abbrev pub GoesEarly : NewMap × Progress Setting → Type 0

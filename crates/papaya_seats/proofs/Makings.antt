@@ -14,6 +14,7 @@ use Rattle.papaya_views.specs.Given.SeizeViewsTold.{FollowsBy}
 use Rattle.papaya_views.proofs.Given.SeizeViewsLooks.{rest_of}
 use Rattle.papaya_views.specs.Looks.{shown_in}
 use Rattle.papaya_views.specs.Told.{told_by, made_after}
+use Rattle.papaya_views.specs.Rule.{stand_of}
 use Rattle.papaya_views.specs.declared.view.View.{View}
 use Rattle.papaya_views.specs.declared.view.Work.{Work}
 use Rattle.papaya_views.proofs.Laws.{makings_go_on}
@@ -22,7 +23,7 @@ use Rattle.papaya_seats.specs.Making.{MakesMap, MadeSo, KnowsStill, StaysChosen,
 use Rattle.papaya_seats.specs.declared.within.Within.{Within}
 use Rattle.papaya_seats.proofs.Calls.{has_alone}
 use Rattle.papaya_seats.proofs.Making.{GoesEarly, tells, is_do, leaves, is_now}
-use Rattle.papaya_seats.proofs.Plans.{may_by, was_made, follows_one, now_plain, now_follows, leaves_values}
+use Rattle.papaya_kinds.proofs.Plans.{may_by, was_made, follows_one, now_plain, now_follows, leaves_values}
 
 module _ {K V S : Type 0} (same : K → K → Bool) (hash : S → K → ℕ) (c : Within K V S) (hasher : S) (opening : NewMap) (is : MakesMap hasher opening c.seat.now.view) where
   abbrev plan : Plan (Node K V) (NewMap × Progress Setting)
@@ -54,28 +55,28 @@ module _ {K V S : Type 0} (same : K → K → Bool) (hash : S → K → ℕ) (c 
       (λ op out n e made. let k = came op out n made in (k.end, k.follows)) (λ out. now_plain (rest_of plan out) (is_now K V opening opening.stands is.early out))
 
   so_far : (n : Within K V S) (end : NewMap × Progress Setting) → n.seat.now.view ≡ made_after c.seat.now.view is.number hasher n.seat.now.view.looks end.0 end.1 → GoesEarly end
-      → MadeSo hasher end.0 end.1 n.seat.now.view × KnowsStill end.1 c.seat.now.view n.seat.now.view × (n.seat.now.view.slot ≡ c.seat.now.view.slot) × (n.seat.now.view.calls ≡ c.seat.now.view.calls)
+      → MadeSo hasher end.0 end.1 n.seat.now.view × KnowsStill end.1 c.seat.now.view n.seat.now.view × (stand_of n.seat.now.view ≡ stand_of c.seat.now.view) × (n.seat.now.view.calls ≡ c.seat.now.view.calls)
   so_far n (d, progress.Goes) view early = (
     record { number = is.number; works = ap (λ (v : View K V S). v.work) view; early = early.0; none = early.1 },
     ap (λ (v : View K V S). v.map) view,
-    ap (λ (v : View K V S). v.slot) view,
+    ap (λ (v : View K V S). stand_of v) view,
     ap (λ (v : View K V S). v.calls) view,
   )
   so_far n (d, progress.Waits) view none = absurd none
   so_far n (d, progress.Done setting) view early = (
     record { number = is.number; free = ap (λ (v : View K V S). v.work) view; knows = ap (λ (v : View K V S). v.map) view },
     tt,
-    ap (λ (v : View K V S). v.slot) view,
+    ap (λ (v : View K V S). stand_of v) view,
     ap (λ (v : View K V S). v.calls) view,
   )
   so_far n (d, progress.Refused fault) view early =
-      (ap (λ (v : View K V S). v.work) view, ap (λ (v : View K V S). v.map) view, ap (λ (v : View K V S). v.slot) view, ap (λ (v : View K V S). v.calls) view)
+      (ap (λ (v : View K V S). v.work) view, ap (λ (v : View K V S). v.map) view, ap (λ (v : View K V S). stand_of v) view, ap (λ (v : View K V S). v.calls) view)
 
   -- what a step has come to
   pub record Got (n : Within K V S) (end : NewMap × Progress Setting) : Type 0 where
     pub made : MadeSo hasher end.0 end.1 n.seat.now.view
     pub map : KnowsStill end.1 c.seat.now.view n.seat.now.view
-    pub slot : n.seat.now.view.slot ≡ c.seat.now.view.slot
+    pub slot : stand_of n.seat.now.view ≡ stand_of c.seat.now.view
     pub calls : n.seat.now.view.calls ≡ c.seat.now.view.calls
     pub chosen : StaysChosen opening end.0 end.1
     pub left : GetsOn opening end.0 end.1

@@ -20,14 +20,13 @@ use Rattle.papaya_views.specs.Given.RawDeclared.machines.progress.Answer.TheVari
 use Rattle.papaya_views.specs.Given.RawDeclared.machines.progress.Progress.{Progress}
 use Rattle.papaya_views.specs.Given.RawDeclared.machines.progress.Progress.TheVariants as progress
 use Rattle.papaya_views.specs.Given.ActsActs.{Wanted, Get, Remove, Insert, TryToInsert, Compute, Update, TryToInsertWith, RemoveIf, Count}
-use Rattle.papaya_views.specs.Given.SeizeViewsDeclared.view.Has.TheVariants.{Nothing as NoBlock}
-use Rattle.papaya_views.specs.Given.SeizeViewsDeclared.view.View.TheVariants.{Inside}
 use Rattle.papaya_views.specs.Begun.{machine_for}
 use Rattle.papaya_views.specs.Looks.{shown_in}
+use Rattle.papaya_views.specs.Rule.{section_of}
 use Rattle.papaya_views.specs.declared.view.Map.{Map}
 use Rattle.papaya_views.specs.declared.view.View.{View}
 use Rattle.papaya_views.specs.declared.view.Work.TheVariants.{Nothing, Calls}
-use Rattle.papaya_seats.specs.Kinds.{Kind, Stage, AsksSo, GoesOn}
+use Rattle.papaya_kinds.specs.Kinds.{Kind, Stage, AsksSo, GoesOn}
 use Rattle.papaya_seats.specs.Looking.{HasRun, HasTold, StaysThere}
 
 -- a call of this kind asks nothing where the key is there,
@@ -183,11 +182,11 @@ module _ {K V S : Type 0} where
   CalledSo hasher machine (progress.Refused fault) v = v.work ≡ Nothing
   CalledSo hasher machine _ v = IsCalling hasher machine v
 
-  -- Within the section of its slot, with nothing else under way, it may begin this call, which is of this kind, in the map that it knows, which is in incremental mode.
+  -- Within a section, its own or that of the seat that it leans on, with nothing else under way, it may begin this call, which is of this kind, in the map that it knows, which is in incremental mode.
   pub record MayDo (same : K → K → Bool) (hash : S → K → ℕ) (k : Kind) (s : Stage) (hasher : S) (machine : Machine K V K) (v : View K V S) : Type 0 where
     pub slot : ℕ
     pub map : Map S
-    pub inside : v.slot ≡ Inside slot NoBlock
+    pub inside : section_of v.under v.slot ≡ Some slot
     pub knows : v.map ≡ Some map
     pub hashes : map.hasher ≡ hasher
     pub incremental : is_incremental map.setting.mode ≡ true

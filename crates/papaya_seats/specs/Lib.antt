@@ -1,6 +1,5 @@
-pub mod Answers
 pub mod Made
 pub mod Looking
 pub mod Making
-pub mod Kinds
+pub mod Given
 pub mod Calling

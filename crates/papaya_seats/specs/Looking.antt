@@ -20,11 +20,10 @@ use Rattle.papaya_views.specs.Given.RawDeclared.machines.progress.Answer.TheVari
 use Rattle.papaya_views.specs.Given.RawDeclared.machines.progress.Progress.{Progress}
 use Rattle.papaya_views.specs.Given.RawDeclared.machines.progress.Progress.TheVariants as progress
 use Rattle.papaya_views.specs.Given.ActsActs.{Wanted, Get}
-use Rattle.papaya_views.specs.Given.SeizeViewsDeclared.view.Has.TheVariants.{Nothing as NoBlock}
-use Rattle.papaya_views.specs.Given.SeizeViewsDeclared.view.View.TheVariants.{Inside}
 use Rattle.papaya_views.specs.Begun.{machine_for, calling}
 use Rattle.papaya_views.specs.Told.{newest_told}
 use Rattle.papaya_views.specs.Looks.{shown_in}
+use Rattle.papaya_views.specs.Rule.{section_of, stand_of}
 use Rattle.papaya_views.specs.declared.view.Map.{Map}
 use Rattle.papaya_views.specs.declared.view.View.{View}
 use Rattle.papaya_views.specs.declared.view.Work.TheVariants.{Nothing, Calls}
@@ -55,9 +54,9 @@ looking_told (told_as.Done found) = found_of found
 looking_told (told_as.Refused fault) = progress.Refused fault
 
 module _ {K V S : Type 0} where
-  -- within its section it begins to do this with the map that it knows
+  -- within its section, or that of the seat that it leans on, it begins to do this with the map that it knows
   abbrev pub Begins : (K → K → Bool) → (S → K → ℕ) → Wanted K V → View K V S → View K V S → Type 0
-  Begins same hash wanted v w = (map : Map S) × (t : ℕ) × (v.map ≡ Some map) × (v.slot ≡ Inside t NoBlock) × (w ≡ calling v (machine_for same hash map t wanted))
+  Begins same hash wanted v w = (map : Map S) × (t : ℕ) × (v.map ≡ Some map) × (section_of v.under v.slot ≡ Some t) × (w ≡ calling v (machine_for same hash map t wanted))
 
   -- its call looks for this key in the map that it knows, which is in incremental mode, and stands at this lookup, which has not ended
   pub record LooksFor (key : K) (lookup : Lookup) (v : View K V S) : Type 0 where
@@ -93,13 +92,13 @@ module _ {K V S : Type 0} where
   -- It has begun one call more, within its section: to do this with the map that it knows. That has told this last.
   abbrev pub HasRun : (K → K → Bool) → (S → K → ℕ) → Wanted K V → Progress (Node K V) → View K V S → View K V S → Type 0
   HasRun same hash wanted told v w =
-      (map : Map S) × (t : ℕ) × (v.map ≡ Some map) × (v.slot ≡ Inside t NoBlock) × (w.calls ≡ record { began = machine_for same hash map t wanted; told = told } ∷ v.calls)
+      (map : Map S) × (t : ℕ) × (v.map ≡ Some map) × (section_of v.under v.slot ≡ Some t) × (w.calls ≡ record { began = machine_for same hash map t wanted; told = told } ∷ v.calls)
 
   -- within its section, with nothing else under way, it may look for the key by this lookup, in the map that it knows, which is in incremental mode
   pub record MayLook (hash : S → K → ℕ) (key : K) (lookup : Lookup) (v : View K V S) : Type 0 where
     pub slot : ℕ
     pub map : Map S
-    pub inside : v.slot ≡ Inside slot NoBlock
+    pub inside : section_of v.under v.slot ≡ Some slot
     pub knows : v.map ≡ Some map
     pub incremental : is_incremental map.setting.mode ≡ true
     pub free : v.work ≡ Nothing
@@ -112,9 +111,9 @@ module _ {K V S : Type 0} where
   LookedSo same key lookup (told_as.Done found) v = HasLooked same key found v
   LookedSo same key lookup (told_as.Refused fault) v = ⊥
 
-  -- slot and map are as they were
+  -- it stands where it stood, and its map is as it was
   pub record StaysThere (v w : View K V S) : Type 0 where
-    pub slot : w.slot ≡ v.slot
+    pub slot : stand_of w ≡ stand_of v
     pub map : w.map ≡ v.map
 
   -- what a call has come to that has looked this key up

@@ -7,7 +7,7 @@ use Rattle.papaya_views.specs.Looks.{shown_in}
 use Rattle.papaya_views.specs.Rule.{Holds, KeepsFor}
 use Rattle.papaya_views.specs.Told.{told}
 use Rattle.seize_callers.specs.Kept.{kept}
-use Rattle.papaya_seats.specs.Answers.{IsAnswer}
+use Rattle.papaya_kinds.specs.Answers.{IsAnswer}
 use Rattle.papaya_seats.specs.declared.within.Within.{Within}
 
 module _ {K V S : Type 0} where

@@ -11,6 +11,7 @@ use Rattle.papaya_views.specs.Given.ResizeDeclared.new_map.Opening.{Opening}
 use Rattle.papaya_views.specs.Given.ResizeDeclared.new_map.Opening.TheVariants.{Takes, Shards, Frees}
 use Rattle.papaya_views.specs.Given.SeizeViewsDeclared.view.Fixed.{Fixed}
 use Rattle.papaya_views.specs.Begun.{making}
+use Rattle.papaya_views.specs.Rule.{stand_of}
 use Rattle.papaya_views.specs.declared.view.View.{View}
 use Rattle.papaya_views.specs.declared.view.Work.TheVariants.{Nothing, Makes}
 
@@ -80,7 +81,7 @@ module _ {K V S : Type 0} where
   pub record CameTo (hasher : S) (opening : NewMap) (answer : Result Setting Fault) (v w : View K V S) : Type 0 where
     pub made : IfOk answer (λ setting. HasMap hasher setting w × (chosen_of setting ≡ chosen_of opening.setting))
     pub refused : IfErr answer (λ fault. (w.work ≡ Nothing) × (w.map ≡ v.map))
-    pub slot : w.slot ≡ v.slot
+    pub slot : stand_of w ≡ stand_of v
     pub calls : w.calls ≡ v.calls
 
   -- the map that it knows is the same, but where it has made one

@@ -1,5 +1,5 @@
 -- A session may store a pair, store one where its key is missing, and remove one: calls on one key that ask nothing.
-use Rattle.std.specs.Prelude.{◌<◌, ◌^◌, Option, Result, Ok, Some}
+use Rattle.std.specs.Prelude.{◌<◌, ◌^◌, Option, Result, Ok, Some, None}
 use Rattle.std.proofs.Common.{◌≡◌, ℕ, Bool, true, false, inr, refl, sym, subst, ◌∙◌}
 use Rattle.papaya_views.proofs.Given.SeizeActsAnswers.{same_some}
 use Rattle.papaya_views.specs.Given.SeizeWordsDeclared.fault.Fault.{Fault}
@@ -21,7 +21,7 @@ use Rattle.papaya_views.specs.declared.view.View.{View}
 use Rattle.papaya_views.specs.declared.view.Work.TheVariants.{Nothing}
 use Rattle.papaya_seats.specs.Calling.{HasCalled, IsBack, IsToStore, MachineStores, MayCall, is_put, outcome_of, pair_wanted, wanted_of}
 use Rattle.papaya_seats.specs.Looking.{HasRun}
-use Rattle.papaya_seats.specs.Kinds.{Kind, Stage}
+use Rattle.papaya_seats.specs.Given.KindsKinds.{Kind, Stage}
 use Rattle.papaya_shared.specs.Answers.{CameBack, IsOutOf, has_stored}
 use Rattle.papaya_shared.specs.declared.session.keys.Attempt.{Attempt}
 use Rattle.papaya_shared.specs.declared.session.keys.Attempt.TheVariants.{Stored, Present}
@@ -41,7 +41,7 @@ tries = record { present = there.Answers; absent = missing.Puts; takes = takes.N
 abbrev removes : Kind
 removes = record { present = there.Removes; absent = missing.Answers; takes = takes.Nothing }
 
-module _ {K V S : Type 0} (same : K → K → Bool) (hash : S → K → ℕ) (v : View K V S) (setting its : Setting) (hasher : S) (key : K) (hashed t : ℕ) (call : KeyCall K V K) (inside : v.slot ≡ Inside t NoBlock) (free : v.work ≡ Nothing) (knows : known_by v ≡ Some (setting, hasher)) (incremental : is_incremental setting.mode ≡ true) (is : its ≡ record setting { slot = t }) (word : hashed ≡ hash hasher key) (fits : hashed < 2 ^ 64) where
+module _ {K V S : Type 0} (same : K → K → Bool) (hash : S → K → ℕ) (v : View K V S) (setting its : Setting) (hasher : S) (key : K) (hashed t : ℕ) (call : KeyCall K V K) (lone : v.under ≡ None) (inside : v.slot ≡ Inside t NoBlock) (free : v.work ≡ Nothing) (knows : known_by v ≡ Some (setting, hasher)) (incremental : is_incremental setting.mode ≡ true) (is : its ≡ record setting { slot = t }) (word : hashed ≡ hash hasher key) (fits : hashed < 2 ^ 64) where
   -- it is to store a pair where that is wanted
   stores_so : (made : KeyCall K V K) → call ≡ made → ((other : Node K V) → pair_wanted (wanted_of (Key made)) ≡ Some other → IsToStore other made)
       → (other : Node K V) → pair_wanted (wanted_of (Key call)) ≡ Some other → MachineStores other (Key call)
@@ -55,7 +55,7 @@ module _ {K V S : Type 0} (same : K → K → Bool) (hash : S → K → ℕ) (v 
     none = record { present = tt; absent = tt };
     may =
         may_do same hash stores quiet (Insert key value) key (λ x h. inserting x h key value) (λ map s. refl) (λ x h. refl)
-        (λ x h. record { so = record { kind = refl; holds = (tt, inr (tt, tt)); gap = tt }; here = (refl, tt, tt) }) v setting its hasher hashed t call inside free knows
+        (λ x h. record { so = record { kind = refl; holds = (tt, inr (tt, tt)); gap = tt }; here = (refl, tt, tt) }) v setting its hasher hashed t call lone inside free knows
         incremental is word made;
     stores =
         stores_so (inserting its hashed key value) made
@@ -69,7 +69,7 @@ module _ {K V S : Type 0} (same : K → K → Bool) (hash : S → K → ℕ) (v 
     none = record { present = tt; absent = tt };
     may =
         may_do same hash tries quiet (TryToInsert key value) key (λ x h. trying_to_insert x h key value) (λ map s. refl) (λ x h. refl)
-        (λ x h. record { so = record { kind = refl; holds = (tt, inr (tt, tt)); gap = tt }; here = (refl, tt, tt) }) v setting its hasher hashed t call inside free knows
+        (λ x h. record { so = record { kind = refl; holds = (tt, inr (tt, tt)); gap = tt }; here = (refl, tt, tt) }) v setting its hasher hashed t call lone inside free knows
         incremental is word made;
     stores =
         stores_so (trying_to_insert its hashed key value) made
@@ -83,7 +83,7 @@ module _ {K V S : Type 0} (same : K → K → Bool) (hash : S → K → ℕ) (v 
     none = record { present = tt; absent = tt };
     may =
         may_do same hash removes quiet (Remove key) key (λ x h. removing x h key) (λ map s. refl) (λ x h. refl)
-        (λ x h. record { so = record { kind = refl; holds = (tt, inr (tt, tt)); gap = tt }; here = tt }) v setting its hasher hashed t call inside free knows incremental is
+        (λ x h. record { so = record { kind = refl; holds = (tt, inr (tt, tt)); gap = tt }; here = tt }) v setting its hasher hashed t call lone inside free knows incremental is
         word made;
     stores = stores_so (removing its hashed key) made (λ pair e. absurd (cc e));
   }

@@ -1,5 +1,5 @@
 -- A seat of maps that has nothing but a row under way, as its notes have it, and who has come to rest.
-use Rattle.std.specs.Prelude.{List, Option, Result, Ok, Err, IfOk, IfErr}
+use Rattle.std.specs.Prelude.{List, Option, Some, None, Result, Ok, Err, IfOk, IfErr}
 use Rattle.std.proofs.Common.{◌≡◌, ℕ, Bool, sym, subst, ap, ◌∙◌}
 use Rattle.papaya_views.specs.Given.SeizeWordsDeclared.fault.Fault.{Fault}
 use Rattle.papaya_views.specs.Given.SeizeViewsRows.{IsAtRest}
@@ -17,34 +17,49 @@ use Rattle.papaya_views.specs.declared.view.Run.{Run}
 use Rattle.papaya_views.specs.declared.view.View.{View}
 use Rattle.papaya_views.specs.declared.view.Work.{Work}
 use Rattle.papaya_views.specs.declared.view.Work.TheVariants.{Nothing}
+use Rattle.papaya_views.specs.Rule.{section_of, stand_of}
 use Rattle.papaya_views.proofs.Contents.{knows_free}
+use Rattle.papaya_views.proofs.Leaves.{own_section}
 use Rattle.papaya_seats.specs.Calling.{HasCalled}
 use Rattle.papaya_seats.specs.Looking.{HasFound}
 use Rattle.papaya_seats.specs.Making.{CameTo}
 
 module _ {K V S : Type 0} where
   -- who has nothing else under way knows its row
-  pub known_free : (v : View K V S) (x : SlotView (Node K V)) → v.slot ≡ x → v.work ≡ Nothing → (notes_of v).knows ≡ x
-  known_free v x slot free = ap (λ (k : Work K V S). row_known v.slot k) free ∙ slot
+  pub known_free : (v : View K V S) (x : SlotView (Node K V)) → v.under ≡ None → v.slot ≡ x → v.work ≡ Nothing → (notes_of v).knows ≡ x
+  known_free v x lone slot free = ap (λ (o : Option (ℕ × ℕ)). row_known o v.slot v.work) lone ∙ ap (λ (k : Work K V S). row_known None v.slot k) free ∙ slot
 
-  rests_so : (v : View K V S) (x : SlotView (Node K V)) → v.slot ≡ x → v.work ≡ Nothing → IsAtRest x → IsResting v
-  rests_so v x slot free rests = subst (λ (y : SlotView (Node K V)). IsAtRest y) (sym (known_free v x slot free)) rests
+  rests_so : (v : View K V S) (x : SlotView (Node K V)) → v.under ≡ None → v.slot ≡ x → v.work ≡ Nothing → IsAtRest x → IsResting v
+  rests_so v x lone slot free rests = subst (λ (y : SlotView (Node K V)). IsAtRest y) (sym (known_free v x lone slot free)) rests
+
+  -- who stands where one stood that held this slot, and leant on nobody, does so, too
+  stood : (v w : View K V S) (x : SlotView (Node K V)) → v.under ≡ None → v.slot ≡ x → stand_of w ≡ stand_of v → (w.under ≡ None) × (w.slot ≡ x)
+  stood v w x lone slot same_stand =
+      (ap (λ (p : SlotView (Node K V) × Option (ℕ × ℕ)). p.1) same_stand ∙ lone, ap (λ (p : SlotView (Node K V) × Option (ℕ × ℕ)). p.0) same_stand ∙ slot)
+
+  -- whoever leans on nobody is within the section of its own slot
+  own_inside : (v : View K V S) (t : ℕ) → v.under ≡ None → section_of v.under v.slot ≡ Some t → v.slot ≡ Inside t NoBlock
+  own_inside v t lone section = own_section v.slot t (ap (λ (o : Option (ℕ × ℕ)). section_of o v.slot) (sym lone) ∙ section)
+
+  -- and the other way round
+  pub section_own : (v : View K V S) (t : ℕ) → v.under ≡ None → v.slot ≡ Inside t NoBlock → section_of v.under v.slot ≡ Some t
+  section_own v t lone inside = ap (λ (o : Option (ℕ × ℕ)). section_of o v.slot) lone ∙ ap (λ (x : SlotView (Node K V)). section_of None x) inside
 
   -- what the notes say of who has looked for a slot
   abbrev pub Noted : View K V S → Result ℕ Fault → Type 0
   Noted w answer = IfOk answer (λ slot. (notes_of w).knows ≡ Outside slot) × IfErr answer (λ fault. (notes_of w).knows ≡ Rests)
 
   -- who has found a slot has it, and who has found none has none
-  pub took : (w : View K V S) (answer : Result ℕ Fault) (slot : ℕ) → answer ≡ Ok slot → Noted w answer → (w.work ≡ Nothing) × (w.slot ≡ Outside slot)
+  pub took : (w : View K V S) (answer : Result ℕ Fault) (slot : ℕ) → answer ≡ Ok slot → Noted w answer → (w.under ≡ None) × (w.work ≡ Nothing) × (w.slot ≡ Outside slot)
   took w answer slot e is = knows_free w (Outside slot) tt (subst (λ (r : Result ℕ Fault). Noted w r) e is).0
 
-  pub took_none : (w : View K V S) (answer : Result ℕ Fault) (fault : Fault) → answer ≡ Err fault → Noted w answer → (w.work ≡ Nothing) × (w.slot ≡ Rests)
+  pub took_none : (w : View K V S) (answer : Result ℕ Fault) (fault : Fault) → answer ≡ Err fault → Noted w answer → (w.under ≡ None) × (w.work ≡ Nothing) × (w.slot ≡ Rests)
   took_none w answer fault e is = knows_free w Rests tt (subst (λ (r : Result ℕ Fault). Noted w r) e is).1
 
   -- who has made a map, or was refused, rests
-  pub rests_after : (hasher : S) (opening : NewMap) (answer : Result Setting Fault) (v w : View K V S) → v.slot ≡ Rests → CameTo hasher opening answer v w → IsResting w
-  rests_after hasher opening (Ok setting) v w rests came = rests_so w Rests (came.slot ∙ rests) came.made.0.free tt
-  rests_after hasher opening (Err fault) v w rests came = rests_so w Rests (came.slot ∙ rests) came.refused.0 tt
+  pub rests_after : (hasher : S) (opening : NewMap) (answer : Result Setting Fault) (v w : View K V S) → v.under ≡ None → v.slot ≡ Rests → CameTo hasher opening answer v w → IsResting w
+  rests_after hasher opening (Ok setting) v w lone rests came = let s = stood v w Rests lone rests came.slot in rests_so w Rests s.0 s.1 came.made.0.free tt
+  rests_after hasher opening (Err fault) v w lone rests came = let s = stood v w Rests lone rests came.slot in rests_so w Rests s.0 s.1 came.refused.0 tt
 
   -- what is beside a row stays: the map, and the calls
   pub map_stays : (v w : View K V S) → beside_of w ≡ beside_of v → w.map ≡ v.map
@@ -54,10 +69,12 @@ module _ {K V S : Type 0} where
   calls_stay v w e = ap (λ (b : Option (Map S) × List (Run K V)). b.1) e
 
   -- and so does who has looked a key up
-  pub rests_inside : (same : K → K → Bool) (hash : S → K → ℕ) (key : K) (answer : Option ℕ) (v w : View K V S) (t : ℕ) → v.slot ≡ Inside t NoBlock → HasFound same hash key answer v w → IsResting w
-  rests_inside same hash key answer v w t inside found = rests_so w (Inside t NoBlock) (found.stays.slot ∙ inside) found.looked.free tt
+  pub rests_inside : (same : K → K → Bool) (hash : S → K → ℕ) (key : K) (answer : Option ℕ) (v w : View K V S) (t : ℕ) → v.under ≡ None → section_of v.under v.slot ≡ Some t → HasFound same hash key answer v w → IsResting w
+  rests_inside same hash key answer v w t lone section found =
+      let s = stood v w (Inside t NoBlock) lone (own_inside v t lone section) found.stays.slot in rests_so w (Inside t NoBlock) s.0 s.1 found.looked.free tt
 
   -- and so does who has run a call
   pub rests_called : (same : K → K → Bool) (hash : S → K → ℕ) (wanted : Wanted K V) (answer : Result Answer Fault) (unstored : Option (Node K V)) (v w : View K V S) (t : ℕ)
-      → v.slot ≡ Inside t NoBlock → HasCalled same hash wanted answer unstored v w → IsResting w
-  rests_called same hash wanted answer unstored v w t inside called = rests_so w (Inside t NoBlock) (called.stays.slot ∙ inside) called.free tt
+      → v.under ≡ None → section_of v.under v.slot ≡ Some t → HasCalled same hash wanted answer unstored v w → IsResting w
+  rests_called same hash wanted answer unstored v w t lone section called =
+      let s = stood v w (Inside t NoBlock) lone (own_inside v t lone section) called.stays.slot in rests_so w (Inside t NoBlock) s.0 s.1 called.free tt

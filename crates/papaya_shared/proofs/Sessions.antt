@@ -16,9 +16,10 @@ use Rattle.papaya_views.specs.Given.RawDeclared.machines.call.KeyCall.{KeyCall}
 use Rattle.papaya_views.specs.Given.RawDeclared.machines.machine.Machine.TheVariants.{Key}
 use Rattle.papaya_views.specs.Begun.{machine_for}
 use Rattle.papaya_seats.specs.Calling.{MayDo, wanted_of}
-use Rattle.papaya_seats.specs.Kinds.{Kind, Stage, GoesOn}
+use Rattle.papaya_seats.specs.Given.KindsKinds.{Kind, Stage, GoesOn}
 use Rattle.papaya_seats.specs.Looking.{MayLook}
 use Rattle.papaya_shared.specs.Standing.{known_as, known_by}
+use Rattle.papaya_shared.proofs.Rows.{section_own}
 
 -- the map that it knows, with its setting and its hasher
 pub known : {S : Type 0} (o : Option (Map S)) (x : Setting × S) → known_as o ≡ Some x → (map : Map S) × (o ≡ Some map) × ((map.setting, map.hasher) ≡ x)
@@ -31,12 +32,12 @@ known_some (Some map) e = (map, refl)
 
 module _ {K V S : Type 0} (hash : S → K → ℕ) where
   -- it may look a key up, within its section
-  pub may_look : (v : View K V S) (setting : Setting) (hasher : S) (key : K) (lookup : Lookup) (t : ℕ) → v.slot ≡ Inside t NoBlock → v.work ≡ Nothing
+  pub may_look : (v : View K V S) (setting : Setting) (hasher : S) (key : K) (lookup : Lookup) (t : ℕ) → v.under ≡ None → v.slot ≡ Inside t NoBlock → v.work ≡ Nothing
       → known_by v ≡ Some (setting, hasher) → is_incremental setting.mode ≡ true → lookup ≡ looking setting.root setting.mode (hash hasher key) → MayLook hash key lookup v
-  may_look v setting hasher key lookup t inside free knows incremental is = let k = known v.map (setting, hasher) knows in record {
+  may_look v setting hasher key lookup t lone inside free knows incremental is = let k = known v.map (setting, hasher) knows in record {
     slot = t;
     map = k.0;
-    inside = inside;
+    inside = section_own v t lone inside;
     knows = k.1;
     incremental = ap (λ (p : Setting × S). is_incremental p.0.mode) k.2 ∙ incremental;
     free = free;
@@ -47,10 +48,10 @@ module _ {K V S : Type 0} (same : K → K → Bool) (hash : S → K → ℕ) (k 
   -- it may begin a call on this key, by what it works with in this slot
   pub may_do : ((map : Map S) (t : ℕ) → machine_for same hash map t wanted ≡ Key (made (record map.setting { slot = t }) (hash map.hasher key)))
       → ((x : Setting) (h : ℕ) → wanted_of (Key (made x h)) ≡ wanted) → ((x : Setting) (h : ℕ) → GoesOn k s (made x h))
-      → (v : View K V S) (setting its : Setting) (hasher : S) (hashed t : ℕ) (call : KeyCall K V K) → v.slot ≡ Inside t NoBlock → v.work ≡ Nothing
+      → (v : View K V S) (setting its : Setting) (hasher : S) (hashed t : ℕ) (call : KeyCall K V K) → v.under ≡ None → v.slot ≡ Inside t NoBlock → v.work ≡ Nothing
       → known_by v ≡ Some (setting, hasher) → is_incremental setting.mode ≡ true → its ≡ record setting { slot = t } → hashed ≡ hash hasher key → call ≡ made its hashed
       → MayDo same hash k s hasher (Key call) v
-  may_do machine wants goes v setting its hasher hashed t call inside free knows incremental is word made_so =
+  may_do machine wants goes v setting its hasher hashed t call lone inside free knows incremental is word made_so =
       let m = known v.map (setting, hasher) knows in
       let setting_is : its ≡ record m.0.setting { slot = t } = is ∙ ap (λ (p : Setting × S). record p.0 { slot = t }) (sym m.2) in
       let word_is : hashed ≡ hash m.0.hasher key = word ∙ ap (λ (p : Setting × S). hash p.1 key) (sym m.2) in
@@ -59,7 +60,7 @@ module _ {K V S : Type 0} (same : K → K → Bool) (hash : S → K → ℕ) (k 
       let wanted_is : wanted_of (Key call) ≡ wanted = ap (λ (c : KeyCall K V K). wanted_of (Key c)) made_so ∙ wants its hashed in record {
         slot = t;
         map = m.0;
-        inside = inside;
+        inside = section_own v t lone inside;
         knows = m.1;
         hashes = ap (λ (p : Setting × S). p.1) m.2;
         incremental = ap (λ (p : Setting × S). is_incremental p.0.mode) m.2 ∙ incremental;

@@ -1,5 +1,5 @@
 //! One of those who share the memory of maps.
-ghost use Rattle.std.specs.Prelude.{◌≡◌, IsSome, true};
+ghost use Rattle.std.specs.Prelude.{◌≡◌, IsSome, None, true};
 ghost use Rattle.papaya_shared.specs.Standing.{come_to, known_by};
 ghost use Rattle.papaya_views.specs.Rule.{at_rest};
 ghost use Rattle.papaya_views.specs.declared.view.Work.TheVariants.{Nothing};
@@ -22,6 +22,7 @@ pub struct Caller<'a, K: Eq, V, S: Hashes<K>> {
     near: u64,
     ghost own: { seat.base ≡ blocks.now.words.id.views_name },
     ghost home: { is_home seat.away ≡ true },
+    ghost lone: { seat.view.under ≡ None },
 }
 
 impl<'a, K: Eq, V, S: Hashes<K>> Caller<'a, K, V, S> {

@@ -1,7 +1,7 @@
 -- A call begins, or is told something; and a map is handed on.
 use Rattle.std.specs.Prelude.{◌++◌, List, [], ◌∷◌, Option, Some, None, if◌then◌else◌}
 use Rattle.std.specs.Option.{is_none}
-use Rattle.std.proofs.Common.{◌≡◌, ℕ, Bool, true, refl, sym, subst, ap, ◌∙◌}
+use Rattle.std.proofs.Common.{◌≡◌, ℕ, Bool, true, inl, refl, sym, subst, ap, ◌∙◌}
 use Rattle.papaya_tables.specs.Chunks.{is_incremental}
 use Rattle.papaya_tables.specs.declared.node.Node.{Node}
 use Rattle.papaya_tables.specs.declared.setting.Setting.{Setting}
@@ -10,7 +10,8 @@ use Rattle.papaya_raw.specs.declared.machines.asking.Reply.{Reply}
 use Rattle.papaya_raw.specs.declared.machines.machine.Machine.{Machine}
 use Rattle.papaya_looks.specs.Given.CallersRows.{IsRowOn}
 use Rattle.papaya_looks.specs.Given.CallersTogether.{UnderWay}
-use Rattle.papaya_tables.specs.Given.SeizeWorld.{Row}
+use Rattle.papaya_tables.specs.Given.SeizeWorld.{Row, Rests, Use, Vacant, Outside, Inside, Changing, IsInside}
+use Rattle.seize_views.specs.Rows.{row_of}
 use Rattle.papaya_looks.specs.Given.FinishesMachines.{machine_of}
 use Rattle.papaya_looks.specs.Given.FinishesMaps.{Standing, new_map, with_call}
 use Rattle.papaya_acts.specs.Given.ScenesScene.{Scene, slot_of}
@@ -21,26 +22,24 @@ use Rattle.seize_acts.specs.Acts.{rests, is_within}
 use Rattle.seize_acts.proofs.Answers.{same_some}
 use Rattle.seize_seats.specs.State.{State, view_of, Goes}
 use Rattle.seize_views.specs.declared.view.Fixed.{Fixed}
-use Rattle.seize_views.specs.declared.view.Has.TheVariants.{Nothing as NoBlock}
 use Rattle.seize_views.specs.declared.view.View.{View as SlotView}
-use Rattle.seize_views.specs.declared.view.View.TheVariants.{Inside}
 use Rattle.papaya_views.specs.Begun.{machine_for, calling, replied}
 use Rattle.papaya_views.specs.Told.{begun_with, pair_in, untold}
 use Rattle.papaya_views.specs.Promises.{CallsBegin, CallsAreTold}
 use Rattle.papaya_views.specs.Listed.{Called, calls_of, plain, AreNumbered, IsNewest}
-use Rattle.papaya_views.specs.Rule.{MapsWorld, HasRow, DoesSo, KnowsMap, KnowsPair, IsRun, AreRuns, Fits, Holds, KeepsFor, caller_at, pair_of, place_of}
+use Rattle.papaya_views.specs.Rule.{MapsWorld, HasRow, DoesSo, KnowsMap, KnowsPair, IsRun, AreRuns, Fits, Holds, KeepsFor, caller_at, pair_of, IsAside, acts_in, section_of}
 use Rattle.papaya_views.specs.declared.view.Map.{Map}
 use Rattle.papaya_views.specs.declared.view.Run.{Run}
 use Rattle.papaya_views.specs.declared.view.View.{View}
 use Rattle.papaya_views.specs.declared.view.Work.{Work}
 use Rattle.papaya_views.specs.declared.view.Work.TheVariants.{Nothing, Calls}
-use Rattle.papaya_views.proofs.Knows.{knows_inside}
-use Rattle.papaya_views.proofs.Leaves.{Leaves, leaves_all, inside_of, own_idle, map_on, call_here}
+use Rattle.papaya_views.proofs.Knows.{knows_within}
+use Rattle.papaya_views.proofs.Leaves.{Leaves, leaves_all, own_section, section_place, section_inside, own_idle, map_on, call_here}
 use Rattle.papaya_views.proofs.Listed.{is_its, is_other, numbered_on}
 use Rattle.papaya_views.proofs.Moved.{scene_of, are_so, Moved, Adds, same_slot, moved}
 use Rattle.papaya_views.proofs.Numbers.{slot_at}
 use Rattle.papaya_views.proofs.Pairs.{begun_pair, told_pair}
-use Rattle.papaya_views.proofs.UnderWay.{called_at, does as way_does, slot_is as way_slot, on_row as way_on}
+use Rattle.papaya_views.proofs.UnderWay.{called_at, does as way_does, section_is as way_section, on_row as way_on}
 
 -- but for a counting
 unless : {K V : Type 0} (wanted : Wanted K V) (A : Type 0) → A → UnlessToCount wanted A
@@ -58,6 +57,13 @@ pub begins_plainly : {K V S : Type 0} (same : K → K → Bool) (hash : S → K 
 begins_plainly same hash map t (Get key) = refl
 begins_plainly same hash map t _ = refl
 
+-- who is within a section is
+is_within_so : (u : Use) → IsInside u → is_within u ≡ true
+is_within_so Vacant is = absurd is
+is_within_so (Outside n) is = absurd is
+is_within_so (Inside n) is = refl
+is_within_so Changing is = absurd is
+
 module _ {K V : Type 0} (same : K → K → Bool) where
   -- the machine that begins is told by setting, hash and slot
   begins_as : (slot : ℕ → ℕ) (s : Standing K) (i : ℕ) (wanted : Wanted K V)
@@ -74,7 +80,7 @@ module _ {K V S : Type 0} (same : K → K → Bool) (hash : S → K → ℕ) (fi
   fits = (are_so same hash fixed s h).seats id v at_id
 
   abbrev place : ℕ
-  place = place_of v.slot
+  place = acts_in v.under v.slot
 
   abbrev i : ℕ
   i = caller_at id place
@@ -82,17 +88,20 @@ module _ {K V S : Type 0} (same : K → K → Bool) (hash : S → K → ℕ) (fi
   it : KnowsMap same hash scene (Some map)
   it = subst (λ (x : Option (Map S)). KnowsMap same hash scene x) knows fits.map
 
+  within : (t : ℕ) → section_of v.under v.slot ≡ Some t → IsInside (scene.world.uses t)
+  within t section = section_inside same hash scene (view_of s) (are_so same hash fixed s h).seats (are_so same hash fixed s h).leant id v at_id t section
+
   -- where the seat has this call under way from now on, and nothing else has changed
-  module _ (t : ℕ) (slot_is : v.slot ≡ Inside t NoBlock) (u : UnderWay K V K) (machine : Machine K V K) (is : machine_of u ≡ machine)
+  module _ (t : ℕ) (section : section_of v.under v.slot ≡ Some t) (u : UnderWay K V K) (machine : Machine K V K) (is : machine_of u ≡ machine)
       (on_row : IsRowOn t (scene.world.row i)) where
     abbrev n : Scene K V
     n = record scene { calls = with_call scene.calls map.number i (Some u) }
 
-    its_does : DoesSo same hash n i (Inside t NoBlock) (Some map) (Calls machine)
-    its_does = (t, refl, inside_of same hash scene id t v NoBlock fits slot_is, record { call = u; here = call_here scene.calls map.number i (Some u); is = is }, on_row)
+    its_does : DoesSo same hash n i v.under v.slot (Some map) (Calls machine)
+    its_does = (t, section, within t section, record { call = u; here = call_here scene.calls map.number i (Some u); is = is }, on_row)
 
     abbrev w : List (Run K V) → View K V S
-    w runs = record { slot = v.slot; map = v.map; work = Calls machine; looks = []; held = []; began = v.began; calls = runs }
+    w runs = record { slot = v.slot; under = v.under; map = v.map; work = Calls machine; looks = []; held = []; began = v.began; calls = runs }
 
     leaves : Leaves same hash fixed.batch_size scene n i None
     leaves = leaves_all same hash fixed.batch_size scene map.number i (Some u)
@@ -103,9 +112,8 @@ module _ {K V S : Type 0} (same : K → K → Bool) (hash : S → K → ℕ) (fi
       memory = (are_so same hash fixed s h).memory;
       own = record {
         slot = fits.slot;
-        does =
-            subst (λ (x : SlotView (Node K V)). DoesSo same hash n i x v.map (Calls machine)) (sym slot_is)
-            (subst (λ (x : Option (Map S)). DoesSo same hash n i (Inside t NoBlock) x (Calls machine)) (sym knows) its_does);
+        does = subst (λ (x : Option (Map S)). DoesSo same hash n i v.under v.slot x (Calls machine)) (sym knows) its_does;
+        aside = fits.aside;
         map = map_on same hash scene n id place fits.slot fixed.batch_size None leaves v.map fits.map;
         held = tt;
         pair =
@@ -119,19 +127,26 @@ module _ {K V S : Type 0} (same : K → K → Bool) (hash : S → K → ℕ) (fi
       leaves = leaves;
       theirs = λ j t a b x ne at uses e. cc e;
       alone = same_slot same hash fixed s h id v (w runs) at_id refl;
+      under = λ x at. ap (λ (y : View K V S). y.under) (same_some v x (sym at_id ∙ at));
+      leant = inl (refl, λ x at. ap (λ (y : View K V S). y.slot) (same_some v x (sym at_id ∙ at)));
       fresh = ((are_so same hash fixed s h).fresh.0, (are_so same hash fixed s h).fresh.1, numbered);
-      row = knows_inside fixed n id t v.slot slot_is;
+      row = knows_within fixed n id t v.under v.slot fits.aside section;
     }
 
   -- it has nothing under way, and begins to do this
-  module _ (t : ℕ) (slot_is : v.slot ≡ Inside t NoBlock) (free : v.work ≡ Nothing) (incremental : is_incremental map.setting.mode ≡ true) (wanted : Wanted K V) (plainly : plain wanted ≡ wanted) where
-    does : HasRow scene i (Inside t NoBlock)
-    does =
-        subst (λ (x : SlotView (Node K V)). HasRow scene i x) slot_is
-        (subst (λ (x : Work K V S). DoesSo same hash scene i v.slot v.map x) free fits.does)
+  module _ (t : ℕ) (section : section_of v.under v.slot ≡ Some t) (free : v.work ≡ Nothing) (incremental : is_incremental map.setting.mode ≡ true) (wanted : Wanted K V) (plainly : plain wanted ≡ wanted) where
+    does : HasRow scene i v.slot
+    does = subst (λ (x : Work K V S). DoesSo same hash scene i v.under v.slot v.map x) free fits.does
 
     place_is : place ≡ t
-    place_is = ap (λ (x : SlotView (Node K V)). place_of x) slot_is
+    place_is = section_place v.under v.slot t section
+
+    no_row : scene.world.row i ≡ Rests
+    no_row = does.row ∙ by v.under fits.aside section
+      where
+        by : (under : Option (ℕ × ℕ)) → IsAside under v.slot → section_of under v.slot ≡ Some t → row_of v.slot ≡ Rests
+        by None aside is = ap (λ (x : SlotView (Node K V)). row_of x) (own_section v.slot t is)
+        by (Some leant) aside is = ap (λ (x : SlotView (Node K V)). row_of x) aside
 
     its_slot : slot_of i ≡ t
     its_slot = slot_at id place fits.slot ∙ place_is
@@ -147,8 +162,8 @@ module _ {K V S : Type 0} (same : K → K → Bool) (hash : S → K → ℕ) (fi
       ap is_none h.nobody,
       (
         record { no_call = λ m. ap is_none (does.calls m); no_making = ap is_none does.makers; no_ending = ap is_none does.enders },
-        ap rests does.row,
-        unless wanted (is_within (scene.world.uses (slot_of i)) ≡ true) (ap (λ (a : ℕ). is_within (scene.world.uses a)) its_slot ∙ ap is_within does.slot.1),
+        ap rests no_row,
+        unless wanted (is_within (scene.world.uses (slot_of i)) ≡ true) (ap (λ (a : ℕ). is_within (scene.world.uses a)) its_slot ∙ is_within_so (scene.world.uses t) (within t section)),
         ap is_none it.1,
         few,
       ),
@@ -159,7 +174,7 @@ module _ {K V S : Type 0} (same : K → K → Bool) (hash : S → K → ℕ) (fi
     led = (h.course.leads h.reached.0 (Does (BeginsCall i map.number wanted)) may).0
 
     on_row : IsRowOn t (scene.world.row i)
-    on_row = subst (λ (x : Row). IsRowOn t x) (sym does.row) tt
+    on_row = subst (λ (x : Row). IsRowOn t x) (sym no_row) tt
 
     machine_is : machine_of (begun same slot_of led.0 i wanted) ≡ machine_for same hash map t wanted
     machine_is =
@@ -173,7 +188,7 @@ module _ {K V S : Type 0} (same : K → K → Bool) (hash : S → K → ℕ) (fi
     machine = machine_for same hash map t wanted
 
     abbrev to : Scene K V
-    to = n t slot_is (begun same slot_of led.0 i wanted) machine machine_is on_row
+    to = n t section (begun same slot_of led.0 i wanted) machine machine_is on_row
 
     -- the call in the list, and as its seat knows it
     abbrev call : Called K V
@@ -202,7 +217,7 @@ module _ {K V S : Type 0} (same : K → K → Bool) (hash : S → K → ℕ) (fi
     begins =
         let fresh = (are_so same hash fixed s h).fresh in
         moved same hash fixed s h id v at_id (BeginsCall i map.number wanted) may to led.3 s.memory (calling v machine)
-        (go t slot_is (begun same slot_of led.0 i wanted) machine machine_is on_row (BeginsCall i map.number wanted) (run ∷ v.calls)
+        (go t section (begun same slot_of led.0 i wanted) machine machine_is on_row (BeginsCall i map.number wanted) (run ∷ v.calls)
         (numbered_on s.world.doings (Does (BeginsCall i map.number wanted) ∷ []) 0 fresh.0 fresh.0 fresh.2 refl) (begun_pair same slot_of led.0 i wanted ∙ ap begun_with machine_is))
         adds (λ x. x ≡ calling v machine) refl
 
@@ -231,7 +246,7 @@ module _ {K V S : Type 0} (same : K → K → Bool) (hash : S → K → ℕ) (fi
 
     tells : Goes (Holds same hash fixed) KeepsFor s s.memory id (λ x. x ≡ replied v machine reply)
     tells =
-        let is = way_slot same hash fixed s h id v at_id map machine knows works in
+        let is = way_section same hash fixed s h id v at_id map machine knows works in
         let on = way_on same hash fixed s h id v at_id map machine knows works in
         let fresh = (are_so same hash fixed s h).fresh in
         moved same hash fixed s h id v at_id (TellsCall i map.number reply) told_may (n place is told_led.3 (machine_replied machine reply).0 reply_is on) told_led.8 s.memory
@@ -242,9 +257,9 @@ module _ {K V S : Type 0} (same : K → K → Bool) (hash : S → K → ℕ) (fi
 
 module _ {K S : Type 0} (V : Type 0) (same : K → K → Bool) (hash : S → K → ℕ) where
   pub calls_begin : CallsBegin V same hash
-  calls_begin fixed id t v map wanted slot_is knows free incremental s h at_id =
+  calls_begin fixed id t v map wanted section knows free incremental s h at_id =
       subst (λ (machine : Machine K V K). Goes (Holds same hash fixed) KeepsFor s s.memory id (λ x. x ≡ calling v machine)) (begins_plainly same hash map t wanted)
-      (begins same hash fixed s h id v at_id map knows t slot_is free incremental (plain wanted) (plain_already wanted))
+      (begins same hash fixed s h id v at_id map knows t section free incremental (plain wanted) (plain_already wanted))
 
   pub calls_are_told : CallsAreTold V same hash
   calls_are_told fixed id v map machine reply knows works s h at_id = tells same hash fixed s h id v at_id map knows machine works reply

@@ -14,17 +14,19 @@ use Rattle.papaya_looks.proofs.Given.CallersTogether.Came.{came_reached}
 use Rattle.papaya_acts.specs.Given.ScenesScene.{Scene}
 use Rattle.seize_alone.proofs.Histories.Reached.{Reached}
 use Rattle.seize_acts.proofs.Answers.{same_some}
+use Rattle.seize_seats.specs.Errands.{IsUnlent}
 use Rattle.seize_seats.specs.State.{State, view_of}
 use Rattle.seize_views.specs.Rows.{row_of, use_of, used_for}
 use Rattle.seize_views.specs.declared.view.Fixed.{Fixed}
 use Rattle.seize_views.specs.declared.view.View.{View as SlotView}
 use Rattle.seize_views.specs.declared.view.View.TheVariants as slot_view
 use Rattle.seize_views.specs.declared.view.Why.TheVariants.{Retiring, Ending}
-use Rattle.papaya_views.specs.Rule.{MapsWorld, DoesSo, AreSo, Holds}
+use Rattle.papaya_views.specs.Rule.{MapsWorld, DoesSo, AreSo, Holds, LeansOn, Leans, section_of}
 use Rattle.papaya_views.specs.declared.view.Map.{Map}
 use Rattle.papaya_views.specs.declared.view.View.{View}
 use Rattle.papaya_views.specs.declared.view.Work.{Work}
 use Rattle.papaya_views.specs.declared.view.Work.TheVariants.{Nothing, Calls, Makes}
+use Rattle.papaya_views.proofs.Leaves.{own_section}
 use Rattle.papaya_views.proofs.Moved.{scene_of, all_stand, are_so}
 use Rattle.papaya_views.proofs.Whose.{whose}
 
@@ -71,7 +73,7 @@ same_here : (a : ℕ) (l : List ℕ) → (count a (a ∷ l) ≡ 0) → ⊥
 same_here a l e = grind (arith, e)
 
 module _ {K V S : Type 0} (same : K → K → Bool) (hash : S → K → ℕ) (fixed : Fixed) (s : State (Node K V) (View K V S) (MapsWorld K V S)) (h : Holds same hash fixed s)
-    (id : ℕ) (v : View K V S) (at_id : view_of s id ≡ Some v) (free : v.work ≡ Nothing) (rests : row_of v.slot ≡ Rests) (t : ℕ) (u : Use) (uses : use_of v.slot ≡ Some (t, u)) where
+    (id : ℕ) (v : View K V S) (at_id : view_of s id ≡ Some v) (free : v.work ≡ Nothing) (unlent : IsUnlent Leans id s) (rests : row_of v.slot ≡ Rests) (t : ℕ) (u : Use) (uses : use_of v.slot ≡ Some (t, u)) where
   abbrev scene : Scene K V
   scene = scene_of same hash fixed s h
 
@@ -88,17 +90,24 @@ module _ {K V S : Type 0} (same : K → K → Bool) (hash : S → K → ℕ) (fi
 
   -- so nobody's does
   by_work : (j a : ℕ) (x : View K V S) → view_of s j ≡ Some x → works_on (scene.world.row a) ≡ t + 1 → shares (scene.world.row a) ≡ true → (work : Work K V S) (map : Option (Map S))
-      → x.work ≡ work → DoesSo same hash scene a x.slot map work → ⊥
+      → x.work ≡ work → DoesSo same hash scene a x.under x.slot map work → ⊥
   by_work j a x at on sh Nothing map is d =
       let slot = row_on_slot x.slot t (ap works_on (sym d.row) ∙ on) (ap shares (sym d.row) ∙ sh) in
       let one = other j x slot.0 at slot.1 in
       no_rest (scene.world.row a) sh (d.row ∙ ap (λ (y : View K V S). row_of y.slot) one ∙ rests)
   by_work j a x at on sh (Calls p) None is d = d
   by_work j a x at on sh (Calls p) (Some map) is d =
-      let here = on_slot (scene.world.row a) d.0 t d.4 on sh in
-      let slot : use_of x.slot ≡ Some (t, Inside 0) = ap use_of d.1 ∙ ap (λ (b : ℕ). Some (b, Inside 0)) here in
-      let one = other j x (Inside 0) at slot in
-      let work = sym is ∙ ap (λ (y : View K V S). y.work) one ∙ free in cc work
+      by_under x.under refl (d.1 ∙ ap (λ (b : ℕ). Some b) (on_slot (scene.world.row a) d.0 t d.4 on sh))
+    where
+      by_under : (under : Option (ℕ × ℕ)) → x.under ≡ under → section_of under x.slot ≡ Some t → ⊥
+      by_under None e section =
+          let one = other j x (Inside 0) at (ap use_of (own_section x.slot t section)) in
+          let work = sym is ∙ ap (λ (y : View K V S). y.work) one ∙ free in cc work
+      by_under (Some leant) e section =
+          let base = so.leant j leant.0 leant.1 x at e in
+          let here = same_some leant.1 t section in
+          let one = so.apart leant.0 id t (Inside 0) u base.0 v base.1 at_id (ap use_of base.2 ∙ ap (λ (b : ℕ). Some (b, Inside 0)) here) uses in
+          unlent j x at (subst (λ (o : Option (ℕ × ℕ)). LeansOn o id) (sym e) one)
   by_work j a x at on sh (Makes m hasher opening) map is d = no_rest (scene.world.row a) sh d.2
 
   nobody : (a : ℕ) → works_on (scene.world.row a) ≡ t + 1 → shares (scene.world.row a) ≡ true → ⊥

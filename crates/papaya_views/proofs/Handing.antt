@@ -11,7 +11,7 @@ use Rattle.seize_views.proofs.Lists.{there, elsewhere}
 use Rattle.papaya_views.specs.Begun.{shown_map}
 use Rattle.papaya_views.specs.Looks.{shown_in}
 use Rattle.papaya_views.specs.Promises.{MapsAreHandedOn}
-use Rattle.papaya_views.specs.Rule.{MapsWorld, DoesSo, KnowsMap, KnowsPair, Fits, Holds, caller_at, place_of}
+use Rattle.papaya_views.specs.Rule.{MapsWorld, DoesSo, KnowsMap, KnowsPair, Fits, Holds, caller_at, acts_in}
 use Rattle.papaya_views.specs.declared.view.Map.{Map}
 use Rattle.papaya_views.specs.declared.view.View.{View}
 use Rattle.papaya_views.specs.declared.view.Work.{Work}
@@ -36,11 +36,12 @@ module _ {K V S : Type 0} (same : K → K → Bool) (hash : S → K → ℕ) (fi
       record {
         slot = f.slot;
         does =
-            subst (λ (x : Work K V S). DoesSo same hash scene (caller_at j (place_of u.slot)) u.slot (Some map) x) (sym free)
-            (subst (λ (x : Work K V S). DoesSo same hash scene (caller_at j (place_of u.slot)) u.slot u.map x) free f.does);
+            subst (λ (x : Work K V S). DoesSo same hash scene (caller_at j (acts_in u.under u.slot)) u.under u.slot (Some map) x) (sym free)
+            (subst (λ (x : Work K V S). DoesSo same hash scene (caller_at j (acts_in u.under u.slot)) u.under u.slot u.map x) free f.does);
+        aside = f.aside;
         map = subst (λ (x : Option (Map S)). KnowsMap same hash scene x) knows (h.so.seats i v at_i).map;
         held = f.held;
-        pair = subst (λ (x : Work K V S). KnowsPair same hash scene (caller_at j (place_of u.slot)) (Some map) x u.calls) (sym free) tt;
+        pair = subst (λ (x : Work K V S). KnowsPair same hash scene (caller_at j (acts_in u.under u.slot)) (Some map) x u.calls) (sym free) tt;
         idle = f.idle;
       }
 
@@ -62,12 +63,13 @@ module _ {K V S : Type 0} (same : K → K → Bool) (hash : S → K → ℕ) (fi
         knew = u;
         at = ap (view_of s) e ∙ at_j;
         slot = ap (λ (y : View K V S). y.slot) (sym one);
+        under = inl (ap (λ (y : View K V S). y.under) (sym one));
         calls = ap (λ (y : View K V S). y.calls) (sym one);
         work = ap (λ (y : View K V S). y.work) (sym one);
         held = λ b y shown. ap (λ (z : View K V S). shown_in z.held b) one ∙ shown;
         fits = subst (λ (y : View K V S). Fits same hash scene k y) one (subst (λ (a : ℕ). Fits same hash scene a q) (sym e) given);
       }
-  had k x at (inr ne) = let was = sym (before k ne) ∙ at in record { knew = x; at = was; slot = refl; calls = refl; work = refl; held = λ b y shown. shown; fits = h.so.seats k x was }
+  had k x at (inr ne) = let was = sym (before k ne) ∙ at in record { knew = x; at = was; slot = refl; under = inl refl; calls = refl; work = refl; held = λ b y shown. shown; fits = h.so.seats k x was }
 
   unborn : (k : ℕ) → slice_get views k ≡ None → (k ≡ j) ⊎ (k ≢ j) → view_of s k ≡ None
   unborn k at (inl e) = let f = ap (slice_get views) e in let g = here in absurd (cc (f, g, at))

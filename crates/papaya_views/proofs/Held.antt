@@ -1,5 +1,5 @@
 -- What is known to be held for a seat is there, with its value.
-use Rattle.std.specs.Prelude.{Some, IsSome, ◌==◌, if◌then◌else◌}
+use Rattle.std.specs.Prelude.{Option, Some, IsSome, ◌==◌, if◌then◌else◌}
 use Rattle.std.proofs.Common.{◌≡◌, ℕ, Bool, true, false, List, [], ◌∷◌, refl, sym, subst, ap, ◌∙◌, eqb-true}
 use Rattle.seize_words.specs.Mem.{Mem, value_at}
 use Rattle.papaya_tables.specs.declared.node.Node.{Node}
@@ -9,19 +9,33 @@ use Rattle.seize_seats.specs.State.{State, view_of}
 use Rattle.seize_views.specs.declared.view.View.{View as SlotView}
 use Rattle.papaya_views.specs.Looks.{shown_in}
 use Rattle.papaya_views.specs.Promises.{HeldAreShown}
-use Rattle.papaya_views.specs.Rule.{MapsWorld, AllHeld, Holds}
+use Rattle.papaya_views.specs.Rule.{MapsWorld, IsHeld, AllHeld, Holds}
 use Rattle.papaya_views.specs.declared.view.View.{View}
 use Rattle.papaya_views.specs.declared.view.Work.{Work}
 
 module _ {K V S : Type 0} (same : K → K → Bool) (hash : S → K → ℕ) where
-  pub value_of : (scene : Scene K V) (slot : SlotView (Node K V)) (work : Work K V S) (b : ℕ) (x : Node K V) (looks : List (ℕ × Node K V)) → AllHeld same hash scene slot work looks → shown_in looks b ≡ Some x
+  pub value_of : (scene : Scene K V) (under : Option (ℕ × ℕ)) (slot : SlotView (Node K V)) (work : Work K V S) (b : ℕ) (x : Node K V) (looks : List (ℕ × Node K V))
+      → AllHeld same hash scene under slot work looks → shown_in looks b ≡ Some x
       → value_at scene.world.memory b ≡ Some x
-  value_of scene slot work b x [] held is = absurd (cc is)
-  value_of scene slot work b x (look ∷ looks) held is = by (b == look.0) refl is (value_of scene slot work b x looks held.1)
+  value_of scene under slot work b x [] held is = absurd (cc is)
+  value_of scene under slot work b x (look ∷ looks) held is = by (b == look.0) refl is (value_of scene under slot work b x looks held.1)
     where
       by : (k : Bool) → (b == look.0) ≡ k → (if k then Some look.1 else shown_in looks b) ≡ Some x → (shown_in looks b ≡ Some x → value_at scene.world.memory b ≡ Some x)
           → value_at scene.world.memory b ≡ Some x
       by true e f rest = ap (value_at scene.world.memory) (eqb-true b look.0 e) ∙ held.0.0 ∙ f
+      by false e f rest = rest f
+
+  -- and why it lasts
+  pub held_of : (scene : Scene K V) (under : Option (ℕ × ℕ)) (slot : SlotView (Node K V)) (work : Work K V S) (b : ℕ) (x : Node K V) (looks : List (ℕ × Node K V))
+      → AllHeld same hash scene under slot work looks → shown_in looks b ≡ Some x → IsHeld same hash scene under slot work (b, x)
+  held_of scene under slot work b x [] held is = absurd (cc is)
+  held_of scene under slot work b x (look ∷ looks) held is = by (b == look.0) refl is (held_of scene under slot work b x looks held.1)
+    where
+      by : (k : Bool) → (b == look.0) ≡ k → (if k then Some look.1 else shown_in looks b) ≡ Some x → (shown_in looks b ≡ Some x → IsHeld same hash scene under slot work (b, x))
+          → IsHeld same hash scene under slot work (b, x)
+      by true e f rest =
+          subst (λ (y : Node K V). IsHeld same hash scene under slot work (b, y)) (same_some look.1 x f)
+          (subst (λ (a : ℕ). IsHeld same hash scene under slot work (a, look.1)) (sym (eqb-true b look.0 e)) held.0)
       by false e f rest = rest f
 
 module _ {K S : Type 0} (V : Type 0) (same : K → K → Bool) (hash : S → K → ℕ) where
@@ -30,4 +44,4 @@ module _ {K S : Type 0} (V : Type 0) (same : K → K → Bool) (hash : S → K �
     where
       here : (t : State (Node K V) (View K V S) (MapsWorld K V S)) → Holds same hash fixed t → view_of t id ≡ Some v → value_at t.memory b ≡ Some x
       here t h at =
-          ap (λ (m : Mem (Node K V)). value_at m b) h.so.memory ∙ value_of same hash t.world.scene v.slot v.work b x v.held (h.so.seats id v at).held is
+          ap (λ (m : Mem (Node K V)). value_at m b) h.so.memory ∙ value_of same hash t.world.scene v.under v.slot v.work b x v.held (h.so.seats id v at).held is

@@ -20,30 +20,25 @@ use Rattle.seize_views.specs.declared.view.View.TheVariants as slot_view
 use Rattle.seize_views.specs.declared.view.Why.{Why}
 use Rattle.seize_views.specs.declared.view.Why.TheVariants.{Retiring, Ending}
 use Rattle.seize_views.proofs.Reclaims.{reclaiming_there}
-use Rattle.papaya_views.specs.Rule.{DoesSo, Fits, KnowsRow, caller_at, place_of}
+use Rattle.papaya_views.specs.Rule.{HasRow, DoesSo, Fits, KnowsRow, IsAside, caller_at, acts_in, section_of, place_of}
 use Rattle.papaya_views.specs.declared.view.Map.{Map}
 use Rattle.papaya_views.specs.declared.view.View.{View}
 use Rattle.papaya_views.specs.declared.view.Work.{Work}
 use Rattle.papaya_views.specs.declared.view.Work.TheVariants.{Nothing, Calls, Makes}
 use Rattle.papaya_views.proofs.Handed.{reclaiming_handed}
+use Rattle.papaya_views.proofs.Leaves.{own_section}
 use Rattle.papaya_views.proofs.Ran.{Keeps}
 
-module _ {K V S : Type 0} (same : K → K → Bool) (hash : S → K → ℕ) (fixed : Fixed) (j : ℕ) (x : View K V S) where
+module _ {K V S : Type 0} (fixed : Fixed) (j : ℕ) (x : View K V S) where
   abbrev c : ℕ
   c = caller_at j (place_of x.slot)
 
   -- the row of a seat that settles is that of a settling
-  settles_row : (s : Scene K V) → Fits same hash s j x → (d : Settle) (why : Why) (seen : Option (ℕ × Node K V)) (left : ℕ) → x.slot ≡ slot_view.Settles d why seen left
+  settles_row : (s : Scene K V) → HasRow s c x.slot → (d : Settle) (why : Why) (seen : Option (ℕ × Node K V)) (left : ℕ) → x.slot ≡ slot_view.Settles d why seen left
       → s.world.row c ≡ settles_for why d
-  settles_row s f d why seen left is = by x.work x.map f.does
-    where
-      by : (work : Work K V S) (map : Option (Map S)) → DoesSo same hash s c x.slot map work → s.world.row c ≡ settles_for why d
-      by Nothing map e = e.row ∙ ap (λ (y : SlotView (Node K V)). row_of y) is
-      by (Calls p) None e = absurd e
-      by (Calls p) (Some map) e = let two = e.1 in absurd (cc (two, is))
-      by (Makes m hasher opening) map e = let two = e.0 in absurd (cc (two, is))
+  settles_row s f d why seen left is = f.row ∙ ap (λ (y : SlotView (Node K V)). row_of y) is
 
-  module _ (scene n : Scene K V) (came : CameAbout fixed.batch_size scene.world) (came2 : CameAbout fixed.batch_size n.world) (f : Fits same hash scene j x) (g : Fits same hash n j x)
+  module _ (scene n : Scene K V) (came : CameAbout fixed.batch_size scene.world) (came2 : CameAbout fixed.batch_size n.world) (f : HasRow scene c x.slot) (g : HasRow n c x.slot)
       (keeps : Keeps scene.world n.world) (events : List (Event (Node K V)))
       (passes : Meanwhile deferred_word (IsAloneOnSlot c) fixed.batch_size c events scene.world n.world) where
     looked : (d : Settle) (why : Why) (seen : ℕ × Node K V) (left : ℕ) → x.slot ≡ slot_view.Settles d why (Some seen) left → IsKnown scene.world (slot_view.Settles d why (Some seen) left)
@@ -102,3 +97,28 @@ module _ {K V : Type 0} (fixed : Fixed) (n : Scene K V) (j : ℕ) where
 
   pub knows_rests : (v : SlotView (Node K V)) → v ≡ slot_view.Rests → KnowsRow fixed n j v
   knows_rests v is = subst (λ (x : SlotView (Node K V)). KnowsRow fixed n j x) (sym is) (record { plain = tt; short = tt; known = tt; bounded = tt })
+
+  -- who has calls under way within a section
+  pub knows_within : (t : ℕ) (under : Option (ℕ × ℕ)) (v : SlotView (Node K V)) → IsAside under v → section_of under v ≡ Some t → KnowsRow fixed n j v
+  knows_within t None v aside section = knows_inside t v (own_section v t section)
+  knows_within t (Some leant) v aside section = knows_rests v aside
+
+-- who has nothing under way, and leans on nobody, has nothing but its row
+pub row_of_it : {K V S : Type 0} (same : K → K → Bool) (hash : S → K → ℕ) (s : Scene K V) (j : ℕ) (x : View K V S) → Fits same hash s j x → x.under ≡ None → x.work ≡ Nothing
+    → HasRow s (caller_at j (place_of x.slot)) x.slot
+row_of_it {K} {V} {S} same hash s j x f own free =
+    subst (λ (k : Work K V S). DoesSo same hash s (caller_at j (place_of x.slot)) None x.slot x.map k) free
+    (subst (λ (u : Option (ℕ × ℕ)). DoesSo same hash s (caller_at j (acts_in u x.slot)) u x.slot x.map x.work) own f.does)
+
+module _ {K V S : Type 0} (same : K → K → Bool) (hash : S → K → ℕ) (fixed : Fixed) (scene n : Scene K V) (j : ℕ) (x : View K V S) where
+  -- what a seat knows of its row is so, if it is where it may have one
+  pub by_kind : Fits same hash scene j x → (x.under ≡ None → x.work ≡ Nothing → KnowsRow fixed n j x.slot) → KnowsRow fixed n j x.slot
+  by_kind f has = by x.under x.work x.map refl refl f.aside f.does
+    where
+      by : (under : Option (ℕ × ℕ)) (work : Work K V S) (map : Option (Map S)) → x.under ≡ under → x.work ≡ work → IsAside under x.slot
+          → DoesSo same hash scene (caller_at j (acts_in x.under x.slot)) under x.slot map work → KnowsRow fixed n j x.slot
+      by (Some leant) work map own free aside d = knows_rests fixed n j x.slot aside
+      by None Nothing map own free aside d = has own free
+      by None (Calls p) None own free aside d = absurd d
+      by None (Calls p) (Some map) own free aside d = knows_inside fixed n j d.0 x.slot (own_section x.slot d.0 d.1)
+      by None (Makes m hasher opening) map own free aside d = knows_rests fixed n j x.slot d.0

@@ -40,13 +40,13 @@ module _ {K V S : Type 0} (same : K → K → Bool) (hash : S → K → ℕ) (ba
       subst (λ (a : ℕ). IsSome (value_at n.world.memory a)) (sym same_block) (reclaiming_there deferred_word c (Retiring Idle) n.world.memory may reclaiming) in
       leaves.keeps b its (subst (λ (o : Option (Node K V)). IsSome o) (sym is) refl) some ∙ is
 
-  pub of_call_lasts : (slot : SlotView (Node K V)) (map : Option (Map S)) (work : Work K V S) → DoesSo same hash s k slot map work → KnowsMap same hash s map → IsOfCall same hash work b
+  pub of_call_lasts : (under : Option (ℕ × ℕ)) (slot : SlotView (Node K V)) (map : Option (Map S)) (work : Work K V S) → DoesSo same hash s k under slot map work → KnowsMap same hash s map → IsOfCall same hash work b
       → value_at n.world.memory b ≡ Some x
-  of_call_lasts slot map Nothing does knows of = absurd of
-  of_call_lasts slot None (Calls machine) does knows of = absurd does
-  of_call_lasts slot (Some map) (Calls machine) does knows (inl own) =
-      let m = own_is_made same hash batch_size roots s all k slot map machine does knows b own in leaves.made k ne b x m.0 is (λ e. m.3 (same_some m.1 x (sym m.2 ∙ is) ∙ e))
-  of_call_lasts slot (Some map) (Calls machine) does knows (inr next) =
+  of_call_lasts under slot map Nothing does knows of = absurd of
+  of_call_lasts under slot None (Calls machine) does knows of = absurd does
+  of_call_lasts under slot (Some map) (Calls machine) does knows (inl own) =
+      let m = own_is_made same hash batch_size roots s all k under slot map machine does knows b own in leaves.made k ne b x m.0 is (λ e. m.3 (same_some m.1 x (sym m.2 ∙ is) ∙ e))
+  of_call_lasts under slot (Some map) (Calls machine) does knows (inr next) =
       reclaimed_lasts
       (row_reclaims same hash batch_size roots s all map.number knows.0 knows.1 k b does.3.call does.3.here (subst (λ (y : Machine K V K). IsNextOf y b) (sym does.3.is) next))
-  of_call_lasts slot map (Makes m hasher opening) does knows of = absurd of
+  of_call_lasts under slot map (Makes m hasher opening) does knows of = absurd of

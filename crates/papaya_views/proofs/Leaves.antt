@@ -12,12 +12,13 @@ use Rattle.papaya_looks.specs.Given.FinishesMaps.{Standing, with_call}
 use Rattle.papaya_acts.specs.Given.ScenesScene.{Scene}
 use Rattle.seize_acts.specs.Stays.{how_many, is_end_of_owner}
 use Rattle.papaya_acts.proofs.Counts.{its_call, other_call}
+use Rattle.seize_acts.proofs.Answers.{same_some}
 use Rattle.seize_views.specs.Rows.{use_of}
 use Rattle.seize_views.specs.declared.view.Has.{Has}
-use Rattle.seize_views.specs.declared.view.Has.TheVariants.{Nothing as NoBlock}
+use Rattle.seize_views.specs.declared.view.Has.TheVariants.{Nothing as NoBlock, Made, Seen, Both, Cut}
 use Rattle.seize_views.specs.declared.view.View.{View as SlotView}
 use Rattle.seize_views.specs.declared.view.View.TheVariants as slot_view
-use Rattle.papaya_views.specs.Rule.{IsIdle, IsUsedSo, IsSlot, DoesSo, KnowsMap, KnowsPair, Fits, caller_at, place_of, IsInSection, IsOfCall, IsHeld, AllHeld}
+use Rattle.papaya_views.specs.Rule.{IsIdle, IsUsedSo, IsSlot, DoesSo, KnowsMap, KnowsPair, Fits, IsAside, IsLeant, caller_at, place_of, acts_in, section_of, IsInSection, IsOfCall, IsHeld, AllHeld}
 use Rattle.papaya_views.specs.declared.view.Map.{Map}
 use Rattle.papaya_views.specs.declared.view.Run.{Run}
 use Rattle.papaya_views.specs.declared.view.View.{View}
@@ -69,20 +70,69 @@ module _ {X : Type 0} (calls : ℕ → ℕ → Option X) (m i : ℕ) (it : Optio
   pub call_elsewhere : (n : ℕ) → n ≢ m → with_call calls m i it n i ≡ calls n i
   call_elsewhere n ne = other_call calls i n i m it (λ e f. ne (sym f))
 
+-- who holds a slot leans on nobody
+pub own_slot : {T : Type 0} (under : Option (ℕ × ℕ)) (slot : SlotView T) (t : ℕ) (a : Use) → IsAside under slot → use_of slot ≡ Some (t, a) → under ≡ None
+own_slot None slot t a is uses = refl
+own_slot (Some leant) slot t a is uses = let none = ap use_of is in absurd (cc (none, uses))
+
+-- the section of a seat that leans on none is that of its own slot
+pub own_section : {T : Type 0} (slot : SlotView T) (t : ℕ) → section_of None slot ≡ Some t → slot ≡ slot_view.Inside t NoBlock
+own_section (slot_view.Inside a NoBlock) t is = ap (λ (b : ℕ). slot_view.Inside b NoBlock) (same_some a t is)
+own_section (slot_view.Inside a (Made b x)) t is = absurd (cc is)
+own_section (slot_view.Inside a (Seen b)) t is = absurd (cc is)
+own_section (slot_view.Inside a (Both b x c)) t is = absurd (cc is)
+own_section (slot_view.Inside a (Cut b)) t is = absurd (cc is)
+own_section slot_view.Rests t is = absurd (cc is)
+own_section (slot_view.Registers c) t is = absurd (cc is)
+own_section (slot_view.Outside a) t is = absurd (cc is)
+own_section (slot_view.Owes a b) t is = absurd (cc is)
+own_section (slot_view.Enters a) t is = absurd (cc is)
+own_section (slot_view.Settles c why seen left) t is = absurd (cc is)
+own_section (slot_view.Leaves a size way) t is = absurd (cc is)
+own_section (slot_view.Left a size way) t is = absurd (cc is)
+own_section (slot_view.Frees a) t is = absurd (cc is)
+own_section (slot_view.Brings b x) t is = absurd (cc is)
+own_section (slot_view.Bears b) t is = absurd (cc is)
+own_section (slot_view.Watches a b) t is = absurd (cc is)
+own_section (slot_view.Under n a b) t is = absurd (cc is)
+own_section (slot_view.Busy a) t is = absurd (cc is)
+
+-- who has calls under way within a section is the caller of that slot
+pub section_place : {T : Type 0} (under : Option (ℕ × ℕ)) (slot : SlotView T) (t : ℕ) → section_of under slot ≡ Some t → acts_in under slot ≡ t
+section_place {T} None slot t is = ap (λ (x : SlotView T). place_of x) (own_section slot t is)
+section_place (Some leant) slot t is = same_some leant.1 t is
+
 module _ {K V S : Type 0} (same : K → K → Bool) (hash : S → K → ℕ) where
   -- who is within a section by what it knows is within one
   pub inside_of : (scene : Scene K V) (j t : ℕ) (v : View K V S) (has : Has (Node K V)) → Fits same hash scene j v → v.slot ≡ slot_view.Inside t has → IsInside (scene.world.uses t)
   inside_of scene j t v has f is = by v.work v.map f.does
     where
-      by : (work : Work K V S) (map : Option (Map S)) → DoesSo same hash scene (caller_at j (place_of v.slot)) v.slot map work → IsInside (scene.world.uses t)
+      own : v.under ≡ None
+      own = own_slot v.under v.slot t (Inside 0) f.aside (ap use_of is)
+
+      by : (work : Work K V S) (map : Option (Map S)) → DoesSo same hash scene (caller_at j (acts_in v.under v.slot)) v.under v.slot map work → IsInside (scene.world.uses t)
       by Nothing map d =
           stays_inside (Inside 0) (scene.world.uses t) (subst (λ (x : SlotView (Node K V)). IsUsedSo scene.world (use_of x)) is d.slot) tt
       by (Calls machine) None d = absurd d
-      by (Calls machine) (Some map) d = subst (λ (a : ℕ). IsInside (scene.world.uses a)) (same_slot (sym d.1 ∙ is)) d.2
+      by (Calls machine) (Some map) d =
+          let here = own_section v.slot d.0 (ap (λ (u : Option (ℕ × ℕ)). section_of u v.slot) (sym own) ∙ d.1) in
+          subst (λ (a : ℕ). IsInside (scene.world.uses a)) (same_slot (sym here ∙ is)) d.2
         where
           same_slot : slot_view.Inside d.0 NoBlock ≡ slot_view.Inside t has → d.0 ≡ t
           same_slot e = cc e
-      by (Makes m hasher opening) map d = absurd (cc (d.0, is))
+      by (Makes m hasher opening) map d = let rests = d.0 in absurd (cc (rests, is))
+
+  -- and so is the one within whose section it has calls under way
+  pub section_inside : (scene : Scene K V) (view : ℕ → Option (View K V S)) → ((j : ℕ) (v : View K V S) → view j ≡ Some v → Fits same hash scene j v)
+      → ((j n t : ℕ) (v : View K V S) → view j ≡ Some v → v.under ≡ Some (n, t) → IsLeant view n t)
+      → (j : ℕ) (v : View K V S) → view j ≡ Some v → (t : ℕ) → section_of v.under v.slot ≡ Some t → IsInside (scene.world.uses t)
+  section_inside scene view seats leant j v at t section = by v.under refl section
+    where
+      by : (under : Option (ℕ × ℕ)) → v.under ≡ under → section_of under v.slot ≡ Some t → IsInside (scene.world.uses t)
+      by None e is = inside_of scene j t v NoBlock (seats j v at) (own_section v.slot t is)
+      by (Some at_it) e is =
+          let base = leant j at_it.0 at_it.1 v at e in
+          inside_of scene at_it.0 t base.0 NoBlock (seats at_it.0 base.0 base.1) (base.2 ∙ ap (λ (a : ℕ). slot_view.Inside a NoBlock) (same_some at_it.1 t is))
 
   -- What a step of this caller leaves: what the others have under way, how slots are used but its own, the maps as callers know them, what sections hold, what the
   -- collector has, and within how many steps the others settle.
@@ -147,18 +197,19 @@ module _ {K V S : Type 0} (same : K → K → Bool) (hash : S → K → ℕ) whe
         alike_on slot.1 (s.world.uses slot.0) (next.world.uses slot.0) f
         (leaves.uses slot.0 (λ v. there slot.0 slot.1 refl (alike_vacant slot.1 (subst (λ (u : Use). IsUsedAlike slot.1 u) v f))) (apart slot.0 slot.1 refl))
 
-    does_on : (k : ℕ) → k ≢ i → (slot : SlotView (Node K V)) → AreTheirs (use_of slot) → (map : Option (Map S)) (work : Work K V S) → DoesSo same hash s k slot map work → DoesSo same hash next k slot map work
-    does_on k ne slot apart map Nothing f = record {
+    does_on : (k : ℕ) → k ≢ i → (under : Option (ℕ × ℕ)) (slot : SlotView (Node K V)) → AreTheirs (use_of slot) → ((a : ℕ) → section_of under slot ≡ Some a → IsTheirs a)
+        → (map : Option (Map S)) (work : Work K V S) → DoesSo same hash s k under slot map work → DoesSo same hash next k under slot map work
+    does_on k ne under slot apart within map Nothing f = record {
       row = leaves.rows k ne ∙ f.row;
       slot = used_on (use_of slot) (λ a u. not_vacant slot a u) apart f.slot;
       calls = λ n. leaves.calls n k ne ∙ f.calls n;
       makers = leaves.makers k ne ∙ f.makers;
       enders = leaves.enders k ∙ f.enders;
     }
-    does_on k ne slot apart None (Calls p) f = absurd f
-    does_on k ne slot apart (Some map) (Calls p) f =
-        (f.0, f.1, section_on f.0 (apart f.0 (Inside 0) (ap use_of f.1)) f.2, record { call = f.3.call; here = leaves.calls map.number k ne ∙ f.3.here; is = f.3.is }, subst (λ (x : Row). IsRowOn f.0 x) (sym (leaves.rows k ne)) f.4)
-    does_on k ne slot apart map (Makes n hasher opening) f = (
+    does_on k ne under slot apart within None (Calls p) f = absurd f
+    does_on k ne under slot apart within (Some map) (Calls p) f =
+        (f.0, f.1, section_on f.0 (within f.0 f.1) f.2, record { call = f.3.call; here = leaves.calls map.number k ne ∙ f.3.here; is = f.3.is }, subst (λ (x : Row). IsRowOn f.0 x) (sym (leaves.rows k ne)) f.4)
+    does_on k ne under slot apart within map (Makes n hasher opening) f = (
       f.0,
       record { making = f.1.making; here = leaves.makers k ne ∙ f.1.here; map = f.1.map; hashes = f.1.hashes; is = f.1.is; calls = λ a. leaves.calls a k ne ∙ f.1.calls a },
       leaves.rows k ne ∙ f.2,
@@ -175,29 +226,32 @@ module _ {K V S : Type 0} (same : K → K → Bool) (hash : S → K → ℕ) whe
     pair_on k ne (Some map) (Calls p) runs f = λ u is. f u (sym (leaves.calls map.number k ne) ∙ is)
 
     -- what is held for a caller
-    module _ (k : ℕ) (ne : k ≢ i) (slot : SlotView (Node K V)) (apart : AreTheirs (use_of slot)) (inside : (a : ℕ) → slot ≡ slot_view.Inside a NoBlock → IsInside (s.world.uses a)) (work : Work K V S)
+    module _ (k : ℕ) (ne : k ≢ i) (under : Option (ℕ × ℕ)) (slot : SlotView (Node K V)) (within : (a : ℕ) → section_of under slot ≡ Some a → IsTheirs a)
+        (inside : (a : ℕ) → section_of under slot ≡ Some a → IsInside (s.world.uses a)) (work : Work K V S)
         (lasts : (b : ℕ) (x : Node K V) → value_at s.world.memory b ≡ Some x → IsOfCall same hash work b → value_at next.world.memory b ≡ Some x) where
-      look_on : (look : ℕ × Node K V) → value_at s.world.memory look.0 ≡ Some look.1 → IsInSection same hash s slot look.0 ⊎ IsOfCall same hash work look.0 → IsHeld same hash next slot work look
-      look_on look is (inl (a, slot_is, held, over)) =
-          let g = leaves.held a look.0 (apart a (Inside 0) (ap use_of slot_is)) (inside a slot_is) held over in (g.2 ∙ is, inl (a, slot_is, g.0, g.1))
+      look_on : (look : ℕ × Node K V) → value_at s.world.memory look.0 ≡ Some look.1 → IsInSection same hash s under slot look.0 ⊎ IsOfCall same hash work look.0
+          → IsHeld same hash next under slot work look
+      look_on look is (inl (a, section, held, over)) =
+          let g = leaves.held a look.0 (within a section) (inside a section) held over in (g.2 ∙ is, inl (a, section, g.0, g.1))
       look_on look is (inr of) = (lasts look.0 look.1 is of, inr of)
 
-      pub held_on : (looks : List (ℕ × Node K V)) → AllHeld same hash s slot work looks → AllHeld same hash next slot work looks
+      pub held_on : (looks : List (ℕ × Node K V)) → AllHeld same hash s under slot work looks → AllHeld same hash next under slot work looks
       held_on [] f = tt
       held_on (look ∷ looks) f = let h = f.0 in (look_on look h.0 h.1, held_on looks f.1)
 
     -- each other seat knows what is so
-    pub fits_on : (j : ℕ) (v : View K V S) → j ≢ id → AreTheirs (use_of v.slot)
+    pub fits_on : (j : ℕ) (v : View K V S) → j ≢ id → AreTheirs (use_of v.slot) → ((a : ℕ) → section_of v.under v.slot ≡ Some a → IsTheirs a)
+        → ((a : ℕ) → section_of v.under v.slot ≡ Some a → IsInside (s.world.uses a))
         → ((b : ℕ) (x : Node K V) → value_at s.world.memory b ≡ Some x → IsOfCall same hash v.work b → value_at next.world.memory b ≡ Some x)
         → Fits same hash s j v → Fits same hash next j v
-    fits_on j v ne apart lasts f = record {
+    fits_on j v ne apart within inside lasts f = record {
       slot = f.slot;
-      does = does_on (caller_at j (place_of v.slot)) (λ e. ne (seat_apart j id (place_of v.slot) t f.slot its_slot e)) v.slot apart v.map v.work f.does;
+      does = does_on (caller_at j (acts_in v.under v.slot)) (λ e. ne (seat_apart j id (acts_in v.under v.slot) t f.slot its_slot e)) v.under v.slot apart within v.map v.work f.does;
+      aside = f.aside;
       map = map_on v.map f.map;
       held =
-          held_on (caller_at j (place_of v.slot)) (λ e. ne (seat_apart j id (place_of v.slot) t f.slot its_slot e)) v.slot apart (λ a is. inside_of s j a v NoBlock f is) v.work lasts v.held
-          f.held;
-      pair = pair_on (caller_at j (place_of v.slot)) (λ e. ne (seat_apart j id (place_of v.slot) t f.slot its_slot e)) v.map v.work v.calls f.pair;
+          held_on (caller_at j (acts_in v.under v.slot)) (λ e. ne (seat_apart j id (acts_in v.under v.slot) t f.slot its_slot e)) v.under v.slot within inside v.work lasts v.held f.held;
+      pair = pair_on (caller_at j (acts_in v.under v.slot)) (λ e. ne (seat_apart j id (acts_in v.under v.slot) t f.slot its_slot e)) v.map v.work v.calls f.pair;
       idle = λ a is other. unborn_on j a ne is (f.idle a is other);
     }
 

@@ -13,7 +13,7 @@ pub mod Pairs
 mod Settled
 mod RowLooks
 mod Starts
-mod Leaves
+pub mod Leaves
 mod Lasts
 pub mod Listed
 mod Moved
@@ -23,6 +23,8 @@ mod Calls
 mod Held
 mod Begins
 mod Handing
+mod Leanings
+mod Keeping
 mod Makings
 pub mod RowFits
 pub mod RowSteps

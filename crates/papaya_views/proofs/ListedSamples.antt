@@ -1,6 +1,6 @@
 -- Short lists of acts: the calls of a seat are told, each by its own steps, and seen; and makings that are out of order are refused.
 use Rattle.std.specs.Prelude.{Option, Some}
-use Rattle.std.proofs.Common.{◌≡◌, ℕ, List, [], ◌∷◌, refl, ap}
+use Rattle.std.proofs.Common.{◌≡◌, ℕ, List, [], ◌∷◌, refl}
 use Rattle.seize_words.specs.Mem.{Mem}
 use Rattle.papaya_tables.specs.declared.node.Node.{Node}
 use Rattle.papaya_tables.specs.declared.setting.Setting.{Setting}
@@ -10,8 +10,7 @@ use Rattle.papaya_raw.specs.declared.machines.progress.Progress.TheVariants.{Don
 use Rattle.papaya_acts.specs.Acts.{Answer, Nothing, OfCall, Get, Insert, BeginsCall, StepsCall, BeginsMaking}
 use Rattle.papaya_acts.specs.Doings.{Doing, Does}
 use Rattle.seize_acts.specs.Answers.{Grant}
-use Rattle.papaya_views.specs.Listed.{Called, AreNumbered, calls_of, plain, seen_then}
-use Rattle.papaya_views.specs.Told.{untold}
+use Rattle.papaya_views.specs.Listed.{AreNumbered, calls_of, seen_then}
 
 -- seat 0 looks a key up in slot 2, and then stores a pair in slot 3; seat 1, in slot 2, looks another key up
 module _ (g : Grant) where

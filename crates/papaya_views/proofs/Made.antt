@@ -1,5 +1,5 @@
 -- What a caller has made, and not linked, has its value through what others do; and the own pair of a call under way is such a block.
-use Rattle.std.specs.Prelude.{◌≢◌, Some}
+use Rattle.std.specs.Prelude.{◌≢◌, Some, Option}
 use Rattle.std.proofs.Common.{◌≡◌, ℕ, Bool, inl, inr, refl, sym, subst, ap, ◌∙◌}
 use Rattle.seize_words.specs.Mem.{Mem, Took, value_at}
 use Rattle.seize_words.specs.Plan.{Steps}
@@ -104,8 +104,8 @@ module _ {K V S : Type 0} (same : K → K → Bool) (hash : S → K → ℕ) (ba
       ap (λ (m : Mem (Node K V)). value_at m x) (memory ∙ sym went.memory) ∙ made_kept w went.w2.memory went.w2.hand k (went.left.own k ne) x value made is other
 
   -- the own pair of the call that a seat has under way is its caller's
-  pub own_is_made : (i : ℕ) (slot : SlotView (Node K V)) (map : Map S) (machine : Machine K V K) → DoesSo same hash s i slot (Some map) (Calls machine) → KnowsMap same hash s (Some map)
+  pub own_is_made : (i : ℕ) (under : Option (ℕ × ℕ)) (slot : SlotView (Node K V)) (map : Map S) (machine : Machine K V K) → DoesSo same hash s i under slot (Some map) (Calls machine) → KnowsMap same hash s (Some map)
       → (b : ℕ) → IsOwnOf machine b → (w.hand b ≡ Making i) × (value : Node K V) × (value_at w.memory b ≡ Some value) × (value ≢ Shards)
-  own_is_made i slot map machine does knows b own =
+  own_is_made i under slot map machine does knows b own =
       own_pairs_made V same same batch_size roots slot_of w s.maps s.calls s.makers s.enders all map.number knows.0 knows.1 i does.3.call does.3.here b
       (subst (λ (x : Machine K V K). IsOwnOf x b) (sym does.3.is) own)

@@ -1,5 +1,5 @@
 -- The making of a map begins, and its next operation may be made at any moment.
-use Rattle.std.specs.Prelude.{◌≢◌, ◌++◌, ◌∷◌, max, Option, Some, None}
+use Rattle.std.specs.Prelude.{◌≢◌, ◌∷◌, max, Option, Some, None}
 use Rattle.std.specs.Int.{IsPowerOfTwo}
 use Rattle.std.specs.Option.{is_none}
 use Rattle.std.proofs.Common.{◌≡◌, ℕ, ◌+◌, ◌<◌, ◌≤◌, ◌^◌, Bool, List, [], ◌⊎◌, inl, inr, refl, sym, subst, ap, ◌∙◌, arith}
@@ -43,7 +43,7 @@ use Rattle.papaya_views.specs.Begun.{making}
 use Rattle.papaya_views.specs.Looks.{shown_in}
 use Rattle.papaya_views.specs.Promises.{MakingsBegin, MakingsGoOn}
 use Rattle.papaya_views.specs.Listed.{calls_of}
-use Rattle.papaya_views.specs.Rule.{MapsWorld, IsSlot, IsIdle, HasRow, HasMaking, DoesSo, KnowsMap, AreRuns, Fits, AreSo, Holds, KeepsFor, caller_at, place_of}
+use Rattle.papaya_views.specs.Rule.{MapsWorld, IsSlot, IsIdle, HasRow, HasMaking, DoesSo, KnowsMap, AreRuns, Fits, AreSo, Holds, KeepsFor, caller_at, acts_in}
 use Rattle.papaya_views.specs.Told.{told, told_by, made_after}
 use Rattle.papaya_views.specs.declared.view.Run.{Run}
 use Rattle.papaya_views.specs.declared.view.View.{View}
@@ -73,7 +73,7 @@ module _ {K V S : Type 0} (same : K → K → Bool) (hash : S → K → ℕ) (fi
   fits = so.seats id v at_id
 
   abbrev place : ℕ
-  place = place_of v.slot
+  place = acts_in v.under v.slot
 
   abbrev i : ℕ
   i = caller_at id place
@@ -84,7 +84,7 @@ module _ {K V S : Type 0} (same : K → K → Bool) (hash : S → K → ℕ) (fi
     has_row : HasRow scene i slot_view.Rests
     has_row =
         subst (λ (x : SlotView (Node K V)). HasRow scene i x) rests
-        (subst (λ (x : Work K V S). DoesSo same hash scene i v.slot v.map x) free fits.does)
+        (subst (λ (x : Work K V S). DoesSo same hash scene i v.under v.slot v.map x) free fits.does)
 
     abbrev m : ℕ
     m = so.fresh.0
@@ -141,6 +141,7 @@ module _ {K V S : Type 0} (same : K → K → Bool) (hash : S → K → ℕ) (fi
       memory = so.memory;
       own = record {
         slot = fits.slot;
+        aside = fits.aside;
         does = (rests, record { making = b; here = at_same scene.makers i (Some b) i refl; map = refl; hashes = refl; is = refl; calls = has_row.calls }, has_row.row);
         map = map_on same hash scene n id place fits.slot fixed.batch_size None leaves v.map fits.map;
         held = tt;
@@ -153,6 +154,8 @@ module _ {K V S : Type 0} (same : K → K → Bool) (hash : S → K → ℕ) (fi
       leaves = leaves;
       theirs = λ j t a b x ne at uses e. cc e;
       alone = same_slot same hash fixed s h id v w at_id refl;
+      under = λ x at. ap (λ (y : View K V S). y.under) (same_some v x (sym at_id ∙ at));
+      leant = inl (refl, λ x at. ap (λ (y : View K V S). y.slot) (same_some v x (sym at_id ∙ at)));
       fresh = (
         m + 1,
         ((λ a above. so.fresh.1.0 a (omega (arith, above))), (λ j d is. fresh_then j d is (cases_eq j i))),
@@ -169,7 +172,7 @@ module _ {K V S : Type 0} (same : K → K → Bool) (hash : S → K → ℕ) (fi
   -- it makes a map, and takes a step
   module _ (m : ℕ) (hasher : S) (machine : NewMap) (works : v.work ≡ Makes m hasher machine) where
     does : (v.slot ≡ slot_view.Rests) × HasMaking scene i m (hash hasher) machine × (scene.world.row i ≡ Rests)
-    does = subst (λ (x : Work K V S). DoesSo same hash scene i v.slot v.map x) works fits.does
+    does = subst (λ (x : Work K V S). DoesSo same hash scene i v.under v.slot v.map x) works fits.does
 
     acts : AllMayStep V same hash fixed.batch_size fixed.roots slot_of scene × AllAreActs V same hash fixed.batch_size fixed.roots slot_of scene
     acts = steps_are_acts {V = V} same hash fixed.batch_size fixed.roots slot_of scene all
@@ -275,8 +278,8 @@ module _ {K V S : Type 0} (same : K → K → Bool) (hash : S → K → ℕ) (fi
             let its = same_map e (sym (at_same scene.makers i it j one) ∙ is) in let less = so.fresh.1.1 i d led.1 in omega (arith, its, less)
         fresh_on j e is (inr ne) = so.fresh.1.1 j e (sym (at_other scene.makers i it j ne) ∙ is)
 
-        come : (x : View K V S) → x.slot ≡ v.slot → Fits same hash n2 id x → Moved same hash fixed s h id (StepsMaking i granted.0) m2 x n2
-        come x slot_is own = record {
+        come : (x : View K V S) → x.slot ≡ v.slot → x.under ≡ v.under → Fits same hash n2 id x → Moved same hash fixed s h id (StepsMaking i granted.0) m2 x n2
+        come x slot_is under_is own = record {
           memory = memory_is ∙ sym did.step.memory;
           own = own;
           place = place;
@@ -285,6 +288,8 @@ module _ {K V S : Type 0} (same : K → K → Bool) (hash : S → K → ℕ) (fi
           leaves = step_leaves;
           theirs = λ j t a b y ne at uses e. cc e;
           alone = same_slot same hash fixed s h id v x at_id slot_is;
+          under = λ y at. under_is ∙ ap (λ (z : View K V S). z.under) (same_some v y (sym at_id ∙ at));
+          leant = inl (refl, λ y at. slot_is ∙ ap (λ (z : View K V S). z.slot) (same_some v y (sym at_id ∙ at)));
           fresh = (so.fresh.0, (none, (λ j e is. fresh_on j e is (cases_eq j i))), numbered_on s.world.doings (Does (StepsMaking i granted.0) ∷ []) 0 so.fresh.0 so.fresh.0 so.fresh.2 refl);
           row = knows_rests fixed n2 id x.slot (slot_is ∙ does.0);
         }
@@ -305,10 +310,10 @@ module _ {K V S : Type 0} (same : K → K → Bool) (hash : S → K → ℕ) (fi
           enders = none_ended (scene.enders i) refl;
         })
 
-        goes_by : (x : View K V S) (so_told : View K V S → Type 0) → stage ≡ n2 → x.slot ≡ v.slot → x.calls ≡ v.calls → ((other : Machine K V K) → x.work ≡ Calls other → ⊥) → x.held ≡ [] → Fits same hash n2 id x
+        goes_by : (x : View K V S) (so_told : View K V S → Type 0) → stage ≡ n2 → x.slot ≡ v.slot → x.under ≡ v.under → x.calls ≡ v.calls → ((other : Machine K V K) → x.work ≡ Calls other → ⊥) → x.held ≡ [] → Fits same hash n2 id x
             → so_told x → Goes (Holds same hash fixed) KeepsFor s m2 id so_told
-        goes_by x so_told comes slot_is calls_are no_call none own is =
-            moved same hash fixed s h id v at_id (StepsMaking i granted.0) step_may n2 comes m2 x (come x slot_is own)
+        goes_by x so_told comes slot_is under_is calls_are no_call none own is =
+            moved same hash fixed s h id v at_id (StepsMaking i granted.0) step_may n2 comes m2 x (come x slot_is under_is own)
             (record {
               own = ((λ a k. 0), tt);
               others = λ j ne theirs. refl;
@@ -336,9 +341,10 @@ module _ {K V S : Type 0} (same : K → K → Bool) (hash : S → K → ℕ) (fi
           → Goes (Holds same hash fixed) KeepsFor s m2 id so_told
       by so_told progress.Goes is came =
           let next = record d { machine = led.3 } in
-          goes_by scene.maps (Some next) stand_on so.fresh.1.0 (λ e one. ap (λ (x : Beginning K). x.map) (sym (same_some next e one))) (made_after v m hasher made.looks led.3 progress.Goes) so_told came refl refl (λ other on. cc on) refl
+          goes_by scene.maps (Some next) stand_on so.fresh.1.0 (λ e one. ap (λ (x : Beginning K). x.map) (sym (same_some next e one))) (made_after v m hasher made.looks led.3 progress.Goes) so_told came refl refl refl (λ other on. cc on) refl
           (record {
             slot = fits.slot;
+            aside = fits.aside;
             does = (does.0, record { making = next; here = at_same scene.makers i (Some next) i refl; map = its_map; hashes = its_hash; is = refl; calls = does.1.calls }, rows i ∙ does.2);
             map = map_still scene.maps (Some next) stand_on so.fresh.1.0 (λ e one. ap (λ (x : Beginning K). x.map) (sym (same_some next e one)));
             held = tt;
@@ -348,9 +354,10 @@ module _ {K V S : Type 0} (same : K → K → Bool) (hash : S → K → ℕ) (fi
           is
       by so_told progress.Waits is came = absurd came
       by so_told (progress.Refused fault) is came =
-          goes_by scene.maps None stand_on so.fresh.1.0 (λ e one. absurd (cc one)) (made_after v m hasher made.looks led.3 (progress.Refused fault)) so_told came refl refl (λ other on. cc on) refl
+          goes_by scene.maps None stand_on so.fresh.1.0 (λ e one. absurd (cc one)) (made_after v m hasher made.looks led.3 (progress.Refused fault)) so_told came refl refl refl (λ other on. cc on) refl
           (record {
             slot = fits.slot;
+            aside = fits.aside;
             does = over scene.maps None stand_on so.fresh.1.0 (λ e one. absurd (cc one)) refl;
             map = map_still scene.maps None stand_on so.fresh.1.0 (λ e one. absurd (cc one));
             held = tt;
@@ -360,9 +367,10 @@ module _ {K V S : Type 0} (same : K → K → Bool) (hash : S → K → ℕ) (fi
           is
       by so_told (progress.Done setting) is (it, is_made, came) =
           goes_by (with_at scene.maps d.map (Some it)) None (λ a r here. stand_more it a r here (cases_eq a d.map)) (none_more it) (λ e one. absurd (cc one))
-          (made_after v m hasher made.looks led.3 (progress.Done setting)) so_told came refl refl (λ other on. cc on) refl
+          (made_after v m hasher made.looks led.3 (progress.Done setting)) so_told came refl refl refl (λ other on. cc on) refl
           (record {
             slot = fits.slot;
+            aside = fits.aside;
             does = over (with_at scene.maps d.map (Some it)) None (λ a r here. stand_more it a r here (cases_eq a d.map)) (none_more it) (λ e one. absurd (cc one)) refl;
             map = (it, ap (with_at scene.maps d.map (Some it)) (sym its_map) ∙ at_same scene.maps d.map (Some it) d.map refl, is_made.setting_is, is_made.hash_is ∙ its_hash);
             held = tt;

@@ -3,7 +3,7 @@ use Rattle.std.specs.Prelude.{◌≢◌, Option, Some, None}
 use Rattle.std.proofs.Common.{◌≡◌, ℕ, Bool, ◌⊎◌, inl, inr, refl, sym, subst, ap, ◌∙◌}
 use Rattle.std.proofs.lemmas.Bool.{cases_eq}
 use Rattle.seize_words.specs.Mem.{Mem}
-use Rattle.papaya_tables.specs.Given.SeizeWorld.{IsInside}
+use Rattle.papaya_tables.specs.Given.SeizeWorld.{Rests, IsInside}
 use Rattle.papaya_tables.specs.Nodes.{deferred_word}
 use Rattle.papaya_tables.specs.declared.node.Node.{Node}
 use Rattle.papaya_raw.specs.declared.machines.machine.Machine.{Machine}
@@ -20,9 +20,9 @@ use Rattle.papaya_acts.specs.Leads.{AllStand}
 use Rattle.papaya_looks.proofs.Given.CallersTogether.Came.{came_reached}
 use Rattle.seize_alone.proofs.Histories.Reached.{Reached}
 use Rattle.seize_acts.proofs.Answers.{same_some}
-use Rattle.seize_views.specs.declared.view.Has.TheVariants.{Nothing as NoBlock}
-use Rattle.seize_views.specs.declared.view.View.TheVariants as slot_view
-use Rattle.papaya_views.specs.Rule.{HasRow, IsSlot, DoesSo, caller_at, IsFresh}
+use Rattle.seize_views.specs.Rows.{row_of, use_of}
+use Rattle.seize_views.specs.declared.view.View.{View as SlotView}
+use Rattle.papaya_views.specs.Rule.{HasRow, IsSlot, IsUsedSo, IsAside, DoesSo, caller_at, section_of, IsFresh}
 use Rattle.papaya_views.specs.Told.{call_after}
 use Rattle.papaya_views.specs.declared.view.Map.{Map}
 use Rattle.papaya_views.specs.declared.view.Work.TheVariants.{Calls}
@@ -30,7 +30,7 @@ use Rattle.papaya_views.proofs.Made.{call_keeps}
 use Rattle.papaya_views.proofs.Numbers.{slot_at}
 use Rattle.papaya_views.proofs.Ran.{Ran, ran_stays, ran_ends_none, ran_keeps, ran_passes}
 use Rattle.papaya_views.proofs.Sections.{calls_ran}
-use Rattle.papaya_views.proofs.Leaves.{Leaves, section_on, inside_alike, call_here, call_other, call_elsewhere}
+use Rattle.papaya_views.proofs.Leaves.{Leaves, own_section, section_on, inside_alike, call_here, call_other, call_elsewhere}
 
 module _ {K V S : Type 0} (same : K → K → Bool) (hash : S → K → ℕ) (batch_size roots : ℕ) (s : Scene K V) (all : AllStand same hash batch_size roots slot_of s) (id t m : ℕ)
     (its_slot : IsSlot t) (it : Standing K) (stands : s.maps m ≡ Some it) (u : UnderWay K V K) (here : s.calls m (caller_at id t) ≡ Some u) where
@@ -93,36 +93,49 @@ module _ {K V S : Type 0} (same : K → K → Bool) (hash : S → K → ℕ) (ba
         none n is (inl e) = let no = sym (ap s.maps e) ∙ is in absurd (cc (no, stands))
         none n is (inr ne) = subst (λ (o : Option (Standing K)). IsSameMap o (did.maps2 n)) is (did.others n ne)
 
-    -- once the call has ended its caller has nothing under way
-    ended : did.next ≡ None → HasRow after i (slot_view.Inside t NoBlock)
-    ended none = record {
-      row = did.rests none;
-      slot = inside_alike (did.w2.uses t) (section_on same hash s after id t its_slot batch_size None step_leaves t (λ a e. cc e) inside);
-      calls = λ n. calls_none n (cases_eq n m);
-      makers = none_made (s.makers i) refl;
-      enders = none_ended (s.enders i) refl;
-    }
-      where
-        calls_none : (n : ℕ) → (n ≡ m) ⊎ (n ≢ m) → with_call s.calls m i did.next n i ≡ None
-        calls_none n (inl e) = ap (λ (a : ℕ). with_call s.calls m i did.next a i) e ∙ call_here s.calls m i did.next ∙ none
-        calls_none n (inr ne) = call_elsewhere s.calls m i did.next n ne ∙ only n ne (s.calls n i) refl
+    module _ (under : Option (ℕ × ℕ)) (slot : SlotView (Node K V)) (aside : IsAside under slot) (section : section_of under slot ≡ Some t) where
+      within : IsInside (did.w2.uses t)
+      within = section_on same hash s after id t its_slot batch_size None step_leaves t (λ a e. cc e) inside
 
-    at_slot : slot_of i ≡ t
-    at_slot = slot_at id t its_slot
+      -- its slot is used so, if it holds one, and no row is under way
+      used : (under : Option (ℕ × ℕ)) → IsAside under slot → section_of under slot ≡ Some t → IsUsedSo did.w2 (use_of slot) × (row_of slot ≡ Rests)
+      used None aside section =
+          let is = own_section slot t section in (
+            subst (λ (x : SlotView (Node K V)). IsUsedSo did.w2 (use_of x)) (sym is) (inside_alike (did.w2.uses t) within),
+            ap (λ (x : SlotView (Node K V)). row_of x) is,
+          )
+      used (Some leant) aside section = (subst (λ (x : SlotView (Node K V)). IsUsedSo did.w2 (use_of x)) (sym aside) tt, ap (λ (x : SlotView (Node K V)). row_of x) aside)
 
-    -- or it goes on
-    goes_as : (map : Map S) → map.number ≡ m → (x : UnderWay K V K) → did.next ≡ Some x → machine_of x ≡ machine
-        → DoesSo same hash after i (slot_view.Inside t NoBlock) (Some map) (Calls machine)
-    goes_as map number x is one = (
-      t,
-      refl,
-      section_on same hash s after id t its_slot batch_size None step_leaves t (λ a e. cc e) inside,
-      record { call = x; here = ap (λ (a : ℕ). with_call s.calls m i did.next a i) number ∙ call_here s.calls m i did.next ∙ is; is = one },
-      subst (λ (a : ℕ). IsRowOn a (did.w2.row i)) at_slot (did.slots.on_slot (subst (λ (a : ℕ). IsRowOn a (s.world.row i)) (sym at_slot) on_row)),
-    )
+      -- once the call has ended its caller has nothing under way
+      ended : did.next ≡ None → HasRow after i slot
+      ended none = record {
+        row = did.rests none ∙ sym (used under aside section).1;
+        slot = (used under aside section).0;
+        calls = λ n. calls_none n (cases_eq n m);
+        makers = none_made (s.makers i) refl;
+        enders = none_ended (s.enders i) refl;
+      }
+        where
+          calls_none : (n : ℕ) → (n ≡ m) ⊎ (n ≢ m) → with_call s.calls m i did.next n i ≡ None
+          calls_none n (inl e) = ap (λ (a : ℕ). with_call s.calls m i did.next a i) e ∙ call_here s.calls m i did.next ∙ none
+          calls_none n (inr ne) = call_elsewhere s.calls m i did.next n ne ∙ only n ne (s.calls n i) refl
 
-    pub own_does : (map : Map S) → map.number ≡ m → (end : Progress (Node K V)) → GoesOnAs machine end did.next
-        → DoesSo same hash after i (slot_view.Inside t NoBlock) (Some map) (call_after machine end)
-    own_does map number (progress.Done answer) on = ended on
-    own_does map number (progress.Refused fault) on = ended on
-    own_does map number _ on = goes_as map number on.0 on.1 on.2
+      at_slot : slot_of i ≡ t
+      at_slot = slot_at id t its_slot
+
+      -- or it goes on
+      goes_as : (map : Map S) → map.number ≡ m → (x : UnderWay K V K) → did.next ≡ Some x → machine_of x ≡ machine
+          → DoesSo same hash after i under slot (Some map) (Calls machine)
+      goes_as map number x is one = (
+        t,
+        section,
+        within,
+        record { call = x; here = ap (λ (a : ℕ). with_call s.calls m i did.next a i) number ∙ call_here s.calls m i did.next ∙ is; is = one },
+        subst (λ (a : ℕ). IsRowOn a (did.w2.row i)) at_slot (did.slots.on_slot (subst (λ (a : ℕ). IsRowOn a (s.world.row i)) (sym at_slot) on_row)),
+      )
+
+      pub own_does : (map : Map S) → map.number ≡ m → (end : Progress (Node K V)) → GoesOnAs machine end did.next
+          → DoesSo same hash after i under slot (Some map) (call_after machine end)
+      own_does map number (progress.Done answer) on = ended on
+      own_does map number (progress.Refused fault) on = ended on
+      own_does map number _ on = goes_as map number on.0 on.1 on.2

@@ -1,6 +1,6 @@
 -- Which pair a call was begun with stays as it was begun, and it is the one that a step hands back.
 use Rattle.std.specs.Prelude.{Option, Some, None, Result, Ok, Err}
-use Rattle.std.proofs.Common.{◌≡◌, ℕ, Bool, List, [], ◌∷◌, ◌⊎◌, inl, inr, refl, sym, subst, ap, ◌∙◌}
+use Rattle.std.proofs.Common.{◌≡◌, ℕ, Bool, List, [], ◌∷◌, inl, inr, refl, sym, subst, ap, ◌∙◌}
 use Rattle.seize_words.specs.Mem.{Mem}
 use Rattle.papaya_tables.specs.Given.SeizeDeclared.progress.Progress.{Progress as Counting}
 use Rattle.papaya_tables.specs.Given.SeizeDeclared.progress.Progress.TheVariants as counting

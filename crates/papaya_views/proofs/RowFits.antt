@@ -12,6 +12,8 @@ use Rattle.papaya_acts.specs.Given.ScenesScene.{Scene, slot_of}
 use Rattle.papaya_acts.specs.Acts.{Act}
 use Rattle.papaya_acts.specs.Doings.{Does}
 use Rattle.papaya_acts.specs.Leads.{AllStand}
+use Rattle.seize_acts.proofs.Answers.{same_some}
+use Rattle.seize_seats.specs.Errands.{IsUnlent}
 use Rattle.seize_seats.specs.State.{State, view_of}
 use Rattle.seize_views.specs.Rows.{row_of, use_of, IsPlain, IsShort, IsKnown, IsBounded}
 use Rattle.seize_views.specs.declared.view.Began.{Began}
@@ -22,12 +24,13 @@ use Rattle.seize_views.specs.declared.view.Why.TheVariants.{Retiring, Ending}
 use Rattle.seize_views.proofs.InWorld.{slot_held, slot_of as same_number}
 use Rattle.seize_views.proofs.Moved.{not_vacant}
 use Rattle.papaya_views.specs.Listed.{AreNumbered}
-use Rattle.papaya_views.specs.Rule.{MapsWorld, IsSlot, IsIdle, IsUsedSo, HasRow, DoesSo, Fits, AreSo, KnowsRow, Holds, IsFresh, caller_at, place_of, held_slot}
+use Rattle.papaya_views.specs.Rule.{MapsWorld, IsSlot, IsIdle, IsUsedSo, HasRow, DoesSo, Fits, AreSo, KnowsRow, Holds, IsFresh, Leans, caller_at, acts_in, section_of, place_of, held_slot}
 use Rattle.papaya_views.specs.declared.view.Map.{Map}
 use Rattle.papaya_views.specs.declared.view.View.{View}
 use Rattle.papaya_views.specs.declared.view.Work.{Work}
 use Rattle.papaya_views.specs.declared.view.Work.TheVariants.{Nothing, Calls, Makes}
-use Rattle.papaya_views.proofs.Leaves.{Leaves, alike_vacant, map_on, own_idle}
+use Rattle.papaya_views.proofs.Knows.{row_of_it}
+use Rattle.papaya_views.proofs.Leaves.{Leaves, own_slot, own_section, alike_vacant, map_on, own_idle}
 use Rattle.papaya_views.proofs.Moved.{scene_of, all_stand, are_so, Moved}
 
 -- the place is that of the slot that is held
@@ -57,7 +60,7 @@ rest_bounded fixed n c (slot_view.Under k t d) e = tt
 rest_bounded fixed n c (slot_view.Busy t) e = tt
 
 module _ {K V S : Type 0} (same : K → K → Bool) (hash : S → K → ℕ) (fixed : Fixed) (s : State (Node K V) (View K V S) (MapsWorld K V S)) (h : Holds same hash fixed s)
-    (id : ℕ) (v : View K V S) (at_id : view_of s id ≡ Some v) where
+    (id : ℕ) (v : View K V S) (at_id : view_of s id ≡ Some v) (own : v.under ≡ None) where
   abbrev pub scene : Scene K V
   scene = scene_of same hash fixed s h
 
@@ -76,6 +79,16 @@ module _ {K V S : Type 0} (same : K → K → Bool) (hash : S → K → ℕ) (fi
   abbrev pub i : ℕ
   i = caller_at id place
 
+  -- it acts in the slot that it holds
+  acts_there : acts_in v.under v.slot ≡ place
+  acts_there = ap (λ (u : Option (ℕ × ℕ)). acts_in u v.slot) own
+
+  pub its_place : IsSlot place
+  its_place = subst IsSlot acts_there fits.slot
+
+  idle_else : (t : ℕ) → IsSlot t → t ≢ place → IsIdle scene (caller_at id t)
+  idle_else t is ne = fits.idle t is (λ e. ne (e ∙ acts_there))
+
   pub knows : KnowsRow fixed scene id v.slot
   knows = subst (λ (x : Scene K V). KnowsRow fixed x id v.slot) h.scene (h.rows id v at_id)
 
@@ -87,24 +100,27 @@ module _ {K V S : Type 0} (same : K → K → Bool) (hash : S → K → ℕ) (fi
       there o e f =
           subst (λ (u : Use). IsUsedAlike a u) none (subst (λ (p : Option (ℕ × Use)). IsUsedSo scene.world p) e f)
 
-      by : (work : Work K V S) (map : Option (Map S)) → DoesSo same hash scene (caller_at j (place_of x.slot)) x.slot map work → ⊥
+      lone : x.under ≡ None
+      lone = own_slot x.under x.slot t a (so.seats j x at).aside uses
+
+      by : (work : Work K V S) (map : Option (Map S)) → DoesSo same hash scene (caller_at j (acts_in x.under x.slot)) x.under x.slot map work → ⊥
       by Nothing map d = not_vacant x.slot t a uses (alike_vacant a (there (use_of x.slot) uses d.slot))
       by (Calls p) None d = d
       by (Calls p) (Some map) d =
-          let mine = sym (ap use_of d.1) ∙ uses in
+          let mine = sym (ap use_of (own_section x.slot d.0 (ap (λ (u : Option (ℕ × ℕ)). section_of u x.slot) (sym lone) ∙ d.1))) ∙ uses in
           subst (λ (u : Use). IsInside u) none (subst (λ (b : ℕ). IsInside (scene.world.uses b)) (same_number (d.0, Inside 0) (t, a) mine) d.2)
       by (Makes m hasher opening) map d = let two = sym (ap use_of d.0) ∙ uses in cc two
 
   module _ (free : v.work ≡ Nothing) where
     pub its : HasRow scene i v.slot
-    its = subst (λ (x : Work K V S). DoesSo same hash scene i v.slot v.map x) free fits.does
+    its = row_of_it same hash scene id v fits own free
 
     module _ (u : SlotView (Node K V)) (began : Began) (n : World (Node K V)) (maps2 : ℕ → Option (Standing K)) (same_maps : (m : ℕ) → IsSameMap (scene.maps m) (maps2 m)) where
       abbrev pub next : Scene K V
       next = record scene { world = n; maps = maps2 }
 
       abbrev pub w : View K V S
-      w = record { slot = u; map = v.map; work = Nothing; looks = []; held = []; began = began; calls = v.calls }
+      w = record { slot = u; under = None; map = v.map; work = Nothing; looks = []; held = []; began = began; calls = v.calls }
 
       pub maps_on : (m : ℕ) (r : Standing K) → scene.maps m ≡ Some r → (r2 : Standing K) × (maps2 m ≡ Some r2) × (r2.setting ≡ r.setting) × (r2.hash ≡ r.hash)
       maps_on m r is =
@@ -132,11 +148,11 @@ module _ {K V S : Type 0} (same : K → K → Bool) (hash : S → K → ℕ) (fi
             subst (λ (a : ℕ). HasRow next (caller_at id a) u) (sym e)
             (record { row = row; slot = used; calls = its.calls; makers = its.makers; enders = its.enders })
         does (inr (ne, rests)) =
-            let f = own_idle same hash scene next id place fits.slot fixed.batch_size (use_of v.slot) leaves fits.idle there its_slot ne in
+            let f = own_idle same hash scene next id place its_place fixed.batch_size (use_of v.slot) leaves idle_else there its_slot ne in
             record { row = f.row ∙ sym rests; slot = used; calls = f.calls; makers = f.makers; enders = f.enders }
 
         idle : (there ≡ place) ⊎ ((there ≢ place) × (row_of u ≡ Rests)) → (a : ℕ) → IsSlot a → a ≢ there → (a ≡ place) ⊎ (a ≢ place) → IsIdle next (caller_at id a)
-        idle k a is other (inr ne) = own_idle same hash scene next id place fits.slot fixed.batch_size (use_of v.slot) leaves fits.idle a is ne
+        idle k a is other (inr ne) = own_idle same hash scene next id place its_place fixed.batch_size (use_of v.slot) leaves idle_else a is ne
         idle (inl e) a is other (inl here) = absurd (other (here ∙ sym e))
         idle (inr (ne, rests)) a is other (inl here) =
             subst (λ (b : ℕ). IsIdle next (caller_at id b)) (sym here)
@@ -146,25 +162,28 @@ module _ {K V S : Type 0} (same : K → K → Bool) (hash : S → K → ℕ) (fi
         bounds b (inl e) = subst (λ (a : ℕ). IsBounded deferred_word fixed n (caller_at id a) u) (sym e) b
         bounds b (inr (ne, rests)) = rest_bounded fixed n (caller_at id there) u rests
 
-        pub go : (act : Act K V S) → AreNumbered 0 (s.world.doings ++ Does act ∷ []) so.fresh.0 → (m : Mem (Node K V)) → m ≡ n.memory → IsPlain u → IsShort u → IsKnown n u → IsBounded deferred_word fixed n i u
+        pub go : IsUnlent Leans id s → (act : Act K V S) → AreNumbered 0 (s.world.doings ++ Does act ∷ []) so.fresh.0 → (m : Mem (Node K V)) → m ≡ n.memory → IsPlain u → IsShort u → IsKnown n u → IsBounded deferred_word fixed n i u
             → ((j t : ℕ) (a b : Use) (x : View K V S) → j ≢ id → view_of s j ≡ Some x → use_of x.slot ≡ Some (t, a) → use_of u ≡ Some (t, b) → ⊥)
             → Moved same hash fixed s h id act m w next
-        go act numbered m memory plain short known bounded alone = record {
+        go unlent act numbered m memory plain short known bounded alone = record {
           memory = memory;
           own = record {
             slot = its_slot;
             does = does (goes_on (cases_eq there place));
-            map = map_on same hash scene next id place fits.slot fixed.batch_size (use_of v.slot) leaves v.map fits.map;
+            aside = tt;
+            map = map_on same hash scene next id place its_place fixed.batch_size (use_of v.slot) leaves v.map fits.map;
             held = tt;
             pair = tt;
             idle = λ a is other. idle (goes_on (cases_eq there place)) a is other (cases_eq a place);
           };
           place = place;
-          its_slot = fits.slot;
+          its_slot = its_place;
           mine = use_of v.slot;
           leaves = leaves;
           theirs = λ j t a b x ne at uses mine. ne (so.apart j id t a b x v at at_id uses mine);
           alone = alone;
+          under = λ x at. sym own ∙ ap (λ (y : View K V S). y.under) (same_some v x (sym at_id ∙ at));
+          leant = inr unlent;
           fresh = (so.fresh.0, fresh_on, numbered);
           row = record { plain = plain; short = short; known = known; bounded = bounds bounded (goes_on (cases_eq there place)) };
         }

@@ -1,5 +1,5 @@
 -- What the first operation of a lookup tells its seat, on a map that has no table; and what the operation of a row does.
-use Rattle.std.specs.Prelude.{ℕ, ◌==◌, Bool, List, [], ◌∷◌, Some}
+use Rattle.std.specs.Prelude.{ℕ, ◌==◌, Bool, List, [], ◌∷◌, Some, None}
 use Rattle.std.proofs.Common.{inl, refl, ap}
 use Rattle.seize_words.specs.Mem.{Mem}
 use Rattle.seize_words.specs.Op.{Load, Store, Found, Stored}
@@ -56,7 +56,7 @@ abbrev ran : Progress (Node ℕ ℕ) → List (Run ℕ ℕ)
 ran told = record { began = machine; told = told } ∷ []
 
 abbrev with_work : Work ℕ ℕ ℕ → View ℕ ℕ ℕ
-with_work work = record { slot = Inside 0 NoBlock; map = Some map; work = work; looks = []; held = []; began = NotYet; calls = ran untold }
+with_work work = record { slot = Inside 0 NoBlock; under = None; map = Some map; work = work; looks = []; held = []; began = NotYet; calls = ran untold }
 
 abbrev answered : KeyAnswer → View ℕ ℕ ℕ
 answered answer = record (with_work Nothing) { calls = ran (Done (Key answer)) }

@@ -9,14 +9,14 @@ use Rattle.papaya_acts.specs.Lists.{nothing_done}
 use Rattle.papaya_acts.proofs.Lists.{lists_determine}
 use Rattle.seize_seats.specs.State.{State, view_of}
 use Rattle.seize_views.specs.Rows.{use_of}
-use Rattle.seize_views.proofs.Lists.{with_last, none_before}
+use Rattle.seize_views.proofs.Lists.{with_last, with_more, none_before}
 use Rattle.papaya_views.specs.Promises.{RulesStart, SeatsCome}
 use Rattle.papaya_views.specs.Listed.{calls_of, seen_of, IsNewest}
 use Rattle.papaya_views.specs.Looks.{shown_in}
-use Rattle.papaya_views.specs.Rule.{MapsWorld, Fits, KnowsRow, AreRuns, HasSeen, IsIdle, IsSlot, caller_at, place_of, at_rest, runs_of}
+use Rattle.papaya_views.specs.Rule.{MapsWorld, Fits, KnowsRow, AreRuns, HasSeen, IsIdle, IsSlot, caller_at, IsLeant, acts_in, at_rest, runs_of}
 use Rattle.papaya_views.specs.declared.view.Run.{Run}
 use Rattle.papaya_views.specs.declared.view.View.{View}
-use Rattle.papaya_views.specs.declared.view.Work.TheVariants.{Nothing, Calls}
+use Rattle.papaya_views.specs.declared.view.Work.TheVariants.{Calls}
 use Rattle.papaya_views.proofs.Knows.{knows_rests}
 use Rattle.papaya_views.proofs.Numbers.{first_slot}
 
@@ -35,6 +35,7 @@ module _ {K S : Type 0} (V : Type 0) (same : K → K → Bool) (hash : S → K �
             memory = refl;
             seats = λ j v e. absurd (cc e);
             unborn = λ j t is e. record { calls = λ m. refl; makers = refl; enders = refl; row = refl };
+            leant = λ j n t v e f. absurd (cc e);
             apart = λ j k t a b v u e f p q. absurd (cc e);
             fresh = (0, ((λ m above. refl), (λ i b is. absurd (cc is))), refl);
             unended = λ o. refl;
@@ -57,6 +58,7 @@ module _ {K S : Type 0} (V : Type 0) (same : K → K → Bool) (hash : S → K �
       let first = idle 0 first_slot in
       record {
         slot = first_slot;
+        aside = tt;
         does = record { row = first.row; slot = tt; calls = first.calls; makers = first.makers; enders = first.enders };
         map = tt;
         held = tt;
@@ -77,6 +79,7 @@ module _ {K S : Type 0} (V : Type 0) (same : K → K → Bool) (hash : S → K �
         memory = h.so.memory;
         seats = λ j x e. fit j x (with_last s.views j at_rest x e);
         unborn = λ j t is e. h.so.unborn j t is (none_before s.views j at_rest e);
+        leant = λ j n t x e f. leant j n t x f (with_last s.views j at_rest x e);
         apart = λ j k t a b x y e f p q. two j k t a b x y p q (with_last s.views j at_rest x e) (with_last s.views k at_rest y f);
         fresh = h.so.fresh;
         unended = h.so.unended;
@@ -103,12 +106,12 @@ module _ {K S : Type 0} (V : Type 0) (same : K → K → Bool) (hash : S → K �
       as_came j x (inl e) = ap runs_of e
       as_came j x (inr e) = ap runs_of e.0 ∙ ap (λ (y : View K V S). y.calls) e.1
 
-      newest : (j : ℕ) (x : View K V S) (machine : Machine K V K) → x.work ≡ Calls machine → Came s j x → IsNewest (caller_at j (place_of x.slot)) (calls_of j s.world.doings h.reached.1 [])
+      newest : (j : ℕ) (x : View K V S) (machine : Machine K V K) → x.work ≡ Calls machine → Came s j x → IsNewest (caller_at j (acts_in x.under x.slot)) (calls_of j s.world.doings h.reached.1 [])
       newest j x machine works (inl e) = h.newest j x machine e works
       newest j x machine works (inr e) = let none = ap (λ (y : View K V S). y.work) e.1 in absurd (cc (none, works))
 
       seen : (j : ℕ) (x : View K V S) → Came s j x
-          → HasSeen (caller_at j (place_of x.slot)) (calls_of j s.world.doings h.reached.1 [])
+          → HasSeen (caller_at j (acts_in x.under x.slot)) (calls_of j s.world.doings h.reached.1 [])
           (seen_of V same hash fixed.batch_size fixed.roots slot_of h.course j s.world.doings (nothing_done V same hash fixed.batch_size fixed.roots slot_of h.course) h.reached h.led None) x.held
       seen j x (inl e) = h.seen j x e
       seen j x (inr e) = λ b y shown. (let none : shown_in (at_rest {K = K} {V = V} {S = S}).held b ≡ Some y = ap (λ (z : View K V S). shown_in z.held b) e.1 ∙ shown in absurd (cc none))
@@ -116,6 +119,10 @@ module _ {K S : Type 0} (V : Type 0) (same : K → K → Bool) (hash : S → K �
       as_before : (j : ℕ) (o : Option (View K V S)) → slice_get (s.views ++ at_rest ∷ []) j ≡ o → runs_of (view_of s j) ≡ runs_of o
       as_before j None e = ap runs_of (none_before s.views j at_rest e)
       as_before j (Some x) e = as_came j x (with_last s.views j at_rest x e)
+
+      leant : (j n t : ℕ) (x : View K V S) → x.under ≡ Some (n, t) → Came s j x → IsLeant (λ k. slice_get (s.views ++ at_rest ∷ []) k) n t
+      leant j n t x f (inl e) = let base = h.so.leant j n t x e f in (base.0, with_more s.views n at_rest base.0 base.1, base.2)
+      leant j n t x f (inr e) = let none = ap (λ (y : View K V S). y.under) e.1 in absurd (cc (none, f))
 
       no_slot : (x : View K V S) (t : ℕ) (a : Use) → at_rest ≡ x → use_of x.slot ≡ Some (t, a) → ⊥
       no_slot x t a e p = let f = ap (λ (y : View K V S). use_of y.slot) e in cc (f, p)

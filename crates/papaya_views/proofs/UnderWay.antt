@@ -1,5 +1,5 @@
 -- What is so of a seat that has a call under way: the next step of it may be taken, and is that of an act.
-use Rattle.std.specs.Prelude.{◌++◌, Option, Some, None, if◌then◌else◌}
+use Rattle.std.specs.Prelude.{Option, Some, None, if◌then◌else◌}
 use Rattle.std.specs.Option.{is_none}
 use Rattle.std.proofs.Common.{◌≡◌, ℕ, Bool, List, ◌⊎◌, inl, inr, sym, subst, ap, ◌∙◌, refl, true, false, [], ◌∷◌}
 use Rattle.seize_words.specs.Mem.{Mem, Can, Took, value_at}
@@ -43,19 +43,16 @@ use Rattle.seize_acts.specs.Answers.{Grant, then_on}
 use Rattle.seize_acts.proofs.Answers.{same_some}
 use Rattle.seize_seats.specs.State.{State, view_of, Goes}
 use Rattle.seize_views.specs.declared.view.Fixed.{Fixed}
-use Rattle.seize_views.specs.declared.view.Has.TheVariants.{Nothing as NoBlock}
-use Rattle.seize_views.specs.declared.view.View.{View as SlotView}
-use Rattle.seize_views.specs.declared.view.View.TheVariants as slot_view
 use Rattle.papaya_views.specs.Listed.{Called, calls_of, calls_then, has_told, IsNewest}
-use Rattle.papaya_views.specs.Rule.{MapsWorld, DoesSo, KnowsMap, KnowsPair, AreRuns, Fits, AreSo, Holds, KeepsFor, caller_at, place_of, IsInSection, IsOfCall, AllHeld}
+use Rattle.papaya_views.specs.Rule.{MapsWorld, DoesSo, KnowsMap, KnowsPair, AreRuns, Fits, AreSo, Holds, KeepsFor, caller_at, acts_in, section_of, IsInSection, IsOfCall, AllHeld}
 use Rattle.papaya_views.specs.Reclaims.{IsNextOf, copies_at_row, disposes_at_row, calls_at_row, reserves_at_row, sweeps_at_row, is_at_row}
 use Rattle.papaya_views.specs.Told.{HandsBack, call_after, called, newest_told}
 use Rattle.papaya_views.specs.declared.view.Map.{Map}
 use Rattle.papaya_views.specs.declared.view.View.{View}
 use Rattle.papaya_views.specs.declared.view.Work.{Work}
 use Rattle.papaya_views.specs.declared.view.Work.TheVariants.{Calls}
-use Rattle.papaya_views.proofs.Knows.{knows_inside}
-use Rattle.papaya_views.proofs.Leaves.{Leaves, call_here, inside_of, own_idle, map_on}
+use Rattle.papaya_views.proofs.Knows.{knows_within}
+use Rattle.papaya_views.proofs.Leaves.{Leaves, section_place, call_here, own_idle, map_on}
 use Rattle.papaya_views.proofs.Held.{value_of}
 use Rattle.papaya_views.proofs.Listed.{is_its, is_other, newest_on, newest_runs, numbered_on}
 use Rattle.papaya_views.proofs.Moved.{scene_of, all_stand, are_so, Moved, Adds, same_slot, moved}
@@ -85,28 +82,25 @@ module _ {K V S : Type 0} (same : K → K → Bool) (hash : S → K → ℕ) (fi
   fits = so.seats id v at_id
 
   abbrev pub place : ℕ
-  place = place_of v.slot
+  place = acts_in v.under v.slot
 
-  pub does : DoesSo same hash scene (caller_at id place) v.slot (Some map) (Calls machine)
+  pub does : DoesSo same hash scene (caller_at id place) v.under v.slot (Some map) (Calls machine)
   does =
-      subst (λ (x : Work K V S). DoesSo same hash scene (caller_at id place) v.slot (Some map) x) works
-      (subst (λ (x : Option (Map S)). DoesSo same hash scene (caller_at id place) v.slot x v.work) knows fits.does)
+      subst (λ (x : Work K V S). DoesSo same hash scene (caller_at id place) v.under v.slot (Some map) x) works
+      (subst (λ (x : Option (Map S)). DoesSo same hash scene (caller_at id place) v.under v.slot x v.work) knows fits.does)
 
   pub it : KnowsMap same hash scene (Some map)
   it = subst (λ (x : Option (Map S)). KnowsMap same hash scene x) knows fits.map
 
-  -- the slot that it holds is the one of its section
-  pub slot_is : v.slot ≡ slot_view.Inside place NoBlock
-  slot_is =
-      let same_place : place ≡ does.0 = ap (λ (x : SlotView (Node K V)). place_of x) does.1 in does.1 ∙ ap (λ (a : ℕ). slot_view.Inside a NoBlock) (sym same_place)
+  -- the slot in which it acts is the one of its section
+  pub section_is : section_of v.under v.slot ≡ Some place
+  section_is = does.1 ∙ ap (λ (a : ℕ). Some a) (sym (section_place v.under v.slot does.0 does.1))
 
   pub inside : IsInside (scene.world.uses place)
-  inside = inside_of same hash scene id place v NoBlock fits slot_is
+  inside = subst (λ (a : ℕ). IsInside (scene.world.uses a)) (sym (section_place v.under v.slot does.0 does.1)) does.2
 
   pub on_row : IsRowOn place (scene.world.row (caller_at id place))
-  on_row =
-      let same_place : place ≡ does.0 = ap (λ (x : SlotView (Node K V)). place_of x) does.1 in
-      subst (λ (a : ℕ). IsRowOn a (scene.world.row (caller_at id place))) (sym same_place) does.4
+  on_row = subst (λ (a : ℕ). IsRowOn a (scene.world.row (caller_at id place))) (sym (section_place v.under v.slot does.0 does.1)) does.4
 
   abbrev pub i : ℕ
   i = caller_at id place
@@ -237,7 +231,7 @@ module _ {K V S : Type 0} (same : K → K → Bool) (hash : S → K → ℕ) (fi
     of_on next _ b of on = of
 
     looked_held : is_incremental map.setting.mode ≡ true → (more : List (ℕ × Node K V)) → AllLooked scene.world.memory step_plan m2 (came.machine, came.progress) more
-        → AllHeld same hash n v.slot (call_after came.machine came.progress) more
+        → AllHeld same hash n v.under v.slot (call_after came.machine came.progress) more
     looked_held incremental [] each = tt
     looked_held incremental (look ∷ more) each = ((there, why (seen_lasts incremental m2 came.machine came.progress look.0 each.0)), looked_held incremental more each.2)
       where
@@ -245,11 +239,11 @@ module _ {K V S : Type 0} (same : K → K → Bool) (hash : S → K → ℕ) (fi
         there = ap (λ (x : Mem (Node K V)). value_at x look.0) (came.did.memory ∙ sym memory_is) ∙ each.1
 
         why : (holds place look.0 scene.world.log ≡ true) ⊎ ((IsOwnOf came.machine look.0 ⊎ IsNextOf came.machine look.0) × GoesOn came.progress)
-            → IsInSection same hash n v.slot look.0 ⊎ IsOfCall same hash (call_after {S = S} came.machine came.progress) look.0
-        why (inl held) = let g = leaves.held place look.0 (λ a e. cc e) inside held (none_over scene.world.log so.unended look.0) in inl (place, slot_is, g.0, g.1)
+            → IsInSection same hash n v.under v.slot look.0 ⊎ IsOfCall same hash (call_after {S = S} came.machine came.progress) look.0
+        why (inl held) = let g = leaves.held place look.0 (λ a e. cc e) inside held (none_over scene.world.log so.unended look.0) in inl (place, section_is, g.0, g.1)
         why (inr (of, on)) = inr (of_on came.machine came.progress look.0 of on)
 
-    held_then : (a : Bool) → is_incremental map.setting.mode ≡ a → AllHeld same hash n v.slot (call_after came.machine came.progress) (if a then looks else [])
+    held_then : (a : Bool) → is_incremental map.setting.mode ≡ a → AllHeld same hash n v.under v.slot (call_after came.machine came.progress) (if a then looks else [])
     held_then true incremental =
         looked_held incremental looks (subst (λ (e : Machine K V K × Progress (Node K V)). AllLooked scene.world.memory step_plan m2 e looks) end_is seen)
     held_then false incremental = tt
@@ -277,10 +271,10 @@ module _ {K V S : Type 0} (same : K → K → Bool) (hash : S → K → ℕ) (fi
     own = record {
       slot = fits.slot;
       does =
-          subst (λ (x : SlotView (Node K V)). DoesSo same hash n i x v.map (call_after came.machine came.progress)) (sym slot_is)
-          (subst (λ (x : Option (Map S)). DoesSo same hash n i (slot_view.Inside place NoBlock) x (call_after came.machine came.progress)) (sym knows)
+          subst (λ (x : Option (Map S)). DoesSo same hash n i v.under v.slot x (call_after came.machine came.progress)) (sym knows)
           (own_does same hash fixed.batch_size fixed.roots scene all id place map.number fits.slot came.standing came.stands came.call came.here inside on_row came.memory came.machine came.progress
-          came.did map refl came.progress came.did.goes_on));
+          came.did v.under v.slot fits.aside section_is map refl came.progress came.did.goes_on);
+      aside = fits.aside;
       map = map_on same hash scene n id place fits.slot fixed.batch_size None leaves v.map fits.map;
       held = held_then (is_incremental map.setting.mode) refl;
       pair = subst (λ (x : Option (Map S)). KnowsPair same hash n i x (call_after came.machine came.progress) (newest_told came.progress v.calls)) (sym knows) (pair_then came.progress);
@@ -300,13 +294,15 @@ module _ {K V S : Type 0} (same : K → K → Bool) (hash : S → K → ℕ) (fi
       leaves = leaves;
       theirs = λ j t a b x ne at uses e. cc e;
       alone = same_slot same hash fixed s h id v w at_id refl;
+      under = λ x at. ap (λ (y : View K V S). y.under) (same_some v x (sym at_id ∙ at));
+      leant = inl (refl, λ x at. ap (λ (y : View K V S). y.slot) (same_some v x (sym at_id ∙ at)));
       fresh = (
         so.fresh.0,
         step_fresh same hash fixed.batch_size fixed.roots scene all id place map.number fits.slot came.standing came.stands came.call came.here inside on_row came.memory came.machine came.progress
             came.did so.fresh.0 so.fresh.1,
         numbered_on s.world.doings (Does act ∷ []) 0 so.fresh.0 so.fresh.0 so.fresh.2 refl,
       );
-      row = knows_inside fixed n id place v.slot slot_is;
+      row = knows_within fixed n id place v.under v.slot fits.aside section_is;
     }
 
     -- what the step has told is what the call has told last
@@ -334,7 +330,7 @@ module _ {K V S : Type 0} (same : K → K → Bool) (hash : S → K → ℕ) (fi
         n.world.memory,
         ap (λ (q : Bool). if q then Some (i, n.world.memory) else before) (is_its id place fits.slot),
         its_newest,
-        value_of same hash n w.slot w.work b x w.held own.held shown,
+        value_of same hash n w.under w.slot w.work b x w.held own.held shown,
       );
     }
 

@@ -3,7 +3,7 @@ use Rattle.std.specs.Prelude.{◌≢◌, Option, Some, None, ◌/◌}
 use Rattle.std.proofs.Common.{◌≡◌, ℕ, ◌%◌, Bool, ◌⊎◌, inl, inr, refl, sym, subst}
 use Rattle.std.proofs.lemmas.Bool.{cases_eq}
 use Rattle.papaya_acts.specs.Given.ScenesScene.{Scene}
-use Rattle.papaya_views.specs.Rule.{IsSlot, IsIdle, DoesSo, Fits, caller_at, place_of}
+use Rattle.papaya_views.specs.Rule.{IsSlot, IsIdle, DoesSo, Fits, caller_at, acts_in}
 use Rattle.papaya_views.specs.declared.view.View.{View}
 use Rattle.papaya_views.proofs.Numbers.{its_caller, its_place}
 
@@ -14,14 +14,14 @@ module _ {K V S : Type 0} (same : K → K → Bool) (hash : S → K → ℕ) (sc
     pub seat : ℕ
     pub knows : View K V S
     pub here : view seat ≡ Some knows
-    pub caller : a ≡ caller_at seat (place_of knows.slot)
-    pub does : DoesSo same hash scene a knows.slot knows.map knows.work
+    pub caller : a ≡ caller_at seat (acts_in knows.under knows.slot)
+    pub does : DoesSo same hash scene a knows.under knows.slot knows.map knows.work
 
   in_place : (j t : ℕ) → IsSlot t → (o : Option (View K V S)) → view j ≡ o → IsIdle scene (caller_at j t) ⊎ Seated (caller_at j t)
   in_place j t is None e = inl (unborn j t is e)
-  in_place j t is (Some v) e = by (cases_eq t (place_of v.slot))
+  in_place j t is (Some v) e = by (cases_eq t (acts_in v.under v.slot))
     where
-      by : (t ≡ place_of v.slot) ⊎ (t ≢ place_of v.slot) → IsIdle scene (caller_at j t) ⊎ Seated (caller_at j t)
+      by : (t ≡ acts_in v.under v.slot) ⊎ (t ≢ acts_in v.under v.slot) → IsIdle scene (caller_at j t) ⊎ Seated (caller_at j t)
       by (inl own) = inr (subst (λ (a : ℕ). Seated (caller_at j a)) (sym own) (record { seat = j; knows = v; here = e; caller = refl; does = (seats j v e).does }))
       by (inr ne) = inl ((seats j v e).idle t is ne)
 

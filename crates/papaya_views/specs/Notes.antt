@@ -1,5 +1,5 @@
 -- What a seat knows of its slot and of its row, as it is noted for whoever has rows run.
-use Rattle.std.specs.Prelude.{List, Option, Some, None}
+use Rattle.std.specs.Prelude.{ℕ, List, Option, Some, None}
 use Rattle.papaya_tables.specs.declared.node.Node.{Node}
 use Rattle.seize_views.specs.Notes.{noted}
 use Rattle.seize_views.specs.Rows.{IsAtRest}
@@ -13,20 +13,21 @@ use Rattle.papaya_views.specs.declared.view.View.{View}
 use Rattle.papaya_views.specs.declared.view.Work.{Work}
 use Rattle.papaya_views.specs.declared.view.Work.TheVariants.{Nothing, Calls, Makes}
 
--- a seat that has something else under way, within the section of its slot or without one, is busy
+-- a seat that has something else under way, within the section of its slot or without one, is busy, and so is one that leans on another
 abbrev pub busy : {T : Type 0} → SlotView T → SlotView T
 busy (Inside t has) = Busy (Some t)
 busy slot = Busy None
 
 module _ {K V S : Type 0} where
-  abbrev pub row_known : SlotView (Node K V) → Work K V S → SlotView (Node K V)
-  row_known slot Nothing = slot
-  row_known slot (Calls machine) = busy slot
-  row_known slot (Makes m hasher opening) = Busy None
+  abbrev pub row_known : Option (ℕ × ℕ) → SlotView (Node K V) → Work K V S → SlotView (Node K V)
+  row_known (Some leant) slot work = Busy None
+  row_known None slot Nothing = slot
+  row_known None slot (Calls machine) = busy slot
+  row_known None slot (Makes m hasher opening) = Busy None
 
   -- nothing is done at a root, and nobody watches a section
   abbrev pub notes_of : View K V S → Noted (Node K V)
-  notes_of v = noted (row_known v.slot v.work) NoneYet v.began 0
+  notes_of v = noted (row_known v.under v.slot v.work) NoneYet v.began 0
 
   -- and beside that: the map that it knows, and the calls that it has begun
   abbrev pub beside_of : View K V S → Option (Map S) × List (Run K V)

@@ -16,7 +16,8 @@ use Rattle.papaya_raw.specs.declared.machines.progress.Progress.{Progress}
 use Rattle.papaya_looks.specs.Given.PointsSteps.{AreLawful}
 use Rattle.papaya_acts.specs.Acts.{Wanted}
 use Rattle.seize_seats.specs.Lendings.{Shown, IsValueOf}
-use Rattle.seize_seats.specs.State.{Starts, Comes, Allows, Turns, Meets}
+use Rattle.seize_seats.specs.Errands.{TurnsUnlent}
+use Rattle.seize_seats.specs.State.{Starts, Comes, Allows, Turns, Learns, Meets, ShowsKept, AreThere}
 use Rattle.papaya_tables.specs.Given.SeizeDeclared.rows.settle.Settle.{Settle}
 use Rattle.papaya_tables.specs.Nodes.{deferred_word}
 use Rattle.seize_views.specs.Promises.{op_in, op_of, IsNext, IsToSettle}
@@ -28,9 +29,9 @@ use Rattle.seize_views.specs.declared.view.View.{View as SlotView}
 use Rattle.seize_views.specs.declared.view.View.TheVariants.{Rests, Inside, Settles}
 use Rattle.seize_views.specs.declared.view.Why.{Why}
 use Rattle.seize_views.specs.declared.view.Why.TheVariants.{Retiring}
-use Rattle.papaya_views.specs.Begun.{machine_for, calling, replied, shown_map, making, with_slot}
+use Rattle.papaya_views.specs.Begun.{machine_for, calling, replied, shown_map, leaning, making, with_slot}
 use Rattle.papaya_views.specs.Looks.{shown_in}
-use Rattle.papaya_views.specs.Rule.{Holds, KeepsFor, at_rest}
+use Rattle.papaya_views.specs.Rule.{Holds, KeepsFor, Leans, section_of, at_rest}
 use Rattle.papaya_views.specs.Told.{told, turned}
 use Rattle.papaya_views.specs.declared.view.Map.{Map}
 use Rattle.papaya_views.specs.declared.view.View.{View}
@@ -65,10 +66,10 @@ module _ {K S : Type 0} (V : Type 0) (same : K → K → Bool) (hash : S → K �
       (fixed : Fixed) (id b : ℕ) (v : View K V S) (x : Node K V) → shown_in v.held b ≡ Some x
       → Shown (Holds same hash fixed) id v b × ((y : Node K V) → IsValueOf (Holds same hash fixed) id v b y → y ≡ x)
 
-  -- Within its section a seat that knows a map in incremental mode, and has nothing under way, may begin to do anything with it.
+  -- Within its section, or that of a seat that it leans on, a seat that knows a map in incremental mode, and has nothing under way, may begin to do anything with it.
   abbrev pub CallsBegin : Type 0
   CallsBegin =
-      (fixed : Fixed) (id t : ℕ) (v : View K V S) (map : Map S) (wanted : Wanted K V) → v.slot ≡ Inside t NoBlock → v.map ≡ Some map → v.work ≡ Nothing
+      (fixed : Fixed) (id t : ℕ) (v : View K V S) (map : Map S) (wanted : Wanted K V) → section_of v.under v.slot ≡ Some t → v.map ≡ Some map → v.work ≡ Nothing
       → is_incremental map.setting.mode ≡ true → Turns (Holds same hash fixed) KeepsFor id v (λ w. w ≡ calling v (machine_for same hash map t wanted))
 
   -- what it has under way may be told anything
@@ -82,6 +83,26 @@ module _ {K S : Type 0} (V : Type 0) (same : K → K → Bool) (hash : S → K �
   MapsAreHandedOn =
       (fixed : Fixed) (i j : ℕ) (v u : View K V S) (map : Map S) → v.map ≡ Some map → u.work ≡ Nothing
       → Meets (Holds same hash fixed) i v j u (λ p q. (p ≡ v) × (q ≡ shown_map u map))
+
+  -- A block that is known to be held for a seat that leans on another one, and has nothing under way, that one keeps;
+  abbrev pub HeldAreKept : Type 0
+  HeldAreKept =
+      (fixed : Fixed) (i n t k b : ℕ) (v u o : View K V S) (x : Node K V) → v.under ≡ Some (n, t) → v.work ≡ Nothing → shown_in v.held b ≡ Some x
+      → ShowsKept (Holds same hash fixed) KeepsFor i v n u k o b
+
+  -- and what seats keep is there.
+  abbrev pub KeptAreThere : Type 0
+  KeptAreThere = (fixed : Fixed) → AreThere (Holds {V = V} same hash fixed) KeepsFor
+
+  -- A seat that has nothing under way, and holds no slot, may come to lean on one within its section,
+  abbrev pub LeaningsBegin : Type 0
+  LeaningsBegin =
+      (fixed : Fixed) (i j t : ℕ) (v u : View K V S) → v.slot ≡ Rests → v.under ≡ None → v.work ≡ Nothing → u.slot ≡ Inside t NoBlock
+      → Learns (Holds same hash fixed) KeepsFor i v j u (λ w. w ≡ leaning v (Some (j, t)))
+
+  -- and back.
+  abbrev pub LeaningsEnd : Type 0
+  LeaningsEnd = (fixed : Fixed) (id : ℕ) (v : View K V S) → v.slot ≡ Rests → v.work ≡ Nothing → Turns (Holds same hash fixed) KeepsFor id v (λ w. w ≡ leaning v None)
 
   -- A seat that holds no slot, and has nothing under way, may begin to make a map, with lengths that tables may have,
   abbrev pub MakingsBegin : Type 0
@@ -99,20 +120,20 @@ module _ {K S : Type 0} (V : Type 0) (same : K → K → Bool) (hash : S → K �
   -- The next operation of a row that a seat has under way may be made at any moment,
   abbrev pub RowsGoOn : Type 0
   RowsGoOn =
-      (fixed : Fixed) (id : ℕ) (v : View K V S) (op : Op (Node K V)) → v.work ≡ Nothing → op_of deferred_word v.slot ≡ Some op
+      (fixed : Fixed) (id : ℕ) (v : View K V S) (op : Op (Node K V)) → v.under ≡ None → v.work ≡ Nothing → op_of deferred_word v.slot ≡ Some op
       → Allows (Holds same hash fixed) KeepsFor id v op (told same hash v op)
 
-  -- and where it has nothing else under way rows begin and end, and it notes what it has begun.
+  -- and where it has nothing else under way, and nobody leans on it, rows begin and end, and it notes what it has begun.
   abbrev pub RowsTurn : Type 0
   RowsTurn =
-      (fixed : Fixed) (id : ℕ) (v : View K V S) (u : SlotView (Node K V)) (began : Began) → v.work ≡ Nothing → IsNext fixed v.slot u
-      → Turns (Holds same hash fixed) KeepsFor id v (λ w. w ≡ with_slot v u began)
+      (fixed : Fixed) (id : ℕ) (v : View K V S) (u : SlotView (Node K V)) (began : Began) → v.under ≡ None → v.work ≡ Nothing → IsNext fixed v.slot u
+      → TurnsUnlent (Holds same hash fixed) KeepsFor Leans id v (λ w. w ≡ with_slot v u began)
 
   -- A batch may be tried, with as many steps left as that takes at most,
   abbrev pub SettlingsBegin : Type 0
   SettlingsBegin =
-      (fixed : Fixed) (id : ℕ) (v : View K V S) (way : Becomes) (c : Settle) (began : Began) → v.work ≡ Nothing → IsToSettle fixed v.slot way c
-      → Turns (Holds same hash fixed) KeepsFor id v (λ w. (left : ℕ) × (w ≡ with_slot v (Settles c (Retiring way) None left) began))
+      (fixed : Fixed) (id : ℕ) (v : View K V S) (way : Becomes) (c : Settle) (began : Began) → v.under ≡ None → v.work ≡ Nothing → IsToSettle fixed v.slot way c
+      → TurnsUnlent (Holds same hash fixed) KeepsFor Leans id v (λ w. (left : ℕ) × (w ≡ with_slot v (Settles c (Retiring way) None left) began))
 
   -- and the block that a settling is to look at is there, with the value that was told.
   abbrev pub LookedAreShown : Type 0

@@ -54,9 +54,41 @@ held_slot (Some slot) = slot.0
 abbrev pub place_of : {T : Type 0} → SlotView T → ℕ
 place_of v = held_slot (use_of v)
 
+-- The slot of the caller that a seat is: that of the seat that it leans on, if it leans on one.
+abbrev pub acts_in : {T : Type 0} → Option (ℕ × ℕ) → SlotView T → ℕ
+acts_in None v = place_of v
+acts_in (Some leant) v = leant.1
+
+-- the slot within whose section it has calls under way: its own one, or that of the seat that it leans on
+abbrev pub section_of : {T : Type 0} → Option (ℕ × ℕ) → SlotView T → Option ℕ
+section_of (Some leant) v = Some leant.1
+section_of None (slot_view.Inside t NoBlock) = Some t
+section_of None v = None
+
+-- where a seat stands: what it knows of its slot, and on whom it leans
+abbrev pub stand_of : {K V S : Type 0} → View K V S → SlotView (Node K V) × Option (ℕ × ℕ)
+stand_of v = (v.slot, v.under)
+
+-- who leans on a seat holds no slot
+abbrev pub IsAside : {T : Type 0} → Option (ℕ × ℕ) → SlotView T → Type 0
+IsAside None v = Unit {0}
+IsAside (Some leant) v = v ≡ slot_view.Rests
+
+-- it leans on the seat of this number
+abbrev pub LeansOn : Option (ℕ × ℕ) → ℕ → Type 0
+LeansOn None n = ⊥
+LeansOn (Some leant) n = leant.0 ≡ n
+
+abbrev pub Leans : {K V S : Type 0} → View K V S → ℕ → Type 0
+Leans v n = LeansOn v.under n
+
+-- the seat of this number is within a section of the slot
+abbrev pub IsLeant : {K V S : Type 0} → (ℕ → Option (View K V S)) → ℕ → ℕ → Type 0
+IsLeant {K} {V} {S} view n t = (u : View K V S) × (view n ≡ Some u) × (u.slot ≡ slot_view.Inside t NoBlock)
+
 -- a seat that holds no slot and knows no map
 abbrev pub at_rest : {K V S : Type 0} → View K V S
-at_rest = record { slot = slot_view.Rests; map = None; work = Nothing; looks = []; held = []; began = NotYet; calls = [] }
+at_rest = record { slot = slot_view.Rests; under = None; map = None; work = Nothing; looks = []; held = []; began = NotYet; calls = [] }
 
 -- the calls that a seat has begun; one that has not come has begun none
 abbrev pub runs_of : {K V S : Type 0} → Option (View K V S) → List (Run K V)
@@ -132,11 +164,12 @@ module _ {K V : Type 0} where
 
 module _ {K V S : Type 0} (same : K → K → Bool) (hash : S → K → ℕ) where
   -- what it has under way, as this caller
-  abbrev pub DoesSo : Scene K V → ℕ → SlotView (Node K V) → Option (Map S) → Work K V S → Type 0
-  DoesSo s i slot map Nothing = HasRow s i slot
-  DoesSo s i slot None (Calls machine) = ⊥
-  DoesSo s i slot (Some map) (Calls machine) = (t : ℕ) × (slot ≡ slot_view.Inside t NoBlock) × IsInside (s.world.uses t) × HasCall s i map.number machine × IsRowOn t (s.world.row i)
-  DoesSo s i slot map (Makes m hasher opening) = (slot ≡ slot_view.Rests) × HasMaking s i m (hash hasher) opening × (s.world.row i ≡ Rests)
+  abbrev pub DoesSo : Scene K V → ℕ → Option (ℕ × ℕ) → SlotView (Node K V) → Option (Map S) → Work K V S → Type 0
+  DoesSo s i under slot map Nothing = HasRow s i slot
+  DoesSo s i under slot None (Calls machine) = ⊥
+  DoesSo s i under slot (Some map) (Calls machine) =
+      (t : ℕ) × (section_of under slot ≡ Some t) × IsInside (s.world.uses t) × HasCall s i map.number machine × IsRowOn t (s.world.row i)
+  DoesSo s i under slot map (Makes m hasher opening) = (slot ≡ slot_view.Rests) × HasMaking s i m (hash hasher) opening × (s.world.row i ≡ Rests)
 
   -- the map that it knows stands, as it knows it
   abbrev pub KnowsMap : Scene K V → Option (Map S) → Type 0
@@ -150,9 +183,9 @@ module _ {K V S : Type 0} (same : K → K → Bool) (hash : S → K → ℕ) whe
   KnowsPair s i None (Calls machine) runs = Unit {0}
   KnowsPair s i (Some map) (Calls machine) runs = (u : UnderWay K V K) → s.calls map.number i ≡ Some u → pair_of u ≡ pair_in runs
 
-  -- the section of the slot holds the block, which is not over
-  abbrev pub IsInSection : Scene K V → SlotView (Node K V) → ℕ → Type 0
-  IsInSection s slot b = (t : ℕ) × (slot ≡ slot_view.Inside t NoBlock) × (holds t b s.world.log ≡ true) × (is_over b s.world.log ≡ false)
+  -- the section within which it has calls under way holds the block, which is not over
+  abbrev pub IsInSection : Scene K V → Option (ℕ × ℕ) → SlotView (Node K V) → ℕ → Type 0
+  IsInSection s under slot b = (t : ℕ) × (section_of under slot ≡ Some t) × (holds t b s.world.log ≡ true) × (is_over b s.world.log ≡ false)
 
   -- the call that is under way has it: as its own pair, or to reclaim it next, by a row of the collector
   abbrev pub IsOfCall : Work K V S → ℕ → Type 0
@@ -160,12 +193,12 @@ module _ {K V S : Type 0} (same : K → K → Bool) (hash : S → K → ℕ) whe
   IsOfCall work b = ⊥
 
   -- the block is there with this value, and why it lasts until the seat's next step
-  abbrev pub IsHeld : Scene K V → SlotView (Node K V) → Work K V S → ℕ × Node K V → Type 0
-  IsHeld s slot work look = (value_at s.world.memory look.0 ≡ Some look.1) × (IsInSection s slot look.0 ⊎ IsOfCall work look.0)
+  abbrev pub IsHeld : Scene K V → Option (ℕ × ℕ) → SlotView (Node K V) → Work K V S → ℕ × Node K V → Type 0
+  IsHeld s under slot work look = (value_at s.world.memory look.0 ≡ Some look.1) × (IsInSection s under slot look.0 ⊎ IsOfCall work look.0)
 
-  abbrev pub AllHeld : Scene K V → SlotView (Node K V) → Work K V S → List (ℕ × Node K V) → Type 0
-  AllHeld s slot work [] = Unit {0}
-  AllHeld s slot work (look ∷ looks) = IsHeld s slot work look × AllHeld s slot work looks
+  abbrev pub AllHeld : Scene K V → Option (ℕ × ℕ) → SlotView (Node K V) → Work K V S → List (ℕ × Node K V) → Type 0
+  AllHeld s under slot work [] = Unit {0}
+  AllHeld s under slot work (look ∷ looks) = IsHeld s under slot work look × AllHeld s under slot work looks
 
   -- A call that a seat knows of is this one of the list: it began as that does on a map that stands, in the slot of its caller, and has told the same last.
   pub record IsRun (s : Scene K V) (call : Called K V) (run : Run K V) : Type 0 where
@@ -184,18 +217,20 @@ module _ {K V S : Type 0} (same : K → K → Bool) (hash : S → K → ℕ) whe
 
   -- what a seat knows is so; in other slots it has nothing under way
   pub record Fits (s : Scene K V) (j : ℕ) (v : View K V S) : Type 0 where
-    pub slot : IsSlot (place_of v.slot)
-    pub does : DoesSo s (caller_at j (place_of v.slot)) v.slot v.map v.work
+    pub slot : IsSlot (acts_in v.under v.slot)
+    pub does : DoesSo s (caller_at j (acts_in v.under v.slot)) v.under v.slot v.map v.work
+    pub aside : IsAside v.under v.slot
     pub map : KnowsMap s v.map
-    pub held : AllHeld s v.slot v.work v.held
-    pub pair : KnowsPair s (caller_at j (place_of v.slot)) v.map v.work v.calls
-    pub idle : (t : ℕ) → IsSlot t → t ≢ place_of v.slot → IsIdle s (caller_at j t)
+    pub held : AllHeld s v.under v.slot v.work v.held
+    pub pair : KnowsPair s (caller_at j (acts_in v.under v.slot)) v.map v.work v.calls
+    pub idle : (t : ℕ) → IsSlot t → t ≢ acts_in v.under v.slot → IsIdle s (caller_at j t)
 
   -- the scene is as the seats know it, and its memory is this one
   pub record AreSo (s : State (Node K V) (View K V S) (MapsWorld K V S)) (scene : Scene K V) : Type 0 where
     pub memory : s.memory ≡ scene.world.memory
     pub seats : (j : ℕ) (v : View K V S) → view_of s j ≡ Some v → Fits scene j v
     pub unborn : (j t : ℕ) → IsSlot t → view_of s j ≡ None → IsIdle scene (caller_at j t)
+    pub leant : (j n t : ℕ) (v : View K V S) → view_of s j ≡ Some v → v.under ≡ Some (n, t) → IsLeant (view_of s) n t
     pub apart : (j k t : ℕ) (a b : Use) (v u : View K V S) → view_of s j ≡ Some v → view_of s k ≡ Some u → use_of v.slot ≡ Some (t, a) → use_of u.slot ≡ Some (t, b) → j ≡ k
     pub fresh : (k : ℕ) × IsFresh scene k × AreNumbered 0 s.world.doings k
     pub unended : (o : ℕ) → how_many (is_end_of_owner o) scene.world.log ≡ 0
@@ -210,9 +245,9 @@ module _ {K V S : Type 0} (same : K → K → Bool) (hash : S → K → ℕ) whe
     pub rows : (j : ℕ) (v : View K V S) → view_of s j ≡ Some v → KnowsRow fixed s.world.scene j v.slot
     pub own : AllByRecursion (IsItsOwn hash) s.world.doings
     pub calls : (j : ℕ) → AreRuns s.world.scene (calls_of j s.world.doings reached.1 []) (runs_of (view_of s j))
-    pub newest : (j : ℕ) (v : View K V S) (machine : Machine K V K) → view_of s j ≡ Some v → v.work ≡ Calls machine → IsNewest (caller_at j (place_of v.slot)) (calls_of j s.world.doings reached.1 [])
+    pub newest : (j : ℕ) (v : View K V S) (machine : Machine K V K) → view_of s j ≡ Some v → v.work ≡ Calls machine → IsNewest (caller_at j (acts_in v.under v.slot)) (calls_of j s.world.doings reached.1 [])
     pub seen : (j : ℕ) (v : View K V S) → view_of s j ≡ Some v
-        → HasSeen (caller_at j (place_of v.slot)) (calls_of j s.world.doings reached.1 [])
+        → HasSeen (caller_at j (acts_in v.under v.slot)) (calls_of j s.world.doings reached.1 [])
         (seen_of V same hash fixed.batch_size fixed.roots slot_of course j s.world.doings (nothing_done V same hash fixed.batch_size fixed.roots slot_of course) reached led None) v.held
 
 -- the section of the one's slot holds the block, which is not over

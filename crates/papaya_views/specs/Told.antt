@@ -67,19 +67,19 @@ module _ {K V S : Type 0} where
 
   -- what a seat knows once its call, which was this one, has come so far, and has looked at these blocks
   abbrev pub called : View K V S → Map S → Machine K V K → Machine K V K × Progress (Node K V) → List (ℕ × Node K V) → View K V S
-  called v map machine end looks = record { slot = v.slot; map = v.map; work = call_after end.0 end.1; looks = looks; held = held_of map looks; began = v.began; calls = newest_told end.1 v.calls }
+  called v map machine end looks = record { slot = v.slot; under = v.under; map = v.map; work = call_after end.0 end.1; looks = looks; held = held_of map looks; began = v.began; calls = newest_told end.1 v.calls }
 
   -- and once the making of a map has
   abbrev pub made_after : View K V S → ℕ → S → List (ℕ × Node K V) → NewMap → Told Setting → View K V S
   made_after v m hasher looks opening (told_as.Done setting) =
-      record { slot = v.slot; map = Some record { number = m; setting = setting; hasher = hasher }; work = Nothing; looks = looks; held = []; began = v.began; calls = v.calls }
-  made_after v m hasher looks opening (told_as.Refused fault) = record { slot = v.slot; map = v.map; work = Nothing; looks = looks; held = []; began = v.began; calls = v.calls }
-  made_after v m hasher looks opening told = record { slot = v.slot; map = v.map; work = Makes m hasher opening; looks = looks; held = []; began = v.began; calls = v.calls }
+      record { slot = v.slot; under = v.under; map = Some record { number = m; setting = setting; hasher = hasher }; work = Nothing; looks = looks; held = []; began = v.began; calls = v.calls }
+  made_after v m hasher looks opening (told_as.Refused fault) = record { slot = v.slot; under = v.under; map = v.map; work = Nothing; looks = looks; held = []; began = v.began; calls = v.calls }
+  made_after v m hasher looks opening told = record { slot = v.slot; under = v.under; map = v.map; work = Makes m hasher opening; looks = looks; held = []; began = v.began; calls = v.calls }
 
 module _ {K V S : Type 0} (same : K → K → Bool) (hash : S → K → ℕ) where
   abbrev pub told_by : View K V S → Option (Map S) → Work K V S → Op (Node K V) → Out (Node K V) → View K V S → Type 0
   told_by v map Nothing op out w =
-      (slot : SlotView (Node K V)) × row_told deferred_word v.slot op out slot × (w ≡ record { slot = slot; map = v.map; work = Nothing; looks = []; held = []; began = v.began; calls = v.calls })
+      (slot : SlotView (Node K V)) × row_told deferred_word v.slot op out slot × (w ≡ record { slot = slot; under = v.under; map = v.map; work = Nothing; looks = []; held = []; began = v.began; calls = v.calls })
   told_by v (Some map) (Calls machine) op out w =
       (end : Machine K V K × Progress (Node K V)) × FollowsBy (shown_in w.looks) (machine_plan same same (hash map.hasher) machine) out end
       × (w ≡ called v map machine end w.looks) × MayFollow (shown_in w.looks) (machine_plan same same (hash map.hasher) machine) out

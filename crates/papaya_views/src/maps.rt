@@ -10,10 +10,10 @@ use std::marker::PhantomData;
 pub struct OfMaps<S>(PhantomData<S>);
 
 impl<K: Eq, V, S: Hashes<K>> Rule<Node<K, V>> for OfMaps<S> {
-    ghost use Rattle.papaya_views.specs.Rule.{MapsWorld, Holds, KeepsFor, at_rest};
+    ghost use Rattle.papaya_views.specs.Rule.{MapsWorld, Holds, KeepsFor, Leans, at_rest};
     ghost use Rattle.papaya_views.specs.Told.{told};
     ghost use Rattle.papaya_views.specs.Notes.{IsResting};
-    ghost use Rattle.papaya_views.specs.Resting.{resting_stay};
+    ghost use Rattle.papaya_views.specs.Resting.{resting_stay, upright, leaning_stay};
 
     type View = View<K, V, S>;
 
@@ -35,9 +35,9 @@ impl<K: Eq, V, S: Hashes<K>> Rule<Node<K, V>> for OfMaps<S> {
 
     ghost resting_stay = { resting_stay K.eq S.hash };
 
-    ghost leans = { λ _ _. ⊥ };
+    ghost leans = { Leans };
 
-    ghost upright = { λ _ _ _ none. none };
+    ghost upright = { upright };
 
-    ghost leaning_stay = { λ _ _ _ _ _ _ none. none };
+    ghost leaning_stay = { leaning_stay K.eq S.hash };
 }

@@ -8,6 +8,8 @@ use std::collections::LinkedList;
 pub struct View<K, V, S> {
     /// Which slot it holds, and which row it has under way there, while it has nothing else under way.
     pub slot: seize_views::View<Node<K, V>>,
+    /// The seat that it leans on and the slot of that one, if it leans on one: it holds no slot then, and has calls under way within the section of that one.
+    pub under: Option<(u64, u64)>,
     /// The map that it knows, if it knows one.
     pub map: Option<Map<S>>,
     /// What it has under way.

@@ -32,6 +32,10 @@ abbrev pub MayEnd : {T : Type 0} → ℕ → View T → View T → Type 0
 MayEnd guards (Inside t has) u = (guards ≡ 0) ⊎ (open_at u ≡ Some t)
 MayEnd guards w u = Unit {0}
 
+left_rows : (T : Type 0) (way : Becomes) (t : ℕ) → IsOfRows {T = T} (left_with way t)
+left_rows T Idle t = tt
+left_rows T Active t = tt
+
 module _ {T : Type 0} (fixed : Fixed) (guards : ℕ) where
   -- a turn ends no section that is watched
   free_stays : (t : ℕ) (has : Has T) (u : View T) → IsFree fixed t u → MayEnd guards (Inside t has) u → Stays guards (Inside t has) u
@@ -66,10 +70,6 @@ module _ {T : Type 0} (fixed : Fixed) (guards : ℕ) where
   rows_as : (u x : View T) → u ≡ x → IsOfRows x → IsOfRows u
   rows_as u x e rows = subst IsOfRows (sym e) rows
 
-  left_rows : (way : Becomes) (t : ℕ) → IsOfRows {T = T} (left_with way t)
-  left_rows Idle t = tt
-  left_rows Active t = tt
-
   free_rows : (t : ℕ) (u : View T) → IsFree fixed t u → IsOfRows u
   free_rows t u (inl (way, e)) = rows_as u (Leaves t fixed.batch_size way) e tt
   free_rows t u (inr e) = rows_as u (Inside t Nothing) e tt
@@ -83,9 +83,9 @@ module _ {T : Type 0} (fixed : Fixed) (guards : ℕ) where
   next_rows (Inside t (Made b x)) u e = absurd e
   next_rows (Inside t (Both b x a)) u e = absurd e
   next_rows (Inside t (Cut b)) u e = absurd e
-  next_rows (Settles c (Retiring way) seen left) u e = rows_as u (left_with way c.slot) e.1 (left_rows way c.slot)
+  next_rows (Settles c (Retiring way) seen left) u e = rows_as u (left_with way c.slot) e.1 (left_rows T way c.slot)
   next_rows (Settles c (Ending size way) seen left) u e = rows_as u (Left c.slot size way) e.1 tt
-  next_rows (Left t size way) u e = rows_as u (left_with way t) e (left_rows way t)
+  next_rows (Left t size way) u e = rows_as u (left_with way t) e (left_rows T way t)
   next_rows (Registers c) u e = absurd e
   next_rows (Owes t b) u e = absurd e
   next_rows (Enters t) u e = absurd e
@@ -125,10 +125,10 @@ module _ {T V W B : Type 0} (holds : Fixed → State T V W → Type 0) (keeps : 
       )
 
   -- and whom it leans on then it did before
-  pub leans_turn : LeansBeside leans notes beside → (fixed : Fixed) (id : ℕ) (v : V) (w : View T) → (notes v).knows ≡ w
-      → (f : Fixed → View T → View T) (began : Began → Began) → IsNext fixed w (f fixed w) → MayEnd (notes v).guards w (f fixed w) → {e : Away}
+  pub leans_turn : LeansBeside leans notes beside → (fixed : Fixed) (e : Away) (v : V) (w : View T) → (notes v).knows ≡ w
+      → (f : Fixed → View T → View T) (began : Began → Began) → IsNext fixed w (f fixed w) → MayEnd (notes v).guards w (f fixed w)
       → MayLean leans e v (Turned notes beside (Makes f) began fixed v)
-  leans_turn law fixed id v w is f began next ends x so n leaning =
+  leans_turn law fixed e v w is f began next ends x so n leaning =
       inl (law v x n (rows_as fixed (notes v).guards (notes x).knows (f fixed w) (so.0 ∙ ap (f fixed) is) (next_rows fixed (notes v).guards w (f fixed w) next)) so.4 leaning)
 
   module _ (law : SettlingsBeginIn holds keeps notes beside leans) (fixed : Fixed) (id : ℕ) (v : V) (began : Began) where
@@ -160,7 +160,7 @@ module _ {T V W B : Type 0} (holds : Fixed → State T V W → Type 0) (keeps : 
       may_flush_idle is = may_settle (Outside slot) is Flushes Idle (flushing slot batch) refl (λ u e. e)
 
   -- as a settling begins, too
-  module _ (law : LeansBeside leans notes beside) (fixed : Fixed) (id : ℕ) (v : V) (began : Began) {e : Away} where
+  module _ (law : LeansBeside leans notes beside) (fixed : Fixed) (e : Away) (v : V) (began : Began) where
     leans_settle : (w : View T) → (notes v).knows ≡ w → (so : Fixed → View T → View T → Type 0) (way : Becomes) (c : Settle)
         → ((u : View T) → so fixed w u → IsBegun way c u) → MayLean leans e v (Turned notes beside so (λ _. began) fixed v)
     leans_settle w is so way c tells x told n leaning =

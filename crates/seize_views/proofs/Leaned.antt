@@ -1,5 +1,5 @@
 -- Steps leave those who lean on a seat on one whose section is open, and holds what they have seen.
-use Rattle.std.specs.Prelude.{◌≢◌, Option, Some, None, ◌++◌, slice_get, slice_set}
+use Rattle.std.specs.Prelude.{◌≢◌, Some, None, ◌++◌, slice_get, slice_set}
 use Rattle.std.proofs.Common.{◌≡◌, ℕ, true, List, [], ◌∷◌, ◌⊎◌, inl, inr, sym, subst, ap, ◌∙◌}
 use Rattle.std.proofs.lemmas.Bool.{cases_eq}
 use Rattle.seize.specs.Law.{Effect, holds}

@@ -1,5 +1,5 @@
 -- A seat leans on one that has a section open: it begins, looks at roots, and ends; and what it has seen that one keeps meanwhile.
-use Rattle.std.specs.Prelude.{◌≢◌, ◌<◌, Option, Some, None, IsSome, ◌==◌}
+use Rattle.std.specs.Prelude.{◌≢◌, ◌<◌, Option, Some, None, IsSome}
 use Rattle.std.proofs.Common.{◌≡◌, ℕ, true, inl, inr, refl, sym, subst, ap, ◌∙◌}
 use Rattle.std.proofs.lemmas.Bool.{ne_eqb}
 use Rattle.seize_words.specs.Mem.{Mem, Took, value_at}
@@ -13,10 +13,9 @@ use Rattle.seize_bounds.proofs.Given.SeizeActsAnswers.{same_some}
 use Rattle.seize_seats.specs.State.{State, view_of, Allows, Goes}
 use Rattle.seize_views.specs.Rows.{Leads, Holds}
 use Rattle.seize_views.specs.Told.{told}
-use Rattle.seize_views.specs.Watched.{open_at, is_watching, LeansOn, IsBase}
+use Rattle.seize_views.specs.Watched.{open_at, is_watching, IsBase}
 use Rattle.seize_views.specs.Notes.{noted, as_known, deed, NotedHolds, NotedKeeps, noted_told, SameNotes}
 use Rattle.seize_views.specs.Notes.{LeaningsBegin, LeaningsSee, LeaningsEnd, LeaningsKeep, KeptAreThere}
-use Rattle.seize_views.specs.Resting.{open_leans}
 use Rattle.seize_views.specs.declared.view.Noted.{Noted}
 use Rattle.seize_views.specs.declared.view.Began.{Began}
 use Rattle.seize_views.specs.declared.view.Deed.{Deed}
@@ -121,20 +120,27 @@ module _ {T : Type 0} (defers : T → Option ℕ) (fixed : Fixed) where
               )) (inr (inl refl)),
         )
 
+  -- what it notes then is what it has noted before
+  noted_so : (s : State T (Noted T) (World T)) (i : ℕ) (v : Noted T) (x : View T)
+      → Goes N NotedKeeps s s.memory i (λ w. (w.knows ≡ x) × (w.did ≡ v.did) × (w.began ≡ v.began) × (w.guards ≡ v.guards))
+      → Goes N NotedKeeps s s.memory i (λ w. (w.knows ≡ x) × SameNotes v w)
+  noted_so s i v x g = (g.0, g.1, g.2, g.3, (g.4.0, (g.4.1, g.4.2, g.4.3)))
+
   -- a seat begins to lean on another one
   begins : (i j t : ℕ) (v u : Noted T) → v.knows ≡ Rests → open_at u.knows ≡ Some t → (s : State T (Noted T) (World T)) → N s → view_of s i ≡ Some v → view_of s j ≡ Some u
       → i ≢ j → Goes N NotedKeeps s s.memory i (λ w. (w.knows ≡ Under j t 0) × SameNotes v w)
   begins i j t v u rests is_open s h at_i at_j ne =
       let at = seen_at defers fixed s i v at_i ∙ ap Some rests in
       let g = aside_on defers fixed (as_known s) i Rests (Under j t 0) h.0 at refl refl refl tt refl tt tt s.memory refl (λ x. x ≡ Under j t 0) refl in
-      goes defers fixed s h s.memory i v at_i (λ x. x ≡ Under j t 0) v.did v.began (λ x is k. ap (is_watching k) is ∙ sym (ap (is_watching k) rests))
+      noted_so s i v (Under j t 0)
+      (goes defers fixed s h s.memory i v at_i (λ x. x ≡ Under j t 0) v.did v.began (λ x is k. ap (is_watching k) is ∙ sym (ap (is_watching k) rests))
       (λ x is. inr (inl (ap open_at rests))) g (λ x c e some. absurd (not_watching g.0 j t 0 x c g.5 e))
       (λ n x c e.
       let f : Under j t 0 ≡ Under n x c = sym g.5 ∙ e in (
         λ z. ne (sym (ap seat_in f ∙ z)),
         subst (λ (p : ℕ × ℕ). IsBase s.views p.0 p.1) (λ k. (seat_in (f k), slot_in (f k))) (u, at_j, is_open),
         λ some. absurd (some (sym (ap block_seen f))),
-      )) (inr (inl (ap open_at rests)))
+      )) (inr (inl (ap open_at rests))))
 
   -- and leans on it no longer
   ends : (i n t b : ℕ) (v : Noted T) → v.knows ≡ Under n t b → (s : State T (Noted T) (World T)) → N s → view_of s i ≡ Some v
@@ -142,9 +148,10 @@ module _ {T : Type 0} (defers : T → Option ℕ) (fixed : Fixed) where
   ends i n t b v is s h at_i =
       let at = seen_at defers fixed s i v at_i ∙ ap Some is in
       let g = aside_on defers fixed (as_known s) i (Under n t b) Rests h.0 at refl refl refl tt refl tt tt s.memory refl (λ x. x ≡ Rests) refl in
-      goes defers fixed s h s.memory i v at_i (λ x. x ≡ Rests) v.did v.began (λ x e k. ap (is_watching k) e ∙ sym (ap (is_watching k) is))
+      noted_so s i v Rests
+      (goes defers fixed s h s.memory i v at_i (λ x. x ≡ Rests) v.did v.began (λ x e k. ap (is_watching k) e ∙ sym (ap (is_watching k) is))
       (λ x e. inr (inl (ap open_at is))) g (λ x c e some. absurd (let f : Rests ≡ Watches x c = sym g.5 ∙ e in cc f))
-      (λ m x c e. absurd (let f : Rests ≡ Under m x c = sym g.5 ∙ e in cc f)) (inr (inl (ap open_at is)))
+      (λ m x c e. absurd (let f : Rests ≡ Under m x c = sym g.5 ∙ e in cc f)) (inr (inl (ap open_at is))))
 
 module _ (T : Type 0) (defers : T → Option ℕ) where
   pub leanings_begin : LeaningsBegin T defers

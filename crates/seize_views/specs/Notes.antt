@@ -1,5 +1,5 @@
 -- The rule with what each seat has done last: it is noted as it is done, and whatever a seat may do by what it knows it may do.
-use Rattle.std.specs.Prelude.{◌≡◌, ◌≢◌, ◌+◌, ◌<◌, ℕ, Option, Some, None, Ok, Err, map}
+use Rattle.std.specs.Prelude.{◌≡◌, ◌≢◌, ◌+◌, ◌<◌, ℕ, true, Option, Some, None, Ok, Err, map}
 use Rattle.seize_words.specs.Word.{block_in}
 use Rattle.seize_words.specs.Op.{Op, Out, Load, Swap, Or, Exchange, Found, Exchanged}
 use Rattle.seize_words.specs.declared.at.At.TheVariants.{Root}

@@ -113,16 +113,16 @@ module _ {T : Type 0} where
   leans_under (Busy t) n is = absurd is
 
   pub own_leans : (x : View T) (n : ℕ) → IsOwn x → LeansOn x n → ⊥
-  own_leans x n own leans = let e = leans_under x n leans in subst IsOwn e.2.2 own
+  own_leans x n own leans = let e = leans_under x n leans in subst IsOwn e.2 own
 
   rests_leans : (x : View T) (n : ℕ) → IsAtRest x → LeansOn x n → ⊥
-  rests_leans x n rests leans = let e = leans_under x n leans in subst IsAtRest e.2.2 rests
+  rests_leans x n rests leans = let e = leans_under x n leans in subst IsAtRest e.2 rests
 
   pub rows_lean : (x : View T) (n : ℕ) → IsOfRows x → LeansOn x n → ⊥
-  rows_lean x n rows leans = let e = leans_under x n leans in subst IsOfRows e.2.2 rows
+  rows_lean x n rows leans = let e = leans_under x n leans in subst IsOfRows e.2 rows
 
   pub open_leans : (x : View T) (t n : ℕ) → open_at x ≡ Some t → LeansOn x n → ⊥
-  open_leans x t n is_open leans = let e = leans_under x n leans in let none = ap open_at e.2.2 in cc (none, is_open)
+  open_leans x t n is_open leans = let e = leans_under x n leans in let none = ap open_at e.2 in cc (none, is_open)
 
   pub upright : (v : Noted T) (n : ℕ) → IsAtRest v.knows → Leans v n → ⊥
   upright v n rests leans = rests_leans v.knows n rests leans

@@ -1,17 +1,16 @@
 //! A seat on an errand runs a call on one key.
 ghost use Rattle.std.specs.Prelude.{◌≡◌, ℕ, true, false, Some, IfNone, IfSome};
 ghost use Rattle.papaya_seats.specs.Calling.{CalledSo, HasCalled, HasEnded, IsBack, IsCalling, IsGoing, IsNoQuestion, IsUnderWay, MachineStores, MayCall, TellsSo, handed_by, outcome_of, wanted_of};
-ghost use Rattle.papaya_seats.specs.Kinds.{Kind, Stage};
+ghost use Rattle.papaya_kinds.specs.Kinds.{Kind, Stage};
 ghost use Rattle.papaya_seats.specs.Looking.{Begins, HasTold, StaysThere};
 ghost use Rattle.papaya_seats.specs.Made.{IsSameSeat};
 ghost use Rattle.papaya_views.specs.Given.TablesChunks.{is_incremental};
 ghost use Rattle.papaya_views.specs.Given.RawMachine.{machine_plan};
 ghost use Rattle.papaya_views.specs.Given.TablesDeclared.node.Node.{Node};
 ghost use Rattle.papaya_views.specs.Told.{HandsBack, MayCome, pair_in};
+ghost use Rattle.papaya_views.specs.Rule.{section_of};
 ghost use Rattle.papaya_views.specs.declared.view.Map.{Map};
 ghost use Rattle.papaya_views.specs.declared.view.Work.TheVariants.{Nothing as NoWork};
-ghost use Rattle.papaya_views.specs.Given.SeizeViewsDeclared.view.Has.TheVariants.{Nothing};
-ghost use Rattle.papaya_views.specs.Given.SeizeViewsDeclared.view.View.TheVariants.{Inside};
 
 use crate::turns::{Beginning, Stepping, Wants};
 use crate::within::Within;
@@ -126,7 +125,7 @@ impl<'a, K: Eq + Hash + Drop, V: Drop, S: Hashes<K>> Within<'a, K, V, S> {
     /// Begins this call, as it is picked.
     fn begins_as<B: Wants<K, V>>(&mut self, _machine: &Machine<K, V>)
         requires wanted { B.wanted ≡ wanted_of _machine.now }
-        requires inside { (t : ℕ) × (self.old.seat.now.view.slot ≡ Inside t Nothing) }
+        requires inside { (t : ℕ) × (section_of self.old.seat.now.view.under self.old.seat.now.view.slot ≡ Some t) }
         requires knows { (map : Map S) × (self.old.seat.now.view.map ≡ Some map) × (is_incremental map.setting.mode ≡ true) }
         requires free { self.old.seat.now.view.work ≡ NoWork }
         ensures begins { Begins K.eq S.hash (wanted_of _machine.now) self.old.seat.now.view self.new.seat.now.view }
@@ -137,7 +136,7 @@ impl<'a, K: Eq + Hash + Drop, V: Drop, S: Hashes<K>> Within<'a, K, V, S> {
 
     /// Begins this call on the map that it knows, which is in incremental mode, within its section.
     fn begins(&mut self, machine: &Machine<K, V>)
-        requires inside { (t : ℕ) × (self.old.seat.now.view.slot ≡ Inside t Nothing) }
+        requires inside { (t : ℕ) × (section_of self.old.seat.now.view.under self.old.seat.now.view.slot ≡ Some t) }
         requires knows { (map : Map S) × (self.old.seat.now.view.map ≡ Some map) × (is_incremental map.setting.mode ≡ true) }
         requires free { self.old.seat.now.view.work ≡ NoWork }
         ensures begins { Begins K.eq S.hash (wanted_of machine.now) self.old.seat.now.view self.new.seat.now.view }

@@ -5,10 +5,9 @@ ghost use Rattle.papaya_seats.specs.Looking.{Begins, HasCome, HasLooked, HasSeen
 ghost use Rattle.papaya_seats.specs.Made.{IsSameSeat};
 ghost use Rattle.papaya_views.specs.Given.ResizeLookup.{looking};
 ghost use Rattle.papaya_views.specs.Given.TablesChunks.{is_incremental};
+ghost use Rattle.papaya_views.specs.Rule.{section_of};
 ghost use Rattle.papaya_views.specs.declared.view.Map.{Map};
 ghost use Rattle.papaya_views.specs.declared.view.Work.TheVariants.{Nothing as NoWork};
-ghost use Rattle.papaya_views.specs.Given.SeizeViewsDeclared.view.Has.TheVariants.{Nothing};
-ghost use Rattle.papaya_views.specs.Given.SeizeViewsDeclared.view.View.TheVariants.{Inside};
 
 use crate::turns::{Beginning, Wants};
 use crate::within::Within;
@@ -24,7 +23,7 @@ impl<'a, K: Eq, V, S: Hashes<K>> Within<'a, K, V, S> {
     /// Begins to look this key up, as it is picked.
     fn begins_to_look_as<B: Wants<K, V>>(&mut self, _key: &K)
         requires wanted { B.wanted ≡ Get _key.now }
-        requires inside { (t : ℕ) × (self.old.seat.now.view.slot ≡ Inside t Nothing) }
+        requires inside { (t : ℕ) × (section_of self.old.seat.now.view.under self.old.seat.now.view.slot ≡ Some t) }
         requires knows { (map : Map S) × (self.old.seat.now.view.map ≡ Some map) × (is_incremental map.setting.mode ≡ true) }
         requires free { self.old.seat.now.view.work ≡ NoWork }
         ensures begins { Begins K.eq S.hash (Get _key.now) self.old.seat.now.view self.new.seat.now.view }
@@ -35,7 +34,7 @@ impl<'a, K: Eq, V, S: Hashes<K>> Within<'a, K, V, S> {
 
     /// Begins to look this key up in the map that it knows, which is in incremental mode, within its section.
     fn begins_to_look(&mut self, key: &K)
-        requires inside { (t : ℕ) × (self.old.seat.now.view.slot ≡ Inside t Nothing) }
+        requires inside { (t : ℕ) × (section_of self.old.seat.now.view.under self.old.seat.now.view.slot ≡ Some t) }
         requires knows { (map : Map S) × (self.old.seat.now.view.map ≡ Some map) × (is_incremental map.setting.mode ≡ true) }
         requires free { self.old.seat.now.view.work ≡ NoWork }
         ensures begins { Begins K.eq S.hash (Get key.now) self.old.seat.now.view self.new.seat.now.view }

@@ -2,6 +2,7 @@
 ghost use Rattle.std.specs.Prelude.{◌≡◌};
 ghost use Rattle.papaya_seats.specs.Made.{IsSameSeat};
 ghost use Rattle.papaya_seats.specs.Making.{BeginsMaking, CameTo, GetsOn, IsThis, KnowsStill, MadeSo, MakesMap, MayBegin, PlansJust, StaysChosen};
+ghost use Rattle.papaya_views.specs.Rule.{stand_of};
 ghost use Rattle.papaya_views.specs.declared.view.Work.TheVariants.{Nothing as NoWork};
 ghost use Rattle.papaya_views.specs.Given.SeizeViewsDeclared.view.View.TheVariants.{Rests};
 
@@ -46,7 +47,7 @@ impl<'a, K: Eq + Drop, V: Drop, S: Hashes<K>> Within<'a, K, V, S> {
         ensures map { KnowsStill result self.old.seat.now.view self.new.seat.now.view }
         ensures chosen { StaysChosen opening.old opening.new result }
         ensures left { GetsOn opening.old opening.new result }
-        ensures slot { self.new.seat.now.view.slot ≡ self.old.seat.now.view.slot }
+        ensures slot { stand_of self.new.seat.now.view ≡ stand_of self.old.seat.now.view }
         ensures calls { self.new.seat.now.view.calls ≡ self.old.seat.now.view.calls }
         ensures same { IsSameSeat self.old self.new }
     {

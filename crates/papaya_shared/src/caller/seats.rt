@@ -1,5 +1,5 @@
 //! A caller is a seat that is on no errand, with the memory: it is made of both, and taken apart.
-ghost use Rattle.std.specs.Prelude.{◌≡◌, true};
+ghost use Rattle.std.specs.Prelude.{◌≡◌, None, true};
 ghost use Rattle.seize_callers.specs.Kept.{is_home};
 
 use crate::caller::Caller;
@@ -15,6 +15,7 @@ impl<'a, K: Eq, V, S: Hashes<K>> Caller<'a, K, V, S> {
     ) -> Self
         requires own { seat.base ≡ blocks.now.words.id.views_name }
         requires home { is_home seat.away ≡ true }
+        requires lone { seat.view.under ≡ None }
         ensures view { result.seat.view ≡ seat.view }
         ensures blocks { result.blocks.now ≡ blocks.now }
     {
@@ -29,6 +30,7 @@ impl<'a, K: Eq, V, S: Hashes<K>> Caller<'a, K, V, S> {
     pub(crate) fn into_seat(self) -> Seat<Node<K, V>, OfMaps<S>>
         ensures own { result.base ≡ self.entry.blocks.now.words.id.views_name }
         ensures home { is_home result.away ≡ true }
+        ensures lone { result.view.under ≡ None }
         ensures view { result.view ≡ self.entry.seat.view }
     {
         let Caller {

@@ -1,5 +1,5 @@
 //! A seat that takes steps under another one, which is lent for them, and takes none meanwhile.
-ghost use Rattle.std.specs.Prelude.{◌≡◌, ◌<◌, ℕ, Some, IfSome, IfNone};
+ghost use Rattle.std.specs.Prelude.{◌≡◌, ◌<◌, ℕ, true, Some, IfSome, IfNone};
 ghost use Rattle.seize_words.specs.Word.{block_in};
 ghost use Rattle.seize_seats.specs.Lendings.{IsValueOf};
 ghost use Rattle.seize_callers.specs.Kept.{is_home};

@@ -1,7 +1,8 @@
-use Rattle.std.proofs.Common.{ap, subst, sym, ◌∙◌}
+use Rattle.std.proofs.Common.{ap, inl, subst, sym, ◌∙◌}
 use Rattle.papaya_views.proofs.Laws.{seats_come}
 use Rattle.papaya_views.specs.Begun.{shown_map}
 use Rattle.papaya_views.specs.Notes.{IsResting}
+use Rattle.papaya_views.specs.Rule.{Leans}
 use Rattle.papaya_views.specs.declared.view.View.{View}
 use Rattle.papaya_shared.proofs.Newcomers.{may_learn}
 use Rattle.papaya_shared.proofs.Sessions.{known_some}
@@ -24,7 +25,7 @@ pub learn-requires-clause-errand : goal.learn-requires-clause-errand
 learn-requires-clause-errand g c = λ home rests w so. subst (λ (v : View g.row.K.Denot g.row.V.Denot g.row.S.Denot). IsResting v) (sym so.2) rests
 
 pub learn-requires-clause-leans : goal.learn-requires-clause-leans
-learn-requires-clause-leans g c = λ v told n none. absurd none
+learn-requires-clause-leans g c = λ v so n leans. inl (subst (λ (w : View g.row.K.Denot g.row.V.Denot g.row.S.Denot). Leans w n) so.2 leans)
 
 pub returns-clause-shown : goal.returns-clause-shown
 returns-clause-shown g c =

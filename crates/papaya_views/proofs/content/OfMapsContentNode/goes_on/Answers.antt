@@ -1,4 +1,4 @@
-use Rattle.papaya_views.proofs.Contents.{seats_come_in, rows_go_on_in, rows_are_told, rows_turn_in, settlings_begin_in, looked_are_shown_in}
+use Rattle.papaya_views.proofs.Contents.{seats_come_in, rows_go_on_in, rows_are_told, rows_turn_in, settlings_begin_in, looked_are_shown_in, leans_beside}
 use Rattle.papaya_views.proofs.content.OfMapsContentNode.goes_on.Goals as goal
 
 pub returns-clause-come : goal.returns-clause-come
@@ -23,4 +23,4 @@ pub returns-clause-rest : goal.returns-clause-rest
 returns-clause-rest g c = λ v rests. rests
 
 pub returns-clause-leans : goal.returns-clause-leans
-returns-clause-leans g c = λ v w n rows same leans. leans
+returns-clause-leans g c = leans_beside

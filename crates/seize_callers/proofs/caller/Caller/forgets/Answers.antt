@@ -23,7 +23,7 @@ part-requires-clause-errand g c = λ home rests w so.
 pub part-requires-clause-leans : goal.part-requires-clause-leans
 part-requires-clause-leans g c =
     let x = c.args.self.now in let i = c.requires.inside in let fixed = x.blocks.now.words.fixed in
-    leans_turn g.C.Rule.holds g.C.Rule.keeps g.C.Content.notes g.C.Content.beside g.C.Rule.leans c.goes_on.ensures.leans x.blocks.now.words.fixed x.seat.id x.seat.view
+    leans_turn g.C.Rule.holds g.C.Rule.keeps g.C.Content.notes g.C.Content.beside g.C.Rule.leans c.goes_on.ensures.leans x.blocks.now.words.fixed x.seat.away x.seat.view
     (Inside c.args._slot i.0) i.2 forgetting still (forgets_next g.row.T.Denot fixed c.args._slot i.0 i.1)
     (inr (ap open_at (forgets_so g.row.T.Denot fixed c.args._slot i.0 i.1)))
 

@@ -1,6 +1,4 @@
-use Rattle.std.proofs.Common.{◌≡◌, ℕ, ap, sym, subst, ◌∙◌}
-use Rattle.seize_seats.specs.Lendings.{IsValueOf}
-use Rattle.seize_views.specs.Notes.{NotedHolds}
+use Rattle.std.proofs.Common.{ap, sym, ◌∙◌}
 use Rattle.seize_views.specs.declared.view.View.TheVariants.{Under}
 use Rattle.seize_views.proofs.Notes.{comings_are_noted}
 use Rattle.seize_views.proofs.Passing.{leanings_keep, kept_are_there}
@@ -11,8 +9,8 @@ value_by-requires-clause-own g c = (c.requires.own.0, c.requires.own.1, c.requir
 
 pub value_by-requires-clause-kept : goal.value_by-requires-clause-kept
 value_by-requires-clause-kept g c =
-    let s = c.args.seat.now in let k = c.args.guard.now in let n = c.named-block.ensures.some in
-    leanings_keep g.row.T.Denot g.T.Defers.defers c.args.blocks.now.words.fixed s.id k.id c.requires.under.0 c.block s.view k.view
+    let s = c.args.seat.now in let k = c.args.guard.now in let n = c.in_ok-block.ensures.some in
+    leanings_keep g.row.T.Denot g.T.Defers.defers c.args.blocks.now.words.fixed s.id k.id c.requires.under.0 c.in_ok-block.block s.view k.view
     (c.requires.under.1 ∙ ap (Under k.id c.requires.under.0) (sym n.0)) n.2
 
 pub value_by-requires-clause-there : goal.value_by-requires-clause-there

@@ -58,7 +58,7 @@ part-requires-clause-leans g c =
     let k =
     c.settles.ensures.settling (task_of (Ending size t.0) (g.C.Content.notes x.seat.now.view))
     (begins g (goal.at.part-requires-clause-leans g c).After-count_down-row t.0 t.1 t.2) in
-    leans_turn g.C.Rule.holds g.C.Rule.keeps g.C.Content.notes g.C.Content.beside g.C.Rule.leans c.goes_on.ensures.leans n.blocks.now.words.fixed n.seat.now.id n.seat.now.view
+    leans_turn g.C.Rule.holds g.C.Rule.keeps g.C.Content.notes g.C.Content.beside g.C.Rule.leans c.goes_on.ensures.leans n.blocks.now.words.fixed n.seat.now.away n.seat.now.view
     (Settles c.settles.new.row (Ending size t.0) k.0 k.1) (ap known_by k.2) ended still (c.settles.ensures.over, refl) tt
 
 pub returns-clause-left : goal.returns-clause-left

@@ -25,7 +25,7 @@ pub part-requires-clause-leans : goal.part-requires-clause-leans
 part-requires-clause-leans g c =
     let b = c.requires.settling in let n = c.settles.new.self in
     let k = c.settles.ensures.settling (task_of (Retiring b.0) (g.C.Content.notes c.args.self.now.seat.now.view)) b.1 in
-    leans_turn g.C.Rule.holds g.C.Rule.keeps g.C.Content.notes g.C.Content.beside g.C.Rule.leans c.goes_on.ensures.leans n.blocks.now.words.fixed n.seat.now.id n.seat.now.view
+    leans_turn g.C.Rule.holds g.C.Rule.keeps g.C.Content.notes g.C.Content.beside g.C.Rule.leans c.goes_on.ensures.leans n.blocks.now.words.fixed n.seat.now.away n.seat.now.view
     (Settles c.settles.new.row (Retiring b.0) k.0 k.1) (ap known_by k.2) ended still (c.settles.ensures.over, refl) tt
 
 pub returns-clause-rests : goal.returns-clause-rests

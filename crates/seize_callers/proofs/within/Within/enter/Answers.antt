@@ -18,7 +18,7 @@ part-requires-clause-errand g c = λ home rests w so. absurd (c.args.self.now.aw
 pub part-requires-clause-leans : goal.part-requires-clause-leans
 part-requires-clause-leans g c =
     let x = c.args.self.now in
-    leans_turn g.C.Rule.holds g.C.Rule.keeps g.C.Content.notes g.C.Content.beside g.C.Rule.leans c.goes_on.ensures.leans x.blocks.now.words.fixed x.seat.now.id x.seat.now.view
+    leans_turn g.C.Rule.holds g.C.Rule.keeps g.C.Content.notes g.C.Content.beside g.C.Rule.leans c.goes_on.ensures.leans x.blocks.now.words.fixed x.seat.now.away x.seat.now.view
     (Outside c.args.slot) c.requires.outside entering (λ _. Section) (inl refl) tt
 
 pub store-requires : goal.store-requires

@@ -18,7 +18,7 @@ part-requires-clause-errand g c = λ home rests w so. absurd (c.args.self.now.aw
 pub part-requires-clause-leans : goal.part-requires-clause-leans
 part-requires-clause-leans g c =
     let x = c.args.self.now in let i = c.requires.outside in
-    leans_flush_idle g.C.Rule.holds g.C.Rule.keeps g.C.Content.notes g.C.Content.beside g.C.Rule.leans c.goes_on.ensures.leans x.blocks.now.words.fixed x.seat.now.id x.seat.now.view Trial c.args.slot i
+    leans_flush_idle g.C.Rule.holds g.C.Rule.keeps g.C.Content.notes g.C.Content.beside g.C.Rule.leans c.goes_on.ensures.leans x.blocks.now.words.fixed x.seat.now.away x.seat.now.view Trial c.args.slot i
 
 pub ends-requires : goal.ends-requires
 ends-requires g c =

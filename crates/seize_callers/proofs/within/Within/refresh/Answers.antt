@@ -26,7 +26,7 @@ part-requires-clause-errand g c = λ home rests w so. absurd (c.args.self.now.aw
 pub part-requires-clause-leans : goal.part-requires-clause-leans
 part-requires-clause-leans g c =
     let x = c.args.self.now in let i = c.requires.inside in
-    leans_turn g.C.Rule.holds g.C.Rule.keeps g.C.Content.notes g.C.Content.beside g.C.Rule.leans c.goes_on.ensures.leans x.blocks.now.words.fixed x.seat.now.id x.seat.now.view
+    leans_turn g.C.Rule.holds g.C.Rule.keeps g.C.Content.notes g.C.Content.beside g.C.Rule.leans c.goes_on.ensures.leans x.blocks.now.words.fixed x.seat.now.away x.seat.now.view
     (Inside c.args.slot i.0) i.2 refreshes (λ _. Section) (refreshes_next g.row.T.Denot x.blocks.now.words.fixed c.args.slot i.0 i.1) (inl c.requires.none)
 
 pub swap-head-requires : goal.swap-head-requires
@@ -63,7 +63,7 @@ part-requires-2-clause-errand g c = λ home rests w so. absurd (c.counts_down.ne
 pub part-requires-2-clause-leans : goal.part-requires-2-clause-leans
 part-requires-2-clause-leans g c =
     let x = c.counts_down.new.self in let t = taken g (goal.at.part-requires-2-clause-leans g c).After-swap-head in
-    leans_turn g.C.Rule.holds g.C.Rule.keeps g.C.Content.notes g.C.Content.beside g.C.Rule.leans c.goes_on.ensures.leans x.blocks.now.words.fixed x.seat.now.id x.seat.now.view
+    leans_turn g.C.Rule.holds g.C.Rule.keeps g.C.Content.notes g.C.Content.beside g.C.Rule.leans c.goes_on.ensures.leans x.blocks.now.words.fixed x.seat.now.away x.seat.now.view
     (Left c.args.slot c.swap-head.new.self.blocks.now.words.fixed.batch_size Active) (c.counts_down.ensures.left Active t.0 t.1) ended still refl tt
 
 pub returns-clause-inside : goal.returns-clause-inside

@@ -19,7 +19,7 @@ part-requires-clause-errand g c = λ home rests w so. absurd (c.args.self.now.aw
 
 pub part-requires-clause-leans : goal.part-requires-clause-leans
 part-requires-clause-leans g c =
-    let x = c.args.self.now in leans_retire_idle g.C.Rule.holds g.C.Rule.keeps g.C.Content.notes g.C.Content.beside g.C.Rule.leans c.goes_on.ensures.leans x.blocks.now.words.fixed x.seat.now.id x.seat.now.view Retirement c.args.slot c.args.block c.requires.owes
+    let x = c.args.self.now in leans_retire_idle g.C.Rule.holds g.C.Rule.keeps g.C.Content.notes g.C.Content.beside g.C.Rule.leans c.goes_on.ensures.leans x.blocks.now.words.fixed x.seat.now.away x.seat.now.view Retirement c.args.slot c.args.block c.requires.owes
 
 begun : (g : given.Over) (c : After-to g) → IsBegun Idle (retiring c.args.slot c.args.self.now.blocks.now.words.fixed.batch_size c.to.result) (g.C.Content.notes c.part.new.seat.view).knows
 begun g c =

@@ -47,7 +47,7 @@ part-requires-clause-errand g c = λ home rests w so. absurd (c.retire-retired.n
 pub part-requires-clause-leans : goal.part-requires-clause-leans
 part-requires-clause-leans g c =
     let b = c.requires.begun in let n = c.retire-retired.new.memory in let d = over g (goal.at.part-requires-clause-leans g c).In-Ended b.0 b.1 in
-    leans_turn g.C.Rule.holds g.C.Rule.keeps g.C.Content.notes g.C.Content.beside g.C.Rule.leans c.goes_on.ensures.leans n.blocks.now.words.fixed n.seat.now.id n.seat.now.view (Settles d.0 (Retiring b.0) d.2.0.0 d.2.0.1) (ap known_by d.2.0.2) ended still
+    leans_turn g.C.Rule.holds g.C.Rule.keeps g.C.Content.notes g.C.Content.beside g.C.Rule.leans c.goes_on.ensures.leans n.blocks.now.words.fixed n.seat.now.away n.seat.now.view (Settles d.0 (Retiring b.0) d.2.0.0 d.2.0.1) (ap known_by d.2.0.2) ended still
     (d.1, refl) tt
 
 pub returns-in-Ended-clause-rests : goal.returns-in-Ended-clause-rests

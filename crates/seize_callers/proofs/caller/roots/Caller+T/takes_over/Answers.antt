@@ -1,6 +1,7 @@
 use Rattle.std.proofs.Common.{subst}
 use Rattle.seize_views.specs.Begun.{Hands}
 use Rattle.seize_callers.proofs.Resting.{handed}
+use Rattle.seize_views.specs.Resting.{upright}
 use Rattle.seize_callers.proofs.Owning.{bears, may_hand_on, owes_told, cuts_told, rests_told}
 use Rattle.seize_callers.proofs.caller.roots.Caller+T.takes_over.Goals as goal
 
@@ -39,4 +40,9 @@ meet-requires-clause-errand g c = λ p q so.
     (λ home rests. k.0, λ home rests. k.1)
 
 pub meet-requires-clause-leans : goal.meet-requires-clause-leans
-meet-requires-clause-leans g c = λ v u told. (λ n none. absurd none, λ n none. absurd none)
+meet-requires-clause-leans g c = λ p q so.
+    let x = c.args.self.now in let seat = c.args.bearer.now.seat in let fixed = x.blocks.now.words.fixed in
+    let k =
+    handed fixed c.args._block x.seat.view.knows p.knows q.knows c.requires.takes
+    (subst (λ v. Hands fixed v x.seat.view.knows p.knows q.knows) (bears c.args._block seat.view.knows c.requires.bears) so.0) in
+    (λ n leans. absurd (upright p n k.0 leans), λ n leans. absurd (upright q n k.1 leans))

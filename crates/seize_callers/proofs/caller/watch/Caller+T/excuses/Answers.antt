@@ -1,4 +1,8 @@
+use Rattle.std.proofs.Common.{inl, subst}
 use Rattle.seize_callers.proofs.Resting.{at_rest}
+use Rattle.seize_views.specs.Resting.{upright}
+use Rattle.seize_views.specs.Watched.{LeansOn}
+use Rattle.seize_views.specs.declared.view.View.{View}
 use Rattle.seize_views.specs.declared.view.View.TheVariants.{Rests}
 use Rattle.seize_views.proofs.Guarding.{watches_end}
 use Rattle.seize_callers.proofs.caller.watch.Caller+T.excuses.Goals as goal
@@ -14,4 +18,7 @@ meet-requires-clause-errand g c = λ p q so.
     (λ home rests. at_rest p.knows Rests so.0 tt, λ home rests. at_rest q.knows c.args.self.now.seat.view.knows so.2 rests)
 
 pub meet-requires-clause-leans : goal.meet-requires-clause-leans
-meet-requires-clause-leans g c = λ v u told. (λ n none. absurd none, λ n none. absurd none)
+meet-requires-clause-leans g c = λ p q so. (
+  λ n leans. absurd (upright p n (at_rest p.knows Rests so.0 tt) leans),
+  λ n leans. inl (subst (λ (x : View g.row.T.Denot). LeansOn x n) so.2 leans),
+)

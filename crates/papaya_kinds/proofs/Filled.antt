@@ -2,22 +2,22 @@
 use Rattle.std.specs.Prelude.{◌==◌, if◌then◌else◌, Option, Some, None, Ok, Err}
 use Rattle.std.proofs.Common.{◌≡◌, ℕ, Bool, true, false, inl, inr, refl, sym, subst, ap}
 use Rattle.std.proofs.lemmas.Bool.{eq-eqb}
-use Rattle.papaya_views.specs.Given.SeizeWordsOp.{Found, Stored, Exchanged, Made, Taken, Roomed}
-use Rattle.papaya_views.specs.Given.TablesDeclared.node.Node.{Node}
-use Rattle.papaya_views.specs.Given.TablesDeclared.node.Node.TheVariants as nodes
+use Rattle.papaya_tables.specs.Given.SeizeWordsOp.{Found, Stored, Exchanged, Made, Taken, Roomed}
+use Rattle.papaya_tables.specs.declared.node.Node.{Node}
+use Rattle.papaya_tables.specs.declared.node.Node.TheVariants as nodes
 use Rattle.papaya_raw.specs.CallFills.{putting_by, fill_by, fills_with, fills, gives_up}
 use Rattle.papaya_raw.specs.Replies.{value_told, owned, value_for, back, back_present}
-use Rattle.papaya_views.specs.Given.RawDeclared.machines.answer.Called.{Called}
-use Rattle.papaya_views.specs.Given.RawDeclared.machines.asking.Asking.TheVariants as asking
-use Rattle.papaya_views.specs.Given.RawDeclared.machines.asking.Replies.{Replies}
-use Rattle.papaya_views.specs.Given.RawDeclared.machines.asking.Told.{Told}
-use Rattle.papaya_views.specs.Given.RawDeclared.machines.asking.Told.TheVariants as tells
-use Rattle.papaya_views.specs.Given.RawDeclared.machines.call.Calling.{Calling}
-use Rattle.papaya_views.specs.Given.RawDeclared.machines.call.Calling.TheVariants as at
-use Rattle.papaya_views.specs.Given.RawDeclared.machines.call.KeyCall.{KeyCall}
-use Rattle.papaya_seats.specs.Kinds.{Kind, Stage, IsUntold, IsNoValue, IsOneValue, IsOfGap, IsGapTold, IsFresh, HoldsBy, StandsSo, IsSo, SaysSo}
-use Rattle.papaya_seats.proofs.Asked.{of_gap}
-use Rattle.papaya_seats.proofs.Leads.{Leads}
+use Rattle.papaya_raw.specs.declared.machines.answer.Called.{Called}
+use Rattle.papaya_raw.specs.declared.machines.asking.Asking.TheVariants as asking
+use Rattle.papaya_raw.specs.declared.machines.asking.Replies.{Replies}
+use Rattle.papaya_raw.specs.declared.machines.asking.Told.{Told}
+use Rattle.papaya_raw.specs.declared.machines.asking.Told.TheVariants as tells
+use Rattle.papaya_raw.specs.declared.machines.call.Calling.{Calling}
+use Rattle.papaya_raw.specs.declared.machines.call.Calling.TheVariants as at
+use Rattle.papaya_raw.specs.declared.machines.call.KeyCall.{KeyCall}
+use Rattle.papaya_kinds.specs.Kinds.{Kind, Stage, IsUntold, IsNoValue, IsOneValue, IsOfGap, IsGapTold, IsFresh, HoldsBy, StandsSo, IsSo, SaysSo}
+use Rattle.papaya_kinds.proofs.Asked.{of_gap}
+use Rattle.papaya_kinds.proofs.Leads.{Leads}
 
 module _ {V : Type 0} where
   untold_none : (t : Told V) (v : V) → IsUntold t → value_told t ≡ Some v → ⊥

@@ -1,4 +1,4 @@
-use Rattle.std.proofs.Common.{◌≡◌, ℕ, ap, sym, subst, ◌∙◌, inr}
+use Rattle.std.proofs.Common.{◌≡◌, ℕ, sym, subst, ◌∙◌, inr}
 use Rattle.seize_seats.specs.Errands.{Away, Lends}
 use Rattle.seize_words.specs.Word.{block_in}
 use Rattle.std.specs.Prelude.{IfSome}
@@ -12,11 +12,11 @@ use Rattle.seize_views.specs.declared.view.Deed.TheVariants.{Looked}
 use Rattle.seize_views.specs.declared.view.Fixed.{Fixed}
 use Rattle.seize_views.specs.Watched.{LeansOn}
 use Rattle.seize_views.specs.declared.view.View.{View}
-use Rattle.seize_views.specs.declared.view.View.TheVariants.{Rests, Under}
+use Rattle.seize_views.specs.declared.view.View.TheVariants.{Under}
 use Rattle.seize_views.proofs.Passing.{leanings_begin, leanings_see, leanings_end}
-use Rattle.seize_callers.proofs.caller.pass.ProtectsErrandWith.run.Given as given
-use Rattle.seize_callers.proofs.caller.pass.ProtectsErrandWith.run.Goals as goal
-use Rattle.seize_callers.proofs.caller.pass.ProtectsErrandWith.run.Goals.{After-learn, After-load-word}
+use Rattle.seize_callers.proofs.caller.pass.ProtectsErrandWithOfRows.run.Given as given
+use Rattle.seize_callers.proofs.caller.pass.ProtectsErrandWithOfRows.run.Goals as goal
+use Rattle.seize_callers.proofs.caller.pass.ProtectsErrandWithOfRows.run.Goals.{After-learn, After-load-word}
 
 pub learn-requires-clause-own : goal.learn-requires-clause-own
 learn-requires-clause-own g c = (c.requires.0, c.requires.1.3.2 ∙ c.requires.0)
@@ -91,8 +91,10 @@ returns g c =
       c.turn.ensures.same.0 ∙ c.load-word.ensures.same.0 ∙ c.learn.ensures.same.0,
       c.turn.ensures.same.1 ∙ c.load-word.ensures.same.1 ∙ c.learn.ensures.same.1,
       c.turn.ensures.errand ∙ c.load-word.ensures.errand ∙ c.learn.ensures.errand,
-      c.turn.ensures.goes.0,
-      c.turn.ensures.goes.1.0 ∙ k.1,
-      subst (λ (f : Fixed). IfSome c.lent-value.result (λ value. IsValueOf (NotedHolds g.T.Defers.defers f) guard.id guard.view block value.now)) asks.1 c.lent-value.ensures.lent,
-      c.lent-value.ensures.none,
+      (
+        c.turn.ensures.goes.0,
+        c.turn.ensures.goes.1.0 ∙ k.1,
+        subst (λ (f : Fixed). IfSome c.lent-value.result (λ value. IsValueOf (NotedHolds g.T.Defers.defers f) guard.id guard.view block value.now)) asks.1 c.lent-value.ensures.lent,
+        c.lent-value.ensures.none,
+      ),
     )

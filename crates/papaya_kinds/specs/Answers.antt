@@ -1,5 +1,5 @@
 -- Which answers an operation may have.
-use Rattle.papaya_views.specs.Given.SeizeWordsOp.{Op, Out, Load, Store, Swap, Add, Or, Exchange, Make, Take, Rewrite, Room, Found, Stored, Exchanged, Made, Taken, Roomed}
+use Rattle.papaya_tables.specs.Given.SeizeWordsOp.{Op, Out, Load, Store, Swap, Add, Or, Exchange, Make, Take, Rewrite, Room, Found, Stored, Exchanged, Made, Taken, Roomed}
 
 -- an answer of the kind that the operation has
 abbrev pub IsAnswer : {T : Type 0} → Op T → Out T → Type 0

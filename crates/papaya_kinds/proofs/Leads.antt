@@ -1,9 +1,9 @@
 -- To which end a step comes, with an answer of the kind of its operation, or without an operation.
 use Rattle.std.specs.Prelude.{◌≡◌, ℕ, Option}
-use Rattle.papaya_views.specs.Given.SeizeWordsOp.{Out}
-use Rattle.papaya_views.specs.Given.SeizeWordsPlan.{Plan, Turn, Do, Ends, plan_as}
-use Rattle.papaya_seats.specs.Answers.{IsAnswer}
-use Rattle.papaya_seats.proofs.Plans.{ends_as}
+use Rattle.papaya_tables.specs.Given.SeizeWordsOp.{Out}
+use Rattle.papaya_tables.specs.Given.SeizeWordsPlan.{Plan, Turn, Do, Ends, plan_as}
+use Rattle.papaya_kinds.specs.Answers.{IsAnswer}
+use Rattle.papaya_kinds.proofs.Plans.{ends_as}
 
 abbrev pub Leads : {T R : Type 0} → (ℕ → Option T) → Plan T R → R → Type 0
 Leads shown (Turn rest) end = Ends shown rest end

@@ -1,13 +1,13 @@
 -- Steps that may be taken, by what is told of them: whoever knows to what a step has come may look at what it looks at.
 use Rattle.std.specs.Prelude.{Option, Some, IsSome, if◌then◌else◌}
 use Rattle.std.proofs.Common.{◌≡◌, ℕ, Bool, true, false, refl, sym, subst, ◌∙◌}
-use Rattle.papaya_views.specs.Given.SeizeWordsOp.{Op, Out, Rewrite}
-use Rattle.papaya_views.specs.Given.SeizeWordsPlan.{Plan, Then, Turn, Do, Now, Seeing, Sure, Ends, MaySee, May, Steps, then_as, plan_as}
-use Rattle.papaya_views.proofs.Given.SeizeActsAnswers.{same_some}
-use Rattle.papaya_views.specs.Given.SeizeViewsPromises.{op_in}
-use Rattle.papaya_views.specs.Given.SeizeViewsTold.{FollowsBy}
-use Rattle.papaya_views.proofs.Given.SeizeViewsLooks.{IsNow, rest_of, ends_same, now_ends}
-use Rattle.papaya_seats.specs.Answers.{IsAnswer}
+use Rattle.papaya_tables.specs.Given.SeizeWordsOp.{Op, Out, Rewrite}
+use Rattle.papaya_tables.specs.Given.SeizeWordsPlan.{Plan, Then, Turn, Do, Now, Seeing, Sure, Ends, MaySee, May, Steps, then_as, plan_as}
+use Rattle.seize_views.proofs.Given.SeizeActsAnswers.{same_some}
+use Rattle.seize_views.specs.Promises.{op_in}
+use Rattle.seize_views.specs.Told.{FollowsBy}
+use Rattle.seize_views.proofs.Looks.{IsNow, rest_of, ends_same, now_ends}
+use Rattle.papaya_kinds.specs.Answers.{IsAnswer}
 
 -- it makes an operation, and which replaces no value
 abbrev pub IsDo : {T R : Type 0} → Plan T R → Type 0

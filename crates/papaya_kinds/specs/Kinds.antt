@@ -1,23 +1,23 @@
 -- Which calls on one key there are, and how far one has come that asks: what it was told, and what it has of its own.
 use Rattle.std.specs.Prelude.{◌≡◌, ◌⊎◌, ℕ, Bool, true, false, Option, Some, None}
-use Rattle.papaya_views.specs.Given.SeizeWordsWord.{block_in}
-use Rattle.papaya_views.specs.Given.TablesDeclared.node.Node.{Node}
-use Rattle.papaya_views.specs.Given.TablesDeclared.node.Node.TheVariants.{Pair}
-use Rattle.papaya_views.specs.Given.RawDeclared.machines.answer.Called.{Called}
-use Rattle.papaya_views.specs.Given.RawDeclared.machines.answer.Called.TheVariants.{Asks}
-use Rattle.papaya_views.specs.Given.RawDeclared.machines.answer.There.{There}
-use Rattle.papaya_views.specs.Given.RawDeclared.machines.answer.There.TheVariants as there
-use Rattle.papaya_views.specs.Given.RawDeclared.machines.answer.Missing.{Missing}
-use Rattle.papaya_views.specs.Given.RawDeclared.machines.answer.Missing.TheVariants as missing
-use Rattle.papaya_views.specs.Given.RawDeclared.machines.asking.Asking.TheVariants as asking
-use Rattle.papaya_views.specs.Given.RawDeclared.machines.asking.Gap.{Gap}
-use Rattle.papaya_views.specs.Given.RawDeclared.machines.asking.Replies.{Replies}
-use Rattle.papaya_views.specs.Given.RawDeclared.machines.asking.Takes.{Takes}
-use Rattle.papaya_views.specs.Given.RawDeclared.machines.asking.Told.{Told}
-use Rattle.papaya_views.specs.Given.RawDeclared.machines.asking.Told.TheVariants as tells
-use Rattle.papaya_views.specs.Given.RawDeclared.machines.call.Calling.{Calling}
-use Rattle.papaya_views.specs.Given.RawDeclared.machines.call.Calling.TheVariants as at
-use Rattle.papaya_views.specs.Given.RawDeclared.machines.call.KeyCall.{KeyCall}
+use Rattle.papaya_tables.specs.Given.SeizeWordsWord.{block_in}
+use Rattle.papaya_tables.specs.declared.node.Node.{Node}
+use Rattle.papaya_tables.specs.declared.node.Node.TheVariants.{Pair}
+use Rattle.papaya_raw.specs.declared.machines.answer.Called.{Called}
+use Rattle.papaya_raw.specs.declared.machines.answer.Called.TheVariants.{Asks}
+use Rattle.papaya_raw.specs.declared.machines.answer.There.{There}
+use Rattle.papaya_raw.specs.declared.machines.answer.There.TheVariants as there
+use Rattle.papaya_raw.specs.declared.machines.answer.Missing.{Missing}
+use Rattle.papaya_raw.specs.declared.machines.answer.Missing.TheVariants as missing
+use Rattle.papaya_raw.specs.declared.machines.asking.Asking.TheVariants as asking
+use Rattle.papaya_raw.specs.declared.machines.asking.Gap.{Gap}
+use Rattle.papaya_raw.specs.declared.machines.asking.Replies.{Replies}
+use Rattle.papaya_raw.specs.declared.machines.asking.Takes.{Takes}
+use Rattle.papaya_raw.specs.declared.machines.asking.Told.{Told}
+use Rattle.papaya_raw.specs.declared.machines.asking.Told.TheVariants as tells
+use Rattle.papaya_raw.specs.declared.machines.call.Calling.{Calling}
+use Rattle.papaya_raw.specs.declared.machines.call.Calling.TheVariants as at
+use Rattle.papaya_raw.specs.declared.machines.call.KeyCall.{KeyCall}
 
 -- what a call does where the key is there, and where it is missing, and which replies it takes
 pub record Kind : Type 0 where

@@ -1,47 +1,47 @@
 -- Steps of the machines that calls are made of: one that makes no operation looks at nothing, and no operation replaces a value.
 use Rattle.std.specs.Prelude.{ℕ, Bool, Option}
-use Rattle.papaya_views.specs.Given.SeizeWordsPlan.{Plan, Then, Turn, Do, Now, Seeing, Sure, then_as, plan_as}
-use Rattle.papaya_views.specs.Given.SeizeDefer.{defer_plan}
-use Rattle.papaya_views.specs.Given.SeizeDefer as defer
-use Rattle.papaya_views.specs.Given.SeizeSettle.{settle_plan}
-use Rattle.papaya_views.specs.Given.SeizeSettle as settle
-use Rattle.papaya_views.specs.Given.SeizeDeclared.rows.defer.Defer.{Defer}
-use Rattle.papaya_views.specs.Given.SeizeDeclared.rows.defer.Deferring.{Deferring}
-use Rattle.papaya_views.specs.Given.SeizeDeclared.rows.defer.Deferring.TheVariants as defers
-use Rattle.papaya_views.specs.Given.SeizeDeclared.rows.settle.Settle.{Settle}
-use Rattle.papaya_views.specs.Given.SeizeDeclared.rows.settle.Settling.{Settling}
-use Rattle.papaya_views.specs.Given.SeizeDeclared.rows.settle.Settling.TheVariants as settles
-use Rattle.papaya_views.specs.Given.TablesNodes.{deferred_word}
-use Rattle.papaya_views.specs.Given.TablesDeclared.node.Node.{Node}
-use Rattle.papaya_views.specs.Given.ResizeCopier.{copier_plan}
-use Rattle.papaya_views.specs.Given.ResizeCopier as copier
-use Rattle.papaya_views.specs.Given.ResizeCopierFurther.{grown, remade}
-use Rattle.papaya_views.specs.Given.ResizeCopierPromotes.{retired}
-use Rattle.papaya_views.specs.Given.ResizeDispose.{dispose_plan, settled, deferred}
-use Rattle.papaya_views.specs.Given.ResizeDispose as dispose
-use Rattle.papaya_views.specs.Given.ResizeLookup.{lookup_plan}
-use Rattle.papaya_views.specs.Given.ResizeLookup as lookup
-use Rattle.papaya_views.specs.Given.ResizeNewTable.{new_table_plan, counted}
-use Rattle.papaya_views.specs.Given.ResizeNewTable as new_table
-use Rattle.papaya_views.specs.Given.ResizeSum.{sum_plan}
-use Rattle.papaya_views.specs.Given.ResizeSum as sum
-use Rattle.papaya_views.specs.Given.ResizeDeclared.copier.Copier.{Copier}
-use Rattle.papaya_views.specs.Given.ResizeDeclared.copier.Copying.{Copying}
-use Rattle.papaya_views.specs.Given.ResizeDeclared.copier.Copying.TheVariants as copies
-use Rattle.papaya_views.specs.Given.ResizeDeclared.dispose.Dispose.{Dispose}
-use Rattle.papaya_views.specs.Given.ResizeDeclared.dispose.Disposing.{Disposing}
-use Rattle.papaya_views.specs.Given.ResizeDeclared.dispose.Disposing.TheVariants as disposes
-use Rattle.papaya_views.specs.Given.ResizeDeclared.lookup.Lookup.{Lookup}
-use Rattle.papaya_views.specs.Given.ResizeDeclared.lookup.Looking.{Looking}
-use Rattle.papaya_views.specs.Given.ResizeDeclared.lookup.Looking.TheVariants as looks
-use Rattle.papaya_views.specs.Given.ResizeDeclared.new_table.NewTable.{NewTable}
-use Rattle.papaya_views.specs.Given.ResizeDeclared.new_table.Making.{Making}
-use Rattle.papaya_views.specs.Given.ResizeDeclared.new_table.Making.TheVariants as makes
-use Rattle.papaya_views.specs.Given.ResizeDeclared.sum.Sum.{Sum}
-use Rattle.papaya_views.specs.Given.ResizeDeclared.sum.Summing.{Summing}
-use Rattle.papaya_views.specs.Given.ResizeDeclared.sum.Summing.TheVariants as sums
-use Rattle.papaya_views.proofs.Given.SeizeViewsLooks.{IsNow}
-use Rattle.papaya_seats.proofs.Plans.{ReplacesNone}
+use Rattle.papaya_tables.specs.Given.SeizeWordsPlan.{Plan, Then, Turn, Do, Now, Seeing, Sure, then_as, plan_as}
+use Rattle.papaya_tables.specs.Given.SeizeDefer.{defer_plan}
+use Rattle.papaya_tables.specs.Given.SeizeDefer as defer
+use Rattle.papaya_tables.specs.Given.SeizeSettle.{settle_plan}
+use Rattle.papaya_tables.specs.Given.SeizeSettle as settle
+use Rattle.papaya_tables.specs.Given.SeizeDeclared.rows.defer.Defer.{Defer}
+use Rattle.papaya_tables.specs.Given.SeizeDeclared.rows.defer.Deferring.{Deferring}
+use Rattle.papaya_tables.specs.Given.SeizeDeclared.rows.defer.Deferring.TheVariants as defers
+use Rattle.papaya_tables.specs.Given.SeizeDeclared.rows.settle.Settle.{Settle}
+use Rattle.papaya_tables.specs.Given.SeizeDeclared.rows.settle.Settling.{Settling}
+use Rattle.papaya_tables.specs.Given.SeizeDeclared.rows.settle.Settling.TheVariants as settles
+use Rattle.papaya_tables.specs.Nodes.{deferred_word}
+use Rattle.papaya_tables.specs.declared.node.Node.{Node}
+use Rattle.papaya_resize.specs.Copier.{copier_plan}
+use Rattle.papaya_resize.specs.Copier as copier
+use Rattle.papaya_resize.specs.CopierFurther.{grown, remade}
+use Rattle.papaya_resize.specs.CopierPromotes.{retired}
+use Rattle.papaya_resize.specs.Dispose.{dispose_plan, settled, deferred}
+use Rattle.papaya_resize.specs.Dispose as dispose
+use Rattle.papaya_resize.specs.Lookup.{lookup_plan}
+use Rattle.papaya_resize.specs.Lookup as lookup
+use Rattle.papaya_resize.specs.NewTable.{new_table_plan, counted}
+use Rattle.papaya_resize.specs.NewTable as new_table
+use Rattle.papaya_resize.specs.Sum.{sum_plan}
+use Rattle.papaya_resize.specs.Sum as sum
+use Rattle.papaya_resize.specs.declared.copier.Copier.{Copier}
+use Rattle.papaya_resize.specs.declared.copier.Copying.{Copying}
+use Rattle.papaya_resize.specs.declared.copier.Copying.TheVariants as copies
+use Rattle.papaya_resize.specs.declared.dispose.Dispose.{Dispose}
+use Rattle.papaya_resize.specs.declared.dispose.Disposing.{Disposing}
+use Rattle.papaya_resize.specs.declared.dispose.Disposing.TheVariants as disposes
+use Rattle.papaya_resize.specs.declared.lookup.Lookup.{Lookup}
+use Rattle.papaya_resize.specs.declared.lookup.Looking.{Looking}
+use Rattle.papaya_resize.specs.declared.lookup.Looking.TheVariants as looks
+use Rattle.papaya_resize.specs.declared.new_table.NewTable.{NewTable}
+use Rattle.papaya_resize.specs.declared.new_table.Making.{Making}
+use Rattle.papaya_resize.specs.declared.new_table.Making.TheVariants as makes
+use Rattle.papaya_resize.specs.declared.sum.Sum.{Sum}
+use Rattle.papaya_resize.specs.declared.sum.Summing.{Summing}
+use Rattle.papaya_resize.specs.declared.sum.Summing.TheVariants as sums
+use Rattle.seize_views.proofs.Looks.{IsNow}
+use Rattle.papaya_kinds.proofs.Plans.{ReplacesNone}
 
 abbrev pub IsQuiet : {T R : Type 0} → Plan T R → Type 0
 IsQuiet (Turn rest) = IsNow rest

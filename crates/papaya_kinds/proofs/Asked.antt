@@ -2,25 +2,25 @@
 use Rattle.std.specs.Prelude.{◌==◌, if◌then◌else◌, Option}
 use Rattle.std.proofs.Common.{◌≡◌, ◌⊎◌, ℕ, Bool, true, false, inl, inr, refl, sym, subst, ap, ◌∙◌}
 use Rattle.std.proofs.lemmas.Bool.{eq-eqb}
-use Rattle.papaya_views.specs.Given.SeizeWordsWord.{block_in}
-use Rattle.papaya_views.specs.Given.TablesDeclared.marks.TheConstants.{TOMBSTONE}
-use Rattle.papaya_views.specs.Given.TablesDeclared.node.Node.{Node}
-use Rattle.papaya_views.specs.Given.RawCallPoints.{standing, going, over, ending, storing, burying, at_gap, gap_by, asking_at, pair_by, asking_of}
-use Rattle.papaya_views.specs.Given.RawDeclared.machines.answer.Called.{Called}
-use Rattle.papaya_views.specs.Given.RawDeclared.machines.answer.End.{End}
-use Rattle.papaya_views.specs.Given.RawDeclared.machines.answer.End.TheVariants as ends
-use Rattle.papaya_views.specs.Given.RawDeclared.machines.answer.There.TheVariants as there
-use Rattle.papaya_views.specs.Given.RawDeclared.machines.answer.Missing.TheVariants as missing
-use Rattle.papaya_views.specs.Given.RawDeclared.machines.asking.Asking.TheVariants as asking
-use Rattle.papaya_views.specs.Given.RawDeclared.machines.asking.Gap.{Gap}
-use Rattle.papaya_views.specs.Given.RawDeclared.machines.asking.Gap.TheVariants as gaps
-use Rattle.papaya_views.specs.Given.RawDeclared.machines.asking.Replies.{Replies}
-use Rattle.papaya_views.specs.Given.RawDeclared.machines.asking.Told.{Told}
-use Rattle.papaya_views.specs.Given.RawDeclared.machines.asking.Told.TheVariants as tells
-use Rattle.papaya_views.specs.Given.RawDeclared.machines.call.Calling.{Calling}
-use Rattle.papaya_views.specs.Given.RawDeclared.machines.call.Calling.TheVariants as at
-use Rattle.papaya_views.specs.Given.RawDeclared.machines.call.KeyCall.{KeyCall}
-use Rattle.papaya_seats.specs.Kinds.{Kind, Stage, IsUntold, IsTold, IsNoValue, IsOneValue, IsOfGap, IsFresh, HoldsBy, StandsSo, ShowsPair, IsSo, GoesOn, SaysSo}
+use Rattle.papaya_tables.specs.Given.SeizeWordsWord.{block_in}
+use Rattle.papaya_tables.specs.declared.marks.TheConstants.{TOMBSTONE}
+use Rattle.papaya_tables.specs.declared.node.Node.{Node}
+use Rattle.papaya_raw.specs.CallPoints.{standing, going, over, ending, storing, burying, at_gap, gap_by, asking_at, pair_by, asking_of}
+use Rattle.papaya_raw.specs.declared.machines.answer.Called.{Called}
+use Rattle.papaya_raw.specs.declared.machines.answer.End.{End}
+use Rattle.papaya_raw.specs.declared.machines.answer.End.TheVariants as ends
+use Rattle.papaya_raw.specs.declared.machines.answer.There.TheVariants as there
+use Rattle.papaya_raw.specs.declared.machines.answer.Missing.TheVariants as missing
+use Rattle.papaya_raw.specs.declared.machines.asking.Asking.TheVariants as asking
+use Rattle.papaya_raw.specs.declared.machines.asking.Gap.{Gap}
+use Rattle.papaya_raw.specs.declared.machines.asking.Gap.TheVariants as gaps
+use Rattle.papaya_raw.specs.declared.machines.asking.Replies.{Replies}
+use Rattle.papaya_raw.specs.declared.machines.asking.Told.{Told}
+use Rattle.papaya_raw.specs.declared.machines.asking.Told.TheVariants as tells
+use Rattle.papaya_raw.specs.declared.machines.call.Calling.{Calling}
+use Rattle.papaya_raw.specs.declared.machines.call.Calling.TheVariants as at
+use Rattle.papaya_raw.specs.declared.machines.call.KeyCall.{KeyCall}
+use Rattle.papaya_kinds.specs.Kinds.{Kind, Stage, IsUntold, IsTold, IsNoValue, IsOneValue, IsOfGap, IsFresh, HoldsBy, StandsSo, ShowsPair, IsSo, GoesOn, SaysSo}
 
 module _ {K V : Type 0} where
   -- a value that has still to be put into a block is that of a call that has none

@@ -2,65 +2,65 @@
 use Rattle.std.specs.Prelude.{◌==◌, if◌then◌else◌, Option, Some, None, Ok, Err}
 use Rattle.std.proofs.Common.{◌≡◌, ℕ, Bool, true, false, inr, refl, sym, subst}
 use Rattle.std.proofs.lemmas.Bool.{eq-eqb}
-use Rattle.papaya_views.specs.Given.SeizeWordsOp.{Op, Out, Load, Exchange, Take, Found, Stored, Exchanged, Made, Taken, Roomed}
-use Rattle.papaya_views.specs.Given.SeizeWordsPlan.{Now, Seeing, Ends}
-use Rattle.papaya_views.specs.Given.SeizeWordsWord.{block_in}
-use Rattle.papaya_views.specs.Given.SeizeWordsDeclared.at.At.{At}
-use Rattle.papaya_views.specs.Given.SeizeWordsDeclared.at.At.TheVariants.{Root}
-use Rattle.papaya_views.specs.Given.SeizeDeclared.progress.Progress.{Progress}
-use Rattle.papaya_views.specs.Given.SeizeDeclared.progress.Progress.TheVariants as progress
-use Rattle.papaya_views.specs.Given.SeizeDeclared.rows.settle.Settled.{Settled}
-use Rattle.papaya_views.specs.Given.SeizeDeclared.rows.settle.Settled.TheVariants as settled
-use Rattle.papaya_views.specs.Given.TablesChunks.{is_incremental}
-use Rattle.papaya_views.specs.Given.TablesFinding.{finding, may_name}
-use Rattle.papaya_views.specs.Given.TablesNodes.{table_seen}
-use Rattle.papaya_views.specs.Given.TablesTrials.{next_trial, with_met, place_tried}
+use Rattle.papaya_tables.specs.Given.SeizeWordsOp.{Op, Out, Load, Exchange, Take, Found, Stored, Exchanged, Made, Taken, Roomed}
+use Rattle.papaya_tables.specs.Given.SeizeWordsPlan.{Now, Seeing, Ends}
+use Rattle.papaya_tables.specs.Given.SeizeWordsWord.{block_in}
+use Rattle.papaya_tables.specs.Given.SeizeWordsDeclared.at.At.{At}
+use Rattle.papaya_tables.specs.Given.SeizeWordsDeclared.at.At.TheVariants.{Root}
+use Rattle.papaya_tables.specs.Given.SeizeDeclared.progress.Progress.{Progress}
+use Rattle.papaya_tables.specs.Given.SeizeDeclared.progress.Progress.TheVariants as progress
+use Rattle.papaya_tables.specs.Given.SeizeDeclared.rows.settle.Settled.{Settled}
+use Rattle.papaya_tables.specs.Given.SeizeDeclared.rows.settle.Settled.TheVariants as settled
+use Rattle.papaya_tables.specs.Chunks.{is_incremental}
+use Rattle.papaya_tables.specs.Finding.{finding, may_name}
+use Rattle.papaya_tables.specs.Nodes.{table_seen}
+use Rattle.papaya_tables.specs.Trials.{next_trial, with_met, place_tried}
 use Rattle.papaya_tables.specs.TablePlaces.{at_word}
 use Rattle.papaya_tables.specs.declared.table_words.TheConstants.{NEXT}
-use Rattle.papaya_views.specs.Given.TablesDeclared.finding.Finding.{Finding}
-use Rattle.papaya_views.specs.Given.TablesDeclared.finding.Finding.TheVariants as found
-use Rattle.papaya_views.specs.Given.TablesDeclared.marks.TheConstants.{TOMBSTONE}
-use Rattle.papaya_views.specs.Given.TablesDeclared.node.Node.{Node}
-use Rattle.papaya_views.specs.Given.TablesDeclared.table.Table.{Table}
-use Rattle.papaya_views.specs.Given.TablesDeclared.trial.Trial.{Trial}
-use Rattle.papaya_views.specs.Given.ResizeCopier.{copier_plan}
-use Rattle.papaya_views.specs.Given.ResizeCopierStates.{helping, copying_all}
-use Rattle.papaya_views.specs.Given.ResizeDispose.{dispose_plan, disposing}
-use Rattle.papaya_views.specs.Given.ResizeLookup.{lookup_plan, names_pair}
-use Rattle.papaya_views.specs.Given.ResizeNewTable.{new_table_plan}
-use Rattle.papaya_views.specs.Given.ResizeDeclared.copier.Copier.{Copier}
-use Rattle.papaya_views.specs.Given.ResizeDeclared.dispose.Dispose.{Dispose}
-use Rattle.papaya_views.specs.Given.ResizeDeclared.lookup.Lookup.{Lookup}
-use Rattle.papaya_views.specs.Given.ResizeDeclared.new_table.NewTable.{NewTable}
-use Rattle.papaya_views.specs.Given.ResizeDeclared.outcome.Outcome.{Outcome}
-use Rattle.papaya_views.specs.Given.ResizeDeclared.outcome.Outcome.TheVariants as outcome
-use Rattle.papaya_views.specs.Given.RawAnswers.{ended}
+use Rattle.papaya_tables.specs.declared.finding.Finding.{Finding}
+use Rattle.papaya_tables.specs.declared.finding.Finding.TheVariants as found
+use Rattle.papaya_tables.specs.declared.marks.TheConstants.{TOMBSTONE}
+use Rattle.papaya_tables.specs.declared.node.Node.{Node}
+use Rattle.papaya_tables.specs.declared.table.Table.{Table}
+use Rattle.papaya_tables.specs.declared.trial.Trial.{Trial}
+use Rattle.papaya_resize.specs.Copier.{copier_plan}
+use Rattle.papaya_resize.specs.CopierStates.{helping, copying_all}
+use Rattle.papaya_resize.specs.Dispose.{dispose_plan, disposing}
+use Rattle.papaya_resize.specs.Lookup.{lookup_plan, names_pair}
+use Rattle.papaya_resize.specs.NewTable.{new_table_plan}
+use Rattle.papaya_resize.specs.declared.copier.Copier.{Copier}
+use Rattle.papaya_resize.specs.declared.dispose.Dispose.{Dispose}
+use Rattle.papaya_resize.specs.declared.lookup.Lookup.{Lookup}
+use Rattle.papaya_resize.specs.declared.new_table.NewTable.{NewTable}
+use Rattle.papaya_resize.specs.declared.outcome.Outcome.{Outcome}
+use Rattle.papaya_resize.specs.declared.outcome.Outcome.TheVariants as outcome
+use Rattle.papaya_raw.specs.Answers.{ended}
 use Rattle.papaya_raw.specs.CallFills.{asks_at, putting_by, fill_by, fills_with}
 use Rattle.papaya_raw.specs.Replies.{value_for, as_own}
-use Rattle.papaya_views.specs.Given.RawCall.{makes_of, root_read, root_found, next_read, next_found, dropped, key_read, pair_read, word_read, word_found, tried, looked, looks_for, first_made, next_made, disposed, helped, copied, plan_at, call_plan, have_one_key}
-use Rattle.papaya_views.specs.Given.RawCallPoints.{aim_of, going, over, ending, answering, tableless, at_free, at_end, beyond, at_last, at_pair, following_made, asking_at, having_met, passed, halted, told_of, told, entering, went_on, changed, counted}
-use Rattle.papaya_views.specs.Given.RawDeclared.machines.answer.Called.{Called}
-use Rattle.papaya_views.specs.Given.RawDeclared.machines.answer.End.{End}
-use Rattle.papaya_views.specs.Given.RawDeclared.machines.answer.End.TheVariants as ends
-use Rattle.papaya_views.specs.Given.RawDeclared.machines.answer.KeyAnswer.{KeyAnswer}
-use Rattle.papaya_views.specs.Given.RawDeclared.machines.answer.KeyAnswer.TheVariants as answers
-use Rattle.papaya_views.specs.Given.RawDeclared.machines.answer.There.{There}
-use Rattle.papaya_views.specs.Given.RawDeclared.machines.answer.There.TheVariants as there
-use Rattle.papaya_views.specs.Given.RawDeclared.machines.answer.Missing.{Missing}
-use Rattle.papaya_views.specs.Given.RawDeclared.machines.answer.Missing.TheVariants as missing
-use Rattle.papaya_views.specs.Given.RawDeclared.machines.asking.Asking.{Asking}
-use Rattle.papaya_views.specs.Given.RawDeclared.machines.asking.Asking.TheVariants as asking
-use Rattle.papaya_views.specs.Given.RawDeclared.machines.asking.Gap.TheVariants as gaps
-use Rattle.papaya_views.specs.Given.RawDeclared.machines.call.Calling.{Calling}
-use Rattle.papaya_views.specs.Given.RawDeclared.machines.call.Calling.TheVariants as at
-use Rattle.papaya_views.specs.Given.RawDeclared.machines.call.KeyCall.{KeyCall}
-use Rattle.papaya_seats.specs.Answers.{IsAnswer}
-use Rattle.papaya_seats.specs.Kinds.{Kind, Stage, IsFresh, HoldsBy, StandsSo, ShowsPair, IsSo, GoesOn, SaysSo}
-use Rattle.papaya_seats.proofs.Asked.{of_gap, holds_none, over_says, ending_says, gap_says, pair_says}
-use Rattle.papaya_seats.proofs.Filled.{fills_say, gives_say}
-use Rattle.papaya_seats.proofs.Pairs.{there_same, pair_named, one_key_named}
-use Rattle.papaya_seats.proofs.Leads.{Leads, leads_as}
-use Rattle.papaya_seats.proofs.Quiet.{IsQuiet, quiet_as, table_is, dispose_is, copier_is, lookup_is}
+use Rattle.papaya_raw.specs.Call.{makes_of, root_read, root_found, next_read, next_found, dropped, key_read, pair_read, word_read, word_found, tried, looked, looks_for, first_made, next_made, disposed, helped, copied, plan_at, call_plan, have_one_key}
+use Rattle.papaya_raw.specs.CallPoints.{aim_of, going, over, ending, answering, tableless, at_free, at_end, beyond, at_last, at_pair, following_made, asking_at, having_met, passed, halted, told_of, told, entering, went_on, changed, counted}
+use Rattle.papaya_raw.specs.declared.machines.answer.Called.{Called}
+use Rattle.papaya_raw.specs.declared.machines.answer.End.{End}
+use Rattle.papaya_raw.specs.declared.machines.answer.End.TheVariants as ends
+use Rattle.papaya_raw.specs.declared.machines.answer.KeyAnswer.{KeyAnswer}
+use Rattle.papaya_raw.specs.declared.machines.answer.KeyAnswer.TheVariants as answers
+use Rattle.papaya_raw.specs.declared.machines.answer.There.{There}
+use Rattle.papaya_raw.specs.declared.machines.answer.There.TheVariants as there
+use Rattle.papaya_raw.specs.declared.machines.answer.Missing.{Missing}
+use Rattle.papaya_raw.specs.declared.machines.answer.Missing.TheVariants as missing
+use Rattle.papaya_raw.specs.declared.machines.asking.Asking.{Asking}
+use Rattle.papaya_raw.specs.declared.machines.asking.Asking.TheVariants as asking
+use Rattle.papaya_raw.specs.declared.machines.asking.Gap.TheVariants as gaps
+use Rattle.papaya_raw.specs.declared.machines.call.Calling.{Calling}
+use Rattle.papaya_raw.specs.declared.machines.call.Calling.TheVariants as at
+use Rattle.papaya_raw.specs.declared.machines.call.KeyCall.{KeyCall}
+use Rattle.papaya_kinds.specs.Answers.{IsAnswer}
+use Rattle.papaya_kinds.specs.Kinds.{Kind, Stage, IsFresh, HoldsBy, StandsSo, ShowsPair, IsSo, GoesOn, SaysSo}
+use Rattle.papaya_kinds.proofs.Asked.{of_gap, holds_none, over_says, ending_says, gap_says, pair_says}
+use Rattle.papaya_kinds.proofs.Filled.{fills_say, gives_say}
+use Rattle.papaya_kinds.proofs.Pairs.{there_same, pair_named, one_key_named}
+use Rattle.papaya_kinds.proofs.Leads.{Leads, leads_as}
+use Rattle.papaya_kinds.proofs.Quiet.{IsQuiet, quiet_as, table_is, dispose_is, copier_is, lookup_is}
 
 module _ {K V Q : Type 0} (k : Kind) (s : Stage) (shown : ℕ → Option (Node K V)) where
   abbrev Says : KeyCall K V Q × Called (Node K V) → Type 0

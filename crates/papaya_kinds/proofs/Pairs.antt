@@ -1,19 +1,19 @@
 -- Where a try says that its key is there, the pair of the word that it has read was looked at.
 use Rattle.std.specs.Prelude.{◌==◌, if◌then◌else◌, Option, Some}
 use Rattle.std.proofs.Common.{◌≡◌, ℕ, Bool, true, false, refl}
-use Rattle.papaya_views.specs.Given.SeizeWordsWord.{block_in}
-use Rattle.papaya_views.specs.Given.TablesChunks.{is_incremental}
-use Rattle.papaya_views.specs.Given.TablesFinding.{finding, shut, vacant}
-use Rattle.papaya_views.specs.Given.TablesDeclared.finding.Aim.{Aim}
-use Rattle.papaya_views.specs.Given.TablesDeclared.finding.Aim.TheVariants as aims
-use Rattle.papaya_views.specs.Given.TablesDeclared.finding.Finding.TheVariants as found
-use Rattle.papaya_views.specs.Given.TablesDeclared.marks.TheConstants.{COPYING}
-use Rattle.papaya_views.specs.Given.TablesDeclared.node.Node.{Node}
-use Rattle.papaya_views.specs.Given.TablesDeclared.node.Node.TheVariants as nodes
-use Rattle.papaya_views.specs.Given.TablesDeclared.resize_mode.ResizeMode.{ResizeMode}
-use Rattle.papaya_views.specs.Given.RawCall.{have_one_key}
-use Rattle.papaya_views.specs.Given.ResizeLookup.{names_pair}
-use Rattle.papaya_seats.specs.Kinds.{ShowsPair}
+use Rattle.papaya_tables.specs.Given.SeizeWordsWord.{block_in}
+use Rattle.papaya_tables.specs.Chunks.{is_incremental}
+use Rattle.papaya_tables.specs.Finding.{finding, shut, vacant}
+use Rattle.papaya_tables.specs.declared.finding.Aim.{Aim}
+use Rattle.papaya_tables.specs.declared.finding.Aim.TheVariants as aims
+use Rattle.papaya_tables.specs.declared.finding.Finding.TheVariants as found
+use Rattle.papaya_tables.specs.declared.marks.TheConstants.{COPYING}
+use Rattle.papaya_tables.specs.declared.node.Node.{Node}
+use Rattle.papaya_tables.specs.declared.node.Node.TheVariants as nodes
+use Rattle.papaya_tables.specs.declared.resize_mode.ResizeMode.{ResizeMode}
+use Rattle.papaya_raw.specs.Call.{have_one_key}
+use Rattle.papaya_resize.specs.Lookup.{names_pair}
+use Rattle.papaya_kinds.specs.Kinds.{ShowsPair}
 
 -- a word that names no pair says not that the key is there
 shut_not : (aim : Aim) → shut aim ≡ found.There → ⊥
