@@ -1,5 +1,5 @@
 //! A hash map that threads share, as one has it who owns it.
-ghost use Rattle.std.specs.Prelude.{◌≡◌, ◌<◌, ◌^◌, [], Some, Ok, true, IfOk, IfErr, MatchResult, nat_lt};
+ghost use Rattle.std.specs.Prelude.{◌≡◌, ◌<◌, ◌^◌, [], Some, None, Ok, true, IfOk, IfErr, MatchResult, nat_lt};
 ghost use Rattle.papaya_shared.specs.Given.CallersKept.{is_home};
 ghost use Rattle.papaya_shared.specs.Given.SeizeViewsDeclared.view.View.TheVariants.{Rests};
 ghost use Rattle.papaya_shared.specs.Given.TablesChunks.{is_incremental};
@@ -41,6 +41,7 @@ pub struct HashMap<K: Eq + Hash + Drop, V: Drop, S: Hashes<K> = RandomState> {
     ghost stays: { is_home seat.away ≡ true },
     ghost rests: { seat.view.slot ≡ Rests },
     ghost free: { seat.view.work ≡ NoWork },
+    ghost lone: { seat.view.under ≡ None },
     ghost knows: { known_by seat.view ≡ Some (setting, hasher) },
     ghost sized: { home.blocks.words.fixed.batch_size ≡ setting.batch_size },
     ghost small: { nat_lt home.blocks.words.fixed.batch_size (2 ^ 64) ≡ true },
@@ -59,6 +60,7 @@ fn begun<K: Eq + Hash + Drop, V: Drop, S: Hashes<K>>(
     ensures stays { IfOk result (λ r. is_home r.0.away ≡ true) }
     ensures rests { IfOk result (λ r. r.0.view.slot ≡ Rests) }
     ensures free { IfOk result (λ r. r.0.view.work ≡ NoWork) }
+    ensures lone { IfOk result (λ r. r.0.view.under ≡ None) }
     ensures knows { IfOk result (λ r. known_by r.0.view ≡ Some (r.1, hasher.now)) }
     ensures sized { IfOk result (λ r. blocks.now.words.fixed.batch_size ≡ r.1.batch_size) }
     ensures incremental { IfOk result (λ r. is_incremental r.1.mode ≡ true) }
