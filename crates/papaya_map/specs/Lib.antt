@@ -1,0 +1,3 @@
+pub mod OneMap
+pub mod Sessions
+pub mod Lent

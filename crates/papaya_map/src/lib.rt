@@ -1,0 +1,13 @@
+//! A hash map that threads share. It owns its memory and its hasher; each of those who share it has a session.
+#![tactic(auto)]
+
+mod map;
+mod session;
+mod shared;
+
+pub use map::HashMap;
+pub use papaya_shared::Attempt;
+pub use seize::IdSource;
+pub use seize_words::{Fault, Refused};
+pub use session::Session;
+pub use shared::SharedMap;

@@ -1,0 +1,38 @@
+//! A hash map, lent to threads, each of which may begin sessions on it.
+ghost use Rattle.std.specs.Prelude.{◌≡◌, ◌^◌, [], Some, true, IfOk, nat_lt};
+ghost use Rattle.papaya_shared.specs.Given.TablesChunks.{is_incremental};
+ghost use Rattle.papaya_shared.specs.Standing.{known_by};
+
+use crate::session::Session;
+use papaya_shared::{OfMaps, Session as Base, newcomer};
+use papaya_tables::{Hashes, Node, Setting};
+use seize_blocks::{Blocks, Seat};
+use seize_words::Fault;
+use std::hash::{Hash, RandomState};
+
+/// A map, lent: it may go to other threads, and several may have it by reference.
+#[derive(Drop)]
+pub struct SharedMap<'m, K: Eq + Hash + Drop, V: Drop, S: Hashes<K> = RandomState> {
+    pub(crate) blocks: &'m Blocks<Node<K, V>, OfMaps<S>>,
+    pub(crate) hasher: &'m S,
+    pub(crate) setting: Setting,
+    pub(crate) seat: &'m Seat<Node<K, V>, OfMaps<S>>,
+    pub(crate) ghost own: { seat.now.base ≡ blocks.now.words.id.views_name },
+    pub(crate) ghost knows: { known_by seat.now.view ≡ Some (setting, hasher.now) },
+    pub(crate) ghost sized: { blocks.now.words.fixed.batch_size ≡ setting.batch_size },
+    pub(crate) ghost small: { nat_lt blocks.now.words.fixed.batch_size (2 ^ 64) ≡ true },
+    pub(crate) ghost incremental: { is_incremental setting.mode ≡ true },
+}
+
+impl<'m, K: Eq + Hash + Drop, V: Drop, S: Hashes<K>> SharedMap<'m, K, V, S> {
+    /// Begins a session on the map. The faults are `Fault::SlotsUsedUp` and `Fault::Memory`.
+    pub fn session(&self) -> Result<Session<'m, K, V, S>, Fault>
+        ensures memory { IfOk result (λ session. session.base.caller.blocks.now ≡ self.now.blocks.now) }
+        ensures map { IfOk result (λ session. session.base.caller.seat.view.map ≡ self.now.seat.now.view.map) }
+        ensures none { IfOk result (λ session. session.base.caller.seat.view.calls ≡ []) }
+    {
+        let seat = newcomer(self.blocks, self.seat);
+        let base = Base::of(self.blocks, self.hasher, self.setting, seat);
+        Session::begin(base)
+    }
+}

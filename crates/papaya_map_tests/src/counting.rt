@@ -1,0 +1,86 @@
+//! Values that count their drops: each that was stored is dropped once.
+use papaya_map::{Fault, HashMap, IdSource, Session};
+use std::alloc::Global;
+use std::hash::{BuildHasherDefault, DefaultHasher};
+use std::sync::atomic::AtomicU64;
+use std::sync::atomic::Ordering::SeqCst;
+use std::sync::{Arc, Wait};
+use std::test::Fail;
+use std::thread;
+use std::thread::Threads;
+
+/// How many values each of two threads stores.
+const EACH: u64 = 1_000;
+
+/// At how many keys.
+const KEYS: u64 = 16;
+
+type Hashing = BuildHasherDefault<DefaultHasher>;
+
+/// A value that adds one to a count as it is dropped.
+struct Counted {
+    drops: Arc<AtomicU64>,
+}
+
+impl Counted {
+    /// One more of them. There is none where the count has too many owners.
+    fn of(drops: &Arc<AtomicU64>) -> Option<Counted> {
+        let drops = Arc::try_clone(drops).ok()?;
+        Some(Counted { drops })
+    }
+}
+
+impl Drop for Counted {
+    fn drop(self) {
+        let Counted { drops } = self;
+        drops.fetch_add(1, SeqCst);
+    }
+}
+
+/// Stores values at a few keys, again and again, and answers how many it has stored.
+fn stores<R: Wait>(
+    rt: &R,
+    session: Session<'_, u64, Counted, Hashing>,
+    drops: &Arc<AtomicU64>,
+) -> Option<u64> {
+    let mut session = session;
+    let mut stored = 0u64;
+    for n in 0..EACH {
+        let value = Counted::of(drops)?;
+        if session.insert(rt, n % KEYS, value).is_ok() {
+            stored = u64::wrapping_add(stored, 1);
+        }
+        session.refresh();
+    }
+    Some(stored)
+}
+
+/// Two threads do so. Answers how many each has stored, and how many were dropped before the map's end.
+fn stores_twice<R: Threads + Wait + Sync>(
+    rt: &R,
+    alloc: Global,
+    drops: &Arc<AtomicU64>,
+) -> Result<(Option<u64>, Option<u64>, u64), Fault> {
+    let mut ids = IdSource::new();
+    let map = HashMap::with_hasher(alloc, &mut ids, Hashing::default())?;
+    let first = map.session()?;
+    let second = first.another()?;
+    let (one, other) = thread::join(
+        rt,
+        || stores(rt, first, drops),
+        || stores(rt, second, drops),
+    );
+    Ok((one, other, drops.load(SeqCst)))
+}
+
+// What is in the map at its end, and waits there, is dropped with it: at least a value of each key.
+#[test]
+fn each_value_that_was_stored_is_dropped_once(rt: HostRuntime) -> Result<(), Fail> {
+    let drops = Arc::new(rt.alloc(), AtomicU64::new(0))?;
+    let (one, other, before) = stores_twice(&rt, rt.alloc(), &drops)?;
+    assert_eq!(rt; one, Some(EACH));
+    assert_eq!(rt; other, Some(EACH));
+    assert!(rt; before <= 2 * EACH - KEYS);
+    assert_eq!(rt; drops.load(SeqCst), 2 * EACH);
+    Ok(())
+}

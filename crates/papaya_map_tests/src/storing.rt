@@ -1,0 +1,79 @@
+//! Two threads store pairs in one map, half of their keys the same.
+use papaya_map::{Fault, HashMap, IdSource, Session};
+use std::alloc::Global;
+use std::hash::{BuildHasherDefault, DefaultHasher};
+use std::sync::Wait;
+use std::test::Fail;
+use std::thread;
+use std::thread::Threads;
+
+/// How many keys each of them stores.
+const EACH: u64 = 400;
+
+type Hashing = BuildHasherDefault<DefaultHasher>;
+
+/// Stores so many keys from this one on, each with its double, and answers how many of them have replaced a pair.
+fn stores<R: Wait>(
+    rt: &R,
+    session: &mut Session<'_, u64, u64, Hashing>,
+    from: u64,
+) -> Result<u64, Fault> {
+    let mut replaced = 0u64;
+    for n in 0..EACH {
+        let key = u64::wrapping_add(from, n);
+        if session.insert(rt, key, u64::wrapping_mul(key, 2))? {
+            replaced = u64::wrapping_add(replaced, 1);
+        }
+    }
+    Ok(replaced)
+}
+
+/// How many of so many keys from this one on it finds with their doubles.
+fn counts<R: Wait>(rt: &R, session: &mut Session<'_, u64, u64, Hashing>, from: u64) -> u64 {
+    let mut found = 0u64;
+    for n in 0..EACH {
+        let key = u64::wrapping_add(from, n);
+        if session.get(rt, &key).copied() == Some(u64::wrapping_mul(key, 2)) {
+            found = u64::wrapping_add(found, 1);
+        }
+        session.refresh();
+    }
+    found
+}
+
+/// Stores so many keys from this one on, and answers how many have replaced a pair, and how many it finds then.
+fn works<R: Wait>(
+    rt: &R,
+    session: Session<'_, u64, u64, Hashing>,
+    from: u64,
+) -> Result<(u64, u64), Fault> {
+    let mut session = session;
+    let replaced = stores(rt, &mut session, from)?;
+    Ok((replaced, counts(rt, &mut session, from)))
+}
+
+/// Two threads do so, and a third session then.
+fn works_twice<R: Threads + Wait + Sync>(
+    rt: &R,
+    alloc: Global,
+) -> Result<((u64, u64), (u64, u64), (u64, u64)), Fault> {
+    let mut ids = IdSource::new();
+    let map = HashMap::with_hasher(alloc, &mut ids, Hashing::default())?;
+    let first = map.session()?;
+    let second = first.another()?;
+    let third = first.another()?;
+    let (one, other) = thread::join(rt, || works(rt, first, 0), || works(rt, second, EACH / 2));
+    Ok((one?, other?, works(rt, third, 0)?))
+}
+
+// Of the two insertions of a key that both store one finds no pair, and the other one replaces the pair of the first, whoever is faster: so as many have replaced a pair as
+// there are such keys. A body that served one thread after the other would pass, too.
+#[test]
+fn a_key_that_two_threads_store_is_replaced_once(rt: HostRuntime) -> Result<(), Fail> {
+    let (one, other, later) = works_twice(&rt, rt.alloc())?;
+    assert_eq!(rt; one.1, EACH);
+    assert_eq!(rt; other.1, EACH);
+    assert_eq!(rt; u64::wrapping_add(one.0, other.0), EACH / 2);
+    assert_eq!(rt; later, (EACH, EACH));
+    Ok(())
+}

@@ -1,0 +1,90 @@
+//! Four threads ask one cache for the squares of the same numbers. Who finds one there takes it, and who does not keeps it there for the others; what is long past is let go.
+#![tactic(auto)]
+
+use papaya_map::{Fault, HashMap, IdSource, Session};
+use std::hash::RandomState;
+use std::sync::Wait;
+use std::time::{Clock, Duration};
+use std::{io, thread};
+
+/// How many threads there are.
+const THREADS: u64 = 4;
+
+/// For how many numbers each of them asks.
+const NUMBERS: u64 = 1_000;
+
+/// How many numbers later a square is let go.
+const ROOM: u64 = 100;
+
+/// How often a thread looks for what another one leaves there, a millisecond apart.
+const LOOKS: u64 = 10_000;
+
+/// The cache, as one thread has it.
+type Cache<'m> = Session<'m, u64, u64>;
+
+/// The square of a number: as it is in the cache, or else worked out, and kept there.
+fn square<R: Wait>(rt: &R, cache: &mut Cache<'_>, number: u64) -> Result<u64, Fault> {
+    if let Some(square) = cache.get(rt, &number) {
+        return Ok(*square);
+    }
+    let square = number.wrapping_mul(number);
+    cache.insert(rt, number, square)?;
+    Ok(square)
+}
+
+/// Asks for each number, and lets go what is long past; answers how many squares were right. What was let go is given back after each.
+fn asks<R: Wait>(rt: &R, cache: &mut Cache<'_>) -> Result<u64, Fault> {
+    let mut right = 0u64;
+    for number in 0..NUMBERS {
+        let square = square(rt, cache, number)?;
+        right = right.wrapping_add(u64::from(square == number.wrapping_mul(number)));
+        if number >= ROOM {
+            cache.remove(rt, number - ROOM)?;
+        }
+        cache.refresh();
+    }
+    Ok(right)
+}
+
+/// Leaves a key of its own there, and looks whether that of the next thread comes to be there.
+fn meets<R: Wait + Clock>(rt: &R, cache: &mut Cache<'_>, own: u64) -> Result<bool, Fault> {
+    cache.insert(rt, NUMBERS.wrapping_add(own), own)?;
+    let next = NUMBERS.wrapping_add(own.wrapping_add(1) % THREADS);
+    for _ in 0..LOOKS {
+        if cache.contains_key(rt, &next) {
+            return Ok(true);
+        }
+        cache.refresh();
+        thread::sleep(rt, Duration::from_millis(1));
+    }
+    Ok(false)
+}
+
+/// What one thread has seen: how many squares were right, and whether it has met what another thread had left.
+fn works<R: Wait + Clock>(rt: &R, own: u64, cache: Cache<'_>) -> Result<(u64, bool), Fault> {
+    let mut cache = cache;
+    let met = meets(rt, &mut cache, own)?;
+    Ok((asks(rt, &mut cache)?, met))
+}
+
+fn main(rt: HostRuntime) -> io::Result<()> {
+    let mut ids = IdSource::new();
+    let map = HashMap::new(rt.alloc(), &mut ids, RandomState::new(&rt)?)?;
+    let mut jobs = Vec::new(rt.alloc());
+    for own in 0..THREADS {
+        jobs.push((own, map.session()?))?;
+    }
+    let seen = thread::map_vec(&rt, jobs, &|(own, cache)| works(&rt, own, cache))?;
+    let (mut right, mut met, mut kept) = (0u64, "yes", 0u64);
+    for one in seen {
+        let one = one?;
+        right = right.wrapping_add(one.0);
+        met = if one.1 { met } else { "no" };
+    }
+    let mut cache = map.session()?;
+    for number in 0..NUMBERS {
+        kept = kept.wrapping_add(u64::from(cache.contains_key(&rt, &number)));
+    }
+    println!(rt; "{right} squares were right, {kept} are kept")?;
+    println!(rt; "each thread has met what another one had left: {met}")
+}
