@@ -1,6 +1,6 @@
 -- The turns of a seat of maps, and the lookup that has begun.
-use Rattle.std.specs.Prelude.{max, Result, Ok, Err, IfErr}
-use Rattle.std.proofs.Common.{◌≡◌, ℕ, ◌≤◌, ◌^◌, Bool, true, Some, refl, sym, subst, ap, ◌∙◌, arith}
+use Rattle.std.specs.Prelude.{max, Result, Ok, Err, IfErr, Option, None}
+use Rattle.std.proofs.Common.{◌≡◌, ℕ, ◌≤◌, ◌^◌, Bool, true, Some, ◌⊎◌, inl, refl, sym, subst, ap, ◌∙◌, arith}
 use Rattle.papaya_views.proofs.Given.SeizeActsAnswers.{same_some}
 use Rattle.papaya_views.specs.Given.SeizeSeatsState.{Turns}
 use Rattle.papaya_views.specs.Given.SeizeWordsDeclared.fault.Fault.{Fault}
@@ -19,10 +19,12 @@ use Rattle.papaya_views.specs.Given.ActsActs.{Wanted, Get}
 use Rattle.papaya_views.specs.Given.SeizeViewsDeclared.view.Fixed.{Fixed}
 use Rattle.papaya_views.specs.Given.SeizeViewsDeclared.view.View.TheVariants.{Rests}
 use Rattle.papaya_views.specs.Begun.{machine_for, making}
-use Rattle.papaya_views.specs.Rule.{Holds, KeepsFor, section_of, stand_of}
+use Rattle.papaya_views.specs.Rule.{Holds, KeepsFor, Leans, LeansOn, section_of, stand_of}
+use Rattle.papaya_views.specs.Told.{turned, turned_by}
 use Rattle.papaya_views.specs.declared.view.Map.{Map}
 use Rattle.papaya_views.specs.declared.view.View.{View}
-use Rattle.papaya_views.specs.declared.view.Work.TheVariants.{Nothing, Calls}
+use Rattle.papaya_views.specs.declared.view.Work.{Work}
+use Rattle.papaya_views.specs.declared.view.Work.TheVariants.{Nothing, Calls, Makes}
 use Rattle.papaya_views.proofs.Laws.{calls_begin, makings_begin}
 use Rattle.papaya_seats.specs.Calling.{IsUnderWay, MayDo, wanted_of}
 use Rattle.papaya_kinds.specs.Kinds.{Kind, Stage}
@@ -114,3 +116,25 @@ module _ {K V S : Type 0} (same : K → K → Bool) (hash : S → K → ℕ) whe
 -- what stays in one course stays in both
 pub stays_on : {K V S : Type 0} (u v w : View K V S) → StaysThere u v → StaysThere v w → StaysThere u w
 stays_on u v w one other = record { slot = other.slot ∙ one.slot; map = other.map ∙ one.map }
+
+-- who has begun a call or a making, or has taken a step without an operation, leans on whom it did
+module _ {K V S : Type 0} where
+  leans_still : (v w : View K V S) (n : ℕ) (X : Type 0) → w.under ≡ v.under → Leans w n → Leans v n ⊎ X
+  leans_still v w n X is leans = inl (subst (λ (o : Option (ℕ × ℕ)). LeansOn o n) is leans)
+
+  pub begun_leans : (same : K → K → Bool) (hash : S → K → ℕ) (wanted : Wanted K V) (v w : View K V S) (n : ℕ) {X : Type 0} → Begins same hash wanted v w → Leans w n → Leans v n ⊎ X
+  begun_leans same hash wanted v w n {X} begins leans = leans_still v w n X (ap (λ (u : View K V S). u.under) begins.4) leans
+
+  pub making_leans : (plans : S → NewMap → Type 0) (v w : View K V S) (n : ℕ) {X : Type 0} → BeginsMaking plans v w → Leans w n → Leans v n ⊎ X
+  making_leans plans v w n {X} begins leans = leans_still v w n X (ap (λ (u : View K V S). u.under) begins.4) leans
+
+  pub turned_leans : (same : K → K → Bool) (hash : S → K → ℕ) (v w : View K V S) (n : ℕ) {X : Type 0} → turned same hash v w → Leans w n → Leans v n ⊎ X
+  turned_leans same hash v w n {X} turns leans = leans_still v w n X (by v.map v.work turns) leans
+    where
+      by : (map : Option (Map S)) (work : Work K V S) → turned_by same hash v map work w → w.under ≡ v.under
+      by (Some map) (Calls machine) is = ap (λ (u : View K V S). u.under) is.2
+      by (Some map) Nothing is = absurd is
+      by (Some map) (Makes m hasher opening) is = absurd is
+      by None Nothing is = absurd is
+      by None (Calls machine) is = absurd is
+      by None (Makes m hasher opening) is = absurd is

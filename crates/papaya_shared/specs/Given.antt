@@ -9,3 +9,4 @@ pub use Rattle.papaya_seats.specs.Looking as SeatsLooking
 pub use Rattle.papaya_views.specs.Given.SeizeWordsWord
 pub use Rattle.papaya_views.specs.Begun as ViewsBegun
 pub use Rattle.papaya_views.specs.Looks as ViewsLooks
+pub use Rattle.papaya_views.specs.Rule as ViewsRule

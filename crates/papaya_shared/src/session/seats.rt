@@ -1,5 +1,5 @@
 //! A session is a seat that knows a map, with the memory and the hasher: it is made of these, and taken apart, so that who owns them may keep the seat.
-ghost use Rattle.std.specs.Prelude.{◌≡◌, Some, true};
+ghost use Rattle.std.specs.Prelude.{◌≡◌, Some, None, true};
 ghost use Rattle.papaya_shared.specs.Standing.{known_by};
 ghost use Rattle.papaya_views.specs.Given.TablesChunks.{is_incremental};
 ghost use Rattle.papaya_views.specs.declared.view.Work.TheVariants.{Nothing as NoWork};
@@ -21,6 +21,7 @@ impl<'a, K: Eq, V, S: Hashes<K>> Session<'a, K, V, S> {
     ) -> Self
         requires own { seat.base ≡ blocks.now.words.id.views_name }
         requires home { is_home seat.away ≡ true }
+        requires lone { seat.view.under ≡ None }
         requires sized { blocks.now.words.fixed.batch_size ≡ setting.batch_size }
         requires knows { known_by seat.view ≡ Some (setting, hasher.now) }
         requires free { seat.view.work ≡ NoWork }
@@ -40,6 +41,7 @@ impl<'a, K: Eq, V, S: Hashes<K>> Session<'a, K, V, S> {
     pub fn into_seat(self) -> (Seat<Node<K, V>, OfMaps<S>>, Setting)
         ensures own { result.0.base ≡ self.entry.caller.blocks.now.words.id.views_name }
         ensures home { is_home result.0.away ≡ true }
+        ensures lone { result.0.view.under ≡ None }
         ensures view { result.0.view ≡ self.entry.caller.seat.view }
         ensures setting { result.1 ≡ self.entry.setting }
         ensures sized { self.entry.caller.blocks.now.words.fixed.batch_size ≡ result.1.batch_size }

@@ -2,7 +2,7 @@ use Rattle.std.proofs.Common.{subst}
 use Rattle.papaya_views.specs.Given.ActsActs.{Wanted}
 use Rattle.seize_callers.proofs.Keeping.{still_kept}
 use Rattle.papaya_seats.specs.Looking.{Begins}
-use Rattle.papaya_seats.proofs.Beginnings.{may_begin}
+use Rattle.papaya_seats.proofs.Beginnings.{begun_leans, may_begin}
 use Rattle.papaya_seats.proofs.within.Within.begins_to_look_as.Goals as goal
 
 pub turn-requires-clause-may : goal.turn-requires-clause-may
@@ -15,7 +15,7 @@ pub turn-requires-clause-errand : goal.turn-requires-clause-errand
 turn-requires-clause-errand g c = λ home rests w so. absurd (c.args.self.now.away home)
 
 pub turn-requires-clause-leans : goal.turn-requires-clause-leans
-turn-requires-clause-leans g c = λ v told n none. absurd none
+turn-requires-clause-leans g c = λ w told n leans. begun_leans g.K.PartialEq.eq g.S.Hashes.hash g.B.Wants.wanted c.args.self.now.seat.now.view w n told leans
 
 pub returns-clause-begins : goal.returns-clause-begins
 returns-clause-begins g c =

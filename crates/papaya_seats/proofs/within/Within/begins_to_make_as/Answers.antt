@@ -1,5 +1,5 @@
 use Rattle.seize_callers.proofs.Keeping.{still_kept}
-use Rattle.papaya_seats.proofs.Beginnings.{may_make}
+use Rattle.papaya_seats.proofs.Beginnings.{making_leans, may_make}
 use Rattle.papaya_seats.proofs.within.Within.begins_to_make_as.Goals as goal
 
 pub turn-requires-clause-may : goal.turn-requires-clause-may
@@ -12,7 +12,7 @@ pub turn-requires-clause-errand : goal.turn-requires-clause-errand
 turn-requires-clause-errand g c = λ home rests w so. absurd (c.args.self.now.away home)
 
 pub turn-requires-clause-leans : goal.turn-requires-clause-leans
-turn-requires-clause-leans g c = λ v told n none. absurd none
+turn-requires-clause-leans g c = λ w told n leans. making_leans g.B.Plans.plans c.args.self.now.seat.now.view w n told leans
 
 pub returns-clause-same : goal.returns-clause-same
 returns-clause-same g c = still_kept _ _ c.turn.ensures.same.1 c.turn.ensures.errand

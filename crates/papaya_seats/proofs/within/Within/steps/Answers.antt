@@ -4,6 +4,7 @@ use Rattle.papaya_views.specs.declared.view.View.{View}
 use Rattle.seize_callers.proofs.Keeping.{still_kept}
 use Rattle.papaya_seats.specs.Calling.{IsUnderWay}
 use Rattle.papaya_seats.specs.Looking.{HasTold, StaysThere}
+use Rattle.papaya_seats.proofs.Beginnings.{turned_leans}
 use Rattle.papaya_seats.proofs.Calling.{may_call, has_made, has_turned, may_turn, still}
 use Rattle.papaya_seats.proofs.within.Within.steps.Goals as goal
 
@@ -46,7 +47,7 @@ pub turn-requires-clause-errand : goal.turn-requires-clause-errand
 turn-requires-clause-errand g c = λ home rests w so. absurd (c.step-told.new.memory.away home)
 
 pub turn-requires-clause-leans : goal.turn-requires-clause-leans
-turn-requires-clause-leans g c = λ v told n none. absurd none
+turn-requires-clause-leans g c = λ w told n leans. turned_leans g.K.PartialEq.eq g.S.Hashes.hash c.step-told.new.memory.seat.now.view w n told leans
 
 pub returns-clause-told : goal.returns-clause-told
 returns-clause-told g c =
