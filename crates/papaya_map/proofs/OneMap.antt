@@ -1,6 +1,6 @@
 -- That what a session was told is so in one finite map: by its newest call, which began within its section, on the map that it knows still.
 use Rattle.std.specs.Prelude.{◌<◌, ◌^◌, Option, Some, None, Ok, Err, is_some, nat_lt}
-use Rattle.std.proofs.Common.{◌≡◌, ℕ, Bool, refl, sym, subst, ap, ◌∙◌}
+use Rattle.std.proofs.Common.{◌≡◌, ℕ, Bool, true, refl, sym, subst, ap, ◌∙◌}
 use Rattle.std.proofs.lemmas.Bool.{ltb-true}
 use Rattle.papaya_answers.proofs.Calls.{found_none, found_value, has_inserted, has_looked, has_missed, has_refused, has_removed, has_tried}
 use Rattle.papaya_answers.specs.Calls.{HasInserted, HasLooked, HasRemoved as HasGivenUp, HasTried as HasLacked}
