@@ -17,15 +17,16 @@ NAME = re.compile(r"[^\s(){}\[\],;.:@\"]+")
 QUALIFIED = re.compile(r"(Rattle(?:\.[\w+]+)+|\b[^\W\d]\w*)\.([^\s(){}\[\],;.:@\"]+)")
 USE = re.compile(r"^\s*(?:pub |ghost )?use ([\w.+\-]+)(?:\.\{([^}]*)\}| as (\w+))?;?\s*$", re.M)
 GHOST = re.compile(r"ghost use ([\w.+\-]+)(?:\.\{([^}]*)\}| as (\w+))?;", re.S)
-ITEM = re.compile(r"(?:(?:pub|abbrev|record|data|opaque) )*([^\s:({]+)")
-NONE = ("use ", "pub use ", "mod ", "pub mod ", "unfolding", "open ", "infix")
+USING = re.compile(r"\b(\w+)::(proofs|specs)::([\w:]+)::([^\W\d][\w'\-]*)")
+ITEM = re.compile(r"(?:(?:pub|abbrev|record|data|opaque|unfoldable) )*([^\s:({]+)")
+NONE = ("use ", "pub use ", "mod ", "pub mod ", "open ", "infix")
 
 
 class Item:
     """A definition or lemma: where it stands, and all that is written of it, with the heads of the modules around it."""
 
     def __init__(self, file, name, line):
-        self.file, self.name, self.line, self.text, self.lines, self.reached = file, name, line, [], 0, False
+        self.file, self.name, self.line, self.text, self.places, self.reached = file, name, line, [], [], False
 
 
 class File:
@@ -61,12 +62,12 @@ class File:
                     continue
                 heads[-1][1] = indent
             at = heads[-1][1] if heads else 0
-            if indent == at and said.startswith("module "):
-                heads.append([indent, None, [said], said.endswith("where")])
+            if indent == at and (said.startswith("module ") or re.fullmatch(r"(?:abbrev |pub )*mutual", said)):
+                heads.append([indent, None, [said], said.endswith(("where", "mutual"))])
                 self.others.append(heads[-1][2])
                 item = None
                 continue
-            begins = ITEM.match(said) if indent == at and said[0] not in "})]" else None
+            begins = ITEM.match(said) if indent == at and said[0] not in "})]" and not said.startswith("unfolding ") else None
             if begins:
                 if said.startswith(NONE):
                     item = None
@@ -78,7 +79,7 @@ class File:
                     item.text += [text for head in heads for text in head[2]]
             if item is not None:
                 item.text.append(re.sub(r"\s-- .*", "", said))
-                item.lines += 1
+                item.places.append(number - 1)
                 maker = re.match(r"([^\s:({]+) :", said)
                 if indent > at and maker and maker[1][:1].isupper():
                     self.items.setdefault(maker[1], item)
@@ -163,6 +164,9 @@ class Search:
             answers = path[2] == "proofs" and not path[3][:1].isupper()
             if path[2] == "src":
                 self.reach(self.cited(file, file.text))
+                for crate, part, module, name in USING.findall(file.text):
+                    home = file.crate if crate == "crate" else crate
+                    self.reach(self.items_of(f"Rattle.{home}.{part}." + module.replace("::", "."), name))
             elif answers or any(part.partition(".")[0] == "Samples" for part in path):
                 self.reach(file.items.values())
                 for head in file.others:
@@ -183,8 +187,8 @@ def main():
                 found[id(item)] = item
     left = sorted(found.values(), key=lambda item: (wanted.index(item.file.crate), item.file.path, item.line))
     for item in left:
-        print(f"{item.file.path}:{item.line}: {item.name}, {item.lines} lines")
-    print(f"{len(left)} definitions and lemmas that no contract reaches, {sum(item.lines for item in left)} lines")
+        print(f"{item.file.path}:{item.line}: {item.name}, {len(item.places)} lines")
+    print(f"{len(left)} definitions and lemmas that no contract reaches, {sum(len(item.places) for item in left)} lines")
     return 1 if left else 0
 
 

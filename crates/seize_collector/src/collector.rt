@@ -7,14 +7,14 @@ ghost use Rattle.seize.specs.Given.SeizeWordsDeclared.fault.Fault.TheVariants.{M
 ghost use Rattle.seize.specs.Ids.{given, following};
 ghost use Rattle.seize_seats.specs.Owned.{IsLike};
 ghost use Rattle.seize_renews.specs.Emptied.{IsEmptied};
+ghost use Rattle.seize_shared.specs.Refused.{HasNoSlot};
 ghost use Rattle.seize_collector.specs.Made.{IsMade};
 
-use crate::shared::Shared;
 use seize::rows::{Defers, LeftOver};
 use seize::{At, Collector as Setting, Fault, IdSource};
 use seize_blocks::Home;
 use seize_empties::reclaim_all;
-use seize_shared::{Content, Drops, Fixed, OfRows, OwnedGuard, Receiver, Registration};
+use seize_shared::{Content, Drops, Fixed, OfRows, OwnedGuard, Receiver, Registration, Shared};
 use std::alloc::Global;
 use std::fmt;
 use std::marker::PhantomData;
@@ -120,18 +120,14 @@ impl<T: Defers + Drop, C: Content<T>, R: Receiver<T>> Collector<T, C, R> {
         ensures home { result.blocks.now ≡ self.now.home.blocks }
         ensures number { result.number ≡ self.now.setting.number }
     {
-        Shared {
-            blocks: &self.home.blocks,
-            chosen: self.chosen(),
-            number: self.setting.number(),
-            receiver: PhantomData,
-        }
+        Shared::of(&self.home.blocks, self.chosen(), self.setting.number())
     }
 
     /// Takes the first slot that can be taken. Where none can be nothing changes.
     pub fn register(&self) -> Result<Registration<'_, T, C, R>, Fault>
         ensures home { IfOk result (λ registration. registration.stay.caller.blocks.now ≡ self.now.home.blocks) }
         ensures number { IfOk result (λ registration. registration.number ≡ self.now.setting.number) }
+        ensures refused { IfErr result (λ fault. HasNoSlot fault) }
     {
         self.shared().register()
     }
@@ -141,6 +137,7 @@ impl<T: Defers + Drop, C: Content<T>, R: Receiver<T>> Collector<T, C, R> {
         ensures home { IfOk result (λ guard. guard.stay.caller.blocks.now ≡ self.now.home.blocks) }
         ensures number { IfOk result (λ guard. guard.number ≡ self.now.setting.number) }
         ensures fresh { IfOk result (λ guard. guard.stay.seen ≡ 0) }
+        ensures refused { IfErr result (λ fault. HasNoSlot fault) }
     {
         self.shared().enter_owned()
     }

@@ -2,15 +2,13 @@
 #![tactic(auto)]
 
 mod collector;
-mod shared;
 
 pub use collector::Collector;
 pub use seize::IdSource;
 pub use seize_shared::{
-    Content, Guard, LocalGuard, OfRows, Owned, OwnedGuard, Pass, Registration, RootGuard, Tagged,
-    Unlinked,
+    Content, Guard, LocalGuard, OfRows, Owned, OwnedGuard, Pass, Protected, Registration,
+    RootGuard, Shared, Tagged, Unlinked,
 };
-pub use shared::Shared;
 
 #[cfg(test)]
 mod tests;

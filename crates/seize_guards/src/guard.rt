@@ -1,9 +1,10 @@
 //! What guards of sections have in common: those of any content, and those that look at roots.
 ghost use Rattle.std.specs.Prelude.{◌≡◌, ◌≢◌, ◌<◌, ◌^◌, ◌%◌, ◌⊎◌, ℕ, Bool, None, Some, IfOk, IfErr, IfNone, IfSome, IsSome, true, false};
 ghost use Rattle.seize_words.specs.Word.{block_in};
+ghost use Rattle.seize.specs.Given.SeizeWordsDeclared.fault.Fault.TheVariants.{ForeignGuard};
 ghost use Rattle.seize_callers.specs.Owning.{borne_by};
 ghost use Rattle.seize_guards.specs.Deeds.{has_put, has_taken};
-ghost use Rattle.seize_guards.specs.Homes.{Home};
+ghost use Rattle.seize_guards.specs.Homes.{Home, OneSource};
 ghost use Rattle.seize_callers.specs.Given.SeizeViewsNotes.{looked_at, written_at};
 ghost use Rattle.seize_callers.specs.Given.SeizeViewsDeclared.view.Began.{Began};
 ghost use Rattle.seize_callers.specs.Given.SeizeViewsDeclared.view.Began.TheVariants.{Retirement, Section, Trial};
@@ -11,15 +12,20 @@ ghost use Rattle.seize_callers.specs.Given.SeizeViewsDeclared.view.Deed.{Deed};
 ghost use Rattle.seize_callers.specs.Given.SeizeViewsDeclared.view.Deed.TheVariants.{Looked, Marked};
 ghost use Rattle.seize_callers.specs.Given.SeizeViewsDeclared.view.View.TheVariants.{Rests};
 
-use crate::tagged::Tagged;
+use crate::pass::Pass;
+use crate::tagged::{Protected, Tagged};
 use seize::rows::Defers;
 use seize_callers::Caller;
 use seize_views::Content;
+use seize_words::Fault;
 
 /// What guards of sections have in common, so that a call can take any of them.
 pub trait Guard<T: Defers> {
     /// What its memory has beside slots, sections and batches.
     type Content: Content<T>;
+
+    /// What gets the values that are reclaimed.
+    type Receiver;
 
     /// The collector that it is of, which memory that has, and how many roots.
     ghost home: { Self → Home };
@@ -96,6 +102,23 @@ pub trait RootGuard<T: Defers>: Guard<T> {
         ensures seen { IfSome result (λ tagged. Self.seen self.new ≡ block_in tagged.word) }
         ensures none { IfNone result (Self.seen self.new ≡ 0) }
         ensures there { Self.inside self.old ≡ true → root < (Self.home self.old).roots → IsSome result };
+
+    /// A pass looks which word is at a root: the section holds the block to which that links, whose value is lent for as long as the guard is borrowed. There is no answer
+    /// where there is no such root, or the section is not open. A pass of another collector is `Fault::ForeignGuard`, and it is as it was.
+    fn protect_by<'g>(
+        &'g self,
+        root: u64,
+        pass: &mut Pass<T>,
+    ) -> Result<Option<Protected<'g, T>>, Fault>
+        requires source { OneSource pass.old.number pass.old.pass.seat.base (Self.home self.now) }
+        ensures memory { pass.new.pass.seat.base ≡ pass.old.pass.seat.base }
+        ensures number { pass.new.number ≡ pass.old.number }
+        ensures foreign { IfErr result (λ fault. (fault ≡ ForeignGuard) × (pass.old.number ≢ (Self.home self.now).number) × (pass.new ≡ pass.old)) }
+        ensures own { IfOk result (λ _. pass.old.number ≡ (Self.home self.now).number) }
+        ensures looked { IfOk result (λ found. IfSome found (λ found. pass.new.pass.seat.view.did ≡ Looked root found.tagged.word)) }
+        ensures lent { IfOk result (λ found. IfSome found (λ found. IfSome found.value (λ value. lends self.now (block_in found.tagged.word) value.now))) }
+        ensures none { IfOk result (λ found. IfSome found (λ found. IfNone found.value (block_in found.tagged.word ≡ 0))) }
+        ensures there { IfOk result (λ found. Self.inside self.now ≡ true → root < (Self.home self.now).roots → IsSome found) };
 
     /// Sets marks of the word at a root, of which three bits count, and answers which word was there: the section holds the block to which it links. There is no
     /// answer where there is no such root, or the section is not open. What it has seen before it doesn't know any more.

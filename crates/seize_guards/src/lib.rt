@@ -10,5 +10,5 @@ mod unlinked;
 pub use guard::{Guard, RootGuard};
 pub use owned::Owned;
 pub use pass::Pass;
-pub use tagged::Tagged;
+pub use tagged::{Protected, Tagged};
 pub use unlinked::Unlinked;

@@ -5,7 +5,7 @@ ghost use Rattle.seize_callers.specs.Given.SeizeViewsDeclared.view.Deed.TheVaria
 ghost use Rattle.seize_callers.specs.Given.SeizeViewsWatched.{open_at};
 ghost use Rattle.seize_guards.specs.Lent.{IsLent};
 
-use crate::tagged::Tagged;
+use crate::tagged::{Protected, Tagged};
 use seize::rows::Defers;
 use seize_blocks::Blocks;
 use seize_callers::{Caller, Pass as Seat};
@@ -45,17 +45,18 @@ impl<T: Defers> Pass<T> {
         caller: &'g Caller<'a, T>,
         slot: u64,
         root: u64,
-    ) -> (Tagged, Option<&'g T>)
+    ) -> Protected<'g, T>
         requires own { self.old.pass.seat.base ≡ caller.now.blocks.now.words.id.views_name }
         requires inside { open_at caller.now.seat.view.knows ≡ Some slot }
         requires there { root < caller.now.blocks.now.words.fixed.roots }
         ensures memory { self.new.pass.seat.base ≡ self.old.pass.seat.base }
         ensures number { self.new.number ≡ self.old.number }
-        ensures looked { self.new.pass.seat.view.did ≡ Looked root result.0.word }
-        ensures lent { IfSome result.1 (λ value. IsLent T.defers caller.now.blocks.now.words.fixed caller.now.seat.id caller.now.seat.view (block_in result.0.word) value.now) }
-        ensures none { IfNone result.1 (block_in result.0.word ≡ 0) }
+        ensures looked { self.new.pass.seat.view.did ≡ Looked root result.tagged.word }
+        ensures lent { IfSome result.value (λ value. IsLent T.defers caller.now.blocks.now.words.fixed caller.now.seat.id caller.now.seat.view
+            (block_in result.tagged.word) value.now) }
+        ensures none { IfNone result.value (block_in result.tagged.word ≡ 0) }
     {
         let (word, value) = caller.protect_by(slot, root, &mut self.pass);
-        (Tagged::of(word), value)
+        Protected::of(Tagged::of(word), value)
     }
 }

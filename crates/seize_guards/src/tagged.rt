@@ -1,4 +1,4 @@
-//! A word of a root, as it was found there.
+//! A word of a root, as it was found there, and what a guard lends of it.
 ghost use Rattle.std.specs.Prelude.{◌≡◌};
 ghost use Rattle.seize_words.specs.Word.{link_word, block_in};
 ghost use Rattle.seize_guards.specs.Tags.{tag_in, with_marks};
@@ -48,5 +48,36 @@ impl Tagged {
         Tagged {
             word: self.word / 8 * 8 + marks % 8,
         }
+    }
+}
+
+/// A word that a pass has found at a root, and the value of the block to which it links: a section holds that block, so the value is lent for as long as the guard of
+/// that section is borrowed, whatever the pass does then.
+#[derive_where(Clone, Copy)]
+pub struct Protected<'g, T> {
+    tagged: Tagged,
+    value: Option<&'g T>,
+}
+
+impl<'g, T> Protected<'g, T> {
+    pub(crate) fn of(tagged: Tagged, value: Option<&'g T>) -> Self
+        ensures tagged { result.tagged ≡ tagged }
+        ensures value { result.value ≡ value.entry }
+    {
+        Protected { tagged, value }
+    }
+
+    /// The word, with its tag.
+    pub fn tagged(&self) -> Tagged
+        ensures { result ≡ self.now.tagged }
+    {
+        self.tagged
+    }
+
+    /// The value, if the word links to a block.
+    pub fn get(&self) -> Option<&'g T>
+        ensures { result ≡ self.now.value }
+    {
+        self.value
     }
 }

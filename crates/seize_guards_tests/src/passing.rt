@@ -20,7 +20,10 @@ fn looks(guard: &OwnedGuard<'_, Counted>, pass: &mut Pass<Counted>, drops: &Tabl
     let mut good = true;
     let mut last: Option<&Counted> = None;
     for turn in 0..TIMES {
-        if let Ok(Some((_, Some(value)))) = guard.protect_by(0, pass) {
+        let Ok(Some(found)) = guard.protect_by(0, pass) else {
+            return (seen, false);
+        };
+        if let Some(value) = found.get() {
             seen = usize::wrapping_add(seen, 1);
             if let Some(before) = last {
                 good = good && dropped(drops, before.place) == 0;
@@ -53,7 +56,7 @@ fn two_look<R: Threads + Sync>(
     drops: &Table,
 ) -> Result<bool, Fault> {
     let guard = collector.enter_owned()?;
-    let mut one = collector.pass();
+    let mut one = guard.collector().pass();
     let mut other = collector.pass();
     let (first, second) = thread::join(
         rt,

@@ -6,6 +6,7 @@ use Rattle.seize_callers.proofs.Given.SeizeActsAnswers.{same_some}
 use Rattle.seize_shared.specs.Standing.{standing}
 use Rattle.seize_callers.specs.Given.SeizeViewsTold.{seen_as}
 use Rattle.seize_callers.specs.Given.SeizeViewsPromises.{IsLooking, IsTaker}
+use Rattle.seize_callers.specs.Given.SeizeViewsWatched.{open_at}
 use Rattle.seize_callers.specs.Given.SeizeViewsDeclared.view.View.{View}
 use Rattle.seize_callers.specs.Given.SeizeViewsDeclared.view.View.TheVariants.{Rests, Registers, Outside, Owes, Enters, Inside, Settles, Leaves, Left, Frees, Brings, Bears, Watches, Under, Busy}
 use Rattle.seize_callers.specs.Given.SeizeViewsDeclared.view.Has.{Has}
@@ -107,6 +108,10 @@ module _ {T : Type 0} (t : ℕ) where
 
   pub is_inside : (k : ℕ) (v : View T) → standing v ≡ Some (stands t true k) → (has : Has T) × IsLooking has × (v ≡ Inside t has)
   is_inside k v e = let i = inside k v e in (i.0, looking i.0 k i.1, i.2)
+
+  -- and its section is open
+  pub is_open : (k : ℕ) (v : View T) → standing v ≡ Some (stands t true k) → open_at v ≡ Some t
+  is_open k v e = let i = is_inside k v e in ap open_at i.2
 
   pub is_taker : (open_so : Bool) (k : ℕ) (v : View T) → standing v ≡ Some (stands t open_so k) → IsTaker v
   is_taker true k v e = let i = is_inside k v e in subst IsTaker (sym i.2) i.1

@@ -1,5 +1,7 @@
 //! A slot of which several guards have the section open: it begins with the first of them, and ends with the last.
-ghost use Rattle.std.specs.Prelude.{◌≡◌, ◌≢◌, ◌<◌, ◌^◌, ℕ, Some, true, false, IfOk, IfSome, IfNone, unwrap_or};
+ghost use Rattle.std.specs.Prelude.{◌≡◌, ◌≢◌, ◌<◌, ◌^◌, ℕ, Some, true, false, IfOk, IfErr, IfSome, IfNone, unwrap_or};
+ghost use Rattle.seize.specs.Given.SeizeWordsDeclared.fault.Fault.TheVariants.{GuardsFull};
+ghost use Rattle.seize_shared.specs.Refused.{HasNoSlot};
 ghost use Rattle.seize_guards.specs.Lent.{IsLent};
 ghost use Rattle.seize_callers.specs.Given.SeizeViewsNotes.{looked_at};
 ghost use Rattle.seize_callers.specs.Given.SeizeViewsDeclared.view.View.TheVariants.{Rests, Watches};
@@ -192,6 +194,7 @@ impl<'a, T: Defers + Drop, B: Place> Desk<'a, T, B> {
         requires fixed { blocks.now.words.fixed ≡ fixed.now }
         requires home { blocks.now.words.id.views_name ≡ B.base }
         ensures blocks { IfOk result (λ desk. desk.blocks.now ≡ blocks.now) }
+        ensures refused { IfErr result (λ fault. HasNoSlot fault) }
     {
         let stay = Stay::new(blocks, fixed)?;
         let drawer = Drawer {
@@ -205,18 +208,21 @@ impl<'a, T: Defers + Drop, B: Place> Desk<'a, T, B> {
         })
     }
 
-    /// One guard more. There is none where `MOST_GUARDS` are there, or were forgotten.
-    pub fn enter<'d>(&'d self) -> Option<DeskGuard<'d, 'a, T, B>>
-        ensures fresh { IfSome result (λ guard. guard.seen ≡ 0) }
-        ensures desk { IfSome result (λ guard. guard.desk.now ≡ self.now) }
+    /// One guard more. Where `MOST_GUARDS` are there, or were forgotten, it is `Fault::GuardsFull`.
+    pub fn enter<'d>(&'d self) -> Result<DeskGuard<'d, 'a, T, B>, Fault>
+        ensures fresh { IfOk result (λ guard. guard.seen ≡ 0) }
+        ensures desk { IfOk result (λ guard. guard.desk.now ≡ self.now) }
+        ensures full { IfErr result (λ fault. fault ≡ GuardsFull) }
     {
-        let mut drawer = self.drawer.take()?;
+        let Some(mut drawer) = self.drawer.take() else {
+            return Err(Fault::GuardsFull);
+        };
         let mut seat = watcher(self.blocks);
         let slot = drawer.stay.slot;
         let is_open = drawer.opens(&mut seat);
         self.drawer.set(Some(drawer));
         if !is_open {
-            return None;
+            return Err(Fault::GuardsFull);
         }
         let watcher = Watcher {
             seat,
@@ -224,7 +230,7 @@ impl<'a, T: Defers + Drop, B: Place> Desk<'a, T, B> {
             slot,
             last: 0,
         };
-        Some(DeskGuard {
+        Ok(DeskGuard {
             desk: self,
             watcher,
             seen: 0,

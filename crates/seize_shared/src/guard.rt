@@ -1,20 +1,19 @@
 //! Guards of sections: one of a slot that stays on its thread, and one with a slot of its own that may be sent.
-ghost use Rattle.std.specs.Prelude.{◌≡◌, ◌≢◌, ◌<◌, None, Some, IfOk, IfErr, IfSome, IfNone, IsSome, true, false};
-ghost use Rattle.seize_words.specs.Word.{block_in};
+ghost use Rattle.std.specs.Prelude.{◌≡◌, ◌≢◌, ◌<◌, None, Some, IfOk, IfErr, true, false};
 ghost use Rattle.seize.specs.Given.SeizeWordsDeclared.fault.Fault.TheVariants.{ForeignGuard};
 ghost use Rattle.seize_guards.specs.Deeds.{has_taken};
 ghost use Rattle.seize_guards.specs.Homes.{OneSource};
-ghost use Rattle.seize_guards.specs.Lent.{IsLent};
-ghost use Rattle.seize_callers.specs.Given.SeizeViewsDeclared.view.Deed.TheVariants.{Looked};
+ghost use Rattle.seize_shared.specs.Refused.{HasNoSlot};
 ghost use Rattle.seize_callers.specs.Given.SeizeViewsNotes.{written_at};
 ghost use Rattle.seize_callers.specs.Given.SeizeViewsDeclared.view.Began.TheVariants.{Retirement, Trial};
 ghost use Rattle.seize_callers.specs.Given.SeizeViewsDeclared.view.View.TheVariants.{Brings};
 
+use crate::shared::Shared;
 use crate::stay::Stay;
 use seize::rows::Defers;
 use seize_blocks::Blocks;
 use seize_callers::Caller;
-use seize_guards::{Guard, Owned, Pass, RootGuard, Tagged, Unlinked};
+use seize_guards::{Guard, Owned, Pass, Protected, RootGuard, Tagged, Unlinked};
 use seize_receivers::{Drops, Receiver};
 use seize_views::{Content, Fixed, OfRows};
 use seize_words::Fault;
@@ -36,6 +35,7 @@ impl<'a, T: Defers + Drop, C: Content<T>> Registration<'a, T, C> {
         requires fixed { blocks.now.words.fixed ≡ fixed.now }
         ensures home { IfOk result (λ registration. registration.stay.caller.blocks.now ≡ blocks.now) }
         ensures number { IfOk result (λ registration. registration.number ≡ 0) }
+        ensures refused { IfErr result (λ fault. HasNoSlot fault) }
     {
         Registration::of(blocks, fixed, 0)
     }
@@ -47,6 +47,7 @@ impl<'a, T: Defers + Drop, C: Content<T>, R: Receiver<T>> Registration<'a, T, C,
         requires fixed { blocks.now.words.fixed ≡ fixed.now }
         ensures home { IfOk result (λ registration. registration.stay.caller.blocks.now ≡ blocks.now) }
         ensures number { IfOk result (λ registration. registration.number ≡ number) }
+        ensures refused { IfErr result (λ fault. HasNoSlot fault) }
     {
         let stay = Stay::new(blocks, fixed)?;
         Ok(Registration {
@@ -61,6 +62,14 @@ impl<'a, T: Defers + Drop, C: Content<T>, R: Receiver<T>> Registration<'a, T, C,
         ensures { result ≡ self.now.number }
     {
         self.number
+    }
+
+    /// Its collector, for those who share it.
+    pub fn collector(&self) -> Shared<'a, T, C, R>
+        ensures home { result.blocks.now ≡ self.now.stay.caller.blocks.now }
+        ensures number { result.number ≡ self.now.number }
+    {
+        self.stay.shared(self.number)
     }
 
     /// Tries the slot's batch without a section. A value that is reclaimed is dropped. Where a guard was forgotten its section ends first.
@@ -136,6 +145,8 @@ impl<'r, 'a, T: Defers + Drop, C: Content<T>, R: Receiver<T>> Guard<T>
     for LocalGuard<'r, 'a, T, C, R> {
     type Content = C;
 
+    type Receiver = R;
+
     ghost home = { λ g. record { number = g.registration.now.number; memory = g.registration.now.stay.caller.blocks.now.words.id.views_name; roots = g.registration.now.stay.caller.blocks.now.words.fixed.roots } };
 
     ghost slot = { λ g. g.registration.now.stay.slot };
@@ -186,6 +197,18 @@ impl<'r, 'a, T: Defers + Drop, R: Receiver<T>> RootGuard<T> for LocalGuard<'r, '
         registration.stay.protects(root)
     }
 
+    fn protect_by<'g>(
+        &'g self,
+        root: u64,
+        pass: &mut Pass<T>,
+    ) -> Result<Option<Protected<'g, T>>, Fault> {
+        let registration = &*self.registration;
+        if pass.number() != registration.number {
+            return Err(Fault::ForeignGuard);
+        }
+        Ok(registration.stay.protects_by(root, pass))
+    }
+
     fn mark(&mut self, root: u64, marks: u64) -> Option<Tagged> {
         let registration = &mut *self.registration;
         registration.stay.marks(root, marks)
@@ -216,6 +239,17 @@ impl<'r, 'a, T: Defers + Drop, R: Receiver<T>> RootGuard<T> for LocalGuard<'r, '
     }
 }
 
+impl<'r, 'a, T: Defers + Drop, C: Content<T>, R: Receiver<T>> LocalGuard<'r, 'a, T, C, R> {
+    /// Its collector, for those who share it: it may be asked for further slots while the guard is there.
+    pub fn collector(&self) -> Shared<'a, T, C, R>
+        ensures home { result.blocks.now ≡ self.now.registration.now.stay.caller.blocks.now }
+        ensures number { result.number ≡ self.now.registration.now.number }
+    {
+        let registration = &*self.registration;
+        registration.collector()
+    }
+}
+
 impl<'r, 'a, T: Defers + Drop, R: Receiver<T>> LocalGuard<'r, 'a, T, OfRows, R> {
     /// Makes a block of a value, which is of its collector; a number is looked for from `near` on, which says then where to look next. Without words for it, or
     /// memory, the value comes back. What it has seen it knows still.
@@ -227,32 +261,6 @@ impl<'r, 'a, T: Defers + Drop, R: Receiver<T>> LocalGuard<'r, 'a, T, OfRows, R> 
     {
         let registration = &*self.registration;
         registration.stay.makes(registration.number, near, value)
-    }
-
-    /// A pass looks which word is at a root: the section holds the block to which it links, whose value is lent for as long as the guard is borrowed. There is none
-    /// where there is no such root. A pass of another collector is `Fault::ForeignGuard`, and it is as it was.
-    pub fn protect_by<'g>(
-        &'g self,
-        root: u64,
-        pass: &mut Pass<T>,
-    ) -> Result<Option<(Tagged, Option<&'g T>)>, Fault>
-        requires source { OneSource pass.old.number pass.old.pass.seat.base
-            record { number = self.now.registration.now.number; memory = self.now.registration.now.stay.caller.blocks.now.words.id.views_name; roots = self.now.registration.now.stay.caller.blocks.now.words.fixed.roots } }
-        ensures memory { pass.new.pass.seat.base ≡ pass.old.pass.seat.base }
-        ensures number { pass.new.number ≡ pass.old.number }
-        ensures foreign { IfErr result (λ fault. (fault ≡ ForeignGuard) × (pass.old.number ≢ self.now.registration.now.number) × (pass.new ≡ pass.old)) }
-        ensures own { IfOk result (λ _. pass.old.number ≡ self.now.registration.now.number) }
-        ensures looked { IfOk result (λ found. IfSome found (λ found. pass.new.pass.seat.view.did ≡ Looked root found.0.word)) }
-        ensures lent { IfOk result (λ found. IfSome found (λ found. IfSome found.1 (λ value. IsLent T.defers self.now.registration.now.stay.caller.blocks.now.words.fixed
-            self.now.registration.now.stay.caller.seat.id self.now.registration.now.stay.caller.seat.view (block_in found.0.word) value.now))) }
-        ensures none { IfOk result (λ found. IfSome found (λ found. IfNone found.1 (block_in found.0.word ≡ 0))) }
-        ensures there { IfOk result (λ found. root < self.now.registration.now.stay.caller.blocks.now.words.fixed.roots → IsSome found) }
-    {
-        let registration = &*self.registration;
-        if pass.number() != registration.number {
-            return Err(Fault::ForeignGuard);
-        }
-        Ok(registration.stay.protects_by(root, pass))
     }
 }
 
@@ -287,6 +295,7 @@ impl<'a, T: Defers + Drop, C: Content<T>> OwnedGuard<'a, T, C> {
         ensures home { IfOk result (λ guard. guard.stay.caller.blocks.now ≡ blocks.now) }
         ensures number { IfOk result (λ guard. guard.number ≡ 0) }
         ensures fresh { IfOk result (λ guard. guard.stay.seen ≡ 0) }
+        ensures refused { IfErr result (λ fault. HasNoSlot fault) }
     {
         OwnedGuard::of(blocks, fixed, 0)
     }
@@ -299,6 +308,7 @@ impl<'a, T: Defers + Drop, C: Content<T>, R: Receiver<T>> OwnedGuard<'a, T, C, R
         ensures home { IfOk result (λ guard. guard.stay.caller.blocks.now ≡ blocks.now) }
         ensures number { IfOk result (λ guard. guard.number ≡ number) }
         ensures fresh { IfOk result (λ guard. guard.stay.seen ≡ 0) }
+        ensures refused { IfErr result (λ fault. HasNoSlot fault) }
     {
         let mut stay = Stay::new(blocks, fixed)?;
         stay.refreshes();
@@ -307,6 +317,14 @@ impl<'a, T: Defers + Drop, C: Content<T>, R: Receiver<T>> OwnedGuard<'a, T, C, R
             number,
             receiver: PhantomData,
         })
+    }
+
+    /// Its collector, for those who share it: it may be asked for further slots while the guard is there.
+    pub fn collector(&self) -> Shared<'a, T, C, R>
+        ensures home { result.blocks.now ≡ self.now.stay.caller.blocks.now }
+        ensures number { result.number ≡ self.now.number }
+    {
+        self.stay.shared(self.number)
     }
 }
 
@@ -321,35 +339,12 @@ impl<'a, T: Defers + Drop, R: Receiver<T>> OwnedGuard<'a, T, OfRows, R> {
     {
         self.stay.makes(self.number, near, value)
     }
-
-    /// A pass looks which word is at a root: the section holds the block to which it links, whose value is lent for as long as the guard is borrowed. There is none
-    /// where there is no such root. A pass of another collector is `Fault::ForeignGuard`, and it is as it was.
-    pub fn protect_by<'g>(
-        &'g self,
-        root: u64,
-        pass: &mut Pass<T>,
-    ) -> Result<Option<(Tagged, Option<&'g T>)>, Fault>
-        requires source { OneSource pass.old.number pass.old.pass.seat.base
-            record { number = self.now.number; memory = self.now.stay.caller.blocks.now.words.id.views_name; roots = self.now.stay.caller.blocks.now.words.fixed.roots } }
-        ensures memory { pass.new.pass.seat.base ≡ pass.old.pass.seat.base }
-        ensures number { pass.new.number ≡ pass.old.number }
-        ensures foreign { IfErr result (λ fault. (fault ≡ ForeignGuard) × (pass.old.number ≢ self.now.number) × (pass.new ≡ pass.old)) }
-        ensures own { IfOk result (λ _. pass.old.number ≡ self.now.number) }
-        ensures looked { IfOk result (λ found. IfSome found (λ found. pass.new.pass.seat.view.did ≡ Looked root found.0.word)) }
-        ensures lent { IfOk result (λ found. IfSome found (λ found. IfSome found.1 (λ value. IsLent T.defers self.now.stay.caller.blocks.now.words.fixed
-            self.now.stay.caller.seat.id self.now.stay.caller.seat.view (block_in found.0.word) value.now))) }
-        ensures none { IfOk result (λ found. IfSome found (λ found. IfNone found.1 (block_in found.0.word ≡ 0))) }
-        ensures there { IfOk result (λ found. root < self.now.stay.caller.blocks.now.words.fixed.roots → IsSome found) }
-    {
-        if pass.number() != self.number {
-            return Err(Fault::ForeignGuard);
-        }
-        Ok(self.stay.protects_by(root, pass))
-    }
 }
 
 impl<'a, T: Defers + Drop, C: Content<T>, R: Receiver<T>> Guard<T> for OwnedGuard<'a, T, C, R> {
     type Content = C;
+
+    type Receiver = R;
 
     ghost home = { λ g. record { number = g.number; memory = g.stay.caller.blocks.now.words.id.views_name; roots = g.stay.caller.blocks.now.words.fixed.roots } };
 
@@ -395,6 +390,17 @@ impl<'a, T: Defers + Drop, R: Receiver<T>> RootGuard<T> for OwnedGuard<'a, T, Of
 
     fn protect(&mut self, root: u64) -> Option<Tagged> {
         self.stay.protects(root)
+    }
+
+    fn protect_by<'g>(
+        &'g self,
+        root: u64,
+        pass: &mut Pass<T>,
+    ) -> Result<Option<Protected<'g, T>>, Fault> {
+        if pass.number() != self.number {
+            return Err(Fault::ForeignGuard);
+        }
+        Ok(self.stay.protects_by(root, pass))
     }
 
     fn mark(&mut self, root: u64, marks: u64) -> Option<Tagged> {

@@ -4,11 +4,13 @@
 
 mod desk;
 mod guard;
+mod shared;
 mod stay;
 
 pub use desk::{Desk, DeskGuard, MOST_GUARDS, Place};
 pub use guard::{LocalGuard, OwnedGuard, Registration};
 pub use seize_callers::Caller;
-pub use seize_guards::{Guard, Owned, Pass, RootGuard, Tagged, Unlinked};
+pub use seize_guards::{Guard, Owned, Pass, Protected, RootGuard, Tagged, Unlinked};
 pub use seize_receivers::{Drops, Receiver};
 pub use seize_views::{Becomes, Began, Content, Deed, Fixed, Has, Noted, OfRows, View, Why};
+pub use shared::Shared;

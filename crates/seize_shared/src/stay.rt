@@ -1,15 +1,28 @@
 //! A slot that is held, and its section, which is open or not.
-ghost use Rattle.std.specs.Prelude.{◌≡◌, ◌<◌, ◌^◌, Some, IfOk, true, false};
+ghost use Rattle.std.specs.Prelude.{◌≡◌, ◌<◌, ◌^◌, Some, IfOk, IfErr, true, false};
+ghost use Rattle.seize_shared.specs.Refused.{HasNoSlot};
 ghost use Rattle.seize_shared.specs.Standing.{standing};
 ghost use Rattle.seize_callers.specs.Given.SeizeViewsDeclared.view.Began.TheVariants.{Section, Trial};
 
 mod roots;
 
+use crate::shared::Shared;
 use seize::rows::Defers;
 use seize_blocks::Blocks;
 use seize_callers::Caller;
+use seize_receivers::Receiver;
 use seize_views::{Content, Fixed, OfRows};
 use seize_words::Fault;
+
+/// Why no slot is taken, as it is told: where it is not that each is in use it is memory.
+fn refusal(fault: Fault) -> Fault
+    ensures { HasNoSlot result }
+{
+    match fault {
+        Fault::SlotsUsedUp => Fault::SlotsUsedUp,
+        _ => Fault::Memory,
+    }
+}
 
 /// A caller who holds a slot: whether its section is open, which block was seen there, 0 for none, and how many seats watch that section. The slot is given up
 /// as this ends, but for one whose section somebody has forgotten to watch no longer.
@@ -33,9 +46,13 @@ impl<'a, T: Defers + Drop, C: Content<T>> Stay<'a, T, C> {
         ensures home { IfOk result (λ stay. stay.caller.blocks.now ≡ blocks.now) }
         ensures alone { IfOk result (λ stay. stay.guards ≡ 0) }
         ensures closed { IfOk result (λ stay. stay.inside ≡ false) }
+        ensures refused { IfErr result (λ fault. HasNoSlot fault) }
     {
         let mut caller = Caller::new(blocks, fixed.batch_size);
-        let slot = caller.register()?;
+        let slot = match caller.register() {
+            Ok(slot) => slot,
+            Err(fault) => return Err(refusal(fault)),
+        };
         Ok(Stay {
             caller,
             slot,
@@ -44,6 +61,18 @@ impl<'a, T: Defers + Drop, C: Content<T>> Stay<'a, T, C> {
             seen: 0,
             guards: 0,
         })
+    }
+
+    /// Its collector, which has this number, for those who share it.
+    pub(crate) fn shared<R: Receiver<T>>(&self, number: u64) -> Shared<'a, T, C, R>
+        ensures home { result.blocks.now ≡ self.now.caller.blocks.now }
+        ensures number { result.number ≡ number }
+    {
+        let chosen = Fixed {
+            batch_size: self.caller.batch_size(),
+            roots: self.roots,
+        };
+        Shared::of(self.caller.blocks(), chosen, number)
     }
 
     /// Begins a section anew, or opens one.

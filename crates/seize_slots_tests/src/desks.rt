@@ -2,6 +2,7 @@
 ghost use Rattle.std.specs.Prelude.{◌≡◌};
 
 use crate::ground::CHOSEN;
+use seize::Fault;
 use seize_blocks::{Blocks, Home};
 use seize_counted::{Counted, Table, dropped, table};
 use seize_shared::{Desk, DeskGuard, MOST_GUARDS, OfRows, Place, Registration, RootGuard};
@@ -34,8 +35,12 @@ fn ends<B: Place>(
     guard.put(0, Counted::of(drops, 0)?).ok()?;
     drop(guard);
     let desk = Desk::<Counted, B>::new(blocks, &CHOSEN).ok()?;
-    let mut outer = desk.enter()?;
-    let mut inner = desk.enter()?;
+    let Ok(mut outer) = desk.enter() else {
+        return None;
+    };
+    let Ok(mut inner) = desk.enter() else {
+        return None;
+    };
     outer.see(0);
     inner.see(0);
     writer.clear(0);
@@ -91,7 +96,7 @@ fn enters_all<'d, 'a, B: Place>(
     guards: &mut Vec<DeskGuard<'d, 'a, Counted, B>>,
 ) -> bool {
     for _ in 0..MOST_GUARDS {
-        let Some(guard) = desk.enter() else {
+        let Ok(guard) = desk.enter() else {
             return false;
         };
         if guards.push(guard).is_err() {
@@ -101,7 +106,7 @@ fn enters_all<'d, 'a, B: Place>(
     true
 }
 
-/// As many guards as there may be, one of which ends; whether there is a further one before, and then.
+/// As many guards as there may be, one of which ends; whether a further one is refused before, as one too many, and there is one then.
 fn fills<B: Place>(alloc: Global, blocks: &Blocks<Counted, OfRows>) -> Option<(bool, bool)>
     requires fixed { blocks.now.words.fixed ≡ record { batch_size = 5; roots = 1 } }
     requires home { blocks.now.words.id.views_name ≡ B.base }
@@ -109,9 +114,9 @@ fn fills<B: Place>(alloc: Global, blocks: &Blocks<Counted, OfRows>) -> Option<(b
     let desk = Desk::<Counted, B>::new(blocks, &CHOSEN).ok()?;
     let mut guards = Vec::new(alloc);
     let all = enters_all(&desk, &mut guards);
-    let before = desk.enter().is_some();
+    let before = matches!(desk.enter(), Err(Fault::GuardsFull));
     drop(guards.pop());
-    let then = desk.enter().is_some();
+    let then = desk.enter().is_ok();
     if all { Some((before, then)) } else { None }
 }
 
@@ -125,7 +130,7 @@ fn fills_here(alloc: Global, blocks: &Blocks<Counted, OfRows>) -> Option<(bool, 
 #[test]
 fn a_desk_refuses_a_guard_where_it_has_the_most(rt: HostRuntime) -> Result<(), Fail> {
     let home = Home::<Counted, OfRows>::open(rt.alloc(), 1, 8, &CHOSEN)?;
-    assert_eq!(rt; fills_here(rt.alloc(), &home.blocks), Some((false, true)));
+    assert_eq!(rt; fills_here(rt.alloc(), &home.blocks), Some((true, true)));
     Ok(())
 }
 
@@ -137,7 +142,9 @@ fn forgets<B: Place>(blocks: &Blocks<Counted, OfRows>, drops: &Table) -> Option<
     let mut writer = Registration::new(blocks, &CHOSEN).ok()?;
     drop(writer.enter().put(0, Counted::of(drops, 0)?));
     let desk = Desk::<Counted, B>::new(blocks, &CHOSEN).ok()?;
-    let mut guard = desk.enter()?;
+    let Ok(mut guard) = desk.enter() else {
+        return None;
+    };
     let sees = guard.see(0);
     mem::forget(guard);
     drop(desk);

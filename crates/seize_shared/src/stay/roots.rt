@@ -13,7 +13,7 @@ use crate::stay::Stay;
 use seize::rows::Defers;
 use seize_blocks::Seat;
 use seize_callers::{Caller, named};
-use seize_guards::{Owned, Pass, Tagged};
+use seize_guards::{Owned, Pass, Protected, Tagged};
 use seize_views::{Fixed, OfRows};
 
 impl<'a, T: Defers + Drop> Stay<'a, T> {
@@ -86,14 +86,14 @@ impl<'a, T: Defers + Drop> Stay<'a, T> {
         &'g self,
         root: u64,
         pass: &mut Pass<T>,
-    ) -> Option<(Tagged, Option<&'g T>)>
+    ) -> Option<Protected<'g, T>>
         requires own { pass.old.pass.seat.base ≡ self.now.caller.blocks.now.words.id.views_name }
         ensures memory { pass.new.pass.seat.base ≡ pass.old.pass.seat.base }
         ensures number { pass.new.number ≡ pass.old.number }
-        ensures looked { IfSome result (λ found. pass.new.pass.seat.view.did ≡ Looked root found.0.word) }
-        ensures lent { IfSome result (λ found. IfSome found.1 (λ value. IsLent T.defers self.now.caller.blocks.now.words.fixed self.now.caller.seat.id
-            self.now.caller.seat.view (block_in found.0.word) value.now)) }
-        ensures none { IfSome result (λ found. IfNone found.1 (block_in found.0.word ≡ 0)) }
+        ensures looked { IfSome result (λ found. pass.new.pass.seat.view.did ≡ Looked root found.tagged.word) }
+        ensures lent { IfSome result (λ found. IfSome found.value (λ value. IsLent T.defers self.now.caller.blocks.now.words.fixed self.now.caller.seat.id
+            self.now.caller.seat.view (block_in found.tagged.word) value.now)) }
+        ensures none { IfSome result (λ found. IfNone found.value (block_in found.tagged.word ≡ 0)) }
         ensures there { self.now.inside ≡ true → root < self.now.caller.blocks.now.words.fixed.roots → IsSome result }
     {
         if !self.inside || root >= self.roots {

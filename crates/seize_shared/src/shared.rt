@@ -1,26 +1,42 @@
 //! A collector as those have it who share it: they take slots of it, and make blocks.
 ghost use Rattle.std.specs.Prelude.{◌≡◌, IfOk, IfErr};
-ghost use Rattle.seize_views.specs.declared.view.View.TheVariants.{Brings};
+ghost use Rattle.seize_shared.specs.Refused.{HasNoSlot};
+ghost use Rattle.seize_callers.specs.Given.SeizeViewsDeclared.view.View.TheVariants.{Brings};
 
-use seize::Fault;
+use crate::guard::{OwnedGuard, Registration};
 use seize::rows::Defers;
 use seize_blocks::Blocks;
-use seize_shared::{
-    Content, Drops, Fixed, OfRows, Owned, OwnedGuard, Pass, Receiver, Registration,
-};
+use seize_guards::{Owned, Pass};
+use seize_receivers::{Drops, Receiver};
+use seize_views::{Content, Fixed, OfRows};
+use seize_words::Fault;
 use std::marker::PhantomData;
 
 /// A collector, lent: it may go to other threads, and each of them may take slots of it.
 #[derive(Drop)]
 pub struct Shared<'c, T: Defers + Drop, C: Content<T> = OfRows, R: Receiver<T> = Drops> {
-    pub(crate) blocks: &'c Blocks<T, C>,
-    pub(crate) chosen: Fixed,
-    pub(crate) number: u64,
-    pub(crate) receiver: PhantomData<R>,
-    pub(crate) ghost fixed: { blocks.now.words.fixed ≡ chosen },
+    blocks: &'c Blocks<T, C>,
+    chosen: Fixed,
+    number: u64,
+    receiver: PhantomData<R>,
+    ghost fixed: { blocks.now.words.fixed ≡ chosen },
 }
 
 impl<'c, T: Defers + Drop, C: Content<T>, R: Receiver<T>> Shared<'c, T, C, R> {
+    /// That of this number, which has this memory, for which this was chosen.
+    pub fn of(blocks: &'c Blocks<T, C>, chosen: Fixed, number: u64) -> Self
+        requires fixed { blocks.now.words.fixed ≡ chosen }
+        ensures home { result.blocks.now ≡ blocks.now }
+        ensures number { result.number ≡ number }
+    {
+        Shared {
+            blocks,
+            chosen,
+            number,
+            receiver: PhantomData,
+        }
+    }
+
     /// Its number, which no other collector of its source has.
     pub fn number(&self) -> u64
         ensures { result ≡ self.now.number }
@@ -28,10 +44,18 @@ impl<'c, T: Defers + Drop, C: Content<T>, R: Receiver<T>> Shared<'c, T, C, R> {
         self.number
     }
 
+    /// How many roots it has.
+    pub fn roots(&self) -> u64
+        ensures { result ≡ self.now.blocks.now.words.fixed.roots }
+    {
+        self.chosen.roots
+    }
+
     /// Takes the first slot that can be taken. Where none can be nothing changes.
     pub fn register(&self) -> Result<Registration<'c, T, C, R>, Fault>
         ensures home { IfOk result (λ registration. registration.stay.caller.blocks.now ≡ self.now.blocks.now) }
         ensures number { IfOk result (λ registration. registration.number ≡ self.now.number) }
+        ensures refused { IfErr result (λ fault. HasNoSlot fault) }
     {
         Registration::of(self.blocks, &self.chosen, self.number)
     }
@@ -41,6 +65,7 @@ impl<'c, T: Defers + Drop, C: Content<T>, R: Receiver<T>> Shared<'c, T, C, R> {
         ensures home { IfOk result (λ guard. guard.stay.caller.blocks.now ≡ self.now.blocks.now) }
         ensures number { IfOk result (λ guard. guard.number ≡ self.now.number) }
         ensures fresh { IfOk result (λ guard. guard.stay.seen ≡ 0) }
+        ensures refused { IfErr result (λ fault. HasNoSlot fault) }
     {
         OwnedGuard::of(self.blocks, &self.chosen, self.number)
     }
