@@ -1,6 +1,6 @@
 #!/usr/bin/env python3
-"""Shows that what a guard lends cannot be read once it has ended, or has taken a step, that it stays on its thread, and that nobody empties a collector meanwhile, or
-lets go of a block that is to be retired: such programs do not compile.
+"""Shows that what a guard lends cannot be read once it has ended, or has taken a step, that it stays on its thread, and that nobody empties a collector
+meanwhile, or lets go of a block that is to be spent: such programs do not compile.
 
     compile-fail/late_guards.py   compiles a program of functions that read early or late, one of functions that send what may be sent and what
                                   may not, and two of blocks and collectors, and exits 1 if one that is right is refused, or one that is wrong is not

@@ -1,11 +1,9 @@
-//! Tests of guards and slots in number: more slots than the first bucket has, all that there are, several guards of one slot and as many as it may have, and a struct
-//! that holds a slot.
+//! Tests of guards and slots in number: more slots than the first bucket has, several guards of one slot and as many as it may have, and a struct that holds a
+//! slot.
 #![tactic(auto)]
 
 #[cfg(test)]
 mod desks;
-#[cfg(test)]
-mod full;
 #[cfg(test)]
 mod ground;
 #[cfg(test)]
