@@ -3,8 +3,9 @@
 
     .ci/unreached.py [CRATE..]   those of these crates, of all where none is named, each with its file; exits 1 if there are any
 
-What begins the search: what code cites; the files of `proofs/` in folders named for functions, which answer goals or are walks over raw words; and what stands in a folder or
-file `Samples`, since that shows what definitions refuse; and what a `Given` gives on by name, for proofs of users. From there it goes by names, each resolved through imports and `Given`; a file's inner modules are one with it.
+What begins the search: what code cites; the files of `proofs/` in folders named for functions, which answer goals or are walks over raw words; what stands in a folder or
+file `Samples`, since that shows what definitions refuse; and what a `Given` gives on by name, for proofs of users. From there it goes by names, each resolved through
+imports and `Given`; a file's inner modules are one with it.
 """
 import functools
 import glob
