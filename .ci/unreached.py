@@ -3,8 +3,9 @@
 
     .ci/unreached.py [CRATE..]   those of these crates, of all where none is named, each with its file; exits 1 if there are any
 
-What begins the search: what code cites; the files of `proofs/` in folders named for functions, which answer goals or are walks over raw words; and what stands in a folder or
-file `Samples`, since that shows what definitions refuse. From there it goes by names, each resolved through imports and `Given`; a file's inner modules are one with it.
+What begins the search: what code cites; the files of `proofs/` in folders named for functions, which answer goals or are walks over raw words; what stands in a folder or
+file `Samples`, since that shows what definitions refuse; and what a `Given` gives on by name, for proofs of users. From there it goes by names, each resolved through
+imports and `Given`; a file's inner modules are one with it.
 """
 import functools
 import glob
@@ -167,6 +168,9 @@ class Search:
                 for crate, part, module, name in USING.findall(file.text):
                     home = file.crate if crate == "crate" else crate
                     self.reach(self.items_of(f"Rattle.{home}.{part}." + module.replace("::", "."), name))
+            elif path[-1] == "Given.antt":
+                for module, name in file.names.values():
+                    self.reach(self.items_of(module, name))
             elif answers or any(part.partition(".")[0] == "Samples" for part in path):
                 self.reach(file.items.values())
                 for head in file.others:
