@@ -1,2 +1,3 @@
 pub mod By
+mod Digits
 mod Far

@@ -194,19 +194,20 @@ impl<T, R: Rule<T>> Blocks<T, R> {
         index * 5 + (self.roots + self.roots + 32) * 16
     }
 
-    /// Behind which door the strip of a number is, and how many numbers come before those of the strip.
+    /// Behind which door the strip of a number is, and how many numbers come before those of the strip. Each further strip has a binary digit more before it;
+    /// where the first one's count, with as many digits as the number, is past the number, the strip is the one before.
+    #[inline(always)]
     pub(crate) fn door_of(&self, index: u64) -> (u64, u64)
         requires { (self.now.words.id.least ≤ index) × (index < 2 ^ 32) }
         ensures { IsBehind self.now.words.id.least index result.0 result.1 }
     {
-        let mut first = self.count;
-        for door in 0..32 {
-            if index < first * 2 {
-                return (door, first);
-            }
-            first = first * 2;
+        let digits = self.count.leading_zeros() - index.leading_zeros();
+        let door = digits as u64;
+        let first = self.count << digits;
+        if first <= index {
+            return (door, first);
         }
-        unreachable!()
+        (door - 1, first >> 1)
     }
 
     /// Where a block of the first strip is.
@@ -253,6 +254,7 @@ impl<T, R: Rule<T>> Blocks<T, R> {
     }
 
     /// The same, of a block whose number lies behind a door.
+    #[inline(always)]
     fn far_spot_of(
         &self,
         pass: &Seat<T, R>,

@@ -1,7 +1,15 @@
-use Rattle.std.proofs.Common.{arith}
-use Rattle.seize_seats.proofs.Growing.Behind.{doubled}
+use Rattle.std.proofs.Common.{ℕ, ◌≤◌, subst}
+use Rattle.seize_blocks.proofs.Digits.{longer, here, before}
 use Rattle.seize_blocks.proofs.blocks.Blocks.door_of.Goals as goal
 
-pub loop-door-preserved : goal.loop-door-preserved
-loop-door-preserved g c = let l = c.loop-door in let i = l.invariant in
-    (doubled c.args.self.now.words.id.least l.door l.first i.0, omega (arith, c.if-index-first.false))
+pub overflow_sub-digits : goal.overflow_sub-digits
+overflow_sub-digits g c = let x = c.args.self.now in
+    longer x.count c.args.index x.few.1 (subst (λ (n : ℕ). n ≤ c.args.index) x.counted.2 c.requires.0) c.requires.1
+
+pub returns-then-first-index : goal.returns-then-first-index
+returns-then-first-index g c = let x = c.args.self.now in
+    here x.words.id.least x.count c.args.index x.counted.2 x.few.1 c.requires.0 c.requires.1 c.if-first-index.true
+
+pub returns : goal.returns
+returns g c = let x = c.args.self.now in
+    before x.words.id.least x.count c.args.index x.counted.2 x.few.1 c.requires.0 c.requires.1 c.if-first-index.false
