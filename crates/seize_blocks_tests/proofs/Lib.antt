@@ -2,5 +2,5 @@ pub mod Growing
 pub mod Owners
 pub mod Threes
 pub mod Roomy
-pub mod Leaning
+pub mod Leaners
 pub mod Roots

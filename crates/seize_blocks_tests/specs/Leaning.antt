@@ -1,5 +1,5 @@
 -- Who leans on nobody leans on nobody after an operation.
-use Rattle.std.specs.Prelude.{◌≡◌, ℕ, Ok, Err}
+use Rattle.std.specs.Prelude.{ℕ, Ok, Err}
 use Rattle.std.proofs.Common.{sym, subst}
 use Rattle.seize_words.specs.Op.{Op, Out, Found, Stored, Exchanged, Made, Taken, Roomed}
 use Rattle.seize_blocks_tests.specs.declared.part.Part.{Part}

@@ -129,15 +129,15 @@ fn sets<R: Threads + Sync>(rt: &R, blocks: &Blocks<u64, Lent>) -> bool {
     true
 }
 
-/// How often of so many times it has set the word.
-fn all_set<R: Threads + Sync>(rt: &R, blocks: &Blocks<u64, Lent>, times: u64) -> u64 {
-    let mut done = 0;
-    for turn in 0..times {
+/// Does so so many times, and says whether it has set the word.
+fn some_set<R: Threads + Sync>(rt: &R, blocks: &Blocks<u64, Lent>, times: u64) -> bool {
+    let mut some = false;
+    for _ in 0..times {
         if sets(rt, blocks) {
-            done += 1;
+            some = true;
         }
     }
-    done
+    some
 }
 
 // Were one thread served after the other, this would pass as well: that the word is 1 whenever it is looked at is proved.
@@ -147,10 +147,10 @@ fn a_word_stays_as_long_as_it_is_looked_at(rt: HostRuntime) -> Result<(), Fail> 
     let blocks = &home.blocks;
     let (one, other) = thread::join(
         &rt,
-        || all_set(&rt, blocks, 200),
-        || all_set(&rt, blocks, 200),
+        || some_set(&rt, blocks, 200),
+        || some_set(&rt, blocks, 200),
     );
-    assert!(rt; one > 0 || other > 0);
+    assert!(rt; one || other);
     assert!(rt; sets(&rt, blocks));
     Ok(())
 }

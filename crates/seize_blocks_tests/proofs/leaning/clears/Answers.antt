@@ -7,7 +7,7 @@ use Rattle.seize_seats.specs.Errands.{TurnsUnlent}
 use Rattle.seize_blocks_tests.specs.declared.part.Part.{Part}
 use Rattle.seize_blocks_tests.specs.declared.part.Part.TheVariants.{Clears}
 use Rattle.seize_blocks_tests.specs.Leaned.{IsUpright, Leans, IsLeaned, leaned}
-use Rattle.seize_blocks_tests.proofs.Leaning.{NoneKept, clears, stores}
+use Rattle.seize_blocks_tests.proofs.Leaners.{NoneKept, clears, stores}
 use Rattle.seize_blocks_tests.proofs.leaning.clears.Goals as goal
 
 pub part-requires-clause-may : goal.part-requires-clause-may

@@ -1,6 +1,6 @@
 use Rattle.std.proofs.Common.{refl, sym, subst, ◌∙◌}
 use Rattle.seize_blocks_tests.specs.Leaned.{IsUpright}
-use Rattle.seize_blocks_tests.proofs.Leaning.{comes}
+use Rattle.seize_blocks_tests.proofs.Leaners.{comes}
 use Rattle.seize_blocks_tests.proofs.leaning.looks.Goals as goal
 
 pub seat-seat-requires : goal.seat-seat-requires

@@ -1,4 +1,4 @@
-use Rattle.seize_blocks_tests.proofs.Leaning.{comes}
+use Rattle.seize_blocks_tests.proofs.Leaners.{comes}
 use Rattle.seize_blocks_tests.proofs.leaning.sets.Goals as goal
 
 pub seat-keeper-requires : goal.seat-keeper-requires

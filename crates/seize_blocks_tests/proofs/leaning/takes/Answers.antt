@@ -1,11 +1,10 @@
-use Rattle.std.specs.Prelude.{◌≡◌}
 use Rattle.std.proofs.Common.{sym, subst}
 use Rattle.seize_words.specs.Op.{Exchange}
 use Rattle.seize_words.specs.declared.at.At.TheVariants.{Root}
 use Rattle.seize_seats.specs.State.{Allows}
 use Rattle.seize_blocks_tests.specs.declared.part.Part.{Part}
 use Rattle.seize_blocks_tests.specs.Leaned.{IsLeaned, leaned}
-use Rattle.seize_blocks_tests.proofs.Leaning.{NoneKept, takes}
+use Rattle.seize_blocks_tests.proofs.Leaners.{NoneKept, takes}
 use Rattle.seize_blocks_tests.proofs.leaning.takes.Goals as goal
 
 pub exchange-requires-clause-may : goal.exchange-requires-clause-may

@@ -1,6 +1,6 @@
 -- A seat sets a word, looks at one that another seat has set, and clears it: what is said of who looks and who has set it holds again.
 use Rattle.std.specs.Prelude.{◌≡◌, ◌≢◌, ◌⊎◌, ℕ, zero, suc, List, [], ◌∷◌, ◌++◌, Some, Ok, Err, is_some, slice_get, slice_set}
-use Rattle.std.proofs.Common.{ap, refl, sym, ◌∙◌, subst, inl, inr, arith}
+use Rattle.std.proofs.Common.{ap, refl, sym, ◌∙◌, subst, inl, inr}
 use Rattle.std.proofs.lemmas.Bool.{cases_eq}
 use Rattle.seize_words.specs.Mem.{Mem, Took, word_at}
 use Rattle.seize_words.specs.Op.{Out, Load, Store, Exchange, Found, Stored, Exchanged, Made, Taken, Roomed}
@@ -103,10 +103,10 @@ takes id s has at = (ap is_some has.there, λ out m took. told out m took)
     told (Exchanged (Ok w)) m took =
         let there : word_at m (Root 0) ≡ Some 1 = ap (λ (n : Mem ℕ). word_at n (Root 0)) took.1 ∙ set_here s.memory.roots 0 has.word 1 has.there in
         let free : has.word ≡ 0 = sym (one_word s has w took.0.0) ∙ took.0.1 in
-        let clash : 1 ≡ 0 → ⊥ = λ e. cc e in (
+        let clash : (x : ℕ) → x ≡ 1 → x ≡ 0 → ⊥ = λ x e f. cc (e, f) in (
           Keeps,
           tt,
-          left s has id Nothing at m Keeps 1 there (λ hs. refl) (λ j u ne e hs. absurd (clash (sym (has.set j u e hs) ∙ free))) (λ n e. absurd (cc e))
+          left s has id Nothing at m Keeps 1 there (λ hs. refl) (λ j u ne e hs. absurd (clash has.word (has.set j u e hs) free)) (λ n e. absurd (cc e))
               (λ j ne e. refl),
           (λ j k b u o x y z f kept. kept),
           refl,

@@ -7,9 +7,9 @@ use Rattle.seize_seats.specs.Errands.{Away, Lends}
 use Rattle.seize_blocks_tests.specs.declared.part.Part.{Part}
 use Rattle.seize_blocks_tests.specs.declared.part.Part.TheVariants.{Nothing, Looks}
 use Rattle.seize_blocks_tests.specs.Leaned.{IsUpright, Leans, IsLeaned, leaned}
-use Rattle.seize_blocks_tests.proofs.Leaning.{NoneKept, learns, loads, ends}
-use Rattle.seize_blocks_tests.proofs.leaning.LookErrandWith.run.Goals as goal
-use Rattle.seize_blocks_tests.proofs.leaning.LookErrandWith.run.Goals.{After-load-found}
+use Rattle.seize_blocks_tests.proofs.Leaners.{NoneKept, learns, loads, ends}
+use Rattle.seize_blocks_tests.proofs.leaning.LookErrandWithU64Lent.run.Goals as goal
+use Rattle.seize_blocks_tests.proofs.leaning.LookErrandWithU64Lent.run.Goals.{After-load-found}
 
 pub learn-requires-clause-may : goal.learn-requires-clause-may
 learn-requires-clause-may c =
@@ -50,6 +50,5 @@ returns c =
       c.turn.ensures.same.0 ∙ c.load-found.ensures.same.0 ∙ c.learn.ensures.same.0,
       c.turn.ensures.same.1 ∙ c.load-found.ensures.same.1 ∙ c.learn.ensures.same.1,
       c.turn.ensures.errand ∙ c.load-found.ensures.errand ∙ c.learn.ensures.errand,
-      told.0,
-      c.turn.ensures.goes,
+      (told.0, c.turn.ensures.goes),
     )
