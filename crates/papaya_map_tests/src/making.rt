@@ -7,7 +7,8 @@ use std::test::Fail;
 
 #[test]
 fn a_source_that_is_used_up_gives_no_map(rt: HostRuntime) -> Result<(), Fail> {
-    let mut ids = IdSource::starting_at(18_446_744_073_709_551_615);
+    let mut ids = IdSource::starting_at(18_446_744_073_709_551_614);
+    assert!(rt; ids.next().is_ok());
     let none = HashMap::<u64, u64>::new(rt.alloc(), &mut ids, RandomState::new(&rt)?);
     assert!(rt; matches!(none, Err(Fault::CollectorsUsedUp)));
     Ok(())

@@ -70,21 +70,26 @@ fn works<R: Wait + Clock>(rt: &R, own: u64, cache: Cache<'_>) -> Result<(u64, bo
 fn main(rt: HostRuntime) -> io::Result<()> {
     let mut ids = IdSource::new();
     let map = HashMap::new(rt.alloc(), &mut ids, RandomState::new(&rt)?)?;
-    let mut jobs = Vec::new(rt.alloc());
-    for own in 0..THREADS {
-        jobs.push((own, map.session()?))?;
-    }
-    let seen = thread::map_vec(&rt, jobs, &|(own, cache)| works(&rt, own, cache))?;
-    let (mut right, mut met, mut kept) = (0u64, "yes", 0u64);
-    for one in seen {
-        let one = one?;
-        right = right.wrapping_add(one.0);
-        met = if one.1 { met } else { "no" };
-    }
+    let first = map.session()?;
+    let second = map.session()?;
+    let third = map.session()?;
+    let fourth = map.session()?;
+    let ((a, b), (c, d)) = thread::join(
+        &rt,
+        || { thread::join(&rt, || works(&rt, 0, first), || works(&rt, 1, second)) },
+        || { thread::join(&rt, || works(&rt, 2, third), || works(&rt, 3, fourth)) },
+    );
+    let (a, b, c, d) = (a?, b?, c?, d?);
+    let right = a.0.wrapping_add(b.0).wrapping_add(c.0).wrapping_add(d.0);
+    let met = a.1 && b.1 && c.1 && d.1;
     let mut cache = map.session()?;
+    let mut kept = 0u64;
     for number in 0..NUMBERS {
         kept = kept.wrapping_add(u64::from(cache.contains_key(&rt, &number)));
     }
     println!(rt; "{right} squares were right, {kept} are kept")?;
-    println!(rt; "each thread has met what another one had left: {met}")
+    println!(rt;
+        "each thread has met what another one had left: {}",
+        if met { "yes" } else { "no" }
+    )
 }

@@ -3,7 +3,7 @@
 #![tactic(auto)]
 
 use papaya_map::{Attempt, Fault, HashMap, IdSource, Session};
-use std::alloc::{AllocError, Global};
+use std::alloc::Global;
 use std::hash::{BuildHasherDefault, DefaultHasher};
 use std::io;
 use std::sync::Wait;
@@ -23,6 +23,14 @@ fn made(alloc: Global) -> Result<Map, Fault> {
     let mut ids = IdSource::new();
     match HashMap::with_hasher(alloc, &mut ids, Hashing::default()) {
         Err(Fault::Memory) => HashMap::with_hasher(alloc, &mut ids, Hashing::default()),
+        answer => answer,
+    }
+}
+
+/// The first session on a map.
+fn begun<'m>(map: &'m Map) -> Result<Session<'m, u64, u64, Hashing>, Fault> {
+    match map.session() {
+        Err(Fault::Memory) => map.session(),
         answer => answer,
     }
 }
@@ -91,10 +99,7 @@ fn removes<R: Wait>(rt: &R, session: &mut Session<'_, u64, u64, Hashing>, key: u
 /// Stores all keys, each with its double, and then each with itself, tries to store each once more, and removes each; tells whether each time all was as it should be.
 fn all<R: Wait>(rt: &R, alloc: Global) -> Result<bool, Fault> {
     let map = made(alloc)?;
-    let mut session = match map.session() {
-        Ok(session) => session,
-        Err(_) => map.session()?,
-    };
+    let mut session = begun(&map)?;
     let mut are_there = true;
     for key in 0..KEYS {
         are_there = stores(rt, &mut session, key, None, key.wrapping_mul(2)) && are_there;
@@ -111,29 +116,26 @@ fn all<R: Wait>(rt: &R, alloc: Global) -> Result<bool, Fault> {
     Ok(are_there)
 }
 
-/// Room for so many sessions.
-fn room<'m>(alloc: Global) -> Result<Vec<Session<'m, u64, u64, Hashing>>, AllocError> {
-    match Vec::with_capacity(alloc, SESSIONS as usize) {
-        Ok(room) => Ok(room),
-        Err(_) => Vec::with_capacity(alloc, SESSIONS as usize),
+/// So many sessions more, each of which is there as long as the later ones are; tells whether each finds what the first one has stored.
+fn follow<R: Wait>(
+    rt: &R,
+    session: &Session<'_, u64, u64, Hashing>,
+    left: u64,
+) -> Result<bool, Fault> {
+    if left == 0 {
+        return Ok(true);
     }
+    let mut next = another(session)?;
+    let found = next.get(rt, &1).copied() == Some(2);
+    Ok(follow(rt, &next, left - 1)? && found)
 }
 
-/// Begins sessions, all of which are there at once, and tells whether the last one finds what the first one has stored.
+/// Begins sessions, all of which are there at once, and tells whether each finds what the first one has stored.
 fn sessions<R: Wait>(rt: &R, alloc: Global) -> Result<bool, Fault> {
     let map = made(alloc)?;
-    let mut first = match map.session() {
-        Ok(session) => session,
-        Err(_) => map.session()?,
-    };
-    let mut are_there = stores(rt, &mut first, 1, None, 2);
-    let mut all = room(alloc)?;
-    for _ in 1..SESSIONS {
-        let mut next = another(&first)?;
-        are_there = next.get(rt, &1).copied() == Some(2) && are_there;
-        all.push(next)?;
-    }
-    Ok(are_there)
+    let mut first = begun(&map)?;
+    let stored = stores(rt, &mut first, 1, None, 2);
+    Ok(follow(rt, &first, SESSIONS - 1)? && stored)
 }
 
 fn main(rt: HostRuntime) -> io::Result<()> {
