@@ -2,25 +2,20 @@
 #![tactic(auto)]
 
 use papaya_map::{Fault, HashMap, IdSource, Session};
-use std::hash::RandomState;
+use std::alloc::Global;
+use std::hash::{BuildHasherDefault, DefaultHasher};
 use std::sync::Wait;
+use std::thread::Threads;
 use std::time::{Clock, Duration};
 use std::{io, thread};
-
-/// How many threads there are.
-const THREADS: u64 = 4;
 
 /// For how many numbers each of them asks.
 const NUMBERS: u64 = 1_000;
 
-/// How many numbers later a square is let go.
-const ROOM: u64 = 100;
-
-/// How often a thread looks for what another one leaves there, a millisecond apart.
-const LOOKS: u64 = 10_000;
+type Hashing = BuildHasherDefault<DefaultHasher>;
 
 /// The cache, as one thread has it.
-type Cache<'m> = Session<'m, u64, u64>;
+type Cache<'m> = Session<'m, u64, u64, Hashing>;
 
 /// The square of a number: as it is in the cache, or else worked out, and kept there.
 fn square<R: Wait>(rt: &R, cache: &mut Cache<'_>, number: u64) -> Result<u64, Fault> {
@@ -32,25 +27,25 @@ fn square<R: Wait>(rt: &R, cache: &mut Cache<'_>, number: u64) -> Result<u64, Fa
     Ok(square)
 }
 
-/// Asks for each number, and lets go what is long past; answers how many squares were right. What was let go is given back after each.
+/// Asks for each number, and lets go what is a hundred numbers past; answers how many squares were right. What was let go is given back after each.
 fn asks<R: Wait>(rt: &R, cache: &mut Cache<'_>) -> Result<u64, Fault> {
     let mut right = 0u64;
     for number in 0..NUMBERS {
         let square = square(rt, cache, number)?;
         right = right.wrapping_add(u64::from(square == number.wrapping_mul(number)));
-        if number >= ROOM {
-            cache.remove(rt, number - ROOM)?;
+        if number >= 100 {
+            cache.remove(rt, number - 100)?;
         }
         cache.refresh();
     }
     Ok(right)
 }
 
-/// Leaves a key of its own there, and looks whether that of the next thread comes to be there.
+/// Leaves a key of its own there, and looks, a millisecond apart, whether that of the next thread comes to be there.
 fn meets<R: Wait + Clock>(rt: &R, cache: &mut Cache<'_>, own: u64) -> Result<bool, Fault> {
     cache.insert(rt, NUMBERS.wrapping_add(own), own)?;
-    let next = NUMBERS.wrapping_add(own.wrapping_add(1) % THREADS);
-    for _ in 0..LOOKS {
+    let next = NUMBERS.wrapping_add(own.wrapping_add(1) % 4);
+    for _ in 0..10_000u64 {
         if cache.contains_key(rt, &next) {
             return Ok(true);
         }
@@ -67,29 +62,27 @@ fn works<R: Wait + Clock>(rt: &R, own: u64, cache: Cache<'_>) -> Result<(u64, bo
     Ok((asks(rt, &mut cache)?, met))
 }
 
-fn main(rt: HostRuntime) -> io::Result<()> {
+/// Four threads share a cache. How many squares were right, and whether each thread has met what another one had left.
+fn share<R: Threads + Wait + Clock + Sync>(rt: &R, alloc: Global) -> Result<(u64, bool), Fault> {
     let mut ids = IdSource::new();
-    let map = HashMap::new(rt.alloc(), &mut ids, RandomState::new(&rt)?)?;
+    let map = HashMap::with_hasher(alloc, &mut ids, Hashing::default())?;
     let first = map.session()?;
-    let second = map.session()?;
-    let third = map.session()?;
-    let fourth = map.session()?;
+    let second = first.another()?;
+    let third = first.another()?;
+    let fourth = first.another()?;
     let ((a, b), (c, d)) = thread::join(
-        &rt,
-        || { thread::join(&rt, || works(&rt, 0, first), || works(&rt, 1, second)) },
-        || { thread::join(&rt, || works(&rt, 2, third), || works(&rt, 3, fourth)) },
+        rt,
+        || { thread::join(rt, || works(rt, 0, first), || works(rt, 1, second)) },
+        || { thread::join(rt, || works(rt, 2, third), || works(rt, 3, fourth)) },
     );
     let (a, b, c, d) = (a?, b?, c?, d?);
     let right = a.0.wrapping_add(b.0).wrapping_add(c.0).wrapping_add(d.0);
-    let met = a.1 && b.1 && c.1 && d.1;
-    let mut cache = map.session()?;
-    let mut kept = 0u64;
-    for number in 0..NUMBERS {
-        kept = kept.wrapping_add(u64::from(cache.contains_key(&rt, &number)));
-    }
-    println!(rt; "{right} squares were right, {kept} are kept")?;
-    println!(rt;
-        "each thread has met what another one had left: {}",
-        if met { "yes" } else { "no" }
-    )
+    Ok((right, a.1 && b.1 && c.1 && d.1))
+}
+
+fn main(rt: HostRuntime) -> io::Result<()> {
+    let (right, met) = share(&rt, rt.alloc())?;
+    println!(rt; "{right} squares were right")?;
+    let met = if met { "yes" } else { "no" };
+    println!(rt; "each thread has met what another one had left: {met}")
 }

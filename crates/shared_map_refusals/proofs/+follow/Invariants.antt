@@ -2,4 +2,4 @@
 use Rattle.shared_map_refusals.proofs.+follow.Given as goal
 
 abbrev pub decreases-follow : goal.decreases-follow
-decreases-follow l = l.left
+decreases-follow g l = l.left
