@@ -21,7 +21,7 @@ use Rattle.seize_bounds.proofs.Given.SeizeAloneHistories.Reached.{Reached}
 use Rattle.seize_bounds.proofs.Given.SeizeActsAnswers.{same_some}
 use Rattle.seize_seats.specs.State.{State, view_of}
 use Rattle.seize_views.specs.Rows.{Leads, TurnsTo}
-use Rattle.seize_views.specs.Rows.{had_in, IsMade, IsInHand, IsFound, RootsNameLinked, Holds}
+use Rattle.seize_views.specs.Rows.{had_in, IsMade, IsInHand, RootsNameLinked, Holds}
 use Rattle.seize_views.specs.Told.{seen_in, cut_in, made_beside, alone_with, told}
 use Rattle.seize_views.specs.Promises.{MadeAreLinked, MadeAreExchanged, OwnAreLinked, OwnAreExchanged, RootsAreSeen, RootsAreMarked, RootsAreCleared, RootsAreWithdrawn}
 use Rattle.seize_views.specs.declared.view.View.{View}
@@ -30,11 +30,11 @@ use Rattle.seize_views.specs.declared.view.Has.{Has}
 use Rattle.seize_views.specs.declared.view.Has.TheVariants.{Nothing, Made, Seen, Both, Cut}
 use Rattle.seize_views.specs.declared.view.Fixed.{Fixed}
 use Rattle.seize_views.proofs.Came.{reached, since_then}
-use Rattle.seize_views.proofs.Found.{HasNow, found_on, linked_some}
+use Rattle.seize_views.proofs.Found.{found_on, linked_some}
 use Rattle.seize_views.proofs.Moved.{inside_of}
 use Rattle.seize_views.proofs.Users.{use_making, making_use}
 use Rattle.seize_views.proofs.Users.{beside, making_not_held, passes_then, Carries, within, alone_carries, users, users_outside, users_owe}
-use Rattle.seize_views.proofs.Written.{Wrote, Cuts, wrote, rooted_still, roots_now, written, found_but, fresh, root_can, unlinked, clears}
+use Rattle.seize_views.proofs.Written.{Wrote, Cuts, wrote, rooted_still, roots_now, written, FoundIn, found_but, fresh, root_can, unlinked, clears}
 
 -- bits of the tag leave the block of a word as it is
 marked_block : (word bits : ℕ) → bits < 2 ^ 11 → block_in (bit_or word bits) ≡ block_in word
@@ -110,6 +110,9 @@ module _ {T : Type 0} (defers : T → Option ℕ) (fixed : Fixed) (s : State T (
   r : Reached defers fixed.batch_size w
   r = reached defers fixed w h.came
 
+  abbrev IsFoundIn : Mem T → Option ℕ → ℕ → Hand → Type 0
+  IsFoundIn m o b k = FoundIn defers fixed s id (place had) h at m o b k
+
   -- what is known of blocks changes, and nothing else
   looks : (m : Mem T) (has : Has T) → m ≡ s.memory → IsInHand w t has → had_in has ≡ had_in had → (so : View T → Type 0) → so (place has)
       → Leads defers fixed s m id so
@@ -170,23 +173,17 @@ module _ {T : Type 0} (defers : T → Option ℕ) (fixed : Fixed) (s : State T (
       }) named (λ c. found_then c (cases_eq c b)) (λ c f. other c (world.InUse a) (use_making a i) f) was (fresh defers fixed s id (place had) h at a word old m wrote was is_new)
     where
       -- it is named there, and each other one is found but the one that was there
-      abbrev Linked' : ℕ → Hand
-      Linked' c = with_at w.hand b (world.InUse a) c
-
-      abbrev Then : ℕ → Hand → Type 0
-      Then c k = IsFound m c (HasNow s id h.life.began None c) k
-
-      found_then : (c : ℕ) → (c ≡ b) ⊎ (c ≢ b) → Then c (Linked' c) ⊎ ((block_in old ≡ c) × (c ≢ 0))
+      found_then : (c : ℕ) → (c ≡ b) ⊎ (c ≢ b) → IsFoundIn m None c (with_at w.hand b (world.InUse a) c) ⊎ ((block_in old ≡ c) × (c ≢ 0))
       found_then c (inl is) =
-          inl (subst (λ (k : Hand). Then c k) (sym (ap Linked' is ∙ with_here w.hand b (world.InUse a)))
+          inl (subst (λ (k : Hand). IsFoundIn m None c k) (sym (ap (with_at w.hand b (world.InUse a)) is ∙ with_here w.hand b (world.InUse a)))
           (word, written defers fixed s id (place had) h at a word old m wrote, names ∙ sym is))
       found_then c (inr ne) =
           but_old (found_but defers fixed s id (place had) h at a word old m wrote None c
           (λ e. absurd (ne (same_some c b (sym e ∙ carries.hand had ∙ had_it)))))
         where
-          but_old : IsFound m c (HasNow s id h.life.began None c) (w.hand c) ⊎ ((block_in old ≡ c) × (w.hand c ≡ world.InUse a))
-              → Then c (Linked' c) ⊎ ((block_in old ≡ c) × (c ≢ 0))
-          but_old (inl f) = inl (subst (λ (k : Hand). Then c k) (sym (with_other w.hand b c (world.InUse a) ne)) f)
+          but_old : IsFoundIn m None c (w.hand c) ⊎ ((block_in old ≡ c) × (w.hand c ≡ world.InUse a))
+              → IsFoundIn m None c (with_at w.hand b (world.InUse a) c) ⊎ ((block_in old ≡ c) × (c ≢ 0))
+          but_old (inl f) = inl (subst (λ (k : Hand). IsFoundIn m None c k) (sym (with_other w.hand b c (world.InUse a) ne)) f)
           but_old (inr is) = inr (is.0, linked_some defers fixed s id (place had) h at c a is.1)
 
       new_block : (old : ℕ) → w.hand b ≡ world.Making i → (block_in old ≡ 0) ⊎ (w.hand (block_in old) ≡ world.InUse a) → (b ≡ 0) ⊎ (b ≢ 0)
@@ -255,11 +252,11 @@ module _ {T : Type 0} (defers : T → Option ℕ) (fixed : Fixed) (s : State T (
       so is
     where
       -- a block that the root has named it names still
-      found_marked : (b : ℕ) → IsFound m b (HasNow s id h.life.began (had_in (seen_in word)) b) (w.hand b) ⊎ ((block_in word ≡ b) × (w.hand b ≡ world.InUse a))
-          → IsFound m b (HasNow s id h.life.began (had_in (seen_in word)) b) (w.hand b)
+      found_marked : (b : ℕ) → IsFoundIn m (had_in (seen_in word)) b (w.hand b) ⊎ ((block_in word ≡ b) × (w.hand b ≡ world.InUse a))
+          → IsFoundIn m (had_in (seen_in word)) b (w.hand b)
       found_marked b (inl f) = f
       found_marked b (inr is) =
-          subst (λ (k : Hand). IsFound m b (HasNow s id h.life.began (had_in (seen_in word)) b) k) (sym is.1) (
+          subst (λ (k : Hand). IsFoundIn m (had_in (seen_in word)) b k) (sym is.1) (
             bit_or word bits,
             written defers fixed s id (place had) h at a (bit_or word bits) word m
                 (wrote defers fixed s id (place had) h at a (bit_or word bits) word m (Or (Root a) bits) (Found word) tt took took.0 took.1),

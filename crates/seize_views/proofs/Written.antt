@@ -131,26 +131,27 @@ module _ {T : Type 0} (defers : T → Option ℕ) (fixed : Fixed) (s : State T (
   pub written : (a word old : ℕ) (m : Mem T) → Wrote defers fixed s id a word old m → word_at m (Root a) ≡ Some word
   written a word old m wrote = ap (λ (l : List ℕ). slice_get l a) wrote.roots ∙ there s.memory.roots a word old wrote.there
 
+  -- the block is found, where the seat has this in its hand
+  abbrev pub FoundIn : Mem T → Option ℕ → ℕ → Hand → Type 0
+  FoundIn m o b k = IsFound m b (HasNow s id h.life.began o b) k
+
   -- Each block is found but the one that the root has named, which the seat may have had in its hand before.
   pub found_but : (a word old : ℕ) (m : Mem T) → Wrote defers fixed s id a word old m → (o : Option ℕ) (b : ℕ) → (hand_of v ≡ Some b → o ≡ Some b)
-      → IsFound m b (HasNow s id h.life.began o b) (w.hand b) ⊎ ((block_in old ≡ b) × (w.hand b ≡ world.InUse a))
+      → FoundIn m o b (w.hand b) ⊎ ((block_in old ≡ b) × (w.hand b ≡ world.InUse a))
   found_but a word old m wrote o b still = by (w.hand b) (h.found b)
     where
-      abbrev Now : Hand → Type 0
-      Now k = IsFound m b (HasNow s id h.life.began o b) k
-
       has : (k : Hand) → IsInSomeHand s h.life.began b k → HasNow s id h.life.began o b k
       has k is = still_has defers fixed s id v h at o b still k is
 
       at_root : (r found : ℕ) → word_at s.memory (Root r) ≡ Some found → block_in found ≡ b → (r ≡ a) ⊎ (r ≢ a)
-          → Now (world.InUse r) ⊎ ((block_in old ≡ b) × (world.InUse r ≡ world.InUse a))
+          → FoundIn m o b (world.InUse r) ⊎ ((block_in old ≡ b) × (world.InUse r ≡ world.InUse a))
       at_root r found e is (inl same) =
           let was : old ≡ found = same_some old found (sym wrote.there ∙ ap (λ (k : ℕ). slice_get s.memory.roots k) (sym same) ∙ e) in
           inr (ap block_in was ∙ is, ap world.InUse same)
       at_root r found e is (inr ne) =
           inl (found, ap (λ (l : List ℕ). slice_get l r) wrote.roots ∙ elsewhere s.memory.roots a r word ne ∙ e, is)
 
-      by : (k : Hand) → IsFound s.memory b (IsInSomeHand s h.life.began b) k → Now k ⊎ ((block_in old ≡ b) × (k ≡ world.InUse a))
+      by : (k : Hand) → IsFound s.memory b (IsInSomeHand s h.life.began b) k → FoundIn m o b k ⊎ ((block_in old ≡ b) × (k ≡ world.InUse a))
       by world.NoBlock f = inl tt
       by (world.Making i) f = inl (has (world.Making i) f)
       by (world.InUse r) f = at_root r f.0 f.1 f.2 (cases_eq r a)
@@ -162,7 +163,7 @@ module _ {T : Type 0} (defers : T → Option ℕ) (fixed : Fixed) (s : State T (
   -- The block that was at the root, if there was one, is unlinked; `n` is the world before that, in which it is linked there, and each other one is found.
   pub unlinked : (t a old : ℕ) (m : Mem T) (n : World T) (so : View T → Type 0) → Cuts defers fixed s id h.life.began t m old so → Users defers fixed s id t m n Nothing
       → RootsNameLinked m n.hand
-      → ((b : ℕ) → IsFound m b (HasNow s id h.life.began None b) (n.hand b) ⊎ ((block_in old ≡ b) × (b ≢ 0)))
+      → ((b : ℕ) → FoundIn m None b (n.hand b) ⊎ ((block_in old ≡ b) × (b ≢ 0)))
       → ((b : ℕ) → w.hand b ≡ world.InUse a → n.hand b ≡ world.InUse a)
       → (block_in old ≡ 0) ⊎ (w.hand (block_in old) ≡ world.InUse a)
       → ((c found : ℕ) → word_at m (Root c) ≡ Some found → (block_in found ≡ 0) ⊎ (block_in found ≢ block_in old))
@@ -202,22 +203,19 @@ module _ {T : Type 0} (defers : T → Option ℕ) (fixed : Fixed) (s : State T (
           other c found (inr f) ne = inr (with_other n.hand (block_in old) (block_in found) (world.Cutting id) ne ∙ f)
 
       -- where it was none each block was found
-      none_found : (b : ℕ) → (block_in old == 0) ≡ true → IsFound m b (HasNow s id h.life.began None b) (n.hand b) ⊎ ((block_in old ≡ b) × (b ≢ 0))
-          → IsFound m b (HasNow s id h.life.began None b) (n.hand b)
+      none_found : (b : ℕ) → (block_in old == 0) ≡ true → FoundIn m None b (n.hand b) ⊎ ((block_in old ≡ b) × (b ≢ 0))
+          → FoundIn m None b (n.hand b)
       none_found b e (inl f) = f
       none_found b e (inr is) = absurd (is.1 (sym is.0 ∙ eqb-true (block_in old) 0 e))
 
       -- and where it was one the seat has that
-      abbrev With : ℕ → Hand → Type 0
-      With b k = IsFound m b (HasNow s id h.life.began (Some (block_in old)) b) k
-
       cut_found : (b : ℕ) → (b ≡ block_in old) ⊎ (b ≢ block_in old)
-          → IsFound m b (HasNow s id h.life.began None b) (n.hand b) ⊎ ((block_in old ≡ b) × (b ≢ 0)) → With b (with_at n.hand (block_in old) (world.Cutting id) b)
+          → FoundIn m None b (n.hand b) ⊎ ((block_in old ≡ b) × (b ≢ 0)) → FoundIn m (Some (block_in old)) b (with_at n.hand (block_in old) (world.Cutting id) b)
       cut_found b (inl is) before =
-          subst (λ (k : Hand). With b k)
+          subst (λ (k : Hand). FoundIn m (Some (block_in old)) b k)
           (sym (ap (with_at n.hand (block_in old) (world.Cutting id)) is ∙ with_here n.hand (block_in old) (world.Cutting id))) (inl (ap Some (sym is)))
       cut_found b (inr ne) (inl f) =
-          subst (λ (k : Hand). With b k) (sym (with_other n.hand (block_in old) b (world.Cutting id) ne))
+          subst (λ (k : Hand). FoundIn m (Some (block_in old)) b k) (sym (with_other n.hand (block_in old) b (world.Cutting id) ne))
           (found_at m m b (HasNow s id h.life.began None b) (HasNow s id h.life.began (Some (block_in old)) b) refl
           (has_more s id h.life.began None (Some (block_in old)) b (λ e. absurd (cc e))) (n.hand b) f)
       cut_found b (inr ne) (inr is) = absurd (ne (sym is.0))
@@ -246,7 +244,7 @@ module _ {T : Type 0} (defers : T → Option ℕ) (fixed : Fixed) (s : State T (
       }) named (λ b. but_old b (found_but a 0 old m wrote None b (λ mine. absurd (cc (empty, mine))))) (λ c f. f) was
       (fresh a 0 old m wrote was (inl refl))
     where
-      but_old : (b : ℕ) → IsFound m b (HasNow s id h.life.began None b) (w.hand b) ⊎ ((block_in old ≡ b) × (w.hand b ≡ world.InUse a))
-          → IsFound m b (HasNow s id h.life.began None b) (w.hand b) ⊎ ((block_in old ≡ b) × (b ≢ 0))
+      but_old : (b : ℕ) → FoundIn m None b (w.hand b) ⊎ ((block_in old ≡ b) × (w.hand b ≡ world.InUse a))
+          → FoundIn m None b (w.hand b) ⊎ ((block_in old ≡ b) × (b ≢ 0))
       but_old b (inl f) = inl f
       but_old b (inr is) = inr (is.0, linked_some defers fixed s id v h at b a is.1)
