@@ -34,6 +34,16 @@ module _ {T : Type 0} where
   found_at m n b has now same still world.Handed f = tt
   found_at m n b has now same still (world.LeftTo h) f = f
 
+  -- a block that is found, whoever has it, is found, where that is who has one in its hand
+  pub found_as : (m : Mem T) (b : ℕ) (has : Hand → Type 0) (hand k : Hand) → hand ≡ k → ((l : Hand) → hand ≡ l → has l) → IsFound m b (λ l. Unit {0}) k → IsFound m b has k
+  found_as m b has hand world.NoBlock is so f = tt
+  found_as m b has hand (world.Making h) is so f = so (world.Making h) is
+  found_as m b has hand (world.InUse r) is so f = f
+  found_as m b has hand (world.Parting h) is so f = f
+  found_as m b has hand (world.Cutting h) is so f = so (world.Cutting h) is
+  found_as m b has hand world.Handed is so f = tt
+  found_as m b has hand (world.LeftTo h) is so f = f
+
 module _ {T : Type 0} (s : State T (View T) (World T)) (id : ℕ) (began : World T) where
   -- another seat has the block in its hand
   abbrev pub IsAnothers : ℕ → Type 0

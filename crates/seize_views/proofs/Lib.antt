@@ -28,4 +28,5 @@ pub mod Notes
 pub mod Guarding
 pub mod Passing
 mod Contents
+mod Values
 pub mod Given
