@@ -248,15 +248,15 @@ module _ {T : Type 0} (defers : T → Option ℕ) (fixed : Fixed) (s : State T (
         roots = named;
         rooted = rooted_still defers fixed s id (place had) h at a new word m over;
         passes = over.passes;
-      }) (λ b. found_marked b (found_but defers fixed s id (place had) h at a new word m over (had_in (seen_in word)) b (λ e. still ∙ sym (carries.hand had) ∙ e)))
+      }) (λ b. found_marked b (found_but defers fixed s id (place had) h at a new word m over (had_in {T = T} (seen_in word)) b (λ e. still ∙ sym (carries.hand had) ∙ e)))
       so is
     where
       -- a block that the root has named it names still
-      found_marked : (b : ℕ) → IsFoundIn m (had_in (seen_in word)) b (w.hand b) ⊎ ((block_in word ≡ b) × (w.hand b ≡ world.InUse a))
-          → IsFoundIn m (had_in (seen_in word)) b (w.hand b)
+      found_marked : (b : ℕ) → IsFoundIn m (had_in {T = T} (seen_in word)) b (w.hand b) ⊎ ((block_in word ≡ b) × (w.hand b ≡ world.InUse a))
+          → IsFoundIn m (had_in {T = T} (seen_in word)) b (w.hand b)
       found_marked b (inl f) = f
       found_marked b (inr is) =
-          subst (λ (k : Hand). IsFoundIn m (had_in (seen_in word)) b k) (sym is.1) (
+          subst (λ (k : Hand). IsFoundIn m (had_in {T = T} (seen_in word)) b k) (sym is.1) (
             bit_or word bits,
             written defers fixed s id (place had) h at a (bit_or word bits) word m
                 (wrote defers fixed s id (place had) h at a (bit_or word bits) word m (Or (Root a) bits) (Found word) tt took took.0 took.1),

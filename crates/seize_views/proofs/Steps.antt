@@ -215,6 +215,9 @@ module _ {T : Type 0} (defers : T → Option ℕ) (fixed : Fixed) (s : State T (
       same_roots : m.roots ≡ w.memory.roots
       same_roots = ap (λ (x : Mem T). x.roots) memory ∙ d.frames.roots
 
+      hand_is : (b : ℕ) → n.hand b ≡ world.handed_by d.effects w.hand b
+      hand_is b = ap (λ (f : ℕ → Hand). f b) d.hands
+
       -- a block that is taken is nobody's then, and each other one is in the hand that it was in
       found : (b : ℕ) → IsFound m b (Now u b) (n.hand b)
       found b = elim (cases_eq (times b (taken_in d.effects)) 0) as (λ _. IsFound m b (Now u b) (n.hand b)) [
@@ -223,6 +226,3 @@ module _ {T : Type 0} (defers : T → Option ℕ) (fixed : Fixed) (s : State T (
             (λ mine. absurd (let no = no_hand defers id v w n taken in cc (no, mine))))
         | inr ne ↦ subst (λ (k : Hand). IsFound m b (Now u b) k) (sym (hand_is b ∙ taken_hand b d.effects w.hand d.one ne)) tt
       ]
-
-      hand_is : (b : ℕ) → n.hand b ≡ world.handed_by d.effects w.hand b
-      hand_is b = ap (λ (f : ℕ → Hand). f b) d.hands

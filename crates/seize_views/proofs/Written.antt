@@ -170,6 +170,24 @@ module _ {T : Type 0} (defers : T → Option ℕ) (fixed : Fixed) (s : State T (
       → Leads defers fixed s m id so
   unlinked t a old m n so goes u named found still was fresh = by (block_in old == 0) refl was
     where
+      -- where it was none each block was found
+      none_found : (b : ℕ) → (block_in old == 0) ≡ true → FoundIn m None b (n.hand b) ⊎ ((block_in old ≡ b) × (b ≢ 0))
+          → FoundIn m None b (n.hand b)
+      none_found b e (inl f) = f
+      none_found b e (inr is) = absurd (is.1 (sym is.0 ∙ eqb-true (block_in old) 0 e))
+
+      -- and where it was one the seat has that
+      cut_found : (b : ℕ) → (b ≡ block_in old) ⊎ (b ≢ block_in old)
+          → FoundIn m None b (n.hand b) ⊎ ((block_in old ≡ b) × (b ≢ 0)) → FoundIn m (Some (block_in old)) b (with_at n.hand (block_in old) (world.Cutting id) b)
+      cut_found b (inl is) before =
+          subst (λ (k : Hand). FoundIn m (Some (block_in old)) b k)
+          (sym (ap (with_at n.hand (block_in old) (world.Cutting id)) is ∙ with_here n.hand (block_in old) (world.Cutting id))) (inl (ap Some (sym is)))
+      cut_found b (inr ne) (inl f) =
+          subst (λ (k : Hand). FoundIn m (Some (block_in old)) b k) (sym (with_other n.hand (block_in old) b (world.Cutting id) ne))
+          (found_at m m b (HasNow s id h.life.began None b) (HasNow s id h.life.began (Some (block_in old)) b) refl
+          (has_more s id h.life.began None (Some (block_in old)) b (λ e. absurd (cc e))) (n.hand b) f)
+      cut_found b (inr ne) (inr is) = absurd (ne (sym is.0))
+
       by : (y : Bool) → (block_in old == 0) ≡ y → (block_in old ≡ 0) ⊎ (w.hand (block_in old) ≡ world.InUse a) → Leads defers fixed s m id so
       by true e was = goes.none e n u (λ b. none_found b e (found b))
       by false e (inl none) = absurd (let k = eq-eqb (block_in old) 0 none in cc (k, e))
@@ -201,24 +219,6 @@ module _ {T : Type 0} (defers : T → Option ℕ) (fixed : Fixed) (s : State T (
               → (block_in found ≡ 0) ⊎ (with_at n.hand (block_in old) (world.Cutting id) (block_in found) ≡ world.InUse c)
           other c found (inl none) ne = inl none
           other c found (inr f) ne = inr (with_other n.hand (block_in old) (block_in found) (world.Cutting id) ne ∙ f)
-
-      -- where it was none each block was found
-      none_found : (b : ℕ) → (block_in old == 0) ≡ true → FoundIn m None b (n.hand b) ⊎ ((block_in old ≡ b) × (b ≢ 0))
-          → FoundIn m None b (n.hand b)
-      none_found b e (inl f) = f
-      none_found b e (inr is) = absurd (is.1 (sym is.0 ∙ eqb-true (block_in old) 0 e))
-
-      -- and where it was one the seat has that
-      cut_found : (b : ℕ) → (b ≡ block_in old) ⊎ (b ≢ block_in old)
-          → FoundIn m None b (n.hand b) ⊎ ((block_in old ≡ b) × (b ≢ 0)) → FoundIn m (Some (block_in old)) b (with_at n.hand (block_in old) (world.Cutting id) b)
-      cut_found b (inl is) before =
-          subst (λ (k : Hand). FoundIn m (Some (block_in old)) b k)
-          (sym (ap (with_at n.hand (block_in old) (world.Cutting id)) is ∙ with_here n.hand (block_in old) (world.Cutting id))) (inl (ap Some (sym is)))
-      cut_found b (inr ne) (inl f) =
-          subst (λ (k : Hand). FoundIn m (Some (block_in old)) b k) (sym (with_other n.hand (block_in old) b (world.Cutting id) ne))
-          (found_at m m b (HasNow s id h.life.began None b) (HasNow s id h.life.began (Some (block_in old)) b) refl
-          (has_more s id h.life.began None (Some (block_in old)) b (λ e. absurd (cc e))) (n.hand b) f)
-      cut_found b (inr ne) (inr is) = absurd (ne (sym is.0))
 
   -- a root is cleared
   pub clears : (t a old : ℕ) (m : Mem T) → hand_of v ≡ None → Wrote defers fixed s id a 0 old m → (so : View T → Type 0)
