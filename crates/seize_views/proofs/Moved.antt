@@ -251,14 +251,14 @@ module _ {T : Type 0} (defers : T → Option ℕ) (fixed : Fixed) (s : State T (
         one j k b x y e f p q (inr ne) (inr ne2) = h.sole j k b x y (before j x ne e) (before k y ne2 f) p q
 
         -- nobody settles on another one's slot then, either
-        after : (j : ℕ) → IsAloneOnSlot j n
-        after j = alone_on_slot n (slice_get (slice_set s.views id u)) (λ i x e. (fit i x e (cases_eq i id)).row) (λ i e. none i e (cases_eq i id))
+        alone_then : (j : ℕ) → IsAloneOnSlot j n
+        alone_then j = alone_on_slot n (slice_get (slice_set s.views id u)) (λ i x e. (fit i x e (cases_eq i id)).row) (λ i e. none i e (cases_eq i id))
             (λ i k t a b x y e f p q. two i k t a b x y e f p q (cases_eq i id) (cases_eq k id)) j
 
         bound_at : (j : ℕ) (x : View T) → slice_get (slice_set s.views id u) j ≡ Some x → (j ≡ id) ⊎ (j ≢ id) → IsBounded defers fixed n j x
         bound_at j x e (inl same) =
             subst (λ (y : View T). IsBounded defers fixed n j y) (own j x same e) (subst (λ (k : ℕ). IsBounded defers fixed n k u) (sym same) mo.bounded)
-        bound_at j x e (inr ne) = bound j x ne (after j) (h.bounded j x (before j x ne e))
+        bound_at j x e (inr ne) = bound j x ne (alone_then j) (h.bounded j x (before j x ne e))
 
         still : (j b : ℕ) (x o : View T) → j ≢ id → view_of s j ≡ Some x → Keeps x o s.world b → Keeps x o n b
         still j b x o ne e keeps =
