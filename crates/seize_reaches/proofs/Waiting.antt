@@ -93,7 +93,7 @@ module _ {T : Type 0} {size : ℕ} (defers : T → Option ℕ) (w : World T) (go
           inr (inr (inl (subst (λ (word : ℕ). LeadsTo w.memory b word) (common n i f m x (bare c) c.stands r).put_first
           (nexts_lead 0 (x.put_first i) (m.puts i) (good.shows.lists.putted i) (λ d in_it. pending_lives d (λ z. in_it (omega (arith, z)))) b some))))
 
-      abbrev pends_so : x.pends i ≡ c.pending
+      pends_so : x.pends i ≡ c.pending
       pends_so = (common n i f m x (bare c) c.stands r).pends
 
       behind : (l : List ℕ) → Chain 0 f.nexts (x.pends i) l → ((d : ℕ) → (count d l ≡ 0 → ⊥) → count d (m.pending i) ≡ 0 → ⊥) → (count b l ≡ 0 → ⊥) → Among

@@ -6,7 +6,7 @@ use Rattle.seize.specs.World.{World, Hand, Event, Happens, Runs, at_start}
 use Rattle.seize_bounds.proofs.Given.SeizeRuleWorld.Start.{start_good}
 use Rattle.seize_bounds.specs.Given.SeizeAloneAlone.{IsOfUsers}
 use Rattle.seize_bounds.proofs.Given.SeizeAloneHistories.Reached.{Reached, runs_reached}
-use Rattle.seize_views.specs.Rows.{Since, Came, Lifetime}
+use Rattle.seize_views.specs.Rows.{Since, Came}
 use Rattle.seize_views.specs.declared.view.Fixed.{Fixed}
 
 -- what is in a seat's hand is some caller's
@@ -40,7 +40,3 @@ module _ {T : Type 0} (defers : T → Option ℕ) (fixed : Fixed) where
 
   pub came_then : (w n : World T) (e : Event T) → Came defers fixed w → Happens defers size e w n → Came defers fixed n
   came_then w n e came step = since_then (at_start defers fixed.roots) w n e came step
-
-  -- the present lifetime goes on
-  pub lives_on : (w n : World T) → Lifetime defers fixed w → Since defers fixed w n → Lifetime defers fixed n
-  lives_on w n life more = record { began = life.began; past = life.past; idle = life.idle; since = since_both life.began w n life.since more }

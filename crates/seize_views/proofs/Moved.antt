@@ -22,7 +22,7 @@ use Rattle.seize_views.specs.declared.view.Why.TheVariants.{Retiring, Ending}
 use Rattle.seize_views.specs.declared.view.Becomes.TheVariants.{Idle, Active}
 use Rattle.seize_views.specs.declared.view.Fixed.{Fixed}
 use Rattle.seize_views.proofs.Aside.{alone_on_slot}
-use Rattle.seize_views.proofs.Came.{of_users, reached, since_both, lives_on}
+use Rattle.seize_views.proofs.Came.{of_users, reached, since_both}
 use Rattle.seize_views.proofs.Found.{HasNow, AreFound, found_at, some_has}
 use Rattle.seize_bounds.proofs.Bounds.Passing.{still_within}
 use Rattle.seize_views.proofs.Lists.{there, elsewhere}
@@ -205,7 +205,12 @@ module _ {T : Type 0} (defers : T → Option ℕ) (fixed : Fixed) (s : State T (
         sole = λ j k b x y e f p q. one j k b x y e f p q (cases_eq j id) (cases_eq k id);
         roots = mo.roots;
         rooted = mo.rooted;
-        life = lives_on defers fixed s.world n h.life mo.since;
+        life = record {
+          began = h.life.began;
+          past = h.life.past;
+          idle = h.life.idle;
+          since = since_both defers fixed h.life.began s.world n h.life.since mo.since;
+        };
         found = λ b. found_at m m b (HasNow s id h.life.began (hand_of u) b) (IsInSomeHand (after s m id u n) h.life.began b) refl
             (some_has s id h.life.began v u at m n b) (n.hand b) (mo.found b);
         bounded = λ j x e. bound_at j x e (cases_eq j id);
