@@ -1,12 +1,11 @@
 -- Words that lead to the blocks of a batch: by the word of the slot in which it is open, by the row that holds or closes it, or by an entry of it on a slot's list.
 use Rattle.std.specs.Prelude.{Option, Some}
-use Rattle.std.proofs.Common.{◌≡◌, ℕ, zero, suc, ◌+◌, ◌*◌, ◌<◌, Bool, true, false, cond, eqb, ltb, List, [], ◌∷◌, length, ◌⊎◌, inl, inr, refl, arith, ap, sym, subst, ◌∙◌}
-use Rattle.std.proofs.lemmas.Bool.{cases_eq, eq-eqb, ne_eqb}
+use Rattle.std.proofs.Common.{◌≡◌, ℕ, zero, suc, ◌+◌, ◌<◌, Bool, true, false, cond, eqb, List, [], ◌∷◌, length, ◌⊎◌, inl, inr, refl, arith, ap, sym, subst, ◌∙◌}
+use Rattle.std.proofs.lemmas.Bool.{cases_eq, ne_eqb}
 use Rattle.seize_words.specs.Mem.{word_at}
 use Rattle.seize_words.specs.declared.at.At.TheVariants.{Slot, Entry}
 use Rattle.seize.specs.declared.states.TheConstants.{HEAD, BATCH, HELD, FIRST, LINK, LAST_SLOT}
 use Rattle.seize.specs.declared.rows.settle.Settle.{Settle}
-use Rattle.seize.specs.declared.rows.leave.Leave.{Leave}
 use Rattle.seize.specs.declared.rows.leave.Leaving.{Leaving}
 use Rattle.seize.specs.declared.rows.leave.Leaving.TheVariants as leaving
 use Rattle.seize.specs.World.{World, Row, Rests, Registers, Enters, Settles, Leaves, Defers, Frees}
@@ -15,9 +14,9 @@ use Rattle.seize_acts.specs.Given.SeizeEndsHolders.{settle_has, leaving_has, has
 use Rattle.seize_acts.proofs.Given.SeizeEndsBatches.Rows.{HeldByRows, has_on}
 use Rattle.seize_acts.proofs.Given.SeizeMovesState.Ghost.{Entry as OnList, Head, Never, Free, Idle, Active, Debt, Unscanned, Marked, Gone, Skipped, Owing, Loose, Counted, Stage, Unused, Open, Closing, Closed, Dead, State, Life, IsIn, entries, list_of, owes, on_list, is_loose, total, is_in}
 use Rattle.seize_acts.proofs.Given.SeizeMovesState.Rule.{SameUnlessDead, IsLive, AtStage}
-use Rattle.seize_acts.proofs.Given.SeizeRuleWords.Named.{link, or_zero, words_of}
-use Rattle.seize_acts.proofs.Given.SeizeRuleWords.Chains.{Chain, first_or, last_from, last_of, blocks_of, count_last, chain_begin}
-use Rattle.seize_acts.proofs.Given.SeizeRuleWords.Shows.{Extra, Spot, Nowhere, Unspent, On, InHands, HeadIs, LinkedIs, FirstIs, SpotLife, batch_word, both, stands, is_on, is_in_hands, lives}
+use Rattle.seize_acts.proofs.Given.SeizeRuleWords.Named.{link, words_of}
+use Rattle.seize_acts.proofs.Given.SeizeRuleWords.Chains.{Chain, first_or, last_of, blocks_of, count_last}
+use Rattle.seize_acts.proofs.Given.SeizeRuleWords.Shows.{Extra, Spot, Nowhere, Unspent, On, InHands, HeadIs, LinkedIs, FirstIs, SpotLife, batch_word, stands, is_on, is_in_hands, lives}
 use Rattle.seize_acts.proofs.Given.SeizeRuleWords.View.{View, view}
 use Rattle.seize_acts.proofs.Given.SeizeRulePoints.Known.{FitsAt, list_word, bare}
 use Rattle.seize_acts.proofs.Given.SeizeRuleRows.Known.{FitsRow, FitsLeave}

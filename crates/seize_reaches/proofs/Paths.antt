@@ -1,15 +1,15 @@
 -- Words that lead to a block: one that names it, one of a block that is led to, and a list of blocks from the word that it begins with.
-use Rattle.std.specs.Prelude.{Option, Some, None, IsSome}
-use Rattle.std.proofs.Common.{◌≡◌, ℕ, ◌+◌, ◌<◌, Bool, true, false, List, [], ◌∷◌, ◌⊎◌, inl, inr, refl, arith, ap, sym, subst, ◌∙◌}
+use Rattle.std.specs.Prelude.{Option, Some, None}
+use Rattle.std.proofs.Common.{◌≡◌, ℕ, ◌<◌, List, [], ◌∷◌, ◌⊎◌, inl, inr, refl, arith, sym, subst, ◌∙◌}
 use Rattle.std.proofs.lemmas.Bool.{cases_eq}
 use Rattle.seize_words.specs.Mem.{Mem, word_at}
 use Rattle.seize_words.specs.Word.{block_in}
 use Rattle.seize_words.specs.declared.at.At.{At}
-use Rattle.seize_words.specs.declared.at.At.TheVariants.{Root, Used, Slot, Entry, Word}
+use Rattle.seize_words.specs.declared.at.At.TheVariants.{Entry}
 use Rattle.seize_acts.specs.Given.SeizeWaitingHeld.{count}
 use Rattle.seize_acts.proofs.Given.SeizeRuleWords.Named.{link, or_zero, words_of}
 use Rattle.seize_acts.proofs.Given.SeizeRuleWords.Chains.{Chain}
-use Rattle.seize_reaches.specs.Reached.{IsWordIn, LeadsBy, LeadsTo, OneLeadsTo}
+use Rattle.seize_reaches.specs.Reached.{IsWordIn, LeadsBy, LeadsTo}
 
 pub block_of_link : (b : ℕ) → block_in (link b) ≡ b
 block_of_link b = omega arith

@@ -1,8 +1,8 @@
 -- Words lead to whatever the collector has: by where the block is.
 use Rattle.std.specs.Prelude.{Option}
-use Rattle.std.proofs.Common.{◌≡◌, ℕ, ◌+◌, List, ◌⊎◌, inl, inr, refl, arith, subst}
+use Rattle.std.proofs.Common.{◌≡◌, ℕ, ◌+◌, ◌⊎◌, inl, inr, refl, arith, subst}
 use Rattle.seize.specs.declared.states.TheConstants.{LAST_SLOT}
-use Rattle.seize.specs.World.{World, Hand, Handed, Event, Runs, at_start}
+use Rattle.seize.specs.World.{World, Hand, Handed, at_start}
 use Rattle.seize_acts.proofs.Given.SeizeEndsBatches.Rows.{HeldByRows, runs_held, start_held}
 use Rattle.seize_acts.proofs.Given.SeizeMovesState.Ghost.{Life, IsFree, IsOwned, IsLinked, IsUnlinked, IsDeferring, IsDeferred, IsPending, IsIn, IsDoomed, IsLeft}
 use Rattle.seize_acts.proofs.Given.SeizeRulePoints.Aside.{HandFits}

@@ -1,8 +1,8 @@
 -- Words that lead to what rows have in their lists, and to what stands on the list of a block.
-use Rattle.std.specs.Prelude.{Option, Some, None, IsSome, is_some}
-use Rattle.std.proofs.Common.{◌≡◌, ℕ, ◌+◌, ◌<◌, Bool, true, false, List, [], ◌∷◌, ◌⊎◌, inl, inr, refl, arith, ap, sym, subst, ◌∙◌, eqb}
+use Rattle.std.specs.Prelude.{Option, Some, None, IsSome}
+use Rattle.std.proofs.Common.{◌≡◌, ℕ, ◌+◌, ◌<◌, Bool, true, false, List, [], ◌∷◌, ◌⊎◌, inl, inr, refl, arith, ap, sym, subst, ◌∙◌}
 use Rattle.std.proofs.lemmas.Bool.{cases_eq, eq-eqb}
-use Rattle.seize_words.specs.Mem.{Mem, value_at, word_at}
+use Rattle.seize_words.specs.Mem.{word_at}
 use Rattle.seize_words.specs.declared.at.At.TheVariants.{Entry, Word}
 use Rattle.seize.specs.declared.states.TheConstants.{NEXT, LAST_SLOT}
 use Rattle.seize.specs.declared.rows.settle.Settle.{Settle}
@@ -12,7 +12,7 @@ use Rattle.seize_acts.proofs.Given.SeizeMovesState.Ghost.{State, Life, IsFree, I
 use Rattle.seize_acts.proofs.Given.SeizeRuleWords.Named.{link, or_zero, words_of}
 use Rattle.seize_acts.proofs.Given.SeizeRuleWords.Chains.{Chain, waiting}
 use Rattle.seize_acts.proofs.Given.SeizeRuleWords.Shows.{Extra, DeferredIs, DrainedIs, CarrierIs, lives}
-use Rattle.seize_acts.proofs.Given.SeizeRuleWords.View.{View, view, list_in}
+use Rattle.seize_acts.proofs.Given.SeizeRuleWords.View.{View, view}
 use Rattle.seize_acts.proofs.Given.SeizeRuleWords.There.{entry_there, list_there, value_there}
 use Rattle.seize_acts.proofs.Given.SeizeRulePoints.Known.{FitsAt, Empty, bare}
 use Rattle.seize_acts.proofs.Given.SeizeRuleWorld.Good.{Good}

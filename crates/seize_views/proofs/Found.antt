@@ -1,5 +1,5 @@
 -- Each block is found after what a seat has done: in its hand or in another one's, or at the root that names it.
-use Rattle.std.specs.Prelude.{◌≢◌, Option, Some, None, IsSome, slice_get, slice_set}
+use Rattle.std.specs.Prelude.{◌≢◌, Option, Some, None, IsSome, slice_get}
 use Rattle.std.proofs.Common.{◌≡◌, ℕ, List, ◌⊎◌, inl, inr, refl, sym, subst, ap, ◌∙◌}
 use Rattle.std.proofs.lemmas.Bool.{cases_eq}
 use Rattle.seize_words.specs.Mem.{Mem, value_at}
@@ -9,7 +9,7 @@ use Rattle.seize_bounds.proofs.Given.SeizeRuleRows.Others.{with_here, with_other
 use Rattle.seize_bounds.proofs.Given.SeizeAloneHistories.NotTaken.{IsHad, kept_there}
 use Rattle.seize_bounds.proofs.Given.SeizeActsAnswers.{same_some}
 use Rattle.seize_seats.specs.State.{State, view_of, after}
-use Rattle.seize_views.specs.Rows.{hand_of, IsInSomeHand, IsNamedAt, IsFound, Holds}
+use Rattle.seize_views.specs.Rows.{hand_of, IsInSomeHand, IsFound, Holds}
 use Rattle.seize_views.specs.declared.view.View.{View}
 use Rattle.seize_views.specs.declared.view.Fixed.{Fixed}
 use Rattle.seize_views.proofs.Came.{of_users, reached}
