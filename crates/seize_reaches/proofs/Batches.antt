@@ -30,6 +30,12 @@ use Rattle.seize_reaches.proofs.Waiting.{entry_is, nexts_lead, hand_of_row}
 in_batch : (y : ℕ) (l : Life) → (is_in y l ≡ 0 → ⊥) → l ≡ IsIn y
 in_batch y l ne = grind (arith, ne)
 
+in_own : (y : ℕ) → is_in y (IsIn y) ≡ 1
+in_own y = grind arith
+
+loose_own : (i : ℕ) → is_loose i (Loose i) ≡ 1
+loose_own i = grind arith
+
 -- some slot owes the batch something
 some_owes : (d : ℕ → Debt) (k : ℕ) → (total owes d k ≡ 0 → ⊥) → (t : ℕ) × (owes (d t) ≡ 0 → ⊥)
 some_owes d zero ne = absurd (ne refl)
@@ -41,21 +47,22 @@ some_owes d (suc k) ne = elim (cases_eq (owes (d k)) 0) as (λ _. (t : ℕ) × (
 -- an entry of the batch stands in the list
 some_entry : (y : ℕ) (es : List OnList) → (entries y es ≡ 0 → ⊥) → (c : ℕ) × (stands c y es ≡ 0 → ⊥) × (count c (blocks_of es) ≡ 0 → ⊥)
 some_entry y [] ne = absurd (ne refl)
-some_entry y (e ∷ es) ne = by (cases_eq y e.batch)
+some_entry y (e ∷ es) ne = by (cases_eq y e.batch) (some_entry y es)
   where
-    by : (y ≡ e.batch) ⊎ (y ≡ e.batch → ⊥) → (c : ℕ) × (stands c y (e ∷ es) ≡ 0 → ⊥) × (count c (blocks_of (e ∷ es)) ≡ 0 → ⊥)
-    by (inl is) = (e.block, (λ z. grind (arith, z, is)), (λ z. grind (arith, z)))
-    by (inr other) =
-        let k = some_entry y es (λ z. ne (grind (arith, z, other))) in (k.0, (λ z. k.1 (grind (arith, z))), (λ z. k.2 (grind (arith, z))))
+    by : (y ≡ e.batch) ⊎ (y ≡ e.batch → ⊥) → ((entries y es ≡ 0 → ⊥) → (c : ℕ) × (stands c y es ≡ 0 → ⊥) × (count c (blocks_of es) ≡ 0 → ⊥))
+        → (c : ℕ) × (stands c y (e ∷ es) ≡ 0 → ⊥) × (count c (blocks_of (e ∷ es)) ≡ 0 → ⊥)
+    by (inl is) further = (e.block, (λ z. grind (arith, z, is)), (λ z. grind (arith, z)))
+    by (inr other) further =
+        let k = further (λ z. ne (grind (arith, z, other))) in (k.0, (λ z. k.1 (grind (arith, z))), (λ z. k.2 (grind (arith, z))))
 
 -- each block of the list stands there for some batch
 some_batch : (c : ℕ) (es : List OnList) → (count c (blocks_of es) ≡ 0 → ⊥) → (y : ℕ) × (stands c y es ≡ 0 → ⊥)
 some_batch c [] ne = absurd (ne refl)
-some_batch c (e ∷ es) ne = by (cases_eq c e.block)
+some_batch c (e ∷ es) ne = by (cases_eq c e.block) (some_batch c es)
   where
-    by : (c ≡ e.block) ⊎ (c ≡ e.block → ⊥) → (y : ℕ) × (stands c y (e ∷ es) ≡ 0 → ⊥)
-    by (inl is) = (e.batch, λ z. grind (arith, z, is))
-    by (inr other) = let k = some_batch c es (λ z. ne (grind (arith, z, other))) in (k.0, λ z. k.1 (grind (arith, z)))
+    by : (c ≡ e.block) ⊎ (c ≡ e.block → ⊥) → ((count c (blocks_of es) ≡ 0 → ⊥) → (y : ℕ) × (stands c y es ≡ 0 → ⊥)) → (y : ℕ) × (stands c y (e ∷ es) ≡ 0 → ⊥)
+    by (inl is) further = (e.batch, λ z. grind (arith, z, is))
+    by (inr other) further = let k = further (λ z. ne (grind (arith, z, other))) in (k.0, λ z. k.1 (grind (arith, z)))
 
 -- where an entry stands its block is of that batch
 
@@ -119,7 +126,7 @@ module _ {T : Type 0} {size : ℕ} (defers : T → Option ℕ) (w : World T) (go
     live = good.inv.places.housed b y e
 
     one_in : is_in y (m.life b) ≡ 1
-    one_in = ap (is_in y) e ∙ grind arith
+    one_in = ap (is_in y) e ∙ in_own y
 
     -- as long as it is not reclaimed its list has its blocks
 
@@ -298,7 +305,7 @@ module _ {T : Type 0} {size : ℕ} (defers : T → Option ℕ) (w : World T) (go
 
       taken_once : entries y in_it ≡ 0 → ⊥
       taken_once z =
-          let k = good.inv.debts.loosed y t i in let l : is_loose i (m.debt y t) ≡ 1 = ap (is_loose i) loose ∙ grind arith in
+          let k = good.inv.debts.loosed y t i in let l : is_loose i (m.debt y t) ≡ 1 = ap (is_loose i) loose ∙ loose_own i in
           none_taken (eqb t (m.from i)) z (k ∙ l)
         where
           none_taken : (q : Bool) → entries y in_it ≡ 0 → cond q (entries y in_it) 0 ≡ 1 → ⊥
@@ -345,7 +352,7 @@ module _ {T : Type 0} {size : ℕ} (defers : T → Option ℕ) (w : World T) (go
     closed_leads : m.stage y ≡ Closed → Found'
     closed_leads at_stage =
         let tally = closed_tally (m.stage y) at_stage (good.inv.batches.tally y) in let waits = good.pending y at_stage in
-        let k = some_owes (m.debt y) n (λ z. omega (arith, tally, waits, z)) in owed_leads k.0 (m.debt y k.0) refl k.1
+        let k = some_owes (m.debt y) n (λ z. let none = tally ∙ z in omega (arith, waits, none)) in owed_leads k.0 (m.debt y k.0) refl k.1
       where
         closed_tally : (st : Stage) → st ≡ Closed → AtStage n st (m.counter y) (m.debt y) (m.seen y) (m.todo y) → m.counter y ≡ total owes (m.debt y) n
         closed_tally st is k = (subst (λ (a : Stage). AtStage n a (m.counter y) (m.debt y) (m.seen y) (m.todo y)) is k).0

@@ -26,22 +26,22 @@ module _ {T : Type 0} (m : Mem T) where
 
   -- another word leads on that names the same block
   pub leads_alike : (b word other : ℕ) → block_in word ≡ block_in other → LeadsTo m b word → LeadsTo m b other
-  leads_alike b word other e ([], way) = ([], way.0, sym e ∙ way.1)
-  leads_alike b word other e (name ∷ names, way) = (name ∷ names, same_in (block_in word) (block_in other) e name way.0, way.1)
+  leads_alike b word other e ([], way) = ([], (way.0, sym e ∙ way.1))
+  leads_alike b word other e (name ∷ names, way) = (name ∷ names, (same_in (block_in word) (block_in other) e name way.0, way.1))
 
   -- a block is led to by its link
   pub leads_here : (b : ℕ) → 0 < b → LeadsTo m b (link b)
-  leads_here b some = ([], some, block_of_link b)
+  leads_here b some = ([], (some, block_of_link b))
 
   -- and what one of its words leads to is
   pub leads_on : (c field word b : ℕ) → word_at m (Entry c field) ≡ Some word → LeadsTo m b word → LeadsTo m b (link c)
-  leads_on c field word b there way = (Entry c field ∷ way.0, sym (block_of_link c), (word, there, way.1))
+  leads_on c field word b there way = (Entry c field ∷ way.0, (sym (block_of_link c), (word, there, way.1)))
 
   -- from a block that is led to it goes on
   leads_then : (b c word : ℕ) (names : List At) → LeadsBy m word names c → LeadsTo m b (link c) → LeadsTo m b word
   leads_then b c word [] way on = leads_alike b (link c) word (block_of_link c ∙ sym way.1) on
   leads_then b c word (name ∷ names) way on =
-      let k = leads_then b c way.1.0 names way.1.2 on in (name ∷ k.0, way.0, (way.1.0, way.1.1, k.1))
+      let k = leads_then b c way.1.0 names way.1.2 on in (name ∷ k.0, (way.0, (way.1.0, way.1.1, k.1)))
 
   pub leads_further : (b c word : ℕ) → LeadsTo m c word → LeadsTo m b (link c) → LeadsTo m b word
   leads_further b c word way on = leads_then b c word way.0 way.1 on
@@ -50,7 +50,9 @@ module _ {T : Type 0} (m : Mem T) where
   pub leads_along : (field e word : ℕ) (l : List ℕ) → Chain e (λ c. words_of m (Entry c field)) word l
       → ((c : ℕ) → (count c l ≡ 0 → ⊥) → word_at m (Entry c field) ≡ Some (words_of m (Entry c field))) → (b : ℕ) → (count b l ≡ 0 → ⊥) → LeadsTo m b word
   leads_along field e word [] chain there b ne = absurd (ne refl)
-  leads_along field e word (c ∷ l) chain there b ne = subst (λ (w : ℕ). LeadsTo m b w) (sym chain.1) (by (cases_eq b c))
+  leads_along field e word (c ∷ l) chain there b ne =
+      subst (λ (w : ℕ). LeadsTo m b w) (sym chain.1)
+      (by (cases_eq b c) (leads_along field e (words_of m (Entry c field)) l chain.2 (λ d some. there d (rest_in d some)) b))
     where
       first_in : count c (c ∷ l) ≡ 0 → ⊥
       first_in z = grind (arith, z)
@@ -61,8 +63,6 @@ module _ {T : Type 0} (m : Mem T) where
       in_rest : (b ≡ c → ⊥) → count b l ≡ 0 → ⊥
       in_rest other z = ne (grind (arith, z, other))
 
-      by : (b ≡ c) ⊎ (b ≡ c → ⊥) → LeadsTo m b (link c)
-      by (inl is) = subst (λ (d : ℕ). LeadsTo m d (link c)) (sym is) (leads_here c chain.0)
-      by (inr other) =
-          leads_on c field (words_of m (Entry c field)) b (there c first_in)
-          (leads_along field e (words_of m (Entry c field)) l chain.2 (λ d some. there d (rest_in d some)) b (in_rest other))
+      by : (b ≡ c) ⊎ (b ≡ c → ⊥) → ((count b l ≡ 0 → ⊥) → LeadsTo m b (words_of m (Entry c field))) → LeadsTo m b (link c)
+      by (inl is) further = subst (λ (d : ℕ). LeadsTo m d (link c)) (sym is) (leads_here c chain.0)
+      by (inr other) further = leads_on c field (words_of m (Entry c field)) b (there c first_in) (further (in_rest other))
