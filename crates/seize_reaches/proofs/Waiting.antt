@@ -37,6 +37,14 @@ doomed_of i l ne = grind (arith, ne)
 deferred_on : (t : ℕ) (l : Life) → (is_deferred t l ≡ 0 → ⊥) → l ≡ IsDeferred t
 deferred_on t l ne = grind (arith, ne)
 
+-- a block that does not stand in a list stands in none behind its first one, and the other way round
+
+none_behind : (a d : ℕ) (l : List ℕ) → count a (d ∷ l) ≡ 0 → count a l ≡ 0
+none_behind a d l z = grind (arith, z)
+
+none_with : (a d : ℕ) (l : List ℕ) → (a ≡ d → ⊥) → count a l ≡ 0 → count a (d ∷ l) ≡ 0
+none_with a d l ne z = grind (arith, z, ne)
+
 carrying_lives : (l : Life) → can_carry l ≡ true → lives l ≡ true
 carrying_lives l c = grind (arith, c)
 
@@ -111,10 +119,10 @@ module _ {T : Type 0} {size : ℕ} (defers : T → Option ℕ) (w : World T) (go
               (subst (λ (y : Bool). Chain 0 f.nexts (x.pends i) (waiting y (m.pending i))) was (good.shows.lists.pended i))
 
           within : (a : ℕ) → (count a l ≡ 0 → ⊥) → count a (m.pending i) ≡ 0 → ⊥
-          within a in_it z = let k : count a (m.pending i) ≡ count a (d ∷ l) = ap (count a) first in in_it (grind (arith, z, k))
+          within a in_it z = in_it (none_behind a d l (sym (ap (count a) first) ∙ z))
 
           rest : (b ≡ d → ⊥) → count b l ≡ 0 → ⊥
-          rest ne z = let k : count b (m.pending i) ≡ count b (d ∷ l) = ap (count b) first in some (k ∙ grind (arith, z, ne))
+          rest ne z = some (ap (count b) first ∙ none_with b d l ne z)
 
           by : (b ≡ d) ⊎ (b ≡ d → ⊥) → Among
           by (inl is) =
