@@ -16,7 +16,7 @@ use Rattle.seize_seats.specs.State.{State, view_of, Goes}
 use Rattle.papaya_tables.specs.Given.SeizeSettle.{flushing}
 use Rattle.seize_views.specs.Begun.{IsBegun}
 use Rattle.seize_views.specs.Promises.{op_of, IsToSettle}
-use Rattle.seize_views.specs.Rows.{row_of, use_of, IsPlain, IsKnown}
+use Rattle.seize_views.specs.Rows.{row_of, use_of, hand_of, IsPlain, IsKnown}
 use Rattle.seize_views.specs.Told.{told as row_told}
 use Rattle.seize_views.specs.declared.view.Becomes.{Becomes}
 use Rattle.seize_views.specs.declared.view.Becomes.TheVariants.{Idle, Active}
@@ -125,19 +125,21 @@ module _ {K V S : Type 0} (same : K → K → Bool) (hash : S → K → ℕ) (fi
 
     -- the batch is tried
     tries : (t : ℕ) (way : Becomes) (c : Settle) (began : Began) (rest : row_of v.slot ≡ Rests) (mine : use_of v.slot ≡ Some (t, resting way))
-        → ((u : SlotView (Node K V)) → IsBegun way (flushing t fixed.batch_size) u → IsBegun way c u)
+        → hand_of v.slot ≡ None → ((u : SlotView (Node K V)) → IsBegun way (flushing t fixed.batch_size) u → IsBegun way c u)
         → Goes (Holds same hash fixed) KeepsFor s s.memory id (λ w. (left : ℕ) × (w ≡ with_slot v (slot_view.Settles c (Retiring way) None left) began))
-    tries t way c began rest mine same_settle =
+    tries t way c began rest mine empty same_settle =
         begins_to same hash fixed s h id v at_id own free unlent began (IsBegun way (flushing t fixed.batch_size)) (λ w. (left : ℕ) × (w ≡ with_slot v (slot_view.Settles c (Retiring way) None left) began))
-        (flushes deferred_word fixed now.world me t way v.slot (row_just same hash fixed s h id v at_id own free unlent rest) (nobody_else same hash fixed s h id v at_id own free unlent t (resting way) mine) mine rest)
+        (flushes deferred_word fixed now.world me t way v.slot (row_just same hash fixed s h id v at_id own free unlent rest) (nobody_else same hash fixed s h id v at_id own free unlent t (resting way) mine) mine rest empty)
         (λ u is. let k = same_settle u is in (k.0, with_it (slot_view.Settles c (Retiring way) None k.0) u began k.1))
 
     settles : (x : SlotView (Node K V)) → v.slot ≡ x → (way : Becomes) (c : Settle) (began : Began) → IsToSettle fixed x way c → IsPlain x
         → Goes (Holds same hash fixed) KeepsFor s s.memory id (λ w. (left : ℕ) × (w ≡ with_slot v (slot_view.Settles c (Retiring way) None left) began))
     settles (slot_view.Inside t NoBlock) e Active c began is plain =
-        tries t Active c began (ap (λ (x : SlotView (Node K V)). row_of x) e) (ap (λ (x : SlotView (Node K V)). use_of x) e) (λ u k. subst (λ (d : Settle). IsBegun Active d u) (sym is) k)
+        tries t Active c began (ap (λ (x : SlotView (Node K V)). row_of x) e) (ap (λ (x : SlotView (Node K V)). use_of x) e)
+        (ap (λ (x : SlotView (Node K V)). hand_of x) e) (λ u k. subst (λ (d : Settle). IsBegun Active d u) (sym is) k)
     settles (slot_view.Outside t) e Idle c began is plain =
-        tries t Idle c began (ap (λ (x : SlotView (Node K V)). row_of x) e) (ap (λ (x : SlotView (Node K V)). use_of x) e) (λ u k. subst (λ (d : Settle). IsBegun Idle d u) (sym is) k)
+        tries t Idle c began (ap (λ (x : SlotView (Node K V)). row_of x) e) (ap (λ (x : SlotView (Node K V)). use_of x) e)
+        (ap (λ (x : SlotView (Node K V)). hand_of x) e) (λ u k. subst (λ (d : Settle). IsBegun Idle d u) (sym is) k)
     settles (slot_view.Inside t (Cut b)) e way c began is plain = absurd plain
     settles (slot_view.Inside t (Seen b)) e way c began is plain = absurd plain
     settles (slot_view.Owes t b) e way c began is plain = absurd plain

@@ -8,7 +8,7 @@ use Rattle.seize.specs.World.{World, Use}
 use Rattle.seize_alone.proofs.Given.SeizeSetsTurns.Heads.{WordOf, word_says}
 use Rattle.seize_quiet.specs.Slots.{IsQuiet}
 use Rattle.seize_quiet.proofs.Slots.Facts.{rested_by}
-use Rattle.seize_views.specs.Rows.{RootsNameLinked, Came}
+use Rattle.seize_views.specs.Rows.{IsFound, RootsNameLinked, Came}
 use Rattle.seize_views.specs.declared.view.Fixed.{Fixed}
 use Rattle.seize_renews.specs.Emptied.{AreFree}
 use Rattle.seize_renews.specs.One.{OneEmpties}
@@ -40,5 +40,6 @@ module _ {T : Type 0} (defers : T → Option ℕ) where
         nothing = left_so.1;
         free = subst AreFree (sym here) (are_free fixed s.world h.came left_so.0);
         roots = subst (λ (n : Mem T). RootsNameLinked n s.world.hand) (sym is) h.roots;
+        found = λ b. subst (λ (n : Mem T). IsFound n b (λ k. Unit {0}) (s.world.hand b)) (sym is) (h.found b);
         rooted = ap (λ (n : Mem T). length n.roots) is ∙ h.rooted;
       }

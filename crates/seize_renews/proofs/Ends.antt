@@ -1,6 +1,6 @@
 -- Those who come wait; what is looked at is there; and where the machine is over nothing is left that waits, and the rule of all holds again.
 use Rattle.std.specs.Prelude.{Option, Some, None, IsSome, slice_get}
-use Rattle.std.proofs.Common.{◌≡◌, ℕ, zero, suc, Bool, false, [], ◌∷◌, refl, sym, subst, ap, ◌∙◌}
+use Rattle.std.proofs.Common.{◌≡◌, ℕ, zero, suc, Bool, false, [], ◌∷◌, inr, refl, sym, subst, ap, ◌∙◌}
 use Rattle.seize_words.specs.Mem.{Mem, value_at}
 use Rattle.seize.specs.declared.rows.reclaim_all.ReclaimAll.{ReclaimAll}
 use Rattle.seize.specs.declared.rows.reclaim_all.Reclaiming.{Reclaiming}
@@ -16,7 +16,9 @@ use Rattle.seize_quiet.specs.Slots.{IsQuiet, StageAt}
 use Rattle.seize_quiet.proofs.Promised.{nothing_waits}
 use Rattle.seize_views.specs.declared.view.View.{View}
 use Rattle.seize_views.specs.declared.view.Fixed.{Fixed}
+use Rattle.seize_views.specs.Rows.{IsInSomeHand}
 use Rattle.seize_views.proofs.Came.{came_then}
+use Rattle.seize_views.proofs.Found.{found_at, found_as}
 use Rattle.seize_renews.specs.Rule.{Stands, HoldsAlone}
 use Rattle.seize_renews.specs.Promises.{first_of, IdleRenew, LookedIsShown, OverIsQuiet, OverRenews}
 use Rattle.seize_renews.specs.declared.alone.Alone.{Alone}
@@ -33,6 +35,7 @@ module _ {T : Type 0} (defers : T → Option ℕ) (left_over : T → Bool) where
       seats = seats_there;
       one = λ j k a b e f. first j a e ∙ sym (first k b f);
       roots = h.roots;
+      found = λ b. found_at s.memory s.memory b (IsInSomeHand s h.life.began b) (λ k. Unit {0}) refl (λ k has. tt) (s.world.hand b) (h.found b);
       rooted = h.rooted;
     },
   )
@@ -89,6 +92,12 @@ module _ {T : Type 0} (defers : T → Option ℕ) (left_over : T → Bool) where
       sole = λ j k b v u e f p q. absurd (cc e);
       roots = h.roots;
       rooted = h.rooted;
+      life = record { began = s.world; past = h.came; idle = (quiet_at fixed id c seen left over s h at_id).rests; since = ([], refl) };
+      found = λ b. found_as s.memory b (IsInSomeHand none_there s.world b) (s.world.hand b) (s.world.hand b) refl (λ k is. inr is) (h.found b);
       bounded = λ j v e. absurd (cc e);
     },
   )
+    where
+      -- no seat is there
+      none_there : State T (View T) (World T)
+      none_there = record { memory = s.memory; views = []; world = s.world }

@@ -6,12 +6,12 @@ use Rattle.seize_words.specs.Mem.{Mem}
 use Rattle.seize.specs.World.{World}
 use Rattle.seize_acts.proofs.Answers.{same_some}
 use Rattle.seize_seats.specs.State.{State, view_of, Goes}
-use Rattle.seize_views.specs.Rows.{RootsNameLinked, Came}
+use Rattle.seize_views.specs.Rows.{IsFound, RootsNameLinked, Came}
 use Rattle.seize_views.specs.declared.view.Fixed.{Fixed}
 use Rattle.seize_views.proofs.Lists.{there, elsewhere}
 use Rattle.seize_renews.specs.Rule.{Stands, HoldsAlone, KeepsNone}
 use Rattle.seize_renews.specs.declared.alone.Alone.{Alone}
-use Rattle.seize_renews.proofs.Roots.{RootsStay, roots_still}
+use Rattle.seize_renews.proofs.Roots.{RootsStay, roots_still, found_still}
 
 module _ {T : Type 0} (defers : T → Option ℕ) (left_over : T → Bool) (fixed : Fixed) (s : State T (Alone T) (World T)) (id : ℕ) (v u : Alone T)
     (h : HoldsAlone defers left_over fixed s) (at_id : view_of s id ≡ Some v) (m2 : Mem T) (n : World T) (came : Came defers fixed n) (memory : n.memory ≡ m2)
@@ -54,6 +54,8 @@ module _ {T : Type 0} (defers : T → Option ℕ) (left_over : T → Bool) (fixe
       seats = stands_there;
       one = λ j k a b e f. both_mine j k a b (who j a e) (who k b f);
       roots = named;
+      found = λ b. subst (λ (m : Mem T). IsFound m b (λ k. Unit {0}) (n.hand b)) memory
+          (found_still defers fixed s.world n stay (λ c. subst (λ (m : Mem T). IsFound m c (λ k. Unit {0}) (s.world.hand c)) h.memory (h.found c)) b);
       rooted = ap (λ (m : Mem T). length m.roots) (sym memory) ∙ ap length stay.0 ∙ ap (λ (m : Mem T). length m.roots) (sym h.memory) ∙ h.rooted;
     },
     (λ j k b x y p q e f keeps. keeps),

@@ -1,5 +1,5 @@
 -- The rule by which one seat acts alone: there is a world that came about, of which the memory is that of the state; the seat takes a slot, or reclaims all, and
--- knows where it stands.
+-- knows where it stands. A root names no block or one that is linked there, and what is linked is named.
 use Rattle.std.specs.Prelude.{◌≡◌, ◌≢◌, ℕ, ◌<◌, ◌==◌, Bool, false, Option, Some, None, if◌then◌else◌, length}
 use Rattle.seize_words.specs.Mem.{Mem, value_at}
 use Rattle.seize_words.specs.Op.{Op, Out}
@@ -19,7 +19,7 @@ use Rattle.seize.specs.World as world
 use Rattle.seize_seats.specs.State.{State, view_of}
 use Rattle.seize_quiet.specs.Slots.{Stage}
 use Rattle.seize_quiet.specs.Promises.{DoneWithin}
-use Rattle.seize_views.specs.Rows.{IsSeeking, RootsNameLinked, Came}
+use Rattle.seize_views.specs.Rows.{IsSeeking, IsFound, RootsNameLinked, Came}
 use Rattle.seize_views.specs.Told.{ComesTo, FollowsBy, shown_by}
 use Rattle.seize_views.specs.declared.view.Fixed.{Fixed}
 use Rattle.seize_renews.specs.declared.alone.Alone.{Alone}
@@ -87,6 +87,7 @@ module _ {T : Type 0} (defers : T → Option ℕ) (left_over : T → Bool) where
       pub seats : (j : ℕ) (v : Alone T) → view_of s j ≡ Some v → Stands s.world j v
       pub one : (j k : ℕ) (a b : Alone T) → view_of s j ≡ Some a → view_of s k ≡ Some b → j ≡ k
       pub roots : RootsNameLinked s.memory s.world.hand
+      pub found : (b : ℕ) → IsFound s.memory b (λ k. Unit {0}) (s.world.hand b)
       pub rooted : length s.memory.roots ≡ fixed.roots
 
 -- nobody looks at what another one may take

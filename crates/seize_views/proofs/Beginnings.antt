@@ -5,11 +5,11 @@ use Rattle.std.proofs.lemmas.List.{length-replicate}
 use Rattle.seize_words.specs.Word.{block_in, link_to}
 use Rattle.seize.specs.declared.rows.settle.Settle.{Settle}
 use Rattle.seize.specs.Settle.{retiring, flushing}
-use Rattle.seize.specs.World.{World, Use, at_start}
+use Rattle.seize.specs.World.{World, Use, Hand, at_start}
 use Rattle.seize.specs.World as world
 use Rattle.seize_bounds.proofs.Given.SeizeActsAnswers.{same_some}
 use Rattle.seize_seats.specs.State.{State, view_of, joined, Comes, Starts}
-use Rattle.seize_views.specs.Rows.{TurnsTo, row_of, use_of, hand_of, IsCut, IsKnown, Fits, IsBounded, Holds, Keeps}
+use Rattle.seize_views.specs.Rows.{TurnsTo, row_of, use_of, hand_of, IsCut, IsKnown, IsInSomeHand, Fits, IsBounded, Holds, Keeps}
 use Rattle.seize_views.specs.Begun.{IsBegun}
 use Rattle.seize_views.specs.Promises.{IsNext, RulesStart, SeatsCome, RowsTurn, SettlingsBegin}
 use Rattle.seize_views.specs.declared.view.View.{View}
@@ -18,7 +18,8 @@ use Rattle.seize_views.specs.declared.view.Becomes.TheVariants.{Idle, Active}
 use Rattle.seize_views.specs.declared.view.View.TheVariants.{Rests, Registers, Outside, Owes, Enters, Inside, Settles, Leaves, Left, Frees, Brings, Bears, Watches, Under, Busy}
 use Rattle.seize_views.specs.declared.view.Has.TheVariants.{Nothing, Made, Seen, Both, Cut}
 use Rattle.seize_views.specs.declared.view.Fixed.{Fixed}
-use Rattle.seize_views.proofs.Lists.{with_last, none_before}
+use Rattle.seize_views.proofs.Found.{found_at}
+use Rattle.seize_views.proofs.Lists.{with_last, none_before, with_more}
 use Rattle.seize_views.proofs.InWorld.{IsJustSo, just_so, used_as}
 use Rattle.seize_views.proofs.Begins as begins
 use Rattle.seize_views.proofs.Begins.{resting}
@@ -59,11 +60,11 @@ module _ {T : Type 0} (defers : T → Option ℕ) (fixed : Fixed) where
 
   -- the batch is tried
   flushes : (id t : ℕ) (way : Becomes) (v : View T) → use_of v ≡ used_as t (resting way) → row_of v ≡ world.Rests
-      → TurnsTo defers fixed id v (IsBegun way (flushing t fixed.batch_size))
-  flushes id t way v mine rests s h at_id =
+      → hand_of v ≡ None → TurnsTo defers fixed id v (IsBegun way (flushing t fixed.batch_size))
+  flushes id t way v mine rests empty s h at_id =
       lifted.begins defers fixed s id v h at_id (IsBegun way (flushing t fixed.batch_size))
       (begins.flushes defers fixed s.world id t way v (lifted.has_row defers fixed s id v h at_id) (lifted.lone_on defers fixed s id v h at_id t (resting way) mine)
-      mine rests)
+      mine rests empty)
 
   -- a seat comes, and knows nothing
   joins : (s : State T (View T) (World T)) → H s → H (joined s Rests s.world)
@@ -76,6 +77,9 @@ module _ {T : Type 0} (defers : T → Option ℕ) (fixed : Fixed) where
     sole = λ j k b x y e f p q. one j k b x y p q (with_last s.views j Rests x e) (with_last s.views k Rests y f);
     roots = h.roots;
     rooted = h.rooted;
+    life = h.life;
+    found = λ b. found_at s.memory s.memory b (IsInSomeHand s h.life.began b) (IsInSomeHand (joined s Rests s.world) h.life.began b) refl (still b)
+        (s.world.hand b) (h.found b);
     bounded = λ j x e. bound j x (with_last s.views j Rests x e);
   }
     where
@@ -86,6 +90,10 @@ module _ {T : Type 0} (defers : T → Option ℕ) (fixed : Fixed) where
       bound : (j : ℕ) (x : View T) → (view_of s j ≡ Some x) ⊎ ((view_of s j ≡ None) × (Rests ≡ x)) → IsBounded defers fixed s.world j x
       bound j x (inl e) = h.bounded j x e
       bound j x (inr e) = subst (λ (y : View T). IsBounded defers fixed s.world j y) e.1 tt
+
+      still : (b : ℕ) (k : Hand) → IsInSomeHand s h.life.began b k → IsInSomeHand (joined s Rests s.world) h.life.began b k
+      still b k (inl (j, x, e, has)) = inl (j, x, with_more s.views j Rests x e, has)
+      still b k (inr was) = inr was
 
       no_slot : (x : View T) (t : ℕ) (a : Use) → Rests ≡ x → use_of x ≡ used_as t a → ⊥
       no_slot x t a e p = cc (ap use_of e, p)
@@ -119,6 +127,8 @@ module _ {T : Type 0} (defers : T → Option ℕ) (fixed : Fixed) where
       sole = λ j k b v u e f p q. absurd (cc e);
       roots = λ r word e. inl (ap block_in (sym (zeros fixed.roots r word e)));
       rooted = length-replicate fixed.roots 0;
+      life = record { began = at_start defers fixed.roots; past = ([], refl); idle = λ j. refl; since = ([], refl) };
+      found = λ b. tt;
       bounded = λ j v e. absurd (cc e);
     },
   )
@@ -146,16 +156,16 @@ module _ (T : Type 0) (defers : T → Option ℕ) where
       (retires defers fixed id t b Active (Inside t (Cut b)) refl refl refl (λ w known. known))
   settlings_begin fixed id (Inside t Nothing) Active c is =
       subst (λ (d : Settle). TurnsTo defers fixed id (Inside t Nothing) (IsBegun Active d)) (sym is)
-      (flushes defers fixed id t Active (Inside t Nothing) refl refl)
+      (flushes defers fixed id t Active (Inside t Nothing) refl refl refl)
   settlings_begin fixed id (Inside t (Seen b)) Active c is =
       subst (λ (d : Settle). TurnsTo defers fixed id (Inside t (Seen b)) (IsBegun Active d)) (sym is)
-      (flushes defers fixed id t Active (Inside t (Seen b)) refl refl)
+      (flushes defers fixed id t Active (Inside t (Seen b)) refl refl refl)
   settlings_begin fixed id (Owes t b) Idle c is =
       subst (λ (d : Settle). TurnsTo defers fixed id (Owes t b) (IsBegun Idle d)) (sym is)
       (retires defers fixed id t b Idle (Owes t b) refl refl refl (λ w known. known))
   settlings_begin fixed id (Outside t) Idle c is =
       subst (λ (d : Settle). TurnsTo defers fixed id (Outside t) (IsBegun Idle d)) (sym is)
-      (flushes defers fixed id t Idle (Outside t) refl refl)
+      (flushes defers fixed id t Idle (Outside t) refl refl refl)
   settlings_begin fixed id (Inside t (Cut b)) Idle c is = absurd is
   settlings_begin fixed id (Inside t Nothing) Idle c is = absurd is
   settlings_begin fixed id (Inside t (Seen b)) Idle c is = absurd is

@@ -17,7 +17,7 @@ use Rattle.seize_bounds.specs.Given.SeizeActsWaits.{SettlesOn}
 use Rattle.seize_bounds.specs.Bounds.{IsToTry, IsAloneOnSlot, TriesWithin}
 use Rattle.seize_bounds.proofs.Settles.Within.{batches_are_tried}
 use Rattle.seize_views.specs.Begun.{IsBegun}
-use Rattle.seize_views.specs.Rows.{row_of, use_of, used_for, hand_of, leave_of, IsCut, IsPlain, IsShort, IsKnown, IsBounded}
+use Rattle.seize_views.specs.Rows.{row_of, use_of, used_for, hand_of, had_in, leave_of, IsCut, IsPlain, IsShort, IsKnown, IsBounded}
 use Rattle.seize_views.specs.declared.view.View.{View}
 use Rattle.seize_views.specs.declared.view.Becomes.{Becomes}
 use Rattle.seize_views.specs.declared.view.Becomes.TheVariants.{Idle, Active}
@@ -71,8 +71,9 @@ module _ {T : Type 0} (defers : T → Option ℕ) (fixed : Fixed) (w : World T) 
       → row_of v ≡ world.Rests → row_of u ≡ row → slot_in request ≡ Some t → HasNoBlock request
       → (w.uses t ≡ a → world.Begins defers fixed.batch_size i request w (with_use (with_row w i row) t world.Changing))
       → (w.uses t ≡ a → acts.begun defers fixed.batch_size i request w ≡ Some (with_use (with_row w i row) t world.Changing))
-      → IsPlain u → IsShort u → ((n : World T) → IsKnown n u) → ((n : World T) → IsBounded defers fixed n i u) → hand_of u ≡ None → To v (λ x. x ≡ u)
-  begins_on t v u a row request h mine its rests is on no_block happens computed plain short known bounded none = (
+      → IsPlain u → IsShort u → ((n : World T) → IsKnown n u) → ((n : World T) → IsBounded defers fixed n i u) → hand_of u ≡ None → hand_of v ≡ None
+      → To v (λ x. x ≡ u)
+  begins_on t v u a row request h mine its rests is on no_block happens computed plain short known bounded none empty = (
     u,
     n,
     request,
@@ -84,6 +85,7 @@ module _ {T : Type 0} (defers : T → Option ℕ) (fixed : Fixed) (w : World T) 
       memory = refl;
       log = refl;
       hand = λ b apart. refl;
+      handed = λ b e. absurd (cc (empty, e));
       linked = λ b r linked. linked;
       rows = λ j ne. with_other w.row i j row ne;
       uses = λ x apart. with_other w.uses t x world.Changing (λ e. apart a (mine ∙ ap (λ (k : ℕ). used_as k a) (sym e)));
@@ -113,24 +115,24 @@ module _ {T : Type 0} (defers : T → Option ℕ) (fixed : Fixed) (w : World T) 
   enters t h =
       let n : World T = with_use (with_row w i (world.Enters record { slot = t })) t world.Changing in
       begins_on t (Outside t) (Enters t) (world.Outside 0) (world.Enters record { slot = t }) (Enter' t) h refl refl refl refl refl tt (λ e. (e, refl))
-      (λ e. ap (λ (a : Use). given (is_outside a) n) e) tt tt (λ x. tt) (λ x. tt) refl
+      (λ e. ap (λ (a : Use). given (is_outside a) n) e) tt tt (λ x. tt) (λ x. tt) refl refl
 
   pub frees : (t : ℕ) → Row' (Outside t) → To (Outside t) (λ x. x ≡ Frees t)
   frees t h =
       let n : World T = with_use (with_row w i (world.Frees record { slot = t })) t world.Changing in
       begins_on t (Outside t) (Frees t) (world.Outside 0) (world.Frees record { slot = t }) (Unregister' t) h refl refl refl refl refl tt (λ e. (e, refl))
-      (λ e. ap (λ (a : Use). given (is_outside a) n) e) tt tt (λ x. tt) (λ x. tt) refl
+      (λ e. ap (λ (a : Use). given (is_outside a) n) e) tt tt (λ x. tt) (λ x. tt) refl refl
 
   -- the section ends, or the next one begins at once
-  pub leaves : (t : ℕ) (has : Has T) (way : Becomes) → Row' (Inside t has) → To (Inside t has) (λ x. x ≡ Leaves t fixed.batch_size way)
-  leaves t has Idle h =
+  pub leaves : (t : ℕ) (has : Has T) (way : Becomes) → had_in has ≡ None → Row' (Inside t has) → To (Inside t has) (λ x. x ≡ Leaves t fixed.batch_size way)
+  leaves t has Idle empty h =
       let c : Leave = leave_of t fixed.batch_size Idle in let n : World T = with_use (with_row w i (world.Leaves c)) t world.Changing in
       begins_on t (Inside t has) (Leaves t fixed.batch_size Idle) (world.Inside 0) (world.Leaves c) (Leave' t) h refl refl refl refl refl tt (λ e. (e, refl))
-      (λ e. ap (λ (a : Use). given (is_inside a) n) e) tt tt (λ x. tt) (λ x. tt) refl
-  leaves t has Active h =
+      (λ e. ap (λ (a : Use). given (is_inside a) n) e) tt tt (λ x. tt) (λ x. tt) refl empty
+  leaves t has Active empty h =
       let c : Leave = leave_of t fixed.batch_size Active in let n : World T = with_use (with_row w i (world.Leaves c)) t world.Changing in
       begins_on t (Inside t has) (Leaves t fixed.batch_size Active) (world.Inside 0) (world.Leaves c) (Refresh t) h refl refl refl refl refl tt (λ e. (e, refl))
-      (λ e. ap (λ (a : Use). given (is_inside a) n) e) tt tt (λ x. tt) (λ x. tt) refl
+      (λ e. ap (λ (a : Use). given (is_inside a) n) e) tt tt (λ x. tt) (λ x. tt) refl empty
 
   pub registers : Row' Rests → To Rests (λ x. x ≡ Registers First)
   registers h = (
@@ -145,6 +147,7 @@ module _ {T : Type 0} (defers : T → Option ℕ) (fixed : Fixed) (w : World T) 
       memory = refl;
       log = refl;
       hand = λ b apart. refl;
+      handed = λ b e. absurd (cc e);
       linked = λ b r linked. linked;
       rows = λ j ne. with_other w.row i j (world.Registers First) ne;
       uses = λ x apart. refl;
@@ -192,8 +195,8 @@ module _ {T : Type 0} (defers : T → Option ℕ) (fixed : Fixed) (w : World T) 
     same_number x y e = cc e
 
     -- the batch is tried
-    pub flushes : To v (IsBegun way (flushing t fixed.batch_size))
-    flushes =
+    pub flushes : hand_of v ≡ None → To v (IsBegun way (flushing t fixed.batch_size))
+    flushes empty =
         let c : Settle = flushing t fixed.batch_size in
         let n : World T = with_use (with_row w i (world.Settles c)) t (one_more (w.uses t)) in
         let happens : Happens defers fixed.batch_size (Begin i (Flush t)) w n =
@@ -210,6 +213,7 @@ module _ {T : Type 0} (defers : T → Option ℕ) (fixed : Fixed) (w : World T) 
             memory = refl;
             log = refl;
             hand = λ b apart. refl;
+            handed = λ b e. absurd (cc (empty, e));
             linked = λ b r linked. linked;
             rows = λ j ne. with_other w.row i j (world.Settles c) ne;
             uses = elsewhere;
@@ -245,6 +249,7 @@ module _ {T : Type 0} (defers : T → Option ℕ) (fixed : Fixed) (w : World T) 
             memory = refl;
             log = refl;
             hand = λ x apart. with_other w.hand b x world.Handed (λ e. apart (has ∙ ap Some (sym e)));
+            handed = λ x e. ap n.hand (same_number x b (sym e ∙ has)) ∙ with_here w.hand b world.Handed;
             linked = λ x r is. beside w.hand b x (world.InUse r) (λ e. not_use_cutting r cut.0 (sym is ∙ ap w.hand e ∙ cut.1)) is;
             rows = λ j ne. with_other w.row i j (world.Settles c) ne;
             uses = elsewhere;

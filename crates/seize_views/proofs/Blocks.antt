@@ -27,7 +27,8 @@ use Rattle.seize_views.specs.declared.view.Has.{Has}
 use Rattle.seize_views.specs.declared.view.Has.TheVariants.{Nothing, Made, Seen, Both, Cut}
 use Rattle.seize_views.specs.declared.view.Fixed.{Fixed}
 use Rattle.seize_views.proofs.Moved.{hand_users}
-use Rattle.seize_views.proofs.Came.{of_users, reached, came_then}
+use Rattle.seize_views.proofs.Came.{of_users, reached, since_one}
+use Rattle.seize_views.proofs.Found.{found_on, found_with}
 use Rattle.seize_views.proofs.Steps.{roots_kept, world_roots, world_rooted}
 use Rattle.seize_views.proofs.Users.{use_making, beside, same_hand, world_took, making_not_held, passes_one, Carries, within, alone_carries, users}
 
@@ -55,6 +56,10 @@ module _ {T : Type 0} (defers : T → Option ℕ) (fixed : Fixed) (s : State T (
   r : Reached defers fixed.batch_size w
   r = reached defers fixed w h.came
 
+  -- the roots are as they were
+  same_roots : (m : Mem T) → m.roots ≡ w.memory.roots → m.roots ≡ s.memory.roots
+  same_roots m e = e ∙ sym (ap (λ (x : Mem T). x.roots) h.memory)
+
   -- a number that is free is in nobody's hand
   free_hand : (b : ℕ) (k : Hand) → IsOfUsers k → value_at w.memory b ≡ None → k ≡ w.hand b → ⊥
   free_hand b k of none e =
@@ -72,20 +77,18 @@ module _ {T : Type 0} (defers : T → Option ℕ) (fixed : Fixed) (s : State T (
   free_of j b x ne e q none =
       let some = kept_there defers fixed.batch_size w r b (IsHad (hand_users w x b (h.seats j x e).known q).0) in cc (some, none)
 
-  makes : (value : T) (words : ℕ) → HasListWord defers (defers value) words → (after : ℕ → Has T) → ((b : ℕ) → had_in (after b) ≡ Some b)
+  makes : (value : T) (words : ℕ) → had_in had ≡ None → HasListWord defers (defers value) words → (after : ℕ → Has T) → ((b : ℕ) → had_in (after b) ≡ Some b)
       → ((b : ℕ) (n : World T) → IsMade n b value → ((c : ℕ) → holds t c w.log ≡ true → holds t c n.log ≡ true) → IsInHand n t (after b))
       → (so : Out T → View T → Type 0) → ((b : ℕ) → b < 2 ^ 53 → so (OutMade (Ok b)) (place (after b)))
       → ((back : T) → back ≡ value → so (OutMade (Err back)) (place had)) → (out : Out T) (m : Mem T) → Took s.memory (Make value words) out m
       → Leads defers fixed s m id (so out)
-  makes value words list after made_hand hand so tells refused (OutMade (Ok b)) m took =
+  makes value words empty list after made_hand hand so tells refused (OutMade (Ok b)) m took =
       let op : Op T = Make value words in let out : Out T = OutMade (Ok b) in
       let n : World T = made_by defers w id m out in
       let here = world_took s h.memory op out m took in
       let free = (made_one w.memory value words b here.0.0).was_free in
       users defers fixed s id t h place carries had at m n (after b) (record {
-        came =
-            came_then defers fixed w n (Makes id value words) h.came
-            (out, m, list, here, refl);
+        since = since_one defers fixed w n (Makes id value words) (out, m, list, here, refl);
         memory = refl;
         row = refl;
         uses = refl;
@@ -101,15 +104,14 @@ module _ {T : Type 0} (defers : T → Option ℕ) (fixed : Fixed) (s : State T (
         rooted = ap (λ (x : Mem T). length x.roots) here.1 ∙ world_rooted defers fixed s id (place had) h at;
         passes = passes_one defers fixed s id t (Makes id value words) n (λ j. tt)
             (out, m, list, here, refl);
-      }) (so out) (tells b took.0.1)
-  makes value words list after made_hand hand so tells refused (OutMade (Err back)) m took =
+      }) (found_with defers fixed s id (place had) h at (had_in (after b)) m (same_roots m (ap (λ (x : Mem T). x.roots) here.1)) b (world.Making id) (inl (made_hand b))
+      (λ c ne e. absurd (let k = carries.hand had in cc (empty, k, e)))) (so out) (tells b took.0.1)
+  makes value words empty list after made_hand hand so tells refused (OutMade (Err back)) m took =
       let op : Op T = Make value words in let out : Out T = OutMade (Err back) in
       let n : World T = made_by defers w id m out in
       let here = world_took s h.memory op out m took in
       users defers fixed s id t h place carries had at m n had (record {
-        came =
-            came_then defers fixed w n (Makes id value words) h.came
-            (out, m, list, here, refl);
+        since = since_one defers fixed w n (Makes id value words) (out, m, list, here, refl);
         memory = refl;
         row = refl;
         uses = refl;
@@ -123,12 +125,13 @@ module _ {T : Type 0} (defers : T → Option ℕ) (fixed : Fixed) (s : State T (
         rooted = ap (λ (x : Mem T). length x.roots) here.1 ∙ world_rooted defers fixed s id (place had) h at;
         passes = passes_one defers fixed s id t (Makes id value words) n (λ j. tt)
             (out, m, list, here, refl);
-      }) (so out) (refused back took.0)
-  makes value words list after made_hand hand so tells refused (Found x) m took = absurd took.0
-  makes value words list after made_hand hand so tells refused Stored m took = absurd took.0
-  makes value words list after made_hand hand so tells refused (Exchanged x) m took = absurd took.0
-  makes value words list after made_hand hand so tells refused (Taken x) m took = absurd took.0
-  makes value words list after made_hand hand so tells refused (Roomed x) m took = absurd took.0
+      }) (λ b. found_on defers fixed s id (place had) h at (had_in had) m (same_roots m (ap (λ (x : Mem T). x.roots) here.1)) b (λ e. sym (carries.hand had) ∙ e)) (so out)
+      (refused back took.0)
+  makes value words empty list after made_hand hand so tells refused (Found x) m took = absurd took.0
+  makes value words empty list after made_hand hand so tells refused Stored m took = absurd took.0
+  makes value words empty list after made_hand hand so tells refused (Exchanged x) m took = absurd took.0
+  makes value words empty list after made_hand hand so tells refused (Taken x) m took = absurd took.0
+  makes value words empty list after made_hand hand so tells refused (Roomed x) m took = absurd took.0
 
   -- the block that is known is there
 
@@ -158,7 +161,7 @@ module _ {T : Type 0} (defers : T → Option ℕ) (fixed : Fixed) (s : State T (
       let n : World T = with_effect (with_hand (record w { memory = m }) b world.NoBlock) (Dropped b) in
       let here = world_took s h.memory op out m took in
       users defers fixed s id t h place carries had at m n after (record {
-        came = came_then defers fixed w n (Drops id b) h.came (out, m, made.0, here, refl);
+        since = since_one defers fixed w n (Drops id b) (out, m, made.0, here, refl);
         memory = refl;
         row = refl;
         uses = refl;
@@ -173,7 +176,8 @@ module _ {T : Type 0} (defers : T → Option ℕ) (fixed : Fixed) (s : State T (
             (λ c a had. beside w b c world.NoBlock (world.InUse a) (λ e. use_making a made.0.0 (e ∙ made.0.1)) had) (world_roots defers fixed s id (place had) h at);
         rooted = ap (λ (x : Mem T). length x.roots) here.1 ∙ world_rooted defers fixed s id (place had) h at;
         passes = passes_one defers fixed s id t (Drops id b) n (λ j. tt) (out, m, made.0, here, refl);
-      }) (so out) (tells value (same_some value x (sym here.0 ∙ made.1)))
+      }) (found_with defers fixed s id (place had) h at (had_in after) m (same_roots m (ap (λ (x : Mem T). x.roots) here.1)) b world.NoBlock tt
+      (λ c ne e. absurd (ne (same_some c b (sym e ∙ carries.hand had ∙ had_it))))) (so out) (tells value (same_some value x (sym here.0 ∙ made.1)))
   takes b x made had_it after gone hand so tells (Found y) m took = absurd took.0
   takes b x made had_it after gone hand so tells Stored m took = absurd took.0
   takes b x made had_it after gone hand so tells (Exchanged y) m took = absurd took.0
@@ -184,12 +188,12 @@ module _ (T : Type 0) (defers : T → Option ℕ) where
   pub blocks_are_made : BlocksAreMade T defers
   blocks_are_made Nothing value words looks list fixed id t s h at = (
     tt,
-    makes defers fixed s id t (Inside t) (within t) Nothing h at tt value words list (λ b. Made b value) (λ b. refl) (λ b n made held. made) (told defers (Inside t Nothing) (Make value words))
+    makes defers fixed s id t (Inside t) (within t) Nothing h at tt value words refl list (λ b. Made b value) (λ b. refl) (λ b n made held. made) (told defers (Inside t Nothing) (Make value words))
         (λ b lt. (Made b value, (lt, refl), refl)) (λ back same. (Nothing, (same, refl), refl)),
   )
   blocks_are_made (Seen a) value words looks list fixed id t s h at = (
     tt,
-    makes defers fixed s id t (Inside t) (within t) (Seen a) h at (h.seats id (Inside t (Seen a)) at).known value words list (λ b. Both b value a) (λ b. refl)
+    makes defers fixed s id t (Inside t) (within t) (Seen a) h at (h.seats id (Inside t (Seen a)) at).known value words refl list (λ b. Both b value a) (λ b. refl)
         (λ b n made held. (made, held a (h.seats id (Inside t (Seen a)) at).known))
         (told defers (Inside t (Seen a)) (Make value words)) (λ b lt. (Both b value a, (lt, refl), refl)) (λ back same. (Seen a, (same, refl), refl)),
   )
@@ -224,7 +228,7 @@ module _ (T : Type 0) (defers : T → Option ℕ) where
   pub own_are_made : OwnAreMade T defers
   own_are_made value words list fixed id s h at = (
     tt,
-    makes defers fixed s id 0 alone_with alone_carries Nothing h at tt value words list (λ b. Made b value) (λ b. refl) (λ b n made held. made)
+    makes defers fixed s id 0 alone_with alone_carries Nothing h at tt value words refl list (λ b. Made b value) (λ b. refl) (λ b n made held. made)
         (told defers Rests (Make value words)) (λ b lt. (Made b value, (lt, refl), refl)) (λ back same. (Nothing, (same, refl), refl)),
   )
 

@@ -27,6 +27,7 @@ use Rattle.seize_views.specs.declared.view.Has.TheVariants.{Nothing}
 use Rattle.seize_views.specs.declared.view.Fixed.{Fixed}
 use Rattle.seize_views.specs.Resting.{open_leans}
 use Rattle.seize_views.proofs.Came.{reached}
+use Rattle.seize_views.proofs.Found.{found_on}
 use Rattle.seize_views.proofs.Handing.{Meeting, met}
 use Rattle.seize_views.proofs.Notes.{seen_at, goes, meets}
 use Rattle.seize_views.proofs.Roots.{root_held}
@@ -45,6 +46,10 @@ module _ {T : Type 0} (defers : T → Option ℕ) (fixed : Fixed) where
       one_use = refl;
       other_use = refl;
       one_hand = refl;
+      hands_on = λ c e. elim e as (λ _. hand_of u ≡ Some c) [
+        | inl mine ↦ absurd (cc mine)
+        | inr his ↦ his
+      ];
       other_hand = λ c e. inr e;
     }
 
@@ -57,16 +62,20 @@ module _ {T : Type 0} (defers : T → Option ℕ) (fixed : Fixed) where
       one_use = refl;
       other_use = refl;
       one_hand = refl;
+      hands_on = λ c e. elim e as (λ _. hand_of u ≡ Some c) [
+        | inl mine ↦ absurd (cc mine)
+        | inr his ↦ his
+      ];
       other_hand = λ c e. inr e;
     }
 
   -- a seat that has no row under way and no block in its hand goes on, and the memory stays as it is
   pub aside_on : (s : State T (View T) (World T)) (id : ℕ) (v x : View T) (h : Holds defers fixed s) (at : view_of s id ≡ Some v) → row_of v ≡ world.Rests
-      → row_of x ≡ world.Rests → use_of x ≡ use_of v → IsShort x → hand_of x ≡ None → IsKnown s.world x → IsBounded defers fixed s.world id x
+      → row_of x ≡ world.Rests → use_of x ≡ use_of v → IsShort x → hand_of v ≡ None → hand_of x ≡ None → IsKnown s.world x → IsBounded defers fixed s.world id x
       → (m : Mem T) → m ≡ s.memory → (so : View T → Type 0) → so x → Leads defers fixed s m id so
-  aside_on s id v x h at rests still same_use short hand known bounded m same so is =
+  aside_on s id v x h at rests still same_use short empty hand known bounded m same so is =
       users_on defers fixed s id 0 v x h at rests still same_use short m s.world Nothing (record {
-        came = h.came;
+        since = ([], refl);
         memory = same ∙ h.memory;
         row = refl;
         uses = refl;
@@ -79,12 +88,12 @@ module _ {T : Type 0} (defers : T → Option ℕ) (fixed : Fixed) where
         roots = subst (λ (x : Mem T). RootsNameLinked x s.world.hand) (sym same) h.roots;
         rooted = ap (λ (x : Mem T). length x.roots) same ∙ h.rooted;
         passes = λ j ne was now. ([], refl);
-      }) hand known bounded so is
+      }) (λ b. found_on defers fixed s id v h at None m (ap (λ (x : Mem T). x.roots) same) b (λ mine. absurd (cc (empty, mine)))) hand known bounded so is
 
   -- who watches sees what a root names
   looks : (s : State T (View T) (World T)) (id t b c : ℕ) (h : Holds defers fixed s) (at : view_of s id ≡ Some (Watches t b)) (m : Mem T) → m ≡ s.memory
       → (so : View T → Type 0) → so (Watches t c) → Leads defers fixed s m id so
-  looks s id t b c h at m same so is = aside_on s id (Watches t b) (Watches t c) h at refl refl refl tt refl tt tt m same so is
+  looks s id t b c h at m same so is = aside_on s id (Watches t b) (Watches t c) h at refl refl refl tt refl refl tt tt m same so is
 
   sees : (s : State T (View T) (World T)) (id t b r : ℕ) (h : Holds defers fixed s) (at : view_of s id ≡ Some (Watches t b)) (out : Out T) (m : Mem T)
       → Took s.memory (Load (Root r)) out m → Leads defers fixed s m id (told defers (Watches t b) (Load (Root r)) out)

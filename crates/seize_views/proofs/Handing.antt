@@ -2,17 +2,18 @@
 use Rattle.std.specs.Prelude.{◌≢◌, Option, Some, None, slice_get, slice_set}
 use Rattle.std.proofs.Common.{◌≡◌, ℕ, ◌⊎◌, inl, inr, refl, sym, subst, ap, ◌∙◌}
 use Rattle.std.proofs.lemmas.Bool.{cases_eq}
-use Rattle.seize.specs.World.{World}
+use Rattle.seize.specs.World.{World, Hand}
 use Rattle.seize_bounds.proofs.Given.SeizeActsAnswers.{same_some}
 use Rattle.seize_seats.specs.State.{State, view_of, Meets}
 use Rattle.seize_views.specs.Begun.{Hands}
 use Rattle.seize_views.specs.Promises.{BorneAreHandedOn}
-use Rattle.seize_views.specs.Rows.{use_of, hand_of, Fits, IsBounded, Holds}
+use Rattle.seize_views.specs.Rows.{use_of, hand_of, had_in, IsInSomeHand, Fits, IsBounded, Holds}
 use Rattle.seize_views.specs.declared.view.View.{View}
 use Rattle.seize_views.specs.declared.view.View.TheVariants.{Rests, Registers, Outside, Owes, Enters, Inside, Settles, Leaves, Left, Frees, Brings, Bears, Watches, Under, Busy}
 use Rattle.seize_views.specs.declared.view.Has.{Has}
 use Rattle.seize_views.specs.declared.view.Has.TheVariants.{Nothing, Made, Seen, Both, Cut}
 use Rattle.seize_views.specs.declared.view.Fixed.{Fixed}
+use Rattle.seize_views.proofs.Found.{found_at}
 use Rattle.seize_views.proofs.Lists.{there, elsewhere}
 
 module _ {T : Type 0} (defers : T → Option ℕ) (fixed : Fixed) (s : State T (View T) (World T)) (i j : ℕ) (v u : View T) (h : Holds defers fixed s)
@@ -26,9 +27,13 @@ module _ {T : Type 0} (defers : T → Option ℕ) (fixed : Fixed) (s : State T (
     pub one_use : use_of p ≡ use_of v
     pub other_use : use_of q ≡ use_of u
     pub one_hand : hand_of p ≡ None
+    pub hands_on : (b : ℕ) → (hand_of v ≡ Some b) ⊎ (hand_of u ≡ Some b) → hand_of q ≡ Some b
     pub other_hand : (b : ℕ) → hand_of q ≡ Some b → (hand_of v ≡ Some b) ⊎ (hand_of u ≡ Some b)
 
   module _ (p q : View T) (m : Meeting p q) where
+    abbrev after_meeting : State T (View T) (World T)
+    after_meeting = record { memory = s.memory; views = slice_set (slice_set s.views i p) j q; world = s.world }
+
     abbrev views : ℕ → Option (View T)
     views k = slice_get (slice_set (slice_set s.views i p) j q) k
 
@@ -92,6 +97,22 @@ module _ {T : Type 0} (defers : T → Option ℕ) (fixed : Fixed) (s : State T (
     one_hand k l b x y (IsThird ne ne2 e) (IsOther js f) a c = absurd (not_third k b x ne ne2 e a (ap hand_of f ∙ c))
     one_hand k l b x y (IsThird ne ne2 e) (IsThird ne3 ne4 f) a c = h.sole k l b x y e f a c
 
+    -- who has a block has it still, or the other one has it
+    has_still : (b : ℕ) (k : Hand) → IsInSomeHand s h.life.began b k → IsInSomeHand after_meeting h.life.began b k
+    has_still b k (inr was) = inr was
+    has_still b k (inl (l, x, e, has)) = by (cases_eq l j) (cases_eq l i)
+      where
+        is_view : (n : ℕ) (y : View T) → view_of s n ≡ Some y → l ≡ n → hand_of y ≡ Some b
+        is_view n y at same = ap hand_of (same_some y x (sym at ∙ ap (λ (a : ℕ). view_of s a) (sym same) ∙ e)) ∙ has
+
+        here : views j ≡ Some q
+        here = there (slice_set s.views i p) j q u (elsewhere s.views i j p (λ f. apart (sym f)) ∙ at_j)
+
+        by : (l ≡ j) ⊎ (l ≢ j) → (l ≡ i) ⊎ (l ≢ i) → IsInSomeHand after_meeting h.life.began b k
+        by (inl is) either = inl (j, q, here, m.hands_on b (inr (is_view j u at_j is)))
+        by (inr ne) (inl is) = inl (j, q, here, m.hands_on b (inl (is_view i v at_i is)))
+        by (inr ne) (inr ne2) = inl (l, x, elsewhere (slice_set s.views i p) j l q ne ∙ elsewhere s.views i l p ne2 ∙ e, has)
+
     fits : (k : ℕ) (x : View T) → Who k x → Fits s.world k x
     fits k x (IsOne is e) = subst (λ (n : ℕ). Fits s.world n x) (sym is) (subst (λ (y : View T). Fits s.world i y) e m.one)
     fits k x (IsOther is e) = subst (λ (n : ℕ). Fits s.world n x) (sym is) (subst (λ (y : View T). Fits s.world j y) e m.other)
@@ -116,6 +137,9 @@ module _ {T : Type 0} (defers : T → Option ℕ) (fixed : Fixed) (s : State T (
       sole = λ k l b x y e f a c. one_hand k l b x y (who k x e) (who l y f) a c;
       roots = h.roots;
       rooted = h.rooted;
+      life = h.life;
+      found = λ b. found_at s.memory s.memory b (IsInSomeHand s h.life.began b) (IsInSomeHand after_meeting h.life.began b) refl (has_still b)
+          (s.world.hand b) (h.found b);
       bounded = λ k x e. bound k x (who k x e);
     }
 
@@ -134,15 +158,19 @@ module _ {T : Type 0} (defers : T → Option ℕ) (fixed : Fixed) (i j t b : ℕ
           one_use = refl;
           other_use = refl;
           one_hand = refl;
+          hands_on = λ c e. elim e as (λ _. hand_of {T = T} (Owes t b) ≡ Some c) [
+            | inl mine ↦ mine
+            | inr his ↦ absurd (cc his)
+          ];
           other_hand = λ c e. inl e;
         }),
         (refl, refl),
       )
 
   -- who is within one has it in its hand
-  cuts : (has : Has T) (s : State T (View T) (World T)) → Holds defers fixed s → view_of s i ≡ Some (Bears b) → view_of s j ≡ Some (Inside t has) → i ≢ j
+  cuts : (has : Has T) → had_in has ≡ None → (s : State T (View T) (World T)) → Holds defers fixed s → view_of s i ≡ Some (Bears b) → view_of s j ≡ Some (Inside t has) → i ≢ j
       → Holds defers fixed record { memory = s.memory; views = slice_set (slice_set s.views i Rests) j (Inside t (Cut b)); world = s.world }
-  cuts has s h at_i at_j apart =
+  cuts has empty s h at_i at_j apart =
       let f = h.seats i (Bears b) at_i in let g = h.seats j (Inside t has) at_j in
       met defers fixed s i j (Bears b) (Inside t has) h at_i at_j apart Rests (Inside t (Cut b)) (record {
         one = record { row = f.row; slot = tt; short = tt; known = tt };
@@ -152,6 +180,10 @@ module _ {T : Type 0} (defers : T → Option ℕ) (fixed : Fixed) (i j t b : ℕ
         one_use = refl;
         other_use = refl;
         one_hand = refl;
+        hands_on = λ c e. elim e as (λ _. hand_of {T = T} (Inside t (Cut b)) ≡ Some c) [
+          | inl mine ↦ mine
+          | inr his ↦ absurd (cc (empty, his))
+        ];
         other_hand = λ c e. inl e;
       })
 
@@ -159,9 +191,9 @@ module _ (T : Type 0) (defers : T → Option ℕ) where
   pub borne_are_handed_on : BorneAreHandedOn T defers
   borne_are_handed_on fixed i j b (Outside t) takes = owes defers fixed i j t b
   borne_are_handed_on fixed i j b (Inside t Nothing) takes =
-      λ s h at_i at_j apart. (Rests, Inside t (Cut b), cuts defers fixed i j t b Nothing s h at_i at_j apart, (refl, refl))
+      λ s h at_i at_j apart. (Rests, Inside t (Cut b), cuts defers fixed i j t b Nothing refl s h at_i at_j apart, (refl, refl))
   borne_are_handed_on fixed i j b (Inside t (Seen a)) takes =
-      λ s h at_i at_j apart. (Rests, Inside t (Cut b), cuts defers fixed i j t b (Seen a) s h at_i at_j apart, (refl, refl))
+      λ s h at_i at_j apart. (Rests, Inside t (Cut b), cuts defers fixed i j t b (Seen a) refl s h at_i at_j apart, (refl, refl))
   borne_are_handed_on fixed i j b (Inside t (Made c x)) takes = absurd takes
   borne_are_handed_on fixed i j b (Inside t (Both c x a)) takes = absurd takes
   borne_are_handed_on fixed i j b (Inside t (Cut c)) takes = absurd takes

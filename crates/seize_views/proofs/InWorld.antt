@@ -4,7 +4,7 @@ use Rattle.std.proofs.Common.{◌≡◌, ℕ, ◌+◌, ◌<◌, List, ◌⊎◌,
 use Rattle.seize_words.specs.Mem.{Mem, Can, Took}
 use Rattle.seize_words.specs.Op.{Op, Out}
 use Rattle.seize.specs.declared.states.TheConstants.{LAST_SLOT}
-use Rattle.seize.specs.World.{World, Row, Rests, Use, Vacant, InUse, Event, Begin, Request, Register', Enter', Leave', LeaveOwned, Refresh, Unregister', Retire, Flush, Defer', Runs, Steps', Happens, MayStep, at_start, one_less}
+use Rattle.seize.specs.World.{World, Row, Rests, Use, Vacant, InUse, Handed, Event, Begin, Request, Register', Enter', Leave', LeaveOwned, Refresh, Unregister', Retire, Flush, Defer', Runs, Steps', Happens, MayStep, at_start, one_less}
 use Rattle.seize_bounds.proofs.Given.SeizeRuleWorld.Kept.{rows_may}
 use Rattle.seize_bounds.proofs.Given.SeizeAloneHistories.Reached.{Reached}
 use Rattle.seize_bounds.specs.Given.SeizeActsActs.{begun}
@@ -127,6 +127,7 @@ module _ {T : Type 0} (defers : T → Option ℕ) (fixed : Fixed) where
     pub memory : n.memory ≡ w.memory
     pub log : n.log ≡ w.log
     pub hand : (b : ℕ) → (hand_of v ≡ Some b → ⊥) → n.hand b ≡ w.hand b
+    pub handed : (b : ℕ) → hand_of v ≡ Some b → n.hand b ≡ Handed
     pub linked : (b r : ℕ) → w.hand b ≡ InUse r → n.hand b ≡ InUse r
     pub rows : (j : ℕ) → (j ≡ i → ⊥) → n.row j ≡ w.row j
     pub uses : (t : ℕ) → ((a : Use) → use_of v ≡ Some (t, a) → ⊥) → n.uses t ≡ w.uses t

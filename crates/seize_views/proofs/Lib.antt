@@ -2,6 +2,7 @@ pub mod Aside
 pub mod Lists
 pub mod Reclaims
 pub mod Came
+pub mod Found
 pub mod Moved
 pub mod Steps
 pub mod InWorld
@@ -27,4 +28,5 @@ pub mod Notes
 pub mod Guarding
 pub mod Passing
 mod Contents
+mod Values
 pub mod Given

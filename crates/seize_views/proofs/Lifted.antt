@@ -50,7 +50,7 @@ module _ {T : Type 0} (defers : T → Option ℕ) (fixed : Fixed) (s : State T (
           | inr free ↦ not_vacant x t a p (sym (used_so s.world (use_of x) t a (h.seats j x e).slot p) ∙ free.0)
         ]
 
-    went : Moved defers fixed s id u m n
+    went : Moved defers fixed s id h.life.began u m n
     went =
         stepped defers fixed s id v h at_id u m n g.step g.memory
         (record { row = g.row; slot = used_like n (use_of u) g.used; short = g.short; known = g.known }) lone g.none g.bounded
@@ -72,5 +72,5 @@ module _ {T : Type 0} (defers : T → Option ℕ) (fixed : Fixed) (s : State T (
   begins so (u, n, request, g, is) =
       moved defers fixed s id v u s.memory n so h at_id
       (begun defers fixed s id v h at_id request u n g.happens g.memory g.log (λ j b x ne e q. g.hand b (λ k. ne (h.sole j id b x v e at_id q k))) g.none g.linked
-      g.rows g.uses (record { row = g.row; slot = used_like n (use_of u) g.used; short = g.short; known = g.known }) g.slot g.bounded)
+      g.rows g.uses (record { row = g.row; slot = used_like n (use_of u) g.used; short = g.short; known = g.known }) g.slot g.bounded g.hand g.handed)
       is

@@ -4,16 +4,16 @@ use Rattle.std.proofs.Common.{◌≡◌, ℕ, List, ◌⊎◌, true, inl, inr, r
 use Rattle.std.proofs.lemmas.Bool.{cases_eq}
 use Rattle.seize_words.specs.Mem.{Mem, value_at}
 use Rattle.seize.specs.Law.{holds, is_over}
-use Rattle.seize.specs.World.{World, Row, Use, Hand, Vacant, Event, MayStep, IsInside}
+use Rattle.seize.specs.World.{World, Row, Use, Hand, Vacant, Event, MayStep, IsInside, at_start}
 use Rattle.seize.specs.World as world
 use Rattle.seize_bounds.proofs.Given.SeizeRuleWorld.Kept.{rows_may}
 use Rattle.seize_bounds.specs.Given.SeizeAloneAlone.{IsOfUsers}
 use Rattle.seize_bounds.proofs.Given.SeizeAloneHistories.NotTaken.{IsHad, kept_there}
 use Rattle.seize_bounds.proofs.Given.SeizeActsAnswers.{same_some}
-use Rattle.seize_seats.specs.State.{State, view_of}
+use Rattle.seize_seats.specs.State.{State, view_of, after}
 use Rattle.seize_bounds.specs.Bounds.{HasCounted, HasTried, IsAloneOnSlot, Meanwhile}
 use Rattle.seize_views.specs.Rows.{Leads}
-use Rattle.seize_views.specs.Rows.{use_of, row_of, hand_of, had_in, settles_for, IsUsed, IsMade, IsInHand, IsKnown, RootsNameLinked, Fits, Came, IsBounded, Holds, Keeps}
+use Rattle.seize_views.specs.Rows.{use_of, row_of, hand_of, had_in, settles_for, IsUsed, IsMade, IsInHand, IsKnown, RootsNameLinked, IsInSomeHand, Fits, Since, Came, IsBounded, Holds, Keeps}
 use Rattle.seize_views.specs.declared.view.View.{View}
 use Rattle.seize_views.specs.declared.view.View.TheVariants.{Rests, Registers, Outside, Owes, Enters, Inside, Settles, Leaves, Left, Frees, Brings, Bears, Watches, Under, Busy}
 use Rattle.seize_views.specs.declared.view.Has.{Has}
@@ -22,7 +22,8 @@ use Rattle.seize_views.specs.declared.view.Why.TheVariants.{Retiring, Ending}
 use Rattle.seize_views.specs.declared.view.Becomes.TheVariants.{Idle, Active}
 use Rattle.seize_views.specs.declared.view.Fixed.{Fixed}
 use Rattle.seize_views.proofs.Aside.{alone_on_slot}
-use Rattle.seize_views.proofs.Came.{of_users, reached}
+use Rattle.seize_views.proofs.Came.{of_users, reached, since_both}
+use Rattle.seize_views.proofs.Found.{HasNow, AreFound, found_at, some_has}
 use Rattle.seize_bounds.proofs.Bounds.Passing.{still_within}
 use Rattle.seize_views.proofs.Lists.{there, elsewhere}
 use Rattle.seize_views.proofs.Reclaims.{reclaiming_there}
@@ -111,9 +112,9 @@ module _ {T : Type 0} (defers : T → Option ℕ) (fixed : Fixed) (s : State T (
       (j : ℕ) → j ≢ id → IsAloneOnSlot j s.world → IsAloneOnSlot j n
       → (events : List (Event T)) × Meanwhile defers (IsAloneOnSlot j) fixed.batch_size j events s.world n
 
-  -- the seat has come to this view, this memory and this world, and the others know what they knew
-  pub record Moved (u : View T) (m : Mem T) (n : World T) : Type 0 where
-    pub came : Came defers fixed n
+  -- The seat has come to this view, this memory and this world, and the others know what they knew. The present lifetime began with that world.
+  pub record Moved (began : World T) (u : View T) (m : Mem T) (n : World T) : Type 0 where
+    pub since : Since defers fixed s.world n
     pub memory : m ≡ n.memory
     pub rows : (j : ℕ) → j ≢ id → n.row j ≡ s.world.row j
     pub own : Fits n id u
@@ -126,15 +127,19 @@ module _ {T : Type 0} (defers : T → Option ℕ) (fixed : Fixed) (s : State T (
     pub over : (t b : ℕ) → holds t b s.world.log ≡ true → is_over b n.log ≡ is_over b s.world.log
     pub roots : RootsNameLinked m n.hand
     pub rooted : length m.roots ≡ fixed.roots
+    pub found : AreFound s id began (hand_of u) m n.hand
     pub passes : Passes n
     pub bounded : IsBounded defers fixed n id u
 
-  module _ (v u : View T) (m : Mem T) (n : World T) (so : View T → Type 0) (h : Holds defers fixed s) (at : view_of s id ≡ Some v) (mo : Moved u m n) where
+  module _ (v u : View T) (m : Mem T) (n : World T) (so : View T → Type 0) (h : Holds defers fixed s) (at : view_of s id ≡ Some v) (mo : Moved h.life.began u m n) where
+    came_now : Came defers fixed n
+    came_now = since_both defers fixed (at_start defers fixed.roots) s.world n h.came mo.since
+
     -- a block that it has made is there, with its value
     made : (b : ℕ) (x : T) → n.hand b ≡ s.world.hand b → IsMade s.world b x → IsMade n b x
     made b x same is =
         let mine : n.hand b ≡ world.Making is.0.0 = same ∙ is.0.1 in
-        let there = kept_there defers fixed.batch_size n (reached defers fixed n mo.came) b (IsHad (of_users n.hand b (world.Making is.0.0) tt mine)) in
+        let there = kept_there defers fixed.batch_size n (reached defers fixed n came_now) b (IsHad (of_users n.hand b (world.Making is.0.0) tt mine)) in
         ((is.0.0, mine), mo.values b (subst IsSome (sym is.1) refl) there ∙ is.1)
 
     known : (j : ℕ) (x : View T) → j ≢ id → view_of s j ≡ Some x → n.row j ≡ row_of x → Fits s.world j x → IsKnown n x
@@ -147,7 +152,7 @@ module _ {T : Type 0} (defers : T → Option ℕ) (fixed : Fixed) (s : State T (
     known j (Settles c why None left) ne e row f = tt
     known j (Settles c why (Some seen) left) ne e row f =
         let may : MayStep defers (settles_for why c) n.memory =
-        subst (λ (r : Row). MayStep defers r n.memory) row (rows_may defers fixed.batch_size fixed.roots mo.came.0 n mo.came.1 j) in
+        subst (λ (r : Row). MayStep defers r n.memory) row (rows_may defers fixed.batch_size fixed.roots came_now.0 n came_now.1 j) in
         let some : IsSome (value_at n.memory seen.0) =
         subst (λ (b : ℕ). IsSome (value_at n.memory b)) (sym f.known.1) (reclaiming_there defers c why n.memory may f.known.0) in
         (f.known.0, f.known.1, mo.values seen.0 (subst IsSome (sym f.known.2) refl) some ∙ f.known.2)
@@ -192,7 +197,7 @@ module _ {T : Type 0} (defers : T → Option ℕ) (fixed : Fixed) (s : State T (
       u,
       n,
       record {
-        came = mo.came;
+        came = came_now;
         memory = mo.memory;
         seats = λ j x e. fit j x e (cases_eq j id);
         unborn = λ j e. none j e (cases_eq j id);
@@ -200,6 +205,14 @@ module _ {T : Type 0} (defers : T → Option ℕ) (fixed : Fixed) (s : State T (
         sole = λ j k b x y e f p q. one j k b x y e f p q (cases_eq j id) (cases_eq k id);
         roots = mo.roots;
         rooted = mo.rooted;
+        life = record {
+          began = h.life.began;
+          past = h.life.past;
+          idle = h.life.idle;
+          since = since_both defers fixed h.life.began s.world n h.life.since mo.since;
+        };
+        found = λ b. found_at m m b (HasNow s id h.life.began (hand_of u) b) (IsInSomeHand (after s m id u n) h.life.began b) refl
+            (some_has s id h.life.began v u at m n b) (n.hand b) (mo.found b);
         bounded = λ j x e. bound_at j x e (cases_eq j id);
       },
       (λ j k b x o ne ne2 e f keeps. still j b x o ne e keeps),
@@ -243,14 +256,14 @@ module _ {T : Type 0} (defers : T → Option ℕ) (fixed : Fixed) (s : State T (
         one j k b x y e f p q (inr ne) (inr ne2) = h.sole j k b x y (before j x ne e) (before k y ne2 f) p q
 
         -- nobody settles on another one's slot then, either
-        after : (j : ℕ) → IsAloneOnSlot j n
-        after j = alone_on_slot n (slice_get (slice_set s.views id u)) (λ i x e. (fit i x e (cases_eq i id)).row) (λ i e. none i e (cases_eq i id))
+        alone_then : (j : ℕ) → IsAloneOnSlot j n
+        alone_then j = alone_on_slot n (slice_get (slice_set s.views id u)) (λ i x e. (fit i x e (cases_eq i id)).row) (λ i e. none i e (cases_eq i id))
             (λ i k t a b x y e f p q. two i k t a b x y e f p q (cases_eq i id) (cases_eq k id)) j
 
         bound_at : (j : ℕ) (x : View T) → slice_get (slice_set s.views id u) j ≡ Some x → (j ≡ id) ⊎ (j ≢ id) → IsBounded defers fixed n j x
         bound_at j x e (inl same) =
             subst (λ (y : View T). IsBounded defers fixed n j y) (own j x same e) (subst (λ (k : ℕ). IsBounded defers fixed n k u) (sym same) mo.bounded)
-        bound_at j x e (inr ne) = bound j x ne (after j) (h.bounded j x (before j x ne e))
+        bound_at j x e (inr ne) = bound j x ne (alone_then j) (h.bounded j x (before j x ne e))
 
         still : (j b : ℕ) (x o : View T) → j ≢ id → view_of s j ≡ Some x → Keeps x o s.world b → Keeps x o n b
         still j b x o ne e keeps =

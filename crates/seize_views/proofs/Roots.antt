@@ -9,7 +9,7 @@ use Rattle.seize_words.specs.Word.{block_in}
 use Rattle.seize_words.specs.Op.{Out, Load, Swap, Or, Exchange, Found, Stored, Exchanged, Made as OutMade, Taken, Roomed}
 use Rattle.seize_words.specs.declared.at.At.TheVariants.{Root}
 use Rattle.seize.specs.Law.{Effect, Linked, holds, is_over, is_open, reachable, is_somewhere}
-use Rattle.seize.specs.World.{World, Use, Hand, Links, IsInside, with_hand, with_effect}
+use Rattle.seize.specs.World.{World, Use, Hand, Links, IsInside, with_at, with_hand, with_effect}
 use Rattle.seize.specs.World as world
 use Rattle.seize_bounds.proofs.Given.SeizeMovesState.Ghost.{Life, IsLinked, emptied, place_of}
 use Rattle.seize_bounds.proofs.Given.SeizeRulePoints.Aside.{HandFits}
@@ -18,6 +18,7 @@ use Rattle.seize_bounds.proofs.Given.SeizeMovesState.Logs.{reached_held}
 use Rattle.seize_bounds.proofs.Given.SeizeRuleRows.Others.{with_here, with_other}
 use Rattle.seize_bounds.proofs.Given.SeizeRuleRows.Teams.{UseFits}
 use Rattle.seize_bounds.proofs.Given.SeizeAloneHistories.Reached.{Reached}
+use Rattle.seize_bounds.proofs.Given.SeizeActsAnswers.{same_some}
 use Rattle.seize_seats.specs.State.{State, view_of}
 use Rattle.seize_views.specs.Rows.{Leads, TurnsTo}
 use Rattle.seize_views.specs.Rows.{had_in, IsMade, IsInHand, RootsNameLinked, Holds}
@@ -28,11 +29,12 @@ use Rattle.seize_views.specs.declared.view.View.TheVariants.{Outside, Owes, Insi
 use Rattle.seize_views.specs.declared.view.Has.{Has}
 use Rattle.seize_views.specs.declared.view.Has.TheVariants.{Nothing, Made, Seen, Both, Cut}
 use Rattle.seize_views.specs.declared.view.Fixed.{Fixed}
-use Rattle.seize_views.proofs.Came.{reached, came_then}
+use Rattle.seize_views.proofs.Came.{reached, since_then}
+use Rattle.seize_views.proofs.Found.{found_on, linked_some}
 use Rattle.seize_views.proofs.Moved.{inside_of}
 use Rattle.seize_views.proofs.Users.{use_making, making_use}
 use Rattle.seize_views.proofs.Users.{beside, making_not_held, passes_then, Carries, within, alone_carries, users, users_outside, users_owe}
-use Rattle.seize_views.proofs.Written.{Wrote, Cuts, wrote, rooted_still, roots_now, fresh, root_can, unlinked, clears}
+use Rattle.seize_views.proofs.Written.{Wrote, Cuts, wrote, rooted_still, roots_now, written, FoundIn, found_but, fresh, root_can, unlinked, clears}
 
 -- bits of the tag leave the block of a word as it is
 marked_block : (word bits : ℕ) → bits < 2 ^ 11 → block_in (bit_or word bits) ≡ block_in word
@@ -108,12 +110,15 @@ module _ {T : Type 0} (defers : T → Option ℕ) (fixed : Fixed) (s : State T (
   r : Reached defers fixed.batch_size w
   r = reached defers fixed w h.came
 
+  abbrev IsFoundIn : Mem T → Option ℕ → ℕ → Hand → Type 0
+  IsFoundIn m o b k = FoundIn defers fixed s id (place had) h at m o b k
+
   -- what is known of blocks changes, and nothing else
   looks : (m : Mem T) (has : Has T) → m ≡ s.memory → IsInHand w t has → had_in has ≡ had_in had → (so : View T → Type 0) → so (place has)
       → Leads defers fixed s m id so
   looks m has same known still so is =
       users defers fixed s id t h place carries had at m w has (record {
-        came = h.came;
+        since = ([], refl);
         memory = same ∙ h.memory;
         row = refl;
         uses = refl;
@@ -126,13 +131,13 @@ module _ {T : Type 0} (defers : T → Option ℕ) (fixed : Fixed) (s : State T (
         roots = subst (λ (x : Mem T). RootsNameLinked x w.hand) (sym same) h.roots;
         rooted = ap (λ (x : Mem T). length x.roots) same ∙ h.rooted;
         passes = λ j ne was now. ([], refl);
-      }) so is
+      }) (λ b. found_on defers fixed s id (place had) h at (had_in has) m (ap (λ (x : Mem T). x.roots) same) b (λ mine. still ∙ sym (carries.hand had) ∙ mine)) so is
 
   -- the block that is taken from a root is in the seat's hand
-  cuts : (a old : ℕ) (m : Mem T) (so : View T → Type 0) → so (place (cut_in old)) → Cuts defers fixed s id t m old so
+  cuts : (a old : ℕ) (m : Mem T) (so : View T → Type 0) → so (place (cut_in old)) → Cuts defers fixed s id h.life.began t m old so
   cuts a old m so is = record {
-    none = λ e n u. users defers fixed s id t h place carries had at m n Nothing u so (at_view true e);
-    cut = λ e n u. users defers fixed s id t h place carries had at m n (Cut (block_in old)) u so (at_view false e);
+    none = λ e n u found. users defers fixed s id t h place carries had at m n Nothing u found so (at_view true e);
+    cut = λ e n u found. users defers fixed s id t h place carries had at m n (Cut (block_in old)) u found so (at_view false e);
   }
     where
       at_view : (y : Bool) → (block_in old == 0) ≡ y → so (place (if y then Nothing else Cut (block_in old)))
@@ -151,7 +156,7 @@ module _ {T : Type 0} (defers : T → Option ℕ) (fixed : Fixed) (s : State T (
       (λ c e ne f. other c (world.InUse e) (use_making e i) f) in
       let is_new : (block_in word ≡ 0) ⊎ (block_in word ≢ block_in old) = new_block old mine was (cases_eq b 0) in
       unlinked defers fixed s id (place had) h at t a old m n so (cuts a old m so tells) (record {
-        came = came_then defers fixed (record w { memory = m }) n (Links id b a) wrote.came ((i, mine), refl);
+        since = since_then defers fixed w (record w { memory = m }) n (Links id b a) wrote.since ((i, mine), refl);
         memory = refl;
         row = refl;
         uses = refl;
@@ -165,8 +170,22 @@ module _ {T : Type 0} (defers : T → Option ℕ) (fixed : Fixed) (s : State T (
         roots = named;
         rooted = rooted_still defers fixed s id (place had) h at a word old m wrote;
         passes = passes_then defers fixed s id t (record w { memory = m }) n (Links id b a) tt (λ j. tt) wrote.passes ((i, mine), refl);
-      }) named (λ c f. other c (world.InUse a) (use_making a i) f) was (fresh defers fixed s id (place had) h at a word old m wrote was is_new)
+      }) named (λ c. found_then c (cases_eq c b)) (λ c f. other c (world.InUse a) (use_making a i) f) was (fresh defers fixed s id (place had) h at a word old m wrote was is_new)
     where
+      -- it is named there, and each other one is found but the one that was there
+      found_then : (c : ℕ) → (c ≡ b) ⊎ (c ≢ b) → IsFoundIn m None c (with_at w.hand b (world.InUse a) c) ⊎ ((block_in old ≡ c) × (c ≢ 0))
+      found_then c (inl is) =
+          inl (subst (λ (k : Hand). IsFoundIn m None c k) (sym (ap (with_at w.hand b (world.InUse a)) is ∙ with_here w.hand b (world.InUse a)))
+          (word, written defers fixed s id (place had) h at a word old m wrote, names ∙ sym is))
+      found_then c (inr ne) =
+          but_old (found_but defers fixed s id (place had) h at a word old m wrote None c
+          (λ e. absurd (ne (same_some c b (sym e ∙ carries.hand had ∙ had_it)))))
+        where
+          but_old : IsFoundIn m None c (w.hand c) ⊎ ((block_in old ≡ c) × (w.hand c ≡ world.InUse a))
+              → IsFoundIn m None c (with_at w.hand b (world.InUse a) c) ⊎ ((block_in old ≡ c) × (c ≢ 0))
+          but_old (inl f) = inl (subst (λ (k : Hand). IsFoundIn m None c k) (sym (with_other w.hand b c (world.InUse a) ne)) f)
+          but_old (inr is) = inr (is.0, linked_some defers fixed s id (place had) h at c a is.1)
+
       new_block : (old : ℕ) → w.hand b ≡ world.Making i → (block_in old ≡ 0) ⊎ (w.hand (block_in old) ≡ world.InUse a) → (b ≡ 0) ⊎ (b ≢ 0)
           → (block_in word ≡ 0) ⊎ (block_in word ≢ block_in old)
       new_block old mine was (inl z) = inl (names ∙ z)
@@ -216,7 +235,7 @@ module _ {T : Type 0} (defers : T → Option ℕ) (fixed : Fixed) (s : State T (
       roots_now defers fixed s id (place had) h at a new word m n.hand over (same_named word new (marked_block word bits small) (h.roots a word took.0)) (λ c e ne f. f) in
       let still : had_in (seen_in word) ≡ had_in had = seen_hand T (block_in word) (block_in word == 0) ∙ sym none in
       users defers fixed s id t h place carries had at m n (seen_in word) (record {
-        came = over.came;
+        since = over.since;
         memory = refl;
         row = refl;
         uses = refl;
@@ -229,8 +248,21 @@ module _ {T : Type 0} (defers : T → Option ℕ) (fixed : Fixed) (s : State T (
         roots = named;
         rooted = rooted_still defers fixed s id (place had) h at a new word m over;
         passes = over.passes;
-      }) so is
+      }) (λ b. found_marked b (found_but defers fixed s id (place had) h at a new word m over (had_in {T = T} (seen_in word)) b (λ e. still ∙ sym (carries.hand had) ∙ e)))
+      so is
     where
+      -- a block that the root has named it names still
+      found_marked : (b : ℕ) → IsFoundIn m (had_in {T = T} (seen_in word)) b (w.hand b) ⊎ ((block_in word ≡ b) × (w.hand b ≡ world.InUse a))
+          → IsFoundIn m (had_in {T = T} (seen_in word)) b (w.hand b)
+      found_marked b (inl f) = f
+      found_marked b (inr is) =
+          subst (λ (k : Hand). IsFoundIn m (had_in {T = T} (seen_in word)) b k) (sym is.1) (
+            bit_or word bits,
+            written defers fixed s id (place had) h at a (bit_or word bits) word m
+                (wrote defers fixed s id (place had) h at a (bit_or word bits) word m (Or (Root a) bits) (Found word) tt took took.0 took.1),
+            marked_block word bits small ∙ is.0,
+          )
+
       same_named : (word new : ℕ) → block_in new ≡ block_in word → (block_in word ≡ 0) ⊎ (w.hand (block_in word) ≡ world.InUse a)
           → (block_in new ≡ 0) ⊎ (w.hand (block_in new) ≡ world.InUse a)
       same_named word new same (inl none) = inl (same ∙ none)
@@ -371,7 +403,7 @@ module _ (T : Type 0) (defers : T → Option ℕ) where
       by : (out : Out T) (m : Mem T) → Took s.memory (Swap (Root a) 0) out m
           → Leads defers fixed s m id (told defers (Inside t Nothing) (Swap (Root a) 0) out)
       by (Found old) m took =
-          clears defers fixed s id (Inside t Nothing) h at t a old m
+          clears defers fixed s id (Inside t Nothing) h at t a old m refl
           (wrote defers fixed s id (Inside t Nothing) h at a 0 old m (Swap (Root a) 0) (Found old) tt took took.0 took.1)
           (told defers (Inside t Nothing) (Swap (Root a) 0) (Found old))
           (cuts defers fixed s id t (Inside t) (within t) Nothing h at a old m (told defers (Inside t Nothing) (Swap (Root a) 0) (Found old)) (cut_in old, refl, refl))
@@ -384,11 +416,11 @@ module _ (T : Type 0) (defers : T → Option ℕ) where
   pub roots_are_withdrawn : RootsAreWithdrawn T defers
   roots_are_withdrawn a fixed id t lt s h at = (root_can defers fixed s id (Outside t) h at a lt, λ out m took. by out m took)
     where
-      owes : (old : ℕ) (m : Mem T) → Cuts defers fixed s id t m old (told defers (Outside t) (Swap (Root a) 0) (Found old))
+      owes : (old : ℕ) (m : Mem T) → Cuts defers fixed s id h.life.began t m old (told defers (Outside t) (Swap (Root a) 0) (Found old))
       owes old m = record {
-        none = λ e n u. users_outside defers fixed s id t h at m n u (told defers (Outside t) (Swap (Root a) 0) (Found old)) (at_view true e);
-        cut = λ e n u.
-            users_owe defers fixed s id t h at m n (block_in old) u (told defers (Outside t) (Swap (Root a) 0) (Found old)) (at_view false e);
+        none = λ e n u found. users_outside defers fixed s id t h at m n u found (told defers (Outside t) (Swap (Root a) 0) (Found old)) (at_view true e);
+        cut = λ e n u found.
+            users_owe defers fixed s id t h at m n (block_in old) u found (told defers (Outside t) (Swap (Root a) 0) (Found old)) (at_view false e);
       }
         where
           at_view : (y : Bool) → (block_in old == 0) ≡ y
@@ -398,7 +430,7 @@ module _ (T : Type 0) (defers : T → Option ℕ) where
       by : (out : Out T) (m : Mem T) → Took s.memory (Swap (Root a) 0) out m
           → Leads defers fixed s m id (told defers (Outside t) (Swap (Root a) 0) out)
       by (Found old) m took =
-          clears defers fixed s id (Outside t) h at t a old m
+          clears defers fixed s id (Outside t) h at t a old m refl
           (wrote defers fixed s id (Outside t) h at a 0 old m (Swap (Root a) 0) (Found old) tt took took.0 took.1)
           (told defers (Outside t) (Swap (Root a) 0) (Found old)) (owes old m)
       by Stored m took = absurd took.0

@@ -10,7 +10,7 @@ use Rattle.seize.specs.Sequence.{taken_in}
 use Rattle.seize.specs.Law.{Effect, Entered, Left as LeftSlot, Made, Linked, Unlinked, Deferred, Retired, Taken, Dropped, Ended, LeftOver, holds, is_over}
 use Rattle.seize.specs.World.{World, Row, Use, Hand, Vacant, Begin, Step, Request, Steps', Happens, times}
 use Rattle.seize.specs.World as world
-use Rattle.seize_bounds.proofs.Given.SeizeRuleRows.Effects.{IsOneStep}
+use Rattle.seize_bounds.proofs.Given.SeizeRuleRows.Effects.{IsOneStep, hand_kept, taken_hand}
 use Rattle.seize_bounds.proofs.Given.SeizeRuleRows.Known.{works_on, registering_on}
 use Rattle.seize_bounds.specs.Given.SeizeAloneAlone.{IsOfUsers}
 use Rattle.seize_bounds.proofs.Given.SeizeAloneSpared.Rows.{RowStepped}
@@ -18,12 +18,13 @@ use Rattle.seize_bounds.proofs.Given.SeizeAloneHistories.Reached.{Reached}
 use Rattle.seize_bounds.proofs.Given.SeizeAloneHistories.NotTaken.{IsHad, still_held, kept_hand, taken_gone, did}
 use Rattle.seize_bounds.proofs.Given.SeizeAloneHistories.Uses.{uses_kept}
 use Rattle.seize_seats.specs.State.{State, view_of}
-use Rattle.seize_views.specs.Rows.{row_of, use_of, hand_of, used_for, IsSeeking, IsShort, IsUsed, RootsNameLinked, Fits, IsBounded, Holds}
+use Rattle.seize_views.specs.Rows.{row_of, use_of, hand_of, used_for, IsSeeking, IsShort, IsUsed, RootsNameLinked, IsFound, Fits, IsBounded, Holds}
 use Rattle.seize_views.specs.declared.view.View.{View}
 use Rattle.seize_views.specs.declared.view.View.TheVariants.{Rests, Registers, Outside, Owes, Enters, Inside, Settles, Leaves, Left, Frees, Brings, Bears, Watches, Under, Busy}
 use Rattle.seize_views.specs.declared.view.Why.TheVariants.{Retiring, Ending}
 use Rattle.seize_views.specs.declared.view.Fixed.{Fixed}
-use Rattle.seize_views.proofs.Came.{of_users, reached, came_then}
+use Rattle.seize_views.proofs.Came.{of_users, reached, since_one}
+use Rattle.seize_views.proofs.Found.{HasNow, has_or_not, found_on}
 use Rattle.seize_views.proofs.Moved.{Moved, hand_users, not_vacant, used_so, still_used}
 
 -- one step of a row ends no block's owner
@@ -70,6 +71,24 @@ works_on_own (Watches s b) short t e = absurd (omega (arith, e))
 works_on_own (Under n s b) short t e = absurd (omega (arith, e))
 works_on_own (Busy s) short t e = absurd (omega (arith, e))
 
+-- who has a row under way has no block in its hand
+no_hand : {T : Type 0} (defers : T → Option ℕ) (id : ℕ) (v : View T) (w n : World T) → Steps' defers id (row_of v) w n → hand_of v ≡ None
+no_hand defers id Rests w n step = absurd step
+no_hand defers id (Registers c) w n step = refl
+no_hand defers id (Outside t) w n step = absurd step
+no_hand defers id (Owes t b) w n step = absurd step
+no_hand defers id (Enters t) w n step = refl
+no_hand defers id (Inside t has) w n step = absurd step
+no_hand defers id (Settles c why seen left) w n step = refl
+no_hand defers id (Leaves t size way) w n step = refl
+no_hand defers id (Left t size way) w n step = refl
+no_hand defers id (Frees t) w n step = refl
+no_hand defers id (Brings b x) w n step = absurd step
+no_hand defers id (Bears b) w n step = absurd step
+no_hand defers id (Watches t b) w n step = absurd step
+no_hand defers id (Under m t b) w n step = absurd step
+no_hand defers id (Busy t) w n step = absurd step
+
 module _ {T : Type 0} where
   -- the roots are as they were, and what was linked at them is
   pub roots_kept : (m m2 : Mem T) (hand hand2 : ℕ → Hand) → m2.roots ≡ m.roots → ((b r : ℕ) → hand b ≡ world.InUse r → hand2 b ≡ world.InUse r)
@@ -96,6 +115,10 @@ module _ {T : Type 0} (defers : T → Option ℕ) (fixed : Fixed) (s : State T (
     (at_id : view_of s id ≡ Some v) where
   abbrev w : World T
   w = s.world
+
+  -- who has a block then, or had it
+  abbrev Now : View T → ℕ → Hand → Type 0
+  Now u b k = HasNow s id h.life.began (hand_of u) b k
 
   -- the other seats have their slots as before
   pub others : (n : World T) → ((t : ℕ) → (w.uses t ≡ Vacant → ⊥) → ((a : Use) → use_of v ≡ Some (t, a) → ⊥) → n.uses t ≡ w.uses t)
@@ -126,9 +149,10 @@ module _ {T : Type 0} (defers : T → Option ℕ) (fixed : Fixed) (s : State T (
       → ((b r : ℕ) → w.hand b ≡ world.InUse r → n.hand b ≡ world.InUse r)
       → ((j : ℕ) → j ≢ id → n.row j ≡ w.row j) → ((t : ℕ) → ((a : Use) → use_of v ≡ Some (t, a) → ⊥) → n.uses t ≡ w.uses t) → Fits n id u
       → ((t : ℕ) (b : Use) → use_of u ≡ Some (t, b) → (a : Use) × (use_of v ≡ Some (t, a))) → IsBounded defers fixed n id u
-      → Moved defers fixed s id u s.memory n
-  begun request u n happens memory log hands none linked rows uses own stays bounded = record {
-    came = came_then defers fixed w n (Begin id request) h.came happens;
+      → ((b : ℕ) → (hand_of v ≡ Some b → ⊥) → n.hand b ≡ w.hand b) → ((b : ℕ) → hand_of v ≡ Some b → n.hand b ≡ world.Handed)
+      → Moved defers fixed s id h.life.began u s.memory n
+  begun request u n happens memory log hands none linked rows uses own stays bounded same handed = record {
+    since = since_one defers fixed w n (Begin id request) happens;
     memory = h.memory ∙ sym memory;
     rows = rows;
     own = own;
@@ -141,15 +165,20 @@ module _ {T : Type 0} (defers : T → Option ℕ) (fixed : Fixed) (s : State T (
     over = λ t b held. ap (is_over b) log;
     roots = roots_kept s.memory s.memory w.hand n.hand refl linked h.roots;
     rooted = h.rooted;
+    found = λ b. elim (has_or_not (hand_of v) b) as (λ _. IsFound s.memory b (Now u b) (n.hand b)) [
+      | inl mine ↦ subst (λ (k : Hand). IsFound s.memory b (Now u b) k) (sym (handed b mine)) tt
+      | inr not ↦ subst (λ (k : Hand). IsFound s.memory b (Now u b) k) (sym (same b not))
+          (found_on defers fixed s id v h at_id (hand_of u) s.memory refl b (λ mine. absurd (not mine)))
+    ];
     passes = λ j ne was now. (Begin id request ∷ [], (n, (λ e. ne (sym e)), happens, now, refl));
     bounded = bounded;
   }
 
   pub stepped : (u : View T) (m : Mem T) (n : World T) → Steps' defers id (row_of v) w n → m ≡ n.memory → Fits n id u
       → ((j t : ℕ) (x : View T) (a b : Use) → j ≢ id → view_of s j ≡ Some x → use_of x ≡ Some (t, a) → use_of u ≡ Some (t, b) → ⊥)
-      → hand_of u ≡ None → IsBounded defers fixed n id u → Moved defers fixed s id u m n
+      → hand_of u ≡ None → IsBounded defers fixed n id u → Moved defers fixed s id h.life.began u m n
   stepped u m n taken memory own lone none bounded = record {
-    came = came_then defers fixed w n (Step id) h.came step;
+    since = since_one defers fixed w n (Step id) step;
     memory = memory;
     rows = d.rows;
     own = own;
@@ -163,6 +192,7 @@ module _ {T : Type 0} (defers : T → Option ℕ) (fixed : Fixed) (s : State T (
     over = λ t b held. ap (is_over b) d.logged ∙ not_over b d.effects w.log d.one;
     roots = roots_kept w.memory m w.hand n.hand same_roots (λ b r is. kept b (world.InUse r) tt is) world_roots;
     rooted = ap length same_roots ∙ world_rooted;
+    found = found;
     passes = λ j ne was now. (Step id ∷ [], (n, (λ e. ne (sym e)), step, now, refl));
     bounded = bounded;
   }
@@ -184,3 +214,15 @@ module _ {T : Type 0} (defers : T → Option ℕ) (fixed : Fixed) (s : State T (
 
       same_roots : m.roots ≡ w.memory.roots
       same_roots = ap (λ (x : Mem T). x.roots) memory ∙ d.frames.roots
+
+      hand_is : (b : ℕ) → n.hand b ≡ world.handed_by d.effects w.hand b
+      hand_is b = ap (λ (f : ℕ → Hand). f b) d.hands
+
+      -- a block that is taken is nobody's then, and each other one is in the hand that it was in
+      found : (b : ℕ) → IsFound m b (Now u b) (n.hand b)
+      found b = elim (cases_eq (times b (taken_in d.effects)) 0) as (λ _. IsFound m b (Now u b) (n.hand b)) [
+        | inl e ↦ subst (λ (k : Hand). IsFound m b (Now u b) k) (sym (hand_is b ∙ hand_kept b d.effects w.hand e d.one))
+            (found_on defers fixed s id v h at_id (hand_of u) m (same_roots ∙ sym (ap (λ (x : Mem T). x.roots) h.memory)) b
+            (λ mine. absurd (let no = no_hand defers id v w n taken in cc (no, mine))))
+        | inr ne ↦ subst (λ (k : Hand). IsFound m b (Now u b) k) (sym (hand_is b ∙ taken_hand b d.effects w.hand d.one ne)) tt
+      ]

@@ -39,7 +39,7 @@ module _ {T : Type 0} (defers : T → Option ℕ) (fixed : Fixed) (Is : Use → 
   to_is v x u is t = subst (λ (y : View T). Turning v y) (sym is) t
 
   goes_free : (t : ℕ) (has : Has T) (u : View T) → had_in has ≡ None → IsFree fixed t u → Turning (Inside t has) u
-  goes_free t has u none (inl is) = to_is (Inside t has) (Leaves t fixed.batch_size is.0) u is.1 (inr (inl (refl, λ w h. leaves defers fixed w i t has is.0 h)))
+  goes_free t has u none (inl is) = to_is (Inside t has) (Leaves t fixed.batch_size is.0) u is.1 (inr (inl (refl, λ w h. leaves defers fixed w i t has is.0 none h)))
   goes_free t has u none (inr is) = inl (record { slot = t; has = has; from = refl; none = none; to = is })
 
   pub turning : (v u : View T) → IsNext fixed v u → Turning v u

@@ -16,7 +16,7 @@ use Rattle.seize_bounds.proofs.Given.SeizeAloneHistories.Reached.{Reached}
 use Rattle.seize_seats.specs.State.{State, view_of}
 use Rattle.seize_bounds.specs.Bounds.{IsOfOthers, IsAloneOnSlot}
 use Rattle.seize_views.specs.Rows.{Leads}
-use Rattle.seize_views.specs.Rows.{row_of, use_of, hand_of, had_in, IsShort, IsUsed, IsKnown, IsBounded, IsMade, IsInHand, RootsNameLinked, Fits, Came, Holds}
+use Rattle.seize_views.specs.Rows.{row_of, use_of, hand_of, had_in, IsShort, IsUsed, IsKnown, IsBounded, IsMade, IsInHand, RootsNameLinked, Fits, Since, Holds}
 use Rattle.seize_views.specs.Told.{alone_with}
 use Rattle.seize_views.specs.declared.view.View.{View}
 use Rattle.seize_views.specs.declared.view.View.TheVariants.{Outside, Owes, Inside}
@@ -24,6 +24,7 @@ use Rattle.seize_views.specs.declared.view.Has.{Has}
 use Rattle.seize_views.specs.declared.view.Has.TheVariants.{Nothing, Made, Seen, Both, Cut}
 use Rattle.seize_views.specs.declared.view.Fixed.{Fixed}
 use Rattle.seize_bounds.proofs.Bounds.Passing.{both}
+use Rattle.seize_views.proofs.Found.{AreFound}
 use Rattle.seize_views.proofs.Moved.{StillHave, IsSole, Passes, moved, still_used}
 use Rattle.seize_views.proofs.Steps.{alone}
 
@@ -74,7 +75,7 @@ module _ {T : Type 0} (defers : T → Option ℕ) (fixed : Fixed) (s : State T (
 
   -- what events of a seat within a section have left that are no steps of rows
   pub record Users (m : Mem T) (n : World T) (has : Has T) : Type 0 where
-    pub came : Came defers fixed n
+    pub since : Since defers fixed w n
     pub memory : m ≡ n.memory
     pub row : n.row ≡ w.row
     pub uses : n.uses ≡ w.uses
@@ -106,11 +107,12 @@ module _ {T : Type 0} (defers : T → Option ℕ) (fixed : Fixed) (s : State T (
   fit = h.seats id v at
 
   -- the seat goes on from one view to another, of the same slot
-  pub users_on : (m : Mem T) (n : World T) (has : Has T) → Users defers fixed s id t m n has → hand_of x ≡ had_in has → IsKnown n x → IsBounded defers fixed n id x
+  pub users_on : (m : Mem T) (n : World T) (has : Has T) → Users defers fixed s id t m n has → AreFound s id h.life.began (had_in has) m n.hand
+      → hand_of x ≡ had_in has → IsKnown n x → IsBounded defers fixed n id x
       → (so : View T → Type 0) → so x → Leads defers fixed s m id so
-  users_on m n has u hand known bounded so is =
+  users_on m n has u found hand known bounded so is =
       moved defers fixed s id v x m n so h at (record {
-        came = u.came;
+        since = u.since;
         memory = u.memory;
         rows = λ j ne. ap (λ f. f j) u.row;
         own = record {
@@ -129,6 +131,7 @@ module _ {T : Type 0} (defers : T → Option ℕ) (fixed : Fixed) (s : State T (
         over = u.over;
         roots = u.roots;
         rooted = u.rooted;
+        found = subst (λ (o : Option ℕ). AreFound s id h.life.began o m n.hand) (sym hand) found;
         passes = u.passes;
         bounded = bounded;
       }) is
@@ -203,16 +206,18 @@ module _ {T : Type 0} where
 module _ {T : Type 0} (defers : T → Option ℕ) (fixed : Fixed) (s : State T (View T) (World T)) (id t : ℕ) (h : Holds defers fixed s) where
   -- where it is, it knows something else of a block
   pub users : (place : Has T → View T) → Carries t place → (had : Has T) → view_of s id ≡ Some (place had) → (m : Mem T) (n : World T) (has : Has T)
-      → Users defers fixed s id t m n has → (so : View T → Type 0) → so (place has) → Leads defers fixed s m id so
-  users place c had at m n has u so is =
-      users_on defers fixed s id t (place had) (place has) h at (c.rests had) (c.rests has) (c.stays has had) (c.short has) m n has u (c.hand has)
+      → Users defers fixed s id t m n has → AreFound s id h.life.began (had_in has) m n.hand → (so : View T → Type 0) → so (place has)
+      → Leads defers fixed s m id so
+  users place c had at m n has u found so is =
+      users_on defers fixed s id t (place had) (place has) h at (c.rests had) (c.rests has) (c.stays has had) (c.short has) m n has u found (c.hand has)
       (c.known n has u.in_hand) (c.bounded defers fixed n id has) so is
 
   -- or outside of one, where it knows of no block, or of one that it has unlinked
-  pub users_outside : view_of s id ≡ Some (Outside t) → (m : Mem T) (n : World T) → Users defers fixed s id t m n Nothing → (so : View T → Type 0)
-      → so (Outside t) → Leads defers fixed s m id so
-  users_outside at m n u so is = users_on defers fixed s id t (Outside t) (Outside t) h at refl refl refl tt m n Nothing u refl tt tt so is
+  pub users_outside : view_of s id ≡ Some (Outside t) → (m : Mem T) (n : World T) → Users defers fixed s id t m n Nothing
+      → AreFound s id h.life.began None m n.hand → (so : View T → Type 0) → so (Outside t) → Leads defers fixed s m id so
+  users_outside at m n u found so is = users_on defers fixed s id t (Outside t) (Outside t) h at refl refl refl tt m n Nothing u found refl tt tt so is
 
-  pub users_owe : view_of s id ≡ Some (Outside t) → (m : Mem T) (n : World T) (b : ℕ) → Users defers fixed s id t m n (Cut b) → (so : View T → Type 0)
-      → so (Owes t b) → Leads defers fixed s m id so
-  users_owe at m n b u so is = users_on defers fixed s id t (Outside t) (Owes t b) h at refl refl refl tt m n (Cut b) u refl u.in_hand tt so is
+  pub users_owe : view_of s id ≡ Some (Outside t) → (m : Mem T) (n : World T) (b : ℕ) → Users defers fixed s id t m n (Cut b)
+      → AreFound s id h.life.began (Some b) m n.hand → (so : View T → Type 0) → so (Owes t b) → Leads defers fixed s m id so
+  users_owe at m n b u found so is =
+      users_on defers fixed s id t (Outside t) (Owes t b) h at refl refl refl tt m n (Cut b) u found refl u.in_hand tt so is

@@ -7,3 +7,4 @@ pub mod Notes
 pub mod Content
 pub mod Resting
 pub mod Stays
+pub mod Values

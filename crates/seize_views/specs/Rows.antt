@@ -184,6 +184,29 @@ module _ {T : Type 0} where
   IsKnown w (Busy t) = ⊥
   IsKnown w _ = Unit {0}
 
+  -- some seat has the block in its hand
+  abbrev pub IsSomeones : State T (View T) (World T) → ℕ → Type 0
+  IsSomeones s b = (j : ℕ) × (v : View T) × (view_of s j ≡ Some v) × (hand_of v ≡ Some b)
+
+  -- or it was in this hand in that world already
+  abbrev pub IsInSomeHand : State T (View T) (World T) → World T → ℕ → Hand → Type 0
+  IsInSomeHand s began b k = IsSomeones s b ⊎ (began.hand b ≡ k)
+
+  -- the word at a root names the block
+  abbrev pub IsNamedAt : Mem T → ℕ → ℕ → Type 0
+  IsNamedAt m r b = (word : ℕ) × (word_at m (Root r) ≡ Some word) × (block_in word ≡ b)
+
+  -- Where a block is, by whose it is: who has made or unlinked it has it so, and what is linked at a root is named there; each other one is nobody's, or the
+  -- collector's.
+  abbrev pub IsFound : Mem T → ℕ → (Hand → Type 0) → Hand → Type 0
+  IsFound m b has world.NoBlock = Unit {0}
+  IsFound m b has (world.Making h) = has (world.Making h)
+  IsFound m b has (world.InUse r) = IsNamedAt m r b
+  IsFound m b has (world.Parting h) = ⊥
+  IsFound m b has (world.Cutting h) = has (world.Cutting h)
+  IsFound m b has world.Handed = Unit {0}
+  IsFound m b has (world.LeftTo h) = ⊥
+
   -- a root names no block, or one that is linked there
   abbrev pub RootsNameLinked : Mem T → (ℕ → Hand) → Type 0
   RootsNameLinked m hand = (r word : ℕ) → word_at m (Root r) ≡ Some word → (block_in word ≡ 0) ⊎ (hand (block_in word) ≡ world.InUse r)
@@ -203,9 +226,21 @@ module _ {T : Type 0} (defers : T → Option ℕ) (fixed : Fixed) where
   IsBounded w j (Settles c (Retiring way) seen left) = TriesWithin defers fixed.batch_size j left w
   IsBounded w j _ = Unit {0}
 
+  -- one world has come of another one
+  abbrev pub Since : World T → World T → Type 0
+  Since w n = (events : List (Event T)) × Runs defers fixed.batch_size events w n
+
   -- the world came about from the start
   abbrev pub Came : World T → Type 0
-  Came w = (events : List (Event T)) × Runs defers fixed.batch_size events (at_start defers fixed.roots) w
+  Came w = Since (at_start defers fixed.roots) w
+
+  -- The present lifetime of the memory began with this world, in which nobody had a row under way. Seats of an earlier one may have kept blocks, which nobody
+  -- has any more.
+  pub record Lifetime (w : World T) : Type 0 where
+    pub began : World T
+    pub past : Came began
+    pub idle : (j : ℕ) → began.row j ≡ world.Rests
+    pub since : Since began w
 
   pub record Holds (s : State T (View T) (World T)) : Type 0 where
     pub came : Came s.world
@@ -216,6 +251,8 @@ module _ {T : Type 0} (defers : T → Option ℕ) (fixed : Fixed) where
     pub sole : (j k b : ℕ) (v u : View T) → view_of s j ≡ Some v → view_of s k ≡ Some u → hand_of v ≡ Some b → hand_of u ≡ Some b → j ≡ k
     pub roots : RootsNameLinked s.memory s.world.hand
     pub rooted : length s.memory.roots ≡ fixed.roots
+    pub life : Lifetime s.world
+    pub found : (b : ℕ) → IsFound s.memory b (IsInSomeHand s life.began b) (s.world.hand b)
     pub bounded : (j : ℕ) (v : View T) → view_of s j ≡ Some v → IsBounded s.world j v
 
 module _ {T : Type 0} where

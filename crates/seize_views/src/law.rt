@@ -6,6 +6,7 @@ ghost use Rattle.seize_views.specs.Notes.{StartsAreNoted, ComingsAreNoted, Steps
 ghost use Rattle.seize_views.specs.Notes.{WatchesBegin, WatchesEnd, WatchersSee, WatchedAreShown};
 ghost use Rattle.seize_views.specs.Notes.{LeaningsBegin, LeaningsSee, LeaningsEnd, LeaningsKeep, KeptAreThere};
 ghost use Rattle.seize_views.specs.Promises.{OwnAreMade, OwnAreTaken, OwnAreLinked, OwnAreExchanged, OwnAreShown, BorneAreShown, BorneAreHandedOn};
+ghost use Rattle.seize_views.specs.Values.{ValuesAreFound};
 
 use seize::rows::Defers;
 
@@ -43,6 +44,11 @@ pub fn blocks_have_seats<T: Defers>()
     ensures shown { OwnAreShown T T.defers }
     ensures borne { BorneAreShown T T.defers }
     ensures handed { BorneAreHandedOn T T.defers }
+{}
+
+/// Between any two steps no value is lost: some seat has its block in its hand, or a root names it, or the collector has it.
+pub fn values_are_found<T: Defers>()
+    ensures found { ValuesAreFound T T.defers }
 {}
 
 /// A seat notes what it does, and may do whatever it may do by what it knows.

@@ -11,7 +11,7 @@ mod view;
 pub use content::Content;
 pub use law::{
     blocks_have_seats, deeds_are_noted, rows_go_on, sections_are_leaned_on, sections_are_watched,
-    sections_go_on,
+    sections_go_on, values_are_found,
 };
 pub use rows::OfRows;
 pub use view::{Becomes, Began, Deed, Fixed, Has, Noted, View, Why};

@@ -1,0 +1,5 @@
+mod Paths
+mod Rows
+mod Waiting
+mod Batches
+pub mod Reached
