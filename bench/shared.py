@@ -30,7 +30,7 @@ sys.path.insert(0, os.path.join(TOP, "compile-fail"))
 
 from programs import laid
 
-NAME, BELOW = "shared_bench", "papaya_shared seize_words"
+NAME, BELOW = "shared_bench", "threads_calls seize_words"
 KINDS = ["hit", "miss", "replace", "insert"]
 HELD = {"a section each": 1, "held": 250}
 MILLISECONDS = 200

@@ -13,7 +13,7 @@ sys.dont_write_bytecode = True
 
 from programs import compiled
 
-NAME, BELOW = "late_reads", "papaya_seq papaya_forms"
+NAME, BELOW = "late_reads", "papaya_seq map_forms"
 HEAD = """//! Reads what a map lent before its next change, or after it began.
 #![tactic(auto)]
 
@@ -60,7 +60,7 @@ fn main(rt: HostRuntime) -> io::Result<()> {
 SHARING = """//! Puts what a map lends into another one.
 #![tactic(auto)]
 
-use papaya_forms::Text;
+use map_forms::Text;
 use papaya_seq::HashMap;
 use std::hash::{BuildHasherDefault, DefaultHasher};
 use std::io;

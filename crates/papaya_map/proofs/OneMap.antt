@@ -2,23 +2,23 @@
 use Rattle.std.specs.Prelude.{◌<◌, ◌^◌, Option, Some, None, Ok, Err, is_some, nat_lt}
 use Rattle.std.proofs.Common.{◌≡◌, ℕ, Bool, true, refl, sym, subst, ap, ◌∙◌}
 use Rattle.std.proofs.lemmas.Bool.{ltb-true}
-use Rattle.papaya_answers.proofs.Calls.{found_none, found_value, has_inserted, has_looked, has_missed, has_refused, has_removed, has_tried}
-use Rattle.papaya_answers.specs.Calls.{HasInserted, HasLooked, HasRemoved as HasGivenUp, HasTried as HasLacked}
+use Rattle.play_moves.proofs.OneHistory.Calls.{found_none, found_value, has_inserted, has_looked, has_missed, has_refused, has_removed, has_tried}
+use Rattle.play_moves.specs.OneHistory.Calls.{HasInserted, HasLooked, HasRemoved as HasGivenUp, HasTried as HasLacked}
 use Rattle.papaya_map.specs.OneMap.{MapCameToHave, MapGaveUp, MapHad, MapHadOne, MapLacked, MapRefused}
-use Rattle.papaya_shared.specs.Answers.{HasRemoved, HasStored, HasTried, is_removed, is_replaced}
-use Rattle.papaya_shared.specs.Given.ActsActs.{ContainsKey, Get, Insert, Remove, TryToInsert}
-use Rattle.papaya_shared.specs.Given.SeatsCalling.{is_put, outcome_of}
-use Rattle.papaya_shared.specs.Given.SeatsLooking.{HasRun, found_of}
-use Rattle.papaya_shared.specs.Given.SeizeViewsDeclared.view.Fixed.{Fixed}
-use Rattle.papaya_shared.specs.Given.SeizeViewsDeclared.view.Has.TheVariants.{Nothing}
-use Rattle.papaya_shared.specs.Given.SeizeViewsDeclared.view.View.TheVariants.{Inside}
-use Rattle.papaya_shared.specs.Given.ViewsBegun.{machine_for}
-use Rattle.papaya_shared.specs.Given.ViewsDeclared.view.View.{View}
-use Rattle.papaya_shared.specs.Given.ViewsLooks.{shown_in}
-use Rattle.papaya_shared.specs.Given.SeizeWordsWord.{block_in}
-use Rattle.papaya_shared.specs.Given.ViewsRule.{section_of}
-use Rattle.papaya_shared.specs.declared.caller.Caller.{Caller}
-use Rattle.papaya_tables.specs.declared.node.Node.TheVariants.{Pair}
+use Rattle.threads_calls.specs.Answers.{HasRemoved, HasStored, HasTried, is_removed, is_replaced}
+use Rattle.play_moves.specs.Given.ActsActs.{ContainsKey, Get, Insert, Remove, TryToInsert}
+use Rattle.play_moves.specs.Given.ErrandsCalling.{is_put, outcome_of}
+use Rattle.play_moves.specs.Given.ErrandsLooking.{HasRun, found_of}
+use Rattle.threads_calls.specs.Given.SeizeViewsDeclared.view.Fixed.{Fixed}
+use Rattle.threads_calls.specs.Given.SeizeViewsDeclared.view.Has.TheVariants.{Nothing}
+use Rattle.threads_calls.specs.Given.SeizeViewsDeclared.view.View.TheVariants.{Inside}
+use Rattle.play_moves.specs.Given.ViewsBegun.{machine_for}
+use Rattle.play_moves.specs.Given.ViewsDeclared.view.View.{View}
+use Rattle.play_moves.specs.Given.ViewsLooks.{shown_in}
+use Rattle.seize_words.specs.OneMemory.Word.{block_in}
+use Rattle.play_moves.specs.Given.ViewsRule.{section_of}
+use Rattle.threads_calls.specs.declared.caller.Caller.{Caller}
+use Rattle.map_tables.specs.declared.node.Node.TheVariants.{Pair}
 use Rattle.seize_words.specs.declared.fault.Fault.{Fault}
 
 module _ {K V S : Type 0} (same : K → K → Bool) (hash : S → K → ℕ) (c n : Caller K V S) (short : nat_lt c.blocks.now.words.fixed.batch_size (2 ^ 64) ≡ true) (s t : ℕ)

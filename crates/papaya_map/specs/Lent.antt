@@ -3,7 +3,7 @@ use Rattle.std.specs.Prelude.{⊤, []}
 use Rattle.std.specs.Borrow.{Fml, RattleType, MutBor, follows_so}
 use Rattle.std.specs.declared.cmp.PartialEq as eq
 use Rattle.std.specs.declared.hash.Hash as hash
-use Rattle.papaya_tables.specs.declared.hashes.Hashes as hashes
+use Rattle.map_tables.specs.declared.hashes.Hashes as hashes
 use mathlib.Core.Option.{none}
 use mir.Syntax.{named}
 use Rattle.papaya_map.specs.declared.session.Session.{Session}

@@ -1,8 +1,8 @@
 -- That what a session was told is so in one finite map, at a moment of its newest call, by the caller that it has.
 use Rattle.std.specs.Prelude.{ℕ, Bool, Option, Some, None}
-use Rattle.papaya_answers.specs.Calls.{FoundNone, FoundValue, HasInserted, HasLooked, HasRefused, HasRemoved, HasTried}
-use Rattle.papaya_shared.specs.Given.ActsActs.{Wanted}
-use Rattle.papaya_shared.specs.declared.caller.Caller.{Caller}
+use Rattle.play_moves.specs.OneHistory.Calls.{FoundNone, FoundValue, HasInserted, HasLooked, HasRefused, HasRemoved, HasTried}
+use Rattle.play_moves.specs.Given.ActsActs.{Wanted}
+use Rattle.threads_calls.specs.declared.caller.Caller.{Caller}
 use Rattle.seize_words.specs.declared.fault.Fault.{Fault}
 
 module _ {K V S : Type 0} (same : K → K → Bool) (hash : S → K → ℕ) where

@@ -1,11 +1,11 @@
 -- What a session has done on its map, by the caller that it has: this knows the map, and the calls that it has begun, the newest first, each with what it has told last.
 use Rattle.std.specs.Prelude.{◌≡◌, ℕ, Bool, Option, Some, None, Err, is_some}
 use Rattle.papaya_map.specs.OneMap.{MapRefused}
-use Rattle.papaya_shared.specs.Given.ActsActs.{Wanted, ContainsKey, Get}
-use Rattle.papaya_shared.specs.Given.SeatsCalling.{outcome_of}
-use Rattle.papaya_shared.specs.Given.SeatsLooking.{HasRun, found_of}
-use Rattle.papaya_shared.specs.Shown.{IsLent, IsShown}
-use Rattle.papaya_shared.specs.declared.caller.Caller.{Caller}
+use Rattle.play_moves.specs.Given.ActsActs.{Wanted, ContainsKey, Get}
+use Rattle.play_moves.specs.Given.ErrandsCalling.{outcome_of}
+use Rattle.play_moves.specs.Given.ErrandsLooking.{HasRun, found_of}
+use Rattle.threads_calls.specs.Shown.{IsLent, IsShown}
+use Rattle.threads_calls.specs.declared.caller.Caller.{Caller}
 use Rattle.seize_words.specs.declared.fault.Fault.{Fault}
 
 module _ {K V S : Type 0} where

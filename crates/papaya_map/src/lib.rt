@@ -6,8 +6,8 @@ mod session;
 mod shared;
 
 pub use map::HashMap;
-pub use papaya_shared::Attempt;
 pub use seize::IdSource;
 pub use seize_words::{Fault, Refused};
 pub use session::Session;
 pub use shared::SharedMap;
+pub use threads_calls::Attempt;

@@ -3,16 +3,16 @@ ghost use Rattle.std.specs.Prelude.{◌≡◌, ◌^◌, [], true, IfOk, IfErr, n
 ghost use Rattle.std.specs.Borrow.{sem};
 ghost use Rattle.papaya_map.specs.OneMap.{MapCameToHave, MapGaveUp, MapHad, MapHadOne, MapLacked};
 ghost use Rattle.papaya_map.specs.Sessions.{HasGot, HasMadeNone, HasSought, IsOnSameMap, WasRefused};
-ghost use Rattle.papaya_shared.specs.Answers.{CameBack, HasRemoved, HasStored, HasTried, has_stored};
-ghost use Rattle.papaya_shared.specs.Given.ActsActs.{Insert, Remove, TryToInsert};
-ghost use Rattle.papaya_shared.specs.Given.SeizeViewsDeclared.view.Has.TheVariants.{Nothing};
-ghost use Rattle.papaya_shared.specs.Given.SeizeViewsDeclared.view.View.TheVariants.{Inside, Rests};
+ghost use Rattle.threads_calls.specs.Answers.{CameBack, HasRemoved, HasStored, HasTried, has_stored};
+ghost use Rattle.play_moves.specs.Given.ActsActs.{Insert, Remove, TryToInsert};
+ghost use Rattle.threads_calls.specs.Given.SeizeViewsDeclared.view.Has.TheVariants.{Nothing};
+ghost use Rattle.threads_calls.specs.Given.SeizeViewsDeclared.view.View.TheVariants.{Inside, Rests};
 
-use papaya_shared::{Attempt, Session as Base};
-use papaya_tables::Hashes;
+use map_tables::Hashes;
 use seize_words::{Fault, Refused};
 use std::hash::{Hash, RandomState};
 use std::sync::Wait;
+use threads_calls::{Attempt, Session as Base};
 
 /// A map, as one of those has it who share it. It may be sent to a thread, and holds a slot, within a section that is open from its beginning to its end: what its calls have
 /// found isn't given back as long as the answer is borrowed. As long as it neither ends nor is refreshed, nothing that was removed or replaced meanwhile is reclaimed,

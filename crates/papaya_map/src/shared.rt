@@ -1,14 +1,14 @@
 //! A hash map, lent to threads, each of which may begin sessions on it.
 ghost use Rattle.std.specs.Prelude.{◌≡◌, ◌^◌, [], Some, true, IfOk, nat_lt};
-ghost use Rattle.papaya_shared.specs.Given.TablesChunks.{is_incremental};
-ghost use Rattle.papaya_shared.specs.Standing.{known_by};
+ghost use Rattle.map_tables.specs.Chunks.{is_incremental};
+ghost use Rattle.threads_calls.specs.Standing.{known_by};
 
 use crate::session::Session;
-use papaya_shared::{OfMaps, Session as Base, newcomer};
-use papaya_tables::{Hashes, Node, Setting};
+use map_tables::{Hashes, Node, Setting};
 use seize_blocks::{Blocks, Seat};
 use seize_words::Fault;
 use std::hash::{Hash, RandomState};
+use threads_calls::{OfMaps, Session as Base, newcomer};
 
 /// A map, lent: it may go to other threads, and several may have it by reference.
 #[derive(Drop)]

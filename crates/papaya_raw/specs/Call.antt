@@ -1,36 +1,36 @@
 -- A call on one key: what each step's operation is, and what follows its answer.
 use Rattle.std.specs.Prelude.{ℕ, ◌==◌, Bool, true, false, bit_and, if◌then◌else◌, Option, Some, None, Ok, Err}
-use Rattle.papaya_tables.specs.Given.SeizeWordsWord.{block_in}
-use Rattle.papaya_tables.specs.Given.SeizeWordsDeclared.at.At.TheVariants.{Root, Word}
-use Rattle.papaya_tables.specs.Given.SeizeWordsDeclared.fault.Fault.TheVariants.{Memory}
-use Rattle.papaya_tables.specs.Given.SeizeWordsOp.{Out, Load, Add, Exchange, Make, Take, Found, Exchanged, Made, Taken}
-use Rattle.papaya_tables.specs.Given.SeizeWordsPlan.{Plan, Then, Turn, Do, Now, Seeing, plan_as}
-use Rattle.papaya_tables.specs.Given.SeizeDeclared.progress.Progress.{Progress}
-use Rattle.papaya_tables.specs.Given.SeizeDeclared.progress.Progress.TheVariants as progress
-use Rattle.papaya_tables.specs.Given.SeizeDeclared.rows.settle.Settled.{Settled}
-use Rattle.papaya_tables.specs.Given.SeizeDeclared.rows.settle.Settled.TheVariants as settling
-use Rattle.papaya_tables.specs.Counts.{count_change}
-use Rattle.papaya_tables.specs.Nodes.{table_seen}
-use Rattle.papaya_tables.specs.TablePlaces.{at_word}
-use Rattle.papaya_tables.specs.Trials.{place_tried}
-use Rattle.papaya_tables.specs.Finding.{may_name}
-use Rattle.papaya_sweeps.specs.Given.ResizeLookup.{names_pair, lookup_plan}
-use Rattle.papaya_sweeps.specs.Given.ResizeNewTable.{new_table_plan}
-use Rattle.papaya_sweeps.specs.Given.ResizeDispose.{dispose_plan}
-use Rattle.papaya_sweeps.specs.Given.ResizeCopier.{copier_plan}
+use Rattle.seize.specs.Given.SeizeWordsWord.{block_in}
+use Rattle.seize.specs.Given.SeizeWordsDeclared.at.At.TheVariants.{Root, Word}
+use Rattle.seize.specs.Given.SeizeWordsDeclared.fault.Fault.TheVariants.{Memory}
+use Rattle.seize.specs.Given.SeizeWordsOp.{Out, Load, Add, Exchange, Make, Take, Found, Exchanged, Made, Taken}
+use Rattle.seize.specs.Given.SeizeWordsPlan.{Plan, Then, Turn, Do, Now, Seeing, plan_as}
+use Rattle.seize.specs.declared.progress.Progress.{Progress}
+use Rattle.seize.specs.declared.progress.Progress.TheVariants as progress
+use Rattle.seize.specs.declared.rows.settle.Settled.{Settled}
+use Rattle.seize.specs.declared.rows.settle.Settled.TheVariants as settling
+use Rattle.map_tables.specs.Counts.{count_change}
+use Rattle.map_tables.specs.Nodes.{table_seen}
+use Rattle.map_tables.specs.TablePlaces.{at_word}
+use Rattle.map_tables.specs.Trials.{place_tried}
+use Rattle.map_tables.specs.Finding.{may_name}
+use Rattle.map_sweeps.specs.Given.ResizeLookup.{names_pair, lookup_plan}
+use Rattle.map_sweeps.specs.Given.ResizeNewTable.{new_table_plan}
+use Rattle.map_sweeps.specs.Given.ResizeDispose.{dispose_plan}
+use Rattle.map_sweeps.specs.Given.ResizeCopier.{copier_plan}
 use Rattle.papaya_raw.specs.Answers.{ended}
 use Rattle.papaya_raw.specs.CallFills.{asks_at}
 use Rattle.papaya_raw.specs.CallPoints.{word_to, standing, going, over, told_answer, ending, tableless, at_last, told, entering, went_on, changed, counted}
-use Rattle.papaya_tables.specs.declared.table_words.TheConstants.{NEXT}
-use Rattle.papaya_tables.specs.declared.node.Node.{Node}
-use Rattle.papaya_tables.specs.declared.node.Node.TheVariants as nodes
-use Rattle.papaya_sweeps.specs.Given.ResizeDeclared.outcome.Outcome.{Outcome}
-use Rattle.papaya_sweeps.specs.Given.ResizeDeclared.outcome.Outcome.TheVariants as outcome
-use Rattle.papaya_tables.specs.declared.table.Table.{Table}
-use Rattle.papaya_sweeps.specs.Given.ResizeDeclared.lookup.Lookup.{Lookup}
-use Rattle.papaya_sweeps.specs.Given.ResizeDeclared.new_table.NewTable.{NewTable}
-use Rattle.papaya_sweeps.specs.Given.ResizeDeclared.copier.Copier.{Copier}
-use Rattle.papaya_sweeps.specs.Given.ResizeDeclared.dispose.Dispose.{Dispose}
+use Rattle.map_tables.specs.declared.table_words.TheConstants.{NEXT}
+use Rattle.map_tables.specs.declared.node.Node.{Node}
+use Rattle.map_tables.specs.declared.node.Node.TheVariants as nodes
+use Rattle.map_sweeps.specs.Given.ResizeDeclared.outcome.Outcome.{Outcome}
+use Rattle.map_sweeps.specs.Given.ResizeDeclared.outcome.Outcome.TheVariants as outcome
+use Rattle.map_tables.specs.declared.table.Table.{Table}
+use Rattle.map_sweeps.specs.Given.ResizeDeclared.lookup.Lookup.{Lookup}
+use Rattle.map_sweeps.specs.Given.ResizeDeclared.new_table.NewTable.{NewTable}
+use Rattle.map_sweeps.specs.Given.ResizeDeclared.copier.Copier.{Copier}
+use Rattle.map_sweeps.specs.Given.ResizeDeclared.dispose.Dispose.{Dispose}
 use Rattle.papaya_raw.specs.declared.machines.answer.KeyAnswer.{KeyAnswer}
 use Rattle.papaya_raw.specs.declared.machines.answer.KeyAnswer.TheVariants as answers
 use Rattle.papaya_raw.specs.declared.machines.answer.End.{End}

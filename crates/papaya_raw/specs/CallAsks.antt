@@ -1,8 +1,8 @@
 -- A call on one key that asks: how it begins, and how it goes on by what it is told.
 use Rattle.std.specs.Prelude.{ℕ, Some, None, Result, Ok, Err}
-use Rattle.papaya_tables.specs.Given.SeizeWordsWord.{block_in}
-use Rattle.papaya_tables.specs.Given.SeizeWordsDeclared.fault.Fault.TheVariants.{RemoveNothing}
-use Rattle.papaya_tables.specs.declared.setting.Setting.{Setting}
+use Rattle.seize.specs.Given.SeizeWordsWord.{block_in}
+use Rattle.seize.specs.Given.SeizeWordsDeclared.fault.Fault.TheVariants.{RemoveNothing}
+use Rattle.map_tables.specs.declared.setting.Setting.{Setting}
 use Rattle.papaya_raw.specs.CallPoints.{calling, standing, ending, answering, burying, at_gap}
 use Rattle.papaya_raw.specs.Replies.{untold}
 use Rattle.papaya_raw.specs.declared.machines.answer.There.TheVariants as there

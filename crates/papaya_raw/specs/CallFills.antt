@@ -1,13 +1,13 @@
 -- A call on one key puts what it was told into its own block, or gives that block up: what the operation is, and what follows its answer.
 use Rattle.std.specs.Prelude.{ℕ, ◌==◌, Bool, true, false, Option, Some, None, Ok, Err}
-use Rattle.papaya_tables.specs.Given.SeizeWordsWord.{block_in}
-use Rattle.papaya_tables.specs.Given.SeizeWordsDeclared.fault.Fault.TheVariants.{Memory}
-use Rattle.papaya_tables.specs.Given.SeizeWordsOp.{Out, Make, Take, Rewrite, Made, Taken}
-use Rattle.papaya_tables.specs.Given.SeizeWordsPlan.{Plan, Then, Turn, Do, Now}
-use Rattle.papaya_tables.specs.Nodes.{vacant}
-use Rattle.papaya_tables.specs.declared.marks.TheConstants.{TOMBSTONE}
-use Rattle.papaya_tables.specs.declared.node.Node.{Node}
-use Rattle.papaya_tables.specs.declared.node.Node.TheVariants as nodes
+use Rattle.seize.specs.Given.SeizeWordsWord.{block_in}
+use Rattle.seize.specs.Given.SeizeWordsDeclared.fault.Fault.TheVariants.{Memory}
+use Rattle.seize.specs.Given.SeizeWordsOp.{Out, Make, Take, Rewrite, Made, Taken}
+use Rattle.seize.specs.Given.SeizeWordsPlan.{Plan, Then, Turn, Do, Now}
+use Rattle.map_tables.specs.Nodes.{vacant}
+use Rattle.map_tables.specs.declared.marks.TheConstants.{TOMBSTONE}
+use Rattle.map_tables.specs.declared.node.Node.{Node}
+use Rattle.map_tables.specs.declared.node.Node.TheVariants as nodes
 use Rattle.papaya_raw.specs.CallPoints.{word_to, standing, going}
 use Rattle.papaya_raw.specs.Replies.{value_for, as_own, with_back}
 use Rattle.papaya_raw.specs.declared.machines.answer.End.TheVariants as ends

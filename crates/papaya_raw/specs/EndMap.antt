@@ -1,23 +1,23 @@
 -- How a map ends: its pairs are reclaimed, then the pairs that its tables carry, its tables and its counter.
 use Rattle.std.specs.Prelude.{ℕ, ◌+◌, ◌-◌, ◌%◌, ◌^◌, ◌==◌, ◌&&◌, not, Bool, nat_lt, if◌then◌else◌}
-use Rattle.papaya_tables.specs.Given.SeizeWordsWord.{block_in}
-use Rattle.papaya_tables.specs.Given.SeizeWordsDeclared.at.At.TheVariants.{Root, Used, Entry, Word}
-use Rattle.papaya_tables.specs.Given.SeizeWordsOp.{Out, Load, Store, Take, Found, Taken}
-use Rattle.papaya_tables.specs.Given.SeizeWordsPlan.{Plan, Then, Turn, Do, Now, Seeing}
-use Rattle.papaya_tables.specs.Given.SeizeDeclared.states.TheConstants as state
-use Rattle.papaya_tables.specs.Given.SeizeDeclared.rows.settle.Settled.{Settled}
-use Rattle.papaya_tables.specs.Given.SeizeDeclared.rows.settle.Settled.TheVariants.{Goes, Gave, Done}
-use Rattle.papaya_tables.specs.declared.setting.Setting.{Setting}
-use Rattle.papaya_tables.specs.declared.node.Node.{Node}
-use Rattle.papaya_tables.specs.declared.table_words.TheConstants.{NEXT, DEFERRED, PLACES}
-use Rattle.papaya_tables.specs.declared.marks.TheConstants.{COPYING}
+use Rattle.seize.specs.Given.SeizeWordsWord.{block_in}
+use Rattle.seize.specs.Given.SeizeWordsDeclared.at.At.TheVariants.{Root, Used, Entry, Word}
+use Rattle.seize.specs.Given.SeizeWordsOp.{Out, Load, Store, Take, Found, Taken}
+use Rattle.seize.specs.Given.SeizeWordsPlan.{Plan, Then, Turn, Do, Now, Seeing}
+use Rattle.seize.specs.declared.states.TheConstants as state
+use Rattle.seize.specs.declared.rows.settle.Settled.{Settled}
+use Rattle.seize.specs.declared.rows.settle.Settled.TheVariants.{Goes, Gave, Done}
+use Rattle.map_tables.specs.declared.setting.Setting.{Setting}
+use Rattle.map_tables.specs.declared.node.Node.{Node}
+use Rattle.map_tables.specs.declared.table_words.TheConstants.{NEXT, DEFERRED, PLACES}
+use Rattle.map_tables.specs.declared.marks.TheConstants.{COPYING}
 use Rattle.papaya_raw.specs.declared.machines.end_map.EndMap.{EndMap}
 use Rattle.papaya_raw.specs.declared.machines.end_map.Ending.{Ending}
 use Rattle.papaya_raw.specs.declared.machines.end_map.Ending.TheVariants as at
-use Rattle.papaya_tables.specs.Chunks.{is_incremental}
-use Rattle.papaya_sweeps.specs.Given.ResizeCopierStates.{no_table}
-use Rattle.papaya_tables.specs.Marks.{has_mark}
-use Rattle.papaya_tables.specs.Nodes.{table_seen}
+use Rattle.map_tables.specs.Chunks.{is_incremental}
+use Rattle.map_sweeps.specs.Given.ResizeCopierStates.{no_table}
+use Rattle.map_tables.specs.Marks.{has_mark}
+use Rattle.map_tables.specs.Nodes.{table_seen}
 
 -- a map that is to end
 abbrev pub ending : Setting → Bool → EndMap

@@ -1,32 +1,41 @@
 -- The words of the crates below, given on to the crates above: these list this crate in place of those.
-pub use Rattle.papaya_tables.specs.Given.SeizeRegister
-pub use Rattle.papaya_tables.specs.Given.SeizeWaitingSets
-pub use Rattle.papaya_tables.specs.Given.SeizeContracts
-pub use Rattle.papaya_tables.specs.Given.SeizeDeclared
-pub use Rattle.papaya_tables.specs.Chunks as TablesChunks
-pub use Rattle.papaya_tables.specs.Counts as TablesCounts
-pub use Rattle.papaya_tables.specs.Lengths as TablesLengths
-pub use Rattle.papaya_tables.specs.Powers as TablesPowers
-pub use Rattle.papaya_tables.specs.Probes as TablesProbes
-pub use Rattle.papaya_tables.specs.contracts as TablesContracts
-pub use Rattle.papaya_tables.specs.declared as TablesDeclared
-pub use Rattle.papaya_sweeps.specs.Given.ResizeCopier
-pub use Rattle.papaya_sweeps.specs.Given.ResizeCopierMarks
-pub use Rattle.papaya_sweeps.specs.Given.ResizeCopierPlaces
-pub use Rattle.papaya_sweeps.specs.Given.ResizeCopierStates
-pub use Rattle.papaya_sweeps.specs.Given.ResizeDispose
-pub use Rattle.papaya_sweeps.specs.Given.ResizeLookup
-pub use Rattle.papaya_sweeps.specs.Given.ResizeNewMap
-pub use Rattle.papaya_sweeps.specs.Given.ResizeNewTable
-pub use Rattle.papaya_sweeps.specs.Given.ResizeSum
-pub use Rattle.papaya_sweeps.specs.Given.ResizeContracts
-pub use Rattle.papaya_sweeps.specs.Given.ResizeDeclared
-pub use Rattle.papaya_sweeps.specs.Sweep as SweepsSweep
-pub use Rattle.papaya_sweeps.specs.SweepPoints as SweepsSweepPoints
-pub use Rattle.papaya_sweeps.specs.contracts as SweepsContracts
-pub use Rattle.papaya_sweeps.specs.declared as SweepsDeclared
-pub use Rattle.papaya_sweeps.specs.Given.ReservesReserve
-pub use Rattle.papaya_sweeps.specs.Given.ReservesContracts
-pub use Rattle.papaya_sweeps.specs.Given.ReservesDeclared
-pub use Rattle.papaya_tables.specs.Given.SeizeWordsWord
-pub use Rattle.papaya_tables.specs.Given.SeizeWordsDeclared
+pub use Rattle.map_sweeps.specs.Given.ResizeContracts
+pub use Rattle.map_sweeps.specs.Given.ResizeCopier
+pub use Rattle.map_sweeps.specs.Given.ResizeCopierClaims
+pub use Rattle.map_sweeps.specs.Given.ResizeCopierCounts
+pub use Rattle.map_sweeps.specs.Given.ResizeCopierFurther
+pub use Rattle.map_sweeps.specs.Given.ResizeCopierMarks
+pub use Rattle.map_sweeps.specs.Given.ResizeCopierPlaces
+pub use Rattle.map_sweeps.specs.Given.ResizeCopierPromotes
+pub use Rattle.map_sweeps.specs.Given.ResizeCopierStates
+pub use Rattle.map_sweeps.specs.Given.ResizeDispose
+pub use Rattle.map_sweeps.specs.Given.ResizeLookup
+pub use Rattle.map_sweeps.specs.Reserves.Reserve as ReservesReserve
+pub use Rattle.map_sweeps.specs.Sweeps.Sweep as SweepsSweep
+pub use Rattle.map_sweeps.specs.Sweeps.SweepPoints as SweepsSweepPoints
+pub use Rattle.map_sweeps.specs.contracts as ReservesContracts
+pub use Rattle.map_sweeps.specs.contracts as SweepsContracts
+pub use Rattle.map_sweeps.specs.declared as ReservesDeclared
+pub use Rattle.map_sweeps.specs.declared as SweepsDeclared
+pub use Rattle.map_tables.specs.Chunks as TablesChunks
+pub use Rattle.map_tables.specs.Counts as TablesCounts
+pub use Rattle.map_tables.specs.Finding as TablesFinding
+pub use Rattle.map_tables.specs.Lengths as TablesLengths
+pub use Rattle.map_tables.specs.Marks as TablesMarks
+pub use Rattle.map_tables.specs.Nodes as TablesNodes
+pub use Rattle.map_tables.specs.Powers as TablesPowers
+pub use Rattle.map_tables.specs.Probes as TablesProbes
+pub use Rattle.map_tables.specs.TablePlaces as TablesTablePlaces
+pub use Rattle.map_tables.specs.Trials as TablesTrials
+pub use Rattle.map_tables.specs.declared as TablesDeclared
+pub use Rattle.seize.specs.Defer as SeizeDefer
+pub use Rattle.seize.specs.Enter as SeizeEnter
+pub use Rattle.seize.specs.Law as SeizeLaw
+pub use Rattle.seize.specs.Leave as SeizeLeave
+pub use Rattle.seize.specs.ReclaimAll as SeizeReclaimAll
+pub use Rattle.seize.specs.Register as SeizeRegister
+pub use Rattle.seize.specs.Sequence as SeizeSequence
+pub use Rattle.seize.specs.Settle as SeizeSettle
+pub use Rattle.seize.specs.WaitingSets as SeizeWaitingSets
+pub use Rattle.seize.specs.World as SeizeWorld
+pub use Rattle.seize.specs.declared as SeizeDeclared

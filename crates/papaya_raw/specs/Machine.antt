@@ -1,29 +1,29 @@
 -- A call of a map under way, whichever it is: what its next step does, and how it goes on by a reply, or as it is asked for a pair.
 use Rattle.std.specs.Prelude.{ℕ, Bool, true, false, Result, Ok, Err}
-use Rattle.papaya_tables.specs.Given.SeizeWordsPlan.{Plan, plan_as}
-use Rattle.papaya_tables.specs.Given.SeizeDeclared.progress.Progress.{Progress as Counting}
-use Rattle.papaya_tables.specs.declared.node.Node.{Node}
-use Rattle.papaya_sweeps.specs.Given.ResizeDeclared.outcome.Outcome.{Outcome}
-use Rattle.papaya_sweeps.specs.Given.ResizeDeclared.sum.Sum.{Sum}
-use Rattle.papaya_sweeps.specs.Given.ResizeSum.{sum_plan}
-use Rattle.papaya_sweeps.specs.declared.sweep.Sweep.{Sweep}
-use Rattle.papaya_sweeps.specs.declared.sweep.Sweeping.{Sweeping}
-use Rattle.papaya_sweeps.specs.declared.sweep.Sweeping.TheVariants as at
-use Rattle.papaya_sweeps.specs.declared.sweep.Swept.{Swept}
-use Rattle.papaya_sweeps.specs.Sweep.{sweep_plan}
-use Rattle.papaya_sweeps.specs.SweepPoints.{after_next, after_reply}
+use Rattle.seize.specs.Given.SeizeWordsPlan.{Plan, plan_as}
+use Rattle.seize.specs.declared.progress.Progress.{Progress as Counting}
+use Rattle.map_tables.specs.declared.node.Node.{Node}
+use Rattle.map_sweeps.specs.Given.ResizeDeclared.outcome.Outcome.{Outcome}
+use Rattle.map_sweeps.specs.Given.ResizeDeclared.sum.Sum.{Sum}
+use Rattle.map_sweeps.specs.Given.ResizeSum.{sum_plan}
+use Rattle.map_sweeps.specs.declared.sweep.Sweep.{Sweep}
+use Rattle.map_sweeps.specs.declared.sweep.Sweeping.{Sweeping}
+use Rattle.map_sweeps.specs.declared.sweep.Sweeping.TheVariants as at
+use Rattle.map_sweeps.specs.declared.sweep.Swept.{Swept}
+use Rattle.map_sweeps.specs.Sweeps.Sweep.{sweep_plan}
+use Rattle.map_sweeps.specs.Sweeps.SweepPoints.{after_next, after_reply}
 use Rattle.papaya_raw.specs.declared.machines.answer.Called.{Called}
 use Rattle.papaya_raw.specs.declared.machines.asking.Reply.{Reply}
 use Rattle.papaya_raw.specs.declared.machines.asking.Reply.TheVariants as reply
 use Rattle.papaya_raw.specs.declared.machines.call.KeyCall.{KeyCall}
-use Rattle.papaya_sweeps.specs.Given.ReservesDeclared.reserve.Reserve.{Reserve}
+use Rattle.map_sweeps.specs.declared.reserve.Reserve.{Reserve}
 use Rattle.papaya_raw.specs.declared.machines.machine.Machine.{Machine}
 use Rattle.papaya_raw.specs.declared.machines.machine.Machine.TheVariants as kinds
 use Rattle.papaya_raw.specs.declared.machines.progress.Progress.{Progress}
 use Rattle.papaya_raw.specs.Call.{call_plan}
 use Rattle.papaya_raw.specs.CallAsks.{replied}
 use Rattle.papaya_raw.specs.Progress.{of_called, of_outcome, of_swept, of_counting}
-use Rattle.papaya_sweeps.specs.Given.ReservesReserve.{reserve_plan}
+use Rattle.map_sweeps.specs.Reserves.Reserve.{reserve_plan}
 
 module _ {V : Type 0} where
   -- a sweep that asks for a pair keeps it by yes, and removes it by no; it takes no other reply

@@ -1,11 +1,11 @@
 -- How far a call of a map is, by what the machine of its kind says.
 use Rattle.std.specs.Prelude.{ℕ, Some}
-use Rattle.papaya_tables.specs.Given.SeizeDeclared.progress.Progress.{Progress as Counting}
-use Rattle.papaya_tables.specs.Given.SeizeDeclared.progress.Progress.TheVariants as counting
-use Rattle.papaya_sweeps.specs.Given.ResizeDeclared.outcome.Outcome.{Outcome}
-use Rattle.papaya_sweeps.specs.Given.ResizeDeclared.outcome.Outcome.TheVariants as outcome
-use Rattle.papaya_sweeps.specs.declared.sweep.Swept.{Swept}
-use Rattle.papaya_sweeps.specs.declared.sweep.Swept.TheVariants as swept
+use Rattle.seize.specs.declared.progress.Progress.{Progress as Counting}
+use Rattle.seize.specs.declared.progress.Progress.TheVariants as counting
+use Rattle.map_sweeps.specs.Given.ResizeDeclared.outcome.Outcome.{Outcome}
+use Rattle.map_sweeps.specs.Given.ResizeDeclared.outcome.Outcome.TheVariants as outcome
+use Rattle.map_sweeps.specs.declared.sweep.Swept.{Swept}
+use Rattle.map_sweeps.specs.declared.sweep.Swept.TheVariants as swept
 use Rattle.papaya_raw.specs.declared.machines.answer.Called.{Called}
 use Rattle.papaya_raw.specs.declared.machines.answer.Called.TheVariants as called
 use Rattle.papaya_raw.specs.declared.machines.progress.Answer.TheVariants as answers

@@ -4,8 +4,8 @@
 
 pub mod machines;
 
-pub use papaya_sweeps::named::Outcome;
-pub use papaya_tables::{
+pub use map_sweeps::named_sweeps::Outcome;
+pub use map_tables::{
     Counter, Equivalent, Hashes, Node, Probe, ResizeMode, Setting, Status, Table, entries_for,
     every_place_is_tried, h1, h2, lengths, limit, marks, places_are_distinct, table_words,
 };

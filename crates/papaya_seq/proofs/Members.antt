@@ -14,16 +14,16 @@ use Rattle.std.proofs.lemmas.Map.Keys.{IsDistinct-head, IsDistinct-tail}
 use Rattle.serde_json.specs.Data.{Data, object, no_members, put}
 use Rattle.serde_json.specs.View.{view, members_view}
 use Rattle.serde_json.proofs.Views.{Entry, put_last}
-use Rattle.papaya_forms.specs.Objects.{AreApart, IsObjectOf, members_with}
-use Rattle.papaya_forms.specs.declared.fault.JsonFault.{JsonFault}
-use Rattle.papaya_forms.proofs.Members.{objects_have_their_pairs, objects_have_no_order}
-use Rattle.papaya_shown.specs.Lent.{pair_shown}
-use Rattle.papaya_seq_map.specs.Given.{HoldsOn, found_by, last_put, left_by}
+use Rattle.map_forms.specs.Objects.{AreApart, IsObjectOf, members_with}
+use Rattle.map_forms.specs.declared.fault.JsonFault.{JsonFault}
+use Rattle.map_forms.proofs.Members.{objects_have_their_pairs, objects_have_no_order}
+use Rattle.map_straight.specs.Shown.Lent.{pair_shown}
+use Rattle.owner_map.specs.Given.{HoldsOn, found_by, last_put, left_by}
 use Rattle.papaya_seq.specs.Json.{FirstFault, IsLastOf, IsNoPair, IsPairOf, IsRefusal, LastIsOf}
-use Rattle.papaya_seq_map.specs.Given.Maps.{LastTook, Map}
-use Rattle.papaya_seq_map.specs.Given.Stored.{HasPut}
-use Rattle.papaya_seq_map.proofs.Given.{left_and, put_is_last}
-use Rattle.papaya_seq_map.proofs.Given.Walked.{shown_to_end}
+use Rattle.owner_map.specs.Given.SeqShowsMaps.{LastTook, Map}
+use Rattle.owner_map.specs.Given.SeqShowsStored.{HasPut}
+use Rattle.owner_map.proofs.Given.{left_and, put_is_last}
+use Rattle.owner_map.proofs.Given.SeqShowsWalked.{shown_to_end}
 
 -- names of which one stands before the other are two
 names_differ : (a b : String Global) → string_cmp a b ≡ Less → string_bytes b ≢ string_bytes a

@@ -7,11 +7,11 @@ use Rattle.std.proofs.Common.{◌≡◌, ℕ, zero, suc, Bool, true, false, List
 use Rattle.std.proofs.lemmas.List.Elements.{All-contains}
 use Rattle.serde_json.specs.Data.{Data, Members, no_members, object}
 use Rattle.serde_json.specs.Find.{get_member}
-use Rattle.papaya_forms.specs.ArrayLaws.{HaveSameValues}
-use Rattle.papaya_forms.specs.Objects.{IsObjectOf}
-use Rattle.papaya_forms.proofs.OneArray.{arrays_tell}
-use Rattle.papaya_forms.proofs.Members.{first_is, later_is}
-use Rattle.papaya_seq_map.specs.Given.{agree_from_each, found_by, with_no_values}
+use Rattle.map_forms.specs.ArrayLaws.{HaveSameValues}
+use Rattle.map_forms.specs.Objects.{IsObjectOf}
+use Rattle.map_forms.proofs.OneArray.{arrays_tell}
+use Rattle.map_forms.proofs.Members.{first_is, later_is}
+use Rattle.owner_map.specs.Given.{agree_from_each, found_by, with_no_values}
 use Rattle.papaya_seq.specs.ReadBack.{OneArrayOneSet, OneObjectOneMap}
 
 -- both or neither

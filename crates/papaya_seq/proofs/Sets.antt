@@ -9,10 +9,10 @@ use Rattle.std.proofs.Common.{◌≡◌, Bool, true, false, cond, not, List, [],
 use Rattle.std.proofs.lemmas.Fn.{answers_by}
 use Rattle.std.proofs.lemmas.List.{map-append}
 use Rattle.std.proofs.lemmas.List.Sorted.{IsPermutation-trans, IsPermutation-append_left, IsPermutation-map}
-use Rattle.papaya_seq_map.specs.Given.{AnswersByTest, AskedAlong, IsCloneOf, KeepsOf, found_by, left_by, put, put_all, with_no_values}
-use Rattle.papaya_seq_map.specs.Given.Maps.{Keeps, Map}
+use Rattle.owner_map.specs.Given.{AnswersByTest, AskedAlong, IsCloneOf, KeepsOf, found_by, left_by, put, put_all, with_no_values}
+use Rattle.owner_map.specs.Given.SeqShowsMaps.{Keeps, Map}
 use Rattle.papaya_seq.specs.Sets.{KeepsElements, KeepsIn, Set, last_taken_in, left_in, put_in, put_all_in, set_of}
-use Rattle.papaya_seq_map.proofs.Given.{kept_in_any_order, lifts, no_values, there_as}
+use Rattle.owner_map.proofs.Given.{kept_in_any_order, lifts, no_values, there_as}
 
 -- what was not there is new
 pub new_so : {X : Type 0} (was : Bool) (o : Option X) → was ≡ is_some o → not was ≡ is_none o

@@ -4,10 +4,10 @@ use Rattle.std.specs.Map.{keys_of}
 use Rattle.std.proofs.Common.{◌≡◌, Bool, List, [], ◌∷◌, ◌++◌, find, Option, None, Some, option_map, refl, ap, sym, subst, ◌∙◌}
 use Rattle.std.proofs.lemmas.List.{map-append}
 use Rattle.std.proofs.lemmas.List.Sorted.{IsPermutation-refl}
-use Rattle.papaya_seq_map.specs.Given.{Balanced, found_by, last_put, last_taken, put, put_all}
-use Rattle.papaya_seq_map.specs.Given.Maps.{Map}
-use Rattle.papaya_seq_map.specs.Given.Stored.{IsMadeOf, IsMadeOfClones}
-use Rattle.papaya_seq_map.proofs.Given.{balanced_first, balanced_more, kept_balances, put_is_last}
+use Rattle.owner_map.specs.Given.{Balanced, found_by, last_put, last_taken, put, put_all}
+use Rattle.owner_map.specs.Given.SeqShowsMaps.{Map}
+use Rattle.owner_map.specs.Given.SeqShowsStored.{IsMadeOf, IsMadeOfClones}
+use Rattle.owner_map.proofs.Given.{balanced_first, balanced_more, kept_balances, put_is_last}
 use Rattle.papaya_seq.specs.Sets.{LastTookOut, Set, last_taken_in, put_all_in, set_of}
 use Rattle.papaya_seq.specs.Stored.{HasPutIn, IsSetMadeOf, IsSetMadeOfClones}
 use Rattle.papaya_seq.proofs.Sets.{keys_cloned, keys_found, keys_in_order, keys_put, keys_put_all, puts_in_more, taken_last_in}

@@ -5,13 +5,13 @@ use Rattle.std.specs.List.Sorted.{IsPermutation}
 use Rattle.seize_words.specs.declared.fault.Fault.{Fault}
 use Rattle.serde_json.specs.Data.{Data, Members, no_members, member, object}
 use Rattle.serde_json.specs.Find.{as_object}
-use Rattle.papaya_forms.specs.Arrays.{AreItemsOf, HasElements, IsArrayOf}
-use Rattle.papaya_forms.specs.Forms.{IsNone}
-use Rattle.papaya_forms.specs.Objects.{IsObjectOf}
-use Rattle.papaya_forms.specs.declared.fault.JsonFault.{JsonFault}
-use Rattle.papaya_forms.specs.declared.fault.JsonFault.TheVariants.{NotAnObject, BadKey, BadElement, Refused}
-use Rattle.papaya_seq_map.specs.Given.{IsRoom}
-use Rattle.papaya_seq_map.specs.Given.Maps.{Map}
+use Rattle.map_forms.specs.Arrays.{AreItemsOf, HasElements, IsArrayOf}
+use Rattle.map_forms.specs.Forms.{IsNone}
+use Rattle.map_forms.specs.Objects.{IsObjectOf}
+use Rattle.map_forms.specs.declared.fault.JsonFault.{JsonFault}
+use Rattle.map_forms.specs.declared.fault.JsonFault.TheVariants.{NotAnObject, BadKey, BadElement, Refused}
+use Rattle.owner_map.specs.Given.{IsRoom}
+use Rattle.owner_map.specs.Given.SeqShowsMaps.{Map}
 use Rattle.papaya_seq.specs.Sets.{Set}
 use Rattle.papaya_seq.specs.Stored.{IsSetMadeOf}
 

@@ -3,9 +3,9 @@ use Rattle.std.specs.Prelude.{◌≡◌, ◌↔◌, ℕ, Bool, true, IsTrue, Lis
 use Rattle.std.specs.Cmp.{IsEquivalence}
 use Rattle.std.specs.List.{Contains}
 use Rattle.serde_json.specs.Data.{Data}
-use Rattle.papaya_forms.specs.Arrays.{HasElements}
-use Rattle.papaya_forms.specs.Objects.{IsObjectOf}
-use Rattle.papaya_seq_map.specs.Given.{agree, with_no_values}
+use Rattle.map_forms.specs.Arrays.{HasElements}
+use Rattle.map_forms.specs.Objects.{IsObjectOf}
+use Rattle.owner_map.specs.Given.{agree, with_no_values}
 
 -- Sets that one array has are equal, where just those of their elements are equal that have the same value.
 abbrev pub OneArrayOneSet : Type 0 → Type 0

@@ -5,9 +5,9 @@ use Rattle.std.specs.Fn.{CalledAt, Mut}
 use Rattle.std.specs.List.{FoldsTo}
 use Rattle.std.specs.List.Sorted.{IsPermutation}
 use Rattle.std.specs.Map.{keys_of}
-use Rattle.papaya_seq_map.specs.Given.{HoldsOn}
-use Rattle.papaya_seq_map.specs.Given.Maps.{Map}
-pub use Rattle.papaya_seq_map.specs.Given.{left_in}
+use Rattle.owner_map.specs.Given.{HoldsOn}
+use Rattle.owner_map.specs.Given.SeqShowsMaps.{Map}
+pub use Rattle.owner_map.specs.Given.{left_in}
 
 -- The value of a set: its elements, its hasher, and two elements that can be looked at until the next change. Which order the elements are in, a walk tells alone.
 pub record Set (K S : Type 0) : Type 0 where

@@ -3,7 +3,7 @@ use Rattle.std.specs.Prelude.{◌≡◌, Bool, List, [], ◌∷◌, Option, None
 use Rattle.std.specs.Iterator.{Drains}
 use Rattle.std.specs.List.{AllZip}
 use Rattle.std.specs.List.Sorted.{IsPermutation}
-use Rattle.papaya_seq_map.specs.Given.{Balanced, Gave, RefusedKey, last_put}
+use Rattle.owner_map.specs.Given.{Balanced, Gave, RefusedKey, last_put}
 use Rattle.papaya_seq.specs.Sets.{KeepsIn, LastTookOut, Set, last_taken_in, put_in, put_all_in}
 
 module _ {K S : Type 0} (same : K → K → Bool) where

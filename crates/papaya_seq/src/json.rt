@@ -4,7 +4,7 @@ ghost use Rattle.serde_json.specs.Data.{Data};
 ghost use Rattle.serde_json.specs.View.{view};
 ghost use Rattle.papaya_seq.specs.Json.{Why};
 
-use papaya_forms::JsonFault;
+use map_forms::JsonFault;
 use serde_json::Value;
 use std::alloc::{AllocError, Global};
 

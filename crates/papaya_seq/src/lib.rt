@@ -7,8 +7,8 @@ pub mod read_back;
 mod set;
 
 pub use json::{FromJson, ToJson};
-pub use papaya_forms::{JsonFault, JsonForm, JsonKey, Text};
-pub use papaya_seq_map::{
+pub use map_forms::{JsonFault, JsonForm, JsonKey, Text};
+pub use owner_map::{
     Aborted, Compute, Drops, Equivalent, Fault, HashMap, Keys, OccupiedError, Operation, Pairs,
     Present, Receiver, Refused, RefusedKey, Removed, Replaced, Updated, Values, law,
 };

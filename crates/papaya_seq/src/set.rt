@@ -11,7 +11,7 @@ mod lookups;
 mod making;
 mod sweeps;
 
-use papaya_seq_map::{Drops, HashMap, Receiver};
+use owner_map::{Drops, HashMap, Receiver};
 use std::hash::{BuildHasher, BuildHasherDefault, FoldHasher, Hash};
 use std::marker::Model;
 

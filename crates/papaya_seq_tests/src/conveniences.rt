@@ -1,8 +1,8 @@
 //! Walks that are cloned, texts that are ordered, a reservation of more than a table can hold, and a value that has no text as a key.
 ghost use Rattle.std.specs.Prelude.{false, refl};
 ghost use Rattle.std.proofs.Common.{arith};
-ghost use Rattle.papaya_forms.specs.Forms.{IsUnsigned, unsigned_value};
-ghost use Rattle.papaya_forms.specs.Tells.{unsigned_values_tell};
+ghost use Rattle.map_forms.specs.Forms.{IsUnsigned, unsigned_value};
+ghost use Rattle.map_forms.specs.Tells.{unsigned_values_tell};
 
 use papaya_seq::{Fault, FromJson, HashMap, HashSet, JsonFault, JsonForm, Text, ToJson};
 use serde_json::Value;

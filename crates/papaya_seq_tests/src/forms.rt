@@ -1,5 +1,5 @@
 //! Examples of which texts are keys of a type, and which JSON is a value of it: just those that are written as they are read.
-use papaya_forms::{JsonFault, JsonForm, JsonKey, Text};
+use map_forms::{JsonFault, JsonForm, JsonKey, Text};
 use serde_json::Value;
 use std::alloc::Global;
 

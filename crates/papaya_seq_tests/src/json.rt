@@ -1,6 +1,6 @@
 //! Worked examples of the JSON of maps, of sets, and of lists of elements that have no hash.
 
-use papaya_forms::{Listed, array_of, elements_of};
+use map_forms::{Listed, array_of, elements_of};
 use papaya_seq::{Fault, FromJson, HashMap, HashSet, JsonFault, ToJson};
 use serde_json::Value;
 use std::alloc::Global;

@@ -1,23 +1,34 @@
 //! Schedules as their users see them: one runs as a whole, or event by event, applied by the drivers of a crew.
 #![tactic(auto)]
 
+pub mod acting;
+pub mod ending;
+pub mod happening;
+mod kinds;
+pub mod law;
+pub mod record;
+pub mod running;
 mod scheduled;
 
-pub use papaya_crew::crew::Crew as CrewOf;
-pub use papaya_crew::driver::Driver as DriverOf;
-pub use papaya_crew::finished::Finished as FinishedOf;
-pub use papaya_crew::kept::{Applied, Kept};
-pub use papaya_crew::name::CrewName;
-pub use papaya_crew::runner::Runner;
+pub use crate::running::run;
 pub use papaya_raw::ResizeMode;
-pub use papaya_running::running::run;
-pub use papaya_runs::event::Setup;
-pub use papaya_runs::key_hash::KeyHash;
-pub use papaya_runs::token::Token;
-pub use papaya_schedules::call::{Answer, Call, OneKey, Reply};
-pub use papaya_schedules::event::Event;
-pub use papaya_schedules::outcome::Outcome;
-pub use papaya_schedules::record::Run;
+pub use play_events::{
+    Logged, NamedMap, Played, Scheduler, close, end_map, go, make_map, next, one_call, reclaim_all,
+    step,
+};
+pub use run_names::crew::Crew as CrewOf;
+pub use run_names::driver::Driver as DriverOf;
+pub use run_names::finished::Finished as FinishedOf;
+pub use run_names::kept::{Applied, Kept};
+pub use run_names::name::CrewName;
+pub use run_names::runner::Runner;
+pub use run_schedules::call::{Answer, Call, OneKey, Reply};
+pub use run_schedules::event::Event;
+pub use run_schedules::key_hash::KeyHash;
+pub use run_schedules::outcome::Outcome;
+pub use run_schedules::record::Run;
+pub use run_schedules::setup::Setup;
+pub use run_schedules::token::Token;
 pub use scheduled::Scheduled;
 pub use seize_words::Fault;
 

@@ -1,19 +1,19 @@
 //! The run to which a crew applies events.
 ghost use Rattle.std.specs.Prelude.{◌≡◌, ◌++◌, ◌∷◌, [], List, IfOk, IfErr, OnOk};
-ghost use Rattle.papaya_runs.specs.declared.event.Setup.{Setup};
-ghost use Rattle.papaya_schedules.specs.declared.event.Event.{Event};
-ghost use Rattle.papaya_running.specs.Given.SchedulerPlayed.{terms_given};
-ghost use Rattle.papaya_running.specs.Run.{HasCome, bounded};
-ghost use Rattle.papaya_steps.specs.Scheduled.{IsWholeRun};
+ghost use Rattle.run_schedules.specs.declared.setup.Setup.{Setup};
+ghost use Rattle.run_schedules.specs.declared.event.Event.{Event};
+ghost use Rattle.play_events.specs.Given.SchedulerPlayed.{terms_given};
+ghost use Rattle.papaya_steps.specs.WholeRuns.Run.{HasCome, bounded};
+ghost use Rattle.papaya_steps.specs.Steps.Scheduled.{IsWholeRun};
 
-use papaya_copies::{events, outcomes};
-use papaya_crew::runner::Runner;
+use crate::running::{Running, run};
 use papaya_raw::Hashes;
-use papaya_running::running::{Running, run};
-use papaya_runs::event::Setup;
-use papaya_schedules::event::Event;
-use papaya_schedules::outcome::Outcome;
-use papaya_schedules::record::Run;
+use run_effects::{events, outcomes};
+use run_names::runner::Runner;
+use run_schedules::event::Event;
+use run_schedules::outcome::Outcome;
+use run_schedules::record::Run;
+use run_schedules::setup::Setup;
 use seize_words::Fault;
 use std::alloc::{AllocError, Global};
 use std::hash::{BuildHasher, Hash};
@@ -28,11 +28,11 @@ pub struct Scheduled<K, V, S> {
 impl<K: Eq + Hash + Clone + Drop, V: PartialEq + Clone + Drop, S: BuildHasher + Drop> Runner<
     Event<K, V>,
 > for Scheduled<K, V, S> {
-    ghost use Rattle.papaya_copies.specs.Copies.{AreAlike, ClonesAreSame};
-    ghost use Rattle.papaya_copies.specs.Same.{same_event as are_same_events, same_outcome as are_same_outcomes};
-    ghost use Rattle.papaya_running.specs.Given.SchedulerPlayed.{terms_given};
-    ghost use Rattle.papaya_running.specs.Run.{HasCome, bounded};
-    ghost use Rattle.papaya_steps.specs.Scheduled.{IsWholeRun};
+    ghost use Rattle.run_effects.specs.Copies.Copies.{AreAlike, ClonesAreSame};
+    ghost use Rattle.run_effects.specs.Copies.Same.{same_event as are_same_events, same_outcome as are_same_outcomes};
+    ghost use Rattle.play_events.specs.Given.SchedulerPlayed.{terms_given};
+    ghost use Rattle.papaya_steps.specs.WholeRuns.Run.{HasCome, bounded};
+    ghost use Rattle.papaya_steps.specs.Steps.Scheduled.{IsWholeRun};
 
     type Outcome = Outcome<V>;
 

@@ -2,12 +2,12 @@
 ghost use Rattle.std.specs.Prelude.{◌≡◌};
 
 use crate::wrong::{Wrong, apply_wrongly};
-use papaya_copies::outcomes;
-use papaya_crew::kept::events_again;
 use papaya_steps::{
     Call, CrewName, CrewOf, Driver, Event, Fault, Finished, KeyHash, OneKey, Outcome, ResizeMode,
     Run, Runner, Scheduled, Setup, Token, run,
 };
+use run_effects::outcomes;
+use run_names::kept::events_again;
 use std::alloc::{AllocError, Global};
 use std::marker::Brand;
 use std::process::Abort;

@@ -1,8 +1,8 @@
 //! Wrong drivers: one that hands on another event than it lists, and one that invents what its event came to.
-use papaya_copies::events;
 use papaya_steps::{
     Applied, CrewName, CrewOf, Driver, DriverOf, Event, Fault, Outcome, ResizeMode, Runner, Token,
 };
+use run_effects::events;
 use std::alloc::{AllocError, Global};
 use std::sync::Wait;
 

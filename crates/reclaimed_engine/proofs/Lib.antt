@@ -1,1 +1,2 @@
-pub mod EngineLemmas
+pub mod Text
+pub mod Lines

@@ -1,1 +1,2 @@
-pub mod Engine
+pub mod Text
+pub mod Lines

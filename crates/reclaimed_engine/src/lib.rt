@@ -1,17 +1,23 @@
-//! From the bytes of a script to the bytes that are printed for it.
+//! From the bytes of a script to the bytes that are printed for it, and how they are written.
 #![tactic(auto)]
 
-ghost use Rattle.std.specs.Prelude.{◌≡◌, false, IfOk, IfErr, OnErr, IfSome};
-ghost use Rattle.std.specs.Io.KnownBytes.{Keeps, Appends};
-ghost use Rattle.reclaimed_engine.specs.Engine.{stop_line, EndsWith, IsTextFor, TellsFailure};
-ghost use Rattle.reclaimed_text.specs.Output.{has_failed, writer_of, Writes};
+mod events;
+mod finals;
+pub mod output;
+mod pieces;
+mod text;
 
-use papaya_running::running::run;
+ghost use Rattle.reclaimed_engine.specs.Lines.Engine.{stop_line, EndsWith, IsTextFor, TellsFailure};
+ghost use Rattle.reclaimed_engine.specs.Text.Output.{has_failed, writer_of, Writes};
+ghost use Rattle.std.specs.Io.KnownBytes.{Keeps, Appends};
+ghost use Rattle.std.specs.Prelude.{◌≡◌, false, IfOk, IfErr, OnErr, IfSome};
+
+pub use output::{Output, write};
+use papaya_steps::running::run;
 use reclaimed_script::{Script, Stop, hasher_of, read, setup_of};
-pub use reclaimed_text::Output;
-use reclaimed_text::{fault_line, text_of, write};
 use std::alloc::{AllocError, Global};
 use std::io::{Read, Write};
+pub use text::{fault_line, text_of};
 
 /// The line that says why a script gives no run.
 fn stop_line(alloc: Global, stop: Stop) -> Result<Vec<u8>, AllocError>

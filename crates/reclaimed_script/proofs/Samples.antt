@@ -2,11 +2,11 @@
 use Rattle.std.proofs.Common.{◌≡◌, true, false, [], ◌∷◌, ◌++◌, Ok, Err, refl}
 use Rattle.std.specs.Prelude.{codes}
 use Rattle.papaya_raw.specs.Given.TablesDeclared.resize_mode.ResizeMode.TheVariants.{Incremental}
-use Rattle.papaya_schedules.specs.declared.call.Call.TheVariants.{On, Reserve, Clear, Retain, Len, Walk}
-use Rattle.papaya_schedules.specs.declared.call.OneKey.TheVariants.{Insert, TryInsert, Compute, RemoveIf}
-use Rattle.papaya_schedules.specs.declared.call.Reply.TheVariants.{Gives, Removes, Aborts, Decides}
-use Rattle.papaya_schedules.specs.declared.event.Event.TheVariants.{Collector, Hash, Choose, Register, Unregister, Own, Refresh, Flush, DropGuard, Forget, ReclaimAll, Close, MakeMap, EndMap, ShowShape, Begin, Step, Go, Replied, OneCall, Next, Stop}
-use Rattle.papaya_runs.specs.declared.key_hash.KeyHash.TheVariants.{Key, Zero}
+use Rattle.run_schedules.specs.declared.call.Call.TheVariants.{On, Reserve, Clear, Retain, Len, Walk}
+use Rattle.run_schedules.specs.declared.call.OneKey.TheVariants.{Insert, TryInsert, Compute, RemoveIf}
+use Rattle.run_schedules.specs.declared.call.Reply.TheVariants.{Gives, Removes, Aborts, Decides}
+use Rattle.run_schedules.specs.declared.event.Event.TheVariants.{Collector, Hash, Choose, Register, Unregister, Own, Refresh, Flush, DropGuard, Forget, ReclaimAll, Close, MakeMap, EndMap, ShowShape, Begin, Step, Go, Replied, OneCall, Next, Stop}
+use Rattle.run_schedules.specs.declared.key_hash.KeyHash.TheVariants.{Key, Zero}
 use Rattle.reclaimed_script.specs.declared.fault.LineFault.TheVariants.{UnknownEvent, WrongNumberOfWords, BadWord}
 use Rattle.reclaimed_script.specs.Words.{words_of, value_from, number_of}
 use Rattle.reclaimed_script.specs.Lines.{hash_of, choose_of, register_of, unregister_of, refresh_of, flush_of, drop_of, forget_of, reclaim_all_of, close_of, own_of, incremental_of, map_of, end_of, shape_of, call_of, begin_of, step_of, go_of, reply_of, walk_next_of, stop_of, caller_event_from, map_event_from, guard_event_from, event_from, event_of_words, event_of}

@@ -1,10 +1,10 @@
 -- The call that words say, what words reply to a call that asks, and the growth that `nomem` refuses.
 use Rattle.std.specs.Prelude.{ℕ, Bool, true, false, List, [], ◌∷◌, Result, Ok, Err, codes, bytes_eq, if◌then◌else◌}
-use Rattle.papaya_schedules.specs.declared.call.Call.{Call}
-use Rattle.papaya_schedules.specs.declared.call.Call.TheVariants.{On, Reserve, Clear, Retain, Len, Walk}
-use Rattle.papaya_schedules.specs.declared.call.OneKey.TheVariants.{Get, Insert, TryInsert, Compute, Remove, RemoveIf}
-use Rattle.papaya_schedules.specs.declared.call.Reply.{Reply}
-use Rattle.papaya_schedules.specs.declared.call.Reply.TheVariants as replies
+use Rattle.run_schedules.specs.declared.call.Call.{Call}
+use Rattle.run_schedules.specs.declared.call.Call.TheVariants.{On, Reserve, Clear, Retain, Len, Walk}
+use Rattle.run_schedules.specs.declared.call.OneKey.TheVariants.{Get, Insert, TryInsert, Compute, Remove, RemoveIf}
+use Rattle.run_schedules.specs.declared.call.Reply.{Reply}
+use Rattle.run_schedules.specs.declared.call.Reply.TheVariants as replies
 use Rattle.reclaimed_script.specs.declared.fault.LineFault.{LineFault}
 use Rattle.reclaimed_script.specs.declared.fault.LineFault.TheVariants.{BadWord, WrongNumberOfWords}
 use Rattle.reclaimed_script.specs.declared.calls.SaidCall.{SaidCall}

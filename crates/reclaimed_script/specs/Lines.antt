@@ -1,10 +1,10 @@
 -- What one line of a script says.
 use Rattle.std.specs.Prelude.{◌≡◌, ℕ, ◌^◌, List, [], ◌∷◌, Result, Ok, Err, IsOk, codes, bytes_eq, if◌then◌else◌}
 use Rattle.papaya_raw.specs.Given.TablesDeclared.resize_mode.ResizeMode.TheVariants.{Incremental, Blocking}
-use Rattle.papaya_schedules.specs.declared.event.Event.{Event}
-use Rattle.papaya_schedules.specs.declared.event.Event.TheVariants.{Collector, Hash, Choose, Register, Unregister, Enter, Own, Refresh, Flush, DropGuard, Forget, ReclaimAll, Close, MakeMap, EndMap, ShowShape, Begin, Step, Go, Replied, OneCall, Next, Stop}
-use Rattle.papaya_runs.specs.declared.key_hash.KeyHash.{KeyHash}
-use Rattle.papaya_runs.specs.declared.key_hash.KeyHash.TheVariants.{Key, Zero}
+use Rattle.run_schedules.specs.declared.event.Event.{Event}
+use Rattle.run_schedules.specs.declared.event.Event.TheVariants.{Collector, Hash, Choose, Register, Unregister, Enter, Own, Refresh, Flush, DropGuard, Forget, ReclaimAll, Close, MakeMap, EndMap, ShowShape, Begin, Step, Go, Replied, OneCall, Next, Stop}
+use Rattle.run_schedules.specs.declared.key_hash.KeyHash.{KeyHash}
+use Rattle.run_schedules.specs.declared.key_hash.KeyHash.TheVariants.{Key, Zero}
 use Rattle.reclaimed_script.specs.declared.fault.LineFault.{LineFault}
 use Rattle.reclaimed_script.specs.declared.fault.LineFault.TheVariants.{UnknownEvent, BadWord}
 use Rattle.reclaimed_script.specs.declared.fault.LineStop.{LineStop}

@@ -1,10 +1,10 @@
 -- What a whole script says: its events in order or its first faulty line, the setup of its collector, and how its keys get their hashes.
 use Rattle.std.specs.Prelude.{◌≡◌, ℕ, ◌+◌, List, [], ◌∷◌, ◌++◌, length, Result, Ok, Err, IsOk, nat_lt, ◌==◌, if◌then◌else◌}
 use Rattle.std.specs.List.{onto_first}
-use Rattle.papaya_runs.specs.declared.event.Setup.{Setup}
-use Rattle.papaya_schedules.specs.declared.event.Event.TheVariants.{Collector, Hash, MakeMap}
-use Rattle.papaya_runs.specs.declared.key_hash.KeyHash.{KeyHash}
-use Rattle.papaya_runs.specs.declared.key_hash.KeyHash.TheVariants.{Key}
+use Rattle.run_schedules.specs.declared.setup.Setup.{Setup}
+use Rattle.run_schedules.specs.declared.event.Event.TheVariants.{Collector, Hash, MakeMap}
+use Rattle.run_schedules.specs.declared.key_hash.KeyHash.{KeyHash}
+use Rattle.run_schedules.specs.declared.key_hash.KeyHash.TheVariants.{Key}
 use Rattle.reclaimed_script.specs.declared.fault.LineFault.{LineFault}
 use Rattle.reclaimed_script.specs.declared.fault.LineFault.TheVariants.{TooLong, TooManyLines}
 use Rattle.reclaimed_script.specs.declared.fault.Stop.{Stop}

@@ -8,8 +8,8 @@ use crate::fault::{LineFault, LineStop};
 use crate::kinds::{caller_of, name_of};
 use crate::replies::{nomem_of, reply_said};
 use crate::words::{next_of, one_of};
-use papaya_runs::token::Token;
-use papaya_schedules::event::Event;
+use run_schedules::event::Event;
+use run_schedules::token::Token;
 use std::alloc::Global;
 
 #[tactic(auto, unfolding(crate::specs::Lines::call_of))]

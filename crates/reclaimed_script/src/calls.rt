@@ -6,8 +6,8 @@ ghost use Rattle.reclaimed_script.specs.Calls.{one_number, key_and_value, key_ca
 use crate::fault::LineFault;
 use crate::kinds::{number_of, value_of};
 use crate::words::{next_of, none_of, one_of, two_of};
-use papaya_runs::token::Token;
-use papaya_schedules::call::{Call, OneKey};
+use run_schedules::call::{Call, OneKey};
+use run_schedules::token::Token;
 use std::alloc::{AllocError, Global};
 
 /// A call that was read.

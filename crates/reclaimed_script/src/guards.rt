@@ -7,8 +7,8 @@ use crate::fault::LineStop;
 use crate::kinds::name_of;
 use crate::maps::map_event_from;
 use crate::words::{one_of, two_of};
-use papaya_runs::token::Token;
-use papaya_schedules::event::Event;
+use run_schedules::event::Event;
+use run_schedules::token::Token;
 use std::alloc::Global;
 
 #[tactic(auto, unfolding(crate::specs::Lines::enter_of))]

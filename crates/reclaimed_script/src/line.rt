@@ -7,10 +7,10 @@ use crate::fault::{LineFault, LineStop};
 use crate::guards::guard_event_from;
 use crate::kinds::{name_of, number_between, number_of};
 use crate::words::{cut, none_of, one_of, three_of};
-use papaya_runs::event::Setup;
-use papaya_runs::key_hash::KeyHash;
-use papaya_runs::token::Token;
-use papaya_schedules::event::Event;
+use run_schedules::event::Event;
+use run_schedules::key_hash::KeyHash;
+use run_schedules::setup::Setup;
+use run_schedules::token::Token;
 use std::alloc::Global;
 
 #[tactic(auto, unfolding(crate::specs::Lines::collector_of))]

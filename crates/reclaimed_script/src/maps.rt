@@ -8,8 +8,8 @@ use crate::fault::{LineFault, LineStop};
 use crate::kinds::{name_of, number_of};
 use crate::words::{next_of, one_of, two_of};
 use papaya_raw::ResizeMode;
-use papaya_runs::token::Token;
-use papaya_schedules::event::Event;
+use run_schedules::event::Event;
+use run_schedules::token::Token;
 use std::alloc::Global;
 
 /// The event that makes a map, whose name is known.

@@ -5,8 +5,8 @@ ghost use Rattle.reclaimed_script.specs.Script.{one_event, line_at, Adds, AddsNo
 
 use crate::fault::{LineFault, LineStop, Stop};
 use crate::line::event_of;
-use papaya_runs::token::Token;
-use papaya_schedules::event::Event;
+use run_schedules::event::Event;
+use run_schedules::token::Token;
 use std::alloc::{AllocError, Global};
 
 const LINE_BYTES: usize = 256;

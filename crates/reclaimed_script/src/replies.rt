@@ -6,8 +6,8 @@ ghost use Rattle.reclaimed_script.specs.Calls.{alone, one_value, reply_from, rep
 use crate::fault::LineFault;
 use crate::kinds::value_of;
 use crate::words::{next_of, none_of, one_of};
-use papaya_runs::token::Token;
-use papaya_schedules::call::Reply;
+use run_schedules::call::Reply;
+use run_schedules::token::Token;
 use std::alloc::{AllocError, Global};
 
 /// A reply that was read.

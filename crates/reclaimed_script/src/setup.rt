@@ -2,10 +2,10 @@
 ghost use Rattle.std.specs.Prelude.{◌≡◌};
 ghost use Rattle.reclaimed_script.specs.Script.{setup_of, hasher_of};
 
-use papaya_runs::event::Setup;
-use papaya_runs::key_hash::KeyHash;
-use papaya_runs::token::Token;
-use papaya_schedules::event::Event;
+use run_schedules::event::Event;
+use run_schedules::key_hash::KeyHash;
+use run_schedules::setup::Setup;
+use run_schedules::token::Token;
 
 const USUAL_SETUP: Setup = Setup {
     batch_size: 32,

@@ -4,8 +4,8 @@ use Rattle.std.proofs.Common.{◌≡◌, ◌≢◌, ℕ, zero, suc, ◌+◌, ◌
 use Rattle.std.proofs.lemmas.Bool.{cases_eq, cases_lt, eq-eqb, ne_eqb, lt-ltb, le-ltb}
 use Rattle.std.proofs.Math.Pow.{pow_mono}
 use Rattle.std.proofs.lemmas.Nat.{pow-add}
-use Rattle.seize_words.specs.Place.{capacity, IsPlace}
-use Rattle.seize_words.proofs.Places.Buckets.{has_one_place}
+use Rattle.seize_words.specs.OneMemory.Place.{capacity, IsPlace}
+use Rattle.seize_words.proofs.OneMemory.Places.Buckets.{has_one_place}
 use Rattle.seize.specs.Register.{begun_of, bucket_begun, bucket_needed, NeedsEnough, NeedsTheNext}
 use Rattle.seize.specs.declared.states.TheConstants.{LAST_SLOT}
 

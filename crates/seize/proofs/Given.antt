@@ -1,4 +1,2 @@
 -- What is so by the crates below, given on to the crates above: these list this crate in place of those.
-pub use Rattle.seize_words.proofs.OneOwner as SeizeWordsOneOwner
-pub use Rattle.seize_words.proofs.Places as SeizeWordsPlaces
-pub use Rattle.seize_words.proofs.Plans as SeizeWordsPlans
+pub use Rattle.seize_words.proofs.OneMemory.Plans as SeizeWordsPlans

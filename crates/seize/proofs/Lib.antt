@@ -1,5 +1,5 @@
 mod Beginnings
 mod Numbers
-mod SamplesRegister
 pub mod StepsInto
+mod Samples
 pub mod Given

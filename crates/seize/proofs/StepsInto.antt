@@ -1,9 +1,9 @@
 -- A machine that takes the step of one inside it comes to what its own function makes of that one's outcome.
 use Rattle.std.specs.Prelude.{◌≡◌, ℕ, Option}
 use Rattle.std.proofs.Common.{subst, sym}
-use Rattle.seize_words.specs.Op.{Op, Out}
-use Rattle.seize_words.specs.Plan.{Plan, Steps, plan_as}
-use Rattle.seize_words.proofs.Plans.{steps_as}
+use Rattle.seize_words.specs.OneMemory.Op.{Op, Out}
+use Rattle.seize_words.specs.OneMemory.Plan.{Plan, Steps, plan_as}
+use Rattle.seize_words.proofs.OneMemory.Plans.{steps_as}
 
 module _ {T A B M : Type 0} (f : A → B) (can : M → Op T → Type 0) (took : M → Op T → Out T → M → Type 0) (shown : M → ℕ → Option T) where
   -- the inner step was taken, and the outer one came to this

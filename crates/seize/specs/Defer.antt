@@ -1,10 +1,10 @@
 -- How a block is put in front of the further values of another block.
 use Rattle.std.specs.Prelude.{ℕ, Ok, Err}
-use Rattle.seize_words.specs.Word.{block_in}
+use Rattle.seize_words.specs.OneMemory.Word.{block_in}
 use Rattle.seize_words.specs.declared.at.At.{At}
 use Rattle.seize_words.specs.declared.at.At.TheVariants.{Entry}
-use Rattle.seize_words.specs.Op.{Out, Load, Store, Exchange, Found, Exchanged}
-use Rattle.seize_words.specs.Plan.{Plan, Then, Turn, Do, Now}
+use Rattle.seize_words.specs.OneMemory.Op.{Out, Load, Store, Exchange, Found, Exchanged}
+use Rattle.seize_words.specs.OneMemory.Plan.{Plan, Then, Turn, Do, Now}
 use Rattle.seize.specs.declared.states.TheConstants.{NEXT}
 use Rattle.seize.specs.declared.progress.Progress.{Progress}
 use Rattle.seize.specs.declared.progress.Progress.TheVariants.{Goes, Done}

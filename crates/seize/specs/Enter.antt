@@ -1,7 +1,7 @@
 -- Making a slot active, and giving it up: one store each.
 use Rattle.seize_words.specs.declared.at.At.TheVariants.{Slot}
-use Rattle.seize_words.specs.Op.{Store}
-use Rattle.seize_words.specs.Plan.{Plan, Do, Now}
+use Rattle.seize_words.specs.OneMemory.Op.{Store}
+use Rattle.seize_words.specs.OneMemory.Plan.{Plan, Do, Now}
 use Rattle.seize.specs.declared.states.TheConstants.{HEAD, ACTIVE, FREE}
 use Rattle.seize.specs.declared.progress.Progress.{Progress}
 use Rattle.seize.specs.declared.progress.Progress.TheVariants.{Done}

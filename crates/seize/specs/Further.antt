@@ -1,9 +1,9 @@
 -- The list of a block's further values, as the words of a memory show it.
 use Rattle.std.specs.Prelude.{◌≡◌, ℕ, ◌<◌, List, [], ◌∷◌, Option, Some, None}
-use Rattle.seize_words.specs.Word.{link_to}
+use Rattle.seize_words.specs.OneMemory.Word.{link_to}
 use Rattle.seize_words.specs.declared.at.At.{At}
 use Rattle.seize_words.specs.declared.at.At.TheVariants.{Entry, Word}
-use Rattle.seize_words.specs.Mem.{Mem, value_at, word_at}
+use Rattle.seize_words.specs.OneMemory.Mem.{Mem, value_at, word_at}
 use Rattle.seize.specs.declared.states.TheConstants.{NEXT}
 
 -- the word is one of this block

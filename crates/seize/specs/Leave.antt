@@ -1,8 +1,8 @@
 -- How a slot's section ends: its list is taken, and counted down.
 use Rattle.std.specs.Prelude.{ℕ, Bool, nat_lt, if◌then◌else◌, Option}
 use Rattle.seize_words.specs.declared.at.At.TheVariants.{Slot}
-use Rattle.seize_words.specs.Op.{Out, Store, Swap, Found}
-use Rattle.seize_words.specs.Plan.{Plan, Then, Turn, Do, Now, plan_as}
+use Rattle.seize_words.specs.OneMemory.Op.{Out, Store, Swap, Found}
+use Rattle.seize_words.specs.OneMemory.Plan.{Plan, Then, Turn, Do, Now, plan_as}
 use Rattle.seize.specs.declared.states.TheConstants.{HEAD, FREE, ACTIVE}
 use Rattle.seize.specs.declared.rows.settle.Settle.{Settle}
 use Rattle.seize.specs.declared.rows.settle.Settled.{Settled}

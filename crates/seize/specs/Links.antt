@@ -1,7 +1,7 @@
 -- A guard's work on links, each link a whole word: one operation each.
 use Rattle.std.specs.Prelude.{ℕ, Result}
-use Rattle.seize_words.specs.Op.{Out, Load, Swap as SwapWord, Or, Exchange, Found, Exchanged}
-use Rattle.seize_words.specs.Plan.{Plan, Then, Do, Now}
+use Rattle.seize_words.specs.OneMemory.Op.{Out, Load, Swap as SwapWord, Or, Exchange, Found, Exchanged}
+use Rattle.seize_words.specs.OneMemory.Plan.{Plan, Then, Do, Now}
 use Rattle.seize.specs.declared.progress.Progress.{Progress}
 use Rattle.seize.specs.declared.progress.Progress.TheVariants.{Goes, Done}
 use Rattle.seize.specs.declared.rows.links.Protect.{Protect}

@@ -1,9 +1,9 @@
 -- How everything is reclaimed that waits, while no call, no registration and no living guard is there.
 use Rattle.std.specs.Prelude.{ℕ, ◌+◌, ◌-◌, ◌==◌, Bool, false, true, nat_lt, if◌then◌else◌, Option}
-use Rattle.seize_words.specs.Word.{block_in}
+use Rattle.seize_words.specs.OneMemory.Word.{block_in}
 use Rattle.seize_words.specs.declared.at.At.TheVariants.{Root, Used, Slot, Entry}
-use Rattle.seize_words.specs.Op.{Out, Load, Store, Take, Found, Taken}
-use Rattle.seize_words.specs.Plan.{Plan, Then, Turn, Do, Now, Seeing, plan_as}
+use Rattle.seize_words.specs.OneMemory.Op.{Out, Load, Store, Take, Found, Taken}
+use Rattle.seize_words.specs.OneMemory.Plan.{Plan, Then, Turn, Do, Now, Seeing, plan_as}
 use Rattle.seize.specs.declared.states.TheConstants.{HEAD, BATCH, NEVER, FREE, IDLE, ACTIVE, NEXT, LAST_SLOT}
 use Rattle.seize.specs.declared.rows.settle.Settle.{Settle}
 use Rattle.seize.specs.declared.rows.settle.Settled.{Settled}

@@ -3,9 +3,9 @@ use Rattle.std.specs.Prelude.{◌≡◌, ◌≢◌, ◌⊎◌, ℕ, zero, suc, �
 use Rattle.seize_words.specs.declared.at.At.TheVariants.{Slot}
 use Rattle.seize_words.specs.declared.fault.Fault.{Fault}
 use Rattle.seize_words.specs.declared.fault.Fault.TheVariants.{SlotsUsedUp}
-use Rattle.seize_words.specs.Place.{capacity}
-use Rattle.seize_words.specs.Op.{Out, Load, Store, Exchange, Room, Found, Exchanged, Roomed}
-use Rattle.seize_words.specs.Plan.{Plan, Then, Turn, Do, Now}
+use Rattle.seize_words.specs.OneMemory.Place.{capacity}
+use Rattle.seize_words.specs.OneMemory.Op.{Out, Load, Store, Exchange, Room, Found, Exchanged, Roomed}
+use Rattle.seize_words.specs.OneMemory.Plan.{Plan, Then, Turn, Do, Now}
 use Rattle.seize.specs.declared.states.TheConstants.{HEAD, NEVER, FREE, IDLE, ACTIVE, LAST_SLOT}
 use Rattle.seize.specs.declared.progress.Progress.{Progress}
 use Rattle.seize.specs.declared.progress.Progress.TheVariants.{Goes, Done, Refused}

@@ -1,7 +1,7 @@
 -- When a registration needs words that are not there.
 use Rattle.std.specs.Prelude.{◌≡◌, ℕ, ◌+◌, Some, None}
 use Rattle.seize_words.specs.declared.at.At.TheVariants.{Slot}
-use Rattle.seize_words.specs.Mem.{Mem, word_at}
+use Rattle.seize_words.specs.OneMemory.Mem.{Mem, word_at}
 use Rattle.seize.specs.declared.states.TheConstants.{HEAD, NEVER}
 use Rattle.seize.specs.Register.{MayNeedRoom}
 use Rattle.seize.specs.World.{Use}

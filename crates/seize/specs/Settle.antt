@@ -1,9 +1,9 @@
 -- What a slot does with its batch, step by step: what each step's operation is, and what follows its answer.
 use Rattle.std.specs.Prelude.{ℕ, ◌%◌, ◌+◌, ◌-◌, ◌^◌, ◌==◌, ◌||◌, not, Bool, true, false, nat_lt, if◌then◌else◌, Option, Some, None, Ok, Err}
-use Rattle.seize_words.specs.Word.{block_in}
+use Rattle.seize_words.specs.OneMemory.Word.{block_in}
 use Rattle.seize_words.specs.declared.at.At.TheVariants.{Slot, Entry, Word}
-use Rattle.seize_words.specs.Op.{Out, Load, Store, Add, Exchange, Take, Found, Exchanged, Taken}
-use Rattle.seize_words.specs.Plan.{Plan, Then, Turn, Do, Now, Seeing}
+use Rattle.seize_words.specs.OneMemory.Op.{Out, Load, Store, Add, Exchange, Take, Found, Exchanged, Taken}
+use Rattle.seize_words.specs.OneMemory.Plan.{Plan, Then, Turn, Do, Now, Seeing}
 use Rattle.seize.specs.declared.states.TheConstants.{HEAD, BATCH, NEVER, ACTIVE, HELD, NEXT, LINK, FIRST, COUNT, LAST_SLOT, MOST_LOST}
 use Rattle.seize.specs.declared.rows.settle.Settle.{Settle}
 use Rattle.seize.specs.declared.rows.settle.Settling.{Settling}

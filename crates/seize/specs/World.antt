@@ -1,12 +1,12 @@
 -- The world of the collector: a memory, the row that each caller has under way, and what has happened so far. At any moment any caller may take
 -- its next step, which makes at most one operation.
 use Rattle.std.specs.Prelude.{◌≡◌, ◌≢◌, ℕ, ◌+◌, ◌-◌, ◌*◌, ◌<◌, ◌==◌, Bool, true, false, List, [], ◌∷◌, ◌++◌, Option, Some, None, Ok, if◌then◌else◌, replicate, ◌⊎◌, ◌≤◌, ◌^◌, max, length}
-use Rattle.seize_words.specs.Word.{block_in, link_to}
+use Rattle.seize_words.specs.OneMemory.Word.{block_in, link_to}
 use Rattle.seize_words.specs.declared.at.At.{At}
 use Rattle.seize_words.specs.declared.at.At.TheVariants.{Root, Used, Slot, Entry, Word}
-use Rattle.seize_words.specs.Op.{Op, Out, Load, Store, Swap, Add, Or, Exchange, Make, Take, Rewrite, Made, Taken}
-use Rattle.seize_words.specs.Mem.{Mem, Can, Took, value_at, word_at}
-use Rattle.seize_words.specs.Plan.{May, Steps}
+use Rattle.seize_words.specs.OneMemory.Op.{Op, Out, Load, Store, Swap, Add, Or, Exchange, Make, Take, Rewrite, Made, Taken}
+use Rattle.seize_words.specs.OneMemory.Mem.{Mem, Can, Took, value_at, word_at}
+use Rattle.seize_words.specs.OneMemory.Plan.{May, Steps}
 use Rattle.seize.specs.declared.states.TheConstants.{HEAD, IDLE, ACTIVE, NEXT}
 use Rattle.seize.specs.declared.progress.Progress.{Progress}
 use Rattle.seize.specs.declared.progress.Progress.TheVariants as progress

@@ -1,10 +1,5 @@
 pub mod Acts
-pub mod Answers
-pub mod Codes
-pub mod Ends
-pub mod Laws
-pub mod Reclaimed
-pub mod Refused
-pub mod Stays
-pub mod Waits
+pub mod Bounds
+pub mod Reclaims
+pub mod Quiet
 pub mod Given

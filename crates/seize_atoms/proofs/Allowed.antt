@@ -2,24 +2,24 @@
 use Rattle.std.specs.Prelude.{◌≡◌, ℕ, zero, suc, List, [], ◌∷◌, Some, None, IsSome, slice_get, slice_set, ◌++◌}
 use Rattle.std.proofs.Common.{refl, sym, ap, ◌∙◌, subst, arith, ◌⊎◌, inl, inr}
 use denote.RawPtr.{Ptr}
-use Rattle.seize_words.specs.Mem.{Mem, value_at, word_at}
+use Rattle.seize_words.specs.OneMemory.Mem.{Mem, value_at, word_at}
 use Rattle.seize_words.specs.declared.at.At.{At}
 use Rattle.seize_words.specs.declared.at.At.TheVariants.{Root, Used, Slot, Entry, Word}
-use Rattle.seize_words.specs.Op.{Op, Out, Make, Take, Rewrite}
-use Rattle.seize_seats.specs.State.{State, view_of, Goes, Allows, Owns, Turns, Learns, ShowsKept, AreThere, Starts, Comes, Meets, Testifies}
-use Rattle.seize_seats.specs.State as State
-use Rattle.seize_seats.specs.Lendings.{Shown, ShownToBoth, ShownToAll, ShownBy, IsValueOf, IsValueOfBoth, IsValueSo, IsValueBy}
-use Rattle.seize_seats.specs.Start.{bare, WasIdle, WasKnown}
-use Rattle.seize_seats.specs.Visits.{Spot, Visit, Claim, fresh, onward, onward_at, witness, plain, plain_memory, plain_op, plain_out, HoldsKept, keeps_kept, then_kept}
-use Rattle.seize_seats.specs.Errands.{Away, inward, RenewsIdle, RenewsTo, RenewsFrom, AreAllBack, AreIdle, then_away, Lends, AreUnlent, TurnsUnlent, MayGo, MayGoAll, MayLean, MayLeanAll, MayMeet, MayLeanBoth}
-use Rattle.seize_seats.proofs.Places.Plain.{IsOnWord, value_of_block}
-use Rattle.seize_seats.proofs.Stepping.Visits as Visits
-use Rattle.seize_seats.proofs.Stepping.Errands as Errands
-use Rattle.seize_plots.specs.Pieces.{value_of, lies}
-use Rattle.seize_plots.specs.declared.kept.Kept.{Kept}
-use Rattle.seize_seats.specs.Owned.{BaseId}
+use Rattle.seize_words.specs.OneMemory.Op.{Op, Out, Make, Take, Rewrite}
+use Rattle.seize_seats.specs.Seats.State.{State, view_of, Goes, Allows, Owns, Turns, Learns, ShowsKept, AreThere, Starts, Comes, Meets, Testifies}
+use Rattle.seize_seats.specs.Seats.State as State
+use Rattle.seize_seats.specs.Seats.Lendings.{Shown, ShownToBoth, ShownToAll, ShownBy, IsValueOf, IsValueOfBoth, IsValueSo, IsValueBy}
+use Rattle.seize_seats.specs.Seats.Start.{bare, WasIdle, WasKnown}
+use Rattle.seize_seats.specs.Seats.Visits.{Spot, Visit, Claim, fresh, onward, onward_at, witness, plain, plain_memory, plain_op, plain_out, HoldsKept, keeps_kept, then_kept}
+use Rattle.seize_seats.specs.Seats.Errands.{Away, inward, RenewsIdle, RenewsTo, RenewsFrom, AreAllBack, AreIdle, then_away, Lends, AreUnlent, TurnsUnlent, MayGo, MayGoAll, MayLean, MayLeanAll, MayMeet, MayLeanBoth}
+use Rattle.seize_seats.proofs.Seats.Places.Plain.{IsOnWord, value_of_block}
+use Rattle.seize_seats.proofs.Seats.Stepping.Visits as Visits
+use Rattle.seize_seats.proofs.Seats.Stepping.Errands as Errands
+use Rattle.seize_seats.specs.Plots.Pieces.{value_of, lies}
+use Rattle.seize_seats.specs.declared.kept.Kept.{Kept}
+use Rattle.seize_seats.specs.Seats.Owned.{BaseId}
 use Rattle.seize_atoms.specs.Placed.{IsItsPlace}
-use Rattle.seize_seats.proofs.Stepping.Visits.{own_view}
+use Rattle.seize_seats.proofs.Seats.Stepping.Visits.{own_view}
 use Rattle.seize_atoms.specs.Visiting.{Seen, IsKept, HoldsHere, HoldsSince, keeps_here}
 use Rattle.seize_atoms.proofs.Claimed.{IsOn, claims_after, claims_joined, claims_met, claims_then}
 

@@ -1,6 +1,6 @@
 -- How a seat goes on that has asked for the words of a bucket of slots, whatever its door had. Assumes `Logic`.
 use Rattle.std.specs.Prelude.{Ok, Err}
-use Rattle.std.proofs.Common.{◌≡◌, ℕ, suc, ◌+◌, ◌*◌, ◌<◌, Bool, true, false, [], ◌∷◌, refl}
+use Rattle.std.proofs.Common.{◌≡◌, ℕ, suc, ◌+◌, ◌*◌, ◌<◌, Bool, true, false, [], ◌∷◌, refl, lit<}
 use seplogic.Ra.Ura.{Ura}
 use base.Logic.{ent}
 use base.Fml.{Share, Fml, ftrue}
@@ -9,14 +9,13 @@ use types.Kit.{‵, ◌$◌, ◌∵◌, !, qed, drop, fsplit, fjoin, fpick, fpac
 use denote.RattleType.{RattleType}
 use denote.RawPtr.{Ptr, null_ptr, block_ptr, InBlock, Testable, count_of}
 use denote.Steps.{nothing}
-use Rattle.seize_words.specs.Op.{Out, Room, Roomed}
+use Rattle.seize_words.specs.OneMemory.Op.{Out, Room, Roomed}
 use Rattle.seize_words.specs.declared.fault.Fault.TheVariants.{Memory}
-use Rattle.seize_seats.specs.Errands.{Sight, StayAllSo}
-use Rattle.seize_seats.specs.State.{State, Allows}
-use Rattle.seize_seats.specs.Owned.{Pieces, BaseId}
-use Rattle.seize_seats.proofs.Stepping.Moves.{gone_on, next}
-use Rattle.seize_seats.proofs.Growing.RoomSteps.{answered}
-use Rattle.std.proofs.Common.{lit<}
+use Rattle.seize_seats.specs.Seats.Errands.{Sight, StayAllSo}
+use Rattle.seize_seats.specs.Seats.State.{State, Allows}
+use Rattle.seize_seats.specs.Seats.Owned.{Pieces, BaseId}
+use Rattle.seize_seats.proofs.Seats.Stepping.Moves.{gone_on, next}
+use Rattle.seize_seats.proofs.Seats.Growing.RoomSteps.{answered}
 
 module _ {M : Type 1} {𝓤 : Ura M} (𝓛 : Logic 𝓤) (R : RattleType) (own : Pieces R.Denot) {V W : Type 0} (cv : Sight V) (holds : State R.Denot V W → Type 0) (keeps : V → V → W → ℕ
     → Type 0) (p : Ptr) (z : BaseId) (id : ℕ) (v : V) (j e : ℕ) (few : j < 32) (at : e ≡ j * 8 + (256 + count_of z.doors)) (so : Out R.Denot → V → Type 0)

@@ -2,14 +2,14 @@
 use Rattle.std.specs.Prelude.{◌≡◌, ◌≢◌, ◌⊎◌, ℕ, zero, suc, ◌≤◌, List, [], ◌∷◌, ◌++◌, Option, Some, None, slice_get, slice_set}
 use Rattle.std.proofs.Common.{refl, sym, ap, ◌∙◌, subst, inl, inr, arith}
 use Rattle.std.proofs.lemmas.Bool.{cases_eq}
-use Rattle.seize_words.specs.Mem.{Mem}
-use Rattle.seize_seats.specs.State.{State, view_of, joined}
-use Rattle.seize_seats.specs.State as State
-use Rattle.seize_seats.specs.Visits.{Visit, Claim}
-use Rattle.seize_seats.specs.Errands.{Away}
-use Rattle.seize_seats.proofs.Views.Ledgers.{other_view}
-use Rattle.seize_seats.proofs.Stepping.Visits.{own_view, among}
-use Rattle.seize_plots.specs.declared.kept.Kept.{Kept}
+use Rattle.seize_words.specs.OneMemory.Mem.{Mem}
+use Rattle.seize_seats.specs.Seats.State.{State, view_of, joined}
+use Rattle.seize_seats.specs.Seats.State as State
+use Rattle.seize_seats.specs.Seats.Visits.{Visit, Claim}
+use Rattle.seize_seats.specs.Seats.Errands.{Away}
+use Rattle.seize_seats.proofs.Seats.Views.Ledgers.{other_view}
+use Rattle.seize_seats.proofs.Seats.Stepping.Visits.{own_view, among}
+use Rattle.seize_seats.specs.declared.kept.Kept.{Kept}
 use Rattle.seize_atoms.specs.Visiting.{Seen, IsKept, AreClaimed, keeps_here}
 
 set_here : {A : Type 0} (vs : List A) (i : ℕ) (v w : A) → slice_get vs i ≡ Some v → slice_get (slice_set vs i w) i ≡ Some w
@@ -35,9 +35,6 @@ module _ {T V W : Type 0} (holds : State (Kept T) (Seen V) W → Type 0) (keeps 
 
   abbrev one_claim : Seen V → Option Claim
   one_claim u = u.0.1.claim
-
-  abbrev both : (u o : Seen V) → Seen V × Seen V
-  both u o = (u, o)
 
   -- of seats that are other ones by now, or the same at the same step
   keeps_as : (c : Claim) (w : W) (a o b d : Seen V) → b ≡ a → d ≡ o → Keep a o w c.block → Keep b d w c.block

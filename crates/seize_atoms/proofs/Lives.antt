@@ -11,7 +11,7 @@ use denote.Param.{param}
 use denote.Signature.{plain}
 use denote.Steps.{nothing}
 use denote.Triple.Walked.{Goes, stay_dropped}
-use Rattle.seize_plots.specs.contracts.kept.Kept as kept_of
+use Rattle.seize_seats.specs.contracts.kept.Kept as kept_of
 
 pub kept_lives : (R : RattleType) → Incl R.lives (kept_of.the_row R).lives
 kept_lives R = ⊑_meet R.lives (R.lives ++ []) (R.lives ++ []) one one

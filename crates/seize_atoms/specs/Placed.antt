@@ -1,13 +1,13 @@
 -- Where the word of a name is looked for, and behind which door the strip of a number is.
 use Rattle.std.specs.Prelude.{◌≡◌, ℕ, ◌+◌, ◌-◌, ◌*◌, ◌<◌, ◌≤◌, ◌^◌, Some, IsSome}
 use denote.RawPtr.{Ptr, InBlock}
-use Rattle.seize_words.specs.Mem.{word_at}
+use Rattle.seize_words.specs.OneMemory.Mem.{word_at}
 use Rattle.seize_words.specs.declared.at.At.{At}
-use Rattle.seize_seats.specs.State.{State, view_of}
-use Rattle.seize_seats.specs.Owned.{BaseId, IsIts}
-use Rattle.seize_seats.specs.Reached.{IsAt}
-use Rattle.seize_plots.specs.Pieces.{lies_at}
-use Rattle.seize_plots.specs.declared.kept.Kept.{Kept}
+use Rattle.seize_seats.specs.Seats.State.{State, view_of}
+use Rattle.seize_seats.specs.Seats.Owned.{BaseId, IsIts}
+use Rattle.seize_seats.specs.Seats.Reached.{IsAt}
+use Rattle.seize_seats.specs.Plots.Pieces.{lies_at}
+use Rattle.seize_seats.specs.declared.kept.Kept.{Kept}
 
 -- the word of the name lies so many words on from this address, if there is such a word; in any case the address is one in a block, and the number small
 abbrev pub IsItsPlace : {T V W : Type 0} → (State (Kept T) V W → Type 0) → ℕ → V → Ptr → BaseId → At → Ptr → ℕ → Type 0

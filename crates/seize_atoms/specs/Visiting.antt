@@ -2,12 +2,12 @@
 use Rattle.std.specs.Prelude.{◌≡◌, ℕ, ◌≤◌, List, [], ◌∷◌, Option, Some, None}
 use base.Stored.{Coded, coded×, coded_ℕ, coded_list, coded_via}
 use denote.RawPtr.{coded_ptr}
-use Rattle.seize_words.specs.Mem.{Mem}
-use Rattle.seize_seats.specs.State.{State, view_of}
-use Rattle.seize_seats.specs.Visits.{Spot, Visit, Claim, HoldsKept, plain_memory}
-use Rattle.seize_seats.specs.Errands.{Away, Sight, with_away, HoldsAway}
-use Rattle.seize_plots.specs.Pieces.{value_of, lies}
-use Rattle.seize_plots.specs.declared.kept.Kept.{Kept}
+use Rattle.seize_words.specs.OneMemory.Mem.{Mem}
+use Rattle.seize_seats.specs.Seats.State.{State, view_of}
+use Rattle.seize_seats.specs.Seats.Visits.{Spot, Visit, Claim, HoldsKept, plain_memory}
+use Rattle.seize_seats.specs.Seats.Errands.{Away, Sight, with_away, HoldsAway}
+use Rattle.seize_seats.specs.Plots.Pieces.{value_of, lies}
+use Rattle.seize_seats.specs.declared.kept.Kept.{Kept}
 
 abbrev pub listed : {A : Type 0} → Option A → List A
 listed None = []

@@ -1,8 +1,8 @@
 //! Who has the memory to himself, and errands, in the midst of which nobody has.
 ghost use Rattle.std.specs.Prelude.{◌≡◌, ◌≢◌, ℕ, List, [], ◌∷◌, None};
-ghost use Rattle.seize_seats.specs.Errands.{Lends, RenewsIdle, RenewsTo, RenewsFrom};
-ghost use Rattle.seize_seats.specs.Start.{WasIdle, WasKnown};
-ghost use Rattle.seize_seats.specs.Owned.{IsLike};
+ghost use Rattle.seize_seats.specs.Seats.Errands.{Lends, RenewsIdle, RenewsTo, RenewsFrom};
+ghost use Rattle.seize_seats.specs.Seats.Start.{WasIdle, WasKnown};
+ghost use Rattle.seize_seats.specs.Seats.Owned.{IsLike};
 
 use crate::rule::Rule;
 use crate::seat::Seat;

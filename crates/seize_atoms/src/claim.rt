@@ -1,6 +1,6 @@
 //! The claim to a number of a block.
 ghost use Rattle.std.specs.Prelude.{ℕ};
-ghost use Rattle.seize_seats.specs.Owned.{claim_owns};
+ghost use Rattle.seize_seats.specs.Seats.Owned.{claim_owns};
 
 use std::marker::Model;
 

@@ -1,10 +1,10 @@
 //! What is kept of a block is lent for as long as two seats are borrowed: by what they know themselves, or by what a third one knows.
 ghost use Rattle.std.specs.Prelude.{◌≡◌, Some};
 ghost use denote.RawPtr.{InBlock};
-ghost use Rattle.seize_seats.specs.State.{ShowsKept, AreThere, Comes};
-ghost use Rattle.seize_seats.specs.Lendings.{ShownToBoth, IsValueOfBoth, IsValueBy};
-ghost use Rattle.seize_seats.specs.Owned.{core_of};
-ghost use Rattle.seize_plots.specs.declared.kept.Kept.{Kept};
+ghost use Rattle.seize_seats.specs.Seats.State.{ShowsKept, AreThere, Comes};
+ghost use Rattle.seize_seats.specs.Seats.Lendings.{ShownToBoth, IsValueOfBoth, IsValueBy};
+ghost use Rattle.seize_seats.specs.Seats.Owned.{core_of};
+ghost use Rattle.seize_seats.specs.declared.kept.Kept.{Kept};
 ghost use Rattle.seize_atoms.specs.Visiting.{HoldsHere};
 ghost use Rattle.seize_atoms.specs.Placed.{IsItsIndex};
 
@@ -12,7 +12,7 @@ use crate::rule::Rule;
 use crate::seat::Seat;
 use crate::strip::Strip;
 use crate::words::Words;
-use seize_plots::Kept;
+use seize_seats::Kept;
 
 impl<T, R: Rule<T>> Words<T, R> {
     /// Where what is kept of a block lies, for as long as the words and both seats are borrowed. The index is that of its number in the strip, if there is such

@@ -2,21 +2,21 @@
 ghost use Rattle.std.specs.Prelude.{◌≡◌, ◌⊎◌, ◌+◌, ◌-◌, ◌*◌, ◌<◌, ◌≤◌, Ok, Err, [], ◌∷◌, true, false, replicate};
 ghost use denote.RawPtr.{InBlock, Testable, null_ptr};
 ghost use Rattle.core.specs.Result.{MatchResult};
-ghost use Rattle.seize_words.specs.Op.{Room, Roomed};
-ghost use Rattle.seize_words.specs.Place.{capacity};
+ghost use Rattle.seize_words.specs.OneMemory.Op.{Room, Roomed};
+ghost use Rattle.seize_words.specs.OneMemory.Place.{capacity};
 ghost use Rattle.seize_words.specs.declared.at.At.TheVariants.{Slot};
 ghost use Rattle.seize_words.specs.declared.fault.Fault.TheVariants.{Memory};
-ghost use Rattle.seize_seats.specs.State.{Allows};
-ghost use Rattle.seize_seats.specs.Steps.{roomed};
-ghost use Rattle.seize_seats.specs.Buckets.{bucket_at};
-ghost use Rattle.seize_seats.specs.Owned.{core_of};
+ghost use Rattle.seize_seats.specs.Seats.State.{Allows};
+ghost use Rattle.seize_seats.specs.Seats.Steps.{roomed};
+ghost use Rattle.seize_seats.specs.Seats.Buckets.{bucket_at};
+ghost use Rattle.seize_seats.specs.Seats.Owned.{core_of};
 ghost use Rattle.seize_atoms.specs.Placed.{HasWord};
 
 use crate::rule::Rule;
 use crate::seat::Seat;
 use crate::strip::Strip;
 use crate::words::Words;
-use seize_plots::{Address, Piece, Pieces};
+use seize_seats::{Address, Piece, Pieces};
 use std::marker::{Brand, PhantomData};
 use std::ptr::null_mut;
 use std::sync::atomic::Ordering::SeqCst;

@@ -1,7 +1,7 @@
 //! What a rule over a shared memory says, and what a seat of it may do without an operation.
 ghost use Rattle.std.specs.Prelude.{ℕ};
-ghost use Rattle.seize_words.specs.Op.{Op, Out};
-ghost use Rattle.seize_seats.specs.State.{State};
+ghost use Rattle.seize_words.specs.OneMemory.Op.{Op, Out};
+ghost use Rattle.seize_seats.specs.Seats.State.{State};
 
 /// What holds of a memory that seats share between any two steps, whoever takes them.
 pub trait Rule<T> {

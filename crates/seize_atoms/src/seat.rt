@@ -1,8 +1,8 @@
 //! What one of those knows that share a memory.
 ghost use Rattle.std.specs.Prelude.{ℕ};
-ghost use Rattle.seize_seats.specs.Stretches.{seat_owns, seat_shares};
-ghost use Rattle.seize_seats.specs.Visits.{Visit};
-ghost use Rattle.seize_seats.specs.Errands.{Away, away_coded};
+ghost use Rattle.seize_seats.specs.Seats.Stretches.{seat_owns, seat_shares};
+ghost use Rattle.seize_seats.specs.Seats.Visits.{Visit};
+ghost use Rattle.seize_seats.specs.Seats.Errands.{Away, away_coded};
 ghost use Rattle.seize_atoms.specs.Visiting.{seat_coded, visit_coded};
 
 use crate::rule::Rule;

@@ -1,6 +1,6 @@
 //! What a strip of the numbers of a memory is known by.
-ghost use Rattle.seize_seats.specs.Owned.{BaseId, base_id_coded, strip_told, strip_owns};
-ghost use Rattle.seize_plots.specs.contracts.kept.Kept.{the_row as KeptOf};
+ghost use Rattle.seize_seats.specs.Seats.Owned.{BaseId, base_id_coded, strip_told, strip_owns};
+ghost use Rattle.seize_seats.specs.contracts.kept.Kept.{the_row as KeptOf};
 
 use std::marker::{Model, PhantomData};
 

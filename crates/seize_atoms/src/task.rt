@@ -1,6 +1,6 @@
 //! A course of steps that a seat is sent for.
 ghost use Rattle.std.specs.Prelude.{◌≡◌, ◌≢◌, ℕ, None};
-ghost use Rattle.seize_seats.specs.Errands.{Lends};
+ghost use Rattle.seize_seats.specs.Seats.Errands.{Lends};
 
 use crate::rule::Rule;
 use crate::seat::Seat;

@@ -1,25 +1,24 @@
 -- What is asked of the words of a strip is what is known of the strip.
 use Rattle.std.proofs.Common.{◌≡◌, ◌⊎◌, inl, inr, ℕ, Option, None, Some, IsSome, replicate, refl, sym, ap, ◌∙◌, subst, arith, ◌*◌, ◌+◌, ◌<◌, ◌≤◌, ◌^◌}
 use denote.RawPtr.{Ptr, InBlock}
-use Rattle.seize_words.specs.Op.{Op, Out, Make, Take, Rewrite}
+use Rattle.seize_words.specs.OneMemory.Op.{Op, Out, Make, Take, Rewrite}
 use Rattle.seize_words.specs.declared.at.At.{At}
-use Rattle.seize_words.specs.Mem.{block_of, entry_in, word_in, value_in}
+use Rattle.seize_words.specs.OneMemory.Mem.{block_of, entry_in, value_in}
 use Rattle.seize_words.specs.declared.at.At.TheVariants.{Entry, Word}
 use Rattle.seize_words.specs.declared.block.Block.{Block}
-use Rattle.seize_seats.specs.State.{State, Allows, Owns}
-use Rattle.seize_seats.specs.Visits.{AreSeenAt}
-use Rattle.seize_seats.specs.Reached.{IsAt}
-use Rattle.seize_seats.specs.Lendings.{ShownToAll, IsValueOf, IsValueOfBoth}
-use Rattle.seize_seats.specs.Visits.{Spot, Visit}
-use Rattle.seize_seats.specs.Errands.{Away}
+use Rattle.seize_seats.specs.Seats.State.{State, Allows, Owns}
+use Rattle.seize_seats.specs.Seats.Visits.{AreSeenAt, Spot, Visit}
+use Rattle.seize_seats.specs.Seats.Reached.{IsAt}
+use Rattle.seize_seats.specs.Seats.Lendings.{ShownToAll, IsValueOf, IsValueOfBoth}
+use Rattle.seize_seats.specs.Seats.Errands.{Away}
 use Rattle.seize_atoms.specs.Visiting.{Seen, HoldsHere}
 use Rattle.seize_atoms.proofs.Allowed.{visits_found, value_found}
-use Rattle.seize_plots.specs.Pieces.{lies, lies_at}
-use Rattle.seize_plots.specs.declared.kept.Kept.{Kept}
-use Rattle.seize_plots.specs.declared.piece.Piece.{Piece}
-use Rattle.seize_plots.specs.Somewhere.{AreBeside}
-use Rattle.seize_plots.proofs.Somewhere.{beside_none}
-use Rattle.seize_seats.specs.Owned.{BaseId}
+use Rattle.seize_seats.specs.Plots.Pieces.{lies, lies_at}
+use Rattle.seize_seats.specs.declared.kept.Kept.{Kept}
+use Rattle.seize_seats.specs.declared.piece.Piece.{Piece}
+use Rattle.seize_seats.specs.Plots.Somewhere.{AreBeside}
+use Rattle.seize_seats.proofs.Plots.Somewhere.{beside_none}
+use Rattle.seize_seats.specs.Seats.Owned.{BaseId}
 use Rattle.seize_atoms.specs.Placed.{IsItsPlace, IsItsSign, IsItsIndex, HasWord}
 use Rattle.seize_atoms.specs.declared.claim.Claim.{Claim}
 
@@ -109,15 +108,6 @@ entry_some (Some x) i some = refl
 -- where there is such a word, the view shows its block
 pub shows_block : {T V W : Type 0} (holds : State T V W → Type 0) (id : ℕ) (v : V) (b i : ℕ) → HasWord holds id v (Entry b i) → ShownToAll holds id v id v id v b
 shows_block holds id v b i has = λ t h at at' at''. entry_some (block_of t.memory b) i (has t h at)
-
--- a word of its own is one of a block
-block_value : {T : Type 0} (x : Option (Block T)) (i : ℕ) → IsSome (word_in x i) → (y : T) × (value_in x ≡ Some y)
-block_value None i some = absurd (cc some)
-block_value (Some x) i some = (x.value, refl)
-
--- and so where there is a word of its own
-pub shows_own : {T V W : Type 0} (holds : State T V W → Type 0) (id : ℕ) (v : V) (b i : ℕ) → HasWord holds id v (Word b i) → ShownToAll holds id v id v id v b
-shows_own {T} holds id v b i has t h at at' at'' = let s = block_value (block_of t.memory b) i (has t h at) in subst (λ (y : Option T). IsSome y) (sym s.1) refl
 
 -- of a block that the seat visits, its own words lie where it has seen them
 pub own_lies : {T V W : Type 0} (rests : V → Type 0) (leans : V → ℕ → Type 0) (upright : (v : V) (n : ℕ) → rests v → leans v n → ⊥) (holds : State T V W → Type 0) (keeps : V → V → W → ℕ → Type 0) (id : ℕ) (v : V) (visit : Visit) (away : Away) (b i : ℕ) (s : Ptr × ℕ) (p address : Ptr) (place : ℕ)

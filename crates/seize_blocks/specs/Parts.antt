@@ -1,7 +1,7 @@
 -- Which strips of a memory are had, and claims to numbers of them.
 use Rattle.std.specs.Prelude.{◌≡◌, ℕ, ◌+◌, ◌*◌, ◌<◌, ◌^◌}
 use denote.RawPtr.{InBlock}
-use Rattle.seize_seats.specs.Owned.{BaseId, core_of}
+use Rattle.seize_seats.specs.Seats.Owned.{BaseId, core_of}
 use Rattle.seize_blocks.specs.declared.part.Part.{Part}
 use Rattle.seize_atoms.specs.declared.claim.Claim.{Claim}
 

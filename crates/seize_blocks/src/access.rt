@@ -1,9 +1,9 @@
 //! Operations on one word, each made where the word lies.
 ghost use Rattle.std.specs.Prelude.{◌≡◌, IsSome};
-ghost use Rattle.seize_words.specs.Mem.{Mem, Can, word_at};
-ghost use Rattle.seize_words.specs.Op.{Op, Out, Load, Store, Swap, Add, Or, Exchange, Found, Stored, Exchanged};
+ghost use Rattle.seize_words.specs.OneMemory.Mem.{Mem, Can, word_at};
+ghost use Rattle.seize_words.specs.OneMemory.Op.{Op, Out, Load, Store, Swap, Add, Or, Exchange, Found, Stored, Exchanged};
 ghost use Rattle.seize_words.specs.declared.at.At.{At};
-ghost use Rattle.seize_seats.specs.State.{Allows};
+ghost use Rattle.seize_seats.specs.Seats.State.{Allows};
 ghost use Rattle.seize_atoms.specs.Visiting.{HoldsHere};
 ghost use Rattle.seize_atoms.specs.Placed.{IsItsPlace};
 

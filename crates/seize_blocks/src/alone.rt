@@ -1,8 +1,8 @@
 //! A memory that one seat has to itself, under a rule of its own, and that goes back under the rule of all.
 ghost use Rattle.std.specs.Prelude.{◌≡◌, List, [], ◌∷◌, None};
-ghost use Rattle.seize_seats.specs.Errands.{RenewsTo, RenewsFrom};
-ghost use Rattle.seize_seats.specs.Start.{WasIdle, WasKnown};
-ghost use Rattle.seize_seats.specs.Owned.{IsLike};
+ghost use Rattle.seize_seats.specs.Seats.Errands.{RenewsTo, RenewsFrom};
+ghost use Rattle.seize_seats.specs.Seats.Start.{WasIdle, WasKnown};
+ghost use Rattle.seize_seats.specs.Seats.Owned.{IsLike};
 
 use crate::blocks::Blocks;
 use seize_atoms::{Rule, Seat};

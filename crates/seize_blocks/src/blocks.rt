@@ -1,16 +1,16 @@
 //! The memory as a whole, as those use it who share it.
 ghost use Rattle.std.specs.Prelude.{◌≡◌, None, ◌≤◌, ◌<◌, ◌^◌};
-ghost use Rattle.seize_words.specs.Op.{Load, Store, Swap, Add, Or, Exchange, Make, Take, Rewrite, Found, Stored, Exchanged, Made, Taken};
-ghost use Rattle.seize_seats.specs.State.{Allows, Owns, Turns, Learns, ShowsKept, AreThere, Comes, Meets};
-ghost use Rattle.seize_seats.specs.Errands.{MayGo, MayLean, MayMeet, MayLeanBoth, TurnsUnlent, RenewsIdle};
-ghost use Rattle.seize_seats.specs.Start.{WasIdle};
-ghost use Rattle.seize_seats.specs.Owned.{IsFirst};
-ghost use Rattle.seize_seats.specs.Lendings.{Shown, ShownToBoth, IsValueOf, IsValueOfBoth, IsValueBy};
+ghost use Rattle.seize_words.specs.OneMemory.Op.{Load, Store, Swap, Add, Or, Exchange, Make, Take, Rewrite, Found, Stored, Exchanged, Made, Taken};
+ghost use Rattle.seize_seats.specs.Seats.State.{Allows, Owns, Turns, Learns, ShowsKept, AreThere, Comes, Meets};
+ghost use Rattle.seize_seats.specs.Seats.Errands.{MayGo, MayLean, MayMeet, MayLeanBoth, TurnsUnlent, RenewsIdle};
+ghost use Rattle.seize_seats.specs.Seats.Start.{WasIdle};
+ghost use Rattle.seize_seats.specs.Seats.Owned.{IsFirst};
+ghost use Rattle.seize_seats.specs.Seats.Lendings.{Shown, ShownToBoth, IsValueOf, IsValueOfBoth, IsValueBy};
 
 use crate::access::{Adds, Exchanges, Loads, Sets, Stores, Swaps};
 use crate::errand::{Charged, Errand, ErrandWith, Sent};
 use seize_atoms::{Lesson, Meeting, Rule, Seat, Turn, Words};
-use seize_plots::{Doors, Kept, Laid, Place, give_words, lay_words};
+use seize_seats::{Doors, Kept, Laid, Place, give_words, lay_words};
 use seize_words::At;
 use std::alloc::Global;
 

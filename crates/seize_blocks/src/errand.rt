@@ -1,6 +1,6 @@
 //! What a seat is sent for: a course of steps, in the midst of which nobody has the memory to himself.
 ghost use Rattle.std.specs.Prelude.{◌≡◌, ◌≢◌, ℕ, None};
-ghost use Rattle.seize_seats.specs.Errands.{Lends};
+ghost use Rattle.seize_seats.specs.Seats.Errands.{Lends};
 
 use crate::blocks::Blocks;
 use seize_atoms::{Charge, Rule, Seat, Task};

@@ -1,15 +1,15 @@
 //! The memory with the right to give back what it is made of.
 ghost use Rattle.std.specs.Prelude.{◌≡◌, ◌≤◌, ◌^◌, List, [], ◌∷◌, None, IfOk};
 ghost use Rattle.core.specs.Mem.Slots.{lease_ptr, lease_len};
-ghost use Rattle.seize_seats.specs.Errands.{RenewsTo, RenewsFrom};
-ghost use Rattle.seize_seats.specs.Start.{WasIdle, WasKnown};
-ghost use Rattle.seize_seats.specs.State.{Starts};
-ghost use Rattle.seize_seats.specs.Lines.{whole};
-ghost use Rattle.seize_seats.specs.Owned.{IsLike};
+ghost use Rattle.seize_seats.specs.Seats.Errands.{RenewsTo, RenewsFrom};
+ghost use Rattle.seize_seats.specs.Seats.Start.{WasIdle, WasKnown};
+ghost use Rattle.seize_seats.specs.Seats.State.{Starts};
+ghost use Rattle.seize_seats.specs.Seats.Lines.{whole};
+ghost use Rattle.seize_seats.specs.Seats.Owned.{IsLike};
 
 use crate::blocks::{Blocks, MOST};
 use seize_atoms::{Rule, Seat, Words};
-use seize_plots::{
+use seize_seats::{
     Doors, Ground, Kept, Place, clear, clear_rooms, drain, give_back, lay, lay_doors, lay_empty,
 };
 use std::alloc::{AllocError, Global};

@@ -1,14 +1,14 @@
 //! Numbers that are free: in the strips that are there, or in one more, which is laid where none is free.
 ghost use Rattle.std.specs.Prelude.{◌≡◌, ◌+◌, ◌*◌, ◌≤◌, ◌<◌, ◌^◌, IfSome};
-ghost use Rattle.seize_seats.specs.Doors.{block_bytes};
-ghost use Rattle.seize_seats.specs.Owned.{stride};
-ghost use Rattle.seize_plots.specs.contracts.kept.Kept.{the_row as KeptOf};
+ghost use Rattle.seize_seats.specs.Seats.Doors.{block_bytes};
+ghost use Rattle.seize_seats.specs.Seats.Owned.{stride};
+ghost use Rattle.seize_seats.specs.contracts.kept.Kept.{the_row as KeptOf};
 ghost use Rattle.seize_blocks.specs.Parts.{IsHad, IsPart, IsClaimed};
 
 use crate::blocks::{Blocks, MOST};
 use crate::part::{Part, places_in};
 use seize_atoms::{Claim, Rule};
-use seize_plots::{Kept, fits, lay_strip, skip_of, take_back};
+use seize_seats::{Kept, fits, lay_strip, skip_of, take_back};
 use std::ptr::NonNull;
 
 /// The index itself, or what is left of it round at so many.

@@ -2,7 +2,7 @@
 ghost use Rattle.std.specs.Prelude.{◌≡◌, ◌+◌, ◌*◌, ◌^◌, ◌<◌, ◌≤◌};
 
 use seize_atoms::Strip;
-use seize_plots::{Address, Kept, Place};
+use seize_seats::{Address, Kept, Place};
 
 /// A strip, where its values lie, how many numbers come before its own and how many it has, and how many words come before theirs.
 #[derive(Drop)]

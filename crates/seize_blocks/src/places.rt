@@ -1,20 +1,20 @@
 //! Where the words and the values of a memory lie.
 ghost use Rattle.std.specs.Prelude.{◌≡◌, ℕ, ◌+◌, ◌-◌, ◌*◌, ◌≤◌, ◌<◌, ◌^◌, Some};
 ghost use denote.RawPtr.{Ptr, InBlock};
-ghost use Rattle.seize_seats.specs.Lines.{long};
-ghost use Rattle.seize_seats.specs.Owned.{core_of};
-ghost use Rattle.seize_seats.specs.State.{Allows};
-ghost use Rattle.seize_seats.specs.Lendings.{Shown, ShownToAll};
+ghost use Rattle.seize_seats.specs.Seats.Lines.{long};
+ghost use Rattle.seize_seats.specs.Seats.Owned.{core_of};
+ghost use Rattle.seize_seats.specs.Seats.State.{Allows};
+ghost use Rattle.seize_seats.specs.Seats.Lendings.{Shown, ShownToAll};
 ghost use Rattle.seize_atoms.specs.Visiting.{HoldsHere};
 ghost use Rattle.seize_words.specs.declared.at.At.TheVariants.{Slot, Word};
-ghost use Rattle.seize_plots.specs.Pieces.{lies};
+ghost use Rattle.seize_seats.specs.Plots.Pieces.{lies};
 ghost use Rattle.seize_atoms.specs.Placed.{IsItsPlace, IsItsIndex, IsBehind, HasWord};
 
 use crate::access::Access;
 use crate::blocks::{Blocks, MOST};
 use crate::part::{Reached, Spot, places_in, words_in};
 use seize_atoms::{Rule, Seat};
-use seize_plots::{Beside, Kept, skip_of};
+use seize_seats::{Beside, Kept, skip_of};
 use seize_words::At;
 
 impl<T, R: Rule<T>> Blocks<T, R> {

@@ -1,17 +1,17 @@
 //! Buckets of slots: how a bucket comes to have its words, and where the words of a slot behind the first bucket lie.
 ghost use Rattle.std.specs.Prelude.{◌≡◌, ◌+◌, ◌<◌, ◌≤◌, ◌^◌};
 ghost use denote.RawPtr.{InBlock};
-ghost use Rattle.seize_words.specs.Op.{Room, Roomed};
+ghost use Rattle.seize_words.specs.OneMemory.Op.{Room, Roomed};
 ghost use Rattle.seize_words.specs.declared.at.At.TheVariants.{Slot};
-ghost use Rattle.seize_seats.specs.State.{Allows};
-ghost use Rattle.seize_seats.specs.Owned.{core_of};
+ghost use Rattle.seize_seats.specs.Seats.State.{Allows};
+ghost use Rattle.seize_seats.specs.Seats.Owned.{core_of};
 ghost use Rattle.seize_atoms.specs.Visiting.{HoldsHere};
 ghost use Rattle.seize_atoms.specs.Placed.{IsItsPlace, HasWord};
 
 use crate::blocks::Blocks;
 use crate::part::Reached;
 use seize_atoms::{Rule, Seat};
-use seize_plots::{Laid, give_words, lay_words};
+use seize_seats::{Laid, give_words, lay_words};
 use seize_words::Fault;
 use seize_words::slots::{bucket_capacity, place_of};
 use std::ptr::NonNull;

@@ -1,8 +1,8 @@
 -- A settling as the row that somebody has under way: it may take its next step, and is the one that he knows again.
 use Rattle.std.specs.Prelude.{◌==◌, Option, Some, None, IsSome, if◌then◌else◌}
 use Rattle.std.proofs.Common.{◌≡◌, ℕ, ◌<◌, Bool, true, false, refl, sym, subst, ap, ◌∙◌, eqb-true, inl, arith}
-use Rattle.seize_words.specs.Op.{Op, Out, Rewrite}
-use Rattle.seize_words.specs.Plan.{May, Steps}
+use Rattle.seize_words.specs.OneMemory.Op.{Op, Out, Rewrite}
+use Rattle.seize_words.specs.OneMemory.Plan.{May, Steps}
 use Rattle.seize.specs.declared.rows.register.Registering.{Registering}
 use Rattle.seize.specs.declared.rows.register.Registering.TheVariants as registering_at
 use Rattle.seize.specs.declared.rows.register.Register.{Register}
@@ -13,22 +13,22 @@ use Rattle.seize.specs.declared.rows.settle.Settled.{Settled}
 use Rattle.seize.specs.Register as register
 use Rattle.seize.specs.Settle.{settle_plan, plan_at}
 use Rattle.seize_straight.specs.Going.{DropGoes}
-use Rattle.seize_seats.specs.Lendings.{Shown, IsValueOf}
-use Rattle.seize_views.specs.Told.{shown_by, FollowsBy, GoesOn, told}
-use Rattle.seize_views.specs.Promises.{op_in, op_of}
+use Rattle.seize_seats.specs.Seats.Lendings.{Shown, IsValueOf}
+use Rattle.seize_views.specs.Views.Told.{shown_by, FollowsBy, GoesOn, told}
+use Rattle.seize_views.specs.Views.Promises.{op_in, op_of}
 use Rattle.seize_callers.specs.Made.{shown_in, shown_of, left_of, left_in, CanMake, HasMade, IsSettling, Task}
-use Rattle.seize_seats.specs.State.{State}
-use Rattle.seize_views.specs.Content.{LookedAreShownIn}
-use Rattle.seize_views.specs.Notes.{noted, deed}
-use Rattle.seize_views.specs.Watched.{known_by}
+use Rattle.seize_seats.specs.Seats.State.{State}
+use Rattle.seize_views.specs.Views.Content.{LookedAreShownIn}
+use Rattle.seize_views.specs.Views.Notes.{noted, deed}
+use Rattle.seize_views.specs.Views.Watched.{known_by}
 use Rattle.seize_views.specs.declared.view.Began.{Began}
 use Rattle.seize_views.specs.declared.view.Noted.{Noted}
 use Rattle.seize_views.specs.declared.view.Deed.{Deed}
 use Rattle.seize_views.specs.declared.view.View.{View}
 use Rattle.seize_views.specs.declared.view.View.TheVariants.{Rests, Registers, Outside, Owes, Enters, Inside, Settles, Leaves, Left, Frees, Brings, Bears, Watches, Under, Busy}
 use Rattle.seize_views.specs.declared.view.Fixed.{Fixed}
-use Rattle.seize_views.proofs.Looks.{once}
-use Rattle.seize_views.proofs.Makes.{IsDo, IsNoRewrite, may_by, was_made}
+use Rattle.seize_views.proofs.Views.Looks.{once}
+use Rattle.seize_views.proofs.Views.Makes.{IsDo, IsNoRewrite, may_by, was_made}
 
 module _ {T : Type 0} (defers : T → Option ℕ) where
   is_do : (c : Settle) (p : Settling) → (p ≡ at.Over → ⊥) → IsDo (plan_at defers c p)

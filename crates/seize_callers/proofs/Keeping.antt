@@ -1,7 +1,7 @@
 -- What stays of a seat on an errand.
 use Rattle.std.specs.Prelude.{ℕ, Some, None, true}
 use Rattle.std.proofs.Common.{◌≡◌, ap, refl, ◌∙◌}
-use Rattle.seize_seats.specs.Errands.{Away}
+use Rattle.seize_seats.specs.Seats.Errands.{Away}
 use Rattle.seize_callers.specs.Kept.{kept, is_home}
 
 pub still_kept : {B N A : Type 0} {i j : ℕ} {a d : A} (b : B) (n : N) → i ≡ j → a ≡ d → kept b n i a ≡ kept b n j d

@@ -8,4 +8,3 @@ pub mod Drives
 pub mod Seen
 pub mod Straight
 pub mod Making
-pub mod Given

@@ -1,11 +1,11 @@
 -- A caller's operation is allowed, whether it is the next one of its row or another one that the rule allows, and tells no more than what is noted.
 use Rattle.std.specs.Prelude.{Option, Some}
 use Rattle.std.proofs.Common.{◌≡◌, ◌⊎◌, ℕ, inl, inr}
-use Rattle.seize_words.specs.Op.{Op, Out, Rewrite}
-use Rattle.seize_seats.specs.State.{State, Allows, Owns}
-use Rattle.seize_views.specs.Content.{RowsAreTold, RowsGoOnIn}
-use Rattle.seize_views.specs.Notes.{noted_told}
-use Rattle.seize_views.specs.Promises.{op_of}
+use Rattle.seize_words.specs.OneMemory.Op.{Op, Out, Rewrite}
+use Rattle.seize_seats.specs.Seats.State.{State, Allows, Owns}
+use Rattle.seize_views.specs.Views.Content.{RowsAreTold, RowsGoOnIn}
+use Rattle.seize_views.specs.Views.Notes.{noted_told}
+use Rattle.seize_views.specs.Views.Promises.{op_of}
 use Rattle.seize_views.specs.declared.view.Fixed.{Fixed}
 use Rattle.seize_views.specs.declared.view.Noted.{Noted}
 use Rattle.seize_callers.specs.Made.{IsAllowed}

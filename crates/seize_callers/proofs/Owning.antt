@@ -1,38 +1,30 @@
 -- What a seat without a slot may do with the block that it has, and what it knows then.
-use Rattle.std.specs.Prelude.{◌≢◌, ◌<◌, ◌+◌, ◌==◌, Option, Some, Ok, Err}
-use Rattle.std.proofs.Common.{◌≡◌, ℕ, ◌^◌, ◌%◌, sym, subst, ap, ◌∙◌, arith}
-use Rattle.seize_words.specs.Op.{Op, Swap, Exchange, Make, Take, Found, Exchanged, Made as OutMade, Taken}
-use Rattle.seize_words.specs.Word.{block_in, link_to}
+use Rattle.std.specs.Prelude.{◌<◌, Option, Some}
+use Rattle.std.proofs.Common.{◌≡◌, ℕ, sym, subst, ap, ◌∙◌}
+use Rattle.seize_words.specs.OneMemory.Op.{Op, Swap, Exchange, Make, Take, Found, Taken}
+use Rattle.seize_words.specs.OneMemory.Word.{block_in}
 use Rattle.seize_words.specs.declared.at.At.TheVariants.{Root}
 use Rattle.seize.specs.World.{HasListWord}
 use Rattle.seize_views.proofs.Given.SeizeActsAnswers.{same_some}
-use Rattle.seize_seats.specs.Lendings.{Shown, IsValueOf}
-use Rattle.seize_seats.specs.State.{Allows, Meets}
-use Rattle.seize_views.specs.Begun.{Hands}
-use Rattle.seize_views.specs.Promises.{IsLooking, IsTaker}
-use Rattle.seize_views.specs.Rows.{Holds}
-use Rattle.seize_views.specs.Notes.{NotedHolds, NotedKeeps, NotedHands, noted_told}
+use Rattle.seize_seats.specs.Seats.Lendings.{Shown, IsValueOf}
+use Rattle.seize_seats.specs.Seats.State.{Allows, Meets}
+use Rattle.seize_views.specs.Views.Begun.{Hands}
+use Rattle.seize_views.specs.Views.Promises.{IsLooking, IsTaker}
+use Rattle.seize_views.specs.Views.Rows.{Holds}
+use Rattle.seize_views.specs.Views.Notes.{NotedHolds, NotedKeeps, NotedHands, noted_told}
 use Rattle.seize_callers.specs.Owning.{brought_by, borne_by}
-use Rattle.seize_views.specs.Told.{alone_with, cut_in, told}
+use Rattle.seize_views.specs.Views.Told.{alone_with, cut_in, told}
 use Rattle.seize_views.specs.declared.view.Noted.{Noted}
 use Rattle.seize_views.specs.declared.view.View.{View}
 use Rattle.seize_views.specs.declared.view.View.TheVariants.{Rests, Registers, Outside, Owes, Enters, Inside, Settles, Leaves, Left, Frees, Brings, Bears, Watches, Under, Busy}
 use Rattle.seize_views.specs.declared.view.Has.{Has}
 use Rattle.seize_views.specs.declared.view.Has.TheVariants.{Nothing, Made, Seen, Both, Cut}
 use Rattle.seize_views.specs.declared.view.Fixed.{Fixed}
-use Rattle.seize_views.proofs.Blocks.{own_are_made, own_are_taken, own_are_shown, borne_are_shown}
+use Rattle.seize_views.proofs.Views.Blocks.{own_are_made, own_are_taken, own_are_shown, borne_are_shown}
 use Rattle.seize_callers.proofs.Calls.{by_view}
-use Rattle.seize_views.proofs.Notes.{looks_are_noted, meetings_are_noted}
-use Rattle.seize_views.proofs.Handing.{borne_are_handed_on}
-use Rattle.seize_views.proofs.Roots.{beside_alone, own_are_linked, own_are_exchanged}
-
--- the word that links to a block with these marks, and the block that it names
-module _ (b marks word : ℕ) (fits : b < 2 ^ 53) (small : marks < 8) (is : word ≡ (link_to b % 2 ^ 64 + marks) % 2 ^ 64) where
-  pub marked_link : word ≡ link_to b + marks
-  marked_link = omega (arith, fits, small, is)
-
-  pub marked_names : block_in word ≡ b
-  marked_names = omega (arith, fits, small, is)
+use Rattle.seize_views.proofs.Views.Notes.{looks_are_noted, meetings_are_noted}
+use Rattle.seize_views.proofs.Views.Handing.{borne_are_handed_on}
+use Rattle.seize_views.proofs.Views.Roots.{own_are_linked, own_are_exchanged}
 
 module _ {T : Type 0} where
   -- which view it has
@@ -112,46 +104,16 @@ module _ {T : Type 0} (defers : T → Option ℕ) (fixed : Fixed) (id : ℕ) (v 
       (borne_are_handed_on T defers fixed id j b u.knows takes))
 
 module _ {T : Type 0} (defers : T → Option ℕ) (v w : View T) where
-  pub own_made_told : (words b : ℕ) (value : T) → v ≡ Rests → told defers v (Make value words) (OutMade (Ok b)) w → (w ≡ Brings b value) × (b < 2 ^ 53)
-  own_made_told words b value is so =
-      let k = subst (λ (x : View T). told defers x (Make value words) (OutMade (Ok b)) w) is so in (k.2 ∙ ap alone_with k.1.1, k.1.0)
-
-  pub own_refused_told : (words : ℕ) (value back : T) → v ≡ Rests → told defers v (Make value words) (OutMade (Err back)) w → back ≡ value
-  own_refused_told words value back is so = (subst (λ (x : View T). told defers x (Make value words) (OutMade (Err back)) w) is so).1.0
-
-  pub own_taken_told : (b : ℕ) (x value : T) → v ≡ Brings b x → told defers v (Take b) (Taken value) w → value ≡ x
-  own_taken_told b x value is so = (subst (λ (y : View T). told defers y (Take b) (Taken value) w) is so).1.0
-
   -- what was taken back leaves a seat that rests; and what was put one that is to hand on what was there
 
   pub own_rests_told : (b : ℕ) (value : T) → brought_by v ≡ Some b → told defers v (Take b) (Taken value) w → w ≡ Rests
   own_rests_told b value e so =
       let k = brings b v e in let t = subst (λ (x : View T). told defers x (Take b) (Taken value) w) k.1 so in t.2 ∙ ap alone_with t.1.1
 
-  pub own_exchanged_told : (b r old word was : ℕ) → brought_by v ≡ Some b → told defers v (Exchange (Root r) old word) (Exchanged (Ok was)) w
-      → w ≡ alone_with (cut_in old)
-  own_exchanged_told b r old word was e so =
-      let k = brings b v e in
-      let t = subst (λ (x : View T). told defers x (Exchange (Root r) old word) (Exchanged (Ok was)) w) k.1 so in t.2 ∙ ap alone_with t.1
-
   pub own_linked_told : (b r word old : ℕ) → brought_by v ≡ Some b → told defers v (Swap (Root r) word) (Found old) w → w ≡ alone_with (cut_in old)
   own_linked_told b r word old e so =
       let k = brings b v e in
       let t = subst (λ (x : View T). told defers x (Swap (Root r) word) (Found old) w) k.1 so in t.2 ∙ ap alone_with t.1
-
-  pub own_lost_told : (b : ℕ) (x : T) (r old word now : ℕ) → v ≡ Brings b x → told defers v (Exchange (Root r) old word) (Exchanged (Err now)) w
-      → w ≡ Brings b x
-  own_lost_told b x r old word now is so =
-      let t = subst (λ (y : View T). told defers y (Exchange (Root r) old word) (Exchanged (Err now)) w) is so in
-      t.2 ∙ ap alone_with t.1.1 ∙ sym (beside_alone b x (block_in now) (block_in now == 0))
-
-  pub own_other_told : (b r old word now : ℕ) → brought_by v ≡ Some b → told defers v (Exchange (Root r) old word) (Exchanged (Err now)) w → now ≢ old
-  own_other_told b r old word now e so =
-      let k = brings b v e in (subst (λ (y : View T). told defers y (Exchange (Root r) old word) (Exchanged (Err now)) w) k.1 so).1.0
-
-  pub still_brings : (b r old word now : ℕ) → brought_by v ≡ Some b → told defers v (Exchange (Root r) old word) (Exchanged (Err now)) w
-      → brought_by w ≡ Some b
-  still_brings b r old word now e so = let k = brings b v e in ap brought_by (own_lost_told b k.0 r old word now k.1 so)
 
 module _ {T : Type 0} (fixed : Fixed) (v u v2 u2 : View T) (slot b : ℕ) where
   -- who took it over owes it, or has it in its hand

@@ -1,9 +1,9 @@
 -- Who has come to rest.
 use Rattle.std.specs.Prelude.{Result, Ok, Err, IfOk, IfErr}
 use Rattle.std.proofs.Common.{◌≡◌, ℕ, sym, subst}
-use Rattle.seize_views.specs.Begun.{Hands}
-use Rattle.seize_views.specs.Promises.{IsTaker}
-use Rattle.seize_views.specs.Rows.{IsAtRest}
+use Rattle.seize_views.specs.Views.Begun.{Hands}
+use Rattle.seize_views.specs.Views.Promises.{IsTaker}
+use Rattle.seize_views.specs.Views.Rows.{IsAtRest}
 use Rattle.seize_views.specs.declared.view.Fixed.{Fixed}
 use Rattle.seize_views.specs.declared.view.View.{View}
 use Rattle.seize_views.specs.declared.view.View.TheVariants.{Rests, Registers, Outside, Owes, Enters, Inside, Settles, Leaves, Left, Frees, Brings, Bears, Watches, Under, Busy}

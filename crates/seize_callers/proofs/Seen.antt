@@ -1,14 +1,14 @@
 -- What a seat knows of its registering once it has seen a head.
 use Rattle.std.specs.Prelude.{◌<◌, Option, nat_lt, if◌then◌else◌}
 use Rattle.std.proofs.Common.{◌≡◌, ℕ, ◌+◌, Bool, true, ◌⊎◌, inl, inr, refl, sym, subst, ap, ◌∙◌, arith}
-use Rattle.seize_words.specs.Op.{Op, Out, Load, Found}
+use Rattle.seize_words.specs.OneMemory.Op.{Op, Out, Load, Found}
 use Rattle.seize_words.specs.declared.at.At.TheVariants.{Slot}
 use Rattle.seize.specs.declared.states.TheConstants.{HEAD, NEVER, FREE, LAST_SLOT}
 use Rattle.seize.specs.declared.rows.register.Register.{Register}
 use Rattle.seize.specs.declared.rows.register.Registering.TheVariants as at
 use Rattle.seize.specs.Register.{further, taking, can_be_taken, bucket_needed}
-use Rattle.seize_views.specs.Told.{left_by, told}
-use Rattle.seize_views.specs.Begun.{seeker_at}
+use Rattle.seize_views.specs.Views.Told.{left_by, told}
+use Rattle.seize_views.specs.Views.Begun.{seeker_at}
 use Rattle.seize_callers.specs.Seeking.{seeks}
 use Rattle.seize_views.specs.declared.view.View.{View}
 use Rattle.seize_views.specs.declared.view.View.TheVariants.{Registers}

@@ -1,8 +1,8 @@
 -- Straight code for the settling that somebody has under way: that code may be run, and comes to the settling that he knows then.
 use Rattle.std.specs.Prelude.{Option}
 use Rattle.std.proofs.Common.{◌≡◌, ◌≤◌, ℕ, Bool, true, false, refl, sym, subst, ap, ◌∙◌, arith}
-use Rattle.seize_words.specs.Op.{Op, Out}
-use Rattle.seize_words.specs.Plan.{May, Steps}
+use Rattle.seize_words.specs.OneMemory.Op.{Op, Out}
+use Rattle.seize_words.specs.OneMemory.Plan.{May, Steps}
 use Rattle.seize.specs.Settle.{plan_at, retiring, settle_plan}
 use Rattle.seize.specs.declared.rows.settle.Settle.{Settle}
 use Rattle.seize.specs.declared.rows.settle.Settled.{Settled}
@@ -17,7 +17,7 @@ use Rattle.seize_straight.specs.declared.retiring.Retired.{Retired}
 use Rattle.seize_straight.specs.declared.retiring.Retired.TheVariants as to
 use Rattle.seize_straight.proofs.Reclaimings.{leads_once, may_once}
 use Rattle.seize_straight.proofs.Running.{by_law}
-use Rattle.seize_views.specs.Begun.{IsBegun}
+use Rattle.seize_views.specs.Views.Begun.{IsBegun}
 use Rattle.seize_callers.specs.Made.{left_in, IsSettling, Task, task_of}
 use Rattle.seize_views.specs.declared.view.Noted.{Noted}
 use Rattle.seize_views.specs.declared.view.Becomes.{Becomes}

@@ -1,20 +1,20 @@
 -- What a turn of a row asks for: by what the seat knows, it is next; and what the row is then.
-use Rattle.std.specs.Prelude.{◌<◌, ◌≤◌, Option, Some, None, nat_lt}
-use Rattle.std.proofs.Common.{◌≡◌, ℕ, true, false, ◌⊎◌, inl, inr, refl, sym, subst, ap, ◌∙◌, arith}
-use Rattle.seize_words.specs.Op.{Swap, Found}
-use Rattle.seize_words.specs.Word.{link_to}
+use Rattle.std.specs.Prelude.{◌<◌, Option, Some, None, nat_lt}
+use Rattle.std.proofs.Common.{◌≡◌, ℕ, true, ◌⊎◌, inl, inr, refl, sym, subst, ap, ◌∙◌, arith}
+use Rattle.seize_words.specs.OneMemory.Op.{Swap, Found}
+use Rattle.seize_words.specs.OneMemory.Word.{link_to}
 use Rattle.seize_words.specs.declared.at.At.TheVariants.{Slot}
 use Rattle.seize.specs.declared.states.TheConstants.{HEAD, ACTIVE}
 use Rattle.seize.specs.declared.rows.settle.Settle.{Settle}
 use Rattle.seize.specs.Settle.{retiring, flushing, counting_down}
-use Rattle.seize_seats.specs.State.{State}
-use Rattle.seize_seats.specs.Errands.{Away, MayLean, TurnsUnlent}
-use Rattle.seize_views.specs.Begun.{leaving, refreshes, forgetting, left_with, IsBegun, Retires, Flushes, Makes}
-use Rattle.seize_views.specs.Content.{RowsTurnIn, SettlingsBeginIn, LeansBeside, Turned}
-use Rattle.seize_views.specs.Notes.{noted}
-use Rattle.seize_views.specs.Promises.{IsLooking, IsNext, IsFree, IsToSettle}
-use Rattle.seize_views.specs.Told.{list_taken, told}
-use Rattle.seize_views.specs.Watched.{open_at, IsOfRows, Stays}
+use Rattle.seize_seats.specs.Seats.State.{State}
+use Rattle.seize_seats.specs.Seats.Errands.{Away, MayLean, TurnsUnlent}
+use Rattle.seize_views.specs.Views.Begun.{leaving, refreshes, forgetting, left_with, IsBegun, Retires, Flushes, Makes}
+use Rattle.seize_views.specs.Views.Content.{RowsTurnIn, SettlingsBeginIn, LeansBeside, Turned}
+use Rattle.seize_views.specs.Views.Notes.{noted}
+use Rattle.seize_views.specs.Views.Promises.{IsLooking, IsNext, IsFree, IsToSettle}
+use Rattle.seize_views.specs.Views.Told.{list_taken, told}
+use Rattle.seize_views.specs.Views.Watched.{open_at, IsOfRows, Stays}
 use Rattle.seize_views.specs.declared.view.Noted.{Noted}
 use Rattle.seize_views.specs.declared.view.Began.{Began}
 use Rattle.seize_views.specs.declared.view.View.{View}
@@ -272,15 +272,9 @@ module _ (T : Type 0) (fixed : Fixed) (slot : ℕ) where
 is_above : (head : ℕ) → ACTIVE < head → nat_lt ACTIVE head ≡ true
 is_above head lt = grind (arith, lt)
 
-is_not_above : (head : ℕ) → head ≤ ACTIVE → nat_lt ACTIVE head ≡ false
-is_not_above head le = grind (arith, le)
-
 pub list_settles : (T : Type 0) (slot size : ℕ) (way : Becomes) (head left : ℕ) → ACTIVE < head
     → list_taken {T = T} slot size way head left ≡ Settles (counting_down slot size head) (Ending size way) None left
 list_settles T slot size way head left lt = rw (is_above head lt) refl
-
-pub list_empty : (T : Type 0) (slot size : ℕ) (way : Becomes) (head left : ℕ) → head ≤ ACTIVE → list_taken {T = T} slot size way head left ≡ Left slot size way
-list_empty T slot size way head left le = rw (is_not_above head le) refl
 
 module _ {T : Type 0} (defers : T → Option ℕ) (v w : View T) (slot : ℕ) where
   -- what the taking of a list tells

@@ -1,6 +1,6 @@
 -- What a seat is sent for: what it has to know before, and what it knows then.
 use Rattle.std.specs.Prelude.{◌≡◌, ℕ}
-use Rattle.seize_views.specs.Promises.{IsLooking}
+use Rattle.seize_views.specs.Views.Promises.{IsLooking}
 use Rattle.seize_views.specs.declared.view.Has.{Has}
 use Rattle.seize_views.specs.declared.view.Noted.{Noted}
 use Rattle.seize_views.specs.declared.view.View.{View}

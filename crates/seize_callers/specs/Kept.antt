@@ -1,6 +1,6 @@
 -- What stays of a seat on an errand, whatever it does there.
 use Rattle.std.specs.Prelude.{ℕ, Bool, true, false, Some, None}
-use Rattle.seize_seats.specs.Errands.{Away}
+use Rattle.seize_seats.specs.Seats.Errands.{Away}
 
 -- the memory, by which reference the seat is had, which seat it is, and the errand
 pub record Kept (B N A : Type 0) : Type 0 where

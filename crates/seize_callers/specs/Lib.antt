@@ -3,4 +3,3 @@ pub mod Kept
 pub mod Made
 pub mod Done
 pub mod Owning
-pub mod Given

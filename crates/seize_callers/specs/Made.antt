@@ -1,11 +1,11 @@
 -- A memory of the rows that somebody has under way, by what he has noted: what he may do next, what he has done, and what he is shown.
 use Rattle.std.specs.Prelude.{◌≡◌, ◌⊎◌, ℕ, Option, Some, None}
-use Rattle.seize_words.specs.Op.{Op, Out, Rewrite}
+use Rattle.seize_words.specs.OneMemory.Op.{Op, Out, Rewrite}
 use Rattle.seize.specs.declared.rows.settle.Settle.{Settle}
-use Rattle.seize_seats.specs.State.{State, Allows, Owns}
-use Rattle.seize_views.specs.Notes.{noted, noted_told}
-use Rattle.seize_views.specs.Promises.{op_of}
-use Rattle.seize_views.specs.Told.{shown_by}
+use Rattle.seize_seats.specs.Seats.State.{State, Allows, Owns}
+use Rattle.seize_views.specs.Views.Notes.{noted, noted_told}
+use Rattle.seize_views.specs.Views.Promises.{op_of}
+use Rattle.seize_views.specs.Views.Told.{shown_by}
 use Rattle.seize_views.specs.declared.view.Fixed.{Fixed}
 use Rattle.seize_views.specs.declared.view.Noted.{Noted}
 use Rattle.seize_views.specs.declared.view.Deed.{Deed}

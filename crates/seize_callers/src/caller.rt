@@ -1,9 +1,9 @@
 //! One of those who share the memory.
 ghost use Rattle.std.specs.Prelude.{◌≡◌, ◌≢◌, ◌<◌, ◌^◌, true, IfOk, IfErr, IfSome, IfNone, unwrap_or};
-ghost use Rattle.seize_words.specs.Word.{block_in};
+ghost use Rattle.seize_words.specs.OneMemory.Word.{block_in};
 ghost use Rattle.seize.specs.World.{HasListWord};
 ghost use Rattle.seize_callers.specs.Kept.{is_home};
-ghost use Rattle.seize_views.specs.Promises.{IsLooking};
+ghost use Rattle.seize_views.specs.Views.Promises.{IsLooking};
 ghost use Rattle.seize_views.specs.declared.view.Began.TheVariants.{Section};
 ghost use Rattle.seize_views.specs.declared.view.View.TheVariants.{Rests, Outside, Inside};
 ghost use Rattle.seize_views.specs.declared.view.Has.{Has};

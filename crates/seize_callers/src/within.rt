@@ -4,7 +4,7 @@ ghost use Rattle.seize.specs.declared.states.TheConstants.{LAST_SLOT};
 ghost use Rattle.seize.specs.declared.rows.register.Registering.TheVariants.{Take};
 ghost use Rattle.seize_callers.specs.Kept.{kept};
 ghost use Rattle.seize_callers.specs.Seeking.{seeks};
-ghost use Rattle.seize_views.specs.Begun.{seeker_at};
+ghost use Rattle.seize_views.specs.Views.Begun.{seeker_at};
 ghost use Rattle.seize_views.specs.declared.view.Began.TheVariants.{Section};
 ghost use Rattle.seize_views.specs.declared.view.View.TheVariants.{Rests, Registers, Outside, Inside};
 ghost use Rattle.seize_views.specs.declared.view.Has.TheVariants.{Nothing};

@@ -1,0 +1,3 @@
+pub mod Renews
+pub mod Empties
+pub mod Collectors

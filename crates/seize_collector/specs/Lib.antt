@@ -1,1 +1,3 @@
-pub mod Made
+pub mod Renews
+pub mod Empties
+pub mod Collectors

@@ -3,17 +3,17 @@ ghost use Rattle.std.specs.Prelude.{◌≡◌, ◌≤◌, ◌^◌, ◌==◌, IfO
 ghost use Rattle.std.proofs.Common.{rules};
 ghost use Rattle.std.specs.Cmp.Rules.{comparing};
 ghost use Rattle.seize.specs.Collector.{made_by, root_of};
-ghost use Rattle.seize.specs.Given.SeizeWordsDeclared.fault.Fault.TheVariants.{Memory};
+ghost use Rattle.seize_words.specs.declared.fault.Fault.TheVariants.{Memory};
 ghost use Rattle.seize.specs.Ids.{given, following};
-ghost use Rattle.seize_seats.specs.Owned.{IsLike};
-ghost use Rattle.seize_renews.specs.Emptied.{IsEmptied};
-ghost use Rattle.seize_shared.specs.Refused.{HasNoSlot};
-ghost use Rattle.seize_collector.specs.Made.{IsMade};
+ghost use Rattle.seize_seats.specs.Seats.Owned.{IsLike};
+ghost use Rattle.seize_collector.specs.Renews.Emptied.{IsEmptied};
+ghost use Rattle.seize_shared.specs.OnThreads.Refused.{HasNoSlot};
+ghost use Rattle.seize_collector.specs.Collectors.Made.{IsMade};
 
+use crate::reclaim_all;
 use seize::rows::{Defers, LeftOver};
 use seize::{At, Collector as Setting, Fault, IdSource};
 use seize_blocks::Home;
-use seize_empties::reclaim_all;
 use seize_shared::{Content, Drops, Fixed, OfRows, OwnedGuard, Receiver, Registration, Shared};
 use std::alloc::Global;
 use std::fmt;

@@ -1,4 +1,3 @@
+pub mod Waiting
 pub mod Moves
-pub mod Sets
-pub mod State
-pub mod Given
+pub mod Memory

@@ -1,8 +1,4 @@
--- Each move keeps the rule, and leaves to the other rows what they know.
-pub mod AtZero
-pub mod Blocks
-pub mod Ended
-pub mod Pushes
-pub mod Slots
-pub mod Takes
-pub mod Tries
+-- The collector's state with its lists as lists: its rule, the moves that keep it, and what they do to the waiting sets.
+pub mod Moves
+pub mod Sets
+pub mod State

@@ -1,2 +1,4 @@
-//! The collector's state with its lists as lists: its rule, the moves that keep it, and what they do to the waiting sets.
+//! The collector's state with its lists as lists: its waiting sets, its rule, the moves that keep it, and how the words of a memory show it.
 #![tactic(auto)]
+
+pub mod law;

@@ -3,5 +3,4 @@ pub mod Rows
 mod Samples
 pub mod Words
 pub mod World
-pub mod Written
 pub mod Given

@@ -1,5 +1,5 @@
 //! What is promised of the places of words.
-ghost use Rattle.seize_seats.specs.Laws.{WordsLie, WordsAreApart, EntriesLie, EntriesAreApart};
+ghost use Rattle.seize_seats.specs.Seats.Laws.{WordsLie, WordsAreApart, EntriesLie, EntriesAreApart};
 
 /// Each word of a memory lies at a place of its own: another word there is another word of its name, and leaves all others as they were.
 pub fn words_have_places_of_their_own<T>()

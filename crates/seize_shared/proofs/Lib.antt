@@ -1,1 +1,1 @@
-pub mod Standing
+pub mod OnThreads

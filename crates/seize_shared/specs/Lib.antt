@@ -1,2 +1,2 @@
-pub mod Standing
-pub mod Refused
+pub mod Guards
+pub mod OnThreads

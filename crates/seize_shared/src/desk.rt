@@ -1,10 +1,10 @@
 //! A slot of which several guards have the section open: it begins with the first of them, and ends with the last.
 ghost use Rattle.std.specs.Prelude.{◌≡◌, ◌≢◌, ◌<◌, ◌^◌, ℕ, Some, true, false, IfOk, IfErr, IfSome, IfNone, unwrap_or};
-ghost use Rattle.seize.specs.Given.SeizeWordsDeclared.fault.Fault.TheVariants.{GuardsFull};
-ghost use Rattle.seize_shared.specs.Refused.{HasNoSlot};
-ghost use Rattle.seize_guards.specs.Lent.{IsLent};
-ghost use Rattle.seize_callers.specs.Given.SeizeViewsNotes.{looked_at};
-ghost use Rattle.seize_callers.specs.Given.SeizeViewsDeclared.view.View.TheVariants.{Rests, Watches};
+ghost use Rattle.seize_words.specs.declared.fault.Fault.TheVariants.{GuardsFull};
+ghost use Rattle.seize_shared.specs.OnThreads.Refused.{HasNoSlot};
+ghost use Rattle.seize_shared.specs.Guards.Lent.{IsLent};
+ghost use Rattle.seize_views.specs.Views.Notes.{looked_at};
+ghost use Rattle.seize_views.specs.declared.view.View.TheVariants.{Rests, Watches};
 
 use crate::stay::Stay;
 use seize::rows::Defers;

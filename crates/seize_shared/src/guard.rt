@@ -1,22 +1,21 @@
 //! Guards of sections: one of a slot that stays on its thread, and one with a slot of its own that may be sent.
 ghost use Rattle.std.specs.Prelude.{◌≡◌, ◌≢◌, ◌<◌, None, Some, IfOk, IfErr, true, false};
-ghost use Rattle.seize.specs.Given.SeizeWordsDeclared.fault.Fault.TheVariants.{ForeignGuard};
-ghost use Rattle.seize_guards.specs.Deeds.{has_taken};
-ghost use Rattle.seize_guards.specs.Homes.{OneSource};
-ghost use Rattle.seize_shared.specs.Refused.{HasNoSlot};
-ghost use Rattle.seize_callers.specs.Given.SeizeViewsNotes.{written_at};
-ghost use Rattle.seize_callers.specs.Given.SeizeViewsDeclared.view.Began.TheVariants.{Retirement, Trial};
-ghost use Rattle.seize_callers.specs.Given.SeizeViewsDeclared.view.View.TheVariants.{Brings};
+ghost use Rattle.seize_words.specs.declared.fault.Fault.TheVariants.{ForeignGuard};
+ghost use Rattle.seize_shared.specs.Guards.Deeds.{has_taken};
+ghost use Rattle.seize_shared.specs.Guards.Homes.{OneSource};
+ghost use Rattle.seize_shared.specs.OnThreads.Refused.{HasNoSlot};
+ghost use Rattle.seize_views.specs.Views.Notes.{written_at};
+ghost use Rattle.seize_views.specs.declared.view.Began.TheVariants.{Retirement, Trial};
+ghost use Rattle.seize_views.specs.declared.view.View.TheVariants.{Brings};
 
 use crate::shared::Shared;
 use crate::stay::Stay;
+use crate::{Guard, Owned, Pass, Protected, RootGuard, Tagged, Unlinked};
 use seize::rows::Defers;
 use seize_blocks::Blocks;
 use seize_callers::Caller;
-use seize_guards::{Guard, Owned, Pass, Protected, RootGuard, Tagged, Unlinked};
-use seize_receivers::{Drops, Receiver};
 use seize_views::{Content, Fixed, OfRows};
-use seize_words::Fault;
+use seize_words::{Drops, Fault, Receiver};
 use std::marker::PhantomData;
 
 /// A slot of its owner's, on whose thread it stays. It is given up as this ends.
@@ -181,7 +180,7 @@ impl<'r, 'a, T: Defers + Drop, C: Content<T>, R: Receiver<T>> Guard<T>
 }
 
 impl<'r, 'a, T: Defers + Drop, R: Receiver<T>> RootGuard<T> for LocalGuard<'r, 'a, T, OfRows, R> {
-    ghost use Rattle.seize_guards.specs.Lent.{IsLent};
+    ghost use Rattle.seize_shared.specs.Guards.Lent.{IsLent};
 
     ghost lends = { λ g. IsLent T.defers g.registration.now.stay.caller.blocks.now.words.fixed g.registration.now.stay.caller.seat.id g.registration.now.stay.caller.seat.view };
 
@@ -378,7 +377,7 @@ impl<'a, T: Defers + Drop, C: Content<T>, R: Receiver<T>> Guard<T> for OwnedGuar
 }
 
 impl<'a, T: Defers + Drop, R: Receiver<T>> RootGuard<T> for OwnedGuard<'a, T, OfRows, R> {
-    ghost use Rattle.seize_guards.specs.Lent.{IsLent};
+    ghost use Rattle.seize_shared.specs.Guards.Lent.{IsLent};
 
     ghost lends = { λ g. IsLent T.defers g.stay.caller.blocks.now.words.fixed g.stay.caller.seat.id g.stay.caller.seat.view };
 

@@ -1,16 +1,25 @@
-//! The collector's rows over a memory that threads share: slots are taken, entered, left and given up, and blocks are put at
-//! roots, seen there, taken from there and retired, by as many threads as there are.
+//! The collector's rows over a memory that threads share: registrations, guards that end a section as they are dropped, the words that they find at
+//! roots, and desks.
 #![tactic(auto)]
 
 mod desk;
 mod guard;
+mod guarding;
+mod owned;
+mod pass;
 mod shared;
 mod stay;
+mod tagged;
+mod unlinked;
 
 pub use desk::{Desk, DeskGuard, MOST_GUARDS, Place};
 pub use guard::{LocalGuard, OwnedGuard, Registration};
+pub use guarding::{Guard, RootGuard};
+pub use owned::Owned;
+pub use pass::Pass;
 pub use seize_callers::Caller;
-pub use seize_guards::{Guard, Owned, Pass, Protected, RootGuard, Tagged, Unlinked};
-pub use seize_receivers::{Drops, Receiver};
 pub use seize_views::{Becomes, Began, Content, Deed, Fixed, Has, Noted, OfRows, View, Why};
+pub use seize_words::{Drops, Receiver};
 pub use shared::Shared;
+pub use tagged::{Protected, Tagged};
+pub use unlinked::Unlinked;

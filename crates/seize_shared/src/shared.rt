@@ -1,15 +1,14 @@
 //! A collector as those have it who share it: they take slots of it, and make blocks.
 ghost use Rattle.std.specs.Prelude.{◌≡◌, IfOk, IfErr};
-ghost use Rattle.seize_shared.specs.Refused.{HasNoSlot};
-ghost use Rattle.seize_callers.specs.Given.SeizeViewsDeclared.view.View.TheVariants.{Brings};
+ghost use Rattle.seize_shared.specs.OnThreads.Refused.{HasNoSlot};
+ghost use Rattle.seize_views.specs.declared.view.View.TheVariants.{Brings};
 
 use crate::guard::{OwnedGuard, Registration};
+use crate::{Owned, Pass};
 use seize::rows::Defers;
 use seize_blocks::Blocks;
-use seize_guards::{Owned, Pass};
-use seize_receivers::{Drops, Receiver};
 use seize_views::{Content, Fixed, OfRows};
-use seize_words::Fault;
+use seize_words::{Drops, Fault, Receiver};
 use std::marker::PhantomData;
 
 /// A collector, lent: it may go to other threads, and each of them may take slots of it.

@@ -1,8 +1,8 @@
 //! A slot that is held, and its section, which is open or not.
 ghost use Rattle.std.specs.Prelude.{◌≡◌, ◌<◌, ◌^◌, Some, IfOk, IfErr, true, false};
-ghost use Rattle.seize_shared.specs.Refused.{HasNoSlot};
-ghost use Rattle.seize_shared.specs.Standing.{standing};
-ghost use Rattle.seize_callers.specs.Given.SeizeViewsDeclared.view.Began.TheVariants.{Section, Trial};
+ghost use Rattle.seize_shared.specs.OnThreads.Refused.{HasNoSlot};
+ghost use Rattle.seize_shared.specs.OnThreads.Standing.{standing};
+ghost use Rattle.seize_views.specs.declared.view.Began.TheVariants.{Section, Trial};
 
 mod roots;
 
@@ -10,9 +10,8 @@ use crate::shared::Shared;
 use seize::rows::Defers;
 use seize_blocks::Blocks;
 use seize_callers::Caller;
-use seize_receivers::Receiver;
 use seize_views::{Content, Fixed, OfRows};
-use seize_words::Fault;
+use seize_words::{Fault, Receiver};
 
 /// Why no slot is taken, as it is told: where it is not that each is in use it is memory.
 fn refusal(fault: Fault) -> Fault

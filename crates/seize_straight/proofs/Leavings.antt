@@ -2,8 +2,8 @@
 use Rattle.std.specs.Prelude.{◌≡◌, ◌<◌, ◌≤◌, ℕ, Bool, true, false, Option}
 use Rattle.std.proofs.Common.{refl}
 use Rattle.std.proofs.lemmas.Bool.{le-ltb, lt-ltb}
-use Rattle.seize.specs.Given.SeizeWordsOp.{Op, Out, Store, Swap, Found, Stored}
-use Rattle.seize.specs.Given.SeizeWordsDeclared.at.At.TheVariants.{Slot}
+use Rattle.seize_words.specs.OneMemory.Op.{Op, Out, Store, Swap, Found, Stored}
+use Rattle.seize_words.specs.declared.at.At.TheVariants.{Slot}
 use Rattle.seize.specs.Leave.{leave_plan, leaving, standing}
 use Rattle.seize.specs.declared.rows.leave.Leaving.TheVariants as at
 use Rattle.seize.specs.declared.rows.settle.Settled.TheVariants as settled

@@ -2,10 +2,10 @@
 use Rattle.std.specs.Prelude.{◌≡◌, ◌≢◌, ℕ, Option, Some, None}
 use Rattle.std.proofs.Common.{refl, sym, subst, ap}
 use Rattle.std.proofs.lemmas.Bool.{ne_eqb}
-use Rattle.seize.specs.Given.SeizeWordsOp.{Op, Out, Load, Take, Found, Taken}
-use Rattle.seize.specs.Given.SeizeWordsPlan.{Steps}
-use Rattle.seize.specs.Given.SeizeWordsWord.{block_in}
-use Rattle.seize.specs.Given.SeizeWordsDeclared.at.At.TheVariants.{Entry}
+use Rattle.seize_words.specs.OneMemory.Op.{Op, Out, Load, Take, Found, Taken}
+use Rattle.seize_words.specs.OneMemory.Plan.{Steps}
+use Rattle.seize_words.specs.OneMemory.Word.{block_in}
+use Rattle.seize_words.specs.declared.at.At.TheVariants.{Entry}
 use Rattle.seize.specs.Settle.{settle_plan, standing}
 use Rattle.seize.specs.declared.rows.settle.Settle.{Settle}
 use Rattle.seize.specs.declared.rows.settle.Settled.{Settled}

@@ -2,10 +2,10 @@
 use Rattle.std.specs.Prelude.{◌≡◌, ◌≢◌, ◌==◌, ℕ, Bool, ◌+◌, ◌%◌, ◌^◌, true, false, if◌then◌else◌, nat_lt, Option, Ok, Err}
 use Rattle.std.proofs.Common.{refl, subst}
 use Rattle.std.proofs.lemmas.Bool.{ne_eqb, eq-eqb}
-use Rattle.seize.specs.Given.SeizeWordsOp.{Op, Out, Load, Store, Add, Exchange, Found, Stored, Exchanged}
-use Rattle.seize.specs.Given.SeizeWordsPlan.{Ends}
-use Rattle.seize.specs.Given.SeizeWordsWord.{block_in}
-use Rattle.seize.specs.Given.SeizeWordsDeclared.at.At.TheVariants.{Slot, Entry}
+use Rattle.seize_words.specs.OneMemory.Op.{Op, Out, Load, Store, Add, Exchange, Found, Stored, Exchanged}
+use Rattle.seize_words.specs.OneMemory.Plan.{Ends}
+use Rattle.seize_words.specs.OneMemory.Word.{block_in}
+use Rattle.seize_words.specs.declared.at.At.TheVariants.{Slot, Entry}
 use Rattle.seize.specs.Settle.{retiring, settle_plan, to}
 use Rattle.seize.specs.declared.rows.settle.Settle.{Settle}
 use Rattle.seize.specs.declared.rows.settle.Settled.TheVariants as settled

@@ -1,8 +1,8 @@
 -- Steps of a machine over any memory, one after another.
 use Rattle.std.specs.Prelude.{ℕ, zero, suc, Option}
-use Rattle.seize.specs.Given.SeizeWordsOp.{Op, Out}
+use Rattle.seize_words.specs.OneMemory.Op.{Op, Out}
 use Rattle.std.proofs.Common.{subst}
-use Rattle.seize.specs.Given.SeizeWordsPlan.{Plan, Then, May, Steps, Ends}
+use Rattle.seize_words.specs.OneMemory.Plan.{Plan, Then, May, Steps, Ends}
 use Rattle.seize_straight.specs.Reaches.{ComesTo, Reached, At, Told, Reaches}
 use Rattle.seize_straight.specs.Runs.{Lasts, MayRun, lasts, Leads, none_taken, one_more, Tells}
 

@@ -1,6 +1,6 @@
 -- Which outcomes of a settling go on, and so what may be run of it, and where that leads.
 use Rattle.std.specs.Prelude.{ℕ, Option}
-use Rattle.seize.specs.Given.SeizeWordsOp.{Op, Out}
+use Rattle.seize_words.specs.OneMemory.Op.{Op, Out}
 use Rattle.seize.specs.Settle.{settle_plan}
 use Rattle.seize.specs.declared.rows.settle.Settle.{Settle}
 use Rattle.seize.specs.declared.rows.settle.Settled.{Settled}

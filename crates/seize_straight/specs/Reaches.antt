@@ -1,7 +1,7 @@
 -- What code that makes a machine's operations without being the machine has come to.
 use Rattle.std.specs.Prelude.{◌≡◌, ℕ, Option}
-use Rattle.seize.specs.Given.SeizeWordsOp.{Op, Out}
-use Rattle.seize.specs.Given.SeizeWordsPlan.{Plan}
+use Rattle.seize_words.specs.OneMemory.Op.{Op, Out}
+use Rattle.seize_words.specs.OneMemory.Plan.{Plan}
 use Rattle.seize_straight.specs.Runs.{Leads, Tells}
 
 -- a point where the machine stands, or what it has told

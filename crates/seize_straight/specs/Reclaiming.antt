@@ -1,7 +1,7 @@
 -- The reclaiming of a block as straight code: what has come of it.
 use Rattle.std.specs.Prelude.{ℕ, Option, Some, None}
-use Rattle.seize.specs.Given.SeizeWordsOp.{Op, Out}
-use Rattle.seize.specs.Given.SeizeWordsPlan.{Steps}
+use Rattle.seize_words.specs.OneMemory.Op.{Op, Out}
+use Rattle.seize_words.specs.OneMemory.Plan.{Steps}
 use Rattle.seize.specs.Settle.{settle_plan}
 use Rattle.seize.specs.declared.rows.settle.Settle.{Settle}
 use Rattle.seize.specs.declared.rows.settle.Settled.TheVariants as settled

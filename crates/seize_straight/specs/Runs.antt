@@ -1,8 +1,8 @@
 -- Runs of a machine over any memory: what may be run, and what came of it. Between two operations others may step: what they do lies within what an
 -- operation took.
 use Rattle.std.specs.Prelude.{ℕ, zero, suc, Option}
-use Rattle.seize.specs.Given.SeizeWordsOp.{Op, Out}
-use Rattle.seize.specs.Given.SeizeWordsPlan.{Plan, May, Steps}
+use Rattle.seize_words.specs.OneMemory.Op.{Op, Out}
+use Rattle.seize_words.specs.OneMemory.Plan.{Plan, May, Steps}
 
 -- `on` says which outcomes go on, `plan` what the next step does at each point
 module _ {T X P M : Type 0} (on : P → Type 0) (took : M → Op T → Out T → M → Type 0) (shown : M → ℕ → Option T) (plan : X → Plan T (X × P)) where

@@ -1,1 +1,2 @@
-mod Slots
+pub mod BlocksTests
+pub mod Tests

@@ -1,9 +1,9 @@
 //! Slots whose registrations need memory, which is refused and then met.
 ghost use Rattle.std.specs.Prelude.{None};
-ghost use Rattle.seize_alone.specs.Alone.{History, IsHistory};
+ghost use Rattle.seize_model.specs.Alone.Alone.{History, IsHistory};
 
 use crate::leaf::Leaf;
-use seize_alone::register;
+use seize_model::register;
 use seize_words::{Fault, Plain};
 use std::alloc::{AllocError, Global};
 

@@ -1,13 +1,13 @@
 //! Values are retired and reclaimed by whole calls in one section, over a memory that has one owner.
 ghost use Rattle.std.specs.Prelude.{◌≡◌, ℕ, List, None, IfOk};
-ghost use Rattle.seize_words.specs.Mem.{Mem};
+ghost use Rattle.seize_words.specs.OneMemory.Mem.{Mem};
 ghost use Rattle.seize_tests.specs.declared.leaf.Leaf.{Leaf};
-ghost use Rattle.seize_tests.specs.Section.{IsInside};
+ghost use Rattle.seize_tests.specs.Tests.Section.{IsInside};
 ghost use Rattle.seize.specs.World.{Request};
-ghost use Rattle.seize_alone.specs.Alone.{History, IsMidway, SlotsAre, row_of, uses_after};
+ghost use Rattle.seize_model.specs.Alone.Alone.{History, IsMidway, SlotsAre, row_of, uses_after};
 
 use crate::leaf::Leaf;
-use seize_alone::{WholeCall, register};
+use seize_model::{WholeCall, register};
 use seize_words::{Memory, Plain};
 use std::alloc::{AllocError, Global};
 

@@ -1,2 +1,2 @@
 -- What is so by the crates below, given on to the crates above: these list this crate in place of those.
-pub use Rattle.seize_bounds.proofs.Given.SeizeActsAnswers
+pub use Rattle.seize_acts.proofs.Acts.Answers as SeizeActsAnswers

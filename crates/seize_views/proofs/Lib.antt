@@ -1,32 +1,3 @@
-pub mod Aside
-pub mod Lists
-pub mod Reclaims
-pub mod Came
-pub mod Found
-pub mod Moved
-pub mod Steps
-pub mod InWorld
-pub mod Operations
-pub mod Begins
-pub mod Ends
-pub mod Turning
-pub mod Lifted
-pub mod Beginnings
-pub mod Registers
-pub mod Looks
-pub mod Makes
-pub mod Settling
-pub mod GoesOn
-pub mod Users
-pub mod Blocks
-pub mod Written
-pub mod Roots
-pub mod Handing
-mod Leaned
-mod Watched
-pub mod Notes
-pub mod Guarding
-pub mod Passing
-mod Contents
-mod Values
+pub mod Reaches
+pub mod Views
 pub mod Given

@@ -1,10 +1,2 @@
-pub mod Rows
-pub mod Told
-pub mod Promises
-pub mod Begun
-pub mod Watched
-pub mod Notes
-pub mod Content
-pub mod Resting
-pub mod Stays
-pub mod Values
+pub mod Reaches
+pub mod Views

@@ -6,7 +6,7 @@ use seize_blocks::Rule;
 
 /// A rule by which seats have rows of the collector under way, whatever else they know and do.
 pub trait Content<T: Defers>: Rule<T, Fixed = Fixed> {
-    ghost use Rattle.seize_views.specs.Content.{SeatsComeIn, RowsGoOnIn, RowsAreTold, RowsTurnIn, SettlingsBeginIn, LookedAreShownIn, LeansBeside, RestWithNothing};
+    ghost use Rattle.seize_views.specs.Views.Content.{SeatsComeIn, RowsGoOnIn, RowsAreTold, RowsTurnIn, SettlingsBeginIn, LookedAreShownIn, LeansBeside, RestWithNothing};
     ghost use Rattle.seize_views.specs.declared.view.Noted.{Noted};
 
     /// What a view has that no row changes.

@@ -1,15 +1,16 @@
-//! The collector's rule for a memory that threads share: what each seat knows of the row that it has under way, of its slot and of a block, and what it has done last; and what
-//! is promised of it.
+//! The collector's rule for a memory that threads share: what each seat sees and has in its hand, what each step keeps; and that nothing is lost between
+//! steps.
 #![tactic(auto)]
 
 mod content;
-mod law;
+pub mod law;
 mod rows;
 pub mod turns;
 mod view;
 
 pub use content::Content;
-pub use law::{
+pub use law::reaches::handed_are_reached;
+pub use law::views::{
     blocks_have_seats, deeds_are_noted, rows_go_on, sections_are_leaned_on, sections_are_watched,
     sections_go_on, values_are_found,
 };

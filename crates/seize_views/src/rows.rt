@@ -8,10 +8,10 @@ pub struct OfRows;
 
 impl<T: Defers> Rule<T> for OfRows {
     ghost use Rattle.seize.specs.World.{World};
-    ghost use Rattle.seize_views.specs.Notes.{NotedHolds, NotedKeeps, noted_told, newcomer};
-    ghost use Rattle.seize_views.specs.Rows.{IsAtRest};
-    ghost use Rattle.seize_views.specs.Resting.{resting_stay, upright, leaning_stay};
-    ghost use Rattle.seize_views.specs.Watched.{Leans};
+    ghost use Rattle.seize_views.specs.Views.Notes.{NotedHolds, NotedKeeps, noted_told, newcomer};
+    ghost use Rattle.seize_views.specs.Views.Rows.{IsAtRest};
+    ghost use Rattle.seize_views.specs.Views.Resting.{resting_stay, upright, leaning_stay};
+    ghost use Rattle.seize_views.specs.Views.Watched.{Leans};
 
     type View = Noted<T>;
 

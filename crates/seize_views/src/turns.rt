@@ -48,103 +48,103 @@ pub struct Leaning;
 pub struct Returning;
 
 impl<T: Defers, C: Content<T>> Turn<Fixed, C::View> for Registering<T, C> {
-    ghost use Rattle.seize_views.specs.Begun.{registering, Makes};
-    ghost use Rattle.seize_views.specs.Content.{Turned};
-    ghost use Rattle.seize_views.specs.Notes.{still};
+    ghost use Rattle.seize_views.specs.Views.Begun.{registering, Makes};
+    ghost use Rattle.seize_views.specs.Views.Content.{Turned};
+    ghost use Rattle.seize_views.specs.Views.Notes.{still};
 
     ghost to = { Turned C.notes C.beside (Makes registering) still };
 }
 
 impl<T: Defers, C: Content<T>> Turn<Fixed, C::View> for Entering<T, C> {
-    ghost use Rattle.seize_views.specs.Begun.{entering, Makes};
-    ghost use Rattle.seize_views.specs.Content.{Turned};
+    ghost use Rattle.seize_views.specs.Views.Begun.{entering, Makes};
+    ghost use Rattle.seize_views.specs.Views.Content.{Turned};
     ghost use Rattle.seize_views.specs.declared.view.Began.TheVariants.{Section};
 
     ghost to = { Turned C.notes C.beside (Makes entering) (λ _. Section) };
 }
 
 impl<T: Defers, C: Content<T>> Turn<Fixed, C::View> for Retiring<T, C> {
-    ghost use Rattle.seize_views.specs.Begun.{Retires};
-    ghost use Rattle.seize_views.specs.Content.{Turned};
+    ghost use Rattle.seize_views.specs.Views.Begun.{Retires};
+    ghost use Rattle.seize_views.specs.Views.Content.{Turned};
     ghost use Rattle.seize_views.specs.declared.view.Began.TheVariants.{Retirement};
 
     ghost to = { Turned C.notes C.beside Retires (λ _. Retirement) };
 }
 
 impl<T: Defers, C: Content<T>> Turn<Fixed, C::View> for Flushing<T, C> {
-    ghost use Rattle.seize_views.specs.Begun.{Flushes};
-    ghost use Rattle.seize_views.specs.Content.{Turned};
+    ghost use Rattle.seize_views.specs.Views.Begun.{Flushes};
+    ghost use Rattle.seize_views.specs.Views.Content.{Turned};
     ghost use Rattle.seize_views.specs.declared.view.Began.TheVariants.{Trial};
 
     ghost to = { Turned C.notes C.beside Flushes (λ _. Trial) };
 }
 
 impl<T: Defers, C: Content<T>> Turn<Fixed, C::View> for Leaving<T, C> {
-    ghost use Rattle.seize_views.specs.Begun.{leaving, Makes};
-    ghost use Rattle.seize_views.specs.Content.{Turned};
-    ghost use Rattle.seize_views.specs.Notes.{still};
+    ghost use Rattle.seize_views.specs.Views.Begun.{leaving, Makes};
+    ghost use Rattle.seize_views.specs.Views.Content.{Turned};
+    ghost use Rattle.seize_views.specs.Views.Notes.{still};
 
     ghost to = { Turned C.notes C.beside (Makes leaving) still };
 }
 
 impl<T: Defers, C: Content<T>> Turn<Fixed, C::View> for Refreshing<T, C> {
-    ghost use Rattle.seize_views.specs.Begun.{refreshes, Makes};
-    ghost use Rattle.seize_views.specs.Content.{Turned};
+    ghost use Rattle.seize_views.specs.Views.Begun.{refreshes, Makes};
+    ghost use Rattle.seize_views.specs.Views.Content.{Turned};
     ghost use Rattle.seize_views.specs.declared.view.Began.TheVariants.{Section};
 
     ghost to = { Turned C.notes C.beside (Makes refreshes) (λ _. Section) };
 }
 
 impl<T: Defers, C: Content<T>> Turn<Fixed, C::View> for Forgetting<T, C> {
-    ghost use Rattle.seize_views.specs.Begun.{forgetting, Makes};
-    ghost use Rattle.seize_views.specs.Content.{Turned};
-    ghost use Rattle.seize_views.specs.Notes.{still};
+    ghost use Rattle.seize_views.specs.Views.Begun.{forgetting, Makes};
+    ghost use Rattle.seize_views.specs.Views.Content.{Turned};
+    ghost use Rattle.seize_views.specs.Views.Notes.{still};
 
     ghost to = { Turned C.notes C.beside (Makes forgetting) still };
 }
 
 impl<T: Defers, C: Content<T>> Turn<Fixed, C::View> for Ending<T, C> {
-    ghost use Rattle.seize_views.specs.Begun.{ended, Makes};
-    ghost use Rattle.seize_views.specs.Content.{Turned};
-    ghost use Rattle.seize_views.specs.Notes.{still};
+    ghost use Rattle.seize_views.specs.Views.Begun.{ended, Makes};
+    ghost use Rattle.seize_views.specs.Views.Content.{Turned};
+    ghost use Rattle.seize_views.specs.Views.Notes.{still};
 
     ghost to = { Turned C.notes C.beside (Makes ended) still };
 }
 
 impl<T: Defers, C: Content<T>> Turn<Fixed, C::View> for Freeing<T, C> {
-    ghost use Rattle.seize_views.specs.Begun.{freeing, Makes};
-    ghost use Rattle.seize_views.specs.Content.{Turned};
-    ghost use Rattle.seize_views.specs.Notes.{still};
+    ghost use Rattle.seize_views.specs.Views.Begun.{freeing, Makes};
+    ghost use Rattle.seize_views.specs.Views.Content.{Turned};
+    ghost use Rattle.seize_views.specs.Views.Notes.{still};
 
     ghost to = { Turned C.notes C.beside (Makes freeing) still };
 }
 
 impl<T> Meeting<Fixed, Noted<T>> for Handing {
-    ghost use Rattle.seize_views.specs.Notes.{NotedHands};
+    ghost use Rattle.seize_views.specs.Views.Notes.{NotedHands};
 
     ghost to = { NotedHands };
 }
 
 impl<T> Meeting<Fixed, Noted<T>> for Watching {
-    ghost use Rattle.seize_views.specs.Notes.{Begins};
+    ghost use Rattle.seize_views.specs.Views.Notes.{Begins};
 
     ghost to = { λ _. Begins };
 }
 
 impl<T> Meeting<Fixed, Noted<T>> for Ceasing {
-    ghost use Rattle.seize_views.specs.Notes.{Ends};
+    ghost use Rattle.seize_views.specs.Views.Notes.{Ends};
 
     ghost to = { λ _. Ends };
 }
 
 impl<T> Lesson<Fixed, Noted<T>> for Leaning {
-    ghost use Rattle.seize_views.specs.Notes.{BeginsUnder};
+    ghost use Rattle.seize_views.specs.Views.Notes.{BeginsUnder};
 
     ghost to = { λ _. BeginsUnder };
 }
 
 impl<T> Turn<Fixed, Noted<T>> for Returning {
-    ghost use Rattle.seize_views.specs.Notes.{ComesBack};
+    ghost use Rattle.seize_views.specs.Views.Notes.{ComesBack};
 
     ghost to = { λ _. ComesBack };
 }

@@ -1,13 +1,1 @@
-pub mod Fault
-pub mod Word
-pub mod Place
-pub mod SlotWords
-pub mod Op
-pub mod Mem
-pub mod Plan
-pub mod Buckets
-pub mod FreeNumbers
-pub mod Free
-pub mod Directory
-pub mod Room
-pub mod Piece
+pub mod OneMemory

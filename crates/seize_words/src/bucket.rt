@@ -1,6 +1,6 @@
 //! A bucket of the directory: the pieces of blocks with numbers one after another.
 ghost use Rattle.std.specs.Prelude.{◌≡◌, ◌∷◌, ◌++◌, ◌<◌, [], None, Some, IsSome, IfOk, OnOk, IfErr, length, slice_index_or, slice_set};
-ghost use Rattle.seize_words.specs.Mem.{value_in, entry_in, word_in, with_entry, with_word_in, with_value_in, values_in};
+ghost use Rattle.seize_words.specs.OneMemory.Mem.{value_in, entry_in, word_in, with_entry, with_word_in, with_value_in, values_in};
 
 use crate::piece::Piece;
 use std::alloc::{AllocError, Global};

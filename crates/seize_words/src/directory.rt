@@ -1,7 +1,7 @@
 //! Blocks by their numbers, and the numbers that are free.
 ghost use Rattle.std.specs.Prelude.{◌≡◌, ◌<◌, ◌≤◌, ◌^◌, ◌+◌, ◌-◌, ◌%◌, [], ◌∷◌, ◌++◌, None, Some, IsSome, IfOk, IfErr, OnOk, OnErr, length, slice_index_or, slice_set};
-ghost use Rattle.seize_words.specs.Directory.{with_next};
-ghost use Rattle.seize_words.specs.Mem.{free_from, value_in, entry_in, word_in, with_entry, with_word_in, with_value_in, values_in, picked, with_made};
+ghost use Rattle.seize_words.specs.OneMemory.Directory.{with_next};
+ghost use Rattle.seize_words.specs.OneMemory.Mem.{free_from, value_in, entry_in, word_in, with_entry, with_word_in, with_value_in, values_in, picked, with_made};
 
 use crate::bucket::Bucket;
 use crate::free_numbers::FreeNumbers;
@@ -26,8 +26,8 @@ pub(crate) struct Directory<T> {
 impl<T> Model for Directory<T> {
     ghost use Rattle.std.specs.Prelude.{List, Option};
     ghost use Rattle.seize_words.specs.declared.block.Block.{Block};
-    ghost use Rattle.seize_words.specs.Buckets.{all_in};
-    ghost use Rattle.seize_words.specs.Directory.{IsDirectory};
+    ghost use Rattle.seize_words.specs.OneMemory.Buckets.{all_in};
+    ghost use Rattle.seize_words.specs.OneMemory.Directory.{IsDirectory};
 
     ghost Value = { List (Option (Block T)) };
 

@@ -1,6 +1,6 @@
 //! What a call can be refused for.
 ghost use Rattle.std.specs.Prelude.{◌≡◌, Some};
-ghost use Rattle.seize_words.specs.Fault.{name_of, number_of, text_of};
+ghost use Rattle.seize_words.specs.OneMemory.Fault.{name_of, number_of, text_of};
 ghost use Rattle.seize_words.specs.declared.fault.Fault.TheVariants.{Memory};
 
 use std::alloc::{AllocError, AllocFailed};

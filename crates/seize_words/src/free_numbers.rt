@@ -1,7 +1,7 @@
 //! Free numbers as words of flags, with words above them that say in which words flags are set.
 ghost use Rattle.std.specs.Prelude.{◌≡◌, ◌<◌, ◌≤◌, ◌+◌, ◌-◌, ◌*◌, ◌^◌, ◌%◌, ℕ, [], count_ones, length, remove, replicate, slice_index, slice_index_or, slice_set, IfOk, OnOk, OnErr};
 ghost use Rattle.std.specs.Int.{bit_at};
-ghost use Rattle.seize_words.specs.FreeNumbers.{AreFlags, IsBehind, IsTree, IsTurned, numbers_in, places, set_among, with_number};
+ghost use Rattle.seize_words.specs.OneMemory.FreeNumbers.{AreFlags, IsBehind, IsTree, IsTurned, numbers_in, places, set_among, with_number};
 
 use std::alloc::{AllocError, Global};
 use std::marker::Model;
@@ -176,7 +176,7 @@ pub(crate) struct FreeNumbers {
 
 impl Model for FreeNumbers {
     ghost use Rattle.std.specs.Prelude.{◌≡◌, length};
-    ghost use Rattle.seize_words.specs.FreeNumbers.{FreeNumbers, IsTree, numbers_in, places};
+    ghost use Rattle.seize_words.specs.OneMemory.FreeNumbers.{FreeNumbers, IsTree, numbers_in, places};
 
     ghost Value = { FreeNumbers };
 

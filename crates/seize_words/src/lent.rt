@@ -12,7 +12,7 @@ pub struct Lent<'a, T> {
 
 impl<T> Look<T> for Lent<'_, T> {
     ghost use Rattle.std.specs.Prelude.{◌≡◌};
-    ghost use Rattle.seize_words.specs.Mem.{Can, Gives, value_at};
+    ghost use Rattle.seize_words.specs.OneMemory.Mem.{Can, Gives, value_at};
 
     ghost can = { λ lent op. Can lent.memory.now op };
 

@@ -1,6 +1,6 @@
 //! Links to blocks, each in one word.
 ghost use Rattle.std.specs.Prelude.{◌≡◌, ◌<◌, ◌%◌, ◌^◌, ℕ};
-ghost use Rattle.seize_words.specs.Word.{link_word, link_to, block_in, byte_in, marks_in};
+ghost use Rattle.seize_words.specs.OneMemory.Word.{link_word, link_to, block_in, byte_in, marks_in};
 
 /// A link to a block: the block's number, a byte of tag, and marks. One word of 64 bits holds it.
 #[derive(Clone, Copy, Debug, PartialEq, Eq)]

@@ -5,7 +5,7 @@ use crate::fault::Fault;
 /// A memory that can be read: words by name, and the values of blocks.
 pub trait Look<T> {
     ghost use Rattle.std.specs.Prelude.{ℕ, ◌≡◌, Option, Some, IsSome};
-    ghost use Rattle.seize_words.specs.Op.{Op, Out, Load, Found};
+    ghost use Rattle.seize_words.specs.OneMemory.Op.{Op, Out, Load, Found};
 
     /// The operation may be made now.
     ghost can: { Self → Op T → Type 0 };
@@ -29,7 +29,7 @@ pub trait Look<T> {
 
 /// A memory whose words change and whose blocks come and go, each operation by itself. It keeps its allocator.
 pub trait Memory<T>: Look<T> {
-    ghost use Rattle.seize_words.specs.Op.{Store, Swap, Add, Or, Exchange, Make, Take, Rewrite, Room, Found, Stored, Exchanged, Made, Taken, Roomed};
+    ghost use Rattle.seize_words.specs.OneMemory.Op.{Store, Swap, Add, Or, Exchange, Make, Take, Rewrite, Room, Found, Stored, Exchanged, Made, Taken, Roomed};
 
     /// Writes the word of a name.
     fn store(&mut self, at: At, word: u64)
@@ -81,7 +81,7 @@ pub trait Memory<T>: Look<T> {
 /// A memory that can be told to refuse a block, as a run tells its own. One that callers share has no such operation.
 pub trait Refuses<T>: Memory<T> {
     ghost use Rattle.std.specs.Prelude.{Err};
-    ghost use Rattle.seize_words.specs.Op.{Make, Made};
+    ghost use Rattle.seize_words.specs.OneMemory.Op.{Make, Made};
 
     /// Refuses to make a block of a value and as many words, as a memory may at any time, and gives the value back.
     fn refuse(&mut self, value: T, words: u64) -> T

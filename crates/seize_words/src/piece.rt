@@ -3,8 +3,8 @@ ghost use Rattle.std.specs.Prelude.{◌≡◌, ◌*◌, ◌+◌, ◌^◌, ◌<�
 ghost use denote.Builtin.{u64};
 ghost use Rattle.core.specs.Allocator.{HasLayout};
 ghost use Rattle.core.specs.Mem.Slots.{slots_items, slots_ptr, slots_len, IsFull};
-ghost use Rattle.seize_words.specs.Mem.{fresh};
-ghost use Rattle.seize_words.specs.Room.{ShortPiece, piece_of, words_from};
+ghost use Rattle.seize_words.specs.OneMemory.Mem.{fresh};
+ghost use Rattle.seize_words.specs.OneMemory.Room.{ShortPiece, piece_of, words_from};
 
 use crate::block::ENTRY_WORDS;
 use crate::room::{Frame, Room};
@@ -71,7 +71,7 @@ pub(crate) struct Piece<T> {
 impl<T> Model for Piece<T> {
     ghost use Rattle.core.specs.Mem.Slots.{slots_items};
     ghost use Rattle.seize_words.specs.declared.block.Block.{Block};
-    ghost use Rattle.seize_words.specs.Piece.{only_of, block_of, IsPiece};
+    ghost use Rattle.seize_words.specs.OneMemory.Piece.{only_of, block_of, IsPiece};
 
     ghost Value = { Block T };
 

@@ -1,7 +1,7 @@
 //! The memory of one owner.
 ghost use Rattle.std.specs.Prelude.{◌≡◌, ◌∷◌, ◌++◌, [], IsSome, IfOk, OnOk, OnErr, Some, length, replicate};
-ghost use Rattle.seize_words.specs.Mem.{word_at, with_word, value_at, values_in, next_number, Can, Took};
-ghost use Rattle.seize_words.specs.Op.{Make, Made};
+ghost use Rattle.seize_words.specs.OneMemory.Mem.{word_at, with_word, value_at, values_in, next_number, Can, Took};
+ghost use Rattle.seize_words.specs.OneMemory.Op.{Make, Made};
 
 use crate::at::At;
 use crate::directory::Directory;
@@ -29,7 +29,7 @@ pub struct Plain<T> {
 }
 
 impl<T> Model for Plain<T> {
-    ghost use Rattle.seize_words.specs.Mem.{Mem};
+    ghost use Rattle.seize_words.specs.OneMemory.Mem.{Mem};
 
     ghost Value = { Mem T };
 

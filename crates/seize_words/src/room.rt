@@ -4,7 +4,7 @@ ghost use denote.RawPtr.{Ptr, coded_ptr, ◌+ₚ◌};
 ghost use Rattle.core.specs.Allocator.{owned_block, HasLayout};
 ghost use Rattle.core.specs.Mem.Slots.{slots_items, slots_filled, slots_ptr, slots_len};
 ghost use Rattle.core.specs.Mem.{type_size};
-ghost use Rattle.seize_words.specs.Room.{ShortPiece, piece_of, words_from, frame};
+ghost use Rattle.seize_words.specs.OneMemory.Room.{ShortPiece, piece_of, words_from, frame};
 
 use core::slots::Slots;
 use std::alloc::Allocator;

@@ -1,7 +1,7 @@
 //! Where the words of slots lie: in buckets, each twice as long as the one before it.
 ghost use Rattle.std.specs.Prelude.{◌≡◌, ◌==◌, ℕ, ◌≤◌, ◌<◌, ◌^◌, ◌-◌, ◌+◌, not, [], length, replicate, IfOk, IsSome, OnOk, OnErr};
-ghost use Rattle.seize_words.specs.Place.{capacity, IsPlace, HasOnePlace};
-ghost use Rattle.seize_words.specs.SlotWords.{slot_word, with_slot_word, with_bucket};
+ghost use Rattle.seize_words.specs.OneMemory.Place.{capacity, IsPlace, HasOnePlace};
+ghost use Rattle.seize_words.specs.OneMemory.SlotWords.{slot_word, with_slot_word, with_bucket};
 
 use crate::words::Words;
 use std::alloc::{AllocError, Global};
@@ -86,7 +86,7 @@ pub struct Slots {
 
 impl Model for Slots {
     ghost use Rattle.std.specs.Prelude.{List, ℕ};
-    ghost use Rattle.seize_words.specs.Buckets.{all_in, IsBucketed};
+    ghost use Rattle.seize_words.specs.OneMemory.Buckets.{all_in, IsBucketed};
 
     ghost Value = { List (List ℕ) };
 

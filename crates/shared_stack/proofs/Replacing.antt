@@ -1,7 +1,7 @@
 -- What was put in the place of what was found.
 use Rattle.std.proofs.Common.{ℕ, [], ◌∷◌, ◌≡◌, ◌≢◌, Bool, true, false, Option, Some, None, IfSome, IfNone, Result, Ok, Err, IfOk, is_ok, Bor, refl, sym, inl, inr, true≢false}
 use Rattle.seize_views.specs.declared.view.Deed.{Deed}
-use Rattle.seize_views.specs.Notes.{looked_at, written_at}
+use Rattle.seize_views.specs.Views.Notes.{looked_at, written_at}
 use Rattle.shared_stack.specs.declared.pile.Pile.{Pile}
 use Rattle.shared_stack.specs.Piles.{values}
 use Rattle.shared_stack.specs.Stacks.{Replaces}

@@ -1,6 +1,6 @@
 -- What becomes of the stack at a root.
 use Rattle.std.specs.Prelude.{ℕ, List, [], ◌≡◌, ◌≢◌, ◌⊎◌, Some}
-use Rattle.seize_views.specs.Notes.{looked_at, written_at}
+use Rattle.seize_views.specs.Views.Notes.{looked_at, written_at}
 use Rattle.seize_views.specs.declared.view.Deed.{Deed}
 use Rattle.shared_stack.specs.declared.pile.Pile.{Pile}
 use Rattle.shared_stack.specs.declared.stack.Popped.{Popped}

@@ -1,5 +1,5 @@
 use Rattle.std.specs.Prelude.{None}
-use Rattle.seize_views.proofs.Notes.{rules_start}
+use Rattle.seize_views.proofs.Views.Notes.{rules_start}
 use Rattle.guard_bench.specs.declared.turns.Number.{Number}
 use Rattle.guard_bench.proofs.timed.Goals as goal
 

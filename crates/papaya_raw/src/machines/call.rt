@@ -1,14 +1,14 @@
 //! A call on one key: its points, and its steps.
 ghost use Rattle.std.specs.Prelude.{◌≡◌};
-ghost use Rattle.papaya_tables.specs.Given.SeizeWordsPlan.{May, Steps};
+ghost use Rattle.seize.specs.Given.SeizeWordsPlan.{May, Steps};
 ghost use Rattle.papaya_raw.specs.CallPoints.{going, over, told_answer, ending, answering};
 ghost use Rattle.papaya_raw.specs.Call.{call_plan};
 
 use crate::machines::answer::{Called, End, KeyAnswer, Missing, There};
 use crate::machines::asking::{Asking, Replies};
-use papaya_sweeps::named::{Copier, Dispose, Lookup, NewTable};
-use papaya_tables::named::Memory;
-use papaya_tables::{Equivalent, Hashes, Node, Setting, Table, Trial};
+use map_sweeps::named_sweeps::{Copier, Dispose, Lookup, NewTable};
+use map_tables::named::Memory;
+use map_tables::{Equivalent, Hashes, Node, Setting, Table, Trial};
 use std::hash::Hash;
 
 mod asks;

@@ -1,12 +1,12 @@
 //! The end of a map.
 ghost use Rattle.std.specs.Prelude.{◌≡◌};
 ghost use Rattle.papaya_raw.specs.EndMap.{ending, is_current, next_place, reads, words, takes, nexts, carries, joins, follows, gives, afters, drops, shards, sets, frees};
-ghost use Rattle.papaya_tables.specs.Given.SeizeWordsPlan.{May, Steps};
+ghost use Rattle.seize.specs.Given.SeizeWordsPlan.{May, Steps};
 
-use papaya_tables::marks::{COPYING, has};
-use papaya_tables::named::{At, Link, Machine, Memory, Settled, states};
-use papaya_tables::table_words::{DEFERRED, NEXT, PLACES};
-use papaya_tables::{Node, Setting, Table};
+use map_tables::marks::{COPYING, has};
+use map_tables::named::{At, Link, Machine, Memory, Settled, states};
+use map_tables::table_words::{DEFERRED, NEXT, PLACES};
+use map_tables::{Node, Setting, Table};
 
 /// Where the end of a map stands.
 #[derive(Clone, Copy)]

@@ -1,20 +1,20 @@
 //! A call of a map under way, whichever it is.
 ghost use Rattle.std.specs.Prelude.{◌≡◌};
 ghost use Rattle.papaya_raw.specs.Call.{call_plan};
-ghost use Rattle.papaya_sweeps.specs.Given.ReservesReserve.{reserve_plan};
+ghost use Rattle.map_sweeps.specs.Reserves.Reserve.{reserve_plan};
 ghost use Rattle.papaya_raw.specs.Machine.{called, reserved, swept, counted, machine_plan, sweep_replied, sweep_asked, machine_replied, machine_asked};
 ghost use Rattle.papaya_raw.specs.declared.machines.machine.Machine.TheVariants as kinds;
-ghost use Rattle.papaya_sweeps.specs.Given.ResizeSum.{sum_plan};
-ghost use Rattle.papaya_sweeps.specs.Sweep.{sweep_plan};
-ghost use Rattle.papaya_tables.specs.Given.SeizeWordsPlan.{May, Steps, plan_as};
+ghost use Rattle.map_sweeps.specs.Given.ResizeSum.{sum_plan};
+ghost use Rattle.map_sweeps.specs.Sweeps.Sweep.{sweep_plan};
+ghost use Rattle.seize.specs.Given.SeizeWordsPlan.{May, Steps, plan_as};
 
 use crate::machines::asking::Reply;
 use crate::machines::call::KeyCall;
 use crate::machines::progress::Progress;
-use papaya_sweeps::named::{Reserve, Sum};
-use papaya_sweeps::{Sweep, Sweeping};
-use papaya_tables::named::Memory;
-use papaya_tables::{Equivalent, Hashes, Node};
+use map_sweeps::named_sweeps::{Reserve, Sum};
+use map_sweeps::{Sweep, Sweeping};
+use map_tables::named::Memory;
+use map_tables::{Equivalent, Hashes, Node};
 use std::hash::Hash;
 
 /// A call of a map under way, whichever it is. It begins as the machine of its kind: `Machine::Key(KeyCall::get(setting, hash, key))`, or
@@ -58,7 +58,7 @@ impl<K, V, Q> Machine<K, V, Q> {
         requires { May M.can M.took M.shown memory.old (plan_as (counted {K = K} {V = V} {Q = Q}) (sum_plan sum.old)) }
         ensures { Steps M.took M.shown memory.old (plan_as (counted {K = K} {V = V} {Q = Q}) (sum_plan sum.old)) memory.new (kinds.Count sum.new, result) }
     {
-        let progress = papaya_tables::named::Machine::step(sum, memory);
+        let progress = map_tables::named::Machine::step(sum, memory);
         Progress::of_counting(progress)
     }
 
@@ -129,8 +129,8 @@ impl<K: Eq + Hash + Drop, V: Drop, Q: Equivalent<K>> Machine<K, V, Q> {
     }
 
     /// One step: at most one operation. The hasher gives the hash of each key that is copied. A call that has ended says again how.
-    /// Whatever others have under way, a step that goes on lowers the call's numbers, and one that waits does so for a reason: `law` of papaya_lowers. What it looks at is
-    /// there and held: `law` of papaya_looks.
+    /// Whatever others have under way, a step that goes on lowers the call's numbers, and one that waits does so for a reason: `law` of owner_whole. What it looks at is
+    /// there and held: `law` of many_acts.
     pub fn step<S: Hashes<K>, M: Memory<Node<K, V>>>(
         &mut self,
         memory: &mut M,

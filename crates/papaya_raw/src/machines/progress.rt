@@ -3,9 +3,9 @@ ghost use Rattle.std.specs.Prelude.{◌≡◌};
 ghost use Rattle.papaya_raw.specs.Progress.{of_called, of_outcome, of_swept, of_counting};
 
 use crate::machines::answer::{Called, KeyAnswer};
-use papaya_sweeps::Swept;
-use papaya_sweeps::named::Outcome;
-use papaya_tables::named::Fault;
+use map_sweeps::Swept;
+use map_sweeps::named_sweeps::Outcome;
+use map_tables::named::Fault;
 
 /// What a call of a map answers.
 #[derive(Clone, Copy)]
@@ -90,14 +90,14 @@ impl<T> Progress<T> {
     }
 
     /// How far a counting is.
-    pub(super) fn of_counting(progress: papaya_tables::named::Progress<u64>) -> Self
+    pub(super) fn of_counting(progress: map_tables::named::Progress<u64>) -> Self
         ensures { result ≡ of_counting progress }
     {
         match progress {
-            papaya_tables::named::Progress::Goes => Progress::Goes,
-            papaya_tables::named::Progress::Waits => Progress::Waits,
-            papaya_tables::named::Progress::Done(count) => Progress::Done(Answer::Count(count)),
-            papaya_tables::named::Progress::Refused(fault) => Progress::Refused(fault),
+            map_tables::named::Progress::Goes => Progress::Goes,
+            map_tables::named::Progress::Waits => Progress::Waits,
+            map_tables::named::Progress::Done(count) => Progress::Done(Answer::Count(count)),
+            map_tables::named::Progress::Refused(fault) => Progress::Refused(fault),
         }
     }
 }

@@ -4,13 +4,13 @@ ghost use Rattle.std.specs.List.{All};
 ghost use Rattle.std.specs.List.Sorted.{IsPermutation};
 ghost use Rattle.serde_json.specs.Data.{object};
 ghost use Rattle.serde_json.specs.View.{view, members_view};
-ghost use Rattle.papaya_forms.specs.Objects.{IsObjectOf};
+ghost use Rattle.map_forms.specs.Objects.{IsObjectOf};
 ghost use Rattle.papaya_seq.specs.Json.{ArePairsOf, FirstFault, IsMapOf, IsNoPair, IsPairOf, IsRefusal, IsUnread, LastIsOf};
-ghost use Rattle.papaya_seq_map.specs.Given.Stored.{HasPut};
+ghost use Rattle.owner_map.specs.Given.SeqShowsStored.{HasPut};
 
 use crate::json::{FromJson, ToJson};
-use papaya_forms::{JsonFault, JsonForm, JsonKey, object_of};
-use papaya_seq_map::{HashMap, Receiver, store};
+use map_forms::{JsonFault, JsonForm, JsonKey, object_of};
+use owner_map::{HashMap, Receiver, store};
 use serde_json::Value;
 use serde_json::value::Map;
 use std::alloc::{AllocError, Global};

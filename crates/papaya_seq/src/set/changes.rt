@@ -1,13 +1,13 @@
 //! An element is put into a set for one owner, or removed from it, or room is made for more.
 ghost use Rattle.std.specs.Prelude.{◌≡◌, ◌≤◌, ◌⊎◌, Err, List, [], None, Some, is_none, is_some, find, length, IfOk, IfErr, IsOk, OnOk, OnErr, MatchResult};
 ghost use Rattle.std.specs.List.Sorted.{IsPermutation};
-ghost use Rattle.papaya_seq_map.specs.Given.{CannotGrow, FirstHas, IsRoom, NeedTooMany, if_stored, needed};
+ghost use Rattle.owner_map.specs.Given.{CannotGrow, FirstHas, IsRoom, NeedTooMany, if_stored, needed};
 ghost use Rattle.seize_words.specs.declared.fault.Fault.TheVariants.{Capacity};
 ghost use Rattle.papaya_seq.specs.Sets.{KeepsIn, LastTookOut, left_in, put_in};
 
 use super::HashSet;
-use papaya_seq_map::{Receiver, RefusedKey, put, take};
-use papaya_tables::Equivalent;
+use map_tables::Equivalent;
+use owner_map::{Receiver, RefusedKey, put, take};
 use seize_words::Fault;
 use std::hash::{BuildHasher, Hash};
 

@@ -1,7 +1,7 @@
 //! Sets for one owner with clones of the elements of another set, or of an array.
 ghost use Rattle.std.specs.Prelude.{◌≡◌, [], true, length, IfOk, IfErr, OnOk};
 ghost use Rattle.std.specs.List.Sorted.{IsPermutation};
-ghost use Rattle.papaya_seq_map.specs.Given.{ClonesAreEqual, ClonesAreSame, IsRoom, agree, with_no_values};
+ghost use Rattle.owner_map.specs.Given.{ClonesAreEqual, ClonesAreSame, IsRoom, agree, with_no_values};
 ghost use Rattle.papaya_seq.specs.Sets.{put_all_in};
 ghost use Rattle.papaya_seq.specs.Stored.{HasPutIn, IsSetMadeOfClones};
 

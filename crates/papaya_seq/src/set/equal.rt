@@ -1,10 +1,10 @@
 //! Equality of sets for one owner: the same elements, in whatever order.
 ghost use Rattle.std.specs.Prelude.{true};
 ghost use Rattle.std.specs.Cmp.{equiv};
-ghost use Rattle.papaya_seq_map.specs.Given.{agree, agree_itself, agree_through, agree_turned, with_no_values};
+ghost use Rattle.owner_map.specs.Given.{agree, agree_itself, agree_through, agree_turned, with_no_values};
 
 use super::HashSet;
-use papaya_seq_map::Receiver;
+use owner_map::Receiver;
 use std::hash::{BuildHasher, Hash};
 
 impl<K: Eq + Hash, S: BuildHasher, R: Receiver<(K, ())>> PartialEq for HashSet<K, S, R> {

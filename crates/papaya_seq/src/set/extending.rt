@@ -1,12 +1,12 @@
 //! What an iterator gives is put into a set for one owner.
 ghost use Rattle.std.specs.Prelude.{◌≡◌, IfOk, IfErr};
 ghost use Rattle.std.specs.Iterator.{IsFiniteIterable};
-ghost use Rattle.papaya_seq_map.specs.Given.{CannotGrow, IsRoom};
+ghost use Rattle.owner_map.specs.Given.{CannotGrow, IsRoom};
 ghost use Rattle.seize_words.specs.declared.fault.Fault.TheVariants.{Capacity};
 ghost use Rattle.papaya_seq.specs.Stored.{CollectsSet, ExtendsSet};
 
 use super::HashSet;
-use papaya_seq_map::{Receiver, RefusedKey};
+use owner_map::{Receiver, RefusedKey};
 use seize_words::Fault;
 use std::alloc::Global;
 use std::hash::{BuildHasher, Hash};

@@ -1,7 +1,7 @@
 //! How a set for one owner is written for who debugs.
 
 use super::HashSet;
-use papaya_seq_map::Receiver;
+use owner_map::Receiver;
 use std::fmt::{Debug, Formatter, Result, Write};
 use std::hash::{BuildHasher, Hash};
 

@@ -1,12 +1,12 @@
 //! JSON of a set for one owner: it is written as the array of its elements, in the order of their texts, and read of one in whatever order.
-ghost use Rattle.papaya_forms.specs.Arrays.{IsNotRead};
+ghost use Rattle.map_forms.specs.Arrays.{IsNotRead};
 ghost use Rattle.papaya_seq.specs.Json.{AreElementsOfArray, IsSetOf};
 ghost use Rattle.papaya_seq.specs.Stored.{IsSetMadeOf};
 
 use super::HashSet;
 use crate::json::{FromJson, ToJson};
-use papaya_forms::{Gathers, JsonFault, JsonForm, array_of, elements_of};
-use papaya_seq_map::Receiver;
+use map_forms::{Gathers, JsonFault, JsonForm, array_of, elements_of};
+use owner_map::Receiver;
 use seize_words::Fault;
 use serde_json::Value;
 use std::alloc::{AllocError, Global};

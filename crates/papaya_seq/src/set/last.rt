@@ -3,7 +3,7 @@ ghost use Rattle.std.specs.Prelude.{◌≡◌};
 ghost use Rattle.std.specs.Option.{option_copied};
 
 use super::HashSet;
-use papaya_seq_map::Receiver;
+use owner_map::Receiver;
 use std::hash::{BuildHasher, Hash};
 
 impl<K: Eq + Hash, S: BuildHasher, R: Receiver<(K, ())>> HashSet<K, S, R> {

@@ -3,13 +3,13 @@ ghost use Rattle.std.specs.Prelude.{◌≡◌, ◌==◌, ◌++◌, List, length,
 ghost use Rattle.std.specs.List.{IsDistinct};
 ghost use Rattle.std.specs.List.Sorted.{IsPermutation};
 ghost use Rattle.std.specs.Option.{option_copied};
-ghost use Rattle.papaya_shown.specs.Coming.{can_go_on};
-ghost use Rattle.papaya_shown.specs.Columns.{keys_to_come};
+ghost use Rattle.map_straight.specs.Shown.Coming.{can_go_on};
+ghost use Rattle.map_straight.specs.Shown.Columns.{keys_to_come};
 
 use super::HashSet;
-use papaya_seq_map::Receiver;
-use papaya_shown::Keys;
-use papaya_tables::Equivalent;
+use map_straight::Keys;
+use map_tables::Equivalent;
+use owner_map::Receiver;
 use std::hash::{BuildHasher, Hash};
 
 impl<K: Eq + Hash, S: BuildHasher, R: Receiver<(K, ())>> HashSet<K, S, R> {

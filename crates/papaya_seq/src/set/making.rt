@@ -1,11 +1,11 @@
 //! How a set for one owner is made.
 ghost use Rattle.std.specs.Prelude.{◌≡◌, [], None, IfOk, IfErr, OnOk};
 ghost use Rattle.seize_words.specs.declared.fault.Fault.TheVariants.{Memory};
-ghost use Rattle.papaya_seq_map.specs.Given.{AreTooMany, IsUnmade, tables_for};
+ghost use Rattle.owner_map.specs.Given.{AreTooMany, IsUnmade, tables_for};
 ghost use Rattle.papaya_seq.specs.Sets.{LastTookOut};
 
 use super::HashSet;
-use papaya_seq_map::HashMap;
+use owner_map::HashMap;
 use seize_words::Fault;
 use std::alloc::Global;
 use std::hash::{BuildHasher, Hash};

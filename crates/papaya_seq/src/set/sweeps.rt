@@ -2,12 +2,12 @@
 ghost use Rattle.std.specs.Prelude.{◌≡◌, ◌≤◌, None, Bool, List, [], length, IfErr, IsOk, OnOk, OnErr, filter};
 ghost use Rattle.std.specs.Fn.{ComputesKey};
 ghost use Rattle.std.specs.List.Sorted.{IsPermutation};
-ghost use Rattle.papaya_seq_map.specs.Given.{CannotGrow, IsRoom};
+ghost use Rattle.owner_map.specs.Given.{CannotGrow, IsRoom};
 ghost use Rattle.papaya_seq.specs.Sets.{KeepsElements, KeepsIn, LastTookOut};
 ghost use Rattle.seize_words.specs.declared.fault.Fault.TheVariants.{Capacity};
 
 use super::HashSet;
-use papaya_seq_map::Receiver;
+use owner_map::Receiver;
 use seize_words::Fault;
 use std::hash::{BuildHasher, Hash};
 

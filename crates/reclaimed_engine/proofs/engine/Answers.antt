@@ -1,7 +1,6 @@
 use Rattle.std.proofs.Common.{subst}
-use Rattle.reclaimed_text.specs.Output.{Writes}
-use Rattle.reclaimed_text.specs.Output.{has_failed, writer_of}
-use Rattle.reclaimed_engine.proofs.EngineLemmas.{written}
+use Rattle.reclaimed_engine.specs.Text.Output.{Writes, has_failed, writer_of}
+use Rattle.reclaimed_engine.proofs.Lines.EngineLemmas.{written}
 use Rattle.reclaimed_engine.proofs.engine.Goals as goal
 
 pub returns-in-Ok-printed-clause-ends : goal.returns-in-Ok-printed-clause-ends

@@ -1,8 +1,8 @@
 use Rattle.std.proofs.Common.{◌≡◌, ap, ◌∙◌, subst, nat_eq}
-use Rattle.papaya_running.specs.Run.{bounded}
-use Rattle.papaya_schedules.specs.Runs.{IsRunOf}
-use Rattle.papaya_running.specs.Given.SchedulerPlayed.{terms_given}
-use Rattle.reclaimed_engine.specs.Engine.{terms_of}
+use Rattle.papaya_steps.specs.WholeRuns.Run.{bounded}
+use Rattle.run_schedules.specs.Schedules.Runs.{IsRunOf}
+use Rattle.papaya_steps.specs.Given.SchedulerPlayed.{terms_given}
+use Rattle.reclaimed_engine.specs.Lines.Engine.{terms_of}
 use Rattle.reclaimed_engine.proofs.printed.Goals as goal
 
 pub returns-clause-ok : goal.returns-clause-ok

@@ -1,6 +1,6 @@
 //! A slot's section ends: its list is taken, and counted down.
 ghost use Rattle.std.specs.Prelude.{◌≡◌, true, false};
-ghost use Rattle.seize_words.specs.Plan.{May, Steps};
+ghost use Rattle.seize_words.specs.OneMemory.Plan.{May, Steps};
 ghost use Rattle.seize.specs.declared.rows.leave.Leaving.TheVariants as at;
 ghost use Rattle.seize.specs.declared.states.TheConstants.{IDLE, ACTIVE};
 ghost use Rattle.seize.specs.Leave.{leaving, counted_down, standing, swaps, settled, frees, leave_plan};

@@ -1,7 +1,7 @@
 //! The first slot that can be taken is taken.
 ghost use Rattle.std.specs.Prelude.{◌≡◌};
 ghost use Rattle.seize.specs.Register.{bucket_needed, NeedsEnough, NeedsTheNext, going, refused, registered, further, plan_at};
-ghost use Rattle.seize_words.specs.Plan.{May, Steps};
+ghost use Rattle.seize_words.specs.OneMemory.Plan.{May, Steps};
 
 use crate::machine::Machine;
 use crate::progress::Progress;

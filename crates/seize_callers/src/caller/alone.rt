@@ -1,10 +1,10 @@
 //! A caller without a slot, and a block of its own.
 ghost use Rattle.std.specs.Prelude.{◌≡◌, ◌≢◌, ◌<◌, ◌+◌, ◌^◌, Some, IfOk, IfErr};
-ghost use Rattle.seize_words.specs.Word.{link_to, block_in};
-ghost use Rattle.seize_seats.specs.Lendings.{IsValueOf};
-ghost use Rattle.seize_views.specs.Notes.{NotedHolds};
+ghost use Rattle.seize_words.specs.OneMemory.Word.{link_to, block_in};
+ghost use Rattle.seize_seats.specs.Seats.Lendings.{IsValueOf};
+ghost use Rattle.seize_views.specs.Views.Notes.{NotedHolds};
 ghost use Rattle.seize_callers.specs.Owning.{borne_by, brought_by};
-ghost use Rattle.seize_views.specs.Told.{alone_with, cut_in};
+ghost use Rattle.seize_views.specs.Views.Told.{alone_with, cut_in};
 ghost use Rattle.seize_views.specs.declared.view.Deed.TheVariants.{Looked, Wrote};
 ghost use Rattle.seize_views.specs.declared.view.View.TheVariants.{Brings, Rests};
 

@@ -1,10 +1,10 @@
 //! A seat that takes steps under another one, which is lent for them, and takes none meanwhile.
 ghost use Rattle.std.specs.Prelude.{◌≡◌, ◌<◌, ℕ, true, Some, IfSome, IfNone};
-ghost use Rattle.seize_words.specs.Word.{block_in};
-ghost use Rattle.seize_seats.specs.Lendings.{IsValueOf};
+ghost use Rattle.seize_words.specs.OneMemory.Word.{block_in};
+ghost use Rattle.seize_seats.specs.Seats.Lendings.{IsValueOf};
 ghost use Rattle.seize_callers.specs.Kept.{is_home};
-ghost use Rattle.seize_views.specs.Notes.{NotedHolds};
-ghost use Rattle.seize_views.specs.Watched.{open_at};
+ghost use Rattle.seize_views.specs.Views.Notes.{NotedHolds};
+ghost use Rattle.seize_views.specs.Views.Watched.{open_at};
 ghost use Rattle.seize_views.specs.declared.view.Deed.TheVariants.{Looked};
 ghost use Rattle.seize_views.specs.declared.view.View.TheVariants.{Rests, Under};
 

@@ -1,9 +1,9 @@
 //! What a caller does at roots, and with blocks, where rows are all there is.
 ghost use Rattle.std.specs.Prelude.{◌≡◌, ◌≢◌, ◌<◌, ◌^◌, Some, None, IfOk, IfErr, IfSome, IfNone, unwrap_or};
-ghost use Rattle.seize_seats.specs.Lendings.{IsValueOf};
-ghost use Rattle.seize_views.specs.Promises.{IsLooking, IsTaker};
-ghost use Rattle.seize_views.specs.Notes.{NotedHolds, looked_at, written_at};
-ghost use Rattle.seize_views.specs.Told.{seen_as, seen_in, cut_as, made_beside};
+ghost use Rattle.seize_seats.specs.Seats.Lendings.{IsValueOf};
+ghost use Rattle.seize_views.specs.Views.Promises.{IsLooking, IsTaker};
+ghost use Rattle.seize_views.specs.Views.Notes.{NotedHolds, looked_at, written_at};
+ghost use Rattle.seize_views.specs.Views.Told.{seen_as, seen_in, cut_as, made_beside};
 ghost use Rattle.seize_callers.specs.Owning.{borne_by};
 ghost use Rattle.seize_views.specs.declared.view.Deed.TheVariants.{Looked, Marked};
 ghost use Rattle.seize_views.specs.declared.view.View.TheVariants.{Rests, Outside, Owes, Inside};

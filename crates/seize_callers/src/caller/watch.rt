@@ -1,6 +1,6 @@
 //! A seat that watches the open section of a caller's slot.
 ghost use Rattle.std.specs.Prelude.{◌≡◌, ◌+◌, ℕ, Some};
-ghost use Rattle.seize_views.specs.Watched.{open_at};
+ghost use Rattle.seize_views.specs.Views.Watched.{open_at};
 ghost use Rattle.seize_views.specs.declared.view.View.TheVariants.{Rests, Watches};
 
 use crate::caller::Caller;

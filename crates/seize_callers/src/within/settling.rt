@@ -3,13 +3,13 @@ ghost use Rattle.std.specs.Prelude.{◌≡◌, ◌≢◌, ◌<◌, ◌^◌, ℕ,
 ghost use Rattle.seize.specs.declared.rows.settle.Settling.TheVariants.{Over};
 ghost use Rattle.seize.specs.declared.states.TheConstants.{ACTIVE};
 ghost use Rattle.seize.specs.Settle.{retiring};
-ghost use Rattle.seize_views.specs.Begun.{IsBegun, left_with};
+ghost use Rattle.seize_views.specs.Views.Begun.{IsBegun, left_with};
 ghost use Rattle.seize_callers.specs.Kept.{kept};
 ghost use Rattle.seize_callers.specs.Made.{IsSettling, Task, left_in, task_of};
-ghost use Rattle.seize_views.specs.Notes.{SameNotes};
+ghost use Rattle.seize_views.specs.Views.Notes.{SameNotes};
 ghost use Rattle.seize_views.specs.declared.view.Began.TheVariants.{Retirement, Section, Trial};
-ghost use Rattle.seize_views.specs.Promises.{IsLooking};
-ghost use Rattle.seize_views.specs.Told.{list_taken};
+ghost use Rattle.seize_views.specs.Views.Promises.{IsLooking};
+ghost use Rattle.seize_views.specs.Views.Told.{list_taken};
 ghost use Rattle.seize_views.specs.declared.view.Becomes.{Becomes};
 ghost use Rattle.seize_views.specs.declared.view.Has.{Has};
 ghost use Rattle.seize_views.specs.declared.view.Has.TheVariants.{Nothing, Cut};

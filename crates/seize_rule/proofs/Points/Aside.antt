@@ -2,8 +2,8 @@
 use Rattle.std.proofs.Common.{◌≡◌, ℕ, Bool, true, false, cond, eqb, List, [], ◌∷◌, refl, arith}
 use Rattle.seize.specs.Law.{Effect, Retired, Taken}
 use Rattle.seize.specs.World.{Hand, NoBlock, Making, InUse, Parting, Cutting, Handed, handed_by, LeftTo, MayCut}
-use Rattle.seize_moves.proofs.State.Ghost.{Entry, Active, Life, IsFree, IsOwned, IsLinked, IsUnlinked, IsDeferring, IsDeferred, IsPending, IsIn, IsDoomed, IsLeft, State, emptied}
-use Rattle.seize_moves.proofs.State.Moves
+use Rattle.seize_moves.proofs.Moves.State.Ghost.{Entry, Active, Life, IsFree, IsOwned, IsLinked, IsUnlinked, IsDeferring, IsDeferred, IsPending, IsIn, IsDoomed, IsLeft, State, emptied}
+use Rattle.seize_moves.proofs.Moves.State.Moves
 
 -- the collector has it, or it is on its way to it
 abbrev pub is_handed : Life → Bool

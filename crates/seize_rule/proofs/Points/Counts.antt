@@ -2,26 +2,26 @@
 use Rattle.std.specs.Prelude.{Option, Some, IsSome, if◌then◌else◌, nat_lt, ◌/◌}
 use Rattle.std.proofs.Common.{◌≡◌, ℕ, ◌+◌, ◌%◌, ◌^◌, Bool, true, false, List, [], ◌∷◌, ◌++◌, length, refl, arith, ap, sym, subst, ◌∙◌}
 use Rattle.seize_words.specs.declared.at.At.TheVariants.{Entry}
-use Rattle.seize_words.specs.Op.{Found}
-use Rattle.seize_words.specs.Mem.{Mem, Took, value_at, word_at, with_word}
-use Rattle.seize_words.specs.Plan.{Steps, Ends}
-use Rattle.seize_words.proofs.OneOwner.Operations.{added}
+use Rattle.seize_words.specs.OneMemory.Op.{Found}
+use Rattle.seize_words.specs.OneMemory.Mem.{Mem, Took, value_at, word_at, with_word}
+use Rattle.seize_words.specs.OneMemory.Plan.{Steps, Ends}
+use Rattle.seize_words.proofs.OneMemory.OneOwner.Operations.{added}
 use Rattle.seize.specs.declared.states.TheConstants.{COUNT}
 use Rattle.seize.specs.declared.rows.settle.Settle.{Settle}
 use Rattle.seize.specs.declared.rows.settle.Settled.{Settled}
 use Rattle.seize.specs.declared.rows.settle.Settled.TheVariants.{Goes}
 use Rattle.seize.specs.Law.{Retired}
 use Rattle.seize.specs.Settle.{scanning, onward, to, counted, counts}
-use Rattle.seize_moves.specs.Given.SeizeWaitingHeld.{count}
-use Rattle.seize_moves.proofs.State.Ghost.{put, State, Stage, Open, Life, IsPending, is_in}
-use Rattle.seize_moves.proofs.State.Rule.{Inv, SameUnlessDead, open_length}
-use Rattle.seize_moves.proofs.State.Moves
-use Rattle.seize_moves.proofs.Moves.Tries.{first_pending, appended_moves}
-use Rattle.seize_rule.proofs.Words.Named.{link, word_found, wrote}
-use Rattle.seize_rule.proofs.Words.Chains.{first_or, last_of, last_of-append}
-use Rattle.seize_rule.proofs.Words.View.{View, view, view_count}
-use Rattle.seize_rule.proofs.Words.Shows.{Extra, Shows, CountIs, ZeroIs, lives}
-use Rattle.seize_rule.proofs.Written.Append.{appended_to, appended_written, head_or, first_more}
+use Rattle.seize_moves.specs.Waiting.Held.{count}
+use Rattle.seize_moves.proofs.Moves.State.Ghost.{put, State, Stage, Open, Life, IsPending, is_in}
+use Rattle.seize_moves.proofs.Moves.State.Rule.{Inv, SameUnlessDead, open_length}
+use Rattle.seize_moves.proofs.Moves.State.Moves
+use Rattle.seize_moves.proofs.Moves.Moves.Tries.{first_pending, appended_moves}
+use Rattle.seize_moves.proofs.Memory.Words.Named.{link, word_found, wrote}
+use Rattle.seize_moves.proofs.Memory.Words.Chains.{first_or, last_of, last_of-append}
+use Rattle.seize_moves.proofs.Memory.Words.View.{View, view, view_count}
+use Rattle.seize_moves.proofs.Memory.Words.Shows.{Extra, Shows, CountIs, ZeroIs, lives}
+use Rattle.seize_moves.proofs.Memory.Written.Append.{appended_to, appended_written, head_or, first_more}
 use Rattle.seize_rule.proofs.Points.Aside.{aside_appended}
 use Rattle.seize_rule.proofs.Points.Told.{Plain, NoneLeft, length_word, Told, Appends, Fills, onward_part}
 use Rattle.seize_rule.proofs.Points.NothingLeft.{nothing_left}

@@ -3,27 +3,27 @@ use Rattle.std.specs.Prelude.{if◌then◌else◌, ◌==◌, ◌/◌, Option, So
 use Rattle.std.proofs.Common.{◌≡◌, ℕ, ◌+◌, ◌<◌, Bool, true, false, cond, eqb, refl, arith, eqb-true, sym, ◌∙◌, ap, append_assoc}
 use Rattle.std.proofs.lemmas.Bool.{eqb-false}
 use Rattle.seize_words.specs.declared.at.At.TheVariants.{Entry, Word}
-use Rattle.seize_words.specs.Mem.{Mem, Took, value_at}
-use Rattle.seize_words.specs.Plan.{Steps, Ends, Now}
-use Rattle.seize_words.proofs.OneOwner.Operations.{loaded}
+use Rattle.seize_words.specs.OneMemory.Mem.{Mem, Took, value_at}
+use Rattle.seize_words.specs.OneMemory.Plan.{Steps, Ends, Now}
+use Rattle.seize_words.proofs.OneMemory.OneOwner.Operations.{loaded}
 use Rattle.seize.specs.declared.states.TheConstants.{NEXT}
 use Rattle.seize.specs.declared.rows.settle.Settle.{Settle}
 use Rattle.seize.specs.declared.rows.settle.Settling.TheVariants as at
 use Rattle.seize.specs.declared.rows.settle.Settled.{Settled}
 use Rattle.seize.specs.declared.rows.settle.Settled.TheVariants.{Goes}
 use Rattle.seize.specs.Settle.{drained_first, next_read, nexts, drained as drained_on, drains, tail_read, tails, standing}
-use Rattle.seize_moves.specs.Given.SeizeWaitingHeld.{count}
-use Rattle.seize_moves.proofs.Given.SeizeWaitingCounts.{none_counted}
-use Rattle.seize_moves.proofs.State.Ghost.{State, put, Life, IsDoomed, is_doomed, is_pending, is_deferred, lies_with}
-use Rattle.seize_moves.proofs.State.Rule.{Inv}
-use Rattle.seize_moves.proofs.State.Moves.{drained}
-use Rattle.seize_moves.proofs.Moves.Takes.{first_doomed, drained_moves}
-use Rattle.seize_rule.proofs.Words.Named.{link, link-block, words_of, word_found, has}
-use Rattle.seize_rule.proofs.Words.Chains.{Chain, first_or, last_of, last_of-append, chain_nil, chain_cons, chain_begin, chain_behind, count_first}
-use Rattle.seize_rule.proofs.Words.View.{View, view, list_in}
-use Rattle.seize_rule.proofs.Words.Shows.{Extra, Shows, CarrierIs, lives}
+use Rattle.seize_moves.specs.Waiting.Held.{count}
+use Rattle.seize_moves.proofs.Waiting.Counts.{none_counted}
+use Rattle.seize_moves.proofs.Moves.State.Ghost.{State, put, Life, IsDoomed, is_doomed, is_pending, is_deferred, lies_with}
+use Rattle.seize_moves.proofs.Moves.State.Rule.{Inv}
+use Rattle.seize_moves.proofs.Moves.State.Moves.{drained}
+use Rattle.seize_moves.proofs.Moves.Moves.Takes.{first_doomed, drained_moves}
+use Rattle.seize_moves.proofs.Memory.Words.Named.{link, link-block, words_of, word_found, has}
+use Rattle.seize_moves.proofs.Memory.Words.Chains.{Chain, first_or, last_of, last_of-append, chain_nil, chain_cons, chain_begin, chain_behind, count_first}
+use Rattle.seize_moves.proofs.Memory.Words.View.{View, view, list_in}
+use Rattle.seize_moves.proofs.Memory.Words.Shows.{Extra, Shows, CarrierIs, lives}
 use Rattle.seize_rule.proofs.Points.Onwards.{may_hold_on}
-use Rattle.seize_rule.proofs.Written.Puts.{drained_to, drained_written}
+use Rattle.seize_moves.proofs.Memory.Written.Puts.{drained_to, drained_written}
 use Rattle.seize_rule.proofs.Points.Aside.{aside_drained}
 use Rattle.seize_rule.proofs.Points.Known.{Backs, Nexts, Drains, Tails, bare}
 use Rattle.seize_rule.proofs.Points.Told.{Plain, Draining}

@@ -3,29 +3,29 @@ use Rattle.std.specs.Prelude.{if◌then◌else◌, ◌==◌, ◌/◌, ◌%◌, �
 use Rattle.std.proofs.Common.{◌≡◌, ℕ, ◌+◌, ◌<◌, ◌≤◌, Bool, true, false, cond, eqb, refl, arith, eqb-true, sym, subst, ◌∙◌, ap}
 use Rattle.std.proofs.lemmas.Bool.{eqb-false}
 use Rattle.seize_words.specs.declared.at.At.TheVariants.{Entry}
-use Rattle.seize_words.specs.Mem.{Mem, Took, value_at, word_at, with_word}
-use Rattle.seize_words.specs.Plan.{Steps, Ends, Now}
-use Rattle.seize_words.proofs.OneOwner.Operations.{added}
+use Rattle.seize_words.specs.OneMemory.Mem.{Mem, Took, value_at, word_at, with_word}
+use Rattle.seize_words.specs.OneMemory.Plan.{Steps, Ends, Now}
+use Rattle.seize_words.proofs.OneMemory.OneOwner.Operations.{added}
 use Rattle.seize.specs.declared.states.TheConstants.{COUNT}
 use Rattle.seize.specs.declared.rows.settle.Settle.{Settle}
 use Rattle.seize.specs.declared.rows.settle.Settled.{Settled}
 use Rattle.seize.specs.declared.rows.settle.Settled.TheVariants.{Goes}
 use Rattle.seize.specs.Settle.{onward, counted_down, downs}
-use Rattle.seize_moves.specs.Given.SeizeWaitingHeld.{count}
-use Rattle.seize_moves.proofs.State.Ghost.{State, put, is_in, counts, owes, was_put, total, Stage, Unused, Open, Closing, Closed, Dead, Life, IsIn, Loose, Debt}
-use Rattle.seize_moves.proofs.State.Ghost as Ghosts
-use Rattle.seize_moves.proofs.State.Rule.{Inv, IsLive, SameUnlessDead, SeenIs, AtStage, Pending}
-use Rattle.seize_moves.proofs.State.Moves.{counted, gives_up}
-use Rattle.seize_moves.proofs.Moves.Pushes.{counted_moves, first_loose, closed_at_zero}
-use Rattle.seize_moves.proofs.State.Sums.{total_le, put_parts, put_le}
-use Rattle.seize_moves.proofs.Moves.AtZero.{counted_gives_up, counted_gives_up_pending}
-use Rattle.seize_rule.proofs.Words.Named.{link, link-block, wrote, words_of, word_found}
-use Rattle.seize_rule.proofs.Words.Chains.{Chain, first_or, blocks_of}
-use Rattle.seize_rule.proofs.Words.View.{View, view, view_count}
-use Rattle.seize_rule.proofs.Words.Shows.{Spot, Nowhere, InHands, Extra, Shows, FirstIs, CountIs, DrainedIs, has_first}
-use Rattle.seize_rule.proofs.Written.Counts.{in_hands, shut_loose, is_shut, counted_off, counted_written}
-use Rattle.seize_rule.proofs.Written.Close.{first_in}
-use Rattle.seize_rule.proofs.Written.Dooms.{given_up, gives_up_written}
+use Rattle.seize_moves.specs.Waiting.Held.{count}
+use Rattle.seize_moves.proofs.Moves.State.Ghost.{State, put, is_in, counts, owes, was_put, total, Stage, Unused, Open, Closing, Closed, Dead, Life, IsIn, Loose, Debt}
+use Rattle.seize_moves.proofs.Moves.State.Ghost as Ghosts
+use Rattle.seize_moves.proofs.Moves.State.Rule.{Inv, IsLive, SameUnlessDead, SeenIs, AtStage, Pending}
+use Rattle.seize_moves.proofs.Moves.State.Moves.{counted, gives_up}
+use Rattle.seize_moves.proofs.Moves.Moves.Pushes.{counted_moves, first_loose, closed_at_zero}
+use Rattle.seize_moves.proofs.Moves.State.Sums.{total_le, put_parts, put_le}
+use Rattle.seize_moves.proofs.Moves.Moves.AtZero.{counted_gives_up, counted_gives_up_pending}
+use Rattle.seize_moves.proofs.Memory.Words.Named.{link, link-block, wrote, words_of, word_found}
+use Rattle.seize_moves.proofs.Memory.Words.Chains.{Chain, first_or, blocks_of}
+use Rattle.seize_moves.proofs.Memory.Words.View.{View, view, view_count}
+use Rattle.seize_moves.proofs.Memory.Words.Shows.{Spot, Nowhere, InHands, Extra, Shows, FirstIs, CountIs, DrainedIs, has_first}
+use Rattle.seize_moves.proofs.Memory.Written.Counts.{in_hands, shut_loose, is_shut, counted_off, counted_written}
+use Rattle.seize_moves.proofs.Memory.Written.Close.{first_in}
+use Rattle.seize_moves.proofs.Memory.Written.Dooms.{given_up, gives_up_written}
 use Rattle.seize_rule.proofs.Points.Aside.{aside_same, aside_then, aside_gives_up}
 use Rattle.seize_rule.proofs.Points.Known.{AllFresh, Downs, bare, list_word}
 use Rattle.seize_rule.proofs.Points.Told.{Plain, NoneLeft, onward_part}

@@ -2,24 +2,24 @@
 use Rattle.std.specs.Prelude.{Option, is_some, ◌/◌}
 use Rattle.std.proofs.Common.{◌≡◌, ℕ, Bool, true, false, List, [], ◌∷◌, ◌++◌, append_assoc, refl, arith, ap, sym, subst, ◌∙◌}
 use Rattle.seize_words.specs.declared.at.At.TheVariants.{Entry}
-use Rattle.seize_words.specs.Mem.{Mem, Took, value_at, with_word}
-use Rattle.seize_words.specs.Plan.{Steps}
-use Rattle.seize_words.proofs.OneOwner.Operations.{loaded, stored}
+use Rattle.seize_words.specs.OneMemory.Mem.{Mem, Took, value_at, with_word}
+use Rattle.seize_words.specs.OneMemory.Plan.{Steps}
+use Rattle.seize_words.proofs.OneMemory.OneOwner.Operations.{loaded, stored}
 use Rattle.seize.specs.declared.states.TheConstants.{NEXT, LINK, ACTIVE}
 use Rattle.seize.specs.declared.rows.settle.Settle.{Settle}
 use Rattle.seize.specs.declared.rows.settle.Settled.{Settled}
 use Rattle.seize.specs.declared.rows.settle.Settled.TheVariants.{Goes}
 use Rattle.seize.specs.declared.rows.settle.Settling.TheVariants as at
 use Rattle.seize.specs.Settle.{standing, goes, slot_read, reads, links, next_pushed, pushed_next}
-use Rattle.seize_moves.proofs.State.Ghost.{State, list_of}
-use Rattle.seize_moves.proofs.State.Rule.{Inv}
-use Rattle.seize_moves.proofs.State.Together.{stays}
-use Rattle.seize_moves.proofs.State.Moves.{pushed}
-use Rattle.seize_rule.proofs.Words.Named.{link, words_of, word_found, wrote}
-use Rattle.seize_rule.proofs.Words.Chains.{Chain, chain_behind, first_or}
-use Rattle.seize_rule.proofs.Words.View.{view, view_link}
-use Rattle.seize_rule.proofs.Words.Shows.{Spot, Unspent, Extra, Shows, SpotLife, lives, keeps_like}
-use Rattle.seize_rule.proofs.Written.Marks.{mark_read, aimed_at, aimed_written, link_written, is_unspent_one}
+use Rattle.seize_moves.proofs.Moves.State.Ghost.{State, list_of}
+use Rattle.seize_moves.proofs.Moves.State.Rule.{Inv}
+use Rattle.seize_moves.proofs.Moves.State.Together.{stays}
+use Rattle.seize_moves.proofs.Moves.State.Moves.{pushed}
+use Rattle.seize_moves.proofs.Memory.Words.Named.{link, words_of, word_found, wrote}
+use Rattle.seize_moves.proofs.Memory.Words.Chains.{Chain, chain_behind, first_or}
+use Rattle.seize_moves.proofs.Memory.Words.View.{view, view_link}
+use Rattle.seize_moves.proofs.Memory.Words.Shows.{Spot, Unspent, Extra, Shows, SpotLife, lives, keeps_like}
+use Rattle.seize_moves.proofs.Memory.Written.Marks.{mark_read, aimed_at, aimed_written, link_written, is_unspent_one}
 use Rattle.seize_rule.proofs.Points.Aside.{aside_same}
 use Rattle.seize_rule.proofs.Points.Told.{Pushing, Stays}
 use Rattle.seize_rule.proofs.Points.Stepped.{HasWords, Went, went_loaded, went_written}

@@ -3,24 +3,24 @@ use Rattle.std.specs.Prelude.{if◌then◌else◌, ◌==◌, nat_lt, Option, IsS
 use Rattle.std.proofs.Common.{◌≡◌, ℕ, ◌<◌, Bool, true, false, refl, arith, ◌∙◌, inl, inr, ap, sym, subst, eqb-true}
 use Rattle.std.proofs.lemmas.Bool.{eqb-false}
 use Rattle.seize_words.specs.declared.at.At.TheVariants.{Slot}
-use Rattle.seize_words.specs.Mem.{Mem, Took, value_at, word_at, with_word}
-use Rattle.seize_words.specs.Plan.{Steps, Ends, Now}
-use Rattle.seize_words.proofs.OneOwner.Operations.{loaded, stored, exchanged}
+use Rattle.seize_words.specs.OneMemory.Mem.{Mem, Took, value_at, word_at, with_word}
+use Rattle.seize_words.specs.OneMemory.Plan.{Steps, Ends, Now}
+use Rattle.seize_words.proofs.OneMemory.OneOwner.Operations.{loaded, stored, exchanged}
 use Rattle.seize.specs.declared.states.TheConstants.{BATCH, HELD, ACTIVE}
 use Rattle.seize.specs.declared.rows.settle.Settle.{Settle}
 use Rattle.seize.specs.declared.rows.settle.Settling.TheVariants as at
 use Rattle.seize.specs.declared.rows.settle.Settled.{Settled}
 use Rattle.seize.specs.declared.rows.settle.Settled.TheVariants.{Goes, Waits}
 use Rattle.seize.specs.Settle.{onward, with_batch, standing, seen, sees, taken_hold, holds, gives}
-use Rattle.seize_moves.proofs.State.Ghost.{State, put, Stage, Open, is_never}
-use Rattle.seize_moves.proofs.State.Rule.{Inv}
-use Rattle.seize_moves.proofs.State.Moves.{held, gave}
-use Rattle.seize_moves.proofs.Moves.Slots.{held_moves, gave_moves}
-use Rattle.seize_rule.proofs.Words.Named.{link, wrote, words_of, word_found}
-use Rattle.seize_rule.proofs.Words.Chains.{last_of}
-use Rattle.seize_rule.proofs.Words.View.{view, view_batch}
-use Rattle.seize_rule.proofs.Words.Shows.{Extra, Shows, EndIs, batch_word}
-use Rattle.seize_rule.proofs.Written.Holds.{not_held, held_written, gave_written}
+use Rattle.seize_moves.proofs.Moves.State.Ghost.{State, put, Stage, Open, is_never}
+use Rattle.seize_moves.proofs.Moves.State.Rule.{Inv}
+use Rattle.seize_moves.proofs.Moves.State.Moves.{held, gave}
+use Rattle.seize_moves.proofs.Moves.Moves.Slots.{held_moves, gave_moves}
+use Rattle.seize_moves.proofs.Memory.Words.Named.{link, wrote, words_of, word_found}
+use Rattle.seize_moves.proofs.Memory.Words.Chains.{last_of}
+use Rattle.seize_moves.proofs.Memory.Words.View.{view, view_batch}
+use Rattle.seize_moves.proofs.Memory.Words.Shows.{Extra, Shows, EndIs, batch_word}
+use Rattle.seize_moves.proofs.Memory.Written.Holds.{not_held, held_written, gave_written}
 use Rattle.seize_rule.proofs.Points.Aside.{aside_same}
 use Rattle.seize_rule.proofs.Points.Known.{Holding, open_blocks, MayHold, Retiring, Sees, Holds, Over, bare}
 use Rattle.seize_rule.proofs.Points.Told.{Plain, flush_part, part_at, Told, Holds as HoldsIt, HoldsNone, Gives, onward_part}

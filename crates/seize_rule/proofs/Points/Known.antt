@@ -4,13 +4,13 @@ use Rattle.std.proofs.Common.{◌≡◌, ℕ, ◌+◌, ◌<◌, ◌≤◌, Bool,
 use Rattle.seize.specs.declared.rows.settle.Settle.{Settle}
 use Rattle.seize.specs.declared.rows.settle.Settling.{Settling}
 use Rattle.seize.specs.declared.rows.settle.Settling.TheVariants as at
-use Rattle.seize_moves.specs.Given.SeizeWaitingHeld.{count}
-use Rattle.seize_moves.proofs.State.Ghost.{Entry, Head, Marked as MarkedDebt, Closing, State, list_of, is_never, was_put, total}
-use Rattle.seize_rule.proofs.Words.Named.{link}
-use Rattle.seize_rule.proofs.Words.Chains.{first_or, last_of, blocks_of}
-use Rattle.seize_rule.proofs.Words.View.{View}
-use Rattle.seize_rule.proofs.Words.Shows.{Extra}
-use Rattle.seize_rule.proofs.Written.Append.{awaits}
+use Rattle.seize_moves.specs.Waiting.Held.{count}
+use Rattle.seize_moves.proofs.Moves.State.Ghost.{Entry, Head, Marked as MarkedDebt, Closing, State, list_of, is_never, was_put, total}
+use Rattle.seize_moves.proofs.Memory.Words.Named.{link}
+use Rattle.seize_moves.proofs.Memory.Words.Chains.{first_or, last_of, blocks_of}
+use Rattle.seize_moves.proofs.Memory.Words.View.{View}
+use Rattle.seize_moves.proofs.Memory.Words.Shows.{Extra}
+use Rattle.seize_moves.proofs.Memory.Written.Append.{awaits}
 
 -- the word that a list ends with stands for a list that was never taken
 abbrev pub list_word : ℕ → ℕ

@@ -3,16 +3,16 @@ use Rattle.std.proofs.Common.{◌≡◌, ℕ, ◌+◌, ◌<◌, Bool, true, fals
 use Rattle.seize.specs.declared.rows.settle.Settle.{Settle}
 use Rattle.seize.specs.declared.rows.settle.Settling.{Settling}
 use Rattle.seize.specs.declared.rows.settle.Settling.TheVariants as at
-use Rattle.seize_moves.specs.Given.SeizeWaitingHeld.{count}
-use Rattle.seize_moves.proofs.State.Ghost.{Entry, Stage, Open, Closing, Life, IsPending, IsDoomed, State, list_of, is_doomed}
-use Rattle.seize_moves.proofs.State.Rule.{IsOf, Inv, Keeps}
-use Rattle.seize_rule.proofs.Words.Chains.{count_first}
-use Rattle.seize_rule.proofs.Words.View.{View}
-use Rattle.seize_rule.proofs.Words.Shows.{Spot, InHands, SpotLife, Extra, Shows, KeepsWords, has_next, has_first, has_own, is_in_hands, stands}
-use Rattle.seize_rule.proofs.Written.Marks.{is_unspent_one}
-use Rattle.seize_rule.proofs.Written.Append.{awaits}
-use Rattle.seize_moves.proofs.Moves.Tries.{first_pending}
-use Rattle.seize_moves.proofs.Moves.Takes.{first_doomed}
+use Rattle.seize_moves.specs.Waiting.Held.{count}
+use Rattle.seize_moves.proofs.Moves.State.Ghost.{Entry, Stage, Open, Closing, Life, IsPending, IsDoomed, State, list_of, is_doomed}
+use Rattle.seize_moves.proofs.Moves.State.Rule.{IsOf, Inv, Keeps}
+use Rattle.seize_moves.proofs.Memory.Words.Chains.{count_first}
+use Rattle.seize_moves.proofs.Memory.Words.View.{View}
+use Rattle.seize_moves.proofs.Memory.Words.Shows.{Spot, InHands, SpotLife, Extra, Shows, KeepsWords, has_next, has_first, has_own, is_in_hands, stands}
+use Rattle.seize_moves.proofs.Memory.Written.Marks.{is_unspent_one}
+use Rattle.seize_moves.proofs.Memory.Written.Append.{awaits}
+use Rattle.seize_moves.proofs.Moves.Moves.Tries.{first_pending}
+use Rattle.seize_moves.proofs.Moves.Moves.Takes.{first_doomed}
 use Rattle.seize_rule.proofs.Points.Lost.{behind_grown}
 use Rattle.seize_rule.proofs.Points.Known.{AllTaken, AllFresh, TakenBelow, Empty, Outside, Common, Holding, MayHold, open_blocks, Rest, Retiring, Putting, Batches, Ends, Appends, Counts, Tries, Shuts, Reads, Links, Pushed, Backs, Drains, Owns, FirstsOf, FitsAt}
 

@@ -2,23 +2,23 @@
 use Rattle.std.specs.Prelude.{◌/◌, Option, List, [], ◌∷◌}
 use Rattle.std.proofs.Common.{◌≡◌, ℕ, ◌<◌, true, refl, arith, sym, ◌∙◌, ap}
 use Rattle.seize_words.specs.declared.at.At.TheVariants.{Entry}
-use Rattle.seize_words.specs.Mem.{Mem, Took, value_at}
-use Rattle.seize_words.specs.Plan.{Steps}
-use Rattle.seize_words.proofs.OneOwner.Operations.{loaded}
+use Rattle.seize_words.specs.OneMemory.Mem.{Mem, Took, value_at}
+use Rattle.seize_words.specs.OneMemory.Plan.{Steps}
+use Rattle.seize_words.proofs.OneMemory.OneOwner.Operations.{loaded}
 use Rattle.seize.specs.declared.states.TheConstants.{LINK, FIRST}
 use Rattle.seize.specs.declared.rows.settle.Settle.{Settle}
 use Rattle.seize.specs.declared.rows.settle.Settling.TheVariants as at
 use Rattle.seize.specs.declared.rows.settle.Settled.{Settled}
 use Rattle.seize.specs.declared.rows.settle.Settled.TheVariants.{Goes}
 use Rattle.seize.specs.Settle.{entry_read, lists, batch_read, owns, standing}
-use Rattle.seize_moves.proofs.State.Ghost.{State, IsIn}
-use Rattle.seize_moves.proofs.State.Ghost as Ghosts
-use Rattle.seize_moves.proofs.State.Rule.{Inv}
-use Rattle.seize_rule.proofs.Words.Named.{link, link-block, words_of, word_found}
-use Rattle.seize_rule.proofs.Words.Chains.{Chain, blocks_of}
-use Rattle.seize_rule.proofs.Words.View.{View, view}
-use Rattle.seize_rule.proofs.Words.Shows.{Extra, Shows}
-use Rattle.seize_rule.proofs.Written.Counts.{in_hands}
+use Rattle.seize_moves.proofs.Moves.State.Ghost.{State, IsIn}
+use Rattle.seize_moves.proofs.Moves.State.Ghost as Ghosts
+use Rattle.seize_moves.proofs.Moves.State.Rule.{Inv}
+use Rattle.seize_moves.proofs.Memory.Words.Named.{link, link-block, words_of, word_found}
+use Rattle.seize_moves.proofs.Memory.Words.Chains.{Chain, blocks_of}
+use Rattle.seize_moves.proofs.Memory.Words.View.{View, view}
+use Rattle.seize_moves.proofs.Memory.Words.Shows.{Extra, Shows}
+use Rattle.seize_moves.proofs.Memory.Written.Counts.{in_hands}
 use Rattle.seize_rule.proofs.Points.Known.{Lists, Owns, bare, list_word}
 use Rattle.seize_rule.proofs.Points.Told.{Plain}
 use Rattle.seize_rule.proofs.Points.Stepped.{quiet, Went, went_loaded}

@@ -2,13 +2,13 @@
 use Rattle.std.proofs.Common.{◌≡◌, ℕ, ◌+◌, ◌^◌, ◌<◌, ◌≤◌, Bool, true, false, cond, eqb, List, [], ◌∷◌, ◌++◌, length, append_assoc, length-append, refl, arith, ap, sym, subst, ◌∙◌, eqb-true}
 use Rattle.std.proofs.lemmas.List.{append-nil}
 use Rattle.seize.specs.declared.rows.settle.Settle.{Settle}
-use Rattle.seize_moves.specs.Given.SeizeWaitingHeld.{count, same}
-use Rattle.seize_moves.proofs.State.Ghost.{Entry, Head, Active, State, list_of}
-use Rattle.seize_moves.proofs.State.Rule.{Grows}
-use Rattle.seize_rule.proofs.Words.Chains.{Chain, blocks_of, chain_begin, first_or}
-use Rattle.seize_rule.proofs.Words.Sums.{blocks_long, count_stands, list_below}
-use Rattle.seize_rule.proofs.Words.View.{View}
-use Rattle.seize_rule.proofs.Words.Shows.{Spot, Nowhere, Unspent, On, InHands, SpotLife, HeadIs, Extra, Shows, lives, stands, is_on}
+use Rattle.seize_moves.specs.Waiting.Held.{count, same}
+use Rattle.seize_moves.proofs.Moves.State.Ghost.{Entry, Head, Active, State, list_of}
+use Rattle.seize_moves.proofs.Moves.State.Rule.{Grows}
+use Rattle.seize_moves.proofs.Memory.Words.Chains.{Chain, blocks_of, chain_begin, first_or}
+use Rattle.seize_moves.proofs.Memory.Words.Sums.{blocks_long, count_stands, list_below}
+use Rattle.seize_moves.proofs.Memory.Words.View.{View}
+use Rattle.seize_moves.proofs.Memory.Words.Shows.{Spot, Nowhere, Unspent, On, InHands, SpotLife, HeadIs, Extra, Shows, lives, stands, is_on}
 use Rattle.seize_rule.proofs.Points.Known.{Behind, Shuts, Reads}
 
 -- before the first exchange the block is to follow no entry

@@ -3,47 +3,36 @@ use Rattle.std.specs.Prelude.{Option, if◌then◌else◌, ◌==◌, ◌/◌, �
 use Rattle.std.proofs.Common.{◌≡◌, ℕ, ◌+◌, ◌<◌, ◌≤◌, Bool, true, false, List, [], ◌∷◌, ◌++◌, length, refl, arith, ap, sym, subst, ◌∙◌, eqb-true}
 use Rattle.std.proofs.lemmas.Bool.{eqb-false}
 use Rattle.seize_words.specs.declared.at.At.TheVariants.{Entry}
-use Rattle.seize_words.specs.Mem.{Mem, Took, value_at, with_word}
-use Rattle.seize_words.specs.Plan.{Steps}
-use Rattle.seize_words.proofs.OneOwner.Operations.{loaded, stored}
-use Rattle.seize.specs.declared.states.TheConstants.{LINK, NEXT, LAST_SLOT}
+use Rattle.seize_words.specs.OneMemory.Mem.{Mem, Took, value_at, with_word}
+use Rattle.seize_words.specs.OneMemory.Plan.{Steps}
+use Rattle.seize_words.proofs.OneMemory.OneOwner.Operations.{loaded, stored}
+use Rattle.seize.specs.declared.states.TheConstants.{LINK, NEXT, LAST_SLOT, COUNT}
 use Rattle.seize.specs.declared.rows.settle.Settle.{Settle}
 use Rattle.seize.specs.declared.rows.settle.Settling.TheVariants as at
 use Rattle.seize.specs.declared.rows.settle.Settled.{Settled}
 use Rattle.seize.specs.declared.rows.settle.Settled.TheVariants.{Goes}
-use Rattle.seize.specs.Settle.{standing, behind, to, goes, marks_block, marked_next, marked}
-use Rattle.seize_moves.proofs.State.Ghost.{put, State, Stage, Open, Life}
-use Rattle.seize_moves.proofs.State.Rule.{Inv, SameUnlessDead}
-use Rattle.seize_moves.proofs.State.Moves
-use Rattle.seize_moves.proofs.Moves.Tries.{marked_moves}
-use Rattle.seize_rule.proofs.Words.Named.{link, words_of, word_found, wrote}
-use Rattle.seize_rule.proofs.Words.Chains.{first_or, chain_behind}
-use Rattle.seize_rule.proofs.Words.View.{View, view, view_link}
-use Rattle.seize_rule.proofs.Words.Shows.{Extra, Shows, lives}
-use Rattle.seize_rule.proofs.Written.Marks.{marked_written}
+use Rattle.seize.specs.Settle.{standing, behind, to, goes, marks_block, marked_next, marked, closed, closes}
+use Rattle.seize_moves.proofs.Moves.State.Ghost.{put, State, Stage, Open, Life, is_in, Unused, Closing, Closed, Debt, was_put, total}
+use Rattle.seize_moves.proofs.Moves.State.Rule.{Inv, SameUnlessDead, AtStage}
+use Rattle.seize_moves.proofs.Moves.State.Moves
+use Rattle.seize_moves.proofs.Moves.Moves.Tries.{marked_moves, closed_moves, passed_total, passed_put}
+use Rattle.seize_moves.proofs.Memory.Words.Named.{link, words_of, word_found, wrote}
+use Rattle.seize_moves.proofs.Memory.Words.Chains.{first_or, chain_behind, chain_begin, last_of}
+use Rattle.seize_moves.proofs.Memory.Words.View.{View, view, view_link, view_count}
+use Rattle.seize_moves.proofs.Memory.Words.Shows.{Extra, Shows, lives, RestIs}
+use Rattle.seize_moves.proofs.Memory.Written.Marks.{marked_written}
 use Rattle.seize_rule.proofs.Points.Aside.{aside_same}
 use Rattle.seize_rule.proofs.Points.Told.{Trying, Marking, Pushing, part, Told, Marks as MarksIt, Closes as ClosesIt}
 use Rattle.seize_rule.proofs.Points.NothingLeft.{nothing_left}
 use Rattle.seize_rule.proofs.Points.Stepped.{Stepped, HasWords, quiet, Went, went_loaded, went_written}
-use Rattle.seize_rule.proofs.Points.Known.{AllTaken, HoldingOf, open_blocks, Marks, Marked, Closes, Fits, bare}
-use Rattle.seize_rule.proofs.Points.Retire.{of_link, open_stage, open_chain}
+use Rattle.seize_rule.proofs.Points.Known.{AllTaken, HoldingOf, open_blocks, Marks, Marked, Closes, Fits, bare, Shuts}
+use Rattle.seize_rule.proofs.Points.Retire.{of_link, open_stage, open_chain, some_last}
 -- what a head's word says
 use Rattle.seize_rule.proofs.Points.Try.{here, taken_more, length-more, tries_on}
 use Rattle.std.proofs.lemmas.List.{append_assoc}
-use Rattle.seize.specs.declared.states.TheConstants.{COUNT}
-use Rattle.seize.specs.Settle.{closed, closes}
-use Rattle.seize_moves.specs.Given.SeizeWaitingHeld.{count}
-use Rattle.seize_moves.proofs.State.Ghost.{is_in, Unused, Closing, Closed, Debt, was_put, total}
-use Rattle.seize_moves.proofs.State.Rule.{AtStage}
-use Rattle.seize_moves.proofs.Moves.Tries.{closed_moves, passed_total, passed_put}
-use Rattle.seize_rule.proofs.Words.Chains.{chain_begin, last_of}
-use Rattle.seize_rule.proofs.Words.View.{view_count}
-use Rattle.seize_rule.proofs.Words.Shows.{RestIs}
-use Rattle.seize_rule.proofs.Written.Close.{closed_written}
-use Rattle.seize_rule.proofs.Points.Known.{Shuts}
-use Rattle.seize_rule.proofs.Points.Retire.{some_last}
+use Rattle.seize_moves.specs.Waiting.Held.{count}
+use Rattle.seize_moves.proofs.Memory.Written.Close.{closed_written}
 use Rattle.seize_rule.proofs.Points.Scan.{behind_fits, behind_part}
-use Rattle.seize_rule.proofs.Points.Try.{here, taken_more, length-more, tries_on}
 
 count_in : (us vs : List ℕ) (d : ℕ) → 0 < count d (us ++ d ∷ vs)
 count_in [] vs d = grind arith

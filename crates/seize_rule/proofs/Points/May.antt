@@ -2,25 +2,25 @@
 use Rattle.std.specs.Prelude.{◌%◌, ◌^◌, ◌-◌, Option, Some, None, IsSome, if◌then◌else◌, nat_lt, ◌==◌, ◌/◌}
 use Rattle.std.proofs.Common.{◌≡◌, ℕ, zero, suc, ◌+◌, ◌<◌, Bool, true, false, eqb, List, [], ◌∷◌, ◌++◌, refl, arith, ap, sym, subst, ◌∙◌}
 use Rattle.seize_words.specs.declared.at.At.TheVariants.{Slot, Entry, Word}
-use Rattle.seize_words.specs.Mem.{Mem, Can, Took, value_at, word_at, with_word}
-use Rattle.seize_words.specs.Plan.{Then, May, MaySee}
-use Rattle.seize_words.proofs.OneOwner.Operations.{may_load, may_store, may_add, may_exchange, may_take}
+use Rattle.seize_words.specs.OneMemory.Mem.{Mem, Can, Took, value_at, word_at, with_word}
+use Rattle.seize_words.specs.OneMemory.Plan.{Then, May, MaySee}
+use Rattle.seize_words.proofs.OneMemory.OneOwner.Operations.{may_load, may_store, may_add, may_exchange, may_take}
 use Rattle.seize.specs.declared.states.TheConstants.{HEAD, BATCH, NEXT, LINK, FIRST, COUNT, ACTIVE, NEVER, HELD}
 use Rattle.seize.specs.declared.rows.settle.Settle.{Settle}
 use Rattle.seize.specs.declared.rows.settle.Settling.{Settling}
 use Rattle.seize.specs.declared.rows.settle.Settling.TheVariants as at
 use Rattle.seize.specs.Settle as plans
 use Rattle.seize.specs.Settle.{plan_at}
-use Rattle.seize_moves.specs.Given.SeizeWaitingHeld.{count}
-use Rattle.seize_moves.proofs.State.Ghost.{Entry as Entry', Head, Stage, Closing, Life, IsIn, IsPending, State, is_never, is_in, is_doomed, is_pending}
-use Rattle.seize_moves.proofs.State.Rule.{Inv, IsLive, SameUnlessDead}
-use Rattle.seize_moves.proofs.Moves.Tries.{first_pending}
-use Rattle.seize_rule.proofs.Words.Named.{link}
-use Rattle.seize_rule.proofs.Words.Chains.{chain_cons, first_or, last_of, count_last, count_first}
-use Rattle.seize_rule.proofs.Words.View.{View, view}
-use Rattle.seize_rule.proofs.Words.Shows.{Extra, Shows, Spot, InHands, SpotLife, FirstIs, lives}
-use Rattle.seize_rule.proofs.Written.Append.{head_or}
-use Rattle.seize_rule.proofs.Written.Counts.{shut_loose, is_shut}
+use Rattle.seize_moves.specs.Waiting.Held.{count}
+use Rattle.seize_moves.proofs.Moves.State.Ghost.{Entry as Entry', Head, Stage, Closing, Life, IsIn, IsPending, State, is_never, is_in, is_doomed, is_pending}
+use Rattle.seize_moves.proofs.Moves.State.Rule.{Inv, IsLive, SameUnlessDead}
+use Rattle.seize_moves.proofs.Moves.Moves.Tries.{first_pending}
+use Rattle.seize_moves.proofs.Memory.Words.Named.{link}
+use Rattle.seize_moves.proofs.Memory.Words.Chains.{chain_cons, first_or, last_of, count_last, count_first}
+use Rattle.seize_moves.proofs.Memory.Words.View.{View, view}
+use Rattle.seize_moves.proofs.Memory.Words.Shows.{Extra, Shows, Spot, InHands, SpotLife, FirstIs, lives}
+use Rattle.seize_moves.proofs.Memory.Written.Append.{head_or}
+use Rattle.seize_moves.proofs.Memory.Written.Counts.{shut_loose, is_shut}
 use Rattle.seize_rule.proofs.Points.Stepped.{HasWords}
 use Rattle.seize_rule.proofs.Points.Known.{list_word, open_blocks, Holding, MayHold, AllTaken, FirstsOf, FitsAt, bare}
 use Rattle.seize_rule.proofs.Points.KnownLasts.{in_hands}

@@ -1,9 +1,9 @@
 -- A row whose words say that it has nothing left to reclaim, or to retire, has nothing left.
 use Rattle.std.proofs.Common.{◌≡◌, ℕ, false, [], arith, ◌∙◌}
-use Rattle.seize_moves.proofs.State.Ghost.{State}
-use Rattle.seize_rule.proofs.Words.Chains.{chain_nil}
-use Rattle.seize_rule.proofs.Words.View.{View}
-use Rattle.seize_rule.proofs.Words.Shows.{Extra, Shows}
+use Rattle.seize_moves.proofs.Moves.State.Ghost.{State}
+use Rattle.seize_moves.proofs.Memory.Words.Chains.{chain_nil}
+use Rattle.seize_moves.proofs.Memory.Words.View.{View}
+use Rattle.seize_moves.proofs.Memory.Words.Shows.{Extra, Shows}
 use Rattle.seize_rule.proofs.Points.Known.{CommonOf}
 use Rattle.seize_rule.proofs.Points.Told.{NoneLeft}
 

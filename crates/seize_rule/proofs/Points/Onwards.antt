@@ -6,9 +6,9 @@ use Rattle.seize.specs.declared.states.TheConstants.{ACTIVE}
 use Rattle.seize.specs.declared.rows.settle.Settle.{Settle}
 use Rattle.seize.specs.declared.rows.settle.Settling.TheVariants as at
 use Rattle.seize.specs.Settle.{onward, with_batch, standing}
-use Rattle.seize_moves.proofs.State.Ghost.{State}
-use Rattle.seize_rule.proofs.Words.View.{View}
-use Rattle.seize_rule.proofs.Words.Shows.{Extra}
+use Rattle.seize_moves.proofs.Moves.State.Ghost.{State}
+use Rattle.seize_moves.proofs.Memory.Words.View.{View}
+use Rattle.seize_moves.proofs.Memory.Words.Shows.{Extra}
 use Rattle.seize_rule.proofs.Points.Known.{AllFresh, MayHold, Rest, Retiring, Over, Fits, bare}
 
 -- the batch that the row may hold, where nothing of it is changed

@@ -2,28 +2,28 @@
 use Rattle.std.specs.Prelude.{Option, Some, if◌then◌else◌, nat_lt, ◌||◌, not}
 use Rattle.std.proofs.Common.{◌≡◌, ℕ, suc, ◌+◌, ◌-◌, ◌%◌, ◌^◌, ◌<◌, ◌≤◌, Bool, true, false, List, [], ◌∷◌, ◌++◌, length, length-append, ◌⊎◌, refl, arith, ap, sym, subst, ◌∙◌, ltb-true, ltb-false, inl, inr}
 use Rattle.seize_words.specs.declared.at.At.TheVariants.{Slot}
-use Rattle.seize_words.specs.Mem.{Mem, Took, value_at, word_at, with_word}
-use Rattle.seize_words.specs.Plan.{Steps, Ends}
-use Rattle.seize_words.proofs.OneOwner.Operations.{exchanged}
+use Rattle.seize_words.specs.OneMemory.Mem.{Mem, Took, value_at, word_at, with_word}
+use Rattle.seize_words.specs.OneMemory.Plan.{Steps, Ends}
+use Rattle.seize_words.proofs.OneMemory.OneOwner.Operations.{exchanged}
 use Rattle.seize.specs.declared.states.TheConstants.{HEAD, ACTIVE, MOST_LOST}
 use Rattle.seize.specs.declared.rows.settle.Settle.{Settle}
 use Rattle.seize.specs.declared.rows.settle.Settled.{Settled}
 use Rattle.seize.specs.declared.rows.settle.Settled.TheVariants.{Goes}
 use Rattle.seize.specs.declared.rows.settle.Settling.TheVariants as at
 use Rattle.seize.specs.Settle.{standing, to, goes, push_told, pushes, pushed_of}
-use Rattle.seize_moves.proofs.State.Ghost.{put, Head, Never, Free, Idle, Active, Entry, Debt, Unscanned, Marked as MarkedDebt, Gone, Skipped, Owing, Loose, Counted, State, list_of, is_active, is_marked, is_never, was_put, total}
-use Rattle.seize_moves.proofs.State.Rule.{Inv, HasLeft}
-use Rattle.seize_moves.proofs.State.Sums.{total-put, put_le}
-use Rattle.seize_moves.proofs.State.Moves.{pushed, missed}
-use Rattle.seize_moves.proofs.Moves.Pushes.{first_marked, not_put, marked_seen, pushed_moves, missed_moves}
-use Rattle.seize_moves.proofs.State.Together.{stays}
-use Rattle.seize_rule.proofs.Words.Named.{link, word_found, wrote}
-use Rattle.seize_rule.proofs.Words.Chains.{Chain, blocks_of, chain_behind, first_or}
-use Rattle.seize_rule.proofs.Words.View.{View, view, view_head}
-use Rattle.seize_rule.proofs.Words.Shows.{Spot, Nowhere, On, Extra, Shows, HeadIs, keeps_like}
-use Rattle.seize_rule.proofs.Words.Apart.{put_here}
-use Rattle.seize_rule.proofs.Written.Heads.{head_active}
-use Rattle.seize_rule.proofs.Written.Pushes.{spent, pushed_written, missed_written}
+use Rattle.seize_moves.proofs.Moves.State.Ghost.{put, Head, Never, Free, Idle, Active, Entry, Debt, Unscanned, Marked as MarkedDebt, Gone, Skipped, Owing, Loose, Counted, State, list_of, is_active, is_marked, is_never, was_put, total}
+use Rattle.seize_moves.proofs.Moves.State.Rule.{Inv, HasLeft}
+use Rattle.seize_moves.proofs.Moves.State.Sums.{total-put, put_le}
+use Rattle.seize_moves.proofs.Moves.State.Moves.{pushed, missed}
+use Rattle.seize_moves.proofs.Moves.Moves.Pushes.{first_marked, not_put, marked_seen, pushed_moves, missed_moves}
+use Rattle.seize_moves.proofs.Moves.State.Together.{stays}
+use Rattle.seize_moves.proofs.Memory.Words.Named.{link, word_found, wrote}
+use Rattle.seize_moves.proofs.Memory.Words.Chains.{Chain, blocks_of, chain_behind, first_or}
+use Rattle.seize_moves.proofs.Memory.Words.View.{View, view, view_head}
+use Rattle.seize_moves.proofs.Memory.Words.Shows.{Spot, Nowhere, On, Extra, Shows, HeadIs, keeps_like}
+use Rattle.seize_moves.proofs.Memory.Words.Apart.{put_here}
+use Rattle.seize_moves.proofs.Memory.Written.Heads.{head_active}
+use Rattle.seize_moves.proofs.Memory.Written.Pushes.{spent, pushed_written, missed_written}
 use Rattle.seize_rule.proofs.Points.Aside.{aside_same, aside_pushed}
 use Rattle.seize_rule.proofs.Points.Told.{part, Pushing}
 use Rattle.seize_rule.proofs.Points.Told as tells

@@ -3,27 +3,27 @@ use Rattle.std.specs.Prelude.{Option, Some, is_some, if◌then◌else◌, ◌==�
 use Rattle.std.proofs.Common.{◌≡◌, ℕ, ◌<◌, Bool, true, false, eqb, List, [], ◌∷◌, refl, arith, ap, sym, subst, ◌∙◌, eqb-true}
 use Rattle.std.proofs.lemmas.Bool.{eqb-false}
 use Rattle.seize_words.specs.declared.at.At.TheVariants.{Entry}
-use Rattle.seize_words.specs.Op.{Found}
-use Rattle.seize_words.specs.Mem.{Mem, Took, value_at, word_at, with_word}
-use Rattle.seize_words.specs.Plan.{Steps, Ends}
-use Rattle.seize_words.proofs.OneOwner.Operations.{loaded, stored}
+use Rattle.seize_words.specs.OneMemory.Op.{Found}
+use Rattle.seize_words.specs.OneMemory.Mem.{Mem, Took, value_at, word_at, with_word}
+use Rattle.seize_words.specs.OneMemory.Plan.{Steps, Ends}
+use Rattle.seize_words.proofs.OneMemory.OneOwner.Operations.{loaded, stored}
 use Rattle.seize.specs.declared.states.TheConstants.{NEXT, FIRST}
 use Rattle.seize.specs.declared.rows.settle.Settle.{Settle}
 use Rattle.seize.specs.declared.rows.settle.Settled.{Settled}
 use Rattle.seize.specs.declared.rows.settle.Settled.TheVariants.{Goes}
 use Rattle.seize.specs.declared.rows.settle.Settling.TheVariants as at
 use Rattle.seize.specs.Settle.{standing, scanning, ended, to, goes, popped as popped_out, pops, first_read, firsts, batches, ends, appends}
-use Rattle.seize_moves.proofs.State.Ghost.{put, State, Open, Life, IsIn, IsPending}
-use Rattle.seize_moves.proofs.State.Rule.{Inv}
-use Rattle.seize_moves.proofs.State.Together.{stays}
-use Rattle.seize_moves.proofs.Moves.Tries.{first_pending}
-use Rattle.seize_rule.proofs.Words.Named.{link, link-block, words_of, word_found, wrote}
-use Rattle.seize_rule.proofs.Words.Chains.{Chain, chain_cons, first_or, last_from, last_of}
-use Rattle.seize_rule.proofs.Words.View.{View, view, view_first, view_next}
-use Rattle.seize_rule.proofs.Words.Shows.{Extra, Shows, Written, FirstIs, lives, has_next}
-use Rattle.seize_rule.proofs.Words.Apart.{unlisted_popped, boxed_none}
-use Rattle.seize_rule.proofs.Written.Retire.{popped, popped_written, first_written, next_written, behind_written, ended_by, in_batch}
-use Rattle.seize_rule.proofs.Written.Append.{awaits}
+use Rattle.seize_moves.proofs.Moves.State.Ghost.{put, State, Open, Life, IsIn, IsPending}
+use Rattle.seize_moves.proofs.Moves.State.Rule.{Inv}
+use Rattle.seize_moves.proofs.Moves.State.Together.{stays}
+use Rattle.seize_moves.proofs.Moves.Moves.Tries.{first_pending}
+use Rattle.seize_moves.proofs.Memory.Words.Named.{link, link-block, words_of, word_found, wrote}
+use Rattle.seize_moves.proofs.Memory.Words.Chains.{Chain, chain_cons, first_or, last_from, last_of}
+use Rattle.seize_moves.proofs.Memory.Words.View.{View, view, view_first, view_next}
+use Rattle.seize_moves.proofs.Memory.Words.Shows.{Extra, Shows, Written, FirstIs, lives, has_next}
+use Rattle.seize_moves.proofs.Memory.Words.Apart.{unlisted_popped, boxed_none}
+use Rattle.seize_moves.proofs.Memory.Written.Retire.{popped, popped_written, first_written, next_written, behind_written, ended_by, in_batch}
+use Rattle.seize_moves.proofs.Memory.Written.Append.{awaits}
 use Rattle.seize_rule.proofs.Points.Aside.{aside_same}
 use Rattle.seize_rule.proofs.Points.Told.{Plain, flush_part, part, Stays, Begins}
 use Rattle.seize_rule.proofs.Points.NothingLeft.{nothing_left, none_pending}

@@ -4,25 +4,25 @@ use Rattle.std.proofs.Common.{◌≡◌, ℕ, ◌+◌, ◌<◌, ◌≤◌, Bool,
 use Rattle.std.proofs.lemmas.Bool.{eqb-false}
 use Rattle.std.proofs.lemmas.List.{append-nil}
 use Rattle.seize_words.specs.declared.at.At.TheVariants.{Slot}
-use Rattle.seize_words.specs.Mem.{Mem, Took, value_at}
-use Rattle.seize_words.specs.Plan.{Steps, Ends}
-use Rattle.seize_words.proofs.OneOwner.Operations.{loaded}
+use Rattle.seize_words.specs.OneMemory.Mem.{Mem, Took, value_at}
+use Rattle.seize_words.specs.OneMemory.Plan.{Steps, Ends}
+use Rattle.seize_words.proofs.OneMemory.OneOwner.Operations.{loaded}
 use Rattle.seize.specs.declared.states.TheConstants.{HEAD, NEVER, ACTIVE, LAST_SLOT}
 use Rattle.seize.specs.declared.rows.settle.Settle.{Settle}
 use Rattle.seize.specs.declared.rows.settle.Settling.TheVariants as at
 use Rattle.seize.specs.declared.rows.settle.Settled.{Settled}
 use Rattle.seize.specs.declared.rows.settle.Settled.TheVariants.{Goes}
 use Rattle.seize.specs.Settle.{standing, onward, behind, to, goes, scanned, scans}
-use Rattle.seize_moves.proofs.State.Ghost.{State, Open, is_active}
-use Rattle.seize_moves.proofs.State.Rule.{Inv}
-use Rattle.seize_moves.proofs.State.Moves
-use Rattle.seize_moves.proofs.Moves.Tries.{skipped_moves, given_up_moves, none_behind}
+use Rattle.seize_moves.proofs.Moves.State.Ghost.{State, Open, is_active}
+use Rattle.seize_moves.proofs.Moves.State.Rule.{Inv}
+use Rattle.seize_moves.proofs.Moves.State.Moves
+use Rattle.seize_moves.proofs.Moves.Moves.Tries.{skipped_moves, given_up_moves, none_behind}
 use Rattle.seize_rule.proofs.Points.Passed.{passed_rest, passed_rest_moves, passed_rest_written}
-use Rattle.seize_rule.proofs.Words.Named.{link, word_found}
-use Rattle.seize_rule.proofs.Words.Chains.{first_or, chain_behind}
-use Rattle.seize_rule.proofs.Words.View.{View, view}
-use Rattle.seize_rule.proofs.Words.Shows.{Extra, Shows}
-use Rattle.seize_rule.proofs.Written.Marks.{skipped_written, given_up_written}
+use Rattle.seize_moves.proofs.Memory.Words.Named.{link, word_found}
+use Rattle.seize_moves.proofs.Memory.Words.Chains.{first_or, chain_behind}
+use Rattle.seize_moves.proofs.Memory.Words.View.{View, view}
+use Rattle.seize_moves.proofs.Memory.Words.Shows.{Extra, Shows}
+use Rattle.seize_moves.proofs.Memory.Written.Marks.{skipped_written, given_up_written}
 use Rattle.seize_rule.proofs.Points.Aside.{aside_same}
 use Rattle.seize_rule.proofs.Points.Told.{Trying, part, Passes, Skips, GivesUp, Finds, onward_part}
 use Rattle.seize_rule.proofs.Points.NothingLeft.{nothing_left}

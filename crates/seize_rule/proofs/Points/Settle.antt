@@ -1,8 +1,8 @@
 -- Every step of a settling row comes to a move, and leaves the row with what it knows at its next point.
 use Rattle.std.specs.Prelude.{Option, ◌^◌}
 use Rattle.std.proofs.Common.{◌≡◌, ℕ, ◌+◌, ◌<◌, Bool, true, false, arith}
-use Rattle.seize_words.specs.Mem.{Mem, Took, value_at}
-use Rattle.seize_words.specs.Plan.{Steps}
+use Rattle.seize_words.specs.OneMemory.Mem.{Mem, Took, value_at}
+use Rattle.seize_words.specs.OneMemory.Plan.{Steps}
 use Rattle.seize.specs.declared.states.TheConstants.{LAST_SLOT}
 use Rattle.seize.specs.declared.rows.settle.Settle.{Settle}
 use Rattle.seize.specs.declared.rows.settle.Settling.{Settling}
@@ -10,10 +10,10 @@ use Rattle.seize.specs.declared.rows.settle.Settling.TheVariants as at
 use Rattle.seize.specs.declared.rows.settle.Settled.{Settled}
 use Rattle.seize.specs.Settle.{plan_at}
 use Rattle.seize.specs.World.{settle_effects}
-use Rattle.seize_moves.proofs.State.Ghost.{State}
-use Rattle.seize_moves.proofs.State.Rule.{Inv}
-use Rattle.seize_rule.proofs.Words.View.{view}
-use Rattle.seize_rule.proofs.Words.Shows.{Extra, Shows}
+use Rattle.seize_moves.proofs.Moves.State.Ghost.{State}
+use Rattle.seize_moves.proofs.Moves.State.Rule.{Inv}
+use Rattle.seize_moves.proofs.Memory.Words.View.{view}
+use Rattle.seize_moves.proofs.Memory.Words.Shows.{Extra, Shows}
 use Rattle.seize_rule.proofs.Points.Told.{part_at}
 use Rattle.seize_rule.proofs.Points.Stepped.{HasWords, Went}
 use Rattle.seize_rule.proofs.Points.Known.{FitsAt, bare}

@@ -3,10 +3,10 @@ use Rattle.std.specs.Prelude.{Option, Some, if◌then◌else◌, nat_lt, ◌/◌
 use Rattle.std.proofs.Common.{◌≡◌, ℕ, ◌+◌, ◌-◌, ◌%◌, ◌^◌, ◌<◌, ◌≤◌, Bool, true, false, cond, eqb, List, [], ◌∷◌, ◌++◌, length, refl, arith, ap, sym, subst, ◌∙◌, eqb-true, ltb-true}
 use Rattle.std.proofs.lemmas.Bool.{eqb-false, eq-eqb}
 use Rattle.seize_words.specs.declared.at.At.TheVariants.{Entry, Slot}
-use Rattle.seize_words.specs.Op.{Found}
-use Rattle.seize_words.specs.Mem.{Mem, Took, value_at, word_at, with_word}
-use Rattle.seize_words.specs.Plan.{Steps, Ends}
-use Rattle.seize_words.proofs.OneOwner.Operations.{added, loaded, stored}
+use Rattle.seize_words.specs.OneMemory.Op.{Found}
+use Rattle.seize_words.specs.OneMemory.Mem.{Mem, Took, value_at, word_at, with_word}
+use Rattle.seize_words.specs.OneMemory.Plan.{Steps, Ends}
+use Rattle.seize_words.proofs.OneMemory.OneOwner.Operations.{added, loaded, stored}
 use Rattle.seize.specs.declared.states.TheConstants.{COUNT, HEAD, NEXT, LINK, NEVER, ACTIVE, LAST_SLOT}
 use Rattle.seize.specs.declared.rows.settle.Settle.{Settle}
 use Rattle.seize.specs.declared.rows.settle.Settling.{Settling}
@@ -16,14 +16,14 @@ use Rattle.seize.specs.declared.rows.settle.Settled.TheVariants.{Goes}
 use Rattle.seize.specs.Settle.{plan_at, scanning, onward, standing, behind, closed, to, goes, counted, scanned, marked_next}
 use Rattle.seize.specs.Law.{Effect}
 use Rattle.seize.specs.World.{Row, settle_effects}
-use Rattle.seize_moves.proofs.State.Ghost.{State, is_never}
-use Rattle.seize_moves.proofs.State.Rule.{Inv, retirals, open_length}
-use Rattle.seize_rule.proofs.Words.Named.{link, word_found}
-use Rattle.seize_rule.proofs.Words.Chains.{first_or}
-use Rattle.seize_rule.proofs.Words.View.{view}
-use Rattle.seize_rule.proofs.Words.Shows.{Extra, Shows}
-use Rattle.seize_rule.proofs.Written.Append.{head_or}
-use Rattle.seize_rule.proofs.Words.There.{live_pos}
+use Rattle.seize_moves.proofs.Moves.State.Ghost.{State, is_never}
+use Rattle.seize_moves.proofs.Moves.State.Rule.{Inv, retirals, open_length}
+use Rattle.seize_moves.proofs.Memory.Words.Named.{link, word_found}
+use Rattle.seize_moves.proofs.Memory.Words.Chains.{first_or}
+use Rattle.seize_moves.proofs.Memory.Words.View.{view}
+use Rattle.seize_moves.proofs.Memory.Words.Shows.{Extra, Shows}
+use Rattle.seize_moves.proofs.Memory.Written.Append.{head_or}
+use Rattle.seize_moves.proofs.Memory.Words.There.{live_pos}
 use Rattle.seize_rule.proofs.Points.Told.{part}
 use Rattle.seize_rule.proofs.Points.Stepped.{Stepped}
 use Rattle.seize_rule.proofs.Points.Known.{open_blocks, Counts, Scans, Fits, FitsAt, bare}

@@ -3,17 +3,17 @@ use Rattle.std.specs.Prelude.{Option, Some, is_some, List, [], ◌++◌}
 use Rattle.std.proofs.Common.{◌≡◌, ℕ, ◌+◌, ◌<◌, ◌^◌, true, false, refl, sym, subst}
 use Rattle.seize_words.specs.declared.at.At.{At}
 use Rattle.seize_words.specs.declared.at.At.TheVariants.{Slot, Entry, Word}
-use Rattle.seize_words.specs.Mem.{Mem, value_at, with_word}
+use Rattle.seize_words.specs.OneMemory.Mem.{Mem, value_at, with_word}
 use Rattle.seize.specs.declared.rows.settle.Settle.{Settle}
 use Rattle.seize.specs.declared.rows.settle.Settled.{Settled}
 use Rattle.seize.specs.declared.rows.settle.Settled.TheVariants.{Goes, Waits, Gave, Done}
 use Rattle.seize.specs.Law.{Effect}
-use Rattle.seize_moves.proofs.State.Ghost.{Head, State, is_never}
-use Rattle.seize_moves.proofs.State.Rule.{Inv, Moved, Pending}
-use Rattle.seize_moves.proofs.State.Together.{stays}
-use Rattle.seize_rule.proofs.Words.Named.{has}
-use Rattle.seize_rule.proofs.Words.View.{View, view, list_in}
-use Rattle.seize_rule.proofs.Words.Shows.{Extra, Shows, Written, keeps_like}
+use Rattle.seize_moves.proofs.Moves.State.Ghost.{Head, State, is_never}
+use Rattle.seize_moves.proofs.Moves.State.Rule.{Inv, Moved, Pending}
+use Rattle.seize_moves.proofs.Moves.State.Together.{stays}
+use Rattle.seize_moves.proofs.Memory.Words.Named.{has}
+use Rattle.seize_moves.proofs.Memory.Words.View.{View, view, list_in}
+use Rattle.seize_moves.proofs.Memory.Words.Shows.{Extra, Shows, Written, keeps_like}
 use Rattle.seize_rule.proofs.Points.Aside.{Aside, aside_same}
 use Rattle.seize_rule.proofs.Points.Known.{Fits}
 use Rattle.seize_rule.proofs.Points.Told.{Part, part, Told, Stays}

@@ -3,28 +3,28 @@ use Rattle.std.specs.Prelude.{Option, Some, if◌then◌else◌, ◌==◌, ◌/�
 use Rattle.std.proofs.Common.{◌≡◌, ℕ, ◌+◌, ◌%◌, ◌^◌, ◌<◌, Bool, true, false, List, [], ◌∷◌, refl, arith, ap, sym, subst, ◌∙◌, eqb-true}
 use Rattle.std.proofs.lemmas.Bool.{eqb-false}
 use Rattle.seize_words.specs.declared.at.At.TheVariants.{Entry}
-use Rattle.seize_words.specs.Op.{Found}
-use Rattle.seize_words.specs.Mem.{Mem, Took, value_at, word_at, with_word}
-use Rattle.seize_words.specs.Plan.{Steps, Ends}
-use Rattle.seize_words.proofs.OneOwner.Operations.{added}
+use Rattle.seize_words.specs.OneMemory.Op.{Found}
+use Rattle.seize_words.specs.OneMemory.Mem.{Mem, Took, value_at, word_at, with_word}
+use Rattle.seize_words.specs.OneMemory.Plan.{Steps, Ends}
+use Rattle.seize_words.proofs.OneMemory.OneOwner.Operations.{added}
 use Rattle.seize.specs.declared.states.TheConstants.{COUNT}
 use Rattle.seize.specs.declared.rows.settle.Settle.{Settle}
 use Rattle.seize.specs.declared.rows.settle.Settled.{Settled}
 use Rattle.seize.specs.declared.rows.settle.Settled.TheVariants.{Goes}
 use Rattle.seize.specs.Settle.{to, onward, summed as summed_out, sums}
-use Rattle.seize_moves.specs.Given.SeizeWaitingHeld.{count}
-use Rattle.seize_moves.proofs.State.Ghost.{is_in, Stage, Closing, Closed, Life, State, was_put, total}
-use Rattle.seize_moves.proofs.State.Rule.{Inv, IsOf, SameUnlessDead}
-use Rattle.seize_moves.proofs.State.Moves.{summed, gives_up}
-use Rattle.seize_moves.proofs.Moves.Pushes.{summed_moves}
-use Rattle.seize_moves.proofs.Moves.AtZero.{summed_pending, summed_gives_up, summed_gives_up_pending}
-use Rattle.seize_rule.proofs.Words.Named.{words_of, word_found, wrote}
-use Rattle.seize_rule.proofs.Words.Chains.{first_or}
-use Rattle.seize_rule.proofs.Words.View.{view, view_count}
-use Rattle.seize_rule.proofs.Words.Shows.{Extra, Shows, CountIs, DrainedIs}
-use Rattle.seize_rule.proofs.Words.Apart.{put_here}
-use Rattle.seize_rule.proofs.Written.Close.{summed_written}
-use Rattle.seize_rule.proofs.Written.Dooms.{given_up, then_gives_up}
+use Rattle.seize_moves.specs.Waiting.Held.{count}
+use Rattle.seize_moves.proofs.Moves.State.Ghost.{is_in, Stage, Closing, Closed, Life, State, was_put, total}
+use Rattle.seize_moves.proofs.Moves.State.Rule.{Inv, IsOf, SameUnlessDead}
+use Rattle.seize_moves.proofs.Moves.State.Moves.{summed, gives_up}
+use Rattle.seize_moves.proofs.Moves.Moves.Pushes.{summed_moves}
+use Rattle.seize_moves.proofs.Moves.Moves.AtZero.{summed_pending, summed_gives_up, summed_gives_up_pending}
+use Rattle.seize_moves.proofs.Memory.Words.Named.{words_of, word_found, wrote}
+use Rattle.seize_moves.proofs.Memory.Words.Chains.{first_or}
+use Rattle.seize_moves.proofs.Memory.Words.View.{view, view_count}
+use Rattle.seize_moves.proofs.Memory.Words.Shows.{Extra, Shows, CountIs, DrainedIs}
+use Rattle.seize_moves.proofs.Memory.Words.Apart.{put_here}
+use Rattle.seize_moves.proofs.Memory.Written.Close.{summed_written}
+use Rattle.seize_moves.proofs.Memory.Written.Dooms.{given_up, then_gives_up}
 use Rattle.seize_rule.proofs.Points.Aside.{aside_same, aside_then, aside_gives_up}
 use Rattle.seize_rule.proofs.Points.Told.{Pushing, NoneLeft, onward_part}
 use Rattle.seize_rule.proofs.Points.Told as tells

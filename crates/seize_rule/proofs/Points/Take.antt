@@ -3,9 +3,9 @@ use Rattle.std.specs.Prelude.{if◌then◌else◌, ◌==◌, ◌/◌, Option, So
 use Rattle.std.proofs.Common.{◌≡◌, ℕ, ◌<◌, Bool, true, false, cond, eqb, refl, arith, eqb-true, sym, subst, ◌∙◌, ap}
 use Rattle.std.proofs.lemmas.Bool.{eqb-false}
 use Rattle.seize_words.specs.declared.at.At.TheVariants.{Entry}
-use Rattle.seize_words.specs.Mem.{Mem, Took, value_at, word_at, with_word, with_block}
-use Rattle.seize_words.specs.Plan.{Steps, Now}
-use Rattle.seize_words.proofs.OneOwner.Operations.{stored, taken as taken_value}
+use Rattle.seize_words.specs.OneMemory.Mem.{Mem, Took, value_at, word_at, with_word, with_block}
+use Rattle.seize_words.specs.OneMemory.Plan.{Steps, Now}
+use Rattle.seize_words.proofs.OneMemory.OneOwner.Operations.{stored, taken as taken_value}
 use Rattle.seize.specs.declared.states.TheConstants.{NEXT}
 use Rattle.seize.specs.declared.rows.settle.Settle.{Settle}
 use Rattle.seize.specs.declared.rows.settle.Settling.TheVariants as at
@@ -13,19 +13,19 @@ use Rattle.seize.specs.declared.rows.settle.Settled.{Settled}
 use Rattle.seize.specs.declared.rows.settle.Settled.TheVariants.{Goes, Gave}
 use Rattle.seize.specs.Law.{Taken}
 use Rattle.seize.specs.Settle.{onward, with_put, without_block, joins, given_back, takes, puts}
-use Rattle.seize_moves.specs.Given.SeizeWaitingHeld.{count}
-use Rattle.seize_moves.proofs.State.Ghost.{State, put}
-use Rattle.seize_moves.proofs.State.Rule.{Inv, Moved}
-use Rattle.seize_moves.proofs.State.Together.{then as moved_then}
-use Rattle.seize_moves.proofs.State.Moves.{drained, joined, taken}
-use Rattle.seize_moves.proofs.Moves.Takes.{first_doomed, drained_moves, joined_moves, taken_moves}
-use Rattle.seize_rule.proofs.Words.Named.{link, link-block, wrote, taken_one}
-use Rattle.seize_rule.proofs.Words.Chains.{first_or, last_of, last_from, chain_nil, chain_cons, chain_begin, count_last}
-use Rattle.seize_rule.proofs.Words.View.{View, view, view_next, view_taken}
-use Rattle.seize_rule.proofs.Words.Shows.{Extra, Shows, Written, KeepsWords}
-use Rattle.seize_rule.proofs.Written.Puts.{drained_too, drained_more_written}
-use Rattle.seize_rule.proofs.Written.Joins.{joined_to, joined_alone_written, joined_written}
-use Rattle.seize_rule.proofs.Written.Takes.{without, taken_off, taken_written}
+use Rattle.seize_moves.specs.Waiting.Held.{count}
+use Rattle.seize_moves.proofs.Moves.State.Ghost.{State, put}
+use Rattle.seize_moves.proofs.Moves.State.Rule.{Inv, Moved}
+use Rattle.seize_moves.proofs.Moves.State.Together.{then as moved_then}
+use Rattle.seize_moves.proofs.Moves.State.Moves.{drained, joined, taken}
+use Rattle.seize_moves.proofs.Moves.Moves.Takes.{first_doomed, drained_moves, joined_moves, taken_moves}
+use Rattle.seize_moves.proofs.Memory.Words.Named.{link, link-block, wrote, taken_one}
+use Rattle.seize_moves.proofs.Memory.Words.Chains.{first_or, last_of, last_from, chain_nil, chain_cons, chain_begin, count_last}
+use Rattle.seize_moves.proofs.Memory.Words.View.{View, view, view_next, view_taken}
+use Rattle.seize_moves.proofs.Memory.Words.Shows.{Extra, Shows, Written, KeepsWords}
+use Rattle.seize_moves.proofs.Memory.Written.Puts.{drained_too, drained_more_written}
+use Rattle.seize_moves.proofs.Memory.Written.Joins.{joined_to, joined_alone_written, joined_written}
+use Rattle.seize_moves.proofs.Memory.Written.Takes.{without, taken_off, taken_written}
 use Rattle.seize_rule.proofs.Points.Aside.{aside_same, aside_then, aside_drained, aside_taken}
 use Rattle.seize_rule.proofs.Points.Known.{AllFresh, Rest, Joins, Takes, Puts, bare}
 use Rattle.seize_rule.proofs.Points.Told.{Plain, Draining, onward_part}

@@ -6,10 +6,10 @@ use Rattle.seize.specs.declared.rows.settle.Settling.{Settling}
 use Rattle.seize.specs.declared.rows.settle.Settling.TheVariants as at
 use Rattle.seize.specs.declared.states.TheConstants.{ACTIVE}
 use Rattle.seize.specs.Settle.{onward, with_batch, standing}
-use Rattle.seize_moves.proofs.State.Ghost.{Entry, Active, Closing, Loose, State, was_put, total, is_active}
-use Rattle.seize_moves.proofs.State.Rule.{open_length, HasLeft}
+use Rattle.seize_moves.proofs.Moves.State.Ghost.{Entry, Active, Closing, Loose, State, was_put, total, is_active}
+use Rattle.seize_moves.proofs.Moves.State.Rule.{open_length, HasLeft}
 use Rattle.seize_rule.proofs.Points.Passed.{passed_rest}
-use Rattle.seize_moves.proofs.State.Moves
+use Rattle.seize_moves.proofs.Moves.State.Moves
 
 pub data Part : Type 0 where
   Plain : Part  -- it reclaims, retires and counts, as its lists say

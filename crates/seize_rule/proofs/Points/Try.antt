@@ -2,9 +2,9 @@
 use Rattle.std.proofs.Common.{◌≡◌, ℕ, ◌+◌, ◌<◌, ◌≤◌, Bool, true, false, eqb, List, [], ◌∷◌, ◌++◌, length, refl, arith, ap, sym, subst, ◌∙◌, eqb-true}
 use Rattle.std.proofs.lemmas.Bool.{eqb-false}
 use Rattle.seize.specs.declared.rows.settle.Settle.{Settle}
-use Rattle.seize_moves.proofs.State.Ghost.{put, Head, Never, Free, Idle, Active, State, is_active, is_never}
-use Rattle.seize_rule.proofs.Words.Chains.{first_or}
-use Rattle.seize_rule.proofs.Words.Shows.{Extra, HeadIs}
+use Rattle.seize_moves.proofs.Moves.State.Ghost.{put, Head, Never, Free, Idle, Active, State, is_active, is_never}
+use Rattle.seize_moves.proofs.Memory.Words.Chains.{first_or}
+use Rattle.seize_moves.proofs.Memory.Words.Shows.{Extra, HeadIs}
 use Rattle.seize_rule.proofs.Points.Known.{AllTaken, TakenBelow, Common, HoldingOf, open_blocks, Tries, bare}
 
 pub here : {X : Type 0} (g : ℕ → X) (k : ℕ) (u : X) → put g k u k ≡ u

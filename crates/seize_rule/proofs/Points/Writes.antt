@@ -1,10 +1,10 @@
 -- One write after another: what both leave to the other rows.
 use Rattle.std.proofs.Common.{◌≡◌, ℕ, true}
-use Rattle.seize_moves.proofs.State.Ghost.{State, Stage, Life, IsFree, IsOwned, IsLinked, IsUnlinked, IsDeferring, IsDeferred, IsPending, IsIn, IsDoomed, IsLeft}
-use Rattle.seize_moves.proofs.State.Rule.{IsOf, Keeps}
-use Rattle.seize_moves.proofs.State.Together.{still_of}
-use Rattle.seize_rule.proofs.Words.View.{View}
-use Rattle.seize_rule.proofs.Words.Shows.{Spot, Nowhere, Unspent, On, InHands, Extra, KeepsWords, has_next, has_entry, has_first}
+use Rattle.seize_moves.proofs.Moves.State.Ghost.{State, Stage, Life, IsFree, IsOwned, IsLinked, IsUnlinked, IsDeferring, IsDeferred, IsPending, IsIn, IsDoomed, IsLeft}
+use Rattle.seize_moves.proofs.Moves.State.Rule.{IsOf, Keeps}
+use Rattle.seize_moves.proofs.Moves.State.Together.{still_of}
+use Rattle.seize_moves.proofs.Memory.Words.View.{View}
+use Rattle.seize_moves.proofs.Memory.Words.Shows.{Spot, Nowhere, Unspent, On, InHands, Extra, KeepsWords, has_next, has_entry, has_first}
 
 next_still : (j : ℕ) (h h2 : ℕ → ℕ) (g g2 : ℕ → Stage) (l : Life) → ((b : ℕ) → IsOf j h (g b) ≡ true → IsOf j h2 (g2 b) ≡ true) → has_next j h g l ≡ true → has_next j h2 g2 l ≡ true
 next_still j h h2 g g2 IsFree of k = k

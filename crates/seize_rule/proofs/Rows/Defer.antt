@@ -4,10 +4,10 @@ use Rattle.std.proofs.Common.{◌≡◌, ℕ, true, refl, arith, ap, sym, subst,
 use Rattle.std.proofs.lemmas.Bool.{eq-eqb}
 use Rattle.seize_words.specs.declared.at.At.{At}
 use Rattle.seize_words.specs.declared.at.At.TheVariants.{Entry, Word}
-use Rattle.seize_words.specs.Op.{Load, Store, Exchange}
-use Rattle.seize_words.specs.Mem.{Mem, Took, value_at, word_at, with_word}
-use Rattle.seize_words.specs.Plan.{Steps, Do}
-use Rattle.seize_words.proofs.OneOwner.Operations.{loaded, stored, exchanged}
+use Rattle.seize_words.specs.OneMemory.Op.{Load, Store, Exchange}
+use Rattle.seize_words.specs.OneMemory.Mem.{Mem, Took, value_at, word_at, with_word}
+use Rattle.seize_words.specs.OneMemory.Plan.{Steps, Do}
+use Rattle.seize_words.proofs.OneMemory.OneOwner.Operations.{loaded, stored, exchanged}
 use Rattle.seize.specs.declared.states.TheConstants.{NEXT}
 use Rattle.seize.specs.declared.progress.Progress.{Progress}
 use Rattle.seize.specs.declared.progress.Progress.TheVariants.{Goes}
@@ -15,17 +15,17 @@ use Rattle.seize.specs.declared.rows.defer.Defer.{Defer}
 use Rattle.seize.specs.declared.rows.defer.Deferring.{Deferring}
 use Rattle.seize.specs.declared.rows.defer.Deferring.TheVariants as at
 use Rattle.seize.specs.Defer.{standing, goes, head_read, push_told}
-use Rattle.seize_moves.proofs.State.Ghost.{put, Life, IsDeferring, IsDeferred, State, IsLeft, can_carry}
-use Rattle.seize_moves.proofs.State.Rule.{Inv, IsGuarded, Moved, Pending}
-use Rattle.seize_moves.proofs.State.Together.{stays}
-use Rattle.seize_moves.proofs.State.Moves.{deferred_to}
-use Rattle.seize_moves.proofs.Moves.Blocks.{deferred_to_moves}
-use Rattle.seize_rule.proofs.Words.Named.{link, word_found, wrote}
-use Rattle.seize_rule.proofs.Words.View.{View, put_own, view, view_next, view_own}
-use Rattle.seize_rule.proofs.Words.Shows.{Extra, Shows, Written, has_next, has_own, keeps_like}
-use Rattle.seize_rule.proofs.Words.Apart.{boxed_none, unlisted_deferring, put_here}
-use Rattle.seize_rule.proofs.Written.Retire.{next_written}
-use Rattle.seize_rule.proofs.Written.Own.{deferred_to_written}
+use Rattle.seize_moves.proofs.Moves.State.Ghost.{put, Life, IsDeferring, IsDeferred, State, IsLeft, can_carry}
+use Rattle.seize_moves.proofs.Moves.State.Rule.{Inv, IsGuarded, Moved, Pending}
+use Rattle.seize_moves.proofs.Moves.State.Together.{stays}
+use Rattle.seize_moves.proofs.Moves.State.Moves.{deferred_to}
+use Rattle.seize_moves.proofs.Moves.Moves.Blocks.{deferred_to_moves}
+use Rattle.seize_moves.proofs.Memory.Words.Named.{link, word_found, wrote}
+use Rattle.seize_moves.proofs.Memory.Words.View.{View, put_own, view, view_next, view_own}
+use Rattle.seize_moves.proofs.Memory.Words.Shows.{Extra, Shows, Written, has_next, has_own, keeps_like}
+use Rattle.seize_moves.proofs.Memory.Words.Apart.{boxed_none, unlisted_deferring, put_here}
+use Rattle.seize_moves.proofs.Memory.Written.Retire.{next_written}
+use Rattle.seize_moves.proofs.Memory.Written.Own.{deferred_to_written}
 use Rattle.seize.specs.World.{Hand, NoBlock, Making, InUse, Parting, Cutting, Handed, LeftTo}
 use Rattle.seize_rule.proofs.Points.Aside.{AllHands, HandFits}
 use Rattle.seize_rule.proofs.Rows.Known.{OnWay, Linked_to, FitsDefer}

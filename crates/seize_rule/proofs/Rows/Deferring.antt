@@ -3,9 +3,9 @@ use Rattle.std.specs.Prelude.{Option, IsSome, ◌/◌}
 use Rattle.std.proofs.Common.{◌≡◌, ℕ, ◌+◌, true, [], length, refl, arith, ap, sym, subst, ◌∙◌}
 use Rattle.seize_words.specs.declared.at.At.{At}
 use Rattle.seize_words.specs.declared.at.At.TheVariants.{Entry}
-use Rattle.seize_words.specs.Mem.{Mem, Can, Took, value_at, word_at}
-use Rattle.seize_words.specs.Plan.{May, Steps}
-use Rattle.seize_words.proofs.OneOwner.Operations.{may_load, may_store, may_exchange}
+use Rattle.seize_words.specs.OneMemory.Mem.{Mem, Can, Took, value_at, word_at}
+use Rattle.seize_words.specs.OneMemory.Plan.{May, Steps}
+use Rattle.seize_words.proofs.OneMemory.OneOwner.Operations.{may_load, may_store, may_exchange}
 use Rattle.seize.specs.declared.states.TheConstants.{NEXT}
 use Rattle.seize.specs.declared.progress.Progress.{Progress}
 use Rattle.seize.specs.declared.progress.Progress.TheVariants.{Goes, Waits, Done, Refused}
@@ -15,20 +15,20 @@ use Rattle.seize.specs.declared.rows.defer.Deferring.TheVariants as at
 use Rattle.seize.specs.Defer.{defer_plan, plan_at, head_read, push_told, goes}
 use Rattle.seize.specs.Law.{is_open}
 use Rattle.seize.specs.World.{World, Row, Rests, Defers, one_less, with_at, after_step, defers_on}
-use Rattle.seize_moves.proofs.State.Ghost.{Head, State, emptied}
-use Rattle.seize_moves.proofs.State.Moves.{ends_call}
-use Rattle.seize_moves.proofs.Moves.Slots.{ends_call_moves}
-use Rattle.seize_rule.proofs.Words.View.{view}
-use Rattle.seize_rule.proofs.Words.Shows.{lives}
-use Rattle.seize_rule.proofs.Words.Apart.{put_here}
-use Rattle.seize_rule.proofs.Written.Heads.{ends_call_written}
-use Rattle.seize_rule.proofs.Words.Room.{HasRoom}
+use Rattle.seize_moves.proofs.Moves.State.Ghost.{Head, State, emptied}
+use Rattle.seize_moves.proofs.Moves.State.Moves.{ends_call}
+use Rattle.seize_moves.proofs.Moves.Moves.Slots.{ends_call_moves}
+use Rattle.seize_moves.proofs.Memory.Words.View.{view}
+use Rattle.seize_moves.proofs.Memory.Words.Shows.{lives}
+use Rattle.seize_moves.proofs.Memory.Words.Apart.{put_here}
+use Rattle.seize_moves.proofs.Memory.Written.Heads.{ends_call_written}
+use Rattle.seize_moves.proofs.Memory.Words.Room.{HasRoom}
 use Rattle.seize_rule.proofs.Rows.Known.{works_on, OnWay, Deferred_to, FitsDefer, FitsRow}
 use Rattle.seize_rule.proofs.Rows.Teams.{shares, is_shared, used_same, shared_ends}
 use Rattle.seize_rule.proofs.Words.Kept.{IsQuietPlan, Lasts, plan_lasts}
-use Rattle.seize_moves.proofs.State.Rule.{retirals}
+use Rattle.seize_moves.proofs.Moves.State.Rule.{retirals}
 use Rattle.seize_rule.proofs.Rows.Short.{tries_on, still_short}
-use Rattle.seize_moves.proofs.Sets.Unmoved.{unmoved_kept}
+use Rattle.seize_moves.proofs.Moves.Sets.Unmoved.{unmoved_kept}
 use Rattle.seize_rule.proofs.Rows.Told.{RowTold, DeferGoes, DeferPushes, DeferEnds, IsOnWay}
 use Rattle.seize_rule.proofs.World.Good.{Good, RowWent, Next, next_after}
 use Rattle.seize_rule.proofs.Points.Retire.{of_link}

@@ -14,7 +14,7 @@ use Rattle.seize.specs.declared.rows.register.Registering.TheVariants as registe
 use Rattle.seize.specs.Law.{Effect, Entered, Left, Linked, Unlinked, Deferred, Retired, Taken, Dropped, Ended, where_is, owner_of, IsSound, Made, LeftOver}
 use Rattle.seize.specs.World.{Hand, NoBlock, times, with_at, handed_by, settle_effects, leave_effects, register_effects}
 use Rattle.seize.specs.Sequence.{taken_in}
-use Rattle.seize_moves.proofs.State.Held.{NoneLeft}
+use Rattle.seize_moves.proofs.Moves.State.Held.{NoneLeft}
 
 -- a section begins or ends, or a block is retired or taken
 abbrev pub IsOfRow : Effect → Type 0

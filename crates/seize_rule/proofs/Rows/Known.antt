@@ -12,10 +12,10 @@ use Rattle.seize.specs.declared.rows.register.Registering.{Registering}
 use Rattle.seize.specs.declared.rows.register.Registering.TheVariants as registering
 use Rattle.seize.specs.Register.{can_be_taken, bucket_needed}
 use Rattle.seize.specs.World.{Row, Rests, Registers, Enters, Settles, Leaves, Defers, Frees}
-use Rattle.seize_moves.proofs.State.Ghost.{Head, Idle, Active, IsDeferring, State, emptied, is_never}
-use Rattle.seize_rule.proofs.Words.Named.{link}
-use Rattle.seize_rule.proofs.Words.View.{View}
-use Rattle.seize_rule.proofs.Words.Shows.{Extra}
+use Rattle.seize_moves.proofs.Moves.State.Ghost.{Head, Idle, Active, IsDeferring, State, emptied, is_never}
+use Rattle.seize_moves.proofs.Memory.Words.Named.{link}
+use Rattle.seize_moves.proofs.Memory.Words.View.{View}
+use Rattle.seize_moves.proofs.Memory.Words.Shows.{Extra}
 use Rattle.seize_rule.proofs.Points.Known.{TakenBelow, Empty, Outside, Fits}
 
 -- The slot that a row works on, and one; 0 for none.

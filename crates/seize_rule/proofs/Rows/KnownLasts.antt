@@ -8,10 +8,10 @@ use Rattle.seize.specs.declared.rows.defer.Deferring.TheVariants as deferring
 use Rattle.seize.specs.declared.rows.register.Registering.{Registering}
 use Rattle.seize.specs.declared.rows.register.Registering.TheVariants as registering
 use Rattle.seize.specs.World.{Row, Rests, Registers, Enters, Settles, Leaves, Defers, Frees}
-use Rattle.seize_moves.proofs.State.Ghost.{Head, Idle, Active, Debt, Life, IsDeferring, State, emptied, of_row}
-use Rattle.seize_moves.proofs.State.Rule.{Inv, Keeps, IsGuarded}
-use Rattle.seize_rule.proofs.Words.View.{View}
-use Rattle.seize_rule.proofs.Words.Shows.{Extra, Shows, KeepsWords, lives, has_next}
+use Rattle.seize_moves.proofs.Moves.State.Ghost.{Head, Idle, Active, Debt, Life, IsDeferring, State, emptied, of_row}
+use Rattle.seize_moves.proofs.Moves.State.Rule.{Inv, Keeps, IsGuarded}
+use Rattle.seize_moves.proofs.Memory.Words.View.{View}
+use Rattle.seize_moves.proofs.Memory.Words.Shows.{Extra, Shows, KeepsWords, lives, has_next}
 use Rattle.seize_rule.proofs.Points.Known.{TakenBelow, bare}
 use Rattle.seize_rule.proofs.Points.KnownLasts.{empty_last, outside_last, settle_last}
 use Rattle.seize_rule.proofs.Rows.Known.{registering_on, leaving_on, works_on, Idles, OnSlot, Looks, Seen, FitsRegister, OverIs, FitsLeave, OnWay, FitsDefer, FitsRow, ListsLast, head_of}

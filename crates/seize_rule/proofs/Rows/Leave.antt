@@ -3,10 +3,10 @@ use Rattle.std.specs.Prelude.{Option, IsSome, if◌then◌else◌, nat_lt, ◌==
 use Rattle.std.proofs.Common.{◌≡◌, ℕ, ◌+◌, Bool, true, false, cond, [], ◌∷◌, length, refl, arith, subst, sym, ap, ◌∙◌, eqb-true}
 use Rattle.std.proofs.lemmas.Bool.{eqb-false}
 use Rattle.seize_words.specs.declared.at.At.TheVariants as name
-use Rattle.seize_words.specs.Mem.{Mem, value_at, word_at, with_word, Can, Took}
-use Rattle.seize_words.specs.Plan.{Now, Steps, Ends, May}
-use Rattle.seize_words.proofs.OneOwner.Operations.{stored, swapped, may_swap, may_store}
-use Rattle.seize_words.proofs.Plans.{as_may}
+use Rattle.seize_words.specs.OneMemory.Mem.{Mem, value_at, word_at, with_word, Can, Took}
+use Rattle.seize_words.specs.OneMemory.Plan.{Now, Steps, Ends, May}
+use Rattle.seize_words.proofs.OneMemory.OneOwner.Operations.{stored, swapped, may_swap, may_store}
+use Rattle.seize_words.proofs.OneMemory.Plans.{as_may}
 use Rattle.seize.specs.declared.states.TheConstants.{HEAD, FREE, ACTIVE, LAST_SLOT}
 use Rattle.seize.specs.declared.rows.settle.Settle.{Settle}
 use Rattle.seize.specs.declared.rows.settle.Settling.{Settling}
@@ -20,8 +20,8 @@ use Rattle.seize.specs.Leave.{standing, counted_down, list_taken, settled, plan_
 use Rattle.seize.specs.Settle as plans
 use Rattle.seize.specs.Law.{Entered}
 use Rattle.seize.specs.World.{World, Row, Rests, Leaves, Vacant, Outside, Inside, with_at, with_use, after_step, left_row, left_as, leave_effects, leaves_on, settle_effects}
-use Rattle.seize_moves.proofs.State.Ghost.{Active}
-use Rattle.seize_rule.proofs.Words.View.{view}
+use Rattle.seize_moves.proofs.Moves.State.Ghost.{Active}
+use Rattle.seize_moves.proofs.Memory.Words.View.{view}
 use Rattle.seize_rule.proofs.Points.Known.{FitsAt, bare}
 use Rattle.seize_rule.proofs.Rows.Known.{works_on, leaving_on, OnSlot, Settles_on, OverIs, word_of, head_of, FitsRow, FitsLeave}
 use Rattle.seize_rule.proofs.Rows.Teams.{shares}
@@ -36,8 +36,8 @@ use Rattle.seize_rule.proofs.World.Start.{words_good}
 use Rattle.seize_rule.proofs.Rows.Sizes.{LeaveSized}
 use Rattle.seize_rule.proofs.Points.Short.{settle_still}
 use Rattle.seize_rule.proofs.Rows.Short.{tries_on, leave_tries, is_trying, calm}
-use Rattle.seize_moves.proofs.State.Moves
-use Rattle.seize_moves.proofs.Sets.Unmoved.{unmoved_kept, unmoved_same, freed_unmoved}
+use Rattle.seize_moves.proofs.Moves.State.Moves
+use Rattle.seize_moves.proofs.Moves.Sets.Unmoved.{unmoved_kept, unmoved_same, freed_unmoved}
 use Rattle.seize_rule.proofs.Rows.Told.{IsSettled, LeaveGoes, LeaveSettled, LeaveEnds}
 use Rattle.seize_rule.proofs.World.Good.{Good, Next, next_after}
 

@@ -2,9 +2,9 @@
 use Rattle.std.specs.Prelude.{Option, if◌then◌else◌, nat_lt, ◌==◌}
 use Rattle.std.proofs.Common.{◌≡◌, ℕ, Bool, true, false, List, [], ◌∷◌, refl, ap, sym, subst, ◌∙◌}
 use Rattle.seize_words.specs.declared.at.At.TheVariants as name
-use Rattle.seize_words.specs.Mem.{Mem, Took, value_at, with_word}
-use Rattle.seize_words.specs.Plan.{Steps, Ends, Now}
-use Rattle.seize_words.proofs.OneOwner.Operations.{swapped, stored}
+use Rattle.seize_words.specs.OneMemory.Mem.{Mem, Took, value_at, with_word}
+use Rattle.seize_words.specs.OneMemory.Plan.{Steps, Ends, Now}
+use Rattle.seize_words.proofs.OneMemory.OneOwner.Operations.{swapped, stored}
 use Rattle.seize.specs.declared.states.TheConstants.{HEAD, FREE, ACTIVE}
 use Rattle.seize.specs.declared.rows.settle.Settle.{Settle}
 use Rattle.seize.specs.declared.rows.settle.Settled.{Settled}

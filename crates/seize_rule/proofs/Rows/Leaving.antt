@@ -3,8 +3,8 @@ use Rattle.std.specs.Prelude.{Option, if◌then◌else◌}
 use Rattle.std.proofs.Common.{◌≡◌, ℕ, ◌+◌, Bool, true, false, cond, eqb, [], ◌∷◌, length, refl, arith, subst, sym, ap, ◌∙◌, eqb-true}
 use Rattle.std.proofs.Math.Path.{fun_ext}
 use Rattle.seize_words.specs.declared.at.At.TheVariants as name
-use Rattle.seize_words.specs.Mem.{Mem, value_at, with_word, Took}
-use Rattle.seize_words.specs.Plan.{Plan, Then, Turn, Do, Now, Seeing, Sure, Steps, Ends, then_as, plan_as}
+use Rattle.seize_words.specs.OneMemory.Mem.{Mem, value_at, with_word, Took}
+use Rattle.seize_words.specs.OneMemory.Plan.{Plan, Then, Turn, Do, Now, Seeing, Sure, Steps, Ends, then_as, plan_as}
 use Rattle.seize.specs.declared.states.TheConstants.{HEAD, FREE}
 use Rattle.seize.specs.declared.rows.settle.Settle.{Settle}
 use Rattle.seize.specs.declared.rows.leave.Leave.{Leave}
@@ -12,17 +12,17 @@ use Rattle.seize.specs.declared.rows.leave.Leaving.TheVariants as leaving
 use Rattle.seize.specs.Leave.{standing, counted_down}
 use Rattle.seize.specs.Law.{Entered, is_open}
 use Rattle.seize.specs.World.{World, Row, Rests, Leaves, Use, Vacant, Outside, Inside, with_at, settle_effects}
-use Rattle.seize_moves.proofs.State.Ghost.{Head, Free, Idle, Active, emptied, is_active}
-use Rattle.seize_moves.proofs.State.Together.{stays}
-use Rattle.seize_moves.proofs.State.Moves
-use Rattle.seize_moves.proofs.Moves.Slots.{freed_moves, reopened_moves}
-use Rattle.seize_rule.proofs.Words.View.{view}
-use Rattle.seize_rule.proofs.Words.Shows.{keeps_like}
-use Rattle.seize_rule.proofs.Written.Heads.{freed_written, reopened_written}
+use Rattle.seize_moves.proofs.Moves.State.Ghost.{Head, Free, Idle, Active, emptied, is_active}
+use Rattle.seize_moves.proofs.Moves.State.Together.{stays}
+use Rattle.seize_moves.proofs.Moves.State.Moves
+use Rattle.seize_moves.proofs.Moves.Moves.Slots.{freed_moves, reopened_moves}
+use Rattle.seize_moves.proofs.Memory.Words.View.{view}
+use Rattle.seize_moves.proofs.Memory.Words.Shows.{keeps_like}
+use Rattle.seize_moves.proofs.Memory.Written.Heads.{freed_written, reopened_written}
 use Rattle.seize_rule.proofs.Points.Known.{Over, bare}
 use Rattle.seize_rule.proofs.Rows.Known.{works_on, Idles, OnSlot, Settles_on, Freeing, OverIs, head_of, word_of, FitsRow}
 use Rattle.seize_rule.proofs.Rows.Teams.{Used, shares, used_same, alone_ends, no_other}
-use Rattle.seize_rule.proofs.Words.Room.{room_heads}
+use Rattle.seize_moves.proofs.Memory.Words.Room.{room_heads}
 use Rattle.seize_rule.proofs.Points.Told.{part}
 use Rattle.seize_rule.proofs.Points.Stepped.{Stepped}
 use Rattle.seize_rule.proofs.Rows.Slots.{idle_head, idles_after, head_went, head_there, stays_same}

@@ -9,10 +9,10 @@ use Rattle.seize.specs.declared.rows.defer.Deferring.{Deferring}
 use Rattle.seize.specs.declared.rows.defer.Deferring.TheVariants as deferring
 use Rattle.seize.specs.World.{Row, Rests, Registers, Enters, Settles, Leaves, Defers, Frees, IsOnto}
 use Rattle.seize.specs.Further.{IsWordOf}
-use Rattle.seize_moves.proofs.State.Ghost.{State, Life, IsDeferring}
-use Rattle.seize_moves.proofs.State.Rule.{Inv}
-use Rattle.seize_rule.proofs.Words.View.{View}
-use Rattle.seize_rule.proofs.Words.Shows.{Extra}
+use Rattle.seize_moves.proofs.Moves.State.Ghost.{State, Life, IsDeferring}
+use Rattle.seize_moves.proofs.Moves.State.Rule.{Inv}
+use Rattle.seize_moves.proofs.Memory.Words.View.{View}
+use Rattle.seize_moves.proofs.Memory.Words.Shows.{Extra}
 use Rattle.seize_rule.proofs.Points.Known.{Outside, bare}
 use Rattle.seize_rule.proofs.Rows.Known.{FitsRegister, FitsLeave, FitsDefer, FitsRow, OverIs, OnWay}
 use Rattle.seize_rule.proofs.Rows.Sections.{settle_outside}

@@ -1,8 +1,8 @@
 -- What one caller begins, and a step of its row, leave the other rows as they were, and what users do leaves all rows.
 use Rattle.std.specs.Prelude.{Option, Ok, Err}
 use Rattle.std.proofs.Common.{◌≡◌, ℕ, refl, arith, subst, sym}
-use Rattle.seize_words.specs.Op.{Out, Found, Stored, Exchanged, Made, Taken, Roomed}
-use Rattle.seize_words.specs.Mem.{Mem}
+use Rattle.seize_words.specs.OneMemory.Op.{Out, Found, Stored, Exchanged, Made, Taken, Roomed}
+use Rattle.seize_words.specs.OneMemory.Mem.{Mem}
 use Rattle.seize.specs.declared.progress.Progress.{Progress}
 use Rattle.seize.specs.declared.progress.Progress.TheVariants as progress
 use Rattle.seize.specs.declared.rows.settle.Settle.{Settle}

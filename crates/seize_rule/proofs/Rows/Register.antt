@@ -10,12 +10,12 @@ use Rattle.seize_words.specs.declared.at.At.TheVariants as at
 use Rattle.seize_words.specs.declared.slots.TheConstants.{SLOT_WORDS}
 use Rattle.seize_words.specs.declared.fault.Fault.{Fault}
 use Rattle.seize_words.specs.declared.fault.Fault.TheVariants.{Memory, SlotsUsedUp}
-use Rattle.seize_words.specs.Mem.{Mem, value_at, with_word, with_room, Can, Took}
-use Rattle.seize_words.specs.Place.{capacity}
-use Rattle.seize_words.specs.SlotWords.{slot_word, with_bucket}
-use Rattle.seize_words.specs.Plan.{May, Steps, Now}
-use Rattle.seize_words.proofs.OneOwner.Operations.{loaded, may_load, stored, may_store, exchanged, may_exchange, roomed, may_room}
-use Rattle.seize_words.proofs.Places.Words.{with_bucket_next, with_bucket_there}
+use Rattle.seize_words.specs.OneMemory.Mem.{Mem, value_at, with_word, with_room, Can, Took}
+use Rattle.seize_words.specs.OneMemory.Place.{capacity}
+use Rattle.seize_words.specs.OneMemory.SlotWords.{slot_word, with_bucket}
+use Rattle.seize_words.specs.OneMemory.Plan.{May, Steps, Now}
+use Rattle.seize_words.proofs.OneMemory.OneOwner.Operations.{loaded, may_load, stored, may_store, exchanged, may_exchange, roomed, may_room}
+use Rattle.seize_words.proofs.OneMemory.Places.Words.{with_bucket_next, with_bucket_there}
 use Rattle.seize.specs.declared.states.TheConstants.{HEAD, IDLE, ACTIVE, LAST_SLOT}
 use Rattle.seize.specs.declared.progress.Progress.{Progress}
 use Rattle.seize.specs.declared.progress.Progress.TheVariants.{Goes, Done, Refused}
@@ -25,23 +25,23 @@ use Rattle.seize.specs.declared.rows.register.Registering.TheVariants as stands
 use Rattle.seize.specs.Register.{begun, looked, widened, taken, further, taking, going, refused, registered, can_be_taken, bucket_needed, plan_at, register_plan}
 use Rattle.seize.specs.Law.{Effect, Entered, is_open}
 use Rattle.seize.specs.World.{World, Row, Rests, Registers, Use, Vacant, Outside, Inside, Changing, with_at, with_use, after_step, register_effects, registered_use, registered_as, registers_on}
-use Rattle.seize_moves.specs.Given.SeizeWaitingHeld.{count, same}
-use Rattle.seize_moves.proofs.State.Ghost.{put, Head, Never, Free, Idle, Active, emptied, is_never, is_active, list_of}
-use Rattle.seize_moves.proofs.State.Ghost as Ghosts
-use Rattle.seize_rule.proofs.Words.Chains.{Chain, blocks_of}
-use Rattle.seize_moves.proofs.State.Together.{stays}
-use Rattle.seize_moves.proofs.State.Moves
-use Rattle.seize_moves.proofs.Moves.Slots.{registered_moves, entered_moves}
-use Rattle.seize_rule.proofs.Words.Named.{words_of, word_found, or_zero}
-use Rattle.seize_rule.proofs.Words.View.{View, view, view_of}
-use Rattle.seize_rule.proofs.Words.Shows.{Written, HeadIs, keeps_like}
-use Rattle.seize_rule.proofs.Written.Heads.{registered_written, entered_written}
+use Rattle.seize_moves.specs.Waiting.Held.{count, same}
+use Rattle.seize_moves.proofs.Moves.State.Ghost.{put, Head, Never, Free, Idle, Active, emptied, is_never, is_active, list_of}
+use Rattle.seize_moves.proofs.Moves.State.Ghost as Ghosts
+use Rattle.seize_moves.proofs.Memory.Words.Chains.{Chain, blocks_of}
+use Rattle.seize_moves.proofs.Moves.State.Together.{stays}
+use Rattle.seize_moves.proofs.Moves.State.Moves
+use Rattle.seize_moves.proofs.Moves.Moves.Slots.{registered_moves, entered_moves}
+use Rattle.seize_moves.proofs.Memory.Words.Named.{words_of, word_found, or_zero}
+use Rattle.seize_moves.proofs.Memory.Words.View.{View, view, view_of}
+use Rattle.seize_moves.proofs.Memory.Words.Shows.{Written, HeadIs, keeps_like}
+use Rattle.seize_moves.proofs.Memory.Written.Heads.{registered_written, entered_written}
 use Rattle.seize_rule.proofs.Rows.Known.{works_on, registering_on, Idles, OnSlot, Looks, Seen, Takes, FitsRegister, FitsRow}
 use Rattle.seize_rule.proofs.Points.Known.{TakenBelow}
 use Rattle.seize_rule.proofs.Rows.Teams.{Used, shares, UseFits, none_in, used_same, used_at, alone_ends, no_other}
-use Rattle.seize_rule.proofs.Words.Room.{HasRoom, slot_there, room_heads, room_taken, room_more, first_room, first_there, slots_grow, next_there, needed_room, needed_there}
+use Rattle.seize_moves.proofs.Memory.Words.Room.{HasRoom, slot_there, room_heads, room_taken, room_more, first_room, first_there, slots_grow, next_there, needed_room, needed_there}
 use Rattle.seize_rule.proofs.Rows.Short.{tries_on, still_short}
-use Rattle.seize_moves.proofs.Sets.Unmoved.{registered_unmoved}
+use Rattle.seize_moves.proofs.Moves.Sets.Unmoved.{registered_unmoved}
 use Rattle.seize_rule.proofs.Rows.Told.{RowTold, RegisterLooks, RegisterRefused, RegisterTakes, RegisterEnters, IsLooking, TakesFor}
 use Rattle.seize_rule.proofs.World.Good.{Good, Stays, RowWent, Next, next_after}
 use Rattle.seize_rule.proofs.Rows.Slots.{idle_head, idles_after, stays_same, head_went, head_there}

@@ -3,10 +3,10 @@ use Rattle.std.specs.Prelude.{Option, if◌then◌else◌, nat_lt, ◌⊎◌}
 use Rattle.std.proofs.Common.{◌≡◌, ℕ, ◌+◌, ◌<◌, ◌≤◌, Bool, true, false, cond, eqb, List, [], ◌∷◌, length, refl, arith, subst, sym, ap, inl, inr, ◌∙◌, eqb-true}
 use Rattle.std.proofs.lemmas.Bool.{eqb-false}
 use Rattle.seize_words.specs.declared.at.At.TheVariants as name
-use Rattle.seize_words.specs.Mem.{Mem, value_at, with_word, Took}
-use Rattle.seize_words.specs.Plan.{Steps}
-use Rattle.seize_words.proofs.OneOwner.Operations.{swapped}
-use Rattle.seize_words.proofs.Plans.{ends_if}
+use Rattle.seize_words.specs.OneMemory.Mem.{Mem, value_at, with_word, Took}
+use Rattle.seize_words.specs.OneMemory.Plan.{Steps}
+use Rattle.seize_words.proofs.OneMemory.OneOwner.Operations.{swapped}
+use Rattle.seize_words.proofs.OneMemory.Plans.{ends_if}
 use Rattle.seize.specs.declared.states.TheConstants.{HEAD, ACTIVE}
 use Rattle.seize.specs.declared.rows.settle.Settled.{Settled}
 use Rattle.seize.specs.declared.rows.settle.Settled.TheVariants.{Goes}
@@ -17,23 +17,22 @@ use Rattle.seize.specs.Settle.{counting_down}
 use Rattle.seize.specs.Leave.{standing, counted_down, list_taken, swaps}
 use Rattle.seize.specs.Law.{Left, is_open}
 use Rattle.seize.specs.World.{World, Row, Rests, Leaves, Use, Vacant, Outside, Inside, Changing, with_at, with_use, after_step}
-use Rattle.seize_moves.proofs.State.Ghost.{put, Entry, Head, Never, Free, Idle, Active, State, emptied, is_never}
-use Rattle.seize_moves.proofs.State.Rule.{Inv, Moved, Pending}
-use Rattle.seize_moves.proofs.State.Moves.{has_left, refreshed}
-use Rattle.seize_moves.proofs.Moves.Slots.{has_left_moves, refreshed_moves}
-use Rattle.seize_rule.proofs.Words.Chains.{Chain, blocks_of}
-use Rattle.seize_rule.proofs.Words.View.{View, view}
-use Rattle.seize_rule.proofs.Words.Named.{word_found}
-use Rattle.seize_rule.proofs.Words.Shows.{Extra, Shows, Written}
-use Rattle.seize_rule.proofs.Written.Heads.{left_off, active_head, has_left_written, refreshed_written}
+use Rattle.seize_moves.proofs.Moves.State.Ghost.{put, Entry, Head, Never, Free, Idle, Active, State, emptied, is_never}
+use Rattle.seize_moves.proofs.Moves.State.Rule.{Inv, Moved, Pending, retirals}
+use Rattle.seize_moves.proofs.Moves.State.Moves.{has_left, refreshed}
+use Rattle.seize_moves.proofs.Moves.Moves.Slots.{has_left_moves, refreshed_moves}
+use Rattle.seize_moves.proofs.Memory.Words.Chains.{Chain, blocks_of}
+use Rattle.seize_moves.proofs.Memory.Words.View.{View, view}
+use Rattle.seize_moves.proofs.Memory.Words.Named.{word_found}
+use Rattle.seize_moves.proofs.Memory.Words.Shows.{Extra, Shows, Written}
+use Rattle.seize_moves.proofs.Memory.Written.Heads.{left_off, active_head, has_left_written, refreshed_written}
 use Rattle.seize_rule.proofs.Points.Known.{Fits}
 use Rattle.seize_rule.proofs.Rows.Known.{works_on, Idles, Swaps, head_of, word_of, OverIs, FitsRow, FitsLeave}
 use Rattle.seize_rule.proofs.Rows.Teams.{shares, is_shared, is_taken, UseFits, alone_goes, no_other}
-use Rattle.seize_rule.proofs.Words.Room.{room_heads}
+use Rattle.seize_moves.proofs.Memory.Words.Room.{room_heads}
 use Rattle.seize_rule.proofs.Rows.Slots.{head_went, head_there}
 use Rattle.seize_rule.proofs.Rows.Settled.{no_entries, never_emptied}
 use Rattle.seize_rule.proofs.Rows.Sections.{row_within}
-use Rattle.seize_moves.proofs.State.Rule.{retirals}
 use Rattle.seize_rule.proofs.Rows.Short.{tries_on, leave_tries}
 use Rattle.seize_rule.proofs.Rows.Told.{list_off, IsBehindList, LeaveSwaps}
 use Rattle.seize_rule.proofs.World.Good.{Good, RowWent, Next, next_after}

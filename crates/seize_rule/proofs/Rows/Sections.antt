@@ -11,10 +11,10 @@ use Rattle.seize.specs.declared.rows.defer.Deferring.{Deferring}
 use Rattle.seize.specs.declared.rows.defer.Deferring.TheVariants as deferring
 use Rattle.seize_words.specs.declared.at.At.{At}
 use Rattle.seize.specs.World.{Row, Rests, Registers, Enters, Settles, Leaves, Defers, Frees}
-use Rattle.seize_moves.proofs.State.Ghost.{State}
-use Rattle.seize_moves.proofs.State.Rule.{Inv}
-use Rattle.seize_rule.proofs.Words.View.{View}
-use Rattle.seize_rule.proofs.Words.Shows.{Extra}
+use Rattle.seize_moves.proofs.Moves.State.Ghost.{State}
+use Rattle.seize_moves.proofs.Moves.State.Rule.{Inv}
+use Rattle.seize_moves.proofs.Memory.Words.View.{View}
+use Rattle.seize_moves.proofs.Memory.Words.Shows.{Extra}
 use Rattle.seize_rule.proofs.Points.Known.{Outside, FitsAt, FirstsOf, bare}
 use Rattle.seize_rule.proofs.Rows.Known.{registering_on, leaving_on, works_on, OverIs, FitsRegister, FitsLeave, FitsDefer, FitsRow}
 

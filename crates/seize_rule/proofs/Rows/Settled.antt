@@ -1,8 +1,8 @@
 -- What a step of a settling row comes to at the world, and its end.
 use Rattle.std.specs.Prelude.{Option}
 use Rattle.std.proofs.Common.{◌≡◌, ℕ, ◌+◌, Bool, true, false, List, [], ◌∷◌, length, refl, arith, subst, sym, ap, ◌∙◌}
-use Rattle.seize_words.specs.Mem.{Mem, value_at, Can, Took}
-use Rattle.seize_words.specs.Plan.{May, Steps}
+use Rattle.seize_words.specs.OneMemory.Mem.{Mem, value_at, Can, Took}
+use Rattle.seize_words.specs.OneMemory.Plan.{May, Steps}
 use Rattle.seize.specs.declared.rows.settle.Settle.{Settle}
 use Rattle.seize.specs.declared.rows.settle.Settling.{Settling}
 use Rattle.seize.specs.declared.rows.settle.Settling.TheVariants as at
@@ -11,15 +11,15 @@ use Rattle.seize.specs.declared.rows.settle.Settled.TheVariants.{Goes, Waits, Ga
 use Rattle.seize.specs.Settle.{settle_plan, plan_at}
 use Rattle.seize.specs.Law.{is_open}
 use Rattle.seize.specs.World.{World, Row, Rests, Settles, Use, Vacant, Outside, Inside, Changing, one_less, with_at, after_step, settles_on, settle_effects}
-use Rattle.seize_moves.proofs.State.Ghost.{Entry, Head, State, emptied, is_never}
-use Rattle.seize_moves.proofs.State.Together.{stays}
-use Rattle.seize_rule.proofs.Words.Chains.{Chain, blocks_of, waiting}
-use Rattle.seize_rule.proofs.Words.View.{View, view}
-use Rattle.seize_rule.proofs.Words.Shows.{Extra, Shows, keeps_like}
+use Rattle.seize_moves.proofs.Moves.State.Ghost.{Entry, Head, State, emptied, is_never}
+use Rattle.seize_moves.proofs.Moves.State.Together.{stays}
+use Rattle.seize_moves.proofs.Memory.Words.Chains.{Chain, blocks_of, waiting}
+use Rattle.seize_moves.proofs.Memory.Words.View.{View, view}
+use Rattle.seize_moves.proofs.Memory.Words.Shows.{Extra, Shows, keeps_like}
 use Rattle.seize_rule.proofs.Points.Known.{FitsAt, bare, Over}
 use Rattle.seize_rule.proofs.Rows.Known.{works_on, Idles, FitsRow}
 use Rattle.seize_rule.proofs.Rows.Teams.{shares, is_shared, UseFits, used_same, shared_ends}
-use Rattle.seize_rule.proofs.Words.Room.{room_heads}
+use Rattle.seize_moves.proofs.Memory.Words.Room.{room_heads}
 use Rattle.seize_rule.proofs.Points.Told.{part}
 use Rattle.seize_rule.proofs.Points.Stepped.{Stepped, IsGoing}
 use Rattle.seize_rule.proofs.Rows.Slots.{stays_same}

@@ -8,8 +8,8 @@ use Rattle.seize.specs.declared.rows.settle.Settling.TheVariants as at
 use Rattle.seize.specs.declared.rows.leave.Leaving.{Leaving}
 use Rattle.seize.specs.declared.rows.leave.Leaving.TheVariants as leaving
 use Rattle.seize.specs.World.{Row, Settles, Leaves, with_at}
-use Rattle.seize_moves.proofs.State.Ghost.{State, is_never}
-use Rattle.seize_moves.proofs.State.Rule.{Keeps, open_length, retirals}
+use Rattle.seize_moves.proofs.Moves.State.Ghost.{State, is_never}
+use Rattle.seize_moves.proofs.Moves.State.Rule.{Keeps, open_length, retirals}
 
 -- a try is under way
 abbrev pub is_trying : Settling → Bool

@@ -1,10 +1,10 @@
 -- All rows go on with the batch size that they began with.
 use Rattle.std.specs.Prelude.{Option, Ok, Err, if◌then◌else◌, nat_lt}
 use Rattle.std.proofs.Common.{◌≡◌, ℕ, Bool, true, false, refl, subst, sym, ◌∙◌}
-use Rattle.seize_words.specs.Op.{Out, Found, Stored, Exchanged, Made, Taken, Roomed}
-use Rattle.seize_words.specs.Mem.{Mem, Took, value_at, with_word}
-use Rattle.seize_words.specs.Plan.{Steps, Ends, Now}
-use Rattle.seize_words.proofs.OneOwner.Operations.{swapped, stored}
+use Rattle.seize_words.specs.OneMemory.Op.{Out, Found, Stored, Exchanged, Made, Taken, Roomed}
+use Rattle.seize_words.specs.OneMemory.Mem.{Mem, Took, value_at, with_word}
+use Rattle.seize_words.specs.OneMemory.Plan.{Steps, Ends, Now}
+use Rattle.seize_words.proofs.OneMemory.OneOwner.Operations.{swapped, stored}
 use Rattle.seize_words.specs.declared.at.At.TheVariants as name
 use Rattle.seize.specs.declared.states.TheConstants.{HEAD, FREE, ACTIVE}
 use Rattle.seize.specs.declared.progress.Progress.{Progress}

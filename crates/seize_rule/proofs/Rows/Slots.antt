@@ -4,9 +4,9 @@ use Rattle.std.proofs.Common.{◌≡◌, ℕ, ◌+◌, ◌<◌, false, List, [],
 use Rattle.std.proofs.lemmas.List.{length-set}
 use Rattle.seize_words.specs.declared.at.At.{At}
 use Rattle.seize_words.specs.declared.at.At.TheVariants as at
-use Rattle.seize_words.specs.Mem.{Mem, value_at, word_at, with_word, Can, Took}
-use Rattle.seize_words.specs.Plan.{May, Steps, Now}
-use Rattle.seize_words.proofs.OneOwner.Operations.{stored, may_store}
+use Rattle.seize_words.specs.OneMemory.Mem.{Mem, value_at, word_at, with_word, Can, Took}
+use Rattle.seize_words.specs.OneMemory.Plan.{May, Steps, Now}
+use Rattle.seize_words.proofs.OneMemory.OneOwner.Operations.{stored, may_store}
 use Rattle.seize.specs.declared.states.TheConstants.{HEAD, ACTIVE, FREE}
 use Rattle.seize.specs.declared.progress.Progress.{Progress}
 use Rattle.seize.specs.declared.progress.Progress.TheVariants.{Done}
@@ -15,22 +15,21 @@ use Rattle.seize.specs.declared.rows.enter.Unregister.{Unregister}
 use Rattle.seize.specs.Enter.{enter_plan, unregister_plan}
 use Rattle.seize.specs.Law.{Effect, Entered, is_open}
 use Rattle.seize.specs.World.{World, Row, Rests, Enters, Frees, Use, Vacant, Inside, with_at, with_use, after_step, handed_by}
-use Rattle.seize_moves.proofs.State.Ghost.{put, Head, Free, Idle, State, emptied, is_never}
-use Rattle.seize_moves.proofs.State.Rule.{Moved, Pending}
-use Rattle.seize_moves.proofs.State.Moves
-use Rattle.seize_moves.proofs.Moves.Slots.{entered_moves, freed_moves}
-use Rattle.seize_rule.proofs.Words.Named.{wrote}
-use Rattle.seize_rule.proofs.Words.View.{View, view, view_head, list_in}
-use Rattle.seize_rule.proofs.Words.Shows.{Extra, Written}
-use Rattle.seize_rule.proofs.Written.Heads.{entered_written, freed_written}
+use Rattle.seize_moves.proofs.Moves.State.Ghost.{put, Head, Free, Idle, State, emptied, is_never}
+use Rattle.seize_moves.proofs.Moves.State.Rule.{Moved, Pending, retirals}
+use Rattle.seize_moves.proofs.Moves.State.Moves
+use Rattle.seize_moves.proofs.Moves.Moves.Slots.{entered_moves, freed_moves}
+use Rattle.seize_moves.proofs.Memory.Words.Named.{wrote}
+use Rattle.seize_moves.proofs.Memory.Words.View.{View, view, view_head, list_in}
+use Rattle.seize_moves.proofs.Memory.Words.Shows.{Extra, Written}
+use Rattle.seize_moves.proofs.Memory.Written.Heads.{entered_written, freed_written}
 use Rattle.seize_rule.proofs.Points.Aside.{AllHands}
 use Rattle.seize_rule.proofs.Rows.Known.{works_on, Idles, OnSlot, FitsRow}
 use Rattle.seize_rule.proofs.Rows.Teams.{Used, shares, alone_ends, no_other}
-use Rattle.seize_rule.proofs.Words.There.{Stocked, stocked_written}
-use Rattle.seize_rule.proofs.Words.Room.{HasRoom, slot_there, room_heads, room_written}
-use Rattle.seize_moves.proofs.State.Rule.{retirals}
+use Rattle.seize_moves.proofs.Memory.Words.There.{Stocked, stocked_written}
+use Rattle.seize_moves.proofs.Memory.Words.Room.{HasRoom, slot_there, room_heads, room_written}
 use Rattle.seize_rule.proofs.Rows.Short.{tries_on, still_short}
-use Rattle.seize_moves.proofs.Sets.Unmoved.{freed_unmoved}
+use Rattle.seize_moves.proofs.Moves.Sets.Unmoved.{freed_unmoved}
 use Rattle.seize_rule.proofs.Rows.Told.{EntersSlot, FreesSlot}
 use Rattle.seize_rule.proofs.World.Good.{Good, Stays, RowWent, Next, next_after}
 

@@ -2,9 +2,9 @@
 use Rattle.std.specs.Prelude.{Option, Some, None, if◌then◌else◌, nat_lt, ◌==◌, ◌/◌, ◌%◌, ◌^◌, ◌-◌}
 use Rattle.std.proofs.Common.{◌≡◌, ℕ, ◌+◌, Bool, true, false, List, [], ◌∷◌, refl, inl, inr, sym, subst}
 use Rattle.seize_words.specs.declared.at.At.TheVariants.{Slot, Entry, Word}
-use Rattle.seize_words.specs.Mem.{Mem, Took, value_at, with_word, with_block}
-use Rattle.seize_words.specs.Plan.{Then, Steps, Ends}
-use Rattle.seize_words.proofs.OneOwner.Operations.{loaded, stored, added, exchanged, taken as taken_value}
+use Rattle.seize_words.specs.OneMemory.Mem.{Mem, Took, value_at, with_word, with_block}
+use Rattle.seize_words.specs.OneMemory.Plan.{Then, Steps, Ends}
+use Rattle.seize_words.proofs.OneMemory.OneOwner.Operations.{loaded, stored, added, exchanged, taken as taken_value}
 use Rattle.seize.specs.declared.states.TheConstants.{HEAD, BATCH, NEXT, LINK, FIRST, COUNT, NEVER, ACTIVE, HELD}
 use Rattle.seize.specs.declared.rows.settle.Settle.{Settle}
 use Rattle.seize.specs.declared.rows.settle.Settling.{Settling}

@@ -4,8 +4,8 @@ use Rattle.std.proofs.Common.{◌≡◌, ℕ, ◌+◌, Bool, true, false, cond, 
 use Rattle.std.proofs.lemmas.Bool.{eqb-false}
 use Rattle.seize.specs.Law.{Effect, is_open}
 use Rattle.seize.specs.World.{Row, Rests, Registers, Enters, Settles, Leaves, Defers, Frees, Use, Vacant, Outside, Inside, Changing, with_at}
-use Rattle.seize_moves.specs.Given.SeizeWaitingHeld.{same, count}
-use Rattle.seize_moves.proofs.State.Ghost.{Head, Never, Free, Idle, Active, emptied}
+use Rattle.seize_moves.specs.Waiting.Held.{same, count}
+use Rattle.seize_moves.proofs.Moves.State.Ghost.{Head, Never, Free, Idle, Active, emptied}
 use Rattle.seize_rule.proofs.Rows.Known.{works_on}
 
 -- how many rows work on a slot that nobody is registered at: one that has taken it, and is to enter it

@@ -16,11 +16,11 @@ use Rattle.seize.specs.declared.rows.enter.Enter.{Enter}
 use Rattle.seize.specs.declared.rows.enter.Unregister.{Unregister}
 use Rattle.seize.specs.Leave.{standing}
 use Rattle.seize.specs.World.{Row, Rests, Registers, Enters, Settles, Leaves, Defers, Frees, Use, Vacant, Outside, Inside, Request, Retire, Flush, with_at}
-use Rattle.seize_moves.proofs.State.Ghost.{Entry, Idle, Active, State}
-use Rattle.seize_moves.proofs.State.Moves
-use Rattle.seize_rule.proofs.Words.Named.{link}
+use Rattle.seize_moves.proofs.Moves.State.Ghost.{Entry, Idle, Active, State}
+use Rattle.seize_moves.proofs.Moves.State.Moves
+use Rattle.seize_moves.proofs.Memory.Words.Named.{link}
 use Rattle.seize_rule.proofs.Rows.Known.{word_of}
-use Rattle.seize_moves.proofs.Sets.Unmoved.{Unmoved}
+use Rattle.seize_moves.proofs.Moves.Sets.Unmoved.{Unmoved}
 use Rattle.seize_rule.proofs.Points.Told.{Plain, part, Told}
 
 -- the state once the slot's list is taken, for a refresh or not

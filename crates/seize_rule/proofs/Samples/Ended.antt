@@ -2,7 +2,7 @@
 use Rattle.std.specs.Prelude.{◌==◌, if◌then◌else◌, Option, Some, None}
 use Rattle.std.proofs.Common.{◌≡◌, ℕ, zero, suc, [], ◌∷◌, refl, arith}
 use Rattle.seize_words.specs.declared.at.At.TheVariants.{Word}
-use Rattle.seize_words.specs.Mem.{Mem}
+use Rattle.seize_words.specs.OneMemory.Mem.{Mem}
 use Rattle.seize.specs.Defer.{deferring}
 use Rattle.seize.specs.Further.{FurtherFrom}
 use Rattle.seize.specs.Law.{Linked, Ended, LeftOver}

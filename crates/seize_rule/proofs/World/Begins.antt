@@ -3,7 +3,7 @@ use Rattle.std.specs.Prelude.{Option, Some, None, is_some, if◌then◌else◌}
 use Rattle.std.proofs.Common.{◌≡◌, ℕ, ◌+◌, ◌<◌, ◌*◌, Bool, true, false, cond, eqb, List, [], ◌∷◌, length, refl, arith, subst, sym, ap, ◌∙◌, eqb-true}
 use Rattle.std.proofs.lemmas.Bool.{eqb-false}
 use Rattle.seize_words.specs.declared.at.At.TheVariants.{Word}
-use Rattle.seize_words.specs.Mem.{value_at}
+use Rattle.seize_words.specs.OneMemory.Mem.{value_at}
 use Rattle.seize.specs.declared.states.TheConstants.{IDLE, ACTIVE, LAST_SLOT}
 use Rattle.seize.specs.declared.rows.register.Registering.TheVariants as registering
 use Rattle.seize.specs.Settle.{retiring, flushing}
@@ -11,25 +11,25 @@ use Rattle.seize.specs.Leave.{leaving}
 use Rattle.seize.specs.Defer.{deferring}
 use Rattle.seize.specs.Law.{Effect, Deferred, is_open, holds}
 use Rattle.seize.specs.World.{World, Row, Rests, Registers, Enters, Settles, Leaves, Defers, Frees, Use, Vacant, Outside, Inside, Changing, Hand, Cutting, Handed, Request, Register', Enter', Leave', LeaveOwned, Refresh, Unregister', Retire, Flush, Defer', Begins, IsTaken, IsInside, IsNotLeft, one_more, with_at, with_row, with_use, with_hand, with_effect, MayCut}
-use Rattle.seize_moves.proofs.State.Ghost.{put, Head, Idle, Active, Life, IsLinked, IsUnlinked, IsPending, IsDeferring, IsLeft, State, emptied, is_never}
-use Rattle.seize_moves.proofs.State.Moves.{begins_retire, begins_call, begins_defer}
-use Rattle.seize_moves.proofs.Moves.Blocks.{begins_retire_moves, begins_defer_moves}
-use Rattle.seize_moves.proofs.Moves.Slots.{begins_call_moves}
-use Rattle.seize_moves.proofs.State.Together.{stays}
-use Rattle.seize_rule.proofs.Words.Named.{link}
-use Rattle.seize_rule.proofs.Words.Chains.{last_of}
-use Rattle.seize_rule.proofs.Words.View.{view, list_in}
-use Rattle.seize_rule.proofs.Words.Shows.{Extra, CarrierIs, lives, keeps_like}
-use Rattle.seize_rule.proofs.Written.Blocks.{to_retire, begins_retire_written, begins_defer_written}
-use Rattle.seize_rule.proofs.Written.Heads.{begins_call_written}
+use Rattle.seize_moves.proofs.Moves.State.Ghost.{put, Head, Idle, Active, Life, IsLinked, IsUnlinked, IsPending, IsDeferring, IsLeft, State, emptied, is_never}
+use Rattle.seize_moves.proofs.Moves.State.Moves.{begins_retire, begins_call, begins_defer}
+use Rattle.seize_moves.proofs.Moves.Moves.Blocks.{begins_retire_moves, begins_defer_moves}
+use Rattle.seize_moves.proofs.Moves.Moves.Slots.{begins_call_moves}
+use Rattle.seize_moves.proofs.Moves.State.Together.{stays}
+use Rattle.seize_moves.proofs.Memory.Words.Named.{link}
+use Rattle.seize_moves.proofs.Memory.Words.Chains.{last_of}
+use Rattle.seize_moves.proofs.Memory.Words.View.{view, list_in}
+use Rattle.seize_moves.proofs.Memory.Words.Shows.{Extra, CarrierIs, lives, keeps_like}
+use Rattle.seize_moves.proofs.Memory.Written.Blocks.{to_retire, begins_retire_written, begins_defer_written}
+use Rattle.seize_moves.proofs.Memory.Written.Heads.{begins_call_written}
 use Rattle.seize_rule.proofs.Points.Aside.{AllHands, HandFits, standing_life, cut_stands}
 use Rattle.seize_rule.proofs.Rows.Known.{works_on, Idles, OnSlot, FitsRow, word_of}
 use Rattle.seize_rule.proofs.Rows.KnownLasts.{row_last}
 use Rattle.seize_rule.proofs.Rows.Teams.{Used, shares, is_shared, UseFits, used_same, alone_begins, shared_begins}
-use Rattle.seize_rule.proofs.Words.There.{live_pos}
+use Rattle.seize_moves.proofs.Memory.Words.There.{live_pos}
 use Rattle.seize_rule.proofs.Rows.Slots.{stays_same}
 use Rattle.seize_rule.proofs.Rows.Short.{AllShort, StillShort, tries_on, still_short, short_after}
-use Rattle.seize_moves.proofs.Sets.Unmoved.{is_in_wait, put_waits, Unmoved, unmoved_kept, unmoved_same}
+use Rattle.seize_moves.proofs.Moves.Sets.Unmoved.{is_in_wait, put_waits, Unmoved, unmoved_kept, unmoved_same}
 use Rattle.seize_rule.proofs.Rows.Told.{BeginTold}
 use Rattle.seize_rule.proofs.World.Good.{Good, RowWent, good_after, after_state}
 

@@ -3,18 +3,18 @@ use Rattle.std.specs.Prelude.{Option, Some, None, ◌++◌, max}
 use Rattle.std.proofs.Common.{◌≡◌, ℕ, zero, suc, ◌+◌, ◌-◌, ◌*◌, ◌^◌, ◌<◌, ◌≤◌, Bool, true, false, cond, eqb, List, [], ◌∷◌, length, refl, arith, subst, sym, ap, ◌∙◌, eqb-true, inl, inr}
 use Rattle.std.proofs.lemmas.Bool.{cases_lt, eqb-false}
 use Rattle.seize_words.specs.declared.at.At.TheVariants as name
-use Rattle.seize_words.specs.Mem.{word_at}
+use Rattle.seize_words.specs.OneMemory.Mem.{word_at}
 use Rattle.seize.specs.declared.states.TheConstants.{HEAD, LAST_SLOT}
 use Rattle.seize.specs.Law.{Effect, is_open, is_retired}
 use Rattle.seize.specs.World.{World, Row, Rests, Use, Vacant, Outside, Inside, Changing, at_start, IsOutside, times, SlotsTaken, GarbageIsBounded}
-use Rattle.seize_moves.specs.Given.SeizeWaitingHeld.{same, count}
-use Rattle.seize_moves.proofs.Given.SeizeWaitingCounts.{count-append}
-use Rattle.seize_moves.proofs.State.Ghost.{State, Head, Never, Free, Idle, Active, emptied, is_active, is_never}
-use Rattle.seize_moves.proofs.State.Rule.{open_length}
-use Rattle.seize_moves.proofs.Sets.Quiescent.{IsQuiescent, all_wait}
-use Rattle.seize_rule.proofs.Words.Named.{word_found}
-use Rattle.seize_rule.proofs.Words.View.{view}
-use Rattle.seize_rule.proofs.Words.Shows.{HeadIs}
+use Rattle.seize_moves.specs.Waiting.Held.{same, count}
+use Rattle.seize_moves.proofs.Waiting.Counts.{count-append}
+use Rattle.seize_moves.proofs.Moves.State.Ghost.{State, Head, Never, Free, Idle, Active, emptied, is_active, is_never}
+use Rattle.seize_moves.proofs.Moves.State.Rule.{open_length}
+use Rattle.seize_moves.proofs.Moves.Sets.Quiescent.{IsQuiescent, all_wait}
+use Rattle.seize_moves.proofs.Memory.Words.Named.{word_found}
+use Rattle.seize_moves.proofs.Memory.Words.View.{view}
+use Rattle.seize_moves.proofs.Memory.Words.Shows.{HeadIs}
 use Rattle.seize_rule.proofs.Rows.Known.{Idles, FitsRow}
 use Rattle.seize_rule.proofs.Rows.Teams.{UseFits}
 use Rattle.seize_rule.proofs.World.Good.{Good}

@@ -7,27 +7,27 @@ use Rattle.seize.specs.Further.{ListFrom, FurtherFrom, FurtherAre}
 use Rattle.seize.specs.Law.{Effect, LeftOver, Dropped, is_orphan}
 use Rattle.seize.specs.WaitingSets.{is_one_of}
 use Rattle.seize.specs.declared.states.TheConstants.{NEXT}
-use Rattle.seize_words.specs.Mem.{Mem, value_at, word_at, with_word, with_block}
+use Rattle.seize_words.specs.OneMemory.Mem.{Mem, value_at, word_at, with_word, with_block}
 use Rattle.seize_words.specs.declared.at.At.TheVariants.{Entry, Word}
-use Rattle.seize_moves.specs.Given.SeizeWaitingHeld.{count}
-use Rattle.seize_moves.proofs.Given.SeizeWaitingCounts.{none_counted}
-use Rattle.seize_moves.proofs.State.Ghost.{State, Life, IsUnlinked, IsDeferring, IsDeferred, IsPending, IsLeft, is_deferred}
-use Rattle.seize_moves.proofs.State.Moves.{left_with, left_over}
-use Rattle.seize_moves.proofs.State.Rule.{AllDeferred}
-use Rattle.seize_moves.proofs.Moves.Ended.{is_on, ends_with, left_over_moves}
-use Rattle.seize_rule.proofs.Words.Chains.{Chain}
-use Rattle.seize_rule.proofs.Words.View.{View, view, list_in, view_next}
-use Rattle.seize_rule.proofs.Words.Named.{wrote, word_found}
-use Rattle.seize_rule.proofs.Words.Shows.{DeferredIs, DrainedIs, CarrierIs, KeepsWords, Shows, has_next}
-use Rattle.seize_rule.proofs.Written.Ended.{without_list, left_over_written}
-use Rattle.seize_rule.proofs.Written.Retire.{next_written}
-use Rattle.seize_rule.proofs.Words.Apart.{unlisted_dropped, boxed_none}
+use Rattle.seize_moves.specs.Waiting.Held.{count}
+use Rattle.seize_moves.proofs.Waiting.Counts.{none_counted}
+use Rattle.seize_moves.proofs.Moves.State.Ghost.{State, Life, IsUnlinked, IsDeferring, IsDeferred, IsPending, IsLeft, is_deferred}
+use Rattle.seize_moves.proofs.Moves.State.Moves.{left_with, left_over}
+use Rattle.seize_moves.proofs.Moves.State.Rule.{AllDeferred}
+use Rattle.seize_moves.proofs.Moves.Moves.Ended.{is_on, ends_with, left_over_moves}
+use Rattle.seize_moves.proofs.Memory.Words.Chains.{Chain}
+use Rattle.seize_moves.proofs.Memory.Words.View.{View, view, list_in, view_next}
+use Rattle.seize_moves.proofs.Memory.Words.Named.{wrote, word_found}
+use Rattle.seize_moves.proofs.Memory.Words.Shows.{DeferredIs, DrainedIs, CarrierIs, KeepsWords, Shows, has_next}
+use Rattle.seize_moves.proofs.Memory.Written.Ended.{without_list, left_over_written}
+use Rattle.seize_moves.proofs.Memory.Written.Retire.{next_written}
+use Rattle.seize_moves.proofs.Memory.Words.Apart.{unlisted_dropped, boxed_none}
 use Rattle.seize_rule.proofs.Points.Aside.{HandFits}
 use Rattle.seize_rule.proofs.Rows.Onto.{row_onto}
-use Rattle.seize_rule.proofs.Words.There.{entry_there, stocked_written}
-use Rattle.seize_rule.proofs.Words.Room.{room_written, same_length}
+use Rattle.seize_moves.proofs.Memory.Words.There.{entry_there, stocked_written}
+use Rattle.seize_moves.proofs.Memory.Words.Room.{room_written, same_length}
 use Rattle.seize_rule.proofs.Rows.Known.{ListsLast}
-use Rattle.seize_moves.proofs.Sets.Unmoved.{is_in_wait, Unmoved}
+use Rattle.seize_moves.proofs.Moves.Sets.Unmoved.{is_in_wait, Unmoved}
 use Rattle.seize_rule.proofs.World.Good.{Good, StillGood}
 use Rattle.seize_rule.proofs.World.Users.{shown_good, used_still, fits_of, stays_same, dropped_good}
 use Rattle.seize_rule.proofs.World.Own.{memory_good}

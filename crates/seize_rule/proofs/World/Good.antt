@@ -2,21 +2,21 @@
 use Rattle.std.specs.Prelude.{Option, if◌then◌else◌, ◌++◌}
 use Rattle.std.proofs.Common.{◌≡◌, ℕ, ◌+◌, ◌≤◌, Bool, true, false, eqb, List, length, refl, subst, sym, eqb-true}
 use Rattle.std.proofs.lemmas.Bool.{eqb-false, eq-eqb}
-use Rattle.seize_words.specs.Mem.{Mem}
+use Rattle.seize_words.specs.OneMemory.Mem.{Mem}
 use Rattle.seize.specs.Law.{Effect}
 use Rattle.seize.specs.World.{World, Row, Use, with_at, handed_by}
-use Rattle.seize_moves.proofs.State.Ghost.{State, emptied}
-use Rattle.seize_moves.proofs.State.Rule.{Inv, Moved, Pending}
-use Rattle.seize_rule.proofs.Words.View.{view}
-use Rattle.seize_rule.proofs.Words.Shows.{Extra, Shows, Written}
+use Rattle.seize_moves.proofs.Moves.State.Ghost.{State, emptied}
+use Rattle.seize_moves.proofs.Moves.State.Rule.{Inv, Moved, Pending}
+use Rattle.seize_moves.proofs.Memory.Words.View.{view}
+use Rattle.seize_moves.proofs.Memory.Words.Shows.{Extra, Shows, Written}
 use Rattle.seize_rule.proofs.Points.Aside.{AllHands}
 use Rattle.seize_rule.proofs.Rows.Known.{works_on, FitsRow, ListsLast}
 use Rattle.seize_rule.proofs.Rows.KnownLasts.{row_last}
 use Rattle.seize_rule.proofs.Rows.Teams.{Used}
-use Rattle.seize_rule.proofs.Words.There.{Stocked}
-use Rattle.seize_rule.proofs.Words.Room.{HasRoom}
+use Rattle.seize_moves.proofs.Memory.Words.There.{Stocked}
+use Rattle.seize_moves.proofs.Memory.Words.Room.{HasRoom}
 use Rattle.seize_rule.proofs.Rows.Short.{AllShort, StillShort, short_after}
-use Rattle.seize_moves.proofs.Sets.Unmoved.{Unmoved}
+use Rattle.seize_moves.proofs.Moves.Sets.Unmoved.{Unmoved}
 use Rattle.seize_rule.proofs.Rows.Told.{RowTold}
 
 -- There are a state and what rows know beside it, so that the rule holds, the words show the state, and each row knows what it needs.

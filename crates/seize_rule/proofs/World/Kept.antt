@@ -1,8 +1,8 @@
 -- The world stays good whatever happens, and each row may take its next step.
 use Rattle.std.specs.Prelude.{Option}
 use Rattle.std.proofs.Common.{◌≡◌, ℕ, ◌+◌, Bool, true, false, List, [], ◌∷◌, length, refl, arith, subst, sym, ap}
-use Rattle.seize_words.specs.Mem.{Mem, Took, value_at}
-use Rattle.seize_words.specs.Plan.{Steps}
+use Rattle.seize_words.specs.OneMemory.Mem.{Mem, Took, value_at}
+use Rattle.seize_words.specs.OneMemory.Plan.{Steps}
 use Rattle.seize.specs.declared.states.TheConstants.{LAST_SLOT}
 use Rattle.seize.specs.declared.rows.settle.Settle.{Settle}
 use Rattle.seize.specs.declared.rows.settle.Settling.{Settling}
@@ -11,7 +11,7 @@ use Rattle.seize.specs.declared.rows.settle.Settled.{Settled}
 use Rattle.seize.specs.Settle.{settle_plan}
 use Rattle.seize.specs.Law.{Effect, IsSound}
 use Rattle.seize.specs.World.{World, Hand, Row, Rests, Registers, Enters, Settles, Leaves, Defers, Frees, Event, Begin, Step, Makes, Drops, Links, Parts, Unlinks, Rewrites, Operates, Chooses, Happens, Runs, Steps', MayStep, RowsAreSound, RowsMayStep, at_start, settles_on, LeavesOver, Relinks, Clears, Ends}
-use Rattle.seize_rule.proofs.Words.View.{view}
+use Rattle.seize_moves.proofs.Memory.Words.View.{view}
 use Rattle.seize_rule.proofs.Points.Known.{FitsAt, bare}
 use Rattle.seize_rule.proofs.Rows.Known.{FitsRow}
 use Rattle.seize_rule.proofs.World.Good.{Good, StillGood, Next}
@@ -29,8 +29,8 @@ use Rattle.seize_rule.proofs.Rows.Leave.{leaves_next, leaves_may}
 use Rattle.seize_rule.proofs.Rows.Deferring.{defers_next, defers_may}
 use Rattle.seize_rule.proofs.Rows.Register.{registers_next, registers_may}
 use Rattle.seize_rule.proofs.World.Events.{makes_good, drops_good, link_good, end_good, part_good, unlink_good, rewrites_good, operates_good, chooses_good, leaves_over_good, relinks_good, clears_good}
-use Rattle.seize_moves.proofs.State.Ghost.{State}
-use Rattle.seize_moves.proofs.Sets.Unmoved.{Unmoved}
+use Rattle.seize_moves.proofs.Moves.State.Ghost.{State}
+use Rattle.seize_moves.proofs.Moves.Sets.Unmoved.{Unmoved}
 use Rattle.seize_rule.proofs.World.Ended.{left_over_unmoved}
 
 -- an event between rows that leaves no further value over

@@ -1,20 +1,20 @@
 -- Operations of users on words of their own, values rewritten, and choices of numbers: the world stays good.
 use Rattle.std.specs.Prelude.{Option, Some, IsSome, ◌++◌}
 use Rattle.std.proofs.Common.{◌≡◌, ℕ, ◌≤◌, [], ◌∷◌, length, refl, arith, subst, sym, ap, ◌∙◌}
-use Rattle.seize_words.specs.Mem.{Mem, value_at, word_at, with_word, with_value}
+use Rattle.seize_words.specs.OneMemory.Mem.{Mem, value_at, word_at, with_word, with_value}
 use Rattle.seize_words.specs.declared.at.At.{At}
 use Rattle.seize_words.specs.declared.at.At.TheVariants.{Root, Used, Slot, Entry, Word}
 use Rattle.seize.specs.World.{World, IsOwn}
-use Rattle.seize_moves.proofs.State.Together.{stays}
-use Rattle.seize_rule.proofs.Words.Named.{wrote}
-use Rattle.seize_rule.proofs.Words.View.{View, view, list_in, view_root, view_used, view_own}
-use Rattle.seize_rule.proofs.Words.Shows.{Shows, KeepsWords, keeps_like}
-use Rattle.seize_rule.proofs.Written.Own.{own_written}
+use Rattle.seize_moves.proofs.Moves.State.Together.{stays}
+use Rattle.seize_moves.proofs.Memory.Words.Named.{wrote}
+use Rattle.seize_moves.proofs.Memory.Words.View.{View, view, list_in, view_root, view_used, view_own}
+use Rattle.seize_moves.proofs.Memory.Words.Shows.{Shows, KeepsWords, keeps_like}
+use Rattle.seize_moves.proofs.Memory.Written.Own.{own_written}
 use Rattle.seize_rule.proofs.Rows.Known.{ListsLast}
-use Rattle.seize_rule.proofs.Words.There.{Stocked, stocked_written}
-use Rattle.seize_rule.proofs.Words.Room.{HasRoom, room_written, same_length}
-use Rattle.seize_rule.proofs.Words.Rewritten.{view_rewritten, stocked_rewritten}
-use Rattle.seize_moves.proofs.Sets.Unmoved.{unmoved_same}
+use Rattle.seize_moves.proofs.Memory.Words.There.{Stocked, stocked_written}
+use Rattle.seize_moves.proofs.Memory.Words.Room.{HasRoom, room_written, same_length}
+use Rattle.seize_moves.proofs.Memory.Words.Rewritten.{view_rewritten, stocked_rewritten}
+use Rattle.seize_moves.proofs.Moves.Sets.Unmoved.{unmoved_same}
 use Rattle.seize_rule.proofs.World.Good.{Good, StillGood, Stays}
 use Rattle.seize_rule.proofs.World.Users.{users_good}
 

@@ -1,30 +1,30 @@
 -- What users do beside the rows: blocks are made, dropped, linked and unlinked. The world stays good.
 use Rattle.std.specs.Prelude.{Option, Some, None, is_some, IsSome, Ok, if◌then◌else◌}
 use Rattle.std.proofs.Common.{◌≡◌, ℕ, ◌+◌, ◌<◌, ◌≤◌, ◌^◌, Bool, true, false, cond, eqb, List, [], ◌∷◌, length, refl, arith, subst, sym, ap, ◌∙◌, eqb-true}
-use Rattle.seize_words.specs.Mem.{Mem, value_at, with_block, after, IsFreeNumber}
-use Rattle.seize_words.specs.Op.{Make, Made}
+use Rattle.seize_words.specs.OneMemory.Mem.{Mem, value_at, with_block, after, IsFreeNumber}
+use Rattle.seize_words.specs.OneMemory.Op.{Make, Made}
 use Rattle.seize.specs.Law as law
 use Rattle.seize.specs.Law.{Effect, Linked, Unlinked, Dropped, Ended, is_open}
 use Rattle.seize.specs.World.{World, Hand, NoBlock, Making, InUse, Parting, Cutting, MayClear, with_at, with_hand, with_effect, MayCut}
-use Rattle.seize_moves.proofs.State.Ghost.{put, State, Life, IsFree, IsOwned, IsLinked, IsUnlinked, of_dropper, of_row, emptied}
-use Rattle.seize_moves.proofs.State.Together.{stays}
-use Rattle.seize_moves.proofs.State.Rule.{Inv, Keeps, Pending, same_row, row_of, same_slot, slot_of, same_batch, batch_of, retirals, open_length}
-use Rattle.seize_moves.proofs.State.Moves.{made, dropped, linked, unlinked, ended}
-use Rattle.seize_moves.proofs.Moves.Blocks.{made_moves, dropped_moves, linked_moves, unlinked_moves, ended_moves}
-use Rattle.seize_rule.proofs.Words.Named.{made_one, taken_one}
-use Rattle.seize_rule.proofs.Words.View.{View, view, list_in, view_made, view_taken}
-use Rattle.seize_rule.proofs.Words.Shows.{Extra, Shows, KeepsWords, KeptOwn, Spot, Nowhere, SpotLife, has_next, has_first, has_entry, has_own, keeps_like}
-use Rattle.seize_rule.proofs.Written.Blocks.{none_deferred, linked_written, unlinked_written}
-use Rattle.seize_rule.proofs.Written.Own.{with_new, made_written}
-use Rattle.seize_rule.proofs.Written.Takes.{without, dropped_off, dropped_written}
+use Rattle.seize_moves.proofs.Moves.State.Ghost.{put, State, Life, IsFree, IsOwned, IsLinked, IsUnlinked, of_dropper, of_row, emptied}
+use Rattle.seize_moves.proofs.Moves.State.Together.{stays}
+use Rattle.seize_moves.proofs.Moves.State.Rule.{Inv, Keeps, Pending, same_row, row_of, same_slot, slot_of, same_batch, batch_of, retirals, open_length}
+use Rattle.seize_moves.proofs.Moves.State.Moves.{made, dropped, linked, unlinked, ended}
+use Rattle.seize_moves.proofs.Moves.Moves.Blocks.{made_moves, dropped_moves, linked_moves, unlinked_moves, ended_moves}
+use Rattle.seize_moves.proofs.Memory.Words.Named.{made_one, taken_one}
+use Rattle.seize_moves.proofs.Memory.Words.View.{View, view, list_in, view_made, view_taken}
+use Rattle.seize_moves.proofs.Memory.Words.Shows.{Extra, Shows, KeepsWords, KeptOwn, Spot, Nowhere, SpotLife, has_next, has_first, has_entry, has_own, keeps_like}
+use Rattle.seize_moves.proofs.Memory.Written.Blocks.{none_deferred, linked_written, unlinked_written}
+use Rattle.seize_moves.proofs.Memory.Written.Own.{with_new, made_written}
+use Rattle.seize_moves.proofs.Memory.Written.Takes.{without, dropped_off, dropped_written}
 use Rattle.seize_rule.proofs.Points.Aside.{AllHands, HandFits, standing_life, cut_stands}
 use Rattle.seize_rule.proofs.Rows.Known.{ListsLast}
 use Rattle.seize_rule.proofs.Rows.KnownLasts.{row_last}
 use Rattle.seize_rule.proofs.Rows.Teams.{Used}
-use Rattle.seize_rule.proofs.Words.There.{free_word, stocked_made, stocked_taken}
-use Rattle.seize_rule.proofs.Words.Room.{HasRoom, room_made, room_taken_block}
+use Rattle.seize_moves.proofs.Memory.Words.There.{free_word, stocked_made, stocked_taken}
+use Rattle.seize_moves.proofs.Memory.Words.Room.{HasRoom, room_made, room_taken_block}
 use Rattle.seize_rule.proofs.Rows.Short.{short_by, no_longer}
-use Rattle.seize_moves.proofs.Sets.Unmoved.{is_in_wait, put_waits, Unmoved, unmoved_kept, unmoved_same}
+use Rattle.seize_moves.proofs.Moves.Sets.Unmoved.{is_in_wait, put_waits, Unmoved, unmoved_kept, unmoved_same}
 use Rattle.seize_rule.proofs.World.Good.{Good, StillGood, Stays}
 
 -- a number without a block is free

@@ -1,19 +1,19 @@
 //! What who holds a slot does at roots, and with those who watch its section, where rows are all there is.
 ghost use Rattle.std.specs.Prelude.{◌≡◌, ◌≢◌, ◌<◌, ◌+◌, ◌-◌, ◌^◌, ◌%◌, ◌⊎◌, ℕ, None, Some, IfOk, IfErr, IfNone, IfSome, IsSome, true, false};
-ghost use Rattle.seize_words.specs.Word.{block_in};
+ghost use Rattle.seize_words.specs.OneMemory.Word.{block_in};
 ghost use Rattle.seize_callers.specs.Owning.{borne_by};
-ghost use Rattle.seize_guards.specs.Deeds.{has_put, has_taken};
-ghost use Rattle.seize_guards.specs.Lent.{IsLent};
-ghost use Rattle.seize_callers.specs.Given.SeizeViewsDeclared.view.Began.TheVariants.{Retirement};
-ghost use Rattle.seize_callers.specs.Given.SeizeViewsNotes.{looked_at, written_at};
-ghost use Rattle.seize_callers.specs.Given.SeizeViewsDeclared.view.Deed.TheVariants.{Looked, Marked};
-ghost use Rattle.seize_callers.specs.Given.SeizeViewsDeclared.view.View.TheVariants.{Brings, Rests, Watches};
+ghost use Rattle.seize_shared.specs.Guards.Deeds.{has_put, has_taken};
+ghost use Rattle.seize_shared.specs.Guards.Lent.{IsLent};
+ghost use Rattle.seize_views.specs.declared.view.Began.TheVariants.{Retirement};
+ghost use Rattle.seize_views.specs.Views.Notes.{looked_at, written_at};
+ghost use Rattle.seize_views.specs.declared.view.Deed.TheVariants.{Looked, Marked};
+ghost use Rattle.seize_views.specs.declared.view.View.TheVariants.{Brings, Rests, Watches};
 
 use crate::stay::Stay;
+use crate::{Owned, Pass, Protected, Tagged};
 use seize::rows::Defers;
 use seize_blocks::Seat;
 use seize_callers::{Caller, named};
-use seize_guards::{Owned, Pass, Protected, Tagged};
 use seize_views::{Fixed, OfRows};
 
 impl<'a, T: Defers + Drop> Stay<'a, T> {

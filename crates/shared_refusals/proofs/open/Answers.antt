@@ -1,5 +1,5 @@
 use Rattle.std.specs.Prelude.{Some}
-use Rattle.seize_views.proofs.Notes.{rules_start}
+use Rattle.seize_views.proofs.Views.Notes.{rules_start}
 use Rattle.shared_refusals.specs.declared.Listed.{Listed}
 use Rattle.shared_refusals.proofs.open.Goals as goal
 

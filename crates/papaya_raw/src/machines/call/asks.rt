@@ -1,6 +1,6 @@
 //! Where a call asks, and how it goes on by what it was told.
 ghost use Rattle.std.specs.Prelude.{◌≡◌};
-ghost use Rattle.papaya_tables.specs.Given.SeizeWordsPlan.{May, Steps};
+ghost use Rattle.seize.specs.Given.SeizeWordsPlan.{May, Steps};
 ghost use Rattle.papaya_raw.specs.CallPoints.{storing, burying, at_gap, gap_by, pair_by, asking_at, asking_of, following_made};
 ghost use Rattle.papaya_raw.specs.declared.machines.asking.Told.TheVariants.{Nothing, Own};
 ghost use Rattle.papaya_raw.specs.CallFills.{asks_at};
@@ -8,11 +8,11 @@ ghost use Rattle.papaya_raw.specs.CallFills.{asks_at};
 use crate::machines::answer::Called;
 use crate::machines::asking::{Asking, Gap, Told};
 use crate::machines::call::{Calling, KeyCall};
-use papaya_sweeps::named::NewTable;
-use papaya_tables::lengths::{FIRST_LEN, Reason};
-use papaya_tables::marks::TOMBSTONE;
-use papaya_tables::named::{Link, Memory};
-use papaya_tables::{Node, Trial};
+use map_sweeps::named_sweeps::NewTable;
+use map_tables::lengths::{FIRST_LEN, Reason};
+use map_tables::marks::TOMBSTONE;
+use map_tables::named::{Link, Memory};
+use map_tables::{Node, Trial};
 
 impl<K, V, Q> KeyCall<K, V, Q> {
     /// Asks what to do where the key is missing.

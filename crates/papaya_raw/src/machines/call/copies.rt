@@ -1,15 +1,15 @@
 //! A call helps a resize, or sees it through.
 ghost use Rattle.std.specs.Prelude.{◌≡◌};
-ghost use Rattle.papaya_tables.specs.Given.SeizeWordsPlan.{May, Steps};
+ghost use Rattle.seize.specs.Given.SeizeWordsPlan.{May, Steps};
 ghost use Rattle.papaya_raw.specs.CallPoints.{standing};
 ghost use Rattle.papaya_raw.specs.Call.{call_plan, helped, copied};
 ghost use Rattle.papaya_raw.specs.declared.machines.call.Calling.TheVariants as at;
 
 use crate::machines::answer::{Called, End};
 use crate::machines::call::{Calling, KeyCall};
-use papaya_sweeps::named::{Copier, Outcome};
-use papaya_tables::named::Memory;
-use papaya_tables::{Equivalent, Hashes, Node, Table};
+use map_sweeps::named_sweeps::{Copier, Outcome};
+use map_tables::named::Memory;
+use map_tables::{Equivalent, Hashes, Node, Table};
 use std::hash::Hash;
 
 impl<K: Eq + Hash + Drop, V: Drop, Q: Equivalent<K>> KeyCall<K, V, Q> {

@@ -1,14 +1,14 @@
 //! A call puts what it was told into its own block, or gives that block up.
 ghost use Rattle.std.specs.Prelude.{None};
-ghost use Rattle.papaya_tables.specs.Given.SeizeWordsPlan.{May, Steps};
+ghost use Rattle.seize.specs.Given.SeizeWordsPlan.{May, Steps};
 ghost use Rattle.papaya_raw.specs.CallFills.{putting, fills_with, fills, gives_up};
 
 use crate::machines::answer::{Called, End};
 use crate::machines::call::values::link_to;
 use crate::machines::call::{Calling, KeyCall};
-use papaya_tables::Node;
-use papaya_tables::marks::TOMBSTONE;
-use papaya_tables::named::{Fault, Link, Memory};
+use map_tables::Node;
+use map_tables::marks::TOMBSTONE;
+use map_tables::named::{Fault, Link, Memory};
 
 impl<K: Drop, V: Drop, Q> KeyCall<K, V, Q> {
     /// Puts the value that it was told into its own block. Where one is there that was not stored, it is taken out first.

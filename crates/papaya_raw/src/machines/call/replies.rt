@@ -5,7 +5,7 @@ ghost use Rattle.papaya_raw.specs.CallAsks.{with_present, absent_told, present_t
 use crate::machines::answer::{End, KeyAnswer};
 use crate::machines::asking::{Asking, Gap, Reply, Takes, Told};
 use crate::machines::call::{Calling, KeyCall};
-use papaya_tables::named::{Fault, Link};
+use map_tables::named::{Fault, Link};
 
 impl<K: Drop, V: Drop, Q> KeyCall<K, V, Q> {
     /// Tells it what it asks for. Its next steps go on from there. It hands back a reply that it does not take: where it asks for

@@ -1,6 +1,6 @@
 //! From table to table.
 ghost use Rattle.std.specs.Prelude.{◌≡◌, ℕ};
-ghost use Rattle.papaya_tables.specs.Given.SeizeWordsPlan.{May, MaySee, Steps, Ends};
+ghost use Rattle.seize.specs.Given.SeizeWordsPlan.{May, MaySee, Steps, Ends};
 ghost use Rattle.papaya_raw.specs.CallPoints.{tableless, at_last, entering, went_on, standing};
 ghost use Rattle.papaya_raw.specs.Call.{roots, nexts, first_made, next_made, call_plan};
 ghost use Rattle.papaya_raw.specs.declared.machines.call.Calling.TheVariants as at;
@@ -8,11 +8,11 @@ ghost use Rattle.papaya_raw.specs.declared.machines.call.Calling.TheVariants as 
 use crate::machines::answer::{Called, End, KeyAnswer, Missing};
 use crate::machines::asking::Gap;
 use crate::machines::call::{Calling, KeyCall};
-use papaya_sweeps::named::{Copier, NewTable};
-use papaya_tables::lengths::FIRST_LEN;
-use papaya_tables::named::{At, Link, Machine, Memory, Progress};
-use papaya_tables::table_words::NEXT;
-use papaya_tables::{Equivalent, Node, Table};
+use map_sweeps::named_sweeps::{Copier, NewTable};
+use map_tables::lengths::FIRST_LEN;
+use map_tables::named::{At, Link, Machine, Memory, Progress};
+use map_tables::table_words::NEXT;
+use map_tables::{Equivalent, Node, Table};
 use std::hash::Hash;
 
 impl<K, V, Q> KeyCall<K, V, Q> {

@@ -1,15 +1,15 @@
 //! The call's own pair, the pairs that it disposes of, and lookups.
 ghost use Rattle.std.specs.Prelude.{◌≡◌, ℕ};
-ghost use Rattle.papaya_tables.specs.Given.SeizeWordsPlan.{May, Steps};
+ghost use Rattle.seize.specs.Given.SeizeWordsPlan.{May, Steps};
 ghost use Rattle.papaya_raw.specs.CallPoints.{word_to, standing};
 ghost use Rattle.papaya_raw.specs.Call.{makes, drops, looked, disposed, call_plan};
 ghost use Rattle.papaya_raw.specs.declared.machines.call.Calling.TheVariants as at;
 
 use crate::machines::answer::{Called, End, KeyAnswer};
 use crate::machines::call::{Calling, KeyCall};
-use papaya_sweeps::named::{Dispose, Lookup};
-use papaya_tables::named::{Fault, Link, Machine, Memory, Progress, Settled};
-use papaya_tables::{Equivalent, Node, h2};
+use map_sweeps::named_sweeps::{Dispose, Lookup};
+use map_tables::named::{Fault, Link, Machine, Memory, Progress, Settled};
+use map_tables::{Equivalent, Node, h2};
 use std::hash::Hash;
 
 /// The word that links to a block of this number, by a hash.

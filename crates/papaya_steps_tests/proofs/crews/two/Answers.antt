@@ -1,7 +1,7 @@
 -- The run may go to another thread.
 use denote.Param.Send.{sendable}
 use Rattle.std.proofs.Crossing.{crosses}
-use Rattle.papaya_steps.proofs.Sent.{scheduled_send}
+use Rattle.papaya_steps.proofs.Steps.Sent.{scheduled_send}
 use Rattle.papaya_steps_tests.proofs.crews.two.Goals as goal
 
 pub by_two-requires-send-R : goal.by_two-requires-send-R

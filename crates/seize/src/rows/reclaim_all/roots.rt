@@ -1,5 +1,5 @@
 //! What was left over at roots is reclaimed.
-ghost use Rattle.seize_words.specs.Plan.{May, Steps};
+ghost use Rattle.seize_words.specs.OneMemory.Plan.{May, Steps};
 ghost use Rattle.seize.specs.ReclaimAll.{roots, nexts, takes, empties, unuses};
 
 use crate::rows::reclaim_all::{LeftOver, ReclaimAll, Reclaiming};

@@ -1,6 +1,6 @@
 //! Each slot is taken and leaves, each batch is flushed, and each slot is given up.
 ghost use Rattle.std.specs.Prelude.{◌≡◌, ℕ, Bool, true};
-ghost use Rattle.seize_words.specs.Plan.{May, Steps};
+ghost use Rattle.seize_words.specs.OneMemory.Plan.{May, Steps};
 ghost use Rattle.seize.specs.ReclaimAll.{standing, next_head, next_batch, within, heads, retakes, batches, frees, reclaim_all_plan};
 ghost use Rattle.seize.specs.declared.rows.reclaim_all.Reclaiming.TheVariants as at;
 
@@ -125,7 +125,7 @@ impl ReclaimAll {
     }
 
     /// Gives a slot up.
-    #[tactic(auto, using(seize_words::proofs::Plans::may_as, seize_words::proofs::Plans::steps_as))]
+    #[tactic(auto, using(seize_words::proofs::OneMemory::Plans::may_as, seize_words::proofs::OneMemory::Plans::steps_as))]
     pub(super) fn frees<T, M: Memory<T>>(&mut self, memory: &mut M, slot: u64) -> Settled<T>
         requires { May M.can M.took M.shown memory.old (frees self.old slot) }
         ensures { Steps M.took M.shown memory.old (frees self.old slot) memory.new (self.new, result) }

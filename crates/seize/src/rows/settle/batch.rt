@@ -1,5 +1,5 @@
 //! The slot's batch is held, grows by a block, and is given up.
-ghost use Rattle.seize_words.specs.Plan.{May, Steps};
+ghost use Rattle.seize_words.specs.OneMemory.Plan.{May, Steps};
 ghost use Rattle.seize.specs.Settle.{sees, holds, pops, firsts, batches, ends, appends, counts, gives};
 
 use crate::rows::settle::{Settle, Settled, Settling};

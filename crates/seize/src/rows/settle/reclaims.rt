@@ -1,5 +1,5 @@
 //! Lists of entries are counted down, and batches that nobody holds any longer are reclaimed.
-ghost use Rattle.seize_words.specs.Plan.{May, Steps};
+ghost use Rattle.seize_words.specs.OneMemory.Plan.{May, Steps};
 ghost use Rattle.seize.specs.Settle.{nexts, drains, joins, tails, takes, puts, lists, owns, downs};
 
 use crate::rows::settle::{Defers, Settle, Settled, Settling};

@@ -1,5 +1,5 @@
 //! A try of the batch: each active slot gets one of its entries, or none does.
-ghost use Rattle.seize_words.specs.Plan.{May, Steps};
+ghost use Rattle.seize_words.specs.OneMemory.Plan.{May, Steps};
 ghost use Rattle.seize.specs.Settle.{scans, marks_block, marked, closes, reads, links, pushes, pushed_next, sums};
 
 use crate::rows::settle::{Settle, Settled, Settling};

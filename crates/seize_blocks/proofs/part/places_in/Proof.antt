@@ -26,10 +26,10 @@ use denote.Triple.Walked.{Stays, stay_dropped, walk_of, Goes-dropped}
 use Rattle.core.proofs.atomic.Steps.{Ptr-Good}
 use Rattle.std.specs.contracts.marker.PhantomData as marker
 use Rattle.std.proofs.raw_atomic.Walks.{proved, leaves}
-use Rattle.seize_seats.specs.Owned.{BaseId, strip_told}
-use Rattle.seize_plots.specs.contracts.kept.Kept as kept_of
+use Rattle.seize_seats.specs.Seats.Owned.{BaseId, strip_told}
+use Rattle.seize_seats.specs.contracts.kept.Kept as kept_of
 use Rattle.seize_atoms.specs.contracts.strip.Strip as strip
-use Rattle.seize_plots.specs.contracts.place.Place as place
+use Rattle.seize_seats.specs.contracts.place.Place as place
 use Rattle.seize_atoms.proofs.Fields.{hand_of, one_of, one_good, StripData, strip_data_told, strip_opened, place_made}
 use Rattle.seize_blocks.specs.contracts.part.places_in.{ended, clauses}
 use Rattle.seize_blocks.specs.contracts.part.places_in.Key.{name as #self}

@@ -1,5 +1,5 @@
-use Rattle.seize_seats.proofs.Places.Cells.{entries_lie, entries_are_apart}
-use Rattle.seize_seats.proofs.Places.Columns.{words_lie, words_are_apart}
+use Rattle.seize_seats.proofs.Seats.Places.Cells.{entries_lie, entries_are_apart}
+use Rattle.seize_seats.proofs.Seats.Places.Columns.{words_lie, words_are_apart}
 use Rattle.seize_seats.proofs.law.words_have_places_of_their_own.Goals as goal
 
 pub returns-clause-lie : goal.returns-clause-lie

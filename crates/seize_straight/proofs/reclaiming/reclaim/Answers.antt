@@ -1,8 +1,8 @@
 -- Which block comes next is read, and this one is taken.
 use Rattle.std.specs.Prelude.{◌≡◌, IsSome, Some}
 use Rattle.std.proofs.Common.{sym, ◌∙◌, subst}
-use Rattle.seize.specs.Given.SeizeWordsOp.{Load, Take, Found, Taken}
-use Rattle.seize.specs.Given.SeizeWordsDeclared.at.At.TheVariants.{Entry}
+use Rattle.seize_words.specs.OneMemory.Op.{Load, Take, Found, Taken}
+use Rattle.seize_words.specs.declared.at.At.TheVariants.{Entry}
 use Rattle.seize.specs.declared.states.TheConstants.{NEXT}
 use Rattle.seize_straight.specs.Runs.{none_taken}
 use Rattle.seize_straight.proofs.Reclaimings as by

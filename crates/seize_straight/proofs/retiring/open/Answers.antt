@@ -1,8 +1,8 @@
 -- Each operation is the settling's next one.
 use Rattle.std.specs.Prelude.{ℕ}
 use Rattle.std.proofs.Common.{sym, subst}
-use Rattle.seize.specs.Given.SeizeWordsOp.{Load, Store, Add, Found, Stored}
-use Rattle.seize.specs.Given.SeizeWordsDeclared.at.At.TheVariants.{Entry}
+use Rattle.seize_words.specs.OneMemory.Op.{Load, Store, Add, Found, Stored}
+use Rattle.seize_words.specs.declared.at.At.TheVariants.{Entry}
 use Rattle.seize.specs.declared.rows.settle.Settling.{Settling}
 use Rattle.seize.specs.declared.rows.settle.Settling.TheVariants as at
 use Rattle.seize.specs.declared.states.TheConstants.{COUNT, FIRST, NEXT}

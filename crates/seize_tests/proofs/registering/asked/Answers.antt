@@ -1,7 +1,7 @@
 -- Something has happened still, whatever registering tells.
 use Rattle.std.specs.Prelude.{None}
 use Rattle.std.proofs.Common.{true}
-use Rattle.seize_tests.proofs.Slots.{told_still}
+use Rattle.seize_tests.proofs.Tests.Slots.{told_still}
 use Rattle.seize_tests.proofs.registering.asked.Goals as goal
 
 pub returns : goal.returns

@@ -1,7 +1,7 @@
 -- Nothing has happened at the start.
 use Rattle.std.specs.Prelude.{None}
-use Rattle.seize_alone.specs.Alone.{nothing_yet}
-use Rattle.seize_tests.proofs.Slots.{started}
+use Rattle.seize_model.specs.Alone.Alone.{nothing_yet}
+use Rattle.seize_tests.proofs.Tests.Slots.{started}
 use Rattle.seize_tests.proofs.registering.needs_memory.Goals as goal
 
 pub asks_once-requires : goal.asks_once-requires

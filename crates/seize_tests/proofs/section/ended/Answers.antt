@@ -1,6 +1,6 @@
 -- A call that runs to its end.
 use Rattle.std.proofs.Common.{[], ◌∷◌, ◌++◌, refl}
-use Rattle.seize_alone.specs.Alone.{called}
+use Rattle.seize_model.specs.Alone.Alone.{called}
 use Rattle.seize_tests.proofs.section.ended.Goals as goal
 
 pub loop-value-init : goal.loop-value-init

@@ -1,10 +1,10 @@
 -- A call that is under way.
 use Rattle.std.specs.Prelude.{None}
 use Rattle.std.proofs.Common.{ℕ, List}
-use Rattle.seize_words.specs.Mem.{Mem}
+use Rattle.seize_words.specs.OneMemory.Mem.{Mem}
 use Rattle.seize_tests.specs.declared.leaf.Leaf.{Leaf}
 use Rattle.seize.specs.World.{Request}
-use Rattle.seize_alone.specs.Alone.{History, IsMidway, row_of, blocks_in}
+use Rattle.seize_model.specs.Alone.Alone.{History, IsMidway, row_of, blocks_in}
 use Rattle.seize_tests.proofs.section.ended.Given as goal
 
 -- the call is under way still

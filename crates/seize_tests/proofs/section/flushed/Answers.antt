@@ -1,7 +1,7 @@
 -- A flush leaves the section open.
 use Rattle.std.proofs.Common.{ℕ, ap, [], ◌∙◌}
 use Rattle.seize.specs.World.{Use, Flush}
-use Rattle.seize_tests.proofs.Slots.{inside_taken, still_inside}
+use Rattle.seize_tests.proofs.Tests.Slots.{inside_taken, still_inside}
 use Rattle.seize_tests.proofs.section.flushed.Goals as goal
 
 pub flush-requires : goal.flush-requires

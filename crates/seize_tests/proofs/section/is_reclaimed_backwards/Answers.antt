@@ -1,7 +1,7 @@
 -- A slot is entered where nothing has happened.
 use Rattle.std.specs.Prelude.{None}
-use Rattle.seize_alone.specs.Alone.{nothing_yet}
-use Rattle.seize_tests.proofs.Slots.{started, entered_inside}
+use Rattle.seize_model.specs.Alone.Alone.{nothing_yet}
+use Rattle.seize_tests.proofs.Tests.Slots.{started, entered_inside}
 use Rattle.seize_tests.proofs.section.is_reclaimed_backwards.Goals as goal
 
 pub register-requires : goal.register-requires

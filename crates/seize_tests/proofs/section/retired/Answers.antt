@@ -3,8 +3,8 @@ use Rattle.std.specs.Prelude.{None}
 use Rattle.std.proofs.Common.{ℕ, ap, [], ◌∙◌}
 use Rattle.seize_tests.specs.declared.leaf.Leaf.{Leaf}
 use Rattle.seize.specs.World.{Use, Retire}
-use Rattle.seize_alone.specs.Alone.{made, linked, unlinked}
-use Rattle.seize_tests.proofs.Slots.{cut_history, cut_hand, inside_taken, still_inside}
+use Rattle.seize_model.specs.Alone.Alone.{made, linked, unlinked}
+use Rattle.seize_tests.proofs.Tests.Slots.{cut_history, cut_hand, inside_taken, still_inside}
 use Rattle.seize_tests.proofs.section.retired.Goals as goal
 
 pub retire-requires-clause-may : goal.retire-requires-clause-may

@@ -1,5 +1,5 @@
 use Rattle.std.proofs.Common.{◌≡◌, [], ◌∷◌, ◌++◌}
-use Rattle.seize_words.proofs.FreeGrown.{pushed-numbers}
+use Rattle.seize_words.proofs.OneMemory.FreeGrown.{pushed-numbers}
 use Rattle.seize_words.proofs.free_numbers.add_word.Goals as goal
 
 pub returns-clause-same : goal.returns-clause-same

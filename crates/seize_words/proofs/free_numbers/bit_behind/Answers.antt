@@ -1,7 +1,7 @@
 use Rattle.std.proofs.Common.{rules, ◌<◌, ◌≤◌, ◌^◌}
 use Rattle.std.specs.Int.{bit_at}
 use Rattle.std.proofs.lemmas.Nat.Bits.{shr_and_one}
-use Rattle.seize_words.proofs.FreeTrees.{sought-more}
+use Rattle.seize_words.proofs.OneMemory.FreeTrees.{sought-more}
 use Rattle.seize_words.proofs.free_numbers.bit_behind.Goals as goal
 
 pub loop-bit-preserved : goal.loop-bit-preserved

@@ -1,5 +1,5 @@
 use Rattle.std.proofs.Common.{◌-◌}
-use Rattle.seize_words.proofs.FreeTrees.{IsSought}
+use Rattle.seize_words.proofs.OneMemory.FreeTrees.{IsSought}
 use Rattle.seize_words.proofs.free_numbers.bit_behind.Given as goal
 
 abbrev pub invariant-loop-bit : goal.invariant-loop-bit

@@ -1,5 +1,5 @@
 use Rattle.std.proofs.Common.{◌≡◌, length, refl, arith}
-use Rattle.seize_words.proofs.FreeGrown.{IsCopied, copied-begins, copied-ends, copied-flags, copied-more}
+use Rattle.seize_words.proofs.OneMemory.FreeGrown.{IsCopied, copied-begins, copied-ends, copied-flags, copied-more}
 use Rattle.seize_words.proofs.free_numbers.copy.Goals as goal
 
 pub loop-place-init : goal.loop-place-init

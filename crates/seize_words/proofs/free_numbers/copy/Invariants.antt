@@ -1,5 +1,5 @@
 use Rattle.std.proofs.Common.{length}
-use Rattle.seize_words.proofs.FreeGrown.{IsCopied}
+use Rattle.seize_words.proofs.OneMemory.FreeGrown.{IsCopied}
 use Rattle.seize_words.proofs.free_numbers.copy.Given as goal
 
 abbrev pub invariant-loop-place : goal.invariant-loop-place

@@ -2,7 +2,7 @@ use Rattle.std.proofs.Common.{rules, ◌<◌, ◌^◌, w64}
 use Rattle.std.specs.Prelude.{slice_index_or}
 use Rattle.std.specs.Int.{trailing_zeros}
 use Rattle.std.proofs.lemmas.Nat.Bits.{bit_at-trailing_zeros}
-use Rattle.seize_words.proofs.FreeTrees.{first-behind, node-behind}
+use Rattle.seize_words.proofs.OneMemory.FreeTrees.{first-behind, node-behind}
 use Rattle.seize_words.proofs.free_numbers.flag_behind.Goals as goal
 
 pub returns-then-before-eq0 : goal.returns-then-before-eq0

@@ -1,6 +1,6 @@
 use Rattle.std.proofs.Common.{rules, ◌+◌, ◌*◌, ◌<◌, ◌^◌, length, arith}
 use Rattle.std.specs.Prelude.{slice_index_or}
-use Rattle.seize_words.proofs.FreeTrees.{way-begins, way-ends, way-fits, way-next}
+use Rattle.seize_words.proofs.OneMemory.FreeTrees.{way-begins, way-ends, way-fits, way-next}
 use Rattle.seize_words.proofs.free_numbers.lowest.Goals as goal
 
 pub loop-node-init : goal.loop-node-init

@@ -1,5 +1,5 @@
 use Rattle.std.proofs.Common.{ℕ, ◌-◌}
-use Rattle.seize_words.proofs.FreeTrees.{IsOnWay}
+use Rattle.seize_words.proofs.OneMemory.FreeTrees.{IsOnWay}
 use Rattle.seize_words.proofs.free_numbers.lowest.Given as goal
 
 abbrev pub invariant-loop-node : goal.invariant-loop-node

@@ -1,7 +1,7 @@
 use Rattle.std.proofs.Common.{◌-◌, ◌/◌, ◌%◌, refl, arith}
 use Rattle.std.specs.Prelude.{◌≢◌, slice_index_or}
-use Rattle.seize_words.specs.FreeNumbers.{flag_of}
-use Rattle.seize_words.proofs.FreeTrees.{flag_of-unlike, mended-more}
+use Rattle.seize_words.specs.OneMemory.FreeNumbers.{flag_of}
+use Rattle.seize_words.proofs.OneMemory.FreeTrees.{flag_of-unlike, mended-more}
 use Rattle.seize_words.proofs.free_numbers.mend.Goals as goal
 
 pub loop-node-preserved : goal.loop-node-preserved

@@ -1,4 +1,4 @@
-use Rattle.seize_words.proofs.FreeTrees.{IsMended}
+use Rattle.seize_words.proofs.OneMemory.FreeTrees.{IsMended}
 use Rattle.seize_words.proofs.free_numbers.mend.Given as goal
 
 abbrev pub invariant-loop-node : goal.invariant-loop-node

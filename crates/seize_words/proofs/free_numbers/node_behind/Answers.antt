@@ -1,6 +1,6 @@
 use Rattle.std.proofs.Common.{rules, ◌<◌, ◌≤◌, ◌^◌, count_ones, arith}
 use Rattle.std.specs.Prelude.{slice_index_or}
-use Rattle.seize_words.proofs.FreeTrees.{scanned-begins, scanned-more}
+use Rattle.seize_words.proofs.OneMemory.FreeTrees.{scanned-begins, scanned-more}
 use Rattle.seize_words.proofs.free_numbers.node_behind.Goals as goal
 
 pub loop-left-init : goal.loop-left-init

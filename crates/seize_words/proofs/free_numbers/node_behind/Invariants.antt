@@ -1,5 +1,5 @@
 use Rattle.std.proofs.Common.{◌-◌, length}
-use Rattle.seize_words.proofs.FreeTrees.{IsScanned}
+use Rattle.seize_words.proofs.OneMemory.FreeTrees.{IsScanned}
 use Rattle.seize_words.proofs.free_numbers.node_behind.Given as goal
 
 abbrev pub invariant-loop-left : goal.invariant-loop-left

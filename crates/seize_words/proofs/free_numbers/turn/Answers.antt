@@ -1,4 +1,4 @@
-use Rattle.seize_words.proofs.FreeTrees.{turned-over}
+use Rattle.seize_words.proofs.OneMemory.FreeTrees.{turned-over}
 use Rattle.seize_words.proofs.free_numbers.turn.Goals as goal
 
 pub returns-clause-turned : goal.returns-clause-turned

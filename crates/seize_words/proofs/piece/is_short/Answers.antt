@@ -1,7 +1,7 @@
 use Rattle.std.proofs.Common.{IsOk, refl, sym, ◌∙◌}
 use denote.Param.{layout}
 use Rattle.core.specs.Layout.{layout_align, layout_size}
-use Rattle.seize_words.proofs.Pieces.{short_is}
+use Rattle.seize_words.proofs.OneMemory.Pieces.{short_is}
 use Rattle.seize_words.proofs.piece.is_short.Goals as goal
 
 pub returns : goal.returns

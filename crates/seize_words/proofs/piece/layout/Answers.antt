@@ -4,7 +4,7 @@ use prog.Memory.{capped}
 use prog.RawLaws.{size-raw}
 use denote.Param.{layout}
 use Rattle.core.specs.Layout.{layout_align, layout_size}
-use Rattle.seize_words.proofs.Pieces.{alignment_is, from_is, layout_is, size_is}
+use Rattle.seize_words.proofs.OneMemory.Pieces.{alignment_is, from_is, layout_is, size_is}
 use Rattle.seize_words.proofs.piece.layout.Goals as goal
 
 pub new-requires : goal.new-requires

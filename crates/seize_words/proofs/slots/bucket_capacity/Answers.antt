@@ -1,5 +1,5 @@
 use Rattle.std.proofs.Math.Nat.{mod-eq_of_lt}
-use Rattle.seize_words.proofs.Places.Buckets.{capacity_fits}
+use Rattle.seize_words.proofs.OneMemory.Places.Buckets.{capacity_fits}
 use Rattle.seize_words.proofs.slots.bucket_capacity.Goals as goal
 
 pub returns : goal.returns

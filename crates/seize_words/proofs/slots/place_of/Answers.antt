@@ -1,5 +1,5 @@
 use Rattle.std.proofs.Common.{◌+◌, arith}
-use Rattle.seize_words.proofs.Places.Buckets.{five_le_digits, is_place}
+use Rattle.seize_words.proofs.OneMemory.Places.Buckets.{five_le_digits, is_place}
 use Rattle.seize_words.proofs.slots.place_of.Goals as goal
 
 pub overflow_sub-result : goal.overflow_sub-result

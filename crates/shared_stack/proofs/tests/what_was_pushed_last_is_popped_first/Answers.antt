@@ -1,5 +1,5 @@
 use Rattle.std.specs.Prelude.{None}
-use Rattle.seize_views.proofs.Notes.{rules_start}
+use Rattle.seize_views.proofs.Views.Notes.{rules_start}
 use Rattle.shared_stack.specs.declared.pile.Pile.{Pile}
 use Rattle.shared_stack.specs.declared.tests.Tally.{Tally}
 use Rattle.shared_stack.proofs.tests.what_was_pushed_last_is_popped_first.Goals as goal

@@ -1,5 +1,5 @@
 use Rattle.std.proofs.lemmas.Result.{IfOk-weaker, MatchResult-weaker}
-use Rattle.papaya_shared.specs.Answers.{has_stored}
+use Rattle.threads_calls.specs.Answers.{has_stored}
 use Rattle.papaya_map.proofs.OneMap.{lacked, not_tried}
 use Rattle.papaya_map.proofs.session.Session.try_insert.Goals as goal
 

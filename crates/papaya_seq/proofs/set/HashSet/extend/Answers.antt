@@ -3,7 +3,7 @@ use Rattle.std.proofs.Common.{[], ◌∷◌, ◌++◌, ◌∙◌, refl, sym, sub
 use Rattle.std.proofs.iter.Next.{Yields-more}
 use Rattle.std.proofs.lemmas.List.Sorted.{IsPermutation-trans}
 use Rattle.std.specs.Iterator.{Yields}
-use Rattle.papaya_seq_map.proofs.Given.{balanced_still, kept_balances}
+use Rattle.owner_map.proofs.Given.{balanced_still, kept_balances}
 use Rattle.papaya_seq.specs.Sets.{put_all_in}
 use Rattle.papaya_seq.proofs.Stored.{stored_first, stored_more}
 use Rattle.papaya_seq.proofs.set.HashSet.extend.Goals as goal

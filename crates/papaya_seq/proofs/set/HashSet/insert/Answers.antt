@@ -4,7 +4,7 @@ use Rattle.std.specs.List.Sorted.{IsPermutation}
 use Rattle.std.specs.Map.{keys_of}
 use Rattle.std.proofs.Common.{◌∙◌, ap, sym, subst}
 use Rattle.seize_words.specs.declared.fault.Fault.TheVariants.{Capacity}
-use Rattle.papaya_seq_map.specs.Given.{CannotGrow, RefusedKey, if_stored, put}
+use Rattle.owner_map.specs.Given.{CannotGrow, RefusedKey, if_stored, put}
 use Rattle.papaya_seq.specs.Sets.{KeepsIn, Set, put_in, set_of}
 use Rattle.papaya_seq.proofs.Sets.{key_found, key_found_in_order, keys_are_found, keys_held, keys_in_order, keys_put, new_so}
 use Rattle.papaya_seq.proofs.set.HashSet.insert.Goals.{in-Ok, in-Err}

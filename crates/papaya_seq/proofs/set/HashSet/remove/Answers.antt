@@ -4,7 +4,7 @@ use Rattle.std.specs.List.Sorted.{IsPermutation}
 use Rattle.std.specs.Map.{keys_of}
 use Rattle.std.proofs.Common.{◌∙◌, ap, sym, subst}
 use Rattle.std.proofs.lemmas.Result.{IfOk-weaker, MatchResult-weaker, on_ok_weaker, on_err_weaker}
-use Rattle.papaya_seq_map.specs.Given.{left_by}
+use Rattle.owner_map.specs.Given.{left_by}
 use Rattle.papaya_seq.specs.Sets.{KeepsIn, Set, left_in, set_of}
 use Rattle.papaya_seq.proofs.Sets.{key_found, keys_are_found, keys_held, keys_in_order, keys_left}
 use Rattle.papaya_seq.proofs.set.HashSet.remove.Goals as goal

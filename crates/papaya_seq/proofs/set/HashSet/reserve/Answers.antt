@@ -6,7 +6,7 @@ use Rattle.std.proofs.Common.{ap, sym, subst, ◌∙◌}
 use Rattle.std.proofs.lemmas.List.{length-map}
 use Rattle.seize_words.specs.declared.fault.Fault.{Fault}
 use Rattle.seize_words.specs.declared.fault.Fault.TheVariants.{Capacity}
-use Rattle.papaya_seq_map.specs.Given.{CannotGrow, FirstHas, NeedTooMany, needed}
+use Rattle.owner_map.specs.Given.{CannotGrow, FirstHas, NeedTooMany, needed}
 use Rattle.papaya_seq.specs.Sets.{KeepsIn, Set, set_of}
 use Rattle.papaya_seq.proofs.Sets.{keys_held, keys_in_order}
 use Rattle.papaya_seq.proofs.set.HashSet.reserve.Goals as goal

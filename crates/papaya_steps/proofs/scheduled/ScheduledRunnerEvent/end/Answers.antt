@@ -1,7 +1,7 @@
 -- The run that has come to its end.
 use Rattle.std.specs.Prelude.{◌%◌, ◌^◌, ℕ, fold}
-use Rattle.papaya_running.specs.Given.SchedulerPlayed.{terms_given}
-use Rattle.papaya_running.specs.Run.{bounded}
+use Rattle.play_events.specs.Given.SchedulerPlayed.{terms_given}
+use Rattle.papaya_steps.specs.WholeRuns.Run.{bounded}
 use Rattle.papaya_steps.proofs.scheduled.ScheduledRunnerEvent.end.Goals as goal
 
 pub returns : goal.returns

@@ -1,6 +1,6 @@
 -- One more event has happened.
-use Rattle.papaya_running.specs.Given.SchedulerPlayed.{terms_given}
-use Rattle.papaya_running.specs.Run.{bounded}
+use Rattle.play_events.specs.Given.SchedulerPlayed.{terms_given}
+use Rattle.papaya_steps.specs.WholeRuns.Run.{bounded}
 use Rattle.papaya_steps.proofs.scheduled.ScheduledRunnerEvent.take_turn.Goals as goal
 
 pub returns : goal.returns

@@ -1,6 +1,6 @@
 -- What a `&` to a seat holds is made of a borrow of it, and lasts. Assumes `Logic`.
 use Rattle.seize_atoms.specs.Visiting.{seat_coded}
-use Rattle.seize_seats.specs.Errands.{coded_of}
+use Rattle.seize_seats.specs.Seats.Errands.{coded_of}
 use Rattle.std.proofs.Common.{[], ◌∷◌}
 use denote.Struct.Tuple.{Tuple}
 use denote.RattleType.{RattleType}
@@ -9,7 +9,7 @@ use denote.Param.Shared.{copy_shared}
 use denote.Struct.Laws.{field_copy}
 use denote.Struct.Lending.{of_Lends}
 use Rattle.std.specs.contracts.marker.PhantomData as marker
-use Rattle.seize_seats.proofs.Views.Shown.{seat_laws, lends_seat}
+use Rattle.seize_seats.proofs.Seats.Views.Shown.{seat_laws, lends_seat}
 use Rattle.seize_atoms.specs.declared.rule.Rule.{Ghosts}
 use Rattle.seize_atoms.specs.contracts.seat.Seat as seat
 use Rattle.seize_atoms.proofs.seat.Seat.TheLaw.Statement.{statement}

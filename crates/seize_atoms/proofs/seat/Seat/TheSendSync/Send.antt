@@ -2,7 +2,7 @@
 use Rattle.seize_atoms.specs.Visiting.{seat_coded}
 use denote.RattleType.{RattleType}
 use denote.Param.Send.{IsSend}
-use Rattle.seize_seats.proofs.Views.Sent.{seat_keyless}
+use Rattle.seize_seats.proofs.Seats.Views.Sent.{seat_keyless}
 use Rattle.seize_atoms.specs.declared.rule.Rule.{Ghosts}
 use Rattle.seize_atoms.specs.contracts.seat.Seat.{the_row}
 

@@ -4,7 +4,7 @@ use denote.RattleType.{RattleType}
 use denote.Param.Send.{IsSync, sendable}
 use denote.Struct.Struct.{Struct}
 use denote.Struct.Owning.{shape}
-use Rattle.seize_seats.proofs.Views.Sent.{seat_shares_keyless}
+use Rattle.seize_seats.proofs.Seats.Views.Sent.{seat_shares_keyless}
 use Rattle.seize_atoms.specs.declared.rule.Rule.{Ghosts}
 use Rattle.seize_atoms.specs.contracts.seat.Seat.{the_row, the_type}
 

@@ -6,10 +6,10 @@ use denote.Struct.Field.{RawPtr-field}
 use denote.Struct.Laws.{RawPtr-copy, field_copy}
 use denote.Struct.Lending.{of_Lends}
 use Rattle.std.specs.contracts.marker.PhantomData as marker
-use Rattle.seize_seats.proofs.Views.Shown.{strip_laws, lends_strip}
+use Rattle.seize_seats.proofs.Seats.Views.Shown.{strip_laws, lends_strip}
 use Rattle.seize_atoms.specs.contracts.strip.Strip as strip
 use Rattle.seize_atoms.proofs.strip.Strip.TheLaw.Statement.{statement}
-use Rattle.seize_plots.specs.contracts.kept.Kept as kept_of
+use Rattle.seize_seats.specs.contracts.kept.Kept as kept_of
 
 pub shares : (T : RattleType) (LT : Laws T) → statement T LT
 shares T LT = of_Lends (strip.struct T) (strip.the_codes T.Denot T.coded (marker.the_row T).coded) (strip.the_heap T) (strip.the_lent T)

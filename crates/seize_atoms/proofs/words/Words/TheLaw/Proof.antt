@@ -9,12 +9,12 @@ use denote.Struct.Field.{RawPtr-field}
 use denote.Struct.Laws.{RawPtr-copy, field_copy}
 use denote.Struct.Lending.{of_Lends}
 use Rattle.std.specs.contracts.marker.PhantomData as marker
-use Rattle.seize_seats.proofs.Views.Shown.{words_laws, lends_words}
+use Rattle.seize_seats.proofs.Seats.Views.Shown.{words_laws, lends_words}
 use Rattle.seize_atoms.specs.declared.rule.Rule.{Ghosts}
 use Rattle.seize_atoms.specs.contracts.words.Words as words
 use Rattle.seize_atoms.proofs.words.Words.TheLaw.Statement.{statement}
-use Rattle.seize_plots.specs.contracts.kept.Kept as kept_of
-use Rattle.seize_plots.specs.Pieces.{kept_words}
+use Rattle.seize_seats.specs.contracts.kept.Kept as kept_of
+use Rattle.seize_seats.specs.Plots.Pieces.{kept_words}
 
 pub shares : (T R V F : RattleType) (g : Ghosts R.Denot T.Denot V.Denot F.Denot) (LT : Laws T) (LR : Laws R) (LV : Laws V) (LF : Laws F)
     → statement T R V F g LT LR LV LF

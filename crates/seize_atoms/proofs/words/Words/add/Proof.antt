@@ -1,8 +1,8 @@
 -- `add` is one step on the word, and the seat goes with it.
 use Rattle.seize_atoms.specs.Visiting.{Seen, HoldsHere, HoldsSince, keeps_here, seat_coded}
-use Rattle.seize_seats.specs.Errands.{coded_of, then_away}
+use Rattle.seize_seats.specs.Seats.Errands.{coded_of, then_away}
 use Rattle.seize_atoms.proofs.Allowed.{word_allowed, place_here}
-use Rattle.seize_seats.specs.Visits.{then_kept}
+use Rattle.seize_seats.specs.Seats.Visits.{then_kept}
 use Rattle.std.proofs.Common.{◌≡◌, ℕ, List, [], ◌∷◌, ◌+◌, ◌*◌, ◌%◌, ◌^◌, ◌<◌, sym, refl, lit<, w64, arith, subst}
 use mir.Syntax.{dcons, dnil, a_type, named}
 use mir.MapTy.{inst_fn}
@@ -36,27 +36,27 @@ use Rattle.core.proofs.atomic.Steps.{tail, Ptr-Good}
 use Rattle.std.specs.contracts.marker.PhantomData as marker
 use Rattle.std.proofs.raw_atomic.Walks.{proved, leaves}
 use Rattle.std.proofs.raw_atomic.Calls.{fm, seq_cst, found, finds, adds}
-use Rattle.seize_words.specs.Op.{Out, Add, Found}
+use Rattle.seize_words.specs.OneMemory.Op.{Out, Add, Found}
 use Rattle.seize_words.specs.declared.at.At.{At}
 use Rattle.seize_words.specs.contracts.at.At as at
-use Rattle.seize_seats.specs.State.{Allows}
-use Rattle.seize_seats.specs.Owned.{BaseId, IsPlaced, age, common, words_share}
-use Rattle.seize_seats.proofs.Views.Shown.{placed}
-use Rattle.seize_seats.proofs.Stepping.Steps as Steps
-use Rattle.seize_seats.proofs.Stepping.Moves.{seat as seat_of, gone_on}
-use Rattle.seize_seats.proofs.Stepping.OwnWords.{reached}
+use Rattle.seize_seats.specs.Seats.State.{Allows}
+use Rattle.seize_seats.specs.Seats.Owned.{BaseId, IsPlaced, age, common, words_share}
+use Rattle.seize_seats.proofs.Seats.Views.Shown.{placed}
+use Rattle.seize_seats.proofs.Seats.Stepping.Steps as Steps
+use Rattle.seize_seats.proofs.Seats.Stepping.Moves.{seat as seat_of, gone_on}
+use Rattle.seize_seats.proofs.Seats.Stepping.OwnWords.{reached}
 use Rattle.seize_atoms.specs.Placed.{IsItsPlace}
 use Rattle.seize_atoms.specs.contracts.words.Words as words
 use Rattle.seize_atoms.specs.contracts.seat.Seat as seat
-use Rattle.seize_plots.specs.contracts.kept.Kept as kept_of
-use Rattle.seize_plots.specs.Pieces.{kept_words, value_of}
+use Rattle.seize_seats.specs.contracts.kept.Kept as kept_of
+use Rattle.seize_seats.specs.Plots.Pieces.{kept_words, value_of}
 use Rattle.seize_atoms.proofs.Fields.{Data}
 use Rattle.seize_atoms.specs.contracts.words.Words.add.{ended, clauses}
 use Rattle.seize_atoms.specs.contracts.words.Words.add.Key.{name as #self}
 use Rattle.seize_atoms.proofs.words.Words.add.Statement.{statement}
 use Rattle.seize_atoms.proofs.words.Words.add.Code as code
-use Rattle.seize_seats.specs.Stretches.{seat_owns}
-use Rattle.seize_seats.proofs.Views.Stretches.{ends, begins}
+use Rattle.seize_seats.specs.Seats.Stretches.{seat_owns}
+use Rattle.seize_seats.proofs.Seats.Views.Stretches.{ends, begins}
 
 pub add_spec : {M : Type 1} → statement M
 add_spec 𝓤 𝓛 𝓜 𝓡 wired X P U F LX LP LU LF g d _ =

@@ -1,10 +1,10 @@
 -- `alone` ends the lifetime of the memory and begins another one, under another rule, in which there is one seat, and takes no step of the machine.
 use Rattle.seize_atoms.specs.Visiting.{Seen, HoldsSince, seat_coded}
-use Rattle.seize_seats.specs.Errands.{RenewsTo, Away, coded_of}
-use Rattle.seize_seats.specs.Start.{WasIdle}
-use Rattle.seize_seats.specs.State.{State}
-use Rattle.seize_seats.specs.Visits.{plain_memory, fresh}
-use Rattle.seize_words.specs.Mem.{Mem}
+use Rattle.seize_seats.specs.Seats.Errands.{RenewsTo, Away, coded_of}
+use Rattle.seize_seats.specs.Seats.Start.{WasIdle}
+use Rattle.seize_seats.specs.Seats.State.{State}
+use Rattle.seize_seats.specs.Seats.Visits.{plain_memory, fresh}
+use Rattle.seize_words.specs.OneMemory.Mem.{Mem}
 use Rattle.seize_atoms.proofs.Allowed.{comes_alone, was_idle}
 use Rattle.std.specs.Prelude.{Some, None}
 use Rattle.std.proofs.Common.{◌≡◌, ℕ, List, [], ◌∷◌, refl}
@@ -35,10 +35,10 @@ use denote.Ref.{shr_vals, shr_Tells}
 use denote.Triple.Walked.{Stays, stay_dropped, walk_of, Goes-dropped}
 use Rattle.core.proofs.atomic.Steps.{Ptr-Good}
 use Rattle.std.proofs.raw_atomic.Walks.{proved, leaves}
-use Rattle.seize_seats.specs.Stretches.{seat_owns}
-use Rattle.seize_seats.proofs.Views.Stretches.{begins}
-use Rattle.seize_seats.specs.Owned.{BaseId, IsLike, words_own}
-use Rattle.seize_seats.proofs.Renewal.{goes_on, shows_nothing, seat_of, WasFound}
+use Rattle.seize_seats.specs.Seats.Stretches.{seat_owns}
+use Rattle.seize_seats.proofs.Seats.Views.Stretches.{begins}
+use Rattle.seize_seats.specs.Seats.Owned.{BaseId, IsLike, words_own}
+use Rattle.seize_seats.proofs.Seats.Renewal.{goes_on, shows_nothing, seat_of, WasFound}
 use Rattle.seize_atoms.specs.contracts.words.Words as words
 use Rattle.seize_atoms.specs.contracts.seat.Seat as seat
 use Rattle.seize_atoms.proofs.Fields.{Data, Token, token, token_made, told, hand_of, hand_made, hand_good, had_good}
@@ -50,9 +50,9 @@ use Rattle.core.proofs.once.Steps.{option_lives}
 use Rattle.core.proofs.option.Option.TheLaws.{the_row_laws as option_laws}
 use Rattle.core.specs.contracts.option.Option.{the_row as OptionOf}
 use Rattle.seize_atoms.proofs.Lives.{kept_lives}
-use Rattle.seize_plots.specs.contracts.kept.Kept as kept_of
-use Rattle.seize_plots.proofs.kept.Kept.TheLaws.{the_row_laws as kept_laws}
-use Rattle.seize_plots.specs.Pieces.{kept_words, value_of}
+use Rattle.seize_seats.specs.contracts.kept.Kept as kept_of
+use Rattle.seize_seats.proofs.kept.Kept.TheLaws.{the_row_laws as kept_laws}
+use Rattle.seize_seats.specs.Plots.Pieces.{kept_words, value_of}
 
 pub alone_spec : {M : Type 1} → statement M
 alone_spec 𝓤 𝓛 𝓜 𝓡 wired X P U F N V G LX LP LU LF LN LV LG g d g' d' _ _ =

@@ -1,8 +1,8 @@
 -- `ask_room` loads the door of a bucket of slots, and the seat goes with it where that is a step.
 use Rattle.seize_atoms.specs.Visiting.{Seen, HoldsSince, keeps_here, seat_coded}
-use Rattle.seize_seats.specs.Errands.{coded_of, then_away}
+use Rattle.seize_seats.specs.Seats.Errands.{coded_of, then_away}
 use Rattle.seize_atoms.proofs.Allowed.{word_allowed}
-use Rattle.seize_seats.specs.Visits.{then_kept}
+use Rattle.seize_seats.specs.Seats.Visits.{then_kept}
 use Rattle.std.proofs.Common.{◌≡◌, ℕ, Bool, true, false, suc, ◌-◌, ◌≤◌, ◌∙◌, ap, List, [], ◌∷◌, ◌+◌, ◌*◌, ◌^◌, ◌<◌, sym, refl, w64, arith, subst}
 use mir.Syntax.{dcons, dnil, a_type, named}
 use mir.MapTy.{inst_fn}
@@ -38,26 +38,26 @@ use Rattle.std.proofs.raw_atomic.Walks.{proved, leaves}
 use Rattle.std.proofs.raw_atomic.Calls.{fm, seq_cst}
 use Rattle.std.proofs.raw_atomic.PtrCalls.{found, finds, loads, seq_cst_good}
 use Rattle.std.specs.Prelude.{Ok, Err}
-use Rattle.seize_words.specs.Op.{Out, Room, Roomed}
+use Rattle.seize_words.specs.OneMemory.Op.{Out, Room, Roomed}
 use Rattle.seize_words.specs.declared.fault.Fault.TheVariants.{Memory}
-use Rattle.seize_seats.specs.State.{Allows}
-use Rattle.seize_seats.specs.Owned.{BaseId, IsPlaced, age, common, words_share}
-use Rattle.seize_seats.proofs.Views.Shown.{placed}
-use Rattle.seize_seats.proofs.Stepping.Moves.{seat as seat_of, gone_on}
-use Rattle.seize_seats.proofs.Growing.RoomSteps.{answered, asks}
+use Rattle.seize_seats.specs.Seats.State.{Allows}
+use Rattle.seize_seats.specs.Seats.Owned.{BaseId, IsPlaced, age, common, words_share}
+use Rattle.seize_seats.proofs.Seats.Views.Shown.{placed}
+use Rattle.seize_seats.proofs.Seats.Stepping.Moves.{seat as seat_of, gone_on}
+use Rattle.seize_seats.proofs.Seats.Growing.RoomSteps.{answered, asks}
 use Rattle.seize_atoms.proofs.Asked.{Answered, answers}
 use Rattle.seize_atoms.specs.contracts.words.Words as words
 use Rattle.seize_atoms.specs.contracts.seat.Seat as seat
-use Rattle.seize_plots.specs.contracts.kept.Kept as kept_of
-use Rattle.seize_plots.specs.Pieces.{kept_words, value_of}
-use Rattle.seize_plots.specs.contracts.place.Address as address
+use Rattle.seize_seats.specs.contracts.kept.Kept as kept_of
+use Rattle.seize_seats.specs.Plots.Pieces.{kept_words, value_of}
+use Rattle.seize_seats.specs.contracts.place.Address as address
 use Rattle.seize_atoms.proofs.Fields.{word_laws, Data, one_of, one_good, address_made}
 use Rattle.seize_atoms.specs.contracts.words.Words.ask_room.{ended, clauses}
 use Rattle.seize_atoms.specs.contracts.words.Words.ask_room.Key.{name as #self}
 use Rattle.seize_atoms.proofs.words.Words.ask_room.Statement.{statement}
 use Rattle.seize_atoms.proofs.words.Words.ask_room.Code as code
-use Rattle.seize_seats.specs.Stretches.{seat_owns}
-use Rattle.seize_seats.proofs.Views.Stretches.{ends, begins}
+use Rattle.seize_seats.specs.Seats.Stretches.{seat_owns}
+use Rattle.seize_seats.proofs.Seats.Views.Stretches.{ends, begins}
 
 pub ask_room_spec : {M : Type 1} → statement M
 ask_room_spec 𝓤 𝓛 𝓜 𝓡 wired X P U F LX LP LU LF g d _ =

@@ -29,9 +29,9 @@ use denote.Triple.Walked.{Stays, stay_dropped, walk_of, Goes-dropped}
 use Rattle.core.proofs.atomic.Steps.{tail}
 use Rattle.std.specs.contracts.marker.PhantomData as marker
 use Rattle.std.proofs.raw_atomic.Walks.{proved, leaves}
-use Rattle.seize_seats.specs.Stretches.{IsEven, invariant}
-use Rattle.seize_seats.specs.Owned.{Core, BaseId, core_of, everything, strip_told, words_share}
-use Rattle.seize_seats.proofs.Views.Shown.{told_there}
+use Rattle.seize_seats.specs.Seats.Stretches.{IsEven, invariant}
+use Rattle.seize_seats.specs.Seats.Owned.{Core, BaseId, core_of, everything, strip_told, words_share}
+use Rattle.seize_seats.proofs.Seats.Views.Shown.{told_there}
 use Rattle.seize_atoms.specs.contracts.words.Words as words
 use Rattle.seize_atoms.specs.contracts.strip.Strip as strip
 use Rattle.seize_atoms.proofs.Fields.{Data}
@@ -39,8 +39,8 @@ use Rattle.seize_atoms.specs.contracts.words.Words.by.{ended, clauses}
 use Rattle.seize_atoms.specs.contracts.words.Words.by.Key.{name as #self}
 use Rattle.seize_atoms.proofs.words.Words.by.Statement.{statement}
 use Rattle.seize_atoms.proofs.words.Words.by.Code as code
-use Rattle.seize_plots.specs.contracts.kept.Kept as kept_of
-use Rattle.seize_plots.specs.Pieces.{kept_words}
+use Rattle.seize_seats.specs.contracts.kept.Kept as kept_of
+use Rattle.seize_seats.specs.Plots.Pieces.{kept_words}
 
 pub by_spec : {M : Type 1} → statement M
 by_spec 𝓤 𝓛 𝓜 𝓡 wired X P U F LX LP LU LF g d _ =

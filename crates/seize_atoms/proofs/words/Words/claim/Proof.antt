@@ -18,7 +18,7 @@ use denote.Exit.{yes}
 use denote.RattleType.{RattleType, Valss, owns}
 use denote.Struct.Struct.{within}
 use denote.Struct.Declared as declared
-use denote.Struct.Tuple.{tuple_type}
+use denote.Struct.Tuple.{tuple_type, Tuple}
 use denote.Signature.{types_at, plain}
 use denote.RawPtr.{Ptr, block_ptr, block_of, count_of, at_block}
 use denote.Steps.{nothing, peeks, heard, looks, shuts}
@@ -29,16 +29,15 @@ use denote.Param.{param, bounded}
 use denote.Builtin.{RefOf, u64}
 use denote.Plain.{uint_vals, uint_Tells}
 use denote.Ref.{shr_vals, shr_Tells}
-use denote.Struct.Tuple.{Tuple}
 use denote.Struct.Lending.{lent_out}
 use denote.Triple.Walked.{Stays, stay_dropped, walk_of, Goes-dropped}
 use Rattle.core.proofs.atomic.Steps.{tail}
 use Rattle.std.specs.contracts.marker.PhantomData as marker
 use Rattle.std.proofs.raw_atomic.Walks.{proved, leaves}
 use Rattle.std.proofs.raw_atomic.Calls.{fm, seq_cst, found, finds, ors}
-use Rattle.seize_seats.specs.Owned.{BaseId, IsPlaced, age, common, claim_owns, words_share}
-use Rattle.seize_seats.proofs.Views.Shown.{placed}
-use Rattle.seize_seats.proofs.Blocks.Makings.{claims}
+use Rattle.seize_seats.specs.Seats.Owned.{BaseId, IsPlaced, age, common, claim_owns, words_share}
+use Rattle.seize_seats.proofs.Seats.Views.Shown.{placed}
+use Rattle.seize_seats.proofs.Seats.Blocks.Makings.{claims}
 use Rattle.seize_atoms.specs.Placed.{IsItsSign}
 use Rattle.seize_atoms.specs.contracts.words.Words as words
 use Rattle.seize_atoms.specs.contracts.claim.Claim as claim
@@ -47,8 +46,8 @@ use Rattle.seize_atoms.specs.contracts.words.Words.claim.{ended, clauses}
 use Rattle.seize_atoms.specs.contracts.words.Words.claim.Key.{name as #self}
 use Rattle.seize_atoms.proofs.words.Words.claim.Statement.{statement}
 use Rattle.seize_atoms.proofs.words.Words.claim.Code as code
-use Rattle.seize_plots.specs.contracts.kept.Kept as kept_of
-use Rattle.seize_plots.specs.Pieces.{kept_words}
+use Rattle.seize_seats.specs.contracts.kept.Kept as kept_of
+use Rattle.seize_seats.specs.Plots.Pieces.{kept_words}
 
 pub claim_spec : {M : Type 1} → statement M
 claim_spec 𝓤 𝓛 𝓜 𝓡 wired X P U F LX LP LU LF g d _ =

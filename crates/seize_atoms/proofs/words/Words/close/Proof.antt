@@ -25,31 +25,31 @@ use denote.Triple.Walked.{Stays, stay_dropped, walk_of, Goes-dropped}
 use denote.Triple.Entry.{alive}
 use Rattle.core.proofs.atomic.Steps.{Ptr-Good}
 use Rattle.std.proofs.raw_atomic.Walks.{proved, leaves}
-use Rattle.seize_seats.specs.Lines.{whole as all_words}
+use Rattle.seize_seats.specs.Seats.Lines.{whole as all_words}
 use Rattle.core.specs.contracts.option.Option.{the_row as OptionOf}
 use Rattle.core.specs.Mem.Slots.Ownership.{Filled}
 use Rattle.std.proofs.lemmas.List.{length-replicate}
-use Rattle.seize_seats.specs.Strips.{Strip}
-use Rattle.seize_seats.specs.Owned.{bucket_pieces, pieces, BaseId, IsFirst, stride, places, all_alone}
-use Rattle.seize_seats.specs.Plots.{all_full}
-use Rattle.seize_seats.specs.Owned as Owned
-use Rattle.seize_seats.specs.Doors.{pointers, IsFurther, AreBehind}
+use Rattle.seize_seats.specs.Seats.Strips.{Strip}
+use Rattle.seize_seats.specs.Seats.Owned.{bucket_pieces, pieces, BaseId, IsFirst, stride, places, all_alone}
+use Rattle.seize_seats.specs.Seats.Plots.{all_full}
+use Rattle.seize_seats.specs.Seats.Owned as Owned
+use Rattle.seize_seats.specs.Seats.Doors.{pointers, IsFurther, AreBehind}
 use Rattle.seize_atoms.specs.contracts.words.Words as words
-use Rattle.seize_plots.specs.contracts.row.Row as row
-use Rattle.seize_plots.specs.contracts.plot.Alone as alone
-use Rattle.seize_plots.specs.contracts.pieces.Pieces as pieces_of
+use Rattle.seize_seats.specs.contracts.row.Row as row
+use Rattle.seize_seats.specs.contracts.plot.Alone as alone
+use Rattle.seize_seats.specs.contracts.pieces.Pieces as pieces_of
 use Rattle.seize_atoms.proofs.Fields.{token, hand_of, told, hand_good, one_of, one_good, closed_good, Mark, mark_made, Places, places_made}
-use Rattle.seize_seats.proofs.Places.Slotted.{are_full, whole_in, Values, values_in, doorway_in}
-use Rattle.seize_seats.proofs.Places.Slotted as Placing
-use Rattle.seize_seats.proofs.Opening.{AreClosed, closes}
+use Rattle.seize_seats.proofs.Seats.Places.Slotted.{are_full, whole_in, Values, values_in, doorway_in}
+use Rattle.seize_seats.proofs.Seats.Places.Slotted as Placing
+use Rattle.seize_seats.proofs.Seats.Opening.{AreClosed, closes}
 use Rattle.seize_atoms.specs.contracts.words.Words.close.{ended, clauses}
 use Rattle.seize_atoms.specs.contracts.words.Words.close.Key.{name as #self}
 use Rattle.seize_atoms.proofs.words.Words.close.Statement.{statement}
 use Rattle.seize_atoms.proofs.words.Words.close.Code as code
-use Rattle.seize_plots.specs.contracts.kept.Kept as kept_of
+use Rattle.seize_seats.specs.contracts.kept.Kept as kept_of
 use Rattle.std.specs.Prelude.{map, Some, take}
-use Rattle.seize_plots.specs.Pieces.{kept_words, all_pieces, spot_of, bucket_spot, AreBucketsBehind}
-use Rattle.seize_plots.proofs.Spots.{spots, bucket_spots}
+use Rattle.seize_seats.specs.Plots.Pieces.{kept_words, all_pieces, spot_of, bucket_spot, AreBucketsBehind}
+use Rattle.seize_seats.proofs.Plots.Spots.{spots, bucket_spots}
 
 pub close_spec : {M : Type 1} → statement M
 close_spec 𝓤 𝓛 𝓜 𝓡 wired X P U F LX LP LU LF g d _ =

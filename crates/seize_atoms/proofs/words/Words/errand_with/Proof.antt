@@ -40,22 +40,22 @@ use Rattle.core.proofs.cell.Inside.{one}
 use Rattle.std.specs.contracts.marker.PhantomData as marker
 use Rattle.std.proofs.raw_atomic.Walks.{proved_at, leaves}
 use Rattle.std.proofs.raw_atomic.Calls.{fm}
-use Rattle.seize_plots.specs.contracts.kept.Kept as kept_of
-use Rattle.seize_plots.specs.Pieces.{kept_words}
-use Rattle.seize_seats.specs.Errands.{Away, Aided, By, Lends, coded_of}
-use Rattle.seize_seats.specs.Owned.{BaseId, words_share}
-use Rattle.seize_seats.specs.Seen.{seen}
-use Rattle.seize_seats.specs.Stretches.{seat_owns, seat_shares}
-use Rattle.seize_seats.proofs.Views.Stretches.{ends, begins}
-use Rattle.seize_seats.proofs.Stepping.Moves.{seat as seat_of}
-use Rattle.seize_seats.proofs.Stepping.Outings.{goes, returns as comes_home, pledge}
-use Rattle.seize_seats.proofs.Views.Inside.{Ends, begins_within}
-use Rattle.seize_seats.proofs.Views.Shown.{words_laws}
+use Rattle.seize_seats.specs.contracts.kept.Kept as kept_of
+use Rattle.seize_seats.specs.Plots.Pieces.{kept_words}
+use Rattle.seize_seats.specs.Seats.Errands.{Away, Aided, By, Lends, coded_of}
+use Rattle.seize_seats.specs.Seats.Owned.{BaseId, words_share}
+use Rattle.seize_seats.specs.Seats.Seen.{seen}
+use Rattle.seize_seats.specs.Seats.Stretches.{seat_owns, seat_shares}
+use Rattle.seize_seats.proofs.Seats.Views.Stretches.{ends, begins}
+use Rattle.seize_seats.proofs.Seats.Stepping.Moves.{seat as seat_of}
+use Rattle.seize_seats.proofs.Seats.Stepping.Outings.{goes, returns as comes_home, pledge}
+use Rattle.seize_seats.proofs.Seats.Views.Inside.{Ends, begins_within}
+use Rattle.seize_seats.proofs.Seats.Views.Shown.{words_laws}
 use Rattle.seize_atoms.specs.Visiting.{Seen, HoldsSince, keeps_here, seat_coded}
 use Rattle.seize_atoms.specs.contracts.words.Words as words
 use Rattle.seize_atoms.specs.contracts.seat.Seat as seat
 use Rattle.seize_atoms.proofs.Allowed.{errand_allowed}
-use Rattle.seize_seats.proofs.Views.Ledgers.{view_halves}
+use Rattle.seize_seats.proofs.Seats.Views.Ledgers.{view_halves}
 use types.Tokens.{shr_bor-open, obor_close}
 use Rattle.seize_atoms.proofs.Fields.{Data, Token}
 use Rattle.seize_atoms.proofs.words.Words.TheLaws.{the_row_laws as words_row_laws}

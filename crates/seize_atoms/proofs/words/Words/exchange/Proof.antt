@@ -1,8 +1,8 @@
 -- `exchange` is one step on the word, and the seat goes with it.
 use Rattle.seize_atoms.specs.Visiting.{Seen, HoldsHere, HoldsSince, keeps_here, seat_coded}
-use Rattle.seize_seats.specs.Errands.{coded_of, then_away}
+use Rattle.seize_seats.specs.Seats.Errands.{coded_of, then_away}
 use Rattle.seize_atoms.proofs.Allowed.{word_allowed, place_here}
-use Rattle.seize_seats.specs.Visits.{then_kept}
+use Rattle.seize_seats.specs.Seats.Visits.{then_kept}
 use Rattle.std.proofs.Common.{◌≡◌, ℕ, List, [], ◌∷◌, ◌+◌, ◌*◌, ◌^◌, ◌<◌, ◌==◌, subst, sym, refl, lit<, w64, arith}
 use mir.Syntax.{dcons, dnil, a_type, named}
 use mir.MapTy.{inst_fn}
@@ -45,29 +45,29 @@ use denote.Param.Shared.{copy_shared}
 use Rattle.std.specs.contracts.marker.PhantomData as marker
 use Rattle.std.proofs.raw_atomic.Walks.{proved, leaves}
 use Rattle.std.proofs.raw_atomic.Calls.{fm, seq_cst}
-use Rattle.seize_seats.proofs.Stepping.Exchanged.{Res, answered, exchanges}
-use Rattle.seize_seats.specs.Steps.{exchanged}
-use Rattle.seize_words.specs.Op.{Out, Exchange, Exchanged}
+use Rattle.seize_seats.proofs.Seats.Stepping.Exchanged.{Res, answered, exchanges}
+use Rattle.seize_seats.specs.Seats.Steps.{exchanged}
+use Rattle.seize_words.specs.OneMemory.Op.{Out, Exchange, Exchanged}
 use Rattle.seize_words.specs.declared.at.At.{At}
 use Rattle.seize_words.specs.contracts.at.At as at
-use Rattle.seize_seats.specs.State.{Allows}
-use Rattle.seize_seats.specs.Owned.{BaseId, IsPlaced, age, common, words_share}
-use Rattle.seize_seats.proofs.Views.Shown.{placed}
-use Rattle.seize_seats.proofs.Stepping.Steps as Steps
-use Rattle.seize_seats.proofs.Stepping.Moves.{seat as seat_of, gone_on}
-use Rattle.seize_seats.proofs.Stepping.OwnWords.{reached}
+use Rattle.seize_seats.specs.Seats.State.{Allows}
+use Rattle.seize_seats.specs.Seats.Owned.{BaseId, IsPlaced, age, common, words_share}
+use Rattle.seize_seats.proofs.Seats.Views.Shown.{placed}
+use Rattle.seize_seats.proofs.Seats.Stepping.Steps as Steps
+use Rattle.seize_seats.proofs.Seats.Stepping.Moves.{seat as seat_of, gone_on}
+use Rattle.seize_seats.proofs.Seats.Stepping.OwnWords.{reached}
 use Rattle.seize_atoms.specs.Placed.{IsItsPlace}
 use Rattle.seize_atoms.specs.contracts.words.Words as words
 use Rattle.seize_atoms.specs.contracts.seat.Seat as seat
-use Rattle.seize_plots.specs.contracts.kept.Kept as kept_of
-use Rattle.seize_plots.specs.Pieces.{kept_words, value_of}
+use Rattle.seize_seats.specs.contracts.kept.Kept as kept_of
+use Rattle.seize_seats.specs.Plots.Pieces.{kept_words, value_of}
 use Rattle.seize_atoms.proofs.Fields.{Data}
 use Rattle.seize_atoms.specs.contracts.words.Words.exchange.{ended, clauses}
 use Rattle.seize_atoms.specs.contracts.words.Words.exchange.Key.{name as #self}
 use Rattle.seize_atoms.proofs.words.Words.exchange.Statement.{statement}
 use Rattle.seize_atoms.proofs.words.Words.exchange.Code as code
-use Rattle.seize_seats.specs.Stretches.{seat_owns}
-use Rattle.seize_seats.proofs.Views.Stretches.{ends, begins}
+use Rattle.seize_seats.specs.Seats.Stretches.{seat_owns}
+use Rattle.seize_seats.proofs.Seats.Views.Stretches.{ends, begins}
 
 word_laws : Laws u64
 word_laws = of_field u64-field u64-laws refl (copy_shared u64-field u64-copy)

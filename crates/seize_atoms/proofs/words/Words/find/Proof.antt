@@ -1,6 +1,6 @@
 -- `find` loads a door behind which there is a strip, since it has the number of a block that three views show.
 use Rattle.seize_atoms.specs.Visiting.{Seen, HoldsSince, keeps_here, seat_coded}
-use Rattle.seize_seats.specs.Errands.{coded_of}
+use Rattle.seize_seats.specs.Seats.Errands.{coded_of}
 use Rattle.seize_atoms.proofs.Allowed.{shown_all_here}
 use Rattle.std.proofs.Common.{◌≡◌, ℕ, List, [], ◌∷◌, ◌+◌, ◌-◌, ◌*◌, ◌^◌, ◌<◌, ◌≤◌, sym, refl, ◌∙◌, subst, w64, arith}
 use mir.Syntax.{dcons, dnil, a_type, named}
@@ -36,14 +36,14 @@ use Rattle.std.specs.contracts.marker.PhantomData as marker
 use Rattle.std.proofs.raw_atomic.Walks.{proved, leaves}
 use Rattle.std.proofs.raw_atomic.Calls.{fm, seq_cst}
 use Rattle.std.proofs.raw_atomic.PtrCalls.{found, finds, loads, seq_cst_good}
-use Rattle.seize_seats.specs.Doors.{before}
-use Rattle.seize_seats.specs.Owned.{BaseId, IsPlaced, age, core_of, common, stride, strip_told, words_share}
-use Rattle.seize_seats.proofs.Views.Shown.{placed, told_there}
-use Rattle.seize_seats.specs.Lendings.{ShownToAll}
-use Rattle.seize_seats.specs.Stretches.{seat_shares}
-use Rattle.seize_seats.proofs.Views.Ledgers.{view_halves}
-use Rattle.seize_seats.proofs.Growing.Looks.{at_door, tells_strip}
-use Rattle.seize_seats.proofs.Growing.Finds.{met, finds as finds_strip}
+use Rattle.seize_seats.specs.Seats.Doors.{before}
+use Rattle.seize_seats.specs.Seats.Owned.{BaseId, IsPlaced, age, core_of, common, stride, strip_told, words_share}
+use Rattle.seize_seats.proofs.Seats.Views.Shown.{placed, told_there}
+use Rattle.seize_seats.specs.Seats.Lendings.{ShownToAll}
+use Rattle.seize_seats.specs.Seats.Stretches.{seat_shares}
+use Rattle.seize_seats.proofs.Seats.Views.Ledgers.{view_halves}
+use Rattle.seize_seats.proofs.Seats.Growing.Looks.{at_door, tells_strip}
+use Rattle.seize_seats.proofs.Seats.Growing.Finds.{met, finds as finds_strip}
 use Rattle.seize_atoms.specs.contracts.words.Words as words
 use Rattle.seize_atoms.specs.contracts.seat.Seat as seat
 use Rattle.seize_atoms.specs.contracts.strip.Strip as strip
@@ -52,8 +52,8 @@ use Rattle.seize_atoms.specs.contracts.words.Words.find.{ended, clauses}
 use Rattle.seize_atoms.specs.contracts.words.Words.find.Key.{name as #self}
 use Rattle.seize_atoms.proofs.words.Words.find.Statement.{statement}
 use Rattle.seize_atoms.proofs.words.Words.find.Code as code
-use Rattle.seize_plots.specs.contracts.kept.Kept as kept_of
-use Rattle.seize_plots.specs.Pieces.{kept_words}
+use Rattle.seize_seats.specs.contracts.kept.Kept as kept_of
+use Rattle.seize_seats.specs.Plots.Pieces.{kept_words}
 
 pub find_spec : {M : Type 1} → statement M
 find_spec 𝓤 𝓛 𝓜 𝓡 wired X P U F LX LP LU LF g d _ =

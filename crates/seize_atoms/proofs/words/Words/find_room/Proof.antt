@@ -1,6 +1,6 @@
 -- `find_room` loads a door behind which there is a bucket, since it has a slot of which a view shows a word; and it copies the address of the words.
 use Rattle.seize_atoms.specs.Visiting.{Seen, HoldsSince, keeps_here, seat_coded}
-use Rattle.seize_seats.specs.Errands.{coded_of}
+use Rattle.seize_seats.specs.Seats.Errands.{coded_of}
 use Rattle.seize_atoms.proofs.Allowed.{slot_here}
 use Rattle.std.proofs.Common.{◌≡◌, ℕ, suc, List, [], ◌∷◌, ◌+◌, ◌-◌, ◌*◌, ◌^◌, ◌<◌, ◌≤◌, sym, refl, ap, ◌∙◌, subst, w64, arith}
 use mir.Syntax.{dcons, dnil, a_type, named}
@@ -39,28 +39,28 @@ use Rattle.std.specs.contracts.marker.PhantomData as marker
 use Rattle.std.proofs.raw_atomic.Walks.{proved, leaves}
 use Rattle.std.proofs.raw_atomic.Calls.{fm, seq_cst}
 use Rattle.std.proofs.raw_atomic.PtrCalls.{found, finds, loads, seq_cst_good}
-use Rattle.seize_words.specs.Place.{capacity}
+use Rattle.seize_words.specs.OneMemory.Place.{capacity}
 use Rattle.seize_words.specs.declared.at.At.TheVariants.{Slot}
-use Rattle.seize_seats.specs.Strips.{Strip}
-use Rattle.seize_seats.specs.Buckets.{bucket_at, IsBucket}
-use Rattle.seize_seats.specs.Owned.{BaseId, IsPlaced, age, core_of, common, told as told_to_all, words_share}
-use Rattle.seize_seats.proofs.Views.Known as Known
-use Rattle.seize_seats.proofs.Views.Shown.{placed, told_there}
+use Rattle.seize_seats.specs.Seats.Strips.{Strip}
+use Rattle.seize_seats.specs.Seats.Buckets.{bucket_at, IsBucket}
+use Rattle.seize_seats.specs.Seats.Owned.{BaseId, IsPlaced, age, core_of, common, told as told_to_all, words_share}
+use Rattle.seize_seats.proofs.Seats.Views.Known as Known
+use Rattle.seize_seats.proofs.Seats.Views.Shown.{placed, told_there}
 use Rattle.seize_atoms.specs.Placed.{HasWord}
-use Rattle.seize_seats.specs.Stretches.{seat_shares}
-use Rattle.seize_seats.proofs.Views.Ledgers.{view_halves}
-use Rattle.seize_seats.proofs.Growing.Gates.{met, finds as finds_bucket}
+use Rattle.seize_seats.specs.Seats.Stretches.{seat_shares}
+use Rattle.seize_seats.proofs.Seats.Views.Ledgers.{view_halves}
+use Rattle.seize_seats.proofs.Seats.Growing.Gates.{met, finds as finds_bucket}
 use Rattle.seize_atoms.specs.contracts.words.Words as words
 use Rattle.seize_atoms.specs.contracts.seat.Seat as seat
 use Rattle.seize_atoms.specs.contracts.strip.Strip as strip
-use Rattle.seize_plots.specs.contracts.place.Address as address
+use Rattle.seize_seats.specs.contracts.place.Address as address
 use Rattle.seize_atoms.proofs.Fields.{word_laws, hand_of, hand_good, one_of, one_good, Data, told as stored, opened, Token, StripData, strip_made, address_made, found_room_good}
 use Rattle.seize_atoms.specs.contracts.words.Words.find_room.{ended, clauses}
 use Rattle.seize_atoms.specs.contracts.words.Words.find_room.Key.{name as #self}
 use Rattle.seize_atoms.proofs.words.Words.find_room.Statement.{statement}
 use Rattle.seize_atoms.proofs.words.Words.find_room.Code as code
-use Rattle.seize_plots.specs.contracts.kept.Kept as kept_of
-use Rattle.seize_plots.specs.Pieces.{kept_words}
+use Rattle.seize_seats.specs.contracts.kept.Kept as kept_of
+use Rattle.seize_seats.specs.Plots.Pieces.{kept_words}
 
 pub find_room_spec : {M : Type 1} → statement M
 find_room_spec 𝓤 𝓛 𝓜 𝓡 wired X P U F LX LP LU LF g d _ =

@@ -34,10 +34,10 @@ use Rattle.std.specs.contracts.marker.PhantomData as marker
 use Rattle.std.proofs.raw_atomic.Walks.{proved, leaves}
 use Rattle.std.proofs.raw_atomic.Calls.{fm, seq_cst}
 use Rattle.std.proofs.raw_atomic.PtrCalls.{found, finds, loads, seq_cst_good}
-use Rattle.seize_seats.specs.Doors.{before}
-use Rattle.seize_seats.specs.Owned.{BaseId, IsPlaced, age, core_of, common, stride, strip_told, words_share}
-use Rattle.seize_seats.proofs.Views.Shown.{placed}
-use Rattle.seize_seats.proofs.Growing.Looks.{glimpse, Fits, looks, at_door, tells_more}
+use Rattle.seize_seats.specs.Seats.Doors.{before}
+use Rattle.seize_seats.specs.Seats.Owned.{BaseId, IsPlaced, age, core_of, common, stride, strip_told, words_share}
+use Rattle.seize_seats.proofs.Seats.Views.Shown.{placed}
+use Rattle.seize_seats.proofs.Seats.Growing.Looks.{glimpse, Fits, looks, at_door, tells_more}
 use Rattle.seize_atoms.specs.contracts.words.Words as words
 use Rattle.seize_atoms.specs.contracts.strip.Strip as strip
 use Rattle.seize_atoms.proofs.Fields.{word_laws, hand_of, hand_good, Data, StripData, strip_made}
@@ -45,8 +45,8 @@ use Rattle.seize_atoms.specs.contracts.words.Words.look.{ended, clauses}
 use Rattle.seize_atoms.specs.contracts.words.Words.look.Key.{name as #self}
 use Rattle.seize_atoms.proofs.words.Words.look.Statement.{statement}
 use Rattle.seize_atoms.proofs.words.Words.look.Code as code
-use Rattle.seize_plots.specs.contracts.kept.Kept as kept_of
-use Rattle.seize_plots.specs.Pieces.{kept_words}
+use Rattle.seize_seats.specs.contracts.kept.Kept as kept_of
+use Rattle.seize_seats.specs.Plots.Pieces.{kept_words}
 
 pub look_spec : {M : Type 1} → statement M
 look_spec 𝓤 𝓛 𝓜 𝓡 wired X P U F LX LP LU LF g d _ =

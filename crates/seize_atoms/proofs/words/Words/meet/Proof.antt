@@ -1,7 +1,7 @@
 -- `meet` opens the invariant once for both seats, and takes no step of the machine.
 use Rattle.seize_atoms.specs.Visiting.{Seen, HoldsSince, keeps_here, seat_coded}
-use Rattle.seize_seats.specs.Visits.{onward}
-use Rattle.seize_seats.specs.Errands.{coded_of, MayMeet, MayLeanBoth}
+use Rattle.seize_seats.specs.Seats.Visits.{onward}
+use Rattle.seize_seats.specs.Seats.Errands.{coded_of, MayMeet, MayLeanBoth}
 use Rattle.seize_atoms.proofs.Allowed.{meet_allowed}
 use Rattle.std.proofs.Common.{◌≡◌, ℕ, List, [], ◌∷◌, sym, refl}
 use mir.Syntax.{dcons, dnil, a_type, named}
@@ -29,10 +29,10 @@ use denote.Struct.Lending.{lent_out}
 use denote.Triple.Walked.{Stays, stay_dropped, stay_ref, walk_of, Goes-dropped, Goes-ref}
 use Rattle.std.specs.contracts.marker.PhantomData as marker
 use Rattle.std.proofs.raw_atomic.Walks.{proved, leaves}
-use Rattle.seize_seats.specs.State.{Meets}
-use Rattle.seize_seats.specs.Owned.{BaseId, words_share}
-use Rattle.seize_seats.proofs.Stepping.Moves.{seat as seat_of}
-use Rattle.seize_seats.proofs.Stepping.Meetings.{meets, met}
+use Rattle.seize_seats.specs.Seats.State.{Meets}
+use Rattle.seize_seats.specs.Seats.Owned.{BaseId, words_share}
+use Rattle.seize_seats.proofs.Seats.Stepping.Moves.{seat as seat_of}
+use Rattle.seize_seats.proofs.Seats.Stepping.Meetings.{meets, met}
 use Rattle.seize_atoms.specs.contracts.words.Words as words
 use Rattle.seize_atoms.specs.contracts.seat.Seat as seat
 use Rattle.seize_atoms.proofs.Fields.{Data}
@@ -40,10 +40,10 @@ use Rattle.seize_atoms.specs.contracts.words.Words.meet.{ended, clauses}
 use Rattle.seize_atoms.specs.contracts.words.Words.meet.Key.{name as #self}
 use Rattle.seize_atoms.proofs.words.Words.meet.Statement.{statement}
 use Rattle.seize_atoms.proofs.words.Words.meet.Code as code
-use Rattle.seize_seats.specs.Stretches.{seat_owns}
-use Rattle.seize_seats.proofs.Views.Stretches.{ends, begins}
-use Rattle.seize_plots.specs.contracts.kept.Kept as kept_of
-use Rattle.seize_plots.specs.Pieces.{kept_words}
+use Rattle.seize_seats.specs.Seats.Stretches.{seat_owns}
+use Rattle.seize_seats.proofs.Seats.Views.Stretches.{ends, begins}
+use Rattle.seize_seats.specs.contracts.kept.Kept as kept_of
+use Rattle.seize_seats.specs.Plots.Pieces.{kept_words}
 
 pub meet_spec : {M : Type 1} → statement M
 meet_spec 𝓤 𝓛 𝓜 𝓡 wired X P U F N LX LP LU LF LN g d g' d' _ _ =

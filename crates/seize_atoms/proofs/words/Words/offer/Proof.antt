@@ -44,32 +44,32 @@ use Rattle.std.specs.contracts.impls.GlobalAllocator.TheImpl.{ghosts}
 use Rattle.std.proofs.raw_atomic.Walks.{proved, leaves}
 use Rattle.std.proofs.raw_atomic.Calls.{fm, seq_cst}
 use Rattle.std.proofs.raw_atomic.PtrCalls.{Answer, answer_val, answer_good, answered, hears, exchanges, seq_cst_good}
-use Rattle.seize_seats.specs.Seen.{fact as so, seen}
-use Rattle.seize_seats.specs.Strips.{Strip, strip_coded}
-use Rattle.seize_seats.specs.Doors.{before, block_bytes, words_from, IsFurther, right_to}
-use Rattle.seize_seats.specs.Owned.{pieces, BaseId, IsPlaced, AreOf, age, core_of, common, strip_of, strip_told, words_share}
-use Rattle.seize_seats.specs.Owned as Owned
-use Rattle.seize_seats.proofs.Views.Shown.{placed, told_there}
-use Rattle.seize_seats.proofs.Opening.{fives, fives_are, fives_long}
-use Rattle.seize_seats.proofs.Places.Plots.{tested}
-use Rattle.seize_seats.proofs.Growing.Offers as Offers
-use Rattle.seize_seats.specs.Plots.{HasFirst}
+use Rattle.seize_seats.specs.Seats.Seen.{fact as so, seen}
+use Rattle.seize_seats.specs.Seats.Strips.{Strip, strip_coded}
+use Rattle.seize_seats.specs.Seats.Doors.{before, block_bytes, words_from, IsFurther, right_to}
+use Rattle.seize_seats.specs.Seats.Owned.{pieces, BaseId, IsPlaced, AreOf, age, core_of, common, strip_of, strip_told, words_share}
+use Rattle.seize_seats.specs.Seats.Owned as Owned
+use Rattle.seize_seats.proofs.Seats.Views.Shown.{placed, told_there}
+use Rattle.seize_seats.proofs.Seats.Opening.{fives, fives_are, fives_long}
+use Rattle.seize_seats.proofs.Seats.Places.Plots.{tested}
+use Rattle.seize_seats.proofs.Seats.Growing.Offers as Offers
+use Rattle.seize_seats.specs.Seats.Plots.{HasFirst}
 use Rattle.seize_atoms.specs.contracts.words.Words as words
 use Rattle.seize_atoms.specs.contracts.strip.Strip as strip
-use Rattle.seize_plots.specs.contracts.row.Row as row
-use Rattle.seize_plots.specs.contracts.plot.Deed as deed_of
-use Rattle.seize_plots.specs.contracts.plot.Alone as alone_of
-use Rattle.seize_plots.specs.contracts.place.Place as place
+use Rattle.seize_seats.specs.contracts.row.Row as row
+use Rattle.seize_seats.specs.contracts.plot.Deed as deed_of
+use Rattle.seize_seats.specs.contracts.plot.Alone as alone_of
+use Rattle.seize_seats.specs.contracts.place.Place as place
 use Rattle.seize_atoms.proofs.Fields.{token, word_laws, Data, Mark, mark_told, mark_made, one_of, one_good, places_told, place_made, found_good, answer_made}
-use Rattle.seize_seats.proofs.Places.Slotted.{full_is, Fits, whole_out, Roomy, values_out, nones_are}
-use Rattle.seize_seats.proofs.Places.Plotted.{plot}
+use Rattle.seize_seats.proofs.Seats.Places.Slotted.{full_is, Fits, whole_out, Roomy, values_out, nones_are}
+use Rattle.seize_seats.proofs.Seats.Places.Plotted.{plot}
 use Rattle.seize_atoms.specs.contracts.words.Words.offer.{ended, clauses}
 use Rattle.seize_atoms.specs.contracts.words.Words.offer.Key.{name as #self}
 use Rattle.seize_atoms.proofs.words.Words.offer.Statement.{statement}
-use Rattle.seize_seats.proofs.Places.Pieces.{no_pieces}
+use Rattle.seize_seats.proofs.Seats.Places.Pieces.{no_pieces}
 use Rattle.seize_atoms.proofs.words.Words.offer.Code as code
-use Rattle.seize_plots.specs.contracts.kept.Kept as kept_of
-use Rattle.seize_plots.specs.Pieces.{kept_words}
+use Rattle.seize_seats.specs.contracts.kept.Kept as kept_of
+use Rattle.seize_seats.specs.Plots.Pieces.{kept_words}
 
 pub offer_spec : {M : Type 1} → statement M
 offer_spec 𝓤 𝓛 𝓜 𝓡 wired X P U F LX LP LU LF g d _ =

@@ -1,8 +1,8 @@
 -- `offer_room` exchanges null at a door for the address of a bucket's words: the bucket joins, or they come back; in both cases the seat goes with it.
 use Rattle.seize_atoms.specs.Visiting.{Seen, HoldsSince, keeps_here, seat_coded}
-use Rattle.seize_seats.specs.Errands.{coded_of, then_away}
+use Rattle.seize_seats.specs.Seats.Errands.{coded_of, then_away}
 use Rattle.seize_atoms.proofs.Allowed.{word_allowed}
-use Rattle.seize_seats.specs.Visits.{then_kept}
+use Rattle.seize_seats.specs.Seats.Visits.{then_kept}
 use Rattle.std.proofs.Common.{◌≡◌, ℕ, suc, replicate, ◌-◌, ◌≤◌, ◌∙◌, ap, List, [], ◌∷◌, ◌+◌, ◌*◌, ◌^◌, ◌<◌, sym, refl, w64, arith, subst}
 use mir.Syntax.{dcons, dnil, a_type, named}
 use mir.MapTy.{inst_fn}
@@ -10,7 +10,7 @@ use mir.Val.{Val, vint, vnull, vptr, vstruct, vcons, vnil}
 use prog.Wp.{WpFn}
 use base.Logic.{SProp, ent, emp, id⊢, via}
 use base.Fml.{Lft, Fml, ftrue, fsep, flft, fhide}
-use Rattle.seize_seats.proofs.Places.Grounds.{capacity_least}
+use Rattle.seize_seats.proofs.Seats.Places.Grounds.{capacity_least}
 use types.Kit.{group, fpack, ‵, raw, ◌⊛◌, given, mean, at_ret, ◌$◌, ◌∵◌, !, qed, by, move, keep, drop, split, split3, join, fsplit, fsplit3, fjoin, fjoin3, fpick, learn, use0, use1, rewrite, feq_i, some as items, later, pick, await, suffices}
 use types.Run.{lit, of_opd, bin, no_more, and_then, first, blocks, exec, Calls-last, returns, enter}
 use types.ByLocal.{alloc_all, pass_all, free_all, look_at, get, sets, env, lands_last}
@@ -41,31 +41,29 @@ use Rattle.std.proofs.raw_atomic.Walks.{proved, leaves}
 use Rattle.std.proofs.raw_atomic.Calls.{fm, seq_cst}
 use Rattle.std.proofs.raw_atomic.PtrCalls.{Answer, answer_val, answer_good, answered, hears, exchanges, seq_cst_good}
 use Rattle.std.specs.Prelude.{Ok, Err}
-use Rattle.seize_words.specs.Op.{Out, Room, Roomed}
-use Rattle.seize_words.specs.Place.{capacity}
+use Rattle.seize_words.specs.OneMemory.Op.{Out, Room, Roomed}
+use Rattle.seize_words.specs.OneMemory.Place.{capacity}
 use Rattle.core.specs.Result.{MatchResult}
 use Rattle.core.specs.declared.result.Result.{Result}
-use Rattle.seize_seats.specs.Owned.{words_right}
-use Rattle.seize_plots.specs.Pieces.{AreAt, piece_at}
-use Rattle.seize_seats.specs.State.{Allows}
-use Rattle.seize_seats.specs.Owned.{BaseId, IsPlaced, age, common, words_share}
-use Rattle.seize_seats.proofs.Views.Shown.{placed}
-use Rattle.seize_seats.proofs.Stepping.Moves.{seat as seat_of}
-use Rattle.seize_seats.proofs.Growing.RoomSteps.{won, lost, offers}
-use Rattle.seize_seats.proofs.Places.Plots.{words_tested}
+use Rattle.seize_seats.specs.Seats.Owned.{words_right, BaseId, IsPlaced, age, common, words_share}
+use Rattle.seize_seats.specs.Plots.Pieces.{AreAt, piece_at, kept_words, value_of}
+use Rattle.seize_seats.specs.Seats.State.{Allows}
+use Rattle.seize_seats.proofs.Seats.Views.Shown.{placed}
+use Rattle.seize_seats.proofs.Seats.Stepping.Moves.{seat as seat_of}
+use Rattle.seize_seats.proofs.Seats.Growing.RoomSteps.{won, lost, offers}
+use Rattle.seize_seats.proofs.Seats.Places.Plots.{words_tested}
 use Rattle.seize_atoms.specs.contracts.words.Words as words
 use Rattle.seize_atoms.specs.contracts.seat.Seat as seat
-use Rattle.seize_plots.specs.contracts.kept.Kept as kept_of
-use Rattle.seize_plots.specs.Pieces.{kept_words, value_of}
-use Rattle.seize_plots.specs.contracts.piece.Piece as piece_of
-use Rattle.seize_plots.specs.contracts.pieces.Pieces as pieces_of
+use Rattle.seize_seats.specs.contracts.kept.Kept as kept_of
+use Rattle.seize_seats.specs.contracts.piece.Piece as piece_of
+use Rattle.seize_seats.specs.contracts.pieces.Pieces as pieces_of
 use Rattle.seize_atoms.proofs.Fields.{token, mark_told, mark_made, Mark, word_laws, Data, offered_good, answer_made}
 use Rattle.seize_atoms.specs.contracts.words.Words.offer_room.{ended, clauses}
 use Rattle.seize_atoms.specs.contracts.words.Words.offer_room.Key.{name as #self}
 use Rattle.seize_atoms.proofs.words.Words.offer_room.Statement.{statement}
 use Rattle.seize_atoms.proofs.words.Words.offer_room.Code as code
-use Rattle.seize_seats.specs.Stretches.{seat_owns}
-use Rattle.seize_seats.proofs.Views.Stretches.{ends, begins}
+use Rattle.seize_seats.specs.Seats.Stretches.{seat_owns}
+use Rattle.seize_seats.proofs.Seats.Views.Stretches.{ends, begins}
 
 pub offer_room_spec : {M : Type 1} → statement M
 offer_room_spec 𝓤 𝓛 𝓜 𝓡 wired X P U F LX LP LU LF g d _ =

@@ -30,28 +30,28 @@ use denote.Ref.{shr_vals, shr_Tells}
 use denote.Triple.Walked.{Stays, stay_dropped, walk_of, Goes-dropped}
 use Rattle.core.proofs.atomic.Steps.{Ptr-Good}
 use Rattle.std.proofs.raw_atomic.Walks.{proved, leaves}
-use Rattle.seize_seats.specs.Visits.{fresh}
-use Rattle.seize_seats.specs.Lines.{whole as all_words}
+use Rattle.seize_seats.specs.Seats.Visits.{fresh}
+use Rattle.seize_seats.specs.Seats.Lines.{whole as all_words}
 use Rattle.core.specs.contracts.option.Option.{the_row as OptionOf}
-use Rattle.seize_seats.specs.Owned.{BaseId, IsFirst, words_own, stride, places}
-use Rattle.seize_seats.specs.Owned as Owned
-use Rattle.seize_seats.specs.Doors.{pointers}
+use Rattle.seize_seats.specs.Seats.Owned.{BaseId, IsFirst, words_own, stride, places}
+use Rattle.seize_seats.specs.Seats.Owned as Owned
+use Rattle.seize_seats.specs.Seats.Doors.{pointers}
 use Rattle.seize_atoms.specs.contracts.words.Words as words
-use Rattle.seize_plots.specs.contracts.row.Row as row
-use Rattle.seize_plots.specs.contracts.place.Place as place
-use Rattle.seize_plots.specs.contracts.place.Doors as doors
+use Rattle.seize_seats.specs.contracts.row.Row as row
+use Rattle.seize_seats.specs.contracts.place.Place as place
+use Rattle.seize_seats.specs.contracts.place.Doors as doors
 use Rattle.seize_atoms.proofs.Fields.{hand_of, hand_good, hand_made, one_of, one_good, places_told, place_made, doors_made, opened_good, Data}
 use Rattle.core.specs.Mem.Slots.Ownership.{owned, Filled}
-use Rattle.seize_seats.proofs.Places.Slotted.{full_is, Fits, whole_out, Roomy, values_out, nones_are, doorway_out, nulls_are}
-use Rattle.seize_seats.specs.State.{Starts}
-use Rattle.seize_seats.specs.Start.{bare}
-use Rattle.seize_seats.proofs.Opening.{opens}
+use Rattle.seize_seats.proofs.Seats.Places.Slotted.{full_is, Fits, whole_out, Roomy, values_out, nones_are, doorway_out, nulls_are}
+use Rattle.seize_seats.specs.Seats.State.{Starts}
+use Rattle.seize_seats.specs.Seats.Start.{bare}
+use Rattle.seize_seats.proofs.Seats.Opening.{opens}
 use Rattle.seize_atoms.specs.contracts.words.Words.open.{ended, clauses}
 use Rattle.seize_atoms.specs.contracts.words.Words.open.Key.{name as #self}
 use Rattle.seize_atoms.proofs.words.Words.open.Statement.{statement}
 use Rattle.seize_atoms.proofs.words.Words.open.Code as code
-use Rattle.seize_plots.specs.contracts.kept.Kept as kept_of
-use Rattle.seize_plots.specs.Pieces.{kept_words}
+use Rattle.seize_seats.specs.contracts.kept.Kept as kept_of
+use Rattle.seize_seats.specs.Plots.Pieces.{kept_words}
 
 pub open_spec : {M : Type 1} → statement M
 open_spec 𝓤 𝓛 𝓜 𝓡 wired X P U F LX LP LU LF g d _ =

@@ -1,7 +1,7 @@
 -- `part` opens the invariant once, as `turn` does, and finds there that no errand is lent the seat.
 use Rattle.seize_atoms.specs.Visiting.{Seen, HoldsSince, keeps_here, seat_coded}
-use Rattle.seize_seats.specs.Visits.{onward}
-use Rattle.seize_seats.specs.Errands.{coded_of, MayGo, MayLean, TurnsUnlent}
+use Rattle.seize_seats.specs.Seats.Visits.{onward}
+use Rattle.seize_seats.specs.Seats.Errands.{coded_of, MayGo, MayLean, TurnsUnlent}
 use Rattle.seize_atoms.proofs.Allowed.{part_allowed}
 use Rattle.std.proofs.Common.{◌≡◌, ℕ, List, [], ◌∷◌, sym, refl}
 use mir.Syntax.{dcons, dnil, a_type, named}
@@ -29,20 +29,20 @@ use denote.Struct.Lending.{lent_out}
 use denote.Triple.Walked.{Stays, stay_dropped, stay_ref, walk_of, Goes-dropped, Goes-ref}
 use Rattle.std.specs.contracts.marker.PhantomData as marker
 use Rattle.std.proofs.raw_atomic.Walks.{proved, leaves}
-use Rattle.seize_seats.specs.Owned.{BaseId, words_share}
-use Rattle.seize_seats.proofs.Stepping.Parting.{parts}
-use Rattle.seize_seats.proofs.Stepping.Moves.{gone_on, seat as seat_of}
+use Rattle.seize_seats.specs.Seats.Owned.{BaseId, words_share}
+use Rattle.seize_seats.proofs.Seats.Stepping.Parting.{parts}
+use Rattle.seize_seats.proofs.Seats.Stepping.Moves.{gone_on, seat as seat_of}
 use Rattle.seize_atoms.specs.contracts.words.Words as words
 use Rattle.seize_atoms.specs.contracts.seat.Seat as seat
-use Rattle.seize_plots.specs.contracts.kept.Kept as kept_of
-use Rattle.seize_plots.specs.Pieces.{kept_words}
+use Rattle.seize_seats.specs.contracts.kept.Kept as kept_of
+use Rattle.seize_seats.specs.Plots.Pieces.{kept_words}
 use Rattle.seize_atoms.proofs.Fields.{Data}
 use Rattle.seize_atoms.specs.contracts.words.Words.part.{ended, clauses}
 use Rattle.seize_atoms.specs.contracts.words.Words.part.Key.{name as #self}
 use Rattle.seize_atoms.proofs.words.Words.part.Statement.{statement}
 use Rattle.seize_atoms.proofs.words.Words.part.Code as code
-use Rattle.seize_seats.specs.Stretches.{seat_owns}
-use Rattle.seize_seats.proofs.Views.Stretches.{ends, begins}
+use Rattle.seize_seats.specs.Seats.Stretches.{seat_owns}
+use Rattle.seize_seats.proofs.Seats.Views.Stretches.{ends, begins}
 
 pub part_spec : {M : Type 1} → statement M
 part_spec 𝓤 𝓛 𝓜 𝓡 wired X P U F N LX LP LU LF LN g d g' d' _ _ =

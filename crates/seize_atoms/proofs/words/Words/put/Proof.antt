@@ -1,8 +1,8 @@
 -- `put` takes the place of a claimed number out, writes the value there, and gives it back as a block.
 use Rattle.seize_atoms.specs.Visiting.{Seen, HoldsSince, keeps_here, seat_coded}
-use Rattle.seize_seats.specs.Errands.{coded_of, then_away}
+use Rattle.seize_seats.specs.Seats.Errands.{coded_of, then_away}
 use Rattle.seize_atoms.proofs.Allowed.{make_allowed}
-use Rattle.seize_seats.specs.Visits.{then_kept}
+use Rattle.seize_seats.specs.Seats.Visits.{then_kept}
 use Rattle.std.proofs.Common.{◌≡◌, ℕ, List, [], ◌∷◌, ◌++◌, ◌+◌, ◌-◌, ◌*◌, ◌^◌, ◌<◌, sym, refl, ap, ◌∙◌, subst, arith, w64, replicate, Option, None, Some, Ok}
 use mir.Syntax.{dcons, dnil, a_type}
 use mir.MapTy.{inst_fn}
@@ -46,34 +46,33 @@ use Rattle.core.proofs.option.Option.TheLaws.{the_row_laws as option_laws}
 use Rattle.core.specs.contracts.option.Option.{the_row as OptionOf}
 use Rattle.std.specs.contracts.marker.PhantomData as marker
 use Rattle.std.proofs.raw_atomic.Walks.{proved_at, leaves}
-use Rattle.seize_words.specs.Op.{Out, Make, Made}
-use Rattle.seize_seats.specs.State.{Allows}
-use Rattle.seize_seats.specs.Owned.{piece, BaseId, IsPlaced, Hand, age, common, told as told_to_all, IsIts, claim_owns, resting, busy, zeros, place, stride, words_share}
-use Rattle.seize_seats.proofs.Views.Shown.{placed}
-use Rattle.seize_seats.proofs.Stepping.Moves.{reach, seat as seat_of, gone_on}
-use Rattle.seize_seats.proofs.Blocks.Makings.{hands, contents, withdraws, publishes, offers as offered_at}
+use Rattle.seize_words.specs.OneMemory.Op.{Out, Make, Made}
+use Rattle.seize_seats.specs.Seats.State.{Allows}
+use Rattle.seize_seats.specs.Seats.Owned.{piece, BaseId, IsPlaced, Hand, age, common, told as told_to_all, IsIts, claim_owns, resting, busy, zeros, place, stride, words_share}
+use Rattle.seize_seats.proofs.Seats.Views.Shown.{placed}
+use Rattle.seize_seats.proofs.Seats.Stepping.Moves.{reach, seat as seat_of, gone_on}
+use Rattle.seize_seats.proofs.Seats.Blocks.Makings.{hands, contents, withdraws, publishes, offers as offered_at}
 use Rattle.seize_atoms.specs.contracts.words.Words as words
 use Rattle.seize_atoms.specs.contracts.seat.Seat as seat
 use Rattle.seize_atoms.specs.contracts.claim.Claim as claim
 use Rattle.seize_atoms.proofs.Fields.{Data, token, mark_told, claim_of, claim_told}
-use Rattle.seize_seats.proofs.Places.Values.{uncapped, indexed}
+use Rattle.seize_seats.proofs.Seats.Places.Values.{uncapped, indexed}
 use Rattle.seize_atoms.specs.contracts.words.Words.put.{ended, clauses}
 use Rattle.seize_atoms.specs.contracts.words.Words.put.Key.{name as #self}
 use Rattle.seize_atoms.proofs.words.Words.put.Statement.{statement}
 use Rattle.seize_atoms.proofs.words.Words.put.Code as code
-use Rattle.seize_seats.specs.Stretches.{seat_owns}
-use Rattle.seize_seats.proofs.Views.Stretches.{ends, begins}
-use Rattle.seize_seats.proofs.Views.Known.{twice}
-use Rattle.seize_seats.specs.Lendings.{lendable}
-use Rattle.seize_seats.proofs.Blocks.Lendings.{offers}
+use Rattle.seize_seats.specs.Seats.Stretches.{seat_owns}
+use Rattle.seize_seats.proofs.Seats.Views.Stretches.{ends, begins}
+use Rattle.seize_seats.proofs.Seats.Views.Known.{twice}
+use Rattle.seize_seats.specs.Seats.Lendings.{lendable}
+use Rattle.seize_seats.proofs.Seats.Blocks.Lendings.{offers}
 use contract.BorrowLft.{◌⊑◌}
 use Rattle.core.proofs.once.Steps.{option_lives}
-use Rattle.seize_plots.specs.contracts.kept.Kept as kept_of
-use Rattle.seize_plots.proofs.kept.Kept.TheLaws.{the_row_laws as kept_laws}
-use Rattle.seize_plots.specs.Pieces.{kept_words, value_of}
+use Rattle.seize_seats.specs.contracts.kept.Kept as kept_of
+use Rattle.seize_seats.proofs.kept.Kept.TheLaws.{the_row_laws as kept_laws}
+use Rattle.seize_seats.specs.Plots.Pieces.{kept_words, value_of, piece_at}
 use Rattle.seize_atoms.proofs.Lives.{kept_lives, kept_goes}
-use Rattle.seize_plots.specs.Pieces.{piece_at}
-use Rattle.seize_plots.specs.contracts.piece.Piece as piece_of
+use Rattle.seize_seats.specs.contracts.piece.Piece as piece_of
 
 pub put_spec : {M : Type 1} → statement M
 put_spec 𝓤 𝓛 𝓜 𝓡 wired X P U F LX LP LU LF g d _ =

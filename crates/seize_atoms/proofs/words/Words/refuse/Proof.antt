@@ -1,8 +1,8 @@
 -- `refuse` opens the invariant once, and takes no step of the machine.
 use Rattle.seize_atoms.specs.Visiting.{Seen, HoldsSince, keeps_here, seat_coded}
-use Rattle.seize_seats.specs.Errands.{coded_of, then_away}
+use Rattle.seize_seats.specs.Seats.Errands.{coded_of, then_away}
 use Rattle.seize_atoms.proofs.Allowed.{make_allowed}
-use Rattle.seize_seats.specs.Visits.{then_kept}
+use Rattle.seize_seats.specs.Seats.Visits.{then_kept}
 use Rattle.std.proofs.Common.{◌≡◌, ℕ, List, [], ◌∷◌, sym, refl, w64}
 use mir.Syntax.{dcons, dnil, a_type, named}
 use mir.MapTy.{inst_fn}
@@ -31,21 +31,21 @@ use denote.Triple.Walked.{Stays, stay_dropped, stay_ref, walk_of, Goes-dropped, 
 use Rattle.std.specs.contracts.marker.PhantomData as marker
 use Rattle.std.proofs.raw_atomic.Walks.{proved, leaves}
 use Rattle.std.specs.Prelude.{Err}
-use Rattle.seize_words.specs.Op.{Out, Make, Made}
-use Rattle.seize_seats.specs.State.{Allows}
-use Rattle.seize_seats.specs.Owned.{BaseId, words_share}
-use Rattle.seize_seats.proofs.Stepping.Moves.{refuses, gone_on, seat as seat_of}
+use Rattle.seize_words.specs.OneMemory.Op.{Out, Make, Made}
+use Rattle.seize_seats.specs.Seats.State.{Allows}
+use Rattle.seize_seats.specs.Seats.Owned.{BaseId, words_share}
+use Rattle.seize_seats.proofs.Seats.Stepping.Moves.{refuses, gone_on, seat as seat_of}
 use Rattle.seize_atoms.specs.contracts.words.Words as words
 use Rattle.seize_atoms.specs.contracts.seat.Seat as seat
-use Rattle.seize_plots.specs.contracts.kept.Kept as kept_of
-use Rattle.seize_plots.specs.Pieces.{kept_words, value_of}
+use Rattle.seize_seats.specs.contracts.kept.Kept as kept_of
+use Rattle.seize_seats.specs.Plots.Pieces.{kept_words, value_of}
 use Rattle.seize_atoms.proofs.Fields.{Data}
 use Rattle.seize_atoms.specs.contracts.words.Words.refuse.{ended, clauses}
 use Rattle.seize_atoms.specs.contracts.words.Words.refuse.Key.{name as #self}
 use Rattle.seize_atoms.proofs.words.Words.refuse.Statement.{statement}
 use Rattle.seize_atoms.proofs.words.Words.refuse.Code as code
-use Rattle.seize_seats.specs.Stretches.{seat_owns}
-use Rattle.seize_seats.proofs.Views.Stretches.{ends, begins}
+use Rattle.seize_seats.specs.Seats.Stretches.{seat_owns}
+use Rattle.seize_seats.proofs.Seats.Views.Stretches.{ends, begins}
 
 pub refuse_spec : {M : Type 1} → statement M
 refuse_spec 𝓤 𝓛 𝓜 𝓡 wired X P U F LX LP LU LF g d _ =

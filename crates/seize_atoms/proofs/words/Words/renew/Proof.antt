@@ -1,10 +1,10 @@
 -- `renew` ends the lifetime of the memory and begins another one, and takes no step of the machine.
 use Rattle.seize_atoms.specs.Visiting.{Seen, HoldsSince, keeps_here, seat_coded}
-use Rattle.seize_seats.specs.Errands.{RenewsIdle}
-use Rattle.seize_seats.specs.Start.{WasIdle}
-use Rattle.seize_words.specs.Mem.{Mem}
-use Rattle.seize_seats.specs.State.{State}
-use Rattle.seize_seats.specs.Visits.{plain_memory}
+use Rattle.seize_seats.specs.Seats.Errands.{RenewsIdle}
+use Rattle.seize_seats.specs.Seats.Start.{WasIdle}
+use Rattle.seize_words.specs.OneMemory.Mem.{Mem}
+use Rattle.seize_seats.specs.Seats.State.{State}
+use Rattle.seize_seats.specs.Seats.Visits.{plain_memory}
 use Rattle.seize_atoms.proofs.Allowed.{renew_allowed, was_idle}
 use Rattle.std.proofs.Common.{◌≡◌, ℕ, List, [], ◌∷◌, refl}
 use mir.Syntax.{dcons, dnil, a_type, named}
@@ -26,8 +26,8 @@ use denote.Param.Laws.{Laws, param_laws}
 use denote.Ref.{mut_vals, mut_Tells}
 use denote.Triple.Walked.{Stays, stay_ref, walk_of, Goes-ref}
 use Rattle.std.proofs.raw_atomic.Walks.{proved, leaves}
-use Rattle.seize_seats.specs.Owned.{BaseId, IsLike, words_own}
-use Rattle.seize_seats.proofs.Renewal.{renews, WasFound}
+use Rattle.seize_seats.specs.Seats.Owned.{BaseId, IsLike, words_own}
+use Rattle.seize_seats.proofs.Seats.Renewal.{renews, WasFound}
 use Rattle.seize_atoms.specs.contracts.words.Words as words
 use Rattle.seize_atoms.specs.contracts.words.Words.renew.{ended, clauses}
 use Rattle.seize_atoms.specs.contracts.words.Words.renew.Key.{name as #self}
@@ -38,9 +38,9 @@ use Rattle.core.proofs.once.Steps.{option_lives}
 use Rattle.seize_atoms.proofs.Lives.{kept_lives}
 use Rattle.core.proofs.option.Option.TheLaws.{the_row_laws as option_laws}
 use Rattle.core.specs.contracts.option.Option.{the_row as OptionOf}
-use Rattle.seize_plots.specs.contracts.kept.Kept as kept_of
-use Rattle.seize_plots.proofs.kept.Kept.TheLaws.{the_row_laws as kept_laws}
-use Rattle.seize_plots.specs.Pieces.{kept_words, value_of}
+use Rattle.seize_seats.specs.contracts.kept.Kept as kept_of
+use Rattle.seize_seats.proofs.kept.Kept.TheLaws.{the_row_laws as kept_laws}
+use Rattle.seize_seats.specs.Plots.Pieces.{kept_words, value_of}
 
 pub renew_spec : {M : Type 1} → statement M
 renew_spec 𝓤 𝓛 𝓜 𝓡 wired X P U F LX LP LU LF g d _ =

@@ -1,8 +1,8 @@
 -- `rewrite` takes the value of a block in the hand, moves it out, puts another one in its place, and gives it back as the block's.
 use Rattle.seize_atoms.specs.Visiting.{Seen, HoldsHere, HoldsSince, keeps_here, seat_coded}
-use Rattle.seize_seats.specs.Errands.{coded_of, then_away}
+use Rattle.seize_seats.specs.Seats.Errands.{coded_of, then_away}
 use Rattle.seize_atoms.proofs.Allowed.{rewrite_allowed, owned_here, value_one}
-use Rattle.seize_seats.specs.Visits.{then_kept}
+use Rattle.seize_seats.specs.Seats.Visits.{then_kept}
 use Rattle.std.proofs.Common.{◌≡◌, ℕ, List, [], ◌∷◌, ◌++◌, ◌+◌, ◌-◌, ◌*◌, ◌^◌, ◌<◌, sym, refl, ap, ◌∙◌, subst, w64, arith, Some}
 use mir.Syntax.{dcons, dnil, a_type}
 use mir.MapTy.{inst_fn}
@@ -46,33 +46,33 @@ use Rattle.core.proofs.option.Option.TheLaws.{the_row_laws as option_laws}
 use Rattle.core.specs.contracts.option.Option.{the_row as OptionOf}
 use Rattle.std.specs.contracts.marker.PhantomData as marker
 use Rattle.std.proofs.raw_atomic.Walks.{proved_at, leaves}
-use Rattle.seize_words.specs.Op.{Out, Rewrite, Taken}
-use Rattle.seize_seats.specs.State.{Allows, Owns}
-use Rattle.seize_seats.specs.Owned.{BaseId, IsPlaced, age, common, held, told as told_to_all, place, stride, words_share}
-use Rattle.seize_seats.proofs.Views.Shown.{placed}
-use Rattle.seize_seats.proofs.Stepping.Moves.{reach, seat as seat_of, gone_on}
-use Rattle.seize_seats.proofs.Blocks.Makings.{hands}
-use Rattle.seize_seats.proofs.Blocks.Regains.{regains_held}
-use Rattle.seize_seats.proofs.Blocks.Rewrites.{Note, Holding, takes_up, puts_back, value as value_at}
+use Rattle.seize_words.specs.OneMemory.Op.{Out, Rewrite, Taken}
+use Rattle.seize_seats.specs.Seats.State.{Allows, Owns}
+use Rattle.seize_seats.specs.Seats.Owned.{BaseId, IsPlaced, age, common, held, told as told_to_all, place, stride, words_share}
+use Rattle.seize_seats.proofs.Seats.Views.Shown.{placed}
+use Rattle.seize_seats.proofs.Seats.Stepping.Moves.{reach, seat as seat_of, gone_on}
+use Rattle.seize_seats.proofs.Seats.Blocks.Makings.{hands}
+use Rattle.seize_seats.proofs.Seats.Blocks.Regains.{regains_held}
+use Rattle.seize_seats.proofs.Seats.Blocks.Rewrites.{Note, Holding, takes_up, puts_back, value as value_at}
 use Rattle.seize_atoms.specs.Placed.{IsItsIndex}
 use Rattle.seize_atoms.specs.contracts.words.Words as words
 use Rattle.seize_atoms.specs.contracts.seat.Seat as seat
 use Rattle.seize_atoms.proofs.Fields.{Data}
-use Rattle.seize_seats.proofs.Places.Values.{uncapped, indexed}
+use Rattle.seize_seats.proofs.Seats.Places.Values.{uncapped, indexed}
 use Rattle.seize_atoms.specs.contracts.words.Words.rewrite.{ended, clauses}
 use Rattle.seize_atoms.specs.contracts.words.Words.rewrite.Key.{name as #self}
 use Rattle.seize_atoms.proofs.words.Words.rewrite.Statement.{statement}
 use Rattle.seize_atoms.proofs.words.Words.rewrite.Code as code
-use Rattle.seize_seats.specs.Stretches.{seat_owns}
-use Rattle.seize_seats.proofs.Views.Stretches.{ends, begins}
-use Rattle.seize_seats.proofs.Views.Known.{twice}
-use Rattle.seize_seats.proofs.Blocks.Lendings.{offers}
+use Rattle.seize_seats.specs.Seats.Stretches.{seat_owns}
+use Rattle.seize_seats.proofs.Seats.Views.Stretches.{ends, begins}
+use Rattle.seize_seats.proofs.Seats.Views.Known.{twice}
+use Rattle.seize_seats.proofs.Seats.Blocks.Lendings.{offers}
 use contract.BorrowLft.{◌⊑◌}
 use Rattle.core.proofs.once.Steps.{option_lives}
-use Rattle.seize_plots.specs.contracts.kept.Kept as kept_of
-use Rattle.seize_plots.proofs.kept.Kept.TheLaws.{the_row_laws as kept_laws}
-use Rattle.seize_plots.specs.Pieces.{kept_words, value_of, lies}
-use Rattle.seize_seats.specs.Lendings.{IsValueOf}
+use Rattle.seize_seats.specs.contracts.kept.Kept as kept_of
+use Rattle.seize_seats.proofs.kept.Kept.TheLaws.{the_row_laws as kept_laws}
+use Rattle.seize_seats.specs.Plots.Pieces.{kept_words, value_of, lies}
+use Rattle.seize_seats.specs.Seats.Lendings.{IsValueOf}
 use Rattle.seize_atoms.proofs.Lives.{kept_lives, kept_goes}
 
 pub rewrite_spec : {M : Type 1} → statement M

@@ -1,8 +1,8 @@
 -- `room` opens the invariant once, and takes no step of the machine.
 use Rattle.seize_atoms.specs.Visiting.{Seen, HoldsSince, keeps_here, seat_coded}
-use Rattle.seize_seats.specs.Errands.{coded_of, then_away}
+use Rattle.seize_seats.specs.Seats.Errands.{coded_of, then_away}
 use Rattle.seize_atoms.proofs.Allowed.{word_allowed}
-use Rattle.seize_seats.specs.Visits.{then_kept}
+use Rattle.seize_seats.specs.Seats.Visits.{then_kept}
 use Rattle.std.proofs.Common.{◌≡◌, ◌⊎◌, ◌<◌, ℕ, List, [], ◌∷◌, sym, refl, w64}
 use mir.Syntax.{dcons, dnil, a_type, named}
 use mir.MapTy.{inst_fn}
@@ -30,22 +30,22 @@ use denote.Struct.Lending.{lent_out}
 use denote.Triple.Walked.{Stays, stay_dropped, stay_ref, walk_of, Goes-dropped, Goes-ref}
 use Rattle.std.specs.contracts.marker.PhantomData as marker
 use Rattle.std.proofs.raw_atomic.Walks.{proved, leaves}
-use Rattle.seize_words.specs.Op.{Out, Room, Roomed}
-use Rattle.seize_seats.specs.Steps.{roomed}
-use Rattle.seize_seats.specs.State.{Allows}
-use Rattle.seize_seats.specs.Owned.{BaseId, words_share}
-use Rattle.seize_seats.proofs.Stepping.Moves.{rooms, gone_on, seat as seat_of}
+use Rattle.seize_words.specs.OneMemory.Op.{Out, Room, Roomed}
+use Rattle.seize_seats.specs.Seats.Steps.{roomed}
+use Rattle.seize_seats.specs.Seats.State.{Allows}
+use Rattle.seize_seats.specs.Seats.Owned.{BaseId, words_share}
+use Rattle.seize_seats.proofs.Seats.Stepping.Moves.{rooms, gone_on, seat as seat_of}
 use Rattle.seize_atoms.specs.contracts.words.Words as words
 use Rattle.seize_atoms.specs.contracts.seat.Seat as seat
-use Rattle.seize_plots.specs.contracts.kept.Kept as kept_of
-use Rattle.seize_plots.specs.Pieces.{kept_words, value_of}
+use Rattle.seize_seats.specs.contracts.kept.Kept as kept_of
+use Rattle.seize_seats.specs.Plots.Pieces.{kept_words, value_of}
 use Rattle.seize_atoms.proofs.Fields.{Data}
 use Rattle.seize_atoms.specs.contracts.words.Words.room.{ended, clauses}
 use Rattle.seize_atoms.specs.contracts.words.Words.room.Key.{name as #self}
 use Rattle.seize_atoms.proofs.words.Words.room.Statement.{statement}
 use Rattle.seize_atoms.proofs.words.Words.room.Code as code
-use Rattle.seize_seats.specs.Stretches.{seat_owns}
-use Rattle.seize_seats.proofs.Views.Stretches.{ends, begins}
+use Rattle.seize_seats.specs.Seats.Stretches.{seat_owns}
+use Rattle.seize_seats.proofs.Seats.Views.Stretches.{ends, begins}
 
 pub room_spec : {M : Type 1} → statement M
 room_spec 𝓤 𝓛 𝓜 𝓡 wired X P U F LX LP LU LF g d _ =

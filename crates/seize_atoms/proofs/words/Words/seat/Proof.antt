@@ -1,7 +1,7 @@
 -- `seat` opens the invariant once, and the list of views grows.
 use Rattle.seize_atoms.specs.Visiting.{Seen, HoldsSince, keeps_here, seat_coded}
-use Rattle.seize_seats.specs.Visits.{fresh}
-use Rattle.seize_seats.specs.Errands.{Away, coded_of}
+use Rattle.seize_seats.specs.Seats.Visits.{fresh}
+use Rattle.seize_seats.specs.Seats.Errands.{Away, coded_of}
 use Rattle.seize_atoms.proofs.Allowed.{comes_allowed}
 use Rattle.std.specs.Prelude.{None}
 use Rattle.std.proofs.Common.{◌≡◌, ℕ, [], ◌∷◌, refl}
@@ -31,20 +31,20 @@ use denote.Struct.Lending.{lent_out}
 use denote.Triple.Walked.{Stays, stay_dropped, walk_of, Goes-dropped}
 use Rattle.std.specs.contracts.marker.PhantomData as marker
 use Rattle.std.proofs.raw_atomic.Walks.{proved, leaves}
-use Rattle.seize_seats.specs.State.{Comes}
-use Rattle.seize_seats.specs.Owned.{BaseId, words_share}
-use Rattle.seize_seats.proofs.Stepping.Moves.{comes, newcomer}
+use Rattle.seize_seats.specs.Seats.State.{Comes}
+use Rattle.seize_seats.specs.Seats.Owned.{BaseId, words_share}
+use Rattle.seize_seats.proofs.Seats.Stepping.Moves.{comes, newcomer}
 use Rattle.seize_atoms.specs.contracts.words.Words as words
 use Rattle.seize_atoms.specs.contracts.seat.Seat as seat
-use Rattle.seize_plots.specs.contracts.kept.Kept as kept_of
-use Rattle.seize_plots.specs.Pieces.{kept_words}
+use Rattle.seize_seats.specs.contracts.kept.Kept as kept_of
+use Rattle.seize_seats.specs.Plots.Pieces.{kept_words}
 use Rattle.seize_atoms.proofs.Fields.{Data, Token, token, token_made}
 use Rattle.seize_atoms.specs.contracts.words.Words.seat.{ended, clauses}
 use Rattle.seize_atoms.specs.contracts.words.Words.seat.Key.{name as #self}
 use Rattle.seize_atoms.proofs.words.Words.seat.Statement.{statement}
 use Rattle.seize_atoms.proofs.words.Words.seat.Code as code
-use Rattle.seize_seats.specs.Stretches.{seat_owns}
-use Rattle.seize_seats.proofs.Views.Stretches.{begins}
+use Rattle.seize_seats.specs.Seats.Stretches.{seat_owns}
+use Rattle.seize_seats.proofs.Seats.Views.Stretches.{begins}
 
 pub seat_spec : {M : Type 1} → statement M
 seat_spec 𝓤 𝓛 𝓜 𝓡 wired X P U F LX LP LU LF g d _ =

@@ -29,8 +29,8 @@ use denote.Triple.Walked.{Stays, stay_dropped, walk_of, Goes-dropped}
 use Rattle.core.proofs.atomic.Steps.{Ptr-Good}
 use Rattle.std.specs.contracts.marker.PhantomData as marker
 use Rattle.std.proofs.raw_atomic.Walks.{proved, leaves}
-use Rattle.seize_seats.specs.Owned.{BaseId, IsPlaced, common, words_share}
-use Rattle.seize_seats.proofs.Views.Shown.{placed, told_there}
+use Rattle.seize_seats.specs.Seats.Owned.{BaseId, IsPlaced, common, words_share}
+use Rattle.seize_seats.proofs.Seats.Views.Shown.{placed, told_there}
 use Rattle.seize_atoms.specs.contracts.words.Words as words
 use Rattle.seize_atoms.specs.contracts.strip.Strip as strip
 use Rattle.seize_atoms.proofs.Fields.{hand_of, hand_good, Data, told, opened, StripData, strip_made}
@@ -38,8 +38,8 @@ use Rattle.seize_atoms.specs.contracts.words.Words.strip.{ended, clauses}
 use Rattle.seize_atoms.specs.contracts.words.Words.strip.Key.{name as #self}
 use Rattle.seize_atoms.proofs.words.Words.strip.Statement.{statement}
 use Rattle.seize_atoms.proofs.words.Words.strip.Code as code
-use Rattle.seize_plots.specs.contracts.kept.Kept as kept_of
-use Rattle.seize_plots.specs.Pieces.{kept_words}
+use Rattle.seize_seats.specs.contracts.kept.Kept as kept_of
+use Rattle.seize_seats.specs.Plots.Pieces.{kept_words}
 
 pub strip_spec : {M : Type 1} → statement M
 strip_spec 𝓤 𝓛 𝓜 𝓡 wired X P U F LX LP LU LF g d _ =

@@ -1,8 +1,8 @@
 -- `take` takes a block away with its place, moves the value out, and frees the number.
 use Rattle.seize_atoms.specs.Visiting.{Seen, HoldsSince, keeps_here, seat_coded}
-use Rattle.seize_seats.specs.Errands.{coded_of, then_away}
+use Rattle.seize_seats.specs.Seats.Errands.{coded_of, then_away}
 use Rattle.seize_atoms.proofs.Allowed.{take_allowed}
-use Rattle.seize_seats.specs.Visits.{then_kept}
+use Rattle.seize_seats.specs.Seats.Visits.{then_kept}
 use Rattle.std.proofs.Common.{◌≡◌, ℕ, List, [], ◌∷◌, ◌+◌, ◌-◌, ◌*◌, ◌^◌, ◌<◌, sym, refl, ap, ◌∙◌, subst, lit<, w64, arith, None, Some}
 use mir.Syntax.{Ty, dcons, dnil, a_type, named, ty_int}
 use mir.MapTy.{inst_fn}
@@ -52,31 +52,30 @@ use Rattle.std.specs.contracts.marker.PhantomData as marker
 use Rattle.std.proofs.raw_atomic.Walks.{proved, leaves}
 use Rattle.std.proofs.raw_atomic.Calls.{fm, seq_cst, stored, stores}
 use Rattle.core.specs.Sync.RawAtomic.{word}
-use Rattle.seize_words.specs.Op.{Out, Take, Taken}
-use Rattle.seize_seats.specs.State.{Allows}
-use Rattle.seize_seats.specs.Owned.{BaseId, IsPlaced, age, common, told as told_to_all, place, row, stride, words_share, busy}
-use Rattle.seize_seats.proofs.Views.Shown.{placed}
-use Rattle.seize_seats.proofs.Stepping.Moves.{reach, seat as seat_of}
-use Rattle.seize_seats.proofs.Blocks.Makings.{leaves as goes_out, Taking, frees, hands}
+use Rattle.seize_words.specs.OneMemory.Op.{Out, Take, Taken}
+use Rattle.seize_seats.specs.Seats.State.{Allows}
+use Rattle.seize_seats.specs.Seats.Owned.{BaseId, IsPlaced, age, common, told as told_to_all, place, row, stride, words_share, busy}
+use Rattle.seize_seats.proofs.Seats.Views.Shown.{placed}
+use Rattle.seize_seats.proofs.Seats.Stepping.Moves.{reach, seat as seat_of}
+use Rattle.seize_seats.proofs.Seats.Blocks.Makings.{leaves as goes_out, Taking, frees, hands}
 use Rattle.seize_atoms.specs.Placed.{IsItsIndex}
 use Rattle.seize_atoms.specs.contracts.words.Words as words
 use Rattle.seize_atoms.specs.contracts.seat.Seat as seat
 use Rattle.seize_atoms.proofs.Fields.{hand_of, Data, told, opened, token, Mark, mark_made}
-use Rattle.seize_seats.proofs.Places.Values.{uncapped, indexed, four_of}
+use Rattle.seize_seats.proofs.Seats.Places.Values.{uncapped, indexed, four_of}
 use Rattle.seize_atoms.specs.contracts.words.Words.take.{ended, clauses}
 use Rattle.seize_atoms.specs.contracts.words.Words.take.Key.{name as #self}
 use Rattle.seize_atoms.proofs.words.Words.take.Statement.{statement}
 use Rattle.seize_atoms.proofs.words.Words.take.Code as code
-use Rattle.seize_seats.specs.Stretches.{seat_owns}
-use Rattle.seize_seats.proofs.Views.Stretches.{ends, begins}
-use Rattle.seize_seats.proofs.Views.Known.{twice}
-use Rattle.seize_seats.specs.Cells.{Body}
-use Rattle.seize_seats.proofs.Blocks.Regains.{regains}
-use Rattle.seize_plots.specs.contracts.kept.Kept as kept_of
-use Rattle.seize_plots.proofs.kept.Kept.TheLaws.{the_row_laws as kept_laws}
-use Rattle.seize_plots.specs.Pieces.{kept_words, value_of}
-use Rattle.seize_plots.specs.Pieces.{piece_at}
-use Rattle.seize_plots.specs.contracts.piece.Piece as piece_of
+use Rattle.seize_seats.specs.Seats.Stretches.{seat_owns}
+use Rattle.seize_seats.proofs.Seats.Views.Stretches.{ends, begins}
+use Rattle.seize_seats.proofs.Seats.Views.Known.{twice}
+use Rattle.seize_seats.specs.Seats.Cells.{Body}
+use Rattle.seize_seats.proofs.Seats.Blocks.Regains.{regains}
+use Rattle.seize_seats.specs.contracts.kept.Kept as kept_of
+use Rattle.seize_seats.proofs.kept.Kept.TheLaws.{the_row_laws as kept_laws}
+use Rattle.seize_seats.specs.Plots.Pieces.{kept_words, value_of, piece_at}
+use Rattle.seize_seats.specs.contracts.piece.Piece as piece_of
 
 pub take_spec : {M : Type 1} → statement M
 take_spec 𝓤 𝓛 𝓜 𝓡 wired X P U F LX LP LU LF g d _ =

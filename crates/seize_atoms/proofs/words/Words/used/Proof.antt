@@ -1,10 +1,10 @@
 -- `used` ends the lifetime of the memory, in which it is known what one seat knows, and begins another one, under another rule, and takes no step of the machine.
 use Rattle.seize_atoms.specs.Visiting.{Seen, HoldsSince, seat_coded}
-use Rattle.seize_seats.specs.Errands.{RenewsFrom, coded_of}
-use Rattle.seize_seats.specs.Start.{WasKnown}
-use Rattle.seize_seats.specs.State.{State}
-use Rattle.seize_seats.specs.Visits.{plain_memory, fresh}
-use Rattle.seize_words.specs.Mem.{Mem}
+use Rattle.seize_seats.specs.Seats.Errands.{RenewsFrom, coded_of}
+use Rattle.seize_seats.specs.Seats.Start.{WasKnown}
+use Rattle.seize_seats.specs.Seats.State.{State}
+use Rattle.seize_seats.specs.Seats.Visits.{plain_memory, fresh}
+use Rattle.seize_words.specs.OneMemory.Mem.{Mem}
 use Rattle.seize_atoms.proofs.Allowed.{ends_alone, was_known}
 use Rattle.std.specs.Prelude.{Some, None, slice_get}
 use Rattle.std.proofs.Common.{◌≡◌, ℕ, List, [], ◌∷◌, refl}
@@ -33,11 +33,11 @@ use denote.Triple.Walked.{Stays, stay_dropped, stay_ref, walk_of, Goes-dropped, 
 use Rattle.core.proofs.atomic.Steps.{Ptr-Good}
 use Rattle.std.proofs.raw_atomic.Walks.{proved, leaves}
 use base.Share.{three_quarters}
-use Rattle.seize_seats.specs.Seen.{seen}
-use Rattle.seize_seats.specs.Stretches.{seat_owns}
-use Rattle.seize_seats.proofs.Views.Stretches.{ends, begins}
-use Rattle.seize_seats.specs.Owned.{BaseId, IsLike, words_own}
-use Rattle.seize_seats.proofs.Renewal.{goes_on, shows_itself, WasFound}
+use Rattle.seize_seats.specs.Seats.Seen.{seen}
+use Rattle.seize_seats.specs.Seats.Stretches.{seat_owns}
+use Rattle.seize_seats.proofs.Seats.Views.Stretches.{ends, begins}
+use Rattle.seize_seats.specs.Seats.Owned.{BaseId, IsLike, words_own}
+use Rattle.seize_seats.proofs.Seats.Renewal.{goes_on, shows_itself, WasFound}
 use Rattle.seize_atoms.specs.contracts.words.Words as words
 use Rattle.seize_atoms.specs.contracts.seat.Seat as seat
 use Rattle.seize_atoms.proofs.Fields.{Data, told, hand_of, hand_made, hand_good}
@@ -49,9 +49,9 @@ use Rattle.core.proofs.once.Steps.{option_lives}
 use Rattle.core.proofs.option.Option.TheLaws.{the_row_laws as option_laws}
 use Rattle.core.specs.contracts.option.Option.{the_row as OptionOf}
 use Rattle.seize_atoms.proofs.Lives.{kept_lives}
-use Rattle.seize_plots.specs.contracts.kept.Kept as kept_of
-use Rattle.seize_plots.proofs.kept.Kept.TheLaws.{the_row_laws as kept_laws}
-use Rattle.seize_plots.specs.Pieces.{kept_words, value_of}
+use Rattle.seize_seats.specs.contracts.kept.Kept as kept_of
+use Rattle.seize_seats.proofs.kept.Kept.TheLaws.{the_row_laws as kept_laws}
+use Rattle.seize_seats.specs.Plots.Pieces.{kept_words, value_of}
 
 pub used_spec : {M : Type 1} → statement M
 used_spec 𝓤 𝓛 𝓜 𝓡 wired X P U F N V G LX LP LU LF LN LV LG g d g' d' _ _ =

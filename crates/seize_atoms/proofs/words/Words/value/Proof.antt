@@ -1,7 +1,7 @@
 -- `value` lends the value of a block: a part of its token goes under the seat's stretch, and the address of its place is told.
 use Rattle.seize_atoms.specs.Visiting.{Seen, HoldsHere, HoldsSince, keeps_here, seat_coded}
 use Rattle.seize_atoms.proofs.Allowed.{shown_here, shown_alone, value_both}
-use Rattle.seize_seats.proofs.Views.Hands.{bears}
+use Rattle.seize_seats.proofs.Seats.Views.Hands.{bears}
 use Rattle.std.proofs.Common.{◌≡◌, ℕ, List, [], ◌∷◌, ◌+◌, ◌-◌, ◌*◌, ◌^◌, ◌<◌, sym, refl, ap, ◌∙◌, subst, w64, arith, Some, None}
 use mir.Syntax.{dcons, dnil, a_type, named}
 use mir.MapTy.{inst_fn}
@@ -36,24 +36,24 @@ use Rattle.core.proofs.option.Option.TheLaws.{the_row_laws as option_laws}
 use Rattle.core.specs.contracts.option.Option.{the_row as OptionOf}
 use Rattle.std.specs.contracts.marker.PhantomData as marker
 use Rattle.std.proofs.raw_atomic.Walks.{proved, leaves}
-use Rattle.seize_seats.specs.Lendings.{Holder, ShownToBoth, IsValueOfBoth}
-use Rattle.seize_seats.specs.Owned.{Core, BaseId, core_of, IsPlaced, common, everything, strip_told, stride, words_share}
-use Rattle.seize_seats.specs.Stretches.{IsEven, invariant, seat_shares}
-use Rattle.seize_seats.proofs.Views.Shown.{placed, told_there}
-use Rattle.seize_seats.proofs.Blocks.Lends.{So, lent_to}
+use Rattle.seize_seats.specs.Seats.Lendings.{Holder, ShownToBoth, IsValueOfBoth}
+use Rattle.seize_seats.specs.Seats.Owned.{Core, BaseId, core_of, IsPlaced, common, everything, strip_told, stride, words_share}
+use Rattle.seize_seats.specs.Seats.Stretches.{IsEven, invariant, seat_shares}
+use Rattle.seize_seats.proofs.Seats.Views.Shown.{placed, told_there}
+use Rattle.seize_seats.proofs.Seats.Blocks.Lends.{So, lent_to}
 use Rattle.seize_atoms.specs.Placed.{IsItsIndex}
 use Rattle.seize_atoms.specs.contracts.words.Words as words
 use Rattle.seize_atoms.specs.contracts.seat.Seat as seat
 use Rattle.seize_atoms.specs.contracts.strip.Strip as strip
 use Rattle.seize_atoms.proofs.Fields.{Data, Token}
-use Rattle.seize_seats.proofs.Places.Values.{uncapped, indexed}
+use Rattle.seize_seats.proofs.Seats.Places.Values.{uncapped, indexed}
 use Rattle.seize_atoms.specs.contracts.words.Words.value.{ended, clauses}
 use Rattle.seize_atoms.specs.contracts.words.Words.value.Key.{name as #self}
 use Rattle.seize_atoms.proofs.words.Words.value.Statement.{statement}
 use Rattle.seize_atoms.proofs.words.Words.value.Code as code
-use Rattle.seize_plots.specs.contracts.kept.Kept as kept_of
-use Rattle.seize_plots.proofs.kept.Kept.TheLaws.{the_row_laws as kept_laws}
-use Rattle.seize_plots.specs.Pieces.{kept_words}
+use Rattle.seize_seats.specs.contracts.kept.Kept as kept_of
+use Rattle.seize_seats.proofs.kept.Kept.TheLaws.{the_row_laws as kept_laws}
+use Rattle.seize_seats.specs.Plots.Pieces.{kept_words}
 
 pub value_spec : {M : Type 1} → statement M
 value_spec 𝓤 𝓛 𝓜 𝓡 wired X P U F LX LP LU LF g d _ =

@@ -35,28 +35,28 @@ use Rattle.core.proofs.option.Option.TheLaws.{the_row_laws as option_laws}
 use Rattle.core.specs.contracts.option.Option.{the_row as OptionOf}
 use Rattle.std.specs.contracts.marker.PhantomData as marker
 use Rattle.std.proofs.raw_atomic.Walks.{proved, leaves}
-use Rattle.seize_seats.specs.State.{ShowsKept, AreThere, Comes}
-use Rattle.seize_seats.specs.Errands.{coded_of}
-use Rattle.seize_seats.specs.Lendings.{Holder, IsValueBy}
+use Rattle.seize_seats.specs.Seats.State.{ShowsKept, AreThere, Comes}
+use Rattle.seize_seats.specs.Seats.Errands.{coded_of}
+use Rattle.seize_seats.specs.Seats.Lendings.{Holder, IsValueBy}
 use types.Tokens.{shr_bor-open, obor_close}
-use Rattle.seize_seats.specs.Owned.{Core, BaseId, core_of, IsPlaced, common, everything, strip_told, stride, words_share}
-use Rattle.seize_seats.specs.Stretches.{IsEven, invariant, seat_shares}
-use Rattle.seize_seats.proofs.Views.Shown.{placed, told_there}
-use Rattle.seize_seats.proofs.Blocks.Testifying.{By, So, lent_by}
-use Rattle.seize_seats.proofs.Views.Ledgers.{view_halves}
+use Rattle.seize_seats.specs.Seats.Owned.{Core, BaseId, core_of, IsPlaced, common, everything, strip_told, stride, words_share}
+use Rattle.seize_seats.specs.Seats.Stretches.{IsEven, invariant, seat_shares}
+use Rattle.seize_seats.proofs.Seats.Views.Shown.{placed, told_there}
+use Rattle.seize_seats.proofs.Seats.Blocks.Testifying.{By, So, lent_by}
+use Rattle.seize_seats.proofs.Seats.Views.Ledgers.{view_halves}
 use Rattle.seize_atoms.specs.Placed.{IsItsIndex}
 use Rattle.seize_atoms.specs.contracts.words.Words as words
 use Rattle.seize_atoms.specs.contracts.seat.Seat as seat
 use Rattle.seize_atoms.specs.contracts.strip.Strip as strip
 use Rattle.seize_atoms.proofs.Fields.{Data, Token}
-use Rattle.seize_seats.proofs.Places.Values.{uncapped, indexed}
+use Rattle.seize_seats.proofs.Seats.Places.Values.{uncapped, indexed}
 use Rattle.seize_atoms.specs.contracts.words.Words.value_by.{ended, clauses}
 use Rattle.seize_atoms.specs.contracts.words.Words.value_by.Key.{name as #self}
 use Rattle.seize_atoms.proofs.words.Words.value_by.Statement.{statement}
 use Rattle.seize_atoms.proofs.words.Words.value_by.Code as code
-use Rattle.seize_plots.specs.contracts.kept.Kept as kept_of
-use Rattle.seize_plots.proofs.kept.Kept.TheLaws.{the_row_laws as kept_laws}
-use Rattle.seize_plots.specs.Pieces.{kept_words}
+use Rattle.seize_seats.specs.contracts.kept.Kept as kept_of
+use Rattle.seize_seats.proofs.kept.Kept.TheLaws.{the_row_laws as kept_laws}
+use Rattle.seize_seats.specs.Plots.Pieces.{kept_words}
 
 pub value_by_spec : {M : Type 1} → statement M
 value_by_spec 𝓤 𝓛 𝓜 𝓡 wired X P U F LX LP LU LF g d _ =

@@ -1,8 +1,8 @@
 -- `visit` opens the invariant once, and takes no step of the machine.
 use Rattle.seize_atoms.specs.Visiting.{Seen, HoldsSince, keeps_here, seat_coded}
-use Rattle.seize_seats.specs.Errands.{coded_of}
+use Rattle.seize_seats.specs.Seats.Errands.{coded_of}
 use Rattle.seize_atoms.proofs.Allowed.{visit_allowed}
-use Rattle.seize_seats.specs.Visits.{Spot, Visit, onward_at}
+use Rattle.seize_seats.specs.Seats.Visits.{Spot, Visit, onward_at}
 use Rattle.std.proofs.Common.{◌≡◌, ℕ, List, [], ◌∷◌, sym, refl, ap, w64}
 use mir.Syntax.{dcons, dnil, a_type, named}
 use mir.MapTy.{inst_fn}
@@ -31,20 +31,20 @@ use denote.Triple.Walked.{Stays, stay_dropped, stay_ref, walk_of, Goes-dropped, 
 use Rattle.std.specs.contracts.marker.PhantomData as marker
 use Rattle.std.proofs.raw_atomic.Walks.{proved, leaves}
 use Rattle.std.specs.Prelude.{Some}
-use Rattle.seize_seats.specs.Lendings.{Shown}
-use Rattle.seize_seats.specs.Owned.{BaseId, words_share}
-use Rattle.seize_seats.proofs.Stepping.Moves.{turns, gone_on, seat as seat_of}
+use Rattle.seize_seats.specs.Seats.Lendings.{Shown}
+use Rattle.seize_seats.specs.Seats.Owned.{BaseId, words_share}
+use Rattle.seize_seats.proofs.Seats.Stepping.Moves.{turns, gone_on, seat as seat_of}
 use Rattle.seize_atoms.specs.contracts.words.Words as words
 use Rattle.seize_atoms.specs.contracts.seat.Seat as seat
-use Rattle.seize_plots.specs.contracts.kept.Kept as kept_of
-use Rattle.seize_plots.specs.Pieces.{kept_words}
+use Rattle.seize_seats.specs.contracts.kept.Kept as kept_of
+use Rattle.seize_seats.specs.Plots.Pieces.{kept_words}
 use Rattle.seize_atoms.proofs.Fields.{Data}
 use Rattle.seize_atoms.specs.contracts.words.Words.visit.{ended, clauses}
 use Rattle.seize_atoms.specs.contracts.words.Words.visit.Key.{name as #self}
 use Rattle.seize_atoms.proofs.words.Words.visit.Statement.{statement}
 use Rattle.seize_atoms.proofs.words.Words.visit.Code as code
-use Rattle.seize_seats.specs.Stretches.{seat_owns}
-use Rattle.seize_seats.proofs.Views.Stretches.{ends, begins}
+use Rattle.seize_seats.specs.Seats.Stretches.{seat_owns}
+use Rattle.seize_seats.proofs.Seats.Views.Stretches.{ends, begins}
 
 pub visit_spec : {M : Type 1} → statement M
 visit_spec 𝓤 𝓛 𝓜 𝓡 wired X P U F LX LP LU LF g d _ =

@@ -1,6 +1,6 @@
 use Rattle.std.proofs.Common.{◌≡◌, subst, sym, ◌∙◌}
 use Rattle.seize_words.specs.declared.at.At.{At}
-use Rattle.seize_seats.specs.State.{Allows}
+use Rattle.seize_seats.specs.Seats.State.{Allows}
 use Rattle.seize_blocks.proofs.blocks.Blocks.access.Goals as goal
 use Rattle.seize_blocks.proofs.blocks.Blocks.access.Goals.{in_default-via-in-Slot+else-slot-ge32, in_default-via-in_default}
 

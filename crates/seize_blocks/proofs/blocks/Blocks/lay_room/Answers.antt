@@ -1,9 +1,9 @@
 use Rattle.std.proofs.Common.{◌≡◌, ℕ, ◌+◌, ◌-◌, ◌*◌, ◌<◌, replicate, sym, ap, ◌∙◌, subst, arith}
-use Rattle.seize_words.specs.Op.{Room}
-use Rattle.seize_words.specs.Place.{capacity}
-use Rattle.seize_seats.specs.State.{Allows}
-use Rattle.seize_seats.proofs.Places.Grounds.{capacity_least}
-use Rattle.seize_plots.proofs.Somewhere.{beside_some}
+use Rattle.seize_words.specs.OneMemory.Op.{Room}
+use Rattle.seize_words.specs.OneMemory.Place.{capacity}
+use Rattle.seize_seats.specs.Seats.State.{Allows}
+use Rattle.seize_seats.proofs.Seats.Places.Grounds.{capacity_least}
+use Rattle.seize_seats.proofs.Plots.Somewhere.{beside_some}
 use Rattle.seize_blocks.proofs.blocks.Blocks.lay_room.Goals as goal
 
 pub offer_room-found-requires : goal.offer_room-found-requires

@@ -1,4 +1,4 @@
-use Rattle.seize_words.specs.Op.{Make}
+use Rattle.seize_words.specs.OneMemory.Op.{Make}
 use Rattle.seize_blocks.proofs.By.{on_put}
 use Rattle.seize_blocks.proofs.blocks.Blocks.make.Goals as goal
 

@@ -1,6 +1,6 @@
 use Rattle.std.proofs.Common.{lit<, refl, subst, sym}
 use denote.RawPtr.{InBlock}
-use Rattle.seize_plots.proofs.Somewhere.{beside_some}
+use Rattle.seize_seats.proofs.Plots.Somewhere.{beside_some}
 use Rattle.seize_blocks.proofs.By.{own_lies, own_away}
 use Rattle.seize_blocks.proofs.blocks.Blocks.own_place.Goals as goal
 

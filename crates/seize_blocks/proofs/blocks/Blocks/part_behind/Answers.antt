@@ -1,6 +1,6 @@
 use Rattle.std.proofs.Common.{◌∙◌, subst, arith}
 use denote.RawPtr.{InBlock}
-use Rattle.seize_seats.proofs.Growing.Behind.{doubled}
+use Rattle.seize_seats.proofs.Seats.Growing.Behind.{doubled}
 use Rattle.seize_blocks.proofs.blocks.Blocks.part_behind.Goals as goal
 
 pub returns-in-Some : goal.returns-in-Some

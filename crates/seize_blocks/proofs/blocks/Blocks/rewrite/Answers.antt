@@ -1,4 +1,4 @@
-use Rattle.seize_words.specs.Op.{Rewrite}
+use Rattle.seize_words.specs.OneMemory.Op.{Rewrite}
 use Rattle.seize_blocks.proofs.By.{on_rewrite}
 use Rattle.seize_blocks.proofs.blocks.Blocks.rewrite.Goals as goal
 

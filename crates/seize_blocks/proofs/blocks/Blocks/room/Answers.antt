@@ -1,6 +1,6 @@
 use Rattle.std.proofs.Common.{◌≡◌, ℕ, ◌+◌, ◌-◌, refl, sym, subst, arith}
-use Rattle.seize_words.specs.Op.{Room}
-use Rattle.seize_seats.specs.State.{Allows}
+use Rattle.seize_words.specs.OneMemory.Op.{Room}
+use Rattle.seize_seats.specs.Seats.State.{Allows}
 use Rattle.seize_blocks.proofs.blocks.Blocks.room.Goals as goal
 
 pub ask_room-found-requires : goal.ask_room-found-requires

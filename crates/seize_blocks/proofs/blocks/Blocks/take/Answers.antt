@@ -1,4 +1,4 @@
-use Rattle.seize_words.specs.Op.{Take}
+use Rattle.seize_words.specs.OneMemory.Op.{Take}
 use Rattle.seize_blocks.proofs.By.{on_take}
 use Rattle.seize_blocks.proofs.blocks.Blocks.take.Goals as goal
 

@@ -1,6 +1,6 @@
 use Rattle.std.proofs.Common.{◌≡◌, subst}
-use Rattle.seize_plots.specs.declared.kept.Kept.{Kept}
-use Rattle.seize_seats.specs.Lendings.{IsValueBy}
+use Rattle.seize_seats.specs.declared.kept.Kept.{Kept}
+use Rattle.seize_seats.specs.Seats.Lendings.{IsValueBy}
 use Rattle.seize_blocks.proofs.blocks.Blocks.value_by.Goals as goal
 
 pub spot_of-spot-requires-clause-shown : goal.spot_of-spot-requires-clause-shown

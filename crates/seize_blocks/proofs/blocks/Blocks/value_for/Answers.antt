@@ -1,6 +1,6 @@
 use Rattle.std.proofs.Common.{◌≡◌, subst}
-use Rattle.seize_plots.specs.declared.kept.Kept.{Kept}
-use Rattle.seize_seats.specs.Lendings.{IsValueOfBoth}
+use Rattle.seize_seats.specs.declared.kept.Kept.{Kept}
+use Rattle.seize_seats.specs.Seats.Lendings.{IsValueOfBoth}
 use Rattle.seize_atoms.proofs.Allowed.{value_here}
 use Rattle.seize_blocks.proofs.blocks.Blocks.value_for.Goals as goal
 

@@ -1,9 +1,9 @@
 use Rattle.std.proofs.Common.{ℕ, List, sym, ◌∙◌, subst, take}
 use denote.Param.{param}
 use denote.RawPtr.{Ptr}
-use Rattle.seize_seats.specs.Doors.{IsFurther, AreBehind}
-use Rattle.seize_plots.specs.Pieces.{AreBucketsBehind}
-use Rattle.seize_plots.specs.contracts.kept.Kept.{the_row as KeptOf}
+use Rattle.seize_seats.specs.Seats.Doors.{IsFurther, AreBehind}
+use Rattle.seize_seats.specs.Plots.Pieces.{AreBucketsBehind}
+use Rattle.seize_seats.specs.contracts.kept.Kept.{the_row as KeptOf}
 use Rattle.seize_blocks.proofs.home.Home.drop.Goals as goal
 
 pub clear-requires : goal.clear-requires

@@ -1,7 +1,7 @@
 use Rattle.std.proofs.Common.{ap, sym, ◌∙◌}
 use Rattle.seize_views.specs.declared.view.View.TheVariants.{Under}
-use Rattle.seize_views.proofs.Notes.{comings_are_noted}
-use Rattle.seize_views.proofs.Passing.{leanings_keep, kept_are_there}
+use Rattle.seize_views.proofs.Views.Notes.{comings_are_noted}
+use Rattle.seize_views.proofs.Views.Passing.{leanings_keep, kept_are_there}
 use Rattle.seize_callers.proofs.caller.pass.lent.Goals as goal
 
 pub value_by-requires-clause-own : goal.value_by-requires-clause-own

@@ -1,4 +1,4 @@
-use Rattle.seize_views.proofs.Notes.{comings_are_noted}
+use Rattle.seize_views.proofs.Views.Notes.{comings_are_noted}
 use Rattle.seize_callers.proofs.caller.watch.watcher.Goals as goal
 
 pub seat-requires : goal.seat-requires

@@ -1,7 +1,7 @@
 use Rattle.std.proofs.Common.{refl, ap, ◌∙◌, inl}
-use Rattle.seize_views.specs.Begun.{registering}
-use Rattle.seize_views.specs.Notes.{still}
-use Rattle.seize_views.specs.Promises.{op_of}
+use Rattle.seize_views.specs.Views.Begun.{registering}
+use Rattle.seize_views.specs.Views.Notes.{still}
+use Rattle.seize_views.specs.Views.Promises.{op_of}
 use Rattle.seize_views.specs.declared.view.View.TheVariants.{Rests}
 use Rattle.seize_callers.proofs.Turns.{may_turn, leans_turn}
 use Rattle.seize_callers.proofs.within.Within.begin.Goals as goal

@@ -2,10 +2,10 @@ use Rattle.std.specs.Prelude.{None}
 use Rattle.std.proofs.Common.{◌≡◌, ℕ, refl, ap, sym, ◌∙◌}
 use Rattle.seize.specs.declared.rows.settle.Settle.{Settle}
 use Rattle.seize.specs.Settle.{counting_down}
-use Rattle.seize_views.specs.Begun.{ended}
-use Rattle.seize_views.specs.Notes.{still, noted}
-use Rattle.seize_views.specs.Told.{list_taken}
-use Rattle.seize_views.specs.Watched.{known_by}
+use Rattle.seize_views.specs.Views.Begun.{ended}
+use Rattle.seize_views.specs.Views.Notes.{still, noted}
+use Rattle.seize_views.specs.Views.Told.{list_taken}
+use Rattle.seize_views.specs.Views.Watched.{known_by}
 use Rattle.seize_views.specs.declared.view.Becomes.{Becomes}
 use Rattle.seize_views.specs.declared.view.View.TheVariants.{Settles, Left}
 use Rattle.seize_views.specs.declared.view.Why.TheVariants.{Ending}

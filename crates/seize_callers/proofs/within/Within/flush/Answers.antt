@@ -2,7 +2,7 @@ use Rattle.seize_views.specs.declared.view.Began.TheVariants.{Trial}
 use Rattle.std.proofs.Common.{◌≡◌, ap, sym, ◌∙◌}
 use Rattle.seize.specs.declared.rows.settle.Settle.{Settle}
 use Rattle.seize.specs.Settle.{flushing}
-use Rattle.seize_views.specs.Begun.{left_with}
+use Rattle.seize_views.specs.Views.Begun.{left_with}
 use Rattle.seize_views.specs.declared.view.Becomes.TheVariants.{Active}
 use Rattle.seize_callers.proofs.Turns.{may_flush, leans_flush, flushes_told, settling_row}
 use Rattle.seize_callers.proofs.within.Within.flush.Goals as goal

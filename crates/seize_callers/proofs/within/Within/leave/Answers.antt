@@ -2,10 +2,10 @@ use Rattle.seize_callers.proofs.Keeping.{kept_same}
 use Rattle.std.specs.Prelude.{ℕ}
 use Rattle.std.proofs.Common.{◌≡◌, inl, refl, sym, subst, ap, ◌∙◌}
 use Rattle.seize.specs.declared.states.TheConstants.{IDLE}
-use Rattle.seize_views.specs.Begun.{leaving, ended}
-use Rattle.seize_views.specs.Notes.{still}
-use Rattle.seize_views.specs.Promises.{op_of}
-use Rattle.seize_views.specs.Told.{list_taken}
+use Rattle.seize_views.specs.Views.Begun.{leaving, ended}
+use Rattle.seize_views.specs.Views.Notes.{still}
+use Rattle.seize_views.specs.Views.Promises.{op_of}
+use Rattle.seize_views.specs.Views.Told.{list_taken}
 use Rattle.seize_views.specs.declared.view.Becomes.TheVariants.{Idle}
 use Rattle.seize_views.specs.declared.view.View.TheVariants.{Inside, Left}
 use Rattle.seize_callers.proofs.Turns.{may_turn, leans_turn, leaves_next, leaves_so, list_told}

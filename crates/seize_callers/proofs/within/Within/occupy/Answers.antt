@@ -1,5 +1,5 @@
 use Rattle.std.proofs.Common.{ap, inl}
-use Rattle.seize_views.specs.Promises.{op_of}
+use Rattle.seize_views.specs.Views.Promises.{op_of}
 use Rattle.seize_callers.proofs.within.Within.occupy.Goals as goal
 
 pub exchange-requires : goal.exchange-requires

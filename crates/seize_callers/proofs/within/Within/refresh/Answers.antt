@@ -2,10 +2,10 @@ use Rattle.seize_callers.proofs.Keeping.{kept_same}
 use Rattle.std.specs.Prelude.{ℕ}
 use Rattle.std.proofs.Common.{◌≡◌, inl, refl, sym, subst, ap, ◌∙◌}
 use Rattle.seize.specs.declared.states.TheConstants.{ACTIVE}
-use Rattle.seize_views.specs.Begun.{refreshes, ended}
-use Rattle.seize_views.specs.Notes.{still}
-use Rattle.seize_views.specs.Promises.{op_of}
-use Rattle.seize_views.specs.Told.{list_taken}
+use Rattle.seize_views.specs.Views.Begun.{refreshes, ended}
+use Rattle.seize_views.specs.Views.Notes.{still}
+use Rattle.seize_views.specs.Views.Promises.{op_of}
+use Rattle.seize_views.specs.Views.Told.{list_taken}
 use Rattle.seize_views.specs.declared.view.Began.TheVariants.{Section}
 use Rattle.seize_views.specs.declared.view.Becomes.TheVariants.{Active}
 use Rattle.seize_views.specs.declared.view.View.TheVariants.{Inside, Left}

@@ -1,8 +1,8 @@
 use Rattle.seize_views.specs.declared.view.Began.TheVariants.{Retirement}
 use Rattle.std.proofs.Common.{◌≡◌, ap, ◌∙◌}
 use Rattle.seize.specs.Settle.{retiring}
-use Rattle.seize_words.specs.Word.{link_to}
-use Rattle.seize_views.specs.Begun.{IsBegun}
+use Rattle.seize_words.specs.OneMemory.Word.{link_to}
+use Rattle.seize_views.specs.Views.Begun.{IsBegun}
 use Rattle.seize_views.specs.declared.view.Becomes.TheVariants.{Active}
 use Rattle.seize_callers.proofs.Calls.{whole_link}
 use Rattle.seize_callers.proofs.Turns.{may_retire, leans_retire, retires_told}

@@ -1,18 +1,17 @@
 -- A retirement that has ended ends its row; one that has stopped is taken to its end.
-use Rattle.seize_callers.specs.Made.{IsAllowed}
+use Rattle.seize_callers.specs.Made.{IsAllowed, task_of}
 use Rattle.seize_callers.proofs.Keeping.{still_kept}
 use Rattle.seize_callers.specs.Kept.{kept}
 use Rattle.std.proofs.Common.{◌≡◌, refl, sym, subst, ap, ◌∙◌}
 use Rattle.seize.specs.declared.rows.settle.Settle.{Settle}
 use Rattle.seize.specs.declared.rows.settle.Settling.TheVariants.{Over}
 use Rattle.seize.specs.Settle.{retiring}
-use Rattle.seize_views.specs.Begun.{IsBegun, ended, left_with}
+use Rattle.seize_views.specs.Views.Begun.{IsBegun, ended, left_with}
 use Rattle.seize_views.specs.declared.view.Becomes.{Becomes}
 use Rattle.seize_views.specs.declared.view.View.TheVariants.{Settles}
 use Rattle.seize_views.specs.declared.view.Why.TheVariants.{Retiring}
-use Rattle.seize_views.specs.Notes.{still}
-use Rattle.seize_views.specs.Watched.{known_by}
-use Rattle.seize_callers.specs.Made.{task_of}
+use Rattle.seize_views.specs.Views.Notes.{still}
+use Rattle.seize_views.specs.Views.Watched.{known_by}
 use Rattle.seize_callers.proofs.Turns.{may_turn, leans_turn, own_task}
 use Rattle.seize_callers.proofs.Straight.{Comes, has_ended, has_stopped, may_run, retirement_row}
 use Rattle.seize_callers.proofs.within.Within.retires.Given as given

@@ -1,8 +1,7 @@
 -- Straight code reclaims what it can after each step.
-use Rattle.seize_callers.specs.Made.{IsAllowed}
+use Rattle.seize_callers.specs.Made.{IsAllowed, IsSettling, Task}
 use Rattle.seize_callers.specs.Kept.{kept}
 use Rattle.std.proofs.Common.{◌∙◌, arith}
-use Rattle.seize_callers.specs.Made.{IsSettling, Task}
 use Rattle.seize_callers.proofs.Straight.{Comes, led, may_drop}
 use Rattle.seize_callers.proofs.within.Within.settles.Given as given
 use Rattle.seize_callers.proofs.within.Within.settles.Goals as goal

@@ -1,7 +1,6 @@
-use Rattle.std.proofs.Common.{inl}
+use Rattle.std.proofs.Common.{inl, sym, ap, ◌∙◌}
 use Rattle.std.specs.Prelude.{Some}
-use Rattle.std.proofs.Common.{sym, ap, ◌∙◌}
-use Rattle.seize_views.specs.Promises.{op_of}
+use Rattle.seize_views.specs.Views.Promises.{op_of}
 use Rattle.seize_callers.proofs.Seen.{seeks_here, seen_free, free_head}
 use Rattle.seize_callers.proofs.within.Within.tries.Goals as goal
 

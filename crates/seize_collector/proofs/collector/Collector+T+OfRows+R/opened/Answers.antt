@@ -1,4 +1,4 @@
-use Rattle.seize_views.proofs.Notes.{rules_start}
+use Rattle.seize_views.proofs.Views.Notes.{rules_start}
 use Rattle.seize_collector.proofs.collector.Collector+T+OfRows+R.opened.Goals as goal
 
 -- the rule may begin with any size of batches, and any number of roots

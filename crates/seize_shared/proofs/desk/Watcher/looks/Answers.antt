@@ -1,4 +1,4 @@
-use Rattle.seize_callers.proofs.Given.SeizeViewsGuarding.{watchers_see}
+use Rattle.seize_views.proofs.Views.Guarding.{watchers_see}
 use Rattle.seize_shared.proofs.desk.Watcher.looks.Goals as goal
 
 pub load-word-requires-clause-may : goal.load-word-requires-clause-may

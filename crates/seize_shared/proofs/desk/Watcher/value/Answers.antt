@@ -1,4 +1,4 @@
-use Rattle.seize_callers.proofs.Given.SeizeViewsGuarding.{watched_are_shown}
+use Rattle.seize_views.proofs.Views.Guarding.{watched_are_shown}
 use Rattle.seize_shared.proofs.desk.Watcher.value.Goals as goal
 
 pub value-requires-clause-shown : goal.value-requires-clause-shown

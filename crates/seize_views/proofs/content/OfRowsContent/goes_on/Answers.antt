@@ -1,5 +1,5 @@
-use Rattle.seize_views.proofs.Contents.{seats_come_in, rows_go_on_in, rows_are_told, rows_turn_in, settlings_begin_in, looked_are_shown_in}
-use Rattle.seize_views.specs.Resting.{rows_lean}
+use Rattle.seize_views.proofs.Views.Contents.{seats_come_in, rows_go_on_in, rows_are_told, rows_turn_in, settlings_begin_in, looked_are_shown_in}
+use Rattle.seize_views.specs.Views.Resting.{rows_lean}
 use Rattle.seize_views.proofs.content.OfRowsContent.goes_on.Goals as goal
 
 pub returns-clause-come : goal.returns-clause-come

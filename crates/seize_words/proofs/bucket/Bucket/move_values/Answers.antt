@@ -1,8 +1,8 @@
 use Rattle.std.proofs.Common.{◌≡◌, ◌∷◌, ◌++◌, [], None, Some, length, sym, ap, ◌∙◌, arith, append-nil}
 use Rattle.std.proofs.lemmas.List.{append_assoc, nil_from_length}
 use Rattle.std.specs.Vec.Iter.{into_iter_items}
-use Rattle.seize_words.specs.Mem.{values_in}
-use Rattle.seize_words.proofs.DirectoryKept.{values_in-append}
+use Rattle.seize_words.specs.OneMemory.Mem.{values_in}
+use Rattle.seize_words.proofs.OneMemory.DirectoryKept.{values_in-append}
 use Rattle.seize_words.proofs.bucket.Bucket.move_values.Goals as goal
 
 pub loop-piece-preserved-in-Continue-1 : goal.loop-piece-preserved-in-Continue-1

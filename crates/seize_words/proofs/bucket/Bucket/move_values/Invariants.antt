@@ -1,6 +1,6 @@
 use Rattle.std.proofs.Common.{◌≡◌, ◌++◌, length}
 use Rattle.std.specs.Vec.Iter.{into_iter_items, into_iter_len}
-use Rattle.seize_words.specs.Mem.{values_in}
+use Rattle.seize_words.specs.OneMemory.Mem.{values_in}
 use Rattle.seize_words.proofs.bucket.Bucket.move_values.Given as goal
 
 -- the values so far, and the others are left

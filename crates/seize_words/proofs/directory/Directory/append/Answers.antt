@@ -1,5 +1,5 @@
 use Rattle.std.proofs.Common.{rules, ◌+◌, Some, length, ap, ◌∙◌}
-use Rattle.seize_words.proofs.DirectoryKept.{IsDirectory-not_pushed, IsDirectory-pushed, next_there, not_pushed, pushed}
+use Rattle.seize_words.proofs.OneMemory.DirectoryKept.{IsDirectory-not_pushed, IsDirectory-pushed, next_there, not_pushed, pushed}
 use Rattle.seize_words.proofs.directory.Directory.append.Goals as goal
 
 pub index_mut-requires : goal.index_mut-requires

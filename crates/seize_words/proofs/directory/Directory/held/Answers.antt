@@ -1,6 +1,6 @@
 use Rattle.std.proofs.Common.{length, ap, arith}
-use Rattle.seize_words.specs.Buckets.{all_in}
-use Rattle.seize_words.proofs.DirectoryKept.{free_or_held}
+use Rattle.seize_words.specs.OneMemory.Buckets.{all_in}
+use Rattle.seize_words.proofs.OneMemory.DirectoryKept.{free_or_held}
 use Rattle.seize_words.proofs.directory.Directory.held.Goals as goal
 
 pub overflow_sub-result : goal.overflow_sub-result

@@ -1,10 +1,10 @@
 use Rattle.std.proofs.Common.{◌≡◌, ◌∷◌, ◌++◌, [], length, sym, ap, ◌∙◌, arith}
 use Rattle.std.proofs.lemmas.List.{append_assoc}
 use Rattle.std.specs.Vec.Iter.{into_iter_items}
-use Rattle.seize_words.specs.Buckets.{all_in}
-use Rattle.seize_words.specs.Mem.{values_in}
-use Rattle.seize_words.proofs.DirectoryKept.{values_in-append}
-use Rattle.seize_words.proofs.Places.Filled.{all_in-push}
+use Rattle.seize_words.specs.OneMemory.Buckets.{all_in}
+use Rattle.seize_words.specs.OneMemory.Mem.{values_in}
+use Rattle.seize_words.proofs.OneMemory.DirectoryKept.{values_in-append}
+use Rattle.seize_words.proofs.OneMemory.Places.Filled.{all_in-push}
 use Rattle.seize_words.proofs.directory.Directory.into_values.Goals as goal
 
 pub loop-bucket-preserved : goal.loop-bucket-preserved

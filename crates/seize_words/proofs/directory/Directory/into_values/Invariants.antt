@@ -1,7 +1,7 @@
 use Rattle.std.proofs.Common.{◌≡◌, ◌++◌, length}
 use Rattle.std.specs.Vec.Iter.{into_iter_items, into_iter_len}
-use Rattle.seize_words.specs.Buckets.{all_in}
-use Rattle.seize_words.specs.Mem.{values_in}
+use Rattle.seize_words.specs.OneMemory.Buckets.{all_in}
+use Rattle.seize_words.specs.OneMemory.Mem.{values_in}
 use Rattle.seize_words.proofs.directory.Directory.into_values.Given as goal
 
 -- the values so far, and the other buckets are left

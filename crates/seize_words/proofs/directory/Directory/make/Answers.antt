@@ -1,8 +1,8 @@
 use Rattle.std.proofs.Common.{◌≡◌, ◌<◌, ◌+◌, ◌^◌, length, ap, ◌∙◌, arith}
 use Rattle.std.specs.Prelude.{◌%◌, slice_index_or}
-use Rattle.seize_words.specs.Mem.{free_from}
-use Rattle.seize_words.specs.Buckets.{all_in}
-use Rattle.seize_words.proofs.FreeKept.{free_few, reuse_gives}
+use Rattle.seize_words.specs.OneMemory.Mem.{free_from}
+use Rattle.seize_words.specs.OneMemory.Buckets.{all_in}
+use Rattle.seize_words.proofs.OneMemory.FreeKept.{free_few, reuse_gives}
 use Rattle.seize_words.proofs.directory.Directory.make.Goals as goal
 
 pub returns-then-before-count-clause-ok : goal.returns-then-before-count-clause-ok

@@ -1,7 +1,7 @@
 use Rattle.std.proofs.Common.{rules, IsSome, None}
 use Rattle.std.specs.Prelude.{slice_index_or}
-use Rattle.seize_words.specs.Buckets.{all_in}
-use Rattle.seize_words.proofs.DirectoryKept.{bucket_there, found, place_fits, some_itself, some_lt}
+use Rattle.seize_words.specs.OneMemory.Buckets.{all_in}
+use Rattle.seize_words.proofs.OneMemory.DirectoryKept.{bucket_there, found, place_fits, some_itself, some_lt}
 use Rattle.seize_words.proofs.directory.Directory.piece.Goals as goal
 
 pub place_of-bucket-requires : goal.place_of-bucket-requires

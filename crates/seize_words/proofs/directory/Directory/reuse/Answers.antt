@@ -1,7 +1,7 @@
 use Rattle.std.proofs.Common.{rules, ◌-◌, ◌<◌, Some, length, refl, ◌∙◌}
-use Rattle.seize_words.specs.Buckets.{all_in}
-use Rattle.seize_words.specs.Mem.{free_from}
-use Rattle.seize_words.proofs.DirectoryKept.{bucket_there, found, index_within, IsDirectory-reused, nothing_there, number_some, number_within, place_fits, written}
+use Rattle.seize_words.specs.OneMemory.Buckets.{all_in}
+use Rattle.seize_words.specs.OneMemory.Mem.{free_from}
+use Rattle.seize_words.proofs.OneMemory.DirectoryKept.{bucket_there, found, index_within, IsDirectory-reused, nothing_there, number_some, number_within, place_fits, written}
 use Rattle.seize_words.proofs.directory.Directory.reuse.Goals as goal
 
 pub overflow_sub-number : goal.overflow_sub-number

@@ -1,8 +1,8 @@
 use Rattle.std.proofs.Common.{rules, IsSome, None, ap, ◌∙◌}
 use Rattle.std.specs.Prelude.{slice_index_or, slice_set}
-use Rattle.seize_words.specs.Buckets.{all_in}
-use Rattle.seize_words.specs.Mem.{word_in, with_word_in}
-use Rattle.seize_words.proofs.DirectoryKept.{bucket_there, found, IsDirectory-changed, place_fits, some_by_word, some_lt, with_word_in-some, written}
+use Rattle.seize_words.specs.OneMemory.Buckets.{all_in}
+use Rattle.seize_words.specs.OneMemory.Mem.{word_in, with_word_in}
+use Rattle.seize_words.proofs.OneMemory.DirectoryKept.{bucket_there, found, IsDirectory-changed, place_fits, some_by_word, some_lt, with_word_in-some, written}
 use Rattle.seize_words.proofs.directory.Directory.set_word.Goals as goal
 
 pub place_of-bucket-requires : goal.place_of-bucket-requires

@@ -1,8 +1,8 @@
 use Rattle.std.proofs.Common.{rules, IsSome, None, Some, ap, refl, sym, ◌∙◌}
 use Rattle.std.specs.Prelude.{slice_index_or}
-use Rattle.seize_words.specs.Buckets.{all_in}
-use Rattle.seize_words.specs.Mem.{value_in}
-use Rattle.seize_words.proofs.DirectoryKept.{bucket_there, found, IsDirectory-taken, place_fits, some_by_value, some_lt, written}
+use Rattle.seize_words.specs.OneMemory.Buckets.{all_in}
+use Rattle.seize_words.specs.OneMemory.Mem.{value_in}
+use Rattle.seize_words.proofs.OneMemory.DirectoryKept.{bucket_there, found, IsDirectory-taken, place_fits, some_by_value, some_lt, written}
 use Rattle.seize_words.proofs.directory.Directory.take.Goals as goal
 
 pub place_of-bucket-requires : goal.place_of-bucket-requires

@@ -1,8 +1,8 @@
 use Rattle.std.proofs.Common.{rules, ◌≡◌, ◌<◌, ◌≤◌, ◌+◌, ◌-◌, ◌*◌, ◌/◌, ◌%◌, ◌^◌, ◌∙◌, ap, sym, arith, length}
 use Rattle.std.proofs.lemmas.List.{with_items_is}
-use Rattle.seize_words.specs.FreeNumbers.{IsTurned}
-use Rattle.seize_words.proofs.FreeSteps.{given-count, given-numbers, given-there, places-same}
-use Rattle.seize_words.proofs.FreeWords.{few_in}
+use Rattle.seize_words.specs.OneMemory.FreeNumbers.{IsTurned}
+use Rattle.seize_words.proofs.OneMemory.FreeSteps.{given-count, given-numbers, given-there, places-same}
+use Rattle.seize_words.proofs.OneMemory.FreeWords.{few_in}
 use Rattle.seize_words.proofs.free_numbers.FreeNumbers.give.Goals as goal
 
 pub overflow_add-self : goal.overflow_add-self

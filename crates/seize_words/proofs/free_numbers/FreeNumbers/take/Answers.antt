@@ -1,8 +1,8 @@
 use Rattle.std.proofs.Common.{◌≡◌, ◌<◌, ◌+◌, ◌-◌, ◌*◌, ◌∙◌, ap, sym, arith, length}
 use Rattle.std.proofs.lemmas.List.{with_items_is}
-use Rattle.seize_words.specs.FreeNumbers.{IsBehind, IsTurned, numbers_in}
-use Rattle.seize_words.proofs.FreeSteps.{places-same, taken-at, taken-count, taken-numbers}
-use Rattle.seize_words.proofs.FreeWords.{how_many}
+use Rattle.seize_words.specs.OneMemory.FreeNumbers.{IsBehind, IsTurned, numbers_in}
+use Rattle.seize_words.proofs.OneMemory.FreeSteps.{places-same, taken-at, taken-count, taken-numbers}
+use Rattle.seize_words.proofs.OneMemory.FreeWords.{how_many}
 use Rattle.seize_words.proofs.free_numbers.FreeNumbers.take.Goals as goal
 
 pub flag_behind-node-requires-clause-few : goal.flag_behind-node-requires-clause-few

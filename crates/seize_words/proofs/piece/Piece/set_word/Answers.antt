@@ -1,7 +1,7 @@
 use Rattle.std.proofs.Common.{ap, ◌∙◌}
 use Rattle.core.specs.Mem.Slots.{slots_items}
-use Rattle.seize_words.specs.Piece.{block_of, only_of}
-use Rattle.seize_words.proofs.Pieces.{word_put}
+use Rattle.seize_words.specs.OneMemory.Piece.{block_of, only_of}
+use Rattle.seize_words.proofs.OneMemory.Pieces.{word_put}
 use Rattle.seize_words.proofs.piece.Piece.set_word.Goals as goal
 
 pub returns : goal.returns

@@ -1,6 +1,6 @@
 use Rattle.std.proofs.Common.{rules, ◌≡◌}
-use Rattle.seize_words.specs.Mem.{next_number}
-use Rattle.seize_words.proofs.OneOwner.AfterWrites.{free_number}
+use Rattle.seize_words.specs.OneMemory.Mem.{next_number}
+use Rattle.seize_words.proofs.OneMemory.OneOwner.AfterWrites.{free_number}
 use Rattle.seize_words.proofs.plain.PlainMemory.make.Goals as goal
 
 pub returns-clause-took : goal.returns-clause-took

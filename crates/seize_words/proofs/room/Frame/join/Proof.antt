@@ -40,9 +40,9 @@ use Rattle.std_alloc.proofs.vec.Spares.{Row, Into, at_into, Into-goes, Into-give
 use Rattle.std.proofs.raw_atomic.Walks.{proved_at, leaves}
 use Rattle.std.proofs.raw_atomic.Calls.{fm}
 use Rattle.core.proofs.slots.Slots.into_raw_parts.Met as callee
-use Rattle.seize_words.proofs.Stored.{hand_of, hand_good, token, frame_told, RoomData, room_made}
-use Rattle.seize_words.specs.Room as Spec
-use Rattle.seize_words.specs.Room.{ShortPiece, piece_of, places, words_from}
+use Rattle.seize_words.proofs.OneMemory.Stored.{hand_of, hand_good, token, frame_told, RoomData, room_made}
+use Rattle.seize_words.specs.OneMemory.Room as Spec
+use Rattle.seize_words.specs.OneMemory.Room.{ShortPiece, piece_of, places, words_from}
 use Rattle.seize_words.specs.contracts.room.Room as room
 use Rattle.seize_words.specs.contracts.room.Frame as frame
 use Rattle.seize_words.specs.contracts.room.Frame.join.{ended, clauses}

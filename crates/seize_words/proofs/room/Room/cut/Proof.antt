@@ -44,8 +44,8 @@ use Rattle.std_alloc.proofs.vec.Spares.{Row, From, at_from, Made, from_goes, fro
 use Rattle.std.proofs.raw_atomic.Walks.{proved_at, leaves}
 use Rattle.std.proofs.raw_atomic.Calls.{fm}
 use Rattle.core.proofs.slots.Slots.from_raw_parts.Met as callee
-use Rattle.seize_words.proofs.Stored.{hand_of, hand_good, token, room_told, FrameData, frame_made, three_val, three_of}
-use Rattle.seize_words.specs.Room.{ShortPiece, piece_of, places, words_from}
+use Rattle.seize_words.proofs.OneMemory.Stored.{hand_of, hand_good, token, room_told, FrameData, frame_made, three_val, three_of}
+use Rattle.seize_words.specs.OneMemory.Room.{ShortPiece, piece_of, places, words_from}
 use Rattle.seize_words.specs.contracts.room.Room as room
 use Rattle.seize_words.specs.contracts.room.Frame as frame
 use Rattle.seize_words.specs.contracts.room.Room.cut.{ended, clauses}

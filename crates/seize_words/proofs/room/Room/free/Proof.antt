@@ -28,8 +28,8 @@ use Rattle.core.proofs.alloc.Calls.{Al, seen, Goes-blank, Gives, at_gives, Gives
 use Rattle.core.proofs.alloc.Shapes.{after}
 use Rattle.std.proofs.raw_atomic.Walks.{proved_at, leaves}
 use Rattle.std.proofs.raw_atomic.Calls.{fm}
-use Rattle.seize_words.proofs.Stored.{hand_of, hand_good, room_told}
-use Rattle.seize_words.specs.Room.{piece_of}
+use Rattle.seize_words.proofs.OneMemory.Stored.{hand_of, hand_good, room_told}
+use Rattle.seize_words.specs.OneMemory.Room.{piece_of}
 use Rattle.seize_words.specs.contracts.room.Room as room
 use Rattle.seize_words.specs.contracts.room.Room.free.{ended, clauses}
 use Rattle.seize_words.specs.contracts.room.Room.free.Key.{name as #self}

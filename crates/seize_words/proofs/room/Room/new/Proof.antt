@@ -5,11 +5,11 @@ use mir.Val.{Val, vint, vptr, vcons, vnil}
 use mir.MapTy.{inst_fn}
 use base.Logic.{SProp, emp, id⊢}
 use base.Fml.{Lft, Share, Fml, ftrue, fsep, flft}
-use prog.Wp.{Env, WpFn}
+use prog.Wp.{Env, WpFn, Wp, after_seq, at_return}
 use contract.BorrowLft.{◌⊑◌, ⊑_trans}
 use contract.Monad.{fact, fact_i}
 use contract.Running.{tables}
-use types.Kit.{‵, raw, ◌⊛◌, later, prop, at_ret, ◌$◌, ◌∵◌, !, qed, by, move, keep, use0, use1, use2, split, join, regoal, fsplit, fjoin, await}
+use types.Kit.{‵, raw, ◌⊛◌, later, prop, at_ret, ◌$◌, ◌∵◌, !, qed, by, move, keep, use0, use1, use2, split, join, regoal, fsplit, fjoin, await, Post as After, any_q}
 use types.Part.{whole, agg}
 use types.Match.{live, vrt, in_variant}
 use types.Run.{stop, fld, lit, of_opd, no_more, and_then, first, switches_on, exec, returns, enter}
@@ -30,10 +30,8 @@ use Rattle.core.proofs.alloc.Shapes.{after, head, arm_body}
 use Rattle.core.proofs.option.Made.{Some-of, none_of}
 use Rattle.std.proofs.raw_atomic.Walks.{proved_at, leaves}
 use Rattle.std.proofs.raw_atomic.Calls.{fm}
-use prog.Wp.{Wp, after_seq, at_return}
-use types.Kit.{Post as After, any_q}
-use Rattle.seize_words.proofs.Stored.{hand_of, room_made, RoomData}
-use Rattle.seize_words.specs.Room.{piece_of}
+use Rattle.seize_words.proofs.OneMemory.Stored.{hand_of, room_made, RoomData}
+use Rattle.seize_words.specs.OneMemory.Room.{piece_of}
 use Rattle.seize_words.specs.contracts.room.Room as room
 use Rattle.seize_words.specs.contracts.room.Room.new.{ended, clauses}
 use Rattle.seize_words.specs.contracts.room.Room.new.Key.{name as #self}

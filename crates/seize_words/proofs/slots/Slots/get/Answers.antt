@@ -1,8 +1,8 @@
 use Rattle.std.proofs.Common.{rules, ◌≡◌, [], sym, ◌∙◌, ap}
 use Rattle.std.proofs.lemmas.List.{get_or_default}
 use Rattle.std.specs.Prelude.{slice_index_or}
-use Rattle.seize_words.specs.SlotWords.{slot_word}
-use Rattle.seize_words.proofs.Places.Words.{slot_fits, bucket_there, slot_word-place}
+use Rattle.seize_words.specs.OneMemory.SlotWords.{slot_word}
+use Rattle.seize_words.proofs.OneMemory.Places.Words.{slot_fits, bucket_there, slot_word-place}
 use Rattle.seize_words.proofs.slots.Slots.get.Goals as goal
 
 pub place_of-bucket-requires : goal.place_of-bucket-requires

@@ -1,5 +1,5 @@
 use Rattle.std.proofs.Common.{rules, ◌≡◌, not, length, nat_eq, ap, ◌∙◌}
-use Rattle.seize_words.proofs.Places.Words.{is_next}
+use Rattle.seize_words.proofs.OneMemory.Places.Words.{is_next}
 use Rattle.seize_words.proofs.slots.Slots.has.Goals as goal
 
 pub returns : goal.returns

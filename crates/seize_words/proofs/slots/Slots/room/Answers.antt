@@ -1,8 +1,8 @@
 use Rattle.std.proofs.Common.{rules, ◌≡◌, length, ◌∙◌, ap}
 use Rattle.seize_words.specs.declared.slots.TheConstants.{SLOT_WORDS}
 use Rattle.std.specs.Prelude.{replicate, Result, Ok, Err, OnErr}
-use Rattle.seize_words.specs.Buckets.{all_in}
-use Rattle.seize_words.proofs.Places.Words.{IsBucketed-more, next_length, slots_in-more, slots_in-same}
+use Rattle.seize_words.specs.OneMemory.Buckets.{all_in}
+use Rattle.seize_words.proofs.OneMemory.Places.Words.{IsBucketed-more, next_length, slots_in-more, slots_in-same}
 use Rattle.seize_words.proofs.slots.Slots.room.Goals as goal
 
 on_err : {X E P : Type 0} (r : Result X E) → P → OnErr r P

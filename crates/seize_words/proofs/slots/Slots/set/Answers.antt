@@ -1,5 +1,5 @@
 use Rattle.std.proofs.Common.{rules, refl}
-use Rattle.seize_words.proofs.Places.Words.{slot_fits, bucket_there, some_in_bucket, slots_in-written, IsBucketed-written}
+use Rattle.seize_words.proofs.OneMemory.Places.Words.{slot_fits, bucket_there, some_in_bucket, slots_in-written, IsBucketed-written}
 use Rattle.seize_words.proofs.slots.Slots.set.Goals as goal
 
 pub place_of-bucket-requires : goal.place_of-bucket-requires

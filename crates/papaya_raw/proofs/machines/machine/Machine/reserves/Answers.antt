@@ -1,9 +1,9 @@
 -- A step of the reservation is the machine's, with its outcome turned.
 use Rattle.std.proofs.Common.{ap}
-use Rattle.papaya_tables.proofs.Given.SeizeWordsPlans.{may_as}
-use Rattle.papaya_tables.proofs.Given.SeizeStepsInto.{steps_into}
+use Rattle.seize.proofs.Given.SeizeWordsPlans.{may_as}
+use Rattle.seize.proofs.StepsInto.{steps_into}
 use Rattle.papaya_raw.specs.declared.machines.machine.Machine.TheVariants as kinds
-use Rattle.papaya_sweeps.specs.Given.ReservesReserve.{reserve_plan}
+use Rattle.map_sweeps.specs.Reserves.Reserve.{reserve_plan}
 use Rattle.papaya_raw.specs.Machine.{reserved}
 use Rattle.papaya_raw.proofs.machines.machine.Machine.reserves.Goals as goal
 

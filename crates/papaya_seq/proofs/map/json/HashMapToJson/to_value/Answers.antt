@@ -1,7 +1,7 @@
 -- The pairs that its walk shows are those of the map, all in range, and each has a text of its own.
 use Rattle.std.proofs.lemmas.Result.{IfOk-weaker}
 use Rattle.serde_json.specs.View.{view}
-use Rattle.papaya_shown.specs.Coming.{pairs_to_come}
+use Rattle.map_straight.specs.Shown.Coming.{pairs_to_come}
 use Rattle.papaya_seq.proofs.Members.{written_in_range, written_object}
 use Rattle.papaya_seq.proofs.map.json.HashMapToJson.to_value.Goals as goal
 

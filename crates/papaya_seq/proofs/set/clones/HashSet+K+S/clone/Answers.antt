@@ -4,8 +4,8 @@ use Rattle.std.specs.List.Sorted.{IsPermutation}
 use Rattle.std.specs.Map.{keys_of}
 use Rattle.std.proofs.Common.{◌∙◌, refl, subst, sym}
 use Rattle.std.proofs.lemmas.List.{length-map}
-use Rattle.papaya_seq_map.specs.Given.{agree, with_no_values}
-use Rattle.papaya_seq_map.proofs.Given.{no_values}
+use Rattle.owner_map.specs.Given.{agree, with_no_values}
+use Rattle.owner_map.proofs.Given.{no_values}
 use Rattle.papaya_seq.specs.Sets.{Set, set_of}
 use Rattle.papaya_seq.specs.Stored.{IsSetMadeOfClones}
 use Rattle.papaya_seq.proofs.Sets.{keys_in_order}

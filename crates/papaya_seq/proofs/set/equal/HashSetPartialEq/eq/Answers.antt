@@ -1,9 +1,9 @@
 -- By the maps, which have no values.
 use Rattle.std.specs.Prelude.{true}
 use Rattle.std.proofs.Common.{◌∙◌, ap, sym}
-use Rattle.papaya_seq_map.specs.Given.{agree, with_no_values}
+use Rattle.owner_map.specs.Given.{agree, with_no_values}
 use Rattle.papaya_seq.specs.Sets.{Set}
-use Rattle.papaya_seq_map.proofs.Given.{no_values}
+use Rattle.owner_map.proofs.Given.{no_values}
 use Rattle.papaya_seq.proofs.set.equal.HashSetPartialEq.eq.Goals as goal
 
 pub returns : goal.returns

@@ -4,9 +4,9 @@ use Rattle.std.proofs.Common.{subst, ◌∙◌}
 use Rattle.std.proofs.lemmas.List.Elements.{All-map}
 use Rattle.std.proofs.lemmas.Result.{IfOk-weaker}
 use Rattle.serde_json.specs.View.{view}
-use Rattle.papaya_forms.specs.Arrays.{IsArrayOf}
-use Rattle.papaya_shown.specs.Columns.{keys_to_come}
-use Rattle.papaya_seq_map.proofs.Given.Walked.{shown_to_end}
+use Rattle.map_forms.specs.Arrays.{IsArrayOf}
+use Rattle.map_straight.specs.Shown.Columns.{keys_to_come}
+use Rattle.owner_map.proofs.Given.SeqShowsWalked.{shown_to_end}
 use Rattle.papaya_seq.proofs.set.json.HashSetToJson.to_value.Goals as goal
 
 pub returns : goal.returns

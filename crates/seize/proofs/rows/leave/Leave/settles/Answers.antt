@@ -1,6 +1,6 @@
 -- A step of the settling is the row's, with its outcome turned.
 use Rattle.std.proofs.Common.{refl, subst, sym}
-use Rattle.seize_words.specs.Plan.{Steps}
+use Rattle.seize_words.specs.OneMemory.Plan.{Steps}
 use Rattle.seize.proofs.StepsInto.{steps_into}
 use Rattle.seize.specs.declared.rows.leave.Leaving.{Leaving}
 use Rattle.seize.specs.Settle.{settle_plan}

@@ -1,6 +1,6 @@
 -- A step of the leaving is that of giving everything back, with its outcome turned.
 use Rattle.std.proofs.Common.{refl, subst, sym}
-use Rattle.seize_words.specs.Plan.{Steps}
+use Rattle.seize_words.specs.OneMemory.Plan.{Steps}
 use Rattle.seize.proofs.StepsInto.{steps_into}
 use Rattle.seize.specs.Leave.{leave_plan}
 use Rattle.seize.specs.declared.rows.reclaim_all.Reclaiming.{Reclaiming}

@@ -1,5 +1,5 @@
 use Rattle.std.proofs.Common.{sym, subst, refl, ◌∙◌}
-use Rattle.seize_views.specs.Rows.{IsAtRest}
+use Rattle.seize_views.specs.Views.Rows.{IsAtRest}
 use Rattle.seize_callers.proofs.caller.pass.Caller+T.protect_by.Goals as goal
 
 pub errand_with-requires-clause-asks : goal.errand_with-requires-clause-asks

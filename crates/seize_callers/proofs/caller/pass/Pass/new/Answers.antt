@@ -1,4 +1,4 @@
-use Rattle.seize_views.proofs.Notes.{comings_are_noted}
+use Rattle.seize_views.proofs.Views.Notes.{comings_are_noted}
 use Rattle.seize_callers.proofs.caller.pass.Pass.new.Goals as goal
 
 pub seat-seat-requires : goal.seat-seat-requires

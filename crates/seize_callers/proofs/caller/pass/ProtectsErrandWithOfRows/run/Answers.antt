@@ -1,19 +1,19 @@
 use Rattle.std.proofs.Common.{◌≡◌, ℕ, sym, subst, ◌∙◌, inr}
-use Rattle.seize_seats.specs.Errands.{Away, Lends}
-use Rattle.seize_words.specs.Word.{block_in}
+use Rattle.seize_seats.specs.Seats.Errands.{Away, Lends}
+use Rattle.seize_words.specs.OneMemory.Word.{block_in}
 use Rattle.std.specs.Prelude.{IfSome}
-use Rattle.seize_words.specs.Op.{Load, Found}
+use Rattle.seize_words.specs.OneMemory.Op.{Load, Found}
 use Rattle.seize_words.specs.declared.at.At.TheVariants.{Root}
-use Rattle.seize_seats.specs.Lendings.{IsValueOf}
-use Rattle.seize_views.specs.Notes.{NotedHolds, deed}
-use Rattle.seize_views.specs.Rows.{IsAtRest}
-use Rattle.seize_views.specs.Told.{told}
+use Rattle.seize_seats.specs.Seats.Lendings.{IsValueOf}
+use Rattle.seize_views.specs.Views.Notes.{NotedHolds, deed}
+use Rattle.seize_views.specs.Views.Rows.{IsAtRest}
+use Rattle.seize_views.specs.Views.Told.{told}
 use Rattle.seize_views.specs.declared.view.Deed.TheVariants.{Looked}
 use Rattle.seize_views.specs.declared.view.Fixed.{Fixed}
-use Rattle.seize_views.specs.Watched.{LeansOn}
+use Rattle.seize_views.specs.Views.Watched.{LeansOn}
 use Rattle.seize_views.specs.declared.view.View.{View}
 use Rattle.seize_views.specs.declared.view.View.TheVariants.{Under}
-use Rattle.seize_views.proofs.Passing.{leanings_begin, leanings_see, leanings_end}
+use Rattle.seize_views.proofs.Views.Passing.{leanings_begin, leanings_see, leanings_end}
 use Rattle.seize_callers.proofs.caller.pass.ProtectsErrandWithOfRows.run.Given as given
 use Rattle.seize_callers.proofs.caller.pass.ProtectsErrandWithOfRows.run.Goals as goal
 use Rattle.seize_callers.proofs.caller.pass.ProtectsErrandWithOfRows.run.Goals.{After-learn, After-load-word}

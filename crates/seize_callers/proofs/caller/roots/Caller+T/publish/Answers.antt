@@ -1,6 +1,6 @@
 use Rattle.std.specs.Prelude.{ℕ, Some}
 use Rattle.std.proofs.Common.{sym, ap, ◌∙◌}
-use Rattle.seize_views.specs.Notes.{written_at}
+use Rattle.seize_views.specs.Views.Notes.{written_at}
 use Rattle.seize_callers.proofs.Deeds.{put_noted}
 use Rattle.seize_callers.proofs.Calls.{may_link}
 use Rattle.seize_callers.proofs.caller.roots.Caller+T.publish.Goals as goal

@@ -1,6 +1,6 @@
 use Rattle.std.specs.Prelude.{ℕ, Some}
 use Rattle.std.proofs.Common.{sym, ap, ◌∙◌}
-use Rattle.seize_views.specs.Notes.{looked_at}
+use Rattle.seize_views.specs.Views.Notes.{looked_at}
 use Rattle.seize_callers.proofs.caller.roots.Caller+T.see.Goals as goal
 
 pub returns-clause-looked : goal.returns-clause-looked

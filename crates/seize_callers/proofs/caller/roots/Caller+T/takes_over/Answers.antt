@@ -1,7 +1,7 @@
 use Rattle.std.proofs.Common.{subst}
-use Rattle.seize_views.specs.Begun.{Hands}
+use Rattle.seize_views.specs.Views.Begun.{Hands}
 use Rattle.seize_callers.proofs.Resting.{handed}
-use Rattle.seize_views.specs.Resting.{upright}
+use Rattle.seize_views.specs.Views.Resting.{upright}
 use Rattle.seize_callers.proofs.Owning.{bears, may_hand_on, owes_told, cuts_told, rests_told}
 use Rattle.seize_callers.proofs.caller.roots.Caller+T.takes_over.Goals as goal
 

@@ -1,6 +1,6 @@
 use Rattle.std.specs.Prelude.{ℕ, Some, None}
 use Rattle.std.proofs.Common.{sym, ap, ◌∙◌}
-use Rattle.seize_views.specs.Notes.{written_at}
+use Rattle.seize_views.specs.Views.Notes.{written_at}
 use Rattle.seize_callers.proofs.Deeds.{withdrawn_noted}
 use Rattle.seize_callers.proofs.Calls.{may_withdraw}
 use Rattle.seize_callers.proofs.caller.roots.Caller+T.withdraw.Goals as goal

@@ -1,10 +1,10 @@
 use Rattle.std.proofs.Common.{inl, subst}
 use Rattle.seize_callers.proofs.Resting.{at_rest}
-use Rattle.seize_views.specs.Resting.{upright}
-use Rattle.seize_views.specs.Watched.{LeansOn}
+use Rattle.seize_views.specs.Views.Resting.{upright}
+use Rattle.seize_views.specs.Views.Watched.{LeansOn}
 use Rattle.seize_views.specs.declared.view.View.{View}
 use Rattle.seize_views.specs.declared.view.View.TheVariants.{Rests}
-use Rattle.seize_views.proofs.Guarding.{watches_end}
+use Rattle.seize_views.proofs.Views.Guarding.{watches_end}
 use Rattle.seize_callers.proofs.caller.watch.Caller+T.excuses.Goals as goal
 
 pub meet-requires-clause-may : goal.meet-requires-clause-may

@@ -1,6 +1,6 @@
 use Rattle.std.specs.Prelude.{Some}
 use Rattle.std.proofs.Common.{Bool, ap, ◌∙◌}
-use Rattle.seize_shared.proofs.Standing.{takes_inside}
+use Rattle.seize_shared.proofs.OnThreads.Standing.{takes_inside}
 use Rattle.seize_shared.proofs.stay.roots.Stay+T.takes_over.Goals as goal
 
 -- within its section the block is in its hand then

@@ -1,0 +1,186 @@
+-- A copier that stands at no row has seen tables and pairs of its map, which its section holds, where pairs move in incremental mode.
+use Rattle.std.specs.Prelude.{◌==◌, ◌/◌, ◌%◌, ◌+◌, ◌^◌, ◌<◌, nat_lt, Option, Some}
+use Rattle.std.proofs.Common.{◌≡◌, ℕ, suc, Bool, true, false, inl, inr, sym, subst, ap, arith, ◌∙◌}
+use Rattle.std.proofs.lemmas.Bool.{eqb-false}
+use Rattle.run_shows.specs.Given.SeizeWordsDeclared.at.At.TheVariants.{Root, Word}
+use Rattle.run_shows.specs.Given.SeizeWordsMem.{Mem, value_at, word_at}
+use Rattle.run_shows.specs.Given.SeizeLaw.{holds}
+use Rattle.run_shows.specs.Given.SeizeWorld.{World}
+use Rattle.run_shows.specs.Given.TablesNodes.{table_seen}
+use Rattle.run_shows.specs.Given.TablesTablePlaces.{at_word, at_place}
+use Rattle.run_shows.specs.Given.TablesDeclared.marks.TheConstants.{COPYING}
+use Rattle.run_shows.specs.Given.TablesDeclared.node.Node.{Node}
+use Rattle.run_shows.specs.Given.TablesDeclared.probe.Probe.{Probe}
+use Rattle.run_shows.specs.Given.TablesDeclared.setting.Setting.{Setting}
+use Rattle.run_shows.specs.Given.TablesDeclared.status.TheConstants.Status.{ABORTED, PROMOTED}
+use Rattle.run_shows.specs.Given.TablesDeclared.table.Table.{Table}
+use Rattle.run_shows.specs.Given.TablesDeclared.table_words.TheConstants.{NEXT, STATUS, CLAIM, COPIED}
+use Rattle.run_shows.specs.Given.ResizeCopier as copier
+use Rattle.run_shows.specs.Given.ResizeCopier.{copier_plan}
+use Rattle.run_shows.specs.Given.ResizeCopierClaims as claims
+use Rattle.run_shows.specs.Given.ResizeCopierCounts as counts
+use Rattle.run_shows.specs.Given.ResizeCopierFurther as further
+use Rattle.run_shows.specs.Given.ResizeCopierMarks as marks
+use Rattle.run_shows.specs.Given.ResizeCopierPlaces as places
+use Rattle.run_shows.specs.Given.ResizeCopierPromotes as promotes
+use Rattle.run_shows.specs.Given.ResizeNewTable.{new_table_plan}
+use Rattle.run_shows.specs.Given.ResizeDeclared.copier.Copier.{Copier}
+use Rattle.run_shows.specs.Given.ResizeDeclared.copier.Copying.{Copying}
+use Rattle.run_shows.specs.Given.ResizeDeclared.copier.Copying.TheVariants as at
+use Rattle.run_shows.specs.Given.ResizeDeclared.outcome.Outcome.{Outcome}
+use Rattle.run_shows.specs.Given.ResizeDeclared.outcome.Outcome.TheVariants.{Goes}
+use Rattle.run_shows.specs.Given.RuleChart.{Chart}
+use Rattle.run_shows.specs.Given.RuleLinks.{LeadsTo}
+use Rattle.run_shows.specs.Given.RuleWords.{Blocks, place_word}
+use Rattle.run_shows.specs.Given.RuleMaps.{spot_of, IsTable}
+use Rattle.run_shows.specs.Given.RuleInWorld.{IsMapIn}
+use Rattle.run_shows.specs.Given.TablesChunks.{is_incremental}
+use Rattle.run_shows.proofs.Given.RuleWords.LinksSeen.{link_made, root_leads, next_leads}
+use Rattle.run_shows.proofs.Given.RuleWords.PlacesShown.{are_stored}
+use Rattle.run_shows.proofs.Given.RuleWords.TablesSeen.{place_there}
+use Rattle.owner_facts.specs.Given.PointsFactsCopies.{CopyingFacts, CopierFacts}
+use Rattle.owner_facts.specs.Given.PointsTold.{IsRowOfCopier}
+use Rattle.owner_facts.specs.Given.CallersKept.{IsWithin}
+use Rattle.many_acts.specs.Looks.Sees.{HasSeen}
+use Rattle.many_acts.proofs.Looks.Sees.Held.{table_held, sees_link, pair_held}
+use Rattle.many_acts.proofs.Looks.Sees.Operations.{none_if, loads, adds, ors, exchanges}
+use Rattle.many_acts.proofs.Looks.Sees.Plans.{seen_as, sees_if, sees_one}
+use Rattle.many_acts.proofs.Looks.Sees.Tables.{new_table_sees}
+
+module _ {K V : Type 0} (same : K → K → Bool) (hash : K → ℕ) (fits : (k : K) → hash k < 2 ^ 64) (w : World (Node K V)) (slot caller : ℕ) (c : Chart K) (seen : Blocks)
+    (setting within_setting : Setting) (within : IsWithin w slot c seen within_setting) (map : IsMapIn same hash setting w c seen) where
+  -- what is seen by the link of the root, or by that to the table behind one
+  pub root_link : (link : ℕ) → word_at w.memory (Root setting.root) ≡ Some link → LeadsTo c seen link c.first
+  root_link link read = root_leads same hash setting.mode setting.root w.memory c seen map.map link read
+
+  pub next_link : (table : Table) (t : ℕ) → IsTable c seen table t → (link : ℕ) → word_at w.memory (at_word table NEXT) ≡ Some link → LeadsTo c seen link (suc t)
+  next_link table t entered link read = next_leads same hash setting.mode setting.root w.memory c seen map.map table t link entered read
+
+  -- where a table was made, the root has one
+  pub root_held : 0 < c.past → (link : ℕ) → word_at w.memory (Root setting.root) ≡ Some link → holds slot (link / 2048) w.log ≡ true
+  root_held some link read = table_held w slot c seen within_setting within link c.first (link_made c seen link c.first (root_link link read) (map.map.rule.common.rooted some))
+
+  -- the pair of a place, by the word that was read there
+  pub place_held : (table : Table) (t i : ℕ) → IsTable c seen table t → i < c.len t → (word : ℕ) → word_at w.memory (at_place table i) ≡ Some word → (word / 2048 == 0) ≡ false
+      → holds slot (word / 2048) w.log ≡ true
+  place_held table t i entered inside word read some =
+      let there = place_there hash w.memory c seen setting.root map.map.shows table t entered i inside in
+      let is : word ≡ place_word hash c seen (c.place t i) = cc (there, read) in
+      let ne = eqb-false (word / 2048) 0 some in
+      subst (λ (x : ℕ). holds slot (x / 2048) w.log ≡ true) (sym is)
+      (pair_held w slot c seen within_setting within hash fits setting.root w.memory map.map.shows (are_stored same (spot_of hash) (is_incremental setting.mode) c map.map.rule.common) t i
+      entered.made entered.known (omega (arith, is, ne)))
+
+  module _ (p : Copier) (setting_is : p.setting ≡ setting) (b : ℕ) (n : Mem (Node K V)) (end : Copier × Outcome (Node K V) Table) where
+    abbrev IsHeld : Type 0
+    IsHeld = holds slot b w.log ≡ true
+
+    abbrev Saw : Copying → Type 0
+    Saw stands = HasSeen b w.memory (copier.plan_at hash p stands) n end
+
+    abbrev shown : ℕ → Option (Node K V)
+    shown = value_at n
+
+    begins : 0 < c.past → Saw at.Begins → IsHeld
+    begins some saw =
+        let l = loads b w.memory n (Root p.setting.root) end (claims.root_read p) saw in
+        let read : word_at w.memory (Root setting.root) ≡ Some l.0 = ap (λ (x : Setting). word_at w.memory (Root x.root)) (sym setting_is) ∙ l.1 in
+        subst (λ (x : ℕ). holds slot x w.log ≡ true)
+        (sym (sees_one {R = Copier × Outcome (Node K V) Table} b (l.0 / 2048) shown (λ value. (record p { source = table_seen l.0 value; stands = at.Follows }, Goes)) l.3.1)) (root_held some l.0 read)
+
+    follows : (t : ℕ) → IsTable c seen p.source t → Saw at.Follows → IsHeld
+    follows t entered saw =
+        let l = loads b w.memory n (at_word p.source NEXT) end (claims.next_read p) saw in
+        sees_link w slot c seen within_setting within shown l.0 (suc t) (next_link p.source t entered l.0 l.1) _ (λ value. (record p { target = table_seen l.0 value; stands = at.Sees }, Goes)) b l.3.1
+
+    asks : Saw at.Asks → IsHeld
+    asks saw =
+        let l = loads b w.memory n (at_word p.target STATUS) end (claims.status_read p) saw in
+        absurd (none_if b shown (l.0 == PROMOTED) _ _ (λ x. x) (none_if b shown (l.0 == ABORTED) _ _ (λ x. x) (none_if b shown p.spent _ _ (λ x. x) (λ x. x))) l.3.1)
+
+    sees : Saw at.Sees → IsHeld
+    sees saw =
+        let l = loads b w.memory n (at_word p.target CLAIM) end (claims.claim_read p) saw in
+        absurd (none_if b shown (nat_lt l.0 p.source.len) _ _ (λ x. x) (λ x. x) l.3.1)
+
+    claim : Saw at.Claims → IsHeld
+    claim saw =
+        let l = adds b w.memory n (at_word p.target CLAIM) end (claims.claimed p) (claims.chunk p) saw in
+        absurd (none_if b shown (nat_lt l.0 p.source.len) _ _ (λ x. x) (λ x. x) l.2.1)
+
+    mark : (t : ℕ) → IsTable c seen p.source t → p.place < c.len t → Saw at.Marks → IsHeld
+    mark t entered inside saw =
+        let l = ors b w.memory n (at_place p.source p.place) end (marks.marked hash p) COPYING saw in
+        elim (sees_if b shown (marks.is_mine p l.0) _ _ l.2.1) as (λ _. IsHeld) [
+          | inl mine ↦ elim (sees_if b shown (l.0 / 2048 == 0) _ _ mine.1) as (λ _. IsHeld) [
+            | inl none ↦ absurd none.1
+            | inr some ↦
+                subst (λ (x : ℕ). holds slot x w.log ≡ true)
+                (sym (sees_one {R = Copier × Outcome (Node K V) Table} b (l.0 / 2048) shown (λ value. (marks.probing p (marks.without_copying l.0) (marks.key_hash hash value) p.target, Goes)) some.1))
+                (place_held p.source t p.place entered inside l.0 l.1 some.0)
+          ]
+          | inr other ↦ absurd (none_if b shown (marks.is_awaited p l.0) _ _ (λ x. x) (λ x. x) other.1)
+        ]
+
+    probe : (word code : ℕ) (table : Table) (at_probe : Probe) → Saw (at.Probes word code table at_probe) → IsHeld
+    probe word code table at_probe saw =
+        let l = loads b w.memory n (at_place table at_probe.i) end (places.place_read p word code table at_probe) saw in
+        absurd (none_if b shown (l.0 == 0) _ _ (λ x. x) (λ x. x) l.3.1)
+
+    put : (word code : ℕ) (table : Table) (at_probe : Probe) → Saw (at.Puts word code table at_probe) → IsHeld
+    put word code table at_probe saw =
+        elim (exchanges b w.memory n (at_place table at_probe.i) end (places.put_told p word code table at_probe) 0 (places.copied_word p word) saw) as (λ _. IsHeld) [
+          | inl made ↦ absurd made.1.1
+          | inr found ↦ absurd found.3.1
+        ]
+
+    pass : (word code : ℕ) (table : Table) (t : ℕ) → IsTable c seen table t → Saw (at.Passes word code table) → IsHeld
+    pass word code table t entered saw =
+        let l = loads b w.memory n (at_word table NEXT) end (further.further_read p word code table) saw in
+        sees_link w slot c seen within_setting within shown l.0 (suc t) (next_link table t entered l.0 l.1) _ (λ value. (marks.probing p word code (table_seen l.0 value), Goes)) b l.3.1
+
+    count : Saw at.Counts → IsHeld
+    count saw =
+        let l = adds b w.memory n (at_word p.target COPIED) end (counts.counted p) p.done saw in
+        absurd (none_if b shown ((l.0 + p.done) % 2 ^ 64 == p.source.len) _ _ (λ x. x) (λ x. x) l.2.1)
+
+    promote : Saw at.Promotes → IsHeld
+    promote saw = elim (exchanges b w.memory n (Root p.setting.root) end (promotes.promoted p) p.source.link p.target.link saw) as (λ _. IsHeld) [
+      | inl made ↦ absurd made.1.1
+      | inr found ↦ absurd found.3.1
+    ]
+
+    succeed : (table : ℕ) → Saw (at.Succeeds table) → IsHeld
+    succeed table saw = let l = loads b w.memory n (Word (table / 2048) NEXT) end (promotes.successor_read p table) saw in absurd l.3.1
+
+    by_point : (stands : Copying) → CopyingFacts same hash w caller setting c seen p stands → (IsRowOfCopier stands → ⊥) → Saw stands → IsHeld
+    by_point at.Begins (some, done, has_done, claims_none, whole) none saw = begins some saw
+    by_point at.Follows (done, has_done, claims_none, whole, t, below, entered) none saw = follows t entered saw
+    by_point at.Asks point none saw = asks saw
+    by_point at.Sees point none saw = sees saw
+    by_point at.Claims point none saw = claim saw
+    by_point at.Marks (t, (source, target, below, counted), has_done, claims_none, (inside, most, all), settled) none saw = mark t source inside saw
+    by_point (at.Probes word code table probed) point none saw = probe word code table probed saw
+    by_point (at.Puts word code table probed) point none saw = put word code table probed saw
+    by_point (at.Covers word) point none saw = absurd saw.3
+    by_point (at.Passes word code table) (m, k, t, works, code_is, behind, entered, looks) none saw = pass word code table t entered saw
+    by_point (at.Grows word code making) (m, k, t, works, code_is, behind, looks, made, known, facts) none saw =
+        let s = seen_as (further.grown p word code) b w.memory (new_table_plan making) n end saw in
+        new_table_sees w slot caller c seen setting within_setting within (Word (seen.table t) NEXT) (suc t) making b n s.0 facts s.2
+    by_point at.Aborts point none saw = absurd point
+    by_point at.Replaces point none saw = absurd point
+    by_point (at.Remakes making) point none saw = absurd point
+    by_point at.Counts point none saw = count saw
+    by_point (at.Tallies word fault) point none saw = absurd saw.3
+    by_point (at.Unmarks word fault) point none saw = absurd saw.3
+    by_point (at.Unclaims fault) point none saw = absurd saw.3
+    by_point at.Promotes point none saw = promote saw
+    by_point at.Announces point none saw = absurd saw.3
+    by_point (at.Succeeds table) point none saw = succeed table saw
+    by_point (at.Retires settle rest) point none saw = absurd (none tt)
+    by_point at.Over point none saw = absurd saw.2
+    by_point (at.Refused fault) point none saw = absurd saw.2
+
+  pub copier_sees : (p : Copier) → CopierFacts same hash w caller setting c seen p → (IsRowOfCopier p.stands → ⊥) → (b : ℕ) (n : Mem (Node K V)) (end : Copier × Outcome (Node K V) Table)
+      → HasSeen b w.memory (copier_plan hash p) n end → holds slot b w.log ≡ true
+  copier_sees p facts none b n end saw = by_point p facts.setting_is b n end p.stands facts.point none saw

@@ -1,0 +1,6 @@
+//! What is promised, by subject.
+
+pub mod acts;
+pub mod carries;
+pub mod links;
+pub mod looks;

@@ -1,0 +1,2 @@
+-- Samples: what the definitions and laws let pass, and plans that they refuse.
+pub mod Plans

@@ -1,0 +1,17 @@
+-- A step of the making is the copying's, with its outcome turned.
+use Rattle.std.proofs.Common.{refl, subst, sym}
+use Rattle.seize_words.specs.OneMemory.Plan.{Steps}
+use Rattle.map_tables.proofs.Given.SeizeStepsInto.{steps_into}
+use Rattle.map_machines.specs.NewTable.{new_table_plan}
+use Rattle.map_machines.specs.declared.copier.Copying.{Copying}
+use Rattle.map_machines.specs.Copier.{plan_at}
+use Rattle.map_machines.specs.CopierFurther.{grown}
+use Rattle.map_machines.proofs.copier.Copier.grows.Goals as goal
+
+pub returns : goal.returns
+returns g c = λ hashes.
+    subst (λ (stands : Copying). Steps g.M.Look.took g.M.Look.shown c.args.memory.now (plan_at {K = g.row.K.Denot} {V = g.row.V.Denot} hashes c.args.self.now stands)
+    c.step-progress.new.memory (c.grown.new.self, c.grown.result)) (sym c.in-Grows.is)
+    (steps_into (grown {K = g.row.K.Denot} {V = g.row.V.Denot} c.args.self.now c.in-Grows.word c.in-Grows.hash) g.M.Look.can g.M.Look.took g.M.Look.shown c.args.memory.now c.step-progress.new.memory
+    (new_table_plan {K = g.row.K.Denot} {V = g.row.V.Denot} c.in-Grows.making) (c.step-progress.new.self, c.step-progress.result) _
+    (c.grown.ensures c.args.self.now c.step-progress.new.self refl) c.step-progress.ensures)

@@ -1,0 +1,21 @@
+-- Which call another one waits for where all pairs are copied at once.
+pub mod Askers
+pub mod Stands
+pub mod Awaited
+pub mod Moves
+pub mod Reached
+pub mod Writes
+pub mod Copiers
+pub mod Promotes
+pub mod Counts
+pub mod Spent
+pub mod Own
+pub mod Late
+pub mod Works
+pub mod Begins
+pub mod BeginsRooms
+pub mod BeginsSweeps
+pub mod Steps
+pub mod Calls
+pub mod Likes
+pub mod RowsFresh

@@ -1,0 +1,2 @@
+-- A call by another form of a key is the call by the key that it stands for.
+pub mod ByKey

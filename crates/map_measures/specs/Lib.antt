@@ -1,0 +1,6 @@
+pub mod ByKey
+pub mod Falls
+pub mod Passes
+pub mod Waits
+pub mod Waiters
+pub mod Given

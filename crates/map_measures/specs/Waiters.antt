@@ -1,0 +1,2 @@
+-- Which call another one waits for where all pairs are copied at once.
+pub mod Blocking

@@ -1,0 +1,3 @@
+pub mod Straight
+pub mod Shown
+pub mod Given

@@ -1,0 +1,1 @@
+-- Room in a map for further pairs, made ahead of them.

@@ -1,0 +1,15 @@
+-- The words of the crates below, given on to the crates above: these list this crate in place of those.
+pub use Rattle.map_machines.specs.Copier as ResizeCopier
+pub use Rattle.map_machines.specs.CopierClaims as ResizeCopierClaims
+pub use Rattle.map_machines.specs.CopierCounts as ResizeCopierCounts
+pub use Rattle.map_machines.specs.CopierFurther as ResizeCopierFurther
+pub use Rattle.map_machines.specs.CopierMarks as ResizeCopierMarks
+pub use Rattle.map_machines.specs.CopierPlaces as ResizeCopierPlaces
+pub use Rattle.map_machines.specs.CopierPromotes as ResizeCopierPromotes
+pub use Rattle.map_machines.specs.CopierStates as ResizeCopierStates
+pub use Rattle.map_machines.specs.Dispose as ResizeDispose
+pub use Rattle.map_machines.specs.Lookup as ResizeLookup
+pub use Rattle.map_machines.specs.NewTable as ResizeNewTable
+pub use Rattle.map_machines.specs.Sum as ResizeSum
+pub use Rattle.map_machines.specs.contracts as ResizeContracts
+pub use Rattle.map_machines.specs.declared as ResizeDeclared

@@ -1,0 +1,3 @@
+pub mod Sweeps
+pub mod Reserves
+pub mod Given

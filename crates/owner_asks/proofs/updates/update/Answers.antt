@@ -1,0 +1,75 @@
+-- It begins, and comes to what it was told.
+use Rattle.std.specs.Fn.{FnOnceReturnsAt}
+use Rattle.std.specs.Prelude.{Some}
+use Rattle.std.proofs.Common.{◌∙◌, ap, refl, inl}
+use Rattle.papaya_raw.specs.declared.machines.asking.Reply.TheVariants as reply
+use Rattle.owner_calls.specs.Given.CallersKind.{updates}
+use Rattle.owner_asks.specs.Asks.Closures.{Updating}
+use Rattle.owner_calls.specs.Owned.Owned.{hashed_by}
+use Rattle.owner_calls.specs.declared.machines.Stop.TheVariants as stop
+use Rattle.owner_asks.proofs.Asks.Asks.Begins.{updates_so}
+use Rattle.owner_asks.proofs.Asks.Asks.Calls.{word_names}
+use Rattle.owner_asks.proofs.Asks.Asks.Comes.{comes_answered, comes_asking, comes_refused, comes_told}
+use Rattle.owner_asks.proofs.Asks.Asks.Ran.{stopped_answered, stopped_refused, stopped_told}
+use Rattle.owner_asks.proofs.updates.update.Goals as goal
+
+pub start-requires-clause-begun : goal.start-requires-clause-begun
+start-requires-clause-begun g c = let r = c.requires.holds in (r.0, updates, Some c.args.key, g.K.PartialEq.eq c.args.key, r.1, (updates_so g.K.PartialEq.eq ((hashed_by g.S.Hasher.Hasher.finish g.S.Hasher.Hasher.write g.S.BuildHasher.build_hasher g.K.Hash.hash_input) c.args.hasher.now) c.args.setting c.args.key _ c.hash_of-hash.ensures _ c.update-call.ensures))
+
+pub pair_at-requires : goal.pair_at-requires
+pair_at-requires g c =
+    let r = c.requires.holds in
+    let h = c.start.ensures.starts r.0 updates (Some c.args.key) (g.K.PartialEq.eq c.args.key) r.1 (updates_so g.K.PartialEq.eq ((hashed_by g.S.Hasher.Hasher.finish g.S.Hasher.Hasher.write g.S.BuildHasher.build_hasher g.K.Hash.hash_input) c.args.hasher.now) c.args.setting c.args.key _ c.hash_of-hash.ensures _ c.update-call.ensures) in
+    word_names (g.K.PartialEq.eq c.args.key) c.start.new.memory r.0 c.in-Ok-Asks-Some.word (comes_asking g.K.PartialEq.eq g.K.PartialEq.eq (hashed_by g.S.Hasher.Hasher.finish g.S.Hasher.Hasher.write g.S.BuildHasher.build_hasher g.K.Hash.hash_input) c.args.hasher c.args.setting updates (Some c.args.key) (g.K.PartialEq.eq c.args.key) r.0 c.start.new.machine c.start.new.memory c.start.result h _ _ _ c.in-Ok-Asks-Some.is c.in-Ok-Asks-Some.field-0-is c.in-Ok-Asks-Some.field-0-0-is).2
+
+pub make-value-requires : goal.make-value-requires
+make-value-requires g c =
+    let r = c.requires.holds in
+    let h = c.start.ensures.starts r.0 updates (Some c.args.key) (g.K.PartialEq.eq c.args.key) r.1 (updates_so g.K.PartialEq.eq ((hashed_by g.S.Hasher.Hasher.finish g.S.Hasher.Hasher.write g.S.BuildHasher.build_hasher g.K.Hash.hash_input) c.args.hasher.now) c.args.setting c.args.key _ c.hash_of-hash.ensures _ c.update-call.ensures) in
+    let w = (comes_asking g.K.PartialEq.eq g.K.PartialEq.eq (hashed_by g.S.Hasher.Hasher.finish g.S.Hasher.Hasher.write g.S.BuildHasher.build_hasher g.K.Hash.hash_input) c.args.hasher c.args.setting updates (Some c.args.key) (g.K.PartialEq.eq c.args.key) r.0 c.start.new.machine c.start.new.memory c.start.result h _ _ _ c.in-Ok-Asks-Some.is c.in-Ok-Asks-Some.field-0-is c.in-Ok-Asks-Some.field-0-0-is).2 in
+    r.2 (w.0, w.1) w.3 c.pair_at.result.1 ((c.pair_at.ensures w.0 w.1 w.2).1)
+
+pub replied-requires : goal.replied-requires
+replied-requires g c =
+    let r = c.requires.holds in
+    let h = c.start.ensures.starts r.0 updates (Some c.args.key) (g.K.PartialEq.eq c.args.key) r.1 (updates_so g.K.PartialEq.eq ((hashed_by g.S.Hasher.Hasher.finish g.S.Hasher.Hasher.write g.S.BuildHasher.build_hasher g.K.Hash.hash_input) c.args.hasher.now) c.args.setting c.args.key _ c.hash_of-hash.ensures _ c.update-call.ensures) in
+    (r.0, updates, c.args.key, Some c.in-Ok-Asks-Some.word, (comes_asking g.K.PartialEq.eq g.K.PartialEq.eq (hashed_by g.S.Hasher.Hasher.finish g.S.Hasher.Hasher.write g.S.BuildHasher.build_hasher g.K.Hash.hash_input) c.args.hasher c.args.setting updates (Some c.args.key) (g.K.PartialEq.eq c.args.key) r.0 c.start.new.machine c.start.new.memory c.start.result h _ _ _ c.in-Ok-Asks-Some.is c.in-Ok-Asks-Some.field-0-is c.in-Ok-Asks-Some.field-0-0-is).0, tt)
+
+pub unreachable-requires : goal.unreachable-requires
+unreachable-requires g c =
+    let r = c.requires.holds in
+    let h = c.start.ensures.starts r.0 updates (Some c.args.key) (g.K.PartialEq.eq c.args.key) r.1 (updates_so g.K.PartialEq.eq ((hashed_by g.S.Hasher.Hasher.finish g.S.Hasher.Hasher.write g.S.BuildHasher.build_hasher g.K.Hash.hash_input) c.args.hasher.now) c.args.setting c.args.key _ c.hash_of-hash.ensures _ c.update-call.ensures) in
+    let e = (comes_asking g.K.PartialEq.eq g.K.PartialEq.eq (hashed_by g.S.Hasher.Hasher.finish g.S.Hasher.Hasher.write g.S.BuildHasher.build_hasher g.K.Hash.hash_input) c.args.hasher c.args.setting updates (Some c.args.key) (g.K.PartialEq.eq c.args.key) r.0 c.start.new.machine c.start.new.memory c.start.result h _ _ _ c.in-Ok-Asks-None.is c.in-Ok-Asks-None.field-0-is c.in-Ok-Asks-None.field-0-0-is).3 in cc e
+
+pub key_of-key-requires : goal.key_of-key-requires
+key_of-key-requires g c =
+    let r = c.requires.holds in
+    let h = c.start.ensures.starts r.0 updates (Some c.args.key) (g.K.PartialEq.eq c.args.key) r.1 (updates_so g.K.PartialEq.eq ((hashed_by g.S.Hasher.Hasher.finish g.S.Hasher.Hasher.write g.S.BuildHasher.build_hasher g.K.Hash.hash_input) c.args.hasher.now) c.args.setting c.args.key _ c.hash_of-hash.ensures _ c.update-call.ensures) in
+    (c.args.key, (comes_refused g.K.PartialEq.eq g.K.PartialEq.eq (hashed_by g.S.Hasher.Hasher.finish g.S.Hasher.Hasher.write g.S.BuildHasher.build_hasher g.K.Hash.hash_input) c.args.hasher c.args.setting updates (Some c.args.key) (g.K.PartialEq.eq c.args.key) r.0 c.start.new.machine c.start.new.memory c.start.result h _ c.in-Err.is).2 c.args.key refl)
+
+pub returns-in-Ok-Answered-clause-comes : goal.returns-in-Ok-Answered-clause-comes
+returns-in-Ok-Answered-clause-comes g c = λ xs has.
+    let h = c.start.ensures.starts xs updates (Some c.args.key) (g.K.PartialEq.eq c.args.key) has (updates_so g.K.PartialEq.eq ((hashed_by g.S.Hasher.Hasher.finish g.S.Hasher.Hasher.write g.S.BuildHasher.build_hasher g.K.Hash.hash_input) c.args.hasher.now) c.args.setting c.args.key _ c.hash_of-hash.ensures _ c.update-call.ensures) in
+    comes_answered g.K.PartialEq.eq g.K.PartialEq.eq (hashed_by g.S.Hasher.Hasher.finish g.S.Hasher.Hasher.write g.S.BuildHasher.build_hasher g.K.Hash.hash_input) c.args.hasher c.args.setting updates (Some c.args.key) (g.K.PartialEq.eq c.args.key) xs c.start.new.machine c.start.new.memory c.start.result h (Updating (FnOnceReturnsAt g.F.FnOnce c.args.make)) (λ e. tt) (λ y e. absurd (e refl)) _ _ c.in-Ok-Answered.is c.in-Ok-Answered.field-0-is
+
+pub returns-in-Ok-Asks-Some-clause-comes : goal.returns-in-Ok-Asks-Some-clause-comes
+returns-in-Ok-Asks-Some-clause-comes g c = λ xs has.
+    let h = c.start.ensures.starts xs updates (Some c.args.key) (g.K.PartialEq.eq c.args.key) has (updates_so g.K.PartialEq.eq ((hashed_by g.S.Hasher.Hasher.finish g.S.Hasher.Hasher.write g.S.BuildHasher.build_hasher g.K.Hash.hash_input) c.args.hasher.now) c.args.setting c.args.key _ c.hash_of-hash.ensures _ c.update-call.ensures) in
+    let a = comes_asking g.K.PartialEq.eq g.K.PartialEq.eq (hashed_by g.S.Hasher.Hasher.finish g.S.Hasher.Hasher.write g.S.BuildHasher.build_hasher g.K.Hash.hash_input) c.args.hasher c.args.setting updates (Some c.args.key) (g.K.PartialEq.eq c.args.key) xs c.start.new.machine c.start.new.memory c.start.result h _ _ _ c.in-Ok-Asks-Some.is c.in-Ok-Asks-Some.field-0-is c.in-Ok-Asks-Some.field-0-0-is in
+    let w = a.2 in
+    comes_told g.K.PartialEq.eq (hashed_by g.S.Hasher.Hasher.finish g.S.Hasher.Hasher.write g.S.BuildHasher.build_hasher g.K.Hash.hash_input) c.args.hasher c.start.new.machine.hasher a.1 c.args.setting xs c.replied.new.memory (Updating (FnOnceReturnsAt g.F.FnOnce c.args.make)) (reply.Insert c.make-value.result) (Some (w.0, w.1))
+    (c.pair_at.result.1, c.make-value.ensures, (c.pair_at.ensures w.0 w.1 w.2).1) c.args.key w.3 c.replied.result (c.replied.ensures.comes xs updates c.args.key (Some c.in-Ok-Asks-Some.word) a.0 tt)
+
+pub returns-in-Err-clause-comes : goal.returns-in-Err-clause-comes
+returns-in-Err-clause-comes g c = λ xs has.
+    let h = c.start.ensures.starts xs updates (Some c.args.key) (g.K.PartialEq.eq c.args.key) has (updates_so g.K.PartialEq.eq ((hashed_by g.S.Hasher.Hasher.finish g.S.Hasher.Hasher.write g.S.BuildHasher.build_hasher g.K.Hash.hash_input) c.args.hasher.now) c.args.setting c.args.key _ c.hash_of-hash.ensures _ c.update-call.ensures) in
+    let r = comes_refused g.K.PartialEq.eq g.K.PartialEq.eq (hashed_by g.S.Hasher.Hasher.finish g.S.Hasher.Hasher.write g.S.BuildHasher.build_hasher g.K.Hash.hash_input) c.args.hasher c.args.setting updates (Some c.args.key) (g.K.PartialEq.eq c.args.key) xs c.start.new.machine c.start.new.memory c.start.result h _ c.in-Err.is in ((inl r.0, r.1, r.3), c.key_of-key.ensures c.args.key (r.2 c.args.key refl))
+
+pub returns-in-Ok-Answered-clause-ran : goal.returns-in-Ok-Answered-clause-ran
+returns-in-Ok-Answered-clause-ran g c = stopped_answered g.K.PartialEq.eq g.K.PartialEq.eq (hashed_by g.S.Hasher.Hasher.finish g.S.Hasher.Hasher.write g.S.BuildHasher.build_hasher g.K.Hash.hash_input) c.args.hasher c.args.setting _ _ _ _ (updates_so g.K.PartialEq.eq ((hashed_by g.S.Hasher.Hasher.finish g.S.Hasher.Hasher.write g.S.BuildHasher.build_hasher g.K.Hash.hash_input) c.args.hasher.now) c.args.setting c.args.key _ c.hash_of-hash.ensures _ c.update-call.ensures) _ _ _ c.start.ensures.ran _ _ c.in-Ok-Answered.is c.in-Ok-Answered.field-0-is
+
+pub returns-in-Ok-Asks-Some-clause-ran : goal.returns-in-Ok-Asks-Some-clause-ran
+returns-in-Ok-Asks-Some-clause-ran g c = stopped_told g.K.PartialEq.eq g.K.PartialEq.eq (hashed_by g.S.Hasher.Hasher.finish g.S.Hasher.Hasher.write g.S.BuildHasher.build_hasher g.K.Hash.hash_input) c.args.hasher c.args.setting _ _ _ _ (updates_so g.K.PartialEq.eq ((hashed_by g.S.Hasher.Hasher.finish g.S.Hasher.Hasher.write g.S.BuildHasher.build_hasher g.K.Hash.hash_input) c.args.hasher.now) c.args.setting c.args.key _ c.hash_of-hash.ensures _ c.update-call.ensures) _ _ _ c.start.ensures.ran _ _ c.in-Ok-Asks-Some.is (c.in-Ok-Asks-Some.field-0-is ∙ ap stop.Asks c.in-Ok-Asks-Some.field-0-0-is) (reply.Insert c.make-value.result) _ _ c.replied.ensures.ran
+
+pub returns-in-Err-clause-ran : goal.returns-in-Err-clause-ran
+returns-in-Err-clause-ran g c = stopped_refused g.K.PartialEq.eq g.K.PartialEq.eq (hashed_by g.S.Hasher.Hasher.finish g.S.Hasher.Hasher.write g.S.BuildHasher.build_hasher g.K.Hash.hash_input) c.args.hasher c.args.setting _ _ _ _ (updates_so g.K.PartialEq.eq ((hashed_by g.S.Hasher.Hasher.finish g.S.Hasher.Hasher.write g.S.BuildHasher.build_hasher g.K.Hash.hash_input) c.args.hasher.now) c.args.setting c.args.key _ c.hash_of-hash.ensures _ c.update-call.ensures) _ _ _ c.start.ensures.ran _ c.in-Err.is

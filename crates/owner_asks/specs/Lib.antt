@@ -1,0 +1,4 @@
+pub mod Asks
+pub mod Steady
+pub mod Pairs
+pub mod Given

@@ -1,0 +1,4 @@
+pub mod Owned
+pub mod Sifts
+pub mod Holds
+pub mod Given

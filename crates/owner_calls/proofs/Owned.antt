@@ -1,0 +1,7 @@
+-- Lemmas on what one owner runs to its end.
+mod Inner
+pub mod Lookups
+pub mod Owned
+pub mod Passing
+pub mod Straight
+pub mod Walks

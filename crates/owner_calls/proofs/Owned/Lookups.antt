@@ -1,0 +1,3 @@
+-- Lookups that one owner runs.
+pub mod Found
+pub mod Tries

@@ -1,0 +1,16 @@
+//! How many steps a machine may still take. Only proofs read it.
+ghost use Rattle.owner_whole.specs.Strides.Within.{HasLeast, has_least_prop, within};
+
+use seize::{Machine, Progress};
+use seize_words::Plain;
+use std::marker::PhantomData;
+use std::snapshot::Snapshot;
+
+/// A machine and a memory, as they are, and the least number of steps that no run from there goes past. It takes no memory.
+#[derive(Drop)]
+pub(crate) struct Most<T, A, M: Machine<T, Progress = Progress<A>>> {
+    pub(crate) machine: Snapshot<M>,
+    pub(crate) memory: Snapshot<Plain<T>>,
+    pub(crate) answers: PhantomData<A>,
+    ghost least: { HasLeast (λ n. within M.Machine.plan n machine.value memory.value) } by { has_least_prop (λ n. within M.Machine.plan n machine.value memory.value) },
+}

@@ -1,0 +1,66 @@
+//! Machines that one owner runs to their ends.
+ghost use Rattle.std.specs.Prelude.{◌≡◌};
+ghost use Rattle.owner_whole.specs.Strides.Ending.{Ends, RunsTo};
+
+use crate::most::Most;
+use crate::skims::Skims;
+use seize::{Machine, Progress};
+use seize_words::{Fault, Plain};
+use std::marker::PhantomData;
+use std::snapshot::Snapshot;
+
+/// How many steps there are still at most, where each run comes to an end.
+fn most<T, A, M: Machine<T, Progress = Progress<A>>>(
+    machine: &M,
+    memory: &Plain<T>,
+) -> Most<T, A, M>
+    requires { Ends M.Machine.plan machine.now memory.now }
+    ensures machine { result.machine.value ≡ machine.now }
+    ensures memory { result.memory.value ≡ memory.now }
+{
+    let machine = Snapshot::of(machine);
+    let memory = Snapshot::of(memory);
+    Most {
+        machine,
+        memory,
+        answers: PhantomData,
+    }
+}
+
+/// Takes the steps of a machine until it has ended.
+pub fn run<T, A, M: Machine<T, Progress = Progress<A>>>(
+    machine: &mut M,
+    memory: &mut Plain<T>,
+) -> Result<A, Fault>
+    requires { Ends M.Machine.plan machine.old memory.old }
+    ensures { RunsTo M.Machine.plan machine.old memory.old machine.new memory.new result }
+{
+    let mut left = most(machine, memory);
+    loop {
+        match machine.step(memory) {
+            Progress::Goes | Progress::Waits => {}
+            Progress::Done(answer) => return Ok(answer),
+            Progress::Refused(fault) => return Err(fault),
+        }
+        left = most(machine, memory);
+    }
+}
+
+/// Takes the steps of a machine until it has ended, several at once where it can.
+pub fn run_skimming<T, A, M: Machine<T, Progress = Progress<A>> + Skims<T, A>>(
+    machine: &mut M,
+    memory: &mut Plain<T>,
+) -> Result<A, Fault>
+    requires { Ends M.Machine.plan machine.old memory.old }
+    ensures { RunsTo M.Machine.plan machine.old memory.old machine.new memory.new result }
+{
+    let mut left = most(machine, memory);
+    loop {
+        match machine.skim(memory) {
+            Progress::Goes | Progress::Waits => {}
+            Progress::Done(answer) => return Ok(answer),
+            Progress::Refused(fault) => return Err(fault),
+        }
+        left = most(machine, memory);
+    }
+}

@@ -1,0 +1,5 @@
+-- Countings, makings and ends of maps come to their ends, whatever others do.
+mod Lists
+mod Points
+mod Ends
+mod Owned

@@ -1,0 +1,4 @@
+pub mod Alone
+pub mod Maps
+pub mod Descends
+pub mod Given

@@ -1,0 +1,5 @@
+//! What is promised, by subject.
+
+pub mod alone;
+pub mod descends;
+pub mod maps;

@@ -1,0 +1,4 @@
+//! A map over a memory that has one owner: calls that never wait, how it begins, and how it comes to its end.
+#![tactic(auto)]
+
+pub mod law;

@@ -1,0 +1,2 @@
+pub mod Rests
+pub mod ShowsPairs

@@ -1,0 +1,4 @@
+pub mod Whole
+pub mod Lowers
+pub mod Strides
+pub mod Given

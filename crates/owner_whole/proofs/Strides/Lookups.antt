@@ -1,0 +1,2 @@
+-- Lookups that one owner runs.
+pub mod Ends

@@ -1,0 +1,4 @@
+//! What is promised, by subject.
+
+pub mod lowers;
+pub mod whole;

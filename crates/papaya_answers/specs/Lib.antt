@@ -1,5 +1,0 @@
-pub mod Legal
-pub mod Answered
-pub mod Lookups
-pub mod Calls
-pub mod Order

@@ -1,3 +1,0 @@
--- Lemmas on calls on a key that ask, as one owner runs them to their ends.
-pub mod Asks
-pub mod Given

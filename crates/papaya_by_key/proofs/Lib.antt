@@ -1,2 +1,0 @@
-mod Points
-mod Plans

@@ -1,6 +1,0 @@
--- Calls by other forms of keys.
-use Rattle.papaya_by_key.proofs.Plans.{replies_by_key, steps_by_key}
-use Rattle.papaya_by_key.proofs.law.forms_stand_for_keys.Goals as goal
-
-pub returns : goal.returns
-returns c d = record { steps = steps_by_key _; told = replies_by_key _ }

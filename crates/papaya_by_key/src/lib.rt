@@ -1,4 +1,0 @@
-//! A call by another form of a key is the call by the key that it stands for.
-#![tactic(auto)]
-
-pub mod law;

@@ -1,6 +1,0 @@
--- Countings among the calls of many callers on one map.
-use Rattle.papaya_callers.proofs.Together.Countings.{countings_begin_together, countings_stand_together}
-use Rattle.papaya_callers.proofs.law.countings_stand_together.Goals as goal
-
-pub returns : goal.returns
-returns c d = record { begins = countings_begin_together; steps = countings_stand_together }

@@ -1,4 +1,0 @@
-pub mod Theirs
-pub mod Promises
-pub mod Lists
-pub mod Given

@@ -1,4 +1,0 @@
-//! What lies behind blocks that users have, whoever takes a step: behind linked tables, and behind those that a call has yet to hand over.
-#![tactic(auto)]
-
-pub mod law;

@@ -1,2 +1,0 @@
-pub mod Copies
-pub mod Same

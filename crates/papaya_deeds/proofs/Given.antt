@@ -1,2 +1,0 @@
--- What is so by the crates below, given on to the crates above: these list this crate in place of those.
-pub use Rattle.seize_words.proofs.Places as SeizeWordsPlaces

@@ -1,2 +1,0 @@
-mod Samples
-pub mod Given

@@ -1,3 +1,0 @@
-pub mod Deeds
-pub mod History
-pub mod Given

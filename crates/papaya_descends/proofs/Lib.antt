@@ -1,4 +1,0 @@
-mod Lists
-mod Points
-mod Ends
-mod Owned

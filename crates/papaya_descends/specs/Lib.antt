@@ -1,4 +1,0 @@
-pub mod Numbers
-pub mod Falls
-pub mod ComeToAnEnd
-pub mod Owned

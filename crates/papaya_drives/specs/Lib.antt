@@ -1,2 +1,0 @@
-pub mod Executors
-pub mod Given

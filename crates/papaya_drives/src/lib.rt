@@ -1,4 +1,0 @@
-//! An executor does what it does by acts.
-#![tactic(auto)]
-
-pub mod law;

@@ -1,4 +1,0 @@
-pub mod Did
-pub mod Effects
-pub mod Known
-pub mod Given

@@ -1,5 +1,0 @@
-pub mod Ends
-pub mod Going
-pub mod GoingOn
-pub mod InOrder
-pub mod Given

@@ -1,4 +1,0 @@
-//! As a map ends, entry by entry, what it takes is next, and nothing of it is left in the end.
-#![tactic(auto)]
-
-pub mod law;

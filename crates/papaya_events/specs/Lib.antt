@@ -1,6 +1,0 @@
-pub mod Asked
-pub mod OfCalls
-pub mod OfRows
-pub mod OfAll
-pub mod OfSetups
-pub mod Given

@@ -1,5 +1,0 @@
-use Rattle.papaya_executor.proofs.vacating.vacate.Given as goal
-use Rattle.papaya_executor.proofs.Vacated.{AreVacant}
-
-abbrev pub invariant-loop-slot : goal.invariant-loop-slot
-invariant-loop-slot l = AreVacant l.slot l.fn.slots.items l.slots.items

@@ -1,6 +1,0 @@
--- Choices of block numbers among calls, makings and ends of maps.
-use Rattle.papaya_finishes.proofs.Among.Choices.{choices_stand_among}
-use Rattle.papaya_finishes.proofs.law.choices_stand_among.Goals as goal
-
-pub returns : goal.returns
-returns c d = record { stands = choices_stand_among _ }

@@ -1,6 +1,0 @@
--- Countings among calls, makings and ends of maps.
-use Rattle.papaya_finishes.proofs.Among.Countings.{countings_begin_among, countings_stand_among}
-use Rattle.papaya_finishes.proofs.law.countings_stand_among.Goals as goal
-
-pub returns : goal.returns
-returns c d = record { begins = countings_begin_among _; steps = countings_stand_among _ }

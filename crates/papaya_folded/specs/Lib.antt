@@ -1,3 +1,0 @@
-pub mod Folded
-pub mod Steps
-pub mod Given

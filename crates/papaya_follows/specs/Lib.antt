@@ -1,9 +1,0 @@
-pub mod Blocks
-pub mod Maps
-pub mod Calls
-pub mod Shows
-pub mod Calling
-pub mod Finds
-pub mod Steps
-pub mod Beginning
-pub mod Given

@@ -1,2 +1,0 @@
-//! How the moment of a run follows the scene.
-#![tactic(auto)]

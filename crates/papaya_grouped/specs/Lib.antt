@@ -1,5 +1,0 @@
-pub mod Grouping
-pub mod ByActs
-pub mod Reach
-pub mod Called
-pub mod Given

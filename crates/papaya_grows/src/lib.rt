@@ -1,2 +1,0 @@
-//! What effects of calls find: why they ask for blocks, what they have met where a table is full, which tables they link, and behind which they put pairs.
-#![tactic(auto)]

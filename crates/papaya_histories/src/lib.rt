@@ -1,2 +1,0 @@
-//! The history of a map since a call began, and the moments of a run since then.
-#![tactic(auto)]

@@ -1,4 +1,0 @@
-pub mod Ends
-pub mod Kept
-pub mod Steps
-pub mod Given

@@ -1,2 +1,0 @@
-//! What every step keeps: the invariants of a moment of a run, with what is noted, and of the scene that it shows.
-#![tactic(auto)]

@@ -1,7 +1,0 @@
-pub mod Plans
-pub mod Quiet
-pub mod Leads
-mod Pairs
-mod Asked
-mod Filled
-pub mod Asking

@@ -1,6 +1,0 @@
--- What calls know while others step.
-use Rattle.papaya_late.proofs.Lasts.Promised as lasts
-use Rattle.papaya_late.proofs.law.calls_know_on.Goals as goal
-
-pub returns : goal.returns
-returns c d = record { others = lasts.steps_are_of_others _; known = lasts.calls_know_on _ }

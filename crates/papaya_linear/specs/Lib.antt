@@ -1,4 +1,0 @@
-pub mod Shown
-pub mod Coming
-pub mod Linear
-pub mod Given

@@ -1,4 +1,0 @@
-//! Histories of lists of acts are linearizable.
-#![tactic(auto)]
-
-pub mod law;

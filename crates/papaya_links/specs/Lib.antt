@@ -1,2 +1,0 @@
-pub mod Tied
-pub mod Lists

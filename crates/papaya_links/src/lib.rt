@@ -1,4 +1,0 @@
-//! What links lead to: from the root of a map that stands to what can be reached, whoever takes a step.
-#![tactic(auto)]
-
-pub mod law;

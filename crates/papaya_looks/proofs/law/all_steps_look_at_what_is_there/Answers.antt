@@ -1,6 +1,0 @@
--- Each block that the next step looks at, whatever it is one of.
-use Rattle.papaya_looks.proofs.There.{steps_there}
-use Rattle.papaya_looks.proofs.law.all_steps_look_at_what_is_there.Goals as goal
-
-pub returns : goal.returns
-returns c d = record { there = steps_there _ }

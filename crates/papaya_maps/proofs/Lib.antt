@@ -1,8 +1,0 @@
-pub mod Begins
-pub mod Reserves
-pub mod Rests
-pub mod Ends
-mod NextTables
-mod Samples
-pub mod Laws
-pub mod Given

@@ -1,8 +1,0 @@
-pub mod Whole
-pub mod Numbers
-pub mod OnSlots
-pub mod Endings
-pub mod Makings
-pub mod Walks
-pub mod WholeEnds
-pub mod Given

@@ -1,2 +1,0 @@
-//! What a moment of a run shows of a scene, in one piece.
-#![tactic(auto)]

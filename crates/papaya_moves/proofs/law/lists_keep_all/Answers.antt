@@ -1,6 +1,0 @@
--- The history of each list of acts keeps all that is promised of histories.
-use Rattle.papaya_moves.proofs.Legal.{lists_keep_all}
-use Rattle.papaya_moves.proofs.law.lists_keep_all.Goals as goal
-
-pub returns : goal.returns
-returns c d = record { all = λ same by_hasher hash batch_size roots terms. lists_keep_all _ same by_hasher hash batch_size roots terms }

@@ -1,5 +1,0 @@
-use Rattle.papaya_named.proofs.Roll.Comes.{kept_none}
-use Rattle.papaya_named.proofs.callers.Callers.nobody.Goals as goal
-
-pub invariant_of-result : goal.invariant_of-result
-invariant_of-result g c = kept_none c.new.result.items c.new-2.result c.new-3.result c.new-4.result c.new.ensures.items c.new-3.ensures c.new-4.ensures

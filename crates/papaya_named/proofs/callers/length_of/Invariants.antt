@@ -1,8 +1,0 @@
--- Behind the places that are left to look at nobody stands.
-use Rattle.std.proofs.Common.{◌<◌, ℕ}
-use Rattle.papaya_present.specs.Crowd.{StandsAt}
-use Rattle.papaya_named.specs.declared.caller.Caller.{Caller}
-use Rattle.papaya_named.proofs.callers.length_of.Given as goal
-
-abbrev pub invariant-loop-length : goal.invariant-loop-length
-invariant-loop-length g l = (place : ℕ) (t : Caller g.row.V.Denot) → StandsAt l.comers place t → place < l.length

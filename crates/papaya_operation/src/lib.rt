@@ -1,6 +1,0 @@
-//! What is said to a map, whoever owns it.
-#![tactic(auto)]
-
-mod operation;
-
-pub use operation::Operation;

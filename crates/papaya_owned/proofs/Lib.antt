@@ -1,9 +1,0 @@
--- Lemmas on what one owner runs to its end.
-mod Inner
-pub mod Lookups
-pub mod Owned
-pub mod Passing
-pub mod Runs
-pub mod Straight
-pub mod Walks
-pub mod Given

@@ -1,7 +1,0 @@
--- There is a least bound.
-use Rattle.papaya_owned.proofs.Runs.Steps.{lowest_at}
-use Rattle.papaya_owned.proofs.running.most.Goals as goal
-
--- src/running.rt:16:5
-pub invariant_of-result : goal.invariant_of-result
-invariant_of-result g c = record { least = lowest_at g.M.Machine.plan _ _ _ _ c.of-machine.ensures c.of-memory.ensures c.requires }

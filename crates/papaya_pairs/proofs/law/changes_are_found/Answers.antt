@@ -1,6 +1,0 @@
--- By the lemmas on lists.
-use Rattle.papaya_pairs.proofs.Laws.{put_is_found, others_stay}
-use Rattle.papaya_pairs.proofs.law.changes_are_found.Goals as goal
-
-pub returns : goal.returns
-returns g c = record { put = put_is_found _ _; others = others_stay _ _ }

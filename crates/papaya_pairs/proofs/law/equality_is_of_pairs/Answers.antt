@@ -1,6 +1,0 @@
--- By the lemmas on lists.
-use Rattle.papaya_pairs.proofs.Laws.{agree_at_each_key, agree_in_any_order}
-use Rattle.papaya_pairs.proofs.law.equality_is_of_pairs.Goals as goal
-
-pub returns : goal.returns
-returns g c = record { each = agree_at_each_key _ _; in_any_order = agree_in_any_order _ _ }

@@ -1,6 +1,0 @@
-pub mod Orders
-pub mod Equals
-pub mod Puts
-pub mod Each
-pub mod Elements
-pub mod Given

@@ -1,4 +1,0 @@
-//! What is so of the pairs of a map for one owner, and of the elements of a set: in any order, once others are put, and where they are equal.
-#![tactic(auto)]
-
-pub mod law;

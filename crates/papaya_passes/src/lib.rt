@@ -1,4 +1,0 @@
-//! The numbers that each step of a walk, a clearing or a retaining lowers that goes on, whatever other callers have under way.
-#![tactic(auto)]
-
-pub mod law;

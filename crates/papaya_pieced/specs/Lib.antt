@@ -1,3 +1,0 @@
-pub mod SoFar
-pub mod RowFor
-pub mod Given

@@ -1,3 +1,0 @@
-pub mod Play
-pub mod Reached
-pub mod Given

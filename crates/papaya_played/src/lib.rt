@@ -1,4 +1,0 @@
-//! Lists of acts are played: which memory, machines and history a list comes to, by computation.
-#![tactic(auto)]
-
-pub mod law;

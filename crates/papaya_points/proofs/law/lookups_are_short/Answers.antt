@@ -1,6 +1,0 @@
--- The loads of a lookup.
-use Rattle.papaya_points.proofs.Lookups.LookupsShort.{lookups_load, lookups_look_on, lookups_are_short}
-use Rattle.papaya_points.proofs.law.lookups_are_short.Goals as goal
-
-pub returns : goal.returns
-returns c d = record { loads = lookups_load _ _; steps = lookups_look_on _; few = lookups_are_short }

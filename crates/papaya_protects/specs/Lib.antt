@@ -1,3 +1,0 @@
-pub mod Shelters
-pub mod Protected
-pub mod Given

@@ -1,9 +1,0 @@
-pub mod Keys
-pub mod Needs
-pub mod Tableless
-pub mod Purposes
-pub mod Shards
-pub mod Kept
-pub mod Swept
-pub mod Elsewhere
-pub mod Given

@@ -1,2 +1,0 @@
-//! What calls on whole maps are for, in the words of a run.
-#![tactic(auto)]

@@ -1,2 +1,0 @@
-pub mod Reclaiming
-pub mod Given

@@ -1,6 +1,0 @@
-//! Reclaims everything that waits in the memory of an executor, one step at a time, while nobody has anything under way.
-#![tactic(auto)]
-
-pub mod reclaiming;
-
-pub use papaya_executor::executor::Executor;

@@ -1,8 +1,0 @@
--- How a caller begins to reclaim all, each of its steps, and its end.
-use Rattle.papaya_reclaims.proofs.Behind.Deferred.{waits_on_tables}
-use Rattle.papaya_reclaims.proofs.Promised.{reclaiming_begins, reclaiming_stands}
-use Rattle.papaya_reclaims.proofs.Ends.All.{reclaiming_ends}
-use Rattle.papaya_reclaims.proofs.law.all_is_reclaimed_among_maps.Goals as goal
-
-pub returns : goal.returns
-returns c d = record { begins = reclaiming_begins _; steps = reclaiming_stands _; ends = reclaiming_ends _; waits = waits_on_tables _ _ }

@@ -1,2 +1,0 @@
-//! What ended maps have left over: it is behind the roots that a moment of a run says, while others go on.
-#![tactic(auto)]

@@ -1,2 +1,0 @@
-pub mod Reserve
-pub mod Given

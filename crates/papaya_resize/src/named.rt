@@ -1,4 +1,0 @@
-//! What those above name of the crates below.
-pub use papaya_tables::named::{Machine, Progress, Settled};
-pub use papaya_tables::{Hashes, Node, Setting, Table, lengths, marks, table_words};
-pub use seize_words::{At, Fault, Link, Memory};

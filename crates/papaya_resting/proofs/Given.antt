@@ -1,6 +1,0 @@
--- What is so of the memory of a map for one owner, by the crates below, given on to the map.
-pub use Rattle.papaya_holds.proofs.Changes.{holds_its_own}
-pub use Rattle.papaya_holds.proofs.Lists.Lived.{balanced_first, balanced_more, balanced_still, kept_balances, lives_hold}
-pub use Rattle.papaya_owned.proofs.Walks.{holds_moves_none, holds_pairs, holds_stands}
-pub use Rattle.papaya_sifts.proofs.Over.Questions.{keeps_by_test}
-pub use Rattle.papaya_owned.proofs.Given.WholeContents.Below.{one_each_below}

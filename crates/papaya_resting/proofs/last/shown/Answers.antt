@@ -1,9 +1,0 @@
--- The word is that of a pair.
-use Rattle.papaya_resting.proofs.Lasts.{can_show, shows_in}
-use Rattle.papaya_resting.proofs.last.shown.Goals as goal
-
-pub shown_at-requires : goal.shown_at-requires
-shown_at-requires g c = can_show c.args.memory.now c.args.word c.requires
-
-pub returns : goal.returns
-returns g c = shows_in c.args.memory.now c.args.word _ c.shown_at.ensures

@@ -1,5 +1,0 @@
-pub mod Rows
-pub mod Taking
-pub mod Stores
-pub mod Settling
-pub mod Given

@@ -1,6 +1,0 @@
-use Rattle.std.proofs.Common.{rules}
-use Rattle.papaya_runs.proofs.Sames.{same_by}
-use Rattle.papaya_runs.proofs.token.Token.is.Goals as goal
-
-pub returns-clause-same : goal.returns-clause-same
-returns-clause-same c = same_by c.eq.result c.args.self.now c.args.other.now (search rules)

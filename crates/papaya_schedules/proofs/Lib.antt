@@ -1,3 +1,0 @@
-mod Rows
-mod Samples
-pub mod Given

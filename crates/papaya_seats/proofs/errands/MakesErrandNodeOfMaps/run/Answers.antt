@@ -1,9 +1,0 @@
-use Rattle.std.proofs.Common.{rules}
-use Rattle.seize_callers.proofs.Keeping.{kept_same}
-use Rattle.papaya_seats.proofs.errands.MakesErrandNodeOfMaps.run.Goals as goal
-
--- the seat is the one that was lent
-pub returns : goal.returns
-returns g c =
-    let s = kept_same _ _ _ _ _ _ _ _ c.makes_map.ensures.same in
-    let name = s.1 in let id = s.2 in let away = s.3 in search (rules, name, id, away)

@@ -1,2 +1,0 @@
--- The words of the crates below, given on to the crates above: these list this crate in place of those.
-pub use Rattle.papaya_kinds.specs.Kinds as KindsKinds

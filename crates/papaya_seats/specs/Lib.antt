@@ -1,5 +1,0 @@
-pub mod Made
-pub mod Looking
-pub mod Making
-pub mod Given
-pub mod Calling

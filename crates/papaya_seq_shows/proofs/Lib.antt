@@ -1,9 +1,0 @@
--- Lemmas on what a map for one owner shows.
-pub mod Walked
-pub mod Ordered
-pub mod Shows
-pub mod Kept
-pub mod Done
-pub mod Stored
-pub mod Cloned
-pub mod Given

@@ -1,3 +1,0 @@
-pub mod Maps
-pub mod Stored
-pub mod Given

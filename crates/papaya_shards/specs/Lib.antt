@@ -1,4 +1,0 @@
-pub mod Adds
-pub mod ShardWords
-pub mod ShardSteps
-pub mod Given

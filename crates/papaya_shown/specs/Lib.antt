@@ -1,6 +1,0 @@
-pub mod Shown
-pub mod Chain
-pub mod Lent
-pub mod Coming
-pub mod Columns
-pub mod Given

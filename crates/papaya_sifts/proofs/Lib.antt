@@ -1,4 +1,0 @@
--- Lemmas on what one owner sweeps, and on what is so from question to question.
-pub mod Along
-pub mod Over
-pub mod Given

@@ -1,3 +1,0 @@
-pub mod Retaining
-pub mod Sweeping
-pub mod Given

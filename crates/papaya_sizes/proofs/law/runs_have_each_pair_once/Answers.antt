@@ -1,6 +1,0 @@
--- Each pair of a run is somewhere once.
-use Rattle.papaya_sizes.proofs.Once.{runs_have_each_once}
-use Rattle.papaya_sizes.proofs.law.runs_have_each_pair_once.Goals as goal
-
-pub returns : goal.returns
-returns c d = record { once = runs_have_each_once _ _ }

@@ -1,8 +1,0 @@
--- Each map is counted, and a `len` tells its size.
-use Rattle.papaya_sizes.proofs.Lens.{lens_tell_size}
-use Rattle.papaya_sizes.proofs.Sizes.{shards_say_size}
-use Rattle.papaya_sizes.proofs.WholeLens.{whole_lens_tell_size}
-use Rattle.papaya_sizes.proofs.law.shards_say_the_size.Goals as goal
-
-pub returns : goal.returns
-returns c d = record { sizes = shards_say_size _ _; lens = lens_tell_size _ _; whole = whole_lens_tell_size _ _ }

@@ -1,4 +1,0 @@
-//! How many pairs a map has is what is counted of it, and each pair of a run is somewhere once.
-#![tactic(auto)]
-
-pub mod law;

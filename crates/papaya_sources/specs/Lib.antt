@@ -1,5 +1,0 @@
--- Where pairs were copied from, and room behind tables.
-pub mod Sources
-pub mod Stays
-pub mod Steps
-pub mod Given

@@ -1,4 +1,0 @@
-//! By the histories of lists of acts calls on whole maps do what they are for.
-#![tactic(auto)]
-
-pub mod law;

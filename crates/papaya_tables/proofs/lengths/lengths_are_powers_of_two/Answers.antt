@@ -1,6 +1,0 @@
--- Lengths of tables are powers of two within their bounds.
-use Rattle.papaya_tables.proofs.TableLens.{have_table_lens}
-use Rattle.papaya_tables.proofs.lengths.lengths_are_powers_of_two.Goals as goal
-
-pub returns : goal.returns
-returns c = have_table_lens

@@ -1,6 +1,0 @@
--- What was met is no more than the tries.
-use Rattle.papaya_tables.proofs.Tries.{tries_meet_few}
-use Rattle.papaya_tables.proofs.trial.tries_meet_few.Goals as goal
-
-pub returns : goal.returns
-returns c = tries_meet_few

@@ -1,8 +1,0 @@
--- The tables so far have their flags.
-use Rattle.std.specs.Prelude.{◌≡◌, ◌++◌, drop, map, take}
-use Rattle.papaya_tally.specs.Tally.{flagged}
-use Rattle.papaya_tally.proofs.tally.flag_each.Given as goal
-
-abbrev pub invariant-loop-place : goal.invariant-loop-place
-invariant-loop-place l =
-    l.tables.items ≡ map (flagged l.fn.table l.fn.is_retired) (take l.place l.fn.tables.items) ++ drop l.place l.fn.tables.items

@@ -1,5 +1,0 @@
-//! A memory that tells what its last operation has changed.
-#![tactic(auto)]
-
-pub mod changed;
-pub mod teller;

@@ -1,2 +1,0 @@
-//! What the one operation of a step of a call tells of the change that it made to its map.
-#![tactic(auto)]

@@ -1,4 +1,0 @@
-pub mod KeyEnds
-pub mod Inserts
-pub mod Values
-pub mod Given

@@ -1,2 +1,0 @@
-//! The values that callers keep, to tell them back.
-#![tactic(auto)]

@@ -1,8 +1,0 @@
-use Rattle.papaya_views.proofs.Makings.{makings_begin, makings_go_on}
-use Rattle.papaya_views.proofs.law.makings_go_on.Goals as goal
-
-pub returns-clause-begin : goal.returns-clause-begin
-returns-clause-begin g c = makings_begin _
-
-pub returns-clause-on : goal.returns-clause-on
-returns-clause-on g c = makings_go_on _

@@ -1,4 +1,0 @@
-//! Which call another one waits for where all pairs are copied at once.
-#![tactic(auto)]
-
-pub mod law;

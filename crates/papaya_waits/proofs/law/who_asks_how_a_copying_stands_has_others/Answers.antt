@@ -1,8 +1,0 @@
--- Who else is by a copying that a caller asks about, and that each has who ends it on.
-use Rattle.papaya_waits.proofs.Askers as askers
-use Rattle.papaya_waits.proofs.CallsEnd as ending
-use Rattle.papaya_waits.proofs.RoomsEnd.{rooms_keep_ends, sweeps_keep_ends}
-use Rattle.papaya_waits.proofs.law.who_asks_how_a_copying_stands_has_others.Goals as goal
-
-pub returns : goal.returns
-returns c d = record { asked = askers.askers_have_others _; calls = ending.calls_keep_ends _; rooms = rooms_keep_ends _; sweeps = sweeps_keep_ends _ }

@@ -1,4 +1,0 @@
-pub mod Waits
-pub mod Promises
-pub mod Others
-pub mod Given

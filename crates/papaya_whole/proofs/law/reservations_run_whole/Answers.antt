@@ -1,6 +1,0 @@
--- Whole reservations for one owner.
-use Rattle.papaya_whole.proofs.Rooms.Whole.{rooms_begin_alone, rooms_go_on_alone, rooms_come_to_an_end}
-use Rattle.papaya_whole.proofs.law.reservations_run_whole.Goals as goal
-
-pub returns : goal.returns
-returns c d = record { begins = rooms_begin_alone; steps = rooms_go_on_alone; ends = rooms_come_to_an_end }

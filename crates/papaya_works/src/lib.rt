@@ -1,2 +1,0 @@
-//! What rows on slots, the makings of maps and their ends do: what they may do, and what they find.
-#![tactic(auto)]

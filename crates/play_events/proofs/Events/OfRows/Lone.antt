@@ -1,0 +1,42 @@
+-- Where an event that speaks of no call comes alone, no call is under way, and the waiting sets are those of the model.
+use Rattle.std.specs.Prelude.{◌≡◌, ◌==◌, ◌&&◌, ℕ, Bool, true, false, List, [], ◌∷◌, Option, None, map}
+use Rattle.std.specs.List.{list_all, list_any}
+use Rattle.std.proofs.Common.{refl, ap, sym, subst, inl, inr, ◌∙◌}
+use Rattle.run_schedules.specs.declared.event.Event.{Event}
+use Rattle.run_schedules.specs.Schedules.After.{is_by, moment}
+use Rattle.run_schedules.specs.Schedules.Entry.{Entry, speaker}
+use Rattle.run_schedules.specs.Schedules.Moment.{UnderWay as CallThere}
+use Rattle.run_schedules.specs.Schedules.Terms.{Terms}
+use Rattle.run_kept.specs.Given.EffectsKnown.{known}
+use Rattle.run_kept.specs.Models.Follows.{FollowsModel}
+use Rattle.run_legal.specs.Carried.{ComesAlone, FollowsOrRows}
+use Rattle.play_stepping.specs.Given.NamedSeen.{seen, seen_of}
+use Rattle.play_stepping.specs.Given.NamedDeclared.caller.Caller.{Caller}
+use Rattle.play_stepping.specs.Given.SchedulerDeclared.scheduler.Scheduler.{Scheduler}
+use Rattle.play_events.specs.Events.OfCalls.{Runs}
+use Rattle.play_events.proofs.Events.OfCalls.Alone.{row_of_caller}
+
+both_so : (a b : Bool) → (a && b) ≡ true → (a ≡ true) × (b ≡ true)
+both_so true b is = (refl, is)
+both_so false b is = absurd (cc is)
+
+module _ {K V S : Type 0} (same : K → K → Bool) (hash : K → ℕ) (terms : Terms) (log : List (Entry K V)) (p : Scheduler K V S) (run : Runs same hash terms log p) where
+  -- calls of nobody are none
+  no_calls : (calls : List (CallThere K V)) → list_all (is_by None) calls ≡ true → calls ≡ []
+  no_calls [] all = refl
+  no_calls (c ∷ calls) all = absurd (cc all)
+
+  no_callers : (ds : List (Caller V)) → [] ≡ map seen_of ds → (i : ℕ) → list_any (λ (d : Caller V). d.number == i) ds ≡ true → ⊥
+  no_callers [] is i any = cc any
+  no_callers (d ∷ ds) is i any = cc is
+
+  pub alone_follows : (event : Event K V) → speaker event ≡ None → ComesAlone event log → FollowsModel terms.batch_size terms.roots log (known p.logged.notes) run.stands.scene.world
+  alone_follows event speaks alone = by (run.shows.follows (both_so (moment log).is_alone _ alone).0)
+    where
+      none : (moment log).calls ≡ []
+      none = no_calls (moment log).calls (subst (λ (who : Option (List ℕ)). list_all (is_by who) (moment log).calls ≡ true) speaks (both_so (moment log).is_alone _ alone).1)
+
+      by : FollowsOrRows terms log (known p.logged.notes) run.stands.scene.world → FollowsModel terms.batch_size terms.roots log (known p.logged.notes) run.stands.scene.world
+      by (inl follows) = follows
+      by (inr (i, row)) =
+          absurd (no_callers p.calls (sym (ap (map seen) none) ∙ run.stands.calls.listed) i (row_of_caller same hash terms log p run.stands i row.goes))

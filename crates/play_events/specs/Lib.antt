@@ -1,0 +1,5 @@
+pub mod Folded
+pub mod Works
+pub mod Events
+pub mod EachMoves
+pub mod Given

@@ -1,0 +1,2 @@
+-- What rows on slots, the makings of maps and their ends do: what they may do, and what they find.
+pub mod Rows

@@ -1,0 +1,4 @@
+pub mod Linear
+pub mod Swept
+pub mod Protects
+pub mod Endings

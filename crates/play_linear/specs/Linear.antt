@@ -1,0 +1,4 @@
+-- Histories of lists of acts are linearizable.
+pub mod Shown
+pub mod Coming
+pub mod Linear

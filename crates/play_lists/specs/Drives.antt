@@ -1,0 +1,2 @@
+-- An executor does what it does by acts.
+pub mod Executors

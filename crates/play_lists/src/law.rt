@@ -1,0 +1,5 @@
+//! What is promised, by subject.
+
+pub mod agrees;
+pub mod drives;
+pub mod played;

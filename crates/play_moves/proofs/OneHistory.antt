@@ -1,0 +1,14 @@
+-- What threads are answered is of one legal history.
+mod Numbers
+mod Own
+mod Legal
+mod Wanted
+mod Lookups
+mod Words
+mod Order
+mod Tells
+mod Acts
+mod Along
+mod Answered
+pub mod Calls
+mod Samples

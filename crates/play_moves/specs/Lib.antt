@@ -1,0 +1,3 @@
+pub mod Moves
+pub mod OneHistory
+pub mod Given

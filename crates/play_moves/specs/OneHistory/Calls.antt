@@ -1,0 +1,64 @@
+-- What a seat may say of its newest call: what that was told is what one finite map means. So a public call says it in its own clause.
+use Rattle.std.specs.Prelude.{◌≡◌, ℕ, Bool, List, Option, Some, is_some, if◌then◌else◌}
+use Rattle.threads_rule.specs.Given.SeizeSeatsState.{State, view_of}
+use Rattle.threads_rule.specs.Given.SeizeViewsDeclared.view.Fixed.{Fixed}
+use Rattle.run_schedules.specs.Given.SeizeWordsDeclared.fault.Fault.{Fault}
+use Rattle.play_lists.specs.Given.TablesDeclared.node.Node.{Node}
+use Rattle.threads_rule.specs.Views.Rule.{MapsWorld, Holds, caller_at, acts_in}
+use Rattle.threads_rule.specs.declared.view.Map.{Map}
+use Rattle.threads_rule.specs.declared.view.View.{View}
+use Rattle.run_schedules.specs.Schedules.After.{AtEachEvent}
+use Rattle.run_schedules.specs.Schedules.Sequential.{looked}
+use Rattle.run_schedules.specs.declared.call.Answer.TheVariants as answers
+use Rattle.run_schedules.specs.declared.call.Call.TheVariants.{On}
+use Rattle.run_schedules.specs.declared.call.OneKey.TheVariants.{Insert, TryInsert, Remove}
+use Rattle.run_schedules.specs.declared.outcome.Outcome.TheVariants.{Answered, Refused}
+use Rattle.play_lists.specs.Given.ActsActs.{Wanted}
+use Rattle.run_schedules.specs.Deeds.Deeds.{Entry}
+use Rattle.run_schedules.specs.Deeds.History.{IsLinearizable, IsProtected}
+use Rattle.play_lists.specs.Played.Play.{State as Played, call_for, first_state, play_all}
+use Rattle.play_moves.specs.OneHistory.Answered.{ByNewest, IsItsEnd}
+use Rattle.play_moves.specs.OneHistory.Lookups.{WasHad, WasSo}
+
+module _ {K V S : Type 0} (same : K → K → Bool) (hash : S → K → ℕ) (fixed : Fixed) (id : ℕ) (v : View K V S) where
+  -- Wherever the memory stands while the rule holds and the seat knows this: what was done is played to a history of which each entry is linearizable, and reclaims nothing
+  -- that an open section may look at; and this is so of it, of the caller that the seat is in its slot.
+  abbrev pub InItsHistory : (List (Entry K V) → ℕ → Type 0) → Type 0
+  InItsHistory So =
+      (aborts : ℕ → V) (s : State (Node K V) (View K V S) (MapsWorld K V S)) → Holds same hash fixed s → view_of s id ≡ Some v
+      → (after : Played K V S) × (play_all same hash fixed.batch_size fixed.roots aborts s.world.doings (first_state fixed.roots) ≡ Some after)
+      × AtEachEvent (IsLinearizable same) after.history × AtEachEvent IsProtected after.history × So after.history (caller_at id (acts_in v.under v.slot))
+
+  -- The newest step that its calls have taken ends a call on the map that it knows, and so it is of that.
+  abbrev pub ItsCall : (ℕ → ℕ → List (Entry K V) → Entry K V → Type 0) → Type 0
+  ItsCall So = (map : Map S) × (v.map ≡ Some map) × InItsHistory (λ history i. ByNewest i (So i map.number) history)
+
+  -- It has looked this key up: the finite map of its map had no pair for it at a moment of the call,
+  abbrev pub FoundNone : K → Type 0
+  FoundNone key = ItsCall (λ i m. WasSo same i m key answers.Absent)
+
+  -- or had one with this value,
+  abbrev pub FoundValue : K → V → Type 0
+  FoundValue key value = ItsCall (λ i m. WasHad same i m key value)
+
+  -- or had one or none.
+  abbrev pub HasLooked : K → Bool → Type 0
+  HasLooked key there = ItsCall (λ i m log e. (pair : Option ℕ) × (is_some pair ≡ there) × WasSo same i m key (looked pair) log e)
+
+  -- It has stored this pair, in the place of another one or of none: its answer is the number of the pair that was there, or that none was.
+  abbrev pub HasInserted : K → V → Bool → Type 0
+  HasInserted key value replaced =
+      ItsCall (λ i m log e. (before : Option ℕ) × (is_some before ≡ replaced) × IsItsEnd same i m (On (Insert key value)) (Answered (looked before)) log e)
+
+  -- It has tried to store it: its answer is the number under which it is stored, or the pair that is there, and the value back.
+  abbrev pub HasTried : K → V → Bool → Type 0
+  HasTried key value stored =
+      ItsCall (λ i m log e. (pair : ℕ) × IsItsEnd same i m (On (TryInsert key value)) (Answered (if stored then answers.Stored pair else answers.Occupied pair value)) log e)
+
+  -- It has removed the pair of this key, if there was one: its answer is the number of that pair, or that none was there.
+  abbrev pub HasRemoved : K → Bool → Type 0
+  HasRemoved key removed = ItsCall (λ i m log e. (pair : Option ℕ) × (is_some pair ≡ removed) × IsItsEnd same i m (On (Remove key)) (Answered (looked pair)) log e)
+
+  -- It was refused so, whatever it wanted.
+  abbrev pub HasRefused : Wanted K V → Fault → Type 0
+  HasRefused wanted fault = ItsCall (λ i m. IsItsEnd same i m (call_for wanted) (Refused fault))

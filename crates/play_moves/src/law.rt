@@ -1,0 +1,4 @@
+//! What is promised, by subject.
+
+pub mod answers;
+pub mod moves;

@@ -1,0 +1,73 @@
+-- What is so by the crates below, given on to the crates above: these list this crate in place of those.
+pub use Rattle.owner_whole.proofs.Given.CallersTogether
+pub use Rattle.owner_whole.proofs.Given.LateKindsKept
+pub use Rattle.owner_whole.proofs.Given.PointsCalls
+pub use Rattle.owner_whole.proofs.Given.PointsLawful
+pub use Rattle.owner_whole.proofs.Given.PointsMaking
+pub use Rattle.play_scheduler.proofs.Begins as SchedulerBegins
+pub use Rattle.play_scheduler.proofs.Busy as SchedulerBusy
+pub use Rattle.play_scheduler.proofs.Chosen as SchedulerChosen
+pub use Rattle.play_scheduler.proofs.Dropped as SchedulerDropped
+pub use Rattle.play_scheduler.proofs.Drops as SchedulerDrops
+pub use Rattle.play_scheduler.proofs.Enters as SchedulerEnters
+pub use Rattle.play_scheduler.proofs.Flushes as SchedulerFlushes
+pub use Rattle.play_scheduler.proofs.HeldTold as SchedulerHeldTold
+pub use Rattle.play_scheduler.proofs.Here as SchedulerHere
+pub use Rattle.play_scheduler.proofs.Maps as SchedulerMaps
+pub use Rattle.play_scheduler.proofs.RanOn as SchedulerRanOn
+pub use Rattle.play_scheduler.proofs.Refreshes as SchedulerRefreshes
+pub use Rattle.play_scheduler.proofs.Replied as SchedulerReplied
+pub use Rattle.play_scheduler.proofs.Rights as SchedulerRights
+pub use Rattle.play_scheduler.proofs.SlotTaken as SchedulerSlotTaken
+pub use Rattle.play_scheduler.proofs.Stopped as SchedulerStopped
+pub use Rattle.play_scheduler.proofs.Unregisters as SchedulerUnregisters
+pub use Rattle.play_scheduler.proofs.Vacancies as SchedulerVacancies
+pub use Rattle.run_executor.proofs.Executing.Fresh as ExecutorFresh
+pub use Rattle.run_executor.proofs.Executing.RowLeads as ExecutorRowLeads
+pub use Rattle.run_executor.proofs.Given.ChangesBegun
+pub use Rattle.run_executor.proofs.Given.ChangesChanges
+pub use Rattle.run_executor.proofs.Given.ChangesFound
+pub use Rattle.run_executor.proofs.Given.ChangesLogs
+pub use Rattle.run_executor.proofs.Given.HandsAsking
+pub use Rattle.run_executor.proofs.Given.HandsCalling
+pub use Rattle.run_executor.proofs.Given.HandsReplacing
+pub use Rattle.run_executor.proofs.Given.MomentsAfter
+pub use Rattle.run_executor.proofs.Given.MomentsCalls
+pub use Rattle.run_executor.proofs.Given.MomentsEnds
+pub use Rattle.run_executor.proofs.Given.MomentsMakingSteps
+pub use Rattle.run_executor.proofs.Given.MomentsMapsCome
+pub use Rattle.run_executor.proofs.Given.MomentsNewMaps
+pub use Rattle.run_executor.proofs.Given.MomentsNumbers
+pub use Rattle.run_executor.proofs.Given.MomentsOnSlots
+pub use Rattle.run_executor.proofs.Given.MomentsOver
+pub use Rattle.run_executor.proofs.Given.MomentsWalks
+pub use Rattle.run_executor.proofs.Given.SpotsUnreclaimed
+pub use Rattle.run_executor.proofs.Named.Called as NamedCalled
+pub use Rattle.run_grows.proofs.Given.PurposesBetween
+pub use Rattle.run_grows.proofs.Given.PurposesElsewhere
+pub use Rattle.run_grows.proofs.Given.PurposesFindsRoom
+pub use Rattle.run_grows.proofs.Given.PurposesKept
+pub use Rattle.run_grows.proofs.Given.PurposesNothing
+pub use Rattle.run_grows.proofs.Given.PurposesShardsRead
+pub use Rattle.run_grows.proofs.Given.PurposesShows
+pub use Rattle.run_grows.proofs.Given.PurposesShowsAll
+pub use Rattle.run_grows.proofs.Given.PurposesStored
+pub use Rattle.run_grows.proofs.Given.PurposesSwept
+pub use Rattle.run_grows.proofs.Given.PurposesTold
+pub use Rattle.run_grows.proofs.Given.PurposesWalkWords
+pub use Rattle.run_grows.proofs.Given.PurposesWalks
+pub use Rattle.run_grows.proofs.Given.SourcesSteps
+pub use Rattle.run_grows.proofs.Grows.Finding as GrowsFinding
+pub use Rattle.run_grows.proofs.Grows.Limits as GrowsLimits
+pub use Rattle.run_grows.proofs.Grows.Tries as GrowsTries
+pub use Rattle.run_grows.proofs.Needs.Ends as NeedsEnds
+pub use Rattle.run_grows.proofs.Needs.Firsts as NeedsFirsts
+pub use Rattle.run_grows.proofs.Needs.Flushes as NeedsFlushes
+pub use Rattle.run_grows.proofs.Needs.Makings as NeedsMakings
+pub use Rattle.run_grows.proofs.Needs.Refusals as NeedsRefusals
+pub use Rattle.run_grows.proofs.Needs.Registering as NeedsRegistering
+pub use Rattle.run_grows.proofs.Needs.Steps as NeedsSteps
+pub use Rattle.run_grows.proofs.Needs.TablesMade as NeedsTablesMade
+pub use Rattle.run_grows.proofs.Quiet.AfterEffects as QuietAfterEffects
+pub use Rattle.run_grows.proofs.Quiet.RoomSays as QuietRoomSays
+pub use Rattle.seize_words.proofs.OneMemory.Places as SeizeWordsPlaces

@@ -1,0 +1,4 @@
+pub mod Mapping
+pub mod EventSteps
+pub mod SaysSo
+pub mod Given

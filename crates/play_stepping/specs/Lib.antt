@@ -1,0 +1,3 @@
+pub mod Mapping
+pub mod EventSteps
+pub mod Given

@@ -1,0 +1,1 @@
+-- Maps of a scheduler are made, and end; and everything is reclaimed.

@@ -1,0 +1,72 @@
+-- What the program writes for what it reads.
+use Rattle.std.specs.Prelude.{◌≡◌, ◌^◌, ℕ, min, Bool, true, false, nat_eq, List, Option, Ok, Err, codes, ◌⊎◌}
+use Rattle.std.specs.Io.KnownBytes.{Keeps, Appends}
+use Rattle.reclaimed_script.specs.declared.fault.Stop.{Stop}
+use Rattle.reclaimed_script.specs.declared.fault.Stop.TheVariants.{Line, ReadFailed, NoMemory}
+use Rattle.reclaimed_script.specs.FaultTexts.{fault_text}
+use Rattle.reclaimed_script.specs.Lines.{ScriptEvent}
+use Rattle.reclaimed_script.specs.Reading.{Answers}
+use Rattle.run_schedules.specs.Schedules.Runs.{IsRunOf}
+use Rattle.run_schedules.specs.Schedules.Terms.{Terms}
+use Rattle.reclaimed_script.specs.Script.{script_of, setup_of}
+use Rattle.reclaimed_engine.specs.Text.Text.{WordRun, text_of, fault_line}
+
+-- the line that says why a script gives no run
+abbrev pub stop_line : Stop → List ℕ
+stop_line (Line number fault) = fault_line number (fault_text fault)
+stop_line (ReadFailed lines) = fault_line lines (codes "read failed")
+stop_line (NoMemory lines) = fault_line lines (codes "no memory")
+
+-- what is known of the bytes that the input has left, and that the two outputs held before and hold after
+pub record Streams : Type 0 where
+  pub left : Option (List ℕ)
+  pub output_before : Option (List ℕ)
+  pub output_after : Option (List ℕ)
+  pub output_failed : Bool  -- a write to it has failed
+  pub errors_before : Option (List ℕ)
+  pub errors_after : Option (List ℕ)
+  pub errors_failed : Bool
+
+-- this line, and nothing else, is written, on the errors, unless that write fails
+abbrev pub SaysOnly : List ℕ → Streams → Type 0
+SaysOnly line s = Keeps s.output_before s.output_after × (s.errors_failed ≡ false → Appends s.errors_before s.errors_after line)
+
+-- that a write failed is told by a line on the errors, unless that write fails, too; else nothing is written there
+abbrev pub TellsFailure : Bool → Bool → Option (List ℕ) → Option (List ℕ) → Type 0
+TellsFailure true errors_failed before after = errors_failed ≡ false → Appends before after (codes "write failed\n")
+TellsFailure false errors_failed before after = Keeps before after
+
+-- with what a script is run
+abbrev pub terms_of : List ScriptEvent → Terms
+terms_of events = record {
+  batch_size = (setup_of events).batch_size;
+  processors = min (setup_of events).processors (2 ^ 63);
+  roots = (setup_of events).roots;
+}
+
+-- it is a run of these events, each of which keeps all that is promised of one, and tells at its end what they say
+abbrev pub IsRunFor : List ScriptEvent → WordRun → Type 0
+IsRunFor events run = IsRunOf nat_eq (terms_of events) events run
+
+-- the text is what is printed for a run of these events
+abbrev pub IsTextFor : List ScriptEvent → List ℕ → Type 0
+IsTextFor events text = (run : WordRun) × IsRunFor events run × (text ≡ text_of run)
+
+-- the script says events, and all that is printed for a run of them is written, and nothing else
+abbrev pub IsPrinted : List ℕ → Streams → Type 0
+IsPrinted bytes s =
+    (events : List ScriptEvent) × (text : List ℕ) × (script_of bytes ≡ Ok events) × IsTextFor events text
+    × (s.output_failed ≡ false) × Appends s.output_before s.output_after text × Keeps s.errors_before s.errors_after
+
+-- the script gives no run: its first faulty line is told, or that the input or memory failed
+abbrev pub IsStopped : List ℕ → Streams → Type 0
+IsStopped bytes s = (stop : Stop) × Answers bytes s.left (Err stop) × SaysOnly (stop_line stop) s
+
+-- the script says events, and a write of what is printed for them failed, which is told on the errors
+abbrev pub IsUnwritten : List ℕ → Streams → Type 0
+IsUnwritten bytes s =
+    (events : List ScriptEvent) × (script_of bytes ≡ Ok events) × (s.output_failed ≡ true) × TellsFailure true s.errors_failed s.errors_before s.errors_after
+
+-- the status is 0 where all is printed, and else 1
+abbrev pub EndsWith : ℕ → List ℕ → Streams → Type 0
+EndsWith status bytes s = ((status ≡ 0) × IsPrinted bytes s) ⊎ ((status ≡ 1) × (IsStopped bytes s ⊎ IsUnwritten bytes s))

@@ -1,4 +1,0 @@
-pub mod AscendingLemmas
-pub mod PairLemmas
-mod Samples
-pub mod Spelling

@@ -1,5 +1,0 @@
-use Rattle.std.proofs.Common.{◌≡◌, map, take}
-use Rattle.reclaimed_text.proofs.finals.by_name.Given as goal
-
-abbrev pub invariant-loop-living : goal.invariant-loop-living
-invariant-loop-living l = map (λ living. living.now) l.sorted.items ≡ take l.living-index l.maps

@@ -1,7 +1,0 @@
-use Rattle.std.proofs.Common.{◌≡◌, map, take}
-use Rattle.std.specs.List.{filter_map}
-use Rattle.papaya_schedules.specs.Runs.{pair_of}
-use Rattle.reclaimed_text.proofs.finals.in_order.Given as goal
-
-abbrev pub invariant-loop-number : goal.invariant-loop-number
-invariant-loop-number l = map (λ pair. pair.now) l.pairs.items ≡ filter_map (pair_of l.run) (take l.number-index l.numbers)

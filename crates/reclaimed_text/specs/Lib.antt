@@ -1,3 +1,0 @@
-pub mod Ascending
-pub mod Output
-pub mod Text

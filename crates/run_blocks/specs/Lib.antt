@@ -1,0 +1,3 @@
+pub mod Owes
+pub mod Shards
+pub mod Given

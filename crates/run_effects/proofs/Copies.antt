@@ -1,0 +1,1 @@
+-- Copies of events and of what they came to, and whether two of them are the same.

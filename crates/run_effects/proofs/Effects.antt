@@ -1,0 +1,1 @@
+-- What each block of a run's memory is, and what an operation does to pairs and tables.

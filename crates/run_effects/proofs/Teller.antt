@@ -1,0 +1,2 @@
+-- A memory that tells what its last operation has changed.
+pub mod Laws

@@ -1,0 +1,3 @@
+-- A memory that tells what its last operation has changed.
+pub mod Changed
+pub mod Tells

@@ -1,0 +1,26 @@
+-- Executes calls, and the makings and ends of maps, that many callers have under way: one step of one of them at a time.
+pub mod Again
+pub mod Begins
+pub mod Changed
+pub mod EndingBegun
+pub mod Endings
+pub mod Few
+pub mod First
+pub mod Forgotten
+pub mod Fresh
+pub mod Kept
+pub mod Made
+pub mod MakingBegun
+pub mod Makings
+pub mod OnSlotBegun
+pub mod OnSlots
+pub mod Places
+pub mod Replies
+pub mod RowLeads
+pub mod RowsGo
+pub mod Steps
+pub mod Stops
+pub mod Taken
+pub mod Used
+pub mod Uses
+pub mod Vacated

@@ -1,0 +1,5 @@
+-- Callers and maps by name: what a call is by its kind, the machine with which it begins, what it is told, and with how many places a map begins.
+pub mod Called
+pub mod Roll
+pub mod FirstLens
+pub mod Takes

@@ -1,0 +1,4 @@
+pub mod Executing
+pub mod ReclaimsAll
+pub mod Named
+pub mod Given

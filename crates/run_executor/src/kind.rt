@@ -1,0 +1,89 @@
+//! What a call is, without its keys and values: by this its answers are told, and it is known which replies it takes.
+ghost use Rattle.std.specs.Prelude.{◌≡◌};
+ghost use Rattle.run_executor.specs.Named.Seen.{fits, kind_of, kind_on};
+
+use run_schedules::call::{Call, OneKey, Reply};
+
+/// What a call is, without its keys and values.
+#[derive(Clone, Copy)]
+pub enum Kind {
+    /// A call on one key that answers with the pair that it finds, stores or removes: a lookup, a removal, `get_or_insert`, and `get_or_insert_with`.
+    Finds,
+    /// It answers with the pair that was there.
+    Inserts,
+    /// It answers with the pair that is there, and the value that it has not stored.
+    TriesToInsert,
+    /// It answers with the pair that is there, which stays.
+    TriesToInsertWith,
+    /// It answers with the pair that it stores, whether or not in the place of another one.
+    Updates,
+    /// It tells what it did, or what its closure aborted with.
+    Computes,
+    /// It answers with a pair that it removes, or that stays.
+    RemovesIf,
+    /// It makes room.
+    Reserves,
+    /// It removes all pairs.
+    Clears,
+    /// It asks of each pair whether it stays.
+    Retains,
+    /// It counts the pairs.
+    Counts,
+    /// It shows the pairs.
+    Walks,
+}
+
+impl Kind {
+    /// That of a call on one key.
+    fn on<K, V>(one: &OneKey<K, V>) -> Self
+        ensures { result ≡ kind_on one.now }
+    {
+        match one {
+            OneKey::Get(_)
+            | OneKey::GetKeyValue(_)
+            | OneKey::ContainsKey(_)
+            | OneKey::GetOrInsert(..)
+            | OneKey::GetOrInsertWith(_)
+            | OneKey::Remove(_)
+            | OneKey::RemoveEntry(_) => Kind::Finds,
+            OneKey::Insert(..) => Kind::Inserts,
+            OneKey::TryInsert(..) => Kind::TriesToInsert,
+            OneKey::TryInsertWith(_) => Kind::TriesToInsertWith,
+            OneKey::Update(_) | OneKey::UpdateOrInsert(..) | OneKey::UpdateOrInsertWith(_) => {
+                Kind::Updates
+            }
+            OneKey::Compute(_) => Kind::Computes,
+            OneKey::RemoveIf(_) => Kind::RemovesIf,
+        }
+    }
+
+    /// That of a call.
+    pub fn of<K, V>(call: &Call<K, V>) -> Self
+        ensures { result ≡ kind_of call.now }
+    {
+        match call {
+            Call::On(one) => Kind::on(one),
+            Call::Reserve(_) => Kind::Reserves,
+            Call::Clear => Kind::Clears,
+            Call::Retain => Kind::Retains,
+            Call::Len => Kind::Counts,
+            Call::Walk => Kind::Walks,
+        }
+    }
+
+    /// Whether a reply is of the kind that such a call asks for.
+    pub fn fits<V>(self, reply: &Reply<V>) -> bool
+        ensures { result ≡ fits self reply.now }
+    {
+        match self {
+            Kind::Computes => !matches!(reply, Reply::Decides(_)),
+            Kind::RemovesIf | Kind::Retains => matches!(reply, Reply::Decides(_)),
+            Kind::Finds
+            | Kind::Inserts
+            | Kind::TriesToInsert
+            | Kind::TriesToInsertWith
+            | Kind::Updates => matches!(reply, Reply::Gives(_)),
+            Kind::Reserves | Kind::Clears | Kind::Counts | Kind::Walks => false,
+        }
+    }
+}

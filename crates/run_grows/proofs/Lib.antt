@@ -1,0 +1,4 @@
+pub mod Quiet
+pub mod Grows
+pub mod Needs
+pub mod Given

@@ -1,0 +1,2 @@
+//! The history of a map since a call began, and the promises of single steps.
+#![tactic(auto)]

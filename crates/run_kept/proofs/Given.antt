@@ -1,0 +1,68 @@
+-- What is so by the crates below, given on to the crates above: these list this crate in place of those.
+pub use Rattle.run_blocks.proofs.Given.HistoriesAnyCall
+pub use Rattle.run_blocks.proofs.Given.HistoriesAside
+pub use Rattle.run_blocks.proofs.Given.HistoriesAsking
+pub use Rattle.run_blocks.proofs.Given.HistoriesCalling
+pub use Rattle.run_blocks.proofs.Given.HistoriesDue
+pub use Rattle.run_blocks.proofs.Given.HistoriesDueOn
+pub use Rattle.run_blocks.proofs.Given.HistoriesNoKey
+pub use Rattle.run_blocks.proofs.Given.HistoriesOtherCalls
+pub use Rattle.run_blocks.proofs.Given.HistoriesOtherMidsts
+pub use Rattle.run_blocks.proofs.Given.HistoriesQuestions
+pub use Rattle.run_blocks.proofs.Given.HistoriesRefusals
+pub use Rattle.run_blocks.proofs.Given.HistoriesRetaining
+pub use Rattle.run_blocks.proofs.Given.HistoriesSeveral
+pub use Rattle.run_blocks.proofs.Given.PromisesBrief
+pub use Rattle.run_blocks.proofs.Given.PromisesGuards
+pub use Rattle.run_blocks.proofs.Given.PromisesProtected
+pub use Rattle.run_blocks.proofs.Given.PromisesShelters
+pub use Rattle.run_blocks.proofs.Given.PromisesWeights
+pub use Rattle.run_blocks.proofs.Given.SettlesGains
+pub use Rattle.run_blocks.proofs.Given.SettlesHand
+pub use Rattle.run_blocks.proofs.Given.SettlesOwing
+pub use Rattle.run_blocks.proofs.Given.WaitsCallPlans
+pub use Rattle.run_blocks.proofs.Given.WaitsCopyings
+pub use Rattle.run_blocks.proofs.Given.WaitsLaws
+pub use Rattle.run_blocks.proofs.Given.WaitsNever
+pub use Rattle.run_blocks.proofs.Owes.Calls as OwesCalls
+pub use Rattle.run_blocks.proofs.Owes.Clear as OwesClear
+pub use Rattle.run_blocks.proofs.Owes.Events as OwesEvents
+pub use Rattle.run_blocks.proofs.Owes.Grown as OwesGrown
+pub use Rattle.run_blocks.proofs.Owes.InHand as OwesInHand
+pub use Rattle.run_blocks.proofs.Owes.Kept as OwesKept
+pub use Rattle.run_blocks.proofs.Owes.Lasting as OwesLasting
+pub use Rattle.run_blocks.proofs.Owes.Looking as OwesLooking
+pub use Rattle.run_blocks.proofs.Owes.Ready as OwesReady
+pub use Rattle.run_blocks.proofs.Owes.Short as OwesShort
+pub use Rattle.run_blocks.proofs.Owes.Tables as OwesTables
+pub use Rattle.run_blocks.proofs.Owes.Walks as OwesWalks
+pub use Rattle.run_blocks.proofs.Shards.ShardBetween as ShardsShardBetween
+pub use Rattle.run_blocks.proofs.Shards.ShardCalls as ShardsShardCalls
+pub use Rattle.run_blocks.proofs.Shards.ShardKept as ShardsShardKept
+pub use Rattle.run_blocks.proofs.Shards.ShardMakes as ShardsShardMakes
+pub use Rattle.run_blocks.proofs.Shards.ShardNumbers as ShardsShardNumbers
+pub use Rattle.run_blocks.proofs.Shards.ShardOthers as ShardsShardOthers
+pub use Rattle.run_effects.proofs.Given.RuleLaws
+pub use Rattle.run_shows.proofs.Follows.Calling as FollowsCalling
+pub use Rattle.run_shows.proofs.Follows.Calls as FollowsCalls
+pub use Rattle.run_shows.proofs.Follows.Contents as FollowsContents
+pub use Rattle.run_shows.proofs.Follows.OfEach as FollowsOfEach
+pub use Rattle.run_shows.proofs.Follows.Steps as FollowsSteps
+pub use Rattle.run_shows.proofs.Given.FinishesAmong
+pub use Rattle.run_shows.proofs.Others.Leads as OthersLeads
+pub use Rattle.run_shows.proofs.Others.MakingGoes as OthersMakingGoes
+pub use Rattle.run_shows.proofs.Others.Outcomes as OthersOutcomes
+pub use Rattle.run_shows.proofs.Reclaims.Left as ReclaimsLeft
+pub use Rattle.run_shows.proofs.Scenes.Leads as ScenesLeads
+pub use Rattle.run_shows.proofs.Scenes.May as ScenesMay
+pub use Rattle.run_shows.proofs.Scenes.NoCall as ScenesNoCall
+pub use Rattle.run_shows.proofs.Scenes.Rows as ScenesRows
+pub use Rattle.run_shows.proofs.Scenes.Told as ScenesTold
+pub use Rattle.run_waiting.proofs.Lives.LeftTables as LivesLeftTables
+pub use Rattle.run_waiting.proofs.Lives.Worlds as LivesWorlds
+pub use Rattle.run_waiting.proofs.Remains.InOrder as RemainsInOrder
+pub use Rattle.run_waiting.proofs.Remains.Leads as RemainsLeads
+pub use Rattle.run_waiting.proofs.Remains.Lists as RemainsLists
+pub use Rattle.run_waiting.proofs.Remains.Numbered as RemainsNumbered
+pub use Rattle.run_waiting.proofs.Remains.Rests as RemainsRests
+pub use Rattle.run_waiting.proofs.Remains.Slots as RemainsSlots

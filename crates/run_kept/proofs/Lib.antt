@@ -1,0 +1,5 @@
+pub mod Kept
+pub mod Sheds
+pub mod Values
+pub mod Models
+pub mod Given

@@ -1,0 +1,22 @@
+-- What is reclaimed is what the waiting-set model reclaims, where calls come one after another.
+pub mod Alike
+pub mod Turns
+pub mod Numbers
+pub mod RowSteps
+pub mod Follows
+pub mod OnSlots
+pub mod Handing
+pub mod Calls
+pub mod Quiet
+pub mod Rows
+pub mod Makings
+pub mod Ends
+pub mod EndsOver
+pub mod Reclaims
+pub mod Unbatched
+pub mod Retires
+pub mod Told
+pub mod HandsOver
+pub mod Defers
+pub mod CallEvents
+pub mod MapEvents

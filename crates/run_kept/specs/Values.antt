@@ -1,0 +1,2 @@
+-- The values that callers keep, to tell them back.
+pub mod Values

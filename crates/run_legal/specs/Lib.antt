@@ -1,0 +1,14 @@
+pub mod Carried
+pub mod Between
+pub mod OneStep
+pub mod CallEvents
+pub mod CallRuns
+pub mod CallSwept
+pub mod SlotEvents
+pub mod MapEvents
+pub mod Over
+pub mod Chains
+pub mod AllEvents
+pub mod Promises
+pub mod Found
+pub mod Noted

@@ -1,0 +1,2 @@
+-- Who is there in a run: registrations and guards, found by their names and counted by their slots.
+pub mod Crowds

@@ -1,0 +1,2 @@
+-- Drivers apply events to one run, under a lock; whatever runs them.
+pub mod Crew

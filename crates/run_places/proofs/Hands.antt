@@ -1,0 +1,26 @@
+-- What the calls of a run were told, and what they store and hand over, at a moment that shows the scene.
+pub mod Replies
+pub mod Puts
+pub mod Done
+pub mod Stores
+pub mod Replacing
+pub mod Asking
+pub mod AskedOn
+pub mod RowsOn
+pub mod Steps
+pub mod Taking
+pub mod Settling
+pub mod RowSteps
+pub mod Calling
+pub mod Beginning
+pub mod Takes
+pub mod Told
+pub mod Handing
+pub mod HandTheirs
+pub mod HandsOn
+pub mod Spares
+pub mod Firsts
+pub mod Guarded
+pub mod Summed
+pub mod SettlingRows
+pub mod Others

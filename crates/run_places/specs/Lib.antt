@@ -1,0 +1,5 @@
+pub mod Hands
+pub mod Spots
+pub mod Moments
+pub mod Changes
+pub mod Given

@@ -1,0 +1,4 @@
+pub mod Runs
+pub mod Schedules
+pub mod Deeds
+pub mod Given

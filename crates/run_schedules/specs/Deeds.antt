@@ -1,0 +1,3 @@
+-- Histories whose entries know no script: what was done, what it came to, and what is promised of it.
+pub mod Deeds
+pub mod History

@@ -1,0 +1,26 @@
+-- How the moment of a run follows the other steps: rows between calls, walks that go on or are given up, makings and ends of maps.
+pub mod Stays
+pub mod Quiet
+pub mod Outside
+pub mod Scenes
+pub mod Leads
+pub mod Retired
+pub mod RowPlans
+pub mod Rows
+pub mod RowBegins
+pub mod Walks
+pub mod EndBegins
+pub mod EndWords
+pub mod Ends
+pub mod Users
+pub mod NewMap
+pub mod MakeBegins
+pub mod MakingPlans
+pub mod MadeBlocks
+pub mod Makes
+pub mod MakingGoes
+pub mod Noted
+pub mod Counters
+pub mod Elsewhere
+pub mod Outcomes
+pub mod RowGives

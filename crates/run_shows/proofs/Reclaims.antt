@@ -1,0 +1,6 @@
+-- A caller reclaims all, with any number of maps on the collector.
+pub mod Behind
+pub mod Left
+pub mod Promised
+pub mod Ends
+mod Samples

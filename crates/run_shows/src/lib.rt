@@ -1,0 +1,6 @@
+//! Scenes: how callers, maps and a memory stand at a moment, what each kind of step leads to, and how the moment of a run follows.
+#![tactic(auto)]
+
+pub mod callers;
+pub mod law;
+pub mod row;

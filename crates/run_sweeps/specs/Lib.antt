@@ -1,0 +1,4 @@
+pub mod Purposes
+pub mod Sources
+pub mod Sizes
+pub mod Given

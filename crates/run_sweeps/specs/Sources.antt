@@ -1,0 +1,4 @@
+-- Where pairs were copied from, and room behind tables.
+pub mod Sources
+pub mod Stays
+pub mod Steps

@@ -1,0 +1,3 @@
+pub mod Remains
+pub mod Lives
+pub mod Given

@@ -1,0 +1,106 @@
+-- What can be reached through a table alone, at a moment of a run: it is told to wait behind that table, or a row is putting it there.
+use Rattle.std.specs.Prelude.{◌≡◌, ◌⊎◌, ℕ, Bool, true, List, Option, Some, None}
+use Rattle.run_debts.specs.Given.SeizeDeclared.progress.Progress.{Progress}
+use Rattle.run_debts.specs.Given.SeizeDeclared.rows.settle.Settled.{Settled}
+use Rattle.run_debts.specs.Given.SeizeLaw.{With, where_is}
+use Rattle.run_debts.specs.Given.SeizeWorld.{World, Begin, Step}
+use Rattle.run_debts.specs.Given.TablesDeclared.node.Node.{Node}
+use Rattle.run_debts.specs.Given.TablesDeclared.setting.Setting.{Setting}
+use Rattle.run_debts.specs.Given.RawDeclared.machines.progress.Progress.{Progress as CallTold}
+use Rattle.run_debts.specs.Given.SchedulesDeclared.effect.Table.{Table}
+use Rattle.run_debts.specs.Given.SchedulesEffects.{with_effects}
+use Rattle.run_debts.specs.Given.SchedulesLists.{is_among}
+use Rattle.run_debts.specs.Given.SchedulesMoment.{Moment, start}
+use Rattle.run_debts.specs.Given.SchedulesViews.{behind}
+use Rattle.run_debts.specs.Given.CallersTogether.{UnderWay}
+use Rattle.run_debts.specs.Given.EffectsEffects.{effects_of, known_after}
+use Rattle.run_debts.specs.Given.EffectsKnown.{Known, nothing_known}
+use Rattle.run_debts.specs.Given.EffectsDeclared.acting.Acting.TheVariants.{Call, Ending, Making, Row}
+use Rattle.run_debts.specs.Given.EffectsDeclared.role.Role.TheVariants as role
+use Rattle.run_debts.specs.Given.ScenesDeclared.row.RowTold.{RowTold}
+use Rattle.run_debts.specs.Given.ScenesDeclared.row.SlotCall.{SlotCall}
+use Rattle.run_debts.specs.Given.ScenesDeclared.row.SlotRow.{SlotRow}
+use Rattle.run_debts.specs.Given.FinishesEndings.{Finishing}
+use Rattle.run_debts.specs.Given.FinishesMakings.{Beginning}
+use Rattle.run_debts.specs.Given.FinishesMaps.{Standing}
+use Rattle.run_debts.specs.Given.OthersEndings.{ending_after}
+use Rattle.run_debts.specs.Given.OthersMakings.{WasNew}
+use Rattle.run_debts.specs.Given.OthersRows.{scene_then}
+use Rattle.run_debts.specs.Given.MomentsWhole.{ShowsWhole}
+use Rattle.run_debts.specs.Due.{OwnAreMade}
+use Rattle.run_debts.specs.Entries.{ShowsEntries}
+use Rattle.run_debts.specs.Hand.{ShowsOwed}
+use Rattle.run_waiting.specs.Lives.Waiting.{IsPutting}
+use Rattle.run_debts.specs.Given.ScenesEnding.{EndingLeads, ending_begun}
+use Rattle.run_debts.specs.Given.ScenesHeld.{Held, IsAt}
+use Rattle.run_debts.specs.Given.ScenesMaking.{MakingLeads}
+use Rattle.run_debts.specs.Given.ScenesOnSlots.{RowBegins, RowLeads}
+use Rattle.run_debts.specs.Given.ScenesRows.{request_of}
+use Rattle.run_debts.specs.Given.ScenesScene.{IsOnSlot, Scene, at_first, slot_of}
+use Rattle.run_debts.specs.Given.ScenesStepping.{StepLeads}
+
+module _ {K V : Type 0} where
+  -- the block is noted as a pair that is told to wait behind this table
+  abbrev pub IsToldBehind : Moment K V → Known → ℕ → Table → Type 0
+  IsToldBehind m known b t = (n : ℕ) × (known.roles b ≡ role.Pair n) × (is_among n (behind t m.deferred) ≡ true)
+
+  -- somebody's row is putting it behind the table's block
+  abbrev pub IsPutThere : World (Node K V) → ℕ → ℕ → Type 0
+  IsPutThere w b c = (i : ℕ) × IsPutting b c (w.row i)
+
+  -- each block that can be reached through one that is noted as a table, and through that alone, is told to wait behind it, or a row is putting it there
+  abbrev pub ShowsLying : Moment K V → Known → World (Node K V) → Type 0
+  ShowsLying m known w =
+      (b c len : ℕ) (t : Table) → known.roles c ≡ role.Table t len → where_is b w.log ≡ With c → IsToldBehind m known b t ⊎ IsPutThere w b c
+
+-- The promises: nothing lies behind a table before all events,
+abbrev pub LyingBegins : Type 0 → Type 0 → Type 0
+LyingBegins K V = (roots : ℕ) → ShowsLying {K = K} {V = V} start nothing_known (at_first {K = K} {V = V} roots).world
+
+-- it is as it was in the same world where the same pairs wait,
+abbrev pub OthersLeaveLying : Type 0 → Type 0 → Type 0
+OthersLeaveLying K V = (m v : Moment K V) (known : Known) (w : World (Node K V)) → ShowsLying m known w → v.deferred ≡ m.deferred → ShowsLying v known w
+
+-- and where the end of a map begins.
+abbrev pub EndingsBeginLying : Type 0 → Type 0 → Type 0
+EndingsBeginLying K V =
+    (m : Moment K V) (known : Known) (s : Scene K V) → ShowsLying m known s.world → (map i : ℕ) (standing : Standing K) → ShowsLying m known (ending_begun map i standing s).world
+
+module _ (K V : Type 0) (same : K → K → Bool) (hash : ℕ → K → ℕ) where
+  -- So it is where a row begins on a slot, and after a step of it,
+  abbrev pub RowsBeginLying : Type 0
+  RowsBeginLying =
+      (m : Moment K V) (known : Known) (s : Scene K V) (old new : Held K V) → ShowsLying m known s.world
+      → (called : SlotCall) (i : ℕ) (leads : RowBegins same hash called i s old new)
+      → ShowsLying m known (scene_then same hash (Begin i (request_of (slot_of i) called)) s old new leads.2).world
+
+  abbrev pub RowsKeepLying : Type 0
+  RowsKeepLying =
+      (name : ℕ → List ℕ) (m : Moment K V) (known : Known) (s : Scene K V) (old new : Held K V) → IsAt same hash old s → ShowsWhole same name m known s → ShowsLying m known s.world
+      → (i : ℕ) (told : RowTold (Node K V)) (leads : RowLeads same hash i told s old new) (row : SlotRow) (here : IsOnSlot s i row)
+      → ShowsLying (with_effects None None (effects_of Row known new.changed) m) (known_after Row new.changed known) (scene_then same hash (Step i) s old new (leads row here).2).world
+
+  -- after a step of the making of a map,
+  abbrev pub MakingsKeepLying : Type 0
+  MakingsKeepLying =
+      (name : ℕ → List ℕ) (m : Moment K V) (known : Known) (s : Scene K V) (old new : Held K V) → IsAt same hash old s → ShowsWhole same name m known s → OwnAreMade known s.world
+      → ShowsLying m known s.world
+      → (i : ℕ) (told : Progress Setting) (leads : MakingLeads same hash i told s old new) (b : Beginning K) (here : s.makers i ≡ Some b) (of : Option ℕ) → WasNew b.map told m
+      → ShowsLying (with_effects None of (effects_of (Making b.map) known new.changed) m) (known_after (Making b.map) new.changed known) (leads b here).2.step.w2
+
+  -- of a call, whoever's row it is, where calls owe what they have in hand,
+  abbrev pub CallsKeepLying : Type 0
+  CallsKeepLying =
+      (name : ℕ → List ℕ) (m : Moment K V) (known : Known) (s : Scene K V) (old new : Held K V) → IsAt same hash old s → ShowsWhole same name m known s
+      → ShowsEntries s → OwnAreMade known s.world → ShowsOwed name m known s → ShowsLying m known s.world
+      → (map i : ℕ) (u : UnderWay K V K) (here : s.calls map i ≡ Some u) (told : CallTold (Node K V)) (leads : StepLeads same hash i told s old new)
+      → ShowsLying (with_effects (Some (name i)) (Some map) (effects_of (Call i map) known new.changed) m) (known_after (Call i map) new.changed known) (leads map u here).4.w2
+
+  -- and of the end of a map.
+  abbrev pub EndingsKeepLying : Type 0
+  EndingsKeepLying =
+      (name : ℕ → List ℕ) (m : Moment K V) (known : Known) (s : Scene K V) (old new : Held K V) → IsAt same hash old s → ShowsWhole same name m known s → ShowsLying m known s.world
+      → (i : ℕ) (told : Settled (Node K V)) (leads : EndingLeads same hash i told s old new) (f : Finishing K V) (here : s.enders i ≡ Some f) (map : ℕ) → s.maps map ≡ None
+      → (let to = leads f here in
+      ShowsLying (with_effects None (Some map) (effects_of (Ending map) known new.changed) m) (known_after (Ending map) new.changed known)
+      (ending_after same hash s new i f to.0 to.2.w2 to.2.deed told to.3).world)

@@ -1,0 +1,2 @@
+//! What waits behind a table is not reclaimed before it, and what ended maps have left over.
+#![tactic(auto)]

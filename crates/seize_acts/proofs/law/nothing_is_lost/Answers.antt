@@ -1,5 +1,0 @@
-use Rattle.seize_acts.proofs.Lost.{nothing_lost}
-use Rattle.seize_acts.proofs.law.nothing_is_lost.Goals as goal
-
-pub returns : goal.returns
-returns c d = record { at_rest = nothing_lost }

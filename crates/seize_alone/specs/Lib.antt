@@ -1,3 +1,0 @@
-pub mod Alone
-pub mod Laws
-pub mod Given

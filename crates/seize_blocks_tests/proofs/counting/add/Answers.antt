@@ -1,5 +1,0 @@
-use Rattle.seize_blocks_tests.proofs.Roots.{adds}
-use Rattle.seize_blocks_tests.proofs.counting.add.Goals as goal
-
-pub add-requires-clause-may : goal.add-requires-clause-may
-add-requires-clause-may c = adds c.loop.seat.id 1 c.loop.seat.view

@@ -1,3 +1,0 @@
-pub mod Bounds
-pub mod Settles
-pub mod Given

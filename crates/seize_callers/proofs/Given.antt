@@ -1,3 +1,0 @@
--- What is so by the crates below, given on to the crates above: these list this crate in place of those.
-pub use Rattle.seize_views.proofs.Given.SeizeActsAnswers
-pub use Rattle.seize_views.proofs.Guarding as SeizeViewsGuarding

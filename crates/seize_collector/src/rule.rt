@@ -1,0 +1,50 @@
+//! The rule while one seat alone acts.
+use crate::alone::Alone;
+use seize::rows::{Defers, LeftOver};
+use seize_blocks::{Rule, Turn};
+use seize_views::Fixed;
+use std::marker::PhantomData;
+
+/// One seat has the memory to itself: it takes a slot, so that the slots have their words, and then reclaims all that waits.
+pub struct OfOne;
+
+impl<T: Defers + LeftOver> Rule<T> for OfOne {
+    ghost use Rattle.seize.specs.World.{World};
+    ghost use Rattle.seize_collector.specs.Renews.Rule.{KeepsNone};
+    ghost use Rattle.seize_collector.specs.Renews.One.{HoldsOne, one_told, one_first};
+
+    type View = Alone<T>;
+
+    type Fixed = Fixed;
+
+    ghost World = { World T };
+
+    ghost holds = { HoldsOne T.defers T.left_over };
+
+    ghost keeps = { KeepsNone };
+
+    ghost then = { one_told T.defers T.left_over };
+
+    ghost newcomer = { one_first };
+
+    ghost rests = { λ _. Unit {0} };
+
+    ghost newcomers_rest = { λ _. tt };
+
+    ghost resting_stay = { λ _ _ _ _ _ _. tt };
+
+    ghost leans = { λ _ _. ⊥ };
+
+    ghost upright = { λ _ _ _ none. none };
+
+    ghost leaning_stay = { λ _ _ _ _ _ _ none. none };
+}
+
+/// The turn of a step of its machine that makes no operation.
+pub struct Passing<T>(PhantomData<T>);
+
+impl<T: Defers + LeftOver> Turn<Fixed, Alone<T>> for Passing<T> {
+    ghost use Rattle.seize_collector.specs.Renews.One.{Passes};
+
+    ghost to = { λ _. Passes T.defers T.left_over };
+}

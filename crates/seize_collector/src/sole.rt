@@ -1,0 +1,219 @@
+//! The one who has the memory to himself: he takes a slot first, so that the slots have their words, and then reclaims all.
+ghost use Rattle.std.specs.Prelude.{◌≡◌, ◌≢◌, ◌<◌, ◌+◌, ◌^◌, true, false};
+ghost use Rattle.seize.specs.declared.states.TheConstants.{LAST_SLOT};
+ghost use Rattle.seize.specs.declared.rows.reclaim_all.ReclaimAll.{ReclaimAll};
+ghost use Rattle.seize.specs.declared.rows.reclaim_all.Reclaiming.TheVariants.{Over};
+ghost use Rattle.seize.specs.declared.rows.register.Registering.TheVariants.{Begin, Look, Take};
+ghost use Rattle.seize_views.specs.Views.Begun.{seeker_at};
+ghost use Rattle.seize_collector.specs.Renews.One.{Passes};
+ghost use Rattle.seize_collector.specs.Renews.Rule.{all_of, over_of};
+ghost use Rattle.seize_collector.specs.declared.alone.Alone.TheVariants.{Registers};
+ghost use Rattle.seize_collector.specs.Empties.Emptying.{IsUnderWay, Seeks, leave_passes, settle_passes, passes, left_of};
+
+use crate::{OfOne, Passing, one_acts_alone};
+use seize::Machine;
+use seize::rows::{
+    Defers, Leave, Leaving, LeftOver, ReclaimAll, Reclaiming, Settle, Settled, Settling,
+    needed_bucket,
+};
+use seize::states::{FREE, HEAD, IDLE, LAST_SLOT, NEVER};
+use seize_blocks::{Blocks, Seat};
+use seize_words::{At, Fault, Look, Memory};
+
+mod memory;
+
+/// The one who has the memory to himself, with his seat. It is a memory for the machines that he steps.
+pub(crate) struct Sole<'a, T: Defers + LeftOver> {
+    pub(crate) blocks: &'a Blocks<T, OfOne>,
+    pub(crate) seat: Seat<T, OfOne>,
+    pub(crate) near: u64,
+    ghost own: { seat.base ≡ blocks.now.words.id.views_name },
+    ghost sized: { blocks.now.words.fixed.batch_size < 2 ^ 64 },
+}
+
+/// Whether it has ended.
+fn is_over(row: &ReclaimAll) -> bool
+    ensures over { result ≡ true → row.now.stands ≡ Over }
+    ensures not { result ≡ false → row.now.stands ≢ Over }
+{
+    matches!(row.stands, Reclaiming::Over)
+}
+
+/// Whether the next step of a leaving makes no operation.
+fn leave_passes(row: &Leave) -> bool
+    ensures { result ≡ leave_passes row.now }
+{
+    match &row.stands {
+        Leaving::Over => true,
+        Leaving::Settles(settle) => settle_passes(settle),
+        _ => false,
+    }
+}
+
+/// Whether the next step of a settling makes no operation.
+fn settle_passes(row: &Settle) -> bool
+    ensures { result ≡ settle_passes row.now }
+{
+    matches!(row.stands, Settling::Over)
+}
+
+/// Whether the next step makes no operation.
+fn passes(row: &ReclaimAll) -> bool
+    ensures { result ≡ passes row.now }
+{
+    match &row.stands {
+        Reclaiming::Leaves { leave, .. } => leave_passes(leave),
+        Reclaiming::Flushes { settle, .. } => settle_passes(settle),
+        _ => false,
+    }
+}
+
+impl<'a, T: Defers + LeftOver> Sole<'a, T> {
+    /// Begins to look for a slot, and tells whether slots have words.
+    fn begins(&mut self) -> bool
+        requires begins { self.old.seat.view ≡ Registers (seeker_at 0 Begin) self.old.blocks.now.words.fixed.batch_size }
+        ensures there { result ≡ true → Seeks self.old.blocks.now.words.fixed.batch_size 0 self.new.seat.view }
+        ensures none { result ≡ false → IsUnderWay (over_of self.old.blocks.now.words.fixed.batch_size) self.new.seat.view }
+        ensures blocks { self.new.blocks ≡ self.old.blocks }
+    {
+        one_acts_alone::<T>();
+        self.room(0).is_ok()
+    }
+
+    /// Takes a slot whose head was seen so, and tells whether registering has ended.
+    fn occupies(&mut self, slot: u64, seen: u64) -> bool
+        requires { self.old.seat.view ≡ Registers (seeker_at slot (Take seen)) self.old.blocks.now.words.fixed.batch_size }
+        ensures ends { result ≡ true → IsUnderWay (all_of self.old.blocks.now.words.fixed.batch_size) self.new.seat.view }
+        ensures on { result ≡ false → Seeks self.old.blocks.now.words.fixed.batch_size (slot + 1) self.new.seat.view }
+        ensures blocks { self.new.blocks ≡ self.old.blocks }
+    {
+        one_acts_alone::<T>();
+        self.exchange(At::Slot(slot, HEAD), seen, IDLE).is_ok()
+    }
+
+    /// Tries one slot, and tells whether registering has ended.
+    fn tries(&mut self, slot: u64) -> bool
+        requires slot { slot < LAST_SLOT + 1 }
+        requires seeks { self.old.seat.view ≡ Registers (seeker_at slot Look) self.old.blocks.now.words.fixed.batch_size }
+        ensures ends { result ≡ true → IsUnderWay (all_of self.old.blocks.now.words.fixed.batch_size) self.new.seat.view }
+        ensures on { result ≡ false → Seeks self.old.blocks.now.words.fixed.batch_size (slot + 1) self.new.seat.view }
+        ensures blocks { self.new.blocks ≡ self.old.blocks }
+    {
+        one_acts_alone::<T>();
+        let seen = self.load(At::Slot(slot, HEAD));
+        if seen != NEVER && seen != FREE {
+            return false;
+        }
+        if let Some(bucket) = needed_bucket(slot) {
+            if self.room(bucket).is_err() {
+                return true;
+            }
+        }
+        self.occupies(slot, seen)
+    }
+
+    /// Takes a slot, if one can be taken, and tells whether slots have words.
+    fn registers(&mut self) -> bool
+        requires begins { self.old.seat.view ≡ Registers (seeker_at 0 Begin) self.old.blocks.now.words.fixed.batch_size }
+        ensures there { result ≡ true → IsUnderWay (all_of self.old.blocks.now.words.fixed.batch_size) self.new.seat.view }
+        ensures none { result ≡ false → IsUnderWay (over_of self.old.blocks.now.words.fixed.batch_size) self.new.seat.view }
+        ensures blocks { self.new.blocks ≡ self.old.blocks }
+    {
+        if !self.begins() {
+            return false;
+        }
+        for slot in 0..LAST_SLOT + 1 {
+            if self.tries(slot) {
+                return true;
+            }
+        }
+        true
+    }
+
+    /// A step of the machine that makes no operation is a turn of the seat first.
+    fn passes_by(&mut self, row: &ReclaimAll)
+        requires under { IsUnderWay row.now self.old.seat.view }
+        requires not { row.now.stands ≢ Over }
+        requires passes { passes row.now ≡ true }
+        ensures passed { Passes T.defers T.left_over self.old.seat.view self.new.seat.view }
+        ensures blocks { self.new.blocks ≡ self.old.blocks }
+    {
+        one_acts_alone::<T>();
+        self.blocks.turn::<Passing<T>>(&mut self.seat);
+    }
+
+    /// Takes the next step, which makes no operation.
+    fn skips(&mut self, row: &mut ReclaimAll) -> Option<T>
+        requires under { IsUnderWay row.old self.old.seat.view }
+        requires not { row.old.stands ≢ Over }
+        requires passes { passes row.old ≡ true }
+        ensures under { IsUnderWay row.new self.new.seat.view }
+        ensures falls { left_of self.new.seat.view < left_of self.old.seat.view }
+        ensures blocks { self.new.blocks ≡ self.old.blocks }
+    {
+        self.passes_by(row);
+        match row.step(self) {
+            Settled::Gave(value) => Some(value),
+            _ => None,
+        }
+    }
+
+    /// Takes the next step, which makes an operation, and answers the value that was reclaimed, if one was.
+    fn makes(&mut self, row: &mut ReclaimAll) -> Option<T>
+        requires under { IsUnderWay row.old self.old.seat.view }
+        requires not { row.old.stands ≢ Over }
+        requires makes { passes row.old ≡ false }
+        ensures under { IsUnderWay row.new self.new.seat.view }
+        ensures falls { left_of self.new.seat.view < left_of self.old.seat.view }
+        ensures blocks { self.new.blocks ≡ self.old.blocks }
+    {
+        one_acts_alone::<T>();
+        match row.step(self) {
+            Settled::Gave(value) => Some(value),
+            _ => None,
+        }
+    }
+
+    /// Takes the next step, and answers the value that was reclaimed, if one was.
+    fn steps(&mut self, row: &mut ReclaimAll) -> Option<T>
+        requires under { IsUnderWay row.old self.old.seat.view }
+        requires not { row.old.stands ≢ Over }
+        ensures under { IsUnderWay row.new self.new.seat.view }
+        ensures falls { left_of self.new.seat.view < left_of self.old.seat.view }
+        ensures blocks { self.new.blocks ≡ self.old.blocks }
+    {
+        if passes(row) {
+            self.skips(row)
+        } else {
+            self.makes(row)
+        }
+    }
+}
+
+impl<'a, T: Defers + LeftOver + Drop> Sole<'a, T> {
+    /// Goes on to the end. A value that is reclaimed is dropped.
+    fn ends(&mut self, row: &mut ReclaimAll)
+        requires under { IsUnderWay row.old self.old.seat.view }
+        ensures under { IsUnderWay row.new self.new.seat.view }
+        ensures over { row.new.stands ≡ Over }
+        ensures blocks { self.new.blocks ≡ self.old.blocks }
+    {
+        while !is_over(row) {
+            drop(self.steps(row));
+        }
+    }
+
+    /// Takes a slot, and reclaims all. Values that are reclaimed are dropped.
+    pub(crate) fn reclaims(&mut self, batch_size: u64)
+        requires begins { self.old.seat.view ≡ Registers (seeker_at 0 Begin) batch_size }
+        requires sized { self.old.blocks.now.words.fixed.batch_size ≡ batch_size }
+        ensures over { (c : ReclaimAll) × (c.stands ≡ Over) × IsUnderWay c self.new.seat.view }
+        ensures blocks { self.new.blocks ≡ self.old.blocks }
+    {
+        let mut row = ReclaimAll::reclaim_all(batch_size, 0);
+        if !self.registers() {
+            row.stands = Reclaiming::Over;
+        }
+        self.ends(&mut row);
+    }
+}

@@ -1,0 +1,181 @@
+//! Several guards of one slot: its section begins with the first of them, and ends with the last, whichever that is.
+ghost use Rattle.std.specs.Prelude.{◌≡◌};
+
+use crate::ground::CHOSEN;
+use seize::Fault;
+use seize_blocks::{Blocks, Home};
+use seize_shared::{Desk, DeskGuard, MOST_GUARDS, OfRows, Place, Registration, RootGuard};
+use seize_shared_tests::{Counted, Table, dropped, table};
+use std::alloc::{AllocError, Global};
+use std::marker::Brand;
+use std::mem;
+use std::test::Fail;
+
+/// How often a value was dropped: while two guards have seen it and it was retired; after one of them has ended; and after both.
+#[derive(Drop)]
+struct Drops {
+    seen: bool,
+    both: u64,
+    one: u64,
+    none: u64,
+}
+
+/// Two guards see a value, which is taken away and retired by another slot then; one of them ends, and then the other one: the inner one first, or the outer
+/// one.
+fn ends<B: Place>(
+    blocks: &Blocks<Counted, OfRows>,
+    drops: &Table,
+    inner_first: bool,
+) -> Option<Drops>
+    requires fixed { blocks.now.words.fixed ≡ record { batch_size = 5; roots = 1 } }
+    requires home { blocks.now.words.id.views_name ≡ B.base }
+{
+    let mut writer = Registration::new(blocks, &CHOSEN).ok()?;
+    let mut guard = writer.enter();
+    guard.put(0, Counted::of(drops, 0)?).ok()?;
+    drop(guard);
+    let desk = Desk::<Counted, B>::new(blocks, &CHOSEN).ok()?;
+    let Ok(mut outer) = desk.enter() else {
+        return None;
+    };
+    let Ok(mut inner) = desk.enter() else {
+        return None;
+    };
+    outer.see(0);
+    inner.see(0);
+    writer.clear(0);
+    writer.flush();
+    let both = dropped(drops, 0);
+    let (first, second) = if inner_first {
+        (inner, outer)
+    } else {
+        (outer, inner)
+    };
+    drop(first);
+    writer.flush();
+    let one = dropped(drops, 0);
+    let seen = second.value().is_some();
+    drop(second);
+    Some(Drops {
+        seen,
+        both,
+        one,
+        none: dropped(drops, 0),
+    })
+}
+
+/// The same over one memory, which ends then.
+fn both_end(alloc: Global, drops: &Table, inner_first: bool) -> Result<Option<Drops>, AllocError> {
+    let home = Home::<Counted, OfRows>::open(alloc, 1, 64, &CHOSEN)?;
+    Ok(ends_here(&home.blocks, drops, inner_first))
+}
+
+/// In this memory.
+fn ends_here(blocks: &Blocks<Counted, OfRows>, drops: &Table, inner_first: bool) -> Option<Drops>
+    requires { blocks.now.words.fixed ≡ record { batch_size = 5; roots = 1 } }
+{
+    ends::<Brand>(blocks, drops, inner_first)
+}
+
+#[test]
+fn what_a_guard_has_seen_is_there_until_the_last_one_ends(rt: HostRuntime) -> Result<(), Fail> {
+    for inner_first in [true, false] {
+        let drops = table(rt.alloc(), 1)?;
+        let Some(times) = both_end(rt.alloc(), &drops, inner_first)? else {
+            return Err(Fail::new("a slot or memory was refused"));
+        };
+        assert!(rt; times.seen);
+        assert_eq!(rt; (times.both, times.one, times.none), (0, 0, 1));
+    }
+    Ok(())
+}
+
+/// Enters as many guards as a desk may have; tells whether they are there.
+fn enters_all<'d, 'a, B: Place>(
+    desk: &'d Desk<'a, Counted, B>,
+    guards: &mut Vec<DeskGuard<'d, 'a, Counted, B>>,
+) -> bool {
+    for _ in 0..MOST_GUARDS {
+        let Ok(guard) = desk.enter() else {
+            return false;
+        };
+        if guards.push(guard).is_err() {
+            return false;
+        }
+    }
+    true
+}
+
+/// As many guards as there may be, one of which ends; whether a further one is refused before, as one too many, and there is one then.
+fn fills<B: Place>(alloc: Global, blocks: &Blocks<Counted, OfRows>) -> Option<(bool, bool)>
+    requires fixed { blocks.now.words.fixed ≡ record { batch_size = 5; roots = 1 } }
+    requires home { blocks.now.words.id.views_name ≡ B.base }
+{
+    let desk = Desk::<Counted, B>::new(blocks, &CHOSEN).ok()?;
+    let mut guards = Vec::new(alloc);
+    let all = enters_all(&desk, &mut guards);
+    let before = matches!(desk.enter(), Err(Fault::GuardsFull));
+    drop(guards.pop());
+    let then = desk.enter().is_ok();
+    if all { Some((before, then)) } else { None }
+}
+
+/// In this memory.
+fn fills_here(alloc: Global, blocks: &Blocks<Counted, OfRows>) -> Option<(bool, bool)>
+    requires { blocks.now.words.fixed ≡ record { batch_size = 5; roots = 1 } }
+{
+    fills::<Brand>(alloc, blocks)
+}
+
+#[test]
+fn a_desk_refuses_a_guard_where_it_has_the_most(rt: HostRuntime) -> Result<(), Fail> {
+    let home = Home::<Counted, OfRows>::open(rt.alloc(), 1, 8, &CHOSEN)?;
+    assert_eq!(rt; fills_here(rt.alloc(), &home.blocks), Some((true, true)));
+    Ok(())
+}
+
+/// A guard that has seen a value is forgotten, and another slot takes the value away and retires it; answers how often it was dropped, once the desk has ended.
+fn forgets<B: Place>(blocks: &Blocks<Counted, OfRows>, drops: &Table) -> Option<u64>
+    requires fixed { blocks.now.words.fixed ≡ record { batch_size = 5; roots = 1 } }
+    requires home { blocks.now.words.id.views_name ≡ B.base }
+{
+    let mut writer = Registration::new(blocks, &CHOSEN).ok()?;
+    drop(writer.enter().put(0, Counted::of(drops, 0)?));
+    let desk = Desk::<Counted, B>::new(blocks, &CHOSEN).ok()?;
+    let Ok(mut guard) = desk.enter() else {
+        return None;
+    };
+    let sees = guard.see(0);
+    mem::forget(guard);
+    drop(desk);
+    let takes = writer.clear(0);
+    writer.flush();
+    if sees && takes {
+        Some(dropped(drops, 0))
+    } else {
+        None
+    }
+}
+
+/// The same over one memory, which ends then.
+fn forgets_one(alloc: Global, drops: &Table) -> Result<Option<u64>, AllocError> {
+    let home = Home::<Counted, OfRows>::open(alloc, 1, 8, &CHOSEN)?;
+    Ok(forgets_here(&home.blocks, drops))
+}
+
+/// In this memory.
+fn forgets_here(blocks: &Blocks<Counted, OfRows>, drops: &Table) -> Option<u64>
+    requires { blocks.now.words.fixed ≡ record { batch_size = 5; roots = 1 } }
+{
+    forgets::<Brand>(blocks, drops)
+}
+
+#[test]
+fn what_a_forgotten_guard_of_a_desk_has_seen_is_there_until_the_memory_ends(
+    rt: HostRuntime,
+) -> Result<(), Fail> {
+    let drops = table(rt.alloc(), 1)?;
+    assert_eq!(rt; forgets_one(rt.alloc(), &drops)?, Some(0));
+    assert_eq!(rt; dropped(&drops, 0), 1);
+    Ok(())
+}

@@ -1,2 +1,0 @@
-pub mod Emptying
-pub mod Made

@@ -1,4 +1,0 @@
-pub mod Batches
-pub mod Rows
-pub mod Settling
-pub mod Given

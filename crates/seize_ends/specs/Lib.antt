@@ -1,2 +1,0 @@
-pub mod Holders
-pub mod Given

@@ -1,4 +1,0 @@
-pub mod Lent
-pub mod Deeds
-pub mod Homes
-pub mod Tags

@@ -1,0 +1,3 @@
+-- Whole calls over a memory that has one owner: each row runs to its end before the next one begins.
+pub mod Alone
+pub mod Laws

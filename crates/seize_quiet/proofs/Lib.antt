@@ -1,4 +1,0 @@
-pub mod Slots
-pub mod Promised
-pub mod Ends
-pub mod Given

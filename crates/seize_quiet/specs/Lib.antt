@@ -1,3 +1,0 @@
-pub mod Slots
-pub mod Promises
-pub mod Given

@@ -1,5 +1,0 @@
-mod Paths
-mod Rows
-mod Waiting
-mod Batches
-pub mod Reached

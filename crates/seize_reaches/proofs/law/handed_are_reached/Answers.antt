@@ -1,5 +1,0 @@
-use Rattle.seize_reaches.proofs.Reached.{handed_are_reached}
-use Rattle.seize_reaches.proofs.law.handed_are_reached.Goals as goal
-
-pub returns : goal.returns
-returns g c = record { reached = handed_are_reached g.T.Defers.defers }

@@ -1,4 +1,0 @@
-pub mod AllReclaimed
-pub mod Laws
-pub mod Roots
-pub mod Given

@@ -1,4 +1,0 @@
-pub mod Rule
-pub mod Promises
-pub mod One
-pub mod Emptied

@@ -1,0 +1,12 @@
+use Rattle.std.proofs.Common.{◌≡◌, ◌<◌, ℕ}
+use Rattle.std.specs.Prelude.{slice_index}
+use Rattle.core.specs.Mem.Slots.{slots_items, slots_filled, slots_ptr, slots_len}
+use Rattle.core.specs.Mem.Slots.Ownership.{Filled}
+use Rattle.seize_seats.proofs.filling.fill.Given as goal
+
+-- the places so far hold 0
+abbrev pub invariant-loop-index : goal.invariant-loop-index
+invariant-loop-index l =
+    ((k : ℕ) → k < l.index → slice_index (slots_items l.slots) k ≡ 0) × Filled (slots_filled l.slots) 0 l.index ×
+    (slots_ptr l.slots ≡ slots_ptr l.initial.slots)
+    × (slots_len l.slots ≡ slots_len l.initial.slots)

@@ -1,2 +1,0 @@
-pub mod Reclaims
-pub mod Given

@@ -1,4 +1,0 @@
-//! Rows one after another reclaim what the waiting sets say, and reclaiming all leaves nothing that waits.
-#![tactic(auto)]
-
-pub mod law;

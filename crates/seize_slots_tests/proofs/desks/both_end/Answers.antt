@@ -1,7 +1,0 @@
-use Rattle.std.specs.Prelude.{None}
-use Rattle.seize_views.proofs.Notes.{rules_start}
-use Rattle.seize_counted.specs.declared.Counted.{Counted}
-use Rattle.seize_slots_tests.proofs.desks.both_end.Goals as goal
-
-pub open-requires-clause-starts : goal.open-requires-clause-starts
-open-requires-clause-starts c = rules_start Counted (λ _. None) (record { batch_size = 5; roots = 1 })

@@ -1,0 +1,46 @@
+-- A block that a settling is about to reclaim is there.
+use Rattle.std.specs.Prelude.{Option, Some, None, IsSome}
+use Rattle.std.proofs.Common.{ℕ, refl}
+use Rattle.seize_words.specs.OneMemory.Mem.{Mem, Can, Took, block_of, value_in, word_in, value_at}
+use Rattle.seize_words.specs.OneMemory.Word.{block_in}
+use Rattle.seize_words.specs.OneMemory.Plan.{May}
+use Rattle.seize_words.specs.declared.block.Block.{Block}
+use Rattle.seize_words.proofs.OneMemory.Plans.{may_as}
+use Rattle.seize.specs.declared.rows.settle.Settle.{Settle}
+use Rattle.seize.specs.declared.rows.settle.Settling.{Settling}
+use Rattle.seize.specs.declared.rows.settle.Settling.TheVariants as at
+use Rattle.seize.specs.Settle.{settle_plan, plan_at}
+use Rattle.seize.specs.Leave.{settled}
+use Rattle.seize.specs.World.{MayStep}
+use Rattle.seize_acts.proofs.Given.SeizeMovesState.Ghost.{State}
+use Rattle.seize_acts.proofs.Given.SeizeRulePoints.Known.{Fits}
+use Rattle.seize_acts.proofs.Given.SeizeRuleRows.Known.{FitsRow}
+use Rattle.seize_acts.proofs.Given.SeizeMemoryWords.Shows.{Extra}
+use Rattle.seize_acts.proofs.Given.SeizeMemoryWords.View.{View}
+use Rattle.seize_views.specs.Views.Rows.{counting, settles_for, IsReclaiming}
+use Rattle.seize_views.specs.declared.view.Why.{Why}
+use Rattle.seize_views.specs.declared.view.Why.TheVariants.{Retiring, Ending}
+
+-- a block with a word is there
+some_value : {T : Type 0} (x : Option (Block T)) (word : ℕ) → IsSome (word_in x word) → IsSome (value_in x)
+some_value None word is = is
+some_value (Some x) word is = refl
+
+-- what its settling relies on
+pub fits_settle : (n i : ℕ) (f : View) (m : State) (x : Extra) (k : ℕ) (c : Settle) (why : Why) → FitsRow n i f m x k (settles_for why c) → Fits n i f m x c
+fits_settle n i f m x k c (Retiring way) is = is
+fits_settle n i f m x k c (Ending size way) is = is.settles
+
+module _ {T : Type 0} (defers : T → Option ℕ) (c : Settle) where
+  -- whatever it is for, the step of a settling may be taken
+  pub may_settle : (why : Why) (m : Mem T) → MayStep defers (settles_for why c) m → May Can Took value_at m (settle_plan defers c)
+  may_settle (Retiring way) m may = may
+  may_settle (Ending size way) m may = may_as (settled (counting size way c)) Can Took value_at m (settle_plan defers c) may
+
+  at_point : (p : Settling) (m : Mem T) → May Can Took value_at m (plan_at defers c p) → IsReclaiming p → IsSome (value_at m (block_in c.reclaiming))
+  at_point (at.Takes next) m may is = may.0
+  at_point (at.Drains next word) m may is = some_value (block_of m (block_in c.reclaiming)) word may.0
+  at_point _ m may is = absurd is
+
+  pub reclaiming_there : (why : Why) (m : Mem T) → MayStep defers (settles_for why c) m → IsReclaiming c.stands → IsSome (value_at m (block_in c.reclaiming))
+  reclaiming_there why m may is = at_point c.stands m (may_settle why m may) is

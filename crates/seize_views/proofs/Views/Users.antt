@@ -1,0 +1,222 @@
+-- What a seat does within its section that is no step of a row, and that it goes on from there.
+use Rattle.std.specs.Prelude.{◌++◌, Option, Some, None, IsSome, length}
+use Rattle.std.proofs.Common.{◌≡◌, ℕ, ◌+◌, List, [], ◌∷◌, true, false, refl, sym, subst, ap, ◌∙◌}
+use Rattle.seize_words.specs.OneMemory.Mem.{Mem, Took, value_at}
+use Rattle.seize_words.specs.OneMemory.Op.{Op, Out}
+use Rattle.seize.specs.declared.states.TheConstants.{LAST_SLOT}
+use Rattle.seize.specs.Law.{Effect, holds, is_over}
+use Rattle.seize.specs.Sequence.{IsBetween}
+use Rattle.seize.specs.World.{World, Row, Use, Hand, Event, Happens, with_at}
+use Rattle.seize.specs.World as world
+use Rattle.seize_acts.proofs.Given.SeizeMovesState.Ghost.{IsOwned}
+use Rattle.seize_acts.proofs.Given.SeizeMovesMoves.Blocks.{never_held}
+use Rattle.seize_acts.proofs.Given.SeizeRulePoints.Aside.{HandFits}
+use Rattle.seize_acts.proofs.Given.SeizeRuleRows.Others.{with_other, users_rows}
+use Rattle.seize_acts.proofs.Given.SeizeAloneHistories.Reached.{Reached}
+use Rattle.seize_seats.specs.Seats.State.{State, view_of}
+use Rattle.seize_acts.specs.Bounds.Bounds.{IsOfOthers, IsAloneOnSlot}
+use Rattle.seize_views.specs.Views.Rows.{Leads, row_of, use_of, hand_of, had_in, IsShort, IsUsed, IsKnown, IsBounded, IsMade, IsInHand, RootsNameLinked, Fits, Since, Holds}
+use Rattle.seize_views.specs.Views.Told.{alone_with}
+use Rattle.seize_views.specs.declared.view.View.{View}
+use Rattle.seize_views.specs.declared.view.View.TheVariants.{Outside, Owes, Inside}
+use Rattle.seize_views.specs.declared.view.Has.{Has}
+use Rattle.seize_views.specs.declared.view.Has.TheVariants.{Nothing, Made, Seen, Both, Cut}
+use Rattle.seize_views.specs.declared.view.Fixed.{Fixed}
+use Rattle.seize_acts.proofs.Bounds.Bounds.Passing.{both}
+use Rattle.seize_views.proofs.Views.Found.{AreFound}
+use Rattle.seize_views.proofs.Views.Moved.{StillHave, IsSole, Passes, moved, still_used}
+use Rattle.seize_views.proofs.Views.Steps.{alone}
+
+-- hands of different kinds, and of different holders
+
+pub use_making : (r i : ℕ) → world.InUse r ≡ world.Making i → ⊥
+use_making r i e = cc e
+
+pub making_use : (j r : ℕ) → world.Making j ≡ world.InUse r → ⊥
+making_use j r e = cc e
+
+pub same_use : (a r : ℕ) → world.InUse a ≡ world.InUse r → a ≡ r
+same_use a r e = cc e
+
+module _ {T : Type 0} where
+  -- another block's hand is as it was
+  pub beside : (w : World T) (b c : ℕ) (k l : Hand) → (l ≡ w.hand b → ⊥) → w.hand c ≡ l → with_at w.hand b k c ≡ l
+  beside w b c k l ne is = with_other w.hand b c k (λ e. ne (sym is ∙ ap w.hand e)) ∙ is
+
+  -- an operation of the memory is one of the world's
+  pub world_took : (s : State T (View T) (World T)) → s.memory ≡ s.world.memory → (op : Op T) (out : Out T) (m : Mem T) → Took s.memory op out m
+      → Took s.world.memory op out m
+  world_took s is op out m took = subst (λ (x : Mem T). Took x op out m) is took
+
+  same_made : (w n : World T) (b : ℕ) (x : T) → n.hand ≡ w.hand → n.memory ≡ w.memory → IsMade w b x → IsMade n b x
+  same_made w n b x hand memory is = ((is.0.0, ap (λ (f : ℕ → Hand). f b) hand ∙ is.0.1), ap (λ (m : Mem T). value_at m b) memory ∙ is.1)
+
+  -- what is known of a block stays known where hands and memory are as they were, and what the section holds is held
+  pub same_hand : (w n : World T) (t : ℕ) → n.hand ≡ w.hand → n.memory ≡ w.memory → ((b : ℕ) → holds t b w.log ≡ true → holds t b n.log ≡ true)
+      → (has : Has T) → IsInHand w t has → IsInHand n t has
+  same_hand w n t hand memory held Nothing is = tt
+  same_hand w n t hand memory held (Made b x) is = same_made w n b x hand memory is
+  same_hand w n t hand memory held (Seen b) is = held b is
+  same_hand w n t hand memory held (Both b x a) is = (same_made w n b x hand memory is.0, held a is.1)
+  same_hand w n t hand memory held (Cut b) is = (is.0, ap (λ (f : ℕ → Hand). f b) hand ∙ is.1)
+
+  -- a block that its maker has no section holds
+  pub making_not_held : (defers : T → Option ℕ) (size : ℕ) (w : World T) (r : Reached defers size w) (id a b c : ℕ) → holds a c w.log ≡ true
+      → w.hand b ≡ world.Making id → c ≡ b → ⊥
+  making_not_held defers size w r id a b c held mine e =
+      let life : r.good.state.life b ≡ IsOwned id = subst (λ (k : Hand). HandFits k (r.good.state.life b)) mine (r.good.hands b) in
+      let none = never_held (LAST_SLOT + 1) id r.good.state b r.good.inv life a in
+      cc (subst (λ (l : List Effect). holds a b l ≡ false) r.good.logged none, subst (λ (k : ℕ). holds a k w.log ≡ true) e held)
+
+module _ {T : Type 0} (defers : T → Option ℕ) (fixed : Fixed) (s : State T (View T) (World T)) (id t : ℕ) where
+  abbrev w : World T
+  w = s.world
+
+  -- what events of a seat within a section have left that are no steps of rows
+  pub record Users (m : Mem T) (n : World T) (has : Has T) : Type 0 where
+    pub since : Since defers fixed w n
+    pub memory : m ≡ n.memory
+    pub row : n.row ≡ w.row
+    pub uses : n.uses ≡ w.uses
+    pub in_hand : IsInHand n t has
+    pub hands : StillHave defers fixed s id n
+    pub sole : IsSole defers fixed s id (had_in has)
+    pub values : (b : ℕ) → IsSome (value_at w.memory b) → IsSome (value_at n.memory b) → value_at n.memory b ≡ value_at w.memory b
+    pub held : (a b : ℕ) → holds a b w.log ≡ true → holds a b n.log ≡ true
+    pub over : (a b : ℕ) → holds a b w.log ≡ true → is_over b n.log ≡ is_over b w.log
+    pub roots : RootsNameLinked m n.hand
+    pub rooted : length m.roots ≡ fixed.roots
+    pub passes : Passes defers fixed s id n
+
+  -- one event of a user, and one more
+  pub passes_one : (e : Event T) (n : World T) → ((j : ℕ) → IsOfOthers j e) → Happens defers fixed.batch_size e w n → Passes defers fixed s id n
+  passes_one e n is happens j ne was now = (e ∷ [], (n, is j, happens, now, refl))
+
+  pub passes_then : (n v : World T) (e : Event T) → IsBetween e → ((j : ℕ) → IsOfOthers j e) → Passes defers fixed s id n
+      → Happens defers fixed.batch_size e n v → Passes defers fixed s id v
+  passes_then n v e between is before happens j ne was now =
+      let mid : IsAloneOnSlot j n =
+      subst (λ (rows : ℕ → Row). IsAloneOnSlot j (record v { row = rows })) (users_rows defers fixed.batch_size n v e between happens) now in
+      let p = before j ne was mid in
+      (p.0 ++ e ∷ [], both defers (IsAloneOnSlot j) fixed.batch_size j p.0 (e ∷ []) w n v p.1 (v, is j, happens, now, refl))
+
+module _ {T : Type 0} (defers : T → Option ℕ) (fixed : Fixed) (s : State T (View T) (World T)) (id t : ℕ) (v x : View T) (h : Holds defers fixed s)
+    (at : view_of s id ≡ Some v) (rests : row_of v ≡ world.Rests) (still : row_of x ≡ world.Rests) (same : use_of x ≡ use_of v) (short : IsShort x) where
+  fit : Fits s.world id v
+  fit = h.seats id v at
+
+  -- the seat goes on from one view to another, of the same slot
+  pub users_on : (m : Mem T) (n : World T) (has : Has T) → Users defers fixed s id t m n has → AreFound s id h.life.began (had_in has) m n.hand
+      → hand_of x ≡ had_in has → IsKnown n x → IsBounded defers fixed n id x
+      → (so : View T → Type 0) → so x → Leads defers fixed s m id so
+  users_on m n has u found hand known bounded so is =
+      moved defers fixed s id v x m n so h at (record {
+        since = u.since;
+        memory = u.memory;
+        rows = λ j ne. ap (λ f. f j) u.row;
+        own = record {
+          row = ap (λ f. f id) u.row ∙ fit.row ∙ rests ∙ sym still;
+          slot = subst (λ (o : Option (ℕ × Use)). IsUsed n o) (sym same)
+              (still_used s.world n (use_of v) fit.slot (λ a b q. ap (λ (f : ℕ → Use). f a) u.uses));
+          short = short;
+          known = known;
+        };
+        others = λ j y ne e. still_used s.world n (use_of y) (h.seats j y e).slot (λ a b q. ap (λ (f : ℕ → Use). f a) u.uses);
+        alone = alone defers fixed s id v h at x (λ a b q. (b, sym same ∙ q));
+        hands = u.hands;
+        sole = λ j b y ne e p q. u.sole j b y ne e p (sym hand ∙ q);
+        values = u.values;
+        held = λ a b inside held. u.held a b held;
+        over = u.over;
+        roots = u.roots;
+        rooted = u.rooted;
+        found = subst (λ (o : Option ℕ). AreFound s id h.life.began o m n.hand) (sym hand) found;
+        passes = u.passes;
+        bounded = bounded;
+      }) is
+
+module _ {T : Type 0} where
+  -- a view for each thing that is known of a block, of a seat that stays where it is, and has no row under way
+  pub record Carries (t : ℕ) (place : Has T → View T) : Type 0 where
+    pub rests : (has : Has T) → row_of (place has) ≡ world.Rests
+    pub stays : (has other : Has T) → use_of (place has) ≡ use_of (place other)
+    pub short : (has : Has T) → IsShort (place has)
+    pub hand : (has : Has T) → hand_of (place has) ≡ had_in has
+    pub known : (w : World T) (has : Has T) → IsInHand w t has → IsKnown w (place has)
+    pub bounded : (defers : T → Option ℕ) (fixed : Fixed) (w : World T) (j : ℕ) (has : Has T) → IsBounded defers fixed w j (place has)
+
+  -- as one within a section of this slot does, or one without a slot
+
+  pub within : (t : ℕ) → Carries t (Inside t)
+  within t = record {
+    rests = λ has. refl;
+    stays = λ has other. refl;
+    short = λ has. tt;
+    hand = λ has. refl;
+    known = λ w has is. is;
+    bounded = λ defers fixed w j has. tt;
+  }
+
+  pub alone_carries : Carries 0 alone_with
+  alone_carries = record { rests = rests; stays = λ has other. none has ∙ sym (none other); short = short; hand = hand; known = known; bounded = bounded }
+    where
+      rests : (has : Has T) → row_of (alone_with has) ≡ world.Rests
+      rests Nothing = refl
+      rests (Made b x) = refl
+      rests (Seen b) = refl
+      rests (Both b x a) = refl
+      rests (Cut b) = refl
+
+      none : (has : Has T) → use_of (alone_with has) ≡ None
+      none Nothing = refl
+      none (Made b x) = refl
+      none (Seen b) = refl
+      none (Both b x a) = refl
+      none (Cut b) = refl
+
+      short : (has : Has T) → IsShort (alone_with has)
+      short Nothing = tt
+      short (Made b x) = tt
+      short (Seen b) = tt
+      short (Both b x a) = tt
+      short (Cut b) = tt
+
+      hand : (has : Has T) → hand_of (alone_with has) ≡ had_in has
+      hand Nothing = refl
+      hand (Made b x) = refl
+      hand (Seen b) = refl
+      hand (Both b x a) = refl
+      hand (Cut b) = refl
+
+      known : (w : World T) (has : Has T) → IsInHand w 0 has → IsKnown w (alone_with has)
+      known w Nothing is = tt
+      known w (Made b x) is = is
+      known w (Seen b) is = tt
+      known w (Both b x a) is = is.0
+      known w (Cut b) is = is
+
+      bounded : (defers : T → Option ℕ) (fixed : Fixed) (w : World T) (j : ℕ) (has : Has T) → IsBounded defers fixed w j (alone_with has)
+      bounded defers fixed w j Nothing = tt
+      bounded defers fixed w j (Made b x) = tt
+      bounded defers fixed w j (Seen b) = tt
+      bounded defers fixed w j (Both b x a) = tt
+      bounded defers fixed w j (Cut b) = tt
+
+module _ {T : Type 0} (defers : T → Option ℕ) (fixed : Fixed) (s : State T (View T) (World T)) (id t : ℕ) (h : Holds defers fixed s) where
+  -- where it is, it knows something else of a block
+  pub users : (place : Has T → View T) → Carries t place → (had : Has T) → view_of s id ≡ Some (place had) → (m : Mem T) (n : World T) (has : Has T)
+      → Users defers fixed s id t m n has → AreFound s id h.life.began (had_in has) m n.hand → (so : View T → Type 0) → so (place has)
+      → Leads defers fixed s m id so
+  users place c had at m n has u found so is =
+      users_on defers fixed s id t (place had) (place has) h at (c.rests had) (c.rests has) (c.stays has had) (c.short has) m n has u found (c.hand has)
+      (c.known n has u.in_hand) (c.bounded defers fixed n id has) so is
+
+  -- or outside of one, where it knows of no block, or of one that it has unlinked
+  pub users_outside : view_of s id ≡ Some (Outside t) → (m : Mem T) (n : World T) → Users defers fixed s id t m n Nothing
+      → AreFound s id h.life.began None m n.hand → (so : View T → Type 0) → so (Outside t) → Leads defers fixed s m id so
+  users_outside at m n u found so is = users_on defers fixed s id t (Outside t) (Outside t) h at refl refl refl tt m n Nothing u found refl tt tt so is
+
+  pub users_owe : view_of s id ≡ Some (Outside t) → (m : Mem T) (n : World T) (b : ℕ) → Users defers fixed s id t m n (Cut b)
+      → AreFound s id h.life.began (Some b) m n.hand → (so : View T → Type 0) → so (Owes t b) → Leads defers fixed s m id so
+  users_owe at m n b u found so is =
+      users_on defers fixed s id t (Outside t) (Owes t b) h at refl refl refl tt m n (Cut b) u found refl u.in_hand tt so is

@@ -1,0 +1,170 @@
+-- Who has nothing under way has nothing under way after an operation, and who leans on nobody leans on nobody.
+use Rattle.std.specs.Prelude.{◌≡◌, ◌==◌, ℕ, Bool, true, false, Option, Some, if◌then◌else◌}
+use Rattle.std.proofs.Common.{sym, subst, ap}
+use Rattle.seize_words.specs.OneMemory.Op.{Op, Out, Load, Store, Swap, Add, Or, Exchange, Make, Take, Rewrite, Room, Found, Stored, Exchanged, Made as OutMade, Taken, Roomed}
+use Rattle.seize_words.specs.OneMemory.Word.{block_in}
+use Rattle.seize_words.specs.declared.at.At.TheVariants.{Root, Used, Slot, Entry, Word}
+use Rattle.seize_views.specs.Views.Notes.{noted_told}
+use Rattle.seize_views.specs.Views.Rows.{IsAtRest}
+use Rattle.seize_views.specs.Views.Stays.{told_still}
+use Rattle.seize_views.specs.Views.Watched.{open_at, LeansOn, Leans, IsOwn, IsOfRows}
+use Rattle.seize_views.specs.Views.Told.{told, alone_with, owes_in}
+use Rattle.seize_views.specs.declared.view.Noted.{Noted}
+use Rattle.seize_views.specs.declared.view.View.{View}
+use Rattle.seize_views.specs.declared.view.View.TheVariants.{Rests, Registers, Outside, Owes, Enters, Inside, Settles, Leaves, Left, Frees, Brings, Bears, Watches, Under, Busy}
+use Rattle.seize_views.specs.declared.view.Has.{Has}
+use Rattle.seize_views.specs.declared.view.Has.TheVariants.{Nothing, Made, Seen, Both, Cut}
+
+owes_rests : (T : Type 0) (t word : ℕ) (b : Bool) → IsAtRest {T = T} (if b then Outside t else Owes t (block_in word))
+owes_rests T t word true = tt
+owes_rests T t word false = tt
+
+module _ {T : Type 0} where
+  alone_rests : (has : Has T) → IsAtRest (alone_with has)
+  alone_rests Nothing = tt
+  alone_rests (Made b x) = tt
+  alone_rests (Seen b) = tt
+  alone_rests (Both b x a) = tt
+  alone_rests (Cut b) = tt
+
+  rests_as : (w v : View T) → w ≡ v → IsAtRest v → IsAtRest w
+  rests_as w v e rests = subst IsAtRest (sym e) rests
+
+module _ {T : Type 0} (defers : T → Option ℕ) where
+  withdrawn : (t : ℕ) (op : Op T) (out : Out T) (w : View T) → told defers (Outside t) op out w → IsAtRest w
+  withdrawn t (Swap (Root r) word) (Found old) w is = rests_as w (owes_in t old) is (owes_rests T t old (block_in old == 0))
+  withdrawn t (Swap (Root r) word) Stored w is = absurd is
+  withdrawn t (Swap (Root r) word) (Exchanged x) w is = absurd is
+  withdrawn t (Swap (Root r) word) (OutMade x) w is = absurd is
+  withdrawn t (Swap (Root r) word) (Taken x) w is = absurd is
+  withdrawn t (Swap (Root r) word) (Roomed x) w is = absurd is
+  withdrawn t (Swap (Used r) word) out w is = absurd is
+  withdrawn t (Swap (Slot a c) word) out w is = absurd is
+  withdrawn t (Swap (Entry a c) word) out w is = absurd is
+  withdrawn t (Swap (Word a c) word) out w is = absurd is
+  withdrawn t (Load at) out w is = absurd is
+  withdrawn t (Store at word) out w is = absurd is
+  withdrawn t (Add at word) out w is = absurd is
+  withdrawn t (Or at word) out w is = absurd is
+  withdrawn t (Exchange at old word) out w is = absurd is
+  withdrawn t (Make x words) out w is = absurd is
+  withdrawn t (Take c) out w is = absurd is
+  withdrawn t (Rewrite c x) out w is = absurd is
+  withdrawn t (Room c) out w is = absurd is
+
+  watched : (t b : ℕ) (op : Op T) (out : Out T) (w : View T) → told defers (Watches t b) op out w → IsAtRest w
+  watched t b (Load (Root r)) (Found word) w is = rests_as w (Watches t (block_in word)) is tt
+  watched t b (Load (Root r)) Stored w is = absurd is
+  watched t b (Load (Root r)) (Exchanged x) w is = absurd is
+  watched t b (Load (Root r)) (OutMade x) w is = absurd is
+  watched t b (Load (Root r)) (Taken x) w is = absurd is
+  watched t b (Load (Root r)) (Roomed x) w is = absurd is
+  watched t b (Load (Used r)) out w is = absurd is
+  watched t b (Load (Slot a c)) out w is = absurd is
+  watched t b (Load (Entry a c)) out w is = absurd is
+  watched t b (Load (Word a c)) out w is = absurd is
+  watched t b (Swap at word) out w is = absurd is
+  watched t b (Store at word) out w is = absurd is
+  watched t b (Add at word) out w is = absurd is
+  watched t b (Or at word) out w is = absurd is
+  watched t b (Exchange at old word) out w is = absurd is
+  watched t b (Make x words) out w is = absurd is
+  watched t b (Take c) out w is = absurd is
+  watched t b (Rewrite c x) out w is = absurd is
+  watched t b (Room c) out w is = absurd is
+
+  told_rests : (v : View T) (op : Op T) (out : Out T) (w : View T) → told defers v op out w → IsAtRest v → IsAtRest w
+  told_rests Rests op out w is r = rests_as w (alone_with is.0) is.2 (alone_rests is.0)
+  told_rests (Outside t) op out w is r = withdrawn t op out w is
+  told_rests (Owes t b) op out w is r = absurd is
+  told_rests (Inside t has) op out w is r = rests_as w (Inside t is.0) is.2 tt
+  told_rests (Brings b x) op out w is r = rests_as w (alone_with is.0) is.2 (alone_rests is.0)
+  told_rests (Bears b) op out w is r = absurd is
+  told_rests (Watches t b) op out w is r = watched t b op out w is
+  told_rests (Under n t b) op out w is r = absurd r
+  told_rests (Registers c) op out w is r = absurd r
+  told_rests (Enters t) op out w is r = absurd r
+  told_rests (Settles c why seen left) op out w is r = absurd r
+  told_rests (Leaves t size way) op out w is r = absurd r
+  told_rests (Left t size way) op out w is r = absurd r
+  told_rests (Frees t) op out w is r = absurd r
+  told_rests (Busy t) op out w is r = absurd r
+
+  pub resting_stay : (v : Noted T) (op : Op T) (out : Out T) (w : Noted T) → noted_told defers v op out w → IsAtRest v.knows → IsAtRest w.knows
+  resting_stay v op out w is rests = told_rests v.knows op out w.knows is.0 rests
+
+-- who leans on a seat
+module _ {T : Type 0} where
+  leans_under : (x : View T) (n : ℕ) → LeansOn x n → (t : ℕ) × (b : ℕ) × (x ≡ Under n t b)
+  leans_under (Under m t b) n is = (t, b, ap (λ (k : ℕ). Under k t b) is)
+  leans_under Rests n is = absurd is
+  leans_under (Registers c) n is = absurd is
+  leans_under (Outside t) n is = absurd is
+  leans_under (Owes t b) n is = absurd is
+  leans_under (Enters t) n is = absurd is
+  leans_under (Inside t has) n is = absurd is
+  leans_under (Settles c why seen left) n is = absurd is
+  leans_under (Leaves t size way) n is = absurd is
+  leans_under (Left t size way) n is = absurd is
+  leans_under (Frees t) n is = absurd is
+  leans_under (Brings b x) n is = absurd is
+  leans_under (Bears b) n is = absurd is
+  leans_under (Watches t b) n is = absurd is
+  leans_under (Busy t) n is = absurd is
+
+  pub own_leans : (x : View T) (n : ℕ) → IsOwn x → LeansOn x n → ⊥
+  own_leans x n own leans = let e = leans_under x n leans in subst IsOwn e.2 own
+
+  rests_leans : (x : View T) (n : ℕ) → IsAtRest x → LeansOn x n → ⊥
+  rests_leans x n rests leans = let e = leans_under x n leans in subst IsAtRest e.2 rests
+
+  pub rows_lean : (x : View T) (n : ℕ) → IsOfRows x → LeansOn x n → ⊥
+  rows_lean x n rows leans = let e = leans_under x n leans in subst IsOfRows e.2 rows
+
+  pub open_leans : (x : View T) (t n : ℕ) → open_at x ≡ Some t → LeansOn x n → ⊥
+  open_leans x t n is_open leans = let e = leans_under x n leans in let none = ap open_at e.2 in cc (none, is_open)
+
+  pub upright : (v : Noted T) (n : ℕ) → IsAtRest v.knows → Leans v n → ⊥
+  upright v n rests leans = rests_leans v.knows n rests leans
+
+module _ {T : Type 0} (defers : T → Option ℕ) where
+  leans_still : (m t b : ℕ) (op : Op T) (out : Out T) (w : View T) → told defers (Under m t b) op out w → (n : ℕ) → LeansOn w n → m ≡ n
+  leans_still m t b (Load (Root r)) (Found word) w is n leans = subst (λ (x : View T). LeansOn x n) is leans
+  leans_still m t b (Load (Root r)) Stored w is n leans = absurd is
+  leans_still m t b (Load (Root r)) (Exchanged x) w is n leans = absurd is
+  leans_still m t b (Load (Root r)) (OutMade x) w is n leans = absurd is
+  leans_still m t b (Load (Root r)) (Taken x) w is n leans = absurd is
+  leans_still m t b (Load (Root r)) (Roomed x) w is n leans = absurd is
+  leans_still m t b (Load (Used r)) out w is n leans = absurd is
+  leans_still m t b (Load (Slot a c)) out w is n leans = absurd is
+  leans_still m t b (Load (Entry a c)) out w is n leans = absurd is
+  leans_still m t b (Load (Word a c)) out w is n leans = absurd is
+  leans_still m t b (Swap at word) out w is n leans = absurd is
+  leans_still m t b (Store at word) out w is n leans = absurd is
+  leans_still m t b (Add at word) out w is n leans = absurd is
+  leans_still m t b (Or at word) out w is n leans = absurd is
+  leans_still m t b (Exchange at old word) out w is n leans = absurd is
+  leans_still m t b (Make x words) out w is n leans = absurd is
+  leans_still m t b (Take c) out w is n leans = absurd is
+  leans_still m t b (Rewrite c x) out w is n leans = absurd is
+  leans_still m t b (Room c) out w is n leans = absurd is
+
+  told_leans : (v : View T) (op : Op T) (out : Out T) (w : View T) → told defers v op out w → (n : ℕ) → LeansOn w n → LeansOn v n
+  told_leans (Under m t b) op out w is n leans = leans_still m t b op out w is n leans
+  told_leans (Watches t b) op out w is n leans = absurd (rests_leans w n (told_rests defers (Watches t b) op out w is tt) leans)
+  told_leans Rests op out w is n leans = absurd (own_leans w n (told_still defers Rests op out w tt is).own leans)
+  told_leans (Registers c) op out w is n leans = absurd (own_leans w n (told_still defers (Registers c) op out w tt is).own leans)
+  told_leans (Outside t) op out w is n leans = absurd (own_leans w n (told_still defers (Outside t) op out w tt is).own leans)
+  told_leans (Owes t b) op out w is n leans = absurd (own_leans w n (told_still defers (Owes t b) op out w tt is).own leans)
+  told_leans (Enters t) op out w is n leans = absurd (own_leans w n (told_still defers (Enters t) op out w tt is).own leans)
+  told_leans (Inside t has) op out w is n leans = absurd (own_leans w n (told_still defers (Inside t has) op out w tt is).own leans)
+  told_leans (Settles c why seen left) op out w is n leans = absurd (own_leans w n (told_still defers (Settles c why seen left) op out w tt is).own leans)
+  told_leans (Leaves t size way) op out w is n leans = absurd (own_leans w n (told_still defers (Leaves t size way) op out w tt is).own leans)
+  told_leans (Left t size way) op out w is n leans = absurd (own_leans w n (told_still defers (Left t size way) op out w tt is).own leans)
+  told_leans (Frees t) op out w is n leans = absurd (own_leans w n (told_still defers (Frees t) op out w tt is).own leans)
+  told_leans (Brings b x) op out w is n leans = absurd (own_leans w n (told_still defers (Brings b x) op out w tt is).own leans)
+  told_leans (Bears b) op out w is n leans = absurd (own_leans w n (told_still defers (Bears b) op out w tt is).own leans)
+  told_leans (Busy t) op out w is n leans = absurd (own_leans w n (told_still defers (Busy t) op out w tt is).own leans)
+
+  pub leaning_stay : (v : Noted T) (op : Op T) (out : Out T) (w : Noted T) → noted_told defers v op out w → (n : ℕ) → Leans w n → Leans v n
+  leaning_stay v op out w is n leans = told_leans v.knows op out w.knows is.0 n leans

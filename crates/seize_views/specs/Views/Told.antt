@@ -1,0 +1,126 @@
+-- What an operation tells its seat.
+use Rattle.std.specs.Prelude.{◌≡◌, ◌≢◌, ◌<◌, ◌^◌, ℕ, ◌==◌, Option, Some, None, Ok, Err, nat_lt, if◌then◌else◌}
+use Rattle.seize_words.specs.OneMemory.Mem.{Mem, Took, value_at}
+use Rattle.seize_words.specs.OneMemory.Word.{block_in}
+use Rattle.seize_words.specs.OneMemory.Op.{Op, Out, Load, Swap, Or, Exchange, Make, Take, Found, Made as OutMade, Taken, Exchanged}
+use Rattle.seize_words.specs.OneMemory.Plan.{Plan, Turn, Do, Ends}
+use Rattle.seize_words.specs.declared.at.At.TheVariants.{Root}
+use Rattle.seize.specs.declared.states.TheConstants.{ACTIVE}
+use Rattle.seize.specs.declared.progress.Progress.{Progress}
+use Rattle.seize.specs.declared.progress.Progress.TheVariants as progress
+use Rattle.seize.specs.declared.rows.register.Register.{Register}
+use Rattle.seize.specs.declared.rows.settle.Settle.{Settle}
+use Rattle.seize.specs.declared.rows.settle.Settled.{Settled}
+use Rattle.seize.specs.Register.{register_plan}
+use Rattle.seize.specs.Settle.{counting_down, settle_plan}
+use Rattle.seize_straight.specs.Going.{DropGoes}
+use Rattle.seize_views.specs.Views.Rows.{IsShort}
+use Rattle.seize_views.specs.declared.view.View.{View}
+use Rattle.seize_views.specs.declared.view.Becomes.{Becomes}
+use Rattle.seize_views.specs.declared.view.View.TheVariants.{Rests, Registers, Outside, Owes, Enters, Inside, Settles, Leaves, Left, Frees, Brings, Bears, Watches, Under}
+use Rattle.seize_views.specs.declared.view.Has.{Has}
+use Rattle.seize_views.specs.declared.view.Has.TheVariants.{Nothing, Made, Seen, Both, Cut}
+use Rattle.seize_views.specs.declared.view.Why.{Why}
+use Rattle.seize_views.specs.declared.view.Why.TheVariants.{Ending}
+
+-- what a seat within a section knows that has seen this block, or unlinked it, or made the first one, of this value, and seen the second one; 0 is none
+abbrev pub seen_as : {T : Type 0} → ℕ → Has T
+seen_as b = if b == 0 then Nothing else Seen b
+
+abbrev pub cut_as : {T : Type 0} → ℕ → Has T
+cut_as b = if b == 0 then Nothing else Cut b
+
+abbrev pub made_beside : {T : Type 0} → ℕ → T → ℕ → Has T
+made_beside b x a = if a == 0 then Made b x else Both b x a
+
+-- the block that a word of a root names, if it names one, as it was seen, or unlinked
+abbrev pub seen_in : {T : Type 0} → ℕ → Has T
+seen_in word = seen_as (block_in word)
+
+abbrev pub cut_in : {T : Type 0} → ℕ → Has T
+cut_in word = cut_as (block_in word)
+
+-- what a seat within a section comes to know: it makes a block, takes it away again, or puts it at a root, whatever is there or only in place of this word;
+-- sees what a root names, marks that or not, or takes it from there
+abbrev pub has_told : {T : Type 0} → Has T → Op T → Out T → Has T → Type 0
+has_told Nothing (Make value words) (OutMade (Ok b)) after = (b < 2 ^ 53) × (after ≡ Made b value)
+has_told Nothing (Make value words) (OutMade (Err back)) after = (back ≡ value) × (after ≡ Nothing)
+has_told (Seen a) (Make value words) (OutMade (Ok b)) after = (b < 2 ^ 53) × (after ≡ Both b value a)
+has_told (Seen a) (Make value words) (OutMade (Err back)) after = (back ≡ value) × (after ≡ Seen a)
+has_told (Made b x) (Take c) (Taken value) after = (value ≡ x) × (after ≡ Nothing)
+has_told (Both b x a) (Take c) (Taken value) after = (value ≡ x) × (after ≡ Seen a)
+has_told (Made b x) (Swap (Root r) word) (Found old) after = after ≡ cut_in old
+has_told Nothing (Swap (Root r) word) (Found old) after = after ≡ cut_in old
+has_told (Made b x) (Exchange (Root r) old new) (Exchanged (Ok was)) after = after ≡ cut_in old
+has_told (Made b x) (Exchange (Root r) old new) (Exchanged (Err word)) after = (word ≢ old) × (after ≡ made_beside b x (block_in word))
+has_told (Both b x a) (Exchange (Root r) old new) (Exchanged (Ok was)) after = after ≡ cut_in old
+has_told (Both b x a) (Exchange (Root r) old new) (Exchanged (Err word)) after = (word ≢ old) × (after ≡ made_beside b x (block_in word))
+has_told Nothing (Load (Root r)) (Found word) after = after ≡ seen_in word
+has_told (Seen b) (Load (Root r)) (Found word) after = after ≡ seen_in word
+has_told Nothing (Or (Root r) bits) (Found word) after = after ≡ seen_in word
+has_told (Seen b) (Or (Root r) bits) (Found word) after = after ≡ seen_in word
+has_told _ op out after = ⊥
+
+-- how a seat stands that has no slot, and knows so of a block
+abbrev pub alone_with : {T : Type 0} → Has T → View T
+alone_with Nothing = Rests
+alone_with (Made b x) = Brings b x
+alone_with (Seen b) = Rests
+alone_with (Both b x a) = Brings b x
+alone_with (Cut b) = Bears b
+
+-- and what one outside of a section knows that has taken from a root what this word names
+abbrev pub owes_in : {T : Type 0} → ℕ → ℕ → View T
+owes_in t word = if block_in word == 0 then Outside t else Owes t (block_in word)
+
+-- what was looked at
+abbrev pub shown_by : {T : Type 0} → Option (ℕ × T) → ℕ → Option T
+shown_by None b = None
+shown_by (Some seen) b = if b == seen.0 then Some seen.1 else None
+
+module _ {T R : Type 0} where
+  -- the step that makes an operation comes, in some memory, to this outcome after this answer
+  abbrev pub ComesTo : Plan T R → Out T → R → Type 0
+  ComesTo (Turn rest) out end = ⊥
+  ComesTo (Do op rest) out end = (m n : Mem T) × Took m op out n × Ends (value_at n) (rest out) end
+
+  -- or by what it looked at
+  abbrev pub FollowsBy : (ℕ → Option T) → Plan T R → Out T → R → Type 0
+  FollowsBy shown (Turn rest) out end = ⊥
+  FollowsBy shown (Do op rest) out end = Ends shown (rest out) end
+
+-- what a seat knows once registering has come so far
+abbrev pub left_by : {T : Type 0} → Register × Progress ℕ → View T
+left_by (c, progress.Done t) = Outside t
+left_by (c, progress.Refused fault) = Rests
+left_by (c, _) = Registers c
+
+-- and once the list of its slot was taken, with this head
+abbrev pub list_taken : {T : Type 0} → ℕ → ℕ → Becomes → ℕ → ℕ → View T
+list_taken t size way head left = if nat_lt ACTIVE head then Settles (counting_down t size head) (Ending size way) None left else Left t size way
+
+module _ {T : Type 0} (defers : T → Option ℕ) where
+  -- a settling goes on, further steps are needed, with the same slot, and fewer are left
+  pub record GoesOn (c : Settle) (why : Why) (left : ℕ) (out : Out T) (w : View T) : Type 0 where
+    pub end : Settle × Settled T
+    pub seen : Option (ℕ × T)
+    pub now : ℕ
+    pub follows : FollowsBy (shown_by seen) (settle_plan defers c) out end
+    pub further : DropGoes end.1
+    pub slot : end.0.slot ≡ c.slot
+    pub falls : now < left
+    pub view : w ≡ Settles end.0 why seen now
+
+  abbrev pub told : View T → Op T → Out T → View T → Type 0
+  told (Registers c) op out w = (end : Register × Progress ℕ) × ComesTo (register_plan {T = T} c) out end × (w ≡ left_by end) × IsShort w
+  told (Outside t) (Swap (Root r) word) (Found old) w = w ≡ owes_in t old
+  told (Enters t) op out w = w ≡ Inside t Nothing
+  told Rests op out w = (after : Has T) × has_told Nothing op out after × (w ≡ alone_with after)
+  told (Brings b x) op out w = (after : Has T) × has_told (Made b x) op out after × (w ≡ alone_with after)
+  told (Inside t has) op out w = (after : Has T) × has_told has op out after × (w ≡ Inside t after)
+  told (Settles c why seen left) op out w = GoesOn c why left out w
+  told (Leaves t size way) op (Found head) w = (left : ℕ) × (w ≡ list_taken t size way head left)
+  told (Frees t) op out w = w ≡ Rests
+  told (Watches t b) (Load (Root r)) (Found word) w = w ≡ Watches t (block_in word)
+  told (Under n t b) (Load (Root r)) (Found word) w = w ≡ Under n t (block_in word)
+  told _ op out w = ⊥

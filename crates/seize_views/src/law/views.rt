@@ -1,0 +1,82 @@
+//! What is promised of the rule of the collector's rows.
+ghost use Rattle.seize_views.specs.Views.Promises.{RulesStart, SeatsCome, RowsGoOn, RowsTurn, SettlingsBegin, LookedAreShown};
+ghost use Rattle.seize_views.specs.Views.Promises.{BlocksAreMade, MadeAreTaken, MadeAreLinked, MadeAreExchanged, KnownAreShown};
+ghost use Rattle.seize_views.specs.Views.Promises.{RootsAreSeen, RootsAreMarked, RootsAreCleared, RootsAreWithdrawn};
+ghost use Rattle.seize_views.specs.Views.Notes.{StartsAreNoted, ComingsAreNoted, StepsAreNoted, TurnsAreNoted, SettlingsAreNoted, MeetingsAreNoted, LooksAreNoted};
+ghost use Rattle.seize_views.specs.Views.Notes.{WatchesBegin, WatchesEnd, WatchersSee, WatchedAreShown};
+ghost use Rattle.seize_views.specs.Views.Notes.{LeaningsBegin, LeaningsSee, LeaningsEnd, LeaningsKeep, KeptAreThere};
+ghost use Rattle.seize_views.specs.Views.Promises.{OwnAreMade, OwnAreTaken, OwnAreLinked, OwnAreExchanged, OwnAreShown, BorneAreShown, BorneAreHandedOn};
+ghost use Rattle.seize_views.specs.Views.Values.{ValuesAreFound};
+
+use seize::rows::Defers;
+
+/// The rule may start, and seats may come. Each row of a seat may begin, go on and end at any moment, whatever the other seats do.
+pub fn rows_go_on<T: Defers>()
+    ensures starts { RulesStart T T.defers }
+    ensures come { SeatsCome T T.defers }
+    ensures on { RowsGoOn T T.defers }
+    ensures turn { RowsTurn T T.defers }
+    ensures settle { SettlingsBegin T T.defers }
+    ensures looked { LookedAreShown T T.defers }
+{}
+
+/// Within a section a block may be made, taken away by its maker, put at a root, whatever is there or only in place of a word, seen there, marked there, and taken
+/// from there, which may be done outside of a section, too; and a block that is known may be looked at.
+pub fn sections_go_on<T: Defers>()
+    ensures made { BlocksAreMade T T.defers }
+    ensures taken { MadeAreTaken T T.defers }
+    ensures linked { MadeAreLinked T T.defers }
+    ensures exchanged { MadeAreExchanged T T.defers }
+    ensures seen { RootsAreSeen T T.defers }
+    ensures marked { RootsAreMarked T T.defers }
+    ensures cleared { RootsAreCleared T T.defers }
+    ensures withdrawn { RootsAreWithdrawn T T.defers }
+    ensures known { KnownAreShown T T.defers }
+{}
+
+/// Without a slot a block may be made, looked at, taken away by its maker, and put at a root, whatever is there or only in place of a word; and one that is
+/// taken from there so may be looked at, and handed on to who has a slot.
+pub fn blocks_have_seats<T: Defers>()
+    ensures made { OwnAreMade T T.defers }
+    ensures taken { OwnAreTaken T T.defers }
+    ensures linked { OwnAreLinked T T.defers }
+    ensures exchanged { OwnAreExchanged T T.defers }
+    ensures shown { OwnAreShown T T.defers }
+    ensures borne { BorneAreShown T T.defers }
+    ensures handed { BorneAreHandedOn T T.defers }
+{}
+
+/// Between any two steps no value is lost: some seat has its block in its hand, or a root names it, or the collector has it.
+pub fn values_are_found<T: Defers>()
+    ensures found { ValuesAreFound T T.defers }
+{}
+
+/// A seat notes what it does, and may do whatever it may do by what it knows.
+pub fn deeds_are_noted<T: Defers>()
+    ensures starts { StartsAreNoted T T.defers }
+    ensures come { ComingsAreNoted T T.defers }
+    ensures steps { StepsAreNoted T T.defers }
+    ensures turns { TurnsAreNoted T T.defers }
+    ensures settlings { SettlingsAreNoted T T.defers }
+    ensures meetings { MeetingsAreNoted T T.defers }
+    ensures looks { LooksAreNoted T T.defers }
+{}
+
+/// A seat may begin to watch the section that another one has open, look at roots, is shown what it has seen, and may end; who has the section open knows how
+/// many do.
+pub fn sections_are_watched<T: Defers>()
+    ensures begin { WatchesBegin T T.defers }
+    ensures end { WatchesEnd T T.defers }
+    ensures see { WatchersSee T T.defers }
+    ensures shown { WatchedAreShown T T.defers }
+{}
+
+/// A seat may begin to lean on one that has a section open, and is lent for that, look at roots, and end; what it has seen that one keeps, and what is kept is
+/// there.
+pub fn sections_are_leaned_on<T: Defers>()
+    ensures begin { LeaningsBegin T T.defers }
+    ensures see { LeaningsSee T T.defers }
+    ensures end { LeaningsEnd T T.defers }
+    ensures keep { LeaningsKeep T T.defers }
+    ensures there { KeptAreThere T T.defers }
+{}

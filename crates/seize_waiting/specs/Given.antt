@@ -1,4 +1,0 @@
--- The words of the crates below, given on to the crates above: these list this crate in place of those.
-pub use Rattle.seize.specs.Law as SeizeLaw
-pub use Rattle.seize.specs.Sequence as SeizeSequence
-pub use Rattle.seize.specs.WaitingSets as SeizeWaitingSets

@@ -1,7 +1,0 @@
-pub mod Changes
-pub mod Following
-pub mod Handed
-pub mod Held
-pub mod Laws
-pub mod Lists
-pub mod Given

@@ -1,0 +1,113 @@
+-- A session may store a pair, store one where its key is missing, and remove one: calls on one key that ask nothing.
+use Rattle.std.specs.Prelude.{◌<◌, ◌^◌, Option, Result, Ok, Some, None}
+use Rattle.std.proofs.Common.{◌≡◌, ℕ, Bool, true, false, inr, refl, sym, subst, ◌∙◌}
+use Rattle.seize_views.proofs.Given.SeizeActsAnswers.{same_some}
+use Rattle.seize_words.specs.declared.fault.Fault.{Fault}
+use Rattle.map_tables.specs.Chunks.{is_incremental}
+use Rattle.map_tables.specs.declared.node.Node.{Node}
+use Rattle.map_tables.specs.declared.node.Node.TheVariants.{Pair}
+use Rattle.map_tables.specs.declared.setting.Setting.{Setting}
+use Rattle.threads_rule.specs.Given.ActsActs.{Insert, Remove, TryToInsert}
+use Rattle.papaya_raw.specs.CallPoints.{inserting, removing, trying_to_insert}
+use Rattle.papaya_raw.specs.declared.machines.answer.There.TheVariants as there
+use Rattle.papaya_raw.specs.declared.machines.answer.Missing.TheVariants as missing
+use Rattle.papaya_raw.specs.declared.machines.asking.Takes.TheVariants as takes
+use Rattle.papaya_raw.specs.declared.machines.progress.Answer.{Answer}
+use Rattle.papaya_raw.specs.declared.machines.call.KeyCall.{KeyCall}
+use Rattle.papaya_raw.specs.declared.machines.machine.Machine.TheVariants.{Key}
+use Rattle.seize_views.specs.declared.view.Has.TheVariants.{Nothing as NoBlock}
+use Rattle.seize_views.specs.declared.view.View.TheVariants.{Inside}
+use Rattle.threads_rule.specs.declared.view.View.{View}
+use Rattle.threads_rule.specs.declared.view.Work.TheVariants.{Nothing}
+use Rattle.threads_rule.specs.Errands.Calling.{HasCalled, IsBack, IsToStore, MachineStores, MayCall, is_put, outcome_of, pair_wanted, wanted_of}
+use Rattle.threads_rule.specs.Errands.Looking.{HasRun}
+use Rattle.threads_rule.specs.Kinds.Kinds.{Kind, Stage}
+use Rattle.threads_calls.specs.Answers.{CameBack, IsOutOf, has_stored}
+use Rattle.threads_calls.specs.declared.session.keys.Attempt.{Attempt}
+use Rattle.threads_calls.specs.declared.session.keys.Attempt.TheVariants.{Stored, Present}
+use Rattle.threads_calls.specs.Standing.{known_by}
+use Rattle.threads_calls.proofs.Sessions.{may_do}
+
+-- a call that asks nothing has no value left that it was told
+abbrev quiet : Stage
+quiet = record { told = true; gap = false }
+
+abbrev stores : Kind
+stores = record { present = there.Puts; absent = missing.Puts; takes = takes.Nothing }
+
+abbrev tries : Kind
+tries = record { present = there.Answers; absent = missing.Puts; takes = takes.Nothing }
+
+abbrev removes : Kind
+removes = record { present = there.Removes; absent = missing.Answers; takes = takes.Nothing }
+
+module _ {K V S : Type 0} (same : K → K → Bool) (hash : S → K → ℕ) (v : View K V S) (setting its : Setting) (hasher : S) (key : K) (hashed t : ℕ) (call : KeyCall K V K) (lone : v.under ≡ None) (inside : v.slot ≡ Inside t NoBlock) (free : v.work ≡ Nothing) (knows : known_by v ≡ Some (setting, hasher)) (incremental : is_incremental setting.mode ≡ true) (is : its ≡ record setting { slot = t }) (word : hashed ≡ hash hasher key) (fits : hashed < 2 ^ 64) where
+  -- it is to store a pair where that is wanted
+  stores_so : (made : KeyCall K V K) → call ≡ made → ((other : Node K V) → pair_wanted (wanted_of (Key made)) ≡ Some other → IsToStore other made)
+      → (other : Node K V) → pair_wanted (wanted_of (Key call)) ≡ Some other → MachineStores other (Key call)
+  stores_so made made_so is other e =
+      subst (IsToStore other) (sym made_so) (is other (subst (λ (c : KeyCall K V K). pair_wanted (wanted_of (Key c)) ≡ Some other) made_so e))
+
+  pub may_insert : (value : V) → call ≡ inserting its hashed key value → MayCall same hash hasher (Key call) v
+  may_insert value made = record {
+    kind = stores;
+    stage = quiet;
+    none = record { present = tt; absent = tt };
+    may =
+        may_do same hash stores quiet (Insert key value) key (λ x h. inserting x h key value) (λ map s. refl) (λ x h. refl)
+        (λ x h. record { so = record { kind = refl; holds = (tt, inr (tt, tt)); gap = tt }; here = (refl, tt, tt) }) v setting its hasher hashed t call lone inside free knows
+        incremental is word made;
+    stores =
+        stores_so (inserting its hashed key value) made
+        (λ pair e. record { here = refl; unmade = e; absent = refl; present = tt; none = refl; word = fits });
+  }
+
+  pub may_try : (value : V) → call ≡ trying_to_insert its hashed key value → MayCall same hash hasher (Key call) v
+  may_try value made = record {
+    kind = tries;
+    stage = quiet;
+    none = record { present = tt; absent = tt };
+    may =
+        may_do same hash tries quiet (TryToInsert key value) key (λ x h. trying_to_insert x h key value) (λ map s. refl) (λ x h. refl)
+        (λ x h. record { so = record { kind = refl; holds = (tt, inr (tt, tt)); gap = tt }; here = (refl, tt, tt) }) v setting its hasher hashed t call lone inside free knows
+        incremental is word made;
+    stores =
+        stores_so (trying_to_insert its hashed key value) made
+        (λ pair e. record { here = refl; unmade = e; absent = refl; present = tt; none = refl; word = fits });
+  }
+
+  pub may_remove : call ≡ removing its hashed key → MayCall same hash hasher (Key call) v
+  may_remove made = record {
+    kind = removes;
+    stage = quiet;
+    none = record { present = tt; absent = tt };
+    may =
+        may_do same hash removes quiet (Remove key) key (λ x h. removing x h key) (λ map s. refl) (λ x h. refl)
+        (λ x h. record { so = record { kind = refl; holds = (tt, inr (tt, tt)); gap = tt }; here = tt }) v setting its hasher hashed t call lone inside free knows incremental is
+        word made;
+    stores = stores_so (removing its hashed key) made (λ pair e. absurd (cc e));
+  }
+
+-- what a call has come to is said of who wanted it
+pub ran_by : {K V S : Type 0} (same : K → K → Bool) (hash : S → K → ℕ) {call made : KeyCall K V K} {answer told : Result Answer Fault} {unstored : Option (Node K V)} (v w : View K V S) → call ≡ made → answer ≡ told
+    → HasCalled same hash (wanted_of (Key call)) answer unstored v w → HasRun same hash (wanted_of (Key made)) (outcome_of told) v w
+ran_by {K} {V} same hash {call} {made} {answer} {told} v w is says called =
+    subst (λ (c : KeyCall K V K). HasRun same hash (wanted_of (Key c)) (outcome_of told) v w) is
+    (subst (λ (r : Result Answer Fault). HasRun same hash (wanted_of (Key call)) (outcome_of r) v w) says called.ran)
+
+-- and its pair has come back, unless it is in the map
+pub back_by : {K V S : Type 0} (same : K → K → Bool) (hash : S → K → ℕ) {call made : KeyCall K V K} {answer told : Result Answer Fault} {unstored : Option (Node K V)} (v w : View K V S) → call ≡ made
+    → answer ≡ told → HasCalled same hash (wanted_of (Key call)) answer unstored v w → (pair : Node K V) → pair_wanted (wanted_of (Key made)) ≡ Some pair → IsBack pair told unstored
+back_by {K} {V} same hash {call} {made} {answer} {told} {unstored} v w is says called pair wanted =
+    subst (λ (r : Result Answer Fault). IsBack pair r unstored) says
+    (called.back pair (subst (λ (c : KeyCall K V K). pair_wanted (wanted_of (Key c)) ≡ Some pair) (sym is) wanted))
+
+-- two pairs that both have come back are one
+pub one_back : {K V : Type 0} (unstored : Option (Node K V)) (k key : K) (v value : V) → unstored ≡ Some (Pair k v) → unstored ≡ Some (Pair key value) → (k ≡ key) × (v ≡ value)
+one_back unstored k key v value out back = let e = same_some (Pair k v) (Pair key value) (sym out ∙ back) in (cc e, cc e)
+
+-- so it is handed back where it was not stored
+pub came_back : {K V : Type 0} (key : K) (value : V) (attempt : Attempt K V) (answer : Answer) (unstored : Option (Node K V)) → has_stored attempt ≡ is_put answer → IsOutOf unstored attempt
+    → IsBack (Pair key value) (Ok answer) unstored → CameBack key value attempt
+came_back key value Stored answer unstored stored out back = tt
+came_back key value (Present k v) answer unstored stored out back = one_back unstored k key v value out (back (sym stored))

@@ -1,0 +1,70 @@
+-- What a session knows of its map, and that it may look a key up there, and begin a call on one key.
+use Rattle.std.specs.Prelude.{Option, Some, None, IsSome}
+use Rattle.std.proofs.Common.{◌≡◌, ℕ, Bool, true, refl, sym, subst, ap, ◌∙◌}
+use Rattle.seize_views.proofs.Given.SeizeActsAnswers.{same_some}
+use Rattle.map_tables.specs.Chunks.{is_incremental}
+use Rattle.map_tables.specs.declared.setting.Setting.{Setting}
+use Rattle.map_machines.specs.Lookup.{looking}
+use Rattle.map_machines.specs.declared.lookup.Lookup.{Lookup}
+use Rattle.threads_rule.specs.declared.view.Map.{Map}
+use Rattle.threads_rule.specs.declared.view.View.{View}
+use Rattle.threads_rule.specs.declared.view.Work.TheVariants.{Nothing}
+use Rattle.seize_views.specs.declared.view.Has.TheVariants.{Nothing as NoBlock}
+use Rattle.seize_views.specs.declared.view.View.TheVariants.{Inside}
+use Rattle.threads_rule.specs.Given.ActsActs.{Wanted}
+use Rattle.papaya_raw.specs.declared.machines.call.KeyCall.{KeyCall}
+use Rattle.papaya_raw.specs.declared.machines.machine.Machine.TheVariants.{Key}
+use Rattle.threads_rule.specs.Views.Begun.{machine_for}
+use Rattle.threads_rule.specs.Errands.Calling.{MayDo, wanted_of}
+use Rattle.threads_rule.specs.Kinds.Kinds.{Kind, Stage, GoesOn}
+use Rattle.threads_rule.specs.Errands.Looking.{MayLook}
+use Rattle.threads_calls.specs.Standing.{known_as, known_by}
+use Rattle.threads_calls.proofs.Rows.{section_own}
+
+-- the map that it knows, with its setting and its hasher
+pub known : {S : Type 0} (o : Option (Map S)) (x : Setting × S) → known_as o ≡ Some x → (map : Map S) × (o ≡ Some map) × ((map.setting, map.hasher) ≡ x)
+known None x e = absurd (cc e)
+known (Some map) x e = (map, refl, same_some (map.setting, map.hasher) x e)
+
+pub known_some : {S : Type 0} (o : Option (Map S)) → IsSome (known_as o) → (map : Map S) × (o ≡ Some map)
+known_some None e = absurd (cc e)
+known_some (Some map) e = (map, refl)
+
+module _ {K V S : Type 0} (hash : S → K → ℕ) where
+  -- it may look a key up, within its section
+  pub may_look : (v : View K V S) (setting : Setting) (hasher : S) (key : K) (lookup : Lookup) (t : ℕ) → v.under ≡ None → v.slot ≡ Inside t NoBlock → v.work ≡ Nothing
+      → known_by v ≡ Some (setting, hasher) → is_incremental setting.mode ≡ true → lookup ≡ looking setting.root setting.mode (hash hasher key) → MayLook hash key lookup v
+  may_look v setting hasher key lookup t lone inside free knows incremental is = let k = known v.map (setting, hasher) knows in record {
+    slot = t;
+    map = k.0;
+    inside = section_own v t lone inside;
+    knows = k.1;
+    incremental = ap (λ (p : Setting × S). is_incremental p.0.mode) k.2 ∙ incremental;
+    free = free;
+    begins = is ∙ ap (λ (p : Setting × S). looking p.0.root p.0.mode (hash p.1 key)) (sym k.2);
+  }
+
+module _ {K V S : Type 0} (same : K → K → Bool) (hash : S → K → ℕ) (k : Kind) (s : Stage) (wanted : Wanted K V) (key : K) (made : Setting → ℕ → KeyCall K V K) where
+  -- it may begin a call on this key, by what it works with in this slot
+  pub may_do : ((map : Map S) (t : ℕ) → machine_for same hash map t wanted ≡ Key (made (record map.setting { slot = t }) (hash map.hasher key)))
+      → ((x : Setting) (h : ℕ) → wanted_of (Key (made x h)) ≡ wanted) → ((x : Setting) (h : ℕ) → GoesOn k s (made x h))
+      → (v : View K V S) (setting its : Setting) (hasher : S) (hashed t : ℕ) (call : KeyCall K V K) → v.under ≡ None → v.slot ≡ Inside t NoBlock → v.work ≡ Nothing
+      → known_by v ≡ Some (setting, hasher) → is_incremental setting.mode ≡ true → its ≡ record setting { slot = t } → hashed ≡ hash hasher key → call ≡ made its hashed
+      → MayDo same hash k s hasher (Key call) v
+  may_do machine wants goes v setting its hasher hashed t call lone inside free knows incremental is word made_so =
+      let m = known v.map (setting, hasher) knows in
+      let setting_is : its ≡ record m.0.setting { slot = t } = is ∙ ap (λ (p : Setting × S). record p.0 { slot = t }) (sym m.2) in
+      let word_is : hashed ≡ hash m.0.hasher key = word ∙ ap (λ (p : Setting × S). hash p.1 key) (sym m.2) in
+      let call_is : call ≡ made (record m.0.setting { slot = t }) (hash m.0.hasher key) =
+      made_so ∙ ap (λ (x : Setting). made x hashed) setting_is ∙ ap (made (record m.0.setting { slot = t })) word_is in
+      let wanted_is : wanted_of (Key call) ≡ wanted = ap (λ (c : KeyCall K V K). wanted_of (Key c)) made_so ∙ wants its hashed in record {
+        slot = t;
+        map = m.0;
+        inside = section_own v t lone inside;
+        knows = m.1;
+        hashes = ap (λ (p : Setting × S). p.1) m.2;
+        incremental = ap (λ (p : Setting × S). is_incremental p.0.mode) m.2 ∙ incremental;
+        free = free;
+        begins = ap (λ (c : KeyCall K V K). Key c) call_is ∙ sym (machine m.0 t) ∙ ap (machine_for same hash m.0 t) (sym wanted_is);
+        goes = subst (GoesOn k s) (sym made_so) (goes its hashed);
+      }

@@ -1,0 +1,50 @@
+-- What the answers of a session's calls say.
+use Rattle.std.specs.Prelude.{◌≡◌, ℕ, Bool, true, false, Option, Some, Ok}
+use Rattle.threads_rule.specs.Given.ActsActs.{Insert, Remove, TryToInsert}
+use Rattle.map_tables.specs.declared.node.Node.{Node}
+use Rattle.map_tables.specs.declared.node.Node.TheVariants.{Pair}
+use Rattle.papaya_raw.specs.declared.machines.answer.KeyAnswer.TheVariants as answers
+use Rattle.papaya_raw.specs.declared.machines.progress.Answer.{Answer}
+use Rattle.papaya_raw.specs.declared.machines.progress.Answer.TheVariants.{Key as OfKey}
+use Rattle.threads_rule.specs.declared.view.View.{View}
+use Rattle.threads_rule.specs.Errands.Calling.{is_put, outcome_of}
+use Rattle.threads_rule.specs.Errands.Looking.{HasRun}
+use Rattle.threads_calls.specs.declared.session.keys.Attempt.{Attempt}
+use Rattle.threads_calls.specs.declared.session.keys.Attempt.TheVariants.{Stored, Present}
+
+-- a pair was replaced by another one
+abbrev pub is_replaced : Answer → Bool
+is_replaced (OfKey (answers.Replaced old new)) = true
+is_replaced _ = false
+
+-- a pair was removed
+abbrev pub is_removed : Answer → Bool
+is_removed (OfKey (answers.Removed word)) = true
+is_removed _ = false
+
+-- the pair was stored
+abbrev pub has_stored : {K V : Type 0} → Attempt K V → Bool
+has_stored Stored = true
+has_stored (Present key value) = false
+
+-- or it has come back
+abbrev pub CameBack : {K V : Type 0} → K → V → Attempt K V → Type 0
+CameBack key value Stored = Unit {0}
+CameBack key value (Present k v) = (k ≡ key) × (v ≡ value)
+
+abbrev pub IsOutOf : {K V : Type 0} → Option (Node K V) → Attempt K V → Type 0
+IsOutOf unstored Stored = Unit {0}
+IsOutOf unstored (Present key value) = unstored ≡ Some (Pair key value)
+
+module _ {K V S : Type 0} where
+  -- it has run a call that stores this pair, and whose answer says whether a pair was replaced
+  abbrev pub HasStored : (K → K → Bool) → (S → K → ℕ) → K → V → Bool → View K V S → View K V S → Type 0
+  HasStored same hash key value replaced v w = (answer : Answer) × HasRun same hash (Insert key value) (outcome_of (Ok answer)) v w × (replaced ≡ is_replaced answer)
+
+  -- one that stores this pair where its key is missing, and whose answer says whether it is there then
+  abbrev pub HasTried : (K → K → Bool) → (S → K → ℕ) → K → V → Bool → View K V S → View K V S → Type 0
+  HasTried same hash key value stored v w = (answer : Answer) × HasRun same hash (TryToInsert key value) (outcome_of (Ok answer)) v w × (stored ≡ is_put answer)
+
+  -- one that removes the pair of this key, and whose answer says whether there was one
+  abbrev pub HasRemoved : (K → K → Bool) → (S → K → ℕ) → K → Bool → View K V S → View K V S → Type 0
+  HasRemoved same hash key removed v w = (answer : Answer) × HasRun same hash (Remove key) (outcome_of (Ok answer)) v w × (removed ≡ is_removed answer)

@@ -1,0 +1,108 @@
+//! What a seat of maps is sent for: to make a map, to look a key up, and to run a call on one key.
+ghost use Rattle.std.specs.Prelude.{◌≡◌};
+ghost use Rattle.threads_rule.specs.Errands.Calling.{HasCalled, MayCall, wanted_of};
+ghost use Rattle.threads_rule.specs.Errands.Looking.{HasFound, MayLook};
+ghost use Rattle.threads_rule.specs.Errands.Making.{CameTo, MayBegin};
+ghost use Rattle.threads_rule.specs.declared.view.Work.TheVariants.{Nothing as NoWork};
+ghost use Rattle.seize_views.specs.declared.view.View.TheVariants.{Rests};
+
+use crate::finding::{goes_on, sees};
+use crate::within::{Ran, Within};
+use map_machines::{Lookup, NewMap};
+use map_straight::Sight;
+use map_tables::{Hashes, Node, Setting};
+use papaya_raw::machines::Machine;
+use seize_blocks::{Blocks, Errand, Seat};
+use seize_words::Fault;
+use std::hash::Hash;
+use std::sync::Wait;
+use threads_rule::OfMaps;
+
+/// Makes a map of no table.
+#[derive(Drop)]
+pub struct Makes<'h, S> {
+    pub hasher: &'h S,
+    pub opening: NewMap,
+}
+
+impl<'h, K: Eq + Drop, V: Drop, S: Hashes<K>> Errand<Node<K, V>, OfMaps<S>> for Makes<'h, S> {
+    type Answer = Result<Setting, Fault>;
+
+    ghost asks = { λ m fixed v. MayBegin fixed m.opening × (v.slot ≡ Rests) × (v.work ≡ NoWork) };
+
+    ghost did = { λ m fixed v answer w. CameTo m.hasher.now m.opening answer v w };
+
+    fn run(
+        self,
+        blocks: &Blocks<Node<K, V>, OfMaps<S>>,
+        seat: &mut Seat<Node<K, V>, OfMaps<S>>,
+    ) -> Result<Setting, Fault> {
+        let Makes { hasher, opening } = self;
+        let mut within = Within::new(blocks, seat, 0);
+        within.makes_map(hasher, opening)
+    }
+}
+
+/// Looks a key up, by this lookup.
+#[derive(Drop)]
+pub struct Finds<'f, R, K> {
+    pub rt: &'f R,
+    pub key: &'f K,
+    pub lookup: Lookup,
+}
+
+impl<'f, R: Wait, K: Eq + Hash, V, S: Hashes<K>> Errand<Node<K, V>, OfMaps<S>> for Finds<'f, R, K> {
+    type Answer = Option<u64>;
+
+    ghost asks = { λ f fixed v. MayLook S.hash f.key.now f.lookup v };
+
+    ghost did = { λ f fixed v answer w. HasFound K.eq S.hash f.key.now answer v w };
+
+    fn run(
+        self,
+        blocks: &Blocks<Node<K, V>, OfMaps<S>>,
+        seat: &mut Seat<Node<K, V>, OfMaps<S>>,
+    ) -> Option<u64> {
+        let Finds { rt, key, lookup } = self;
+        let root = lookup.root;
+        let mode = lookup.mode;
+        let hash = lookup.hash;
+        match sees(blocks, seat, root, mode, hash, key) {
+            Sight::Ends(found) => found,
+            Sight::Stands(stands) => goes_on(rt, blocks, seat, root, mode, hash, stands, key),
+        }
+    }
+}
+
+/// Runs a call on one key that asks nothing.
+#[derive(Drop)]
+pub struct Does<'d, R, K, V, S> {
+    pub rt: &'d R,
+    pub hasher: &'d S,
+    pub machine: &'d mut Machine<K, V>,
+    pub near: u64,
+}
+
+impl<'d, R: Wait, K: Eq + Hash + Drop, V: Drop, S: Hashes<K>> Errand<Node<K, V>, OfMaps<S>>
+    for Does<'d, R, K, V, S> {
+    type Answer = Ran<K, V>;
+
+    ghost asks = { λ d fixed v. MayCall K.eq S.hash d.hasher.now d.machine.now v };
+
+    ghost did = { λ d fixed v answer w. HasCalled K.eq S.hash (wanted_of d.machine.now) answer.told answer.unstored v w };
+
+    fn run(
+        self,
+        blocks: &Blocks<Node<K, V>, OfMaps<S>>,
+        seat: &mut Seat<Node<K, V>, OfMaps<S>>,
+    ) -> Ran<K, V> {
+        let Does {
+            rt,
+            hasher,
+            machine,
+            near,
+        } = self;
+        let mut within = Within::new(blocks, seat, near);
+        within.does(rt, hasher, machine)
+    }
+}

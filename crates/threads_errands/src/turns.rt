@@ -1,0 +1,57 @@
+//! The steps of a seat of maps that make no operation. Which call begins, and which making, is picked by who takes the step.
+use map_tables::Hashes;
+use seize_blocks::Turn;
+use seize_views::Fixed;
+use std::marker::{Brand, PhantomData};
+use threads_rule::View;
+
+/// What a call is to do that begins.
+pub trait Wants<K, V> {
+    ghost use Rattle.threads_rule.specs.Given.ActsActs.{Wanted};
+
+    ghost wanted: { Wanted K V };
+}
+
+impl<K, V> Wants<K, V> for Brand {
+    ghost use Rattle.threads_rule.specs.Given.ActsActs.{Count};
+
+    ghost wanted = { Count };
+}
+
+/// A call begins.
+pub struct Beginning<B>(PhantomData<B>);
+
+impl<K: Eq, V, S: Hashes<K>, B: Wants<K, V>> Turn<Fixed, View<K, V, S>> for Beginning<B> {
+    ghost use Rattle.threads_rule.specs.Errands.Looking.{Begins};
+
+    ghost to = { λ _. Begins K.eq S.hash B.wanted };
+}
+
+/// By which machine a map may be made, with which hasher.
+pub trait Plans<S> {
+    ghost use Rattle.map_machines.specs.declared.new_map.NewMap.{NewMap};
+
+    ghost plans: { S → NewMap → Type 0 };
+}
+
+impl<S> Plans<S> for Brand {
+    ghost plans = { λ _ _. ⊥ };
+}
+
+/// The making of a map begins.
+pub struct Making<B>(PhantomData<B>);
+
+impl<K, V, S, B: Plans<S>> Turn<Fixed, View<K, V, S>> for Making<B> {
+    ghost use Rattle.threads_rule.specs.Errands.Making.{BeginsMaking};
+
+    ghost to = { λ _. BeginsMaking B.plans };
+}
+
+/// A call takes a step that makes no operation.
+pub struct Stepping;
+
+impl<K: Eq, V, S: Hashes<K>> Turn<Fixed, View<K, V, S>> for Stepping {
+    ghost use Rattle.threads_rule.specs.Views.Told.{turned};
+
+    ghost to = { λ _. turned K.eq S.hash };
+}

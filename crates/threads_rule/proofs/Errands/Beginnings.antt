@@ -1,0 +1,140 @@
+-- The turns of a seat of maps, and the lookup that has begun.
+use Rattle.std.specs.Prelude.{max, Result, Ok, Err, IfErr, Option, None}
+use Rattle.std.proofs.Common.{◌≡◌, ℕ, ◌≤◌, ◌^◌, Bool, true, Some, ◌⊎◌, inl, refl, sym, subst, ap, ◌∙◌, arith}
+use Rattle.seize_acts.proofs.Acts.Answers.{same_some}
+use Rattle.seize_seats.specs.Seats.State.{Turns}
+use Rattle.seize_words.specs.declared.fault.Fault.{Fault}
+use Rattle.map_tables.specs.Chunks.{is_incremental}
+use Rattle.map_tables.specs.Lengths.{IsTableLen}
+use Rattle.map_tables.specs.declared.setting.Setting.{Setting}
+use Rattle.map_machines.specs.Lookup.{looking}
+use Rattle.map_machines.specs.declared.lookup.Lookup.{Lookup}
+use Rattle.map_machines.specs.declared.new_map.NewMap.{NewMap}
+use Rattle.papaya_raw.specs.CallPoints.{getting, standing}
+use Rattle.papaya_raw.specs.declared.machines.call.Calling.TheVariants.{Looks}
+use Rattle.papaya_raw.specs.declared.machines.call.KeyCall.{KeyCall}
+use Rattle.papaya_raw.specs.declared.machines.machine.Machine.{Machine}
+use Rattle.papaya_raw.specs.declared.machines.machine.Machine.TheVariants.{Key}
+use Rattle.many_acts.specs.Acts.Acts.{Wanted, Get}
+use Rattle.seize_views.specs.declared.view.Fixed.{Fixed}
+use Rattle.seize_views.specs.declared.view.View.TheVariants.{Rests}
+use Rattle.threads_rule.specs.Views.Begun.{machine_for, making}
+use Rattle.threads_rule.specs.Views.Rule.{Holds, KeepsFor, Leans, LeansOn, section_of, stand_of}
+use Rattle.threads_rule.specs.Views.Told.{turned, turned_by}
+use Rattle.threads_rule.specs.declared.view.Map.{Map}
+use Rattle.threads_rule.specs.declared.view.View.{View}
+use Rattle.threads_rule.specs.declared.view.Work.{Work}
+use Rattle.threads_rule.specs.declared.view.Work.TheVariants.{Nothing, Calls, Makes}
+use Rattle.threads_rule.proofs.Views.Laws.{calls_begin, makings_begin}
+use Rattle.threads_rule.specs.Errands.Calling.{IsUnderWay, MayDo, wanted_of}
+use Rattle.threads_rule.specs.Kinds.Kinds.{Kind, Stage}
+use Rattle.threads_rule.specs.Errands.Looking.{Begins, IsOn, LooksFor, MayLook, StaysThere}
+use Rattle.threads_rule.specs.Errands.Making.{BeginsMaking, CameTo, MayBegin, PlansJust}
+
+module _ {K V S : Type 0} (same : K → K → Bool) (hash : S → K → ℕ) (fixed : Fixed) (id : ℕ) (v : View K V S) where
+  -- who may come to know one thing may come to know what that is of
+  turns_to : (so other : View K V S → Type 0) → ((w : View K V S) → so w → other w) → Turns (Holds same hash fixed) KeepsFor id v so → Turns (Holds same hash fixed) KeepsFor id v other
+  turns_to so other is may s h at = let g = may s h at in (g.0, g.1, g.2, g.3, is g.0 g.4)
+
+  pub may_begin : (t : ℕ) (map : Map S) (wanted : Wanted K V) → section_of v.under v.slot ≡ Some t → v.map ≡ Some map → is_incremental map.setting.mode ≡ true → v.work ≡ Nothing
+      → Turns (Holds same hash fixed) KeepsFor id v (Begins same hash wanted v)
+  may_begin t map wanted inside knows incremental free =
+      turns_to _ (Begins same hash wanted v) (λ w e. (map, t, knows, inside, e)) (calls_begin V same hash fixed id t v map wanted inside knows free incremental)
+
+  -- a table of eight places is one
+  eight : max 0 8 ≤ 2 ^ 48 → IsTableLen (max 0 8)
+  eight few = record { power = (3, refl); least = omega arith; most = omega arith }
+
+  pub may_make : (plans : S → NewMap → Type 0) (hasher : S) (c : NewMap) → PlansJust plans hasher c → MayBegin fixed c → v.slot ≡ Rests → v.work ≡ Nothing
+      → Turns (Holds same hash fixed) KeepsFor id v (BeginsMaking plans v)
+  may_make plans hasher c just may rests free =
+      turns_to _ (BeginsMaking plans v) (λ w e. (e.0, hasher, c, just.0, e.1 ∙ ap (making v e.0 hasher) (sym may.is)))
+      (makings_begin V same hash fixed id v hasher may.given 0 rests free may.sized may.masked may.rooted may.initial eight)
+
+-- what a making has come to, from where it began
+module _ {K V S : Type 0} (plans : S → NewMap → Type 0) (hasher : S) (opening : NewMap) (u v w : View K V S) (begins : BeginsMaking plans u v) where
+  refused_there : (answer : Result Setting Fault) → IfErr answer (λ fault. (w.work ≡ Nothing) × (w.map ≡ v.map)) → IfErr answer (λ fault. (w.work ≡ Nothing) × (w.map ≡ u.map))
+  refused_there (Ok setting) is = tt
+  refused_there (Err fault) is = (is.0, is.1 ∙ ap (λ (x : View K V S). x.map) begins.4)
+
+  pub came_from : (answer : Result Setting Fault) → CameTo hasher opening answer v w → CameTo hasher opening answer u w
+  came_from answer came = record {
+    made = came.made;
+    refused = refused_there answer came.refused;
+    slot = came.slot ∙ ap (λ (x : View K V S). stand_of x) begins.4;
+    calls = came.calls ∙ ap (λ (x : View K V S). x.calls) begins.4;
+  }
+
+module _ {K V S : Type 0} (same : K → K → Bool) (hash : S → K → ℕ) (key : K) where
+  -- what has begun is a lookup of this key
+  pub looks_for : (lookup : Lookup) (v w : View K V S) → MayLook hash key lookup v → Begins same hash (Get key) v w → LooksFor key lookup w
+  looks_for lookup v w may begins =
+      let map : Map S = begins.0 in
+      let one : may.map ≡ map = same_some may.map map (sym may.knows ∙ begins.2) in
+      let call : KeyCall K V K = getting (record map.setting { slot = begins.1 }) (hash map.hasher key) key in
+      let is : lookup ≡ looking map.setting.root map.setting.mode (hash map.hasher key) =
+      may.begins ∙ ap (λ (m : Map S). looking m.setting.root m.setting.mode (hash m.hasher key)) one in record {
+        map = map;
+        call = call;
+        knows = ap (λ (u : View K V S). u.map) begins.4 ∙ begins.2;
+        incremental = ap (λ (m : Map S). is_incremental m.setting.mode) (sym one) ∙ may.incremental;
+        asked = refl;
+        works = ap (λ (u : View K V S). u.work) begins.4 ∙ ap (λ (l : Lookup). Calls (Key (standing call (Looks l)))) (sym is);
+        on = subst (λ (l : Lookup). IsOn l.stands) (sym is) tt;
+      }
+
+  -- it looks from the root on
+  pub from_root : (lookup : Lookup) (v : View K V S) → MayLook hash key lookup v → MayLook hash key (looking lookup.root lookup.mode lookup.hash) v
+  from_root lookup v may = subst (λ (l : Lookup). MayLook hash key l v) (subst (λ (l : Lookup). l ≡ looking l.root l.mode l.hash) (sym may.begins) refl) may
+
+-- where a seat stands, and its map, stay as a call begins
+pub stays_begun : {K V S : Type 0} (same : K → K → Bool) (hash : S → K → ℕ) (wanted : Wanted K V) (v w : View K V S) → Begins same hash wanted v w → StaysThere v w
+stays_begun {K} {V} {S} same hash wanted v w begins =
+    record { slot = ap (λ (u : View K V S). stand_of u) begins.4; map = ap (λ (u : View K V S). u.map) begins.4 }
+
+module _ {K V S : Type 0} (same : K → K → Bool) (hash : S → K → ℕ) where
+  -- what has begun is this call
+  pub is_begun : (k : Kind) (s : Stage) (hasher : S) (machine : Machine K V K) (v w : View K V S) → MayDo same hash k s hasher machine v → Begins same hash (wanted_of machine) v w
+      → IsUnderWay k s hasher machine w
+  is_begun k s hasher machine v w may begins =
+      let map : Map S = begins.0 in
+      let one : may.map ≡ map = same_some may.map map (sym may.knows ∙ begins.2) in
+      let slot : may.slot ≡ begins.1 = same_some may.slot begins.1 (sym may.inside ∙ begins.3) in
+      let its : machine ≡ machine_for same hash map begins.1 (wanted_of machine) =
+      may.begins ∙ ap (λ (m : Map S). machine_for same hash m may.slot (wanted_of machine)) one ∙ ap (λ (t : ℕ). machine_for same hash map t (wanted_of machine)) slot in record {
+        at =
+            record {
+              map = map;
+              knows = ap (λ (u : View K V S). u.map) begins.4 ∙ begins.2;
+              hashes = ap (λ (m : Map S). m.hasher) (sym one) ∙ may.hashes;
+              incremental = ap (λ (m : Map S). is_incremental m.setting.mode) (sym one) ∙ may.incremental;
+              works = ap (λ (u : View K V S). u.work) begins.4 ∙ ap (λ (x : Machine K V K). Calls x) (sym its);
+            };
+        goes = may.goes;
+      }
+
+-- what stays in one course stays in both
+pub stays_on : {K V S : Type 0} (u v w : View K V S) → StaysThere u v → StaysThere v w → StaysThere u w
+stays_on u v w one other = record { slot = other.slot ∙ one.slot; map = other.map ∙ one.map }
+
+-- who has begun a call or a making, or has taken a step without an operation, leans on whom it did
+module _ {K V S : Type 0} where
+  leans_still : (v w : View K V S) (n : ℕ) (X : Type 0) → w.under ≡ v.under → Leans w n → Leans v n ⊎ X
+  leans_still v w n X is leans = inl (subst (λ (o : Option (ℕ × ℕ)). LeansOn o n) is leans)
+
+  pub begun_leans : (same : K → K → Bool) (hash : S → K → ℕ) (wanted : Wanted K V) (v w : View K V S) (n : ℕ) {X : Type 0} → Begins same hash wanted v w → Leans w n → Leans v n ⊎ X
+  begun_leans same hash wanted v w n {X} begins leans = leans_still v w n X (ap (λ (u : View K V S). u.under) begins.4) leans
+
+  pub making_leans : (plans : S → NewMap → Type 0) (v w : View K V S) (n : ℕ) {X : Type 0} → BeginsMaking plans v w → Leans w n → Leans v n ⊎ X
+  making_leans plans v w n {X} begins leans = leans_still v w n X (ap (λ (u : View K V S). u.under) begins.4) leans
+
+  pub turned_leans : (same : K → K → Bool) (hash : S → K → ℕ) (v w : View K V S) (n : ℕ) {X : Type 0} → turned same hash v w → Leans w n → Leans v n ⊎ X
+  turned_leans same hash v w n {X} turns leans = leans_still v w n X (by v.map v.work turns) leans
+    where
+      by : (map : Option (Map S)) (work : Work K V S) → turned_by same hash v map work w → w.under ≡ v.under
+      by (Some map) (Calls machine) is = ap (λ (u : View K V S). u.under) is.2
+      by (Some map) Nothing is = absurd is
+      by (Some map) (Makes m hasher opening) is = absurd is
+      by None Nothing is = absurd is
+      by None (Calls machine) is = absurd is
+      by None (Makes m hasher opening) is = absurd is

@@ -1,0 +1,8 @@
+-- Calls on one key by their kinds: each step of one replaces no value, and it asks then, or goes on as one of its kind.
+pub mod Plans
+pub mod Quiet
+pub mod Leads
+mod Pairs
+mod Asked
+mod Filled
+pub mod Asking

@@ -1,0 +1,14 @@
+-- To which end a step comes, with an answer of the kind of its operation, or without an operation.
+use Rattle.std.specs.Prelude.{◌≡◌, ℕ, Option}
+use Rattle.seize_words.specs.OneMemory.Op.{Out}
+use Rattle.seize_words.specs.OneMemory.Plan.{Plan, Turn, Do, Ends, plan_as}
+use Rattle.threads_rule.specs.Kinds.Answers.{IsAnswer}
+use Rattle.threads_rule.proofs.Kinds.Plans.{ends_as}
+
+abbrev pub Leads : {T R : Type 0} → (ℕ → Option T) → Plan T R → R → Type 0
+Leads shown (Turn rest) end = Ends shown rest end
+Leads {T} shown (Do op rest) end = (out : Out T) × IsAnswer op out × Ends shown (rest out) end
+
+pub leads_as : {T A B : Type 0} (f : A → B) (shown : ℕ → Option T) (plan : Plan T A) (end : B) → Leads shown (plan_as f plan) end → (e : A) × Leads shown plan e × (end ≡ f e)
+leads_as f shown (Turn rest) end e = ends_as f shown rest end e
+leads_as f shown (Do op rest) end e = let k = ends_as f shown (rest e.0) end e.2 in (k.0, (e.0, e.1, k.1), k.2)

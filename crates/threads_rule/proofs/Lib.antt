@@ -1,0 +1,3 @@
+pub mod Kinds
+pub mod Views
+pub mod Errands

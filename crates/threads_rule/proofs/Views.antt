@@ -1,0 +1,39 @@
+-- The rule of maps for a memory that threads share: what each seat knows of its slot, of a map, of the call that it has under way there and of the blocks that its
+-- last step looks at; and what is promised of it.
+pub mod Numbers
+mod Quiet
+mod Handed
+mod Ran
+mod Made
+mod Within
+mod Knows
+mod Whose
+mod Alone
+mod Sections
+mod Looked
+pub mod Pairs
+mod Settled
+mod RowLooks
+mod Starts
+pub mod Leaves
+mod Lasts
+pub mod Listed
+mod Moved
+mod Next
+mod UnderWay
+mod Calls
+mod Held
+mod Begins
+mod Handing
+mod Leanings
+mod Keeping
+mod Makings
+pub mod RowFits
+pub mod RowSteps
+pub mod RowBegins
+mod Views
+pub mod Rows
+pub mod Contents
+pub mod Exact
+pub mod Laws
+mod Samples

@@ -1,0 +1,4 @@
+-- What a seat of a memory of maps knows on its errand, as it begins and at each step.
+pub mod Calling
+pub mod Looking
+pub mod Making

@@ -1,0 +1,210 @@
+-- What a seat knows while a call on one key is under way, and once it has ended.
+use Rattle.std.specs.Prelude.{◌≡◌, ◌<◌, ◌^◌, ℕ, Bool, true, false, Option, Some, None, Result, Ok, Err}
+use Rattle.seize_words.specs.declared.fault.Fault.{Fault}
+use Rattle.map_tables.specs.Chunks.{is_incremental}
+use Rattle.map_tables.specs.declared.node.Node.{Node}
+use Rattle.map_tables.specs.declared.node.Node.TheVariants.{Pair}
+use Rattle.papaya_raw.specs.declared.machines.answer.There.{There}
+use Rattle.papaya_raw.specs.declared.machines.answer.There.TheVariants as there
+use Rattle.papaya_raw.specs.declared.machines.answer.Missing.{Missing}
+use Rattle.papaya_raw.specs.declared.machines.answer.Missing.TheVariants as missing
+use Rattle.papaya_raw.specs.declared.machines.answer.KeyAnswer.TheVariants as answers
+use Rattle.papaya_raw.specs.declared.machines.call.Calling.TheVariants as at
+use Rattle.papaya_raw.specs.declared.machines.call.KeyCall.{KeyCall}
+use Rattle.papaya_raw.specs.declared.machines.asking.Takes.{Takes}
+use Rattle.papaya_raw.specs.declared.machines.asking.Takes.TheVariants as takes
+use Rattle.papaya_raw.specs.declared.machines.machine.Machine.{Machine}
+use Rattle.papaya_raw.specs.declared.machines.machine.Machine.TheVariants.{Key}
+use Rattle.papaya_raw.specs.declared.machines.progress.Answer.{Answer}
+use Rattle.papaya_raw.specs.declared.machines.progress.Answer.TheVariants.{Key as OfKey}
+use Rattle.papaya_raw.specs.declared.machines.progress.Progress.{Progress}
+use Rattle.papaya_raw.specs.declared.machines.progress.Progress.TheVariants as progress
+use Rattle.many_acts.specs.Acts.Acts.{Wanted, Get, Remove, Insert, TryToInsert, Compute, Update, TryToInsertWith, RemoveIf, Count}
+use Rattle.threads_rule.specs.Views.Begun.{machine_for}
+use Rattle.threads_rule.specs.Views.Looks.{shown_in}
+use Rattle.threads_rule.specs.Views.Rule.{section_of}
+use Rattle.threads_rule.specs.declared.view.Map.{Map}
+use Rattle.threads_rule.specs.declared.view.View.{View}
+use Rattle.threads_rule.specs.declared.view.Work.TheVariants.{Nothing, Calls}
+use Rattle.threads_rule.specs.Kinds.Kinds.{Kind, Stage, AsksSo, GoesOn}
+use Rattle.threads_rule.specs.Errands.Looking.{HasRun, HasTold, StaysThere}
+
+-- a call of this kind asks nothing where the key is there,
+abbrev pub IsKnownThere : There → Type 0
+IsKnownThere there.Asks = ⊥
+IsKnownThere _ = Unit {0}
+
+-- and where it is missing
+abbrev pub IsKnownMissing : Missing → Type 0
+IsKnownMissing missing.Asks = ⊥
+IsKnownMissing _ = Unit {0}
+
+pub record AsksNothing (k : Kind) : Type 0 where
+  pub present : IsKnownThere k.present
+  pub absent : IsKnownMissing k.absent
+
+module _ {K V Q : Type 0} where
+  -- it is a call on one key of this kind that has come so far, and its next step goes on,
+  abbrev pub MachineGoesOn : Kind → Stage → Machine K V Q → Type 0
+  MachineGoesOn k s (Key c) = GoesOn k s c
+  MachineGoesOn k s _ = ⊥
+
+  -- or it asks, with a pair that is shown, or where the key is missing
+  abbrev pub MachineAsks : Kind → Stage → (ℕ → Option (Node K V)) → Option ℕ → Machine K V Q → Type 0
+  MachineAsks k s shown pair (Key c) = AsksSo k s shown pair c
+  MachineAsks k s shown pair _ = ⊥
+
+-- it puts its pair where the key is, or leaves the one that is there
+abbrev pub PutsOrLeaves : There → Type 0
+PutsOrLeaves there.Puts = Unit {0}
+PutsOrLeaves there.Answers = Unit {0}
+PutsOrLeaves _ = ⊥
+
+-- a call that is to store this pair, and has taken no step yet
+pub record IsToStore {K V Q : Type 0} (pair : Node K V) (c : KeyCall K V Q) : Type 0 where
+  pub here : c.stands ≡ at.Makes
+  pub unmade : c.unmade ≡ Some pair
+  pub absent : c.missing ≡ missing.Puts
+  pub present : PutsOrLeaves c.there
+  pub none : c.own ≡ 0
+  pub word : c.hash < 2 ^ 64
+
+abbrev pub MachineStores : {K V Q : Type 0} → Node K V → Machine K V Q → Type 0
+MachineStores pair (Key c) = IsToStore pair c
+MachineStores pair _ = ⊥
+
+-- the pair that is to be stored, if one is
+abbrev pub pair_wanted : {K V : Type 0} → Wanted K V → Option (Node K V)
+pair_wanted (Insert key value) = Some (Pair key value)
+pair_wanted (TryToInsert key value) = Some (Pair key value)
+pair_wanted _ = None
+
+-- an answer with which the call's own pair is in the map
+abbrev pub is_put : Answer → Bool
+is_put (OfKey (answers.Stored word)) = true
+is_put (OfKey (answers.Replaced old new)) = true
+is_put _ = false
+
+-- with any other outcome the pair has come back
+abbrev pub IsBack : {T : Type 0} → T → Result Answer Fault → Option T → Type 0
+IsBack pair (Ok answer) back = is_put answer ≡ false → back ≡ Some pair
+IsBack pair (Err fault) back = back ≡ Some pair
+
+-- that is so of a pair that a call was to store
+abbrev pub ComesBack : {K V : Type 0} → Wanted K V → Result Answer Fault → Option (Node K V) → Type 0
+ComesBack {K} {V} wanted answer back = (pair : Node K V) → pair_wanted wanted ≡ Some pair → IsBack pair answer back
+
+-- what a call that has ended has told
+abbrev pub outcome_of : {T : Type 0} → Result Answer Fault → Progress T
+outcome_of (Ok answer) = progress.Done answer
+outcome_of (Err fault) = progress.Refused fault
+
+-- what is wanted by who begins this call
+abbrev pub wanted_by : {K V : Type 0} → There → Missing → Takes → Option (Node K V) → Option K → Option K → Wanted K V
+wanted_by there.Puts absent kind (Some (Pair key value)) asked own = Insert key value
+wanted_by there.Answers absent kind (Some (Pair key value)) asked own = TryToInsert key value
+wanted_by there.Answers absent kind None (Some key) own = Get key
+wanted_by there.Removes absent kind None (Some key) own = Remove key
+wanted_by there.Asks absent kind None (Some key) own = RemoveIf key
+wanted_by there.Answers absent kind None None (Some key) = TryToInsertWith key
+wanted_by there.Asks missing.Answers kind None None (Some key) = Update key
+wanted_by there.Asks missing.Asks takes.Changes None None (Some key) = Compute key
+wanted_by present absent kind unmade asked own = Count
+
+abbrev pub wanted_of : {K V : Type 0} → Machine K V K → Wanted K V
+wanted_of (Key c) = wanted_by c.there c.missing c.replies.takes c.unmade c.asked c.replies.key
+wanted_of _ = Count
+
+-- a step tells that the call goes on,
+abbrev pub IsGoing : {T : Type 0} → Progress T → Type 0
+IsGoing (progress.Done answer) = ⊥
+IsGoing (progress.Refused fault) = ⊥
+IsGoing told = Unit {0}
+
+-- and asks nothing,
+abbrev pub IsNoQuestion : {T : Type 0} → Progress T → Type 0
+IsNoQuestion (progress.Asks pair) = ⊥
+IsNoQuestion progress.Ready = ⊥
+IsNoQuestion (progress.Pair pair) = ⊥
+IsNoQuestion told = Unit {0}
+
+-- and what was handed back by then
+abbrev pub handed_by : {T : Type 0} → Progress T → Option T → Option T
+handed_by (progress.Unstored value) before = Some value
+handed_by told before = before
+
+module _ {K V S : Type 0} where
+  -- this call is under way on the map that it knows, which is in incremental mode, and has this hasher
+  pub record Works (hasher : S) (machine : Machine K V K) (v : View K V S) : Type 0 where
+    pub map : Map S
+    pub knows : v.map ≡ Some map
+    pub hashes : map.hasher ≡ hasher
+    pub incremental : is_incremental map.setting.mode ≡ true
+    pub works : v.work ≡ Calls machine
+
+  -- it is of this kind, has come so far, and goes on,
+  pub record IsUnderWay (k : Kind) (s : Stage) (hasher : S) (machine : Machine K V K) (v : View K V S) : Type 0 where
+    pub at : Works hasher machine v
+    pub goes : MachineGoesOn k s machine
+
+  -- or asks, and the pair that it asks with is shown
+  pub record IsAsking (k : Kind) (s : Stage) (hasher : S) (pair : Option ℕ) (machine : Machine K V K) (v : View K V S) : Type 0 where
+    pub at : Works hasher machine v
+    pub asks : MachineAsks k s (shown_in v.held) pair machine
+
+  -- it has nothing under way, and its call has told this last
+  pub record HasEnded (answer : Result Answer Fault) (v w : View K V S) : Type 0 where
+    pub free : w.work ≡ Nothing
+    pub told : HasTold (outcome_of answer) v w
+
+  -- what a step of it tells: it goes on, asks, or has ended
+  abbrev pub TellsSo : Kind → Stage → S → Machine K V K → Progress (Node K V) → View K V S → Type 0
+  TellsSo k s hasher machine (progress.Asks pair) v = IsAsking k s hasher pair machine v
+  TellsSo k s hasher machine progress.Ready v = ⊥
+  TellsSo k s hasher machine (progress.Pair pair) v = ⊥
+  TellsSo k s hasher machine (progress.Done answer) v = v.work ≡ Nothing
+  TellsSo k s hasher machine (progress.Refused fault) v = v.work ≡ Nothing
+  TellsSo k s hasher machine told v = IsUnderWay k s hasher machine v
+
+  -- a call is under way that asks nothing
+  pub record IsCalling (hasher : S) (machine : Machine K V K) (v : View K V S) : Type 0 where
+    pub kind : Kind
+    pub stage : Stage
+    pub none : AsksNothing kind
+    pub goes : IsUnderWay kind stage hasher machine v
+
+  -- what a step of that tells: it goes on, or has ended
+  abbrev pub CalledSo : S → Machine K V K → Progress (Node K V) → View K V S → Type 0
+  CalledSo hasher machine (progress.Asks pair) v = ⊥
+  CalledSo hasher machine progress.Ready v = ⊥
+  CalledSo hasher machine (progress.Pair pair) v = ⊥
+  CalledSo hasher machine (progress.Done answer) v = v.work ≡ Nothing
+  CalledSo hasher machine (progress.Refused fault) v = v.work ≡ Nothing
+  CalledSo hasher machine _ v = IsCalling hasher machine v
+
+  -- Within a section, its own or that of the seat that it leans on, with nothing else under way, it may begin this call, which is of this kind, in the map that it knows, which is in incremental mode.
+  pub record MayDo (same : K → K → Bool) (hash : S → K → ℕ) (k : Kind) (s : Stage) (hasher : S) (machine : Machine K V K) (v : View K V S) : Type 0 where
+    pub slot : ℕ
+    pub map : Map S
+    pub inside : section_of v.under v.slot ≡ Some slot
+    pub knows : v.map ≡ Some map
+    pub hashes : map.hasher ≡ hasher
+    pub incremental : is_incremental map.setting.mode ≡ true
+    pub free : v.work ≡ Nothing
+    pub begins : machine ≡ machine_for same hash map slot (wanted_of machine)
+    pub goes : MachineGoesOn k s machine
+
+  -- it asks nothing
+  pub record MayCall (same : K → K → Bool) (hash : S → K → ℕ) (hasher : S) (machine : Machine K V K) (v : View K V S) : Type 0 where
+    pub kind : Kind
+    pub stage : Stage
+    pub none : AsksNothing kind
+    pub may : MayDo same hash kind stage hasher machine v
+    pub stores : (pair : Node K V) → pair_wanted (wanted_of machine) ≡ Some pair → MachineStores pair machine
+
+  -- what a call has come to that wanted this
+  pub record HasCalled (same : K → K → Bool) (hash : S → K → ℕ) (wanted : Wanted K V) (answer : Result Answer Fault) (unstored : Option (Node K V)) (v w : View K V S) : Type 0 where
+    pub free : w.work ≡ Nothing
+    pub stays : StaysThere v w
+    pub ran : HasRun same hash wanted (outcome_of answer) v w
+    pub back : ComesBack wanted answer unstored

@@ -1,0 +1,122 @@
+-- Which calls on one key there are, and how far one has come that asks: what it was told, and what it has of its own.
+use Rattle.std.specs.Prelude.{◌≡◌, ◌⊎◌, ℕ, Bool, true, false, Option, Some, None}
+use Rattle.seize_words.specs.OneMemory.Word.{block_in}
+use Rattle.map_tables.specs.declared.node.Node.{Node}
+use Rattle.map_tables.specs.declared.node.Node.TheVariants.{Pair}
+use Rattle.papaya_raw.specs.declared.machines.answer.Called.{Called}
+use Rattle.papaya_raw.specs.declared.machines.answer.Called.TheVariants.{Asks}
+use Rattle.papaya_raw.specs.declared.machines.answer.There.{There}
+use Rattle.papaya_raw.specs.declared.machines.answer.There.TheVariants as there
+use Rattle.papaya_raw.specs.declared.machines.answer.Missing.{Missing}
+use Rattle.papaya_raw.specs.declared.machines.answer.Missing.TheVariants as missing
+use Rattle.papaya_raw.specs.declared.machines.asking.Asking.TheVariants as asking
+use Rattle.papaya_raw.specs.declared.machines.asking.Gap.{Gap}
+use Rattle.papaya_raw.specs.declared.machines.asking.Replies.{Replies}
+use Rattle.papaya_raw.specs.declared.machines.asking.Takes.{Takes}
+use Rattle.papaya_raw.specs.declared.machines.asking.Told.{Told}
+use Rattle.papaya_raw.specs.declared.machines.asking.Told.TheVariants as tells
+use Rattle.papaya_raw.specs.declared.machines.call.Calling.{Calling}
+use Rattle.papaya_raw.specs.declared.machines.call.Calling.TheVariants as at
+use Rattle.papaya_raw.specs.declared.machines.call.KeyCall.{KeyCall}
+
+-- what a call does where the key is there, and where it is missing, and which replies it takes
+pub record Kind : Type 0 where
+  pub present : There
+  pub absent : Missing
+  pub takes : Takes
+
+abbrev pub kind_of : {K V Q : Type 0} → KeyCall K V Q → Kind
+kind_of c = record { present = c.there; absent = c.missing; takes = c.replies.takes }
+
+-- whether it was told a value, and whether it was told what to do where the key is missing
+pub record Stage : Type 0 where
+  pub told : Bool
+  pub gap : Bool
+
+module _ {V : Type 0} where
+  -- it was told nothing,
+  abbrev pub IsUntold : Told V → Type 0
+  IsUntold tells.Nothing = Unit {0}
+  IsUntold _ = ⊥
+
+  -- or something,
+  abbrev pub IsTold : Told V → Type 0
+  IsTold tells.Nothing = ⊥
+  IsTold _ = Unit {0}
+
+  -- or what is no value that it has still to put into its own block
+  abbrev pub IsNoValue : Told V → Type 0
+  IsNoValue (tells.Value value) = ⊥
+  IsNoValue _ = Unit {0}
+
+  -- there is at most one such value
+  abbrev pub IsOneValue : Told V → Told V → Type 0
+  IsOneValue (tells.Value one) (tells.Value other) = ⊥
+  IsOneValue _ _ = Unit {0}
+
+  -- where the key is missing there is nothing to remove
+  abbrev pub IsOfGap : Told V → Type 0
+  IsOfGap tells.Removes = ⊥
+  IsOfGap _ = Unit {0}
+
+  abbrev pub IsGapTold : Bool → Told V → Type 0
+  IsGapTold true told = IsTold told
+  IsGapTold false told = Unit {0}
+
+-- it has its key, and no block of its own
+abbrev pub IsFresh : {K : Type 0} → Option K → ℕ → Type 0
+IsFresh {K} key own = (k : K) × (key ≡ Some k) × (own ≡ 0)
+
+module _ {K V : Type 0} where
+  -- What it was told: no value yet, or one; and as long as that is not in its own block, it has none.
+  abbrev pub HoldsBy : Bool → Replies K V → ℕ → Type 0
+  HoldsBy false r own = IsFresh r.key own × IsUntold r.absent × IsNoValue r.present
+  HoldsBy true r own = IsOfGap r.absent × ((IsFresh r.key own × IsOneValue r.absent r.present) ⊎ (IsNoValue r.absent × IsNoValue r.present))
+
+  -- It stands where it does not ask: its own block is made, or given up, where no value is left; and a value is put into one where it has none.
+  abbrev pub StandsSo : Bool → Replies K V → ℕ → Calling → Type 0
+  StandsSo told r own at.Makes = (told ≡ true) × IsNoValue r.absent × IsNoValue r.present
+  StandsSo told r own (at.Asks (asking.Absent gap)) = ⊥
+  StandsSo told r own (at.Asks (asking.Present word)) = ⊥
+  StandsSo told r own (at.Asks (asking.Fills word)) = IsFresh r.key own
+  StandsSo told r own (at.Asks (asking.GivesUp word)) = (told ≡ true) × IsNoValue r.absent × IsNoValue r.present
+  StandsSo told r own _ = Unit {0}
+
+  -- the pair of a word is shown
+  abbrev pub ShowsPair : (ℕ → Option (Node K V)) → ℕ → Type 0
+  ShowsPair shown word = (key : K) × (value : V) × (shown (block_in word) ≡ Some (Pair key value))
+
+module _ {K V Q : Type 0} where
+  -- it asks what to do where the key is missing,
+  pub record AsksAbsent (k : Kind) (c : KeyCall K V Q) : Type 0 where
+    pub gap : Gap
+    pub asks : k.absent ≡ missing.Asks
+    pub here : c.stands ≡ at.Asks (asking.Absent gap)
+    pub untold : IsUntold c.replies.absent
+
+  -- or with the pair of a word, which is shown
+  pub record AsksPresent (k : Kind) (shown : ℕ → Option (Node K V)) (word : ℕ) (c : KeyCall K V Q) : Type 0 where
+    pub asks : k.present ≡ there.Asks
+    pub here : c.stands ≡ at.Asks (asking.Present word)
+    pub shows : ShowsPair shown word
+
+  -- wherever it stands, it is a call of this kind, and has come so far
+  pub record IsSo (k : Kind) (s : Stage) (c : KeyCall K V Q) : Type 0 where
+    pub kind : kind_of c ≡ k
+    pub holds : HoldsBy s.told c.replies c.own
+    pub gap : IsGapTold s.gap c.replies.absent
+
+  -- and its next step goes on
+  pub record GoesOn (k : Kind) (s : Stage) (c : KeyCall K V Q) : Type 0 where
+    pub so : IsSo k s c
+    pub here : StandsSo s.told c.replies c.own c.stands
+
+  -- or it asks
+  abbrev pub AsksSo : Kind → Stage → (ℕ → Option (Node K V)) → Option ℕ → KeyCall K V Q → Type 0
+  AsksSo k s shown None c = IsSo k s c × AsksAbsent k c
+  AsksSo k s shown (Some word) c = IsSo k s c × AsksPresent k shown word c
+
+  -- what a step of it tells
+  abbrev pub SaysSo : Kind → Stage → (ℕ → Option (Node K V)) → KeyCall K V Q × Called (Node K V) → Type 0
+  SaysSo k s shown (c, Asks pair) = AsksSo k s shown pair c
+  SaysSo k s shown (c, told) = GoesOn k s c

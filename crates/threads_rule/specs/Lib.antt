@@ -1,0 +1,4 @@
+pub mod Kinds
+pub mod Views
+pub mod Errands
+pub mod Given

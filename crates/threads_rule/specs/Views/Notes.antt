@@ -1,0 +1,38 @@
+-- What a seat knows of its slot and of its row, as it is noted for whoever has rows run.
+use Rattle.std.specs.Prelude.{ℕ, List, Option, Some, None}
+use Rattle.map_tables.specs.declared.node.Node.{Node}
+use Rattle.seize_views.specs.Views.Notes.{noted}
+use Rattle.seize_views.specs.Views.Rows.{IsAtRest}
+use Rattle.seize_views.specs.declared.view.Deed.TheVariants.{NoneYet}
+use Rattle.seize_views.specs.declared.view.Noted.{Noted}
+use Rattle.seize_views.specs.declared.view.View.{View as SlotView}
+use Rattle.seize_views.specs.declared.view.View.TheVariants.{Inside, Busy}
+use Rattle.threads_rule.specs.declared.view.Map.{Map}
+use Rattle.threads_rule.specs.declared.view.Run.{Run}
+use Rattle.threads_rule.specs.declared.view.View.{View}
+use Rattle.threads_rule.specs.declared.view.Work.{Work}
+use Rattle.threads_rule.specs.declared.view.Work.TheVariants.{Nothing, Calls, Makes}
+
+-- a seat that has something else under way, within the section of its slot or without one, is busy, and so is one that leans on another
+abbrev pub busy : {T : Type 0} → SlotView T → SlotView T
+busy (Inside t has) = Busy (Some t)
+busy slot = Busy None
+
+module _ {K V S : Type 0} where
+  abbrev pub row_known : Option (ℕ × ℕ) → SlotView (Node K V) → Work K V S → SlotView (Node K V)
+  row_known (Some leant) slot work = Busy None
+  row_known None slot Nothing = slot
+  row_known None slot (Calls machine) = busy slot
+  row_known None slot (Makes m hasher opening) = Busy None
+
+  -- nothing is done at a root, and nobody watches a section
+  abbrev pub notes_of : View K V S → Noted (Node K V)
+  notes_of v = noted (row_known v.under v.slot v.work) NoneYet v.began 0
+
+  -- and beside that: the map that it knows, and the calls that it has begun
+  abbrev pub beside_of : View K V S → Option (Map S) × List (Run K V)
+  beside_of v = (v.map, v.calls)
+
+  -- it has nothing under way
+  abbrev pub IsResting : View K V S → Type 0
+  IsResting v = IsAtRest (notes_of v).knows

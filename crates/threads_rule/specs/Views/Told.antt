@@ -1,0 +1,102 @@
+-- What the answer of an operation tells its seat: how far what it has under way has come, and at which blocks the step looks.
+use Rattle.std.specs.Prelude.{◌≡◌, ℕ, Bool, List, [], ◌∷◌, Option, Some, None, if◌then◌else◌}
+use Rattle.seize_words.specs.OneMemory.Mem.{Mem, Took, value_at}
+use Rattle.seize_words.specs.OneMemory.Op.{Op, Out}
+use Rattle.seize_words.specs.OneMemory.Plan.{Plan, Steps}
+use Rattle.seize.specs.declared.progress.Progress.{Progress as Told}
+use Rattle.seize.specs.declared.progress.Progress.TheVariants as told_as
+use Rattle.map_tables.specs.Chunks.{is_incremental}
+use Rattle.map_tables.specs.Nodes.{deferred_word}
+use Rattle.map_tables.specs.declared.node.Node.{Node}
+use Rattle.map_tables.specs.declared.setting.Setting.{Setting}
+use Rattle.map_machines.specs.NewMap.{new_map_plan}
+use Rattle.map_machines.specs.declared.new_map.NewMap.{NewMap}
+use Rattle.papaya_raw.specs.Machine.{machine_plan}
+use Rattle.papaya_raw.specs.declared.machines.machine.Machine.{Machine}
+use Rattle.papaya_raw.specs.declared.machines.machine.Machine.TheVariants as kinds
+use Rattle.papaya_raw.specs.declared.machines.progress.Progress.{Progress}
+use Rattle.papaya_raw.specs.declared.machines.progress.Progress.TheVariants as progress
+use Rattle.seize_views.specs.Views.Told.{FollowsBy, told as row_told}
+use Rattle.seize_views.specs.declared.view.View.{View as SlotView}
+use Rattle.threads_rule.specs.Views.Looks.{shown_in, TurnsTo, MayFollow}
+use Rattle.threads_rule.specs.declared.view.Map.{Map}
+use Rattle.threads_rule.specs.declared.view.Run.{Run}
+use Rattle.threads_rule.specs.declared.view.View.{View}
+use Rattle.threads_rule.specs.declared.view.Work.{Work}
+use Rattle.threads_rule.specs.declared.view.Work.TheVariants.{Nothing, Calls, Makes}
+
+-- the step comes to this outcome in some memory
+abbrev pub MayCome : {T R : Type 0} → Plan T R → R → Type 0
+MayCome {T} plan end = (m n : Mem T) × Steps Took value_at m plan n end
+
+-- a call that has taken no step has told nothing
+abbrev pub untold : {T : Type 0} → Progress T
+untold = progress.Goes
+
+module _ {K V : Type 0} where
+  -- the pair that a call began with, if it began with one
+  abbrev pub begun_with : Machine K V K → Option (Node K V)
+  begun_with (kinds.Key call) = call.unmade
+  begun_with _ = None
+
+  -- that of the newest call of a seat
+  abbrev pub pair_in : List (Run K V) → Option (Node K V)
+  pair_in [] = None
+  pair_in (run ∷ before) = begun_with run.began
+
+  -- what a call hands back that it has not stored is the pair that it began with, if it began with one
+  abbrev pub HandsBack : List (Run K V) → Progress (Node K V) → Type 0
+  HandsBack runs (progress.Unstored value) = (pair : Node K V) → pair_in runs ≡ Some pair → value ≡ pair
+  HandsBack runs told = Unit {0}
+
+  -- the calls of a seat, where the newest one has told this last
+  abbrev pub newest_told : Progress (Node K V) → List (Run K V) → List (Run K V)
+  newest_told told [] = []
+  newest_told told (run ∷ before) = record run { told = told } ∷ before
+
+module _ {K V S : Type 0} where
+  -- a call that has come so far: it goes on, or has ended
+  abbrev pub call_after : Machine K V K → Progress (Node K V) → Work K V S
+  call_after machine (progress.Done answer) = Nothing
+  call_after machine (progress.Refused fault) = Nothing
+  call_after machine told = Calls machine
+
+  -- what is known to be held for it of these blocks: all, on a map in incremental mode
+  abbrev pub held_of : Map S → List (ℕ × Node K V) → List (ℕ × Node K V)
+  held_of map looks = if is_incremental map.setting.mode then looks else []
+
+  -- what a seat knows once its call, which was this one, has come so far, and has looked at these blocks
+  abbrev pub called : View K V S → Map S → Machine K V K → Machine K V K × Progress (Node K V) → List (ℕ × Node K V) → View K V S
+  called v map machine end looks = record { slot = v.slot; under = v.under; map = v.map; work = call_after end.0 end.1; looks = looks; held = held_of map looks; began = v.began; calls = newest_told end.1 v.calls }
+
+  -- and once the making of a map has
+  abbrev pub made_after : View K V S → ℕ → S → List (ℕ × Node K V) → NewMap → Told Setting → View K V S
+  made_after v m hasher looks opening (told_as.Done setting) =
+      record { slot = v.slot; under = v.under; map = Some record { number = m; setting = setting; hasher = hasher }; work = Nothing; looks = looks; held = []; began = v.began; calls = v.calls }
+  made_after v m hasher looks opening (told_as.Refused fault) = record { slot = v.slot; under = v.under; map = v.map; work = Nothing; looks = looks; held = []; began = v.began; calls = v.calls }
+  made_after v m hasher looks opening told = record { slot = v.slot; under = v.under; map = v.map; work = Makes m hasher opening; looks = looks; held = []; began = v.began; calls = v.calls }
+
+module _ {K V S : Type 0} (same : K → K → Bool) (hash : S → K → ℕ) where
+  abbrev pub told_by : View K V S → Option (Map S) → Work K V S → Op (Node K V) → Out (Node K V) → View K V S → Type 0
+  told_by v map Nothing op out w =
+      (slot : SlotView (Node K V)) × row_told deferred_word v.slot op out slot × (w ≡ record { slot = slot; under = v.under; map = v.map; work = Nothing; looks = []; held = []; began = v.began; calls = v.calls })
+  told_by v (Some map) (Calls machine) op out w =
+      (end : Machine K V K × Progress (Node K V)) × FollowsBy (shown_in w.looks) (machine_plan same same (hash map.hasher) machine) out end
+      × (w ≡ called v map machine end w.looks) × MayFollow (shown_in w.looks) (machine_plan same same (hash map.hasher) machine) out
+      × MayCome (machine_plan same same (hash map.hasher) machine) end × HandsBack v.calls end.1
+  told_by v None (Calls machine) op out w = ⊥
+  told_by v map (Makes m hasher opening) op out w =
+      (end : NewMap × Told Setting) × FollowsBy (shown_in w.looks) (new_map_plan opening) out end × (w ≡ made_after v m hasher w.looks end.0 end.1)
+
+  abbrev pub told : View K V S → Op (Node K V) → Out (Node K V) → View K V S → Type 0
+  told v op out w = told_by v v.map v.work op out w
+
+  -- what a seat knows once its call has taken a step without an operation
+  abbrev pub turned_by : View K V S → Option (Map S) → Work K V S → View K V S → Type 0
+  turned_by v (Some map) (Calls machine) w =
+      (end : Machine K V K × Progress (Node K V)) × TurnsTo (shown_in w.looks) (machine_plan same same (hash map.hasher) machine) end × (w ≡ called v map machine end w.looks)
+      × MayCome (machine_plan same same (hash map.hasher) machine) end × HandsBack v.calls end.1
+  turned_by v map work w = ⊥
+
+  abbrev pub turned : View K V S → View K V S → Type 0
+  turned v w = turned_by v v.map v.work w

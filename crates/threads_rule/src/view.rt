@@ -1,0 +1,53 @@
+//! What those know that share the memory of maps.
+use map_machines::NewMap;
+use map_tables::{Node, Setting};
+use papaya_raw::machines::{Machine, Progress};
+use std::collections::LinkedList;
+
+/// What a seat knows.
+pub struct View<K, V, S> {
+    /// Which slot it holds, and which row it has under way there, while it has nothing else under way.
+    pub slot: seize_views::View<Node<K, V>>,
+    /// The seat that it leans on and the slot of that one, if it leans on one: it holds no slot then, and has calls under way within the section of that one.
+    pub under: Option<(u64, u64)>,
+    /// The map that it knows, if it knows one.
+    pub map: Option<Map<S>>,
+    /// What it has under way.
+    pub work: Work<K, V, S>,
+    /// The blocks that its last step looks at after its operation, with their values.
+    pub looks: LinkedList<(u64, Node<K, V>)>,
+    /// Of these, those that are known to be held for it: its section holds them, or its call has them as its own.
+    pub held: LinkedList<(u64, Node<K, V>)>,
+    /// What it has begun last on its slot.
+    pub began: seize_views::Began,
+    /// The calls that it has begun, the newest first.
+    pub calls: LinkedList<Run<K, V>>,
+}
+
+/// A call that a seat has begun.
+pub struct Run<K, V> {
+    /// As it began.
+    pub began: Machine<K, V>,
+    /// What its last step has told: what it has answered, once it has ended.
+    pub told: Progress<Node<K, V>>,
+}
+
+/// A map that stands.
+pub struct Map<S> {
+    /// Its number.
+    pub number: u64,
+    /// What each call of it works with, but for the slot.
+    pub setting: Setting,
+    /// The hasher of its keys.
+    pub hasher: S,
+}
+
+/// What a seat has under way, beside a row.
+pub enum Work<K, V, S> {
+    /// Nothing.
+    Nothing,
+    /// A call on the map that it knows, within the section of its slot.
+    Calls(Machine<K, V>),
+    /// It makes the map of this number, with this hasher, and holds no slot.
+    Makes(u64, S, NewMap),
+}

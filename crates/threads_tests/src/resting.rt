@@ -1,0 +1,32 @@
+//! A session as threads take it.
+ghost use Rattle.std.specs.Prelude.{◌≡◌};
+ghost use Rattle.threads_calls.specs.Given.SeizeViewsDeclared.view.View.TheVariants.{Rests};
+
+use std::hash::{BuildHasherDefault, DefaultHasher};
+use threads_calls::Session;
+
+/// The hasher of all tests.
+pub(crate) type Hashing = BuildHasherDefault<DefaultHasher>;
+
+/// A session that holds no slot.
+pub(crate) struct Resting<'a> {
+    pub(crate) session: Session<'a, u64, u64, Hashing>,
+    ghost rests: { session.caller.seat.view.slot ≡ Rests },
+}
+
+impl<'a> Resting<'a> {
+    /// The session.
+    pub(crate) fn session(self) -> Session<'a, u64, u64, Hashing>
+        ensures { result.caller.seat.view.slot ≡ Rests }
+    {
+        let Resting { session } = self;
+        session
+    }
+}
+
+impl<'a> Drop for Resting<'a> {
+    fn drop(self) {
+        let Resting { session } = self;
+        drop(session);
+    }
+}
