@@ -12,7 +12,7 @@ mod Sums
 pub mod Counts
 mod RowSteps
 pub mod Courses
-mod Agree
+pub mod Agree
 mod Samples
 pub mod Reclaiming
 pub mod AsSteps

@@ -1,9 +1,9 @@
 -- What each step of a call under way looks at: blocks that are there, and held for it.
 mod Restricted
-mod There
+pub mod There
 mod Held
-mod Looks
+pub mod Looks
 pub mod Lookups
-mod Makings
+pub mod Makings
 pub mod Sees
 mod Samples

@@ -4,7 +4,7 @@ pub mod Firsts
 pub mod Known
 pub mod Lasts
 mod Looks
-mod Samples
+pub mod Samples
 pub mod Values
 pub mod Rooms
 pub mod KindsKept

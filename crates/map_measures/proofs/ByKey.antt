@@ -1,3 +1,3 @@
 -- A call by another form of a key is the call by the key that it stands for.
 mod Points
-mod Plans
+pub mod Plans

@@ -5,4 +5,4 @@ pub mod Lists
 pub mod Runs
 mod Samples
 mod Stood
-mod Sweeps
+pub mod Sweeps

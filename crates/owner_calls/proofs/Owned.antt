@@ -1,5 +1,5 @@
 -- Lemmas on what one owner runs to its end.
-mod Inner
+pub mod Inner
 pub mod Lookups
 pub mod Owned
 pub mod Passing

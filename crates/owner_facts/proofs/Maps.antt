@@ -3,6 +3,6 @@ pub mod Begins
 pub mod Reserves
 pub mod Rests
 pub mod Ends
-mod NextTables
+pub mod NextTables
 mod Samples
 pub mod Laws

@@ -8,10 +8,10 @@ mod Rows
 mod KeyRows
 mod RoomRows
 mod SweepRows
-mod Machines
+pub mod Machines
 mod Stays
 mod Unwritten
 pub mod ItsPair
-mod Waits
-mod Looks
+pub mod Waits
+pub mod Looks
 mod Samples

@@ -1,18 +1,18 @@
 -- Schedules whose calls stay under way: any event happens, and a whole schedule runs.
-mod Beginning
-mod Ended
+pub mod Beginning
+pub mod Ended
 mod Forms
-mod Happened
-mod Gives
+pub mod Happened
+pub mod Gives
 pub mod Mays
 mod Left
-mod Logs
+pub mod Logs
 mod AsRun
-mod CallerFound
-mod Turns
-mod Counts
-mod Held
-mod OfKinds
+pub mod CallerFound
+pub mod Turns
+pub mod Counts
+pub mod Held
+pub mod OfKinds
 pub mod Joined
-mod Classes
-mod GoingOn
+pub mod Classes
+pub mod GoingOn

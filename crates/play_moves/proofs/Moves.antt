@@ -21,6 +21,6 @@ pub mod Order
 pub mod StepsStay
 pub mod MoveOn
 mod Samples
-mod Moved
+pub mod Moved
 pub mod Legal
-mod Logs
+pub mod Logs

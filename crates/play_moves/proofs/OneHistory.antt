@@ -1,7 +1,7 @@
 -- What threads are answered is of one legal history.
 mod Numbers
 mod Own
-mod Legal
+pub mod Legal
 mod Wanted
 mod Lookups
 mod Words
@@ -9,6 +9,6 @@ mod Order
 mod Tells
 mod Acts
 mod Along
-mod Answered
+pub mod Answered
 pub mod Calls
 mod Samples

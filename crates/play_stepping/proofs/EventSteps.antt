@@ -3,24 +3,24 @@ pub mod Again
 mod AnySays
 mod AnyWaits
 mod BeingCopied
-mod ByName
-mod ComesOn
+pub mod ByName
+pub mod ComesOn
 mod CopiesWait
 mod KeySays
 mod NextBegins
-mod NextEnds
-mod NextOn
-mod NextTook
+pub mod NextEnds
+pub mod NextOn
+pub mod NextTook
 pub mod OneStep
-mod PlaysAgain
+pub mod PlaysAgain
 mod PlaysSteps
 pub mod PlaysWhole
 pub mod RightSteps
 mod RoomsWait
-mod StepSays
+pub mod StepSays
 mod SteppedTo
-mod StepsOn
+pub mod StepsOn
 pub mod SweepSteps
-mod TakenBy
+pub mod TakenBy
 mod Waiting
 mod WaitsFor

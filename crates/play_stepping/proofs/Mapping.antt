@@ -7,4 +7,4 @@ pub mod RootsUsed
 pub mod MapNumbers
 pub mod MapsMade
 pub mod AllGiven
-mod AllWorks
+pub mod AllWorks

@@ -1,3 +1,3 @@
 -- Drivers apply events to one run, under a lock; whatever runs them.
-mod Events
-mod Lists
+pub mod Events
+pub mod Lists

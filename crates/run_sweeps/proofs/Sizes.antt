@@ -9,8 +9,8 @@ mod Beginning
 mod Ending
 mod Words
 mod Events
-mod Sizes
-mod Lens
-mod WholeLens
-mod Once
+pub mod Sizes
+pub mod Lens
+pub mod WholeLens
+pub mod Once
 mod Samples

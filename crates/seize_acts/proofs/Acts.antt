@@ -6,7 +6,7 @@ pub mod Ends
 pub mod Fine
 pub mod Lost
 pub mod Reclaimed
-mod Refused
+pub mod Refused
 pub mod Samples
 pub mod Slots
 pub mod Stays

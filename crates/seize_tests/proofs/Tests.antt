@@ -1,2 +1,2 @@
 -- Tests of the collector: of its words and slots, of registrations that are refused memory, and of its whole calls.
-mod Slots
+pub mod Slots

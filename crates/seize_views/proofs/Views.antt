@@ -29,5 +29,5 @@ mod Watched
 pub mod Notes
 pub mod Guarding
 pub mod Passing
-mod Contents
-mod Values
+pub mod Contents
+pub mod Values

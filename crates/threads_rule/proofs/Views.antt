@@ -14,20 +14,20 @@ mod Looked
 pub mod Pairs
 mod Settled
 mod RowLooks
-mod Starts
+pub mod Starts
 pub mod Leaves
 mod Lasts
 pub mod Listed
 mod Moved
 mod Next
 mod UnderWay
-mod Calls
-mod Held
-mod Begins
-mod Handing
-mod Leanings
-mod Keeping
-mod Makings
+pub mod Calls
+pub mod Held
+pub mod Begins
+pub mod Handing
+pub mod Leanings
+pub mod Keeping
+pub mod Makings
 pub mod RowFits
 pub mod RowSteps
 pub mod RowBegins
