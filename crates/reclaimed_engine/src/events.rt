@@ -2,7 +2,7 @@
 ghost use Rattle.std.specs.Prelude.{◌≡◌, ◌++◌, codes, OnOk};
 ghost use Rattle.std.specs.Fmt.{decimal};
 ghost use Rattle.std.specs.List.{flat_map, zip};
-ghost use Rattle.reclaimed_engine.specs.Text.Text.{answer_line, asks_line, back_line, back_lines, event_lines, line, numbered, outcome_line, refused_line, shape_line, table_shape};
+ghost use Rattle.reclaimed_engine.specs.PrintedText.Text.{answer_line, asks_line, back_line, back_lines, event_lines, line, numbered, outcome_line, refused_line, shape_line, table_shape};
 
 use crate::pieces::append_numbered;
 use run_schedules::call::Answer;

@@ -1,6 +1,6 @@
 //! What is printed: the lines of a finished run, or the one line for a schedule that cannot be read.
 ghost use Rattle.std.specs.Prelude.{◌≡◌, IfOk};
-ghost use Rattle.reclaimed_engine.specs.Text.Text as spelled;
+ghost use Rattle.reclaimed_engine.specs.PrintedText.Text as spelled;
 
 use crate::events::append_events;
 use crate::finals::append_final_lines;
