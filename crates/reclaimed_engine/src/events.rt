@@ -15,7 +15,7 @@ use seize_words::Fault;
 use std::alloc::{AllocError, Global};
 
 /// Appends the line of an event that was refused.
-#[tactic(auto, using(crate::proofs::Text::Spelling::refused_line_parts))]
+#[tactic(auto, using(crate::proofs::PrintedText::Spelling::refused_line_parts))]
 fn append_refused_line(alloc: Global, out: &mut Vec<u8>, fault: Fault) -> Result<(), AllocError>
     ensures { OnOk result (out.new.items ≡ out.old.items ++ refused_line fault) }
 {
