@@ -39,7 +39,7 @@ use Rattle.play_stepping.specs.Given.RawDeclared.machines.machine.Machine.{Machi
 use Rattle.play_stepping.specs.Given.RawDeclared.machines.machine.Machine.TheVariants as kinds
 use Rattle.play_stepping.specs.Given.RawDeclared.machines.progress.Progress.{Progress}
 use Rattle.play_stepping.specs.Given.RawDeclared.machines.progress.Progress.TheVariants as progress
-use Rattle.play_lists.specs.Given.TellerDeclared.changed.Changed.TheVariants.{Nothing}
+use Rattle.play_lists.specs.Given.EffectsDeclared.changed.Changed.TheVariants.{Nothing}
 use Rattle.run_schedules.specs.declared.call.Call.{Call}
 use Rattle.run_schedules.specs.declared.call.Call.TheVariants as calls
 use Rattle.run_schedules.specs.declared.call.OneKey.{OneKey}
