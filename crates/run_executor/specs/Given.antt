@@ -20,7 +20,7 @@ pub use Rattle.run_effects.specs.Given.RuleMoments
 pub use Rattle.run_effects.specs.Given.RuleRule
 pub use Rattle.run_effects.specs.Given.RuleWords
 pub use Rattle.run_effects.specs.Given.SeizeWaitingHeld
-pub use Rattle.run_effects.specs.Teller.Tells as TellerTells
+pub use Rattle.run_effects.specs.ReportingMemory.Tells as TellerTells
 pub use Rattle.run_effects.specs.Tells.Seen as TellsSeen
 pub use Rattle.run_effects.specs.Tells.Tells as TellsTells
 pub use Rattle.run_effects.specs.declared as EffectsDeclared

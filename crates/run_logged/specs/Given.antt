@@ -12,7 +12,7 @@ pub use Rattle.run_effects.specs.Given.ResizeNewMap
 pub use Rattle.run_effects.specs.Given.ResizeNewTable
 pub use Rattle.run_effects.specs.Given.ResizeSum
 pub use Rattle.run_effects.specs.Given.RuleMaps
-pub use Rattle.run_effects.specs.Teller.Tells as TellerTells
+pub use Rattle.run_effects.specs.ReportingMemory.Tells as TellerTells
 pub use Rattle.run_effects.specs.Tells.Seen as TellsSeen
 pub use Rattle.run_effects.specs.declared as EffectsDeclared
 pub use Rattle.run_kept.specs.Given.HistoriesAnswers

@@ -116,8 +116,8 @@ pub use Rattle.run_effects.specs.Given.TablesNodes
 pub use Rattle.run_effects.specs.Given.TablesPowers
 pub use Rattle.run_effects.specs.Given.TablesTablePlaces
 pub use Rattle.run_effects.specs.Given.TablesTrials
-pub use Rattle.run_effects.specs.Teller.Changed as TellerChanged
-pub use Rattle.run_effects.specs.Teller.Tells as TellerTells
+pub use Rattle.run_effects.specs.ReportingMemory.Changed as TellerChanged
+pub use Rattle.run_effects.specs.ReportingMemory.Tells as TellerTells
 pub use Rattle.run_effects.specs.Tells.Seen as TellsSeen
 pub use Rattle.run_effects.specs.Tells.Tells as TellsTells
 pub use Rattle.run_effects.specs.declared as EffectsDeclared

@@ -10,11 +10,11 @@ use Rattle.play_stepping.specs.Given.ResizeSum.{sum_plan}
 use Rattle.play_stepping.specs.Given.ReservesReserve.{reserve_plan}
 use Rattle.play_stepping.specs.Given.SweepsSweep.{plan_at as sweep_at}
 use Rattle.play_stepping.specs.Given.SweepsSweepPoints.{further, next_at, past, removes, reply_at}
-use Rattle.play_stepping.specs.Given.SweepsDeclared.sweep.Sweep.{Sweep}
-use Rattle.play_stepping.specs.Given.SweepsDeclared.sweep.Sweeping.{Sweeping}
-use Rattle.play_stepping.specs.Given.SweepsDeclared.sweep.Sweeping.TheVariants as sweeping
-use Rattle.play_stepping.specs.Given.SweepsDeclared.sweep.Swept.{Swept}
-use Rattle.play_stepping.specs.Given.SweepsDeclared.sweep.Swept.TheVariants as swept_as
+use Rattle.play_stepping.specs.Given.ReservesDeclared.sweep.Sweep.{Sweep}
+use Rattle.play_stepping.specs.Given.ReservesDeclared.sweep.Sweeping.{Sweeping}
+use Rattle.play_stepping.specs.Given.ReservesDeclared.sweep.Sweeping.TheVariants as sweeping
+use Rattle.play_stepping.specs.Given.ReservesDeclared.sweep.Swept.{Swept}
+use Rattle.play_stepping.specs.Given.ReservesDeclared.sweep.Swept.TheVariants as swept_as
 use Rattle.play_stepping.specs.Given.RawCall.{plan_at}
 use Rattle.play_stepping.specs.Given.RawCallAsks.{absent_told, present_told, told_at, with_absent, with_present}
 use Rattle.play_stepping.specs.Given.RawCallPoints.{at_gap, burying, ending, going, over}

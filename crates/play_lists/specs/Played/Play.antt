@@ -29,7 +29,7 @@ use Rattle.run_logged.specs.Given.ResizeNewMap.{new_map_plan, opening}
 use Rattle.run_logged.specs.Given.ResizeDeclared.new_map.NewMap.{NewMap}
 use Rattle.run_logged.specs.Given.ResizeDeclared.new_map.Opening.{Opening}
 use Rattle.run_logged.specs.Given.ResizeDeclared.new_map.Opening.TheVariants as openings
-use Rattle.run_logged.specs.Given.SweepsDeclared.sweep.Purpose.TheVariants as purpose
+use Rattle.run_logged.specs.Given.ReservesDeclared.sweep.Purpose.TheVariants as purpose
 use Rattle.run_logged.specs.Given.RawEndMap.{ending, end_map_plan}
 use Rattle.run_logged.specs.Given.RawMachine.{machine_plan, machine_replied, machine_asked}
 use Rattle.run_logged.specs.Given.RawDeclared.machines.asking.Reply.{Reply as Told}

@@ -45,7 +45,7 @@ use Rattle.run_shows.specs.Given.PointsSteps.{AreLawful}
 use Rattle.run_shows.specs.Given.PointsTold.{IsRowOfCall, IsRowOfCopier}
 use Rattle.run_shows.specs.Given.LateToldReserves.{IsRowOfReserve}
 use Rattle.run_shows.specs.Given.LateToldSweeps.{IsRowOfSweep}
-use Rattle.run_effects.specs.Teller.Tells.{StepsTold}
+use Rattle.run_effects.specs.ReportingMemory.Tells.{StepsTold}
 use Rattle.run_effects.specs.declared.changed.Changed.TheVariants as changed
 use Rattle.run_shows.specs.Given.CallersOverAll.{CallOverAll}
 use Rattle.run_shows.specs.Given.CallersRooms.{CallForRoom}

@@ -6,7 +6,7 @@ use Rattle.std.specs.List.{AllByRecursion}
 use Rattle.run_schedules.specs.Given.SeizeWordsDeclared.fault.Fault.TheVariants.{Busy}
 use Rattle.play_lists.specs.Given.TablesDeclared.node.Node.{Node}
 use Rattle.play_stepping.specs.Given.SweepsSweepPoints.{after_next}
-use Rattle.play_stepping.specs.Given.SweepsDeclared.sweep.Purpose.TheVariants.{Walks}
+use Rattle.play_stepping.specs.Given.ReservesDeclared.sweep.Purpose.TheVariants.{Walks}
 use Rattle.play_stepping.specs.Given.RawDeclared.machines.progress.Answer.{Answer}
 use Rattle.play_stepping.specs.Given.RawDeclared.machines.progress.Progress.{Progress}
 use Rattle.play_stepping.specs.Given.RawDeclared.machines.progress.Progress.TheVariants as progress
