@@ -17,7 +17,7 @@ use Rattle.play_moves.specs.Given.ViewsDeclared.view.View.{View}
 use Rattle.play_moves.specs.Given.ViewsLooks.{shown_in}
 use Rattle.seize_words.specs.OneMemory.Word.{block_in}
 use Rattle.play_moves.specs.Given.ViewsRule.{section_of}
-use Rattle.threads_calls.specs.declared.caller.Caller.{Caller}
+use Rattle.threads_calls.specs.Given.CallersDeclared.caller.Caller.{Caller}
 use Rattle.map_tables.specs.declared.node.Node.TheVariants.{Pair}
 use Rattle.seize_words.specs.declared.fault.Fault.{Fault}
 

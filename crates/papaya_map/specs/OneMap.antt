@@ -2,7 +2,7 @@
 use Rattle.std.specs.Prelude.{ℕ, Bool, Option, Some, None}
 use Rattle.play_moves.specs.OneHistory.Calls.{FoundNone, FoundValue, HasInserted, HasLooked, HasRefused, HasRemoved, HasTried}
 use Rattle.play_moves.specs.Given.ActsActs.{Wanted}
-use Rattle.threads_calls.specs.declared.caller.Caller.{Caller}
+use Rattle.threads_calls.specs.Given.CallersDeclared.caller.Caller.{Caller}
 use Rattle.seize_words.specs.declared.fault.Fault.{Fault}
 
 module _ {K V S : Type 0} (same : K → K → Bool) (hash : S → K → ℕ) where

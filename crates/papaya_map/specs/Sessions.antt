@@ -5,7 +5,7 @@ use Rattle.play_moves.specs.Given.ActsActs.{Wanted, ContainsKey, Get}
 use Rattle.play_moves.specs.Given.ErrandsCalling.{outcome_of}
 use Rattle.play_moves.specs.Given.ErrandsLooking.{HasRun, found_of}
 use Rattle.threads_calls.specs.Shown.{IsLent, IsShown}
-use Rattle.threads_calls.specs.declared.caller.Caller.{Caller}
+use Rattle.threads_calls.specs.Given.CallersDeclared.caller.Caller.{Caller}
 use Rattle.seize_words.specs.declared.fault.Fault.{Fault}
 
 module _ {K V S : Type 0} where

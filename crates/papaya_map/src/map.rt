@@ -5,7 +5,7 @@ ghost use Rattle.threads_calls.specs.Given.SeizeViewsDeclared.view.View.TheVaria
 ghost use Rattle.map_tables.specs.Chunks.{is_incremental};
 ghost use Rattle.map_tables.specs.declared.resize_mode.ResizeMode.TheVariants.{Incremental};
 ghost use Rattle.play_moves.specs.Given.ViewsDeclared.view.Work.TheVariants.{Nothing as NoWork};
-ghost use Rattle.threads_calls.specs.Standing.{known_by};
+ghost use Rattle.threads_calls.specs.Given.CallersStanding.{known_by};
 ghost use Rattle.seize.specs.Ids.{given, following};
 ghost use Rattle.seize_words.specs.declared.fault.Fault.TheVariants.{Memory};
 

@@ -25,7 +25,7 @@ use Rattle.threads_rule.specs.CallKinds.Kinds.{Kind, Stage}
 use Rattle.threads_calls.specs.Answers.{CameBack, IsOutOf, has_stored}
 use Rattle.threads_calls.specs.declared.session.keys.Attempt.{Attempt}
 use Rattle.threads_calls.specs.declared.session.keys.Attempt.TheVariants.{Stored, Present}
-use Rattle.threads_calls.specs.Standing.{known_by}
+use Rattle.threads_callers.specs.Standing.{known_by}
 use Rattle.threads_calls.proofs.Sessions.{may_do}
 
 -- a call that asks nothing has no value left that it was told

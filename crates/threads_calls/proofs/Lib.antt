@@ -1,4 +1,2 @@
-mod Rows
-mod Newcomers
 mod Sessions
 mod Keys

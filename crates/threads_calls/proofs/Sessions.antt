@@ -1,7 +1,6 @@
--- What a session knows of its map, and that it may look a key up there, and begin a call on one key.
-use Rattle.std.specs.Prelude.{Option, Some, None, IsSome}
-use Rattle.std.proofs.Common.{◌≡◌, ℕ, Bool, true, refl, sym, subst, ap, ◌∙◌}
-use Rattle.seize_views.proofs.Given.SeizeActsAnswers.{same_some}
+-- A session may look a key up in the map that it knows, and begin a call on one key.
+use Rattle.std.specs.Prelude.{Some, None}
+use Rattle.std.proofs.Common.{◌≡◌, ℕ, Bool, true, sym, subst, ap, ◌∙◌}
 use Rattle.map_tables.specs.Chunks.{is_incremental}
 use Rattle.map_tables.specs.declared.setting.Setting.{Setting}
 use Rattle.map_machines.specs.Lookup.{looking}
@@ -18,17 +17,9 @@ use Rattle.threads_rule.specs.Views.Begun.{machine_for}
 use Rattle.threads_rule.specs.Errands.Calling.{MayDo, wanted_of}
 use Rattle.threads_rule.specs.CallKinds.Kinds.{Kind, Stage, GoesOn}
 use Rattle.threads_rule.specs.Errands.Looking.{MayLook}
-use Rattle.threads_calls.specs.Standing.{known_as, known_by}
-use Rattle.threads_calls.proofs.Rows.{section_own}
-
--- the map that it knows, with its setting and its hasher
-pub known : {S : Type 0} (o : Option (Map S)) (x : Setting × S) → known_as o ≡ Some x → (map : Map S) × (o ≡ Some map) × ((map.setting, map.hasher) ≡ x)
-known None x e = absurd (cc e)
-known (Some map) x e = (map, refl, same_some (map.setting, map.hasher) x e)
-
-pub known_some : {S : Type 0} (o : Option (Map S)) → IsSome (known_as o) → (map : Map S) × (o ≡ Some map)
-known_some None e = absurd (cc e)
-known_some (Some map) e = (map, refl)
+use Rattle.threads_callers.specs.Standing.{known_by}
+use Rattle.threads_callers.proofs.Known.{known}
+use Rattle.threads_callers.proofs.Rows.{section_own}
 
 module _ {K V S : Type 0} (hash : S → K → ℕ) where
   -- it may look a key up, within its section

@@ -1,4 +1,3 @@
 pub mod Answers
 pub mod Shown
-pub mod Standing
 pub mod Given

@@ -1,20 +1,13 @@
--- What one of those who share a map shows, of its pairs and of the map.
+-- What one of those who share a map shows of its pairs.
 use Rattle.std.specs.Prelude.{◌≡◌, ℕ, Bool, Some}
 use Rattle.seize_words.specs.OneMemory.Word.{block_in}
 use Rattle.seize_blocks.specs.Given.SeizeSeatsLendings.{IsValueOf}
 use Rattle.map_tables.specs.declared.node.Node.TheVariants.{Pair}
-use Rattle.threads_rule.specs.Views.Begun.{shown_map}
 use Rattle.threads_rule.specs.Views.Looks.{shown_in}
 use Rattle.threads_rule.specs.Views.Rule.{Holds}
-use Rattle.threads_rule.specs.declared.view.Map.{Map}
 use Rattle.threads_rule.specs.declared.view.View.{View}
 use Rattle.threads_rule.specs.Errands.Looking.{Shows}
-use Rattle.threads_calls.specs.declared.caller.Caller.{Caller}
-
-module _ {K V S : Type 0} where
-  -- it comes to know the map that the other one knows
-  abbrev pub LearnsMap : View K V S → View K V S → View K V S → Type 0
-  LearnsMap v u w = (map : Map S) × (u.map ≡ Some map) × (w ≡ shown_map v map)
+use Rattle.threads_callers.specs.declared.caller.Caller.{Caller}
 
 module _ {K V S : Type 0} (same : K → K → Bool) where
   -- the caller shows the pair of this word, of an equal key

@@ -1,13 +1,10 @@
 //! Maps that threads share: a session makes a map, hands it on to others, and calls it, each call an errand of its seat.
 #![tactic(auto)]
 
-mod caller;
 mod session;
-mod showing;
 
-pub use caller::Caller;
 pub use seize_views::Fixed;
 pub use session::{Attempt, Found, Session};
-pub use showing::newcomer;
+pub use threads_callers::{Pass, newcomer};
 pub use threads_errands::memory_for;
 pub use threads_rule::OfMaps;

@@ -4,7 +4,7 @@ ghost use Rattle.threads_rule.specs.Errands.Calling.{outcome_of};
 ghost use Rattle.threads_rule.specs.Errands.Looking.{HasRun, found_of};
 ghost use Rattle.threads_calls.specs.Answers.{HasStored, is_replaced as replaces};
 ghost use Rattle.threads_calls.specs.Shown.{IsLent, IsShown};
-ghost use Rattle.threads_calls.specs.Standing.{known_by};
+ghost use Rattle.threads_callers.specs.Standing.{known_by};
 ghost use Rattle.threads_rule.specs.Given.ActsActs.{Get, Insert};
 ghost use Rattle.map_tables.specs.Chunks.{is_incremental};
 ghost use Rattle.map_tables.specs.declared.node.Node.TheVariants.{Pair};
@@ -14,9 +14,9 @@ ghost use Rattle.seize_views.specs.declared.view.Has.TheVariants.{Nothing};
 ghost use Rattle.seize_views.specs.declared.view.View.TheVariants.{Inside, Outside, Rests};
 
 mod keys;
+mod pass;
 mod seats;
 
-use crate::caller::Caller;
 pub use keys::Attempt;
 use map_machines::{Lookup, NewMap};
 use map_tables::{Counter, Hashes, Node, ResizeMode, Setting};
@@ -26,6 +26,7 @@ use seize_views::Fixed;
 use seize_words::{Fault, Link, Refused};
 use std::hash::Hash;
 use std::sync::Wait;
+use threads_callers::Caller;
 use threads_errands::Ran;
 use threads_rule::OfMaps;
 

@@ -4,6 +4,8 @@
 #[cfg(test)]
 mod opening;
 #[cfg(test)]
+mod passing;
+#[cfg(test)]
 mod removing;
 #[cfg(test)]
 mod resting;

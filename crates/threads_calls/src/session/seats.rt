@@ -1,14 +1,14 @@
 //! A session is a seat that knows a map, with the memory and the hasher: it is made of these, and taken apart, so that who owns them may keep the seat.
 ghost use Rattle.std.specs.Prelude.{◌≡◌, Some, None, true};
-ghost use Rattle.threads_calls.specs.Standing.{known_by};
+ghost use Rattle.threads_callers.specs.Standing.{known_by};
 ghost use Rattle.map_tables.specs.Chunks.{is_incremental};
 ghost use Rattle.threads_rule.specs.declared.view.Work.TheVariants.{Nothing as NoWork};
 ghost use Rattle.seize_callers.specs.Kept.{is_home};
 
-use crate::caller::Caller;
 use crate::session::Session;
 use map_tables::{Hashes, Node, Setting};
 use seize_blocks::{Blocks, Seat};
+use threads_callers::Caller;
 use threads_rule::OfMaps;
 
 impl<'a, K: Eq, V, S: Hashes<K>> Session<'a, K, V, S> {

@@ -1,0 +1,4 @@
+pub mod Rows
+mod Newcomers
+mod Passing
+pub mod Known

@@ -1,0 +1,34 @@
+-- One that has nothing under way may come to know the map that another one knows, who stays as it is.
+use Rattle.std.specs.Prelude.{Some, slice_get, slice_set}
+use Rattle.std.proofs.Common.{◌≡◌, ℕ, zero, suc, List, [], ◌∷◌, Bool, refl, sym, subst, ap}
+use Rattle.threads_rule.proofs.Views.Laws.{maps_are_handed_on}
+use Rattle.threads_rule.specs.Views.Begun.{shown_map}
+use Rattle.seize_blocks.specs.Given.SeizeSeatsState.{Learns}
+use Rattle.seize_views.specs.declared.view.Fixed.{Fixed}
+use Rattle.threads_rule.specs.Views.Rule.{Holds, KeepsFor}
+use Rattle.threads_rule.specs.declared.view.Map.{Map}
+use Rattle.threads_rule.specs.declared.view.View.{View}
+use Rattle.threads_rule.specs.declared.view.Work.TheVariants.{Nothing}
+use Rattle.threads_callers.specs.Standing.{LearnsMap}
+
+-- what is at a place, put there once more, changes nothing
+as_before : {A : Type 0} (xs : List A) (i : ℕ) (x : A) → slice_get xs i ≡ Some x → slice_set xs i x ≡ xs
+as_before [] i x e = refl
+as_before (y ∷ ys) zero x e = let same : y ≡ x = cc e in ap (λ z. z ∷ ys) (sym same)
+as_before (y ∷ ys) (suc i) x e = ap (λ l. y ∷ l) (as_before ys i x e)
+
+module _ {K V S : Type 0} (same : K → K → Bool) (hash : S → K → ℕ) (fixed : Fixed) (i : ℕ) (v : View K V S) (j : ℕ) (u : View K V S) where
+  pub may_learn : (map : Map S) → u.map ≡ Some map → v.work ≡ Nothing → Learns (Holds same hash fixed) KeepsFor i v j u (LearnsMap v u)
+  may_learn map knows free s h at there ne =
+      let g = maps_are_handed_on V same hash fixed j i u v map knows free s h there at (λ e. ne (sym e)) in
+      let views : List (View K V S) = slice_set (slice_set s.views j g.0) i g.1 in
+      let is : views ≡ slice_set s.views i (shown_map v map) =
+      subst (λ (p : View K V S). slice_set (slice_set s.views j p) i g.1 ≡ slice_set s.views i (shown_map v map)) (sym g.3.0)
+      (subst (λ (q : View K V S). slice_set (slice_set s.views j u) i q ≡ slice_set s.views i (shown_map v map)) (sym g.3.1)
+      (ap (λ (l : List (View K V S)). slice_set l i (shown_map v map)) (as_before s.views j u there))) in (
+        shown_map v map,
+        s.world,
+        subst (λ (l : List (View K V S)). Holds same hash fixed record { memory = s.memory; views = l; world = s.world }) is g.2,
+        λ k o b x y far away x_is y_is kept. kept,
+        (map, knows, refl),
+      )

@@ -1,0 +1,149 @@
+-- A seat leans on one that is within its section, looks a key up there, and comes back: that it may, and what that has come to.
+use Rattle.std.specs.Prelude.{List, Option, Some, None, IsSome, IfSome, IfNone, ◌∷◌}
+use Rattle.std.proofs.Common.{◌≡◌, ℕ, Bool, refl, sym, subst, ap, ◌∙◌}
+use Rattle.threads_rule.specs.Views.Begun.{machine_for, shown_map}
+use Rattle.threads_rule.specs.Given.ActsActs.{Wanted, Get}
+use Rattle.papaya_raw.specs.declared.machines.progress.Progress.{Progress}
+use Rattle.map_machines.specs.declared.lookup.Lookup.{Lookup}
+use Rattle.seize_seats.specs.Seats.State.{Learns}
+use Rattle.seize_views.specs.declared.view.Fixed.{Fixed}
+use Rattle.seize_views.specs.declared.view.View.{View as SlotView}
+use Rattle.seize_views.specs.declared.view.View.TheVariants.{Rests}
+use Rattle.map_tables.specs.declared.node.Node.{Node}
+use Rattle.threads_rule.specs.Views.Notes.{IsResting}
+use Rattle.threads_rule.specs.Views.Promises.{LeaningsBegin}
+use Rattle.threads_rule.specs.Views.Rule.{Holds, KeepsFor, section_of, stand_of}
+use Rattle.threads_rule.specs.declared.view.Map.{Map}
+use Rattle.threads_rule.specs.declared.view.Run.{Run}
+use Rattle.threads_rule.specs.declared.view.View.{View}
+use Rattle.threads_rule.specs.Errands.Looking.{HasFound, HasRun, MayLook, Shows, StaysThere, found_of}
+use Rattle.threads_callers.specs.Passing.{BeginsUnder, ComesBack, HasFoundUnder, HasRunUnder, IsBack, IsLentBy}
+use Rattle.threads_callers.proofs.Rows.{own_inside, rests_so}
+
+-- what is there is something
+pub what : {A : Type 0} (o : Option A) → IsSome o → (x : A) × (o ≡ Some x)
+what None some = absurd (cc some)
+what (Some x) some = (x, refl)
+
+module _ {K V S : Type 0} (same : K → K → Bool) (hash : S → K → ℕ) (fixed : Fixed) where
+  -- a seat that has nothing under way may lean on one that may look a key up within its own section
+  pub may_lean : LeaningsBegin V same hash → (i j : ℕ) (v u : View K V S) (key : K) (lookup : Lookup) → IsBack v → u.under ≡ None → MayLook hash key lookup u
+      → Learns (Holds same hash fixed) KeepsFor i v j u (BeginsUnder v j u)
+  may_lean law i j v u key lookup back lone may s h at_i at_j ne =
+      let inside = own_inside u may.slot lone may.inside in
+      let g = law fixed i j may.slot v u back.rests back.lone back.free inside s h at_i at_j ne in
+      (g.0, g.1, g.2, g.3, (may.slot, inside, g.4))
+
+module _ {K V S : Type 0} (hash : S → K → ℕ) (key : K) (lookup : Lookup) (u v m : View K V S) (n : ℕ) (lone : u.under ≡ None) (may : MayLook hash key lookup u)
+    (begins : BeginsUnder v n u m) where
+  -- it leans on that one in the slot in which that one may look the key up
+  leant_in : section_of m.under m.slot ≡ Some may.slot
+  leant_in =
+      ap (λ (x : View K V S). section_of x.under x.slot) begins.2
+      ∙ sym (ap (λ (x : SlotView (Node K V)). section_of None x) begins.1) ∙ sym (ap (λ (o : Option (ℕ × ℕ)). section_of o u.slot) lone) ∙ may.inside
+
+  -- and may look it up, too
+  pub may_look_under : IsBack v → u.map ≡ v.map → MayLook hash key lookup m
+  may_look_under back maps = record {
+    slot = may.slot;
+    map = may.map;
+    inside = leant_in;
+    knows = ap (λ (x : View K V S). x.map) begins.2 ∙ sym maps ∙ may.knows;
+    incremental = may.incremental;
+    free = ap (λ (x : View K V S). x.work) begins.2 ∙ back.free;
+    begins = may.begins;
+  }
+
+  module _ (same : K → K → Bool) (maps : u.map ≡ v.map) (f w : View K V S) (comes : ComesBack f w) where
+    -- the call that it has run meanwhile was one under that one
+    ran_under : (wanted : Wanted K V) (told : Progress (Node K V)) → StaysThere m f → HasRun same hash wanted told m f → HasRunUnder same hash wanted told u v w
+    ran_under wanted told stays ran = record {
+      map = ran.0;
+      slot = ran.1;
+      knows = maps ∙ sym (ap (λ (x : View K V S). x.map) begins.2) ∙ ran.2;
+      inside = may.inside ∙ sym leant_in ∙ ran.3;
+      calls =
+          ap (λ (x : View K V S). x.calls) comes ∙ ran.4
+          ∙ ap (λ (x : View K V S). record { began = machine_for same hash ran.0 ran.1 wanted; told = told } ∷ x.calls) begins.2;
+      knew = f;
+      knew_map = stays.map ∙ ran.2;
+      knew_section = ap (λ (p : SlotView (Node K V) × Option (ℕ × ℕ)). section_of p.1 p.0) stays.slot ∙ ran.3;
+      knew_calls = sym (ap (λ (x : View K V S). x.calls) comes);
+    }
+
+    -- and the value that it was lent then is that of the pair found
+    pub found_under : (fixed : Fixed) (i : ℕ) (found : Option ℕ) → HasFound same hash key found m f → {A : Type 0} (now : A → V) (answer : Option A)
+        → IfSome answer (λ x. (word : ℕ) × (found ≡ Some word) × IsLentBy same hash fixed i f n u word (now x)) → IfNone answer (found ≡ None)
+        → IfSome answer (λ x. HasFoundUnder same hash fixed key n u v w (now x)) × IfNone answer (HasRunUnder same hash (Get key) (found_of None) u v w)
+    unfolding ran_under
+    found_under fixed i found has now None lent none =
+        (tt, ran_under (Get key) (found_of None) has.stays (subst (λ (o : Option ℕ). HasRun same hash (Get key) (found_of o) m f) none has.ran))
+    found_under fixed i found has now (Some x) lent none = (
+      record {
+        word = lent.0;
+        ran = ran_under (Get key) (found_of (Some lent.0)) has.stays (subst (λ (o : Option ℕ). HasRun same hash (Get key) (found_of o) m f) lent.1 has.ran);
+        id = i;
+        shows = subst (λ (o : Option ℕ). IfSome o (Shows same key f)) lent.1 has.looked.shows;
+        lent = lent.2;
+      },
+      tt,
+    )
+
+  -- it comes back with nothing under way
+  pub comes_back : (same : K → K → Bool) (found : Option ℕ) (f w : View K V S) → IsBack v → HasFound same hash key found m f → ComesBack f w → IsBack w
+  comes_back same found f w back has comes = record {
+    rests = ap (λ (x : View K V S). x.slot) comes ∙ ap (λ (p : SlotView (Node K V) × Option (ℕ × ℕ)). p.0) has.stays.slot ∙ ap (λ (x : View K V S). x.slot) begins.2 ∙ back.rests;
+    free = ap (λ (x : View K V S). x.work) comes ∙ has.looked.free;
+    lone = ap (λ (x : View K V S). x.under) comes;
+  }
+
+  -- before that it stands where it did
+  pub stands_under : (same : K → K → Bool) (found : Option ℕ) (f : View K V S) → HasFound same hash key found m f → (f.under ≡ Some (n, begins.0)) × (f.slot ≡ v.slot)
+  stands_under same found f has = (
+    ap (λ (p : SlotView (Node K V) × Option (ℕ × ℕ)). p.1) has.stays.slot ∙ ap (λ (x : View K V S). x.under) begins.2,
+    ap (λ (p : SlotView (Node K V) × Option (ℕ × ℕ)). p.0) has.stays.slot ∙ ap (λ (x : View K V S). x.slot) begins.2,
+  )
+
+module _ {K V S : Type 0} (same : K → K → Bool) (hash : S → K → ℕ) (fixed : Fixed) (key : K) (n : ℕ) (u v p w : View K V S) (calls : v.calls ≡ p.calls) where
+  -- and so it is since before it has learnt the map
+  pub run_since : (wanted : Wanted K V) (told : Progress (Node K V)) → HasRunUnder same hash wanted told u v w → HasRunUnder same hash wanted told u p w
+  run_since wanted told ran = record {
+    map = ran.map;
+    slot = ran.slot;
+    knows = ran.knows;
+    inside = ran.inside;
+    calls = ran.calls ∙ ap (λ (l : List (Run K V)). record { began = machine_for same hash ran.map ran.slot wanted; told = told } ∷ l) calls;
+    knew = ran.knew;
+    knew_map = ran.knew_map;
+    knew_section = ran.knew_section;
+    knew_calls = ran.knew_calls;
+  }
+
+  pub found_since : {A : Type 0} (now : A → V) (answer : Option A) → IfSome answer (λ x. HasFoundUnder same hash fixed key n u v w (now x))
+      → IfSome answer (λ x. HasFoundUnder same hash fixed key n u p w (now x))
+  unfolding run_since
+  found_since now None found = tt
+  found_since now (Some x) found = record {
+    word = found.word;
+    ran = run_since (Get key) (found_of (Some found.word)) found.ran;
+    id = found.id;
+    shows = found.shows;
+    lent = found.lent;
+  }
+
+  pub none_since : {A : Type 0} (answer : Option A) → IfNone answer (HasRunUnder same hash (Get key) (found_of None) u v w)
+      → IfNone answer (HasRunUnder same hash (Get key) (found_of None) u p w)
+  none_since None none = run_since (Get key) (found_of None) none
+  none_since (Some x) none = tt
+
+module _ {K V S : Type 0} where
+  -- who has nothing under way, and leans on nobody, rests, and still does so once it has learnt a map
+  pub back_rests : (w : View K V S) → IsBack w → IsResting w
+  back_rests w back = rests_so w Rests back.lone back.rests back.free tt
+
+  pub still_back : (v w : View K V S) (map : Map S) → w ≡ shown_map v map → IsBack v → IsBack w
+  still_back v w map e back = record {
+    rests = ap (λ (x : View K V S). x.slot) e ∙ back.rests;
+    free = ap (λ (x : View K V S). x.work) e ∙ back.free;
+    lone = ap (λ (x : View K V S). x.under) e ∙ back.lone;
+  }

@@ -1,0 +1,77 @@
+-- A seat of maps that has nothing but a row under way, as its notes have it, and who has come to rest.
+use Rattle.std.specs.Prelude.{List, Option, Some, None, Result, Ok, Err, IfOk, IfErr}
+use Rattle.std.proofs.Common.{◌≡◌, ℕ, Bool, sym, subst, ap, ◌∙◌}
+use Rattle.seize_words.specs.declared.fault.Fault.{Fault}
+use Rattle.seize_views.specs.Views.Rows.{IsAtRest}
+use Rattle.seize_views.specs.declared.view.Has.TheVariants.{Nothing as NoBlock}
+use Rattle.seize_views.specs.declared.view.View.{View as SlotView}
+use Rattle.seize_views.specs.declared.view.View.TheVariants.{Rests, Outside, Inside}
+use Rattle.map_tables.specs.declared.node.Node.{Node}
+use Rattle.map_tables.specs.declared.setting.Setting.{Setting}
+use Rattle.map_machines.specs.declared.new_map.NewMap.{NewMap}
+use Rattle.papaya_raw.specs.declared.machines.progress.Answer.{Answer}
+use Rattle.threads_rule.specs.Given.ActsActs.{Wanted}
+use Rattle.threads_rule.specs.Views.Notes.{beside_of, row_known, notes_of, IsResting}
+use Rattle.threads_rule.specs.declared.view.Map.{Map}
+use Rattle.threads_rule.specs.declared.view.Run.{Run}
+use Rattle.threads_rule.specs.declared.view.View.{View}
+use Rattle.threads_rule.specs.declared.view.Work.{Work}
+use Rattle.threads_rule.specs.declared.view.Work.TheVariants.{Nothing}
+use Rattle.threads_rule.specs.Views.Rule.{section_of, stand_of}
+use Rattle.threads_rule.proofs.Views.Contents.{knows_free}
+use Rattle.threads_rule.proofs.Views.Leaves.{own_section}
+use Rattle.threads_rule.specs.Errands.Calling.{HasCalled}
+use Rattle.threads_rule.specs.Errands.Looking.{HasFound}
+use Rattle.threads_rule.specs.Errands.Making.{CameTo}
+
+module _ {K V S : Type 0} where
+  -- who has nothing else under way knows its row
+  pub known_free : (v : View K V S) (x : SlotView (Node K V)) → v.under ≡ None → v.slot ≡ x → v.work ≡ Nothing → (notes_of v).knows ≡ x
+  known_free v x lone slot free = ap (λ (o : Option (ℕ × ℕ)). row_known o v.slot v.work) lone ∙ ap (λ (k : Work K V S). row_known None v.slot k) free ∙ slot
+
+  pub rests_so : (v : View K V S) (x : SlotView (Node K V)) → v.under ≡ None → v.slot ≡ x → v.work ≡ Nothing → IsAtRest x → IsResting v
+  rests_so v x lone slot free rests = subst (λ (y : SlotView (Node K V)). IsAtRest y) (sym (known_free v x lone slot free)) rests
+
+  -- who stands where one stood that held this slot, and leant on nobody, does so, too
+  stood : (v w : View K V S) (x : SlotView (Node K V)) → v.under ≡ None → v.slot ≡ x → stand_of w ≡ stand_of v → (w.under ≡ None) × (w.slot ≡ x)
+  stood v w x lone slot same_stand =
+      (ap (λ (p : SlotView (Node K V) × Option (ℕ × ℕ)). p.1) same_stand ∙ lone, ap (λ (p : SlotView (Node K V) × Option (ℕ × ℕ)). p.0) same_stand ∙ slot)
+
+  -- whoever leans on nobody is within the section of its own slot
+  pub own_inside : (v : View K V S) (t : ℕ) → v.under ≡ None → section_of v.under v.slot ≡ Some t → v.slot ≡ Inside t NoBlock
+  own_inside v t lone section = own_section v.slot t (ap (λ (o : Option (ℕ × ℕ)). section_of o v.slot) (sym lone) ∙ section)
+
+  -- and the other way round
+  pub section_own : (v : View K V S) (t : ℕ) → v.under ≡ None → v.slot ≡ Inside t NoBlock → section_of v.under v.slot ≡ Some t
+  section_own v t lone inside = ap (λ (o : Option (ℕ × ℕ)). section_of o v.slot) lone ∙ ap (λ (x : SlotView (Node K V)). section_of None x) inside
+
+  -- what the notes say of who has looked for a slot
+  abbrev pub Noted : View K V S → Result ℕ Fault → Type 0
+  Noted w answer = IfOk answer (λ slot. (notes_of w).knows ≡ Outside slot) × IfErr answer (λ fault. (notes_of w).knows ≡ Rests)
+
+  -- who has found a slot has it, and who has found none has none
+  pub took : (w : View K V S) (answer : Result ℕ Fault) (slot : ℕ) → answer ≡ Ok slot → Noted w answer → (w.under ≡ None) × (w.work ≡ Nothing) × (w.slot ≡ Outside slot)
+  took w answer slot e is = knows_free w (Outside slot) tt (subst (λ (r : Result ℕ Fault). Noted w r) e is).0
+
+  -- who has made a map, or was refused, rests
+  pub rests_after : (hasher : S) (opening : NewMap) (answer : Result Setting Fault) (v w : View K V S) → v.under ≡ None → v.slot ≡ Rests → CameTo hasher opening answer v w → IsResting w
+  rests_after hasher opening (Ok setting) v w lone rests came = let s = stood v w Rests lone rests came.slot in rests_so w Rests s.0 s.1 came.made.0.free tt
+  rests_after hasher opening (Err fault) v w lone rests came = let s = stood v w Rests lone rests came.slot in rests_so w Rests s.0 s.1 came.refused.0 tt
+
+  -- what is beside a row stays: the map, and the calls
+  pub map_stays : (v w : View K V S) → beside_of w ≡ beside_of v → w.map ≡ v.map
+  map_stays v w e = ap (λ (b : Option (Map S) × List (Run K V)). b.0) e
+
+  pub calls_stay : (v w : View K V S) → beside_of w ≡ beside_of v → w.calls ≡ v.calls
+  calls_stay v w e = ap (λ (b : Option (Map S) × List (Run K V)). b.1) e
+
+  -- and so does who has looked a key up
+  pub rests_inside : (same : K → K → Bool) (hash : S → K → ℕ) (key : K) (answer : Option ℕ) (v w : View K V S) (t : ℕ) → v.under ≡ None → section_of v.under v.slot ≡ Some t → HasFound same hash key answer v w → IsResting w
+  rests_inside same hash key answer v w t lone section found =
+      let s = stood v w (Inside t NoBlock) lone (own_inside v t lone section) found.stays.slot in rests_so w (Inside t NoBlock) s.0 s.1 found.looked.free tt
+
+  -- and so does who has run a call
+  pub rests_called : (same : K → K → Bool) (hash : S → K → ℕ) (wanted : Wanted K V) (answer : Result Answer Fault) (unstored : Option (Node K V)) (v w : View K V S) (t : ℕ)
+      → v.under ≡ None → section_of v.under v.slot ≡ Some t → HasCalled same hash wanted answer unstored v w → IsResting w
+  rests_called same hash wanted answer unstored v w t lone section called =
+      let s = stood v w (Inside t NoBlock) lone (own_inside v t lone section) called.stays.slot in rests_so w (Inside t NoBlock) s.0 s.1 called.free tt

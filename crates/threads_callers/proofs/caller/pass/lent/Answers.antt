@@ -1,0 +1,15 @@
+use Rattle.std.specs.Prelude.{ℕ, Option, IfSome}
+use Rattle.std.proofs.Common.{subst}
+use Rattle.threads_rule.specs.Errands.Looking.{Shows}
+use Rattle.threads_callers.proofs.caller.pass.lent.Goals as goal
+
+pub value_by-requires : goal.value_by-requires
+value_by-requires g c = record {
+  own = c.requires.own;
+  under = c.requires.under;
+  free = c.requires.looked.free;
+  shown = (
+    c.args._key.now,
+    subst (λ (o : Option ℕ). IfSome o (Shows g.K.PartialEq.eq c.args._key.now c.args.seat.now.view)) c.in_ok-word.was c.requires.looked.shows,
+  );
+}

@@ -1,0 +1,60 @@
+-- A seat that looks keys up under another one, which is within its section: it leans on that one for as long as it looks, and is lent the value that it has found by what it knows then.
+use Rattle.std.specs.Prelude.{◌≡◌, ℕ, Bool, ◌∷◌, Some, None}
+use Rattle.threads_rule.specs.Given.ActsActs.{Wanted, Get}
+use Rattle.papaya_raw.specs.declared.machines.progress.Progress.{Progress}
+use Rattle.seize_seats.specs.Seats.Lendings.{IsValueBy}
+use Rattle.seize_views.specs.declared.view.Fixed.{Fixed}
+use Rattle.seize_views.specs.declared.view.Has.TheVariants.{Nothing as NoBlock}
+use Rattle.seize_views.specs.declared.view.View.TheVariants.{Rests, Inside}
+use Rattle.seize_words.specs.OneMemory.Word.{block_in}
+use Rattle.map_tables.specs.declared.node.Node.{Node}
+use Rattle.map_tables.specs.declared.node.Node.TheVariants.{Pair}
+use Rattle.threads_rule.specs.Views.Begun.{leaning, machine_for}
+use Rattle.threads_rule.specs.Views.Looks.{shown_in}
+use Rattle.threads_rule.specs.Views.Rule.{Holds, section_of}
+use Rattle.threads_rule.specs.declared.view.Map.{Map}
+use Rattle.threads_rule.specs.declared.view.View.{View}
+use Rattle.threads_rule.specs.declared.view.Work.TheVariants.{Nothing}
+use Rattle.threads_rule.specs.Errands.Looking.{Shows, found_of}
+
+module _ {K V S : Type 0} where
+  -- it has nothing under way, holds no slot, and leans on nobody
+  pub record IsBack (v : View K V S) : Type 0 where
+    pub rests : v.slot ≡ Rests
+    pub free : v.work ≡ Nothing
+    pub lone : v.under ≡ None
+
+  -- it leans on the seat of this number, which is within its section
+  abbrev pub BeginsUnder : View K V S → ℕ → View K V S → View K V S → Type 0
+  BeginsUnder v n u w = (t : ℕ) × (u.slot ≡ Inside t NoBlock) × (w ≡ leaning v (Some (n, t)))
+
+  -- and on nobody any more
+  abbrev pub ComesBack : View K V S → View K V S → Type 0
+  ComesBack v w = w ≡ leaning v None
+
+  -- A seat has begun one call more, within the section of that one: to do this with the map that that one knows. The call has told this last; and so the seat knew it
+  -- when the call had ended, before it came back.
+  pub record HasRunUnder (same : K → K → Bool) (hash : S → K → ℕ) (wanted : Wanted K V) (told : Progress (Node K V)) (u v w : View K V S) : Type 0 where
+    pub map : Map S
+    pub slot : ℕ
+    pub knows : u.map ≡ Some map
+    pub inside : section_of u.under u.slot ≡ Some slot
+    pub calls : w.calls ≡ record { began = machine_for same hash map slot wanted; told = told } ∷ v.calls
+    pub knew : View K V S
+    pub knew_map : knew.map ≡ Some map
+    pub knew_section : section_of knew.under knew.slot ≡ Some slot
+    pub knew_calls : knew.calls ≡ w.calls
+
+module _ {K V S : Type 0} (same : K → K → Bool) (hash : S → K → ℕ) (fixed : Fixed) where
+  -- it is the value that the one seat has looked at of the pair of this word, as it is in the memory while both know what they know
+  abbrev pub IsLentBy : ℕ → View K V S → ℕ → View K V S → ℕ → V → Type 0
+  IsLentBy i v n u word value =
+      (key : K) × (shown_in v.held (block_in word) ≡ Some (Pair key value)) × IsValueBy (Holds same hash fixed) i v n u n u (block_in word) (Pair key value)
+
+  -- A seat has run a call under that one which has looked this key up, and the value of the pair found was lent by what it knew then, when the call had ended.
+  pub record HasFoundUnder (key : K) (n : ℕ) (u v w : View K V S) (value : V) : Type 0 where
+    pub word : ℕ
+    pub ran : HasRunUnder same hash (Get key) (found_of (Some word)) u v w
+    pub id : ℕ
+    pub shows : Shows same key ran.knew word
+    pub lent : IsLentBy id ran.knew n u word value

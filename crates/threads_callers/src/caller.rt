@@ -1,0 +1,66 @@
+//! One of those who share the memory of maps.
+ghost use Rattle.std.specs.Prelude.{◌≡◌, IsSome, None, true};
+ghost use Rattle.threads_callers.specs.Standing.{come_to, known_by};
+ghost use Rattle.threads_rule.specs.Views.Rule.{at_rest};
+ghost use Rattle.threads_rule.specs.declared.view.Work.TheVariants.{Nothing};
+ghost use Rattle.seize_views.specs.declared.view.View.TheVariants.{Rests};
+ghost use Rattle.seize_callers.specs.Kept.{is_home};
+
+mod calls;
+mod pass;
+mod rows;
+mod seats;
+
+use crate::showing::newcomer;
+use map_tables::{Hashes, Node};
+pub use pass::Pass;
+use seize_blocks::{Blocks, Seat};
+use threads_rule::OfMaps;
+
+/// One of those who share the memory of maps: a seat of it, which is on no errand, with the memory.
+pub struct Caller<'a, K: Eq, V, S: Hashes<K>> {
+    blocks: &'a Blocks<Node<K, V>, OfMaps<S>>,
+    seat: Seat<Node<K, V>, OfMaps<S>>,
+    near: u64,
+    ghost own: { seat.base ≡ blocks.now.words.id.views_name },
+    ghost home: { is_home seat.away ≡ true },
+    ghost lone: { seat.view.under ≡ None },
+}
+
+impl<'a, K: Eq, V, S: Hashes<K>> Caller<'a, K, V, S> {
+    /// One more of them, who holds no slot and knows no map.
+    pub fn new(blocks: &'a Blocks<Node<K, V>, OfMaps<S>>) -> Self
+        ensures rests { result.seat.view ≡ at_rest }
+        ensures blocks { result.blocks.now ≡ blocks.now }
+    {
+        let seat = blocks.seat();
+        Caller {
+            blocks,
+            seat,
+            near: 0,
+        }
+    }
+
+    /// One more of them, who holds no slot, and to whom the map is handed on that this one knows.
+    pub fn shows(&self) -> Self
+        requires knows { IsSome (known_by self.now.seat.view) }
+        ensures blocks { result.blocks.now ≡ self.now.blocks.now }
+        ensures shown { result.seat.view ≡ come_to self.now.seat.view.map }
+    {
+        let seat = newcomer(self.blocks, &self.seat);
+        Caller::of(self.blocks, seat)
+    }
+}
+
+impl<'a, K: Eq, V, S: Hashes<K>> Drop for Caller<'a, K, V, S> {
+    fn drop(self)
+        requires rests { self.seat.view.slot ≡ Rests }
+        requires free { self.seat.view.work ≡ Nothing }
+    {
+        let Caller {
+            blocks: _,
+            seat: _,
+            near: _,
+        } = self;
+    }
+}

@@ -1,0 +1,79 @@
+//! A caller is sent to make a map, to look a key up, and to run a call on one key.
+ghost use Rattle.std.specs.Prelude.{◌≡◌, IsSome, Some};
+ghost use Rattle.threads_rule.specs.Errands.Calling.{HasCalled, MayCall, wanted_of};
+ghost use Rattle.threads_rule.specs.Errands.Looking.{HasFound, MayLook};
+ghost use Rattle.threads_rule.specs.Errands.Making.{CameTo, MayBegin};
+ghost use Rattle.threads_rule.specs.Views.Looks.{shown_in};
+ghost use Rattle.threads_rule.specs.Views.Rule.{Holds};
+ghost use Rattle.threads_rule.specs.declared.view.Work.TheVariants.{Nothing as NoWork};
+ghost use Rattle.seize_blocks.specs.Given.SeizeSeatsLendings.{IsValueOf};
+ghost use Rattle.seize_views.specs.declared.view.View.TheVariants.{Rests};
+
+use crate::caller::Caller;
+use map_machines::{Lookup, NewMap};
+use map_tables::{Hashes, Node, Setting};
+use papaya_raw::machines::Machine;
+use seize_words::Fault;
+use std::hash::Hash;
+use std::sync::Wait;
+use threads_errands::{Does, Finds, Makes, Ran};
+
+impl<'a, K: Eq + Drop, V: Drop, S: Hashes<K>> Caller<'a, K, V, S> {
+    /// Makes a map of no table by this machine, with this hasher, and knows it then. Where no root is free, or memory is refused, there is none, and it knows what it
+    /// has known before.
+    pub fn makes_map(&mut self, hasher: &S, opening: NewMap) -> Result<Setting, Fault>
+        requires may { MayBegin self.old.blocks.now.words.fixed opening }
+        requires rests { self.old.seat.view.slot ≡ Rests }
+        requires free { self.old.seat.view.work ≡ NoWork }
+        ensures made { CameTo hasher.now opening result self.old.seat.view self.new.seat.view }
+        ensures blocks { self.new.blocks ≡ self.old.blocks }
+    {
+        self.blocks
+            .errand(&mut self.seat, Makes { hasher, opening })
+    }
+}
+
+impl<'a, K: Eq + Hash, V, S: Hashes<K>> Caller<'a, K, V, S> {
+    /// Looks this key up within its section, by this lookup, and answers the word that names the pair found. How many steps it takes is up to the others.
+    pub fn finds<R: Wait>(&mut self, rt: &R, lookup: Lookup, key: &K) -> Option<u64>
+        requires may { MayLook S.hash key.now lookup self.old.seat.view }
+        ensures found { HasFound K.eq S.hash key.now result self.old.seat.view self.new.seat.view }
+        ensures blocks { self.new.blocks ≡ self.old.blocks }
+    {
+        self.blocks
+            .errand(&mut self.seat, Finds { rt, key, lookup })
+    }
+}
+
+impl<'a, K: Eq + Hash + Drop, V: Drop, S: Hashes<K>> Caller<'a, K, V, S> {
+    /// Runs this call, which asks nothing, within its section, on the map that it knows, and answers what it has told, and its own pair where that was not stored.
+    pub fn does<R: Wait>(&mut self, rt: &R, hasher: &S, machine: Machine<K, V>) -> Ran<K, V>
+        requires may { MayCall K.eq S.hash hasher.now machine self.old.seat.view }
+        ensures called { HasCalled K.eq S.hash (wanted_of machine) result.told result.unstored self.old.seat.view self.new.seat.view }
+        ensures blocks { self.new.blocks ≡ self.old.blocks }
+    {
+        let mut machine = machine;
+        let ran = self.blocks.errand(
+            &mut self.seat,
+            Does {
+                rt,
+                hasher,
+                machine: &mut machine,
+                near: self.near,
+            },
+        );
+        self.near = ran.near;
+        ran
+    }
+}
+
+impl<'a, K: Eq, V, S: Hashes<K>> Caller<'a, K, V, S> {
+    /// The value of a block that it shows, for as long as it is borrowed.
+    pub fn pair(&self, block: u64) -> &Node<K, V>
+        requires shown { IsSome (shown_in self.now.seat.view.held block) }
+        ensures value { IsValueOf (Holds K.eq S.hash self.now.blocks.now.words.fixed) self.now.seat.id self.now.seat.view block result.now }
+        ensures shown { shown_in self.now.seat.view.held block ≡ Some result.now }
+    {
+        self.blocks.value(&self.seat, block)
+    }
+}

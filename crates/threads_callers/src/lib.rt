@@ -1,0 +1,8 @@
+//! Those who share a memory of maps: each is a seat that makes a map, comes to know one, takes a slot, and is sent for each call; a seat more may look keys up under it.
+#![tactic(auto)]
+
+mod caller;
+mod showing;
+
+pub use caller::{Caller, Pass};
+pub use showing::newcomer;
