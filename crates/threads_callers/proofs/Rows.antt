@@ -19,6 +19,8 @@ use Rattle.threads_rule.specs.declared.view.Work.{Work}
 use Rattle.threads_rule.specs.declared.view.Work.TheVariants.{Nothing}
 use Rattle.threads_rule.specs.Views.Rule.{section_of, stand_of}
 use Rattle.threads_rule.proofs.Views.Contents.{knows_free}
+use Rattle.papaya_raw.specs.declared.machines.asking.Reply.{Reply}
+use Rattle.threads_errands.specs.Asking.{HasAnswered}
 use Rattle.threads_rule.proofs.Views.Leaves.{own_section}
 use Rattle.threads_rule.specs.Errands.Calling.{HasCalled}
 use Rattle.threads_rule.specs.Errands.Looking.{HasFound}
@@ -75,3 +77,9 @@ module _ {K V S : Type 0} where
       → v.under ≡ None → section_of v.under v.slot ≡ Some t → HasCalled same hash wanted answer unstored v w → IsResting w
   rests_called same hash wanted answer unstored v w t lone section called =
       let s = stood v w (Inside t NoBlock) lone (own_inside v t lone section) called.stays.slot in rests_so w (Inside t NoBlock) s.0 s.1 called.free tt
+
+  -- or one that has asked
+  pub rests_answered : (same : K → K → Bool) (hash : S → K → ℕ) (says : Option (K × V) → Reply V → Type 0) (wanted : Wanted K V) (answer : Result Answer Fault) (v w : View K V S) (t : ℕ)
+      → v.under ≡ None → section_of v.under v.slot ≡ Some t → HasAnswered same hash says wanted answer v w → IsResting w
+  rests_answered same hash says wanted answer v w t lone section answered =
+      let s = stood v w (Inside t NoBlock) lone (own_inside v t lone section) answered.stays.slot in rests_so w (Inside t NoBlock) s.0 s.1 answered.free tt

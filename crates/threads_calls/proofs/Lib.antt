@@ -1,2 +1,3 @@
 mod Sessions
 mod Keys
+mod Asks

@@ -13,6 +13,7 @@ ghost use Rattle.threads_rule.specs.declared.view.Work.TheVariants.{Nothing as N
 ghost use Rattle.seize_views.specs.declared.view.Has.TheVariants.{Nothing};
 ghost use Rattle.seize_views.specs.declared.view.View.TheVariants.{Inside, Outside, Rests};
 
+mod asks;
 mod keys;
 mod pass;
 mod seats;

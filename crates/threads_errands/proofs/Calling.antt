@@ -27,6 +27,7 @@ use Rattle.threads_rule.specs.declared.view.Work.{Work}
 use Rattle.threads_rule.specs.declared.view.Work.TheVariants.{Calls}
 use Rattle.threads_rule.proofs.Views.Laws.{calls_turn}
 use Rattle.seize_callers.specs.Kept.{kept}
+use Rattle.threads_errands.specs.Steps.{HasStepped}
 use Rattle.threads_errands.specs.Made.{CanMake, HasMade, IsSameSeat, shown_of}
 use Rattle.threads_rule.specs.Errands.Calling.{AsksNothing, CalledSo, IsAsking, IsKnownMissing, IsKnownThere, IsUnderWay, MachineGoesOn, TellsSo, Works}
 use Rattle.threads_rule.specs.CallKinds.Kinds.{Kind, Stage, SaysSo}
@@ -149,6 +150,7 @@ module _ {K V S : Type 0} (same : K → K → Bool) (hash : S → K → ℕ) (k 
         pub calls : HasTold end.1 c.seat.now.view n.seat.now.view
         pub step : MayCome its end
         pub hands : HandsBack c.seat.now.view.calls end.1
+        pub by : HasStepped same hash c.seat.now.view n.seat.now.view
         pub seat : IsSameSeat c n
 
       pub has_made : n.made ≡ true → Made
@@ -164,6 +166,7 @@ module _ {K V S : Type 0} (same : K → K → Bool) (hash : S → K → ℕ) (k 
               calls = so.2;
               step = its_step end (subst (λ (e : Machine K V K × Progress (Node K V)). MayCome plan e) one t.4);
               hands = subst (λ (e : Machine K V K × Progress (Node K V)). HandsBack c.seat.now.view.calls e.1) one t.5;
+              by = inl (it.0, it.1, it.2.told);
               seat = it.2.seat;
             }
         | inr none ↦ let made_false : n.made ≡ false = ap (λ (x : Within K V S). x.made) none.0 ∙ before in absurd (cc (made, made_false))
@@ -182,6 +185,9 @@ module _ {K V S : Type 0} (same : K → K → Bool) (hash : S → K → ℕ) (k 
       -- it is the same seat then
       pub still : n.made ≡ false → IsSameSeat c n
       still none = ap (λ (x : Within K V S). kept x.blocks x.seat.ghost_name x.seat.now.id x.seat.now.away) (is_turn none).0
+
+      pub turned_by_it : n.made ≡ false → (w : View K V S) → turned same hash n.seat.now.view w → HasStepped same hash c.seat.now.view w
+      turned_by_it none w goes = inr (subst (λ (x : Within K V S). turned same hash x.seat.now.view w) (is_turn none).0 goes)
 
       pub may_turn : n.made ≡ false → Turns (Holds same hash n.blocks.now.words.fixed) KeepsFor n.seat.now.id n.seat.now.view (turned same hash n.seat.now.view)
       may_turn none =

@@ -1,6 +1,9 @@
 //! What a seat of maps is sent for: to make a map, to look a key up, and to run a call on one key.
-ghost use Rattle.std.specs.Prelude.{◌≡◌};
-ghost use Rattle.threads_rule.specs.Errands.Calling.{HasCalled, MayCall, wanted_of};
+ghost use Rattle.std.specs.Prelude.{◌≡◌, false};
+ghost use Rattle.std.specs.Fn.{FnOnceReturns};
+ghost use Rattle.threads_errands.specs.Asking.{HasAnswered, MakingSays, MayTest, TestSays, makes_pair, removes_if};
+ghost use Rattle.threads_rule.specs.Errands.Calling.{HasCalled, MayCall, MayDo, wanted_of};
+ghost use Rattle.threads_rule.specs.CallKinds.Kinds.{Stage};
 ghost use Rattle.threads_rule.specs.Errands.Looking.{HasFound, MayLook};
 ghost use Rattle.threads_rule.specs.Errands.Making.{CameTo, MayBegin};
 ghost use Rattle.threads_rule.specs.declared.view.Work.TheVariants.{Nothing as NoWork};
@@ -104,5 +107,77 @@ impl<'d, R: Wait, K: Eq + Hash + Drop, V: Drop, S: Hashes<K>> Errand<Node<K, V>,
         } = self;
         let mut within = Within::new(blocks, seat, near);
         within.does(rt, hasher, machine)
+    }
+}
+
+/// Stores a value that is made where the key is missing.
+pub struct MakesPair<'m, R, K, V, S, F> {
+    pub rt: &'m R,
+    pub hasher: &'m S,
+    pub machine: &'m mut Machine<K, V>,
+    pub near: u64,
+    pub make: F,
+}
+
+impl<'m, R: Wait, K: Eq + Hash + Drop, V: Drop, S: Hashes<K>, F: FnOnce() -> V> Errand<
+    Node<K, V>,
+    OfMaps<S>,
+> for MakesPair<'m, R, K, V, S, F> {
+    type Answer = Ran<K, V>;
+
+    ghost asks = { λ m fixed v. (s : Stage) × (s.told ≡ false) × MayDo K.eq S.hash makes_pair s m.hasher.now m.machine.now v × F.pre m.make };
+
+    ghost did = { λ m fixed v answer w. HasAnswered K.eq S.hash (MakingSays (FnOnceReturns F.FnOnce m.make tt)) (wanted_of m.machine.now) answer.told v w };
+
+    fn run(
+        self,
+        blocks: &Blocks<Node<K, V>, OfMaps<S>>,
+        seat: &mut Seat<Node<K, V>, OfMaps<S>>,
+    ) -> Ran<K, V> {
+        let MakesPair {
+            rt,
+            hasher,
+            machine,
+            near,
+            make,
+        } = self;
+        let mut within = Within::new(blocks, seat, near);
+        within.makes_pair(rt, hasher, machine, make)
+    }
+}
+
+/// Removes a pair of which a test says yes.
+pub struct RemovesIf<'r, R, K, V, S, F> {
+    pub rt: &'r R,
+    pub hasher: &'r S,
+    pub machine: &'r mut Machine<K, V>,
+    pub near: u64,
+    pub test: &'r F,
+}
+
+impl<'r, R: Wait, K: Eq + Hash + Drop, V: Drop, S: Hashes<K>, F: Fn(&K, &V) -> bool> Errand<
+    Node<K, V>,
+    OfMaps<S>,
+> for RemovesIf<'r, R, K, V, S, F> {
+    type Answer = Ran<K, V>;
+
+    ghost asks = { λ r fixed v. (s : Stage) × MayDo K.eq S.hash removes_if s r.hasher.now r.machine.now v × F.IsAlwaysCallable r.test.now };
+
+    ghost did = { λ r fixed v answer w. HasAnswered K.eq S.hash (TestSays (MayTest F.Fn r.test.now)) (wanted_of r.machine.now) answer.told v w };
+
+    fn run(
+        self,
+        blocks: &Blocks<Node<K, V>, OfMaps<S>>,
+        seat: &mut Seat<Node<K, V>, OfMaps<S>>,
+    ) -> Ran<K, V> {
+        let RemovesIf {
+            rt,
+            hasher,
+            machine,
+            near,
+            test,
+        } = self;
+        let mut within = Within::new(blocks, seat, near);
+        within.removes_if(rt, hasher, machine, test)
     }
 }

@@ -7,6 +7,6 @@ mod memory;
 mod turns;
 mod within;
 
-pub use errands::{Does, Finds, Makes};
+pub use errands::{Does, Finds, Makes, MakesPair, RemovesIf};
 pub use memory::memory_for;
 pub use within::Ran;

@@ -55,3 +55,34 @@ impl<K: Eq, V, S: Hashes<K>> Turn<Fixed, View<K, V, S>> for Stepping {
 
     ghost to = { λ _. turned K.eq S.hash };
 }
+
+/// What a call is told, which is under way.
+pub trait Says<K, V> {
+    ghost use Rattle.papaya_raw.specs.declared.machines.asking.Reply.{Reply};
+    ghost use Rattle.papaya_raw.specs.declared.machines.machine.Machine.{Machine};
+
+    ghost machine: { Machine K V K };
+
+    ghost reply: { Reply V };
+}
+
+impl<K, V> Says<K, V> for Brand {
+    ghost use Rattle.papaya_raw.specs.declared.machines.asking.Reply.TheVariants.{Abort};
+    ghost use Rattle.threads_errands.specs.Asking.{counts_none};
+
+    ghost machine = { counts_none };
+
+    ghost reply = { Abort };
+}
+
+/// A call is told something.
+pub struct Telling<B>(PhantomData<B>);
+
+impl<K, V, S, B: Says<K, V>> Turn<Fixed, View<K, V, S>> for Telling<B> {
+    ghost use Rattle.std.specs.Prelude.{◌≡◌, Some};
+    ghost use Rattle.threads_rule.specs.Views.Begun.{replied};
+    ghost use Rattle.threads_rule.specs.declared.view.Map.{Map};
+    ghost use Rattle.threads_rule.specs.declared.view.Work.TheVariants.{Calls};
+
+    ghost to = { λ _ v w. (v.work ≡ Calls B.machine) × (w ≡ replied v B.machine B.reply) };
+}

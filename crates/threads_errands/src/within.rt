@@ -1,6 +1,7 @@
 //! A seat of maps on an errand, with the memory.
 ghost use Rattle.std.specs.Prelude.{◌≡◌, ◌≢◌, None};
 
+mod asking;
 mod calling;
 mod looking;
 mod making;

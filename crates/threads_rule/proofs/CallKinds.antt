@@ -6,3 +6,4 @@ mod Pairs
 mod Asked
 mod Filled
 pub mod Asking
+pub mod Telling

@@ -1,12 +1,15 @@
 //! A caller is sent to make a map, to look a key up, and to run a call on one key.
-ghost use Rattle.std.specs.Prelude.{◌≡◌, IsSome, Some};
-ghost use Rattle.threads_rule.specs.Errands.Calling.{HasCalled, MayCall, wanted_of};
+ghost use Rattle.std.specs.Prelude.{◌≡◌, IsSome, Some, false};
+ghost use Rattle.std.specs.Fn.{FnOnceReturns};
+ghost use Rattle.threads_errands.specs.Asking.{HasAnswered, MakingSays, MayTest, TestSays, makes_pair as kind_that_makes, removes_if as kind_that_tests};
+ghost use Rattle.threads_rule.specs.Errands.Calling.{HasCalled, MayCall, MayDo, wanted_of};
+ghost use Rattle.threads_rule.specs.CallKinds.Kinds.{Stage};
 ghost use Rattle.threads_rule.specs.Errands.Looking.{HasFound, MayLook};
 ghost use Rattle.threads_rule.specs.Errands.Making.{CameTo, MayBegin};
 ghost use Rattle.threads_rule.specs.Views.Looks.{shown_in};
 ghost use Rattle.threads_rule.specs.Views.Rule.{Holds};
 ghost use Rattle.threads_rule.specs.declared.view.Work.TheVariants.{Nothing as NoWork};
-ghost use Rattle.seize_blocks.specs.Given.SeizeSeatsLendings.{IsValueOf};
+ghost use Rattle.seize_seats.specs.Seats.Lendings.{IsValueOf};
 ghost use Rattle.seize_views.specs.declared.view.View.TheVariants.{Rests};
 
 use crate::caller::Caller;
@@ -16,7 +19,7 @@ use papaya_raw::machines::Machine;
 use seize_words::Fault;
 use std::hash::Hash;
 use std::sync::Wait;
-use threads_errands::{Does, Finds, Makes, Ran};
+use threads_errands::{Does, Finds, Makes, MakesPair, Ran, RemovesIf};
 
 impl<'a, K: Eq + Drop, V: Drop, S: Hashes<K>> Caller<'a, K, V, S> {
     /// Makes a map of no table by this machine, with this hasher, and knows it then. Where no root is free, or memory is refused, there is none, and it knows what it
@@ -60,6 +63,64 @@ impl<'a, K: Eq + Hash + Drop, V: Drop, S: Hashes<K>> Caller<'a, K, V, S> {
                 hasher,
                 machine: &mut machine,
                 near: self.near,
+            },
+        );
+        self.near = ran.near;
+        ran
+    }
+}
+
+impl<'a, K: Eq + Hash + Drop, V: Drop, S: Hashes<K>> Caller<'a, K, V, S> {
+    /// Stores a value that is made where the key is missing.
+    pub fn makes_pair<R: Wait, F: FnOnce() -> V>(
+        &mut self,
+        rt: &R,
+        hasher: &S,
+        machine: Machine<K, V>,
+        make: F,
+    ) -> Ran<K, V>
+        requires may { (s : Stage) × (s.told ≡ false) × MayDo K.eq S.hash kind_that_makes s hasher.now machine self.old.seat.view }
+        requires callable { F.pre make }
+        ensures answered { HasAnswered K.eq S.hash (MakingSays (FnOnceReturns F.FnOnce make tt)) (wanted_of machine) result.told self.old.seat.view self.new.seat.view }
+        ensures blocks { self.new.blocks ≡ self.old.blocks }
+    {
+        let mut machine = machine;
+        let ran = self.blocks.errand(
+            &mut self.seat,
+            MakesPair {
+                rt,
+                hasher,
+                machine: &mut machine,
+                near: self.near,
+                make,
+            },
+        );
+        self.near = ran.near;
+        ran
+    }
+
+    /// Removes the pair of the key, if this test says yes of it.
+    pub fn removes_if<R: Wait, F: Fn(&K, &V) -> bool>(
+        &mut self,
+        rt: &R,
+        hasher: &S,
+        machine: Machine<K, V>,
+        test: &F,
+    ) -> Ran<K, V>
+        requires may { (s : Stage) × MayDo K.eq S.hash kind_that_tests s hasher.now machine self.old.seat.view }
+        requires callable { F.IsAlwaysCallable test.now }
+        ensures answered { HasAnswered K.eq S.hash (TestSays (MayTest F.Fn test.now)) (wanted_of machine) result.told self.old.seat.view self.new.seat.view }
+        ensures blocks { self.new.blocks ≡ self.old.blocks }
+    {
+        let mut machine = machine;
+        let ran = self.blocks.errand(
+            &mut self.seat,
+            RemovesIf {
+                rt,
+                hasher,
+                machine: &mut machine,
+                near: self.near,
+                test,
             },
         );
         self.near = ran.near;

@@ -27,7 +27,7 @@ pub enum Attempt<K, V> {
 }
 
 /// Whether the call's own pair is in the map by this answer.
-fn is_put(answer: &Answer) -> bool
+pub(super) fn is_put(answer: &Answer) -> bool
     ensures { result ≡ puts answer.now }
 {
     matches!(
@@ -37,7 +37,7 @@ fn is_put(answer: &Answer) -> bool
 }
 
 /// Whether a pair was removed.
-fn is_removed(answer: &Answer) -> bool
+pub(super) fn is_removed(answer: &Answer) -> bool
     ensures { result ≡ removes answer.now }
 {
     matches!(answer, Answer::Key(KeyAnswer::Removed(_)))

@@ -2,6 +2,7 @@
 ghost use Rattle.std.specs.Prelude.{◌≡◌, ℕ, true, false, Some, IfNone, IfSome};
 ghost use Rattle.threads_rule.specs.Errands.Calling.{CalledSo, HasCalled, HasEnded, IsBack, IsCalling, IsGoing, IsNoQuestion, IsUnderWay, MachineStores, MayCall, TellsSo, handed_by, outcome_of, wanted_of};
 ghost use Rattle.threads_rule.specs.CallKinds.Kinds.{Kind, Stage};
+ghost use Rattle.threads_errands.specs.Steps.{HasStepped};
 ghost use Rattle.threads_rule.specs.Errands.Looking.{Begins, HasTold, StaysThere};
 ghost use Rattle.threads_errands.specs.Made.{IsSameSeat};
 ghost use Rattle.map_tables.specs.Chunks.{is_incremental};
@@ -61,8 +62,9 @@ impl<'a, K: Eq + Hash + Drop, V: Drop, S: Hashes<K>> Within<'a, K, V, S> {
     }
 
     /// Takes the next step of its call.
-    fn steps(&mut self, machine: &mut Machine<K, V>, hasher: &S) -> Progress<Node<K, V>>
+    pub(super) fn steps(&mut self, machine: &mut Machine<K, V>, hasher: &S) -> Progress<Node<K, V>>
         requires calls { (k : Kind) × (s : Stage) × IsUnderWay k s hasher.now machine.old self.old.seat.now.view }
+        ensures by { HasStepped K.eq S.hash self.old.seat.now.view self.new.seat.now.view }
         ensures told { (k : Kind) (s : Stage) → IsUnderWay k s hasher.now machine.old self.old.seat.now.view → TellsSo k s hasher.now machine.new result self.new.seat.now.view }
         ensures calls { HasTold result self.old.seat.now.view self.new.seat.now.view }
         ensures step { MayCome (machine_plan K.eq K.eq (S.hash hasher.now) machine.old) (machine.new, result) }
@@ -93,7 +95,7 @@ impl<'a, K: Eq + Hash + Drop, V: Drop, S: Hashes<K>> Within<'a, K, V, S> {
     }
 
     /// What its call has come to.
-    fn ran(&self, told: Result<Answer, Fault>, unstored: Option<Node<K, V>>) -> Ran<K, V>
+    pub(super) fn ran(&self, told: Result<Answer, Fault>, unstored: Option<Node<K, V>>) -> Ran<K, V>
         ensures told { result.told ≡ told }
         ensures unstored { result.unstored ≡ unstored }
     {
@@ -135,7 +137,7 @@ impl<'a, K: Eq + Hash + Drop, V: Drop, S: Hashes<K>> Within<'a, K, V, S> {
     }
 
     /// Begins this call on the map that it knows, which is in incremental mode, within its section.
-    fn begins(&mut self, machine: &Machine<K, V>)
+    pub(super) fn begins(&mut self, machine: &Machine<K, V>)
         requires inside { (t : ℕ) × (section_of self.old.seat.now.view.under self.old.seat.now.view.slot ≡ Some t) }
         requires knows { (map : Map S) × (self.old.seat.now.view.map ≡ Some map) × (is_incremental map.setting.mode ≡ true) }
         requires free { self.old.seat.now.view.work ≡ NoWork }

@@ -1,6 +1,6 @@
 -- What is promised of the rule of maps, as lemmas.
 use Rattle.std.specs.Prelude.{ℕ, Bool}
-use Rattle.threads_rule.specs.Views.Promises.{RulesStart, SeatsCome, CallsGoOn, CallsTurn, HeldAreShown, CallsBegin, MapsAreHandedOn, MakingsBegin, MakingsGoOn}
+use Rattle.threads_rule.specs.Views.Promises.{RulesStart, SeatsCome, CallsGoOn, CallsTurn, HeldAreShown, CallsBegin, CallsAreTold, MapsAreHandedOn, MakingsBegin, MakingsGoOn}
 use Rattle.threads_rule.proofs.Views.Starts as starts
 use Rattle.threads_rule.proofs.Views.Calls as calls
 use Rattle.threads_rule.proofs.Views.Held as held
@@ -26,6 +26,9 @@ module _ {K S : Type 0} (V : Type 0) (same : K → K → Bool) (hash : S → K �
 
   pub calls_begin : CallsBegin V same hash
   calls_begin = begins.calls_begin V same hash
+
+  pub calls_are_told : CallsAreTold V same hash
+  calls_are_told = begins.calls_are_told V same hash
 
   pub maps_are_handed_on : MapsAreHandedOn V same hash
   maps_are_handed_on = handing.maps_are_handed_on V same hash

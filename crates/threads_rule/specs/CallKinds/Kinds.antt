@@ -12,7 +12,10 @@ use Rattle.papaya_raw.specs.declared.machines.answer.Missing.TheVariants as miss
 use Rattle.papaya_raw.specs.declared.machines.asking.Asking.TheVariants as asking
 use Rattle.papaya_raw.specs.declared.machines.asking.Gap.{Gap}
 use Rattle.papaya_raw.specs.declared.machines.asking.Replies.{Replies}
+use Rattle.papaya_raw.specs.declared.machines.asking.Reply.{Reply}
+use Rattle.papaya_raw.specs.declared.machines.asking.Reply.TheVariants as reply
 use Rattle.papaya_raw.specs.declared.machines.asking.Takes.{Takes}
+use Rattle.papaya_raw.specs.declared.machines.asking.Takes.TheVariants as takes
 use Rattle.papaya_raw.specs.declared.machines.asking.Told.{Told}
 use Rattle.papaya_raw.specs.declared.machines.asking.Told.TheVariants as tells
 use Rattle.papaya_raw.specs.declared.machines.call.Calling.{Calling}
@@ -120,3 +123,36 @@ module _ {K V Q : Type 0} where
   abbrev pub SaysSo : Kind → Stage → (ℕ → Option (Node K V)) → KeyCall K V Q × Called (Node K V) → Type 0
   SaysSo k s shown (c, Asks pair) = AsksSo k s shown pair c
   SaysSo k s shown (c, told) = GoesOn k s c
+
+-- it takes a value,
+abbrev pub TakesValues : Takes → Type 0
+TakesValues takes.Values = Unit {0}
+TakesValues takes.Changes = Unit {0}
+TakesValues _ = ⊥
+
+-- or that the pair is to be removed, or that nothing is to change,
+abbrev pub TakesChanges : Takes → Type 0
+TakesChanges takes.Changes = Unit {0}
+TakesChanges _ = ⊥
+
+-- or yes and no
+abbrev pub TakesChoices : Takes → Type 0
+TakesChoices takes.Choices = Unit {0}
+TakesChoices _ = ⊥
+
+module _ {V : Type 0} where
+  -- What may be told where it asks, by which replies it takes: a value only once.
+  abbrev pub IsFit : Takes → Bool → Option ℕ → Reply V → Type 0
+  IsFit kind told pair (reply.Insert value) = TakesValues kind × (told ≡ false)
+  IsFit kind told pair reply.Remove = TakesChanges kind
+  IsFit kind told pair reply.Abort = TakesChanges kind
+  IsFit kind told (Some word) reply.Yes = TakesChoices kind
+  IsFit kind told (Some word) reply.No = TakesChoices kind
+  IsFit kind told None reply.Yes = ⊥
+  IsFit kind told None reply.No = ⊥
+
+  -- how far it has come then
+  abbrev pub stage_after : Stage → Option ℕ → Reply V → Stage
+  stage_after s None (reply.Insert value) = record { told = true; gap = true }
+  stage_after s (Some word) (reply.Insert value) = record { told = true; gap = s.gap }
+  stage_after s pair told = s

@@ -4,8 +4,9 @@ use Rattle.threads_rule.specs.declared.view.View.{View}
 use Rattle.seize_callers.proofs.Keeping.{still_kept}
 use Rattle.threads_rule.specs.Errands.Calling.{IsUnderWay}
 use Rattle.threads_rule.specs.Errands.Looking.{HasTold, StaysThere}
+use Rattle.threads_errands.specs.Steps.{HasStepped}
 use Rattle.threads_rule.proofs.Errands.Beginnings.{turned_leans}
-use Rattle.threads_errands.proofs.Calling.{may_call, has_made, has_turned, may_turn, still}
+use Rattle.threads_errands.proofs.Calling.{may_call, has_made, has_turned, may_turn, still, turned_by_it}
 use Rattle.threads_errands.proofs.within.Within.steps.Goals as goal
 
 pub step-told-requires : goal.step-told-requires
@@ -94,3 +95,15 @@ returns-clause-hands g c =
     let is = subst (IsUnderWay c.requires.calls.0 c.requires.calls.1 c.args.hasher.now c.args.machine.now) (sym c.begins_step.ensures.view) c.requires.calls.2 in
     subst (λ (v : View g.row.K.Denot g.row.V.Denot g.row.S.Denot). HandsBack v.calls c.step-told.result) c.begins_step.ensures.view
     (has_turned g.K.PartialEq.eq g.S.Hashes.hash c.requires.calls.0 c.requires.calls.1 c.args.hasher.now c.begins_step.new.self c.args.machine.now is c.step-told.new.memory (c.step-told.new.self, c.step-told.result) c.begins_step.ensures.none c.step-told.ensures c.if-self.false c.turn.new.seat.view c.turn.ensures.goes).4
+
+pub returns-then-self-clause-by : goal.returns-then-self-clause-by
+returns-then-self-clause-by g c =
+    let is = subst (IsUnderWay c.requires.calls.0 c.requires.calls.1 c.args.hasher.now c.args.machine.now) (sym c.begins_step.ensures.view) c.requires.calls.2 in
+    subst (λ (v : View g.row.K.Denot g.row.V.Denot g.row.S.Denot). HasStepped g.K.PartialEq.eq g.S.Hashes.hash v c.step-told.new.memory.seat.now.view) c.begins_step.ensures.view
+    (has_made g.K.PartialEq.eq g.S.Hashes.hash c.requires.calls.0 c.requires.calls.1 c.args.hasher.now c.begins_step.new.self c.args.machine.now is c.step-told.new.memory (c.step-told.new.self, c.step-told.result) c.begins_step.ensures.none c.step-told.ensures c.if-self.true).by
+
+pub returns-clause-by : goal.returns-clause-by
+returns-clause-by g c =
+    let is = subst (IsUnderWay c.requires.calls.0 c.requires.calls.1 c.args.hasher.now c.args.machine.now) (sym c.begins_step.ensures.view) c.requires.calls.2 in
+    subst (λ (v : View g.row.K.Denot g.row.V.Denot g.row.S.Denot). HasStepped g.K.PartialEq.eq g.S.Hashes.hash v c.turn.new.seat.view) c.begins_step.ensures.view
+    (turned_by_it g.K.PartialEq.eq g.S.Hashes.hash c.requires.calls.0 c.requires.calls.1 c.args.hasher.now c.begins_step.new.self c.args.machine.now is c.step-told.new.memory (c.step-told.new.self, c.step-told.result) c.begins_step.ensures.none c.step-told.ensures c.if-self.false c.turn.new.seat.view c.turn.ensures.goes)

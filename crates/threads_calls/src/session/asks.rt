@@ -1,0 +1,95 @@
+//! A session's calls on one key that ask their caller's closure.
+ghost use Rattle.std.specs.Prelude.{◌≡◌, Ok, Err, IfErr, IfOk};
+ghost use Rattle.std.specs.Fn.{FnOnceReturns};
+ghost use Rattle.threads_errands.specs.Asking.{HasAsked, MakingSays, MayTest, TestSays};
+ghost use Rattle.threads_rule.specs.Errands.Calling.{is_put as puts, outcome_of};
+ghost use Rattle.threads_rule.specs.Errands.Looking.{HasRun};
+ghost use Rattle.threads_calls.specs.Answers.{is_removed as removes};
+ghost use Rattle.threads_rule.specs.Given.ActsActs.{RemoveIf, TryToInsertWith};
+ghost use Rattle.papaya_raw.specs.declared.machines.progress.Answer.{Answer as AnAnswer};
+ghost use Rattle.seize_views.specs.declared.view.Has.TheVariants.{Nothing};
+ghost use Rattle.seize_views.specs.declared.view.View.TheVariants.{Inside};
+
+use crate::session::keys::{is_put, is_removed};
+use crate::session::{Session, setting_in};
+use map_tables::Hashes;
+use papaya_raw::machines::{Answer, KeyCall, Machine};
+use seize_words::Fault;
+use std::hash::Hash;
+use std::sync::Wait;
+use threads_errands::Ran;
+
+/// What a call has told last.
+fn told_of<K: Drop, V: Drop>(ran: Ran<K, V>) -> Result<Answer, Fault>
+    ensures { result ≡ ran.told }
+{
+    let Ran {
+        told,
+        unstored,
+        near: _,
+    } = ran;
+    drop(unstored);
+    told
+}
+
+impl<'a, K: Eq + Hash + Drop, V: Drop, S: Hashes<K>> Session<'a, K, V, S> {
+    /// Stores a value that is made within the section of its slot, if its key is not there yet, and answers whether it was stored. The closure is called where the key was
+    /// missing; if another one has stored a pair meanwhile, what it has made is dropped. The faults are `Memory` and `Capacity`: nothing was stored then.
+    pub fn try_insert_with<R: Wait, F: FnOnce() -> V>(
+        &mut self,
+        rt: &R,
+        key: K,
+        make: F,
+    ) -> Result<bool, Fault>
+        requires inside { self.old.caller.seat.view.slot ≡ Inside self.old.slot Nothing }
+        requires callable { F.pre make }
+        ensures inside { self.new.caller.seat.view.slot ≡ Inside self.new.slot Nothing }
+        ensures slot { self.new.slot ≡ self.old.slot }
+        ensures tried { IfOk result (λ stored. (answer : AnAnswer) × HasRun K.eq S.hash (TryToInsertWith key) (outcome_of (Ok answer)) self.old.caller.seat.view self.new.caller.seat.view × (stored ≡ puts answer)) }
+        ensures refused { IfErr result (λ fault. HasRun K.eq S.hash (TryToInsertWith key) (outcome_of (Err fault)) self.old.caller.seat.view self.new.caller.seat.view) }
+        ensures asked { HasAsked K.eq S.hash (MakingSays (FnOnceReturns F.FnOnce make tt)) (TryToInsertWith key) self.old.caller.seat.view self.new.caller.seat.view }
+        ensures map { self.new.caller.seat.view.map ≡ self.old.caller.seat.view.map }
+        ensures blocks { self.new.caller.blocks ≡ self.old.caller.blocks }
+    {
+        let hash = self.hasher.hash_of(&key);
+        let setting = setting_in(self.setting, self.slot);
+        let call = KeyCall::try_insert_with(setting, hash, key);
+        let ran = self
+            .caller
+            .makes_pair(rt, self.hasher, Machine::Key(call), make);
+        match told_of(ran) {
+            Ok(answer) => Ok(is_put(&answer)),
+            Err(fault) => Err(fault),
+        }
+    }
+
+    /// Removes the pair of a key within the section of its slot, if the test says yes of it, and answers whether it has. The test is called again where another pair of the key
+    /// has taken the place of the first. The faults are `Memory` and `Capacity`: no pair was removed then.
+    pub fn remove_if<R: Wait, F: Fn(&K, &V) -> bool>(
+        &mut self,
+        rt: &R,
+        key: K,
+        test: F,
+    ) -> Result<bool, Fault>
+        requires inside { self.old.caller.seat.view.slot ≡ Inside self.old.slot Nothing }
+        requires callable { F.IsAlwaysCallable test }
+        ensures inside { self.new.caller.seat.view.slot ≡ Inside self.new.slot Nothing }
+        ensures slot { self.new.slot ≡ self.old.slot }
+        ensures removed { IfOk result (λ removed. (answer : AnAnswer) × HasRun K.eq S.hash (RemoveIf key) (outcome_of (Ok answer)) self.old.caller.seat.view self.new.caller.seat.view × (removed ≡ removes answer)) }
+        ensures refused { IfErr result (λ fault. HasRun K.eq S.hash (RemoveIf key) (outcome_of (Err fault)) self.old.caller.seat.view self.new.caller.seat.view) }
+        ensures asked { HasAsked K.eq S.hash (TestSays (MayTest F.Fn test)) (RemoveIf key) self.old.caller.seat.view self.new.caller.seat.view }
+        ensures map { self.new.caller.seat.view.map ≡ self.old.caller.seat.view.map }
+        ensures blocks { self.new.caller.blocks ≡ self.old.caller.blocks }
+    {
+        let hash = self.hasher.hash_of(&key);
+        let setting = setting_in(self.setting, self.slot);
+        let call = KeyCall::remove_if(setting, hash, key);
+        let ran = self
+            .caller
+            .removes_if(rt, self.hasher, Machine::Key(call), &test);
+        match told_of(ran) {
+            Ok(answer) => Ok(is_removed(&answer)),
+            Err(fault) => Err(fault),
+        }
+    }
+}

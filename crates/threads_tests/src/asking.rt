@@ -1,0 +1,127 @@
+//! Two threads store what they make where a key is missing, and remove what a test says yes of.
+ghost use Rattle.std.specs.Prelude.{◌≡◌};
+ghost use Rattle.threads_calls.specs.Given.SeizeViewsDeclared.view.Has.TheVariants.{Nothing};
+ghost use Rattle.threads_calls.specs.Given.SeizeViewsDeclared.view.View.TheVariants.{Inside};
+
+use crate::resting::{Hashing, Resting};
+use std::sync::Wait;
+use std::test::Fail;
+use std::thread;
+use threads_calls::{Fixed, Session, memory_for};
+
+/// Batches of 32 blocks, and one root.
+const CHOSEN: Fixed = Fixed {
+    batch_size: 32,
+    roots: 1,
+};
+
+/// How many keys there are.
+const KEYS: u64 = 400;
+
+/// How many of the keys it has stored with this value because they were missing, if none was refused.
+fn stores<R: Wait>(rt: &R, session: &mut Session<'_, u64, u64, Hashing>, value: u64) -> Option<u64>
+    requires { session.old.caller.seat.view.slot ≡ Inside session.old.slot Nothing }
+    ensures { session.new.caller.seat.view.slot ≡ Inside session.new.slot Nothing }
+{
+    let mut stored = 0u64;
+    let mut refused = false;
+    for key in 0..KEYS {
+        match session.try_insert_with(rt, key, || value) {
+            Ok(true) => stored = u64::wrapping_add(stored, 1),
+            Ok(false) => {}
+            Err(_) => refused = true,
+        }
+    }
+    if refused { None } else { Some(stored) }
+}
+
+/// How many pairs of this value it has removed, if none was refused.
+fn removes<R: Wait>(rt: &R, session: &mut Session<'_, u64, u64, Hashing>, value: u64) -> Option<u64>
+    requires { session.old.caller.seat.view.slot ≡ Inside session.old.slot Nothing }
+    ensures { session.new.caller.seat.view.slot ≡ Inside session.new.slot Nothing }
+{
+    let mut removed = 0u64;
+    let mut refused = false;
+    for key in 0..KEYS {
+        match session.remove_if(rt, key, |_, there| *there == value) {
+            Ok(true) => removed = u64::wrapping_add(removed, 1),
+            Ok(false) => {}
+            Err(_) => refused = true,
+        }
+    }
+    if refused { None } else { Some(removed) }
+}
+
+/// Stores this value at each key that is missing, in a section of a slot that it takes.
+fn makes<R: Wait>(rt: &R, resting: Resting<'_>, value: u64) -> Option<u64> {
+    let mut session = resting.session();
+    if session.register().is_err() {
+        return None;
+    }
+    session.enter();
+    let stored = stores(rt, &mut session, value);
+    session.leave();
+    session.unregister();
+    stored
+}
+
+/// Removes the pairs of either value, in a section of a slot that it takes.
+fn sweeps<R: Wait>(rt: &R, resting: Resting<'_>) -> Option<(u64, u64)> {
+    let mut session = resting.session();
+    if session.register().is_err() {
+        return None;
+    }
+    session.enter();
+    let first = removes(rt, &mut session, 1);
+    let second = removes(rt, &mut session, 2);
+    session.leave();
+    session.unregister();
+    Some((first?, second?))
+}
+
+#[test]
+fn a_key_has_the_value_of_one_of_two_that_make_one(rt: HostRuntime) -> Result<(), Fail> {
+    let hashing = Hashing::default();
+    let home = memory_for::<u64, u64, Hashing>(rt.alloc(), 64, &CHOSEN)?;
+    let Ok(mut first) = Session::open(&home.blocks, &hashing, &CHOSEN, 64, 4) else {
+        return Err(Fail::new("no map was made"));
+    };
+    let second = Resting {
+        session: first.session(),
+    };
+    let third = Resting {
+        session: first.session(),
+    };
+    let first = Resting { session: first };
+    let (one, other) = thread::join(&rt, || makes(&rt, first, 1), || makes(&rt, second, 2));
+    let (Some(one), Some(other)) = (one, other) else {
+        return Err(Fail::new("a call was refused"));
+    };
+    assert_eq!(rt; u64::wrapping_add(one, other), KEYS);
+    assert_eq!(rt; sweeps(&rt, third), Some((one, other)));
+    Ok(())
+}
+
+#[test]
+fn a_pair_of_which_two_say_yes_is_removed_once(rt: HostRuntime) -> Result<(), Fail> {
+    let hashing = Hashing::default();
+    let home = memory_for::<u64, u64, Hashing>(rt.alloc(), 64, &CHOSEN)?;
+    let Ok(mut first) = Session::open(&home.blocks, &hashing, &CHOSEN, 64, 4) else {
+        return Err(Fail::new("no map was made"));
+    };
+    let second = Resting {
+        session: first.session(),
+    };
+    let third = Resting {
+        session: first.session(),
+    };
+    let first = Resting { session: first };
+    assert_eq!(rt; makes(&rt, third, 1), Some(KEYS));
+    let (one, other) = thread::join(&rt, || sweeps(&rt, first), || sweeps(&rt, second));
+    let (Some((one, none)), Some((other, neither))) = (one, other) else {
+        return Err(Fail::new("a call was refused"));
+    };
+    assert_eq!(rt; u64::wrapping_add(one, other), KEYS);
+    assert_eq!(rt; (none, neither), (0, 0));
+    Ok(())
+}
