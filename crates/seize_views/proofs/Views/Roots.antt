@@ -120,7 +120,7 @@ module _ {T : Type 0} (defers : T → Option ℕ) (fixed : Fixed) (s : State T (
         in_hand = known;
         hands = λ j c x ne e q. refl;
         sole = λ j c x ne e q p. ne (h.sole j id c x (place had) e at q (carries.hand had ∙ sym still ∙ p));
-        values = λ c some some2. refl;
+        values = λ c its some some2. refl;
         held = λ b c held. held;
         over = λ a c held. refl;
         roots = subst (λ (x : Mem T). RootsNameLinked x w.hand) (sym same) h.roots;
@@ -159,7 +159,7 @@ module _ {T : Type 0} (defers : T → Option ℕ) (fixed : Fixed) (s : State T (
         hands = λ j c x ne e q. with_other w.hand b c (world.InUse a)
             (λ k. ne (h.sole j id b x (place had) e at (q ∙ ap Some k) (carries.hand had ∙ had_it)));
         sole = λ j c x ne e q p. cc p;
-        values = λ c some some2. wrote.values c;
+        values = λ c its some some2. wrote.values c;
         held = λ e c held. held_on e c (Linked b a) w.log tt held;
         over = λ e c held. ap (λ (y : Bool). cond y false (is_over c w.log)) (ne_eqb c b (making_not_held defers fixed.batch_size w r i e b c held mine));
         roots = named;
@@ -237,7 +237,7 @@ module _ {T : Type 0} (defers : T → Option ℕ) (fixed : Fixed) (s : State T (
         in_hand = marked_known defers fixed s t h inside a word m took.0 (block_in word == 0) refl;
         hands = λ j c x ne e q. refl;
         sole = λ j c x ne e q p. ne (h.sole j id c x (place had) e at q (carries.hand had ∙ sym still ∙ p));
-        values = λ c some some2. over.values c;
+        values = λ c its some some2. over.values c;
         held = λ b c held. held;
         over = λ e c held. refl;
         roots = named;

@@ -5,7 +5,7 @@ ghost use Rattle.seize_views.specs.Views.Promises.{RootsAreSeen, RootsAreMarked,
 ghost use Rattle.seize_views.specs.Views.Notes.{StartsAreNoted, ComingsAreNoted, StepsAreNoted, TurnsAreNoted, SettlingsAreNoted, MeetingsAreNoted, LooksAreNoted};
 ghost use Rattle.seize_views.specs.Views.Notes.{WatchesBegin, WatchesEnd, WatchersSee, WatchedAreShown};
 ghost use Rattle.seize_views.specs.Views.Notes.{LeaningsBegin, LeaningsSee, LeaningsEnd, LeaningsKeep, KeptAreThere};
-ghost use Rattle.seize_views.specs.Views.Promises.{OwnAreMade, OwnAreTaken, OwnAreLinked, OwnAreExchanged, OwnAreShown, BorneAreShown, BorneAreHandedOn};
+ghost use Rattle.seize_views.specs.Views.Promises.{OwnAreMade, OwnAreTaken, OwnAreRewritten, OwnAreLinked, OwnAreExchanged, OwnAreShown, BorneAreShown, BorneAreHandedOn};
 ghost use Rattle.seize_views.specs.Views.Values.{ValuesAreFound};
 
 use seize::rows::Defers;
@@ -34,11 +34,12 @@ pub fn sections_go_on<T: Defers>()
     ensures known { KnownAreShown T T.defers }
 {}
 
-/// Without a slot a block may be made, looked at, taken away by its maker, and put at a root, whatever is there or only in place of a word; and one that is
-/// taken from there so may be looked at, and handed on to who has a slot.
+/// Without a slot a block may be made, looked at, taken away by its maker, given another value by him, and put at a root, whatever is there or only in place of
+/// a word; and one that is taken from there so may be looked at, and handed on to who has a slot.
 pub fn blocks_have_seats<T: Defers>()
     ensures made { OwnAreMade T T.defers }
     ensures taken { OwnAreTaken T T.defers }
+    ensures rewritten { OwnAreRewritten T T.defers }
     ensures linked { OwnAreLinked T T.defers }
     ensures exchanged { OwnAreExchanged T T.defers }
     ensures shown { OwnAreShown T T.defers }
