@@ -150,11 +150,10 @@ module _ {T : Type 0} (defers : T → Option ℕ) (fixed : Fixed) (s : State T (
     known j (Inside t (Made b x)) ne e row f =
         made b x (inl (j, Inside t (Made b x), ne, e, refl)) (mo.hands j b (Inside t (Made b x)) ne e refl) f.known
     known j (Inside t (Seen b)) ne e row f = mo.held t b (inside_of s.world t (Seen b) f.slot) f.known
-    known j (Inside t (Both b x a)) ne e row f =
-        (
-          made b x (inl (j, Inside t (Both b x a), ne, e, refl)) (mo.hands j b (Inside t (Both b x a)) ne e refl) f.known.0,
-          mo.held t a (inside_of s.world t (Both b x a) f.slot) f.known.1,
-        )
+    known j (Inside t (Both b x a)) ne e row f = (
+      made b x (inl (j, Inside t (Both b x a), ne, e, refl)) (mo.hands j b (Inside t (Both b x a)) ne e refl) f.known.0,
+      mo.held t a (inside_of s.world t (Both b x a) f.slot) f.known.1,
+    )
     known j (Inside t (Cut b)) ne e row f = (f.known.0, mo.hands j b (Inside t (Cut b)) ne e refl ∙ f.known.1)
     known j (Settles c why None left) ne e row f = tt
     known j (Settles c why (Some seen) left) ne e row f =

@@ -124,4 +124,5 @@ module _ {T : Type 0} (defers : T → Option ℕ) where
   told (Frees t) op out w = w ≡ Rests
   told (Watches t b) (Load (Root r)) (Found word) w = w ≡ Watches t (block_in word)
   told (Under n t b) (Load (Root r)) (Found word) w = w ≡ Under n t (block_in word)
+  told (Under n t b) (Or (Root r) bits) (Found word) w = w ≡ Under n t (block_in word)
   told _ op out w = ⊥

@@ -4,7 +4,7 @@ ghost use Rattle.seize_views.specs.Views.Promises.{BlocksAreMade, MadeAreTaken, 
 ghost use Rattle.seize_views.specs.Views.Promises.{RootsAreSeen, RootsAreMarked, RootsAreCleared, RootsAreWithdrawn};
 ghost use Rattle.seize_views.specs.Views.Notes.{StartsAreNoted, ComingsAreNoted, StepsAreNoted, TurnsAreNoted, SettlingsAreNoted, MeetingsAreNoted, LooksAreNoted};
 ghost use Rattle.seize_views.specs.Views.Notes.{WatchesBegin, WatchesEnd, WatchersSee, WatchedAreShown};
-ghost use Rattle.seize_views.specs.Views.Notes.{LeaningsBegin, LeaningsSee, LeaningsEnd, LeaningsKeep, KeptAreThere};
+ghost use Rattle.seize_views.specs.Views.Notes.{LeaningsBegin, LeaningsSee, LeaningsMark, LeaningsEnd, LeaningsKeep, KeptAreThere};
 ghost use Rattle.seize_views.specs.Views.Promises.{OwnAreMade, OwnAreTaken, OwnAreRewritten, OwnAreLinked, OwnAreExchanged, OwnAreShown, BorneAreShown, BorneAreHandedOn};
 ghost use Rattle.seize_views.specs.Views.Values.{ValuesAreFound};
 
@@ -72,11 +72,12 @@ pub fn sections_are_watched<T: Defers>()
     ensures shown { WatchedAreShown T T.defers }
 {}
 
-/// A seat may begin to lean on one that has a section open, and is lent for that, look at roots, and end; what it has seen that one keeps, and what is kept is
-/// there.
+/// A seat may begin to lean on one that has a section open, and is lent for that, look at roots, mark them, and end; what it has seen that one keeps, and what is
+/// kept is there.
 pub fn sections_are_leaned_on<T: Defers>()
     ensures begin { LeaningsBegin T T.defers }
     ensures see { LeaningsSee T T.defers }
+    ensures mark { LeaningsMark T T.defers }
     ensures end { LeaningsEnd T T.defers }
     ensures keep { LeaningsKeep T T.defers }
     ensures there { KeptAreThere T T.defers }
