@@ -79,6 +79,19 @@ impl<'a, T: Defers> Owned<'a, T> {
         self.caller.brought(self.block)
     }
 
+    /// Gives the block another value, and answers the one before. The new one keeps its list of further values in the same word as that one, or none as that one.
+    pub fn rewrite(&mut self, value: T) -> T
+        requires list { (was : T) → self.old.caller.seat.view.knows ≡ Brings self.old.block was → T.defers value ≡ T.defers was }
+        ensures made { self.new.caller.seat.view.knows ≡ Brings self.new.block value }
+        ensures back { (was : T) → self.old.caller.seat.view.knows ≡ Brings self.old.block was → result ≡ was }
+        ensures block { self.new.block ≡ self.old.block }
+        ensures home { self.new.caller.blocks ≡ self.old.caller.blocks }
+        ensures number { self.new.number ≡ self.old.number }
+        ensures did { self.new.caller.seat.view.did ≡ self.old.caller.seat.view.did }
+    {
+        self.caller.rewrites(self.block, value)
+    }
+
     /// Takes the block away, and answers its value.
     pub fn into_value(self) -> T
         ensures back { (value : T) → self.entry.caller.seat.view.knows ≡ Brings self.entry.block value → result ≡ value }

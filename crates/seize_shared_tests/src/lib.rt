@@ -21,6 +21,8 @@ mod order;
 #[cfg(test)]
 mod passing;
 #[cfg(test)]
+mod rewriting;
+#[cfg(test)]
 mod tagging;
 
 ghost use Rattle.std.specs.Prelude.{None, false};
