@@ -208,6 +208,19 @@ impl<'r, 'a, T: Defers + Drop, R: Receiver<T>> RootGuard<T> for LocalGuard<'r, '
         Ok(registration.stay.protects_by(root, pass))
     }
 
+    fn mark_by<'g>(
+        &'g self,
+        root: u64,
+        marks: u64,
+        pass: &mut Pass<T>,
+    ) -> Result<Option<Protected<'g, T>>, Fault> {
+        let registration = &*self.registration;
+        if registration.number != pass.number() {
+            return Err(Fault::ForeignGuard);
+        }
+        Ok(registration.stay.marks_by(root, marks, pass))
+    }
+
     fn mark(&mut self, root: u64, marks: u64) -> Option<Tagged> {
         let registration = &mut *self.registration;
         registration.stay.marks(root, marks)
@@ -400,6 +413,18 @@ impl<'a, T: Defers + Drop, R: Receiver<T>> RootGuard<T> for OwnedGuard<'a, T, Of
             return Err(Fault::ForeignGuard);
         }
         Ok(self.stay.protects_by(root, pass))
+    }
+
+    fn mark_by<'g>(
+        &'g self,
+        root: u64,
+        marks: u64,
+        pass: &mut Pass<T>,
+    ) -> Result<Option<Protected<'g, T>>, Fault> {
+        if self.number != pass.number() {
+            return Err(Fault::ForeignGuard);
+        }
+        Ok(self.stay.marks_by(root, marks, pass))
     }
 
     fn mark(&mut self, root: u64, marks: u64) -> Option<Tagged> {

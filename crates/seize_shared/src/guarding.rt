@@ -53,7 +53,8 @@ pub trait Guard<T: Defers> {
 
     /// The number of its slot.
     fn thread_id(&self) -> u64
-        ensures { result ≡ slot self.now };
+        ensures slot { result ≡ slot self.now }
+        ensures few { result < 65536 };
 
     /// Ends the section and begins the next one. A value that is reclaimed is dropped.
     fn refresh(&mut self)
@@ -130,6 +131,25 @@ pub trait RootGuard<T: Defers>: Guard<T> {
         ensures seen { IfSome result (λ tagged. Self.seen self.new ≡ block_in tagged.word) }
         ensures none { IfNone result (Self.seen self.new ≡ 0) }
         ensures there { Self.inside self.old ≡ true → root < (Self.home self.old).roots → IsSome result };
+
+    /// A pass sets marks of the word at a root, of which three bits count, and answers which word was there: the section holds the block to which that links, whose
+    /// value is lent for as long as the guard is borrowed. There is no answer where there is no such root, or the section is not open. A pass of another collector is
+    /// `Fault::ForeignGuard`: nothing changes, and it is as it was.
+    fn mark_by<'g>(
+        &'g self,
+        root: u64,
+        marks: u64,
+        pass: &mut Pass<T>,
+    ) -> Result<Option<Protected<'g, T>>, Fault>
+        requires source { OneSource pass.old.number pass.old.pass.seat.base (Self.home self.now) }
+        ensures memory { pass.new.pass.seat.base ≡ pass.old.pass.seat.base }
+        ensures number { pass.new.number ≡ pass.old.number }
+        ensures foreign { IfErr result (λ fault. (fault ≡ ForeignGuard) × (pass.old.number ≢ (Self.home self.now).number) × (pass.new ≡ pass.old)) }
+        ensures own { IfOk result (λ _. pass.old.number ≡ (Self.home self.now).number) }
+        ensures marked { IfOk result (λ found. IfSome found (λ found. pass.new.pass.seat.view.did ≡ Marked root (marks % 8) found.tagged.word)) }
+        ensures lent { IfOk result (λ found. IfSome found (λ found. IfSome found.value (λ value. lends self.now (block_in found.tagged.word) value.now))) }
+        ensures none { IfOk result (λ found. IfSome found (λ found. IfNone found.value (block_in found.tagged.word ≡ 0))) }
+        ensures there { IfOk result (λ found. Self.inside self.now ≡ true → root < (Self.home self.now).roots → IsSome found) };
 
     /// The value that it has seen, if it has seen one since it began, or was refreshed.
     fn value(&self) -> Option<&T>
