@@ -78,7 +78,7 @@ impl<T: Defers> Pass<T> {
             (block_in result.tagged.word) value.now) }
         ensures none { IfNone result.value (block_in result.tagged.word ≡ 0) }
     {
-        let (word, value) = caller.mark_by(slot, root, marks % 8, &mut self.pass);
-        Protected::of(Tagged::of(word), value)
+        let (before, value) = caller.mark_by(slot, root, marks % 8, &mut self.pass);
+        Protected::of(Tagged::of(before), value)
     }
 }

@@ -17,6 +17,8 @@ mod leaving;
 #[cfg(test)]
 mod lists;
 #[cfg(test)]
+mod marking;
+#[cfg(test)]
 mod order;
 #[cfg(test)]
 mod passing;
