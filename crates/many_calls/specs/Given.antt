@@ -59,7 +59,6 @@ pub use Rattle.map_facts_late.specs.Given.RuleMoments
 pub use Rattle.map_facts_late.specs.Given.RuleMoves
 pub use Rattle.map_facts_late.specs.Given.RuleRule
 pub use Rattle.map_facts_late.specs.Given.RuleWords
-pub use Rattle.map_facts_late.specs.Given.SweepsDeclared
 pub use Rattle.map_facts_late.specs.Given.SweepsSweep
 pub use Rattle.map_facts_late.specs.Given.SweepsSweepPoints
 pub use Rattle.map_facts_late.specs.Given.TablesChunks

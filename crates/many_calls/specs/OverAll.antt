@@ -6,11 +6,11 @@ use Rattle.map_facts_late.specs.Given.TablesDeclared.setting.Setting.{Setting}
 use Rattle.map_facts_late.specs.Given.ResizeDeclared.copier.Copying.TheVariants as copies
 use Rattle.map_facts_late.specs.Given.ResizeDeclared.dispose.Disposing.TheVariants as disposes
 use Rattle.map_facts_late.specs.Given.SweepsSweepPoints.{standing, sweeping, after_reply}
-use Rattle.map_facts_late.specs.Given.SweepsDeclared.sweep.Purpose.{Purpose}
-use Rattle.map_facts_late.specs.Given.SweepsDeclared.sweep.Purpose.TheVariants.{Clears, Retains}
-use Rattle.map_facts_late.specs.Given.SweepsDeclared.sweep.Sweep.{Sweep}
-use Rattle.map_facts_late.specs.Given.SweepsDeclared.sweep.Sweeping.{Sweeping}
-use Rattle.map_facts_late.specs.Given.SweepsDeclared.sweep.Sweeping.TheVariants as at
+use Rattle.map_facts_late.specs.Given.ReservesDeclared.sweep.Purpose.{Purpose}
+use Rattle.map_facts_late.specs.Given.ReservesDeclared.sweep.Purpose.TheVariants.{Clears, Retains}
+use Rattle.map_facts_late.specs.Given.ReservesDeclared.sweep.Sweep.{Sweep}
+use Rattle.map_facts_late.specs.Given.ReservesDeclared.sweep.Sweeping.{Sweeping}
+use Rattle.map_facts_late.specs.Given.ReservesDeclared.sweep.Sweeping.TheVariants as at
 use Rattle.map_facts_late.specs.Given.RuleChart.{Chart, put}
 use Rattle.map_facts_late.specs.Given.RuleWords.{Blocks}
 use Rattle.map_facts_late.specs.Covers.{NamesPair}

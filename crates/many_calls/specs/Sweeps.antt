@@ -9,11 +9,11 @@ use Rattle.map_facts_late.specs.Given.TablesDeclared.node.Node.{Node}
 use Rattle.map_facts_late.specs.Given.TablesDeclared.setting.Setting.{Setting}
 use Rattle.map_facts_late.specs.Given.SweepsSweep.{sweep_plan}
 use Rattle.map_facts_late.specs.Given.SweepsSweepPoints.{after_next}
-use Rattle.map_facts_late.specs.Given.SweepsDeclared.sweep.Purpose.{Purpose}
-use Rattle.map_facts_late.specs.Given.SweepsDeclared.sweep.Sweep.{Sweep}
-use Rattle.map_facts_late.specs.Given.SweepsDeclared.sweep.Sweeping.TheVariants as at
-use Rattle.map_facts_late.specs.Given.SweepsDeclared.sweep.Swept.{Swept}
-use Rattle.map_facts_late.specs.Given.SweepsDeclared.sweep.Swept.TheVariants as swept
+use Rattle.map_facts_late.specs.Given.ReservesDeclared.sweep.Purpose.{Purpose}
+use Rattle.map_facts_late.specs.Given.ReservesDeclared.sweep.Sweep.{Sweep}
+use Rattle.map_facts_late.specs.Given.ReservesDeclared.sweep.Sweeping.TheVariants as at
+use Rattle.map_facts_late.specs.Given.ReservesDeclared.sweep.Swept.{Swept}
+use Rattle.map_facts_late.specs.Given.ReservesDeclared.sweep.Swept.TheVariants as swept
 use Rattle.map_facts_late.specs.Given.RuleChart.{Chart}
 use Rattle.map_facts_late.specs.Given.RuleWords.{Blocks}
 use Rattle.map_facts_late.specs.Given.RuleInWorld.{Went}

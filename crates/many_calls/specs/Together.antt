@@ -42,9 +42,9 @@ use Rattle.many_calls.specs.Pairs.{Given, Begun, IsTold, kind_of, and_told, Asks
 use Rattle.many_calls.specs.Rows.{row_of, once_over, LeavesSlots}
 use Rattle.many_calls.specs.Rooms.{CallForRoom, row_of_room, room_once_over, RoomClaims}
 use Rattle.many_calls.specs.OverAll.{CallOverAll, row_of_sweep, sweep_once_over, SweepClaims, TriesTold}
-use Rattle.map_facts_late.specs.Given.SweepsDeclared.sweep.Sweep.{Sweep}
-use Rattle.map_facts_late.specs.Given.SweepsDeclared.sweep.Swept.{Swept}
-use Rattle.map_facts_late.specs.Given.SweepsDeclared.sweep.Swept.TheVariants as swept
+use Rattle.map_facts_late.specs.Given.ReservesDeclared.sweep.Sweep.{Sweep}
+use Rattle.map_facts_late.specs.Given.ReservesDeclared.sweep.Swept.{Swept}
+use Rattle.map_facts_late.specs.Given.ReservesDeclared.sweep.Swept.TheVariants as swept
 use Rattle.map_facts_late.specs.Covers.{CoversAt}
 use Rattle.map_facts_late.specs.FactsSweeps.{SweepFacts}
 use Rattle.map_facts_late.specs.ToldSweeps.{IsRowOfSweep}

@@ -9,9 +9,9 @@ use Rattle.many_calls.specs.Given.TablesDeclared.node.Node.{Node}
 use Rattle.many_calls.specs.Given.ResizeDeclared.outcome.Outcome.{Outcome}
 use Rattle.many_calls.specs.Given.ResizeDeclared.sum.Sum.{Sum}
 use Rattle.many_calls.specs.Given.ReservesDeclared.reserve.Reserve.{Reserve}
-use Rattle.many_calls.specs.Given.SweepsDeclared.sweep.Sweep.{Sweep}
-use Rattle.many_calls.specs.Given.SweepsDeclared.sweep.Sweeping.TheVariants as sweeping
-use Rattle.many_calls.specs.Given.SweepsDeclared.sweep.Swept.{Swept}
+use Rattle.many_calls.specs.Given.ReservesDeclared.sweep.Sweep.{Sweep}
+use Rattle.many_calls.specs.Given.ReservesDeclared.sweep.Sweeping.TheVariants as sweeping
+use Rattle.many_calls.specs.Given.ReservesDeclared.sweep.Swept.{Swept}
 use Rattle.many_calls.specs.Given.RawMachine.{machine_plan, machine_replied, machine_asked}
 use Rattle.many_calls.specs.Given.RawProgress.{of_called, of_outcome, of_swept, of_counting}
 use Rattle.many_calls.specs.Given.RawDeclared.machines.answer.Called.{Called}

@@ -6,10 +6,10 @@ use Rattle.many_calls.specs.Given.SeizeWorld.{World, Rests, IsInside, with_at}
 use Rattle.many_calls.specs.Given.TablesChunks.{is_incremental}
 use Rattle.many_calls.specs.Given.TablesDeclared.node.Node.{Node}
 use Rattle.many_calls.specs.Given.SweepsSweep.{sweep_plan}
-use Rattle.many_calls.specs.Given.SweepsDeclared.sweep.Purpose.{Purpose}
-use Rattle.many_calls.specs.Given.SweepsDeclared.sweep.Sweep.{Sweep}
-use Rattle.many_calls.specs.Given.SweepsDeclared.sweep.Sweeping.TheVariants as at
-use Rattle.many_calls.specs.Given.SweepsDeclared.sweep.Swept.{Swept}
+use Rattle.many_calls.specs.Given.ReservesDeclared.sweep.Purpose.{Purpose}
+use Rattle.many_calls.specs.Given.ReservesDeclared.sweep.Sweep.{Sweep}
+use Rattle.many_calls.specs.Given.ReservesDeclared.sweep.Sweeping.TheVariants as at
+use Rattle.many_calls.specs.Given.ReservesDeclared.sweep.Swept.{Swept}
 use Rattle.many_calls.specs.Given.LateToldSweeps.{IsRowOfSweep}
 use Rattle.many_calls.specs.Claims.{AreFew}
 use Rattle.many_calls.specs.OverAll.{CallOverAll, begun_over_all, gone_on, come_to}

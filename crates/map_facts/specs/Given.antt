@@ -42,7 +42,6 @@ pub use Rattle.papaya_raw.specs.Given.SeizeDeclared
 pub use Rattle.papaya_raw.specs.Given.SeizeDefer
 pub use Rattle.papaya_raw.specs.Given.SeizeSettle
 pub use Rattle.papaya_raw.specs.Given.SeizeWorld
-pub use Rattle.papaya_raw.specs.Given.SweepsDeclared
 pub use Rattle.papaya_raw.specs.Given.SweepsSweep
 pub use Rattle.papaya_raw.specs.Given.SweepsSweepPoints
 pub use Rattle.papaya_raw.specs.Given.TablesChunks

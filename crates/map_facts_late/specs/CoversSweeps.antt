@@ -9,11 +9,11 @@ use Rattle.map_facts.specs.Given.TablesDeclared.node.Node.{Node}
 use Rattle.map_facts.specs.Given.TablesDeclared.setting.Setting.{Setting}
 use Rattle.map_facts.specs.Given.SweepsSweep.{sweep_plan}
 use Rattle.map_facts.specs.Given.SweepsSweepPoints.{after_next, after_reply}
-use Rattle.map_facts.specs.Given.SweepsDeclared.sweep.Sweep.{Sweep}
-use Rattle.map_facts.specs.Given.SweepsDeclared.sweep.Sweeping.{Sweeping}
-use Rattle.map_facts.specs.Given.SweepsDeclared.sweep.Sweeping.TheVariants as at
-use Rattle.map_facts.specs.Given.SweepsDeclared.sweep.Swept.{Swept}
-use Rattle.map_facts.specs.Given.SweepsDeclared.sweep.Swept.TheVariants.{Pair}
+use Rattle.map_facts.specs.Given.ReservesDeclared.sweep.Sweep.{Sweep}
+use Rattle.map_facts.specs.Given.ReservesDeclared.sweep.Sweeping.{Sweeping}
+use Rattle.map_facts.specs.Given.ReservesDeclared.sweep.Sweeping.TheVariants as at
+use Rattle.map_facts.specs.Given.ReservesDeclared.sweep.Swept.{Swept}
+use Rattle.map_facts.specs.Given.ReservesDeclared.sweep.Swept.TheVariants.{Pair}
 use Rattle.map_facts.specs.Given.RuleChart.{Chart}
 use Rattle.map_facts.specs.Given.RuleWords.{Blocks}
 use Rattle.map_facts.specs.Given.RuleMoments.{Moments}

@@ -23,8 +23,8 @@ use Rattle.map_facts.specs.Given.ReservesDeclared.reserve.Reserving.{Reserving}
 use Rattle.map_facts.specs.Given.ReservesDeclared.reserve.Reserving.TheVariants as reserves
 use Rattle.map_facts.specs.Given.RawDeclared.machines.call.Calling.{Calling}
 use Rattle.map_facts.specs.Given.RawDeclared.machines.call.Calling.TheVariants as calls
-use Rattle.map_facts.specs.Given.SweepsDeclared.sweep.Sweeping.{Sweeping}
-use Rattle.map_facts.specs.Given.SweepsDeclared.sweep.Sweeping.TheVariants as sweeps
+use Rattle.map_facts.specs.Given.ReservesDeclared.sweep.Sweeping.{Sweeping}
+use Rattle.map_facts.specs.Given.ReservesDeclared.sweep.Sweeping.TheVariants as sweeps
 
 module _ (Is : Fault → Type 0) (Last : Table → Reason → Type 0) where
   -- where none can be made after one of these tables, the fault is such a one

@@ -44,7 +44,6 @@ pub use Rattle.map_facts.specs.Given.RuleMoments
 pub use Rattle.map_facts.specs.Given.RuleMoves
 pub use Rattle.map_facts.specs.Given.RuleRule
 pub use Rattle.map_facts.specs.Given.RuleWords
-pub use Rattle.map_facts.specs.Given.SweepsDeclared
 pub use Rattle.map_facts.specs.Given.SweepsSweep
 pub use Rattle.map_facts.specs.Given.SweepsSweepPoints
 pub use Rattle.map_facts.specs.Given.TablesChunks

@@ -4,7 +4,7 @@ use Rattle.map_facts.specs.Given.SeizeWorld.{World}
 use Rattle.map_facts.specs.Given.TablesChunks.{is_incremental}
 use Rattle.map_facts.specs.Given.TablesDeclared.node.Node.{Node}
 use Rattle.map_facts.specs.Given.TablesDeclared.setting.Setting.{Setting}
-use Rattle.map_facts.specs.Given.SweepsDeclared.sweep.Sweep.{Sweep}
+use Rattle.map_facts.specs.Given.ReservesDeclared.sweep.Sweep.{Sweep}
 use Rattle.map_facts.specs.Given.RuleChart.{Chart}
 use Rattle.map_facts.specs.Given.RuleWords.{Blocks}
 use Rattle.map_facts.specs.Given.RuleMoments.{Moments}

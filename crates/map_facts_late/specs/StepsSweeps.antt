@@ -9,9 +9,9 @@ use Rattle.map_facts.specs.Given.TablesDeclared.node.Node.{Node}
 use Rattle.map_facts.specs.Given.TablesDeclared.setting.Setting.{Setting}
 use Rattle.map_facts.specs.Given.SweepsSweep.{sweep_plan}
 use Rattle.map_facts.specs.Given.SweepsSweepPoints.{sweeping, after_next, after_reply}
-use Rattle.map_facts.specs.Given.SweepsDeclared.sweep.Purpose.{Purpose}
-use Rattle.map_facts.specs.Given.SweepsDeclared.sweep.Sweep.{Sweep}
-use Rattle.map_facts.specs.Given.SweepsDeclared.sweep.Swept.{Swept}
+use Rattle.map_facts.specs.Given.ReservesDeclared.sweep.Purpose.{Purpose}
+use Rattle.map_facts.specs.Given.ReservesDeclared.sweep.Sweep.{Sweep}
+use Rattle.map_facts.specs.Given.ReservesDeclared.sweep.Swept.{Swept}
 use Rattle.map_facts.specs.Given.RuleChart.{Chart}
 use Rattle.map_facts.specs.Given.RuleWords.{Blocks}
 use Rattle.map_facts.specs.Given.RuleMoments.{Moments}

@@ -1,7 +1,7 @@
 //! Sweeps that remove pairs from one owner's map, run to their ends.
 ghost use Rattle.std.specs.Prelude.{◌≡◌, List, [], IfErr, OnOk, OnErr, length};
 ghost use Rattle.owner_whole.specs.Given.LateFaults.{IsRoom};
-ghost use Rattle.papaya_raw.specs.Given.SweepsDeclared.sweep.Purpose.TheVariants.{Clears, Retains};
+ghost use Rattle.papaya_raw.specs.Given.ReservesDeclared.sweep.Purpose.TheVariants.{Clears, Retains};
 ghost use Rattle.map_straight.specs.Shown.Chain.{CannotGrowIn};
 ghost use Rattle.owner_calls.specs.Owned.Owned.{Holds};
 ghost use Rattle.owner_calls.specs.Sifts.Retaining.{KeepsOf};

@@ -5,7 +5,7 @@ ghost use Rattle.map_straight.specs.Shown.Chain.{CannotGrowIn};
 ghost use Rattle.owner_calls.specs.Holds.Held.{HoldsOn, held_in};
 ghost use Rattle.owner_calls.specs.Owned.Owned.{Holds, hashed_by};
 ghost use Rattle.owner_calls.specs.Sifts.Retaining.{KeepsOf};
-ghost use Rattle.papaya_raw.specs.Given.SweepsDeclared.sweep.Purpose.TheVariants.{Clears, Retains};
+ghost use Rattle.papaya_raw.specs.Given.ReservesDeclared.sweep.Purpose.TheVariants.{Clears, Retains};
 ghost use Rattle.owner_rests.specs.Rests.Refreshed.{OnceRefreshed};
 ghost use Rattle.owner_calls.specs.Sifts.Sweeping.{HasSwept};
 ghost use Rattle.owner_asks.specs.Steady.Steady.{HasOneTable};

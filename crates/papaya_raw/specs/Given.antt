@@ -14,9 +14,7 @@ pub use Rattle.map_sweeps.specs.Reserves.Reserve as ReservesReserve
 pub use Rattle.map_sweeps.specs.Sweeps.Sweep as SweepsSweep
 pub use Rattle.map_sweeps.specs.Sweeps.SweepPoints as SweepsSweepPoints
 pub use Rattle.map_sweeps.specs.contracts as ReservesContracts
-pub use Rattle.map_sweeps.specs.contracts as SweepsContracts
 pub use Rattle.map_sweeps.specs.declared as ReservesDeclared
-pub use Rattle.map_sweeps.specs.declared as SweepsDeclared
 pub use Rattle.map_tables.specs.Chunks as TablesChunks
 pub use Rattle.map_tables.specs.Counts as TablesCounts
 pub use Rattle.map_tables.specs.Finding as TablesFinding

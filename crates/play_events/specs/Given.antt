@@ -41,7 +41,6 @@ pub use Rattle.play_stepping.specs.Given.GrowsTries
 pub use Rattle.play_stepping.specs.Given.HandsAsked
 pub use Rattle.play_stepping.specs.Given.LateFaults
 pub use Rattle.play_stepping.specs.Given.MomentsNumbers
-pub use Rattle.play_stepping.specs.Given.NamedDeclared
 pub use Rattle.play_stepping.specs.Given.NamedMachines
 pub use Rattle.play_stepping.specs.Given.NamedPlaces
 pub use Rattle.play_stepping.specs.Given.NamedRoll

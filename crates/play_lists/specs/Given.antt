@@ -72,7 +72,6 @@ pub use Rattle.run_logged.specs.Given.PromisesSheltered
 pub use Rattle.run_logged.specs.Given.RemainsNumbered
 pub use Rattle.run_logged.specs.Given.SettlesCounts
 pub use Rattle.run_logged.specs.Given.ShardsAdds
-pub use Rattle.run_logged.specs.Given.TellerDeclared
 pub use Rattle.run_logged.specs.Given.TellerTells
 pub use Rattle.run_logged.specs.Given.TellsSeen
 pub use Rattle.run_logged.specs.Given.ValuesValues

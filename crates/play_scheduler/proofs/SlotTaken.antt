@@ -10,8 +10,8 @@ use Rattle.seize.specs.declared.rows.register.Registering.TheVariants as at
 use Rattle.run_shows.proofs.Given.SeizeSetsSlots.Registers.{NoneOnVacant, WhyRefused}
 use Rattle.seize.specs.Sequence.{new_slot}
 use Rattle.papaya_raw.specs.Given.TablesDeclared.node.Node.{Node}
-use Rattle.run_logged.specs.Given.TellerDeclared.changed.Changed.{Changed}
-use Rattle.run_logged.specs.Given.TellerDeclared.changed.Changed.TheVariants as changed
+use Rattle.run_logged.specs.Given.EffectsDeclared.changed.Changed.{Changed}
+use Rattle.run_logged.specs.Given.EffectsDeclared.changed.Changed.TheVariants as changed
 use Rattle.run_schedules.specs.Runs.Present.{Present}
 use Rattle.run_schedules.specs.declared.effect.Effect.{Effect}
 use Rattle.run_schedules.specs.declared.effect.Effect.TheVariants.{Asked}

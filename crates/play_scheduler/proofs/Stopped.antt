@@ -8,7 +8,7 @@ use Rattle.seize.specs.World.{Rests}
 use Rattle.papaya_raw.specs.Machine.{is_ready as sweep_is_ready, machine_asked}
 use Rattle.papaya_raw.specs.declared.machines.machine.Machine.{Machine}
 use Rattle.papaya_raw.specs.declared.machines.machine.Machine.TheVariants as kinds
-use Rattle.papaya_raw.specs.Given.SweepsDeclared.sweep.Sweeping.{Sweeping}
+use Rattle.papaya_raw.specs.Given.ReservesDeclared.sweep.Sweeping.{Sweeping}
 use Rattle.run_schedules.specs.Runs.Same.{is_same}
 use Rattle.run_schedules.specs.declared.event.Event.TheVariants.{Stop}
 use Rattle.run_schedules.specs.declared.outcome.Outcome.TheVariants.{Done, Refused}
@@ -22,7 +22,7 @@ use Rattle.run_schedules.specs.Schedules.Views.{call_of}
 use Rattle.run_shows.specs.Given.CallersSights.{seen_by}
 use Rattle.run_shows.specs.Given.CallersTogether.{UnderWay, OnKey, ForRoom, Counting, OverAll, Together, Stands as TogetherStands}
 use Rattle.run_shows.specs.Given.LateToldSweeps.{IsRowOfSweep}
-use Rattle.papaya_raw.specs.Given.SweepsDeclared.sweep.Sweeping.TheVariants as sweeping
+use Rattle.papaya_raw.specs.Given.ReservesDeclared.sweep.Sweeping.TheVariants as sweeping
 use Rattle.run_shows.proofs.Given.CallersTogether.At.{at_other, at_same}
 use Rattle.run_shows.specs.Given.FinishesMachines.{machine_of}
 use Rattle.run_shows.specs.Given.FinishesMaps.{Standing, with_call as with_call_of}

@@ -27,7 +27,7 @@ pub use Rattle.papaya_raw.specs.Given.ResizeCopier
 pub use Rattle.papaya_raw.specs.Given.ResizeCopierStates
 pub use Rattle.papaya_raw.specs.Given.ResizeDispose
 pub use Rattle.papaya_raw.specs.Given.ResizeLookup
-pub use Rattle.papaya_raw.specs.Given.SweepsDeclared
+pub use Rattle.papaya_raw.specs.Given.ReservesDeclared
 pub use Rattle.papaya_raw.specs.Given.SweepsSweep
 pub use Rattle.papaya_raw.specs.Given.SweepsSweepPoints
 pub use Rattle.papaya_raw.specs.Machine as RawMachine
@@ -68,7 +68,6 @@ pub use Rattle.run_executor.specs.Named.Telling as NamedTelling
 pub use Rattle.run_executor.specs.ReclaimsAll.Reclaiming as ReclaimingReclaiming
 pub use Rattle.run_executor.specs.contracts as ExecutorContracts
 pub use Rattle.run_executor.specs.declared as ExecutorDeclared
-pub use Rattle.run_executor.specs.declared as NamedDeclared
 pub use Rattle.run_grows.specs.Given.PurposesKept
 pub use Rattle.run_grows.specs.Given.PurposesPurposes
 pub use Rattle.run_grows.specs.Given.PurposesShards

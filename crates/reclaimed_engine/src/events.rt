@@ -2,7 +2,7 @@
 ghost use Rattle.std.specs.Prelude.{◌≡◌, ◌++◌, codes, OnOk};
 ghost use Rattle.std.specs.Fmt.{decimal};
 ghost use Rattle.std.specs.List.{flat_map, zip};
-ghost use Rattle.reclaimed_engine.specs.Text.Text.{answer_line, asks_line, back_line, back_lines, event_lines, line, numbered, outcome_line, refused_line, shape_line, table_shape};
+ghost use Rattle.reclaimed_engine.specs.PrintedText.Text.{answer_line, asks_line, back_line, back_lines, event_lines, line, numbered, outcome_line, refused_line, shape_line, table_shape};
 
 use crate::pieces::append_numbered;
 use run_schedules::call::Answer;
@@ -15,7 +15,7 @@ use seize_words::Fault;
 use std::alloc::{AllocError, Global};
 
 /// Appends the line of an event that was refused.
-#[tactic(auto, using(crate::proofs::Text::Spelling::refused_line_parts))]
+#[tactic(auto, using(crate::proofs::PrintedText::Spelling::refused_line_parts))]
 fn append_refused_line(alloc: Global, out: &mut Vec<u8>, fault: Fault) -> Result<(), AllocError>
     ensures { OnOk result (out.new.items ≡ out.old.items ++ refused_line fault) }
 {

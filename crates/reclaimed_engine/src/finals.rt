@@ -2,9 +2,9 @@
 ghost use Rattle.std.specs.Prelude.{◌≡◌, ◌++◌, map, OnOk, IfOk};
 ghost use Rattle.std.specs.List.Sorted.{IsNonDecreasingBy, IsPermutation};
 ghost use Rattle.std.specs.List.{flat_map, filter_map};
-ghost use Rattle.reclaimed_engine.specs.Text.Ascending.{ascending};
+ghost use Rattle.reclaimed_engine.specs.PrintedText.Ascending.{ascending};
 ghost use Rattle.run_schedules.specs.Schedules.Runs.{pair_of};
-ghost use Rattle.reclaimed_engine.specs.Text.Text.{by_name, entry, final_lines, map_line, name_number, tag, waiting_line};
+ghost use Rattle.reclaimed_engine.specs.PrintedText.Text.{by_name, entry, final_lines, map_line, name_number, tag, waiting_line};
 
 use crate::pieces::{append_entry, append_tag, pair_of};
 use run_schedules::ended::{Living, Pair};

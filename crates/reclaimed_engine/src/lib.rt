@@ -8,7 +8,7 @@ mod pieces;
 mod text;
 
 ghost use Rattle.reclaimed_engine.specs.Lines.Engine.{stop_line, EndsWith, IsTextFor, TellsFailure};
-ghost use Rattle.reclaimed_engine.specs.Text.Output.{has_failed, writer_of, Writes};
+ghost use Rattle.reclaimed_engine.specs.PrintedText.Output.{has_failed, writer_of, Writes};
 ghost use Rattle.std.specs.Io.KnownBytes.{Keeps, Appends};
 ghost use Rattle.std.specs.Prelude.{◌≡◌, false, IfOk, IfErr, OnErr, IfSome};
 

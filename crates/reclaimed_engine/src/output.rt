@@ -1,7 +1,7 @@
 //! A writer that knows whether a write to it has failed.
 ghost use Rattle.std.specs.Prelude.{◌≡◌, false};
 ghost use Rattle.std.specs.Io.KnownBytes.{Appends};
-ghost use Rattle.reclaimed_engine.specs.Text.Output.{has_failed, writer_of, Writes};
+ghost use Rattle.reclaimed_engine.specs.PrintedText.Output.{has_failed, writer_of, Writes};
 
 use std::io::Write;
 

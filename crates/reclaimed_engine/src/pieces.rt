@@ -2,7 +2,7 @@
 ghost use Rattle.std.specs.Prelude.{◌≡◌, ◌++◌, OnOk};
 ghost use Rattle.std.specs.Option.{option_copied};
 ghost use Rattle.run_schedules.specs.Schedules.Runs.{pair_of};
-ghost use Rattle.reclaimed_engine.specs.Text.Text.{entry, numbered, tag};
+ghost use Rattle.reclaimed_engine.specs.PrintedText.Text.{entry, numbered, tag};
 
 use run_schedules::ended::Pair;
 use run_schedules::record::Run;

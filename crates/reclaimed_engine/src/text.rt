@@ -1,6 +1,6 @@
 //! What is printed: the lines of a finished run, or the one line for a schedule that cannot be read.
 ghost use Rattle.std.specs.Prelude.{◌≡◌, IfOk};
-ghost use Rattle.reclaimed_engine.specs.Text.Text as spelled;
+ghost use Rattle.reclaimed_engine.specs.PrintedText.Text as spelled;
 
 use crate::events::append_events;
 use crate::finals::append_final_lines;
@@ -20,7 +20,7 @@ pub fn text_of(alloc: Global, run: &Run<u64, Token>) -> Result<Vec<u8>, AllocErr
 
 /// The one line that is printed for a schedule that cannot be read: the number of its line, and
 /// why.
-#[tactic(auto, using(crate::proofs::Text::Spelling::fault_line_parts))]
+#[tactic(auto, using(crate::proofs::PrintedText::Spelling::fault_line_parts))]
 pub fn fault_line(alloc: Global, number: u64, text: &str) -> Result<Vec<u8>, AllocError>
     ensures { IfOk result (λ line. line.items ≡ spelled.fault_line number text.now) }
 {

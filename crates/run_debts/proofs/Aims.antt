@@ -54,9 +54,9 @@ use Rattle.run_places.specs.Given.ReservesDeclared.reserve.Reserving.{Reserving}
 use Rattle.run_places.specs.Given.ReservesDeclared.reserve.Reserving.TheVariants as reserving
 use Rattle.run_places.specs.Given.SweepsSweep.{sweep_plan}
 use Rattle.run_places.specs.Given.SweepsSweep as sweeps
-use Rattle.run_places.specs.Given.SweepsDeclared.sweep.Sweep.{Sweep}
-use Rattle.run_places.specs.Given.SweepsDeclared.sweep.Sweeping.{Sweeping}
-use Rattle.run_places.specs.Given.SweepsDeclared.sweep.Sweeping.TheVariants as sweeping
+use Rattle.run_places.specs.Given.ReservesDeclared.sweep.Sweep.{Sweep}
+use Rattle.run_places.specs.Given.ReservesDeclared.sweep.Sweeping.{Sweeping}
+use Rattle.run_places.specs.Given.ReservesDeclared.sweep.Sweeping.TheVariants as sweeping
 use Rattle.run_places.specs.Given.RawCall.{makes_of, call_plan, looked, looks_for, first_made, next_made, disposed, helped, copied}
 use Rattle.run_places.specs.Given.RawCall as calls
 use Rattle.run_places.specs.Given.RawCallFills.{putting_by, fill_by, fills_with}
@@ -67,8 +67,8 @@ use Rattle.run_places.specs.Given.RawDeclared.machines.call.Calling.TheVariants 
 use Rattle.run_places.specs.Given.RawDeclared.machines.call.KeyCall.{KeyCall}
 use Rattle.run_places.specs.Given.TellsSeen.{seen_of}
 use Rattle.run_places.specs.Given.TellerTells.{told_of, StepsTold}
-use Rattle.run_places.specs.Given.TellerDeclared.changed.Changed.{Changed}
-use Rattle.run_places.specs.Given.TellerDeclared.changed.Changed.TheVariants as changed
+use Rattle.run_places.specs.Given.EffectsDeclared.changed.Changed.{Changed}
+use Rattle.run_places.specs.Given.EffectsDeclared.changed.Changed.TheVariants as changed
 
 module _ (P : ℕ → Type 0) where
   -- it is so of the block of a user's word

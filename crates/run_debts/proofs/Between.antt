@@ -2,9 +2,9 @@
 use Rattle.std.specs.Prelude.{◌≡◌, ◌==◌, ◌+◌, ℕ, Bool, true, false, cond, not, List, find, map, Option, Some, None, if◌then◌else◌}
 use Rattle.std.proofs.Common.{refl, ap, sym, subst, ◌∙◌, inl, inr}
 use Rattle.run_places.specs.Given.SweepsSweepPoints.{next_at, reply_at, after_reply, further}
-use Rattle.run_places.specs.Given.SweepsDeclared.sweep.Sweep.{Sweep}
-use Rattle.run_places.specs.Given.SweepsDeclared.sweep.Sweeping.{Sweeping}
-use Rattle.run_places.specs.Given.SweepsDeclared.sweep.Sweeping.TheVariants as sweeping
+use Rattle.run_places.specs.Given.ReservesDeclared.sweep.Sweep.{Sweep}
+use Rattle.run_places.specs.Given.ReservesDeclared.sweep.Sweeping.{Sweeping}
+use Rattle.run_places.specs.Given.ReservesDeclared.sweep.Sweeping.TheVariants as sweeping
 use Rattle.run_places.specs.Given.RunsSame.{is_same}
 use Rattle.run_places.specs.Given.RawCallAsks.{with_absent, with_present, absent_told, present_told, told_at}
 use Rattle.run_places.specs.Given.RawCallPoints.{going, over, ending, storing, burying, at_gap}
@@ -29,9 +29,9 @@ use Rattle.run_places.specs.Given.RawDeclared.machines.machine.Machine.{Machine}
 use Rattle.run_places.specs.Given.RawDeclared.machines.machine.Machine.TheVariants as kinds
 use Rattle.run_places.specs.Given.TablesDeclared.marks.TheConstants.{TOMBSTONE}
 use Rattle.run_places.specs.Given.TablesDeclared.node.Node.{Node}
-use Rattle.run_places.specs.Given.SchedulesDeclared.call.Reply.{Reply}
-use Rattle.run_places.specs.Given.SchedulesDeclared.outcome.Outcome.{Outcome}
-use Rattle.run_places.specs.Given.SchedulesDeclared.outcome.Outcome.TheVariants as outcome
+use Rattle.run_places.specs.Given.RunsDeclared.call.Reply.{Reply}
+use Rattle.run_places.specs.Given.RunsDeclared.outcome.Outcome.{Outcome}
+use Rattle.run_places.specs.Given.RunsDeclared.outcome.Outcome.TheVariants as outcome
 use Rattle.run_places.specs.Given.SchedulesAfter.{asks_on, comes_to, replied, without_call}
 use Rattle.run_places.specs.Given.SchedulesBeginning.{fresh_call, with_call}
 use Rattle.run_places.specs.Given.SchedulesEntry.{ends_call}

@@ -33,10 +33,10 @@ use Rattle.run_places.specs.Given.ReservesDeclared.reserve.Reserving.TheVariants
 use Rattle.run_places.specs.Given.SweepsSweepPoints as points
 use Rattle.run_places.specs.Given.SweepsSweep.{sweep_plan}
 use Rattle.run_places.specs.Given.SweepsSweep as sweeps
-use Rattle.run_places.specs.Given.SweepsDeclared.sweep.Sweep.{Sweep}
-use Rattle.run_places.specs.Given.SweepsDeclared.sweep.Sweeping.{Sweeping}
-use Rattle.run_places.specs.Given.SweepsDeclared.sweep.Sweeping.TheVariants as sweeping
-use Rattle.run_places.specs.Given.SweepsDeclared.sweep.Swept.{Swept}
+use Rattle.run_places.specs.Given.ReservesDeclared.sweep.Sweep.{Sweep}
+use Rattle.run_places.specs.Given.ReservesDeclared.sweep.Sweeping.{Sweeping}
+use Rattle.run_places.specs.Given.ReservesDeclared.sweep.Sweeping.TheVariants as sweeping
+use Rattle.run_places.specs.Given.ReservesDeclared.sweep.Swept.{Swept}
 use Rattle.run_places.specs.Given.RawCall.{call_plan, disposed, helped, copied}
 use Rattle.run_places.specs.Given.RawCall as calls
 use Rattle.run_places.specs.Given.RawMachine.{called as of_key, reserved as of_room, swept as of_sweep}
@@ -49,11 +49,11 @@ use Rattle.run_places.specs.Given.RawDeclared.machines.machine.Machine.{Machine}
 use Rattle.run_places.specs.Given.RawDeclared.machines.machine.Machine.TheVariants as kinds
 use Rattle.run_places.specs.Given.RawDeclared.machines.progress.Progress.{Progress}
 use Rattle.run_places.specs.Given.RunsDeclared.shapes.TableShape.{TableShape}
-use Rattle.run_places.specs.Given.SchedulesDeclared.effect.Table.{Table as Numbered}
+use Rattle.run_places.specs.Given.RunsDeclared.effect.Table.{Table as Numbered}
 use Rattle.run_places.specs.Given.SchedulesMoment.{Moment}
 use Rattle.run_places.specs.Given.TellerTells.{StepsTold}
-use Rattle.run_places.specs.Given.TellerDeclared.changed.Changed.{Changed}
-use Rattle.run_places.specs.Given.TellerDeclared.changed.Changed.TheVariants as changed
+use Rattle.run_places.specs.Given.EffectsDeclared.changed.Changed.{Changed}
+use Rattle.run_places.specs.Given.EffectsDeclared.changed.Changed.TheVariants as changed
 use Rattle.run_places.specs.Given.RuleChart.{Chart}
 use Rattle.run_places.specs.Given.RuleWords.{Blocks}
 use Rattle.owner_facts.specs.Given.PointsFactsCalls.{Change, CallingFacts}

@@ -53,10 +53,10 @@ use Rattle.run_places.specs.Given.ResizeDeclared.dispose.Disposing.{Disposing}
 use Rattle.run_places.specs.Given.ResizeDeclared.dispose.Disposing.TheVariants as disposing
 use Rattle.run_places.specs.Given.ResizeDeclared.outcome.Outcome.{Outcome}
 use Rattle.run_places.specs.Given.ResizeDeclared.outcome.Outcome.TheVariants as outcome
-use Rattle.run_places.specs.Given.SchedulesDeclared.effect.Effect.{Effect}
+use Rattle.run_places.specs.Given.RunsDeclared.effect.Effect.{Effect}
 use Rattle.run_places.specs.Given.TellerTells.{StepsTold}
-use Rattle.run_places.specs.Given.TellerDeclared.changed.Changed.{Changed}
-use Rattle.run_places.specs.Given.TellerDeclared.changed.Changed.TheVariants as changed
+use Rattle.run_places.specs.Given.EffectsDeclared.changed.Changed.{Changed}
+use Rattle.run_places.specs.Given.EffectsDeclared.changed.Changed.TheVariants as changed
 use Rattle.run_places.specs.Given.EffectsKnown.{Known}
 use Rattle.run_places.specs.Hands.Rows.{SettlesAside, ReclaimsNone}
 use Rattle.run_places.proofs.Given.OthersOutcomes.{told_in}

@@ -17,12 +17,12 @@ use Rattle.run_places.specs.Given.SeizeDeclared.rows.settle.Settled.TheVariants 
 use Rattle.run_places.specs.Given.SeizeSettle as plans
 use Rattle.run_places.specs.Given.TablesNodes.{deferred_word}
 use Rattle.run_places.specs.Given.TablesDeclared.node.Node.{Node}
-use Rattle.run_places.specs.Given.SchedulesDeclared.effect.Effect.{Effect}
-use Rattle.run_places.specs.Given.SchedulesDeclared.effect.Effect.TheVariants as effect
-use Rattle.run_places.specs.Given.SchedulesDeclared.effect.Thing.TheVariants.{APair, ATable}
+use Rattle.run_places.specs.Given.RunsDeclared.effect.Effect.{Effect}
+use Rattle.run_places.specs.Given.RunsDeclared.effect.Effect.TheVariants as effect
+use Rattle.run_places.specs.Given.RunsDeclared.effect.Thing.TheVariants.{APair, ATable}
 use Rattle.run_places.specs.Given.TellerTells.{told_of, StepsTold}
-use Rattle.run_places.specs.Given.TellerDeclared.changed.Changed.{Changed}
-use Rattle.run_places.specs.Given.TellerDeclared.changed.Changed.TheVariants as changed
+use Rattle.run_places.specs.Given.EffectsDeclared.changed.Changed.{Changed}
+use Rattle.run_places.specs.Given.EffectsDeclared.changed.Changed.TheVariants as changed
 use Rattle.run_places.specs.Given.TellsSeen.{word_or, seen_of}
 use Rattle.run_places.specs.Given.EffectsEffects.{effects_of, batched, names_same}
 use Rattle.run_places.specs.Given.EffectsKnown.{Known}

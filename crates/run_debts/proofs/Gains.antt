@@ -2,11 +2,11 @@
 use Rattle.std.specs.Prelude.{◌≡◌, ◌<◌, ◌+◌, ℕ, Bool, true, false, List, [], ◌∷◌, flat_map, length, Option, Some, None, if◌then◌else◌}
 use Rattle.std.proofs.Common.{refl, ap, sym, subst, ◌∙◌, arith}
 use Rattle.run_places.specs.Given.RunsSame.{is_same}
-use Rattle.run_places.specs.Given.SchedulesDeclared.call.Call.{Call}
-use Rattle.run_places.specs.Given.SchedulesDeclared.call.Call.TheVariants as call
-use Rattle.run_places.specs.Given.SchedulesDeclared.effect.Effect.{Effect}
-use Rattle.run_places.specs.Given.SchedulesDeclared.effect.Effect.TheVariants as effect
-use Rattle.run_places.specs.Given.SchedulesDeclared.effect.Spot.{Spot}
+use Rattle.run_places.specs.Given.RunsDeclared.call.Call.{Call}
+use Rattle.run_places.specs.Given.RunsDeclared.call.Call.TheVariants as call
+use Rattle.run_places.specs.Given.RunsDeclared.effect.Effect.{Effect}
+use Rattle.run_places.specs.Given.RunsDeclared.effect.Effect.TheVariants as effect
+use Rattle.run_places.specs.Given.RunsDeclared.effect.Spot.{Spot}
 use Rattle.run_places.specs.Given.SchedulesEffects.{gain, due_for, call_by, with_effect, with_effects}
 use Rattle.run_places.specs.Given.SchedulesEntry.{ByCall}
 use Rattle.run_places.specs.Given.SchedulesLinearizable.{shift_of}

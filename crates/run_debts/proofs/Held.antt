@@ -18,10 +18,10 @@ use Rattle.run_places.specs.Given.ResizeDeclared.dispose.Disposing.{Disposing}
 use Rattle.run_places.specs.Given.ResizeDeclared.dispose.Disposing.TheVariants as disposal
 use Rattle.run_places.specs.Given.SweepsSweep.{sweep_plan}
 use Rattle.run_places.specs.Given.SweepsSweep as sweeps
-use Rattle.run_places.specs.Given.SweepsDeclared.sweep.Sweep.{Sweep}
-use Rattle.run_places.specs.Given.SweepsDeclared.sweep.Sweeping.{Sweeping}
-use Rattle.run_places.specs.Given.SweepsDeclared.sweep.Sweeping.TheVariants as sweeping
-use Rattle.run_places.specs.Given.SweepsDeclared.sweep.Swept.{Swept}
+use Rattle.run_places.specs.Given.ReservesDeclared.sweep.Sweep.{Sweep}
+use Rattle.run_places.specs.Given.ReservesDeclared.sweep.Sweeping.{Sweeping}
+use Rattle.run_places.specs.Given.ReservesDeclared.sweep.Sweeping.TheVariants as sweeping
+use Rattle.run_places.specs.Given.ReservesDeclared.sweep.Swept.{Swept}
 use Rattle.run_places.specs.Given.RawCall.{call_plan, plan_at, disposed}
 use Rattle.run_places.specs.Given.RawCallPoints.{counted, going, over}
 use Rattle.run_places.specs.Given.RawDeclared.machines.answer.Called.{Called}
@@ -32,7 +32,7 @@ use Rattle.run_places.specs.Given.RawDeclared.machines.call.Calling.{Calling}
 use Rattle.run_places.specs.Given.RawDeclared.machines.call.Calling.TheVariants as at
 use Rattle.run_places.specs.Given.RawDeclared.machines.call.KeyCall.{KeyCall}
 use Rattle.run_places.specs.Given.RawDeclared.machines.machine.Machine.TheVariants as kinds
-use Rattle.run_places.specs.Given.TellerDeclared.changed.Changed.TheVariants as changed
+use Rattle.run_places.specs.Given.EffectsDeclared.changed.Changed.TheVariants as changed
 use Rattle.run_places.proofs.Given.RuleKeys.Always.{Always, AlwaysOf, always_if, always_steps}
 use Rattle.owner_facts.specs.Given.PointsTold.{IsRowOf, IsRowOfCall}
 use Rattle.owner_facts.specs.Given.LateToldSweeps.{IsRowOfSweep}

@@ -23,13 +23,13 @@ use Rattle.run_places.specs.Given.RawDeclared.machines.call.KeyCall.{KeyCall}
 use Rattle.run_places.specs.Given.RawDeclared.machines.machine.Machine.{Machine}
 use Rattle.run_places.specs.Given.RawDeclared.machines.machine.Machine.TheVariants as kinds
 use Rattle.run_places.specs.Given.RawDeclared.machines.progress.Progress.{Progress}
-use Rattle.run_places.specs.Given.SchedulesDeclared.effect.Effect.{Effect}
-use Rattle.run_places.specs.Given.SchedulesDeclared.effect.Effect.TheVariants as effect
+use Rattle.run_places.specs.Given.RunsDeclared.effect.Effect.{Effect}
+use Rattle.run_places.specs.Given.RunsDeclared.effect.Effect.TheVariants as effect
 use Rattle.run_places.specs.Given.SchedulesLinearizable.{shift_of}
 use Rattle.run_places.specs.Given.SchedulesMoment.{Moment}
 use Rattle.run_places.specs.Given.TellerTells.{StepsTold}
-use Rattle.run_places.specs.Given.TellerDeclared.changed.Changed.{Changed}
-use Rattle.run_places.specs.Given.TellerDeclared.changed.Changed.TheVariants as changed
+use Rattle.run_places.specs.Given.EffectsDeclared.changed.Changed.{Changed}
+use Rattle.run_places.specs.Given.EffectsDeclared.changed.Changed.TheVariants as changed
 use Rattle.run_places.specs.Given.RuleChart.{Chart}
 use Rattle.run_places.specs.Given.RuleWords.{Blocks}
 use Rattle.run_places.proofs.Given.RuleLaws.{current_is_known}

@@ -2,13 +2,13 @@
 use Rattle.std.specs.Prelude.{◌≡◌, ℕ, ◌+◌, ◌==◌, ◌&&◌, ◌||◌, Bool, true, false, MatchBool, List, [], ◌∷◌, Option, Some, if◌then◌else◌}
 use Rattle.std.proofs.Common.{refl, ap, sym, subst, ◌∙◌}
 use Rattle.std.proofs.lemmas.Bool.{eq-eqb}
-use Rattle.run_places.specs.Given.SchedulesDeclared.call.Call.{Call}
-use Rattle.run_places.specs.Given.SchedulesDeclared.call.Call.TheVariants as call
-use Rattle.run_places.specs.Given.SchedulesDeclared.effect.Effect.{Effect}
-use Rattle.run_places.specs.Given.SchedulesDeclared.effect.Effect.TheVariants as effect
-use Rattle.run_places.specs.Given.SchedulesDeclared.effect.Table.{Table}
-use Rattle.run_places.specs.Given.SchedulesDeclared.effect.Thing.{Thing}
-use Rattle.run_places.specs.Given.SchedulesDeclared.effect.Thing.TheVariants.{APair, ATable}
+use Rattle.run_places.specs.Given.RunsDeclared.call.Call.{Call}
+use Rattle.run_places.specs.Given.RunsDeclared.call.Call.TheVariants as call
+use Rattle.run_places.specs.Given.RunsDeclared.effect.Effect.{Effect}
+use Rattle.run_places.specs.Given.RunsDeclared.effect.Effect.TheVariants as effect
+use Rattle.run_places.specs.Given.RunsDeclared.effect.Table.{Table}
+use Rattle.run_places.specs.Given.RunsDeclared.effect.Thing.{Thing}
+use Rattle.run_places.specs.Given.RunsDeclared.effect.Thing.TheVariants.{APair, ATable}
 use Rattle.run_places.specs.Given.SchedulesEffects.{AtEachEffect, call_by, due_for, with_effect, with_effects}
 use Rattle.run_places.specs.Given.SchedulesEntry.{ByCall, acting}
 use Rattle.run_places.specs.Given.SchedulesLists.{is_in, without_one}

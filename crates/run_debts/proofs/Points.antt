@@ -21,12 +21,12 @@ use Rattle.run_places.specs.Given.ResizeDeclared.outcome.Outcome.TheVariants as 
 use Rattle.run_places.specs.Given.SweepsSweep as sweeps
 use Rattle.run_places.specs.Given.SweepsSweep.{sweep_plan}
 use Rattle.run_places.specs.Given.SweepsSweepPoints as points
-use Rattle.run_places.specs.Given.SweepsDeclared.sweep.Purpose.{Purpose}
-use Rattle.run_places.specs.Given.SweepsDeclared.sweep.Purpose.TheVariants.{Walks, Clears, Retains}
-use Rattle.run_places.specs.Given.SweepsDeclared.sweep.Sweep.{Sweep}
-use Rattle.run_places.specs.Given.SweepsDeclared.sweep.Sweeping.{Sweeping}
-use Rattle.run_places.specs.Given.SweepsDeclared.sweep.Sweeping.TheVariants as sweeping
-use Rattle.run_places.specs.Given.SweepsDeclared.sweep.Swept.{Swept}
+use Rattle.run_places.specs.Given.ReservesDeclared.sweep.Purpose.{Purpose}
+use Rattle.run_places.specs.Given.ReservesDeclared.sweep.Purpose.TheVariants.{Walks, Clears, Retains}
+use Rattle.run_places.specs.Given.ReservesDeclared.sweep.Sweep.{Sweep}
+use Rattle.run_places.specs.Given.ReservesDeclared.sweep.Sweeping.{Sweeping}
+use Rattle.run_places.specs.Given.ReservesDeclared.sweep.Sweeping.TheVariants as sweeping
+use Rattle.run_places.specs.Given.ReservesDeclared.sweep.Swept.{Swept}
 use Rattle.run_places.specs.Given.RawCall.{disposed, helped, copied, plan_at, call_plan}
 use Rattle.run_places.specs.Given.RawCallPoints.{going, over, ending, counted}
 use Rattle.run_places.specs.Given.RawDeclared.machines.answer.Called.{Called}

@@ -20,23 +20,23 @@ use Rattle.run_places.specs.Given.ResizeDeclared.sum.Sum.{Sum}
 use Rattle.run_places.specs.Given.ReservesReserve.{reserve_plan}
 use Rattle.run_places.specs.Given.SweepsSweep.{sweep_plan}
 use Rattle.run_places.specs.Given.SweepsSweep as sweeps
-use Rattle.run_places.specs.Given.SweepsDeclared.sweep.Sweep.{Sweep}
-use Rattle.run_places.specs.Given.SweepsDeclared.sweep.Sweeping.{Sweeping}
-use Rattle.run_places.specs.Given.SweepsDeclared.sweep.Sweeping.TheVariants as sweeping
-use Rattle.run_places.specs.Given.SweepsDeclared.sweep.Swept.{Swept}
-use Rattle.run_places.specs.Given.SweepsDeclared.sweep.Swept.TheVariants as swept
+use Rattle.run_places.specs.Given.ReservesDeclared.sweep.Sweep.{Sweep}
+use Rattle.run_places.specs.Given.ReservesDeclared.sweep.Sweeping.{Sweeping}
+use Rattle.run_places.specs.Given.ReservesDeclared.sweep.Sweeping.TheVariants as sweeping
+use Rattle.run_places.specs.Given.ReservesDeclared.sweep.Swept.{Swept}
+use Rattle.run_places.specs.Given.ReservesDeclared.sweep.Swept.TheVariants as swept
 use Rattle.run_places.specs.Given.RawMachine.{reserved as of_room, swept as of_sweep, counted as of_sum}
 use Rattle.run_places.specs.Given.RawProgress.{of_swept}
 use Rattle.run_places.specs.Given.RawDeclared.machines.machine.Machine.{Machine}
 use Rattle.run_places.specs.Given.RawDeclared.machines.machine.Machine.TheVariants as kinds
 use Rattle.run_places.specs.Given.RawDeclared.machines.progress.Progress.{Progress}
-use Rattle.run_places.specs.Given.SchedulesDeclared.effect.Effect.{Effect}
-use Rattle.run_places.specs.Given.SchedulesDeclared.effect.Effect.TheVariants as effect
+use Rattle.run_places.specs.Given.RunsDeclared.effect.Effect.{Effect}
+use Rattle.run_places.specs.Given.RunsDeclared.effect.Effect.TheVariants as effect
 use Rattle.run_places.specs.Given.SchedulesLinearizable.{shift_of}
 use Rattle.run_places.specs.Given.SchedulesMoment.{Moment}
 use Rattle.run_places.specs.Given.TellerTells.{StepsTold}
-use Rattle.run_places.specs.Given.TellerDeclared.changed.Changed.{Changed}
-use Rattle.run_places.specs.Given.TellerDeclared.changed.Changed.TheVariants as changed
+use Rattle.run_places.specs.Given.EffectsDeclared.changed.Changed.{Changed}
+use Rattle.run_places.specs.Given.EffectsDeclared.changed.Changed.TheVariants as changed
 use Rattle.run_places.specs.Given.RuleChart.{Still, Chart}
 use Rattle.run_places.specs.Given.RuleWords.{Blocks, byte_of}
 use Rattle.run_places.proofs.Given.RuleLaws.{current_is_known, words_name_pairs, bytes_are_few}

@@ -4,10 +4,10 @@ use Rattle.std.proofs.Common.{arith, refl, ap, sym, subst, ◌∙◌}
 use Rattle.std.proofs.lemmas.Nat.{and_mask}
 use Rattle.run_places.specs.Given.TablesPowers.{floor_log2, next_power}
 use Rattle.run_places.specs.Given.RunsPresent.{slot_of_guard}
-use Rattle.run_places.specs.Given.SchedulesDeclared.call.Call.{Call}
-use Rattle.run_places.specs.Given.SchedulesDeclared.call.Call.TheVariants as call
-use Rattle.run_places.specs.Given.SchedulesDeclared.effect.Effect.{Effect}
-use Rattle.run_places.specs.Given.SchedulesDeclared.effect.Effect.TheVariants as effect
+use Rattle.run_places.specs.Given.RunsDeclared.call.Call.{Call}
+use Rattle.run_places.specs.Given.RunsDeclared.call.Call.TheVariants as call
+use Rattle.run_places.specs.Given.RunsDeclared.effect.Effect.{Effect}
+use Rattle.run_places.specs.Given.RunsDeclared.effect.Effect.TheVariants as effect
 use Rattle.run_places.specs.Given.SchedulesEffects.{call_by, due_for, with_effect, AtEachEffect}
 use Rattle.run_places.specs.Given.SchedulesEntry.{ByCall, acting}
 use Rattle.run_places.specs.Given.SchedulesLives.{CallFinds}

@@ -18,9 +18,9 @@ use Rattle.run_places.specs.Given.ReservesDeclared.reserve.Reserve.{Reserve}
 use Rattle.run_places.specs.Given.ReservesDeclared.reserve.Reserving.{Reserving}
 use Rattle.run_places.specs.Given.ReservesDeclared.reserve.Reserving.TheVariants as reserving
 use Rattle.run_places.specs.Given.SweepsSweep as sweeps
-use Rattle.run_places.specs.Given.SweepsDeclared.sweep.Sweep.{Sweep}
-use Rattle.run_places.specs.Given.SweepsDeclared.sweep.Sweeping.{Sweeping}
-use Rattle.run_places.specs.Given.SweepsDeclared.sweep.Sweeping.TheVariants as sweeping
+use Rattle.run_places.specs.Given.ReservesDeclared.sweep.Sweep.{Sweep}
+use Rattle.run_places.specs.Given.ReservesDeclared.sweep.Sweeping.{Sweeping}
+use Rattle.run_places.specs.Given.ReservesDeclared.sweep.Sweeping.TheVariants as sweeping
 use Rattle.run_places.specs.Given.RawCall.{first_made, disposed}
 use Rattle.run_places.specs.Given.RawCallPoints.{getting}
 use Rattle.run_places.specs.Given.RawDeclared.machines.answer.KeyAnswer.TheVariants as answers

@@ -23,10 +23,10 @@ use Rattle.run_places.specs.Given.RawDeclared.machines.call.KeyCall.{KeyCall}
 use Rattle.run_places.specs.Given.RawDeclared.machines.machine.Machine.TheVariants as kinds
 use Rattle.run_places.specs.Given.RawDeclared.machines.progress.Progress.{Progress}
 use Rattle.run_places.specs.Given.RawProgress.{of_called}
-use Rattle.run_places.specs.Given.SchedulesDeclared.effect.Effect.{Effect}
+use Rattle.run_places.specs.Given.RunsDeclared.effect.Effect.{Effect}
 use Rattle.run_places.specs.Given.SchedulesLinearizable.{shift_of}
 use Rattle.run_places.specs.Given.SchedulesMoment.{Moment}
-use Rattle.run_places.specs.Given.TellerDeclared.changed.Changed.{Changed}
+use Rattle.run_places.specs.Given.EffectsDeclared.changed.Changed.{Changed}
 use Rattle.run_places.specs.Given.RuleChart.{Phase, Still, Holds, Chart}
 use Rattle.run_places.specs.Given.RuleWords.{Blocks, byte_of, place_word}
 use Rattle.run_places.proofs.Given.RuleLaws.{current_is_known, words_name_pairs, bytes_are_few}

@@ -8,11 +8,11 @@ use Rattle.run_places.specs.Given.SeizeWordsWord.{block_in}
 use Rattle.run_places.specs.Given.SeizeWordsDeclared.at.At.{At}
 use Rattle.run_places.specs.Given.SeizeWordsDeclared.at.At.TheVariants.{Root}
 use Rattle.run_places.specs.Given.TablesDeclared.node.Node.{Node}
-use Rattle.run_places.specs.Given.SchedulesDeclared.effect.Effect.{Effect}
-use Rattle.run_places.specs.Given.SchedulesDeclared.effect.Effect.TheVariants as effect
+use Rattle.run_places.specs.Given.RunsDeclared.effect.Effect.{Effect}
+use Rattle.run_places.specs.Given.RunsDeclared.effect.Effect.TheVariants as effect
 use Rattle.run_places.specs.Given.TellerTells.{StepsTold, told_of}
-use Rattle.run_places.specs.Given.TellerDeclared.changed.Changed.{Changed}
-use Rattle.run_places.specs.Given.TellerDeclared.changed.Changed.TheVariants as changed
+use Rattle.run_places.specs.Given.EffectsDeclared.changed.Changed.{Changed}
+use Rattle.run_places.specs.Given.EffectsDeclared.changed.Changed.TheVariants as changed
 use Rattle.run_places.specs.Given.TellsSeen.{seen_of}
 use Rattle.run_places.specs.Given.EffectsEffects.{led_to, named, effects_of}
 use Rattle.run_places.specs.Given.EffectsKnown.{Known}

@@ -1,6 +1,6 @@
 -- What is promised of what calls have to count where another one than a call takes a step, and where walks go on or are given up: it is as it was.
 use Rattle.std.specs.Prelude.{◌≡◌, ℕ, Bool, true, List, Option, Some, None}
-use Rattle.run_places.specs.Given.SchedulesDeclared.effect.Effect.{Effect}
+use Rattle.run_places.specs.Given.RunsDeclared.effect.Effect.{Effect}
 use Rattle.run_places.specs.Given.SchedulesEffects.{with_effects}
 use Rattle.run_places.specs.Given.SchedulesMoment.{Moment}
 use Rattle.owner_facts.specs.Given.CallersTogether.{UnderWay}

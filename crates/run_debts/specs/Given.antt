@@ -56,7 +56,6 @@ pub use Rattle.run_places.specs.Given.ScenesScene
 pub use Rattle.run_places.specs.Given.ScenesStepping
 pub use Rattle.run_places.specs.Given.SchedulesAfter
 pub use Rattle.run_places.specs.Given.SchedulesBeginning
-pub use Rattle.run_places.specs.Given.SchedulesDeclared
 pub use Rattle.run_places.specs.Given.SchedulesEffects
 pub use Rattle.run_places.specs.Given.SchedulesEntry
 pub use Rattle.run_places.specs.Given.SchedulesGrowing
@@ -84,12 +83,10 @@ pub use Rattle.run_places.specs.Given.SeizeWordsPlan
 pub use Rattle.run_places.specs.Given.SeizeWordsSlotWords
 pub use Rattle.run_places.specs.Given.SeizeWordsWord
 pub use Rattle.run_places.specs.Given.SeizeWorld
-pub use Rattle.run_places.specs.Given.SweepsDeclared
 pub use Rattle.run_places.specs.Given.TablesChunks
 pub use Rattle.run_places.specs.Given.TablesDeclared
 pub use Rattle.run_places.specs.Given.TablesNodes
 pub use Rattle.run_places.specs.Given.TellerChanged
-pub use Rattle.run_places.specs.Given.TellerDeclared
 pub use Rattle.run_places.specs.Given.TellerTells
 pub use Rattle.run_places.specs.Given.TellsSeen
 pub use Rattle.run_places.specs.Hands.Asked as HandsAsked

@@ -5,17 +5,17 @@ use Rattle.run_places.specs.Given.TablesDeclared.node.Node.{Node}
 use Rattle.run_places.specs.Given.ResizeDeclared.dispose.Dispose.{Dispose}
 use Rattle.run_places.specs.Given.ResizeDeclared.dispose.Disposing.{Disposing}
 use Rattle.run_places.specs.Given.ResizeDeclared.dispose.Disposing.TheVariants as disposing
-use Rattle.run_places.specs.Given.SweepsDeclared.sweep.Sweep.{Sweep}
-use Rattle.run_places.specs.Given.SweepsDeclared.sweep.Sweeping.{Sweeping}
-use Rattle.run_places.specs.Given.SweepsDeclared.sweep.Sweeping.TheVariants as sweeping
+use Rattle.run_places.specs.Given.ReservesDeclared.sweep.Sweep.{Sweep}
+use Rattle.run_places.specs.Given.ReservesDeclared.sweep.Sweeping.{Sweeping}
+use Rattle.run_places.specs.Given.ReservesDeclared.sweep.Sweeping.TheVariants as sweeping
 use Rattle.run_places.specs.Given.RawDeclared.machines.call.Calling.{Calling}
 use Rattle.run_places.specs.Given.RawDeclared.machines.call.Calling.TheVariants as calling
 use Rattle.run_places.specs.Given.RawDeclared.machines.call.KeyCall.{KeyCall}
 use Rattle.run_places.specs.Given.RawDeclared.machines.machine.Machine.TheVariants as kinds
 use Rattle.run_places.specs.Given.RawDeclared.machines.progress.Progress.{Progress}
-use Rattle.run_places.specs.Given.SchedulesDeclared.effect.Effect.{Effect}
-use Rattle.run_places.specs.Given.SchedulesDeclared.effect.Effect.TheVariants.{Stored, Replaced, Removed}
-use Rattle.run_places.specs.Given.SchedulesDeclared.effect.Spot.{Spot}
+use Rattle.run_places.specs.Given.RunsDeclared.effect.Effect.{Effect}
+use Rattle.run_places.specs.Given.RunsDeclared.effect.Effect.TheVariants.{Stored, Replaced, Removed}
+use Rattle.run_places.specs.Given.RunsDeclared.effect.Spot.{Spot}
 use Rattle.run_places.specs.Given.SchedulesMoment.{Moment}
 use Rattle.owner_facts.specs.Given.CallersOverAll.{CallOverAll}
 use Rattle.owner_facts.specs.Given.CallersTogether.{CallOnKey, OnKey, OverAll}

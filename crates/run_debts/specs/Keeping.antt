@@ -6,9 +6,9 @@ use Rattle.run_places.specs.Given.RawMachine.{machine_replied}
 use Rattle.run_places.specs.Given.RawDeclared.machines.asking.Reply.{Reply as MachineReply}
 use Rattle.run_places.specs.Given.RawDeclared.machines.call.KeyCall.{KeyCall}
 use Rattle.run_places.specs.Given.RawDeclared.machines.progress.Progress.{Progress}
-use Rattle.run_places.specs.Given.SchedulesDeclared.call.Call.{Call}
-use Rattle.run_places.specs.Given.SchedulesDeclared.call.Reply.{Reply}
-use Rattle.run_places.specs.Given.SchedulesDeclared.outcome.Outcome.{Outcome}
+use Rattle.run_places.specs.Given.RunsDeclared.call.Call.{Call}
+use Rattle.run_places.specs.Given.RunsDeclared.call.Reply.{Reply}
+use Rattle.run_places.specs.Given.RunsDeclared.outcome.Outcome.{Outcome}
 use Rattle.run_places.specs.Given.SchedulesBeginning.{with_call}
 use Rattle.run_places.specs.Given.SchedulesEffects.{with_effects}
 use Rattle.run_places.specs.Given.SchedulesEntry.{ends_call}

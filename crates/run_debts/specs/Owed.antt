@@ -5,10 +5,10 @@ use Rattle.run_places.specs.Given.RawMachine.{machine_replied, machine_asked}
 use Rattle.run_places.specs.Given.RawDeclared.machines.asking.Reply.{Reply as MachineReply}
 use Rattle.run_places.specs.Given.RawDeclared.machines.machine.Machine.{Machine}
 use Rattle.run_places.specs.Given.RawDeclared.machines.progress.Progress.{Progress}
-use Rattle.run_places.specs.Given.SchedulesDeclared.call.Call.{Call}
-use Rattle.run_places.specs.Given.SchedulesDeclared.call.Reply.{Reply}
-use Rattle.run_places.specs.Given.SchedulesDeclared.effect.Effect.{Effect}
-use Rattle.run_places.specs.Given.SchedulesDeclared.outcome.Outcome.{Outcome}
+use Rattle.run_places.specs.Given.RunsDeclared.call.Call.{Call}
+use Rattle.run_places.specs.Given.RunsDeclared.call.Reply.{Reply}
+use Rattle.run_places.specs.Given.RunsDeclared.effect.Effect.{Effect}
+use Rattle.run_places.specs.Given.RunsDeclared.outcome.Outcome.{Outcome}
 use Rattle.run_places.specs.Given.SchedulesBeginning.{with_call}
 use Rattle.run_places.specs.Given.SchedulesEffects.{AtEachEffect, with_effects}
 use Rattle.run_places.specs.Given.SchedulesEntry.{ByCall, acting, ends_call}

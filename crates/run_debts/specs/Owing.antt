@@ -3,12 +3,12 @@ use Rattle.std.specs.Prelude.{◌≡◌, ℕ, Bool, true, false, MatchBool, List
 use Rattle.std.specs.List.{list_any}
 use Rattle.run_places.specs.Given.TablesDeclared.node.Node.{Node}
 use Rattle.run_places.specs.Given.RawDeclared.machines.progress.Progress.{Progress}
-use Rattle.run_places.specs.Given.SchedulesDeclared.effect.Effect.{Effect}
-use Rattle.run_places.specs.Given.SchedulesDeclared.effect.Effect.TheVariants.{Promoted, Stored, Replaced, Removed, Deferred, Retired}
-use Rattle.run_places.specs.Given.SchedulesDeclared.effect.Spot.{Spot}
-use Rattle.run_places.specs.Given.SchedulesDeclared.effect.Table.{Table}
-use Rattle.run_places.specs.Given.SchedulesDeclared.effect.Thing.{Thing}
-use Rattle.run_places.specs.Given.SchedulesDeclared.effect.Thing.TheVariants.{APair, ATable}
+use Rattle.run_places.specs.Given.RunsDeclared.effect.Effect.{Effect}
+use Rattle.run_places.specs.Given.RunsDeclared.effect.Effect.TheVariants.{Promoted, Stored, Replaced, Removed, Deferred, Retired}
+use Rattle.run_places.specs.Given.RunsDeclared.effect.Spot.{Spot}
+use Rattle.run_places.specs.Given.RunsDeclared.effect.Table.{Table}
+use Rattle.run_places.specs.Given.RunsDeclared.effect.Thing.{Thing}
+use Rattle.run_places.specs.Given.RunsDeclared.effect.Thing.TheVariants.{APair, ATable}
 use Rattle.run_places.specs.Given.SchedulesEffects.{AtEachEffect, passed, with_effects}
 use Rattle.run_places.specs.Given.SchedulesEntry.{ByCall, acting}
 use Rattle.run_places.specs.Given.SchedulesLists.{is_in}

@@ -2,8 +2,8 @@
 use Rattle.std.specs.Prelude.{◌≡◌, ℕ, ◌+◌, Bool, true, false, List, Some}
 use Rattle.run_places.specs.Given.TablesDeclared.setting.Setting.{Setting}
 use Rattle.run_places.specs.Given.RunsPresent.{slot_of_guard}
-use Rattle.run_places.specs.Given.SchedulesDeclared.effect.Effect.{Effect}
-use Rattle.run_places.specs.Given.SchedulesDeclared.effect.Effect.TheVariants.{Counted}
+use Rattle.run_places.specs.Given.RunsDeclared.effect.Effect.{Effect}
+use Rattle.run_places.specs.Given.RunsDeclared.effect.Effect.TheVariants.{Counted}
 use Rattle.run_places.specs.Given.SchedulesEffects.{AtEachEffect}
 use Rattle.run_places.specs.Given.SchedulesEntry.{ByCall, acting}
 use Rattle.run_places.specs.Given.SchedulesLives.{CallFinds}

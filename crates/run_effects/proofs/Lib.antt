@@ -1,5 +1,5 @@
 pub mod Tells
-pub mod Teller
+pub mod ReportingMemory
 pub mod Effects
 pub mod Tallies
 pub mod Copies

@@ -37,7 +37,6 @@ pub use Rattle.papaya_raw.specs.CallPoints as RawCallPoints
 pub use Rattle.papaya_raw.specs.EndMap as RawEndMap
 pub use Rattle.papaya_raw.specs.Given.ReservesDeclared
 pub use Rattle.papaya_raw.specs.Given.ReservesReserve
-pub use Rattle.papaya_raw.specs.Given.SweepsDeclared
 pub use Rattle.papaya_raw.specs.Given.SweepsSweep
 pub use Rattle.papaya_raw.specs.Given.SweepsSweepPoints
 pub use Rattle.papaya_raw.specs.Machine as RawMachine
@@ -70,4 +69,3 @@ pub use Rattle.run_schedules.specs.Schedules.Transition as SchedulesTransition
 pub use Rattle.run_schedules.specs.Schedules.Tries as SchedulesTries
 pub use Rattle.run_schedules.specs.Schedules.Views as SchedulesViews
 pub use Rattle.run_schedules.specs.declared as RunsDeclared
-pub use Rattle.run_schedules.specs.declared as SchedulesDeclared

@@ -1,6 +1,6 @@
 //! What an operation has changed, as whoever makes it sees it.
 ghost use Rattle.std.specs.Prelude.{◌≡◌};
-ghost use Rattle.run_effects.specs.Teller.Changed.{kind_of};
+ghost use Rattle.run_effects.specs.ReportingMemory.Changed.{kind_of};
 
 use map_tables::Node;
 use seize_words::At;

@@ -41,7 +41,7 @@ impl<M> Teller<M> {
 
 impl<K, V, M: Memory<Node<K, V>>> Look<Node<K, V>> for Teller<M> {
     ghost use Rattle.std.specs.Prelude.{◌≡◌};
-    ghost use Rattle.run_effects.specs.Teller.Changed.{made_as, MadeSo, RefusesSo};
+    ghost use Rattle.run_effects.specs.ReportingMemory.Changed.{made_as, MadeSo, RefusesSo};
 
     ghost can = { λ t op. M.can t.memory (made_as op) };
 

@@ -5,7 +5,6 @@ pub use Rattle.papaya_raw.specs.CallFills as RawCallFills
 pub use Rattle.papaya_raw.specs.CallPoints as RawCallPoints
 pub use Rattle.papaya_raw.specs.Given.ReservesDeclared
 pub use Rattle.papaya_raw.specs.Given.ReservesReserve
-pub use Rattle.papaya_raw.specs.Given.SweepsDeclared
 pub use Rattle.papaya_raw.specs.Given.SweepsSweep
 pub use Rattle.papaya_raw.specs.Given.SweepsSweepPoints
 pub use Rattle.papaya_raw.specs.Machine as RawMachine
@@ -21,11 +20,10 @@ pub use Rattle.run_effects.specs.Given.RuleMoments
 pub use Rattle.run_effects.specs.Given.RuleRule
 pub use Rattle.run_effects.specs.Given.RuleWords
 pub use Rattle.run_effects.specs.Given.SeizeWaitingHeld
-pub use Rattle.run_effects.specs.Teller.Tells as TellerTells
+pub use Rattle.run_effects.specs.ReportingMemory.Tells as TellerTells
 pub use Rattle.run_effects.specs.Tells.Seen as TellsSeen
 pub use Rattle.run_effects.specs.Tells.Tells as TellsTells
 pub use Rattle.run_effects.specs.declared as EffectsDeclared
-pub use Rattle.run_effects.specs.declared as TellerDeclared
 pub use Rattle.run_places.specs.Changes.Changes as ChangesChanges
 pub use Rattle.run_places.specs.Changes.Had as ChangesHad
 pub use Rattle.run_places.specs.Changes.Histories as ChangesHistories
@@ -76,7 +74,6 @@ pub use Rattle.run_schedules.specs.Schedules.Transition as SchedulesTransition
 pub use Rattle.run_schedules.specs.Schedules.Tries as SchedulesTries
 pub use Rattle.run_schedules.specs.Schedules.Views as SchedulesViews
 pub use Rattle.run_schedules.specs.declared as RunsDeclared
-pub use Rattle.run_schedules.specs.declared as SchedulesDeclared
 pub use Rattle.run_shows.specs.Follows.Blocks as FollowsBlocks
 pub use Rattle.run_shows.specs.Follows.Calling as FollowsCalling
 pub use Rattle.run_shows.specs.Follows.Calls as FollowsCalls

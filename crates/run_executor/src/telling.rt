@@ -2,7 +2,7 @@
 ghost use Rattle.std.specs.Prelude.{◌≡◌};
 ghost use Rattle.seize_words.specs.OneMemory.Mem.{Can, Took, value_at};
 ghost use Rattle.seize_words.specs.OneMemory.Plan.{May};
-ghost use Rattle.run_effects.specs.Teller.Tells.{StepsTold};
+ghost use Rattle.run_effects.specs.ReportingMemory.Tells.{StepsTold};
 ghost use Rattle.run_effects.specs.declared.changed.Changed.TheVariants.{Nothing};
 
 use crate::executor::Executor;

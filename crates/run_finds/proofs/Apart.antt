@@ -2,7 +2,7 @@
 use Rattle.std.specs.Prelude.{◌≡◌, Bool, true, false, ◌||◌, List, [], ◌∷◌, ◌++◌, map}
 use Rattle.std.specs.List.{AllByRecursion, list_any}
 use Rattle.std.proofs.Common.{refl, ap, ◌∙◌}
-use Rattle.run_executor.specs.Given.SchedulesDeclared.effect.Table.{Table}
+use Rattle.run_executor.specs.Given.RunsDeclared.effect.Table.{Table}
 use Rattle.run_executor.specs.Given.SchedulesMoment.{TableThere}
 use Rattle.run_executor.specs.Given.SchedulesThings.{same_table}
 use Rattle.run_finds.specs.Bounded.{TablesApart}

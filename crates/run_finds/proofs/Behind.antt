@@ -3,11 +3,11 @@ use Rattle.std.specs.Prelude.{◌≡◌, ℕ, ◌<◌, ◌≤◌, ◌==◌, Bool
 use Rattle.std.specs.List.{AllByRecursion}
 use Rattle.std.proofs.Common.{refl, ap, sym, subst, ◌∙◌, arith}
 use Rattle.std.proofs.lemmas.Bool.{eq-eqb}
-use Rattle.run_executor.specs.Given.SchedulesDeclared.effect.Effect.{Effect}
-use Rattle.run_executor.specs.Given.SchedulesDeclared.effect.Effect.TheVariants as effect
-use Rattle.run_executor.specs.Given.SchedulesDeclared.effect.Spot.{Spot}
-use Rattle.run_executor.specs.Given.SchedulesDeclared.effect.Table.{Table}
-use Rattle.run_executor.specs.Given.SchedulesDeclared.effect.Thing.TheVariants.{APair, ATable}
+use Rattle.run_executor.specs.Given.RunsDeclared.effect.Effect.{Effect}
+use Rattle.run_executor.specs.Given.RunsDeclared.effect.Effect.TheVariants as effect
+use Rattle.run_executor.specs.Given.RunsDeclared.effect.Spot.{Spot}
+use Rattle.run_executor.specs.Given.RunsDeclared.effect.Table.{Table}
+use Rattle.run_executor.specs.Given.RunsDeclared.effect.Thing.TheVariants.{APair, ATable}
 use Rattle.run_executor.specs.Given.SchedulesEffects.{is_chunked, with_effect}
 use Rattle.run_executor.specs.Given.SchedulesLists.{is_in}
 use Rattle.run_executor.specs.Given.SchedulesLives.{MayCopy, MayDefer, CallFinds, EventFinds}

@@ -8,7 +8,7 @@ use Rattle.run_executor.specs.Given.SeizeWorld.{World, times}
 use Rattle.run_executor.proofs.Given.SeizeRuleWorld.Bounded.{garbage_bounded}
 use Rattle.run_blocks.specs.Given.TablesNodes.{deferred_word}
 use Rattle.run_blocks.specs.Given.TablesDeclared.node.Node.{Node}
-use Rattle.run_executor.specs.Given.SchedulesDeclared.effect.Table.{Table}
+use Rattle.run_executor.specs.Given.RunsDeclared.effect.Table.{Table}
 use Rattle.run_executor.specs.Given.SchedulesMoment.{TableThere, Moment}
 use Rattle.run_executor.specs.Given.SchedulesReclaims.{is_handed, waiting_things}
 use Rattle.run_executor.specs.Given.SchedulesThings.{same_table}

@@ -16,9 +16,9 @@ use Rattle.run_blocks.specs.Given.TablesDeclared.resize_mode.ResizeMode.TheVaria
 use Rattle.run_blocks.specs.Given.TablesDeclared.setting.Setting.{Setting}
 use Rattle.run_blocks.specs.Given.ResizeDeclared.new_map.NewMap.{NewMap}
 use Rattle.run_executor.specs.Given.RunsRuns.{map_fault}
-use Rattle.run_executor.specs.Given.SchedulesDeclared.effect.Effect.{Effect}
-use Rattle.run_executor.specs.Given.SchedulesDeclared.effect.Effect.TheVariants as effect
-use Rattle.run_executor.specs.Given.SchedulesDeclared.effect.Table.{Table}
+use Rattle.run_executor.specs.Given.RunsDeclared.effect.Effect.{Effect}
+use Rattle.run_executor.specs.Given.RunsDeclared.effect.Effect.TheVariants as effect
+use Rattle.run_executor.specs.Given.RunsDeclared.effect.Table.{Table}
 use Rattle.run_executor.specs.Given.SchedulesEffects.{promoted, with_effect, with_effects}
 use Rattle.run_executor.specs.Given.SchedulesGrowing.{Has}
 use Rattle.run_executor.specs.Given.SchedulesMoment.{MapThere, Moment}

@@ -7,12 +7,12 @@ use Rattle.run_executor.specs.Given.SeizeWordsDeclared.fault.Fault.{Fault}
 use Rattle.run_executor.specs.Given.SeizeWordsDeclared.fault.Fault.TheVariants.{Busy, Memory}
 use Rattle.run_blocks.specs.Given.TablesDeclared.resize_mode.ResizeMode.{ResizeMode}
 use Rattle.run_executor.specs.Given.RunsRuns.{map_fault}
-use Rattle.run_executor.specs.Given.SchedulesDeclared.effect.Effect.{Effect}
-use Rattle.run_executor.specs.Given.SchedulesDeclared.effect.Effect.TheVariants as effect
-use Rattle.run_executor.specs.Given.SchedulesDeclared.event.Event.{Event}
-use Rattle.run_executor.specs.Given.SchedulesDeclared.event.Event.TheVariants as event
-use Rattle.run_executor.specs.Given.SchedulesDeclared.outcome.Outcome.{Outcome}
-use Rattle.run_executor.specs.Given.SchedulesDeclared.outcome.Outcome.TheVariants.{Done, Refused}
+use Rattle.run_executor.specs.Given.RunsDeclared.effect.Effect.{Effect}
+use Rattle.run_executor.specs.Given.RunsDeclared.effect.Effect.TheVariants as effect
+use Rattle.run_executor.specs.Given.RunsDeclared.event.Event.{Event}
+use Rattle.run_executor.specs.Given.RunsDeclared.event.Event.TheVariants as event
+use Rattle.run_executor.specs.Given.RunsDeclared.outcome.Outcome.{Outcome}
+use Rattle.run_executor.specs.Given.RunsDeclared.outcome.Outcome.TheVariants.{Done, Refused}
 use Rattle.run_executor.specs.Given.SchedulesAfter.{calls_on, closed_on, after, moment}
 use Rattle.run_executor.specs.Given.SchedulesEffects.{maps_by, with_effect, with_effects, worked}
 use Rattle.run_executor.specs.Given.SchedulesEntry.{Entry}

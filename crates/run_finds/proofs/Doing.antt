@@ -3,8 +3,8 @@ use Rattle.std.specs.Prelude.{◌≡◌, Bool, true, ◌&&◌, List, [], ◌∷�
 use Rattle.std.specs.List.{list_all}
 use Rattle.std.proofs.Common.{refl, ap, ◌∙◌}
 use Rattle.std.proofs.lemmas.List.Folds.{list_all-append}
-use Rattle.run_executor.specs.Given.SchedulesDeclared.effect.Effect.{Effect}
-use Rattle.run_executor.specs.Given.SchedulesDeclared.event.Event.TheVariants.{Step, Go, OneCall}
+use Rattle.run_executor.specs.Given.RunsDeclared.effect.Effect.{Effect}
+use Rattle.run_executor.specs.Given.RunsDeclared.event.Event.TheVariants.{Step, Go, OneCall}
 use Rattle.run_executor.specs.Given.SchedulesHanding.{is_call_effect, may_do}
 use Rattle.run_executor.proofs.Given.SpotsUnreclaimed.{and_both}
 use Rattle.run_finds.specs.Doing.{SeveralDoTheirs, EventsMayDo}

@@ -7,13 +7,13 @@ use Rattle.std.proofs.lemmas.Bool.{and_parts, cases_eq, eq-eqb, leb-true}
 use Rattle.std.proofs.lemmas.List.Elements.{recursion_from_All, All-from_recursion}
 use Rattle.std.proofs.lemmas.List.Folds.{find-append}
 use Rattle.run_executor.specs.Given.RunsSame.{is_same}
-use Rattle.run_executor.specs.Given.SchedulesDeclared.effect.Effect.{Effect}
-use Rattle.run_executor.specs.Given.SchedulesDeclared.effect.Effect.TheVariants as effect
-use Rattle.run_executor.specs.Given.SchedulesDeclared.effect.Table.{Table}
-use Rattle.run_executor.specs.Given.SchedulesDeclared.event.Event.{Event}
-use Rattle.run_executor.specs.Given.SchedulesDeclared.event.Event.TheVariants.{MakeMap, EndMap, Begin, OneCall}
-use Rattle.run_executor.specs.Given.SchedulesDeclared.outcome.Outcome.{Outcome}
-use Rattle.run_executor.specs.Given.SchedulesDeclared.outcome.Outcome.TheVariants.{Done, Goes}
+use Rattle.run_executor.specs.Given.RunsDeclared.effect.Effect.{Effect}
+use Rattle.run_executor.specs.Given.RunsDeclared.effect.Effect.TheVariants as effect
+use Rattle.run_executor.specs.Given.RunsDeclared.effect.Table.{Table}
+use Rattle.run_executor.specs.Given.RunsDeclared.event.Event.{Event}
+use Rattle.run_executor.specs.Given.RunsDeclared.event.Event.TheVariants.{MakeMap, EndMap, Begin, OneCall}
+use Rattle.run_executor.specs.Given.RunsDeclared.outcome.Outcome.{Outcome}
+use Rattle.run_executor.specs.Given.RunsDeclared.outcome.Outcome.TheVariants.{Done, Goes}
 use Rattle.run_executor.specs.Given.SchedulesAfter.{tables_taken, maps_on, after}
 use Rattle.run_executor.specs.Given.SchedulesBeginning.{with_call, begun}
 use Rattle.run_executor.specs.Given.SchedulesEffects.{at_stage, promoted, with_effect, with_effects, worked}

@@ -5,13 +5,13 @@ use Rattle.std.proofs.Common.{refl, ap, sym, subst, ◌∙◌, arith}
 use Rattle.std.proofs.lemmas.Bool.{or_left, or_right}
 use Rattle.std.proofs.lemmas.List.Folds.{list_any-append}
 use Rattle.run_executor.specs.Given.RunsSame.{is_same}
-use Rattle.run_executor.specs.Given.SchedulesDeclared.call.Reply.{Reply}
-use Rattle.run_executor.specs.Given.SchedulesDeclared.event.Event.{Event}
-use Rattle.run_executor.specs.Given.SchedulesDeclared.event.Event.TheVariants.{Replied, Stop}
-use Rattle.run_executor.specs.Given.SchedulesDeclared.outcome.Outcome.{Outcome}
-use Rattle.run_executor.specs.Given.SchedulesDeclared.outcome.Outcome.TheVariants.{Done, Goes, Asks, Waits, Ready, Shows}
-use Rattle.run_executor.specs.Given.SchedulesDeclared.effect.Table.{Table}
-use Rattle.run_executor.specs.Given.SchedulesDeclared.effect.Thing.TheVariants.{ATable}
+use Rattle.run_executor.specs.Given.RunsDeclared.call.Reply.{Reply}
+use Rattle.run_executor.specs.Given.RunsDeclared.event.Event.{Event}
+use Rattle.run_executor.specs.Given.RunsDeclared.event.Event.TheVariants.{Replied, Stop}
+use Rattle.run_executor.specs.Given.RunsDeclared.outcome.Outcome.{Outcome}
+use Rattle.run_executor.specs.Given.RunsDeclared.outcome.Outcome.TheVariants.{Done, Goes, Asks, Waits, Ready, Shows}
+use Rattle.run_executor.specs.Given.RunsDeclared.effect.Table.{Table}
+use Rattle.run_executor.specs.Given.RunsDeclared.effect.Thing.TheVariants.{ATable}
 use Rattle.run_executor.specs.Given.SchedulesAfter.{asks_on, comes_to, replied, without_call, stepped, calls_on, after}
 use Rattle.run_executor.specs.Given.SchedulesBeginning.{with_call, with_map}
 use Rattle.run_executor.specs.Given.SchedulesEffects.{worked}

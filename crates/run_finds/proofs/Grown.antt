@@ -5,11 +5,11 @@ use Rattle.std.proofs.Common.{refl, ap, sym, subst, ◌∙◌, arith, length-app
 use Rattle.std.proofs.lemmas.List.Elements.{filter-append}
 use Rattle.run_executor.specs.Given.RunsSame.{is_same}
 use Rattle.run_executor.specs.Given.RunsDeclared.shapes.TableShape.{TableShape}
-use Rattle.run_executor.specs.Given.SchedulesDeclared.effect.Effect.{Effect}
-use Rattle.run_executor.specs.Given.SchedulesDeclared.effect.Effect.TheVariants as effect
-use Rattle.run_executor.specs.Given.SchedulesDeclared.effect.Spot.{Spot}
-use Rattle.run_executor.specs.Given.SchedulesDeclared.effect.Table.{Table}
-use Rattle.run_executor.specs.Given.SchedulesDeclared.effect.Thing.TheVariants.{APair, ATable}
+use Rattle.run_executor.specs.Given.RunsDeclared.effect.Effect.{Effect}
+use Rattle.run_executor.specs.Given.RunsDeclared.effect.Effect.TheVariants as effect
+use Rattle.run_executor.specs.Given.RunsDeclared.effect.Spot.{Spot}
+use Rattle.run_executor.specs.Given.RunsDeclared.effect.Table.{Table}
+use Rattle.run_executor.specs.Given.RunsDeclared.effect.Thing.TheVariants.{APair, ATable}
 use Rattle.run_executor.specs.Given.SchedulesEffects.{born_by, spot_by, at_stage, with_effect}
 use Rattle.run_executor.specs.Given.SchedulesGrowing.{ComesNext}
 use Rattle.run_executor.specs.Given.SchedulesMoment.{Place, UnderWay, Stage, IsLinked, IsRetired, IsReclaimed, IsTaken, TableThere, Moment}

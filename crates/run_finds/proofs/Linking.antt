@@ -17,11 +17,11 @@ use Rattle.run_executor.specs.Given.RawDeclared.machines.call.Calling.TheVariant
 use Rattle.run_executor.specs.Given.RawDeclared.machines.call.KeyCall.{KeyCall}
 use Rattle.run_executor.specs.Given.RawDeclared.machines.progress.Progress.{Progress}
 use Rattle.run_executor.specs.Given.RunsDeclared.shapes.TableShape.{TableShape}
-use Rattle.run_executor.specs.Given.SchedulesDeclared.call.Call.{Call}
-use Rattle.run_executor.specs.Given.SchedulesDeclared.call.Call.TheVariants as call
-use Rattle.run_executor.specs.Given.SchedulesDeclared.effect.Effect.{Effect}
-use Rattle.run_executor.specs.Given.SchedulesDeclared.effect.Effect.TheVariants as effect
-use Rattle.run_executor.specs.Given.SchedulesDeclared.effect.Growth.TheVariants.{ABlock}
+use Rattle.run_executor.specs.Given.RunsDeclared.call.Call.{Call}
+use Rattle.run_executor.specs.Given.RunsDeclared.call.Call.TheVariants as call
+use Rattle.run_executor.specs.Given.RunsDeclared.effect.Effect.{Effect}
+use Rattle.run_executor.specs.Given.RunsDeclared.effect.Effect.TheVariants as effect
+use Rattle.run_executor.specs.Given.RunsDeclared.effect.Growth.TheVariants.{ABlock}
 use Rattle.run_executor.specs.Given.SchedulesEffects.{call_by, with_effect, AtEachEffect}
 use Rattle.run_executor.specs.Given.SchedulesEntry.{ByCall}
 use Rattle.run_executor.specs.Given.SchedulesGrowing.{Has, IsFirstOf, MayMakeFor, IsNextShape, Follows}

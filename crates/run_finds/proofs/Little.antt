@@ -3,11 +3,11 @@ use Rattle.std.specs.Prelude.{◌≡◌, ◌<◌, ◌^◌, Bool, true, false, Ma
 use Rattle.std.proofs.Common.{refl}
 use Rattle.run_executor.specs.Given.SeizeWorld.{World}
 use Rattle.run_blocks.specs.Given.TablesDeclared.node.Node.{Node}
-use Rattle.run_executor.specs.Given.SchedulesDeclared.effect.Thing.{Thing}
-use Rattle.run_executor.specs.Given.SchedulesDeclared.event.Event.{Event}
-use Rattle.run_executor.specs.Given.SchedulesDeclared.event.Event.TheVariants.{ReclaimAll, Close}
-use Rattle.run_executor.specs.Given.SchedulesDeclared.outcome.Outcome.{Outcome}
-use Rattle.run_executor.specs.Given.SchedulesDeclared.outcome.Outcome.TheVariants.{Done}
+use Rattle.run_executor.specs.Given.RunsDeclared.effect.Thing.{Thing}
+use Rattle.run_executor.specs.Given.RunsDeclared.event.Event.{Event}
+use Rattle.run_executor.specs.Given.RunsDeclared.event.Event.TheVariants.{ReclaimAll, Close}
+use Rattle.run_executor.specs.Given.RunsDeclared.outcome.Outcome.{Outcome}
+use Rattle.run_executor.specs.Given.RunsDeclared.outcome.Outcome.TheVariants.{Done}
 use Rattle.run_executor.specs.Given.SchedulesAfter.{after, moment}
 use Rattle.run_executor.specs.Given.SchedulesEntry.{Entry}
 use Rattle.run_executor.specs.Given.SchedulesLists.{is_empty}

@@ -5,11 +5,11 @@ use Rattle.std.specs.List.{AllByRecursion, list_any}
 use Rattle.std.proofs.Common.{refl, ap, sym, subst, ◌∙◌, arith}
 use Rattle.std.proofs.lemmas.Bool.{or_parts, or_from}
 use Rattle.run_executor.specs.Given.RunsSame.{is_same}
-use Rattle.run_executor.specs.Given.SchedulesDeclared.call.Call.{Call}
-use Rattle.run_executor.specs.Given.SchedulesDeclared.call.Call.TheVariants as call
-use Rattle.run_executor.specs.Given.SchedulesDeclared.effect.Table.{Table}
-use Rattle.run_executor.specs.Given.SchedulesDeclared.effect.Thing.{Thing}
-use Rattle.run_executor.specs.Given.SchedulesDeclared.effect.Thing.TheVariants.{APair, ATable}
+use Rattle.run_executor.specs.Given.RunsDeclared.call.Call.{Call}
+use Rattle.run_executor.specs.Given.RunsDeclared.call.Call.TheVariants as call
+use Rattle.run_executor.specs.Given.RunsDeclared.effect.Table.{Table}
+use Rattle.run_executor.specs.Given.RunsDeclared.effect.Thing.{Thing}
+use Rattle.run_executor.specs.Given.RunsDeclared.effect.Thing.TheVariants.{APair, ATable}
 use Rattle.run_executor.specs.Given.SchedulesAfter.{without_call}
 use Rattle.run_executor.specs.Given.SchedulesEffects.{passed, due_for}
 use Rattle.run_executor.specs.Given.SchedulesLists.{is_in, without_one}

@@ -1,8 +1,8 @@
 -- A call that has a pair to store is one on one key, which replaces nothing between the effects of two steps.
 use Rattle.std.specs.Prelude.{◌≡◌, ℕ, Bool, [], ◌∷◌, None}
 use Rattle.std.proofs.Common.{sym, subst}
-use Rattle.run_executor.specs.Given.SchedulesDeclared.call.Call.{Call}
-use Rattle.run_executor.specs.Given.SchedulesDeclared.call.Call.TheVariants as call
+use Rattle.run_executor.specs.Given.RunsDeclared.call.Call.{Call}
+use Rattle.run_executor.specs.Given.RunsDeclared.call.Call.TheVariants as call
 use Rattle.run_executor.specs.Given.SchedulesEffects.{new_pair}
 use Rattle.run_executor.specs.Given.SchedulesMoment.{UnderWay as CallThere}
 use Rattle.run_executor.specs.Given.CallersTogether.{UnderWay, OnKey, ForRoom, Counting, OverAll}

@@ -24,14 +24,14 @@ use Rattle.run_executor.specs.Given.ReservesDeclared.reserve.Reserve.{Reserve}
 use Rattle.run_executor.specs.Given.ReservesDeclared.reserve.Reserving.{Reserving}
 use Rattle.run_executor.specs.Given.ReservesDeclared.reserve.Reserving.TheVariants as at
 use Rattle.run_executor.specs.Given.RawMachine.{reserved as of_room}
-use Rattle.run_executor.specs.Given.SchedulesDeclared.call.Call.{Call}
+use Rattle.run_executor.specs.Given.RunsDeclared.call.Call.{Call}
 use Rattle.run_executor.specs.Given.SchedulesCounts.{AddsUp, Counts}
 use Rattle.run_executor.specs.Given.SchedulesGrowing.{is_too_many, MayGrow}
 use Rattle.run_executor.specs.Given.SchedulesLists.{OneOf}
 use Rattle.run_executor.specs.Given.SchedulesMoment.{UnderWay as CallThere, Moment}
 use Rattle.run_executor.specs.Given.TellerTells.{StepsTold}
-use Rattle.run_executor.specs.Given.TellerDeclared.changed.Changed.{Changed}
-use Rattle.run_executor.specs.Given.TellerDeclared.changed.Changed.TheVariants as changed
+use Rattle.run_executor.specs.Given.EffectsDeclared.changed.Changed.{Changed}
+use Rattle.run_executor.specs.Given.EffectsDeclared.changed.Changed.TheVariants as changed
 use Rattle.run_executor.proofs.Given.RuleKeys.Always.{Always, AlwaysOf, always_if, always_plan_as, always_steps}
 use Rattle.run_executor.specs.Given.CallersTogether.{ForRoom}
 use Rattle.run_executor.proofs.Given.FollowsSteps.{one_of}

@@ -5,11 +5,11 @@ use Rattle.std.proofs.Common.{refl, ap, sym, subst, ◌∙◌, arith}
 use Rattle.std.proofs.lemmas.Bool.{eq-eqb}
 use Rattle.std.proofs.lemmas.List.Elements.{recursion_from_All, All-from_recursion}
 use Rattle.run_executor.specs.Given.RunsSame.{is_same}
-use Rattle.run_executor.specs.Given.SchedulesDeclared.effect.Effect.{Effect}
-use Rattle.run_executor.specs.Given.SchedulesDeclared.event.Event.{Event}
-use Rattle.run_executor.specs.Given.SchedulesDeclared.event.Event.TheVariants as event
-use Rattle.run_executor.specs.Given.SchedulesDeclared.outcome.Outcome.{Outcome}
-use Rattle.run_executor.specs.Given.SchedulesDeclared.outcome.Outcome.TheVariants as outcome
+use Rattle.run_executor.specs.Given.RunsDeclared.effect.Effect.{Effect}
+use Rattle.run_executor.specs.Given.RunsDeclared.event.Event.{Event}
+use Rattle.run_executor.specs.Given.RunsDeclared.event.Event.TheVariants as event
+use Rattle.run_executor.specs.Given.RunsDeclared.outcome.Outcome.{Outcome}
+use Rattle.run_executor.specs.Given.RunsDeclared.outcome.Outcome.TheVariants as outcome
 use Rattle.run_executor.specs.Given.SchedulesAfter.{moment, after, maps_on}
 use Rattle.run_executor.specs.Given.SchedulesBeginning.{begun}
 use Rattle.run_executor.specs.Given.SchedulesEffects.{call_by, with_effect, worked}

@@ -1,11 +1,11 @@
 -- What effects find of places, by which of them an operation has together: a single one that stores finds a call that replaces nothing, and a single one that brings the root on, none left behind.
 use Rattle.std.specs.Prelude.{◌≡◌, ℕ, true, List, [], ◌∷◌, Option, Some, None}
 use Rattle.std.proofs.Common.{refl, ap, sym, subst, ◌∙◌}
-use Rattle.run_executor.specs.Given.SchedulesDeclared.effect.Effect.{Effect}
-use Rattle.run_executor.specs.Given.SchedulesDeclared.effect.Effect.TheVariants as effect
-use Rattle.run_executor.specs.Given.SchedulesDeclared.effect.Growth.TheVariants.{ABlock}
-use Rattle.run_executor.specs.Given.SchedulesDeclared.effect.Spot.{Spot}
-use Rattle.run_executor.specs.Given.SchedulesDeclared.effect.Table.{Table}
+use Rattle.run_executor.specs.Given.RunsDeclared.effect.Effect.{Effect}
+use Rattle.run_executor.specs.Given.RunsDeclared.effect.Effect.TheVariants as effect
+use Rattle.run_executor.specs.Given.RunsDeclared.effect.Growth.TheVariants.{ABlock}
+use Rattle.run_executor.specs.Given.RunsDeclared.effect.Spot.{Spot}
+use Rattle.run_executor.specs.Given.RunsDeclared.effect.Table.{Table}
 use Rattle.run_executor.specs.Given.SchedulesEffects.{call_by, with_effect}
 use Rattle.run_executor.specs.Given.SchedulesEntry.{ByCall}
 use Rattle.run_executor.specs.Given.SchedulesGrowing.{none_before}

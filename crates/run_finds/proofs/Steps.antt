@@ -6,10 +6,10 @@ use Rattle.run_executor.specs.Given.SeizeWordsMem.{Mem}
 use Rattle.run_executor.specs.Given.SeizeWorld.{World}
 use Rattle.run_blocks.specs.Given.TablesDeclared.node.Node.{Node}
 use Rattle.run_executor.specs.Given.RawDeclared.machines.progress.Progress.{Progress}
-use Rattle.run_executor.specs.Given.SchedulesDeclared.effect.Effect.{Effect}
-use Rattle.run_executor.specs.Given.SchedulesDeclared.effect.Effect.TheVariants as effect
-use Rattle.run_executor.specs.Given.SchedulesDeclared.effect.Spot.{Spot}
-use Rattle.run_executor.specs.Given.SchedulesDeclared.effect.Table.{Table}
+use Rattle.run_executor.specs.Given.RunsDeclared.effect.Effect.{Effect}
+use Rattle.run_executor.specs.Given.RunsDeclared.effect.Effect.TheVariants as effect
+use Rattle.run_executor.specs.Given.RunsDeclared.effect.Spot.{Spot}
+use Rattle.run_executor.specs.Given.RunsDeclared.effect.Table.{Table}
 use Rattle.run_executor.specs.Given.SchedulesEffects.{new_pair, stored_by, with_effect, with_effects, AtEachEffect}
 use Rattle.run_executor.specs.Given.SchedulesEntry.{acting}
 use Rattle.run_executor.specs.Given.SchedulesGrowing.{none_before}
@@ -17,8 +17,8 @@ use Rattle.run_executor.specs.Given.SchedulesHanding.{is_call_effect}
 use Rattle.run_executor.specs.Given.SchedulesMoment.{UnderWay as CallThere, Moment}
 use Rattle.run_executor.specs.Given.SchedulesViews.{call_of}
 use Rattle.run_executor.specs.Given.CallersTogether.{UnderWay, OnKey, ForRoom, Counting, OverAll, IsOneStep, Together}
-use Rattle.run_executor.specs.Given.TellerDeclared.changed.Changed.{Changed}
-use Rattle.run_executor.specs.Given.TellerDeclared.changed.Changed.TheVariants as changed
+use Rattle.run_executor.specs.Given.EffectsDeclared.changed.Changed.{Changed}
+use Rattle.run_executor.specs.Given.EffectsDeclared.changed.Changed.TheVariants as changed
 use Rattle.run_executor.specs.Given.EffectsEffects.{effects_of, known_after}
 use Rattle.run_executor.specs.Given.EffectsKnown.{Known}
 use Rattle.run_executor.specs.Given.EffectsDeclared.acting.Acting.TheVariants as acts

@@ -4,10 +4,10 @@ use Rattle.std.proofs.Common.{refl, ap, sym, ◌∙◌, inl, inr}
 use Rattle.run_blocks.specs.Given.TablesDeclared.node.Node.{Node}
 use Rattle.run_executor.specs.Given.RawDeclared.machines.answer.Missing.TheVariants as missing
 use Rattle.run_executor.specs.Given.RawDeclared.machines.asking.Reply.TheVariants as reply
-use Rattle.run_executor.specs.Given.SchedulesDeclared.call.OneKey.{OneKey}
-use Rattle.run_executor.specs.Given.SchedulesDeclared.call.OneKey.TheVariants.{Get, GetKeyValue, ContainsKey, Insert, TryInsert, TryInsertWith, GetOrInsert, GetOrInsertWith, Update, UpdateOrInsert, UpdateOrInsertWith, Compute, Remove, RemoveEntry, RemoveIf}
-use Rattle.run_executor.specs.Given.SchedulesDeclared.call.Reply.{Reply}
-use Rattle.run_executor.specs.Given.SchedulesDeclared.call.Reply.TheVariants.{Gives}
+use Rattle.run_executor.specs.Given.RunsDeclared.call.OneKey.{OneKey}
+use Rattle.run_executor.specs.Given.RunsDeclared.call.OneKey.TheVariants.{Get, GetKeyValue, ContainsKey, Insert, TryInsert, TryInsertWith, GetOrInsert, GetOrInsertWith, Update, UpdateOrInsert, UpdateOrInsertWith, Compute, Remove, RemoveEntry, RemoveIf}
+use Rattle.run_executor.specs.Given.RunsDeclared.call.Reply.{Reply}
+use Rattle.run_executor.specs.Given.RunsDeclared.call.Reply.TheVariants.{Gives}
 use Rattle.run_executor.specs.Given.SchedulesSequential.{means, puts_any}
 use Rattle.run_executor.specs.Given.SchedulesViews.{reply_to}
 use Rattle.run_executor.specs.Given.CallersAsked.{Asked, last_told}

@@ -4,7 +4,7 @@ use Rattle.std.specs.List.{list_any}
 use Rattle.std.proofs.Common.{refl, ap, ◌∙◌, arith}
 use Rattle.std.proofs.lemmas.Bool.{eq-eqb}
 use Rattle.run_executor.specs.Given.RunsLifeCycle.{times}
-use Rattle.run_executor.specs.Given.SchedulesDeclared.effect.Table.{Table}
+use Rattle.run_executor.specs.Given.RunsDeclared.effect.Table.{Table}
 use Rattle.run_executor.specs.Given.SchedulesMoment.{Place, Unborn, InMap, Out, Handed, Behind, Left, GivenBack, MapThere, Deferral, Moment}
 use Rattle.run_executor.specs.Given.SchedulesReclaims.{has_next, has_last_reason, IsEmptied}
 use Rattle.run_executor.specs.Given.SchedulesThings.{same_table}

@@ -5,7 +5,7 @@ use Rattle.run_blocks.specs.Given.TablesDeclared.node.Node.{Node}
 use Rattle.run_blocks.specs.Given.TablesDeclared.setting.Setting.{Setting}
 use Rattle.run_executor.specs.Given.RawDeclared.machines.progress.Progress.{Progress}
 use Rattle.run_executor.specs.Given.RunsRuns.{map_fault}
-use Rattle.run_executor.specs.Given.SchedulesDeclared.effect.Effect.{Effect}
+use Rattle.run_executor.specs.Given.RunsDeclared.effect.Effect.{Effect}
 use Rattle.run_executor.specs.Given.SchedulesEffects.{with_effects}
 use Rattle.run_executor.specs.Given.SchedulesMoment.{MapThere, Moment}
 use Rattle.run_executor.specs.Given.SchedulesViews.{map_at, capacity_or}

@@ -1,9 +1,9 @@
 -- What is promised of the kinds of effects of an event of a call: they are such as its events may have, over several steps, too.
 use Rattle.std.specs.Prelude.{◌≡◌, Bool, true, false, List, ◌++◌}
 use Rattle.std.specs.List.{list_all}
-use Rattle.run_executor.specs.Given.SchedulesDeclared.effect.Effect.{Effect}
-use Rattle.run_executor.specs.Given.SchedulesDeclared.event.Event.{Event}
-use Rattle.run_executor.specs.Given.SchedulesDeclared.event.Event.TheVariants.{Step, Go, OneCall}
+use Rattle.run_executor.specs.Given.RunsDeclared.effect.Effect.{Effect}
+use Rattle.run_executor.specs.Given.RunsDeclared.event.Event.{Event}
+use Rattle.run_executor.specs.Given.RunsDeclared.event.Event.TheVariants.{Step, Go, OneCall}
 use Rattle.run_executor.specs.Given.SchedulesHanding.{is_call_effect, may_do}
 use Rattle.run_executor.specs.Given.SchedulesMoment.{Moment}
 

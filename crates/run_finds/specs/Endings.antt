@@ -2,10 +2,10 @@
 -- found by their names, as by their numbers.
 use Rattle.std.specs.Prelude.{◌≡◌, true, Some, None}
 use Rattle.std.specs.List.{AllByRecursion, list_all}
-use Rattle.run_executor.specs.Given.SchedulesDeclared.event.Event.{Event}
-use Rattle.run_executor.specs.Given.SchedulesDeclared.event.Event.TheVariants.{MakeMap}
-use Rattle.run_executor.specs.Given.SchedulesDeclared.outcome.Outcome.{Outcome}
-use Rattle.run_executor.specs.Given.SchedulesDeclared.outcome.Outcome.TheVariants.{Done}
+use Rattle.run_executor.specs.Given.RunsDeclared.event.Event.{Event}
+use Rattle.run_executor.specs.Given.RunsDeclared.event.Event.TheVariants.{MakeMap}
+use Rattle.run_executor.specs.Given.RunsDeclared.outcome.Outcome.{Outcome}
+use Rattle.run_executor.specs.Given.RunsDeclared.outcome.Outcome.TheVariants.{Done}
 use Rattle.run_executor.specs.Given.SchedulesAfter.{after}
 use Rattle.run_executor.specs.Given.SchedulesEffects.{worked}
 use Rattle.run_executor.specs.Given.SchedulesEntry.{Entry}

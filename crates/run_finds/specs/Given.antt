@@ -98,7 +98,6 @@ pub use Rattle.run_executor.specs.Given.SchedulesAfter
 pub use Rattle.run_executor.specs.Given.SchedulesBeginning
 pub use Rattle.run_executor.specs.Given.SchedulesComing
 pub use Rattle.run_executor.specs.Given.SchedulesCounts
-pub use Rattle.run_executor.specs.Given.SchedulesDeclared
 pub use Rattle.run_executor.specs.Given.SchedulesEffects
 pub use Rattle.run_executor.specs.Given.SchedulesEntry
 pub use Rattle.run_executor.specs.Given.SchedulesGrowing
@@ -126,10 +125,8 @@ pub use Rattle.run_executor.specs.Given.SeizeWordsWord
 pub use Rattle.run_executor.specs.Given.SeizeWorld
 pub use Rattle.run_executor.specs.Given.SpotsDeferred
 pub use Rattle.run_executor.specs.Given.SpotsSpots
-pub use Rattle.run_executor.specs.Given.SweepsDeclared
 pub use Rattle.run_executor.specs.Given.SweepsSweep
 pub use Rattle.run_executor.specs.Given.SweepsSweepPoints
-pub use Rattle.run_executor.specs.Given.TellerDeclared
 pub use Rattle.run_executor.specs.Given.TellerTells
 pub use Rattle.run_executor.specs.Given.TellsSeen
 pub use Rattle.run_executor.specs.Given.TellsTells
@@ -139,4 +136,3 @@ pub use Rattle.run_executor.specs.Named.Seen as NamedSeen
 pub use Rattle.run_executor.specs.Named.Telling as NamedTelling
 pub use Rattle.run_executor.specs.ReclaimsAll.Reclaiming as ReclaimingReclaiming
 pub use Rattle.run_executor.specs.declared as ExecutorDeclared
-pub use Rattle.run_executor.specs.declared as NamedDeclared

@@ -11,9 +11,9 @@ use Rattle.run_executor.specs.Given.RawDeclared.machines.call.Calling.{Calling}
 use Rattle.run_executor.specs.Given.RawDeclared.machines.call.Calling.TheVariants as at
 use Rattle.run_executor.specs.Given.RawDeclared.machines.call.KeyCall.{KeyCall}
 use Rattle.run_executor.specs.Given.RawDeclared.machines.progress.Progress.{Progress}
-use Rattle.run_executor.specs.Given.SchedulesDeclared.effect.Effect.{Effect}
-use Rattle.run_executor.specs.Given.SchedulesDeclared.effect.Effect.TheVariants.{Asked}
-use Rattle.run_executor.specs.Given.SchedulesDeclared.effect.Growth.TheVariants.{ABlock}
+use Rattle.run_executor.specs.Given.RunsDeclared.effect.Effect.{Effect}
+use Rattle.run_executor.specs.Given.RunsDeclared.effect.Effect.TheVariants.{Asked}
+use Rattle.run_executor.specs.Given.RunsDeclared.effect.Growth.TheVariants.{ABlock}
 use Rattle.run_executor.specs.Given.SchedulesEffects.{with_effects, AtEachEffect}
 use Rattle.run_executor.specs.Given.SchedulesEntry.{ByCall, acting}
 use Rattle.run_executor.specs.Given.SchedulesGrowing.{MayGrow}

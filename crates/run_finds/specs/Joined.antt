@@ -1,7 +1,7 @@
 -- What is promised of the parts of what effects of a call find: they make up all of it, over the steps of an event, and so for the event.
 use Rattle.std.specs.Prelude.{◌≡◌, ℕ, true, List, ◌∷◌, ◌++◌, Some}
 use Rattle.std.specs.List.{list_all}
-use Rattle.run_executor.specs.Given.SchedulesDeclared.effect.Effect.{Effect}
+use Rattle.run_executor.specs.Given.RunsDeclared.effect.Effect.{Effect}
 use Rattle.run_executor.specs.Given.SchedulesAfter.{moments_from}
 use Rattle.run_executor.specs.Given.SchedulesEffects.{with_effects, AtEachEffect}
 use Rattle.run_executor.specs.Given.SchedulesEntry.{Entry, caller_of}

@@ -1,7 +1,7 @@
 -- What effects find by the promise `life` of their event is what they have to find for pairs to be in their places.
 use Rattle.std.specs.Prelude.{◌≡◌, ℕ, ◌+◌, Bool, List, length, Option}
-use Rattle.run_executor.specs.Given.SchedulesDeclared.effect.Effect.{Effect}
-use Rattle.run_executor.specs.Given.SchedulesDeclared.effect.Effect.TheVariants.{Stored}
+use Rattle.run_executor.specs.Given.RunsDeclared.effect.Effect.{Effect}
+use Rattle.run_executor.specs.Given.RunsDeclared.effect.Effect.TheVariants.{Stored}
 use Rattle.run_executor.specs.Given.SchedulesEffects.{stored_by}
 use Rattle.run_executor.specs.Given.SchedulesEntry.{acting}
 use Rattle.run_executor.specs.Given.SchedulesLives.{Finds}

@@ -1,9 +1,9 @@
 -- What an effect of a step of a call finds, by parts: where pairs lie, that the root leaves no pair behind, and what is left.
 use Rattle.std.specs.Prelude.{◌≡◌, ℕ, true, false, List, ◌∷◌, Some}
-use Rattle.run_executor.specs.Given.SchedulesDeclared.effect.Effect.{Effect}
-use Rattle.run_executor.specs.Given.SchedulesDeclared.effect.Effect.TheVariants.{Asked, Linked, Promoted, Copied, Stored, Deferred, Retired}
-use Rattle.run_executor.specs.Given.SchedulesDeclared.effect.Growth.TheVariants.{ABlock}
-use Rattle.run_executor.specs.Given.SchedulesDeclared.effect.Thing.TheVariants.{APair}
+use Rattle.run_executor.specs.Given.RunsDeclared.effect.Effect.{Effect}
+use Rattle.run_executor.specs.Given.RunsDeclared.effect.Effect.TheVariants.{Asked, Linked, Promoted, Copied, Stored, Deferred, Retired}
+use Rattle.run_executor.specs.Given.RunsDeclared.effect.Growth.TheVariants.{ABlock}
+use Rattle.run_executor.specs.Given.RunsDeclared.effect.Thing.TheVariants.{APair}
 use Rattle.run_executor.specs.Given.SchedulesEffects.{AtEachEffect}
 use Rattle.run_executor.specs.Given.SchedulesEntry.{ByCall, acting}
 use Rattle.run_executor.specs.Given.SchedulesGrowing.{only_looks, MayGrow, Follows, none_before}

@@ -1,7 +1,7 @@
 -- What is promised of a pair that has left its map: it lies where it lay, and the root that has come there does not go back, so that it may be retired later still.
 use Rattle.std.specs.Prelude.{◌≡◌, ℕ, ◌≤◌, true, false, List, length, Option, Some}
-use Rattle.run_executor.specs.Given.SchedulesDeclared.effect.Effect.{Effect}
-use Rattle.run_executor.specs.Given.SchedulesDeclared.effect.Effect.TheVariants.{Promoted, Copied}
+use Rattle.run_executor.specs.Given.RunsDeclared.effect.Effect.{Effect}
+use Rattle.run_executor.specs.Given.RunsDeclared.effect.Effect.TheVariants.{Promoted, Copied}
 use Rattle.run_executor.specs.Given.SchedulesEffects.{is_chunked, AtEachEffect}
 use Rattle.run_executor.specs.Given.SchedulesLives.{IsPast}
 use Rattle.run_executor.specs.Given.SchedulesMoment.{UnderWay as CallThere, Moment}

@@ -1,6 +1,6 @@
 -- What is promised of effects that store pairs: they store one each.
 use Rattle.std.specs.Prelude.{◌≡◌, ℕ, List, ◌++◌, Some}
-use Rattle.run_executor.specs.Given.SchedulesDeclared.effect.Effect.{Effect}
+use Rattle.run_executor.specs.Given.RunsDeclared.effect.Effect.{Effect}
 use Rattle.run_executor.specs.Given.SchedulesEffects.{with_effects, AtEachEffect}
 use Rattle.run_executor.specs.Given.SchedulesMoment.{Moment}
 use Rattle.run_finds.specs.Life.{StoresOne}

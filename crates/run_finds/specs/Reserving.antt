@@ -13,15 +13,15 @@ use Rattle.run_executor.specs.Given.ReservesDeclared.reserve.Reserve.{Reserve}
 use Rattle.run_executor.specs.Given.ReservesDeclared.reserve.Reserving.{Reserving}
 use Rattle.run_executor.specs.Given.ReservesDeclared.reserve.Reserving.TheVariants as reserving
 use Rattle.run_executor.specs.Given.RawDeclared.machines.progress.Progress.{Progress as Said}
-use Rattle.run_executor.specs.Given.SchedulesDeclared.call.Call.TheVariants.{Reserve as ToReserve}
+use Rattle.run_executor.specs.Given.RunsDeclared.call.Call.TheVariants.{Reserve as ToReserve}
 use Rattle.run_executor.specs.Given.SchedulesCounts.{Counts}
 use Rattle.run_executor.specs.Given.SchedulesGrowing.{is_too_many}
 use Rattle.run_executor.specs.Given.SchedulesMoment.{UnderWay as CallThere, Moment}
 use Rattle.run_executor.specs.Given.SchedulesTerms.{Terms, shards_of}
 use Rattle.run_executor.specs.Given.SchedulesViews.{call_of}
 use Rattle.run_executor.specs.Given.TellerTells.{StepsTold}
-use Rattle.run_executor.specs.Given.TellerDeclared.changed.Changed.{Changed}
-use Rattle.run_executor.specs.Given.TellerDeclared.changed.Changed.TheVariants as changed
+use Rattle.run_executor.specs.Given.EffectsDeclared.changed.Changed.{Changed}
+use Rattle.run_executor.specs.Given.EffectsDeclared.changed.Changed.TheVariants as changed
 use Rattle.run_executor.specs.Given.CallersRooms.{CallForRoom}
 use Rattle.run_executor.specs.Given.CallersTogether.{ForRoom}
 use Rattle.run_executor.specs.Given.EffectsEffects.{effects_of}

@@ -1,8 +1,8 @@
 -- What is left of what effects of calls find, by three parts: why a block is asked for, which table is linked, and where a pair is handed over. They make it up.
 use Rattle.std.specs.Prelude.{◌≡◌, ℕ, List, Some}
-use Rattle.run_executor.specs.Given.SchedulesDeclared.effect.Effect.{Effect}
-use Rattle.run_executor.specs.Given.SchedulesDeclared.effect.Effect.TheVariants.{Deferred, Retired}
-use Rattle.run_executor.specs.Given.SchedulesDeclared.effect.Thing.TheVariants.{APair}
+use Rattle.run_executor.specs.Given.RunsDeclared.effect.Effect.{Effect}
+use Rattle.run_executor.specs.Given.RunsDeclared.effect.Effect.TheVariants.{Deferred, Retired}
+use Rattle.run_executor.specs.Given.RunsDeclared.effect.Thing.TheVariants.{APair}
 use Rattle.run_executor.specs.Given.SchedulesEffects.{AtEachEffect}
 use Rattle.run_executor.specs.Given.SchedulesEntry.{ByCall, acting}
 use Rattle.run_executor.specs.Given.SchedulesLives.{IsPast, MayDefer}

@@ -1,10 +1,10 @@
 -- What waits is in order after any effects: tables that roots have passed are owed still, and what waits behind a table waits behind one that is there.
 use Rattle.std.specs.Prelude.{◌≡◌, ℕ, ◌+◌, ◌<◌, ◌≤◌, ◌==◌, nat_le, ◌&&◌, Bool, true, false, List, length, Option, Some}
 use Rattle.std.specs.List.{AllByRecursion, list_any}
-use Rattle.run_executor.specs.Given.SchedulesDeclared.effect.Effect.{Effect}
-use Rattle.run_executor.specs.Given.SchedulesDeclared.effect.Effect.TheVariants.{Linked, Promoted, Deferred}
-use Rattle.run_executor.specs.Given.SchedulesDeclared.effect.Table.{Table}
-use Rattle.run_executor.specs.Given.SchedulesDeclared.effect.Thing.TheVariants.{ATable}
+use Rattle.run_executor.specs.Given.RunsDeclared.effect.Effect.{Effect}
+use Rattle.run_executor.specs.Given.RunsDeclared.effect.Effect.TheVariants.{Linked, Promoted, Deferred}
+use Rattle.run_executor.specs.Given.RunsDeclared.effect.Table.{Table}
+use Rattle.run_executor.specs.Given.RunsDeclared.effect.Thing.TheVariants.{ATable}
 use Rattle.run_executor.specs.Given.SchedulesEffects.{with_effects, AtEachEffect}
 use Rattle.run_executor.specs.Given.SchedulesEntry.{acting, ByCall}
 use Rattle.run_executor.specs.Given.SchedulesLists.{is_in}

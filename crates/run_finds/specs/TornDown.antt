@@ -1,8 +1,8 @@
 -- Once the collector has ended each stored pair was reclaimed, once.
 use Rattle.std.specs.Prelude.{◌≡◌, ℕ, ◌≤◌, ◌==◌, true, false, List, [], length, Option, Some, None}
 use Rattle.std.specs.List.{list_any}
-use Rattle.run_executor.specs.Given.SchedulesDeclared.effect.Effect.{Effect}
-use Rattle.run_executor.specs.Given.SchedulesDeclared.effect.Effect.TheVariants.{Stored}
+use Rattle.run_executor.specs.Given.RunsDeclared.effect.Effect.{Effect}
+use Rattle.run_executor.specs.Given.RunsDeclared.effect.Effect.TheVariants.{Stored}
 use Rattle.run_executor.specs.Given.SchedulesEffects.{with_effects, AtEachEffect}
 use Rattle.run_executor.specs.Given.SchedulesMoment.{InMap, MapThere, Moment, start}
 use Rattle.run_executor.specs.Given.SchedulesReclaims.{IsEmptied, IsTornDown}

@@ -4,10 +4,10 @@ use Rattle.std.specs.Prelude.{◌≡◌, ℕ, ◌+◌, ◌≤◌, ◌==◌, Bool
 use Rattle.std.specs.List.{AllByRecursion, list_any}
 use Rattle.run_executor.specs.Given.RunsLifeCycle.{times}
 use Rattle.run_executor.specs.Given.RunsSame.{is_same}
-use Rattle.run_executor.specs.Given.SchedulesDeclared.effect.Effect.{Effect}
-use Rattle.run_executor.specs.Given.SchedulesDeclared.effect.Effect.TheVariants.{Stored, Replaced, Removed, Deferred, Retired, Reclaimed, Ended}
-use Rattle.run_executor.specs.Given.SchedulesDeclared.effect.Thing.{Thing}
-use Rattle.run_executor.specs.Given.SchedulesDeclared.effect.Thing.TheVariants.{APair}
+use Rattle.run_executor.specs.Given.RunsDeclared.effect.Effect.{Effect}
+use Rattle.run_executor.specs.Given.RunsDeclared.effect.Effect.TheVariants.{Stored, Replaced, Removed, Deferred, Retired, Reclaimed, Ended}
+use Rattle.run_executor.specs.Given.RunsDeclared.effect.Thing.{Thing}
+use Rattle.run_executor.specs.Given.RunsDeclared.effect.Thing.TheVariants.{APair}
 use Rattle.run_executor.specs.Given.SchedulesAfter.{without_call}
 use Rattle.run_executor.specs.Given.SchedulesEffects.{stored_by, with_effects, AtEachEffect}
 use Rattle.run_executor.specs.Given.SchedulesEntry.{acting, ByCall}

@@ -6,19 +6,19 @@ use Rattle.run_blocks.specs.Given.ResizeDispose.{disposing}
 use Rattle.run_blocks.specs.Given.ResizeDeclared.dispose.Dispose.{Dispose}
 use Rattle.run_blocks.specs.Given.ResizeDeclared.dispose.Disposing.{Disposing}
 use Rattle.run_blocks.specs.Given.ResizeDeclared.dispose.Disposing.TheVariants as disposal
-use Rattle.run_executor.specs.Given.SweepsDeclared.sweep.Sweep.{Sweep}
-use Rattle.run_executor.specs.Given.SweepsDeclared.sweep.Sweeping.{Sweeping}
-use Rattle.run_executor.specs.Given.SweepsDeclared.sweep.Sweeping.TheVariants as sweeping
+use Rattle.run_executor.specs.Given.ReservesDeclared.sweep.Sweep.{Sweep}
+use Rattle.run_executor.specs.Given.ReservesDeclared.sweep.Sweeping.{Sweeping}
+use Rattle.run_executor.specs.Given.ReservesDeclared.sweep.Sweeping.TheVariants as sweeping
 use Rattle.run_executor.specs.Given.RawDeclared.machines.call.Calling.{Calling}
 use Rattle.run_executor.specs.Given.RawDeclared.machines.call.Calling.TheVariants as calling
 use Rattle.run_executor.specs.Given.RawDeclared.machines.call.KeyCall.{KeyCall}
 use Rattle.run_executor.specs.Given.RawDeclared.machines.machine.Machine.{Machine}
 use Rattle.run_executor.specs.Given.RawDeclared.machines.machine.Machine.TheVariants as kinds
 use Rattle.run_executor.specs.Given.RawDeclared.machines.progress.Progress.{Progress}
-use Rattle.run_executor.specs.Given.SchedulesDeclared.call.Call.{Call}
-use Rattle.run_executor.specs.Given.SchedulesDeclared.effect.Effect.{Effect}
-use Rattle.run_executor.specs.Given.SchedulesDeclared.effect.Effect.TheVariants.{Deferred, Retired}
-use Rattle.run_executor.specs.Given.SchedulesDeclared.effect.Thing.TheVariants.{APair}
+use Rattle.run_executor.specs.Given.RunsDeclared.call.Call.{Call}
+use Rattle.run_executor.specs.Given.RunsDeclared.effect.Effect.{Effect}
+use Rattle.run_executor.specs.Given.RunsDeclared.effect.Effect.TheVariants.{Deferred, Retired}
+use Rattle.run_executor.specs.Given.RunsDeclared.effect.Thing.TheVariants.{APair}
 use Rattle.run_executor.specs.Given.SchedulesBeginning.{with_call}
 use Rattle.run_executor.specs.Given.SchedulesEffects.{with_effects, AtEachEffect}
 use Rattle.run_executor.specs.Given.SchedulesEntry.{ByCall, acting}

@@ -12,7 +12,6 @@ pub use Rattle.papaya_raw.specs.Given.SeizeSequence
 pub use Rattle.papaya_raw.specs.Given.SeizeSettle
 pub use Rattle.papaya_raw.specs.Given.SeizeWaitingSets
 pub use Rattle.papaya_raw.specs.Given.SeizeWorld
-pub use Rattle.papaya_raw.specs.Given.SweepsDeclared
 pub use Rattle.papaya_raw.specs.Given.SweepsSweepPoints
 pub use Rattle.papaya_raw.specs.Given.TablesChunks
 pub use Rattle.papaya_raw.specs.Given.TablesDeclared
@@ -83,7 +82,6 @@ pub use Rattle.run_executor.specs.Given.SeizeWordsPlan
 pub use Rattle.run_executor.specs.Given.SeizeWordsWord
 pub use Rattle.run_executor.specs.Given.SpotsOnSlots
 pub use Rattle.run_executor.specs.Given.SpotsUnreclaimed
-pub use Rattle.run_executor.specs.Given.TellerDeclared
 pub use Rattle.run_executor.specs.Given.TellerTells
 pub use Rattle.run_executor.specs.Given.TellsSeen
 pub use Rattle.run_executor.specs.declared as ExecutorDeclared
@@ -156,7 +154,6 @@ pub use Rattle.run_schedules.specs.Schedules.Transition as SchedulesTransition
 pub use Rattle.run_schedules.specs.Schedules.Views as SchedulesViews
 pub use Rattle.run_schedules.specs.Schedules.Waiting as SchedulesWaiting
 pub use Rattle.run_schedules.specs.declared as RunsDeclared
-pub use Rattle.run_schedules.specs.declared as SchedulesDeclared
 pub use Rattle.run_sweeps.specs.Given.FindsBounded
 pub use Rattle.run_sweeps.specs.Given.FindsCapacities
 pub use Rattle.run_sweeps.specs.Given.FindsDoing

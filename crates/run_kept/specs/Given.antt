@@ -33,7 +33,6 @@ pub use Rattle.run_effects.specs.Effects.Known as EffectsKnown
 pub use Rattle.run_effects.specs.Given.RuleChart
 pub use Rattle.run_effects.specs.Given.RuleInWorld
 pub use Rattle.run_effects.specs.declared as EffectsDeclared
-pub use Rattle.run_effects.specs.declared as TellerDeclared
 pub use Rattle.run_shows.specs.Follows.Calling as FollowsCalling
 pub use Rattle.run_shows.specs.Follows.Calls as FollowsCalls
 pub use Rattle.run_shows.specs.Follows.Maps as FollowsMaps

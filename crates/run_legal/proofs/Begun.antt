@@ -6,8 +6,8 @@ use Rattle.run_grows.specs.Given.RawMachine.{machine_replied}
 use Rattle.run_grows.specs.Given.RawDeclared.machines.asking.Reply.{Reply as MachineReply}
 use Rattle.run_grows.specs.Given.RawDeclared.machines.call.Calling.{Calling}
 use Rattle.run_grows.specs.Given.RunsSame.{is_same}
-use Rattle.run_grows.specs.Given.SchedulesDeclared.event.Event.TheVariants as event
-use Rattle.run_grows.specs.Given.SchedulesDeclared.outcome.Outcome.TheVariants.{Done, Goes}
+use Rattle.run_grows.specs.Given.RunsDeclared.event.Event.TheVariants as event
+use Rattle.run_grows.specs.Given.RunsDeclared.outcome.Outcome.TheVariants.{Done, Goes}
 use Rattle.run_grows.specs.Given.SchedulesAfter.{is_alone_on, moment, moments_from}
 use Rattle.run_grows.specs.Given.SchedulesBeginning.{with_call}
 use Rattle.run_grows.specs.Given.SchedulesEntry.{Entry}

@@ -3,8 +3,8 @@ use Rattle.std.specs.Prelude.{◌≡◌, ◌⊎◌, ◌<◌, ◌==◌, ◌||◌,
 use Rattle.std.proofs.Common.{refl, ap, sym, ◌∙◌, inl, inr, arith}
 use Rattle.std.proofs.lemmas.Bool.{eq-eqb, eqb-true}
 use Rattle.run_grows.specs.Given.SeizeWorld.{times}
-use Rattle.run_grows.specs.Given.SchedulesDeclared.effect.Thing.{Thing}
-use Rattle.run_grows.specs.Given.SchedulesDeclared.effect.Thing.TheVariants.{APair}
+use Rattle.run_grows.specs.Given.RunsDeclared.effect.Thing.{Thing}
+use Rattle.run_grows.specs.Given.RunsDeclared.effect.Thing.TheVariants.{APair}
 use Rattle.run_grows.specs.Given.SchedulesLists.{is_among}
 use Rattle.run_grows.specs.Given.SchedulesMoment.{Place, Left, Remains}
 use Rattle.run_grows.specs.Given.EffectsDeclared.role.Role.{Role}

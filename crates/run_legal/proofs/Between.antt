@@ -3,14 +3,14 @@ use Rattle.std.specs.Prelude.{◌≡◌, nat_lt, ℕ, Bool, true, false, List, [
 use Rattle.std.proofs.Common.{refl, ap, sym, subst, ◌∙◌, inl, inr}
 use Rattle.run_grows.specs.Given.SeizeWordsDeclared.fault.Fault.TheVariants.{Memory}
 use Rattle.run_grows.specs.Given.SweepsSweepPoints.{after_next, next_at}
-use Rattle.run_grows.specs.Given.SweepsDeclared.sweep.Sweep.{Sweep}
-use Rattle.run_grows.specs.Given.SweepsDeclared.sweep.Sweeping.{Sweeping}
-use Rattle.run_grows.specs.Given.SweepsDeclared.sweep.Sweeping.TheVariants as sweeping
+use Rattle.run_grows.specs.Given.ReservesDeclared.sweep.Sweep.{Sweep}
+use Rattle.run_grows.specs.Given.ReservesDeclared.sweep.Sweeping.{Sweeping}
+use Rattle.run_grows.specs.Given.ReservesDeclared.sweep.Sweeping.TheVariants as sweeping
 use Rattle.run_grows.specs.Given.RawDeclared.machines.machine.Machine.{Machine}
 use Rattle.run_grows.specs.Given.PointsFactsCalls.{Unchanged}
-use Rattle.run_grows.specs.Given.SchedulesDeclared.effect.Thing.TheVariants.{APair}
+use Rattle.run_grows.specs.Given.RunsDeclared.effect.Thing.TheVariants.{APair}
 use Rattle.run_grows.specs.Given.SchedulesBeginning.{with_call}
-use Rattle.run_grows.specs.Given.SchedulesDeclared.outcome.Outcome.TheVariants.{Refused}
+use Rattle.run_grows.specs.Given.RunsDeclared.outcome.Outcome.TheVariants.{Refused}
 use Rattle.run_grows.specs.Given.SchedulesMoment.{UnderWay as CallThere, Stands, Asking, Moment}
 use Rattle.run_grows.specs.Given.SchedulesViews.{call_of}
 use Rattle.run_grows.specs.Given.CallersOverAll.{CallOverAll, gone_on}

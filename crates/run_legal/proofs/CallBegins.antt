@@ -2,9 +2,9 @@
 use Rattle.std.specs.Prelude.{◌≡◌, ℕ, ◌+◌, Bool, true, List, cond, find, Option, Some}
 use Rattle.std.proofs.Common.{refl, ap, sym, subst, ◌∙◌, inl, inr}
 use Rattle.run_grows.specs.Given.RunsSame.{is_same}
-use Rattle.run_grows.specs.Given.SchedulesDeclared.call.Call.{Call}
-use Rattle.run_grows.specs.Given.SchedulesDeclared.call.Call.TheVariants.{On}
-use Rattle.run_grows.specs.Given.SchedulesDeclared.event.Event.TheVariants.{OneCall, Next}
+use Rattle.run_grows.specs.Given.RunsDeclared.call.Call.{Call}
+use Rattle.run_grows.specs.Given.RunsDeclared.call.Call.TheVariants.{On}
+use Rattle.run_grows.specs.Given.RunsDeclared.event.Event.TheVariants.{OneCall, Next}
 use Rattle.run_grows.specs.Given.SchedulesAfter.{moment}
 use Rattle.run_grows.specs.Given.SchedulesBeginning.{fresh_call, with_call}
 use Rattle.run_grows.specs.Given.SchedulesMoment.{UnderWay as CallThere}

@@ -5,8 +5,8 @@ use Rattle.run_grows.specs.Given.TablesDeclared.node.Node.{Node}
 use Rattle.run_grows.specs.Given.RawDeclared.machines.call.KeyCall.{KeyCall}
 use Rattle.run_grows.specs.Given.RawDeclared.machines.machine.Machine.TheVariants as kinds
 use Rattle.run_grows.specs.Given.RawDeclared.machines.progress.Progress.{Progress}
-use Rattle.run_grows.specs.Given.SweepsDeclared.sweep.Sweep.{Sweep}
-use Rattle.run_grows.specs.Given.SchedulesDeclared.effect.Effect.{Effect}
+use Rattle.run_grows.specs.Given.ReservesDeclared.sweep.Sweep.{Sweep}
+use Rattle.run_grows.specs.Given.RunsDeclared.effect.Effect.{Effect}
 use Rattle.run_grows.specs.Given.SchedulesEffects.{with_effects}
 use Rattle.run_grows.specs.Given.SchedulesEntry.{Entry}
 use Rattle.run_grows.specs.Given.SchedulesMoment.{UnderWay as CallThere, Moment}

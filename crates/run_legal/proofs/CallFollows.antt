@@ -4,9 +4,9 @@ use Rattle.std.specs.List.{list_all}
 use Rattle.std.proofs.Common.{refl, sym, subst, inl, inr}
 use Rattle.run_grows.specs.Given.TablesDeclared.node.Node.{Node}
 use Rattle.run_grows.specs.Given.SeizeWorld.{World}
-use Rattle.run_grows.specs.Given.SchedulesDeclared.effect.Effect.{Effect}
-use Rattle.run_grows.specs.Given.SchedulesDeclared.event.Event.{Event}
-use Rattle.run_grows.specs.Given.SchedulesDeclared.event.Event.TheVariants.{Enter, Own, Refresh, Flush, DropGuard, ReclaimAll, Close}
+use Rattle.run_grows.specs.Given.RunsDeclared.effect.Effect.{Effect}
+use Rattle.run_grows.specs.Given.RunsDeclared.event.Event.{Event}
+use Rattle.run_grows.specs.Given.RunsDeclared.event.Event.TheVariants.{Enter, Own, Refresh, Flush, DropGuard, ReclaimAll, Close}
 use Rattle.run_grows.specs.Given.SchedulesAfter.{after, is_by, moment}
 use Rattle.run_grows.specs.Given.SchedulesEntry.{Entry, is_busy, speaker}
 use Rattle.run_grows.specs.Given.SchedulesModel.{IsByModel, back_by_model, changes_of, handing, number_in, sets_in, thing_back, things_in}

@@ -7,10 +7,10 @@ use Rattle.run_grows.specs.Given.RawDeclared.machines.machine.Machine.{Machine}
 use Rattle.run_grows.specs.Given.RawDeclared.machines.machine.Machine.TheVariants as kinds
 use Rattle.run_grows.specs.Given.RawDeclared.machines.progress.Progress.{Progress}
 use Rattle.run_grows.specs.Given.RawDeclared.machines.progress.Progress.TheVariants as progress
-use Rattle.run_grows.specs.Given.SweepsDeclared.sweep.Sweeping.{Sweeping}
-use Rattle.run_grows.specs.Given.SweepsDeclared.sweep.Sweeping.TheVariants as sweeping
-use Rattle.run_grows.specs.Given.SchedulesDeclared.outcome.Outcome.{Outcome}
-use Rattle.run_grows.specs.Given.SchedulesDeclared.outcome.Outcome.TheVariants as outcome
+use Rattle.run_grows.specs.Given.ReservesDeclared.sweep.Sweeping.{Sweeping}
+use Rattle.run_grows.specs.Given.ReservesDeclared.sweep.Sweeping.TheVariants as sweeping
+use Rattle.run_grows.specs.Given.RunsDeclared.outcome.Outcome.{Outcome}
+use Rattle.run_grows.specs.Given.RunsDeclared.outcome.Outcome.TheVariants as outcome
 use Rattle.run_grows.specs.Given.SchedulesAfter.{moment}
 use Rattle.run_grows.specs.Given.SchedulesEffects.{with_effects, worked}
 use Rattle.run_grows.specs.Given.SchedulesEntry.{IfCall, acting, caller_of}

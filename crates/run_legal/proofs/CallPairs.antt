@@ -4,8 +4,8 @@ use Rattle.std.proofs.Common.{refl, ap, sym, subst, ◌∙◌, inl, inr}
 use Rattle.run_grows.specs.Given.TablesDeclared.node.Node.{Node}
 use Rattle.run_grows.specs.Given.RawDeclared.machines.progress.Progress.{Progress}
 use Rattle.run_grows.specs.Given.RunsLog.{pair_at}
-use Rattle.run_grows.specs.Given.SchedulesDeclared.effect.Effect.{Effect}
-use Rattle.run_grows.specs.Given.SchedulesDeclared.effect.Effect.TheVariants.{Stored}
+use Rattle.run_grows.specs.Given.RunsDeclared.effect.Effect.{Effect}
+use Rattle.run_grows.specs.Given.RunsDeclared.effect.Effect.TheVariants.{Stored}
 use Rattle.run_grows.specs.Given.SchedulesAfter.{moment}
 use Rattle.run_grows.specs.Given.SchedulesEffects.{new_pair, stored_by, with_effect, with_effects}
 use Rattle.run_grows.specs.Given.SchedulesEntry.{Entry, acting}

@@ -3,10 +3,10 @@ use Rattle.std.specs.Prelude.{◌≡◌, ◌⊎◌, ℕ, Bool, List, Option, Som
 use Rattle.std.proofs.Common.{refl, ap, sym, subst, ◌∙◌, inl, inr}
 use Rattle.run_grows.specs.Given.TablesDeclared.node.Node.{Node}
 use Rattle.run_grows.specs.Given.RawDeclared.machines.progress.Progress.{Progress}
-use Rattle.run_grows.specs.Given.SchedulesDeclared.call.Call.{Call}
-use Rattle.run_grows.specs.Given.SchedulesDeclared.call.Call.TheVariants.{Clear, Len, On, Reserve, Retain, Walk}
-use Rattle.run_grows.specs.Given.SchedulesDeclared.effect.Effect.{Effect}
-use Rattle.run_grows.specs.Given.SchedulesDeclared.outcome.Outcome.{Outcome}
+use Rattle.run_grows.specs.Given.RunsDeclared.call.Call.{Call}
+use Rattle.run_grows.specs.Given.RunsDeclared.call.Call.TheVariants.{Clear, Len, On, Reserve, Retain, Walk}
+use Rattle.run_grows.specs.Given.RunsDeclared.effect.Effect.{Effect}
+use Rattle.run_grows.specs.Given.RunsDeclared.outcome.Outcome.{Outcome}
 use Rattle.run_grows.specs.Given.SchedulesAfter.{moment}
 use Rattle.run_grows.specs.Given.SchedulesEffects.{with_effects, worked}
 use Rattle.run_grows.specs.Given.SchedulesEntry.{acted_on, acting, caller_of}

@@ -7,10 +7,10 @@ use Rattle.run_grows.specs.Given.SeizeWaitingSets.{Sets}
 use Rattle.run_grows.specs.Given.SeizeWorld.{World, Rests}
 use Rattle.run_grows.specs.Given.TablesDeclared.node.Node.{Node}
 use Rattle.run_grows.specs.Given.TablesChunks.{is_incremental}
-use Rattle.run_grows.specs.Given.SchedulesDeclared.effect.Effect.{Effect}
-use Rattle.run_grows.specs.Given.SchedulesDeclared.event.Event.{Event}
-use Rattle.run_grows.specs.Given.SchedulesDeclared.event.Event.TheVariants.{OneCall, Step, Go, Next}
-use Rattle.run_grows.specs.Given.SchedulesDeclared.effect.Thing.{Thing}
+use Rattle.run_grows.specs.Given.RunsDeclared.effect.Effect.{Effect}
+use Rattle.run_grows.specs.Given.RunsDeclared.event.Event.{Event}
+use Rattle.run_grows.specs.Given.RunsDeclared.event.Event.TheVariants.{OneCall, Step, Go, Next}
+use Rattle.run_grows.specs.Given.RunsDeclared.effect.Thing.{Thing}
 use Rattle.run_grows.specs.Given.SchedulesAfter.{is_by, moment, moments_from}
 use Rattle.run_grows.specs.Given.SchedulesEffects.{with_effects, AtEachEffect}
 use Rattle.run_grows.specs.Given.SchedulesEntry.{caller_of, speaker}

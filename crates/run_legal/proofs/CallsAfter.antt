@@ -1,9 +1,9 @@
 -- The moment after an event of a call shows what the next event needs.
 use Rattle.std.specs.Prelude.{◌≡◌, ◌<◌, ℕ, Bool, true, List, ◌∷◌, Option, Some, find}
 use Rattle.std.proofs.Common.{refl, ap, sym, subst, ◌∙◌}
-use Rattle.run_grows.specs.Given.SchedulesDeclared.effect.Effect.{Effect}
-use Rattle.run_grows.specs.Given.SchedulesDeclared.event.Event.{Event}
-use Rattle.run_grows.specs.Given.SchedulesDeclared.event.Event.TheVariants.{OneCall, Step, Go, Next}
+use Rattle.run_grows.specs.Given.RunsDeclared.effect.Effect.{Effect}
+use Rattle.run_grows.specs.Given.RunsDeclared.event.Event.{Event}
+use Rattle.run_grows.specs.Given.RunsDeclared.event.Event.TheVariants.{OneCall, Step, Go, Next}
 use Rattle.run_grows.specs.Given.SchedulesAfter.{moment, after}
 use Rattle.run_grows.specs.Given.SchedulesEffects.{with_effects, AtEachEffect, worked}
 use Rattle.run_grows.specs.Given.SchedulesEntry.{caller_of, Entry, acted_on, ends_call}
@@ -28,7 +28,7 @@ use Rattle.run_grows.proofs.Given.FindsSteps.{steps_store_one}
 use Rattle.run_grows.specs.Given.PromisesReading.{LookupsStay}
 use Rattle.run_grows.proofs.Given.PurposesTableless.{events_keep_tableless}
 use Rattle.run_legal.specs.CallEvents.{CallEventsEnd}
-use Rattle.run_grows.specs.Given.SchedulesDeclared.outcome.Outcome.{Outcome}
+use Rattle.run_grows.specs.Given.RunsDeclared.outcome.Outcome.{Outcome}
 use Rattle.run_grows.specs.Given.MomentsNumbers.{NumbersMaps, PairsAreBelow}
 use Rattle.run_grows.specs.Given.FollowsCalling.{come_to, NoneNamed}
 use Rattle.run_grows.specs.Given.OthersElsewhere.{HasSame}

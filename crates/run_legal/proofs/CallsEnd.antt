@@ -3,11 +3,11 @@ use Rattle.std.specs.Prelude.{◌≡◌, ◌⊎◌, [], ℕ, Bool, true, false, 
 use Rattle.std.specs.List.{list_all}
 use Rattle.std.proofs.Common.{refl, ap, sym, subst, ◌∙◌, inl, inr}
 use Rattle.run_grows.specs.Given.SeizeWordsDeclared.fault.Fault.TheVariants.{Busy}
-use Rattle.run_grows.specs.Given.SchedulesDeclared.effect.Effect.{Effect}
-use Rattle.run_grows.specs.Given.SchedulesDeclared.event.Event.{Event}
-use Rattle.run_grows.specs.Given.SchedulesDeclared.event.Event.TheVariants.{OneCall, Step, Go, Next}
-use Rattle.run_grows.specs.Given.SchedulesDeclared.outcome.Outcome.{Outcome}
-use Rattle.run_grows.specs.Given.SchedulesDeclared.outcome.Outcome.TheVariants.{Refused}
+use Rattle.run_grows.specs.Given.RunsDeclared.effect.Effect.{Effect}
+use Rattle.run_grows.specs.Given.RunsDeclared.event.Event.{Event}
+use Rattle.run_grows.specs.Given.RunsDeclared.event.Event.TheVariants.{OneCall, Step, Go, Next}
+use Rattle.run_grows.specs.Given.RunsDeclared.outcome.Outcome.{Outcome}
+use Rattle.run_grows.specs.Given.RunsDeclared.outcome.Outcome.TheVariants.{Refused}
 use Rattle.run_grows.specs.Given.SchedulesAfter.{after, moment, moments_from}
 use Rattle.run_grows.specs.Given.SchedulesBeginning.{at_work}
 use Rattle.run_grows.specs.Given.SchedulesEffects.{with_effects, worked}

@@ -1,7 +1,7 @@
 -- Steps of an event, one after another.
 use Rattle.std.specs.Prelude.{◌≡◌, ◌∷◌, true, List, ℕ, Bool, zero, suc, ◌++◌, Some, None}
 use Rattle.std.proofs.Common.{refl, sym, subst}
-use Rattle.run_grows.specs.Given.SchedulesDeclared.effect.Effect.{Effect}
+use Rattle.run_grows.specs.Given.RunsDeclared.effect.Effect.{Effect}
 use Rattle.run_grows.specs.Given.SchedulesAfter.{moment}
 use Rattle.run_grows.specs.Given.SchedulesEffects.{with_effects}
 use Rattle.run_grows.specs.Given.PromisesSheltered.{SectionsHold}
@@ -14,8 +14,8 @@ use Rattle.run_legal.specs.CallEvents.{IsLegalBut}
 use Rattle.run_legal.specs.MapEvents.{InEndEvent, InMakingEvent}
 use Rattle.run_legal.specs.SlotEvents.{InSlotEvent}
 use Rattle.run_legal.proofs.Maps.{end_events_go_on_so, making_events_go_on_so}
-use Rattle.run_grows.specs.Given.SchedulesDeclared.event.Event.TheVariants.{EndMap, MakeMap}
-use Rattle.run_grows.specs.Given.SchedulesDeclared.outcome.Outcome.TheVariants.{Done}
+use Rattle.run_grows.specs.Given.RunsDeclared.event.Event.TheVariants.{EndMap, MakeMap}
+use Rattle.run_grows.specs.Given.RunsDeclared.outcome.Outcome.TheVariants.{Done}
 use Rattle.run_grows.specs.Given.SchedulesBeginning.{with_map}
 use Rattle.run_grows.specs.Given.SchedulesEntry.{Entry}
 use Rattle.run_grows.specs.Given.SchedulesModel.{IsByModel}

@@ -6,8 +6,8 @@ use Rattle.run_grows.specs.Given.SeizeWaitingSets.{Change}
 use Rattle.run_grows.specs.Given.SeizeWorld.{Chooses, World}
 use Rattle.run_grows.specs.Given.TablesNodes.{deferred_word}
 use Rattle.run_grows.specs.Given.TablesDeclared.node.Node.{Node}
-use Rattle.run_grows.specs.Given.SchedulesDeclared.event.Event.TheVariants.{Choose}
-use Rattle.run_grows.specs.Given.SchedulesDeclared.outcome.Outcome.TheVariants.{Done}
+use Rattle.run_grows.specs.Given.RunsDeclared.event.Event.TheVariants.{Choose}
+use Rattle.run_grows.specs.Given.RunsDeclared.outcome.Outcome.TheVariants.{Done}
 use Rattle.run_grows.specs.Given.SchedulesAfter.{after, moment}
 use Rattle.run_grows.specs.Given.SchedulesEntry.{Entry}
 use Rattle.run_grows.specs.Given.SchedulesMoment.{Moment}

@@ -5,19 +5,19 @@ use Rattle.std.proofs.Common.{refl, ap, sym, subst, ◌∙◌, append_assoc, ari
 use Rattle.std.proofs.lemmas.Bool.{cases_lt, eq-eqb}
 use Rattle.std.proofs.lemmas.List.{append-nil, length-append}
 use Rattle.std.proofs.lemmas.List.Concat.{flat_map-cons}
-use Rattle.run_grows.specs.Given.TellerDeclared.changed.Changed.{Changed}
-use Rattle.run_grows.specs.Given.SchedulesDeclared.effect.Effect.{Effect}
-use Rattle.run_grows.specs.Given.SchedulesDeclared.effect.Effect.TheVariants as effect
-use Rattle.run_grows.specs.Given.SchedulesDeclared.effect.Spot.{Spot}
-use Rattle.run_grows.specs.Given.SchedulesDeclared.effect.Table.{Table}
-use Rattle.run_grows.specs.Given.SchedulesDeclared.effect.Thing.{Thing}
-use Rattle.run_grows.specs.Given.SchedulesDeclared.effect.Thing.TheVariants.{APair, ATable}
-use Rattle.run_grows.specs.Given.SchedulesDeclared.event.Event.{Event}
-use Rattle.run_grows.specs.Given.SchedulesDeclared.event.Event.TheVariants as event
-use Rattle.run_grows.specs.Given.SchedulesDeclared.outcome.Outcome.{Outcome}
-use Rattle.run_grows.specs.Given.SchedulesDeclared.outcome.Outcome.TheVariants as outcome
-use Rattle.run_grows.specs.Given.SchedulesDeclared.call.Call.{Call as Calling}
-use Rattle.run_grows.specs.Given.SchedulesDeclared.call.Call.TheVariants.{On}
+use Rattle.run_grows.specs.Given.EffectsDeclared.changed.Changed.{Changed}
+use Rattle.run_grows.specs.Given.RunsDeclared.effect.Effect.{Effect}
+use Rattle.run_grows.specs.Given.RunsDeclared.effect.Effect.TheVariants as effect
+use Rattle.run_grows.specs.Given.RunsDeclared.effect.Spot.{Spot}
+use Rattle.run_grows.specs.Given.RunsDeclared.effect.Table.{Table}
+use Rattle.run_grows.specs.Given.RunsDeclared.effect.Thing.{Thing}
+use Rattle.run_grows.specs.Given.RunsDeclared.effect.Thing.TheVariants.{APair, ATable}
+use Rattle.run_grows.specs.Given.RunsDeclared.event.Event.{Event}
+use Rattle.run_grows.specs.Given.RunsDeclared.event.Event.TheVariants as event
+use Rattle.run_grows.specs.Given.RunsDeclared.outcome.Outcome.{Outcome}
+use Rattle.run_grows.specs.Given.RunsDeclared.outcome.Outcome.TheVariants as outcome
+use Rattle.run_grows.specs.Given.RunsDeclared.call.Call.{Call as Calling}
+use Rattle.run_grows.specs.Given.RunsDeclared.call.Call.TheVariants.{On}
 use Rattle.run_grows.specs.Given.SchedulesAfter.{moment}
 use Rattle.run_grows.specs.Given.SchedulesBeginning.{at_work, begun, with_call}
 use Rattle.run_grows.specs.Given.SchedulesEffects.{AtEachEffect, at_stage, new_pair, stored_by, tables_by, with_effect, with_effects}

@@ -4,10 +4,10 @@ use Rattle.std.specs.List.{list_all}
 use Rattle.std.proofs.Common.{refl, ap, ◌∙◌}
 use Rattle.std.proofs.lemmas.List.{append-nil}
 use Rattle.run_grows.specs.Given.RunsDeclared.holders.Guard.{Guard}
-use Rattle.run_grows.specs.Given.SchedulesDeclared.effect.Effect.{Effect}
-use Rattle.run_grows.specs.Given.SchedulesDeclared.effect.Effect.TheVariants.{Asked}
-use Rattle.run_grows.specs.Given.SchedulesDeclared.effect.Growth.{Growth}
-use Rattle.run_grows.specs.Given.SchedulesDeclared.effect.Thing.{Thing}
+use Rattle.run_grows.specs.Given.RunsDeclared.effect.Effect.{Effect}
+use Rattle.run_grows.specs.Given.RunsDeclared.effect.Effect.TheVariants.{Asked}
+use Rattle.run_grows.specs.Given.RunsDeclared.effect.Growth.{Growth}
+use Rattle.run_grows.specs.Given.RunsDeclared.effect.Thing.{Thing}
 use Rattle.run_grows.specs.Given.SchedulesEffects.{with_effect, with_effects}
 use Rattle.run_grows.specs.Given.SchedulesInTurn.{is_growth}
 use Rattle.run_grows.specs.Given.SchedulesMoment.{Moment, Sheltered}

@@ -6,15 +6,15 @@ use Rattle.std.proofs.Math.Bool.{or-false}
 use Rattle.std.proofs.lemmas.Bool.{and_parts, eqb-true}
 use Rattle.run_grows.specs.Given.SeizeWordsDeclared.fault.Fault.TheVariants.{Busy}
 use Rattle.run_grows.specs.Given.RunsSame.{is_same}
-use Rattle.run_grows.specs.Given.SchedulesDeclared.effect.Effect.{Effect}
-use Rattle.run_grows.specs.Given.SchedulesDeclared.effect.Effect.TheVariants as effect
-use Rattle.run_grows.specs.Given.SchedulesDeclared.effect.Table.{Table}
-use Rattle.run_grows.specs.Given.SchedulesDeclared.effect.Thing.{Thing}
-use Rattle.run_grows.specs.Given.SchedulesDeclared.effect.Thing.TheVariants.{APair, ATable}
-use Rattle.run_grows.specs.Given.SchedulesDeclared.event.Event.{Event}
-use Rattle.run_grows.specs.Given.SchedulesDeclared.event.Event.TheVariants as event
-use Rattle.run_grows.specs.Given.SchedulesDeclared.outcome.Outcome.{Outcome}
-use Rattle.run_grows.specs.Given.SchedulesDeclared.outcome.Outcome.TheVariants.{Done, Goes, Refused}
+use Rattle.run_grows.specs.Given.RunsDeclared.effect.Effect.{Effect}
+use Rattle.run_grows.specs.Given.RunsDeclared.effect.Effect.TheVariants as effect
+use Rattle.run_grows.specs.Given.RunsDeclared.effect.Table.{Table}
+use Rattle.run_grows.specs.Given.RunsDeclared.effect.Thing.{Thing}
+use Rattle.run_grows.specs.Given.RunsDeclared.effect.Thing.TheVariants.{APair, ATable}
+use Rattle.run_grows.specs.Given.RunsDeclared.event.Event.{Event}
+use Rattle.run_grows.specs.Given.RunsDeclared.event.Event.TheVariants as event
+use Rattle.run_grows.specs.Given.RunsDeclared.outcome.Outcome.{Outcome}
+use Rattle.run_grows.specs.Given.RunsDeclared.outcome.Outcome.TheVariants.{Done, Goes, Refused}
 use Rattle.run_grows.specs.Given.SchedulesAfter.{after, if_any, moment, remains_on, root_or, tables_taken, with_remains}
 use Rattle.run_grows.specs.Given.SchedulesBeginning.{at_work, begun, with_call}
 use Rattle.run_grows.specs.Given.SchedulesEffects.{AtEachEffect, all_at, in_map, with_effect, with_effects, worked}

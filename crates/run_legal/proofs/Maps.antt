@@ -9,11 +9,11 @@ use Rattle.run_grows.specs.Given.SeizeDeclared.rows.settle.Settled.{Settled}
 use Rattle.run_grows.specs.Given.SeizeDeclared.rows.settle.Settled.TheVariants as settled
 use Rattle.run_grows.specs.Given.TablesDeclared.node.Node.{Node}
 use Rattle.run_grows.specs.Given.TablesDeclared.setting.Setting.{Setting}
-use Rattle.run_grows.specs.Given.SchedulesDeclared.effect.Effect.{Effect}
+use Rattle.run_grows.specs.Given.RunsDeclared.effect.Effect.{Effect}
 use Rattle.run_grows.specs.Given.SchedulesEffects.{with_effects}
 use Rattle.run_grows.specs.Given.SchedulesModel.{sets_in, things_in}
 use Rattle.run_grows.specs.Given.SchedulesMoment.{Moment}
-use Rattle.run_grows.specs.Given.TellerDeclared.changed.Changed.{Changed}
+use Rattle.run_grows.specs.Given.EffectsDeclared.changed.Changed.{Changed}
 use Rattle.run_grows.specs.Given.CallersTogether.{UnderWay}
 use Rattle.run_grows.proofs.Given.CallersTogether.At.{at_other}
 use Rattle.run_grows.specs.Given.EffectsEffects.{effects_of, known_after, map_of}

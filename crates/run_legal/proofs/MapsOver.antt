@@ -3,11 +3,11 @@ use Rattle.std.specs.Prelude.{◌≡◌, ℕ, Bool, true, List, [], ◌∷◌, f
 use Rattle.std.specs.List.{list_all}
 use Rattle.std.proofs.Common.{refl, ap, sym, subst, ◌∙◌, inl, inr}
 use Rattle.std.proofs.lemmas.Bool.{cases_eq}
-use Rattle.run_grows.specs.Given.SchedulesDeclared.effect.Effect.{Effect}
-use Rattle.run_grows.specs.Given.SchedulesDeclared.effect.Effect.TheVariants.{Asked, TableMade, Linked, Ended, Taken}
-use Rattle.run_grows.specs.Given.SchedulesDeclared.effect.Growth.TheVariants.{ABlock}
-use Rattle.run_grows.specs.Given.SchedulesDeclared.event.Event.TheVariants.{MakeMap, EndMap}
-use Rattle.run_grows.specs.Given.SchedulesDeclared.outcome.Outcome.TheVariants.{Done}
+use Rattle.run_grows.specs.Given.RunsDeclared.effect.Effect.{Effect}
+use Rattle.run_grows.specs.Given.RunsDeclared.effect.Effect.TheVariants.{Asked, TableMade, Linked, Ended, Taken}
+use Rattle.run_grows.specs.Given.RunsDeclared.effect.Growth.TheVariants.{ABlock}
+use Rattle.run_grows.specs.Given.RunsDeclared.event.Event.TheVariants.{MakeMap, EndMap}
+use Rattle.run_grows.specs.Given.RunsDeclared.outcome.Outcome.TheVariants.{Done}
 use Rattle.run_grows.specs.Given.SchedulesAfter.{moment, remains_on}
 use Rattle.run_grows.specs.Given.SchedulesBeginning.{at_work, with_map}
 use Rattle.run_grows.specs.Given.SchedulesEffects.{with_effect, with_effects, AtEachEffect, worked}

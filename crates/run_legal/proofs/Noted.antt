@@ -27,17 +27,17 @@ use Rattle.run_grows.specs.Given.ResizeDeclared.dispose.Disposing.{Disposing}
 use Rattle.run_grows.specs.Given.ResizeDeclared.dispose.Disposing.TheVariants as disposing
 use Rattle.run_grows.specs.Given.ReservesDeclared.reserve.Reserving.{Reserving}
 use Rattle.run_grows.specs.Given.ReservesDeclared.reserve.Reserving.TheVariants as reserving
-use Rattle.run_grows.specs.Given.SweepsDeclared.sweep.Sweeping.{Sweeping}
-use Rattle.run_grows.specs.Given.SweepsDeclared.sweep.Sweeping.TheVariants as sweeping
+use Rattle.run_grows.specs.Given.ReservesDeclared.sweep.Sweeping.{Sweeping}
+use Rattle.run_grows.specs.Given.ReservesDeclared.sweep.Sweeping.TheVariants as sweeping
 use Rattle.run_grows.specs.Given.RawDeclared.machines.call.Calling.{Calling}
 use Rattle.run_grows.specs.Given.RawDeclared.machines.call.Calling.TheVariants as calling
 use Rattle.run_grows.specs.Given.RawDeclared.machines.machine.Machine.{Machine}
 use Rattle.run_grows.specs.Given.RawDeclared.machines.machine.Machine.TheVariants as kinds
 use Rattle.run_grows.specs.Given.RawDeclared.machines.progress.Progress.{Progress}
 use Rattle.run_grows.specs.Given.RunsDeclared.shapes.TableShape.{TableShape}
-use Rattle.run_grows.specs.Given.SchedulesDeclared.effect.Table.{Table}
-use Rattle.run_grows.specs.Given.SchedulesDeclared.effect.Thing.{Thing}
-use Rattle.run_grows.specs.Given.SchedulesDeclared.effect.Thing.TheVariants.{APair, ATable}
+use Rattle.run_grows.specs.Given.RunsDeclared.effect.Table.{Table}
+use Rattle.run_grows.specs.Given.RunsDeclared.effect.Thing.{Thing}
+use Rattle.run_grows.specs.Given.RunsDeclared.effect.Thing.TheVariants.{APair, ATable}
 use Rattle.run_grows.specs.Given.SchedulesLists.{is_in}
 use Rattle.run_grows.specs.Given.SchedulesModel.{number_in}
 use Rattle.run_grows.specs.Given.SchedulesMoment.{Moment, TableThere}

@@ -1,7 +1,7 @@
 -- What a moment shows of calls after a step of a call or of a row, and where a call comes to an outcome, whoever tells of it.
 use Rattle.std.specs.Prelude.{◌≡◌, ◌<◌, ℕ, Bool, List, Some, None}
 use Rattle.std.proofs.Common.{refl, subst}
-use Rattle.run_grows.specs.Given.SchedulesDeclared.effect.Effect.{Effect}
+use Rattle.run_grows.specs.Given.RunsDeclared.effect.Effect.{Effect}
 use Rattle.run_grows.specs.Given.SchedulesEffects.{AtEachEffect, with_effects}
 use Rattle.run_grows.specs.Given.SchedulesMoment.{Moment, UnderWay as CallThere}
 use Rattle.run_grows.specs.Given.SchedulesViews.{call_of}

@@ -6,11 +6,11 @@ use Rattle.run_grows.specs.Given.SeizeWordsDeclared.fault.Fault.{Fault}
 use Rattle.run_grows.specs.Given.SeizeWordsDeclared.fault.Fault.TheVariants.{Busy, Memory}
 use Rattle.run_grows.specs.Given.SeizeWorld.{with_at}
 use Rattle.run_grows.specs.Given.TablesDeclared.resize_mode.ResizeMode.{ResizeMode}
-use Rattle.run_grows.specs.Given.SchedulesDeclared.effect.Effect.{Effect}
-use Rattle.run_grows.specs.Given.SchedulesDeclared.effect.Effect.TheVariants.{Asked}
-use Rattle.run_grows.specs.Given.SchedulesDeclared.effect.Growth.TheVariants.{ABlock, ABucket}
-use Rattle.run_grows.specs.Given.SchedulesDeclared.event.Event.TheVariants.{MakeMap}
-use Rattle.run_grows.specs.Given.SchedulesDeclared.outcome.Outcome.TheVariants.{Refused}
+use Rattle.run_grows.specs.Given.RunsDeclared.effect.Effect.{Effect}
+use Rattle.run_grows.specs.Given.RunsDeclared.effect.Effect.TheVariants.{Asked}
+use Rattle.run_grows.specs.Given.RunsDeclared.effect.Growth.TheVariants.{ABlock, ABucket}
+use Rattle.run_grows.specs.Given.RunsDeclared.event.Event.TheVariants.{MakeMap}
+use Rattle.run_grows.specs.Given.RunsDeclared.outcome.Outcome.TheVariants.{Refused}
 use Rattle.run_grows.specs.Given.SchedulesAfter.{after, moment}
 use Rattle.run_grows.specs.Given.SchedulesEffects.{AtEachEffect, with_effect, worked}
 use Rattle.run_grows.specs.Given.SchedulesEntry.{Entry, acted_on, is_busy}

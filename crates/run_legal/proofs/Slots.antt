@@ -3,10 +3,10 @@ use Rattle.std.specs.Prelude.{◌≡◌, ℕ, Bool, true, List, [], ◌∷◌, �
 use Rattle.std.proofs.Common.{refl, ap, sym, subst, ◌∙◌}
 use Rattle.run_grows.specs.Given.SeizeWorld.{World, Request, Begin, Step}
 use Rattle.run_grows.specs.Given.TablesDeclared.node.Node.{Node}
-use Rattle.run_grows.specs.Given.SchedulesDeclared.effect.Effect.{Effect}
-use Rattle.run_grows.specs.Given.SchedulesDeclared.event.Event.{Event}
-use Rattle.run_grows.specs.Given.SchedulesDeclared.event.Event.TheVariants.{Register, Unregister, Enter, Own, Refresh, Flush, DropGuard, ReclaimAll, Close}
-use Rattle.run_grows.specs.Given.SchedulesDeclared.outcome.Outcome.TheVariants.{Done}
+use Rattle.run_grows.specs.Given.RunsDeclared.effect.Effect.{Effect}
+use Rattle.run_grows.specs.Given.RunsDeclared.event.Event.{Event}
+use Rattle.run_grows.specs.Given.RunsDeclared.event.Event.TheVariants.{Register, Unregister, Enter, Own, Refresh, Flush, DropGuard, ReclaimAll, Close}
+use Rattle.run_grows.specs.Given.RunsDeclared.outcome.Outcome.TheVariants.{Done}
 use Rattle.run_grows.specs.Given.SchedulesAfter.{moment}
 use Rattle.run_grows.specs.Given.SchedulesEffects.{with_effect, with_effects, AtEachEffect}
 use Rattle.run_grows.specs.Given.SchedulesModel.{sets_in, things_in}

@@ -2,12 +2,12 @@
 use Rattle.std.specs.Prelude.{◌≡◌, ℕ, Bool, true, List, [], ◌∷◌, Option, None}
 use Rattle.std.specs.List.{list_all}
 use Rattle.std.proofs.Common.{refl, sym, subst, inl}
-use Rattle.run_grows.specs.Given.SchedulesDeclared.effect.Effect.{Effect}
-use Rattle.run_grows.specs.Given.SchedulesDeclared.effect.Effect.TheVariants.{Asked, Reclaimed}
-use Rattle.run_grows.specs.Given.SchedulesDeclared.effect.Growth.TheVariants.{ABucket}
-use Rattle.run_grows.specs.Given.SchedulesDeclared.event.Event.{Event}
-use Rattle.run_grows.specs.Given.SchedulesDeclared.event.Event.TheVariants.{Register, Unregister, Enter, Own, Refresh, Flush, DropGuard, ReclaimAll, Close}
-use Rattle.run_grows.specs.Given.SchedulesDeclared.outcome.Outcome.{Outcome}
+use Rattle.run_grows.specs.Given.RunsDeclared.effect.Effect.{Effect}
+use Rattle.run_grows.specs.Given.RunsDeclared.effect.Effect.TheVariants.{Asked, Reclaimed}
+use Rattle.run_grows.specs.Given.RunsDeclared.effect.Growth.TheVariants.{ABucket}
+use Rattle.run_grows.specs.Given.RunsDeclared.event.Event.{Event}
+use Rattle.run_grows.specs.Given.RunsDeclared.event.Event.TheVariants.{Register, Unregister, Enter, Own, Refresh, Flush, DropGuard, ReclaimAll, Close}
+use Rattle.run_grows.specs.Given.RunsDeclared.outcome.Outcome.{Outcome}
 use Rattle.run_grows.specs.Given.SchedulesAfter.{after, moment}
 use Rattle.run_grows.specs.Given.SchedulesBeginning.{at_work}
 use Rattle.run_grows.specs.Given.SchedulesEffects.{with_effect, with_effects, AtEachEffect}

@@ -6,11 +6,11 @@ use Rattle.run_grows.specs.Given.SeizeDeclared.progress.Progress.{Progress as Ma
 use Rattle.run_grows.specs.Given.SeizeDeclared.progress.Progress.TheVariants as progress
 use Rattle.run_grows.specs.Given.TablesChunks.{is_incremental}
 use Rattle.run_grows.specs.Given.TablesDeclared.setting.Setting.{Setting}
-use Rattle.run_grows.specs.Given.SchedulesDeclared.effect.Effect.{Effect}
-use Rattle.run_grows.specs.Given.SchedulesDeclared.effect.Effect.TheVariants.{Reclaimed}
-use Rattle.run_grows.specs.Given.SchedulesDeclared.effect.Spot.{Spot}
-use Rattle.run_grows.specs.Given.SchedulesDeclared.effect.Table.{Table}
-use Rattle.run_grows.specs.Given.SchedulesDeclared.effect.Thing.{Thing}
+use Rattle.run_grows.specs.Given.RunsDeclared.effect.Effect.{Effect}
+use Rattle.run_grows.specs.Given.RunsDeclared.effect.Effect.TheVariants.{Reclaimed}
+use Rattle.run_grows.specs.Given.RunsDeclared.effect.Spot.{Spot}
+use Rattle.run_grows.specs.Given.RunsDeclared.effect.Table.{Table}
+use Rattle.run_grows.specs.Given.RunsDeclared.effect.Thing.{Thing}
 use Rattle.run_grows.specs.Given.SchedulesEffects.{with_effects}
 use Rattle.run_grows.specs.Given.SchedulesMoment.{MapThere, Moment}
 use Rattle.run_grows.specs.Given.RuleChart.{Tombstone, Chart}

@@ -3,7 +3,7 @@ use Rattle.std.specs.Prelude.{◌≡◌, ◌≢◌, ◌<◌, ◌≤◌, ℕ, Boo
 use Rattle.std.proofs.Common.{refl, ap, ◌∙◌, arith}
 use Rattle.run_grows.specs.Given.TablesDeclared.node.Node.{Node}
 use Rattle.run_grows.specs.Given.RawDeclared.machines.progress.Progress.{Progress}
-use Rattle.run_grows.specs.Given.SchedulesDeclared.effect.Effect.{Effect}
+use Rattle.run_grows.specs.Given.RunsDeclared.effect.Effect.{Effect}
 use Rattle.run_grows.specs.Given.SchedulesEffects.{with_effect, with_effects}
 use Rattle.run_grows.specs.Given.SchedulesMoment.{Moment}
 use Rattle.run_grows.specs.Given.CallersTogether.{UnderWay}

@@ -11,11 +11,11 @@ use Rattle.run_grows.specs.Given.SeizeDeclared.rows.settle.Settled.TheVariants a
 use Rattle.run_grows.specs.Given.SeizeSetsReclaims.{is_on_slots}
 use Rattle.run_grows.specs.Given.TablesNodes.{deferred_word}
 use Rattle.run_grows.specs.Given.TablesDeclared.node.Node.{Node}
-use Rattle.run_grows.specs.Given.SchedulesDeclared.effect.Effect.{Effect}
-use Rattle.run_grows.specs.Given.SchedulesDeclared.effect.Effect.TheVariants.{Reclaimed}
-use Rattle.run_grows.specs.Given.SchedulesDeclared.effect.Thing.TheVariants.{APair}
-use Rattle.run_grows.specs.Given.SchedulesDeclared.event.Event.{Event}
-use Rattle.run_grows.specs.Given.SchedulesDeclared.outcome.Outcome.TheVariants.{Done}
+use Rattle.run_grows.specs.Given.RunsDeclared.effect.Effect.{Effect}
+use Rattle.run_grows.specs.Given.RunsDeclared.effect.Effect.TheVariants.{Reclaimed}
+use Rattle.run_grows.specs.Given.RunsDeclared.effect.Thing.TheVariants.{APair}
+use Rattle.run_grows.specs.Given.RunsDeclared.event.Event.{Event}
+use Rattle.run_grows.specs.Given.RunsDeclared.outcome.Outcome.TheVariants.{Done}
 use Rattle.run_grows.specs.Given.SchedulesAfter.{moment}
 use Rattle.run_grows.specs.Given.SchedulesEffects.{with_effects, AtEachEffect}
 use Rattle.run_grows.specs.Given.SchedulesEntry.{Entry}

@@ -3,10 +3,10 @@
 use Rattle.std.specs.Prelude.{◌≡◌, ℕ, Bool, true, false, List, Option, Some, None, Ok, suc}
 use Rattle.run_grows.specs.Given.SeizeWorld.{Rests, with_at}
 use Rattle.run_grows.specs.Given.RunsSame.{is_same}
-use Rattle.run_grows.specs.Given.SchedulesDeclared.call.Call.{Call}
-use Rattle.run_grows.specs.Given.SchedulesDeclared.call.Call.TheVariants.{On}
-use Rattle.run_grows.specs.Given.SchedulesDeclared.call.OneKey.{OneKey}
-use Rattle.run_grows.specs.Given.SchedulesDeclared.call.Reply.{Reply}
+use Rattle.run_grows.specs.Given.RunsDeclared.call.Call.{Call}
+use Rattle.run_grows.specs.Given.RunsDeclared.call.Call.TheVariants.{On}
+use Rattle.run_grows.specs.Given.RunsDeclared.call.OneKey.{OneKey}
+use Rattle.run_grows.specs.Given.RunsDeclared.call.Reply.{Reply}
 use Rattle.run_grows.specs.Given.SchedulesBeginning.{with_call, with_map}
 use Rattle.run_grows.specs.Given.SchedulesMoment.{UnderWay as CallThere, Asking, MapThere, Remains, Moment}
 use Rattle.run_grows.specs.Given.SchedulesViews.{call_of, map_at}

@@ -6,10 +6,10 @@ use Rattle.run_grows.specs.Given.SeizeWorld.{World, Rests, Request, Begin, Step,
 use Rattle.run_grows.specs.Given.TablesNodes.{deferred_word}
 use Rattle.run_grows.specs.Given.TablesDeclared.node.Node.{Node}
 use Rattle.run_grows.specs.Given.RawDeclared.machines.progress.Progress.{Progress}
-use Rattle.run_grows.specs.Given.SchedulesDeclared.effect.Effect.{Effect}
-use Rattle.run_grows.specs.Given.SchedulesDeclared.call.Call.{Call}
-use Rattle.run_grows.specs.Given.SchedulesDeclared.event.Event.{Event}
-use Rattle.run_grows.specs.Given.SchedulesDeclared.event.Event.TheVariants.{OneCall, Next}
+use Rattle.run_grows.specs.Given.RunsDeclared.effect.Effect.{Effect}
+use Rattle.run_grows.specs.Given.RunsDeclared.call.Call.{Call}
+use Rattle.run_grows.specs.Given.RunsDeclared.event.Event.{Event}
+use Rattle.run_grows.specs.Given.RunsDeclared.event.Event.TheVariants.{OneCall, Next}
 use Rattle.run_grows.specs.Given.SchedulesAfter.{moment, moments_from, after}
 use Rattle.run_grows.specs.Given.SchedulesBeginning.{at_work, fresh_call, with_call}
 use Rattle.run_grows.specs.Given.SchedulesEffects.{with_effects, AtEachEffect, worked}

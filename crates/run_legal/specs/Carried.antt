@@ -4,7 +4,7 @@ use Rattle.std.specs.List.{list_all}
 use Rattle.run_grows.specs.Given.SeizeWorld.{World}
 use Rattle.run_grows.specs.Given.TablesNodes.{deferred_word}
 use Rattle.run_grows.specs.Given.TablesDeclared.node.Node.{Node}
-use Rattle.run_grows.specs.Given.SchedulesDeclared.event.Event.{Event}
+use Rattle.run_grows.specs.Given.RunsDeclared.event.Event.{Event}
 use Rattle.run_grows.specs.Given.SchedulesAfter.{after, is_by, moment}
 use Rattle.run_grows.specs.Given.SchedulesEntry.{Entry, speaker}
 use Rattle.run_grows.specs.Given.SchedulesLists.{is_among}

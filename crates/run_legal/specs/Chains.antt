@@ -6,8 +6,8 @@ use Rattle.run_grows.specs.Given.SeizeDeclared.progress.Progress.{Progress as Ma
 use Rattle.run_grows.specs.Given.SeizeDeclared.rows.settle.Settled.{Settled}
 use Rattle.run_grows.specs.Given.TablesDeclared.node.Node.{Node}
 use Rattle.run_grows.specs.Given.TablesDeclared.setting.Setting.{Setting}
-use Rattle.run_grows.specs.Given.SchedulesDeclared.effect.Effect.{Effect}
-use Rattle.run_grows.specs.Given.SchedulesDeclared.event.Event.{Event}
+use Rattle.run_grows.specs.Given.RunsDeclared.effect.Effect.{Effect}
+use Rattle.run_grows.specs.Given.RunsDeclared.event.Event.{Event}
 use Rattle.run_grows.specs.Given.SchedulesEffects.{with_effects, AtEachEffect, worked}
 use Rattle.run_grows.specs.Given.SchedulesEntry.{Entry, is_busy}
 use Rattle.run_grows.specs.Given.SchedulesMoment.{Moment, MapThere}
@@ -45,8 +45,8 @@ use Rattle.run_grows.specs.Given.FindsLittle.{ReclaimsAll}
 use Rattle.run_legal.specs.Carried.{ComesAlone, ShowsRun}
 use Rattle.run_grows.specs.Given.RunsSame.{is_same}
 use Rattle.run_grows.specs.Given.TablesDeclared.resize_mode.ResizeMode.{ResizeMode}
-use Rattle.run_grows.specs.Given.SchedulesDeclared.event.Event.TheVariants.{EndMap, MakeMap}
-use Rattle.run_grows.specs.Given.SchedulesDeclared.outcome.Outcome.TheVariants.{Done}
+use Rattle.run_grows.specs.Given.RunsDeclared.event.Event.TheVariants.{EndMap, MakeMap}
+use Rattle.run_grows.specs.Given.RunsDeclared.outcome.Outcome.TheVariants.{Done}
 use Rattle.run_grows.specs.Given.SchedulesViews.{map_at, number_of}
 use Rattle.run_grows.specs.Given.FinishesMaps.{Standing}
 use Rattle.run_legal.specs.SlotEvents.{InSlotEvent}

@@ -3,10 +3,10 @@ use Rattle.std.specs.Prelude.{◌≡◌, ℕ, Bool, true, false, ◌||◌, List,
 use Rattle.std.specs.List.{list_all}
 use Rattle.run_grows.specs.Given.SeizeWorld.{World, Rests, SlotsTaken}
 use Rattle.run_grows.specs.Given.TablesDeclared.node.Node.{Node}
-use Rattle.run_grows.specs.Given.SchedulesDeclared.effect.Effect.{Effect}
-use Rattle.run_grows.specs.Given.SchedulesDeclared.effect.Effect.TheVariants.{Asked}
-use Rattle.run_grows.specs.Given.SchedulesDeclared.effect.Growth.TheVariants.{ABucket}
-use Rattle.run_grows.specs.Given.SchedulesDeclared.event.Event.{Event}
+use Rattle.run_grows.specs.Given.RunsDeclared.effect.Effect.{Effect}
+use Rattle.run_grows.specs.Given.RunsDeclared.effect.Effect.TheVariants.{Asked}
+use Rattle.run_grows.specs.Given.RunsDeclared.effect.Growth.TheVariants.{ABucket}
+use Rattle.run_grows.specs.Given.RunsDeclared.event.Event.{Event}
 use Rattle.run_grows.specs.Given.SchedulesAfter.{moment}
 use Rattle.run_grows.specs.Given.SchedulesEffects.{AtEachEffect}
 use Rattle.run_grows.specs.Given.SchedulesEntry.{Entry}

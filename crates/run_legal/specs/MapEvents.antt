@@ -6,8 +6,8 @@ use Rattle.run_grows.specs.Given.SeizeDeclared.progress.Progress.TheVariants as 
 use Rattle.run_grows.specs.Given.SeizeDeclared.rows.settle.Settled.{Settled}
 use Rattle.run_grows.specs.Given.TablesDeclared.node.Node.{Node}
 use Rattle.run_grows.specs.Given.TablesDeclared.setting.Setting.{Setting}
-use Rattle.run_grows.specs.Given.SchedulesDeclared.effect.Effect.{Effect}
-use Rattle.run_grows.specs.Given.SchedulesDeclared.event.Event.{Event}
+use Rattle.run_grows.specs.Given.RunsDeclared.effect.Effect.{Effect}
+use Rattle.run_grows.specs.Given.RunsDeclared.event.Event.{Event}
 use Rattle.run_grows.specs.Given.SchedulesAfter.{moment, after}
 use Rattle.run_grows.specs.Given.SchedulesEffects.{with_effects, AtEachEffect, worked}
 use Rattle.run_grows.specs.Given.SchedulesEntry.{Entry, IfCall, acting, caller_of, acted_on}

@@ -4,16 +4,16 @@ use Rattle.std.specs.List.{AllByRecursion}
 use Rattle.run_grows.specs.Given.SeizeWordsDeclared.fault.Fault.TheVariants.{Busy}
 use Rattle.run_grows.specs.Given.SeizeWorld.{Rests, with_at}
 use Rattle.run_grows.specs.Given.RunsSame.{is_same}
-use Rattle.run_grows.specs.Given.SchedulesDeclared.call.Call.{Call}
-use Rattle.run_grows.specs.Given.SchedulesDeclared.call.Call.TheVariants.{On}
-use Rattle.run_grows.specs.Given.SchedulesDeclared.call.OneKey.{OneKey}
-use Rattle.run_grows.specs.Given.SchedulesDeclared.call.Reply.{Reply}
+use Rattle.run_grows.specs.Given.RunsDeclared.call.Call.{Call}
+use Rattle.run_grows.specs.Given.RunsDeclared.call.Call.TheVariants.{On}
+use Rattle.run_grows.specs.Given.RunsDeclared.call.OneKey.{OneKey}
+use Rattle.run_grows.specs.Given.RunsDeclared.call.Reply.{Reply}
 use Rattle.run_grows.specs.Given.TablesDeclared.resize_mode.ResizeMode.{ResizeMode}
-use Rattle.run_grows.specs.Given.SchedulesDeclared.effect.Effect.{Effect}
-use Rattle.run_grows.specs.Given.SchedulesDeclared.event.Event.{Event}
-use Rattle.run_grows.specs.Given.SchedulesDeclared.event.Event.TheVariants.{Choose, MakeMap, EndMap, Begin, Step, Go, Replied, OneCall, Next, Stop}
-use Rattle.run_grows.specs.Given.SchedulesDeclared.outcome.Outcome.{Outcome}
-use Rattle.run_grows.specs.Given.SchedulesDeclared.outcome.Outcome.TheVariants.{Asks, Done, Goes, Ready, Refused}
+use Rattle.run_grows.specs.Given.RunsDeclared.effect.Effect.{Effect}
+use Rattle.run_grows.specs.Given.RunsDeclared.event.Event.{Event}
+use Rattle.run_grows.specs.Given.RunsDeclared.event.Event.TheVariants.{Choose, MakeMap, EndMap, Begin, Step, Go, Replied, OneCall, Next, Stop}
+use Rattle.run_grows.specs.Given.RunsDeclared.outcome.Outcome.{Outcome}
+use Rattle.run_grows.specs.Given.RunsDeclared.outcome.Outcome.TheVariants.{Asks, Done, Goes, Ready, Refused}
 use Rattle.run_grows.specs.Given.SchedulesAfter.{moment}
 use Rattle.run_grows.specs.Given.SchedulesBeginning.{at_work, begun, with_map}
 use Rattle.run_grows.specs.Given.SchedulesEffects.{AtEachEffect}

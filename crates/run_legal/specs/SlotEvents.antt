@@ -3,8 +3,8 @@ use Rattle.std.specs.Prelude.{◌≡◌, ◌<◌, ◌^◌, ℕ, Bool, true, fals
 use Rattle.std.specs.List.{list_all}
 use Rattle.run_grows.specs.Given.SeizeWorld.{World, Rests, Begin, Step}
 use Rattle.run_grows.specs.Given.TablesDeclared.node.Node.{Node}
-use Rattle.run_grows.specs.Given.SchedulesDeclared.effect.Effect.{Effect}
-use Rattle.run_grows.specs.Given.SchedulesDeclared.event.Event.{Event}
+use Rattle.run_grows.specs.Given.RunsDeclared.effect.Effect.{Effect}
+use Rattle.run_grows.specs.Given.RunsDeclared.event.Event.{Event}
 use Rattle.run_grows.specs.Given.SchedulesAfter.{after, moment}
 use Rattle.run_grows.specs.Given.SchedulesBeginning.{at_work}
 use Rattle.run_grows.specs.Given.SchedulesEffects.{with_effects, AtEachEffect}

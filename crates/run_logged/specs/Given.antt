@@ -2,7 +2,7 @@
 pub use Rattle.papaya_raw.specs.CallAsks as RawCallAsks
 pub use Rattle.papaya_raw.specs.CallPoints as RawCallPoints
 pub use Rattle.papaya_raw.specs.EndMap as RawEndMap
-pub use Rattle.papaya_raw.specs.Given.SweepsDeclared
+pub use Rattle.papaya_raw.specs.Given.ReservesDeclared
 pub use Rattle.papaya_raw.specs.Machine as RawMachine
 pub use Rattle.papaya_raw.specs.declared as RawDeclared
 pub use Rattle.run_effects.specs.Effects.Effects as EffectsEffects
@@ -12,10 +12,9 @@ pub use Rattle.run_effects.specs.Given.ResizeNewMap
 pub use Rattle.run_effects.specs.Given.ResizeNewTable
 pub use Rattle.run_effects.specs.Given.ResizeSum
 pub use Rattle.run_effects.specs.Given.RuleMaps
-pub use Rattle.run_effects.specs.Teller.Tells as TellerTells
+pub use Rattle.run_effects.specs.ReportingMemory.Tells as TellerTells
 pub use Rattle.run_effects.specs.Tells.Seen as TellsSeen
 pub use Rattle.run_effects.specs.declared as EffectsDeclared
-pub use Rattle.run_effects.specs.declared as TellerDeclared
 pub use Rattle.run_kept.specs.Given.HistoriesAnswers
 pub use Rattle.run_kept.specs.Given.HistoriesAsCalled
 pub use Rattle.run_kept.specs.Given.HistoriesAsking

@@ -69,7 +69,6 @@ pub use Rattle.run_shows.specs.Given.RunsSame
 pub use Rattle.run_shows.specs.Given.SchedulesAfter
 pub use Rattle.run_shows.specs.Given.SchedulesBeginning
 pub use Rattle.run_shows.specs.Given.SchedulesComing
-pub use Rattle.run_shows.specs.Given.SchedulesDeclared
 pub use Rattle.run_shows.specs.Given.SchedulesEffects
 pub use Rattle.run_shows.specs.Given.SchedulesEntry
 pub use Rattle.run_shows.specs.Given.SchedulesGrowing
@@ -106,7 +105,6 @@ pub use Rattle.run_shows.specs.Given.SeizeWordsPlan
 pub use Rattle.run_shows.specs.Given.SeizeWordsSlotWords
 pub use Rattle.run_shows.specs.Given.SeizeWordsWord
 pub use Rattle.run_shows.specs.Given.SeizeWorld
-pub use Rattle.run_shows.specs.Given.SweepsDeclared
 pub use Rattle.run_shows.specs.Given.SweepsSweep
 pub use Rattle.run_shows.specs.Given.SweepsSweepPoints
 pub use Rattle.run_shows.specs.Given.TablesChunks
@@ -119,7 +117,6 @@ pub use Rattle.run_shows.specs.Given.TablesPowers
 pub use Rattle.run_shows.specs.Given.TablesTablePlaces
 pub use Rattle.run_shows.specs.Given.TablesTrials
 pub use Rattle.run_shows.specs.Given.TellerChanged
-pub use Rattle.run_shows.specs.Given.TellerDeclared
 pub use Rattle.run_shows.specs.Given.TellerTells
 pub use Rattle.run_shows.specs.Given.TellsSeen
 pub use Rattle.run_shows.specs.Given.TellsTells

@@ -1,6 +1,6 @@
 -- The words of the crates below, given on to the crates above: these list this crate in place of those.
 pub use Rattle.papaya_raw.specs.EndMap as RawEndMap
-pub use Rattle.papaya_raw.specs.Given.SweepsDeclared
+pub use Rattle.papaya_raw.specs.Given.ReservesDeclared
 pub use Rattle.papaya_raw.specs.Machine as RawMachine
 pub use Rattle.papaya_raw.specs.declared as RawDeclared
 pub use Rattle.seize_words.specs.OneMemory.Mem as SeizeWordsMem

@@ -88,7 +88,6 @@ pub use Rattle.run_effects.specs.Given.RunsSame
 pub use Rattle.run_effects.specs.Given.SchedulesAfter
 pub use Rattle.run_effects.specs.Given.SchedulesBeginning
 pub use Rattle.run_effects.specs.Given.SchedulesComing
-pub use Rattle.run_effects.specs.Given.SchedulesDeclared
 pub use Rattle.run_effects.specs.Given.SchedulesEffects
 pub use Rattle.run_effects.specs.Given.SchedulesEntry
 pub use Rattle.run_effects.specs.Given.SchedulesGrowing
@@ -108,7 +107,6 @@ pub use Rattle.run_effects.specs.Given.SchedulesTransition
 pub use Rattle.run_effects.specs.Given.SchedulesTries
 pub use Rattle.run_effects.specs.Given.SchedulesViews
 pub use Rattle.run_effects.specs.Given.SeizeWaitingHeld
-pub use Rattle.run_effects.specs.Given.SweepsDeclared
 pub use Rattle.run_effects.specs.Given.SweepsSweep
 pub use Rattle.run_effects.specs.Given.SweepsSweepPoints
 pub use Rattle.run_effects.specs.Given.TablesChunks
@@ -118,12 +116,11 @@ pub use Rattle.run_effects.specs.Given.TablesNodes
 pub use Rattle.run_effects.specs.Given.TablesPowers
 pub use Rattle.run_effects.specs.Given.TablesTablePlaces
 pub use Rattle.run_effects.specs.Given.TablesTrials
-pub use Rattle.run_effects.specs.Teller.Changed as TellerChanged
-pub use Rattle.run_effects.specs.Teller.Tells as TellerTells
+pub use Rattle.run_effects.specs.ReportingMemory.Changed as TellerChanged
+pub use Rattle.run_effects.specs.ReportingMemory.Tells as TellerTells
 pub use Rattle.run_effects.specs.Tells.Seen as TellsSeen
 pub use Rattle.run_effects.specs.Tells.Tells as TellsTells
 pub use Rattle.run_effects.specs.declared as EffectsDeclared
-pub use Rattle.run_effects.specs.declared as TellerDeclared
 pub use Rattle.seize.specs.Defer as SeizeDefer
 pub use Rattle.seize.specs.Enter as SeizeEnter
 pub use Rattle.seize.specs.Further as SeizeFurther

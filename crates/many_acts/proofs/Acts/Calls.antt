@@ -11,9 +11,9 @@ use Rattle.seize_acts.proofs.Given.SeizeRuleRows.Leaving.{with_same}
 use Rattle.run_shows.specs.Given.SeizeWordsMem.{Mem}
 use Rattle.run_shows.specs.Given.TablesDeclared.node.Node.{Node}
 use Rattle.run_shows.specs.Given.TablesDeclared.node.Node.TheVariants as node
-use Rattle.run_shows.specs.Given.SweepsDeclared.sweep.Sweep.{Sweep}
-use Rattle.run_shows.specs.Given.SweepsDeclared.sweep.Sweeping.{Sweeping}
-use Rattle.run_shows.specs.Given.SweepsDeclared.sweep.Sweeping.TheVariants as sweeping
+use Rattle.run_shows.specs.Given.ReservesDeclared.sweep.Sweep.{Sweep}
+use Rattle.run_shows.specs.Given.ReservesDeclared.sweep.Sweeping.{Sweeping}
+use Rattle.run_shows.specs.Given.ReservesDeclared.sweep.Sweeping.TheVariants as sweeping
 use Rattle.run_shows.specs.Given.RawCallAsks.{absent_told, present_told, told_at, computing, updating, updating_or_inserting, trying_to_insert_with, removing_if}
 use Rattle.run_shows.specs.Given.RawCallPoints.{getting, removing, inserting, trying_to_insert}
 use Rattle.run_shows.specs.Given.RawMachine.{machine_plan, machine_replied, machine_asked, is_ready, sweep_told}

@@ -15,10 +15,10 @@ use Rattle.run_shows.specs.Given.ReservesDeclared.reserve.Reserve.{Reserve}
 use Rattle.run_shows.specs.Given.ReservesDeclared.reserve.Reserving.{Reserving}
 use Rattle.run_shows.specs.Given.ReservesDeclared.reserve.Reserving.TheVariants as reserving
 use Rattle.run_shows.specs.Given.SweepsSweep as sweeps
-use Rattle.run_shows.specs.Given.SweepsDeclared.sweep.Sweep.{Sweep}
-use Rattle.run_shows.specs.Given.SweepsDeclared.sweep.Sweeping.{Sweeping}
-use Rattle.run_shows.specs.Given.SweepsDeclared.sweep.Sweeping.TheVariants as sweeping
-use Rattle.run_shows.specs.Given.SweepsDeclared.sweep.Swept.{Swept}
+use Rattle.run_shows.specs.Given.ReservesDeclared.sweep.Sweep.{Sweep}
+use Rattle.run_shows.specs.Given.ReservesDeclared.sweep.Sweeping.{Sweeping}
+use Rattle.run_shows.specs.Given.ReservesDeclared.sweep.Sweeping.TheVariants as sweeping
+use Rattle.run_shows.specs.Given.ReservesDeclared.sweep.Swept.{Swept}
 use Rattle.run_shows.specs.Given.RawCall.{helped, copied, plan_at}
 use Rattle.run_shows.specs.Given.RawDeclared.machines.answer.Called.{Called}
 use Rattle.run_shows.specs.Given.RawDeclared.machines.call.KeyCall.{KeyCall}

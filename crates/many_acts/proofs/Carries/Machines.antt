@@ -11,9 +11,9 @@ use Rattle.run_shows.specs.Given.ResizeDeclared.outcome.Outcome.TheVariants as o
 use Rattle.run_shows.specs.Given.ReservesReserve.{reserve_plan}
 use Rattle.run_shows.specs.Given.ReservesDeclared.reserve.Reserve.{Reserve}
 use Rattle.run_shows.specs.Given.SweepsSweep.{sweep_plan}
-use Rattle.run_shows.specs.Given.SweepsDeclared.sweep.Sweep.{Sweep}
-use Rattle.run_shows.specs.Given.SweepsDeclared.sweep.Swept.{Swept}
-use Rattle.run_shows.specs.Given.SweepsDeclared.sweep.Swept.TheVariants as swept_as
+use Rattle.run_shows.specs.Given.ReservesDeclared.sweep.Sweep.{Sweep}
+use Rattle.run_shows.specs.Given.ReservesDeclared.sweep.Swept.{Swept}
+use Rattle.run_shows.specs.Given.ReservesDeclared.sweep.Swept.TheVariants as swept_as
 use Rattle.run_shows.specs.Given.RawCall.{call_plan}
 use Rattle.run_shows.specs.Given.RawMachine.{machine_plan, called, reserved, swept}
 use Rattle.run_shows.specs.Given.RawProgress.{of_called, of_outcome, of_swept}

@@ -5,8 +5,8 @@ use Rattle.run_shows.specs.Given.SeizeWorld.{World, Rests}
 use Rattle.run_shows.specs.Given.TablesDeclared.node.Node.{Node}
 use Rattle.run_shows.specs.Given.TablesDeclared.resize_mode.ResizeMode.{ResizeMode}
 use Rattle.run_shows.specs.Given.ResizeDeclared.copier.Copier.{Copier}
-use Rattle.run_shows.specs.Given.SweepsDeclared.sweep.Sweeping.{Sweeping}
-use Rattle.run_shows.specs.Given.SweepsDeclared.sweep.Sweeping.TheVariants as sweeping
+use Rattle.run_shows.specs.Given.ReservesDeclared.sweep.Sweeping.{Sweeping}
+use Rattle.run_shows.specs.Given.ReservesDeclared.sweep.Sweeping.TheVariants as sweeping
 use Rattle.run_shows.specs.Given.RuleChart.{Chart}
 use Rattle.owner_facts.specs.Given.LateFactsSweeps.{CopiesTable, SweepingFacts}
 use Rattle.owner_facts.specs.Given.LateToldSweeps.{OnlyRemoves}

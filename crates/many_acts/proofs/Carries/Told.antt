@@ -1,9 +1,9 @@
 -- The copier within a call is there still once that is told something, or asked for a pair, and such a call is not given up.
 use Rattle.std.specs.Prelude.{Option, Some, None}
 use Rattle.std.proofs.Common.{◌≡◌, Bool, true, false, refl, ap, sym, ◌∙◌}
-use Rattle.run_shows.specs.Given.SweepsDeclared.sweep.Sweep.{Sweep}
-use Rattle.run_shows.specs.Given.SweepsDeclared.sweep.Sweeping.{Sweeping}
-use Rattle.run_shows.specs.Given.SweepsDeclared.sweep.Sweeping.TheVariants as sweeping
+use Rattle.run_shows.specs.Given.ReservesDeclared.sweep.Sweep.{Sweep}
+use Rattle.run_shows.specs.Given.ReservesDeclared.sweep.Sweeping.{Sweeping}
+use Rattle.run_shows.specs.Given.ReservesDeclared.sweep.Sweeping.TheVariants as sweeping
 use Rattle.run_shows.specs.Given.SweepsSweepPoints.{next_at}
 use Rattle.run_shows.specs.Given.ResizeDeclared.copier.Copier.{Copier}
 use Rattle.run_shows.specs.Given.RawCallAsks.{told_at}

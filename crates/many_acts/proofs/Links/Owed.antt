@@ -10,9 +10,9 @@ use Rattle.run_shows.specs.Given.ResizeDeclared.copier.Copying.TheVariants as co
 use Rattle.run_shows.specs.Given.ReservesDeclared.reserve.Reserve.{Reserve}
 use Rattle.run_shows.specs.Given.ReservesDeclared.reserve.Reserving.{Reserving}
 use Rattle.run_shows.specs.Given.ReservesDeclared.reserve.Reserving.TheVariants as reserving
-use Rattle.run_shows.specs.Given.SweepsDeclared.sweep.Sweep.{Sweep}
-use Rattle.run_shows.specs.Given.SweepsDeclared.sweep.Sweeping.{Sweeping}
-use Rattle.run_shows.specs.Given.SweepsDeclared.sweep.Sweeping.TheVariants as sweeping
+use Rattle.run_shows.specs.Given.ReservesDeclared.sweep.Sweep.{Sweep}
+use Rattle.run_shows.specs.Given.ReservesDeclared.sweep.Sweeping.{Sweeping}
+use Rattle.run_shows.specs.Given.ReservesDeclared.sweep.Sweeping.TheVariants as sweeping
 use Rattle.run_shows.specs.Given.RawDeclared.machines.call.Calling.{Calling}
 use Rattle.run_shows.specs.Given.RawDeclared.machines.call.Calling.TheVariants as at
 use Rattle.run_shows.specs.Given.RawDeclared.machines.call.KeyCall.{KeyCall}

@@ -16,8 +16,8 @@ use Rattle.run_shows.specs.Given.ReservesReserve.{reserve_plan}
 use Rattle.run_shows.specs.Given.ReservesDeclared.reserve.Reserving.{Reserving}
 use Rattle.run_shows.specs.Given.ReservesDeclared.reserve.Reserving.TheVariants as reserving
 use Rattle.run_shows.specs.Given.SweepsSweep.{sweep_plan}
-use Rattle.run_shows.specs.Given.SweepsDeclared.sweep.Sweeping.{Sweeping}
-use Rattle.run_shows.specs.Given.SweepsDeclared.sweep.Sweeping.TheVariants as sweeping
+use Rattle.run_shows.specs.Given.ReservesDeclared.sweep.Sweeping.{Sweeping}
+use Rattle.run_shows.specs.Given.ReservesDeclared.sweep.Sweeping.TheVariants as sweeping
 use Rattle.run_shows.specs.Given.RawCall.{call_plan}
 use Rattle.run_shows.specs.Given.RawMachine as machines
 use Rattle.run_shows.specs.Given.RawMachine.{machine_plan}

@@ -8,7 +8,7 @@ use Rattle.run_shows.specs.Given.TablesDeclared.node.Node.{Node}
 use Rattle.run_shows.specs.Given.TablesDeclared.setting.Setting.{Setting}
 use Rattle.run_shows.specs.Given.ResizeSum.{summing}
 use Rattle.run_shows.specs.Given.ReservesReserve.{reserving}
-use Rattle.run_shows.specs.Given.SweepsDeclared.sweep.Purpose.{Purpose}
+use Rattle.run_shows.specs.Given.ReservesDeclared.sweep.Purpose.{Purpose}
 use Rattle.run_shows.specs.Given.RawCallAsks.{computing, updating, updating_or_inserting, trying_to_insert_with, removing_if}
 use Rattle.run_shows.specs.Given.RawCallPoints.{getting, removing, inserting, trying_to_insert}
 use Rattle.run_shows.specs.Given.RawDeclared.machines.asking.Reply.{Reply}

@@ -29,8 +29,8 @@ use Rattle.run_shows.specs.Given.RawDeclared.machines.end_map.EndMap.{EndMap}
 use Rattle.run_shows.specs.Given.RawDeclared.machines.progress.Progress.{Progress as CallProgress}
 use Rattle.run_shows.specs.Given.TellsSeen.{seen_of}
 use Rattle.run_shows.specs.Given.TellerTells.{told_of}
-use Rattle.run_shows.specs.Given.TellerDeclared.changed.Changed.{Changed}
-use Rattle.run_shows.specs.Given.TellerDeclared.changed.Changed.TheVariants.{Nothing as NoChange}
+use Rattle.run_shows.specs.Given.EffectsDeclared.changed.Changed.{Changed}
+use Rattle.run_shows.specs.Given.EffectsDeclared.changed.Changed.TheVariants.{Nothing as NoChange}
 use Rattle.owner_facts.specs.Given.CallersTogether.{UnderWay}
 use Rattle.owner_facts.specs.Given.FinishesEndings.{Finishing}
 use Rattle.owner_facts.specs.Given.FinishesFactsEnds.{Deed}

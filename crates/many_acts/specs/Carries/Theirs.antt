@@ -13,8 +13,8 @@ use Rattle.run_shows.specs.Given.ResizeDeclared.copier.Copying.{Copying}
 use Rattle.run_shows.specs.Given.ResizeDeclared.copier.Copying.TheVariants as copies
 use Rattle.run_shows.specs.Given.ReservesDeclared.reserve.Reserving.{Reserving}
 use Rattle.run_shows.specs.Given.ReservesDeclared.reserve.Reserving.TheVariants as reserving
-use Rattle.run_shows.specs.Given.SweepsDeclared.sweep.Sweeping.{Sweeping}
-use Rattle.run_shows.specs.Given.SweepsDeclared.sweep.Sweeping.TheVariants as sweeping
+use Rattle.run_shows.specs.Given.ReservesDeclared.sweep.Sweeping.{Sweeping}
+use Rattle.run_shows.specs.Given.ReservesDeclared.sweep.Sweeping.TheVariants as sweeping
 use Rattle.run_shows.specs.Given.RawDeclared.machines.call.Calling.{Calling}
 use Rattle.run_shows.specs.Given.RawDeclared.machines.call.Calling.TheVariants as calling
 use Rattle.owner_facts.specs.Given.CallersTogether.{UnderWay, OnKey, ForRoom, Counting, OverAll}

@@ -15,10 +15,10 @@ use Rattle.map_facts_late.specs.Given.ResizeDeclared.outcome.Outcome.{Outcome}
 use Rattle.map_facts_late.specs.Given.ResizeDeclared.outcome.Outcome.TheVariants as outcome
 use Rattle.map_facts_late.specs.Given.SweepsSweep.{copied, plan_at, sweep_plan}
 use Rattle.map_facts_late.specs.Given.SweepsSweepPoints.{entering}
-use Rattle.map_facts_late.specs.Given.SweepsDeclared.sweep.Sweep.{Sweep}
-use Rattle.map_facts_late.specs.Given.SweepsDeclared.sweep.Sweeping.{Sweeping}
-use Rattle.map_facts_late.specs.Given.SweepsDeclared.sweep.Sweeping.TheVariants as at
-use Rattle.map_facts_late.specs.Given.SweepsDeclared.sweep.Swept.{Swept}
+use Rattle.map_facts_late.specs.Given.ReservesDeclared.sweep.Sweep.{Sweep}
+use Rattle.map_facts_late.specs.Given.ReservesDeclared.sweep.Sweeping.{Sweeping}
+use Rattle.map_facts_late.specs.Given.ReservesDeclared.sweep.Sweeping.TheVariants as at
+use Rattle.map_facts_late.specs.Given.ReservesDeclared.sweep.Swept.{Swept}
 use Rattle.map_facts_late.specs.Given.RuleChart.{Chart}
 use Rattle.map_facts_late.specs.Given.RuleInWorld.{IsMapIn, Went}
 use Rattle.map_facts_late.specs.Given.RuleWords.{Blocks}

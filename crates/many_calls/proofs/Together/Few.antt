@@ -27,10 +27,10 @@ use Rattle.map_facts_late.specs.Given.ReservesDeclared.reserve.Reserving.TheVari
 use Rattle.map_facts_late.specs.ToldReserves.{IsRowOfReserve}
 use Rattle.many_calls.specs.Rooms.{CallForRoom, RoomClaims}
 use Rattle.many_calls.specs.Claims.{AreFew, IsToClaim, ClaimsFit, ClaimsBy}
-use Rattle.map_facts_late.specs.Given.SweepsDeclared.sweep.Sweeping.{Sweeping}
-use Rattle.map_facts_late.specs.Given.SweepsDeclared.sweep.Sweeping.TheVariants as sweeping
-use Rattle.map_facts_late.specs.Given.SweepsDeclared.sweep.Swept.{Swept}
-use Rattle.map_facts_late.specs.Given.SweepsDeclared.sweep.Swept.TheVariants as swept
+use Rattle.map_facts_late.specs.Given.ReservesDeclared.sweep.Sweeping.{Sweeping}
+use Rattle.map_facts_late.specs.Given.ReservesDeclared.sweep.Sweeping.TheVariants as sweeping
+use Rattle.map_facts_late.specs.Given.ReservesDeclared.sweep.Swept.{Swept}
+use Rattle.map_facts_late.specs.Given.ReservesDeclared.sweep.Swept.TheVariants as swept
 use Rattle.map_facts_late.specs.ToldSweeps.{IsRowOfSweep}
 use Rattle.map_facts_late.proofs.Swept.Sweeps.Stands.{IsQuiet}
 use Rattle.many_calls.specs.OverAll.{CallOverAll, SweepClaims}

@@ -17,10 +17,10 @@ use Rattle.map_facts_late.specs.FactsReserves.{ReserveFacts}
 use Rattle.map_facts_late.specs.LateReserves.{LateReserveFacts}
 use Rattle.map_facts_late.proofs.Rooms.Lasts.Reserves.{reserves_on}
 use Rattle.many_calls.specs.Rooms.{room_once_over}
-use Rattle.map_facts_late.specs.Given.SweepsDeclared.sweep.Purpose.{Purpose}
-use Rattle.map_facts_late.specs.Given.SweepsDeclared.sweep.Sweep.{Sweep}
-use Rattle.map_facts_late.specs.Given.SweepsDeclared.sweep.Sweeping.{Sweeping}
-use Rattle.map_facts_late.specs.Given.SweepsDeclared.sweep.Sweeping.TheVariants as at
+use Rattle.map_facts_late.specs.Given.ReservesDeclared.sweep.Purpose.{Purpose}
+use Rattle.map_facts_late.specs.Given.ReservesDeclared.sweep.Sweep.{Sweep}
+use Rattle.map_facts_late.specs.Given.ReservesDeclared.sweep.Sweeping.{Sweeping}
+use Rattle.map_facts_late.specs.Given.ReservesDeclared.sweep.Sweeping.TheVariants as at
 use Rattle.map_facts_late.proofs.Swept.Covers.Kept.{names_on, kept_moved}
 use Rattle.map_facts_late.proofs.Swept.Lasts.Sweeps.{knows_then}
 use Rattle.many_calls.specs.OverAll.{Verdict, CallOverAll, sweep_once_over, TriesTold}

@@ -22,8 +22,8 @@ use Rattle.map_facts_late.specs.Given.ResizeDeclared.dispose.Disposing.{Disposin
 use Rattle.map_facts_late.specs.Given.ResizeDeclared.dispose.Disposing.TheVariants as disposes
 use Rattle.map_facts_late.specs.Given.ReservesDeclared.reserve.Reserving.{Reserving}
 use Rattle.map_facts_late.specs.Given.ReservesDeclared.reserve.Reserving.TheVariants as reserving
-use Rattle.map_facts_late.specs.Given.SweepsDeclared.sweep.Sweeping.{Sweeping}
-use Rattle.map_facts_late.specs.Given.SweepsDeclared.sweep.Sweeping.TheVariants as sweeping
+use Rattle.map_facts_late.specs.Given.ReservesDeclared.sweep.Sweeping.{Sweeping}
+use Rattle.map_facts_late.specs.Given.ReservesDeclared.sweep.Sweeping.TheVariants as sweeping
 use Rattle.map_facts_late.specs.Given.RawDeclared.machines.call.Calling.{Calling}
 use Rattle.map_facts_late.specs.Given.RawDeclared.machines.call.Calling.TheVariants as calls
 use Rattle.map_facts_late.specs.Given.RuleInWorld.{AllUsers}

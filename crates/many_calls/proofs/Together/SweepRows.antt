@@ -31,11 +31,11 @@ use Rattle.map_facts_late.specs.Given.ResizeDeclared.dispose.Disposing.TheVarian
 use Rattle.map_facts_late.specs.Given.ResizeDeclared.outcome.Outcome.{Outcome}
 use Rattle.map_facts_late.specs.Given.SweepsSweep as sweeps
 use Rattle.map_facts_late.specs.Given.SweepsSweepPoints.{removes, standing, past, further, telling}
-use Rattle.map_facts_late.specs.Given.SweepsDeclared.sweep.Sweep.{Sweep}
-use Rattle.map_facts_late.specs.Given.SweepsDeclared.sweep.Sweeping.{Sweeping}
-use Rattle.map_facts_late.specs.Given.SweepsDeclared.sweep.Sweeping.TheVariants as at
-use Rattle.map_facts_late.specs.Given.SweepsDeclared.sweep.Swept.{Swept}
-use Rattle.map_facts_late.specs.Given.SweepsDeclared.sweep.Swept.TheVariants as swept
+use Rattle.map_facts_late.specs.Given.ReservesDeclared.sweep.Sweep.{Sweep}
+use Rattle.map_facts_late.specs.Given.ReservesDeclared.sweep.Sweeping.{Sweeping}
+use Rattle.map_facts_late.specs.Given.ReservesDeclared.sweep.Sweeping.TheVariants as at
+use Rattle.map_facts_late.specs.Given.ReservesDeclared.sweep.Swept.{Swept}
+use Rattle.map_facts_late.specs.Given.ReservesDeclared.sweep.Swept.TheVariants as swept
 use Rattle.map_facts_late.specs.Given.RuleChart.{Chart}
 use Rattle.map_facts_late.specs.Given.RuleWords.{Blocks}
 use Rattle.map_facts_late.specs.Given.RuleInWorld.{IsMapIn}

@@ -20,10 +20,10 @@ use Rattle.map_facts_late.specs.Given.ResizeDeclared.dispose.Disposing.TheVarian
 use Rattle.seize_model.specs.Given.SeizeDeclared.rows.settle.Settle.{Settle}
 use Rattle.map_facts_late.specs.Given.SweepsSweep.{sweep_plan}
 use Rattle.map_facts_late.specs.Given.SweepsSweepPoints.{standing}
-use Rattle.map_facts_late.specs.Given.SweepsDeclared.sweep.Sweep.{Sweep}
-use Rattle.map_facts_late.specs.Given.SweepsDeclared.sweep.Sweeping.{Sweeping}
-use Rattle.map_facts_late.specs.Given.SweepsDeclared.sweep.Sweeping.TheVariants as at
-use Rattle.map_facts_late.specs.Given.SweepsDeclared.sweep.Swept.{Swept}
+use Rattle.map_facts_late.specs.Given.ReservesDeclared.sweep.Sweep.{Sweep}
+use Rattle.map_facts_late.specs.Given.ReservesDeclared.sweep.Sweeping.{Sweeping}
+use Rattle.map_facts_late.specs.Given.ReservesDeclared.sweep.Sweeping.TheVariants as at
+use Rattle.map_facts_late.specs.Given.ReservesDeclared.sweep.Swept.{Swept}
 use Rattle.map_facts_late.specs.Given.RuleChart.{Chart}
 use Rattle.map_facts_late.specs.Given.RuleWords.{Blocks}
 use Rattle.map_facts_late.specs.Given.PointsTold.{IsRowOf}

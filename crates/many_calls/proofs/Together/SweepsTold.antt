@@ -6,10 +6,10 @@ use Rattle.seize_model.proofs.Given.SeizeRuleRows.Leaving.{with_same}
 use Rattle.map_facts_late.specs.Given.TablesDeclared.node.Node.{Node}
 use Rattle.map_facts_late.specs.Given.TablesDeclared.setting.Setting.{Setting}
 use Rattle.map_facts_late.specs.Given.SweepsSweepPoints.{next_at, reply_at, standing, further}
-use Rattle.map_facts_late.specs.Given.SweepsDeclared.sweep.Purpose.{Purpose}
-use Rattle.map_facts_late.specs.Given.SweepsDeclared.sweep.Sweep.{Sweep}
-use Rattle.map_facts_late.specs.Given.SweepsDeclared.sweep.Sweeping.{Sweeping}
-use Rattle.map_facts_late.specs.Given.SweepsDeclared.sweep.Sweeping.TheVariants as at
+use Rattle.map_facts_late.specs.Given.ReservesDeclared.sweep.Purpose.{Purpose}
+use Rattle.map_facts_late.specs.Given.ReservesDeclared.sweep.Sweep.{Sweep}
+use Rattle.map_facts_late.specs.Given.ReservesDeclared.sweep.Sweeping.{Sweeping}
+use Rattle.map_facts_late.specs.Given.ReservesDeclared.sweep.Sweeping.TheVariants as at
 use Rattle.map_facts_late.specs.Given.RuleChart.{Chart}
 use Rattle.map_facts_late.specs.Given.RuleWords.{Blocks}
 use Rattle.map_facts_late.specs.Given.RuleInWorld.{IsMapIn}

@@ -27,11 +27,11 @@ use Rattle.many_calls.specs.Given.ReservesDeclared.reserve.Reserve.{Reserve}
 use Rattle.many_calls.specs.Given.ReservesDeclared.reserve.Reserving.{Reserving}
 use Rattle.many_calls.specs.Given.ReservesDeclared.reserve.Reserving.TheVariants as reserving
 use Rattle.many_calls.specs.Given.SweepsSweep.{sweep_plan}
-use Rattle.many_calls.specs.Given.SweepsDeclared.sweep.Sweep.{Sweep}
-use Rattle.many_calls.specs.Given.SweepsDeclared.sweep.Sweeping.{Sweeping}
-use Rattle.many_calls.specs.Given.SweepsDeclared.sweep.Sweeping.TheVariants as sweeping
-use Rattle.many_calls.specs.Given.SweepsDeclared.sweep.Swept.{Swept}
-use Rattle.many_calls.specs.Given.SweepsDeclared.sweep.Swept.TheVariants as swept
+use Rattle.many_calls.specs.Given.ReservesDeclared.sweep.Sweep.{Sweep}
+use Rattle.many_calls.specs.Given.ReservesDeclared.sweep.Sweeping.{Sweeping}
+use Rattle.many_calls.specs.Given.ReservesDeclared.sweep.Sweeping.TheVariants as sweeping
+use Rattle.many_calls.specs.Given.ReservesDeclared.sweep.Swept.{Swept}
+use Rattle.many_calls.specs.Given.ReservesDeclared.sweep.Swept.TheVariants as swept
 use Rattle.many_calls.specs.Given.RawCall.{call_plan}
 use Rattle.many_calls.specs.Given.RawMachine as machines
 use Rattle.many_calls.specs.Given.RawMachine.{machine_plan}

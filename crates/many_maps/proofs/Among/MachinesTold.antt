@@ -5,8 +5,8 @@ use Rattle.many_calls.specs.Given.SeizeWorld.{World, with_at}
 use Rattle.many_calls.proofs.Given.SeizeRuleRows.Leaving.{with_same}
 use Rattle.many_calls.specs.Given.TablesDeclared.node.Node.{Node}
 use Rattle.many_calls.specs.Given.SweepsSweepPoints.{after_next}
-use Rattle.many_calls.specs.Given.SweepsDeclared.sweep.Sweeping.{Sweeping}
-use Rattle.many_calls.specs.Given.SweepsDeclared.sweep.Sweeping.TheVariants as sweeping
+use Rattle.many_calls.specs.Given.ReservesDeclared.sweep.Sweeping.{Sweeping}
+use Rattle.many_calls.specs.Given.ReservesDeclared.sweep.Sweeping.TheVariants as sweeping
 use Rattle.many_calls.specs.Given.RawCallAsks.{told_at}
 use Rattle.many_calls.specs.Given.RawMachine.{sweep_told, machine_replied}
 use Rattle.many_calls.specs.Given.RawDeclared.machines.asking.Asking.{Asking}

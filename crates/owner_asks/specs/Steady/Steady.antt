@@ -9,7 +9,7 @@ use Rattle.map_tables.specs.Nodes.{deferred_word}
 use Rattle.map_tables.specs.declared.node.Node.{Node}
 use Rattle.map_tables.specs.declared.setting.Setting.{Setting}
 use Rattle.papaya_raw.specs.Given.SweepsSweepPoints.{removes}
-use Rattle.papaya_raw.specs.Given.SweepsDeclared.sweep.Purpose.{Purpose}
+use Rattle.papaya_raw.specs.Given.ReservesDeclared.sweep.Purpose.{Purpose}
 use Rattle.owner_calls.specs.Given.CallersKind.{Kind, removes_if}
 use Rattle.owner_calls.specs.Given.CallersKind as kinds
 use Rattle.owner_calls.specs.Given.CallersPairs.{Given, kind_of}

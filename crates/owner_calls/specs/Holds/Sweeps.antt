@@ -5,7 +5,7 @@ use Rattle.seize_words.specs.OneMemory.Mem.{Mem}
 use Rattle.seize_words.specs.declared.fault.Fault.{Fault}
 use Rattle.map_tables.specs.declared.node.Node.{Node}
 use Rattle.map_tables.specs.declared.setting.Setting.{Setting}
-use Rattle.papaya_raw.specs.Given.SweepsDeclared.sweep.Purpose.{Purpose}
+use Rattle.papaya_raw.specs.Given.ReservesDeclared.sweep.Purpose.{Purpose}
 use Rattle.owner_whole.specs.Strides.Ending.{RunsTo}
 use Rattle.owner_calls.specs.Owned.Owned.{Holds}
 use Rattle.owner_calls.specs.Sifts.Sweeping.{IsSweeping, over_pairs_plan}

@@ -9,7 +9,7 @@ use Rattle.map_tables.specs.declared.setting.Setting.{Setting}
 use Rattle.papaya_raw.specs.declared.machines.answer.KeyAnswer.{KeyAnswer}
 use Rattle.owner_calls.specs.Given.CallersPairs.{Given, kind_of}
 use Rattle.papaya_raw.specs.Given.SweepsSweepPoints.{removes}
-use Rattle.papaya_raw.specs.Given.SweepsDeclared.sweep.Purpose.{Purpose}
+use Rattle.papaya_raw.specs.Given.ReservesDeclared.sweep.Purpose.{Purpose}
 use Rattle.owner_calls.specs.Sifts.Sweeping.{HasSwept}
 use Rattle.owner_calls.specs.Owned.Calling.{HasStopped, stop_by}
 use Rattle.owner_calls.specs.Owned.Owned.{Holds}

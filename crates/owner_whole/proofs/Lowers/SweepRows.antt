@@ -12,10 +12,10 @@ use Rattle.map_tables.specs.declared.setting.Setting.{Setting}
 use Rattle.map_measures.specs.Given.ResizeDeclared.dispose.Dispose.{Dispose}
 use Rattle.papaya_raw.specs.Given.SweepsSweep.{sweep_plan}
 use Rattle.papaya_raw.specs.Given.SweepsSweepPoints.{further}
-use Rattle.papaya_raw.specs.Given.SweepsDeclared.sweep.Sweep.{Sweep}
-use Rattle.papaya_raw.specs.Given.SweepsDeclared.sweep.Sweeping.{Sweeping}
-use Rattle.papaya_raw.specs.Given.SweepsDeclared.sweep.Sweeping.TheVariants as at
-use Rattle.papaya_raw.specs.Given.SweepsDeclared.sweep.Swept.{Swept}
+use Rattle.papaya_raw.specs.Given.ReservesDeclared.sweep.Sweep.{Sweep}
+use Rattle.papaya_raw.specs.Given.ReservesDeclared.sweep.Sweeping.{Sweeping}
+use Rattle.papaya_raw.specs.Given.ReservesDeclared.sweep.Sweeping.TheVariants as at
+use Rattle.papaya_raw.specs.Given.ReservesDeclared.sweep.Swept.{Swept}
 use Rattle.map_measures.specs.Given.RuleChart.{Chart}
 use Rattle.map_measures.specs.Given.RuleInWorld.{IsMapIn}
 use Rattle.map_measures.specs.Given.RuleWords.{Blocks}

@@ -18,10 +18,10 @@ use Rattle.map_measures.specs.Given.ResizeDeclared.dispose.Disposing.TheVariants
 use Rattle.map_measures.specs.Given.ResizeDeclared.outcome.Outcome.{Outcome}
 use Rattle.map_measures.specs.Given.ResizeDeclared.outcome.Outcome.TheVariants as outcome
 use Rattle.papaya_raw.specs.Given.SweepsSweep.{copied, plan_at, sweep_plan}
-use Rattle.papaya_raw.specs.Given.SweepsDeclared.sweep.Sweep.{Sweep}
-use Rattle.papaya_raw.specs.Given.SweepsDeclared.sweep.Sweeping.{Sweeping}
-use Rattle.papaya_raw.specs.Given.SweepsDeclared.sweep.Sweeping.TheVariants as at
-use Rattle.papaya_raw.specs.Given.SweepsDeclared.sweep.Swept.{Swept}
+use Rattle.papaya_raw.specs.Given.ReservesDeclared.sweep.Sweep.{Sweep}
+use Rattle.papaya_raw.specs.Given.ReservesDeclared.sweep.Sweeping.{Sweeping}
+use Rattle.papaya_raw.specs.Given.ReservesDeclared.sweep.Sweeping.TheVariants as at
+use Rattle.papaya_raw.specs.Given.ReservesDeclared.sweep.Swept.{Swept}
 use Rattle.map_measures.specs.Given.RuleChart.{Chart}
 use Rattle.map_measures.specs.Given.RuleWords.{Blocks}
 use Rattle.owner_facts.specs.Given.PointsFactsDisposes.{DisposingFacts, DisposeFacts}

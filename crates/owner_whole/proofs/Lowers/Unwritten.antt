@@ -32,10 +32,10 @@ use Rattle.papaya_raw.specs.Given.ReservesDeclared.reserve.Reserve.{Reserve}
 use Rattle.papaya_raw.specs.Given.ReservesDeclared.reserve.Reserving.{Reserving}
 use Rattle.papaya_raw.specs.Given.ReservesDeclared.reserve.Reserving.TheVariants as reserves
 use Rattle.papaya_raw.specs.Given.SweepsSweep as sweep
-use Rattle.papaya_raw.specs.Given.SweepsDeclared.sweep.Sweep.{Sweep}
-use Rattle.papaya_raw.specs.Given.SweepsDeclared.sweep.Sweeping.{Sweeping}
-use Rattle.papaya_raw.specs.Given.SweepsDeclared.sweep.Sweeping.TheVariants as sweeps
-use Rattle.papaya_raw.specs.Given.SweepsDeclared.sweep.Swept.TheVariants as swept
+use Rattle.papaya_raw.specs.Given.ReservesDeclared.sweep.Sweep.{Sweep}
+use Rattle.papaya_raw.specs.Given.ReservesDeclared.sweep.Sweeping.{Sweeping}
+use Rattle.papaya_raw.specs.Given.ReservesDeclared.sweep.Sweeping.TheVariants as sweeps
+use Rattle.papaya_raw.specs.Given.ReservesDeclared.sweep.Swept.TheVariants as swept
 use Rattle.map_measures.proofs.Given.RuleWords.PlaceWordsMarks.{and_copying}
 use Rattle.map_measures.proofs.Given.RuleWords.PlaceWordsWritten.{or_copying}
 use Rattle.map_measures.proofs.Given.RuleWords.WrittenAgain.{written_again}

@@ -1,10 +1,10 @@
 -- What is so at each point of a sweep where one caller alone has a part in the copying of its map: nobody else copies, and it goes over the table of the root.
 use Rattle.std.specs.Prelude.{◌≡◌, ℕ, suc, ◌<◌, ◌≤◌, Bool, true, false, List, []}
-use Rattle.papaya_raw.specs.Given.SweepsDeclared.sweep.Purpose.{Purpose}
-use Rattle.papaya_raw.specs.Given.SweepsDeclared.sweep.Purpose.TheVariants.{Walks, Clears, Retains}
-use Rattle.papaya_raw.specs.Given.SweepsDeclared.sweep.Sweep.{Sweep}
-use Rattle.papaya_raw.specs.Given.SweepsDeclared.sweep.Sweeping.{Sweeping}
-use Rattle.papaya_raw.specs.Given.SweepsDeclared.sweep.Sweeping.TheVariants as at
+use Rattle.papaya_raw.specs.Given.ReservesDeclared.sweep.Purpose.{Purpose}
+use Rattle.papaya_raw.specs.Given.ReservesDeclared.sweep.Purpose.TheVariants.{Walks, Clears, Retains}
+use Rattle.papaya_raw.specs.Given.ReservesDeclared.sweep.Sweep.{Sweep}
+use Rattle.papaya_raw.specs.Given.ReservesDeclared.sweep.Sweeping.{Sweeping}
+use Rattle.papaya_raw.specs.Given.ReservesDeclared.sweep.Sweeping.TheVariants as at
 use Rattle.map_measures.specs.Given.RuleChart.{Still, Holds, Chart}
 use Rattle.map_measures.specs.Given.RuleWords.{Blocks, place_word}
 use Rattle.map_measures.specs.Given.PointsMeasures.{OthersIdle}

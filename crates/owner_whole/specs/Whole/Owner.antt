@@ -9,9 +9,9 @@ use Rattle.map_measures.specs.Given.RuleChart.{Chart}
 use Rattle.map_measures.specs.Given.RuleWords.{Blocks}
 use Rattle.owner_facts.specs.Alone.FactsAloneCalls.{IsLone, RestsAlone}
 use Rattle.owner_facts.specs.Maps.FactsAloneReserves.{IsLoneReserve}
-use Rattle.papaya_raw.specs.Given.SweepsDeclared.sweep.Sweep.{Sweep}
-use Rattle.papaya_raw.specs.Given.SweepsDeclared.sweep.Sweeping.{Sweeping}
-use Rattle.papaya_raw.specs.Given.SweepsDeclared.sweep.Sweeping.TheVariants as sweeps
+use Rattle.papaya_raw.specs.Given.ReservesDeclared.sweep.Sweep.{Sweep}
+use Rattle.papaya_raw.specs.Given.ReservesDeclared.sweep.Sweeping.{Sweeping}
+use Rattle.papaya_raw.specs.Given.ReservesDeclared.sweep.Sweeping.TheVariants as sweeps
 use Rattle.owner_facts.specs.Given.LateFactsSweeps.{SweepingFacts}
 use Rattle.owner_facts.specs.Given.CallersSights.{Sight, seen_by}
 use Rattle.owner_facts.specs.Given.CallersOverAll.{sweep_once_over}

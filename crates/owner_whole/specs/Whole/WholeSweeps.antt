@@ -12,12 +12,12 @@ use Rattle.map_tables.specs.declared.node.Node.TheVariants as node
 use Rattle.map_tables.specs.declared.setting.Setting.{Setting}
 use Rattle.papaya_raw.specs.Given.SweepsSweep.{sweep_plan}
 use Rattle.papaya_raw.specs.Given.SweepsSweepPoints.{sweeping, after_next, after_reply}
-use Rattle.papaya_raw.specs.Given.SweepsDeclared.sweep.Purpose.{Purpose}
-use Rattle.papaya_raw.specs.Given.SweepsDeclared.sweep.Sweep.{Sweep}
-use Rattle.papaya_raw.specs.Given.SweepsDeclared.sweep.Sweeping.{Sweeping}
-use Rattle.papaya_raw.specs.Given.SweepsDeclared.sweep.Sweeping.TheVariants as at
-use Rattle.papaya_raw.specs.Given.SweepsDeclared.sweep.Swept.{Swept}
-use Rattle.papaya_raw.specs.Given.SweepsDeclared.sweep.Swept.TheVariants as swept
+use Rattle.papaya_raw.specs.Given.ReservesDeclared.sweep.Purpose.{Purpose}
+use Rattle.papaya_raw.specs.Given.ReservesDeclared.sweep.Sweep.{Sweep}
+use Rattle.papaya_raw.specs.Given.ReservesDeclared.sweep.Sweeping.{Sweeping}
+use Rattle.papaya_raw.specs.Given.ReservesDeclared.sweep.Sweeping.TheVariants as at
+use Rattle.papaya_raw.specs.Given.ReservesDeclared.sweep.Swept.{Swept}
+use Rattle.papaya_raw.specs.Given.ReservesDeclared.sweep.Swept.TheVariants as swept
 use Rattle.map_measures.specs.Given.RuleChart.{Phase, Holds, Chart}
 use Rattle.map_measures.specs.Given.RuleWords.{Blocks, place_word}
 use Rattle.owner_facts.specs.Given.PointsSteps.{AreLawful}

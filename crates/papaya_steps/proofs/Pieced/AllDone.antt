@@ -31,7 +31,7 @@ use Rattle.play_events.specs.Given.SchedulerWorks.{DidNothing}
 use Rattle.play_events.specs.Given.SchedulerDeclared.played.Played.{Played}
 use Rattle.play_events.specs.Given.SchedulerDeclared.scheduler.Scheduler.{Scheduler}
 use Rattle.play_events.proofs.Given.MappingAllGiven.{nobody_has}
-use Rattle.play_events.specs.Given.NamedDeclared.caller.Caller.{Caller}
+use Rattle.play_events.specs.Given.ExecutorDeclared.caller.Caller.{Caller}
 use Rattle.play_events.specs.Given.ActsLists.{Course}
 use Rattle.run_schedules.specs.Deeds.Deeds.{ReclaimsAll}
 use Rattle.play_events.specs.Given.PlayedPlay.{State, settled_outcome}

@@ -30,9 +30,9 @@ use Rattle.play_events.specs.Given.SchedulerDeclared.scheduler.Scheduler.{Schedu
 use Rattle.play_events.proofs.Given.SchedulerBegins.{at_slot, entered, fits}
 use Rattle.play_events.proofs.Given.SchedulerMaps.{setting_of_it}
 use Rattle.play_events.specs.Given.NamedSeen.{Seen}
-use Rattle.play_events.specs.Given.NamedDeclared.caller.Caller.{Caller}
-use Rattle.play_events.specs.Given.NamedDeclared.caller.Stands.{Stands as HowFar}
-use Rattle.play_events.specs.Given.NamedDeclared.caller.Stands.TheVariants as far
+use Rattle.play_events.specs.Given.ExecutorDeclared.caller.Caller.{Caller}
+use Rattle.play_events.specs.Given.ExecutorDeclared.caller.Stands.{Stands as HowFar}
+use Rattle.play_events.specs.Given.ExecutorDeclared.caller.Stands.TheVariants as far
 use Rattle.play_events.specs.Given.ActsLists.{Course}
 use Rattle.run_schedules.specs.Deeds.Deeds.{Begins}
 use Rattle.play_events.specs.Given.SteppingStepping.{GoneBy, GoneFor, SaysAgain, TakenBy, TookWhole}

@@ -12,10 +12,10 @@ use Rattle.run_effects.specs.declared.changed.Changed.{Changed}
 use Rattle.play_events.specs.Given.ScenesStepping.{has_ended}
 use Rattle.run_effects.specs.Effects.Known.{Known}
 use Rattle.play_events.specs.Given.NamedSeen.{kind_of}
-use Rattle.play_events.specs.Given.NamedDeclared.caller.Caller.{Caller}
-use Rattle.play_events.specs.Given.NamedDeclared.caller.Stands.{Stands as HowFar}
-use Rattle.play_events.specs.Given.NamedDeclared.caller.Stands.TheVariants as far
-use Rattle.play_events.specs.Given.NamedDeclared.kind.Kind.{Kind}
+use Rattle.play_events.specs.Given.ExecutorDeclared.caller.Caller.{Caller}
+use Rattle.play_events.specs.Given.ExecutorDeclared.caller.Stands.{Stands as HowFar}
+use Rattle.play_events.specs.Given.ExecutorDeclared.caller.Stands.TheVariants as far
+use Rattle.play_events.specs.Given.ExecutorDeclared.kind.Kind.{Kind}
 use Rattle.play_events.specs.Given.NamedTelling.{kept, number_by}
 use Rattle.play_events.specs.Given.PlayedPlay.{Calling, State, call_stepped, going, keeps}
 use Rattle.play_events.specs.Given.PlayedPlay as play

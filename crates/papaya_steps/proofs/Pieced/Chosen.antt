@@ -12,7 +12,7 @@ use Rattle.play_events.specs.Given.SchedulerPlayed.{entry_of}
 use Rattle.play_events.specs.Given.SchedulerWorks.{WorksOnSetup}
 use Rattle.play_events.specs.Given.SchedulerDeclared.played.Played.{Played}
 use Rattle.play_events.specs.Given.SchedulerDeclared.scheduler.Scheduler.{Scheduler}
-use Rattle.play_events.specs.Given.NamedDeclared.caller.Caller.{Caller}
+use Rattle.play_events.specs.Given.ExecutorDeclared.caller.Caller.{Caller}
 use Rattle.play_events.specs.Given.ActsLists.{Course}
 use Rattle.play_events.specs.Given.PlayedPlay.{State, choice_come}
 use Rattle.play_events.specs.Given.GroupedCalled.{PlaysSo}

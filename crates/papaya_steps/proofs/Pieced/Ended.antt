@@ -27,7 +27,7 @@ use Rattle.play_events.specs.Given.SchedulerDeclared.played.Played.{Played}
 use Rattle.play_events.specs.Given.SchedulerDeclared.scheduler.Scheduler.{Scheduler}
 use Rattle.play_events.proofs.Given.SchedulerMaps.{number_is}
 use Rattle.play_events.proofs.Given.MappingMapsEnded.{no_call}
-use Rattle.play_events.specs.Given.NamedDeclared.caller.Caller.{Caller}
+use Rattle.play_events.specs.Given.ExecutorDeclared.caller.Caller.{Caller}
 use Rattle.play_events.specs.Given.ActsLists.{Course}
 use Rattle.run_schedules.specs.Deeds.Deeds.{Ends, MapGoes}
 use Rattle.play_events.specs.Given.PlayedPlay.{State, is_over, settled_outcome}

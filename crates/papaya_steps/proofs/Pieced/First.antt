@@ -6,7 +6,7 @@ use Rattle.run_effects.specs.Effects.Known.{known, nothing_known}
 use Rattle.play_events.specs.Given.ExecutorIsThere.{IsThere}
 use Rattle.play_events.specs.Given.LoggedChoosing.{logged_chosen}
 use Rattle.play_events.specs.Given.LoggedDeclared.logged.Logged.{Logged}
-use Rattle.play_events.specs.Given.NamedDeclared.caller.Caller.{Caller}
+use Rattle.play_events.specs.Given.ExecutorDeclared.caller.Caller.{Caller}
 use Rattle.play_events.specs.Given.ActsLists.{Course, nothing_done}
 use Rattle.play_events.specs.Given.PlayedPlay.{State, first_state}
 use Rattle.play_events.specs.Given.GroupedCalled.{PlaysSo}

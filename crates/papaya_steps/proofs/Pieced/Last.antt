@@ -6,7 +6,7 @@ use Rattle.play_events.specs.Given.ScenesScene.{slot_of}
 use Rattle.run_schedules.specs.Schedules.Entry.{Entry}
 use Rattle.run_schedules.specs.Schedules.Terms.{Terms}
 use Rattle.play_events.specs.Given.LoggedDeclared.logged.Logged.{Logged}
-use Rattle.play_events.specs.Given.NamedDeclared.caller.Caller.{Caller}
+use Rattle.play_events.specs.Given.ExecutorDeclared.caller.Caller.{Caller}
 use Rattle.play_events.specs.Given.ActsLists.{Course}
 use Rattle.play_events.proofs.Given.ActsLists.{lists_determine}
 use Rattle.play_events.specs.Given.GroupedByActs.{IsByActs}

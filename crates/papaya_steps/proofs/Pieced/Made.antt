@@ -41,7 +41,7 @@ use Rattle.play_events.specs.Given.SchedulerWorks.{DidNothing, MakingHasRun, Wor
 use Rattle.play_events.specs.Given.SchedulerDeclared.played.Played.{Played}
 use Rattle.play_events.specs.Given.SchedulerDeclared.scheduler.Scheduler.{Scheduler}
 use Rattle.play_events.specs.Given.NamedPlaces.{first_places}
-use Rattle.play_events.specs.Given.NamedDeclared.caller.Caller.{Caller}
+use Rattle.play_events.specs.Given.ExecutorDeclared.caller.Caller.{Caller}
 use Rattle.play_events.specs.Given.ActsActs.{OfMaking, StepsMaking}
 use Rattle.play_events.specs.Given.ActsLeads.{Led}
 use Rattle.play_events.specs.Given.ActsLeads as leads

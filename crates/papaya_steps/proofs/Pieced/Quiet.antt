@@ -5,7 +5,7 @@ use Rattle.run_schedules.specs.declared.event.Event.{Event}
 use Rattle.run_schedules.specs.Schedules.After.{moment}
 use Rattle.run_schedules.specs.Schedules.Entry.{Entry}
 use Rattle.run_schedules.specs.Schedules.Terms.{Terms}
-use Rattle.play_events.specs.Given.NamedDeclared.caller.Caller.{Caller}
+use Rattle.play_events.specs.Given.ExecutorDeclared.caller.Caller.{Caller}
 use Rattle.play_events.specs.Given.ExecutorIsThere.{KeepsGiven}
 use Rattle.play_events.specs.Given.LoggedDeclared.logged.Logged.{Logged}
 use Rattle.play_events.specs.Given.SchedulerPlayed.{entry_of}

@@ -29,8 +29,8 @@ use Rattle.play_events.specs.Given.SchedulerDeclared.played.Played.{Played}
 use Rattle.play_events.specs.Given.SchedulerDeclared.scheduler.Scheduler.{Scheduler}
 use Rattle.play_events.specs.Given.NamedMachines.{aborted_by}
 use Rattle.play_events.specs.Given.NamedSeen.{kind_of}
-use Rattle.play_events.specs.Given.NamedDeclared.caller.Caller.{Caller}
-use Rattle.play_events.specs.Given.NamedDeclared.caller.Stands.TheVariants as far
+use Rattle.play_events.specs.Given.ExecutorDeclared.caller.Caller.{Caller}
+use Rattle.play_events.specs.Given.ExecutorDeclared.caller.Stands.TheVariants as far
 use Rattle.play_events.specs.Given.ActsActs.{OfReply, TellsCall}
 use Rattle.play_events.specs.Given.ActsDoings.{Stage}
 use Rattle.play_events.specs.Given.ActsLeads.{Led}

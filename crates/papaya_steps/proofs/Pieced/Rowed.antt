@@ -40,7 +40,7 @@ use Rattle.play_events.proofs.Given.SchedulerUnregisters as unregisters
 use Rattle.play_events.specs.Given.RowsRows.{RowRan}
 use Rattle.play_events.proofs.Given.RowsNeverWaits.{done_alone}
 use Rattle.play_events.proofs.Given.RowsRan.{done_once}
-use Rattle.play_events.specs.Given.NamedDeclared.caller.Caller.{Caller}
+use Rattle.play_events.specs.Given.ExecutorDeclared.caller.Caller.{Caller}
 use Rattle.play_events.specs.Given.ActsLists.{Course}
 use Rattle.play_events.specs.Given.PlayedPlay.{State, row_outcome}
 use Rattle.play_events.specs.Given.GroupedCalled.{PlaysSo}

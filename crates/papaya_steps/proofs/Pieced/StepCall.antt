@@ -26,8 +26,8 @@ use Rattle.play_events.specs.Given.ExecutorIsThere.{IsThere, StaysGiven, call_in
 use Rattle.play_events.specs.Given.ExecutorDeclared.executor.Executor.{Executor}
 use Rattle.play_events.specs.Given.SchedulerDeclared.scheduler.Scheduler.{Scheduler}
 use Rattle.play_events.specs.Given.NamedSeen.{kind_of}
-use Rattle.play_events.specs.Given.NamedDeclared.caller.Caller.{Caller}
-use Rattle.play_events.specs.Given.NamedDeclared.kind.Kind.{Kind}
+use Rattle.play_events.specs.Given.ExecutorDeclared.caller.Caller.{Caller}
+use Rattle.play_events.specs.Given.ExecutorDeclared.kind.Kind.{Kind}
 use Rattle.play_events.specs.Given.ActsActs.{OfCall, StepsCall}
 use Rattle.play_events.specs.Given.ActsAsSteps.{changed_by}
 use Rattle.play_events.specs.Given.ActsLeads.{CallCame}

@@ -16,8 +16,8 @@ use Rattle.run_schedules.specs.Schedules.Entry.{Entry}
 use Rattle.run_effects.specs.Effects.Known.{Known, known}
 use Rattle.play_events.specs.Given.SchedulerDeclared.scheduler.Scheduler.{Scheduler}
 use Rattle.play_events.specs.Given.NamedTelling.{goes_on}
-use Rattle.play_events.specs.Given.NamedDeclared.caller.Caller.{Caller}
-use Rattle.play_events.specs.Given.NamedDeclared.kind.Kind.{Kind}
+use Rattle.play_events.specs.Given.ExecutorDeclared.caller.Caller.{Caller}
+use Rattle.play_events.specs.Given.ExecutorDeclared.kind.Kind.{Kind}
 use Rattle.play_events.specs.Given.ActsLists.{Course}
 use Rattle.run_schedules.specs.Deeds.Deeds.{Steps}
 use Rattle.play_events.specs.Given.SteppingStepping.{GoneBy, GoneFor, IsStepped, caller_then, outcome_of}

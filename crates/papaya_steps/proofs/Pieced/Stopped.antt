@@ -27,8 +27,8 @@ use Rattle.play_events.proofs.Given.SchedulerHere.{here_at, read_here}
 use Rattle.play_events.proofs.Given.SchedulerStopped.{asked_ready, ready_parts, shows_is}
 use Rattle.play_events.specs.Given.NamedMachines.{IsAsFar}
 use Rattle.play_events.specs.Given.NamedSeen.{is_ready as is_ready_there}
-use Rattle.play_events.specs.Given.NamedDeclared.caller.Caller.{Caller}
-use Rattle.play_events.specs.Given.NamedDeclared.caller.Stands.{Stands as HowFar}
+use Rattle.play_events.specs.Given.ExecutorDeclared.caller.Caller.{Caller}
+use Rattle.play_events.specs.Given.ExecutorDeclared.caller.Stands.{Stands as HowFar}
 use Rattle.play_events.specs.Given.ActsActs.{OfAsking, StopsCall}
 use Rattle.play_events.specs.Given.ActsLists.{Course}
 use Rattle.run_schedules.specs.Deeds.Deeds.{Stops, Entry as Act}

@@ -19,9 +19,9 @@ use Rattle.play_events.specs.Given.SchedulerPlayed.{IsPlayed, IsUnderWayAs, AsFa
 use Rattle.play_events.specs.Given.SchedulerDeclared.played.Played.{Played}
 use Rattle.play_events.specs.Given.SchedulerDeclared.scheduler.Scheduler.{Scheduler}
 use Rattle.play_events.specs.Given.NamedSeen.{is_named}
-use Rattle.play_events.specs.Given.NamedDeclared.caller.Caller.{Caller}
-use Rattle.play_events.specs.Given.NamedDeclared.caller.Stands.{Stands as HowFar}
-use Rattle.play_events.specs.Given.NamedDeclared.caller.Stands.TheVariants as far
+use Rattle.play_events.specs.Given.ExecutorDeclared.caller.Caller.{Caller}
+use Rattle.play_events.specs.Given.ExecutorDeclared.caller.Stands.{Stands as HowFar}
+use Rattle.play_events.specs.Given.ExecutorDeclared.caller.Stands.TheVariants as far
 use Rattle.play_events.specs.Given.ActsLists.{Course}
 use Rattle.run_schedules.specs.Deeds.Deeds.{Steps}
 use Rattle.play_events.specs.Given.SteppingStepping.{SaysAgain, TakenBy, TookSteps}

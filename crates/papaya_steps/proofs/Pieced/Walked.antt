@@ -26,9 +26,9 @@ use Rattle.play_events.specs.Given.SchedulerDeclared.scheduler.Scheduler.{Schedu
 use Rattle.play_events.proofs.Given.SchedulerHere.{here_at}
 use Rattle.play_events.proofs.Given.SchedulerStopped.{ready_parts}
 use Rattle.play_events.specs.Given.NamedSeen.{kind_of, ready_place}
-use Rattle.play_events.specs.Given.NamedDeclared.caller.Caller.{Caller}
-use Rattle.play_events.specs.Given.NamedDeclared.caller.Stands.{Stands as HowFar}
-use Rattle.play_events.specs.Given.NamedDeclared.caller.Stands.TheVariants as far
+use Rattle.play_events.specs.Given.ExecutorDeclared.caller.Caller.{Caller}
+use Rattle.play_events.specs.Given.ExecutorDeclared.caller.Stands.{Stands as HowFar}
+use Rattle.play_events.specs.Given.ExecutorDeclared.caller.Stands.TheVariants as far
 use Rattle.play_events.specs.Given.ActsActs.{AsksCall, OfAsking}
 use Rattle.play_events.specs.Given.ActsLists.{Course}
 use Rattle.run_schedules.specs.Deeds.Deeds.{Steps}

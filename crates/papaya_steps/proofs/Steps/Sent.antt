@@ -45,9 +45,9 @@ use Rattle.papaya_raw.specs.contracts.machines.call.Calling as Calling
 use Rattle.papaya_raw.specs.contracts.machines.call.KeyCall as KeyCall
 use Rattle.papaya_raw.specs.Given.ReservesContracts.reserve.Reserving as Reserving
 use Rattle.papaya_raw.specs.Given.ReservesContracts.reserve.Reserve as Reserve
-use Rattle.papaya_raw.specs.Given.SweepsContracts.sweep.Purpose as Purpose
-use Rattle.papaya_raw.specs.Given.SweepsContracts.sweep.Sweeping as Sweeping
-use Rattle.papaya_raw.specs.Given.SweepsContracts.sweep.Sweep as Sweep
+use Rattle.papaya_raw.specs.Given.ReservesContracts.sweep.Purpose as Purpose
+use Rattle.papaya_raw.specs.Given.ReservesContracts.sweep.Sweeping as Sweeping
+use Rattle.papaya_raw.specs.Given.ReservesContracts.sweep.Sweep as Sweep
 use Rattle.papaya_raw.specs.contracts.machines.machine.Machine as Machine
 use Rattle.papaya_raw.specs.Given.ResizeContracts.new_map.Opening as Opening
 use Rattle.papaya_raw.specs.Given.ResizeContracts.new_map.NewMap as NewMap

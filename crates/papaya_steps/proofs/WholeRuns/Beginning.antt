@@ -33,7 +33,7 @@ use Rattle.run_schedules.specs.declared.setup.Setup.{Setup}
 use Rattle.play_events.specs.Given.SchedulerDeclared.scheduler.Scheduler.{Scheduler}
 use Rattle.play_events.proofs.Given.SchedulerChosen.{stands_chosen}
 use Rattle.play_events.specs.Given.NamedSeen.{seen, seen_of}
-use Rattle.play_events.specs.Given.NamedDeclared.caller.Caller.{Caller}
+use Rattle.play_events.specs.Given.ExecutorDeclared.caller.Caller.{Caller}
 use Rattle.play_events.specs.Events.Asked.{Holds}
 use Rattle.play_events.specs.Events.OfCalls.{HaveShards, HaveValues, Runs}
 use Rattle.papaya_steps.specs.Pieced.SoFar.{ActsSoFar}

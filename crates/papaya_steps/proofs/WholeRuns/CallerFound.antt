@@ -4,7 +4,7 @@ use Rattle.std.proofs.Common.{refl, sym, ◌∙◌}
 use Rattle.play_events.proofs.Given.RowsLists.{is_found, place_found, place_some}
 use Rattle.play_events.specs.Given.NamedRoll.{at_place, called}
 use Rattle.play_events.specs.Given.NamedSeen.{is_named}
-use Rattle.play_events.specs.Given.NamedDeclared.caller.Caller.{Caller}
+use Rattle.play_events.specs.Given.ExecutorDeclared.caller.Caller.{Caller}
 
 none_is : {X : Type 0} (o : Option X) → is_some o ≡ false → None ≡ o
 none_is None e = refl

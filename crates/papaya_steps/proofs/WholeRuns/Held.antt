@@ -28,7 +28,7 @@ use Rattle.play_events.proofs.Given.RowsLists.{found_has}
 use Rattle.play_events.specs.Given.SchedulerMapping.{CountsMaps}
 use Rattle.play_events.specs.Given.SchedulerPlayed.{IsPlayed, IsUnderWay, Plays, entry_of, terms_given}
 use Rattle.play_events.specs.Given.NamedSeen.{is_named}
-use Rattle.play_events.specs.Given.NamedDeclared.caller.Caller.{Caller}
+use Rattle.play_events.specs.Given.ExecutorDeclared.caller.Caller.{Caller}
 use Rattle.play_events.specs.Given.SchedulerDeclared.played.Played.{Played}
 use Rattle.play_events.specs.Given.SchedulerDeclared.scheduler.Scheduler.{Scheduler}
 use Rattle.play_events.proofs.Given.SchedulerRanOn.{maps_named}

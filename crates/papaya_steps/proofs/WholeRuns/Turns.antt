@@ -20,7 +20,7 @@ use Rattle.run_schedules.specs.Schedules.Views.{is_in_map, is_retired}
 use Rattle.play_events.specs.Given.SchedulerPlayed.{entry_of}
 use Rattle.play_events.specs.Given.NamedSeen.{named, named_of}
 use Rattle.play_events.specs.Given.SchedulerDeclared.played.Played.{Played}
-use Rattle.play_events.specs.Given.NamedDeclared.named_map.NamedMap.{NamedMap}
+use Rattle.play_events.specs.Given.ExecutorDeclared.named_map.NamedMap.{NamedMap}
 use Rattle.play_events.specs.Given.SchedulerDeclared.scheduler.Scheduler.{Scheduler}
 use Rattle.papaya_steps.specs.WholeRuns.Acting.{acting_of, map_acted, singles_as, traced}
 use Rattle.play_events.specs.Events.Asked.{Happens, Holds}

@@ -4,7 +4,7 @@ use Rattle.run_schedules.specs.declared.event.Event.{Event}
 use Rattle.run_schedules.specs.Schedules.After.{moment}
 use Rattle.run_schedules.specs.Schedules.Entry.{Entry}
 use Rattle.run_schedules.specs.Schedules.Terms.{Terms, shards_of}
-use Rattle.play_events.specs.Given.NamedDeclared.caller.Caller.{Caller}
+use Rattle.play_events.specs.Given.ExecutorDeclared.caller.Caller.{Caller}
 use Rattle.run_effects.specs.Effects.Known.{known}
 use Rattle.play_events.specs.Given.LoggedDeclared.logged.Logged.{Logged}
 use Rattle.play_events.specs.Given.SchedulerPlayed.{IsPlayed, entry_of}

@@ -1,7 +1,7 @@
 -- What is told of maps at the end of a run.
 use Rattle.std.specs.Prelude.{ℕ, List, Some}
 use Rattle.run_schedules.specs.declared.ended.Living.{Living}
-use Rattle.play_events.specs.Given.NamedDeclared.named_map.NamedMap.{NamedMap}
+use Rattle.play_events.specs.Given.ExecutorDeclared.named_map.NamedMap.{NamedMap}
 use Rattle.run_effects.specs.Tallies.Tally.{numbers_at, passes}
 use Rattle.run_effects.specs.declared.tally.Tally.{Tally}
 

@@ -10,8 +10,8 @@ use Rattle.play_stepping.proofs.Given.SeizeWordsPlaces.Words.{capacity-more, cap
 use Rattle.play_lists.specs.Given.TablesDeclared.node.Node.{Node}
 use Rattle.play_lists.specs.Given.TellsSeen.{seen_of}
 use Rattle.play_lists.specs.Given.TellerTells.{told_of}
-use Rattle.run_kept.specs.Given.TellerDeclared.changed.Changed.{Changed}
-use Rattle.run_kept.specs.Given.TellerDeclared.changed.Changed.TheVariants as changed
+use Rattle.run_kept.specs.Given.EffectsDeclared.changed.Changed.{Changed}
+use Rattle.run_kept.specs.Given.EffectsDeclared.changed.Changed.TheVariants as changed
 use Rattle.run_schedules.specs.declared.effect.Effect.{Effect}
 use Rattle.run_schedules.specs.declared.effect.Effect.TheVariants.{Asked}
 use Rattle.run_schedules.specs.declared.effect.Growth.TheVariants.{ABucket}

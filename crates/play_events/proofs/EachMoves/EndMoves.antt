@@ -9,7 +9,7 @@ use Rattle.run_schedules.specs.Schedules.Effects.{AtEachEffect, with_effect, wit
 use Rattle.run_schedules.specs.Schedules.Handing.{is_ending}
 use Rattle.run_schedules.specs.Schedules.Moment.{Moment}
 use Rattle.run_schedules.specs.Schedules.Views.{size_of}
-use Rattle.run_kept.specs.Given.TellerDeclared.changed.Changed.{Changed}
+use Rattle.run_kept.specs.Given.EffectsDeclared.changed.Changed.{Changed}
 use Rattle.run_kept.specs.Given.EffectsEffects.{effects_of}
 use Rattle.run_kept.specs.Given.EffectsKnown.{Known}
 use Rattle.run_kept.specs.Given.EffectsDeclared.acting.Acting.TheVariants as acts

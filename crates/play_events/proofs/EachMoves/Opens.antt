@@ -11,7 +11,7 @@ use Rattle.play_lists.specs.Given.TablesDeclared.node.Node.{Node}
 use Rattle.play_lists.specs.Given.TablesDeclared.setting.Setting.{Setting}
 use Rattle.play_stepping.specs.Given.RawDeclared.machines.end_map.EndMap.{EndMap}
 use Rattle.play_stepping.specs.Given.ResizeDeclared.new_map.NewMap.{NewMap}
-use Rattle.run_kept.specs.Given.TellerDeclared.changed.Changed.TheVariants.{Nothing as NoChange}
+use Rattle.run_kept.specs.Given.EffectsDeclared.changed.Changed.TheVariants.{Nothing as NoChange}
 use Rattle.run_kept.specs.Given.FinishesEndings.{Finishing}
 use Rattle.run_kept.specs.Given.FinishesFactsEnds.{Deed}
 use Rattle.run_kept.specs.Given.FinishesMakings.{Beginning}

@@ -7,7 +7,7 @@ use Rattle.run_schedules.specs.declared.effect.Effect.{Effect}
 use Rattle.run_schedules.specs.declared.outcome.Outcome.{Outcome}
 use Rattle.run_schedules.specs.declared.outcome.Outcome.TheVariants as outcome
 use Rattle.run_schedules.specs.Schedules.Handing.{is_granted}
-use Rattle.run_kept.specs.Given.TellerDeclared.changed.Changed.{Changed}
+use Rattle.run_kept.specs.Given.EffectsDeclared.changed.Changed.{Changed}
 use Rattle.run_kept.specs.Given.EffectsEffects.{effects_of}
 use Rattle.run_kept.specs.Given.EffectsKnown.{Known}
 use Rattle.run_kept.specs.Given.EffectsDeclared.acting.Acting.{Acting}

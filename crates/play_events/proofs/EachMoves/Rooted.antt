@@ -18,8 +18,8 @@ use Rattle.play_stepping.specs.Given.ResizeDeclared.new_map.Opening.{Opening}
 use Rattle.play_stepping.specs.Given.ResizeDeclared.new_map.Opening.TheVariants as openings
 use Rattle.play_stepping.specs.Given.ResizeDeclared.new_table.NewTable.{NewTable}
 use Rattle.play_lists.specs.Given.TellerTells.{StepsTold}
-use Rattle.run_kept.specs.Given.TellerDeclared.changed.Changed.{Changed}
-use Rattle.run_kept.specs.Given.TellerDeclared.changed.Changed.TheVariants as changed
+use Rattle.run_kept.specs.Given.EffectsDeclared.changed.Changed.{Changed}
+use Rattle.run_kept.specs.Given.EffectsDeclared.changed.Changed.TheVariants as changed
 use Rattle.run_kept.proofs.Given.OthersOutcomes.{told_in}
 use Rattle.play_lists.specs.Played.Play.{has_root}
 

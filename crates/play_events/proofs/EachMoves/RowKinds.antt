@@ -24,8 +24,8 @@ use Rattle.play_lists.specs.Given.TablesNodes.{deferred_word}
 use Rattle.play_lists.specs.Given.TablesDeclared.node.Node.{Node}
 use Rattle.play_lists.specs.Given.TellsSeen.{seen_of}
 use Rattle.play_lists.specs.Given.TellerTells.{StepsTold, told_of}
-use Rattle.run_kept.specs.Given.TellerDeclared.changed.Changed.{Changed}
-use Rattle.run_kept.specs.Given.TellerDeclared.changed.Changed.TheVariants as changed
+use Rattle.run_kept.specs.Given.EffectsDeclared.changed.Changed.{Changed}
+use Rattle.run_kept.specs.Given.EffectsDeclared.changed.Changed.TheVariants as changed
 use Rattle.run_schedules.specs.declared.effect.Effect.{Effect}
 use Rattle.run_schedules.specs.Schedules.Handing.{asks_for_bucket, is_reclaiming}
 use Rattle.run_kept.specs.Given.EffectsEffects.{effects_of}

@@ -40,7 +40,7 @@ use Rattle.play_lists.proofs.Given.LoggedReclaimsRun.{same_setting}
 use Rattle.play_stepping.specs.Given.SchedulerAllWorks.{WorksOnAll}
 use Rattle.play_stepping.specs.Given.SchedulerPlayed.{IsPlayed, entry_of}
 use Rattle.play_stepping.specs.Given.SchedulerReclaiming.{MayGiveAll, are_gone}
-use Rattle.play_stepping.specs.Given.NamedDeclared.caller.Caller.{Caller}
+use Rattle.play_stepping.specs.Given.ExecutorDeclared.caller.Caller.{Caller}
 use Rattle.play_stepping.specs.Given.SchedulerDeclared.played.Played.{Played}
 use Rattle.play_stepping.specs.Given.SchedulerDeclared.scheduler.Scheduler.{Scheduler}
 use Rattle.play_stepping.proofs.Mapping.AllGiven.{may_reclaim, nobody_has}

@@ -11,7 +11,7 @@ use Rattle.seize_acts.proofs.Given.SeizeMovesState.Ghost.{State}
 use Rattle.seize_acts.proofs.Given.SeizeRulePoints.Told.{part, part_at}
 use Rattle.play_lists.specs.Given.TablesNodes.{deferred_word}
 use Rattle.play_lists.specs.Given.TablesDeclared.node.Node.{Node}
-use Rattle.run_kept.specs.Given.TellerDeclared.changed.Changed.TheVariants as changed
+use Rattle.run_kept.specs.Given.EffectsDeclared.changed.Changed.TheVariants as changed
 use Rattle.play_stepping.proofs.Given.CallersTogether.Came.{came_reached}
 use Rattle.run_schedules.specs.declared.effect.Effect.{Effect}
 use Rattle.run_schedules.specs.declared.event.Event.{Event}

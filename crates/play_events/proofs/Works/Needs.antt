@@ -12,8 +12,8 @@ use Rattle.play_stepping.specs.Given.SeizeWorld.{World, Rests}
 use Rattle.seize_acts.proofs.Given.SeizeSetsSlots.Registers.{NoneOnVacant}
 use Rattle.play_lists.specs.Given.TablesNodes.{deferred_word}
 use Rattle.play_lists.specs.Given.TablesDeclared.node.Node.{Node}
-use Rattle.run_kept.specs.Given.TellerDeclared.changed.Changed.{Changed}
-use Rattle.run_kept.specs.Given.TellerDeclared.changed.Changed.TheVariants as changed
+use Rattle.run_kept.specs.Given.EffectsDeclared.changed.Changed.{Changed}
+use Rattle.run_kept.specs.Given.EffectsDeclared.changed.Changed.TheVariants as changed
 use Rattle.run_schedules.specs.declared.effect.Effect.{Effect}
 use Rattle.run_schedules.specs.declared.effect.Effect.TheVariants.{Asked}
 use Rattle.run_schedules.specs.declared.effect.Growth.TheVariants.{ABucket}

@@ -26,7 +26,7 @@ use Rattle.run_kept.specs.Given.HistoriesInEvent.{ComesSo}
 use Rattle.run_kept.specs.Given.FinishesMachines.{machine_of}
 use Rattle.run_kept.specs.Models.CallEvents.{IsInItsRow}
 use Rattle.run_kept.specs.Values.Values.{KeepsValue}
-use Rattle.play_stepping.specs.Given.NamedDeclared.caller.Caller.{Caller}
+use Rattle.play_stepping.specs.Given.ExecutorDeclared.caller.Caller.{Caller}
 use Rattle.run_legal.specs.CallEvents.{InCallEvent, IsLegalBut}
 use Rattle.run_legal.specs.CallSwept.{TellsOf}
 use Rattle.run_legal.specs.Carried.{ShowsRun}

@@ -25,8 +25,8 @@ use Rattle.play_lists.specs.Given.OthersEndings.{TellsNext}
 use Rattle.play_lists.specs.Given.ScenesEnding.{EndingComesTo, EndingLeads}
 use Rattle.play_lists.specs.Given.ScenesHeld.{Held, IsAt}
 use Rattle.play_lists.specs.Given.ScenesScene.{Scene, slot_of}
-use Rattle.play_lists.specs.Given.TellerDeclared.changed.Changed.{Changed}
-use Rattle.play_lists.specs.Given.TellerDeclared.changed.Changed.TheVariants as changed
+use Rattle.play_lists.specs.Given.EffectsDeclared.changed.Changed.{Changed}
+use Rattle.play_lists.specs.Given.EffectsDeclared.changed.Changed.TheVariants as changed
 use Rattle.play_stepping.specs.Given.MomentsWhole.{ShowsWhole}
 use Rattle.play_lists.proofs.Given.FollowsAlike.{put_elsewhere}
 use Rattle.play_lists.proofs.Given.OthersEnds.{tells_next}

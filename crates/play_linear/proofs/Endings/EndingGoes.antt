@@ -23,7 +23,7 @@ use Rattle.play_lists.specs.Given.EffectsDeclared.acting.Acting.TheVariants as a
 use Rattle.play_lists.specs.Given.EffectsDeclared.role.Role.{Role}
 use Rattle.play_lists.specs.Given.EffectsDeclared.role.Role.TheVariants as role
 use Rattle.play_lists.specs.Given.FollowsMaps.{ShowsMap}
-use Rattle.play_lists.specs.Given.TellerDeclared.changed.Changed.TheVariants.{Nothing as NoChange}
+use Rattle.play_lists.specs.Given.EffectsDeclared.changed.Changed.TheVariants.{Nothing as NoChange}
 use Rattle.play_lists.specs.Given.ScenesHeld.{Held, IsAt}
 use Rattle.play_lists.specs.Given.ScenesScene.{Scene, slot_of}
 use Rattle.play_stepping.specs.Given.MomentsWhole.{ShowsWhole}

@@ -17,7 +17,7 @@ use Rattle.play_lists.specs.Given.ScenesHeld.{IsAt}
 use Rattle.play_lists.specs.Given.ScenesScene.{Scene, slot_of}
 use Rattle.play_lists.specs.Given.ScenesDeclared.row.SlotRow.{SlotRow}
 use Rattle.play_lists.specs.Given.ScenesDeclared.row.SlotRow.TheVariants as rows
-use Rattle.play_lists.specs.Given.TellerDeclared.changed.Changed.TheVariants.{Nothing as NoChange}
+use Rattle.play_lists.specs.Given.EffectsDeclared.changed.Changed.TheVariants.{Nothing as NoChange}
 use Rattle.play_lists.specs.Given.ActsActs.{Act, Answer, AsksCall, BeginsCall, BeginsEnding, BeginsMaking, BeginsRow, StepsCall, StepsEnding, StepsMaking, StepsRow, StopsCall, TellsCall}
 use Rattle.play_lists.specs.Given.ActsAsSteps.{LeadsAs, changed_by, held_in}
 use Rattle.play_lists.specs.Given.ActsLeads.{Led}

@@ -20,8 +20,8 @@ use Rattle.play_lists.specs.Given.EffectsDeclared.acting.Acting.TheVariants as a
 use Rattle.play_lists.specs.Given.EffectsDeclared.role.Role.{Role}
 use Rattle.play_lists.specs.Given.EffectsDeclared.role.Role.TheVariants as role
 use Rattle.play_lists.specs.Given.ScenesScene.{Scene}
-use Rattle.play_lists.specs.Given.TellerDeclared.changed.Changed.{Changed}
-use Rattle.play_lists.specs.Given.TellerDeclared.changed.Changed.TheVariants as changed
+use Rattle.play_lists.specs.Given.EffectsDeclared.changed.Changed.{Changed}
+use Rattle.play_lists.specs.Given.EffectsDeclared.changed.Changed.TheVariants as changed
 use Rattle.play_stepping.specs.Given.MomentsWhole.{ShowsWhole}
 use Rattle.play_lists.proofs.Given.OthersRowPlans.{TellsRow}
 use Rattle.play_lists.proofs.Agrees.Elsewhere.{AllLinkElsewhere}

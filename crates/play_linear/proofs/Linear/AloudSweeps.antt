@@ -18,13 +18,13 @@ use Rattle.play_stepping.specs.Given.ResizeDeclared.outcome.Outcome.{Outcome}
 use Rattle.play_stepping.specs.Given.ResizeDeclared.outcome.Outcome.TheVariants as outcome
 use Rattle.play_stepping.specs.Given.SweepsSweep.{word_found, tried, disposed, root_read, next_read, copied, plan_at}
 use Rattle.play_stepping.specs.Given.SweepsSweepPoints.{removes, beginning, tableless, entering, further, told, telling, at_pair, seen}
-use Rattle.play_stepping.specs.Given.SweepsDeclared.sweep.Purpose.{Purpose}
-use Rattle.play_stepping.specs.Given.SweepsDeclared.sweep.Purpose.TheVariants.{Walks, Clears, Retains}
-use Rattle.play_stepping.specs.Given.SweepsDeclared.sweep.Sweep.{Sweep}
-use Rattle.play_stepping.specs.Given.SweepsDeclared.sweep.Sweeping.{Sweeping}
-use Rattle.play_stepping.specs.Given.SweepsDeclared.sweep.Sweeping.TheVariants as at
-use Rattle.play_stepping.specs.Given.SweepsDeclared.sweep.Swept.{Swept}
-use Rattle.play_stepping.specs.Given.SweepsDeclared.sweep.Swept.TheVariants as ends
+use Rattle.play_stepping.specs.Given.ReservesDeclared.sweep.Purpose.{Purpose}
+use Rattle.play_stepping.specs.Given.ReservesDeclared.sweep.Purpose.TheVariants.{Walks, Clears, Retains}
+use Rattle.play_stepping.specs.Given.ReservesDeclared.sweep.Sweep.{Sweep}
+use Rattle.play_stepping.specs.Given.ReservesDeclared.sweep.Sweeping.{Sweeping}
+use Rattle.play_stepping.specs.Given.ReservesDeclared.sweep.Sweeping.TheVariants as at
+use Rattle.play_stepping.specs.Given.ReservesDeclared.sweep.Swept.{Swept}
+use Rattle.play_stepping.specs.Given.ReservesDeclared.sweep.Swept.TheVariants as ends
 use Rattle.play_lists.proofs.Given.RuleKeys.Always.{Always, AlwaysOf, always_if, always_plan_as}
 
 -- it takes no reply there

@@ -8,9 +8,9 @@ use Rattle.play_stepping.specs.Given.RawMachine.{machine_asked}
 use Rattle.play_stepping.specs.Given.RawDeclared.machines.machine.Machine.{Machine}
 use Rattle.play_stepping.specs.Given.RawDeclared.machines.machine.Machine.TheVariants as kinds
 use Rattle.play_stepping.specs.Given.SweepsSweepPoints.{after_next, next_at}
-use Rattle.play_stepping.specs.Given.SweepsDeclared.sweep.Sweep.{Sweep}
-use Rattle.play_stepping.specs.Given.SweepsDeclared.sweep.Sweeping.{Sweeping}
-use Rattle.play_stepping.specs.Given.SweepsDeclared.sweep.Sweeping.TheVariants as sweeping
+use Rattle.play_stepping.specs.Given.ReservesDeclared.sweep.Sweep.{Sweep}
+use Rattle.play_stepping.specs.Given.ReservesDeclared.sweep.Sweeping.{Sweeping}
+use Rattle.play_stepping.specs.Given.ReservesDeclared.sweep.Sweeping.TheVariants as sweeping
 use Rattle.play_stepping.specs.Given.CallersOverAll.{CallOverAll, gone_on}
 use Rattle.play_stepping.specs.Given.CallersTogether.{UnderWay, OnKey, ForRoom, Counting, OverAll, in_slot}
 use Rattle.play_lists.specs.Given.FinishesMachines.{machine_of}

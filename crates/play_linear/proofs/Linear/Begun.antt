@@ -1,7 +1,7 @@
 -- A call as an act begins it is what was called: on its key, given its pair, and over the map for its purpose.
 use Rattle.std.specs.Prelude.{◌≡◌, ℕ, Bool, Some, None}
 use Rattle.std.proofs.Common.{refl, sym, subst}
-use Rattle.play_stepping.specs.Given.SweepsDeclared.sweep.Purpose.TheVariants as purpose
+use Rattle.play_stepping.specs.Given.ReservesDeclared.sweep.Purpose.TheVariants as purpose
 use Rattle.play_stepping.specs.Given.CallersTogether.{UnderWay}
 use Rattle.play_lists.specs.Given.FinishesMaps.{Standing}
 use Rattle.play_lists.specs.Given.FollowsCalls.{IsCalled}

@@ -11,7 +11,7 @@ use Rattle.play_stepping.specs.Given.SeizeDeclared.rows.settle.Settled.{Settled}
 use Rattle.play_stepping.specs.Given.SeizeDeclared.rows.settle.Settled.TheVariants as settled
 use Rattle.play_lists.specs.Given.TablesDeclared.node.Node.{Node}
 use Rattle.play_lists.specs.Given.TablesDeclared.setting.Setting.{Setting}
-use Rattle.play_lists.specs.Given.TellerDeclared.changed.Changed.{Changed}
+use Rattle.play_lists.specs.Given.EffectsDeclared.changed.Changed.{Changed}
 use Rattle.play_stepping.specs.Given.ResizeNewMap.{new_map_plan}
 use Rattle.play_stepping.specs.Given.ResizeDeclared.new_map.NewMap.{NewMap}
 use Rattle.play_stepping.specs.Given.RawEndMap.{ending}

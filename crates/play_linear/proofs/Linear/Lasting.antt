@@ -10,8 +10,8 @@ use Rattle.play_lists.specs.Given.TablesDeclared.node.Node.{Node}
 use Rattle.play_lists.specs.Given.TablesDeclared.table_words.TheConstants.{NEXT}
 use Rattle.run_schedules.specs.Schedules.Lists.{put}
 use Rattle.run_schedules.specs.Schedules.Moment.{Moment}
-use Rattle.play_lists.specs.Given.TellerDeclared.changed.Changed.{Changed}
-use Rattle.play_lists.specs.Given.TellerDeclared.changed.Changed.TheVariants as changed
+use Rattle.play_lists.specs.Given.EffectsDeclared.changed.Changed.{Changed}
+use Rattle.play_lists.specs.Given.EffectsDeclared.changed.Changed.TheVariants as changed
 use Rattle.play_lists.specs.Given.EffectsEffects.{in_block_on, in_table_on, is_place, known_after, linked_on, named, names_same, stored_on, written_on}
 use Rattle.play_lists.specs.Given.EffectsKnown.{Known}
 use Rattle.play_lists.specs.Given.EffectsDeclared.acting.Acting.{Acting}

@@ -8,7 +8,7 @@ use Rattle.run_schedules.specs.Given.SeizeWordsMem.{Mem}
 use Rattle.play_stepping.specs.Given.SeizeWorld.{World, with_at}
 use Rattle.play_stepping.specs.Given.SeizeDeclared.progress.Progress.{Progress}
 use Rattle.play_stepping.specs.Given.SeizeDeclared.progress.Progress.TheVariants as progress
-use Rattle.play_lists.specs.Given.TellerDeclared.changed.Changed.{Changed}
+use Rattle.play_lists.specs.Given.EffectsDeclared.changed.Changed.{Changed}
 use Rattle.play_lists.specs.Given.TablesDeclared.node.Node.{Node}
 use Rattle.play_lists.specs.Given.TablesDeclared.setting.Setting.{Setting}
 use Rattle.play_stepping.specs.Given.ResizeNewMap.{at_root, new_map_plan}
@@ -16,7 +16,7 @@ use Rattle.play_stepping.specs.Given.ResizeDeclared.new_map.NewMap.{NewMap}
 use Rattle.play_stepping.specs.Given.ResizeDeclared.new_map.Opening.{Opening}
 use Rattle.play_stepping.specs.Given.ResizeDeclared.new_map.Opening.TheVariants as opens
 use Rattle.play_lists.specs.Given.TellerTells.{StepsTold}
-use Rattle.play_lists.specs.Given.TellerDeclared.changed.Changed.TheVariants as changed
+use Rattle.play_lists.specs.Given.EffectsDeclared.changed.Changed.TheVariants as changed
 use Rattle.play_lists.specs.Given.FinishesEndings.{MakingStepsAmong}
 use Rattle.play_lists.specs.Given.FinishesMakings.{Beginning, HasTaken, KeepsIts, MakingFacts, OpeningFacts}
 use Rattle.play_stepping.proofs.Given.CallersTogether.At.{at_other, at_same}

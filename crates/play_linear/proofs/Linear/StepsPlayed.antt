@@ -26,7 +26,7 @@ use Rattle.play_lists.proofs.Given.ScenesGoes.{goes_as}
 use Rattle.play_lists.specs.Given.ScenesStepping.{StepLeads, has_ended, scene_after}
 use Rattle.play_stepping.specs.Given.NamedSeen.{kind_of}
 use Rattle.play_stepping.specs.Given.NamedTelling.{number_by}
-use Rattle.play_stepping.specs.Given.NamedDeclared.kind.Kind.{Kind}
+use Rattle.play_stepping.specs.Given.ExecutorDeclared.kind.Kind.{Kind}
 use Rattle.play_lists.specs.Given.HistoriesInEvent.{ComesSo}
 use Rattle.play_lists.specs.Given.ValuesValues.{KeepsValue, kept_after}
 use Rattle.play_lists.proofs.Given.ValuesValues.{values_go_on}

@@ -10,11 +10,11 @@ use Rattle.play_stepping.specs.Given.ResizeSum.{sum_plan}
 use Rattle.play_stepping.specs.Given.ReservesReserve.{reserve_plan}
 use Rattle.play_stepping.specs.Given.SweepsSweep.{plan_at as sweep_at}
 use Rattle.play_stepping.specs.Given.SweepsSweepPoints.{further, next_at, past, removes, reply_at}
-use Rattle.play_stepping.specs.Given.SweepsDeclared.sweep.Sweep.{Sweep}
-use Rattle.play_stepping.specs.Given.SweepsDeclared.sweep.Sweeping.{Sweeping}
-use Rattle.play_stepping.specs.Given.SweepsDeclared.sweep.Sweeping.TheVariants as sweeping
-use Rattle.play_stepping.specs.Given.SweepsDeclared.sweep.Swept.{Swept}
-use Rattle.play_stepping.specs.Given.SweepsDeclared.sweep.Swept.TheVariants as swept_as
+use Rattle.play_stepping.specs.Given.ReservesDeclared.sweep.Sweep.{Sweep}
+use Rattle.play_stepping.specs.Given.ReservesDeclared.sweep.Sweeping.{Sweeping}
+use Rattle.play_stepping.specs.Given.ReservesDeclared.sweep.Sweeping.TheVariants as sweeping
+use Rattle.play_stepping.specs.Given.ReservesDeclared.sweep.Swept.{Swept}
+use Rattle.play_stepping.specs.Given.ReservesDeclared.sweep.Swept.TheVariants as swept_as
 use Rattle.play_stepping.specs.Given.RawCall.{plan_at}
 use Rattle.play_stepping.specs.Given.RawCallAsks.{absent_told, present_told, told_at, with_absent, with_present}
 use Rattle.play_stepping.specs.Given.RawCallPoints.{at_gap, burying, ending, going, over}
@@ -39,7 +39,7 @@ use Rattle.play_stepping.specs.Given.RawDeclared.machines.machine.Machine.{Machi
 use Rattle.play_stepping.specs.Given.RawDeclared.machines.machine.Machine.TheVariants as kinds
 use Rattle.play_stepping.specs.Given.RawDeclared.machines.progress.Progress.{Progress}
 use Rattle.play_stepping.specs.Given.RawDeclared.machines.progress.Progress.TheVariants as progress
-use Rattle.play_lists.specs.Given.TellerDeclared.changed.Changed.TheVariants.{Nothing}
+use Rattle.play_lists.specs.Given.EffectsDeclared.changed.Changed.TheVariants.{Nothing}
 use Rattle.run_schedules.specs.declared.call.Call.{Call}
 use Rattle.run_schedules.specs.declared.call.Call.TheVariants as calls
 use Rattle.run_schedules.specs.declared.call.OneKey.{OneKey}

@@ -13,8 +13,8 @@ use Rattle.play_stepping.specs.Given.ResizeDeclared.new_map.Opening.{Opening}
 use Rattle.play_stepping.specs.Given.ResizeDeclared.new_map.Opening.TheVariants as openings
 use Rattle.play_lists.specs.Given.TellsSeen.{seen_of}
 use Rattle.play_lists.specs.Given.TellerTells.{StepsTold, told_of}
-use Rattle.play_lists.specs.Given.TellerDeclared.changed.Changed.{Changed}
-use Rattle.play_lists.specs.Given.TellerDeclared.changed.Changed.TheVariants as changed
+use Rattle.play_lists.specs.Given.EffectsDeclared.changed.Changed.{Changed}
+use Rattle.play_lists.specs.Given.EffectsDeclared.changed.Changed.TheVariants as changed
 use Rattle.play_stepping.specs.Given.SeizeWorld.{World}
 use Rattle.run_schedules.specs.Runs.Present.{Present}
 use Rattle.run_schedules.specs.Schedules.Moment.{Moment, Sheltered}

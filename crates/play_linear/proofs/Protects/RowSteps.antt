@@ -13,8 +13,8 @@ use Rattle.play_stepping.specs.Given.SeizeDeclared.rows.register.Registering.The
 use Rattle.play_stepping.specs.Given.SeizeDeclared.states.TheConstants.{ACTIVE}
 use Rattle.play_lists.specs.Given.TablesNodes.{deferred_word}
 use Rattle.play_lists.specs.Given.TablesDeclared.node.Node.{Node}
-use Rattle.play_lists.specs.Given.TellerDeclared.changed.Changed.{Changed}
-use Rattle.play_lists.specs.Given.TellerDeclared.changed.Changed.TheVariants as changed
+use Rattle.play_lists.specs.Given.EffectsDeclared.changed.Changed.{Changed}
+use Rattle.play_lists.specs.Given.EffectsDeclared.changed.Changed.TheVariants as changed
 use Rattle.run_schedules.specs.Runs.Present.{Present, drops, enters_slot}
 use Rattle.run_schedules.specs.declared.holders.Guard.{Guard}
 use Rattle.run_schedules.specs.Schedules.After.{unsheltered}

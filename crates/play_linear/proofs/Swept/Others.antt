@@ -13,7 +13,7 @@ use Rattle.play_stepping.specs.Given.SeizeDeclared.rows.settle.Settled.TheVarian
 use Rattle.play_lists.specs.Given.TablesNodes.{deferred_word, was_left}
 use Rattle.play_lists.specs.Given.TablesDeclared.node.Node.{Node}
 use Rattle.play_lists.specs.Given.TablesDeclared.setting.Setting.{Setting}
-use Rattle.play_lists.specs.Given.TellerDeclared.changed.Changed.{Changed}
+use Rattle.play_lists.specs.Given.EffectsDeclared.changed.Changed.{Changed}
 use Rattle.play_stepping.specs.Given.CallersTogether.{UnderWay}
 use Rattle.play_lists.specs.Given.FinishesEndings.{Finishing}
 use Rattle.play_lists.specs.Given.FinishesMachines.{machine_of}

@@ -14,8 +14,8 @@ use Rattle.play_stepping.specs.Given.ResizeDeclared.new_map.NewMap.{NewMap}
 use Rattle.play_stepping.specs.Given.ResizeDeclared.new_map.Opening.{Opening}
 use Rattle.play_stepping.specs.Given.ResizeDeclared.new_map.Opening.TheVariants as openings
 use Rattle.play_lists.specs.Given.TellerTells.{StepsTold}
-use Rattle.play_lists.specs.Given.TellerDeclared.changed.Changed.{Changed}
-use Rattle.play_lists.specs.Given.TellerDeclared.changed.Changed.TheVariants as changed
+use Rattle.play_lists.specs.Given.EffectsDeclared.changed.Changed.{Changed}
+use Rattle.play_lists.specs.Given.EffectsDeclared.changed.Changed.TheVariants as changed
 use Rattle.play_lists.specs.Played.Play.{has_root}
 
 module _ {K V : Type 0} (c : NewMap) (m n : Mem (Node K V)) (told : Changed) (end : NewMap × Progress Setting) where

@@ -6,12 +6,12 @@ use Rattle.play_stepping.specs.Given.SeizeDeclared.progress.Progress.{Progress a
 use Rattle.play_stepping.specs.Given.SeizeDeclared.progress.Progress.TheVariants as counted
 use Rattle.play_stepping.specs.Given.ResizeDeclared.outcome.Outcome.{Outcome as Room}
 use Rattle.play_stepping.specs.Given.ResizeDeclared.outcome.Outcome.TheVariants as room
-use Rattle.play_stepping.specs.Given.SweepsDeclared.sweep.Purpose.{Purpose}
-use Rattle.play_stepping.specs.Given.SweepsDeclared.sweep.Purpose.TheVariants.{Clears, Retains, Walks}
-use Rattle.play_stepping.specs.Given.SweepsDeclared.sweep.Sweep.{Sweep}
-use Rattle.play_stepping.specs.Given.SweepsDeclared.sweep.Sweeping.TheVariants as sweeping
-use Rattle.play_stepping.specs.Given.SweepsDeclared.sweep.Swept.{Swept}
-use Rattle.play_stepping.specs.Given.SweepsDeclared.sweep.Swept.TheVariants as swept
+use Rattle.play_stepping.specs.Given.ReservesDeclared.sweep.Purpose.{Purpose}
+use Rattle.play_stepping.specs.Given.ReservesDeclared.sweep.Purpose.TheVariants.{Clears, Retains, Walks}
+use Rattle.play_stepping.specs.Given.ReservesDeclared.sweep.Sweep.{Sweep}
+use Rattle.play_stepping.specs.Given.ReservesDeclared.sweep.Sweeping.TheVariants as sweeping
+use Rattle.play_stepping.specs.Given.ReservesDeclared.sweep.Swept.{Swept}
+use Rattle.play_stepping.specs.Given.ReservesDeclared.sweep.Swept.TheVariants as swept
 use Rattle.play_stepping.specs.Given.RawProgress.{of_called, of_counting, of_outcome, of_swept}
 use Rattle.play_stepping.specs.Given.RawDeclared.machines.answer.Called.{Called}
 use Rattle.play_stepping.specs.Given.RawDeclared.machines.answer.Called.TheVariants as called

@@ -27,10 +27,10 @@ use Rattle.run_logged.specs.Given.ResizeDeclared.sum.Summing.{Summing}
 use Rattle.run_logged.specs.Given.ResizeDeclared.sum.Summing.TheVariants as summing
 use Rattle.run_logged.specs.Given.TellsSeen.{seen_of}
 use Rattle.run_logged.specs.Given.TellerTells.{StepsTold, told_of}
-use Rattle.run_logged.specs.Given.TellerDeclared.changed.Changed.{Changed}
-use Rattle.run_logged.specs.Given.TellerDeclared.changed.Changed.TheVariants as changed
-use Rattle.run_logged.specs.Given.TellerDeclared.changed.Kind.{Kind}
-use Rattle.run_logged.specs.Given.TellerDeclared.changed.Kind.TheVariants as kind
+use Rattle.run_logged.specs.Given.EffectsDeclared.changed.Changed.{Changed}
+use Rattle.run_logged.specs.Given.EffectsDeclared.changed.Changed.TheVariants as changed
+use Rattle.run_logged.specs.Given.EffectsDeclared.changed.Kind.{Kind}
+use Rattle.run_logged.specs.Given.EffectsDeclared.changed.Kind.TheVariants as kind
 use Rattle.run_schedules.specs.declared.effect.Effect.{Effect}
 use Rattle.run_schedules.specs.declared.effect.Effect.TheVariants as effect
 use Rattle.run_schedules.specs.declared.effect.Growth.TheVariants.{ABlock, ABucket}

@@ -15,7 +15,7 @@ use Rattle.run_logged.specs.Given.ResizeNewMap.{new_map_plan, opening}
 use Rattle.run_logged.specs.Given.ResizeDeclared.new_map.NewMap.{NewMap}
 use Rattle.run_logged.specs.Given.RawEndMap.{end_map_plan, ending}
 use Rattle.run_logged.specs.Given.RawMachine.{machine_asked, machine_plan, machine_replied}
-use Rattle.run_logged.specs.Given.TellerDeclared.changed.Changed.{Changed}
+use Rattle.run_logged.specs.Given.EffectsDeclared.changed.Changed.{Changed}
 use Rattle.many_acts.specs.Given.ScenesScene.{row_of, slot_of}
 use Rattle.many_acts.proofs.Given.ScenesNoCall.{none_is, none_of}
 use Rattle.run_schedules.specs.declared.outcome.Outcome.TheVariants as outcome

@@ -1,8 +1,8 @@
 -- Wherever a list has led, each entry of its history that was refused a growth has asked for it, and made nothing.
 use Rattle.std.specs.Prelude.{true, false}
 use Rattle.std.proofs.Common.{refl}
-use Rattle.run_logged.specs.Given.TellerDeclared.changed.Changed.{Changed}
-use Rattle.run_logged.specs.Given.TellerDeclared.changed.Changed.TheVariants as changes
+use Rattle.run_logged.specs.Given.EffectsDeclared.changed.Changed.{Changed}
+use Rattle.run_logged.specs.Given.EffectsDeclared.changed.Changed.TheVariants as changes
 use Rattle.run_logged.specs.Given.EffectsEffects.{effects_of}
 use Rattle.run_logged.specs.Given.EffectsKnown.{Known}
 use Rattle.run_logged.specs.Given.EffectsDeclared.acting.Acting.{Acting}

@@ -11,8 +11,8 @@ use Rattle.map_tables.specs.declared.node.Node.{Node}
 use Rattle.map_tables.specs.declared.table_words.TheConstants.{NEXT}
 use Rattle.run_logged.specs.Given.TellsSeen.{seen_of}
 use Rattle.run_logged.specs.Given.TellerTells.{StepsTold, told_of}
-use Rattle.run_logged.specs.Given.TellerDeclared.changed.Changed.{Changed}
-use Rattle.run_logged.specs.Given.TellerDeclared.changed.Changed.TheVariants as changed
+use Rattle.run_logged.specs.Given.EffectsDeclared.changed.Changed.{Changed}
+use Rattle.run_logged.specs.Given.EffectsDeclared.changed.Changed.TheVariants as changed
 use Rattle.run_logged.specs.Given.EffectsEffects.{in_block_on, in_table_on, is_place, known_after, linked_on, made_role, named, names_same, stored_on, table_at}
 use Rattle.run_logged.specs.Given.EffectsKnown.{Known, with_role}
 use Rattle.run_logged.specs.Given.EffectsDeclared.acting.Acting.{Acting}

@@ -21,8 +21,8 @@ use Rattle.run_logged.specs.Given.RawEndMap.{end_map_plan, ending}
 use Rattle.run_logged.specs.Given.RawMachine.{machine_asked, machine_plan, machine_replied}
 use Rattle.run_logged.specs.Given.RawDeclared.machines.end_map.EndMap.{EndMap}
 use Rattle.run_logged.specs.Given.TellerTells.{StepsTold}
-use Rattle.run_logged.specs.Given.TellerDeclared.changed.Changed.{Changed}
-use Rattle.run_logged.specs.Given.TellerDeclared.changed.Changed.TheVariants.{Nothing as NoChange}
+use Rattle.run_logged.specs.Given.EffectsDeclared.changed.Changed.{Changed}
+use Rattle.run_logged.specs.Given.EffectsDeclared.changed.Changed.TheVariants.{Nothing as NoChange}
 use Rattle.many_acts.specs.Given.FinishesMaps.{with_call}
 use Rattle.many_acts.proofs.Given.CallersTogether.At.{at_other, at_same}
 use Rattle.many_acts.specs.Given.ScenesReplying.{unless_stopped}

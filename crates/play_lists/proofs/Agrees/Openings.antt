@@ -21,8 +21,8 @@ use Rattle.run_logged.specs.Given.ResizeDeclared.new_map.Opening.TheVariants as 
 use Rattle.run_logged.specs.Given.ResizeDeclared.new_table.NewTable.{NewTable}
 use Rattle.run_logged.specs.Given.TellsSeen.{seen_of}
 use Rattle.run_logged.specs.Given.TellerTells.{StepsTold, told_of}
-use Rattle.run_logged.specs.Given.TellerDeclared.changed.Changed.{Changed}
-use Rattle.run_logged.specs.Given.TellerDeclared.changed.Changed.TheVariants as changed
+use Rattle.run_logged.specs.Given.EffectsDeclared.changed.Changed.{Changed}
+use Rattle.run_logged.specs.Given.EffectsDeclared.changed.Changed.TheVariants as changed
 use Rattle.run_schedules.specs.Schedules.Moment.{Moment}
 use Rattle.run_logged.specs.Given.EffectsEffects.{effects_of}
 use Rattle.run_logged.specs.Given.EffectsKnown.{Known}

@@ -35,7 +35,7 @@ use Rattle.run_logged.specs.Given.RawDeclared.machines.end_map.EndMap.{EndMap}
 use Rattle.run_logged.specs.Given.RawDeclared.machines.machine.Machine.{Machine}
 use Rattle.run_logged.specs.Given.RawDeclared.machines.progress.Progress.{Progress as CallProgress}
 use Rattle.run_logged.specs.Given.TellerTells.{StepsTold}
-use Rattle.run_logged.specs.Given.TellerDeclared.changed.Changed.TheVariants.{Nothing as NoChange}
+use Rattle.run_logged.specs.Given.EffectsDeclared.changed.Changed.TheVariants.{Nothing as NoChange}
 use Rattle.many_acts.specs.Given.CallersTogether.{Closes, Counting, ForRoom, OnKey, OverAll, UnderWay, UnlessCounts}
 use Rattle.many_acts.specs.Given.FinishesEndings.{EndingsTogether, Finishing, MakingStepsAmong, StepsOfEnding}
 use Rattle.many_acts.specs.Given.FinishesMachines.{machine_of}

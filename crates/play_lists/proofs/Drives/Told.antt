@@ -17,8 +17,8 @@ use Rattle.seize_acts.proofs.Acts.Answers.{same_some, some}
 use Rattle.seize_acts.proofs.Acts.Steps.{steps_so}
 use Rattle.map_tables.specs.declared.node.Node.{Node}
 use Rattle.run_logged.specs.Given.TellerTells.{StepsTold}
-use Rattle.run_logged.specs.Given.TellerDeclared.changed.Changed.{Changed}
-use Rattle.run_logged.specs.Given.TellerDeclared.changed.Changed.TheVariants.{Nothing as NoChange}
+use Rattle.run_logged.specs.Given.EffectsDeclared.changed.Changed.{Changed}
+use Rattle.run_logged.specs.Given.EffectsDeclared.changed.Changed.TheVariants.{Nothing as NoChange}
 use Rattle.many_acts.specs.Acts.AsSteps.{changed_as, changed_of}
 
 -- a bucket that was made is there

@@ -17,7 +17,7 @@ use Rattle.map_tables.specs.Given.SeizeDeclared.rows.settle.Settled.TheVariants 
 use Rattle.map_tables.specs.Given.SeizeDeclared.states.TheConstants.{HEAD}
 use Rattle.map_tables.specs.Nodes.{deferred_word, was_left}
 use Rattle.map_tables.specs.declared.node.Node.{Node}
-use Rattle.run_logged.specs.Given.TellerDeclared.changed.Changed.{Changed}
+use Rattle.run_logged.specs.Given.EffectsDeclared.changed.Changed.{Changed}
 use Rattle.many_acts.specs.Given.CallersRows.{IsRowOn}
 use Rattle.many_acts.specs.Given.FinishesEndings.{EndingsTogether, Finishing}
 use Rattle.many_acts.specs.Given.FinishesMachines.{machine_of}
@@ -42,7 +42,7 @@ use Rattle.run_finds.specs.Given.ExecutorIsThere.{HasRow, IsThere, IsUsedAs, Sta
 use Rattle.run_finds.specs.Given.ExecutorDeclared.executor.Executor.{Executor}
 use Rattle.run_finds.specs.Given.ExecutorDeclared.worker.Work.{Work}
 use Rattle.run_finds.specs.Given.ReclaimingReclaiming.{IsReclaimingThere, NobodyHas, ReclaimsThere}
-use Rattle.run_finds.specs.Given.NamedDeclared.caller.Caller.{Caller}
+use Rattle.run_finds.specs.Given.ExecutorDeclared.caller.Caller.{Caller}
 use Rattle.many_acts.specs.Acts.Acts.{Answer, OfReclaiming}
 use Rattle.many_acts.specs.Acts.AsSteps.{changed_of}
 use Rattle.many_acts.specs.Acts.Doings.{AllAreFree, BeginsClearing, BeginsReclaiming, HasStepped, MayDo, SlotsAreFree, Stage, StepsReclaiming, behind, is_vacant, reclaiming, still}

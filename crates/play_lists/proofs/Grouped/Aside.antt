@@ -12,7 +12,7 @@ use Rattle.map_tables.specs.Given.SeizeDeclared.rows.settle.Settled.{Settled}
 use Rattle.map_tables.specs.Given.SeizeDeclared.states.TheConstants.{ACTIVE}
 use Rattle.map_tables.specs.declared.setting.Setting.{Setting}
 use Rattle.run_logged.specs.Given.ResizeDeclared.new_map.NewMap.{NewMap}
-use Rattle.run_logged.specs.Given.TellerDeclared.changed.Changed.{Changed}
+use Rattle.run_logged.specs.Given.EffectsDeclared.changed.Changed.{Changed}
 use Rattle.many_acts.specs.Given.ScenesDeclared.row.SlotRow.{SlotRow}
 use Rattle.many_acts.specs.Given.ScenesDeclared.row.SlotRow.TheVariants as rows
 use Rattle.run_schedules.specs.declared.effect.Effect.{Effect}
@@ -23,7 +23,7 @@ use Rattle.run_schedules.specs.Schedules.Entry.{Entry}
 use Rattle.run_logged.specs.Given.EffectsEffects.{effects_of, known_after}
 use Rattle.run_logged.specs.Given.EffectsKnown.{Known}
 use Rattle.run_logged.specs.Given.EffectsDeclared.acting.Acting.{Acting}
-use Rattle.run_finds.specs.Given.NamedDeclared.caller.Caller.{Caller}
+use Rattle.run_finds.specs.Given.ExecutorDeclared.caller.Caller.{Caller}
 use Rattle.many_acts.specs.Acts.Acts.{Answer}
 use Rattle.run_schedules.specs.Deeds.Deeds.{Deed, Registers, Opens, Shuts, Leaves, Tends, MapComes, Makes, MapFails, Ends, MapGoes, ReclaimsAll}
 use Rattle.play_lists.specs.Played.Play.{Calling, Ending, Making, Now, State, began, ending_deed, has_root, is_over, is_refusal, leaves_as, made_on, making_deed, pairs_for, registers_as, row_deed, worked}

@@ -22,7 +22,7 @@ use Rattle.run_finds.specs.Given.ExecutorIsThere.{IsThere, StaysGiven, use_at, w
 use Rattle.run_finds.specs.Given.ExecutorDeclared.executor.Executor.{Executor}
 use Rattle.run_finds.specs.Given.NamedMachines.{machine_for}
 use Rattle.run_finds.specs.Given.NamedSeen.{kind_of}
-use Rattle.run_finds.specs.Given.NamedDeclared.caller.Caller.{Caller}
+use Rattle.run_finds.specs.Given.ExecutorDeclared.caller.Caller.{Caller}
 use Rattle.many_acts.specs.Acts.Acts.{BeginsCall, Nothing}
 use Rattle.many_acts.specs.Acts.Lists.{Course}
 use Rattle.run_schedules.specs.Deeds.Deeds.{Begins, Entry as Act}

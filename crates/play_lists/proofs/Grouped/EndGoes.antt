@@ -8,7 +8,7 @@ use Rattle.map_tables.specs.Given.SeizeDeclared.rows.settle.Settled.{Settled}
 use Rattle.map_tables.specs.declared.node.Node.{Node}
 use Rattle.run_logged.specs.Given.RawEndMap.{end_map_plan, ending}
 use Rattle.run_logged.specs.Given.RawDeclared.machines.end_map.EndMap.{EndMap}
-use Rattle.run_logged.specs.Given.TellerDeclared.changed.Changed.{Changed}
+use Rattle.run_logged.specs.Given.EffectsDeclared.changed.Changed.{Changed}
 use Rattle.many_acts.specs.Given.FinishesEndings.{Finishing}
 use Rattle.many_acts.proofs.Given.CallersTogether.At.{at_same}
 use Rattle.many_acts.specs.Given.ScenesScene.{Scene, slot_of}
@@ -23,7 +23,7 @@ use Rattle.run_logged.specs.Given.EffectsDeclared.acting.Acting.TheVariants as a
 use Rattle.run_finds.specs.Given.ExecutorEnding.{EndingBegins, EndsThere, NoCallOn}
 use Rattle.run_finds.specs.Given.ExecutorIsThere.{IsThere, StaysGiven, ending_in, work_of}
 use Rattle.run_finds.specs.Given.ExecutorDeclared.executor.Executor.{Executor}
-use Rattle.run_finds.specs.Given.NamedDeclared.caller.Caller.{Caller}
+use Rattle.run_finds.specs.Given.ExecutorDeclared.caller.Caller.{Caller}
 use Rattle.many_acts.specs.Acts.Acts.{BeginsEnding, Nothing, OfEnding, StepsEnding}
 use Rattle.many_acts.specs.Acts.Doings.{Stage, reclaiming}
 use Rattle.many_acts.specs.Acts.Leads.{Led}

@@ -24,7 +24,7 @@ use Rattle.run_logged.specs.Given.ResizeDeclared.new_map.NewMap.{NewMap}
 use Rattle.run_logged.specs.Given.ResizeDeclared.new_map.Opening.{Opening}
 use Rattle.run_logged.specs.Given.ResizeDeclared.new_map.Opening.TheVariants as at
 use Rattle.run_logged.specs.Given.ResizeDeclared.new_table.NewTable.{NewTable}
-use Rattle.run_logged.specs.Given.TellerDeclared.changed.Changed.{Changed}
+use Rattle.run_logged.specs.Given.EffectsDeclared.changed.Changed.{Changed}
 use Rattle.many_acts.specs.Given.PointsSteps.{AreLawful}
 use Rattle.many_acts.specs.Given.FinishesMakings.{Beginning}
 use Rattle.many_acts.proofs.Given.CallersTogether.At.{at_same}
@@ -41,7 +41,7 @@ use Rattle.run_finds.specs.Given.ExecutorIsThere.{IsThere, StaysGiven, making_in
 use Rattle.run_finds.specs.Given.ExecutorMaking.{MakesThere}
 use Rattle.run_finds.specs.Given.ExecutorMakingBegins.{MakingBegins}
 use Rattle.run_finds.specs.Given.ExecutorDeclared.executor.Executor.{Executor}
-use Rattle.run_finds.specs.Given.NamedDeclared.caller.Caller.{Caller}
+use Rattle.run_finds.specs.Given.ExecutorDeclared.caller.Caller.{Caller}
 use Rattle.many_acts.specs.Acts.Acts.{Answer, BeginsMaking, Nothing, OfMaking, StepsMaking}
 use Rattle.many_acts.specs.Acts.Doings.{Stage, reclaiming}
 use Rattle.many_acts.specs.Acts.Leads.{Led}

@@ -10,7 +10,7 @@ use Rattle.run_schedules.specs.declared.outcome.Outcome.{Outcome}
 use Rattle.run_schedules.specs.declared.outcome.Outcome.TheVariants.{Refused}
 use Rattle.run_schedules.specs.Schedules.After.{moment}
 use Rattle.run_schedules.specs.Schedules.Entry.{Entry}
-use Rattle.run_finds.specs.Given.NamedDeclared.caller.Caller.{Caller}
+use Rattle.run_finds.specs.Given.ExecutorDeclared.caller.Caller.{Caller}
 use Rattle.run_schedules.specs.Deeds.Deeds.{Deed, Begins, Steps, Replies, Stops, Registers, Opens, Shuts, Leaves, Tends, MapComes, Makes, MapFails, Ends, MapGoes, ReclaimsAll, Entry as Act}
 use Rattle.play_lists.specs.Agrees.Fresh.{comes_with, gives_back, is_taken}
 use Rattle.play_lists.specs.Played.Play.{State}

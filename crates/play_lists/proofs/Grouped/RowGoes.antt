@@ -15,7 +15,7 @@ use Rattle.map_tables.specs.Given.SeizeDeclared.rows.settle.Settle.{Settle}
 use Rattle.map_tables.specs.Given.SeizeDeclared.rows.settle.Settled.{Settled}
 use Rattle.map_tables.specs.Given.SeizeDeclared.rows.reclaim_all.ReclaimAll.{ReclaimAll}
 use Rattle.map_tables.specs.declared.node.Node.{Node}
-use Rattle.run_logged.specs.Given.TellerDeclared.changed.Changed.{Changed}
+use Rattle.run_logged.specs.Given.EffectsDeclared.changed.Changed.{Changed}
 use Rattle.many_acts.specs.Given.FinishesMachines.{machine_of}
 use Rattle.many_acts.proofs.Given.ScenesNoCall.{none_of}
 use Rattle.many_acts.proofs.Given.ScenesRows.{one_row}
@@ -38,7 +38,7 @@ use Rattle.run_finds.specs.Given.ExecutorOnSlots.{MayBegin, RowBeginsThere, RowS
 use Rattle.run_finds.specs.Given.ExecutorDeclared.executor.Executor.{Executor}
 use Rattle.run_finds.specs.Given.ExecutorDeclared.worker.Work.{Work}
 use Rattle.run_finds.specs.Given.ExecutorDeclared.worker.Work.TheVariants as work
-use Rattle.run_finds.specs.Given.NamedDeclared.caller.Caller.{Caller}
+use Rattle.run_finds.specs.Given.ExecutorDeclared.caller.Caller.{Caller}
 use Rattle.many_acts.specs.Acts.Acts.{BeginsRow, Nothing, StepsRow}
 use Rattle.many_acts.specs.Acts.AsSteps.{row_changed}
 use Rattle.many_acts.specs.Acts.Doings.{Stage, reclaiming}

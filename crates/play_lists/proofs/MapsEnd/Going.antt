@@ -22,7 +22,7 @@ use Rattle.run_finds.proofs.Given.SpotsDeferred.{each_waits_outside}
 use Rattle.run_finds.proofs.Given.SpotsUnreclaimed.{table_is}
 use Rattle.run_finds.proofs.Given.FollowsAlike.{put_here}
 use Rattle.many_acts.proofs.Given.FollowsHanded.{not_in}
-use Rattle.run_logged.specs.Given.TellerDeclared.changed.Changed.TheVariants as changed
+use Rattle.run_logged.specs.Given.EffectsDeclared.changed.Changed.TheVariants as changed
 use Rattle.run_logged.specs.Log.Ends.{ended_as}
 use Rattle.run_schedules.specs.Deeds.History.{EndFinds, left_tables}
 use Rattle.play_lists.specs.MapsEnd.Ends.{AlikeOf, AreStored, EndsWell, IsOther, IsOut}

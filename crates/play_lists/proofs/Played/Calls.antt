@@ -10,7 +10,7 @@ use Rattle.seize_acts.specs.Acts.Answers.{Grant, stepped, then_on}
 use Rattle.seize_acts.proofs.Acts.Begun.{rests_is}
 use Rattle.map_tables.specs.declared.node.Node.{Node}
 use Rattle.map_tables.specs.declared.setting.Setting.{Setting}
-use Rattle.run_logged.specs.Given.SweepsDeclared.sweep.Purpose.TheVariants as purpose
+use Rattle.run_logged.specs.Given.ReservesDeclared.sweep.Purpose.TheVariants as purpose
 use Rattle.run_logged.specs.Given.RawMachine.{machine_plan, machine_replied, machine_asked}
 use Rattle.run_logged.specs.Given.RawDeclared.machines.asking.Reply.{Reply}
 use Rattle.run_logged.specs.Given.RawDeclared.machines.machine.Machine.{Machine}

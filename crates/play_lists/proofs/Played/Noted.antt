@@ -50,7 +50,7 @@ use Rattle.run_logged.specs.Given.EffectsKnown.{Known}
 use Rattle.run_logged.specs.Given.EffectsDeclared.acting.Acting.TheVariants as acting
 use Rattle.many_acts.proofs.Given.FollowsCalling.{apart_back, found_kept, found_passes, is_same_is, is_same_refl, come_same, replied_same}
 use Rattle.many_acts.proofs.Given.FollowsCalls.{IsOfSame, changed, changed_same, found, of_same}
-use Rattle.run_finds.specs.Given.NamedDeclared.kind.Kind.{Kind}
+use Rattle.run_finds.specs.Given.ExecutorDeclared.kind.Kind.{Kind}
 use Rattle.run_finds.specs.Given.NamedSeen.{kind_of}
 use Rattle.run_schedules.specs.Deeds.Deeds.{Deed, Begins, Steps, Replies, Stops, Registers, Opens, Leaves, MapComes, Makes, MapFails, Ends, MapGoes, ReclaimsAll, Entry, acted_on, after, at_work, begun, caller_of, calls_on, moment, named, worked}
 use Rattle.many_acts.specs.Acts.Acts.{Act, BeginsCall, StepsCall, TellsCall, AsksCall, StopsCall, BeginsMaking, StepsMaking, BeginsEnding, StepsEnding, BeginsRow, StepsRow}

@@ -16,8 +16,8 @@ use Rattle.run_logged.specs.Given.RawMachine.{machine_plan}
 use Rattle.run_logged.specs.Given.RawDeclared.machines.end_map.EndMap.{EndMap}
 use Rattle.run_logged.specs.Given.RawDeclared.machines.machine.Machine.{Machine}
 use Rattle.run_logged.specs.Given.RawDeclared.machines.progress.Progress.{Progress}
-use Rattle.run_logged.specs.Given.TellerDeclared.changed.Changed.{Changed}
-use Rattle.run_logged.specs.Given.TellerDeclared.changed.Changed.TheVariants.{Nothing as NoChange}
+use Rattle.run_logged.specs.Given.EffectsDeclared.changed.Changed.{Changed}
+use Rattle.run_logged.specs.Given.EffectsDeclared.changed.Changed.TheVariants.{Nothing as NoChange}
 use Rattle.many_acts.specs.Given.CallersTogether.{UnderWay}
 use Rattle.many_acts.specs.Given.FinishesEndings.{Finishing}
 use Rattle.many_acts.specs.Given.FinishesMachines.{machine_of}

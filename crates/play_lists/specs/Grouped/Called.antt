@@ -4,7 +4,7 @@ use Rattle.std.specs.List.{AllByRecursion}
 use Rattle.run_schedules.specs.Schedules.After.{moment}
 use Rattle.run_schedules.specs.Schedules.Entry.{Entry}
 use Rattle.run_finds.specs.Given.NamedSeen.{kind_of}
-use Rattle.run_finds.specs.Given.NamedDeclared.caller.Caller.{Caller}
+use Rattle.run_finds.specs.Given.ExecutorDeclared.caller.Caller.{Caller}
 use Rattle.play_lists.specs.Agrees.Fresh.{is_taken}
 use Rattle.play_lists.specs.Played.Play.{Calling, State}
 use Rattle.play_lists.specs.Grouped.Grouping.{IsGroupingOf, Names, number_called}

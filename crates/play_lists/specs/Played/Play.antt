@@ -29,7 +29,7 @@ use Rattle.run_logged.specs.Given.ResizeNewMap.{new_map_plan, opening}
 use Rattle.run_logged.specs.Given.ResizeDeclared.new_map.NewMap.{NewMap}
 use Rattle.run_logged.specs.Given.ResizeDeclared.new_map.Opening.{Opening}
 use Rattle.run_logged.specs.Given.ResizeDeclared.new_map.Opening.TheVariants as openings
-use Rattle.run_logged.specs.Given.SweepsDeclared.sweep.Purpose.TheVariants as purpose
+use Rattle.run_logged.specs.Given.ReservesDeclared.sweep.Purpose.TheVariants as purpose
 use Rattle.run_logged.specs.Given.RawEndMap.{ending, end_map_plan}
 use Rattle.run_logged.specs.Given.RawMachine.{machine_plan, machine_replied, machine_asked}
 use Rattle.run_logged.specs.Given.RawDeclared.machines.asking.Reply.{Reply as Told}
@@ -38,8 +38,8 @@ use Rattle.run_logged.specs.Given.RawDeclared.machines.end_map.EndMap.{EndMap}
 use Rattle.run_logged.specs.Given.RawDeclared.machines.machine.Machine.{Machine}
 use Rattle.run_logged.specs.Given.RawDeclared.machines.progress.Progress.{Progress as CallProgress}
 use Rattle.run_logged.specs.Given.RawDeclared.machines.progress.Progress.TheVariants as comes
-use Rattle.run_logged.specs.Given.TellerDeclared.changed.Changed.{Changed}
-use Rattle.run_logged.specs.Given.TellerDeclared.changed.Changed.TheVariants as changes
+use Rattle.run_logged.specs.Given.EffectsDeclared.changed.Changed.{Changed}
+use Rattle.run_logged.specs.Given.EffectsDeclared.changed.Changed.TheVariants as changes
 use Rattle.many_acts.specs.Given.CallersTogether.{in_slot}
 use Rattle.many_acts.specs.Given.FinishesMaps.{with_call}
 use Rattle.many_acts.specs.Given.ScenesReplying.{unless_stopped}
@@ -66,7 +66,7 @@ use Rattle.run_logged.specs.Given.EffectsDeclared.acting.Acting.TheVariants as a
 use Rattle.run_finds.specs.Given.NamedMachines.{aborted_by, machine_for}
 use Rattle.run_finds.specs.Given.NamedSeen.{kind_of}
 use Rattle.run_finds.specs.Given.NamedTelling.{answer_of, kept, number_by}
-use Rattle.run_finds.specs.Given.NamedDeclared.kind.Kind.{Kind}
+use Rattle.run_finds.specs.Given.ExecutorDeclared.kind.Kind.{Kind}
 use Rattle.run_schedules.specs.Deeds.Deeds.{Deed, Begins, Steps, Replies, Stops, Registers, Opens, Shuts, Leaves, Tends, MapComes, Makes, MapFails, Ends, MapGoes, ReclaimsAll, Entry}
 
 -- what is wanted of a map, as the call that it is in the words of a run

@@ -12,8 +12,8 @@ use Rattle.run_schedules.specs.Given.RawEndMap.{end_map_plan}
 use Rattle.run_schedules.specs.Given.RawMachine.{machine_asked, machine_plan, machine_replied}
 use Rattle.threads_rule.specs.Given.ResizeNewMap.{new_map_plan}
 use Rattle.run_schedules.specs.declared.outcome.Outcome.TheVariants as outcome
-use Rattle.play_lists.specs.Given.TellerDeclared.changed.Changed.{Changed}
-use Rattle.play_lists.specs.Given.TellerDeclared.changed.Changed.TheVariants.{Nothing as NoChange}
+use Rattle.play_lists.specs.Given.EffectsDeclared.changed.Changed.{Changed}
+use Rattle.play_lists.specs.Given.EffectsDeclared.changed.Changed.TheVariants.{Nothing as NoChange}
 use Rattle.play_lists.specs.Given.EffectsEffects.{known_after}
 use Rattle.play_lists.specs.Given.EffectsDeclared.acting.Acting.TheVariants as acts
 use Rattle.play_events.specs.Given.FinishesMachines.{machine_of}

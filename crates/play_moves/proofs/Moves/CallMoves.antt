@@ -19,7 +19,7 @@ use Rattle.play_lists.specs.Given.ScenesHeld.{Held, IsAt}
 use Rattle.play_events.specs.Given.ScenesScene.{Scene}
 use Rattle.play_events.specs.Given.ScenesStepping.{StepLeads, has_ended}
 use Rattle.play_events.specs.Given.NamedSeen.{kind_of}
-use Rattle.play_events.specs.Given.NamedDeclared.kind.Kind.{Kind}
+use Rattle.play_events.specs.Given.ExecutorDeclared.kind.Kind.{Kind}
 use Rattle.play_lists.proofs.Given.FindsSteps.{steps_do_theirs}
 use Rattle.run_schedules.specs.Deeds.Deeds.{Entry, Steps, acted_on, map_of_call, moment, named}
 use Rattle.run_schedules.specs.Deeds.History.{may_do, past}

@@ -7,7 +7,7 @@ use Rattle.seize_acts.specs.Given.SeizeDeclared.progress.Progress.{Progress}
 use Rattle.seize_acts.specs.Given.SeizeDeclared.progress.Progress.TheVariants as progress
 use Rattle.play_lists.specs.Given.TablesDeclared.setting.Setting.{Setting}
 use Rattle.threads_rule.specs.Given.ResizeDeclared.new_map.NewMap.{NewMap}
-use Rattle.play_lists.specs.Given.TellerDeclared.changed.Changed.{Changed}
+use Rattle.play_lists.specs.Given.EffectsDeclared.changed.Changed.{Changed}
 use Rattle.run_schedules.specs.declared.effect.Effect.{Effect}
 use Rattle.run_schedules.specs.declared.outcome.Outcome.{Outcome}
 use Rattle.run_schedules.specs.Schedules.Effects.{with_effects}

@@ -15,8 +15,8 @@ use Rattle.threads_rule.specs.Given.ResizeDeclared.new_map.Opening.{Opening}
 use Rattle.threads_rule.specs.Given.ResizeDeclared.new_map.Opening.TheVariants as openings
 use Rattle.threads_rule.specs.Given.RuleChart.{Chart}
 use Rattle.play_lists.specs.Given.TellerTells.{StepsTold}
-use Rattle.play_lists.specs.Given.TellerDeclared.changed.Changed.{Changed}
-use Rattle.play_lists.specs.Given.TellerDeclared.changed.Changed.TheVariants as changed
+use Rattle.play_lists.specs.Given.EffectsDeclared.changed.Changed.{Changed}
+use Rattle.play_lists.specs.Given.EffectsDeclared.changed.Changed.TheVariants as changed
 use Rattle.run_schedules.specs.declared.effect.Effect.{Effect}
 use Rattle.run_schedules.specs.Schedules.Effects.{with_effects}
 use Rattle.run_schedules.specs.Schedules.Handing.{is_first_making, is_granted, is_table_made}

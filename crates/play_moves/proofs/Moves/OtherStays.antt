@@ -5,7 +5,7 @@ use Rattle.std.proofs.Common.{refl, sym, subst}
 use Rattle.seize_acts.specs.Given.SeizeDeclared.rows.reclaim_all.ReclaimAll.{ReclaimAll}
 use Rattle.run_schedules.specs.Schedules.Moment.{Moment, UnderWay}
 use Rattle.run_schedules.specs.Schedules.Terms.{Terms}
-use Rattle.play_lists.specs.Given.TellerDeclared.changed.Changed.TheVariants.{Nothing as NoChange}
+use Rattle.play_lists.specs.Given.EffectsDeclared.changed.Changed.TheVariants.{Nothing as NoChange}
 use Rattle.play_lists.specs.Given.EffectsEffects.{effects_of}
 use Rattle.play_lists.specs.Given.EffectsDeclared.acting.Acting.TheVariants as acts
 use Rattle.play_events.specs.Given.ScenesScene.{Scene}

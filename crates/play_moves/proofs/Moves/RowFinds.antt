@@ -20,7 +20,7 @@ use Rattle.run_schedules.specs.Schedules.Lives.{Finds}
 use Rattle.run_schedules.specs.Schedules.Moment.{Moment}
 use Rattle.run_schedules.specs.Schedules.Terms.{Terms}
 use Rattle.run_schedules.specs.Schedules.Transition.{Transition}
-use Rattle.play_lists.specs.Given.TellerDeclared.changed.Changed.TheVariants as changed
+use Rattle.play_lists.specs.Given.EffectsDeclared.changed.Changed.TheVariants as changed
 use Rattle.play_lists.specs.Given.EffectsEffects.{effects_of}
 use Rattle.play_lists.specs.Given.EffectsDeclared.acting.Acting.TheVariants as acts
 use Rattle.play_lists.specs.Given.ScenesHeld.{Held, IsAt}

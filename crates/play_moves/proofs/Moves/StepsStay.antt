@@ -12,7 +12,7 @@ use Rattle.run_schedules.specs.Schedules.Growing.{Has}
 use Rattle.run_schedules.specs.Schedules.Moment.{MapThere}
 use Rattle.run_schedules.specs.Schedules.Terms.{Terms, shards_of}
 use Rattle.run_schedules.specs.Schedules.Views.{capacity_or, map_at}
-use Rattle.play_lists.specs.Given.TellerDeclared.changed.Changed.TheVariants.{Nothing as NoChange}
+use Rattle.play_lists.specs.Given.EffectsDeclared.changed.Changed.TheVariants.{Nothing as NoChange}
 use Rattle.play_events.specs.Given.CallersTogether.{Counting, ForRoom, OnKey, OverAll, UnderWay, UnlessCounts}
 use Rattle.play_events.specs.Given.FinishesMakings.{Beginning}
 use Rattle.play_events.specs.Given.NamedPlaces.{first_places}

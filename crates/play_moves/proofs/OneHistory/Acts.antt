@@ -43,7 +43,7 @@ use Rattle.play_events.specs.Given.NamedSeen.{kind_of}
 use Rattle.play_lists.specs.Played.Play.{Calling, State, begun_call, call_asked, call_begun, call_for, call_stepped, call_stopped, call_told, has_root, is_over, is_refusal, keeps, leaves_as, making_deed, outcome_of, pairs_for, registers_as, reply_for, row_deed, told_call}
 use Rattle.play_events.specs.Given.ScenesReplying.{unless_stopped}
 use Rattle.play_events.specs.Given.ScenesStepping.{has_ended}
-use Rattle.play_lists.specs.Given.TellerDeclared.changed.Changed.{Changed}
+use Rattle.play_lists.specs.Given.EffectsDeclared.changed.Changed.{Changed}
 use Rattle.play_events.specs.Given.FinishesMaps.{with_call}
 use Rattle.threads_rule.specs.Given.ResizeDeclared.new_map.NewMap.{NewMap}
 use Rattle.seize_acts.specs.Given.SeizeDeclared.rows.leave.Leave.{Leave}

@@ -17,7 +17,7 @@ use Rattle.run_schedules.specs.Schedules.Moment.{UnderWay}
 use Rattle.run_schedules.specs.Schedules.Views.{call_of}
 use Rattle.run_schedules.specs.declared.call.Call.{Call}
 use Rattle.run_schedules.specs.declared.outcome.Outcome.{Outcome}
-use Rattle.play_lists.specs.Given.TellerDeclared.changed.Changed.TheVariants.{Nothing as NoChange}
+use Rattle.play_lists.specs.Given.EffectsDeclared.changed.Changed.TheVariants.{Nothing as NoChange}
 use Rattle.play_lists.specs.Given.ActsActs.{Act, Answer, Nothing, OfCall, BeginsCall, StepsCall, TellsCall, AsksCall, StopsCall, BeginsMaking, StepsMaking, BeginsEnding, StepsEnding, BeginsRow, StepsRow}
 use Rattle.play_lists.specs.Given.ActsAsSteps.{LeadsAs, changed_by, held_in}
 use Rattle.play_lists.specs.Given.ActsLeads.{Led}

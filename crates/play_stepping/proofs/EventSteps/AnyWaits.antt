@@ -9,9 +9,9 @@ use Rattle.owner_whole.specs.Given.ResizeDeclared.outcome.Outcome.TheVariants as
 use Rattle.papaya_raw.specs.Given.ReservesReserve.{reserve_plan}
 use Rattle.papaya_raw.specs.Given.ReservesDeclared.reserve.Reserve.{Reserve}
 use Rattle.papaya_raw.specs.Given.SweepsSweep.{sweep_plan}
-use Rattle.papaya_raw.specs.Given.SweepsDeclared.sweep.Sweep.{Sweep}
-use Rattle.papaya_raw.specs.Given.SweepsDeclared.sweep.Swept.{Swept}
-use Rattle.papaya_raw.specs.Given.SweepsDeclared.sweep.Swept.TheVariants as swept
+use Rattle.papaya_raw.specs.Given.ReservesDeclared.sweep.Sweep.{Sweep}
+use Rattle.papaya_raw.specs.Given.ReservesDeclared.sweep.Swept.{Swept}
+use Rattle.papaya_raw.specs.Given.ReservesDeclared.sweep.Swept.TheVariants as swept
 use Rattle.papaya_raw.specs.Call.{call_plan}
 use Rattle.papaya_raw.specs.Machine.{called as of_key, reserved as of_room, swept as of_sweep}
 use Rattle.papaya_raw.specs.Progress.{of_outcome, of_swept}
@@ -32,7 +32,7 @@ use Rattle.run_schedules.specs.Schedules.Waiting.{may_wait_for}
 use Rattle.run_executor.specs.Given.EffectsEffects.{effects_of}
 use Rattle.run_executor.specs.Given.EffectsKnown.{known}
 use Rattle.run_executor.specs.Given.EffectsDeclared.acting.Acting.TheVariants as acts
-use Rattle.run_executor.specs.Given.TellerDeclared.changed.Changed.{Changed}
+use Rattle.run_executor.specs.Given.EffectsDeclared.changed.Changed.{Changed}
 use Rattle.owner_whole.specs.Given.FinishesMachines.{machine_of}
 use Rattle.owner_whole.specs.Given.FinishesMaps.{Standing}
 use Rattle.play_scheduler.specs.Given.FollowsCalls.{IsCalled}

@@ -4,9 +4,9 @@ use Rattle.std.proofs.Common.{refl, sym, ap, subst, ◌∙◌, inl, inr, arith}
 use Rattle.std.proofs.lemmas.List.{append_assoc}
 use Rattle.papaya_raw.specs.Given.TablesDeclared.node.Node.{Node}
 use Rattle.papaya_raw.specs.Given.TablesDeclared.table.Table.{Table}
-use Rattle.papaya_raw.specs.Given.SweepsDeclared.sweep.Purpose.TheVariants.{Walks}
-use Rattle.papaya_raw.specs.Given.SweepsDeclared.sweep.Sweep.{Sweep}
-use Rattle.papaya_raw.specs.Given.SweepsDeclared.sweep.Sweeping.TheVariants as at
+use Rattle.papaya_raw.specs.Given.ReservesDeclared.sweep.Purpose.TheVariants.{Walks}
+use Rattle.papaya_raw.specs.Given.ReservesDeclared.sweep.Sweep.{Sweep}
+use Rattle.papaya_raw.specs.Given.ReservesDeclared.sweep.Sweeping.TheVariants as at
 use Rattle.papaya_raw.specs.declared.machines.machine.Machine.{Machine}
 use Rattle.papaya_raw.specs.declared.machines.machine.Machine.TheVariants as kinds
 use Rattle.papaya_raw.specs.declared.machines.progress.Progress.{Progress}
@@ -22,7 +22,7 @@ use Rattle.run_executor.specs.Given.EffectsKnown.{known}
 use Rattle.run_executor.specs.Given.EffectsDeclared.acting.Acting.TheVariants as acts
 use Rattle.owner_whole.specs.Given.FinishesMachines.{machine_of}
 use Rattle.owner_whole.specs.Given.FinishesMaps.{Standing}
-use Rattle.run_executor.specs.Given.TellerDeclared.changed.Changed.TheVariants.{Nothing}
+use Rattle.run_executor.specs.Given.EffectsDeclared.changed.Changed.TheVariants.{Nothing}
 use Rattle.play_scheduler.proofs.Given.FollowsCalling.{is_same_refl}
 use Rattle.run_executor.proofs.Given.HandsReplacing.{calls_after}
 use Rattle.play_scheduler.specs.Given.LoggedCalling.{CallGoesOn, step_did}

@@ -26,10 +26,10 @@ use Rattle.papaya_raw.specs.Given.ReservesDeclared.reserve.Reserve.{Reserve}
 use Rattle.papaya_raw.specs.Given.ReservesDeclared.reserve.Reserving.{Reserving}
 use Rattle.papaya_raw.specs.Given.ReservesDeclared.reserve.Reserving.TheVariants as reserves
 use Rattle.papaya_raw.specs.Given.SweepsSweep as plans
-use Rattle.papaya_raw.specs.Given.SweepsDeclared.sweep.Sweep.{Sweep}
-use Rattle.papaya_raw.specs.Given.SweepsDeclared.sweep.Swept.TheVariants as swept
-use Rattle.papaya_raw.specs.Given.SweepsDeclared.sweep.Sweeping.{Sweeping}
-use Rattle.papaya_raw.specs.Given.SweepsDeclared.sweep.Sweeping.TheVariants as sweeps
+use Rattle.papaya_raw.specs.Given.ReservesDeclared.sweep.Sweep.{Sweep}
+use Rattle.papaya_raw.specs.Given.ReservesDeclared.sweep.Swept.TheVariants as swept
+use Rattle.papaya_raw.specs.Given.ReservesDeclared.sweep.Sweeping.{Sweeping}
+use Rattle.papaya_raw.specs.Given.ReservesDeclared.sweep.Sweeping.TheVariants as sweeps
 use Rattle.play_scheduler.specs.Given.RuleMaps.{IsTable}
 use Rattle.play_scheduler.specs.Given.RuleWords.{Blocks}
 use Rattle.owner_whole.specs.Given.PointsFactsCopies.{CopierFacts, CopyingFacts}
@@ -59,8 +59,8 @@ use Rattle.run_executor.specs.Given.EffectsEffects.{effects_of}
 use Rattle.run_executor.specs.Given.EffectsKnown.{known}
 use Rattle.run_executor.specs.Given.EffectsDeclared.acting.Acting.TheVariants as acts
 use Rattle.run_executor.specs.Given.EffectsDeclared.role.Role.TheVariants as role
-use Rattle.run_executor.specs.Given.TellerDeclared.changed.Changed.{Changed}
-use Rattle.run_executor.specs.Given.TellerDeclared.changed.Changed.TheVariants as changed
+use Rattle.run_executor.specs.Given.EffectsDeclared.changed.Changed.{Changed}
+use Rattle.run_executor.specs.Given.EffectsDeclared.changed.Changed.TheVariants as changed
 use Rattle.owner_whole.specs.Given.FinishesMaps.{Standing}
 use Rattle.play_scheduler.specs.Given.FollowsCalls.{IsCalled}
 use Rattle.play_scheduler.specs.Given.FollowsMaps.{table_of}

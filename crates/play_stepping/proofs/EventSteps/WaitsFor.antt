@@ -41,8 +41,8 @@ use Rattle.run_schedules.specs.Schedules.Sequential.{key_of}
 use Rattle.run_schedules.specs.Schedules.Terms.{Terms}
 use Rattle.run_schedules.specs.Schedules.Views.{call_of, finite_map, grows_in_chunks, map_at}
 use Rattle.run_schedules.specs.Schedules.Waiting.{is_to_be_copied, may_wait_for, waits_on_map}
-use Rattle.run_executor.specs.Given.TellerDeclared.changed.Changed.{Changed}
-use Rattle.run_executor.specs.Given.TellerDeclared.changed.Changed.TheVariants as changed
+use Rattle.run_executor.specs.Given.EffectsDeclared.changed.Changed.{Changed}
+use Rattle.run_executor.specs.Given.EffectsDeclared.changed.Changed.TheVariants as changed
 use Rattle.owner_whole.specs.Given.FinishesMaps.{Standing}
 use Rattle.play_scheduler.specs.Given.FollowsCalls.{IsCalled}
 use Rattle.play_scheduler.proofs.Given.OwesTables.Hosts.{Step}

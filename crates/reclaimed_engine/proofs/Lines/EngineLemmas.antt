@@ -4,7 +4,7 @@ use Rattle.std.specs.Prelude.{IfSome}
 use Rattle.std.specs.Io.KnownBytes.{Appends}
 use Rattle.reclaimed_script.specs.declared.parser.Script.{Script}
 use Rattle.reclaimed_engine.specs.Lines.Engine.{EndsWith, IsTextFor, TellsFailure}
-use Rattle.reclaimed_engine.specs.Text.Output.{Writes}
+use Rattle.reclaimed_engine.specs.PrintedText.Output.{Writes}
 use Rattle.reclaimed_script.specs.Reading.{Answers}
 
 -- where the script was read and its text was written, or that write failed

@@ -9,7 +9,7 @@ use Rattle.reclaimed_script.specs.Reading.{Answers}
 use Rattle.run_schedules.specs.Schedules.Runs.{IsRunOf}
 use Rattle.run_schedules.specs.Schedules.Terms.{Terms}
 use Rattle.reclaimed_script.specs.Script.{script_of, setup_of}
-use Rattle.reclaimed_engine.specs.Text.Text.{WordRun, text_of, fault_line}
+use Rattle.reclaimed_engine.specs.PrintedText.Text.{WordRun, text_of, fault_line}
 
 -- the line that says why a script gives no run
 abbrev pub stop_line : Stop → List ℕ

@@ -7,7 +7,7 @@ use Rattle.run_debts.specs.Given.RawMachine.{machine_replied, machine_asked}
 use Rattle.run_debts.specs.Given.RawDeclared.machines.asking.Reply.{Reply as MachineReply}
 use Rattle.run_debts.specs.Given.RawDeclared.machines.machine.Machine.{Machine}
 use Rattle.run_debts.specs.Given.RawDeclared.machines.machine.Machine.TheVariants as kinds
-use Rattle.run_debts.specs.Given.SchedulesDeclared.call.Call.{Call}
+use Rattle.run_debts.specs.Given.RunsDeclared.call.Call.{Call}
 use Rattle.run_debts.specs.Given.SchedulesBeginning.{with_call}
 use Rattle.run_debts.specs.Given.SchedulesMoment.{UnderWay as CallThere, Moment}
 use Rattle.run_debts.specs.Given.SchedulesViews.{call_of}

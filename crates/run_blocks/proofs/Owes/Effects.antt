@@ -1,17 +1,17 @@
 -- What the effects of an operation find of a call's block for a pair, and whether it has one after them.
 use Rattle.std.specs.Prelude.{◌≡◌, ℕ, ◌+◌, Bool, true, false, List, [], ◌∷◌, length, Option, Some}
 use Rattle.std.proofs.Common.{refl, ap, sym, subst, ◌∙◌}
-use Rattle.run_debts.specs.Given.SchedulesDeclared.call.Call.{Call}
-use Rattle.run_debts.specs.Given.SchedulesDeclared.call.Call.TheVariants as call
-use Rattle.run_debts.specs.Given.SchedulesDeclared.effect.Effect.{Effect}
-use Rattle.run_debts.specs.Given.SchedulesDeclared.effect.Effect.TheVariants as effect
-use Rattle.run_debts.specs.Given.SchedulesDeclared.effect.Growth.TheVariants.{ABlock}
+use Rattle.run_debts.specs.Given.RunsDeclared.call.Call.{Call}
+use Rattle.run_debts.specs.Given.RunsDeclared.call.Call.TheVariants as call
+use Rattle.run_debts.specs.Given.RunsDeclared.effect.Effect.{Effect}
+use Rattle.run_debts.specs.Given.RunsDeclared.effect.Effect.TheVariants as effect
+use Rattle.run_debts.specs.Given.RunsDeclared.effect.Growth.TheVariants.{ABlock}
 use Rattle.run_debts.specs.Given.SchedulesEffects.{due_for, call_by, with_effect}
 use Rattle.run_debts.specs.Given.SchedulesEntry.{ByCall}
 use Rattle.run_debts.specs.Given.SchedulesGrowing.{has_value_for}
 use Rattle.run_debts.specs.Given.SchedulesMoment.{UnderWay as CallThere, Moment}
 use Rattle.run_debts.specs.Given.SchedulesViews.{call_of}
-use Rattle.run_debts.specs.Given.SchedulesDeclared.effect.Growth.{Growth}
+use Rattle.run_debts.specs.Given.RunsDeclared.effect.Growth.{Growth}
 use Rattle.run_blocks.specs.Owes.Beside.{of_block, NoneOfBlock}
 use Rattle.run_blocks.specs.Owes.Keeping.{FindsBlock, FindBlocks}
 use Rattle.run_blocks.proofs.Owes.Fields.{all_by, its_effect}

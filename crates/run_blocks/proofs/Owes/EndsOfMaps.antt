@@ -8,9 +8,9 @@ use Rattle.run_debts.specs.Given.TablesDeclared.node.Node.{Node}
 use Rattle.run_debts.specs.Given.RawDeclared.machines.end_map.EndMap.{EndMap}
 use Rattle.run_debts.specs.Given.SchedulesEffects.{with_effects}
 use Rattle.run_debts.specs.Given.SchedulesMoment.{Moment}
-use Rattle.run_debts.specs.Given.TellerDeclared.changed.Changed.{Changed}
-use Rattle.run_debts.specs.Given.TellerDeclared.changed.Changed.TheVariants as changed
-use Rattle.run_debts.specs.Given.TellerDeclared.changed.Kind.TheVariants as kind
+use Rattle.run_debts.specs.Given.EffectsDeclared.changed.Changed.{Changed}
+use Rattle.run_debts.specs.Given.EffectsDeclared.changed.Changed.TheVariants as changed
+use Rattle.run_debts.specs.Given.EffectsDeclared.changed.Kind.TheVariants as kind
 use Rattle.run_debts.specs.Given.EffectsEffects.{effects_of, known_after}
 use Rattle.run_debts.specs.Given.EffectsKnown.{Known}
 use Rattle.run_debts.specs.Given.EffectsDeclared.acting.Acting.{Acting}

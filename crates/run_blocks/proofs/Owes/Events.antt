@@ -7,16 +7,16 @@ use Rattle.run_debts.specs.Given.RawMachine.{machine_asked}
 use Rattle.run_debts.specs.Given.RawDeclared.machines.machine.Machine.{Machine}
 use Rattle.run_debts.specs.Given.RawDeclared.machines.progress.Progress.{Progress}
 use Rattle.run_debts.specs.Given.RawDeclared.machines.progress.Progress.TheVariants as progress
-use Rattle.run_debts.specs.Given.SchedulesDeclared.outcome.Outcome.{Outcome}
-use Rattle.run_debts.specs.Given.SchedulesDeclared.outcome.Outcome.TheVariants as outcome
+use Rattle.run_debts.specs.Given.RunsDeclared.outcome.Outcome.{Outcome}
+use Rattle.run_debts.specs.Given.RunsDeclared.outcome.Outcome.TheVariants as outcome
 use Rattle.run_debts.specs.Given.SchedulesEffects.{with_effects, worked, with_effect, AtEachEffect}
 use Rattle.run_debts.specs.Given.SchedulesEntry.{IfCall, acting, ByCall}
 use Rattle.run_debts.specs.Given.SchedulesHanding.{HasGrown}
 use Rattle.run_debts.specs.Given.SchedulesMoment.{UnderWay as CallThere, Moment}
 use Rattle.run_debts.specs.Given.SchedulesViews.{call_of}
 use Rattle.run_debts.specs.Given.SchedulesAfter.{moment}
-use Rattle.run_debts.specs.Given.SchedulesDeclared.effect.Effect.{Effect}
-use Rattle.run_debts.specs.Given.SchedulesDeclared.effect.Effect.TheVariants as effect
+use Rattle.run_debts.specs.Given.RunsDeclared.effect.Effect.{Effect}
+use Rattle.run_debts.specs.Given.RunsDeclared.effect.Effect.TheVariants as effect
 use Rattle.run_debts.specs.Given.SchedulesTerms.{Terms}
 use Rattle.owner_calls.specs.Given.CallersTogether.{UnderWay}
 use Rattle.run_debts.specs.Given.EffectsEffects.{effects_of}

@@ -4,10 +4,10 @@ use Rattle.std.proofs.Common.{refl, ap, sym, subst, ◌∙◌, inl, inr}
 use Rattle.std.proofs.lemmas.Bool.{cases_eq}
 use Rattle.run_debts.specs.Given.SeizeWorld.{with_at}
 use Rattle.run_debts.specs.Given.RunsSame.{is_same}
-use Rattle.run_debts.specs.Given.SchedulesDeclared.call.Call.{Call}
-use Rattle.run_debts.specs.Given.SchedulesDeclared.call.Reply.{Reply}
-use Rattle.run_debts.specs.Given.SchedulesDeclared.outcome.Outcome.{Outcome}
-use Rattle.run_debts.specs.Given.SchedulesDeclared.outcome.Outcome.TheVariants as outcome
+use Rattle.run_debts.specs.Given.RunsDeclared.call.Call.{Call}
+use Rattle.run_debts.specs.Given.RunsDeclared.call.Reply.{Reply}
+use Rattle.run_debts.specs.Given.RunsDeclared.outcome.Outcome.{Outcome}
+use Rattle.run_debts.specs.Given.RunsDeclared.outcome.Outcome.TheVariants as outcome
 use Rattle.run_debts.specs.Given.SchedulesAfter.{asks_on, comes_to, replied, without_call}
 use Rattle.run_debts.specs.Given.SchedulesBeginning.{fresh_call, with_call}
 use Rattle.run_debts.specs.Given.SchedulesEntry.{ends_call}

@@ -11,8 +11,8 @@ use Rattle.run_debts.specs.Given.TablesDeclared.setting.Setting.{Setting}
 use Rattle.run_debts.specs.Given.TablesDeclared.table.Table.{Table}
 use Rattle.owner_calls.specs.Given.ResizeDeclared.dispose.Dispose.{Dispose}
 use Rattle.owner_calls.specs.Given.ResizeDeclared.dispose.Disposing.TheVariants as disposal
-use Rattle.run_debts.specs.Given.SweepsDeclared.sweep.Sweeping.{Sweeping}
-use Rattle.run_debts.specs.Given.SweepsDeclared.sweep.Sweeping.TheVariants as sweeping
+use Rattle.run_debts.specs.Given.ReservesDeclared.sweep.Sweeping.{Sweeping}
+use Rattle.run_debts.specs.Given.ReservesDeclared.sweep.Sweeping.TheVariants as sweeping
 use Rattle.run_debts.specs.Given.RawDeclared.machines.answer.KeyAnswer.{KeyAnswer}
 use Rattle.run_debts.specs.Given.RawDeclared.machines.call.Calling.{Calling}
 use Rattle.run_debts.specs.Given.RawDeclared.machines.call.Calling.TheVariants as calling

@@ -13,9 +13,9 @@ use Rattle.run_debts.specs.Given.ReservesDeclared.reserve.Reserve.{Reserve}
 use Rattle.run_debts.specs.Given.ReservesDeclared.reserve.Reserving.{Reserving}
 use Rattle.run_debts.specs.Given.ReservesDeclared.reserve.Reserving.TheVariants as reserving
 use Rattle.owner_calls.specs.Given.SweepsSweep.{sweep_plan}
-use Rattle.run_debts.specs.Given.SweepsDeclared.sweep.Sweep.{Sweep}
-use Rattle.run_debts.specs.Given.SweepsDeclared.sweep.Sweeping.{Sweeping}
-use Rattle.run_debts.specs.Given.SweepsDeclared.sweep.Sweeping.TheVariants as sweeping
+use Rattle.run_debts.specs.Given.ReservesDeclared.sweep.Sweep.{Sweep}
+use Rattle.run_debts.specs.Given.ReservesDeclared.sweep.Sweeping.{Sweeping}
+use Rattle.run_debts.specs.Given.ReservesDeclared.sweep.Sweeping.TheVariants as sweeping
 use Rattle.owner_calls.specs.Given.RawCall.{call_plan}
 use Rattle.run_debts.specs.Given.RawMachine.{machine_plan, called as of_key, reserved as of_room, swept as of_sweep}
 use Rattle.owner_calls.specs.Given.RawProgress.{of_called}
@@ -30,9 +30,9 @@ use Rattle.owner_calls.specs.Given.PointsTold.{IsRowOfCopier, IsRowOfCall}
 use Rattle.owner_calls.specs.Given.LateToldReserves.{IsRowOfReserve}
 use Rattle.owner_calls.specs.Given.LateToldSweeps.{IsRowOfSweep}
 use Rattle.run_debts.specs.Given.TellerTells.{StepsTold}
-use Rattle.run_debts.specs.Given.TellerDeclared.changed.Changed.{Changed}
-use Rattle.run_debts.specs.Given.TellerDeclared.changed.Changed.TheVariants as changed
-use Rattle.run_debts.specs.Given.TellerDeclared.changed.Kind.TheVariants as kind
+use Rattle.run_debts.specs.Given.EffectsDeclared.changed.Changed.{Changed}
+use Rattle.run_debts.specs.Given.EffectsDeclared.changed.Changed.TheVariants as changed
+use Rattle.run_debts.specs.Given.EffectsDeclared.changed.Kind.TheVariants as kind
 use Rattle.run_debts.proofs.Given.OthersOutcomes.{told_in}
 use Rattle.owner_calls.specs.Holds.Came.{Owns}
 use Rattle.owner_calls.proofs.Holds.Calls.Goes.{TellsSo}

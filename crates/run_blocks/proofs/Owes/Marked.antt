@@ -3,9 +3,9 @@ use Rattle.std.specs.Prelude.{◌≡◌, ℕ, Bool, true, false, List, find, Opt
 use Rattle.std.proofs.Common.{refl, ap, sym, subst, ◌∙◌, inl, inr}
 use Rattle.run_debts.specs.Given.RawDeclared.machines.machine.Machine.{Machine}
 use Rattle.run_debts.specs.Given.RunsSame.{is_same}
-use Rattle.run_debts.specs.Given.SchedulesDeclared.call.Call.{Call}
-use Rattle.run_debts.specs.Given.SchedulesDeclared.call.Reply.{Reply}
-use Rattle.run_debts.specs.Given.SchedulesDeclared.outcome.Outcome.{Outcome}
+use Rattle.run_debts.specs.Given.RunsDeclared.call.Call.{Call}
+use Rattle.run_debts.specs.Given.RunsDeclared.call.Reply.{Reply}
+use Rattle.run_debts.specs.Given.RunsDeclared.outcome.Outcome.{Outcome}
 use Rattle.run_debts.specs.Given.SchedulesBeginning.{with_call}
 use Rattle.run_debts.specs.Given.SchedulesEntry.{ends_call}
 use Rattle.run_debts.specs.Given.SchedulesMoment.{UnderWay as CallThere, Moment}

@@ -26,9 +26,9 @@ use Rattle.run_debts.specs.Given.RawDeclared.machines.call.KeyCall.{KeyCall}
 use Rattle.owner_calls.proofs.Given.RuleKeys.Always.{AlwaysOf, always_plan_as, always_steps}
 use Rattle.run_debts.specs.Given.TellsSeen.{seen_of}
 use Rattle.run_debts.specs.Given.TellerTells.{told_of, StepsTold}
-use Rattle.run_debts.specs.Given.TellerDeclared.changed.Changed.{Changed}
-use Rattle.run_debts.specs.Given.TellerDeclared.changed.Changed.TheVariants as changed
-use Rattle.run_debts.specs.Given.TellerDeclared.changed.Kind.{Kind}
+use Rattle.run_debts.specs.Given.EffectsDeclared.changed.Changed.{Changed}
+use Rattle.run_debts.specs.Given.EffectsDeclared.changed.Changed.TheVariants as changed
+use Rattle.run_debts.specs.Given.EffectsDeclared.changed.Kind.{Kind}
 use Rattle.owner_calls.specs.Holds.Came.{OwnsAt, Owns}
 use Rattle.owner_calls.proofs.Holds.Calls.Goes.{GoesWith, over_so, counted_so, looked_so, first_so, next_so, helped_so, copied_so, disposed_so, root_so, nexts_so, found_so, tried_so, told_over}
 use Rattle.owner_calls.proofs.Holds.Calls.Steps.{names_block, some_word}

@@ -24,13 +24,13 @@ use Rattle.owner_calls.specs.Given.ReservesReserve.{reserve_plan}
 use Rattle.owner_calls.specs.Given.SweepsSweep.{sweep_plan}
 use Rattle.owner_calls.specs.Given.SweepsSweep as sweeps
 use Rattle.owner_calls.specs.Given.SweepsSweepPoints as points
-use Rattle.run_debts.specs.Given.SweepsDeclared.sweep.Purpose.{Purpose}
-use Rattle.run_debts.specs.Given.SweepsDeclared.sweep.Purpose.TheVariants as purpose
-use Rattle.run_debts.specs.Given.SweepsDeclared.sweep.Sweep.{Sweep}
-use Rattle.run_debts.specs.Given.SweepsDeclared.sweep.Sweeping.{Sweeping}
-use Rattle.run_debts.specs.Given.SweepsDeclared.sweep.Sweeping.TheVariants as sweeping
-use Rattle.run_debts.specs.Given.SweepsDeclared.sweep.Swept.{Swept}
-use Rattle.run_debts.specs.Given.SweepsDeclared.sweep.Swept.TheVariants as swept
+use Rattle.run_debts.specs.Given.ReservesDeclared.sweep.Purpose.{Purpose}
+use Rattle.run_debts.specs.Given.ReservesDeclared.sweep.Purpose.TheVariants as purpose
+use Rattle.run_debts.specs.Given.ReservesDeclared.sweep.Sweep.{Sweep}
+use Rattle.run_debts.specs.Given.ReservesDeclared.sweep.Sweeping.{Sweeping}
+use Rattle.run_debts.specs.Given.ReservesDeclared.sweep.Sweeping.TheVariants as sweeping
+use Rattle.run_debts.specs.Given.ReservesDeclared.sweep.Swept.{Swept}
+use Rattle.run_debts.specs.Given.ReservesDeclared.sweep.Swept.TheVariants as swept
 use Rattle.owner_calls.specs.Given.RawCall.{call_plan}
 use Rattle.run_debts.specs.Given.RawMachine.{machine_plan, machine_asked, is_ready, called as of_key, reserved as of_room, swept as of_sweep, counted as of_sum}
 use Rattle.owner_calls.specs.Given.RawProgress.{of_called, of_outcome, of_swept, of_counting}
@@ -42,8 +42,8 @@ use Rattle.run_debts.specs.Given.RawDeclared.machines.progress.Progress.{Progres
 use Rattle.run_debts.specs.Given.RawDeclared.machines.progress.Progress.TheVariants as progress
 use Rattle.owner_calls.proofs.Given.RuleKeys.Always.{Always, AlwaysOf, always_if, always_plan_as, always_steps}
 use Rattle.run_debts.specs.Given.TellerTells.{StepsTold}
-use Rattle.run_debts.specs.Given.TellerDeclared.changed.Changed.{Changed}
-use Rattle.run_debts.specs.Given.TellerDeclared.changed.Changed.TheVariants as changed
+use Rattle.run_debts.specs.Given.EffectsDeclared.changed.Changed.{Changed}
+use Rattle.run_debts.specs.Given.EffectsDeclared.changed.Changed.TheVariants as changed
 use Rattle.run_debts.proofs.Given.OthersOutcomes.{told_in}
 use Rattle.run_debts.proofs.Given.ScenesTold.{as_step}
 

@@ -3,16 +3,16 @@ use Rattle.std.specs.Prelude.{◌≡◌, ◌≢◌, ℕ, ◌+◌, Bool, true, fa
 use Rattle.std.proofs.Common.{refl, ap, sym, subst, ◌∙◌, inl, inr}
 use Rattle.std.proofs.lemmas.Bool.{cases_eq}
 use Rattle.run_debts.specs.Given.SeizeWordsWord.{block_in}
-use Rattle.run_debts.specs.Given.SchedulesDeclared.effect.Effect.{Effect}
-use Rattle.run_debts.specs.Given.SchedulesDeclared.effect.Effect.TheVariants as effect
-use Rattle.run_debts.specs.Given.SchedulesDeclared.effect.Growth.TheVariants.{ABlock}
+use Rattle.run_debts.specs.Given.RunsDeclared.effect.Effect.{Effect}
+use Rattle.run_debts.specs.Given.RunsDeclared.effect.Effect.TheVariants as effect
+use Rattle.run_debts.specs.Given.RunsDeclared.effect.Growth.TheVariants.{ABlock}
 use Rattle.run_debts.specs.Given.SchedulesGrowing.{has_value_for}
 use Rattle.run_debts.specs.Given.SchedulesLists.{put}
 use Rattle.run_debts.specs.Given.SchedulesMoment.{UnderWay as CallThere, Moment}
 use Rattle.run_debts.specs.Given.SchedulesViews.{call_of}
-use Rattle.run_debts.specs.Given.TellerDeclared.changed.Changed.{Changed}
-use Rattle.run_debts.specs.Given.TellerDeclared.changed.Changed.TheVariants as changed
-use Rattle.run_debts.specs.Given.TellerDeclared.changed.Kind.TheVariants as kind
+use Rattle.run_debts.specs.Given.EffectsDeclared.changed.Changed.{Changed}
+use Rattle.run_debts.specs.Given.EffectsDeclared.changed.Changed.TheVariants as changed
+use Rattle.run_debts.specs.Given.EffectsDeclared.changed.Kind.TheVariants as kind
 use Rattle.run_debts.specs.Given.EffectsEffects.{taken_by, effects_of, known_after}
 use Rattle.run_debts.specs.Given.EffectsKnown.{Known}
 use Rattle.run_debts.specs.Given.EffectsDeclared.acting.Acting.{Acting}

@@ -20,12 +20,12 @@ use Rattle.run_debts.specs.Given.RawDeclared.machines.call.Calling.TheVariants a
 use Rattle.run_debts.specs.Given.RawDeclared.machines.call.KeyCall.{KeyCall}
 use Rattle.run_debts.specs.Given.RawDeclared.machines.answer.Missing.{Missing}
 use Rattle.run_debts.specs.Given.RawDeclared.machines.answer.Missing.TheVariants as missing
-use Rattle.run_debts.specs.Given.SchedulesDeclared.call.Call.{Call}
-use Rattle.run_debts.specs.Given.SchedulesDeclared.call.Call.TheVariants as call
-use Rattle.run_debts.specs.Given.SchedulesDeclared.call.OneKey.{OneKey}
-use Rattle.run_debts.specs.Given.SchedulesDeclared.call.OneKey.TheVariants.{Get, GetKeyValue, ContainsKey, Insert, TryInsert, TryInsertWith, GetOrInsert, GetOrInsertWith, Update, UpdateOrInsert, UpdateOrInsertWith, Compute, Remove, RemoveEntry, RemoveIf}
-use Rattle.run_debts.specs.Given.SchedulesDeclared.call.Reply.{Reply}
-use Rattle.run_debts.specs.Given.SchedulesDeclared.call.Reply.TheVariants.{Gives, Removes, Aborts, Decides}
+use Rattle.run_debts.specs.Given.RunsDeclared.call.Call.{Call}
+use Rattle.run_debts.specs.Given.RunsDeclared.call.Call.TheVariants as call
+use Rattle.run_debts.specs.Given.RunsDeclared.call.OneKey.{OneKey}
+use Rattle.run_debts.specs.Given.RunsDeclared.call.OneKey.TheVariants.{Get, GetKeyValue, ContainsKey, Insert, TryInsert, TryInsertWith, GetOrInsert, GetOrInsertWith, Update, UpdateOrInsert, UpdateOrInsertWith, Compute, Remove, RemoveEntry, RemoveIf}
+use Rattle.run_debts.specs.Given.RunsDeclared.call.Reply.{Reply}
+use Rattle.run_debts.specs.Given.RunsDeclared.call.Reply.TheVariants.{Gives, Removes, Aborts, Decides}
 use Rattle.run_debts.specs.Given.SchedulesGrowing.{has_value_for}
 use Rattle.run_debts.specs.Given.SchedulesMoment.{UnderWay as CallThere}
 use Rattle.run_debts.specs.Given.SchedulesSequential.{has_value}
@@ -39,8 +39,8 @@ use Rattle.owner_calls.specs.Given.CallersAsked.{Asked, is_about, last_told}
 use Rattle.owner_calls.specs.Given.CallersKind.{Kind}
 use Rattle.owner_calls.specs.Given.CallersPairs.{Given, Begun, IsTold, KeepsGiven}
 use Rattle.owner_calls.specs.Given.CallersTogether.{CallOnKey, OnKey, in_slot, Knows}
-use Rattle.run_debts.specs.Given.TellerDeclared.changed.Changed.{Changed}
-use Rattle.run_debts.specs.Given.TellerDeclared.changed.Changed.TheVariants as changed
+use Rattle.run_debts.specs.Given.EffectsDeclared.changed.Changed.{Changed}
+use Rattle.run_debts.specs.Given.EffectsDeclared.changed.Changed.TheVariants as changed
 use Rattle.run_debts.specs.Given.TellerTells.{StepsTold}
 use Rattle.run_debts.specs.Given.EffectsKnown.{Known}
 use Rattle.run_debts.specs.Given.FollowsCalls.{IsCalled}

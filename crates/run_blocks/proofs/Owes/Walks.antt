@@ -52,9 +52,9 @@ use Rattle.run_debts.specs.Given.ReservesDeclared.reserve.Reserving.{Reserving}
 use Rattle.run_debts.specs.Given.ReservesDeclared.reserve.Reserving.TheVariants as reserving
 use Rattle.owner_calls.specs.Given.SweepsSweep.{sweep_plan}
 use Rattle.owner_calls.specs.Given.SweepsSweep as sweeps
-use Rattle.run_debts.specs.Given.SweepsDeclared.sweep.Sweep.{Sweep}
-use Rattle.run_debts.specs.Given.SweepsDeclared.sweep.Sweeping.{Sweeping}
-use Rattle.run_debts.specs.Given.SweepsDeclared.sweep.Sweeping.TheVariants as sweeping
+use Rattle.run_debts.specs.Given.ReservesDeclared.sweep.Sweep.{Sweep}
+use Rattle.run_debts.specs.Given.ReservesDeclared.sweep.Sweeping.{Sweeping}
+use Rattle.run_debts.specs.Given.ReservesDeclared.sweep.Sweeping.TheVariants as sweeping
 use Rattle.owner_calls.specs.Given.RawCall.{call_plan, looked, looks_for, first_made, next_made, disposed, helped, copied}
 use Rattle.owner_calls.specs.Given.RawCall as calls
 use Rattle.run_debts.specs.Given.RawDeclared.machines.asking.Asking.TheVariants as asking
@@ -64,9 +64,9 @@ use Rattle.run_debts.specs.Given.RawDeclared.machines.call.KeyCall.{KeyCall}
 use Rattle.run_debts.specs.Given.TellsSeen.{seen_of}
 use Rattle.run_debts.specs.Given.TellerChanged.{kind_of}
 use Rattle.run_debts.specs.Given.TellerTells.{told_of, StepsTold}
-use Rattle.run_debts.specs.Given.TellerDeclared.changed.Changed.{Changed}
-use Rattle.run_debts.specs.Given.TellerDeclared.changed.Changed.TheVariants as changed
-use Rattle.run_debts.specs.Given.TellerDeclared.changed.Kind.{Kind}
+use Rattle.run_debts.specs.Given.EffectsDeclared.changed.Changed.{Changed}
+use Rattle.run_debts.specs.Given.EffectsDeclared.changed.Changed.TheVariants as changed
+use Rattle.run_debts.specs.Given.EffectsDeclared.changed.Kind.{Kind}
 use Rattle.run_blocks.specs.Owes.Making.{making_in_copying, making_in_calling, making_in_reserving, making_in_sweeping}
 
 module _ {K V : Type 0} where

@@ -12,10 +12,10 @@ use Rattle.run_debts.specs.Given.RawDeclared.machines.answer.Called.{Called}
 use Rattle.run_debts.specs.Given.RawDeclared.machines.call.KeyCall.{KeyCall}
 use Rattle.run_debts.specs.Given.TellerChanged.{kind_of}
 use Rattle.run_debts.specs.Given.TellerTells.{StepsTold}
-use Rattle.run_debts.specs.Given.TellerDeclared.changed.Changed.{Changed}
-use Rattle.run_debts.specs.Given.TellerDeclared.changed.Changed.TheVariants as changed
-use Rattle.run_debts.specs.Given.TellerDeclared.changed.Kind.{Kind}
-use Rattle.run_debts.specs.Given.TellerDeclared.changed.Kind.TheVariants as kind
+use Rattle.run_debts.specs.Given.EffectsDeclared.changed.Changed.{Changed}
+use Rattle.run_debts.specs.Given.EffectsDeclared.changed.Changed.TheVariants as changed
+use Rattle.run_debts.specs.Given.EffectsDeclared.changed.Kind.{Kind}
+use Rattle.run_debts.specs.Given.EffectsDeclared.changed.Kind.TheVariants as kind
 use Rattle.owner_calls.specs.Holds.Came.{Owns}
 use Rattle.run_blocks.specs.Owes.Making.{making_in_calling}
 use Rattle.run_blocks.proofs.Owes.Own.{NoneMade, OwnGoes, HasIt, MadeIt, TookIt, own_goes}

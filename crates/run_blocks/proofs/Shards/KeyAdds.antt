@@ -14,9 +14,9 @@ use Rattle.run_debts.specs.Given.RawDeclared.machines.call.Calling.TheVariants a
 use Rattle.run_debts.specs.Given.RawDeclared.machines.call.KeyCall.{KeyCall}
 use Rattle.run_debts.specs.Given.RawDeclared.machines.machine.Machine.TheVariants as kinds
 use Rattle.run_debts.specs.Given.RawDeclared.machines.progress.Progress.{Progress}
-use Rattle.run_debts.specs.Given.SchedulesDeclared.effect.Effect.{Effect}
-use Rattle.run_debts.specs.Given.SchedulesDeclared.effect.Effect.TheVariants as effect
-use Rattle.run_debts.specs.Given.SchedulesDeclared.effect.Spot.{Spot}
+use Rattle.run_debts.specs.Given.RunsDeclared.effect.Effect.{Effect}
+use Rattle.run_debts.specs.Given.RunsDeclared.effect.Effect.TheVariants as effect
+use Rattle.run_debts.specs.Given.RunsDeclared.effect.Spot.{Spot}
 use Rattle.run_debts.specs.Given.SchedulesMoment.{Moment}
 use Rattle.owner_calls.specs.Given.RuleChart.{Chart}
 use Rattle.owner_calls.specs.Given.RuleWords.{Blocks}

@@ -4,14 +4,14 @@ use Rattle.std.proofs.Common.{refl, ap, sym, subst, ◌∙◌, eqb-true, inl, in
 use Rattle.run_debts.specs.Given.SeizeWordsWord.{block_in}
 use Rattle.run_debts.specs.Given.TablesDeclared.node.Node.{Node}
 use Rattle.owner_calls.specs.Given.ResizeDeclared.sum.Sum.{Sum}
-use Rattle.run_debts.specs.Given.SweepsDeclared.sweep.Sweep.{Sweep}
-use Rattle.run_debts.specs.Given.SweepsDeclared.sweep.Sweeping.TheVariants as sweeping
-use Rattle.run_debts.specs.Given.SweepsDeclared.sweep.Swept.{Swept}
+use Rattle.run_debts.specs.Given.ReservesDeclared.sweep.Sweep.{Sweep}
+use Rattle.run_debts.specs.Given.ReservesDeclared.sweep.Sweeping.TheVariants as sweeping
+use Rattle.run_debts.specs.Given.ReservesDeclared.sweep.Swept.{Swept}
 use Rattle.owner_calls.specs.Given.RawProgress.{of_swept}
 use Rattle.run_debts.specs.Given.RawDeclared.machines.machine.Machine.TheVariants as kinds
 use Rattle.run_debts.specs.Given.RawDeclared.machines.progress.Progress.{Progress}
-use Rattle.run_debts.specs.Given.SchedulesDeclared.effect.Effect.{Effect}
-use Rattle.run_debts.specs.Given.SchedulesDeclared.effect.Effect.TheVariants as effect
+use Rattle.run_debts.specs.Given.RunsDeclared.effect.Effect.{Effect}
+use Rattle.run_debts.specs.Given.RunsDeclared.effect.Effect.TheVariants as effect
 use Rattle.run_debts.specs.Given.SchedulesMoment.{Moment}
 use Rattle.owner_calls.specs.Given.CallersOverAll.{CallOverAll}
 use Rattle.run_debts.specs.Given.CallersRooms.{CallForRoom}

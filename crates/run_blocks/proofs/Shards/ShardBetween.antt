@@ -5,9 +5,9 @@ use Rattle.run_debts.specs.Given.SeizeWordsMem.{Mem, word_at}
 use Rattle.run_debts.specs.Given.SeizeWordsDeclared.at.At.TheVariants.{Word}
 use Rattle.run_debts.specs.Given.TablesDeclared.node.Node.{Node}
 use Rattle.run_debts.specs.Given.RunsSame.{is_same}
-use Rattle.run_debts.specs.Given.SweepsDeclared.sweep.Sweep.{Sweep}
-use Rattle.run_debts.specs.Given.SweepsDeclared.sweep.Sweeping.{Sweeping}
-use Rattle.run_debts.specs.Given.SweepsDeclared.sweep.Sweeping.TheVariants as sweeping
+use Rattle.run_debts.specs.Given.ReservesDeclared.sweep.Sweep.{Sweep}
+use Rattle.run_debts.specs.Given.ReservesDeclared.sweep.Sweeping.{Sweeping}
+use Rattle.run_debts.specs.Given.ReservesDeclared.sweep.Sweeping.TheVariants as sweeping
 use Rattle.owner_calls.specs.Given.RawCallAsks.{told_at}
 use Rattle.run_debts.specs.Given.RawMachine.{sweep_told, machine_replied}
 use Rattle.run_debts.specs.Given.RawDeclared.machines.asking.Reply.{Reply as MachineReply}
@@ -16,9 +16,9 @@ use Rattle.run_debts.specs.Given.RawDeclared.machines.call.Calling.TheVariants a
 use Rattle.run_debts.specs.Given.RawDeclared.machines.call.KeyCall.{KeyCall}
 use Rattle.run_debts.specs.Given.RawDeclared.machines.machine.Machine.{Machine}
 use Rattle.run_debts.specs.Given.RawDeclared.machines.machine.Machine.TheVariants as kinds
-use Rattle.run_debts.specs.Given.SchedulesDeclared.call.Reply.{Reply}
-use Rattle.run_debts.specs.Given.SchedulesDeclared.outcome.Outcome.{Outcome}
-use Rattle.run_debts.specs.Given.SchedulesDeclared.outcome.Outcome.TheVariants as outcome
+use Rattle.run_debts.specs.Given.RunsDeclared.call.Reply.{Reply}
+use Rattle.run_debts.specs.Given.RunsDeclared.outcome.Outcome.{Outcome}
+use Rattle.run_debts.specs.Given.RunsDeclared.outcome.Outcome.TheVariants as outcome
 use Rattle.run_debts.specs.Given.SchedulesAfter.{asks_on, comes_to, replied, without_call}
 use Rattle.run_debts.specs.Given.SchedulesBeginning.{fresh_call, with_call}
 use Rattle.run_debts.specs.Given.SchedulesEntry.{ends_call}

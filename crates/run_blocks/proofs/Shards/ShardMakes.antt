@@ -16,13 +16,13 @@ use Rattle.owner_calls.specs.Given.ResizeNewTable.{new_table_plan}
 use Rattle.owner_calls.specs.Given.ResizeDeclared.new_map.NewMap.{NewMap}
 use Rattle.owner_calls.specs.Given.ResizeDeclared.new_map.Opening.{Opening}
 use Rattle.owner_calls.specs.Given.ResizeDeclared.new_map.Opening.TheVariants as at
-use Rattle.run_debts.specs.Given.SchedulesDeclared.effect.Effect.{Effect}
+use Rattle.run_debts.specs.Given.RunsDeclared.effect.Effect.{Effect}
 use Rattle.run_debts.specs.Given.SchedulesEffects.{with_effects}
 use Rattle.run_debts.specs.Given.SchedulesMoment.{Moment}
-use Rattle.run_debts.specs.Given.TellerDeclared.changed.Changed.{Changed}
-use Rattle.run_debts.specs.Given.TellerDeclared.changed.Changed.TheVariants as changed
-use Rattle.run_debts.specs.Given.TellerDeclared.changed.Kind.{Kind}
-use Rattle.run_debts.specs.Given.TellerDeclared.changed.Kind.TheVariants as kind
+use Rattle.run_debts.specs.Given.EffectsDeclared.changed.Changed.{Changed}
+use Rattle.run_debts.specs.Given.EffectsDeclared.changed.Changed.TheVariants as changed
+use Rattle.run_debts.specs.Given.EffectsDeclared.changed.Kind.{Kind}
+use Rattle.run_debts.specs.Given.EffectsDeclared.changed.Kind.TheVariants as kind
 use Rattle.owner_calls.specs.Given.RuleRule.{no_table}
 use Rattle.owner_calls.specs.Given.CallersTogether.{no_blocks}
 use Rattle.owner_calls.proofs.Given.CallersTogether.At.{at_other, at_same}

@@ -7,10 +7,10 @@ use Rattle.run_debts.specs.Given.SeizeWordsDeclared.at.At.TheVariants.{Word}
 use Rattle.run_debts.specs.Given.SeizeWorld.{World, Begin, Step, with_at, times}
 use Rattle.run_debts.specs.Given.TablesDeclared.node.Node.{Node}
 use Rattle.run_debts.specs.Given.TablesDeclared.setting.Setting.{Setting}
-use Rattle.run_debts.specs.Given.SchedulesDeclared.effect.Effect.{Effect}
+use Rattle.run_debts.specs.Given.RunsDeclared.effect.Effect.{Effect}
 use Rattle.run_debts.specs.Given.SchedulesEffects.{with_effects}
 use Rattle.run_debts.specs.Given.SchedulesMoment.{Moment}
-use Rattle.run_debts.specs.Given.TellerDeclared.changed.Changed.{Changed}
+use Rattle.run_debts.specs.Given.EffectsDeclared.changed.Changed.{Changed}
 use Rattle.owner_calls.proofs.Given.CallersTogether.At.{at_other, at_same}
 use Rattle.run_debts.specs.Given.EffectsEffects.{effects_of}
 use Rattle.run_debts.specs.Given.EffectsKnown.{Known}

@@ -11,8 +11,8 @@ use Rattle.run_debts.proofs.Given.SeizeMemoryWords.Named.{or_zero, words_of, sam
 use Rattle.run_debts.specs.Given.TablesDeclared.node.Node.{Node}
 use Rattle.run_debts.specs.Given.TellsSeen.{seen_of}
 use Rattle.run_debts.specs.Given.TellerTells.{told_of}
-use Rattle.run_debts.specs.Given.TellerDeclared.changed.Changed.{Changed}
-use Rattle.run_debts.specs.Given.TellerDeclared.changed.Changed.TheVariants as changed
+use Rattle.run_debts.specs.Given.EffectsDeclared.changed.Changed.{Changed}
+use Rattle.run_debts.specs.Given.EffectsDeclared.changed.Changed.TheVariants as changed
 use Rattle.run_debts.proofs.Given.FollowsOperations.{Operated}
 
 module _ {K V : Type 0} (m m2 : Mem (Node K V)) (c f y : ℕ) (is : word_at m2 (Word c f) ≡ Some y) where

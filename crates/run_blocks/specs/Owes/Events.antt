@@ -4,15 +4,15 @@ use Rattle.run_debts.specs.Given.SeizeWordsDeclared.fault.Fault.TheVariants.{Mem
 use Rattle.run_debts.specs.Given.TablesDeclared.node.Node.{Node}
 use Rattle.run_debts.specs.Given.RawDeclared.machines.progress.Progress.{Progress}
 use Rattle.run_debts.specs.Given.RawDeclared.machines.progress.Progress.TheVariants as progress
-use Rattle.run_debts.specs.Given.SchedulesDeclared.outcome.Outcome.{Outcome}
-use Rattle.run_debts.specs.Given.SchedulesDeclared.outcome.Outcome.TheVariants as outcome
+use Rattle.run_debts.specs.Given.RunsDeclared.outcome.Outcome.{Outcome}
+use Rattle.run_debts.specs.Given.RunsDeclared.outcome.Outcome.TheVariants as outcome
 use Rattle.run_debts.specs.Given.SchedulesAfter.{moment}
 use Rattle.run_debts.specs.Given.SchedulesEffects.{with_effects, worked, AtEachEffect}
 use Rattle.run_debts.specs.Given.SchedulesEntry.{Entry, IfCall, acting, caller_of, ByCall}
 use Rattle.run_debts.specs.Given.SchedulesHanding.{HasGrown}
 use Rattle.run_debts.specs.Given.SchedulesMoment.{UnderWay as CallThere, Moment}
-use Rattle.run_debts.specs.Given.SchedulesDeclared.effect.Effect.{Effect}
-use Rattle.run_debts.specs.Given.SchedulesDeclared.effect.Effect.TheVariants.{Asked, PairMade, PairGivenUp, TableMade, TableGivenUp, Linked, Stored}
+use Rattle.run_debts.specs.Given.RunsDeclared.effect.Effect.{Effect}
+use Rattle.run_debts.specs.Given.RunsDeclared.effect.Effect.TheVariants.{Asked, PairMade, PairGivenUp, TableMade, TableGivenUp, Linked, Stored}
 use Rattle.run_debts.specs.Given.SchedulesLives.{CallFinds}
 use Rattle.run_debts.specs.Given.SchedulesTerms.{Terms}
 use Rattle.owner_calls.specs.Given.CallersTogether.{UnderWay}

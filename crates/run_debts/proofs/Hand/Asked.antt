@@ -3,9 +3,9 @@ use Rattle.std.specs.Prelude.{◌≡◌, ℕ, ◌==◌, Bool, true, false, [], i
 use Rattle.std.proofs.Common.{refl, sym, subst, ◌∙◌}
 use Rattle.run_places.specs.Given.SweepsSweepPoints as points
 use Rattle.run_places.specs.Given.SweepsSweepPoints.{next_at, reply_at, after_reply, further}
-use Rattle.run_places.specs.Given.SweepsDeclared.sweep.Sweep.{Sweep}
-use Rattle.run_places.specs.Given.SweepsDeclared.sweep.Sweeping.{Sweeping}
-use Rattle.run_places.specs.Given.SweepsDeclared.sweep.Sweeping.TheVariants as sweeping
+use Rattle.run_places.specs.Given.ReservesDeclared.sweep.Sweep.{Sweep}
+use Rattle.run_places.specs.Given.ReservesDeclared.sweep.Sweeping.{Sweeping}
+use Rattle.run_places.specs.Given.ReservesDeclared.sweep.Sweeping.TheVariants as sweeping
 use Rattle.run_places.specs.Given.RawCallAsks.{with_absent, with_present, absent_told, present_told, told_at}
 use Rattle.run_places.specs.Given.RawCallPoints.{going, over, ending, storing, burying, at_gap}
 use Rattle.run_places.specs.Given.RawMachine.{is_ready, sweep_told, machine_replied, machine_asked}

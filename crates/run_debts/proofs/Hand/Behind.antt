@@ -35,10 +35,10 @@ use Rattle.run_places.specs.Given.ReservesDeclared.reserve.Reserving.{Reserving}
 use Rattle.run_places.specs.Given.ReservesDeclared.reserve.Reserving.TheVariants as reserving
 use Rattle.run_places.specs.Given.SweepsSweep as sweeps
 use Rattle.run_places.specs.Given.SweepsSweepPoints as points
-use Rattle.run_places.specs.Given.SweepsDeclared.sweep.Sweep.{Sweep}
-use Rattle.run_places.specs.Given.SweepsDeclared.sweep.Sweeping.{Sweeping}
-use Rattle.run_places.specs.Given.SweepsDeclared.sweep.Sweeping.TheVariants as sweeping
-use Rattle.run_places.specs.Given.SweepsDeclared.sweep.Swept.{Swept}
+use Rattle.run_places.specs.Given.ReservesDeclared.sweep.Sweep.{Sweep}
+use Rattle.run_places.specs.Given.ReservesDeclared.sweep.Sweeping.{Sweeping}
+use Rattle.run_places.specs.Given.ReservesDeclared.sweep.Sweeping.TheVariants as sweeping
+use Rattle.run_places.specs.Given.ReservesDeclared.sweep.Swept.{Swept}
 use Rattle.run_places.specs.Given.RawCall.{disposed, helped, copied, plan_at}
 use Rattle.run_places.specs.Given.RawProgress.{of_called, of_outcome, of_swept}
 use Rattle.run_places.specs.Given.RawDeclared.machines.answer.Called.{Called}

@@ -12,9 +12,9 @@ use Rattle.run_places.specs.Given.ReservesReserve as reserves
 use Rattle.run_places.specs.Given.ReservesDeclared.reserve.Reserve.{Reserve}
 use Rattle.run_places.specs.Given.SweepsSweep as sweeps
 use Rattle.run_places.specs.Given.SweepsSweepPoints as points
-use Rattle.run_places.specs.Given.SweepsDeclared.sweep.Sweep.{Sweep}
-use Rattle.run_places.specs.Given.SweepsDeclared.sweep.Sweeping.TheVariants as sweeping
-use Rattle.run_places.specs.Given.SweepsDeclared.sweep.Swept.{Swept}
+use Rattle.run_places.specs.Given.ReservesDeclared.sweep.Sweep.{Sweep}
+use Rattle.run_places.specs.Given.ReservesDeclared.sweep.Sweeping.TheVariants as sweeping
+use Rattle.run_places.specs.Given.ReservesDeclared.sweep.Swept.{Swept}
 use Rattle.run_places.specs.Given.RawCall.{helped, copied}
 use Rattle.run_places.specs.Given.RawCallPoints.{going, over}
 use Rattle.run_places.specs.Given.RawProgress.{of_called, of_outcome, of_swept}
@@ -24,13 +24,13 @@ use Rattle.run_places.specs.Given.RawDeclared.machines.answer.End.TheVariants as
 use Rattle.run_places.specs.Given.RawDeclared.machines.call.Calling.TheVariants as at
 use Rattle.run_places.specs.Given.RawDeclared.machines.call.KeyCall.{KeyCall}
 use Rattle.run_places.specs.Given.RawDeclared.machines.progress.Progress.{Progress}
-use Rattle.run_places.specs.Given.SchedulesDeclared.effect.Effect.{Effect}
-use Rattle.run_places.specs.Given.SchedulesDeclared.effect.Effect.TheVariants as effect
-use Rattle.run_places.specs.Given.SchedulesDeclared.effect.Table.{Table as TableTurn}
-use Rattle.run_places.specs.Given.SchedulesDeclared.effect.Thing.{Thing}
+use Rattle.run_places.specs.Given.RunsDeclared.effect.Effect.{Effect}
+use Rattle.run_places.specs.Given.RunsDeclared.effect.Effect.TheVariants as effect
+use Rattle.run_places.specs.Given.RunsDeclared.effect.Table.{Table as TableTurn}
+use Rattle.run_places.specs.Given.RunsDeclared.effect.Thing.{Thing}
 use Rattle.run_places.specs.Given.SchedulesMoment.{Moment}
 use Rattle.run_places.specs.Given.TellerTells.{StepsTold}
-use Rattle.run_places.specs.Given.TellerDeclared.changed.Changed.TheVariants as changed
+use Rattle.run_places.specs.Given.EffectsDeclared.changed.Changed.TheVariants as changed
 use Rattle.run_places.specs.Given.TablesChunks.{is_incremental}
 use Rattle.owner_facts.specs.Given.PointsTold.{IsRowOfCopier}
 use Rattle.owner_facts.proofs.Given.PointsSteps.RootSteps.{is_promoting}

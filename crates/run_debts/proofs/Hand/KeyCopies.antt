@@ -16,11 +16,11 @@ use Rattle.run_places.specs.Given.RawDeclared.machines.call.KeyCall.{KeyCall}
 use Rattle.run_places.specs.Given.RawDeclared.machines.machine.Machine.{Machine}
 use Rattle.run_places.specs.Given.RawDeclared.machines.machine.Machine.TheVariants as kinds
 use Rattle.run_places.specs.Given.RawDeclared.machines.progress.Progress.{Progress}
-use Rattle.run_places.specs.Given.SchedulesDeclared.effect.Effect.{Effect}
+use Rattle.run_places.specs.Given.RunsDeclared.effect.Effect.{Effect}
 use Rattle.run_places.specs.Given.SchedulesMoment.{Moment}
 use Rattle.run_places.specs.Given.TellerTells.{StepsTold}
-use Rattle.run_places.specs.Given.TellerDeclared.changed.Changed.{Changed}
-use Rattle.run_places.specs.Given.TellerDeclared.changed.Changed.TheVariants as changed
+use Rattle.run_places.specs.Given.EffectsDeclared.changed.Changed.{Changed}
+use Rattle.run_places.specs.Given.EffectsDeclared.changed.Changed.TheVariants as changed
 use Rattle.run_places.specs.Given.RuleWords.{Blocks}
 use Rattle.owner_facts.specs.Given.PointsFactsCalls.{IsCopying, CallingFacts}
 use Rattle.owner_facts.specs.Given.PointsTold.{IsRowOfCopier, IsRowOfCall}

@@ -8,13 +8,13 @@ use Rattle.run_places.specs.Given.ResizeDeclared.copier.Copying.{Copying}
 use Rattle.run_places.specs.Given.ResizeDeclared.copier.Copying.TheVariants as copying
 use Rattle.run_places.specs.Given.ReservesDeclared.reserve.Reserving.{Reserving}
 use Rattle.run_places.specs.Given.ReservesDeclared.reserve.Reserving.TheVariants as reserving
-use Rattle.run_places.specs.Given.SweepsDeclared.sweep.Sweeping.{Sweeping}
-use Rattle.run_places.specs.Given.SweepsDeclared.sweep.Sweeping.TheVariants as sweeping
+use Rattle.run_places.specs.Given.ReservesDeclared.sweep.Sweeping.{Sweeping}
+use Rattle.run_places.specs.Given.ReservesDeclared.sweep.Sweeping.TheVariants as sweeping
 use Rattle.run_places.specs.Given.RawDeclared.machines.call.Calling.{Calling}
 use Rattle.run_places.specs.Given.RawDeclared.machines.call.Calling.TheVariants as calling
 use Rattle.run_places.specs.Given.RawDeclared.machines.machine.Machine.{Machine}
 use Rattle.run_places.specs.Given.RawDeclared.machines.machine.Machine.TheVariants as kinds
-use Rattle.run_places.specs.Given.SchedulesDeclared.effect.Thing.{Thing}
+use Rattle.run_places.specs.Given.RunsDeclared.effect.Thing.{Thing}
 use Rattle.run_places.specs.Given.EffectsKnown.{Known}
 use Rattle.run_places.specs.Given.EffectsDeclared.role.Role.{Role}
 use Rattle.run_places.specs.Given.EffectsDeclared.role.Role.TheVariants as role

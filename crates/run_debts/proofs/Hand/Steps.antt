@@ -9,10 +9,10 @@ use Rattle.run_places.specs.Given.RawMachine.{called as of_key, reserved as of_r
 use Rattle.run_places.specs.Given.RawDeclared.machines.machine.Machine.{Machine}
 use Rattle.run_places.specs.Given.RawDeclared.machines.machine.Machine.TheVariants as kinds
 use Rattle.run_places.specs.Given.RawDeclared.machines.progress.Progress.{Progress}
-use Rattle.run_places.specs.Given.SchedulesDeclared.effect.Effect.{Effect}
+use Rattle.run_places.specs.Given.RunsDeclared.effect.Effect.{Effect}
 use Rattle.run_places.specs.Given.SchedulesMoment.{Moment}
-use Rattle.run_places.specs.Given.TellerDeclared.changed.Changed.{Changed}
-use Rattle.run_places.specs.Given.TellerDeclared.changed.Changed.TheVariants as changed
+use Rattle.run_places.specs.Given.EffectsDeclared.changed.Changed.{Changed}
+use Rattle.run_places.specs.Given.EffectsDeclared.changed.Changed.TheVariants as changed
 use Rattle.run_places.proofs.Given.RuleKeys.Always.{always_steps}
 use Rattle.owner_facts.specs.Given.CallersOverAll.{CallOverAll}
 use Rattle.owner_facts.specs.Given.CallersRooms.{CallForRoom}

@@ -16,26 +16,26 @@ use Rattle.run_places.specs.Given.ResizeDeclared.dispose.Dispose.{Dispose}
 use Rattle.run_places.specs.Given.SweepsSweep as sweeps
 use Rattle.run_places.specs.Given.SweepsSweep.{sweep_plan}
 use Rattle.run_places.specs.Given.SweepsSweepPoints as points
-use Rattle.run_places.specs.Given.SweepsDeclared.sweep.Purpose.{Purpose}
-use Rattle.run_places.specs.Given.SweepsDeclared.sweep.Purpose.TheVariants.{Walks, Clears, Retains}
-use Rattle.run_places.specs.Given.SweepsDeclared.sweep.Sweep.{Sweep}
-use Rattle.run_places.specs.Given.SweepsDeclared.sweep.Sweeping.{Sweeping}
-use Rattle.run_places.specs.Given.SweepsDeclared.sweep.Sweeping.TheVariants as sweeping
-use Rattle.run_places.specs.Given.SweepsDeclared.sweep.Swept.{Swept}
-use Rattle.run_places.specs.Given.SweepsDeclared.sweep.Swept.TheVariants as swept
+use Rattle.run_places.specs.Given.ReservesDeclared.sweep.Purpose.{Purpose}
+use Rattle.run_places.specs.Given.ReservesDeclared.sweep.Purpose.TheVariants.{Walks, Clears, Retains}
+use Rattle.run_places.specs.Given.ReservesDeclared.sweep.Sweep.{Sweep}
+use Rattle.run_places.specs.Given.ReservesDeclared.sweep.Sweeping.{Sweeping}
+use Rattle.run_places.specs.Given.ReservesDeclared.sweep.Sweeping.TheVariants as sweeping
+use Rattle.run_places.specs.Given.ReservesDeclared.sweep.Swept.{Swept}
+use Rattle.run_places.specs.Given.ReservesDeclared.sweep.Swept.TheVariants as swept
 use Rattle.run_places.specs.Given.RawMachine.{swept as of_sweep}
 use Rattle.run_places.specs.Given.RawProgress.{of_swept}
 use Rattle.run_places.specs.Given.RawDeclared.machines.machine.Machine.{Machine}
 use Rattle.run_places.specs.Given.RawDeclared.machines.machine.Machine.TheVariants as kinds
 use Rattle.run_places.specs.Given.RawDeclared.machines.progress.Progress.{Progress}
-use Rattle.run_places.specs.Given.SchedulesDeclared.effect.Effect.{Effect}
-use Rattle.run_places.specs.Given.SchedulesDeclared.effect.Effect.TheVariants as effect
-use Rattle.run_places.specs.Given.SchedulesDeclared.effect.Thing.{Thing}
-use Rattle.run_places.specs.Given.SchedulesDeclared.effect.Thing.TheVariants.{APair}
+use Rattle.run_places.specs.Given.RunsDeclared.effect.Effect.{Effect}
+use Rattle.run_places.specs.Given.RunsDeclared.effect.Effect.TheVariants as effect
+use Rattle.run_places.specs.Given.RunsDeclared.effect.Thing.{Thing}
+use Rattle.run_places.specs.Given.RunsDeclared.effect.Thing.TheVariants.{APair}
 use Rattle.run_places.specs.Given.SchedulesMoment.{Moment}
 use Rattle.run_places.specs.Given.TellerTells.{StepsTold}
-use Rattle.run_places.specs.Given.TellerDeclared.changed.Changed.{Changed}
-use Rattle.run_places.specs.Given.TellerDeclared.changed.Changed.TheVariants as changed
+use Rattle.run_places.specs.Given.EffectsDeclared.changed.Changed.{Changed}
+use Rattle.run_places.specs.Given.EffectsDeclared.changed.Changed.TheVariants as changed
 use Rattle.run_places.specs.Given.RuleWords.{Blocks}
 use Rattle.run_places.proofs.Given.RuleKeys.Always.{Always, AlwaysOf, always_if, always_steps}
 use Rattle.owner_facts.specs.Given.LateFactsSweeps.{SweepingFacts}

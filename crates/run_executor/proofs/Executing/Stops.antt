@@ -3,8 +3,8 @@ use Rattle.std.specs.Prelude.{◌≡◌, ℕ, Bool, true, false, Option, Some, N
 use Rattle.std.proofs.Common.{refl, sym, ap, subst, ◌∙◌}
 use Rattle.seize.specs.World.{Rests, with_at}
 use Rattle.run_effects.proofs.Given.SeizeRuleRows.Leaving.{with_same}
-use Rattle.papaya_raw.specs.Given.SweepsDeclared.sweep.Sweeping.{Sweeping}
-use Rattle.papaya_raw.specs.Given.SweepsDeclared.sweep.Sweeping.TheVariants as sweeping
+use Rattle.papaya_raw.specs.Given.ReservesDeclared.sweep.Sweeping.{Sweeping}
+use Rattle.papaya_raw.specs.Given.ReservesDeclared.sweep.Sweeping.TheVariants as sweeping
 use Rattle.papaya_raw.specs.Machine.{machine_asked, is_ready}
 use Rattle.papaya_raw.specs.declared.machines.machine.Machine.{Machine}
 use Rattle.run_shows.proofs.Given.CallersTogether.Slots.{alike_same}

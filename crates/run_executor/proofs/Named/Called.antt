@@ -5,7 +5,7 @@ use Rattle.papaya_raw.specs.Given.ReservesReserve.{reserving}
 use Rattle.run_effects.specs.Given.ResizeSum.{summing}
 use Rattle.run_effects.specs.Given.RuleMaps.{IsClass}
 use Rattle.run_shows.specs.Given.PointsSteps.{AreLawful}
-use Rattle.papaya_raw.specs.Given.SweepsDeclared.sweep.Purpose.TheVariants.{Walks, Clears, Retains}
+use Rattle.papaya_raw.specs.Given.ReservesDeclared.sweep.Purpose.TheVariants.{Walks, Clears, Retains}
 use Rattle.run_schedules.specs.Schedules.Sequential.{key_of}
 use Rattle.run_schedules.specs.declared.call.Call.{Call}
 use Rattle.run_schedules.specs.declared.call.Call.TheVariants.{On, Reserve, Clear, Retain, Len, Walk}

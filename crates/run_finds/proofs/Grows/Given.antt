@@ -13,11 +13,11 @@ use Rattle.run_executor.specs.Given.RawDeclared.machines.asking.Told.TheVariants
 use Rattle.run_executor.specs.Given.RawDeclared.machines.call.Calling.{Calling}
 use Rattle.run_executor.specs.Given.RawDeclared.machines.call.Calling.TheVariants as at
 use Rattle.run_executor.specs.Given.RawDeclared.machines.call.KeyCall.{KeyCall}
-use Rattle.run_executor.specs.Given.SchedulesDeclared.call.Call.{Call}
-use Rattle.run_executor.specs.Given.SchedulesDeclared.call.Call.TheVariants as call
-use Rattle.run_executor.specs.Given.SchedulesDeclared.call.OneKey.{OneKey}
-use Rattle.run_executor.specs.Given.SchedulesDeclared.call.OneKey.TheVariants.{Get, GetKeyValue, ContainsKey, Insert, TryInsert, TryInsertWith, GetOrInsert, GetOrInsertWith, Update, UpdateOrInsert, UpdateOrInsertWith, Compute, Remove, RemoveEntry, RemoveIf}
-use Rattle.run_executor.specs.Given.SchedulesDeclared.call.Reply.{Reply}
+use Rattle.run_executor.specs.Given.RunsDeclared.call.Call.{Call}
+use Rattle.run_executor.specs.Given.RunsDeclared.call.Call.TheVariants as call
+use Rattle.run_executor.specs.Given.RunsDeclared.call.OneKey.{OneKey}
+use Rattle.run_executor.specs.Given.RunsDeclared.call.OneKey.TheVariants.{Get, GetKeyValue, ContainsKey, Insert, TryInsert, TryInsertWith, GetOrInsert, GetOrInsertWith, Update, UpdateOrInsert, UpdateOrInsertWith, Compute, Remove, RemoveEntry, RemoveIf}
+use Rattle.run_executor.specs.Given.RunsDeclared.call.Reply.{Reply}
 use Rattle.run_executor.specs.Given.SchedulesGrowing.{has_value_for}
 use Rattle.run_executor.specs.Given.SchedulesMoment.{UnderWay as CallThere}
 use Rattle.run_executor.specs.Given.SchedulesSequential.{has_value}

@@ -63,8 +63,8 @@ use Rattle.run_executor.specs.Given.RawDeclared.machines.call.Calling.TheVariant
 use Rattle.run_executor.specs.Given.RawDeclared.machines.call.KeyCall.{KeyCall}
 use Rattle.run_executor.proofs.Given.RuleKeys.Always.{Always, AlwaysOf, always_if, always_ends, always_plan_as, always_steps}
 use Rattle.run_executor.specs.Given.TellerTells.{StepsTold}
-use Rattle.run_executor.specs.Given.TellerDeclared.changed.Changed.{Changed}
-use Rattle.run_executor.specs.Given.TellerDeclared.changed.Changed.TheVariants as changes
+use Rattle.run_executor.specs.Given.EffectsDeclared.changed.Changed.{Changed}
+use Rattle.run_executor.specs.Given.EffectsDeclared.changed.Changed.TheVariants as changes
 use Rattle.run_finds.specs.Growing.{HasForNone, GrowsAt}
 use Rattle.run_finds.proofs.Shaping.{always_plan_more, FirstGoes, first_goes, first_begun, NextGoes, next_goes, next_begun}
 use Rattle.run_finds.proofs.Grown.{number_is}

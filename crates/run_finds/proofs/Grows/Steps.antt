@@ -14,15 +14,15 @@ use Rattle.run_executor.specs.Given.ReservesReserve.{reserve_plan}
 use Rattle.run_blocks.specs.Given.ResizeSum.{sum_plan}
 use Rattle.run_blocks.specs.Given.ResizeDeclared.new_table.NewTable.{NewTable}
 use Rattle.run_executor.specs.Given.SweepsSweep.{sweep_plan}
-use Rattle.run_executor.specs.Given.SchedulesDeclared.effect.Effect.{Effect}
+use Rattle.run_executor.specs.Given.RunsDeclared.effect.Effect.{Effect}
 use Rattle.run_executor.specs.Given.SchedulesEffects.{with_effect, with_effects}
 use Rattle.run_executor.specs.Given.SchedulesGrowing.{has_value_for}
 use Rattle.run_executor.specs.Given.SchedulesMoment.{UnderWay as CallThere, Moment}
 use Rattle.run_executor.specs.Given.SchedulesTerms.{Terms}
 use Rattle.run_executor.specs.Given.SchedulesViews.{call_of}
 use Rattle.run_executor.specs.Given.TellerTells.{StepsTold}
-use Rattle.run_executor.specs.Given.TellerDeclared.changed.Changed.{Changed}
-use Rattle.run_executor.specs.Given.TellerDeclared.changed.Changed.TheVariants as changed
+use Rattle.run_executor.specs.Given.EffectsDeclared.changed.Changed.{Changed}
+use Rattle.run_executor.specs.Given.EffectsDeclared.changed.Changed.TheVariants as changed
 use Rattle.run_executor.specs.Given.PointsFactsCalls.{IsCopying}
 use Rattle.run_executor.specs.Given.CallersSights.{seen_by}
 use Rattle.run_executor.specs.Given.CallersTogether.{CallOnKey, UnderWay, OnKey, ForRoom, Counting, OverAll, Together}

@@ -4,9 +4,9 @@ use Rattle.std.specs.List.{list_any}
 use Rattle.std.proofs.Common.{refl, ap, sym, subst, ◌∙◌, arith, inl, inr}
 use Rattle.std.proofs.lemmas.Bool.{cases_eq, or_left, or_right, le-ltb}
 use Rattle.run_executor.specs.Given.RunsSame.{is_same}
-use Rattle.run_executor.specs.Given.SchedulesDeclared.effect.Table.{Table}
-use Rattle.run_executor.specs.Given.SchedulesDeclared.effect.Thing.{Thing}
-use Rattle.run_executor.specs.Given.SchedulesDeclared.effect.Thing.TheVariants.{APair, ATable}
+use Rattle.run_executor.specs.Given.RunsDeclared.effect.Table.{Table}
+use Rattle.run_executor.specs.Given.RunsDeclared.effect.Thing.{Thing}
+use Rattle.run_executor.specs.Given.RunsDeclared.effect.Thing.TheVariants.{APair, ATable}
 use Rattle.run_executor.specs.Given.SchedulesEffects.{passed}
 use Rattle.run_executor.specs.Given.SchedulesLists.{is_in, without_one}
 use Rattle.run_executor.specs.Given.SchedulesMoment.{UnderWay}

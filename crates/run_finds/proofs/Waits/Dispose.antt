@@ -25,8 +25,8 @@ use Rattle.run_blocks.specs.Given.ResizeDeclared.dispose.Disposing.TheVariants a
 use Rattle.run_executor.specs.Given.PointsTold.{IsRowOf}
 use Rattle.run_executor.proofs.Given.RuleKeys.Always.{Always, AlwaysOf, always_if, always_plan_as, always_steps}
 use Rattle.run_executor.specs.Given.TellerTells.{StepsTold, ToldAs}
-use Rattle.run_executor.specs.Given.TellerDeclared.changed.Changed.{Changed}
-use Rattle.run_executor.specs.Given.TellerDeclared.changed.Changed.TheVariants as changed
+use Rattle.run_executor.specs.Given.EffectsDeclared.changed.Changed.{Changed}
+use Rattle.run_executor.specs.Given.EffectsDeclared.changed.Changed.TheVariants as changed
 use Rattle.run_blocks.specs.Given.SettlesInHand.{pair_in_disposing}
 use Rattle.run_finds.specs.Waits.{waits_in_disposing, waits_of}
 use Rattle.run_executor.proofs.Given.ScenesTold.{as_step}

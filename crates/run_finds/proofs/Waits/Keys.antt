@@ -57,8 +57,8 @@ use Rattle.run_executor.specs.Given.RawDeclared.machines.call.Calling.TheVariant
 use Rattle.run_executor.specs.Given.RawDeclared.machines.call.KeyCall.{KeyCall}
 use Rattle.run_executor.proofs.Given.RuleKeys.Always.{Always, AlwaysOf, always_if, always_ends, always_plan_as, always_steps}
 use Rattle.run_executor.specs.Given.TellerTells.{StepsTold, ToldAs}
-use Rattle.run_executor.specs.Given.TellerDeclared.changed.Changed.{Changed}
-use Rattle.run_executor.specs.Given.TellerDeclared.changed.Changed.TheVariants as changes
+use Rattle.run_executor.specs.Given.EffectsDeclared.changed.Changed.{Changed}
+use Rattle.run_executor.specs.Given.EffectsDeclared.changed.Changed.TheVariants as changes
 use Rattle.run_executor.specs.Given.PointsFactsCalls.{IsCopying}
 use Rattle.run_executor.specs.Given.PointsTold.{IsRowOfCall}
 use Rattle.run_executor.proofs.Given.OthersOutcomes.{told_in}

@@ -15,11 +15,11 @@ use Rattle.run_blocks.specs.Given.TablesDeclared.table.Table.{Table}
 use Rattle.run_blocks.specs.Given.ResizeDispose.{retires, start_of, disposing}
 use Rattle.run_blocks.specs.Given.ResizeDeclared.dispose.Dispose.{Dispose}
 use Rattle.run_blocks.specs.Given.ResizeDeclared.dispose.Disposing.TheVariants as at
-use Rattle.run_executor.specs.Given.SchedulesDeclared.effect.Spot.{Spot}
+use Rattle.run_executor.specs.Given.RunsDeclared.effect.Spot.{Spot}
 use Rattle.run_executor.specs.Given.SchedulesMoment.{Moment}
 use Rattle.run_executor.specs.Given.SchedulesViews.{first_of, map_at, grows_in_chunks}
-use Rattle.run_executor.specs.Given.TellerDeclared.changed.Changed.{Changed}
-use Rattle.run_executor.specs.Given.TellerDeclared.changed.Changed.TheVariants as changed
+use Rattle.run_executor.specs.Given.EffectsDeclared.changed.Changed.{Changed}
+use Rattle.run_executor.specs.Given.EffectsDeclared.changed.Changed.TheVariants as changed
 use Rattle.run_executor.specs.Given.TellsTells.{place_at}
 use Rattle.run_executor.specs.Given.RuleChart.{Still, Holds, Chart}
 use Rattle.run_executor.specs.Given.RuleMaps.{IsTable}

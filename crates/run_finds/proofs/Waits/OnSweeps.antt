@@ -3,20 +3,20 @@ use Rattle.std.specs.Prelude.{◌≡◌, ℕ, Bool, List, [], ◌∷◌, Some, N
 use Rattle.std.proofs.Common.{ap, sym, subst, ◌∙◌, inl, inr}
 use Rattle.run_blocks.specs.Given.TablesDeclared.node.Node.{Node}
 use Rattle.run_executor.specs.Given.SweepsSweep.{sweep_plan}
-use Rattle.run_executor.specs.Given.SweepsDeclared.sweep.Sweep.{Sweep}
-use Rattle.run_executor.specs.Given.SweepsDeclared.sweep.Swept.{Swept}
+use Rattle.run_executor.specs.Given.ReservesDeclared.sweep.Sweep.{Sweep}
+use Rattle.run_executor.specs.Given.ReservesDeclared.sweep.Swept.{Swept}
 use Rattle.run_executor.specs.Given.RawMachine.{swept as of_sweep}
 use Rattle.run_executor.specs.Given.RawDeclared.machines.machine.Machine.{Machine}
 use Rattle.run_executor.specs.Given.RawDeclared.machines.machine.Machine.TheVariants as kinds
 use Rattle.run_executor.specs.Given.RawDeclared.machines.progress.Progress.{Progress}
-use Rattle.run_executor.specs.Given.SchedulesDeclared.effect.Effect.{Effect}
-use Rattle.run_executor.specs.Given.SchedulesDeclared.effect.Thing.{Thing}
-use Rattle.run_executor.specs.Given.SchedulesDeclared.effect.Thing.TheVariants.{APair}
+use Rattle.run_executor.specs.Given.RunsDeclared.effect.Effect.{Effect}
+use Rattle.run_executor.specs.Given.RunsDeclared.effect.Thing.{Thing}
+use Rattle.run_executor.specs.Given.RunsDeclared.effect.Thing.TheVariants.{APair}
 use Rattle.run_executor.specs.Given.SchedulesEffects.{with_effects}
 use Rattle.run_executor.specs.Given.SchedulesMoment.{Moment}
 use Rattle.run_executor.specs.Given.TellerTells.{StepsTold}
-use Rattle.run_executor.specs.Given.TellerDeclared.changed.Changed.{Changed}
-use Rattle.run_executor.specs.Given.TellerDeclared.changed.Changed.TheVariants as changed
+use Rattle.run_executor.specs.Given.EffectsDeclared.changed.Changed.{Changed}
+use Rattle.run_executor.specs.Given.EffectsDeclared.changed.Changed.TheVariants as changed
 use Rattle.run_executor.specs.Given.RuleWords.{Blocks}
 use Rattle.run_executor.specs.Given.CallersOverAll.{CallOverAll}
 use Rattle.run_executor.specs.Given.CallersSights.{seen_by}
@@ -40,7 +40,7 @@ use Rattle.run_finds.proofs.Waits.Sweeps.{SweepWaits, SweptNone, SweptAlike, Swe
 use Rattle.run_finds.proofs.Waits.Taken.{TookPair, took_pair}
 use Rattle.run_finds.proofs.Waits.Calls.{before, lay, lies_then, past_then, took_then, row_takes_none}
 use Rattle.run_executor.specs.Given.LateToldSweeps.{IsRowOfSweep}
-use Rattle.run_executor.specs.Given.SweepsDeclared.sweep.Sweeping.TheVariants as sweeping
+use Rattle.run_executor.specs.Given.ReservesDeclared.sweep.Sweeping.TheVariants as sweeping
 use Rattle.run_blocks.specs.Given.ResizeDeclared.copier.Copier.{Copier}
 use Rattle.run_blocks.specs.Given.TablesDeclared.marks.TheConstants.{TOMBSTONE}
 use Rattle.run_executor.specs.Given.ScenesHeld.{Held, IsAt}

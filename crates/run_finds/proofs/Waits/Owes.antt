@@ -3,14 +3,14 @@ use Rattle.std.specs.Prelude.{◌≡◌, ℕ, ◌==◌, List, [], ◌∷◌, ◌
 use Rattle.std.proofs.Common.{refl, ap, sym, subst, ◌∙◌, inl, inr, arith}
 use Rattle.std.proofs.lemmas.Bool.{eq-eqb}
 use Rattle.run_executor.specs.Given.SeizeWordsWord.{block_in}
-use Rattle.run_executor.specs.Given.SweepsDeclared.sweep.Sweeping.{Sweeping}
-use Rattle.run_executor.specs.Given.SweepsDeclared.sweep.Sweeping.TheVariants as sweeping
+use Rattle.run_executor.specs.Given.ReservesDeclared.sweep.Sweeping.{Sweeping}
+use Rattle.run_executor.specs.Given.ReservesDeclared.sweep.Sweeping.TheVariants as sweeping
 use Rattle.run_blocks.specs.Given.ResizeDeclared.copier.Copier.{Copier}
 use Rattle.run_executor.specs.Given.RawDeclared.machines.call.Calling.{Calling}
 use Rattle.run_executor.specs.Given.RawDeclared.machines.call.Calling.TheVariants as calling
-use Rattle.run_executor.specs.Given.SchedulesDeclared.effect.Effect.{Effect}
-use Rattle.run_executor.specs.Given.SchedulesDeclared.effect.Thing.{Thing}
-use Rattle.run_executor.specs.Given.SchedulesDeclared.effect.Thing.TheVariants.{APair}
+use Rattle.run_executor.specs.Given.RunsDeclared.effect.Effect.{Effect}
+use Rattle.run_executor.specs.Given.RunsDeclared.effect.Thing.{Thing}
+use Rattle.run_executor.specs.Given.RunsDeclared.effect.Thing.TheVariants.{APair}
 use Rattle.run_executor.specs.Given.SchedulesEffects.{passed}
 use Rattle.run_executor.specs.Given.SchedulesMoment.{Moment}
 use Rattle.run_executor.specs.Given.SchedulesViews.{first_of}

@@ -3,14 +3,14 @@ use Rattle.std.specs.Prelude.{◌≡◌, ℕ, Bool, List, Option, Some}
 use Rattle.std.proofs.Common.{refl, ap, sym, subst, ◌∙◌, inl, inr}
 use Rattle.run_blocks.specs.Given.TablesDeclared.node.Node.{Node}
 use Rattle.run_executor.specs.Given.SweepsSweep.{sweep_plan}
-use Rattle.run_executor.specs.Given.SweepsDeclared.sweep.Sweep.{Sweep}
+use Rattle.run_executor.specs.Given.ReservesDeclared.sweep.Sweep.{Sweep}
 use Rattle.run_executor.specs.Given.RawCall.{call_plan}
 use Rattle.run_executor.specs.Given.RawMachine.{called as of_key, swept as of_sweep, reserved as of_room, counted as of_sum}
 use Rattle.run_executor.specs.Given.RawDeclared.machines.call.KeyCall.{KeyCall}
 use Rattle.run_executor.specs.Given.RawDeclared.machines.machine.Machine.{Machine}
 use Rattle.run_executor.specs.Given.RawDeclared.machines.machine.Machine.TheVariants as kinds
 use Rattle.run_executor.specs.Given.RawDeclared.machines.progress.Progress.{Progress}
-use Rattle.run_executor.specs.Given.SchedulesDeclared.effect.Effect.{Effect}
+use Rattle.run_executor.specs.Given.RunsDeclared.effect.Effect.{Effect}
 use Rattle.run_executor.specs.Given.SchedulesEffects.{with_effects}
 use Rattle.run_executor.specs.Given.SchedulesMoment.{Moment}
 use Rattle.run_executor.specs.Given.RuleWords.{Blocks}

@@ -4,8 +4,8 @@ use Rattle.std.proofs.Common.{refl, ap, sym, subst, ◌∙◌, inl, inr}
 use Rattle.run_blocks.specs.Given.TablesDeclared.node.Node.{Node}
 use Rattle.run_executor.specs.Given.RawDeclared.machines.machine.Machine.{Machine}
 use Rattle.run_executor.specs.Given.RawDeclared.machines.progress.Progress.{Progress}
-use Rattle.run_executor.specs.Given.SchedulesDeclared.effect.Effect.{Effect}
-use Rattle.run_executor.specs.Given.SchedulesDeclared.effect.Thing.TheVariants.{APair}
+use Rattle.run_executor.specs.Given.RunsDeclared.effect.Effect.{Effect}
+use Rattle.run_executor.specs.Given.RunsDeclared.effect.Thing.TheVariants.{APair}
 use Rattle.run_executor.specs.Given.SchedulesEffects.{with_effects}
 use Rattle.run_executor.specs.Given.SchedulesMoment.{UnderWay as CallThere, Moment}
 use Rattle.run_executor.specs.Given.SchedulesViews.{call_of}

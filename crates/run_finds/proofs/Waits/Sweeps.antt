@@ -24,16 +24,16 @@ use Rattle.run_blocks.specs.Given.ResizeDeclared.outcome.Outcome.{Outcome}
 use Rattle.run_blocks.specs.Given.ResizeDeclared.outcome.Outcome.TheVariants as outcome
 use Rattle.run_executor.specs.Given.SweepsSweep as sweeps
 use Rattle.run_executor.specs.Given.SweepsSweepPoints as points
-use Rattle.run_executor.specs.Given.SweepsDeclared.sweep.Purpose.{Purpose}
-use Rattle.run_executor.specs.Given.SweepsDeclared.sweep.Purpose.TheVariants.{Walks, Clears, Retains}
-use Rattle.run_executor.specs.Given.SweepsDeclared.sweep.Sweep.{Sweep}
-use Rattle.run_executor.specs.Given.SweepsDeclared.sweep.Sweeping.{Sweeping}
-use Rattle.run_executor.specs.Given.SweepsDeclared.sweep.Sweeping.TheVariants as at
-use Rattle.run_executor.specs.Given.SweepsDeclared.sweep.Swept.{Swept}
+use Rattle.run_executor.specs.Given.ReservesDeclared.sweep.Purpose.{Purpose}
+use Rattle.run_executor.specs.Given.ReservesDeclared.sweep.Purpose.TheVariants.{Walks, Clears, Retains}
+use Rattle.run_executor.specs.Given.ReservesDeclared.sweep.Sweep.{Sweep}
+use Rattle.run_executor.specs.Given.ReservesDeclared.sweep.Sweeping.{Sweeping}
+use Rattle.run_executor.specs.Given.ReservesDeclared.sweep.Sweeping.TheVariants as at
+use Rattle.run_executor.specs.Given.ReservesDeclared.sweep.Swept.{Swept}
 use Rattle.run_executor.proofs.Given.RuleKeys.Always.{Always, AlwaysOf, always_if, always_plan_as, always_steps}
 use Rattle.run_executor.specs.Given.TellerTells.{StepsTold, ToldAs}
-use Rattle.run_executor.specs.Given.TellerDeclared.changed.Changed.{Changed}
-use Rattle.run_executor.specs.Given.TellerDeclared.changed.Changed.TheVariants as changes
+use Rattle.run_executor.specs.Given.EffectsDeclared.changed.Changed.{Changed}
+use Rattle.run_executor.specs.Given.EffectsDeclared.changed.Changed.TheVariants as changes
 use Rattle.run_executor.specs.Given.LateToldSweeps.{IsRowOfSweep}
 use Rattle.run_executor.proofs.Given.OthersOutcomes.{told_in}
 use Rattle.run_blocks.specs.Given.SettlesInHand.{pair_in_disposing, pair_in_sweeping}

@@ -8,12 +8,12 @@ use Rattle.run_executor.specs.Given.SeizeWorld.{World, IsInside}
 use Rattle.run_blocks.specs.Given.TablesChunks.{is_incremental}
 use Rattle.run_blocks.specs.Given.TablesDeclared.node.Node.{Node}
 use Rattle.run_blocks.specs.Given.TablesDeclared.setting.Setting.{Setting}
-use Rattle.run_executor.specs.Given.SchedulesDeclared.effect.Effect.{Effect}
-use Rattle.run_executor.specs.Given.SchedulesDeclared.effect.Effect.TheVariants as effect
-use Rattle.run_executor.specs.Given.SchedulesDeclared.effect.Spot.{Spot}
+use Rattle.run_executor.specs.Given.RunsDeclared.effect.Effect.{Effect}
+use Rattle.run_executor.specs.Given.RunsDeclared.effect.Effect.TheVariants as effect
+use Rattle.run_executor.specs.Given.RunsDeclared.effect.Spot.{Spot}
 use Rattle.run_executor.specs.Given.SchedulesMoment.{Moment}
-use Rattle.run_executor.specs.Given.TellerDeclared.changed.Changed.{Changed}
-use Rattle.run_executor.specs.Given.TellerDeclared.changed.Changed.TheVariants as changed
+use Rattle.run_executor.specs.Given.EffectsDeclared.changed.Changed.{Changed}
+use Rattle.run_executor.specs.Given.EffectsDeclared.changed.Changed.TheVariants as changed
 use Rattle.run_executor.specs.Given.TellsSeen.{Seen, Unseen, Wrote, seen_of}
 use Rattle.run_executor.specs.Given.TellsTells.{place_at, IsSeenAs, IsTold}
 use Rattle.run_executor.proofs.Given.TellsPromised.{operations_tell, still_steps_tell}

@@ -35,8 +35,8 @@ use Rattle.run_schedules.specs.Schedules.Lives.{IsMapsFirst, EventFinds}
 use Rattle.run_schedules.specs.Schedules.Moment.{MapThere, Moment}
 use Rattle.run_schedules.specs.Schedules.Views.{map_at, tables_of}
 use Rattle.run_executor.specs.Given.TellerTells.{StepsTold}
-use Rattle.run_executor.specs.Given.TellerDeclared.changed.Changed.{Changed}
-use Rattle.run_executor.specs.Given.TellerDeclared.changed.Changed.TheVariants as changed
+use Rattle.run_executor.specs.Given.EffectsDeclared.changed.Changed.{Changed}
+use Rattle.run_executor.specs.Given.EffectsDeclared.changed.Changed.TheVariants as changed
 use Rattle.run_executor.proofs.Given.RuleKeys.Always.{Always, AlwaysOf, always_steps}
 use Rattle.run_executor.specs.Given.RuleRule.{no_table}
 use Rattle.run_executor.specs.Given.CallersTogether.{no_blocks}

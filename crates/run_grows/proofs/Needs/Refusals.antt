@@ -19,8 +19,8 @@ use Rattle.run_logged.specs.Given.ResizeDeclared.new_map.Opening.TheVariants as 
 use Rattle.run_logged.specs.Given.ResizeDeclared.new_table.NewTable.{NewTable}
 use Rattle.run_schedules.specs.declared.effect.Effect.{Effect}
 use Rattle.run_executor.specs.Given.TellerTells.{StepsTold}
-use Rattle.run_executor.specs.Given.TellerDeclared.changed.Changed.{Changed}
-use Rattle.run_executor.specs.Given.TellerDeclared.changed.Changed.TheVariants as changed
+use Rattle.run_executor.specs.Given.EffectsDeclared.changed.Changed.{Changed}
+use Rattle.run_executor.specs.Given.EffectsDeclared.changed.Changed.TheVariants as changed
 use Rattle.run_executor.specs.Given.EffectsEffects.{effects_of}
 use Rattle.run_executor.specs.Given.EffectsKnown.{Known}
 use Rattle.run_executor.specs.Given.EffectsDeclared.acting.Acting.TheVariants as acts

@@ -26,7 +26,7 @@ use Rattle.papaya_raw.specs.declared.machines.progress.Progress.{Progress}
 use Rattle.papaya_raw.specs.declared.machines.progress.Progress.TheVariants as progress
 use Rattle.run_executor.proofs.Given.RuleKeys.Always.{always_steps}
 use Rattle.run_executor.specs.Given.LateKinds.{LooksAt}
-use Rattle.run_logged.specs.Given.TellerDeclared.changed.Changed.TheVariants.{Nothing}
+use Rattle.run_logged.specs.Given.EffectsDeclared.changed.Changed.TheVariants.{Nothing}
 use Rattle.run_logged.proofs.Given.WaitsLaws.{lookups_never_wait}
 use Rattle.run_logged.proofs.Given.WaitsNever.{Advances, sum_goes}
 use Rattle.run_logged.specs.Given.OwesLooking.{IsLooking}

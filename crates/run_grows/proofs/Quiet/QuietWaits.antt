@@ -41,8 +41,8 @@ use Rattle.papaya_raw.specs.declared.machines.call.Calling.{Calling}
 use Rattle.papaya_raw.specs.declared.machines.call.Calling.TheVariants as at
 use Rattle.papaya_raw.specs.declared.machines.call.KeyCall.{KeyCall}
 use Rattle.run_executor.specs.Given.PointsTold.{IsRowOf, IsRowOfCall, IsRowOfCopier}
-use Rattle.run_logged.specs.Given.TellerDeclared.changed.Changed.{Changed}
-use Rattle.run_logged.specs.Given.TellerDeclared.changed.Changed.TheVariants as changed
+use Rattle.run_logged.specs.Given.EffectsDeclared.changed.Changed.{Changed}
+use Rattle.run_logged.specs.Given.EffectsDeclared.changed.Changed.TheVariants as changed
 use Rattle.run_executor.proofs.Given.OthersOutcomes.{told_in}
 use Rattle.run_logged.proofs.Given.WaitsCallPlans.{Continues, ending_goes}
 use Rattle.run_logged.proofs.Given.OwesTables.Hosts.{Step}

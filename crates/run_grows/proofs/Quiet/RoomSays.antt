@@ -14,9 +14,9 @@ use Rattle.run_logged.specs.Given.ResizeDeclared.sum.Sum.{Sum}
 use Rattle.papaya_raw.specs.Given.ReservesReserve.{reserve_plan}
 use Rattle.papaya_raw.specs.Given.ReservesDeclared.reserve.Reserve.{Reserve}
 use Rattle.papaya_raw.specs.Given.SweepsSweep.{sweep_plan}
-use Rattle.papaya_raw.specs.Given.SweepsDeclared.sweep.Sweep.{Sweep}
-use Rattle.papaya_raw.specs.Given.SweepsDeclared.sweep.Swept.{Swept}
-use Rattle.papaya_raw.specs.Given.SweepsDeclared.sweep.Swept.TheVariants as ends
+use Rattle.papaya_raw.specs.Given.ReservesDeclared.sweep.Sweep.{Sweep}
+use Rattle.papaya_raw.specs.Given.ReservesDeclared.sweep.Swept.{Swept}
+use Rattle.papaya_raw.specs.Given.ReservesDeclared.sweep.Swept.TheVariants as ends
 use Rattle.papaya_raw.specs.Machine.{counted, reserved, swept}
 use Rattle.papaya_raw.specs.Progress.{of_outcome, of_swept}
 use Rattle.papaya_raw.specs.declared.machines.machine.Machine.{Machine}
@@ -26,7 +26,7 @@ use Rattle.papaya_raw.specs.declared.machines.progress.Progress.TheVariants as p
 use Rattle.run_executor.specs.Given.LateFaults.{IsRoom, RefusesRoom, RoomInReserving, RoomInSweeping, SweepRefusesRoom}
 use Rattle.run_executor.proofs.Given.LateKindsKept.Laws.{reserves_refuse_room, sweeps_refuse_room}
 use Rattle.run_executor.proofs.Given.LateKindsKept.Rooms.Making.{CountsOn, sum_counts}
-use Rattle.run_logged.specs.Given.TellerDeclared.changed.Changed.TheVariants.{Nothing}
+use Rattle.run_logged.specs.Given.EffectsDeclared.changed.Changed.TheVariants.{Nothing}
 use Rattle.run_logged.proofs.Given.HistoriesAsking.{always_told, always_turned}
 use Rattle.run_executor.specs.Named.Machines.{RefusedForRoom}
 use Rattle.run_executor.proofs.Given.ScenesTold.{as_step}

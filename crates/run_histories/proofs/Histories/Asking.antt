@@ -17,11 +17,11 @@ use Rattle.run_places.specs.Given.RawDeclared.machines.machine.Machine.{Machine}
 use Rattle.run_places.specs.Given.RawDeclared.machines.machine.Machine.TheVariants as kinds
 use Rattle.run_places.specs.Given.RawDeclared.machines.progress.Progress.{Progress}
 use Rattle.run_places.specs.Given.RawDeclared.machines.progress.Progress.TheVariants as progress
-use Rattle.run_places.specs.Given.SchedulesDeclared.call.Call.{Call}
+use Rattle.run_places.specs.Given.RunsDeclared.call.Call.{Call}
 use Rattle.run_places.proofs.Given.RuleKeys.Always.{Always, AlwaysOf, always_ends}
 use Rattle.run_places.specs.Given.TellerTells.{StepsTold}
-use Rattle.run_places.specs.Given.TellerDeclared.changed.Changed.{Changed}
-use Rattle.run_places.specs.Given.TellerDeclared.changed.Changed.TheVariants.{Nothing}
+use Rattle.run_places.specs.Given.EffectsDeclared.changed.Changed.{Changed}
+use Rattle.run_places.specs.Given.EffectsDeclared.changed.Changed.TheVariants.{Nothing}
 use Rattle.run_places.specs.Given.CallersTogether.{CallOnKey, UnderWay, OnKey, ForRoom, Counting, OverAll}
 use Rattle.run_places.specs.Given.EffectsKnown.{Known}
 use Rattle.run_places.specs.Given.FinishesMachines.{machine_of}

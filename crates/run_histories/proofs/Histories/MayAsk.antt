@@ -9,9 +9,9 @@ use Rattle.run_places.specs.Given.RawDeclared.machines.asking.Asking.TheVariants
 use Rattle.run_places.specs.Given.RawDeclared.machines.asking.Gap.{Gap}
 use Rattle.run_places.specs.Given.RawDeclared.machines.call.Calling.{Calling}
 use Rattle.run_places.specs.Given.RawDeclared.machines.call.Calling.TheVariants as at
-use Rattle.run_places.specs.Given.SchedulesDeclared.call.Call.{Call}
-use Rattle.run_places.specs.Given.SchedulesDeclared.call.Call.TheVariants.{On}
-use Rattle.run_places.specs.Given.SchedulesDeclared.call.OneKey.{OneKey}
+use Rattle.run_places.specs.Given.RunsDeclared.call.Call.{Call}
+use Rattle.run_places.specs.Given.RunsDeclared.call.Call.TheVariants.{On}
+use Rattle.run_places.specs.Given.RunsDeclared.call.OneKey.{OneKey}
 use Rattle.run_places.specs.Given.SchedulesLinearizable.{there_for, MayAsk}
 use Rattle.run_places.specs.Given.SchedulesLists.{OneOf, is_in}
 use Rattle.run_places.specs.Given.SchedulesMoment.{UnderWay as CallThere, Moment}

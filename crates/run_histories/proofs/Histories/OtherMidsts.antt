@@ -5,9 +5,9 @@ use Rattle.std.proofs.lemmas.Grind.{flat_map-append}
 use Rattle.run_places.specs.Given.SeizeWorld.{with_at}
 use Rattle.run_places.specs.Given.TablesDeclared.node.Node.{Node}
 use Rattle.run_places.specs.Given.RawDeclared.machines.progress.Progress.{Progress}
-use Rattle.run_places.specs.Given.SchedulesDeclared.call.Call.{Call}
-use Rattle.run_places.specs.Given.SchedulesDeclared.call.Call.TheVariants as call
-use Rattle.run_places.specs.Given.SchedulesDeclared.effect.Effect.{Effect}
+use Rattle.run_places.specs.Given.RunsDeclared.call.Call.{Call}
+use Rattle.run_places.specs.Given.RunsDeclared.call.Call.TheVariants as call
+use Rattle.run_places.specs.Given.RunsDeclared.effect.Effect.{Effect}
 use Rattle.run_places.specs.Given.SchedulesEffects.{with_effects}
 use Rattle.run_places.specs.Given.SchedulesLinearizable.{shift_of, RemovesOnly}
 use Rattle.run_places.specs.Given.SchedulesMoment.{UnderWay as CallThere, Moment}

@@ -9,10 +9,10 @@ use Rattle.run_places.specs.Given.RawDeclared.machines.answer.KeyAnswer.TheVaria
 use Rattle.run_places.specs.Given.RawDeclared.machines.progress.Answer.TheVariants.{Key}
 use Rattle.run_places.specs.Given.RawDeclared.machines.progress.Progress.{Progress}
 use Rattle.run_places.specs.Given.RawDeclared.machines.progress.Progress.TheVariants.{Done}
-use Rattle.run_places.specs.Given.SchedulesDeclared.call.Answer.{Answer}
-use Rattle.run_places.specs.Given.SchedulesDeclared.call.Call.TheVariants.{On}
-use Rattle.run_places.specs.Given.SchedulesDeclared.call.OneKey.{OneKey}
-use Rattle.run_places.specs.Given.SchedulesDeclared.call.Reply.{Reply}
+use Rattle.run_places.specs.Given.RunsDeclared.call.Answer.{Answer}
+use Rattle.run_places.specs.Given.RunsDeclared.call.Call.TheVariants.{On}
+use Rattle.run_places.specs.Given.RunsDeclared.call.OneKey.{OneKey}
+use Rattle.run_places.specs.Given.RunsDeclared.call.Reply.{Reply}
 use Rattle.run_places.specs.Given.SchedulesMoment.{UnderWay as CallThere, Moment}
 use Rattle.run_places.specs.Given.SchedulesSequential.{Answers, Deed, Puts, Takes, means}
 use Rattle.run_places.specs.Given.SchedulesViews.{call_of, reply_to}

@@ -2,15 +2,15 @@
 use Rattle.std.specs.Prelude.{◌≡◌, ℕ, ◌+◌, Bool, true, false, cond, not, List, [], ◌∷◌, ◌++◌, filter, find, map, Option, Some, None, if◌then◌else◌}
 use Rattle.std.proofs.Common.{refl, ap, sym, subst, ◌∙◌}
 use Rattle.run_places.specs.Given.RunsSame.{is_same}
-use Rattle.run_places.specs.Given.SchedulesDeclared.call.Call.{Call}
-use Rattle.run_places.specs.Given.SchedulesDeclared.call.Call.TheVariants as call
-use Rattle.run_places.specs.Given.SchedulesDeclared.call.Reply.{Reply}
-use Rattle.run_places.specs.Given.SchedulesDeclared.effect.Effect.{Effect}
-use Rattle.run_places.specs.Given.SchedulesDeclared.effect.Effect.TheVariants as effect
-use Rattle.run_places.specs.Given.SchedulesDeclared.event.Event.{Event}
-use Rattle.run_places.specs.Given.SchedulesDeclared.event.Event.TheVariants as event
-use Rattle.run_places.specs.Given.SchedulesDeclared.outcome.Outcome.{Outcome}
-use Rattle.run_places.specs.Given.SchedulesDeclared.outcome.Outcome.TheVariants as outcome
+use Rattle.run_places.specs.Given.RunsDeclared.call.Call.{Call}
+use Rattle.run_places.specs.Given.RunsDeclared.call.Call.TheVariants as call
+use Rattle.run_places.specs.Given.RunsDeclared.call.Reply.{Reply}
+use Rattle.run_places.specs.Given.RunsDeclared.effect.Effect.{Effect}
+use Rattle.run_places.specs.Given.RunsDeclared.effect.Effect.TheVariants as effect
+use Rattle.run_places.specs.Given.RunsDeclared.event.Event.{Event}
+use Rattle.run_places.specs.Given.RunsDeclared.event.Event.TheVariants as event
+use Rattle.run_places.specs.Given.RunsDeclared.outcome.Outcome.{Outcome}
+use Rattle.run_places.specs.Given.RunsDeclared.outcome.Outcome.TheVariants as outcome
 use Rattle.run_places.specs.Given.SchedulesAfter.{asks_on, comes_to, without_call, stepped, replied, calls_on, moment}
 use Rattle.run_places.specs.Given.SchedulesBeginning.{fresh_call, with_call, begun, at_work}
 use Rattle.run_places.specs.Given.SchedulesEffects.{due_for, call_by, calls_by, with_effect, with_effects, worked}

@@ -9,9 +9,9 @@ use Rattle.run_places.specs.Given.RawDeclared.machines.answer.Called.{Called}
 use Rattle.run_places.specs.Given.RawDeclared.machines.answer.Called.TheVariants as called
 use Rattle.run_places.specs.Given.RawDeclared.machines.progress.Progress.{Progress}
 use Rattle.run_places.specs.Given.RawDeclared.machines.progress.Progress.TheVariants.{Refused}
-use Rattle.run_places.specs.Given.SchedulesDeclared.call.Call.{Call}
-use Rattle.run_places.specs.Given.SchedulesDeclared.call.Call.TheVariants.{On}
-use Rattle.run_places.specs.Given.SchedulesDeclared.call.OneKey.{OneKey}
+use Rattle.run_places.specs.Given.RunsDeclared.call.Call.{Call}
+use Rattle.run_places.specs.Given.RunsDeclared.call.Call.TheVariants.{On}
+use Rattle.run_places.specs.Given.RunsDeclared.call.OneKey.{OneKey}
 use Rattle.run_places.specs.Given.SchedulesLinearizable.{meaning_at}
 use Rattle.run_places.specs.Given.SchedulesLists.{OneOf}
 use Rattle.run_places.specs.Given.SchedulesMoment.{UnderWay as CallThere, Moment}

@@ -1,7 +1,7 @@
 -- A retaining asks about a pair that the map has at a moment of the call.
 use Rattle.std.specs.Prelude.{◌≡◌, ℕ, ◌≤◌, Bool, true, List, ◌∷◌, length, Option, Some, None, ◌⊎◌}
 use Rattle.std.proofs.Common.{refl, ap, sym, subst, ◌∙◌, arith, inl, inr}
-use Rattle.run_places.specs.Given.SweepsDeclared.sweep.Sweeping.TheVariants as at
+use Rattle.run_places.specs.Given.ReservesDeclared.sweep.Sweeping.TheVariants as at
 use Rattle.run_places.specs.Given.RunsLog.{pair_at, is_key}
 use Rattle.run_places.specs.Given.SchedulesLists.{OneOf}
 use Rattle.run_places.specs.Given.SchedulesMoment.{UnderWay as CallThere, Moment}

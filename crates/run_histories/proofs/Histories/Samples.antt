@@ -2,12 +2,12 @@
 use Rattle.std.specs.Prelude.{◌≡◌, ℕ, true, false, [], ◌∷◌, Some, None}
 use Rattle.std.proofs.Common.{refl, arith}
 use Rattle.run_places.specs.Given.SeizeWordsDeclared.fault.Fault.TheVariants.{Busy}
-use Rattle.run_places.specs.Given.SweepsDeclared.sweep.Purpose.TheVariants.{Clears}
+use Rattle.run_places.specs.Given.ReservesDeclared.sweep.Purpose.TheVariants.{Clears}
 use Rattle.run_places.specs.Given.RawDeclared.machines.progress.Progress.TheVariants as progress
-use Rattle.run_places.specs.Given.SchedulesDeclared.call.Answer.TheVariants as answer
-use Rattle.run_places.specs.Given.SchedulesDeclared.call.Call.TheVariants.{Len, Walk}
-use Rattle.run_places.specs.Given.SchedulesDeclared.call.Reply.TheVariants.{Decides}
-use Rattle.run_places.specs.Given.SchedulesDeclared.outcome.Outcome.TheVariants as outcome
+use Rattle.run_places.specs.Given.RunsDeclared.call.Answer.TheVariants as answer
+use Rattle.run_places.specs.Given.RunsDeclared.call.Call.TheVariants.{Len, Walk}
+use Rattle.run_places.specs.Given.RunsDeclared.call.Reply.TheVariants.{Decides}
+use Rattle.run_places.specs.Given.RunsDeclared.outcome.Outcome.TheVariants as outcome
 use Rattle.run_places.specs.Given.SchedulesBeginning.{fresh_call}
 use Rattle.run_places.specs.Given.SchedulesMoment.{Asking, Told, UnderWay as CallThere}
 use Rattle.run_places.specs.Given.CallersOverAll.{CallOverAll, verdict}

@@ -11,9 +11,9 @@ use Rattle.run_places.specs.Given.RawDeclared.machines.asking.Gap.{Gap}
 use Rattle.run_places.specs.Given.RawDeclared.machines.asking.Reply.{Reply as MachineReply}
 use Rattle.run_places.specs.Given.RawDeclared.machines.call.Calling.TheVariants as at
 use Rattle.run_places.specs.Given.RawDeclared.machines.call.KeyCall.{KeyCall}
-use Rattle.run_places.specs.Given.SchedulesDeclared.call.OneKey.{OneKey}
-use Rattle.run_places.specs.Given.SchedulesDeclared.call.OneKey.TheVariants.{Get, GetKeyValue, ContainsKey, Insert, TryInsert, TryInsertWith, GetOrInsert, GetOrInsertWith, Update, UpdateOrInsert, UpdateOrInsertWith, Compute, Remove, RemoveEntry, RemoveIf}
-use Rattle.run_places.specs.Given.SchedulesDeclared.call.Reply.{Reply}
+use Rattle.run_places.specs.Given.RunsDeclared.call.OneKey.{OneKey}
+use Rattle.run_places.specs.Given.RunsDeclared.call.OneKey.TheVariants.{Get, GetKeyValue, ContainsKey, Insert, TryInsert, TryInsertWith, GetOrInsert, GetOrInsertWith, Update, UpdateOrInsert, UpdateOrInsertWith, Compute, Remove, RemoveEntry, RemoveIf}
+use Rattle.run_places.specs.Given.RunsDeclared.call.Reply.{Reply}
 use Rattle.run_places.specs.Given.SchedulesLists.{is_in}
 use Rattle.run_places.specs.Given.SchedulesSequential.{Wants, means, asks_again}
 use Rattle.run_places.specs.Given.SchedulesThings.{same_question}

@@ -12,10 +12,10 @@ use Rattle.run_places.specs.Given.RunsPresent.{Present, guard_of, guards_on, slo
 use Rattle.run_places.specs.Given.RunsSame.{is_same}
 use Rattle.run_places.specs.Given.RunsDeclared.holders.Guard.{Guard}
 use Rattle.run_places.proofs.Given.RunsLaws.{same_tells, drops_counts}
-use Rattle.run_places.specs.Given.SchedulesDeclared.event.Event.{Event}
-use Rattle.run_places.specs.Given.SchedulesDeclared.event.Event.TheVariants.{Register, Unregister, Enter, Own, Refresh, DropGuard, Forget, ReclaimAll, Close}
-use Rattle.run_places.specs.Given.SchedulesDeclared.outcome.Outcome.{Outcome}
-use Rattle.run_places.specs.Given.SchedulesDeclared.outcome.Outcome.TheVariants.{Done, Slot}
+use Rattle.run_places.specs.Given.RunsDeclared.event.Event.{Event}
+use Rattle.run_places.specs.Given.RunsDeclared.event.Event.TheVariants.{Register, Unregister, Enter, Own, Refresh, DropGuard, Forget, ReclaimAll, Close}
+use Rattle.run_places.specs.Given.RunsDeclared.outcome.Outcome.{Outcome}
+use Rattle.run_places.specs.Given.RunsDeclared.outcome.Outcome.TheVariants.{Done, Slot}
 use Rattle.run_places.specs.Given.SchedulesAfter.{there_on, unsheltered, sheltered_on}
 use Rattle.run_places.specs.Given.SchedulesMoment.{Sheltered}
 use Rattle.run_places.specs.Given.EffectsKnown.{Known}

@@ -9,8 +9,8 @@ use Rattle.run_places.specs.Given.RunsPresent.{guard_of}
 use Rattle.run_places.specs.Given.RunsSame.{is_same}
 use Rattle.run_places.specs.Given.RunsDeclared.holders.Guard.{Guard}
 use Rattle.run_places.proofs.Given.RunsLaws.{same_tells}
-use Rattle.run_places.specs.Given.SchedulesDeclared.effect.Thing.{Thing}
-use Rattle.run_places.specs.Given.SchedulesDeclared.effect.Thing.TheVariants.{ATable}
+use Rattle.run_places.specs.Given.RunsDeclared.effect.Thing.{Thing}
+use Rattle.run_places.specs.Given.RunsDeclared.effect.Thing.TheVariants.{ATable}
 use Rattle.run_places.specs.Given.SchedulesEffects.{passed}
 use Rattle.run_places.specs.Given.SchedulesMoment.{Sheltered}
 

@@ -7,13 +7,13 @@ use Rattle.run_places.specs.Given.SeizeWordsDeclared.at.At.TheVariants.{Root, Us
 use Rattle.run_places.specs.Given.SeizeWorld.{World}
 use Rattle.run_places.specs.Given.TablesDeclared.node.Node.{Node}
 use Rattle.run_places.specs.Given.RunsPresent.{Present, slot_of_registration}
-use Rattle.run_places.specs.Given.SchedulesDeclared.call.Call.{Call}
-use Rattle.run_places.specs.Given.SchedulesDeclared.effect.Effect.{Effect}
-use Rattle.run_places.specs.Given.SchedulesDeclared.effect.Thing.{Thing}
-use Rattle.run_places.specs.Given.SchedulesDeclared.event.Event.{Event}
-use Rattle.run_places.specs.Given.SchedulesDeclared.event.Event.TheVariants.{Register, Unregister, Enter, Own, Refresh, Flush, DropGuard, Forget, ReclaimAll, Close, MakeMap, Begin, OneCall}
-use Rattle.run_places.specs.Given.SchedulesDeclared.outcome.Outcome.{Outcome}
-use Rattle.run_places.specs.Given.SchedulesDeclared.outcome.Outcome.TheVariants.{Done, Slot, Goes}
+use Rattle.run_places.specs.Given.RunsDeclared.call.Call.{Call}
+use Rattle.run_places.specs.Given.RunsDeclared.effect.Effect.{Effect}
+use Rattle.run_places.specs.Given.RunsDeclared.effect.Thing.{Thing}
+use Rattle.run_places.specs.Given.RunsDeclared.event.Event.{Event}
+use Rattle.run_places.specs.Given.RunsDeclared.event.Event.TheVariants.{Register, Unregister, Enter, Own, Refresh, Flush, DropGuard, Forget, ReclaimAll, Close, MakeMap, Begin, OneCall}
+use Rattle.run_places.specs.Given.RunsDeclared.outcome.Outcome.{Outcome}
+use Rattle.run_places.specs.Given.RunsDeclared.outcome.Outcome.TheVariants.{Done, Slot, Goes}
 use Rattle.run_places.specs.Given.SchedulesAfter.{there_on, unsheltered, sheltered_on, after, moment}
 use Rattle.run_places.specs.Given.SchedulesBeginning.{with_call, begun, at_work}
 use Rattle.run_places.specs.Given.SchedulesEffects.{with_effect, with_effects, worked}
@@ -23,8 +23,8 @@ use Rattle.run_places.specs.Given.SchedulesModel.{thing_back}
 use Rattle.run_places.specs.Given.SchedulesMoment.{Sheltered, Moment}
 use Rattle.run_places.specs.Given.SchedulesThings.{same_thing}
 use Rattle.run_places.specs.Given.SchedulesViews.{number_of}
-use Rattle.run_places.specs.Given.TellerDeclared.changed.Changed.{Changed}
-use Rattle.run_places.specs.Given.TellerDeclared.changed.Changed.TheVariants as changed
+use Rattle.run_places.specs.Given.EffectsDeclared.changed.Changed.{Changed}
+use Rattle.run_places.specs.Given.EffectsDeclared.changed.Changed.TheVariants as changed
 use Rattle.run_places.specs.Given.EffectsEffects.{names_same, taken_by, effects_of}
 use Rattle.run_places.specs.Given.EffectsKnown.{Known}
 use Rattle.run_places.specs.Given.EffectsDeclared.acting.Acting.TheVariants as acts

@@ -7,9 +7,9 @@ use Rattle.run_places.specs.Given.SeizeWorld.{World, Inside}
 use Rattle.run_places.specs.Given.TablesDeclared.node.Node.{Node}
 use Rattle.run_places.specs.Given.RunsPresent.{Present, drops}
 use Rattle.run_places.specs.Given.RunsDeclared.holders.Guard.{Guard}
-use Rattle.run_places.specs.Given.SchedulesDeclared.effect.Effect.TheVariants.{Reclaimed}
-use Rattle.run_places.specs.Given.SchedulesDeclared.effect.Thing.TheVariants.{APair}
-use Rattle.run_places.specs.Given.SchedulesDeclared.event.Event.TheVariants.{Refresh, Flush}
+use Rattle.run_places.specs.Given.RunsDeclared.effect.Effect.TheVariants.{Reclaimed}
+use Rattle.run_places.specs.Given.RunsDeclared.effect.Thing.TheVariants.{APair}
+use Rattle.run_places.specs.Given.RunsDeclared.event.Event.TheVariants.{Refresh, Flush}
 use Rattle.run_places.specs.Given.SchedulesLists.{put}
 use Rattle.run_places.specs.Given.SchedulesMoment.{Sheltered, Moment, start}
 use Rattle.run_places.specs.Given.EffectsKnown.{Known}

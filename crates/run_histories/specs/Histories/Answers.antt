@@ -7,10 +7,10 @@ use Rattle.run_places.specs.Given.RawDeclared.machines.answer.KeyAnswer.{KeyAnsw
 use Rattle.run_places.specs.Given.RawDeclared.machines.answer.KeyAnswer.TheVariants as answers
 use Rattle.run_places.specs.Given.RawDeclared.machines.progress.Answer.TheVariants.{Key}
 use Rattle.run_places.specs.Given.RawDeclared.machines.progress.Progress.TheVariants.{Done, Refused}
-use Rattle.run_places.specs.Given.SchedulesDeclared.call.Answer.{Answer}
-use Rattle.run_places.specs.Given.SchedulesDeclared.call.Call.TheVariants.{On}
-use Rattle.run_places.specs.Given.SchedulesDeclared.call.OneKey.{OneKey}
-use Rattle.run_places.specs.Given.SchedulesDeclared.call.Reply.{Reply}
+use Rattle.run_places.specs.Given.RunsDeclared.call.Answer.{Answer}
+use Rattle.run_places.specs.Given.RunsDeclared.call.Call.TheVariants.{On}
+use Rattle.run_places.specs.Given.RunsDeclared.call.OneKey.{OneKey}
+use Rattle.run_places.specs.Given.RunsDeclared.call.Reply.{Reply}
 use Rattle.run_places.specs.Given.SchedulesEffects.{with_effects}
 use Rattle.run_places.specs.Given.SchedulesLinearizable.{meaning_at}
 use Rattle.run_places.specs.Given.SchedulesLists.{OneOf}

@@ -1,7 +1,7 @@
 -- What a retaining asks about: a pair that the map has at a moment of the call.
 use Rattle.std.specs.Prelude.{◌≡◌, ℕ, Bool, List, Some, None, ◌⊎◌}
-use Rattle.run_places.specs.Given.SweepsDeclared.sweep.Sweeping.TheVariants as at
-use Rattle.run_places.specs.Given.SchedulesDeclared.call.Call.TheVariants.{Retain}
+use Rattle.run_places.specs.Given.ReservesDeclared.sweep.Sweeping.TheVariants as at
+use Rattle.run_places.specs.Given.RunsDeclared.call.Call.TheVariants.{Retain}
 use Rattle.run_places.specs.Given.SchedulesLinearizable.{MayAsk}
 use Rattle.run_places.specs.Given.SchedulesMoment.{UnderWay as CallThere, Moment}
 use Rattle.run_places.specs.Given.SchedulesViews.{call_of, finite_map}

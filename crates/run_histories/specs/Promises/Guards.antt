@@ -4,10 +4,10 @@ use Rattle.run_places.specs.Given.SeizeWorld.{World, IsInside}
 use Rattle.run_places.specs.Given.TablesDeclared.node.Node.{Node}
 use Rattle.run_places.specs.Given.RunsPresent.{Present, HaveNames, guard_of, guards_on, slot_of_registration, drops}
 use Rattle.run_places.specs.Given.RunsDeclared.holders.Guard.{Guard}
-use Rattle.run_places.specs.Given.SchedulesDeclared.event.Event.{Event}
-use Rattle.run_places.specs.Given.SchedulesDeclared.event.Event.TheVariants.{Enter, Own}
-use Rattle.run_places.specs.Given.SchedulesDeclared.outcome.Outcome.{Outcome}
-use Rattle.run_places.specs.Given.SchedulesDeclared.outcome.Outcome.TheVariants.{Done, Slot}
+use Rattle.run_places.specs.Given.RunsDeclared.event.Event.{Event}
+use Rattle.run_places.specs.Given.RunsDeclared.event.Event.TheVariants.{Enter, Own}
+use Rattle.run_places.specs.Given.RunsDeclared.outcome.Outcome.{Outcome}
+use Rattle.run_places.specs.Given.RunsDeclared.outcome.Outcome.TheVariants.{Done, Slot}
 use Rattle.run_places.specs.Given.SchedulesAfter.{there_on, sheltered_on}
 use Rattle.run_places.specs.Given.SchedulesMoment.{Sheltered}
 use Rattle.run_places.specs.Given.EffectsKnown.{Known}

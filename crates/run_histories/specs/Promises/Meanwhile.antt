@@ -6,9 +6,9 @@ use Rattle.run_places.specs.Given.ResizeDeclared.lookup.Lookup.{Lookup}
 use Rattle.run_places.specs.Given.ResizeDeclared.lookup.Looking.TheVariants as looking
 use Rattle.run_places.specs.Given.RawDeclared.machines.call.Calling.TheVariants as at
 use Rattle.run_places.specs.Given.RawDeclared.machines.progress.Progress.{Progress}
-use Rattle.run_places.specs.Given.SchedulesDeclared.call.Call.{Call}
-use Rattle.run_places.specs.Given.SchedulesDeclared.call.Reply.{Reply}
-use Rattle.run_places.specs.Given.SchedulesDeclared.outcome.Outcome.{Outcome}
+use Rattle.run_places.specs.Given.RunsDeclared.call.Call.{Call}
+use Rattle.run_places.specs.Given.RunsDeclared.call.Reply.{Reply}
+use Rattle.run_places.specs.Given.RunsDeclared.outcome.Outcome.{Outcome}
 use Rattle.run_places.specs.Given.SchedulesBeginning.{with_call}
 use Rattle.run_places.specs.Given.SchedulesEffects.{with_effects}
 use Rattle.run_places.specs.Given.SchedulesEntry.{ends_call}
@@ -21,7 +21,7 @@ use Rattle.run_places.specs.Given.EffectsDeclared.acting.Acting.TheVariants as a
 use Rattle.run_places.specs.Given.SeizeWorld.{Event as WorldEvent}
 use Rattle.run_places.specs.Given.FinishesMaps.{Standing}
 use Rattle.run_places.specs.Given.OthersRows.{scene_then}
-use Rattle.run_places.specs.Given.SchedulesDeclared.effect.Effect.{Effect}
+use Rattle.run_places.specs.Given.RunsDeclared.effect.Effect.{Effect}
 use Rattle.run_places.specs.Given.FollowsCalling.{NoneNamed, told, come_to}
 use Rattle.run_places.specs.Moments.Whole.{ShowsWhole}
 use Rattle.run_histories.specs.Promises.Reading.{looks, HasStood, ShowsReading}

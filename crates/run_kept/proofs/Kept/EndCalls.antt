@@ -35,17 +35,17 @@ use Rattle.papaya_raw.specs.Given.ReservesDeclared.reserve.Reserve.{Reserve}
 use Rattle.papaya_raw.specs.Given.ReservesDeclared.reserve.Reserving.{Reserving}
 use Rattle.papaya_raw.specs.Given.ReservesDeclared.reserve.Reserving.TheVariants as reserves
 use Rattle.papaya_raw.specs.Given.SweepsSweep.{sweep_plan}
-use Rattle.papaya_raw.specs.Given.SweepsDeclared.sweep.Sweep.{Sweep}
-use Rattle.papaya_raw.specs.Given.SweepsDeclared.sweep.Swept.{Swept}
-use Rattle.papaya_raw.specs.Given.SweepsDeclared.sweep.Sweeping.{Sweeping}
-use Rattle.papaya_raw.specs.Given.SweepsDeclared.sweep.Sweeping.TheVariants as sweeps
+use Rattle.papaya_raw.specs.Given.ReservesDeclared.sweep.Sweep.{Sweep}
+use Rattle.papaya_raw.specs.Given.ReservesDeclared.sweep.Swept.{Swept}
+use Rattle.papaya_raw.specs.Given.ReservesDeclared.sweep.Sweeping.{Sweeping}
+use Rattle.papaya_raw.specs.Given.ReservesDeclared.sweep.Sweeping.TheVariants as sweeps
 use Rattle.run_effects.specs.Given.RuleChart.{Chart}
 use Rattle.run_effects.specs.Given.RuleWords.{Blocks}
 use Rattle.run_shows.specs.Given.PointsSteps.{AreLawful}
 use Rattle.run_shows.specs.Given.PointsTold.{IsRowOfCall, IsRowOfCopier}
 use Rattle.run_shows.specs.Given.LateToldReserves.{IsRowOfReserve}
 use Rattle.run_shows.specs.Given.LateToldSweeps.{IsRowOfSweep}
-use Rattle.run_effects.specs.Teller.Tells.{StepsTold}
+use Rattle.run_effects.specs.ReportingMemory.Tells.{StepsTold}
 use Rattle.run_effects.specs.declared.changed.Changed.TheVariants as changed
 use Rattle.run_shows.specs.Given.CallersOverAll.{CallOverAll}
 use Rattle.run_shows.specs.Given.CallersRooms.{CallForRoom}

@@ -6,7 +6,7 @@ use Rattle.run_schedules.specs.declared.effect.Effect.{Effect}
 use Rattle.run_schedules.specs.declared.effect.Effect.TheVariants as effect
 use Rattle.run_schedules.specs.declared.effect.Growth.TheVariants.{ABucket}
 use Rattle.run_schedules.specs.Schedules.Handing.{is_made}
-use Rattle.run_effects.specs.Teller.Changed.{is_made as is_block_made}
+use Rattle.run_effects.specs.ReportingMemory.Changed.{is_made as is_block_made}
 use Rattle.run_effects.specs.declared.changed.Changed.{Changed}
 use Rattle.run_effects.specs.declared.changed.Changed.TheVariants as changed
 use Rattle.run_effects.specs.Effects.Effects.{effects_of}

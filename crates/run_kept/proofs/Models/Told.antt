@@ -15,7 +15,7 @@ use Rattle.run_executor.proofs.Given.HandsHanding.{IsHanding}
 use Rattle.papaya_raw.specs.Given.TablesDeclared.table_words.TheConstants.{DEFERRED}
 use Rattle.papaya_raw.specs.Given.TablesDeclared.node.Node.{Node}
 use Rattle.run_effects.specs.Tells.Seen.{seen_of, word_or}
-use Rattle.run_effects.specs.Teller.Tells.{told_of}
+use Rattle.run_effects.specs.ReportingMemory.Tells.{told_of}
 use Rattle.run_effects.specs.declared.changed.Changed.{Changed}
 use Rattle.run_effects.specs.declared.changed.Changed.TheVariants as changed
 use Rattle.run_effects.specs.declared.changed.Kind.{Kind}

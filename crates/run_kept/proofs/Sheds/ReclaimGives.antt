@@ -23,7 +23,7 @@ use Rattle.seize.specs.declared.rows.settle.Settling.TheVariants as settling
 use Rattle.papaya_raw.specs.Given.TablesNodes.{deferred_word, was_left}
 use Rattle.papaya_raw.specs.Given.TablesDeclared.node.Node.{Node}
 use Rattle.run_effects.specs.Tells.Seen.{seen_of}
-use Rattle.run_effects.specs.Teller.Tells.{StepsTold, told_of}
+use Rattle.run_effects.specs.ReportingMemory.Tells.{StepsTold, told_of}
 use Rattle.run_effects.specs.declared.changed.Changed.{Changed}
 use Rattle.run_effects.specs.declared.changed.Changed.TheVariants as changed
 use Rattle.run_shows.proofs.Follows.Operations.{LeavesBy}

@@ -26,8 +26,8 @@ use Rattle.run_grows.proofs.Given.SeizeMemoryWords.View.{View, view}
 use Rattle.run_grows.proofs.Given.SeizeRuleWorld.Good.{Good}
 use Rattle.run_grows.specs.Given.TablesNodes.{deferred_word}
 use Rattle.run_grows.specs.Given.TablesDeclared.node.Node.{Node}
-use Rattle.run_grows.specs.Given.TellerDeclared.changed.Changed.{Changed}
-use Rattle.run_grows.specs.Given.TellerDeclared.changed.Changed.TheVariants.{Nothing}
+use Rattle.run_grows.specs.Given.EffectsDeclared.changed.Changed.{Changed}
+use Rattle.run_grows.specs.Given.EffectsDeclared.changed.Changed.TheVariants.{Nothing}
 use Rattle.run_grows.proofs.Given.CallersTogether.Came.{came_reached}
 use Rattle.run_grows.specs.Given.ScenesDeclared.row.RowTold.{RowTold}
 use Rattle.run_grows.specs.Given.ScenesDeclared.row.RowTold.TheVariants as told

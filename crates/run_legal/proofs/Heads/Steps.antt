@@ -38,14 +38,14 @@ use Rattle.run_grows.specs.Given.ResizeDeclared.dispose.Disposing.{Disposing}
 use Rattle.run_grows.specs.Given.ResizeDeclared.dispose.Disposing.TheVariants as disposing
 use Rattle.run_grows.specs.Given.ReservesDeclared.reserve.Reserving.{Reserving}
 use Rattle.run_grows.specs.Given.ReservesDeclared.reserve.Reserving.TheVariants as reserving
-use Rattle.run_grows.specs.Given.SweepsDeclared.sweep.Sweeping.{Sweeping}
-use Rattle.run_grows.specs.Given.SweepsDeclared.sweep.Sweeping.TheVariants as sweeping
+use Rattle.run_grows.specs.Given.ReservesDeclared.sweep.Sweeping.{Sweeping}
+use Rattle.run_grows.specs.Given.ReservesDeclared.sweep.Sweeping.TheVariants as sweeping
 use Rattle.run_grows.specs.Given.RuleInWorld.{AllUsers}
 use Rattle.run_grows.specs.Given.SchedulesMoment.{Moment}
 use Rattle.run_grows.specs.Given.RawDeclared.machines.call.Calling.{Calling}
 use Rattle.run_grows.specs.Given.RawDeclared.machines.call.Calling.TheVariants as calling
 use Rattle.run_grows.specs.Given.RawDeclared.machines.progress.Progress.{Progress as CallTold}
-use Rattle.run_grows.specs.Given.TellerDeclared.changed.Changed.TheVariants.{Nothing}
+use Rattle.run_grows.specs.Given.EffectsDeclared.changed.Changed.TheVariants.{Nothing}
 use Rattle.run_grows.specs.Given.CallersRows.{row_of, row_of_copier, row_of_disposal}
 use Rattle.run_grows.specs.Given.CallersRooms.{row_of_room}
 use Rattle.run_grows.specs.Given.CallersOverAll.{row_of_sweep}

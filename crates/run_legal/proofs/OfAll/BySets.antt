@@ -13,7 +13,7 @@ use Rattle.run_grows.specs.Given.SeizeDeclared.rows.settle.Settled.TheVariants a
 use Rattle.run_grows.specs.Given.SeizeSetsReclaims.{is_on_slots}
 use Rattle.run_grows.specs.Given.TablesNodes.{deferred_word, was_left}
 use Rattle.run_grows.specs.Given.TablesDeclared.node.Node.{Node}
-use Rattle.run_grows.specs.Given.TellerDeclared.changed.Changed.TheVariants.{Nothing}
+use Rattle.run_grows.specs.Given.EffectsDeclared.changed.Changed.TheVariants.{Nothing}
 use Rattle.run_grows.specs.Given.CallersTogether.{CameAbout}
 use Rattle.run_grows.specs.Given.ScenesReclaiming.{IsReclaiming, ReclaimingLeads}
 use Rattle.run_grows.specs.Given.ModelsReclaims.{HasReclaimed}

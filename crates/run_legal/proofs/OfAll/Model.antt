@@ -12,12 +12,12 @@ use Rattle.run_grows.specs.Given.SeizeWorld.{World}
 use Rattle.run_grows.specs.Given.SeizeDeclared.rows.reclaim_all.ReclaimAll.{ReclaimAll}
 use Rattle.run_grows.specs.Given.TablesNodes.{deferred_word}
 use Rattle.run_grows.specs.Given.TablesDeclared.node.Node.{Node}
-use Rattle.run_grows.specs.Given.SchedulesDeclared.effect.Effect.{Effect}
-use Rattle.run_grows.specs.Given.SchedulesDeclared.effect.Effect.TheVariants.{Reclaimed}
-use Rattle.run_grows.specs.Given.SchedulesDeclared.effect.Thing.{Thing}
-use Rattle.run_grows.specs.Given.SchedulesDeclared.event.Event.{Event}
-use Rattle.run_grows.specs.Given.SchedulesDeclared.event.Event.TheVariants as event
-use Rattle.run_grows.specs.Given.SchedulesDeclared.outcome.Outcome.TheVariants.{Done}
+use Rattle.run_grows.specs.Given.RunsDeclared.effect.Effect.{Effect}
+use Rattle.run_grows.specs.Given.RunsDeclared.effect.Effect.TheVariants.{Reclaimed}
+use Rattle.run_grows.specs.Given.RunsDeclared.effect.Thing.{Thing}
+use Rattle.run_grows.specs.Given.RunsDeclared.event.Event.{Event}
+use Rattle.run_grows.specs.Given.RunsDeclared.event.Event.TheVariants as event
+use Rattle.run_grows.specs.Given.RunsDeclared.outcome.Outcome.TheVariants.{Done}
 use Rattle.run_grows.specs.Given.SchedulesAfter.{after, moment}
 use Rattle.run_grows.specs.Given.SchedulesBeginning.{at_work}
 use Rattle.run_grows.specs.Given.SchedulesEntry.{Entry}

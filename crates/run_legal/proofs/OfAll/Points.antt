@@ -19,8 +19,8 @@ use Rattle.run_grows.specs.Given.TablesNodes.{deferred_word, was_left}
 use Rattle.run_grows.specs.Given.TablesDeclared.node.Node.{Node}
 use Rattle.run_grows.specs.Given.TablesDeclared.setting.Setting.{Setting}
 use Rattle.run_grows.specs.Given.TellerTells.{StepsTold}
-use Rattle.run_grows.specs.Given.TellerDeclared.changed.Changed.{Changed}
-use Rattle.run_grows.specs.Given.TellerDeclared.changed.Changed.TheVariants as changed
+use Rattle.run_grows.specs.Given.EffectsDeclared.changed.Changed.{Changed}
+use Rattle.run_grows.specs.Given.EffectsDeclared.changed.Changed.TheVariants as changed
 use Rattle.run_grows.proofs.Given.CallersTogether.At.{at_other, at_same}
 use Rattle.run_grows.specs.Given.FinishesMakings.{IsFreeRoot}
 use Rattle.run_grows.specs.Given.FinishesMaps.{IsSameMap, Standing}

@@ -25,8 +25,8 @@ use Rattle.run_grows.specs.Given.SeizeSetsReclaims.{is_on_slots}
 use Rattle.run_grows.specs.Given.TablesNodes.{deferred_word, was_left}
 use Rattle.run_grows.specs.Given.TablesDeclared.node.Node.{Node}
 use Rattle.run_grows.specs.Given.TellerTells.{StepsTold}
-use Rattle.run_grows.specs.Given.TellerDeclared.changed.Changed.{Changed}
-use Rattle.run_grows.specs.Given.TellerDeclared.changed.Changed.TheVariants as changed
+use Rattle.run_grows.specs.Given.EffectsDeclared.changed.Changed.{Changed}
+use Rattle.run_grows.specs.Given.EffectsDeclared.changed.Changed.TheVariants as changed
 use Rattle.run_grows.proofs.Given.CallersTogether.Came.{came_reached}
 use Rattle.run_grows.proofs.Given.FinishesEnds.CountedBlocks.{times-append}
 use Rattle.run_grows.specs.Given.FinishesFactsEnds.{TakesLeft, WritesRoot, events_of}

@@ -11,15 +11,15 @@ use Rattle.run_grows.specs.Given.SeizeDeclared.rows.settle.Settled.{Settled}
 use Rattle.run_grows.specs.Given.TablesNodes.{deferred_word, was_left}
 use Rattle.run_grows.specs.Given.TablesDeclared.node.Node.{Node}
 use Rattle.run_grows.specs.Given.TablesDeclared.setting.Setting.{Setting}
-use Rattle.run_grows.specs.Given.SchedulesDeclared.effect.Effect.{Effect}
-use Rattle.run_grows.specs.Given.SchedulesDeclared.effect.Effect.TheVariants.{Reclaimed}
-use Rattle.run_grows.specs.Given.SchedulesDeclared.effect.Table.{Table}
-use Rattle.run_grows.specs.Given.SchedulesDeclared.effect.Thing.{Thing}
-use Rattle.run_grows.specs.Given.SchedulesDeclared.effect.Thing.TheVariants.{APair, ATable}
+use Rattle.run_grows.specs.Given.RunsDeclared.effect.Effect.{Effect}
+use Rattle.run_grows.specs.Given.RunsDeclared.effect.Effect.TheVariants.{Reclaimed}
+use Rattle.run_grows.specs.Given.RunsDeclared.effect.Table.{Table}
+use Rattle.run_grows.specs.Given.RunsDeclared.effect.Thing.{Thing}
+use Rattle.run_grows.specs.Given.RunsDeclared.effect.Thing.TheVariants.{APair, ATable}
 use Rattle.run_grows.specs.Given.SchedulesEffects.{at_stage, with_effect, with_effects}
 use Rattle.run_grows.specs.Given.SchedulesMoment.{IsReclaimed, Moment, TableThere}
 use Rattle.run_grows.specs.Given.SchedulesThings.{same_table}
-use Rattle.run_grows.specs.Given.TellerDeclared.changed.Changed.{Changed}
+use Rattle.run_grows.specs.Given.EffectsDeclared.changed.Changed.{Changed}
 use Rattle.run_grows.specs.Given.CallersTogether.{UnderWay, OnKey}
 use Rattle.run_grows.specs.Given.EffectsEffects.{effects_of, known_after}
 use Rattle.run_grows.specs.Given.EffectsKnown.{Known}

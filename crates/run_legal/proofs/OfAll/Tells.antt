@@ -24,13 +24,13 @@ use Rattle.run_grows.specs.Given.SeizeDeclared.rows.settle.Settling.{Settling}
 use Rattle.run_grows.specs.Given.SeizeDeclared.rows.settle.Settling.TheVariants as settling
 use Rattle.run_grows.specs.Given.TablesNodes.{deferred_word, was_left}
 use Rattle.run_grows.specs.Given.TablesDeclared.node.Node.{Node}
-use Rattle.run_grows.specs.Given.SchedulesDeclared.effect.Effect.TheVariants.{Reclaimed}
-use Rattle.run_grows.specs.Given.SchedulesDeclared.effect.Thing.{Thing}
+use Rattle.run_grows.specs.Given.RunsDeclared.effect.Effect.TheVariants.{Reclaimed}
+use Rattle.run_grows.specs.Given.RunsDeclared.effect.Thing.{Thing}
 use Rattle.run_grows.specs.Given.SchedulesMoment.{Moment}
 use Rattle.run_grows.specs.Given.TellsSeen.{seen_of}
 use Rattle.run_grows.specs.Given.TellerTells.{StepsTold, told_of}
-use Rattle.run_grows.specs.Given.TellerDeclared.changed.Changed.{Changed}
-use Rattle.run_grows.specs.Given.TellerDeclared.changed.Changed.TheVariants as changed
+use Rattle.run_grows.specs.Given.EffectsDeclared.changed.Changed.{Changed}
+use Rattle.run_grows.specs.Given.EffectsDeclared.changed.Changed.TheVariants as changed
 use Rattle.run_grows.specs.Given.CallersTogether.{UnderWay}
 use Rattle.run_grows.specs.Given.EffectsEffects.{effects_of, known_after, named, names_same, taken_by}
 use Rattle.run_grows.specs.Given.EffectsKnown.{Known}

@@ -14,16 +14,16 @@ use Rattle.run_grows.specs.Given.SeizeDeclared.rows.settle.Settled.{Settled}
 use Rattle.run_grows.specs.Given.SeizeSetsReclaims.{is_on_slots}
 use Rattle.run_grows.specs.Given.TablesNodes.{deferred_word}
 use Rattle.run_grows.specs.Given.TablesDeclared.node.Node.{Node}
-use Rattle.run_grows.specs.Given.SchedulesDeclared.effect.Effect.{Effect}
-use Rattle.run_grows.specs.Given.SchedulesDeclared.effect.Effect.TheVariants.{Reclaimed}
-use Rattle.run_grows.specs.Given.SchedulesDeclared.effect.Thing.{Thing}
+use Rattle.run_grows.specs.Given.RunsDeclared.effect.Effect.{Effect}
+use Rattle.run_grows.specs.Given.RunsDeclared.effect.Effect.TheVariants.{Reclaimed}
+use Rattle.run_grows.specs.Given.RunsDeclared.effect.Thing.{Thing}
 use Rattle.run_grows.specs.Given.SchedulesEffects.{with_effects}
 use Rattle.run_grows.specs.Given.SchedulesLists.{is_among}
 use Rattle.run_grows.specs.Given.SchedulesModel.{thing_back}
 use Rattle.run_grows.specs.Given.SchedulesMoment.{GivenBack, Handed, Moment}
 use Rattle.run_grows.specs.Given.SchedulesViews.{behind as behind_table}
-use Rattle.run_grows.specs.Given.TellerDeclared.changed.Changed.{Changed}
-use Rattle.run_grows.specs.Given.TellerDeclared.changed.Changed.TheVariants as changed
+use Rattle.run_grows.specs.Given.EffectsDeclared.changed.Changed.{Changed}
+use Rattle.run_grows.specs.Given.EffectsDeclared.changed.Changed.TheVariants as changed
 use Rattle.run_grows.proofs.Given.CallersTogether.At.{at_same}
 use Rattle.run_grows.specs.Given.EffectsEffects.{effects_of, known_after}
 use Rattle.run_grows.specs.Given.EffectsKnown.{Known}

@@ -30,7 +30,7 @@ use Rattle.run_effects.specs.Given.ResizeDeclared.new_map.Opening.{Opening}
 use Rattle.run_effects.specs.Given.ResizeDeclared.new_map.Opening.TheVariants as opens
 use Rattle.run_schedules.specs.Schedules.InTurn.{is_growth}
 use Rattle.run_effects.specs.Tells.Seen.{seen_of}
-use Rattle.run_effects.specs.Teller.Tells.{told_of, StepsTold}
+use Rattle.run_effects.specs.ReportingMemory.Tells.{told_of, StepsTold}
 use Rattle.run_effects.specs.declared.changed.Changed.{Changed}
 use Rattle.run_effects.specs.declared.changed.Changed.TheVariants as changed
 use Rattle.run_effects.specs.Effects.Effects.{taken_by, effects_of}

@@ -24,7 +24,7 @@ use Rattle.run_effects.specs.Given.ResizeDeclared.new_map.Opening.{Opening}
 use Rattle.run_effects.specs.Given.ResizeDeclared.new_map.Opening.TheVariants as opens
 use Rattle.run_schedules.specs.declared.effect.Effect.{Effect}
 use Rattle.run_schedules.specs.Schedules.InTurn.{has_grown, is_growth}
-use Rattle.run_effects.specs.Teller.Tells.{StepsTold}
+use Rattle.run_effects.specs.ReportingMemory.Tells.{StepsTold}
 use Rattle.run_effects.specs.declared.changed.Changed.{Changed}
 use Rattle.run_effects.specs.declared.changed.Changed.TheVariants as changed
 use Rattle.run_effects.specs.Effects.Effects.{effects_of}

@@ -21,7 +21,7 @@ use Rattle.run_effects.specs.Given.ResizeDeclared.new_table.NewTable.{NewTable}
 use Rattle.run_effects.specs.Given.ResizeDeclared.new_table.Making.{Making}
 use Rattle.run_effects.specs.Given.ResizeDeclared.new_table.Making.TheVariants as makes
 use Rattle.run_schedules.specs.Schedules.InTurn.{has_grown}
-use Rattle.run_effects.specs.Teller.Tells.{StepsTold}
+use Rattle.run_effects.specs.ReportingMemory.Tells.{StepsTold}
 use Rattle.run_effects.specs.declared.changed.Changed.{Changed}
 use Rattle.run_effects.specs.declared.changed.Changed.TheVariants as changed
 use Rattle.run_effects.specs.Effects.Effects.{effects_of}

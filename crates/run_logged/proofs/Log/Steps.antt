@@ -21,7 +21,7 @@ use Rattle.run_executor.specs.Given.MomentsWhole.{ShowsWhole}
 use Rattle.run_kept.specs.Kept.Kept.{ShowsKept}
 use Rattle.run_kept.proofs.Kept.Calls.{calls_keep_kept}
 use Rattle.run_kept.proofs.Kept.NoneMade.{none_made}
-use Rattle.run_effects.specs.Teller.Changed.{is_made as is_block_made}
+use Rattle.run_effects.specs.ReportingMemory.Changed.{is_made as is_block_made}
 use Rattle.run_effects.specs.declared.changed.Changed.{Changed}
 use Rattle.run_logged.specs.Log.Calling.{CallGoesOn, MakesNoMore}
 use Rattle.run_logged.specs.Log.Shown.{IsShown}

@@ -14,8 +14,8 @@ use Rattle.run_effects.specs.Given.ResizeDeclared.dispose.Disposing.{Disposing}
 use Rattle.run_effects.specs.Given.ResizeDeclared.dispose.Disposing.TheVariants as disposes
 use Rattle.papaya_raw.specs.Given.ReservesDeclared.reserve.Reserving.{Reserving}
 use Rattle.papaya_raw.specs.Given.ReservesDeclared.reserve.Reserving.TheVariants as reserving
-use Rattle.papaya_raw.specs.Given.SweepsDeclared.sweep.Sweeping.{Sweeping}
-use Rattle.papaya_raw.specs.Given.SweepsDeclared.sweep.Sweeping.TheVariants as sweeping
+use Rattle.papaya_raw.specs.Given.ReservesDeclared.sweep.Sweeping.{Sweeping}
+use Rattle.papaya_raw.specs.Given.ReservesDeclared.sweep.Sweeping.TheVariants as sweeping
 use Rattle.run_shows.specs.Given.CallersOverAll.{row_of_sweep}
 use Rattle.run_shows.specs.Given.CallersRooms.{row_of_room}
 use Rattle.run_shows.specs.Given.CallersRows.{row_of, row_of_copier, row_of_disposal}

@@ -15,7 +15,7 @@ use Rattle.seize.specs.declared.rows.register.Registering.TheVariants as at
 use Rattle.seize.specs.Register.{begun, looked, widened, taken, further, taking, going, refused, registered, can_be_taken, bucket_needed, plan_at}
 use Rattle.papaya_raw.specs.Given.TablesDeclared.node.Node.{Node}
 use Rattle.run_effects.specs.Tells.Seen.{seen_of}
-use Rattle.run_effects.specs.Teller.Tells.{StepsTold, told_of}
+use Rattle.run_effects.specs.ReportingMemory.Tells.{StepsTold, told_of}
 use Rattle.run_effects.specs.declared.changed.Changed.{Changed}
 use Rattle.run_effects.specs.declared.changed.Changed.TheVariants as changed
 

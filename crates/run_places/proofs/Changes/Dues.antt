@@ -2,8 +2,8 @@
 use Rattle.std.specs.Prelude.{◌≡◌, ℕ, Bool, true, false, List, [], ◌∷◌, ◌++◌, flat_map, Some, if◌then◌else◌}
 use Rattle.std.proofs.Common.{refl, ap, sym, ◌∙◌}
 use Rattle.run_shows.specs.Given.RunsSame.{is_same}
-use Rattle.run_shows.specs.Given.SchedulesDeclared.effect.Effect.{Effect}
-use Rattle.run_shows.specs.Given.SchedulesDeclared.effect.Effect.TheVariants as effect
+use Rattle.run_shows.specs.Given.RunsDeclared.effect.Effect.{Effect}
+use Rattle.run_shows.specs.Given.RunsDeclared.effect.Effect.TheVariants as effect
 use Rattle.run_shows.specs.Given.SchedulesEffects.{call_by, with_effect, with_effects}
 use Rattle.run_shows.specs.Given.SchedulesLinearizable.{shift_of}
 use Rattle.run_shows.specs.Given.SchedulesMoment.{UnderWay as CallThere, Moment}

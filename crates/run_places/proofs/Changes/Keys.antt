@@ -1,9 +1,9 @@
 -- A call on one key, as the moment has it: on its map, and of its key's class.
 use Rattle.std.specs.Prelude.{◌≡◌, ℕ, Bool, List, Some}
 use Rattle.std.proofs.Common.{ap, sym, subst, ◌∙◌}
-use Rattle.run_shows.specs.Given.SchedulesDeclared.call.Call.{Call}
-use Rattle.run_shows.specs.Given.SchedulesDeclared.call.Call.TheVariants.{On}
-use Rattle.run_shows.specs.Given.SchedulesDeclared.call.OneKey.{OneKey}
+use Rattle.run_shows.specs.Given.RunsDeclared.call.Call.{Call}
+use Rattle.run_shows.specs.Given.RunsDeclared.call.Call.TheVariants.{On}
+use Rattle.run_shows.specs.Given.RunsDeclared.call.OneKey.{OneKey}
 use Rattle.run_shows.specs.Given.SchedulesMoment.{UnderWay as CallThere, Moment}
 use Rattle.run_shows.specs.Given.SchedulesSequential.{key_of}
 use Rattle.run_shows.specs.Given.SchedulesViews.{call_of}

@@ -5,12 +5,12 @@ use Rattle.std.proofs.Common.{refl, ap, sym, ◌∙◌, inl, inr}
 use Rattle.run_shows.specs.Given.RawDeclared.machines.asking.Reply.{Reply as MachineReply}
 use Rattle.run_shows.specs.Given.RawDeclared.machines.asking.Reply.TheVariants as reply
 use Rattle.run_shows.specs.Given.RawDeclared.machines.asking.Takes.TheVariants as takes
-use Rattle.run_shows.specs.Given.SchedulesDeclared.call.Answer.{Answer}
-use Rattle.run_shows.specs.Given.SchedulesDeclared.call.Answer.TheVariants as answer
-use Rattle.run_shows.specs.Given.SchedulesDeclared.call.OneKey.{OneKey}
-use Rattle.run_shows.specs.Given.SchedulesDeclared.call.OneKey.TheVariants.{Get, GetKeyValue, ContainsKey, Insert, TryInsert, TryInsertWith, GetOrInsert, GetOrInsertWith, Update, UpdateOrInsert, UpdateOrInsertWith, Compute, Remove, RemoveEntry, RemoveIf}
-use Rattle.run_shows.specs.Given.SchedulesDeclared.call.Reply.{Reply}
-use Rattle.run_shows.specs.Given.SchedulesDeclared.call.Reply.TheVariants.{Gives, Removes, Aborts, Decides}
+use Rattle.run_shows.specs.Given.RunsDeclared.call.Answer.{Answer}
+use Rattle.run_shows.specs.Given.RunsDeclared.call.Answer.TheVariants as answer
+use Rattle.run_shows.specs.Given.RunsDeclared.call.OneKey.{OneKey}
+use Rattle.run_shows.specs.Given.RunsDeclared.call.OneKey.TheVariants.{Get, GetKeyValue, ContainsKey, Insert, TryInsert, TryInsertWith, GetOrInsert, GetOrInsertWith, Update, UpdateOrInsert, UpdateOrInsertWith, Compute, Remove, RemoveEntry, RemoveIf}
+use Rattle.run_shows.specs.Given.RunsDeclared.call.Reply.{Reply}
+use Rattle.run_shows.specs.Given.RunsDeclared.call.Reply.TheVariants.{Gives, Removes, Aborts, Decides}
 use Rattle.run_shows.specs.Given.SchedulesSequential.{Meaning, Answers, Refuses, Wants, Leaves, Puts, Takes, means, value_put}
 use Rattle.run_shows.specs.Given.SchedulesViews.{reply_to}
 use Rattle.run_shows.specs.Given.LateFaults.{IsRoom}

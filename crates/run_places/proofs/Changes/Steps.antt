@@ -6,7 +6,7 @@ use Rattle.run_shows.specs.Given.SeizeWorld.{World, IsInside, with_at}
 use Rattle.run_shows.specs.Given.TablesChunks.{is_incremental}
 use Rattle.run_shows.specs.Given.TablesDeclared.node.Node.{Node}
 use Rattle.run_shows.specs.Given.RawDeclared.machines.progress.Progress.{Progress}
-use Rattle.run_shows.specs.Given.SchedulesDeclared.effect.Effect.{Effect}
+use Rattle.run_shows.specs.Given.RunsDeclared.effect.Effect.{Effect}
 use Rattle.run_shows.specs.Given.SchedulesEffects.{with_effects}
 use Rattle.run_shows.specs.Given.SchedulesMoment.{UnderWay as CallThere, Moment}
 use Rattle.run_shows.specs.Given.SchedulesViews.{call_of, finite_map}

@@ -17,13 +17,13 @@ use Rattle.run_shows.specs.Given.RawDeclared.machines.call.Calling.TheVariants a
 use Rattle.run_shows.specs.Given.RawDeclared.machines.machine.Machine.{Machine}
 use Rattle.run_shows.specs.Given.RawDeclared.machines.machine.Machine.TheVariants as kinds
 use Rattle.run_shows.specs.Given.RawDeclared.machines.progress.Progress.{Progress}
-use Rattle.run_shows.specs.Given.SchedulesDeclared.call.Call.{Call}
-use Rattle.run_shows.specs.Given.SchedulesDeclared.call.Call.TheVariants as call
-use Rattle.run_shows.specs.Given.SchedulesDeclared.call.OneKey.{OneKey}
-use Rattle.run_shows.specs.Given.SchedulesDeclared.call.Reply.{Reply}
+use Rattle.run_shows.specs.Given.RunsDeclared.call.Call.{Call}
+use Rattle.run_shows.specs.Given.RunsDeclared.call.Call.TheVariants as call
+use Rattle.run_shows.specs.Given.RunsDeclared.call.OneKey.{OneKey}
+use Rattle.run_shows.specs.Given.RunsDeclared.call.Reply.{Reply}
 use Rattle.run_shows.specs.Given.SchedulesMoment.{UnderWay as CallThere}
 use Rattle.run_shows.specs.Given.TellerTells.{StepsTold}
-use Rattle.run_shows.specs.Given.TellerDeclared.changed.Changed.TheVariants.{Nothing}
+use Rattle.run_shows.specs.Given.EffectsDeclared.changed.Changed.TheVariants.{Nothing}
 use Rattle.run_shows.specs.Given.PointsFactsCalls.{Change}
 use Rattle.run_shows.specs.Given.CallersAsked.{Asked}
 use Rattle.run_shows.specs.Given.CallersOverAll.{come_to, gone_on}

@@ -21,18 +21,18 @@ use Rattle.run_shows.specs.Given.TablesNodes.{deferred_word}
 use Rattle.run_shows.specs.Given.TablesDeclared.node.Node.{Node}
 use Rattle.run_shows.specs.Given.TablesDeclared.setting.Setting.{Setting}
 use Rattle.run_shows.specs.Given.TablesDeclared.table_words.TheConstants.{NEXT, DEFERRED}
-use Rattle.run_shows.specs.Given.SchedulesDeclared.effect.Effect.{Effect}
-use Rattle.run_shows.specs.Given.SchedulesDeclared.effect.Effect.TheVariants as effect
-use Rattle.run_shows.specs.Given.SchedulesDeclared.effect.Growth.TheVariants.{ABlock, ABucket}
-use Rattle.run_shows.specs.Given.SchedulesDeclared.effect.Spot.{Spot}
-use Rattle.run_shows.specs.Given.SchedulesDeclared.effect.Table.{Table}
-use Rattle.run_shows.specs.Given.SchedulesDeclared.effect.Thing.TheVariants.{APair, ATable}
+use Rattle.run_shows.specs.Given.RunsDeclared.effect.Effect.{Effect}
+use Rattle.run_shows.specs.Given.RunsDeclared.effect.Effect.TheVariants as effect
+use Rattle.run_shows.specs.Given.RunsDeclared.effect.Growth.TheVariants.{ABlock, ABucket}
+use Rattle.run_shows.specs.Given.RunsDeclared.effect.Spot.{Spot}
+use Rattle.run_shows.specs.Given.RunsDeclared.effect.Table.{Table}
+use Rattle.run_shows.specs.Given.RunsDeclared.effect.Thing.TheVariants.{APair, ATable}
 use Rattle.run_shows.specs.Given.SchedulesMoment.{MapThere, Moment}
 use Rattle.run_shows.specs.Given.SchedulesViews.{is_in_a_map, map_at}
-use Rattle.run_shows.specs.Given.TellerDeclared.changed.Changed.{Changed}
-use Rattle.run_shows.specs.Given.TellerDeclared.changed.Changed.TheVariants as changed
-use Rattle.run_shows.specs.Given.TellerDeclared.changed.Kind.{Kind}
-use Rattle.run_shows.specs.Given.TellerDeclared.changed.Kind.TheVariants as kind
+use Rattle.run_shows.specs.Given.EffectsDeclared.changed.Changed.{Changed}
+use Rattle.run_shows.specs.Given.EffectsDeclared.changed.Changed.TheVariants as changed
+use Rattle.run_shows.specs.Given.EffectsDeclared.changed.Kind.{Kind}
+use Rattle.run_shows.specs.Given.EffectsDeclared.changed.Kind.TheVariants as kind
 use Rattle.run_shows.specs.Given.CallersTogether.{CameAbout, HandsOver, IsOneStep}
 use Rattle.run_shows.proofs.Given.CallersTogether.Came.{came_reached, came_next}
 use Rattle.run_shows.specs.Given.EffectsEffects.{made_by, taken_by, names_same, followed_by, led_to, carried, placed, spot_at, is_place, in_table, in_block, batched, named, written_by, effects_of}

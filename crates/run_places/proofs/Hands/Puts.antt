@@ -5,10 +5,10 @@ use Rattle.run_shows.specs.Given.SeizeWordsMem.{Mem, value_at}
 use Rattle.run_shows.specs.Given.TablesDeclared.node.Node.{Node}
 use Rattle.run_shows.specs.Given.TablesDeclared.node.Node.TheVariants as node
 use Rattle.run_shows.specs.Given.RawDeclared.machines.asking.Reply.TheVariants as reply
-use Rattle.run_shows.specs.Given.SchedulesDeclared.call.OneKey.{OneKey}
-use Rattle.run_shows.specs.Given.SchedulesDeclared.call.OneKey.TheVariants.{Get, GetKeyValue, ContainsKey, Insert, TryInsert, TryInsertWith, GetOrInsert, GetOrInsertWith, Update, UpdateOrInsert, UpdateOrInsertWith, Compute, Remove, RemoveEntry, RemoveIf}
-use Rattle.run_shows.specs.Given.SchedulesDeclared.call.Reply.{Reply}
-use Rattle.run_shows.specs.Given.SchedulesDeclared.call.Reply.TheVariants.{Gives}
+use Rattle.run_shows.specs.Given.RunsDeclared.call.OneKey.{OneKey}
+use Rattle.run_shows.specs.Given.RunsDeclared.call.OneKey.TheVariants.{Get, GetKeyValue, ContainsKey, Insert, TryInsert, TryInsertWith, GetOrInsert, GetOrInsertWith, Update, UpdateOrInsert, UpdateOrInsertWith, Compute, Remove, RemoveEntry, RemoveIf}
+use Rattle.run_shows.specs.Given.RunsDeclared.call.Reply.{Reply}
+use Rattle.run_shows.specs.Given.RunsDeclared.call.Reply.TheVariants.{Gives}
 use Rattle.run_shows.specs.Given.SchedulesSequential.{means, key_of, value_put}
 use Rattle.run_shows.specs.Given.SchedulesViews.{reply_to}
 use Rattle.run_shows.specs.Given.LateKinds.{MayPut, MayReplace, MayRemove}

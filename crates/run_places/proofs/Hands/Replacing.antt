@@ -2,14 +2,14 @@
 use Rattle.std.specs.Prelude.{◌≡◌, ℕ, Bool, true, false, List, [], ◌∷◌, Option, Some, None, if◌then◌else◌}
 use Rattle.std.proofs.Common.{refl, ap, sym, ◌∙◌}
 use Rattle.run_shows.specs.Given.RunsSame.{is_same}
-use Rattle.run_shows.specs.Given.SchedulesDeclared.call.Call.{Call}
-use Rattle.run_shows.specs.Given.SchedulesDeclared.call.Call.TheVariants as call
-use Rattle.run_shows.specs.Given.SchedulesDeclared.effect.Effect.{Effect}
-use Rattle.run_shows.specs.Given.SchedulesDeclared.effect.Effect.TheVariants as effect
+use Rattle.run_shows.specs.Given.RunsDeclared.call.Call.{Call}
+use Rattle.run_shows.specs.Given.RunsDeclared.call.Call.TheVariants as call
+use Rattle.run_shows.specs.Given.RunsDeclared.effect.Effect.{Effect}
+use Rattle.run_shows.specs.Given.RunsDeclared.effect.Effect.TheVariants as effect
 use Rattle.run_shows.specs.Given.SchedulesEffects.{due_for, call_by, with_effect, with_effects}
 use Rattle.run_shows.specs.Given.SchedulesMoment.{UnderWay as CallThere, Moment}
 use Rattle.run_shows.specs.Given.SchedulesViews.{call_of}
-use Rattle.run_shows.specs.Given.TellerDeclared.changed.Changed.{Changed}
+use Rattle.run_shows.specs.Given.EffectsDeclared.changed.Changed.{Changed}
 use Rattle.run_shows.specs.Given.EffectsEffects.{effects_of}
 use Rattle.run_shows.specs.Given.EffectsKnown.{Known}
 use Rattle.run_shows.specs.Given.EffectsDeclared.acting.Acting.{Acting}

@@ -5,7 +5,7 @@ use Rattle.run_shows.specs.Given.SeizeWordsMem.{Mem, value_at}
 use Rattle.run_shows.specs.Given.SeizeWorld.{World, IsInside}
 use Rattle.run_shows.specs.Given.TablesDeclared.node.Node.{Node}
 use Rattle.run_shows.specs.Given.RawDeclared.machines.progress.Progress.{Progress}
-use Rattle.run_shows.specs.Given.SchedulesDeclared.effect.Table.{Table}
+use Rattle.run_shows.specs.Given.RunsDeclared.effect.Table.{Table}
 use Rattle.run_shows.specs.Given.SchedulesMoment.{InMap, Moment}
 use Rattle.run_shows.specs.Given.CallersTogether.{UnderWay, UnlessCounts, OnKey, ForRoom, Counting, OverAll, IsOneStep, Together}
 use Rattle.run_shows.specs.Given.EffectsEffects.{effects_of}

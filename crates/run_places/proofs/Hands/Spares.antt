@@ -10,12 +10,12 @@ use Rattle.run_shows.specs.Given.ResizeDeclared.dispose.Disposing.{Disposing}
 use Rattle.run_shows.specs.Given.ResizeDeclared.dispose.Disposing.TheVariants as disposes
 use Rattle.run_shows.specs.Given.ReservesDeclared.reserve.Reserving.{Reserving}
 use Rattle.run_shows.specs.Given.ReservesDeclared.reserve.Reserving.TheVariants as reserves
-use Rattle.run_shows.specs.Given.SweepsDeclared.sweep.Sweeping.{Sweeping}
-use Rattle.run_shows.specs.Given.SweepsDeclared.sweep.Sweeping.TheVariants as sweeps
+use Rattle.run_shows.specs.Given.ReservesDeclared.sweep.Sweeping.{Sweeping}
+use Rattle.run_shows.specs.Given.ReservesDeclared.sweep.Sweeping.TheVariants as sweeps
 use Rattle.run_shows.specs.Given.RawDeclared.machines.call.Calling.{Calling}
 use Rattle.run_shows.specs.Given.RawDeclared.machines.call.Calling.TheVariants as at
 use Rattle.run_shows.specs.Given.RawDeclared.machines.progress.Progress.{Progress}
-use Rattle.run_shows.specs.Given.SchedulesDeclared.effect.Table.{Table}
+use Rattle.run_shows.specs.Given.RunsDeclared.effect.Table.{Table}
 use Rattle.run_shows.specs.Given.SchedulesMoment.{InMap, Moment}
 use Rattle.run_shows.specs.Given.RuleInWorld.{IsIts}
 use Rattle.run_shows.specs.Given.CallersOverAll.{row_of_sweep}

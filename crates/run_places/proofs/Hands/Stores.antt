@@ -9,11 +9,11 @@ use Rattle.run_shows.specs.Given.TablesDeclared.node.Node.{Node}
 use Rattle.run_shows.specs.Given.RawDeclared.machines.answer.Called.{Called}
 use Rattle.run_shows.specs.Given.RawDeclared.machines.call.KeyCall.{KeyCall}
 use Rattle.run_shows.specs.Given.RunsSame.{is_same}
-use Rattle.run_shows.specs.Given.SchedulesDeclared.call.Call.{Call}
-use Rattle.run_shows.specs.Given.SchedulesDeclared.call.Call.TheVariants as call
-use Rattle.run_shows.specs.Given.SchedulesDeclared.call.OneKey.{OneKey}
-use Rattle.run_shows.specs.Given.SchedulesDeclared.call.Reply.{Reply}
-use Rattle.run_shows.specs.Given.SchedulesDeclared.effect.Effect.TheVariants as effect
+use Rattle.run_shows.specs.Given.RunsDeclared.call.Call.{Call}
+use Rattle.run_shows.specs.Given.RunsDeclared.call.Call.TheVariants as call
+use Rattle.run_shows.specs.Given.RunsDeclared.call.OneKey.{OneKey}
+use Rattle.run_shows.specs.Given.RunsDeclared.call.Reply.{Reply}
+use Rattle.run_shows.specs.Given.RunsDeclared.effect.Effect.TheVariants as effect
 use Rattle.run_shows.specs.Given.SchedulesEffects.{new_pair, call_by, with_effect}
 use Rattle.run_shows.specs.Given.SchedulesEntry.{acting}
 use Rattle.run_shows.specs.Given.SchedulesMoment.{UnderWay as CallThere, Moment}

@@ -23,8 +23,8 @@ use Rattle.run_shows.specs.Given.RawDeclared.machines.call.KeyCall.{KeyCall}
 use Rattle.run_shows.specs.Given.RawDeclared.machines.call.Calling.{Calling}
 use Rattle.run_shows.specs.Given.RawDeclared.machines.call.Calling.TheVariants as at
 use Rattle.run_shows.specs.Given.TablesDeclared.node.Node.TheVariants as node
-use Rattle.run_shows.specs.Given.SchedulesDeclared.call.OneKey.{OneKey}
-use Rattle.run_shows.specs.Given.SchedulesDeclared.call.OneKey.TheVariants.{Get, GetKeyValue, ContainsKey, Insert, TryInsert, TryInsertWith, GetOrInsert, GetOrInsertWith, Update, UpdateOrInsert, UpdateOrInsertWith, Compute, Remove, RemoveEntry, RemoveIf}
+use Rattle.run_shows.specs.Given.RunsDeclared.call.OneKey.{OneKey}
+use Rattle.run_shows.specs.Given.RunsDeclared.call.OneKey.TheVariants.{Get, GetKeyValue, ContainsKey, Insert, TryInsert, TryInsertWith, GetOrInsert, GetOrInsertWith, Update, UpdateOrInsert, UpdateOrInsertWith, Compute, Remove, RemoveEntry, RemoveIf}
 use Rattle.run_shows.specs.Given.RuleWords.{Blocks}
 use Rattle.run_shows.specs.Given.PointsTold.{IsRowOfCall}
 use Rattle.run_shows.specs.Given.CallersAsked.{Asked, last_told, told_before}

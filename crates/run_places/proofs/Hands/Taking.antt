@@ -28,8 +28,8 @@ use Rattle.run_shows.specs.Given.TablesNodes.{deferred_word}
 use Rattle.run_shows.specs.Given.TablesDeclared.node.Node.{Node}
 use Rattle.run_shows.specs.Given.TablesDeclared.setting.Setting.{Setting}
 use Rattle.run_shows.proofs.Given.RuleWorld.Hands.{at_cases}
-use Rattle.run_shows.specs.Given.TellerDeclared.changed.Changed.{Changed}
-use Rattle.run_shows.specs.Given.TellerDeclared.changed.Changed.TheVariants as changed
+use Rattle.run_shows.specs.Given.EffectsDeclared.changed.Changed.{Changed}
+use Rattle.run_shows.specs.Given.EffectsDeclared.changed.Changed.TheVariants as changed
 use Rattle.run_shows.specs.Given.CallersTogether.{CameAbout, HandsOver, IsOneStep}
 use Rattle.run_shows.proofs.Given.CallersTogether.Came.{came_reached, came_next}
 use Rattle.run_shows.specs.Follows.Steps.{TakesNone}

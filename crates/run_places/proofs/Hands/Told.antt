@@ -8,10 +8,10 @@ use Rattle.run_shows.specs.Given.RawMachine.{machine_replied}
 use Rattle.run_shows.specs.Given.RawDeclared.machines.asking.Asking.{Asking as AskingAt}
 use Rattle.run_shows.specs.Given.RawDeclared.machines.asking.Asking.TheVariants as asking
 use Rattle.run_shows.specs.Given.RawDeclared.machines.call.Calling.TheVariants as at
-use Rattle.run_shows.specs.Given.SchedulesDeclared.call.Call.{Call}
-use Rattle.run_shows.specs.Given.SchedulesDeclared.call.Call.TheVariants as call
-use Rattle.run_shows.specs.Given.SchedulesDeclared.call.OneKey.{OneKey}
-use Rattle.run_shows.specs.Given.SchedulesDeclared.call.Reply.{Reply}
+use Rattle.run_shows.specs.Given.RunsDeclared.call.Call.{Call}
+use Rattle.run_shows.specs.Given.RunsDeclared.call.Call.TheVariants as call
+use Rattle.run_shows.specs.Given.RunsDeclared.call.OneKey.{OneKey}
+use Rattle.run_shows.specs.Given.RunsDeclared.call.Reply.{Reply}
 use Rattle.run_shows.specs.Given.SchedulesAfter.{replied as replied_at}
 use Rattle.run_shows.specs.Given.SchedulesMoment.{Asking, Told, UnderWay as CallThere, Moment}
 use Rattle.run_shows.specs.Given.SchedulesViews.{call_of}

@@ -1,7 +1,7 @@
 -- Effects after effects.
 use Rattle.std.specs.Prelude.{◌≡◌, ℕ, List, [], ◌∷◌, ◌++◌, Option}
 use Rattle.std.proofs.Common.{refl}
-use Rattle.run_shows.specs.Given.SchedulesDeclared.effect.Effect.{Effect}
+use Rattle.run_shows.specs.Given.RunsDeclared.effect.Effect.{Effect}
 use Rattle.run_shows.specs.Given.SchedulesEffects.{with_effect, with_effects, AtEachEffect}
 use Rattle.run_shows.specs.Given.SchedulesMoment.{Moment}
 

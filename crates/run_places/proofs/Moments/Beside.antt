@@ -10,9 +10,9 @@ use Rattle.run_shows.specs.Given.RunsSame.{is_same}
 use Rattle.run_shows.specs.Given.RawDeclared.machines.asking.Asking.{Asking as AskingAt}
 use Rattle.run_shows.specs.Given.RawDeclared.machines.asking.Asking.TheVariants as asking
 use Rattle.run_shows.specs.Given.RawDeclared.machines.call.Calling.TheVariants as at
-use Rattle.run_shows.specs.Given.SchedulesDeclared.call.Call.{Call}
-use Rattle.run_shows.specs.Given.SchedulesDeclared.call.Call.TheVariants as call
-use Rattle.run_shows.specs.Given.SchedulesDeclared.effect.Table.{Table}
+use Rattle.run_shows.specs.Given.RunsDeclared.call.Call.{Call}
+use Rattle.run_shows.specs.Given.RunsDeclared.call.Call.TheVariants as call
+use Rattle.run_shows.specs.Given.RunsDeclared.effect.Table.{Table}
 use Rattle.run_shows.specs.Given.SchedulesMoment.{InMap, MapThere, UnderWay as CallThere, Moment}
 use Rattle.run_shows.specs.Given.SchedulesViews.{is_in_a_map, map_at, call_of}
 use Rattle.run_shows.specs.Given.RuleChart.{Chart, Still}

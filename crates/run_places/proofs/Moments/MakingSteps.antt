@@ -12,11 +12,11 @@ use Rattle.run_shows.specs.Given.TablesDeclared.node.Node.{Node}
 use Rattle.run_shows.specs.Given.TablesDeclared.setting.Setting.{Setting}
 use Rattle.run_shows.specs.Given.ResizeDeclared.new_map.NewMap.{NewMap}
 use Rattle.run_shows.specs.Given.RunsDeclared.shapes.TableShape.{TableShape}
-use Rattle.run_shows.specs.Given.SchedulesDeclared.effect.Effect.TheVariants.{Linked}
+use Rattle.run_shows.specs.Given.RunsDeclared.effect.Effect.TheVariants.{Linked}
 use Rattle.run_shows.specs.Given.SchedulesEffects.{with_effects}
 use Rattle.run_shows.specs.Given.SchedulesMoment.{Moment}
-use Rattle.run_shows.specs.Given.TellerDeclared.changed.Changed.{Changed}
-use Rattle.run_shows.specs.Given.TellerDeclared.changed.Changed.TheVariants as changed
+use Rattle.run_shows.specs.Given.EffectsDeclared.changed.Changed.{Changed}
+use Rattle.run_shows.specs.Given.EffectsDeclared.changed.Changed.TheVariants as changed
 use Rattle.run_shows.specs.Given.RuleInWorld.{IsOut, IsMapIn}
 use Rattle.run_shows.proofs.Given.CallersTogether.At.{at_other, at_same}
 use Rattle.run_shows.specs.Given.FinishesEndings.{MakingStepsAmong}

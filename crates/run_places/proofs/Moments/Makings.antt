@@ -12,18 +12,18 @@ use Rattle.run_shows.specs.Given.SeizeDeclared.progress.Progress.TheVariants as 
 use Rattle.run_shows.specs.Given.TablesDeclared.node.Node.{Node}
 use Rattle.run_shows.specs.Given.TablesDeclared.setting.Setting.{Setting}
 use Rattle.run_shows.specs.Given.ResizeDeclared.new_map.NewMap.{NewMap}
-use Rattle.run_shows.specs.Given.SchedulesDeclared.effect.Effect.{Effect}
-use Rattle.run_shows.specs.Given.SchedulesDeclared.effect.Effect.TheVariants.{Asked, Linked}
-use Rattle.run_shows.specs.Given.SchedulesDeclared.effect.Growth.TheVariants.{ABlock}
-use Rattle.run_shows.specs.Given.SchedulesDeclared.effect.Table.{Table}
+use Rattle.run_shows.specs.Given.RunsDeclared.effect.Effect.{Effect}
+use Rattle.run_shows.specs.Given.RunsDeclared.effect.Effect.TheVariants.{Asked, Linked}
+use Rattle.run_shows.specs.Given.RunsDeclared.effect.Growth.TheVariants.{ABlock}
+use Rattle.run_shows.specs.Given.RunsDeclared.effect.Table.{Table}
 use Rattle.run_shows.specs.Given.SchedulesEffects.{with_effects}
 use Rattle.run_shows.specs.Given.SchedulesMoment.{Place, Moment}
 use Rattle.run_shows.specs.Given.SchedulesThings.{same_table}
 use Rattle.run_shows.specs.Given.SchedulesViews.{is_there, tables_of}
-use Rattle.run_shows.specs.Given.TellerDeclared.changed.Changed.{Changed}
-use Rattle.run_shows.specs.Given.TellerDeclared.changed.Changed.TheVariants as changed
-use Rattle.run_shows.specs.Given.TellerDeclared.changed.Kind.{Kind}
-use Rattle.run_shows.specs.Given.TellerDeclared.changed.Kind.TheVariants as kind
+use Rattle.run_shows.specs.Given.EffectsDeclared.changed.Changed.{Changed}
+use Rattle.run_shows.specs.Given.EffectsDeclared.changed.Changed.TheVariants as changed
+use Rattle.run_shows.specs.Given.EffectsDeclared.changed.Kind.{Kind}
+use Rattle.run_shows.specs.Given.EffectsDeclared.changed.Kind.TheVariants as kind
 use Rattle.run_shows.specs.Given.FinishesEndings.{MakingStepsAmong}
 use Rattle.run_shows.specs.Given.FinishesMakings.{Beginning}
 use Rattle.run_shows.specs.Given.EffectsEffects.{made_role, made_by, taken_by, led_to, linked_on, named, names_same, effects_of, known_after}

@@ -12,16 +12,16 @@ use Rattle.run_shows.proofs.Given.SeizeAloneHistories.NotTaken.{did, taken_gone}
 use Rattle.run_shows.proofs.Given.SeizeAloneHistories.Reached.{Reached}
 use Rattle.run_shows.specs.Given.TablesNodes.{deferred_word}
 use Rattle.run_shows.specs.Given.TablesDeclared.node.Node.{Node}
-use Rattle.run_shows.specs.Given.SchedulesDeclared.effect.Effect.{Effect}
-use Rattle.run_shows.specs.Given.SchedulesDeclared.effect.Effect.TheVariants.{Asked, Reclaimed}
-use Rattle.run_shows.specs.Given.SchedulesDeclared.effect.Growth.TheVariants.{ABucket}
-use Rattle.run_shows.specs.Given.SchedulesDeclared.effect.Thing.TheVariants.{APair, ATable}
+use Rattle.run_shows.specs.Given.RunsDeclared.effect.Effect.{Effect}
+use Rattle.run_shows.specs.Given.RunsDeclared.effect.Effect.TheVariants.{Asked, Reclaimed}
+use Rattle.run_shows.specs.Given.RunsDeclared.effect.Growth.TheVariants.{ABucket}
+use Rattle.run_shows.specs.Given.RunsDeclared.effect.Thing.TheVariants.{APair, ATable}
 use Rattle.run_shows.specs.Given.SchedulesEffects.{with_effect, with_effects, all_at, AtEachEffect}
 use Rattle.run_shows.specs.Given.SchedulesLists.{put, is_among}
 use Rattle.run_shows.specs.Given.SchedulesMoment.{Place, InMap, Handed, GivenBack, Moment}
 use Rattle.run_shows.specs.Given.SchedulesViews.{behind}
-use Rattle.run_shows.specs.Given.TellerDeclared.changed.Changed.{Changed}
-use Rattle.run_shows.specs.Given.TellerDeclared.changed.Changed.TheVariants as changed
+use Rattle.run_shows.specs.Given.EffectsDeclared.changed.Changed.{Changed}
+use Rattle.run_shows.specs.Given.EffectsDeclared.changed.Changed.TheVariants as changed
 use Rattle.run_shows.proofs.Given.CallersTogether.Came.{came_reached}
 use Rattle.run_shows.specs.Given.FinishesMaps.{Standing, IsSameMap}
 use Rattle.run_shows.specs.Given.EffectsEffects.{names_same, taken_by, effects_of, known_after}

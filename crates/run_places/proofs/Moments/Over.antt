@@ -4,7 +4,7 @@ use Rattle.std.proofs.Common.{refl, ap, sym, ◌∙◌}
 use Rattle.std.proofs.lemmas.Bool.{eqb-true}
 use Rattle.std.proofs.lemmas.List.Elements.{All-filter}
 use Rattle.run_shows.specs.Given.RunsSame.{is_same}
-use Rattle.run_shows.specs.Given.SchedulesDeclared.effect.Table.{Table}
+use Rattle.run_shows.specs.Given.RunsDeclared.effect.Table.{Table}
 use Rattle.run_shows.specs.Given.SchedulesMoment.{MapThere}
 use Rattle.run_shows.specs.Given.SchedulesViews.{map_at}
 use Rattle.run_shows.specs.Given.EffectsDeclared.role.Role.TheVariants as role

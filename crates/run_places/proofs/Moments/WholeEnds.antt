@@ -8,9 +8,9 @@ use Rattle.std.proofs.lemmas.List.Elements.{filter-append}
 use Rattle.run_shows.specs.Given.SeizeWorld.{times}
 use Rattle.run_shows.specs.Given.TablesChunks.{is_incremental}
 use Rattle.run_shows.specs.Given.RuleChart.{Chart}
-use Rattle.run_shows.specs.Given.SchedulesDeclared.effect.Effect.{Effect}
-use Rattle.run_shows.specs.Given.SchedulesDeclared.effect.Effect.TheVariants.{Ended, Taken}
-use Rattle.run_shows.specs.Given.SchedulesDeclared.effect.Table.{Table}
+use Rattle.run_shows.specs.Given.RunsDeclared.effect.Effect.{Effect}
+use Rattle.run_shows.specs.Given.RunsDeclared.effect.Effect.TheVariants.{Ended, Taken}
+use Rattle.run_shows.specs.Given.RunsDeclared.effect.Table.{Table}
 use Rattle.run_shows.specs.Given.SchedulesAfter.{tables_taken}
 use Rattle.run_shows.specs.Given.SchedulesEffects.{with_effect, with_effects}
 use Rattle.run_shows.specs.Given.SchedulesLists.{put}

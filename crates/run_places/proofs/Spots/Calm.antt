@@ -7,14 +7,14 @@ use Rattle.run_shows.specs.Given.SeizeWordsMem.{Mem}
 use Rattle.run_shows.specs.Given.SeizeWorld.{World}
 use Rattle.run_shows.specs.Given.TablesDeclared.node.Node.{Node}
 use Rattle.run_shows.specs.Given.TablesDeclared.setting.Setting.{Setting}
-use Rattle.run_shows.specs.Given.SchedulesDeclared.effect.Effect.{Effect}
-use Rattle.run_shows.specs.Given.SchedulesDeclared.effect.Effect.TheVariants.{Asked}
-use Rattle.run_shows.specs.Given.SchedulesDeclared.effect.Growth.TheVariants.{ABlock, ABucket}
+use Rattle.run_shows.specs.Given.RunsDeclared.effect.Effect.{Effect}
+use Rattle.run_shows.specs.Given.RunsDeclared.effect.Effect.TheVariants.{Asked}
+use Rattle.run_shows.specs.Given.RunsDeclared.effect.Growth.TheVariants.{ABlock, ABucket}
 use Rattle.run_shows.specs.Given.SchedulesLists.{put}
-use Rattle.run_shows.specs.Given.TellerDeclared.changed.Changed.{Changed}
-use Rattle.run_shows.specs.Given.TellerDeclared.changed.Changed.TheVariants as changed
-use Rattle.run_shows.specs.Given.TellerDeclared.changed.Kind.{Kind}
-use Rattle.run_shows.specs.Given.TellerDeclared.changed.Kind.TheVariants as kind
+use Rattle.run_shows.specs.Given.EffectsDeclared.changed.Changed.{Changed}
+use Rattle.run_shows.specs.Given.EffectsDeclared.changed.Changed.TheVariants as changed
+use Rattle.run_shows.specs.Given.EffectsDeclared.changed.Kind.{Kind}
+use Rattle.run_shows.specs.Given.EffectsDeclared.changed.Kind.TheVariants as kind
 use Rattle.run_shows.specs.Given.TellsTells.{KeepsNames}
 use Rattle.run_shows.specs.Given.RuleChart.{Chart}
 use Rattle.run_shows.specs.Given.RuleWords.{Blocks}

@@ -3,7 +3,7 @@ use Rattle.std.specs.Prelude.{◌≡◌, ◌≢◌, ℕ, suc, ◌<◌, ◌≤◌
 use Rattle.std.proofs.Common.{refl, ap, sym, subst, ◌∙◌, arith, inl, inr}
 use Rattle.std.proofs.lemmas.Bool.{cases_eq, cases_lt}
 use Rattle.run_shows.specs.Given.TablesDeclared.status.TheConstants.Status.{ABORTED}
-use Rattle.run_shows.specs.Given.SchedulesDeclared.effect.Spot.{Spot}
+use Rattle.run_shows.specs.Given.RunsDeclared.effect.Spot.{Spot}
 use Rattle.run_shows.specs.Given.SchedulesEffects.{later}
 use Rattle.run_shows.specs.Given.RuleChart.{Phase, Still, Copying, Copied, Place, Empty, Holds, Share, Counted, Chart, put_in, is_settled}
 use Rattle.run_shows.specs.Given.RuleRule.{IsLawful, is_of, names, is_past, is_over, Agrees, Rule}

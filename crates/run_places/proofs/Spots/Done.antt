@@ -13,12 +13,12 @@ use Rattle.run_shows.specs.Given.TablesDeclared.marks.TheConstants.{TOMBSTONE}
 use Rattle.run_shows.specs.Given.TablesDeclared.node.Node.{Node}
 use Rattle.run_shows.specs.Given.TablesDeclared.setting.Setting.{Setting}
 use Rattle.run_shows.specs.Given.TablesDeclared.table_words.TheConstants.{PLACES}
-use Rattle.run_shows.specs.Given.SchedulesDeclared.effect.Effect.{Effect}
-use Rattle.run_shows.specs.Given.SchedulesDeclared.effect.Effect.TheVariants.{Copied, Stored, Replaced, Removed, Linked, Promoted}
-use Rattle.run_shows.specs.Given.SchedulesDeclared.effect.Spot.{Spot}
+use Rattle.run_shows.specs.Given.RunsDeclared.effect.Effect.{Effect}
+use Rattle.run_shows.specs.Given.RunsDeclared.effect.Effect.TheVariants.{Copied, Stored, Replaced, Removed, Linked, Promoted}
+use Rattle.run_shows.specs.Given.RunsDeclared.effect.Spot.{Spot}
 use Rattle.run_shows.specs.Given.SchedulesMoment.{Moment}
-use Rattle.run_shows.specs.Given.TellerDeclared.changed.Changed.{Changed}
-use Rattle.run_shows.specs.Given.TellerDeclared.changed.Changed.TheVariants as changed
+use Rattle.run_shows.specs.Given.EffectsDeclared.changed.Changed.{Changed}
+use Rattle.run_shows.specs.Given.EffectsDeclared.changed.Changed.TheVariants as changed
 use Rattle.run_shows.specs.Given.TellsSeen.{Seen, Wrote}
 use Rattle.run_shows.specs.Given.TellsTells.{place_at, last_link, IsQuiet, new_word, IsSeenAs, IsTold}
 use Rattle.run_shows.specs.Given.RuleChart.{Phase, Still, Copying, Holds, Chart}

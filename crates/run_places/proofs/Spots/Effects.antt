@@ -1,10 +1,10 @@
 -- What effects leave of where pairs lie.
 use Rattle.std.specs.Prelude.{◌≡◌, ◌≢◌, ℕ, ◌==◌, Bool, true, false, ◌&&◌, List, [], ◌∷◌, Option, Some, None, if◌then◌else◌}
 use Rattle.std.proofs.Common.{refl, ap, ◌∙◌}
-use Rattle.run_shows.specs.Given.SchedulesDeclared.effect.Effect.{Effect}
-use Rattle.run_shows.specs.Given.SchedulesDeclared.effect.Effect.TheVariants.{Stored, Copied, Promoted}
-use Rattle.run_shows.specs.Given.SchedulesDeclared.effect.Spot.{Spot}
-use Rattle.run_shows.specs.Given.SchedulesDeclared.effect.Table.{Table}
+use Rattle.run_shows.specs.Given.RunsDeclared.effect.Effect.{Effect}
+use Rattle.run_shows.specs.Given.RunsDeclared.effect.Effect.TheVariants.{Stored, Copied, Promoted}
+use Rattle.run_shows.specs.Given.RunsDeclared.effect.Spot.{Spot}
+use Rattle.run_shows.specs.Given.RunsDeclared.effect.Table.{Table}
 use Rattle.run_shows.specs.Given.SchedulesEffects.{later, born_by, copy_by, spot_by, with_effect, with_effects}
 use Rattle.run_shows.specs.Given.SchedulesMoment.{Place, Moment}
 use Rattle.run_shows.specs.Given.SchedulesViews.{is_in_map}

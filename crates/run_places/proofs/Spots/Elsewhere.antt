@@ -6,16 +6,16 @@ use Rattle.run_shows.specs.Given.SeizeWordsMem.{Mem}
 use Rattle.run_shows.specs.Given.SeizeWorld.{World}
 use Rattle.run_shows.specs.Given.TablesChunks.{is_incremental}
 use Rattle.run_shows.specs.Given.TablesDeclared.node.Node.{Node}
-use Rattle.run_shows.specs.Given.SchedulesDeclared.effect.Effect.{Effect}
-use Rattle.run_shows.specs.Given.SchedulesDeclared.effect.Effect.TheVariants.{Copied, Stored, Replaced}
-use Rattle.run_shows.specs.Given.SchedulesDeclared.effect.Spot.{Spot}
-use Rattle.run_shows.specs.Given.SchedulesDeclared.effect.Table.{Table}
+use Rattle.run_shows.specs.Given.RunsDeclared.effect.Effect.{Effect}
+use Rattle.run_shows.specs.Given.RunsDeclared.effect.Effect.TheVariants.{Copied, Stored, Replaced}
+use Rattle.run_shows.specs.Given.RunsDeclared.effect.Spot.{Spot}
+use Rattle.run_shows.specs.Given.RunsDeclared.effect.Table.{Table}
 use Rattle.run_shows.specs.Given.SchedulesEffects.{later, new_pair, stored_by, with_effect, with_effects}
 use Rattle.run_shows.specs.Given.SchedulesEntry.{acting}
 use Rattle.run_shows.specs.Given.SchedulesLists.{put}
 use Rattle.run_shows.specs.Given.SchedulesMoment.{Moment, UnderWay}
 use Rattle.run_shows.specs.Given.SchedulesViews.{is_in_map}
-use Rattle.run_shows.specs.Given.TellerDeclared.changed.Changed.{Changed}
+use Rattle.run_shows.specs.Given.EffectsDeclared.changed.Changed.{Changed}
 use Rattle.run_shows.specs.Given.RuleChart.{Chart}
 use Rattle.run_shows.specs.Given.RuleMoves.{Move, Links, Stores, Replaces, Removes, Marks, MarksBlocking, Skips, Unmarks, Puts, Covers, PutsLate, Claims, Reclaims, Counts, GivesUp, Aborts, Promotes, Announces}
 use Rattle.run_shows.specs.Given.RuleWords.{Blocks}

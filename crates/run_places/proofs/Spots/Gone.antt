@@ -2,7 +2,7 @@
 use Rattle.std.specs.Prelude.{◌≡◌, ◌≢◌, ℕ, Bool, true, false, ◌&&◌, ◌||◌, List, [], ◌∷◌, map, if◌then◌else◌}
 use Rattle.std.specs.List.{list_any}
 use Rattle.std.proofs.Common.{refl, ap, sym, subst, ◌∙◌}
-use Rattle.run_shows.specs.Given.SchedulesDeclared.effect.Table.{Table}
+use Rattle.run_shows.specs.Given.RunsDeclared.effect.Table.{Table}
 use Rattle.run_shows.specs.Given.SchedulesEffects.{all_at, at_stage}
 use Rattle.run_shows.specs.Given.SchedulesLists.{is_among, put}
 use Rattle.run_shows.specs.Given.SchedulesMoment.{Place, GivenBack, Stage, TableThere, Moment}

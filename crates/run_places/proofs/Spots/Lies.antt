@@ -1,7 +1,7 @@
 -- Where a pair of the map lies after each change of its tables, in either mode.
 use Rattle.std.specs.Prelude.{◌≡◌, ℕ, ◌<◌, ◌≤◌, Bool, true, false, if◌then◌else◌}
 use Rattle.std.proofs.Common.{refl, ap}
-use Rattle.run_shows.specs.Given.SchedulesDeclared.effect.Spot.{Spot}
+use Rattle.run_shows.specs.Given.RunsDeclared.effect.Spot.{Spot}
 use Rattle.run_shows.specs.Given.SchedulesEffects.{later}
 use Rattle.run_shows.specs.Given.RuleChart.{Copying, Holds, Chart}
 use Rattle.run_shows.specs.Given.RuleRule.{IsLawful, Rule}

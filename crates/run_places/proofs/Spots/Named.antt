@@ -6,11 +6,11 @@ use Rattle.run_shows.specs.Given.SeizeWordsDeclared.at.At.TheVariants.{Root, Use
 use Rattle.run_shows.specs.Given.SeizeWordsWord.{block_in}
 use Rattle.run_shows.specs.Given.SeizeDeclared.states.TheConstants.{FIRST}
 use Rattle.run_shows.specs.Given.TablesDeclared.table_words.TheConstants.{NEXT, DEFERRED}
-use Rattle.run_shows.specs.Given.SchedulesDeclared.effect.Effect.{Effect}
-use Rattle.run_shows.specs.Given.SchedulesDeclared.effect.Effect.TheVariants.{Deferred, Retired}
-use Rattle.run_shows.specs.Given.SchedulesDeclared.effect.Spot.{Spot}
-use Rattle.run_shows.specs.Given.SchedulesDeclared.effect.Table.{Table}
-use Rattle.run_shows.specs.Given.SchedulesDeclared.effect.Thing.TheVariants.{APair, ATable}
+use Rattle.run_shows.specs.Given.RunsDeclared.effect.Effect.{Effect}
+use Rattle.run_shows.specs.Given.RunsDeclared.effect.Effect.TheVariants.{Deferred, Retired}
+use Rattle.run_shows.specs.Given.RunsDeclared.effect.Spot.{Spot}
+use Rattle.run_shows.specs.Given.RunsDeclared.effect.Table.{Table}
+use Rattle.run_shows.specs.Given.RunsDeclared.effect.Thing.TheVariants.{APair, ATable}
 use Rattle.run_shows.specs.Given.EffectsEffects.{names_same, followed_by, led_to, carried, placed, spot_at, is_place, in_table, in_block, batched, named, written_by}
 use Rattle.run_shows.specs.Given.EffectsKnown.{Known}
 use Rattle.run_shows.specs.Given.EffectsDeclared.acting.Acting.{Acting}

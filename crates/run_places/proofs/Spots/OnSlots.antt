@@ -3,15 +3,15 @@ use Rattle.std.specs.Prelude.{◌≡◌, ℕ, nat_lt, ◌&&◌, Bool, true, fals
 use Rattle.std.specs.List.{list_any}
 use Rattle.std.proofs.Common.{refl, ap, sym, subst, ◌∙◌}
 use Rattle.run_shows.specs.Given.SeizeWordsDeclared.at.At.TheVariants.{Root, Used, Slot, Entry, Word}
-use Rattle.run_shows.specs.Given.SchedulesDeclared.effect.Effect.{Effect}
-use Rattle.run_shows.specs.Given.SchedulesDeclared.effect.Effect.TheVariants.{Asked}
-use Rattle.run_shows.specs.Given.SchedulesDeclared.effect.Growth.TheVariants.{ABucket}
+use Rattle.run_shows.specs.Given.RunsDeclared.effect.Effect.{Effect}
+use Rattle.run_shows.specs.Given.RunsDeclared.effect.Effect.TheVariants.{Asked}
+use Rattle.run_shows.specs.Given.RunsDeclared.effect.Growth.TheVariants.{ABucket}
 use Rattle.run_shows.specs.Given.SchedulesEffects.{with_effect, with_effects, AtEachEffect}
 use Rattle.run_shows.specs.Given.SchedulesMoment.{Place, Handed, IsReclaimed, Moment}
 use Rattle.run_shows.specs.Given.SchedulesThings.{same_table}
 use Rattle.run_shows.specs.Given.SchedulesViews.{is_there}
-use Rattle.run_shows.specs.Given.TellerDeclared.changed.Changed.{Changed}
-use Rattle.run_shows.specs.Given.TellerDeclared.changed.Changed.TheVariants as changed
+use Rattle.run_shows.specs.Given.EffectsDeclared.changed.Changed.{Changed}
+use Rattle.run_shows.specs.Given.EffectsDeclared.changed.Changed.TheVariants as changed
 use Rattle.run_shows.specs.Given.EffectsEffects.{names_same, taken_by, effects_of, known_after}
 use Rattle.run_shows.specs.Given.EffectsKnown.{Known, with_role}
 use Rattle.run_shows.specs.Given.EffectsDeclared.acting.Acting.TheVariants.{Row}

@@ -10,12 +10,12 @@ use Rattle.run_shows.specs.Given.TablesDeclared.setting.Setting.{Setting}
 use Rattle.run_shows.specs.Given.RawMachine.{machine_plan}
 use Rattle.run_shows.specs.Given.RawDeclared.machines.machine.Machine.{Machine}
 use Rattle.run_shows.specs.Given.RawDeclared.machines.progress.Progress.{Progress}
-use Rattle.run_shows.specs.Given.SchedulesDeclared.effect.Effect.{Effect}
+use Rattle.run_shows.specs.Given.RunsDeclared.effect.Effect.{Effect}
 use Rattle.run_shows.specs.Given.SchedulesEffects.{with_effects, AtEachEffect}
 use Rattle.run_shows.specs.Given.SchedulesMoment.{Place, Unborn, InMap, Out, Handed, Behind, Left, GivenBack, Moment}
 use Rattle.run_shows.specs.Given.SchedulesViews.{is_in_map}
-use Rattle.run_shows.specs.Given.TellerDeclared.changed.Changed.{Changed}
-use Rattle.run_shows.specs.Given.TellerDeclared.changed.Changed.TheVariants as changed
+use Rattle.run_shows.specs.Given.EffectsDeclared.changed.Changed.{Changed}
+use Rattle.run_shows.specs.Given.EffectsDeclared.changed.Changed.TheVariants as changed
 use Rattle.run_shows.specs.Given.TellsSeen.{Seen, Unseen, Wrote, seen_of}
 use Rattle.run_shows.specs.Given.TellsTells.{IsTold}
 use Rattle.run_shows.proofs.Given.TellsPromised.{operations_tell, still_steps_tell}

@@ -3,7 +3,7 @@ use Rattle.std.specs.Prelude.{◌≡◌, ◌≢◌, ℕ, zero, suc, ◌+◌, ◌
 use Rattle.std.specs.List.{list_any}
 use Rattle.std.proofs.Common.{refl, ap, sym, ◌∙◌, arith, inl, inr}
 use Rattle.std.proofs.lemmas.Bool.{cases_eq, eq-eqb}
-use Rattle.run_shows.specs.Given.SchedulesDeclared.effect.Spot.{Spot}
+use Rattle.run_shows.specs.Given.RunsDeclared.effect.Spot.{Spot}
 use Rattle.run_shows.specs.Given.SchedulesLists.{numbers_from}
 use Rattle.run_shows.specs.Given.SchedulesMoment.{Moment}
 use Rattle.run_shows.specs.Given.SchedulesThings.{same_spot}

@@ -4,7 +4,7 @@ use Rattle.std.specs.List.{list_any}
 use Rattle.std.proofs.Common.{refl, ap, sym, subst, ◌∙◌, arith, inl, inr}
 use Rattle.std.proofs.lemmas.Bool.{eq-eqb, cases_eq}
 use Rattle.run_shows.specs.Given.RunsDeclared.shapes.TableShape.{TableShape}
-use Rattle.run_shows.specs.Given.SchedulesDeclared.effect.Table.{Table}
+use Rattle.run_shows.specs.Given.RunsDeclared.effect.Table.{Table}
 use Rattle.run_shows.specs.Given.SchedulesEffects.{at_stage}
 use Rattle.run_shows.specs.Given.SchedulesLists.{put}
 use Rattle.run_shows.specs.Given.SchedulesMoment.{Place, Stage, IsLinked, IsRetired, TableThere, Moment}

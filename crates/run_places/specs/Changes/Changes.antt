@@ -1,9 +1,9 @@
 -- What a step of a call on one key changes of its map.
 use Rattle.std.specs.Prelude.{◌≡◌, ℕ, List, Option, Some}
-use Rattle.run_shows.specs.Given.SchedulesDeclared.call.OneKey.{OneKey}
-use Rattle.run_shows.specs.Given.SchedulesDeclared.call.OneKey.TheVariants.{Compute, RemoveIf}
-use Rattle.run_shows.specs.Given.SchedulesDeclared.call.Reply.{Reply}
-use Rattle.run_shows.specs.Given.SchedulesDeclared.call.Reply.TheVariants.{Decides}
+use Rattle.run_shows.specs.Given.RunsDeclared.call.OneKey.{OneKey}
+use Rattle.run_shows.specs.Given.RunsDeclared.call.OneKey.TheVariants.{Compute, RemoveIf}
+use Rattle.run_shows.specs.Given.RunsDeclared.call.Reply.{Reply}
+use Rattle.run_shows.specs.Given.RunsDeclared.call.Reply.TheVariants.{Decides}
 use Rattle.run_shows.specs.Given.SchedulesViews.{reply_to}
 
 -- a call of this kind takes such a reply: `remove_if` a yes or no, and `compute` what is not

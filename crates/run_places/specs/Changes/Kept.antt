@@ -2,9 +2,9 @@
 use Rattle.std.specs.Prelude.{◌≡◌, ℕ, Bool, true, List, [], Option, Some, Ok, ◌⊎◌, suc}
 use Rattle.run_shows.specs.Given.RunsSame.{is_same}
 use Rattle.run_shows.specs.Given.RawMachine.{machine_replied}
-use Rattle.run_shows.specs.Given.SchedulesDeclared.call.Call.{Call}
-use Rattle.run_shows.specs.Given.SchedulesDeclared.call.Reply.{Reply}
-use Rattle.run_shows.specs.Given.SchedulesDeclared.outcome.Outcome.{Outcome}
+use Rattle.run_shows.specs.Given.RunsDeclared.call.Call.{Call}
+use Rattle.run_shows.specs.Given.RunsDeclared.call.Reply.{Reply}
+use Rattle.run_shows.specs.Given.RunsDeclared.outcome.Outcome.{Outcome}
 use Rattle.run_shows.specs.Given.SchedulesBeginning.{with_call}
 use Rattle.run_shows.specs.Given.SchedulesEntry.{ends_call}
 use Rattle.run_shows.specs.Given.SchedulesMoment.{Asking, UnderWay as CallThere, Moment, start}

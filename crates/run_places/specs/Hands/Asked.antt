@@ -9,12 +9,12 @@ use Rattle.run_shows.specs.Given.RawDeclared.machines.asking.Reply.{Reply as Mac
 use Rattle.run_shows.specs.Given.RawDeclared.machines.asking.Reply.TheVariants as reply
 use Rattle.run_shows.specs.Given.RawDeclared.machines.call.Calling.{Calling}
 use Rattle.run_shows.specs.Given.RawDeclared.machines.call.Calling.TheVariants as at
-use Rattle.run_shows.specs.Given.SchedulesDeclared.call.Call.{Call}
-use Rattle.run_shows.specs.Given.SchedulesDeclared.call.Call.TheVariants.{On}
-use Rattle.run_shows.specs.Given.SchedulesDeclared.call.OneKey.{OneKey}
-use Rattle.run_shows.specs.Given.SchedulesDeclared.call.OneKey.TheVariants.{Get, GetKeyValue, ContainsKey, Insert, TryInsert, TryInsertWith, GetOrInsert, GetOrInsertWith, Update, UpdateOrInsert, UpdateOrInsertWith, Compute, Remove, RemoveEntry, RemoveIf}
-use Rattle.run_shows.specs.Given.SchedulesDeclared.call.Reply.{Reply}
-use Rattle.run_shows.specs.Given.SchedulesDeclared.call.Reply.TheVariants.{Gives, Removes, Aborts, Decides}
+use Rattle.run_shows.specs.Given.RunsDeclared.call.Call.{Call}
+use Rattle.run_shows.specs.Given.RunsDeclared.call.Call.TheVariants.{On}
+use Rattle.run_shows.specs.Given.RunsDeclared.call.OneKey.{OneKey}
+use Rattle.run_shows.specs.Given.RunsDeclared.call.OneKey.TheVariants.{Get, GetKeyValue, ContainsKey, Insert, TryInsert, TryInsertWith, GetOrInsert, GetOrInsertWith, Update, UpdateOrInsert, UpdateOrInsertWith, Compute, Remove, RemoveEntry, RemoveIf}
+use Rattle.run_shows.specs.Given.RunsDeclared.call.Reply.{Reply}
+use Rattle.run_shows.specs.Given.RunsDeclared.call.Reply.TheVariants.{Gives, Removes, Aborts, Decides}
 use Rattle.run_shows.specs.Given.SchedulesMoment.{Asking, UnderWay as CallThere, Moment}
 use Rattle.run_shows.specs.Given.SchedulesViews.{call_of}
 use Rattle.run_shows.specs.Given.CallersAsked.{Asked, last_told, told_before}

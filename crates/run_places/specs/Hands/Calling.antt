@@ -3,11 +3,11 @@ use Rattle.std.specs.Prelude.{◌≡◌, ℕ, Bool, true, List, [], Option, Some
 use Rattle.run_shows.specs.Given.SeizeWorld.{Rests}
 use Rattle.run_shows.specs.Given.RunsSame.{is_same}
 use Rattle.run_shows.specs.Given.RawMachine.{machine_replied}
-use Rattle.run_shows.specs.Given.SchedulesDeclared.call.Call.{Call}
-use Rattle.run_shows.specs.Given.SchedulesDeclared.call.Call.TheVariants.{On}
-use Rattle.run_shows.specs.Given.SchedulesDeclared.call.Reply.{Reply}
-use Rattle.run_shows.specs.Given.SchedulesDeclared.outcome.Outcome.{Outcome}
-use Rattle.run_shows.specs.Given.SchedulesDeclared.outcome.Outcome.TheVariants.{Asks}
+use Rattle.run_shows.specs.Given.RunsDeclared.call.Call.{Call}
+use Rattle.run_shows.specs.Given.RunsDeclared.call.Call.TheVariants.{On}
+use Rattle.run_shows.specs.Given.RunsDeclared.call.Reply.{Reply}
+use Rattle.run_shows.specs.Given.RunsDeclared.outcome.Outcome.{Outcome}
+use Rattle.run_shows.specs.Given.RunsDeclared.outcome.Outcome.TheVariants.{Asks}
 use Rattle.run_shows.specs.Given.SchedulesBeginning.{with_call}
 use Rattle.run_shows.specs.Given.SchedulesEntry.{ends_call}
 use Rattle.run_shows.specs.Given.SchedulesMoment.{Asking, UnderWay as CallThere, Moment}

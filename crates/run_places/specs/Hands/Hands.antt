@@ -1,7 +1,7 @@
 -- In whose hands the blocks are that a moment of a run has in maps: in nobody's.
 use Rattle.std.specs.Prelude.{◌≡◌, ℕ, ◌<◌, ◌≤◌, true, length, Some}
 use Rattle.run_shows.specs.Given.SeizeWorld.{Hand, InUse, LeftTo}
-use Rattle.run_shows.specs.Given.SchedulesDeclared.effect.Table.{Table}
+use Rattle.run_shows.specs.Given.RunsDeclared.effect.Table.{Table}
 use Rattle.run_shows.specs.Given.SchedulesMoment.{InMap, MapThere, Moment}
 use Rattle.run_shows.specs.Given.SchedulesViews.{is_in_a_map, map_at}
 use Rattle.run_shows.specs.Given.EffectsKnown.{Known}

@@ -3,12 +3,12 @@ use Rattle.std.specs.Prelude.{◌≡◌, ℕ, ◌<◌, Bool, List, [], Option, S
 use Rattle.std.specs.List.{All}
 use Rattle.run_shows.specs.Given.TablesDeclared.node.Node.{Node}
 use Rattle.run_shows.specs.Given.TablesDeclared.setting.Setting.{Setting}
-use Rattle.run_shows.specs.Given.SchedulesDeclared.effect.Effect.{Effect}
+use Rattle.run_shows.specs.Given.RunsDeclared.effect.Effect.{Effect}
 use Rattle.run_shows.specs.Given.SchedulesBeginning.{with_map}
 use Rattle.run_shows.specs.Given.SchedulesEffects.{with_effects}
 use Rattle.run_shows.specs.Given.SchedulesMoment.{InMap, MapThere, Remains, Moment, start}
 use Rattle.run_shows.specs.Given.SchedulesViews.{map_at, tables_of}
-use Rattle.run_shows.specs.Given.TellerDeclared.changed.Changed.{Changed}
+use Rattle.run_shows.specs.Given.EffectsDeclared.changed.Changed.{Changed}
 use Rattle.run_shows.specs.Given.EffectsEffects.{map_of, effects_of}
 use Rattle.run_shows.specs.Given.EffectsKnown.{Known}
 use Rattle.run_shows.specs.Given.EffectsDeclared.acting.Acting.{Acting}

@@ -1,9 +1,9 @@
 -- Where pairs lie, which blocks are unreclaimed, and what waits behind tables, after a step of a row on a slot.
 use Rattle.std.specs.Prelude.{◌≡◌, ℕ, Bool, true, List, None}
 use Rattle.run_shows.specs.Given.SeizeWorld.{Step}
-use Rattle.run_shows.specs.Given.SchedulesDeclared.effect.Effect.{Effect}
-use Rattle.run_shows.specs.Given.SchedulesDeclared.effect.Effect.TheVariants.{Reclaimed}
-use Rattle.run_shows.specs.Given.SchedulesDeclared.effect.Thing.TheVariants.{ATable}
+use Rattle.run_shows.specs.Given.RunsDeclared.effect.Effect.{Effect}
+use Rattle.run_shows.specs.Given.RunsDeclared.effect.Effect.TheVariants.{Reclaimed}
+use Rattle.run_shows.specs.Given.RunsDeclared.effect.Thing.TheVariants.{ATable}
 use Rattle.run_shows.specs.Given.SchedulesEffects.{with_effects, AtEachEffect}
 use Rattle.run_shows.specs.Given.SchedulesLists.{is_among}
 use Rattle.run_shows.specs.Given.SchedulesMoment.{Moment}

@@ -2,8 +2,8 @@
 use Rattle.std.specs.Prelude.{◌≡◌, ℕ, ◌+◌, ◌<◌, Bool, true, false, List, [], ◌∷◌, Some}
 use Rattle.run_shows.specs.Given.TablesDeclared.node.Node.{Node}
 use Rattle.run_shows.specs.Given.RawDeclared.machines.progress.Progress.{Progress}
-use Rattle.run_shows.specs.Given.SchedulesDeclared.effect.Effect.{Effect}
-use Rattle.run_shows.specs.Given.SchedulesDeclared.effect.Effect.TheVariants.{Stored, Replaced, Copied}
+use Rattle.run_shows.specs.Given.RunsDeclared.effect.Effect.{Effect}
+use Rattle.run_shows.specs.Given.RunsDeclared.effect.Effect.TheVariants.{Stored, Replaced, Copied}
 use Rattle.run_shows.specs.Given.SchedulesLives.{MayCopy}
 use Rattle.run_shows.specs.Given.SchedulesTries.{has_pair_at}
 use Rattle.run_shows.specs.Given.SchedulesMoment.{Moment}

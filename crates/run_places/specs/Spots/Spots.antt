@@ -2,7 +2,7 @@
 use Rattle.std.specs.Prelude.{◌≡◌, ◌≢◌, ℕ, ◌<◌, ◌≤◌, nat_lt, Bool, true, false, length, Option, Some}
 use Rattle.run_shows.specs.Given.TablesChunks.{is_incremental}
 use Rattle.run_shows.specs.Given.TablesDeclared.status.TheConstants.Status.{ABORTED}
-use Rattle.run_shows.specs.Given.SchedulesDeclared.effect.Spot.{Spot}
+use Rattle.run_shows.specs.Given.RunsDeclared.effect.Spot.{Spot}
 use Rattle.run_shows.specs.Given.SchedulesMoment.{Moment}
 use Rattle.run_shows.specs.Given.RuleChart.{Place, Holds, Chart}
 use Rattle.run_shows.specs.Given.FinishesMaps.{Standing}

@@ -1,6 +1,6 @@
 -- Which blocks are not reclaimed at a moment of a run: those of the pairs and the tables that were not given back.
 use Rattle.std.specs.Prelude.{◌≡◌, ℕ, Bool, true, false}
-use Rattle.run_shows.specs.Given.SchedulesDeclared.effect.Table.{Table}
+use Rattle.run_shows.specs.Given.RunsDeclared.effect.Table.{Table}
 use Rattle.run_shows.specs.Given.SchedulesMoment.{Place, Unborn, GivenBack, Moment}
 use Rattle.run_shows.specs.Given.SchedulesViews.{is_there, is_stage}
 use Rattle.run_shows.specs.Given.EffectsKnown.{Known}

@@ -4,10 +4,10 @@ use Rattle.std.proofs.Common.{refl, ap, sym, ◌∙◌, arith, inl, inr}
 use Rattle.std.proofs.lemmas.Bool.{ne_eqb, eq-eqb, cases_eq}
 use Rattle.std.proofs.lemmas.List.Elements.{filter-append}
 use Rattle.run_effects.specs.Given.RunsDeclared.shapes.TableShape.{TableShape}
-use Rattle.run_effects.specs.Given.SchedulesDeclared.effect.Effect.{Effect}
-use Rattle.run_effects.specs.Given.SchedulesDeclared.effect.Effect.TheVariants.{Asked, PairMade, PairGivenUp, TableMade, TableGivenUp, Linked, Promoted, Copied, Stored, Replaced, Removed, Counted, Deferred, Retired, Reclaimed, Ended, Taken}
-use Rattle.run_effects.specs.Given.SchedulesDeclared.effect.Spot.{Spot}
-use Rattle.run_effects.specs.Given.SchedulesDeclared.effect.Table.{Table}
+use Rattle.run_effects.specs.Given.RunsDeclared.effect.Effect.{Effect}
+use Rattle.run_effects.specs.Given.RunsDeclared.effect.Effect.TheVariants.{Asked, PairMade, PairGivenUp, TableMade, TableGivenUp, Linked, Promoted, Copied, Stored, Replaced, Removed, Counted, Deferred, Retired, Reclaimed, Ended, Taken}
+use Rattle.run_effects.specs.Given.RunsDeclared.effect.Spot.{Spot}
+use Rattle.run_effects.specs.Given.RunsDeclared.effect.Table.{Table}
 use Rattle.run_effects.specs.Given.SchedulesEntry.{acting}
 use Rattle.run_effects.specs.Given.SchedulesEffects.{promoted, stored_by, with_effect, with_effects}
 use Rattle.run_effects.specs.Given.SchedulesLists.{put}

@@ -9,14 +9,14 @@ use Rattle.run_effects.specs.Given.TablesDeclared.node.Node.{Node}
 use Rattle.run_effects.specs.Given.ResizeDeclared.outcome.Outcome.{Outcome}
 use Rattle.run_effects.specs.Given.ResizeDeclared.outcome.Outcome.TheVariants as outcome
 use Rattle.run_effects.specs.Given.ResizeDeclared.sum.Sum.{Sum}
-use Rattle.run_effects.specs.Given.SweepsDeclared.sweep.Swept.{Swept}
-use Rattle.run_effects.specs.Given.SweepsDeclared.sweep.Swept.TheVariants as swept
+use Rattle.run_effects.specs.Given.ReservesDeclared.sweep.Swept.{Swept}
+use Rattle.run_effects.specs.Given.ReservesDeclared.sweep.Swept.TheVariants as swept
 use Rattle.run_effects.specs.Given.RawDeclared.machines.answer.Called.{Called}
 use Rattle.run_effects.specs.Given.RawDeclared.machines.answer.Called.TheVariants as called
 use Rattle.run_effects.specs.Given.RawDeclared.machines.machine.Machine.{Machine}
 use Rattle.run_effects.specs.Given.RawDeclared.machines.progress.Progress.{Progress}
-use Rattle.run_effects.specs.Given.SchedulesDeclared.call.Call.{Call}
-use Rattle.run_effects.specs.Given.SchedulesDeclared.call.Call.TheVariants as call
+use Rattle.run_effects.specs.Given.RunsDeclared.call.Call.{Call}
+use Rattle.run_effects.specs.Given.RunsDeclared.call.Call.TheVariants as call
 use Rattle.many_maps.specs.Given.CallersOverAll.{CallOverAll}
 use Rattle.many_maps.specs.Given.CallersRooms.{CallForRoom}
 use Rattle.many_maps.specs.Given.CallersTogether.{CallOnKey, UnderWay, OnKey, ForRoom, Counting, OverAll, next_of, next_for_room, next_of_counting, next_over_all}

@@ -5,10 +5,10 @@ use Rattle.std.proofs.lemmas.Bool.{eq-eqb, cases_eq}
 use Rattle.seize.specs.World.{with_at}
 use Rattle.run_effects.specs.Given.RunsSame.{is_same}
 use Rattle.run_effects.specs.Given.RawDeclared.machines.asking.Reply.{Reply as MachineReply}
-use Rattle.run_effects.specs.Given.SchedulesDeclared.call.Call.{Call}
-use Rattle.run_effects.specs.Given.SchedulesDeclared.call.Reply.{Reply}
-use Rattle.run_effects.specs.Given.SchedulesDeclared.outcome.Outcome.{Outcome}
-use Rattle.run_effects.specs.Given.SchedulesDeclared.outcome.Outcome.TheVariants as outcome
+use Rattle.run_effects.specs.Given.RunsDeclared.call.Call.{Call}
+use Rattle.run_effects.specs.Given.RunsDeclared.call.Reply.{Reply}
+use Rattle.run_effects.specs.Given.RunsDeclared.outcome.Outcome.{Outcome}
+use Rattle.run_effects.specs.Given.RunsDeclared.outcome.Outcome.TheVariants as outcome
 use Rattle.run_effects.specs.Given.SchedulesAfter.{asks_on, comes_to, replied, without_call}
 use Rattle.run_effects.specs.Given.SchedulesBeginning.{fresh_call, with_call}
 use Rattle.run_effects.specs.Given.SchedulesEntry.{ends_call}

@@ -4,10 +4,10 @@ use Rattle.std.proofs.Common.{refl, ap, sym, subst, ◌∙◌, inl, inr}
 use Rattle.std.proofs.lemmas.Bool.{cases_eq}
 use Rattle.seize.specs.World.{with_at}
 use Rattle.run_effects.specs.Given.RunsSame.{is_same}
-use Rattle.run_effects.specs.Given.SchedulesDeclared.call.Call.{Call}
-use Rattle.run_effects.specs.Given.SchedulesDeclared.call.Call.TheVariants as call
-use Rattle.run_effects.specs.Given.SchedulesDeclared.effect.Effect.{Effect}
-use Rattle.run_effects.specs.Given.SchedulesDeclared.effect.Effect.TheVariants as effect
+use Rattle.run_effects.specs.Given.RunsDeclared.call.Call.{Call}
+use Rattle.run_effects.specs.Given.RunsDeclared.call.Call.TheVariants as call
+use Rattle.run_effects.specs.Given.RunsDeclared.effect.Effect.{Effect}
+use Rattle.run_effects.specs.Given.RunsDeclared.effect.Effect.TheVariants as effect
 use Rattle.run_effects.specs.Given.SchedulesEffects.{due_for, call_by, with_effect, with_effects}
 use Rattle.run_effects.specs.Given.SchedulesMoment.{UnderWay as CallThere, Moment}
 use Rattle.run_effects.specs.Given.SchedulesViews.{call_of}

@@ -6,8 +6,8 @@ use Rattle.std.proofs.lemmas.Bool.{eq-eqb, cases_eq}
 use Rattle.std.proofs.lemmas.List.{length-append}
 use Rattle.run_effects.specs.Given.TablesChunks.{is_incremental}
 use Rattle.run_effects.specs.Given.TablesDeclared.table_words.TheConstants.{PLACES}
-use Rattle.run_effects.specs.Given.SchedulesDeclared.effect.Effect.{Effect}
-use Rattle.run_effects.specs.Given.SchedulesDeclared.effect.Effect.TheVariants.{Asked, PairMade, PairGivenUp, TableMade, TableGivenUp, Linked, Promoted, Copied, Stored, Replaced, Removed, Counted, Deferred, Retired, Reclaimed, Ended, Taken}
+use Rattle.run_effects.specs.Given.RunsDeclared.effect.Effect.{Effect}
+use Rattle.run_effects.specs.Given.RunsDeclared.effect.Effect.TheVariants.{Asked, PairMade, PairGivenUp, TableMade, TableGivenUp, Linked, Promoted, Copied, Stored, Replaced, Removed, Counted, Deferred, Retired, Reclaimed, Ended, Taken}
 use Rattle.run_effects.specs.Given.SchedulesEffects.{AtEachEffect, with_effect}
 use Rattle.run_effects.specs.Given.SchedulesGrowing.{ComesNext}
 use Rattle.run_effects.specs.Given.SchedulesLives.{IsFrom}

@@ -2,8 +2,8 @@
 use Rattle.std.specs.Prelude.{◌≡◌, ℕ, suc, ◌<◌, true, false, List, [], ◌∷◌, Option, Some}
 use Rattle.seize_words.specs.OneMemory.Mem.{Mem, value_at}
 use Rattle.run_effects.specs.Given.TablesDeclared.node.Node.{Node}
-use Rattle.run_effects.specs.Given.SchedulesDeclared.effect.Effect.{Effect}
-use Rattle.run_effects.specs.Given.SchedulesDeclared.effect.Effect.TheVariants.{Asked, PairMade, PairGivenUp, TableMade, TableGivenUp, Linked, Promoted, Copied, Stored, Replaced, Removed, Counted, Deferred, Retired, Reclaimed, Ended, Taken}
+use Rattle.run_effects.specs.Given.RunsDeclared.effect.Effect.{Effect}
+use Rattle.run_effects.specs.Given.RunsDeclared.effect.Effect.TheVariants.{Asked, PairMade, PairGivenUp, TableMade, TableGivenUp, Linked, Promoted, Copied, Stored, Replaced, Removed, Counted, Deferred, Retired, Reclaimed, Ended, Taken}
 use Rattle.run_effects.specs.Given.SchedulesEntry.{acting}
 use Rattle.run_effects.specs.Given.SchedulesEffects.{with_effect, AtEachEffect}
 use Rattle.run_effects.specs.Given.SchedulesMoment.{UnderWay, Moment}

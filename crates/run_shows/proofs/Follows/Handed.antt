@@ -2,11 +2,11 @@
 use Rattle.std.specs.Prelude.{◌≡◌, ℕ, zero, suc, ◌<◌, ◌≤◌, ◌==◌, Bool, true, false, List, [], ◌∷◌, ◌++◌, length, filter, find, map, Option, Some, None, if◌then◌else◌}
 use Rattle.std.proofs.Common.{refl, ap, sym, subst, ◌∙◌, arith, inl, inr}
 use Rattle.std.proofs.lemmas.Bool.{cases_eq}
-use Rattle.run_effects.specs.Given.SchedulesDeclared.effect.Effect.{Effect}
-use Rattle.run_effects.specs.Given.SchedulesDeclared.effect.Effect.TheVariants.{Deferred, Retired}
-use Rattle.run_effects.specs.Given.SchedulesDeclared.effect.Table.{Table}
-use Rattle.run_effects.specs.Given.SchedulesDeclared.effect.Thing.{Thing}
-use Rattle.run_effects.specs.Given.SchedulesDeclared.effect.Thing.TheVariants.{APair, ATable}
+use Rattle.run_effects.specs.Given.RunsDeclared.effect.Effect.{Effect}
+use Rattle.run_effects.specs.Given.RunsDeclared.effect.Effect.TheVariants.{Deferred, Retired}
+use Rattle.run_effects.specs.Given.RunsDeclared.effect.Table.{Table}
+use Rattle.run_effects.specs.Given.RunsDeclared.effect.Thing.{Thing}
+use Rattle.run_effects.specs.Given.RunsDeclared.effect.Thing.TheVariants.{APair, ATable}
 use Rattle.run_effects.specs.Given.SchedulesEntry.{acting}
 use Rattle.run_effects.specs.Given.SchedulesEffects.{at_stage, stored_by, with_effect, with_effects}
 use Rattle.run_effects.specs.Given.SchedulesLists.{put}

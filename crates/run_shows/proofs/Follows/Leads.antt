@@ -4,7 +4,7 @@ use Rattle.std.proofs.Common.{refl, ap, sym, subst, ◌∙◌, inl}
 use Rattle.seize_words.specs.OneMemory.Mem.{Mem}
 use Rattle.seize.specs.World.{World}
 use Rattle.run_effects.specs.Given.TablesDeclared.node.Node.{Node}
-use Rattle.run_effects.specs.Given.SchedulesDeclared.effect.Effect.{Effect}
+use Rattle.run_effects.specs.Given.RunsDeclared.effect.Effect.{Effect}
 use Rattle.run_effects.specs.Given.SchedulesEffects.{AtEachEffect, with_effects}
 use Rattle.run_effects.specs.Given.SchedulesMoment.{Moment}
 use Rattle.run_effects.specs.Given.RuleChart.{Chart}

@@ -8,9 +8,9 @@ use Rattle.seize.specs.World.{World}
 use Rattle.run_effects.specs.Given.RunsDeclared.shapes.TableShape.{TableShape}
 use Rattle.run_effects.specs.Given.TablesDeclared.node.Node.{Node}
 use Rattle.run_effects.specs.Given.TablesDeclared.node.Node.TheVariants as node
-use Rattle.run_effects.specs.Given.SchedulesDeclared.effect.Effect.{Effect}
-use Rattle.run_effects.specs.Given.SchedulesDeclared.effect.Effect.TheVariants.{Linked, Promoted}
-use Rattle.run_effects.specs.Given.SchedulesDeclared.effect.Table.{Table}
+use Rattle.run_effects.specs.Given.RunsDeclared.effect.Effect.{Effect}
+use Rattle.run_effects.specs.Given.RunsDeclared.effect.Effect.TheVariants.{Linked, Promoted}
+use Rattle.run_effects.specs.Given.RunsDeclared.effect.Table.{Table}
 use Rattle.run_effects.specs.Given.SchedulesEntry.{acting}
 use Rattle.run_effects.specs.Given.SchedulesEffects.{promoted, stored_by, with_effect}
 use Rattle.run_effects.specs.Given.SchedulesLists.{put}

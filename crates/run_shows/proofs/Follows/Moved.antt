@@ -13,9 +13,9 @@ use Rattle.run_effects.specs.Given.TablesDeclared.marks.TheConstants.{TOMBSTONE}
 use Rattle.run_effects.specs.Given.TablesDeclared.node.Node.{Node}
 use Rattle.run_effects.specs.Given.TablesDeclared.setting.Setting.{Setting}
 use Rattle.run_effects.specs.Given.TablesDeclared.table_words.TheConstants.{PLACES}
-use Rattle.run_effects.specs.Given.SchedulesDeclared.effect.Effect.{Effect}
-use Rattle.run_effects.specs.Given.SchedulesDeclared.effect.Effect.TheVariants.{Copied, Stored, Replaced, Removed, Linked, Promoted}
-use Rattle.run_effects.specs.Given.SchedulesDeclared.effect.Spot.{Spot}
+use Rattle.run_effects.specs.Given.RunsDeclared.effect.Effect.{Effect}
+use Rattle.run_effects.specs.Given.RunsDeclared.effect.Effect.TheVariants.{Copied, Stored, Replaced, Removed, Linked, Promoted}
+use Rattle.run_effects.specs.Given.RunsDeclared.effect.Spot.{Spot}
 use Rattle.run_effects.specs.Given.SchedulesEntry.{acting}
 use Rattle.run_effects.specs.Given.SchedulesEffects.{with_effect, AtEachEffect}
 use Rattle.run_effects.specs.Given.SchedulesMoment.{Moment}

@@ -11,8 +11,8 @@ use Rattle.run_effects.proofs.Given.SeizeMemoryWords.Named.{block_there}
 use Rattle.run_effects.specs.Given.TablesDeclared.node.Node.{Node}
 use Rattle.run_effects.specs.Tells.Seen.{Seen, Unseen, Wrote, MadeOne, HadNoRoom, TookAway, NewValue, seen_of}
 use Rattle.run_effects.proofs.Tells.Kept.{seen_kept}
-use Rattle.run_effects.specs.Teller.Changed.{kind_of}
-use Rattle.run_effects.specs.Teller.Tells.{told_of, StepsTold}
+use Rattle.run_effects.specs.ReportingMemory.Changed.{kind_of}
+use Rattle.run_effects.specs.ReportingMemory.Tells.{told_of, StepsTold}
 use Rattle.run_effects.specs.declared.changed.Changed.{Changed}
 use Rattle.run_effects.specs.declared.changed.Changed.TheVariants as changed
 

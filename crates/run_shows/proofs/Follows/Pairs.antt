@@ -6,9 +6,9 @@ use Rattle.std.proofs.lemmas.List.{length-append}
 use Rattle.seize_words.specs.OneMemory.Mem.{Mem, value_at}
 use Rattle.run_effects.specs.Given.TablesDeclared.node.Node.{Node}
 use Rattle.run_effects.specs.Given.TablesDeclared.node.Node.TheVariants as node
-use Rattle.run_effects.specs.Given.SchedulesDeclared.effect.Effect.TheVariants.{Stored}
-use Rattle.run_effects.specs.Given.SchedulesDeclared.effect.Spot.{Spot}
-use Rattle.run_effects.specs.Given.SchedulesDeclared.effect.Table.{Table}
+use Rattle.run_effects.specs.Given.RunsDeclared.effect.Effect.TheVariants.{Stored}
+use Rattle.run_effects.specs.Given.RunsDeclared.effect.Spot.{Spot}
+use Rattle.run_effects.specs.Given.RunsDeclared.effect.Table.{Table}
 use Rattle.run_effects.specs.Given.SchedulesEffects.{stored_by}
 use Rattle.run_effects.specs.Given.SchedulesLists.{put}
 use Rattle.run_effects.specs.Given.SchedulesMoment.{Place, InMap, Out, UnderWay, Moment}

@@ -13,8 +13,8 @@ use Rattle.run_effects.specs.Given.TablesDeclared.node.Node.TheVariants as node
 use Rattle.run_effects.specs.Given.TablesDeclared.setting.Setting.{Setting}
 use Rattle.run_effects.specs.Given.TablesDeclared.table_words.TheConstants.{NEXT, DEFERRED, PLACES}
 use Rattle.run_effects.proofs.Given.TablesLists.{table_list}
-use Rattle.run_effects.specs.Given.SchedulesDeclared.effect.Effect.{Effect}
-use Rattle.run_effects.specs.Given.SchedulesDeclared.effect.Table.{Table}
+use Rattle.run_effects.specs.Given.RunsDeclared.effect.Effect.{Effect}
+use Rattle.run_effects.specs.Given.RunsDeclared.effect.Table.{Table}
 use Rattle.run_effects.specs.Tells.Tells.{KeepsNames}
 use Rattle.run_effects.specs.Given.RuleChart.{Chart}
 use Rattle.run_effects.specs.Given.RuleWords.{Blocks}

@@ -5,9 +5,9 @@ use Rattle.seize_words.specs.OneMemory.Mem.{Mem, value_at}
 use Rattle.seize.specs.World.{World}
 use Rattle.run_effects.specs.Given.TablesDeclared.node.Node.{Node}
 use Rattle.run_effects.specs.Given.RawDeclared.machines.progress.Progress.{Progress}
-use Rattle.run_effects.specs.Given.SchedulesDeclared.effect.Effect.{Effect}
-use Rattle.run_effects.specs.Given.SchedulesDeclared.effect.Effect.TheVariants.{Asked}
-use Rattle.run_effects.specs.Given.SchedulesDeclared.effect.Growth.TheVariants.{ABlock, ABucket}
+use Rattle.run_effects.specs.Given.RunsDeclared.effect.Effect.{Effect}
+use Rattle.run_effects.specs.Given.RunsDeclared.effect.Effect.TheVariants.{Asked}
+use Rattle.run_effects.specs.Given.RunsDeclared.effect.Growth.TheVariants.{ABlock, ABucket}
 use Rattle.run_effects.specs.Given.SchedulesEffects.{with_effects}
 use Rattle.run_effects.specs.Given.SchedulesMoment.{Moment}
 use Rattle.run_effects.specs.declared.changed.Changed.{Changed}

@@ -20,11 +20,11 @@ use Rattle.run_effects.specs.Given.TablesDeclared.node.Node.TheVariants as node
 use Rattle.run_effects.specs.Given.TablesDeclared.setting.Setting.{Setting}
 use Rattle.run_effects.specs.Given.TablesDeclared.table_words.TheConstants.{NEXT, DEFERRED}
 use Rattle.run_effects.proofs.Given.TablesLists.{its_list}
-use Rattle.run_effects.specs.Given.SchedulesDeclared.effect.Effect.{Effect}
-use Rattle.run_effects.specs.Given.SchedulesDeclared.effect.Effect.TheVariants as effect
-use Rattle.run_effects.specs.Given.SchedulesDeclared.effect.Table.{Table}
-use Rattle.run_effects.specs.Given.SchedulesDeclared.effect.Thing.{Thing}
-use Rattle.run_effects.specs.Given.SchedulesDeclared.effect.Thing.TheVariants.{APair, ATable}
+use Rattle.run_effects.specs.Given.RunsDeclared.effect.Effect.{Effect}
+use Rattle.run_effects.specs.Given.RunsDeclared.effect.Effect.TheVariants as effect
+use Rattle.run_effects.specs.Given.RunsDeclared.effect.Table.{Table}
+use Rattle.run_effects.specs.Given.RunsDeclared.effect.Thing.{Thing}
+use Rattle.run_effects.specs.Given.RunsDeclared.effect.Thing.TheVariants.{APair, ATable}
 use Rattle.run_effects.proofs.Given.RuleWorld.Hands.{at_cases}
 use Rattle.many_maps.specs.Given.CallersTogether.{CameAbout, HandsOver, IsOneStep}
 use Rattle.many_maps.proofs.Given.CallersTogether.Came.{came_reached, came_next}

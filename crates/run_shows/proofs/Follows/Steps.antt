@@ -11,8 +11,8 @@ use Rattle.run_effects.specs.Given.TablesDeclared.setting.Setting.{Setting}
 use Rattle.run_effects.specs.Given.RawMachine.{machine_plan}
 use Rattle.run_effects.specs.Given.RawDeclared.machines.machine.Machine.{Machine}
 use Rattle.run_effects.specs.Given.RawDeclared.machines.progress.Progress.{Progress}
-use Rattle.run_effects.specs.Given.SchedulesDeclared.effect.Effect.{Effect}
-use Rattle.run_effects.specs.Given.SchedulesDeclared.effect.Table.{Table}
+use Rattle.run_effects.specs.Given.RunsDeclared.effect.Effect.{Effect}
+use Rattle.run_effects.specs.Given.RunsDeclared.effect.Table.{Table}
 use Rattle.run_effects.specs.Given.SchedulesEffects.{AtEachEffect, with_effects}
 use Rattle.run_effects.specs.Given.SchedulesMoment.{Moment}
 use Rattle.run_effects.specs.Given.SchedulesViews.{map_at}

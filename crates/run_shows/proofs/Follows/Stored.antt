@@ -7,9 +7,9 @@ use Rattle.seize.specs.World.{World}
 use Rattle.run_effects.specs.Given.TablesDeclared.node.Node.{Node}
 use Rattle.run_effects.specs.Given.TablesDeclared.node.Node.TheVariants as node
 use Rattle.run_effects.specs.Given.RunsLog.{pair_at}
-use Rattle.run_effects.specs.Given.SchedulesDeclared.effect.Effect.{Effect}
-use Rattle.run_effects.specs.Given.SchedulesDeclared.effect.Effect.TheVariants.{Stored, Replaced, Removed}
-use Rattle.run_effects.specs.Given.SchedulesDeclared.effect.Spot.{Spot}
+use Rattle.run_effects.specs.Given.RunsDeclared.effect.Effect.{Effect}
+use Rattle.run_effects.specs.Given.RunsDeclared.effect.Effect.TheVariants.{Stored, Replaced, Removed}
+use Rattle.run_effects.specs.Given.RunsDeclared.effect.Spot.{Spot}
 use Rattle.run_effects.specs.Given.SchedulesEntry.{acting}
 use Rattle.run_effects.specs.Given.SchedulesEffects.{stored_by, with_effect}
 use Rattle.run_effects.specs.Given.SchedulesLists.{put}

@@ -8,11 +8,11 @@ use Rattle.seize.specs.World.{World}
 use Rattle.run_effects.specs.Given.TablesDeclared.node.Node.{Node}
 use Rattle.run_effects.specs.Given.TablesDeclared.node.Node.TheVariants as node
 use Rattle.run_effects.specs.Given.TablesDeclared.setting.Setting.{Setting}
-use Rattle.run_effects.specs.Given.SchedulesDeclared.effect.Effect.{Effect}
-use Rattle.run_effects.specs.Given.SchedulesDeclared.effect.Effect.TheVariants.{Asked}
-use Rattle.run_effects.specs.Given.SchedulesDeclared.effect.Growth.TheVariants.{ABlock, ABucket}
+use Rattle.run_effects.specs.Given.RunsDeclared.effect.Effect.{Effect}
+use Rattle.run_effects.specs.Given.RunsDeclared.effect.Effect.TheVariants.{Asked}
+use Rattle.run_effects.specs.Given.RunsDeclared.effect.Growth.TheVariants.{ABlock, ABucket}
 use Rattle.run_effects.specs.Given.SchedulesLists.{put}
-use Rattle.run_effects.specs.Teller.Changed.{kind_of}
+use Rattle.run_effects.specs.ReportingMemory.Changed.{kind_of}
 use Rattle.run_effects.specs.declared.changed.Changed.{Changed}
 use Rattle.run_effects.specs.declared.changed.Changed.TheVariants as changed
 use Rattle.run_effects.specs.declared.changed.Kind.{Kind}

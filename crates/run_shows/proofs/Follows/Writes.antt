@@ -13,8 +13,8 @@ use Rattle.run_effects.proofs.Given.TablesLists.{table_list}
 use Rattle.run_effects.specs.Given.TablesDeclared.node.Node.{Node}
 use Rattle.run_effects.specs.Given.TablesDeclared.node.Node.TheVariants as node
 use Rattle.run_effects.specs.Given.TablesDeclared.table_words.TheConstants.{NEXT, DEFERRED, PLACES}
-use Rattle.run_effects.specs.Given.SchedulesDeclared.effect.Effect.{Effect}
-use Rattle.run_effects.specs.Given.SchedulesDeclared.effect.Table.{Table}
+use Rattle.run_effects.specs.Given.RunsDeclared.effect.Effect.{Effect}
+use Rattle.run_effects.specs.Given.RunsDeclared.effect.Table.{Table}
 use Rattle.run_effects.specs.Effects.Effects.{names_same, led_to, is_place, placed, spot_at, carried, followed_by, in_table, in_block, written_by, linked_on, stored_on, in_table_on, in_block_on, written_on}
 use Rattle.run_effects.specs.Effects.Known.{Known}
 use Rattle.run_effects.specs.declared.acting.Acting.{Acting}

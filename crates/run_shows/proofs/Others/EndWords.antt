@@ -13,7 +13,7 @@ use Rattle.run_effects.specs.Given.RawEndMap as end_map
 use Rattle.run_effects.specs.Given.RawDeclared.machines.end_map.EndMap.{EndMap}
 use Rattle.run_effects.specs.Given.RawDeclared.machines.end_map.Ending.{Ending}
 use Rattle.run_effects.specs.Given.RawDeclared.machines.end_map.Ending.TheVariants as at
-use Rattle.run_effects.specs.Teller.Tells.{StepsTold}
+use Rattle.run_effects.specs.ReportingMemory.Tells.{StepsTold}
 use Rattle.run_effects.specs.declared.changed.Changed.{Changed}
 use Rattle.run_effects.specs.declared.changed.Changed.TheVariants as changed
 use Rattle.run_effects.specs.Given.RuleChart.{Chart}

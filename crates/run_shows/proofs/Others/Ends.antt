@@ -13,10 +13,10 @@ use Rattle.run_effects.specs.Given.RawEndMap.{end_map_plan}
 use Rattle.run_effects.specs.Given.RawDeclared.machines.end_map.EndMap.{EndMap}
 use Rattle.run_effects.specs.Given.RawDeclared.machines.end_map.Ending.{Ending}
 use Rattle.run_effects.specs.Given.RawDeclared.machines.end_map.Ending.TheVariants as ending
-use Rattle.run_effects.specs.Given.SchedulesDeclared.effect.Effect.{Effect}
-use Rattle.run_effects.specs.Given.SchedulesDeclared.effect.Effect.TheVariants.{Asked, PairGivenUp, TableGivenUp, Ended, Taken}
-use Rattle.run_effects.specs.Given.SchedulesDeclared.effect.Growth.TheVariants.{ABlock}
-use Rattle.run_effects.specs.Given.SchedulesDeclared.effect.Table.{Table}
+use Rattle.run_effects.specs.Given.RunsDeclared.effect.Effect.{Effect}
+use Rattle.run_effects.specs.Given.RunsDeclared.effect.Effect.TheVariants.{Asked, PairGivenUp, TableGivenUp, Ended, Taken}
+use Rattle.run_effects.specs.Given.RunsDeclared.effect.Growth.TheVariants.{ABlock}
+use Rattle.run_effects.specs.Given.RunsDeclared.effect.Table.{Table}
 use Rattle.run_effects.specs.Given.SchedulesEffects.{with_effects, AtEachEffect}
 use Rattle.run_effects.specs.Given.SchedulesMoment.{Left, IsTaken, Moment}
 use Rattle.run_effects.specs.Given.SchedulesThings.{same_table}

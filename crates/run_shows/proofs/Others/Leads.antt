@@ -4,10 +4,10 @@ use Rattle.std.proofs.Common.{refl, ap, arith}
 use Rattle.seize_words.specs.OneMemory.Mem.{value_at}
 use Rattle.seize.specs.World.{World}
 use Rattle.run_effects.specs.Given.TablesDeclared.node.Node.{Node}
-use Rattle.run_effects.specs.Given.SchedulesDeclared.effect.Effect.{Effect}
-use Rattle.run_effects.specs.Given.SchedulesDeclared.effect.Effect.TheVariants.{Asked}
-use Rattle.run_effects.specs.Given.SchedulesDeclared.effect.Growth.TheVariants.{ABucket}
-use Rattle.run_effects.specs.Given.SchedulesDeclared.effect.Table.{Table}
+use Rattle.run_effects.specs.Given.RunsDeclared.effect.Effect.{Effect}
+use Rattle.run_effects.specs.Given.RunsDeclared.effect.Effect.TheVariants.{Asked}
+use Rattle.run_effects.specs.Given.RunsDeclared.effect.Growth.TheVariants.{ABucket}
+use Rattle.run_effects.specs.Given.RunsDeclared.effect.Table.{Table}
 use Rattle.run_effects.specs.Given.SchedulesEffects.{with_effects}
 use Rattle.run_effects.specs.Given.SchedulesMoment.{Moment}
 use Rattle.run_effects.specs.Given.SchedulesThings.{same_table}

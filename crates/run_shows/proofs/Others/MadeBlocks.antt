@@ -6,9 +6,9 @@ use Rattle.seize_words.specs.OneMemory.Mem.{value_at}
 use Rattle.seize.specs.World.{World}
 use Rattle.run_effects.specs.Given.TablesDeclared.node.Node.{Node}
 use Rattle.run_effects.specs.Given.TablesDeclared.node.Node.TheVariants as node
-use Rattle.run_effects.specs.Given.SchedulesDeclared.effect.Effect.TheVariants.{Asked}
-use Rattle.run_effects.specs.Given.SchedulesDeclared.effect.Growth.TheVariants.{ABlock}
-use Rattle.run_effects.specs.Teller.Changed.{kind_of}
+use Rattle.run_effects.specs.Given.RunsDeclared.effect.Effect.TheVariants.{Asked}
+use Rattle.run_effects.specs.Given.RunsDeclared.effect.Growth.TheVariants.{ABlock}
+use Rattle.run_effects.specs.ReportingMemory.Changed.{kind_of}
 use Rattle.run_effects.specs.declared.changed.Kind.{Kind}
 use Rattle.run_effects.specs.declared.changed.Kind.TheVariants as kind
 use Rattle.run_effects.specs.Effects.Effects.{made_by, made_role}

@@ -23,10 +23,10 @@ use Rattle.run_effects.specs.Given.ResizeDeclared.new_map.NewMap.{NewMap}
 use Rattle.run_effects.specs.Given.ResizeDeclared.new_map.Opening.{Opening}
 use Rattle.run_effects.specs.Given.ResizeDeclared.new_map.Opening.TheVariants as opening
 use Rattle.run_effects.specs.Given.RunsDeclared.shapes.TableShape.{TableShape}
-use Rattle.run_effects.specs.Given.SchedulesDeclared.effect.Effect.{Effect}
-use Rattle.run_effects.specs.Given.SchedulesDeclared.effect.Effect.TheVariants.{Asked, PairGivenUp, TableGivenUp, Linked}
-use Rattle.run_effects.specs.Given.SchedulesDeclared.effect.Growth.TheVariants.{ABlock}
-use Rattle.run_effects.specs.Given.SchedulesDeclared.effect.Table.{Table}
+use Rattle.run_effects.specs.Given.RunsDeclared.effect.Effect.{Effect}
+use Rattle.run_effects.specs.Given.RunsDeclared.effect.Effect.TheVariants.{Asked, PairGivenUp, TableGivenUp, Linked}
+use Rattle.run_effects.specs.Given.RunsDeclared.effect.Growth.TheVariants.{ABlock}
+use Rattle.run_effects.specs.Given.RunsDeclared.effect.Table.{Table}
 use Rattle.run_effects.specs.Given.SchedulesEffects.{with_effects}
 use Rattle.run_effects.specs.Given.SchedulesLists.{put}
 use Rattle.run_effects.specs.Given.SchedulesMoment.{IsLinked, TableThere, Moment}

@@ -33,7 +33,7 @@ use Rattle.run_effects.specs.Given.ResizeDeclared.sum.Sum.{Sum}
 use Rattle.run_effects.specs.Given.ResizeDeclared.sum.Summing.{Summing}
 use Rattle.run_effects.specs.Given.ResizeDeclared.sum.Summing.TheVariants as summing
 use Rattle.run_effects.specs.Tells.Seen.{word_or, seen_of}
-use Rattle.run_effects.specs.Teller.Tells.{told_of, StepsTold}
+use Rattle.run_effects.specs.ReportingMemory.Tells.{told_of, StepsTold}
 use Rattle.run_effects.specs.declared.changed.Changed.{Changed}
 use Rattle.run_effects.specs.declared.changed.Changed.TheVariants as changed
 use Rattle.run_effects.specs.declared.changed.Kind.TheVariants as kind

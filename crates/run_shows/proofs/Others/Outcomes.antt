@@ -4,7 +4,7 @@ use Rattle.std.proofs.Common.{refl}
 use Rattle.seize_words.specs.OneMemory.Mem.{Mem, value_at}
 use Rattle.seize_words.specs.OneMemory.Plan.{Plan, Turn, Do, Then, Now, Seeing, Sure, Ends, plan_as, then_as}
 use Rattle.run_effects.specs.Given.TablesDeclared.node.Node.{Node}
-use Rattle.run_effects.specs.Teller.Tells.{StepsTold}
+use Rattle.run_effects.specs.ReportingMemory.Tells.{StepsTold}
 use Rattle.run_effects.specs.declared.changed.Changed.{Changed}
 use Rattle.run_effects.specs.declared.changed.Changed.TheVariants as changed
 

@@ -2,8 +2,8 @@
 use Rattle.std.specs.Prelude.{◌≡◌, ℕ, Bool, true, List, [], ◌∷◌, find, Option, Some, None}
 use Rattle.std.proofs.Common.{refl, ap, ◌∙◌}
 use Rattle.run_effects.specs.Given.RunsSame.{is_same}
-use Rattle.run_effects.specs.Given.SchedulesDeclared.effect.Effect.{Effect}
-use Rattle.run_effects.specs.Given.SchedulesDeclared.effect.Effect.TheVariants.{Asked, PairMade, PairGivenUp, TableMade, TableGivenUp, Copied, Counted}
+use Rattle.run_effects.specs.Given.RunsDeclared.effect.Effect.{Effect}
+use Rattle.run_effects.specs.Given.RunsDeclared.effect.Effect.TheVariants.{Asked, PairMade, PairGivenUp, TableMade, TableGivenUp, Copied, Counted}
 use Rattle.run_effects.specs.Given.SchedulesEffects.{with_effect, with_effects}
 use Rattle.run_effects.specs.Given.SchedulesMoment.{UnderWay as CallThere, Moment}
 use Rattle.many_maps.specs.Given.CallersTogether.{UnderWay}

@@ -23,7 +23,7 @@ use Rattle.seize.specs.Settle as settle
 use Rattle.run_effects.specs.Given.TablesNodes.{deferred_word}
 use Rattle.run_effects.specs.Given.TablesDeclared.node.Node.{Node}
 use Rattle.run_effects.specs.Tells.Seen.{seen_of}
-use Rattle.run_effects.specs.Teller.Tells.{told_of, StepsTold}
+use Rattle.run_effects.specs.ReportingMemory.Tells.{told_of, StepsTold}
 use Rattle.run_effects.specs.declared.changed.Changed.{Changed}
 use Rattle.run_effects.specs.declared.changed.Changed.TheVariants as changed
 use Rattle.run_shows.specs.declared.row.RowTold.{RowTold}

@@ -12,9 +12,9 @@ use Rattle.seize_acts.proofs.Given.SeizeAloneHistories.NotTaken.{did, taken_gone
 use Rattle.seize_acts.proofs.Given.SeizeAloneHistories.Reached.{Reached}
 use Rattle.run_effects.specs.Given.TablesNodes.{deferred_word}
 use Rattle.run_effects.specs.Given.TablesDeclared.node.Node.{Node}
-use Rattle.run_effects.specs.Given.SchedulesDeclared.effect.Effect.{Effect}
-use Rattle.run_effects.specs.Given.SchedulesDeclared.effect.Effect.TheVariants.{PairGivenUp, TableGivenUp, Reclaimed}
-use Rattle.run_effects.specs.Given.SchedulesDeclared.effect.Thing.TheVariants.{APair, ATable}
+use Rattle.run_effects.specs.Given.RunsDeclared.effect.Effect.{Effect}
+use Rattle.run_effects.specs.Given.RunsDeclared.effect.Effect.TheVariants.{PairGivenUp, TableGivenUp, Reclaimed}
+use Rattle.run_effects.specs.Given.RunsDeclared.effect.Thing.TheVariants.{APair, ATable}
 use Rattle.run_effects.specs.Given.SchedulesEffects.{with_effects, AtEachEffect}
 use Rattle.run_effects.specs.Given.SchedulesMoment.{Handed, IsReclaimed, Moment}
 use Rattle.run_effects.specs.declared.changed.Changed.{Changed}

@@ -4,7 +4,7 @@ use Rattle.std.proofs.Common.{refl, ap, sym, subst, ◌∙◌}
 use Rattle.seize_words.specs.OneMemory.Mem.{value_at}
 use Rattle.seize.specs.World.{World}
 use Rattle.run_effects.specs.Given.TablesDeclared.node.Node.{Node}
-use Rattle.run_effects.specs.Given.SchedulesDeclared.effect.Table.{Table}
+use Rattle.run_effects.specs.Given.RunsDeclared.effect.Table.{Table}
 use Rattle.run_effects.specs.Given.SchedulesEffects.{all_at, at_stage}
 use Rattle.run_effects.specs.Given.SchedulesLists.{put}
 use Rattle.run_effects.specs.Given.SchedulesMoment.{Place, GivenBack, Stage, Moment}

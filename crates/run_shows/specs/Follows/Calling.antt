@@ -1,10 +1,10 @@
 -- Calls between their steps: where one begins, is told a reply, or has come to an outcome, the moment shows the scene then.
 use Rattle.std.specs.Prelude.{◌≡◌, ℕ, Bool, true, false, List, Some}
 use Rattle.run_effects.specs.Given.RunsSame.{is_same}
-use Rattle.run_effects.specs.Given.SchedulesDeclared.call.Reply.{Reply}
-use Rattle.run_effects.specs.Given.SchedulesDeclared.event.Event.TheVariants.{Replied}
-use Rattle.run_effects.specs.Given.SchedulesDeclared.outcome.Outcome.{Outcome}
-use Rattle.run_effects.specs.Given.SchedulesDeclared.outcome.Outcome.TheVariants.{Goes}
+use Rattle.run_effects.specs.Given.RunsDeclared.call.Reply.{Reply}
+use Rattle.run_effects.specs.Given.RunsDeclared.event.Event.TheVariants.{Replied}
+use Rattle.run_effects.specs.Given.RunsDeclared.outcome.Outcome.{Outcome}
+use Rattle.run_effects.specs.Given.RunsDeclared.outcome.Outcome.TheVariants.{Goes}
 use Rattle.run_effects.specs.Given.SchedulesAfter.{stepped, calls_on}
 use Rattle.run_effects.specs.Given.SchedulesEntry.{ends_call}
 use Rattle.run_effects.specs.Given.SchedulesMoment.{Moment}

@@ -1,7 +1,7 @@
 -- The calls that are under way at a moment of a run, by those of the scene.
 use Rattle.std.specs.Prelude.{◌≡◌, ℕ, Bool, List, Option, Some}
-use Rattle.run_effects.specs.Given.SchedulesDeclared.call.Call.{Call}
-use Rattle.run_effects.specs.Given.SchedulesDeclared.call.Call.TheVariants.{On, Reserve, Clear, Retain, Len, Walk}
+use Rattle.run_effects.specs.Given.RunsDeclared.call.Call.{Call}
+use Rattle.run_effects.specs.Given.RunsDeclared.call.Call.TheVariants.{On, Reserve, Clear, Retain, Len, Walk}
 use Rattle.run_effects.specs.Given.SchedulesMoment.{UnderWay as CallThere, Moment}
 use Rattle.run_effects.specs.Given.SchedulesSequential.{key_of}
 use Rattle.run_effects.specs.Given.SchedulesViews.{call_of}

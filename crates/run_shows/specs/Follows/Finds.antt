@@ -1,9 +1,9 @@
 -- What an effect of a step of a call finds of the pairs and the tables of its map.
 use Rattle.std.specs.Prelude.{◌≡◌, ℕ, ◌+◌, true, length}
-use Rattle.run_effects.specs.Given.SchedulesDeclared.effect.Effect.{Effect}
-use Rattle.run_effects.specs.Given.SchedulesDeclared.effect.Effect.TheVariants.{Linked, Promoted, Stored, Replaced, Removed}
-use Rattle.run_effects.specs.Given.SchedulesDeclared.effect.Spot.{Spot}
-use Rattle.run_effects.specs.Given.SchedulesDeclared.effect.Table.{Table}
+use Rattle.run_effects.specs.Given.RunsDeclared.effect.Effect.{Effect}
+use Rattle.run_effects.specs.Given.RunsDeclared.effect.Effect.TheVariants.{Linked, Promoted, Stored, Replaced, Removed}
+use Rattle.run_effects.specs.Given.RunsDeclared.effect.Spot.{Spot}
+use Rattle.run_effects.specs.Given.RunsDeclared.effect.Table.{Table}
 use Rattle.run_effects.specs.Given.SchedulesGrowing.{ComesNext}
 use Rattle.run_effects.specs.Given.SchedulesLives.{IsFrom}
 use Rattle.run_effects.specs.Given.SchedulesMoment.{InMap, Moment}

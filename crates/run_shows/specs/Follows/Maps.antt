@@ -1,7 +1,7 @@
 -- What a map that stands shows at a moment of a run: its pairs, by their numbers, and its tables.
 use Rattle.std.specs.Prelude.{◌≡◌, ℕ, zero, suc, ◌<◌, ◌≤◌, true, List, [], ◌∷◌, ◌++◌, length, Some}
 use Rattle.run_effects.specs.Given.RunsDeclared.shapes.TableShape.{TableShape}
-use Rattle.run_effects.specs.Given.SchedulesDeclared.effect.Table.{Table}
+use Rattle.run_effects.specs.Given.RunsDeclared.effect.Table.{Table}
 use Rattle.run_effects.specs.Given.SchedulesMoment.{InMap, MapThere, Stage, IsLinked, TableThere, Moment}
 use Rattle.run_effects.specs.Given.SchedulesViews.{is_in_map, map_at, tables_of}
 use Rattle.run_effects.specs.Given.RuleChart.{Chart}

@@ -8,9 +8,9 @@ use Rattle.run_effects.specs.Given.TablesDeclared.node.Node.{Node}
 use Rattle.run_effects.specs.Given.TablesDeclared.node.Node.TheVariants as node
 use Rattle.run_effects.specs.Given.RawDeclared.machines.machine.Machine.{Machine}
 use Rattle.run_effects.specs.Given.RawDeclared.machines.progress.Progress.{Progress}
-use Rattle.run_effects.specs.Given.SchedulesDeclared.effect.Effect.{Effect}
-use Rattle.run_effects.specs.Given.SchedulesDeclared.effect.Effect.TheVariants.{Stored, Deferred, Retired}
-use Rattle.run_effects.specs.Given.SchedulesDeclared.effect.Thing.TheVariants.{APair, ATable}
+use Rattle.run_effects.specs.Given.RunsDeclared.effect.Effect.{Effect}
+use Rattle.run_effects.specs.Given.RunsDeclared.effect.Effect.TheVariants.{Stored, Deferred, Retired}
+use Rattle.run_effects.specs.Given.RunsDeclared.effect.Thing.TheVariants.{APair, ATable}
 use Rattle.run_effects.specs.Given.SchedulesEntry.{acting}
 use Rattle.run_effects.specs.Given.SchedulesEffects.{new_pair, AtEachEffect}
 use Rattle.run_effects.specs.Given.SchedulesMoment.{UnderWay as CallThere, MapThere, Moment}

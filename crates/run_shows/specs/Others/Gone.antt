@@ -1,9 +1,9 @@
 -- What is to be so of a table that is reclaimed, or that ends with its map.
 use Rattle.std.specs.Prelude.{◌≡◌, ℕ, true, false}
-use Rattle.run_effects.specs.Given.SchedulesDeclared.effect.Effect.{Effect}
-use Rattle.run_effects.specs.Given.SchedulesDeclared.effect.Effect.TheVariants.{Reclaimed, Taken}
-use Rattle.run_effects.specs.Given.SchedulesDeclared.effect.Table.{Table}
-use Rattle.run_effects.specs.Given.SchedulesDeclared.effect.Thing.TheVariants.{ATable}
+use Rattle.run_effects.specs.Given.RunsDeclared.effect.Effect.{Effect}
+use Rattle.run_effects.specs.Given.RunsDeclared.effect.Effect.TheVariants.{Reclaimed, Taken}
+use Rattle.run_effects.specs.Given.RunsDeclared.effect.Table.{Table}
+use Rattle.run_effects.specs.Given.RunsDeclared.effect.Thing.TheVariants.{ATable}
 use Rattle.run_effects.specs.Given.SchedulesLists.{is_among}
 use Rattle.run_effects.specs.Given.SchedulesMoment.{Moment}
 use Rattle.run_effects.specs.Given.SchedulesViews.{is_in_a_map, is_retired, is_stage, behind}

@@ -2,7 +2,7 @@
 use Rattle.std.specs.Prelude.{◌≡◌, ℕ, Bool, Some}
 use Rattle.run_effects.specs.Given.ResizeSum.{summing}
 use Rattle.run_effects.specs.Given.ReservesReserve.{reserving}
-use Rattle.run_effects.specs.Given.SweepsDeclared.sweep.Purpose.{Purpose}
+use Rattle.run_effects.specs.Given.ReservesDeclared.sweep.Purpose.{Purpose}
 use Rattle.run_effects.specs.Given.RawDeclared.machines.machine.Machine.{Machine}
 use Rattle.many_maps.specs.Given.CallersOverAll.{begun_over_all}
 use Rattle.many_maps.specs.Given.CallersTogether.{UnderWay, OnKey, ForRoom, Counting, OverAll, IsBegun, begun_at, in_slot}

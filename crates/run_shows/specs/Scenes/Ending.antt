@@ -9,7 +9,7 @@ use Rattle.run_effects.specs.Given.TablesChunks.{is_incremental}
 use Rattle.run_effects.specs.Given.TablesDeclared.node.Node.{Node}
 use Rattle.run_effects.specs.Given.RawEndMap.{end_map_plan}
 use Rattle.run_effects.specs.Given.RawDeclared.machines.end_map.EndMap.{EndMap}
-use Rattle.run_effects.specs.Teller.Tells.{StepsTold}
+use Rattle.run_effects.specs.ReportingMemory.Tells.{StepsTold}
 use Rattle.run_effects.specs.declared.changed.Changed.TheVariants.{Nothing}
 use Rattle.many_maps.specs.Endings.{Finishing, finishing_of, waiting_by, AllPairsOnce, HasFinished, StepsOfEnding}
 use Rattle.many_maps.specs.FactsEnds.{Deed, taken_by}

@@ -7,7 +7,7 @@ use Rattle.run_effects.specs.Given.TablesDeclared.node.Node.{Node}
 use Rattle.run_effects.specs.Given.TablesDeclared.setting.Setting.{Setting}
 use Rattle.run_effects.specs.Given.ResizeNewMap.{opening, new_map_plan}
 use Rattle.run_effects.specs.Given.ResizeDeclared.new_map.NewMap.{NewMap}
-use Rattle.run_effects.specs.Teller.Tells.{StepsTold}
+use Rattle.run_effects.specs.ReportingMemory.Tells.{StepsTold}
 use Rattle.run_effects.specs.declared.changed.Changed.TheVariants.{Nothing}
 use Rattle.many_maps.specs.Endings.{MakingStepsAmong}
 use Rattle.many_maps.specs.Makings.{Beginning, IsMade}

@@ -15,7 +15,7 @@ use Rattle.seize.specs.World.{World, Row, Rests, Event, Begin, Step, Happens}
 use Rattle.seize_words.specs.OneMemory.Mem.{Mem}
 use Rattle.run_effects.specs.Given.TablesNodes.{deferred_word}
 use Rattle.run_effects.specs.Given.TablesDeclared.node.Node.{Node}
-use Rattle.run_effects.specs.Teller.Tells.{StepsTold}
+use Rattle.run_effects.specs.ReportingMemory.Tells.{StepsTold}
 use Rattle.run_effects.specs.declared.changed.Changed.{Changed}
 use Rattle.run_effects.specs.declared.changed.Changed.TheVariants.{Nothing}
 use Rattle.many_maps.specs.Maps.{Standing, IsSameMap}

@@ -6,7 +6,7 @@ use Rattle.seize.specs.declared.rows.settle.Settled.TheVariants as settled
 use Rattle.seize.specs.ReclaimAll.{reclaim_all_plan}
 use Rattle.run_effects.specs.Given.TablesNodes.{deferred_word, was_left}
 use Rattle.run_effects.specs.Given.TablesDeclared.node.Node.{Node}
-use Rattle.run_effects.specs.Teller.Tells.{StepsTold}
+use Rattle.run_effects.specs.ReportingMemory.Tells.{StepsTold}
 use Rattle.run_effects.specs.declared.changed.Changed.TheVariants.{Nothing}
 use Rattle.many_maps.specs.Maps.{Standing}
 use Rattle.run_shows.specs.Reclaims.Reclaims.{ReclaimingTogether, StepsOfReclaiming, AllIsReclaimed}

@@ -5,7 +5,7 @@ use Rattle.run_effects.specs.Given.RawMachine.{machine_plan}
 use Rattle.run_effects.specs.Given.RawDeclared.machines.machine.Machine.{Machine}
 use Rattle.run_effects.specs.Given.RawDeclared.machines.progress.Progress.{Progress}
 use Rattle.run_effects.specs.Given.RawDeclared.machines.progress.Progress.TheVariants as progress
-use Rattle.run_effects.specs.Teller.Tells.{StepsTold}
+use Rattle.run_effects.specs.ReportingMemory.Tells.{StepsTold}
 use Rattle.run_effects.specs.declared.changed.Changed.TheVariants.{Nothing}
 use Rattle.many_maps.specs.Given.CallersTogether.{UnderWay}
 use Rattle.many_maps.specs.Machines.{machine_of, MachineStepsAmong}

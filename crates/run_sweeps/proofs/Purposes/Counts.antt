@@ -22,7 +22,7 @@ use Rattle.run_finds.specs.Given.PointsFactsTables.{CountsShards, SumFacts}
 use Rattle.run_finds.specs.Given.CallersTogether.{UnderWay, Counting, in_slot}
 use Rattle.run_finds.specs.Given.FinishesMachines.{GoesOnAs}
 use Rattle.run_finds.specs.Given.FinishesMaps.{Standing}
-use Rattle.run_finds.specs.Given.TellerDeclared.changed.Changed.TheVariants.{Nothing}
+use Rattle.run_finds.specs.Given.EffectsDeclared.changed.Changed.TheVariants.{Nothing}
 use Rattle.run_finds.proofs.Given.ChangesLogs.{now_there}
 use Rattle.run_finds.specs.Given.ShardsShardWords.{ShowsShards}
 use Rattle.run_sweeps.specs.Purposes.Purposes.{HasAdded}

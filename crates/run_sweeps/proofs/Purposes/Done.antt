@@ -2,15 +2,15 @@
 use Rattle.std.specs.Prelude.{◌≡◌, ℕ, ◌<◌, true, List, [], map, Option, Some, ◌⊎◌}
 use Rattle.std.specs.List.{AllByRecursion}
 use Rattle.std.proofs.Common.{ap, sym, subst, ◌∙◌, inl, inr}
-use Rattle.run_finds.specs.Given.SweepsDeclared.sweep.Purpose.TheVariants.{Walks}
-use Rattle.run_finds.specs.Given.SweepsDeclared.sweep.Sweeping.{Sweeping}
-use Rattle.run_finds.specs.Given.SweepsDeclared.sweep.Sweeping.TheVariants as at
-use Rattle.run_finds.specs.Given.SweepsDeclared.sweep.Swept.{Swept}
-use Rattle.run_finds.specs.Given.SweepsDeclared.sweep.Swept.TheVariants as swept
+use Rattle.run_finds.specs.Given.ReservesDeclared.sweep.Purpose.TheVariants.{Walks}
+use Rattle.run_finds.specs.Given.ReservesDeclared.sweep.Sweeping.{Sweeping}
+use Rattle.run_finds.specs.Given.ReservesDeclared.sweep.Sweeping.TheVariants as at
+use Rattle.run_finds.specs.Given.ReservesDeclared.sweep.Swept.{Swept}
+use Rattle.run_finds.specs.Given.ReservesDeclared.sweep.Swept.TheVariants as swept
 use Rattle.run_finds.specs.Given.RawProgress.{of_swept}
-use Rattle.run_finds.specs.Given.SchedulesDeclared.call.Call.{Call}
-use Rattle.run_finds.specs.Given.SchedulesDeclared.call.Call.TheVariants as call
-use Rattle.run_finds.specs.Given.SchedulesDeclared.call.Reply.{Reply}
+use Rattle.run_finds.specs.Given.RunsDeclared.call.Call.{Call}
+use Rattle.run_finds.specs.Given.RunsDeclared.call.Call.TheVariants as call
+use Rattle.run_finds.specs.Given.RunsDeclared.call.Reply.{Reply}
 use Rattle.run_finds.specs.Given.SchedulesMoment.{UnderWay as CallThere}
 use Rattle.run_finds.specs.Given.SchedulesSweeps.{is_yes}
 use Rattle.run_finds.specs.Given.SchedulesViews.{reply_to}

@@ -10,9 +10,9 @@ use Rattle.run_finds.specs.Given.SeizeWorld.{with_at}
 use Rattle.run_finds.specs.Given.TablesChunks.{is_incremental}
 use Rattle.run_finds.specs.Given.TablesDeclared.node.Node.{Node}
 use Rattle.run_finds.specs.Given.SweepsSweep.{sweep_plan}
-use Rattle.run_finds.specs.Given.SweepsDeclared.sweep.Purpose.TheVariants.{Walks}
-use Rattle.run_finds.specs.Given.SweepsDeclared.sweep.Sweep.{Sweep}
-use Rattle.run_finds.specs.Given.SweepsDeclared.sweep.Swept.{Swept}
+use Rattle.run_finds.specs.Given.ReservesDeclared.sweep.Purpose.TheVariants.{Walks}
+use Rattle.run_finds.specs.Given.ReservesDeclared.sweep.Sweep.{Sweep}
+use Rattle.run_finds.specs.Given.ReservesDeclared.sweep.Swept.{Swept}
 use Rattle.run_finds.specs.Given.RawMachine.{machine_plan, swept}
 use Rattle.run_finds.specs.Given.RawProgress.{of_swept}
 use Rattle.run_finds.specs.Given.RawDeclared.machines.machine.Machine.TheVariants as kinds
@@ -34,7 +34,7 @@ use Rattle.run_finds.specs.Given.FinishesMaps.{Standing}
 use Rattle.run_finds.specs.Given.FollowsShows.{Shows}
 use Rattle.run_finds.proofs.Given.FollowsSteps.{WentTo, DidSo, one_of}
 use Rattle.run_finds.specs.Given.MomentsWhole.{ShowsWhole}
-use Rattle.run_finds.specs.Given.TellerDeclared.changed.Changed.TheVariants.{Nothing}
+use Rattle.run_finds.specs.Given.EffectsDeclared.changed.Changed.TheVariants.{Nothing}
 use Rattle.run_finds.proofs.Given.ChangesSteps.{to}
 use Rattle.run_sweeps.specs.Purposes.Keys.{KeysAt, AreKeyed}
 use Rattle.run_sweeps.specs.Purposes.Kept.{ShowsNone}

@@ -6,9 +6,9 @@ use Rattle.std.proofs.lemmas.Bool.{cases_lt, ltb-true, ltb-false}
 use Rattle.run_finds.specs.Given.TablesDeclared.status.TheConstants.Status.{ABORTED}
 use Rattle.run_finds.specs.Given.TablesDeclared.table.Table.{Table}
 use Rattle.run_finds.specs.Given.SweepsSweepPoints.{standing, next_at, after_next}
-use Rattle.run_finds.specs.Given.SweepsDeclared.sweep.Sweep.{Sweep}
-use Rattle.run_finds.specs.Given.SweepsDeclared.sweep.Sweeping.{Sweeping}
-use Rattle.run_finds.specs.Given.SweepsDeclared.sweep.Sweeping.TheVariants as at
+use Rattle.run_finds.specs.Given.ReservesDeclared.sweep.Sweep.{Sweep}
+use Rattle.run_finds.specs.Given.ReservesDeclared.sweep.Sweeping.{Sweeping}
+use Rattle.run_finds.specs.Given.ReservesDeclared.sweep.Sweeping.TheVariants as at
 use Rattle.run_finds.specs.Given.RuleChart.{Phase, Still, Copying, Copied, Place, Empty, Tombstone, Holds, Chart, put, put_in, is_taken}
 use Rattle.run_finds.specs.Given.RuleLasts.{Lasts}
 use Rattle.run_finds.specs.Given.RuleMaps.{spot_of}

@@ -3,8 +3,8 @@ use Rattle.std.specs.Prelude.{◌≡◌, ◌≢◌, ℕ, ◌+◌, ◌<◌, ◌==
 use Rattle.std.specs.List.{AllByRecursion, list_all}
 use Rattle.std.proofs.Common.{refl, ap, sym, subst, ◌∙◌, arith, inl, inr}
 use Rattle.std.proofs.lemmas.Bool.{cases_eq, ne_eqb, eq-eqb}
-use Rattle.run_finds.specs.Given.SchedulesDeclared.call.Reply.{Reply}
-use Rattle.run_finds.specs.Given.SchedulesDeclared.call.Reply.TheVariants.{Decides}
+use Rattle.run_finds.specs.Given.RunsDeclared.call.Reply.{Reply}
+use Rattle.run_finds.specs.Given.RunsDeclared.call.Reply.TheVariants.{Decides}
 use Rattle.run_finds.specs.Given.SchedulesLists.{OneOf, is_among}
 use Rattle.run_finds.specs.Given.SchedulesSweeps.{is_yes}
 use Rattle.run_finds.specs.Given.SchedulesViews.{reply_to}

@@ -33,8 +33,8 @@ use Rattle.run_finds.specs.Given.SchedulesGrowing.{Has}
 use Rattle.run_finds.specs.Given.SchedulesLists.{OneOf}
 use Rattle.run_finds.specs.Given.SchedulesMoment.{Moment}
 use Rattle.run_finds.specs.Given.TellerTells.{StepsTold}
-use Rattle.run_finds.specs.Given.TellerDeclared.changed.Changed.{Changed}
-use Rattle.run_finds.specs.Given.TellerDeclared.changed.Changed.TheVariants as changed
+use Rattle.run_finds.specs.Given.EffectsDeclared.changed.Changed.{Changed}
+use Rattle.run_finds.specs.Given.EffectsDeclared.changed.Changed.TheVariants as changed
 use Rattle.run_finds.proofs.Given.OthersOutcomes.{told_in}
 use Rattle.run_finds.proofs.Given.RuleKeys.Always.{Always, AlwaysOf, always_if, always_plan_as, always_steps}
 use Rattle.run_finds.specs.Reserving.{FitsAt, ReservesAt, SumTells}

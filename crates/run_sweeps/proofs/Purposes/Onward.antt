@@ -11,17 +11,17 @@ use Rattle.run_finds.specs.Given.TablesDeclared.node.Node.{Node}
 use Rattle.run_finds.specs.Given.TablesDeclared.setting.Setting.{Setting}
 use Rattle.run_finds.specs.Given.SweepsSweep.{word_found, plan_at}
 use Rattle.run_finds.specs.Given.SweepsSweepPoints.{removes, past, further, at_end, telling, at_pair, seen}
-use Rattle.run_finds.specs.Given.SweepsDeclared.sweep.Purpose.{Purpose}
-use Rattle.run_finds.specs.Given.SweepsDeclared.sweep.Purpose.TheVariants.{Walks, Clears, Retains}
-use Rattle.run_finds.specs.Given.SweepsDeclared.sweep.Sweep.{Sweep}
-use Rattle.run_finds.specs.Given.SweepsDeclared.sweep.Sweeping.{Sweeping}
-use Rattle.run_finds.specs.Given.SweepsDeclared.sweep.Sweeping.TheVariants as at
-use Rattle.run_finds.specs.Given.SweepsDeclared.sweep.Swept.{Swept}
+use Rattle.run_finds.specs.Given.ReservesDeclared.sweep.Purpose.{Purpose}
+use Rattle.run_finds.specs.Given.ReservesDeclared.sweep.Purpose.TheVariants.{Walks, Clears, Retains}
+use Rattle.run_finds.specs.Given.ReservesDeclared.sweep.Sweep.{Sweep}
+use Rattle.run_finds.specs.Given.ReservesDeclared.sweep.Sweeping.{Sweeping}
+use Rattle.run_finds.specs.Given.ReservesDeclared.sweep.Sweeping.TheVariants as at
+use Rattle.run_finds.specs.Given.ReservesDeclared.sweep.Swept.{Swept}
 use Rattle.run_finds.specs.Given.RawMachine.{swept}
 use Rattle.run_finds.specs.Given.RawDeclared.machines.machine.Machine.{Machine}
 use Rattle.run_finds.specs.Given.RawDeclared.machines.machine.Machine.TheVariants as kinds
 use Rattle.run_finds.specs.Given.RawDeclared.machines.progress.Progress.{Progress}
-use Rattle.run_finds.specs.Given.TellerDeclared.changed.Changed.TheVariants.{Nothing}
+use Rattle.run_finds.specs.Given.EffectsDeclared.changed.Changed.TheVariants.{Nothing}
 use Rattle.run_finds.specs.Given.RuleChart.{Chart}
 use Rattle.run_finds.specs.Given.RuleWords.{Blocks}
 use Rattle.run_finds.proofs.Given.RuleKeys.Always.{Always, AlwaysOf}

@@ -4,7 +4,7 @@ use Rattle.std.specs.List.{AllByRecursion}
 use Rattle.std.proofs.Common.{refl, sym, subst, arith}
 use Rattle.run_finds.specs.Given.SchedulesMoment.{UnderWay as CallThere, Moment}
 use Rattle.run_finds.specs.Given.SchedulesViews.{is_in_map}
-use Rattle.run_finds.specs.Given.SweepsDeclared.sweep.Purpose.TheVariants.{Walks}
+use Rattle.run_finds.specs.Given.ReservesDeclared.sweep.Purpose.TheVariants.{Walks}
 use Rattle.run_finds.specs.Given.CallersOverAll.{CallOverAll}
 use Rattle.run_finds.specs.Given.CallersTogether.{UnderWay, OnKey, ForRoom, Counting, OverAll}
 use Rattle.run_finds.specs.Given.FinishesMaps.{Standing}

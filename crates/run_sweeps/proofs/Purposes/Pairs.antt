@@ -1,8 +1,8 @@
 -- A sweep that shows a pair says so.
 use Rattle.std.specs.Prelude.{◌≡◌, ℕ}
 use Rattle.std.proofs.Common.{ap}
-use Rattle.run_finds.specs.Given.SweepsDeclared.sweep.Swept.{Swept}
-use Rattle.run_finds.specs.Given.SweepsDeclared.sweep.Swept.TheVariants as swept
+use Rattle.run_finds.specs.Given.ReservesDeclared.sweep.Swept.{Swept}
+use Rattle.run_finds.specs.Given.ReservesDeclared.sweep.Swept.TheVariants as swept
 use Rattle.run_finds.specs.Given.RawProgress.{of_swept}
 use Rattle.run_finds.specs.Given.RawDeclared.machines.progress.Progress.TheVariants as progress
 

@@ -38,7 +38,7 @@ use Rattle.run_finds.specs.Given.CallersTogether.{UnderWay, ForRoom, Together, i
 use Rattle.run_finds.specs.Given.FinishesMachines.{GoesOnAs}
 use Rattle.run_finds.specs.Given.FinishesMaps.{Standing}
 use Rattle.run_finds.specs.Given.LateToldReserves.{IsRowOfReserve}
-use Rattle.run_finds.specs.Given.TellerDeclared.changed.Changed.TheVariants.{Nothing}
+use Rattle.run_finds.specs.Given.EffectsDeclared.changed.Changed.TheVariants.{Nothing}
 use Rattle.run_finds.proofs.Given.OthersOutcomes.{told_in}
 use Rattle.run_finds.proofs.Given.ChangesLogs.{now_there}
 use Rattle.run_finds.specs.Reserving.{ReservesAt, SumTells}

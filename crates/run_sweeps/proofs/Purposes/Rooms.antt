@@ -25,7 +25,7 @@ use Rattle.run_finds.specs.Given.RawDeclared.machines.machine.Machine.{Machine}
 use Rattle.run_finds.specs.Given.RawDeclared.machines.machine.Machine.TheVariants as kinds
 use Rattle.run_finds.specs.Given.RawDeclared.machines.progress.Progress.{Progress}
 use Rattle.run_finds.proofs.Given.RuleKeys.Always.{Always, AlwaysOf, always_if, always_plan_as}
-use Rattle.run_finds.specs.Given.TellerDeclared.changed.Changed.TheVariants.{Nothing}
+use Rattle.run_finds.specs.Given.EffectsDeclared.changed.Changed.TheVariants.{Nothing}
 use Rattle.run_finds.proofs.Given.HistoriesAsking.{always_told, always_turned}
 use Rattle.run_finds.specs.Given.ScenesHeld.{Held}
 use Rattle.run_finds.specs.Given.ScenesStepping.{StepsFrom}

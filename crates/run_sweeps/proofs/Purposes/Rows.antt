@@ -2,7 +2,7 @@
 use Rattle.std.specs.Prelude.{◌≡◌, ℕ, ◌==◌, ◌<◌, ◌≤◌, Bool, List, find, Option, Some, ◌⊎◌}
 use Rattle.std.proofs.Common.{ap, sym, subst, ◌∙◌, arith, inl, inr}
 use Rattle.run_finds.specs.Given.TablesChunks.{is_incremental}
-use Rattle.run_finds.specs.Given.SweepsDeclared.sweep.Purpose.TheVariants.{Walks}
+use Rattle.run_finds.specs.Given.ReservesDeclared.sweep.Purpose.TheVariants.{Walks}
 use Rattle.run_finds.specs.Given.RunsSame.{is_same}
 use Rattle.run_finds.specs.Given.SchedulesMoment.{MapThere, UnderWay as CallThere, Moment}
 use Rattle.run_finds.specs.Given.SchedulesViews.{call_of, is_in_map, finite_map}

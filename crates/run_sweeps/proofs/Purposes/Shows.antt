@@ -4,16 +4,16 @@ use Rattle.std.proofs.Common.{refl, ap, sym, subst, ◌∙◌, arith, inl, inr}
 use Rattle.std.proofs.lemmas.Bool.{eq-eqb}
 use Rattle.run_finds.specs.Given.SeizeWorld.{World, with_at}
 use Rattle.run_finds.specs.Given.TablesDeclared.node.Node.{Node}
-use Rattle.run_finds.specs.Given.SweepsDeclared.sweep.Sweep.{Sweep}
-use Rattle.run_finds.specs.Given.SweepsDeclared.sweep.Sweeping.TheVariants as sweeping
-use Rattle.run_finds.specs.Given.SweepsDeclared.sweep.Swept.{Swept}
-use Rattle.run_finds.specs.Given.SweepsDeclared.sweep.Swept.TheVariants as swept
+use Rattle.run_finds.specs.Given.ReservesDeclared.sweep.Sweep.{Sweep}
+use Rattle.run_finds.specs.Given.ReservesDeclared.sweep.Sweeping.TheVariants as sweeping
+use Rattle.run_finds.specs.Given.ReservesDeclared.sweep.Swept.{Swept}
+use Rattle.run_finds.specs.Given.ReservesDeclared.sweep.Swept.TheVariants as swept
 use Rattle.run_finds.specs.Given.RawDeclared.machines.progress.Answer.{Answer}
 use Rattle.run_finds.specs.Given.RawDeclared.machines.progress.Answer.TheVariants as answers
 use Rattle.run_finds.specs.Given.RawDeclared.machines.progress.Progress.TheVariants as progress
-use Rattle.run_finds.specs.Given.SchedulesDeclared.call.Call.{Call}
-use Rattle.run_finds.specs.Given.SchedulesDeclared.call.Call.TheVariants as call
-use Rattle.run_finds.specs.Given.SchedulesDeclared.outcome.Outcome.TheVariants.{Shows as ShowsOne}
+use Rattle.run_finds.specs.Given.RunsDeclared.call.Call.{Call}
+use Rattle.run_finds.specs.Given.RunsDeclared.call.Call.TheVariants as call
+use Rattle.run_finds.specs.Given.RunsDeclared.outcome.Outcome.TheVariants.{Shows as ShowsOne}
 use Rattle.run_finds.specs.Given.SchedulesLists.{OneOf, is_among}
 use Rattle.run_finds.specs.Given.SchedulesMoment.{UnderWay as CallThere, Moment}
 use Rattle.run_finds.specs.Given.SchedulesSweeps.{MayShow}

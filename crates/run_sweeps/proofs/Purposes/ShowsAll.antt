@@ -4,20 +4,20 @@ use Rattle.std.specs.List.{AllByRecursion}
 use Rattle.std.proofs.Common.{refl, ap, sym, subst, ◌∙◌, inl, inr}
 use Rattle.run_finds.specs.Given.TablesChunks.{is_incremental}
 use Rattle.run_finds.specs.Given.TablesDeclared.node.Node.{Node}
-use Rattle.run_finds.specs.Given.SweepsDeclared.sweep.Purpose.TheVariants.{Walks}
-use Rattle.run_finds.specs.Given.SweepsDeclared.sweep.Sweep.{Sweep}
-use Rattle.run_finds.specs.Given.SweepsDeclared.sweep.Sweeping.TheVariants as sweeping
-use Rattle.run_finds.specs.Given.SweepsDeclared.sweep.Swept.{Swept}
-use Rattle.run_finds.specs.Given.SweepsDeclared.sweep.Swept.TheVariants as swept
+use Rattle.run_finds.specs.Given.ReservesDeclared.sweep.Purpose.TheVariants.{Walks}
+use Rattle.run_finds.specs.Given.ReservesDeclared.sweep.Sweep.{Sweep}
+use Rattle.run_finds.specs.Given.ReservesDeclared.sweep.Sweeping.TheVariants as sweeping
+use Rattle.run_finds.specs.Given.ReservesDeclared.sweep.Swept.{Swept}
+use Rattle.run_finds.specs.Given.ReservesDeclared.sweep.Swept.TheVariants as swept
 use Rattle.run_finds.specs.Given.RawProgress.{of_swept}
 use Rattle.run_finds.specs.Given.RawDeclared.machines.progress.Answer.TheVariants as answers
 use Rattle.run_finds.specs.Given.RawDeclared.machines.progress.Progress.{Progress}
 use Rattle.run_finds.specs.Given.RawDeclared.machines.progress.Progress.TheVariants as progress
 use Rattle.run_finds.specs.Given.RunsLog.{pair_at, is_key}
-use Rattle.run_finds.specs.Given.SchedulesDeclared.call.Answer.TheVariants.{Absent}
-use Rattle.run_finds.specs.Given.SchedulesDeclared.call.Call.{Call}
-use Rattle.run_finds.specs.Given.SchedulesDeclared.call.Call.TheVariants as call
-use Rattle.run_finds.specs.Given.SchedulesDeclared.outcome.Outcome.TheVariants.{Answered}
+use Rattle.run_finds.specs.Given.RunsDeclared.call.Answer.TheVariants.{Absent}
+use Rattle.run_finds.specs.Given.RunsDeclared.call.Call.{Call}
+use Rattle.run_finds.specs.Given.RunsDeclared.call.Call.TheVariants as call
+use Rattle.run_finds.specs.Given.RunsDeclared.outcome.Outcome.TheVariants.{Answered}
 use Rattle.run_finds.specs.Given.SchedulesLists.{OneOf}
 use Rattle.run_finds.specs.Given.SchedulesMoment.{UnderWay as CallThere, Moment}
 use Rattle.run_finds.specs.Given.SchedulesSweeps.{with_key, HasBeen, ShowsAll}

@@ -9,11 +9,11 @@ use Rattle.run_finds.specs.Given.TablesDeclared.node.Node.{Node}
 use Rattle.run_finds.specs.Given.ReservesDeclared.reserve.Reserve.{Reserve}
 use Rattle.run_finds.specs.Given.ReservesDeclared.reserve.Reserving.{Reserving}
 use Rattle.run_finds.specs.Given.ReservesDeclared.reserve.Reserving.TheVariants as reserving
-use Rattle.run_finds.specs.Given.SweepsDeclared.sweep.Purpose.TheVariants.{Walks}
+use Rattle.run_finds.specs.Given.ReservesDeclared.sweep.Purpose.TheVariants.{Walks}
 use Rattle.run_finds.specs.Given.RawDeclared.machines.machine.Machine.{Machine}
 use Rattle.run_finds.specs.Given.RawDeclared.machines.machine.Machine.TheVariants as kinds
 use Rattle.run_finds.specs.Given.RawDeclared.machines.progress.Progress.{Progress}
-use Rattle.run_finds.specs.Given.SchedulesDeclared.call.Call.{Call}
+use Rattle.run_finds.specs.Given.RunsDeclared.call.Call.{Call}
 use Rattle.run_finds.specs.Given.SchedulesMoment.{UnderWay as CallThere, Moment}
 use Rattle.run_finds.specs.Given.SchedulesViews.{call_of, is_in_map, finite_map}
 use Rattle.run_finds.specs.Given.RuleChart.{Chart}

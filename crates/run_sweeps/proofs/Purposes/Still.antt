@@ -1,7 +1,7 @@
 -- Where only calls have changed, and this one has been told and has shown what it was told and had shown, it has come to what it had come to.
 use Rattle.std.specs.Prelude.{◌≡◌, ℕ, Bool, ◌∷◌}
 use Rattle.std.proofs.Common.{refl, ap, sym, subst, ◌∙◌, inl, inr}
-use Rattle.run_finds.specs.Given.SchedulesDeclared.call.Call.{Call}
+use Rattle.run_finds.specs.Given.RunsDeclared.call.Call.{Call}
 use Rattle.run_finds.specs.Given.SchedulesLists.{OneOf}
 use Rattle.run_finds.specs.Given.SchedulesMoment.{Place, UnderWay as CallThere, Moment}
 use Rattle.run_finds.specs.Given.SchedulesViews.{is_in_map}

@@ -1,8 +1,8 @@
 -- What was stored at a moment of a run has its number still at each later one.
 use Rattle.std.specs.Prelude.{ℕ, ◌==◌, Bool, true, false, List, [], ◌∷◌, Option, Some, None, if◌then◌else◌}
 use Rattle.std.specs.List.{AllByRecursion}
-use Rattle.run_finds.specs.Given.SchedulesDeclared.effect.Effect.{Effect}
-use Rattle.run_finds.specs.Given.SchedulesDeclared.effect.Effect.TheVariants as effect
+use Rattle.run_finds.specs.Given.RunsDeclared.effect.Effect.{Effect}
+use Rattle.run_finds.specs.Given.RunsDeclared.effect.Effect.TheVariants as effect
 use Rattle.run_finds.specs.Given.SchedulesEffects.{new_pair, stored_by, with_effect, with_effects}
 use Rattle.run_finds.specs.Given.SchedulesEntry.{acting}
 use Rattle.run_finds.specs.Given.SchedulesMoment.{UnderWay as CallThere, Moment, start}

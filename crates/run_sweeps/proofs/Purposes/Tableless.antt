@@ -3,14 +3,14 @@ use Rattle.std.specs.Prelude.{◌≡◌, ◌≢◌, ℕ, ◌+◌, ◌<◌, Bool,
 use Rattle.std.specs.List.{AllByRecursion}
 use Rattle.std.proofs.Common.{refl, ap, sym, subst, ◌∙◌, arith}
 use Rattle.run_finds.specs.Given.RunsSame.{is_same}
-use Rattle.run_finds.specs.Given.SchedulesDeclared.call.Call.{Call}
-use Rattle.run_finds.specs.Given.SchedulesDeclared.effect.Effect.{Effect}
-use Rattle.run_finds.specs.Given.SchedulesDeclared.effect.Effect.TheVariants as effect
-use Rattle.run_finds.specs.Given.SchedulesDeclared.event.Event.{Event}
-use Rattle.run_finds.specs.Given.SchedulesDeclared.event.Event.TheVariants as event
-use Rattle.run_finds.specs.Given.SchedulesDeclared.call.Reply.{Reply}
-use Rattle.run_finds.specs.Given.SchedulesDeclared.outcome.Outcome.{Outcome}
-use Rattle.run_finds.specs.Given.SchedulesDeclared.outcome.Outcome.TheVariants as outcome
+use Rattle.run_finds.specs.Given.RunsDeclared.call.Call.{Call}
+use Rattle.run_finds.specs.Given.RunsDeclared.effect.Effect.{Effect}
+use Rattle.run_finds.specs.Given.RunsDeclared.effect.Effect.TheVariants as effect
+use Rattle.run_finds.specs.Given.RunsDeclared.event.Event.{Event}
+use Rattle.run_finds.specs.Given.RunsDeclared.event.Event.TheVariants as event
+use Rattle.run_finds.specs.Given.RunsDeclared.call.Reply.{Reply}
+use Rattle.run_finds.specs.Given.RunsDeclared.outcome.Outcome.{Outcome}
+use Rattle.run_finds.specs.Given.RunsDeclared.outcome.Outcome.TheVariants as outcome
 use Rattle.run_finds.specs.Given.SchedulesAfter.{asks_on, calls_on, comes_to, moment, replied, stepped, without_call}
 use Rattle.run_finds.specs.Given.SchedulesBeginning.{begun, with_call}
 use Rattle.run_finds.specs.Given.SchedulesEffects.{AtEachEffect, call_by, shards_by, with_effect, with_effects, worked, word_with}

@@ -4,18 +4,18 @@ use Rattle.std.specs.List.{AllByRecursion}
 use Rattle.std.proofs.Common.{refl, ap, sym, subst, ◌∙◌, arith, inl, inr}
 use Rattle.std.proofs.lemmas.Bool.{cases_order, eq-eqb}
 use Rattle.run_finds.specs.Given.SweepsSweepPoints.{reply_at, after_reply}
-use Rattle.run_finds.specs.Given.SweepsDeclared.sweep.Purpose.TheVariants.{Retains}
-use Rattle.run_finds.specs.Given.SweepsDeclared.sweep.Sweep.{Sweep}
-use Rattle.run_finds.specs.Given.SweepsDeclared.sweep.Sweeping.{Sweeping}
-use Rattle.run_finds.specs.Given.SweepsDeclared.sweep.Sweeping.TheVariants as sweeping
+use Rattle.run_finds.specs.Given.ReservesDeclared.sweep.Purpose.TheVariants.{Retains}
+use Rattle.run_finds.specs.Given.ReservesDeclared.sweep.Sweep.{Sweep}
+use Rattle.run_finds.specs.Given.ReservesDeclared.sweep.Sweeping.{Sweeping}
+use Rattle.run_finds.specs.Given.ReservesDeclared.sweep.Sweeping.TheVariants as sweeping
 use Rattle.run_finds.specs.Given.RawMachine.{machine_replied, sweep_told}
 use Rattle.run_finds.specs.Given.RawDeclared.machines.asking.Reply.{Reply as MachineReply}
 use Rattle.run_finds.specs.Given.RawDeclared.machines.asking.Reply.TheVariants as reply
 use Rattle.run_finds.specs.Given.RunsSame.{is_same}
-use Rattle.run_finds.specs.Given.SchedulesDeclared.call.Call.{Call}
-use Rattle.run_finds.specs.Given.SchedulesDeclared.call.Call.TheVariants as call
-use Rattle.run_finds.specs.Given.SchedulesDeclared.call.Reply.{Reply}
-use Rattle.run_finds.specs.Given.SchedulesDeclared.call.Reply.TheVariants.{Gives, Removes, Aborts, Decides}
+use Rattle.run_finds.specs.Given.RunsDeclared.call.Call.{Call}
+use Rattle.run_finds.specs.Given.RunsDeclared.call.Call.TheVariants as call
+use Rattle.run_finds.specs.Given.RunsDeclared.call.Reply.{Reply}
+use Rattle.run_finds.specs.Given.RunsDeclared.call.Reply.TheVariants.{Gives, Removes, Aborts, Decides}
 use Rattle.run_finds.specs.Given.SchedulesAfter.{replied}
 use Rattle.run_finds.specs.Given.SchedulesMoment.{Asking, Told, UnderWay as CallThere, Moment}
 use Rattle.run_finds.specs.Given.SchedulesSweeps.{is_yes}

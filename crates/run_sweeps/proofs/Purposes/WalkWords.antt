@@ -3,16 +3,16 @@ use Rattle.std.specs.Prelude.{◌≡◌, ℕ, Bool, List, Some}
 use Rattle.std.proofs.Common.{sym, subst, ◌∙◌, inl, inr}
 use Rattle.run_finds.specs.Given.SeizeWorld.{with_at}
 use Rattle.run_finds.specs.Given.TablesDeclared.node.Node.{Node}
-use Rattle.run_finds.specs.Given.SweepsDeclared.sweep.Sweep.{Sweep}
-use Rattle.run_finds.specs.Given.SweepsDeclared.sweep.Swept.{Swept}
-use Rattle.run_finds.specs.Given.SweepsDeclared.sweep.Swept.TheVariants as swept
+use Rattle.run_finds.specs.Given.ReservesDeclared.sweep.Sweep.{Sweep}
+use Rattle.run_finds.specs.Given.ReservesDeclared.sweep.Swept.{Swept}
+use Rattle.run_finds.specs.Given.ReservesDeclared.sweep.Swept.TheVariants as swept
 use Rattle.run_finds.specs.Given.RawProgress.{of_swept}
 use Rattle.run_finds.specs.Given.RawDeclared.machines.progress.Answer.{Answer}
 use Rattle.run_finds.specs.Given.RawDeclared.machines.progress.Answer.TheVariants as answers
 use Rattle.run_finds.specs.Given.RawDeclared.machines.progress.Progress.{Progress}
 use Rattle.run_finds.specs.Given.RawDeclared.machines.progress.Progress.TheVariants as progress
-use Rattle.run_finds.specs.Given.SchedulesDeclared.call.Call.{Call}
-use Rattle.run_finds.specs.Given.SchedulesDeclared.call.Call.TheVariants as call
+use Rattle.run_finds.specs.Given.RunsDeclared.call.Call.{Call}
+use Rattle.run_finds.specs.Given.RunsDeclared.call.Call.TheVariants as call
 use Rattle.run_finds.specs.Given.SchedulesMoment.{Moment}
 use Rattle.run_finds.specs.Given.LateCoversSweeps.{Adds, DoneAt}
 use Rattle.run_finds.specs.Given.LateToldSweeps.{TellsSo}

@@ -1,8 +1,8 @@
 -- What is said of how many pairs a map has, by its shards and by calls, and how many are there: both go up alike from one moment to another.
 use Rattle.std.specs.Prelude.{◌≡◌, ℕ, ◌+◌, ◌*◌, ◌-◌, ◌/◌, ◌%◌, ◌^◌, ◌==◌, Bool, true, false, is_some, List, sum_by, Option, None, if◌then◌else◌}
 use Rattle.std.proofs.Common.{refl, ap, ◌∙◌, arith}
-use Rattle.run_finds.specs.Given.SchedulesDeclared.effect.Effect.{Effect}
-use Rattle.run_finds.specs.Given.SchedulesDeclared.effect.Effect.TheVariants.{Replaced}
+use Rattle.run_finds.specs.Given.RunsDeclared.effect.Effect.{Effect}
+use Rattle.run_finds.specs.Given.RunsDeclared.effect.Effect.TheVariants.{Replaced}
 use Rattle.run_finds.specs.Given.SchedulesEntry.{ByCall, acting}
 use Rattle.run_finds.specs.Given.SchedulesMoment.{UnderWay, Moment}
 use Rattle.run_finds.specs.Given.SchedulesViews.{size_of}

@@ -4,11 +4,11 @@ use Rattle.std.specs.List.{AllByRecursion, list_any}
 use Rattle.std.proofs.Common.{refl, ap, sym, subst, ◌∙◌, arith}
 use Rattle.std.proofs.lemmas.Bool.{ne_eqb}
 use Rattle.std.proofs.lemmas.List.Sums.{sum_by-cons}
-use Rattle.run_finds.specs.Given.SchedulesDeclared.call.Call.{Call}
-use Rattle.run_finds.specs.Given.SchedulesDeclared.event.Event.{Event}
-use Rattle.run_finds.specs.Given.SchedulesDeclared.event.Event.TheVariants as event
-use Rattle.run_finds.specs.Given.SchedulesDeclared.outcome.Outcome.{Outcome}
-use Rattle.run_finds.specs.Given.SchedulesDeclared.outcome.Outcome.TheVariants as outcome
+use Rattle.run_finds.specs.Given.RunsDeclared.call.Call.{Call}
+use Rattle.run_finds.specs.Given.RunsDeclared.event.Event.{Event}
+use Rattle.run_finds.specs.Given.RunsDeclared.event.Event.TheVariants as event
+use Rattle.run_finds.specs.Given.RunsDeclared.outcome.Outcome.{Outcome}
+use Rattle.run_finds.specs.Given.RunsDeclared.outcome.Outcome.TheVariants as outcome
 use Rattle.run_finds.specs.Given.SchedulesBeginning.{begun, fresh_call, with_call}
 use Rattle.run_finds.specs.Given.SchedulesEntry.{is_busy, nameless}
 use Rattle.run_finds.specs.Given.SchedulesMoment.{MapThere, Place, Unborn, UnderWay, Moment}

@@ -5,12 +5,12 @@ use Rattle.std.proofs.lemmas.Bool.{cases_eq, eq-eqb, ne_eqb}
 use Rattle.std.proofs.Math.Nat.{mod-lt}
 use Rattle.std.proofs.lemmas.Nat.{pow_pos}
 use Rattle.run_finds.specs.Given.TablesPowers.{floor_log2, next_power}
-use Rattle.run_finds.specs.Given.SchedulesDeclared.call.Call.{Call}
-use Rattle.run_finds.specs.Given.SchedulesDeclared.call.Call.TheVariants as call
-use Rattle.run_finds.specs.Given.SchedulesDeclared.effect.Effect.{Effect}
-use Rattle.run_finds.specs.Given.SchedulesDeclared.effect.Effect.TheVariants as effect
-use Rattle.run_finds.specs.Given.SchedulesDeclared.effect.Spot.{Spot}
-use Rattle.run_finds.specs.Given.SchedulesDeclared.effect.Thing.TheVariants.{APair, ATable}
+use Rattle.run_finds.specs.Given.RunsDeclared.call.Call.{Call}
+use Rattle.run_finds.specs.Given.RunsDeclared.call.Call.TheVariants as call
+use Rattle.run_finds.specs.Given.RunsDeclared.effect.Effect.{Effect}
+use Rattle.run_finds.specs.Given.RunsDeclared.effect.Effect.TheVariants as effect
+use Rattle.run_finds.specs.Given.RunsDeclared.effect.Spot.{Spot}
+use Rattle.run_finds.specs.Given.RunsDeclared.effect.Thing.TheVariants.{APair, ATable}
 use Rattle.run_finds.specs.Given.SchedulesEffects.{call_by, due_for, gain, shards_by, with_effect, word_with}
 use Rattle.run_finds.specs.Given.SchedulesEntry.{ByCall}
 use Rattle.run_finds.specs.Given.SchedulesGrowing.{only_looks}

@@ -7,12 +7,12 @@ use Rattle.std.proofs.Math.Nat.{mod-lt}
 use Rattle.run_finds.specs.Given.TablesCounts.{count_in}
 use Rattle.run_finds.specs.Given.RunsPresent.{slot_of_guard}
 use Rattle.run_finds.specs.Given.RunsSame.{is_same}
-use Rattle.run_finds.specs.Given.SchedulesDeclared.call.Answer.TheVariants as answer
-use Rattle.run_finds.specs.Given.SchedulesDeclared.call.Call.{Call}
-use Rattle.run_finds.specs.Given.SchedulesDeclared.call.Call.TheVariants as call
-use Rattle.run_finds.specs.Given.SchedulesDeclared.effect.Effect.{Effect}
-use Rattle.run_finds.specs.Given.SchedulesDeclared.outcome.Outcome.{Outcome}
-use Rattle.run_finds.specs.Given.SchedulesDeclared.outcome.Outcome.TheVariants as outcome
+use Rattle.run_finds.specs.Given.RunsDeclared.call.Answer.TheVariants as answer
+use Rattle.run_finds.specs.Given.RunsDeclared.call.Call.{Call}
+use Rattle.run_finds.specs.Given.RunsDeclared.call.Call.TheVariants as call
+use Rattle.run_finds.specs.Given.RunsDeclared.effect.Effect.{Effect}
+use Rattle.run_finds.specs.Given.RunsDeclared.outcome.Outcome.{Outcome}
+use Rattle.run_finds.specs.Given.RunsDeclared.outcome.Outcome.TheVariants as outcome
 use Rattle.run_finds.specs.Given.SchedulesAfter.{after, moment, moments_from}
 use Rattle.run_finds.specs.Given.SchedulesCounts.{AddsUp, Counts}
 use Rattle.run_finds.specs.Given.SchedulesBeginning.{at_work}

@@ -7,8 +7,8 @@ use Rattle.run_finds.specs.Given.RunsDeclared.ended.Pair.{Pair}
 use Rattle.run_finds.specs.Given.RunsLifeCycle.{times}
 use Rattle.run_finds.specs.Given.RunsLog.{pair_at}
 use Rattle.run_finds.specs.Given.RunsPairs.{numbers}
-use Rattle.run_finds.specs.Given.SchedulesDeclared.event.Event.{Event}
-use Rattle.run_finds.specs.Given.SchedulesDeclared.record.Run.{Run}
+use Rattle.run_finds.specs.Given.RunsDeclared.event.Event.{Event}
+use Rattle.run_finds.specs.Given.RunsDeclared.record.Run.{Run}
 use Rattle.run_finds.specs.Given.SchedulesAfter.{moment}
 use Rattle.run_finds.specs.Given.SchedulesMoment.{Place, Unborn, InMap, Out, Handed, Behind, Left, GivenBack, Moment}
 use Rattle.run_finds.specs.Given.SchedulesRuns.{IsRunOf, log_of, pair_of}

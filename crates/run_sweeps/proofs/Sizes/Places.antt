@@ -2,11 +2,11 @@
 use Rattle.std.specs.Prelude.{◌≡◌, ℕ, suc, ◌+◌, Bool, true, false, List, length, Option, Some, None, if◌then◌else◌}
 use Rattle.std.proofs.Common.{refl, ap, sym, subst, ◌∙◌, arith, inl, inr}
 use Rattle.std.proofs.lemmas.Bool.{cases_eq, eq-eqb}
-use Rattle.run_finds.specs.Given.SchedulesDeclared.effect.Effect.{Effect}
-use Rattle.run_finds.specs.Given.SchedulesDeclared.effect.Effect.TheVariants as effect
-use Rattle.run_finds.specs.Given.SchedulesDeclared.effect.Spot.{Spot}
-use Rattle.run_finds.specs.Given.SchedulesDeclared.effect.Table.{Table}
-use Rattle.run_finds.specs.Given.SchedulesDeclared.effect.Thing.TheVariants.{APair, ATable}
+use Rattle.run_finds.specs.Given.RunsDeclared.effect.Effect.{Effect}
+use Rattle.run_finds.specs.Given.RunsDeclared.effect.Effect.TheVariants as effect
+use Rattle.run_finds.specs.Given.RunsDeclared.effect.Spot.{Spot}
+use Rattle.run_finds.specs.Given.RunsDeclared.effect.Table.{Table}
+use Rattle.run_finds.specs.Given.RunsDeclared.effect.Thing.TheVariants.{APair, ATable}
 use Rattle.run_finds.specs.Given.SchedulesEffects.{all_at, in_map, place_by, with_effect}
 use Rattle.run_finds.specs.Given.SchedulesEntry.{ByCall, acting}
 use Rattle.run_finds.specs.Given.SchedulesLists.{is_among, is_in, put}

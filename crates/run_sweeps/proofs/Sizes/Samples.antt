@@ -5,15 +5,15 @@ use Rattle.run_finds.specs.Given.RunsDeclared.ended.Pair.{Pair}
 use Rattle.run_finds.specs.Given.RunsLifeCycle.{times}
 use Rattle.run_finds.specs.Given.RunsPairs.{numbers}
 use Rattle.run_finds.specs.Given.TablesDeclared.resize_mode.ResizeMode.TheVariants.{Blocking}
-use Rattle.run_finds.specs.Given.SchedulesDeclared.call.Answer.TheVariants.{Absent}
-use Rattle.run_finds.specs.Given.SchedulesDeclared.call.Call.TheVariants.{On}
-use Rattle.run_finds.specs.Given.SchedulesDeclared.call.OneKey.TheVariants.{Insert}
-use Rattle.run_finds.specs.Given.SchedulesDeclared.effect.Effect.{Effect}
-use Rattle.run_finds.specs.Given.SchedulesDeclared.effect.Effect.TheVariants.{Counted, Stored}
-use Rattle.run_finds.specs.Given.SchedulesDeclared.event.Event.TheVariants.{Begin, MakeMap, Step}
-use Rattle.run_finds.specs.Given.SchedulesDeclared.outcome.Outcome.{Outcome}
-use Rattle.run_finds.specs.Given.SchedulesDeclared.outcome.Outcome.TheVariants.{Answered, Done, Goes}
-use Rattle.run_finds.specs.Given.SchedulesDeclared.record.Run.{Run}
+use Rattle.run_finds.specs.Given.RunsDeclared.call.Answer.TheVariants.{Absent}
+use Rattle.run_finds.specs.Given.RunsDeclared.call.Call.TheVariants.{On}
+use Rattle.run_finds.specs.Given.RunsDeclared.call.OneKey.TheVariants.{Insert}
+use Rattle.run_finds.specs.Given.RunsDeclared.effect.Effect.{Effect}
+use Rattle.run_finds.specs.Given.RunsDeclared.effect.Effect.TheVariants.{Counted, Stored}
+use Rattle.run_finds.specs.Given.RunsDeclared.event.Event.TheVariants.{Begin, MakeMap, Step}
+use Rattle.run_finds.specs.Given.RunsDeclared.outcome.Outcome.{Outcome}
+use Rattle.run_finds.specs.Given.RunsDeclared.outcome.Outcome.TheVariants.{Answered, Done, Goes}
+use Rattle.run_finds.specs.Given.RunsDeclared.record.Run.{Run}
 use Rattle.run_finds.specs.Given.TablesCounts.{count_in}
 use Rattle.run_finds.specs.Given.SchedulesAfter.{moment}
 use Rattle.run_finds.specs.Given.SchedulesCounts.{Counts}

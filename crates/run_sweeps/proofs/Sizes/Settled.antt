@@ -3,12 +3,12 @@ use Rattle.std.specs.Prelude.{◌≡◌, ℕ, ◌+◌, Bool, true, false, not, �
 use Rattle.std.specs.List.{AllByRecursion, list_any}
 use Rattle.std.proofs.Common.{refl, ap, sym, subst, ◌∙◌, inl, inr}
 use Rattle.run_finds.specs.Given.RunsSame.{is_same}
-use Rattle.run_finds.specs.Given.SchedulesDeclared.call.Reply.{Reply}
-use Rattle.run_finds.specs.Given.SchedulesDeclared.effect.Effect.{Effect}
-use Rattle.run_finds.specs.Given.SchedulesDeclared.event.Event.{Event}
-use Rattle.run_finds.specs.Given.SchedulesDeclared.event.Event.TheVariants as event
-use Rattle.run_finds.specs.Given.SchedulesDeclared.outcome.Outcome.{Outcome}
-use Rattle.run_finds.specs.Given.SchedulesDeclared.outcome.Outcome.TheVariants as outcome
+use Rattle.run_finds.specs.Given.RunsDeclared.call.Reply.{Reply}
+use Rattle.run_finds.specs.Given.RunsDeclared.effect.Effect.{Effect}
+use Rattle.run_finds.specs.Given.RunsDeclared.event.Event.{Event}
+use Rattle.run_finds.specs.Given.RunsDeclared.event.Event.TheVariants as event
+use Rattle.run_finds.specs.Given.RunsDeclared.outcome.Outcome.{Outcome}
+use Rattle.run_finds.specs.Given.RunsDeclared.outcome.Outcome.TheVariants as outcome
 use Rattle.run_finds.specs.Given.SchedulesAfter.{asks_on, calls_on, comes_to, moment, moments_from, replied, stepped, without_call}
 use Rattle.run_finds.specs.Given.SchedulesBeginning.{begun, with_call}
 use Rattle.run_finds.specs.Given.SchedulesComing.{Progresses, is_ready}

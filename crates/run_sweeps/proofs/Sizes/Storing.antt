@@ -5,13 +5,13 @@ use Rattle.std.proofs.Common.{refl, ap, sym, subst, ◌∙◌, arith, length-app
 use Rattle.std.proofs.lemmas.List.{length-map}
 use Rattle.std.proofs.lemmas.List.Concat.{flat_map-cons}
 use Rattle.run_finds.specs.Given.RunsSame.{is_same}
-use Rattle.run_finds.specs.Given.SchedulesDeclared.call.Call.{Call}
-use Rattle.run_finds.specs.Given.SchedulesDeclared.call.Call.TheVariants as call
-use Rattle.run_finds.specs.Given.SchedulesDeclared.call.OneKey.{OneKey}
-use Rattle.run_finds.specs.Given.SchedulesDeclared.call.Answer.{Answer}
-use Rattle.run_finds.specs.Given.SchedulesDeclared.call.Reply.{Reply}
-use Rattle.run_finds.specs.Given.SchedulesDeclared.effect.Effect.{Effect}
-use Rattle.run_finds.specs.Given.SchedulesDeclared.effect.Effect.TheVariants as effect
+use Rattle.run_finds.specs.Given.RunsDeclared.call.Call.{Call}
+use Rattle.run_finds.specs.Given.RunsDeclared.call.Call.TheVariants as call
+use Rattle.run_finds.specs.Given.RunsDeclared.call.OneKey.{OneKey}
+use Rattle.run_finds.specs.Given.RunsDeclared.call.Answer.{Answer}
+use Rattle.run_finds.specs.Given.RunsDeclared.call.Reply.{Reply}
+use Rattle.run_finds.specs.Given.RunsDeclared.effect.Effect.{Effect}
+use Rattle.run_finds.specs.Given.RunsDeclared.effect.Effect.TheVariants as effect
 use Rattle.run_finds.specs.Given.SchedulesEffects.{AtEachEffect, call_by, due_for, new_pair, stored_by, with_effect, with_effects}
 use Rattle.run_finds.specs.Given.SchedulesEntry.{ByCall}
 use Rattle.run_finds.specs.Given.SchedulesLinearizable.{Changes, MayRemove, RemovesOnly, shift_of, there_for}

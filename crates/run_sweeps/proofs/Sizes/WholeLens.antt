@@ -4,11 +4,11 @@ use Rattle.std.specs.List.{AllByRecursion}
 use Rattle.std.proofs.Common.{refl, ap, sym, subst, ◌∙◌, arith}
 use Rattle.std.proofs.lemmas.Bool.{eq-eqb, lt-ltb, ne_eqb}
 use Rattle.run_finds.specs.Given.TablesCounts.{count_in}
-use Rattle.run_finds.specs.Given.SchedulesDeclared.call.Answer.TheVariants.{Counted}
-use Rattle.run_finds.specs.Given.SchedulesDeclared.call.Call.TheVariants.{Len}
-use Rattle.run_finds.specs.Given.SchedulesDeclared.effect.Effect.{Effect}
-use Rattle.run_finds.specs.Given.SchedulesDeclared.event.Event.TheVariants.{OneCall}
-use Rattle.run_finds.specs.Given.SchedulesDeclared.outcome.Outcome.TheVariants.{Answered}
+use Rattle.run_finds.specs.Given.RunsDeclared.call.Answer.TheVariants.{Counted}
+use Rattle.run_finds.specs.Given.RunsDeclared.call.Call.TheVariants.{Len}
+use Rattle.run_finds.specs.Given.RunsDeclared.effect.Effect.{Effect}
+use Rattle.run_finds.specs.Given.RunsDeclared.event.Event.TheVariants.{OneCall}
+use Rattle.run_finds.specs.Given.RunsDeclared.outcome.Outcome.TheVariants.{Answered}
 use Rattle.run_finds.specs.Given.SchedulesAfter.{moment, moments_from}
 use Rattle.run_finds.specs.Given.SchedulesBeginning.{fresh_call, with_call}
 use Rattle.run_finds.specs.Given.SchedulesEffects.{AtEachEffect, with_effects, worked}

@@ -4,14 +4,14 @@ use Rattle.std.proofs.Common.{refl, ap, sym, subst, ◌∙◌, arith, inl, inr}
 use Rattle.std.proofs.lemmas.Bool.{cases_eq}
 use Rattle.run_finds.specs.Given.RunsPresent.{slot_of_guard}
 use Rattle.run_finds.specs.Given.RunsSame.{is_same}
-use Rattle.run_finds.specs.Given.SchedulesDeclared.call.Call.{Call}
-use Rattle.run_finds.specs.Given.SchedulesDeclared.call.Call.TheVariants as call
-use Rattle.run_finds.specs.Given.SchedulesDeclared.effect.Effect.{Effect}
-use Rattle.run_finds.specs.Given.SchedulesDeclared.effect.Effect.TheVariants as effect
-use Rattle.run_finds.specs.Given.SchedulesDeclared.event.Event.{Event}
-use Rattle.run_finds.specs.Given.SchedulesDeclared.event.Event.TheVariants as event
-use Rattle.run_finds.specs.Given.SchedulesDeclared.outcome.Outcome.{Outcome}
-use Rattle.run_finds.specs.Given.SchedulesDeclared.outcome.Outcome.TheVariants as outcome
+use Rattle.run_finds.specs.Given.RunsDeclared.call.Call.{Call}
+use Rattle.run_finds.specs.Given.RunsDeclared.call.Call.TheVariants as call
+use Rattle.run_finds.specs.Given.RunsDeclared.effect.Effect.{Effect}
+use Rattle.run_finds.specs.Given.RunsDeclared.effect.Effect.TheVariants as effect
+use Rattle.run_finds.specs.Given.RunsDeclared.event.Event.{Event}
+use Rattle.run_finds.specs.Given.RunsDeclared.event.Event.TheVariants as event
+use Rattle.run_finds.specs.Given.RunsDeclared.outcome.Outcome.{Outcome}
+use Rattle.run_finds.specs.Given.RunsDeclared.outcome.Outcome.TheVariants as outcome
 use Rattle.run_finds.specs.Given.SchedulesBeginning.{begun, with_call}
 use Rattle.run_finds.specs.Given.SchedulesEffects.{AtEachEffect, call_by, due_for, shards_by, with_effect, with_effects, word_with}
 use Rattle.run_finds.specs.Given.SchedulesEntry.{ByCall, IfCall, acting, is_busy, nameless}

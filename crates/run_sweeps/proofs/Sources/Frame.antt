@@ -2,7 +2,7 @@
 use Rattle.std.specs.Prelude.{◌≡◌, ℕ, ◌+◌, ◌<◌, ◌≤◌, length}
 use Rattle.std.proofs.Common.{ap, sym, subst, ◌∙◌, arith, inl, inr}
 use Rattle.std.proofs.lemmas.Bool.{cases_lt}
-use Rattle.run_finds.specs.Given.SchedulesDeclared.effect.Table.{Table}
+use Rattle.run_finds.specs.Given.RunsDeclared.effect.Table.{Table}
 use Rattle.run_finds.specs.Given.SchedulesMoment.{Moment}
 use Rattle.run_finds.specs.Given.EffectsKnown.{Known}
 use Rattle.run_finds.specs.Given.FinishesMaps.{Standing}

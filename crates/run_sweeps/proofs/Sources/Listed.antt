@@ -4,7 +4,7 @@ use Rattle.std.specs.List.{AllByRecursion}
 use Rattle.std.proofs.Common.{refl, ap, sym, ◌∙◌, arith, length-append, inl, inr}
 use Rattle.std.proofs.lemmas.Bool.{cases_eq, ne_eqb}
 use Rattle.run_finds.specs.Given.RunsLifeCycle.{times}
-use Rattle.run_finds.specs.Given.SchedulesDeclared.effect.Table.{Table}
+use Rattle.run_finds.specs.Given.RunsDeclared.effect.Table.{Table}
 use Rattle.run_finds.specs.Given.SchedulesMoment.{Place, Unborn, InMap, Out, Handed, Behind, Left, GivenBack, UnderWay, Deferral, Stage, Moment}
 use Rattle.run_finds.specs.Given.SchedulesThings.{same_table}
 use Rattle.run_finds.specs.Given.SchedulesViews.{call_of, behind}

@@ -5,15 +5,15 @@ use Rattle.run_finds.specs.Given.SeizeWordsMem.{Mem}
 use Rattle.run_finds.specs.Given.SeizeWorld.{World}
 use Rattle.run_finds.specs.Given.TablesChunks.{is_incremental}
 use Rattle.run_finds.specs.Given.TablesDeclared.node.Node.{Node}
-use Rattle.run_finds.specs.Given.SchedulesDeclared.effect.Effect.{Effect}
-use Rattle.run_finds.specs.Given.SchedulesDeclared.effect.Effect.TheVariants as effect
-use Rattle.run_finds.specs.Given.SchedulesDeclared.effect.Spot.{Spot}
-use Rattle.run_finds.specs.Given.SchedulesDeclared.effect.Table.{Table}
+use Rattle.run_finds.specs.Given.RunsDeclared.effect.Effect.{Effect}
+use Rattle.run_finds.specs.Given.RunsDeclared.effect.Effect.TheVariants as effect
+use Rattle.run_finds.specs.Given.RunsDeclared.effect.Spot.{Spot}
+use Rattle.run_finds.specs.Given.RunsDeclared.effect.Table.{Table}
 use Rattle.run_finds.specs.Given.SchedulesEffects.{stored_by, with_effect, with_effects}
 use Rattle.run_finds.specs.Given.SchedulesEntry.{acting}
 use Rattle.run_finds.specs.Given.SchedulesLists.{put}
 use Rattle.run_finds.specs.Given.SchedulesMoment.{UnderWay, Moment}
-use Rattle.run_finds.specs.Given.TellerDeclared.changed.Changed.{Changed}
+use Rattle.run_finds.specs.Given.EffectsDeclared.changed.Changed.{Changed}
 use Rattle.run_finds.specs.Given.RuleChart.{Chart}
 use Rattle.run_finds.specs.Given.RuleInWorld.{IsMapIn, Moved, Went}
 use Rattle.run_finds.specs.Given.RuleMaps.{spot_of}

@@ -6,14 +6,14 @@ use Rattle.run_finds.specs.Given.SeizeWordsMem.{Mem}
 use Rattle.run_finds.specs.Given.SeizeWorld.{World}
 use Rattle.run_finds.specs.Given.TablesChunks.{is_incremental}
 use Rattle.run_finds.specs.Given.TablesDeclared.node.Node.{Node}
-use Rattle.run_finds.specs.Given.SchedulesDeclared.effect.Effect.{Effect}
-use Rattle.run_finds.specs.Given.SchedulesDeclared.effect.Effect.TheVariants.{Copied as CopiedTo, Stored, Replaced, Removed, Linked, Promoted}
-use Rattle.run_finds.specs.Given.SchedulesDeclared.effect.Spot.{Spot}
-use Rattle.run_finds.specs.Given.SchedulesDeclared.effect.Table.{Table}
+use Rattle.run_finds.specs.Given.RunsDeclared.effect.Effect.{Effect}
+use Rattle.run_finds.specs.Given.RunsDeclared.effect.Effect.TheVariants.{Copied as CopiedTo, Stored, Replaced, Removed, Linked, Promoted}
+use Rattle.run_finds.specs.Given.RunsDeclared.effect.Spot.{Spot}
+use Rattle.run_finds.specs.Given.RunsDeclared.effect.Table.{Table}
 use Rattle.run_finds.specs.Given.SchedulesEffects.{later, is_chunked, spot_by, with_effects}
 use Rattle.run_finds.specs.Given.SchedulesLists.{put}
 use Rattle.run_finds.specs.Given.SchedulesMoment.{Moment}
-use Rattle.run_finds.specs.Given.TellerDeclared.changed.Changed.{Changed}
+use Rattle.run_finds.specs.Given.EffectsDeclared.changed.Changed.{Changed}
 use Rattle.run_finds.specs.Given.RuleChart.{Phase, Copying, Holds, Chart, is_settled}
 use Rattle.run_finds.specs.Given.RuleInWorld.{IsMapIn, Moved, Went}
 use Rattle.run_finds.specs.Given.RuleLasts.{Lasts}

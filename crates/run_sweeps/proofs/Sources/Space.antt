@@ -10,11 +10,11 @@ use Rattle.run_finds.specs.Given.TablesDeclared.node.Node.{Node}
 use Rattle.run_finds.specs.Given.RawDeclared.machines.progress.Progress.{Progress}
 use Rattle.run_finds.specs.Given.RunsLifeCycle.{times}
 use Rattle.run_finds.specs.Given.RunsSame.{is_same}
-use Rattle.run_finds.specs.Given.SchedulesDeclared.effect.Effect.{Effect}
-use Rattle.run_finds.specs.Given.SchedulesDeclared.effect.Effect.TheVariants as effect
-use Rattle.run_finds.specs.Given.SchedulesDeclared.effect.Table.{Table}
-use Rattle.run_finds.specs.Given.SchedulesDeclared.effect.Thing.{Thing}
-use Rattle.run_finds.specs.Given.SchedulesDeclared.effect.Thing.TheVariants.{APair, ATable}
+use Rattle.run_finds.specs.Given.RunsDeclared.effect.Effect.{Effect}
+use Rattle.run_finds.specs.Given.RunsDeclared.effect.Effect.TheVariants as effect
+use Rattle.run_finds.specs.Given.RunsDeclared.effect.Table.{Table}
+use Rattle.run_finds.specs.Given.RunsDeclared.effect.Thing.{Thing}
+use Rattle.run_finds.specs.Given.RunsDeclared.effect.Thing.TheVariants.{APair, ATable}
 use Rattle.run_finds.specs.Given.SchedulesEffects.{call_by, with_effect}
 use Rattle.run_finds.specs.Given.SchedulesEntry.{ByCall}
 use Rattle.run_finds.specs.Given.SchedulesMoment.{UnderWay as CallThere, TableThere, Moment}

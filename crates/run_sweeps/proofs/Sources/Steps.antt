@@ -9,14 +9,14 @@ use Rattle.run_finds.specs.Given.TablesChunks.{is_incremental}
 use Rattle.run_finds.specs.Given.TablesDeclared.node.Node.{Node}
 use Rattle.run_finds.specs.Given.TablesDeclared.setting.Setting.{Setting}
 use Rattle.run_finds.specs.Given.RawDeclared.machines.progress.Progress.{Progress}
-use Rattle.run_finds.specs.Given.SchedulesDeclared.effect.Effect.{Effect}
-use Rattle.run_finds.specs.Given.SchedulesDeclared.effect.Spot.{Spot}
-use Rattle.run_finds.specs.Given.SchedulesDeclared.effect.Table.{Table}
+use Rattle.run_finds.specs.Given.RunsDeclared.effect.Effect.{Effect}
+use Rattle.run_finds.specs.Given.RunsDeclared.effect.Spot.{Spot}
+use Rattle.run_finds.specs.Given.RunsDeclared.effect.Table.{Table}
 use Rattle.run_finds.specs.Given.SchedulesEffects.{with_effects}
 use Rattle.run_finds.specs.Given.SchedulesMoment.{Place, Unborn, InMap, Out, Handed, Behind, Left, GivenBack, Moment}
 use Rattle.run_finds.specs.Given.SchedulesViews.{is_in_map}
-use Rattle.run_finds.specs.Given.TellerDeclared.changed.Changed.{Changed}
-use Rattle.run_finds.specs.Given.TellerDeclared.changed.Changed.TheVariants as changed
+use Rattle.run_finds.specs.Given.EffectsDeclared.changed.Changed.{Changed}
+use Rattle.run_finds.specs.Given.EffectsDeclared.changed.Changed.TheVariants as changed
 use Rattle.run_finds.specs.Given.TellsSeen.{Seen, Unseen, Wrote, seen_of}
 use Rattle.run_finds.specs.Given.TellsTells.{IsTold}
 use Rattle.run_finds.proofs.Given.TellsPromised.{operations_tell, still_steps_tell}

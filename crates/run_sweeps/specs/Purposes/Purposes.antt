@@ -7,9 +7,9 @@ use Rattle.run_finds.specs.Given.ResizeDeclared.sum.Summing.{Summing}
 use Rattle.run_finds.specs.Given.ResizeDeclared.sum.Summing.TheVariants as sums
 use Rattle.run_finds.specs.Given.ReservesDeclared.reserve.Reserving.{Reserving}
 use Rattle.run_finds.specs.Given.ReservesDeclared.reserve.Reserving.TheVariants as reserving
-use Rattle.run_finds.specs.Given.SweepsDeclared.sweep.Purpose.TheVariants.{Walks, Clears, Retains}
-use Rattle.run_finds.specs.Given.SchedulesDeclared.call.Call.{Call}
-use Rattle.run_finds.specs.Given.SchedulesDeclared.call.Call.TheVariants.{On, Reserve, Clear, Retain, Len, Walk}
+use Rattle.run_finds.specs.Given.ReservesDeclared.sweep.Purpose.TheVariants.{Walks, Clears, Retains}
+use Rattle.run_finds.specs.Given.RunsDeclared.call.Call.{Call}
+use Rattle.run_finds.specs.Given.RunsDeclared.call.Call.TheVariants.{On, Reserve, Clear, Retain, Len, Walk}
 use Rattle.run_finds.specs.Given.SchedulesCounts.{AddsUp, Counts}
 use Rattle.run_finds.specs.Given.SchedulesLists.{OneOf}
 use Rattle.run_finds.specs.Given.SchedulesMoment.{UnderWay as CallThere, Moment}

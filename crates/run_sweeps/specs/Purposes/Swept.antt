@@ -5,11 +5,11 @@ use Rattle.run_finds.specs.Given.RawDeclared.machines.progress.Answer.{Answer}
 use Rattle.run_finds.specs.Given.RawDeclared.machines.progress.Answer.TheVariants as answers
 use Rattle.run_finds.specs.Given.RawDeclared.machines.progress.Progress.{Progress}
 use Rattle.run_finds.specs.Given.RawDeclared.machines.progress.Progress.TheVariants as progress
-use Rattle.run_finds.specs.Given.SchedulesDeclared.call.Answer.TheVariants.{Absent, Completed, Counted}
-use Rattle.run_finds.specs.Given.SchedulesDeclared.call.Call.TheVariants.{On, Reserve, Clear, Retain, Len, Walk}
-use Rattle.run_finds.specs.Given.SchedulesDeclared.call.OneKey.{OneKey}
-use Rattle.run_finds.specs.Given.SchedulesDeclared.outcome.Outcome.{Outcome}
-use Rattle.run_finds.specs.Given.SchedulesDeclared.outcome.Outcome.TheVariants.{Shows, Answered}
+use Rattle.run_finds.specs.Given.RunsDeclared.call.Answer.TheVariants.{Absent, Completed, Counted}
+use Rattle.run_finds.specs.Given.RunsDeclared.call.Call.TheVariants.{On, Reserve, Clear, Retain, Len, Walk}
+use Rattle.run_finds.specs.Given.RunsDeclared.call.OneKey.{OneKey}
+use Rattle.run_finds.specs.Given.RunsDeclared.outcome.Outcome.{Outcome}
+use Rattle.run_finds.specs.Given.RunsDeclared.outcome.Outcome.TheVariants.{Shows, Answered}
 use Rattle.run_finds.specs.Given.SchedulesEffects.{with_effects}
 use Rattle.run_finds.specs.Given.SchedulesMoment.{UnderWay as CallThere, Moment}
 use Rattle.run_finds.specs.Given.SchedulesTerms.{Terms, shards_of}

@@ -2,8 +2,8 @@
 use Rattle.std.specs.Prelude.{◌≡◌, ℕ, ◌&&◌, nat_le, Bool, List, ◌++◌, if◌then◌else◌}
 use Rattle.run_finds.specs.Given.RunsLifeCycle.{times}
 use Rattle.run_finds.specs.Given.RunsPairs.{numbers}
-use Rattle.run_finds.specs.Given.SchedulesDeclared.event.Event.{Event}
-use Rattle.run_finds.specs.Given.SchedulesDeclared.record.Run.{Run}
+use Rattle.run_finds.specs.Given.RunsDeclared.event.Event.{Event}
+use Rattle.run_finds.specs.Given.RunsDeclared.record.Run.{Run}
 use Rattle.run_finds.specs.Given.SchedulesRuns.{IsRunOf}
 use Rattle.run_finds.specs.Given.SchedulesTerms.{Terms}
 

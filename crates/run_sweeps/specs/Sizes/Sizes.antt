@@ -2,10 +2,10 @@
 use Rattle.std.specs.Prelude.{◌≡◌, ℕ, zero, suc, ◌+◌, ◌%◌, ◌^◌, ◌==◌, Bool, false, List, ◌∷◌, sum_by, Some, if◌then◌else◌}
 use Rattle.std.specs.List.{AllByRecursion}
 use Rattle.run_finds.specs.Given.TablesCounts.{count_in}
-use Rattle.run_finds.specs.Given.SchedulesDeclared.call.Answer.TheVariants.{Counted}
-use Rattle.run_finds.specs.Given.SchedulesDeclared.call.Call.TheVariants.{Len}
-use Rattle.run_finds.specs.Given.SchedulesDeclared.event.Event.TheVariants.{OneCall}
-use Rattle.run_finds.specs.Given.SchedulesDeclared.outcome.Outcome.TheVariants.{Answered}
+use Rattle.run_finds.specs.Given.RunsDeclared.call.Answer.TheVariants.{Counted}
+use Rattle.run_finds.specs.Given.RunsDeclared.call.Call.TheVariants.{Len}
+use Rattle.run_finds.specs.Given.RunsDeclared.event.Event.TheVariants.{OneCall}
+use Rattle.run_finds.specs.Given.RunsDeclared.outcome.Outcome.TheVariants.{Answered}
 use Rattle.run_finds.specs.Given.SchedulesAfter.{moment, moments_from}
 use Rattle.run_finds.specs.Given.SchedulesEffects.{worked}
 use Rattle.run_finds.specs.Given.SchedulesEntry.{Entry, acting, caller_of}

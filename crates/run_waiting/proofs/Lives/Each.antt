@@ -1,7 +1,7 @@
 -- What is so of each pair that waits, and of its table.
 use Rattle.std.specs.Prelude.{◌≡◌, ℕ, ◌==◌, Bool, true, false, ◌||◌, List, [], ◌∷◌, filter, map, if◌then◌else◌}
 use Rattle.std.proofs.Common.{refl, sym, arith}
-use Rattle.run_debts.specs.Given.SchedulesDeclared.effect.Table.{Table}
+use Rattle.run_debts.specs.Given.RunsDeclared.effect.Table.{Table}
 use Rattle.run_debts.specs.Given.SchedulesLists.{is_among}
 use Rattle.run_debts.specs.Given.SchedulesMoment.{Deferral}
 use Rattle.run_debts.specs.Given.SchedulesThings.{same_table}

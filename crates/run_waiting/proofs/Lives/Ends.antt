@@ -1,11 +1,11 @@
 -- What waits behind a table that ends with its map is not reclaimed.
 use Rattle.std.specs.Prelude.{◌≡◌, ℕ, Bool, true, List, [], ◌∷◌, Some, None}
 use Rattle.std.proofs.Common.{sym, subst, inl, inr}
-use Rattle.run_debts.specs.Given.SchedulesDeclared.effect.Effect.{Effect}
-use Rattle.run_debts.specs.Given.SchedulesDeclared.effect.Effect.TheVariants.{Taken}
+use Rattle.run_debts.specs.Given.RunsDeclared.effect.Effect.{Effect}
+use Rattle.run_debts.specs.Given.RunsDeclared.effect.Effect.TheVariants.{Taken}
 use Rattle.run_debts.specs.Given.SchedulesEffects.{with_effect, AtEachEffect}
 use Rattle.run_debts.specs.Given.SchedulesMoment.{Moment}
-use Rattle.run_debts.specs.Given.TellerDeclared.changed.Changed.{Changed}
+use Rattle.run_debts.specs.Given.EffectsDeclared.changed.Changed.{Changed}
 use Rattle.run_debts.specs.Given.EffectsEffects.{taken_by, effects_of}
 use Rattle.run_debts.specs.Given.EffectsDeclared.acting.Acting.TheVariants.{Ending}
 use Rattle.run_debts.specs.Given.EffectsDeclared.role.Role.{Role}

@@ -17,17 +17,17 @@ use Rattle.run_debts.specs.Given.TablesNodes.{deferred_word}
 use Rattle.run_debts.specs.Given.TablesDeclared.node.Node.{Node}
 use Rattle.run_debts.specs.Given.RawDeclared.machines.machine.Machine.{Machine}
 use Rattle.run_debts.specs.Given.RawDeclared.machines.progress.Progress.{Progress as CallTold}
-use Rattle.run_debts.specs.Given.SchedulesDeclared.effect.Effect.{Effect}
-use Rattle.run_debts.specs.Given.SchedulesDeclared.effect.Effect.TheVariants.{Deferred, Retired}
-use Rattle.run_debts.specs.Given.SchedulesDeclared.effect.Table.{Table}
-use Rattle.run_debts.specs.Given.SchedulesDeclared.effect.Thing.{Thing}
-use Rattle.run_debts.specs.Given.SchedulesDeclared.effect.Thing.TheVariants.{APair, ATable}
+use Rattle.run_debts.specs.Given.RunsDeclared.effect.Effect.{Effect}
+use Rattle.run_debts.specs.Given.RunsDeclared.effect.Effect.TheVariants.{Deferred, Retired}
+use Rattle.run_debts.specs.Given.RunsDeclared.effect.Table.{Table}
+use Rattle.run_debts.specs.Given.RunsDeclared.effect.Thing.{Thing}
+use Rattle.run_debts.specs.Given.RunsDeclared.effect.Thing.TheVariants.{APair, ATable}
 use Rattle.run_debts.specs.Given.SchedulesEffects.{with_effects, AtEachEffect}
 use Rattle.run_debts.specs.Given.SchedulesMoment.{Handed as IsHanded, Moment}
 use Rattle.run_debts.specs.Given.SchedulesReclaims.{is_handed}
 use Rattle.run_debts.specs.Given.SchedulesThings.{same_table}
 use Rattle.run_debts.specs.Given.SchedulesViews.{is_stage, is_retired}
-use Rattle.run_debts.specs.Given.TellerDeclared.changed.Changed.{Changed}
+use Rattle.run_debts.specs.Given.EffectsDeclared.changed.Changed.{Changed}
 use Rattle.run_debts.specs.Given.RuleInWorld.{AllUsers}
 use Rattle.run_debts.specs.Given.CallersSights.{seen_by}
 use Rattle.run_debts.specs.Given.CallersTogether.{UnderWay, OnKey, ForRoom, Counting, OverAll, Together, IsOneStep, HandsOver, CameAbout}

@@ -6,18 +6,18 @@ use Rattle.run_debts.specs.Given.SeizeWordsMem.{value_at}
 use Rattle.run_debts.specs.Given.SeizeWordsDeclared.at.At.TheVariants.{Root, Used, Slot, Entry, Word}
 use Rattle.run_debts.specs.Given.SeizeWorld.{World, Handed}
 use Rattle.run_debts.specs.Given.TablesDeclared.node.Node.{Node}
-use Rattle.run_debts.specs.Given.SchedulesDeclared.effect.Effect.TheVariants.{Asked, Reclaimed}
-use Rattle.run_debts.specs.Given.SchedulesDeclared.effect.Growth.TheVariants.{ABucket}
-use Rattle.run_debts.specs.Given.SchedulesDeclared.effect.Table.{Table}
-use Rattle.run_debts.specs.Given.SchedulesDeclared.effect.Thing.TheVariants.{APair, ATable}
+use Rattle.run_debts.specs.Given.RunsDeclared.effect.Effect.TheVariants.{Asked, Reclaimed}
+use Rattle.run_debts.specs.Given.RunsDeclared.effect.Growth.TheVariants.{ABucket}
+use Rattle.run_debts.specs.Given.RunsDeclared.effect.Table.{Table}
+use Rattle.run_debts.specs.Given.RunsDeclared.effect.Thing.TheVariants.{APair, ATable}
 use Rattle.run_debts.specs.Given.SchedulesEffects.{with_effects}
 use Rattle.run_debts.specs.Given.SchedulesLists.{is_among}
 use Rattle.run_debts.specs.Given.SchedulesMoment.{Place, Behind, Handed as IsHanded, GivenBack, Deferral, TableThere, Moment}
 use Rattle.run_debts.specs.Given.SchedulesReclaims.{is_handed}
 use Rattle.run_debts.specs.Given.SchedulesThings.{same_table}
 use Rattle.run_debts.specs.Given.SchedulesViews.{behind, is_stage, is_retired}
-use Rattle.run_debts.specs.Given.TellerDeclared.changed.Changed.{Changed}
-use Rattle.run_debts.specs.Given.TellerDeclared.changed.Changed.TheVariants as changed
+use Rattle.run_debts.specs.Given.EffectsDeclared.changed.Changed.{Changed}
+use Rattle.run_debts.specs.Given.EffectsDeclared.changed.Changed.TheVariants as changed
 use Rattle.run_debts.specs.Given.EffectsEffects.{names_same, taken_by, effects_of, known_after}
 use Rattle.run_debts.specs.Given.EffectsKnown.{Known, with_role}
 use Rattle.run_debts.specs.Given.EffectsDeclared.acting.Acting.TheVariants.{Row}

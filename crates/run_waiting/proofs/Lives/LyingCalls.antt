@@ -16,8 +16,8 @@ use Rattle.run_debts.specs.Given.TablesDeclared.node.Node.{Node}
 use Rattle.run_debts.specs.Given.RawDeclared.machines.machine.Machine.{Machine}
 use Rattle.run_debts.specs.Given.RawDeclared.machines.progress.Progress.{Progress}
 use Rattle.run_debts.specs.Given.RawDeclared.machines.progress.Progress.TheVariants as progress
-use Rattle.run_debts.specs.Given.SchedulesDeclared.effect.Effect.{Effect}
-use Rattle.run_debts.specs.Given.SchedulesDeclared.effect.Table.{Table}
+use Rattle.run_debts.specs.Given.RunsDeclared.effect.Effect.{Effect}
+use Rattle.run_debts.specs.Given.RunsDeclared.effect.Table.{Table}
 use Rattle.run_debts.specs.Given.SchedulesEffects.{with_effects}
 use Rattle.run_debts.specs.Given.SchedulesLists.{is_among}
 use Rattle.run_debts.specs.Given.SchedulesMoment.{Deferral, Moment}

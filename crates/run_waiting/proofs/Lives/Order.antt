@@ -9,15 +9,15 @@ use Rattle.run_debts.proofs.Given.SeizeAloneHistories.Reached.{Reached, steps_re
 use Rattle.run_debts.specs.Given.RunsDeclared.shapes.TableShape.{TableShape}
 use Rattle.run_debts.specs.Given.TablesNodes.{deferred_word}
 use Rattle.run_debts.specs.Given.TablesDeclared.node.Node.{Node}
-use Rattle.run_debts.specs.Given.SchedulesDeclared.effect.Effect.TheVariants.{Asked}
-use Rattle.run_debts.specs.Given.SchedulesDeclared.effect.Growth.TheVariants.{ABucket}
-use Rattle.run_debts.specs.Given.SchedulesDeclared.effect.Table.{Table}
+use Rattle.run_debts.specs.Given.RunsDeclared.effect.Effect.TheVariants.{Asked}
+use Rattle.run_debts.specs.Given.RunsDeclared.effect.Growth.TheVariants.{ABucket}
+use Rattle.run_debts.specs.Given.RunsDeclared.effect.Table.{Table}
 use Rattle.run_debts.specs.Given.SchedulesEffects.{with_effects}
 use Rattle.run_debts.specs.Given.SchedulesMoment.{Behind, Deferral, Moment}
 use Rattle.run_debts.specs.Given.SchedulesThings.{same_table}
 use Rattle.run_debts.specs.Given.SchedulesViews.{behind}
-use Rattle.run_debts.specs.Given.TellerDeclared.changed.Changed.{Changed}
-use Rattle.run_debts.specs.Given.TellerDeclared.changed.Changed.TheVariants as changed
+use Rattle.run_debts.specs.Given.EffectsDeclared.changed.Changed.{Changed}
+use Rattle.run_debts.specs.Given.EffectsDeclared.changed.Changed.TheVariants as changed
 use Rattle.run_debts.specs.Given.RuleInWorld.{AllUsers}
 use Rattle.run_debts.proofs.Given.CallersTogether.Came.{came_reached}
 use Rattle.run_debts.specs.Given.EffectsEffects.{names_same, taken_by, effects_of, known_after}

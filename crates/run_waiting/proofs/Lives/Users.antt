@@ -11,7 +11,7 @@ use Rattle.run_debts.proofs.Given.SeizeMemoryWords.Shows.{lives}
 use Rattle.run_debts.proofs.Given.SeizeMemoryWords.There.{value_there}
 use Rattle.run_debts.proofs.Given.SeizeMovesState.Ghost.{Life}
 use Rattle.run_debts.specs.Given.TablesNodes.{deferred_word}
-use Rattle.run_debts.specs.Given.SchedulesDeclared.effect.Table.{Table}
+use Rattle.run_debts.specs.Given.RunsDeclared.effect.Table.{Table}
 use Rattle.run_debts.specs.Given.SchedulesMoment.{Behind}
 use Rattle.run_debts.specs.Given.RuleInWorld.{AllUsers}
 use Rattle.run_debts.proofs.Given.RuleWorld.Hands.{at_cases}

@@ -10,7 +10,7 @@ use Rattle.run_debts.specs.Given.SeizeDeclared.rows.settle.Settled.TheVariants a
 use Rattle.run_debts.specs.Given.TablesDeclared.node.Node.{Node}
 use Rattle.run_debts.specs.Given.RawDeclared.machines.end_map.EndMap.{EndMap}
 use Rattle.run_debts.specs.Given.RunsLifeCycle.{times as root_times}
-use Rattle.run_debts.specs.Given.SchedulesDeclared.effect.Effect.{Effect}
+use Rattle.run_debts.specs.Given.RunsDeclared.effect.Effect.{Effect}
 use Rattle.run_debts.specs.Given.SchedulesBeginning.{used_roots}
 use Rattle.run_debts.specs.Given.SchedulesEffects.{with_effects}
 use Rattle.run_debts.specs.Given.SchedulesLists.{is_among}

@@ -4,13 +4,13 @@ use Rattle.std.specs.List.{All}
 use Rattle.std.proofs.Common.{◌≡◌, ℕ, zero, suc, Bool, true, false, refl, ap, subst, arith}
 use Rattle.std.proofs.lemmas.List.{length-map}
 use Rattle.run_debts.specs.Given.SeizeWordsDeclared.at.At.TheVariants.{Root, Used, Slot, Entry, Word}
-use Rattle.run_debts.specs.Given.TellerDeclared.changed.Changed.{Changed}
-use Rattle.run_debts.specs.Given.TellerDeclared.changed.Changed.TheVariants as changed
-use Rattle.run_debts.specs.Given.TellerDeclared.changed.Changed.TheVariants.{Took}
-use Rattle.run_debts.specs.Given.SchedulesDeclared.effect.Effect.{Effect}
-use Rattle.run_debts.specs.Given.SchedulesDeclared.effect.Effect.TheVariants.{Asked, Taken}
-use Rattle.run_debts.specs.Given.SchedulesDeclared.effect.Growth.TheVariants.{ABucket}
-use Rattle.run_debts.specs.Given.SchedulesDeclared.effect.Table.{Table}
+use Rattle.run_debts.specs.Given.EffectsDeclared.changed.Changed.{Changed}
+use Rattle.run_debts.specs.Given.EffectsDeclared.changed.Changed.TheVariants as changed
+use Rattle.run_debts.specs.Given.EffectsDeclared.changed.Changed.TheVariants.{Took}
+use Rattle.run_debts.specs.Given.RunsDeclared.effect.Effect.{Effect}
+use Rattle.run_debts.specs.Given.RunsDeclared.effect.Effect.TheVariants.{Asked, Taken}
+use Rattle.run_debts.specs.Given.RunsDeclared.effect.Growth.TheVariants.{ABucket}
+use Rattle.run_debts.specs.Given.RunsDeclared.effect.Table.{Table}
 use Rattle.run_debts.specs.Given.SchedulesEffects.{at_stage, maps_by, tables_by, with_effect, with_effects}
 use Rattle.run_debts.specs.Given.SchedulesMoment.{IsReclaimed, IsTaken, MapThere, Moment, TableThere}
 use Rattle.run_debts.specs.Given.EffectsEffects.{names_same, taken_by, effects_of}

@@ -21,8 +21,8 @@ use Rattle.run_debts.specs.Given.RawEndMap.{end_map_plan}
 use Rattle.run_debts.specs.Given.RawMachine.{machine_plan}
 use Rattle.run_debts.specs.Given.ResizeNewMap.{new_map_plan}
 use Rattle.run_debts.specs.Given.TellerTells.{told_of}
-use Rattle.run_debts.specs.Given.TellerDeclared.changed.Changed.{Changed}
-use Rattle.run_debts.specs.Given.TellerDeclared.changed.Changed.TheVariants as changed
+use Rattle.run_debts.specs.Given.EffectsDeclared.changed.Changed.{Changed}
+use Rattle.run_debts.specs.Given.EffectsDeclared.changed.Changed.TheVariants as changed
 use Rattle.run_debts.specs.Given.TellsSeen.{seen_of}
 use Rattle.run_debts.specs.Given.EffectsEffects.{in_block_on, in_table_on, is_place, known_after, linked_on, named, names_same, stored_on, written_on}
 use Rattle.run_debts.specs.Given.EffectsKnown.{Known, with_bucket}

@@ -2,7 +2,7 @@
 use Rattle.std.specs.Prelude.{◌≡◌, ◌⊎◌, ℕ, true, List, [], ◌∷◌, Some}
 use Rattle.run_debts.specs.Given.SeizeWorld.{World, Hand, LeftTo}
 use Rattle.run_debts.specs.Given.TablesDeclared.node.Node.{Node}
-use Rattle.run_debts.specs.Given.SchedulesDeclared.effect.Table.{Table}
+use Rattle.run_debts.specs.Given.RunsDeclared.effect.Table.{Table}
 use Rattle.run_debts.specs.Given.SchedulesLists.{is_among}
 use Rattle.run_debts.specs.Given.SchedulesMoment.{Behind, Deferral, Moment}
 use Rattle.run_debts.specs.Given.SchedulesThings.{same_table}

@@ -9,10 +9,10 @@ use Rattle.run_debts.specs.Given.SeizeWorld.{World, Row, Rests, Settles, Defers,
 use Rattle.run_debts.specs.Given.TablesDeclared.node.Node.{Node}
 use Rattle.run_debts.specs.Given.TablesDeclared.setting.Setting.{Setting}
 use Rattle.run_debts.specs.Given.RawDeclared.machines.progress.Progress.{Progress as CallTold}
-use Rattle.run_debts.specs.Given.SchedulesDeclared.effect.Effect.{Effect}
-use Rattle.run_debts.specs.Given.SchedulesDeclared.effect.Effect.TheVariants.{Reclaimed}
-use Rattle.run_debts.specs.Given.SchedulesDeclared.effect.Table.{Table}
-use Rattle.run_debts.specs.Given.SchedulesDeclared.effect.Thing.TheVariants.{APair}
+use Rattle.run_debts.specs.Given.RunsDeclared.effect.Effect.{Effect}
+use Rattle.run_debts.specs.Given.RunsDeclared.effect.Effect.TheVariants.{Reclaimed}
+use Rattle.run_debts.specs.Given.RunsDeclared.effect.Table.{Table}
+use Rattle.run_debts.specs.Given.RunsDeclared.effect.Thing.TheVariants.{APair}
 use Rattle.run_debts.specs.Given.SchedulesEffects.{with_effects, AtEachEffect}
 use Rattle.run_debts.specs.Given.SchedulesLists.{is_among}
 use Rattle.run_debts.specs.Given.SchedulesMoment.{Deferral, Moment, start}

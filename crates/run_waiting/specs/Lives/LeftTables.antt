@@ -6,7 +6,7 @@ use Rattle.run_debts.specs.Given.SeizeWorld.{LeftTo, Begin, Step, times}
 use Rattle.run_debts.specs.Given.TablesDeclared.node.Node.{Node}
 use Rattle.run_debts.specs.Given.TablesDeclared.setting.Setting.{Setting}
 use Rattle.run_debts.specs.Given.RawDeclared.machines.progress.Progress.{Progress as CallTold}
-use Rattle.run_debts.specs.Given.SchedulesDeclared.effect.Table.{Table}
+use Rattle.run_debts.specs.Given.RunsDeclared.effect.Table.{Table}
 use Rattle.run_debts.specs.Given.SchedulesMoment.{Moment}
 use Rattle.run_debts.specs.Given.CallersTogether.{UnderWay}
 use Rattle.run_debts.specs.Given.EffectsEffects.{known_after}

@@ -7,7 +7,7 @@ use Rattle.run_debts.specs.Given.SeizeWorld.{World, Begin, Step}
 use Rattle.run_debts.specs.Given.TablesDeclared.node.Node.{Node}
 use Rattle.run_debts.specs.Given.TablesDeclared.setting.Setting.{Setting}
 use Rattle.run_debts.specs.Given.RawDeclared.machines.progress.Progress.{Progress as CallTold}
-use Rattle.run_debts.specs.Given.SchedulesDeclared.effect.Table.{Table}
+use Rattle.run_debts.specs.Given.RunsDeclared.effect.Table.{Table}
 use Rattle.run_debts.specs.Given.SchedulesEffects.{with_effects}
 use Rattle.run_debts.specs.Given.SchedulesLists.{is_among}
 use Rattle.run_debts.specs.Given.SchedulesMoment.{Moment, start}

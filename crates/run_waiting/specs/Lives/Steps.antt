@@ -7,9 +7,9 @@ use Rattle.run_debts.specs.Given.TablesNodes.{deferred_word}
 use Rattle.run_debts.specs.Given.TablesDeclared.node.Node.{Node}
 use Rattle.run_debts.specs.Given.TablesDeclared.setting.Setting.{Setting}
 use Rattle.run_debts.specs.Given.RawDeclared.machines.progress.Progress.{Progress as CallTold}
-use Rattle.run_debts.specs.Given.SchedulesDeclared.effect.Effect.{Effect}
+use Rattle.run_debts.specs.Given.RunsDeclared.effect.Effect.{Effect}
 use Rattle.run_debts.specs.Given.SchedulesEffects.{with_effects, AtEachEffect}
-use Rattle.run_debts.specs.Given.SchedulesDeclared.effect.Table.{Table}
+use Rattle.run_debts.specs.Given.RunsDeclared.effect.Table.{Table}
 use Rattle.run_debts.specs.Given.SchedulesMoment.{Behind, Moment, start}
 use Rattle.run_debts.specs.Given.RuleInWorld.{AllUsers}
 use Rattle.run_debts.specs.Given.CallersTogether.{CameAbout, UnderWay}

@@ -7,7 +7,7 @@ use Rattle.run_debts.specs.Given.TablesDeclared.node.Node.{Node}
 use Rattle.run_debts.specs.Given.TablesDeclared.setting.Setting.{Setting}
 use Rattle.run_debts.specs.Given.RawDeclared.machines.progress.Progress.{Progress as CallTold}
 use Rattle.run_debts.specs.Given.RunsSame.{is_same}
-use Rattle.run_debts.specs.Given.SchedulesDeclared.effect.Effect.{Effect}
+use Rattle.run_debts.specs.Given.RunsDeclared.effect.Effect.{Effect}
 use Rattle.run_debts.specs.Given.SchedulesAfter.{if_any}
 use Rattle.run_debts.specs.Given.SchedulesBeginning.{used_roots, with_map}
 use Rattle.run_debts.specs.Given.SchedulesEffects.{with_effects}

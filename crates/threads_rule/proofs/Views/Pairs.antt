@@ -10,8 +10,8 @@ use Rattle.map_machines.specs.declared.outcome.Outcome.{Outcome}
 use Rattle.map_machines.specs.declared.outcome.Outcome.TheVariants as outcome
 use Rattle.papaya_raw.specs.CallAsks.{replied}
 use Rattle.papaya_raw.specs.Progress.{of_called, of_outcome, of_swept, of_counting}
-use Rattle.papaya_raw.specs.Given.SweepsDeclared.sweep.Swept.{Swept}
-use Rattle.papaya_raw.specs.Given.SweepsDeclared.sweep.Swept.TheVariants as swept
+use Rattle.papaya_raw.specs.Given.ReservesDeclared.sweep.Swept.{Swept}
+use Rattle.papaya_raw.specs.Given.ReservesDeclared.sweep.Swept.TheVariants as swept
 use Rattle.papaya_raw.specs.declared.machines.answer.Called.{Called}
 use Rattle.papaya_raw.specs.declared.machines.answer.Called.TheVariants as tells
 use Rattle.papaya_raw.specs.declared.machines.asking.Reply.{Reply}

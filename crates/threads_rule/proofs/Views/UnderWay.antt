@@ -15,8 +15,8 @@ use Rattle.map_machines.specs.declared.dispose.Disposing.{Disposing}
 use Rattle.map_machines.specs.declared.dispose.Disposing.TheVariants as disposes
 use Rattle.papaya_raw.specs.Given.ReservesDeclared.reserve.Reserving.{Reserving}
 use Rattle.papaya_raw.specs.Given.ReservesDeclared.reserve.Reserving.TheVariants as reserving
-use Rattle.papaya_raw.specs.Given.SweepsDeclared.sweep.Sweeping.{Sweeping}
-use Rattle.papaya_raw.specs.Given.SweepsDeclared.sweep.Sweeping.TheVariants as sweeping
+use Rattle.papaya_raw.specs.Given.ReservesDeclared.sweep.Sweeping.{Sweeping}
+use Rattle.papaya_raw.specs.Given.ReservesDeclared.sweep.Sweeping.TheVariants as sweeping
 use Rattle.owner_calls.specs.Given.PointsTold.{IsRowOf, IsRowOfCopier, IsRowOfCall}
 use Rattle.many_acts.specs.Given.LateToldReserves.{IsRowOfReserve}
 use Rattle.owner_calls.specs.Given.LateToldSweeps.{IsRowOfSweep}

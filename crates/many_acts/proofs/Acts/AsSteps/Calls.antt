@@ -12,8 +12,8 @@ use Rattle.run_shows.specs.Given.RawDeclared.machines.asking.Reply.{Reply}
 use Rattle.run_shows.specs.Given.RawDeclared.machines.machine.Machine.{Machine}
 use Rattle.run_shows.specs.Given.RawDeclared.machines.progress.Progress.{Progress}
 use Rattle.owner_facts.specs.Given.PointsSteps.{AreLawful}
-use Rattle.run_shows.specs.Given.TellerDeclared.changed.Changed.{Changed}
-use Rattle.run_shows.specs.Given.TellerDeclared.changed.Changed.TheVariants.{Nothing as NoChange}
+use Rattle.run_shows.specs.Given.EffectsDeclared.changed.Changed.{Changed}
+use Rattle.run_shows.specs.Given.EffectsDeclared.changed.Changed.TheVariants.{Nothing as NoChange}
 use Rattle.owner_facts.specs.Given.CallersTogether.{UnderWay}
 use Rattle.owner_facts.specs.Given.CallersTogether as begins
 use Rattle.owner_facts.specs.Given.FinishesMachines.{machine_of, MachineStepsAmong, ToldOfKind}

@@ -21,8 +21,8 @@ use Rattle.run_shows.specs.Given.ResizeDeclared.new_map.NewMap.{NewMap}
 use Rattle.run_shows.specs.Given.RawEndMap.{end_map_plan}
 use Rattle.run_shows.specs.Given.RawDeclared.machines.end_map.EndMap.{EndMap}
 use Rattle.run_shows.specs.Given.TellerTells.{StepsTold}
-use Rattle.run_shows.specs.Given.TellerDeclared.changed.Changed.{Changed}
-use Rattle.run_shows.specs.Given.TellerDeclared.changed.Changed.TheVariants.{Nothing as NoChange}
+use Rattle.run_shows.specs.Given.EffectsDeclared.changed.Changed.{Changed}
+use Rattle.run_shows.specs.Given.EffectsDeclared.changed.Changed.TheVariants.{Nothing as NoChange}
 use Rattle.owner_facts.specs.Given.CallersRows.{IsRowOn}
 use Rattle.owner_facts.proofs.Given.CallersTogether.At.{at_same, at_other}
 use Rattle.owner_facts.proofs.Given.CallersTogether.Slots.{all_between, between_rows}

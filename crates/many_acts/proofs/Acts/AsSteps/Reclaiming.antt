@@ -9,7 +9,7 @@ use Rattle.run_shows.specs.Given.SeizeDeclared.rows.settle.Settled.TheVariants a
 use Rattle.seize_acts.specs.Acts.Answers.{Grant}
 use Rattle.run_shows.specs.Given.TablesNodes.{deferred_word, was_left}
 use Rattle.run_shows.specs.Given.TablesDeclared.node.Node.{Node}
-use Rattle.run_shows.specs.Given.TellerDeclared.changed.Changed.{Changed}
+use Rattle.run_shows.specs.Given.EffectsDeclared.changed.Changed.{Changed}
 use Rattle.owner_facts.specs.Given.CallersRows.{IsRowOn}
 use Rattle.owner_facts.specs.Given.FinishesMaps.{Standing}
 use Rattle.many_acts.specs.Acts.AsSteps.{ReclaimingLeadsAsSteps, changed_of, held_in}

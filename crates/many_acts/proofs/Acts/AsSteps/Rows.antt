@@ -28,8 +28,8 @@ use Rattle.seize_acts.proofs.Given.SeizeEndsBatches.Rows.{begins_memory}
 use Rattle.run_shows.specs.Given.TablesNodes.{deferred_word}
 use Rattle.run_shows.specs.Given.TablesDeclared.node.Node.{Node}
 use Rattle.run_shows.specs.Given.TellerTells.{StepsTold}
-use Rattle.run_shows.specs.Given.TellerDeclared.changed.Changed.{Changed}
-use Rattle.run_shows.specs.Given.TellerDeclared.changed.Changed.TheVariants.{Nothing as NoChange}
+use Rattle.run_shows.specs.Given.EffectsDeclared.changed.Changed.{Changed}
+use Rattle.run_shows.specs.Given.EffectsDeclared.changed.Changed.TheVariants.{Nothing as NoChange}
 use Rattle.owner_facts.specs.Given.CallersRows.{IsRowOn}
 use Rattle.owner_facts.specs.Given.CallersTogether.{CameAbout}
 use Rattle.owner_facts.proofs.Given.CallersTogether.Came.{came_reached}

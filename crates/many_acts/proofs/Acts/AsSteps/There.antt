@@ -5,7 +5,7 @@ use Rattle.std.proofs.lemmas.Bool.{cases_eq}
 use Rattle.run_shows.specs.Given.SeizeWordsMem.{Mem}
 use Rattle.run_shows.specs.Given.SeizeWorld.{World, with_at}
 use Rattle.run_shows.specs.Given.TablesDeclared.node.Node.{Node}
-use Rattle.run_shows.specs.Given.TellerDeclared.changed.Changed.{Changed}
+use Rattle.run_shows.specs.Given.EffectsDeclared.changed.Changed.{Changed}
 use Rattle.owner_facts.specs.Given.CallersRows.{IsRowOn}
 use Rattle.owner_facts.specs.Given.CallersTogether.{UnderWay}
 use Rattle.owner_facts.proofs.Given.CallersTogether.At.{at_same, at_other}

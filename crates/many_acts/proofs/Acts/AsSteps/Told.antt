@@ -8,7 +8,7 @@ use Rattle.seize_acts.specs.Acts.Answers.{Grant, answer, ends, stepped, then_on}
 use Rattle.seize_acts.proofs.Acts.Answers.{answer_gives, ended, same_some, some}
 use Rattle.run_shows.specs.Given.TablesDeclared.node.Node.{Node}
 use Rattle.run_shows.specs.Given.TellerTells.{StepsTold}
-use Rattle.run_shows.specs.Given.TellerDeclared.changed.Changed.TheVariants.{Nothing as NoChange}
+use Rattle.run_shows.specs.Given.EffectsDeclared.changed.Changed.TheVariants.{Nothing as NoChange}
 use Rattle.many_acts.specs.Acts.AsSteps.{changed_as, changed_of}
 
 module _ {K V R : Type 0} (m : Mem (Node K V)) (g : Grant) where

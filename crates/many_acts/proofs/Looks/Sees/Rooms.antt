@@ -29,10 +29,10 @@ use Rattle.run_shows.specs.Given.ReservesDeclared.reserve.Reserving.TheVariants 
 use Rattle.run_shows.specs.Given.SweepsSweep as sweep
 use Rattle.run_shows.specs.Given.SweepsSweep.{sweep_plan}
 use Rattle.run_shows.specs.Given.SweepsSweepPoints as sweep_points
-use Rattle.run_shows.specs.Given.SweepsDeclared.sweep.Sweep.{Sweep}
-use Rattle.run_shows.specs.Given.SweepsDeclared.sweep.Sweeping.{Sweeping}
-use Rattle.run_shows.specs.Given.SweepsDeclared.sweep.Sweeping.TheVariants as sweeping
-use Rattle.run_shows.specs.Given.SweepsDeclared.sweep.Swept.{Swept}
+use Rattle.run_shows.specs.Given.ReservesDeclared.sweep.Sweep.{Sweep}
+use Rattle.run_shows.specs.Given.ReservesDeclared.sweep.Sweeping.{Sweeping}
+use Rattle.run_shows.specs.Given.ReservesDeclared.sweep.Sweeping.TheVariants as sweeping
+use Rattle.run_shows.specs.Given.ReservesDeclared.sweep.Swept.{Swept}
 use Rattle.run_shows.specs.Given.RuleChart.{Chart}
 use Rattle.run_shows.specs.Given.RuleWords.{Blocks}
 use Rattle.run_shows.specs.Given.RuleInWorld.{IsMapIn}

@@ -13,8 +13,8 @@ use Rattle.map_facts.specs.Given.RawDeclared.machines.asking.Asking.TheVariants 
 use Rattle.map_facts.specs.Given.RawDeclared.machines.asking.Gap.TheVariants as gaps
 use Rattle.map_facts.specs.Given.RawDeclared.machines.call.Calling.{Calling}
 use Rattle.map_facts.specs.Given.RawDeclared.machines.call.Calling.TheVariants as calls
-use Rattle.map_facts.specs.Given.SweepsDeclared.sweep.Sweeping.{Sweeping}
-use Rattle.map_facts.specs.Given.SweepsDeclared.sweep.Sweeping.TheVariants as sweeps
+use Rattle.map_facts.specs.Given.ReservesDeclared.sweep.Sweeping.{Sweeping}
+use Rattle.map_facts.specs.Given.ReservesDeclared.sweep.Sweeping.TheVariants as sweeps
 use Rattle.map_facts_late.specs.Faults.{StandsInMaking, StandsInCopying, StandsInReserving, StandsInSweeping, StandsInCalling}
 
 -- it stands so that a fault is known, or a table behind which another one is to be put

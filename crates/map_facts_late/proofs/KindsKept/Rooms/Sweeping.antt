@@ -24,13 +24,13 @@ use Rattle.map_facts.specs.Given.ResizeDeclared.outcome.Outcome.{Outcome}
 use Rattle.map_facts.specs.Given.ResizeDeclared.outcome.Outcome.TheVariants as outcome
 use Rattle.map_facts.specs.Given.SweepsSweep.{word_found, tried, disposed, root_read, next_read, copied, plan_at, sweep_plan}
 use Rattle.map_facts.specs.Given.SweepsSweepPoints.{removes, beginning, tableless, entering, past, at_end, further, next_at, after_next, reply_at, after_reply, told, telling, at_pair, seen}
-use Rattle.map_facts.specs.Given.SweepsDeclared.sweep.Purpose.{Purpose}
-use Rattle.map_facts.specs.Given.SweepsDeclared.sweep.Purpose.TheVariants.{Walks, Clears, Retains}
-use Rattle.map_facts.specs.Given.SweepsDeclared.sweep.Sweep.{Sweep}
-use Rattle.map_facts.specs.Given.SweepsDeclared.sweep.Sweeping.{Sweeping}
-use Rattle.map_facts.specs.Given.SweepsDeclared.sweep.Sweeping.TheVariants as at
-use Rattle.map_facts.specs.Given.SweepsDeclared.sweep.Swept.{Swept}
-use Rattle.map_facts.specs.Given.SweepsDeclared.sweep.Swept.TheVariants.{Goes}
+use Rattle.map_facts.specs.Given.ReservesDeclared.sweep.Purpose.{Purpose}
+use Rattle.map_facts.specs.Given.ReservesDeclared.sweep.Purpose.TheVariants.{Walks, Clears, Retains}
+use Rattle.map_facts.specs.Given.ReservesDeclared.sweep.Sweep.{Sweep}
+use Rattle.map_facts.specs.Given.ReservesDeclared.sweep.Sweeping.{Sweeping}
+use Rattle.map_facts.specs.Given.ReservesDeclared.sweep.Sweeping.TheVariants as at
+use Rattle.map_facts.specs.Given.ReservesDeclared.sweep.Swept.{Swept}
+use Rattle.map_facts.specs.Given.ReservesDeclared.sweep.Swept.TheVariants.{Goes}
 use Rattle.map_facts.proofs.Given.RuleKeys.Always.{Always, AlwaysOf, always_if, always_steps}
 use Rattle.map_facts_late.specs.Ends.{EndsInSweeping}
 use Rattle.map_facts_late.specs.Faults.{AnyTable, IsRoom, RoomInSweeping, SoInSweeping, StandsInSweeping, SweepRefusesSo}

@@ -2,7 +2,7 @@
 use Rattle.std.specs.Prelude.{◌≡◌, ◌≢◌, ℕ, suc, ◌<◌, ◌≤◌, Bool, true, false, [], ◌⊎◌}
 use Rattle.std.proofs.Common.{refl, ap, inl, inr, sym, subst, ◌∙◌, arith}
 use Rattle.std.proofs.lemmas.Bool.{cases_lt}
-use Rattle.map_facts.specs.Given.SweepsDeclared.sweep.Purpose.{Purpose}
+use Rattle.map_facts.specs.Given.ReservesDeclared.sweep.Purpose.{Purpose}
 use Rattle.map_facts.specs.Given.RuleChart.{Phase, Copied, Free, Share, Holds, Chart}
 use Rattle.map_facts.specs.Given.RuleRule.{Rule, Agrees}
 use Rattle.map_facts.specs.Given.RuleMoments.{Names, Moments}

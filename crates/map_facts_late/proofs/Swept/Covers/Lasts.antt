@@ -2,7 +2,7 @@
 use Rattle.std.specs.Prelude.{◌≡◌, ℕ, ◌<◌, ◌≤◌, Bool, true, false, ◌&&◌, List}
 use Rattle.std.proofs.Common.{ap, inl, inr, sym, ◌∙◌, arith}
 use Rattle.map_facts.specs.Given.SweepsSweepPoints.{removes}
-use Rattle.map_facts.specs.Given.SweepsDeclared.sweep.Purpose.{Purpose}
+use Rattle.map_facts.specs.Given.ReservesDeclared.sweep.Purpose.{Purpose}
 use Rattle.map_facts.specs.Given.RuleChart.{Phase, Holds, Chart}
 use Rattle.map_facts.specs.Given.RuleRule.{Rule}
 use Rattle.map_facts.specs.Given.RuleMoments.{Names, Moments, Remembers}

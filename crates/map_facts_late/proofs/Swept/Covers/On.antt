@@ -7,12 +7,12 @@ use Rattle.map_facts.specs.Given.TablesMarks.{has_mark}
 use Rattle.map_facts.specs.Given.TablesDeclared.marks.TheConstants.{COPYING}
 use Rattle.map_facts.specs.Given.TablesDeclared.status.TheConstants.Status.{ABORTED}
 use Rattle.map_facts.specs.Given.SweepsSweepPoints.{removes, further, told, telling, at_pair, seen}
-use Rattle.map_facts.specs.Given.SweepsDeclared.sweep.Purpose.{Purpose}
-use Rattle.map_facts.specs.Given.SweepsDeclared.sweep.Purpose.TheVariants.{Walks, Clears, Retains}
-use Rattle.map_facts.specs.Given.SweepsDeclared.sweep.Sweep.{Sweep}
-use Rattle.map_facts.specs.Given.SweepsDeclared.sweep.Sweeping.{Sweeping}
-use Rattle.map_facts.specs.Given.SweepsDeclared.sweep.Sweeping.TheVariants as at
-use Rattle.map_facts.specs.Given.SweepsDeclared.sweep.Swept.{Swept}
+use Rattle.map_facts.specs.Given.ReservesDeclared.sweep.Purpose.{Purpose}
+use Rattle.map_facts.specs.Given.ReservesDeclared.sweep.Purpose.TheVariants.{Walks, Clears, Retains}
+use Rattle.map_facts.specs.Given.ReservesDeclared.sweep.Sweep.{Sweep}
+use Rattle.map_facts.specs.Given.ReservesDeclared.sweep.Sweeping.{Sweeping}
+use Rattle.map_facts.specs.Given.ReservesDeclared.sweep.Sweeping.TheVariants as at
+use Rattle.map_facts.specs.Given.ReservesDeclared.sweep.Swept.{Swept}
 use Rattle.map_facts.specs.Given.RuleChart.{Phase, Holds, Chart}
 use Rattle.map_facts.specs.Given.RuleRule.{Common, IsLawful}
 use Rattle.map_facts.specs.Given.RuleWords.{Blocks, byte_of, place_word}

@@ -4,8 +4,8 @@ use Rattle.std.proofs.Common.{refl, ap, inl, inr, sym, subst, ◌∙◌, arith}
 use Rattle.std.proofs.lemmas.Bool.{cases_lt, cases_eq, eq-eqb, ne_eqb}
 use Rattle.map_facts.specs.Given.TablesDeclared.status.TheConstants.Status.{ABORTED}
 use Rattle.map_facts.specs.Given.SweepsSweepPoints.{removes}
-use Rattle.map_facts.specs.Given.SweepsDeclared.sweep.Purpose.{Purpose}
-use Rattle.map_facts.specs.Given.SweepsDeclared.sweep.Purpose.TheVariants.{Walks, Clears, Retains}
+use Rattle.map_facts.specs.Given.ReservesDeclared.sweep.Purpose.{Purpose}
+use Rattle.map_facts.specs.Given.ReservesDeclared.sweep.Purpose.TheVariants.{Walks, Clears, Retains}
 use Rattle.map_facts.specs.Given.RuleChart.{Phase, Holds, Chart}
 use Rattle.map_facts.specs.Given.RuleRule.{Common, IsLawful, is_of}
 use Rattle.map_facts_late.specs.Covers.{times, IsKept, WasSince, WasAlways, Covers, Asked}

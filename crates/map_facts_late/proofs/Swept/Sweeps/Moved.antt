@@ -14,10 +14,10 @@ use Rattle.map_facts.specs.Given.ResizeDeclared.outcome.Outcome.{Outcome}
 use Rattle.map_facts.specs.Given.ResizeDeclared.outcome.Outcome.TheVariants as outcome
 use Rattle.map_facts.specs.Given.SweepsSweep.{copied, disposed}
 use Rattle.map_facts.specs.Given.SweepsSweepPoints.{tableless, entering, beginning, told, telling, going, seen}
-use Rattle.map_facts.specs.Given.SweepsDeclared.sweep.Sweep.{Sweep}
-use Rattle.map_facts.specs.Given.SweepsDeclared.sweep.Sweeping.{Sweeping}
-use Rattle.map_facts.specs.Given.SweepsDeclared.sweep.Sweeping.TheVariants as at
-use Rattle.map_facts.specs.Given.SweepsDeclared.sweep.Swept.{Swept}
+use Rattle.map_facts.specs.Given.ReservesDeclared.sweep.Sweep.{Sweep}
+use Rattle.map_facts.specs.Given.ReservesDeclared.sweep.Sweeping.{Sweeping}
+use Rattle.map_facts.specs.Given.ReservesDeclared.sweep.Sweeping.TheVariants as at
+use Rattle.map_facts.specs.Given.ReservesDeclared.sweep.Swept.{Swept}
 use Rattle.map_facts.specs.Given.RuleChart.{Still, Chart}
 use Rattle.map_facts.specs.Given.RuleMoves.{Removes, after}
 use Rattle.map_facts.specs.Given.RuleWords.{Blocks, place_word}

@@ -15,11 +15,11 @@ use Rattle.map_facts.specs.Given.TablesDeclared.table_words.TheConstants.{NEXT}
 use Rattle.map_facts.specs.Given.ResizeCopierStates.{copying_all}
 use Rattle.map_facts.specs.Given.SweepsSweep.{root_read, reads, next_read, follows, word_found, words}
 use Rattle.map_facts.specs.Given.SweepsSweepPoints.{removes, beginning, tableless, entering, telling, going, seen}
-use Rattle.map_facts.specs.Given.SweepsDeclared.sweep.Purpose.{Purpose}
-use Rattle.map_facts.specs.Given.SweepsDeclared.sweep.Purpose.TheVariants.{Walks, Clears, Retains}
-use Rattle.map_facts.specs.Given.SweepsDeclared.sweep.Sweep.{Sweep}
-use Rattle.map_facts.specs.Given.SweepsDeclared.sweep.Sweeping.TheVariants as at
-use Rattle.map_facts.specs.Given.SweepsDeclared.sweep.Swept.{Swept}
+use Rattle.map_facts.specs.Given.ReservesDeclared.sweep.Purpose.{Purpose}
+use Rattle.map_facts.specs.Given.ReservesDeclared.sweep.Purpose.TheVariants.{Walks, Clears, Retains}
+use Rattle.map_facts.specs.Given.ReservesDeclared.sweep.Sweep.{Sweep}
+use Rattle.map_facts.specs.Given.ReservesDeclared.sweep.Sweeping.TheVariants as at
+use Rattle.map_facts.specs.Given.ReservesDeclared.sweep.Swept.{Swept}
 use Rattle.map_facts.specs.Given.RuleChart.{Chart}
 use Rattle.map_facts.specs.Given.RuleWords.{Blocks, place_word}
 use Rattle.map_facts.specs.Given.RuleMaps.{IsTable}

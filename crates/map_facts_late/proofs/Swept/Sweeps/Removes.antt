@@ -21,9 +21,9 @@ use Rattle.map_facts.specs.Given.ResizeDispose.{disposing, dispose_plan}
 use Rattle.map_facts.specs.Given.ResizeDeclared.dispose.Dispose.{Dispose}
 use Rattle.map_facts.specs.Given.SweepsSweep.{tries, tried, counts, disposed, plan_at}
 use Rattle.map_facts.specs.Given.SweepsSweepPoints.{removes, further, going}
-use Rattle.map_facts.specs.Given.SweepsDeclared.sweep.Sweep.{Sweep}
-use Rattle.map_facts.specs.Given.SweepsDeclared.sweep.Sweeping.TheVariants as at
-use Rattle.map_facts.specs.Given.SweepsDeclared.sweep.Swept.{Swept}
+use Rattle.map_facts.specs.Given.ReservesDeclared.sweep.Sweep.{Sweep}
+use Rattle.map_facts.specs.Given.ReservesDeclared.sweep.Sweeping.TheVariants as at
+use Rattle.map_facts.specs.Given.ReservesDeclared.sweep.Swept.{Swept}
 use Rattle.map_facts.specs.Given.RuleChart.{Still, Holds, Chart}
 use Rattle.map_facts.specs.Given.RuleRule.{IsLawful, is_of}
 use Rattle.map_facts.specs.Given.RuleMoves.{Removes, MayChange, after}

@@ -19,13 +19,13 @@ use Rattle.map_facts.specs.Given.ResizeDeclared.outcome.Outcome.{Outcome}
 use Rattle.map_facts.specs.Given.ResizeDeclared.outcome.Outcome.TheVariants as outcome
 use Rattle.map_facts.specs.Given.SweepsSweep.{copied, disposed}
 use Rattle.map_facts.specs.Given.SweepsSweepPoints.{removes, standing, tableless, beginning, entering, further, told, telling, at_pair, seen}
-use Rattle.map_facts.specs.Given.SweepsDeclared.sweep.Purpose.{Purpose}
-use Rattle.map_facts.specs.Given.SweepsDeclared.sweep.Purpose.TheVariants.{Walks, Clears, Retains}
-use Rattle.map_facts.specs.Given.SweepsDeclared.sweep.Sweep.{Sweep}
-use Rattle.map_facts.specs.Given.SweepsDeclared.sweep.Sweeping.{Sweeping}
-use Rattle.map_facts.specs.Given.SweepsDeclared.sweep.Sweeping.TheVariants as at
-use Rattle.map_facts.specs.Given.SweepsDeclared.sweep.Swept.{Swept}
-use Rattle.map_facts.specs.Given.SweepsDeclared.sweep.Swept.TheVariants as swept
+use Rattle.map_facts.specs.Given.ReservesDeclared.sweep.Purpose.{Purpose}
+use Rattle.map_facts.specs.Given.ReservesDeclared.sweep.Purpose.TheVariants.{Walks, Clears, Retains}
+use Rattle.map_facts.specs.Given.ReservesDeclared.sweep.Sweep.{Sweep}
+use Rattle.map_facts.specs.Given.ReservesDeclared.sweep.Sweeping.{Sweeping}
+use Rattle.map_facts.specs.Given.ReservesDeclared.sweep.Sweeping.TheVariants as at
+use Rattle.map_facts.specs.Given.ReservesDeclared.sweep.Swept.{Swept}
+use Rattle.map_facts.specs.Given.ReservesDeclared.sweep.Swept.TheVariants as swept
 use Rattle.map_facts.specs.Given.RuleChart.{Chart}
 use Rattle.map_facts.specs.Given.RuleWords.{Blocks, place_word}
 use Rattle.map_facts_late.specs.FactsSweeps.{CopiesPairs}

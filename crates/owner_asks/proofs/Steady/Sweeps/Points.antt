@@ -25,13 +25,13 @@ use Rattle.papaya_raw.specs.Given.SweepsSweep.{counts, disposed, next_read, root
 use Rattle.papaya_raw.specs.Given.SweepsSweep as sweeps
 use Rattle.papaya_raw.specs.Given.SweepsSweepPoints.{after_reply, at_end, at_pair, beginning, entering, further, going, past, removes, reply_at, seen, standing, tableless, telling}
 use Rattle.papaya_raw.specs.Given.SweepsSweepPoints as points
-use Rattle.papaya_raw.specs.Given.SweepsDeclared.sweep.Purpose.{Purpose}
-use Rattle.papaya_raw.specs.Given.SweepsDeclared.sweep.Purpose.TheVariants.{Walks, Clears, Retains}
-use Rattle.papaya_raw.specs.Given.SweepsDeclared.sweep.Sweep.{Sweep}
-use Rattle.papaya_raw.specs.Given.SweepsDeclared.sweep.Sweeping.{Sweeping}
-use Rattle.papaya_raw.specs.Given.SweepsDeclared.sweep.Sweeping.TheVariants as at
-use Rattle.papaya_raw.specs.Given.SweepsDeclared.sweep.Swept.{Swept}
-use Rattle.papaya_raw.specs.Given.SweepsDeclared.sweep.Swept.TheVariants as swept
+use Rattle.papaya_raw.specs.Given.ReservesDeclared.sweep.Purpose.{Purpose}
+use Rattle.papaya_raw.specs.Given.ReservesDeclared.sweep.Purpose.TheVariants.{Walks, Clears, Retains}
+use Rattle.papaya_raw.specs.Given.ReservesDeclared.sweep.Sweep.{Sweep}
+use Rattle.papaya_raw.specs.Given.ReservesDeclared.sweep.Sweeping.{Sweeping}
+use Rattle.papaya_raw.specs.Given.ReservesDeclared.sweep.Sweeping.TheVariants as at
+use Rattle.papaya_raw.specs.Given.ReservesDeclared.sweep.Swept.{Swept}
+use Rattle.papaya_raw.specs.Given.ReservesDeclared.sweep.Swept.TheVariants as swept
 use Rattle.owner_calls.proofs.Given.RuleKeys.Always.{Always, always_ends, always_plan_as, always_steps}
 use Rattle.seize_words.proofs.OneMemory.OneOwner.Operations.{loaded}
 use Rattle.owner_asks.proofs.Steady.Ends.{EndsAt, seen_link}

@@ -7,7 +7,7 @@ use Rattle.seize_words.specs.declared.fault.Fault.{Fault}
 use Rattle.map_tables.specs.declared.node.Node.{Node}
 use Rattle.map_tables.specs.declared.setting.Setting.{Setting}
 use Rattle.papaya_raw.specs.Given.SweepsSweepPoints.{removes}
-use Rattle.papaya_raw.specs.Given.SweepsDeclared.sweep.Purpose.{Purpose}
+use Rattle.papaya_raw.specs.Given.ReservesDeclared.sweep.Purpose.{Purpose}
 use Rattle.owner_calls.specs.Given.RuleChart.{Chart}
 use Rattle.owner_calls.specs.Given.RuleWords.{Blocks, root_word}
 use Rattle.owner_calls.specs.Given.CallersOverAll.{CallOverAll, begun_over_all, come_to}

@@ -8,8 +8,8 @@ use Rattle.seize_words.specs.declared.fault.Fault.TheVariants.{Capacity}
 use Rattle.map_tables.specs.declared.node.Node.{Node}
 use Rattle.map_tables.specs.declared.setting.Setting.{Setting}
 use Rattle.papaya_raw.specs.Given.SweepsSweepPoints.{sweeping}
-use Rattle.papaya_raw.specs.Given.SweepsDeclared.sweep.Purpose.TheVariants.{Walks, Clears}
-use Rattle.papaya_raw.specs.Given.SweepsDeclared.sweep.Sweep.{Sweep}
+use Rattle.papaya_raw.specs.Given.ReservesDeclared.sweep.Purpose.TheVariants.{Walks, Clears}
+use Rattle.papaya_raw.specs.Given.ReservesDeclared.sweep.Sweep.{Sweep}
 use Rattle.owner_whole.specs.Given.LateFaults.{IsRoom, RoomInSweeping}
 use Rattle.map_straight.specs.Shown.Chain.{CannotGrowIn}
 use Rattle.owner_whole.specs.Strides.Ending.{Ends, RunsTo}

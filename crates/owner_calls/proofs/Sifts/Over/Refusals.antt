@@ -6,8 +6,8 @@ use Rattle.seize_words.specs.declared.fault.Fault.{Fault}
 use Rattle.seize.specs.declared.progress.Progress.{Progress}
 use Rattle.map_tables.specs.declared.node.Node.{Node}
 use Rattle.papaya_raw.specs.Given.SweepsSweep.{sweep_plan}
-use Rattle.papaya_raw.specs.Given.SweepsDeclared.sweep.Swept.{Swept}
-use Rattle.papaya_raw.specs.Given.SweepsDeclared.sweep.Swept.TheVariants as swept
+use Rattle.papaya_raw.specs.Given.ReservesDeclared.sweep.Swept.{Swept}
+use Rattle.papaya_raw.specs.Given.ReservesDeclared.sweep.Swept.TheVariants as swept
 use Rattle.owner_whole.specs.Given.LateFaults.{IsRoom, RoomInSweeping, SweepRefusesRoom}
 use Rattle.owner_whole.proofs.Given.LateKindsKept.Laws.{sweeps_refuse_room}
 use Rattle.owner_whole.specs.Strides.Ending.{RunsTo}

@@ -13,8 +13,8 @@ use Rattle.seize_words.specs.declared.fault.Fault.TheVariants.{Capacity}
 use Rattle.map_tables.specs.declared.node.Node.{Node}
 use Rattle.map_tables.specs.declared.setting.Setting.{Setting}
 use Rattle.papaya_raw.specs.Given.SweepsSweepPoints.{sweeping, after_reply}
-use Rattle.papaya_raw.specs.Given.SweepsDeclared.sweep.Purpose.TheVariants.{Retains}
-use Rattle.papaya_raw.specs.Given.SweepsDeclared.sweep.Sweep.{Sweep}
+use Rattle.papaya_raw.specs.Given.ReservesDeclared.sweep.Purpose.TheVariants.{Retains}
+use Rattle.papaya_raw.specs.Given.ReservesDeclared.sweep.Sweep.{Sweep}
 use Rattle.owner_whole.specs.Given.LateCovers.{times}
 use Rattle.owner_whole.specs.Given.LateFaults.{IsRoom, RoomInSweeping}
 use Rattle.owner_whole.proofs.Given.LateKindsKept.Laws.{told_sweeps_refuse_room}

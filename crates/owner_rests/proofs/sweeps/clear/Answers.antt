@@ -1,7 +1,7 @@
 -- By what the clearing comes to, after the refresh.
 use Rattle.owner_calls.proofs.Holds.Changes.{sweep_holds_on}
 use Rattle.std.proofs.Common.{refl}
-use Rattle.papaya_raw.specs.Given.SweepsDeclared.sweep.Purpose.TheVariants.{Clears}
+use Rattle.papaya_raw.specs.Given.ReservesDeclared.sweep.Purpose.TheVariants.{Clears}
 use Rattle.owner_calls.specs.Owned.Owned.{hashed_by}
 use Rattle.owner_rests.proofs.Rests.Steady.{sweep_steady}
 use Rattle.owner_rests.proofs.sweeps.clear.Goals as goal

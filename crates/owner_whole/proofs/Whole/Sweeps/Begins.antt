@@ -4,7 +4,7 @@ use Rattle.std.proofs.Common.{inl, inr, refl, ◌∙◌}
 use Rattle.seize.specs.World.{World, with_at}
 use Rattle.map_tables.specs.declared.node.Node.{Node}
 use Rattle.map_tables.specs.declared.setting.Setting.{Setting}
-use Rattle.papaya_raw.specs.Given.SweepsDeclared.sweep.Purpose.{Purpose}
+use Rattle.papaya_raw.specs.Given.ReservesDeclared.sweep.Purpose.{Purpose}
 use Rattle.map_measures.specs.Given.RuleChart.{Chart}
 use Rattle.map_measures.specs.Given.RuleWords.{Blocks}
 use Rattle.owner_facts.specs.Given.CallersOverAll.{CallOverAll, begun_over_all}

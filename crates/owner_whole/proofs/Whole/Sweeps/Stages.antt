@@ -15,11 +15,11 @@ use Rattle.map_measures.specs.Given.ResizeDeclared.copier.Copying.TheVariants as
 use Rattle.map_measures.specs.Given.ResizeDeclared.dispose.Dispose.{Dispose}
 use Rattle.papaya_raw.specs.Given.SweepsSweep.{disposed}
 use Rattle.papaya_raw.specs.Given.SweepsSweepPoints.{removes, standing, further, tableless, beginning, entering, told, telling, going, seen}
-use Rattle.papaya_raw.specs.Given.SweepsDeclared.sweep.Sweep.{Sweep}
-use Rattle.papaya_raw.specs.Given.SweepsDeclared.sweep.Sweeping.{Sweeping}
-use Rattle.papaya_raw.specs.Given.SweepsDeclared.sweep.Sweeping.TheVariants as at
-use Rattle.papaya_raw.specs.Given.SweepsDeclared.sweep.Swept.{Swept}
-use Rattle.papaya_raw.specs.Given.SweepsDeclared.sweep.Swept.TheVariants as swept
+use Rattle.papaya_raw.specs.Given.ReservesDeclared.sweep.Sweep.{Sweep}
+use Rattle.papaya_raw.specs.Given.ReservesDeclared.sweep.Sweeping.{Sweeping}
+use Rattle.papaya_raw.specs.Given.ReservesDeclared.sweep.Sweeping.TheVariants as at
+use Rattle.papaya_raw.specs.Given.ReservesDeclared.sweep.Swept.{Swept}
+use Rattle.papaya_raw.specs.Given.ReservesDeclared.sweep.Swept.TheVariants as swept
 use Rattle.map_measures.specs.Given.RuleChart.{Still, Holds, Chart}
 use Rattle.map_measures.specs.Given.RuleWords.{Blocks, mark_bits, byte_of, place_word}
 use Rattle.map_measures.specs.Given.RuleMaps.{IsTable}

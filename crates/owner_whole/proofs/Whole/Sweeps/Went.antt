@@ -16,11 +16,11 @@ use Rattle.map_measures.specs.Given.ResizeDeclared.outcome.Outcome.{Outcome}
 use Rattle.map_measures.specs.Given.ResizeDeclared.outcome.Outcome.TheVariants as outcome
 use Rattle.papaya_raw.specs.Given.SweepsSweep.{copied, plan_at, sweep_plan}
 use Rattle.papaya_raw.specs.Given.SweepsSweepPoints.{entering, told}
-use Rattle.papaya_raw.specs.Given.SweepsDeclared.sweep.Sweep.{Sweep}
-use Rattle.papaya_raw.specs.Given.SweepsDeclared.sweep.Sweeping.{Sweeping}
-use Rattle.papaya_raw.specs.Given.SweepsDeclared.sweep.Sweeping.TheVariants as at
-use Rattle.papaya_raw.specs.Given.SweepsDeclared.sweep.Swept.{Swept}
-use Rattle.papaya_raw.specs.Given.SweepsDeclared.sweep.Swept.TheVariants as swept
+use Rattle.papaya_raw.specs.Given.ReservesDeclared.sweep.Sweep.{Sweep}
+use Rattle.papaya_raw.specs.Given.ReservesDeclared.sweep.Sweeping.{Sweeping}
+use Rattle.papaya_raw.specs.Given.ReservesDeclared.sweep.Sweeping.TheVariants as at
+use Rattle.papaya_raw.specs.Given.ReservesDeclared.sweep.Swept.{Swept}
+use Rattle.papaya_raw.specs.Given.ReservesDeclared.sweep.Swept.TheVariants as swept
 use Rattle.map_measures.specs.Given.RuleChart.{Chart}
 use Rattle.map_measures.specs.Given.RuleWords.{Blocks}
 use Rattle.map_measures.specs.Given.RuleMoves.{Removes}

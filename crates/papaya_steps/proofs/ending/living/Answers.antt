@@ -3,7 +3,7 @@ use Rattle.std.specs.Prelude.{◌≡◌, ◌++◌, ◌∷◌, List, [], map}
 use Rattle.std.proofs.Common.{rules, arith, ℕ, sym, ap, ◌∙◌, append_assoc}
 use Rattle.std.proofs.lemmas.List.{append-nil, map-append, nil_from_length}
 use Rattle.run_schedules.specs.declared.ended.Living.{Living}
-use Rattle.play_events.specs.Given.NamedDeclared.named_map.NamedMap.{NamedMap}
+use Rattle.play_events.specs.Given.ExecutorDeclared.named_map.NamedMap.{NamedMap}
 use Rattle.papaya_steps.specs.WholeRuns.Ending.{shown_of, told_map}
 use Rattle.papaya_steps.proofs.ending.living.Goals as goal
 

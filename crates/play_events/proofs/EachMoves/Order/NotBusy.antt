@@ -12,7 +12,7 @@ use Rattle.play_stepping.specs.Given.CallersTogether.{CallOnKey, Counting, ForRo
 use Rattle.run_kept.specs.Given.EffectsKnown.{Known}
 use Rattle.run_kept.specs.Given.FinishesMachines.{machine_of}
 use Rattle.play_stepping.specs.Given.NamedMachines.{RefusedForRoom}
-use Rattle.play_stepping.specs.Given.NamedDeclared.kind.Kind.{Kind}
+use Rattle.play_stepping.specs.Given.ExecutorDeclared.kind.Kind.{Kind}
 use Rattle.run_kept.specs.Given.ScenesHeld.{Held}
 use Rattle.run_kept.specs.Given.ScenesScene.{Scene}
 use Rattle.run_kept.specs.Given.ScenesStepping.{StepLeads, has_ended}

@@ -22,9 +22,9 @@ use Rattle.run_legal.specs.Over.{GoesOnBy, IsSaidSo}
 use Rattle.run_legal.proofs.Again.{again_events_end}
 use Rattle.play_stepping.specs.Given.NamedMachines.{IsAsFar}
 use Rattle.play_stepping.specs.Given.NamedSeen.{Seen, far_of, is_named, seen, seen_of}
-use Rattle.play_stepping.specs.Given.NamedDeclared.caller.Caller.{Caller}
-use Rattle.play_stepping.specs.Given.NamedDeclared.caller.Stands.{Stands as HowFar}
-use Rattle.play_stepping.specs.Given.NamedDeclared.caller.Stands.TheVariants as far
+use Rattle.play_stepping.specs.Given.ExecutorDeclared.caller.Caller.{Caller}
+use Rattle.play_stepping.specs.Given.ExecutorDeclared.caller.Stands.{Stands as HowFar}
+use Rattle.play_stepping.specs.Given.ExecutorDeclared.caller.Stands.TheVariants as far
 use Rattle.play_stepping.specs.Given.SchedulerPlayed.{IsPlayed, entry_of}
 use Rattle.play_stepping.specs.Given.SchedulerDeclared.played.Played.{Played}
 use Rattle.play_stepping.specs.Given.SchedulerDeclared.scheduler.Scheduler.{Scheduler}

@@ -23,7 +23,7 @@ use Rattle.play_lists.proofs.Given.RowsLists.{all_alike, one_of}
 use Rattle.play_lists.proofs.Given.RowsThere.{is_inside, on_its_slot}
 use Rattle.play_stepping.specs.Given.SchedulerPlayed.{IsPlayed, IsUnderWay}
 use Rattle.play_stepping.specs.Given.NamedSeen.{Seen, is_named, seen, seen_of}
-use Rattle.play_stepping.specs.Given.NamedDeclared.caller.Caller.{Caller}
+use Rattle.play_stepping.specs.Given.ExecutorDeclared.caller.Caller.{Caller}
 use Rattle.play_stepping.specs.Given.SchedulerDeclared.scheduler.Scheduler.{Scheduler}
 use Rattle.play_events.proofs.Events.OfCalls.InRows.{insides_follow_in_rows}
 use Rattle.play_stepping.specs.Given.ExecutorIsThere.{IsUsedAs}

@@ -16,7 +16,7 @@ use Rattle.run_kept.specs.Given.ReclaimsLeft.{LeftAmong}
 use Rattle.play_lists.specs.Given.LoggedShown.{IsShown}
 use Rattle.play_lists.specs.Given.LoggedDeclared.logged.Logged.{Logged}
 use Rattle.play_stepping.specs.Given.SchedulerPlayed.{IsPlayed}
-use Rattle.play_stepping.specs.Given.NamedDeclared.caller.Caller.{Caller}
+use Rattle.play_stepping.specs.Given.ExecutorDeclared.caller.Caller.{Caller}
 use Rattle.play_stepping.specs.Given.SchedulerDeclared.scheduler.Scheduler.{Scheduler}
 use Rattle.play_events.proofs.Folded.Steps.{idle_in_order}
 use Rattle.play_events.proofs.Events.OfCalls.Worth.{SaidIn, have_values_then}

@@ -38,7 +38,7 @@ use Rattle.play_lists.specs.Given.LoggedShown.{IsCounted, IsShown}
 use Rattle.play_lists.proofs.Given.RowsFacts.{row_rests}
 use Rattle.play_stepping.specs.Given.SchedulerPlayed.{HasBegun, IsPlayed, IsUnderWay}
 use Rattle.play_stepping.specs.Given.NamedSeen.{Seen, is_named}
-use Rattle.play_stepping.specs.Given.NamedDeclared.caller.Caller.{Caller}
+use Rattle.play_stepping.specs.Given.ExecutorDeclared.caller.Caller.{Caller}
 use Rattle.play_stepping.specs.Given.SchedulerDeclared.scheduler.Scheduler.{Scheduler}
 use Rattle.play_stepping.proofs.Given.SchedulerBegins as beginning
 use Rattle.play_stepping.proofs.Given.NamedCalled.{begins_so, begun_call, is_begun_for, is_called, its_machine}

@@ -20,8 +20,8 @@ use Rattle.run_legal.specs.Over.{GoesOnBy}
 use Rattle.play_lists.specs.Given.LoggedCalling.{MakesNoMore}
 use Rattle.play_stepping.specs.Given.SchedulerPlayed.{Began, BeginsSo, HasBegun, IsPlayed, StandsFor, entry_of}
 use Rattle.play_stepping.specs.Given.NamedSeen.{is_named, ready_place}
-use Rattle.play_stepping.specs.Given.NamedDeclared.caller.Stands.{Stands as HowFar}
-use Rattle.play_stepping.specs.Given.NamedDeclared.caller.Stands.TheVariants as far
+use Rattle.play_stepping.specs.Given.ExecutorDeclared.caller.Stands.{Stands as HowFar}
+use Rattle.play_stepping.specs.Given.ExecutorDeclared.caller.Stands.TheVariants as far
 use Rattle.play_stepping.specs.Given.SchedulerDeclared.played.Played.{Played}
 use Rattle.play_stepping.specs.Given.SchedulerDeclared.scheduler.Scheduler.{Scheduler}
 use Rattle.play_stepping.proofs.Given.SchedulerHere.{Here, here_at}

@@ -17,8 +17,8 @@ use Rattle.run_schedules.specs.Schedules.Terms.{Terms}
 use Rattle.run_schedules.specs.Schedules.Views.{number_of}
 use Rattle.play_stepping.specs.Given.SchedulerPlayed.{BeginsSo, HasBegun, StandsFor, entry_of}
 use Rattle.play_stepping.specs.Given.NamedSeen.{is_named}
-use Rattle.play_stepping.specs.Given.NamedDeclared.caller.Stands.{Stands as HowFar}
-use Rattle.play_stepping.specs.Given.NamedDeclared.caller.Stands.TheVariants as far
+use Rattle.play_stepping.specs.Given.ExecutorDeclared.caller.Stands.{Stands as HowFar}
+use Rattle.play_stepping.specs.Given.ExecutorDeclared.caller.Stands.TheVariants as far
 use Rattle.play_stepping.specs.Given.SchedulerDeclared.played.Played.{Played}
 use Rattle.play_stepping.specs.Given.SchedulerDeclared.scheduler.Scheduler.{Scheduler}
 use Rattle.play_stepping.proofs.Given.SchedulerHere.{here_at}

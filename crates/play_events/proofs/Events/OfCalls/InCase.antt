@@ -26,7 +26,7 @@ use Rattle.play_stepping.proofs.Given.MomentsAfter.{effects_after}
 use Rattle.run_legal.proofs.CallChanges.{reads_shards}
 use Rattle.play_stepping.proofs.Given.GrowsLimits.Cases.{room_shards, steps_in_case}
 use Rattle.play_stepping.specs.Given.NamedSeen.{Seen, seen}
-use Rattle.play_stepping.specs.Given.NamedDeclared.kind.Kind.{Kind}
+use Rattle.play_stepping.specs.Given.ExecutorDeclared.kind.Kind.{Kind}
 use Rattle.play_lists.proofs.Given.RowsLists.{both_some, found_alike}
 use Rattle.play_stepping.specs.Given.SchedulerPlayed.{entry_of}
 use Rattle.play_stepping.specs.Given.SchedulerDeclared.played.Played.{Played}

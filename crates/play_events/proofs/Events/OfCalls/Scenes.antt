@@ -11,8 +11,8 @@ use Rattle.run_kept.specs.Given.FinishesMaps.{Standing}
 use Rattle.play_lists.specs.Given.LoggedShown.{IsShown}
 use Rattle.play_lists.proofs.Given.RowsLists.{all_so, both_none, both_some}
 use Rattle.play_stepping.specs.Given.SchedulerPlayed.{AsFar, IsUnderWay, StandsFor}
-use Rattle.play_stepping.specs.Given.NamedDeclared.caller.Caller.{Caller}
-use Rattle.play_stepping.specs.Given.NamedDeclared.named_map.NamedMap.{NamedMap}
+use Rattle.play_stepping.specs.Given.ExecutorDeclared.caller.Caller.{Caller}
+use Rattle.play_stepping.specs.Given.ExecutorDeclared.named_map.NamedMap.{NamedMap}
 use Rattle.play_events.proofs.Events.OfCalls.Worth.{all_left, all_set}
 use Rattle.play_stepping.specs.Given.SchedulerDeclared.scheduler.Scheduler.{Scheduler}
 use Rattle.run_kept.specs.Given.ScenesScene.{Scene}

@@ -48,7 +48,7 @@ use Rattle.play_lists.specs.Given.LoggedShown.{IsShown}
 use Rattle.play_lists.proofs.Given.RowsLists.{both_some, found_alike, set_get, set_count}
 use Rattle.play_stepping.specs.Given.NamedSeen.{Seen, kind_of, seen, is_named}
 use Rattle.play_stepping.specs.Given.NamedTelling.{goes_on}
-use Rattle.play_stepping.specs.Given.NamedDeclared.caller.Caller.{Caller}
+use Rattle.play_stepping.specs.Given.ExecutorDeclared.caller.Caller.{Caller}
 use Rattle.play_stepping.specs.Given.SchedulerDeclared.scheduler.Scheduler.{Scheduler}
 use Rattle.play_stepping.proofs.Given.SchedulerRanOn.{there_stays}
 use Rattle.play_stepping.specs.EventSteps.Stepping.{GoneFor, IsStepOf, IsStepped, WalkedFor, caller_then, far_then, outcome_of}
@@ -56,7 +56,7 @@ use Rattle.play_stepping.proofs.Given.QuietAfterEffects.{calls_seen}
 use Rattle.play_stepping.proofs.EventSteps.OneStep.{caller_as, going_not_ended, goes_next, value_then}
 use Rattle.run_kept.specs.Values.Values.{KeepsValue, kept_after}
 use Rattle.run_kept.proofs.Values.Values.{values_go_on}
-use Rattle.play_stepping.specs.Given.NamedDeclared.kind.Kind.{Kind}
+use Rattle.play_stepping.specs.Given.ExecutorDeclared.kind.Kind.{Kind}
 use Rattle.play_events.specs.Events.OfCalls.{HaveValues, IsWorth, HaveShards}
 use Rattle.play_events.proofs.Events.OfCalls.Worth.{AreWorth, SaidIn, all_gone, all_once, all_set, effects_say, is_worth_then, said_same}
 use Rattle.run_kept.proofs.Given.RemainsSlots.{buckets_grow}

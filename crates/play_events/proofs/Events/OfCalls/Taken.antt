@@ -28,14 +28,14 @@ use Rattle.run_legal.specs.Carried.{ComesAlone}
 use Rattle.run_legal.proofs.Calls.{call_events_begin_so}
 use Rattle.play_stepping.specs.Given.SchedulerPlayed.{IsPlayed, entry_of}
 use Rattle.play_stepping.specs.Given.NamedSeen.{Seen, is_named}
-use Rattle.play_stepping.specs.Given.NamedDeclared.caller.Stands.TheVariants as far
+use Rattle.play_stepping.specs.Given.ExecutorDeclared.caller.Stands.TheVariants as far
 use Rattle.play_stepping.specs.Given.SchedulerDeclared.played.Played.{Played}
 use Rattle.play_stepping.specs.Given.SchedulerDeclared.scheduler.Scheduler.{Scheduler}
 use Rattle.play_stepping.proofs.Given.SchedulerHeldTold.{its_guard}
 use Rattle.play_stepping.proofs.Given.SchedulerHere.{Here, here_at}
 use Rattle.play_stepping.specs.EventSteps.Stepping.{ComesAs, ComesBy, ComesInCase, StepsCome}
 use Rattle.play_stepping.proofs.EventSteps.RightSteps.{not_busy as never_busy}
-use Rattle.play_stepping.specs.Given.NamedDeclared.caller.Caller.{Caller}
+use Rattle.play_stepping.specs.Given.ExecutorDeclared.caller.Caller.{Caller}
 use Rattle.play_lists.proofs.Given.RowsLists.{all_so, found_has}
 use Rattle.play_events.proofs.Events.OfCalls.Worth.{TellsNone}
 use Rattle.play_events.specs.Events.OfCalls.{IsWorth, Runs, RunsOn}

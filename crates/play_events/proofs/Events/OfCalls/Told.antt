@@ -41,10 +41,10 @@ use Rattle.play_lists.specs.Given.LoggedShown.{IsCounted}
 use Rattle.play_stepping.specs.Given.NamedMachines.{IsAsFar}
 use Rattle.play_stepping.specs.Given.SchedulerPlayed.{HasReplied, HasStopped, IsPlayed}
 use Rattle.play_stepping.specs.Given.NamedSeen.{Seen, asks, fits, is_named, is_ready as is_ready_there, kind_of, kind_on, takes}
-use Rattle.play_stepping.specs.Given.NamedDeclared.caller.Caller.{Caller}
-use Rattle.play_stepping.specs.Given.NamedDeclared.caller.Stands.{Stands as HowFar}
-use Rattle.play_stepping.specs.Given.NamedDeclared.caller.Stands.TheVariants as far
-use Rattle.play_stepping.specs.Given.NamedDeclared.kind.Kind.{Kind}
+use Rattle.play_stepping.specs.Given.ExecutorDeclared.caller.Caller.{Caller}
+use Rattle.play_stepping.specs.Given.ExecutorDeclared.caller.Stands.{Stands as HowFar}
+use Rattle.play_stepping.specs.Given.ExecutorDeclared.caller.Stands.TheVariants as far
+use Rattle.play_stepping.specs.Given.ExecutorDeclared.kind.Kind.{Kind}
 use Rattle.play_stepping.specs.Given.SchedulerDeclared.scheduler.Scheduler.{Scheduler}
 use Rattle.play_stepping.proofs.Given.SchedulerHere.{Here, here_at, read_here}
 use Rattle.play_stepping.proofs.Given.SchedulerReplied.{asks_what, far_asks}

@@ -6,7 +6,7 @@ use Rattle.std.specs.List.{AllByRecursion}
 use Rattle.run_schedules.specs.Given.SeizeWordsDeclared.fault.Fault.TheVariants.{Busy}
 use Rattle.play_lists.specs.Given.TablesDeclared.node.Node.{Node}
 use Rattle.play_stepping.specs.Given.SweepsSweepPoints.{after_next}
-use Rattle.play_stepping.specs.Given.SweepsDeclared.sweep.Purpose.TheVariants.{Walks}
+use Rattle.play_stepping.specs.Given.ReservesDeclared.sweep.Purpose.TheVariants.{Walks}
 use Rattle.play_stepping.specs.Given.RawDeclared.machines.progress.Answer.{Answer}
 use Rattle.play_stepping.specs.Given.RawDeclared.machines.progress.Progress.{Progress}
 use Rattle.play_stepping.specs.Given.RawDeclared.machines.progress.Progress.TheVariants as progress
@@ -53,10 +53,10 @@ use Rattle.play_lists.specs.Given.LoggedShown.{IsCounted, IsShown}
 use Rattle.play_stepping.specs.Given.NamedMachines.{IsAsFar}
 use Rattle.play_stepping.specs.Given.NamedSeen.{Seen, is_named, is_ready as is_ready_there, kind_of, ready_place}
 use Rattle.play_stepping.specs.Given.NamedTelling.{answer_of, number_by}
-use Rattle.play_stepping.specs.Given.NamedDeclared.caller.Caller.{Caller}
-use Rattle.play_stepping.specs.Given.NamedDeclared.caller.Stands.{Stands as HowFar}
-use Rattle.play_stepping.specs.Given.NamedDeclared.caller.Stands.TheVariants as far
-use Rattle.play_stepping.specs.Given.NamedDeclared.kind.Kind.TheVariants as kind
+use Rattle.play_stepping.specs.Given.ExecutorDeclared.caller.Caller.{Caller}
+use Rattle.play_stepping.specs.Given.ExecutorDeclared.caller.Stands.{Stands as HowFar}
+use Rattle.play_stepping.specs.Given.ExecutorDeclared.caller.Stands.TheVariants as far
+use Rattle.play_stepping.specs.Given.ExecutorDeclared.kind.Kind.TheVariants as kind
 use Rattle.play_stepping.specs.Given.SchedulerPlayed.{IsPlayed, entry_of}
 use Rattle.play_stepping.specs.Given.SchedulerDeclared.played.Played.{Played}
 use Rattle.play_stepping.specs.Given.SchedulerDeclared.scheduler.Scheduler.{Scheduler}

@@ -33,7 +33,7 @@ use Rattle.run_legal.proofs.CallBegins.{whole_calls_begin}
 use Rattle.play_lists.specs.Given.LoggedShown.{IsShown}
 use Rattle.play_stepping.specs.Given.SchedulerPlayed.{HasBegun, IsPlayed, StandsFor, entry_of}
 use Rattle.play_stepping.specs.Given.NamedSeen.{Seen, is_named}
-use Rattle.play_stepping.specs.Given.NamedDeclared.caller.Caller.{Caller}
+use Rattle.play_stepping.specs.Given.ExecutorDeclared.caller.Caller.{Caller}
 use Rattle.play_stepping.specs.Given.SchedulerDeclared.played.Played.{Played}
 use Rattle.play_stepping.specs.Given.SchedulerDeclared.scheduler.Scheduler.{Scheduler}
 use Rattle.play_stepping.proofs.Given.SchedulerHeldTold.{its_guard}

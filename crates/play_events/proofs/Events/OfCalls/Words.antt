@@ -19,7 +19,7 @@ use Rattle.run_legal.specs.CallRuns.{ShowsAsTold, TellsEnd}
 use Rattle.run_legal.specs.CallSwept.{TellsOf}
 use Rattle.play_stepping.specs.Given.NamedSeen.{kind_of}
 use Rattle.play_stepping.specs.Given.NamedTelling.{goes_on}
-use Rattle.play_stepping.specs.Given.NamedDeclared.kind.Kind.{Kind}
+use Rattle.play_stepping.specs.Given.ExecutorDeclared.kind.Kind.{Kind}
 use Rattle.play_stepping.specs.EventSteps.Stepping.{ComesAs, outcome_of}
 use Rattle.play_stepping.proofs.EventSteps.OneStep.{ends_as}
 

@@ -22,7 +22,7 @@ use Rattle.play_stepping.specs.Given.CallersTogether.{UnderWay}
 use Rattle.run_kept.specs.Given.FinishesMachines.{machine_of}
 use Rattle.run_kept.proofs.Given.FollowsCalling.{apart_back, is_same_is}
 use Rattle.play_stepping.specs.Given.NamedSeen.{is_named}
-use Rattle.play_stepping.specs.Given.NamedDeclared.caller.Caller.{Caller}
+use Rattle.play_stepping.specs.Given.ExecutorDeclared.caller.Caller.{Caller}
 use Rattle.play_lists.proofs.Given.RowsLists.{all_but, both_some, found_alike, unseen}
 use Rattle.play_stepping.proofs.Given.SchedulerRights.{quiet}
 use Rattle.run_kept.specs.Values.Values.{KeepsValue}

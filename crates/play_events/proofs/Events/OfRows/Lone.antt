@@ -11,7 +11,7 @@ use Rattle.run_kept.specs.Given.EffectsKnown.{known}
 use Rattle.run_kept.specs.Models.Follows.{FollowsModel}
 use Rattle.run_legal.specs.Carried.{ComesAlone, FollowsOrRows}
 use Rattle.play_stepping.specs.Given.NamedSeen.{seen, seen_of}
-use Rattle.play_stepping.specs.Given.NamedDeclared.caller.Caller.{Caller}
+use Rattle.play_stepping.specs.Given.ExecutorDeclared.caller.Caller.{Caller}
 use Rattle.play_stepping.specs.Given.SchedulerDeclared.scheduler.Scheduler.{Scheduler}
 use Rattle.play_events.specs.Events.OfCalls.{Runs}
 use Rattle.play_events.proofs.Events.OfCalls.Alone.{row_of_caller}

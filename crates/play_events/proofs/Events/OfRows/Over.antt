@@ -14,7 +14,7 @@ use Rattle.run_legal.specs.Carried.{ShowsRun}
 use Rattle.run_legal.proofs.Come.{events_bring_things}
 use Rattle.play_events.proofs.Folded.Steps.{none_in_order}
 use Rattle.run_kept.specs.Given.ReclaimsLeft.{LeftAmong}
-use Rattle.play_stepping.specs.Given.NamedDeclared.caller.Caller.{Caller}
+use Rattle.play_stepping.specs.Given.ExecutorDeclared.caller.Caller.{Caller}
 use Rattle.play_stepping.specs.Given.SchedulerPlayed.{IsPlayed}
 use Rattle.play_stepping.specs.Given.SchedulerDeclared.scheduler.Scheduler.{Scheduler}
 use Rattle.play_events.specs.Events.Asked.{is_of_calls}

@@ -4,8 +4,8 @@ use Rattle.std.proofs.Common.{refl, ap, sym, ◌∙◌, inl, inr}
 use Rattle.play_events.specs.Given.LateFaults.{RoomInSweeping}
 use Rattle.play_events.proofs.Given.LateKindsKept.Laws.{told_sweeps_refuse_room}
 use Rattle.play_lists.specs.Given.TablesDeclared.node.Node.{Node}
-use Rattle.run_schedules.specs.Given.SweepsDeclared.sweep.Sweeping.{Sweeping}
-use Rattle.run_schedules.specs.Given.SweepsDeclared.sweep.Sweeping.TheVariants as sweeping
+use Rattle.run_schedules.specs.Given.ReservesDeclared.sweep.Sweeping.{Sweeping}
+use Rattle.run_schedules.specs.Given.ReservesDeclared.sweep.Sweeping.TheVariants as sweeping
 use Rattle.run_schedules.specs.Given.RawMachine.{machine_asked, machine_replied, sweep_told}
 use Rattle.run_schedules.specs.Given.RawDeclared.machines.asking.Reply.{Reply as MachineReply}
 use Rattle.run_schedules.specs.Given.RawDeclared.machines.asking.Reply.TheVariants as reply

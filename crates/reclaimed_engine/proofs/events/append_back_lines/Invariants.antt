@@ -1,5 +1,5 @@
 use Rattle.std.proofs.Common.{◌≡◌, ◌++◌, take}
-use Rattle.reclaimed_engine.specs.Text.Text.{back_lines}
+use Rattle.reclaimed_engine.specs.PrintedText.Text.{back_lines}
 use Rattle.reclaimed_engine.proofs.events.append_back_lines.Given as goal
 
 abbrev pub invariant-loop-effect : goal.invariant-loop-effect

@@ -2,7 +2,7 @@ use Rattle.std.proofs.Common.{◌++◌, sym, ap, ◌∙◌}
 use Rattle.std.proofs.lemmas.Iterator.{YieldsList-from_slice, YieldsList-from_zip}
 use Rattle.std.proofs.lemmas.Iterator.Consumers.{YieldsList-end}
 use Rattle.std.proofs.lemmas.List.Folds.{flat_map-map}
-use Rattle.reclaimed_engine.specs.Text.Text.{event_lines}
+use Rattle.reclaimed_engine.specs.PrintedText.Text.{event_lines}
 use Rattle.reclaimed_engine.proofs.events.append_events.Goals as goal
 
 pub returns : goal.returns

@@ -1,6 +1,6 @@
 use Rattle.std.proofs.Common.{◌≡◌, ◌++◌}
 use Rattle.std.specs.List.{flat_map}
-use Rattle.reclaimed_engine.specs.Text.Text.{event_lines}
+use Rattle.reclaimed_engine.specs.PrintedText.Text.{event_lines}
 use Rattle.reclaimed_engine.proofs.events.append_events.Given as goal
 
 abbrev pub invariant-loop-outcome : goal.invariant-loop-outcome

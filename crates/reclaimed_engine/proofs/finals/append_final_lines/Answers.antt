@@ -1,7 +1,7 @@
 use Rattle.std.proofs.Common.{arith}
 use Rattle.std.proofs.lemmas.Grind.{common_steps}
 use Rattle.std.proofs.lemmas.List.Folds.{flat_map-map}
-use Rattle.reclaimed_engine.specs.Text.Text.{map_line}
+use Rattle.reclaimed_engine.specs.PrintedText.Text.{map_line}
 use Rattle.reclaimed_engine.proofs.finals.append_final_lines.Goals as goal
 
 pub returns : goal.returns

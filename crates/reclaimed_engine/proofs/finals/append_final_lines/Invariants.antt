@@ -1,6 +1,6 @@
 use Rattle.std.proofs.Common.{◌≡◌, ◌++◌, take}
 use Rattle.std.specs.List.{flat_map}
-use Rattle.reclaimed_engine.specs.Text.Text.{map_line}
+use Rattle.reclaimed_engine.specs.PrintedText.Text.{map_line}
 use Rattle.reclaimed_engine.proofs.finals.append_final_lines.Given as goal
 
 abbrev pub invariant-loop-living : goal.invariant-loop-living

@@ -1,7 +1,7 @@
 use Rattle.std.proofs.Common.{arith}
 use Rattle.std.proofs.lemmas.Grind.{common_steps}
 use Rattle.std.proofs.lemmas.List.Folds.{flat_map-map}
-use Rattle.reclaimed_engine.specs.Text.Text.{entry}
+use Rattle.reclaimed_engine.specs.PrintedText.Text.{entry}
 use Rattle.reclaimed_engine.proofs.finals.append_map_line.Goals as goal
 
 pub returns : goal.returns

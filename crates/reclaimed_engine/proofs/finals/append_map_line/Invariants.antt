@@ -1,7 +1,7 @@
 use Rattle.std.proofs.Common.{◌≡◌, ◌++◌, take}
 use Rattle.std.specs.Prelude.{codes}
 use Rattle.std.specs.List.{flat_map}
-use Rattle.reclaimed_engine.specs.Text.Text.{entry}
+use Rattle.reclaimed_engine.specs.PrintedText.Text.{entry}
 use Rattle.reclaimed_engine.proofs.finals.append_map_line.Given as goal
 
 abbrev pub invariant-loop-pair : goal.invariant-loop-pair

@@ -2,8 +2,8 @@ use Rattle.std.proofs.Common.{◌≡◌, ◌^◌, arith, rules, List, map, ap, �
 use Rattle.std.proofs.lemmas.Grind.{common_steps}
 use Rattle.std.proofs.lemmas.List.Sorted.{IsNonDecreasingBy-from_sort_by_key, answers_always}
 use Rattle.run_schedules.specs.declared.ended.Living.{Living}
-use Rattle.reclaimed_engine.specs.Text.Text.{name_number, by_name}
-use Rattle.reclaimed_engine.proofs.Text.AscendingLemmas.{ascending_is, ascending-map}
+use Rattle.reclaimed_engine.specs.PrintedText.Text.{name_number, by_name}
+use Rattle.reclaimed_engine.proofs.PrintedText.AscendingLemmas.{ascending_is, ascending-map}
 use Rattle.reclaimed_engine.proofs.finals.by_name.Goals as goal
 
 pub returns : goal.returns

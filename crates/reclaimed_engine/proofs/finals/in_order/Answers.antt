@@ -4,10 +4,10 @@ use Rattle.std.specs.List.Sorted.{IsPermutation}
 use Rattle.std.proofs.lemmas.Grind.{common_steps}
 use Rattle.std.proofs.lemmas.List.Elements.{filter_map-append}
 use Rattle.std.proofs.lemmas.List.Sorted.{IsNonDecreasingBy-from_sort_by_key, IsPermutation-map, answers_always}
-use Rattle.reclaimed_engine.specs.Text.Ascending.{ascending}
+use Rattle.reclaimed_engine.specs.PrintedText.Ascending.{ascending}
 use Rattle.run_schedules.specs.Schedules.Runs.{pair_of}
-use Rattle.reclaimed_engine.specs.Text.Text.{WordPair}
-use Rattle.reclaimed_engine.proofs.Text.AscendingLemmas.{ascending_is, ascending-map}
+use Rattle.reclaimed_engine.specs.PrintedText.Text.{WordPair}
+use Rattle.reclaimed_engine.proofs.PrintedText.AscendingLemmas.{ascending_is, ascending-map}
 use Rattle.reclaimed_engine.proofs.finals.in_order.Goals as goal
 
 pub loop-number-preserved : goal.loop-number-preserved

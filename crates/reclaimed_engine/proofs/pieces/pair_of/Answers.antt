@@ -1,6 +1,6 @@
 use Rattle.std.proofs.Common.{◌∙◌, sym, ap}
 use Rattle.std.specs.Option.{option_copied}
-use Rattle.reclaimed_engine.proofs.Text.PairLemmas.{pair_of-first, pair_of-second}
+use Rattle.reclaimed_engine.proofs.PrintedText.PairLemmas.{pair_of-first, pair_of-second}
 use Rattle.reclaimed_engine.proofs.pieces.pair_of.Goals as goal
 
 pub returns-in-Some : goal.returns-in-Some

@@ -15,11 +15,11 @@ use Rattle.owner_calls.specs.Given.ResizeDeclared.sum.Sum.{Sum}
 use Rattle.owner_calls.specs.Given.ReservesReserve.{reserve_plan}
 use Rattle.run_debts.specs.Given.ReservesDeclared.reserve.Reserve.{Reserve}
 use Rattle.owner_calls.specs.Given.SweepsSweep.{sweep_plan}
-use Rattle.run_debts.specs.Given.SweepsDeclared.sweep.Sweep.{Sweep}
-use Rattle.run_debts.specs.Given.SweepsDeclared.sweep.Sweeping.{Sweeping}
-use Rattle.run_debts.specs.Given.SweepsDeclared.sweep.Sweeping.TheVariants as sweeping
-use Rattle.run_debts.specs.Given.SweepsDeclared.sweep.Swept.{Swept}
-use Rattle.run_debts.specs.Given.SweepsDeclared.sweep.Swept.TheVariants as swept
+use Rattle.run_debts.specs.Given.ReservesDeclared.sweep.Sweep.{Sweep}
+use Rattle.run_debts.specs.Given.ReservesDeclared.sweep.Sweeping.{Sweeping}
+use Rattle.run_debts.specs.Given.ReservesDeclared.sweep.Sweeping.TheVariants as sweeping
+use Rattle.run_debts.specs.Given.ReservesDeclared.sweep.Swept.{Swept}
+use Rattle.run_debts.specs.Given.ReservesDeclared.sweep.Swept.TheVariants as swept
 use Rattle.owner_calls.specs.Given.RawCall.{call_plan}
 use Rattle.run_debts.specs.Given.RawMachine.{machine_asked, machine_plan, machine_replied, sweep_told, called as of_key, reserved as of_room, swept as of_sweep, counted as of_sum}
 use Rattle.run_debts.specs.Given.RawDeclared.machines.answer.Called.{Called}
@@ -39,9 +39,9 @@ use Rattle.owner_calls.specs.Given.CallersPairs.{Given}
 use Rattle.owner_calls.specs.Given.CallersOverAll.{CallOverAll}
 use Rattle.run_debts.specs.Given.CallersRooms.{CallForRoom}
 use Rattle.owner_calls.specs.Given.CallersTogether.{UnderWay, OnKey, ForRoom, Counting, OverAll, IsBegun, Gets, Removes, Inserts, TriesToInsert, Computes, Updates, UpdatesOrInserts, TriesToInsertWith, RemovesIf}
-use Rattle.run_debts.specs.Given.TellerDeclared.changed.Changed.{Changed}
-use Rattle.run_debts.specs.Given.TellerDeclared.changed.Changed.TheVariants as changed
-use Rattle.run_debts.specs.Given.TellerDeclared.changed.Kind.{Kind}
+use Rattle.run_debts.specs.Given.EffectsDeclared.changed.Changed.{Changed}
+use Rattle.run_debts.specs.Given.EffectsDeclared.changed.Changed.TheVariants as changed
+use Rattle.run_debts.specs.Given.EffectsDeclared.changed.Kind.{Kind}
 use Rattle.run_debts.specs.Given.FinishesMachines.{machine_of}
 use Rattle.run_debts.specs.Given.FinishesMaps.{Standing}
 use Rattle.run_debts.proofs.Given.OthersOutcomes.{told_in}

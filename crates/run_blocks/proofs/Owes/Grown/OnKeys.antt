@@ -29,9 +29,9 @@ use Rattle.owner_calls.proofs.Given.RuleKeys.Always.{AlwaysOf, always_ends}
 use Rattle.owner_calls.specs.Given.LateFaults.{AnyTable, SoInCalling, CallRefusesSo}
 use Rattle.owner_calls.proofs.Given.LateKindsKept.Calls.Kept.{looks_on}
 use Rattle.owner_calls.proofs.Given.LateKindsKept.Rooms.Calling.{CallsAs, IsSoAt, copied_as, counted_as, disposed_as, first_as, helped_as, key_told_as, looked_as, next_as, on_dropped, on_emptied, on_filled, on_found, on_given_up, on_made, on_next, on_root, on_tried, so_of_stands, stands_of_so}
-use Rattle.run_debts.specs.Given.TellerDeclared.changed.Changed.{Changed}
-use Rattle.run_debts.specs.Given.TellerDeclared.changed.Changed.TheVariants as memory
-use Rattle.run_debts.specs.Given.TellerDeclared.changed.Kind.{Kind}
+use Rattle.run_debts.specs.Given.EffectsDeclared.changed.Changed.{Changed}
+use Rattle.run_debts.specs.Given.EffectsDeclared.changed.Changed.TheVariants as memory
+use Rattle.run_debts.specs.Given.EffectsDeclared.changed.Kind.{Kind}
 use Rattle.run_debts.proofs.Given.OthersOutcomes.{told_in}
 use Rattle.run_blocks.proofs.Owes.Grown.Within.{copier_so, so_always, table_so, was_made}
 use Rattle.run_blocks.proofs.Owes.Tables.Hosts.{Step}

@@ -35,10 +35,10 @@ use Rattle.run_debts.specs.Given.ReservesDeclared.reserve.Reserving.{Reserving}
 use Rattle.run_debts.specs.Given.ReservesDeclared.reserve.Reserving.TheVariants as reserving
 use Rattle.owner_calls.specs.Given.SweepsSweep.{sweep_plan}
 use Rattle.owner_calls.specs.Given.SweepsSweep as sweeps
-use Rattle.run_debts.specs.Given.SweepsDeclared.sweep.Sweep.{Sweep}
-use Rattle.run_debts.specs.Given.SweepsDeclared.sweep.Sweeping.{Sweeping}
-use Rattle.run_debts.specs.Given.SweepsDeclared.sweep.Sweeping.TheVariants as sweeping
-use Rattle.run_debts.specs.Given.SweepsDeclared.sweep.Swept.{Swept}
+use Rattle.run_debts.specs.Given.ReservesDeclared.sweep.Sweep.{Sweep}
+use Rattle.run_debts.specs.Given.ReservesDeclared.sweep.Sweeping.{Sweeping}
+use Rattle.run_debts.specs.Given.ReservesDeclared.sweep.Sweeping.TheVariants as sweeping
+use Rattle.run_debts.specs.Given.ReservesDeclared.sweep.Swept.{Swept}
 use Rattle.owner_calls.proofs.Given.RuleKeys.Always.{AlwaysOf, always_ends, always_steps}
 use Rattle.owner_calls.specs.Given.LateFaults.{SoInMaking, SoInCopying, SoInReserving, SoInSweeping}
 use Rattle.owner_calls.proofs.Given.LateKindsKept.Rooms.Copying as copies_so
@@ -50,9 +50,9 @@ use Rattle.owner_calls.proofs.Given.LateKindsKept.Rooms.Sweeping as sweeps_so
 use Rattle.owner_calls.proofs.Given.LateKindsKept.Rooms.Sweeping.{SweepsFor}
 use Rattle.run_debts.specs.Given.TellsSeen.{seen_of}
 use Rattle.run_debts.specs.Given.TellerTells.{told_of}
-use Rattle.run_debts.specs.Given.TellerDeclared.changed.Changed.{Changed}
-use Rattle.run_debts.specs.Given.TellerDeclared.changed.Changed.TheVariants as changed
-use Rattle.run_debts.specs.Given.TellerDeclared.changed.Kind.{Kind}
+use Rattle.run_debts.specs.Given.EffectsDeclared.changed.Changed.{Changed}
+use Rattle.run_debts.specs.Given.EffectsDeclared.changed.Changed.TheVariants as changed
+use Rattle.run_debts.specs.Given.EffectsDeclared.changed.Kind.{Kind}
 use Rattle.run_debts.proofs.Given.OthersOutcomes.{told_in}
 use Rattle.run_blocks.proofs.Owes.Tables.Hosts.{Step}
 use Rattle.run_debts.proofs.Given.ScenesTold.{as_step}

@@ -14,8 +14,8 @@ use Rattle.run_debts.specs.Given.RawDeclared.machines.answer.There.TheVariants a
 use Rattle.run_debts.specs.Given.SchedulesGrowing.{only_looks}
 use Rattle.run_debts.specs.Given.SchedulesMoment.{UnderWay as CallThere}
 use Rattle.run_debts.specs.Given.SchedulesSequential.{is_lookup}
-use Rattle.run_debts.specs.Given.SchedulesDeclared.call.OneKey.{OneKey}
-use Rattle.run_debts.specs.Given.SchedulesDeclared.call.OneKey.TheVariants as one_key
+use Rattle.run_debts.specs.Given.RunsDeclared.call.OneKey.{OneKey}
+use Rattle.run_debts.specs.Given.RunsDeclared.call.OneKey.TheVariants as one_key
 use Rattle.owner_calls.specs.Given.CallersAsked.{Asked}
 use Rattle.owner_calls.specs.Given.CallersKind.{gets}
 use Rattle.owner_calls.specs.Given.CallersPairs.{Given, Begun, kind_of}

@@ -25,8 +25,8 @@ use Rattle.run_debts.specs.Given.RawDeclared.machines.call.KeyCall.{KeyCall}
 use Rattle.run_debts.specs.Given.RawDeclared.machines.machine.Machine.{Machine}
 use Rattle.run_debts.specs.Given.RawDeclared.machines.machine.Machine.TheVariants as kinds
 use Rattle.run_debts.specs.Given.RawDeclared.machines.progress.Progress.{Progress}
-use Rattle.run_debts.specs.Given.TellerDeclared.changed.Changed.{Changed}
-use Rattle.run_debts.specs.Given.TellerDeclared.changed.Changed.TheVariants as changed
+use Rattle.run_debts.specs.Given.EffectsDeclared.changed.Changed.{Changed}
+use Rattle.run_debts.specs.Given.EffectsDeclared.changed.Changed.TheVariants as changed
 use Rattle.owner_calls.specs.Given.LateKinds.{IsLookup, LooksAt}
 use Rattle.run_debts.proofs.Given.OthersOutcomes.{told_in}
 use Rattle.run_blocks.specs.Owes.Looking.{IsLooking}

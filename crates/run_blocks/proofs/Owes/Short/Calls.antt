@@ -7,16 +7,16 @@ use Rattle.run_debts.specs.Given.RawDeclared.machines.progress.Progress.{Progres
 use Rattle.run_debts.specs.Given.RawDeclared.machines.progress.Progress.TheVariants as said_so
 use Rattle.run_debts.specs.Given.RunsSame.{is_same}
 use Rattle.run_debts.specs.Given.SeizeWordsDeclared.fault.Fault.TheVariants.{Memory}
-use Rattle.run_debts.specs.Given.SchedulesDeclared.effect.Effect.{Effect}
-use Rattle.run_debts.specs.Given.SchedulesDeclared.effect.Effect.TheVariants as effect
+use Rattle.run_debts.specs.Given.RunsDeclared.effect.Effect.{Effect}
+use Rattle.run_debts.specs.Given.RunsDeclared.effect.Effect.TheVariants as effect
 use Rattle.run_debts.specs.Given.SchedulesEffects.{with_effects}
 use Rattle.run_debts.specs.Given.SchedulesMoment.{UnderWay as CallThere, Moment}
 use Rattle.run_debts.specs.Given.SchedulesViews.{call_of}
 use Rattle.run_debts.specs.Given.TellerChanged.{kind_of}
-use Rattle.run_debts.specs.Given.TellerDeclared.changed.Changed.{Changed}
-use Rattle.run_debts.specs.Given.TellerDeclared.changed.Changed.TheVariants as changed
-use Rattle.run_debts.specs.Given.TellerDeclared.changed.Kind.{Kind}
-use Rattle.run_debts.specs.Given.TellerDeclared.changed.Kind.TheVariants as kind
+use Rattle.run_debts.specs.Given.EffectsDeclared.changed.Changed.{Changed}
+use Rattle.run_debts.specs.Given.EffectsDeclared.changed.Changed.TheVariants as changed
+use Rattle.run_debts.specs.Given.EffectsDeclared.changed.Kind.{Kind}
+use Rattle.run_debts.specs.Given.EffectsDeclared.changed.Kind.TheVariants as kind
 use Rattle.owner_calls.specs.Given.CallersTogether.{UnderWay}
 use Rattle.run_debts.specs.Given.EffectsEffects.{table_at, effects_of}
 use Rattle.run_debts.specs.Given.EffectsKnown.{Known}

@@ -22,11 +22,11 @@ use Rattle.run_debts.specs.Given.ReservesDeclared.reserve.Reserving.{Reserving}
 use Rattle.run_debts.specs.Given.ReservesDeclared.reserve.Reserving.TheVariants as reserving
 use Rattle.owner_calls.specs.Given.SweepsSweep.{sweep_plan}
 use Rattle.owner_calls.specs.Given.SweepsSweep as sweeps
-use Rattle.run_debts.specs.Given.SweepsDeclared.sweep.Sweep.{Sweep}
-use Rattle.run_debts.specs.Given.SweepsDeclared.sweep.Sweeping.{Sweeping}
-use Rattle.run_debts.specs.Given.SweepsDeclared.sweep.Sweeping.TheVariants as sweeping
-use Rattle.run_debts.specs.Given.SweepsDeclared.sweep.Swept.{Swept}
-use Rattle.run_debts.specs.Given.SweepsDeclared.sweep.Swept.TheVariants as swept
+use Rattle.run_debts.specs.Given.ReservesDeclared.sweep.Sweep.{Sweep}
+use Rattle.run_debts.specs.Given.ReservesDeclared.sweep.Sweeping.{Sweeping}
+use Rattle.run_debts.specs.Given.ReservesDeclared.sweep.Sweeping.TheVariants as sweeping
+use Rattle.run_debts.specs.Given.ReservesDeclared.sweep.Swept.{Swept}
+use Rattle.run_debts.specs.Given.ReservesDeclared.sweep.Swept.TheVariants as swept
 use Rattle.owner_calls.specs.Given.RawCall.{call_plan, helped, copied, dropped}
 use Rattle.owner_calls.specs.Given.RawCall as calls
 use Rattle.run_debts.specs.Given.RawMachine.{machine_plan, called as of_key, reserved as of_room, swept as of_sweep}
@@ -44,7 +44,7 @@ use Rattle.run_debts.specs.Given.RawDeclared.machines.progress.Progress.TheVaria
 use Rattle.owner_calls.specs.Given.RawCallPoints.{going, ending}
 use Rattle.run_debts.specs.Given.TellsSeen.{seen_of}
 use Rattle.run_debts.specs.Given.TellerTells.{told_of}
-use Rattle.run_debts.specs.Given.TellerDeclared.changed.Changed.{Changed}
+use Rattle.run_debts.specs.Given.EffectsDeclared.changed.Changed.{Changed}
 use Rattle.run_debts.proofs.Given.OthersOutcomes.{told_in}
 use Rattle.run_blocks.specs.Owes.Short.{fault_in_copying, fault_in_calling, fault_in_reserving, fault_in_sweeping, fault_of}
 use Rattle.run_blocks.proofs.Owes.Short.Effects.{NoneAsked}

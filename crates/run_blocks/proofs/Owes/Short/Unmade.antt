@@ -26,9 +26,9 @@ use Rattle.run_debts.specs.Given.RawDeclared.machines.machine.Machine.TheVariant
 use Rattle.run_debts.specs.Given.RawDeclared.machines.progress.Progress.{Progress}
 use Rattle.run_debts.specs.Given.TellsSeen.{seen_of}
 use Rattle.run_debts.specs.Given.TellerTells.{told_of}
-use Rattle.run_debts.specs.Given.TellerDeclared.changed.Changed.{Changed}
-use Rattle.run_debts.specs.Given.TellerDeclared.changed.Changed.TheVariants as changed
-use Rattle.run_debts.specs.Given.TellerDeclared.changed.Kind.{Kind}
+use Rattle.run_debts.specs.Given.EffectsDeclared.changed.Changed.{Changed}
+use Rattle.run_debts.specs.Given.EffectsDeclared.changed.Changed.TheVariants as changed
+use Rattle.run_debts.specs.Given.EffectsDeclared.changed.Kind.{Kind}
 use Rattle.run_debts.proofs.Given.OthersOutcomes.{told_in}
 use Rattle.run_blocks.specs.Owes.Making.{making_of, making_in_calling, making_in_reserving, making_in_sweeping}
 use Rattle.run_blocks.specs.Owes.Short.{fault_in_calling, fault_of}

@@ -1,12 +1,12 @@
 -- What the effects of an operation find of the table that a call has made, and which one it has after them.
 use Rattle.std.specs.Prelude.{◌≡◌, ◌<◌, ◌≤◌, ℕ, false, List, [], ◌∷◌, length, Option, Some, None}
 use Rattle.std.proofs.Common.{refl, ap, sym, subst, ◌∙◌}
-use Rattle.run_debts.specs.Given.SchedulesDeclared.call.Call.{Call}
-use Rattle.run_debts.specs.Given.SchedulesDeclared.call.Call.TheVariants as call
-use Rattle.run_debts.specs.Given.SchedulesDeclared.effect.Effect.{Effect}
-use Rattle.run_debts.specs.Given.SchedulesDeclared.effect.Effect.TheVariants as effect
-use Rattle.run_debts.specs.Given.SchedulesDeclared.effect.Growth.TheVariants.{ABlock}
-use Rattle.run_debts.specs.Given.SchedulesDeclared.effect.Table.{Table}
+use Rattle.run_debts.specs.Given.RunsDeclared.call.Call.{Call}
+use Rattle.run_debts.specs.Given.RunsDeclared.call.Call.TheVariants as call
+use Rattle.run_debts.specs.Given.RunsDeclared.effect.Effect.{Effect}
+use Rattle.run_debts.specs.Given.RunsDeclared.effect.Effect.TheVariants as effect
+use Rattle.run_debts.specs.Given.RunsDeclared.effect.Growth.TheVariants.{ABlock}
+use Rattle.run_debts.specs.Given.RunsDeclared.effect.Table.{Table}
 use Rattle.run_debts.specs.Given.RunsDeclared.shapes.TableShape.{TableShape}
 use Rattle.run_debts.specs.Given.SchedulesEffects.{due_for, call_by, with_effect}
 use Rattle.run_debts.specs.Given.SchedulesEntry.{ByCall}

@@ -17,7 +17,7 @@ use Rattle.owner_calls.specs.Given.ResizeDeclared.new_table.Making.{Making}
 use Rattle.owner_calls.specs.Given.ResizeDeclared.new_table.Making.TheVariants as making
 use Rattle.owner_calls.specs.Given.ResizeDeclared.new_table.NewTable.{NewTable}
 use Rattle.run_debts.specs.Given.RunsDeclared.shapes.TableShape.{TableShape}
-use Rattle.run_debts.specs.Given.SchedulesDeclared.effect.Table.{Table}
+use Rattle.run_debts.specs.Given.RunsDeclared.effect.Table.{Table}
 use Rattle.run_debts.specs.Given.SchedulesMoment.{Moment}
 use Rattle.run_debts.specs.Given.SchedulesViews.{tables_of}
 use Rattle.owner_calls.specs.Given.RuleRule.{no_table}

@@ -31,11 +31,11 @@ use Rattle.run_debts.specs.Given.ReservesDeclared.reserve.Reserving.{Reserving}
 use Rattle.run_debts.specs.Given.ReservesDeclared.reserve.Reserving.TheVariants as reserving
 use Rattle.owner_calls.specs.Given.SweepsSweep.{sweep_plan}
 use Rattle.owner_calls.specs.Given.SweepsSweep as sweeps
-use Rattle.run_debts.specs.Given.SweepsDeclared.sweep.Sweep.{Sweep}
-use Rattle.run_debts.specs.Given.SweepsDeclared.sweep.Sweeping.{Sweeping}
-use Rattle.run_debts.specs.Given.SweepsDeclared.sweep.Sweeping.TheVariants as sweeping
-use Rattle.run_debts.specs.Given.SweepsDeclared.sweep.Swept.{Swept}
-use Rattle.run_debts.specs.Given.SweepsDeclared.sweep.Swept.TheVariants as swept
+use Rattle.run_debts.specs.Given.ReservesDeclared.sweep.Sweep.{Sweep}
+use Rattle.run_debts.specs.Given.ReservesDeclared.sweep.Sweeping.{Sweeping}
+use Rattle.run_debts.specs.Given.ReservesDeclared.sweep.Sweeping.TheVariants as sweeping
+use Rattle.run_debts.specs.Given.ReservesDeclared.sweep.Swept.{Swept}
+use Rattle.run_debts.specs.Given.ReservesDeclared.sweep.Swept.TheVariants as swept
 use Rattle.owner_calls.specs.Given.SweepsSweepPoints as sweeps_at
 use Rattle.owner_calls.specs.Given.RawCall.{call_plan, first_made, next_made, helped, copied}
 use Rattle.owner_calls.specs.Given.RawCall as calls
@@ -53,8 +53,8 @@ use Rattle.run_debts.specs.Given.RawDeclared.machines.progress.Progress.TheVaria
 use Rattle.owner_calls.specs.Given.RawCallPoints.{over, going}
 use Rattle.run_debts.specs.Given.RawDeclared.machines.answer.End.TheVariants as ends
 use Rattle.run_debts.specs.Given.TellerTells.{StepsTold}
-use Rattle.run_debts.specs.Given.TellerDeclared.changed.Changed.{Changed}
-use Rattle.run_debts.specs.Given.TellerDeclared.changed.Changed.TheVariants as changed
+use Rattle.run_debts.specs.Given.EffectsDeclared.changed.Changed.{Changed}
+use Rattle.run_debts.specs.Given.EffectsDeclared.changed.Changed.TheVariants as changed
 use Rattle.run_debts.proofs.Given.OthersOutcomes.{told_in}
 use Rattle.run_blocks.specs.Owes.Making.{making_of, making_in_copying, making_in_calling, making_in_reserving, making_in_sweeping, making_in_opening}
 use Rattle.run_blocks.specs.Owes.Short.{fault_in_copying, fault_in_calling, fault_in_reserving, fault_in_sweeping, fault_of}

@@ -24,10 +24,10 @@ use Rattle.owner_calls.specs.Given.RuleChart.{Chart}
 use Rattle.owner_calls.specs.Given.RuleWords.{Blocks}
 use Rattle.run_debts.specs.Given.TellerChanged.{kind_of}
 use Rattle.run_debts.specs.Given.TellerTells.{StepsTold}
-use Rattle.run_debts.specs.Given.TellerDeclared.changed.Changed.{Changed}
-use Rattle.run_debts.specs.Given.TellerDeclared.changed.Changed.TheVariants as changed
-use Rattle.run_debts.specs.Given.TellerDeclared.changed.Kind.{Kind}
-use Rattle.run_debts.specs.Given.TellerDeclared.changed.Kind.TheVariants as kind
+use Rattle.run_debts.specs.Given.EffectsDeclared.changed.Changed.{Changed}
+use Rattle.run_debts.specs.Given.EffectsDeclared.changed.Changed.TheVariants as changed
+use Rattle.run_debts.specs.Given.EffectsDeclared.changed.Kind.{Kind}
+use Rattle.run_debts.specs.Given.EffectsDeclared.changed.Kind.TheVariants as kind
 use Rattle.owner_calls.specs.Given.CallersTogether.{CallOnKey, in_slot, Knows}
 use Rattle.owner_calls.specs.Given.PointsFactsCalls.{Change, CallingFacts}
 use Rattle.owner_calls.specs.Given.PointsTold.{IsRowOfCall}

@@ -5,13 +5,13 @@ use Rattle.std.proofs.lemmas.Bool.{cases_eq}
 use Rattle.run_debts.specs.Given.SeizeWordsWord.{block_in}
 use Rattle.run_debts.specs.Given.TablesDeclared.table.Table.{Table as Planned}
 use Rattle.run_debts.specs.Given.RunsDeclared.shapes.TableShape.{TableShape}
-use Rattle.run_debts.specs.Given.SchedulesDeclared.effect.Effect.{Effect}
-use Rattle.run_debts.specs.Given.SchedulesDeclared.effect.Effect.TheVariants as effect
-use Rattle.run_debts.specs.Given.SchedulesDeclared.effect.Growth.TheVariants.{ABlock}
-use Rattle.run_debts.specs.Given.SchedulesDeclared.effect.Table.{Table}
-use Rattle.run_debts.specs.Given.TellerDeclared.changed.Changed.{Changed}
-use Rattle.run_debts.specs.Given.TellerDeclared.changed.Changed.TheVariants as changed
-use Rattle.run_debts.specs.Given.TellerDeclared.changed.Kind.TheVariants as kind
+use Rattle.run_debts.specs.Given.RunsDeclared.effect.Effect.{Effect}
+use Rattle.run_debts.specs.Given.RunsDeclared.effect.Effect.TheVariants as effect
+use Rattle.run_debts.specs.Given.RunsDeclared.effect.Growth.TheVariants.{ABlock}
+use Rattle.run_debts.specs.Given.RunsDeclared.effect.Table.{Table}
+use Rattle.run_debts.specs.Given.EffectsDeclared.changed.Changed.{Changed}
+use Rattle.run_debts.specs.Given.EffectsDeclared.changed.Changed.TheVariants as changed
+use Rattle.run_debts.specs.Given.EffectsDeclared.changed.Kind.TheVariants as kind
 use Rattle.run_debts.specs.Given.EffectsEffects.{table_at, effects_of, known_after}
 use Rattle.run_debts.specs.Given.EffectsKnown.{Known}
 use Rattle.run_debts.specs.Given.EffectsDeclared.acting.Acting.{Acting}

@@ -13,14 +13,14 @@ use Rattle.owner_calls.specs.Given.ResizeDeclared.new_map.NewMap.{NewMap}
 use Rattle.owner_calls.specs.Given.ResizeDeclared.new_table.Making.{Making}
 use Rattle.owner_calls.specs.Given.ResizeDeclared.new_table.NewTable.{NewTable}
 use Rattle.owner_calls.specs.Given.ResizeDeclared.new_table.Making.TheVariants as makings
-use Rattle.run_debts.specs.Given.SchedulesDeclared.effect.Effect.{Effect}
-use Rattle.run_debts.specs.Given.SchedulesDeclared.effect.Effect.TheVariants as effect
+use Rattle.run_debts.specs.Given.RunsDeclared.effect.Effect.{Effect}
+use Rattle.run_debts.specs.Given.RunsDeclared.effect.Effect.TheVariants as effect
 use Rattle.run_debts.specs.Given.SchedulesEffects.{with_effects}
 use Rattle.run_debts.specs.Given.SchedulesMoment.{Moment}
 use Rattle.run_debts.specs.Given.TellerChanged.{kind_of}
-use Rattle.run_debts.specs.Given.TellerDeclared.changed.Changed.{Changed}
-use Rattle.run_debts.specs.Given.TellerDeclared.changed.Changed.TheVariants as changed
-use Rattle.run_debts.specs.Given.TellerDeclared.changed.Kind.TheVariants as kind
+use Rattle.run_debts.specs.Given.EffectsDeclared.changed.Changed.{Changed}
+use Rattle.run_debts.specs.Given.EffectsDeclared.changed.Changed.TheVariants as changed
+use Rattle.run_debts.specs.Given.EffectsDeclared.changed.Kind.TheVariants as kind
 use Rattle.owner_calls.specs.Given.CallersTogether.{UnderWay}
 use Rattle.owner_calls.proofs.Given.CallersTogether.At.{at_other, at_same}
 use Rattle.run_debts.specs.Given.EffectsEffects.{effects_of, known_after}

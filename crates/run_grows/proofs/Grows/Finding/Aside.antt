@@ -14,10 +14,10 @@ use Rattle.run_schedules.specs.declared.effect.Growth.TheVariants.{ABlock}
 use Rattle.run_schedules.specs.declared.effect.Table.{Table}
 use Rattle.run_schedules.specs.Schedules.Effects.{with_effects}
 use Rattle.run_schedules.specs.Schedules.Moment.{Moment}
-use Rattle.run_executor.specs.Given.TellerDeclared.changed.Changed.{Changed}
-use Rattle.run_executor.specs.Given.TellerDeclared.changed.Changed.TheVariants as changed
-use Rattle.run_executor.specs.Given.TellerDeclared.changed.Kind.{Kind}
-use Rattle.run_executor.specs.Given.TellerDeclared.changed.Kind.TheVariants as kind
+use Rattle.run_executor.specs.Given.EffectsDeclared.changed.Changed.{Changed}
+use Rattle.run_executor.specs.Given.EffectsDeclared.changed.Changed.TheVariants as changed
+use Rattle.run_executor.specs.Given.EffectsDeclared.changed.Kind.{Kind}
+use Rattle.run_executor.specs.Given.EffectsDeclared.changed.Kind.TheVariants as kind
 use Rattle.run_executor.specs.Given.EffectsEffects.{effects_of, in_block, led_to, made_by, named, names_same, pair_taken, table_taken, taken_by}
 use Rattle.run_executor.specs.Given.EffectsKnown.{Known}
 use Rattle.run_executor.specs.Given.EffectsDeclared.acting.Acting.{Acting}

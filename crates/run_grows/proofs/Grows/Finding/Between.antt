@@ -5,9 +5,9 @@ use Rattle.std.proofs.lemmas.Bool.{ne_eqb}
 use Rattle.run_executor.specs.Given.SeizeWordsWord.{block_in}
 use Rattle.run_executor.specs.Given.SeizeWordsDeclared.at.At.{At}
 use Rattle.papaya_raw.specs.Given.SweepsSweepPoints.{next_at}
-use Rattle.papaya_raw.specs.Given.SweepsDeclared.sweep.Sweep.{Sweep}
-use Rattle.papaya_raw.specs.Given.SweepsDeclared.sweep.Sweeping.{Sweeping}
-use Rattle.papaya_raw.specs.Given.SweepsDeclared.sweep.Sweeping.TheVariants as sweeping
+use Rattle.papaya_raw.specs.Given.ReservesDeclared.sweep.Sweep.{Sweep}
+use Rattle.papaya_raw.specs.Given.ReservesDeclared.sweep.Sweeping.{Sweeping}
+use Rattle.papaya_raw.specs.Given.ReservesDeclared.sweep.Sweeping.TheVariants as sweeping
 use Rattle.papaya_raw.specs.CallAsks.{told_at}
 use Rattle.papaya_raw.specs.Machine.{machine_asked, machine_replied, sweep_told}
 use Rattle.papaya_raw.specs.declared.machines.asking.Asking.TheVariants as asking

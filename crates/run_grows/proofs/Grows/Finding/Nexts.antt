@@ -23,8 +23,8 @@ use Rattle.run_schedules.specs.Schedules.Entry.{ends_call}
 use Rattle.run_schedules.specs.Schedules.Growing.{HasNext}
 use Rattle.run_schedules.specs.Schedules.Moment.{MapThere, Moment, TableThere, UnderWay as CallThere}
 use Rattle.run_schedules.specs.Schedules.Views.{call_of, first_of, first_or, map_at}
-use Rattle.run_executor.specs.Given.TellerDeclared.changed.Changed.{Changed}
-use Rattle.run_executor.specs.Given.TellerDeclared.changed.Changed.TheVariants as changed
+use Rattle.run_executor.specs.Given.EffectsDeclared.changed.Changed.{Changed}
+use Rattle.run_executor.specs.Given.EffectsDeclared.changed.Changed.TheVariants as changed
 use Rattle.run_executor.proofs.Given.RuleKeys.Always.{Always, AlwaysOf, always_steps}
 use Rattle.run_executor.specs.Given.CallersTogether.{UnderWay}
 use Rattle.run_executor.specs.Given.EffectsEffects.{effects_of}

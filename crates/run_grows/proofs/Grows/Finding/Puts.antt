@@ -18,8 +18,8 @@ use Rattle.run_logged.specs.Given.ResizeDeclared.dispose.Disposing.{Disposing}
 use Rattle.run_logged.specs.Given.ResizeDeclared.dispose.Disposing.TheVariants as disposing
 use Rattle.run_logged.specs.Given.ResizeDeclared.copier.Copying.{Copying}
 use Rattle.run_logged.specs.Given.ResizeDeclared.copier.Copying.TheVariants as copying
-use Rattle.papaya_raw.specs.Given.SweepsDeclared.sweep.Sweeping.{Sweeping}
-use Rattle.papaya_raw.specs.Given.SweepsDeclared.sweep.Sweeping.TheVariants as sweeping
+use Rattle.papaya_raw.specs.Given.ReservesDeclared.sweep.Sweeping.{Sweeping}
+use Rattle.papaya_raw.specs.Given.ReservesDeclared.sweep.Sweeping.TheVariants as sweeping
 use Rattle.papaya_raw.specs.declared.machines.call.Calling.{Calling}
 use Rattle.papaya_raw.specs.declared.machines.call.Calling.TheVariants as calling
 use Rattle.run_schedules.specs.Schedules.Moment.{Moment}

@@ -36,8 +36,8 @@ use Rattle.run_schedules.specs.Schedules.Moment.{Moment, TableThere, UnderWay as
 use Rattle.run_schedules.specs.Schedules.Terms.{Terms, shards_of}
 use Rattle.run_schedules.specs.Schedules.Views.{call_of, capacity_or, last_of, map_at, tables_of}
 use Rattle.run_executor.specs.Given.TellerTells.{StepsTold}
-use Rattle.run_executor.specs.Given.TellerDeclared.changed.Changed.{Changed}
-use Rattle.run_executor.specs.Given.TellerDeclared.changed.Changed.TheVariants.{Nothing}
+use Rattle.run_executor.specs.Given.EffectsDeclared.changed.Changed.{Changed}
+use Rattle.run_executor.specs.Given.EffectsDeclared.changed.Changed.TheVariants.{Nothing}
 use Rattle.run_executor.proofs.Given.OthersOutcomes.{told_in}
 use Rattle.run_executor.specs.Given.RuleMaps.{IsTable}
 use Rattle.run_executor.specs.Given.RuleWords.{Blocks}

@@ -19,11 +19,11 @@ use Rattle.papaya_raw.specs.Given.ReservesDeclared.reserve.Reserve.{Reserve}
 use Rattle.papaya_raw.specs.Given.ReservesDeclared.reserve.Reserving.{Reserving}
 use Rattle.papaya_raw.specs.Given.ReservesDeclared.reserve.Reserving.TheVariants as reserving
 use Rattle.papaya_raw.specs.Given.SweepsSweep.{sweep_plan}
-use Rattle.papaya_raw.specs.Given.SweepsDeclared.sweep.Sweep.{Sweep}
-use Rattle.papaya_raw.specs.Given.SweepsDeclared.sweep.Sweeping.{Sweeping}
-use Rattle.papaya_raw.specs.Given.SweepsDeclared.sweep.Sweeping.TheVariants as sweeping
-use Rattle.papaya_raw.specs.Given.SweepsDeclared.sweep.Swept.{Swept}
-use Rattle.papaya_raw.specs.Given.SweepsDeclared.sweep.Swept.TheVariants as swept
+use Rattle.papaya_raw.specs.Given.ReservesDeclared.sweep.Sweep.{Sweep}
+use Rattle.papaya_raw.specs.Given.ReservesDeclared.sweep.Sweeping.{Sweeping}
+use Rattle.papaya_raw.specs.Given.ReservesDeclared.sweep.Sweeping.TheVariants as sweeping
+use Rattle.papaya_raw.specs.Given.ReservesDeclared.sweep.Swept.{Swept}
+use Rattle.papaya_raw.specs.Given.ReservesDeclared.sweep.Swept.TheVariants as swept
 use Rattle.papaya_raw.specs.Call.{call_plan}
 use Rattle.papaya_raw.specs.Machine.{called as of_key, counted as of_sum, machine_asked, machine_plan, machine_replied, reserved as of_room, swept as of_sweep, sweep_told}
 use Rattle.papaya_raw.specs.declared.machines.answer.Called.{Called}

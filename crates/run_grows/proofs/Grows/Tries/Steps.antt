@@ -18,8 +18,8 @@ use Rattle.run_logged.specs.Given.ResizeDeclared.sum.Sum.{Sum}
 use Rattle.papaya_raw.specs.Given.ReservesReserve.{reserve_plan}
 use Rattle.papaya_raw.specs.Given.ReservesDeclared.reserve.Reserve.{Reserve}
 use Rattle.papaya_raw.specs.Given.SweepsSweep.{sweep_plan}
-use Rattle.papaya_raw.specs.Given.SweepsDeclared.sweep.Sweep.{Sweep}
-use Rattle.papaya_raw.specs.Given.SweepsDeclared.sweep.Swept.{Swept}
+use Rattle.papaya_raw.specs.Given.ReservesDeclared.sweep.Sweep.{Sweep}
+use Rattle.papaya_raw.specs.Given.ReservesDeclared.sweep.Swept.{Swept}
 use Rattle.papaya_raw.specs.Call.{call_plan}
 use Rattle.papaya_raw.specs.CallPoints.{aim_of}
 use Rattle.papaya_raw.specs.Machine.{called as of_key, counted as of_sum, machine_plan, reserved as of_room, swept as of_sweep}
@@ -36,8 +36,8 @@ use Rattle.run_schedules.specs.Schedules.Moment.{Moment, UnderWay as CallThere}
 use Rattle.run_schedules.specs.Schedules.Tries.{FindsTaken, try_at}
 use Rattle.run_schedules.specs.Schedules.Views.{call_of}
 use Rattle.run_executor.specs.Given.TellerTells.{StepsTold}
-use Rattle.run_executor.specs.Given.TellerDeclared.changed.Changed.{Changed}
-use Rattle.run_executor.specs.Given.TellerDeclared.changed.Changed.TheVariants as changes
+use Rattle.run_executor.specs.Given.EffectsDeclared.changed.Changed.{Changed}
+use Rattle.run_executor.specs.Given.EffectsDeclared.changed.Changed.TheVariants as changes
 use Rattle.run_executor.specs.Given.RuleInWorld.{IsMapIn}
 use Rattle.run_executor.specs.Given.RuleMaps.{IsTrial}
 use Rattle.run_executor.specs.Given.RuleWords.{Blocks}

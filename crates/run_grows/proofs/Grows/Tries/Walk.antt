@@ -70,8 +70,8 @@ use Rattle.papaya_raw.specs.declared.machines.call.KeyCall.{KeyCall}
 use Rattle.run_schedules.specs.declared.effect.Spot.{Spot}
 use Rattle.run_schedules.specs.Schedules.Tries.{try_at}
 use Rattle.run_executor.specs.Given.TellerTells.{StepsTold}
-use Rattle.run_executor.specs.Given.TellerDeclared.changed.Changed.{Changed}
-use Rattle.run_executor.specs.Given.TellerDeclared.changed.Changed.TheVariants as changes
+use Rattle.run_executor.specs.Given.EffectsDeclared.changed.Changed.{Changed}
+use Rattle.run_executor.specs.Given.EffectsDeclared.changed.Changed.TheVariants as changes
 use Rattle.run_executor.proofs.Given.PointsCalls.Asked.{beyond_so}
 use Rattle.run_executor.proofs.Given.RuleKeys.Always.{Always, AlwaysOf, always_ends, always_if, always_plan_as, always_steps}
 use Rattle.run_executor.proofs.Given.OthersOutcomes.{told_in}

@@ -5,11 +5,11 @@ use Rattle.run_places.specs.Given.TablesDeclared.node.Node.{Node}
 use Rattle.run_places.specs.Given.RawDeclared.machines.progress.Answer.TheVariants.{Key}
 use Rattle.run_places.specs.Given.RawDeclared.machines.progress.Progress.{Progress}
 use Rattle.run_places.specs.Given.RawDeclared.machines.progress.Progress.TheVariants as progress
-use Rattle.run_places.specs.Given.SchedulesDeclared.call.Call.TheVariants.{On}
-use Rattle.run_places.specs.Given.SchedulesDeclared.call.OneKey.{OneKey}
-use Rattle.run_places.specs.Given.SchedulesDeclared.effect.Effect.{Effect}
-use Rattle.run_places.specs.Given.SchedulesDeclared.outcome.Outcome.{Outcome}
-use Rattle.run_places.specs.Given.SchedulesDeclared.outcome.Outcome.TheVariants as outcome
+use Rattle.run_places.specs.Given.RunsDeclared.call.Call.TheVariants.{On}
+use Rattle.run_places.specs.Given.RunsDeclared.call.OneKey.{OneKey}
+use Rattle.run_places.specs.Given.RunsDeclared.effect.Effect.{Effect}
+use Rattle.run_places.specs.Given.RunsDeclared.outcome.Outcome.{Outcome}
+use Rattle.run_places.specs.Given.RunsDeclared.outcome.Outcome.TheVariants as outcome
 use Rattle.run_places.specs.Given.SchedulesMoment.{UnderWay as CallThere, Moment}
 use Rattle.run_places.specs.Given.CallersTogether.{CallOnKey, UnderWay, OnKey, ForRoom, Counting, OverAll}
 use Rattle.run_places.specs.Given.EffectsEffects.{known_after}

@@ -1,9 +1,9 @@
 -- What an event of a call comes to is what its call comes to; it leaves maps.
 use Rattle.std.specs.Prelude.{◌≡◌, ℕ, List, Option, Some}
 use Rattle.std.proofs.Common.{refl, ap}
-use Rattle.run_places.specs.Given.SchedulesDeclared.event.Event.{Event}
-use Rattle.run_places.specs.Given.SchedulesDeclared.event.Event.TheVariants as event
-use Rattle.run_places.specs.Given.SchedulesDeclared.outcome.Outcome.{Outcome}
+use Rattle.run_places.specs.Given.RunsDeclared.event.Event.{Event}
+use Rattle.run_places.specs.Given.RunsDeclared.event.Event.TheVariants as event
+use Rattle.run_places.specs.Given.RunsDeclared.outcome.Outcome.{Outcome}
 use Rattle.run_places.specs.Given.SchedulesAfter.{stepped, calls_on, maps_on}
 use Rattle.run_places.specs.Given.SchedulesEntry.{caller_of}
 use Rattle.run_places.specs.Given.SchedulesMoment.{MapThere, UnderWay as CallThere}

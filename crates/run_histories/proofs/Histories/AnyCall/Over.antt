@@ -6,7 +6,7 @@ use Rattle.run_places.specs.Given.RunsSame.{is_same}
 use Rattle.run_places.specs.Given.RawDeclared.machines.machine.Machine.{Machine}
 use Rattle.run_places.specs.Given.RawDeclared.machines.progress.Progress.{Progress}
 use Rattle.run_places.specs.Given.RawDeclared.machines.progress.Progress.TheVariants as progress
-use Rattle.run_places.specs.Given.SchedulesDeclared.effect.Effect.{Effect}
+use Rattle.run_places.specs.Given.RunsDeclared.effect.Effect.{Effect}
 use Rattle.run_places.specs.Given.SchedulesAfter.{stepped, moment}
 use Rattle.run_places.specs.Given.SchedulesEffects.{with_effects, worked}
 use Rattle.run_places.specs.Given.SchedulesEntry.{Entry, ends_call, caller_of, acted_on}

@@ -4,12 +4,12 @@ use Rattle.std.proofs.Common.{refl, ap, sym, subst, ◌∙◌, inl, inr}
 use Rattle.std.proofs.lemmas.Bool.{eqb-true}
 use Rattle.run_places.specs.Given.RawDeclared.machines.asking.Reply.{Reply as MachineReply}
 use Rattle.run_places.specs.Given.RawDeclared.machines.asking.Reply.TheVariants as reply
-use Rattle.run_places.specs.Given.SchedulesDeclared.call.Answer.{Answer}
-use Rattle.run_places.specs.Given.SchedulesDeclared.call.Answer.TheVariants as answer
-use Rattle.run_places.specs.Given.SchedulesDeclared.call.OneKey.{OneKey}
-use Rattle.run_places.specs.Given.SchedulesDeclared.call.OneKey.TheVariants.{Get, GetKeyValue, ContainsKey, Insert, TryInsert, TryInsertWith, GetOrInsert, GetOrInsertWith, Update, UpdateOrInsert, UpdateOrInsertWith, Compute, Remove, RemoveEntry, RemoveIf}
-use Rattle.run_places.specs.Given.SchedulesDeclared.call.Reply.{Reply}
-use Rattle.run_places.specs.Given.SchedulesDeclared.call.Reply.TheVariants.{Gives, Removes, Aborts, Decides}
+use Rattle.run_places.specs.Given.RunsDeclared.call.Answer.{Answer}
+use Rattle.run_places.specs.Given.RunsDeclared.call.Answer.TheVariants as answer
+use Rattle.run_places.specs.Given.RunsDeclared.call.OneKey.{OneKey}
+use Rattle.run_places.specs.Given.RunsDeclared.call.OneKey.TheVariants.{Get, GetKeyValue, ContainsKey, Insert, TryInsert, TryInsertWith, GetOrInsert, GetOrInsertWith, Update, UpdateOrInsert, UpdateOrInsertWith, Compute, Remove, RemoveEntry, RemoveIf}
+use Rattle.run_places.specs.Given.RunsDeclared.call.Reply.{Reply}
+use Rattle.run_places.specs.Given.RunsDeclared.call.Reply.TheVariants.{Gives, Removes, Aborts, Decides}
 use Rattle.run_places.specs.Given.SchedulesSequential.{Answers, Leaves, Takes, puts_reply, means}
 use Rattle.run_places.specs.Given.SchedulesViews.{reply_to}
 use Rattle.run_places.specs.Given.LateKinds.{MayFind, MayMiss}

@@ -6,9 +6,9 @@ use Rattle.run_places.specs.Given.SeizeWordsWord.{block_in}
 use Rattle.run_places.specs.Given.SeizeWordsDeclared.fault.Fault.TheVariants.{Memory}
 use Rattle.run_places.specs.Given.TablesDeclared.node.Node.{Node}
 use Rattle.run_places.specs.Given.RunsSame.{is_same}
-use Rattle.run_places.specs.Given.SweepsDeclared.sweep.Sweeping.{Sweeping}
-use Rattle.run_places.specs.Given.SweepsDeclared.sweep.Sweeping.TheVariants as at
-use Rattle.run_places.specs.Given.SchedulesDeclared.outcome.Outcome.TheVariants.{Refused}
+use Rattle.run_places.specs.Given.ReservesDeclared.sweep.Sweeping.{Sweeping}
+use Rattle.run_places.specs.Given.ReservesDeclared.sweep.Sweeping.TheVariants as at
+use Rattle.run_places.specs.Given.RunsDeclared.outcome.Outcome.TheVariants.{Refused}
 use Rattle.run_places.specs.Given.SchedulesMoment.{UnderWay as CallThere, Moment}
 use Rattle.run_places.specs.Given.SchedulesViews.{call_of}
 use Rattle.run_places.specs.Given.RuleChart.{Chart, Holds, Still}

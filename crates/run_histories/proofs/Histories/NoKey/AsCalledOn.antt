@@ -5,17 +5,17 @@ use Rattle.std.proofs.lemmas.Bool.{eq-eqb}
 use Rattle.run_places.specs.Given.SeizeWordsWord.{block_in}
 use Rattle.run_places.specs.Given.RunsSame.{is_same}
 use Rattle.run_places.specs.Given.SweepsSweepPoints.{removes, past, reply_at, after_reply}
-use Rattle.run_places.specs.Given.SweepsDeclared.sweep.Sweep.{Sweep}
-use Rattle.run_places.specs.Given.SweepsDeclared.sweep.Sweeping.{Sweeping}
-use Rattle.run_places.specs.Given.SweepsDeclared.sweep.Sweeping.TheVariants as at
+use Rattle.run_places.specs.Given.ReservesDeclared.sweep.Sweep.{Sweep}
+use Rattle.run_places.specs.Given.ReservesDeclared.sweep.Sweeping.{Sweeping}
+use Rattle.run_places.specs.Given.ReservesDeclared.sweep.Sweeping.TheVariants as at
 use Rattle.run_places.specs.Given.RawMachine.{machine_replied, sweep_told, sweep_replied}
 use Rattle.run_places.specs.Given.RawDeclared.machines.asking.Reply.{Reply as MachineReply}
 use Rattle.run_places.specs.Given.RawDeclared.machines.asking.Reply.TheVariants as reply
-use Rattle.run_places.specs.Given.SchedulesDeclared.call.Call.{Call}
-use Rattle.run_places.specs.Given.SchedulesDeclared.call.Reply.{Reply}
-use Rattle.run_places.specs.Given.SchedulesDeclared.call.Reply.TheVariants.{Gives, Removes, Aborts, Decides}
-use Rattle.run_places.specs.Given.SchedulesDeclared.outcome.Outcome.{Outcome}
-use Rattle.run_places.specs.Given.SchedulesDeclared.outcome.Outcome.TheVariants as outcome
+use Rattle.run_places.specs.Given.RunsDeclared.call.Call.{Call}
+use Rattle.run_places.specs.Given.RunsDeclared.call.Reply.{Reply}
+use Rattle.run_places.specs.Given.RunsDeclared.call.Reply.TheVariants.{Gives, Removes, Aborts, Decides}
+use Rattle.run_places.specs.Given.RunsDeclared.outcome.Outcome.{Outcome}
+use Rattle.run_places.specs.Given.RunsDeclared.outcome.Outcome.TheVariants as outcome
 use Rattle.run_places.specs.Given.SchedulesAfter.{asks_on, comes_to, replied}
 use Rattle.run_places.specs.Given.SchedulesBeginning.{fresh_call, with_call}
 use Rattle.run_places.specs.Given.SchedulesMoment.{Stands, Going, Asking, Told, IsReady, UnderWay as CallThere, Moment}

@@ -3,9 +3,9 @@ use Rattle.std.specs.Prelude.{◌≡◌, ℕ, Bool, List, ◌++◌, flat_map, Op
 use Rattle.std.proofs.Common.{refl, ap, sym, subst, ◌∙◌, inl, inr}
 use Rattle.run_places.specs.Given.SeizeWorld.{with_at}
 use Rattle.run_places.specs.Given.TablesDeclared.node.Node.{Node}
-use Rattle.run_places.specs.Given.SweepsDeclared.sweep.Purpose.TheVariants.{Retains}
-use Rattle.run_places.specs.Given.SweepsDeclared.sweep.Sweeping.{Sweeping}
-use Rattle.run_places.specs.Given.SweepsDeclared.sweep.Sweeping.TheVariants as at
+use Rattle.run_places.specs.Given.ReservesDeclared.sweep.Purpose.TheVariants.{Retains}
+use Rattle.run_places.specs.Given.ReservesDeclared.sweep.Sweeping.{Sweeping}
+use Rattle.run_places.specs.Given.ReservesDeclared.sweep.Sweeping.TheVariants as at
 use Rattle.run_places.specs.Given.RawProgress.{of_outcome, of_counting}
 use Rattle.run_places.specs.Given.RawDeclared.machines.machine.Machine.{Machine}
 use Rattle.run_places.specs.Given.RawDeclared.machines.machine.Machine.TheVariants as kinds
@@ -15,11 +15,11 @@ use Rattle.run_places.specs.Given.ResizeDeclared.outcome.Outcome.{Outcome as End
 use Rattle.run_places.specs.Given.ResizeDeclared.outcome.Outcome.TheVariants as rooms
 use Rattle.run_places.specs.Given.SeizeDeclared.progress.Progress.{Progress as Counted}
 use Rattle.run_places.specs.Given.SeizeDeclared.progress.Progress.TheVariants as counts
-use Rattle.run_places.specs.Given.SchedulesDeclared.call.Call.{Call}
-use Rattle.run_places.specs.Given.SchedulesDeclared.call.Call.TheVariants as call
-use Rattle.run_places.specs.Given.SchedulesDeclared.effect.Effect.{Effect}
-use Rattle.run_places.specs.Given.SchedulesDeclared.outcome.Outcome.{Outcome}
-use Rattle.run_places.specs.Given.SchedulesDeclared.outcome.Outcome.TheVariants as outcome
+use Rattle.run_places.specs.Given.RunsDeclared.call.Call.{Call}
+use Rattle.run_places.specs.Given.RunsDeclared.call.Call.TheVariants as call
+use Rattle.run_places.specs.Given.RunsDeclared.effect.Effect.{Effect}
+use Rattle.run_places.specs.Given.RunsDeclared.outcome.Outcome.{Outcome}
+use Rattle.run_places.specs.Given.RunsDeclared.outcome.Outcome.TheVariants as outcome
 use Rattle.run_places.specs.Given.SchedulesEffects.{with_effects}
 use Rattle.run_places.specs.Given.SchedulesEntry.{acting, IfCall}
 use Rattle.run_places.specs.Given.SchedulesLinearizable.{shift_of, RemovesOnly, MayAsk, AsksRight, Linearizes}

@@ -20,13 +20,13 @@ use Rattle.run_places.specs.Given.ResizeDeclared.outcome.Outcome.{Outcome}
 use Rattle.run_places.specs.Given.ResizeDeclared.outcome.Outcome.TheVariants as outcome
 use Rattle.run_places.specs.Given.SweepsSweep.{word_found, tried, disposed, root_read, next_read, copied, plan_at}
 use Rattle.run_places.specs.Given.SweepsSweepPoints.{removes, beginning, tableless, entering, further, told, telling, at_pair, seen}
-use Rattle.run_places.specs.Given.SweepsDeclared.sweep.Purpose.{Purpose}
-use Rattle.run_places.specs.Given.SweepsDeclared.sweep.Purpose.TheVariants.{Walks, Clears, Retains}
-use Rattle.run_places.specs.Given.SweepsDeclared.sweep.Sweep.{Sweep}
-use Rattle.run_places.specs.Given.SweepsDeclared.sweep.Sweeping.{Sweeping}
-use Rattle.run_places.specs.Given.SweepsDeclared.sweep.Sweeping.TheVariants as at
-use Rattle.run_places.specs.Given.SweepsDeclared.sweep.Swept.{Swept}
-use Rattle.run_places.specs.Given.SweepsDeclared.sweep.Swept.TheVariants as ends
+use Rattle.run_places.specs.Given.ReservesDeclared.sweep.Purpose.{Purpose}
+use Rattle.run_places.specs.Given.ReservesDeclared.sweep.Purpose.TheVariants.{Walks, Clears, Retains}
+use Rattle.run_places.specs.Given.ReservesDeclared.sweep.Sweep.{Sweep}
+use Rattle.run_places.specs.Given.ReservesDeclared.sweep.Sweeping.{Sweeping}
+use Rattle.run_places.specs.Given.ReservesDeclared.sweep.Sweeping.TheVariants as at
+use Rattle.run_places.specs.Given.ReservesDeclared.sweep.Swept.{Swept}
+use Rattle.run_places.specs.Given.ReservesDeclared.sweep.Swept.TheVariants as ends
 use Rattle.run_places.specs.Given.RawMachine.{swept}
 use Rattle.run_places.specs.Given.RawDeclared.machines.machine.Machine.{Machine}
 use Rattle.run_places.specs.Given.RawDeclared.machines.machine.Machine.TheVariants as kinds
@@ -34,7 +34,7 @@ use Rattle.run_places.specs.Given.RawDeclared.machines.progress.Progress.{Progre
 use Rattle.run_places.specs.Given.RawDeclared.machines.progress.Progress.TheVariants as progress
 use Rattle.run_places.proofs.Given.RuleKeys.Always.{Always, AlwaysOf, always_if, always_plan_as}
 use Rattle.run_places.specs.Given.TellerTells.{StepsTold}
-use Rattle.run_places.specs.Given.TellerDeclared.changed.Changed.TheVariants.{Nothing}
+use Rattle.run_places.specs.Given.EffectsDeclared.changed.Changed.TheVariants.{Nothing}
 use Rattle.run_histories.proofs.Histories.Asking.{always_turned, always_told}
 use Rattle.run_places.specs.Given.ScenesHeld.{Held}
 use Rattle.run_places.specs.Given.ScenesStepping.{StepsFrom}

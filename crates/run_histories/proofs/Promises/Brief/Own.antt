@@ -37,8 +37,8 @@ use Rattle.run_places.specs.Given.CallersTogether.{CallOnKey, OnKey, ForRoom, Co
 use Rattle.run_places.proofs.Given.CallersSights.Seen.{map_seen}
 use Rattle.run_places.proofs.Given.CallersTogether.Fits.{map_in_slot}
 use Rattle.run_places.specs.Given.TellerTells.{StepsTold}
-use Rattle.run_places.specs.Given.TellerDeclared.changed.Changed.{Changed}
-use Rattle.run_places.specs.Given.TellerDeclared.changed.Changed.TheVariants as changed
+use Rattle.run_places.specs.Given.EffectsDeclared.changed.Changed.{Changed}
+use Rattle.run_places.specs.Given.EffectsDeclared.changed.Changed.TheVariants as changed
 use Rattle.run_places.proofs.Given.OthersOutcomes.{told_in}
 use Rattle.run_places.specs.Given.EffectsEffects.{effects_of}
 use Rattle.run_places.specs.Given.EffectsDeclared.acting.Acting.TheVariants as acts

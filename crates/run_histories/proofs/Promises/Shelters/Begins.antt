@@ -7,7 +7,7 @@ use Rattle.run_places.specs.Given.TablesNodes.{deferred_word}
 use Rattle.run_places.specs.Given.TablesDeclared.node.Node.{Node}
 use Rattle.run_places.specs.Given.RunsPresent.{Present, guard_of}
 use Rattle.run_places.specs.Given.RunsDeclared.holders.Guard.{Guard}
-use Rattle.run_places.specs.Given.SchedulesDeclared.call.Call.{Call}
+use Rattle.run_places.specs.Given.RunsDeclared.call.Call.{Call}
 use Rattle.run_places.specs.Given.SchedulesBeginning.{with_call}
 use Rattle.run_places.specs.Given.SchedulesMoment.{Sheltered, Moment}
 use Rattle.run_places.proofs.Given.CallersTogether.At.{at_other}

@@ -14,16 +14,16 @@ use Rattle.run_places.specs.Given.RawDeclared.machines.progress.Progress.{Progre
 use Rattle.run_places.specs.Given.RuleInWorld.{IsMapIn}
 use Rattle.run_places.proofs.Given.RuleLaws.{current_is_known}
 use Rattle.run_places.specs.Given.RunsDeclared.holders.Guard.{Guard}
-use Rattle.run_places.specs.Given.SchedulesDeclared.effect.Effect.{Effect}
-use Rattle.run_places.specs.Given.SchedulesDeclared.effect.Effect.TheVariants.{Promoted, Replaced, Removed}
-use Rattle.run_places.specs.Given.SchedulesDeclared.effect.Thing.{Thing}
-use Rattle.run_places.specs.Given.SchedulesDeclared.effect.Thing.TheVariants.{APair, ATable}
+use Rattle.run_places.specs.Given.RunsDeclared.effect.Effect.{Effect}
+use Rattle.run_places.specs.Given.RunsDeclared.effect.Effect.TheVariants.{Promoted, Replaced, Removed}
+use Rattle.run_places.specs.Given.RunsDeclared.effect.Thing.{Thing}
+use Rattle.run_places.specs.Given.RunsDeclared.effect.Thing.TheVariants.{APair, ATable}
 use Rattle.run_places.specs.Given.SchedulesEffects.{out_by, shelter, with_effect, with_effects, AtEachEffect}
 use Rattle.run_places.specs.Given.SchedulesModel.{thing_back}
 use Rattle.run_places.specs.Given.SchedulesMoment.{InMap, Moment}
 use Rattle.run_places.specs.Given.SchedulesViews.{is_in_map, first_or, first_of}
-use Rattle.run_places.specs.Given.TellerDeclared.changed.Changed.{Changed}
-use Rattle.run_places.specs.Given.TellerDeclared.changed.Changed.TheVariants as changed
+use Rattle.run_places.specs.Given.EffectsDeclared.changed.Changed.{Changed}
+use Rattle.run_places.specs.Given.EffectsDeclared.changed.Changed.TheVariants as changed
 use Rattle.run_places.specs.Given.CallersTogether.{UnderWay, OnKey, ForRoom, Counting, OverAll, CameAbout, IsOneStep}
 use Rattle.run_places.proofs.Given.CallersRows.Defers.{used_stands}
 use Rattle.run_places.proofs.Given.CallersTogether.Came.{came_reached}

@@ -15,16 +15,16 @@ use Rattle.run_places.specs.Given.TablesNodes.{deferred_word}
 use Rattle.run_places.specs.Given.TablesDeclared.node.Node.{Node}
 use Rattle.run_places.specs.Given.TablesDeclared.setting.Setting.{Setting}
 use Rattle.run_places.specs.Given.ResizeDeclared.new_map.NewMap.{NewMap}
-use Rattle.run_places.specs.Given.SchedulesDeclared.effect.Effect.{Effect}
-use Rattle.run_places.specs.Given.SchedulesDeclared.effect.Effect.TheVariants.{Asked}
-use Rattle.run_places.specs.Given.SchedulesDeclared.effect.Growth.TheVariants.{ABlock}
+use Rattle.run_places.specs.Given.RunsDeclared.effect.Effect.{Effect}
+use Rattle.run_places.specs.Given.RunsDeclared.effect.Effect.TheVariants.{Asked}
+use Rattle.run_places.specs.Given.RunsDeclared.effect.Growth.TheVariants.{ABlock}
 use Rattle.run_places.specs.Given.SchedulesEffects.{with_effects}
 use Rattle.run_places.specs.Given.SchedulesModel.{thing_back}
 use Rattle.run_places.specs.Given.SchedulesMoment.{Moment}
-use Rattle.run_places.specs.Given.TellerDeclared.changed.Changed.{Changed}
-use Rattle.run_places.specs.Given.TellerDeclared.changed.Changed.TheVariants as changed
-use Rattle.run_places.specs.Given.TellerDeclared.changed.Kind.{Kind}
-use Rattle.run_places.specs.Given.TellerDeclared.changed.Kind.TheVariants as kind
+use Rattle.run_places.specs.Given.EffectsDeclared.changed.Changed.{Changed}
+use Rattle.run_places.specs.Given.EffectsDeclared.changed.Changed.TheVariants as changed
+use Rattle.run_places.specs.Given.EffectsDeclared.changed.Kind.{Kind}
+use Rattle.run_places.specs.Given.EffectsDeclared.changed.Kind.TheVariants as kind
 use Rattle.run_places.proofs.Given.CallersRows.Defers.{used_stands}
 use Rattle.run_places.proofs.Given.CallersTogether.Came.{came_reached}
 use Rattle.run_places.specs.Given.EffectsEffects.{names_same, named, made_by, taken_by, led_to, effects_of, known_after}

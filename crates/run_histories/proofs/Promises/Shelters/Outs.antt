@@ -3,15 +3,15 @@ use Rattle.std.specs.Prelude.{◌≡◌, ℕ, Bool, true, false, List, [], ◌�
 use Rattle.std.specs.List.{AllByRecursion}
 use Rattle.std.proofs.Common.{refl, ap, ◌∙◌, subst}
 use Rattle.std.proofs.lemmas.List.Concat.{flat_map-cons}
-use Rattle.run_places.specs.Given.SchedulesDeclared.effect.Effect.{Effect}
-use Rattle.run_places.specs.Given.SchedulesDeclared.effect.Effect.TheVariants.{Asked, Promoted, Replaced, Removed, Reclaimed}
-use Rattle.run_places.specs.Given.SchedulesDeclared.effect.Growth.TheVariants.{ABucket}
-use Rattle.run_places.specs.Given.SchedulesDeclared.effect.Thing.{Thing}
+use Rattle.run_places.specs.Given.RunsDeclared.effect.Effect.{Effect}
+use Rattle.run_places.specs.Given.RunsDeclared.effect.Effect.TheVariants.{Asked, Promoted, Replaced, Removed, Reclaimed}
+use Rattle.run_places.specs.Given.RunsDeclared.effect.Growth.TheVariants.{ABucket}
+use Rattle.run_places.specs.Given.RunsDeclared.effect.Thing.{Thing}
 use Rattle.run_places.specs.Given.SchedulesEffects.{out_by, shelter, with_effect, with_effects}
 use Rattle.run_places.specs.Given.SchedulesModel.{thing_back}
 use Rattle.run_places.specs.Given.SchedulesMoment.{Sheltered, Moment}
-use Rattle.run_places.specs.Given.TellerDeclared.changed.Changed.{Changed}
-use Rattle.run_places.specs.Given.TellerDeclared.changed.Changed.TheVariants as changed
+use Rattle.run_places.specs.Given.EffectsDeclared.changed.Changed.{Changed}
+use Rattle.run_places.specs.Given.EffectsDeclared.changed.Changed.TheVariants as changed
 use Rattle.run_places.specs.Given.EffectsEffects.{taken_by, named, effects_of}
 use Rattle.run_places.specs.Given.EffectsKnown.{Known}
 use Rattle.run_places.specs.Given.EffectsDeclared.acting.Acting.TheVariants.{Call}

@@ -11,16 +11,16 @@ use Rattle.run_places.proofs.Given.SeizeAloneHistories.Uses.{inside_kept}
 use Rattle.run_places.specs.Given.TablesNodes.{deferred_word}
 use Rattle.run_places.specs.Given.TablesDeclared.node.Node.{Node}
 use Rattle.run_places.specs.Given.RunsPresent.{Present}
-use Rattle.run_places.specs.Given.SchedulesDeclared.effect.Effect.TheVariants.{Asked}
-use Rattle.run_places.specs.Given.SchedulesDeclared.effect.Growth.TheVariants.{ABucket}
-use Rattle.run_places.specs.Given.SchedulesDeclared.effect.Table.{Table}
-use Rattle.run_places.specs.Given.SchedulesDeclared.effect.Thing.{Thing}
-use Rattle.run_places.specs.Given.SchedulesDeclared.effect.Thing.TheVariants.{APair, ATable}
+use Rattle.run_places.specs.Given.RunsDeclared.effect.Effect.TheVariants.{Asked}
+use Rattle.run_places.specs.Given.RunsDeclared.effect.Growth.TheVariants.{ABucket}
+use Rattle.run_places.specs.Given.RunsDeclared.effect.Table.{Table}
+use Rattle.run_places.specs.Given.RunsDeclared.effect.Thing.{Thing}
+use Rattle.run_places.specs.Given.RunsDeclared.effect.Thing.TheVariants.{APair, ATable}
 use Rattle.run_places.specs.Given.SchedulesLists.{is_in}
 use Rattle.run_places.specs.Given.SchedulesMoment.{Sheltered, Moment}
 use Rattle.run_places.specs.Given.SchedulesThings.{same_table, same_thing}
-use Rattle.run_places.specs.Given.TellerDeclared.changed.Changed.{Changed}
-use Rattle.run_places.specs.Given.TellerDeclared.changed.Changed.TheVariants as changed
+use Rattle.run_places.specs.Given.EffectsDeclared.changed.Changed.{Changed}
+use Rattle.run_places.specs.Given.EffectsDeclared.changed.Changed.TheVariants as changed
 use Rattle.run_places.proofs.Given.CallersTogether.Came.{came_reached}
 use Rattle.run_places.specs.Given.EffectsEffects.{names_same, taken_by, effects_of, known_after}
 use Rattle.run_places.specs.Given.EffectsKnown.{Known}

@@ -20,12 +20,12 @@ use Rattle.run_logged.specs.Given.ResizeDeclared.outcome.Outcome.{Outcome}
 use Rattle.run_logged.specs.Given.ResizeDeclared.outcome.Outcome.TheVariants as outcome
 use Rattle.papaya_raw.specs.Given.SweepsSweep.{copied, disposed, next_read, plan_at, root_read, sweep_plan, tried, word_found}
 use Rattle.papaya_raw.specs.Given.SweepsSweepPoints.{at_end, at_pair, beginning, entering, further, next_at, removes, reply_at, seen, tableless}
-use Rattle.papaya_raw.specs.Given.SweepsDeclared.sweep.Purpose.{Purpose}
-use Rattle.papaya_raw.specs.Given.SweepsDeclared.sweep.Purpose.TheVariants as purpose
-use Rattle.papaya_raw.specs.Given.SweepsDeclared.sweep.Sweep.{Sweep}
-use Rattle.papaya_raw.specs.Given.SweepsDeclared.sweep.Sweeping.{Sweeping}
-use Rattle.papaya_raw.specs.Given.SweepsDeclared.sweep.Sweeping.TheVariants as at
-use Rattle.papaya_raw.specs.Given.SweepsDeclared.sweep.Swept.{Swept}
+use Rattle.papaya_raw.specs.Given.ReservesDeclared.sweep.Purpose.{Purpose}
+use Rattle.papaya_raw.specs.Given.ReservesDeclared.sweep.Purpose.TheVariants as purpose
+use Rattle.papaya_raw.specs.Given.ReservesDeclared.sweep.Sweep.{Sweep}
+use Rattle.papaya_raw.specs.Given.ReservesDeclared.sweep.Sweeping.{Sweeping}
+use Rattle.papaya_raw.specs.Given.ReservesDeclared.sweep.Sweeping.TheVariants as at
+use Rattle.papaya_raw.specs.Given.ReservesDeclared.sweep.Swept.{Swept}
 use Rattle.papaya_raw.specs.Machine.{sweep_asked, sweep_replied, sweep_told}
 use Rattle.papaya_raw.specs.declared.machines.asking.Reply.{Reply}
 use Rattle.papaya_raw.specs.declared.machines.asking.Reply.TheVariants as replies

@@ -1,6 +1,6 @@
 -- What is promised of a memory that tells, clause by clause.
 use Rattle.std.proofs.Common.{rules}
-use Rattle.run_effects.specs.Teller.Tells.{MayWithTeller, RefusesWithTeller, StepsWithTeller}
+use Rattle.run_effects.specs.ReportingMemory.Tells.{MayWithTeller, RefusesWithTeller, StepsWithTeller}
 
 module _ (K V R : Type 0) where
   pub may_with_teller : MayWithTeller K V R

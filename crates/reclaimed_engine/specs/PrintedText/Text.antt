@@ -16,7 +16,7 @@ use Rattle.run_schedules.specs.declared.shapes.TableShape.{TableShape}
 use Rattle.run_schedules.specs.declared.ended.Living.{Living}
 use Rattle.run_schedules.specs.declared.ended.Pair.{Pair}
 use Rattle.seize_words.specs.OneMemory.Fault.{number_of, name_of}
-use Rattle.reclaimed_engine.specs.Text.Ascending.{ascending}
+use Rattle.reclaimed_engine.specs.PrintedText.Ascending.{ascending}
 use Rattle.run_schedules.specs.Schedules.Runs.{pair_of}
 
 -- a pair and a run of a script: its keys are numbers, and its values words

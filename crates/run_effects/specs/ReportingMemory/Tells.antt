@@ -8,7 +8,7 @@ use Rattle.run_effects.specs.Tells.Seen.{Seen, Unseen, Wrote, MadeOne, HadNoRoom
 use Rattle.run_effects.specs.declared.changed.Changed.{Changed}
 use Rattle.run_effects.specs.declared.changed.Changed.TheVariants as changed
 use Rattle.run_effects.specs.declared.teller.Teller.{Teller}
-use Rattle.run_effects.specs.Teller.Changed.{is_made, kind_of, made_as, MadeSo, RefusesSo}
+use Rattle.run_effects.specs.ReportingMemory.Changed.{is_made, kind_of, made_as, MadeSo, RefusesSo}
 
 module _ {K V : Type 0} where
   -- what is told of what is seen: what a block holds by its kind alone, and of a value that was rewritten nothing; but a bucket that was asked for, too
