@@ -38,8 +38,8 @@ impl<T: Defers> Pass<T> {
         self.number
     }
 
-    /// Looks which word is at a root, under a caller of the same memory whose section is open: the value of the block to which it links is lent for as long as the
-    /// caller is borrowed.
+    /// Looks which word is at a root, under a caller of the same memory whose section is open: the value of the block to which it links is lent for as long as
+    /// the caller is borrowed.
     pub fn protect<'g, 'a>(
         &mut self,
         caller: &'g Caller<'a, T>,

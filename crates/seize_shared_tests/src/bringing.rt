@@ -11,8 +11,8 @@ use std::test::Fail;
 use std::thread;
 use std::thread::Threads;
 
-/// Puts a block at the root; looks at the value that was there, and retires it, without a section. Tells whether it was put, and what was there had not been dropped,
-/// and was retired.
+/// Puts a block at the root; looks at the value that was there, and retires it, without a section. Tells whether it was put, and what was there had not been
+/// dropped, and was retired.
 pub fn publishes(registration: &mut Registration<'_, Counted>, owned: Owned<'_, Counted>) -> bool
     requires { registration.old.stay.caller.blocks.now ≡ owned.caller.blocks.now }
     ensures { registration.new.stay.caller.blocks ≡ registration.old.stay.caller.blocks }

@@ -1,4 +1,5 @@
-//! Two threads under one guard, each by a pass of its own, mark the word at a root: who has marked it first is alone to replace it, so no other word is there then.
+//! Two threads under one guard, each by a pass of its own, mark the word at a root: who has marked it first is alone to replace it, so no other word is there
+//! then.
 ghost use Rattle.std.specs.Prelude.{◌<◌, ◌≡◌};
 
 use crate::{Counted, Table, all_are, dropped, table};
@@ -49,8 +50,8 @@ fn replaces(
     }
 }
 
-/// Marks the word at the root, and replaces it where nobody has marked it before, and tells whether it has. There is no answer where the value that it has seen had been
-/// dropped, or another word was there as it replaced it.
+/// Marks the word at the root, and replaces it where nobody has marked it before, and tells whether it has. There is no answer where the value that it has seen
+/// had been dropped, or another word was there as it replaced it.
 fn marks(
     guard: &OwnedGuard<'_, Counted>,
     pass: &mut Pass<Counted>,

@@ -1,5 +1,5 @@
-//! Two threads give a block that each has made one value after the other, and then put it at the root, beside one who takes away what is there: each value that is
-//! replaced comes back, and each one is dropped once.
+//! Two threads give a block that each has made one value after the other, and then put it at the root, beside one who takes away what is there: each value that
+//! is replaced comes back, and each one is dropped once.
 use crate::bringing::{publishes, sweeps};
 use crate::crowd::TIMES;
 use crate::{Counted, Table, all_are, dropped, opened, table};
@@ -10,8 +10,8 @@ use std::test::Fail;
 use std::thread;
 use std::thread::Threads;
 
-/// Gives a block the values of so many places, one after the other, from the one on that comes next. Tells whether each value that came back was the one that was given before, and
-/// had not been dropped, and the new one was there then.
+/// Gives a block the values of so many places, one after the other, from the one on that comes next. Tells whether each value that came back was the one that
+/// was given before, and had not been dropped, and the new one was there then.
 fn rewrites(owned: &mut Owned<'_, Counted>, drops: &Table, from: usize) -> bool
     ensures { owned.new.caller.blocks ≡ owned.old.caller.blocks }
 {

@@ -1,6 +1,6 @@
-//! Makes each call on a memory that threads share that asks for memory. Where it is refused, nothing has changed, and it is made again, and done then. Then it opens and ends a
-//! thousand sections, in each of which a value is retired, and none of that asks for memory. The gate has this program run once for each request for memory, with that one refused: each time
-//! it prints the same; and there are fewer requests than sections.
+//! Makes each call on a memory that threads share that asks for memory. Where it is refused, nothing has changed, and it is made again, and done then. Then it
+//! opens and ends a thousand sections, in each of which a value is retired: none of that asks for memory. The gate has this program run once for each request
+//! for memory, with that one refused: each time it prints the same; and there are fewer requests than sections.
 #![tactic(auto)]
 
 ghost use Rattle.std.specs.Prelude.{◌≡◌, None, Some, IfOk};
@@ -90,7 +90,8 @@ fn sees(guard: &mut LocalGuard<'_, '_, Listed>) -> u64 {
     }
 }
 
-/// Puts a number in the place of the one before, whose value has words of its own; tells whether it is there. Where it came back, the one before was there still.
+/// Puts a number in the place of the one before, whose value has words of its own; tells whether it is there. Where it came back, the one before was there
+/// still.
 fn puts(guard: &mut LocalGuard<'_, '_, Listed>, number: u64) -> bool {
     match guard.put(0, Listed { number, field: 2 }) {
         Ok(()) => sees(guard) == number,

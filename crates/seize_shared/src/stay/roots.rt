@@ -61,7 +61,8 @@ impl<'a, T: Defers + Drop> Stay<'a, T> {
         }
     }
 
-    /// Looks which word is at a root, where its section is open and there is such a root: that holds the block to which it links. What was seen before is not known any more.
+    /// Looks which word is at a root, where its section is open and there is such a root: that holds the block to which it links. What was seen before is not
+    /// known any more.
     pub(crate) fn protects(&mut self, root: u64) -> Option<Tagged>
         ensures home { self.new.caller.blocks ≡ self.old.caller.blocks }
         ensures slot { self.new.slot ≡ self.old.slot }
@@ -80,8 +81,8 @@ impl<'a, T: Defers + Drop> Stay<'a, T> {
         Some(Tagged::of(word))
     }
 
-    /// A pass looks which word is at a root, where its section is open and there is such a root: the value of the block to which that links is lent for as long as
-    /// this is borrowed.
+    /// A pass looks which word is at a root, where its section is open and there is such a root: the value of the block to which that links is lent for as long
+    /// as this is borrowed.
     pub(crate) fn protects_by<'g>(
         &'g self,
         root: u64,
@@ -102,8 +103,8 @@ impl<'a, T: Defers + Drop> Stay<'a, T> {
         Some(pass.protect(&self.caller, self.slot, root))
     }
 
-    /// A pass sets marks of the word at a root, of which three bits count, where its section is open and there is such a root, and answers which word was there: the
-    /// value of the block to which that links is lent for as long as this is borrowed.
+    /// A pass sets marks of the word at a root, of which three bits count, where its section is open and there is such a root, and answers which word was
+    /// there: the value of the block to which that links is lent for as long as this is borrowed.
     pub(crate) fn marks_by<'g>(
         &'g self,
         root: u64,

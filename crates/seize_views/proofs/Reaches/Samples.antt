@@ -1,5 +1,5 @@
--- A wrong plan, stepped in a world of three blocks, and the law's clause that is false of what it leaves: a settling counts a block into its batch that it has not put
--- behind the last one.
+-- A wrong plan, stepped in a world of three blocks, and the law's clause that is false of what it leaves: a settling counts a block into its batch that it has
+-- not put behind the last one.
 use Rattle.std.specs.Prelude.{Option, Some, None, ◌&&◌, slice_get, slice_index_or}
 use Rattle.std.proofs.Common.{◌≡◌, ℕ, zero, suc, Bool, true, false, List, [], ◌∷◌, ◌++◌, ◌⊎◌, inl, inr, refl, arith, subst, sym, ap, ◌∙◌}
 use Rattle.seize_words.specs.OneMemory.Word.{block_in, link_to}

@@ -20,8 +20,8 @@ pub fn rows_go_on<T: Defers>()
     ensures looked { LookedAreShown T T.defers }
 {}
 
-/// Within a section a block may be made, taken away by its maker, put at a root, whatever is there or only in place of a word, seen there, marked there, and taken
-/// from there, which may be done outside of a section, too; and a block that is known may be looked at.
+/// Within a section a block may be made, taken away by its maker, put at a root, whatever is there or only in place of a word, seen there, marked there, and
+/// taken from there, which may be done outside of a section, too; and a block that is known may be looked at.
 pub fn sections_go_on<T: Defers>()
     ensures made { BlocksAreMade T T.defers }
     ensures taken { MadeAreTaken T T.defers }
@@ -72,8 +72,8 @@ pub fn sections_are_watched<T: Defers>()
     ensures shown { WatchedAreShown T T.defers }
 {}
 
-/// A seat may begin to lean on one that has a section open, and is lent for that, look at roots, mark them, and end; what it has seen that one keeps, and what is
-/// kept is there.
+/// A seat may begin to lean on one that has a section open, and is lent for that, look at roots, mark them, and end; what it has seen that one keeps, and what
+/// is kept is there.
 pub fn sections_are_leaned_on<T: Defers>()
     ensures begin { LeaningsBegin T T.defers }
     ensures see { LeaningsSee T T.defers }
