@@ -1,5 +1,5 @@
--- The collector's rule for a memory that threads share: what each seat knows of the row that it has under way, of its slot and of a block, and what it has done
--- last; and what is promised of it.
+-- The collector's rule for a memory that threads share: what each seat knows of the row that it has under way, of its slot and of a block, and what it has done last; and what
+-- is promised of it.
 pub mod Aside
 pub mod Lists
 pub mod Reclaims
