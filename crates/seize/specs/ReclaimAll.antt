@@ -16,6 +16,10 @@ use Rattle.seize.specs.Settle.{flushing, settle_plan}
 use Rattle.seize.specs.Leave.{leaving, leave_plan}
 use Rattle.seize.specs.Enter.{unregister_plan}
 
+-- no value says that something is left over at its root
+abbrev pub none_left : {T : Type 0} → T → Bool
+none_left value = false
+
 -- all that waits is to be reclaimed, with a batch size and a number of roots
 abbrev pub reclaiming_all : ℕ → ℕ → ReclaimAll
 reclaiming_all size roots = record { batch_size = size; roots = roots; slots = 0; again = false; stands = at.Heads 0 }

@@ -13,6 +13,6 @@ pub use defer::{Defer, Deferring};
 pub use enter::{Enter, Unregister};
 pub use leave::{Leave, Leaving};
 pub use links::{CompareExchange, Copy, Mark, Protect, Swap};
-pub use reclaim_all::{LeftOver, ReclaimAll, Reclaiming};
+pub use reclaim_all::{LeftOver, Leftovers, NoneLeft, ReclaimAll, Reclaiming};
 pub use register::{Register, Registering, needed_bucket};
 pub use settle::{Defers, Settle, Settled, Settling};

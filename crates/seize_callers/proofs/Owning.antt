@@ -1,26 +1,27 @@
 -- What a seat without a slot may do with the block that it has, and what it knows then.
 use Rattle.std.specs.Prelude.{◌<◌, Option, Some}
 use Rattle.std.proofs.Common.{◌≡◌, ℕ, sym, subst, ap, ◌∙◌}
-use Rattle.seize_words.specs.OneMemory.Op.{Op, Swap, Exchange, Make, Take, Found, Taken}
+use Rattle.seize_words.specs.OneMemory.Op.{Op, Swap, Exchange, Make, Take, Rewrite, Found, Taken}
 use Rattle.seize_words.specs.OneMemory.Word.{block_in}
 use Rattle.seize_words.specs.declared.at.At.TheVariants.{Root}
 use Rattle.seize.specs.World.{HasListWord}
 use Rattle.seize_views.proofs.Given.SeizeActsAnswers.{same_some}
 use Rattle.seize_seats.specs.Seats.Lendings.{Shown, IsValueOf}
-use Rattle.seize_seats.specs.Seats.State.{Allows, Meets}
+use Rattle.seize_seats.specs.Seats.State.{Allows, Owns, Meets}
 use Rattle.seize_views.specs.Views.Begun.{Hands}
 use Rattle.seize_views.specs.Views.Promises.{IsLooking, IsTaker}
 use Rattle.seize_views.specs.Views.Rows.{Holds}
-use Rattle.seize_views.specs.Views.Notes.{NotedHolds, NotedKeeps, NotedHands, noted_told}
+use Rattle.seize_views.specs.Views.Notes.{deed, NotedHolds, NotedKeeps, NotedHands, noted_told}
 use Rattle.seize_callers.specs.Owning.{brought_by, borne_by}
 use Rattle.seize_views.specs.Views.Told.{alone_with, cut_in, told}
 use Rattle.seize_views.specs.declared.view.Noted.{Noted}
+use Rattle.seize_views.specs.declared.view.Deed.{Deed}
 use Rattle.seize_views.specs.declared.view.View.{View}
 use Rattle.seize_views.specs.declared.view.View.TheVariants.{Rests, Registers, Outside, Owes, Enters, Inside, Settles, Leaves, Left, Frees, Brings, Bears, Watches, Under, Busy}
 use Rattle.seize_views.specs.declared.view.Has.{Has}
 use Rattle.seize_views.specs.declared.view.Has.TheVariants.{Nothing, Made, Seen, Both, Cut}
 use Rattle.seize_views.specs.declared.view.Fixed.{Fixed}
-use Rattle.seize_views.proofs.Views.Blocks.{own_are_made, own_are_taken, own_are_shown, borne_are_shown}
+use Rattle.seize_views.proofs.Views.Blocks.{own_are_made, own_are_taken, own_are_rewritten, own_are_shown, borne_are_shown}
 use Rattle.seize_callers.proofs.Calls.{by_view}
 use Rattle.seize_views.proofs.Views.Notes.{looks_are_noted, meetings_are_noted}
 use Rattle.seize_views.proofs.Views.Handing.{borne_are_handed_on}
@@ -72,6 +73,16 @@ module _ {T : Type 0} (defers : T → Option ℕ) (fixed : Fixed) (id : ℕ) (v 
   pub may_take_own : (b : ℕ) → brought_by v.knows ≡ Some b → MayMake (Take b)
   may_take_own b e = let k = brings b v.knows e in by_view defers fixed id v (Brings b k.0) (Take b) k.1 tt (own_are_taken T defers b k.0 fixed id)
 
+  -- it has the block to itself, so it may give it another value
+
+  pub owns_own : (b : ℕ) → brought_by v.knows ≡ Some b → Owns (NotedHolds defers fixed) NotedKeeps id v b
+  owns_own b e s h at = let k = may_take_own b e s h at in (k.0, λ out m took. (let g = k.1 out m took in (g.0, g.1, g.2, g.3, tt)))
+
+  pub may_rewrite_own : (b : ℕ) (y : T) → brought_by v.knows ≡ Some b → ((x : T) → v.knows ≡ Brings b x → defers y ≡ defers x) → MayMake (Rewrite b y)
+  may_rewrite_own b y e list =
+      let k = brings b v.knows e in
+      by_view defers fixed id v (Brings b k.0) (Rewrite b y) k.1 tt (own_are_rewritten T defers b k.0 y (list k.0 k.1) fixed id)
+
   pub may_link_own : (b r word : ℕ) → brought_by v.knows ≡ Some b → r < fixed.roots → block_in word ≡ b → MayMake (Swap (Root r) word)
   may_link_own b r word e lt names =
       let k = brings b v.knows e in by_view defers fixed id v (Brings b k.0) (Swap (Root r) word) k.1 tt (own_are_linked T defers b k.0 r word fixed id names lt)
@@ -110,10 +121,23 @@ module _ {T : Type 0} (defers : T → Option ℕ) (v w : View T) where
   own_rests_told b value e so =
       let k = brings b v e in let t = subst (λ (x : View T). told defers x (Take b) (Taken value) w) k.1 so in t.2 ∙ ap alone_with t.1.1
 
+  -- what was given another value has that one
+
+  pub own_rewritten_told : (b : ℕ) (y value : T) → brought_by v ≡ Some b → told defers v (Rewrite b y) (Taken value) w → w ≡ Brings b y
+  own_rewritten_told b y value e so =
+      let k = brings b v e in let t = subst (λ (x : View T). told defers x (Rewrite b y) (Taken value) w) k.1 so in t.2 ∙ ap alone_with t.1.1
+
+  pub own_was_told : (b : ℕ) (x y value : T) → v ≡ Brings b x → told defers v (Rewrite b y) (Taken value) w → value ≡ x
+  own_was_told b x y value is so = (subst (λ (u : View T). told defers u (Rewrite b y) (Taken value) w) is so).1.0
+
   pub own_linked_told : (b r word old : ℕ) → brought_by v ≡ Some b → told defers v (Swap (Root r) word) (Found old) w → w ≡ alone_with (cut_in old)
   own_linked_told b r word old e so =
       let k = brings b v e in
       let t = subst (λ (x : View T). told defers x (Swap (Root r) word) (Found old) w) k.1 so in t.2 ∙ ap alone_with t.1
+
+-- and nothing is done at a root
+pub own_did : {T : Type 0} (v : View T) (b : ℕ) (did d : Deed T) (y value : T) → brought_by v ≡ Some b → d ≡ deed v did (Rewrite b y) (Taken value) → d ≡ did
+own_did {T} v b did d y value e so = let k = brings b v e in so ∙ ap (λ (u : View T). deed u did (Rewrite b y) (Taken value)) k.1
 
 module _ {T : Type 0} (fixed : Fixed) (v u v2 u2 : View T) (slot b : ℕ) where
   -- who took it over owes it, or has it in its hand

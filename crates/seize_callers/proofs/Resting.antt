@@ -1,5 +1,5 @@
 -- Who has come to rest.
-use Rattle.std.specs.Prelude.{Result, Ok, Err, IfOk, IfErr}
+use Rattle.std.specs.Prelude.{◌<◌, Result, Ok, Err, IfOk, IfErr}
 use Rattle.std.proofs.Common.{◌≡◌, ℕ, sym, subst}
 use Rattle.seize_views.specs.Views.Begun.{Hands}
 use Rattle.seize_views.specs.Views.Promises.{IsTaker}
@@ -14,8 +14,9 @@ module _ {T : Type 0} where
   at_rest w v e rests = subst IsAtRest (sym e) rests
 
   -- who has looked for a slot has one, or none
-  pub registered : {E : Type 0} (w : View T) (answer : Result ℕ E) → IfOk answer (λ slot. w ≡ Outside slot) × IfErr answer (λ fault. w ≡ Rests) → IsAtRest w
-  registered w (Ok slot) is = at_rest w (Outside slot) is.0 tt
+  pub registered : {E : Type 0} (w : View T) (answer : Result ℕ E) → IfOk answer (λ slot. (w ≡ Outside slot) × (slot < 65536)) × IfErr answer (λ fault. w ≡ Rests)
+      → IsAtRest w
+  registered w (Ok slot) is = at_rest w (Outside slot) is.0.0 tt
   registered w (Err fault) is = at_rest w Rests is.1 tt
 
   -- who hands a block on, and who takes it over

@@ -82,6 +82,7 @@ impl<'a, T: Defers, C: Content<T>> Caller<'a, T, C> {
     pub fn register(&mut self) -> Result<u64, Fault>
         requires rests { (C.notes self.old.seat.view).knows ≡ Rests }
         ensures taken { IfOk result (λ slot. (C.notes self.new.seat.view).knows ≡ Outside slot) }
+        ensures few { IfOk result (λ slot. slot < 65536) }
         ensures refused { IfErr result (λ fault. (C.notes self.new.seat.view).knows ≡ Rests) }
         ensures blocks { self.new.blocks ≡ self.old.blocks }
         ensures beside { C.beside self.new.seat.view ≡ C.beside self.old.seat.view }

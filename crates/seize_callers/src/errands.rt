@@ -24,7 +24,7 @@ impl<T: Defers, C: Content<T>> Errand<T, C> for Registers {
     ghost asks = { λ s fixed v. (fixed.batch_size ≡ s.batch_size) × ((C.notes v).knows ≡ Rests) };
 
     ghost did = { λ s fixed v answer w. IsDone C.notes C.beside v w
-        (λ n. IfOk answer (λ slot. n.knows ≡ Outside slot) × IfErr answer (λ fault. n.knows ≡ Rests)) };
+        (λ n. IfOk answer (λ slot. (n.knows ≡ Outside slot) × (slot < 65536)) × IfErr answer (λ fault. n.knows ≡ Rests)) };
 
     fn run(self, blocks: &Blocks<T, C>, seat: &mut Seat<T, C>) -> Result<u64, Fault> {
         let mut within = Within::new(blocks, self.batch_size, seat);

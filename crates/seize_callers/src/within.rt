@@ -100,6 +100,7 @@ impl<'a, T: Defers, C: Content<T>> Within<'a, T, C> {
     pub(crate) fn register(&mut self) -> Result<u64, Fault>
         requires rests { (C.notes self.old.seat.now.view).knows ≡ Rests }
         ensures taken { IfOk result (λ slot. (C.notes self.new.seat.now.view).knows ≡ Outside slot) }
+        ensures few { IfOk result (λ slot. slot < 65536) }
         ensures refused { IfErr result (λ fault. (C.notes self.new.seat.now.view).knows ≡ Rests) }
         ensures same { kept self.new.blocks self.new.seat.ghost_name self.new.seat.now.id self.new.seat.now.away
             ≡ kept self.old.blocks self.old.seat.ghost_name self.old.seat.now.id self.old.seat.now.away }

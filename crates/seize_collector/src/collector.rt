@@ -11,7 +11,7 @@ ghost use Rattle.seize_shared.specs.OnThreads.Refused.{HasNoSlot};
 ghost use Rattle.seize_collector.specs.Collectors.Made.{IsMade};
 
 use crate::reclaim_all;
-use seize::rows::{Defers, LeftOver};
+use seize::rows::Defers;
 use seize::{At, Collector as Setting, Fault, IdSource};
 use seize_blocks::Home;
 use seize_shared::{Content, Drops, Fixed, OfRows, OwnedGuard, Receiver, Registration, Shared};
@@ -143,7 +143,7 @@ impl<T: Defers + Drop, C: Content<T>, R: Receiver<T>> Collector<T, C, R> {
     }
 }
 
-impl<T: Defers + LeftOver + Drop, R: Receiver<T>> Collector<T, OfRows, R> {
+impl<T: Defers + Drop, R: Receiver<T>> Collector<T, OfRows, R> {
     /// Reclaims everything that waits: nobody else has the collector meanwhile. A slot that somebody has forgotten leaves, each batch is flushed, and then every slot
     /// is free. Values that are reclaimed are dropped. What stands at roots stays there. The same memory begins another lifetime: until it is lent again nothing
     /// waits in it.

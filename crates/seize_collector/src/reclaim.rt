@@ -12,12 +12,12 @@ ghost use Rattle.seize_collector.specs.Empties.Emptying.{IsUnderWay};
 use crate::sole::Sole;
 use crate::{OfOne, one_acts_alone};
 use core::mem::replace_with;
-use seize::rows::{Defers, LeftOver};
+use seize::rows::Defers;
 use seize_blocks::{Blocks, Home, Seat};
 use seize_views::{Fixed, OfRows};
 
 /// Reclaims all that waits, by a seat that has just come and has the memory to itself. It answers the seat.
-fn acts<T: Defers + LeftOver + Drop>(
+fn acts<T: Defers + Drop>(
     blocks: &Blocks<T, OfOne>,
     seat: Seat<T, OfOne>,
     batch_size: u64,
@@ -44,10 +44,7 @@ fn acts<T: Defers + LeftOver + Drop>(
 }
 
 /// The same of the whole memory, which goes under a rule of its own for that, and back.
-fn emptied<T: Defers + LeftOver + Drop>(
-    home: Home<T, OfRows>,
-    fixed: &Fixed,
-) -> (Home<T, OfRows>, ())
+fn emptied<T: Defers + Drop>(home: Home<T, OfRows>, fixed: &Fixed) -> (Home<T, OfRows>, ())
     requires { home.blocks.words.fixed ≡ fixed.now }
     ensures fixed { result.0.blocks.words.fixed ≡ fixed.now }
     ensures same { (result.0.blocks.words.words ≡ home.blocks.words.words) × IsLike result.0.blocks.words.id home.blocks.words.id }
@@ -62,7 +59,7 @@ fn emptied<T: Defers + LeftOver + Drop>(
 /// Reclaims everything that waits: nobody else has the memory meanwhile. A slot that somebody has forgotten leaves, each batch is flushed, and then every slot is free.
 /// Values that are reclaimed are dropped. What stands at roots stays there. What is chosen is what was chosen as the memory was opened. The same memory begins
 /// another lifetime: until it is lent again nothing waits in it.
-pub fn reclaim_all<T: Defers + LeftOver + Drop>(home: &mut Home<T, OfRows>, fixed: &Fixed)
+pub fn reclaim_all<T: Defers + Drop>(home: &mut Home<T, OfRows>, fixed: &Fixed)
     requires { home.old.blocks.words.fixed ≡ fixed.now }
     ensures fixed { home.new.blocks.words.fixed ≡ fixed.now }
     ensures same { (home.new.blocks.words.words ≡ home.old.blocks.words.words) × IsLike home.new.blocks.words.id home.old.blocks.words.id }

@@ -1,6 +1,6 @@
 //! The rule while one seat alone acts.
 use crate::alone::Alone;
-use seize::rows::{Defers, LeftOver};
+use seize::rows::Defers;
 use seize_blocks::{Rule, Turn};
 use seize_views::Fixed;
 use std::marker::PhantomData;
@@ -8,7 +8,8 @@ use std::marker::PhantomData;
 /// One seat has the memory to itself: it takes a slot, so that the slots have their words, and then reclaims all that waits.
 pub struct OfOne;
 
-impl<T: Defers + LeftOver> Rule<T> for OfOne {
+impl<T: Defers> Rule<T> for OfOne {
+    ghost use Rattle.seize.specs.ReclaimAll.{none_left};
     ghost use Rattle.seize.specs.World.{World};
     ghost use Rattle.seize_collector.specs.Renews.Rule.{KeepsNone};
     ghost use Rattle.seize_collector.specs.Renews.One.{HoldsOne, one_told, one_first};
@@ -19,11 +20,11 @@ impl<T: Defers + LeftOver> Rule<T> for OfOne {
 
     ghost World = { World T };
 
-    ghost holds = { HoldsOne T.defers T.left_over };
+    ghost holds = { HoldsOne T.defers none_left };
 
     ghost keeps = { KeepsNone };
 
-    ghost then = { one_told T.defers T.left_over };
+    ghost then = { one_told T.defers none_left };
 
     ghost newcomer = { one_first };
 
@@ -43,8 +44,9 @@ impl<T: Defers + LeftOver> Rule<T> for OfOne {
 /// The turn of a step of its machine that makes no operation.
 pub struct Passing<T>(PhantomData<T>);
 
-impl<T: Defers + LeftOver> Turn<Fixed, Alone<T>> for Passing<T> {
+impl<T: Defers> Turn<Fixed, Alone<T>> for Passing<T> {
+    ghost use Rattle.seize.specs.ReclaimAll.{none_left};
     ghost use Rattle.seize_collector.specs.Renews.One.{Passes};
 
-    ghost to = { λ _. Passes T.defers T.left_over };
+    ghost to = { λ _. Passes T.defers none_left };
 }

@@ -4,6 +4,7 @@ ghost use Rattle.seize.specs.declared.states.TheConstants.{LAST_SLOT};
 ghost use Rattle.seize.specs.declared.rows.reclaim_all.ReclaimAll.{ReclaimAll};
 ghost use Rattle.seize.specs.declared.rows.reclaim_all.Reclaiming.TheVariants.{Over};
 ghost use Rattle.seize.specs.declared.rows.register.Registering.TheVariants.{Begin, Look, Take};
+ghost use Rattle.seize.specs.ReclaimAll.{none_left};
 ghost use Rattle.seize_views.specs.Views.Begun.{seeker_at};
 ghost use Rattle.seize_collector.specs.Renews.One.{Passes};
 ghost use Rattle.seize_collector.specs.Renews.Rule.{all_of, over_of};
@@ -11,9 +12,8 @@ ghost use Rattle.seize_collector.specs.declared.alone.Alone.TheVariants.{Registe
 ghost use Rattle.seize_collector.specs.Empties.Emptying.{IsUnderWay, Seeks, leave_passes, settle_passes, passes, left_of};
 
 use crate::{OfOne, Passing, one_acts_alone};
-use seize::Machine;
 use seize::rows::{
-    Defers, Leave, Leaving, LeftOver, ReclaimAll, Reclaiming, Settle, Settled, Settling,
+    Defers, Leave, Leaving, NoneLeft, ReclaimAll, Reclaiming, Settle, Settled, Settling,
     needed_bucket,
 };
 use seize::states::{FREE, HEAD, IDLE, LAST_SLOT, NEVER};
@@ -23,7 +23,7 @@ use seize_words::{At, Fault, Look, Memory};
 mod memory;
 
 /// The one who has the memory to himself, with his seat. It is a memory for the machines that he steps.
-pub(crate) struct Sole<'a, T: Defers + LeftOver> {
+pub(crate) struct Sole<'a, T: Defers> {
     pub(crate) blocks: &'a Blocks<T, OfOne>,
     pub(crate) seat: Seat<T, OfOne>,
     pub(crate) near: u64,
@@ -68,7 +68,7 @@ fn passes(row: &ReclaimAll) -> bool
     }
 }
 
-impl<'a, T: Defers + LeftOver> Sole<'a, T> {
+impl<'a, T: Defers> Sole<'a, T> {
     /// Begins to look for a slot, and tells whether slots have words.
     fn begins(&mut self) -> bool
         requires begins { self.old.seat.view ≡ Registers (seeker_at 0 Begin) self.old.blocks.now.words.fixed.batch_size }
@@ -135,7 +135,7 @@ impl<'a, T: Defers + LeftOver> Sole<'a, T> {
         requires under { IsUnderWay row.now self.old.seat.view }
         requires not { row.now.stands ≢ Over }
         requires passes { passes row.now ≡ true }
-        ensures passed { Passes T.defers T.left_over self.old.seat.view self.new.seat.view }
+        ensures passed { Passes T.defers none_left self.old.seat.view self.new.seat.view }
         ensures blocks { self.new.blocks ≡ self.old.blocks }
     {
         one_acts_alone::<T>();
@@ -152,7 +152,7 @@ impl<'a, T: Defers + LeftOver> Sole<'a, T> {
         ensures blocks { self.new.blocks ≡ self.old.blocks }
     {
         self.passes_by(row);
-        match row.step(self) {
+        match row.step_by::<T, NoneLeft, _>(self) {
             Settled::Gave(value) => Some(value),
             _ => None,
         }
@@ -168,7 +168,7 @@ impl<'a, T: Defers + LeftOver> Sole<'a, T> {
         ensures blocks { self.new.blocks ≡ self.old.blocks }
     {
         one_acts_alone::<T>();
-        match row.step(self) {
+        match row.step_by::<T, NoneLeft, _>(self) {
             Settled::Gave(value) => Some(value),
             _ => None,
         }
@@ -190,7 +190,7 @@ impl<'a, T: Defers + LeftOver> Sole<'a, T> {
     }
 }
 
-impl<'a, T: Defers + LeftOver + Drop> Sole<'a, T> {
+impl<'a, T: Defers + Drop> Sole<'a, T> {
     /// Goes on to the end. A value that is reclaimed is dropped.
     fn ends(&mut self, row: &mut ReclaimAll)
         requires under { IsUnderWay row.old self.old.seat.view }

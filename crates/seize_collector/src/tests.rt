@@ -1,9 +1,9 @@
 //! Collectors that threads share: numbers, values that are put and dropped once, and what is reclaimed at the end.
-ghost use Rattle.std.specs.Prelude.{◌≡◌, None, IfErr, false};
+ghost use Rattle.std.specs.Prelude.{◌≡◌, None, IfErr};
 
 use crate::{Collector, IdSource, Shared};
 use seize::Fault;
-use seize::rows::{Defers, LeftOver};
+use seize::rows::Defers;
 use seize_shared::{Registration, RootGuard, Unlinked};
 use std::alloc::Global;
 use std::sync::Arc;
@@ -41,14 +41,6 @@ impl Defers for Counted {
 
     fn deferred(&self) -> Option<u64> {
         None
-    }
-}
-
-impl LeftOver for Counted {
-    ghost left_over = { λ _. false };
-
-    fn is_left_over(&self) -> bool {
-        false
     }
 }
 

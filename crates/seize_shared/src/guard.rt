@@ -112,8 +112,8 @@ impl<'a, T: Defers + Drop, R: Receiver<T>> Registration<'a, T, OfRows, R> {
         self.stay.withdraws(root)
     }
 
-    /// Retires a block that was taken from a root of the same collector, without a section. Where a guard was forgotten its section stays open. A block of another
-    /// collector is `Fault::ForeignGuard`: nothing changes, and it comes back.
+    /// Retires a block that was taken from a root of the same collector, without a section. Where a guard was forgotten its section stays open. A block of
+    /// another collector is `Fault::ForeignGuard`: nothing changes, and it comes back.
     pub fn retire<'u>(&mut self, old: Unlinked<'u, T>) -> Result<(), (Fault, Unlinked<'u, T>)>
         requires source { OneSource old.number old.caller.blocks.now.words.id.views_name
             record { number = self.old.number; memory = self.old.stay.caller.blocks.now.words.id.views_name; roots = self.old.stay.caller.blocks.now.words.fixed.roots } }
@@ -208,6 +208,19 @@ impl<'r, 'a, T: Defers + Drop, R: Receiver<T>> RootGuard<T> for LocalGuard<'r, '
         Ok(registration.stay.protects_by(root, pass))
     }
 
+    fn mark_by<'g>(
+        &'g self,
+        root: u64,
+        marks: u64,
+        pass: &mut Pass<T>,
+    ) -> Result<Option<Protected<'g, T>>, Fault> {
+        let registration = &*self.registration;
+        if registration.number != pass.number() {
+            return Err(Fault::ForeignGuard);
+        }
+        Ok(registration.stay.marks_by(root, marks, pass))
+    }
+
     fn mark(&mut self, root: u64, marks: u64) -> Option<Tagged> {
         let registration = &mut *self.registration;
         registration.stay.marks(root, marks)
@@ -288,7 +301,8 @@ pub struct OwnedGuard<'a, T: Defers + Drop, C: Content<T> = OfRows, R: Receiver<
 }
 
 impl<'a, T: Defers + Drop, C: Content<T>> OwnedGuard<'a, T, C> {
-    /// Takes the first slot that can be taken, and opens a section of it, of a memory that has no collector. What was chosen as the memory was opened is handed in.
+    /// Takes the first slot that can be taken, and opens a section of it, of a memory that has no collector. What was chosen as the memory was opened is handed
+    /// in.
     pub fn enter(blocks: &'a Blocks<T, C>, fixed: &Fixed) -> Result<Self, Fault>
         requires fixed { blocks.now.words.fixed ≡ fixed.now }
         ensures home { IfOk result (λ guard. guard.stay.caller.blocks.now ≡ blocks.now) }
@@ -400,6 +414,18 @@ impl<'a, T: Defers + Drop, R: Receiver<T>> RootGuard<T> for OwnedGuard<'a, T, Of
             return Err(Fault::ForeignGuard);
         }
         Ok(self.stay.protects_by(root, pass))
+    }
+
+    fn mark_by<'g>(
+        &'g self,
+        root: u64,
+        marks: u64,
+        pass: &mut Pass<T>,
+    ) -> Result<Option<Protected<'g, T>>, Fault> {
+        if self.number != pass.number() {
+            return Err(Fault::ForeignGuard);
+        }
+        Ok(self.stay.marks_by(root, marks, pass))
     }
 
     fn mark(&mut self, root: u64, marks: u64) -> Option<Tagged> {

@@ -53,7 +53,8 @@ pub trait Guard<T: Defers> {
 
     /// The number of its slot.
     fn thread_id(&self) -> u64
-        ensures { result ≡ slot self.now };
+        ensures slot { result ≡ slot self.now }
+        ensures few { result < 65536 };
 
     /// Ends the section and begins the next one. A value that is reclaimed is dropped.
     fn refresh(&mut self)
@@ -92,8 +93,8 @@ pub trait RootGuard<T: Defers>: Guard<T> {
         ensures none { result ≡ false → Self.seen self.new ≡ 0 }
         ensures empty { result ≡ false → Self.inside self.old ≡ true → root < (Self.home self.old).roots → looked_at (did self.new) ≡ Some (root, 0) };
 
-    /// Looks which word is at a root: the section holds the block to which it links, whose value `value` lends. There is no answer where there is no such root, or the
-    /// section is not open. What it has seen before it doesn't know any more.
+    /// Looks which word is at a root: the section holds the block to which it links, whose value `value` lends. There is no answer where there is no such root,
+    /// or the section is not open. What it has seen before it doesn't know any more.
     fn protect(&mut self, root: u64) -> Option<Tagged>
         ensures home { Self.home self.new ≡ Self.home self.old }
         ensures slot { Self.slot self.new ≡ Self.slot self.old }
@@ -103,8 +104,8 @@ pub trait RootGuard<T: Defers>: Guard<T> {
         ensures none { IfNone result (Self.seen self.new ≡ 0) }
         ensures there { Self.inside self.old ≡ true → root < (Self.home self.old).roots → IsSome result };
 
-    /// A pass looks which word is at a root: the section holds the block to which that links, whose value is lent for as long as the guard is borrowed. There is no answer
-    /// where there is no such root, or the section is not open. A pass of another collector is `Fault::ForeignGuard`, and it is as it was.
+    /// A pass looks which word is at a root: the section holds the block to which that links, whose value is lent for as long as the guard is borrowed. There
+    /// is no answer where there is no such root, or the section is not open. A pass of another collector is `Fault::ForeignGuard`, and it is as it was.
     fn protect_by<'g>(
         &'g self,
         root: u64,
@@ -120,8 +121,8 @@ pub trait RootGuard<T: Defers>: Guard<T> {
         ensures none { IfOk result (λ found. IfSome found (λ found. IfNone found.value (block_in found.tagged.word ≡ 0))) }
         ensures there { IfOk result (λ found. Self.inside self.now ≡ true → root < (Self.home self.now).roots → IsSome found) };
 
-    /// Sets marks of the word at a root, of which three bits count, and answers which word was there: the section holds the block to which it links. There is no
-    /// answer where there is no such root, or the section is not open. What it has seen before it doesn't know any more.
+    /// Sets marks of the word at a root, of which three bits count, and answers which word was there: the section holds the block to which it links. There is
+    /// no answer where there is no such root, or the section is not open. What it has seen before it doesn't know any more.
     fn mark(&mut self, root: u64, marks: u64) -> Option<Tagged>
         ensures home { Self.home self.new ≡ Self.home self.old }
         ensures slot { Self.slot self.new ≡ Self.slot self.old }
@@ -131,13 +132,33 @@ pub trait RootGuard<T: Defers>: Guard<T> {
         ensures none { IfNone result (Self.seen self.new ≡ 0) }
         ensures there { Self.inside self.old ≡ true → root < (Self.home self.old).roots → IsSome result };
 
+    /// A pass sets marks of the word at a root, of which three bits count, and answers which word was there: the section holds the block to which that links,
+    /// whose value is lent for as long as the guard is borrowed. There is no answer where there is no such root, or the section is not open. A pass of another
+    /// collector is `Fault::ForeignGuard`: nothing changes, and it is as it was.
+    fn mark_by<'g>(
+        &'g self,
+        root: u64,
+        marks: u64,
+        pass: &mut Pass<T>,
+    ) -> Result<Option<Protected<'g, T>>, Fault>
+        requires source { OneSource pass.old.number pass.old.pass.seat.base (Self.home self.now) }
+        ensures memory { pass.new.pass.seat.base ≡ pass.old.pass.seat.base }
+        ensures number { pass.new.number ≡ pass.old.number }
+        ensures foreign { IfErr result (λ fault. (fault ≡ ForeignGuard) × (pass.old.number ≢ (Self.home self.now).number) × (pass.new ≡ pass.old)) }
+        ensures own { IfOk result (λ _. pass.old.number ≡ (Self.home self.now).number) }
+        ensures marked { IfOk result (λ found. IfSome found (λ found. pass.new.pass.seat.view.did ≡ Marked root (marks % 8) found.tagged.word)) }
+        ensures lent { IfOk result (λ found. IfSome found (λ found. IfSome found.value (λ value. lends self.now (block_in found.tagged.word) value.now))) }
+        ensures none { IfOk result (λ found. IfSome found (λ found. IfNone found.value (block_in found.tagged.word ≡ 0))) }
+        ensures there { IfOk result (λ found. Self.inside self.now ≡ true → root < (Self.home self.now).roots → IsSome found) };
+
     /// The value that it has seen, if it has seen one since it began, or was refreshed.
     fn value(&self) -> Option<&T>
         ensures lent { IfSome result (λ value. lends self.now (Self.seen self.now) value.now) }
         ensures some { IfSome result (λ value. Self.seen self.now ≢ 0) }
         ensures none { IfNone result (Self.seen self.now ≡ 0) };
 
-    /// Puts a value at a root, and retires the one that was there. Without such a root, or a block for it, it comes back. What it has seen it doesn't know any more.
+    /// Puts a value at a root, and retires the one that was there. Without such a root, or a block for it, it comes back. What it has seen it doesn't know any
+    /// more.
     fn put(&mut self, root: u64, value: T) -> Result<(), T>
         ensures home { Self.home self.new ≡ Self.home self.old }
         ensures slot { Self.slot self.new ≡ Self.slot self.old }

@@ -29,8 +29,8 @@ pub struct Owned<'a, T: Defers, C: Content<T> = OfRows> {
 }
 
 impl<'a, T: Defers> Owned<'a, T> {
-    /// Makes a block of a memory that has no collector; a number is looked for from `near` on, which says then where to look next. Without words for it, or memory,
-    /// the value comes back.
+    /// Makes a block of a memory that has no collector; a number is looked for from `near` on, which says then where to look next. Without words for it, or
+    /// memory, the value comes back.
     pub fn new(
         blocks: &'a Blocks<T, OfRows>,
         fixed: &Fixed,
@@ -79,6 +79,20 @@ impl<'a, T: Defers> Owned<'a, T> {
         self.caller.brought(self.block)
     }
 
+    /// Gives the block another value, and answers the one before. The new one keeps its list of further values in the same word as that one, or none as that
+    /// one.
+    pub fn rewrite(&mut self, value: T) -> T
+        requires list { (was : T) → self.old.caller.seat.view.knows ≡ Brings self.old.block was → T.defers value ≡ T.defers was }
+        ensures made { self.new.caller.seat.view.knows ≡ Brings self.new.block value }
+        ensures back { (was : T) → self.old.caller.seat.view.knows ≡ Brings self.old.block was → result ≡ was }
+        ensures block { self.new.block ≡ self.old.block }
+        ensures home { self.new.caller.blocks ≡ self.old.caller.blocks }
+        ensures number { self.new.number ≡ self.old.number }
+        ensures did { self.new.caller.seat.view.did ≡ self.old.caller.seat.view.did }
+    {
+        self.caller.rewrites(self.block, value)
+    }
+
     /// Takes the block away, and answers its value.
     pub fn into_value(self) -> T
         ensures back { (value : T) → self.entry.caller.seat.view.knows ≡ Brings self.entry.block value → result ≡ value }
@@ -115,8 +129,8 @@ impl<'a, T: Defers> Owned<'a, T> {
         Ok(Unlinked::of(caller, number, word))
     }
 
-    /// Puts the block at a root, by a word with these marks, of which three bits count, while a guard of the same collector is there, and answers which one was there, and is to
-    /// be retired. With a guard of another collector it is `Fault::ForeignGuard`: nothing changes, and the block comes back.
+    /// Puts the block at a root, by a word with these marks, of which three bits count, while a guard of the same collector is there, and answers which one was
+    /// there, and is to be retired. With a guard of another collector it is `Fault::ForeignGuard`: nothing changes, and the block comes back.
     pub fn swap<G: RootGuard<T>>(
         self,
         guard: &G,
@@ -145,9 +159,9 @@ impl<'a, T: Defers> Owned<'a, T> {
         Ok(Unlinked::of(caller, number, word))
     }
 
-    /// Puts the block at a root, by a word with these marks, of which three bits count, where the whole word is `old`, block and tag, while a guard of the same collector is
-    /// there; and answers which block was there, if one was, and is to be retired. Where another word is there it answers that, and the block comes back.
-    /// With a guard of another collector it is `Fault::ForeignGuard`: nothing changes, and the block comes back.
+    /// Puts the block at a root, by a word with these marks, of which three bits count, where the whole word is `old`, block and tag, while a guard of the same
+    /// collector is there; and answers which block was there, if one was, and is to be retired. Where another word is there it answers that, and the block
+    /// comes back. With a guard of another collector it is `Fault::ForeignGuard`: nothing changes, and the block comes back.
     pub fn compare_exchange<G: RootGuard<T>>(
         self,
         guard: &G,

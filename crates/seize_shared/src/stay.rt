@@ -35,6 +35,7 @@ pub(crate) struct Stay<'a, T: Defers + Drop, C: Content<T> = OfRows> {
     ghost counted: { (C.notes caller.seat.view).guards ≡ guards },
     ghost stands: { standing (C.notes caller.seat.view).knows ≡ Some (slot, inside, seen) },
     ghost rooted: { caller.blocks.now.words.fixed.roots ≡ roots },
+    ghost few: { slot < 65536 },
     ghost fits: { seen < 2 ^ 53 },
 }
 

@@ -11,20 +11,12 @@ use std::test::Fail;
 use std::thread;
 use std::thread::Threads;
 
-/// Makes a block of a value, and puts it at the root; looks at the value that was there, and retires it, without a section. Tells whether it was put, and what
-/// was there had not been dropped, and was retired.
-fn brings(
-    registration: &mut Registration<'_, Counted>,
-    collector: &Shared<'_, Counted>,
-    near: &mut u64,
-    value: Counted,
-) -> bool
-    requires { registration.old.stay.caller.blocks.now ≡ collector.now.blocks.now }
+/// Puts a block at the root; looks at the value that was there, and retires it, without a section. Tells whether it was put, and what was there had not been
+/// dropped, and was retired.
+pub fn publishes(registration: &mut Registration<'_, Counted>, owned: Owned<'_, Counted>) -> bool
+    requires { registration.old.stay.caller.blocks.now ≡ owned.caller.blocks.now }
     ensures { registration.new.stay.caller.blocks ≡ registration.old.stay.caller.blocks }
 {
-    let Ok(owned) = collector.make(near, value) else {
-        return false;
-    };
     match owned.publish(0) {
         Ok(Some(old)) => {
             let was = old.value();
@@ -42,6 +34,22 @@ fn brings(
             drop(owned.into_value());
             false
         }
+    }
+}
+
+/// Makes a block of a value, and puts it at the root so.
+fn brings(
+    registration: &mut Registration<'_, Counted>,
+    collector: &Shared<'_, Counted>,
+    near: &mut u64,
+    value: Counted,
+) -> bool
+    requires { registration.old.stay.caller.blocks.now ≡ collector.now.blocks.now }
+    ensures { registration.new.stay.caller.blocks ≡ registration.old.stay.caller.blocks }
+{
+    match collector.make(near, value) {
+        Ok(owned) => publishes(registration, owned),
+        Err(_) => false,
     }
 }
 
@@ -63,7 +71,7 @@ fn brings_all(collector: &Shared<'_, Counted>, drops: &Table, from: usize) -> bo
 
 /// Takes the value from the root again and again, and retires it, without a section; tries the batch at each eighth turn. Tells whether there was a slot for
 /// it.
-fn sweeps(collector: &Shared<'_, Counted>) -> bool {
+pub fn sweeps(collector: &Shared<'_, Counted>) -> bool {
     let Ok(mut registration) = collector.register() else {
         return false;
     };

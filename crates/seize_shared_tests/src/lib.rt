@@ -17,16 +17,20 @@ mod leaving;
 #[cfg(test)]
 mod lists;
 #[cfg(test)]
+mod marking;
+#[cfg(test)]
 mod order;
 #[cfg(test)]
 mod passing;
 #[cfg(test)]
+mod rewriting;
+#[cfg(test)]
 mod tagging;
 
-ghost use Rattle.std.specs.Prelude.{None, false};
+ghost use Rattle.std.specs.Prelude.{None};
 
 pub use collector::{SIZE, opened};
-use seize::rows::{Defers, LeftOver};
+use seize::rows::Defers;
 use std::alloc::{AllocError, Global};
 use std::sync::Arc;
 use std::sync::atomic::AtomicU64;
@@ -90,13 +94,5 @@ impl Defers for Counted {
 
     fn deferred(&self) -> Option<u64> {
         None
-    }
-}
-
-impl LeftOver for Counted {
-    ghost left_over = { λ _. false };
-
-    fn is_left_over(&self) -> bool {
-        false
     }
 }

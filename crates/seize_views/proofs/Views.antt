@@ -31,3 +31,4 @@ pub mod Guarding
 pub mod Passing
 pub mod Contents
 pub mod Values
+mod Samples

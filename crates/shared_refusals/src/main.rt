@@ -1,8 +1,9 @@
-//! Makes each call on a memory that threads share that asks for memory. Where it is refused, nothing has changed, and it is made again, and done then. The gate
-//! has this program run once for each request for memory, with that one refused: each time it prints the same.
+//! Makes each call on a memory that threads share that asks for memory. Where it is refused, nothing has changed, and it is made again, and done then. Then it
+//! opens and ends a thousand sections, in each of which a value is retired: none of that asks for memory. The gate has this program run once for each request
+//! for memory, with that one refused: each time it prints the same; and there are fewer requests than sections.
 #![tactic(auto)]
 
-ghost use Rattle.std.specs.Prelude.{◌≡◌, Some, IfOk};
+ghost use Rattle.std.specs.Prelude.{◌≡◌, None, Some, IfOk};
 
 use seize::Fault;
 use seize::rows::Defers;
@@ -38,6 +39,21 @@ impl Defers for Listed {
     }
 }
 
+/// How many sections are opened and ended one after another.
+const SECTIONS: u64 = 1_000;
+
+/// A number without a list, whose block has no words of its own.
+#[derive(Drop)]
+struct Plain(u64);
+
+impl Defers for Plain {
+    ghost defers = { λ _. None };
+
+    fn deferred(&self) -> Option<u64> {
+        None
+    }
+}
+
 /// A memory that begins with one number for a block.
 fn open(alloc: Global) -> Result<Home<Listed, OfRows>, AllocError>
     ensures { IfOk result (λ home. home.blocks.words.fixed ≡ record { batch_size = 5; roots = 1 }) }
@@ -56,7 +72,7 @@ fn opens(alloc: Global) -> Result<Home<Listed, OfRows>, AllocError>
 }
 
 /// The next slot.
-fn registers(blocks: &Blocks<Listed, OfRows>) -> Result<Registration<'_, Listed>, Fault>
+fn registers<T: Defers + Drop>(blocks: &Blocks<T, OfRows>) -> Result<Registration<'_, T>, Fault>
     requires { blocks.now.words.fixed ≡ record { batch_size = 5; roots = 1 } }
 {
     match Registration::new(blocks, &CHOSEN) {
@@ -74,7 +90,8 @@ fn sees(guard: &mut LocalGuard<'_, '_, Listed>) -> u64 {
     }
 }
 
-/// Puts a number in the place of the one before, whose value has words of its own; tells whether it is there. Where it came back, the one before was there still.
+/// Puts a number in the place of the one before, whose value has words of its own; tells whether it is there. Where it came back, the one before was there
+/// still.
 fn puts(guard: &mut LocalGuard<'_, '_, Listed>, number: u64) -> bool {
     match guard.put(0, Listed { number, field: 2 }) {
         Ok(()) => sees(guard) == number,
@@ -122,6 +139,41 @@ fn slots(alloc: Global) -> Result<bool, AllocError> {
     Ok(are_next)
 }
 
+/// A memory for numbers without lists, with enough numbers for their blocks, also where one request is refused.
+fn opens_plain(alloc: Global) -> Result<Home<Plain, OfRows>, AllocError>
+    ensures { IfOk result (λ home. home.blocks.words.fixed ≡ record { batch_size = 5; roots = 1 }) }
+{
+    match Home::<Plain, OfRows>::open(alloc, 1, 64, &CHOSEN) {
+        Ok(home) => Ok(home),
+        Err(_) => Home::<Plain, OfRows>::open(alloc, 1, 64, &CHOSEN),
+    }
+}
+
+/// A section, in which the number at the root is seen, and another one is put in its place: that is retired. Tells whether the one before was seen.
+fn section(registration: &mut Registration<'_, Plain>, number: u64) -> bool {
+    let mut guard = registration.enter();
+    guard.see(0);
+    let was = match guard.value() {
+        Some(value) => value.0,
+        None => 0,
+    };
+    was == u64::wrapping_sub(number, 1) && guard.put(0, Plain(number)).is_ok()
+}
+
+/// Sections one after another; batches are reclaimed meanwhile. The last one tries its batch, whatever its length.
+fn sections(alloc: Global) -> Result<bool, AllocError> {
+    let home = opens_plain(alloc)?;
+    let Ok(mut registration) = registers(&home.blocks) else {
+        return Ok(false);
+    };
+    let mut are_put = true;
+    for number in 1..SECTIONS + 1 {
+        are_put = section(&mut registration, number) && are_put;
+    }
+    registration.flush();
+    Ok(are_put)
+}
+
 /// How it went, in a word.
 fn word(so: Result<bool, AllocError>) -> &'static str {
     match so {
@@ -138,6 +190,10 @@ fn main(rt: HostRuntime) -> io::Result<()> {
     println!(rt;
         "more slots than the first bucket has: {}",
         word(slots(rt.alloc()))
+    )?;
+    println!(rt;
+        "a thousand sections, each with a retirement: {}",
+        word(sections(rt.alloc()))
     )?;
     Ok(())
 }

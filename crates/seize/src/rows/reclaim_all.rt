@@ -1,6 +1,7 @@
 //! Everything that waits is reclaimed.
 ghost use Rattle.std.specs.Prelude.{◌≡◌};
-ghost use Rattle.seize.specs.ReclaimAll.{reclaiming_all, clearing, first_root, next_root, first_batch, next_head, next_batch, next_free};
+ghost use Rattle.seize_words.specs.OneMemory.Plan.{May, Steps};
+ghost use Rattle.seize.specs.ReclaimAll.{reclaiming_all, clearing, first_root, next_root, first_batch, next_head, next_batch, next_free, reclaim_all_plan};
 
 use crate::machine::Machine;
 use crate::rows::leave::Leave;
@@ -21,6 +22,42 @@ pub trait LeftOver {
     /// Whether a root that names its block names such a list.
     fn is_left_over(&self) -> bool
         ensures { result ≡ left_over self.now };
+}
+
+/// What tells of a value whether a root that names its block holds what was left over there.
+pub trait Leftovers<T> {
+    ghost use Rattle.std.specs.Prelude.{Bool};
+
+    /// It does.
+    ghost left: { T → Bool };
+
+    /// Whether it does.
+    fn is_left(value: &T) -> bool
+        ensures { result ≡ left value.now };
+}
+
+/// Each value tells it itself.
+pub(crate) struct ByValue;
+
+impl<T: LeftOver> Leftovers<T> for ByValue {
+    ghost left = { T.left_over };
+
+    fn is_left(value: &T) -> bool {
+        value.is_left_over()
+    }
+}
+
+/// Nothing is left over at roots.
+pub struct NoneLeft;
+
+impl<T> Leftovers<T> for NoneLeft {
+    ghost use Rattle.seize.specs.ReclaimAll.{none_left};
+
+    ghost left = { none_left };
+
+    fn is_left(_value: &T) -> bool {
+        false
+    }
 }
 
 /// Where it stands with reclaiming everything.
@@ -164,14 +201,15 @@ impl ReclaimAll {
     }
 }
 
-impl<T: Defers + LeftOver> Machine<T> for ReclaimAll {
-    ghost use Rattle.seize.specs.ReclaimAll.{reclaim_all_plan};
-
-    type Progress = Settled<T>;
-
-    ghost plan = { reclaim_all_plan T.defers T.left_over };
-
-    fn step<M: Memory<T>>(&mut self, memory: &mut M) -> Settled<T> {
+impl ReclaimAll {
+    /// One step, where this tells what was left over at roots.
+    pub fn step_by<T: Defers, L: Leftovers<T>, M: Memory<T>>(
+        &mut self,
+        memory: &mut M,
+    ) -> Settled<T>
+        requires { May M.can M.took M.shown memory.old (reclaim_all_plan T.defers L.left self.old) }
+        ensures { Steps M.took M.shown memory.old (reclaim_all_plan T.defers L.left self.old) memory.new (self.new, result) }
+    {
         match self.stands {
             Reclaiming::Heads { slot } => self.heads(memory, slot),
             Reclaiming::Retakes { slot } => self.retakes(memory, slot),
@@ -179,12 +217,22 @@ impl<T: Defers + LeftOver> Machine<T> for ReclaimAll {
             Reclaiming::Batches { slot } => self.batches(memory, slot),
             Reclaiming::Flushes { .. } => self.flushes(memory),
             Reclaiming::Frees { slot } => self.frees(memory, slot),
-            Reclaiming::Roots { root } => self.roots(memory, root),
+            Reclaiming::Roots { root } => self.roots::<T, L, M>(memory, root),
             Reclaiming::Nexts { root, block } => self.nexts(memory, root, block),
             Reclaiming::Takes { root, block, next } => self.takes(memory, root, block, next),
             Reclaiming::Empties { root } => self.empties(memory, root),
             Reclaiming::Unuses { root } => self.unuses(memory, root),
             Reclaiming::Over => Settled::Done,
         }
+    }
+}
+
+impl<T: Defers + LeftOver> Machine<T> for ReclaimAll {
+    type Progress = Settled<T>;
+
+    ghost plan = { reclaim_all_plan T.defers T.left_over };
+
+    fn step<M: Memory<T>>(&mut self, memory: &mut M) -> Settled<T> {
+        self.step_by::<T, ByValue, M>(memory)
     }
 }

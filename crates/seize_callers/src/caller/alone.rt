@@ -45,6 +45,18 @@ impl<'a, T: Defers> Caller<'a, T> {
         self.blocks.value(&self.seat, block)
     }
 
+    /// Gives its own block another value, which keeps its list of further values in the same word, or none as well, and answers the one before.
+    pub fn rewrites(&mut self, block: u64, value: T) -> T
+        requires brings { brought_by self.old.seat.view.knows ≡ Some block }
+        requires list { (was : T) → self.old.seat.view.knows ≡ Brings block was → T.defers value ≡ T.defers was }
+        ensures made { self.new.seat.view.knows ≡ Brings block value }
+        ensures back { (was : T) → self.old.seat.view.knows ≡ Brings block was → result ≡ was }
+        ensures did { self.new.seat.view.did ≡ self.old.seat.view.did }
+        ensures blocks { self.new.blocks ≡ self.old.blocks }
+    {
+        self.blocks.rewrite(&mut self.seat, block, value)
+    }
+
     /// Takes its own block away, and answers its value.
     pub fn takes_back(&mut self, block: u64) -> T
         requires brings { brought_by self.old.seat.view.knows ≡ Some block }

@@ -1,17 +1,18 @@
 //! The one who has the memory to himself, as the memory of the machines that he steps.
 use crate::one_acts_alone;
 use crate::sole::Sole;
-use seize::rows::{Defers, LeftOver};
+use seize::rows::Defers;
 use seize_words::{At, Fault, Look, Memory};
 
-impl<'a, T: Defers + LeftOver> Look<T> for Sole<'a, T> {
+impl<'a, T: Defers> Look<T> for Sole<'a, T> {
+    ghost use Rattle.seize.specs.ReclaimAll.{none_left};
     ghost use Rattle.seize_collector.specs.Empties.Made.{Can, Has, shown_of};
 
-    ghost can = { Can T.defers T.left_over };
+    ghost can = { Can T.defers none_left };
 
-    ghost took = { Has T.defers T.left_over };
+    ghost took = { Has T.defers none_left };
 
-    ghost shown = { shown_of T.defers T.left_over };
+    ghost shown = { shown_of T.defers none_left };
 
     fn load(&mut self, at: At) -> u64 {
         self.blocks.load(&mut self.seat, at)
@@ -23,7 +24,7 @@ impl<'a, T: Defers + LeftOver> Look<T> for Sole<'a, T> {
     }
 }
 
-impl<'a, T: Defers + LeftOver> Memory<T> for Sole<'a, T> {
+impl<'a, T: Defers> Memory<T> for Sole<'a, T> {
     fn store(&mut self, at: At, word: u64) {
         self.blocks.store(&mut self.seat, at, word);
     }

@@ -61,7 +61,8 @@ impl<'a, T: Defers + Drop> Stay<'a, T> {
         }
     }
 
-    /// Looks which word is at a root, where its section is open and there is such a root: that holds the block to which it links. What was seen before is not known any more.
+    /// Looks which word is at a root, where its section is open and there is such a root: that holds the block to which it links. What was seen before is not
+    /// known any more.
     pub(crate) fn protects(&mut self, root: u64) -> Option<Tagged>
         ensures home { self.new.caller.blocks ≡ self.old.caller.blocks }
         ensures slot { self.new.slot ≡ self.old.slot }
@@ -80,8 +81,8 @@ impl<'a, T: Defers + Drop> Stay<'a, T> {
         Some(Tagged::of(word))
     }
 
-    /// A pass looks which word is at a root, where its section is open and there is such a root: the value of the block to which that links is lent for as long as
-    /// this is borrowed.
+    /// A pass looks which word is at a root, where its section is open and there is such a root: the value of the block to which that links is lent for as long
+    /// as this is borrowed.
     pub(crate) fn protects_by<'g>(
         &'g self,
         root: u64,
@@ -100,6 +101,29 @@ impl<'a, T: Defers + Drop> Stay<'a, T> {
             return None;
         }
         Some(pass.protect(&self.caller, self.slot, root))
+    }
+
+    /// A pass sets marks of the word at a root, of which three bits count, where its section is open and there is such a root, and answers which word was
+    /// there: the value of the block to which that links is lent for as long as this is borrowed.
+    pub(crate) fn marks_by<'g>(
+        &'g self,
+        root: u64,
+        marks: u64,
+        pass: &mut Pass<T>,
+    ) -> Option<Protected<'g, T>>
+        requires own { pass.old.pass.seat.base ≡ self.now.caller.blocks.now.words.id.views_name }
+        ensures memory { pass.new.pass.seat.base ≡ pass.old.pass.seat.base }
+        ensures number { pass.new.number ≡ pass.old.number }
+        ensures marked { IfSome result (λ found. pass.new.pass.seat.view.did ≡ Marked root (marks % 8) found.tagged.word) }
+        ensures lent { IfSome result (λ found. IfSome found.value (λ value. IsLent T.defers self.now.caller.blocks.now.words.fixed self.now.caller.seat.id
+            self.now.caller.seat.view (block_in found.tagged.word) value.now)) }
+        ensures none { IfSome result (λ found. IfNone found.value (block_in found.tagged.word ≡ 0)) }
+        ensures there { self.now.inside ≡ true → root < self.now.caller.blocks.now.words.fixed.roots → IsSome result }
+    {
+        if !self.inside || root >= self.roots {
+            return None;
+        }
+        Some(pass.mark(&self.caller, self.slot, root, marks))
     }
 
     /// Sets marks of the word at a root, of which three bits count, and answers which word was there, where its section is open and there is such a root: the

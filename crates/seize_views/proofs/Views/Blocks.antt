@@ -1,16 +1,17 @@
--- A block is made, looked at, and taken away.
-use Rattle.std.specs.Prelude.{◌≢◌, ◌<◌, ◌^◌, Option, Some, None, IsSome, Ok, Err, length}
-use Rattle.std.proofs.Common.{◌≡◌, ℕ, true, ◌⊎◌, inl, inr, refl, sym, subst, ap, ◌∙◌}
-use Rattle.std.proofs.lemmas.Bool.{cases_eq}
+-- A block is made, looked at, given another value, and taken away.
+use Rattle.std.specs.Prelude.{◌≢◌, ◌<◌, ◌^◌, ◌==◌, Option, Some, None, IsSome, Ok, Err, length, if◌then◌else◌}
+use Rattle.std.proofs.Common.{◌≡◌, ℕ, Bool, true, ◌⊎◌, inl, inr, refl, sym, subst, ap, ◌∙◌}
+use Rattle.std.proofs.lemmas.Bool.{cases_eq, eq-eqb}
 use Rattle.seize_words.specs.OneMemory.Mem.{Mem, Took, value_at}
-use Rattle.seize_words.specs.OneMemory.Op.{Op, Out, Make, Take, Found, Stored, Exchanged, Made as OutMade, Taken, Roomed}
+use Rattle.seize_words.specs.OneMemory.Op.{Op, Out, Make, Take, Rewrite, Found, Stored, Exchanged, Made as OutMade, Taken, Roomed}
+use Rattle.seize_words.proofs.OneMemory.OneOwner.AfterWrites.{value_at-with_value}
 use Rattle.seize.specs.Law.{Dropped, holds}
-use Rattle.seize.specs.World.{World, Hand, Makes, Drops, HasListWord, made_by, with_hand, with_effect}
+use Rattle.seize.specs.World.{World, Hand, Makes, Drops, Rewrites, Happens, HasListWord, made_by, with_hand, with_effect}
 use Rattle.seize.specs.World as world
 use Rattle.seize_acts.proofs.Given.SeizeMovesState.Held.{held_beside}
 use Rattle.seize_acts.proofs.Given.SeizeRuleRows.Others.{with_here, with_other}
 use Rattle.seize_acts.proofs.Given.SeizeMemoryWords.Named.{made_one, taken_one}
-use Rattle.seize_acts.proofs.Given.SeizeRuleWorld.Values.{taken_value, made_value}
+use Rattle.seize_acts.proofs.Given.SeizeRuleWorld.Values.{taken_value, made_value, rewritten_value}
 use Rattle.seize_acts.specs.Given.SeizeAloneAlone.{IsOfUsers}
 use Rattle.seize_acts.proofs.Given.SeizeAloneHistories.Reached.{Reached}
 use Rattle.seize_acts.proofs.Given.SeizeAloneHistories.NotTaken.{IsHad, IsHeld, kept_there}
@@ -18,13 +19,13 @@ use Rattle.seize_acts.proofs.Acts.Answers.{same_some}
 use Rattle.seize_seats.specs.Seats.State.{State, view_of}
 use Rattle.seize_views.specs.Views.Rows.{Leads, had_in, hand_of, IsMade, IsInHand, Holds}
 use Rattle.seize_views.specs.Views.Told.{alone_with, told}
-use Rattle.seize_views.specs.Views.Promises.{Names, BlocksAreMade, MadeAreTaken, OwnAreMade, OwnAreTaken, OwnAreShown, BorneAreShown, KnownAreShown}
+use Rattle.seize_views.specs.Views.Promises.{Names, BlocksAreMade, MadeAreTaken, OwnAreMade, OwnAreTaken, OwnAreRewritten, OwnAreShown, BorneAreShown, KnownAreShown}
 use Rattle.seize_views.specs.declared.view.View.{View}
 use Rattle.seize_views.specs.declared.view.View.TheVariants.{Rests, Inside, Brings, Bears}
 use Rattle.seize_views.specs.declared.view.Has.{Has}
 use Rattle.seize_views.specs.declared.view.Has.TheVariants.{Nothing, Made, Seen, Both, Cut}
 use Rattle.seize_views.specs.declared.view.Fixed.{Fixed}
-use Rattle.seize_views.proofs.Views.Moved.{hand_users}
+use Rattle.seize_views.proofs.Views.Moved.{IsOthers, hand_users}
 use Rattle.seize_views.proofs.Views.Came.{of_users, reached, since_one}
 use Rattle.seize_views.proofs.Views.Found.{found_on, found_with}
 use Rattle.seize_views.proofs.Views.Steps.{roots_kept, world_roots, world_rooted}
@@ -42,6 +43,12 @@ module _ {T : Type 0} (defers : T → Option ℕ) where
   value_left m b c x m2 took some (inl e) =
       let none = taken_none m b x m2 took in let there = subst (λ (a : ℕ). IsSome (value_at m2 a)) e some in absurd (cc (there, none))
   value_left m b c x m2 took some (inr ne) = taken_value defers m c b (Taken x) m2 took ne
+
+  -- what is given another value has it
+  rewritten_here : (m : Mem T) (b : ℕ) (y x : T) (m2 : Mem T) → Took m (Rewrite b y) (Taken x) m2 → value_at m2 b ≡ Some y
+  rewritten_here m b y x m2 took =
+      ap (λ (k : Mem T). value_at k b) took.1 ∙ value_at-with_value m b y b (subst IsSome (sym took.0) refl)
+      ∙ ap (λ (q : Bool). if q then Some y else value_at m b) (eq-eqb b b refl)
 
 module _ {T : Type 0} (defers : T → Option ℕ) (fixed : Fixed) (s : State T (View T) (World T)) (id t : ℕ) (place : Has T → View T) (carries : Carries t place)
     (had : Has T) (h : Holds defers fixed s) (at : view_of s id ≡ Some (place had)) (is_so : IsInHand s.world t had) where
@@ -90,7 +97,7 @@ module _ {T : Type 0} (defers : T → Option ℕ) (fixed : Fixed) (s : State T (
         in_hand = hand b n ((id, with_here w.hand b (world.Making id)), made_value_of value words b m here) (λ c held. held);
         hands = λ j c x ne e q. with_other w.hand b c (world.Making id) (λ k. free_of j b x ne e (q ∙ ap Some k) free);
         sole = λ j c x ne e q p. free_of j b x ne e (q ∙ sym p ∙ made_hand b) free;
-        values = λ c some some2. made_value defers w.memory c value words out m some here;
+        values = λ c its some some2. made_value defers w.memory c value words out m some here;
         held = λ a c held. held;
         over = λ a c held. refl;
         roots = roots_kept w.memory m w.hand n.hand (ap (λ (x : Mem T). x.roots) here.1)
@@ -113,7 +120,7 @@ module _ {T : Type 0} (defers : T → Option ℕ) (fixed : Fixed) (s : State T (
         in_hand = same_hand w n t refl here.1 (λ c held. held) had is_so;
         hands = λ j c x ne e q. refl;
         sole = λ j c x ne e q p. ne (h.sole j id c x (place had) e at q (carries.hand had ∙ p));
-        values = λ c some some2. made_value defers w.memory c value words out m some here;
+        values = λ c its some some2. made_value defers w.memory c value words out m some here;
         held = λ a c held. held;
         over = λ a c held. refl;
         roots = roots_kept w.memory m w.hand n.hand (ap (λ (x : Mem T). x.roots) here.1) (λ c a is. is) (world_roots defers fixed s id (place had) h at);
@@ -164,7 +171,7 @@ module _ {T : Type 0} (defers : T → Option ℕ) (fixed : Fixed) (s : State T (
         hands = λ j c y ne e q. with_other w.hand b c world.NoBlock
             (λ k. ne (h.sole j id b y (place had) e at (q ∙ ap Some k) (carries.hand had ∙ had_it)));
         sole = λ j c y ne e q p. cc (gone, p);
-        values = λ c some some2. value_left defers w.memory b c value m here some2 (cases_eq c b);
+        values = λ c its some some2. value_left defers w.memory b c value m here some2 (cases_eq c b);
         held = λ a c held. held_beside a c b w.log (making_not_held defers fixed.batch_size w r made.0.0 a b c held made.0.1) held;
         over = λ a c held. refl;
         roots = roots_kept w.memory m w.hand n.hand (ap (λ (x : Mem T). x.roots) here.1)
@@ -178,6 +185,46 @@ module _ {T : Type 0} (defers : T → Option ℕ) (fixed : Fixed) (s : State T (
   takes b x made had_it after gone hand so tells (Exchanged y) m took = absurd took.0
   takes b x made had_it after gone hand so tells (OutMade y) m took = absurd took.0
   takes b x made had_it after gone hand so tells (Roomed y) m took = absurd took.0
+
+  -- the block that was made is given another value, which keeps its list in the same word
+
+  -- a block that another one has, or the collector, is another block
+  apart : (b : ℕ) → ((i : ℕ) × (w.hand b ≡ world.Making i)) → had_in had ≡ Some b → (c : ℕ) → IsOthers defers fixed s id c → c ≡ b → ⊥
+  apart b making had_it c (inl its) is = its.2 (h.sole its.0 id b its.1 (place had) its.3 at (its.4 ∙ ap Some is) (carries.hand had ∙ had_it))
+  apart b making had_it c (inr handed) is = let same = ap w.hand is in let mine = making.1 in cc (same, handed, mine)
+
+  rewrites : (b : ℕ) (x y : T) → IsMade w b x → had_in had ≡ Some b → defers y ≡ defers x → (after : Has T) → had_in after ≡ Some b
+      → ((n : World T) → IsMade n b y → ((c : ℕ) → holds t c w.log ≡ true → holds t c n.log ≡ true) → IsInHand n t after)
+      → (so : Out T → View T → Type 0) → ((value : T) → value ≡ x → so (Taken value) (place after)) → (out : Out T) (m : Mem T)
+      → Took s.memory (Rewrite b y) out m
+      → Leads defers fixed s m id (so out)
+  rewrites b x y made had_it list after has_it hand so tells (Taken value) m took =
+      let n : World T = record w { memory = m } in
+      let here = world_took s h.memory (Rewrite b y) (Taken value) m took in
+      let was : value ≡ x = same_some value x (sym here.0 ∙ made.1) in
+      let happens : Happens defers fixed.batch_size (Rewrites id b y) w n = (value, m, made.0, here, list ∙ ap defers (sym was), refl) in
+      let still : had_in after ≡ had_in had = has_it ∙ sym had_it in
+      users defers fixed s id t h place carries had at m n after (record {
+        since = since_one defers fixed w n (Rewrites id b y) happens;
+        memory = refl;
+        row = refl;
+        uses = refl;
+        in_hand = hand n (made.0, rewritten_here w.memory b y value m here) (λ c held. held);
+        hands = λ j c z ne e q. refl;
+        sole = λ j c z ne e q p. ne (h.sole j id c z (place had) e at q (carries.hand had ∙ sym still ∙ p));
+        values = λ c its some some2. rewritten_value defers w.memory c b y value m here (apart b made.0 had_it c its);
+        held = λ a c held. held;
+        over = λ a c held. refl;
+        roots = roots_kept w.memory m w.hand n.hand (ap (λ (x : Mem T). x.roots) here.1) (λ c a is. is) (world_roots defers fixed s id (place had) h at);
+        rooted = ap (λ (x : Mem T). length x.roots) here.1 ∙ world_rooted defers fixed s id (place had) h at;
+        passes = passes_one defers fixed s id t (Rewrites id b y) n (λ j. tt) happens;
+      }) (λ c. found_on defers fixed s id (place had) h at (had_in after) m (same_roots m (ap (λ (x : Mem T). x.roots) here.1)) c
+      (λ mine. still ∙ sym (carries.hand had) ∙ mine)) (so (Taken value)) (tells value was)
+  rewrites b x y made had_it list after has_it hand so tells (Found z) m took = absurd took.0
+  rewrites b x y made had_it list after has_it hand so tells Stored m took = absurd took.0
+  rewrites b x y made had_it list after has_it hand so tells (Exchanged z) m took = absurd took.0
+  rewrites b x y made had_it list after has_it hand so tells (OutMade z) m took = absurd took.0
+  rewrites b x y made had_it list after has_it hand so tells (Roomed z) m took = absurd took.0
 
 module _ (T : Type 0) (defers : T → Option ℕ) where
   pub blocks_are_made : BlocksAreMade T defers
@@ -233,6 +280,14 @@ module _ (T : Type 0) (defers : T → Option ℕ) where
         shown defers fixed s id 0 alone_with alone_carries (Made b x) h at made b refl,
         takes defers fixed s id 0 alone_with alone_carries (Made b x) h at made b x made refl Nothing refl (λ n held. tt)
             (told defers (Brings b x) (Take b)) (λ value same. (Nothing, (same, refl), refl)),
+      )
+
+  pub own_are_rewritten : OwnAreRewritten T defers
+  own_are_rewritten b x y list fixed id s h at =
+      let made = (h.seats id (Brings b x) at).known in (
+        shown defers fixed s id 0 alone_with alone_carries (Made b x) h at made b refl,
+        rewrites defers fixed s id 0 alone_with alone_carries (Made b x) h at made b x y made refl list (Made b y) refl (λ n made held. made)
+            (told defers (Brings b x) (Rewrite b y)) (λ value same. (Made b y, (same, refl), refl)),
       )
 
   pub own_are_shown : OwnAreShown T defers

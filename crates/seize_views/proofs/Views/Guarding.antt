@@ -81,7 +81,7 @@ module _ {T : Type 0} (defers : T → Option ℕ) (fixed : Fixed) where
         in_hand = tt;
         hands = λ j d x ne e q. refl;
         sole = λ j d x ne e q p. cc p;
-        values = λ d some some2. refl;
+        values = λ d its some some2. refl;
         held = λ a d held. held;
         over = λ a d held. refl;
         roots = subst (λ (x : Mem T). RootsNameLinked x s.world.hand) (sym same) h.roots;

@@ -25,7 +25,7 @@ use Rattle.seize_views.proofs.Views.Came.{of_users, reached, since_both}
 use Rattle.seize_views.proofs.Views.Found.{HasNow, AreFound, found_at, some_has}
 use Rattle.seize_acts.proofs.Bounds.Bounds.Passing.{still_within}
 use Rattle.seize_views.proofs.Views.Lists.{there, elsewhere}
-use Rattle.seize_views.proofs.Views.Reclaims.{reclaiming_there}
+use Rattle.seize_views.proofs.Views.Reclaims.{reclaiming_there, reclaiming_handed}
 
 -- a slot that a seat has is not vacant
 pub not_vacant : {T : Type 0} (x : View T) (t : ℕ) (a : Use) → use_of x ≡ Some (t, a) → a ≡ Vacant → ⊥
@@ -111,6 +111,10 @@ module _ {T : Type 0} (defers : T → Option ℕ) (fixed : Fixed) (s : State T (
       (j : ℕ) → j ≢ id → IsAloneOnSlot j s.world → IsAloneOnSlot j n
       → (events : List (Event T)) × Meanwhile defers (IsAloneOnSlot j) fixed.batch_size j events s.world n
 
+  -- another seat has the block in its hand, or the collector has it
+  abbrev pub IsOthers : ℕ → Type 0
+  IsOthers b = ((j : ℕ) × (x : View T) × (j ≢ id) × (view_of s j ≡ Some x) × (hand_of x ≡ Some b)) ⊎ (s.world.hand b ≡ world.Handed)
+
   -- The seat has come to this view, this memory and this world, and the others know what they knew. The present lifetime began with that world.
   pub record Moved (began : World T) (u : View T) (m : Mem T) (n : World T) : Type 0 where
     pub since : Since defers fixed s.world n
@@ -121,7 +125,7 @@ module _ {T : Type 0} (defers : T → Option ℕ) (fixed : Fixed) (s : State T (
     pub alone : (j t : ℕ) (x : View T) (a b : Use) → j ≢ id → view_of s j ≡ Some x → use_of x ≡ Some (t, a) → use_of u ≡ Some (t, b) → ⊥
     pub hands : StillHave n
     pub sole : IsSole (hand_of u)
-    pub values : (b : ℕ) → IsSome (value_at s.world.memory b) → IsSome (value_at n.memory b) → value_at n.memory b ≡ value_at s.world.memory b
+    pub values : (b : ℕ) → IsOthers b → IsSome (value_at s.world.memory b) → IsSome (value_at n.memory b) → value_at n.memory b ≡ value_at s.world.memory b
     pub held : (t b : ℕ) → IsInside (s.world.uses t) → holds t b s.world.log ≡ true → holds t b n.log ≡ true
     pub over : (t b : ℕ) → holds t b s.world.log ≡ true → is_over b n.log ≡ is_over b s.world.log
     pub roots : RootsNameLinked m n.hand
@@ -134,19 +138,22 @@ module _ {T : Type 0} (defers : T → Option ℕ) (fixed : Fixed) (s : State T (
     came_now : Came defers fixed n
     came_now = since_both defers fixed (at_start defers fixed.roots) s.world n h.came mo.since
 
-    -- a block that it has made is there, with its value
-    made : (b : ℕ) (x : T) → n.hand b ≡ s.world.hand b → IsMade s.world b x → IsMade n b x
-    made b x same is =
+    -- a block that another one has made is there, with its value
+    made : (b : ℕ) (x : T) → IsOthers b → n.hand b ≡ s.world.hand b → IsMade s.world b x → IsMade n b x
+    made b x its same is =
         let mine : n.hand b ≡ world.Making is.0.0 = same ∙ is.0.1 in
         let there = kept_there defers fixed.batch_size n (reached defers fixed n came_now) b (IsHad (of_users n.hand b (world.Making is.0.0) tt mine)) in
-        ((is.0.0, mine), mo.values b (subst IsSome (sym is.1) refl) there ∙ is.1)
+        ((is.0.0, mine), mo.values b its (subst IsSome (sym is.1) refl) there ∙ is.1)
 
     known : (j : ℕ) (x : View T) → j ≢ id → view_of s j ≡ Some x → n.row j ≡ row_of x → Fits s.world j x → IsKnown n x
     known j (Inside t Nothing) ne e row f = tt
-    known j (Inside t (Made b x)) ne e row f = made b x (mo.hands j b (Inside t (Made b x)) ne e refl) f.known
+    known j (Inside t (Made b x)) ne e row f =
+        made b x (inl (j, Inside t (Made b x), ne, e, refl)) (mo.hands j b (Inside t (Made b x)) ne e refl) f.known
     known j (Inside t (Seen b)) ne e row f = mo.held t b (inside_of s.world t (Seen b) f.slot) f.known
-    known j (Inside t (Both b x a)) ne e row f =
-        (made b x (mo.hands j b (Inside t (Both b x a)) ne e refl) f.known.0, mo.held t a (inside_of s.world t (Both b x a) f.slot) f.known.1)
+    known j (Inside t (Both b x a)) ne e row f = (
+      made b x (inl (j, Inside t (Both b x a), ne, e, refl)) (mo.hands j b (Inside t (Both b x a)) ne e refl) f.known.0,
+      mo.held t a (inside_of s.world t (Both b x a) f.slot) f.known.1,
+    )
     known j (Inside t (Cut b)) ne e row f = (f.known.0, mo.hands j b (Inside t (Cut b)) ne e refl ∙ f.known.1)
     known j (Settles c why None left) ne e row f = tt
     known j (Settles c why (Some seen) left) ne e row f =
@@ -154,7 +161,9 @@ module _ {T : Type 0} (defers : T → Option ℕ) (fixed : Fixed) (s : State T (
         subst (λ (r : Row). MayStep defers r n.memory) row (rows_may defers fixed.batch_size fixed.roots came_now.0 n came_now.1 j) in
         let some : IsSome (value_at n.memory seen.0) =
         subst (λ (b : ℕ). IsSome (value_at n.memory b)) (sym f.known.1) (reclaiming_there defers c why n.memory may f.known.0) in
-        (f.known.0, f.known.1, mo.values seen.0 (subst IsSome (sym f.known.2) refl) some ∙ f.known.2)
+        let handed : s.world.hand seen.0 ≡ world.Handed =
+        ap s.world.hand f.known.1 ∙ reclaiming_handed defers fixed.batch_size s.world (reached defers fixed s.world h.came) j c why f.row f.known.0 in
+        (f.known.0, f.known.1, mo.values seen.0 (inr handed) (subst IsSome (sym f.known.2) refl) some ∙ f.known.2)
     known j Rests ne e row f = tt
     known j (Registers c) ne e row f = tt
     known j (Outside t) ne e row f = tt
@@ -163,7 +172,7 @@ module _ {T : Type 0} (defers : T → Option ℕ) (fixed : Fixed) (s : State T (
     known j (Leaves t size way) ne e row f = tt
     known j (Left t size way) ne e row f = tt
     known j (Frees t) ne e row f = tt
-    known j (Brings b x) ne e row f = made b x (mo.hands j b (Brings b x) ne e refl) f.known
+    known j (Brings b x) ne e row f = made b x (inl (j, Brings b x, ne, e, refl)) (mo.hands j b (Brings b x) ne e refl) f.known
     known j (Bears b) ne e row f = (f.known.0, mo.hands j b (Bears b) ne e refl ∙ f.known.1)
     known j (Watches t b) ne e row f = tt
     known j (Under n t b) ne e row f = tt

@@ -1,10 +1,10 @@
--- A seat leans on one that has a section open: it begins, looks at roots, and ends; and what it has seen that one keeps meanwhile.
-use Rattle.std.specs.Prelude.{◌≢◌, ◌<◌, Option, Some, None, IsSome}
+-- A seat leans on one that has a section open: it begins, looks at roots, marks them, and ends; and what it has seen that one keeps meanwhile.
+use Rattle.std.specs.Prelude.{◌≢◌, ◌<◌, ◌^◌, Option, Some, None, IsSome, bit_or}
 use Rattle.std.proofs.Common.{◌≡◌, ℕ, true, inl, inr, refl, sym, subst, ap, ◌∙◌}
 use Rattle.std.proofs.lemmas.Bool.{ne_eqb}
-use Rattle.seize_words.specs.OneMemory.Mem.{Mem, Took, value_at}
+use Rattle.seize_words.specs.OneMemory.Mem.{Mem, Can, Took, value_at, word_at}
 use Rattle.seize_words.specs.OneMemory.Word.{block_in}
-use Rattle.seize_words.specs.OneMemory.Op.{Op, Out, Load, Found, Stored, Exchanged, Made as OutMade, Taken, Roomed}
+use Rattle.seize_words.specs.OneMemory.Op.{Op, Out, Load, Or, Found, Stored, Exchanged, Made as OutMade, Taken, Roomed}
 use Rattle.seize_words.specs.declared.at.At.TheVariants.{Root}
 use Rattle.seize.specs.Law.{holds}
 use Rattle.seize.specs.World.{World, IsInside}
@@ -14,19 +14,21 @@ use Rattle.seize_seats.specs.Seats.State.{State, view_of, Allows, Goes}
 use Rattle.seize_views.specs.Views.Rows.{Leads, Holds}
 use Rattle.seize_views.specs.Views.Told.{told}
 use Rattle.seize_views.specs.Views.Watched.{open_at, is_watching, IsBase}
-use Rattle.seize_views.specs.Views.Notes.{noted, as_known, deed, NotedHolds, NotedKeeps, noted_told, SameNotes, LeaningsBegin, LeaningsSee, LeaningsEnd, LeaningsKeep, KeptAreThere}
+use Rattle.seize_views.specs.Views.Notes.{noted, as_known, deed, NotedHolds, NotedKeeps, noted_told, SameNotes, LeaningsBegin, LeaningsSee, LeaningsMark, LeaningsEnd, LeaningsKeep, KeptAreThere}
 use Rattle.seize_views.specs.declared.view.Noted.{Noted}
 use Rattle.seize_views.specs.declared.view.Began.{Began}
 use Rattle.seize_views.specs.declared.view.Deed.{Deed}
 use Rattle.seize_views.specs.declared.view.View.{View}
 use Rattle.seize_views.specs.declared.view.View.TheVariants.{Rests, Watches, Under}
+use Rattle.seize_views.specs.declared.view.Has.TheVariants.{Nothing}
 use Rattle.seize_views.specs.declared.view.Fixed.{Fixed}
 use Rattle.seize_views.proofs.Views.Came.{reached}
 use Rattle.seize_views.proofs.Views.Guarding.{aside_on}
 use Rattle.seize_views.proofs.Views.Notes.{seen_at, goes}
-use Rattle.seize_views.proofs.Views.Roots.{root_held}
+use Rattle.seize_views.proofs.Views.Roots.{root_held, marked, marked_named, marked_found}
+use Rattle.seize_views.proofs.Views.Users.{users_on}
 use Rattle.seize_views.proofs.Views.Watched.{open_inside}
-use Rattle.seize_views.proofs.Views.Written.{root_can}
+use Rattle.seize_views.proofs.Views.Written.{rooted_still, root_can}
 
 module _ {T : Type 0} where
   -- of a view that leans on a seat: which one, of which slot, and what it has seen
@@ -73,41 +75,94 @@ module _ {T : Type 0} (defers : T → Option ℕ) (fixed : Fixed) where
   sees s id n t b r h at (Taken x) m took = absurd took.0
   sees s id n t b r h at (Roomed x) m took = absurd took.0
 
-  module _ (id n t b r : ℕ) (did : Deed T) (began : Began) (guards : ℕ) where
+  -- its word is marked, and what that names is seen
+  marks : (s : State T (View T) (World T)) (id n t b r bits : ℕ) → bits < 2 ^ 11 → (h : Holds defers fixed s) (at : view_of s id ≡ Some (Under n t b)) (out : Out T) (m : Mem T)
+      → Took s.memory (Or (Root r) bits) out m → Leads defers fixed s m id (told defers (Under n t b) (Or (Root r) bits) out)
+  marks s id n t b r bits small h at (Found word) m took =
+      let v : View T = Under n t b in let over = marked defers fixed s id v h at r bits word m small took in
+      users_on defers fixed s id 0 v (Under n t (block_in word)) h at refl refl refl tt m (record s.world { memory = m }) Nothing (record {
+        since = over.since;
+        memory = refl;
+        row = refl;
+        uses = refl;
+        in_hand = tt;
+        hands = λ j c x ne e q. refl;
+        sole = λ j c x ne e q p. cc p;
+        values = λ c its some some2. over.values c;
+        held = λ a c held. held;
+        over = λ a c held. refl;
+        roots = marked_named defers fixed s id v h at r bits word m small took;
+        rooted = rooted_still defers fixed s id v h at r (bit_or word bits) word m over;
+        passes = over.passes;
+      }) (λ c. marked_found defers fixed s id v h at r bits word m small took None c (λ e. absurd (cc e))) refl tt tt (told defers v (Or (Root r) bits) (Found word)) refl
+  marks s id n t b r bits small h at Stored m took = absurd took.0
+  marks s id n t b r bits small h at (Exchanged x) m took = absurd took.0
+  marks s id n t b r bits small h at (OutMade x) m took = absurd took.0
+  marks s id n t b r bits small h at (Taken x) m took = absurd took.0
+  marks s id n t b r bits small h at (Roomed x) m took = absurd took.0
+
+  -- an operation at a root by which a seat that leans sees what that names
+  record Sees (id n t b r : ℕ) (op : Op T) : Type 0 where
+    pub can : (m : Mem T) → IsSome (word_at m (Root r)) → Can m op
+    pub leads : (s : State T (View T) (World T)) → Holds defers fixed s → view_of s id ≡ Some (Under n t b) → (out : Out T) (m : Mem T) → Took s.memory op out m
+        → Leads defers fixed s m id (told defers (Under n t b) op out)
+    pub tells : (m m2 : Mem T) (out : Out T) → Took m op out m2 → (u : View T) → told defers (Under n t b) op out u
+        → (word : ℕ) × (word_at m (Root r) ≡ Some word) × (u ≡ Under n t (block_in word))
+
+  by_load : (id n t b r : ℕ) → Sees id n t b r (Load (Root r))
+  by_load id n t b r = record { can = λ m some. some; leads = λ s h at out m took. sees s id n t b r h at out m took; tells = λ m m2 out took u is. tells m m2 out took u is }
+    where
+      tells : (m m2 : Mem T) (out : Out T) → Took m (Load (Root r)) out m2 → (u : View T) → told defers (Under n t b) (Load (Root r)) out u
+          → (word : ℕ) × (word_at m (Root r) ≡ Some word) × (u ≡ Under n t (block_in word))
+      tells m m2 (Found word) took u is = (word, took.0, is)
+      tells m m2 Stored took u is = absurd is
+      tells m m2 (Exchanged y) took u is = absurd is
+      tells m m2 (OutMade y) took u is = absurd is
+      tells m m2 (Taken y) took u is = absurd is
+      tells m m2 (Roomed y) took u is = absurd is
+
+  by_or : (id n t b r bits : ℕ) → bits < 2 ^ 11 → Sees id n t b r (Or (Root r) bits)
+  by_or id n t b r bits small = record { can = λ m some. some; leads = λ s h at out m took. marks s id n t b r bits small h at out m took; tells = λ m m2 out took u is. tells m m2 out took u is }
+    where
+      tells : (m m2 : Mem T) (out : Out T) → Took m (Or (Root r) bits) out m2 → (u : View T) → told defers (Under n t b) (Or (Root r) bits) out u
+          → (word : ℕ) × (word_at m (Root r) ≡ Some word) × (u ≡ Under n t (block_in word))
+      tells m m2 (Found word) took u is = (word, took.0, is)
+      tells m m2 Stored took u is = absurd is
+      tells m m2 (Exchanged y) took u is = absurd is
+      tells m m2 (OutMade y) took u is = absurd is
+      tells m m2 (Taken y) took u is = absurd is
+      tells m m2 (Roomed y) took u is = absurd is
+
+  module _ (id n t b r : ℕ) (op : Op T) (by : Sees id n t b r op) (did : Deed T) (began : Began) (guards : ℕ) where
     abbrev me : Noted T
     me = noted (Under n t b) did began guards
 
-    abbrev load : Op T
-    load = Load (Root r)
-
     -- it is under that seat still, and has seen this
-    record Saw (s : State T (Noted T) (World T)) (out : Out T) (u : View T) : Type 0 where
+    record Saw (s : State T (Noted T) (World T)) (u : View T) : Type 0 where
       pub block : ℕ
       pub view : u ≡ Under n t block
       pub held : block ≢ 0 → holds t block s.world.log ≡ true
 
-    saw : (s : State T (Noted T) (World T)) (h : N s) (at : view_of s id ≡ Some me) (out : Out T) (m : Mem T) → Took s.memory load out m
-        → (u : View T) → told defers (Under n t b) load out u → Saw s out u
-    saw s h at (Found word) m took u is = record {
-      block = block_in word;
-      view = is;
-      held = λ some. root_held defers fixed (as_known s) t h.0 (base_inside s h n t (h.1.leaned.based id n t b me at refl)) r word took.0
-          (ne_eqb (block_in word) 0 some);
-    }
-    saw s h at Stored m took u is = absurd is
-    saw s h at (Exchanged y) m took u is = absurd is
-    saw s h at (OutMade y) m took u is = absurd is
-    saw s h at (Taken y) m took u is = absurd is
-    saw s h at (Roomed y) m took u is = absurd is
+    saw : (s : State T (Noted T) (World T)) (h : N s) (at : view_of s id ≡ Some me) (out : Out T) (m : Mem T) → Took s.memory op out m
+        → (u : View T) → told defers (Under n t b) op out u → Saw s u
+    saw s h at out m took u is =
+        let k = by.tells s.memory m out took u is in
+        record {
+          block = block_in k.0;
+          view = k.2;
+          held = λ some. root_held defers fixed (as_known s) t h.0 (base_inside s h n t (h.1.leaned.based id n t b me at refl)) r k.0 k.1
+              (ne_eqb (block_in k.0) 0 some);
+        }
 
-    may_see : r < fixed.roots → Allows N NotedKeeps id me load (noted_told defers me load)
+    may_see : r < fixed.roots → Allows N NotedKeeps id me op (noted_told defers me op)
     may_see lt s h at =
         let here = seen_at defers fixed s id me at in let base = h.1.leaned.based id n t b me at refl in (
-          root_can defers fixed (as_known s) id (Under n t b) h.0 here r lt,
+          by.can s.memory (root_can defers fixed (as_known s) id (Under n t b) h.0 here r lt),
           λ out m took.
-              let g = sees (as_known s) id n t b r h.0 here out m took in let k = saw s h at out m took g.0 g.5 in
-              goes defers fixed s h m id me at (told defers (Under n t b) load out) (deed (Under n t b) did load out) began
-              (λ u is x. ap (is_watching x) (saw s h at out m took u is).view) (λ u is. inr (inl refl)) g
+              let g = by.leads (as_known s) h.0 here out m took in let k = saw s h at out m took g.0 g.5 in
+              goes defers fixed s h m id me at (told defers (Under n t b) op out) (deed (Under n t b) did op out) began
+              (λ u is x. ap (is_watching x) (saw s h at out m took u is).view)
+              (λ u is. inr (inl refl)) g
               (λ x c e some. absurd (not_watching g.0 n t k.block x c k.view e))
               (λ j x c e.
               let f : Under n t k.block ≡ Under j x c = sym k.view ∙ e in
@@ -162,7 +217,13 @@ module _ (T : Type 0) (defers : T → Option ℕ) where
   leanings_see fixed id n t b r v is lt =
       subst (λ (x : View T). Allows (NotedHolds defers fixed) NotedKeeps id (noted x v.did v.began v.guards) (Load (Root r))
       (noted_told defers (noted x v.did v.began v.guards) (Load (Root r)))) (sym is)
-      (may_see defers fixed id n t b r v.did v.began v.guards lt)
+      (may_see defers fixed id n t b r (Load (Root r)) (by_load defers fixed id n t b r) v.did v.began v.guards lt)
+
+  pub leanings_mark : LeaningsMark T defers
+  leanings_mark fixed id n t b r bits v is small lt =
+      subst (λ (x : View T). Allows (NotedHolds defers fixed) NotedKeeps id (noted x v.did v.began v.guards) (Or (Root r) bits)
+      (noted_told defers (noted x v.did v.began v.guards) (Or (Root r) bits))) (sym is)
+      (may_see defers fixed id n t b r (Or (Root r) bits) (by_or defers fixed id n t b r bits small) v.did v.began v.guards lt)
 
   pub leanings_end : LeaningsEnd T defers
   leanings_end fixed id n t b v is s h at = ends defers fixed id n t b v is s h at

@@ -20,7 +20,7 @@ use Rattle.seize_acts.proofs.Given.SeizeRuleRows.Teams.{UseFits}
 use Rattle.seize_acts.proofs.Given.SeizeAloneHistories.Reached.{Reached}
 use Rattle.seize_acts.proofs.Acts.Answers.{same_some}
 use Rattle.seize_seats.specs.Seats.State.{State, view_of}
-use Rattle.seize_views.specs.Views.Rows.{Leads, TurnsTo, had_in, IsMade, IsInHand, RootsNameLinked, Holds}
+use Rattle.seize_views.specs.Views.Rows.{Leads, TurnsTo, had_in, hand_of, IsMade, IsInHand, RootsNameLinked, Holds}
 use Rattle.seize_views.specs.Views.Told.{seen_in, cut_in, made_beside, alone_with, told}
 use Rattle.seize_views.specs.Views.Promises.{MadeAreLinked, MadeAreExchanged, OwnAreLinked, OwnAreExchanged, RootsAreSeen, RootsAreMarked, RootsAreCleared, RootsAreWithdrawn}
 use Rattle.seize_views.specs.declared.view.View.{View}
@@ -97,6 +97,35 @@ seen_hand : (T : Type 0) (b : ℕ) (y : Bool) → had_in {T = T} (if y then Noth
 seen_hand T b true = refl
 seen_hand T b false = refl
 
+-- bits of the tag of the word at a root are set
+module _ {T : Type 0} (defers : T → Option ℕ) (fixed : Fixed) (s : State T (View T) (World T)) (id : ℕ) (v : View T) (h : Holds defers fixed s)
+    (at : view_of s id ≡ Some v) (a bits word : ℕ) (m : Mem T) (small : bits < 2 ^ 11) (took : Took s.memory (Or (Root a) bits) (Found word) m) where
+  abbrev marked_word : ℕ
+  marked_word = bit_or word bits
+
+  pub marked : Wrote defers fixed s id a marked_word word m
+  marked = wrote defers fixed s id v h at a marked_word word m (Or (Root a) bits) (Found word) tt took took.0 took.1
+
+  same_named : (block_in word ≡ 0) ⊎ (s.world.hand (block_in word) ≡ world.InUse a)
+      → (block_in marked_word ≡ 0) ⊎ (s.world.hand (block_in marked_word) ≡ world.InUse a)
+  same_named (inl none) = inl (marked_block word bits small ∙ none)
+  same_named (inr linked) = inr (ap s.world.hand (marked_block word bits small) ∙ linked)
+
+  -- it names the block that it has named
+  pub marked_named : RootsNameLinked m s.world.hand
+  marked_named = roots_now defers fixed s id v h at a marked_word word m s.world.hand marked (same_named (h.roots a word took.0)) (λ c e ne f. f)
+
+  -- and each block is found as before
+  pub marked_found : (o : Option ℕ) (b : ℕ) → (hand_of v ≡ Some b → o ≡ Some b) → FoundIn defers fixed s id v h at m o b (s.world.hand b)
+  marked_found o b still = by (found_but defers fixed s id v h at a marked_word word m marked o b still)
+    where
+      by : FoundIn defers fixed s id v h at m o b (s.world.hand b) ⊎ ((block_in word ≡ b) × (s.world.hand b ≡ world.InUse a))
+          → FoundIn defers fixed s id v h at m o b (s.world.hand b)
+      by (inl f) = f
+      by (inr is) =
+          subst (λ (k : Hand). FoundIn defers fixed s id v h at m o b k) (sym is.1)
+          (marked_word, written defers fixed s id v h at a marked_word word m marked, marked_block word bits small ∙ is.0)
+
 module _ {T : Type 0} (defers : T → Option ℕ) (fixed : Fixed) (s : State T (View T) (World T)) (id t : ℕ) (place : Has T → View T) (carries : Carries t place)
     (had : Has T) (h : Holds defers fixed s) (at : view_of s id ≡ Some (place had)) where
   abbrev w : World T
@@ -120,7 +149,7 @@ module _ {T : Type 0} (defers : T → Option ℕ) (fixed : Fixed) (s : State T (
         in_hand = known;
         hands = λ j c x ne e q. refl;
         sole = λ j c x ne e q p. ne (h.sole j id c x (place had) e at q (carries.hand had ∙ sym still ∙ p));
-        values = λ c some some2. refl;
+        values = λ c its some some2. refl;
         held = λ b c held. held;
         over = λ a c held. refl;
         roots = subst (λ (x : Mem T). RootsNameLinked x w.hand) (sym same) h.roots;
@@ -159,7 +188,7 @@ module _ {T : Type 0} (defers : T → Option ℕ) (fixed : Fixed) (s : State T (
         hands = λ j c x ne e q. with_other w.hand b c (world.InUse a)
             (λ k. ne (h.sole j id b x (place had) e at (q ∙ ap Some k) (carries.hand had ∙ had_it)));
         sole = λ j c x ne e q p. cc p;
-        values = λ c some some2. wrote.values c;
+        values = λ c its some some2. wrote.values c;
         held = λ e c held. held_on e c (Linked b a) w.log tt held;
         over = λ e c held. ap (λ (y : Bool). cond y false (is_over c w.log)) (ne_eqb c b (making_not_held defers fixed.batch_size w r i e b c held mine));
         roots = named;
@@ -219,17 +248,13 @@ module _ {T : Type 0} (defers : T → Option ℕ) (fixed : Fixed) (s : State T (
   swaps b x a link names made had_it so tells (Taken y) m took = absurd took.0
   swaps b x a link names made had_it so tells (Roomed y) m took = absurd took.0
 
-  -- bits of the tag of the word at a root are set: it names the block that it has named, which is seen
+  -- bits of the tag of the word at a root are set, and the block that it names is seen
   marks : (a bits word : ℕ) (m : Mem T) → bits < 2 ^ 11 → had_in had ≡ None → IsInside (w.uses t) → Took s.memory (Or (Root a) bits) (Found word) m
       → (so : View T → Type 0) → so (place (seen_in word)) → Leads defers fixed s m id so
   marks a bits word m small none inside took so is =
-      let n : World T = record w { memory = m } in
-      let new : ℕ = bit_or word bits in
-      let over : Wrote defers fixed s id a new word m = wrote defers fixed s id (place had) h at a new word m (Or (Root a) bits) (Found word) tt took took.0 took.1 in
-      let named : RootsNameLinked m n.hand =
-      roots_now defers fixed s id (place had) h at a new word m n.hand over (same_named word new (marked_block word bits small) (h.roots a word took.0)) (λ c e ne f. f) in
+      let over = marked defers fixed s id (place had) h at a bits word m small took in
       let still : had_in (seen_in word) ≡ had_in had = seen_hand T (block_in word) (block_in word == 0) ∙ sym none in
-      users defers fixed s id t h place carries had at m n (seen_in word) (record {
+      users defers fixed s id t h place carries had at m (record w { memory = m }) (seen_in word) (record {
         since = over.since;
         memory = refl;
         row = refl;
@@ -237,31 +262,13 @@ module _ {T : Type 0} (defers : T → Option ℕ) (fixed : Fixed) (s : State T (
         in_hand = marked_known defers fixed s t h inside a word m took.0 (block_in word == 0) refl;
         hands = λ j c x ne e q. refl;
         sole = λ j c x ne e q p. ne (h.sole j id c x (place had) e at q (carries.hand had ∙ sym still ∙ p));
-        values = λ c some some2. over.values c;
+        values = λ c its some some2. over.values c;
         held = λ b c held. held;
         over = λ e c held. refl;
-        roots = named;
-        rooted = rooted_still defers fixed s id (place had) h at a new word m over;
+        roots = marked_named defers fixed s id (place had) h at a bits word m small took;
+        rooted = rooted_still defers fixed s id (place had) h at a (bit_or word bits) word m over;
         passes = over.passes;
-      }) (λ b. found_marked b (found_but defers fixed s id (place had) h at a new word m over (had_in {T = T} (seen_in word)) b (λ e. still ∙ sym (carries.hand had) ∙ e)))
-      so is
-    where
-      -- a block that the root has named it names still
-      found_marked : (b : ℕ) → IsFoundIn m (had_in {T = T} (seen_in word)) b (w.hand b) ⊎ ((block_in word ≡ b) × (w.hand b ≡ world.InUse a))
-          → IsFoundIn m (had_in {T = T} (seen_in word)) b (w.hand b)
-      found_marked b (inl f) = f
-      found_marked b (inr is) =
-          subst (λ (k : Hand). IsFoundIn m (had_in {T = T} (seen_in word)) b k) (sym is.1) (
-            bit_or word bits,
-            written defers fixed s id (place had) h at a (bit_or word bits) word m
-                (wrote defers fixed s id (place had) h at a (bit_or word bits) word m (Or (Root a) bits) (Found word) tt took took.0 took.1),
-            marked_block word bits small ∙ is.0,
-          )
-
-      same_named : (word new : ℕ) → block_in new ≡ block_in word → (block_in word ≡ 0) ⊎ (w.hand (block_in word) ≡ world.InUse a)
-          → (block_in new ≡ 0) ⊎ (w.hand (block_in new) ≡ world.InUse a)
-      same_named word new same (inl none) = inl (same ∙ none)
-      same_named word new same (inr linked) = inr (ap w.hand same ∙ linked)
+      }) (λ b. marked_found defers fixed s id (place had) h at a bits word m small took (had_in {T = T} (seen_in word)) b (λ e. still ∙ sym (carries.hand had) ∙ e)) so is
 
 beside_hand : {T : Type 0} (b : ℕ) (x : T) (a : ℕ) (y : Bool) → had_in (if y then Made b x else Both b x a) ≡ Some b
 beside_hand b x a true = refl

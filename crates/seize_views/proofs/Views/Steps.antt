@@ -160,7 +160,7 @@ module _ {T : Type 0} (defers : T → Option ℕ) (fixed : Fixed) (s : State T (
     alone = alone u stays;
     hands = hands;
     sole = λ j b x ne e p q. cc (none, q);
-    values = λ b some some2. ap (λ (m : Mem T). value_at m b) memory;
+    values = λ b its some some2. ap (λ (m : Mem T). value_at m b) memory;
     held = λ t b inside held. ap (holds t b) log ∙ held;
     over = λ t b held. ap (is_over b) log;
     roots = roots_kept s.memory s.memory w.hand n.hand refl linked h.roots;
@@ -187,7 +187,7 @@ module _ {T : Type 0} (defers : T → Option ℕ) (fixed : Fixed) (s : State T (
     alone = lone;
     hands = λ j b x ne e q. kept_hand defers fixed.batch_size w r id n step b (IsHad (hand_users w x b (h.seats j x e).known q).0);
     sole = λ j b x ne e p q. cc (none, q);
-    values = λ b some some2. step_keeps defers fixed.batch_size w n id r step b some2;
+    values = λ b its some some2. step_keeps defers fixed.batch_size w n id r step b some2;
     held = λ t b inside held. still_held defers fixed.batch_size w r id n step t b inside held;
     over = λ t b held. ap (is_over b) d.logged ∙ not_over b d.effects w.log d.one;
     roots = roots_kept w.memory m w.hand n.hand same_roots (λ b r is. kept b (world.InUse r) tt is) world_roots;

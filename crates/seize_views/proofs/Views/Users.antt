@@ -24,7 +24,7 @@ use Rattle.seize_views.specs.declared.view.Has.TheVariants.{Nothing, Made, Seen,
 use Rattle.seize_views.specs.declared.view.Fixed.{Fixed}
 use Rattle.seize_acts.proofs.Bounds.Bounds.Passing.{both}
 use Rattle.seize_views.proofs.Views.Found.{AreFound}
-use Rattle.seize_views.proofs.Views.Moved.{StillHave, IsSole, Passes, moved, still_used}
+use Rattle.seize_views.proofs.Views.Moved.{StillHave, IsSole, Passes, IsOthers, moved, still_used}
 use Rattle.seize_views.proofs.Views.Steps.{alone}
 
 -- hands of different kinds, and of different holders
@@ -81,7 +81,7 @@ module _ {T : Type 0} (defers : T → Option ℕ) (fixed : Fixed) (s : State T (
     pub in_hand : IsInHand n t has
     pub hands : StillHave defers fixed s id n
     pub sole : IsSole defers fixed s id (had_in has)
-    pub values : (b : ℕ) → IsSome (value_at w.memory b) → IsSome (value_at n.memory b) → value_at n.memory b ≡ value_at w.memory b
+    pub values : (b : ℕ) → IsOthers defers fixed s id b → IsSome (value_at w.memory b) → IsSome (value_at n.memory b) → value_at n.memory b ≡ value_at w.memory b
     pub held : (a b : ℕ) → holds a b w.log ≡ true → holds a b n.log ≡ true
     pub over : (a b : ℕ) → holds a b w.log ≡ true → is_over b n.log ≡ is_over b w.log
     pub roots : RootsNameLinked m n.hand

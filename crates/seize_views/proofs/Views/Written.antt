@@ -230,7 +230,7 @@ module _ {T : Type 0} (defers : T → Option ℕ) (fixed : Fixed) (s : State T (
         in_hand = tt;
         hands = λ j c y ne e q. refl;
         sole = λ j c y ne e q p. cc p;
-        values = λ c some some2. wrote.values c;
+        values = λ c its some some2. wrote.values c;
         held = λ e c held. held;
         over = λ e c held. refl;
         roots = named;

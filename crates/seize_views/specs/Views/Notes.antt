@@ -1,5 +1,5 @@
 -- The rule with what each seat has done last: it is noted as it is done, and whatever a seat may do by what it knows it may do.
-use Rattle.std.specs.Prelude.{◌≡◌, ◌≢◌, ◌+◌, ◌<◌, ℕ, true, Option, Some, None, Ok, Err, map}
+use Rattle.std.specs.Prelude.{◌≡◌, ◌≢◌, ◌+◌, ◌<◌, ◌^◌, ℕ, true, Option, Some, None, Ok, Err, map}
 use Rattle.seize_words.specs.OneMemory.Word.{block_in}
 use Rattle.seize_words.specs.OneMemory.Op.{Op, Out, Load, Swap, Or, Exchange, Found, Exchanged}
 use Rattle.seize_words.specs.declared.at.At.TheVariants.{Root}
@@ -181,6 +181,12 @@ module _ (T : Type 0) (defers : T → Option ℕ) where
   LeaningsSee =
       (fixed : Fixed) (id n t b r : ℕ) (v : Noted T) → v.knows ≡ Under n t b → r < fixed.roots
       → Allows (NotedHolds defers fixed) NotedKeeps id v (Load (Root r)) (noted_told defers v (Load (Root r)))
+
+  -- or set bits of the tag of the word there, which it sees,
+  abbrev pub LeaningsMark : Type 0
+  LeaningsMark =
+      (fixed : Fixed) (id n t b r bits : ℕ) (v : Noted T) → v.knows ≡ Under n t b → bits < 2 ^ 11 → r < fixed.roots
+      → Allows (NotedHolds defers fixed) NotedKeeps id v (Or (Root r) bits) (noted_told defers v (Or (Root r) bits))
 
   -- and rest again; what it has seen that one keeps
   abbrev pub LeaningsEnd : Type 0

@@ -2,7 +2,7 @@
 -- blocks within its section.
 use Rattle.std.specs.Prelude.{◌≡◌, ◌<◌, ◌^◌, ◌⊎◌, ℕ, Option, Some, None}
 use Rattle.seize_words.specs.OneMemory.Word.{block_in, link_to}
-use Rattle.seize_words.specs.OneMemory.Op.{Op, Load, Store, Swap, Or, Exchange, Make, Take}
+use Rattle.seize_words.specs.OneMemory.Op.{Op, Load, Store, Swap, Or, Exchange, Make, Take, Rewrite}
 use Rattle.seize_words.specs.OneMemory.Plan.{Plan, Turn, Do}
 use Rattle.seize_words.specs.declared.at.At.TheVariants.{Root, Slot}
 use Rattle.seize.specs.declared.states.TheConstants.{HEAD, FREE, ACTIVE}
@@ -160,8 +160,8 @@ module _ (T : Type 0) (defers : T → Option ℕ) where
       (r : ℕ) (fixed : Fixed) (id t : ℕ) → r < fixed.roots
       → Permits defers fixed id (Outside t) (Swap (Root r) 0) (told defers (Outside t) (Swap (Root r) 0))
 
-  -- Without a slot a seat may make a block with the words that its value asks for, take it away, or put it at a root, by a word that links to it, in place of
-  -- what is there, or only in place of this word.
+  -- Without a slot a seat may make a block with the words that its value asks for, take it away, give it a value that keeps its list in the same word, or put
+  -- it at a root, by a word that links to it, in place of what is there, or only in place of this word.
   abbrev pub MayAlone : Has T → Op T → Type 0
   MayAlone has op = (fixed : Fixed) (id : ℕ) → Permits defers fixed id (alone_with has) op (told defers (alone_with has) op)
 
@@ -170,6 +170,9 @@ module _ (T : Type 0) (defers : T → Option ℕ) where
 
   abbrev pub OwnAreTaken : Type 0
   OwnAreTaken = (b : ℕ) (x : T) → MayAlone (Made b x) (Take b)
+
+  abbrev pub OwnAreRewritten : Type 0
+  OwnAreRewritten = (b : ℕ) (x y : T) → defers y ≡ defers x → MayAlone (Made b x) (Rewrite b y)
 
   abbrev pub OwnAreLinked : Type 0
   OwnAreLinked =

@@ -142,7 +142,16 @@ module _ {T : Type 0} (defers : T → Option ℕ) where
   leans_still m t b (Swap at word) out w is n leans = absurd is
   leans_still m t b (Store at word) out w is n leans = absurd is
   leans_still m t b (Add at word) out w is n leans = absurd is
-  leans_still m t b (Or at word) out w is n leans = absurd is
+  leans_still m t b (Or (Root r) bits) (Found word) w is n leans = subst (λ (x : View T). LeansOn x n) is leans
+  leans_still m t b (Or (Root r) bits) Stored w is n leans = absurd is
+  leans_still m t b (Or (Root r) bits) (Exchanged x) w is n leans = absurd is
+  leans_still m t b (Or (Root r) bits) (OutMade x) w is n leans = absurd is
+  leans_still m t b (Or (Root r) bits) (Taken x) w is n leans = absurd is
+  leans_still m t b (Or (Root r) bits) (Roomed x) w is n leans = absurd is
+  leans_still m t b (Or (Used r) bits) out w is n leans = absurd is
+  leans_still m t b (Or (Slot a c) bits) out w is n leans = absurd is
+  leans_still m t b (Or (Entry a c) bits) out w is n leans = absurd is
+  leans_still m t b (Or (Word a c) bits) out w is n leans = absurd is
   leans_still m t b (Exchange at old word) out w is n leans = absurd is
   leans_still m t b (Make x words) out w is n leans = absurd is
   leans_still m t b (Take c) out w is n leans = absurd is

@@ -2,7 +2,7 @@
 use Rattle.std.specs.Prelude.{◌≡◌, ◌≢◌, ◌<◌, ◌^◌, ℕ, ◌==◌, Option, Some, None, Ok, Err, nat_lt, if◌then◌else◌}
 use Rattle.seize_words.specs.OneMemory.Mem.{Mem, Took, value_at}
 use Rattle.seize_words.specs.OneMemory.Word.{block_in}
-use Rattle.seize_words.specs.OneMemory.Op.{Op, Out, Load, Swap, Or, Exchange, Make, Take, Found, Made as OutMade, Taken, Exchanged}
+use Rattle.seize_words.specs.OneMemory.Op.{Op, Out, Load, Swap, Or, Exchange, Make, Take, Rewrite, Found, Made as OutMade, Taken, Exchanged}
 use Rattle.seize_words.specs.OneMemory.Plan.{Plan, Turn, Do, Ends}
 use Rattle.seize_words.specs.declared.at.At.TheVariants.{Root}
 use Rattle.seize.specs.declared.states.TheConstants.{ACTIVE}
@@ -40,8 +40,8 @@ seen_in word = seen_as (block_in word)
 abbrev pub cut_in : {T : Type 0} → ℕ → Has T
 cut_in word = cut_as (block_in word)
 
--- what a seat within a section comes to know: it makes a block, takes it away again, or puts it at a root, whatever is there or only in place of this word;
--- sees what a root names, marks that or not, or takes it from there
+-- what a seat within a section comes to know: it makes a block, takes it away again, gives it another value, or puts it at a root, whatever is there or only in
+-- place of this word; sees what a root names, marks that or not, or takes it from there
 abbrev pub has_told : {T : Type 0} → Has T → Op T → Out T → Has T → Type 0
 has_told Nothing (Make value words) (OutMade (Ok b)) after = (b < 2 ^ 53) × (after ≡ Made b value)
 has_told Nothing (Make value words) (OutMade (Err back)) after = (back ≡ value) × (after ≡ Nothing)
@@ -49,6 +49,7 @@ has_told (Seen a) (Make value words) (OutMade (Ok b)) after = (b < 2 ^ 53) × (a
 has_told (Seen a) (Make value words) (OutMade (Err back)) after = (back ≡ value) × (after ≡ Seen a)
 has_told (Made b x) (Take c) (Taken value) after = (value ≡ x) × (after ≡ Nothing)
 has_told (Both b x a) (Take c) (Taken value) after = (value ≡ x) × (after ≡ Seen a)
+has_told (Made b x) (Rewrite c y) (Taken value) after = (value ≡ x) × (after ≡ Made b y)
 has_told (Made b x) (Swap (Root r) word) (Found old) after = after ≡ cut_in old
 has_told Nothing (Swap (Root r) word) (Found old) after = after ≡ cut_in old
 has_told (Made b x) (Exchange (Root r) old new) (Exchanged (Ok was)) after = after ≡ cut_in old
@@ -123,4 +124,5 @@ module _ {T : Type 0} (defers : T → Option ℕ) where
   told (Frees t) op out w = w ≡ Rests
   told (Watches t b) (Load (Root r)) (Found word) w = w ≡ Watches t (block_in word)
   told (Under n t b) (Load (Root r)) (Found word) w = w ≡ Under n t (block_in word)
+  told (Under n t b) (Or (Root r) bits) (Found word) w = w ≡ Under n t (block_in word)
   told _ op out w = ⊥

@@ -4,8 +4,8 @@ ghost use Rattle.seize_views.specs.Views.Promises.{BlocksAreMade, MadeAreTaken, 
 ghost use Rattle.seize_views.specs.Views.Promises.{RootsAreSeen, RootsAreMarked, RootsAreCleared, RootsAreWithdrawn};
 ghost use Rattle.seize_views.specs.Views.Notes.{StartsAreNoted, ComingsAreNoted, StepsAreNoted, TurnsAreNoted, SettlingsAreNoted, MeetingsAreNoted, LooksAreNoted};
 ghost use Rattle.seize_views.specs.Views.Notes.{WatchesBegin, WatchesEnd, WatchersSee, WatchedAreShown};
-ghost use Rattle.seize_views.specs.Views.Notes.{LeaningsBegin, LeaningsSee, LeaningsEnd, LeaningsKeep, KeptAreThere};
-ghost use Rattle.seize_views.specs.Views.Promises.{OwnAreMade, OwnAreTaken, OwnAreLinked, OwnAreExchanged, OwnAreShown, BorneAreShown, BorneAreHandedOn};
+ghost use Rattle.seize_views.specs.Views.Notes.{LeaningsBegin, LeaningsSee, LeaningsMark, LeaningsEnd, LeaningsKeep, KeptAreThere};
+ghost use Rattle.seize_views.specs.Views.Promises.{OwnAreMade, OwnAreTaken, OwnAreRewritten, OwnAreLinked, OwnAreExchanged, OwnAreShown, BorneAreShown, BorneAreHandedOn};
 ghost use Rattle.seize_views.specs.Views.Values.{ValuesAreFound};
 
 use seize::rows::Defers;
@@ -20,8 +20,8 @@ pub fn rows_go_on<T: Defers>()
     ensures looked { LookedAreShown T T.defers }
 {}
 
-/// Within a section a block may be made, taken away by its maker, put at a root, whatever is there or only in place of a word, seen there, marked there, and taken
-/// from there, which may be done outside of a section, too; and a block that is known may be looked at.
+/// Within a section a block may be made, taken away by its maker, put at a root, whatever is there or only in place of a word, seen there, marked there, and
+/// taken from there, which may be done outside of a section, too; and a block that is known may be looked at.
 pub fn sections_go_on<T: Defers>()
     ensures made { BlocksAreMade T T.defers }
     ensures taken { MadeAreTaken T T.defers }
@@ -34,11 +34,12 @@ pub fn sections_go_on<T: Defers>()
     ensures known { KnownAreShown T T.defers }
 {}
 
-/// Without a slot a block may be made, looked at, taken away by its maker, and put at a root, whatever is there or only in place of a word; and one that is
-/// taken from there so may be looked at, and handed on to who has a slot.
+/// Without a slot a block may be made, looked at, taken away by its maker, given another value by him, and put at a root, whatever is there or only in place of
+/// a word; and one that is taken from there so may be looked at, and handed on to who has a slot.
 pub fn blocks_have_seats<T: Defers>()
     ensures made { OwnAreMade T T.defers }
     ensures taken { OwnAreTaken T T.defers }
+    ensures rewritten { OwnAreRewritten T T.defers }
     ensures linked { OwnAreLinked T T.defers }
     ensures exchanged { OwnAreExchanged T T.defers }
     ensures shown { OwnAreShown T T.defers }
@@ -71,11 +72,12 @@ pub fn sections_are_watched<T: Defers>()
     ensures shown { WatchedAreShown T T.defers }
 {}
 
-/// A seat may begin to lean on one that has a section open, and is lent for that, look at roots, and end; what it has seen that one keeps, and what is kept is
-/// there.
+/// A seat may begin to lean on one that has a section open, and is lent for that, look at roots, mark them, and end; what it has seen that one keeps, and what
+/// is kept is there.
 pub fn sections_are_leaned_on<T: Defers>()
     ensures begin { LeaningsBegin T T.defers }
     ensures see { LeaningsSee T T.defers }
+    ensures mark { LeaningsMark T T.defers }
     ensures end { LeaningsEnd T T.defers }
     ensures keep { LeaningsKeep T T.defers }
     ensures there { KeptAreThere T T.defers }

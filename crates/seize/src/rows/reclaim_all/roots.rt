@@ -2,25 +2,25 @@
 ghost use Rattle.seize_words.specs.OneMemory.Plan.{May, Steps};
 ghost use Rattle.seize.specs.ReclaimAll.{roots, nexts, takes, empties, unuses};
 
-use crate::rows::reclaim_all::{LeftOver, ReclaimAll, Reclaiming};
+use crate::rows::reclaim_all::{Leftovers, ReclaimAll, Reclaiming};
 use crate::rows::settle::Settled;
 use crate::states::NEXT;
 use seize_words::{At, Link, Memory};
 
 impl ReclaimAll {
     /// Reads the link of a root, and whether it names what was left over.
-    pub(super) fn roots<T: LeftOver, M: Memory<T>>(
+    pub(super) fn roots<T, L: Leftovers<T>, M: Memory<T>>(
         &mut self,
         memory: &mut M,
         root: u64,
     ) -> Settled<T>
-        requires { May M.can M.took M.shown memory.old (roots T.left_over self.old root) }
-        ensures { Steps M.took M.shown memory.old (roots T.left_over self.old root) memory.new (self.new, result) }
+        requires { May M.can M.took M.shown memory.old (roots L.left self.old root) }
+        ensures { Steps M.took M.shown memory.old (roots L.left self.old root) memory.new (self.new, result) }
     {
         let block = memory.load(At::Root(root));
         if block == 0 {
             self.next_root(root);
-        } else if memory.value(Link::block_of(block)).is_left_over() {
+        } else if L::is_left(memory.value(Link::block_of(block))) {
             self.stands = Reclaiming::Nexts { root, block };
         } else {
             self.next_root(root);

@@ -1,3 +1,4 @@
+use Rattle.seize.specs.ReclaimAll.{none_left}
 use Rattle.std.proofs.Common.{sym, subst, ◌∙◌}
 use Rattle.seize_seats.specs.Seats.Errands.{RenewsFrom}
 use Rattle.seize_seats.specs.Seats.Owned.{BaseId, IsLike}
@@ -10,7 +11,7 @@ use Rattle.seize_collector.proofs.reclaim.emptied.Goals as goal
 
 pub used-requires-clause-ends : goal.used-requires-clause-ends
 used-requires-clause-ends g c =
-    let k = c.acts-seat.ensures.over in let f = c.args.fixed.now in let defers = g.T.Defers.defers in let left_over = g.T.LeftOver.left_over in
+    let k = c.acts-seat.ensures.over in let f = c.args.fixed.now in let defers = g.T.Defers.defers in let left_over = none_left in
     let id = c.acts-seat.result.id in
     let rests : Alone g.row.T.Denot → Type 0 = λ v. Unit {0} in
     let ends = c.one_acts_alone.ensures.ends defers left_over f id k.0 k.2.0 k.2.1 k.1 in
@@ -19,7 +20,7 @@ used-requires-clause-ends g c =
 
 pub returns-clause-empty : goal.returns-clause-empty
 returns-clause-empty g c =
-    let k = c.acts-seat.ensures.over in let f = c.args.fixed.now in let defers = g.T.Defers.defers in let left_over = g.T.LeftOver.left_over in
+    let k = c.acts-seat.ensures.over in let f = c.args.fixed.now in let defers = g.T.Defers.defers in let left_over = none_left in
     let id = c.acts-seat.result.id in let m = c.used.result.blocks.words.start in
     let rests : Alone g.row.T.Denot → Type 0 = λ v. Unit {0} in
     let there = subst (λ (x : Fixed). WasKnown rests (HoldsOne defers left_over x) id c.acts-seat.result.view m) c.alone-home.ensures.fixed c.used.ensures.start in

@@ -1,3 +1,4 @@
+use Rattle.seize.specs.ReclaimAll.{none_left}
 use Rattle.std.proofs.Common.{◌≡◌, ◌∙◌, ap, subst, sym}
 use Rattle.seize_collector.specs.Renews.Rule.{all_of}
 use Rattle.seize_words.specs.OneMemory.Op.{Load, Room}
@@ -12,13 +13,13 @@ use Rattle.seize_collector.proofs.sole.Sole.tries.Goals.{in-Some+else-is_err, in
 
 pub load-seen-requires : goal.load-seen-requires
 load-seen-requires g c =
-    can_make g.T.Defers.defers g.T.LeftOver.left_over (c.one_acts_alone.ensures.goes g.T.Defers.defers g.T.LeftOver.left_over) c.args.self.now (Load (Slot c.args.slot HEAD))
-    (ap (op_of_one g.T.Defers.defers g.T.LeftOver.left_over) c.requires.seeks)
+    can_make g.T.Defers.defers none_left (c.one_acts_alone.ensures.goes g.T.Defers.defers none_left) c.args.self.now (Load (Slot c.args.slot HEAD))
+    (ap (op_of_one g.T.Defers.defers none_left) c.requires.seeks)
 
 pub room-requires : goal.room-requires
 room-requires g c =
-    let defers = g.T.Defers.defers in let left_over = g.T.LeftOver.left_over in let x = c.args.self.now in let seen = c.load-seen.result in
-    can_make defers left_over (c.one_acts_alone.ensures.goes g.T.Defers.defers g.T.LeftOver.left_over) c.load-seen.new.self (Room c.in-Some.bucket)
+    let defers = g.T.Defers.defers in let left_over = none_left in let x = c.args.self.now in let seen = c.load-seen.result in
+    can_make defers left_over (c.one_acts_alone.ensures.goes g.T.Defers.defers none_left) c.load-seen.new.self (Room c.in-Some.bucket)
     (ap (op_of_one defers left_over) (seen_needs defers left_over x.seat.view c.load-seen.new.self.seat.view x.blocks.now.words.fixed.batch_size c.args.slot seen c.in-Some.bucket
     (sym c.in-Some.is ∙ c.needed_bucket.ensures) (free_head seen c.else-seen-ne-NEVER.either) c.requires.seeks c.load-seen.ensures.1))
 

@@ -1,5 +1,5 @@
 use Rattle.seize_views.specs.contracts.law.views.blocks_have_seats.{T-type}
-use Rattle.seize_views.proofs.Views.Blocks.{own_are_made, own_are_taken, own_are_shown, borne_are_shown}
+use Rattle.seize_views.proofs.Views.Blocks.{own_are_made, own_are_taken, own_are_rewritten, own_are_shown, borne_are_shown}
 use Rattle.seize_views.proofs.Views.Roots.{own_are_linked, own_are_exchanged}
 use Rattle.seize_views.proofs.Views.Handing.{borne_are_handed_on}
 use Rattle.seize_views.proofs.law.views.blocks_have_seats.Goals as goal
@@ -9,6 +9,9 @@ returns-clause-made g c = own_are_made (T-type g.row.T) g.T.Defers.defers
 
 pub returns-clause-taken : goal.returns-clause-taken
 returns-clause-taken g c = own_are_taken (T-type g.row.T) g.T.Defers.defers
+
+pub returns-clause-rewritten : goal.returns-clause-rewritten
+returns-clause-rewritten g c = own_are_rewritten (T-type g.row.T) g.T.Defers.defers
 
 pub returns-clause-linked : goal.returns-clause-linked
 returns-clause-linked g c = own_are_linked (T-type g.row.T) g.T.Defers.defers

@@ -2,21 +2,17 @@ use Rattle.std.proofs.Common.{◌≡◌, ℕ, sym, subst, ◌∙◌, inr}
 use Rattle.seize_seats.specs.Seats.Errands.{Away, Lends}
 use Rattle.seize_words.specs.OneMemory.Word.{block_in}
 use Rattle.std.specs.Prelude.{IfSome}
-use Rattle.seize_words.specs.OneMemory.Op.{Load, Found}
-use Rattle.seize_words.specs.declared.at.At.TheVariants.{Root}
 use Rattle.seize_seats.specs.Seats.Lendings.{IsValueOf}
-use Rattle.seize_views.specs.Views.Notes.{NotedHolds, deed}
+use Rattle.seize_views.specs.Views.Notes.{NotedHolds}
 use Rattle.seize_views.specs.Views.Rows.{IsAtRest}
-use Rattle.seize_views.specs.Views.Told.{told}
-use Rattle.seize_views.specs.declared.view.Deed.TheVariants.{Looked}
 use Rattle.seize_views.specs.declared.view.Fixed.{Fixed}
 use Rattle.seize_views.specs.Views.Watched.{LeansOn}
 use Rattle.seize_views.specs.declared.view.View.{View}
 use Rattle.seize_views.specs.declared.view.View.TheVariants.{Under}
-use Rattle.seize_views.proofs.Views.Passing.{leanings_begin, leanings_see, leanings_end}
+use Rattle.seize_views.proofs.Views.Passing.{leanings_begin, leanings_end}
 use Rattle.seize_callers.proofs.caller.pass.ProtectsErrandWithOfRows.run.Given as given
 use Rattle.seize_callers.proofs.caller.pass.ProtectsErrandWithOfRows.run.Goals as goal
-use Rattle.seize_callers.proofs.caller.pass.ProtectsErrandWithOfRows.run.Goals.{After-learn, After-load-word}
+use Rattle.seize_callers.proofs.caller.pass.ProtectsErrandWithOfRows.run.Goals.{After-learn, After-finds-word}
 
 pub learn-requires-clause-own : goal.learn-requires-clause-own
 learn-requires-clause-own g c = (c.requires.0, c.requires.1.3.2 ∙ c.requires.0)
@@ -39,44 +35,44 @@ learn-requires-clause-leans g c = λ w told n leans.
 under : (g : given.Over) (c : After-learn g) → c.learn.new.seat.view.knows ≡ Under c.args.self.guard.now.id c.requires.1.3.4.0 0
 under g c = (c.learn.ensures.goes c.requires.1.3.4.0 c.requires.1.3.4.1).0
 
-pub load-word-requires-clause-own : goal.load-word-requires-clause-own
-load-word-requires-clause-own g c = c.learn.ensures.same.0 ∙ c.requires.0
+pub finds-word-requires-clause-own : goal.finds-word-requires-clause-own
+finds-word-requires-clause-own g c = c.learn.ensures.same.0 ∙ c.requires.0
 
-pub load-word-requires-clause-may : goal.load-word-requires-clause-may
-load-word-requires-clause-may g c =
-    let asks = c.requires.1.3 in let s = c.learn.new.seat in
-    leanings_see g.row.T.Denot g.T.Defers.defers c.args.blocks.now.words.fixed s.id c.args.self.guard.now.id asks.4.0 0 c.args.self.root s.view
-    (under g (goal.at.load-word-requires-clause-may g c).After-learn) asks.5
+pub finds-word-requires-clause-under : goal.finds-word-requires-clause-under
+finds-word-requires-clause-under g c =
+    (c.args.self.guard.now.id, c.requires.1.3.4.0, 0, under g (goal.at.finds-word-requires-clause-under g c).After-learn)
 
--- what it knows then, and has done
-found : (g : given.Over) (c : After-load-word g)
-    → (c.load-word.new.seat.view.knows ≡ Under c.args.self.guard.now.id c.requires.1.3.4.0 (block_in c.load-word.result))
-    × (c.load-word.new.seat.view.did ≡ Looked c.args.self.root c.load-word.result)
+pub finds-word-requires-clause-there : goal.finds-word-requires-clause-there
+finds-word-requires-clause-there g c = c.requires.1.3.5
+
+pub finds-word-requires-clause-small : goal.finds-word-requires-clause-small
+finds-word-requires-clause-small g c = c.requires.1.3.7
+
+-- what it knows then
+found : (g : given.Over) (c : After-finds-word g)
+    → c.finds-word.new.seat.view.knows ≡ Under c.args.self.guard.now.id c.requires.1.3.4.0 (block_in c.finds-word.result)
 found g c =
-    let asks = c.requires.1.3 in let was = (c.learn.ensures.goes asks.4.0 asks.4.1).0 in let op = Load (Root c.args.self.root) in
-    let out = Found c.load-word.result in let n = c.load-word.new.seat.view in (
-      subst (λ (x : View g.row.T.Denot). told g.T.Defers.defers x op out n.knows) was c.load-word.ensures.goes.0,
-      subst (λ (x : View g.row.T.Denot). n.did ≡ deed x c.learn.new.seat.view.did op out) was c.load-word.ensures.goes.1,
-    )
+    let asks = c.requires.1.3 in
+    c.finds-word.ensures.found c.args.self.guard.now.id asks.4.0 0 (c.learn.ensures.goes asks.4.0 asks.4.1).0
 
 pub lent-value-requires-clause-own : goal.lent-value-requires-clause-own
 lent-value-requires-clause-own g c =
     let asks = c.requires.1.3 in (
-      c.load-word.ensures.same.0 ∙ c.learn.ensures.same.0 ∙ sym asks.0,
+      c.finds-word.ensures.same.0 ∙ c.learn.ensures.same.0 ∙ sym asks.0,
       asks.2 ∙ sym asks.0,
     )
 
 pub lent-value-requires-clause-under : goal.lent-value-requires-clause-under
-lent-value-requires-clause-under g c = (c.requires.1.3.4.0, (found g (goal.at.lent-value-requires-clause-under g c).After-load-word).0)
+lent-value-requires-clause-under g c = (c.requires.1.3.4.0, found g (goal.at.lent-value-requires-clause-under g c).After-finds-word)
 
 pub turn-requires-clause-own : goal.turn-requires-clause-own
-turn-requires-clause-own g c = c.load-word.ensures.same.0 ∙ c.learn.ensures.same.0 ∙ c.requires.0
+turn-requires-clause-own g c = c.finds-word.ensures.same.0 ∙ c.learn.ensures.same.0 ∙ c.requires.0
 
 pub turn-requires-clause-may : goal.turn-requires-clause-may
 turn-requires-clause-may g c =
-    let s = c.load-word.new.seat in
-    leanings_end g.row.T.Denot g.T.Defers.defers c.args.blocks.now.words.fixed s.id c.args.self.guard.now.id c.requires.1.3.4.0 (block_in c.load-word.result) s.view
-    (found g (goal.at.turn-requires-clause-may g c).After-load-word).0
+    let s = c.finds-word.new.seat in
+    leanings_end g.row.T.Denot g.T.Defers.defers c.args.blocks.now.words.fixed s.id c.args.self.guard.now.id c.requires.1.3.4.0 (block_in c.finds-word.result) s.view
+    (found g (goal.at.turn-requires-clause-may g c).After-finds-word)
 
 pub turn-requires-clause-errand : goal.turn-requires-clause-errand
 turn-requires-clause-errand g c = λ home rests w so. subst IsAtRest (sym so.0) tt
@@ -86,14 +82,14 @@ turn-requires-clause-leans g c = λ w so n leans. absurd (subst (λ (x : View g.
 
 pub returns : goal.returns
 returns g c =
-    let asks = c.requires.1.3 in let k = found g (goal.at.returns g c).After-load-word in let guard = c.args.self.guard.now in
-    let block = block_in c.load-word.result in (
-      c.turn.ensures.same.0 ∙ c.load-word.ensures.same.0 ∙ c.learn.ensures.same.0,
-      c.turn.ensures.same.1 ∙ c.load-word.ensures.same.1 ∙ c.learn.ensures.same.1,
-      c.turn.ensures.errand ∙ c.load-word.ensures.errand ∙ c.learn.ensures.errand,
+    let asks = c.requires.1.3 in let guard = c.args.self.guard.now in
+    let block = block_in c.finds-word.result in (
+      c.turn.ensures.same.0 ∙ c.finds-word.ensures.same.0 ∙ c.learn.ensures.same.0,
+      c.turn.ensures.same.1 ∙ c.finds-word.ensures.same.1 ∙ c.learn.ensures.same.1,
+      c.turn.ensures.errand ∙ c.finds-word.ensures.same.2 ∙ c.learn.ensures.errand,
       (
         c.turn.ensures.goes.0,
-        c.turn.ensures.goes.1.0 ∙ k.1,
+        c.turn.ensures.goes.1.0 ∙ c.finds-word.ensures.did,
         subst (λ (f : Fixed). IfSome c.lent-value.result (λ value. IsValueOf (NotedHolds g.T.Defers.defers f) guard.id guard.view block value.now)) asks.1 c.lent-value.ensures.lent,
         c.lent-value.ensures.none,
       ),
