@@ -16,8 +16,34 @@ use Rattle.seize.specs.declared.rows.settle.Settled.{Settled}
 use Rattle.seize.specs.Settle.{settle_plan, plan_at, counts}
 use Rattle.seize.specs.World.{World, Row, Rests, Handed, Retire, at_start}
 use Rattle.seize_acts.specs.Acts.Acts.{Begin, Step, Operate, Links, Unlinks}
+use Rattle.seize_acts.proofs.Acts.Answers.{same_some}
 use Rattle.seize_acts.proofs.Acts.Samples.Base.{plain, or_start, after, on, enters, links, settle_by}
 use Rattle.seize_views.specs.Reaches.Reached.{words_of_row, IsWordIn, LeadsBy, LeadsTo, OneLeadsTo, IsOfASlot, IsOfARow, IsOfABlock}
+
+-- words that name such blocks alone
+module _ (such : ℕ → Bool) where
+  abbrev pub all_such : List ℕ → Bool
+  all_such [] = true
+  all_such (word ∷ words) = such (block_in word) && all_such words
+
+  abbrev pub rows_such : List (List ℕ) → Bool
+  rows_such [] = true
+  rows_such (words ∷ rows) = all_such words && rows_such rows
+
+  both : (x y : Bool) → (x && y) ≡ true → (x ≡ true) × (y ≡ true)
+  both true true e = (refl, refl)
+  both true false e = absurd (cc e)
+  both false y e = absurd (cc e)
+
+  pub one_such : (words : List ℕ) (i word : ℕ) → all_such words ≡ true → slice_get words i ≡ Some word → such (block_in word) ≡ true
+  one_such [] i word all at = absurd (cc at)
+  one_such (w ∷ words) zero word all at = subst (λ (k : ℕ). such (block_in k) ≡ true) (same_some w word at) (both (such (block_in w)) (all_such words) all).0
+  one_such (w ∷ words) (suc i) word all at = one_such words i word (both (such (block_in w)) (all_such words) all).1 at
+
+  pub row_such : (rows : List (List ℕ)) (s : ℕ) → rows_such rows ≡ true → all_such (slice_index_or rows s []) ≡ true
+  row_such [] s all = refl
+  row_such (words ∷ rows) zero all = (both (all_such words) (rows_such rows) all).0
+  row_such (words ∷ rows) (suc s) all = row_such rows s (both (all_such words) (rows_such rows) all).1
 
 abbrev skips_at : Settle → Settling → Plan ℕ (Settle × Settled ℕ)
 skips_at c (settling.Appends block) = counts c block
@@ -48,7 +74,7 @@ is_handed = refl
 abbrev m : Mem ℕ
 m = (retired_by skips).memory
 
--- a word that names none of the blocks but 1 and 3
+-- block 1 or 3, or none
 abbrev spares : ℕ → Bool
 spares zero = true
 spares (suc zero) = true
@@ -56,38 +82,12 @@ spares (suc (suc zero)) = false
 spares (suc (suc (suc zero))) = true
 spares (suc (suc (suc (suc b)))) = false
 
-abbrev all_spare : List ℕ → Bool
-all_spare [] = true
-all_spare (word ∷ words) = spares (block_in word) && all_spare words
-
-abbrev rows_spare : List (List ℕ) → Bool
-rows_spare [] = true
-rows_spare (words ∷ rows) = all_spare words && rows_spare rows
-
-both : (x y : Bool) → (x && y) ≡ true → (x ≡ true) × (y ≡ true)
-both true true e = (refl, refl)
-both true false e = absurd (cc e)
-both false y e = absurd (cc e)
-
-one_spares : (words : List ℕ) (i word : ℕ) → all_spare words ≡ true → slice_get words i ≡ Some word → spares (block_in word) ≡ true
-one_spares [] i word all at = absurd (cc at)
-one_spares (w ∷ words) zero word all at = subst (λ (k : ℕ). spares (block_in k) ≡ true) (found w word at) (both (spares (block_in w)) (all_spare words) all).0
-  where
-    found : (k l : ℕ) → Some k ≡ Some l → k ≡ l
-    found k l e = cc e
-one_spares (w ∷ words) (suc i) word all at = one_spares words i word (both (spares (block_in w)) (all_spare words) all).1 at
-
-row_spares : (rows : List (List ℕ)) (s : ℕ) → rows_spare rows ≡ true → all_spare (slice_index_or rows s []) ≡ true
-row_spares [] s all = refl
-row_spares (words ∷ rows) zero all = (both (all_spare words) (rows_spare rows) all).0
-row_spares (words ∷ rows) (suc s) all = row_spares rows s (both (all_spare words) (rows_spare rows) all).1
-
 -- the words of blocks 1 and 3 name no other block
 entry_spares : (c field next : ℕ) → spares c ≡ true → word_at m (Entry c field) ≡ Some next → spares (block_in next) ≡ true
 entry_spares zero field next is at = absurd (cc at)
-entry_spares (suc zero) field next is at = one_spares (0 ∷ 0 ∷ link_to 1 ∷ 3 ∷ []) field next refl at
+entry_spares (suc zero) field next is at = one_such spares (0 ∷ 0 ∷ link_to 1 ∷ 3 ∷ []) field next refl at
 entry_spares (suc (suc zero)) field next is at = absurd (cc is)
-entry_spares (suc (suc (suc zero))) field next is at = one_spares (0 ∷ 0 ∷ link_to 1 ∷ 0 ∷ []) field next refl at
+entry_spares (suc (suc (suc zero))) field next is at = one_such spares (0 ∷ 0 ∷ link_to 1 ∷ 0 ∷ []) field next refl at
 entry_spares (suc (suc (suc (suc c)))) field next is at = absurd (cc is)
 
 -- and no block has words of its own
@@ -112,7 +112,7 @@ leads_not (name ∷ names) word is leads = leads_not names leads.1.0 (next_spare
 
 skips_is_refused : IsOfASlot m 2 ⊎ IsOfARow (retired_by skips) 2 ⊎ IsOfABlock m 2 → ⊥
 skips_is_refused (inl (s, field, word, at, way)) =
-    leads_not way.0 word (one_spares (slice_index_or m.slots s []) field word (row_spares m.slots s refl) at) way.1
+    leads_not way.0 word (one_such spares (slice_index_or m.slots s []) field word (row_such spares m.slots s refl) at) way.1
 skips_is_refused (inr (inl (i, way))) = subst (λ (row : Row). OneLeadsTo m 2 (words_of_row row)) (all_rest i) way
 skips_is_refused (inr (inr (t, field, word, there, at, way))) = no_words t field word at
 
