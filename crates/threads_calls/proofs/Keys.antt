@@ -21,7 +21,7 @@ use Rattle.threads_rule.specs.declared.view.View.{View}
 use Rattle.threads_rule.specs.declared.view.Work.TheVariants.{Nothing}
 use Rattle.threads_rule.specs.Errands.Calling.{HasCalled, IsBack, IsToStore, MachineStores, MayCall, is_put, outcome_of, pair_wanted, wanted_of}
 use Rattle.threads_rule.specs.Errands.Looking.{HasRun}
-use Rattle.threads_rule.specs.Kinds.Kinds.{Kind, Stage}
+use Rattle.threads_rule.specs.CallKinds.Kinds.{Kind, Stage}
 use Rattle.threads_calls.specs.Answers.{CameBack, IsOutOf, has_stored}
 use Rattle.threads_calls.specs.declared.session.keys.Attempt.{Attempt}
 use Rattle.threads_calls.specs.declared.session.keys.Attempt.TheVariants.{Stored, Present}

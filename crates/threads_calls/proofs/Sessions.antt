@@ -16,7 +16,7 @@ use Rattle.papaya_raw.specs.declared.machines.call.KeyCall.{KeyCall}
 use Rattle.papaya_raw.specs.declared.machines.machine.Machine.TheVariants.{Key}
 use Rattle.threads_rule.specs.Views.Begun.{machine_for}
 use Rattle.threads_rule.specs.Errands.Calling.{MayDo, wanted_of}
-use Rattle.threads_rule.specs.Kinds.Kinds.{Kind, Stage, GoesOn}
+use Rattle.threads_rule.specs.CallKinds.Kinds.{Kind, Stage, GoesOn}
 use Rattle.threads_rule.specs.Errands.Looking.{MayLook}
 use Rattle.threads_calls.specs.Standing.{known_as, known_by}
 use Rattle.threads_calls.proofs.Rows.{section_own}

@@ -29,14 +29,14 @@ use Rattle.threads_rule.proofs.Views.Laws.{calls_turn}
 use Rattle.seize_callers.specs.Kept.{kept}
 use Rattle.threads_errands.specs.Made.{CanMake, HasMade, IsSameSeat, shown_of}
 use Rattle.threads_rule.specs.Errands.Calling.{AsksNothing, CalledSo, IsAsking, IsKnownMissing, IsKnownThere, IsUnderWay, MachineGoesOn, TellsSo, Works}
-use Rattle.threads_rule.specs.Kinds.Kinds.{Kind, Stage, SaysSo}
+use Rattle.threads_rule.specs.CallKinds.Kinds.{Kind, Stage, SaysSo}
 use Rattle.threads_rule.specs.Errands.Looking.{HasTold, StaysThere}
 use Rattle.threads_errands.specs.declared.within.Within.{Within}
-use Rattle.threads_rule.proofs.Kinds.Asking.{call_is, says}
+use Rattle.threads_rule.proofs.CallKinds.Asking.{call_is, says}
 use Rattle.threads_errands.proofs.Calls.{can_make, told_shown}
-use Rattle.threads_rule.proofs.Kinds.Leads.{Leads, leads_as}
-use Rattle.threads_rule.proofs.Kinds.Plans.{IsAnsweredBy, LeavesValues, answered_by, follows_one}
-use Rattle.threads_rule.proofs.Kinds.Quiet.{IsQuiet, quiet_as}
+use Rattle.threads_rule.proofs.CallKinds.Leads.{Leads, leads_as}
+use Rattle.threads_rule.proofs.CallKinds.Plans.{IsAnsweredBy, LeavesValues, answered_by, follows_one}
+use Rattle.threads_rule.proofs.CallKinds.Quiet.{IsQuiet, quiet_as}
 
 module _ {T R : Type 0} where
   quiet_leaves : (plan : Plan T R) → IsQuiet plan → LeavesValues plan

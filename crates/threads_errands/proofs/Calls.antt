@@ -19,7 +19,7 @@ use Rattle.threads_rule.specs.declared.view.Work.TheVariants.{Calls}
 use Rattle.threads_rule.proofs.Views.Laws.{calls_go_on}
 use Rattle.threads_errands.specs.Made.{HasAlone, CanMake, HasMade, shown_of}
 use Rattle.threads_errands.specs.declared.within.Within.{Within}
-use Rattle.threads_rule.proofs.Kinds.Plans.{LeavesValues, ReplacesNone, leaves_values}
+use Rattle.threads_rule.proofs.CallKinds.Plans.{LeavesValues, ReplacesNone, leaves_values}
 
 module _ {K V S : Type 0} (same : K → K → Bool) (hash : S → K → ℕ) (c : Within K V S) where
   -- an operation that replaces no value needs no block to itself

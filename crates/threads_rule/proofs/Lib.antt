@@ -1,3 +1,3 @@
-pub mod Kinds
+pub mod CallKinds
 pub mod Views
 pub mod Errands

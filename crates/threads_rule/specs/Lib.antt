@@ -1,4 +1,4 @@
-pub mod Kinds
+pub mod CallKinds
 pub mod Views
 pub mod Errands
 pub mod Given

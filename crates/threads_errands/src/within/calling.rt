@@ -1,7 +1,7 @@
 //! A seat on an errand runs a call on one key.
 ghost use Rattle.std.specs.Prelude.{◌≡◌, ℕ, true, false, Some, IfNone, IfSome};
 ghost use Rattle.threads_rule.specs.Errands.Calling.{CalledSo, HasCalled, HasEnded, IsBack, IsCalling, IsGoing, IsNoQuestion, IsUnderWay, MachineStores, MayCall, TellsSo, handed_by, outcome_of, wanted_of};
-ghost use Rattle.threads_rule.specs.Kinds.Kinds.{Kind, Stage};
+ghost use Rattle.threads_rule.specs.CallKinds.Kinds.{Kind, Stage};
 ghost use Rattle.threads_rule.specs.Errands.Looking.{Begins, HasTold, StaysThere};
 ghost use Rattle.threads_errands.specs.Made.{IsSameSeat};
 ghost use Rattle.map_tables.specs.Chunks.{is_incremental};

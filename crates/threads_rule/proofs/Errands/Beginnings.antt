@@ -27,7 +27,7 @@ use Rattle.threads_rule.specs.declared.view.Work.{Work}
 use Rattle.threads_rule.specs.declared.view.Work.TheVariants.{Nothing, Calls, Makes}
 use Rattle.threads_rule.proofs.Views.Laws.{calls_begin, makings_begin}
 use Rattle.threads_rule.specs.Errands.Calling.{IsUnderWay, MayDo, wanted_of}
-use Rattle.threads_rule.specs.Kinds.Kinds.{Kind, Stage}
+use Rattle.threads_rule.specs.CallKinds.Kinds.{Kind, Stage}
 use Rattle.threads_rule.specs.Errands.Looking.{Begins, IsOn, LooksFor, MayLook, StaysThere}
 use Rattle.threads_rule.specs.Errands.Making.{BeginsMaking, CameTo, MayBegin, PlansJust}
 

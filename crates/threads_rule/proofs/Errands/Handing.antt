@@ -26,7 +26,7 @@ use Rattle.owner_calls.specs.Owned.Owned.{PutsIt}
 use Rattle.owner_calls.proofs.Owned.Owned.ComesBack.{TellsEnd, over_tells}
 use Rattle.owner_calls.proofs.Owned.Owned.HandsBack.{HasPair, HasPairAt, IsOver, KeepsPair, pair_kept}
 use Rattle.threads_rule.specs.Errands.Calling.{IsBack, IsGoing, IsToStore, MachineStores, handed_by, is_put, outcome_of}
-use Rattle.threads_rule.proofs.Kinds.Plans.{ends_as}
+use Rattle.threads_rule.proofs.CallKinds.Plans.{ends_as}
 
 -- a step whose outcome is turned into another one comes to what that is of
 steps_as : {T A B : Type 0} (f : A → B) (m n : Mem T) (plan : Plan T A) (end : B) → Steps Took value_at m (plan_as f plan) n end

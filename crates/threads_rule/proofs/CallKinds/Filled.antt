@@ -15,9 +15,9 @@ use Rattle.papaya_raw.specs.declared.machines.asking.Told.TheVariants as tells
 use Rattle.papaya_raw.specs.declared.machines.call.Calling.{Calling}
 use Rattle.papaya_raw.specs.declared.machines.call.Calling.TheVariants as at
 use Rattle.papaya_raw.specs.declared.machines.call.KeyCall.{KeyCall}
-use Rattle.threads_rule.specs.Kinds.Kinds.{Kind, Stage, IsUntold, IsNoValue, IsOneValue, IsOfGap, IsGapTold, IsFresh, HoldsBy, StandsSo, IsSo, SaysSo}
-use Rattle.threads_rule.proofs.Kinds.Asked.{of_gap}
-use Rattle.threads_rule.proofs.Kinds.Leads.{Leads}
+use Rattle.threads_rule.specs.CallKinds.Kinds.{Kind, Stage, IsUntold, IsNoValue, IsOneValue, IsOfGap, IsGapTold, IsFresh, HoldsBy, StandsSo, IsSo, SaysSo}
+use Rattle.threads_rule.proofs.CallKinds.Asked.{of_gap}
+use Rattle.threads_rule.proofs.CallKinds.Leads.{Leads}
 
 module _ {V : Type 0} where
   untold_none : (t : Told V) (v : V) → IsUntold t → value_told t ≡ Some v → ⊥

@@ -2,8 +2,8 @@
 use Rattle.std.specs.Prelude.{◌≡◌, ℕ, Option}
 use Rattle.seize_words.specs.OneMemory.Op.{Out}
 use Rattle.seize_words.specs.OneMemory.Plan.{Plan, Turn, Do, Ends, plan_as}
-use Rattle.threads_rule.specs.Kinds.Answers.{IsAnswer}
-use Rattle.threads_rule.proofs.Kinds.Plans.{ends_as}
+use Rattle.threads_rule.specs.CallKinds.Answers.{IsAnswer}
+use Rattle.threads_rule.proofs.CallKinds.Plans.{ends_as}
 
 abbrev pub Leads : {T R : Type 0} → (ℕ → Option T) → Plan T R → R → Type 0
 Leads shown (Turn rest) end = Ends shown rest end

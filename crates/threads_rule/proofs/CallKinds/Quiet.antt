@@ -41,7 +41,7 @@ use Rattle.map_machines.specs.declared.sum.Sum.{Sum}
 use Rattle.map_machines.specs.declared.sum.Summing.{Summing}
 use Rattle.map_machines.specs.declared.sum.Summing.TheVariants as sums
 use Rattle.seize_views.proofs.Views.Looks.{IsNow}
-use Rattle.threads_rule.proofs.Kinds.Plans.{ReplacesNone}
+use Rattle.threads_rule.proofs.CallKinds.Plans.{ReplacesNone}
 
 abbrev pub IsQuiet : {T R : Type 0} → Plan T R → Type 0
 IsQuiet (Turn rest) = IsNow rest

@@ -7,7 +7,7 @@ use Rattle.seize_acts.proofs.Acts.Answers.{same_some}
 use Rattle.seize_views.specs.Views.Promises.{op_in}
 use Rattle.seize_views.specs.Views.Told.{FollowsBy}
 use Rattle.seize_views.proofs.Views.Looks.{IsNow, rest_of, ends_same, now_ends}
-use Rattle.threads_rule.specs.Kinds.Answers.{IsAnswer}
+use Rattle.threads_rule.specs.CallKinds.Answers.{IsAnswer}
 
 -- it makes an operation, and which replaces no value
 abbrev pub IsDo : {T R : Type 0} → Plan T R → Type 0
