@@ -96,7 +96,7 @@ no_words zero field next at = cc at
 no_words (suc zero) field next at = cc at
 no_words (suc (suc zero)) field next at = cc at
 no_words (suc (suc (suc zero))) field next at = cc at
-no_words (suc (suc (suc (suc c)))) field next at = grind (arith, at)
+no_words (suc (suc (suc (suc c)))) field next at = cc at
 
 next_spares : (b : ℕ) (name : At) (next : ℕ) → spares b ≡ true → IsWordIn b name → word_at m name ≡ Some next → spares (block_in next) ≡ true
 next_spares b (Entry c field) next is same at = entry_spares c field next (ap spares same ∙ is) at

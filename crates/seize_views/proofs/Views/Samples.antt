@@ -33,8 +33,8 @@ none_has (zero, v, at, has) = let is = ap hand_of (same_some (Inside 0 Nothing) 
 none_has (suc j, v, at, has) = cc at
 
 none_names : IsAtARoot (knowing Nothing).memory 1 → ⊥
-none_names (zero, word, at, names) = let k : 0 ≡ 1 = ap block_in (same_some 0 word at) ∙ names in cc k
-none_names (suc r, word, at, names) = cc at
+none_names (zero, (word, at, names)) = let k : 0 ≡ 1 = ap block_in (same_some 0 word at) ∙ names in cc k
+none_names (suc r, (word, at, names)) = cc at
 
 -- no word of a slot names a block
 abbrev none : ℕ → Bool
