@@ -5,8 +5,9 @@ use Rattle.std.proofs.Common.{◌≡◌, ℕ, zero, suc, Bool, true, false, List
 use Rattle.seize_words.specs.OneMemory.Word.{block_in, link_to}
 use Rattle.seize_words.specs.declared.at.At.{At}
 use Rattle.seize_words.specs.declared.at.At.TheVariants.{Root, Used, Slot, Entry, Word}
-use Rattle.seize_words.specs.OneMemory.Mem.{Mem, block_of, word_at}
+use Rattle.seize_words.specs.OneMemory.Mem.{Mem, word_in, word_at}
 use Rattle.seize_words.specs.OneMemory.Op.{Store, Make}
+use Rattle.seize_words.specs.declared.block.Block.{Block}
 use Rattle.seize_words.specs.OneMemory.Plan.{Plan}
 use Rattle.seize.specs.declared.states.TheConstants.{BATCH, NEXT, FIRST}
 use Rattle.seize.specs.declared.rows.settle.Settle.{Settle}
@@ -45,6 +46,23 @@ module _ (such : ℕ → Bool) where
   row_such (words ∷ rows) zero all = (both (all_such words) (rows_such rows) all).0
   row_such (words ∷ rows) (suc s) all = row_such rows s (both (all_such words) (rows_such rows) all).1
 
+-- blocks without words of their own
+abbrev pub AllBare : List (Option (Block ℕ)) → Type 0
+AllBare [] = Unit {0}
+AllBare (None ∷ blocks) = AllBare blocks
+AllBare (Some x ∷ blocks) = (x.words ≡ []) × AllBare blocks
+
+no_own : (blocks : List (Option (Block ℕ))) (i field next : ℕ) → AllBare blocks → word_in (slice_index_or blocks i None) field ≡ Some next → ⊥
+no_own [] i field next bare at = cc at
+no_own (None ∷ blocks) zero field next bare at = cc at
+no_own (None ∷ blocks) (suc i) field next bare at = no_own blocks i field next bare at
+no_own (Some x ∷ blocks) zero field next bare at = let none = sym (ap (λ (words : List ℕ). slice_get words field) bare.0) ∙ at in cc none
+no_own (Some x ∷ blocks) (suc i) field next bare at = no_own blocks i field next bare.1 at
+
+pub no_words : (m : Mem ℕ) → AllBare m.blocks → (c field next : ℕ) → word_at m (Word c field) ≡ Some next → ⊥
+no_words m bare zero field next at = cc at
+no_words m bare (suc c) field next at = no_own m.blocks c field next bare at
+
 abbrev skips_at : Settle → Settling → Plan ℕ (Settle × Settled ℕ)
 skips_at c (settling.Appends block) = counts c block
 skips_at c p = plan_at plain c p
@@ -74,6 +92,9 @@ is_handed = refl
 abbrev m : Mem ℕ
 m = (retired_by skips).memory
 
+bare : AllBare m.blocks
+bare = (refl, (refl, (refl, tt)))
+
 -- block 1 or 3, or none
 abbrev spares : ℕ → Bool
 spares zero = true
@@ -90,17 +111,9 @@ entry_spares (suc (suc zero)) field next is at = absurd (cc is)
 entry_spares (suc (suc (suc zero))) field next is at = one_such spares (0 ∷ 0 ∷ link_to 1 ∷ 0 ∷ []) field next refl at
 entry_spares (suc (suc (suc (suc c)))) field next is at = absurd (cc is)
 
--- and no block has words of its own
-no_words : (c field next : ℕ) → word_at m (Word c field) ≡ Some next → ⊥
-no_words zero field next at = cc at
-no_words (suc zero) field next at = cc at
-no_words (suc (suc zero)) field next at = cc at
-no_words (suc (suc (suc zero))) field next at = cc at
-no_words (suc (suc (suc (suc c)))) field next at = cc at
-
 next_spares : (b : ℕ) (name : At) (next : ℕ) → spares b ≡ true → IsWordIn b name → word_at m name ≡ Some next → spares (block_in next) ≡ true
 next_spares b (Entry c field) next is same at = entry_spares c field next (ap spares same ∙ is) at
-next_spares b (Word c field) next is same at = absurd (no_words c field next at)
+next_spares b (Word c field) next is same at = absurd (no_words m bare c field next at)
 next_spares b (Root r) next is same at = absurd same
 next_spares b (Used r) next is same at = absurd same
 next_spares b (Slot s field) next is same at = absurd same
@@ -114,7 +127,7 @@ skips_is_refused : IsOfASlot m 2 ⊎ IsOfARow (retired_by skips) 2 ⊎ IsOfABloc
 skips_is_refused (inl (s, field, word, at, way)) =
     leads_not way.0 word (one_such spares (slice_index_or m.slots s []) field word (row_such spares m.slots s refl) at) way.1
 skips_is_refused (inr (inl (i, way))) = subst (λ (row : Row). OneLeadsTo m 2 (words_of_row row)) (all_rest i) way
-skips_is_refused (inr (inr (t, field, word, there, at, way))) = no_words t field word at
+skips_is_refused (inr (inr (t, field, word, there, at, way))) = no_words m bare t field word at
 
 -- The right plan puts block 2 behind block 1: from the batch's word block 3 is named, from there the first block, and from that one block 2.
 right_reaches : IsOfASlot (retired_by (settle_plan plain)).memory 2

@@ -18,7 +18,7 @@ use Rattle.seize_views.specs.declared.view.View.{View}
 use Rattle.seize_views.specs.declared.view.View.TheVariants.{Inside}
 use Rattle.seize_views.specs.declared.view.Has.{Has}
 use Rattle.seize_views.specs.declared.view.Has.TheVariants.{Nothing, Cut}
-use Rattle.seize_views.proofs.Reaches.Samples.{one_such, row_such}
+use Rattle.seize_views.proofs.Reaches.Samples.{one_such, row_such, AllBare, no_words}
 
 -- caller 0 has entered slot 0, and taken block 1 from the root, where it was linked
 abbrev cut : World ℕ
@@ -41,10 +41,8 @@ abbrev none : ℕ → Bool
 none zero = true
 none (suc b) = false
 
-no_words : (c field next : ℕ) → word_at cut.memory (Word c field) ≡ Some next → ⊥
-no_words zero field next at = cc at
-no_words (suc zero) field next at = cc at
-no_words (suc (suc c)) field next at = grind (arith, at)
+bare : AllBare cut.memory.blocks
+bare = (refl, tt)
 
 leads_not : (names : List At) (word : ℕ) → none (block_in word) ≡ true → LeadsBy cut.memory word names 1 → ⊥
 leads_not [] word is leads = let one = ap none leads.1 in cc (is, one)
@@ -53,7 +51,7 @@ leads_not (Entry c field ∷ names) word is leads = entry_not c field (ap none l
     entry_not : (c field : ℕ) → none c ≡ true → (next : ℕ) → word_at cut.memory (Entry c field) ≡ Some next → ⊥
     entry_not zero field is next at = cc at
     entry_not (suc c) field is next at = cc is
-leads_not (Word c field ∷ names) word is leads = no_words c field leads.1.0 leads.1.1
+leads_not (Word c field ∷ names) word is leads = no_words cut.memory bare c field leads.1.0 leads.1.1
 leads_not (Root r ∷ names) word is leads = leads.0
 leads_not (Used r ∷ names) word is leads = leads.0
 leads_not (Slot s field ∷ names) word is leads = leads.0
@@ -64,7 +62,7 @@ none_reaches (inl (s, field, word, at, way)) =
 none_reaches (inr (inl (zero, v, at, way))) =
     subst (λ (x : View ℕ). OneLeadsTo cut.memory 1 (words_of_row (row_of x))) (sym (same_some (Inside 0 Nothing) v at)) way
 none_reaches (inr (inl (suc j, v, at, way))) = cc at
-none_reaches (inr (inr (t, field, word, there, at, way))) = no_words t field word at
+none_reaches (inr (inr (t, field, word, there, at, way))) = no_words cut.memory bare t field word at
 
 forgets_is_refused : IsSomeones (knowing Nothing) 1 ⊎ IsAtARoot (knowing Nothing).memory 1 ⊎ IsReached (knowing Nothing) 1 ⊎ WasKept (at_start plain 1) cut 1 → ⊥
 forgets_is_refused (inl has) = none_has has
