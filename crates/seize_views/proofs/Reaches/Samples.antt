@@ -1,11 +1,12 @@
 -- A wrong plan, stepped in a world of three blocks, and the law's clause that is false of what it leaves: a settling counts a block into its batch that it has
 -- not put behind the last one.
-use Rattle.std.specs.Prelude.{Option, Some, None, ◌&&◌, slice_get, slice_index_or}
+use Rattle.std.specs.Prelude.{◌-◌, ◌==◌, Option, Some, None, ◌&&◌, slice_get, slice_index_or, if◌then◌else◌}
 use Rattle.std.proofs.Common.{◌≡◌, ℕ, zero, suc, Bool, true, false, List, [], ◌∷◌, ◌++◌, ◌⊎◌, inl, inr, refl, arith, subst, sym, ap, ◌∙◌}
+use Rattle.std.proofs.lemmas.Bool.{ne_eqb}
 use Rattle.seize_words.specs.OneMemory.Word.{block_in, link_to}
 use Rattle.seize_words.specs.declared.at.At.{At}
 use Rattle.seize_words.specs.declared.at.At.TheVariants.{Root, Used, Slot, Entry, Word}
-use Rattle.seize_words.specs.OneMemory.Mem.{Mem, word_in, word_at}
+use Rattle.seize_words.specs.OneMemory.Mem.{Mem, block_of, word_in, word_at}
 use Rattle.seize_words.specs.OneMemory.Op.{Store, Make}
 use Rattle.seize_words.specs.declared.block.Block.{Block}
 use Rattle.seize_words.specs.OneMemory.Plan.{Plan}
@@ -61,7 +62,16 @@ no_own (Some x ∷ blocks) (suc i) field next bare at = no_own blocks i field ne
 
 pub no_words : (m : Mem ℕ) → AllBare m.blocks → (c field next : ℕ) → word_at m (Word c field) ≡ Some next → ⊥
 no_words m bare zero field next at = cc at
-no_words m bare (suc c) field next at = no_own m.blocks c field next bare at
+no_words m bare (suc c) field next at = no_own m.blocks c field next bare (sym (ap (λ (o : Option (Block ℕ)). word_in o field) found) ∙ at)
+  where
+    there : Bool → Option (Block ℕ)
+    there q = if q then None else slice_index_or m.blocks (suc c - 1) None
+
+    place : suc c - 1 ≡ c
+    place = omega arith
+
+    found : block_of m (suc c) ≡ slice_index_or m.blocks c None
+    found = ap there (ne_eqb (suc c) 0 (λ e. cc e)) ∙ ap (λ (i : ℕ). slice_index_or m.blocks i None) place
 
 abbrev skips_at : Settle → Settling → Plan ℕ (Settle × Settled ℕ)
 skips_at c (settling.Appends block) = counts c block
