@@ -4,4 +4,4 @@ mod Rows
 mod Waiting
 mod Batches
 pub mod Reached
-mod Samples
+pub mod Samples

@@ -209,7 +209,7 @@ module _ {T : Type 0} (defers : T → Option ℕ) (fixed : Fixed) (s : State T (
         memory = refl;
         row = refl;
         uses = refl;
-        in_hand = hand n (made.0, rewritten_here w.memory b y value m here) (λ c held. held);
+        in_hand = hand n (made.0, rewritten_here defers w.memory b y value m here) (λ c held. held);
         hands = λ j c z ne e q. refl;
         sole = λ j c z ne e q p. ne (h.sole j id c z (place had) e at q (carries.hand had ∙ sym still ∙ p));
         values = λ c its some some2. rewritten_value defers w.memory c b y value m here (apart b made.0 had_it c its);

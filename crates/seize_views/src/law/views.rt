@@ -47,7 +47,8 @@ pub fn blocks_have_seats<T: Defers>()
     ensures handed { BorneAreHandedOn T T.defers }
 {}
 
-/// Between any two steps no value is lost: some seat has its block in its hand, or a root names it, or the collector has it.
+/// Between any two steps no value is lost: some seat has its block in its hand, or a root names it, or words lead to it from a slot, from what a seat has at
+/// hand in its row, or from a block that is there.
 pub fn values_are_found<T: Defers>()
     ensures found { ValuesAreFound T T.defers }
 {}
